@@ -1,0 +1,5 @@
+pub mod CopyLemmas
+pub mod Lists
+pub mod Pictures
+pub mod Places
+pub mod Replays

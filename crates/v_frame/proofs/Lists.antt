@@ -1,0 +1,41 @@
+-- Facts about lists alone.
+use Rattle.std.proofs.Common.{ℕ, zero, suc, ◌≡◌, ◌+◌, ◌-◌, ◌*◌, ◌<◌, ◌≤◌, List, [], ◌∷◌, ◌++◌, length, take, drop, Option, Some, None, slice_get, slice_set, refl, sym, ◌∙◌, ap, arith}
+use Rattle.std.proofs.lemmas.List.{take_at}
+use Rattle.std.specs.List.{refill}
+
+module _ {X : Type 0} where
+  pub slice_get-take : (n : ℕ) (xs : List X) (i : ℕ) → i < n → slice_get (take n xs) i ≡ slice_get xs i
+  slice_get-take zero xs i h = absurd (omega arith)
+  slice_get-take (suc n) [] i h = refl
+  slice_get-take (suc n) (x ∷ xs) zero h = refl
+  slice_get-take (suc n) (x ∷ xs) (suc i) h = slice_get-take n xs i (omega arith)
+
+  pub slice_get-drop : (n : ℕ) (xs : List X) (i : ℕ) → slice_get (drop n xs) i ≡ slice_get xs (n + i)
+  slice_get-drop zero xs i = let e : 0 + i ≡ i = omega arith in rw e refl
+  slice_get-drop (suc n) [] i = refl
+  slice_get-drop (suc n) (x ∷ xs) i =
+      let e : suc n + i ≡ suc (n + i) = omega arith in
+      slice_get-drop n xs i ∙ ap (slice_get (x ∷ xs)) (sym e)
+
+  -- the element behind a list's front
+  pub slice_get-at : (a : List X) (b : X) (c : List X) → slice_get (a ++ b ∷ c) (length a) ≡ Some b
+  slice_get-at [] b c = refl
+  slice_get-at (x ∷ a) b c = slice_get-at a b c
+
+  pub slice_set-at : (a : List X) (b : X) (c : List X) (d : X) → slice_set (a ++ b ∷ c) (length a) d ≡ a ++ d ∷ c
+  slice_set-at [] b c d = refl
+  slice_set-at (x ∷ a) b c d = ap (λ r. x ∷ r) (slice_set-at a b c d)
+
+  -- the first elements of one list and the rest of another, one element on
+  pub one_more : (new old : List X) (i : ℕ) (x : X) → slice_get new i ≡ Some x → i < length old
+      → slice_set (take i new ++ drop i old) i x ≡ take (i + 1) new ++ drop (i + 1) old
+  one_more [] old i x e h = cc
+  one_more (n ∷ new) [] i x e h = absurd (omega arith)
+  one_more (n ∷ new) (o ∷ old) zero x e h = cc
+  one_more (n ∷ new) (o ∷ old) (suc i) x e h =
+      let k : suc i + 1 ≡ suc (i + 1) = omega arith in
+      rw k (ap (λ r. n ∷ r) (one_more new old i x e (omega arith)))
+
+  -- what is lent at its own length comes back as it was left
+  pub refill_same : (xs ws : List X) → length ws ≡ length xs → refill (length xs) xs ws ≡ ws
+  refill_same xs ws h = take_at ws (drop (length ws) xs) (length xs) h

@@ -1,0 +1,61 @@
+-- A replay, call after call: what one more call adds to the answers, the tables and the planes that may be written.
+use Rattle.std.proofs.Common.{ℕ, ◌≡◌, ◌+◌, ◌<◌, ◌≤◌, List, [], ◌∷◌, ◌++◌, length, take, get_or, Option, Some, None, option_map, Any, length-take, refl, sym, ◌∙◌, ap, arith}
+use Rattle.std.proofs.lemmas.List.{take_more, take-take, get_or-take}
+use Rattle.v_frame.specs.Picture.{Raster, shown}
+use Rattle.v_frame.specs.Shown.{Tables, tables_of, plane_at, unshown, KeepsBorder}
+use Rattle.v_frame.specs.Replay.{written_plane, WritesPlane, reply_to, answers_to, tables_after}
+use Rattle.v_frame.specs.declared.frame.Frame.{Frame}
+use Rattle.v_frame.specs.declared.replay.call.VisibleCall.{VisibleCall}
+
+-- an element of a list's front is one of the list
+any_of_front : {X : Type 0} (P : X → Type 0) (xs : List X) (n : ℕ) → Any P (take n xs) → Any P xs
+any_of_front P xs n h =
+    let front : h.0 < n = omega (arith, h.2, length-take n xs) in
+    let within : h.0 < length xs = omega (arith, h.2, length-take n xs) in
+    (h.0, h.1, within, sym (get_or-take n xs h.0 h.1 front) ∙ h.3, h.4)
+
+module _ {T : Type 0} where
+  answers_to-push : (calls : List (VisibleCall T)) (call : VisibleCall T) (tables : Tables T)
+      → answers_to (calls ++ call ∷ []) tables ≡ answers_to calls tables ++ (reply_to call (tables_after calls tables)).answer ∷ []
+  answers_to-push [] call tables = refl
+  answers_to-push (first ∷ calls) call tables =
+      ap (λ answers. (reply_to first tables).answer ∷ answers) (answers_to-push calls call (reply_to first tables).tables)
+
+  tables_after-push : (calls : List (VisibleCall T)) (call : VisibleCall T) (tables : Tables T)
+      → tables_after (calls ++ call ∷ []) tables ≡ (reply_to call (tables_after calls tables)).tables
+  tables_after-push [] call tables = refl
+  tables_after-push (first ∷ calls) call tables = tables_after-push calls call (reply_to first tables).tables
+
+  -- one more call of a list
+  module _ (calls : List (VisibleCall T)) (i : ℕ) (call : VisibleCall T) (within : i < length calls) (here : call ≡ get_or calls i call) where
+    so_far : take (i + 1) calls ≡ take i calls ++ call ∷ []
+    so_far = take_more calls i call within ∙ ap (λ c. take i calls ++ c ∷ []) (sym here)
+
+    pub answers_more : (old : Tables T) → answers_to (take (i + 1) calls) old ≡ answers_to (take i calls) old ++ (reply_to call (tables_after (take i calls) old)).answer ∷ []
+    answers_more old = ap (λ cs. answers_to cs old) so_far ∙ answers_to-push (take i calls) call old
+
+    pub tables_more : (old : Tables T) → tables_after (take (i + 1) calls) old ≡ (reply_to call (tables_after (take i calls) old)).tables
+    tables_more old = ap (λ cs. tables_after cs old) so_far ∙ tables_after-push (take i calls) call old
+
+    -- planes that the first calls may write, and that one more may
+    pub written_before : (index : ℕ) → WritesPlane (take i calls) index → WritesPlane (take (i + 1) calls) index
+    written_before index h =
+        let again : take i (take (i + 1) calls) ≡ take i calls = take-take i (i + 1) calls (omega arith) in
+        any_of_front (λ (c : VisibleCall T). written_plane c ≡ Some index) (take (i + 1) calls) i (rw again h)
+
+    pub written_now : (index : ℕ) → written_plane call ≡ Some index → WritesPlane (take (i + 1) calls) index
+    written_now index h =
+        (i, call, omega (arith, length-take (i + 1) calls), get_or-take (i + 1) calls i call (omega arith) ∙ sym here, h)
+
+  pub written_in_front : (calls : List (VisibleCall T)) (i index : ℕ) → WritesPlane (take i calls) index → WritesPlane calls index
+  written_in_front calls i index h = any_of_front (λ (c : VisibleCall T). written_plane c ≡ Some index) calls i h
+
+  -- what is kept twice is kept
+  pub keeps_border_twice : (a b c : Frame T) → KeepsBorder a b → KeepsBorder b c → KeepsBorder a c
+  keeps_border_twice a b c h k = record {
+    subsampling = k.subsampling ∙ h.subsampling;
+    bit_depth = k.bit_depth ∙ h.bit_depth;
+    y_plane = k.y_plane ∙ h.y_plane;
+    u_plane = k.u_plane ∙ h.u_plane;
+    v_plane = k.v_plane ∙ h.v_plane;
+  }

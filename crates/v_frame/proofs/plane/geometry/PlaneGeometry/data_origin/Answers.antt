@@ -1,0 +1,22 @@
+-- The origin is that of the fields, and lies in the buffer.
+use Rattle.std.proofs.Common.{◌≡◌, ◌<◌, arith}
+use Rattle.v_frame.specs.Geometry.{stride_of}
+use Rattle.v_frame.proofs.Pictures.{origin_by_stride, origin_within}
+use Rattle.v_frame.proofs.plane.geometry.PlaneGeometry.data_origin.Goals as goal
+
+pub overflow_add-result : goal.overflow_add-result
+overflow_add-result c =
+    let g = c.args.self.now in
+    let high : 0 < g.height = rw (← c.self.view_is) c.self.invariant.2 in
+    let stride : c.self.inside.stride ≡ stride_of g = rw (← c.self.view_is) c.self.invariant.0 in
+    let is = rw (← c.self.view_is) at (origin_by_stride g c.self.inside.stride stride high) in
+    let within = rw (← c.self.view_is) at (origin_within g high) in
+    let fits = rw (← c.self.view_is) at c.requires in
+    omega arith
+
+pub returns : goal.returns
+returns c =
+    let g = c.args.self.now in
+    let high : 0 < g.height = rw (← c.self.view_is) c.self.invariant.2 in
+    let stride : c.self.inside.stride ≡ stride_of g = rw (← c.self.view_is) c.self.invariant.0 in
+    rw (← c.self.view_is) (rw (← c.self.view_is) at (origin_by_stride g c.self.inside.stride stride high))

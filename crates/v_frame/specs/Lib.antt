@@ -1,0 +1,12 @@
+pub mod AlignedData
+pub mod Asked
+pub mod Buildable
+pub mod FrameLends
+pub mod Shown
+pub mod Copy
+pub mod Geometry
+pub mod Picture
+pub mod Pixel
+pub mod Replay
+pub mod Rows
+pub mod Worked

@@ -1,0 +1,77 @@
+-- Visible calls on plain tables of rows. Nothing here knows a padding, a border or a buffer.
+use Rattle.std.specs.Prelude.{ℕ, ◌≡◌, ◌<◌, List, [], ◌∷◌, length, take, Option, Some, None, slice_get, Any}
+use Rattle.v_frame.specs.Rows.{Table, width_of, height_of, pixel_at}
+use Rattle.v_frame.specs.Copy.{packed_copy}
+use Rattle.v_frame.specs.Shown.{Tables, table_at, with_table}
+use Rattle.v_frame.specs.declared.replay.call.VisibleCall.{VisibleCall}
+use Rattle.v_frame.specs.declared.replay.call.VisibleCall.TheVariants.{Width, Height, Row, Pixel, CopyFromSlice}
+use Rattle.v_frame.specs.declared.replay.answer.Answer.{Answer}
+use Rattle.v_frame.specs.declared.replay.answer.Answer.TheVariants.{NoPlane, OutsideRectangle, Number, RowShown, PixelShown, Copied}
+
+-- what a call answers, and the table that it leaves
+pub record TableReply (T : Type 0) : Type 0 where
+  pub answer : Answer T
+  pub table : Table T
+
+-- what a call answers, and the tables that it leaves
+pub record Reply (T : Type 0) : Type 0 where
+  pub answer : Answer T
+  pub tables : Tables T
+
+module _ {T : Type 0} where
+  -- the plane that a call names
+  abbrev pub named_plane : VisibleCall T → ℕ
+  named_plane (Width plane) = plane
+  named_plane (Height plane) = plane
+  named_plane (Row plane y) = plane
+  named_plane (Pixel plane x y) = plane
+  named_plane (CopyFromSlice plane source) = plane
+
+  -- the plane that a call may write
+  abbrev pub written_plane : VisibleCall T → Option ℕ
+  written_plane (Width plane) = None
+  written_plane (Height plane) = None
+  written_plane (Row plane y) = None
+  written_plane (Pixel plane x y) = None
+  written_plane (CopyFromSlice plane source) = Some plane
+
+  -- some call of the list may write the plane of this index
+  abbrev pub WritesPlane : List (VisibleCall T) → ℕ → Type 0
+  WritesPlane calls index = Any (λ call. written_plane call ≡ Some index) calls
+
+  abbrev pub answer_of_pixel : Option T → Answer T
+  answer_of_pixel None = OutsideRectangle
+  answer_of_pixel (Some pixel) = PixelShown pixel
+
+  -- a call on the table of its plane
+  abbrev pub on_table : VisibleCall T → Table T → TableReply T
+  on_table (Width plane) rows = record { answer = Number (width_of rows); table = rows }
+  on_table (Height plane) rows = record { answer = Number (height_of rows); table = rows }
+  on_table (Row plane y) rows = record { answer = RowShown (slice_get rows y); table = rows }
+  on_table (Pixel plane x y) rows = record { answer = answer_of_pixel (pixel_at rows x y); table = rows }
+  on_table (CopyFromSlice plane source) rows =
+      let copy = packed_copy rows source in record { answer = Copied copy.answer; table = copy.table }
+
+  -- a call on tables, where the plane that it names has this one or none
+  abbrev pub on_tables : VisibleCall T → Tables T → Option (Table T) → Reply T
+  on_tables call tables None = record { answer = NoPlane; tables = tables }
+  on_tables call tables (Some rows) =
+      let reply = on_table call rows in record { answer = reply.answer; tables = with_table tables (named_plane call) reply.table }
+
+  abbrev pub reply_to : VisibleCall T → Tables T → Reply T
+  reply_to call tables = on_tables call tables (table_at tables (named_plane call))
+
+  -- the answers of a list of calls, and the tables that it leaves, call after call
+  abbrev pub answers_to : List (VisibleCall T) → Tables T → List (Answer T)
+  answers_to [] tables = []
+  answers_to (call ∷ calls) tables = (reply_to call tables).answer ∷ answers_to calls (reply_to call tables).tables
+
+  abbrev pub tables_after : List (VisibleCall T) → Tables T → Tables T
+  tables_after [] tables = tables
+  tables_after (call ∷ calls) tables = tables_after calls (reply_to call tables).tables
+
+  -- a replay stopped before its end: the calls in front were answered, and the tables are those that these calls leave
+  pub record StoppedAfter (calls : List (VisibleCall T)) (old : Tables T) (done : List (Answer T)) (new : Tables T) : Type 0 where
+    pub early : length done < length calls
+    pub answers : done ≡ answers_to (take (length done) calls) old
+    pub tables : new ≡ tables_after (take (length done) calls) old

@@ -1,0 +1,25 @@
+//! Why a frame can't be built.
+
+use thiserror::Error;
+
+/// Why [`FrameBuilder::build`](super::FrameBuilder::build) gave no frame.
+///
+/// Ports `FrameError` of `v_frame` 0.7.0, with [`OutOfMemory`](FrameError::OutOfMemory) of our own.
+#[derive(Debug, PartialEq, Eq, Hash, Drop, Error)]
+pub enum FrameError {
+    /// The bit depth is below 8 or above 16.
+    #[error("only 8-16 bit frame data is supported, tried to create {found} bit frame")]
+    UnsupportedBitDepth {
+        /// The bit depth that was asked for.
+        found: u8,
+    },
+    /// The bit depth is 8 and the pixels have two bytes, or it is above 8 and they have one.
+    #[error("bit depth did not match requested data type")]
+    DataTypeMismatch,
+    /// A size or a padding is none that the subsampling can divide, or a plane is too large.
+    #[error("selected chroma subsampling does not support odd resolutions")]
+    UnsupportedResolution,
+    /// A request for memory was refused.
+    #[error("out of memory")]
+    OutOfMemory,
+}

@@ -1,0 +1,47 @@
+//! A list of fixed length.
+ghost use Rattle.std.specs.Prelude.{◌≡◌, length, replicate, IfOk};
+ghost use Rattle.std.specs.Borrow.{sem};
+ghost use Rattle.v_frame.specs.AlignedData.{LendsEntries};
+
+use std::alloc::{AllocError, Global};
+use std::marker::Model;
+
+/// The entries of a plane.
+#[derive(Drop)]
+pub(crate) struct AlignedData<T> {
+    entries: Vec<T>,
+}
+
+impl<T> Model for AlignedData<T> {
+    ghost use Rattle.std.specs.Prelude.{List};
+
+    ghost Value = { List T };
+
+    ghost view = { λ a. a.entries.items };
+}
+
+impl<T> AlignedData<T> {
+    /// `len` copies of `value`.
+    pub(crate) fn new(alloc: Global, value: T, len: usize) -> Result<Self, AllocError>
+    where
+        T: Copy,
+        ensures { IfOk result (λ d. d ≡ replicate len value) }
+    {
+        let mut entries = Vec::with_capacity(alloc, len)?;
+        entries.resize(len, value)?;
+        Ok(AlignedData { entries })
+    }
+
+    pub(crate) fn as_slice(&self) -> &[T]
+        ensures { result.now ≡ self.now }
+    {
+        self.entries.as_slice()
+    }
+
+    pub(crate) fn as_mut_slice(&mut self) -> &mut [T]
+        ensures* writes_back { sem 𝓛 (LendsEntries T.row self.entry result) }
+        ensures value { result.now ≡ self.old }
+    {
+        self.entries.as_mut_slice()
+    }
+}

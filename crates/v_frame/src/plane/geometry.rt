@@ -1,0 +1,191 @@
+//! The layout of a plane.
+ghost use Rattle.std.specs.Prelude.{◌≡◌, ◌+◌, ◌*◌, ◌<◌, ◌≤◌, SomeIff};
+ghost use Rattle.v_frame.specs.Geometry.{stride_of, alloc_height_of, alloc_size_of, IsGeometry, Fits, usize_max};
+ghost use Rattle.v_frame.specs.Picture.{origin_of, place_of};
+
+use std::marker::Model;
+
+/// Where the visible rectangle of a plane lies in its buffer. All sizes are in pixels.
+///
+/// Ports `PlaneGeometry` of `v_frame` 0.7.0.
+#[derive(Debug, Clone, Copy, PartialEq, Eq)]
+pub struct PlaneGeometry {
+    width: usize,
+    height: usize,
+    stride: usize,
+    pad_left: usize,
+    pad_right: usize,
+    pad_top: usize,
+    pad_bottom: usize,
+    subsampling_x: u8,
+    subsampling_y: u8,
+}
+
+impl Model for PlaneGeometry {
+    ghost use Rattle.std.specs.Prelude.{◌≡◌, ◌+◌, ◌<◌, ◌≤◌};
+    ghost use Rattle.std.proofs.Common.{ap, sym};
+    ghost use Rattle.v_frame.specs.Geometry.{Geometry, stride_of, usize_max};
+
+    ghost Value = { Geometry };
+
+    ghost view = { λ a. record {
+      width = a.width;
+      height = a.height;
+      pad_left = a.pad_left;
+      pad_right = a.pad_right;
+      pad_top = a.pad_top;
+      pad_bottom = a.pad_bottom;
+      subsampling_x = a.subsampling_x;
+      subsampling_y = a.subsampling_y;
+    } };
+
+    ghost invariant = { λ a. (a.stride ≡ a.width + a.pad_left + a.pad_right)
+        × (0 < a.width) × (0 < a.height) × (0 < a.subsampling_x) × (0 < a.subsampling_y)
+        × (a.stride ≤ usize_max) };
+
+    ghost inverse = { λ g. record {
+      width = g.width;
+      height = g.height;
+      stride = stride_of g;
+      pad_left = g.pad_left;
+      pad_right = g.pad_right;
+      pad_top = g.pad_top;
+      pad_bottom = g.pad_bottom;
+      subsampling_x = g.subsampling_x;
+      subsampling_y = g.subsampling_y;
+    } };
+
+    ghost inverse_ok = { λ a h. ap (λ s. record a { stride = s }) (sym h.0) };
+}
+
+impl PlaneGeometry {
+    ghost use Rattle.v_frame.specs.Geometry.{geometry_of};
+
+    pub fn new(
+        width: usize,
+        height: usize,
+        pad_left: usize,
+        pad_right: usize,
+        pad_top: usize,
+        pad_bottom: usize,
+        subsampling_x: u8,
+        subsampling_y: u8,
+    ) -> Option<Self>
+        ensures { let g = geometry_of width height pad_left pad_right pad_top pad_bottom
+            subsampling_x subsampling_y in SomeIff result (IsGeometry g) g }
+    {
+        if width == 0 || height == 0 || subsampling_x == 0 || subsampling_y == 0 {
+            return None;
+        }
+        let stride = width.checked_add(pad_left)?.checked_add(pad_right)?;
+        Some(PlaneGeometry {
+            width,
+            height,
+            stride,
+            pad_left,
+            pad_right,
+            pad_top,
+            pad_bottom,
+            subsampling_x,
+            subsampling_y,
+        })
+    }
+
+    pub fn unpadded(
+        width: usize,
+        height: usize,
+        subsampling_x: u8,
+        subsampling_y: u8,
+    ) -> Option<Self>
+        ensures { let g = geometry_of width height 0 0 0 0 subsampling_x subsampling_y in
+            SomeIff result (IsGeometry g) g }
+    {
+        Self::new(width, height, 0, 0, 0, 0, subsampling_x, subsampling_y)
+    }
+
+    /// The visible width, never zero.
+    pub fn width(&self) -> usize
+        ensures value { result ≡ self.now.width }
+        ensures valid { IsGeometry self.now }
+    {
+        self.width
+    }
+
+    /// The visible height, never zero.
+    pub fn height(&self) -> usize
+        ensures value { result ≡ self.now.height }
+        ensures valid { IsGeometry self.now }
+    {
+        self.height
+    }
+
+    /// How far one row of the buffer is from the next.
+    pub fn stride(&self) -> usize
+        ensures { result ≡ stride_of self.now }
+    {
+        self.stride
+    }
+
+    /// The size of the buffer, where it is at most 4611686018427387903.
+    pub fn checked_alloc_size(&self) -> Option<usize>
+        ensures { SomeIff result (Fits self.now) (alloc_size_of self.now) }
+    {
+        let rows = self
+            .height
+            .checked_add(self.pad_top)?
+            .checked_add(self.pad_bottom)?;
+        let size = rows.checked_mul(self.stride)?;
+        (size <= isize::MAX as usize / 2).then_some(size)
+    }
+
+    pub fn data_origin(&self) -> usize
+        requires { Fits self.now }
+        ensures { result ≡ origin_of self.now }
+    {
+        self.stride * self.pad_top + self.pad_left
+    }
+
+    /// The place of the first pixel of row `y`.
+    pub(crate) fn row_start(&self, y: usize) -> usize
+        requires fits { Fits self.now }
+        requires inside { y < self.now.height }
+        ensures place { result ≡ place_of self.now 0 y }
+        ensures within { result + self.now.width ≤ alloc_size_of self.now }
+    {
+        self.data_origin() + self.stride * y
+    }
+
+    /// The pixels of the visible rectangle.
+    pub(crate) fn visible_size(&self) -> usize
+        requires { Fits self.now }
+        ensures value { result ≡ self.now.width * self.now.height }
+        ensures valid { IsGeometry self.now }
+    {
+        self.width * self.height
+    }
+
+    /// The place of (x, y), which may lie past the buffer, where it can be counted.
+    pub(crate) fn checked_place(&self, x: usize, y: usize) -> Option<usize>
+        requires { Fits self.now }
+        ensures { let place = place_of self.now x y in SomeIff result (place ≤ usize_max) place }
+    {
+        self.stride
+            .checked_mul(y)?
+            .checked_add(x)?
+            .checked_add(self.data_origin())
+    }
+
+    pub fn alloc_height(&self) -> usize
+        requires { Fits self.now }
+        ensures { result ≡ alloc_height_of self.now }
+    {
+        self.height + self.pad_top + self.pad_bottom
+    }
+
+    pub fn alloc_size(&self) -> usize
+        requires { Fits self.now }
+        ensures { result ≡ alloc_size_of self.now }
+    {
+        self.alloc_height() * self.stride
+    }
+}

@@ -1,0 +1,105 @@
+//! Lists of visible calls.
+ghost use Rattle.std.specs.Prelude.{◌≡◌, ℕ, None, Some, IfOk, IfErr, OnOk, OnErr};
+ghost use Rattle.v_frame.specs.Picture.{shown, border_of};
+ghost use Rattle.v_frame.specs.Rows.{pixel_at};
+ghost use Rattle.v_frame.specs.Shown.{tables_of, plane_at, unshown, KeepsBorder};
+ghost use Rattle.v_frame.specs.Replay.{answer_of_pixel, written_plane, WritesPlane, on_table, reply_to, answers_to, tables_after, StoppedAfter};
+
+mod answer;
+mod call;
+mod sequence;
+
+use crate::frame::Frame;
+use crate::pixel::Pixel;
+use crate::plane::Plane;
+pub use answer::{Answer, ReplayStopped};
+pub use call::VisibleCall;
+pub use sequence::Sequence;
+use std::alloc::{AllocError, Global};
+
+pub fn replay<T: Pixel>(
+    alloc: Global,
+    frame: &mut Frame<T>,
+    calls: &[VisibleCall<T>],
+) -> Result<Vec<Answer<T>>, ReplayStopped<T>>
+    ensures answers { IfOk result (λ answers.
+        answers.items ≡ answers_to calls.now (tables_of frame.old)) }
+    ensures tables { OnOk result (tables_of frame.new ≡ tables_after calls.now (tables_of frame.old)) }
+    ensures stopped { IfErr result (λ stopped.
+        StoppedAfter calls.now (tables_of frame.old) stopped.done (tables_of frame.new)) }
+    ensures border { KeepsBorder frame.old frame.new }
+    ensures unwritten { (index : ℕ) → ¬ WritesPlane calls.now index
+        → plane_at frame.new index ≡ plane_at frame.old index }
+{
+    let mut done = match Vec::with_capacity(alloc, calls.len()) {
+        Ok(done) => done,
+        Err(_) => return Err(ReplayStopped {
+            done: Vec::new(alloc).into(),
+        }),
+    };
+    for call in calls {
+        match replay_call(alloc, frame, call) {
+            Ok(answer) => done.push(answer).unwrap(),
+            Err(_) => return Err(ReplayStopped { done: done.into() }),
+        }
+    }
+    Ok(done)
+}
+
+/// Does one call. Room for its answer is made before it writes.
+fn replay_call<T: Pixel>(
+    alloc: Global,
+    frame: &mut Frame<T>,
+    call: &VisibleCall<T>,
+) -> Result<Answer<T>, AllocError>
+    ensures answer { IfOk result (λ answer. answer ≡ (reply_to call.now (tables_of frame.old)).answer) }
+    ensures tables { OnOk result (tables_of frame.new ≡ (reply_to call.now (tables_of frame.old)).tables) }
+    ensures err { OnErr result (frame.new ≡ frame.old) }
+    ensures border { KeepsBorder frame.old frame.new }
+    ensures unwritten { (index : ℕ) → ¬ (written_plane call.now ≡ Some index)
+        → plane_at frame.new index ≡ plane_at frame.old index }
+{
+    match frame.plane_mut(call.plane()) {
+        Some(plane) => replay_on_plane(alloc, plane, call),
+        None => Ok(Answer::NoPlane),
+    }
+}
+
+/// Does one call on the plane that it names.
+fn replay_on_plane<T: Pixel>(
+    alloc: Global,
+    plane: &mut Plane<T>,
+    call: &VisibleCall<T>,
+) -> Result<Answer<T>, AllocError>
+    ensures answer { IfOk result (λ answer. answer ≡ (on_table call.now (shown plane.old)).answer) }
+    ensures table { OnOk result (shown plane.new ≡ (on_table call.now (shown plane.old)).table) }
+    ensures err { OnErr result (plane.new ≡ plane.old) }
+    ensures border { unshown plane.new ≡ unshown plane.old }
+    ensures unwritten { written_plane call.now ≡ None → plane.new ≡ plane.old }
+{
+    match call {
+        VisibleCall::Width { .. } => Ok(Answer::Number(plane.width())),
+        VisibleCall::Height { .. } => Ok(Answer::Number(plane.height())),
+        VisibleCall::Row { y, .. } => match plane.row(*y) {
+            Some(row) => Ok(Answer::RowShown(Some(Vec::from_slice(alloc, row)?.into()))),
+            None => Ok(Answer::RowShown(None)),
+        },
+        VisibleCall::Pixel { x, y, .. } => Ok(pixel_shown(plane, *x, *y)),
+        VisibleCall::CopyFromSlice { source, .. } => {
+            Ok(Answer::Copied(plane.copy_from_slice(source.as_slice())))
+        }
+    }
+}
+
+/// The pixel of the visible rectangle.
+fn pixel_shown<T: Pixel>(plane: &Plane<T>, x: usize, y: usize) -> Answer<T>
+    ensures { result ≡ answer_of_pixel (pixel_at (shown plane.now) x y) }
+{
+    if x >= plane.width() || y >= plane.height() {
+        return Answer::OutsideRectangle;
+    }
+    match plane.pixel(x, y) {
+        Some(pixel) => Answer::PixelShown(pixel),
+        None => Answer::OutsideRectangle,
+    }
+}

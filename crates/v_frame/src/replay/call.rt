@@ -1,0 +1,61 @@
+//! The visible calls.
+ghost use Rattle.std.specs.Prelude.{◌≡◌};
+
+use super::Sequence;
+
+/// One call on one plane of a frame, as a value.
+///
+/// Planes are counted 0 for Y, 1 for U and 2 for V. Our own.
+#[derive(Debug, PartialEq, Eq, Drop)]
+pub enum VisibleCall<T> {
+    /// [`Plane::width`](crate::plane::Plane::width).
+    Width {
+        /// The plane.
+        plane: usize,
+    },
+    /// [`Plane::height`](crate::plane::Plane::height).
+    Height {
+        /// The plane.
+        plane: usize,
+    },
+    /// [`Plane::row`](crate::plane::Plane::row).
+    Row {
+        /// The plane.
+        plane: usize,
+        /// The row, from the top.
+        y: usize,
+    },
+    /// [`Plane::pixel`](crate::plane::Plane::pixel), inside the visible rectangle alone.
+    Pixel {
+        /// The plane.
+        plane: usize,
+        /// The column, from the left.
+        x: usize,
+        /// The row, from the top.
+        y: usize,
+    },
+    /// [`Plane::copy_from_slice`](crate::plane::Plane::copy_from_slice).
+    CopyFromSlice {
+        /// The plane.
+        plane: usize,
+        /// The pixels to copy, row after row.
+        source: Sequence<T>,
+    },
+}
+
+impl<T> VisibleCall<T> {
+    ghost use Rattle.v_frame.specs.Replay.{named_plane};
+
+    /// The plane that the call names.
+    pub fn plane(&self) -> usize
+        ensures { result ≡ named_plane self.now }
+    {
+        match self {
+            VisibleCall::Width { plane }
+            | VisibleCall::Height { plane }
+            | VisibleCall::Row { plane, .. }
+            | VisibleCall::Pixel { plane, .. }
+            | VisibleCall::CopyFromSlice { plane, .. } => *plane,
+        }
+    }
+}

@@ -1,0 +1,133 @@
+//! The program: a small frame is built, filled and printed.
+ghost use Rattle.std.specs.Prelude.{◌≡◌, ◌≢◌, ℕ, ◌*◌, ◌<◌, ◌⊎◌, List, [], ◌∷◌, ◌++◌, length, flat_map, decimal, IfOk, IfErr, OnOk, OnErr, string_bytes, Some, Err};
+ghost use Rattle.std.specs.Io.KnownBytes.{Appends};
+ghost use Rattle.v_frame.specs.Copy.{cut_rows};
+ghost use Rattle.v_frame_tool.specs.Counted.{HasFailed};
+ghost use Rattle.v_frame.specs.Shown.{tables_of};
+ghost use Rattle.v_frame.specs.Replay.{answers_to};
+ghost use Rattle.v_frame.specs.declared.replay.answer.Answer.TheVariants.{Copied, Number, RowShown};
+ghost use Rattle.v_frame_tool.specs.Printed.{sized_rows, printed, line_of};
+ghost use Rattle.v_frame_tool.specs.Run.{blank_tables, calls_on, StartsWithCopy, IsDue};
+
+use crate::counted::Counted;
+use crate::fault::ToolFault;
+use std::alloc::{AllocError, Global};
+use std::io;
+use v_frame::chroma::ChromaSubsampling;
+use v_frame::frame::{Frame, FrameBuilder, FrameError};
+use v_frame::plane::CopyError;
+use v_frame::replay::{Answer, VisibleCall, replay};
+
+/// Writes what a 4 by 2 luma plane shows that was filled with the pixels of `source`.
+pub fn run<W: io::Write>(
+    alloc: Global,
+    out: &mut Counted<W>,
+    source: &[u8],
+) -> Result<(), ToolFault>
+    ensures length { OnOk result (length source.now ≡ 8) }
+    ensures ok { OnOk result (Appends (W.contents out.old.inner) (W.contents out.new.inner)
+        (printed (cut_rows 4 2 source.now))) }
+    ensures other_length { length source.now ≢ 8 → out.new ≡ out.old }
+    ensures fault { IfErr result (IsDue source.now out.old.failures out.new.failures) }
+{
+    let mut answers = answers_of_frame(alloc, source)?;
+    take_copied(&mut answers).map_err(ToolFault::Copy)?;
+    let text = text_of(alloc, answers.as_slice()).map_err(|_| ToolFault::OutOfMemory)?;
+    write_text(out, text.as_bytes())
+}
+
+/// What a small frame answers when it is filled with the pixels of `source`, measured and read.
+fn answers_of_frame(alloc: Global, source: &[u8]) -> Result<Vec<Answer<u8>>, ToolFault>
+    ensures ok { IfOk result (λ answers. answers.items ≡ answers_to (calls_on source.now) blank_tables) }
+    ensures fault { IfErr result (λ fault. (fault ≡ ToolFault.Frame FrameError.OutOfMemory) ⊎ (fault ≡ ToolFault.OutOfMemory)) }
+{
+    let mut frame = small_frame(alloc)?;
+    let source = Vec::from_slice(alloc, source).map_err(|_| ToolFault::OutOfMemory)?;
+    let calls = [
+        VisibleCall::CopyFromSlice {
+            plane: 0,
+            source: source.into(),
+        },
+        VisibleCall::Width { plane: 0 },
+        VisibleCall::Height { plane: 0 },
+        VisibleCall::Row { plane: 0, y: 0 },
+        VisibleCall::Row { plane: 0, y: 1 },
+    ];
+    replay(alloc, &mut frame, &calls).map_err(|_| ToolFault::OutOfMemory)
+}
+
+/// A luma plane of 4 by 2 zeros in a border.
+fn small_frame(alloc: Global) -> Result<Frame<u8>, ToolFault>
+    ensures ok { IfOk result (λ frame. tables_of frame ≡ blank_tables) }
+    ensures fault { IfErr result (λ fault. fault ≡ ToolFault.Frame FrameError.OutOfMemory) }
+{
+    FrameBuilder::new(4, 2, ChromaSubsampling::Monochrome, 8)
+        .luma_padding_left(2)
+        .luma_padding_right(1)
+        .luma_padding_top(1)
+        .luma_padding_bottom(0)
+        .build::<u8>(alloc)
+        .map_err(ToolFault::Frame)
+}
+
+/// Takes the first answer off the list, which is that of a copy.
+fn take_copied(answers: &mut Vec<Answer<u8>>) -> Result<(), CopyError>
+    requires { StartsWithCopy answers.old.items }
+    ensures { answers.old.items ≡ Copied result ∷ answers.new.items }
+{
+    match answers.remove(0) {
+        Answer::Copied(copied) => copied,
+        _ => unreachable!(),
+    }
+}
+
+/// Writes all of the text.
+fn write_text<W: io::Write>(out: &mut Counted<W>, text: &[u8]) -> Result<(), ToolFault>
+    ensures ok { OnOk result (Appends (W.contents out.old.inner) (W.contents out.new.inner) text.now) }
+    ensures fault { IfErr result (λ fault. (fault ≡ ToolFault.WriteZero)
+        ⊎ ((fault ≡ ToolFault.Output) × HasFailed out.old.failures out.new.failures)) }
+{
+    let mut written = 0;
+    while written < text.len() {
+        match out.write(&text[written..]) {
+            Ok(0) => return Err(ToolFault::WriteZero),
+            Ok(count) => written += count,
+            Err(_) => return Err(ToolFault::Output),
+        }
+    }
+    Ok(())
+}
+
+/// The text of a width, a height and two rows.
+fn text_of(alloc: Global, answers: &[Answer<u8>]) -> Result<String, AllocError>
+    ensures { (width height : ℕ) (first second : List ℕ)
+        → answers.now ≡ Number width ∷ Number height ∷ RowShown (Some first) ∷ RowShown (Some second) ∷ []
+        → IfOk result (λ text. string_bytes text ≡ sized_rows width height (first ∷ second ∷ [])) }
+{
+    let mut text = String::new(alloc);
+    if let [
+        Answer::Number(width),
+        Answer::Number(height),
+        Answer::RowShown(Some(first)),
+        Answer::RowShown(Some(second)),
+    ] = answers
+    {
+        writeln!(text, "plane 0: {width} x {height}")?;
+        push_row(&mut text, first.as_slice())?;
+        push_row(&mut text, second.as_slice())?;
+    }
+    Ok(text)
+}
+
+/// Appends a row's numbers and a line end.
+fn push_row(text: &mut String, row: &[u8]) -> Result<(), AllocError>
+    ensures { OnOk result (string_bytes text.new ≡ string_bytes text.old ++ line_of row.now) }
+{
+    if let Some((first, rest)) = row.split_first() {
+        write!(text, "{first}")?;
+        for pixel in rest {
+            write!(text, " {pixel}")?;
+        }
+    }
+    text.push('\n')
+}
