@@ -1,6 +1,6 @@
 -- Facts about lists alone.
-use Rattle.std.proofs.Common.{ℕ, zero, suc, ◌≡◌, ◌+◌, ◌-◌, ◌*◌, ◌<◌, ◌≤◌, List, [], ◌∷◌, ◌++◌, length, take, drop, Option, Some, None, slice_get, slice_set, refl, sym, ◌∙◌, ap, arith}
-use Rattle.std.proofs.lemmas.List.{take_at}
+use Rattle.std.proofs.Common.{ℕ, zero, suc, ◌≡◌, ◌+◌, ◌-◌, ◌*◌, ◌<◌, ◌≤◌, List, [], ◌∷◌, ◌++◌, length, take, drop, Option, Some, None, slice_get, slice_set, refl, sym, ◌∙◌, ap, arith, take-append-drop}
+use Rattle.std.proofs.lemmas.List.{take_at, take-take, drop-take}
 use Rattle.std.specs.List.{refill}
 
 module _ {X : Type 0} where
@@ -39,3 +39,8 @@ module _ {X : Type 0} where
   -- what is lent at its own length comes back as it was left
   pub refill_same : (xs ws : List X) → length ws ≡ length xs → refill (length xs) xs ws ≡ ws
   refill_same xs ws h = take_at ws (drop (length ws) xs) (length xs) h
+
+  -- two pieces of a list, one behind the other
+  pub taken_twice : (n m : ℕ) (xs : List X) → take n xs ++ take m (drop n xs) ≡ take (n + m) xs
+  taken_twice n m xs =
+      ap (λ front. front ++ take m (drop n xs)) (sym (take-take n (n + m) xs (omega arith))) ∙ ap (λ rest. take n (take (n + m) xs) ++ rest) (sym (drop-take n m xs)) ∙ take-append-drop n (take (n + m) xs)

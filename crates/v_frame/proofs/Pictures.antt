@@ -11,7 +11,7 @@ abbrev pub total : List Piece → ℕ
 total [] = 0
 total (piece ∷ plan) = piece.entries + total plan
 
-total-append : (p q : List Piece) → total (p ++ q) ≡ total p + total q
+pub total-append : (p q : List Piece) → total (p ++ q) ≡ total p + total q
 total-append [] q = omega arith
 total-append (piece ∷ p) q = omega (arith, total-append p q)
 
@@ -21,7 +21,7 @@ times-add (suc m) n p =
     let e : suc m + n ≡ suc (m + n) = omega arith in
     rw e (ap (λ q. p ++ q) (times-add m n p) ∙ sym (append_assoc p (times m p) (times n p)))
 
-total-times : (n : ℕ) (p : List Piece) → total (times n p) ≡ n * total p
+pub total-times : (n : ℕ) (p : List Piece) → total (times n p) ≡ n * total p
 total-times zero p = omega arith
 total-times (suc n) p = omega (arith, total-append p (times n p), total-times n p)
 

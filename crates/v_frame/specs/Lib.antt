@@ -5,6 +5,7 @@ pub mod FrameLends
 pub mod Shown
 pub mod Copy
 pub mod Geometry
+pub mod Laws
 pub mod Picture
 pub mod Pixel
 pub mod Replay

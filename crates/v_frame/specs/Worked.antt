@@ -1,26 +1,94 @@
--- Small planes worked out by hand. Each line computes: it is proved by `refl`.
-use Rattle.std.specs.Prelude.{ℕ, ◌≡◌, List, [], ◌∷◌, refl, replicate}
+-- Small cases worked out by hand. Each line computes: it is proved by `refl`.
+use Rattle.std.specs.Prelude.{ℕ, ◌≡◌, ◌-◌, ◌^◌, List, [], ◌∷◌, Option, Some, None, Ok, Err, refl}
+use Rattle.v_frame.specs.Pixel.{byte_of, value_of_bytes}
 use Rattle.v_frame.specs.Geometry.{Geometry, geometry_of, stride_of, alloc_height_of, alloc_size_of}
-use Rattle.v_frame.specs.Picture.{Raster, shown, border_of, origin_of, place_of}
+use Rattle.v_frame.specs.Picture.{Raster, raster, shown, border_of, origin_of, place_of}
+use Rattle.v_frame.specs.Asked.{Asked}
+use Rattle.v_frame.specs.Buildable.{refusal_of}
+use Rattle.v_frame.specs.Shown.{Tables}
+use Rattle.v_frame.specs.Replay.{answers_to, tables_after}
+use Rattle.v_frame.specs.declared.chroma.ChromaSubsampling.{ChromaSubsampling}
+use Rattle.v_frame.specs.declared.chroma.ChromaSubsampling.TheVariants.{Yuv420, Monochrome}
+use Rattle.v_frame.specs.declared.frame.error.FrameError.TheVariants.{UnsupportedBitDepth, DataTypeMismatch, UnsupportedResolution}
+use Rattle.v_frame.specs.declared.plane.error.CopyError.TheVariants.{DataLength}
+use Rattle.v_frame.specs.declared.replay.call.VisibleCall.{VisibleCall}
+use Rattle.v_frame.specs.declared.replay.call.VisibleCall.TheVariants.{Width, Row, Pixel, CopyFromSlice}
+use Rattle.v_frame.specs.declared.replay.answer.Answer.TheVariants.{NoPlane, OutsideRectangle, Number, RowShown, PixelShown, Copied}
 
--- 3 by 2 pixels, with 1 entry to the left, 2 to the right, and 1 row above
-padded : Raster ℕ
-padded = record {
-  geometry = geometry_of 3 2 1 2 1 0 1 1;
-  buffer = 200 ∷ 200 ∷ 200 ∷ 200 ∷ 200 ∷ 200 ∷ 200 ∷ 1 ∷ 2 ∷ 3 ∷ 200 ∷ 200 ∷ 200 ∷ 4 ∷ 5 ∷ 6 ∷ 200 ∷ 200 ∷ [];
-}
+-- 0x0102 has the bytes 2 and 1, low byte first
+low_byte : byte_of 258 0 ≡ 2
+low_byte = refl
 
-padded_shows : shown padded ≡ (1 ∷ 2 ∷ 3 ∷ []) ∷ (4 ∷ 5 ∷ 6 ∷ []) ∷ []
-unfolding padded
-padded_shows = refl
+high_byte : byte_of 258 1 ≡ 1
+high_byte = refl
 
-padded_border : border_of padded ≡ (200 ∷ 200 ∷ 200 ∷ 200 ∷ 200 ∷ 200 ∷ []) ∷ (200 ∷ []) ∷ (200 ∷ 200 ∷ []) ∷ (200 ∷ []) ∷ (200 ∷ 200 ∷ []) ∷ []
-unfolding padded
-padded_border = refl
+value_of_two_bytes : value_of_bytes (2 ∷ 1 ∷ []) ≡ 258
+value_of_two_bytes = refl
 
--- 4 by 3 pixels, with 2, 2, 1 and 1
-sizes : alloc_size_of (geometry_of 4 3 2 2 1 1 1 1) ≡ 40
-sizes = refl
+-- 4 by 3 pixels, with 2 columns of border on both sides and 1 row above and below
+abbrev four_by_three : Geometry
+four_by_three = geometry_of 4 3 2 2 1 1 1 1
 
-place_inside : place_of (geometry_of 4 3 2 2 1 1 1 1) 5 3 ≡ 39
-place_inside = refl
+its_stride : stride_of four_by_three ≡ 8
+its_stride = refl
+
+its_rows : alloc_height_of four_by_three ≡ 5
+its_rows = refl
+
+its_size : alloc_size_of four_by_three ≡ 40
+its_size = refl
+
+its_origin : origin_of four_by_three ≡ 10
+its_origin = refl
+
+last_place : place_of four_by_three 5 3 ≡ 39
+last_place = refl
+
+place_past_the_buffer : place_of four_by_three 6 3 ≡ 40
+place_past_the_buffer = refl
+
+-- 3 by 2 pixels, with 1 column of border to the left, 2 to the right, and 1 row above
+abbrev three_by_two : Raster ℕ
+three_by_two = raster (geometry_of 3 2 1 2 1 0 1 1) (
+    20 ∷ 21 ∷ 22 ∷ 23 ∷ 24 ∷ 25 ∷
+    26 ∷ 1 ∷ 2 ∷ 3 ∷ 27 ∷ 28 ∷
+    29 ∷ 4 ∷ 5 ∷ 6 ∷ 30 ∷ 31 ∷ [])
+
+its_table : shown three_by_two ≡ (1 ∷ 2 ∷ 3 ∷ []) ∷ (4 ∷ 5 ∷ 6 ∷ []) ∷ []
+its_table = refl
+
+its_border : border_of three_by_two ≡ (20 ∷ 21 ∷ 22 ∷ 23 ∷ 24 ∷ 25 ∷ []) ∷ (26 ∷ []) ∷ (27 ∷ 28 ∷ []) ∷ (29 ∷ []) ∷ (30 ∷ 31 ∷ []) ∷ []
+its_border = refl
+
+-- the reasons not to build, in their order
+abbrev unpadded : ℕ → ℕ → ChromaSubsampling → ℕ → Asked
+unpadded width height subsampling depth = record { width = width; height = height; subsampling = subsampling; bit_depth = depth; pad_left = 0; pad_right = 0; pad_top = 0; pad_bottom = 0 }
+
+depth_decides_first : refusal_of 2 (unpadded 0 1080 Yuv420 17) ≡ Some (UnsupportedBitDepth 17)
+depth_decides_first = refl
+
+type_decides_next : refusal_of 1 (unpadded 0 1080 Monochrome 10) ≡ Some DataTypeMismatch
+type_decides_next = refl
+
+size_decides_last : refusal_of 1 (unpadded 0 1080 Monochrome 8) ≡ Some UnsupportedResolution
+size_decides_last = refl
+
+too_wide : refusal_of 1 (unpadded 4611686018427387904 1 Monochrome 8) ≡ Some UnsupportedResolution
+too_wide = refl
+
+just_fits : refusal_of 1 (unpadded 4611686018427387903 1 Monochrome 8) ≡ None
+just_fits = refl
+
+-- a list of calls on a plane of 3 by 2 zeros
+abbrev blank : Tables ℕ
+blank = record { y = (0 ∷ 0 ∷ 0 ∷ []) ∷ (0 ∷ 0 ∷ 0 ∷ []) ∷ []; u = None; v = None }
+
+abbrev six_calls : List (VisibleCall ℕ)
+six_calls =
+    CopyFromSlice 0 (1 ∷ 2 ∷ 3 ∷ 4 ∷ 5 ∷ []) ∷ CopyFromSlice 0 (1 ∷ 2 ∷ 3 ∷ 4 ∷ 5 ∷ 6 ∷ []) ∷ Pixel 0 2 1 ∷ Pixel 0 3 0 ∷ Row 0 2 ∷ Width 1 ∷ []
+
+six_answers : answers_to six_calls blank ≡ Copied (Err (DataLength 6 5)) ∷ Copied (Ok tt) ∷ PixelShown 6 ∷ OutsideRectangle ∷ RowShown None ∷ NoPlane ∷ []
+six_answers = refl
+
+table_left : (tables_after six_calls blank).y ≡ (1 ∷ 2 ∷ 3 ∷ []) ∷ (4 ∷ 5 ∷ 6 ∷ []) ∷ []
+table_left = refl

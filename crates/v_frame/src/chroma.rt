@@ -1,6 +1,6 @@
-//! How often chroma is sampled.
+//! Chroma subsampling: how often chroma is sampled beside luma.
 
-/// The chroma subsampling of a frame.
+/// The format of a frame: how much smaller its chroma planes are than its luma plane.
 ///
 /// Ports `ChromaSubsampling` of `v_frame` 0.7.0.
 #[derive(Debug, Clone, Copy, PartialEq, Eq)]

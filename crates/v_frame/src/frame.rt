@@ -1,4 +1,4 @@
-//! Frames.
+//! Frames: planes of one picture, and how they are built.
 ghost use Rattle.std.specs.Prelude.{◌≡◌, ◌<◌, ◌≤◌, ◌&&◌, nat_le, Err, IfOk, IfErr, ◌⊎◌, IsOkUnless, IsTrue, MatchOption, OkIff, SomeIff, option_copied};
 ghost use Rattle.std.specs.Option.{option_copied_mut};
 ghost use Rattle.std.specs.Borrow.{sem};
@@ -16,16 +16,28 @@ use std::alloc::Global;
 use std::marker::Model;
 use std::num::NonZeroU8;
 
+/// The planes of one picture.
+///
+/// The fields are public: a plane may be replaced by one of another size, and each answers by its own geometry. Ports
+/// `Frame` of `v_frame` 0.7.0.
 #[derive(Drop)]
 pub struct Frame<T: Pixel> {
+    /// Luma.
     pub y_plane: Plane<T>,
+    /// The first chroma component, where the frame has chroma.
     pub u_plane: Option<Plane<T>>,
+    /// The second chroma component, where the frame has chroma.
     pub v_plane: Option<Plane<T>>,
+    /// The format.
     pub subsampling: ChromaSubsampling,
+    /// Bits of a sample. No call compares pixel values with it.
     pub bit_depth: NonZeroU8,
 }
 
 impl<T: Pixel> Frame<T> {
+    /// The plane of an index: 0 is Y, 1 is U and 2 is V. Nothing for an absent plane, and for any other index.
+    ///
+    /// Ports `Frame::plane` of `v_frame` 0.7.0.
     pub fn plane(&self, index: usize) -> Option<&Plane<T>>
         ensures { option_copied result ≡ plane_at self.now index }
     {
@@ -37,6 +49,9 @@ impl<T: Pixel> Frame<T> {
         }
     }
 
+    /// The plane of an index, for writing. The indexes are those of [`plane`](Self::plane).
+    ///
+    /// Ports `Frame::plane_mut` of `v_frame` 0.7.0.
     pub fn plane_mut(&mut self, index: usize) -> Option<&mut Plane<T>>
         ensures* writes_back { sem 𝓛 (LendsPlane T.row self.entry index result) }
         ensures value { option_copied_mut result ≡ plane_at self.old index }
@@ -50,6 +65,9 @@ impl<T: Pixel> Frame<T> {
     }
 }
 
+/// What a frame should be, before it is built.
+///
+/// Ports `FrameBuilder` of `v_frame` 0.7.0. The setters are chained.
 #[derive(Drop)]
 pub struct FrameBuilder {
     width: usize,
@@ -83,6 +101,7 @@ impl FrameBuilder {
     ghost use Rattle.v_frame.specs.Asked.{Asked, luma_geometry};
     ghost use Rattle.v_frame.specs.Buildable.{is_supported, is_laid_out, refusal_of, IsBlank};
 
+    /// A frame of this luma size in pixels, this format and this bit depth, with no padding yet.
     pub fn new(width: usize, height: usize, subsampling: ChromaSubsampling, bit_depth: u8) -> Self
         ensures size { (result.width ≡ width) × (result.height ≡ height) }
         ensures format { (result.subsampling ≡ subsampling) × (result.bit_depth ≡ bit_depth) }
@@ -101,6 +120,7 @@ impl FrameBuilder {
         }
     }
 
+    /// Sets the border pixels to the left of each visible luma row.
     pub fn luma_padding_left(mut self, luma_padding_left: usize) -> Self
         ensures { result ≡ record self { pad_left = luma_padding_left } }
     {
@@ -108,6 +128,7 @@ impl FrameBuilder {
         self
     }
 
+    /// Sets the border pixels to the right of each visible luma row.
     pub fn luma_padding_right(mut self, luma_padding_right: usize) -> Self
         ensures { result ≡ record self { pad_right = luma_padding_right } }
     {
@@ -115,6 +136,7 @@ impl FrameBuilder {
         self
     }
 
+    /// Sets the border rows above the visible luma rows.
     pub fn luma_padding_top(mut self, luma_padding_top: usize) -> Self
         ensures { result ≡ record self { pad_top = luma_padding_top } }
     {
@@ -122,6 +144,7 @@ impl FrameBuilder {
         self
     }
 
+    /// Sets the border rows below the visible luma rows.
     pub fn luma_padding_bottom(mut self, luma_padding_bottom: usize) -> Self
         ensures { result ≡ record self { pad_bottom = luma_padding_bottom } }
     {
@@ -151,6 +174,15 @@ impl FrameBuilder {
         Some(luma)
     }
 
+    /// Builds the frame, zero in every pixel and in the border too.
+    ///
+    /// The first of these reasons refuses it: [`FrameError::UnsupportedBitDepth`] where the depth is below 8 or above 16;
+    /// [`FrameError::DataTypeMismatch`] where `u8` pixels are asked for another depth than 8, or `u16` pixels for 8;
+    /// [`FrameError::UnsupportedResolution`] where the width or the height is zero, where a row or a buffer is too large,
+    /// and, for now, for every format but [`ChromaSubsampling::Monochrome`]; [`FrameError::OutOfMemory`] where a request
+    /// for memory was refused. The first three are found before any such request.
+    ///
+    /// Ports `FrameBuilder::build` of `v_frame` 0.7.0.
     pub fn build<T: Pixel>(self, alloc: Global) -> Result<Frame<T>, FrameError>
         ensures refused { MatchOption (refusal_of T.BYTES self)
             (IsOkUnless result FrameError.OutOfMemory) (λ e. result ≡ Err e) }

@@ -1,8 +1,13 @@
-//! Video frames of raw YUV pixels.
+//! Video frames of raw YUV pixels: planes of `u8` or `u16`, each a visible rectangle inside a border in one buffer.
+//!
+//! A port of the crate `v_frame` 0.7.0 with contracts. A contract sees a plane as a table of rows beside a border;
+//! where both lie in the buffer is this crate's own business. [`replay`] does lists of calls, and its contract says
+//! what any such list answers and leaves, by plain tables of rows.
 #![tactic(auto)]
 
 pub mod chroma;
 pub mod frame;
+pub mod laws;
 pub mod pixel;
 pub mod plane;
 pub mod replay;

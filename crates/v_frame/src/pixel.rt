@@ -1,4 +1,4 @@
-//! The pixel types.
+//! Pixels: what a plane holds.
 ghost use Rattle.std.specs.Prelude.{◌≡◌, ℕ, ◌+◌, ◌*◌, ◌/◌, ◌%◌, ◌^◌, ◌<◌, ◌↔◌, length, nat_eq, IsSome, IfSome, refl};
 ghost use Rattle.std.specs.Ordering.{nat_cmp};
 ghost use Rattle.v_frame.specs.Pixel.{byte_of, value_of_bytes};
@@ -15,7 +15,10 @@ mod sealed {
     impl Sealed for u16 {}
 }
 
-/// A sample of one plane.
+/// A sample of one plane: `u8` for a bit depth of 8, `u16` for more.
+///
+/// Ports the trait `Pixel` of `v_frame` 0.7.0. Its functions and constants are our own: they stand for the conversion
+/// traits that the original asks of a pixel, for its casts of bytes, and for `size_of`.
 pub trait Pixel: Copy
     + Clone
     + Eq
@@ -30,7 +33,7 @@ pub trait Pixel: Copy
     + Binary
     + sealed::Sealed
     + 'static {
-    /// The number that a pixel stands for.
+    // The number that a pixel stands for.
     ghost value: { Self → ℕ };
 
     ghost BYTES: { ℕ };
@@ -57,31 +60,31 @@ pub trait Pixel: Copy
     fn from_u8(v: u8) -> Self
         ensures { value result ≡ v };
 
-    /// The pixel with this value, where the type holds it.
+    /// The pixel with this value, where one of the type has it: any value for `u16`, one below 256 for `u8`.
     fn try_from_u16(v: u16) -> Option<Self>
         ensures variant { IsSome result ↔ (v < 256 ^ BYTES) }
         ensures value { IfSome result (λ p. value p ≡ v) };
 
-    /// The pixel whose bytes, low byte first, are `src`.
+    /// The pixel whose bytes are `src`, low byte first. There must be [`BYTES`](Pixel::BYTES) of them.
     fn from_le(src: &[u8]) -> Self
         requires { length src.now ≡ BYTES }
         ensures { value result ≡ value_of_bytes src.now };
 
-    /// Byte `i` of the pixel, counted from the low one.
+    /// Byte `i` of the pixel, counted from the low one. It must be below [`BYTES`](Pixel::BYTES).
     fn le_byte(self, i: usize) -> u8
         requires { i < BYTES }
         ensures { result ≡ byte_of (value self) i };
 
-    /// One value, one pixel.
+    // One value, one pixel.
     ghost one_value: { (p q : Self) → value p ≡ value q → p ≡ q };
 
-    /// The value of `ZERO`.
+    // The value of `ZERO`.
     ghost zero_value: { value ZERO ≡ 0 };
 
-    /// The default pixel is `ZERO`.
+    // The default pixel is `ZERO`.
     ghost default_is_zero: { (p : Self) → Self.is_default p → p ≡ ZERO };
 
-    /// Pixels compare as their values do.
+    // Pixels compare as their values do.
     ghost eq_by_value: { (p q : Self) → Self.eq p q ≡ nat_eq (value p) (value q) };
 
     ghost cmp_by_value: { (p q : Self) → Self.cmp p q ≡ nat_cmp (value p) (value q) };

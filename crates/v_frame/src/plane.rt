@@ -1,4 +1,4 @@
-//! Planes.
+//! Planes: one component of a frame each.
 ghost use Rattle.std.specs.Prelude.{All, ◌≡◌, ◌+◌, ◌*◌, ◌<◌, ◌≤◌, ◌↔◌, length, replicate, IsNone, IfOk, OnErr, slice_get, option_copied};
 ghost use Rattle.v_frame.specs.Geometry.{alloc_size_of, Fits};
 ghost use Rattle.v_frame.specs.Picture.{shown, border_of, place_of};
@@ -17,6 +17,9 @@ pub use geometry::PlaneGeometry;
 use std::alloc::{AllocError, Global};
 use std::marker::Model;
 
+/// A rectangle of visible pixels inside a border, in one buffer.
+///
+/// Rows are counted from the top and columns from the left, both from 0. Ports `Plane` of `v_frame` 0.7.0.
 #[derive(Drop)]
 pub struct Plane<T> {
     geometry: PlaneGeometry,
@@ -36,6 +39,9 @@ impl<T> Model for Plane<T> {
 }
 
 impl<T> Plane<T> {
+    /// The visible width in pixels, never zero.
+    ///
+    /// Ports `Plane::width` of `v_frame` 0.7.0.
     pub fn width(&self) -> usize
         ensures value { result ≡ self.now.geometry.width }
         ensures positive { 0 < result }
@@ -45,6 +51,9 @@ impl<T> Plane<T> {
         self.geometry.width()
     }
 
+    /// The visible height in pixels, never zero.
+    ///
+    /// Ports `Plane::height` of `v_frame` 0.7.0.
     pub fn height(&self) -> usize
         ensures value { result ≡ self.now.geometry.height }
         ensures positive { 0 < result }
@@ -65,6 +74,9 @@ impl<T: Pixel> Plane<T> {
         Ok(Plane { geometry, buffer })
     }
 
+    /// The visible pixels of row `y`, or nothing below the visible rectangle.
+    ///
+    /// Ports `Plane::row` of `v_frame` 0.7.0.
     pub fn row(&self, y: usize) -> Option<&[T]>
         ensures { option_copied result ≡ slice_get (shown self.now) y }
     {
@@ -75,6 +87,10 @@ impl<T: Pixel> Plane<T> {
         Some(&self.buffer.as_slice()[start..start + self.geometry.width()])
     }
 
+    /// The pixel at column `x` of row `y`, or nothing where that lies past the end of the buffer.
+    ///
+    /// Past the visible width it reaches the border, or the next row where there is none: only the end of the buffer is
+    /// tested, as `Plane::pixel` of `v_frame` 0.7.0 does.
     pub fn pixel(&self, x: usize, y: usize) -> Option<T>
         ensures value { result ≡ slice_get self.now.buffer (place_of self.now.geometry x y) }
         ensures none { IsNone result ↔ (alloc_size_of self.now.geometry ≤ place_of self.now.geometry x y) }

@@ -1,4 +1,7 @@
-//! Lists of visible calls.
+//! Replays: lists of calls on what a frame shows.
+//!
+//! The module is our own. The contract of [`replay`](replay()) says what any list of calls answers and leaves, by plain
+//! tables of rows that know no padding and no border.
 ghost use Rattle.std.specs.Prelude.{◌≡◌, ℕ, None, Some, IfOk, IfErr, OnOk, OnErr};
 ghost use Rattle.v_frame.specs.Picture.{shown, border_of};
 ghost use Rattle.v_frame.specs.Rows.{pixel_at};
@@ -17,6 +20,11 @@ pub use call::VisibleCall;
 pub use sequence::Sequence;
 use std::alloc::{AllocError, Global};
 
+/// Does the calls in order and gives their answers.
+///
+/// A call whose plane the frame lacks is answered by [`Answer::NoPlane`] and changes nothing. Only memory stops a
+/// replay: then the calls that were answered are done, and no later one has written anything. An empty list of calls
+/// takes no memory. Our own.
 pub fn replay<T: Pixel>(
     alloc: Global,
     frame: &mut Frame<T>,

@@ -1,4 +1,4 @@
-//! A list of fixed length.
+//! The buffer of a plane: a list of fixed length.
 ghost use Rattle.std.specs.Prelude.{◌≡◌, length, replicate, IfOk};
 ghost use Rattle.std.specs.Borrow.{sem};
 ghost use Rattle.v_frame.specs.AlignedData.{LendsEntries};
@@ -6,7 +6,7 @@ ghost use Rattle.v_frame.specs.AlignedData.{LendsEntries};
 use std::alloc::{AllocError, Global};
 use std::marker::Model;
 
-/// The entries of a plane.
+/// The entries of a buffer. How they are kept is known here alone. Stands for `AlignedData` of `v_frame` 0.7.0.
 #[derive(Drop)]
 pub(crate) struct AlignedData<T> {
     entries: Vec<T>,
@@ -32,12 +32,14 @@ impl<T> AlignedData<T> {
         Ok(AlignedData { entries })
     }
 
+    /// The entries.
     pub(crate) fn as_slice(&self) -> &[T]
         ensures { result.now ≡ self.now }
     {
         self.entries.as_slice()
     }
 
+    /// The entries, for writing.
     pub(crate) fn as_mut_slice(&mut self) -> &mut [T]
         ensures* writes_back { sem 𝓛 (LendsEntries T.row self.entry result) }
         ensures value { result.now ≡ self.old }

@@ -1,4 +1,4 @@
-//! Copies into a plane.
+//! Copies of whole pictures into a plane.
 ghost use Rattle.std.specs.Prelude.{◌≡◌, ◌*◌, length, OnErr};
 ghost use Rattle.v_frame.specs.Geometry.{alloc_size_of, Fits};
 ghost use Rattle.v_frame.specs.Picture.{raster, shown, border_of};
@@ -8,6 +8,11 @@ use super::{CopyError, Plane, PlaneGeometry};
 use crate::pixel::Pixel;
 
 impl<T: Pixel> Plane<T> {
+    /// Replaces the visible pixels by those of `src`, row after row. The border stays.
+    ///
+    /// Refused with [`CopyError::DataLength`] where `src` has another length than `width * height` pixels.
+    ///
+    /// Ports `Plane::copy_from_slice` of `v_frame` 0.7.0.
     pub fn copy_from_slice(&mut self, src: &[T]) -> Result<(), CopyError>
         ensures answer { result ≡ (packed_copy (shown self.old) src.now).answer }
         ensures table { shown self.new ≡ (packed_copy (shown self.old) src.now).table }

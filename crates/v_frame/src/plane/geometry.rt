@@ -1,13 +1,13 @@
-//! The layout of a plane.
+//! Geometry: where the visible rectangle of a plane lies in its buffer.
 ghost use Rattle.std.specs.Prelude.{◌≡◌, ◌+◌, ◌*◌, ◌<◌, ◌≤◌, SomeIff};
 ghost use Rattle.v_frame.specs.Geometry.{stride_of, alloc_height_of, alloc_size_of, IsGeometry, Fits, usize_max};
 ghost use Rattle.v_frame.specs.Picture.{origin_of, place_of};
 
 use std::marker::Model;
 
-/// Where the visible rectangle of a plane lies in its buffer. All sizes are in pixels.
+/// The layout of a plane: its visible size, the paddings around it, and how often it is sampled beside luma.
 ///
-/// Ports `PlaneGeometry` of `v_frame` 0.7.0.
+/// Sizes, paddings and the stride are in pixels. Ports `PlaneGeometry` of `v_frame` 0.7.0.
 #[derive(Debug, Clone, Copy, PartialEq, Eq)]
 pub struct PlaneGeometry {
     width: usize,
@@ -61,6 +61,10 @@ impl Model for PlaneGeometry {
 impl PlaneGeometry {
     ghost use Rattle.v_frame.specs.Geometry.{geometry_of};
 
+    /// The geometry of these numbers. There is none where the width, the height or a ratio is zero, or where
+    /// `width + pad_left + pad_right` is above `usize::MAX`.
+    ///
+    /// Ports `PlaneGeometry::new` of `v_frame` 0.7.0.
     pub fn new(
         width: usize,
         height: usize,
@@ -91,6 +95,9 @@ impl PlaneGeometry {
         })
     }
 
+    /// The geometry of a plane without a border.
+    ///
+    /// Ports `PlaneGeometry::unpadded` of `v_frame` 0.7.0.
     pub fn unpadded(
         width: usize,
         height: usize,
@@ -119,14 +126,59 @@ impl PlaneGeometry {
         self.height
     }
 
-    /// How far one row of the buffer is from the next.
+    /// Pixels from the start of one row of the buffer to the start of the next.
     pub fn stride(&self) -> usize
         ensures { result ≡ stride_of self.now }
     {
         self.stride
     }
 
-    /// The size of the buffer, where it is at most 4611686018427387903.
+    /// Border pixels to the left of each visible row.
+    pub fn pad_left(&self) -> usize
+        ensures { result ≡ self.now.pad_left }
+    {
+        self.pad_left
+    }
+
+    /// Border pixels to the right of each visible row.
+    pub fn pad_right(&self) -> usize
+        ensures { result ≡ self.now.pad_right }
+    {
+        self.pad_right
+    }
+
+    /// Border rows above the visible ones.
+    pub fn pad_top(&self) -> usize
+        ensures { result ≡ self.now.pad_top }
+    {
+        self.pad_top
+    }
+
+    /// Border rows below the visible ones.
+    pub fn pad_bottom(&self) -> usize
+        ensures { result ≡ self.now.pad_bottom }
+    {
+        self.pad_bottom
+    }
+
+    /// The horizontal ratio: how many luma columns stand beside one column of the plane.
+    pub fn subsampling_x(&self) -> u8
+        ensures { result ≡ self.now.subsampling_x }
+    {
+        self.subsampling_x
+    }
+
+    /// The vertical ratio: how many luma rows stand beside one row of the plane.
+    pub fn subsampling_y(&self) -> u8
+        ensures { result ≡ self.now.subsampling_y }
+    {
+        self.subsampling_y
+    }
+
+    /// The number of pixels in the buffer, where a buffer can be that large: at most 4611686018427387903.
+    ///
+    /// It tests what [`data_origin`](Self::data_origin), [`alloc_height`](Self::alloc_height) and
+    /// [`alloc_size`](Self::alloc_size) ask for. Our own.
     pub fn checked_alloc_size(&self) -> Option<usize>
         ensures { SomeIff result (Fits self.now) (alloc_size_of self.now) }
     {
@@ -138,6 +190,7 @@ impl PlaneGeometry {
         (size <= isize::MAX as usize / 2).then_some(size)
     }
 
+    /// The place of the pixel (0, 0) in the buffer. [`checked_alloc_size`](Self::checked_alloc_size) must be `Some`.
     pub fn data_origin(&self) -> usize
         requires { Fits self.now }
         ensures { result ≡ origin_of self.now }
@@ -155,7 +208,7 @@ impl PlaneGeometry {
         self.data_origin() + self.stride * y
     }
 
-    /// The pixels of the visible rectangle.
+    /// The number of visible pixels.
     pub(crate) fn visible_size(&self) -> usize
         requires { Fits self.now }
         ensures value { result ≡ self.now.width * self.now.height }
@@ -175,6 +228,7 @@ impl PlaneGeometry {
             .checked_add(self.data_origin())
     }
 
+    /// The number of rows in the buffer. [`checked_alloc_size`](Self::checked_alloc_size) must be `Some`.
     pub fn alloc_height(&self) -> usize
         requires { Fits self.now }
         ensures { result ≡ alloc_height_of self.now }
@@ -182,6 +236,7 @@ impl PlaneGeometry {
         self.height + self.pad_top + self.pad_bottom
     }
 
+    /// The number of pixels in the buffer. [`checked_alloc_size`](Self::checked_alloc_size) must be `Some`.
     pub fn alloc_size(&self) -> usize
         requires { Fits self.now }
         ensures { result ≡ alloc_size_of self.now }
