@@ -1,7 +1,7 @@
 //! Laws: what callers may rely on beyond a single call.
 //!
 //! Each function makes the calls that its law speaks of, and its contract is the law. Our own.
-ghost use Rattle.std.specs.Prelude.{◌≡◌, ◌↔◌, Some, IsTrue};
+ghost use Rattle.std.specs.Prelude.{◌≡◌, ◌^◌, ◌<◌, ◌↔◌, length, Some, IsTrue};
 ghost use Rattle.std.specs.Ordering.{nat_cmp};
 ghost use Rattle.v_frame.specs.Pixel.{bytes_of};
 ghost use Rattle.v_frame.specs.Laws.{DeterminesBuffer};
@@ -9,19 +9,19 @@ ghost use Rattle.v_frame.specs.Laws.{DeterminesBuffer};
 use crate::pixel::Pixel;
 use std::cmp::Ordering;
 
-/// A pixel is found again from its value.
-pub fn pixel_of_its_value<T: Pixel>(p: T) -> Option<T>
-    ensures { result ≡ Some p }
+/// The pixel that has a value is found from it, and no other: a pixel's value leads back to the pixel.
+pub fn pixel_of_value<T: Pixel>(value: u16) -> Option<T>
+    ensures { (p : T) → T.value p < 256 ^ T.BYTES → T.value p ≡ value → result ≡ Some p }
 {
-    T::try_from_u16(p.into_u16())
+    T::try_from_u16(value)
 }
 
-/// A pixel is found again from its bytes.
-pub fn pixel_of_its_bytes<T: Pixel>(p: T, bytes: &[u8]) -> T
-    requires { bytes.now ≡ bytes_of T.BYTES (T.value p) }
-    ensures { result ≡ p }
+/// The pixel that has bytes is found from them, and no other: a pixel's bytes lead back to the pixel.
+pub fn pixel_of_bytes<T: Pixel>(bytes: &[u8]) -> T
+    requires { length bytes.now ≡ T.BYTES }
+    ensures { (p : T) → T.value p < 256 ^ T.BYTES → bytes.now ≡ bytes_of T.BYTES (T.value p)
+        → result ≡ p }
 {
-    let _in_range = p.into_u16();
     T::from_le(bytes)
 }
 

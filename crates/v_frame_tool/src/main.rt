@@ -3,6 +3,8 @@
 
 mod counted;
 mod fault;
+#[cfg(test)]
+mod rows;
 mod run;
 
 use counted::Counted;

@@ -1,0 +1,97 @@
+//! What stands where a request for memory is refused. With memory, each call answers `Ok`.
+//!
+//! `rt try --test --fail-alloc 1..` runs these tests with each request refused in turn; all but the second then take the
+//! branch of the refusal.
+
+use super::frames::{monochrome, table_of};
+use super::replays::copy;
+use crate::counted::Counted;
+use crate::fault::ToolFault;
+use crate::run::run;
+use std::alloc::{AllocError, Global};
+use std::io::Cursor;
+use std::test::Fail;
+use v_frame::chroma::ChromaSubsampling;
+use v_frame::frame::{FrameBuilder, FrameError};
+use v_frame::replay::{Answer, VisibleCall, replay};
+
+#[test]
+fn a_refused_build_hands_out_no_frame(rt: HostRuntime) {
+    match monochrome(rt.alloc(), 3, 2, [2, 2, 2, 0]) {
+        Ok(frame) => assert!(rt; table_of(&frame.y_plane) == [Some([0, 0, 0]), Some([0, 0, 0])]),
+        Err(error) => assert_eq!(rt; error, FrameError::OutOfMemory),
+    }
+}
+
+#[test]
+fn a_buffer_past_all_memory_is_refused(rt: HostRuntime) {
+    let widest = FrameBuilder::new(4611686018427387903, 1, ChromaSubsampling::Monochrome, 8);
+    let built = widest.build::<u8>(rt.alloc());
+    assert_eq!(rt; built.err(), Some(FrameError::OutOfMemory));
+    let widest = FrameBuilder::new(4611686018427387903, 1, ChromaSubsampling::Monochrome, 10);
+    let built = widest.build::<u16>(rt.alloc());
+    assert_eq!(rt; built.err(), Some(FrameError::OutOfMemory));
+}
+
+#[test]
+fn other_refusals_need_no_memory(rt: HostRuntime) {
+    let depth = FrameBuilder::new(1920, 1080, ChromaSubsampling::Monochrome, 7);
+    let wanted = FrameError::UnsupportedBitDepth { found: 7 };
+    assert_eq!(rt; depth.build::<u8>(rt.alloc()).err(), Some(wanted));
+    let mismatch = FrameBuilder::new(1920, 1080, ChromaSubsampling::Monochrome, 10);
+    let built = mismatch.build::<u8>(rt.alloc());
+    assert_eq!(rt; built.err(), Some(FrameError::DataTypeMismatch));
+    let empty = FrameBuilder::new(0, 1080, ChromaSubsampling::Monochrome, 8);
+    let built = empty.build::<u8>(rt.alloc());
+    assert_eq!(rt; built.err(), Some(FrameError::UnsupportedResolution));
+}
+
+/// The answer of a call that read a row.
+fn row_shown(alloc: Global, row: &[u8]) -> Result<Answer<u8>, AllocError> {
+    Ok(Answer::RowShown(Some(Vec::from_slice(alloc, row)?.into())))
+}
+
+#[test]
+fn a_stopped_replay_has_done_its_first_calls(rt: HostRuntime) -> Result<(), Fail> {
+    let mut frame = monochrome(rt.alloc(), 3, 2, [1, 2, 1, 0])?;
+    let calls = [
+        VisibleCall::Row { plane: 0, y: 0 },
+        copy(rt.alloc(), &[1, 2, 3, 4, 5, 6])?,
+        VisibleCall::Row { plane: 0, y: 0 },
+        VisibleCall::Row { plane: 0, y: 1 },
+    ];
+    let wanted = [
+        row_shown(rt.alloc(), &[0, 0, 0])?,
+        Answer::Copied(Ok(())),
+        row_shown(rt.alloc(), &[1, 2, 3])?,
+        row_shown(rt.alloc(), &[4, 5, 6])?,
+    ];
+    let full = [Some([1, 2, 3]), Some([4, 5, 6])];
+    match replay(rt.alloc(), &mut frame, &calls) {
+        Ok(answers) => {
+            assert_eq!(rt; answers.as_slice(), wanted.as_slice());
+            assert!(rt; table_of(&frame.y_plane) == full);
+        }
+        Err(stopped) => {
+            let done = stopped.done.as_slice();
+            assert!(rt; done.len() < 4);
+            assert_eq!(rt; done, &wanted[..done.len()]);
+            let blank = [Some([0, 0, 0]), Some([0, 0, 0])];
+            let left = if done.len() < 2 { blank } else { full };
+            assert!(rt; table_of(&frame.y_plane) == left);
+        }
+    }
+    Ok(())
+}
+
+#[test]
+fn a_program_without_memory_says_so(rt: HostRuntime) {
+    let mut out = Counted::new(Cursor::new([0u8; 64]));
+    match run(rt.alloc(), &mut out, &[1, 2, 3, 4, 5, 6, 7, 8]) {
+        Ok(()) => assert_eq!(rt; out.inner().position(), 31),
+        Err(fault) => {
+            let frame = ToolFault::Frame(FrameError::OutOfMemory);
+            assert!(rt; fault == frame || fault == ToolFault::OutOfMemory);
+        }
+    }
+}
