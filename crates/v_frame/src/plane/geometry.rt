@@ -244,3 +244,37 @@ impl PlaneGeometry {
         self.alloc_height() * self.stride
     }
 }
+
+#[cfg(test)]
+mod tests {
+    use super::*;
+    use std::test::Fail;
+
+    #[test]
+    fn getters_tell_what_was_given(rt: HostRuntime) -> Result<(), Fail> {
+        let padded = PlaneGeometry::new(1920, 1080, 40, 30, 20, 10, 1, 1).ok_or("padded")?;
+        assert_eq!(rt; (padded.width(), padded.height()), (1920, 1080));
+        assert_eq!(rt; padded.stride(), 1990);
+        assert_eq!(rt; (padded.pad_left(), padded.pad_right()), (40, 30));
+        assert_eq!(rt; (padded.pad_top(), padded.pad_bottom()), (20, 10));
+        assert_eq!(rt; (padded.subsampling_x(), padded.subsampling_y()), (1, 1));
+        let unpadded = PlaneGeometry::unpadded(1920, 1080, 1, 1).ok_or("unpadded")?;
+        assert_eq!(rt; (unpadded.width(), unpadded.height()), (1920, 1080));
+        assert_eq!(rt; unpadded.stride(), 1920);
+        assert_eq!(rt; (unpadded.pad_left(), unpadded.pad_right()), (0, 0));
+        assert_eq!(rt; (unpadded.pad_top(), unpadded.pad_bottom()), (0, 0));
+        assert_eq!(rt;
+            (unpadded.subsampling_x(), unpadded.subsampling_y()),
+            (1, 1)
+        );
+        Ok(())
+    }
+
+    #[test]
+    fn zero_is_no_size_and_no_ratio(rt: HostRuntime) {
+        assert_eq!(rt; PlaneGeometry::new(0, 1080, 40, 30, 20, 10, 1, 1), None);
+        assert_eq!(rt; PlaneGeometry::new(1920, 0, 40, 30, 20, 10, 1, 1), None);
+        assert_eq!(rt; PlaneGeometry::new(1920, 1080, 40, 30, 20, 10, 0, 1), None);
+        assert_eq!(rt; PlaneGeometry::unpadded(1920, 1080, 1, 0), None);
+    }
+}
