@@ -1,7 +1,7 @@
 -- A value is the sum of its bytes, each times the weight of its place.
-use Rattle.std.proofs.Common.{ℕ, zero, suc, ◌≡◌, ◌+◌, ◌*◌, ◌/◌, ◌%◌, ◌^◌, ◌<◌, List, length, refl, sym, ◌∙◌, ap, arith, add-one}
+use Rattle.std.proofs.Common.{ℕ, zero, suc, ◌≡◌, ◌+◌, ◌*◌, ◌/◌, ◌%◌, ◌^◌, ◌<◌, length, refl, sym, ◌∙◌, ap, arith, add-one}
 use Rattle.std.proofs.Math.Nat.{pow-suc, div-div-eq-div-mul, div-eq_of_lt}
-use Rattle.v_frame.specs.Pixel.{byte_of, bytes_from, bytes_of, value_from, value_of_bytes}
+use Rattle.v_frame.specs.Pixel.{bytes_from, bytes_of, value_from, value_of_bytes}
 
 pub length-bytes_from : (i n value : ℕ) → length (bytes_from i n value) ≡ n
 length-bytes_from i zero value = refl

@@ -1,14 +1,12 @@
 -- Rows of a packed source, written one after the other over those of a plane.
-use Rattle.std.proofs.Common.{ℕ, zero, suc, ◌≡◌, ◌+◌, ◌-◌, ◌*◌, ◌<◌, ◌≤◌, eqb, true, false, eq-eqb, inl, inr, List, [], ◌∷◌, ◌++◌, length, take, drop, Option, Some, None, Ok, Err, Result, slice_get, slice_set, refl, sym, ◌∙◌, ap, arith, append_assoc, append-nil, length-append, length-drop, length-take-le}
+use Rattle.std.proofs.Common.{ℕ, zero, suc, ◌≡◌, ◌+◌, ◌*◌, ◌<◌, ◌≤◌, eqb, true, false, eq-eqb, inl, inr, List, [], ◌∷◌, ◌++◌, length, take, drop, Some, Ok, Err, slice_get, slice_set, refl, sym, ◌∙◌, ap, arith, append-nil, length-drop, length-take-le}
 use Rattle.std.proofs.lemmas.List.{drop-drop, take_all, drop_all}
 use Rattle.std.proofs.lemmas.Bool.Decides.{eqb_tells}
 use borrow.Rule.Slice.PartMut.{put_mid}
-use Rattle.std.proofs.Math.Nat.{mul-le-mul_right}
-use Rattle.v_frame.specs.Geometry.{Geometry, stride_of, alloc_size_of, Fits}
+use Rattle.v_frame.specs.Geometry.{Geometry, alloc_size_of}
 use Rattle.v_frame.specs.Picture.{Raster, raster, shown, border_of, place_of}
 use Rattle.v_frame.specs.Rows.{Table, width_of, height_of}
-use Rattle.v_frame.specs.Copy.{cut_rows, packed_copy, CopyOutcome}
-use Rattle.v_frame.specs.declared.plane.error.CopyError.{CopyError}
+use Rattle.v_frame.specs.Copy.{cut_rows, packed_copy}
 use Rattle.v_frame.specs.declared.plane.error.CopyError.TheVariants.{DataLength}
 use Rattle.v_frame.proofs.Lists.{one_more}
 use Rattle.v_frame.proofs.Pictures.{row_start, place_of_row, row_within, overwritten, shown_overwritten, border_overwritten, shown_row, length-shown}

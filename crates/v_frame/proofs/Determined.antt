@@ -1,8 +1,8 @@
 -- A buffer is put together again from its visible pieces and its border pieces.
-use Rattle.std.proofs.Common.{ℕ, zero, suc, ◌≡◌, ◌+◌, ◌*◌, ◌≤◌, List, [], ◌∷◌, ◌++◌, length, take, drop, refl, sym, ◌∙◌, ap, arith}
+use Rattle.std.proofs.Common.{◌≡◌, List, [], ◌∷◌, ◌++◌, length, take, drop, refl, sym, ◌∙◌, ap, arith}
 use Rattle.std.proofs.lemmas.List.{take_all}
 use Rattle.v_frame.specs.Geometry.{Geometry, alloc_size_of}
-use Rattle.v_frame.specs.Picture.{Raster, raster, Mark, Border, Visible, Piece, times, outer_row, crossing_row, cutting_plan, cut_by, if_visible, if_border, visible_pieces, border_pieces, shown, border_of}
+use Rattle.v_frame.specs.Picture.{raster, Mark, Border, Visible, Piece, times, outer_row, crossing_row, cutting_plan, cut_by, if_visible, if_border, visible_pieces, border_pieces, shown, border_of}
 use Rattle.v_frame.specs.Laws.{DeterminesBuffer}
 use Rattle.v_frame.proofs.Lists.{taken_twice}
 use Rattle.v_frame.proofs.Pictures.{total, total-append, total-times}

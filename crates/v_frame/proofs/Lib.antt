@@ -1,7 +1,11 @@
 pub mod Bytes
+pub mod ChromaLemmas
 pub mod CopyLemmas
 pub mod Determined
 pub mod Lists
+pub mod Overwrites
+pub mod OwnPlaces
 pub mod Pictures
 pub mod Places
 pub mod Replays
+pub mod Writes

@@ -1,6 +1,6 @@
 -- Facts about lists alone.
-use Rattle.std.proofs.Common.{ℕ, zero, suc, ◌≡◌, ◌+◌, ◌-◌, ◌*◌, ◌<◌, ◌≤◌, List, [], ◌∷◌, ◌++◌, length, take, drop, Option, Some, None, slice_get, slice_set, refl, sym, ◌∙◌, ap, arith, take-append-drop}
-use Rattle.std.proofs.lemmas.List.{take_at, take-take, drop-take}
+use Rattle.std.proofs.Common.{ℕ, zero, suc, ◌≡◌, ◌+◌, ◌-◌, ◌<◌, ◌≤◌, List, [], ◌∷◌, ◌++◌, length, take, drop, Some, slice_get, slice_set, refl, sym, ◌∙◌, ap, arith, take-append-drop, length-take-le, length-drop}
+use Rattle.std.proofs.lemmas.List.{take_at, take-take, drop-take, set-append_left, set-append_right}
 use Rattle.std.specs.List.{refill}
 
 module _ {X : Type 0} where
@@ -44,3 +44,15 @@ module _ {X : Type 0} where
   pub taken_twice : (n m : ℕ) (xs : List X) → take n xs ++ take m (drop n xs) ≡ take (n + m) xs
   taken_twice n m xs =
       ap (λ front. front ++ take m (drop n xs)) (sym (take-take n (n + m) xs (omega arith))) ∙ ap (λ rest. take n (take (n + m) xs) ++ rest) (sym (drop-take n m xs)) ∙ take-append-drop n (take (n + m) xs)
+
+  -- an element that is set inside a part of a list is set in that part
+  pub set_in_part : (xs : List X) (start n i : ℕ) (x : X) → i < n → start + n ≤ length xs
+      → slice_set xs (start + i) x ≡ take start xs ++ (slice_set (take n (drop start xs)) i x ++ drop n (drop start xs))
+  set_in_part xs start n i x h inside =
+      let part = take n (drop start xs) in
+      let rest = drop n (drop start xs) in
+      let front : length (take start xs) ≡ start = length-take-le start xs (omega arith) in
+      let long : length part ≡ n = length-take-le n (drop start xs) (omega (arith, length-drop start xs)) in
+      let whole : xs ≡ take start xs ++ (part ++ rest) = sym (take-append-drop start xs) ∙ ap (λ ys. take start xs ++ ys) (sym (take-append-drop n (drop start xs))) in
+      let back : start + i - start ≡ i = omega arith in
+      ap (λ ys. slice_set ys (start + i) x) whole ∙ set-append_right (take start xs) (part ++ rest) start (start + i) x front (omega arith) ∙ ap (λ k. take start xs ++ slice_set (part ++ rest) k x) back ∙ ap (λ ys. take start xs ++ ys) (set-append_left part rest i x (omega arith))

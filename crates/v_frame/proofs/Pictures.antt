@@ -1,10 +1,10 @@
 -- The bridge between a buffer and its picture: where the plan puts a row, what reading there gives, and what writing there leaves.
-use Rattle.std.proofs.Common.{ℕ, zero, suc, ◌≡◌, ◌+◌, ◌-◌, ◌*◌, ◌<◌, ◌≤◌, List, [], ◌∷◌, ◌++◌, length, take, drop, Option, Some, None, slice_get, slice_set, refl, sym, ◌∙◌, ap, arith, append_assoc, append-nil, length-append, length-drop, length-take-le, take-append-drop}
+use Rattle.std.proofs.Common.{ℕ, zero, suc, ◌≡◌, ◌+◌, ◌-◌, ◌*◌, ◌<◌, ◌≤◌, List, [], ◌∷◌, ◌++◌, length, take, drop, Some, slice_get, slice_set, refl, sym, ◌∙◌, ap, arith, append_assoc, length-append, length-drop, length-take-le, take-append-drop}
 use Rattle.std.proofs.lemmas.List.{drop-drop, take-append-le, drop-append-le, take_at, drop_at}
 use Rattle.std.proofs.Math.Nat.{mul-le-mul_right}
 use Rattle.v_frame.proofs.Lists.{slice_get-at, slice_set-at}
 use Rattle.v_frame.specs.Geometry.{Geometry, stride_of, alloc_size_of}
-use Rattle.v_frame.specs.Picture.{Raster, Mark, Border, Visible, Piece, border_piece, visible_piece, times, outer_row, crossing_row, cutting_plan, cut_by, if_visible, if_border, visible_pieces, border_pieces, shown, border_of, entries_in_front, origin_of, place_of}
+use Rattle.v_frame.specs.Picture.{Raster, Mark, Visible, Piece, border_piece, visible_piece, times, outer_row, crossing_row, cutting_plan, cut_by, if_visible, if_border, visible_pieces, border_pieces, shown, entries_in_front, origin_of, place_of}
 
 -- the entries of all pieces
 abbrev pub total : List Piece → ℕ
@@ -57,17 +57,17 @@ before_row g y = times g.pad_top (outer_row g) ++ (times y (crossing_row g) ++ b
 abbrev pub after_row : Geometry → ℕ → List Piece
 after_row g y = border_piece g.pad_right ∷ (times (g.height - suc y) (crossing_row g) ++ times g.pad_bottom (outer_row g))
 
-plan_at_row : (g : Geometry) (y : ℕ) → y < g.height → cutting_plan g ≡ before_row g y ++ visible_piece g.width ∷ after_row g y
+pub plan_at_row : (g : Geometry) (y : ℕ) → y < g.height → cutting_plan g ≡ before_row g y ++ visible_piece g.width ∷ after_row g y
 plan_at_row g y h =
     let e : g.height ≡ y + suc (g.height - suc y) = omega arith in
     let split : times g.height (crossing_row g) ≡ times y (crossing_row g) ++ times (suc (g.height - suc y)) (crossing_row g) = ap (λ n. times n (crossing_row g)) e ∙ times-add y (suc (g.height - suc y)) (crossing_row g) in
     ap (λ rows. times g.pad_top (outer_row g) ++ (rows ++ times g.pad_bottom (outer_row g))) split ∙ simp append_assoc
 
 -- the place where the y-th visible row begins
-pub row_start : Geometry → ℕ → ℕ
+unfoldable pub row_start : Geometry → ℕ → ℕ
 row_start g y = g.pad_top * stride_of g + (y * stride_of g + g.pad_left)
 
-total-before_row : (g : Geometry) (y : ℕ) → total (before_row g y) ≡ row_start g y
+pub total-before_row : (g : Geometry) (y : ℕ) → total (before_row g y) ≡ row_start g y
 unfolding row_start
 total-before_row g y =
     omega (arith, total-append (times g.pad_top (outer_row g)) (times y (crossing_row g) ++ border_piece g.pad_left ∷ []), total-append (times y (crossing_row g)) (border_piece g.pad_left ∷ []), total-times g.pad_top (outer_row g), total-times y (crossing_row g))

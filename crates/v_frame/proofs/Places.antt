@@ -1,9 +1,9 @@
 -- Places of pixels: what stands at one, and that it is the table's pixel inside the rectangle.
-use Rattle.std.proofs.Common.{ℕ, ◌≡◌, ◌+◌, ◌-◌, ◌*◌, ◌<◌, ◌≤◌, List, length, take, drop, Option, Some, None, slice_get, option_and_then, option_copied, Bor, All, inl, inr, length-take-le, length-drop, refl, sym, ◌∙◌, ap, arith}
+use Rattle.std.proofs.Common.{ℕ, ◌≡◌, ◌+◌, ◌-◌, ◌<◌, ◌≤◌, List, length, take, drop, Option, Some, None, slice_get, option_and_then, option_copied, Bor, All, inl, inr, length-take-le, length-drop, refl, sym, ◌∙◌, ap, arith}
 use Rattle.std.proofs.lemmas.Option.{slice_get_past, slice_get_read, slice_get_cases, get_or_from_slice_get}
 use Rattle.std.specs.Slice.{IsGetResult}
-use Rattle.v_frame.specs.Geometry.{Geometry, stride_of, alloc_size_of, Fits, usize_max}
-use Rattle.v_frame.specs.Picture.{Raster, shown, origin_of, place_of}
+use Rattle.v_frame.specs.Geometry.{Geometry, alloc_size_of}
+use Rattle.v_frame.specs.Picture.{Raster, shown, place_of}
 use Rattle.v_frame.specs.Rows.{pixel_at}
 use Rattle.v_frame.proofs.Lists.{slice_get-take, slice_get-drop}
 use Rattle.v_frame.proofs.Pictures.{row_start, place_of_row, row_within, shown_row, length-shown}

@@ -1,8 +1,7 @@
 -- A replay, call after call: what one more call adds to the answers, the tables and the planes that may be written.
-use Rattle.std.proofs.Common.{ℕ, ◌≡◌, ◌+◌, ◌<◌, ◌≤◌, List, [], ◌∷◌, ◌++◌, length, take, get_or, Option, Some, None, option_map, Any, length-take, refl, sym, ◌∙◌, ap, arith}
+use Rattle.std.proofs.Common.{ℕ, ◌≡◌, ◌+◌, ◌<◌, List, [], ◌∷◌, ◌++◌, length, take, get_or, Some, Any, length-take, refl, sym, ◌∙◌, ap, arith}
 use Rattle.std.proofs.lemmas.List.{take_more, take-take, get_or-take}
-use Rattle.v_frame.specs.Picture.{Raster, shown}
-use Rattle.v_frame.specs.Shown.{Tables, tables_of, plane_at, unshown, KeepsBorder}
+use Rattle.v_frame.specs.Shown.{Tables, KeepsBorder}
 use Rattle.v_frame.specs.Replay.{written_plane, WritesPlane, reply_to, answers_to, tables_after}
 use Rattle.v_frame.specs.declared.frame.Frame.{Frame}
 use Rattle.v_frame.specs.declared.replay.call.VisibleCall.{VisibleCall}

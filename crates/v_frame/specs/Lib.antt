@@ -3,11 +3,15 @@ pub mod Asked
 pub mod Buildable
 pub mod FrameLends
 pub mod Shown
+pub mod Chroma
 pub mod Copy
 pub mod Geometry
 pub mod Laws
 pub mod Picture
 pub mod Pixel
 pub mod Replay
+pub mod PlaneLends
 pub mod Rows
+pub mod Subsampled
 pub mod Worked
+pub mod Written

@@ -1,6 +1,6 @@
 -- The picture of a plane: its buffer cut, from the front, into the pieces that its geometry lays down.
 -- Its table is what the visible pieces show, and its border is all other pieces.
-use Rattle.std.specs.Prelude.{ℕ, zero, suc, ◌+◌, ◌*◌, ◌≡◌, List, [], ◌∷◌, ◌++◌, length, take, drop}
+use Rattle.std.specs.Prelude.{ℕ, zero, suc, ◌+◌, ◌-◌, ◌*◌, nat_lt, if◌then◌else◌, List, [], ◌∷◌, ◌++◌, take, drop, replicate, Option, Some, None}
 use Rattle.v_frame.specs.Geometry.{Geometry, stride_of, alloc_size_of}
 
 -- a plane: its geometry, and its whole buffer, row after row from the top
@@ -10,6 +10,10 @@ pub record Raster (T : Type 0) : Type 0 where
 
 abbrev pub raster : {T : Type 0} → Geometry → List T → Raster T
 raster geometry buffer = record { geometry = geometry; buffer = buffer }
+
+-- a plane that holds one value everywhere, in its border too
+abbrev pub filled : {T : Type 0} → T → Geometry → Raster T
+filled value geometry = raster geometry (replicate (alloc_size_of geometry) value)
 
 pub data Mark : Type 0 where
   Border : Mark
@@ -92,3 +96,8 @@ origin_of g = entries_in_front (cutting_plan g)
 -- the place of (x, y), for any two numbers
 abbrev pub place_of : Geometry → ℕ → ℕ → ℕ
 place_of g x y = origin_of g + (x + y * stride_of g)
+
+-- the mark of the piece that a place of the buffer lies in
+abbrev pub mark_at : List Piece → ℕ → Option Mark
+mark_at [] place = None
+mark_at (piece ∷ plan) place = if nat_lt place piece.entries then Some piece.mark else mark_at plan (place - piece.entries)

@@ -1,10 +1,10 @@
 -- Visible calls on plain tables of rows. Nothing here knows a padding, a border or a buffer.
 use Rattle.std.specs.Prelude.{ℕ, ◌≡◌, ◌<◌, List, [], ◌∷◌, length, take, Option, Some, None, slice_get, Any}
-use Rattle.v_frame.specs.Rows.{Table, width_of, height_of, pixel_at}
+use Rattle.v_frame.specs.Rows.{Table, width_of, height_of, pixel_at, with_writes, with_pixel}
 use Rattle.v_frame.specs.Copy.{packed_copy}
 use Rattle.v_frame.specs.Shown.{Tables, table_at, with_table}
 use Rattle.v_frame.specs.declared.replay.call.VisibleCall.{VisibleCall}
-use Rattle.v_frame.specs.declared.replay.call.VisibleCall.TheVariants.{Width, Height, Row, Pixel, CopyFromSlice}
+use Rattle.v_frame.specs.declared.replay.call.VisibleCall.TheVariants.{Width, Height, Row, RowMut, Pixel, PixelMut, CopyFromSlice}
 use Rattle.v_frame.specs.declared.replay.answer.Answer.{Answer}
 use Rattle.v_frame.specs.declared.replay.answer.Answer.TheVariants.{NoPlane, OutsideRectangle, Number, RowShown, PixelShown, Copied}
 
@@ -24,7 +24,9 @@ module _ {T : Type 0} where
   named_plane (Width plane) = plane
   named_plane (Height plane) = plane
   named_plane (Row plane y) = plane
+  named_plane (RowMut plane y writes) = plane
   named_plane (Pixel plane x y) = plane
+  named_plane (PixelMut plane x y value) = plane
   named_plane (CopyFromSlice plane source) = plane
 
   -- the plane that a call may write
@@ -32,7 +34,9 @@ module _ {T : Type 0} where
   written_plane (Width plane) = None
   written_plane (Height plane) = None
   written_plane (Row plane y) = None
+  written_plane (RowMut plane y writes) = Some plane
   written_plane (Pixel plane x y) = None
+  written_plane (PixelMut plane x y value) = Some plane
   written_plane (CopyFromSlice plane source) = Some plane
 
   -- some call of the list may write the plane of this index
@@ -48,7 +52,9 @@ module _ {T : Type 0} where
   on_table (Width plane) rows = record { answer = Number (width_of rows); table = rows }
   on_table (Height plane) rows = record { answer = Number (height_of rows); table = rows }
   on_table (Row plane y) rows = record { answer = RowShown (slice_get rows y); table = rows }
+  on_table (RowMut plane y writes) rows = record { answer = RowShown (slice_get rows y); table = with_writes rows y writes }
   on_table (Pixel plane x y) rows = record { answer = answer_of_pixel (pixel_at rows x y); table = rows }
+  on_table (PixelMut plane x y value) rows = record { answer = answer_of_pixel (pixel_at rows x y); table = with_pixel rows x y value }
   on_table (CopyFromSlice plane source) rows =
       let copy = packed_copy rows source in record { answer = Copied copy.answer; table = copy.table }
 

@@ -1,5 +1,5 @@
--- Tables of rows: their sizes, their pixels and their row-major list.
-use Rattle.std.specs.Prelude.{ℕ, List, [], ◌∷◌, ◌++◌, length, Option, slice_get, option_and_then}
+-- Tables of rows: their sizes, their pixels, their row-major list, and what is written into them.
+use Rattle.std.specs.Prelude.{ℕ, List, [], ◌∷◌, ◌++◌, length, Option, Some, None, slice_get, slice_set, unwrap_or, option_and_then}
 
 -- the rows of a plane, from the top, each from the left
 abbrev pub Table : Type 0 → Type 0
@@ -21,3 +21,22 @@ module _ {T : Type 0} where
   abbrev pub row_major : Table T → List T
   row_major [] = []
   row_major (row ∷ rows) = row ++ row_major rows
+
+  -- a row overwritten: each entry is what is written there, where something is, and else as before
+  abbrev pub overwritten_row : List T → List (Option T) → List T
+  overwritten_row [] writes = []
+  overwritten_row (pixel ∷ row) [] = pixel ∷ row
+  overwritten_row (pixel ∷ row) (write ∷ writes) = unwrap_or write pixel ∷ overwritten_row row writes
+
+  -- the table with its row y changed, where it has one
+  abbrev pub with_row_by : (List T → List T) → Table T → ℕ → Option (List T) → Table T
+  with_row_by change rows y None = rows
+  with_row_by change rows y (Some row) = slice_set rows y (change row)
+
+  -- the table with its row y overwritten
+  abbrev pub with_writes : Table T → ℕ → List (Option T) → Table T
+  with_writes rows y writes = with_row_by (λ row. overwritten_row row writes) rows y (slice_get rows y)
+
+  -- the table with the pixel of column x in row y replaced
+  abbrev pub with_pixel : Table T → ℕ → ℕ → T → Table T
+  with_pixel rows x y pixel = with_row_by (λ row. slice_set row x pixel) rows y (slice_get rows y)

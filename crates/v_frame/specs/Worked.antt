@@ -1,5 +1,5 @@
 -- Small cases worked out by hand. Each line computes: it is proved by `refl`.
-use Rattle.std.specs.Prelude.{ℕ, ◌≡◌, ◌-◌, ◌^◌, List, [], ◌∷◌, Option, Some, None, Ok, Err, refl}
+use Rattle.std.specs.Prelude.{ℕ, ◌≡◌, List, [], ◌∷◌, Some, None, Ok, Err, refl}
 use Rattle.v_frame.specs.Pixel.{byte_of, value_of_bytes}
 use Rattle.v_frame.specs.Geometry.{Geometry, geometry_of, stride_of, alloc_height_of, alloc_size_of}
 use Rattle.v_frame.specs.Picture.{Raster, raster, shown, border_of, origin_of, place_of}
@@ -13,7 +13,7 @@ use Rattle.v_frame.specs.declared.frame.error.FrameError.TheVariants.{Unsupporte
 use Rattle.v_frame.specs.declared.plane.error.CopyError.TheVariants.{DataLength}
 use Rattle.v_frame.specs.declared.replay.call.VisibleCall.{VisibleCall}
 use Rattle.v_frame.specs.declared.replay.call.VisibleCall.TheVariants.{Width, Row, Pixel, CopyFromSlice}
-use Rattle.v_frame.specs.declared.replay.answer.Answer.TheVariants.{NoPlane, OutsideRectangle, Number, RowShown, PixelShown, Copied}
+use Rattle.v_frame.specs.declared.replay.answer.Answer.TheVariants.{NoPlane, OutsideRectangle, RowShown, PixelShown, Copied}
 
 -- 0x0102 has the bytes 2 and 1, low byte first
 low_byte : byte_of 258 0 ≡ 2
@@ -70,7 +70,7 @@ depth_decides_first = refl
 type_decides_next : refusal_of 1 (unpadded 0 1080 Monochrome 10) ≡ Some DataTypeMismatch
 type_decides_next = refl
 
-size_decides_last : refusal_of 1 (unpadded 0 1080 Monochrome 8) ≡ Some UnsupportedResolution
+size_decides_last : refusal_of 1 (unpadded 0 1080 Yuv420 8) ≡ Some UnsupportedResolution
 size_decides_last = refl
 
 too_wide : refusal_of 1 (unpadded 4611686018427387904 1 Monochrome 8) ≡ Some UnsupportedResolution

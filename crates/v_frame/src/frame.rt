@@ -1,8 +1,10 @@
 //! Frames: planes of one picture, and how they are built.
-ghost use Rattle.std.specs.Prelude.{◌≡◌, ◌<◌, ◌≤◌, ◌&&◌, nat_le, Err, IfOk, IfErr, ◌⊎◌, IsOkUnless, IsTrue, MatchOption, OkIff, SomeIff, option_copied};
-ghost use Rattle.std.specs.Option.{option_copied_mut};
+ghost use Rattle.std.specs.Prelude.{◌≡◌, ◌<◌, ◌≤◌, ◌&&◌, Err, is_ok, IfOk, IfErr, IfSome, ◌⊎◌, option_map, IsOkUnless, IsTrue, MatchOption, SomeIff, option_copied};
+ghost use Rattle.std.specs.Option.{ForSome, option_copied_mut};
 ghost use Rattle.std.specs.Borrow.{sem};
 ghost use Rattle.std.specs.Int.NonZero.{non_zero_u8_get};
+ghost use Rattle.v_frame.specs.Geometry.{Fits};
+ghost use Rattle.v_frame.specs.Picture.{filled};
 ghost use Rattle.v_frame.specs.Shown.{plane_at};
 ghost use Rattle.v_frame.specs.FrameLends.{LendsPlane};
 
@@ -12,7 +14,7 @@ use crate::chroma::ChromaSubsampling;
 use crate::pixel::Pixel;
 use crate::plane::{Plane, PlaneGeometry};
 pub use error::FrameError;
-use std::alloc::Global;
+use std::alloc::{AllocError, Global};
 use std::marker::Model;
 use std::num::NonZeroU8;
 
@@ -99,7 +101,8 @@ impl Model for FrameBuilder {
 
 impl FrameBuilder {
     ghost use Rattle.v_frame.specs.Asked.{Asked, luma_geometry};
-    ghost use Rattle.v_frame.specs.Buildable.{is_supported, is_laid_out, refusal_of, IsBlank};
+    ghost use Rattle.v_frame.specs.Buildable.{is_laid_out, refusal_of, chroma_geometry, IsBlank};
+    ghost use Rattle.v_frame.specs.Subsampled.{subsampled};
 
     /// A frame of this luma size in pixels, this format and this bit depth, with no padding yet.
     pub fn new(width: usize, height: usize, subsampling: ChromaSubsampling, bit_depth: u8) -> Self
@@ -152,35 +155,13 @@ impl FrameBuilder {
         self
     }
 
-    /// The geometry of the luma plane, where all planes can be laid out.
-    fn checked_luma_geometry(&self) -> Option<PlaneGeometry>
-        ensures { let luma = luma_geometry self.now in
-            SomeIff result (IsTrue (is_supported self.now.subsampling && is_laid_out luma)) luma }
-    {
-        if self.subsampling != ChromaSubsampling::Monochrome {
-            return None;
-        }
-        let luma = PlaneGeometry::new(
-            self.width,
-            self.height,
-            self.luma_padding_left,
-            self.luma_padding_right,
-            self.luma_padding_top,
-            self.luma_padding_bottom,
-            1,
-            1,
-        )?;
-        luma.checked_alloc_size()?;
-        Some(luma)
-    }
-
     /// Builds the frame, zero in every pixel and in the border too.
     ///
     /// The first of these reasons refuses it: [`FrameError::UnsupportedBitDepth`] where the depth is below 8 or above 16;
     /// [`FrameError::DataTypeMismatch`] where `u8` pixels are asked for another depth than 8, or `u16` pixels for 8;
     /// [`FrameError::UnsupportedResolution`] where the width or the height is zero, where a row or a buffer is too large,
-    /// and, for now, for every format but [`ChromaSubsampling::Monochrome`]; [`FrameError::OutOfMemory`] where a request
-    /// for memory was refused. The first three are found before any such request.
+    /// or where a luma size or padding doesn't divide by the ratios of the format; [`FrameError::OutOfMemory`] where a
+    /// request for memory was refused. The first three are found before any such request.
     ///
     /// Ports `FrameBuilder::build` of `v_frame` 0.7.0.
     pub fn build<T: Pixel>(self, alloc: Global) -> Result<Frame<T>, FrameError>
@@ -193,17 +174,50 @@ impl FrameBuilder {
         if (T::BYTES == 1 && depth != 8) || (T::BYTES == 2 && depth == 8) {
             return Err(FrameError::DataTypeMismatch);
         }
-        let luma = self
-            .checked_luma_geometry()
-            .ok_or(FrameError::UnsupportedResolution)?;
-        let y_plane = Plane::new(alloc, luma).map_err(|_| FrameError::OutOfMemory)?;
+        let (luma, chroma) = self.geometries().ok_or(FrameError::UnsupportedResolution)?;
         Ok(Frame {
-            y_plane,
-            u_plane: None,
-            v_plane: None,
+            y_plane: Plane::new(alloc, luma).map_err(|_| FrameError::OutOfMemory)?,
+            u_plane: chroma_plane(alloc, chroma).map_err(|_| FrameError::OutOfMemory)?,
+            v_plane: chroma_plane(alloc, chroma).map_err(|_| FrameError::OutOfMemory)?,
             subsampling: self.subsampling,
             bit_depth,
         })
+    }
+
+    /// The geometries of the luma plane and of the chroma planes, where all can be laid out.
+    fn geometries(&self) -> Option<(PlaneGeometry, Option<PlaneGeometry>)>
+        ensures laid_out { let luma = luma_geometry self.now in SomeIff result
+            (IsTrue (is_laid_out luma && is_ok (subsampled self.now.subsampling luma)))
+            (luma, chroma_geometry self.now) }
+        ensures fit { IfSome result (λ both. Fits both.0 × ForSome both.1 Fits) }
+    {
+        let luma = PlaneGeometry::new(
+            self.width,
+            self.height,
+            self.luma_padding_left,
+            self.luma_padding_right,
+            self.luma_padding_top,
+            self.luma_padding_bottom,
+            1,
+            1,
+        )?;
+        luma.checked_alloc_size()?;
+        let chroma = luma.for_subsampling(self.subsampling).ok()?;
+        Some((luma, chroma))
+    }
+}
+
+/// A chroma plane of zeros, where there is one.
+fn chroma_plane<T: Pixel>(
+    alloc: Global,
+    geometry: Option<PlaneGeometry>,
+) -> Result<Option<Plane<T>>, AllocError>
+    requires { ForSome geometry Fits }
+    ensures { IfOk result (λ plane. plane ≡ option_map (filled T.ZERO) geometry) }
+{
+    match geometry {
+        Some(geometry) => Ok(Some(Plane::new(alloc, geometry)?)),
+        None => Ok(None),
     }
 }
 
@@ -217,3 +231,6 @@ fn checked_depth(found: u8) -> Result<NonZeroU8, FrameError>
         _ => Err(FrameError::UnsupportedBitDepth { found }),
     }
 }
+
+#[cfg(test)]
+mod tests;

@@ -1,5 +1,5 @@
 //! Pixels: what a plane holds.
-ghost use Rattle.std.specs.Prelude.{◌≡◌, ℕ, ◌+◌, ◌*◌, ◌/◌, ◌%◌, ◌^◌, ◌<◌, ◌↔◌, length, nat_eq, IsSome, IfSome, refl};
+ghost use Rattle.std.specs.Prelude.{◌≡◌, ℕ, ◌+◌, ◌/◌, ◌^◌, ◌<◌, ◌↔◌, length, nat_eq, IsSome, IfSome, refl};
 ghost use Rattle.std.specs.Ordering.{nat_cmp};
 ghost use Rattle.v_frame.specs.Pixel.{byte_of, value_of_bytes};
 

@@ -2,10 +2,11 @@
 //!
 //! The module is our own. The contract of [`replay`](replay()) says what any list of calls answers and leaves, by plain
 //! tables of rows that know no padding and no border.
-ghost use Rattle.std.specs.Prelude.{◌≡◌, ℕ, None, Some, IfOk, IfErr, OnOk, OnErr};
-ghost use Rattle.v_frame.specs.Picture.{shown, border_of};
-ghost use Rattle.v_frame.specs.Rows.{pixel_at};
+ghost use Rattle.std.specs.Prelude.{◌≡◌, ℕ, None, Some, slice_get, IfOk, IfErr, OnOk, OnErr};
+ghost use Rattle.v_frame.specs.Picture.{shown};
+ghost use Rattle.v_frame.specs.Rows.{pixel_at, overwritten_row, with_writes, with_pixel};
 ghost use Rattle.v_frame.specs.Shown.{tables_of, plane_at, unshown, KeepsBorder};
+ghost use Rattle.v_frame.specs.declared.replay.answer.Answer.TheVariants.{RowShown};
 ghost use Rattle.v_frame.specs.Replay.{answer_of_pixel, written_plane, WritesPlane, on_table, reply_to, answers_to, tables_after, StoppedAfter};
 
 mod answer;
@@ -19,6 +20,7 @@ pub use answer::{Answer, ReplayStopped};
 pub use call::VisibleCall;
 pub use sequence::Sequence;
 use std::alloc::{AllocError, Global};
+use std::mem;
 
 /// Does the calls in order and gives their answers.
 ///
@@ -88,14 +90,73 @@ fn replay_on_plane<T: Pixel>(
     match call {
         VisibleCall::Width { .. } => Ok(Answer::Number(plane.width())),
         VisibleCall::Height { .. } => Ok(Answer::Number(plane.height())),
-        VisibleCall::Row { y, .. } => match plane.row(*y) {
-            Some(row) => Ok(Answer::RowShown(Some(Vec::from_slice(alloc, row)?.into()))),
-            None => Ok(Answer::RowShown(None)),
-        },
+        VisibleCall::Row { y, .. } => row_shown(alloc, plane, *y),
+        VisibleCall::RowMut { y, writes, .. } => replay_row_mut(
+            alloc,
+            plane,
+            *y,
+            writes.as_slice(),
+        ),
         VisibleCall::Pixel { x, y, .. } => Ok(pixel_shown(plane, *x, *y)),
+        VisibleCall::PixelMut { x, y, value, .. } => Ok(replay_pixel_mut(plane, *x, *y, *value)),
         VisibleCall::CopyFromSlice { source, .. } => {
             Ok(Answer::Copied(plane.copy_from_slice(source.as_slice())))
         }
+    }
+}
+
+/// The row, copied.
+fn row_shown<T: Pixel>(alloc: Global, plane: &Plane<T>, y: usize) -> Result<Answer<T>, AllocError>
+    ensures { IfOk result (λ answer. answer ≡ RowShown (slice_get (shown plane.now) y)) }
+{
+    match plane.row(y) {
+        Some(row) => Ok(Answer::RowShown(Some(Vec::from_slice(alloc, row)?.into()))),
+        None => Ok(Answer::RowShown(None)),
+    }
+}
+
+/// Overwrites a row, once there is room for what it was.
+fn replay_row_mut<T: Pixel>(
+    alloc: Global,
+    plane: &mut Plane<T>,
+    y: usize,
+    writes: &[Option<T>],
+) -> Result<Answer<T>, AllocError>
+    ensures answer { IfOk result (λ answer. answer ≡ RowShown (slice_get (shown plane.old) y)) }
+    ensures table { OnOk result (shown plane.new ≡ with_writes (shown plane.old) y writes.now) }
+    ensures err { OnErr result (plane.new ≡ plane.old) }
+    ensures border { unshown plane.new ≡ unshown plane.old }
+{
+    let answer = row_shown(alloc, plane, y)?;
+    if y < plane.height() {
+        overwrite(plane.visible_row_mut(y), writes);
+    }
+    Ok(answer)
+}
+
+/// Writes those pixels that are there into a row. Those past its end are ignored.
+fn overwrite<T: Copy>(row: &mut [T], writes: &[Option<T>])
+    ensures { row.new ≡ overwritten_row row.old writes.now }
+{
+    for i in 0..row.len().min(writes.len()) {
+        if let Some(pixel) = writes[i] {
+            row[i] = pixel;
+        }
+    }
+}
+
+/// Replaces a pixel of the visible rectangle.
+fn replay_pixel_mut<T: Pixel>(plane: &mut Plane<T>, x: usize, y: usize, value: T) -> Answer<T>
+    ensures answer { result ≡ answer_of_pixel (pixel_at (shown plane.old) x y) }
+    ensures table { shown plane.new ≡ with_pixel (shown plane.old) x y value }
+    ensures border { unshown plane.new ≡ unshown plane.old }
+{
+    if x >= plane.width() || y >= plane.height() {
+        return Answer::OutsideRectangle;
+    }
+    match plane.pixel_mut(x, y) {
+        Some(pixel) => Answer::PixelShown(mem::replace(pixel, value)),
+        None => Answer::OutsideRectangle,
     }
 }
 

@@ -1,5 +1,5 @@
 -- What the frame answers once its copy was accepted, and a text that is written piece by piece.
-use Rattle.std.proofs.Common.{ℕ, ◌≡◌, ◌+◌, ◌*◌, List, [], ◌∷◌, ◌++◌, length, take, drop, Some, Ok, Err, Result, true, false, eqb, is_ok, inl, inr, refl, sym, ◌∙◌, ap, arith, take-append-drop}
+use Rattle.std.proofs.Common.{ℕ, ◌≡◌, ◌+◌, List, [], ◌∷◌, ◌++◌, length, take, drop, Some, Err, Result, true, false, is_ok, inl, inr, sym, ◌∙◌, ap, arith, take-append-drop}
 use Rattle.std.proofs.lemmas.List.{take-take, drop-take}
 use Rattle.std.proofs.lemmas.Bool.Decides.{eqb_tells}
 use Rattle.v_frame.specs.Replay.{answers_to}

@@ -1,5 +1,5 @@
 -- The text of a table.
-use Rattle.std.specs.Prelude.{ℕ, ◌≡◌, ◌≢◌, List, [], ◌∷◌, ◌++◌, length, decimal, codes, flat_map}
+use Rattle.std.specs.Prelude.{ℕ, List, [], ◌∷◌, ◌++◌, decimal, codes, flat_map}
 use Rattle.v_frame.specs.Rows.{Table, width_of, height_of}
 
 -- numbers in decimal, with single spaces between them

@@ -1,16 +1,13 @@
 -- What the program asks of its frame, what it prints of the answers, and when it gives up.
 use Rattle.std.specs.Prelude.{ℕ, ◌≡◌, ◌≢◌, List, [], ◌∷◌, length, Option, Some, None, Result, slice_get, replicate, ⊤}
 use Rattle.v_frame.specs.Shown.{Tables}
-use Rattle.v_frame.specs.Replay.{answers_to}
 use Rattle.v_frame.specs.declared.replay.call.VisibleCall.{VisibleCall}
 use Rattle.v_frame.specs.declared.replay.call.VisibleCall.TheVariants.{Width, Height, Row, CopyFromSlice}
 use Rattle.v_frame.specs.declared.replay.answer.Answer.{Answer}
-use Rattle.v_frame.specs.declared.replay.answer.Answer.TheVariants.{Copied, Number, RowShown}
-use Rattle.v_frame.specs.declared.frame.error.FrameError.{FrameError}
+use Rattle.v_frame.specs.declared.replay.answer.Answer.TheVariants.{Copied}
 use Rattle.v_frame.specs.declared.frame.error.FrameError.TheVariants.{OutOfMemory as NoRoomForFrame}
 use Rattle.v_frame.specs.declared.plane.error.CopyError.{CopyError}
 use Rattle.v_frame.specs.declared.plane.error.CopyError.TheVariants.{DataLength}
-use Rattle.v_frame_tool.specs.Printed.{printed}
 use Rattle.v_frame_tool.specs.Counted.{HasFailed}
 use Rattle.v_frame_tool.specs.declared.fault.ToolFault.{ToolFault}
 use Rattle.v_frame_tool.specs.declared.fault.ToolFault.TheVariants.{Frame, Copy, OutOfMemory, Output, WriteZero}

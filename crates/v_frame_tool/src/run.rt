@@ -1,5 +1,5 @@
 //! The program: a small frame is built, filled and printed.
-ghost use Rattle.std.specs.Prelude.{◌≡◌, ◌≢◌, ℕ, ◌*◌, ◌<◌, ◌⊎◌, List, [], ◌∷◌, ◌++◌, length, flat_map, decimal, IfOk, IfErr, OnOk, OnErr, string_bytes, Some, Err};
+ghost use Rattle.std.specs.Prelude.{◌≡◌, ◌≢◌, ℕ, ◌<◌, ◌⊎◌, List, [], ◌∷◌, ◌++◌, length, IfOk, IfErr, OnOk, string_bytes, Some, Err};
 ghost use Rattle.std.specs.Io.KnownBytes.{Appends};
 ghost use Rattle.v_frame.specs.Copy.{cut_rows};
 ghost use Rattle.v_frame_tool.specs.Counted.{HasFailed};

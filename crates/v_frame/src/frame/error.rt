@@ -16,7 +16,8 @@ pub enum FrameError {
     /// The bit depth is 8 and the pixels have two bytes, or it is above 8 and they have one.
     #[error("bit depth did not match requested data type")]
     DataTypeMismatch,
-    /// A size or a padding is none that the subsampling can divide, or a plane is too large.
+    /// The width or the height is zero, a size or a padding doesn't divide by the ratio of the format, or a plane would have
+    /// more than 2^62 - 1 pixels with its border.
     #[error("selected chroma subsampling does not support odd resolutions")]
     UnsupportedResolution,
     /// A request for memory was refused.

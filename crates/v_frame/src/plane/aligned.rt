@@ -1,7 +1,8 @@
 //! The buffer of a plane: a list of fixed length.
-ghost use Rattle.std.specs.Prelude.{◌≡◌, length, replicate, IfOk};
+ghost use Rattle.std.specs.Prelude.{◌≡◌, ◌≤◌, length, replicate, slice_get, slice_range, IfOk};
+ghost use Rattle.std.specs.Option.{option_copied_mut};
 ghost use Rattle.std.specs.Borrow.{sem};
-ghost use Rattle.v_frame.specs.AlignedData.{LendsEntries};
+ghost use Rattle.v_frame.specs.AlignedData.{LendsEntries, LendsPart, LendsEntry};
 
 use std::alloc::{AllocError, Global};
 use std::marker::Model;
@@ -45,5 +46,23 @@ impl<T> AlignedData<T> {
         ensures value { result.now ≡ self.old }
     {
         self.entries.as_mut_slice()
+    }
+
+    /// The entries from `start` up to `end`, for writing.
+    pub(crate) fn part_mut(&mut self, start: usize, end: usize) -> &mut [T]
+        requires order { start ≤ end }
+        requires within { end ≤ length self.old }
+        ensures* writes_back { sem 𝓛 (LendsPart T.row self.entry start result) }
+        ensures value { result.now ≡ slice_range self.old start end }
+    {
+        self.entries.slice_mut(start..end)
+    }
+
+    /// The entry at a place for writing, where there is one.
+    pub(crate) fn get_mut(&mut self, place: usize) -> Option<&mut T>
+        ensures* writes_back { sem 𝓛 (LendsEntry T.row self.entry place result) }
+        ensures value { option_copied_mut result ≡ slice_get self.old place }
+    {
+        self.entries.get_mut(place)
     }
 }

@@ -1,9 +1,16 @@
 //! Geometry: where the visible rectangle of a plane lies in its buffer.
-ghost use Rattle.std.specs.Prelude.{◌≡◌, ◌+◌, ◌*◌, ◌<◌, ◌≤◌, SomeIff};
+ghost use Rattle.std.specs.Prelude.{◌≡◌, ◌+◌, ◌*◌, ◌<◌, ◌≤◌, IsTrue, SomeIff};
 ghost use Rattle.v_frame.specs.Geometry.{stride_of, alloc_height_of, alloc_size_of, IsGeometry, Fits, usize_max};
 ghost use Rattle.v_frame.specs.Picture.{origin_of, place_of};
 
+use crate::chroma::ChromaSubsampling;
 use std::marker::Model;
+
+/// A size or a padding doesn't divide by the ratio of a format.
+///
+/// Ports `SubsamplingError` of `v_frame` 0.7.0.
+#[derive(Debug, Clone, Copy, PartialEq, Eq)]
+pub struct SubsamplingError;
 
 /// The layout of a plane: its visible size, the paddings around it, and how often it is sampled beside luma.
 ///
@@ -60,6 +67,7 @@ impl Model for PlaneGeometry {
 
 impl PlaneGeometry {
     ghost use Rattle.v_frame.specs.Geometry.{geometry_of};
+    ghost use Rattle.v_frame.specs.Subsampled.{is_divisible, divided, subsampled};
 
     /// The geometry of these numbers. There is none where the width, the height or a ratio is zero, or where
     /// `width + pad_left + pad_right` is above `usize::MAX`.
@@ -198,6 +206,59 @@ impl PlaneGeometry {
         self.stride * self.pad_top + self.pad_left
     }
 
+    /// The geometry of the chroma planes beside a luma plane of this one.
+    ///
+    /// There is none under [`ChromaSubsampling::Monochrome`], and it is this very geometry under
+    /// [`ChromaSubsampling::Yuv444`]. Else sizes and paddings are divided by the ratios of the format, and the ratios are
+    /// set to these, whatever they were. Refused with [`SubsamplingError`] where one of the six numbers doesn't divide.
+    ///
+    /// Ports `PlaneGeometry::for_subsampling` of `v_frame` 0.7.0.
+    pub fn for_subsampling(
+        self,
+        subsampling: ChromaSubsampling,
+    ) -> Result<Option<Self>, SubsamplingError>
+        ensures { result ≡ subsampled subsampling self }
+    {
+        if subsampling == ChromaSubsampling::Yuv444 {
+            return Ok(Some(self));
+        }
+        let Some((ratio_x, ratio_y)) = subsampling.subsample_ratio() else {
+            return Ok(None);
+        };
+        match self.divided(ratio_x.get(), ratio_y.get()) {
+            Some(chroma) => Ok(Some(chroma)),
+            None => Err(SubsamplingError),
+        }
+    }
+
+    /// The geometry with its columns divided by one ratio and its rows by the other, where all divide.
+    fn divided(self, ratio_x: u8, ratio_y: u8) -> Option<Self>
+        requires ratio_x { 0 < ratio_x }
+        requires ratio_y { 0 < ratio_y }
+        ensures { SomeIff result (IsTrue (is_divisible ratio_x ratio_y self)) (divided ratio_x ratio_y self) }
+    {
+        let x = usize::from(ratio_x);
+        let y = usize::from(ratio_y);
+        if self.width % x != 0 || self.pad_left % x != 0 || self.pad_right % x != 0 {
+            return None;
+        }
+        if self.height % y != 0 || self.pad_top % y != 0 || self.pad_bottom % y != 0 {
+            return None;
+        }
+        let (width, pad_left, pad_right) = (self.width / x, self.pad_left / x, self.pad_right / x);
+        Some(PlaneGeometry {
+            width,
+            height: self.height / y,
+            stride: width + pad_left + pad_right,
+            pad_left,
+            pad_right,
+            pad_top: self.pad_top / y,
+            pad_bottom: self.pad_bottom / y,
+            subsampling_x: ratio_x,
+            subsampling_y: ratio_y,
+        })
+    }
+
     /// The place of the first pixel of row `y`.
     pub(crate) fn row_start(&self, y: usize) -> usize
         requires fits { Fits self.now }
@@ -276,5 +337,65 @@ mod tests {
         assert_eq!(rt; PlaneGeometry::new(1920, 0, 40, 30, 20, 10, 1, 1), None);
         assert_eq!(rt; PlaneGeometry::new(1920, 1080, 40, 30, 20, 10, 0, 1), None);
         assert_eq!(rt; PlaneGeometry::unpadded(1920, 1080, 1, 0), None);
+    }
+
+    #[test]
+    fn chroma_of_a_padded_plane(rt: HostRuntime) -> Result<(), Fail> {
+        let padded = PlaneGeometry::new(1920, 1080, 40, 30, 20, 10, 1, 1).ok_or("padded")?;
+        assert_eq!(rt;
+            padded.for_subsampling(ChromaSubsampling::Monochrome),
+            Ok(None)
+        );
+        assert_eq!(rt;
+            padded.for_subsampling(ChromaSubsampling::Yuv444),
+            Ok(Some(padded))
+        );
+        let half = PlaneGeometry::new(960, 1080, 20, 15, 20, 10, 2, 1).ok_or("half")?;
+        assert_eq!(rt; half.stride(), 995);
+        assert_eq!(rt;
+            padded.for_subsampling(ChromaSubsampling::Yuv422),
+            Ok(Some(half))
+        );
+        Ok(())
+    }
+
+    #[test]
+    fn odd_sizes_and_paddings_have_no_half(rt: HostRuntime) -> Result<(), Fail> {
+        let odd_columns = [
+            PlaneGeometry::unpadded(1921, 1080, 1, 1).ok_or("wide")?,
+            PlaneGeometry::unpadded(17, 41, 1, 1).ok_or("small")?,
+            PlaneGeometry::new(1920, 1080, 10, 7, 40, 20, 1, 1).ok_or("padded")?,
+        ];
+        for odd in odd_columns {
+            assert_eq!(rt;
+                odd.for_subsampling(ChromaSubsampling::Yuv422),
+                Err(SubsamplingError)
+            );
+            assert_eq!(rt;
+                odd.for_subsampling(ChromaSubsampling::Yuv420),
+                Err(SubsamplingError)
+            );
+            assert_eq!(rt;
+                odd.for_subsampling(ChromaSubsampling::Yuv444),
+                Ok(Some(odd))
+            );
+            assert_eq!(rt;
+                odd.for_subsampling(ChromaSubsampling::Monochrome),
+                Ok(None)
+            );
+        }
+        let odd_rows = PlaneGeometry::unpadded(1920, 1081, 1, 1).ok_or("high")?;
+        assert_eq!(rt;
+            odd_rows.for_subsampling(ChromaSubsampling::Yuv420),
+            Err(SubsamplingError)
+        );
+        assert!(rt; odd_rows.for_subsampling(ChromaSubsampling::Yuv422).is_ok());
+        assert!(rt; odd_rows.for_subsampling(ChromaSubsampling::Yuv444).is_ok());
+        assert!(rt;
+            odd_rows
+                .for_subsampling(ChromaSubsampling::Monochrome)
+                .is_ok()
+        );
+        Ok(())
     }
 }

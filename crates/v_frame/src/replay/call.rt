@@ -25,6 +25,16 @@ pub enum VisibleCall<T> {
         /// The row, from the top.
         y: usize,
     },
+    /// [`Plane::row_mut`](crate::plane::Plane::row_mut): the row as it was is answered, and then overwritten.
+    RowMut {
+        /// The plane.
+        plane: usize,
+        /// The row, from the top.
+        y: usize,
+        /// What to write into the row, from the left. `None` leaves a pixel, and so does a list that ends before it.
+        /// Entries past the width are ignored.
+        writes: Sequence<Option<T>>,
+    },
     /// [`Plane::pixel`](crate::plane::Plane::pixel), inside the visible rectangle alone.
     Pixel {
         /// The plane.
@@ -33,6 +43,18 @@ pub enum VisibleCall<T> {
         x: usize,
         /// The row, from the top.
         y: usize,
+    },
+    /// [`Plane::pixel_mut`](crate::plane::Plane::pixel_mut), inside the visible rectangle alone: the pixel as it was is
+    /// answered, and then replaced.
+    PixelMut {
+        /// The plane.
+        plane: usize,
+        /// The column, from the left.
+        x: usize,
+        /// The row, from the top.
+        y: usize,
+        /// The new pixel.
+        value: T,
     },
     /// [`Plane::copy_from_slice`](crate::plane::Plane::copy_from_slice).
     CopyFromSlice {
@@ -47,14 +69,16 @@ impl<T> VisibleCall<T> {
     ghost use Rattle.v_frame.specs.Replay.{named_plane};
 
     /// The plane that the call names.
-    pub fn plane(&self) -> usize
+    pub(crate) fn plane(&self) -> usize
         ensures { result ≡ named_plane self.now }
     {
         match self {
             VisibleCall::Width { plane }
             | VisibleCall::Height { plane }
             | VisibleCall::Row { plane, .. }
+            | VisibleCall::RowMut { plane, .. }
             | VisibleCall::Pixel { plane, .. }
+            | VisibleCall::PixelMut { plane, .. }
             | VisibleCall::CopyFromSlice { plane, .. } => *plane,
         }
     }

@@ -5,6 +5,21 @@ use v_frame::chroma::ChromaSubsampling;
 use v_frame::frame::{Frame, FrameBuilder, FrameError};
 use v_frame::plane::Plane;
 
+/// A size, a format and a depth with the luma paddings left, right, top and bottom.
+pub fn padded(
+    (width, height): (usize, usize),
+    subsampling: ChromaSubsampling,
+    bit_depth: u8,
+    padding: [usize; 4],
+) -> FrameBuilder {
+    let [left, right, top, bottom] = padding;
+    FrameBuilder::new(width, height, subsampling, bit_depth)
+        .luma_padding_left(left)
+        .luma_padding_right(right)
+        .luma_padding_top(top)
+        .luma_padding_bottom(bottom)
+}
+
 /// A luma plane of zeros, with the paddings left, right, top and bottom.
 pub fn monochrome(
     alloc: Global,
@@ -12,13 +27,7 @@ pub fn monochrome(
     height: usize,
     padding: [usize; 4],
 ) -> Result<Frame<u8>, FrameError> {
-    let [left, right, top, bottom] = padding;
-    FrameBuilder::new(width, height, ChromaSubsampling::Monochrome, 8)
-        .luma_padding_left(left)
-        .luma_padding_right(right)
-        .luma_padding_top(top)
-        .luma_padding_bottom(bottom)
-        .build(alloc)
+    padded((width, height), ChromaSubsampling::Monochrome, 8, padding).build(alloc)
 }
 
 /// The first two rows, where each has three pixels.

@@ -36,7 +36,7 @@ fn a_copy_of_another_length_changes_nothing(rt: HostRuntime) -> Result<(), Fail>
             found: 5
         })
     );
-    assert!(rt; table_of(&frame.y_plane) == [Some([0, 0, 0]), Some([0, 0, 0])]);
+    assert!(rt; frame.y_plane.data().iter().all(|entry| *entry == 0));
     assert_eq!(rt; frame.y_plane.copy_from_slice(&[1, 2, 3, 4, 5, 6]), Ok(()));
     assert!(rt; table_of(&frame.y_plane) == [Some([1, 2, 3]), Some([4, 5, 6])]);
     assert_eq!(rt; frame.y_plane.pixel(3, 0), Some(0));

@@ -1,6 +1,6 @@
 //! The program, over writers into memory and writers that fail.
 
-use super::writers::{Habit, Stubborn};
+use super::writers::{Habit, Slow, Stubborn};
 use crate::counted::Counted;
 use crate::fault::ToolFault;
 use crate::run::run;
@@ -61,4 +61,26 @@ fn a_write_of_nothing_is_answered(rt: HostRuntime) {
     let answer = run(rt.alloc(), &mut out, &[1, 2, 3, 4, 5, 6, 7, 8]);
     assert_eq!(rt; answer, Err(ToolFault::WriteZero));
     assert_eq!(rt; out.failures(), 0);
+}
+
+#[test]
+fn a_slow_writer_gets_all_until_it_fails(rt: HostRuntime) {
+    let wanted = b"plane 0: 4 x 2\n1 2 3 4\n5 6 7 8\n";
+    for calls in 0..wanted.len() + 1 {
+        let taken = Cursor::new([0u8; 64]);
+        let mut out = Counted::new(Slow { taken, calls });
+        let answer = run(rt.alloc(), &mut out, &[1, 2, 3, 4, 5, 6, 7, 8]);
+        let failed = calls < wanted.len();
+        assert_eq!(rt;
+            answer,
+            if failed {
+                Err(ToolFault::Output)
+            } else {
+                Ok(())
+            }
+        );
+        assert_eq!(rt; out.failures(), u64::from(failed));
+        assert_eq!(rt; &out.inner().taken.get_ref()[..calls], &wanted[..calls]);
+        assert_eq!(rt; out.inner().taken.position() as usize, calls);
+    }
 }

@@ -1,14 +1,14 @@
 //! What stands where a request for memory is refused. With memory, each call answers `Ok`.
 //!
-//! `rt try --test --fail-alloc 1..` runs these tests with each request refused in turn; all but the second then take the
-//! branch of the refusal.
+//! `rt try --test --fail-alloc N` runs each test with its request `N` refused. A test whose preparation is refused ends
+//! there and shows nothing; the others take the branch of the refusal.
 
-use super::frames::{monochrome, table_of};
-use super::replays::copy;
+use super::frames::{monochrome, padded, table_of};
+use super::replays::{copy, row_shown};
+use super::writes::row_mut;
 use crate::counted::Counted;
 use crate::fault::ToolFault;
 use crate::run::run;
-use std::alloc::{AllocError, Global};
 use std::io::Cursor;
 use std::test::Fail;
 use v_frame::chroma::ChromaSubsampling;
@@ -21,6 +21,23 @@ fn a_refused_build_hands_out_no_frame(rt: HostRuntime) {
         Ok(frame) => assert!(rt; table_of(&frame.y_plane) == [Some([0, 0, 0]), Some([0, 0, 0])]),
         Err(error) => assert_eq!(rt; error, FrameError::OutOfMemory),
     }
+}
+
+#[test]
+fn a_refused_build_of_three_planes_hands_out_no_frame(rt: HostRuntime) -> Result<(), Fail> {
+    let builder = padded((4, 2), ChromaSubsampling::Yuv420, 8, [2, 2, 2, 0]);
+    match builder.build::<u8>(rt.alloc()) {
+        Ok(frame) => {
+            assert_eq!(rt; frame.y_plane.data(), [0; 32].as_slice());
+            let (u, v) = (frame.plane(1).ok_or("U")?, frame.plane(2).ok_or("V")?);
+            assert_eq!(rt;
+                (u.data(), v.data()),
+                ([0; 8].as_slice(), [0; 8].as_slice())
+            );
+        }
+        Err(error) => assert_eq!(rt; error, FrameError::OutOfMemory),
+    }
+    Ok(())
 }
 
 #[test]
@@ -44,11 +61,9 @@ fn other_refusals_need_no_memory(rt: HostRuntime) {
     let empty = FrameBuilder::new(0, 1080, ChromaSubsampling::Monochrome, 8);
     let built = empty.build::<u8>(rt.alloc());
     assert_eq!(rt; built.err(), Some(FrameError::UnsupportedResolution));
-}
-
-/// The answer of a call that read a row.
-fn row_shown(alloc: Global, row: &[u8]) -> Result<Answer<u8>, AllocError> {
-    Ok(Answer::RowShown(Some(Vec::from_slice(alloc, row)?.into())))
+    let odd = padded((1920, 1080), ChromaSubsampling::Yuv420, 8, [0, 0, 0, 1]);
+    let built = odd.build::<u8>(rt.alloc());
+    assert_eq!(rt; built.err(), Some(FrameError::UnsupportedResolution));
 }
 
 #[test]
@@ -81,6 +96,29 @@ fn a_stopped_replay_has_done_its_first_calls(rt: HostRuntime) -> Result<(), Fail
             assert!(rt; table_of(&frame.y_plane) == left);
         }
     }
+    Ok(())
+}
+
+#[test]
+fn a_replay_stopped_between_two_writes(rt: HostRuntime) -> Result<(), Fail> {
+    let mut frame = monochrome(rt.alloc(), 2, 2, [0, 0, 0, 0])?;
+    let calls = [
+        row_mut(rt.alloc(), 0, &[Some(1), Some(2)])?,
+        row_mut(rt.alloc(), 1, &[Some(3), Some(4)])?,
+    ];
+    let first = [row_shown(rt.alloc(), &[0, 0])?];
+    let left = match replay(rt.alloc(), &mut frame, &calls) {
+        Ok(answers) => {
+            assert_eq!(rt; answers.len(), 2);
+            [1, 2, 3, 4]
+        }
+        Err(stopped) if stopped.done.as_slice().is_empty() => [0, 0, 0, 0],
+        Err(stopped) => {
+            assert_eq!(rt; stopped.done.as_slice(), first.as_slice());
+            [1, 2, 0, 0]
+        }
+    };
+    assert_eq!(rt; frame.y_plane.data(), left.as_slice());
     Ok(())
 }
 

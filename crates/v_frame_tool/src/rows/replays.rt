@@ -14,6 +14,11 @@ pub fn copy(alloc: Global, source: &[u8]) -> Result<VisibleCall<u8>, AllocError>
     })
 }
 
+/// The answer of a call that read a row.
+pub fn row_shown(alloc: Global, row: &[u8]) -> Result<Answer<u8>, AllocError> {
+    Ok(Answer::RowShown(Some(Vec::from_slice(alloc, row)?.into())))
+}
+
 #[test]
 fn six_calls_and_their_answers(rt: HostRuntime) -> Result<(), Fail> {
     let mut frame = monochrome(rt.alloc(), 3, 2, [0, 0, 0, 0])?;

@@ -1,7 +1,6 @@
 //! Writers that fail, and that take little.
-ghost use Rattle.std.specs.Io.{WritesAtMost};
 
-use std::io::{self, ErrorKind, Write};
+use std::io::{self, Cursor, ErrorKind, Write};
 
 /// What a writer does at each call.
 #[derive(Clone, Copy)]
@@ -21,6 +20,32 @@ impl Write for Stubborn {
         match self.0 {
             Habit::TakesNone => Ok(0),
             Habit::Fails => Err(io::Error::from(ErrorKind::Interrupted)),
+        }
+    }
+
+    fn flush(&mut self) -> io::Result<()> {
+        Ok(())
+    }
+}
+
+/// A writer that takes one byte a call, and fails after as many calls.
+#[derive(Drop)]
+pub struct Slow {
+    /// What was taken.
+    pub taken: Cursor<[u8; 64]>,
+    /// How many calls are left.
+    pub calls: usize,
+}
+
+impl Write for Slow {
+    fn write(&mut self, buf: &[u8]) -> io::Result<usize> {
+        if self.calls == 0 {
+            return Err(io::Error::from(ErrorKind::Other));
+        }
+        self.calls -= 1;
+        match buf.first() {
+            Some(byte) => self.taken.write(&[*byte]),
+            None => Ok(0),
         }
     }
 

@@ -1,5 +1,5 @@
 -- One more call: its answer, its tables, and the planes that it may write.
-use Rattle.std.proofs.Common.{◌≡◌, ℕ, ◌<◌, List, [], ◌∷◌, ◌++◌, length, take, ◌∙◌, ap, sym, arith}
+use Rattle.std.proofs.Common.{◌<◌, List, [], ◌∷◌, ◌++◌, length, take, ◌∙◌, ap, sym, arith}
 use Rattle.v_frame.specs.Shown.{tables_of, plane_at}
 use Rattle.v_frame.specs.Replay.{reply_to, answers_to}
 use Rattle.v_frame.specs.declared.frame.Frame.{Frame}

@@ -1,7 +1,5 @@
 -- What is written is the text of the answers, which are those of an accepted copy.
-use Rattle.std.proofs.Common.{◌≡◌, ◌∙◌, sym, ap, take, drop, length, is_ok, IfOk, arith, rules}
-use Rattle.std.specs.String.{string_bytes}
-use Rattle.std.proofs.lemmas.Grind.{common_steps}
+use Rattle.std.proofs.Common.{◌∙◌, sym, ap, take, drop, length, is_ok, rules}
 use Rattle.v_frame_tool.proofs.Texts.{after_copy}
 use Rattle.v_frame_tool.proofs.run.run.Goals as goal
 

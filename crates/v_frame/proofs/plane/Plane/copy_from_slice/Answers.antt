@@ -1,7 +1,7 @@
 -- The copy is decided by the sizes of the plane, which are those of its table.
 use Rattle.std.proofs.Common.{◌≡◌, length, ap, ◌∙◌, sym}
 use Rattle.v_frame.specs.Picture.{Raster, raster, shown}
-use Rattle.v_frame.specs.Copy.{CopyOutcome, packed_copy}
+use Rattle.v_frame.specs.Copy.{CopyOutcome}
 use Rattle.v_frame.proofs.Lists.{refill_same}
 use Rattle.v_frame.proofs.CopyLemmas.{copy_refused, copy_accepted}
 use Rattle.v_frame.proofs.plane.Plane.copy_from_slice.Goals as goal

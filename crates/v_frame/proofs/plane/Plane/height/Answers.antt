@@ -1,5 +1,5 @@
 -- The table is as high as the rectangle.
-use Rattle.std.proofs.Common.{◌≡◌, ◌∙◌, sym}
+use Rattle.std.proofs.Common.{◌∙◌, sym}
 use Rattle.v_frame.specs.Picture.{Raster, raster}
 use Rattle.v_frame.proofs.CopyLemmas.{height_of_shown}
 use Rattle.v_frame.proofs.plane.Plane.height.Goals as goal

@@ -1,5 +1,5 @@
 -- The part of the buffer that is read is the row of the table.
-use Rattle.std.proofs.Common.{◌≡◌, ◌≤◌, ◌<◌, sym, ap, ◌∙◌, arith}
+use Rattle.std.proofs.Common.{sym, ap, ◌∙◌, arith}
 use Rattle.v_frame.specs.Picture.{Raster, place_of}
 use Rattle.v_frame.proofs.Places.{shown_slice, no_row_below}
 use Rattle.v_frame.proofs.plane.Plane.row.Goals as goal

@@ -1,7 +1,6 @@
 -- The table is as wide as the rectangle.
-use Rattle.std.proofs.Common.{◌≡◌, length, ap, ◌∙◌, sym}
+use Rattle.std.proofs.Common.{◌∙◌, sym}
 use Rattle.v_frame.specs.Picture.{Raster, raster}
-use Rattle.v_frame.specs.Rows.{width_of}
 use Rattle.v_frame.proofs.CopyLemmas.{width_of_shown}
 use Rattle.v_frame.proofs.Places.{rows_are_wide}
 use Rattle.v_frame.proofs.plane.Plane.width.Goals as goal

@@ -1,0 +1,133 @@
+-- Geometries of chroma planes: they are no larger than that of luma, and their size is that of the chroma planes.
+use Rattle.std.proofs.Common.{ℕ, ◌≡◌, ◌*◌, ◌/◌, ◌≤◌, if◌then◌else◌, Bool, true, false, Option, Some, None, Result, Ok, Err, All, IfSome, option_map, refl, sym, ◌∙◌, ap, subst, arith, eq-eqb, ◌&&◌}
+use Rattle.std.proofs.Math.Nat.{div-le_self, div-one, mul-le-mul_left, mul-le-mul_right}
+use Rattle.v_frame.specs.Geometry.{Geometry, stride_of, alloc_height_of, alloc_size_of, Fits}
+use Rattle.v_frame.specs.Chroma.{ratio_of, has_quotient, size_by, chroma_size_of}
+use Rattle.v_frame.specs.Subsampled.{is_divisible, divided, subsampled_by, is_full, subsampled}
+use Rattle.v_frame.specs.Laws.{HasChromaSize, IsZeroEverywhere, size_of}
+use Rattle.v_frame.specs.Buildable.{geometry_in, chroma_geometry, IsBlank}
+use Rattle.v_frame.specs.Asked.{Asked, luma_geometry}
+use Rattle.v_frame.specs.Picture.{filled}
+use Rattle.v_frame.specs.declared.frame.Frame.{Frame}
+use Rattle.std.proofs.lemmas.List.{get_or-replicate, length-replicate}
+use Rattle.std.specs.Result.{result_ok}
+use Rattle.v_frame.specs.declared.plane.geometry.SubsamplingError.{SubsamplingError}
+use Rattle.v_frame.specs.declared.chroma.ChromaSubsampling.{ChromaSubsampling}
+use Rattle.v_frame.specs.declared.chroma.ChromaSubsampling.TheVariants.{Yuv420, Yuv422, Yuv444, Monochrome}
+
+divided_size : (x y : ℕ) (g : Geometry) → alloc_size_of (divided x y g) ≤ alloc_size_of g
+divided_size x y g =
+    let wide : stride_of (divided x y g) ≤ stride_of g = omega (arith, div-le_self g.width x, div-le_self g.pad_left x, div-le_self g.pad_right x) in
+    let high : alloc_height_of (divided x y g) ≤ alloc_height_of g = omega (arith, div-le_self g.height y, div-le_self g.pad_top y, div-le_self g.pad_bottom y) in
+    omega (arith, mul-le-mul_left (alloc_height_of (divided x y g)) wide, mul-le-mul_right (stride_of g) high)
+
+-- chroma has the luma geometry, or the quotients by a ratio
+data FromLuma (g : Geometry) : Geometry → Type 0 where
+  full : FromLuma g g
+  parts : (x y : ℕ) → FromLuma g (divided x y g)
+
+from_divided : (divides : Bool) (x y : ℕ) (g c : Geometry) → geometry_in (if divides then Ok (Some (divided x y g)) else Err (record {})) ≡ Some c → FromLuma g c
+from_divided true x y g c e = let is : divided x y g ≡ c = cc in subst (FromLuma g) is (parts x y)
+from_divided false x y g c e = cc
+
+from_ratio : (ratio : Option (ℕ × ℕ)) (g c : Geometry) → geometry_in (subsampled_by ratio g) ≡ Some c → FromLuma g c
+from_ratio None g c e = cc
+from_ratio (Some r) g c e = from_divided (is_divisible r.0 r.1 g) r.0 r.1 g c e
+
+from_luma : (is_whole : Bool) (ratio : Option (ℕ × ℕ)) (g c : Geometry) → geometry_in (if is_whole then Ok (Some g) else subsampled_by ratio g) ≡ Some c → FromLuma g c
+from_luma true ratio g c e = let is : g ≡ c = cc in subst (FromLuma g) is full
+from_luma false ratio g c e = from_ratio ratio g c e
+
+size_from_luma : (g c : Geometry) → FromLuma g c → alloc_size_of c ≤ alloc_size_of g
+size_from_luma g c full = omega arith
+size_from_luma g c (parts x y) = divided_size x y g
+
+-- where luma fits, chroma does
+pub chroma_fits : (s : ChromaSubsampling) (g c : Geometry) → geometry_in (subsampled s g) ≡ Some c → Fits g → Fits c
+chroma_fits s g c e fits = omega (arith, size_from_luma g c (from_luma (is_full s) (ratio_of s) g c e))
+
+-- what the conversion to an option gives
+pub geometry_of_ok : (r : Result (Option Geometry) SubsamplingError) (c : Option Geometry) → result_ok r ≡ Some c → geometry_in r ≡ c
+geometry_of_ok (Ok o) c e = cc
+geometry_of_ok (Err x) c e = cc
+
+both_true : (a b : Bool) → a && b ≡ true → (a ≡ true) × (b ≡ true)
+both_true true b e = (refl, e)
+both_true false b e = cc
+
+refused : Result (Option Geometry) SubsamplingError
+refused = Err (record {})
+
+if_ok : (t : Bool) (k c : Geometry) → (if t then Ok (Some k) else refused) ≡ Ok (Some c) → (t ≡ true) × (k ≡ c)
+unfolding refused
+if_ok true k c e = (refl, cc)
+if_ok false k c e = cc
+
+size_by_quotients : (x y : ℕ) (g c : Geometry) → subsampled_by (Some (x, y)) g ≡ Ok (Some c) → size_by (Some (x, y)) g.width g.height ≡ Some (c.width, c.height)
+unfolding refused
+size_by_quotients x y g c e =
+    let given = if_ok (is_divisible x y g) (divided x y g) c e in
+    let columns = both_true (has_quotient g.width x) _ given.0 in
+    let left = both_true (has_quotient g.pad_left x) _ columns.1 in
+    let right = both_true (has_quotient g.pad_right x) _ left.1 in
+    let rows = both_true (has_quotient g.height y) _ right.1 in
+    rw (columns.0, rows.0) (ap (λ (k : Geometry). Some (k.width, k.height)) given.1)
+
+size_of_full : (g c : Geometry) → g ≡ c → size_by (Some (1, 1)) g.width g.height ≡ Some (c.width, c.height)
+size_of_full g c e =
+    let width : g.width / 1 ≡ g.width = div-one g.width in
+    let height : g.height / 1 ≡ g.height = div-one g.height in
+    let columns : has_quotient g.width 1 ≡ true = eq-eqb (g.width / 1 * 1) g.width (omega arith) in
+    let rows : has_quotient g.height 1 ≡ true = eq-eqb (g.height / 1 * 1) g.height (omega arith) in
+    rw (columns, rows, width, height) (ap (λ (k : Geometry). Some (k.width, k.height)) e)
+
+chroma_size : (s : ChromaSubsampling) (g c : Geometry) → subsampled s g ≡ Ok (Some c) → chroma_size_of s g.width g.height ≡ Some (c.width, c.height)
+unfolding refused
+chroma_size Yuv420 g c e = size_by_quotients 2 2 g c e
+chroma_size Yuv422 g c e = size_by_quotients 2 1 g c e
+chroma_size Yuv444 g c e = size_of_full g c (if_ok true g c e).1
+chroma_size Monochrome g c e = cc
+
+pub has_chroma_size : (s : ChromaSubsampling) (luma chroma : Geometry) → subsampled s luma ≡ Ok (Some chroma) → HasChromaSize s luma chroma
+has_chroma_size s luma chroma e = record {
+  size = chroma_size s luma chroma e;
+  no_larger = size_from_luma luma chroma (from_luma (is_full s) (ratio_of s) luma chroma (ap geometry_in e));
+}
+
+never_none : (t : Bool) (k : Geometry) → (if t then Ok (Some k) else refused) ≡ Ok None → ⊥
+unfolding refused
+never_none true k e = cc
+never_none false k e = cc
+
+-- without chroma there is no size
+no_chroma_size : (s : ChromaSubsampling) (g : Geometry) → subsampled s g ≡ Ok None → chroma_size_of s g.width g.height ≡ None
+unfolding refused
+no_chroma_size Yuv420 g e = absurd (never_none (is_divisible 2 2 g) (divided 2 2 g) e)
+no_chroma_size Yuv422 g e = absurd (never_none (is_divisible 2 1 g) (divided 2 1 g) e)
+no_chroma_size Yuv444 g e = cc
+no_chroma_size Monochrome g e = refl
+
+-- what a plane of one value holds, and its size
+module _ {T : Type 0} (zero : T) where
+  filled_everywhere : (g : Geometry) → All (λ pixel. pixel ≡ zero) (filled zero g).buffer
+  filled_everywhere g = λ k d h. get_or-replicate (alloc_size_of g) k zero d (omega (arith, length-replicate (alloc_size_of g) zero))
+
+  chroma_filled : (chroma : Option Geometry) → IfSome (option_map (filled zero) chroma) (λ plane. All (λ pixel. pixel ≡ zero) plane.buffer)
+  chroma_filled None = tt
+  chroma_filled (Some g) = filled_everywhere g
+
+  chroma_plane_size : (s : ChromaSubsampling) (g : Geometry) (chroma : Option Geometry) → subsampled s g ≡ Ok chroma → option_map size_of (option_map (filled zero) chroma) ≡ chroma_size_of s g.width g.height
+  chroma_plane_size s g None e = sym (no_chroma_size s g e)
+  chroma_plane_size s g (Some c) e = sym (chroma_size s g c e)
+
+  pub blank_is_zero : (asked : Asked) (frame : Frame T) → IsBlank zero asked frame → IsZeroEverywhere zero asked frame
+  blank_is_zero asked frame blank =
+      let luma = luma_geometry asked in
+      let chroma = chroma_geometry asked in
+      record {
+        y = rw blank.y_plane (filled_everywhere luma);
+        u = rw blank.u_plane (chroma_filled chroma);
+        v = rw blank.v_plane (chroma_filled chroma);
+        size_of_u = ap (option_map size_of) blank.u_plane ∙ chroma_plane_size asked.subsampling luma chroma blank.chroma;
+        size_of_v = ap (option_map size_of) blank.v_plane ∙ chroma_plane_size asked.subsampling luma chroma blank.chroma;
+      }

@@ -1,0 +1,24 @@
+-- What a plane ends as, where a `&mut` into its buffer was lent.
+use Rattle.std.specs.Prelude.{ℕ, ◌≡◌, ◌<◌, List, length, Option, OnSome, IfSome}
+use Rattle.std.specs.Borrow.{Lends, LendsSo, Fml, RattleType, MutBor, Array}
+use Rattle.std.specs.List.{refill}
+use Rattle.v_frame.specs.Picture.{Raster, raster}
+use Rattle.v_frame.specs.Written.{WritesRow, with_row, WritesEntry, WritesPixel}
+use Rattle.v_frame.specs.contracts.plane.Plane.{the_row}
+
+module _ (T : RattleType) (plane : MutBor (Raster T.Denot)) where
+  -- once the borrow r ends, the buffer is what r shows last
+  abbrev pub LendsBuffer : MutBor (List T.Denot) → Fml
+  LendsBuffer r = Lends (the_row T) (Array T 0) plane r (λ entries. raster plane.now.geometry (refill (length plane.now.buffer) plane.now.buffer entries))
+
+  -- once the borrow r ends, the entries where row y lies are what r shows last
+  abbrev pub LendsVisibleRow : ℕ → MutBor (List T.Denot) → Fml
+  LendsVisibleRow y r = Lends (the_row T) (Array T 0) plane r (with_row plane.now y)
+
+  -- once the borrow r ends, row y of the table is what r shows last, and all else is as before; r keeps its length
+  abbrev pub LendsRow : ℕ → Option (MutBor (List T.Denot)) → Fml
+  LendsRow y r = LendsSo (the_row T) (Array T 0) plane r (λ new row. IfSome r (λ lent. length row ≡ length lent.now → WritesRow plane.now y new row)) (λ new. new ≡ plane.now)
+
+  -- once the borrow r ends, the entry at the place of (x, y) is what r shows last, and all else is as before
+  abbrev pub LendsEntry : ℕ → ℕ → Option (MutBor T.Denot) → Fml
+  LendsEntry x y r = LendsSo (the_row T) T plane r (λ new entry. OnSome r (WritesEntry plane.now x y new entry × (x < plane.now.geometry.width → y < plane.now.geometry.height → WritesPixel plane.now x y new entry))) (λ new. new ≡ plane.now)

@@ -1,0 +1,30 @@
+-- What a write to one row or one pixel leaves of a plane.
+use Rattle.std.specs.Prelude.{ℕ, ◌≡◌, List, length, slice_set}
+use Rattle.v_frame.specs.Picture.{Raster, raster, shown, border_of, place_of}
+use Rattle.v_frame.specs.Rows.{with_pixel}
+use Rattle.v_frame.specs.AlignedData.{with_part}
+
+module _ {T : Type 0} where
+  -- row y of the table is another one, and all else is as before
+  pub record WritesRow (old : Raster T) (y : ℕ) (new : Raster T) (row : List T) : Type 0 where
+    pub geometry : new.geometry ≡ old.geometry
+    pub border : border_of new ≡ border_of old
+    pub table : shown new ≡ slice_set (shown old) y row
+
+  -- the plane with other entries where the visible pixels of row y lie
+  abbrev pub with_row : Raster T → ℕ → List T → Raster T
+  with_row plane y row = raster plane.geometry (with_part plane.buffer (place_of plane.geometry 0 y) row)
+
+  -- so each row as long as the one that is there is written as row y of the table
+  abbrev pub WritesEachRow : Raster T → ℕ → List T → Type 0
+  WritesEachRow plane y old = (row : List T) → length row ≡ length old → WritesRow plane y (with_row plane y row) row
+
+  -- the entry at the place of (x, y) is another one, and all else is as before
+  pub record WritesEntry (old : Raster T) (x y : ℕ) (new : Raster T) (entry : T) : Type 0 where
+    pub geometry : new.geometry ≡ old.geometry
+    pub buffer : new.buffer ≡ slice_set old.buffer (place_of old.geometry x y) entry
+
+  -- inside the rectangle that entry is the table's pixel, and the border is as before
+  pub record WritesPixel (old : Raster T) (x y : ℕ) (new : Raster T) (pixel : T) : Type 0 where
+    pub border : border_of new ≡ border_of old
+    pub table : shown new ≡ with_pixel (shown old) x y pixel
