@@ -1,4 +1,4 @@
--- Laws over the definitions alone, each carried by a function of the module `laws`.
+-- Laws of the definitions, and of built frames, each carried by a function of the module `laws`.
 use Rattle.std.specs.Prelude.{ℕ, ◌≡◌, ◌*◌, ◌/◌, ◌<◌, ◌≤◌, true, length, All, Some, IfSome, option_map}
 use Rattle.v_frame.specs.Geometry.{Geometry, alloc_size_of}
 use Rattle.v_frame.specs.Chroma.{has_quotient, chroma_size_of}
@@ -23,9 +23,11 @@ pub record IsQuotient (a ratio : ℕ) : Type 0 where
   pub found : (q : ℕ) → a ≡ q * ratio → (has_quotient a ratio ≡ true) × (a / ratio ≡ q)
   pub exact : has_quotient a ratio ≡ true → a ≡ a / ratio * ratio
 
--- the geometry of chroma has the size of the chroma planes, and a buffer that is no larger than that of luma
+-- the geometry of chroma has the size of the chroma planes, which is no larger than luma, nor is the buffer
 pub record HasChromaSize (subsampling : ChromaSubsampling) (luma chroma : Geometry) : Type 0 where
   pub size : chroma_size_of subsampling luma.width luma.height ≡ Some (chroma.width, chroma.height)
+  pub no_wider : chroma.width ≤ luma.width
+  pub no_higher : chroma.height ≤ luma.height
   pub no_larger : alloc_size_of chroma ≤ alloc_size_of luma
 
 module _ {T : Type 0} where

@@ -1,9 +1,8 @@
 -- The geometry of the chroma planes of a luma plane.
-use Rattle.std.specs.Prelude.{ℕ, ◌/◌, ◌&&◌, if◌then◌else◌, Bool, true, false, Option, Some, None, Result, Ok, Err}
+use Rattle.std.specs.Prelude.{ℕ, ◌/◌, ◌==◌, ◌&&◌, if◌then◌else◌, Bool, Option, Some, None, Result, Ok, Err}
 use Rattle.v_frame.specs.Geometry.{Geometry, geometry_of}
 use Rattle.v_frame.specs.Chroma.{ratio_of, has_quotient}
 use Rattle.v_frame.specs.declared.chroma.ChromaSubsampling.{ChromaSubsampling}
-use Rattle.v_frame.specs.declared.chroma.ChromaSubsampling.TheVariants.{Yuv420, Yuv422, Yuv444, Monochrome}
 use Rattle.v_frame.specs.declared.plane.geometry.SubsamplingError.{SubsamplingError}
 
 -- the columns divide by one ratio and the rows by the other
@@ -15,17 +14,15 @@ is_divisible x y g =
 abbrev pub divided : ℕ → ℕ → Geometry → Geometry
 divided x y g = geometry_of (g.width / x) (g.height / y) (g.pad_left / x) (g.pad_right / x) (g.pad_top / y) (g.pad_bottom / y) x y
 
+-- chroma at the size of luma has its very geometry, ratios too
+abbrev pub is_full : ℕ × ℕ → Bool
+is_full ratio = ratio.0 == 1 && ratio.1 == 1
+
 abbrev pub subsampled_by : Option (ℕ × ℕ) → Geometry → Result (Option Geometry) SubsamplingError
 subsampled_by None g = Ok None
-subsampled_by (Some ratio) g = if is_divisible ratio.0 ratio.1 g then Ok (Some (divided ratio.0 ratio.1 g)) else Err (record {})
-
--- chroma at the size of luma has its very geometry
-abbrev pub is_full : ChromaSubsampling → Bool
-is_full Yuv444 = true
-is_full Yuv420 = false
-is_full Yuv422 = false
-is_full Monochrome = false
+subsampled_by (Some ratio) g =
+    if is_full ratio then Ok (Some g) else (if is_divisible ratio.0 ratio.1 g then Ok (Some (divided ratio.0 ratio.1 g)) else Err (record {}))
 
 -- the geometry of chroma, none where there is no chroma, or the refusal
 abbrev pub subsampled : ChromaSubsampling → Geometry → Result (Option Geometry) SubsamplingError
-subsampled subsampling g = if is_full subsampling then Ok (Some g) else subsampled_by (ratio_of subsampling) g
+subsampled subsampling g = subsampled_by (ratio_of subsampling) g

@@ -3,16 +3,18 @@ use Rattle.std.specs.Prelude.{ℕ, ◌≡◌, List, [], ◌∷◌, Some, None, O
 use Rattle.v_frame.specs.Pixel.{byte_of, value_of_bytes}
 use Rattle.v_frame.specs.Geometry.{Geometry, geometry_of, stride_of, alloc_height_of, alloc_size_of}
 use Rattle.v_frame.specs.Picture.{Raster, raster, shown, border_of, origin_of, place_of}
+use Rattle.v_frame.specs.Chroma.{chroma_size_of}
+use Rattle.v_frame.specs.Subsampled.{subsampled}
 use Rattle.v_frame.specs.Asked.{Asked}
 use Rattle.v_frame.specs.Buildable.{refusal_of}
 use Rattle.v_frame.specs.Shown.{Tables}
 use Rattle.v_frame.specs.Replay.{answers_to, tables_after}
 use Rattle.v_frame.specs.declared.chroma.ChromaSubsampling.{ChromaSubsampling}
-use Rattle.v_frame.specs.declared.chroma.ChromaSubsampling.TheVariants.{Yuv420, Monochrome}
+use Rattle.v_frame.specs.declared.chroma.ChromaSubsampling.TheVariants.{Yuv420, Yuv422, Yuv444, Monochrome}
 use Rattle.v_frame.specs.declared.frame.error.FrameError.TheVariants.{UnsupportedBitDepth, DataTypeMismatch, UnsupportedResolution}
 use Rattle.v_frame.specs.declared.plane.error.CopyError.TheVariants.{DataLength}
 use Rattle.v_frame.specs.declared.replay.call.VisibleCall.{VisibleCall}
-use Rattle.v_frame.specs.declared.replay.call.VisibleCall.TheVariants.{Width, Row, Pixel, CopyFromSlice}
+use Rattle.v_frame.specs.declared.replay.call.VisibleCall.TheVariants.{Width, Row, RowMut, Pixel, PixelMut, CopyFromSlice}
 use Rattle.v_frame.specs.declared.replay.answer.Answer.TheVariants.{NoPlane, OutsideRectangle, RowShown, PixelShown, Copied}
 
 -- 0x0102 has the bytes 2 and 1, low byte first
@@ -60,6 +62,22 @@ its_table = refl
 its_border : border_of three_by_two ≡ (20 ∷ 21 ∷ 22 ∷ 23 ∷ 24 ∷ 25 ∷ []) ∷ (26 ∷ []) ∷ (27 ∷ 28 ∷ []) ∷ (29 ∷ []) ∷ (30 ∷ 31 ∷ []) ∷ []
 its_border = refl
 
+-- sizes and paddings are halved where that leaves nothing over, and else refused
+halved_size : chroma_size_of Yuv420 1920 1080 ≡ Some (960, 540)
+halved_size = refl
+
+odd_size : chroma_size_of Yuv422 1921 1080 ≡ None
+odd_size = refl
+
+halved_columns : subsampled Yuv422 (geometry_of 1920 1080 10 10 40 15 1 1) ≡ Ok (Some (geometry_of 960 1080 5 5 40 15 2 1))
+halved_columns = refl
+
+odd_padding : subsampled Yuv420 (geometry_of 1920 1080 10 10 40 15 1 1) ≡ Err (record {})
+odd_padding = refl
+
+full_size : subsampled Yuv444 (geometry_of 17 41 1 0 0 3 2 2) ≡ Ok (Some (geometry_of 17 41 1 0 0 3 2 2))
+full_size = refl
+
 -- the reasons not to build, in their order
 abbrev unpadded : ℕ → ℕ → ChromaSubsampling → ℕ → Asked
 unpadded width height subsampling depth = record { width = width; height = height; subsampling = subsampling; bit_depth = depth; pad_left = 0; pad_right = 0; pad_top = 0; pad_bottom = 0 }
@@ -92,3 +110,16 @@ six_answers = refl
 
 table_left : (tables_after six_calls blank).y ≡ (1 ∷ 2 ∷ 3 ∷ []) ∷ (4 ∷ 5 ∷ 6 ∷ []) ∷ []
 table_left = refl
+
+-- writes that leave gaps and run past the row, and a pixel replaced, on the table that is left
+abbrev two_writes : List (VisibleCall ℕ)
+two_writes = RowMut 0 0 (None ∷ Some 8 ∷ None ∷ Some 5 ∷ []) ∷ PixelMut 0 2 1 9 ∷ PixelMut 0 3 0 7 ∷ []
+
+old_pixels : answers_to two_writes (tables_after six_calls blank) ≡ RowShown (Some (1 ∷ 2 ∷ 3 ∷ [])) ∷ PixelShown 6 ∷ OutsideRectangle ∷ []
+old_pixels = refl
+
+short_and_below : (tables_after (RowMut 0 1 (Some 7 ∷ []) ∷ RowMut 0 2 (Some 8 ∷ []) ∷ []) (tables_after six_calls blank)).y ≡ (1 ∷ 2 ∷ 3 ∷ []) ∷ (7 ∷ 5 ∷ 6 ∷ []) ∷ []
+short_and_below = refl
+
+new_pixels : (tables_after two_writes (tables_after six_calls blank)).y ≡ (1 ∷ 8 ∷ 3 ∷ []) ∷ (4 ∷ 5 ∷ 9 ∷ []) ∷ []
+new_pixels = refl

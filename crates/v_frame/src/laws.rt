@@ -2,10 +2,11 @@
 //!
 //! Each function makes the calls that its law speaks of, and its contract is the law. A law of the definitions alone has
 //! an empty body. Our own.
-ghost use Rattle.std.specs.Prelude.{◌≡◌, ℕ, ◌^◌, ◌<◌, ◌↔◌, length, Some, Ok, IfOk, OnOk, IsTrue};
+ghost use Rattle.std.specs.Prelude.{◌≡◌, ℕ, ◌^◌, ◌<◌, ◌↔◌, length, Some, Ok, Err, IfOk, OnOk, IsOkUnless, IsTrue, MatchOption};
 ghost use Rattle.std.specs.Ordering.{nat_cmp};
 ghost use Rattle.v_frame.specs.Pixel.{bytes_of};
 ghost use Rattle.v_frame.specs.Laws.{DeterminesBuffer, HasPlaces, IsQuotient, HasChromaSize, IsZeroEverywhere};
+ghost use Rattle.v_frame.specs.Buildable.{refusal_of};
 ghost use Rattle.v_frame.specs.Subsampled.{subsampled};
 ghost use Rattle.v_frame.specs.declared.chroma.ChromaSubsampling.{ChromaSubsampling};
 ghost use Rattle.v_frame.specs.Geometry.{Geometry};
@@ -95,12 +96,14 @@ pub fn chroma_sizes_agree()
         → subsampled s luma ≡ Ok (Some chroma) → HasChromaSize s luma chroma }
 {}
 
-/// A built frame is zero everywhere, and its chroma planes have the size of the format or are absent.
+/// A frame that can be built is zero everywhere, and its chroma planes have the size of the format or are absent.
 pub fn built_frame_is_zero<T: Pixel>(
     alloc: Global,
     builder: FrameBuilder,
 ) -> Result<Frame<T>, FrameError>
-    ensures { IfOk result (IsZeroEverywhere T.ZERO builder) }
+    ensures refused { MatchOption (refusal_of T.BYTES builder)
+        (IsOkUnless result FrameError.OutOfMemory) (λ e. result ≡ Err e) }
+    ensures zero { IfOk result (IsZeroEverywhere T.ZERO builder) }
 {
     builder.build(alloc)
 }

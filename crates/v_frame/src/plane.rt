@@ -216,8 +216,11 @@ mod tests {
     #[test]
     fn pixels_written_in_place(rt: HostRuntime) -> Result<(), Fail> {
         let mut plane = zeros(rt.alloc(), 4, 4)?;
-        for (x, y, value) in [(0, 0, 10), (2, 1, 20), (3, 3, 30)] {
+        let written = [(0, 0, 10), (2, 1, 20), (3, 3, 30)];
+        for (x, y, value) in written {
             *plane.pixel_mut(x, y).ok_or("a pixel")? = value;
+        }
+        for (x, y, value) in written {
             assert_eq!(rt; plane.pixel(x, y), Some(value));
         }
         assert_eq!(rt; plane.pixel(1, 1), Some(0));

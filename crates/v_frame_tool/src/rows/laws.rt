@@ -1,10 +1,16 @@
 //! The laws, called.
+ghost use Rattle.std.specs.Prelude.{◌≡◌, [], ◌∷◌, None, IfOk};
+ghost use Rattle.v_frame.specs.Shown.{tables_of};
 
 use super::frames::padded;
+use super::replays::row_shown;
+use std::alloc::Global;
 use std::cmp::Ordering;
 use std::test::Fail;
 use v_frame::chroma::ChromaSubsampling;
-use v_frame::laws;
+use v_frame::frame::{Frame, FrameBuilder, FrameError};
+use v_frame::laws::{self, alike_frames_answer_alike};
+use v_frame::replay::{Answer, VisibleCall};
 
 #[test]
 fn pixels_come_from_values_and_from_bytes(rt: HostRuntime) {
@@ -15,6 +21,46 @@ fn pixels_come_from_values_and_from_bytes(rt: HostRuntime) {
     assert_eq!(rt; laws::pixel_of_bytes::<u16>(&[1, 2]), 513);
     assert!(rt; laws::pixels_are_equal(3u8, 3));
     assert_eq!(rt; laws::pixels_compare(256u16, 3), Ordering::Greater);
+}
+
+/// A 2 by 1 plane of zeros without a border.
+fn bare(alloc: Global) -> Result<Frame<u8>, FrameError>
+    ensures { IfOk result (λ frame. tables_of frame
+        ≡ record { y = (0 ∷ 0 ∷ []) ∷ []; u = None; v = None }) }
+{
+    FrameBuilder::new(2, 1, ChromaSubsampling::Monochrome, 8).build::<u8>(alloc)
+}
+
+/// The same with a border to the left and above.
+fn bordered(alloc: Global) -> Result<Frame<u8>, FrameError>
+    ensures { IfOk result (λ frame. tables_of frame
+        ≡ record { y = (0 ∷ 0 ∷ []) ∷ []; u = None; v = None }) }
+{
+    FrameBuilder::new(2, 1, ChromaSubsampling::Monochrome, 8)
+        .luma_padding_left(1)
+        .luma_padding_top(1)
+        .build::<u8>(alloc)
+}
+
+#[test]
+fn alike_frames_are_replayed_side_by_side(rt: HostRuntime) -> Result<(), Fail> {
+    let mut first = bare(rt.alloc())?;
+    let mut second = bordered(rt.alloc())?;
+    let calls = [
+        VisibleCall::PixelMut {
+            plane: 0,
+            x: 1,
+            y: 0,
+            value: 5,
+        },
+        VisibleCall::Row { plane: 0, y: 0 },
+    ];
+    let both = alike_frames_answer_alike(rt.alloc(), &mut first, &mut second, &calls)?;
+    let wanted = [Answer::PixelShown(0), row_shown(rt.alloc(), &[0, 5])?];
+    assert_eq!(rt; both.0.as_slice(), wanted.as_slice());
+    assert_eq!(rt; both.1.as_slice(), wanted.as_slice());
+    assert_eq!(rt; second.y_plane.data(), [0, 0, 0, 0, 0, 5].as_slice());
+    Ok(())
 }
 
 #[test]

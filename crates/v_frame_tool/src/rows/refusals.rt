@@ -1,7 +1,7 @@
 //! What stands where a request for memory is refused. With memory, each call answers `Ok`.
 //!
-//! `rt try --test --fail-alloc N` runs each test with its request `N` refused. A test whose preparation is refused ends
-//! there and shows nothing; the others take the branch of the refusal.
+//! `rt try --test --fail-alloc N` runs each test with its request `N` refused. A test whose preparation is refused fails
+//! there and shows nothing; where a later request is refused, the test takes the branch of the refusal and passes.
 
 use super::frames::{monochrome, padded, table_of};
 use super::replays::{copy, row_shown};
