@@ -7,6 +7,7 @@ pub mod Chroma
 pub mod Copy
 pub mod Geometry
 pub mod Laws
+pub mod LeftBehind
 pub mod Picture
 pub mod Pixel
 pub mod Replay

@@ -2,7 +2,7 @@
 //!
 //! Each function makes the calls that its law speaks of, and its contract is the law. A law of the definitions alone has
 //! an empty body. Our own.
-ghost use Rattle.std.specs.Prelude.{◌≡◌, ℕ, ◌^◌, ◌<◌, ◌↔◌, length, Some, Ok, Err, IfOk, OnOk, IsOkUnless, IsTrue, MatchOption};
+ghost use Rattle.std.specs.Prelude.{◌≡◌, ℕ, ◌^◌, ◌<◌, ◌↔◌, length, Some, Ok, Err, IfOk, OnOk, IsOkUnless, IsTrue, MatchOption, reverse, slice_get, option_map};
 ghost use Rattle.std.specs.Ordering.{nat_cmp};
 ghost use Rattle.v_frame.specs.Pixel.{bytes_of};
 ghost use Rattle.v_frame.specs.Laws.{DeterminesBuffer, HasPlaces, IsQuotient, HasChromaSize, IsZeroEverywhere};
@@ -10,11 +10,16 @@ ghost use Rattle.v_frame.specs.Buildable.{refusal_of};
 ghost use Rattle.v_frame.specs.Subsampled.{subsampled};
 ghost use Rattle.v_frame.specs.declared.chroma.ChromaSubsampling.{ChromaSubsampling};
 ghost use Rattle.v_frame.specs.Geometry.{Geometry};
-ghost use Rattle.v_frame.specs.Shown.{tables_of, KeepsBorder};
+ghost use Rattle.v_frame.specs.Shown.{tables_of, KeepsBorder, unshown};
+ghost use Rattle.v_frame.specs.Picture.{shown};
+ghost use Rattle.v_frame.specs.Rows.{with_row_by};
+ghost use Rattle.v_frame.specs.LeftBehind.{left_behind};
+ghost use Rattle.std.specs.Option.{option_copied_mut};
 ghost use Rattle.v_frame.specs.Replay.{answers_to, tables_after};
 
 use crate::frame::{Frame, FrameBuilder, FrameError};
 use crate::pixel::Pixel;
+use crate::plane::Plane;
 use crate::replay::{Answer, VisibleCall, replay};
 use std::alloc::{AllocError, Global};
 use std::cmp::Ordering;
@@ -106,4 +111,24 @@ pub fn built_frame_is_zero<T: Pixel>(
     ensures zero { IfOk result (IsZeroEverywhere T.ZERO builder) }
 {
     builder.build(alloc)
+}
+
+/// What is written into a row that [`row_mut`](Plane::row_mut) lends is written into the table, and all else stays.
+///
+/// Here the row is reversed. Below the visible rectangle no row is lent, and nothing changes.
+pub fn row_is_reversed<T>(plane: &mut Plane<T>, y: usize)
+    ensures border { unshown plane.new ≡ unshown plane.old }
+    ensures table { shown plane.new
+        ≡ with_row_by reverse (shown plane.old) y (slice_get (shown plane.old) y) }
+{
+    reverse_lent(plane.row_mut(y));
+}
+
+/// Reverses a row, where one is lent.
+fn reverse_lent<T>(row: Option<&mut [T]>)
+    ensures { left_behind row.exit ≡ option_map reverse (option_copied_mut row.entry) }
+{
+    if let Some(row) = row {
+        row.reverse();
+    }
 }
