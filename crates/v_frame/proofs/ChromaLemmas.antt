@@ -55,7 +55,7 @@ pub geometry_of_ok : (r : Result (Option Geometry) SubsamplingError) (c : Option
 geometry_of_ok (Ok o) c e = cc
 geometry_of_ok (Err x) c e = cc
 
-both_true : (a b : Bool) → a && b ≡ true → (a ≡ true) × (b ≡ true)
+pub both_true : (a b : Bool) → a && b ≡ true → (a ≡ true) × (b ≡ true)
 both_true true b e = (refl, e)
 both_true false b e = cc
 

@@ -1,27 +1,37 @@
 -- Rows of a packed source, written one after the other over those of a plane.
-use Rattle.std.proofs.Common.{ℕ, zero, suc, ◌≡◌, ◌+◌, ◌*◌, ◌<◌, ◌≤◌, eqb, true, false, eq-eqb, inl, inr, List, [], ◌∷◌, ◌++◌, length, take, drop, Some, Ok, Err, slice_get, slice_set, refl, sym, ◌∙◌, ap, arith, append-nil, length-drop, length-take-le}
+use Rattle.std.proofs.Common.{ℕ, zero, suc, ◌≡◌, ◌+◌, ◌*◌, ◌<◌, ◌≤◌, eqb, true, false, eq-eqb, inl, inr, List, [], ◌∷◌, ◌++◌, length, take, drop, Some, Ok, Err, slice_get, slice_set, refl, sym, ◌∙◌, ap, arith, append-nil, take-append-drop, length-drop, length-take, length-take-le}
 use Rattle.std.proofs.lemmas.List.{drop-drop, take_all, drop_all}
+use Rattle.std.proofs.lemmas.Bool.{cases_lt}
 use Rattle.std.proofs.lemmas.Bool.Decides.{eqb_tells}
+use Rattle.std.proofs.Math.Nat.{mul-le-mul_right}
 use borrow.Rule.Slice.PartMut.{put_mid}
 use Rattle.v_frame.specs.Geometry.{Geometry, alloc_size_of}
 use Rattle.v_frame.specs.Picture.{Raster, raster, shown, border_of, place_of}
-use Rattle.v_frame.specs.Rows.{Table, width_of, height_of}
+use Rattle.v_frame.specs.Rows.{Table, width_of, height_of, row_major}
 use Rattle.v_frame.specs.Copy.{cut_rows, packed_copy}
 use Rattle.v_frame.specs.declared.plane.error.CopyError.TheVariants.{DataLength}
 use Rattle.v_frame.proofs.Lists.{one_more}
-use Rattle.v_frame.proofs.Pictures.{row_start, place_of_row, row_within, overwritten, shown_overwritten, border_overwritten, shown_row, length-shown}
+use Rattle.v_frame.proofs.Pictures.{row_start, place_of_row, row_within, overwritten, shown_overwritten, border_overwritten, shown_row, length-shown, visible_within}
 
 positive_factor : (w h : ℕ) → 0 < w * h → 0 < h
 positive_factor w zero p = absurd (omega (arith, p))
 positive_factor w (suc h) p = omega arith
 
 module _ {T : Type 0} where
-  length-cut_rows : (width height : ℕ) (source : List T) → length (cut_rows width height source) ≡ height
+  pub length-cut_rows : (width height : ℕ) (source : List T) → length (cut_rows width height source) ≡ height
   length-cut_rows width zero source = refl
   length-cut_rows width (suc height) source = ap suc (length-cut_rows width height (drop width source))
 
-  -- row y of a source is what it holds from `width * y` on
-  slice_get-cut_rows : (width height : ℕ) (source : List T) (y : ℕ) → y < height → slice_get (cut_rows width height source) y ≡ Some (take width (drop (width * y) source))
+  -- the rows of a packed source are the source
+  pub row_major-cut_rows : (width height : ℕ) (source : List T) → length source ≡ width * height → row_major (cut_rows width height source) ≡ source
+  row_major-cut_rows width zero [] h = refl
+  row_major-cut_rows width zero (pixel ∷ source) h = absurd (omega (arith, h))
+  row_major-cut_rows width (suc height) source h =
+      let rest : length (drop width source) ≡ width * height = omega (arith, h, length-drop width source) in
+      ap (λ pixels. take width source ++ pixels) (row_major-cut_rows width height (drop width source) rest) ∙ take-append-drop width source
+
+  -- piece y of a source is what it holds from `width * y` on
+  pub slice_get-cut_rows : (width height : ℕ) (source : List T) (y : ℕ) → y < height → slice_get (cut_rows width height source) y ≡ Some (take width (drop (width * y) source))
   slice_get-cut_rows width zero source y h = absurd (omega arith)
   slice_get-cut_rows width (suc height) source zero h = let e : width * 0 ≡ 0 = omega arith in rw e refl
   slice_get-cut_rows width (suc height) source (suc y) h =
@@ -44,21 +54,20 @@ module _ {T : Type 0} where
   border_put_row g xs row y start k h s n w whole =
       ap (λ b. border_of (raster g b)) (put_row g xs row y start k h s n) ∙ border_overwritten g xs row y h (n ∙ w) (omega (arith, row_within g y h))
 
-  -- one more row of the source
-  pub one_more_row : (g : Geometry) (xs ys row source : List T) (y start k : ℕ) → y < g.height → start ≡ place_of g 0 y → length row ≡ k → k ≡ g.width → length xs ≡ alloc_size_of g
-      → row ≡ take g.width (drop (g.width * y) source)
-      → shown (raster g xs) ≡ take y (cut_rows g.width g.height source) ++ drop y (shown (raster g ys))
-      → shown (raster g (put_mid start k xs row)) ≡ take (y + 1) (cut_rows g.width g.height source) ++ drop (y + 1) (shown (raster g ys))
-  one_more_row g xs ys row source y start k h s n w whole is so_far =
-      let next : slice_get (cut_rows g.width g.height source) y ≡ Some row = slice_get-cut_rows g.width g.height source y h ∙ ap Some (sym is) in
-      shown_put_row g xs row y start k h s n w whole ∙ ap (λ t. slice_set t y row) so_far ∙ one_more (cut_rows g.width g.height source) (shown (raster g ys)) y row next (omega (arith, length-shown (raster g ys)))
+  -- one more row of those that are written
+  pub one_more_row : (g : Geometry) (xs ys row : List T) (rows : Table T) (y start k : ℕ) → y < g.height → start ≡ place_of g 0 y → length row ≡ k → k ≡ g.width → length xs ≡ alloc_size_of g
+      → slice_get rows y ≡ Some row
+      → shown (raster g xs) ≡ take y rows ++ drop y (shown (raster g ys))
+      → shown (raster g (put_mid start k xs row)) ≡ take (y + 1) rows ++ drop (y + 1) (shown (raster g ys))
+  one_more_row g xs ys row rows y start k h s n w whole is so_far =
+      shown_put_row g xs row y start k h s n w whole ∙ ap (λ t. slice_set t y row) so_far ∙ one_more rows (shown (raster g ys)) y row is (omega (arith, length-shown (raster g ys)))
 
-  -- after the last row the table is the source's
-  pub all_rows : (g : Geometry) (xs ys source : List T) (y : ℕ) → g.height ≤ y
-      → shown (raster g xs) ≡ take y (cut_rows g.width g.height source) ++ drop y (shown (raster g ys))
-      → shown (raster g xs) ≡ cut_rows g.width g.height source
-  all_rows g xs ys source y h so_far =
-      so_far ∙ ap (λ t. t ++ drop y (shown (raster g ys))) (take_all y (cut_rows g.width g.height source) (omega (arith, length-cut_rows g.width g.height source))) ∙ ap (λ t. cut_rows g.width g.height source ++ t) (drop_all y (shown (raster g ys)) (omega (arith, length-shown (raster g ys)))) ∙ append-nil (cut_rows g.width g.height source)
+  -- after the last row the table is these rows
+  pub all_rows : (g : Geometry) (xs ys : List T) (rows : Table T) (y : ℕ) → length rows ≡ g.height → g.height ≤ y
+      → shown (raster g xs) ≡ take y rows ++ drop y (shown (raster g ys))
+      → shown (raster g xs) ≡ rows
+  all_rows g xs ys rows y as_many h so_far =
+      so_far ∙ ap (λ t. t ++ drop y (shown (raster g ys))) (take_all y rows (omega arith)) ∙ ap (λ t. rows ++ t) (drop_all y (shown (raster g ys)) (omega (arith, length-shown (raster g ys)))) ∙ append-nil rows
 
   width_of_first : (t : Table T) (row : List T) → slice_get t 0 ≡ Some row → width_of t ≡ length row
   width_of_first [] row e = cc
@@ -87,3 +96,16 @@ module _ {T : Type 0} where
     copy_accepted same =
         let yes : eqb (length source) (width_of (shown p) * height_of (shown p)) ≡ true = eq-eqb (length source) (width_of (shown p) * height_of (shown p)) (same ∙ sym pixels) in
         rw (yes, width_of_shown p high whole, height_of_shown p) refl
+
+  -- a table has no more pixels than the buffer of its plane has entries
+  pub pixels_within : (p : Raster T) → width_of (shown p) * height_of (shown p) ≤ alloc_size_of p.geometry
+  pixels_within p =
+      let g = p.geometry in
+      let rows : height_of (shown p) ≡ g.height = height_of_shown p in
+      elim (cases_lt 0 g.height) [
+        | inl high ↦
+            let first = width_of_first (shown p) _ (shown_row p 0 high) in
+            let wide : width_of (shown p) ≤ g.width = omega (arith, first, length-take g.width (drop (row_start g 0) p.buffer)) in
+            omega (arith, ap (λ n. width_of (shown p) * n) rows, mul-le-mul_right g.height wide, visible_within g)
+        | inr none ↦ let flat : height_of (shown p) ≡ 0 = omega arith in omega (arith, ap (λ n. width_of (shown p) * n) flat)
+      ]

@@ -2,15 +2,10 @@
 use Rattle.std.proofs.Common.{◌≡◌, List, [], ◌∷◌, ◌++◌, length, take, drop, refl, sym, ◌∙◌, ap, arith}
 use Rattle.std.proofs.lemmas.List.{take_all}
 use Rattle.v_frame.specs.Geometry.{Geometry, alloc_size_of}
-use Rattle.v_frame.specs.Picture.{raster, Mark, Border, Visible, Piece, times, outer_row, crossing_row, cutting_plan, cut_by, if_visible, if_border, visible_pieces, border_pieces, shown, border_of}
+use Rattle.v_frame.specs.Picture.{raster, Mark, Border, Visible, Piece, cutting_plan, cut_by, if_visible, if_border, visible_pieces, border_pieces, shown, border_of}
 use Rattle.v_frame.specs.Laws.{DeterminesBuffer}
 use Rattle.v_frame.proofs.Lists.{taken_twice}
-use Rattle.v_frame.proofs.Pictures.{total, total-append, total-times}
-
--- the plan covers the buffer
-total-cutting_plan : (g : Geometry) → total (cutting_plan g) ≡ alloc_size_of g
-total-cutting_plan g =
-    omega (arith, total-append (times g.pad_top (outer_row g)) (times g.height (crossing_row g) ++ times g.pad_bottom (outer_row g)), total-append (times g.height (crossing_row g)) (times g.pad_bottom (outer_row g)), total-times g.pad_top (outer_row g), total-times g.height (crossing_row g), total-times g.pad_bottom (outer_row g))
+use Rattle.v_frame.proofs.Pictures.{total, total-cutting_plan}
 
 module _ {T : Type 0} where
   -- one piece, and what the others add to the table and to the border

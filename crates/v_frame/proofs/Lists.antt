@@ -1,5 +1,5 @@
 -- Facts about lists alone.
-use Rattle.std.proofs.Common.{ℕ, zero, suc, ◌≡◌, ◌+◌, ◌-◌, ◌<◌, ◌≤◌, List, [], ◌∷◌, ◌++◌, length, take, drop, Some, slice_get, slice_set, refl, sym, ◌∙◌, ap, arith, take-append-drop, length-take-le, length-drop}
+use Rattle.std.proofs.Common.{ℕ, zero, suc, ◌≡◌, ◌+◌, ◌-◌, ◌<◌, ◌≤◌, List, [], ◌∷◌, ◌++◌, length, take, drop, map, Some, slice_get, slice_set, refl, sym, ◌∙◌, ap, arith, take-append-drop, length-take-le, length-drop}
 use Rattle.std.proofs.lemmas.List.{take_at, take-take, drop-take, set-append_left, set-append_right}
 use Rattle.std.specs.List.{refill}
 
@@ -56,3 +56,8 @@ module _ {X : Type 0} where
       let whole : xs ≡ take start xs ++ (part ++ rest) = sym (take-append-drop start xs) ∙ ap (λ ys. take start xs ++ ys) (sym (take-append-drop n (drop start xs))) in
       let back : start + i - start ≡ i = omega arith in
       ap (λ ys. slice_set ys (start + i) x) whole ∙ set-append_right (take start xs) (part ++ rest) start (start + i) x front (omega arith) ∙ ap (λ k. take start xs ++ slice_set (part ++ rest) k x) back ∙ ap (λ ys. take start xs ++ ys) (set-append_left part rest i x (omega arith))
+
+pub slice_get-map : {X Y : Type 0} (f : X → Y) (xs : List X) (i : ℕ) (x : X) → slice_get xs i ≡ Some x → slice_get (map f xs) i ≡ Some (f x)
+slice_get-map f [] i x e = cc
+slice_get-map f (first ∷ xs) zero x e = let same : first ≡ x = cc in ap (λ a. Some (f a)) same
+slice_get-map f (first ∷ xs) (suc i) x e = slice_get-map f xs i x e

@@ -2,7 +2,7 @@
 use Rattle.std.proofs.Common.{ℕ, zero, suc, ◌≡◌, ◌+◌, ◌<◌, ◌≤◌, min, List, [], ◌∷◌, length, take, Option, Some, None, All, inl, inr, unwrap_or, slice_get, slice_set, refl, sym, ◌∙◌, ap, arith, add-one}
 use Rattle.std.proofs.lemmas.List.{set_past, set-get_or}
 use Rattle.std.proofs.lemmas.Option.{slice_get_cases, slice_get_past}
-use Rattle.v_frame.specs.Rows.{Table, overwritten_row, with_row_by, with_pixel}
+use Rattle.v_frame.specs.Rows.{Table, overwritten_row, with_item_by, with_pixel}
 
 module _ {X : Type 0} where
   pub overwritten_by_none : (row : List X) → overwritten_row row [] ≡ row
@@ -47,11 +47,11 @@ module _ {X : Type 0} where
   -- a pixel beside the rows, or below them, is written nowhere
   pub with_pixel_beside : (rows : Table X) (width x y : ℕ) (pixel : X) → All (λ row. length row ≡ width) rows → width ≤ x → with_pixel rows x y pixel ≡ rows
   with_pixel_beside rows width x y pixel wide h =
-      let written : Option (List X) → Table X = with_row_by (λ (r : List X). slice_set r x pixel) rows y in
+      let written : Option (List X) → Table X = with_item_by (λ (r : List X). slice_set r x pixel) rows y in
       elim (slice_get_cases rows y).1 [
         | inl row ↦ ap written row.2 ∙ ap (slice_set rows y) (set_past row.0 x pixel (omega (arith, wide y row.0 row.1, ap length row.3))) ∙ ap (slice_set rows y) (sym row.3) ∙ set-get_or rows y row.0
         | inr none ↦ ap written none.1
       ]
 
-  pub with_row_below : (change : List X → List X) (rows : Table X) (y : ℕ) → length rows ≤ y → with_row_by change rows y (slice_get rows y) ≡ rows
-  with_row_below change rows y h = ap (with_row_by change rows y) (slice_get_past rows y h)
+  pub with_row_below : (change : List X → List X) (rows : Table X) (y : ℕ) → length rows ≤ y → with_item_by change rows y (slice_get rows y) ≡ rows
+  with_row_below change rows y h = ap (with_item_by change rows y) (slice_get_past rows y h)

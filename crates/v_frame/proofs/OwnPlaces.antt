@@ -1,30 +1,13 @@
 -- Each visible pixel has a place of its own, in a visible piece.
-use Rattle.std.proofs.Common.{ℕ, ◌≡◌, ◌+◌, ◌-◌, ◌<◌, ◌≤◌, List, [], ◌∷◌, ◌++◌, Some, true, false, ltb, inl, inr, refl, sym, ◌∙◌, ap, arith}
-use Rattle.std.proofs.lemmas.Bool.{cases_lt, lt-ltb}
-use Rattle.std.proofs.lemmas.Bool.Decides.{nat_tests}
+use Rattle.std.proofs.Common.{ℕ, ◌≡◌, ◌+◌, ◌<◌, ◌≤◌, ◌∷◌, ◌++◌, inl, inr, sym, ◌∙◌, ap, arith}
+use Rattle.std.proofs.lemmas.Bool.{cases_lt}
 use Rattle.std.proofs.Math.Nat.{mul-le-mul_right}
 use Rattle.v_frame.specs.Geometry.{Geometry, stride_of}
-use Rattle.v_frame.specs.Picture.{Piece, mark_at, visible_piece, place_of}
+use Rattle.v_frame.specs.Picture.{mark_at, visible_piece, place_of}
 use Rattle.v_frame.specs.Laws.{HasPlaces}
 use Rattle.v_frame.proofs.Pictures.{total, before_row, after_row, plan_at_row, total-before_row, row_start, place_of_row}
+use Rattle.v_frame.proofs.Marks.{mark_at-here, mark_at-append}
 use Rattle.v_frame.proofs.Places.{place_within}
-
-not_below : (m n : ℕ) → n ≤ m → ltb m n ≡ false
-not_below m n h = grind (arith, nat_tests)
-
--- past the pieces of a plan the marks are those of the next one
-mark_at-append : (p q : List Piece) (n : ℕ) → mark_at (p ++ q) (total p + n) ≡ mark_at q n
-mark_at-append [] q n = ap (mark_at q) (omega arith)
-mark_at-append (piece ∷ p) q n =
-    let past : ltb (piece.entries + total p + n) piece.entries ≡ false = not_below (piece.entries + total p + n) piece.entries (omega arith) in
-    let rest : piece.entries + total p + n - piece.entries ≡ total p + n = omega arith in
-    rw (past, rest) (mark_at-append p q n)
-
--- the first piece has its own entries
-mark_at-here : (piece : Piece) (q : List Piece) (n : ℕ) → n < piece.entries → mark_at (piece ∷ q) n ≡ Some piece.mark
-mark_at-here piece q n h =
-    let here : ltb n piece.entries ≡ true = lt-ltb n piece.entries h in
-    rw here refl
 
 -- two rows that are apart have no entry in common
 rows_apart : (g : Geometry) (x y x' y' : ℕ) → x < g.width → y < y' → row_start g y + x ≡ row_start g y' + x' → ⊥

@@ -25,6 +25,11 @@ pub total-times : (n : ℕ) (p : List Piece) → total (times n p) ≡ n * total
 total-times zero p = omega arith
 total-times (suc n) p = omega (arith, total-append p (times n p), total-times n p)
 
+-- the plan covers the buffer
+pub total-cutting_plan : (g : Geometry) → total (cutting_plan g) ≡ alloc_size_of g
+total-cutting_plan g =
+    omega (arith, total-append (times g.pad_top (outer_row g)) (times g.height (crossing_row g) ++ times g.pad_bottom (outer_row g)), total-append (times g.height (crossing_row g)) (times g.pad_bottom (outer_row g)), total-times g.pad_top (outer_row g), total-times g.height (crossing_row g), total-times g.pad_bottom (outer_row g))
+
 module _ {T : Type 0} where
   cut_by-append : (p q : List Piece) (xs : List T) → cut_by (p ++ q) xs ≡ cut_by p xs ++ cut_by q (drop (total p) xs)
   cut_by-append [] q xs = refl

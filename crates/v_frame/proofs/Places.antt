@@ -1,8 +1,9 @@
 -- Places of pixels: what stands at one, and that it is the table's pixel inside the rectangle.
 use Rattle.std.proofs.Common.{ℕ, ◌≡◌, ◌+◌, ◌-◌, ◌<◌, ◌≤◌, List, length, take, drop, Option, Some, None, slice_get, option_and_then, option_copied, Bor, All, inl, inr, length-take-le, length-drop, refl, sym, ◌∙◌, ap, arith}
+use Rattle.std.proofs.lemmas.Bool.{cases_lt}
 use Rattle.std.proofs.lemmas.Option.{slice_get_past, slice_get_read, slice_get_cases, get_or_from_slice_get}
 use Rattle.std.specs.Slice.{IsGetResult}
-use Rattle.v_frame.specs.Geometry.{Geometry, alloc_size_of}
+use Rattle.v_frame.specs.Geometry.{Geometry, alloc_size_of, usize_max}
 use Rattle.v_frame.specs.Picture.{Raster, shown, place_of}
 use Rattle.v_frame.specs.Rows.{pixel_at}
 use Rattle.v_frame.proofs.Lists.{slice_get-take, slice_get-drop}
@@ -13,6 +14,10 @@ pub place_within : (g : Geometry) (x y : ℕ) → x < g.width → y < g.height �
 place_within g x y hx hy =
     let high : 0 < g.height = omega arith in
     omega (arith, place_of_row g y high, row_within g y hy)
+
+-- a place that can't be counted lies past a buffer whose size can
+pub past_counting : (size place : ℕ) → (place ≤ usize_max → ⊥) → size ≤ usize_max → size ≤ place
+past_counting size place above fits = elim (cases_lt usize_max place) [ inl past ↦ omega arith | inr within ↦ absurd (above within) ]
 
 -- what `get` reads, copied
 pub copied_get : {X : Type 0} (xs : List X) (i : ℕ) (r : Option (Bor X)) → IsGetResult xs i i r → option_copied r ≡ slice_get xs i

@@ -2,6 +2,7 @@
 use Rattle.std.proofs.Common.{ℕ, ◌≡◌, ◌+◌, ◌<◌, List, [], ◌∷◌, ◌++◌, length, take, get_or, Some, Any, length-take, refl, sym, ◌∙◌, ap, arith}
 use Rattle.std.proofs.lemmas.List.{take_more, take-take, get_or-take}
 use Rattle.v_frame.specs.Shown.{Tables, KeepsBorder}
+use Rattle.v_frame.specs.Bytes.{PixelForm}
 use Rattle.v_frame.specs.Replay.{written_plane, WritesPlane, reply_to, answers_to, tables_after}
 use Rattle.v_frame.specs.declared.frame.Frame.{Frame}
 use Rattle.v_frame.specs.declared.replay.call.VisibleCall.{VisibleCall}
@@ -13,30 +14,32 @@ any_of_front P xs n h =
     let within : h.0 < length xs = omega (arith, h.2, length-take n xs) in
     (h.0, h.1, within, sym (get_or-take n xs h.0 h.1 front) ∙ h.3, h.4)
 
-module _ {T : Type 0} where
+module _ {T : Type 0} (form : PixelForm T) where
   answers_to-push : (calls : List (VisibleCall T)) (call : VisibleCall T) (tables : Tables T)
-      → answers_to (calls ++ call ∷ []) tables ≡ answers_to calls tables ++ (reply_to call (tables_after calls tables)).answer ∷ []
+      → answers_to form (calls ++ call ∷ []) tables ≡ answers_to form calls tables ++ (reply_to form call (tables_after form calls tables)).answer ∷ []
   answers_to-push [] call tables = refl
   answers_to-push (first ∷ calls) call tables =
-      ap (λ answers. (reply_to first tables).answer ∷ answers) (answers_to-push calls call (reply_to first tables).tables)
+      ap (λ answers. (reply_to form first tables).answer ∷ answers) (answers_to-push calls call (reply_to form first tables).tables)
 
   tables_after-push : (calls : List (VisibleCall T)) (call : VisibleCall T) (tables : Tables T)
-      → tables_after (calls ++ call ∷ []) tables ≡ (reply_to call (tables_after calls tables)).tables
+      → tables_after form (calls ++ call ∷ []) tables ≡ (reply_to form call (tables_after form calls tables)).tables
   tables_after-push [] call tables = refl
-  tables_after-push (first ∷ calls) call tables = tables_after-push calls call (reply_to first tables).tables
+  tables_after-push (first ∷ calls) call tables = tables_after-push calls call (reply_to form first tables).tables
 
   -- one more call of a list
   module _ (calls : List (VisibleCall T)) (i : ℕ) (call : VisibleCall T) (within : i < length calls) (here : call ≡ get_or calls i call) where
     so_far : take (i + 1) calls ≡ take i calls ++ call ∷ []
     so_far = take_more calls i call within ∙ ap (λ c. take i calls ++ c ∷ []) (sym here)
 
-    pub answers_more : (old : Tables T) → answers_to (take (i + 1) calls) old ≡ answers_to (take i calls) old ++ (reply_to call (tables_after (take i calls) old)).answer ∷ []
-    answers_more old = ap (λ cs. answers_to cs old) so_far ∙ answers_to-push (take i calls) call old
+    pub answers_more : (old : Tables T) → answers_to form (take (i + 1) calls) old ≡ answers_to form (take i calls) old ++ (reply_to form call (tables_after form (take i calls) old)).answer ∷ []
+    answers_more old = ap (λ cs. answers_to form cs old) so_far ∙ answers_to-push (take i calls) call old
 
-    pub tables_more : (old : Tables T) → tables_after (take (i + 1) calls) old ≡ (reply_to call (tables_after (take i calls) old)).tables
-    tables_more old = ap (λ cs. tables_after cs old) so_far ∙ tables_after-push (take i calls) call old
+    pub tables_more : (old : Tables T) → tables_after form (take (i + 1) calls) old ≡ (reply_to form call (tables_after form (take i calls) old)).tables
+    tables_more old = ap (λ cs. tables_after form cs old) so_far ∙ tables_after-push (take i calls) call old
 
-    -- planes that the first calls may write, and that one more may
+module _ {T : Type 0} where
+  -- planes that the first calls may write, and that one more may
+  module _ (calls : List (VisibleCall T)) (i : ℕ) (call : VisibleCall T) (within : i < length calls) (here : call ≡ get_or calls i call) where
     pub written_before : (index : ℕ) → WritesPlane (take i calls) index → WritesPlane (take (i + 1) calls) index
     written_before index h =
         let again : take i (take (i + 1) calls) ≡ take i calls = take-take i (i + 1) calls (omega arith) in

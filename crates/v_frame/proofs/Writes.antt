@@ -1,11 +1,11 @@
 -- An entry that is set inside the rectangle is a pixel of the table, and leaves the border.
-use Rattle.std.proofs.Common.{ℕ, ◌≡◌, ◌+◌, ◌<◌, ◌≤◌, ◌↔◌, List, ◌++◌, length, take, drop, Option, Some, None, IsNone, OnSome, MutBor, subst, true, false, inl, inr, slice_get, slice_set, refl, sym, ◌∙◌, ap, arith, length-take-le, length-drop, length-set}
+use Rattle.std.proofs.Common.{ℕ, ◌≡◌, ◌+◌, ◌<◌, ◌≤◌, ◌↔◌, List, ◌++◌, length, take, drop, Option, Some, None, IsNone, MutBor, true, false, inl, inr, slice_get, slice_set, refl, sym, ◌∙◌, ap, arith, length-take-le, length-drop, length-set}
 use Rattle.std.specs.Option.{option_copied_mut}
 use Rattle.std.proofs.lemmas.Option.{slice_get_cases, slice_get_past}
 use Rattle.v_frame.specs.Geometry.{alloc_size_of}
 use Rattle.v_frame.specs.Picture.{Raster, raster, shown, border_of, place_of}
-use Rattle.v_frame.specs.Rows.{with_pixel, with_row_by}
-use Rattle.v_frame.specs.Written.{WritesEntry, WritesPixel}
+use Rattle.v_frame.specs.Rows.{with_pixel, with_item_by}
+use Rattle.v_frame.specs.Written.{with_entry, WritesPixel, WritesEachPixel}
 use Rattle.v_frame.proofs.Lists.{set_in_part}
 use Rattle.v_frame.proofs.Pictures.{row_start, place_of_row, row_within, shown_row, overwritten, shown_overwritten, border_overwritten}
 
@@ -31,24 +31,21 @@ module _ {T : Type 0} (p : Raster T) (x y : ℕ) (pixel : T) (wide : x < p.geome
   shown_set : shown (raster p.geometry (slice_set p.buffer (place_of p.geometry x y) pixel)) ≡ with_pixel (shown p) x y pixel
   unfolding row
   shown_set =
-      ap (λ b. shown (raster p.geometry b)) entry_is_in_row ∙ shown_overwritten p.geometry p.buffer (slice_set row x pixel) y high new_length (omega (arith, row_within p.geometry y high)) ∙ ap (with_row_by (λ r. slice_set r x pixel) (shown p) y) (sym (shown_row p y high))
+      ap (λ b. shown (raster p.geometry b)) entry_is_in_row ∙ shown_overwritten p.geometry p.buffer (slice_set row x pixel) y high new_length (omega (arith, row_within p.geometry y high)) ∙ ap (with_item_by (λ r. slice_set r x pixel) (shown p) y) (sym (shown_row p y high))
 
   border_set : border_of (raster p.geometry (slice_set p.buffer (place_of p.geometry x y) pixel)) ≡ border_of p
   border_set =
       ap (λ b. border_of (raster p.geometry b)) entry_is_in_row ∙ border_overwritten p.geometry p.buffer (slice_set row x pixel) y high new_length (omega (arith, row_within p.geometry y high))
 
-  pub writes_pixel : WritesPixel p x y (raster p.geometry (slice_set p.buffer (place_of p.geometry x y) pixel)) pixel
-  writes_pixel = record { border = border_set; table = shown_set }
+  pub writes_pixel : WritesPixel p x y (with_entry p x y pixel) pixel
+  writes_pixel = record { geometry = refl; border = border_set; table = shown_set }
+
+pub writes_each_pixel : {T : Type 0} (p : Raster T) (x y : ℕ) → x < p.geometry.width → y < p.geometry.height → length p.buffer ≡ alloc_size_of p.geometry → WritesEachPixel p x y
+writes_each_pixel p x y wide high whole = λ pixel. writes_pixel p x y pixel wide high whole
 
 -- what the code's write at a place leaves
-pub writes_at : {T : Type 0} (p : Raster T) (x y place : ℕ) (entry : T) → length p.buffer ≡ alloc_size_of p.geometry → place ≡ place_of p.geometry x y
-    → WritesEntry p x y (raster p.geometry (slice_set p.buffer place entry)) entry × (x < p.geometry.width → y < p.geometry.height → WritesPixel p x y (raster p.geometry (slice_set p.buffer place entry)) entry)
-writes_at p x y place entry whole at =
-    (record { geometry = refl; buffer = ap (λ k. slice_set p.buffer k entry) at }, λ wide high. subst (λ k. WritesPixel p x y (raster p.geometry (slice_set p.buffer k entry)) entry) (sym at) (writes_pixel p x y entry wide high whole))
-
-pub on_some : {A : Type 0} (r : Option A) {P : Type 0} → P → OnSome r P
-on_some None h = tt
-on_some (Some x) h = h
+pub set_at : {T : Type 0} (p : Raster T) (x y place : ℕ) (entry : T) → place ≡ place_of p.geometry x y → raster p.geometry (slice_set p.buffer place entry) ≡ with_entry p x y entry
+set_at p x y place entry at = ap (λ k. raster p.geometry (slice_set p.buffer k entry)) at
 
 -- a place has no entry exactly past the end
 pub none_past : {X : Type 0} (r : Option (MutBor X)) (xs : List X) (place : ℕ) → option_copied_mut r ≡ slice_get xs place → IsNone r ↔ (length xs ≤ place)

@@ -17,5 +17,9 @@ abbrev pub LendsPart : (T : RattleType) → MutBor (List T.Denot) → ℕ → Mu
 LendsPart T buffer start r = Lends (the_row T) (Array T 0) buffer r (with_part buffer.now start)
 
 -- once the borrow r ends, the buffer has at the place what r shows last
-abbrev pub LendsEntry : (T : RattleType) → MutBor (List T.Denot) → ℕ → Option (MutBor T.Denot) → Fml
-LendsEntry T buffer place r = LendsIf (the_row T) T buffer r (slice_set buffer.now place) buffer.now
+abbrev pub LendsEntry : (T : RattleType) → MutBor (List T.Denot) → ℕ → MutBor T.Denot → Fml
+LendsEntry T buffer place r = Lends (the_row T) T buffer r (slice_set buffer.now place)
+
+-- the same, where the buffer has that place; else nothing is lent
+abbrev pub LendsEntryIf : (T : RattleType) → MutBor (List T.Denot) → ℕ → Option (MutBor T.Denot) → Fml
+LendsEntryIf T buffer place r = LendsIf (the_row T) T buffer r (slice_set buffer.now place) buffer.now

@@ -1,9 +1,10 @@
 -- Laws of the definitions, and of built frames, each carried by a function of the module `laws`.
-use Rattle.std.specs.Prelude.{ℕ, ◌≡◌, ◌*◌, ◌/◌, ◌<◌, ◌≤◌, true, length, All, Some, IfSome, option_map}
-use Rattle.v_frame.specs.Geometry.{Geometry, alloc_size_of}
+use Rattle.std.specs.Prelude.{ℕ, ◌≡◌, ◌+◌, ◌*◌, ◌/◌, ◌<◌, ◌≤◌, true, length, All, Some, None, IfSome, option_map, slice_get}
+use Rattle.v_frame.specs.Geometry.{Geometry, stride_of, alloc_height_of, alloc_size_of}
 use Rattle.v_frame.specs.Chroma.{has_quotient, chroma_size_of}
 use Rattle.v_frame.specs.Asked.{Asked}
-use Rattle.v_frame.specs.Picture.{Raster, Visible, cutting_plan, mark_at, shown, border_of, place_of}
+use Rattle.v_frame.specs.Picture.{Raster, Mark, Border, Visible, cutting_plan, mark_at, shown, border_of, place_of}
+use Rattle.v_frame.specs.Rows.{pixel_at}
 use Rattle.v_frame.specs.declared.chroma.ChromaSubsampling.{ChromaSubsampling}
 use Rattle.v_frame.specs.declared.frame.Frame.{Frame}
 
@@ -17,6 +18,30 @@ pub record HasPlaces (g : Geometry) : Type 0 where
   pub within : (x y : ℕ) → x < g.width → y < g.height → place_of g x y < alloc_size_of g
   pub visible : (x y : ℕ) → x < g.width → y < g.height → mark_at (cutting_plan g) (place_of g x y) ≡ Some Visible
   pub apart : (x y x' y' : ℕ) → x < g.width → y < g.height → x' < g.width → y' < g.height → place_of g x y ≡ place_of g x' y' → (x ≡ x') × (y ≡ y')
+
+-- the mark of the place in each row and column of the buffer: border above, below and on both sides of what is visible.
+-- Past the buffer there is none
+pub record HasMarks (g : Geometry) : Type 0 where
+  pub above : (row column : ℕ) → row < g.pad_top → column < stride_of g → mark_at (cutting_plan g) (row * stride_of g + column) ≡ Some Border
+  pub left : (y column : ℕ) → y < g.height → column < g.pad_left → mark_at (cutting_plan g) ((g.pad_top + y) * stride_of g + column) ≡ Some Border
+  pub visible : (x y : ℕ) → x < g.width → y < g.height → mark_at (cutting_plan g) ((g.pad_top + y) * stride_of g + (g.pad_left + x)) ≡ Some Visible
+  pub right : (y column : ℕ) → y < g.height → g.pad_left + g.width ≤ column → column < stride_of g → mark_at (cutting_plan g) ((g.pad_top + y) * stride_of g + column) ≡ Some Border
+  pub below : (row column : ℕ) → g.pad_top + g.height ≤ row → row < alloc_height_of g → column < stride_of g → mark_at (cutting_plan g) (row * stride_of g + column) ≡ Some Border
+  pub past : (place : ℕ) → alloc_size_of g ≤ place → mark_at (cutting_plan g) place ≡ None
+
+module _ {T : Type 0} where
+  -- the entry at the place of each visible pixel is that pixel
+  abbrev pub HoldsPixels : Raster T → Type 0
+  HoldsPixels p = (x y : ℕ) → x < p.geometry.width → y < p.geometry.height → slice_get p.buffer (place_of p.geometry x y) ≡ pixel_at (shown p) x y
+
+  -- two planes hold the same entry at each place of a mark
+  abbrev pub AgreeAt : Mark → Raster T → Raster T → Type 0
+  AgreeAt mark p q = (place : ℕ) → mark_at (cutting_plan p.geometry) place ≡ Some mark → slice_get p.buffer place ≡ slice_get q.buffer place
+
+  -- planes that hold the same at each visible place show the same, and those that do at each border place have one border
+  pub record IsMadeOfEntries (p q : Raster T) : Type 0 where
+    pub table : AgreeAt Visible p q → shown p ≡ shown q
+    pub border : AgreeAt Border p q → border_of p ≡ border_of q
 
 -- the exact quotient of a by a ratio is the number that gives a again, where there is one
 pub record IsQuotient (a ratio : ℕ) : Type 0 where

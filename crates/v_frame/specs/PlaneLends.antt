@@ -1,9 +1,9 @@
 -- What a plane ends as, where a `&mut` into its buffer was lent.
-use Rattle.std.specs.Prelude.{ℕ, ◌≡◌, ◌<◌, List, length, Option, OnSome, IfSome}
-use Rattle.std.specs.Borrow.{Lends, LendsSo, Fml, RattleType, MutBor, Array}
+use Rattle.std.specs.Prelude.{ℕ, ◌≡◌, List, length, Option, IfSome}
+use Rattle.std.specs.Borrow.{Lends, LendsIf, LendsSo, Fml, RattleType, MutBor, Array}
 use Rattle.std.specs.List.{refill}
 use Rattle.v_frame.specs.Picture.{Raster, raster}
-use Rattle.v_frame.specs.Written.{WritesRow, with_row, WritesEntry, WritesPixel}
+use Rattle.v_frame.specs.Written.{WritesRow, with_row, with_entry}
 use Rattle.v_frame.specs.contracts.plane.Plane.{the_row}
 
 module _ (T : RattleType) (plane : MutBor (Raster T.Denot)) where
@@ -20,5 +20,9 @@ module _ (T : RattleType) (plane : MutBor (Raster T.Denot)) where
   LendsRow y r = LendsSo (the_row T) (Array T 0) plane r (λ new row. IfSome r (λ lent. length row ≡ length lent.now → WritesRow plane.now y new row)) (λ new. new ≡ plane.now)
 
   -- once the borrow r ends, the entry at the place of (x, y) is what r shows last, and all else is as before
-  abbrev pub LendsEntry : ℕ → ℕ → Option (MutBor T.Denot) → Fml
-  LendsEntry x y r = LendsSo (the_row T) T plane r (λ new entry. OnSome r (WritesEntry plane.now x y new entry × (x < plane.now.geometry.width → y < plane.now.geometry.height → WritesPixel plane.now x y new entry))) (λ new. new ≡ plane.now)
+  abbrev pub LendsVisiblePixel : ℕ → ℕ → MutBor T.Denot → Fml
+  LendsVisiblePixel x y r = Lends (the_row T) T plane r (with_entry plane.now x y)
+
+  -- the same, where there is such an entry; else nothing is lent, and the plane is as before
+  abbrev pub LendsPixel : ℕ → ℕ → Option (MutBor T.Denot) → Fml
+  LendsPixel x y r = LendsIf (the_row T) T plane r (with_entry plane.now x y) plane.now

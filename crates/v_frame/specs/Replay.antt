@@ -1,12 +1,15 @@
 -- Visible calls on plain tables of rows. Nothing here knows a padding, a border or a buffer.
-use Rattle.std.specs.Prelude.{ℕ, ◌≡◌, ◌<◌, List, [], ◌∷◌, length, take, Option, Some, None, slice_get, Any}
-use Rattle.v_frame.specs.Rows.{Table, width_of, height_of, pixel_at, with_writes, with_pixel}
-use Rattle.v_frame.specs.Copy.{packed_copy}
+use Rattle.std.specs.Prelude.{ℕ, ◌≡◌, ◌<◌, List, [], ◌∷◌, length, take, map, Option, Some, None, slice_get, Any}
+use Rattle.v_frame.specs.Rows.{Table, width_of, height_of, pixel_at, row_major, with_writes, with_pixel}
+use Rattle.v_frame.specs.Copy.{CopyOutcome, packed_copy}
+use Rattle.v_frame.specs.Bytes.{PixelForm, byte_list, strided_copy, packed_byte_copy}
+use Rattle.v_frame.specs.Walk.{draws_answer}
+use Rattle.v_frame.specs.WritingWalk.{side_of_row, side_of_pixel, rows_written, pixels_written}
 use Rattle.v_frame.specs.Shown.{Tables, table_at, with_table}
 use Rattle.v_frame.specs.declared.replay.call.VisibleCall.{VisibleCall}
-use Rattle.v_frame.specs.declared.replay.call.VisibleCall.TheVariants.{Width, Height, Row, RowMut, Pixel, PixelMut, CopyFromSlice}
+use Rattle.v_frame.specs.declared.replay.call.VisibleCall.TheVariants.{Width, Height, Row, RowMut, Pixel, PixelMut, CopyFromSlice, CopyFromU8Slice, CopyFromU8SliceWithStride, Rows, Pixels, ByteData, RowsMut, PixelsMut}
 use Rattle.v_frame.specs.declared.replay.answer.Answer.{Answer}
-use Rattle.v_frame.specs.declared.replay.answer.Answer.TheVariants.{NoPlane, OutsideRectangle, Number, RowShown, PixelShown, Copied}
+use Rattle.v_frame.specs.declared.replay.answer.Answer.TheVariants.{NoPlane, OutsideRectangle, Number, RowShown, PixelShown, Copied, RowsWalked, PixelsWalked, BytesWalked}
 
 -- what a call answers, and the table that it leaves
 pub record TableReply (T : Type 0) : Type 0 where
@@ -28,6 +31,13 @@ module _ {T : Type 0} where
   named_plane (Pixel plane x y) = plane
   named_plane (PixelMut plane x y value) = plane
   named_plane (CopyFromSlice plane source) = plane
+  named_plane (CopyFromU8Slice plane source) = plane
+  named_plane (CopyFromU8SliceWithStride plane source stride) = plane
+  named_plane (Rows plane draws) = plane
+  named_plane (Pixels plane draws) = plane
+  named_plane (ByteData plane draws) = plane
+  named_plane (RowsMut plane draws) = plane
+  named_plane (PixelsMut plane draws) = plane
 
   -- the plane that a call may write
   abbrev pub written_plane : VisibleCall T → Option ℕ
@@ -38,6 +48,13 @@ module _ {T : Type 0} where
   written_plane (Pixel plane x y) = None
   written_plane (PixelMut plane x y value) = Some plane
   written_plane (CopyFromSlice plane source) = Some plane
+  written_plane (CopyFromU8Slice plane source) = Some plane
+  written_plane (CopyFromU8SliceWithStride plane source stride) = Some plane
+  written_plane (Rows plane draws) = None
+  written_plane (Pixels plane draws) = None
+  written_plane (ByteData plane draws) = None
+  written_plane (RowsMut plane draws) = Some plane
+  written_plane (PixelsMut plane draws) = Some plane
 
   -- some call of the list may write the plane of this index
   abbrev pub WritesPlane : List (VisibleCall T) → ℕ → Type 0
@@ -47,6 +64,11 @@ module _ {T : Type 0} where
   answer_of_pixel None = OutsideRectangle
   answer_of_pixel (Some pixel) = PixelShown pixel
 
+  abbrev pub copied : CopyOutcome T → TableReply T
+  copied copy = record { answer = Copied copy.answer; table = copy.table }
+
+-- what calls answer and leave, where this is how pixels stand in bytes
+module _ {T : Type 0} (form : PixelForm T) where
   -- a call on the table of its plane
   abbrev pub on_table : VisibleCall T → Table T → TableReply T
   on_table (Width plane) rows = record { answer = Number (width_of rows); table = rows }
@@ -55,8 +77,18 @@ module _ {T : Type 0} where
   on_table (RowMut plane y writes) rows = record { answer = RowShown (slice_get rows y); table = with_writes rows y writes }
   on_table (Pixel plane x y) rows = record { answer = answer_of_pixel (pixel_at rows x y); table = rows }
   on_table (PixelMut plane x y value) rows = record { answer = answer_of_pixel (pixel_at rows x y); table = with_pixel rows x y value }
-  on_table (CopyFromSlice plane source) rows =
-      let copy = packed_copy rows source in record { answer = Copied copy.answer; table = copy.table }
+  on_table (CopyFromSlice plane source) rows = copied (packed_copy rows source)
+  on_table (CopyFromU8Slice plane source) rows = copied (packed_byte_copy form.size form.pixel_of rows source)
+  on_table (CopyFromU8SliceWithStride plane source stride) rows = copied (strided_copy form.size form.pixel_of rows source stride)
+  on_table (Rows plane draws) rows = record { answer = RowsWalked (length rows) (draws_answer rows draws); table = rows }
+  on_table (Pixels plane draws) rows =
+      let pixels = row_major rows in record { answer = PixelsWalked (length pixels) (draws_answer pixels draws); table = rows }
+  on_table (ByteData plane draws) rows =
+      let bytes = byte_list form.size form.value rows in record { answer = BytesWalked (length bytes) (draws_answer bytes draws); table = rows }
+  on_table (RowsMut plane draws) rows =
+      record { answer = RowsWalked (length rows) (draws_answer rows (map side_of_row draws)); table = rows_written rows draws }
+  on_table (PixelsMut plane draws) rows =
+      let pixels = row_major rows in record { answer = PixelsWalked (length pixels) (draws_answer pixels (map side_of_pixel draws)); table = pixels_written rows draws }
 
   -- a call on tables, where the plane that it names has this one or none
   abbrev pub on_tables : VisibleCall T → Tables T → Option (Table T) → Reply T

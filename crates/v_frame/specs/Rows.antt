@@ -1,6 +1,11 @@
 -- Tables of rows: their sizes, their pixels, their row-major list, and what is written into them.
 use Rattle.std.specs.Prelude.{ℕ, List, [], ◌∷◌, ◌++◌, length, Option, Some, None, slice_get, slice_set, unwrap_or, option_and_then}
 
+-- a list with its item of a number changed, where it has one
+abbrev pub with_item_by : {X : Type 0} → (X → X) → List X → ℕ → Option X → List X
+with_item_by change items number None = items
+with_item_by change items number (Some item) = slice_set items number (change item)
+
 -- the rows of a plane, from the top, each from the left
 abbrev pub Table : Type 0 → Type 0
 Table T = List (List T)
@@ -28,15 +33,10 @@ module _ {T : Type 0} where
   overwritten_row (pixel ∷ row) [] = pixel ∷ row
   overwritten_row (pixel ∷ row) (write ∷ writes) = unwrap_or write pixel ∷ overwritten_row row writes
 
-  -- the table with its row y changed, where it has one
-  abbrev pub with_row_by : (List T → List T) → Table T → ℕ → Option (List T) → Table T
-  with_row_by change rows y None = rows
-  with_row_by change rows y (Some row) = slice_set rows y (change row)
-
   -- the table with its row y overwritten
   abbrev pub with_writes : Table T → ℕ → List (Option T) → Table T
-  with_writes rows y writes = with_row_by (λ row. overwritten_row row writes) rows y (slice_get rows y)
+  with_writes rows y writes = with_item_by (λ row. overwritten_row row writes) rows y (slice_get rows y)
 
   -- the table with the pixel of column x in row y replaced
   abbrev pub with_pixel : Table T → ℕ → ℕ → T → Table T
-  with_pixel rows x y pixel = with_row_by (λ row. slice_set row x pixel) rows y (slice_get rows y)
+  with_pixel rows x y pixel = with_item_by (λ row. slice_set row x pixel) rows y (slice_get rows y)

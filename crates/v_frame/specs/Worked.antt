@@ -8,6 +8,7 @@ use Rattle.v_frame.specs.Subsampled.{subsampled}
 use Rattle.v_frame.specs.Asked.{Asked}
 use Rattle.v_frame.specs.Buildable.{refusal_of}
 use Rattle.v_frame.specs.Shown.{Tables}
+use Rattle.v_frame.specs.Bytes.{one_byte}
 use Rattle.v_frame.specs.Replay.{answers_to, tables_after}
 use Rattle.v_frame.specs.declared.chroma.ChromaSubsampling.{ChromaSubsampling}
 use Rattle.v_frame.specs.declared.chroma.ChromaSubsampling.TheVariants.{Yuv420, Yuv422, Yuv444, Monochrome}
@@ -105,21 +106,21 @@ abbrev six_calls : List (VisibleCall ℕ)
 six_calls =
     CopyFromSlice 0 (1 ∷ 2 ∷ 3 ∷ 4 ∷ 5 ∷ []) ∷ CopyFromSlice 0 (1 ∷ 2 ∷ 3 ∷ 4 ∷ 5 ∷ 6 ∷ []) ∷ Pixel 0 2 1 ∷ Pixel 0 3 0 ∷ Row 0 2 ∷ Width 1 ∷ []
 
-six_answers : answers_to six_calls blank ≡ Copied (Err (DataLength 6 5)) ∷ Copied (Ok tt) ∷ PixelShown 6 ∷ OutsideRectangle ∷ RowShown None ∷ NoPlane ∷ []
+six_answers : answers_to one_byte six_calls blank ≡ Copied (Err (DataLength 6 5)) ∷ Copied (Ok tt) ∷ PixelShown 6 ∷ OutsideRectangle ∷ RowShown None ∷ NoPlane ∷ []
 six_answers = refl
 
-table_left : (tables_after six_calls blank).y ≡ (1 ∷ 2 ∷ 3 ∷ []) ∷ (4 ∷ 5 ∷ 6 ∷ []) ∷ []
+table_left : (tables_after one_byte six_calls blank).y ≡ (1 ∷ 2 ∷ 3 ∷ []) ∷ (4 ∷ 5 ∷ 6 ∷ []) ∷ []
 table_left = refl
 
 -- writes that leave gaps and run past the row, and a pixel replaced, on the table that is left
 abbrev two_writes : List (VisibleCall ℕ)
 two_writes = RowMut 0 0 (None ∷ Some 8 ∷ None ∷ Some 5 ∷ []) ∷ PixelMut 0 2 1 9 ∷ PixelMut 0 3 0 7 ∷ []
 
-old_pixels : answers_to two_writes (tables_after six_calls blank) ≡ RowShown (Some (1 ∷ 2 ∷ 3 ∷ [])) ∷ PixelShown 6 ∷ OutsideRectangle ∷ []
+old_pixels : answers_to one_byte two_writes (tables_after one_byte six_calls blank) ≡ RowShown (Some (1 ∷ 2 ∷ 3 ∷ [])) ∷ PixelShown 6 ∷ OutsideRectangle ∷ []
 old_pixels = refl
 
-short_and_below : (tables_after (RowMut 0 1 (Some 7 ∷ []) ∷ RowMut 0 2 (Some 8 ∷ []) ∷ []) (tables_after six_calls blank)).y ≡ (1 ∷ 2 ∷ 3 ∷ []) ∷ (7 ∷ 5 ∷ 6 ∷ []) ∷ []
+short_and_below : (tables_after one_byte (RowMut 0 1 (Some 7 ∷ []) ∷ RowMut 0 2 (Some 8 ∷ []) ∷ []) (tables_after one_byte six_calls blank)).y ≡ (1 ∷ 2 ∷ 3 ∷ []) ∷ (7 ∷ 5 ∷ 6 ∷ []) ∷ []
 short_and_below = refl
 
-new_pixels : (tables_after two_writes (tables_after six_calls blank)).y ≡ (1 ∷ 8 ∷ 3 ∷ []) ∷ (4 ∷ 5 ∷ 9 ∷ []) ∷ []
+new_pixels : (tables_after one_byte two_writes (tables_after one_byte six_calls blank)).y ≡ (1 ∷ 8 ∷ 3 ∷ []) ∷ (4 ∷ 5 ∷ 9 ∷ []) ∷ []
 new_pixels = refl

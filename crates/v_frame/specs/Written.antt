@@ -19,12 +19,16 @@ module _ {T : Type 0} where
   abbrev pub WritesEachRow : Raster T → ℕ → List T → Type 0
   WritesEachRow plane y old = (row : List T) → length row ≡ length old → WritesRow plane y (with_row plane y row) row
 
-  -- the entry at the place of (x, y) is another one, and all else is as before
-  pub record WritesEntry (old : Raster T) (x y : ℕ) (new : Raster T) (entry : T) : Type 0 where
-    pub geometry : new.geometry ≡ old.geometry
-    pub buffer : new.buffer ≡ slice_set old.buffer (place_of old.geometry x y) entry
+  -- the plane with another entry at the place of (x, y), which may lie in the border, and all else as before
+  abbrev pub with_entry : Raster T → ℕ → ℕ → T → Raster T
+  with_entry plane x y entry = raster plane.geometry (slice_set plane.buffer (place_of plane.geometry x y) entry)
 
-  -- inside the rectangle that entry is the table's pixel, and the border is as before
+  -- the pixel of column x in row y of the table is another one, and all else is as before
   pub record WritesPixel (old : Raster T) (x y : ℕ) (new : Raster T) (pixel : T) : Type 0 where
+    pub geometry : new.geometry ≡ old.geometry
     pub border : border_of new ≡ border_of old
     pub table : shown new ≡ with_pixel (shown old) x y pixel
+
+  -- so any pixel is written as the pixel of column x in row y of the table
+  abbrev pub WritesEachPixel : Raster T → ℕ → ℕ → Type 0
+  WritesEachPixel plane x y = (pixel : T) → WritesPixel plane x y (with_entry plane x y pixel) pixel

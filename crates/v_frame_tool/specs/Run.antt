@@ -4,7 +4,7 @@ use Rattle.v_frame.specs.Shown.{Tables}
 use Rattle.v_frame.specs.declared.replay.call.VisibleCall.{VisibleCall}
 use Rattle.v_frame.specs.declared.replay.call.VisibleCall.TheVariants.{Width, Height, Row, CopyFromSlice}
 use Rattle.v_frame.specs.declared.replay.answer.Answer.{Answer}
-use Rattle.v_frame.specs.declared.replay.answer.Answer.TheVariants.{Copied}
+use Rattle.v_frame.specs.declared.replay.answer.Answer.TheVariants.{Number, RowShown, Copied}
 use Rattle.v_frame.specs.declared.frame.error.FrameError.TheVariants.{OutOfMemory as NoRoomForFrame}
 use Rattle.v_frame.specs.declared.plane.error.CopyError.{CopyError}
 use Rattle.v_frame.specs.declared.plane.error.CopyError.TheVariants.{DataLength}
@@ -27,6 +27,11 @@ IsCopied (Some answer) = (copied : Result (Unit {0}) CopyError) × (answer ≡ C
 
 abbrev pub StartsWithCopy : List (Answer ℕ) → Type 0
 StartsWithCopy answers = IsCopied (slice_get answers 0)
+
+-- the answers are a width, a height and two rows
+abbrev pub IsSizeAndRows : List (Answer ℕ) → Type 0
+IsSizeAndRows (Number width ∷ Number height ∷ RowShown (Some first) ∷ RowShown (Some second) ∷ []) = ⊤
+IsSizeAndRows _ = ⊥
 
 -- the fault may come for this source, with these counts of failures before and after
 abbrev pub IsDue : List ℕ → ℕ → ℕ → ToolFault → Type 0

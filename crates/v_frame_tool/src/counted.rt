@@ -49,7 +49,8 @@ impl<D: io::Write> Counted<D> {
     /// One call of `write` of the writer. An error of it is counted, an interrupted write too.
     pub fn write(&mut self, buf: &[u8]) -> io::Result<usize>
         ensures bound { WritesAtMost result buf.now }
-        ensures bytes { WriteAppends (D.contents self.old.inner) (D.contents self.new.inner) result buf.now }
+        ensures bytes { WriteAppends (D.contents self.old.inner) (D.contents self.new.inner)
+            result buf.now }
         ensures ok { OnOk result (self.new.failures ≡ self.old.failures) }
         ensures err { OnErr result (self.new.failures ≡ min (self.old.failures + 1) u64_max) }
     {

@@ -1,5 +1,6 @@
 //! Why the program gave up.
 
+use std::alloc::AllocError;
 use thiserror::Error;
 use v_frame::frame::FrameError;
 use v_frame::plane::CopyError;
@@ -22,4 +23,15 @@ pub enum ToolFault {
     /// A write took none of the bytes that it was offered.
     #[error("write took nothing")]
     WriteZero,
+}
+
+impl From<AllocError> for ToolFault {
+    ghost use Rattle.std.specs.Prelude.{◌≡◌};
+    ghost use Rattle.v_frame_tool.specs.declared.fault.ToolFault.TheVariants.{OutOfMemory};
+
+    ghost from_gives = { λ refused fault. fault ≡ OutOfMemory };
+
+    fn from(_refused: AllocError) -> Self {
+        ToolFault::OutOfMemory
+    }
 }

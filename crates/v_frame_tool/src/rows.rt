@@ -1,14 +1,24 @@
 //! Tests by public calls, with expected values that were worked out by hand.
 
+mod builds;
+mod byte_walks;
+mod bytes;
+mod chroma;
 mod counted;
+mod debugs;
 mod frames;
 mod geometry;
 mod laws;
 mod planes;
 mod program;
 mod refusals;
+mod replayed_bytes;
+mod replayed_walks;
+mod replayed_writing_walks;
 mod replays;
 mod subsampling;
 mod texts;
+mod walks;
 mod writers;
 mod writes;
+mod writing_walks;

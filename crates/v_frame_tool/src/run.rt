@@ -4,10 +4,11 @@ ghost use Rattle.std.specs.Io.KnownBytes.{Appends};
 ghost use Rattle.v_frame.specs.Copy.{cut_rows};
 ghost use Rattle.v_frame_tool.specs.Counted.{HasFailed};
 ghost use Rattle.v_frame.specs.Shown.{tables_of};
+ghost use Rattle.v_frame.specs.Bytes.{one_byte};
 ghost use Rattle.v_frame.specs.Replay.{answers_to};
 ghost use Rattle.v_frame.specs.declared.replay.answer.Answer.TheVariants.{Copied, Number, RowShown};
 ghost use Rattle.v_frame_tool.specs.Printed.{sized_rows, printed, line_of};
-ghost use Rattle.v_frame_tool.specs.Run.{blank_tables, calls_on, StartsWithCopy, IsDue};
+ghost use Rattle.v_frame_tool.specs.Run.{blank_tables, calls_on, StartsWithCopy, IsSizeAndRows, IsDue};
 
 use crate::counted::Counted;
 use crate::fault::ToolFault;
@@ -27,22 +28,25 @@ pub fn run<W: io::Write>(
     ensures length { OnOk result (length source.now ≡ 8) }
     ensures ok { OnOk result (Appends (W.contents out.old.inner) (W.contents out.new.inner)
         (printed (cut_rows 4 2 source.now))) }
+    ensures uncounted { OnOk result (out.new.failures ≡ out.old.failures) }
     ensures other_length { length source.now ≢ 8 → out.new ≡ out.old }
     ensures fault { IfErr result (IsDue source.now out.old.failures out.new.failures) }
 {
     let mut answers = answers_of_frame(alloc, source)?;
     take_copied(&mut answers).map_err(ToolFault::Copy)?;
-    let text = text_of(alloc, answers.as_slice()).map_err(|_| ToolFault::OutOfMemory)?;
+    let text = text_of(alloc, answers.as_slice())?;
     write_text(out, text.as_bytes())
 }
 
 /// What a small frame answers when it is filled with the pixels of `source`, measured and read.
 fn answers_of_frame(alloc: Global, source: &[u8]) -> Result<Vec<Answer<u8>>, ToolFault>
-    ensures ok { IfOk result (λ answers. answers.items ≡ answers_to (calls_on source.now) blank_tables) }
-    ensures fault { IfErr result (λ fault. (fault ≡ ToolFault.Frame FrameError.OutOfMemory) ⊎ (fault ≡ ToolFault.OutOfMemory)) }
+    ensures ok { IfOk result (λ answers.
+        answers.items ≡ answers_to one_byte (calls_on source.now) blank_tables) }
+    ensures fault { IfErr result (λ fault. (fault ≡ ToolFault.Frame FrameError.OutOfMemory)
+        ⊎ (fault ≡ ToolFault.OutOfMemory)) }
 {
     let mut frame = small_frame(alloc)?;
-    let source = Vec::from_slice(alloc, source).map_err(|_| ToolFault::OutOfMemory)?;
+    let source = Vec::from_slice(alloc, source)?;
     let calls = [
         VisibleCall::CopyFromSlice {
             plane: 0,
@@ -83,7 +87,9 @@ fn take_copied(answers: &mut Vec<Answer<u8>>) -> Result<(), CopyError>
 
 /// Writes all of the text.
 fn write_text<W: io::Write>(out: &mut Counted<W>, text: &[u8]) -> Result<(), ToolFault>
-    ensures ok { OnOk result (Appends (W.contents out.old.inner) (W.contents out.new.inner) text.now) }
+    ensures ok { OnOk result (Appends (W.contents out.old.inner) (W.contents out.new.inner)
+        text.now) }
+    ensures uncounted { OnOk result (out.new.failures ≡ out.old.failures) }
     ensures fault { IfErr result (λ fault. (fault ≡ ToolFault.WriteZero)
         ⊎ ((fault ≡ ToolFault.Output) × HasFailed out.old.failures out.new.failures)) }
 {
@@ -100,22 +106,25 @@ fn write_text<W: io::Write>(out: &mut Counted<W>, text: &[u8]) -> Result<(), Too
 
 /// The text of a width, a height and two rows.
 fn text_of(alloc: Global, answers: &[Answer<u8>]) -> Result<String, AllocError>
+    requires { IsSizeAndRows answers.now }
     ensures { (width height : ℕ) (first second : List ℕ)
-        → answers.now ≡ Number width ∷ Number height ∷ RowShown (Some first) ∷ RowShown (Some second) ∷ []
+        → answers.now ≡ Number width ∷ Number height
+        ∷ RowShown (Some first) ∷ RowShown (Some second) ∷ []
         → IfOk result (λ text. string_bytes text ≡ sized_rows width height (first ∷ second ∷ [])) }
 {
-    let mut text = String::new(alloc);
-    if let [
+    let [
         Answer::Number(width),
         Answer::Number(height),
         Answer::RowShown(Some(first)),
         Answer::RowShown(Some(second)),
     ] = answers
-    {
-        writeln!(text, "plane 0: {width} x {height}")?;
-        push_row(&mut text, first.as_slice())?;
-        push_row(&mut text, second.as_slice())?;
-    }
+    else {
+        unreachable!()
+    };
+    let mut text = String::new(alloc);
+    writeln!(text, "plane 0: {width} x {height}")?;
+    push_row(&mut text, first.as_slice())?;
+    push_row(&mut text, second.as_slice())?;
     Ok(text)
 }
 

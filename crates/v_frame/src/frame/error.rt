@@ -1,5 +1,6 @@
 //! Why a frame can't be built.
 
+use std::alloc::AllocError;
 use thiserror::Error;
 
 /// Why [`FrameBuilder::build`](super::FrameBuilder::build) gave no frame.
@@ -23,4 +24,15 @@ pub enum FrameError {
     /// A request for memory was refused.
     #[error("out of memory")]
     OutOfMemory,
+}
+
+impl From<AllocError> for FrameError {
+    ghost use Rattle.std.specs.Prelude.{◌≡◌};
+    ghost use Rattle.v_frame.specs.declared.frame.error.FrameError.TheVariants.{OutOfMemory};
+
+    ghost from_gives = { λ refused error. error ≡ OutOfMemory };
+
+    fn from(_refused: AllocError) -> Self {
+        FrameError::OutOfMemory
+    }
 }

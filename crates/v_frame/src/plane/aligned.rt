@@ -1,8 +1,8 @@
 //! The buffer of a plane: a list of fixed length.
-ghost use Rattle.std.specs.Prelude.{◌≡◌, ◌≤◌, length, replicate, slice_get, slice_range, IfOk};
+ghost use Rattle.std.specs.Prelude.{◌≡◌, ◌<◌, ◌≤◌, length, replicate, Some, slice_get, slice_range, IfOk};
 ghost use Rattle.std.specs.Option.{option_copied_mut};
 ghost use Rattle.std.specs.Borrow.{sem};
-ghost use Rattle.v_frame.specs.AlignedData.{LendsEntries, LendsPart, LendsEntry};
+ghost use Rattle.v_frame.specs.AlignedData.{LendsEntries, LendsPart, LendsEntry, LendsEntryIf};
 
 use std::alloc::{AllocError, Global};
 use std::marker::Model;
@@ -58,9 +58,18 @@ impl<T> AlignedData<T> {
         self.entries.slice_mut(start..end)
     }
 
+    /// The entry at a place for writing.
+    pub(crate) fn entry_mut(&mut self, place: usize) -> &mut T
+        requires { place < length self.old }
+        ensures* writes_back { sem 𝓛 (LendsEntry T.row self.entry place result) }
+        ensures value { slice_get self.old place ≡ Some result.now }
+    {
+        &mut self.entries[place]
+    }
+
     /// The entry at a place for writing, where there is one.
     pub(crate) fn get_mut(&mut self, place: usize) -> Option<&mut T>
-        ensures* writes_back { sem 𝓛 (LendsEntry T.row self.entry place result) }
+        ensures* writes_back { sem 𝓛 (LendsEntryIf T.row self.entry place result) }
         ensures value { option_copied_mut result ≡ slice_get self.old place }
     {
         self.entries.get_mut(place)

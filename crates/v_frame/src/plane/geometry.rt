@@ -198,10 +198,27 @@ impl PlaneGeometry {
         (size <= isize::MAX as usize / 2).then_some(size)
     }
 
+    /// The number of rows in the buffer. [`checked_alloc_size`](Self::checked_alloc_size) must be `Some`.
+    pub fn alloc_height(&self) -> usize
+        requires { Fits self.now }
+        ensures { result ≡ alloc_height_of self.now }
+    {
+        self.height + self.pad_top + self.pad_bottom
+    }
+
+    /// The number of pixels in the buffer. [`checked_alloc_size`](Self::checked_alloc_size) must be `Some`.
+    pub fn alloc_size(&self) -> usize
+        requires { Fits self.now }
+        ensures { result ≡ alloc_size_of self.now }
+    {
+        self.alloc_height() * self.stride
+    }
+
     /// The place of the pixel (0, 0) in the buffer. [`checked_alloc_size`](Self::checked_alloc_size) must be `Some`.
     pub fn data_origin(&self) -> usize
         requires { Fits self.now }
-        ensures { result ≡ origin_of self.now }
+        ensures value { result ≡ origin_of self.now }
+        ensures within { result < alloc_size_of self.now }
     {
         self.stride * self.pad_top + self.pad_left
     }
@@ -225,17 +242,17 @@ impl PlaneGeometry {
         let Some((ratio_x, ratio_y)) = subsampling.subsample_ratio() else {
             return Ok(None);
         };
-        match self.divided(ratio_x.get(), ratio_y.get()) {
-            Some(chroma) => Ok(Some(chroma)),
-            None => Err(SubsamplingError),
-        }
+        self.divided(ratio_x.get(), ratio_y.get())
+            .map(Some)
+            .ok_or(SubsamplingError)
     }
 
     /// The geometry with its columns divided by one ratio and its rows by the other, where all divide.
     fn divided(self, ratio_x: u8, ratio_y: u8) -> Option<Self>
         requires ratio_x { 0 < ratio_x }
         requires ratio_y { 0 < ratio_y }
-        ensures { SomeIff result (IsTrue (is_divisible ratio_x ratio_y self)) (divided ratio_x ratio_y self) }
+        ensures { SomeIff result (IsTrue (is_divisible ratio_x ratio_y self))
+            (divided ratio_x ratio_y self) }
     {
         let x = usize::from(ratio_x);
         let y = usize::from(ratio_y);
@@ -269,6 +286,17 @@ impl PlaneGeometry {
         self.data_origin() + self.stride * y
     }
 
+    /// The place of a visible pixel.
+    pub(crate) fn visible_place(&self, x: usize, y: usize) -> usize
+        requires fits { Fits self.now }
+        requires wide { x < self.now.width }
+        requires high { y < self.now.height }
+        ensures place { result ≡ place_of self.now x y }
+        ensures within { result < alloc_size_of self.now }
+    {
+        self.row_start(y) + x
+    }
+
     /// The number of visible pixels.
     pub(crate) fn visible_size(&self) -> usize
         requires { Fits self.now }
@@ -283,28 +311,7 @@ impl PlaneGeometry {
         requires { Fits self.now }
         ensures { let place = place_of self.now x y in SomeIff result (place ≤ usize_max) place }
     {
-        self.stride
-            .checked_mul(y)?
-            .checked_add(x)?
-            .checked_add(self.data_origin())
-    }
-
-    /// The number of rows in the buffer. [`checked_alloc_size`](Self::checked_alloc_size) must be `Some`.
-    pub fn alloc_height(&self) -> usize
-        requires { Fits self.now }
-        ensures { result ≡ alloc_height_of self.now }
-    {
-        self.height + self.pad_top + self.pad_bottom
-    }
-
-    /// The number of pixels in the buffer. [`checked_alloc_size`](Self::checked_alloc_size) must be `Some`.
-    pub fn alloc_size(&self) -> usize
-        requires { Fits self.now }
-        ensures { result ≡ alloc_size_of self.now }
-    {
-        self.alloc_height() * self.stride
+        let row = self.stride.checked_mul(y)?;
+        row.checked_add(x)?.checked_add(self.data_origin())
     }
 }
-
-#[cfg(test)]
-mod tests;

@@ -1,6 +1,6 @@
 //! What the visible calls answer.
 
-use super::Sequence;
+use super::{Drawn, Sequence};
 use crate::plane::CopyError;
 
 /// What one call answered. Our own.
@@ -18,6 +18,27 @@ pub enum Answer<T> {
     PixelShown(T),
     /// What the copy answered.
     Copied(Result<(), CopyError>),
+    /// The rows that were drawn.
+    RowsWalked {
+        /// How many rows the walk began with.
+        total: usize,
+        /// The draws, in their order.
+        drawn: Sequence<Drawn<Sequence<T>>>,
+    },
+    /// The pixels that were drawn.
+    PixelsWalked {
+        /// How many pixels the walk began with.
+        total: usize,
+        /// The draws, in their order.
+        drawn: Sequence<Drawn<T>>,
+    },
+    /// The bytes that were drawn.
+    BytesWalked {
+        /// How many bytes the walk began with.
+        total: usize,
+        /// The draws, in their order.
+        drawn: Sequence<Drawn<u8>>,
+    },
 }
 
 /// A request for memory was refused, and the replay stopped there. Our own.

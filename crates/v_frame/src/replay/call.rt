@@ -1,7 +1,7 @@
 //! The visible calls.
 ghost use Rattle.std.specs.Prelude.{◌≡◌};
 
-use super::Sequence;
+use super::{PixelDraw, RowDraw, Sequence, Side};
 
 /// One call on one plane of a frame, as a value.
 ///
@@ -63,6 +63,59 @@ pub enum VisibleCall<T> {
         /// The pixels to copy, row after row.
         source: Sequence<T>,
     },
+    /// [`Plane::copy_from_u8_slice`](crate::plane::Plane::copy_from_u8_slice).
+    CopyFromU8Slice {
+        /// The plane.
+        plane: usize,
+        /// The bytes to copy, row after row, each pixel low byte first.
+        source: Sequence<u8>,
+    },
+    /// [`Plane::copy_from_u8_slice_with_stride`](crate::plane::Plane::copy_from_u8_slice_with_stride).
+    CopyFromU8SliceWithStride {
+        /// The plane.
+        plane: usize,
+        /// The bytes to copy, row after row, each row with its tail.
+        source: Sequence<u8>,
+        /// Bytes from the start of one row of the source to the start of the next.
+        stride: usize,
+    },
+    /// [`Plane::rows`](crate::plane::Plane::rows), drawn from these sides in turn.
+    Rows {
+        /// The plane.
+        plane: usize,
+        /// The sides. Draws past the end of the walk give nothing.
+        draws: Sequence<Side>,
+    },
+    /// [`Plane::pixels`](crate::plane::Plane::pixels), drawn from these sides in turn.
+    Pixels {
+        /// The plane.
+        plane: usize,
+        /// The sides. Draws past the end of the walk give nothing.
+        draws: Sequence<Side>,
+    },
+    /// [`Plane::byte_data`](crate::plane::Plane::byte_data), drawn from these sides in turn.
+    ByteData {
+        /// The plane.
+        plane: usize,
+        /// The sides. Draws past the end of the walk give nothing.
+        draws: Sequence<Side>,
+    },
+    /// The rows of [`Plane::rows`](crate::plane::Plane::rows), drawn from these sides in turn and then overwritten: each
+    /// row as it was is answered.
+    RowsMut {
+        /// The plane.
+        plane: usize,
+        /// The sides, and what each draw writes. Draws past the end of the walk give and write nothing.
+        draws: Sequence<RowDraw<T>>,
+    },
+    /// The pixels of [`Plane::pixels`](crate::plane::Plane::pixels), drawn from these sides in turn and then replaced:
+    /// each pixel as it was is answered.
+    PixelsMut {
+        /// The plane.
+        plane: usize,
+        /// The sides, and what each draw writes. Draws past the end of the walk give and write nothing.
+        draws: Sequence<PixelDraw<T>>,
+    },
 }
 
 impl<T> VisibleCall<T> {
@@ -79,7 +132,14 @@ impl<T> VisibleCall<T> {
             | VisibleCall::RowMut { plane, .. }
             | VisibleCall::Pixel { plane, .. }
             | VisibleCall::PixelMut { plane, .. }
-            | VisibleCall::CopyFromSlice { plane, .. } => *plane,
+            | VisibleCall::CopyFromSlice { plane, .. }
+            | VisibleCall::CopyFromU8Slice { plane, .. }
+            | VisibleCall::CopyFromU8SliceWithStride { plane, .. }
+            | VisibleCall::Rows { plane, .. }
+            | VisibleCall::Pixels { plane, .. }
+            | VisibleCall::ByteData { plane, .. }
+            | VisibleCall::RowsMut { plane, .. }
+            | VisibleCall::PixelsMut { plane, .. } => *plane,
         }
     }
 }

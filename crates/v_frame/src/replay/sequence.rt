@@ -1,13 +1,18 @@
 //! A list inside a call or an answer.
-ghost use Rattle.std.specs.Prelude.{◌≡◌, List};
+ghost use Rattle.std.specs.Prelude.{◌≡◌, ◌^◌, ◌<◌, ◌↔◌, List, [], length, IsTrue};
 ghost use Rattle.std.specs.Cmp.Lexicographic.{pointwise, lists_per, lists_equiv};
+ghost use Rattle.std.specs.Iterator.Runs.{EveryRun, ItemsMapTo};
+ghost use Rattle.std.specs.Slice.Iter.{iter_rest, iter_steps};
+ghost use Rattle.std.specs.Iterator.Adapters.{IterYieldsInOrder, IterYieldsInReverse};
 
-use std::fmt;
+use std::convert::AsSlice;
 use std::marker::Model;
+use std::ops::DerefSlice;
+use std::{fmt, slice};
 
 /// A list that stands in a [`VisibleCall`](super::VisibleCall) or an [`Answer`](super::Answer).
 ///
-/// It is a `Vec` that contracts see as its list. Neither conversion takes memory. Our own.
+/// It is a `Vec` that contracts see as its list, and it reads as a slice does. Neither conversion takes memory. Our own.
 #[derive(Drop)]
 pub struct Sequence<T> {
     items: Vec<T>,
@@ -22,6 +27,30 @@ impl<T> Model for Sequence<T> {
 }
 
 impl<T> Sequence<T> {
+    /// How many items there are.
+    pub fn len(&self) -> usize
+        ensures { result ≡ length self.now }
+    {
+        self.items.len()
+    }
+
+    /// Whether there is no item.
+    pub fn is_empty(&self) -> bool
+        ensures { IsTrue result ↔ (self.now ≡ []) }
+    {
+        self.items.is_empty()
+    }
+
+    /// The items, one after the other.
+    pub fn iter(&self) -> slice::Iter<'_, T>
+        ensures items { iter_rest result ≡ self.now }
+        ensures bound { length (iter_rest result) < 2 ^ 64 }
+        ensures runs { IterYieldsInOrder T }
+        ensures runs_back { IterYieldsInReverse T }
+    {
+        self.items.iter()
+    }
+
     /// The items.
     pub fn as_slice(&self) -> &[T]
         ensures { result.now ≡ self.now }
@@ -42,6 +71,38 @@ impl<T> From<Vec<T>> for Sequence<T> {
 
     fn from(items: Vec<T>) -> Self {
         Sequence { items }
+    }
+}
+
+impl<T> DerefSlice for Sequence<T> {
+    type Elem = T;
+
+    ghost deref_gives = { λ sequence items. items ≡ sequence };
+
+    fn deref(&self) -> &[T] {
+        Sequence::as_slice(self)
+    }
+}
+
+impl<T> AsSlice<T> for Sequence<T> {
+    ghost items = { λ sequence. sequence };
+
+    fn as_slice(&self) -> &[T] {
+        Sequence::as_slice(self)
+    }
+}
+
+impl<'a, T> IntoIterator for &'a Sequence<T> {
+    type Item = &'a T;
+
+    type IntoIter = slice::Iter<'a, T>;
+
+    ghost into_iter_gives = { λ sequence items. (iter_rest items ≡ sequence.now)
+        × (length (iter_rest items) < 2 ^ 64)
+        × EveryRun (iter_steps {A = T}) (λ p. ItemsMapTo p (λ x. x.now) (iter_rest p.from)) };
+
+    fn into_iter(self) -> slice::Iter<'a, T> {
+        self.iter()
     }
 }
 

@@ -1,6 +1,6 @@
 //! Writers whose failures are counted.
 
-use super::writers::{Habit, Stubborn};
+use super::writers::{FailsFirst, Habit, Stubborn};
 use crate::counted::Counted;
 use std::io::{Cursor, ErrorKind};
 
@@ -24,4 +24,16 @@ fn each_failure_is_counted(rt: HostRuntime) {
         assert_eq!(rt; kind, Some(ErrorKind::Interrupted));
         assert_eq!(rt; out.failures(), index as u64 + 1);
     }
+}
+
+#[test]
+fn a_failed_write_is_not_tried_again(rt: HostRuntime) {
+    let (taken, failed) = (Cursor::new([0u8; 64]), false);
+    let mut out = Counted::new(FailsFirst { taken, failed });
+    let kind = out.write(&[1, 2, 3]).err().map(|error| error.kind());
+    assert_eq!(rt; kind, Some(ErrorKind::Interrupted));
+    assert_eq!(rt; out.inner().taken.position(), 0);
+    assert_eq!(rt; out.write(&[4, 5]).ok(), Some(2));
+    assert_eq!(rt; &out.inner().taken.get_ref()[..3], [4, 5, 0].as_slice());
+    assert_eq!(rt; out.failures(), 1);
 }

@@ -30,6 +30,16 @@ pub fn monochrome(
     padded((width, height), ChromaSubsampling::Monochrome, 8, padding).build(alloc)
 }
 
+/// The same of two bytes a pixel.
+pub fn words(
+    alloc: Global,
+    width: usize,
+    height: usize,
+    padding: [usize; 4],
+) -> Result<Frame<u16>, FrameError> {
+    padded((width, height), ChromaSubsampling::Monochrome, 16, padding).build(alloc)
+}
+
 /// The first two rows, where each has three pixels.
 pub fn table_of(plane: &Plane<u8>) -> [Option<[u8; 3]>; 2] {
     [three_of(plane.row(0)), three_of(plane.row(1))]

@@ -2,7 +2,7 @@
 ghost use Rattle.std.specs.Prelude.{◌≡◌, [], ◌∷◌, None, IfOk};
 ghost use Rattle.v_frame.specs.Shown.{tables_of};
 
-use super::frames::{monochrome, padded, table_of};
+use super::frames::padded;
 use super::replays::row_shown;
 use std::alloc::Global;
 use std::cmp::Ordering;
@@ -60,16 +60,6 @@ fn alike_frames_are_replayed_side_by_side(rt: HostRuntime) -> Result<(), Fail> {
     assert_eq!(rt; both.0.as_slice(), wanted.as_slice());
     assert_eq!(rt; both.1.as_slice(), wanted.as_slice());
     assert_eq!(rt; second.y_plane.data(), [0, 0, 0, 0, 0, 5].as_slice());
-    Ok(())
-}
-
-#[test]
-fn a_row_is_reversed(rt: HostRuntime) -> Result<(), Fail> {
-    let mut frame = monochrome(rt.alloc(), 3, 2, [1, 2, 1, 0])?;
-    assert_eq!(rt; frame.y_plane.copy_from_slice(&[1, 2, 3, 4, 5, 6]), Ok(()));
-    laws::row_is_reversed(&mut frame.y_plane, 1);
-    laws::row_is_reversed(&mut frame.y_plane, 2);
-    assert!(rt; table_of(&frame.y_plane) == [Some([1, 2, 3]), Some([6, 5, 4])]);
     Ok(())
 }
 

@@ -1,6 +1,6 @@
 //! The program, over writers into memory and writers that fail.
 
-use super::writers::{Habit, Slow, Stubborn};
+use super::writers::{FailsFirst, Habit, Slow, Stubborn};
 use crate::counted::Counted;
 use crate::fault::ToolFault;
 use crate::run::run;
@@ -45,6 +45,29 @@ fn a_short_source_prints_nothing(rt: HostRuntime) {
     };
     assert_eq!(rt; answer, Err(ToolFault::Copy(refused)));
     assert_eq!(rt; end, 0);
+}
+
+#[test]
+fn sources_of_no_pixel_and_of_nine_print_nothing(rt: HostRuntime) {
+    for source in [[].as_slice(), &[9; 9]] {
+        let (answer, end, _) = written(&rt, source);
+        let refused = CopyError::DataLength {
+            expected: 8,
+            found: source.len(),
+        };
+        assert_eq!(rt; answer, Err(ToolFault::Copy(refused)));
+        assert_eq!(rt; end, 0);
+    }
+}
+
+#[test]
+fn an_interrupted_write_is_not_tried_again(rt: HostRuntime) {
+    let (taken, failed) = (Cursor::new([0u8; 64]), false);
+    let mut out = Counted::new(FailsFirst { taken, failed });
+    let answer = run(rt.alloc(), &mut out, &[1, 2, 3, 4, 5, 6, 7, 8]);
+    assert_eq!(rt; answer, Err(ToolFault::Output));
+    assert_eq!(rt; out.inner().taken.position(), 0);
+    assert_eq!(rt; out.failures(), 1);
 }
 
 #[test]

@@ -53,3 +53,26 @@ impl Write for Slow {
         Ok(())
     }
 }
+
+/// A writer that fails at its first call, and from then on takes all that it has room for.
+#[derive(Drop)]
+pub struct FailsFirst {
+    /// What was taken.
+    pub taken: Cursor<[u8; 64]>,
+    /// Whether it has failed.
+    pub failed: bool,
+}
+
+impl Write for FailsFirst {
+    fn write(&mut self, buf: &[u8]) -> io::Result<usize> {
+        if self.failed {
+            return self.taken.write(buf);
+        }
+        self.failed = true;
+        Err(io::Error::from(ErrorKind::Interrupted))
+    }
+
+    fn flush(&mut self) -> io::Result<()> {
+        Ok(())
+    }
+}

@@ -43,9 +43,14 @@ fn writes_leave_gaps_and_stop_at_the_width(rt: HostRuntime) -> Result<(), Fail> 
     let calls = [
         copy(rt.alloc(), &[1, 2, 3, 4, 5, 6])?,
         row_mut(rt.alloc(), 0, &[None, Some(8), None, Some(5)])?,
+        row_mut(rt.alloc(), 2, &[Some(9)])?,
     ];
     let answers = replay(rt.alloc(), &mut frame, &calls).ok().ok_or("memory")?;
-    let wanted = [Answer::Copied(Ok(())), row_shown(rt.alloc(), &[1, 2, 3])?];
+    let wanted = [
+        Answer::Copied(Ok(())),
+        row_shown(rt.alloc(), &[1, 2, 3])?,
+        Answer::RowShown(None),
+    ];
     assert_eq!(rt; answers.as_slice(), wanted.as_slice());
     assert!(rt; table_of(&frame.y_plane) == [Some([1, 8, 3]), Some([4, 5, 6])]);
     assert_eq!(rt;
@@ -61,7 +66,7 @@ fn writes_leave_gaps_and_stop_at_the_width(rt: HostRuntime) -> Result<(), Fail> 
 }
 
 /// A 2 by 2 plane with one border column to the right, whose buffer is this one.
-fn with_buffer(alloc: Global, buffer: &[u8; 6]) -> Result<Frame<u8>, Fail> {
+pub fn with_buffer(alloc: Global, buffer: &[u8; 6]) -> Result<Frame<u8>, Fail> {
     let mut frame = monochrome(alloc, 2, 2, [0, 1, 0, 0])?;
     let data = frame.y_plane.data_mut();
     if data.len() != 6 {
@@ -98,5 +103,43 @@ fn frames_that_differ_in_the_border_answer_alike(rt: HostRuntime) -> Result<(), 
         assert_eq!(rt; answers.as_slice(), wanted.as_slice());
         assert_eq!(rt; frame.y_plane.data(), after.as_slice());
     }
+    Ok(())
+}
+
+/// Writes a whole row, which has to have this many pixels.
+fn write_row(frame: &mut Frame<u8>, y: usize, pixels: &[u8]) -> Result<(), Fail> {
+    let row = frame.y_plane.row_mut(y).ok_or("a row")?;
+    if row.len() != pixels.len() {
+        return Err("another width".into());
+    }
+    row.copy_from_slice(pixels);
+    Ok(())
+}
+
+#[test]
+fn a_row_written_in_place(rt: HostRuntime) -> Result<(), Fail> {
+    let mut frame = monochrome(rt.alloc(), 4, 3, [0, 0, 0, 0])?;
+    write_row(&mut frame, 1, &[0, 1, 2, 3])?;
+    let plane = &frame.y_plane;
+    let rows = [[0, 0, 0, 0], [0, 1, 2, 3], [0, 0, 0, 0]];
+    for (y, row) in rows.iter().enumerate() {
+        assert_eq!(rt; plane.row(y), Some(row.as_slice()));
+    }
+    assert!(rt; plane.row(3).is_none() && plane.row(100).is_none());
+    Ok(())
+}
+
+#[test]
+fn pixels_written_in_place(rt: HostRuntime) -> Result<(), Fail> {
+    let mut frame = monochrome(rt.alloc(), 4, 4, [0, 0, 0, 0])?;
+    let written = [(0, 0, 10), (2, 1, 20), (3, 3, 30)];
+    for (x, y, value) in written {
+        *frame.y_plane.pixel_mut(x, y).ok_or("a pixel")? = value;
+    }
+    for (x, y, value) in written {
+        assert_eq!(rt; frame.y_plane.pixel(x, y), Some(value));
+    }
+    assert_eq!(rt; frame.y_plane.pixel(1, 1), Some(0));
+    assert_eq!(rt; frame.y_plane.pixel(100, 100), None);
     Ok(())
 }

@@ -1,6 +1,7 @@
 -- One more call: its answer, its tables, and the planes that it may write.
 use Rattle.std.proofs.Common.{◌<◌, List, [], ◌∷◌, ◌++◌, length, take, ◌∙◌, ap, sym, arith}
 use Rattle.v_frame.specs.Shown.{tables_of, plane_at}
+use Rattle.v_frame.specs.Bytes.{PixelForm, pixel_form}
 use Rattle.v_frame.specs.Replay.{reply_to, answers_to}
 use Rattle.v_frame.specs.declared.frame.Frame.{Frame}
 use Rattle.v_frame.specs.declared.replay.answer.Answer.{Answer}
@@ -9,6 +10,7 @@ use Rattle.v_frame.proofs.replay.replay.Goals as goal
 
 pub loop-call-preserved : goal.loop-call-preserved
 loop-call-preserved g c =
+    let form : PixelForm g.row.T.Denot = pixel_form g.T.Pixel.BYTES g.T.Pixel.value g.T.Pixel.pixel_of in
     let calls = c.args.calls.now in
     let i = c.loop-call.call-index in
     let call = c.call-item.result in
@@ -16,8 +18,8 @@ loop-call-preserved g c =
     let so_far = c.loop-call.invariant in
     let did = c.in-Ok-replay_call.ensures in
     record {
-      answers = rw c.unwrap.ensures at c.push.ensures.items ∙ ap (λ (done : List (Answer g.row.T.Denot)). done ++ c.in-Ok-replay_call.answer ∷ []) so_far.answers ∙ ap (λ a. answers_to (take i calls) (tables_of c.args.frame.now) ++ a ∷ []) (did.answer ∙ ap (λ t. (reply_to call t).answer) so_far.tables) ∙ sym (answers_more calls i call within c.call-item.is (tables_of c.args.frame.now));
-      tables = did.tables ∙ ap (λ t. (reply_to call t).tables) so_far.tables ∙ sym (tables_more calls i call within c.call-item.is (tables_of c.args.frame.now));
+      answers = rw c.unwrap.ensures at c.push.ensures.items ∙ ap (λ (done : List (Answer g.row.T.Denot)). done ++ c.in-Ok-replay_call.answer ∷ []) so_far.answers ∙ ap (λ a. answers_to form (take i calls) (tables_of c.args.frame.now) ++ a ∷ []) (did.answer ∙ ap (λ t. (reply_to form call t).answer) so_far.tables) ∙ sym (answers_more form calls i call within c.call-item.is (tables_of c.args.frame.now));
+      tables = did.tables ∙ ap (λ t. (reply_to form call t).tables) so_far.tables ∙ sym (tables_more form calls i call within c.call-item.is (tables_of c.args.frame.now));
       border = keeps_border_twice c.args.frame.now c.loop-call.frame c.replay_call.new.frame so_far.border did.border;
       unwritten = λ index none. did.unwritten index (λ h. none (written_now calls i call within c.call-item.is index h)) ∙ so_far.unwritten index (λ h. none (written_before calls i call within c.call-item.is index h));
       done = omega (arith, rw c.unwrap.ensures at c.push.ensures.len, so_far.done);

@@ -27,15 +27,14 @@ pub returns-in-Some-clause-table : goal.returns-in-Some-clause-table
 returns-in-Some-clause-table g c =
     let wide : c.args.x < c.args.plane.now.geometry.width = omega (arith, c.width.ensures.value) in
     let high : c.args.y < c.args.plane.now.geometry.height = omega (arith, c.height.ensures.value) in
-    let left = rw c.in-Some.is at (c.pixel_mut.follows.holds c.replace.new.dest) in
-    (left.1 wide high).table ∙ ap (with_pixel (shown c.args.plane.now) c.args.x c.args.y) c.replace.ensures.after
+    (c.in-Some.ensures.written wide high c.replace.new.dest).table ∙ ap (with_pixel (shown c.args.plane.now) c.args.x c.args.y) c.replace.ensures.after
 
 pub returns-in-Some-clause-border : goal.returns-in-Some-clause-border
 returns-in-Some-clause-border g c =
     let wide : c.args.x < c.args.plane.now.geometry.width = omega (arith, c.width.ensures.value) in
     let high : c.args.y < c.args.plane.now.geometry.height = omega (arith, c.height.ensures.value) in
-    let left = rw c.in-Some.is at (c.pixel_mut.follows.holds c.replace.new.dest) in
-    λ i. (left.0.geometry i, (left.1 wide high).border i)
+    let left = c.in-Some.ensures.written wide high c.replace.new.dest in
+    λ i. (left.geometry i, left.border i)
 
 -- there is a pixel
 pub returns-in-None-clause-answer : goal.returns-in-None-clause-answer

@@ -1,16 +1,15 @@
 -- `row_mut` tests y and hands on what `visible_row_mut` lends, in a `Some`. Rattle makes no proof where a `&mut [T]` may be lent, so this one follows the code.
-use Rattle.std.proofs.Common.{ℕ, ◌≡◌, ◌<◌, List, [], ◌∷◌, length, Option, Some, None, slice_get, lit<, w64, MutBor, Bor, refl, sym, ap, arith}
+use Rattle.std.proofs.Common.{ℕ, ◌≡◌, ◌<◌, ◌≤◌, ◌↔◌, true, false, List, [], ◌∷◌, length, Option, Some, None, IsNone, slice_get, lit<, w64, MutBor, Bor, refl, sym, ap, arith}
 use Rattle.std.proofs.alloc.Shapes.{after}
 use Rattle.std.proofs.option.Made.{Some-of, none_of}
 use Rattle.std.proofs.raw_atomic.Walks.{proved}
 use Rattle.std.specs.Option.{IfSome, ghost_name_of}
 use Rattle.std.specs.contracts.option.Option as Opt
-use base.Fml.{Lft, fdead, flent, flft, fres, ftrue, Incl-refl}
+use base.Fml.{Lft, flent, flft, fres, ftrue, Incl-refl}
 use base.Fraction.{full_share}
-use base.FractionLaws.{common}
-use base.Logic.{ent, emp, id⊢, sep, wand, apply∗}
+use base.Logic.{ent, emp, id⊢}
 use base.Share
-use contract.BorrowLft.{◌⊑◌, ⊑_refl, ⊑_trans, meet_⊑_left, meet_⊑_right}
+use contract.BorrowLft.{◌⊑◌, ⊑_refl, ⊑_trans, meet_⊑_right}
 use contract.Monad.{fact, fact_i}
 use contract.Running.{tables}
 use denote.Array.{Array}
@@ -32,7 +31,7 @@ use denote.Triple.Call.{calls_at}
 use denote.Triple.Clauses.{Lasts, lasts}
 use denote.Triple.Spec.{triple_of}
 use denote.Triple.Table.{framed}
-use denote.Triple.Walked.{Stays, says, stay_dropped, Goes-dropped, Goes-spent_ref, walk_of, ends_at}
+use denote.Triple.Walked.{Stays, stay_dropped, Goes-dropped, Goes-spent_ref, walk_of, ends_at}
 use lib.Dec.{leb→le, nleb→lt}
 use mir.MapTy.{inst_fn}
 use mir.Syntax.{a_type, named}
@@ -45,13 +44,14 @@ use types.Match.{live}
 use types.Mut.{open_ref, close_ref}
 use types.Part.{agg}
 use types.Run.{enter, lit, addr, bin, stop, no_more, and_then, first, branches, skips, exec, returns, returns_within}
-use types.Tokens.{lft_new, lft_end, lft-common, lent_back}
+use types.Tokens.{lent_back}
 use Rattle.v_frame.specs.Picture.{Raster, shown}
 use Rattle.v_frame.specs.Rows.{height_of}
 use Rattle.v_frame.specs.Written.{WritesRow, WritesEachRow, with_row}
 use Rattle.v_frame.specs.PlaneLends.{LendsRow}
 use Rattle.v_frame.specs.contracts.plane.Plane.{the_row}
 use Rattle.v_frame.proofs.plane.Plane.TheLaws.{the_row_laws, the_within}
+use Rattle.v_frame.proofs.Loans.{lft_over, lft_within, share_within}
 use Rattle.v_frame.proofs.Places.{no_row_below}
 use Rattle.v_frame.specs.contracts.plane.Plane.height
 use Rattle.v_frame.proofs.plane.Plane.height.Met as height_met
@@ -63,6 +63,9 @@ use Rattle.v_frame.proofs.plane.Plane.row_mut.Code as code
 
 abbrev stayed : (T : RattleType) → Stays (row_mut.ended T).signature.params (row_mut.ended T).kept
 stayed T = (stay_dropped _ no, (stay_dropped _ yes, tt))
+
+is_lent : {X : Type 0} (r : MutBor X) → IsNone (Some r) → ⊥
+is_lent r h = let no : true ≡ false = h in cc
 
 -- a plane that ends as `with_row` says, or as it was where no row is lent, ends as the clause says
 told : {M : Type 1} {𝓤 : Ura M} (𝓛 : Logic 𝓤) (T : RattleType) (plane : MutBor (Raster T.Denot)) (y : ℕ) (r : Option (MutBor (List T.Denot)))
@@ -99,17 +102,15 @@ row_mut_spec 𝓤 𝓛 𝓜 𝓡 wired T laws =
     enter ! _ _ _ _ _ $ alloc_all ! (λ l. pass_all ! refl ((tt, tt), ((tt, record { fits = are.1.0.1 }), tt)) $
     sets ! (addr ! (through ! refl (stop !))) refl (tt, tt) $
     -- the plane is shared with `height` for a lifetime κ', which is made for that call
-    lft_new ! tt (λ α.
-    let κ' : Lft = α ∷ κT in let s = (common full_share qT).0 in
-    let Joined = wand 𝓤 (𝓛.A.lft κ' s) (sep 𝓤 (𝓛.A.lft (α ∷ []) full_share) (𝓛.A.lft κT qT)) in
+    move ! (2 ∷ []) $ lft_within ! tt κT qT (λ α.
+    let κ' : Lft = α ∷ κT in let s = share_within qT in
     let within : κ' ⊑ T.lives = ⊑_trans κ' κT T.lives (meet_⊑_right (α ∷ []) κT) inT in
     let shared : Bor (Raster T.Denot) = record { ref_ptr = self.ref_ptr; now = self.now } in
-    -- [the token of α; self; the token of κ; the token of κT; the locals]
-    move ! (0 ∷ 3 ∷ []) $ use2 𝓛 (‵ (flft κ' s) ⊛ raw Joined) (lft-common 𝓛 (α ∷ []) κT full_share qT) $ split ! $
+    -- [the token of κ'; the way back to that of κT; self; the token of κ; the locals]
     move ! (2 ∷ 3 ∷ []) $ fsplit3 ! $ drop ! $ open_ref ! tt (mem Plane) $ move ! (0 ∷ 4 ∷ []) $
     use2 𝓛 (later ((‵ ((ShrRef (named 0) κ' Plane).own_val shared (shr_vals shared)) ⊛ ‵ (flent κ' (part_at Plane full_share self.now b o))) ⊛ ‵ (flft κ' s)))
     (lends_shr 𝓛 Plane (named 0) κ' full_share self.now b o Plane.lives ((the_row_laws item (param_laws 0 T laws)).shares 𝓛 self.now) ((κ', s) ∷ []) (the_within item κ' within) (Incl-refl κ')) $ await ! tt $ split ! $ split ! $
-    -- [the plane, shared; the right to it; the token of κ'; self, open, in three entries; the way back to the tokens; the locals]
+    -- [the plane, shared; the right to it; the token of κ'; self, open, in three entries; the way back to that of κT; the locals]
     let Height = triple_of 𝓛 (height.signature T) (height.spec T 𝓛 𝓜.mem 𝓡.returns) in
     let asked : Height.Ghost = (((κ', (κ', tt)), (Share.left s, (Share.right s, tt)), (⊑_refl κ', tt), (shared, tt), (shr_vals shared, tt)), tt) in
     nothing ! $ move ! (1 ∷ 0 ∷ []) $ join ! $ move ! (2 ∷ []) $ use1 𝓛 (‵ (flft κ' (Share.left s)) ⊛ ‵ (flft κ' (Share.right s))) (𝓛.lfts.lft_split κ' s) $ split ! $
@@ -120,8 +121,7 @@ row_mut_spec 𝓤 𝓛 𝓜 𝓡 wired T laws =
     use1 𝓛 (later (some (λ (r : ℕ). ((‵ (flft κ' (Share.left s)) ⊛ ‵ (flft κ' (Share.right s)) ⊛ ‵ ftrue) ⊛ ‵ (usize.own_val r (v ∷ []))) ⊛
     some (λ (ws : Lasts (height.ended T) asked.0.0 asked.0.3). ‵ (lasts (height.ended T) asked.0.0 asked.0.3 ws) ⊛ raw (fact 𝓤 (r ≡ self.now.geometry.height)) ⊛ raw (fact 𝓤 (0 < r)) ⊛ raw (fact 𝓤 (r ≡ height_of (shown self.now))))))) (id⊢ 𝓤 _) $
     await ! tt $ pick ! (λ rows. split ! $ split ! $ split3 ! $ use2 𝓛 (‵ (flft κ' s)) (𝓛.lfts.lft_join κ' s) $
-    move ! (0 ∷ 8 ∷ []) $ use2 𝓛 (‵ (flft (α ∷ []) full_share) ⊛ ‵ (flft κT qT)) (apply∗ 𝓤 (𝓛.A.lft κ' s) _) $ split ! $ lft_end ! tt $
-    use1 𝓛 (‵ (fdead κ')) (𝓛.lfts.dead-incl κ' (α ∷ []) (meet_⊑_left (α ∷ []) κT)) $
+    move ! (0 ∷ 8 ∷ []) $ lft_over ! tt α κT qT $
     -- [κ' is over; the token of κT; nothing; the height; what the call ensures; the right to the plane; self, open; the locals]
     move ! (0 ∷ 5 ∷ []) $ lent_back ! tt $ move ! (0 ∷ 5 ∷ 6 ∷ 7 ∷ []) $ close_ref ! tt (mem Plane) self.now $ feq_i ! (List Val) (mut_vals self) (mut_vals self) refl $ fjoin3 ! $
     -- [self; the token of κ; that of κT; nothing; the height; what the call ensures; the locals]
@@ -140,7 +140,9 @@ row_mut_spec 𝓤 𝓛 𝓜 𝓡 wired T laws =
     use0 𝓛 (‵ ((Opt.the_row Row).own_val None (live 0 (of_list []) ∷ []))) (none_of 𝓛 Row) $
     suffices ! _ (ends_at 𝓛 (row_mut.ended T) (stayed T) c bound (live 0 (of_list [])) None (tt, (tt, tt)) (tt, (tt, tt))) $
     nothing ! $ nothing ! $ fjoin ! $ nothing ! $ fjoin ! $ join ! $ nothing ! $ move ! (4 ∷ 0 ∷ []) $ join ! $ move ! (3 ∷ 0 ∷ []) $ join ! $ join ! $
-    frame ! $ says ! (sym (no_row_below self.now y (omega (arith, leb→le rows y below, is_height)))) $ done !)
+    let past : self.now.geometry.height ≤ y = omega (arith, leb→le rows y below, is_height) in
+    frame ! $ use0 𝓛 (raw (fact 𝓤 (IsNone {T = MutBor (List T.Denot)} None ↔ (self.now.geometry.height ≤ y)))) (fact_i 𝓤 _ (emp 𝓤) (λ _. past, λ _. refl)) $
+    use0 𝓛 (raw (fact 𝓤 (None ≡ slice_get (shown self.now) y))) (fact_i 𝓤 _ (emp 𝓤) (sym (no_row_below self.now y past))) $ join ! $ move ! (1 ∷ 0 ∷ []) $ join ! $ done !)
     -- inside it the plane ends as the row that is lent says
     (λ within_rows.
     skips ! $ exec ! 𝓣.C 𝓣.Λ (env function.locals l) (after 4 function.body) (at_ret _ (Walk.post bound)) $
@@ -169,4 +171,6 @@ row_mut_spec 𝓤 𝓛 𝓜 𝓡 wired T laws =
     use1 𝓛 (‵ (LendsRow item self y (Some r))) (told 𝓛 item self y (Some r) written) $
     move ! (1 ∷ []) $ use1 𝓛 (‵ ((Opt.the_row Row).own_val (Some r) (out ∷ []))) (Some-of 𝓛 Row r part) $
     suffices ! _ (ends_at 𝓛 (row_mut.ended T) (stayed T) c bound out (Some r) (tt, (tt, tt)) (tt, (tt, tt))) $
-    nothing ! $ nothing ! $ fjoin ! $ nothing ! $ fjoin ! $ join ! $ move ! (2 ∷ 0 ∷ []) $ join ! $ frame ! $ says ! (sym value) $ done !)))))))))))))))))
+    nothing ! $ nothing ! $ fjoin ! $ nothing ! $ fjoin ! $ join ! $ move ! (2 ∷ 0 ∷ []) $ join ! $ frame ! $
+    use0 𝓛 (raw (fact 𝓤 (IsNone (Some r) ↔ (self.now.geometry.height ≤ y)))) (fact_i 𝓤 _ (emp 𝓤) (λ h. absurd (is_lent r h), λ past. absurd (omega (arith, past, inside)))) $
+    use0 𝓛 (raw (fact 𝓤 (Some r.now ≡ slice_get (shown self.now) y))) (fact_i 𝓤 _ (emp 𝓤) (sym value)) $ join ! $ move ! (1 ∷ 0 ∷ []) $ join ! $ done !)))))))))))))))))

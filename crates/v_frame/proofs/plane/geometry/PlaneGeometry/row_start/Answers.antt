@@ -8,10 +8,10 @@ pub overflow_add-result : goal.overflow_add-result
 overflow_add-result c =
     let g = c.args.self.now in
     let stride : c.self.inside.stride ≡ stride_of g = rw (← c.self.view_is) c.self.invariant.0 in
-    let within = row_start_within g c.data_origin.result c.self.inside.stride c.args.y c.data_origin.ensures stride c.requires.inside in
+    let within = row_start_within g c.data_origin.result c.self.inside.stride c.args.y c.data_origin.ensures.value stride c.requires.inside in
     omega (arith, c.requires.fits)
 
 pub returns-clause-within : goal.returns-clause-within
 returns-clause-within c =
     let stride : c.self.inside.stride ≡ stride_of c.args.self.now = rw (← c.self.view_is) c.self.invariant.0 in
-    row_start_within c.args.self.now c.data_origin.result c.self.inside.stride c.args.y c.data_origin.ensures stride c.requires.inside
+    row_start_within c.args.self.now c.data_origin.result c.self.inside.stride c.args.y c.data_origin.ensures.value stride c.requires.inside

@@ -1,0 +1,66 @@
+-- Bytes that go through a frame: it is built, filled by a copy with a stride, and walked over its bytes.
+use Rattle.std.proofs.Common.{ℕ, ◌≡◌, ◌*◌, ◌^◌, ◌<◌, ◌≤◌, Bool, true, false, ◌&&◌, ◌||◌, ltb, if◌then◌else◌, List, [], ◌∷◌, length, Some, None, Result, Ok, Err, refl, ◌∙◌, ap}
+use Rattle.std.specs.Prelude.{MatchOption, IsOkUnless, is_ok}
+use Rattle.std.proofs.lemmas.Bool.{ltb-true}
+use Rattle.std.proofs.lemmas.List.{length-replicate}
+use Rattle.v_frame.specs.Geometry.{alloc_size_of}
+use Rattle.v_frame.specs.Picture.{filled, shown}
+use Rattle.v_frame.specs.Rows.{Table, width_of, height_of, row_major}
+use Rattle.v_frame.specs.Copy.{CopyOutcome}
+use Rattle.v_frame.specs.Bytes.{PixelForm, fronts, byte_list, strided_table}
+use Rattle.v_frame.specs.Shown.{Tables}
+use Rattle.v_frame.specs.Walk.{draws_answer}
+use Rattle.v_frame.specs.Replay.{answers_to}
+use Rattle.v_frame.specs.Asked.{Asked, luma_geometry}
+use Rattle.v_frame.specs.Buildable.{is_laid_out, is_mismatch, refusal_of}
+use Rattle.v_frame.specs.Subsampled.{subsampled}
+use Rattle.v_frame.specs.declared.frame.error.FrameError.TheVariants.{UnsupportedBitDepth, DataTypeMismatch, UnsupportedResolution}
+use Rattle.v_frame.specs.declared.frame.error.FrameError.{FrameError}
+use Rattle.v_frame.specs.declared.replay.draw.Side.{Side}
+use Rattle.v_frame.specs.declared.replay.call.VisibleCall.TheVariants.{CopyFromU8SliceWithStride, ByteData}
+use Rattle.v_frame.specs.declared.replay.answer.Answer.{Answer}
+use Rattle.v_frame.specs.declared.replay.answer.Answer.TheVariants.{Copied, BytesWalked}
+use Rattle.v_frame.proofs.BytesBack.{AreBytes, table_comes_back}
+use Rattle.v_frame.proofs.ByteLaws.{accepted_copy}
+use Rattle.v_frame.proofs.ChromaLemmas.{both_true}
+use Rattle.v_frame.proofs.CopyLemmas.{width_of_shown, height_of_shown}
+
+module _ {X : Type 0} (r : Result X FrameError) (built : X) (is : r ≡ Ok built) where
+  -- what was not refused has passed each test
+  passed : (a b c : Bool) (e f g o : FrameError) → MatchOption (if a then Some e else (if b then Some f else (if c then None else Some g))) (IsOkUnless r o) (λ fault. r ≡ Err fault) → c ≡ true
+  passed a b true e f g o h = refl
+  passed true b false e f g o h = cc
+  passed false true false e f g o h = cc
+  passed false false false e f g o h = cc
+
+  -- so a frame that was built has a height
+  pub built_high : (bytes : ℕ) (asked : Asked) (o : FrameError) → MatchOption (refusal_of bytes asked) (IsOkUnless r o) (λ fault. r ≡ Err fault) → 0 < asked.height
+  built_high bytes asked o h =
+      let depth = asked.bit_depth in
+      let luma = luma_geometry asked in
+      let all = passed (ltb depth 8 || ltb 16 depth) (is_mismatch bytes depth) (is_laid_out luma && is_ok (subsampled asked.subsampling luma)) (UnsupportedBitDepth depth) DataTypeMismatch UnsupportedResolution o h in
+      let laid_out = both_true (is_laid_out luma) (is_ok (subsampled asked.subsampling luma)) all in
+      let wide = both_true (ltb 0 asked.width) _ laid_out.0 in
+      ltb-true 0 asked.height (both_true (ltb 0 asked.height) _ wide.1).0
+
+module _ {T : Type 0} where
+  module _ (zero : T) (asked : Asked) where
+    abbrev blank : Table T
+    blank = shown (filled zero (luma_geometry asked))
+
+    pub blank_width : 0 < asked.height → width_of blank ≡ asked.width
+    blank_width high = width_of_shown (filled zero (luma_geometry asked)) high (length-replicate (alloc_size_of (luma_geometry asked)) zero)
+
+    pub blank_height : height_of blank ≡ asked.height
+    blank_height = height_of_shown (filled zero (luma_geometry asked))
+
+  -- what the copy and the walk answer
+  module _ (form : PixelForm T) (back : (v : ℕ) → v < 256 ^ form.size → form.value (form.pixel_of v) ≡ v) (source : List ℕ) (bytes : AreBytes source) (stride : ℕ) (sides : List Side) where
+    pub path_answers : (tables : Tables T) (width height : ℕ) → width_of tables.y ≡ width → height_of tables.y ≡ height → width * form.size ≤ stride → length source ≡ stride * height
+        → answers_to form (CopyFromU8SliceWithStride 0 source stride ∷ ByteData 0 sides ∷ []) tables
+        ≡ Copied (Ok tt) ∷ BytesWalked (length (row_major (fronts (width * form.size) stride height source))) (draws_answer (row_major (fronts (width * form.size) stride height source)) sides) ∷ []
+    path_answers tables width height w h fits whole =
+        let walked : List ℕ → List (Answer T) = λ list. Copied (Ok tt) ∷ BytesWalked (length list) (draws_answer list sides) ∷ [] in
+        let table = strided_table form.size form.pixel_of width height stride source in
+        let copy = accepted_copy form.size form.pixel_of tables.y source stride width height w h fits whole in
+        ap (λ (o : CopyOutcome T). Copied o.answer ∷ BytesWalked (length (byte_list form.size form.value o.table)) (draws_answer (byte_list form.size form.value o.table) sides) ∷ []) copy ∙ ap walked (table_comes_back form.size form.value form.pixel_of back width height stride source fits whole bytes)

@@ -1,0 +1,10 @@
+use Rattle.std.proofs.Common.{arith}
+use Rattle.v_frame.specs.Picture.{shown}
+use Rattle.v_frame.proofs.BytesBack.{AreBytes}
+use Rattle.v_frame.proofs.ByteLaws.{packed_bytes}
+use Rattle.v_frame.proofs.laws.bytes.bytes_come_back.Goals as goal
+
+pub returns-clause-bytes : goal.returns-clause-bytes
+returns-clause-bytes g c =
+    let bytes : AreBytes c.args.src.now = record { below = λ i. omega (arith, c.type_inv.src i) } in
+    packed_bytes g.T.Pixel.BYTES g.T.Pixel.value g.T.Pixel.pixel_of g.met.T.Pixel.value_of_pixel (shown c.args.plane.now) (shown c.copy_from_u8_slice.new.self) c.args.src.now bytes c.copy_from_u8_slice.result c.copy_from_u8_slice.ensures.answer c.copy_from_u8_slice.ensures.table

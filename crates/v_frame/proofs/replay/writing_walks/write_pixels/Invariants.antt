@@ -1,0 +1,19 @@
+-- The table is what the draws so far leave, and the pixels that no draw took lie between the two places.
+use Rattle.std.proofs.Common.{◌≡◌, ◌+◌, ◌*◌, ◌<◌, length, map, take}
+use Rattle.v_frame.specs.Picture.{shown}
+use Rattle.v_frame.specs.Rows.{row_major}
+use Rattle.v_frame.specs.Copy.{cut_rows}
+use Rattle.v_frame.specs.Shown.{unshown}
+use Rattle.v_frame.specs.Walk.{fronts, backs}
+use Rattle.v_frame.specs.WritingWalk.{side_of_pixel, pixel_written, walk_leaves}
+use Rattle.v_frame.proofs.replay.writing_walks.write_pixels.Given as goal
+
+abbrev pub invariant-loop-draw : goal.invariant-loop-draw
+invariant-loop-draw g l = record {
+  table : shown l.plane ≡ cut_rows l.width (length (shown l.fn.plane)) (walk_leaves side_of_pixel pixel_written (row_major (shown l.fn.plane)) (take l.draw-index l.taken));
+  border : unshown l.plane ≡ unshown l.fn.plane;
+  front : l.front.y * l.width + l.front.x ≡ fronts (map side_of_pixel (take l.draw-index l.taken));
+  front_inside : l.front.x < l.width;
+  back : l.back.y * l.width + l.back.x + backs (map side_of_pixel (take l.draw-index l.taken)) ≡ length (row_major (shown l.fn.plane));
+  back_inside : l.back.x < l.width;
+}

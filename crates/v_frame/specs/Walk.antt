@@ -1,0 +1,78 @@
+-- Walks over a list of anything, drawn from both ends.
+use Rattle.std.specs.Prelude.{ℕ, ◌≡◌, ◌-◌, nat_lt, if◌then◌else◌, Bool, true, false, not, List, [], ◌∷◌, ◌++◌, length, take, drop, reverse, count_by, Option, None, slice_get}
+use Rattle.std.specs.Option.{option_to_list}
+use Rattle.v_frame.specs.declared.replay.draw.Side.{Side}
+use Rattle.v_frame.specs.declared.replay.draw.Side.TheVariants.{Front, Back}
+use Rattle.v_frame.specs.declared.replay.draw.Drawn.{Drawn}
+
+-- how many of some draws were from the front, and how many from the back
+abbrev pub is_front : Side → Bool
+is_front Front = true
+is_front Back = false
+
+abbrev pub fronts : List Side → ℕ
+fronts sides = count_by is_front sides
+
+abbrev pub backs : List Side → ℕ
+backs sides = count_by (λ side. not (is_front side)) sides
+
+-- the number of the item that a draw takes of so many items, after some draws
+abbrev pub number_of_item : Side → ℕ → List Side → ℕ
+number_of_item Front items before = fronts before
+number_of_item Back items before = items - 1 - backs before
+
+module _ {X : Type 0} where
+  -- between two draws a walk is the list of the items left: a draw gives the first or the last of them, where there is one, and leaves the others
+  abbrev pub item_from : Side → List X → Option X
+  item_from Front items = slice_get items 0
+  item_from Back items = slice_get items (length items - 1)
+
+  abbrev pub left_by : Side → List X → List X
+  left_by Front items = drop 1 items
+  left_by Back items = take (length items - 1) items
+
+  -- what draws give one after another, and the items that they leave
+  abbrev pub drawn_in_turn : List X → List Side → List (Drawn X)
+  drawn_in_turn items [] = []
+  drawn_in_turn items (side ∷ sides) = record { item = item_from side items; left = length (left_by side items) } ∷ drawn_in_turn (left_by side items) sides
+
+  abbrev pub left_in_turn : List X → List Side → List X
+  left_in_turn items [] = items
+  left_in_turn items (side ∷ sides) = left_in_turn (left_by side items) sides
+
+  -- by counts: what a draw gives after some draws, where these were fewer than the items
+  abbrev pub item_after : List X → List Side → Side → Option X
+  item_after items before side = if nat_lt (length before) (length items) then slice_get items (number_of_item side (length items) before) else None
+
+  -- what draws give after those before them, and how many items each leaves
+  abbrev pub drawn_after : List X → List Side → List Side → List (Drawn X)
+  drawn_after items before [] = []
+  drawn_after items before (side ∷ sides) = record { item = item_after items before side; left = length items - length before - 1 } ∷ drawn_after items (before ++ side ∷ []) sides
+
+  -- what the draws of a walk answer
+  abbrev pub draws_answer : List X → List Side → List (Drawn X)
+  draws_answer items sides = drawn_after items [] sides
+
+  -- the items of those answers that were drawn from one side, in their order
+  abbrev pub given_by : Side → Side → Option X → List X
+  given_by Front Front item = option_to_list item
+  given_by Front Back item = []
+  given_by Back Front item = []
+  given_by Back Back item = option_to_list item
+
+  abbrev pub given_from : Side → List Side → List (Drawn X) → List X
+  given_from side [] answers = []
+  given_from side (drawn ∷ sides) [] = []
+  given_from side (drawn ∷ sides) (answer ∷ answers) = given_by side drawn answer.item ++ given_from side sides answers
+
+-- draws told by counts are the same as draws one after another
+abbrev pub AreCounted : Type 0 → Type 0
+AreCounted X = (items : List X) (sides : List Side) → draws_answer items sides ≡ drawn_in_turn items sides
+
+-- the front draws gave the items from the front on, the back draws those from the back on, and what is left lies between
+abbrev pub AreDrawnOnce : {X : Type 0} → List X → List Side → List (Drawn X) → Type 0
+AreDrawnOnce items sides answers = items ≡ given_from Front sides answers ++ (left_in_turn items sides ++ reverse (given_from Back sides answers))
+
+-- and nothing is left
+abbrev pub AreAllGiven : {X : Type 0} → List X → List Side → List (Drawn X) → Type 0
+AreAllGiven items sides answers = items ≡ given_from Front sides answers ++ reverse (given_from Back sides answers)

@@ -1,0 +1,63 @@
+//! The border of a plane, filled through its whole buffer.
+ghost use Rattle.std.specs.Prelude.{◌≡◌, ◌<◌, ◌≤◌, ℕ, length, Some, slice_get};
+ghost use Rattle.v_frame.specs.Geometry.{alloc_size_of, Fits};
+ghost use Rattle.v_frame.specs.Picture.{raster, filled, shown, border_of, Border, Visible, cutting_plan, mark_at};
+ghost use Rattle.v_frame.specs.Laws.{AgreeAt};
+
+use v_frame::laws::{alike_entries_show_alike, places_have_marks};
+use v_frame::pixel::Pixel;
+use v_frame::plane::{Plane, PlaneGeometry};
+
+/// Fills the border of a plane with one value: afterwards it is that of a plane that holds the value everywhere. What the
+/// plane shows stays.
+pub fn fill_border<T: Pixel>(plane: &mut Plane<T>, value: T)
+    ensures table { shown plane.new ≡ shown plane.old }
+    ensures border { border_of plane.new ≡ border_of (filled value plane.old.geometry) }
+    ensures geometry { plane.new.geometry ≡ plane.old.geometry }
+{
+    places_have_marks();
+    alike_entries_show_alike::<T>();
+    let geometry = plane.geometry();
+    fill_border_places(geometry, plane.data_mut(), value);
+}
+
+/// Fills the rows above the rectangle, what lies on both sides of it, and the rows below.
+fn fill_border_places<T: Pixel>(geometry: PlaneGeometry, buffer: &mut [T], value: T)
+    requires fits { Fits geometry }
+    requires whole { length buffer.old ≡ alloc_size_of geometry }
+    ensures border { (place : ℕ) → mark_at (cutting_plan geometry) place ≡ Some Border
+        → slice_get buffer.new place ≡ Some value }
+    ensures visible { AgreeAt Visible (raster geometry buffer.new) (raster geometry buffer.old) }
+{
+    places_have_marks();
+    let stride = geometry.stride();
+    let top = geometry.pad_top();
+    let left = geometry.pad_left();
+    let right = left + geometry.width();
+    fill_part(buffer, 0, top * stride, value);
+    for y in 0..geometry.height() {
+        let start = (top + y) * stride;
+        fill_part(buffer, start, start + left, value);
+        fill_part(buffer, start + right, start + stride, value);
+    }
+    fill_part(
+        buffer,
+        (top + geometry.height()) * stride,
+        buffer.len(),
+        value,
+    );
+}
+
+/// Fills the entries from one place up to another.
+fn fill_part<T: Pixel>(buffer: &mut [T], start: usize, end: usize, value: T)
+    requires order { start ≤ end }
+    requires within { end ≤ length buffer.old }
+    ensures before { (place : ℕ) → place < start
+        → slice_get buffer.new place ≡ slice_get buffer.old place }
+    ensures inside { (place : ℕ) → start ≤ place → place < end
+        → slice_get buffer.new place ≡ Some value }
+    ensures behind { (place : ℕ) → end ≤ place
+        → slice_get buffer.new place ≡ slice_get buffer.old place }
+{
+    buffer[start..end].fill(value);
+}

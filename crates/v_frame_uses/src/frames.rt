@@ -1,0 +1,61 @@
+//! Frames: built, refused, and changed by one plane.
+ghost use Rattle.std.specs.Prelude.{◌≡◌, ◌≢◌, ◌⊎◌, ℕ, None, Some, IfOk, IfErr, option_map};
+ghost use Rattle.v_frame.specs.Picture.{shown};
+ghost use Rattle.v_frame.specs.Copy.{packed_copy};
+ghost use Rattle.v_frame.specs.Chroma.{chroma_size_of};
+ghost use Rattle.v_frame.specs.Shown.{plane_at, unshown};
+ghost use Rattle.v_frame.specs.Buildable.{refusal_of};
+ghost use Rattle.v_frame.specs.declared.frame.error.FrameError.{FrameError};
+
+use std::alloc::Global;
+use v_frame::frame::{Frame, FrameBuilder, FrameError};
+use v_frame::laws::built_frame_is_zero;
+use v_frame::pixel::Pixel;
+use v_frame::plane::CopyError;
+
+/// Copies pixels into the plane of an index, where the frame has it. All else of the frame stays.
+pub fn copy_into_plane<T: Pixel>(
+    frame: &mut Frame<T>,
+    index: usize,
+    source: &[T],
+) -> Option<Result<(), CopyError>>
+    ensures answer { result ≡ option_map
+        (λ plane. (packed_copy (shown plane) source.now).answer) (plane_at frame.old index) }
+    ensures table { option_map shown (plane_at frame.new index) ≡ option_map
+        (λ plane. (packed_copy (shown plane) source.now).table) (plane_at frame.old index) }
+    ensures border { option_map unshown (plane_at frame.new index)
+        ≡ option_map unshown (plane_at frame.old index) }
+    ensures others { (other : ℕ) → other ≢ index
+        → plane_at frame.new other ≡ plane_at frame.old other }
+    ensures format { frame.new.subsampling ≡ frame.old.subsampling }
+    ensures depth { frame.new.bit_depth ≡ frame.old.bit_depth }
+{
+    match frame.plane_mut(index) {
+        Some(plane) => Some(plane.copy_from_slice(source)),
+        None => None,
+    }
+}
+
+/// Why a frame can't be built, or nothing where it can.
+pub fn reason_not_to_build<T: Pixel>(alloc: Global, builder: FrameBuilder) -> Option<FrameError>
+    ensures told { (e : FrameError) → refusal_of T.BYTES builder ≡ Some e → result ≡ Some e }
+    ensures built { refusal_of T.BYTES builder ≡ None
+        → (result ≡ None) ⊎ (result ≡ Some FrameError.OutOfMemory) }
+{
+    builder.build::<T>(alloc).err()
+}
+
+/// The size of the chroma planes of a frame that is built for it, or nothing where the format has none.
+pub fn built_chroma_size<T: Pixel>(
+    alloc: Global,
+    builder: FrameBuilder,
+) -> Result<Option<(usize, usize)>, FrameError>
+    ensures { IfOk result (λ size. size
+        ≡ chroma_size_of builder.subsampling builder.width builder.height) }
+{
+    let frame = built_frame_is_zero::<T>(alloc, builder)?;
+    match &frame.u_plane {
+        Some(plane) => Ok(Some((plane.width(), plane.height()))),
+        None => Ok(None),
+    }
+}

@@ -1,0 +1,17 @@
+//! What users write over `v_frame`: small functions, each with a contract that pins what it gives and what it leaves.
+//!
+//! They are examples to copy, and they show that the public contracts are enough: nothing here looks into `v_frame`. Our
+//! own.
+#![tactic(auto)]
+
+pub mod answers;
+pub mod border;
+pub mod bytes;
+pub mod frames;
+pub mod pictures;
+pub mod pixels;
+pub mod reads;
+pub mod start;
+#[cfg(test)]
+mod tests;
+pub mod walks;

@@ -1,0 +1,51 @@
+//! A picture, changed by one replayed walk over its pixels.
+ghost use Rattle.std.specs.Prelude.{◌≡◌, ◌+◌, min, map, IfOk, OnOk, OnErr};
+ghost use Rattle.v_frame.specs.Picture.{shown};
+ghost use Rattle.v_frame.specs.Rows.{row_major};
+ghost use Rattle.v_frame.specs.Shown.{tables_of, with_table, KeepsBorder};
+ghost use Rattle.v_frame.specs.WritingWalk.{front_draw};
+
+use std::alloc::{AllocError, Global};
+use v_frame::frame::Frame;
+use v_frame::laws::full_walks_change_each_pixel;
+use v_frame::plane::Plane;
+use v_frame::replay::{PixelDraw, Side, VisibleCall, replay};
+
+/// Makes each luma pixel brighter by so much, up to the largest value. The border and the chroma planes stay, and where
+/// memory is refused nothing changes that the frame shows.
+pub fn brighten(alloc: Global, frame: &mut Frame<u8>, by: u8) -> Result<(), AllocError>
+    ensures tables { OnOk result (tables_of frame.new ≡ with_table (tables_of frame.old) 0
+        (map (map (λ pixel. min (pixel + by) 255)) (shown frame.old.y_plane))) }
+    ensures refused { OnErr result (tables_of frame.new ≡ tables_of frame.old) }
+    ensures border { KeepsBorder frame.old frame.new }
+{
+    full_walks_change_each_pixel::<u8>();
+    let _width = frame.y_plane.width();
+    let draws = brighter_pixels(alloc, &frame.y_plane, by)?;
+    let calls = [VisibleCall::PixelsMut {
+        plane: 0,
+        draws: draws.into(),
+    }];
+    match replay(alloc, frame, &calls) {
+        Ok(_) => Ok(()),
+        Err(_) => Err(AllocError),
+    }
+}
+
+/// A draw from the front for each pixel, with the pixel made brighter.
+fn brighter_pixels(
+    alloc: Global,
+    plane: &Plane<u8>,
+    by: u8,
+) -> Result<Vec<PixelDraw<u8>>, AllocError>
+    ensures { IfOk result (λ draws. draws.items
+        ≡ map (λ pixel. front_draw (min (pixel + by) 255)) (row_major (shown plane.now))) }
+{
+    plane
+        .pixels()
+        .map(|pixel| PixelDraw {
+            side: Side::Front,
+            value: Some(pixel.saturating_add(by)),
+        })
+        .collect(alloc)
+}

@@ -1,0 +1,47 @@
+//! Planes, read.
+ghost use Rattle.std.specs.Prelude.{◌≡◌, ◌-◌, ◌*◌, ◌≤◌, Some, min, slice_get};
+ghost use Rattle.std.specs.Bool.{OnTrue, OnFalse};
+ghost use Rattle.v_frame.specs.Geometry.{alloc_size_of, isize_max};
+ghost use Rattle.v_frame.specs.Picture.{shown, border_of};
+ghost use Rattle.v_frame.specs.Rows.{pixel_at, row_major};
+
+use v_frame::laws::places_hold_pixels;
+use v_frame::pixel::Pixel;
+use v_frame::plane::Plane;
+
+/// The pixel (0, 0), read from the whole buffer.
+pub fn first_pixel<T: Pixel>(plane: &Plane<T>) -> T
+    ensures { pixel_at (shown plane.now) 0 0 ≡ Some result }
+{
+    places_hold_pixels::<T>();
+    plane.data()[plane.geometry().data_origin()]
+}
+
+/// The bytes that the pixels of a plane take with its border.
+pub fn buffer_bytes<T: Pixel>(plane: &Plane<T>) -> usize
+    ensures value { result ≡ T.BYTES * alloc_size_of plane.now.geometry }
+    ensures bound { result ≤ isize_max }
+{
+    T::BYTES * plane.geometry().alloc_size()
+}
+
+/// The row `y`, or the last one where that is below the rectangle: what a filter reads at the lower edge.
+pub fn nearest_row<T>(plane: &Plane<T>, y: usize) -> &[T]
+    ensures { slice_get (shown plane.now) (min y (plane.now.geometry.height - 1))
+        ≡ Some result.now }
+{
+    match plane.row(y.min(plane.height() - 1)) {
+        Some(row) => row,
+        None => unreachable!(),
+    }
+}
+
+/// Fills the visible rectangle from packed pixels and tells whether it did: then the rows, joined, are these pixels.
+pub fn is_filled_from<T: Pixel>(plane: &mut Plane<T>, source: &[T]) -> bool
+    ensures filled { OnTrue result (row_major (shown plane.new) ≡ source.now) }
+    ensures refused { OnFalse result (plane.new ≡ plane.old) }
+    ensures border { border_of plane.new ≡ border_of plane.old }
+    ensures geometry { plane.new.geometry ≡ plane.old.geometry }
+{
+    plane.copy_from_slice(source).is_ok()
+}
