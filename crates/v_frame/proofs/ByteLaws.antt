@@ -5,7 +5,7 @@ use Rattle.std.proofs.lemmas.Bool.Decides.{nat_tests}
 use Rattle.v_frame.specs.Geometry.{usize_max}
 use Rattle.v_frame.specs.Rows.{Table, width_of, height_of, row_major}
 use Rattle.v_frame.specs.Copy.{CopyOutcome, cut_rows, packed_copy}
-use Rattle.v_frame.specs.Bytes.{fronts, byte_list, pixels_of_bytes, strided_table, strided_copy, packed_byte_copy}
+use Rattle.v_frame.specs.Bytes.{piece_fronts, byte_list, pixels_of_bytes, strided_table, strided_copy, packed_byte_copy}
 use Rattle.v_frame.specs.declared.plane.error.CopyError.{CopyError}
 use Rattle.v_frame.specs.declared.plane.error.CopyError.TheVariants.{DataLength, InvalidStride}
 use Rattle.v_frame.proofs.Decoding.{one_byte_pixels}
@@ -43,7 +43,7 @@ module _ {T : Type 0} where
   module _ (size : ℕ) (value : T → ℕ) (pixel_of : ℕ → T) (back : (v : ℕ) → v < 256 ^ size → value (pixel_of v) ≡ v) (old new : Table T) (source : List ℕ) (bytes : AreBytes source) where
     -- after a copy with a stride the bytes of the table are the fronts of the pieces, joined
     pub strided_bytes : (stride : ℕ) (r : Result (Unit {0}) CopyError) → r ≡ (strided_copy size pixel_of old source stride).answer → new ≡ (strided_copy size pixel_of old source stride).table
-        → OnOk r (byte_list size value new ≡ row_major (fronts (width_of old * size) stride (height_of old) source))
+        → OnOk r (byte_list size value new ≡ row_major (piece_fronts (width_of old * size) stride (height_of old) source))
     strided_bytes stride (Err e) answer table = tt
     strided_bytes stride (Ok u) answer table =
         let done : (strided_copy size pixel_of old source stride).answer ≡ Ok tt = sym answer in
@@ -86,6 +86,6 @@ one_byte_copies table source counted =
     let one : width * 1 ≡ width = omega arith in
     let product : width * 1 * height ≡ width * height = ap (λ w. w * height) one in
     let told : min (width * 1 * height) usize_max ≡ width * height = omega (arith, product) in
-    let pieces = ap (λ row. fronts row row height source) one ∙ fronts_of_packed width height source in
+    let pieces = ap (λ row. piece_fronts row row height source) one ∙ fronts_of_packed width height source in
     by_tests (ltb (width * 1) (width * 1)) (eqb (length source) (width * 1 * height)) (eqb (length source) (width * height)) table (strided_table 1 (λ v. v) width height (width * 1) source) (cut_rows width height source) (InvalidStride (width * 1) width) (DataLength (min (width * 1 * height) usize_max) (length source)) (DataLength (width * height) (length source))
     (le-ltb (width * 1) (width * 1) (omega arith)) (ap (eqb (length source)) product) (λ same. let long : length source ≡ width * height = grind (arith, nat_tests) in ap (map (pixels_of_bytes 1 (λ v. v) width)) pieces ∙ one_byte_rows width height source long) (ap (λ n. DataLength n (length source)) told)

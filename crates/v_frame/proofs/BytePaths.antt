@@ -7,7 +7,7 @@ use Rattle.v_frame.specs.Geometry.{alloc_size_of}
 use Rattle.v_frame.specs.Picture.{filled, shown}
 use Rattle.v_frame.specs.Rows.{Table, width_of, height_of, row_major}
 use Rattle.v_frame.specs.Copy.{CopyOutcome}
-use Rattle.v_frame.specs.Bytes.{PixelForm, fronts, byte_list, strided_table}
+use Rattle.v_frame.specs.Bytes.{PixelForm, piece_fronts, byte_list, strided_table}
 use Rattle.v_frame.specs.Shown.{Tables}
 use Rattle.v_frame.specs.Walk.{draws_answer}
 use Rattle.v_frame.specs.Replay.{answers_to}
@@ -58,7 +58,7 @@ module _ {T : Type 0} where
   module _ (form : PixelForm T) (back : (v : ℕ) → v < 256 ^ form.size → form.value (form.pixel_of v) ≡ v) (source : List ℕ) (bytes : AreBytes source) (stride : ℕ) (sides : List Side) where
     pub path_answers : (tables : Tables T) (width height : ℕ) → width_of tables.y ≡ width → height_of tables.y ≡ height → width * form.size ≤ stride → length source ≡ stride * height
         → answers_to form (CopyFromU8SliceWithStride 0 source stride ∷ ByteData 0 sides ∷ []) tables
-        ≡ Copied (Ok tt) ∷ BytesWalked (length (row_major (fronts (width * form.size) stride height source))) (draws_answer (row_major (fronts (width * form.size) stride height source)) sides) ∷ []
+        ≡ Copied (Ok tt) ∷ BytesWalked (length (row_major (piece_fronts (width * form.size) stride height source))) (draws_answer (row_major (piece_fronts (width * form.size) stride height source)) sides) ∷ []
     path_answers tables width height w h fits whole =
         let walked : List ℕ → List (Answer T) = λ list. Copied (Ok tt) ∷ BytesWalked (length list) (draws_answer list sides) ∷ [] in
         let table = strided_table form.size form.pixel_of width height stride source in

@@ -6,7 +6,7 @@ use Rattle.std.proofs.lemmas.List.{get_or-drop}
 use Rattle.v_frame.specs.Pixel.{bytes_from, bytes_of, value_from, value_of_bytes}
 use Rattle.v_frame.specs.Rows.{row_major}
 use Rattle.v_frame.specs.Copy.{cut_rows}
-use Rattle.v_frame.specs.Bytes.{fronts, bytes_of_pixels, byte_list, pixels_of_bytes, strided_table}
+use Rattle.v_frame.specs.Bytes.{piece_fronts, bytes_of_pixels, byte_list, pixels_of_bytes, strided_table}
 
 -- every number of the list is a byte
 pub record AreBytes (bytes : List ℕ) : Type 0 where
@@ -83,7 +83,7 @@ module _ {T : Type 0} (size : ℕ) (value : T → ℕ) (pixel_of : ℕ → T) (b
 
   -- the bytes of a table: the fronts of the pieces, joined
   pub table_comes_back : (width height stride : ℕ) (source : List ℕ) → width * size ≤ stride → length source ≡ stride * height → AreBytes source
-      → byte_list size value (strided_table size pixel_of width height stride source) ≡ row_major (fronts (width * size) stride height source)
+      → byte_list size value (strided_table size pixel_of width height stride source) ≡ row_major (piece_fronts (width * size) stride height source)
   table_comes_back width zero stride source fits long h = refl
   table_comes_back width (suc height) stride source fits long h =
       let row = pixels_of_bytes size pixel_of width (take (width * size) (take stride source)) in

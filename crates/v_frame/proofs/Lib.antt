@@ -12,10 +12,12 @@ pub mod Decoding
 pub mod Determined
 pub mod Draws
 pub mod Entries
+pub mod Equality
 pub mod FullWalks
 pub mod LentRows
 pub mod Lists
 pub mod Loans
+pub mod Options
 pub mod Marks
 pub mod Overwrites
 pub mod OwnPlaces

@@ -24,8 +24,8 @@ abbrev pub two_bytes : PixelForm ℕ
 two_bytes = pixel_form 2 (λ value. value) (λ value. value)
 
 -- a source cut into pieces of a stride, of each piece its front: what stands behind the front is the tail of the piece
-abbrev pub fronts : {S : Type 0} → ℕ → ℕ → ℕ → List S → List (List S)
-fronts front stride pieces source = map (take front) (cut_rows stride pieces source)
+abbrev pub piece_fronts : {S : Type 0} → ℕ → ℕ → ℕ → List S → List (List S)
+piece_fronts front stride pieces source = map (take front) (cut_rows stride pieces source)
 
 module _ {T : Type 0} where
   -- the bytes of pixels, pixel after pixel, each with its low byte first
@@ -43,7 +43,7 @@ module _ {T : Type 0} where
   -- the table of a source with a stride, which is counted in bytes
   abbrev pub strided_table : ℕ → (ℕ → T) → ℕ → ℕ → ℕ → List ℕ → Table T
   strided_table size pixel_of width height stride source =
-      map (pixels_of_bytes size pixel_of width) (fronts (width * size) stride height source)
+      map (pixels_of_bytes size pixel_of width) (piece_fronts (width * size) stride height source)
 
   -- a copy of the bytes of a source with a stride into a table: a row must fit the stride, and the source must have a
   -- piece of the stride for each row, the tail of the last row too

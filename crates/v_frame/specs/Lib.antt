@@ -10,6 +10,7 @@ pub mod FrameLends
 pub mod Geometry
 pub mod Laws
 pub mod LeftBehind
+pub mod Options
 pub mod Picture
 pub mod Pixel
 pub mod PixelsLeft

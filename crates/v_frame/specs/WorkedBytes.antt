@@ -3,7 +3,7 @@ use Rattle.std.specs.Prelude.{ℕ, ◌≡◌, List, [], ◌∷◌, None, Ok, Err
 use Rattle.v_frame.specs.Geometry.{usize_max}
 use Rattle.v_frame.specs.Rows.{Table}
 use Rattle.v_frame.specs.Copy.{CopyOutcome, packed_copy}
-use Rattle.v_frame.specs.Bytes.{two_bytes, fronts, byte_list, strided_copy, packed_byte_copy}
+use Rattle.v_frame.specs.Bytes.{two_bytes, piece_fronts, byte_list, strided_copy, packed_byte_copy}
 use Rattle.v_frame.specs.Shown.{Tables}
 use Rattle.v_frame.specs.Replay.{answers_to, tables_after}
 use Rattle.v_frame.specs.declared.replay.call.VisibleCall.{VisibleCall}
@@ -58,7 +58,7 @@ rows_with_tails = 10 ∷ 20 ∷ 30 ∷ 99 ∷ 99 ∷ 40 ∷ 50 ∷ 60 ∷ 99 ∷
 tails_are_dropped : small three_by_two rows_with_tails 5 ≡ record { answer = Ok tt; table = (10 ∷ 20 ∷ 30 ∷ []) ∷ (40 ∷ 50 ∷ 60 ∷ []) ∷ [] }
 tails_are_dropped = refl
 
-fronts_of_rows : fronts 3 5 2 rows_with_tails ≡ (10 ∷ 20 ∷ 30 ∷ []) ∷ (40 ∷ 50 ∷ 60 ∷ []) ∷ []
+fronts_of_rows : piece_fronts 3 5 2 rows_with_tails ≡ (10 ∷ 20 ∷ 30 ∷ []) ∷ (40 ∷ 50 ∷ 60 ∷ []) ∷ []
 fronts_of_rows = refl
 
 last_tail_is_missing : small three_by_two (10 ∷ 20 ∷ 30 ∷ 99 ∷ 99 ∷ 40 ∷ 50 ∷ 60 ∷ []) 5 ≡ record { answer = Err (DataLength 10 8); table = three_by_two }

@@ -22,7 +22,7 @@ use std::num::NonZeroU8;
 ///
 /// The fields are public: a plane may be replaced by one of another size, and each answers by its own geometry. Ports
 /// `Frame` of `v_frame` 0.7.0.
-#[derive(Drop)]
+#[derive(Debug, PartialEq, Eq, Drop)]
 pub struct Frame<T: Pixel> {
     /// Luma.
     pub y_plane: Plane<T>,
@@ -49,6 +49,21 @@ impl<T: Pixel> Frame<T> {
             2 => self.v_plane.as_ref(),
             _ => None,
         }
+    }
+
+    /// The same frame in buffers of its own. Without memory for one of its planes nothing is handed out.
+    ///
+    /// Ports `Frame::clone` of `v_frame` 0.7.0.
+    pub fn clone(&self, alloc: Global) -> Result<Self, AllocError>
+        ensures { IfOk result (λ copy. copy ≡ self.now) }
+    {
+        Ok(Frame {
+            y_plane: self.y_plane.clone(alloc)?,
+            u_plane: clone_chroma(alloc, &self.u_plane)?,
+            v_plane: clone_chroma(alloc, &self.v_plane)?,
+            subsampling: self.subsampling,
+            bit_depth: self.bit_depth,
+        })
     }
 
     /// The plane of an index, for writing. The indexes are those of [`plane`](Self::plane).
@@ -230,5 +245,18 @@ fn checked_depth(found: u8) -> Result<NonZeroU8, FrameError>
     match NonZeroU8::new(found) {
         Some(depth) if 8 <= found && found <= 16 => Ok(depth),
         _ => Err(FrameError::UnsupportedBitDepth { found }),
+    }
+}
+
+/// The clone of a plane that may be absent.
+fn clone_chroma<T: Pixel>(
+    alloc: Global,
+    plane: &Option<Plane<T>>,
+) -> Result<Option<Plane<T>>, AllocError>
+    ensures { IfOk result (λ copy. copy ≡ plane.now) }
+{
+    match plane {
+        Some(plane) => Ok(Some(plane.clone(alloc)?)),
+        None => Ok(None),
     }
 }

@@ -19,6 +19,7 @@ ghost use Rattle.v_frame.specs.Walk.{draws_answer, AreCounted, AreDrawnOnce};
 ghost use Rattle.v_frame.specs.Replay.{answers_to, tables_after};
 
 mod bytes;
+mod equality;
 mod walks;
 mod writing_walks;
 
@@ -29,6 +30,7 @@ use crate::replay::{Answer, Drawn, Sequence, Side, VisibleCall, draw_items, repl
 pub use bytes::{
     bytes_come_back, bytes_come_back_without_tails, bytes_go_through_a_frame, packed_copies_agree,
 };
+pub use equality::{frames_are_equal, geometries_are_equal, planes_are_equal};
 use std::alloc::{AllocError, Global};
 use std::cmp::Ordering;
 pub use walks::full_walks_change_each_pixel;

@@ -11,6 +11,7 @@ mod bytes;
 mod encoding;
 mod error;
 mod geometry;
+mod options;
 mod parts;
 mod pixels;
 mod pixels_mut;
@@ -27,11 +28,13 @@ pub use pixels_mut::PixelsMut;
 pub use rows::Rows;
 pub use rows_mut::RowsMut;
 use std::alloc::{AllocError, Global};
+use std::fmt;
 use std::marker::Model;
 
 /// A rectangle of visible pixels inside a border, in one buffer.
 ///
 /// Rows are counted from the top and columns from the left, both from 0. Ports `Plane` of `v_frame` 0.7.0.
+/// Planes are equal where their geometries and their whole buffers are, the borders too.
 #[derive(Drop)]
 pub struct Plane<T> {
     geometry: PlaneGeometry,
@@ -48,6 +51,56 @@ impl<T> Model for Plane<T> {
     ghost view = { λ a. record { geometry = a.geometry; buffer = a.buffer } };
 
     ghost invariant = { λ a. Fits a.geometry × (length a.buffer ≡ alloc_size_of a.geometry) };
+}
+
+impl<T: PartialEq> PartialEq for Plane<T> {
+    ghost use Rattle.std.specs.Ordering.{on, eq_of_both};
+    ghost use Rattle.std.specs.Cmp.{and_per, on_per};
+    ghost use Rattle.v_frame.specs.contracts.plane.geometry.PlaneGeometryPartialEq.TheImpl.Laws as geometries;
+    ghost use Rattle.std.specs.Cmp.Lexicographic.{pointwise, lists_per};
+
+    ghost eq = { eq_of_both (on (λ p. p.geometry) ⟦<PlaneGeometry as PartialEq>⟧.eq)
+        (on (λ p. p.buffer) (pointwise T.eq)) };
+
+    ghost laws = { and_per (on_per (λ p. p.geometry) geometries.laws-law)
+        (on_per (λ p. p.buffer) (lists_per T.PartialEq.laws)) };
+
+    fn eq(&self, other: &Self) -> bool {
+        self.geometry == other.geometry && self.buffer == other.buffer
+    }
+}
+
+impl<T: Eq> Eq for Plane<T> {
+    ghost use Rattle.std.specs.Cmp.{and_equiv, on_equiv};
+    ghost use Rattle.v_frame.specs.contracts.plane.geometry.PlaneGeometryEq.TheImpl.Laws as geometries;
+    ghost use Rattle.std.specs.Cmp.Lexicographic.{lists_equiv};
+
+    ghost laws = { and_equiv (on_equiv (λ p. p.geometry) geometries.laws-law)
+        (on_equiv (λ p. p.buffer) (lists_equiv T.Eq.laws)) };
+}
+
+impl<T: fmt::Debug> fmt::Debug for Plane<T> {
+    fn fmt<W: fmt::Write>(&self, f: &mut fmt::Formatter<W>) -> fmt::Result {
+        f.debug_struct("Plane")
+            .field("data", &self.buffer)
+            .field("geometry", &self.geometry)
+            .finish()
+    }
+}
+
+impl<T: Copy> Plane<T> {
+    /// The same plane in a buffer of its own. Refused for memory alone.
+    ///
+    /// Ports `Plane::clone` of `v_frame` 0.7.0.
+    pub fn clone(&self, alloc: Global) -> Result<Self, AllocError>
+        ensures { IfOk result (λ copy. copy ≡ self.now) }
+    {
+        let buffer = self.buffer.clone(alloc)?;
+        Ok(Plane {
+            geometry: self.geometry,
+            buffer,
+        })
+    }
 }
 
 impl<T: Pixel> Plane<T> {

@@ -2,7 +2,7 @@
 ghost use Rattle.std.specs.Prelude.{◌≡◌, ◌++◌, ◌*◌, OnOk, OnErr, IfOk, IfErr, Ok, Err};
 ghost use Rattle.v_frame.specs.Picture.{shown};
 ghost use Rattle.v_frame.specs.Rows.{width_of, height_of, row_major};
-ghost use Rattle.v_frame.specs.Bytes.{fronts, byte_list, strided_copy};
+ghost use Rattle.v_frame.specs.Bytes.{piece_fronts, byte_list, strided_copy};
 ghost use Rattle.v_frame.specs.Shown.{unshown};
 
 use std::alloc::{AllocError, Global};
@@ -36,7 +36,7 @@ pub fn without_tails<T: Pixel>(
     stride: usize,
 ) -> Result<Result<Vec<u8>, CopyError>, AllocError>
     ensures bytes { IfOk result (λ copied. IfOk copied (λ bytes. bytes.items
-        ≡ row_major (fronts (width_of (shown plane.old) * T.BYTES) stride
+        ≡ row_major (piece_fronts (width_of (shown plane.old) * T.BYTES) stride
         (height_of (shown plane.old)) source.now))) }
     ensures done { IfOk result (λ copied. OnOk copied
         ((strided_copy T.BYTES T.pixel_of (shown plane.old) source.now stride).answer ≡ Ok tt)) }

@@ -10,6 +10,7 @@ pub mod bytes;
 pub mod frames;
 pub mod pictures;
 pub mod pixels;
+pub mod planes;
 pub mod reads;
 pub mod start;
 #[cfg(test)]

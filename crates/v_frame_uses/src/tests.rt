@@ -5,7 +5,8 @@ use crate::border::fill_border;
 use crate::bytes::{append_bytes, without_tails};
 use crate::frames::{built_chroma_size, copy_into_plane, reason_not_to_build};
 use crate::pictures::brighten;
-use crate::pixels::{exchange_pixels, set_pixel};
+use crate::pixels::{exchange_pixels, fill_last_row, replace_ends, set_pixel};
+use crate::planes::{copy_with_plane, plane_of_places};
 use crate::reads::{buffer_bytes, first_pixel, is_filled_from, nearest_row};
 use crate::start::first_frame;
 use crate::walks::{count_of_differing_pixels, largest_pixel, sum_of_pixels};
@@ -13,7 +14,7 @@ use std::alloc::Global;
 use std::test::Fail;
 use v_frame::chroma::ChromaSubsampling;
 use v_frame::frame::{Frame, FrameBuilder, FrameError};
-use v_frame::plane::CopyError;
+use v_frame::plane::{CopyError, PlaneGeometry};
 use v_frame::replay::{Answer, Sequence};
 
 /// Luma of 3 by 2 pixels, with one border column to the left, two to the right and one border row above.
@@ -167,5 +168,41 @@ fn pixels_are_summed_and_compared(rt: HostRuntime) -> Result<(), Fail> {
     assert_eq!(rt; count_of_differing_pixels(a, b), 2);
     assert_eq!(rt; largest_pixel(nearest_row(b, 0)), Some(9));
     assert_eq!(rt; largest_pixel::<u8>(&[]), None);
+    Ok(())
+}
+
+#[test]
+fn a_plane_counts_its_places(rt: HostRuntime) -> Result<(), Fail> {
+    let geometry = PlaneGeometry::new(2, 1, 1, 0, 1, 0, 1, 1).ok_or("a geometry")?;
+    if geometry.checked_alloc_size().is_none() {
+        return Err("too large".into());
+    }
+    let plane = plane_of_places(rt.alloc(), geometry)?;
+    assert_eq!(rt; plane.data(), [0, 1, 2, 3, 4, 5].as_slice());
+    Ok(())
+}
+
+#[test]
+fn a_copy_is_filled_and_compared(rt: HostRuntime) -> Result<(), Fail> {
+    let frame = padded(rt.alloc())?;
+    let (copy, same) = copy_with_plane(rt.alloc(), &frame, 0, &[1, 2, 3, 4, 5, 6])?;
+    assert!(rt; !same);
+    assert_eq!(rt;
+        (copy.y_plane.pixel(2, 1), frame.y_plane.pixel(2, 1)),
+        (Some(6), Some(0))
+    );
+    let (_copy, same) = copy_with_plane(rt.alloc(), &frame, 1, &[1])?;
+    assert!(rt; same);
+    Ok(())
+}
+
+#[test]
+fn lent_pixels_and_rows_are_replaced(rt: HostRuntime) -> Result<(), Fail> {
+    let mut frame = padded(rt.alloc())?;
+    assert!(rt; is_filled_from(&mut frame.y_plane, &[1, 2, 3, 4, 5, 6]));
+    assert_eq!(rt; fill_last_row(&mut frame.y_plane, 7), Some(4));
+    assert_eq!(rt; replace_ends(&mut frame.y_plane, 8, 9), (Some(1), Some(7)));
+    let wanted = [0, 0, 0, 0, 0, 0, 0, 8, 2, 3, 0, 0, 0, 7, 7, 9, 0, 0];
+    assert_eq!(rt; frame.y_plane.data(), wanted.as_slice());
     Ok(())
 }

@@ -9,7 +9,7 @@ ghost use Rattle.v_frame.specs.declared.replay.call.VisibleCall.TheVariants.{Cop
 ghost use Rattle.v_frame.specs.declared.replay.answer.Answer.TheVariants.{Copied, BytesWalked};
 ghost use Rattle.v_frame.specs.Rows.{width_of, height_of, row_major};
 ghost use Rattle.v_frame.specs.Copy.{packed_copy};
-ghost use Rattle.v_frame.specs.Bytes.{fronts, byte_list, strided_copy, packed_byte_copy};
+ghost use Rattle.v_frame.specs.Bytes.{piece_fronts, byte_list, strided_copy, packed_byte_copy};
 
 use crate::frame::{FrameBuilder, FrameError};
 use crate::pixel::Pixel;
@@ -37,7 +37,7 @@ pub fn bytes_come_back_without_tails<T: Pixel>(
     ensures answer { result
         ≡ (strided_copy T.BYTES T.pixel_of (shown plane.old) src.now stride).answer }
     ensures bytes { OnOk result (byte_list T.BYTES T.value (shown plane.new)
-        ≡ row_major (fronts (width_of (shown plane.old) * T.BYTES) stride
+        ≡ row_major (piece_fronts (width_of (shown plane.old) * T.BYTES) stride
         (height_of (shown plane.old)) src.now)) }
     ensures border { unshown plane.new ≡ unshown plane.old }
 {
@@ -81,12 +81,12 @@ pub fn bytes_go_through_a_frame<T: Pixel>(
         IfOk result (λ answers. slice_get answers.items 0
         ≡ Some (Copied (strided_copy T.BYTES T.pixel_of blank source.items stride).answer)) }
     ensures answers { let row = builder.width * T.BYTES in
-        let bytes = row_major (fronts row stride builder.height source.items) in
+        let bytes = row_major (piece_fronts row stride builder.height source.items) in
         row ≤ stride → length source.items ≡ stride * builder.height → IfOk result (λ answers.
         answers.items ≡ Copied (Ok tt)
         ∷ BytesWalked (length bytes) (draws_answer bytes sides.items) ∷ []) }
     ensures all { let row = builder.width * T.BYTES in
-        let bytes = row_major (fronts row stride builder.height source.items) in
+        let bytes = row_major (piece_fronts row stride builder.height source.items) in
         length bytes ≤ length sides.items
         → AreAllGiven bytes sides.items (draws_answer bytes sides.items) }
 {

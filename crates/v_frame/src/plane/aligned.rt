@@ -1,10 +1,12 @@
 //! The buffer of a plane: a list of fixed length.
-ghost use Rattle.std.specs.Prelude.{◌≡◌, ◌<◌, ◌≤◌, length, replicate, Some, slice_get, slice_range, IfOk};
+ghost use Rattle.std.specs.Prelude.{◌≡◌, ◌<◌, ◌≤◌, All, length, map, replicate, None, Some, IsSome, slice_get, slice_range, IfOk, IfErr};
+ghost use Rattle.std.specs.Cmp.Lexicographic.{pointwise, lists_per, lists_equiv};
 ghost use Rattle.std.specs.Option.{option_copied_mut};
 ghost use Rattle.std.specs.Borrow.{sem};
 ghost use Rattle.v_frame.specs.AlignedData.{LendsEntries, LendsPart, LendsEntry, LendsEntryIf};
 
 use std::alloc::{AllocError, Global};
+use std::fmt;
 use std::marker::Model;
 
 /// The entries of a buffer. How they are kept is known here alone. Stands for `AlignedData` of `v_frame` 0.7.0.
@@ -30,6 +32,16 @@ impl<T> AlignedData<T> {
     {
         let mut entries = Vec::with_capacity(alloc, len)?;
         entries.resize(len, value)?;
+        Ok(AlignedData { entries })
+    }
+
+    /// The same entries in a buffer of their own.
+    pub(crate) fn clone(&self, alloc: Global) -> Result<Self, AllocError>
+    where
+        T: Copy,
+        ensures { IfOk result (λ copy. copy ≡ self.now) }
+    {
+        let entries = Vec::from_slice(alloc, self.entries.as_slice())?;
         Ok(AlignedData { entries })
     }
 
@@ -73,5 +85,66 @@ impl<T> AlignedData<T> {
         ensures value { option_copied_mut result ≡ slice_get self.old place }
     {
         self.entries.get_mut(place)
+    }
+}
+
+impl<T> AlignedData<Option<T>> {
+    /// `len` entries without a value.
+    pub(crate) fn without_values(alloc: Global, len: usize) -> Result<Self, AllocError>
+        ensures { IfOk result (λ d. d ≡ replicate len None) }
+    {
+        let mut entries = Vec::with_capacity(alloc, len)?;
+        for _ in 0..len {
+            entries.push_reserved(None);
+        }
+        Ok(AlignedData { entries })
+    }
+
+    /// The values, each moved to its place in a buffer of their own. Without memory for that nothing is moved.
+    pub(crate) fn into_values(mut self, alloc: Global) -> Result<AlignedData<T>, Self>
+    where
+        T: Drop,
+        requires { All IsSome self }
+        ensures values { IfOk result (λ d. map Some d ≡ self) }
+        ensures kept { IfErr result (λ d. d ≡ self) }
+    {
+        let Ok(mut values) = Vec::with_capacity(alloc, self.entries.len()) else {
+            return Err(self);
+        };
+        for entry in self.entries.as_mut_slice() {
+            if let Some(value) = entry.take() {
+                values.push_reserved(value);
+            }
+        }
+        Ok(AlignedData { entries: values })
+    }
+}
+
+impl<T: PartialEq> PartialEq for AlignedData<T> {
+    ghost eq = { pointwise T.eq };
+
+    ghost laws = { lists_per T.PartialEq.laws };
+
+    fn eq(&self, other: &Self) -> bool {
+        self.entries.as_slice() == other.entries.as_slice()
+    }
+}
+
+impl<T: Eq> Eq for AlignedData<T> {
+    ghost laws = { lists_equiv T.Eq.laws };
+}
+
+/// How many entries the debug text of a buffer shows.
+const SHOWN_ENTRIES: usize = 5;
+
+/// The first entries, and two dots where there are more.
+impl<T: fmt::Debug> fmt::Debug for AlignedData<T> {
+    fn fmt<W: fmt::Write>(&self, f: &mut fmt::Formatter<W>) -> fmt::Result {
+        match self.entries.get(..SHOWN_ENTRIES) {
+            Some(first) if self.entries.len() > SHOWN_ENTRIES => {
+                f.debug_list().slice(first).finish_non_exhaustive()
+            }
+            _ => self.entries.as_slice().fmt(f),
+        }
     }
 }

@@ -2,7 +2,7 @@
 ghost use Rattle.std.specs.Prelude.{◌≡◌, ℕ, ◌*◌, ◌≤◌, List, length, map};
 ghost use Rattle.v_frame.specs.Geometry.{alloc_size_of, Fits};
 ghost use Rattle.v_frame.specs.Picture.{raster, shown, border_of};
-ghost use Rattle.v_frame.specs.Bytes.{fronts, pixels_of_bytes};
+ghost use Rattle.v_frame.specs.Bytes.{piece_fronts, pixels_of_bytes};
 
 use super::PlaneGeometry;
 use crate::pixel::Pixel;
@@ -75,7 +75,7 @@ pub(crate) fn write_rows<T, E: Encoding<T>>(
     requires source { length src.now ≡ stride * geometry.height }
     ensures table { shown (raster geometry buffer.new)
         ≡ map (E.row_of geometry.width)
-        (fronts (geometry.width * E.ENTRIES) stride geometry.height src.now) }
+        (piece_fronts (geometry.width * E.ENTRIES) stride geometry.height src.now) }
     ensures border { border_of (raster geometry buffer.new)
         ≡ border_of (raster geometry buffer.old) }
 {

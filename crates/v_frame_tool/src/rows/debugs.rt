@@ -9,7 +9,7 @@ use v_frame::replay::{
 };
 
 /// Whether a value shows this debug text.
-fn shows(alloc: Global, value: &impl Debug, wanted: &str) -> Result<bool, AllocError> {
+pub fn shows(alloc: Global, value: &impl Debug, wanted: &str) -> Result<bool, AllocError> {
     let text = format!(in alloc; "{value:?}")?;
     Ok(text.as_str() == wanted)
 }

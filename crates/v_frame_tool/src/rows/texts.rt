@@ -1,7 +1,7 @@
 //! The texts of all errors.
 
 use crate::fault::ToolFault;
-use std::alloc::Global;
+use std::alloc::{AllocError, Global};
 use std::fmt::Display;
 use std::test::Fail;
 use v_frame::frame::FrameError;
@@ -72,5 +72,11 @@ fn faults_of_the_program_are_explained(rt: HostRuntime) -> Result<(), Fail> {
     assert!(rt; displays(rt.alloc(), &ToolFault::OutOfMemory, "out of memory")?);
     assert!(rt; displays(rt.alloc(), &ToolFault::Output, "cannot write the output")?);
     assert!(rt; displays(rt.alloc(), &ToolFault::WriteZero, "write took nothing")?);
+    Ok(())
+}
+
+#[test]
+fn refused_clones_are_explained(rt: HostRuntime) -> Result<(), Fail> {
+    assert!(rt; displays(rt.alloc(), &AllocError, "memory allocation failed")?);
     Ok(())
 }

@@ -1,0 +1,27 @@
+//! What `==` of planes and of frames compares.
+ghost use Rattle.std.specs.Prelude.{◌≡◌, ◌↔◌, IsTrue};
+
+use crate::frame::Frame;
+use crate::pixel::Pixel;
+use crate::plane::{Plane, PlaneGeometry};
+
+/// Geometries are equal exactly where their sizes, paddings and ratios are.
+pub fn geometries_are_equal(g: PlaneGeometry, h: PlaneGeometry) -> bool
+    ensures { IsTrue result ↔ (g ≡ h) }
+{
+    g == h
+}
+
+/// Planes are equal exactly where their geometries and their whole buffers are, the borders too.
+pub fn planes_are_equal<T: Pixel>(p: &Plane<T>, q: &Plane<T>) -> bool
+    ensures { IsTrue result ↔ (p.now.geometry ≡ q.now.geometry) × (p.now.buffer ≡ q.now.buffer) }
+{
+    p == q
+}
+
+/// Frames are equal exactly where all five of their fields are.
+pub fn frames_are_equal<T: Pixel>(a: &Frame<T>, b: &Frame<T>) -> bool
+    ensures { IsTrue result ↔ (a.now ≡ b.now) }
+{
+    a == b
+}

@@ -1,0 +1,58 @@
+//! Whole planes and frames: made entry by entry, copied and compared.
+ghost use Rattle.std.specs.Prelude.{◌≡◌, ◌≢◌, ◌%◌, ◌<◌, ◌↔◌, ℕ, None, Some, IfOk, IsTrue, length, option_map, slice_index_or};
+ghost use Rattle.v_frame.specs.Geometry.{alloc_size_of, Fits};
+ghost use Rattle.v_frame.specs.Picture.{shown};
+ghost use Rattle.v_frame.specs.Copy.{packed_copy};
+ghost use Rattle.v_frame.specs.Shown.{plane_at, unshown};
+
+use crate::frames::copy_into_plane;
+use std::alloc::{AllocError, Global};
+use v_frame::frame::Frame;
+use v_frame::laws::frames_are_equal;
+use v_frame::pixel::Pixel;
+use v_frame::plane::{Plane, PlaneGeometry};
+
+/// A plane in which each entry is its place in the buffer, counted from the front, as far as 16 bits tell it.
+pub fn plane_of_places(alloc: Global, geometry: PlaneGeometry) -> Result<Plane<u16>, AllocError>
+    requires { Fits geometry }
+    ensures geometry { IfOk result (λ plane. plane.geometry ≡ geometry) }
+    ensures entries { IfOk result (λ plane. (place : ℕ) → place < alloc_size_of geometry
+        → slice_index_or plane.buffer place 0 ≡ place % 65536) }
+{
+    let mut plane = Plane::<u16>::new_uninit(alloc, geometry)?;
+    fill_with_places(plane.data_mut());
+    plane.assume_init(alloc).map_err(|_| AllocError)
+}
+
+/// Fills each entry with its place.
+fn fill_with_places(entries: &mut [Option<u16>])
+    ensures { (place : ℕ) → place < length entries.old
+        → slice_index_or entries.new place None ≡ Some (place % 65536) }
+{
+    for place in 0..entries.len() {
+        entries[place] = Some((place % 65536) as u16);
+    }
+}
+
+/// A copy of a frame in which the plane of an index is filled from these pixels, and whether the copy still equals the frame.
+///
+/// Where the frame has no such plane, or the plane another number of pixels, the copy is the frame.
+pub fn copy_with_plane<T: Pixel>(
+    alloc: Global,
+    frame: &Frame<T>,
+    index: usize,
+    source: &[T],
+) -> Result<(Frame<T>, bool), AllocError>
+    ensures table { IfOk result (λ copy. option_map shown (plane_at copy.0 index) ≡ option_map
+        (λ plane. (packed_copy (shown plane) source.now).table) (plane_at frame.now index)) }
+    ensures border { IfOk result (λ copy. option_map unshown (plane_at copy.0 index)
+        ≡ option_map unshown (plane_at frame.now index)) }
+    ensures others { IfOk result (λ copy. (other : ℕ) → other ≢ index
+        → plane_at copy.0 other ≡ plane_at frame.now other) }
+    ensures same { IfOk result (λ copy. IsTrue copy.1 ↔ (copy.0 ≡ frame.now)) }
+{
+    let mut copy = frame.clone(alloc)?;
+    let _answer = copy_into_plane(&mut copy, index, source);
+    let same = frames_are_equal(&copy, frame);
+    Ok((copy, same))
+}
