@@ -1,5 +1,5 @@
 //! Frames: built, refused, and changed by one plane.
-ghost use Rattle.std.specs.Prelude.{◌≡◌, ◌≢◌, ◌⊎◌, ℕ, None, Some, IfOk, IfErr, option_map};
+ghost use Rattle.std.specs.Prelude.{◌≡◌, ◌≢◌, ◌⊎◌, ℕ, None, Some, Err, IfOk, IfErr, IsOkUnless, MatchOption, option_map};
 ghost use Rattle.v_frame.specs.Picture.{shown};
 ghost use Rattle.v_frame.specs.Copy.{packed_copy};
 ghost use Rattle.v_frame.specs.Chroma.{chroma_size_of};
@@ -50,7 +50,9 @@ pub fn built_chroma_size<T: Pixel>(
     alloc: Global,
     builder: FrameBuilder,
 ) -> Result<Option<(usize, usize)>, FrameError>
-    ensures { IfOk result (λ size. size
+    ensures refused { MatchOption (refusal_of T.BYTES builder)
+        (IsOkUnless result FrameError.OutOfMemory) (λ e. result ≡ Err e) }
+    ensures size { IfOk result (λ size. size
         ≡ chroma_size_of builder.subsampling builder.width builder.height) }
 {
     let frame = built_frame_is_zero::<T>(alloc, builder)?;

@@ -1,9 +1,9 @@
 //! Planes, read.
-ghost use Rattle.std.specs.Prelude.{◌≡◌, ◌-◌, ◌*◌, ◌≤◌, Some, min, slice_get};
+ghost use Rattle.std.specs.Prelude.{◌≡◌, ◌-◌, ◌*◌, ◌≤◌, ◌↔◌, IsTrue, Some, length, min, slice_get};
 ghost use Rattle.std.specs.Bool.{OnTrue, OnFalse};
 ghost use Rattle.v_frame.specs.Geometry.{alloc_size_of, isize_max};
 ghost use Rattle.v_frame.specs.Picture.{shown, border_of};
-ghost use Rattle.v_frame.specs.Rows.{pixel_at, row_major};
+ghost use Rattle.v_frame.specs.Rows.{width_of, height_of, pixel_at, row_major};
 
 use v_frame::laws::places_hold_pixels;
 use v_frame::pixel::Pixel;
@@ -36,8 +36,11 @@ pub fn nearest_row<T>(plane: &Plane<T>, y: usize) -> &[T]
     }
 }
 
-/// Fills the visible rectangle from packed pixels and tells whether it did: then the rows, joined, are these pixels.
+/// Fills the visible rectangle from packed pixels and tells whether it did: exactly where there is one for each place of
+/// the table. Then the rows, joined, are these pixels.
 pub fn is_filled_from<T: Pixel>(plane: &mut Plane<T>, source: &[T]) -> bool
+    ensures accepted { IsTrue result
+        ↔ (length source.now ≡ width_of (shown plane.old) * height_of (shown plane.old)) }
     ensures filled { OnTrue result (row_major (shown plane.new) ≡ source.now) }
     ensures refused { OnFalse result (plane.new ≡ plane.old) }
     ensures border { border_of plane.new ≡ border_of plane.old }
