@@ -33,8 +33,8 @@ use std::marker::Model;
 
 /// A rectangle of visible pixels inside a border, in one buffer.
 ///
-/// Rows are counted from the top and columns from the left, both from 0. Ports `Plane` of `v_frame` 0.7.0.
-/// Planes are equal where their geometries and their whole buffers are, the borders too.
+/// Rows are counted from the top and columns from the left, both from 0. Planes are equal where their geometries and their
+/// whole buffers are, the borders too. Ports `Plane` of `v_frame` 0.7.0.
 #[derive(Drop)]
 pub struct Plane<T> {
     geometry: PlaneGeometry,
