@@ -48,6 +48,8 @@ pub fn exchange_pixels<T: Pixel>(
 }
 
 /// Replaces the first and the last visible pixel, and gives what they were. A plane of one pixel has no last one then.
+///
+/// What writing through the lent pixels leaves in the plane is in no clause: a test shows it.
 pub fn replace_ends<T: Pixel>(plane: &mut Plane<T>, first: T, last: T) -> (Option<T>, Option<T>)
     ensures first { result.0 ≡ slice_get (row_major (shown plane.old)) 0 }
     ensures last { let rest = drop 1 (row_major (shown plane.old)) in
@@ -66,6 +68,8 @@ pub fn replace_ends<T: Pixel>(plane: &mut Plane<T>, first: T, last: T) -> (Optio
 }
 
 /// Fills the last visible row with one value, and gives the pixel that stood at its left end.
+///
+/// What writing through the lent row leaves in the plane is in no clause: a test shows it.
 pub fn fill_last_row<T: Pixel>(plane: &mut Plane<T>, value: T) -> Option<T>
     ensures { result ≡ pixel_at (shown plane.old) 0 (height_of (shown plane.old) - 1) }
 {
