@@ -1,8 +1,11 @@
 //! Frames that are built, with the sizes of their planes, and those that are not.
 
-use std::test::Fail;
+use super::frames::padded;
+use std::alloc::Global;
+use std::process::Abort;
+use v_frame::chroma::ChromaSubsampling;
 use v_frame::chroma::ChromaSubsampling::{Monochrome, Yuv420, Yuv422, Yuv444};
-use v_frame::frame::{FrameBuilder, FrameError};
+use v_frame::frame::{Frame, FrameBuilder, FrameError};
 use v_frame::pixel::Pixel;
 use v_frame::plane::Plane;
 
@@ -14,8 +17,25 @@ fn size<T: Pixel>(plane: &Option<Plane<T>>) -> Option<(usize, usize)> {
     }
 }
 
+/// The sizes of the luma plane and of the two chroma planes, the format and the depth.
+type Shape = (
+    (usize, usize),
+    [Option<(usize, usize)>; 2],
+    (ChromaSubsampling, u8),
+);
+
+/// The shape of the frame that is built.
+fn shape(rt: &impl Abort, alloc: Global, builder: FrameBuilder) -> Shape {
+    let frame = builder.build::<u8>(alloc).expect(rt, "a frame");
+    (
+        (frame.y_plane.width(), frame.y_plane.height()),
+        [size(&frame.u_plane), size(&frame.v_plane)],
+        (frame.subsampling, frame.bit_depth.get()),
+    )
+}
+
 #[test]
-fn chroma_planes_have_the_size_of_the_format(rt: HostRuntime) -> Result<(), Fail> {
+fn chroma_planes_have_the_size_of_the_format(rt: HostRuntime) {
     let cases = [
         (Yuv420, Some((960, 540))),
         (Yuv422, Some((960, 1080))),
@@ -23,105 +43,103 @@ fn chroma_planes_have_the_size_of_the_format(rt: HostRuntime) -> Result<(), Fail
         (Monochrome, None),
     ];
     for (format, chroma) in cases {
-        let frame = FrameBuilder::new(1920, 1080, format, 8).build::<u8>(rt.alloc())?;
-        assert_eq!(rt;
-            (frame.y_plane.width(), frame.y_plane.height()),
-            (1920, 1080)
-        );
-        assert_eq!(rt;
-            (size(&frame.u_plane), size(&frame.v_plane)),
-            (chroma, chroma)
-        );
-        assert_eq!(rt; (frame.subsampling, frame.bit_depth.get()), (format, 8));
+        let built = shape(&rt, rt.alloc(), FrameBuilder::new(1920, 1080, format, 8));
+        assert!(rt; built == ((1920, 1080), [chroma, chroma], (format, 8)));
     }
-    Ok(())
+}
+
+/// Why this frame is not built, where it is not.
+pub fn refusal<T: Pixel>(alloc: Global, builder: FrameBuilder) -> Option<FrameError> {
+    builder.build::<T>(alloc).err()
 }
 
 #[test]
-fn padding_changes_no_visible_size(rt: HostRuntime) -> Result<(), Fail> {
-    for (left, right, top, bottom) in [(16, 16, 16, 16), (8, 16, 4, 12)] {
-        let frame = FrameBuilder::new(1920, 1080, Yuv420, 8)
-            .luma_padding_left(left)
-            .luma_padding_right(right)
-            .luma_padding_top(top)
-            .luma_padding_bottom(bottom)
-            .build::<u8>(rt.alloc())?;
-        assert_eq!(rt;
-            (frame.y_plane.width(), frame.y_plane.height()),
-            (1920, 1080)
-        );
-        assert_eq!(rt; size(&frame.u_plane), Some((960, 540)));
-        assert_eq!(rt; size(&frame.v_plane), Some((960, 540)));
+fn padding_changes_no_visible_size(rt: HostRuntime) {
+    let chroma = [Some((960, 540)), Some((960, 540))];
+    for padding in [[16, 16, 16, 16], [8, 16, 4, 12]] {
+        let built = shape(&rt, rt.alloc(), padded((1920, 1080), Yuv420, 8, padding));
+        assert!(rt; built == ((1920, 1080), chroma, (Yuv420, 8)));
     }
-    let monochrome = FrameBuilder::new(1920, 1080, Monochrome, 8)
-        .luma_padding_left(15)
-        .luma_padding_right(17)
-        .luma_padding_top(13)
-        .luma_padding_bottom(19);
-    assert!(rt; monochrome.build::<u8>(rt.alloc()).is_ok());
-    Ok(())
+    let monochrome = padded((1920, 1080), Monochrome, 8, [15, 17, 13, 19]);
+    assert!(rt; refusal::<u8>(rt.alloc(), monochrome).is_none());
+}
+
+/// The depth that a frame of 640 by 480 tells, once it is built at this depth.
+fn depth_at(rt: &impl Abort, alloc: Global, depth: u8) -> u8 {
+    let frame = FrameBuilder::new(640, 480, Yuv420, depth)
+        .build::<u16>(alloc)
+        .expect(rt, "a frame");
+    frame.bit_depth.get()
 }
 
 #[test]
-fn every_depth_from_eight_to_sixteen(rt: HostRuntime) -> Result<(), Fail> {
-    assert!(rt;
-        FrameBuilder::new(640, 480, Yuv420, 8)
-            .build::<u8>(rt.alloc())
-            .is_ok()
-    );
+fn every_depth_from_eight_to_sixteen(rt: HostRuntime) {
+    let eight = FrameBuilder::new(640, 480, Yuv420, 8);
+    assert!(rt; refusal::<u8>(rt.alloc(), eight).is_none());
     for depth in 9..17 {
-        let frame = FrameBuilder::new(640, 480, Yuv420, depth).build::<u16>(rt.alloc())?;
-        assert_eq!(rt; frame.bit_depth.get(), depth);
+        assert!(rt; depth_at(&rt, rt.alloc(), depth) == depth);
     }
-    assert!(rt;
-        FrameBuilder::new(3840, 2160, Yuv420, 10)
-            .build::<u16>(rt.alloc())
-            .is_ok()
-    );
-    let smallest = FrameBuilder::new(2, 2, Yuv420, 8).build::<u8>(rt.alloc())?;
-    assert_eq!(rt; size(&smallest.u_plane), Some((1, 1)));
-    assert_eq!(rt; size(&smallest.v_plane), Some((1, 1)));
-    Ok(())
+}
+
+#[test]
+fn a_large_frame_and_the_smallest(rt: HostRuntime) {
+    let large = FrameBuilder::new(3840, 2160, Yuv420, 10);
+    assert!(rt; refusal::<u16>(rt.alloc(), large).is_none());
+    let smallest = shape(&rt, rt.alloc(), FrameBuilder::new(2, 2, Yuv420, 8));
+    assert!(rt; smallest == ((2, 2), [Some((1, 1)), Some((1, 1))], (Yuv420, 8)));
 }
 
 #[test]
 fn sizes_that_have_no_half_are_refused(rt: HostRuntime) {
     let refused = [
-        (0, 1080, Yuv420),
-        (1921, 1080, Yuv420),
-        (1920, 1081, Yuv420),
-        (1920, 0, Yuv422),
-        (1921, 1080, Yuv422),
+        FrameBuilder::new(0, 1080, Yuv420, 8),
+        FrameBuilder::new(1921, 1080, Yuv420, 8),
+        FrameBuilder::new(1920, 1081, Yuv420, 8),
+        FrameBuilder::new(1920, 0, Yuv422, 8),
+        FrameBuilder::new(1921, 1080, Yuv422, 8),
+        FrameBuilder::new(1920, 1080, Yuv420, 8).luma_padding_left(15),
     ];
-    for (width, height, format) in refused {
-        let built = FrameBuilder::new(width, height, format, 8).build::<u8>(rt.alloc());
-        assert_eq!(rt; built.err(), Some(FrameError::UnsupportedResolution));
+    for builder in refused {
+        assert!(rt; refusal::<u8>(rt.alloc(), builder) == Some(FrameError::UnsupportedResolution));
     }
-    let padded = FrameBuilder::new(1920, 1080, Yuv420, 8).luma_padding_left(15);
-    let built = padded.build::<u8>(rt.alloc());
-    assert_eq!(rt; built.err(), Some(FrameError::UnsupportedResolution));
+}
+
+/// Writes a mark at column 7 of row 5 in a plane, where there is one.
+fn mark(plane: Option<&mut Plane<u8>>, value: u8) -> Option<()> {
+    *plane?.pixel_mut(7, 5)? = value;
+    Some(())
+}
+
+/// What column 7 of row 5 holds in a plane, where there is one.
+fn marked(plane: Option<&Plane<u8>>) -> Option<u8> {
+    plane?.pixel(7, 5)
+}
+
+/// The marks in each plane, by its name and by its number.
+fn marks(frame: &Frame<u8>) -> ([Option<u8>; 3], [Option<u8>; 3]) {
+    (
+        [
+            marked(Some(&frame.y_plane)),
+            marked(frame.u_plane.as_ref()),
+            marked(frame.v_plane.as_ref()),
+        ],
+        [
+            marked(frame.plane(0)),
+            marked(frame.plane(1)),
+            marked(frame.plane(2)),
+        ],
+    )
 }
 
 #[test]
-fn a_mark_in_each_plane(rt: HostRuntime) -> Result<(), Fail> {
-    let mut frame = FrameBuilder::new(1920, 1080, Yuv420, 8).build::<u8>(rt.alloc())?;
-    for (index, mark) in [(0, 11), (1, 22), (2, 33)] {
-        let plane = frame.plane_mut(index).ok_or("a plane")?;
-        *plane.pixel_mut(7, 5).ok_or("a pixel")? = mark;
+fn a_mark_in_each_plane(rt: HostRuntime) {
+    let mut frame = FrameBuilder::new(1920, 1080, Yuv420, 8)
+        .build::<u8>(rt.alloc())
+        .expect(&rt, "a frame");
+    for (index, value) in [(0, 11), (1, 22), (2, 33)] {
+        mark(frame.plane_mut(index), value).expect(&rt, "a pixel");
     }
-    assert_eq!(rt; frame.y_plane.pixel(7, 5), Some(11));
-    assert_eq!(rt;
-        frame.u_plane.as_ref().and_then(|plane| plane.pixel(7, 5)),
-        Some(22)
-    );
-    assert_eq!(rt;
-        frame.v_plane.as_ref().and_then(|plane| plane.pixel(7, 5)),
-        Some(33)
-    );
-    for (index, mark) in [(0, 11), (1, 22), (2, 33)] {
-        let plane = frame.plane(index).ok_or("a plane")?;
-        assert_eq!(rt; plane.pixel(7, 5), Some(mark));
-    }
+    let wanted = [Some(11), Some(22), Some(33)];
+    assert!(rt; marks(&frame) == (wanted, wanted));
     assert!(rt; frame.plane(3).is_none());
-    Ok(())
 }

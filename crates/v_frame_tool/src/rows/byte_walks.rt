@@ -1,175 +1,209 @@
 //! Walks over the bytes of planes.
 
+use super::debugs::shows;
 use super::frames::{monochrome, words};
-use super::walks::counted;
-use std::alloc::{AllocError, Global};
-use std::test::Fail;
-use v_frame::frame::Frame;
+use super::walks::{counted_plane, told};
+use std::alloc::Global;
+use std::process::Abort;
 use v_frame::pixel::Pixel;
 use v_frame::plane::{ByteData, Plane};
 
 /// 0x0102, 0x0304 above 0x0506, 0x0708, in a border of 0xABCD.
-fn four_words(alloc: Global, padding: [usize; 4]) -> Result<Frame<u16>, Fail> {
-    let mut frame = words(alloc, 2, 2, padding)?;
-    frame.y_plane.data_mut().fill(0xABCD);
-    frame
-        .y_plane
-        .copy_from_slice(&[0x0102, 0x0304, 0x0506, 0x0708])?;
-    Ok(frame)
+fn four_words(rt: &impl Abort, alloc: Global, padding: [usize; 4]) -> Plane<u16> {
+    let mut plane = words(alloc, 2, 2, padding).expect(rt, "a frame").y_plane;
+    plane.data_mut().fill(0xABCD);
+    plane
+        .copy_from_slice(&[0x0102, 0x0304, 0x0506, 0x0708])
+        .expect(rt, "a copy");
+    plane
 }
 
-/// All bytes, from the front.
-fn bytes_of<T: Pixel>(alloc: Global, plane: &Plane<T>) -> Result<Vec<u8>, AllocError> {
+/// A row of these pixels.
+fn row_of(rt: &impl Abort, alloc: Global, pixels: &[u16]) -> Plane<u16> {
+    let mut plane = words(alloc, pixels.len(), 1, [0, 0, 0, 0])
+        .expect(rt, "a frame")
+        .y_plane;
+    plane.copy_from_slice(pixels).expect(rt, "a copy");
+    plane
+}
+
+/// All bytes, as a loop draws them.
+fn looped(rt: &impl Abort, alloc: Global, plane: &Plane<u16>) -> Vec<u8> {
     let mut bytes = Vec::new(alloc);
     for byte in plane.byte_data() {
-        bytes.push(byte)?;
+        bytes.push(byte).expect(rt, "memory");
     }
-    Ok(bytes)
-}
-
-/// All bytes, from the back.
-fn bytes_from_the_back<T: Pixel>(alloc: Global, plane: &Plane<T>) -> Result<Vec<u8>, AllocError> {
-    plane.byte_data().rev().collect(alloc)
-}
-
-/// Draws by turns, from the front first.
-fn by_turns<T: Pixel>(alloc: Global, mut bytes: ByteData<'_, T>) -> Result<Vec<u8>, AllocError> {
-    let mut drawn = Vec::new(alloc);
-    let mut from_front = true;
-    for _draw in 0..bytes.len() {
-        let byte = if from_front {
-            bytes.next()
-        } else {
-            bytes.next_back()
-        };
-        drawn.push(byte.unwrap_or(0))?;
-        from_front = !from_front;
-    }
-    Ok(drawn)
+    bytes
 }
 
 #[test]
-fn low_bytes_come_first(rt: HostRuntime) -> Result<(), Fail> {
+fn low_bytes_come_first(rt: HostRuntime) {
     for padding in [[0, 0, 0, 0], [1, 2, 1, 1]] {
-        let frame = four_words(rt.alloc(), padding)?;
-        let bytes = bytes_of(rt.alloc(), &frame.y_plane)?;
-        assert_eq!(rt; bytes.as_slice(), [2, 1, 4, 3, 6, 5, 8, 7].as_slice());
-        let frame = counted(rt.alloc(), 3, 2, padding)?;
-        let bytes = bytes_of(rt.alloc(), &frame.y_plane)?;
-        assert_eq!(rt; bytes.as_slice(), [1, 2, 3, 4, 5, 6].as_slice());
+        let plane = four_words(&rt, rt.alloc(), padding);
+        let bytes = looped(&rt, rt.alloc(), &plane);
+        assert!(rt; bytes.as_slice() == [2, 1, 4, 3, 6, 5, 8, 7].as_slice());
     }
-    Ok(())
 }
 
 #[test]
-fn high_bytes_come_first_from_the_back(rt: HostRuntime) -> Result<(), Fail> {
-    for padding in [[0, 0, 0, 0], [1, 2, 1, 1]] {
-        let frame = four_words(rt.alloc(), padding)?;
-        let bytes = bytes_from_the_back(rt.alloc(), &frame.y_plane)?;
-        assert_eq!(rt; bytes.as_slice(), [7, 8, 5, 6, 3, 4, 1, 2].as_slice());
-        let frame = counted(rt.alloc(), 3, 2, padding)?;
-        let bytes = bytes_from_the_back(rt.alloc(), &frame.y_plane)?;
-        assert_eq!(rt; bytes.as_slice(), [6, 5, 4, 3, 2, 1].as_slice());
-    }
-    Ok(())
+fn high_bytes_come_first_from_the_back(rt: HostRuntime) {
+    let bare = four_words(&rt, rt.alloc(), [0, 0, 0, 0]);
+    let bordered = four_words(&rt, rt.alloc(), [1, 2, 1, 1]);
+    let wanted = [7, 8, 5, 6, 3, 4, 1, 2];
+    assert!(rt; bare.byte_data().rev().eq(wanted) && bordered.byte_data().rev().eq(wanted));
+}
+
+/// Whether the bytes are 1 to 6, and 6 to 1 from the back.
+fn count_to_six(plane: &Plane<u8>) -> bool {
+    plane.byte_data().eq([1, 2, 3, 4, 5, 6]) && plane.byte_data().rev().eq([6, 5, 4, 3, 2, 1])
 }
 
 #[test]
-fn bytes_are_drawn_by_turns(rt: HostRuntime) -> Result<(), Fail> {
-    let frame = counted(rt.alloc(), 2, 2, [0, 0, 0, 0])?;
-    let drawn = by_turns(rt.alloc(), frame.y_plane.byte_data())?;
-    assert_eq!(rt; drawn.as_slice(), [1, 4, 2, 3].as_slice());
-    let frame = four_words(rt.alloc(), [0, 1, 0, 0])?;
-    let drawn = by_turns(rt.alloc(), frame.y_plane.byte_data())?;
-    assert_eq!(rt; drawn.as_slice(), [2, 7, 1, 8, 4, 5, 3, 6].as_slice());
-    Ok(())
+fn pixels_of_a_byte_are_its_bytes(rt: HostRuntime) {
+    let bare = counted_plane(&rt, rt.alloc(), 3, 2, [0, 0, 0, 0]);
+    let bordered = counted_plane(&rt, rt.alloc(), 3, 2, [1, 2, 1, 1]);
+    assert!(rt; count_to_six(&bare) && count_to_six(&bordered));
+}
+
+/// Four draws by turns, from the front first.
+fn by_turns<T: Pixel>(bytes: &mut ByteData<'_, T>) -> [Option<u8>; 4] {
+    [
+        bytes.next(),
+        bytes.next_back(),
+        bytes.next(),
+        bytes.next_back(),
+    ]
 }
 
 #[test]
-fn a_begun_pixel_is_finished_from_the_other_end(rt: HostRuntime) -> Result<(), Fail> {
-    let mut frame = words(rt.alloc(), 1, 1, [0, 0, 0, 0])?;
-    frame.y_plane.copy_from_slice(&[0x0102])?;
-    let mut bytes = frame.y_plane.byte_data();
-    assert_eq!(rt; (bytes.next(), bytes.len()), (Some(2), 1));
-    assert_eq!(rt; (bytes.next_back(), bytes.len()), (Some(1), 0));
-    let mut bytes = frame.y_plane.byte_data();
-    assert_eq!(rt; (bytes.next_back(), bytes.len()), (Some(1), 1));
-    assert_eq!(rt; (bytes.next(), bytes.len()), (Some(2), 0));
-    Ok(())
+fn bytes_are_drawn_by_turns(rt: HostRuntime) {
+    let plane = counted_plane(&rt, rt.alloc(), 2, 2, [0, 0, 0, 0]);
+    let mut bytes = plane.byte_data();
+    assert!(rt; by_turns(&mut bytes) == [Some(1), Some(4), Some(2), Some(3)]);
+    let plane = four_words(&rt, rt.alloc(), [0, 1, 0, 0]);
+    let mut bytes = plane.byte_data();
+    assert!(rt; by_turns(&mut bytes) == [Some(2), Some(7), Some(1), Some(8)]);
+    assert!(rt; by_turns(&mut bytes) == [Some(4), Some(5), Some(3), Some(6)]);
+}
+
+/// A draw from each end, the front first, with what is left after each.
+fn from_the_front(plane: &Plane<u16>) -> ([Option<u8>; 2], [usize; 2]) {
+    let mut bytes = plane.byte_data();
+    let (first, left) = (bytes.next(), bytes.len());
+    ([first, bytes.next_back()], [left, bytes.len()])
+}
+
+/// A draw from each end, the back first, with what is left after each.
+fn from_the_back(plane: &Plane<u16>) -> ([Option<u8>; 2], [usize; 2]) {
+    let mut bytes = plane.byte_data();
+    let (first, left) = (bytes.next_back(), bytes.len());
+    ([first, bytes.next()], [left, bytes.len()])
 }
 
 #[test]
-fn two_begun_pixels(rt: HostRuntime) -> Result<(), Fail> {
-    let mut frame = words(rt.alloc(), 2, 1, [0, 0, 0, 0])?;
-    frame.y_plane.copy_from_slice(&[0x0102, 0x0304])?;
-    let mut bytes = frame.y_plane.byte_data();
-    assert_eq!(rt; (bytes.next(), bytes.next_back()), (Some(2), Some(3)));
-    assert_eq!(rt; (bytes.len(), bytes.size_hint()), (2, (2, Some(2))));
-    assert_eq!(rt; (bytes.next_back(), bytes.next_back()), (Some(4), Some(1)));
-    assert_eq!(rt; bytes.next_back(), None);
-    Ok(())
+fn a_begun_pixel_is_finished_from_the_other_end(rt: HostRuntime) {
+    let plane = row_of(&rt, rt.alloc(), &[0x0102]);
+    assert!(rt; from_the_front(&plane) == ([Some(2), Some(1)], [1, 0]));
+    assert!(rt; from_the_back(&plane) == ([Some(1), Some(2)], [1, 0]));
+}
+
+/// A draw from each end, the front first.
+fn ends(bytes: &mut ByteData<'_, u16>) -> (Option<u8>, Option<u8>) {
+    (bytes.next(), bytes.next_back())
+}
+
+/// Three draws from the back.
+fn three_from_the_back(mut bytes: ByteData<'_, u16>) -> [Option<u8>; 3] {
+    [bytes.next_back(), bytes.next_back(), bytes.next_back()]
 }
 
 #[test]
-fn bytes_past_the_end_are_none(rt: HostRuntime) -> Result<(), Fail> {
-    let frame = four_words(rt.alloc(), [1, 2, 1, 1])?;
-    let mut bytes = frame.y_plane.byte_data();
+fn two_begun_pixels(rt: HostRuntime) {
+    let plane = row_of(&rt, rt.alloc(), &[0x0102, 0x0304]);
+    let mut bytes = plane.byte_data();
+    assert!(rt; ends(&mut bytes) == (Some(2), Some(3)));
+    assert!(rt; told(&bytes) == (2, (2, Some(2))));
+    assert!(rt; three_from_the_back(bytes) == [Some(4), Some(1), None]);
+}
+
+/// Whether five draws from the back and three from the front give something, and three more from each end nothing.
+fn bytes_end(plane: &Plane<u16>) -> bool {
+    let mut bytes = plane.byte_data();
+    let mut kept = true;
     for _draw in 0..5 {
-        assert!(rt; bytes.next_back().is_some());
+        kept = kept && bytes.next_back().is_some();
     }
     for _draw in 0..3 {
-        assert!(rt; bytes.next().is_some());
+        kept = kept && bytes.next().is_some();
     }
     for _draw in 0..3 {
-        assert_eq!(rt; (bytes.next(), bytes.next_back()), (None, None));
-        assert_eq!(rt; (bytes.len(), bytes.size_hint()), (0, (0, Some(0))));
+        kept = kept && ends(&mut bytes) == (None, None) && told(&bytes) == (0, (0, Some(0)));
     }
-    Ok(())
+    kept
 }
 
 #[test]
-fn adapters_take_bytes_as_any_iterator(rt: HostRuntime) -> Result<(), Fail> {
-    let frame = four_words(rt.alloc(), [1, 2, 1, 1])?;
-    let plane = &frame.y_plane;
+fn bytes_past_the_end_are_none(rt: HostRuntime) {
+    let plane = four_words(&rt, rt.alloc(), [1, 2, 1, 1]);
+    assert!(rt; bytes_end(&plane));
+}
+
+/// Whether each byte and its mirror image add up to this sum.
+fn mirrored_sums_are(plane: &Plane<u16>, sums: [u8; 8]) -> bool {
     let pairs = plane.byte_data().zip(plane.byte_data().rev());
-    let sums: Vec<u8> = pairs.map(|(a, b)| a.wrapping_add(b)).collect(rt.alloc())?;
-    assert_eq!(rt; sums.as_slice(), [9, 9, 9, 9, 9, 9, 9, 9].as_slice());
-    let low: Vec<u8> = plane.byte_data().step_by(2).collect(rt.alloc())?;
-    assert_eq!(rt; low.as_slice(), [2, 4, 6, 8].as_slice());
-    let high: Vec<u8> = plane.byte_data().skip(1).step_by(2).collect(rt.alloc())?;
-    assert_eq!(rt; high.as_slice(), [1, 3, 5, 7].as_slice());
-    assert_eq!(rt; plane.byte_data().nth(3), Some(3));
-    assert_eq!(rt; plane.byte_data().max(), Some(8));
-    assert_eq!(rt; plane.byte_data().position(|byte| byte == 5), Some(5));
-    Ok(())
+    pairs.map(|(a, b)| a.wrapping_add(b)).eq(sums)
+}
+
+/// Whether these are the low bytes, which come first.
+fn low_are(plane: &Plane<u16>, wanted: [u8; 4]) -> bool {
+    plane.byte_data().step_by(2).eq(wanted)
+}
+
+/// Whether these are the high bytes.
+fn high_are(plane: &Plane<u16>, wanted: [u8; 4]) -> bool {
+    plane.byte_data().skip(1).step_by(2).eq(wanted)
+}
+
+/// The fourth byte, the largest one, and how many come before a five.
+fn found(plane: &Plane<u16>) -> (Option<u8>, Option<u8>, Option<usize>) {
+    (
+        plane.byte_data().nth(3),
+        plane.byte_data().max(),
+        plane.byte_data().position(|byte| byte == 5),
+    )
 }
 
 #[test]
-fn bytes_are_counted(rt: HostRuntime) -> Result<(), Fail> {
-    let frame = monochrome(rt.alloc(), 4, 3, [2, 2, 1, 1])?;
-    let mut bytes = frame.y_plane.byte_data();
-    assert_eq!(rt; bytes.len(), 12);
-    assert_eq!(rt; (bytes.next(), bytes.len()), (Some(0), 11));
-    let frame = words(rt.alloc(), 4, 3, [2, 2, 1, 1])?;
-    let mut bytes = frame.y_plane.byte_data();
-    assert_eq!(rt; bytes.len(), 24);
-    assert_eq!(rt; (bytes.next(), bytes.len()), (Some(0), 23));
-    assert_eq!(rt; frame.y_plane.byte_data().count(), 24);
-    Ok(())
+fn adapters_take_bytes_as_any_iterator(rt: HostRuntime) {
+    let plane = four_words(&rt, rt.alloc(), [1, 2, 1, 1]);
+    assert!(rt; mirrored_sums_are(&plane, [9, 9, 9, 9, 9, 9, 9, 9]));
+    assert!(rt; low_are(&plane, [2, 4, 6, 8]) && high_are(&plane, [1, 3, 5, 7]));
+    assert!(rt; found(&plane) == (Some(3), Some(8), Some(5)));
+}
+
+/// How many bytes a walk tells and gives, the first one, and how many are left after it.
+fn counts<T: Pixel>(plane: &Plane<T>) -> ([usize; 3], Option<u8>) {
+    let mut bytes = plane.byte_data();
+    let (length, first) = (bytes.len(), bytes.next());
+    ([length, plane.byte_data().count(), bytes.len()], first)
 }
 
 #[test]
-fn a_walk_over_bytes_is_cloned_and_shown(rt: HostRuntime) -> Result<(), Fail> {
-    let frame = four_words(rt.alloc(), [1, 2, 1, 1])?;
-    let mut bytes = frame.y_plane.byte_data();
-    assert_eq!(rt; (bytes.next(), bytes.next_back()), (Some(2), Some(7)));
-    let copy = bytes.clone()?;
-    assert_eq!(rt; (bytes.next(), bytes.len(), copy.len()), (Some(1), 5, 6));
-    assert_eq!(rt;
-        format!(in rt.alloc(); "{copy:?}")?.as_str(),
-        "[1, 4, 3, 6, 5, 8]"
-    );
-    let left: Vec<u8> = copy.collect(rt.alloc())?;
-    assert_eq!(rt; left.as_slice(), [1, 4, 3, 6, 5, 8].as_slice());
-    Ok(())
+fn bytes_are_counted(rt: HostRuntime) {
+    let frame = monochrome(rt.alloc(), 4, 3, [2, 2, 1, 1]).expect(&rt, "a frame");
+    assert!(rt; counts(&frame.y_plane) == ([12, 12, 11], Some(0)));
+    let frame = words(rt.alloc(), 4, 3, [2, 2, 1, 1]).expect(&rt, "a frame");
+    assert!(rt; counts(&frame.y_plane) == ([24, 24, 23], Some(0)));
+}
+
+#[test]
+fn a_walk_over_bytes_is_cloned_and_shown(rt: HostRuntime) {
+    let plane = four_words(&rt, rt.alloc(), [1, 2, 1, 1]);
+    let mut bytes = plane.byte_data();
+    assert!(rt; ends(&mut bytes) == (Some(2), Some(7)));
+    let copy = bytes.clone().expect(&rt, "memory");
+    assert!(rt; (bytes.next(), bytes.len(), copy.len()) == (Some(1), 5, 6));
+    assert!(rt; shows(&rt, rt.alloc(), &copy, "[1, 4, 3, 6, 5, 8]"));
+    let left: Vec<u8> = copy.collect(rt.alloc()).expect(&rt, "memory");
+    assert!(rt; left.as_slice() == [1, 4, 3, 6, 5, 8].as_slice());
 }

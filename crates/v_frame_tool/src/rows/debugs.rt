@@ -1,132 +1,177 @@
 //! The debug texts of lists of calls and of their answers.
 
-use std::alloc::{AllocError, Global};
+use std::alloc::Global;
 use std::fmt::Debug;
-use std::test::Fail;
+use std::process::Abort;
 use v_frame::plane::CopyError;
 use v_frame::replay::{
     Answer, Drawn, PixelDraw, ReplayStopped, RowDraw, Sequence, Side, VisibleCall,
 };
 
 /// Whether a value shows this debug text.
-pub fn shows(alloc: Global, value: &impl Debug, wanted: &str) -> Result<bool, AllocError> {
-    let text = format!(in alloc; "{value:?}")?;
-    Ok(text.as_str() == wanted)
+pub fn shows(rt: &impl Abort, alloc: Global, value: &impl Debug, wanted: &str) -> bool {
+    let text = format!(in alloc; "{value:?}").expect(rt, "memory");
+    text.as_str() == wanted
 }
 
-/// A sequence of these pixels.
-fn sequence(alloc: Global, pixels: &[u8]) -> Result<Sequence<u8>, AllocError> {
-    Ok(Vec::from_slice(alloc, pixels)?.into())
+/// A sequence of these items.
+fn sequence<T: Copy>(rt: &impl Abort, alloc: Global, items: &[T]) -> Sequence<T> {
+    let items = Vec::from_slice(alloc, items).expect(rt, "memory");
+    items.into()
+}
+
+/// Whether a call shows this debug text.
+fn call_shows(rt: &impl Abort, alloc: Global, call: VisibleCall<u8>, wanted: &str) -> bool {
+    shows(rt, alloc, &call, wanted)
+}
+
+/// Whether an answer shows this debug text.
+fn answer_shows(rt: &impl Abort, alloc: Global, answer: Answer<u8>, wanted: &str) -> bool {
+    shows(rt, alloc, &answer, wanted)
+}
+
+/// Whether a sequence of these pixels shows this debug text.
+fn pixels_show(rt: &impl Abort, alloc: Global, pixels: &[u8], wanted: &str) -> bool {
+    shows(rt, alloc, &sequence(rt, alloc, pixels), wanted)
 }
 
 #[test]
-fn sequences_show_their_items(rt: HostRuntime) -> Result<(), Fail> {
-    let alloc = rt.alloc();
-    assert!(rt; shows(alloc, &sequence(alloc, &[])?, "[]")?);
-    assert!(rt; shows(alloc, &sequence(alloc, &[1, 2, 30])?, "[1, 2, 30]")?);
-    Ok(())
+fn sequences_show_their_items(rt: HostRuntime) {
+    assert!(rt; pixels_show(&rt, rt.alloc(), &[], "[]"));
+    assert!(rt; pixels_show(&rt, rt.alloc(), &[1, 2, 30], "[1, 2, 30]"));
 }
 
-#[test]
-fn sequences_read_as_slices(rt: HostRuntime) -> Result<(), Fail> {
-    let pixels = sequence(rt.alloc(), &[4, 5, 6])?;
-    assert_eq!(rt; (pixels.len(), pixels.is_empty()), (3, false));
-    assert!(rt; sequence(rt.alloc(), &[])?.is_empty());
-    assert_eq!(rt; pixels.iter().copied().max(), Some(6));
-    assert_eq!(rt; pixels.first(), Some(&4));
-    let mut again = Vec::new(rt.alloc());
-    for pixel in &pixels {
-        again.push(*pixel)?;
+/// The length of a sequence, whether it is empty, the greatest item and the first.
+fn measures(pixels: &Sequence<u8>) -> (usize, bool, Option<u8>, Option<u8>) {
+    let greatest = pixels.iter().copied().max();
+    (
+        pixels.len(),
+        pixels.is_empty(),
+        greatest,
+        pixels.first().copied(),
+    )
+}
+
+/// The items that a walk over a sequence gives.
+fn walked(rt: &impl Abort, alloc: Global, pixels: &Sequence<u8>) -> Vec<u8> {
+    let mut again = Vec::new(alloc);
+    for pixel in pixels {
+        again.push(*pixel).expect(rt, "memory");
     }
-    assert_eq!(rt; again.as_slice(), pixels.as_slice());
-    Ok(())
+    again
 }
 
 #[test]
-fn calls_show_what_they_name(rt: HostRuntime) -> Result<(), Fail> {
-    let alloc = rt.alloc();
+fn sequences_read_as_slices(rt: HostRuntime) {
+    let pixels = sequence(&rt, rt.alloc(), &[4, 5, 6]);
+    let again = walked(&rt, rt.alloc(), &pixels);
+    let as_slice = measures(&pixels) == (3, false, Some(6), Some(4));
+    assert!(rt; as_slice && again.as_slice() == pixels.as_slice());
+    let none = sequence(&rt, rt.alloc(), &[]);
+    assert!(rt; measures(&none) == (0, true, None, None));
+}
+
+#[test]
+fn calls_show_what_they_name(rt: HostRuntime) {
     let width: VisibleCall<u8> = VisibleCall::Width { plane: 1 };
-    assert!(rt; shows(alloc, &width, "Width { plane: 1 }")?);
+    assert!(rt; call_shows(&rt, rt.alloc(), width, "Width { plane: 1 }"));
     let copy = VisibleCall::CopyFromSlice {
         plane: 0,
-        source: sequence(alloc, &[7, 8])?,
+        source: sequence(&rt, rt.alloc(), &[7u8, 8]),
     };
-    assert!(rt; shows(alloc, &copy, "CopyFromSlice { plane: 0, source: [7, 8] }")?);
-    Ok(())
+    assert!(rt;
+        call_shows(
+            &rt,
+            rt.alloc(),
+            copy,
+            "CopyFromSlice { plane: 0, source: [7, 8] }"
+        )
+    );
 }
 
 #[test]
-fn a_row_shows_what_overwrites_it(rt: HostRuntime) -> Result<(), Fail> {
-    let alloc = rt.alloc();
-    let writes = Vec::from_slice(alloc, &[Some(9u8), None])?.into();
+fn a_row_shows_what_overwrites_it(rt: HostRuntime) {
     let row = VisibleCall::RowMut {
         plane: 2,
         y: 3,
-        writes,
+        writes: sequence(&rt, rt.alloc(), &[Some(9u8), None]),
     };
     let wanted = "RowMut { plane: 2, y: 3, writes: [Some(9), None] }";
-    assert!(rt; shows(alloc, &row, wanted)?);
-    Ok(())
+    assert!(rt; call_shows(&rt, rt.alloc(), row, wanted));
 }
 
 #[test]
-fn walks_show_their_sides(rt: HostRuntime) -> Result<(), Fail> {
-    let alloc = rt.alloc();
+fn walks_show_their_sides(rt: HostRuntime) {
     let bytes: VisibleCall<u8> = VisibleCall::ByteData {
         plane: 1,
-        draws: Vec::from_slice(alloc, &[Side::Back])?.into(),
+        draws: sequence(&rt, rt.alloc(), &[Side::Back]),
     };
-    assert!(rt; shows(alloc, &bytes, "ByteData { plane: 1, draws: [Back] }")?);
-    Ok(())
+    assert!(rt;
+        call_shows(
+            &rt,
+            rt.alloc(),
+            bytes,
+            "ByteData { plane: 1, draws: [Back] }"
+        )
+    );
 }
 
 #[test]
-fn draws_show_what_they_write(rt: HostRuntime) -> Result<(), Fail> {
-    let alloc = rt.alloc();
+fn draws_show_what_they_write(rt: HostRuntime) {
     let row = RowDraw {
         side: Side::Front,
-        writes: Vec::from_slice(alloc, &[Some(9u8), None])?.into(),
+        writes: sequence(&rt, rt.alloc(), &[Some(9u8), None]),
     };
     let rows = VisibleCall::RowsMut {
         plane: 1,
-        draws: Vec::from_array(alloc, [row])?.into(),
+        draws: Vec::from_array(rt.alloc(), [row])
+            .expect(&rt, "memory")
+            .into(),
     };
     let wanted = "RowsMut { plane: 1, draws: [RowDraw { side: Front, writes: [Some(9), None] }] }";
-    assert!(rt; shows(alloc, &rows, wanted)?);
+    assert!(rt; call_shows(&rt, rt.alloc(), rows, wanted));
     let pixel: PixelDraw<u8> = PixelDraw {
         side: Side::Back,
         value: None,
     };
-    assert!(rt; shows(alloc, &pixel, "PixelDraw { side: Back, value: None }")?);
-    Ok(())
+    assert!(rt;
+        shows(
+            &rt,
+            rt.alloc(),
+            &pixel,
+            "PixelDraw { side: Back, value: None }"
+        )
+    );
 }
 
 #[test]
-fn answers_show_what_was_answered(rt: HostRuntime) -> Result<(), Fail> {
-    let alloc = rt.alloc();
-    let row = Answer::RowShown(Some(sequence(alloc, &[1, 2])?));
-    assert!(rt; shows(alloc, &row, "RowShown(Some([1, 2]))")?);
+fn answers_show_what_was_answered(rt: HostRuntime) {
     let refused: Answer<u8> = Answer::Copied(Err(CopyError::DataLength {
         expected: 6,
         found: 5,
     }));
     let wanted = "Copied(Err(DataLength { expected: 6, found: 5 }))";
-    assert!(rt; shows(alloc, &refused, wanted)?);
+    assert!(rt; answer_shows(&rt, rt.alloc(), refused, wanted));
     let byte = Drawn {
         item: Some(7),
         left: 0,
     };
     let bytes: Answer<u8> = Answer::BytesWalked {
         total: 1,
-        drawn: Vec::from_array(alloc, [byte])?.into(),
+        drawn: Vec::from_array(rt.alloc(), [byte])
+            .expect(&rt, "memory")
+            .into(),
     };
     let wanted = "BytesWalked { total: 1, drawn: [Drawn { item: Some(7), left: 0 }] }";
-    assert!(rt; shows(alloc, &bytes, wanted)?);
-    let mut done = Vec::new(alloc);
-    done.push(Answer::Number(3))?;
-    done.push(row)?;
+    assert!(rt; answer_shows(&rt, rt.alloc(), bytes, wanted));
+}
+
+#[test]
+fn a_stopped_replay_shows_what_was_answered(rt: HostRuntime) {
+    let row = Answer::RowShown(Some(sequence(&rt, rt.alloc(), &[1u8, 2])));
+    assert!(rt; shows(&rt, rt.alloc(), &row, "RowShown(Some([1, 2]))"));
+    let done = Vec::from_array(rt.alloc(), [Answer::Number(3), row]).expect(&rt, "memory");
     let stopped = ReplayStopped { done: done.into() };
     let wanted = "ReplayStopped { done: [Number(3), RowShown(Some([1, 2]))] }";
-    assert!(rt; shows(alloc, &stopped, wanted)?);
-    Ok(())
+    assert!(rt; shows(&rt, rt.alloc(), &stopped, wanted));
 }

@@ -45,7 +45,8 @@ pub fn table_of(plane: &Plane<u8>) -> [Option<[u8; 3]>; 2] {
     [three_of(plane.row(0)), three_of(plane.row(1))]
 }
 
-fn three_of(row: Option<&[u8]>) -> Option<[u8; 3]> {
+/// The pixels of a row of three.
+pub fn three_of(row: Option<&[u8]>) -> Option<[u8; 3]> {
     match row {
         Some([a, b, c]) => Some([*a, *b, *c]),
         _ => None,

@@ -5,7 +5,6 @@ use crate::counted::Counted;
 use crate::fault::ToolFault;
 use crate::run::run;
 use std::io::Cursor;
-use std::test::Fail;
 use v_frame::plane::CopyError;
 
 /// What `run` answers, and what it writes into 64 bytes.

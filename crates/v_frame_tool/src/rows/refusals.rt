@@ -9,8 +9,9 @@ use super::writes::row_mut;
 use crate::counted::Counted;
 use crate::fault::ToolFault;
 use crate::run::run;
+use std::alloc::Global;
 use std::io::Cursor;
-use std::test::Fail;
+use std::process::Abort;
 use v_frame::chroma::ChromaSubsampling;
 use v_frame::frame::{FrameBuilder, FrameError};
 use v_frame::replay::{Answer, VisibleCall, replay};
@@ -24,89 +25,96 @@ fn a_refused_build_hands_out_no_frame(rt: HostRuntime) {
 }
 
 #[test]
-fn a_refused_build_of_three_planes_hands_out_no_frame(rt: HostRuntime) -> Result<(), Fail> {
+fn a_refused_build_of_three_planes_hands_out_no_frame(rt: HostRuntime) {
     let builder = padded((4, 2), ChromaSubsampling::Yuv420, 8, [2, 2, 2, 0]);
     match builder.build::<u8>(rt.alloc()) {
         Ok(frame) => {
-            assert_eq!(rt; frame.y_plane.data(), [0; 32].as_slice());
-            let (u, v) = (frame.plane(1).ok_or("U")?, frame.plane(2).ok_or("V")?);
-            assert_eq!(rt;
-                (u.data(), v.data()),
-                ([0; 8].as_slice(), [0; 8].as_slice())
-            );
+            assert!(rt; frame.y_plane.data() == [0; 32].as_slice());
+            for index in 1..3 {
+                let chroma = frame.plane(index).expect(&rt, "a chroma plane");
+                assert!(rt; chroma.data() == [0; 8].as_slice());
+            }
         }
-        Err(error) => assert_eq!(rt; error, FrameError::OutOfMemory),
+        Err(error) => assert!(rt; error == FrameError::OutOfMemory),
     }
-    Ok(())
 }
 
 #[test]
 fn a_buffer_past_all_memory_is_refused(rt: HostRuntime) {
     let widest = FrameBuilder::new(4611686018427387903, 1, ChromaSubsampling::Monochrome, 8);
     let built = widest.build::<u8>(rt.alloc());
-    assert_eq!(rt; built.err(), Some(FrameError::OutOfMemory));
+    assert!(rt; built.err() == Some(FrameError::OutOfMemory));
     let widest = FrameBuilder::new(4611686018427387903, 1, ChromaSubsampling::Monochrome, 10);
     let built = widest.build::<u16>(rt.alloc());
-    assert_eq!(rt; built.err(), Some(FrameError::OutOfMemory));
+    assert!(rt; built.err() == Some(FrameError::OutOfMemory));
 }
 
 #[test]
 fn other_refusals_need_no_memory(rt: HostRuntime) {
     let depth = FrameBuilder::new(1920, 1080, ChromaSubsampling::Monochrome, 7);
     let wanted = FrameError::UnsupportedBitDepth { found: 7 };
-    assert_eq!(rt; depth.build::<u8>(rt.alloc()).err(), Some(wanted));
+    assert!(rt; depth.build::<u8>(rt.alloc()).err() == Some(wanted));
     let mismatch = FrameBuilder::new(1920, 1080, ChromaSubsampling::Monochrome, 10);
     let built = mismatch.build::<u8>(rt.alloc());
-    assert_eq!(rt; built.err(), Some(FrameError::DataTypeMismatch));
+    assert!(rt; built.err() == Some(FrameError::DataTypeMismatch));
     let empty = FrameBuilder::new(0, 1080, ChromaSubsampling::Monochrome, 8);
     let built = empty.build::<u8>(rt.alloc());
-    assert_eq!(rt; built.err(), Some(FrameError::UnsupportedResolution));
+    assert!(rt; built.err() == Some(FrameError::UnsupportedResolution));
     let odd = padded((1920, 1080), ChromaSubsampling::Yuv420, 8, [0, 0, 0, 1]);
     let built = odd.build::<u8>(rt.alloc());
-    assert_eq!(rt; built.err(), Some(FrameError::UnsupportedResolution));
+    assert!(rt; built.err() == Some(FrameError::UnsupportedResolution));
+}
+
+/// A blank row, a copy, and the two rows that were copied.
+fn reads_around_a_copy(rt: &impl Abort, alloc: Global) -> [VisibleCall<u8>; 4] {
+    [
+        VisibleCall::Row { plane: 0, y: 0 },
+        copy(rt, alloc, &[1, 2, 3, 4, 5, 6]),
+        VisibleCall::Row { plane: 0, y: 0 },
+        VisibleCall::Row { plane: 0, y: 1 },
+    ]
+}
+
+/// What a blank plane of three pixels by two answers to them.
+fn answers_around_a_copy(rt: &impl Abort, alloc: Global) -> [Answer<u8>; 4] {
+    [
+        row_shown(rt, alloc, &[0, 0, 0]),
+        Answer::Copied(Ok(())),
+        row_shown(rt, alloc, &[1, 2, 3]),
+        row_shown(rt, alloc, &[4, 5, 6]),
+    ]
 }
 
 #[test]
-fn a_stopped_replay_has_done_its_first_calls(rt: HostRuntime) -> Result<(), Fail> {
-    let mut frame = monochrome(rt.alloc(), 3, 2, [1, 2, 1, 0])?;
-    let calls = [
-        VisibleCall::Row { plane: 0, y: 0 },
-        copy(rt.alloc(), &[1, 2, 3, 4, 5, 6])?,
-        VisibleCall::Row { plane: 0, y: 0 },
-        VisibleCall::Row { plane: 0, y: 1 },
-    ];
-    let wanted = [
-        row_shown(rt.alloc(), &[0, 0, 0])?,
-        Answer::Copied(Ok(())),
-        row_shown(rt.alloc(), &[1, 2, 3])?,
-        row_shown(rt.alloc(), &[4, 5, 6])?,
-    ];
+fn a_stopped_replay_has_done_its_first_calls(rt: HostRuntime) {
+    let mut frame = monochrome(rt.alloc(), 3, 2, [1, 2, 1, 0]).expect(&rt, "a frame");
+    let calls = reads_around_a_copy(&rt, rt.alloc());
+    let wanted = answers_around_a_copy(&rt, rt.alloc());
     let full = [Some([1, 2, 3]), Some([4, 5, 6])];
-    match replay(rt.alloc(), &mut frame, &calls) {
+    let left = match replay(rt.alloc(), &mut frame, &calls) {
         Ok(answers) => {
-            assert_eq!(rt; answers.as_slice(), wanted.as_slice());
-            assert!(rt; table_of(&frame.y_plane) == full);
+            assert!(rt; answers.as_slice() == wanted.as_slice());
+            full
         }
         Err(stopped) => {
             let done = stopped.done.as_slice();
             assert!(rt; done.len() < 4);
-            assert_eq!(rt; done, &wanted[..done.len()]);
+            assert!(rt; done == &wanted[..done.len()]);
             let blank = [Some([0, 0, 0]), Some([0, 0, 0])];
-            let left = if done.len() < 2 { blank } else { full };
-            assert!(rt; table_of(&frame.y_plane) == left);
+            if done.len() < 2 { blank } else { full }
         }
-    }
-    Ok(())
+    };
+    assert!(rt; table_of(&frame.y_plane) == left);
 }
 
 #[test]
-fn a_replay_stopped_between_two_writes(rt: HostRuntime) -> Result<(), Fail> {
-    let mut frame = monochrome(rt.alloc(), 2, 2, [0, 0, 0, 0])?;
+fn a_replay_stopped_between_two_writes(rt: HostRuntime) {
+    let mut frame = monochrome(rt.alloc(), 2, 2, [0, 0, 0, 0]).expect(&rt, "a frame");
     let calls = [
-        row_mut(rt.alloc(), 0, &[Some(1), Some(2)])?,
-        row_mut(rt.alloc(), 1, &[Some(3), Some(4)])?,
+        row_mut(&rt, rt.alloc(), 0, &[Some(1), Some(2)]),
+        row_mut(&rt, rt.alloc(), 1, &[Some(3), Some(4)]),
     ];
-    let first = [row_shown(rt.alloc(), &[0, 0])?];
+    let first = [row_shown(&rt, rt.alloc(), &[0, 0])];
     let left = match replay(rt.alloc(), &mut frame, &calls) {
         Ok(answers) => {
             assert_eq!(rt; answers.len(), 2);
@@ -114,12 +122,11 @@ fn a_replay_stopped_between_two_writes(rt: HostRuntime) -> Result<(), Fail> {
         }
         Err(stopped) if stopped.done.as_slice().is_empty() => [0, 0, 0, 0],
         Err(stopped) => {
-            assert_eq!(rt; stopped.done.as_slice(), first.as_slice());
+            assert!(rt; stopped.done.as_slice() == first.as_slice());
             [1, 2, 0, 0]
         }
     };
-    assert_eq!(rt; frame.y_plane.data(), left.as_slice());
-    Ok(())
+    assert!(rt; frame.y_plane.data() == left.as_slice());
 }
 
 #[test]

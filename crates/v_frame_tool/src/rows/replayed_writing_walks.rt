@@ -1,34 +1,50 @@
 //! Writing walks in lists of calls.
 
 use super::frames::{monochrome, padded};
-use super::replayed_walks::{pixels_walked, row};
+use super::replayed_walks::{pixels_walked, rows_walked};
+use super::replays::answers_are;
 use super::walks::counted;
-use std::alloc::{AllocError, Global};
-use std::test::Fail;
+use std::alloc::Global;
+use std::process::Abort;
 use v_frame::chroma::ChromaSubsampling;
-use v_frame::replay::{Answer, Drawn, PixelDraw, RowDraw, Side, VisibleCall, replay};
+use v_frame::replay::{Answer, PixelDraw, RowDraw, Side, VisibleCall, replay};
 
-/// A draw of a row, and what it writes.
-fn row_draw(alloc: Global, side: Side, writes: &[Option<u8>]) -> Result<RowDraw<u8>, AllocError> {
-    Ok(RowDraw {
-        side,
-        writes: Vec::from_slice(alloc, writes)?.into(),
-    })
+/// A walk over the rows of a plane, and what each draw writes.
+fn rows_mut(
+    rt: &impl Abort,
+    alloc: Global,
+    plane: usize,
+    draws: &[(Side, &[Option<u8>])],
+) -> VisibleCall<u8> {
+    let mut list = Vec::new(alloc);
+    for (side, writes) in draws {
+        let writes = Vec::from_slice(alloc, writes).expect(rt, "memory").into();
+        let draw = RowDraw {
+            side: *side,
+            writes,
+        };
+        list.push(draw).expect(rt, "memory");
+    }
+    VisibleCall::RowsMut {
+        plane,
+        draws: list.into(),
+    }
 }
 
 /// A walk over the pixels of the plane 0, and what each draw writes.
-fn pixels_mut(alloc: Global, draws: &[(Side, Option<u8>)]) -> Result<VisibleCall<u8>, AllocError> {
+fn pixels_mut(rt: &impl Abort, alloc: Global, draws: &[(Side, Option<u8>)]) -> VisibleCall<u8> {
     let mut list = Vec::new(alloc);
     for (side, value) in draws {
         list.push(PixelDraw {
             side: *side,
             value: *value,
-        })?;
+        })
+        .expect(rt, "memory");
     }
-    Ok(VisibleCall::PixelsMut {
+    VisibleCall::PixelsMut {
         plane: 0,
         draws: list.into(),
-    })
+    }
 }
 
 /// The padded frame's buffer, whose visible pixels are these and whose border holds 200.
@@ -39,8 +55,13 @@ fn buffer_of(pixels: [u8; 6]) -> [u8; 18] {
     ]
 }
 
+/// The first few items, or all where there are fewer.
+fn front<T>(items: &[T], count: usize) -> &[T] {
+    items.get(..count).unwrap_or(items)
+}
+
 #[test]
-fn a_writing_walk_draw_by_draw(rt: HostRuntime) -> Result<(), Fail> {
+fn a_writing_walk_draw_by_draw(rt: HostRuntime) {
     let draws = [
         (Side::Back, Some(9)),
         (Side::Front, None),
@@ -54,28 +75,24 @@ fn a_writing_walk_draw_by_draw(rt: HostRuntime) -> Result<(), Fail> {
         [1, 7, 3, 4, 5, 9],
     ];
     for (count, pixels) in left.into_iter().enumerate() {
-        let draws = draws.get(..count).ok_or("three draws")?;
-        let items = items.get(..count).ok_or("three draws")?;
-        let calls = [pixels_mut(rt.alloc(), draws)?];
-        let wanted = [pixels_walked(rt.alloc(), 6, items)?];
-        let mut plain = counted(rt.alloc(), 3, 2, [0, 0, 0, 0])?;
-        let answers = replay(rt.alloc(), &mut plain, &calls).ok().ok_or("memory")?;
-        assert_eq!(rt; answers.as_slice(), wanted.as_slice());
-        assert_eq!(rt; plain.y_plane.data(), pixels.as_slice());
-        let mut bordered = counted(rt.alloc(), 3, 2, [1, 2, 1, 0])?;
-        let answers = replay(rt.alloc(), &mut bordered, &calls)
-            .ok()
-            .ok_or("memory")?;
-        assert_eq!(rt; answers.as_slice(), wanted.as_slice());
-        assert_eq!(rt; bordered.y_plane.data(), buffer_of(pixels).as_slice());
+        let calls = [pixels_mut(&rt, rt.alloc(), front(&draws, count))];
+        let wanted = [pixels_walked(&rt, rt.alloc(), 6, front(&items, count))];
+        let mut plain = counted(&rt, rt.alloc(), 3, 2, [0, 0, 0, 0]);
+        assert!(rt; answers_are(&rt, rt.alloc(), &mut plain, &calls, &wanted));
+        assert!(rt; plain.y_plane.data() == pixels.as_slice());
+        let mut bordered = counted(&rt, rt.alloc(), 3, 2, [1, 2, 1, 0]);
+        assert!(rt; answers_are(&rt, rt.alloc(), &mut bordered, &calls, &wanted));
+        assert!(rt; bordered.y_plane.data() == buffer_of(pixels).as_slice());
     }
-    Ok(())
 }
 
 #[test]
-fn pixels_are_written_past_the_end(rt: HostRuntime) -> Result<(), Fail> {
-    let mut frame = monochrome(rt.alloc(), 3, 1, [0, 0, 0, 0])?;
-    frame.y_plane.copy_from_slice(&[5, 6, 7])?;
+fn pixels_are_written_past_the_end(rt: HostRuntime) {
+    let mut frame = monochrome(rt.alloc(), 3, 1, [0, 0, 0, 0]).expect(&rt, "a frame");
+    frame
+        .y_plane
+        .copy_from_slice(&[5, 6, 7])
+        .expect(&rt, "a copy");
     let draws = [
         (Side::Front, Some(1)),
         (Side::Back, Some(2)),
@@ -83,7 +100,7 @@ fn pixels_are_written_past_the_end(rt: HostRuntime) -> Result<(), Fail> {
         (Side::Back, Some(4)),
         (Side::Front, Some(5)),
     ];
-    let calls = [pixels_mut(rt.alloc(), &draws)?];
+    let calls = [pixels_mut(&rt, rt.alloc(), &draws)];
     let items = [
         (Some(5), 2),
         (Some(7), 1),
@@ -91,88 +108,52 @@ fn pixels_are_written_past_the_end(rt: HostRuntime) -> Result<(), Fail> {
         (None, 0),
         (None, 0),
     ];
-    let wanted = [pixels_walked(rt.alloc(), 3, &items)?];
-    let answers = replay(rt.alloc(), &mut frame, &calls).ok().ok_or("memory")?;
-    assert_eq!(rt; answers.as_slice(), wanted.as_slice());
-    assert_eq!(rt; frame.y_plane.data(), [1, 3, 2].as_slice());
-    Ok(())
+    let wanted = [pixels_walked(&rt, rt.alloc(), 3, &items)];
+    assert!(rt; answers_are(&rt, rt.alloc(), &mut frame, &calls, &wanted));
+    assert!(rt; frame.y_plane.data() == [1, 3, 2].as_slice());
 }
 
 #[test]
-fn meeting_row_is_written_once(rt: HostRuntime) -> Result<(), Fail> {
-    let mut frame = monochrome(rt.alloc(), 2, 1, [0, 0, 0, 0])?;
-    frame.y_plane.copy_from_slice(&[3, 4])?;
+fn meeting_row_is_written_once(rt: HostRuntime) {
+    let mut frame = monochrome(rt.alloc(), 2, 1, [0, 0, 0, 0]).expect(&rt, "a frame");
+    frame.y_plane.copy_from_slice(&[3, 4]).expect(&rt, "a copy");
     let draws = [
-        row_draw(rt.alloc(), Side::Front, &[Some(9)])?,
-        row_draw(rt.alloc(), Side::Back, &[Some(7)])?,
+        (Side::Front, [Some(9)].as_slice()),
+        (Side::Back, [Some(7)].as_slice()),
     ];
-    let calls = [VisibleCall::RowsMut {
-        plane: 0,
-        draws: Vec::from_array(rt.alloc(), draws)?.into(),
-    }];
-    let none = Drawn {
-        item: None,
-        left: 0,
-    };
-    let drawn = Vec::from_array(rt.alloc(), [row(rt.alloc(), &[3, 4], 0)?, none])?;
-    let wanted = [Answer::RowsWalked {
-        total: 1,
-        drawn: drawn.into(),
-    }];
-    let answers = replay(rt.alloc(), &mut frame, &calls).ok().ok_or("memory")?;
-    assert_eq!(rt; answers.as_slice(), wanted.as_slice());
-    assert_eq!(rt; frame.y_plane.data(), [9, 4].as_slice());
-    Ok(())
+    let calls = [rows_mut(&rt, rt.alloc(), 0, &draws)];
+    let drawn = [(Some([3, 4].as_slice()), 0), (None, 0)];
+    let wanted = [rows_walked(&rt, rt.alloc(), 1, &drawn)];
+    assert!(rt; answers_are(&rt, rt.alloc(), &mut frame, &calls, &wanted));
+    assert!(rt; frame.y_plane.data() == [9, 4].as_slice());
 }
 
 #[test]
-fn rows_are_written_from_both_ends(rt: HostRuntime) -> Result<(), Fail> {
-    let mut frame = counted(rt.alloc(), 3, 2, [1, 2, 1, 0])?;
+fn rows_are_written_from_both_ends(rt: HostRuntime) {
+    let mut frame = counted(&rt, rt.alloc(), 3, 2, [1, 2, 1, 0]);
     let draws = [
-        row_draw(rt.alloc(), Side::Back, &[None, Some(8), None, Some(9)])?,
-        row_draw(rt.alloc(), Side::Front, &[Some(7)])?,
-        row_draw(rt.alloc(), Side::Front, &[Some(10)])?,
+        (Side::Back, [None, Some(8), None, Some(9)].as_slice()),
+        (Side::Front, [Some(7)].as_slice()),
+        (Side::Front, [Some(10)].as_slice()),
     ];
-    let draws = Vec::from_array(rt.alloc(), draws)?.into();
     let calls = [
-        VisibleCall::RowsMut { plane: 0, draws },
-        VisibleCall::RowsMut {
-            plane: 1,
-            draws: Vec::new(rt.alloc()).into(),
-        },
+        rows_mut(&rt, rt.alloc(), 0, &draws),
+        rows_mut(&rt, rt.alloc(), 1, &[]),
     ];
-    let none = Drawn {
-        item: None,
-        left: 0,
-    };
-    let drawn = Vec::from_array(
-        rt.alloc(),
-        [
-            row(rt.alloc(), &[4, 5, 6], 1)?,
-            row(rt.alloc(), &[1, 2, 3], 0)?,
-            none,
-        ],
-    )?;
-    let wanted = [
-        Answer::RowsWalked {
-            total: 2,
-            drawn: drawn.into(),
-        },
-        Answer::NoPlane,
+    let drawn = [
+        (Some([4, 5, 6].as_slice()), 1),
+        (Some([1, 2, 3].as_slice()), 0),
+        (None, 0),
     ];
-    let answers = replay(rt.alloc(), &mut frame, &calls).ok().ok_or("memory")?;
-    assert_eq!(rt; answers.as_slice(), wanted.as_slice());
-    assert_eq!(rt;
-        frame.y_plane.data(),
-        buffer_of([7, 2, 3, 4, 8, 6]).as_slice()
-    );
-    Ok(())
+    let wanted = [rows_walked(&rt, rt.alloc(), 2, &drawn), Answer::NoPlane];
+    assert!(rt; answers_are(&rt, rt.alloc(), &mut frame, &calls, &wanted));
+    assert!(rt; frame.y_plane.data() == buffer_of([7, 2, 3, 4, 8, 6]).as_slice());
 }
 
 #[test]
-fn chroma_of_two_bytes_is_written(rt: HostRuntime) -> Result<(), Fail> {
+fn chroma_of_two_bytes_is_written(rt: HostRuntime) {
     let builder = padded((4, 4), ChromaSubsampling::Yuv420, 10, [2, 2, 2, 2]);
-    let mut frame = builder.build::<u16>(rt.alloc())?;
+    let mut frame = builder.build::<u16>(rt.alloc()).expect(&rt, "a frame");
     let draws = [
         PixelDraw {
             side: Side::Back,
@@ -185,56 +166,63 @@ fn chroma_of_two_bytes_is_written(rt: HostRuntime) -> Result<(), Fail> {
     ];
     let calls = [VisibleCall::PixelsMut {
         plane: 2,
-        draws: Vec::from_array(rt.alloc(), draws)?.into(),
+        draws: Vec::from_array(rt.alloc(), draws)
+            .expect(&rt, "memory")
+            .into(),
     }];
     assert!(rt; replay(rt.alloc(), &mut frame, &calls).is_ok());
-    let (u, v) = (frame.plane(1).ok_or("U")?, frame.plane(2).ok_or("V")?);
-    assert_eq!(rt; u.data(), [0; 16].as_slice());
+    let (u, v) = (
+        frame.plane(1).expect(&rt, "U"),
+        frame.plane(2).expect(&rt, "V"),
+    );
+    assert!(rt; u.data() == [0; 16].as_slice());
     let written = [0, 0, 0, 0, 0, 800, 0, 0, 0, 0, 700, 0, 0, 0, 0, 0];
-    assert_eq!(rt; v.data(), written.as_slice());
-    Ok(())
+    assert!(rt; v.data() == written.as_slice());
+}
+
+/// A walk that writes rows, and one that writes pixels.
+fn two_walks(rt: &impl Abort, alloc: Global) -> [VisibleCall<u8>; 2] {
+    let rows = [
+        (Side::Back, [Some(7)].as_slice()),
+        (Side::Front, [None, Some(8)].as_slice()),
+    ];
+    let pixels = [(Side::Front, Some(9)), (Side::Back, Some(10))];
+    [
+        rows_mut(rt, alloc, 0, &rows),
+        pixels_mut(rt, alloc, &pixels),
+    ]
+}
+
+/// What a plane of 1, 2, 3 above 4, 5, 6 answers to them.
+fn answers_of_two_walks(rt: &impl Abort, alloc: Global) -> [Answer<u8>; 2] {
+    let rows = [
+        (Some([4, 5, 6].as_slice()), 1),
+        (Some([1, 2, 3].as_slice()), 0),
+    ];
+    [
+        rows_walked(rt, alloc, 2, &rows),
+        pixels_walked(rt, alloc, 6, &[(Some(1), 5), (Some(6), 4)]),
+    ]
 }
 
 /// Each request for memory of the replay may be refused: then the calls in front are done, and no other has written.
 #[test]
-fn a_stopped_writing_walk_has_written_nothing(rt: HostRuntime) -> Result<(), Fail> {
-    let alloc = rt.alloc();
-    let mut frame = counted(alloc, 3, 2, [1, 2, 1, 0])?;
-    let draws = [
-        row_draw(alloc, Side::Back, &[Some(7)])?,
-        row_draw(alloc, Side::Front, &[None, Some(8)])?,
-    ];
-    let calls = [
-        VisibleCall::RowsMut {
-            plane: 0,
-            draws: Vec::from_array(alloc, draws)?.into(),
-        },
-        pixels_mut(alloc, &[(Side::Front, Some(9)), (Side::Back, Some(10))])?,
-    ];
-    let drawn = Vec::from_array(
-        alloc,
-        [row(alloc, &[4, 5, 6], 1)?, row(alloc, &[1, 2, 3], 0)?],
-    )?;
-    let wanted = [
-        Answer::RowsWalked {
-            total: 2,
-            drawn: drawn.into(),
-        },
-        pixels_walked(alloc, 6, &[(Some(1), 5), (Some(6), 4)])?,
-    ];
-    let left = match replay(alloc, &mut frame, &calls) {
+fn a_stopped_writing_walk_has_written_nothing(rt: HostRuntime) {
+    let mut frame = counted(&rt, rt.alloc(), 3, 2, [1, 2, 1, 0]);
+    let calls = two_walks(&rt, rt.alloc());
+    let wanted = answers_of_two_walks(&rt, rt.alloc());
+    let left = match replay(rt.alloc(), &mut frame, &calls) {
         Ok(answers) => {
-            assert_eq!(rt; answers.as_slice(), wanted.as_slice());
+            assert!(rt; answers.as_slice() == wanted.as_slice());
             [9, 8, 3, 7, 5, 10]
         }
         Err(stopped) if stopped.done.is_empty() => [1, 2, 3, 4, 5, 6],
         Err(stopped) => {
             let done = stopped.done.as_slice();
             assert!(rt; done.len() < 2);
-            assert_eq!(rt; done, &wanted[..done.len()]);
+            assert!(rt; done == &wanted[..done.len()]);
             [1, 8, 3, 7, 5, 6]
         }
     };
-    assert_eq!(rt; frame.y_plane.data(), buffer_of(left).as_slice());
-    Ok(())
+    assert!(rt; frame.y_plane.data() == buffer_of(left).as_slice());
 }

@@ -1,102 +1,58 @@
 //! Walks over planes, by rows and by pixels.
 
-use super::frames::monochrome;
-use std::alloc::{AllocError, Global};
-use std::test::Fail;
-use v_frame::frame::{Frame, FrameError};
-use v_frame::plane::{Pixels, Plane};
+use super::debugs::shows;
+use super::frames::{monochrome, three_of};
+use std::alloc::Global;
+use std::process::Abort;
+use v_frame::frame::Frame;
+use v_frame::plane::{Pixels, Plane, Rows};
 
 /// The pixels 1, 2 and on, row after row, in a border of 200.
 pub fn counted(
+    rt: &impl Abort,
     alloc: Global,
     width: usize,
     height: usize,
     padding: [usize; 4],
-) -> Result<Frame<u8>, Fail> {
-    let mut frame = monochrome(alloc, width, height, padding)?;
+) -> Frame<u8> {
+    let mut frame = monochrome(alloc, width, height, padding).expect(rt, "a frame");
     frame.y_plane.data_mut().fill(200);
     let source: [u8; 12] = [1, 2, 3, 4, 5, 6, 7, 8, 9, 10, 11, 12];
     let pixels = source
         .get(..frame.y_plane.pixels().len())
-        .ok_or("too large")?;
-    frame.y_plane.copy_from_slice(pixels)?;
-    Ok(frame)
+        .expect(rt, "too large");
+    frame.y_plane.copy_from_slice(pixels).expect(rt, "a copy");
+    frame
+}
+
+/// The plane of such a frame.
+pub fn counted_plane(
+    rt: &impl Abort,
+    alloc: Global,
+    width: usize,
+    height: usize,
+    padding: [usize; 4],
+) -> Plane<u8> {
+    counted(rt, alloc, width, height, padding).y_plane
+}
+
+/// Three pixels by two.
+fn six(rt: &impl Abort, alloc: Global, padding: [usize; 4]) -> Plane<u8> {
+    counted_plane(rt, alloc, 3, 2, padding)
+}
+
+/// What a walk tells of its length.
+pub fn told(walk: &impl ExactSizeIterator) -> (usize, (usize, Option<usize>)) {
+    (walk.len(), walk.size_hint())
 }
 
 /// Three pixels by two, without a border and with one on all sides.
-fn both(alloc: Global) -> Result<[Frame<u8>; 2], Fail> {
-    Ok([
-        counted(alloc, 3, 2, [0, 0, 0, 0])?,
-        counted(alloc, 3, 2, [1, 2, 1, 1])?,
-    ])
+fn both(rt: &impl Abort, alloc: Global) -> (Plane<u8>, Plane<u8>) {
+    (six(rt, alloc, [0, 0, 0, 0]), six(rt, alloc, [1, 2, 1, 1]))
 }
 
-#[test]
-fn pixels_come_row_after_row(rt: HostRuntime) -> Result<(), Fail> {
-    for frame in both(rt.alloc())? {
-        let pixels: Vec<u8> = frame.y_plane.pixels().collect(rt.alloc())?;
-        assert_eq!(rt; pixels.as_slice(), [1, 2, 3, 4, 5, 6].as_slice());
-        let mut again = Vec::new(rt.alloc());
-        for pixel in frame.y_plane.pixels() {
-            again.push(pixel)?;
-        }
-        assert_eq!(rt; again.as_slice(), pixels.as_slice());
-    }
-    Ok(())
-}
-
-#[test]
-fn pixels_from_the_back_come_from_the_right(rt: HostRuntime) -> Result<(), Fail> {
-    for frame in both(rt.alloc())? {
-        let pixels: Vec<u8> = frame.y_plane.pixels().rev().collect(rt.alloc())?;
-        assert_eq!(rt; pixels.as_slice(), [6, 5, 4, 3, 2, 1].as_slice());
-    }
-    Ok(())
-}
-
-#[test]
-fn rows_come_from_the_top_and_from_the_bottom(rt: HostRuntime) -> Result<(), Fail> {
-    for frame in both(rt.alloc())? {
-        let mut rows = frame.y_plane.rows();
-        assert_eq!(rt; (rows.len(), rows.size_hint()), (2, (2, Some(2))));
-        assert_eq!(rt; rows.next(), Some([1, 2, 3].as_slice()));
-        assert_eq!(rt; rows.next(), Some([4, 5, 6].as_slice()));
-        assert_eq!(rt; rows.next(), None);
-        let rows: Vec<&[u8]> = frame.y_plane.rows().rev().collect(rt.alloc())?;
-        let wanted = [[4, 5, 6].as_slice(), [1, 2, 3].as_slice()];
-        assert_eq!(rt; rows.as_slice(), wanted.as_slice());
-    }
-    Ok(())
-}
-
-#[test]
-fn adapters_take_walks_as_any_iterator(rt: HostRuntime) -> Result<(), Fail> {
-    let frames = both(rt.alloc())?;
-    let [bare, bordered] = &frames;
-    let pairs = bare.y_plane.pixels().zip(bordered.y_plane.pixels().rev());
-    let sums: Vec<u8> = pairs.map(|(a, b)| a.wrapping_add(b)).collect(rt.alloc())?;
-    assert_eq!(rt; sums.as_slice(), [7, 7, 7, 7, 7, 7].as_slice());
-    let odd: Vec<u8> = bordered.y_plane.pixels().step_by(2).collect(rt.alloc())?;
-    assert_eq!(rt; odd.as_slice(), [1, 3, 5].as_slice());
-    let tail: Vec<u8> = bordered.y_plane.pixels().skip(4).collect(rt.alloc())?;
-    assert_eq!(rt; tail.as_slice(), [5, 6].as_slice());
-    let mut seen = Vec::new(rt.alloc());
-    for (y, row) in bordered.y_plane.rows().enumerate() {
-        seen.push((y, row))?;
-    }
-    let wanted = [(0, [1, 2, 3].as_slice()), (1, [4, 5, 6].as_slice())];
-    assert_eq!(rt; seen.as_slice(), wanted.as_slice());
-    assert_eq!(rt; bordered.y_plane.pixels().nth(3), Some(4));
-    assert_eq!(rt; bordered.y_plane.pixels().max(), Some(6));
-    assert_eq!(rt;
-        bordered.y_plane.pixels().position(|pixel| pixel == 5),
-        Some(4)
-    );
-    Ok(())
-}
-
-/// Draws by turns, from the front first.
-fn by_turns(alloc: Global, mut pixels: Pixels<'_, u8>) -> Result<Vec<u8>, AllocError> {
+/// All pixels by turns, from the front first.
+fn by_turns(rt: &impl Abort, alloc: Global, mut pixels: Pixels<'_, u8>) -> Vec<u8> {
     let mut drawn = Vec::new(alloc);
     let mut from_front = true;
     for _draw in 0..pixels.len() {
@@ -105,91 +61,205 @@ fn by_turns(alloc: Global, mut pixels: Pixels<'_, u8>) -> Result<Vec<u8>, AllocE
         } else {
             pixels.next_back()
         };
-        drawn.push(pixel.unwrap_or(0))?;
+        drawn.push(pixel.unwrap_or(0)).expect(rt, "memory");
         from_front = !from_front;
     }
-    Ok(drawn)
-}
-
-#[test]
-fn meeting_row_is_drawn_once(rt: HostRuntime) -> Result<(), Fail> {
-    for frame in both(rt.alloc())? {
-        let drawn = by_turns(rt.alloc(), frame.y_plane.pixels())?;
-        assert_eq!(rt; drawn.as_slice(), [1, 6, 2, 5, 3, 4].as_slice());
-    }
-    let frame = counted(rt.alloc(), 3, 3, [2, 0, 0, 1])?;
-    let drawn = by_turns(rt.alloc(), frame.y_plane.pixels())?;
-    assert_eq!(rt; drawn.as_slice(), [1, 9, 2, 8, 3, 7, 4, 6, 5].as_slice());
-    Ok(())
-}
-
-#[test]
-fn a_walk_past_its_end_gives_nothing(rt: HostRuntime) -> Result<(), Fail> {
-    for frame in both(rt.alloc())? {
-        let mut pixels = frame.y_plane.pixels();
-        for _draw in 0..6 {
-            assert!(rt; pixels.next_back().is_some());
-        }
-        for _draw in 0..3 {
-            assert_eq!(rt; (pixels.next(), pixels.next_back()), (None, None));
-            assert_eq!(rt; (pixels.len(), pixels.size_hint()), (0, (0, Some(0))));
-        }
-        let mut rows = frame.y_plane.rows();
-        assert!(rt; rows.next_back().is_some() && rows.next().is_some());
-        for _draw in 0..3 {
-            assert_eq!(rt; (rows.next_back(), rows.next()), (None, None));
-            assert_eq!(rt; rows.len(), 0);
-        }
-    }
-    Ok(())
+    drawn
 }
 
 /// All pixels of a plane from the front, then from the back, then by turns.
-fn three_ways(alloc: Global, plane: &Plane<u8>) -> Result<Vec<u8>, AllocError> {
+fn three_ways(rt: &impl Abort, alloc: Global, plane: &Plane<u8>) -> Vec<u8> {
     let mut drawn = Vec::new(alloc);
     for pixel in plane.pixels() {
-        drawn.push(pixel)?;
+        drawn.push(pixel).expect(rt, "memory");
     }
     for pixel in plane.pixels().rev() {
-        drawn.push(pixel)?;
+        drawn.push(pixel).expect(rt, "memory");
     }
-    drawn.extend_from_slice(by_turns(alloc, plane.pixels())?.as_slice())?;
-    Ok(drawn)
+    let turns = by_turns(rt, alloc, plane.pixels());
+    drawn
+        .extend_from_slice(turns.as_slice())
+        .expect(rt, "memory");
+    drawn
 }
 
 #[test]
-fn planes_of_one_row_one_column_and_one_pixel(rt: HostRuntime) -> Result<(), Fail> {
-    for padding in [[0, 0, 0, 0], [2, 1, 1, 3]] {
-        for (width, height) in [(4, 1), (1, 4)] {
-            let frame = counted(rt.alloc(), width, height, padding)?;
-            let drawn = three_ways(rt.alloc(), &frame.y_plane)?;
-            let wanted = [1, 2, 3, 4, 4, 3, 2, 1, 1, 4, 2, 3];
-            assert_eq!(rt; drawn.as_slice(), wanted.as_slice());
-            assert_eq!(rt; frame.y_plane.rows().len(), height);
-        }
-        let frame = counted(rt.alloc(), 1, 1, padding)?;
-        let drawn = three_ways(rt.alloc(), &frame.y_plane)?;
-        assert_eq!(rt; drawn.as_slice(), [1, 1, 1].as_slice());
-        let mut rows = frame.y_plane.rows();
-        assert_eq!(rt;
-            (rows.next_back(), rows.next()),
-            (Some([1].as_slice()), None)
-        );
+fn pixels_come_row_after_row_from_both_ends(rt: HostRuntime) {
+    let four = [1, 2, 3, 4, 4, 3, 2, 1, 1, 4, 2, 3];
+    let six = [1, 2, 3, 4, 5, 6, 6, 5, 4, 3, 2, 1, 1, 6, 2, 5, 3, 4];
+    let nine = [
+        1, 2, 3, 4, 5, 6, 7, 8, 9, 9, 8, 7, 6, 5, 4, 3, 2, 1, 1, 9, 2, 8, 3, 7, 4, 6, 5,
+    ];
+    let cases = [
+        (3, 2, [0, 0, 0, 0], six.as_slice()),
+        (3, 2, [1, 2, 1, 1], six.as_slice()),
+        (3, 3, [2, 0, 0, 1], nine.as_slice()),
+        (4, 1, [0, 0, 0, 0], four.as_slice()),
+        (4, 1, [2, 1, 1, 3], four.as_slice()),
+        (1, 4, [0, 0, 0, 0], four.as_slice()),
+        (1, 4, [2, 1, 1, 3], four.as_slice()),
+        (1, 1, [0, 0, 0, 0], [1, 1, 1].as_slice()),
+        (1, 1, [2, 1, 1, 3], [1, 1, 1].as_slice()),
+    ];
+    for (width, height, padding, wanted) in cases {
+        let plane = counted_plane(&rt, rt.alloc(), width, height, padding);
+        let drawn = three_ways(&rt, rt.alloc(), &plane);
+        assert!(rt; (plane.rows().len(), drawn.as_slice()) == (height, wanted));
     }
-    Ok(())
+}
+
+/// Whether a row of the pixel 1 alone is drawn from the back, and no other after it.
+fn one_row(plane: &Plane<u8>) -> bool {
+    let mut rows = plane.rows();
+    rows.next_back() == Some([1].as_slice()) && rows.next().is_none()
 }
 
 #[test]
-fn walks_are_as_long_as_the_plane(rt: HostRuntime) -> Result<(), Fail> {
-    let frame = monochrome(rt.alloc(), 10, 5, [0, 0, 0, 0])?;
-    assert_eq!(rt;
-        (frame.y_plane.rows().len(), frame.y_plane.rows().count()),
-        (5, 5)
-    );
-    let frame = monochrome(rt.alloc(), 1920, 1080, [0, 0, 0, 0])?;
-    assert_eq!(rt; frame.y_plane.pixels().len(), 2073600);
-    assert_eq!(rt; frame.y_plane.pixels().count(), 2073600);
-    Ok(())
+fn the_row_of_one_pixel_is_drawn_once(rt: HostRuntime) {
+    let bare = counted_plane(&rt, rt.alloc(), 1, 1, [0, 0, 0, 0]);
+    let bordered = counted_plane(&rt, rt.alloc(), 1, 1, [2, 1, 1, 3]);
+    assert!(rt; one_row(&bare) && one_row(&bordered));
+}
+
+/// What three draws from the top give.
+fn from_the_top(plane: &Plane<u8>) -> [Option<[u8; 3]>; 3] {
+    let mut rows = plane.rows();
+    [
+        three_of(rows.next()),
+        three_of(rows.next()),
+        three_of(rows.next()),
+    ]
+}
+
+/// What three draws from the bottom give.
+fn from_the_bottom(plane: &Plane<u8>) -> [Option<[u8; 3]>; 3] {
+    let mut rows = plane.rows().rev();
+    [
+        three_of(rows.next()),
+        three_of(rows.next()),
+        three_of(rows.next()),
+    ]
+}
+
+/// Whether there are two rows, of 1, 2, 3 and of 4, 5, 6.
+fn has_two_rows(plane: &Plane<u8>) -> bool {
+    told(&plane.rows()) == (2, (2, Some(2)))
+        && from_the_top(plane) == [Some([1, 2, 3]), Some([4, 5, 6]), None]
+        && from_the_bottom(plane) == [Some([4, 5, 6]), Some([1, 2, 3]), None]
+}
+
+#[test]
+fn rows_come_from_the_top_and_from_the_bottom(rt: HostRuntime) {
+    let (bare, bordered) = both(&rt, rt.alloc());
+    assert!(rt; has_two_rows(&bare) && has_two_rows(&bordered));
+}
+
+/// Whether each pixel and its mirror image, in another plane, add up to this sum.
+fn mirrored_sums_are(plane: &Plane<u8>, other: &Plane<u8>, sums: [u8; 6]) -> bool {
+    let pairs = plane.pixels().zip(other.pixels().rev());
+    pairs.map(|(a, b)| a.wrapping_add(b)).eq(sums)
+}
+
+#[test]
+fn walks_are_zipped_and_mapped(rt: HostRuntime) {
+    let (bare, bordered) = both(&rt, rt.alloc());
+    assert!(rt; mirrored_sums_are(&bare, &bordered, [7, 7, 7, 7, 7, 7]));
+}
+
+/// Whether every second pixel is one of these.
+fn odd_are(plane: &Plane<u8>, wanted: [u8; 3]) -> bool {
+    plane.pixels().step_by(2).eq(wanted)
+}
+
+/// Whether these are left after the first four pixels.
+fn tail_is(plane: &Plane<u8>, wanted: [u8; 2]) -> bool {
+    plane.pixels().skip(4).eq(wanted)
+}
+
+/// Each row of three pixels with its number.
+fn numbered(rt: &impl Abort, alloc: Global, plane: &Plane<u8>) -> Vec<(usize, Option<[u8; 3]>)> {
+    let mut rows = Vec::new(alloc);
+    for (y, row) in plane.rows().enumerate() {
+        rows.push((y, three_of(Some(row)))).expect(rt, "memory");
+    }
+    rows
+}
+
+#[test]
+fn adapters_take_walks_as_any_iterator(rt: HostRuntime) {
+    let plane = six(&rt, rt.alloc(), [1, 2, 1, 1]);
+    assert!(rt; odd_are(&plane, [1, 3, 5]) && tail_is(&plane, [5, 6]));
+    let rows = numbered(&rt, rt.alloc(), &plane);
+    assert!(rt; rows.as_slice() == [(0, Some([1, 2, 3])), (1, Some([4, 5, 6]))].as_slice());
+}
+
+/// The fourth pixel, the largest one, and how many come before a five.
+fn found(plane: &Plane<u8>) -> (Option<u8>, Option<u8>, Option<usize>) {
+    (
+        plane.pixels().nth(3),
+        plane.pixels().max(),
+        plane.pixels().position(|pixel| pixel == 5),
+    )
+}
+
+#[test]
+fn walks_are_searched(rt: HostRuntime) {
+    let plane = six(&rt, rt.alloc(), [1, 2, 1, 1]);
+    assert!(rt; found(&plane) == (Some(4), Some(6), Some(4)));
+}
+
+/// Whether six draws of pixels from the back give something, and three more from each end nothing.
+fn pixels_end(plane: &Plane<u8>) -> bool {
+    let mut pixels = plane.pixels();
+    let mut kept = true;
+    for _draw in 0..6 {
+        kept = kept && pixels.next_back().is_some();
+    }
+    for _draw in 0..3 {
+        kept = kept && (pixels.next(), pixels.next_back()) == (None, None);
+        kept = kept && told(&pixels) == (0, (0, Some(0)));
+    }
+    kept
+}
+
+/// Whether a draw of rows from each end gives something, and three more from each end nothing.
+fn rows_end(plane: &Plane<u8>) -> bool {
+    let mut rows = plane.rows();
+    let mut kept = rows.next_back().is_some() && rows.next().is_some();
+    for _draw in 0..3 {
+        kept = kept && rows.next_back().is_none() && rows.next().is_none();
+        kept = kept && rows.len() == 0;
+    }
+    kept
+}
+
+#[test]
+fn a_walk_past_its_end_gives_nothing(rt: HostRuntime) {
+    let (bare, bordered) = both(&rt, rt.alloc());
+    assert!(rt; pixels_end(&bare) && pixels_end(&bordered));
+    assert!(rt; rows_end(&bare) && rows_end(&bordered));
+}
+
+/// How many rows and pixels a plane has, as its walks tell and as they are counted.
+fn lengths(plane: &Plane<u8>) -> [usize; 4] {
+    [
+        plane.rows().len(),
+        plane.rows().count(),
+        plane.pixels().len(),
+        plane.pixels().count(),
+    ]
+}
+
+/// The same of a plane of this size.
+fn lengths_at(rt: &impl Abort, alloc: Global, width: usize, height: usize) -> [usize; 4] {
+    let frame = monochrome(alloc, width, height, [0, 0, 0, 0]).expect(rt, "a frame");
+    lengths(&frame.y_plane)
+}
+
+#[test]
+fn walks_are_as_long_as_the_plane(rt: HostRuntime) {
+    assert!(rt; lengths_at(&rt, rt.alloc(), 10, 5) == [5, 5, 50, 50]);
+    assert!(rt; lengths_at(&rt, rt.alloc(), 1920, 1080) == [1080, 1080, 2073600, 2073600]);
 }
 
 /// The first row that a walk gives, once the walk is gone.
@@ -199,42 +269,45 @@ fn first_row(plane: &Plane<u8>) -> Option<&[u8]> {
 }
 
 #[test]
-fn a_row_outlives_its_walk(rt: HostRuntime) -> Result<(), Fail> {
-    let frame = counted(rt.alloc(), 3, 2, [1, 2, 1, 1])?;
-    let row = first_row(&frame.y_plane);
-    assert_eq!(rt; row, Some([1, 2, 3].as_slice()));
-    Ok(())
+fn a_row_outlives_its_walk(rt: HostRuntime) {
+    let plane = six(&rt, rt.alloc(), [1, 2, 1, 1]);
+    assert!(rt; three_of(first_row(&plane)) == Some([1, 2, 3]));
+}
+
+/// A draw from each end, the front first.
+fn ends(pixels: &mut Pixels<'_, u8>) -> (Option<u8>, Option<u8>) {
+    (pixels.next(), pixels.next_back())
 }
 
 #[test]
-fn a_walk_is_cloned_with_what_is_left(rt: HostRuntime) -> Result<(), Fail> {
-    let frame = counted(rt.alloc(), 3, 2, [1, 2, 1, 1])?;
-    let mut pixels = frame.y_plane.pixels();
-    assert_eq!(rt; (pixels.next(), pixels.next_back()), (Some(1), Some(6)));
-    let copy = pixels.clone()?;
-    assert_eq!(rt; (pixels.next(), pixels.len(), copy.len()), (Some(2), 3, 4));
-    let left: Vec<u8> = copy.collect(rt.alloc())?;
-    assert_eq!(rt; left.as_slice(), [2, 3, 4, 5].as_slice());
-    let mut rows = frame.y_plane.rows();
-    assert_eq!(rt; rows.next(), Some([1, 2, 3].as_slice()));
-    assert_eq!(rt; rows.clone()?.next_back(), Some([4, 5, 6].as_slice()));
-    assert_eq!(rt; rows.len(), 1);
-    Ok(())
+fn a_walk_is_cloned_with_what_is_left(rt: HostRuntime) {
+    let plane = six(&rt, rt.alloc(), [1, 2, 1, 1]);
+    let mut pixels = plane.pixels();
+    assert!(rt; ends(&mut pixels) == (Some(1), Some(6)));
+    let copy = pixels.clone().expect(&rt, "memory");
+    assert!(rt; (pixels.next(), pixels.len(), copy.len()) == (Some(2), 3, 4));
+    let left: Vec<u8> = copy.collect(rt.alloc()).expect(&rt, "memory");
+    assert!(rt; left.as_slice() == [2, 3, 4, 5].as_slice());
+}
+
+/// The first row, the last one as a copy of the walk then gives it, and how many the walk itself has left.
+fn cloned(rt: &impl Abort, mut rows: Rows<'_, u8>) -> (Option<[u8; 3]>, Option<[u8; 3]>, usize) {
+    let first = three_of(rows.next());
+    let mut copy = rows.clone().expect(rt, "memory");
+    (first, three_of(copy.next_back()), rows.len())
 }
 
 #[test]
-fn a_walk_shows_what_is_left(rt: HostRuntime) -> Result<(), Fail> {
-    let frame = counted(rt.alloc(), 3, 2, [1, 2, 1, 1])?;
-    let rows = frame.y_plane.rows();
-    assert_eq!(rt;
-        format!(in rt.alloc(); "{rows:?}")?.as_str(),
-        "[[1, 2, 3], [4, 5, 6]]"
-    );
-    let mut pixels = frame.y_plane.pixels();
-    assert_eq!(rt; (pixels.next(), pixels.next_back()), (Some(1), Some(6)));
-    assert_eq!(rt;
-        format!(in rt.alloc(); "{pixels:?}")?.as_str(),
-        "[2, 3, 4, 5]"
-    );
-    Ok(())
+fn a_walk_over_rows_is_cloned(rt: HostRuntime) {
+    let plane = six(&rt, rt.alloc(), [1, 2, 1, 1]);
+    assert!(rt; cloned(&rt, plane.rows()) == (Some([1, 2, 3]), Some([4, 5, 6]), 1));
+}
+
+#[test]
+fn a_walk_shows_what_is_left(rt: HostRuntime) {
+    let plane = six(&rt, rt.alloc(), [1, 2, 1, 1]);
+    assert!(rt; shows(&rt, rt.alloc(), &plane.rows(), "[[1, 2, 3], [4, 5, 6]]"));
+    let mut pixels = plane.pixels();
+    assert!(rt; ends(&mut pixels) == (Some(1), Some(6)));
+    assert!(rt; shows(&rt, rt.alloc(), &pixels, "[2, 3, 4, 5]"));
 }
