@@ -3,27 +3,27 @@ use Rattle.std.proofs.Common.{ℕ, ◌≡◌, ◌*◌, ◌^◌, ◌<◌, ◌≤�
 use Rattle.std.specs.Prelude.{MatchOption, IsOkUnless, is_ok}
 use Rattle.std.proofs.lemmas.Bool.{ltb-true}
 use Rattle.std.proofs.lemmas.List.{length-replicate}
-use Rattle.v_frame.specs.Geometry.{alloc_size_of}
-use Rattle.v_frame.specs.Picture.{filled, shown}
-use Rattle.v_frame.specs.Rows.{Table, width_of, height_of, row_major}
-use Rattle.v_frame.specs.Copy.{CopyOutcome}
-use Rattle.v_frame.specs.Bytes.{PixelForm, piece_fronts, byte_list, strided_table}
+use Rattle.v_frame_base.specs.Geometry.{alloc_size_of}
+use Rattle.v_frame_base.specs.Picture.{filled, shown}
+use Rattle.v_frame_base.specs.Rows.{Table, width_of, height_of, row_major}
+use Rattle.v_frame_base.specs.Copy.{CopyOutcome}
+use Rattle.v_frame_base.specs.Bytes.{PixelForm, piece_fronts, byte_list, strided_table}
 use Rattle.v_frame.specs.Shown.{Tables}
 use Rattle.v_frame.specs.Walk.{draws_answer}
 use Rattle.v_frame.specs.Replay.{answers_to}
-use Rattle.v_frame.specs.Asked.{Asked, luma_geometry}
+use Rattle.v_frame_base.specs.Asked.{Asked, luma_geometry}
 use Rattle.v_frame.specs.Buildable.{is_laid_out, is_mismatch, refusal_of}
-use Rattle.v_frame.specs.Subsampled.{subsampled}
+use Rattle.v_frame_base.specs.Subsampled.{subsampled}
 use Rattle.v_frame.specs.declared.frame.error.FrameError.TheVariants.{UnsupportedBitDepth, DataTypeMismatch, UnsupportedResolution}
 use Rattle.v_frame.specs.declared.frame.error.FrameError.{FrameError}
 use Rattle.v_frame.specs.declared.replay.draw.Side.{Side}
 use Rattle.v_frame.specs.declared.replay.call.VisibleCall.TheVariants.{CopyFromU8SliceWithStride, ByteData}
 use Rattle.v_frame.specs.declared.replay.answer.Answer.{Answer}
 use Rattle.v_frame.specs.declared.replay.answer.Answer.TheVariants.{Copied, BytesWalked}
-use Rattle.v_frame.proofs.BytesBack.{AreBytes, table_comes_back}
-use Rattle.v_frame.proofs.ByteLaws.{accepted_copy}
-use Rattle.v_frame.proofs.ChromaLemmas.{both_true}
-use Rattle.v_frame.proofs.CopyLemmas.{width_of_shown, height_of_shown}
+use Rattle.v_frame_base.proofs.BytesBack.{AreBytes, table_comes_back}
+use Rattle.v_frame_base.proofs.ByteLaws.{accepted_copy}
+use Rattle.v_frame_base.proofs.ChromaLemmas.{both_true}
+use Rattle.v_frame_base.proofs.CopyLemmas.{width_of_shown, height_of_shown}
 
 module _ {X : Type 0} (r : Result X FrameError) (built : X) (is : r ≡ Ok built) where
   -- what was not refused has passed each test

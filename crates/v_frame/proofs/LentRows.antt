@@ -23,12 +23,12 @@ use seplogic.Ra.Ura.{Ura}
 use types.Kit.{‵, ◌$◌, ◌∵◌, !, qed, done, show, move, keep, drop, use1, use2, fsplit, fpick, feq_l}
 use types.Logic.{Logic, sem}
 use denote.Triple.Walked.{says}
-use Rattle.v_frame.specs.Picture.{Raster, shown}
-use Rattle.v_frame.specs.Rows.{with_item_by}
+use Rattle.v_frame_base.specs.Picture.{Raster, shown}
+use Rattle.v_frame_base.specs.Rows.{with_item_by}
 use Rattle.v_frame.specs.Shown.{unshown}
-use Rattle.v_frame.specs.Written.{WritesRow}
+use Rattle.v_frame_base.specs.Written.{WritesRow}
 use Rattle.v_frame.specs.PlaneLends.{LendsRow}
-use Rattle.v_frame.specs.LeftBehind.{left_behind}
+use Rattle.v_frame_base.specs.LeftBehind.{left_behind}
 use Rattle.v_frame.specs.contracts.plane.Plane.{the_row}
 
 -- what may be assumed of a `&mut [T]` as an element

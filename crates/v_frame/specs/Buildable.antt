@@ -1,14 +1,13 @@
 -- Which frames can be built, and what a built frame holds.
-use Rattle.std.specs.Prelude.{ℕ, ◌*◌, ◌≡◌, ◌==◌, ◌&&◌, ◌||◌, not, nat_lt, nat_le, if◌then◌else◌, Bool, Option, Some, None, Result, Ok, Err, is_ok, option_map}
+use Rattle.std.specs.Prelude.{ℕ, ◌*◌, ◌≡◌, ◌==◌, ◌&&◌, ◌||◌, not, nat_lt, nat_le, if◌then◌else◌, Bool, Option, Some, None, Ok, is_ok, option_map}
 use Rattle.std.specs.Int.NonZero.{non_zero_u8_get}
-use Rattle.v_frame.specs.Geometry.{Geometry, stride_of, alloc_size_of, usize_max, isize_max}
-use Rattle.v_frame.specs.Picture.{filled}
-use Rattle.v_frame.specs.Subsampled.{subsampled}
-use Rattle.v_frame.specs.declared.plane.geometry.SubsamplingError.{SubsamplingError}
+use Rattle.v_frame_base.specs.Geometry.{Geometry, stride_of, alloc_size_of, usize_max, isize_max}
+use Rattle.v_frame_base.specs.Picture.{filled}
+use Rattle.v_frame_base.specs.Subsampled.{subsampled, geometry_in}
 use Rattle.v_frame.specs.declared.frame.Frame.{Frame}
 use Rattle.v_frame.specs.declared.frame.error.FrameError.{FrameError}
 use Rattle.v_frame.specs.declared.frame.error.FrameError.TheVariants.{UnsupportedBitDepth, DataTypeMismatch, UnsupportedResolution}
-use Rattle.v_frame.specs.Asked.{Asked, luma_geometry}
+use Rattle.v_frame_base.specs.Asked.{Asked, luma_geometry}
 
 -- something is visible, a row can be counted, and the buffer fits
 abbrev pub is_laid_out : Geometry → Bool
@@ -18,11 +17,7 @@ is_laid_out g = nat_lt 0 g.width && (nat_lt 0 g.height && (nat_le (stride_of g) 
 abbrev pub is_mismatch : ℕ → ℕ → Bool
 is_mismatch bytes depth = (bytes == 1 && not (depth == 8)) || (bytes == 2 && depth == 8)
 
--- the geometry of the chroma planes, where there are some
-abbrev pub geometry_in : Result (Option Geometry) SubsamplingError → Option Geometry
-geometry_in (Ok geometry) = geometry
-geometry_in (Err error) = None
-
+-- the geometry of the chroma planes that are asked for, where there are some
 abbrev pub chroma_geometry : Asked → Option Geometry
 chroma_geometry asked = geometry_in (subsampled asked.subsampling (luma_geometry asked))
 

@@ -2,8 +2,8 @@
 use Rattle.std.specs.Prelude.{ℕ, ◌≡◌, List, length, Option, IfSome}
 use Rattle.std.specs.Borrow.{Lends, LendsIf, LendsSo, Fml, RattleType, MutBor, Array}
 use Rattle.std.specs.List.{refill}
-use Rattle.v_frame.specs.Picture.{Raster, raster}
-use Rattle.v_frame.specs.Written.{WritesRow, with_row, with_entry}
+use Rattle.v_frame_base.specs.Picture.{Raster, raster}
+use Rattle.v_frame_base.specs.Written.{WritesRow, with_row, with_entry}
 use Rattle.v_frame.specs.contracts.plane.Plane.{the_row}
 
 module _ (T : RattleType) (plane : MutBor (Raster T.Denot)) where

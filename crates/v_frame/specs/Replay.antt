@@ -1,8 +1,8 @@
 -- Visible calls on plain tables of rows. Nothing here knows a padding, a border or a buffer.
 use Rattle.std.specs.Prelude.{ℕ, ◌≡◌, ◌<◌, List, [], ◌∷◌, length, take, map, Option, Some, None, slice_get, Any}
-use Rattle.v_frame.specs.Rows.{Table, width_of, height_of, pixel_at, row_major, with_writes, with_pixel}
-use Rattle.v_frame.specs.Copy.{CopyOutcome, packed_copy}
-use Rattle.v_frame.specs.Bytes.{PixelForm, byte_list, strided_copy, packed_byte_copy}
+use Rattle.v_frame_base.specs.Rows.{Table, width_of, height_of, pixel_at, row_major, with_writes, with_pixel}
+use Rattle.v_frame_base.specs.Copy.{CopyOutcome, packed_copy}
+use Rattle.v_frame_base.specs.Bytes.{PixelForm, byte_list, strided_copy, packed_byte_copy}
 use Rattle.v_frame.specs.Walk.{draws_answer}
 use Rattle.v_frame.specs.WritingWalk.{side_of_row, side_of_pixel, rows_written, pixels_written}
 use Rattle.v_frame.specs.Shown.{Tables, table_at, with_table}

@@ -1,8 +1,8 @@
 -- What a frame shows: the tables of its planes, where they are there. What a replay keeps: the border of each plane.
 use Rattle.std.specs.Prelude.{ℕ, ◌≡◌, ◌==◌, if◌then◌else◌, List, Option, Some, None, option_map}
-use Rattle.v_frame.specs.Geometry.{Geometry}
-use Rattle.v_frame.specs.Picture.{Raster, shown, border_of}
-use Rattle.v_frame.specs.Rows.{Table}
+use Rattle.v_frame_base.specs.Geometry.{Geometry}
+use Rattle.v_frame_base.specs.Picture.{Raster, shown, border_of}
+use Rattle.v_frame_base.specs.Rows.{Table}
 use Rattle.v_frame.specs.declared.frame.Frame.{Frame}
 
 -- one of three, by its index: 0 is Y, 1 is U and 2 is V, and no other index has one

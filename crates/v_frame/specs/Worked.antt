@@ -1,19 +1,20 @@
 -- Small cases worked out by hand. Each line computes: it is proved by `refl`.
 use Rattle.std.specs.Prelude.{ℕ, ◌≡◌, List, [], ◌∷◌, Some, None, Ok, Err, refl}
-use Rattle.v_frame.specs.Pixel.{byte_of, value_of_bytes}
-use Rattle.v_frame.specs.Geometry.{Geometry, geometry_of, stride_of, alloc_height_of, alloc_size_of}
-use Rattle.v_frame.specs.Picture.{Raster, raster, shown, border_of, origin_of, place_of}
-use Rattle.v_frame.specs.Chroma.{chroma_size_of}
-use Rattle.v_frame.specs.Subsampled.{subsampled}
-use Rattle.v_frame.specs.Asked.{Asked}
+use Rattle.v_frame_base.specs.Pixel.{byte_of, value_of_bytes}
+use Rattle.v_frame_base.specs.Geometry.{Geometry, geometry_of, stride_of, alloc_height_of, alloc_size_of}
+use Rattle.v_frame_base.specs.Picture.{Raster, raster, shown, border_of, origin_of, place_of}
+use Rattle.v_frame_base.specs.Options.{options_of}
+use Rattle.v_frame_base.specs.Chroma.{chroma_size_of}
+use Rattle.v_frame_base.specs.Subsampled.{subsampled}
+use Rattle.v_frame_base.specs.Asked.{Asked}
 use Rattle.v_frame.specs.Buildable.{refusal_of}
 use Rattle.v_frame.specs.Shown.{Tables}
-use Rattle.v_frame.specs.Bytes.{one_byte}
+use Rattle.v_frame_base.specs.Bytes.{one_byte}
 use Rattle.v_frame.specs.Replay.{answers_to, tables_after}
-use Rattle.v_frame.specs.declared.chroma.ChromaSubsampling.{ChromaSubsampling}
-use Rattle.v_frame.specs.declared.chroma.ChromaSubsampling.TheVariants.{Yuv420, Yuv422, Yuv444, Monochrome}
+use Rattle.v_frame_base.specs.declared.chroma.ChromaSubsampling.{ChromaSubsampling}
+use Rattle.v_frame_base.specs.declared.chroma.ChromaSubsampling.TheVariants.{Yuv420, Yuv422, Yuv444, Monochrome}
 use Rattle.v_frame.specs.declared.frame.error.FrameError.TheVariants.{UnsupportedBitDepth, DataTypeMismatch, UnsupportedResolution}
-use Rattle.v_frame.specs.declared.plane.error.CopyError.TheVariants.{DataLength}
+use Rattle.v_frame_base.specs.declared.error.CopyError.TheVariants.{DataLength}
 use Rattle.v_frame.specs.declared.replay.call.VisibleCall.{VisibleCall}
 use Rattle.v_frame.specs.declared.replay.call.VisibleCall.TheVariants.{Width, Row, RowMut, Pixel, PixelMut, CopyFromSlice}
 use Rattle.v_frame.specs.declared.replay.answer.Answer.TheVariants.{NoPlane, OutsideRectangle, RowShown, PixelShown, Copied}
@@ -49,6 +50,13 @@ last_place = refl
 
 place_past_the_buffer : place_of four_by_three 6 3 ≡ 40
 place_past_the_buffer = refl
+
+-- values as options, that of the border too
+abbrev pair_in_a_border : {T : Type 0} → T → T → T → Raster T
+pair_in_a_border border left right = raster (geometry_of 2 1 1 0 0 0 1 1) (border ∷ left ∷ right ∷ [])
+
+its_options : options_of {T = ℕ} (pair_in_a_border 9 5 6) ≡ pair_in_a_border (Some 9) (Some 5) (Some 6)
+its_options = refl
 
 -- 3 by 2 pixels, with 1 column of border to the left, 2 to the right, and 1 row above
 abbrev three_by_two : Raster ℕ

@@ -1,15 +1,15 @@
 -- Small cases of bytes in and bytes out, worked out by hand. Each line computes: it is proved by `refl`.
 use Rattle.std.specs.Prelude.{ℕ, ◌≡◌, List, [], ◌∷◌, None, Ok, Err, refl}
-use Rattle.v_frame.specs.Geometry.{usize_max}
-use Rattle.v_frame.specs.Rows.{Table}
-use Rattle.v_frame.specs.Copy.{CopyOutcome, packed_copy}
-use Rattle.v_frame.specs.Bytes.{two_bytes, piece_fronts, byte_list, strided_copy, packed_byte_copy}
+use Rattle.v_frame_base.specs.Geometry.{usize_max}
+use Rattle.v_frame_base.specs.Rows.{Table}
+use Rattle.v_frame_base.specs.Copy.{CopyOutcome, packed_copy}
+use Rattle.v_frame_base.specs.Bytes.{two_bytes, piece_fronts, byte_list, strided_copy, packed_byte_copy}
 use Rattle.v_frame.specs.Shown.{Tables}
 use Rattle.v_frame.specs.Replay.{answers_to, tables_after}
 use Rattle.v_frame.specs.declared.replay.call.VisibleCall.{VisibleCall}
 use Rattle.v_frame.specs.declared.replay.call.VisibleCall.TheVariants.{CopyFromU8Slice, CopyFromU8SliceWithStride}
 use Rattle.v_frame.specs.declared.replay.answer.Answer.TheVariants.{NoPlane, Copied}
-use Rattle.v_frame.specs.declared.plane.error.CopyError.TheVariants.{DataLength, InvalidStride}
+use Rattle.v_frame_base.specs.declared.error.CopyError.TheVariants.{DataLength, InvalidStride}
 
 -- pixels that are their values, of one byte and of two
 abbrev small : Table ℕ → List ℕ → ℕ → CopyOutcome ℕ

@@ -9,7 +9,7 @@ use Rattle.v_frame.specs.declared.replay.call.VisibleCall.{VisibleCall}
 use Rattle.v_frame.specs.declared.replay.call.VisibleCall.TheVariants.{Rows, Pixels, ByteData, RowsMut, PixelsMut}
 use Rattle.v_frame.specs.declared.replay.answer.Answer.TheVariants.{NoPlane, RowsWalked, PixelsWalked, BytesWalked}
 use Rattle.v_frame.specs.Shown.{Tables}
-use Rattle.v_frame.specs.Bytes.{one_byte, two_bytes}
+use Rattle.v_frame_base.specs.Bytes.{one_byte, two_bytes}
 use Rattle.v_frame.specs.Replay.{answers_to, tables_after}
 use Rattle.v_frame.specs.Walk.{draws_answer, drawn_in_turn, left_in_turn}
 

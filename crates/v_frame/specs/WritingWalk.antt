@@ -1,7 +1,7 @@
 -- What a writing walk leaves: an item that no draw took is as before, and one that a draw took holds what that draw wrote.
 use Rattle.std.specs.Prelude.{ℕ, ◌≡◌, nat_lt, if◌then◌else◌, List, [], ◌∷◌, ◌++◌, length, map, Some, unwrap_or, slice_get}
-use Rattle.v_frame.specs.Rows.{Table, width_of, height_of, row_major, overwritten_row, with_item_by}
-use Rattle.v_frame.specs.Copy.{cut_rows}
+use Rattle.v_frame_base.specs.Rows.{Table, width_of, height_of, row_major, overwritten_row, with_item_by}
+use Rattle.v_frame_base.specs.Copy.{cut_rows}
 use Rattle.v_frame.specs.Walk.{number_of_item}
 use Rattle.v_frame.specs.declared.replay.draw.Side.{Side}
 use Rattle.v_frame.specs.declared.replay.draw.Side.TheVariants.{Front}

@@ -3,8 +3,8 @@ ghost use Rattle.std.specs.Prelude.{◌≡◌, ◌<◌, ◌≤◌, ◌&&◌, Err
 ghost use Rattle.std.specs.Option.{ForSome, option_copied_mut};
 ghost use Rattle.std.specs.Borrow.{sem};
 ghost use Rattle.std.specs.Int.NonZero.{non_zero_u8_get};
-ghost use Rattle.v_frame.specs.Geometry.{Fits};
-ghost use Rattle.v_frame.specs.Picture.{filled};
+ghost use Rattle.v_frame_base.specs.Geometry.{Fits};
+ghost use Rattle.v_frame_base.specs.Picture.{filled};
 ghost use Rattle.v_frame.specs.Shown.{plane_at};
 ghost use Rattle.v_frame.specs.FrameLends.{LendsPlane};
 
@@ -98,7 +98,7 @@ pub struct FrameBuilder {
 }
 
 impl Model for FrameBuilder {
-    ghost use Rattle.v_frame.specs.Asked.{Asked};
+    ghost use Rattle.v_frame_base.specs.Asked.{Asked};
 
     ghost Value = { Asked };
 
@@ -115,9 +115,9 @@ impl Model for FrameBuilder {
 }
 
 impl FrameBuilder {
-    ghost use Rattle.v_frame.specs.Asked.{Asked, luma_geometry};
+    ghost use Rattle.v_frame_base.specs.Asked.{Asked, luma_geometry};
     ghost use Rattle.v_frame.specs.Buildable.{is_laid_out, refusal_of, chroma_geometry, IsBlank};
-    ghost use Rattle.v_frame.specs.Subsampled.{subsampled};
+    ghost use Rattle.v_frame_base.specs.Subsampled.{subsampled};
 
     /// A frame of this luma size in pixels, this format and this bit depth, with no padding yet.
     pub fn new(width: usize, height: usize, subsampling: ChromaSubsampling, bit_depth: u8) -> Self

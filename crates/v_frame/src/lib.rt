@@ -5,9 +5,9 @@
 //! what any such list answers and leaves, by plain tables of rows.
 #![tactic(auto)]
 
-pub mod chroma;
 pub mod frame;
 pub mod laws;
-pub mod pixel;
 pub mod plane;
 pub mod replay;
+
+pub use v_frame_base::{chroma, pixel};

@@ -1,35 +1,32 @@
 //! Planes: one component of a frame each.
 ghost use Rattle.std.specs.Prelude.{All, List, ℕ, ◌≡◌, ◌^◌, ◌<◌, ◌≤◌, ◌↔◌, length, IsNone, IfOk, OnOk, OnErr, Some, slice_get, option_copied};
-ghost use Rattle.v_frame.specs.Geometry.{alloc_size_of, Fits};
-ghost use Rattle.v_frame.specs.Picture.{filled, shown, border_of, place_of};
+ghost use Rattle.v_frame_base.specs.Geometry.{alloc_size_of, Fits};
+ghost use Rattle.v_frame_base.specs.Picture.{filled, shown, border_of, place_of};
 ghost use Rattle.std.specs.Map.Iter.{ShowsInOrder, ShowsInReverse, GivesInOrder, GivesInReverse, deref};
-ghost use Rattle.v_frame.specs.Rows.{width_of, height_of, pixel_at, row_major};
+ghost use Rattle.v_frame_base.specs.Rows.{width_of, height_of, pixel_at, row_major};
 
-mod aligned;
 mod byte_copies;
-mod bytes;
-mod encoding;
-mod error;
-mod geometry;
 mod options;
-mod parts;
-mod pixels;
-mod pixels_mut;
-mod rows;
-mod rows_mut;
 
 use crate::pixel::Pixel;
-use aligned::AlignedData;
-pub use bytes::ByteData;
-pub use error::CopyError;
-pub use geometry::{PlaneGeometry, SubsamplingError};
-pub use pixels::Pixels;
-pub use pixels_mut::PixelsMut;
-pub use rows::Rows;
-pub use rows_mut::RowsMut;
 use std::alloc::{AllocError, Global};
 use std::fmt;
 use std::marker::Model;
+use v_frame_base::aligned::AlignedData;
+pub use v_frame_base::bytes::ByteData;
+use v_frame_base::bytes::bytes_of;
+pub use v_frame_base::error::CopyError;
+pub use v_frame_base::geometry::{PlaneGeometry, SubsamplingError};
+use v_frame_base::parts;
+pub use v_frame_base::pixels::Pixels;
+use v_frame_base::pixels::pixels_of;
+pub use v_frame_base::pixels_mut::PixelsMut;
+use v_frame_base::pixels_mut::pixels_mut_of;
+use v_frame_base::place::{checked_place, row_start, visible_place};
+pub use v_frame_base::rows::Rows;
+use v_frame_base::rows::rows_of;
+pub use v_frame_base::rows_mut::RowsMut;
+use v_frame_base::rows_mut::rows_mut_of;
 
 /// A rectangle of visible pixels inside a border, in one buffer.
 ///
@@ -43,8 +40,8 @@ pub struct Plane<T> {
 
 impl<T> Model for Plane<T> {
     ghost use Rattle.std.specs.Prelude.{◌≡◌, length};
-    ghost use Rattle.v_frame.specs.Geometry.{alloc_size_of, Fits};
-    ghost use Rattle.v_frame.specs.Picture.{Raster};
+    ghost use Rattle.v_frame_base.specs.Geometry.{alloc_size_of, Fits};
+    ghost use Rattle.v_frame_base.specs.Picture.{Raster};
 
     ghost Value = { Raster T };
 
@@ -56,7 +53,7 @@ impl<T> Model for Plane<T> {
 impl<T: PartialEq> PartialEq for Plane<T> {
     ghost use Rattle.std.specs.Ordering.{on, eq_of_both};
     ghost use Rattle.std.specs.Cmp.{and_per, on_per};
-    ghost use Rattle.v_frame.specs.contracts.plane.geometry.PlaneGeometryPartialEq.TheImpl.Laws as geometries;
+    ghost use Rattle.v_frame_base.specs.contracts.geometry.PlaneGeometryPartialEq.TheImpl.Laws as geometries;
     ghost use Rattle.std.specs.Cmp.Lexicographic.{pointwise, lists_per};
 
     ghost eq = { eq_of_both (on (λ p. p.geometry) ⟦<PlaneGeometry as PartialEq>⟧.eq)
@@ -72,7 +69,7 @@ impl<T: PartialEq> PartialEq for Plane<T> {
 
 impl<T: Eq> Eq for Plane<T> {
     ghost use Rattle.std.specs.Cmp.{and_equiv, on_equiv};
-    ghost use Rattle.v_frame.specs.contracts.plane.geometry.PlaneGeometryEq.TheImpl.Laws as geometries;
+    ghost use Rattle.v_frame_base.specs.contracts.geometry.PlaneGeometryEq.TheImpl.Laws as geometries;
     ghost use Rattle.std.specs.Cmp.Lexicographic.{lists_equiv};
 
     ghost laws = { and_equiv (on_equiv (λ p. p.geometry) geometries.laws-law)
@@ -201,8 +198,8 @@ impl<T> Plane<T> {
 impl<T> Plane<T> {
     ghost use Rattle.std.specs.Borrow.{sem};
     ghost use Rattle.v_frame.specs.PlaneLends.{LendsBuffer};
-    ghost use Rattle.v_frame.specs.RowsLeft.{rows_left, LendsRowsInOrder, LendsRowsInReverse};
-    ghost use Rattle.v_frame.specs.PixelsLeft.{pixels_left, LendsPixelsInOrder, LendsPixelsInReverse};
+    ghost use Rattle.v_frame_base.specs.RowsLeft.{rows_left, LendsRowsInOrder, LendsRowsInReverse};
+    ghost use Rattle.v_frame_base.specs.PixelsLeft.{pixels_left, LendsPixelsInOrder, LendsPixelsInReverse};
 
     /// The visible rows for writing, from the top, drawn from both ends.
     ///
@@ -217,7 +214,7 @@ impl<T> Plane<T> {
         ensures runs_back { LendsRowsInReverse T }
     {
         let geometry = self.geometry;
-        RowsMut::new(geometry, self.buffer.as_mut_slice())
+        rows_mut_of(geometry, self.buffer.as_mut_slice())
     }
 
     /// The visible pixels for writing, row after row from the top, drawn from both ends.
@@ -233,7 +230,7 @@ impl<T> Plane<T> {
         ensures runs_back { LendsPixelsInReverse T }
     {
         let geometry = self.geometry;
-        PixelsMut::new(geometry, self.buffer.as_mut_slice())
+        pixels_mut_of(geometry, self.buffer.as_mut_slice())
     }
 }
 
@@ -241,9 +238,9 @@ impl<T: Pixel> Plane<T> {
     ghost use Rattle.std.specs.Borrow.{sem};
     ghost use Rattle.std.specs.Option.{option_copied_mut};
     ghost use Rattle.v_frame.specs.PlaneLends.{LendsPixel};
-    ghost use Rattle.v_frame.specs.Written.{WritesEachPixel};
-    ghost use Rattle.v_frame.specs.Copy.{packed_copy};
-    ghost use Rattle.v_frame.specs.Bytes.{byte_list};
+    ghost use Rattle.v_frame_base.specs.Written.{WritesEachPixel};
+    ghost use Rattle.v_frame_base.specs.Copy.{packed_copy};
+    ghost use Rattle.v_frame_base.specs.Bytes.{byte_list};
 
     /// The visible rows, from the top, drawn from both ends.
     ///
@@ -254,7 +251,7 @@ impl<T: Pixel> Plane<T> {
         ensures runs { ShowsInOrder (deref {X = List T}) }
         ensures runs_back { ShowsInReverse (deref {X = List T}) }
     {
-        Rows::new(self.geometry, self.buffer.as_slice())
+        rows_of(self.geometry, self.buffer.as_slice())
     }
 
     /// The visible pixels, row after row from the top, drawn from both ends.
@@ -266,7 +263,7 @@ impl<T: Pixel> Plane<T> {
         ensures runs { GivesInOrder T }
         ensures runs_back { GivesInReverse T }
     {
-        Pixels::new(self.geometry, self.buffer.as_slice())
+        pixels_of(self.geometry, self.buffer.as_slice())
     }
 
     /// The bytes of the visible pixels, row after row from the top, each pixel with its low byte first, drawn from both ends.
@@ -278,7 +275,7 @@ impl<T: Pixel> Plane<T> {
         ensures runs { GivesInOrder ℕ }
         ensures runs_back { GivesInReverse ℕ }
     {
-        ByteData::new(self.geometry, self.buffer.as_slice())
+        bytes_of(self.geometry, self.buffer.as_slice())
     }
 
     /// The pixel at column `x` of row `y`, or nothing where that lies past the end of the buffer.
@@ -337,7 +334,7 @@ impl<T> Plane<T> {
     ghost use Rattle.std.specs.Borrow.{sem};
     ghost use Rattle.std.specs.Option.{option_copied_mut};
     ghost use Rattle.v_frame.specs.PlaneLends.{LendsVisibleRow, LendsVisiblePixel, LendsPixel};
-    ghost use Rattle.v_frame.specs.Written.{WritesEachRow, WritesEachPixel};
+    ghost use Rattle.v_frame_base.specs.Written.{WritesEachRow, WritesEachPixel};
 
     /// The visible pixels of row `y` for writing, where that row is visible.
     fn visible_row_mut(&mut self, y: usize) -> &mut [T]
@@ -347,7 +344,7 @@ impl<T> Plane<T> {
         ensures written { WritesEachRow self.old y result.now }
     {
         let geometry = self.geometry;
-        let start = geometry.row_start(y);
+        let start = row_start(geometry, y);
         self.buffer.part_mut(start, start + geometry.width())
     }
 
@@ -362,7 +359,7 @@ impl<T> Plane<T> {
         ensures inside { pixel_at (shown self.old) x y ≡ Some result.now }
         ensures written { WritesEachPixel self.old x y }
     {
-        let place = self.geometry.visible_place(x, y);
+        let place = visible_place(self.geometry, x, y);
         self.buffer.entry_mut(place)
     }
 
@@ -374,7 +371,7 @@ impl<T> Plane<T> {
         ensures none { IsNone result
             ↔ (alloc_size_of self.old.geometry ≤ place_of self.old.geometry x y) }
     {
-        let place = self.geometry.checked_place(x, y)?;
+        let place = checked_place(self.geometry, x, y)?;
         self.buffer.get_mut(place)
     }
 }

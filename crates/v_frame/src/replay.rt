@@ -4,10 +4,10 @@
 //! tables of rows that know no padding and no border.
 ghost use Rattle.std.specs.Prelude.{◌≡◌, ℕ, None, Some, length, map, slice_get, IfOk, IfErr, OnOk, OnErr, option_map};
 ghost use Rattle.std.specs.Option.{option_copied_mut};
-ghost use Rattle.v_frame.specs.LeftBehind.{left_behind};
-ghost use Rattle.v_frame.specs.Picture.{shown};
-ghost use Rattle.v_frame.specs.Rows.{pixel_at, row_major, overwritten_row, with_writes, with_pixel};
-ghost use Rattle.v_frame.specs.Bytes.{pixel_form, byte_list};
+ghost use Rattle.v_frame_base.specs.LeftBehind.{left_behind};
+ghost use Rattle.v_frame_base.specs.Picture.{shown};
+ghost use Rattle.v_frame_base.specs.Rows.{pixel_at, row_major, overwritten_row, with_writes, with_pixel};
+ghost use Rattle.v_frame_base.specs.Bytes.{pixel_form, byte_list};
 ghost use Rattle.v_frame.specs.Shown.{tables_of, plane_at, unshown, KeepsBorder};
 ghost use Rattle.v_frame.specs.declared.replay.answer.Answer.TheVariants.{RowShown, RowsWalked, PixelsWalked, BytesWalked};
 ghost use Rattle.v_frame.specs.Walk.{draws_answer};

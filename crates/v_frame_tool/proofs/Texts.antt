@@ -4,8 +4,8 @@ use Rattle.std.proofs.lemmas.List.{take-take, drop-take}
 use Rattle.std.proofs.lemmas.Bool.Decides.{eqb_tells}
 use Rattle.v_frame.specs.Bytes.{one_byte}
 use Rattle.v_frame.specs.Replay.{answers_to}
-use Rattle.v_frame.specs.declared.plane.error.CopyError.{CopyError}
-use Rattle.v_frame.specs.declared.plane.error.CopyError.TheVariants.{DataLength}
+use Rattle.v_frame.specs.error.CopyError.{CopyError}
+use Rattle.v_frame.specs.error.CopyError.TheVariants.{DataLength}
 use Rattle.v_frame.specs.declared.replay.answer.Answer.{Answer}
 use Rattle.v_frame.specs.declared.replay.answer.Answer.TheVariants.{Copied, Number, RowShown}
 use Rattle.v_frame_tool.specs.Run.{blank_tables, calls_on}

@@ -6,8 +6,8 @@ use Rattle.v_frame.specs.declared.replay.call.VisibleCall.TheVariants.{Width, He
 use Rattle.v_frame.specs.declared.replay.answer.Answer.{Answer}
 use Rattle.v_frame.specs.declared.replay.answer.Answer.TheVariants.{Number, RowShown, Copied}
 use Rattle.v_frame.specs.declared.frame.error.FrameError.TheVariants.{OutOfMemory as NoRoomForFrame}
-use Rattle.v_frame.specs.declared.plane.error.CopyError.{CopyError}
-use Rattle.v_frame.specs.declared.plane.error.CopyError.TheVariants.{DataLength}
+use Rattle.v_frame.specs.error.CopyError.{CopyError}
+use Rattle.v_frame.specs.error.CopyError.TheVariants.{DataLength}
 use Rattle.v_frame_tool.specs.Counted.{HasFailed}
 use Rattle.v_frame_tool.specs.declared.fault.ToolFault.{ToolFault}
 use Rattle.v_frame_tool.specs.declared.fault.ToolFault.TheVariants.{Frame, Copy, OutOfMemory, Output, WriteZero}

@@ -1,5 +1,5 @@
 //! Frames: built, refused, and changed by one plane.
-ghost use Rattle.std.specs.Prelude.{◌≡◌, ◌≢◌, ◌⊎◌, ℕ, None, Some, Err, IfOk, IfErr, IsOkUnless, MatchOption, option_map};
+ghost use Rattle.std.specs.Prelude.{◌≡◌, ◌≢◌, ◌⊎◌, ℕ, None, Some, Err, IfOk, IsOkUnless, MatchOption, option_map};
 ghost use Rattle.v_frame.specs.Picture.{shown};
 ghost use Rattle.v_frame.specs.Copy.{packed_copy};
 ghost use Rattle.v_frame.specs.Chroma.{chroma_size_of};

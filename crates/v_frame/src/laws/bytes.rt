@@ -1,15 +1,15 @@
 //! Laws of bytes that go into planes and come out again.
 ghost use Rattle.std.specs.Prelude.{◌≡◌, ◌*◌, ◌≤◌, [], ◌∷◌, length, slice_get, Some, Ok, Err, OnOk, IfOk, IsOkUnless, MatchOption};
-ghost use Rattle.v_frame.specs.Asked.{luma_geometry};
+ghost use Rattle.v_frame_base.specs.Asked.{luma_geometry};
 ghost use Rattle.v_frame.specs.Buildable.{refusal_of};
-ghost use Rattle.v_frame.specs.Picture.{filled, shown};
+ghost use Rattle.v_frame_base.specs.Picture.{filled, shown};
 ghost use Rattle.v_frame.specs.Shown.{unshown};
 ghost use Rattle.v_frame.specs.Walk.{draws_answer, AreAllGiven};
 ghost use Rattle.v_frame.specs.declared.replay.call.VisibleCall.TheVariants.{CopyFromU8SliceWithStride, ByteData};
 ghost use Rattle.v_frame.specs.declared.replay.answer.Answer.TheVariants.{Copied, BytesWalked};
-ghost use Rattle.v_frame.specs.Rows.{width_of, height_of, row_major};
-ghost use Rattle.v_frame.specs.Copy.{packed_copy};
-ghost use Rattle.v_frame.specs.Bytes.{piece_fronts, byte_list, strided_copy, packed_byte_copy};
+ghost use Rattle.v_frame_base.specs.Rows.{width_of, height_of, row_major};
+ghost use Rattle.v_frame_base.specs.Copy.{packed_copy};
+ghost use Rattle.v_frame_base.specs.Bytes.{piece_fronts, byte_list, strided_copy, packed_byte_copy};
 
 use crate::frame::{FrameBuilder, FrameError};
 use crate::pixel::Pixel;

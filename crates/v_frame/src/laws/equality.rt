@@ -3,14 +3,7 @@ ghost use Rattle.std.specs.Prelude.{◌≡◌, ◌↔◌, IsTrue};
 
 use crate::frame::Frame;
 use crate::pixel::Pixel;
-use crate::plane::{Plane, PlaneGeometry};
-
-/// Geometries are equal exactly where their sizes, paddings and ratios are.
-pub fn geometries_are_equal(g: PlaneGeometry, h: PlaneGeometry) -> bool
-    ensures { IsTrue result ↔ (g ≡ h) }
-{
-    g == h
-}
+use crate::plane::Plane;
 
 /// Planes are equal exactly where their geometries and their whole buffers are, the borders too.
 pub fn planes_are_equal<T: Pixel>(p: &Plane<T>, q: &Plane<T>) -> bool

@@ -1,6 +1,6 @@
 //! Laws of walks that write.
 ghost use Rattle.std.specs.Prelude.{◌≡◌, ℕ, All, length};
-ghost use Rattle.v_frame.specs.Rows.{Table};
+ghost use Rattle.v_frame_base.specs.Rows.{Table};
 ghost use Rattle.v_frame.specs.WritingWalk.{ChangesEachPixel};
 
 /// A walk that replaces each pixel, from the front, changes each pixel of a table whose rows have one width.

@@ -1,9 +1,9 @@
 //! Laws of walks that lend rows and pixels for writing.
 ghost use Rattle.std.specs.Prelude.{◌≡◌, IfOk};
-ghost use Rattle.v_frame.specs.Picture.{shown};
-ghost use Rattle.v_frame.specs.Rows.{row_major};
-ghost use Rattle.v_frame.specs.RowsLeft.{rows_left};
-ghost use Rattle.v_frame.specs.PixelsLeft.{pixels_left};
+ghost use Rattle.v_frame_base.specs.Picture.{shown};
+ghost use Rattle.v_frame_base.specs.Rows.{row_major};
+ghost use Rattle.v_frame_base.specs.RowsLeft.{rows_left};
+ghost use Rattle.v_frame_base.specs.PixelsLeft.{pixels_left};
 ghost use Rattle.v_frame.specs.Walk.{item_from, left_by, draws_answer, AreDrawnOnce};
 
 use crate::pixel::Pixel;

@@ -1,12 +1,12 @@
 //! Planes that are filled entry by entry: each place holds a value or none.
 ghost use Rattle.std.specs.Prelude.{◌≡◌, ◌↔◌, None, IsTrue, IfOk, IfErr};
-ghost use Rattle.v_frame.specs.Geometry.{Fits};
-ghost use Rattle.v_frame.specs.Options.{IsFull, options_of};
-ghost use Rattle.v_frame.specs.Picture.{filled};
+ghost use Rattle.v_frame_base.specs.Geometry.{Fits};
+ghost use Rattle.v_frame_base.specs.Options.{IsFull, options_of};
+ghost use Rattle.v_frame_base.specs.Picture.{filled};
 
-use super::aligned::AlignedData;
 use super::{Plane, PlaneGeometry};
 use std::alloc::{AllocError, Global};
+use v_frame_base::aligned::AlignedData;
 
 impl<T> Plane<T> {
     /// A plane without a value anywhere, to be filled through [`data_mut`](Self::data_mut). Refused for memory alone.

@@ -1,7 +1,7 @@
 //! Walks that write: the items are drawn and read first, and then each is written in place.
 ghost use Rattle.std.specs.Prelude.{◌≡◌, ◌+◌, ◌*◌, ◌<◌, ◌^◌, length, map, IfOk, OnOk, OnErr};
-ghost use Rattle.v_frame.specs.Picture.{shown};
-ghost use Rattle.v_frame.specs.Rows.{row_major, with_pixel};
+ghost use Rattle.v_frame_base.specs.Picture.{shown};
+ghost use Rattle.v_frame_base.specs.Rows.{row_major, with_pixel};
 ghost use Rattle.v_frame.specs.Shown.{unshown};
 ghost use Rattle.v_frame.specs.declared.replay.answer.Answer.TheVariants.{RowsWalked, PixelsWalked};
 ghost use Rattle.v_frame.specs.Walk.{draws_answer};

@@ -1,6 +1,6 @@
 -- A blank frame is zero everywhere.
 use Rattle.std.proofs.lemmas.Result.{IfOk-weaker}
-use Rattle.v_frame.proofs.ChromaLemmas.{blank_is_zero}
+use Rattle.v_frame.proofs.BuiltFrames.{blank_is_zero}
 use Rattle.v_frame.proofs.laws.built_frame_is_zero.Goals as goal
 
 pub returns : goal.returns

@@ -1,7 +1,7 @@
 -- Draws that are told by counts give each item once.
 use Rattle.std.proofs.lemmas.Result.{IfOk-weaker}
-use Rattle.v_frame.specs.Picture.{shown}
-use Rattle.v_frame.specs.Bytes.{byte_list}
+use Rattle.v_frame_base.specs.Picture.{shown}
+use Rattle.v_frame_base.specs.Bytes.{byte_list}
 use Rattle.v_frame.proofs.Draws.{sides_drawn_once}
 use Rattle.v_frame.proofs.laws.bytes_are_drawn_once.Goals as goal
 

@@ -1,7 +1,7 @@
 -- One more entry of the list, and the end.
 use Rattle.std.proofs.Common.{◌<◌, List, length, Some, slice_set, sym, ◌∙◌, ap, arith}
 use Rattle.std.proofs.lemmas.Option.{slice_get-get_or}
-use Rattle.v_frame.proofs.Overwrites.{overwritten_by_none, written_more, left_more, written_all}
+use Rattle.v_frame_base.proofs.Overwrites.{overwritten_by_none, written_more, left_more, written_all}
 use Rattle.v_frame.proofs.replay.overwrite.Goals as goal
 use Rattle.v_frame.proofs.replay.overwrite.Goals.{in-Some, in_default}
 

@@ -33,14 +33,14 @@ use mir.Val.{Val, vunit}
 use types.ByLocal.{alloc_all, pass_all, free_all, look_at, get, through, sets, lands_as}
 use types.Kit.{‵, raw, ◌⊛◌, some, later, ◌$◌, ◌∵◌, !, qed, done, group, move, keep, drop, use0, use1, use2, split, split3, join, pick, await, suffices, frame, fsplit, feq_i, feq_l}
 use types.Run.{enter, of_opd, unit_lit, addr, stop, no_more, and_then, returns}
-use Rattle.v_frame.specs.Picture.{Raster, shown}
-use Rattle.v_frame.specs.Rows.{overwritten_row, with_writes}
+use Rattle.v_frame_base.specs.Picture.{Raster, shown}
+use Rattle.v_frame_base.specs.Rows.{overwritten_row, with_writes}
 use Rattle.v_frame.specs.PlaneLends.{LendsRow}
-use Rattle.v_frame.specs.LeftBehind.{left_behind}
+use Rattle.v_frame_base.specs.LeftBehind.{left_behind}
 use Rattle.v_frame.specs.contracts.plane.Plane.{the_row}
 use Rattle.v_frame.specs.contracts.plane.Plane.row_mut
 use Rattle.v_frame.proofs.plane.Plane.row_mut.Met as row_mut_met
-use Rattle.v_frame.proofs.Loans.{comes_home, lends_within, share_within}
+use Rattle.v_frame_base.proofs.Loans.{comes_home, lends_within, share_within}
 use Rattle.v_frame.proofs.LentRows.{ChangesRow, row_changes, slice_laws}
 use Rattle.v_frame.specs.contracts.replay.overwrite_lent
 use Rattle.v_frame.proofs.replay.overwrite_lent.Met as overwrite_lent_met

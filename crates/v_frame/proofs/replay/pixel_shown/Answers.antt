@@ -1,8 +1,8 @@
 -- Outside the rectangle the table has no pixel.
 use Rattle.std.proofs.Common.{ap, sym, arith}
-use Rattle.v_frame.specs.Picture.{shown}
+use Rattle.v_frame_base.specs.Picture.{shown}
 use Rattle.v_frame.specs.Replay.{answer_of_pixel}
-use Rattle.v_frame.proofs.Places.{no_pixel_beside, no_pixel_below}
+use Rattle.v_frame_base.proofs.Places.{no_pixel_beside, no_pixel_below}
 use Rattle.v_frame.proofs.replay.pixel_shown.Goals as goal
 use Rattle.v_frame.proofs.replay.pixel_shown.Goals.{then-x-width-via-then-x-width, then-x-width-via-else-x-width+then-y-height}
 

@@ -1,7 +1,7 @@
 -- One more call: its answer, its tables, and the planes that it may write.
 use Rattle.std.proofs.Common.{◌<◌, List, [], ◌∷◌, ◌++◌, length, take, ◌∙◌, ap, sym, arith}
 use Rattle.v_frame.specs.Shown.{tables_of, plane_at}
-use Rattle.v_frame.specs.Bytes.{PixelForm, pixel_form}
+use Rattle.v_frame_base.specs.Bytes.{PixelForm, pixel_form}
 use Rattle.v_frame.specs.Replay.{reply_to, answers_to}
 use Rattle.v_frame.specs.declared.frame.Frame.{Frame}
 use Rattle.v_frame.specs.declared.replay.answer.Answer.{Answer}

@@ -1,7 +1,7 @@
 -- The answers and the tables are those of the calls so far, and there is room for the answers of the others.
 use Rattle.std.proofs.Common.{◌≡◌, ℕ, ◌≤◌, length, take, vec_len, vec_capacity}
 use Rattle.v_frame.specs.Shown.{tables_of, plane_at, KeepsBorder}
-use Rattle.v_frame.specs.Bytes.{pixel_form}
+use Rattle.v_frame_base.specs.Bytes.{pixel_form}
 use Rattle.v_frame.specs.Replay.{WritesPlane, answers_to, tables_after}
 use Rattle.v_frame.proofs.replay.replay.Given as goal
 

@@ -1,11 +1,11 @@
 -- Inside the rectangle the pixel is read and replaced. Outside of it nothing is.
 use Rattle.std.proofs.Common.{◌<◌, ◌∙◌, ap, sym, refl, arith}
-use Rattle.v_frame.specs.Picture.{shown}
-use Rattle.v_frame.specs.Rows.{with_pixel}
+use Rattle.v_frame_base.specs.Picture.{shown}
+use Rattle.v_frame_base.specs.Rows.{with_pixel}
 use Rattle.v_frame.specs.Replay.{answer_of_pixel}
 use Rattle.v_frame.specs.declared.replay.answer.Answer.TheVariants.{PixelShown}
-use Rattle.v_frame.proofs.Overwrites.{with_pixel_beside, with_row_below}
-use Rattle.v_frame.proofs.Places.{place_within}
+use Rattle.v_frame_base.proofs.Overwrites.{with_pixel_beside, with_row_below}
+use Rattle.v_frame_base.proofs.Places.{place_within}
 use Rattle.v_frame.proofs.replay.replay_pixel_mut.Goals as goal
 use Rattle.v_frame.proofs.replay.replay_pixel_mut.Goals.{then-x-width-via-then-x-width, then-x-width-via-else-x-width+then-y-height}
 

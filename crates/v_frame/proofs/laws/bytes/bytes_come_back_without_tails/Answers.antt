@@ -1,7 +1,7 @@
 use Rattle.std.proofs.Common.{arith}
-use Rattle.v_frame.specs.Picture.{shown}
-use Rattle.v_frame.proofs.BytesBack.{AreBytes}
-use Rattle.v_frame.proofs.ByteLaws.{strided_bytes}
+use Rattle.v_frame_base.specs.Picture.{shown}
+use Rattle.v_frame_base.proofs.BytesBack.{AreBytes}
+use Rattle.v_frame_base.proofs.ByteLaws.{strided_bytes}
 use Rattle.v_frame.proofs.laws.bytes.bytes_come_back_without_tails.Goals as goal
 
 pub returns-clause-bytes : goal.returns-clause-bytes

@@ -1,15 +1,15 @@
 -- A frame that is built shows a table of its size, which the copy fills.
 use Rattle.std.proofs.Common.{ℕ, ◌≡◌, ◌<◌, List, length, get_or, Ok, refl, ◌∙◌, ap, rules}
 use Rattle.std.proofs.lemmas.Result.{IfOk-weaker}
-use Rattle.v_frame.specs.Bytes.{PixelForm, pixel_form}
-use Rattle.v_frame.specs.Rows.{width_of, height_of}
+use Rattle.v_frame_base.specs.Bytes.{PixelForm, pixel_form}
+use Rattle.v_frame_base.specs.Rows.{width_of, height_of}
 use Rattle.v_frame.specs.Shown.{tables_of}
 use Rattle.v_frame.specs.Replay.{answers_to}
-use Rattle.v_frame.specs.Asked.{luma_geometry}
-use Rattle.v_frame.specs.Picture.{Raster, filled, shown}
+use Rattle.v_frame_base.specs.Asked.{luma_geometry}
+use Rattle.v_frame_base.specs.Picture.{Raster, filled, shown}
 use Rattle.v_frame.specs.declared.frame.error.FrameError.TheVariants.{OutOfMemory}
 use Rattle.v_frame.specs.declared.replay.call.VisibleCall.{VisibleCall}
-use Rattle.v_frame.proofs.BytesBack.{AreBytes, are_bytes}
+use Rattle.v_frame_base.proofs.BytesBack.{AreBytes, are_bytes}
 use Rattle.v_frame.proofs.BytePaths.{built_high, blank_width, blank_height, path_answers}
 use Rattle.v_frame.proofs.Draws.{all_given}
 use Rattle.v_frame.proofs.laws.bytes.bytes_go_through_a_frame.Goals as goal

@@ -1,13 +1,13 @@
 -- Both copies leave the same table, border and geometry, which determine the buffer.
 use Rattle.std.proofs.Common.{ℕ, ◌≡◌, ◌*◌, ◌≤◌, length, ap, ◌∙◌, sym, arith}
-use Rattle.v_frame.specs.Geometry.{alloc_size_of, usize_max}
-use Rattle.v_frame.specs.Picture.{Raster, shown, border_of}
-use Rattle.v_frame.specs.Rows.{width_of, height_of}
-use Rattle.v_frame.specs.Copy.{CopyOutcome}
-use Rattle.v_frame.specs.Bytes.{packed_byte_copy}
-use Rattle.v_frame.proofs.CopyLemmas.{pixels_within}
-use Rattle.v_frame.proofs.Determined.{determines_buffer}
-use Rattle.v_frame.proofs.ByteLaws.{one_byte_copies}
+use Rattle.v_frame_base.specs.Geometry.{alloc_size_of, usize_max}
+use Rattle.v_frame_base.specs.Picture.{Raster, shown, border_of}
+use Rattle.v_frame_base.specs.Rows.{width_of, height_of}
+use Rattle.v_frame_base.specs.Copy.{CopyOutcome}
+use Rattle.v_frame_base.specs.Bytes.{packed_byte_copy}
+use Rattle.v_frame_base.proofs.CopyLemmas.{pixels_within}
+use Rattle.v_frame_base.proofs.Determined.{determines_buffer}
+use Rattle.v_frame_base.proofs.ByteLaws.{one_byte_copies}
 use Rattle.v_frame.proofs.laws.bytes.packed_copies_agree.Goals as goal
 
 pub returns-clause-planes : goal.returns-clause-planes

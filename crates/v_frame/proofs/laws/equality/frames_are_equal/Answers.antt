@@ -2,7 +2,7 @@ use Rattle.std.proofs.Common.{◌<◌, ap}
 use Rattle.std.proofs.Math.Bridge.{le_prop}
 use mathlib.Core.HLevel.{is_prop→PathP}
 use Rattle.std.proofs.lemmas.Bool.Decides.{Decides-at, Decides-and, Decides-like, Decides-eqb}
-use Rattle.v_frame.proofs.Equality.{buffers_decide, planes_decide, options_decide, formats_decide}
+use Rattle.v_frame_base.proofs.Equality.{buffers_decide, planes_decide, options_decide, formats_decide}
 use Rattle.v_frame.proofs.laws.equality.frames_are_equal.Goals as goal
 
 pub returns : goal.returns

@@ -1,5 +1,5 @@
 use Rattle.std.proofs.lemmas.Bool.Decides.{Decides-at, Decides-and}
-use Rattle.v_frame.proofs.Equality.{buffers_decide, geometries_decide}
+use Rattle.v_frame_base.proofs.Equality.{buffers_decide, geometries_decide}
 use Rattle.v_frame.proofs.laws.equality.planes_are_equal.Goals as goal
 
 pub returns : goal.returns

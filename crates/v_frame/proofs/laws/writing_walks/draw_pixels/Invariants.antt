@@ -1,7 +1,7 @@
 -- The answers and what is left are those of the draws so far, and there is room for the others.
 use Rattle.std.proofs.Common.{◌≡◌, ◌≤◌, length, take, vec_len, vec_capacity}
 use Rattle.v_frame.specs.Walk.{drawn_in_turn, left_in_turn}
-use Rattle.v_frame.specs.PixelsLeft.{pixels_left}
+use Rattle.v_frame_base.specs.PixelsLeft.{pixels_left}
 use Rattle.v_frame.proofs.laws.writing_walks.draw_pixels.Given as goal
 
 abbrev pub invariant-loop-side : goal.invariant-loop-side

@@ -1,7 +1,7 @@
 -- One more draw, and the end.
 use Rattle.std.proofs.Common.{◌<◌, length, arith}
 use Rattle.v_frame.proofs.Draws.{own_default, drawn_more, left_more, all_drawn}
-use Rattle.v_frame.specs.RowsLeft.{rows_left}
+use Rattle.v_frame_base.specs.RowsLeft.{rows_left}
 use Rattle.v_frame.proofs.laws.writing_walks.draw_rows.Goals as goal
 
 pub loop-side-preserved : goal.loop-side-preserved

@@ -1,6 +1,6 @@
 -- Draws that are told by counts give each item once.
 use Rattle.std.proofs.lemmas.Result.{IfOk-weaker}
-use Rattle.v_frame.specs.Picture.{shown}
+use Rattle.v_frame_base.specs.Picture.{shown}
 use Rattle.v_frame.proofs.Draws.{drawn_once}
 use Rattle.v_frame.proofs.laws.writing_walks.lent_rows_are_drawn_once.Goals as goal
 

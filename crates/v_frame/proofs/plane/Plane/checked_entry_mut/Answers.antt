@@ -3,10 +3,10 @@ use Rattle.std.proofs.Common.{◌≡◌, ◌≤◌, None, slice_get, refl, sym, 
 use Rattle.std.proofs.lemmas.Option.{slice_get_past}
 use Rattle.std.specs.Option.{ghost_name_of}
 use borrow.Follows.Closed.{read_of}
-use Rattle.v_frame.specs.Geometry.{alloc_size_of}
-use Rattle.v_frame.specs.Picture.{Raster, raster, place_of}
-use Rattle.v_frame.proofs.Places.{past_counting}
-use Rattle.v_frame.proofs.Writes.{set_at, none_past}
+use Rattle.v_frame_base.specs.Geometry.{alloc_size_of}
+use Rattle.v_frame_base.specs.Picture.{Raster, raster, place_of}
+use Rattle.v_frame_base.proofs.Places.{past_counting}
+use Rattle.v_frame_base.proofs.Writes.{set_at, none_past}
 use Rattle.v_frame.proofs.plane.Plane.checked_entry_mut.Goals as goal
 
 pub returns : goal.returns

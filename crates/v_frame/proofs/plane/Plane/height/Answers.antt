@@ -1,7 +1,7 @@
 -- The table is as high as the rectangle.
 use Rattle.std.proofs.Common.{◌∙◌, sym}
-use Rattle.v_frame.specs.Picture.{Raster, raster}
-use Rattle.v_frame.proofs.CopyLemmas.{height_of_shown}
+use Rattle.v_frame_base.specs.Picture.{Raster, raster}
+use Rattle.v_frame_base.proofs.CopyLemmas.{height_of_shown}
 use Rattle.v_frame.proofs.plane.Plane.height.Goals as goal
 
 pub returns-clause-table : goal.returns-clause-table

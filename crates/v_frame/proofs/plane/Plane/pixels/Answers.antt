@@ -1,5 +1,5 @@
 -- A run of draws gives what was left, in order.
-use Rattle.v_frame.proofs.WalkRuns.{gives_in_order, gives_in_reverse}
+use Rattle.v_frame_base.proofs.WalkRuns.{gives_in_order, gives_in_reverse}
 use Rattle.v_frame.proofs.plane.Plane.pixels.Goals as goal
 
 pub returns-clause-runs : goal.returns-clause-runs

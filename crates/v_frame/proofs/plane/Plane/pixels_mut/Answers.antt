@@ -1,6 +1,6 @@
 -- A run of draws lends what was left, in order.
-use Rattle.v_frame.specs.PixelsLeft.{pixels_left}
-use Rattle.v_frame.proofs.WalkRuns.{lends_in_order, lends_in_reverse}
+use Rattle.v_frame_base.specs.PixelsLeft.{pixels_left}
+use Rattle.v_frame_base.proofs.WalkRuns.{lends_in_order, lends_in_reverse}
 use Rattle.v_frame.proofs.plane.Plane.pixels_mut.Goals as goal
 
 pub returns-clause-runs : goal.returns-clause-runs

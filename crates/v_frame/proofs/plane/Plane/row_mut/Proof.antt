@@ -45,14 +45,14 @@ use types.Mut.{open_ref, close_ref}
 use types.Part.{agg}
 use types.Run.{enter, lit, addr, bin, stop, no_more, and_then, first, branches, skips, exec, returns, returns_within}
 use types.Tokens.{lent_back}
-use Rattle.v_frame.specs.Picture.{Raster, shown}
-use Rattle.v_frame.specs.Rows.{height_of}
-use Rattle.v_frame.specs.Written.{WritesRow, WritesEachRow, with_row}
+use Rattle.v_frame_base.specs.Picture.{Raster, shown}
+use Rattle.v_frame_base.specs.Rows.{height_of}
+use Rattle.v_frame_base.specs.Written.{WritesRow, WritesEachRow, with_row}
 use Rattle.v_frame.specs.PlaneLends.{LendsRow}
 use Rattle.v_frame.specs.contracts.plane.Plane.{the_row}
 use Rattle.v_frame.proofs.plane.Plane.TheLaws.{the_row_laws, the_within}
-use Rattle.v_frame.proofs.Loans.{lft_over, lft_within, share_within}
-use Rattle.v_frame.proofs.Places.{no_row_below}
+use Rattle.v_frame_base.proofs.Loans.{lft_over, lft_within, share_within}
+use Rattle.v_frame_base.proofs.Places.{no_row_below}
 use Rattle.v_frame.specs.contracts.plane.Plane.height
 use Rattle.v_frame.proofs.plane.Plane.height.Met as height_met
 use Rattle.v_frame.specs.contracts.plane.Plane.visible_row_mut

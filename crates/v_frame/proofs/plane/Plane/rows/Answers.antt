@@ -1,5 +1,5 @@
 -- A run of draws gives what was left, in order.
-use Rattle.v_frame.proofs.WalkRuns.{shows_in_order, shows_in_reverse}
+use Rattle.v_frame_base.proofs.WalkRuns.{shows_in_order, shows_in_reverse}
 use Rattle.std.specs.Map.Iter.{deref}
 use Rattle.v_frame.proofs.plane.Plane.rows.Goals as goal
 

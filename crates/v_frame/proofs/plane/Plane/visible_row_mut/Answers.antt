@@ -1,13 +1,13 @@
 -- The part of the buffer that is lent is row y of the table, and a row left there replaces it.
 use Rattle.std.proofs.Common.{ℕ, ◌≡◌, ◌+◌, ◌<◌, ◌≤◌, List, ◌++◌, length, take, drop, Some, slice_get, refl, sym, ap, ◌∙◌, arith, length-append, length-drop, length-take-le}
 use Rattle.std.proofs.lemmas.Option.{get_or_from_slice_get, slice_get_within}
-use Rattle.v_frame.specs.AlignedData.{with_part}
-use Rattle.v_frame.specs.Geometry.{alloc_size_of}
-use Rattle.v_frame.specs.Picture.{Raster, raster, shown, border_of, place_of}
-use Rattle.v_frame.specs.Written.{with_row, WritesEachRow}
-use Rattle.v_frame.proofs.Lists.{refill_same}
-use Rattle.v_frame.proofs.Pictures.{row_start, place_of_row, row_within, overwritten, shown_overwritten, border_overwritten}
-use Rattle.v_frame.proofs.Places.{shown_slice, rows_are_wide}
+use Rattle.v_frame_base.specs.AlignedData.{with_part}
+use Rattle.v_frame_base.specs.Geometry.{alloc_size_of}
+use Rattle.v_frame_base.specs.Picture.{Raster, raster, shown, border_of, place_of}
+use Rattle.v_frame_base.specs.Written.{with_row, WritesEachRow}
+use Rattle.v_frame_base.proofs.Lists.{refill_same}
+use Rattle.v_frame_base.proofs.Pictures.{row_start, place_of_row, row_within, overwritten, shown_overwritten, border_overwritten}
+use Rattle.v_frame_base.proofs.Places.{shown_slice, rows_are_wide}
 use Rattle.v_frame.proofs.plane.Plane.visible_row_mut.Goals as goal
 
 module _ {T : Type 0} where

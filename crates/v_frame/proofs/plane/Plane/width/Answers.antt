@@ -1,8 +1,8 @@
 -- The table is as wide as the rectangle.
 use Rattle.std.proofs.Common.{◌∙◌, sym}
-use Rattle.v_frame.specs.Picture.{Raster, raster}
-use Rattle.v_frame.proofs.CopyLemmas.{width_of_shown}
-use Rattle.v_frame.proofs.Places.{rows_are_wide}
+use Rattle.v_frame_base.specs.Picture.{Raster, raster}
+use Rattle.v_frame_base.proofs.CopyLemmas.{width_of_shown}
+use Rattle.v_frame_base.proofs.Places.{rows_are_wide}
 use Rattle.v_frame.proofs.plane.Plane.width.Goals as goal
 
 pub returns-clause-table : goal.returns-clause-table

@@ -1,6 +1,6 @@
 -- There is a pixel inside the rectangle.
 use Rattle.std.proofs.Common.{refl, arith}
-use Rattle.v_frame.proofs.Places.{place_within}
+use Rattle.v_frame_base.proofs.Places.{place_within}
 use Rattle.v_frame.proofs.replay.writing_walks.set_pixel.Goals as goal
 
 pub returns-in_default-clause-table : goal.returns-in_default-clause-table

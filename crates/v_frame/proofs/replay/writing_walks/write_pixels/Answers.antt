@@ -1,16 +1,16 @@
 -- One more draw, and the end.
 use Rattle.std.proofs.Common.{ℕ, ◌≡◌, ◌+◌, ◌*◌, ◌<◌, List, length, map, take, slice_get, refl, ap, sym, ◌∙◌, arith, length-take}
-use Rattle.v_frame.specs.Geometry.{Geometry}
-use Rattle.v_frame.specs.Picture.{shown}
-use Rattle.v_frame.specs.Rows.{row_major, with_item_by}
-use Rattle.v_frame.specs.Copy.{cut_rows}
+use Rattle.v_frame_base.specs.Geometry.{Geometry}
+use Rattle.v_frame_base.specs.Picture.{shown}
+use Rattle.v_frame_base.specs.Rows.{row_major, with_item_by}
+use Rattle.v_frame_base.specs.Copy.{cut_rows}
 use Rattle.v_frame.specs.Shown.{unshown}
 use Rattle.v_frame.specs.Walk.{fronts, backs, number_of_item}
 use Rattle.v_frame.specs.WritingWalk.{side_of_pixel, pixel_written, walk_leaves}
 use Rattle.v_frame.specs.declared.replay.draw.Side.{Side}
 use Rattle.v_frame.specs.declared.replay.draw.PixelDraw.{PixelDraw}
 use Rattle.v_frame.specs.declared.replay.writing_walks.Place.{Place}
-use Rattle.v_frame.proofs.Cursors.{pixels_of_rows}
+use Rattle.v_frame_base.proofs.Cursors.{pixels_of_rows}
 use Rattle.v_frame.proofs.PixelWrites.{row_is_high, cut-row_major, draw_replaces, draw_keeps}
 use Rattle.v_frame.proofs.WritingWalks.{next_front, next_back, draws_so_far, changed_more, changed_all}
 use Rattle.v_frame.proofs.replay.writing_walks.write_pixels.Goals as goal

@@ -1,8 +1,8 @@
 -- The table is what the draws so far leave, and the pixels that no draw took lie between the two places.
 use Rattle.std.proofs.Common.{◌≡◌, ◌+◌, ◌*◌, ◌<◌, length, map, take}
-use Rattle.v_frame.specs.Picture.{shown}
-use Rattle.v_frame.specs.Rows.{row_major}
-use Rattle.v_frame.specs.Copy.{cut_rows}
+use Rattle.v_frame_base.specs.Picture.{shown}
+use Rattle.v_frame_base.specs.Rows.{row_major}
+use Rattle.v_frame_base.specs.Copy.{cut_rows}
 use Rattle.v_frame.specs.Shown.{unshown}
 use Rattle.v_frame.specs.Walk.{fronts, backs}
 use Rattle.v_frame.specs.WritingWalk.{side_of_pixel, pixel_written, walk_leaves}

@@ -1,7 +1,7 @@
 -- One more draw, and the end.
 use Rattle.std.proofs.Common.{◌≡◌, ◌<◌, List, length, map, take, refl, ap, ◌∙◌, arith, length-take}
-use Rattle.v_frame.specs.Picture.{shown}
-use Rattle.v_frame.specs.Rows.{with_writes}
+use Rattle.v_frame_base.specs.Picture.{shown}
+use Rattle.v_frame_base.specs.Rows.{with_writes}
 use Rattle.v_frame.specs.Walk.{number_of_item}
 use Rattle.v_frame.specs.WritingWalk.{side_of_row, row_written}
 use Rattle.v_frame.specs.declared.replay.draw.RowDraw.{RowDraw}

@@ -1,6 +1,6 @@
 -- The table is what the draws so far leave, and the rows that no draw took lie between the two ends.
 use Rattle.std.proofs.Common.{◌≡◌, ◌+◌, length, map, take}
-use Rattle.v_frame.specs.Picture.{shown}
+use Rattle.v_frame_base.specs.Picture.{shown}
 use Rattle.v_frame.specs.Shown.{unshown}
 use Rattle.v_frame.specs.Walk.{fronts, backs}
 use Rattle.v_frame.specs.WritingWalk.{side_of_row, rows_written}
