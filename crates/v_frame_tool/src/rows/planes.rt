@@ -52,11 +52,6 @@ fn a_copy_of_another_length_changes_nothing(rt: HostRuntime) {
     };
     assert!(rt; plane.copy_from_slice(&[1, 2, 3, 4, 5]) == Err(refused));
     assert!(rt; plane.data() == [0; 18].as_slice());
-}
-
-#[test]
-fn a_copy_fills_the_visible_rows(rt: HostRuntime) {
-    let mut plane = zeros(&rt, rt.alloc(), 3, 2, [1, 2, 1, 0]);
     assert!(rt; plane.copy_from_slice(&[1, 2, 3, 4, 5, 6]) == Ok(()));
     assert!(rt; table_of(&plane) == [Some([1, 2, 3]), Some([4, 5, 6])]);
     assert!(rt; plane.pixel(3, 0) == Some(0));
