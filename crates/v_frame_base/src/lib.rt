@@ -1,7 +1,8 @@
 //! What the planes of the crate `v_frame` are made of: pixels, formats, geometries, buffers, walks, copies, and their laws.
 //!
-//! Users name `v_frame` alone, which hands on the types that are theirs. The rest is public for that crate's sake: functions
-//! over a geometry and a slice that is the whole buffer, which ask for what every plane keeps.
+//! Users name `v_frame` alone, which hands on the types that are theirs. The rest is public for that crate's sake: the
+//! buffer, the places, and functions over a geometry and a slice that is the whole buffer, which ask for what every plane
+//! keeps.
 #![tactic(auto)]
 
 pub mod aligned;

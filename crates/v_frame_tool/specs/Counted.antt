@@ -1,4 +1,4 @@
--- A reader or a writer whose failures are counted.
+-- A writer whose failures are counted.
 use Rattle.std.specs.Prelude.{ℕ, ◌≡◌, ◌-◌, ◌^◌, ◌<◌, ◌⊎◌}
 
 pub record Watched (D : Type 0) : Type 0 where

@@ -1,4 +1,4 @@
-//! Readers and writers whose failures are counted.
+//! Writers whose failures are counted.
 ghost use Rattle.std.specs.Prelude.{◌≡◌, ◌+◌, min, OnOk, OnErr};
 ghost use Rattle.std.specs.Io.KnownBytes.{WriteAppends};
 ghost use Rattle.std.specs.Io.{WritesAtMost};
@@ -7,7 +7,7 @@ ghost use Rattle.v_frame_tool.specs.Counted.{u64_max};
 use std::io;
 use std::marker::Model;
 
-/// A reader or a writer, and how often it failed. Our own.
+/// A writer, and how often it failed. Our own.
 #[derive(Drop)]
 pub struct Counted<D> {
     inner: D,
@@ -30,14 +30,14 @@ impl<D> Counted<D> {
         Counted { inner, failures: 0 }
     }
 
-    /// The reader or the writer.
+    /// The writer.
     pub fn inner(&self) -> &D
         ensures { result.now ≡ self.now.inner }
     {
         &self.inner
     }
 
-    /// How often a read or a write failed. The count stays at `u64::MAX`.
+    /// How often a write failed. The count stays at `u64::MAX`.
     pub fn failures(&self) -> u64
         ensures { result ≡ self.now.failures }
     {

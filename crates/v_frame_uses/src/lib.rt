@@ -1,4 +1,5 @@
-//! What users write over `v_frame`: small functions, each with a contract that pins what it gives and what it leaves.
+//! What users write over `v_frame`: small functions, each with a contract that pins what it gives and, but for two that write
+//! through lent rows and pixels, what it leaves.
 //!
 //! They are examples to copy, and they show that the public contracts are enough: nothing here looks into `v_frame`. Our
 //! own.

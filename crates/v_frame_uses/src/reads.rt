@@ -1,4 +1,4 @@
-//! Planes, read.
+//! Planes, read, and one filled.
 ghost use Rattle.std.specs.Prelude.{◌≡◌, ◌-◌, ◌*◌, ◌≤◌, ◌↔◌, IsTrue, Some, length, min, slice_get};
 ghost use Rattle.std.specs.Bool.{OnTrue, OnFalse};
 ghost use Rattle.v_frame.specs.Geometry.{alloc_size_of, isize_max};

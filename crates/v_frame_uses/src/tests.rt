@@ -1,4 +1,4 @@
-//! That functions which take memory succeed with it, and what held rows and pixels leave: no clause says these.
+//! That functions which take memory succeed with it, and what lent rows and pixels leave: no clause says these.
 
 use crate::bytes::{append_bytes, without_tails};
 use crate::frames::{built_chroma_size, reason_not_to_build};

@@ -1,4 +1,4 @@
-//! The laws, called.
+//! Laws, called.
 ghost use Rattle.std.specs.Prelude.{◌≡◌, [], ◌∷◌, None, IfOk};
 ghost use Rattle.v_frame.specs.Shown.{tables_of};
 

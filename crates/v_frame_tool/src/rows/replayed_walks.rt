@@ -2,10 +2,11 @@
 
 use super::frames::monochrome;
 use super::replays::{answers_are, copy, row_shown};
-use super::walks::counted;
+use super::walks::{counted, counted_plane};
 use super::writes::with_buffer;
 use std::alloc::Global;
 use std::process::Abort;
+use v_frame::laws::{pixels_are_drawn_once, rows_are_drawn_once};
 use v_frame::replay::{Answer, Drawn, Sequence, Side, VisibleCall, replay};
 
 /// A walk over the rows of the plane 0.
@@ -208,4 +209,34 @@ fn a_stopped_walk_leaves_the_calls_in_front(rt: HostRuntime) {
             assert!(rt; frame.y_plane.pixel(0, 0) == first);
         }
     }
+}
+
+#[test]
+fn rows_of_a_plane_are_drawn_once(rt: HostRuntime) {
+    let plane = counted_plane(&rt, rt.alloc(), 3, 2, [1, 2, 1, 0]);
+    let sides = [Side::Back, Side::Front, Side::Back];
+    let given = rows_are_drawn_once(rt.alloc(), &plane, &sides).expect(&rt, "memory");
+    let drawn = [
+        (Some([4, 5, 6].as_slice()), 1),
+        (Some([1, 2, 3].as_slice()), 0),
+        (None, 0),
+    ];
+    let answer = Answer::RowsWalked {
+        total: 2,
+        drawn: given.into(),
+    };
+    assert!(rt; answer == rows_walked(&rt, rt.alloc(), 2, &drawn));
+}
+
+#[test]
+fn pixels_of_a_plane_are_drawn_once(rt: HostRuntime) {
+    let plane = counted_plane(&rt, rt.alloc(), 3, 2, [1, 2, 1, 0]);
+    let sides = [Side::Front, Side::Back, Side::Back];
+    let given = pixels_are_drawn_once(rt.alloc(), &plane, &sides).expect(&rt, "memory");
+    let answer = Answer::PixelsWalked {
+        total: 6,
+        drawn: given.into(),
+    };
+    let drawn = [(Some(1), 5), (Some(6), 4), (Some(5), 3)];
+    assert!(rt; answer == pixels_walked(&rt, rt.alloc(), 6, &drawn));
 }
