@@ -42,6 +42,8 @@ pub fn without_tails<T: Pixel>(
         ((strided_copy T.BYTES T.pixel_of (shown plane.old) source.now stride).answer ≡ Ok tt)) }
     ensures refused { IfOk result (λ copied. IfErr copied (λ error.
         (strided_copy T.BYTES T.pixel_of (shown plane.old) source.now stride).answer ≡ Err error)) }
+    ensures table { shown plane.new
+        ≡ (strided_copy T.BYTES T.pixel_of (shown plane.old) source.now stride).table }
     ensures border { unshown plane.new ≡ unshown plane.old }
 {
     if let Err(error) = bytes_come_back_without_tails(plane, source, stride) {

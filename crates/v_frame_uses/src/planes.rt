@@ -49,6 +49,8 @@ pub fn copy_with_plane<T: Pixel>(
         ≡ option_map unshown (plane_at frame.now index)) }
     ensures others { IfOk result (λ copy. (other : ℕ) → other ≢ index
         → plane_at copy.0 other ≡ plane_at frame.now other) }
+    ensures format { IfOk result (λ copy. copy.0.subsampling ≡ frame.now.subsampling) }
+    ensures depth { IfOk result (λ copy. copy.0.bit_depth ≡ frame.now.bit_depth) }
     ensures same { IfOk result (λ copy. IsTrue copy.1 ↔ (copy.0 ≡ frame.now)) }
 {
     let mut copy = frame.clone(alloc)?;

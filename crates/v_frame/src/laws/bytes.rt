@@ -21,6 +21,8 @@ use std::alloc::{AllocError, Global};
 pub fn bytes_come_back<T: Pixel>(plane: &mut Plane<T>, src: &[u8]) -> Result<(), CopyError>
     ensures answer { result
         ≡ (packed_byte_copy T.BYTES T.pixel_of (shown plane.old) src.now).answer }
+    ensures table { shown plane.new
+        ≡ (packed_byte_copy T.BYTES T.pixel_of (shown plane.old) src.now).table }
     ensures bytes { OnOk result (byte_list T.BYTES T.value (shown plane.new) ≡ src.now) }
     ensures border { unshown plane.new ≡ unshown plane.old }
 {
@@ -36,6 +38,8 @@ pub fn bytes_come_back_without_tails<T: Pixel>(
 ) -> Result<(), CopyError>
     ensures answer { result
         ≡ (strided_copy T.BYTES T.pixel_of (shown plane.old) src.now stride).answer }
+    ensures table { shown plane.new
+        ≡ (strided_copy T.BYTES T.pixel_of (shown plane.old) src.now stride).table }
     ensures bytes { OnOk result (byte_list T.BYTES T.value (shown plane.new)
         ≡ row_major (piece_fronts (width_of (shown plane.old) * T.BYTES) stride
         (height_of (shown plane.old)) src.now)) }
