@@ -1,15 +1,12 @@
 -- A built frame is zero everywhere, and its chroma planes have their size.
-use Rattle.std.proofs.Common.{ℕ, ◌≡◌, Option, Some, None, Ok, All, IfSome, option_map, sym, ◌∙◌, ap, arith}
+use Rattle.std.proofs.Common.{◌≡◌, Option, Some, None, Ok, All, IfSome, option_map, sym, ◌∙◌, ap, arith}
 use Rattle.std.proofs.lemmas.List.{get_or-replicate, length-replicate}
-use Rattle.v_frame_base.specs.Geometry.{Geometry, alloc_size_of}
-use Rattle.v_frame_base.specs.Chroma.{chroma_size_of}
-use Rattle.v_frame_base.specs.Subsampled.{subsampled}
-use Rattle.v_frame_base.specs.Asked.{Asked, luma_geometry}
-use Rattle.v_frame_base.specs.Picture.{filled}
-use Rattle.v_frame_base.specs.declared.chroma.ChromaSubsampling.{ChromaSubsampling}
-use Rattle.v_frame_base.proofs.ChromaLemmas.{chroma_size, no_chroma_size}
-use Rattle.v_frame.specs.BuiltFrame.{IsZeroEverywhere, size_of}
-use Rattle.v_frame.specs.Buildable.{chroma_geometry, IsBlank}
+use Rattle.v_frame_layout.specs.Geometry.{Geometry, alloc_size_of}
+use Rattle.v_frame_layout.specs.Chroma.{chroma_size_of, subsampled}
+use Rattle.v_frame.specs.Build.{FrameRequest, luma_geometry, IsZeroEverywhere, size_of, chroma_geometry, IsBlank}
+use Rattle.v_frame_plane.specs.Plane.{filled}
+use Rattle.v_frame_layout.specs.declared.chroma.ChromaSubsampling.{ChromaSubsampling}
+use Rattle.v_frame_layout.proofs.ChromaLemmas.{chroma_size, no_chroma_size}
 use Rattle.v_frame.specs.declared.frame.Frame.{Frame}
 
 -- what a plane of one value holds, and its size
@@ -25,7 +22,7 @@ module _ {T : Type 0} (zero : T) where
   chroma_plane_size s g None e = sym (no_chroma_size s g e)
   chroma_plane_size s g (Some c) e = sym (chroma_size s g c e)
 
-  pub blank_is_zero : (asked : Asked) (frame : Frame T) → IsBlank zero asked frame → IsZeroEverywhere zero asked frame
+  pub blank_is_zero : (asked : FrameRequest) (frame : Frame T) → IsBlank zero asked frame → IsZeroEverywhere zero asked frame
   blank_is_zero asked frame blank =
       let luma = luma_geometry asked in
       let chroma = chroma_geometry asked in

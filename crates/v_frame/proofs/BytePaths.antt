@@ -3,27 +3,26 @@ use Rattle.std.proofs.Common.{ℕ, ◌≡◌, ◌*◌, ◌^◌, ◌<◌, ◌≤�
 use Rattle.std.specs.Prelude.{MatchOption, IsOkUnless, is_ok}
 use Rattle.std.proofs.lemmas.Bool.{ltb-true}
 use Rattle.std.proofs.lemmas.List.{length-replicate}
-use Rattle.v_frame_base.specs.Geometry.{alloc_size_of}
-use Rattle.v_frame_base.specs.Picture.{filled, shown}
-use Rattle.v_frame_base.specs.Rows.{Table, width_of, height_of, row_major}
-use Rattle.v_frame_base.specs.Copy.{CopyOutcome}
-use Rattle.v_frame_base.specs.Bytes.{PixelForm, piece_fronts, byte_list, strided_table}
-use Rattle.v_frame.specs.Shown.{Tables}
+use Rattle.v_frame_layout.specs.Geometry.{alloc_size_of}
+use Rattle.v_frame_plane.specs.Plane.{filled, table_of}
+use Rattle.v_frame_layout.specs.Table.{Table, width_of, height_of, row_major}
+use Rattle.v_frame_plane.specs.Copy.{CopyOutcome, piece_fronts, strided_table}
+use Rattle.v_frame_layout.specs.Pixel.{PixelForm, byte_list}
+use Rattle.v_frame.specs.Frame.{Tables}
 use Rattle.v_frame.specs.Walk.{draws_answer}
 use Rattle.v_frame.specs.Replay.{answers_to}
-use Rattle.v_frame_base.specs.Asked.{Asked, luma_geometry}
-use Rattle.v_frame.specs.Buildable.{is_laid_out, is_mismatch, refusal_of}
-use Rattle.v_frame_base.specs.Subsampled.{subsampled}
+use Rattle.v_frame.specs.Build.{FrameRequest, luma_geometry, is_laid_out, is_mismatch, refusal_of}
+use Rattle.v_frame_layout.specs.Chroma.{subsampled}
 use Rattle.v_frame.specs.declared.frame.error.FrameError.TheVariants.{UnsupportedBitDepth, DataTypeMismatch, UnsupportedResolution}
 use Rattle.v_frame.specs.declared.frame.error.FrameError.{FrameError}
 use Rattle.v_frame.specs.declared.replay.draw.Side.{Side}
 use Rattle.v_frame.specs.declared.replay.call.VisibleCall.TheVariants.{CopyFromU8SliceWithStride, ByteData}
 use Rattle.v_frame.specs.declared.replay.answer.Answer.{Answer}
 use Rattle.v_frame.specs.declared.replay.answer.Answer.TheVariants.{Copied, BytesWalked}
-use Rattle.v_frame_base.proofs.BytesBack.{AreBytes, table_comes_back}
-use Rattle.v_frame_base.proofs.ByteLaws.{accepted_copy}
-use Rattle.v_frame_base.proofs.ChromaLemmas.{both_true}
-use Rattle.v_frame_base.proofs.CopyLemmas.{width_of_shown, height_of_shown}
+use Rattle.v_frame_plane.proofs.BytesBack.{AreBytes, table_comes_back}
+use Rattle.v_frame_plane.proofs.ByteLaws.{accepted_copy}
+use Rattle.v_frame_layout.proofs.ChromaLemmas.{both_true}
+use Rattle.v_frame_plane.proofs.CopyLemmas.{width_of_shown, height_of_shown}
 
 module _ {X : Type 0} (r : Result X FrameError) (built : X) (is : r ≡ Ok built) where
   -- what was not refused has passed each test
@@ -34,7 +33,7 @@ module _ {X : Type 0} (r : Result X FrameError) (built : X) (is : r ≡ Ok built
   passed false false false e f g o h = cc
 
   -- so a frame that was built has a height
-  pub built_high : (bytes : ℕ) (asked : Asked) (o : FrameError) → MatchOption (refusal_of bytes asked) (IsOkUnless r o) (λ fault. r ≡ Err fault) → 0 < asked.height
+  pub built_high : (bytes : ℕ) (asked : FrameRequest) (o : FrameError) → MatchOption (refusal_of bytes asked) (IsOkUnless r o) (λ fault. r ≡ Err fault) → 0 < asked.height
   built_high bytes asked o h =
       let depth = asked.bit_depth in
       let luma = luma_geometry asked in
@@ -44,9 +43,9 @@ module _ {X : Type 0} (r : Result X FrameError) (built : X) (is : r ≡ Ok built
       ltb-true 0 asked.height (both_true (ltb 0 asked.height) _ wide.1).0
 
 module _ {T : Type 0} where
-  module _ (zero : T) (asked : Asked) where
+  module _ (zero : T) (asked : FrameRequest) where
     abbrev blank : Table T
-    blank = shown (filled zero (luma_geometry asked))
+    blank = table_of (filled zero (luma_geometry asked))
 
     pub blank_width : 0 < asked.height → width_of blank ≡ asked.width
     blank_width high = width_of_shown (filled zero (luma_geometry asked)) high (length-replicate (alloc_size_of (luma_geometry asked)) zero)
@@ -61,6 +60,6 @@ module _ {T : Type 0} where
         ≡ Copied (Ok tt) ∷ BytesWalked (length (row_major (piece_fronts (width * form.size) stride height source))) (draws_answer (row_major (piece_fronts (width * form.size) stride height source)) sides) ∷ []
     path_answers tables width height w h fits whole =
         let walked : List ℕ → List (Answer T) = λ list. Copied (Ok tt) ∷ BytesWalked (length list) (draws_answer list sides) ∷ [] in
-        let table = strided_table form.size form.pixel_of width height stride source in
-        let copy = accepted_copy form.size form.pixel_of tables.y source stride width height w h fits whole in
-        ap (λ (o : CopyOutcome T). Copied o.answer ∷ BytesWalked (length (byte_list form.size form.value o.table)) (draws_answer (byte_list form.size form.value o.table) sides) ∷ []) copy ∙ ap walked (table_comes_back form.size form.value form.pixel_of back width height stride source fits whole bytes)
+        let table = strided_table form width height stride source in
+        let copy = accepted_copy form tables.y source stride width height w h fits whole in
+        ap (λ (o : CopyOutcome T). Copied o.answer ∷ BytesWalked (length (byte_list form o.table)) (draws_answer (byte_list form o.table) sides) ∷ []) copy ∙ ap walked (table_comes_back form back width height stride source fits whole bytes)

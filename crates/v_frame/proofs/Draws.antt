@@ -9,7 +9,7 @@ use Rattle.v_frame.specs.declared.replay.draw.Side.{Side}
 use Rattle.v_frame.specs.declared.replay.draw.Side.TheVariants.{Front, Back}
 use Rattle.v_frame.specs.declared.replay.draw.Drawn.{Drawn}
 use Rattle.v_frame.specs.Walk.{is_front, fronts, backs, number_of_item, item_from, left_by, drawn_in_turn, left_in_turn, item_after, drawn_after, draws_answer, given_from, AreCounted, AreDrawnOnce, AreAllGiven}
-use Rattle.v_frame_base.proofs.Lists.{slice_get-take, slice_get-drop}
+use Rattle.v_frame_plane.proofs.Lists.{slice_get-take, slice_get-drop}
 
 -- counts of some draws and some more
 pub fronts-append : (before sides : List Side) → fronts (before ++ sides) ≡ fronts before + fronts sides

@@ -3,13 +3,11 @@ use Rattle.std.proofs.Common.{ℕ, zero, suc, ◌≡◌, ◌<◌, if◌then◌el
 use Rattle.std.proofs.lemmas.Bool.{lt-ltb}
 use Rattle.std.proofs.lemmas.List.{take-map, drop-map}
 use Rattle.std.proofs.lemmas.List.Elements.{All-head}
-use Rattle.v_frame_base.specs.Rows.{Table, width_of, row_major, with_item_by}
-use Rattle.v_frame_base.specs.Copy.{cut_rows}
-use Rattle.v_frame.specs.Walk.{fronts}
-use Rattle.v_frame.specs.WritingWalk.{side_of_pixel, pixel_written, changed_by, changed_after, front_draw, ChangesEachPixel}
+use Rattle.v_frame_layout.specs.Table.{Table, width_of, row_major, with_item_by, cut_rows}
+use Rattle.v_frame.specs.Walk.{fronts, side_of_pixel, pixel_written, changed_by, changed_after, front_draw, ChangesEachPixel}
 use Rattle.v_frame.specs.declared.replay.draw.Side.{Side}
 use Rattle.v_frame.specs.declared.replay.draw.Side.TheVariants.{Front}
-use Rattle.v_frame_base.proofs.Lists.{slice_get-at, slice_set-at}
+use Rattle.v_frame_plane.proofs.Lists.{slice_get-at, slice_set-at}
 use Rattle.v_frame.proofs.Draws.{fronts-append}
 use Rattle.v_frame.proofs.PixelWrites.{cut-row_major}
 

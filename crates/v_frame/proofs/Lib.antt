@@ -2,7 +2,6 @@ pub mod BuiltFrames
 pub mod BytePaths
 pub mod Draws
 pub mod FullWalks
-pub mod LentRows
 pub mod PixelWrites
 pub mod Replays
 pub mod WritingWalks

@@ -5,9 +5,8 @@ use Rattle.std.proofs.lemmas.List.{take_at, drop_at, take-set-le, drop-set-lt, d
 use Rattle.std.proofs.lemmas.List.Elements.{All-head, All-tail}
 use Rattle.std.proofs.Math.Nat.{mul-le-mul_right}
 use Rattle.std.proofs.Math.Seq.{take-set-lt}
-use Rattle.v_frame_base.specs.Rows.{Table, row_major, with_item_by, with_pixel}
-use Rattle.v_frame_base.specs.Copy.{cut_rows}
-use Rattle.v_frame.specs.WritingWalk.{pixel_written}
+use Rattle.v_frame_layout.specs.Table.{Table, row_major, with_item_by, with_pixel, cut_rows}
+use Rattle.v_frame.specs.Walk.{pixel_written}
 use Rattle.v_frame.specs.declared.replay.draw.PixelDraw.{PixelDraw}
 
 -- a pixel whose number is that of one of so many rows lies in one of them

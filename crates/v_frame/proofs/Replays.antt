@@ -1,8 +1,8 @@
 -- A replay, call after call: what one more call adds to the answers, the tables and the planes that may be written.
 use Rattle.std.proofs.Common.{ℕ, ◌≡◌, ◌+◌, ◌<◌, List, [], ◌∷◌, ◌++◌, length, take, get_or, Some, Any, length-take, refl, sym, ◌∙◌, ap, arith}
 use Rattle.std.proofs.lemmas.List.{take_more, take-take, get_or-take}
-use Rattle.v_frame.specs.Shown.{Tables, KeepsBorder}
-use Rattle.v_frame_base.specs.Bytes.{PixelForm}
+use Rattle.v_frame.specs.Frame.{Tables, KeepsBorders}
+use Rattle.v_frame_layout.specs.Pixel.{PixelForm}
 use Rattle.v_frame.specs.Replay.{written_plane, WritesPlane, reply_to, answers_to, tables_after}
 use Rattle.v_frame.specs.declared.frame.Frame.{Frame}
 use Rattle.v_frame.specs.declared.replay.call.VisibleCall.{VisibleCall}
@@ -53,7 +53,7 @@ module _ {T : Type 0} where
   written_in_front calls i index h = any_of_front (λ (c : VisibleCall T). written_plane c ≡ Some index) calls i h
 
   -- what is kept twice is kept
-  pub keeps_border_twice : (a b c : Frame T) → KeepsBorder a b → KeepsBorder b c → KeepsBorder a c
+  pub keeps_border_twice : (a b c : Frame T) → KeepsBorders a b → KeepsBorders b c → KeepsBorders a c
   keeps_border_twice a b c h k = record {
     subsampling = k.subsampling ∙ h.subsampling;
     bit_depth = k.bit_depth ∙ h.bit_depth;

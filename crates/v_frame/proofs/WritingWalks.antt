@@ -2,9 +2,8 @@
 use Rattle.std.proofs.Common.{ℕ, zero, suc, ◌≡◌, ◌+◌, ◌-◌, ◌<◌, ◌≤◌, min, nat_lt, if◌then◌else◌, true, false, List, [], ◌∷◌, ◌++◌, length, map, take, Option, Some, None, slice_get, get_or, refl, sym, ◌∙◌, ap, arith, append-nil, append_assoc, length-append, length-take, length-set}
 use Rattle.std.proofs.lemmas.Bool.{lt-ltb, le-ltb}
 use Rattle.std.proofs.lemmas.List.{length-map, take_all, take_more, map-append}
-use Rattle.v_frame_base.specs.Rows.{with_item_by}
-use Rattle.v_frame.specs.Walk.{fronts, backs, number_of_item}
-use Rattle.v_frame.specs.WritingWalk.{changed_by, changed_after, walk_leaves}
+use Rattle.v_frame_layout.specs.Table.{with_item_by}
+use Rattle.v_frame.specs.Walk.{fronts, backs, number_of_item, changed_by, changed_after, walk_leaves}
 use Rattle.v_frame.specs.declared.replay.draw.Side.{Side}
 use Rattle.v_frame.specs.declared.replay.draw.Side.TheVariants.{Front, Back}
 use Rattle.v_frame.proofs.Draws.{fronts-append, backs-append, all_draws}

@@ -1,11 +1,10 @@
 -- Visible calls on plain tables of rows. Nothing here knows a padding, a border or a buffer.
 use Rattle.std.specs.Prelude.{ℕ, ◌≡◌, ◌<◌, List, [], ◌∷◌, length, take, map, Option, Some, None, slice_get, Any}
-use Rattle.v_frame_base.specs.Rows.{Table, width_of, height_of, pixel_at, row_major, with_writes, with_pixel}
-use Rattle.v_frame_base.specs.Copy.{CopyOutcome, packed_copy}
-use Rattle.v_frame_base.specs.Bytes.{PixelForm, byte_list, strided_copy, packed_byte_copy}
-use Rattle.v_frame.specs.Walk.{draws_answer}
-use Rattle.v_frame.specs.WritingWalk.{side_of_row, side_of_pixel, rows_written, pixels_written}
-use Rattle.v_frame.specs.Shown.{Tables, table_at, with_table}
+use Rattle.v_frame_layout.specs.Table.{Table, width_of, height_of, pixel_at, row_major, with_writes, with_pixel}
+use Rattle.v_frame_plane.specs.Copy.{CopyOutcome, packed_copy, strided_copy, packed_byte_copy}
+use Rattle.v_frame_layout.specs.Pixel.{PixelForm, byte_list}
+use Rattle.v_frame.specs.Walk.{draws_answer, side_of_row, side_of_pixel, rows_written, pixels_written}
+use Rattle.v_frame.specs.Frame.{Tables, table_at, with_table}
 use Rattle.v_frame.specs.declared.replay.call.VisibleCall.{VisibleCall}
 use Rattle.v_frame.specs.declared.replay.call.VisibleCall.TheVariants.{Width, Height, Row, RowMut, Pixel, PixelMut, CopyFromSlice, CopyFromU8Slice, CopyFromU8SliceWithStride, Rows, Pixels, ByteData, RowsMut, PixelsMut}
 use Rattle.v_frame.specs.declared.replay.answer.Answer.{Answer}
@@ -64,8 +63,8 @@ module _ {T : Type 0} where
   answer_of_pixel None = OutsideRectangle
   answer_of_pixel (Some pixel) = PixelShown pixel
 
-  abbrev pub copied : CopyOutcome T → TableReply T
-  copied copy = record { answer = Copied copy.answer; table = copy.table }
+  abbrev pub reply_of_copy : CopyOutcome T → TableReply T
+  reply_of_copy copy = record { answer = Copied copy.answer; table = copy.table }
 
 -- what calls answer and leave, where this is how pixels stand in bytes
 module _ {T : Type 0} (form : PixelForm T) where
@@ -74,27 +73,38 @@ module _ {T : Type 0} (form : PixelForm T) where
   on_table (Width plane) rows = record { answer = Number (width_of rows); table = rows }
   on_table (Height plane) rows = record { answer = Number (height_of rows); table = rows }
   on_table (Row plane y) rows = record { answer = RowShown (slice_get rows y); table = rows }
-  on_table (RowMut plane y writes) rows = record { answer = RowShown (slice_get rows y); table = with_writes rows y writes }
-  on_table (Pixel plane x y) rows = record { answer = answer_of_pixel (pixel_at rows x y); table = rows }
-  on_table (PixelMut plane x y value) rows = record { answer = answer_of_pixel (pixel_at rows x y); table = with_pixel rows x y value }
-  on_table (CopyFromSlice plane source) rows = copied (packed_copy rows source)
-  on_table (CopyFromU8Slice plane source) rows = copied (packed_byte_copy form.size form.pixel_of rows source)
-  on_table (CopyFromU8SliceWithStride plane source stride) rows = copied (strided_copy form.size form.pixel_of rows source stride)
-  on_table (Rows plane draws) rows = record { answer = RowsWalked (length rows) (draws_answer rows draws); table = rows }
+  on_table (RowMut plane y writes) rows =
+      record { answer = RowShown (slice_get rows y); table = with_writes rows y writes }
+  on_table (Pixel plane x y) rows =
+      record { answer = answer_of_pixel (pixel_at rows x y); table = rows }
+  on_table (PixelMut plane x y value) rows =
+      record { answer = answer_of_pixel (pixel_at rows x y); table = with_pixel rows x y value }
+  on_table (CopyFromSlice plane source) rows = reply_of_copy (packed_copy rows source)
+  on_table (CopyFromU8Slice plane source) rows = reply_of_copy (packed_byte_copy form rows source)
+  on_table (CopyFromU8SliceWithStride plane source stride) rows =
+      reply_of_copy (strided_copy form rows source stride)
+  on_table (Rows plane draws) rows =
+      record { answer = RowsWalked (length rows) (draws_answer rows draws); table = rows }
   on_table (Pixels plane draws) rows =
-      let pixels = row_major rows in record { answer = PixelsWalked (length pixels) (draws_answer pixels draws); table = rows }
+      let pixels = row_major rows in
+      record { answer = PixelsWalked (length pixels) (draws_answer pixels draws); table = rows }
   on_table (ByteData plane draws) rows =
-      let bytes = byte_list form.size form.value rows in record { answer = BytesWalked (length bytes) (draws_answer bytes draws); table = rows }
+      let bytes = byte_list form rows in
+      record { answer = BytesWalked (length bytes) (draws_answer bytes draws); table = rows }
   on_table (RowsMut plane draws) rows =
-      record { answer = RowsWalked (length rows) (draws_answer rows (map side_of_row draws)); table = rows_written rows draws }
+      let drawn = draws_answer rows (map side_of_row draws) in
+      record { answer = RowsWalked (length rows) drawn; table = rows_written rows draws }
   on_table (PixelsMut plane draws) rows =
-      let pixels = row_major rows in record { answer = PixelsWalked (length pixels) (draws_answer pixels (map side_of_pixel draws)); table = pixels_written rows draws }
+      let pixels = row_major rows in
+      let drawn = draws_answer pixels (map side_of_pixel draws) in
+      record { answer = PixelsWalked (length pixels) drawn; table = pixels_written rows draws }
 
   -- a call on tables, where the plane that it names has this one or none
   abbrev pub on_tables : VisibleCall T → Tables T → Option (Table T) → Reply T
   on_tables call tables None = record { answer = NoPlane; tables = tables }
   on_tables call tables (Some rows) =
-      let reply = on_table call rows in record { answer = reply.answer; tables = with_table tables (named_plane call) reply.table }
+      let reply = on_table call rows in
+      record { answer = reply.answer; tables = with_table tables (named_plane call) reply.table }
 
   abbrev pub reply_to : VisibleCall T → Tables T → Reply T
   reply_to call tables = on_tables call tables (table_at tables (named_plane call))
@@ -102,14 +112,17 @@ module _ {T : Type 0} (form : PixelForm T) where
   -- the answers of a list of calls, and the tables that it leaves, call after call
   abbrev pub answers_to : List (VisibleCall T) → Tables T → List (Answer T)
   answers_to [] tables = []
-  answers_to (call ∷ calls) tables = (reply_to call tables).answer ∷ answers_to calls (reply_to call tables).tables
+  answers_to (call ∷ calls) tables =
+      (reply_to call tables).answer ∷ answers_to calls (reply_to call tables).tables
 
   abbrev pub tables_after : List (VisibleCall T) → Tables T → Tables T
   tables_after [] tables = tables
   tables_after (call ∷ calls) tables = tables_after calls (reply_to call tables).tables
 
-  -- a replay stopped before its end: the calls in front were answered, and the tables are those that these calls leave
-  pub record StoppedAfter (calls : List (VisibleCall T)) (old : Tables T) (done : List (Answer T)) (new : Tables T) : Type 0 where
+  -- a replay stopped before its end: the calls in front were answered, and the tables are those
+  -- that these calls leave
+  pub record StoppedAfter (calls : List (VisibleCall T)) (old : Tables T)
+      (done : List (Answer T)) (new : Tables T) : Type 0 where
     pub early : length done < length calls
     pub answers : done ≡ answers_to (take (length done) calls) old
     pub tables : new ≡ tables_after (take (length done) calls) old

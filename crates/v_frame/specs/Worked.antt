@@ -1,20 +1,16 @@
 -- Small cases worked out by hand. Each line computes: it is proved by `refl`.
 use Rattle.std.specs.Prelude.{ℕ, ◌≡◌, List, [], ◌∷◌, Some, None, Ok, Err, refl}
-use Rattle.v_frame_base.specs.Pixel.{byte_of, value_of_bytes}
-use Rattle.v_frame_base.specs.Geometry.{Geometry, geometry_of, stride_of, alloc_height_of, alloc_size_of}
-use Rattle.v_frame_base.specs.Picture.{Raster, raster, shown, border_of, origin_of, place_of}
-use Rattle.v_frame_base.specs.Options.{options_of}
-use Rattle.v_frame_base.specs.Chroma.{chroma_size_of}
-use Rattle.v_frame_base.specs.Subsampled.{subsampled}
-use Rattle.v_frame_base.specs.Asked.{Asked}
-use Rattle.v_frame.specs.Buildable.{refusal_of}
-use Rattle.v_frame.specs.Shown.{Tables}
-use Rattle.v_frame_base.specs.Bytes.{one_byte}
+use Rattle.v_frame_layout.specs.Pixel.{byte_of, value_of_bytes, one_byte}
+use Rattle.v_frame_layout.specs.Geometry.{Geometry, geometry_of, stride_of, alloc_height_of, alloc_size_of, origin_of, place_of}
+use Rattle.v_frame_plane.specs.Plane.{Raster, raster, table_of, border_of, options_of}
+use Rattle.v_frame_layout.specs.Chroma.{chroma_size_of, subsampled}
+use Rattle.v_frame.specs.Build.{FrameRequest, refusal_of}
+use Rattle.v_frame.specs.Frame.{Tables}
 use Rattle.v_frame.specs.Replay.{answers_to, tables_after}
-use Rattle.v_frame_base.specs.declared.chroma.ChromaSubsampling.{ChromaSubsampling}
-use Rattle.v_frame_base.specs.declared.chroma.ChromaSubsampling.TheVariants.{Yuv420, Yuv422, Yuv444, Monochrome}
+use Rattle.v_frame_layout.specs.declared.chroma.ChromaSubsampling.{ChromaSubsampling}
+use Rattle.v_frame_layout.specs.declared.chroma.ChromaSubsampling.TheVariants.{Yuv420, Yuv422, Yuv444, Monochrome}
 use Rattle.v_frame.specs.declared.frame.error.FrameError.TheVariants.{UnsupportedBitDepth, DataTypeMismatch, UnsupportedResolution}
-use Rattle.v_frame_base.specs.declared.error.CopyError.TheVariants.{DataLength}
+use Rattle.v_frame_plane.specs.declared.error.CopyError.TheVariants.{DataLength}
 use Rattle.v_frame.specs.declared.replay.call.VisibleCall.{VisibleCall}
 use Rattle.v_frame.specs.declared.replay.call.VisibleCall.TheVariants.{Width, Row, RowMut, Pixel, PixelMut, CopyFromSlice}
 use Rattle.v_frame.specs.declared.replay.answer.Answer.TheVariants.{NoPlane, OutsideRectangle, RowShown, PixelShown, Copied}
@@ -53,9 +49,11 @@ place_past_the_buffer = refl
 
 -- values as options, that of the border too
 abbrev pair_in_a_border : {T : Type 0} → T → T → T → Raster T
-pair_in_a_border border left right = raster (geometry_of 2 1 1 0 0 0 1 1) (border ∷ left ∷ right ∷ [])
+pair_in_a_border border left right =
+    raster (geometry_of 2 1 1 0 0 0 1 1) (border ∷ left ∷ right ∷ [])
 
-its_options : options_of {T = ℕ} (pair_in_a_border 9 5 6) ≡ pair_in_a_border (Some 9) (Some 5) (Some 6)
+its_options : options_of {T = ℕ} (pair_in_a_border 9 5 6)
+    ≡ pair_in_a_border (Some 9) (Some 5) (Some 6)
 its_options = refl
 
 -- 3 by 2 pixels, with 1 column of border to the left, 2 to the right, and 1 row above
@@ -65,10 +63,12 @@ three_by_two = raster (geometry_of 3 2 1 2 1 0 1 1) (
     26 ∷ 1 ∷ 2 ∷ 3 ∷ 27 ∷ 28 ∷
     29 ∷ 4 ∷ 5 ∷ 6 ∷ 30 ∷ 31 ∷ [])
 
-its_table : shown three_by_two ≡ (1 ∷ 2 ∷ 3 ∷ []) ∷ (4 ∷ 5 ∷ 6 ∷ []) ∷ []
+its_table : table_of three_by_two ≡ (1 ∷ 2 ∷ 3 ∷ []) ∷ (4 ∷ 5 ∷ 6 ∷ []) ∷ []
 its_table = refl
 
-its_border : border_of three_by_two ≡ (20 ∷ 21 ∷ 22 ∷ 23 ∷ 24 ∷ 25 ∷ []) ∷ (26 ∷ []) ∷ (27 ∷ 28 ∷ []) ∷ (29 ∷ []) ∷ (30 ∷ 31 ∷ []) ∷ []
+its_border : border_of three_by_two
+    ≡ (20 ∷ 21 ∷ 22 ∷ 23 ∷ 24 ∷ 25 ∷ []) ∷ (26 ∷ []) ∷ (27 ∷ 28 ∷ []) ∷ (29 ∷ []) ∷ (30 ∷ 31 ∷ [])
+    ∷ []
 its_border = refl
 
 -- sizes and paddings are halved where that leaves nothing over, and else refused
@@ -78,18 +78,30 @@ halved_size = refl
 odd_size : chroma_size_of Yuv422 1921 1080 ≡ None
 odd_size = refl
 
-halved_columns : subsampled Yuv422 (geometry_of 1920 1080 10 10 40 15 1 1) ≡ Ok (Some (geometry_of 960 1080 5 5 40 15 2 1))
+halved_columns : subsampled Yuv422 (geometry_of 1920 1080 10 10 40 15 1 1)
+    ≡ Ok (Some (geometry_of 960 1080 5 5 40 15 2 1))
 halved_columns = refl
 
 odd_padding : subsampled Yuv420 (geometry_of 1920 1080 10 10 40 15 1 1) ≡ Err (record {})
 odd_padding = refl
 
-full_size : subsampled Yuv444 (geometry_of 17 41 1 0 0 3 2 2) ≡ Ok (Some (geometry_of 17 41 1 0 0 3 2 2))
+full_size : subsampled Yuv444 (geometry_of 17 41 1 0 0 3 2 2)
+    ≡ Ok (Some (geometry_of 17 41 1 0 0 3 2 2))
 full_size = refl
 
 -- the reasons not to build, in their order
-abbrev unpadded : ℕ → ℕ → ChromaSubsampling → ℕ → Asked
-unpadded width height subsampling depth = record { width = width; height = height; subsampling = subsampling; bit_depth = depth; pad_left = 0; pad_right = 0; pad_top = 0; pad_bottom = 0 }
+abbrev unpadded : ℕ → ℕ → ChromaSubsampling → ℕ → FrameRequest
+unpadded width height subsampling depth =
+    record {
+      width = width;
+      height = height;
+      subsampling = subsampling;
+      bit_depth = depth;
+      pad_left = 0;
+      pad_right = 0;
+      pad_top = 0;
+      pad_bottom = 0;
+    }
 
 depth_decides_first : refusal_of 2 (unpadded 0 1080 Yuv420 17) ≡ Some (UnsupportedBitDepth 17)
 depth_decides_first = refl
@@ -112,9 +124,12 @@ blank = record { y = (0 ∷ 0 ∷ 0 ∷ []) ∷ (0 ∷ 0 ∷ 0 ∷ []) ∷ []; u
 
 abbrev six_calls : List (VisibleCall ℕ)
 six_calls =
-    CopyFromSlice 0 (1 ∷ 2 ∷ 3 ∷ 4 ∷ 5 ∷ []) ∷ CopyFromSlice 0 (1 ∷ 2 ∷ 3 ∷ 4 ∷ 5 ∷ 6 ∷ []) ∷ Pixel 0 2 1 ∷ Pixel 0 3 0 ∷ Row 0 2 ∷ Width 1 ∷ []
+    CopyFromSlice 0 (1 ∷ 2 ∷ 3 ∷ 4 ∷ 5 ∷ []) ∷ CopyFromSlice 0 (1 ∷ 2 ∷ 3 ∷ 4 ∷ 5 ∷ 6 ∷ [])
+    ∷ Pixel 0 2 1 ∷ Pixel 0 3 0 ∷ Row 0 2 ∷ Width 1 ∷ []
 
-six_answers : answers_to one_byte six_calls blank ≡ Copied (Err (DataLength 6 5)) ∷ Copied (Ok tt) ∷ PixelShown 6 ∷ OutsideRectangle ∷ RowShown None ∷ NoPlane ∷ []
+six_answers : answers_to one_byte six_calls blank
+    ≡ Copied (Err (DataLength 6 5)) ∷ Copied (Ok tt) ∷ PixelShown 6 ∷ OutsideRectangle
+    ∷ RowShown None ∷ NoPlane ∷ []
 six_answers = refl
 
 table_left : (tables_after one_byte six_calls blank).y ≡ (1 ∷ 2 ∷ 3 ∷ []) ∷ (4 ∷ 5 ∷ 6 ∷ []) ∷ []
@@ -122,13 +137,17 @@ table_left = refl
 
 -- writes that leave gaps and run past the row, and a pixel replaced, on the table that is left
 abbrev two_writes : List (VisibleCall ℕ)
-two_writes = RowMut 0 0 (None ∷ Some 8 ∷ None ∷ Some 5 ∷ []) ∷ PixelMut 0 2 1 9 ∷ PixelMut 0 3 0 7 ∷ []
+two_writes =
+    RowMut 0 0 (None ∷ Some 8 ∷ None ∷ Some 5 ∷ []) ∷ PixelMut 0 2 1 9 ∷ PixelMut 0 3 0 7 ∷ []
 
-old_pixels : answers_to one_byte two_writes (tables_after one_byte six_calls blank) ≡ RowShown (Some (1 ∷ 2 ∷ 3 ∷ [])) ∷ PixelShown 6 ∷ OutsideRectangle ∷ []
+old_pixels : answers_to one_byte two_writes (tables_after one_byte six_calls blank)
+    ≡ RowShown (Some (1 ∷ 2 ∷ 3 ∷ [])) ∷ PixelShown 6 ∷ OutsideRectangle ∷ []
 old_pixels = refl
 
-short_and_below : (tables_after one_byte (RowMut 0 1 (Some 7 ∷ []) ∷ RowMut 0 2 (Some 8 ∷ []) ∷ []) (tables_after one_byte six_calls blank)).y ≡ (1 ∷ 2 ∷ 3 ∷ []) ∷ (7 ∷ 5 ∷ 6 ∷ []) ∷ []
+short_and_below : (tables_after one_byte (RowMut 0 1 (Some 7 ∷ []) ∷ RowMut 0 2 (Some 8 ∷ [])
+    ∷ []) (tables_after one_byte six_calls blank)).y ≡ (1 ∷ 2 ∷ 3 ∷ []) ∷ (7 ∷ 5 ∷ 6 ∷ []) ∷ []
 short_and_below = refl
 
-new_pixels : (tables_after one_byte two_writes (tables_after one_byte six_calls blank)).y ≡ (1 ∷ 8 ∷ 3 ∷ []) ∷ (4 ∷ 5 ∷ 9 ∷ []) ∷ []
+new_pixels : (tables_after one_byte two_writes (tables_after one_byte six_calls blank)).y
+    ≡ (1 ∷ 8 ∷ 3 ∷ []) ∷ (4 ∷ 5 ∷ 9 ∷ []) ∷ []
 new_pixels = refl

@@ -1,22 +1,23 @@
--- Small cases of bytes in and bytes out, worked out by hand. Each line computes: it is proved by `refl`.
+-- Small cases of bytes in and bytes out, worked out by hand. Each line computes: it is proved by
+-- `refl`.
 use Rattle.std.specs.Prelude.{ℕ, ◌≡◌, List, [], ◌∷◌, None, Ok, Err, refl}
-use Rattle.v_frame_base.specs.Geometry.{usize_max}
-use Rattle.v_frame_base.specs.Rows.{Table}
-use Rattle.v_frame_base.specs.Copy.{CopyOutcome, packed_copy}
-use Rattle.v_frame_base.specs.Bytes.{two_bytes, piece_fronts, byte_list, strided_copy, packed_byte_copy}
-use Rattle.v_frame.specs.Shown.{Tables}
+use Rattle.v_frame_layout.specs.Geometry.{usize_max}
+use Rattle.v_frame_layout.specs.Table.{Table}
+use Rattle.v_frame_plane.specs.Copy.{CopyOutcome, packed_copy, piece_fronts, strided_copy, packed_byte_copy}
+use Rattle.v_frame_layout.specs.Pixel.{one_byte, two_bytes, byte_list}
+use Rattle.v_frame.specs.Frame.{Tables}
 use Rattle.v_frame.specs.Replay.{answers_to, tables_after}
 use Rattle.v_frame.specs.declared.replay.call.VisibleCall.{VisibleCall}
 use Rattle.v_frame.specs.declared.replay.call.VisibleCall.TheVariants.{CopyFromU8Slice, CopyFromU8SliceWithStride}
 use Rattle.v_frame.specs.declared.replay.answer.Answer.TheVariants.{NoPlane, Copied}
-use Rattle.v_frame_base.specs.declared.error.CopyError.TheVariants.{DataLength, InvalidStride}
+use Rattle.v_frame_plane.specs.declared.error.CopyError.TheVariants.{DataLength, InvalidStride}
 
 -- pixels that are their values, of one byte and of two
 abbrev small : Table ℕ → List ℕ → ℕ → CopyOutcome ℕ
-small = strided_copy 1 (λ value. value)
+small = strided_copy one_byte
 
 abbrev wide : Table ℕ → List ℕ → ℕ → CopyOutcome ℕ
-wide = strided_copy 2 (λ value. value)
+wide = strided_copy two_bytes
 
 abbrev three_by_two : Table ℕ
 three_by_two = (0 ∷ 0 ∷ 0 ∷ []) ∷ (0 ∷ 0 ∷ 0 ∷ []) ∷ []
@@ -31,49 +32,58 @@ words = (258 ∷ 772 ∷ []) ∷ (1286 ∷ 1800 ∷ []) ∷ []
 abbrev bytes_of_words : List ℕ
 bytes_of_words = 2 ∷ 1 ∷ 4 ∷ 3 ∷ 6 ∷ 5 ∷ 8 ∷ 7 ∷ []
 
-low_bytes_first : byte_list 2 (λ value. value) words ≡ bytes_of_words
+low_bytes_first : byte_list two_bytes words ≡ bytes_of_words
 low_bytes_first = refl
 
-one_byte_each : byte_list 1 (λ value. value) ((1 ∷ 2 ∷ []) ∷ (3 ∷ 4 ∷ []) ∷ []) ≡ 1 ∷ 2 ∷ 3 ∷ 4 ∷ []
+one_byte_each : byte_list one_byte ((1 ∷ 2 ∷ []) ∷ (3 ∷ 4 ∷ []) ∷ []) ≡ 1 ∷ 2 ∷ 3 ∷ 4 ∷ []
 one_byte_each = refl
 
-packed_words : packed_byte_copy 2 (λ value. value) two_by_two bytes_of_words ≡ record { answer = Ok tt; table = words }
+packed_words : packed_byte_copy two_bytes two_by_two bytes_of_words
+    ≡ record { answer = Ok tt; table = words }
 packed_words = refl
 
-short_packed_source : packed_byte_copy 2 (λ value. value) words (2 ∷ 1 ∷ 4 ∷ 3 ∷ []) ≡ record { answer = Err (DataLength 8 4); table = words }
+short_packed_source : packed_byte_copy two_bytes words (2 ∷ 1 ∷ 4 ∷ 3 ∷ [])
+    ≡ record { answer = Err (DataLength 8 4); table = words }
 short_packed_source = refl
 
 -- the stride is counted in bytes, and a row of two words has four
-stride_below_a_row : wide two_by_two (1 ∷ 2 ∷ 3 ∷ 4 ∷ 5 ∷ 6 ∷ []) 3 ≡ record { answer = Err (InvalidStride 3 2); table = two_by_two }
+stride_below_a_row : wide two_by_two (1 ∷ 2 ∷ 3 ∷ 4 ∷ 5 ∷ 6 ∷ []) 3
+    ≡ record { answer = Err (InvalidStride 3 2); table = two_by_two }
 stride_below_a_row = refl
 
 -- a stride that is too short is told before a length that is another
-stride_before_length : wide two_by_two [] 3 ≡ record { answer = Err (InvalidStride 3 2); table = two_by_two }
+stride_before_length : wide two_by_two [] 3
+    ≡ record { answer = Err (InvalidStride 3 2); table = two_by_two }
 stride_before_length = refl
 
 -- two rows of three bytes, each with a tail of two
 abbrev rows_with_tails : List ℕ
 rows_with_tails = 10 ∷ 20 ∷ 30 ∷ 99 ∷ 99 ∷ 40 ∷ 50 ∷ 60 ∷ 99 ∷ 99 ∷ []
 
-tails_are_dropped : small three_by_two rows_with_tails 5 ≡ record { answer = Ok tt; table = (10 ∷ 20 ∷ 30 ∷ []) ∷ (40 ∷ 50 ∷ 60 ∷ []) ∷ [] }
+tails_are_dropped : small three_by_two rows_with_tails 5
+    ≡ record { answer = Ok tt; table = (10 ∷ 20 ∷ 30 ∷ []) ∷ (40 ∷ 50 ∷ 60 ∷ []) ∷ [] }
 tails_are_dropped = refl
 
 fronts_of_rows : piece_fronts 3 5 2 rows_with_tails ≡ (10 ∷ 20 ∷ 30 ∷ []) ∷ (40 ∷ 50 ∷ 60 ∷ []) ∷ []
 fronts_of_rows = refl
 
-last_tail_is_missing : small three_by_two (10 ∷ 20 ∷ 30 ∷ 99 ∷ 99 ∷ 40 ∷ 50 ∷ 60 ∷ []) 5 ≡ record { answer = Err (DataLength 10 8); table = three_by_two }
+last_tail_is_missing : small three_by_two (10 ∷ 20 ∷ 30 ∷ 99 ∷ 99 ∷ 40 ∷ 50 ∷ 60 ∷ []) 5
+    ≡ record { answer = Err (DataLength 10 8); table = three_by_two }
 last_tail_is_missing = refl
 
 -- six bytes a row, of which two are its tail
-words_with_tails : wide two_by_two (2 ∷ 1 ∷ 4 ∷ 3 ∷ 255 ∷ 255 ∷ 6 ∷ 5 ∷ 8 ∷ 7 ∷ 255 ∷ 255 ∷ []) 6 ≡ record { answer = Ok tt; table = words }
+words_with_tails : wide two_by_two (2 ∷ 1 ∷ 4 ∷ 3 ∷ 255 ∷ 255 ∷ 6 ∷ 5 ∷ 8 ∷ 7 ∷ 255 ∷ 255 ∷ []) 6
+    ≡ record { answer = Ok tt; table = words }
 words_with_tails = refl
 
 -- a length that no `usize` holds
-product_past_usize : small three_by_two (1 ∷ 2 ∷ 3 ∷ 4 ∷ []) usize_max ≡ record { answer = Err (DataLength usize_max 4); table = three_by_two }
+product_past_usize : small three_by_two (1 ∷ 2 ∷ 3 ∷ 4 ∷ []) usize_max
+    ≡ record { answer = Err (DataLength usize_max 4); table = three_by_two }
 product_past_usize = refl
 
 -- for pixels of one byte the two packed copies are one
-packed_alike : packed_byte_copy 1 (λ value. value) three_by_two (1 ∷ 2 ∷ 3 ∷ 4 ∷ 5 ∷ 6 ∷ []) ≡ packed_copy three_by_two (1 ∷ 2 ∷ 3 ∷ 4 ∷ 5 ∷ 6 ∷ [])
+packed_alike : packed_byte_copy one_byte three_by_two (1 ∷ 2 ∷ 3 ∷ 4 ∷ 5 ∷ 6 ∷ [])
+    ≡ packed_copy three_by_two (1 ∷ 2 ∷ 3 ∷ 4 ∷ 5 ∷ 6 ∷ [])
 packed_alike = refl
 
 -- a list of copies of bytes into 2 by 2 words
@@ -82,10 +92,14 @@ blank_words = record { y = two_by_two; u = None; v = None }
 
 abbrev four_copies : List (VisibleCall ℕ)
 four_copies =
-    CopyFromU8Slice 0 bytes_of_words ∷ CopyFromU8SliceWithStride 0 bytes_of_words 3 ∷ CopyFromU8SliceWithStride 0 (9 ∷ 1 ∷ 4 ∷ 3 ∷ 0 ∷ 6 ∷ 5 ∷ 8 ∷ 7 ∷ 0 ∷ []) 5 ∷ CopyFromU8Slice 1 bytes_of_words ∷ []
+    CopyFromU8Slice 0 bytes_of_words ∷ CopyFromU8SliceWithStride 0 bytes_of_words 3
+    ∷ CopyFromU8SliceWithStride 0 (9 ∷ 1 ∷ 4 ∷ 3 ∷ 0 ∷ 6 ∷ 5 ∷ 8 ∷ 7 ∷ 0 ∷ []) 5
+    ∷ CopyFromU8Slice 1 bytes_of_words ∷ []
 
-four_answers : answers_to two_bytes four_copies blank_words ≡ Copied (Ok tt) ∷ Copied (Err (InvalidStride 3 2)) ∷ Copied (Ok tt) ∷ NoPlane ∷ []
+four_answers : answers_to two_bytes four_copies blank_words
+    ≡ Copied (Ok tt) ∷ Copied (Err (InvalidStride 3 2)) ∷ Copied (Ok tt) ∷ NoPlane ∷ []
 four_answers = refl
 
-words_left : (tables_after two_bytes four_copies blank_words).y ≡ (265 ∷ 772 ∷ []) ∷ (1286 ∷ 1800 ∷ []) ∷ []
+words_left : (tables_after two_bytes four_copies blank_words).y
+    ≡ (265 ∷ 772 ∷ []) ∷ (1286 ∷ 1800 ∷ []) ∷ []
 words_left = refl

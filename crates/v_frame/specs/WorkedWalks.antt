@@ -8,8 +8,8 @@ use Rattle.v_frame.specs.declared.replay.draw.PixelDraw.{PixelDraw}
 use Rattle.v_frame.specs.declared.replay.call.VisibleCall.{VisibleCall}
 use Rattle.v_frame.specs.declared.replay.call.VisibleCall.TheVariants.{Rows, Pixels, ByteData, RowsMut, PixelsMut}
 use Rattle.v_frame.specs.declared.replay.answer.Answer.TheVariants.{NoPlane, RowsWalked, PixelsWalked, BytesWalked}
-use Rattle.v_frame.specs.Shown.{Tables}
-use Rattle.v_frame_base.specs.Bytes.{one_byte, two_bytes}
+use Rattle.v_frame.specs.Frame.{Tables}
+use Rattle.v_frame_layout.specs.Pixel.{one_byte, two_bytes}
 use Rattle.v_frame.specs.Replay.{answers_to, tables_after}
 use Rattle.v_frame.specs.Walk.{draws_answer, drawn_in_turn, left_in_turn}
 
@@ -24,7 +24,9 @@ abbrev seven_sides : List Side
 seven_sides = Front ∷ Back ∷ Back ∷ Back ∷ Front ∷ Front ∷ Back ∷ []
 
 abbrev seven_answers : List (Drawn ℕ)
-seven_answers = drawn (Some 1) 5 ∷ drawn (Some 6) 4 ∷ drawn (Some 5) 3 ∷ drawn (Some 4) 2 ∷ drawn (Some 2) 1 ∷ drawn (Some 3) 0 ∷ drawn None 0 ∷ []
+seven_answers =
+    drawn (Some 1) 5 ∷ drawn (Some 6) 4 ∷ drawn (Some 5) 3 ∷ drawn (Some 4) 2 ∷ drawn (Some 2) 1
+    ∷ drawn (Some 3) 0 ∷ drawn None 0 ∷ []
 
 seven_by_counts : draws_answer six_items seven_sides ≡ seven_answers
 seven_by_counts = refl
@@ -36,7 +38,8 @@ seven_in_turn = refl
 abbrev two_rows : List (List ℕ)
 two_rows = (1 ∷ 2 ∷ 3 ∷ []) ∷ (4 ∷ 5 ∷ 6 ∷ []) ∷ []
 
-rows_from_both_ends : draws_answer two_rows (Back ∷ Front ∷ Back ∷ []) ≡ drawn (Some (4 ∷ 5 ∷ 6 ∷ [])) 1 ∷ drawn (Some (1 ∷ 2 ∷ 3 ∷ [])) 0 ∷ drawn None 0 ∷ []
+rows_from_both_ends : draws_answer two_rows (Back ∷ Front ∷ Back ∷ [])
+    ≡ drawn (Some (4 ∷ 5 ∷ 6 ∷ [])) 1 ∷ drawn (Some (1 ∷ 2 ∷ 3 ∷ [])) 0 ∷ drawn None 0 ∷ []
 rows_from_both_ends = refl
 
 -- a draw from each end leaves what lies between, and a walk over nothing gives nothing
@@ -57,15 +60,19 @@ walked_answers : answers_to one_byte three_walks six_pixels
     ≡ PixelsWalked 6 (drawn (Some 6) 5 ∷ drawn (Some 1) 4 ∷ []) ∷ RowsWalked 2 [] ∷ NoPlane ∷ []
 walked_answers = refl
 
--- 0x0102 and 0x0304, the first begun from the front and the second from the back, and each finished from the other end
+-- 0x0102 and 0x0304, the first begun from the front and the second from the back, and each finished
+-- from the other end
 abbrev two_words : Tables ℕ
 two_words = record { y = (258 ∷ 772 ∷ []) ∷ []; u = None; v = None }
 
-begun_and_finished : answers_to two_bytes (ByteData 0 (Front ∷ Back ∷ Front ∷ Back ∷ Back ∷ []) ∷ []) two_words
-    ≡ BytesWalked 4 (drawn (Some 2) 3 ∷ drawn (Some 3) 2 ∷ drawn (Some 1) 1 ∷ drawn (Some 4) 0 ∷ drawn None 0 ∷ []) ∷ []
+begun_and_finished : answers_to two_bytes (ByteData 0 (Front ∷ Back ∷ Front ∷ Back ∷ Back ∷ [])
+    ∷ []) two_words
+    ≡ BytesWalked 4 (drawn (Some 2) 3 ∷ drawn (Some 3) 2 ∷ drawn (Some 1) 1 ∷ drawn (Some 4) 0
+    ∷ drawn None 0 ∷ []) ∷ []
 begun_and_finished = refl
 
-one_byte_each : answers_to one_byte (ByteData 0 (Back ∷ Front ∷ []) ∷ []) six_pixels ≡ BytesWalked 6 (drawn (Some 6) 5 ∷ drawn (Some 1) 4 ∷ []) ∷ []
+one_byte_each : answers_to one_byte (ByteData 0 (Back ∷ Front ∷ []) ∷ []) six_pixels
+    ≡ BytesWalked 6 (drawn (Some 6) 5 ∷ drawn (Some 1) 4 ∷ []) ∷ []
 one_byte_each = refl
 
 -- draws that write, on planes of one size each
@@ -80,31 +87,41 @@ showing rows = record { y = rows; u = None; v = None }
 
 -- a pixel is taken once, and a draw that takes none writes none
 abbrev five_pixel_draws : List (VisibleCall ℕ)
-five_pixel_draws = PixelsMut 0 (pixel_draw Front (Some 1) ∷ pixel_draw Back (Some 2) ∷ pixel_draw Back (Some 3) ∷ pixel_draw Back (Some 4) ∷ pixel_draw Front (Some 5) ∷ []) ∷ []
+five_pixel_draws =
+    PixelsMut 0 (pixel_draw Front (Some 1) ∷ pixel_draw Back (Some 2) ∷ pixel_draw Back (Some 3)
+    ∷ pixel_draw Back (Some 4) ∷ pixel_draw Front (Some 5) ∷ []) ∷ []
 
 drawn_past_the_end : answers_to one_byte five_pixel_draws (showing ((5 ∷ 6 ∷ 7 ∷ []) ∷ []))
-    ≡ PixelsWalked 3 (drawn (Some 5) 2 ∷ drawn (Some 7) 1 ∷ drawn (Some 6) 0 ∷ drawn None 0 ∷ drawn None 0 ∷ []) ∷ []
+    ≡ PixelsWalked 3 (drawn (Some 5) 2 ∷ drawn (Some 7) 1 ∷ drawn (Some 6) 0 ∷ drawn None 0
+    ∷ drawn None 0 ∷ []) ∷ []
 drawn_past_the_end = refl
 
-written_past_the_end : tables_after one_byte five_pixel_draws (showing ((5 ∷ 6 ∷ 7 ∷ []) ∷ [])) ≡ showing ((1 ∷ 3 ∷ 2 ∷ []) ∷ [])
+written_past_the_end : tables_after one_byte five_pixel_draws (showing ((5 ∷ 6 ∷ 7 ∷ []) ∷ []))
+    ≡ showing ((1 ∷ 3 ∷ 2 ∷ []) ∷ [])
 written_past_the_end = refl
 
 -- an item that was drawn and not written is as before
 abbrev three_pixel_draws : List (VisibleCall ℕ)
-three_pixel_draws = PixelsMut 0 (pixel_draw Back (Some 9) ∷ pixel_draw Front None ∷ pixel_draw Front (Some 7) ∷ []) ∷ []
+three_pixel_draws =
+    PixelsMut 0 (pixel_draw Back (Some 9) ∷ pixel_draw Front None ∷ pixel_draw Front (Some 7) ∷ [])
+    ∷ []
 
-read_before_written : answers_to one_byte three_pixel_draws six_pixels ≡ PixelsWalked 6 (drawn (Some 6) 5 ∷ drawn (Some 1) 4 ∷ drawn (Some 2) 3 ∷ []) ∷ []
+read_before_written : answers_to one_byte three_pixel_draws six_pixels
+    ≡ PixelsWalked 6 (drawn (Some 6) 5 ∷ drawn (Some 1) 4 ∷ drawn (Some 2) 3 ∷ []) ∷ []
 read_before_written = refl
 
-written_from_both_ends : tables_after one_byte three_pixel_draws six_pixels ≡ showing ((1 ∷ 7 ∷ 3 ∷ []) ∷ (4 ∷ 5 ∷ 9 ∷ []) ∷ [])
+written_from_both_ends : tables_after one_byte three_pixel_draws six_pixels
+    ≡ showing ((1 ∷ 7 ∷ 3 ∷ []) ∷ (4 ∷ 5 ∷ 9 ∷ []) ∷ [])
 written_from_both_ends = refl
 
 -- the row where both ends meet is written once
 abbrev two_row_draws : List (VisibleCall ℕ)
 two_row_draws = RowsMut 0 (row_draw Front (Some 9 ∷ []) ∷ row_draw Back (Some 7 ∷ []) ∷ []) ∷ []
 
-meeting_row_is_drawn_once : answers_to one_byte two_row_draws (showing ((3 ∷ 4 ∷ []) ∷ [])) ≡ RowsWalked 1 (drawn (Some (3 ∷ 4 ∷ [])) 0 ∷ drawn None 0 ∷ []) ∷ []
+meeting_row_is_drawn_once : answers_to one_byte two_row_draws (showing ((3 ∷ 4 ∷ []) ∷ []))
+    ≡ RowsWalked 1 (drawn (Some (3 ∷ 4 ∷ [])) 0 ∷ drawn None 0 ∷ []) ∷ []
 meeting_row_is_drawn_once = refl
 
-meeting_row_is_written_once : tables_after one_byte two_row_draws (showing ((3 ∷ 4 ∷ []) ∷ [])) ≡ showing ((9 ∷ 4 ∷ []) ∷ [])
+meeting_row_is_written_once : tables_after one_byte two_row_draws (showing ((3 ∷ 4 ∷ []) ∷ []))
+    ≡ showing ((9 ∷ 4 ∷ []) ∷ [])
 meeting_row_is_written_once = refl

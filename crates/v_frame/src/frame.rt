@@ -3,10 +3,10 @@ ghost use Rattle.std.specs.Prelude.{◌≡◌, ◌<◌, ◌≤◌, ◌&&◌, Err
 ghost use Rattle.std.specs.Option.{ForSome, option_copied_mut};
 ghost use Rattle.std.specs.Borrow.{sem};
 ghost use Rattle.std.specs.Int.NonZero.{non_zero_u8_get};
-ghost use Rattle.v_frame_base.specs.Geometry.{Fits};
-ghost use Rattle.v_frame_base.specs.Picture.{filled};
-ghost use Rattle.v_frame.specs.Shown.{plane_at};
-ghost use Rattle.v_frame.specs.FrameLends.{LendsPlane};
+ghost use Rattle.v_frame_layout.specs.Geometry.{Fits};
+ghost use Rattle.v_frame_plane.specs.Plane.{filled};
+ghost use Rattle.v_frame.specs.Frame.{plane_at};
+ghost use Rattle.v_frame.specs.Lends.{LendsPlane};
 
 mod error;
 
@@ -37,7 +37,7 @@ pub struct Frame<T: Pixel> {
 }
 
 impl<T: Pixel> Frame<T> {
-    /// The plane of an index: 0 is Y, 1 is U and 2 is V. Nothing for an absent plane, and for any other index.
+    /// The plane of an index: 0 is Y, 1 is U and 2 is V. `None` for an absent plane, and for any other index.
     ///
     /// Ports `Frame::plane` of `v_frame` 0.7.0.
     pub fn plane(&self, index: usize) -> Option<&Plane<T>>
@@ -51,9 +51,13 @@ impl<T: Pixel> Frame<T> {
         }
     }
 
-    /// The same frame in buffers of its own. Without memory for one of its planes nothing is handed out.
+    /// The same frame in buffers of its own.
     ///
     /// Ports `Frame::clone` of `v_frame` 0.7.0.
+    ///
+    /// # Errors
+    ///
+    /// [`AllocError`] where a request for memory was refused. Then no plane is handed out.
     pub fn clone(&self, alloc: Global) -> Result<Self, AllocError>
         ensures { IfOk result (λ copy. copy ≡ self.now) }
     {
@@ -98,9 +102,9 @@ pub struct FrameBuilder {
 }
 
 impl Model for FrameBuilder {
-    ghost use Rattle.v_frame_base.specs.Asked.{Asked};
+    ghost use Rattle.v_frame.specs.Build.{FrameRequest};
 
-    ghost Value = { Asked };
+    ghost Value = { FrameRequest };
 
     ghost view = { λ a. record {
       width = a.width;
@@ -115,9 +119,8 @@ impl Model for FrameBuilder {
 }
 
 impl FrameBuilder {
-    ghost use Rattle.v_frame_base.specs.Asked.{Asked, luma_geometry};
-    ghost use Rattle.v_frame.specs.Buildable.{is_laid_out, refusal_of, chroma_geometry, IsBlank};
-    ghost use Rattle.v_frame_base.specs.Subsampled.{subsampled};
+    ghost use Rattle.v_frame.specs.Build.{FrameRequest, luma_geometry, is_laid_out, refusal_of, chroma_geometry, IsBlank};
+    ghost use Rattle.v_frame_layout.specs.Chroma.{subsampled};
 
     /// A frame of this luma size in pixels, this format and this bit depth, with no padding yet.
     pub fn new(width: usize, height: usize, subsampling: ChromaSubsampling, bit_depth: u8) -> Self
@@ -139,6 +142,7 @@ impl FrameBuilder {
     }
 
     /// Sets the border pixels to the left of each visible luma row.
+    #[must_use]
     pub fn luma_padding_left(mut self, luma_padding_left: usize) -> Self
         ensures { result ≡ record self { pad_left = luma_padding_left } }
     {
@@ -147,6 +151,7 @@ impl FrameBuilder {
     }
 
     /// Sets the border pixels to the right of each visible luma row.
+    #[must_use]
     pub fn luma_padding_right(mut self, luma_padding_right: usize) -> Self
         ensures { result ≡ record self { pad_right = luma_padding_right } }
     {
@@ -155,6 +160,7 @@ impl FrameBuilder {
     }
 
     /// Sets the border rows above the visible luma rows.
+    #[must_use]
     pub fn luma_padding_top(mut self, luma_padding_top: usize) -> Self
         ensures { result ≡ record self { pad_top = luma_padding_top } }
     {
@@ -163,6 +169,7 @@ impl FrameBuilder {
     }
 
     /// Sets the border rows below the visible luma rows.
+    #[must_use]
     pub fn luma_padding_bottom(mut self, luma_padding_bottom: usize) -> Self
         ensures { result ≡ record self { pad_bottom = luma_padding_bottom } }
     {
@@ -172,13 +179,15 @@ impl FrameBuilder {
 
     /// Builds the frame, zero in every pixel and in the border too.
     ///
-    /// The first of these reasons refuses it: [`FrameError::UnsupportedBitDepth`] where the depth is below 8 or above 16;
+    /// Ports `FrameBuilder::build` of `v_frame` 0.7.0.
+    ///
+    /// # Errors
+    ///
+    /// The first of these that holds: [`FrameError::UnsupportedBitDepth`] where the depth is below 8 or above 16;
     /// [`FrameError::DataTypeMismatch`] where `u8` pixels are asked for another depth than 8, or `u16` pixels for 8;
     /// [`FrameError::UnsupportedResolution`] where the width or the height is zero, where a row or a buffer is too large,
     /// or where a luma size or padding doesn't divide by the ratios of the format; [`FrameError::OutOfMemory`] where a
     /// request for memory was refused. The first three are found before any such request.
-    ///
-    /// Ports `FrameBuilder::build` of `v_frame` 0.7.0.
     pub fn build<T: Pixel>(self, alloc: Global) -> Result<Frame<T>, FrameError>
         ensures refused { MatchOption (refusal_of T.BYTES self)
             (IsOkUnless result FrameError.OutOfMemory) (λ e. result ≡ Err e) }

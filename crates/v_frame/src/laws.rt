@@ -3,12 +3,11 @@
 //! Each function makes the calls that its law speaks of, and its contract is the law. A law of the definitions alone has
 //! an empty body. Our own.
 ghost use Rattle.std.specs.Prelude.{◌≡◌, List, Err, IfOk, OnOk, IsOkUnless, MatchOption};
-ghost use Rattle.v_frame_base.specs.Bytes.{pixel_form, byte_list};
-ghost use Rattle.v_frame.specs.BuiltFrame.{IsZeroEverywhere};
-ghost use Rattle.v_frame.specs.Buildable.{refusal_of};
-ghost use Rattle.v_frame.specs.Shown.{tables_of, KeepsBorder};
-ghost use Rattle.v_frame_base.specs.Picture.{shown};
-ghost use Rattle.v_frame_base.specs.Rows.{row_major};
+ghost use Rattle.v_frame_layout.specs.Pixel.{byte_list};
+ghost use Rattle.v_frame.specs.Build.{IsZeroEverywhere, refusal_of};
+ghost use Rattle.v_frame.specs.Frame.{tables_of, KeepsBorders};
+ghost use Rattle.v_frame_plane.specs.Plane.{table_of};
+ghost use Rattle.v_frame_layout.specs.Table.{row_major};
 ghost use Rattle.v_frame.specs.declared.replay.draw.Side.{Side};
 ghost use Rattle.v_frame.specs.Walk.{draws_answer, AreCounted, AreDrawnOnce};
 ghost use Rattle.v_frame.specs.Replay.{answers_to, tables_after};
@@ -21,16 +20,19 @@ mod writing_walks;
 use crate::frame::{Frame, FrameBuilder, FrameError};
 use crate::pixel::Pixel;
 use crate::plane::Plane;
-use crate::replay::{Answer, Drawn, Sequence, Side, VisibleCall, draw_items, replay};
-pub use bytes::{
-    bytes_come_back, bytes_come_back_without_tails, bytes_go_through_a_frame, packed_copies_agree,
-};
-pub use equality::{frames_are_equal, planes_are_equal};
+use crate::replay::walk::draw_items;
+use crate::replay::{Answer, Drawn, Sequence, Side, VisibleCall, replay};
+pub use bytes::bytes_go_through_a_frame;
+pub use equality::frames_are_equal;
 use std::alloc::{AllocError, Global};
-pub use v_frame_base::laws::{
-    alike_entries_show_alike, buffer_is_determined, chroma_sizes_agree, geometries_are_equal,
-    pixel_of_bytes, pixel_of_value, pixels_are_equal, pixels_compare, pixels_hash,
-    pixels_have_places, places_have_marks, places_hold_pixels, quotients_are_exact,
+pub use v_frame_layout::laws::{
+    chroma_sizes_agree, geometries_are_equal, pixel_of_bytes, pixel_of_value, pixels_are_equal,
+    pixels_compare, pixels_hash, quotients_are_exact, tables_agree_by_rows,
+};
+pub use v_frame_plane::laws::{
+    alike_entries_show_alike, buffer_is_determined, bytes_come_back, bytes_come_back_without_tails,
+    packed_copies_agree, packed_outcomes_agree, pixels_have_places, places_have_marks,
+    places_hold_pixels, planes_are_equal,
 };
 pub use walks::full_walks_change_each_pixel;
 pub use writing_walks::{lent_pixels_are_drawn_once, lent_rows_are_drawn_once};
@@ -45,13 +47,13 @@ pub fn alike_frames_answer_alike<T: Pixel>(
     calls: &[VisibleCall<T>],
 ) -> Result<(Vec<Answer<T>>, Vec<Answer<T>>), AllocError>
     requires { tables_of a.old ≡ tables_of b.old }
-    ensures answers { let form = pixel_form T.BYTES T.value T.pixel_of in
-        IfOk result (λ both. both.0.items ≡ answers_to form calls.now (tables_of a.old)) }
+    ensures answers { IfOk result (λ both.
+        both.0.items ≡ answers_to T.form calls.now (tables_of a.old)) }
     ensures alike { IfOk result (λ both. both.0.items ≡ both.1.items) }
-    ensures tables { let form = pixel_form T.BYTES T.value T.pixel_of in
-        OnOk result (tables_of a.new ≡ tables_after form calls.now (tables_of a.old)) }
+    ensures tables { OnOk result
+        (tables_of a.new ≡ tables_after T.form calls.now (tables_of a.old)) }
     ensures shown { OnOk result (tables_of a.new ≡ tables_of b.new) }
-    ensures borders { KeepsBorder a.old a.new × KeepsBorder b.old b.new }
+    ensures borders { KeepsBorders a.old a.new × KeepsBorders b.old b.new }
 {
     let first = replay(alloc, a, calls).map_err(|_| AllocError)?;
     let second = replay(alloc, b, calls).map_err(|_| AllocError)?;
@@ -90,10 +92,10 @@ pub fn rows_are_drawn_once<T: Pixel>(
     sides: &[Side],
 ) -> Result<Vec<Drawn<Sequence<T>>>, AllocError>
     ensures counted { IfOk result (λ drawn.
-        drawn.items ≡ draws_answer (shown plane.now) sides.now) }
-    ensures once { IfOk result (λ drawn. AreDrawnOnce (shown plane.now) sides.now drawn.items) }
+        drawn.items ≡ draws_answer (table_of plane.now) sides.now) }
+    ensures once { IfOk result (λ drawn. AreDrawnOnce (table_of plane.now) sides.now drawn.items) }
 {
-    draw_items(alloc, plane.rows(), sides)
+    draw_items(alloc, &mut plane.rows(), sides)
 }
 
 /// Any draws from the pixels of a plane give each pixel once, from its end. The error is that of memory.
@@ -102,12 +104,12 @@ pub fn pixels_are_drawn_once<T: Pixel>(
     plane: &Plane<T>,
     sides: &[Side],
 ) -> Result<Vec<Drawn<T>>, AllocError>
-    ensures counted { let pixels = row_major (shown plane.now) in IfOk result (λ drawn.
+    ensures counted { let pixels = row_major (table_of plane.now) in IfOk result (λ drawn.
         drawn.items ≡ draws_answer pixels sides.now) }
     ensures once { IfOk result (λ drawn.
-        AreDrawnOnce (row_major (shown plane.now)) sides.now drawn.items) }
+        AreDrawnOnce (row_major (table_of plane.now)) sides.now drawn.items) }
 {
-    draw_items(alloc, plane.pixels(), sides)
+    draw_items(alloc, &mut plane.pixels(), sides)
 }
 
 /// Any draws from the bytes of a plane give each byte once, from its end. The error is that of memory.
@@ -116,10 +118,10 @@ pub fn bytes_are_drawn_once<T: Pixel>(
     plane: &Plane<T>,
     sides: &[Side],
 ) -> Result<Vec<Drawn<u8>>, AllocError>
-    ensures counted { let bytes = byte_list T.BYTES T.value (shown plane.now) in
+    ensures counted { let bytes = byte_list T.form (table_of plane.now) in
         IfOk result (λ drawn. drawn.items ≡ draws_answer bytes sides.now) }
     ensures once { IfOk result (λ drawn.
-        AreDrawnOnce (byte_list T.BYTES T.value (shown plane.now)) sides.now drawn.items) }
+        AreDrawnOnce (byte_list T.form (table_of plane.now)) sides.now drawn.items) }
 {
-    draw_items(alloc, plane.byte_data(), sides)
+    draw_items(alloc, &mut plane.byte_data(), sides)
 }

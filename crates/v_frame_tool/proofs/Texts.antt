@@ -2,11 +2,7 @@
 use Rattle.std.proofs.Common.{ℕ, ◌≡◌, ◌+◌, List, [], ◌∷◌, ◌++◌, length, take, drop, Some, Err, Result, true, false, is_ok, inl, inr, sym, ◌∙◌, ap, arith, take-append-drop}
 use Rattle.std.proofs.lemmas.List.{take-take, drop-take}
 use Rattle.std.proofs.lemmas.Bool.Decides.{eqb_tells}
-use Rattle.v_frame.specs.Bytes.{one_byte}
-use Rattle.v_frame.specs.Replay.{answers_to}
-use Rattle.v_frame.specs.error.CopyError.{CopyError}
-use Rattle.v_frame.specs.error.CopyError.TheVariants.{DataLength}
-use Rattle.v_frame.specs.declared.replay.answer.Answer.{Answer}
+use Rattle.v_frame.specs.Prelude.{one_byte, answers_to, CopyError, DataLength, Answer}
 use Rattle.v_frame.specs.declared.replay.answer.Answer.TheVariants.{Copied, Number, RowShown}
 use Rattle.v_frame_tool.specs.Run.{blank_tables, calls_on}
 

@@ -1,14 +1,11 @@
 -- What the program asks of its frame, what it prints of the answers, and when it gives up.
-use Rattle.std.specs.Prelude.{ℕ, ◌≡◌, ◌≢◌, List, [], ◌∷◌, length, Option, Some, None, Result, slice_get, replicate, ⊤}
-use Rattle.v_frame.specs.Shown.{Tables}
-use Rattle.v_frame.specs.declared.replay.call.VisibleCall.{VisibleCall}
+use Rattle.std.specs.Prelude.{ℕ, ◌≡◌, ◌≢◌, ◌<◌, List, [], ◌∷◌, length, take, Option, Some, None, Result, slice_get, replicate, ⊤}
+use Rattle.std.specs.Io.KnownBytes.{Appends}
+use Rattle.v_frame.specs.Prelude.{Tables, VisibleCall, Answer, CopyError, DataLength}
 use Rattle.v_frame.specs.declared.replay.call.VisibleCall.TheVariants.{Width, Height, Row, CopyFromSlice}
-use Rattle.v_frame.specs.declared.replay.answer.Answer.{Answer}
 use Rattle.v_frame.specs.declared.replay.answer.Answer.TheVariants.{Number, RowShown, Copied}
 use Rattle.v_frame.specs.declared.frame.error.FrameError.TheVariants.{OutOfMemory as NoRoomForFrame}
-use Rattle.v_frame.specs.error.CopyError.{CopyError}
-use Rattle.v_frame.specs.error.CopyError.TheVariants.{DataLength}
-use Rattle.v_frame_tool.specs.Counted.{HasFailed}
+use Rattle.v_frame_tool.specs.Counted.{Watched, HasFailed}
 use Rattle.v_frame_tool.specs.declared.fault.ToolFault.{ToolFault}
 use Rattle.v_frame_tool.specs.declared.fault.ToolFault.TheVariants.{Frame, Copy, OutOfMemory, Output, WriteZero}
 
@@ -30,7 +27,8 @@ StartsWithCopy answers = IsCopied (slice_get answers 0)
 
 -- the answers are a width, a height and two rows
 abbrev pub IsSizeAndRows : List (Answer ℕ) → Type 0
-IsSizeAndRows (Number width ∷ Number height ∷ RowShown (Some first) ∷ RowShown (Some second) ∷ []) = ⊤
+IsSizeAndRows (Number width ∷ Number height ∷ RowShown (Some first) ∷ RowShown (Some second) ∷ []) =
+    ⊤
 IsSizeAndRows _ = ⊥
 
 -- the fault may come for this source, with these counts of failures before and after
@@ -40,3 +38,20 @@ IsDue source old new (Copy error) = (length source ≢ 8) × (error ≡ DataLeng
 IsDue source old new OutOfMemory = ⊤
 IsDue source old new Output = (length source ≡ 8) × HasFailed old new
 IsDue source old new WriteZero = length source ≡ 8
+
+-- a beginning of a text, and not all of it, was appended to known bytes
+abbrev pub AppendsBeginning : Option (List ℕ) → Option (List ℕ) → List ℕ → Type 0
+AppendsBeginning old new text =
+    (count : ℕ) × (count < length text) × Appends old new (take count text)
+
+-- what a run that gave up leaves of a writer: it is as it was, but where a write failed or took
+-- nothing
+module _ {W : Type 0} (contents : W → Option (List ℕ)) (old new : Watched W) (text : List ℕ) where
+  abbrev pub LeavesWriter : ToolFault → Type 0
+  LeavesWriter (Frame error) = new ≡ old
+  LeavesWriter (Copy error) = new ≡ old
+  LeavesWriter OutOfMemory = new ≡ old
+  LeavesWriter Output = AppendsBeginning (contents old.inner) (contents new.inner) text
+  LeavesWriter WriteZero =
+      AppendsBeginning (contents old.inner) (contents new.inner) text
+      × (new.failures ≡ old.failures)

@@ -3,9 +3,9 @@
 
 mod counted;
 mod fault;
-#[cfg(test)]
-mod rows;
 mod run;
+#[cfg(test)]
+mod tests;
 
 use counted::Counted;
 use std::process::ExitCode;

@@ -1,14 +1,10 @@
 //! The program: a small frame is built, filled and printed.
 ghost use Rattle.std.specs.Prelude.{◌≡◌, ◌≢◌, ℕ, ◌<◌, ◌⊎◌, List, [], ◌∷◌, ◌++◌, length, IfOk, IfErr, OnOk, string_bytes, Some, Err};
 ghost use Rattle.std.specs.Io.KnownBytes.{Appends};
-ghost use Rattle.v_frame.specs.Copy.{cut_rows};
+ghost use Rattle.v_frame.specs.Prelude.{cut_rows, tables_of, one_byte, answers_to};
 ghost use Rattle.v_frame_tool.specs.Counted.{HasFailed};
-ghost use Rattle.v_frame.specs.Shown.{tables_of};
-ghost use Rattle.v_frame.specs.Bytes.{one_byte};
-ghost use Rattle.v_frame.specs.Replay.{answers_to};
-ghost use Rattle.v_frame.specs.declared.replay.answer.Answer.TheVariants.{Copied, Number, RowShown};
-ghost use Rattle.v_frame_tool.specs.Printed.{sized_rows, printed, line_of};
-ghost use Rattle.v_frame_tool.specs.Run.{blank_tables, calls_on, StartsWithCopy, IsSizeAndRows, IsDue};
+ghost use Rattle.v_frame_tool.specs.Printed.{sized_rows, text_of_table, line_of};
+ghost use Rattle.v_frame_tool.specs.Run.{blank_tables, calls_on, StartsWithCopy, IsSizeAndRows, IsDue, LeavesWriter};
 
 use crate::counted::Counted;
 use crate::fault::ToolFault;
@@ -20,6 +16,15 @@ use v_frame::plane::CopyError;
 use v_frame::replay::{Answer, VisibleCall, replay};
 
 /// Writes what a 4 by 2 luma plane shows that was filled with the pixels of `source`.
+///
+/// Our own.
+///
+/// # Errors
+///
+/// [`ToolFault::Copy`] where the source has another number of pixels than 8; [`ToolFault::Frame`] and
+/// [`ToolFault::OutOfMemory`] where a request for memory was refused. For these nothing was written.
+/// [`ToolFault::Output`] where a write failed, interrupted ones too, and [`ToolFault::WriteZero`] where one took none of the
+/// bytes it was offered: then a beginning of the text was written.
 pub fn run<W: io::Write>(
     alloc: Global,
     out: &mut Counted<W>,
@@ -27,10 +32,12 @@ pub fn run<W: io::Write>(
 ) -> Result<(), ToolFault>
     ensures length { OnOk result (length source.now ≡ 8) }
     ensures ok { OnOk result (Appends (W.contents out.old.inner) (W.contents out.new.inner)
-        (printed (cut_rows 4 2 source.now))) }
+        (text_of_table (cut_rows 4 2 source.now))) }
     ensures uncounted { OnOk result (out.new.failures ≡ out.old.failures) }
     ensures other_length { length source.now ≢ 8 → out.new ≡ out.old }
     ensures fault { IfErr result (IsDue source.now out.old.failures out.new.failures) }
+    ensures left { IfErr result (LeavesWriter W.contents out.old out.new
+        (text_of_table (cut_rows 4 2 source.now))) }
 {
     let mut answers = answers_of_frame(alloc, source)?;
     take_copied(&mut answers).map_err(ToolFault::Copy)?;
@@ -77,7 +84,7 @@ fn small_frame(alloc: Global) -> Result<Frame<u8>, ToolFault>
 /// Takes the first answer off the list, which is that of a copy.
 fn take_copied(answers: &mut Vec<Answer<u8>>) -> Result<(), CopyError>
     requires { StartsWithCopy answers.old.items }
-    ensures { answers.old.items ≡ Copied result ∷ answers.new.items }
+    ensures { answers.old.items ≡ Answer.Copied result ∷ answers.new.items }
 {
     match answers.remove(0) {
         Answer::Copied(copied) => copied,
@@ -92,6 +99,7 @@ fn write_text<W: io::Write>(out: &mut Counted<W>, text: &[u8]) -> Result<(), Too
     ensures uncounted { OnOk result (out.new.failures ≡ out.old.failures) }
     ensures fault { IfErr result (λ fault. (fault ≡ ToolFault.WriteZero)
         ⊎ ((fault ≡ ToolFault.Output) × HasFailed out.old.failures out.new.failures)) }
+    ensures left { IfErr result (LeavesWriter W.contents out.old out.new text.now) }
 {
     let mut written = 0;
     while written < text.len() {
@@ -108,8 +116,8 @@ fn write_text<W: io::Write>(out: &mut Counted<W>, text: &[u8]) -> Result<(), Too
 fn text_of(alloc: Global, answers: &[Answer<u8>]) -> Result<String, AllocError>
     requires { IsSizeAndRows answers.now }
     ensures { (width height : ℕ) (first second : List ℕ)
-        → answers.now ≡ Number width ∷ Number height
-        ∷ RowShown (Some first) ∷ RowShown (Some second) ∷ []
+        → answers.now ≡ Answer.Number width ∷ Answer.Number height
+        ∷ Answer.RowShown (Some first) ∷ Answer.RowShown (Some second) ∷ []
         → IfOk result (λ text. string_bytes text ≡ sized_rows width height (first ∷ second ∷ [])) }
 {
     let [

@@ -1,12 +1,10 @@
 -- A buffer whose border is filled from the front on, part after part.
-use Rattle.std.proofs.Common.{ℕ, zero, suc, ◌≡◌, ◌+◌, ◌-◌, ◌*◌, ◌/◌, ◌%◌, ◌<◌, ◌≤◌, List, [], ◌∷◌, ◌++◌, length, take, drop, replicate, Some, None, slice_get, inl, inr, refl, sym, ◌∙◌, ap, arith, length-take-le, length-drop}
+use Rattle.std.proofs.Common.{ℕ, zero, suc, ◌≡◌, ◌+◌, ◌-◌, ◌*◌, ◌/◌, ◌%◌, ◌<◌, ◌≤◌, List, [], ◌∷◌, ◌++◌, length, take, drop, replicate, Some, None, slice_get, inl, inr, refl, sym, ◌∙◌, ap, arith, length-take-le}
 use Rattle.std.proofs.lemmas.Bool.{cases_lt}
 use Rattle.std.proofs.lemmas.List.{take_at}
 use Rattle.std.specs.List.{refill}
 use Rattle.std.proofs.Math.Nat.{mul-le-mul_right, div-add-mod, mod-lt}
-use Rattle.v_frame.specs.Geometry.{Geometry, stride_of, alloc_height_of, alloc_size_of}
-use Rattle.v_frame.specs.Picture.{raster, filled, Mark, Border, Visible, cutting_plan, mark_at}
-use Rattle.v_frame.specs.Laws.{HasMarks, AgreeAt}
+use Rattle.v_frame.specs.Prelude.{Geometry, stride_of, alloc_height_of, alloc_size_of, raster, filled, Mark, Border, Visible, cutting_plan, mark_at, HasMarks, AgreeAt}
 
 module _ {T : Type 0} where
   get-front : (a b : List T) (i : ℕ) → i < length a → slice_get (a ++ b) i ≡ slice_get a i

@@ -1,6 +1,6 @@
 -- What is read from an answer of a replay.
-use Rattle.std.specs.Prelude.{List, Option, Some, None}
-use Rattle.v_frame.specs.declared.replay.answer.Answer.{Answer}
+use Rattle.std.specs.Prelude.{List, Option, None}
+use Rattle.v_frame.specs.Prelude.{Answer}
 use Rattle.v_frame.specs.declared.replay.answer.Answer.TheVariants.{RowShown}
 
 -- the row that an answer shows, where it shows one

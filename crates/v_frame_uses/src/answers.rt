@@ -1,9 +1,34 @@
-//! Answers of replays, read.
-ghost use Rattle.std.specs.Prelude.{◌≡◌, count_by, option_copied};
+//! Calls as values, and their answers, read.
+ghost use Rattle.std.specs.Prelude.{◌≡◌, [], ◌∷◌, Some, IfOk, IfErr, count_by, option_copied};
 ghost use Rattle.v_frame_uses.specs.Answers.{row_in};
 
+use crate::pixels::set_pixel;
+use std::alloc::Global;
+use v_frame::chroma::ChromaSubsampling;
+use v_frame::frame::{FrameBuilder, FrameError};
 use v_frame::pixel::Pixel;
-use v_frame::replay::{Answer, Sequence};
+use v_frame::replay::{Answer, Sequence, VisibleCall, replay};
+
+/// A new frame answers a list of calls: it is built with 3 by 2 pixels, filled, and one pixel is set and read.
+pub fn first_answers(alloc: Global) -> Result<Vec<Answer<u8>>, FrameError>
+    ensures answers { IfOk result (λ answers. answers.items
+        ≡ Answer.Number 3 ∷ Answer.RowShown (Some (4 ∷ 5 ∷ 9 ∷ [])) ∷ Answer.NoPlane ∷ []) }
+    ensures fault { IfErr result (λ fault. fault ≡ FrameError.OutOfMemory) }
+{
+    let mut frame = FrameBuilder::new(3, 2, ChromaSubsampling::Monochrome, 8)
+        .luma_padding_left(16)
+        .build::<u8>(alloc)?;
+    let copied = frame.y_plane.copy_from_slice(&[1, 2, 3, 4, 5, 6]);
+    set_pixel(&mut frame.y_plane, 2, 1, 9);
+    let read = frame.y_plane.pixel(2, 1);
+    prove!(copied.is_ok() && read == Some(9));
+    let calls = [
+        VisibleCall::Width { plane: 0 },
+        VisibleCall::Row { plane: 0, y: 1 },
+        VisibleCall::Height { plane: 1 },
+    ];
+    replay(alloc, &mut frame, &calls).map_err(|_| FrameError::OutOfMemory)
+}
 
 /// The row that an answer shows, where it shows one.
 pub fn row_of<T>(answer: &Answer<T>) -> Option<&[T]>

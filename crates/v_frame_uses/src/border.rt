@@ -1,8 +1,6 @@
 //! The border of a plane, filled through its whole buffer.
 ghost use Rattle.std.specs.Prelude.{◌≡◌, ◌<◌, ◌≤◌, ℕ, length, Some, slice_get};
-ghost use Rattle.v_frame.specs.Geometry.{alloc_size_of, Fits};
-ghost use Rattle.v_frame.specs.Picture.{raster, filled, shown, border_of, Border, Visible, cutting_plan, mark_at};
-ghost use Rattle.v_frame.specs.Laws.{AgreeAt};
+ghost use Rattle.v_frame.specs.Prelude.{alloc_size_of, Fits, raster, filled, table_of, border_of, Border, Visible, cutting_plan, mark_at, AgreeAt};
 
 use v_frame::laws::{alike_entries_show_alike, places_have_marks};
 use v_frame::pixel::Pixel;
@@ -11,7 +9,7 @@ use v_frame::plane::{Plane, PlaneGeometry};
 /// Fills the border of a plane with one value: afterwards it is that of a plane that holds the value everywhere. What the
 /// plane shows stays.
 pub fn fill_border<T: Pixel>(plane: &mut Plane<T>, value: T)
-    ensures table { shown plane.new ≡ shown plane.old }
+    ensures table { table_of plane.new ≡ table_of plane.old }
     ensures border { border_of plane.new ≡ border_of (filled value plane.old.geometry) }
     ensures geometry { plane.new.geometry ≡ plane.old.geometry }
 {

@@ -1,11 +1,6 @@
 //! Frames: built, refused, and changed by one plane.
 ghost use Rattle.std.specs.Prelude.{◌≡◌, ◌≢◌, ◌⊎◌, ℕ, None, Some, Err, IfOk, IsOkUnless, MatchOption, option_map};
-ghost use Rattle.v_frame.specs.Picture.{shown};
-ghost use Rattle.v_frame.specs.Copy.{packed_copy};
-ghost use Rattle.v_frame.specs.Chroma.{chroma_size_of};
-ghost use Rattle.v_frame.specs.Shown.{plane_at, unshown};
-ghost use Rattle.v_frame.specs.Buildable.{refusal_of};
-ghost use Rattle.v_frame.specs.declared.frame.error.FrameError.{FrameError};
+ghost use Rattle.v_frame.specs.Prelude.{table_of, packed_copy, chroma_size_of, plane_at, KeepsBorders, refusal_of, FrameError};
 
 use std::alloc::Global;
 use v_frame::frame::{Frame, FrameBuilder, FrameError};
@@ -20,15 +15,12 @@ pub fn copy_into_plane<T: Pixel>(
     source: &[T],
 ) -> Option<Result<(), CopyError>>
     ensures answer { result ≡ option_map
-        (λ plane. (packed_copy (shown plane) source.now).answer) (plane_at frame.old index) }
-    ensures table { option_map shown (plane_at frame.new index) ≡ option_map
-        (λ plane. (packed_copy (shown plane) source.now).table) (plane_at frame.old index) }
-    ensures border { option_map unshown (plane_at frame.new index)
-        ≡ option_map unshown (plane_at frame.old index) }
+        (λ plane. (packed_copy (table_of plane) source.now).answer) (plane_at frame.old index) }
+    ensures table { option_map table_of (plane_at frame.new index) ≡ option_map
+        (λ plane. (packed_copy (table_of plane) source.now).table) (plane_at frame.old index) }
+    ensures border { KeepsBorders frame.old frame.new }
     ensures others { (other : ℕ) → other ≢ index
         → plane_at frame.new other ≡ plane_at frame.old other }
-    ensures format { frame.new.subsampling ≡ frame.old.subsampling }
-    ensures depth { frame.new.bit_depth ≡ frame.old.bit_depth }
 {
     match frame.plane_mut(index) {
         Some(plane) => Some(plane.copy_from_slice(source)),

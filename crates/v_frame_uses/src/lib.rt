@@ -9,10 +9,12 @@ pub mod answers;
 pub mod border;
 pub mod bytes;
 pub mod frames;
+pub mod lent;
 pub mod pictures;
 pub mod pixels;
 pub mod planes;
 pub mod reads;
+pub mod rectangles;
 pub mod start;
 #[cfg(test)]
 mod tests;

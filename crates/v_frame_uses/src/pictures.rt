@@ -1,9 +1,6 @@
 //! A picture, changed by one replayed walk over its pixels.
 ghost use Rattle.std.specs.Prelude.{◌≡◌, ◌+◌, min, map, IfOk, OnOk, OnErr};
-ghost use Rattle.v_frame.specs.Picture.{shown};
-ghost use Rattle.v_frame.specs.Rows.{row_major};
-ghost use Rattle.v_frame.specs.Shown.{tables_of, with_table, KeepsBorder};
-ghost use Rattle.v_frame.specs.WritingWalk.{front_draw};
+ghost use Rattle.v_frame.specs.Prelude.{table_of, row_major, tables_of, with_table, KeepsBorders, front_draw};
 
 use std::alloc::{AllocError, Global};
 use v_frame::frame::Frame;
@@ -15,9 +12,9 @@ use v_frame::replay::{PixelDraw, Side, VisibleCall, replay};
 /// memory is refused nothing changes that the frame shows.
 pub fn brighten(alloc: Global, frame: &mut Frame<u8>, by: u8) -> Result<(), AllocError>
     ensures tables { OnOk result (tables_of frame.new ≡ with_table (tables_of frame.old) 0
-        (map (map (λ pixel. min (pixel + by) 255)) (shown frame.old.y_plane))) }
+        (map (map (λ pixel. min (pixel + by) 255)) (table_of frame.old.y_plane))) }
     ensures refused { OnErr result (tables_of frame.new ≡ tables_of frame.old) }
-    ensures border { KeepsBorder frame.old frame.new }
+    ensures border { KeepsBorders frame.old frame.new }
 {
     full_walks_change_each_pixel::<u8>();
     let _width = frame.y_plane.width();
@@ -39,7 +36,7 @@ fn brighter_pixels(
     by: u8,
 ) -> Result<Vec<PixelDraw<u8>>, AllocError>
     ensures { IfOk result (λ draws. draws.items
-        ≡ map (λ pixel. front_draw (min (pixel + by) 255)) (row_major (shown plane.now))) }
+        ≡ map (λ pixel. front_draw (min (pixel + by) 255)) (row_major (table_of plane.now))) }
 {
     plane
         .pixels()

@@ -1,8 +1,6 @@
 //! Single pixels of a plane, changed in place.
 ghost use Rattle.std.specs.Prelude.{◌≡◌, ◌-◌, ◌<◌, ◌≤◌, ◌⊎◌, Some, drop, length, slice_get};
-ghost use Rattle.v_frame.specs.Picture.{shown};
-ghost use Rattle.v_frame.specs.Rows.{height_of, pixel_at, row_major, with_pixel};
-ghost use Rattle.v_frame.specs.Shown.{unshown};
+ghost use Rattle.v_frame.specs.Prelude.{table_of, height_of, pixel_at, row_major, with_pixel, KeepsBorder};
 
 use std::mem;
 use v_frame::pixel::Pixel;
@@ -10,16 +8,14 @@ use v_frame::plane::Plane;
 
 /// Sets a pixel of the visible rectangle. Elsewhere nothing changes, the border neither.
 pub fn set_pixel<T: Pixel>(plane: &mut Plane<T>, x: usize, y: usize, value: T)
-    ensures border { unshown plane.new ≡ unshown plane.old }
+    ensures border { KeepsBorder plane.old plane.new }
     ensures inside { x < plane.old.geometry.width → y < plane.old.geometry.height
-        → shown plane.new ≡ with_pixel (shown plane.old) x y value }
+        → table_of plane.new ≡ with_pixel (table_of plane.old) x y value }
     ensures outside { (plane.old.geometry.width ≤ x) ⊎ (plane.old.geometry.height ≤ y)
         → plane.new ≡ plane.old }
 {
     if x < plane.width() && y < plane.height() {
-        if let Some(pixel) = plane.pixel_mut(x, y) {
-            *pixel = value;
-        }
+        *plane.visible_pixel_mut(x, y) = value;
     }
 }
 
@@ -31,10 +27,10 @@ pub fn exchange_pixels<T: Pixel>(
 )
     requires wide { (first.0 < plane.old.geometry.width) × (second.0 < plane.old.geometry.width) }
     requires high { (first.1 < plane.old.geometry.height) × (second.1 < plane.old.geometry.height) }
-    ensures border { unshown plane.new ≡ unshown plane.old }
-    ensures table { (pixel other : T) → pixel_at (shown plane.old) first.0 first.1 ≡ Some pixel
-        → pixel_at (shown plane.old) second.0 second.1 ≡ Some other
-        → shown plane.new ≡ with_pixel (with_pixel (shown plane.old) first.0 first.1 other)
+    ensures border { KeepsBorder plane.old plane.new }
+    ensures table { (pixel other : T) → pixel_at (table_of plane.old) first.0 first.1 ≡ Some pixel
+        → pixel_at (table_of plane.old) second.0 second.1 ≡ Some other
+        → table_of plane.new ≡ with_pixel (with_pixel (table_of plane.old) first.0 first.1 other)
         second.0 second.1 pixel }
 {
     let found = (
@@ -51,8 +47,8 @@ pub fn exchange_pixels<T: Pixel>(
 ///
 /// What writing through the lent pixels leaves in the plane is in no clause: a test shows it.
 pub fn replace_ends<T: Pixel>(plane: &mut Plane<T>, first: T, last: T) -> (Option<T>, Option<T>)
-    ensures first { result.0 ≡ slice_get (row_major (shown plane.old)) 0 }
-    ensures last { let rest = drop 1 (row_major (shown plane.old)) in
+    ensures first { result.0 ≡ slice_get (row_major (table_of plane.old)) 0 }
+    ensures last { let rest = drop 1 (row_major (table_of plane.old)) in
         result.1 ≡ slice_get rest (length rest - 1) }
 {
     let mut pixels = plane.pixels_mut();
@@ -71,7 +67,7 @@ pub fn replace_ends<T: Pixel>(plane: &mut Plane<T>, first: T, last: T) -> (Optio
 ///
 /// What writing through the lent row leaves in the plane is in no clause: a test shows it.
 pub fn fill_last_row<T: Pixel>(plane: &mut Plane<T>, value: T) -> Option<T>
-    ensures { result ≡ pixel_at (shown plane.old) 0 (height_of (shown plane.old) - 1) }
+    ensures { result ≡ pixel_at (table_of plane.old) 0 (height_of (table_of plane.old) - 1) }
 {
     let mut rows = plane.rows_mut();
     match rows.next_back() {

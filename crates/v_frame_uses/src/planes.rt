@@ -1,9 +1,6 @@
 //! Whole planes and frames: made entry by entry, copied and compared.
 ghost use Rattle.std.specs.Prelude.{◌≡◌, ◌≢◌, ◌%◌, ◌<◌, ◌↔◌, ℕ, None, Some, IfOk, IsTrue, length, option_map, slice_index_or};
-ghost use Rattle.v_frame.specs.Geometry.{alloc_size_of, Fits};
-ghost use Rattle.v_frame.specs.Picture.{shown};
-ghost use Rattle.v_frame.specs.Copy.{packed_copy};
-ghost use Rattle.v_frame.specs.Shown.{plane_at, unshown};
+ghost use Rattle.v_frame.specs.Prelude.{alloc_size_of, Fits, table_of, packed_copy, plane_at, KeepsBorders};
 
 use crate::frames::copy_into_plane;
 use std::alloc::{AllocError, Global};
@@ -43,14 +40,11 @@ pub fn copy_with_plane<T: Pixel>(
     index: usize,
     source: &[T],
 ) -> Result<(Frame<T>, bool), AllocError>
-    ensures table { IfOk result (λ copy. option_map shown (plane_at copy.0 index) ≡ option_map
-        (λ plane. (packed_copy (shown plane) source.now).table) (plane_at frame.now index)) }
-    ensures border { IfOk result (λ copy. option_map unshown (plane_at copy.0 index)
-        ≡ option_map unshown (plane_at frame.now index)) }
+    ensures table { IfOk result (λ copy. option_map table_of (plane_at copy.0 index) ≡ option_map
+        (λ plane. (packed_copy (table_of plane) source.now).table) (plane_at frame.now index)) }
+    ensures border { IfOk result (λ copy. KeepsBorders frame.now copy.0) }
     ensures others { IfOk result (λ copy. (other : ℕ) → other ≢ index
         → plane_at copy.0 other ≡ plane_at frame.now other) }
-    ensures format { IfOk result (λ copy. copy.0.subsampling ≡ frame.now.subsampling) }
-    ensures depth { IfOk result (λ copy. copy.0.bit_depth ≡ frame.now.bit_depth) }
     ensures same { IfOk result (λ copy. IsTrue copy.1 ↔ (copy.0 ≡ frame.now)) }
 {
     let mut copy = frame.clone(alloc)?;

@@ -1,9 +1,7 @@
 //! Planes, read, and one filled.
 ghost use Rattle.std.specs.Prelude.{◌≡◌, ◌-◌, ◌*◌, ◌≤◌, ◌↔◌, IsTrue, Some, length, min, slice_get};
 ghost use Rattle.std.specs.Bool.{OnTrue, OnFalse};
-ghost use Rattle.v_frame.specs.Geometry.{alloc_size_of, isize_max};
-ghost use Rattle.v_frame.specs.Picture.{shown, border_of};
-ghost use Rattle.v_frame.specs.Rows.{width_of, height_of, pixel_at, row_major};
+ghost use Rattle.v_frame.specs.Prelude.{alloc_size_of, isize_max, table_of, border_of, width_of, height_of, pixel_at, row_major};
 
 use v_frame::laws::places_hold_pixels;
 use v_frame::pixel::Pixel;
@@ -11,7 +9,7 @@ use v_frame::plane::Plane;
 
 /// The pixel (0, 0), read from the whole buffer.
 pub fn first_pixel<T: Pixel>(plane: &Plane<T>) -> T
-    ensures { pixel_at (shown plane.now) 0 0 ≡ Some result }
+    ensures { pixel_at (table_of plane.now) 0 0 ≡ Some result }
 {
     places_hold_pixels::<T>();
     plane.data()[plane.geometry().data_origin()]
@@ -27,7 +25,7 @@ pub fn buffer_bytes<T: Pixel>(plane: &Plane<T>) -> usize
 
 /// The row `y`, or the last one where that is below the rectangle: what a filter reads at the lower edge.
 pub fn nearest_row<T>(plane: &Plane<T>, y: usize) -> &[T]
-    ensures { slice_get (shown plane.now) (min y (plane.now.geometry.height - 1))
+    ensures { slice_get (table_of plane.now) (min y (plane.now.geometry.height - 1))
         ≡ Some result.now }
 {
     match plane.row(y.min(plane.height() - 1)) {
@@ -40,8 +38,8 @@ pub fn nearest_row<T>(plane: &Plane<T>, y: usize) -> &[T]
 /// the table. Then the rows, joined, are these pixels.
 pub fn is_filled_from<T: Pixel>(plane: &mut Plane<T>, source: &[T]) -> bool
     ensures accepted { IsTrue result
-        ↔ (length source.now ≡ width_of (shown plane.old) * height_of (shown plane.old)) }
-    ensures filled { OnTrue result (row_major (shown plane.new) ≡ source.now) }
+        ↔ (length source.now ≡ width_of (table_of plane.old) * height_of (table_of plane.old)) }
+    ensures filled { OnTrue result (row_major (table_of plane.new) ≡ source.now) }
     ensures refused { OnFalse result (plane.new ≡ plane.old) }
     ensures border { border_of plane.new ≡ border_of plane.old }
     ensures geometry { plane.new.geometry ≡ plane.old.geometry }

@@ -1,11 +1,12 @@
 //! That functions which take memory succeed with it, and what lent rows and pixels leave: no clause says these.
 
-use crate::bytes::{append_bytes, without_tails};
+use crate::answers::first_answers;
+use crate::bytes::{append_bytes, through_a_plane, without_tails};
 use crate::frames::{built_chroma_size, reason_not_to_build};
 use crate::pictures::brighten;
 use crate::pixels::{fill_last_row, replace_ends};
 use crate::planes::{copy_with_plane, plane_of_places};
-use crate::start::first_frame;
+use crate::start::{fill_row, first_frame, row_with};
 use std::alloc::Global;
 use std::process::Abort;
 use v_frame::chroma::ChromaSubsampling;
@@ -13,7 +14,14 @@ use v_frame::frame::{Frame, FrameBuilder, FrameError};
 use v_frame::plane::{CopyError, Plane, PlaneGeometry};
 use v_frame::replay::Answer;
 
-/// Luma of 3 by 2 pixels, with one border column to the left, two to the right and one border row above.
+/// The number of an entry: 100 and its place.
+fn number_at(rt: &impl Abort, place: usize) -> u8 {
+    let place = u8::try_from(place).ok().expect(rt, "a small buffer");
+    place.checked_add(100).expect(rt, "a small number")
+}
+
+/// Luma of 3 by 2 pixels, with one border column to the left, two to the right and one border row above. The entries of the
+/// border are numbered.
 fn padded(rt: &impl Abort, alloc: Global, pixels: [u8; 6]) -> Frame<u8> {
     let mut frame = FrameBuilder::new(3, 2, ChromaSubsampling::Monochrome, 8)
         .luma_padding_left(1)
@@ -21,11 +29,20 @@ fn padded(rt: &impl Abort, alloc: Global, pixels: [u8; 6]) -> Frame<u8> {
         .luma_padding_top(1)
         .build::<u8>(alloc)
         .expect(rt, "a frame");
+    for (place, entry) in frame.y_plane.data_mut().iter_mut().enumerate() {
+        *entry = number_at(rt, place);
+    }
+    let copied = frame.y_plane.copy_from_slice(&pixels);
+    copied.expect(rt, "its pixels");
     frame
-        .y_plane
-        .copy_from_slice(&pixels)
-        .expect(rt, "its pixels");
-    frame
+}
+
+/// The buffer of that plane, where it shows these pixels.
+const fn buffer_around(pixels: [u8; 6]) -> [u8; 18] {
+    let [a, b, c, d, e, f] = pixels;
+    [
+        100, 101, 102, 103, 104, 105, 106, a, b, c, 110, 111, 112, d, e, f, 116, 117,
+    ]
 }
 
 /// Whether the whole buffer of a plane, with its border, is this one.
@@ -38,7 +55,7 @@ fn lent_pixels_and_rows_are_replaced(rt: HostRuntime) {
     let mut frame = padded(&rt, rt.alloc(), [1, 2, 3, 4, 5, 6]);
     let filled = fill_last_row(&mut frame.y_plane, 7);
     let replaced = replace_ends(&mut frame.y_plane, 8, 9);
-    let wanted = [0, 0, 0, 0, 0, 0, 0, 8, 2, 3, 0, 0, 0, 7, 7, 9, 0, 0];
+    let wanted = buffer_around([8, 2, 3, 7, 7, 9]);
     let given = (filled, replaced) == (Some(4), (Some(1), Some(7)));
     assert!(rt; given && holds(&frame.y_plane, &wanted));
 }
@@ -47,9 +64,7 @@ fn lent_pixels_and_rows_are_replaced(rt: HostRuntime) {
 fn a_picture_is_made_brighter(rt: HostRuntime) {
     let mut frame = padded(&rt, rt.alloc(), [1, 2, 3, 150, 200, 255]);
     let brightened = brighten(rt.alloc(), &mut frame, 100).is_ok();
-    let wanted = [
-        0, 0, 0, 0, 0, 0, 0, 101, 102, 103, 0, 0, 0, 250, 255, 255, 0, 0,
-    ];
+    let wanted = buffer_around([101, 102, 103, 250, 255, 255]);
     assert!(rt; brightened && holds(&frame.y_plane, &wanted));
 }
 
@@ -80,22 +95,52 @@ fn planes_go_out_as_bytes(rt: HostRuntime) {
 }
 
 #[test]
-fn bytes_come_back_without_tails(rt: HostRuntime) {
+fn bytes_come_back(rt: HostRuntime) {
     let mut plane = padded(&rt, rt.alloc(), [1, 2, 3, 4, 5, 6]).y_plane;
-    let source = [1, 2, 3, 99, 4, 5, 6, 99];
-    let read = without_tails(rt.alloc(), &mut plane, &source, 4).expect(&rt, "memory");
-    let bytes = read.expect(&rt, "a source of the right length");
-    let refused = without_tails(rt.alloc(), &mut plane, &source, 2).expect(&rt, "memory");
+    let mut out = Vec::new(rt.alloc());
+    let copied = through_a_plane(&mut plane, &[9, 8, 7, 6, 5, 4], &mut out).expect(&rt, "memory");
+    assert!(rt; copied.is_ok() && out.as_slice() == [9, 8, 7, 6, 5, 4].as_slice());
+    assert!(rt; holds(&plane, &buffer_around([9, 8, 7, 6, 5, 4])));
+}
+
+/// What comes out where a source with this stride goes through a plane of 3 by 2 pixels.
+fn stripped(
+    rt: &impl Abort,
+    alloc: Global,
+    source: &[u8],
+    stride: usize,
+) -> (Vec<u8>, Result<(), CopyError>) {
+    let mut plane = padded(rt, alloc, [1, 2, 3, 4, 5, 6]).y_plane;
+    let mut out = Vec::new(alloc);
+    let copied = without_tails(&mut plane, source, stride, &mut out).expect(rt, "memory");
+    (out, copied)
+}
+
+#[test]
+fn bytes_come_back_without_tails(rt: HostRuntime) {
+    let source = [9, 8, 7, 99, 6, 5, 4, 99];
+    let (bytes, copied) = stripped(&rt, rt.alloc(), &source, 4);
+    assert!(rt; copied.is_ok() && bytes.as_slice() == [9, 8, 7, 6, 5, 4].as_slice());
+    let (bytes, refused) = stripped(&rt, rt.alloc(), &source, 2);
     let wanted = CopyError::InvalidStride {
         stride: 2,
         width: 3,
     };
-    assert!(rt; bytes.as_slice() == [1, 2, 3, 4, 5, 6].as_slice() && refused.err() == Some(wanted));
+    assert!(rt; bytes.is_empty() && refused == Err(wanted));
 }
 
 #[test]
-fn a_first_frame_answers(rt: HostRuntime) {
-    let answers = first_frame(rt.alloc()).expect(&rt, "a frame");
+fn a_first_frame_is_read(rt: HostRuntime) {
+    let mut plane = first_frame(rt.alloc()).expect(&rt, "a frame").y_plane;
+    let read = row_with(&plane, 50) == Some([40, 50, 60].as_slice());
+    assert!(rt; read && row_with(&plane, 0).is_none() && plane.height() == 2);
+    fill_row(&mut plane, 1, 0);
+    assert!(rt; row_with(&plane, 0) == Some([0, 0, 0].as_slice()));
+}
+
+#[test]
+fn a_new_frame_answers(rt: HostRuntime) {
+    let answers = first_answers(rt.alloc()).expect(&rt, "a frame");
     let ends = (answers.first(), answers.last());
     assert!(rt; ends == (Some(&Answer::Number(3)), Some(&Answer::NoPlane)));
 }

@@ -1,15 +1,14 @@
 //! Planes, walked: sums, counts and extremes of their pixels.
 ghost use Rattle.std.specs.Prelude.{◌≡◌, ◌↔◌, ◌≤◌, not, All, Contains, length, count_by, sum_by, IfSome, IsNone};
 ghost use Rattle.std.specs.List.{zip};
-ghost use Rattle.v_frame.specs.Picture.{shown};
-ghost use Rattle.v_frame.specs.Rows.{row_major};
+ghost use Rattle.v_frame.specs.Prelude.{table_of, row_major};
 
 use v_frame::pixel::Pixel;
 use v_frame::plane::Plane;
 
 /// The sum of the visible pixels.
 pub fn sum_of_pixels<T: Pixel>(plane: &Plane<T>) -> u128
-    ensures { result ≡ sum_by T.value (row_major (shown plane.now)) }
+    ensures { result ≡ sum_by T.form.value (row_major (table_of plane.now)) }
 {
     let mut sum = 0;
     for pixel in plane.pixels() {
@@ -23,7 +22,7 @@ pub fn count_of_differing_pixels<T: Pixel>(a: &Plane<T>, b: &Plane<T>) -> usize
     requires wide { a.now.geometry.width ≡ b.now.geometry.width }
     requires high { a.now.geometry.height ≡ b.now.geometry.height }
     ensures { result ≡ count_by (λ pair. not (T.eq pair.0 pair.1))
-        (zip (row_major (shown a.now)) (row_major (shown b.now))) }
+        (zip (row_major (table_of a.now)) (row_major (table_of b.now))) }
 {
     let mut count = 0;
     for (p, q) in a.pixels().zip(b.pixels()) {
@@ -38,7 +37,7 @@ pub fn count_of_differing_pixels<T: Pixel>(a: &Plane<T>, b: &Plane<T>) -> usize
 pub fn largest_pixel<T: Pixel>(row: &[T]) -> Option<T>
     ensures found { IfSome result (λ pixel. Contains row.now pixel) }
     ensures largest { IfSome result (λ pixel.
-        All (λ other. T.value other ≤ T.value pixel) row.now) }
+        All (λ other. T.form.value other ≤ T.form.value pixel) row.now) }
     ensures none { IsNone result ↔ (length row.now ≡ 0) }
 {
     row.iter().copied().max()

@@ -5,13 +5,6 @@ use crate::frame::Frame;
 use crate::pixel::Pixel;
 use crate::plane::Plane;
 
-/// Planes are equal exactly where their geometries and their whole buffers are, the borders too.
-pub fn planes_are_equal<T: Pixel>(p: &Plane<T>, q: &Plane<T>) -> bool
-    ensures { IsTrue result ↔ (p.now.geometry ≡ q.now.geometry) × (p.now.buffer ≡ q.now.buffer) }
-{
-    p == q
-}
-
 /// Frames are equal exactly where all five of their fields are.
 pub fn frames_are_equal<T: Pixel>(a: &Frame<T>, b: &Frame<T>) -> bool
     ensures { IsTrue result ↔ (a.now ≡ b.now) }

@@ -1,6 +1,7 @@
 //! What the visible calls answer.
 
-use super::{Drawn, Sequence};
+use super::draw::Drawn;
+use super::sequence::Sequence;
 use crate::plane::CopyError;
 
 /// What one call answered. Our own.
@@ -12,31 +13,31 @@ pub enum Answer<T> {
     OutsideRectangle,
     /// A width or a height, in pixels.
     Number(usize),
-    /// The row, or nothing below the visible rectangle.
+    /// The row. `None` below the visible rectangle.
     RowShown(Option<Sequence<T>>),
     /// The pixel.
     PixelShown(T),
     /// What the copy answered.
     Copied(Result<(), CopyError>),
-    /// The rows that were drawn.
+    /// The rows that an iterator gave.
     RowsWalked {
-        /// How many rows the walk began with.
+        /// How many rows the iterator began with.
         total: usize,
-        /// The draws, in their order.
+        /// What each `next` or `next_back` gave, in their order.
         drawn: Sequence<Drawn<Sequence<T>>>,
     },
-    /// The pixels that were drawn.
+    /// The pixels that an iterator gave.
     PixelsWalked {
-        /// How many pixels the walk began with.
+        /// How many pixels the iterator began with.
         total: usize,
-        /// The draws, in their order.
+        /// What each `next` or `next_back` gave, in their order.
         drawn: Sequence<Drawn<T>>,
     },
-    /// The bytes that were drawn.
+    /// The bytes that an iterator gave.
     BytesWalked {
-        /// How many bytes the walk began with.
+        /// How many bytes the iterator began with.
         total: usize,
-        /// The draws, in their order.
+        /// What each `next` or `next_back` gave, in their order.
         drawn: Sequence<Drawn<u8>>,
     },
 }

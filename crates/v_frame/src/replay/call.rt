@@ -1,7 +1,8 @@
 //! The visible calls.
 ghost use Rattle.std.specs.Prelude.{◌≡◌};
 
-use super::{PixelDraw, RowDraw, Sequence, Side};
+use super::draw::{PixelDraw, RowDraw, Side};
+use super::sequence::Sequence;
 
 /// One call on one plane of a frame, as a value.
 ///
@@ -83,21 +84,21 @@ pub enum VisibleCall<T> {
     Rows {
         /// The plane.
         plane: usize,
-        /// The sides. Draws past the end of the walk give nothing.
+        /// The sides. Past the end of the iterator the item is `None`.
         draws: Sequence<Side>,
     },
     /// [`Plane::pixels`](crate::plane::Plane::pixels), drawn from these sides in turn.
     Pixels {
         /// The plane.
         plane: usize,
-        /// The sides. Draws past the end of the walk give nothing.
+        /// The sides. Past the end of the iterator the item is `None`.
         draws: Sequence<Side>,
     },
     /// [`Plane::byte_data`](crate::plane::Plane::byte_data), drawn from these sides in turn.
     ByteData {
         /// The plane.
         plane: usize,
-        /// The sides. Draws past the end of the walk give nothing.
+        /// The sides. Past the end of the iterator the item is `None`.
         draws: Sequence<Side>,
     },
     /// The rows of [`Plane::rows`](crate::plane::Plane::rows), drawn from these sides in turn and then overwritten: each
@@ -105,7 +106,7 @@ pub enum VisibleCall<T> {
     RowsMut {
         /// The plane.
         plane: usize,
-        /// The sides, and what each draw writes. Draws past the end of the walk give and write nothing.
+        /// The sides, and what each draw writes. Past the end of the iterator the item is `None`, and nothing is written.
         draws: Sequence<RowDraw<T>>,
     },
     /// The pixels of [`Plane::pixels`](crate::plane::Plane::pixels), drawn from these sides in turn and then replaced:
@@ -113,7 +114,7 @@ pub enum VisibleCall<T> {
     PixelsMut {
         /// The plane.
         plane: usize,
-        /// The sides, and what each draw writes. Draws past the end of the walk give and write nothing.
+        /// The sides, and what each draw writes. Past the end of the iterator the item is `None`, and nothing is written.
         draws: Sequence<PixelDraw<T>>,
     },
 }

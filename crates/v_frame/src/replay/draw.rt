@@ -1,8 +1,8 @@
-//! Draws from a walk: from which side, what one writes, and what one gave.
+//! Draws from an iterator: from which side, what one writes, and what one gave.
 
-use super::Sequence;
+use super::sequence::Sequence;
 
-/// The side that a walk is drawn from. Our own.
+/// The side that an iterator is drawn from. Our own.
 #[derive(Debug, Clone, Copy, PartialEq, Eq)]
 pub enum Side {
     /// `next`.
@@ -33,7 +33,7 @@ pub struct PixelDraw<T> {
 /// What one draw gave. Our own.
 #[derive(Debug, PartialEq, Eq, Drop)]
 pub struct Drawn<I> {
-    /// The item, or nothing past the end of the walk.
+    /// The item. `None` past the end of the iterator.
     pub item: Option<I>,
     /// How many items are left after the draw.
     pub left: usize,

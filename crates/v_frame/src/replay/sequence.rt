@@ -1,10 +1,11 @@
 //! A list inside a call or an answer.
-ghost use Rattle.std.specs.Prelude.{◌≡◌, ◌^◌, ◌<◌, ◌↔◌, List, [], length, IsTrue};
+ghost use Rattle.std.specs.Prelude.{◌≡◌, ◌^◌, ◌<◌, ◌↔◌, List, [], length, IsTrue, IfOk};
 ghost use Rattle.std.specs.Cmp.Lexicographic.{pointwise, lists_per, lists_equiv};
 ghost use Rattle.std.specs.Iterator.Runs.{EveryRun, ItemsMapTo};
 ghost use Rattle.std.specs.Slice.Iter.{iter_rest, iter_steps};
 ghost use Rattle.std.specs.Iterator.Adapters.{IterYieldsInOrder, IterYieldsInReverse};
 
+use std::alloc::{AllocError, Global};
 use std::convert::AsSlice;
 use std::marker::Model;
 use std::ops::DerefSlice;
@@ -27,6 +28,19 @@ impl<T> Model for Sequence<T> {
 }
 
 impl<T> Sequence<T> {
+    /// A sequence of these items.
+    ///
+    /// # Errors
+    ///
+    /// [`AllocError`] where the request for their memory was refused.
+    pub fn from_slice(alloc: Global, items: &[T]) -> Result<Self, AllocError>
+    where
+        T: Copy,
+        ensures { IfOk result (λ sequence. sequence ≡ items.now) }
+    {
+        Ok(Vec::from_slice(alloc, items)?.into())
+    }
+
     /// How many items there are.
     pub fn len(&self) -> usize
         ensures { result ≡ length self.now }

@@ -1,7 +1,7 @@
 -- One more call: its answer, its tables, and the planes that it may write.
 use Rattle.std.proofs.Common.{◌<◌, List, [], ◌∷◌, ◌++◌, length, take, ◌∙◌, ap, sym, arith}
-use Rattle.v_frame.specs.Shown.{tables_of, plane_at}
-use Rattle.v_frame_base.specs.Bytes.{PixelForm, pixel_form}
+use Rattle.v_frame.specs.Frame.{tables_of, plane_at}
+use Rattle.v_frame_layout.specs.Pixel.{PixelForm}
 use Rattle.v_frame.specs.Replay.{reply_to, answers_to}
 use Rattle.v_frame.specs.declared.frame.Frame.{Frame}
 use Rattle.v_frame.specs.declared.replay.answer.Answer.{Answer}
@@ -10,7 +10,7 @@ use Rattle.v_frame.proofs.replay.replay.Goals as goal
 
 pub loop-call-preserved : goal.loop-call-preserved
 loop-call-preserved g c =
-    let form : PixelForm g.row.T.Denot = pixel_form g.T.Pixel.BYTES g.T.Pixel.value g.T.Pixel.pixel_of in
+    let form : PixelForm g.row.T.Denot = g.T.Pixel.form in
     let calls = c.args.calls.now in
     let i = c.loop-call.call-index in
     let call = c.call-item.result in

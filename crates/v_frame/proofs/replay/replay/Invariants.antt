@@ -1,15 +1,14 @@
 -- The answers and the tables are those of the calls so far, and there is room for the answers of the others.
 use Rattle.std.proofs.Common.{◌≡◌, ℕ, ◌≤◌, length, take, vec_len, vec_capacity}
-use Rattle.v_frame.specs.Shown.{tables_of, plane_at, KeepsBorder}
-use Rattle.v_frame_base.specs.Bytes.{pixel_form}
+use Rattle.v_frame.specs.Frame.{tables_of, plane_at, KeepsBorders}
 use Rattle.v_frame.specs.Replay.{WritesPlane, answers_to, tables_after}
 use Rattle.v_frame.proofs.replay.replay.Given as goal
 
 abbrev pub invariant-loop-call : goal.invariant-loop-call
 invariant-loop-call g l = record {
-  answers : l.done.items ≡ answers_to (pixel_form g.T.Pixel.BYTES g.T.Pixel.value g.T.Pixel.pixel_of) (take l.call-index l.calls) (tables_of l.fn.frame);
-  tables : tables_of l.frame ≡ tables_after (pixel_form g.T.Pixel.BYTES g.T.Pixel.value g.T.Pixel.pixel_of) (take l.call-index l.calls) (tables_of l.fn.frame);
-  border : KeepsBorder l.fn.frame l.frame;
+  answers : l.done.items ≡ answers_to g.T.Pixel.form (take l.call-index l.calls) (tables_of l.fn.frame);
+  tables : tables_of l.frame ≡ tables_after g.T.Pixel.form (take l.call-index l.calls) (tables_of l.fn.frame);
+  border : KeepsBorders l.fn.frame l.frame;
   unwritten : (index : ℕ) → (WritesPlane (take l.call-index l.calls) index → ⊥) → plane_at l.frame index ≡ plane_at l.fn.frame index;
   done : vec_len l.done ≡ l.call-index;
   room : length l.calls ≤ vec_capacity l.done;

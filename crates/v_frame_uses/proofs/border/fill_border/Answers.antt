@@ -1,6 +1,6 @@
 -- The table is made of the visible entries, and the border of the others.
-use Rattle.std.proofs.Common.{◌≡◌, List, length, ◌∙◌, ap, sym, refl}
-use Rattle.v_frame.specs.Picture.{raster, filled, shown, border_of}
+use Rattle.std.proofs.Common.{length, ◌∙◌, ap, refl}
+use Rattle.v_frame.specs.Prelude.{raster, filled, table_of, border_of}
 use Rattle.v_frame_uses.proofs.Filling.{put_back, agrees_with_filled}
 use Rattle.v_frame_uses.proofs.border.fill_border.Goals as goal
 
@@ -10,7 +10,7 @@ returns-clause-table g c =
     let new = c.fill_border_places.new.buffer in
     let buffer = put_back p.buffer new (c.fill_border_places.auto.buffer ∙ ap length c.data_mut.ensures.value) in
     let visible = rw (c.geometry-geometry.ensures.value, c.data_mut.ensures.value) at c.fill_border_places.ensures.visible in
-    ap (λ b. shown (raster p.geometry b)) buffer ∙ (c.alike_entries_show_alike.ensures (raster p.geometry new) p refl).table visible
+    ap (λ b. table_of (raster p.geometry b)) buffer ∙ (c.alike_entries_show_alike.ensures (raster p.geometry new) p refl).table visible
 
 pub returns-clause-border : goal.returns-clause-border
 returns-clause-border g c =

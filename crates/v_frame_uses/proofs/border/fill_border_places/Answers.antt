@@ -1,7 +1,7 @@
 -- Each part of the border is filled in its turn, and what is visible is passed over.
-use Rattle.std.proofs.Common.{ℕ, ◌≡◌, ◌+◌, ◌*◌, ◌<◌, ◌≤◌, length, refl, sym, ◌∙◌, ap, arith}
-use Rattle.v_frame.specs.Geometry.{stride_of, alloc_height_of, alloc_size_of}
-use Rattle.v_frame_uses.proofs.Filling.{IsFilledUpTo, nothing_filled, part_filled, visible_skipped, marks_above, marks_below, marks_left, marks_visible, marks_right, row_within, rows_within, filled_everywhere}
+use Rattle.std.proofs.Common.{ℕ, ◌≡◌, ◌+◌, ◌*◌, ◌<◌, length, refl, ◌∙◌, arith}
+use Rattle.v_frame.specs.Prelude.{stride_of, alloc_size_of}
+use Rattle.v_frame_uses.proofs.Filling.{nothing_filled, part_filled, visible_skipped, marks_above, marks_below, marks_left, marks_visible, marks_right, row_within, filled_everywhere}
 use Rattle.v_frame_uses.proofs.border.fill_border_places.Goals as goal
 
 pub loop-y-init : goal.loop-y-init

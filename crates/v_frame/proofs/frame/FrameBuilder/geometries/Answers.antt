@@ -1,7 +1,7 @@
 -- Luma fits by the test, and chroma is no larger.
 use Rattle.std.proofs.Common.{◌∙◌, sym, ap}
 use Rattle.std.specs.Result.{result_ok}
-use Rattle.v_frame_base.proofs.ChromaLemmas.{chroma_fits, geometry_of_ok}
+use Rattle.v_frame_layout.proofs.ChromaLemmas.{chroma_fits, geometry_of_ok}
 use Rattle.v_frame.proofs.frame.FrameBuilder.geometries.Goals as goal
 
 pub returns-clause-fit : goal.returns-clause-fit

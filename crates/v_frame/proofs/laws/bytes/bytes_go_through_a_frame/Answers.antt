@@ -1,30 +1,30 @@
 -- A frame that is built shows a table of its size, which the copy fills.
 use Rattle.std.proofs.Common.{ℕ, ◌≡◌, ◌<◌, List, length, get_or, Ok, refl, ◌∙◌, ap, rules}
 use Rattle.std.proofs.lemmas.Result.{IfOk-weaker}
-use Rattle.v_frame_base.specs.Bytes.{PixelForm, pixel_form}
-use Rattle.v_frame_base.specs.Rows.{width_of, height_of}
-use Rattle.v_frame.specs.Shown.{tables_of}
+use Rattle.v_frame_layout.specs.Pixel.{PixelForm}
+use Rattle.v_frame_layout.specs.Table.{width_of, height_of}
+use Rattle.v_frame.specs.Frame.{tables_of}
 use Rattle.v_frame.specs.Replay.{answers_to}
-use Rattle.v_frame_base.specs.Asked.{luma_geometry}
-use Rattle.v_frame_base.specs.Picture.{Raster, filled, shown}
+use Rattle.v_frame.specs.Build.{luma_geometry}
+use Rattle.v_frame_plane.specs.Plane.{Raster, filled, table_of}
 use Rattle.v_frame.specs.declared.frame.error.FrameError.TheVariants.{OutOfMemory}
 use Rattle.v_frame.specs.declared.replay.call.VisibleCall.{VisibleCall}
-use Rattle.v_frame_base.proofs.BytesBack.{AreBytes, are_bytes}
+use Rattle.v_frame_plane.proofs.BytesBack.{AreBytes, are_bytes}
 use Rattle.v_frame.proofs.BytePaths.{built_high, blank_width, blank_height, path_answers}
 use Rattle.v_frame.proofs.Draws.{all_given}
 use Rattle.v_frame.proofs.laws.bytes.bytes_go_through_a_frame.Goals as goal
 
 pub returns-clause-answers : goal.returns-clause-answers
 returns-clause-answers g c =
-    let form : PixelForm g.row.T.Denot = pixel_form g.T.Pixel.BYTES g.T.Pixel.value g.T.Pixel.pixel_of in
+    let form : PixelForm g.row.T.Denot = g.T.Pixel.form in
     let asked = c.args.builder in
     let source = c.args.source.items in
     let zero = g.T.Pixel.ZERO in
     let frame = c.in_ok-frame.frame in
     let high : 0 < asked.height = built_high (Ok frame) frame refl g.T.Pixel.BYTES asked OutOfMemory c.in_ok-frame.ensures.refused in
     let y : frame.y_plane ≡ filled zero (luma_geometry asked) = c.in_ok-frame.ensures.blank.y_plane in
-    let width : width_of (shown frame.y_plane) ≡ asked.width = ap (λ (p : Raster g.row.T.Denot). width_of (shown p)) y ∙ blank_width zero asked high in
-    let height : height_of (shown frame.y_plane) ≡ asked.height = ap (λ (p : Raster g.row.T.Denot). height_of (shown p)) y ∙ blank_height zero asked in
+    let width : width_of (table_of frame.y_plane) ≡ asked.width = ap (λ (p : Raster g.row.T.Denot). width_of (table_of p)) y ∙ blank_width zero asked high in
+    let height : height_of (table_of frame.y_plane) ≡ asked.height = ap (λ (p : Raster g.row.T.Denot). height_of (table_of p)) y ∙ blank_height zero asked in
     let fit : (i d : ℕ) → i < length source → get_or source i d < 256 = search rules in
     let bytes : AreBytes source = are_bytes source fit in
     let calls = ap (λ (cs : List (VisibleCall g.row.T.Denot)). answers_to form cs (tables_of frame)) (c.as_slice.ensures.value ∙ c.in_ok-calls.ensures) in

@@ -1,9 +1,0 @@
--- A run of draws gives what was left, in order.
-use Rattle.v_frame_base.proofs.WalkRuns.{gives_in_order, gives_in_reverse}
-use Rattle.v_frame.proofs.plane.Plane.byte_data.Goals as goal
-
-pub returns-clause-runs : goal.returns-clause-runs
-returns-clause-runs g c = gives_in_order
-
-pub returns-clause-runs_back : goal.returns-clause-runs_back
-returns-clause-runs_back g c = gives_in_reverse

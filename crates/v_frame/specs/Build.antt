@@ -1,0 +1,76 @@
+-- What a builder is asked for, which frames can be built, and what a built frame holds.
+use Rattle.std.specs.Prelude.{ℕ, ◌*◌, ◌≡◌, ◌==◌, ◌&&◌, ◌||◌, not, nat_lt, nat_le, if◌then◌else◌, Bool, All, Option, Some, None, IfSome, Ok, is_ok, option_map}
+use Rattle.std.specs.Int.NonZero.{non_zero_u8_get}
+use Rattle.v_frame_layout.specs.Geometry.{Geometry, geometry_of, stride_of, alloc_size_of, usize_max, isize_max}
+use Rattle.v_frame_layout.specs.Chroma.{chroma_size_of, subsampled, geometry_in}
+use Rattle.v_frame_layout.specs.declared.chroma.ChromaSubsampling.{ChromaSubsampling}
+use Rattle.v_frame_plane.specs.Plane.{Raster, filled}
+use Rattle.v_frame.specs.declared.frame.Frame.{Frame}
+use Rattle.v_frame.specs.declared.frame.error.FrameError.{FrameError}
+use Rattle.v_frame.specs.declared.frame.error.FrameError.TheVariants.{UnsupportedBitDepth, DataTypeMismatch, UnsupportedResolution}
+
+pub record FrameRequest : Type 0 where
+  pub width : ℕ
+  pub height : ℕ
+  pub subsampling : ChromaSubsampling
+  pub bit_depth : ℕ
+  pub pad_left : ℕ
+  pub pad_right : ℕ
+  pub pad_top : ℕ
+  pub pad_bottom : ℕ
+
+-- the geometry of the luma plane
+abbrev pub luma_geometry : FrameRequest → Geometry
+luma_geometry request =
+    geometry_of request.width request.height request.pad_left request.pad_right
+    request.pad_top request.pad_bottom 1 1
+
+-- something is visible, a row can be counted, and the buffer fits
+abbrev pub is_laid_out : Geometry → Bool
+is_laid_out g =
+    nat_lt 0 g.width
+    && (nat_lt 0 g.height
+    && (nat_le (stride_of g) usize_max && nat_le (2 * alloc_size_of g) isize_max))
+
+-- pixels of one byte have the depth 8, and pixels of two bytes another
+abbrev pub is_mismatch : ℕ → ℕ → Bool
+is_mismatch bytes depth = (bytes == 1 && not (depth == 8)) || (bytes == 2 && depth == 8)
+
+-- the geometry of the chroma planes that are asked for, where there are some
+abbrev pub chroma_geometry : FrameRequest → Option Geometry
+chroma_geometry request = geometry_in (subsampled request.subsampling (luma_geometry request))
+
+-- why a frame can't be built of pixels of so many bytes: the first reason decides
+abbrev pub refusal_of : ℕ → FrameRequest → Option FrameError
+refusal_of bytes request =
+    if nat_lt request.bit_depth 8 || nat_lt 16 request.bit_depth
+    then Some (UnsupportedBitDepth request.bit_depth)
+    else (if is_mismatch bytes request.bit_depth then Some DataTypeMismatch
+    else (if is_laid_out (luma_geometry request)
+    && is_ok (subsampled request.subsampling (luma_geometry request)) then None
+    else Some UnsupportedResolution))
+
+module _ {T : Type 0} where
+  -- the frame is as asked for, and each of its planes holds `zero` everywhere
+  pub record IsBlank (zero : T) (request : FrameRequest) (frame : Frame T) : Type 0 where
+    pub y_plane : frame.y_plane ≡ filled zero (luma_geometry request)
+    pub chroma : subsampled request.subsampling (luma_geometry request)
+        ≡ Ok (chroma_geometry request)
+    pub u_plane : frame.u_plane ≡ option_map (filled zero) (chroma_geometry request)
+    pub v_plane : frame.v_plane ≡ option_map (filled zero) (chroma_geometry request)
+    pub subsampling : frame.subsampling ≡ request.subsampling
+    pub bit_depth : non_zero_u8_get frame.bit_depth ≡ request.bit_depth
+
+module _ {T : Type 0} where
+  abbrev pub size_of : Raster T → ℕ × ℕ
+  size_of plane = (plane.geometry.width, plane.geometry.height)
+
+  -- a built frame is zero everywhere, and its chroma planes have their size or are absent
+  pub record IsZeroEverywhere (zero : T) (request : FrameRequest) (frame : Frame T) : Type 0 where
+    pub y : All (λ pixel. pixel ≡ zero) frame.y_plane.buffer
+    pub u : IfSome frame.u_plane (λ plane. All (λ pixel. pixel ≡ zero) plane.buffer)
+    pub v : IfSome frame.v_plane (λ plane. All (λ pixel. pixel ≡ zero) plane.buffer)
+    pub size_of_u : option_map size_of frame.u_plane
+        ≡ chroma_size_of request.subsampling request.width request.height
+    pub size_of_v : option_map size_of frame.v_plane
+        ≡ chroma_size_of request.subsampling request.width request.height

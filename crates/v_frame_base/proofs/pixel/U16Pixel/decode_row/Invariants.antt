@@ -1,7 +1,0 @@
--- The pixels so far are those of the bytes so far.
-use Rattle.std.proofs.Common.{◌≡◌, take}
-use Rattle.v_frame_base.specs.Bytes.{pixels_of_bytes}
-use Rattle.v_frame_base.proofs.pixel.U16Pixel.decode_row.Given as goal
-
-abbrev pub invariant-loop-i : goal.invariant-loop-i
-invariant-loop-i l = take l.i l.dst ≡ pixels_of_bytes 2 (λ v. v) l.i l.src

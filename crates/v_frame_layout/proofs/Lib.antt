@@ -1,0 +1,5 @@
+pub mod ChromaLemmas
+pub mod Decoding
+pub mod PixelBytes
+pub mod Plans
+pub mod Tables

@@ -1,0 +1,5 @@
+pub mod Chroma
+pub mod Geometry
+pub mod Laws
+pub mod Pixel
+pub mod Table

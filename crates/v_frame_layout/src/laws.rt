@@ -1,0 +1,75 @@
+//! Laws of pixels, tables, geometries and chroma sizes: what callers may rely on beyond a single call.
+//!
+//! Each function makes the calls that its law speaks of, and its contract is the law. A law of the definitions alone has
+//! an empty body. Our own.
+ghost use Rattle.std.specs.Prelude.{◌≡◌, ℕ, ◌^◌, ◌<◌, ◌↔◌, length, Some, Ok, IsTrue, slice_get};
+ghost use Rattle.std.specs.Ordering.{nat_cmp};
+ghost use Rattle.v_frame_layout.specs.Pixel.{bytes_of};
+ghost use Rattle.v_frame_layout.specs.Laws.{IsQuotient, HasChromaSize};
+ghost use Rattle.v_frame_layout.specs.Chroma.{subsampled};
+ghost use Rattle.v_frame_layout.specs.declared.chroma.ChromaSubsampling.{ChromaSubsampling};
+ghost use Rattle.v_frame_layout.specs.Geometry.{Geometry};
+ghost use Rattle.v_frame_layout.specs.Table.{Table};
+
+use crate::geometry::PlaneGeometry;
+use crate::pixel::Pixel;
+use std::cmp::Ordering;
+
+/// A pixel's value leads back to the pixel: where some pixel has this value, that pixel is the answer.
+pub fn pixel_of_value<T: Pixel>(value: u16) -> Option<T>
+    ensures { (p : T) → T.form.value p < 256 ^ T.BYTES → T.form.value p ≡ value → result ≡ Some p }
+{
+    T::try_from_u16(value)
+}
+
+/// A pixel's bytes lead back to the pixel: where some pixel has these bytes, that pixel is the answer.
+pub fn pixel_of_bytes<T: Pixel>(bytes: &[u8]) -> T
+    requires { length bytes.now ≡ T.BYTES }
+    ensures { (p : T) → T.form.value p < 256 ^ T.BYTES
+        → bytes.now ≡ bytes_of T.BYTES (T.form.value p) → result ≡ p }
+{
+    T::from_le(bytes)
+}
+
+/// Pixels are equal exactly where their values are.
+pub fn pixels_are_equal<T: Pixel>(p: T, q: T) -> bool
+    ensures { IsTrue result ↔ (T.form.value p ≡ T.form.value q) }
+{
+    p == q
+}
+
+/// Pixels are in the order of their values.
+pub fn pixels_compare<T: Pixel>(p: T, q: T) -> Ordering
+    ensures { result ≡ nat_cmp (T.form.value p) (T.form.value q) }
+{
+    p.cmp(&q)
+}
+
+/// Pixels of one value are hashed alike.
+pub fn pixels_hash<T: Pixel>()
+    ensures { (p q : T) → T.form.value p ≡ T.form.value q → T.hash_input p ≡ T.hash_input q }
+{}
+
+/// Tables of as many rows are equal where they agree row by row: what a loop over rows has done, told as one table.
+pub fn tables_agree_by_rows<T>()
+    ensures { (table other : Table T) → length table ≡ length other
+        → ((y : ℕ) → y < length table → slice_get table y ≡ slice_get other y) → table ≡ other }
+{}
+
+/// Geometries are equal exactly where their sizes, paddings and ratios are.
+pub fn geometries_are_equal(g: PlaneGeometry, h: PlaneGeometry) -> bool
+    ensures { IsTrue result ↔ (g ≡ h) }
+{
+    g == h
+}
+
+/// A number divides by a ratio exactly where some number times the ratio is that number, which is then the quotient.
+pub fn quotients_are_exact()
+    ensures { (a ratio : ℕ) → 0 < ratio → IsQuotient a ratio }
+{}
+
+/// Where a luma geometry has a chroma geometry, that has the size of the chroma planes, and its buffer is no larger.
+pub fn chroma_sizes_agree()
+    ensures { (s : ChromaSubsampling) (luma chroma : Geometry)
+        → subsampled s luma ≡ Ok (Some chroma) → HasChromaSize s luma chroma }
+{}

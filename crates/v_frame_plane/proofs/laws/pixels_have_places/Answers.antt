@@ -1,0 +1,5 @@
+use Rattle.v_frame_plane.proofs.OwnPlaces.{has_places}
+use Rattle.v_frame_plane.proofs.laws.pixels_have_places.Goals as goal
+
+pub returns : goal.returns
+returns c = has_places

@@ -1,0 +1,33 @@
+-- What is written through the loan is written at the place.
+use Rattle.std.proofs.Common.{◌≡◌, ◌≤◌, None, slice_get, refl, sym, ap, ◌∙◌, arith}
+use Rattle.std.proofs.lemmas.Option.{slice_get_past}
+use Rattle.std.specs.Option.{ghost_name_of}
+use borrow.Follows.Closed.{read_of}
+use Rattle.v_frame_layout.specs.Geometry.{alloc_size_of, place_of}
+use Rattle.v_frame_plane.specs.Plane.{Raster, raster}
+use Rattle.v_frame_plane.proofs.Places.{past_counting}
+use Rattle.v_frame_plane.proofs.Writes.{set_at, none_past}
+use Rattle.v_frame_plane.proofs.plane.Plane.checked_entry_mut.Goals as goal
+
+pub returns : goal.returns
+returns g c =
+    let p : Raster g.row.T.Denot = raster c.self.inside.geometry c.self.inside.buffer in
+    let place = c.in_ok-place.place in
+    let at : place ≡ place_of p.geometry c.args.x c.args.y = c.in_ok-place.ensures.1 in
+    let past = rw (c.self.invariant.whole, at) at (none_past c.get_mut.result p.buffer place c.get_mut.ensures.value) in
+    rw (← c.self.view_is) (
+      λ i. read_of (ghost_name_of c.get_mut.result) (λ w. set_at p c.args.x c.args.y place w at i) p,
+      record { writes_back = tt; value = c.get_mut.ensures.value ∙ ap (slice_get p.buffer) at; none = past },
+    )
+
+-- a place that can't be counted lies past the buffer
+pub returns-in_err-place : goal.returns-in_err-place
+returns-in_err-place g c =
+    let p : Raster g.row.T.Denot = raster c.self.inside.geometry c.self.inside.buffer in
+    let fits = c.self.invariant.fits in
+    let past : alloc_size_of p.geometry ≤ place_of p.geometry c.args.x c.args.y = past_counting _ _ c.in_err-place.ensures (omega arith) in
+    let none : slice_get p.buffer (place_of p.geometry c.args.x c.args.y) ≡ None = slice_get_past p.buffer (place_of p.geometry c.args.x c.args.y) (omega (arith, c.self.invariant.whole)) in
+    rw (c.from_residual.ensures, ← c.self.view_is) (
+      refl,
+      record { writes_back = tt; value = sym none; none = (λ _. past, λ _. refl) },
+    )

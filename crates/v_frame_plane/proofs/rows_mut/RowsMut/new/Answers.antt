@@ -1,0 +1,24 @@
+-- The rows ahead of the origin are the visible ones, and lie in the buffer.
+use Rattle.std.proofs.Common.{◌-◌, arith}
+use Rattle.v_frame_plane.specs.Plane.{raster}
+use Rattle.v_frame_plane.proofs.Cursors.{visible_rows, rows_within, few_rows}
+use Rattle.v_frame_plane.proofs.rows_mut.RowsMut.new.Goals as goal
+
+pub invariant_of-result : goal.invariant_of-result
+invariant_of-result g c =
+    let valid = c.width-width.ensures.valid in
+    record {
+      within = record {
+        wide = omega (arith, valid.wide);
+        stride = omega (arith, valid.stride_fits);
+        within = λ _. omega (arith, rows_within c.args.geometry c.data_origin.result c.width-width.result (c.stride.result - c.width-width.result) c.height.result valid.high c.data_origin.ensures.value c.width-width.ensures.value (omega arith) c.height.ensures.value);
+      };
+    }
+
+pub returns-clause-rows : goal.returns-clause-rows
+returns-clause-rows g c =
+    visible_rows c.args.geometry c.args.buffer.now c.data_origin.result c.width-width.result (c.stride.result - c.width-width.result) c.height.result c.data_origin.ensures.value c.width-width.ensures.value (omega arith) c.height.ensures.value
+
+pub returns-clause-bound : goal.returns-clause-bound
+returns-clause-bound g c =
+    rw (returns-clause-rows g c) (few_rows (raster c.args.geometry c.args.buffer.now) c.width-width.ensures.valid.wide c.requires.fits)

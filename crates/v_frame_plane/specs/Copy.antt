@@ -1,0 +1,64 @@
+-- What a copy into a plane answers, and the table that it leaves.
+use Rattle.std.specs.Prelude.{ℕ, ◌≡◌, ◌*◌, nat_lt, ◌==◌, if◌then◌else◌, min, List, length, map, take, Result, Ok, Err, OnErr}
+use Rattle.v_frame_layout.specs.Geometry.{usize_max}
+use Rattle.v_frame_layout.specs.Pixel.{PixelForm, pixels_of_bytes}
+use Rattle.v_frame_layout.specs.Table.{Table, width_of, height_of, cut_rows}
+use Rattle.v_frame_plane.specs.Plane.{Raster, table_of, border_of}
+use Rattle.v_frame_plane.specs.declared.error.CopyError.{CopyError}
+use Rattle.v_frame_plane.specs.declared.error.CopyError.TheVariants.{DataLength, InvalidStride}
+
+-- what a copy answers, and the table that it leaves
+pub record CopyOutcome (T : Type 0) : Type 0 where
+  pub answer : Result (Unit {0}) CopyError
+  pub table : Table T
+
+module _ {T : Type 0} where
+  -- a copy of the pixels of source into a table: its length must be that of the table
+  abbrev pub packed_copy : Table T → List T → CopyOutcome T
+  packed_copy table source =
+      let pixels : ℕ = width_of table * height_of table in
+      if length source == pixels
+      then record { answer = Ok tt; table = cut_rows (width_of table) (height_of table) source }
+      else record { answer = Err (DataLength pixels (length source)); table = table }
+
+-- a source cut into pieces of a stride, of each piece its front: what stands behind the front is
+-- the tail of the piece
+abbrev pub piece_fronts : {S : Type 0} → ℕ → ℕ → ℕ → List S → List (List S)
+piece_fronts front stride pieces source = map (take front) (cut_rows stride pieces source)
+
+module _ {T : Type 0} (form : PixelForm T) where
+  -- the table of a source with a stride, which is counted in bytes
+  abbrev pub strided_table : ℕ → ℕ → ℕ → List ℕ → Table T
+  strided_table width height stride source =
+      map (pixels_of_bytes form width) (piece_fronts (width * form.size) stride height source)
+
+  -- a copy of the bytes of a source with a stride into a table: a row must fit the stride, and the
+  -- source must have a
+  -- piece of the stride for each row, the tail of the last row too
+  abbrev pub strided_copy : Table T → List ℕ → ℕ → CopyOutcome T
+  strided_copy table source stride =
+      let width : ℕ = width_of table in
+      let height : ℕ = height_of table in
+      if nat_lt stride (width * form.size)
+      then record { answer = Err (InvalidStride stride width); table = table }
+      else (if length source == stride * height
+      then record { answer = Ok tt; table = strided_table width height stride source }
+      else record {
+        answer = Err (DataLength (min (stride * height) usize_max) (length source));
+        table = table;
+      })
+
+  -- a copy of bytes without tails: the stride is that of a row
+  abbrev pub packed_byte_copy : Table T → List ℕ → CopyOutcome T
+  packed_byte_copy table source = strided_copy table source (width_of table * form.size)
+
+-- a copy into a plane answers and leaves what its outcome says. The border and the geometry are as
+-- before, and where it was
+-- refused the whole plane is
+pub record Copies {T : Type 0} (old new : Raster T) (result : Result (Unit {0}) CopyError)
+    (outcome : CopyOutcome T) : Type 0 where
+  pub answer : result ≡ outcome.answer
+  pub table : table_of new ≡ outcome.table
+  pub border : border_of new ≡ border_of old
+  pub geometry : new.geometry ≡ old.geometry
+  pub refused : OnErr result (new ≡ old)

@@ -1,0 +1,31 @@
+-- What a plane ends as, where a `&mut` into its buffer was lent.
+use Rattle.std.specs.Prelude.{ℕ, ◌≡◌, List, length, Option, IfSome}
+use Rattle.std.specs.Borrow.{Lends, LendsIf, LendsSo, Fml, RattleType, MutBor, Array}
+use Rattle.v_frame_plane.specs.Plane.{Raster, WritesRow, with_row, with_entry, with_entries}
+use Rattle.v_frame_plane.specs.contracts.plane.Plane.{the_row}
+
+module _ (T : RattleType) (plane : MutBor (Raster T.Denot)) where
+  -- once the borrow r ends, the buffer is what r shows last
+  abbrev pub LendsBuffer : MutBor (List T.Denot) → Fml
+  LendsBuffer r = Lends (the_row T) (Array T 0) plane r (with_entries plane.now)
+
+  -- once the borrow r ends, the entries where row y lies are what r shows last
+  abbrev pub LendsVisibleRow : ℕ → MutBor (List T.Denot) → Fml
+  LendsVisibleRow y r = Lends (the_row T) (Array T 0) plane r (with_row plane.now y)
+
+  -- once the borrow r ends, row y of the table is what r shows last, and all else is as before; r
+  -- keeps its length
+  abbrev pub LendsRow : ℕ → Option (MutBor (List T.Denot)) → Fml
+  LendsRow y r =
+      LendsSo (the_row T) (Array T 0) plane r
+      (λ new row. IfSome r (λ lent. length row ≡ length lent.now → WritesRow plane.now y new row))
+      (λ new. new ≡ plane.now)
+
+  -- once the borrow r ends, the entry at the place of (x, y) is what r shows last, and all else is
+  -- as before
+  abbrev pub LendsVisiblePixel : ℕ → ℕ → MutBor T.Denot → Fml
+  LendsVisiblePixel x y r = Lends (the_row T) T plane r (with_entry plane.now x y)
+
+  -- the same, where there is such an entry; else nothing is lent, and the plane is as before
+  abbrev pub LendsPixel : ℕ → ℕ → Option (MutBor T.Denot) → Fml
+  LendsPixel x y r = LendsIf (the_row T) T plane r (with_entry plane.now x y) plane.now

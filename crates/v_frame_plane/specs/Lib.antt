@@ -1,0 +1,9 @@
+pub mod AlignedData
+pub mod Copy
+pub mod Cursor
+pub mod Cut
+pub mod Laws
+pub mod Lends
+pub mod PixelsLeft
+pub mod Plane
+pub mod RowsLeft

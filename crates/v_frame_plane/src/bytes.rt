@@ -1,0 +1,148 @@
+//! The iterator over the bytes of the visible pixels of a plane.
+ghost use Rattle.std.specs.Prelude.{◌≡◌, ◌*◌, ◌^◌, ◌<◌, length, Some, IfSome, ⊤};
+ghost use Rattle.std.specs.Iterator.{at_most, UpTo};
+ghost use Rattle.std.specs.Iterator.SizeHint.{IsWithinCount};
+ghost use Rattle.std.specs.Map.Iter.{TakesFirst, TakesLast};
+ghost use Rattle.v_frame_plane.specs.Plane.{table_of};
+ghost use Rattle.v_frame_layout.specs.Pixel.{byte_list};
+
+use crate::pixels::Pixels;
+use crate::plane_ref::PlaneRef;
+use std::alloc::AllocError;
+use std::fmt;
+use std::iter::FusedIterator;
+use std::marker::Model;
+use v_frame_layout::pixel::Pixel;
+
+/// The bytes of the visible pixels of a plane, pixel after pixel, each with its low byte first, from both ends.
+///
+/// From the back the high byte of the last pixel comes first. A pixel that was begun from one end may be finished from
+/// the other. A contract sees the iterator as the list of the bytes that are left. Stands for the iterator of
+/// `Plane::byte_data` of `v_frame` 0.7.0.
+#[derive(Drop)]
+pub struct ByteData<'a, T: Pixel> {
+    // The pixel whose low byte was drawn, the pixels that were not begun, and the one whose high byte was drawn.
+    front: Option<T>,
+    pixels: Pixels<'a, T>,
+    back: Option<T>,
+}
+
+impl<'a, T: Pixel> Model for ByteData<'a, T> {
+    ghost use Rattle.std.specs.Prelude.{List, ℕ};
+    ghost use Rattle.v_frame_plane.specs.Cursor.{bytes_ahead, PixelsAreBegun};
+
+    ghost Value = { List ℕ };
+
+    ghost view = { λ a. bytes_ahead T.form a.front a.pixels a.back };
+
+    ghost invariant = { λ a. PixelsAreBegun T.form.size a.front a.pixels a.back };
+}
+
+impl<'a, T: Pixel> ByteData<'a, T> {
+    /// The bytes of the visible pixels of a plane.
+    pub(crate) fn new(plane: &PlaneRef<'a, T>) -> Self
+        ensures bytes { result ≡ byte_list T.form (table_of plane.now) }
+        ensures count { length result
+            ≡ plane.now.geometry.width * plane.now.geometry.height * T.form.size }
+        ensures bound { length result < 2 ^ 63 }
+    {
+        ByteData {
+            front: None,
+            pixels: Pixels::new(plane),
+            back: None,
+        }
+    }
+
+    /// The same iterator once more.
+    fn again(&self) -> Self
+        ensures { result ≡ self.now }
+    {
+        ByteData {
+            front: self.front,
+            pixels: self.pixels.again(),
+            back: self.back,
+        }
+    }
+}
+
+impl<'a, T: Pixel> Iterator for ByteData<'a, T> {
+    type Item = u8;
+
+    ghost next_gives = { TakesFirst (λ byte. byte) };
+
+    ghost remaining = { λ bytes. at_most (length bytes) };
+
+    #[inline]
+    fn next(&mut self) -> Option<u8> {
+        if let Some(pixel) = self.front.take() {
+            return Some(pixel.le_byte(1));
+        }
+        match self.pixels.next() {
+            Some(pixel) => {
+                if T::BYTES == 2 {
+                    self.front = Some(pixel);
+                }
+                Some(pixel.le_byte(0))
+            }
+            None => Some(self.back.take()?.le_byte(0)),
+        }
+    }
+
+    #[inline]
+    fn size_hint(&self) -> (usize, Option<usize>)
+        ensures lower { IsWithinCount result.0 (at_most (length self.now)) }
+        ensures upper { IfSome result.1 (UpTo (at_most (length self.now))) }
+        ensures exact { result ≡ (length self.now, Some (length self.now)) }
+    {
+        let len = self.len();
+        (len, Some(len))
+    }
+}
+
+impl<'a, T: Pixel> DoubleEndedIterator for ByteData<'a, T> {
+    ghost next_back_gives = { TakesLast (λ byte. byte) };
+
+    #[inline]
+    fn next_back(&mut self) -> Option<u8> {
+        if let Some(pixel) = self.back.take() {
+            return Some(pixel.le_byte(0));
+        }
+        match self.pixels.next_back() {
+            Some(pixel) => {
+                if T::BYTES == 2 {
+                    self.back = Some(pixel);
+                }
+                Some(pixel.le_byte(T::BYTES - 1))
+            }
+            None => Some(self.front.take()?.le_byte(1)),
+        }
+    }
+}
+
+impl<'a, T: Pixel> ExactSizeIterator for ByteData<'a, T> {
+    #[inline]
+    fn len(&self) -> usize {
+        usize::from(self.front.is_some())
+            + self.pixels.len() * T::BYTES
+            + usize::from(self.back.is_some())
+    }
+}
+
+impl<'a, T: Pixel> FusedIterator for ByteData<'a, T> {}
+
+impl<'a, T: Pixel> Clone for ByteData<'a, T> {
+    ghost is_clone = { λ bytes copy. copy ≡ bytes };
+
+    ghost is_infallible = { λ _. ⊤ };
+
+    fn clone(&self) -> Result<Self, AllocError> {
+        Ok(self.again())
+    }
+}
+
+/// The bytes that are left, as a list.
+impl<'a, T: Pixel> fmt::Debug for ByteData<'a, T> {
+    fn fmt<W: fmt::Write>(&self, f: &mut fmt::Formatter<W>) -> fmt::Result {
+        f.debug_list().entries(self.again()).finish()
+    }
+}

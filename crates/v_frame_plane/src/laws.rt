@@ -1,0 +1,87 @@
+//! Laws of places, planes and the bytes in them: what callers may rely on beyond a single call.
+//!
+//! Each function makes the calls that its law speaks of, and its contract is the law. A law of the definitions alone has
+//! an empty body. Our own.
+ghost use Rattle.std.specs.Prelude.{All, List, ℕ, ◌≡◌, ◌*◌, ◌<◌, ◌≤◌, ◌↔◌, IsTrue};
+ghost use Rattle.v_frame_layout.specs.Geometry.{Geometry, usize_max};
+ghost use Rattle.v_frame_layout.specs.Pixel.{one_byte};
+ghost use Rattle.v_frame_layout.specs.Table.{Table, width_of, height_of, row_major};
+ghost use Rattle.v_frame_plane.specs.Plane.{Raster, table_of};
+ghost use Rattle.v_frame_plane.specs.Copy.{Copies, packed_copy, piece_fronts, strided_copy, packed_byte_copy};
+ghost use Rattle.v_frame_plane.specs.Laws.{DeterminesBuffer, HasPlaces, HasMarks, HoldsPixels, IsMadeOfEntries, ComesBack};
+
+use crate::plane::{CopyError, Plane};
+use v_frame_layout::pixel::Pixel;
+
+/// The geometry, the table and the border of a plane together determine its buffer.
+pub fn buffer_is_determined<T: Pixel>()
+    ensures { DeterminesBuffer T }
+{}
+
+/// Each visible pixel of a plane has a place of its own, in the buffer and in no piece of the border.
+pub fn pixels_have_places()
+    ensures { (g : Geometry) → HasPlaces g }
+{}
+
+/// The entry at the place of a visible pixel is that pixel.
+pub fn places_hold_pixels<T: Pixel>()
+    ensures { (p : Raster T) → HoldsPixels p }
+{}
+
+/// The mark of the place in each row and column of a buffer: visible inside the rectangle, and else border. Past the buffer
+/// there is none.
+pub fn places_have_marks()
+    ensures { (g : Geometry) → HasMarks g }
+{}
+
+/// Planes of one geometry that hold the same entries at their visible places show the same table, and planes that hold the
+/// same at their border places have the same border.
+pub fn alike_entries_show_alike<T: Pixel>()
+    ensures { (p q : Raster T) → p.geometry ≡ q.geometry → IsMadeOfEntries p q }
+{}
+
+/// Planes are equal exactly where their geometries and their whole buffers are, the borders too.
+pub fn planes_are_equal<T: Pixel>(p: &Plane<T>, q: &Plane<T>) -> bool
+    ensures { IsTrue result ↔ (p.now.geometry ≡ q.now.geometry) × (p.now.buffer ≡ q.now.buffer) }
+{
+    p == q
+}
+
+/// The bytes of a packed source are those of the table that its copy leaves, where it was not refused.
+pub fn bytes_come_back<T: Pixel>()
+    ensures { (table : Table T) (source : List ℕ) → All (λ byte. byte < 256) source
+        → ComesBack T.form source (packed_byte_copy T.form table source) }
+{}
+
+/// The bytes of a source with a stride are those of the table that its copy leaves, but for the tails of the rows, where it
+/// was not refused.
+pub fn bytes_come_back_without_tails<T: Pixel>()
+    ensures { (table : Table T) (source : List ℕ) (stride : ℕ) → All (λ byte. byte < 256) source
+        → ComesBack T.form (row_major (piece_fronts (width_of table * T.form.size) stride
+        (height_of table) source)) (strided_copy T.form table source stride) }
+{}
+
+/// For pixels of one byte the packed copy of bytes is the packed copy of pixels, where the pixels of the table can be counted.
+pub fn packed_outcomes_agree()
+    ensures { (table : Table ℕ) (source : List ℕ)
+        → width_of table * height_of table ≤ usize_max
+        → packed_byte_copy one_byte table source ≡ packed_copy table source }
+{}
+
+/// Into equal planes of one-byte pixels the packed copies of pixels and of bytes do the same, and they leave equal planes.
+pub fn packed_copies_agree(
+    left: &mut Plane<u8>,
+    right: &mut Plane<u8>,
+    src: &[u8],
+) -> (Result<(), CopyError>, Result<(), CopyError>)
+    requires { left.old ≡ right.old }
+    ensures pixels { Copies left.old left.new result.0 (packed_copy (table_of left.old) src.now) }
+    ensures bytes { Copies right.old right.new result.1 (packed_copy (table_of right.old) src.now) }
+    ensures planes { left.new ≡ right.new }
+{
+    let of_pixels = left.copy_from_slice(src);
+    let of_bytes = right.copy_from_u8_slice(src);
+    // Buffers of one geometry, which are whole, are equal where tables and borders are.
+    let (_left, _right) = (left.data(), right.data());
+    (of_pixels, of_bytes)
+}

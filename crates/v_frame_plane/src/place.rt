@@ -1,0 +1,44 @@
+//! Where the visible pixels of a geometry lie in its buffer.
+ghost use Rattle.std.specs.Prelude.{◌≡◌, ◌+◌, ◌*◌, ◌<◌, ◌≤◌, SomeIff};
+ghost use Rattle.v_frame_layout.specs.Geometry.{alloc_size_of, IsGeometry, Fits, usize_max, place_of};
+
+use v_frame_layout::geometry::PlaneGeometry;
+
+/// The place of the first pixel of row `y`.
+pub fn row_start(geometry: PlaneGeometry, y: usize) -> usize
+    requires fits { Fits geometry }
+    requires inside { y < geometry.height }
+    ensures place { result ≡ place_of geometry 0 y }
+    ensures within { result + geometry.width ≤ alloc_size_of geometry }
+{
+    geometry.data_origin() + geometry.stride() * y
+}
+
+/// The place of a visible pixel.
+pub fn visible_place(geometry: PlaneGeometry, x: usize, y: usize) -> usize
+    requires fits { Fits geometry }
+    requires wide { x < geometry.width }
+    requires high { y < geometry.height }
+    ensures place { result ≡ place_of geometry x y }
+    ensures within { result < alloc_size_of geometry }
+{
+    row_start(geometry, y) + x
+}
+
+/// The number of visible pixels.
+pub fn visible_size(geometry: PlaneGeometry) -> usize
+    requires { Fits geometry }
+    ensures value { result ≡ geometry.width * geometry.height }
+    ensures valid { IsGeometry geometry }
+{
+    geometry.width() * geometry.height()
+}
+
+/// The place of (x, y), which may lie past the buffer, where it can be counted.
+pub fn checked_place(geometry: PlaneGeometry, x: usize, y: usize) -> Option<usize>
+    requires { Fits geometry }
+    ensures { let place = place_of geometry x y in SomeIff result (place ≤ usize_max) place }
+{
+    let row = geometry.stride().checked_mul(y)?;
+    row.checked_add(x)?.checked_add(geometry.data_origin())
+}

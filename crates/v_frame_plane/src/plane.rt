@@ -1,0 +1,400 @@
+//! Planes: one component of a frame each.
+//!
+//! A [`Plane`] is a rectangle of visible pixels inside a border, all in one buffer, row after row from the top:
+//!
+//! ```text
+//!              stride = pad_left + width + pad_right
+//!     +-----------------------------------------------+
+//!     |                    pad_top                    |
+//!     +----------+------------------------+-----------+
+//!     |          |o (0, 0)                |           |
+//!     | pad_left |    width by height     | pad_right |
+//!     |          |     visible pixels     |           |
+//!     +----------+------------------------+-----------+
+//!     |                  pad_bottom                   |
+//!     +-----------------------------------------------+
+//!       o stands at the place data_origin of the buffer, (x, y) at data_origin + stride * y + x
+//! ```
+//!
+//! What a plane shows is the table of its visible rows. All that [`copy_from_slice`](Plane::copy_from_slice),
+//! [`row_mut`](Plane::row_mut), the iterators and the other visible calls write is the table; the border is reached by
+//! [`data_mut`](Plane::data_mut), and by [`pixel_mut`](Plane::pixel_mut) past the visible width. [`PlaneRef`] reads a
+//! plane whose buffer is kept elsewhere.
+ghost use Rattle.std.specs.Prelude.{All, List, ℕ, ◌≡◌, ◌*◌, ◌^◌, ◌<◌, ◌≤◌, ◌↔◌, length, IsNone, IfOk, IfSome, Some, slice_get, option_copied};
+ghost use Rattle.std.specs.Map.Iter.{ShowsInOrder, ShowsInReverse, GivesInOrder, GivesInReverse, deref};
+ghost use Rattle.v_frame_layout.specs.Geometry.{alloc_size_of, Fits, place_of};
+ghost use Rattle.v_frame_layout.specs.Pixel.{byte_list};
+ghost use Rattle.v_frame_layout.specs.Table.{width_of, height_of, pixel_at, row_major};
+ghost use Rattle.v_frame_plane.specs.Plane.{filled, table_of};
+
+mod copies;
+mod options;
+
+use crate::aligned::AlignedData;
+pub use crate::bytes::ByteData;
+pub use crate::error::CopyError;
+pub use crate::pixels::Pixels;
+pub use crate::pixels_mut::PixelsMut;
+use crate::place::{checked_place, row_start, visible_place};
+pub use crate::plane_ref::PlaneRef;
+pub use crate::rows::Rows;
+pub use crate::rows_mut::RowsMut;
+use std::alloc::{AllocError, Global};
+use std::fmt;
+use std::marker::Model;
+pub use v_frame_layout::geometry::{PlaneGeometry, SubsamplingError};
+use v_frame_layout::pixel::Pixel;
+
+/// A rectangle of visible pixels inside a border, in one buffer.
+///
+/// Rows are counted from the top and columns from the left, both from 0. Planes are equal where their geometries and their
+/// whole buffers are, the borders too. Ports `Plane` of `v_frame` 0.7.0.
+#[derive(Drop)]
+pub struct Plane<T> {
+    geometry: PlaneGeometry,
+    buffer: AlignedData<T>,
+}
+
+impl<T> Model for Plane<T> {
+    ghost use Rattle.v_frame_plane.specs.Plane.{Raster, IsWhole};
+
+    ghost Value = { Raster T };
+
+    ghost view = { λ a. record { geometry = a.geometry; buffer = a.buffer } };
+
+    ghost invariant = { λ a. IsWhole a.geometry a.buffer };
+}
+
+impl<T> Plane<T> {
+    ghost use Rattle.std.specs.Borrow.{sem};
+    ghost use Rattle.std.specs.Option.{option_copied_mut};
+    ghost use Rattle.v_frame_plane.specs.Plane.{WritesEachRow, WritesEachPixel};
+    ghost use Rattle.v_frame_plane.specs.Lends.{LendsBuffer, LendsRow, LendsVisibleRow, LendsVisiblePixel};
+    ghost use Rattle.v_frame_plane.specs.RowsLeft.{rows_left, rows_slice, LendsRowsInOrder, LendsRowsInReverse};
+    ghost use Rattle.v_frame_plane.specs.PixelsLeft.{pixels_left, pixels_slice, LendsPixelsInOrder, LendsPixelsInReverse};
+
+    /// The plane, lent for reading. Our own.
+    pub fn as_plane_ref(&self) -> PlaneRef<'_, T>
+        ensures { result ≡ self.now }
+    {
+        PlaneRef::of_parts(self.geometry, self.buffer.as_slice())
+    }
+
+    /// The visible width in pixels, never zero.
+    ///
+    /// Ports `Plane::width` of `v_frame` 0.7.0.
+    pub fn width(&self) -> usize
+        ensures value { result ≡ self.now.geometry.width }
+        ensures positive { 0 < result }
+        ensures table { result ≡ width_of (table_of self.now) }
+        ensures rows { All (λ row. length row ≡ result) (table_of self.now) }
+    {
+        self.as_plane_ref().width()
+    }
+
+    /// The visible height in pixels, never zero.
+    ///
+    /// Ports `Plane::height` of `v_frame` 0.7.0.
+    pub fn height(&self) -> usize
+        ensures value { result ≡ self.now.geometry.height }
+        ensures positive { 0 < result }
+        ensures table { result ≡ height_of (table_of self.now) }
+    {
+        self.as_plane_ref().height()
+    }
+
+    /// The layout of the plane. Its [`checked_alloc_size`](PlaneGeometry::checked_alloc_size) is `Some`.
+    ///
+    /// Ports `Plane::geometry` of `v_frame` 0.7.0, which a feature switches there.
+    pub fn geometry(&self) -> PlaneGeometry
+        ensures value { result ≡ self.now.geometry }
+        ensures fits { Fits result }
+    {
+        self.as_plane_ref().geometry()
+    }
+
+    /// The whole buffer, row after row from the top, with the border.
+    ///
+    /// Ports `Plane::data` of `v_frame` 0.7.0, which a feature switches there.
+    pub fn data(&self) -> &[T]
+        ensures value { result.now ≡ self.now.buffer }
+        ensures whole { length result.now ≡ alloc_size_of self.now.geometry }
+    {
+        self.as_plane_ref().data()
+    }
+
+    /// The whole buffer for writing, the border too.
+    ///
+    /// Ports `Plane::data_mut` of `v_frame` 0.7.0, which a feature switches there.
+    pub fn data_mut(&mut self) -> &mut [T]
+        ensures* writes_back { sem 𝓛 (LendsBuffer T.row self.entry result) }
+        ensures value { result.now ≡ self.old.buffer }
+        ensures whole { length result.now ≡ alloc_size_of self.old.geometry }
+    {
+        self.buffer.as_mut_slice()
+    }
+
+    /// The visible pixels of row `y`. `None` exactly below the visible rectangle.
+    ///
+    /// Ports `Plane::row` of `v_frame` 0.7.0.
+    pub fn row(&self, y: usize) -> Option<&[T]>
+        ensures value { option_copied result ≡ slice_get (table_of self.now) y }
+        ensures none { IsNone result ↔ (self.now.geometry.height ≤ y) }
+        ensures wide { IfSome result (λ row. length row.now ≡ self.now.geometry.width) }
+    {
+        self.as_plane_ref().row(y)
+    }
+
+    /// The visible pixels of row `y` for writing. `None` exactly below the visible rectangle.
+    ///
+    /// What is written through it is lost to the proof of a caller, since the toolchain follows no `Option` of a slice for
+    /// writing: where the table that is left has to be proved, [`visible_row_mut`](Self::visible_row_mut) lends the same.
+    ///
+    /// Ports `Plane::row_mut` of `v_frame` 0.7.0.
+    pub fn row_mut(&mut self, y: usize) -> Option<&mut [T]>
+        ensures* writes_back { sem 𝓛 (LendsRow T.row self.entry y result) }
+        ensures value { option_copied_mut result ≡ slice_get (table_of self.old) y }
+        ensures none { IsNone result ↔ (self.old.geometry.height ≤ y) }
+        ensures wide { IfSome result (λ row. length row.now ≡ self.old.geometry.width) }
+    {
+        if y >= self.height() {
+            return None;
+        }
+        Some(self.visible_row_mut(y))
+    }
+
+    /// The visible pixels of row `y` for writing, where that row is visible: [`height`](Self::height) tells.
+    ///
+    /// Our own, beside [`row_mut`](Self::row_mut): a caller's proof follows what is written through it.
+    pub fn visible_row_mut(&mut self, y: usize) -> &mut [T]
+        requires { y < self.old.geometry.height }
+        ensures* writes_back { sem 𝓛 (LendsVisibleRow T.row self.entry y result) }
+        ensures value { slice_get (table_of self.old) y ≡ Some result.now }
+        ensures written { WritesEachRow self.old y result.now }
+        ensures wide { length result.now ≡ self.old.geometry.width }
+    {
+        let geometry = self.geometry;
+        let start = row_start(geometry, y);
+        self.buffer.part_mut(start, start + geometry.width())
+    }
+
+    /// The visible rows, from the top, from both ends.
+    ///
+    /// Ports `Plane::rows` of `v_frame` 0.7.0.
+    pub fn rows(&self) -> Rows<'_, T>
+        ensures rows { result ≡ table_of self.now }
+        ensures wide { All (λ row. length row ≡ self.now.geometry.width) result }
+        ensures bound { length result < 2 ^ 63 }
+        ensures runs { ShowsInOrder (deref {X = List T}) }
+        ensures runs_back { ShowsInReverse (deref {X = List T}) }
+    {
+        self.as_plane_ref().rows()
+    }
+
+    /// The visible rows for writing, from the top, from both ends.
+    ///
+    /// Rows may be held while others are drawn, and written in any order, after the iterator is gone too. What writing
+    /// through them leaves is in no clause yet.
+    ///
+    /// Ports `Plane::rows_mut` of `v_frame` 0.7.0.
+    pub fn rows_mut(&mut self) -> RowsMut<'_, T>
+        ensures* writes_back { sem 𝓛 (LendsBuffer T.row self.entry (rows_slice result)) }
+        ensures slice { (rows_slice result).now ≡ self.old.buffer }
+        ensures rows { rows_left result ≡ table_of self.old }
+        ensures wide { All (λ row. length row ≡ self.old.geometry.width) (rows_left result) }
+        ensures bound { length (rows_left result) < 2 ^ 63 }
+        ensures runs { LendsRowsInOrder T }
+        ensures runs_back { LendsRowsInReverse T }
+    {
+        let geometry = self.geometry;
+        RowsMut::new(geometry, self.buffer.as_mut_slice())
+    }
+
+    /// A visible pixel for writing, where column `x` of row `y` is visible: [`width`](Self::width) and
+    /// [`height`](Self::height) tell.
+    ///
+    /// Our own, beside [`pixel_mut`](Self::pixel_mut). To write many pixels, write by rows: it takes a small part of the
+    /// time.
+    pub fn visible_pixel_mut(&mut self, x: usize, y: usize) -> &mut T
+        requires wide { x < self.old.geometry.width }
+        requires high { y < self.old.geometry.height }
+        ensures* writes_back { sem 𝓛 (LendsVisiblePixel T.row self.entry x y result) }
+        ensures value { slice_get self.old.buffer (place_of self.old.geometry x y)
+            ≡ Some result.now }
+        ensures within { place_of self.old.geometry x y < alloc_size_of self.old.geometry }
+        ensures inside { pixel_at (table_of self.old) x y ≡ Some result.now }
+        ensures written { WritesEachPixel self.old x y }
+    {
+        let place = visible_place(self.geometry, x, y);
+        self.buffer.entry_mut(place)
+    }
+
+    /// The visible pixels for writing, row after row from the top, from both ends.
+    ///
+    /// Pixels may be held while others are drawn, and written in any order, after the iterator is gone too. What writing
+    /// through them leaves is in no clause yet. To write whole rows, [`rows_mut`](Self::rows_mut) takes a small part of the
+    /// time.
+    ///
+    /// Ports `Plane::pixels_mut` of `v_frame` 0.7.0.
+    pub fn pixels_mut(&mut self) -> PixelsMut<'_, T>
+        ensures slice { (pixels_slice result).now ≡ self.old.buffer }
+        ensures pixels { pixels_left result ≡ row_major (table_of self.old) }
+        ensures bound { length (pixels_left result) < 2 ^ 63 }
+        ensures runs { LendsPixelsInOrder T }
+        ensures runs_back { LendsPixelsInReverse T }
+    {
+        let geometry = self.geometry;
+        PixelsMut::new(geometry, self.buffer.as_mut_slice())
+    }
+}
+
+impl<T: Pixel> Plane<T> {
+    ghost use Rattle.std.specs.Borrow.{sem};
+    ghost use Rattle.std.specs.Option.{option_copied_mut};
+    ghost use Rattle.v_frame_plane.specs.Plane.{WritesEachPixel};
+    ghost use Rattle.v_frame_plane.specs.Lends.{LendsPixel};
+
+    /// A plane of zeros, in its border too. Our own: private in `v_frame` 0.7.0.
+    ///
+    /// The [`checked_alloc_size`](PlaneGeometry::checked_alloc_size) of the geometry has to be `Some`.
+    ///
+    /// # Errors
+    ///
+    /// [`AllocError`] where the request for the buffer's memory was refused.
+    pub fn new(alloc: Global, geometry: PlaneGeometry) -> Result<Self, AllocError>
+        requires { Fits geometry }
+        ensures { IfOk result (λ plane. plane ≡ filled T.ZERO geometry) }
+    {
+        let buffer = AlignedData::new(alloc, T::ZERO, geometry.alloc_size())?;
+        Ok(Plane { geometry, buffer })
+    }
+
+    /// The entry at the place of column `x` and row `y`. `None` exactly where that place lies past the end of the buffer.
+    ///
+    /// Past the visible width it reaches the border, or the next row where there is none: only the end of the buffer is
+    /// tested, as `Plane::pixel` of `v_frame` 0.7.0 does, which it ports.
+    pub fn pixel(&self, x: usize, y: usize) -> Option<T>
+        ensures value { result ≡ slice_get self.now.buffer (place_of self.now.geometry x y) }
+        ensures none { IsNone result
+            ↔ (alloc_size_of self.now.geometry ≤ place_of self.now.geometry x y) }
+        ensures inside { x < self.now.geometry.width → y < self.now.geometry.height
+            → result ≡ pixel_at (table_of self.now) x y }
+    {
+        self.as_plane_ref().pixel(x, y)
+    }
+
+    /// The entry at the place of column `x` and row `y` for writing. `None` exactly where that place lies past the end of
+    /// the buffer.
+    ///
+    /// As [`pixel`](Self::pixel) it reaches past the visible width. To write many pixels, write by rows: it takes a small
+    /// part of the time. Ports `Plane::pixel_mut` of `v_frame` 0.7.0.
+    pub fn pixel_mut(&mut self, x: usize, y: usize) -> Option<&mut T>
+        ensures* writes_back { sem 𝓛 (LendsPixel T.row self.entry x y result) }
+        ensures value { option_copied_mut result
+            ≡ slice_get self.old.buffer (place_of self.old.geometry x y) }
+        ensures none { IsNone result
+            ↔ (alloc_size_of self.old.geometry ≤ place_of self.old.geometry x y) }
+        ensures inside { x < self.old.geometry.width → y < self.old.geometry.height
+            → option_copied_mut result ≡ pixel_at (table_of self.old) x y }
+        ensures written { x < self.old.geometry.width → y < self.old.geometry.height
+            → WritesEachPixel self.old x y }
+    {
+        if x < self.width() && y < self.height() {
+            return Some(self.visible_pixel_mut(x, y));
+        }
+        self.checked_entry_mut(x, y)
+    }
+
+    /// The entry at the place of (x, y) for writing, `None` past the end of the buffer.
+    fn checked_entry_mut(&mut self, x: usize, y: usize) -> Option<&mut T>
+        ensures* writes_back { sem 𝓛 (LendsPixel T.row self.entry x y result) }
+        ensures value { option_copied_mut result
+            ≡ slice_get self.old.buffer (place_of self.old.geometry x y) }
+        ensures none { IsNone result
+            ↔ (alloc_size_of self.old.geometry ≤ place_of self.old.geometry x y) }
+    {
+        let place = checked_place(self.geometry, x, y)?;
+        self.buffer.get_mut(place)
+    }
+
+    /// The visible pixels, row after row from the top, from both ends.
+    ///
+    /// Ports `Plane::pixels` of `v_frame` 0.7.0.
+    pub fn pixels(&self) -> Pixels<'_, T>
+        ensures pixels { result ≡ row_major (table_of self.now) }
+        ensures count { length result ≡ self.now.geometry.width * self.now.geometry.height }
+        ensures bound { length result < 2 ^ 63 }
+        ensures runs { GivesInOrder T }
+        ensures runs_back { GivesInReverse T }
+    {
+        self.as_plane_ref().pixels()
+    }
+
+    /// The bytes of the visible pixels, row after row from the top, each pixel with its low byte first, from both ends.
+    ///
+    /// Ports `Plane::byte_data` of `v_frame` 0.7.0.
+    pub fn byte_data(&self) -> ByteData<'_, T>
+        ensures bytes { result ≡ byte_list T.form (table_of self.now) }
+        ensures count { length result
+            ≡ self.now.geometry.width * self.now.geometry.height * T.form.size }
+        ensures bound { length result < 2 ^ 63 }
+        ensures runs { GivesInOrder ℕ }
+        ensures runs_back { GivesInReverse ℕ }
+    {
+        self.as_plane_ref().byte_data()
+    }
+}
+
+impl<T: Copy> Plane<T> {
+    /// The same plane in a buffer of its own.
+    ///
+    /// Ports `Plane::clone` of `v_frame` 0.7.0.
+    ///
+    /// # Errors
+    ///
+    /// [`AllocError`] where the request for the buffer's memory was refused.
+    pub fn clone(&self, alloc: Global) -> Result<Self, AllocError>
+        ensures { IfOk result (λ copy. copy ≡ self.now) }
+    {
+        let buffer = self.buffer.clone(alloc)?;
+        Ok(Plane {
+            geometry: self.geometry,
+            buffer,
+        })
+    }
+}
+
+impl<T: PartialEq> PartialEq for Plane<T> {
+    ghost use Rattle.std.specs.Ordering.{on, eq_of_both};
+    ghost use Rattle.std.specs.Cmp.{and_per, on_per};
+    ghost use Rattle.v_frame_layout.specs.contracts.geometry.PlaneGeometryPartialEq.TheImpl.Laws as geometries;
+    ghost use Rattle.std.specs.Cmp.Lexicographic.{pointwise, lists_per};
+
+    ghost eq = { eq_of_both (on (λ p. p.geometry) ⟦<PlaneGeometry as PartialEq>⟧.eq)
+        (on (λ p. p.buffer) (pointwise T.eq)) };
+
+    ghost laws = { and_per (on_per (λ p. p.geometry) geometries.laws-law)
+        (on_per (λ p. p.buffer) (lists_per T.PartialEq.laws)) };
+
+    fn eq(&self, other: &Self) -> bool {
+        self.geometry == other.geometry && self.buffer == other.buffer
+    }
+}
+
+impl<T: Eq> Eq for Plane<T> {
+    ghost use Rattle.std.specs.Cmp.{and_equiv, on_equiv};
+    ghost use Rattle.v_frame_layout.specs.contracts.geometry.PlaneGeometryEq.TheImpl.Laws as geometries;
+    ghost use Rattle.std.specs.Cmp.Lexicographic.{lists_equiv};
+
+    ghost laws = { and_equiv (on_equiv (λ p. p.geometry) geometries.laws-law)
+        (on_equiv (λ p. p.buffer) (lists_equiv T.Eq.laws)) };
+}
+
+impl<T: fmt::Debug> fmt::Debug for Plane<T> {
+    fn fmt<W: fmt::Write>(&self, f: &mut fmt::Formatter<W>) -> fmt::Result {
+        f.debug_struct("Plane")
+            .field("data", &self.buffer)
+            .field("geometry", &self.geometry)
+            .finish()
+    }
+}

@@ -1,0 +1,60 @@
+//! Planes that are filled entry by entry: each place holds a value or none.
+ghost use Rattle.std.specs.Prelude.{◌≡◌, ◌↔◌, None, IsTrue, IfOk, IfErr};
+ghost use Rattle.v_frame_layout.specs.Geometry.{Fits};
+ghost use Rattle.v_frame_plane.specs.Plane.{IsFull, options_of, filled};
+
+use super::{Plane, PlaneGeometry};
+use crate::aligned::AlignedData;
+use std::alloc::{AllocError, Global};
+
+impl<T> Plane<T> {
+    /// A plane with `None` at every place, to be filled through [`data_mut`](Self::data_mut).
+    ///
+    /// The [`checked_alloc_size`](PlaneGeometry::checked_alloc_size) of the geometry has to be `Some`.
+    ///
+    /// Ports `Plane::new_uninit` of `v_frame` 0.7.0, with options in place of entries that may not be read.
+    ///
+    /// # Errors
+    ///
+    /// [`AllocError`] where the request for the buffer's memory was refused.
+    pub fn new_uninit(
+        alloc: Global,
+        geometry: PlaneGeometry,
+    ) -> Result<Plane<Option<T>>, AllocError>
+        requires { Fits geometry }
+        ensures { IfOk result (λ plane. plane ≡ filled None geometry) }
+    {
+        let buffer = AlignedData::without_values(alloc, geometry.alloc_size())?;
+        Ok(Plane { geometry, buffer })
+    }
+}
+
+impl<T> Plane<Option<T>> {
+    /// Whether every place holds a value, in the border too. Our own.
+    pub fn is_init(&self) -> bool
+        ensures { IsTrue result ↔ IsFull self.now }
+    {
+        self.data().iter().all(|entry| entry.is_some())
+    }
+}
+
+impl<T: Drop> Plane<Option<T>> {
+    /// The plane of the values. [`is_init`](Self::is_init) has to be true: each place holds one.
+    ///
+    /// Ports `Plane::assume_init` of `v_frame` 0.7.0, which asks the same of its callers and takes no second buffer.
+    ///
+    /// # Errors
+    ///
+    /// The plane of options as it was, each value in its place, where the request for the second buffer's memory was refused.
+    pub fn assume_init(self, alloc: Global) -> Result<Plane<T>, Self>
+        requires { IsFull self }
+        ensures values { IfOk result (λ plane. options_of plane ≡ self) }
+        ensures kept { IfErr result (λ plane. plane ≡ self) }
+    {
+        let geometry = self.geometry;
+        match self.buffer.into_values(alloc) {
+            Ok(buffer) => Ok(Plane { geometry, buffer }),
+            Err(buffer) => Err(Plane { geometry, buffer }),
+        }
+    }
+}

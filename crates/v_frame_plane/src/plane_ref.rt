@@ -1,0 +1,184 @@
+//! A plane's two parts, lent for reading: a geometry, and a slice that is the whole buffer.
+ghost use Rattle.std.specs.Prelude.{All, List, ℕ, ◌≡◌, ◌^◌, ◌<◌, ◌≤◌, ◌*◌, ◌↔◌, length, IsNone, IfSome, SomeIff, slice_get, option_copied};
+ghost use Rattle.std.specs.Map.Iter.{ShowsInOrder, ShowsInReverse, GivesInOrder, GivesInReverse, deref};
+ghost use Rattle.v_frame_layout.specs.Geometry.{alloc_size_of, Fits, place_of};
+ghost use Rattle.v_frame_layout.specs.Pixel.{byte_list};
+ghost use Rattle.v_frame_layout.specs.Table.{width_of, height_of, pixel_at, row_major};
+ghost use Rattle.v_frame_plane.specs.Plane.{IsWhole, raster, table_of};
+
+use crate::bytes::ByteData;
+use crate::pixels::Pixels;
+use crate::place::{checked_place, row_start, visible_place};
+use crate::rows::Rows;
+use std::fmt;
+use std::marker::Model;
+use v_frame_layout::geometry::PlaneGeometry;
+use v_frame_layout::pixel::Pixel;
+
+/// A plane that is kept elsewhere, for reading: its geometry, and a slice that is its whole buffer.
+///
+/// The slice may belong to a decoder's picture, to a file in memory or to an array of one's own; a
+/// [`Plane`](crate::plane::Plane) lends itself by [`as_plane_ref`](crate::plane::Plane::as_plane_ref). Contracts see a
+/// `PlaneRef` as a plane. Our own.
+#[derive(Drop)]
+pub struct PlaneRef<'a, T> {
+    geometry: PlaneGeometry,
+    buffer: &'a [T],
+}
+
+impl<'a, T> Model for PlaneRef<'a, T> {
+    ghost use Rattle.v_frame_plane.specs.Plane.{Raster, IsWhole};
+
+    ghost Value = { Raster T };
+
+    ghost view = { λ a. record { geometry = a.geometry; buffer = a.buffer.now } };
+
+    ghost invariant = { λ a. IsWhole a.geometry a.buffer.now };
+}
+
+impl<'a, T> PlaneRef<'a, T> {
+    /// The plane of a geometry and a buffer. `None` exactly where
+    /// [`checked_alloc_size`](PlaneGeometry::checked_alloc_size) is not `Some` of the buffer's length.
+    ///
+    /// Our own.
+    pub fn new(geometry: PlaneGeometry, buffer: &'a [T]) -> Option<Self>
+        ensures { SomeIff result (IsWhole geometry buffer.now) (raster geometry buffer.now) }
+    {
+        if geometry.checked_alloc_size() != Some(buffer.len()) {
+            return None;
+        }
+        Some(Self::of_parts(geometry, buffer))
+    }
+
+    /// The plane of these parts, which are one.
+    pub(crate) fn of_parts(geometry: PlaneGeometry, buffer: &'a [T]) -> Self
+        requires { IsWhole geometry buffer.now }
+        ensures { result ≡ raster geometry buffer.now }
+    {
+        PlaneRef { geometry, buffer }
+    }
+
+    /// The same plane once more.
+    ///
+    /// Our own, in place of `Clone`, which may fail here, and `Copy`, which a type with a model of its own can't have.
+    pub fn again(&self) -> Self
+        ensures { result ≡ self.now }
+    {
+        PlaneRef {
+            geometry: self.geometry,
+            buffer: self.buffer,
+        }
+    }
+
+    /// The visible width in pixels, never zero.
+    pub fn width(&self) -> usize
+        ensures value { result ≡ self.now.geometry.width }
+        ensures positive { 0 < result }
+        ensures table { result ≡ width_of (table_of self.now) }
+        ensures rows { All (λ row. length row ≡ result) (table_of self.now) }
+    {
+        self.geometry.width()
+    }
+
+    /// The visible height in pixels, never zero.
+    pub fn height(&self) -> usize
+        ensures value { result ≡ self.now.geometry.height }
+        ensures positive { 0 < result }
+        ensures table { result ≡ height_of (table_of self.now) }
+    {
+        self.geometry.height()
+    }
+
+    /// The layout of the plane. Its [`checked_alloc_size`](PlaneGeometry::checked_alloc_size) is `Some`.
+    pub fn geometry(&self) -> PlaneGeometry
+        ensures value { result ≡ self.now.geometry }
+        ensures fits { Fits result }
+    {
+        self.geometry
+    }
+
+    /// The whole buffer, row after row from the top, with the border.
+    pub fn data(&self) -> &'a [T]
+        ensures value { result.now ≡ self.now.buffer }
+        ensures whole { length result.now ≡ alloc_size_of self.now.geometry }
+    {
+        self.buffer
+    }
+
+    /// The visible pixels of row `y`. `None` exactly below the visible rectangle.
+    pub fn row(&self, y: usize) -> Option<&'a [T]>
+        ensures value { option_copied result ≡ slice_get (table_of self.now) y }
+        ensures none { IsNone result ↔ (self.now.geometry.height ≤ y) }
+        ensures wide { IfSome result (λ row. length row.now ≡ self.now.geometry.width) }
+    {
+        if y >= self.geometry.height() {
+            return None;
+        }
+        let start = row_start(self.geometry, y);
+        Some(&self.buffer[start..start + self.geometry.width()])
+    }
+
+    /// The visible rows, from the top, from both ends.
+    pub fn rows(&self) -> Rows<'a, T>
+        ensures rows { result ≡ table_of self.now }
+        ensures wide { All (λ row. length row ≡ self.now.geometry.width) result }
+        ensures bound { length result < 2 ^ 63 }
+        ensures runs { ShowsInOrder (deref {X = List T}) }
+        ensures runs_back { ShowsInReverse (deref {X = List T}) }
+    {
+        Rows::new(self)
+    }
+}
+
+impl<'a, T: Copy> PlaneRef<'a, T> {
+    /// The entry at the place of column `x` and row `y`. `None` exactly where that place lies past the end of the buffer.
+    ///
+    /// The visible rectangle is tested first: there the place needs no further test.
+    pub fn pixel(&self, x: usize, y: usize) -> Option<T>
+        ensures value { result ≡ slice_get self.now.buffer (place_of self.now.geometry x y) }
+        ensures none { IsNone result
+            ↔ (alloc_size_of self.now.geometry ≤ place_of self.now.geometry x y) }
+        ensures inside { x < self.now.geometry.width → y < self.now.geometry.height
+            → result ≡ pixel_at (table_of self.now) x y }
+    {
+        if x < self.geometry.width() && y < self.geometry.height() {
+            return Some(self.buffer[visible_place(self.geometry, x, y)]);
+        }
+        let place = checked_place(self.geometry, x, y)?;
+        self.buffer.get(place).copied()
+    }
+
+    /// The visible pixels, row after row from the top, from both ends.
+    pub fn pixels(&self) -> Pixels<'a, T>
+        ensures pixels { result ≡ row_major (table_of self.now) }
+        ensures count { length result ≡ self.now.geometry.width * self.now.geometry.height }
+        ensures bound { length result < 2 ^ 63 }
+        ensures runs { GivesInOrder T }
+        ensures runs_back { GivesInReverse T }
+    {
+        Pixels::new(self)
+    }
+}
+
+impl<'a, T: Pixel> PlaneRef<'a, T> {
+    /// The bytes of the visible pixels, row after row from the top, each pixel with its low byte first, from both ends.
+    pub fn byte_data(&self) -> ByteData<'a, T>
+        ensures bytes { result ≡ byte_list T.form (table_of self.now) }
+        ensures count { length result
+            ≡ self.now.geometry.width * self.now.geometry.height * T.form.size }
+        ensures bound { length result < 2 ^ 63 }
+        ensures runs { GivesInOrder ℕ }
+        ensures runs_back { GivesInReverse ℕ }
+    {
+        ByteData::new(self)
+    }
+}
+
+impl<'a, T: fmt::Debug> fmt::Debug for PlaneRef<'a, T> {
+    fn fmt<W: fmt::Write>(&self, f: &mut fmt::Formatter<W>) -> fmt::Result {
+        f.debug_struct("PlaneRef")
+            .field("data", &self.buffer)
+            .field("geometry", &self.geometry)
+            .finish()
+    }
+}

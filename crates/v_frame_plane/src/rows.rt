@@ -1,0 +1,156 @@
+//! The iterator over the visible rows of a plane.
+ghost use Rattle.std.specs.Prelude.{◌≡◌, ◌^◌, ◌<◌, length, Some, IfSome, ⊤};
+ghost use Rattle.std.specs.Iterator.{at_most, UpTo};
+ghost use Rattle.std.specs.Iterator.SizeHint.{IsWithinCount};
+ghost use Rattle.std.specs.Map.Iter.{TakesFirst, TakesLast, deref};
+ghost use Rattle.v_frame_layout.specs.Geometry.{IsGeometry};
+ghost use Rattle.v_frame_plane.specs.Plane.{IsWhole, table_of};
+ghost use Rattle.v_frame_layout.specs.Table.{row_major};
+
+use crate::plane_ref::PlaneRef;
+use std::alloc::AllocError;
+use std::fmt;
+use std::iter::FusedIterator;
+use std::marker::Model;
+
+/// The visible rows of a plane, from the top, from both ends.
+///
+/// A contract sees it as the list of the rows that are left. Stands for the iterator of `Plane::rows` of `v_frame` 0.7.0.
+#[derive(Drop)]
+pub struct Rows<'a, T> {
+    // The next row begins `start` entries behind the begin of `rest`.
+    rest: &'a [T],
+    start: usize,
+    width: usize,
+    // What lies between two rows.
+    gap: usize,
+    count: usize,
+}
+
+impl<'a, T> Model for Rows<'a, T> {
+    ghost use Rattle.std.specs.Prelude.{List, length};
+    ghost use Rattle.v_frame_plane.specs.Cursor.{rows_ahead, RowsAreWithin};
+
+    ghost Value = { List (List T) };
+
+    ghost view = { λ a. rows_ahead a.start a.width a.gap a.count a.rest.now };
+
+    ghost invariant = { λ a. RowsAreWithin a.start a.width a.gap a.count (length a.rest.now) };
+}
+
+impl<'a, T> Rows<'a, T> {
+    /// The visible rows of a plane.
+    pub(crate) fn new(plane: &PlaneRef<'a, T>) -> Self
+        ensures rows { result ≡ table_of plane.now }
+        ensures bound { length result < 2 ^ 63 }
+        ensures plane { IsWhole plane.now.geometry plane.now.buffer }
+        ensures valid { IsGeometry plane.now.geometry }
+    {
+        let geometry = plane.geometry();
+        let width = geometry.width();
+        Rows {
+            rest: plane.data(),
+            start: geometry.data_origin(),
+            width,
+            gap: geometry.stride() - width,
+            count: geometry.height(),
+        }
+    }
+
+    /// How many pixels the rows have that are left.
+    #[inline]
+    pub(crate) fn pixel_count(&self) -> usize
+        ensures { result ≡ length (row_major self.now) }
+    {
+        self.count * self.width
+    }
+
+    /// The same iterator once more.
+    pub(crate) fn again(&self) -> Self
+        ensures { result ≡ self.now }
+    {
+        Rows {
+            rest: self.rest,
+            start: self.start,
+            width: self.width,
+            gap: self.gap,
+            count: self.count,
+        }
+    }
+}
+
+impl<'a, T> Iterator for Rows<'a, T> {
+    type Item = &'a [T];
+
+    ghost next_gives = { TakesFirst deref };
+
+    ghost remaining = { λ rows. at_most (length rows) };
+
+    #[inline]
+    fn next(&mut self) -> Option<&'a [T]> {
+        if self.count == 0 {
+            return None;
+        }
+        let (_, rest) = self.rest.split_at(self.start);
+        let (row, rest) = rest.split_at(self.width);
+        self.rest = rest;
+        self.start = self.gap;
+        self.count -= 1;
+        Some(row)
+    }
+
+    #[inline]
+    #[tactic(auto, using(crate::proofs::Cursors::count_of_rows))]
+    fn size_hint(&self) -> (usize, Option<usize>)
+        ensures lower { IsWithinCount result.0 (at_most (length self.now)) }
+        ensures upper { IfSome result.1 (UpTo (at_most (length self.now))) }
+        ensures exact { result ≡ (length self.now, Some (length self.now)) }
+    {
+        (self.count, Some(self.count))
+    }
+}
+
+impl<'a, T> DoubleEndedIterator for Rows<'a, T> {
+    ghost next_back_gives = { TakesLast deref };
+
+    #[inline]
+    #[tactic(auto, using(crate::proofs::Cursors::last_row, crate::proofs::Cursors::count_of_rows))]
+    fn next_back(&mut self) -> Option<&'a [T]> {
+        if self.count == 0 {
+            return None;
+        }
+        self.count -= 1;
+        let (rest, last) = self
+            .rest
+            .split_at(self.start + self.count * (self.width + self.gap));
+        self.rest = rest;
+        Some(&last[..self.width])
+    }
+}
+
+impl<'a, T> ExactSizeIterator for Rows<'a, T> {
+    #[inline]
+    #[tactic(auto, using(crate::proofs::Cursors::count_of_rows))]
+    fn len(&self) -> usize {
+        self.count
+    }
+}
+
+impl<'a, T> FusedIterator for Rows<'a, T> {}
+
+impl<'a, T> Clone for Rows<'a, T> {
+    ghost is_clone = { λ rows copy. copy ≡ rows };
+
+    ghost is_infallible = { λ _. ⊤ };
+
+    fn clone(&self) -> Result<Self, AllocError> {
+        Ok(self.again())
+    }
+}
+
+/// The rows that are left, as a list.
+impl<'a, T: fmt::Debug> fmt::Debug for Rows<'a, T> {
+    fn fmt<W: fmt::Write>(&self, f: &mut fmt::Formatter<W>) -> fmt::Result {
+        f.debug_list().entries(self.again()).finish()
+    }
+}

@@ -1,0 +1,122 @@
+//! The iterator that lends the visible rows of a plane for writing.
+ghost use Rattle.std.specs.Prelude.{◌≡◌, ◌^◌, ◌<◌, length, Some, IfSome};
+ghost use Rattle.std.specs.Iterator.{UpTo, YieldsFirstMut, YieldsLastMut, item_count};
+ghost use Rattle.std.specs.Iterator.SizeHint.{IsWithinCount};
+ghost use Rattle.v_frame_plane.specs.Cursor.{RowsAreWithin};
+ghost use Rattle.v_frame_layout.specs.Geometry.{IsGeometry};
+ghost use Rattle.v_frame_plane.specs.Plane.{IsWhole, raster, table_of};
+ghost use Rattle.v_frame_layout.specs.Table.{row_major};
+
+use std::iter::FusedIterator;
+use std::mem;
+use v_frame_layout::geometry::PlaneGeometry;
+
+/// The visible rows of a plane for writing, from the top, from both ends.
+///
+/// A row may be held while others are drawn, and outlives the iterator. Stands for the iterator of `Plane::rows_mut` of
+/// `v_frame` 0.7.0.
+#[derive(Drop)]
+pub struct RowsMut<'a, T> {
+    // The next row begins `start` entries behind the begin of `rest`.
+    rest: &'a mut [T],
+    start: usize,
+    width: usize,
+    // What lies between two rows.
+    gap: usize,
+    count: usize,
+    ghost within: { RowsAreWithin start width gap count (length rest.now) },
+}
+
+impl<'a, T> RowsMut<'a, T> {
+    ghost use Rattle.v_frame_plane.specs.RowsLeft.{rows_left, rows_slice};
+
+    /// The visible rows of a whole buffer.
+    pub(crate) fn new(geometry: PlaneGeometry, buffer: &'a mut [T]) -> Self
+        requires { IsWhole geometry buffer.old }
+        ensures same_reference { (rows_slice result).ghost_name ≡ buffer.entry.ghost_name }
+        ensures slice { (rows_slice result).now ≡ buffer.old }
+        ensures rows { rows_left result ≡ table_of (raster geometry buffer.old) }
+        ensures bound { length (rows_left result) < 2 ^ 63 }
+        ensures valid { IsGeometry geometry }
+    {
+        let width = geometry.width();
+        RowsMut {
+            rest: buffer,
+            start: geometry.data_origin(),
+            width,
+            gap: geometry.stride() - width,
+            count: geometry.height(),
+        }
+    }
+
+    /// How many pixels the rows have that are left.
+    #[inline]
+    pub(crate) fn pixel_count(&self) -> usize
+        ensures { result ≡ length (row_major (rows_left self.now)) }
+    {
+        self.count * self.width
+    }
+}
+
+impl<'a, T> Iterator for RowsMut<'a, T> {
+    ghost use Rattle.v_frame_plane.specs.RowsLeft.{rows_left};
+
+    type Item = &'a mut [T];
+
+    ghost next_gives = { YieldsFirstMut rows_left };
+
+    ghost remaining = { item_count rows_left };
+
+    #[inline]
+    fn next(&mut self) -> Option<&'a mut [T]> {
+        if self.count == 0 {
+            return None;
+        }
+        let (_, rest) = mem::take(&mut self.rest).split_at_mut(self.start);
+        let (row, rest) = rest.split_at_mut(self.width);
+        self.rest = rest;
+        self.start = self.gap;
+        self.count -= 1;
+        Some(row)
+    }
+
+    #[inline]
+    #[tactic(auto, using(crate::proofs::Cursors::count_of_rows))]
+    fn size_hint(&self) -> (usize, Option<usize>)
+        ensures lower { IsWithinCount result.0 (item_count rows_left self.now) }
+        ensures upper { IfSome result.1 (UpTo (item_count rows_left self.now)) }
+        ensures exact { let left = length (rows_left self.now) in result ≡ (left, Some left) }
+    {
+        (self.count, Some(self.count))
+    }
+}
+
+impl<'a, T> DoubleEndedIterator for RowsMut<'a, T> {
+    ghost use Rattle.v_frame_plane.specs.RowsLeft.{rows_left};
+
+    ghost next_back_gives = { YieldsLastMut rows_left };
+
+    #[inline]
+    #[tactic(auto, using(crate::proofs::Cursors::last_row, crate::proofs::Cursors::count_of_rows))]
+    fn next_back(&mut self) -> Option<&'a mut [T]> {
+        if self.count == 0 {
+            return None;
+        }
+        self.count -= 1;
+        let behind = self.start + self.count * (self.width + self.gap);
+        let (rest, last) = mem::take(&mut self.rest).split_at_mut(behind);
+        self.rest = rest;
+        let (row, _) = last.split_at_mut(self.width);
+        Some(row)
+    }
+}
+
+impl<'a, T> ExactSizeIterator for RowsMut<'a, T> {
+    #[inline]
+    #[tactic(auto, using(crate::proofs::Cursors::count_of_rows))]
+    fn len(&self) -> usize {
+        self.count
+    }
+}
+
+impl<'a, T> FusedIterator for RowsMut<'a, T> {}

@@ -1,0 +1,7 @@
+//! Tests by public calls, with expected values that were worked out by hand.
+
+mod frame;
+mod plane;
+mod program;
+mod replay;
+mod support;

@@ -1,0 +1,8 @@
+//! Frames: built, refused, cloned and compared.
+
+mod builds;
+mod clones;
+mod debugs;
+mod equality;
+mod formats;
+mod refusals;

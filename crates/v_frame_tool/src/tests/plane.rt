@@ -1,0 +1,17 @@
+//! Planes: their geometries, what they show, and what is written into them.
+
+mod byte_copies;
+mod byte_walks;
+mod clones;
+mod copies;
+mod debugs;
+mod draws;
+mod equality;
+mod geometry;
+mod lent;
+mod options;
+mod pixels;
+mod subsampling;
+mod walks;
+mod writes;
+mod writing_walks;

@@ -1,0 +1,313 @@
+//! Walks that lend rows and pixels of a plane for writing.
+
+use crate::tests::support::buffers::{bordered_buffer, buffer_in_200, holds, numbers};
+use crate::tests::support::frames::{
+    BARE, BORDERED, BORDERED_ALL_ROUND, counted, in_200, numbered, zeros,
+};
+use crate::tests::support::reads::{table_of, three_of};
+use v_frame::plane::Plane;
+
+/// What a lent pixel holds, which is replaced by this value.
+fn replace(pixel: Option<&mut u8>, value: u8) -> Option<u8> {
+    let pixel = pixel?;
+    let before = *pixel;
+    *pixel = value;
+    Some(before)
+}
+
+/// Fills a lent row with this value.
+fn fill_row(row: Option<&mut [u8]>, value: u8) {
+    if let Some(row) = row {
+        row.fill(value);
+    }
+}
+
+/// Writes the numbers from 0 on, pixel after pixel.
+fn count_up(plane: &mut Plane<u8>) {
+    let mut next = 0;
+    for pixel in plane.pixels_mut() {
+        *pixel = next;
+        next = u8::wrapping_add(next, 1);
+    }
+}
+
+/// Writes this pixel of a lent row.
+fn write_pixel(row: Option<&mut [u8]>, x: usize, value: u8) {
+    if let Some(row) = row {
+        if let Some(pixel) = row.get_mut(x) {
+            *pixel = value;
+        }
+    }
+}
+
+/// Writes a pixel of the last row and one of the first, once their walk is over.
+fn write_held_rows(plane: &mut Plane<u8>) {
+    let mut rows = plane.rows_mut();
+    let (first, last) = (rows.next(), rows.next_back());
+    drop(rows);
+    write_pixel(last, 0, 40);
+    write_pixel(first, 2, 30);
+}
+
+#[test]
+fn held_rows_are_written_after_the_walk(rt: HostRuntime) {
+    let mut plane = counted(&rt, rt.alloc(), BORDERED).y_plane;
+    write_held_rows(&mut plane);
+    let written = table_of(&plane) == [Some([1, 2, 30]), Some([40, 5, 6])];
+    assert!(rt; written && plane.data() == bordered_buffer([1, 2, 30, 40, 5, 6]).as_slice());
+}
+
+/// What the second, the last and the first pixel held, which are replaced once their walk is over.
+fn replace_held_pixels(plane: &mut Plane<u8>) -> [Option<u8>; 3] {
+    let mut pixels = plane.pixels_mut();
+    let (first, last, second) = (pixels.next(), pixels.next_back(), pixels.next());
+    drop(pixels);
+    let (second, last, first) = (replace(second, 7), replace(last, 9), replace(first, 8));
+    [second, last, first]
+}
+
+#[test]
+fn held_pixels_are_written_after_the_walk(rt: HostRuntime) {
+    let mut plane = counted(&rt, rt.alloc(), BORDERED).y_plane;
+    let held = replace_held_pixels(&mut plane) == [Some(2), Some(6), Some(1)];
+    assert!(rt; held && table_of(&plane) == [Some([8, 7, 3]), Some([4, 5, 9])]);
+    assert!(rt; plane.data() == bordered_buffer([8, 7, 3, 4, 5, 9]).as_slice());
+}
+
+/// Three draws, of which the first and the last replace their pixel, and the bounds of what is left.
+fn draw_by_draw(plane: &mut Plane<u8>) -> ([(Option<u8>, usize); 3], (usize, Option<usize>)) {
+    let mut pixels = plane.pixels_mut();
+    let first = (replace(pixels.next_back(), 9), pixels.len());
+    let second = (pixels.next().copied(), pixels.len());
+    let third = (replace(pixels.next(), 7), pixels.len());
+    ([first, second, third], pixels.size_hint())
+}
+
+/// Whether these draws give the last, the first and the second pixel of six.
+fn gives_its_pixels(plane: &mut Plane<u8>) -> bool {
+    draw_by_draw(plane) == ([(Some(6), 5), (Some(1), 4), (Some(2), 3)], (3, Some(3)))
+}
+
+#[test]
+fn a_padded_plane_is_written_draw_by_draw(rt: HostRuntime) {
+    let mut plane = in_200(&rt, rt.alloc()).y_plane;
+    assert!(rt; gives_its_pixels(&mut plane));
+    assert!(rt; plane.data() == buffer_in_200([1, 7, 3, 4, 5, 9]).as_slice());
+}
+
+#[test]
+fn a_plane_in_a_numbered_border_is_written_draw_by_draw(rt: HostRuntime) {
+    let mut plane = counted(&rt, rt.alloc(), BORDERED).y_plane;
+    assert!(rt; gives_its_pixels(&mut plane));
+    assert!(rt; plane.data() == bordered_buffer([1, 7, 3, 4, 5, 9]).as_slice());
+}
+
+#[test]
+fn filled_pixels_are_read_back(rt: HostRuntime) {
+    let cases = [
+        (
+            (4, 3, [2, 2, 1, 1]),
+            [0, 1, 2, 3, 4, 5, 6, 7, 8, 9, 10, 11].as_slice(),
+        ),
+        ((2, 3, [0, 0, 0, 0]), [0, 1, 2, 3, 4, 5].as_slice()),
+    ];
+    for (layout, wanted) in cases {
+        let mut plane = numbered(&rt, rt.alloc(), layout).y_plane;
+        count_up(&mut plane);
+        let pixels: Vec<u8> = plane.pixels().collect(rt.alloc()).expect(&rt, "memory");
+        assert!(rt; pixels.as_slice() == wanted);
+        assert!(rt; holds(&rt, rt.alloc(), &plane, layout, wanted));
+    }
+}
+
+/// Six draws by turns, of which the last is from the front too, and then one from each side.
+fn from_both_ends(plane: &Plane<u8>) -> [(Option<u8>, Option<u8>); 4] {
+    let mut pixels = plane.pixels();
+    let outer = (pixels.next(), pixels.next_back());
+    let inner = (pixels.next(), pixels.next_back());
+    let last = (pixels.next(), pixels.next());
+    let past = (pixels.next(), pixels.next_back());
+    [outer, inner, last, past]
+}
+
+#[test]
+fn filled_pixels_are_read_back_from_both_ends(rt: HostRuntime) {
+    let mut plane = zeros(&rt, rt.alloc(), BARE).y_plane;
+    count_up(&mut plane);
+    let wanted = [
+        (Some(0), Some(5)),
+        (Some(1), Some(4)),
+        (Some(2), Some(3)),
+        (None, None),
+    ];
+    assert!(rt; from_both_ends(&plane) == wanted);
+}
+
+/// Fills three rows, the last of them second: how many were left before and, but for one, after that.
+fn fill_three_rows(plane: &mut Plane<u8>) -> (usize, (usize, Option<usize>), usize) {
+    let mut rows = plane.rows_mut();
+    let (all, bounds) = (rows.len(), rows.size_hint());
+    fill_row(rows.next(), 1);
+    fill_row(rows.next_back(), 3);
+    let left = rows.len();
+    fill_row(rows.next(), 2);
+    (all, bounds, left)
+}
+
+/// The first row, the last and then the second, where each has three pixels.
+fn rows_from_both_ends(plane: &Plane<u8>) -> [Option<[u8; 3]>; 3] {
+    let mut rows = plane.rows();
+    let (first, last, second) = (rows.next(), rows.next_back(), rows.next());
+    [three_of(first), three_of(last), three_of(second)]
+}
+
+#[test]
+fn rows_are_filled_from_both_ends(rt: HostRuntime) {
+    let mut plane = zeros(&rt, rt.alloc(), (3, 3, [0, 0, 0, 0])).y_plane;
+    assert!(rt; fill_three_rows(&mut plane) == (3, (3, Some(3)), 1));
+    assert!(rt; plane.data() == [1, 1, 1, 2, 2, 2, 3, 3, 3].as_slice());
+    assert!(rt; rows_from_both_ends(&plane) == [Some([1; 3]), Some([3; 3]), Some([2; 3])]);
+}
+
+#[test]
+fn rows_that_are_filled_leave_a_numbered_border(rt: HostRuntime) {
+    let layout = (3, 3, [1, 2, 1, 1]);
+    let mut plane = numbered(&rt, rt.alloc(), layout).y_plane;
+    assert!(rt; fill_three_rows(&mut plane) == (3, (3, Some(3)), 1));
+    assert!(rt;
+        holds(
+            &rt,
+            rt.alloc(),
+            &plane,
+            layout,
+            &[1, 1, 1, 2, 2, 2, 3, 3, 3]
+        )
+    );
+}
+
+/// What four pixels held, the last of them drawn second, which are replaced.
+fn fill_four_pixels(plane: &mut Plane<u8>) -> [Option<u8>; 4] {
+    let mut pixels = plane.pixels_mut();
+    let first = replace(pixels.next(), 10);
+    let last = replace(pixels.next_back(), 40);
+    let second = replace(pixels.next(), 20);
+    let third = replace(pixels.next(), 30);
+    [first, last, second, third]
+}
+
+#[test]
+fn pixels_are_filled_from_both_ends(rt: HostRuntime) {
+    let mut plane = zeros(&rt, rt.alloc(), (2, 2, [0, 0, 0, 0])).y_plane;
+    let held = fill_four_pixels(&mut plane);
+    assert!(rt; held == [Some(0); 4] && plane.data() == [10, 20, 30, 40].as_slice());
+}
+
+/// Replaces the first pixel and five from the back: what the first held, whether there were five, and a draw more.
+fn finish_from_the_back(plane: &mut Plane<u8>) -> (Option<u8>, bool, (Option<u8>, usize)) {
+    let mut pixels = plane.pixels_mut();
+    let first = replace(pixels.next(), 9);
+    let mut lent = true;
+    for _draw in 0..5 {
+        lent = replace(pixels.next_back(), 5).is_some() && lent;
+    }
+    (first, lent, (pixels.next().copied(), pixels.len()))
+}
+
+#[test]
+fn a_row_begun_from_the_front_is_finished_from_the_back(rt: HostRuntime) {
+    for padding in [[0, 0, 0, 0], [2, 1, 1, 3]] {
+        let layout = (3, 2, padding);
+        let mut plane = counted(&rt, rt.alloc(), layout).y_plane;
+        let draws = finish_from_the_back(&mut plane);
+        assert!(rt; draws == (Some(1), true, (None, 0)));
+        assert!(rt; table_of(&plane) == [Some([9, 5, 5]), Some([5, 5, 5])]);
+        assert!(rt; holds(&rt, rt.alloc(), &plane, layout, &[9, 5, 5, 5, 5, 5]));
+    }
+}
+
+/// Whether six draws lend a pixel, and three from each side after them lend none and leave none.
+fn six_pixels_are_lent(plane: &mut Plane<u8>) -> bool {
+    let mut pixels = plane.pixels_mut();
+    let mut as_wanted = true;
+    for _draw in 0..6 {
+        as_wanted = pixels.next_back().is_some() && as_wanted;
+    }
+    for _draw in 0..3 {
+        as_wanted = pixels.next().is_none() && pixels.next_back().is_none() && as_wanted;
+        as_wanted = pixels.len() == 0 && pixels.size_hint() == (0, Some(0)) && as_wanted;
+    }
+    as_wanted
+}
+
+/// The same of two rows.
+fn two_rows_are_lent(plane: &mut Plane<u8>) -> bool {
+    let mut rows = plane.rows_mut();
+    let mut as_wanted = rows.next_back().is_some() && rows.next().is_some();
+    for _draw in 0..3 {
+        as_wanted = rows.next_back().is_none() && rows.next().is_none() && as_wanted;
+        as_wanted = rows.len() == 0 && as_wanted;
+    }
+    as_wanted
+}
+
+#[test]
+fn a_walk_past_its_end_lends_nothing(rt: HostRuntime) {
+    let layout = BORDERED_ALL_ROUND;
+    let mut plane = counted(&rt, rt.alloc(), layout).y_plane;
+    assert!(rt; six_pixels_are_lent(&mut plane) && two_rows_are_lent(&mut plane));
+    assert!(rt; holds(&rt, rt.alloc(), &plane, layout, &[1, 2, 3, 4, 5, 6]));
+}
+
+/// Whether draws from both ends lend three rows, to the last. Nothing is written.
+fn three_rows_are_drawn(plane: &mut Plane<u8>) -> bool {
+    let mut rows = plane.rows_mut();
+    let outer = rows.next().is_some() && rows.next_back().is_some();
+    let inner = rows.next().is_some() && rows.next_back().is_none();
+    outer && inner && rows.len() == 0
+}
+
+#[test]
+fn rows_that_are_drawn_and_not_written_leave_the_buffer(rt: HostRuntime) {
+    let mut plane = numbered::<u8>(&rt, rt.alloc(), (3, 3, [1, 2, 1, 1])).y_plane;
+    let drawn = three_rows_are_drawn(&mut plane);
+    assert!(rt; drawn && plane.data() == numbers(&rt, rt.alloc(), 30).as_slice());
+}
+
+/// Whether draws from both ends lend six pixels, to the last. Nothing is written.
+fn six_pixels_are_drawn(plane: &mut Plane<u8>) -> bool {
+    let mut pixels = plane.pixels_mut();
+    let mut lent = true;
+    for _turn in 0..3 {
+        lent = pixels.next().is_some() && pixels.next_back().is_some() && lent;
+    }
+    lent && pixels.next().is_none() && pixels.next_back().is_none() && pixels.len() == 0
+}
+
+#[test]
+fn pixels_that_are_drawn_and_not_written_leave_the_buffer(rt: HostRuntime) {
+    let mut plane = numbered::<u8>(&rt, rt.alloc(), BORDERED_ALL_ROUND).y_plane;
+    let drawn = six_pixels_are_drawn(&mut plane);
+    assert!(rt; drawn && plane.data() == numbers(&rt, rt.alloc(), 24).as_slice());
+}
+
+#[test]
+fn walks_that_are_dropped_undrawn_leave_the_buffer(rt: HostRuntime) {
+    let mut plane = numbered::<u8>(&rt, rt.alloc(), BORDERED_ALL_ROUND).y_plane;
+    drop(plane.rows_mut());
+    assert!(rt; plane.data() == numbers(&rt, rt.alloc(), 24).as_slice());
+    drop(plane.pixels_mut());
+    assert!(rt; plane.data() == numbers(&rt, rt.alloc(), 24).as_slice());
+}
+
+/// How long the walks over rows and over pixels are, which draw nothing.
+fn lengths(plane: &mut Plane<u8>) -> (usize, usize) {
+    let rows = plane.rows_mut().len();
+    (rows, plane.pixels_mut().len())
+}
+
+#[test]
+fn a_walk_without_a_draw_leaves_the_plane(rt: HostRuntime) {
+    let mut plane = counted(&rt, rt.alloc(), (3, 1, [1, 0, 0, 1])).y_plane;
+    let whole = lengths(&mut plane) == (1, 3);
+    assert!(rt; whole && plane.data() == [100, 1, 2, 3, 104, 105, 106, 107].as_slice());
+}

@@ -1,0 +1,136 @@
+//! The program, over writers into memory, writers that fail and writers that take little.
+
+use crate::counted::Counted;
+use crate::fault::ToolFault;
+use crate::run::run;
+use crate::tests::support::errors::other_length;
+use crate::tests::support::writers::{Habit, Slow, Stubborn, at_first};
+use std::io::Cursor;
+use v_frame::frame::FrameError;
+
+/// The pixels 1 to 8.
+const EIGHT: [u8; 8] = [1, 2, 3, 4, 5, 6, 7, 8];
+
+/// What is printed of them.
+const PRINTED: [u8; 31] = *b"plane 0: 4 x 2\n1 2 3 4\n5 6 7 8\n";
+
+/// What `run` answers, and what it writes into 64 bytes.
+fn written(rt: &HostRuntime, source: &[u8]) -> (Result<(), ToolFault>, usize, [u8; 64]) {
+    let mut out = Counted::new(Cursor::new([0u8; 64]));
+    let answer = run(rt.alloc(), &mut out, source);
+    let end = out.inner().position() as usize;
+    (answer, end, *out.inner().get_ref())
+}
+
+/// Whether `run` accepts this source and writes this text.
+fn prints(rt: &HostRuntime, source: &[u8], wanted: &[u8]) -> bool {
+    let (answer, end, text) = written(rt, source);
+    answer == Ok(()) && text.get(..end) == Some(wanted)
+}
+
+/// Whether `run` refuses this source for its length and writes nothing.
+fn prints_nothing(rt: &HostRuntime, source: &[u8], length: usize) -> bool {
+    let (answer, end, text) = written(rt, source);
+    let refused = ToolFault::Copy(other_length(8, length));
+    (answer, end, text) == (Err(refused), 0, [0; 64])
+}
+
+#[test]
+fn rows_are_printed(rt: HostRuntime) {
+    assert!(rt; prints(&rt, &EIGHT, &PRINTED));
+}
+
+#[test]
+fn the_rows_are_those_of_the_source(rt: HostRuntime) {
+    let wanted = b"plane 0: 4 x 2\n255 255 255 255\n255 255 255 255\n";
+    assert!(rt; prints(&rt, &[255; 8], wanted));
+}
+
+#[test]
+fn a_source_that_begins_with_0_is_printed_from_0(rt: HostRuntime) {
+    let wanted = b"plane 0: 4 x 2\n0 1 2 3\n4 5 6 7\n";
+    assert!(rt; prints(&rt, &[0, 1, 2, 3, 4, 5, 6, 7], wanted));
+}
+
+#[test]
+fn a_short_source_prints_nothing(rt: HostRuntime) {
+    assert!(rt; prints_nothing(&rt, &[1, 2, 3, 4, 5, 6, 7], 7));
+}
+
+#[test]
+fn sources_of_no_pixel_and_of_nine_print_nothing(rt: HostRuntime) {
+    assert!(rt; prints_nothing(&rt, &[], 0) && prints_nothing(&rt, &[9; 9], 9));
+}
+
+#[test]
+fn a_source_of_sixteen_pixels_prints_nothing(rt: HostRuntime) {
+    let source = [1, 2, 3, 4, 5, 6, 7, 8, 9, 10, 11, 12, 13, 14, 15, 16];
+    assert!(rt; prints_nothing(&rt, &source, 16));
+}
+
+/// What `run` answers over a writer that has this habit at its first call, how much the writer took, and the failures.
+fn hindered_at_first(rt: &HostRuntime, habit: Habit) -> (Result<(), ToolFault>, u64, u64) {
+    let mut out = Counted::new(at_first(habit));
+    let answer = run(rt.alloc(), &mut out, &EIGHT);
+    (answer, out.inner().taken.position(), out.failures())
+}
+
+#[test]
+fn an_interrupted_write_is_not_tried_again(rt: HostRuntime) {
+    let wanted = (Err(ToolFault::Output), 0, 1);
+    assert!(rt; hindered_at_first(&rt, Habit::Fails) == wanted);
+}
+
+#[test]
+fn a_writer_that_takes_nothing_once_is_given_up(rt: HostRuntime) {
+    let wanted = (Err(ToolFault::WriteZero), 0, 0);
+    assert!(rt; hindered_at_first(&rt, Habit::TakesNone) == wanted);
+}
+
+/// What `run` answers over a writer of this habit, and the failures.
+fn hindered(rt: &HostRuntime, habit: Habit) -> (Result<(), ToolFault>, u64) {
+    let mut out = Counted::new(Stubborn(habit));
+    let answer = run(rt.alloc(), &mut out, &EIGHT);
+    (answer, out.failures())
+}
+
+#[test]
+fn a_failed_write_is_answered(rt: HostRuntime) {
+    assert!(rt; hindered(&rt, Habit::Fails) == (Err(ToolFault::Output), 1));
+}
+
+#[test]
+fn a_write_of_nothing_is_answered(rt: HostRuntime) {
+    assert!(rt; hindered(&rt, Habit::TakesNone) == (Err(ToolFault::WriteZero), 0));
+}
+
+#[test]
+fn a_slow_writer_gets_all_until_it_fails(rt: HostRuntime) {
+    for calls in 0..=PRINTED.len() {
+        let taken = Cursor::new([0u8; 64]);
+        let mut out = Counted::new(Slow { taken, calls });
+        let answer = run(rt.alloc(), &mut out, &EIGHT);
+        let failed = calls < PRINTED.len();
+        let wanted = if failed {
+            Err(ToolFault::Output)
+        } else {
+            Ok(())
+        };
+        assert!(rt; (answer, out.failures()) == (wanted, u64::from(failed)));
+        let taken = &out.inner().taken;
+        assert_eq!(rt; taken.position() as usize, calls);
+        assert!(rt; taken.get_ref().get(..calls) == PRINTED.get(..calls));
+    }
+}
+
+#[test]
+fn a_program_without_memory_says_so(rt: HostRuntime) {
+    let mut out = Counted::new(Cursor::new([0u8; 64]));
+    match run(rt.alloc(), &mut out, &EIGHT) {
+        Ok(()) => assert_eq!(rt; out.inner().position(), 31),
+        Err(fault) => {
+            let frame = ToolFault::Frame(FrameError::OutOfMemory);
+            assert!(rt; fault == frame || fault == ToolFault::OutOfMemory);
+        }
+    }
+}

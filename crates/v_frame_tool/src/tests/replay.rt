@@ -1,0 +1,10 @@
+//! Replays: lists of calls, and what they answer and leave.
+
+mod byte_walks;
+mod calls;
+mod copies;
+mod debugs;
+mod laws;
+mod refusals;
+mod walks;
+mod writing_walks;

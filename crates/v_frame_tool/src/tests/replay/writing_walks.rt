@@ -1,0 +1,163 @@
+//! Writing walks in lists of calls.
+
+use crate::tests::support::answers::{answers_are, pixels_walked, rows_walked};
+use crate::tests::support::buffers::{
+    bordered_buffer, buffer_in_200, holds, number_entries, numbers,
+};
+use crate::tests::support::calls::{pixel_draws, pixels_mut, row_draws, rows_mut};
+use crate::tests::support::frames::{BARE, BORDERED, counted, in_200, padded, showing};
+use std::alloc::Global;
+use std::process::Abort;
+use v_frame::chroma::ChromaSubsampling;
+use v_frame::frame::Frame;
+use v_frame::replay::{Answer, Side, VisibleCall};
+
+/// Draws of pixels, of which the first and the last write.
+const DRAWS: [(Side, Option<u8>); 3] = [
+    (Side::Back, Some(9)),
+    (Side::Front, None),
+    (Side::Front, Some(7)),
+];
+
+/// What they draw from the pixels 1 to 6.
+const DRAWN: [(Option<u8>, usize); 3] = [(Some(6), 5), (Some(1), 4), (Some(2), 3)];
+
+/// What none, one, two and three of them leave.
+const LEFT: [[u8; 6]; 4] = [
+    [1, 2, 3, 4, 5, 6],
+    [1, 2, 3, 4, 5, 9],
+    [1, 2, 3, 4, 5, 9],
+    [1, 7, 3, 4, 5, 9],
+];
+
+/// The first few items, or all where there are fewer.
+fn front<T>(items: &[T], count: usize) -> &[T] {
+    items.get(..count).unwrap_or(items)
+}
+
+/// Whether the first few draws, in a replay, give what they have to.
+fn gives(rt: &impl Abort, alloc: Global, frame: &mut Frame<u8>, count: usize) -> bool {
+    let calls = [pixels_mut(rt, alloc, front(&DRAWS, count))];
+    let wanted = [pixels_walked(rt, alloc, 6, front(&DRAWN, count))];
+    answers_are(rt, alloc, frame, &calls, &wanted)
+}
+
+#[test]
+fn a_writing_walk_draw_by_draw(rt: HostRuntime) {
+    for (count, pixels) in LEFT.into_iter().enumerate() {
+        let mut plain = counted(&rt, rt.alloc(), BARE);
+        assert!(rt; gives(&rt, rt.alloc(), &mut plain, count));
+        assert!(rt; plain.y_plane.data() == pixels.as_slice());
+        let mut bordered = in_200(&rt, rt.alloc());
+        assert!(rt; gives(&rt, rt.alloc(), &mut bordered, count));
+        assert!(rt; bordered.y_plane.data() == buffer_in_200(pixels).as_slice());
+    }
+}
+
+#[test]
+fn a_writing_walk_in_a_numbered_border_draw_by_draw(rt: HostRuntime) {
+    for (count, pixels) in LEFT.into_iter().enumerate() {
+        let mut frame = counted(&rt, rt.alloc(), BORDERED);
+        assert!(rt; gives(&rt, rt.alloc(), &mut frame, count));
+        assert!(rt; frame.y_plane.data() == bordered_buffer(pixels).as_slice());
+    }
+}
+
+#[test]
+fn pixels_are_written_past_the_end(rt: HostRuntime) {
+    let draws = [
+        (Side::Front, Some(1)),
+        (Side::Back, Some(2)),
+        (Side::Back, Some(3)),
+        (Side::Back, Some(4)),
+        (Side::Front, Some(5)),
+    ];
+    let calls = [pixels_mut(&rt, rt.alloc(), &draws)];
+    let items = [
+        (Some(5), 2),
+        (Some(7), 1),
+        (Some(6), 0),
+        (None, 0),
+        (None, 0),
+    ];
+    let wanted = [pixels_walked(&rt, rt.alloc(), 3, &items)];
+    for padding in [[0, 0, 0, 0], [1, 2, 1, 1]] {
+        let layout = (3, 1, padding);
+        let mut frame = showing::<u8>(&rt, rt.alloc(), layout, &[5, 6, 7]);
+        assert!(rt; answers_are(&rt, rt.alloc(), &mut frame, &calls, &wanted));
+        assert!(rt; holds(&rt, rt.alloc(), &frame.y_plane, layout, &[1, 3, 2]));
+    }
+}
+
+#[test]
+fn meeting_row_is_written_once(rt: HostRuntime) {
+    let draws = [
+        (Side::Front, [Some(9)].as_slice()),
+        (Side::Back, [Some(7)].as_slice()),
+    ];
+    let calls = [rows_mut(&rt, rt.alloc(), &draws)];
+    let drawn = [(Some([3, 4].as_slice()), 0), (None, 0)];
+    let wanted = [rows_walked(&rt, rt.alloc(), 1, &drawn)];
+    for padding in [[0, 0, 0, 0], [1, 2, 1, 1]] {
+        let layout = (2, 1, padding);
+        let mut frame = showing::<u8>(&rt, rt.alloc(), layout, &[3, 4]);
+        assert!(rt; answers_are(&rt, rt.alloc(), &mut frame, &calls, &wanted));
+        assert!(rt; holds(&rt, rt.alloc(), &frame.y_plane, layout, &[9, 4]));
+    }
+}
+
+#[test]
+fn rows_are_written_from_both_ends(rt: HostRuntime) {
+    let mut frame = counted(&rt, rt.alloc(), BORDERED);
+    let draws = [
+        (Side::Back, [None, Some(8), None, Some(9)].as_slice()),
+        (Side::Front, [Some(7)].as_slice()),
+        (Side::Front, [Some(10)].as_slice()),
+    ];
+    let calls = [
+        rows_mut(&rt, rt.alloc(), &draws),
+        VisibleCall::RowsMut {
+            plane: 1,
+            draws: row_draws(&rt, rt.alloc(), &[]),
+        },
+    ];
+    let drawn = [
+        (Some([4, 5, 6].as_slice()), 1),
+        (Some([1, 2, 3].as_slice()), 0),
+        (None, 0),
+    ];
+    let wanted = [rows_walked(&rt, rt.alloc(), 2, &drawn), Answer::NoPlane];
+    assert!(rt; answers_are(&rt, rt.alloc(), &mut frame, &calls, &wanted));
+    assert!(rt; frame.y_plane.data() == bordered_buffer([7, 2, 3, 4, 8, 6]).as_slice());
+}
+
+/// Four words by four with chroma of two by two, each plane in a border and numbered.
+fn numbered_chroma(rt: &impl Abort, alloc: Global) -> Frame<u16> {
+    let builder = padded((4, 4), ChromaSubsampling::Yuv420, 10, [2, 2, 2, 2]);
+    let mut frame = builder.build::<u16>(alloc).expect(rt, "a frame");
+    for index in 0..3 {
+        number_entries(rt, frame.plane_mut(index).expect(rt, "a plane"));
+    }
+    frame
+}
+
+#[test]
+fn chroma_of_two_bytes_is_written(rt: HostRuntime) {
+    let mut frame = numbered_chroma(&rt, rt.alloc());
+    let draws = [(Side::Back, Some(700)), (Side::Front, Some(800))];
+    let calls = [VisibleCall::PixelsMut {
+        plane: 2,
+        draws: pixel_draws(&rt, rt.alloc(), &draws),
+    }];
+    let drawn = [(Some(0xA10A), 3), (Some(0xA105), 2)];
+    let wanted = [pixels_walked(&rt, rt.alloc(), 4, &drawn)];
+    assert!(rt; answers_are(&rt, rt.alloc(), &mut frame, &calls, &wanted));
+    let (u, v) = (
+        frame.plane(1).expect(&rt, "U"),
+        frame.plane(2).expect(&rt, "V"),
+    );
+    assert!(rt; frame.y_plane.data() == numbers(&rt, rt.alloc(), 64).as_slice());
+    assert!(rt; u.data() == numbers(&rt, rt.alloc(), 16).as_slice());
+    let pixels = [800, 0xA106, 0xA109, 700];
+    assert!(rt; holds(&rt, rt.alloc(), v, (2, 2, [1, 1, 1, 1]), &pixels));
+}

@@ -1,0 +1,11 @@
+//! What tests of more than one file stand on: fixtures, calls and answers as values, comparisons, and writers.
+
+pub mod answers;
+pub mod buffers;
+pub mod calls;
+pub mod errors;
+pub mod frames;
+pub mod options;
+pub mod reads;
+pub mod texts;
+pub mod writers;
