@@ -1,6 +1,5 @@
--- The words and types that callers' clauses cite, passed on from one place. A variant is written as
--- in Rust, with a dot
--- (`Answer.Number 3`), and needs no import there.
+-- The words and types that callers' clauses cite, passed on from one place. A variant is written
+-- behind its type (`Answer.Number 3`), and needs no import there.
 pub use Rattle.v_frame_layout.specs.Pixel.{PixelForm, one_byte, two_bytes, bytes_of, byte_of, value_of_bytes, byte_list}
 pub use Rattle.v_frame_layout.specs.Chroma.{ratio_of, chroma_size_of, subsampled}
 pub use Rattle.v_frame_layout.specs.Geometry.{Geometry, geometry_of, stride_of, alloc_height_of, alloc_size_of, IsGeometry, Fits, place_of, origin_of, usize_max, isize_max, Mark, Border, Visible, cutting_plan, mark_at}
