@@ -33,8 +33,7 @@ module _ {T : Type 0} (form : PixelForm T) where
       map (pixels_of_bytes form width) (piece_fronts (width * form.size) stride height source)
 
   -- a copy of the bytes of a source with a stride into a table: a row must fit the stride, and the
-  -- source must have a
-  -- piece of the stride for each row, the tail of the last row too
+  -- source must have a piece of the stride for each row, the tail of the last row too
   abbrev pub strided_copy : Table T → List ℕ → ℕ → CopyOutcome T
   strided_copy table source stride =
       let width : ℕ = width_of table in
@@ -53,8 +52,7 @@ module _ {T : Type 0} (form : PixelForm T) where
   packed_byte_copy table source = strided_copy table source (width_of table * form.size)
 
 -- a copy into a plane answers and leaves what its outcome says. The border and the geometry are as
--- before, and where it was
--- refused the whole plane is
+-- before, and where it was refused the whole plane is
 pub record Copies {T : Type 0} (old new : Raster T) (result : Result (Unit {0}) CopyError)
     (outcome : CopyOutcome T) : Type 0 where
   pub answer : result ≡ outcome.answer

@@ -1,6 +1,5 @@
 -- How the walks over a plane keep what is left: rows of one width that lie ahead in a slice, and
--- rows and pixels that were
--- begun.
+-- rows and pixels that were begun.
 use Rattle.std.specs.Prelude.{All, ℕ, zero, suc, ◌≡◌, ◌+◌, ◌*◌, ◌^◌, ◌<◌, ◌≤◌, List, [], ◌∷◌, ◌++◌, length, take, drop, Option, Some, None, IfSome}
 use Rattle.v_frame_layout.specs.Pixel.{PixelForm, byte_of, bytes_of_pixels}
 use Rattle.v_frame_layout.specs.Table.{row_major}
@@ -34,8 +33,7 @@ module _ {T : Type 0} (form : PixelForm T) where
   other_byte i (Some pixel) = byte_of (form.value pixel) i ∷ []
 
   -- the high byte of the pixel that was begun from the front, the bytes of the pixels that were not
-  -- begun, and the low byte
-  -- of the pixel that was begun from the back
+  -- begun, and the low byte of the pixel that was begun from the back
   abbrev pub bytes_ahead : Option T → List T → Option T → List ℕ
   bytes_ahead front pixels back =
       other_byte 1 front ++ (bytes_of_pixels form pixels ++ other_byte 0 back)

@@ -22,8 +22,7 @@ pub record HasPlaces (g : Geometry) : Type 0 where
       → place_of g x y ≡ place_of g x' y' → (x ≡ x') × (y ≡ y')
 
 -- the mark of the place in each row and column of the buffer: border above, below and on both sides
--- of what is visible.
--- Past the buffer there is none
+-- of what is visible. Past the buffer there is none
 pub record HasMarks (g : Geometry) : Type 0 where
   pub above : (row column : ℕ) → row < g.pad_top → column < stride_of g
       → mark_at (cutting_plan g) (row * stride_of g + column) ≡ Some Border

@@ -1,6 +1,6 @@
 -- A plane: its geometry and its buffer. Cut, from the front, into the pieces that the geometry lays
--- down, the buffer shows a
--- table, which is its visible pieces, and has a border, which is all others.
+-- down, the buffer shows a table, which is its visible pieces, and has a border, which is all
+-- others.
 use Rattle.std.specs.Prelude.{ℕ, ◌≡◌, All, List, [], ◌∷◌, ◌++◌, length, map, take, drop, replicate, Option, Some, IsSome, slice_set}
 use Rattle.std.specs.List.{refill}
 use Rattle.v_frame_layout.specs.Geometry.{Geometry, Mark, Border, Visible, Piece, cutting_plan, place_of, alloc_size_of, Fits}
