@@ -1,11 +1,12 @@
 //! Pixels: what a plane holds.
-ghost use Rattle.std.specs.Prelude.{◌≡◌, ℕ, ◌+◌, ◌/◌, ◌^◌, ◌<◌, ◌*◌, ◌↔◌, length, nat_eq, IsSome, IfSome, refl};
+ghost use Rattle.std.specs.Prelude.{◌≡◌, ℕ, ◌+◌, ◌/◌, ◌^◌, ◌<◌, ◌≤◌, ◌*◌, ◌↔◌, length, nat_eq, IsSome, IfSome, refl};
 ghost use Rattle.std.specs.Ordering.{nat_cmp};
 ghost use Rattle.std.proofs.Common.{lit<};
 ghost use Rattle.v_frame_layout.specs.Pixel.{PixelForm, one_byte, two_bytes, byte_of, value_of_bytes, pixels_of_bytes};
 
 use std::fmt::{Binary, Debug, Display, LowerHex, Octal, UpperHex};
 use std::hash::Hash;
+use std::simd::{u8x32, u16x16};
 
 mod sealed {
     /// No type outside this crate can be a pixel.
@@ -233,8 +234,22 @@ impl Pixel for u16 {
     }
 
     fn decode_row(dst: &mut [u16], src: &[u8]) {
-        for i in 0..dst.len() {
+        let blocks = dst.len() / 16;
+        for block in 0..blocks {
+            sixteen_pixels(&src[32 * block..]).copy_to_slice(&mut dst[16 * block..]);
+        }
+        // The short rest of the row.
+        for i in 16 * blocks..dst.len() {
             dst[i] = u16::from_le_bytes([src[2 * i], src[2 * i + 1]]);
         }
     }
+}
+
+/// The pixels of the first 32 bytes.
+#[inline(always)]
+fn sixteen_pixels(src: &[u8]) -> u16x16
+    requires { 32 ≤ length src.now }
+    ensures { result ≡ pixels_of_bytes two_bytes 16 src.now }
+{
+    u16x16::from_le_bytes(u8x32::from_slice(src))
 }
