@@ -1,5 +1,10 @@
 pub mod BegunPixels
 pub mod BegunRows
+pub mod BlockCrosses
+pub mod BlockEntries
+pub mod BlockLent
+pub mod BlockParts
+pub mod BlockRooms
 pub mod ByteCopies
 pub mod ByteLaws
 pub mod BytesBack
@@ -11,7 +16,6 @@ pub mod Equality
 pub mod Lists
 pub mod Loans
 pub mod Marks
-pub mod Options
 pub mod Overwrites
 pub mod OwnPlaces
 pub mod Pictures

@@ -23,3 +23,7 @@ abbrev pub LendsEntryIf : (T : RattleType) → MutBor (List T.Denot) → ℕ →
     → Fml
 LendsEntryIf T buffer place r =
     LendsIf (the_row T) T buffer r (slice_set buffer.now place) buffer.now
+
+-- once the borrow r of an entry of a slice ends, the slice has at the place what r shows last
+abbrev pub LendsEntryOf : (T : RattleType) → MutBor (List T.Denot) → ℕ → MutBor T.Denot → Fml
+LendsEntryOf T entries place r = Lends (Array T 0) T entries r (slice_set entries.now place)

@@ -3,24 +3,49 @@ ghost use Rattle.std.specs.Prelude.{◌≡◌, ◌<◌, ◌≤◌, All, length, 
 ghost use Rattle.std.specs.Cmp.Lexicographic.{pointwise, lists_per, lists_equiv};
 ghost use Rattle.std.specs.Option.{option_copied_mut};
 ghost use Rattle.std.specs.Borrow.{sem};
-ghost use Rattle.v_frame_plane.specs.AlignedData.{LendsEntries, LendsPart, LendsEntry, LendsEntryIf};
+ghost use Rattle.v_frame_plane.specs.AlignedData.{LendsEntries, LendsPart, LendsEntry, LendsEntryIf, LendsEntryOf};
 
+mod block;
+mod filling;
+
+use block::{Base, Cells, Deed, give_back};
+use filling::Filling;
 use std::alloc::{AllocError, Global};
 use std::fmt;
 use std::marker::Model;
 
 /// The entries of a buffer. How they are kept is known here alone. Stands for `AlignedData` of `v_frame` 0.7.0.
-#[derive(Drop)]
 pub struct AlignedData<T> {
-    entries: Vec<T>,
+    base: Base<T>,
+    len: usize,
+    cells: Cells<T>,
+    deed: Deed<T, Global>,
+    alloc: Global,
 }
 
 impl<T> Model for AlignedData<T> {
     ghost use Rattle.std.specs.Prelude.{List};
+    ghost use Rattle.v_frame_plane.specs.Filling.{IsBlock};
 
     ghost Value = { List T };
 
-    ghost view = { λ a. a.entries.items };
+    ghost view = { λ d. d.cells.items };
+
+    ghost invariant = { λ d. IsBlock d.base d.cells d.deed d.alloc d.len d.len };
+}
+
+/// Drops every entry, and gives the memory back.
+impl<T: Drop> Drop for AlignedData<T> {
+    fn drop(self) {
+        let AlignedData {
+            base,
+            len,
+            cells,
+            deed,
+            alloc,
+        } = self;
+        give_back(&alloc, base, len, len, cells, deed);
+    }
 }
 
 impl<T> AlignedData<T> {
@@ -30,9 +55,11 @@ impl<T> AlignedData<T> {
         T: Copy,
         ensures { IfOk result (λ d. d ≡ replicate len value) }
     {
-        let mut entries = Vec::with_capacity(alloc, len)?;
-        entries.resize(len, value)?;
-        Ok(AlignedData { entries })
+        let mut filling = Filling::new(alloc, len)?;
+        for _ in 0..len {
+            filling.push(value);
+        }
+        Ok(filling.finish())
     }
 
     /// The same entries in a buffer of their own.
@@ -41,15 +68,18 @@ impl<T> AlignedData<T> {
         T: Copy,
         ensures { IfOk result (λ copy. copy ≡ self.now) }
     {
-        let entries = Vec::from_slice(alloc, self.entries.as_slice())?;
-        Ok(AlignedData { entries })
+        let mut filling = Filling::new(alloc, self.len)?;
+        for entry in self.as_slice() {
+            filling.push(*entry);
+        }
+        Ok(filling.finish())
     }
 
     /// The entries.
     pub fn as_slice(&self) -> &[T]
         ensures { result.now ≡ self.now }
     {
-        self.entries.as_slice()
+        self.cells.slice(self.base, self.len)
     }
 
     /// The entries, for writing.
@@ -57,7 +87,7 @@ impl<T> AlignedData<T> {
         ensures* writes_back { sem 𝓛 (LendsEntries T.row self.entry result) }
         ensures value { result.now ≡ self.old }
     {
-        self.entries.as_mut_slice()
+        self.cells.slice_mut(self.base, 0, self.len)
     }
 
     /// The entries from `start` up to `end`, for writing.
@@ -67,7 +97,7 @@ impl<T> AlignedData<T> {
         ensures* writes_back { sem 𝓛 (LendsPart T.row self.entry start result) }
         ensures value { result.now ≡ slice_range self.old start end }
     {
-        self.entries.slice_mut(start..end)
+        self.cells.slice_mut(self.base, start, end)
     }
 
     /// The entry at a place for writing.
@@ -76,7 +106,7 @@ impl<T> AlignedData<T> {
         ensures* writes_back { sem 𝓛 (LendsEntry T.row self.entry place result) }
         ensures value { slice_get self.old place ≡ Some result.now }
     {
-        &mut self.entries[place]
+        entry_of(self.as_mut_slice(), place)
     }
 
     /// The entry at a place for writing, where there is one.
@@ -84,8 +114,20 @@ impl<T> AlignedData<T> {
         ensures* writes_back { sem 𝓛 (LendsEntryIf T.row self.entry place result) }
         ensures value { option_copied_mut result ≡ slice_get self.old place }
     {
-        self.entries.get_mut(place)
+        if place >= self.len {
+            return None;
+        }
+        Some(self.entry_mut(place))
     }
+}
+
+/// An entry of a slice for writing.
+fn entry_of<T>(entries: &mut [T], place: usize) -> &mut T
+    requires { place < length entries.old }
+    ensures* writes_back { sem 𝓛 (LendsEntryOf T.row entries.entry place result) }
+    ensures value { slice_get entries.old place ≡ Some result.now }
+{
+    &mut entries[place]
 }
 
 impl<T> AlignedData<Option<T>> {
@@ -93,11 +135,11 @@ impl<T> AlignedData<Option<T>> {
     pub fn without_values(alloc: Global, len: usize) -> Result<Self, AllocError>
         ensures { IfOk result (λ d. d ≡ replicate len None) }
     {
-        let mut entries = Vec::with_capacity(alloc, len)?;
+        let mut filling = Filling::new(alloc, len)?;
         for _ in 0..len {
-            entries.push_reserved(None);
+            filling.push(None);
         }
-        Ok(AlignedData { entries })
+        Ok(filling.finish())
     }
 
     /// The values, each moved to its place in a buffer of their own. Without memory for that nothing is moved.
@@ -108,15 +150,15 @@ impl<T> AlignedData<Option<T>> {
         ensures values { IfOk result (λ d. map Some d ≡ self) }
         ensures kept { IfErr result (λ d. d ≡ self) }
     {
-        let Ok(mut values) = Vec::with_capacity(alloc, self.entries.len()) else {
+        let Ok(mut values) = Filling::new(alloc, self.len) else {
             return Err(self);
         };
-        for entry in self.entries.as_mut_slice() {
+        for entry in self.as_mut_slice() {
             if let Some(value) = entry.take() {
-                values.push_reserved(value);
+                values.push(value);
             }
         }
-        Ok(AlignedData { entries: values })
+        Ok(values.finish())
     }
 }
 
@@ -126,7 +168,7 @@ impl<T: PartialEq> PartialEq for AlignedData<T> {
     ghost laws = { lists_per T.PartialEq.laws };
 
     fn eq(&self, other: &Self) -> bool {
-        self.entries.as_slice() == other.entries.as_slice()
+        self.as_slice() == other.as_slice()
     }
 }
 
@@ -140,11 +182,11 @@ const SHOWN_ENTRIES: usize = 5;
 /// The first entries, and two dots where there are more.
 impl<T: fmt::Debug> fmt::Debug for AlignedData<T> {
     fn fmt<W: fmt::Write>(&self, f: &mut fmt::Formatter<W>) -> fmt::Result {
-        match self.entries.get(..SHOWN_ENTRIES) {
-            Some(first) if self.entries.len() > SHOWN_ENTRIES => {
+        match self.as_slice().get(..SHOWN_ENTRIES) {
+            Some(first) if self.len > SHOWN_ENTRIES => {
                 f.debug_list().slice(first).finish_non_exhaustive()
             }
-            _ => self.entries.as_slice().fmt(f),
+            _ => self.as_slice().fmt(f),
         }
     }
 }

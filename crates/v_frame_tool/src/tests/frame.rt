@@ -6,3 +6,4 @@ mod debugs;
 mod equality;
 mod formats;
 mod refusals;
+mod threads;

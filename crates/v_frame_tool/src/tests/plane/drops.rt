@@ -1,0 +1,87 @@
+//! Elements whose drops are counted: each is dropped once, whatever becomes of its plane.
+//!
+//! Where `assume_init` is refused, `rt try --test --fail-alloc N` takes a test there, as in the refusals of replays.
+
+use crate::tests::support::options::{vacant, values_of};
+use std::alloc::Global;
+use std::cell::Cell;
+use std::process::Abort;
+use std::rc::Rc;
+use v_frame::plane::{Plane, PlaneGeometry};
+
+/// An element that counts its drop.
+struct Counted {
+    drops: Rc<Cell<u32>>,
+}
+
+impl Drop for Counted {
+    fn drop(self) {
+        let Counted { drops } = self;
+        drops.set(drops.get().wrapping_add(1));
+    }
+}
+
+/// A count of drops, none so far.
+fn none_so_far(rt: &impl Abort, alloc: Global) -> Rc<Cell<u32>> {
+    Rc::new(alloc, Cell::new(0)).ok().expect(rt, "memory")
+}
+
+/// Three places in one row, of which the first few hold an element.
+fn held(
+    rt: &impl Abort,
+    alloc: Global,
+    drops: &Rc<Cell<u32>>,
+    count: usize,
+) -> Plane<Option<Counted>> {
+    let mut plane = vacant(rt, alloc, PlaneGeometry::unpadded(3, 1, 1, 1));
+    for entry in plane.data_mut().iter_mut().take(count) {
+        let drops = drops.clone().expect(rt, "memory");
+        *entry = Some(Counted { drops });
+    }
+    plane
+}
+
+#[test]
+fn a_plane_of_options_drops_what_it_holds(rt: HostRuntime) {
+    for (count, dropped) in [(0, 0), (1, 1), (2, 2), (3, 3)] {
+        let drops = none_so_far(&rt, rt.alloc());
+        let plane = held(&rt, rt.alloc(), &drops, count);
+        assert!(rt; drops.get() == 0);
+        drop(plane);
+        assert!(rt; drops.get() == dropped);
+    }
+}
+
+#[test]
+fn a_plane_of_values_drops_each_once(rt: HostRuntime) {
+    let drops = none_so_far(&rt, rt.alloc());
+    let plane = held(&rt, rt.alloc(), &drops, 3);
+    let plane = values_of(&rt, rt.alloc(), plane);
+    assert!(rt; drops.get() == 0);
+    drop(plane);
+    assert!(rt; drops.get() == 3);
+}
+
+#[test]
+fn a_plane_that_is_given_back_drops_each_once(rt: HostRuntime) {
+    let drops = none_so_far(&rt, rt.alloc());
+    let plane = held(&rt, rt.alloc(), &drops, 3);
+    if !plane.is_init() {
+        panic!(rt; "a place without a value");
+    }
+    let given = plane.assume_init(rt.alloc());
+    assert!(rt; drops.get() == 0);
+    drop(given);
+    assert!(rt; drops.get() == 3);
+}
+
+#[test]
+fn an_element_that_is_replaced_is_dropped(rt: HostRuntime) {
+    let drops = none_so_far(&rt, rt.alloc());
+    let mut plane = held(&rt, rt.alloc(), &drops, 3);
+    let entry = plane.data_mut().first_mut().expect(&rt, "a place");
+    *entry = None;
+    assert!(rt; drops.get() == 1);
+    drop(plane);
+    assert!(rt; drops.get() == 3);
+}
