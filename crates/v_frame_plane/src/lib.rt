@@ -5,7 +5,7 @@
 //!
 //! | module | what it promises to those above |
 //! |---|---|
-//! | `aligned` | The buffer: a list of fixed length, made, read, cloned, compared, and lent for writing whole, in part or at one entry. How it is kept is known there alone. |
+//! | `aligned` | The buffer: a list of fixed length, made, read, cloned, compared, and lent for writing whole, in part or at one entry. How it is kept is known there alone: in a block of raw memory, behind the five functions with pointers of `aligned::block`. |
 //! | `place` | Where a row begins and where a pixel lies, in a geometry that fits. |
 //! | `error` | Why a copy is refused. |
 //! | `plane_ref` | A geometry and a slice that is the whole buffer, read as a plane. |

@@ -8,6 +8,7 @@ mod debugs;
 mod draws;
 mod drops;
 mod equality;
+mod extremes;
 mod geometry;
 mod lent;
 mod options;

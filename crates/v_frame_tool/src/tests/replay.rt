@@ -1,9 +1,11 @@
 //! Replays: lists of calls, and what they answer and leave.
 
+mod borders;
 mod byte_walks;
 mod calls;
 mod copies;
 mod debugs;
+mod extremes;
 mod laws;
 mod refusals;
 mod walks;
