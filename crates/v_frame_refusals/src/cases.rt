@@ -1,0 +1,28 @@
+//! The cases: each prepares, makes one call, and looks at all that it gave and left.
+//!
+//! Nothing takes memory once the call was made, so a request that is refused is one of the preparation or of the call.
+
+mod builds;
+mod clones;
+mod options;
+mod pictures;
+mod replays;
+mod without_memory;
+
+use crate::outcome::Outcome;
+use std::alloc::Global;
+
+/// What is seen in the case of this name.
+pub fn seen(alloc: Global, case: &str) -> Result<Outcome, Outcome> {
+    match case {
+        "build" => Ok(builds::build(alloc)),
+        "new_uninit" => options::new_uninit(alloc),
+        "assume_init" => options::assume_init(alloc),
+        "assume_init_of_texts" => options::assume_init_of_texts(alloc),
+        "clone_of_a_plane" => clones::clone_of_a_plane(alloc),
+        "clone_of_a_frame" => clones::clone_of_a_frame(alloc),
+        "replay" => replays::replay_of_a_list(alloc),
+        "without_memory" => without_memory::without_memory(alloc),
+        _ => Err(Outcome::Wrong("no case has this name")),
+    }
+}

@@ -1,0 +1,90 @@
+//! Planes that are filled entry by entry.
+
+use crate::outcome::Outcome;
+use std::alloc::Global;
+use v_frame::plane::{Plane, PlaneGeometry};
+
+/// A plane without a value, in a border.
+pub fn new_uninit(alloc: Global) -> Result<Outcome, Outcome> {
+    let Some(geometry) = PlaneGeometry::new(4, 3, 2, 2, 1, 1, 1, 1) else {
+        return Err(NO_GEOMETRY);
+    };
+    if geometry.checked_alloc_size() != Some(40) {
+        return Err(NO_GEOMETRY);
+    }
+    Ok(match Plane::<u8>::new_uninit(alloc, geometry) {
+        Ok(plane) => Outcome::done(plane.geometry() == geometry && is_vacant(&plane)),
+        Err(_) => Outcome::Kept,
+    })
+}
+
+/// Where the numbers of a geometry don't go together.
+const NO_GEOMETRY: Outcome = Outcome::Wrong("no geometry can be prepared");
+
+/// Whether a plane of 40 places has no value.
+fn is_vacant(plane: &Plane<Option<u8>>) -> bool {
+    !plane.is_init() && plane.data() == [None; 40].as_slice()
+}
+
+/// The values of a plane that is filled with two.
+pub fn assume_init(alloc: Global) -> Result<Outcome, Outcome> {
+    let mut plane = row_of::<u8>(alloc, 2)?;
+    for (entry, value) in plane.data_mut().iter_mut().zip([5, 6]) {
+        *entry = Some(value);
+    }
+    if !plane.is_init() {
+        return Err(NOT_FILLED);
+    }
+    Ok(match plane.assume_init(alloc) {
+        Ok(plane) => Outcome::done(plane.data() == [5, 6].as_slice()),
+        Err(plane) => Outcome::kept(plane.data() == [Some(5), Some(6)].as_slice()),
+    })
+}
+
+/// Where a place was left without a value.
+const NOT_FILLED: Outcome = Outcome::Wrong("a place without a value");
+
+/// A plane of one row without a value.
+fn row_of<T>(alloc: Global, width: usize) -> Result<Plane<Option<T>>, Outcome> {
+    let Some(geometry) = PlaneGeometry::unpadded(width, 1, 1, 1) else {
+        return Err(NO_GEOMETRY);
+    };
+    if geometry.checked_alloc_size().is_none() {
+        return Err(NO_GEOMETRY);
+    }
+    Ok(Plane::new_uninit(alloc, geometry)?)
+}
+
+/// Three texts, which own memory where they are not empty.
+const TEXTS: [&str; 3] = ["Hello World", "", "This is a test"];
+
+/// The values of a plane that is filled with texts.
+pub fn assume_init_of_texts(alloc: Global) -> Result<Outcome, Outcome> {
+    let mut plane = row_of::<String>(alloc, 3)?;
+    for (entry, text) in plane.data_mut().iter_mut().zip(TEXTS) {
+        *entry = Some(String::from_str(alloc, text)?);
+    }
+    if !plane.is_init() {
+        return Err(NOT_FILLED);
+    }
+    Ok(match plane.assume_init(alloc) {
+        Ok(plane) => Outcome::done(are_the_texts(plane.data())),
+        Err(plane) => Outcome::kept(hold_the_texts(plane.data())),
+    })
+}
+
+/// Whether these are the three texts.
+fn are_the_texts(entries: &[String]) -> bool {
+    match entries {
+        [a, b, c] => [a.as_str(), b.as_str(), c.as_str()] == TEXTS,
+        _ => false,
+    }
+}
+
+/// Whether three places hold the three texts.
+fn hold_the_texts(entries: &[Option<String>]) -> bool {
+    match entries {
+        [Some(a), Some(b), Some(c)] => [a.as_str(), b.as_str(), c.as_str()] == TEXTS,
+        _ => false,
+    }
+}

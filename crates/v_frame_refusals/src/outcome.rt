@@ -1,0 +1,71 @@
+//! What one run saw.
+
+use std::alloc::AllocError;
+use std::fmt;
+use v_frame::frame::FrameError;
+
+/// What the run of a case saw.
+#[derive(Clone, Copy, PartialEq, Eq)]
+pub enum Outcome {
+    /// A request of the preparation was refused, so the call was not made.
+    Unprepared,
+    /// A request of the call was refused. It said so, and what stands is right.
+    Kept,
+    /// The call answered `Ok`, and what it gave is right.
+    Done,
+    /// Something else, and what it was.
+    Wrong(&'static str),
+}
+
+impl Outcome {
+    /// That of a call that answered `Ok`, and gave what is right or not.
+    pub fn done(is_right: bool) -> Self {
+        if is_right {
+            Outcome::Done
+        } else {
+            Outcome::Wrong("what the call gave")
+        }
+    }
+
+    /// That of a call that was refused, and left what is right or not.
+    pub fn kept(is_right: bool) -> Self {
+        if is_right {
+            Outcome::Kept
+        } else {
+            Outcome::Wrong("what stands after the refusal")
+        }
+    }
+
+    /// Whether the run saw what is not right.
+    pub fn is_wrong(self) -> bool {
+        matches!(self, Outcome::Wrong(_))
+    }
+}
+
+impl fmt::Display for Outcome {
+    fn fmt<W: fmt::Write>(&self, f: &mut fmt::Formatter<W>) -> fmt::Result {
+        match self {
+            Outcome::Unprepared => f.write_str("prepared: refused"),
+            Outcome::Kept => f.write_str("refused: kept"),
+            Outcome::Done => f.write_str("done"),
+            Outcome::Wrong(what) => write!(f, "wrong: {what}"),
+        }
+    }
+}
+
+/// For what is prepared.
+impl From<AllocError> for Outcome {
+    fn from(_refused: AllocError) -> Self {
+        Outcome::Unprepared
+    }
+}
+
+/// For what is prepared.
+impl From<FrameError> for Outcome {
+    fn from(error: FrameError) -> Self {
+        match error {
+            FrameError::OutOfMemory => Outcome::Unprepared,
+            _ => Outcome::Wrong("no frame can be prepared"),
+        }
+    }
+}
