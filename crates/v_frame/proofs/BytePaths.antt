@@ -1,5 +1,5 @@
 -- Bytes that go through a frame: it is built, filled by a copy with a stride, and walked over its bytes.
-use Rattle.std.proofs.Common.{ℕ, ◌≡◌, ◌*◌, ◌^◌, ◌<◌, ◌≤◌, Bool, true, false, ◌&&◌, ◌||◌, ltb, if◌then◌else◌, List, [], ◌∷◌, length, Some, None, Result, Ok, Err, refl, ◌∙◌, ap}
+use Rattle.std.proofs.Common.{ℕ, ◌≡◌, ◌*◌, ◌^◌, ◌<◌, ◌≤◌, Bool, true, false, ◌&&◌, ◌||◌, ltb, if◌then◌else◌, List, [], ◌∷◌, length, Option, Some, None, Result, Ok, Err, refl, ◌∙◌, ap}
 use Rattle.std.specs.Prelude.{MatchOption, IsOkUnless, is_ok}
 use Rattle.std.proofs.lemmas.Bool.{ltb-true}
 use Rattle.std.proofs.lemmas.List.{length-replicate}
@@ -41,6 +41,12 @@ module _ {X : Type 0} (r : Result X FrameError) (built : X) (is : r ≡ Ok built
       let laid_out = both_true (is_laid_out luma) (is_ok (subsampled asked.subsampling luma)) all in
       let wide = both_true (ltb 0 asked.width) _ laid_out.0 in
       ltb-true 0 asked.height (both_true (ltb 0 asked.height) _ wide.1).0
+
+-- an error that is handed on comes for the same reason
+pub refusal_goes_on : {X Y : Type 0} (r : Result X FrameError) (s : Result Y FrameError) (e o : FrameError) (due : Option FrameError) → r ≡ Err e → s ≡ Err e
+    → MatchOption due (IsOkUnless r o) (λ fault. r ≡ Err fault) → MatchOption due (IsOkUnless s o) (λ fault. s ≡ Err fault)
+refusal_goes_on r s e o None was is h = let why = rw was at h in rw is why
+refusal_goes_on r s e o (Some fault) was is h = cc
 
 module _ {T : Type 0} where
   module _ (zero : T) (asked : FrameRequest) where

@@ -8,7 +8,7 @@ use Rattle.v_frame.specs.Build.{FrameRequest, refusal_of}
 use Rattle.v_frame.specs.Frame.{Tables}
 use Rattle.v_frame.specs.Replay.{answers_to, tables_after}
 use Rattle.v_frame_layout.specs.declared.chroma.ChromaSubsampling.{ChromaSubsampling}
-use Rattle.v_frame_layout.specs.declared.chroma.ChromaSubsampling.TheVariants.{Yuv420, Yuv422, Yuv444, Monochrome}
+use Rattle.v_frame_layout.specs.declared.chroma.ChromaSubsampling.TheVariants.{Yuv420, Yuv422, Yuv411, Yuv444, Monochrome}
 use Rattle.v_frame.specs.declared.frame.error.FrameError.TheVariants.{UnsupportedBitDepth, DataTypeMismatch, UnsupportedResolution}
 use Rattle.v_frame_plane.specs.declared.error.CopyError.TheVariants.{DataLength}
 use Rattle.v_frame.specs.declared.replay.call.VisibleCall.{VisibleCall}
@@ -71,7 +71,7 @@ its_border : border_of three_by_two
     ∷ []
 its_border = refl
 
--- sizes and paddings are halved where that leaves nothing over, and else refused
+-- sizes and paddings are divided where that leaves nothing over, and else refused
 halved_size : chroma_size_of Yuv420 1920 1080 ≡ Some (960, 540)
 halved_size = refl
 
@@ -84,6 +84,16 @@ halved_columns = refl
 
 odd_padding : subsampled Yuv420 (geometry_of 1920 1080 10 10 40 15 1 1) ≡ Err (record {})
 odd_padding = refl
+
+quarter_size : chroma_size_of Yuv411 8 3 ≡ Some (2, 3)
+quarter_size = refl
+
+quarter_columns : subsampled Yuv411 (geometry_of 960 540 20 16 10 5 2 2)
+    ≡ Ok (Some (geometry_of 240 540 5 4 10 5 4 1))
+quarter_columns = refl
+
+padding_without_a_quarter : subsampled Yuv411 (geometry_of 960 540 20 15 10 5 2 2) ≡ Err (record {})
+padding_without_a_quarter = refl
 
 full_size : subsampled Yuv444 (geometry_of 17 41 1 0 0 3 2 2)
     ≡ Ok (Some (geometry_of 17 41 1 0 0 3 2 2))
@@ -111,6 +121,9 @@ type_decides_next = refl
 
 size_decides_last : refusal_of 1 (unpadded 0 1080 Yuv420 8) ≡ Some UnsupportedResolution
 size_decides_last = refl
+
+no_quarter : refusal_of 1 (unpadded 6 2 Yuv411 8) ≡ Some UnsupportedResolution
+no_quarter = refl
 
 too_wide : refusal_of 1 (unpadded 4611686018427387904 1 Monochrome 8) ≡ Some UnsupportedResolution
 too_wide = refl

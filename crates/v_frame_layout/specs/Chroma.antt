@@ -2,13 +2,14 @@
 use Rattle.std.specs.Prelude.{ℕ, ◌*◌, ◌/◌, ◌==◌, ◌&&◌, if◌then◌else◌, Bool, Option, Some, None, Result, Ok, Err}
 use Rattle.v_frame_layout.specs.Geometry.{Geometry, geometry_of}
 use Rattle.v_frame_layout.specs.declared.chroma.ChromaSubsampling.{ChromaSubsampling}
-use Rattle.v_frame_layout.specs.declared.chroma.ChromaSubsampling.TheVariants.{Yuv420, Yuv422, Yuv444, Monochrome}
+use Rattle.v_frame_layout.specs.declared.chroma.ChromaSubsampling.TheVariants.{Yuv420, Yuv422, Yuv411, Yuv444, Monochrome}
 use Rattle.v_frame_layout.specs.declared.geometry.SubsamplingError.{SubsamplingError}
 
 -- how many luma columns, and how many luma rows, stand beside one chroma column and one chroma row
 abbrev pub ratio_of : ChromaSubsampling → Option (ℕ × ℕ)
 ratio_of Yuv420 = Some (2, 2)
 ratio_of Yuv422 = Some (2, 1)
+ratio_of Yuv411 = Some (4, 1)
 ratio_of Yuv444 = Some (1, 1)
 ratio_of Monochrome = None
 

@@ -8,13 +8,15 @@ use std::num::NonZeroU8;
 
 /// The format of a frame: how much smaller its chroma planes are than its luma plane.
 ///
-/// Ports `ChromaSubsampling` of `v_frame` 0.7.0.
+/// Ports `ChromaSubsampling` of `v_frame` 0.7.0, which has no [`Yuv411`](Self::Yuv411).
 #[derive(Debug, Clone, Copy, PartialEq, Eq)]
 pub enum ChromaSubsampling {
     /// Chroma at half the width and half the height of luma.
     Yuv420,
     /// Chroma at half the width of luma.
     Yuv422,
+    /// Chroma at a quarter of the width of luma, as in DV video. Our own.
+    Yuv411,
     /// Chroma at the size of luma.
     Yuv444,
     /// Luma alone.
@@ -56,9 +58,11 @@ impl ChromaSubsampling {
     {
         let one = NonZeroU8::MIN;
         let two = NonZeroU8::new(2).unwrap();
+        let four = NonZeroU8::new(4).unwrap();
         match self {
             ChromaSubsampling::Yuv420 => Some((two, two)),
             ChromaSubsampling::Yuv422 => Some((two, one)),
+            ChromaSubsampling::Yuv411 => Some((four, one)),
             ChromaSubsampling::Yuv444 => Some((one, one)),
             ChromaSubsampling::Monochrome => None,
         }

@@ -2,7 +2,7 @@
 
 use crate::numbers::Numbers;
 use std::alloc::{AllocError, Global};
-use v_frame::chroma::ChromaSubsampling::{self, Monochrome, Yuv420, Yuv422, Yuv444};
+use v_frame::chroma::ChromaSubsampling::{self, Monochrome, Yuv411, Yuv420, Yuv422, Yuv444};
 use v_frame::frame::FrameBuilder;
 use v_frame::pixel::Pixel;
 
@@ -31,12 +31,13 @@ pub struct Shape {
 }
 
 impl Shape {
-    /// A shape that can be built, of 1 to 9 luma columns and rows and of paddings of 0 to 3.
+    /// A shape that can be built, of 1 to 9 luma columns and rows and of paddings of 0 to 4.
     pub fn make<T: Pixel>(numbers: &mut Numbers) -> Self {
-        let subsampling = match numbers.below(4) {
+        let subsampling = match numbers.below(5) {
             0 => Yuv420,
             1 => Yuv422,
-            2 => Yuv444,
+            2 => Yuv411,
+            3 => Yuv444,
             _ => Monochrome,
         };
         let (columns, rows) = ratios_of(subsampling);
@@ -125,31 +126,26 @@ fn ratios_of(subsampling: ChromaSubsampling) -> (u8, u8) {
     match subsampling {
         Yuv420 => (2, 2),
         Yuv422 => (2, 1),
+        Yuv411 => (4, 1),
         Yuv444 | Monochrome => (1, 1),
     }
 }
 
-/// A luma number as chroma has it. No ratio is above 2.
+/// A luma number as chroma has it.
 fn quotient(count: usize, ratio: u8) -> usize {
-    if ratio == 2 { count / 2 } else { count }
+    count / usize::from(ratio.max(1))
 }
 
 /// A size from 1 to 9 that the ratio divides.
 fn size(numbers: &mut Numbers, ratio: u8) -> usize {
-    if ratio == 2 {
-        numbers.below(4).saturating_mul(2).saturating_add(2)
-    } else {
-        numbers.below(9).saturating_add(1)
-    }
+    let quotient = numbers.below(quotient(9, ratio)).saturating_add(1);
+    quotient.saturating_mul(usize::from(ratio))
 }
 
-/// A padding from 0 to 3 that the ratio divides.
+/// A padding that the ratio divides: from 0 to 3, and for a ratio of 4 also 4.
 fn padding(numbers: &mut Numbers, ratio: u8) -> usize {
-    if ratio == 2 {
-        numbers.below(2).saturating_mul(2)
-    } else {
-        numbers.below(4)
-    }
+    let quotients = if ratio == 1 { 4 } else { 2 };
+    numbers.below(quotients).saturating_mul(usize::from(ratio))
 }
 
 /// A depth that pixels of this type can have.

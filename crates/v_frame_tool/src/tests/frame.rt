@@ -5,5 +5,6 @@ mod clones;
 mod debugs;
 mod equality;
 mod formats;
+mod quarter_width;
 mod refusals;
 mod threads;

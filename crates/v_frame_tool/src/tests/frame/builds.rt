@@ -5,7 +5,7 @@ use crate::tests::support::reads::numbers_of;
 use std::alloc::Global;
 use std::process::Abort;
 use v_frame::chroma::ChromaSubsampling;
-use v_frame::chroma::ChromaSubsampling::{Monochrome, Yuv420, Yuv422, Yuv444};
+use v_frame::chroma::ChromaSubsampling::{Monochrome, Yuv411, Yuv420, Yuv422, Yuv444};
 use v_frame::frame::{Frame, FrameBuilder};
 use v_frame::laws;
 use v_frame::pixel::Pixel;
@@ -41,6 +41,7 @@ fn chroma_planes_have_the_size_of_the_format(rt: HostRuntime) {
     let cases = [
         (Yuv420, Some((960, 540))),
         (Yuv422, Some((960, 1080))),
+        (Yuv411, Some((480, 1080))),
         (Yuv444, Some((1920, 1080))),
         (Monochrome, None),
     ];
@@ -148,6 +149,17 @@ fn three_planes_are_padded_and_zero(rt: HostRuntime) {
     let luma = ((4, 2), [4, 2, 8, 2, 2, 2, 0, 1, 1], [0; 32].as_slice());
     assert!(rt; layout(&frame.y_plane) == luma);
     let chroma = ((2, 1), [2, 1, 4, 1, 1, 1, 0, 2, 2], [0; 8].as_slice());
+    assert!(rt; chroma_is(&frame, chroma));
+}
+
+#[test]
+fn planes_of_a_quarter_of_the_columns_are_padded_and_zero(rt: HostRuntime) {
+    let frame = padded((8, 2), Yuv411, 8, [4, 8, 1, 0])
+        .build::<u8>(rt.alloc())
+        .expect(&rt, "a frame");
+    let luma = ((8, 2), [8, 2, 20, 4, 8, 1, 0, 1, 1], [0; 60].as_slice());
+    assert!(rt; layout(&frame.y_plane) == luma);
+    let chroma = ((2, 2), [2, 2, 5, 1, 2, 1, 0, 4, 1], [0; 15].as_slice());
     assert!(rt; chroma_is(&frame, chroma));
 }
 

@@ -6,7 +6,7 @@
 use crate::tests::support::frames::{luma, padded, refusal};
 use crate::tests::support::reads::table_of;
 use crate::tests::support::texts::displays;
-use v_frame::chroma::ChromaSubsampling::{Monochrome, Yuv420, Yuv422, Yuv444};
+use v_frame::chroma::ChromaSubsampling::{Monochrome, Yuv411, Yuv420, Yuv422, Yuv444};
 use v_frame::frame::{FrameBuilder, FrameError};
 
 #[test]
@@ -47,6 +47,23 @@ fn an_odd_padding_is_refused_where_it_is_halved(rt: HostRuntime) {
     assert!(rt; refusal::<u8>(rt.alloc(), halved) == Some(FrameError::UnsupportedResolution));
     let full = padded((1920, 1080), Yuv444, 8, [15, 0, 0, 0]);
     assert!(rt; refusal::<u8>(rt.alloc(), full).is_none());
+}
+
+#[test]
+fn columns_without_a_quarter_are_refused(rt: HostRuntime) {
+    let refused = [
+        padded((6, 2), Yuv411, 8, [0, 0, 0, 0]),
+        padded((8, 2), Yuv411, 8, [2, 8, 1, 0]),
+        padded((8, 2), Yuv411, 8, [4, 6, 1, 0]),
+    ];
+    for builder in refused {
+        assert!(rt; refusal::<u8>(rt.alloc(), builder) == Some(FrameError::UnsupportedResolution));
+    }
+    for rows in [[3, 0], [1, 3]] {
+        let [top, bottom] = rows;
+        let odd_rows = padded((8, 1), Yuv411, 8, [4, 8, top, bottom]);
+        assert!(rt; refusal::<u8>(rt.alloc(), odd_rows).is_none());
+    }
 }
 
 #[test]

@@ -1,6 +1,6 @@
 //! Geometries of chroma planes: paddings are divided as sizes are, and what is odd has no half.
 
-use v_frame::chroma::ChromaSubsampling::{Monochrome, Yuv420, Yuv422, Yuv444};
+use v_frame::chroma::ChromaSubsampling::{Monochrome, Yuv411, Yuv420, Yuv422, Yuv444};
 use v_frame::plane::{PlaneGeometry, SubsamplingError};
 
 #[test]
@@ -27,6 +27,15 @@ fn paddings_are_halved_as_sizes_are(rt: HostRuntime) {
 }
 
 #[test]
+fn quarters_of_chroma_that_is_half_as_large(rt: HostRuntime) {
+    let half = PlaneGeometry::new(960, 540, 20, 15, 10, 5, 2, 2).expect(&rt, "half");
+    assert!(rt; half.for_subsampling(Yuv411) == Err(SubsamplingError));
+    let wider = PlaneGeometry::new(960, 540, 20, 16, 10, 5, 2, 2).expect(&rt, "wider");
+    let quarter = PlaneGeometry::new(240, 540, 5, 4, 10, 5, 4, 1).expect(&rt, "quarter");
+    assert!(rt; wider.for_subsampling(Yuv411) == Ok(Some(quarter)));
+}
+
+#[test]
 fn an_odd_padding_of_rows_has_no_half(rt: HostRuntime) {
     let luma = PlaneGeometry::new(1920, 1080, 10, 10, 40, 15, 1, 1).expect(&rt, "a geometry");
     let chroma = PlaneGeometry::new(960, 1080, 5, 5, 40, 15, 2, 1).expect(&rt, "a geometry");
@@ -43,10 +52,11 @@ fn ratios_are_set_and_not_multiplied(rt: HostRuntime) {
     assert!(rt; halved.for_subsampling(Monochrome) == Ok(None));
 }
 
-/// Whether no format of half columns takes this plane, and its chroma is itself in 4:4:4.
+/// Whether no format of fewer columns takes this plane, and its chroma is itself in 4:4:4.
 fn has_no_half(odd: &PlaneGeometry) -> bool {
     odd.for_subsampling(Yuv422) == Err(SubsamplingError)
         && odd.for_subsampling(Yuv420) == Err(SubsamplingError)
+        && odd.for_subsampling(Yuv411) == Err(SubsamplingError)
         && odd.for_subsampling(Yuv444) == Ok(Some(*odd))
         && odd.for_subsampling(Monochrome) == Ok(None)
 }
@@ -63,6 +73,7 @@ fn odd_sizes_and_paddings_have_no_half(rt: HostRuntime) {
 fn has_odd_rows(odd: &PlaneGeometry) -> bool {
     odd.for_subsampling(Yuv420) == Err(SubsamplingError)
         && odd.for_subsampling(Yuv422).is_ok()
+        && odd.for_subsampling(Yuv411).is_ok()
         && odd.for_subsampling(Yuv444).is_ok()
         && odd.for_subsampling(Monochrome).is_ok()
 }

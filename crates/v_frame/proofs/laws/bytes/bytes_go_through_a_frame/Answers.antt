@@ -10,7 +10,7 @@ use Rattle.v_frame_plane.specs.Plane.{Raster, filled, table_of}
 use Rattle.v_frame.specs.declared.frame.error.FrameError.TheVariants.{OutOfMemory}
 use Rattle.v_frame.specs.declared.replay.call.VisibleCall.{VisibleCall}
 use Rattle.v_frame_plane.proofs.BytesBack.{AreBytes, are_bytes}
-use Rattle.v_frame.proofs.BytePaths.{built_high, blank_width, blank_height, path_answers}
+use Rattle.v_frame.proofs.BytePaths.{built_high, blank_width, blank_height, path_answers, refusal_goes_on}
 use Rattle.v_frame.proofs.Draws.{all_given}
 use Rattle.v_frame.proofs.laws.bytes.bytes_go_through_a_frame.Goals as goal
 
@@ -41,3 +41,6 @@ returns-in_err-frame-clause-all g c = λ enough. all_given _ _ enough
 
 pub returns-in_err-calls-clause-all : goal.returns-in_err-calls-clause-all
 returns-in_err-calls-clause-all g c = λ enough. all_given _ _ enough
+
+pub returns-in_err-frame-clause-refused : goal.returns-in_err-frame-clause-refused
+returns-in_err-frame-clause-refused g c = refusal_goes_on c.build.result c.from_residual.result c.in_err-frame.field-0.0 OutOfMemory _ (search rules) (search rules) c.build.ensures.refused
