@@ -6,6 +6,7 @@ mod builds;
 mod clones;
 mod options;
 mod pictures;
+mod planar;
 mod replays;
 mod without_memory;
 
@@ -21,6 +22,7 @@ pub fn seen(alloc: Global, case: &str) -> Result<Outcome, Outcome> {
         "assume_init_of_texts" => options::assume_init_of_texts(alloc),
         "clone_of_a_plane" => clones::clone_of_a_plane(alloc),
         "clone_of_a_frame" => clones::clone_of_a_frame(alloc),
+        "read_frame" => planar::read_a_frame(alloc),
         "replay" => replays::replay_of_a_list(alloc),
         "without_memory" => without_memory::without_memory(alloc),
         _ => Err(Outcome::Wrong("no case has this name")),

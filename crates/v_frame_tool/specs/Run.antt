@@ -1,11 +1,12 @@
 -- What the program asks of its frame, what it prints of the answers, and when it gives up.
-use Rattle.std.specs.Prelude.{ℕ, ◌≡◌, ◌≢◌, ◌<◌, List, [], ◌∷◌, length, take, Option, Some, None, Result, slice_get, replicate, ⊤}
-use Rattle.std.specs.Io.KnownBytes.{Appends}
+use Rattle.std.specs.Prelude.{ℕ, ◌≡◌, ◌≢◌, List, [], ◌∷◌, length, Option, Some, None, Result, slice_get, replicate, ⊤}
 use Rattle.v_frame.specs.Prelude.{Tables, VisibleCall, Answer, CopyError, DataLength}
 use Rattle.v_frame.specs.declared.replay.call.VisibleCall.TheVariants.{Width, Height, Row, CopyFromSlice}
 use Rattle.v_frame.specs.declared.replay.answer.Answer.TheVariants.{Number, RowShown, Copied}
 use Rattle.v_frame.specs.declared.frame.error.FrameError.TheVariants.{OutOfMemory as NoRoomForFrame}
-use Rattle.v_frame_tool.specs.Counted.{Watched, HasFailed}
+use Rattle.v_frame_planar.specs.Counted.{Watched, HasFailed, AppendsBeginning}
+use Rattle.v_frame_planar.specs.declared.counted.WriteFault.{WriteFault}
+use Rattle.v_frame_planar.specs.declared.counted.WriteFault.TheVariants.{Failed, TookNothing}
 use Rattle.v_frame_tool.specs.declared.fault.ToolFault.{ToolFault}
 use Rattle.v_frame_tool.specs.declared.fault.ToolFault.TheVariants.{Frame, Copy, OutOfMemory, Output, WriteZero}
 
@@ -39,10 +40,10 @@ IsDue source old new OutOfMemory = ⊤
 IsDue source old new Output = (length source ≡ 8) × HasFailed old new
 IsDue source old new WriteZero = length source ≡ 8
 
--- a beginning of a text, and not all of it, was appended to known bytes
-abbrev pub AppendsBeginning : Option (List ℕ) → Option (List ℕ) → List ℕ → Type 0
-AppendsBeginning old new text =
-    (count : ℕ) × (count < length text) × Appends old new (take count text)
+-- the fault of the program for one of its writer
+abbrev pub tool_fault_of : WriteFault → ToolFault
+tool_fault_of Failed = Output
+tool_fault_of TookNothing = WriteZero
 
 -- what a run that gave up leaves of a writer: it is as it was, but where a write failed or took
 -- nothing

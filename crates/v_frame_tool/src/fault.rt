@@ -4,6 +4,7 @@ use std::alloc::AllocError;
 use thiserror::Error;
 use v_frame::frame::FrameError;
 use v_frame::plane::CopyError;
+use v_frame_planar::WriteFault;
 
 /// Why [`run`](super::run::run) gave up. Our own.
 #[derive(Debug, PartialEq, Eq, Drop, Error)]
@@ -33,5 +34,19 @@ impl From<AllocError> for ToolFault {
 
     fn from(_refused: AllocError) -> Self {
         ToolFault::OutOfMemory
+    }
+}
+
+impl From<WriteFault> for ToolFault {
+    ghost use Rattle.std.specs.Prelude.{◌≡◌};
+    ghost use Rattle.v_frame_tool.specs.Run.{tool_fault_of};
+
+    ghost from_gives = { λ fault tool_fault. tool_fault ≡ tool_fault_of fault };
+
+    fn from(fault: WriteFault) -> Self {
+        match fault {
+            WriteFault::Failed => ToolFault::Output,
+            WriteFault::TookNothing => ToolFault::WriteZero,
+        }
     }
 }

@@ -3,6 +3,7 @@
 
 mod counted;
 mod fault;
+mod planar;
 mod run;
 #[cfg(test)]
 mod tests;

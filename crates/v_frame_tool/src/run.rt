@@ -2,7 +2,6 @@
 ghost use Rattle.std.specs.Prelude.{◌≡◌, ◌≢◌, ℕ, ◌<◌, ◌⊎◌, List, [], ◌∷◌, ◌++◌, length, IfOk, IfErr, OnOk, string_bytes, Some, Err};
 ghost use Rattle.std.specs.Io.KnownBytes.{Appends};
 ghost use Rattle.v_frame.specs.Prelude.{cut_rows, tables_of, one_byte, answers_to};
-ghost use Rattle.v_frame_tool.specs.Counted.{HasFailed};
 ghost use Rattle.v_frame_tool.specs.Printed.{sized_rows, text_of_table, line_of};
 ghost use Rattle.v_frame_tool.specs.Run.{blank_tables, calls_on, StartsWithCopy, IsSizeAndRows, IsDue, LeavesWriter};
 
@@ -42,7 +41,8 @@ pub fn run<W: io::Write>(
     let mut answers = answers_of_frame(alloc, source)?;
     take_copied(&mut answers).map_err(ToolFault::Copy)?;
     let text = text_of(alloc, answers.as_slice())?;
-    write_text(out, text.as_bytes())
+    out.write_all(text.as_bytes())?;
+    Ok(())
 }
 
 /// What a small frame answers when it is filled with the pixels of `source`, measured and read.
@@ -90,26 +90,6 @@ fn take_copied(answers: &mut Vec<Answer<u8>>) -> Result<(), CopyError>
         Answer::Copied(copied) => copied,
         _ => unreachable!(),
     }
-}
-
-/// Writes all of the text.
-fn write_text<W: io::Write>(out: &mut Counted<W>, text: &[u8]) -> Result<(), ToolFault>
-    ensures ok { OnOk result (Appends (W.contents out.old.inner) (W.contents out.new.inner)
-        text.now) }
-    ensures uncounted { OnOk result (out.new.failures ≡ out.old.failures) }
-    ensures fault { IfErr result (λ fault. (fault ≡ ToolFault.WriteZero)
-        ⊎ ((fault ≡ ToolFault.Output) × HasFailed out.old.failures out.new.failures)) }
-    ensures left { IfErr result (LeavesWriter W.contents out.old out.new text.now) }
-{
-    let mut written = 0;
-    while written < text.len() {
-        match out.write(&text[written..]) {
-            Ok(0) => return Err(ToolFault::WriteZero),
-            Ok(count) => written += count,
-            Err(_) => return Err(ToolFault::Output),
-        }
-    }
-    Ok(())
 }
 
 /// The text of a width, a height and two rows.

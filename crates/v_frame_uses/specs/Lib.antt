@@ -1,2 +1,3 @@
 pub mod Answers
 pub mod Rectangles
+pub mod Streams

@@ -16,6 +16,7 @@ pub mod planes;
 pub mod reads;
 pub mod rectangles;
 pub mod start;
+pub mod streams;
 #[cfg(test)]
 mod tests;
 pub mod walks;

@@ -7,12 +7,14 @@ use crate::pictures::brighten;
 use crate::pixels::{fill_last_row, replace_ends};
 use crate::planes::{copy_with_plane, plane_of_places};
 use crate::start::{fill_row, first_frame, row_with};
+use crate::streams::{brighten_frames, copy_frames, through_memory};
 use std::alloc::Global;
 use std::process::Abort;
 use v_frame::chroma::ChromaSubsampling;
 use v_frame::frame::{Frame, FrameBuilder, FrameError};
 use v_frame::plane::{CopyError, Plane, PlaneGeometry};
 use v_frame::replay::Answer;
+use v_frame_planar::Counted;
 
 /// The number of an entry: 100 and its place.
 fn number_at(rt: &impl Abort, place: usize) -> u8 {
@@ -161,4 +163,31 @@ fn a_copy_is_filled_and_compared(rt: HostRuntime) {
     );
     let pixels = (copy.y_plane.pixel(2, 1), frame.y_plane.pixel(2, 1));
     assert!(rt; !same && pixels == (Some(12), Some(6)));
+}
+
+#[test]
+fn streams_are_copied_and_made_brighter(rt: HostRuntime) {
+    let alloc = rt.alloc();
+    let mut frame = padded(&rt, alloc, [0; 6]);
+    let bytes = [1, 2, 3, 4, 5, 6, 250, 251, 252, 253, 254, 255];
+    let mut reader = Counted::new(bytes.as_slice());
+    let mut writer = Counted::new(Vec::new(alloc));
+    let copied = copy_frames(alloc, &mut reader, &mut writer, &mut frame, 1);
+    assert!(rt; copied == Ok(1));
+    let copied = copy_frames(alloc, &mut reader, &mut writer, &mut frame, 9);
+    assert!(rt; copied == Ok(1));
+    let mut reader = Counted::new(bytes.as_slice());
+    let brightened = brighten_frames(alloc, &mut reader, &mut writer, &mut frame, 3, 9);
+    assert!(rt; brightened == Ok(2));
+    let brighter = [4, 5, 6, 7, 8, 9, 253, 254, 255, 255, 255, 255];
+    let written = writer.into_inner();
+    assert!(rt; written.as_slice().split_at(12) == (bytes.as_slice(), brighter.as_slice()));
+}
+
+#[test]
+fn a_frame_goes_through_memory(rt: HostRuntime) {
+    let from = padded(&rt, rt.alloc(), [1, 2, 3, 4, 5, 6]);
+    let mut to = padded(&rt, rt.alloc(), [0; 6]);
+    assert!(rt; through_memory(rt.alloc(), &from, &mut to) == Ok(()));
+    assert!(rt; to == from);
 }

@@ -2,12 +2,15 @@
 
 use crate::outcome::Outcome;
 use std::alloc::Global;
+use std::io::Cursor;
 use v_frame::chroma::ChromaSubsampling::{Monochrome, Yuv420};
 use v_frame::frame::{FrameBuilder, FrameError};
 use v_frame::plane::{PlaneGeometry, PlaneRef};
 use v_frame::replay::replay;
+use v_frame_planar::{Counted, write_frame};
 
-/// Builds that are refused before they ask for memory, reading over an array, and the replay of no call.
+/// Builds that are refused before they ask for memory, reading over an array, the replay of no call, and a frame that is
+/// written.
 pub fn without_memory(alloc: Global) -> Result<Outcome, Outcome> {
     if !builds_are_refused(alloc) {
         return Err(Outcome::Wrong("a build that is refused"));
@@ -18,7 +21,11 @@ pub fn without_memory(alloc: Global) -> Result<Outcome, Outcome> {
     let mut frame = FrameBuilder::new(3, 2, Monochrome, 8).build::<u8>(alloc)?;
     let replayed = replay(alloc, &mut frame, &[]);
     let is_kept = frame.y_plane.data() == [0; 6].as_slice();
-    Ok(Outcome::done(is_kept && replayed.is_ok_and(|answers| answers.is_empty())))
+    let mut writer = Counted::new(Cursor::new([9; 8]));
+    let written = write_frame(&mut writer, &frame).is_ok();
+    let is_written = written && *writer.inner().get_ref() == [0, 0, 0, 0, 0, 0, 9, 9];
+    let is_replayed = is_kept && replayed.is_ok_and(|answers| answers.is_empty());
+    Ok(Outcome::done(is_replayed && is_written))
 }
 
 /// Whether a depth, a type and a size that no frame has are each told.

@@ -1,5 +1,4 @@
-//! The program: what it prints, when it gives up, and how failures of its writer are counted.
+//! The program: what it prints, and when it gives up.
 
-mod counted;
 mod runs;
 mod texts;

@@ -1,4 +1,4 @@
-//! What tests of more than one file stand on: fixtures, calls and answers as values, comparisons, and writers.
+//! What tests of more than one file stand on: fixtures, calls and answers as values, comparisons, readers and writers.
 
 pub mod answers;
 pub mod buffers;
@@ -6,6 +6,8 @@ pub mod calls;
 pub mod errors;
 pub mod frames;
 pub mod options;
+pub mod planar;
+pub mod readers;
 pub mod reads;
 pub mod texts;
 pub mod writers;

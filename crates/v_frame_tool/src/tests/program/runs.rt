@@ -4,7 +4,7 @@ use crate::counted::Counted;
 use crate::fault::ToolFault;
 use crate::run::run;
 use crate::tests::support::errors::other_length;
-use crate::tests::support::writers::{Habit, Slow, Stubborn, at_first};
+use crate::tests::support::writers::{Habit, Stubborn, at_first, slow_writer};
 use std::io::Cursor;
 use v_frame::frame::FrameError;
 
@@ -107,8 +107,7 @@ fn a_write_of_nothing_is_answered(rt: HostRuntime) {
 #[test]
 fn a_slow_writer_gets_all_until_it_fails(rt: HostRuntime) {
     for calls in 0..=PRINTED.len() {
-        let taken = Cursor::new([0u8; 64]);
-        let mut out = Counted::new(Slow { taken, calls });
+        let mut out = Counted::new(slow_writer(calls, Habit::Fails));
         let answer = run(rt.alloc(), &mut out, &EIGHT);
         let failed = calls < PRINTED.len();
         let wanted = if failed {

@@ -66,19 +66,30 @@ impl Write for AtFirst {
     }
 }
 
-/// A writer that takes one byte a call, and fails after as many calls.
+/// A writer that takes one byte a call, and after as many calls has a habit.
 #[derive(Drop)]
 pub struct Slow {
     /// What was taken.
     pub taken: Cursor<[u8; 64]>,
     /// How many calls are left.
     pub calls: usize,
+    /// What it does then.
+    pub then: Habit,
+}
+
+/// A writer that takes one byte at each of so many calls, and then does this.
+pub fn slow_writer(calls: usize, then: Habit) -> Slow {
+    Slow {
+        taken: Cursor::new([0; 64]),
+        calls,
+        then,
+    }
 }
 
 impl Write for Slow {
     fn write(&mut self, buf: &[u8]) -> io::Result<usize> {
         if self.calls == 0 {
-            return Err(io::Error::from(ErrorKind::Other));
+            return answer(self.then);
         }
         self.calls -= 1;
         match buf.first() {

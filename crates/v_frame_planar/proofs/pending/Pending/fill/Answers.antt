@@ -1,0 +1,28 @@
+-- One more run stands behind what was encoded before.
+use Rattle.std.proofs.Common.{◌≡◌, ◌+◌, ◌-◌, ◌*◌, ◌++◌, length, take, sym, ◌∙◌, ap, take_all, rules, arith}
+use Rattle.v_frame.specs.Prelude.{bytes_of_pixels}
+use Rattle.v_frame_planar.specs.Pending.{pixels_pending, pixels_behind}
+use Rattle.v_frame_planar.proofs.Blocks.{one_more_run}
+use Rattle.v_frame_planar.proofs.Streams.{taken_from_part}
+use Rattle.v_frame_planar.proofs.pending.Pending.fill.Goals as goal
+
+pub loop-block-preserved : goal.loop-block-preserved
+loop-block-preserved g c =
+    let form = g.T.Pixel.form in
+    let block = c.loop-block.block in
+    let filled = c.loop-block.filled in
+    let before = c.loop-block.invariant in
+    let begun = c.begin_row.new.self in
+    let first = c.split_at.result.0.now in
+    let rest = c.split_at.result.1.now in
+    let part = c.encode_row.new.bytes in
+    let long = c.BYTES-in-loop-block-2.result * length first in
+    let size : length part ≡ long = search rules in
+    let cut : begun.row.now ≡ first ++ rest = search rules in
+    let run = one_more_run form (bytes_of_pixels form (pixels_pending c.args.self.now)) (take filled block) part (pixels_pending c.loop-block.self) begun.row.now first rest (pixels_behind begun) before.bytes c.begin_row.ensures.pixels cut c.encode_row.ensures in
+    let joined = taken_from_part filled (filled + long - filled) long block part before.within (omega (arith, size)) in
+    let whole : take long part ≡ part = take_all long part (omega (arith, size)) in
+    record {
+      within = search rules;
+      bytes = run ∙ ap (λ front. front ++ bytes_of_pixels form (rest ++ pixels_behind begun)) (sym (joined ∙ ap (λ p. take filled block ++ p) whole));
+    }

@@ -1,0 +1,38 @@
+-- One more block goes behind what was written, or the bytes stop inside it.
+use Rattle.std.proofs.Common.{◌++◌, [], take, sym, ◌∙◌, ap, append_assoc, rules}
+use Rattle.std.proofs.KnownBytes.{Appends-nil, Appends-trans}
+use Rattle.v_frame.specs.Prelude.{bytes_of_pixels, tables_of}
+use Rattle.v_frame_planar.specs.Pending.{pixels_pending}
+use Rattle.v_frame_planar.proofs.Blocks.{bytes_of_planar_pixels}
+use Rattle.v_frame_planar.proofs.Stops.{stops_later}
+use Rattle.v_frame_planar.proofs.writing.write_frame.Goals as goal
+
+pub loop-pending-init : goal.loop-pending-init
+loop-pending-init g c =
+    let form = g.T.Pixel.form in
+    let all = sym (bytes_of_planar_pixels form (tables_of c.args.frame.now)) ∙ ap (bytes_of_pixels form) (sym c.new-pending.ensures) in
+    record { sent = ([], Appends-nil _, all); failures = search rules }
+
+pub loop-pending-preserved : goal.loop-pending-preserved
+loop-pending-preserved g c =
+    let before = c.loop-pending.invariant in
+    let front = before.sent.0 in
+    let part = take c.fill-filled.result c.fill-filled.new.block in
+    let rest = bytes_of_pixels g.T.Pixel.form (pixels_pending c.fill-filled.new.self) in
+    let done = c.in_ok-write_all.ensures in
+    let all = before.sent.2 ∙ ap (λ b. front ++ b) c.fill-filled.ensures.bytes ∙ sym (append_assoc front part rest) in
+    record {
+      sent = (front ++ part, Appends-trans _ _ _ front part before.sent.1 (search rules), all);
+      failures = done.uncounted ∙ before.failures;
+    }
+
+pub returns-in_err-write_all-clause-error : goal.returns-in_err-write_all-clause-error
+returns-in_err-write_all-clause-error g c =
+    let before = c.loop-pending.invariant in
+    let front = before.sent.0 in
+    let part = take c.fill-filled.result c.fill-filled.new.block in
+    let rest = bytes_of_pixels g.T.Pixel.form (pixels_pending c.fill-filled.new.self) in
+    let fault = c.in_err-write_all.field-0.0 in
+    let all = before.sent.2 ∙ ap (λ b. front ++ b) c.fill-filled.ensures.bytes in
+    let stopped = stops_later _ front part rest all g.W.Write.contents c.args.writer.now c.loop-pending.writer c.write_all.new.self before.sent.1 before.failures fault (search rules) in
+    search rules

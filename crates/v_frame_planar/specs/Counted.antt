@@ -1,0 +1,32 @@
+-- A reader or a writer whose failures are counted, and what is left of a writer that gave up.
+use Rattle.std.specs.Prelude.{ℕ, ◌≡◌, ◌-◌, ◌^◌, ◌<◌, ◌⊎◌, List, length, take, Option}
+use Rattle.std.specs.Io.KnownBytes.{Appends}
+use Rattle.v_frame_planar.specs.declared.counted.WriteFault.{WriteFault}
+use Rattle.v_frame_planar.specs.declared.counted.WriteFault.TheVariants.{Failed, TookNothing}
+
+pub record Watched (D : Type 0) : Type 0 where
+  pub inner : D
+  pub failures : ℕ
+
+-- the count stays here
+abbrev pub u64_max : ℕ
+u64_max = 2 ^ 64 - 1
+
+-- between the two counts something failed, as far as a count can tell
+abbrev pub HasFailed : ℕ → ℕ → Type 0
+HasFailed old new = (old < new) ⊎ (new ≡ u64_max)
+
+-- a beginning of the bytes, and not all of them, was appended to known ones
+abbrev pub AppendsBeginning : Option (List ℕ) → Option (List ℕ) → List ℕ → Type 0
+AppendsBeginning old new bytes =
+    (count : ℕ) × (count < length bytes) × Appends old new (take count bytes)
+
+-- what a fault leaves of a writer that was to write these bytes
+module _ {W : Type 0} (contents : W → Option (List ℕ)) (old new : Watched W) (bytes : List ℕ) where
+  abbrev pub StopsWriting : WriteFault → Type 0
+  StopsWriting Failed =
+      AppendsBeginning (contents old.inner) (contents new.inner) bytes
+      × HasFailed old.failures new.failures
+  StopsWriting TookNothing =
+      AppendsBeginning (contents old.inner) (contents new.inner) bytes
+      × (new.failures ≡ old.failures)

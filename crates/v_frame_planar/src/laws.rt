@@ -1,0 +1,28 @@
+//! Laws of planar bytes. Each is the contract of a function, for callers that have frames at hand.
+ghost use Rattle.std.specs.Prelude.{◌≡◌, length};
+ghost use Rattle.v_frame.specs.Prelude.{tables_of};
+ghost use Rattle.v_frame_planar.specs.Planar.{byte_count, planar_bytes, sizes_of};
+
+use crate::reading::length_of;
+use v_frame::frame::Frame;
+use v_frame::pixel::Pixel;
+
+/// Frames whose planes have the same sizes have as many planar bytes. So what was written of the one, the other reads whole.
+pub fn alike_sizes_take_as_many_bytes<T: Pixel>(first: &Frame<T>, second: &Frame<T>)
+    ensures { sizes_of (tables_of first.now) ≡ sizes_of (tables_of second.now)
+        → length (planar_bytes T.form (tables_of first.now))
+        ≡ length (planar_bytes T.form (tables_of second.now)) }
+{
+    measure(first);
+    measure(second);
+}
+
+/// Counts the planar bytes of a frame by the sizes of its planes.
+fn measure<T: Pixel>(frame: &Frame<T>)
+    ensures { length (planar_bytes T.form (tables_of frame.now))
+        ≡ byte_count T.form.size (sizes_of (tables_of frame.now)) }
+{
+    let _y = length_of(&frame.y_plane);
+    let _u = frame.u_plane.as_ref().map(length_of);
+    let _v = frame.v_plane.as_ref().map(length_of);
+}

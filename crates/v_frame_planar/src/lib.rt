@@ -1,0 +1,20 @@
+//! Raw planar video: frames read from any reader, and written to any writer.
+//!
+//! The planar bytes of a frame are those of Y, then those of U and of V where it has them: the visible pixels of each
+//! plane, row after row, each with its low byte first. Decoders write video so, and encoders read it. Nothing in front of a
+//! frame tells its size, so a reader needs a frame of the right sizes to read into.
+//!
+//! Our own. `Rattle.v_frame_planar.specs.Planar` has the words for clauses.
+#![tactic(auto)]
+
+mod counted;
+mod error;
+pub mod laws;
+mod pending;
+mod reading;
+mod writing;
+
+pub use counted::{Counted, WriteFault};
+pub use error::PlanarError;
+pub use reading::read_frame;
+pub use writing::write_frame;

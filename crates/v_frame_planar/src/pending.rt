@@ -1,0 +1,126 @@
+//! The pixels of a frame that are still to be written, encoded block by block.
+ghost use Rattle.std.specs.Prelude.{◌≡◌, ◌+◌, ◌*◌, ◌<◌, ◌≤◌, ◌⊎◌, ◌++◌, [], false, true, length, take, option_map, MatchOption};
+ghost use Rattle.v_frame.specs.Prelude.{bytes_of_pixels, table_of, tables_of};
+ghost use Rattle.v_frame_planar.specs.Pending.{row_count};
+ghost use Rattle.v_frame_planar.specs.Planar.{pixels_of_plane, planar_pixels};
+
+use v_frame::frame::Frame;
+use v_frame::pixel::Pixel;
+use v_frame::plane::{Plane, Rows};
+
+/// What is left of the row that was begun, and the rows of each plane behind it.
+#[derive(Drop)]
+pub(crate) struct Pending<'a, T> {
+    row: &'a [T],
+    y: Rows<'a, T>,
+    u: Option<Rows<'a, T>>,
+    v: Option<Rows<'a, T>>,
+}
+
+impl<'a, T: Pixel> Pending<'a, T> {
+    ghost use Rattle.v_frame_planar.specs.Pending.{pixels_pending, pixels_behind, rows_behind};
+
+    /// All pixels of a frame.
+    pub(crate) fn new(frame: &'a Frame<T>) -> Self
+        ensures { pixels_pending result ≡ planar_pixels (tables_of frame.now) }
+    {
+        Pending {
+            row: &[],
+            y: frame.y_plane.rows(),
+            u: rows_of(&frame.u_plane),
+            v: rows_of(&frame.v_plane),
+        }
+    }
+
+    /// Encodes pixels until no other one fits the block, and tells how many bytes they have.
+    pub(crate) fn fill(&mut self, block: &mut [u8]) -> usize
+        requires { 2 ≤ length block.old }
+        ensures bound { result ≤ length block.new }
+        ensures size { length block.new ≡ length block.old }
+        ensures bytes { bytes_of_pixels T.form (pixels_pending self.old)
+            ≡ take result block.new ++ bytes_of_pixels T.form (pixels_pending self.new) }
+        ensures none_left { result ≡ 0
+            → bytes_of_pixels T.form (pixels_pending self.old) ≡ [] }
+    {
+        let mut filled = 0;
+        while T::BYTES <= block.len() - filled && self.begin_row() {
+            let room = (block.len() - filled) / T::BYTES;
+            let (first, rest) = self.row.split_at(self.row.len().min(room));
+            self.row = rest;
+            let end = filled + T::BYTES * first.len();
+            encode_row(&mut block[filled..end], first);
+            filled = end;
+        }
+        filled
+    }
+
+    /// Begins the next row where the last one came to its end. False where there is none.
+    fn begin_row(&mut self) -> bool
+        ensures pixels { pixels_pending self.new ≡ pixels_pending self.old }
+        ensures progress { result ≡ true → (0 < length self.new.row.now)
+            ⊎ (rows_behind self.new < rows_behind self.old) }
+        ensures rows { rows_behind self.new ≤ rows_behind self.old }
+        ensures none_left { result ≡ false → pixels_pending self.old ≡ [] }
+    {
+        if self.row.is_empty() {
+            match self.next_row() {
+                Some(row) => self.row = row,
+                None => return false,
+            }
+        }
+        true
+    }
+
+    /// The next row that was not begun.
+    fn next_row(&mut self) -> Option<&'a [T]>
+        ensures row { self.new.row ≡ self.old.row }
+        ensures rows { MatchOption result (rows_behind self.new ≡ rows_behind self.old)
+            (λ row. rows_behind self.new < rows_behind self.old) }
+        ensures pixels { MatchOption result
+            ((pixels_behind self.old ≡ []) × (pixels_behind self.new ≡ []))
+            (λ row. pixels_behind self.old ≡ row.now ++ pixels_behind self.new) }
+    {
+        if let Some(row) = self.y.next() {
+            return Some(row);
+        }
+        if let Some(row) = next_of(&mut self.u) {
+            return Some(row);
+        }
+        next_of(&mut self.v)
+    }
+}
+
+/// The rows of a plane, where it is there.
+fn rows_of<T>(plane: &Option<Plane<T>>) -> Option<Rows<'_, T>>
+    ensures { result ≡ option_map table_of plane.now }
+{
+    match plane {
+        Some(plane) => Some(plane.rows()),
+        None => None,
+    }
+}
+
+/// The next row of a plane, where it is there.
+fn next_of<'a, T>(rows: &mut Option<Rows<'a, T>>) -> Option<&'a [T]>
+    ensures count { MatchOption result (row_count rows.new ≡ row_count rows.old)
+        (λ row. row_count rows.new < row_count rows.old) }
+    ensures pixels { MatchOption result
+        ((pixels_of_plane rows.old ≡ []) × (pixels_of_plane rows.new ≡ []))
+        (λ row. pixels_of_plane rows.old ≡ row.now ++ pixels_of_plane rows.new) }
+{
+    rows.as_mut()?.next()
+}
+
+/// Encodes pixels, each with its low byte first.
+fn encode_row<T: Pixel>(bytes: &mut [u8], row: &[T])
+    requires { length bytes.old ≡ T.BYTES * length row.now }
+    ensures { bytes.new ≡ bytes_of_pixels T.form row.now }
+{
+    for i in 0..row.len() {
+        let start = T::BYTES * i;
+        bytes[start] = row[i].le_byte(0);
+        if T::BYTES == 2 {
+            bytes[start + 1] = row[i].le_byte(1);
+        }
+    }
+}

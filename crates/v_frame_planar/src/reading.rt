@@ -1,0 +1,155 @@
+//! Frames from their planar bytes.
+ghost use Rattle.std.specs.Prelude.{◌≡◌, ◌-◌, ◌*◌, ◌++◌, ◌<◌, ◌≤◌, false, length, take, option_map, Err, IfOk, IfErr, OnOk, OnErr, SomeIff};
+ghost use Rattle.std.specs.Io.KnownBytes.{Consumes, IsAtEnd};
+ghost use Rattle.v_frame.specs.Prelude.{byte_list, height_of, isize_max, unshown, width_of, KeepsBorders, table_of, tables_of};
+ghost use Rattle.v_frame_planar.specs.Planar.{bytes_of_plane, planar_bytes, size_of, sizes_of, MayStopReading, Reads};
+
+use crate::counted::Counted;
+use crate::error::PlanarError;
+use std::alloc::Global;
+use std::io;
+use v_frame::frame::Frame;
+use v_frame::pixel::Pixel;
+use v_frame::plane::Plane;
+
+/// Reads the planar bytes of a frame and shows them in it. `false` where the reader stood at its end before the first byte.
+///
+/// The sizes of the frame tell how many bytes it has, and no more are asked for: what stands behind them is left for the
+/// next call. The border stays. Room for all the bytes is taken before the first is read, and they are shown when the last
+/// one has come, so a frame that was not read whole is as it was. Our own.
+///
+/// # Errors
+///
+/// [`PlanarError::TooLarge`] where the frame has more than `isize::MAX` bytes, else [`PlanarError::OutOfMemory`] where the
+/// request for memory was refused: for these nothing was read. [`PlanarError::Read`] where a read failed, an interrupted one
+/// too, which is not tried again. [`PlanarError::Truncated`] where the reader came to its end inside the frame. After each of
+/// them the frame is as it was.
+pub fn read_frame<T: Pixel, R: io::Read>(
+    alloc: Global,
+    reader: &mut Counted<R>,
+    frame: &mut Frame<T>,
+) -> Result<bool, PlanarError>
+    ensures read { IfOk result (Reads R.remaining reader.old reader.new
+        (planar_bytes T.form (tables_of frame.new))) }
+    ensures uncounted { OnOk result (reader.new.failures ≡ reader.old.failures) }
+    ensures at_end { IfOk result (λ more. more ≡ false → frame.new ≡ frame.old) }
+    ensures borders { KeepsBorders frame.old frame.new }
+    ensures sizes { sizes_of (tables_of frame.new) ≡ sizes_of (tables_of frame.old) }
+    ensures as_many { length (planar_bytes T.form (tables_of frame.new))
+        ≡ length (planar_bytes T.form (tables_of frame.old)) }
+    ensures too_large { isize_max < length (planar_bytes T.form (tables_of frame.old))
+        → result ≡ Err PlanarError.TooLarge }
+    ensures error { IfErr result (MayStopReading R.remaining reader.old reader.new
+        (length (planar_bytes T.form (tables_of frame.old)))) }
+    ensures unread { OnErr result (frame.new ≡ frame.old) }
+{
+    let expected = planar_length(frame).ok_or(PlanarError::TooLarge)?;
+    let mut bytes = Vec::with_capacity(alloc, expected)?;
+    bytes.resize(expected, 0)?;
+    let found = read_until_full(reader, bytes.as_mut_slice())?;
+    if found == expected {
+        show(frame, bytes.as_slice());
+        return Ok(true);
+    }
+    if found == 0 {
+        return Ok(false);
+    }
+    Err(PlanarError::Truncated { expected, found })
+}
+
+/// How many planar bytes a frame has, where so many can be kept in memory.
+fn planar_length<T: Pixel>(frame: &Frame<T>) -> Option<usize>
+    ensures { let count = length (planar_bytes T.form (tables_of frame.now)) in
+        SomeIff result (count ≤ isize_max) count }
+{
+    let y = length_of(&frame.y_plane);
+    let u = frame.u_plane.as_ref().map_or(0, length_of);
+    let v = frame.v_plane.as_ref().map_or(0, length_of);
+    let length = (y + u).checked_add(v)?;
+    (length <= isize::MAX as usize).then_some(length)
+}
+
+/// How many bytes a plane shows.
+pub(crate) fn length_of<T: Pixel>(plane: &Plane<T>) -> usize
+    ensures value { result ≡ length (byte_list T.form (table_of plane.now)) }
+    ensures packed { let table = table_of plane.now in
+        result ≡ width_of table * height_of table * T.form.size }
+    ensures bound { result ≤ isize_max }
+{
+    // The size of the table, for the proof.
+    let _size = (plane.width(), plane.height());
+    plane.byte_data().len()
+}
+
+/// Fills a buffer from a reader, and tells how much of it was filled before the reader came to its end.
+fn read_until_full<R: io::Read>(
+    reader: &mut Counted<R>,
+    buf: &mut [u8],
+) -> Result<usize, PlanarError>
+    ensures bound { IfOk result (λ found. found ≤ length buf.new) }
+    ensures bytes { IfOk result (λ found. Consumes (R.remaining reader.old.inner)
+        (R.remaining reader.new.inner) (take found buf.new)) }
+    ensures at_end { IfOk result (λ found. found < length buf.new
+        → IsAtEnd (R.remaining reader.new.inner)) }
+    ensures uncounted { OnOk result (reader.new.failures ≡ reader.old.failures) }
+    ensures failed { IfErr result (λ error. error ≡ PlanarError.Read) }
+    ensures error { IfErr result (MayStopReading R.remaining reader.old reader.new
+        (length buf.old)) }
+    ensures size { length buf.new ≡ length buf.old }
+{
+    let mut found = 0;
+    while found < buf.len() {
+        match reader.read(&mut buf[found..]) {
+            Ok(0) => return Ok(found),
+            Ok(count) => found += count,
+            Err(_) => return Err(PlanarError::Read),
+        }
+    }
+    Ok(found)
+}
+
+/// Shows the planar bytes of a frame in it.
+fn show<T: Pixel>(frame: &mut Frame<T>, bytes: &[u8])
+    requires { length bytes.now ≡ length (planar_bytes T.form (tables_of frame.old)) }
+    ensures bytes { planar_bytes T.form (tables_of frame.new) ≡ bytes.now }
+    ensures borders { KeepsBorders frame.old frame.new }
+    ensures sizes { sizes_of (tables_of frame.new) ≡ sizes_of (tables_of frame.old) }
+{
+    let chroma = show_plane(&mut frame.y_plane, bytes);
+    let rest = show_chroma(&mut frame.u_plane, chroma);
+    show_chroma(&mut frame.v_plane, rest);
+}
+
+/// Shows the first bytes in a plane, where it is there, and gives those behind them.
+fn show_chroma<'a, T: Pixel>(plane: &mut Option<Plane<T>>, bytes: &'a [u8]) -> &'a [u8]
+    requires { length (bytes_of_plane T.form (option_map table_of plane.old))
+        ≤ length bytes.now }
+    ensures bytes { bytes.now
+        ≡ bytes_of_plane T.form (option_map table_of plane.new) ++ result.now }
+    ensures rest { length result.now
+        ≡ length bytes.now - length (bytes_of_plane T.form (option_map table_of plane.old)) }
+    ensures border { option_map unshown plane.new ≡ option_map unshown plane.old }
+    ensures size { option_map size_of (option_map table_of plane.new)
+        ≡ option_map size_of (option_map table_of plane.old) }
+{
+    match plane {
+        Some(plane) => show_plane(plane, bytes),
+        None => bytes,
+    }
+}
+
+/// Shows the first bytes in a plane, and gives those behind them.
+fn show_plane<'a, T: Pixel>(plane: &mut Plane<T>, bytes: &'a [u8]) -> &'a [u8]
+    requires { length (byte_list T.form (table_of plane.old)) ≤ length bytes.now }
+    ensures bytes { bytes.now ≡ byte_list T.form (table_of plane.new) ++ result.now }
+    ensures rest { length result.now
+        ≡ length bytes.now - length (byte_list T.form (table_of plane.old)) }
+    ensures border { unshown plane.new ≡ unshown plane.old }
+    ensures size { size_of (table_of plane.new) ≡ size_of (table_of plane.old) }
+{
+    let (shown, rest) = bytes.split_at(length_of(plane));
+    if plane.copy_from_u8_slice(shown).is_err() {
+        unreachable!()
+    }
+    rest
+}

@@ -1,0 +1,43 @@
+//! Frames as their planar bytes.
+ghost use Rattle.std.specs.Prelude.{◌≡◌, IfErr, OnOk};
+ghost use Rattle.std.specs.Io.KnownBytes.{Appends};
+ghost use Rattle.v_frame.specs.Prelude.{tables_of};
+ghost use Rattle.v_frame_planar.specs.Planar.{planar_bytes, MayStopWriting};
+
+use crate::counted::Counted;
+use crate::error::PlanarError;
+use crate::pending::Pending;
+use std::io;
+use v_frame::frame::Frame;
+use v_frame::pixel::Pixel;
+
+/// How many bytes are encoded and offered at once.
+const BLOCK: usize = 8192;
+
+/// Writes the planar bytes of a frame. It takes no memory. Our own.
+///
+/// # Errors
+///
+/// [`PlanarError::Write`] where a write failed, an interrupted one too, which is not tried again.
+/// [`PlanarError::WriteZero`] where a write took none of the bytes that it was offered. After these a beginning of the bytes
+/// was written.
+pub fn write_frame<T: Pixel, W: io::Write>(
+    writer: &mut Counted<W>,
+    frame: &Frame<T>,
+) -> Result<(), PlanarError>
+    ensures ok { OnOk result (Appends (W.contents writer.old.inner)
+        (W.contents writer.new.inner) (planar_bytes T.form (tables_of frame.now))) }
+    ensures uncounted { OnOk result (writer.new.failures ≡ writer.old.failures) }
+    ensures error { IfErr result (MayStopWriting W.contents writer.old writer.new
+        (planar_bytes T.form (tables_of frame.now))) }
+{
+    let mut pending = Pending::new(frame);
+    let mut block = [0; BLOCK];
+    loop {
+        let filled = pending.fill(&mut block);
+        if filled == 0 {
+            return Ok(());
+        }
+        writer.write_all(&block[..filled])?;
+    }
+}

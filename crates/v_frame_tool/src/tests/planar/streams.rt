@@ -1,0 +1,54 @@
+//! Streams of frames: written, and read back one after another.
+
+use crate::counted::Counted;
+use crate::planar::{PlanarError, read_frame, write_frame};
+use crate::tests::support::frames::padded;
+use crate::tests::support::planar::{counted_bytes, numbered_planes};
+use std::alloc::Global;
+use std::process::Abort;
+use v_frame::chroma::ChromaSubsampling::Yuv422;
+use v_frame::frame::{Frame, FrameBuilder};
+use v_frame::plane::Plane;
+
+/// Eight words of luma, and four of each chroma.
+fn builder() -> FrameBuilder {
+    padded((4, 2), Yuv422, 12, [2, 0, 1, 3])
+}
+
+/// The frame of this number in the stream: its first luma pixel tells.
+fn frame_of(rt: &impl Abort, alloc: Global, number: u16) -> Frame<u16> {
+    let (mut frame, count) = counted_bytes::<u16>(rt, alloc, builder());
+    assert!(rt; count == 32);
+    mark(rt, &mut frame.y_plane, number);
+    frame
+}
+
+/// Replaces the first pixel.
+fn mark(rt: &impl Abort, plane: &mut Plane<u16>, number: u16) {
+    *plane.pixel_mut(0, 0).expect(rt, "a pixel") = number;
+}
+
+#[test]
+fn three_frames_and_a_truncated_fourth(rt: HostRuntime) {
+    let mut writer = Counted::new(Vec::new(rt.alloc()));
+    for number in 0..4 {
+        let frame = frame_of(&rt, rt.alloc(), number);
+        assert!(rt; write_frame(&mut writer, &frame) == Ok(()));
+    }
+    let stream = writer.into_inner();
+    assert!(rt; stream.len() == 128);
+    let first = stream.as_slice().get(..121).expect(&rt, "121 bytes");
+    let mut reader = Counted::new(first);
+    let mut frame = numbered_planes::<u16>(&rt, rt.alloc(), builder());
+    for number in 0..3 {
+        assert!(rt; read_frame(rt.alloc(), &mut reader, &mut frame) == Ok(true));
+        assert!(rt; frame == frame_of(&rt, rt.alloc(), number));
+    }
+    let truncated = PlanarError::Truncated {
+        expected: 32,
+        found: 25,
+    };
+    assert!(rt; read_frame(rt.alloc(), &mut reader, &mut frame) == Err(truncated));
+    assert!(rt; read_frame(rt.alloc(), &mut reader, &mut frame) == Ok(false));
+    assert!(rt; frame == frame_of(&rt, rt.alloc(), 2));
+}

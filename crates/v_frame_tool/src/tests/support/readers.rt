@@ -1,0 +1,28 @@
+//! Readers that give little, and that fail.
+
+use std::io::{self, ErrorKind, Read};
+
+/// A reader that gives a few bytes of a source at each call, and fails after as many calls.
+#[derive(Drop)]
+pub struct Pieces<'a> {
+    /// What is left of the source.
+    pub left: &'a [u8],
+    /// How many bytes a call gives at most.
+    pub most: usize,
+    /// How many calls are left.
+    pub calls: usize,
+}
+
+impl Read for Pieces<'_> {
+    fn read(&mut self, buf: &mut [u8]) -> io::Result<usize> {
+        if self.calls == 0 {
+            return Err(io::Error::from(ErrorKind::Interrupted));
+        }
+        self.calls -= 1;
+        let count = self.most.min(buf.len()).min(self.left.len());
+        let (first, rest) = self.left.split_at(count);
+        buf[..count].copy_from_slice(first);
+        self.left = rest;
+        Ok(count)
+    }
+}
