@@ -187,7 +187,7 @@ module _ {X : Type 0} where
   drawn-push items [] side = refl
   drawn-push items (first ∷ sides) side = ap (λ drawn. answer (item_from first items) (length (left_by first items)) ∷ drawn) (drawn-push (left_by first items) sides side)
 
-  left-push : (items : List X) (sides : List Side) (side : Side) → left_in_turn items (sides ++ side ∷ []) ≡ left_by side (left_in_turn items sides)
+  pub left-push : (items : List X) (sides : List Side) (side : Side) → left_in_turn items (sides ++ side ∷ []) ≡ left_by side (left_in_turn items sides)
   left-push items [] side = refl
   left-push items (first ∷ sides) side = left-push (left_by first items) sides side
 

@@ -2,24 +2,19 @@
 use Rattle.std.proofs.Common.{ℕ, zero, suc, ◌≡◌, ◌<◌, if◌then◌else◌, List, [], ◌∷◌, ◌++◌, length, map, take, drop, All, slice_get, refl, sym, ◌∙◌, ap, arith, append_assoc, length-append}
 use Rattle.std.proofs.lemmas.Bool.{lt-ltb}
 use Rattle.std.proofs.lemmas.List.{take-map, drop-map}
-use Rattle.std.proofs.lemmas.List.Elements.{All-head}
-use Rattle.v_frame_layout.specs.Table.{Table, width_of, row_major, with_item_by, cut_rows}
+use Rattle.v_frame_layout.specs.Table.{Table, row_major, with_item_by, cut_rows}
 use Rattle.v_frame.specs.Walk.{fronts, side_of_pixel, pixel_written, changed_by, changed_after, front_draw, ChangesEachPixel}
 use Rattle.v_frame.specs.declared.replay.draw.Side.{Side}
 use Rattle.v_frame.specs.declared.replay.draw.Side.TheVariants.{Front}
 use Rattle.v_frame_plane.proofs.Lists.{slice_get-at, slice_set-at}
 use Rattle.v_frame.proofs.Draws.{fronts-append}
-use Rattle.v_frame.proofs.PixelWrites.{cut-row_major}
+use Rattle.v_frame.proofs.CutRows.{cut-row_major, width_is}
 
 module _ {T : Type 0} where
   cut-map : {U : Type 0} (change : T → U) (width height : ℕ) (pixels : List T) → cut_rows width height (map change pixels) ≡ map (map change) (cut_rows width height pixels)
   cut-map change width zero pixels = refl
   cut-map change width (suc height) pixels =
       ap (λ row. row ∷ cut_rows width height (drop width (map change pixels))) (take-map change width pixels) ∙ ap (λ rest. map change (take width pixels) ∷ cut_rows width height rest) (drop-map change width pixels) ∙ ap (λ rows. map change (take width pixels) ∷ rows) (cut-map change width height (drop width pixels))
-
-  width_is : (width : ℕ) (rows : Table T) → All (λ row. length row ≡ width) rows → (pixels : List T) → cut_rows (width_of rows) (length rows) pixels ≡ cut_rows width (length rows) pixels
-  width_is width [] wide pixels = refl
-  width_is width (row ∷ rows) wide pixels = ap (λ w. cut_rows w (length (row ∷ rows)) pixels) (All-head (λ r. length r ≡ width) row rows wide)
 
   module _ (change : T → T) where
     -- the pixel behind those that are changed is the next one
@@ -44,4 +39,4 @@ module _ {T : Type 0} where
 
   pub changes_each_pixel : (rows : Table T) (width : ℕ) → All (λ row. length row ≡ width) rows → ChangesEachPixel rows
   changes_each_pixel rows width wide = λ change.
-      width_is width rows wide _ ∙ ap (cut_rows width (length rows)) (all_changed change [] (row_major rows) [] refl refl) ∙ cut-map change width (length rows) (row_major rows) ∙ ap (map (map change)) (cut-row_major width rows wide)
+      width_is width rows wide _ ∙ ap (cut_rows width (length rows)) (all_changed change [] (row_major rows) [] refl refl) ∙ cut-map change width (length rows) (row_major rows) ∙ ap (map (map change)) (cut-row_major width rows rows refl wide)

@@ -1,7 +1,15 @@
+pub mod BegunWalks
 pub mod BuiltFrames
 pub mod BytePaths
+pub mod CutRows
+pub mod DrawnItems
+pub mod DrawnLoans
 pub mod Draws
 pub mod FullWalks
-pub mod PixelWrites
+pub mod OptionCases
+pub mod PutBack
 pub mod Replays
-pub mod WritingWalks
+pub mod SharedItems
+pub mod UnwrittenLoans
+pub mod UnwrittenPixelsMade
+pub mod UnwrittenRowsMade

@@ -1,8 +1,10 @@
 pub mod Build
+pub mod DrawnItems
 pub mod Frame
 pub mod Lends
 pub mod Prelude
 pub mod Replay
+pub mod Unwritten
 pub mod Walk
 pub mod Worked
 pub mod WorkedBytes

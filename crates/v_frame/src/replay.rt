@@ -14,9 +14,9 @@ ghost use Rattle.v_frame.specs.Replay.{written_plane, WritesPlane, on_table, rep
 mod answer;
 mod call;
 mod draw;
-mod pixels;
+pub(crate) mod pixels;
 mod reads;
-mod rows;
+pub(crate) mod rows;
 mod sequence;
 pub(crate) mod walk;
 

@@ -1,5 +1,5 @@
 -- Facts about lists alone.
-use Rattle.std.proofs.Common.{ℕ, zero, suc, ◌≡◌, ◌+◌, ◌-◌, ◌<◌, ◌≤◌, List, [], ◌∷◌, ◌++◌, length, take, drop, map, Some, slice_get, slice_set, refl, sym, ◌∙◌, ap, arith, take-append-drop, length-take-le, length-drop}
+use Rattle.std.proofs.Common.{ℕ, zero, suc, ◌≡◌, ◌≢◌, ◌+◌, ◌-◌, ◌<◌, ◌≤◌, List, [], ◌∷◌, ◌++◌, length, take, drop, map, Some, slice_get, slice_set, refl, sym, ◌∙◌, ap, arith, take-append-drop, length-take-le, length-drop}
 use Rattle.std.proofs.lemmas.List.{take_at, take-take, drop-take, set-append_left, set-append_right}
 use Rattle.std.specs.List.{refill}
 
@@ -25,6 +25,19 @@ module _ {X : Type 0} where
   pub slice_set-at : (a : List X) (b : X) (c : List X) (d : X) → slice_set (a ++ b ∷ c) (length a) d ≡ a ++ d ∷ c
   slice_set-at [] b c d = refl
   slice_set-at (x ∷ a) b c d = ap (λ r. x ∷ r) (slice_set-at a b c d)
+
+  -- an element that is set is read at its place, and all others are as before
+  pub set_is_read : (xs : List X) (i : ℕ) (x : X) → i < length xs → slice_get (slice_set xs i x) i ≡ Some x
+  set_is_read [] i x h = absurd (omega arith)
+  set_is_read (y ∷ xs) zero x h = refl
+  set_is_read (y ∷ xs) (suc i) x h = set_is_read xs i x (omega arith)
+
+  pub others_are_read : (xs : List X) (i k : ℕ) (x : X) → k ≢ i → slice_get (slice_set xs i x) k ≡ slice_get xs k
+  others_are_read [] i k x h = refl
+  others_are_read (y ∷ xs) zero zero x h = absurd (h refl)
+  others_are_read (y ∷ xs) zero (suc k) x h = refl
+  others_are_read (y ∷ xs) (suc i) zero x h = refl
+  others_are_read (y ∷ xs) (suc i) (suc k) x h = others_are_read xs i k x (λ e. h (ap suc e))
 
   -- the first elements of one list and the rest of another, one element on
   pub one_more : (new old : List X) (i : ℕ) (x : X) → slice_get new i ≡ Some x → i < length old

@@ -1,6 +1,7 @@
--- What a slice ends as that was cut into one entry and the rest.
-use Rattle.std.specs.Prelude.{List, [], ◌∷◌, ◌++◌}
+-- What a slice ends as that was cut into one entry and the rest, or of which two parts are lent.
+use Rattle.std.specs.Prelude.{ℕ, List, [], ◌∷◌, ◌++◌}
 use Rattle.std.specs.Borrow.{LendsBoth, Fml, RattleType, MutBor, Array}
+use Rattle.v_frame_plane.specs.Plane.{with_two_parts}
 
 module _ (T : RattleType) (slice : MutBor (List T.Denot)) (cut : MutBor T.Denot
     × MutBor (List T.Denot)) where
@@ -11,3 +12,10 @@ module _ (T : RattleType) (slice : MutBor (List T.Denot)) (cut : MutBor T.Denot
   -- what the rest was left as, and behind it the entry
   abbrev pub LendsLast : Fml
   LendsLast = LendsBoth (Array T 0) T (Array T 0) slice cut (λ entry rest. rest ++ entry ∷ [])
+
+-- the two parts of so many entries as they were left, at the places where they begin
+abbrev pub LendsTwoParts : (T : RattleType) → MutBor (List T.Denot) → ℕ → ℕ → ℕ
+    → MutBor (List T.Denot) × MutBor (List T.Denot) → Fml
+LendsTwoParts T slice start next width parts =
+    LendsBoth (Array T 0) (Array T 0) (Array T 0) slice parts
+    (with_two_parts slice.now start next width)

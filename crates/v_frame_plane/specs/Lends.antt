@@ -1,7 +1,8 @@
 -- What a plane ends as, where a `&mut` into its buffer was lent.
 use Rattle.std.specs.Prelude.{ℕ, ◌≡◌, List, length, Option, IfSome}
-use Rattle.std.specs.Borrow.{Lends, LendsIf, LendsSo, Fml, RattleType, MutBor, Array}
-use Rattle.v_frame_plane.specs.Plane.{Raster, WritesRow, with_row, with_entry, with_entries}
+use Rattle.std.specs.Borrow.{Lends, LendsBoth, LendsIf, LendsSo, Fml, RattleType, MutBor, Array}
+use Rattle.v_frame_layout.specs.Geometry.{Geometry}
+use Rattle.v_frame_plane.specs.Plane.{Raster, raster, WritesRow, with_row, with_entry, with_entries, entries_with_rows}
 use Rattle.v_frame_plane.specs.contracts.plane.Plane.{the_row}
 
 module _ (T : RattleType) (plane : MutBor (Raster T.Denot)) where
@@ -29,3 +30,11 @@ module _ (T : RattleType) (plane : MutBor (Raster T.Denot)) where
   -- the same, where there is such an entry; else nothing is lent, and the plane is as before
   abbrev pub LendsPixel : ℕ → ℕ → Option (MutBor T.Denot) → Fml
   LendsPixel x y r = LendsIf (the_row T) T plane r (with_entry plane.now x y) plane.now
+
+-- once the borrows of two rows of a whole buffer end, the entries where rows y and z lie are what
+-- they show last
+abbrev pub LendsVisibleRows : (T : RattleType) → MutBor (List T.Denot) → Geometry → ℕ → ℕ
+    → MutBor (List T.Denot) × MutBor (List T.Denot) → Fml
+LendsVisibleRows T buffer geometry y z rows =
+    LendsBoth (Array T 0) (Array T 0) (Array T 0) buffer rows
+    (entries_with_rows (raster geometry buffer.now) y z)

@@ -10,3 +10,6 @@ pub mod Lends
 pub mod PixelsLeft
 pub mod Plane
 pub mod RowsLeft
+pub mod SecondPixels
+pub mod SecondRows
+pub mod WorkedRows

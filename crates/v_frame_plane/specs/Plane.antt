@@ -1,7 +1,7 @@
 -- A plane: its geometry and its buffer. Cut, from the front, into the pieces that the geometry lays
 -- down, the buffer shows a table, which is its visible pieces, and has a border, which is all
 -- others.
-use Rattle.std.specs.Prelude.{ℕ, ◌≡◌, All, List, [], ◌∷◌, ◌++◌, length, map, take, drop, replicate, Option, Some, IsSome, slice_set}
+use Rattle.std.specs.Prelude.{ℕ, ◌≡◌, ◌≢◌, ◌+◌, All, List, [], ◌∷◌, ◌++◌, length, map, take, drop, replicate, Option, Some, IsSome, slice_get, slice_set}
 use Rattle.std.specs.List.{refill}
 use Rattle.v_frame_layout.specs.Geometry.{Geometry, Mark, Border, Visible, Piece, cutting_plan, place_of, alloc_size_of, Fits}
 use Rattle.v_frame_layout.specs.Table.{with_pixel}
@@ -86,6 +86,13 @@ abbrev pub with_part : {T : Type 0} → List T → ℕ → List T → List T
 with_part xs start ys =
     refill (length xs) xs (take start xs ++ (ys ++ drop (length ys) (drop start xs)))
 
+-- xs with ys and zs written where two parts of so many entries begin, the first in front of the
+-- second
+abbrev pub with_two_parts : {T : Type 0} → List T → ℕ → ℕ → ℕ → List T → List T → List T
+with_two_parts xs start next width ys zs =
+    take start xs
+    ++ (ys ++ (drop (start + width) (take next xs) ++ (zs ++ drop (next + width) xs)))
+
 module _ {T : Type 0} where
   -- row y of the table is another one, and all else is as before
   pub record WritesRow (old : Raster T) (y : ℕ) (new : Raster T) (row : List T) : Type 0 where
@@ -118,3 +125,25 @@ module _ {T : Type 0} where
   -- so any pixel is written as the pixel of column x in row y of the table
   abbrev pub WritesEachPixel : Raster T → ℕ → ℕ → Type 0
   WritesEachPixel plane x y = (pixel : T) → WritesPixel plane x y (with_entry plane x y pixel) pixel
+
+  -- rows y and z of the table are other ones, and all else is as before
+  pub record WritesRows (old : Raster T) (y z : ℕ) (new : Raster T) (row other : List T)
+      : Type 0 where
+    pub geometry : new.geometry ≡ old.geometry
+    pub border : border_of new ≡ border_of old
+    pub table : table_of new ≡ slice_set (slice_set (table_of old) y row) z other
+    pub first : slice_get (table_of new) y ≡ Some row
+    pub second : slice_get (table_of new) z ≡ Some other
+    pub others : (k : ℕ) → k ≢ y → k ≢ z → slice_get (table_of new) k ≡ slice_get (table_of old) k
+
+  -- the buffer with other entries where the visible pixels of rows y and z lie, y above z
+  abbrev pub entries_with_rows : Raster T → ℕ → ℕ → List T → List T → List T
+  entries_with_rows plane y z row other =
+      with_two_parts plane.buffer (place_of plane.geometry 0 y) (place_of plane.geometry 0 z)
+      plane.geometry.width row other
+
+  -- so any two rows as long as those that are there are written as rows y and z of the table
+  abbrev pub WritesEachPair : Raster T → ℕ → ℕ → List T → List T → Type 0
+  WritesEachPair plane y z old other_old =
+      (row other : List T) → length row ≡ length old → length other ≡ length other_old
+      → WritesRows plane y z (with_entries plane (entries_with_rows plane y z row other)) row other

@@ -1,18 +1,15 @@
 //! The iterator that lends the visible pixels of a plane for writing.
-ghost use Rattle.std.specs.Prelude.{◌≡◌, [], ◌∷◌, ◌++◌, ◌^◌, ◌<◌, length, Some, IfSome};
-ghost use Rattle.std.specs.Iterator.{UpTo, YieldsFirstMut, YieldsLastMut, item_count};
+ghost use Rattle.std.specs.Prelude.{◌≡◌, [], ◌∷◌, ◌++◌, ◌^◌, ◌<◌, length, Some, IfSome, ⊤};
+ghost use Rattle.std.specs.Iterator.{UpTo, MakesProgress, YieldsFirstMut, YieldsLastMut, item_count};
 ghost use Rattle.std.specs.Iterator.SizeHint.{IsWithinCount};
 ghost use Rattle.v_frame_plane.specs.Cursor.{PixelsAreCountable};
 ghost use Rattle.v_frame_plane.specs.Cut.{LendsFirst, LendsLast};
-ghost use Rattle.v_frame_plane.specs.Plane.{IsWhole, raster, table_of};
-ghost use Rattle.v_frame_layout.specs.Table.{row_major};
 ghost use Rattle.v_frame_plane.specs.RowsLeft.{rows_left};
 ghost use Rattle.std.specs.Borrow.{sem};
 
 use crate::rows_mut::RowsMut;
 use std::iter::FusedIterator;
 use std::mem;
-use v_frame_layout::geometry::PlaneGeometry;
 
 /// The visible pixels of a plane for writing, row after row from the top, from both ends.
 ///
@@ -28,17 +25,17 @@ pub struct PixelsMut<'a, T> {
 }
 
 impl<'a, T> PixelsMut<'a, T> {
-    ghost use Rattle.v_frame_plane.specs.PixelsLeft.{pixels_left, pixels_slice};
+    ghost use Rattle.v_frame_plane.specs.PixelsLeft.{pixels_left};
+    ghost use Rattle.v_frame_plane.specs.SecondPixels.{KeepsPixels, LendsFirstPixel, LendsLastPixel};
+    ghost use Rattle.v_frame_plane.specs.SecondPixels.{TakesFirstPixel, TakesLastPixel};
 
-    /// The visible pixels of a whole buffer.
-    pub(crate) fn new(geometry: PlaneGeometry, buffer: &'a mut [T]) -> Self
-        requires { IsWhole geometry buffer.old }
-        ensures same_reference { (pixels_slice result).ghost_name ≡ buffer.entry.ghost_name }
-        ensures slice { (pixels_slice result).now ≡ buffer.old }
-        ensures pixels { pixels_left result ≡ row_major (table_of (raster geometry buffer.old)) }
-        ensures bound { length (pixels_left result) < 2 ^ 63 }
+    /// The pixels of these rows.
+    pub(crate) fn new(rows: RowsMut<'a, T>) -> Self
+        requires { PixelsAreCountable [] (rows_left rows) [] }
+        ensures rows { result.rows ≡ rows.entry }
+        ensures front { result.front.now ≡ [] }
+        ensures back { result.back.now ≡ [] }
     {
-        let rows = RowsMut::new(geometry, buffer);
         PixelsMut {
             front: <&mut [T]>::default(),
             rows,
@@ -50,7 +47,8 @@ impl<'a, T> PixelsMut<'a, T> {
     #[inline]
     fn next_of_front(&mut self) -> &'a mut T
         requires { 0 < length self.old.front.now }
-        ensures { pixels_left self.old ≡ result.now ∷ pixels_left self.new }
+        ensures* leaves { sem 𝓛 (TakesFirstPixel T.row self.old self.new result) }
+        ensures steps { pixels_left self.old ≡ result.now ∷ pixels_left self.new }
     {
         let (pixel, rest) = cut_first(mem::take(&mut self.front));
         self.front = rest;
@@ -61,61 +59,75 @@ impl<'a, T> PixelsMut<'a, T> {
     #[inline]
     fn next_of_back(&mut self) -> &'a mut T
         requires { 0 < length self.old.back.now }
-        ensures { pixels_left self.old ≡ pixels_left self.new ++ result.now ∷ [] }
+        ensures* leaves { sem 𝓛 (TakesLastPixel T.row self.old self.new result) }
+        ensures steps { pixels_left self.old ≡ pixels_left self.new ++ result.now ∷ [] }
     {
         let (pixel, rest) = cut_last(mem::take(&mut self.back));
         self.back = rest;
         pixel
     }
 
-    /// Begins the next row from the front.
+    /// Begins the next row from the front, or goes on in the one that was begun from the back.
     #[inline]
-    fn begin_row(&mut self)
-        requires none { length self.old.front.now ≡ 0 }
-        requires more { 0 < length (rows_left self.old.rows) }
-        ensures begun { 0 < length self.new.front.now }
+    fn refill_front(&mut self)
+        requires { length self.old.front.now ≡ 0 }
+        ensures* leaves { sem 𝓛 (KeepsPixels T.row self.old self.new) }
         ensures left { pixels_left self.new ≡ pixels_left self.old }
+        ensures begun { length self.new.front.now ≡ 0 → pixels_left self.new ≡ [] }
     {
-        if let Some(row) = self.rows.next() {
-            self.front = row;
+        match self.rows.next() {
+            Some(row) => self.front = row,
+            None => self.front = mem::take(&mut self.back),
         }
     }
 
-    /// Begins the last row from the back.
+    /// Begins the last row from the back, or goes on in the one that was begun from the front.
     #[inline]
-    fn begin_last_row(&mut self)
-        requires none { length self.old.back.now ≡ 0 }
-        requires more { 0 < length (rows_left self.old.rows) }
-        ensures begun { 0 < length self.new.back.now }
+    fn refill_back(&mut self)
+        requires { length self.old.back.now ≡ 0 }
+        ensures* leaves { sem 𝓛 (KeepsPixels T.row self.old self.new) }
         ensures left { pixels_left self.new ≡ pixels_left self.old }
+        ensures begun { length self.new.back.now ≡ 0 → pixels_left self.new ≡ [] }
     {
-        if let Some(row) = self.rows.next_back() {
-            self.back = row;
+        match self.rows.next_back() {
+            Some(row) => self.back = row,
+            None => self.back = mem::take(&mut self.front),
         }
     }
 
-    /// Goes on from the front in the row that was begun from the back.
+    /// The next pixel, as [`Iterator::next`] draws it. The clause `leaves`, which no trait can have, tells what the
+    /// plane shows once the borrow ends. Our own.
     #[inline]
-    fn begin_back(&mut self)
-        requires none { length self.old.front.now ≡ 0 }
-        requires no_rows { length (rows_left self.old.rows) ≡ 0 }
-        requires more { 0 < length self.old.back.now }
-        ensures begun { 0 < length self.new.front.now }
-        ensures left { pixels_left self.new ≡ pixels_left self.old }
+    pub fn next(&mut self) -> Option<&'a mut T>
+        ensures* leaves { sem 𝓛 (LendsFirstPixel T.row self.old result self.new) }
+        ensures steps { YieldsFirstMut pixels_left self.old result self.new }
+        ensures goes { MakesProgress (λ _. ⊤) (item_count pixels_left) self.old result self.new }
     {
-        self.front = mem::take(&mut self.back);
+        if self.front.len() > 0 {
+            return Some(self.next_of_front());
+        }
+        self.refill_front();
+        if self.front.len() > 0 {
+            return Some(self.next_of_front());
+        }
+        None
     }
 
-    /// Goes on from the back in the row that was begun from the front.
+    /// The last pixel, as [`DoubleEndedIterator::next_back`] draws it. Our own.
     #[inline]
-    fn begin_front(&mut self)
-        requires none { length self.old.back.now ≡ 0 }
-        requires no_rows { length (rows_left self.old.rows) ≡ 0 }
-        requires more { 0 < length self.old.front.now }
-        ensures begun { 0 < length self.new.back.now }
-        ensures left { pixels_left self.new ≡ pixels_left self.old }
+    pub fn next_back(&mut self) -> Option<&'a mut T>
+        ensures* leaves { sem 𝓛 (LendsLastPixel T.row self.old result self.new) }
+        ensures steps { YieldsLastMut pixels_left self.old result self.new }
+        ensures goes { MakesProgress (λ _. ⊤) (item_count pixels_left) self.old result self.new }
     {
-        self.back = mem::take(&mut self.front);
+        if self.back.len() > 0 {
+            return Some(self.next_of_back());
+        }
+        self.refill_back();
+        if self.back.len() > 0 {
+            return Some(self.next_of_back());
+        }
+        None
     }
 }
 
@@ -130,18 +142,7 @@ impl<'a, T> Iterator for PixelsMut<'a, T> {
 
     #[inline]
     fn next(&mut self) -> Option<&'a mut T> {
-        if self.front.len() > 0 {
-            return Some(self.next_of_front());
-        }
-        if self.rows.len() > 0 {
-            self.begin_row();
-            return Some(self.next_of_front());
-        }
-        if self.back.len() > 0 {
-            self.begin_back();
-            return Some(self.next_of_front());
-        }
-        None
+        PixelsMut::next(self)
     }
 
     #[inline]
@@ -162,18 +163,7 @@ impl<'a, T> DoubleEndedIterator for PixelsMut<'a, T> {
 
     #[inline]
     fn next_back(&mut self) -> Option<&'a mut T> {
-        if self.back.len() > 0 {
-            return Some(self.next_of_back());
-        }
-        if self.rows.len() > 0 {
-            self.begin_last_row();
-            return Some(self.next_of_back());
-        }
-        if self.front.len() > 0 {
-            self.begin_front();
-            return Some(self.next_of_back());
-        }
-        None
+        PixelsMut::next_back(self)
     }
 }
 

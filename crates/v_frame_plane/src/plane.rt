@@ -20,7 +20,7 @@
 //! [`row_mut`](Plane::row_mut), the iterators and the other visible calls write is the table; the border is reached by
 //! [`data_mut`](Plane::data_mut), and by [`pixel_mut`](Plane::pixel_mut) past the visible width. [`PlaneRef`] reads a
 //! plane whose buffer is kept elsewhere.
-ghost use Rattle.std.specs.Prelude.{All, List, ℕ, ◌≡◌, ◌*◌, ◌^◌, ◌<◌, ◌≤◌, ◌↔◌, length, IsNone, IfOk, IfSome, Some, slice_get, option_copied};
+ghost use Rattle.std.specs.Prelude.{All, List, ℕ, ◌≡◌, [], ◌*◌, ◌^◌, ◌<◌, ◌≤◌, ◌↔◌, length, IsNone, IfOk, IfSome, Some, slice_get, option_copied};
 ghost use Rattle.std.specs.Map.Iter.{ShowsInOrder, ShowsInReverse, GivesInOrder, GivesInReverse, deref};
 ghost use Rattle.v_frame_layout.specs.Geometry.{alloc_size_of, Fits, place_of};
 ghost use Rattle.v_frame_layout.specs.Pixel.{byte_list};
@@ -29,6 +29,8 @@ ghost use Rattle.v_frame_plane.specs.Plane.{filled, table_of};
 
 mod copies;
 mod options;
+mod pairs;
+mod values;
 
 use crate::aligned::AlignedData;
 pub use crate::bytes::ByteData;
@@ -39,8 +41,8 @@ use crate::place::{checked_place, row_start, visible_place};
 pub use crate::plane_ref::PlaneRef;
 pub use crate::rows::Rows;
 pub use crate::rows_mut::RowsMut;
+pub use pairs::visible_rows_mut;
 use std::alloc::{AllocError, Global};
-use std::fmt;
 use std::marker::Model;
 pub use v_frame_layout::geometry::{PlaneGeometry, SubsamplingError};
 use v_frame_layout::pixel::Pixel;
@@ -70,8 +72,11 @@ impl<T> Plane<T> {
     ghost use Rattle.std.specs.Option.{option_copied_mut};
     ghost use Rattle.v_frame_plane.specs.Plane.{WritesEachRow, WritesEachPixel};
     ghost use Rattle.v_frame_plane.specs.Lends.{LendsBuffer, LendsRow, LendsVisibleRow, LendsVisiblePixel};
+    ghost use Rattle.v_frame_plane.specs.Cursor.{PixelsAreCountable};
     ghost use Rattle.v_frame_plane.specs.RowsLeft.{rows_left, rows_slice, LendsRowsInOrder, LendsRowsInReverse};
+    ghost use Rattle.v_frame_plane.specs.SecondRows.{WritesEachTable};
     ghost use Rattle.v_frame_plane.specs.PixelsLeft.{pixels_left, pixels_slice, LendsPixelsInOrder, LendsPixelsInReverse};
+    ghost use Rattle.v_frame_plane.specs.SecondPixels.{BeginsOver};
 
     /// The plane, lent for reading. Our own.
     pub fn as_plane_ref(&self) -> PlaneRef<'_, T>
@@ -193,15 +198,17 @@ impl<T> Plane<T> {
 
     /// The visible rows for writing, from the top, from both ends.
     ///
-    /// Rows may be held while others are drawn, and written in any order, after the iterator is gone too. What writing
-    /// through them leaves is in no clause yet.
+    /// Rows may be held while others are drawn, and written in any order, after the iterator is gone too: when the borrow
+    /// ends, the plane shows what each held last, and all else is as it was. The iterator's draws tell which row is which.
     ///
     /// Ports `Plane::rows_mut` of `v_frame` 0.7.0.
     pub fn rows_mut(&mut self) -> RowsMut<'_, T>
         ensures* writes_back { sem 𝓛 (LendsBuffer T.row self.entry (rows_slice result)) }
         ensures slice { (rows_slice result).now ≡ self.old.buffer }
         ensures rows { rows_left result ≡ table_of self.old }
+        ensures written { WritesEachTable self.old result }
         ensures wide { All (λ row. length row ≡ self.old.geometry.width) (rows_left result) }
+        ensures countable { PixelsAreCountable [] (rows_left result) [] }
         ensures bound { length (rows_left result) < 2 ^ 63 }
         ensures runs { LendsRowsInOrder T }
         ensures runs_back { LendsRowsInReverse T }
@@ -213,8 +220,7 @@ impl<T> Plane<T> {
     /// A visible pixel for writing, where column `x` of row `y` is visible: [`width`](Self::width) and
     /// [`height`](Self::height) tell.
     ///
-    /// Our own, beside [`pixel_mut`](Self::pixel_mut). To write many pixels, write by rows: it takes a small part of the
-    /// time.
+    /// Our own, beside [`pixel_mut`](Self::pixel_mut). To write many pixels, write by rows, which is much faster.
     pub fn visible_pixel_mut(&mut self, x: usize, y: usize) -> &mut T
         requires wide { x < self.old.geometry.width }
         requires high { y < self.old.geometry.height }
@@ -231,20 +237,21 @@ impl<T> Plane<T> {
 
     /// The visible pixels for writing, row after row from the top, from both ends.
     ///
-    /// Pixels may be held while others are drawn, and written in any order, after the iterator is gone too. What writing
-    /// through them leaves is in no clause yet. To write whole rows, [`rows_mut`](Self::rows_mut) takes a small part of the
-    /// time.
+    /// Pixels may be held while others are drawn, and written in any order, after the iterator is gone too: when the borrow
+    /// ends, the plane shows what each held last, and all else is as it was. The iterator's draws tell which pixel is which.
+    /// To write whole rows, [`rows_mut`](Self::rows_mut) is much faster.
     ///
     /// Ports `Plane::pixels_mut` of `v_frame` 0.7.0.
     pub fn pixels_mut(&mut self) -> PixelsMut<'_, T>
+        ensures* writes_back { sem 𝓛 (LendsBuffer T.row self.entry (pixels_slice result)) }
         ensures slice { (pixels_slice result).now ≡ self.old.buffer }
         ensures pixels { pixels_left result ≡ row_major (table_of self.old) }
+        ensures begins { BeginsOver self.old result }
         ensures bound { length (pixels_left result) < 2 ^ 63 }
         ensures runs { LendsPixelsInOrder T }
         ensures runs_back { LendsPixelsInReverse T }
     {
-        let geometry = self.geometry;
-        PixelsMut::new(geometry, self.buffer.as_mut_slice())
+        PixelsMut::new(self.rows_mut())
     }
 }
 
@@ -342,59 +349,5 @@ impl<T: Pixel> Plane<T> {
         ensures runs_back { GivesInReverse ℕ }
     {
         self.as_plane_ref().byte_data()
-    }
-}
-
-impl<T: Copy> Plane<T> {
-    /// The same plane in a buffer of its own.
-    ///
-    /// Ports `Plane::clone` of `v_frame` 0.7.0.
-    ///
-    /// # Errors
-    ///
-    /// [`AllocError`] where the request for the buffer's memory was refused.
-    pub fn clone(&self, alloc: Global) -> Result<Self, AllocError>
-        ensures { IfOk result (λ copy. copy ≡ self.now) }
-    {
-        let buffer = self.buffer.clone(alloc)?;
-        Ok(Plane {
-            geometry: self.geometry,
-            buffer,
-        })
-    }
-}
-
-impl<T: PartialEq> PartialEq for Plane<T> {
-    ghost use Rattle.std.specs.Ordering.{on, eq_of_both};
-    ghost use Rattle.std.specs.Cmp.{and_per, on_per};
-    ghost use Rattle.v_frame_layout.specs.contracts.geometry.PlaneGeometryPartialEq.TheImpl.Laws as geometries;
-    ghost use Rattle.std.specs.Cmp.Lexicographic.{pointwise, lists_per};
-
-    ghost eq = { eq_of_both (on (λ p. p.geometry) ⟦<PlaneGeometry as PartialEq>⟧.eq)
-        (on (λ p. p.buffer) (pointwise T.eq)) };
-
-    ghost laws = { and_per (on_per (λ p. p.geometry) geometries.laws-law)
-        (on_per (λ p. p.buffer) (lists_per T.PartialEq.laws)) };
-
-    fn eq(&self, other: &Self) -> bool {
-        self.geometry == other.geometry && self.buffer == other.buffer
-    }
-}
-
-impl<T: Eq> Eq for Plane<T> {
-    ghost use Rattle.std.specs.Cmp.{and_equiv, on_equiv};
-    ghost use Rattle.v_frame_layout.specs.contracts.geometry.PlaneGeometryEq.TheImpl.Laws as geometries;
-    ghost use Rattle.std.specs.Cmp.Lexicographic.{lists_equiv};
-
-    ghost laws = { and_equiv (on_equiv (λ p. p.geometry) geometries.laws-law)
-        (on_equiv (λ p. p.buffer) (lists_equiv T.Eq.laws)) };
-}
-
-impl<T: fmt::Debug> fmt::Debug for Plane<T> {
-    fn fmt<W: fmt::Write>(&self, f: &mut fmt::Formatter<W>) -> fmt::Result {
-        f.debug_struct("Plane")
-            .field("data", &self.buffer)
-            .field("geometry", &self.geometry)
-            .finish()
     }
 }

@@ -1,11 +1,12 @@
 //! The iterator that lends the visible rows of a plane for writing.
-ghost use Rattle.std.specs.Prelude.{◌≡◌, ◌^◌, ◌<◌, length, Some, IfSome};
-ghost use Rattle.std.specs.Iterator.{UpTo, YieldsFirstMut, YieldsLastMut, item_count};
+ghost use Rattle.std.specs.Prelude.{◌≡◌, [], ◌^◌, ◌<◌, length, Some, IfSome, ⊤};
+ghost use Rattle.std.specs.Iterator.{UpTo, MakesProgress, YieldsFirstMut, YieldsLastMut, item_count};
 ghost use Rattle.std.specs.Iterator.SizeHint.{IsWithinCount};
-ghost use Rattle.v_frame_plane.specs.Cursor.{RowsAreWithin};
+ghost use Rattle.v_frame_plane.specs.Cursor.{PixelsAreCountable, RowsAreWithin};
 ghost use Rattle.v_frame_layout.specs.Geometry.{IsGeometry};
 ghost use Rattle.v_frame_plane.specs.Plane.{IsWhole, raster, table_of};
 ghost use Rattle.v_frame_layout.specs.Table.{row_major};
+ghost use Rattle.std.specs.Borrow.{sem};
 
 use std::iter::FusedIterator;
 use std::mem;
@@ -29,6 +30,7 @@ pub struct RowsMut<'a, T> {
 
 impl<'a, T> RowsMut<'a, T> {
     ghost use Rattle.v_frame_plane.specs.RowsLeft.{rows_left, rows_slice};
+    ghost use Rattle.v_frame_plane.specs.SecondRows.{LendsFirstRow, LendsLastRow, WritesEachTable};
 
     /// The visible rows of a whole buffer.
     pub(crate) fn new(geometry: PlaneGeometry, buffer: &'a mut [T]) -> Self
@@ -36,7 +38,9 @@ impl<'a, T> RowsMut<'a, T> {
         ensures same_reference { (rows_slice result).ghost_name ≡ buffer.entry.ghost_name }
         ensures slice { (rows_slice result).now ≡ buffer.old }
         ensures rows { rows_left result ≡ table_of (raster geometry buffer.old) }
+        ensures countable { PixelsAreCountable [] (rows_left result) [] }
         ensures bound { length (rows_left result) < 2 ^ 63 }
+        ensures written { WritesEachTable (raster geometry buffer.old) result }
         ensures valid { IsGeometry geometry }
     {
         let width = geometry.width();
@@ -56,6 +60,43 @@ impl<'a, T> RowsMut<'a, T> {
     {
         self.count * self.width
     }
+
+    /// The next row, as [`Iterator::next`] draws it. The clause `leaves`, which no trait can have, tells what the
+    /// plane shows once the borrow ends. Our own.
+    #[inline]
+    pub fn next(&mut self) -> Option<&'a mut [T]>
+        ensures* leaves { sem 𝓛 (LendsFirstRow T.row self.old result self.new) }
+        ensures steps { YieldsFirstMut rows_left self.old result self.new }
+        ensures goes { MakesProgress (λ _. ⊤) (item_count rows_left) self.old result self.new }
+    {
+        if self.count == 0 {
+            return None;
+        }
+        let (_, rest) = mem::take(&mut self.rest).split_at_mut(self.start);
+        let (row, rest) = rest.split_at_mut(self.width);
+        self.rest = rest;
+        self.start = self.gap;
+        self.count -= 1;
+        Some(row)
+    }
+
+    /// The last row, as [`DoubleEndedIterator::next_back`] draws it. Our own.
+    #[inline]
+    pub fn next_back(&mut self) -> Option<&'a mut [T]>
+        ensures* leaves { sem 𝓛 (LendsLastRow T.row self.old result self.new) }
+        ensures steps { YieldsLastMut rows_left self.old result self.new }
+        ensures goes { MakesProgress (λ _. ⊤) (item_count rows_left) self.old result self.new }
+    {
+        if self.count == 0 {
+            return None;
+        }
+        self.count -= 1;
+        let behind = self.start + self.count * (self.width + self.gap);
+        let (rest, last) = mem::take(&mut self.rest).split_at_mut(behind);
+        self.rest = rest;
+        let (row, _) = last.split_at_mut(self.width);
+        Some(row)
+    }
 }
 
 impl<'a, T> Iterator for RowsMut<'a, T> {
@@ -69,15 +110,7 @@ impl<'a, T> Iterator for RowsMut<'a, T> {
 
     #[inline]
     fn next(&mut self) -> Option<&'a mut [T]> {
-        if self.count == 0 {
-            return None;
-        }
-        let (_, rest) = mem::take(&mut self.rest).split_at_mut(self.start);
-        let (row, rest) = rest.split_at_mut(self.width);
-        self.rest = rest;
-        self.start = self.gap;
-        self.count -= 1;
-        Some(row)
+        RowsMut::next(self)
     }
 
     #[inline]
@@ -97,17 +130,8 @@ impl<'a, T> DoubleEndedIterator for RowsMut<'a, T> {
     ghost next_back_gives = { YieldsLastMut rows_left };
 
     #[inline]
-    #[tactic(auto, using(crate::proofs::Cursors::last_row, crate::proofs::Cursors::count_of_rows))]
     fn next_back(&mut self) -> Option<&'a mut [T]> {
-        if self.count == 0 {
-            return None;
-        }
-        self.count -= 1;
-        let behind = self.start + self.count * (self.width + self.gap);
-        let (rest, last) = mem::take(&mut self.rest).split_at_mut(behind);
-        self.rest = rest;
-        let (row, _) = last.split_at_mut(self.width);
-        Some(row)
+        RowsMut::next_back(self)
     }
 }
 

@@ -1,2 +1,3 @@
-pub mod Filling
 pub mod Carrying
+pub mod Filling
+pub mod HeldPixels

@@ -9,12 +9,14 @@ pub mod answers;
 pub mod border;
 pub mod bytes;
 pub mod frames;
+pub mod held_pixels;
 pub mod lent;
 pub mod pictures;
 pub mod pixels;
 pub mod planes;
 pub mod reads;
 pub mod rectangles;
+pub mod row_pairs;
 pub mod start;
 pub mod streams;
 #[cfg(test)]

@@ -3,6 +3,7 @@
 use crate::answers::first_answers;
 use crate::bytes::{append_bytes, through_a_plane, without_tails};
 use crate::frames::{built_chroma_size, reason_not_to_build};
+use crate::held_pixels::write_ends;
 use crate::pictures::brighten;
 use crate::pixels::{fill_last_row, replace_ends};
 use crate::planes::{copy_with_plane, plane_of_places};
@@ -60,6 +61,15 @@ fn lent_pixels_and_rows_are_replaced(rt: HostRuntime) {
     let wanted = buffer_around([8, 2, 3, 7, 7, 9]);
     let given = (filled, replaced) == (Some(4), (Some(1), Some(7)));
     assert!(rt; given && holds(&frame.y_plane, &wanted));
+}
+
+#[test]
+fn held_pixels_are_written(rt: HostRuntime) {
+    let mut frame = padded(&rt, rt.alloc(), [1, 2, 3, 4, 5, 6]);
+    if frame.y_plane.pixels().len() > 2 {
+        write_ends(&mut frame.y_plane, 7, 8, 9);
+    }
+    assert!(rt; holds(&frame.y_plane, &buffer_around([7, 2, 3, 4, 8, 9])));
 }
 
 #[test]

@@ -4,14 +4,14 @@ ghost use Rattle.v_frame_layout.specs.Table.{row_major};
 ghost use Rattle.v_frame_plane.specs.Plane.{table_of};
 ghost use Rattle.v_frame.specs.Walk.{draws_answer, AreDrawnOnce};
 
+use super::unwritten::{draw_lent_pixels, draw_lent_rows};
 use crate::pixel::Pixel;
 use crate::plane::Plane;
-use crate::replay::walk::draw_items;
 use crate::replay::{Drawn, Sequence, Side};
 use std::alloc::{AllocError, Global};
 
-/// Any draws from the rows of a plane that are lent for writing give each row once, from its end. The error is that of
-/// memory: rows are copied.
+/// Any draws from the rows of a plane that are lent for writing give each row once, from its end, and the plane
+/// is as before. The error is that of memory: rows are copied.
 pub fn lent_rows_are_drawn_once<T: Pixel>(
     alloc: Global,
     plane: &mut Plane<T>,
@@ -20,12 +20,13 @@ pub fn lent_rows_are_drawn_once<T: Pixel>(
     ensures counted { IfOk result (λ drawn.
         drawn.items ≡ draws_answer (table_of plane.old) sides.now) }
     ensures once { IfOk result (λ drawn. AreDrawnOnce (table_of plane.old) sides.now drawn.items) }
+    ensures same { plane.new ≡ plane.old }
 {
-    draw_items(alloc, &mut plane.rows_mut(), sides)
+    draw_lent_rows(alloc, plane, sides)
 }
 
-/// Any draws from the pixels of a plane that are lent for writing give each pixel once, from its end. The error is that of
-/// memory.
+/// Any draws from the pixels of a plane that are lent for writing give each pixel once, from its end, and the
+/// plane is as before. The error is that of memory.
 pub fn lent_pixels_are_drawn_once<T: Pixel>(
     alloc: Global,
     plane: &mut Plane<T>,
@@ -35,6 +36,7 @@ pub fn lent_pixels_are_drawn_once<T: Pixel>(
         drawn.items ≡ draws_answer pixels sides.now) }
     ensures once { IfOk result (λ drawn.
         AreDrawnOnce (row_major (table_of plane.old)) sides.now drawn.items) }
+    ensures same { plane.new ≡ plane.old }
 {
-    draw_items(alloc, &mut plane.pixels_mut(), sides)
+    draw_lent_pixels(alloc, plane, sides)
 }

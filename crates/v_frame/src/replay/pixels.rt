@@ -1,16 +1,20 @@
 //! The kinds of call that write pixels: one by its column and row, or those that draws take.
-ghost use Rattle.std.specs.Prelude.{◌≡◌, ◌+◌, ◌*◌, ◌<◌, ◌^◌, length, map, IfOk, OnOk, OnErr};
+ghost use Rattle.std.specs.Prelude.{◌≡◌, [], ◌∷◌, length, map, IfOk, OnOk, OnErr};
 ghost use Rattle.v_frame_layout.specs.Table.{pixel_at, row_major, with_pixel};
 ghost use Rattle.v_frame_plane.specs.Plane.{KeepsBorder, table_of};
+ghost use Rattle.std.specs.Borrow.{sem};
+ghost use Rattle.std.specs.Option.{option_copied_mut};
+ghost use Rattle.v_frame_plane.specs.PixelsLeft.{pixels_left};
+ghost use Rattle.v_frame.specs.DrawnItems.{LendsPixelFrom, PutsPixelsBack};
 ghost use Rattle.v_frame.specs.Replay.{answer_of_pixel};
-ghost use Rattle.v_frame.specs.Walk.{draws_answer, side_of_pixel, pixels_written};
+ghost use Rattle.v_frame.specs.Walk.{draws_answer, item_from, left_by, pixel_written, side_of_pixel, pixels_written};
 ghost use Rattle.v_frame.specs.declared.replay.answer.Answer.TheVariants.{PixelsWalked};
 
 use super::answer::Answer;
-use super::draw::{PixelDraw, Side};
+use super::draw::{Draw, PixelDraw, Side};
 use super::walk::walk_answer;
 use crate::pixel::Pixel;
-use crate::plane::Plane;
+use crate::plane::{PixelsMut, Plane};
 use std::alloc::{AllocError, Global};
 use std::mem;
 
@@ -49,76 +53,43 @@ pub(crate) fn replay_pixels_mut<T: Pixel>(
 }
 
 /// Replaces the pixels that these draws take. A draw past the last pixel writes nothing.
-fn write_pixels<T: Pixel>(plane: &mut Plane<T>, draws: &[PixelDraw<T>])
+fn write_pixels<T: Copy>(plane: &mut Plane<T>, draws: &[PixelDraw<T>])
     ensures table { table_of plane.new ≡ pixels_written (table_of plane.old) draws.now }
     ensures border { KeepsBorder plane.old plane.new }
 {
-    let width = plane.width();
-    let mut front = Place { x: 0, y: 0 };
-    let mut back = Place {
-        x: 0,
-        y: plane.height(),
-    };
-    let taken = &draws[..draws.len().min(plane.pixels().len())];
-    for draw in taken {
-        let (x, y) = match draw.side {
-            Side::Front => front.pass(width),
-            Side::Back => back.pass_back(width),
-        };
-        if let Some(value) = draw.value {
-            set_pixel(plane, x, y, value);
-        }
+    let mut walk = plane.pixels_mut();
+    for draw in draws {
+        write_pixel(&mut walk, draw);
     }
 }
 
-/// Replaces a pixel of the visible rectangle.
-fn set_pixel<T: Pixel>(plane: &mut Plane<T>, x: usize, y: usize, value: T)
-    requires wide { x < plane.old.geometry.width }
-    requires high { y < plane.old.geometry.height }
-    ensures table { table_of plane.new ≡ with_pixel (table_of plane.old) x y value }
-    ensures border { KeepsBorder plane.old plane.new }
+/// One draw, and the write where it gives a pixel.
+fn write_pixel<T: Copy>(walk: &mut PixelsMut<'_, T>, draw: &PixelDraw<T>)
+    ensures* leaves { sem 𝓛 (PutsPixelsBack T.row (draw.now ∷ []) walk.old walk.new) }
+    ensures left { pixels_left walk.new ≡ left_by draw.now.side (pixels_left walk.old) }
 {
-    *plane.visible_pixel_mut(x, y) = value;
-}
-
-/// In front of the pixel at column `x` of row `y`, among the pixels row after row.
-#[derive(Drop)]
-struct Place {
-    x: usize,
-    y: usize,
-}
-
-impl Place {
-    /// Passes the next pixel of rows of this width, and gives its column and its row.
-    fn pass(&mut self, width: usize) -> (usize, usize)
-        requires inside { self.old.x < width }
-        requires counted { self.old.y + 1 < 2 ^ 64 }
-        ensures passed { result ≡ (self.old.x, self.old.y) }
-        ensures inside { self.new.x < width }
-        ensures number { self.new.y * width + self.new.x ≡ self.old.y * width + self.old.x + 1 }
-    {
-        let passed = (self.x, self.y);
-        self.x += 1;
-        if self.x == width {
-            self.x = 0;
-            self.y += 1;
-        }
-        passed
+    if let Some(pixel) = draw_pixel(walk, draw.side()) {
+        replace_by(pixel, draw);
     }
+}
 
-    /// Passes the pixel before, and gives its column and its row.
-    fn pass_back(&mut self, width: usize) -> (usize, usize)
-        requires inside { self.old.x < width }
-        requires some { 0 < self.old.y * width + self.old.x }
-        ensures passed { result ≡ (self.new.x, self.new.y) }
-        ensures inside { self.new.x < width }
-        ensures number { self.new.y * width + self.new.x + 1 ≡ self.old.y * width + self.old.x }
-    {
-        if self.x == 0 {
-            self.x = width;
-            self.y -= 1;
-        }
-        self.x -= 1;
-        (self.x, self.y)
+/// Writes what a draw writes into a pixel.
+fn replace_by<T: Copy>(pixel: &mut T, draw: &PixelDraw<T>)
+    ensures { pixel.new ≡ pixel_written draw.now pixel.old }
+{
+    if let Some(value) = draw.value {
+        *pixel = value;
+    }
+}
+
+/// One draw, from this side.
+pub(crate) fn draw_pixel<'a, T>(walk: &mut PixelsMut<'a, T>, side: Side) -> Option<&'a mut T>
+    ensures* leaves { sem 𝓛 (LendsPixelFrom T.row side walk.old result walk.new) }
+    ensures item { option_copied_mut result ≡ item_from side (pixels_left walk.old) }
+    ensures left { pixels_left walk.new ≡ left_by side (pixels_left walk.old) }
+{
+    match side {
+        Side::Front => walk.next(),
+        Side::Back => walk.next_back(),
     }
 }

@@ -1,16 +1,20 @@
 //! The kinds of call that write rows: one by its number, or those that draws take.
-ghost use Rattle.std.specs.Prelude.{◌≡◌, length, map, slice_get, IfOk, OnOk, OnErr};
+ghost use Rattle.std.specs.Prelude.{◌≡◌, [], ◌∷◌, length, map, slice_get, IfOk, OnOk, OnErr};
 ghost use Rattle.v_frame_layout.specs.Table.{overwritten_row, with_writes};
 ghost use Rattle.v_frame_plane.specs.Plane.{KeepsBorder, table_of};
-ghost use Rattle.v_frame.specs.Walk.{draws_answer, side_of_row, rows_written};
+ghost use Rattle.std.specs.Borrow.{sem};
+ghost use Rattle.std.specs.Option.{option_copied_mut};
+ghost use Rattle.v_frame_plane.specs.RowsLeft.{rows_left};
+ghost use Rattle.v_frame.specs.DrawnItems.{LendsRowFrom, PutsRowsBack};
+ghost use Rattle.v_frame.specs.Walk.{draws_answer, item_from, left_by, row_written, side_of_row, rows_written};
 ghost use Rattle.v_frame.specs.declared.replay.answer.Answer.TheVariants.{RowShown, RowsWalked};
 
 use super::answer::Answer;
-use super::draw::{RowDraw, Side};
+use super::draw::{Draw, RowDraw, Side};
 use super::reads::row_shown;
 use super::walk::walk_answer;
 use crate::pixel::Pixel;
-use crate::plane::Plane;
+use crate::plane::{Plane, RowsMut};
 use std::alloc::{AllocError, Global};
 
 /// Overwrites a row, once there is room for what it was.
@@ -74,20 +78,37 @@ fn write_rows<T: Copy>(plane: &mut Plane<T>, draws: &[RowDraw<T>])
     ensures table { table_of plane.new ≡ rows_written (table_of plane.old) draws.now }
     ensures border { KeepsBorder plane.old plane.new }
 {
-    let mut front = 0;
-    let mut back = plane.height();
-    let taken = &draws[..draws.len().min(back)];
-    for draw in taken {
-        let y = match draw.side {
-            Side::Front => {
-                front += 1;
-                front - 1
-            }
-            Side::Back => {
-                back -= 1;
-                back
-            }
-        };
-        overwrite_row(plane, y, draw.writes.as_slice());
+    let mut walk = plane.rows_mut();
+    for draw in draws {
+        write_row(&mut walk, draw);
+    }
+}
+
+/// One draw, and the write where it gives a row.
+fn write_row<T: Copy>(walk: &mut RowsMut<'_, T>, draw: &RowDraw<T>)
+    ensures* leaves { sem 𝓛 (PutsRowsBack T.row (draw.now ∷ []) walk.old walk.new) }
+    ensures left { rows_left walk.new ≡ left_by draw.now.side (rows_left walk.old) }
+{
+    if let Some(row) = draw_row(walk, draw.side()) {
+        overwrite_by(row, draw);
+    }
+}
+
+/// Writes what a draw writes into a row.
+fn overwrite_by<T: Copy>(row: &mut [T], draw: &RowDraw<T>)
+    ensures { row.new ≡ row_written draw.now row.old }
+{
+    overwrite(row, draw.writes.as_slice());
+}
+
+/// One draw, from this side.
+pub(crate) fn draw_row<'a, T>(walk: &mut RowsMut<'a, T>, side: Side) -> Option<&'a mut [T]>
+    ensures* leaves { sem 𝓛 (LendsRowFrom T.row side walk.old result walk.new) }
+    ensures item { option_copied_mut result ≡ item_from side (rows_left walk.old) }
+    ensures left { rows_left walk.new ≡ left_by side (rows_left walk.old) }
+{
+    match side {
+        Side::Front => walk.next(),
+        Side::Back => walk.next_back(),
     }
 }

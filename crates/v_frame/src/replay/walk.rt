@@ -1,5 +1,5 @@
 //! The kinds of call that draw from the iterators of a plane, in turn from the sides of a list.
-ghost use Rattle.std.specs.Prelude.{◌≡◌, ℕ, List, length, map, IfOk};
+ghost use Rattle.std.specs.Prelude.{◌≡◌, ℕ, List, None, length, map, IfOk};
 ghost use Rattle.v_frame.specs.Walk.{item_from, left_by, draws_answer};
 ghost use Rattle.v_frame.specs.declared.replay.answer.Answer.TheVariants.{RowsWalked, PixelsWalked, BytesWalked};
 
@@ -7,7 +7,7 @@ use super::answer::Answer;
 use super::draw::{Draw, Drawn, Side};
 use super::sequence::Sequence;
 use crate::pixel::Pixel;
-use crate::plane::{ByteData, Pixels, PixelsMut, Rows, RowsMut};
+use crate::plane::{ByteData, Pixels, Rows};
 use std::alloc::{AllocError, Global};
 
 /// An iterator over a plane that is drawn from both ends. What a draw gives stands in an answer, so what the iterator only
@@ -15,7 +15,8 @@ use std::alloc::{AllocError, Global};
 pub(crate) trait Walk {
     ghost use Rattle.v_frame.specs.declared.replay.answer.Answer.{Answer};
     ghost use Rattle.v_frame.specs.declared.replay.draw.Drawn.{Drawn};
-    ghost use Rattle.std.specs.Prelude.{◌≡◌, ℕ, List, length, IfOk};
+    ghost use Rattle.std.specs.Prelude.{◌≡◌, ℕ, List, Option, length, IfOk};
+    ghost use Rattle.std.specs.Borrow.{MutBor};
     ghost use Rattle.v_frame.specs.Walk.{item_from, left_by};
 
     /// What stands in an answer for an item.
@@ -27,13 +28,17 @@ pub(crate) trait Walk {
     // The items that are left.
     ghost items: { Self → List Self.Item };
 
+    // The slice behind the iterator as it began, where it lends parts of it of which nothing is written.
+    ghost slice: { Self → Option (MutBor (List Self.Pixel)) };
+
     // The answer of so many items and these draws.
     ghost answer_of: { ℕ → List (Drawn Self.Item) → Answer Self.Pixel };
 
     /// One draw.
     fn draw(&mut self, alloc: Global, side: Side) -> Result<Option<Self::Item>, AllocError>
         ensures item { IfOk result (λ item. item ≡ item_from side (items self.old)) }
-        ensures left { items self.new ≡ left_by side (items self.old) };
+        ensures left { items self.new ≡ left_by side (items self.old) }
+        ensures slice { slice self.new ≡ slice self.old };
 
     /// How many items are left.
     fn left(&self) -> usize
@@ -51,38 +56,7 @@ impl<'a, T: Pixel> Walk for Rows<'a, T> {
 
     ghost items = { λ rows. rows };
 
-    ghost answer_of = { RowsWalked };
-
-    fn draw(&mut self, alloc: Global, side: Side) -> Result<Option<Sequence<T>>, AllocError> {
-        let row = match side {
-            Side::Front => self.next(),
-            Side::Back => self.next_back(),
-        };
-        match row {
-            Some(row) => Ok(Some(Sequence::from_slice(alloc, row)?)),
-            None => Ok(None),
-        }
-    }
-
-    fn left(&self) -> usize {
-        self.len()
-    }
-
-    fn answer(total: usize, drawn: Sequence<Drawn<Sequence<T>>>) -> Answer<T>
-        ensures { result ≡ RowsWalked total drawn }
-    {
-        Answer::RowsWalked { total, drawn }
-    }
-}
-
-impl<'a, T: Pixel> Walk for RowsMut<'a, T> {
-    ghost use Rattle.v_frame_plane.specs.RowsLeft.{rows_left};
-
-    type Item = Sequence<T>;
-
-    type Pixel = T;
-
-    ghost items = { rows_left };
+    ghost slice = { λ _. None };
 
     ghost answer_of = { RowsWalked };
 
@@ -115,6 +89,8 @@ impl<'a, T: Pixel> Walk for Pixels<'a, T> {
 
     ghost items = { λ pixels. pixels };
 
+    ghost slice = { λ _. None };
+
     ghost answer_of = { PixelsWalked };
 
     fn draw(&mut self, _alloc: Global, side: Side) -> Result<Option<T>, AllocError> {
@@ -135,42 +111,14 @@ impl<'a, T: Pixel> Walk for Pixels<'a, T> {
     }
 }
 
-impl<'a, T: Pixel> Walk for PixelsMut<'a, T> {
-    ghost use Rattle.v_frame_plane.specs.PixelsLeft.{pixels_left};
-
-    type Item = T;
-
-    type Pixel = T;
-
-    ghost items = { pixels_left };
-
-    ghost answer_of = { PixelsWalked };
-
-    fn draw(&mut self, _alloc: Global, side: Side) -> Result<Option<T>, AllocError> {
-        let pixel = match side {
-            Side::Front => self.next(),
-            Side::Back => self.next_back(),
-        };
-        Ok(pixel.copied())
-    }
-
-    fn left(&self) -> usize {
-        self.len()
-    }
-
-    fn answer(total: usize, drawn: Sequence<Drawn<T>>) -> Answer<T>
-        ensures { result ≡ PixelsWalked total drawn }
-    {
-        Answer::PixelsWalked { total, drawn }
-    }
-}
-
 impl<'a, T: Pixel> Walk for ByteData<'a, T> {
     type Item = u8;
 
     type Pixel = T;
 
     ghost items = { λ bytes. bytes };
+
+    ghost slice = { λ _. None };
 
     ghost answer_of = { BytesWalked };
 
@@ -216,8 +164,9 @@ pub(crate) fn draw_items<W: Walk, D: Draw>(
 ) -> Result<Vec<Drawn<W::Item>>, AllocError>
 where
     W::Item: Drop,
-    ensures { IfOk result (λ drawn.
+    ensures counted { IfOk result (λ drawn.
         drawn.items ≡ draws_answer (W.items walk.old) (map D.side_of draws.now)) }
+    ensures slice { W.slice walk.new ≡ W.slice walk.old }
 {
     let mut drawn = Vec::with_capacity(alloc, draws.len())?;
     for draw in draws {

@@ -154,6 +154,15 @@ fn fill_three_rows(plane: &mut Plane<u8>) -> (usize, (usize, Option<usize>), usi
     (all, bounds, left)
 }
 
+/// Fills each row, the first one with 1 and each other with one more.
+fn fill_rows_in_a_loop(plane: &mut Plane<u8>) {
+    let mut value = 0;
+    for row in plane.rows_mut() {
+        value = u8::wrapping_add(value, 1);
+        row.fill(value);
+    }
+}
+
 /// The first row, the last and then the second, where each has three pixels.
 fn rows_from_both_ends(plane: &Plane<u8>) -> [Option<[u8; 3]>; 3] {
     let mut rows = plane.rows();
@@ -167,6 +176,14 @@ fn rows_are_filled_from_both_ends(rt: HostRuntime) {
     assert!(rt; fill_three_rows(&mut plane) == (3, (3, Some(3)), 1));
     assert!(rt; plane.data() == [1, 1, 1, 2, 2, 2, 3, 3, 3].as_slice());
     assert!(rt; rows_from_both_ends(&plane) == [Some([1; 3]), Some([3; 3]), Some([2; 3])]);
+}
+
+#[test]
+fn rows_are_filled_in_a_loop(rt: HostRuntime) {
+    let layout = (2, 3, [1, 2, 1, 1]);
+    let mut plane = numbered(&rt, rt.alloc(), layout).y_plane;
+    fill_rows_in_a_loop(&mut plane);
+    assert!(rt; holds(&rt, rt.alloc(), &plane, layout, &[1, 1, 2, 2, 3, 3]));
 }
 
 #[test]

@@ -1,0 +1,11 @@
+-- An `Option` by value, in a proof by hand: the proof goes on for each variant. Assumes `Logic`.
+use Rattle.v_frame_plane.proofs.Steps.{◌≡◌, List, [], ◌∷◌, Option, Some, None, refl, ap, ◌∙◌, RattleType, only, Val, of_list, Ura, Goal, Item, Seq, ‵, ◌$◌, drop, feq_l, fpick, fsplit, live, move, Logic}
+use Rattle.std.proofs.Common.{append-nil}
+use Rattle.std.specs.contracts.option.Option as Opt
+
+module _ {M : Type 1} {𝓤 : Ura M} {𝓛 : Logic 𝓤} {K : Type 0} {Γ : List (Item 𝓤)} {G : Goal 𝓤 𝓛.H} where
+  pub by_option : K → (X : RattleType) (r : Option X.Denot) (v : Val) → (r ≡ None → v ≡ live 0 (of_list []) → Seq K 𝓛 Γ G)
+      → ((x : X.Denot) (vs : List Val) → r ≡ Some x → v ≡ live 1 (of_list vs) → Seq K 𝓛 (‵ (X.own_val x vs) ∷ Γ) G)
+      → Seq K 𝓛 (‵ ((Opt.the_row X).own_val r (v ∷ [])) ∷ Γ) G
+  by_option t X None v none some = fpick t (λ us. fsplit t $ feq_l t (λ e. fpick t (λ vss. fsplit t $ feq_l t (λ is. drop t $ none refl (ap only e ∙ ap (λ (ws : List Val). live 0 (of_list ws)) is)))))
+  by_option t X (Some x) v none some = fpick t (λ us. fsplit t $ feq_l t (λ e. fpick t (λ vss. fsplit t $ feq_l t (λ is. fsplit t $ move t (1 ∷ []) $ drop t $ some x vss.0 refl (ap only e ∙ ap (λ (ws : List Val). live 1 (of_list ws)) (is ∙ append-nil vss.0))))))

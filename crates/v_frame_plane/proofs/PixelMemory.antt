@@ -1,0 +1,112 @@
+-- A walk that lends pixels, in memory, for the proofs by hand of its draws. Assumes `Logic`.
+--     opens_pixels     a `&mut` to it is opened.        parts, pixels_owned     what it owns, apart and again together
+--     front_out, rows_out, back_out     a field goes out.        field_in     it is there again, with another value
+--     stayed, ends_step     how a step on it ends
+use Rattle.v_frame_plane.proofs.Steps.{ℕ, ◌+◌, ◌^◌, ◌<◌, List, [], ◌∷◌, length, MutBor, refl, Lft, Share, fat, fauth, fbor, flft, fobor, fobs, full_share, SProp, all, ent, sep, wand, shows, cell_at, mem, param, Laws, param_laws, RattleType, Valss, MutRef, NamedLft, mut_vals, plain, named_lft, MutSlice, slice_ty, nothing, opens, peeks, Clauses, at_exit, Stays, stay_ref, walk_of, ends_at, Ty, Tys, erased, mut, named, tcons, tnil, ty_param, ty_ref, ty_struct, Val, vcons, vnil, vstruct, Ura, Goal, Item, Seq, Soaks, Step, step, ‵, raw, ◌⊛◌, prop, ◌$◌, ◌∵◌, !, qed, done, drop, feq_i, feq_l, fjoin, fpack, fpick, fsplit, fsplit3, move, rewrite, split, suffices, use2, Logic, sem, Body, AllOutlive, Shares, Lfts, shape, within, Args}
+use Rattle.v_frame_plane.specs.contracts.pixels_mut.PixelsMut.{struct, the_row, the_type}
+use Rattle.v_frame_plane.specs.contracts.pixels_mut.PixelsMut.next_of_front
+use Rattle.v_frame_plane.specs.contracts.rows_mut.RowsMut as rows_mut
+use Rattle.v_frame_plane.specs.declared.pixels_mut.PixelsMut.{PixelsMut}
+use Rattle.v_frame_plane.proofs.Loans.{at_one}
+use Rattle.v_frame_plane.proofs.RowMemory.{exits, slice_of, Bare as RowsBare, Named as RowsNamed, lowered as rows_lowered}
+use Rattle.v_frame_plane.proofs.Taken.{Slice, word}
+use Rattle.v_frame_plane.proofs.pixels_mut.PixelsMut.TheLaws.{lowers}
+use Rattle.v_frame_plane.proofs.rows_mut.RowsMut.TheLaws.{lowers as rows_lowers}
+
+abbrev Fields : Tys
+Fields = tcons word (tcons RowsBare (tcons word tnil))
+
+-- it as a machine value, of its fields
+abbrev pub whole : Val → Val → Val → Val
+whole front rows back = vstruct (vcons front (vcons rows (vcons back vnil)))
+
+abbrev pub lowered : {X : Type 0} → PixelsMut X → Val
+lowered walk = whole (slice_of walk.front) (rows_lowered walk.rows) (slice_of walk.back)
+
+-- its type, as the machine sees it and as code names it
+abbrev pub Bare : Ty
+Bare = ty_struct [] Fields
+
+abbrev pub Named : (a : NamedLft) (T : RattleType) → Ty
+Named a T = let part = slice_ty (ty_ref erased mut (ty_param 0)) in ty_struct (struct a T).name (tcons part (tcons (RowsNamed a T) (tcons part tnil)))
+
+module _ {M : Type 1} {𝓤 : Ura M} (𝓛 : Logic 𝓤) (b o : ℕ) where
+  abbrev Slot : Ty → ℕ → Val → SProp 𝓤
+  Slot τ d u = 𝓛.H.at full_share τ b (o + d) u
+
+  abbrev Whole : Val → SProp 𝓤
+  Whole v = 𝓛.H.at full_share Bare b o v
+
+  -- it without the field of this type at this place, where `put` says what it is with a value there
+  abbrev pub Around : Ty → ℕ → (Val → Val) → SProp 𝓤
+  Around τ d put = all 𝓤 (λ (u : Val). wand 𝓤 (Slot τ d u) (Whole (put u)))
+
+  module _ (front rows back : Val) where
+    pub front_out : ent 𝓤 (Whole (whole front rows back)) (sep 𝓤 (Slot word 0 front) (Around word 0 (λ u. whole u rows back)))
+    front_out = 𝓛.laws.at_field full_share [] Fields 0 word 0 refl b o (vcons front (vcons rows (vcons back vnil)))
+
+    pub rows_out : ent 𝓤 (Whole (whole front rows back)) (sep 𝓤 (Slot RowsBare 16 rows) (Around RowsBare 16 (λ u. whole front u back)))
+    rows_out = 𝓛.laws.at_field full_share [] Fields 1 RowsBare 16 refl b o (vcons front (vcons rows (vcons back vnil)))
+
+    pub back_out : ent 𝓤 (Whole (whole front rows back)) (sep 𝓤 (Slot word 64 back) (Around word 64 (λ u. whole front rows u)))
+    back_out = 𝓛.laws.at_field full_share [] Fields 2 word 64 refl b o (vcons front (vcons rows (vcons back vnil)))
+
+  pub field_in : (τ : Ty) (d : ℕ) (put : Val → Val) (v : Val) → ent 𝓤 (sep 𝓤 (Slot τ d v) (Around τ d put)) (Whole (put v))
+  field_in τ d put v = qed 𝓛 (‵ (fat full_share τ b (o + d) v) ∷ raw (Around τ d put) ∷ []) ∵ move ! (1 ∷ 0 ∷ []) $
+      use2 𝓛 (‵ (fat full_share Bare b o (put v))) (at_one 𝓛 (Slot τ d) (λ u. Whole (put u)) v) $ done !
+
+  -- as code names it, and as the machine sees it
+  pub as_named : (a : NamedLft) (T : RattleType) (v : Val) → ent 𝓤 (Whole v) (𝓛.H.at full_share (Named a T) b o v)
+  as_named a T v = 𝓛.laws.raw_at full_share (Named a T) b o v
+
+  pub bare : (a : NamedLft) (T : RattleType) (v : Val) → ent 𝓤 (𝓛.H.at full_share (Named a T) b o v) (Whole v)
+  bare a T v = 𝓛.laws.at_raw full_share (Named a T) b o v
+
+-- what a walk owns, from what its parts do
+pub pixels_owned : {M : Type 1} {𝓤 : Ura M} (𝓛 : Logic 𝓤) (a : NamedLft) (T : RattleType) (walk : PixelsMut T.Denot) → let One = MutSlice a.mir a.lft T in
+    ent 𝓤 (sep 𝓤 (sem 𝓛 (One.own_val walk.front (slice_of walk.front ∷ []))) (sep 𝓤 (sem 𝓛 ((rows_mut.the_row a T).own_val walk.rows (rows_lowered walk.rows ∷ []))) (sem 𝓛 (One.own_val walk.back (slice_of walk.back ∷ [])))))
+    (sem 𝓛 ((the_row a T).own_val walk (lowered walk ∷ [])))
+pixels_owned 𝓛 a T walk =
+    let One = MutSlice a.mir a.lft T in
+    qed 𝓛 (‵ (One.own_val walk.front (slice_of walk.front ∷ [])) ∷ (‵ ((rows_mut.the_row a T).own_val walk.rows (rows_lowered walk.rows ∷ [])) ⊛ ‵ (One.own_val walk.back (slice_of walk.back ∷ []))) ∷ []) ∵
+    move ! (1 ∷ []) $ split ! $ nothing ! $ move ! (2 ∷ 0 ∷ []) $ fjoin ! $ move ! (1 ∷ 0 ∷ []) $ fjoin ! $ move ! (1 ∷ 0 ∷ []) $ fjoin ! $
+    feq_i ! (List Val) (lowered walk ∷ []) (lowered walk ∷ []) refl $ fjoin ! $
+    fpack ! (Valss (shape (the_type a T)).fields) (within (shape (the_type a T)) ((the_type a T).to walk) (lowered walk ∷ [])) (slice_of walk.front ∷ [], (rows_lowered walk.rows ∷ [], (slice_of walk.back ∷ [], tt))) $ done !
+
+module _ {M : Type 1} {𝓤 : Ura M} {𝓛 : Logic 𝓤} {K : Type 0} {Γ : List (Item 𝓤)} {G : Goal 𝓤 𝓛.H} where
+  -- its cell, what it owns, and the open borrow, in three
+  pub opens_pixels : K → Soaks G → (a : NamedLft) (T : RattleType) → Laws T → (κ : Lft) (q : Share) (self : MutBor (PixelsMut T.Denot)) → let Row = the_row a (param 0 T) in let b = self.ref_ptr.0 in let o = self.ref_ptr.1 in let code = Row.coded.code self.now in
+      Step K 𝓛 (‵ (fat full_share Bare b o (lowered self.now)) ∷ ‵ (Row.own_val self.now (lowered self.now ∷ [])) ∷ ‵ (fobor κ q (Body (mem Row) b o self.ghost_name)) ∷ ‵ (fobs self.ghost_name code) ∷ ‵ (fauth self.ghost_name code) ∷ Γ) G
+      (‵ ((MutRef (named 0) κ Row).own_val self (mut_vals self)) ∷ ‵ (flft κ q) ∷ Γ) G
+  opens_pixels t z a T laws κ q self = step (λ k.
+      let Row = the_row a (param 0 T) in let b = self.ref_ptr.0 in let o = self.ref_ptr.1 in
+      fsplit3 t $ drop t $ opens t z Row {h = self.now} b o (λ vs. move t (1 ∷ []) $ peeks t Row _ (shows 𝓛 Row) self.now vs (λ is.
+      let spelled = (lowers a (param 0 T) (param_laws 0 T laws)).val_is self.now vs is in
+      rewrite t 0 (λ (us : List Val). ‵ (Row.own_val self.now us)) spelled refl $ rewrite t 1 (λ (us : List Val). ‵ (cell_at full_share Row.mir us b o)) spelled refl $ move t (1 ∷ []) $ k)))
+
+  -- what its parts own, and that their lengths fit
+  pub parts : K → Soaks G → (a : NamedLft) (T : RattleType) → Laws T → (walk : PixelsMut T.Denot) → let One = Slice T a.lft in
+      (length walk.front.now < 2 ^ 64 → length walk.back.now < 2 ^ 64
+      → Seq K 𝓛 (‵ (One.own_val walk.front (slice_of walk.front ∷ [])) ∷ ‵ ((rows_mut.the_row a (param 0 T)).own_val walk.rows (rows_lowered walk.rows ∷ [])) ∷ ‵ (One.own_val walk.back (slice_of walk.back ∷ [])) ∷ Γ) G)
+      → Seq K 𝓛 (‵ ((the_row a (param 0 T)).own_val walk (lowered walk ∷ [])) ∷ Γ) G
+  parts t z a T laws walk k =
+      let One = Slice T a.lft in let Rows = rows_mut.the_row a (param 0 T) in
+      fpick t (λ vss. fsplit t $ feq_l t (λ _. fsplit t $ peeks t One _ (shows 𝓛 One) walk.front vss.0 (λ front. rewrite t 0 (λ (us : List Val). ‵ (One.own_val walk.front us)) front.0.0 refl $
+      move t (1 ∷ []) $ fsplit t $ peeks t Rows _ (shows 𝓛 Rows) walk.rows vss.1.0 (λ rows. rewrite t 0 (λ (us : List Val). ‵ (Rows.own_val walk.rows us)) ((rows_lowers a (param 0 T) (param_laws 0 T laws)).val_is walk.rows vss.1.0 rows) refl $
+      move t (1 ∷ []) $ fsplit t $ peeks t One _ (shows 𝓛 One) walk.back vss.1.1.0 (λ back. rewrite t 0 (λ (us : List Val). ‵ (One.own_val walk.back us)) back.0.0 refl $
+      move t (1 ∷ []) $ drop t $ move t (2 ∷ 1 ∷ 0 ∷ []) $ k front.0.1.0 back.0.1.0)))))
+
+-- a step on self that gives something keeps self alike
+abbrev pub stayed : (T : RattleType) → Stays (next_of_front.ended T).signature.params (next_of_front.ended T).kept
+stayed T = (stay_ref (0 ∷ []) tt (plain (λ κs. the_row (named_lft 3 1 tt κs) (param 0 T))), tt)
+
+module _ {M : Type 1} {𝓤 : Ura M} {𝓛 : Logic 𝓤} {K : Type 0} {Γ : List (Item 𝓤)} where
+  -- a step that gives a pixel ends in self, the tokens, the pixel and what its contract ensures
+  pub ends_step : K → (T : RattleType) (c : Clauses 𝓤 (next_of_front.ended T)) (κs : Lfts 3) (qs : Shares 3) (bounds : AllOutlive 3 (next_of_front.ended T).signature.outlives κs) (a : Args (next_of_front.ended T).signature κs) (g : (c κs a).ghost) (out : Val) (r : MutBor T.Denot) (new : PixelsMut T.Denot)
+      → let Row = the_row (named_lft 3 1 tt κs) (param 0 T) in let self = a.0 in
+      Step K 𝓛 Γ (prop ((c κs a).ensures g r (at_exit (next_of_front.ended T) κs a (new, tt))))
+      (‵ (fobs self.ghost_name (Row.coded.code new)) ∷ ‵ (fbor κs.0 (Body (mem Row) self.ref_ptr.0 self.ref_ptr.1 self.ghost_name)) ∷ ‵ (flft κs.0 qs.0) ∷ ‵ (flft κs.1.0 qs.1.0) ∷ ‵ (flft κs.1.1.0 qs.1.1.0)
+      ∷ ‵ ((MutRef (named 1) κs.1.0 (param 0 T)).own_val r (out ∷ [])) ∷ Γ) (prop ((walk_of 𝓛 (next_of_front.ended T) (stayed T) c).post ((κs, qs, bounds, a, (mut_vals a.0, tt)), g) out))
+  ends_step t T c κs qs bounds a g out r new = step (λ k.
+      suffices t _ (ends_at 𝓛 (next_of_front.ended T) (stayed T) c ((κs, qs, bounds, a, (mut_vals a.0, tt)), g) out r (new, tt) (tt, tt)) $
+      exits t (mut_vals a.0) _ _ κs qs _ $ k)

@@ -1,0 +1,78 @@
+-- What the pixels of a writing walk leave. Beside the pixels that are left, a walk means a second
+-- list: what each of them holds when the borrow ends.
+use Rattle.std.specs.Prelude.{◌≡◌, List, [], ◌∷◌, ◌++◌, length, map, Option, Some, None}
+use Rattle.std.specs.Borrow.{Fml, GName, RattleType, MutBor}
+use base.Fml.{fsep, fwand, fall, fex, fres}
+use Rattle.v_frame_layout.specs.Table.{row_major}
+use Rattle.v_frame_plane.specs.Plane.{Raster, table_of}
+use Rattle.v_frame_plane.specs.RowsLeft.{rows_left}
+use Rattle.v_frame_plane.specs.SecondRows.{EndsAs, SecondRows, WritesEachTable}
+use Rattle.v_frame_plane.specs.declared.pixels_mut.PixelsMut.{PixelsMut}
+
+-- a second list by its parts: what the row that was begun from the front holds, the rows that were
+-- not begun, and the row that was begun from the back
+pub record Parts (T : Type 0) : Type 0 where
+  pub front : List T
+  pub rows : List (List T)
+  pub back : List T
+
+module _ {T : Type 0} where
+  -- each part is as long as what it stands for, and joined they are the list
+  pub record ArePartsOf (walk : PixelsMut T) (second : List T) (parts : Parts T) : Type 0 where
+    pub joined : second ≡ parts.front ++ (row_major parts.rows ++ parts.back)
+    pub front : length parts.front ≡ length walk.front.now
+    pub rows : map length parts.rows ≡ map length (rows_left walk.rows)
+    pub back : length parts.back ≡ length walk.back.now
+
+  -- a walk with which no draw was made over a plane: no row is begun, its rows are those that are
+  -- shown, and they write each table
+  pub record BeginsOver (plane : Raster T) (walk : PixelsMut T) : Type 0 where
+    pub front : walk.front.now ≡ []
+    pub rows : rows_left walk.rows ≡ table_of plane
+    pub back : walk.back.now ≡ []
+    pub written : WritesEachTable plane walk.rows
+
+module _ (T : RattleType) where
+  -- the pixel of this name is this one when its borrow ends
+  abbrev pub PixelEndsAs : GName → T.Denot → Fml
+  PixelEndsAs name pixel = fres name (T.coded.code pixel)
+
+  -- when the borrow ends, the pixels that the walk has left hold these
+  abbrev pub SecondPixels : PixelsMut T.Denot → List T.Denot → Fml
+  SecondPixels walk second =
+      fex (Parts T.Denot) (λ parts.
+      fex (ArePartsOf walk second parts) (λ _.
+      fsep (EndsAs T walk.front.ghost_name parts.front)
+      (fsep (SecondRows T walk.rows parts.rows) (EndsAs T walk.back.ghost_name parts.back))))
+
+  module _ (old new : PixelsMut T.Denot) where
+    -- what the pixels that are left now hold then, those that were left before do
+    abbrev pub KeepsPixels : Fml
+    KeepsPixels =
+        fall (List T.Denot) (λ second.
+        fwand (SecondPixels new second) (SecondPixels old second))
+
+    module _ (pixel : MutBor T.Denot) where
+      -- what this pixel and those that are left now hold then, those that were left before do, with
+      -- this pixel as the first
+      abbrev pub TakesFirstPixel : Fml
+      TakesFirstPixel =
+          fall (T.Denot × List T.Denot) (λ held.
+          fwand (fsep (PixelEndsAs pixel.ghost_name held.0) (SecondPixels new held.1))
+          (SecondPixels old (held.0 ∷ held.1)))
+
+      -- the same, with this pixel as the last
+      abbrev pub TakesLastPixel : Fml
+      TakesLastPixel =
+          fall (T.Denot × List T.Denot) (λ held.
+          fwand (fsep (PixelEndsAs pixel.ghost_name held.0) (SecondPixels new held.1))
+          (SecondPixels old (held.1 ++ held.0 ∷ [])))
+
+  -- what a draw from the front leaves, and what one from the back does
+  abbrev pub LendsFirstPixel : PixelsMut T.Denot → Option (MutBor T.Denot) → PixelsMut T.Denot → Fml
+  LendsFirstPixel old None new = KeepsPixels old new
+  LendsFirstPixel old (Some pixel) new = TakesFirstPixel old new pixel
+
+  abbrev pub LendsLastPixel : PixelsMut T.Denot → Option (MutBor T.Denot) → PixelsMut T.Denot → Fml
+  LendsLastPixel old None new = KeepsPixels old new
+  LendsLastPixel old (Some pixel) new = TakesLastPixel old new pixel

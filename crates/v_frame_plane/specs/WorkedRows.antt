@@ -1,0 +1,57 @@
+-- Second lists of rows worked out by hand. Each line computes: it is proved by `refl`.
+use Rattle.std.specs.Prelude.{ℕ, ◌≡◌, List, [], ◌∷◌, refl}
+use Rattle.v_frame_layout.specs.Geometry.{geometry_of, stride_of, origin_of}
+use Rattle.v_frame_plane.specs.Cursor.{rows_ahead}
+use Rattle.v_frame_plane.specs.Plane.{Raster, raster, table_of, border_of}
+use Rattle.v_frame_plane.specs.SecondRows.{with_rows_ahead}
+
+-- three rows of two entries, one entry in front of the first, and two between each and the next
+abbrev twelve : List ℕ
+twelve = 20 ∷ 1 ∷ 2 ∷ 21 ∷ 22 ∷ 3 ∷ 4 ∷ 23 ∷ 24 ∷ 5 ∷ 6 ∷ 25 ∷ []
+
+abbrev three_rows : List (List ℕ)
+three_rows = (7 ∷ 8 ∷ []) ∷ (9 ∷ 10 ∷ []) ∷ (11 ∷ 12 ∷ []) ∷ []
+
+each_in_its_place : with_rows_ahead 1 2 2 3 twelve three_rows
+    ≡ 20 ∷ 7 ∷ 8 ∷ 21 ∷ 22 ∷ 9 ∷ 10 ∷ 23 ∷ 24 ∷ 11 ∷ 12 ∷ 25 ∷ []
+each_in_its_place = refl
+
+as_they_are : with_rows_ahead 1 2 2 3 twelve (rows_ahead 1 2 2 3 twelve) ≡ twelve
+as_they_are = refl
+
+-- where the rows end early the others stay, and rows past those that lie ahead are put nowhere
+one_of_three : with_rows_ahead 1 2 2 3 twelve ((7 ∷ 8 ∷ []) ∷ [])
+    ≡ 20 ∷ 7 ∷ 8 ∷ 21 ∷ 22 ∷ 3 ∷ 4 ∷ 23 ∷ 24 ∷ 5 ∷ 6 ∷ 25 ∷ []
+one_of_three = refl
+
+three_for_one : with_rows_ahead 1 2 2 1 twelve three_rows
+    ≡ 20 ∷ 7 ∷ 8 ∷ 21 ∷ 22 ∷ 3 ∷ 4 ∷ 23 ∷ 24 ∷ 5 ∷ 6 ∷ 25 ∷ []
+three_for_one = refl
+
+-- 3 by 2 pixels, with 1 column of border to the left, 2 to the right, and 1 row above
+abbrev in_a_border : List ℕ → Raster ℕ
+in_a_border buffer = raster (geometry_of 3 2 1 2 1 0 1 1) buffer
+
+abbrev eighteen : List ℕ
+eighteen =
+    20 ∷ 21 ∷ 22 ∷ 23 ∷ 24 ∷ 25 ∷
+    26 ∷ 1 ∷ 2 ∷ 3 ∷ 27 ∷ 28 ∷
+    29 ∷ 4 ∷ 5 ∷ 6 ∷ 30 ∷ 31 ∷ []
+
+abbrev two_rows : List (List ℕ)
+two_rows = (7 ∷ 8 ∷ 9 ∷ []) ∷ (10 ∷ 11 ∷ 12 ∷ []) ∷ []
+
+abbrev rewritten : Raster ℕ
+rewritten = in_a_border (with_rows_ahead 7 3 3 2 eighteen two_rows)
+
+its_origin : origin_of rewritten.geometry ≡ 7
+its_origin = refl
+
+its_stride : stride_of rewritten.geometry ≡ 6
+its_stride = refl
+
+its_table : table_of rewritten ≡ two_rows
+its_table = refl
+
+its_border : border_of rewritten ≡ border_of (in_a_border eighteen)
+its_border = refl

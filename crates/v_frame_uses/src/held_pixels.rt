@@ -1,0 +1,45 @@
+//! Pixels of a plane that are held while others are drawn, and written once the walk over them is gone.
+//!
+//! What the plane ends as is proved by hand, in `proofs/held_pixels/write_ends`. A caller of such a function needs no proof.
+ghost use Rattle.std.specs.Prelude.{◌<◌, ◌≡◌, length};
+ghost use Rattle.v_frame.specs.Prelude.{KeepsBorder, row_major, table_of};
+ghost use Rattle.v_frame_uses.specs.HeldPixels.{with_ends};
+
+use v_frame::pixel::Pixel;
+use v_frame::plane::Plane;
+
+/// Writes the first visible pixel and the last two. All others stay, and so does the border.
+///
+/// The three are drawn from both ends in turn, are held, and are written in another order than they were drawn, the first
+/// one twice.
+pub fn write_ends<T: Copy>(plane: &mut Plane<T>, first: T, before_last: T, last: T)
+    requires { 2 < length (row_major (table_of plane.old)) }
+    ensures pixels { row_major (table_of plane.new)
+        ≡ with_ends first before_last last (row_major (table_of plane.old)) }
+    ensures border { KeepsBorder plane.old plane.new }
+{
+    let mut pixels = plane.pixels_mut();
+    let Some(end) = pixels.next_back() else {
+        return;
+    };
+    let Some(start) = pixels.next() else {
+        return;
+    };
+    let Some(before_end) = pixels.next_back() else {
+        return;
+    };
+    *start = last;
+    *before_end = before_last;
+    *start = first;
+    *end = last;
+}
+
+/// Writes one mark over the first visible pixel and the last, and another over the last but one.
+pub fn mark_ends<T: Pixel>(plane: &mut Plane<T>, mark: T, other: T)
+    requires { 2 < length (row_major (table_of plane.old)) }
+    ensures pixels { row_major (table_of plane.new)
+        ≡ with_ends mark other mark (row_major (table_of plane.old)) }
+    ensures border { KeepsBorder plane.old plane.new }
+{
+    write_ends(plane, mark, other, mark);
+}
