@@ -1,5 +1,5 @@
 -- Rows overwritten entry by entry, and tables that are written outside of what they have.
-use Rattle.std.proofs.Common.{ℕ, zero, suc, ◌≡◌, ◌+◌, ◌<◌, ◌≤◌, min, List, [], ◌∷◌, length, take, Option, Some, None, All, inl, inr, unwrap_or, slice_get, slice_set, refl, sym, ◌∙◌, ap, arith, add-one}
+use Rattle.std.proofs.Common.{ℕ, zero, suc, ◌≡◌, ◌+◌, ◌<◌, ◌≤◌, min, List, [], ◌∷◌, length, take, Option, Some, None, All, inl, inr, unwrap_or, get_or, slice_get, slice_set, refl, sym, ◌∙◌, ap, arith, add-one}
 use Rattle.std.proofs.lemmas.List.{set_past, set-get_or}
 use Rattle.std.proofs.lemmas.Option.{slice_get_cases, slice_get_past}
 use Rattle.v_frame_layout.specs.Table.{Table, overwritten_row, with_item_by, with_pixel}
@@ -9,32 +9,19 @@ module _ {X : Type 0} where
   overwritten_by_none [] = refl
   overwritten_by_none (x ∷ row) = refl
 
-  written_next : (row : List X) (writes : List (Option X)) (i : ℕ) (x : X) → i < length row → slice_get writes i ≡ Some (Some x)
-      → overwritten_row row (take (suc i) writes) ≡ slice_set (overwritten_row row (take i writes)) i x
-  written_next [] writes i x h e = absurd (omega arith)
-  written_next (y ∷ row) [] i x h e = cc
-  written_next (y ∷ row) (write ∷ writes) zero x h e =
-      let is : write ≡ Some x = cc in
-      rw is (ap (λ r. x ∷ r) (overwritten_by_none row))
-  written_next (y ∷ row) (write ∷ writes) (suc i) x h e = ap (λ r. unwrap_or write y ∷ r) (written_next row writes i x (omega arith) e)
+  written_next : (row : List X) (writes : List (Option X)) (i : ℕ) (write : Option X) (x : X) → i < length row → slice_get writes i ≡ Some write
+      → let so_far = overwritten_row row (take i writes) in x ≡ get_or so_far i x → overwritten_row row (take (suc i) writes) ≡ slice_set so_far i (unwrap_or write x)
+  written_next [] writes i write x h e here = absurd (omega arith)
+  written_next (y ∷ row) [] i write x h e here = cc
+  written_next (y ∷ row) (first ∷ writes) zero write x h e here =
+      let is : first ≡ write = cc in
+      rw (is, here) (ap (λ r. unwrap_or write y ∷ r) (overwritten_by_none row))
+  written_next (y ∷ row) (first ∷ writes) (suc i) write x h e here = ap (λ r. unwrap_or first y ∷ r) (written_next row writes i write x (omega arith) e here)
 
-  left_next : (row : List X) (writes : List (Option X)) (i : ℕ) → slice_get writes i ≡ Some None
-      → overwritten_row row (take (suc i) writes) ≡ overwritten_row row (take i writes)
-  left_next [] writes i e = refl
-  left_next (y ∷ row) [] i e = cc
-  left_next (y ∷ row) (write ∷ writes) zero e =
-      let is : write ≡ None = cc in
-      rw is (ap (λ r. y ∷ r) (overwritten_by_none row))
-  left_next (y ∷ row) (write ∷ writes) (suc i) e = ap (λ r. unwrap_or write y ∷ r) (left_next row writes i e)
-
-  -- one more entry of the list, where it is there and where it is none
-  pub written_more : (row : List X) (writes : List (Option X)) (i : ℕ) (x : X) → i < length row → slice_get writes i ≡ Some (Some x)
-      → overwritten_row row (take (i + 1) writes) ≡ slice_set (overwritten_row row (take i writes)) i x
-  written_more row writes i x h e = rw add-one (written_next row writes i x h e)
-
-  pub left_more : (row : List X) (writes : List (Option X)) (i : ℕ) → slice_get writes i ≡ Some None
-      → overwritten_row row (take (i + 1) writes) ≡ overwritten_row row (take i writes)
-  left_more row writes i e = rw add-one (left_next row writes i e)
+  -- one more entry of the list, over what stands there
+  pub written_more : (row : List X) (writes : List (Option X)) (i : ℕ) (write : Option X) (x : X) → i < length row → slice_get writes i ≡ Some write
+      → let so_far = overwritten_row row (take i writes) in x ≡ get_or so_far i x → overwritten_row row (take (i + 1) writes) ≡ slice_set so_far i (unwrap_or write x)
+  written_more row writes i write x h e here = rw add-one (written_next row writes i write x h e here)
 
   -- what stands past the row, or past the list, writes nothing
   pub written_all : (row : List X) (writes : List (Option X)) (n : ℕ) → min (length row) (length writes) ≤ n → overwritten_row row (take n writes) ≡ overwritten_row row writes

@@ -1,3 +1,4 @@
 pub mod Carrying
 pub mod Filling
 pub mod HeldPixels
+pub mod HeldRows

@@ -1,5 +1,5 @@
-//! What users write over `v_frame`: small functions, each with a contract that pins what it gives and, but for two that write
-//! through lent rows and pixels, what it leaves.
+//! What users write over `v_frame`: small functions, each with a contract that pins what it gives and, memory aside, what it
+//! leaves.
 //!
 //! They are examples to copy, and they show that the public contracts are enough: nothing here looks into `v_frame`. Our
 //! own.
@@ -10,6 +10,7 @@ pub mod border;
 pub mod bytes;
 pub mod frames;
 pub mod held_pixels;
+pub mod held_rows;
 pub mod lent;
 pub mod pictures;
 pub mod pixels;

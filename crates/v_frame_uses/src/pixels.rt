@@ -1,8 +1,7 @@
 //! Single pixels of a plane, changed in place.
-ghost use Rattle.std.specs.Prelude.{◌≡◌, ◌-◌, ◌<◌, ◌≤◌, ◌⊎◌, Some, drop, length, slice_get};
-ghost use Rattle.v_frame.specs.Prelude.{table_of, height_of, pixel_at, row_major, with_pixel, KeepsBorder};
+ghost use Rattle.std.specs.Prelude.{◌≡◌, ◌<◌, ◌≤◌, ◌⊎◌, Some};
+ghost use Rattle.v_frame.specs.Prelude.{table_of, pixel_at, with_pixel, KeepsBorder};
 
-use std::mem;
 use v_frame::pixel::Pixel;
 use v_frame::plane::Plane;
 
@@ -40,42 +39,5 @@ pub fn exchange_pixels<T: Pixel>(
     if let (Some(pixel), Some(other)) = found {
         set_pixel(plane, first.0, first.1, other);
         set_pixel(plane, second.0, second.1, pixel);
-    }
-}
-
-/// Replaces the first and the last visible pixel, and gives what they were. A plane of one pixel has no last one then.
-///
-/// What writing through the lent pixels leaves in the plane is in no clause: a test shows it.
-pub fn replace_ends<T: Pixel>(plane: &mut Plane<T>, first: T, last: T) -> (Option<T>, Option<T>)
-    ensures first { result.0 ≡ slice_get (row_major (table_of plane.old)) 0 }
-    ensures last { let rest = drop 1 (row_major (table_of plane.old)) in
-        result.1 ≡ slice_get rest (length rest - 1) }
-{
-    let mut pixels = plane.pixels_mut();
-    let front = match pixels.next() {
-        Some(pixel) => Some(mem::replace(pixel, first)),
-        None => None,
-    };
-    let back = match pixels.next_back() {
-        Some(pixel) => Some(mem::replace(pixel, last)),
-        None => None,
-    };
-    (front, back)
-}
-
-/// Fills the last visible row with one value, and gives the pixel that stood at its left end.
-///
-/// What writing through the lent row leaves in the plane is in no clause: a test shows it.
-pub fn fill_last_row<T: Pixel>(plane: &mut Plane<T>, value: T) -> Option<T>
-    ensures { result ≡ pixel_at (table_of plane.old) 0 (height_of (table_of plane.old) - 1) }
-{
-    let mut rows = plane.rows_mut();
-    match rows.next_back() {
-        Some(row) => {
-            let first = row.first().copied();
-            row.fill(value);
-            first
-        }
-        None => None,
     }
 }

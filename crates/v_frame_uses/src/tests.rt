@@ -1,11 +1,11 @@
-//! That functions which take memory succeed with it, and what lent rows and pixels leave: no clause says these.
+//! That functions which take memory succeed with it, which no clause says, and what is left in a whole buffer.
 
 use crate::answers::first_answers;
 use crate::bytes::{append_bytes, through_a_plane, without_tails};
 use crate::frames::{built_chroma_size, reason_not_to_build};
 use crate::held_pixels::write_ends;
+use crate::held_rows::fill_last_row;
 use crate::pictures::brighten;
-use crate::pixels::{fill_last_row, replace_ends};
 use crate::planes::{copy_with_plane, plane_of_places};
 use crate::start::{fill_row, first_frame, row_with};
 use crate::streams::{brighten_frames, copy_frames, through_memory};
@@ -54,13 +54,10 @@ fn holds(plane: &Plane<u8>, buffer: &[u8]) -> bool {
 }
 
 #[test]
-fn lent_pixels_and_rows_are_replaced(rt: HostRuntime) {
+fn a_lent_row_is_filled(rt: HostRuntime) {
     let mut frame = padded(&rt, rt.alloc(), [1, 2, 3, 4, 5, 6]);
-    let filled = fill_last_row(&mut frame.y_plane, 7);
-    let replaced = replace_ends(&mut frame.y_plane, 8, 9);
-    let wanted = buffer_around([8, 2, 3, 7, 7, 9]);
-    let given = (filled, replaced) == (Some(4), (Some(1), Some(7)));
-    assert!(rt; given && holds(&frame.y_plane, &wanted));
+    fill_last_row(&mut frame.y_plane, 7);
+    assert!(rt; holds(&frame.y_plane, &buffer_around([1, 2, 3, 7, 7, 7])));
 }
 
 #[test]

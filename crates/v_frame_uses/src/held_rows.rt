@@ -1,0 +1,29 @@
+//! A row that an iterator lends from the end of a plane, written.
+//!
+//! What the plane ends as is proved by hand, in `proofs/held_rows/fill_last_row`.
+ghost use Rattle.std.specs.Prelude.{◌≡◌, ◌-◌, length, replicate, slice_set};
+ghost use Rattle.v_frame.specs.Prelude.{KeepsBorder, height_of, table_of};
+
+use v_frame::plane::Plane;
+
+/// Fills the last visible row with one value. All other rows stay, and so does the border.
+pub fn fill_last_row<T: Copy>(plane: &mut Plane<T>, value: T)
+    ensures table { table_of plane.new
+        ≡ slice_set (table_of plane.old) (height_of (table_of plane.old) - 1)
+        (replicate plane.old.geometry.width value) }
+    ensures border { KeepsBorder plane.old plane.new }
+{
+    let mut rows = plane.rows_mut();
+    if let Some(row) = rows.next_back() {
+        fill(row, value);
+    }
+}
+
+/// Fills a row with one value. The standard `fill` asks for a `clone` that cannot fail, which `Copy` does not say.
+fn fill<T: Copy>(row: &mut [T], value: T)
+    ensures { row.new ≡ replicate (length row.old) value }
+{
+    for i in 0..row.len() {
+        row[i] = value;
+    }
+}
