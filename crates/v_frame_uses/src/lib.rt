@@ -1,5 +1,5 @@
-//! What users write over `v_frame`: small functions, each with a contract that pins what it gives and, memory aside, what it
-//! leaves.
+//! What users write over `v_frame`: small functions, each with a contract of what it gives and leaves. Not all of them are
+//! exact.
 //!
 //! They are examples to copy, and they show that the public contracts are enough: nothing here looks into `v_frame`. Our
 //! own.
