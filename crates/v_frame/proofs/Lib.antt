@@ -10,6 +10,3 @@ pub mod OptionCases
 pub mod PutBack
 pub mod Replays
 pub mod SharedItems
-pub mod UnwrittenLoans
-pub mod UnwrittenPixelsMade
-pub mod UnwrittenRowsMade

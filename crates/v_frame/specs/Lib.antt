@@ -4,7 +4,6 @@ pub mod Frame
 pub mod Lends
 pub mod Prelude
 pub mod Replay
-pub mod Unwritten
 pub mod Walk
 pub mod Worked
 pub mod WorkedBytes

@@ -14,7 +14,6 @@ ghost use Rattle.v_frame.specs.Replay.{answers_to, tables_after};
 
 mod bytes;
 mod equality;
-mod unwritten;
 mod walks;
 mod writing_walks;
 

@@ -1,17 +1,20 @@
-//! Laws of walks that lend rows and pixels for writing.
+//! Laws of walks that lend rows and pixels for writing: what their draws give.
 ghost use Rattle.std.specs.Prelude.{◌≡◌, IfOk};
 ghost use Rattle.v_frame_layout.specs.Table.{row_major};
 ghost use Rattle.v_frame_plane.specs.Plane.{table_of};
+ghost use Rattle.v_frame.specs.declared.replay.answer.Answer.TheVariants.{RowsWalked, PixelsWalked};
 ghost use Rattle.v_frame.specs.Walk.{draws_answer, AreDrawnOnce};
 
-use super::unwritten::{draw_lent_pixels, draw_lent_rows};
 use crate::pixel::Pixel;
-use crate::plane::Plane;
-use crate::replay::{Drawn, Sequence, Side};
+use crate::plane::{PixelsMut, Plane, RowsMut};
+use crate::replay::pixels::draw_pixel;
+use crate::replay::rows::draw_row;
+use crate::replay::walk::{Walk, draw_items};
+use crate::replay::{Answer, Drawn, Sequence, Side};
 use std::alloc::{AllocError, Global};
 
-/// Any draws from the rows of a plane that are lent for writing give each row once, from its end, and the plane
-/// is as before. The error is that of memory: rows are copied.
+/// Any draws from the rows of a plane that are lent for writing give each row once, from its end. The error is that of
+/// memory: rows are copied.
 pub fn lent_rows_are_drawn_once<T: Pixel>(
     alloc: Global,
     plane: &mut Plane<T>,
@@ -20,13 +23,12 @@ pub fn lent_rows_are_drawn_once<T: Pixel>(
     ensures counted { IfOk result (λ drawn.
         drawn.items ≡ draws_answer (table_of plane.old) sides.now) }
     ensures once { IfOk result (λ drawn. AreDrawnOnce (table_of plane.old) sides.now drawn.items) }
-    ensures same { plane.new ≡ plane.old }
 {
-    draw_lent_rows(alloc, plane, sides)
+    draw_items(alloc, &mut plane.rows_mut(), sides)
 }
 
-/// Any draws from the pixels of a plane that are lent for writing give each pixel once, from its end, and the
-/// plane is as before. The error is that of memory.
+/// Any draws from the pixels of a plane that are lent for writing give each pixel once, from its end. The error is that of
+/// memory.
 pub fn lent_pixels_are_drawn_once<T: Pixel>(
     alloc: Global,
     plane: &mut Plane<T>,
@@ -36,7 +38,61 @@ pub fn lent_pixels_are_drawn_once<T: Pixel>(
         drawn.items ≡ draws_answer pixels sides.now) }
     ensures once { IfOk result (λ drawn.
         AreDrawnOnce (row_major (table_of plane.old)) sides.now drawn.items) }
-    ensures same { plane.new ≡ plane.old }
 {
-    draw_lent_pixels(alloc, plane, sides)
+    draw_items(alloc, &mut plane.pixels_mut(), sides)
+}
+
+impl<'a, T: Copy> Walk for RowsMut<'a, T> {
+    ghost use Rattle.v_frame_plane.specs.RowsLeft.{rows_left};
+
+    type Item = Sequence<T>;
+
+    type Pixel = T;
+
+    ghost items = { rows_left };
+
+    ghost answer_of = { RowsWalked };
+
+    fn draw(&mut self, alloc: Global, side: Side) -> Result<Option<Sequence<T>>, AllocError> {
+        match draw_row(self, side) {
+            Some(row) => Ok(Some(Sequence::from_slice(alloc, row)?)),
+            None => Ok(None),
+        }
+    }
+
+    fn left(&self) -> usize {
+        self.len()
+    }
+
+    fn answer(total: usize, drawn: Sequence<Drawn<Sequence<T>>>) -> Answer<T>
+        ensures { result ≡ RowsWalked total drawn }
+    {
+        Answer::RowsWalked { total, drawn }
+    }
+}
+
+impl<'a, T: Copy> Walk for PixelsMut<'a, T> {
+    ghost use Rattle.v_frame_plane.specs.PixelsLeft.{pixels_left};
+
+    type Item = T;
+
+    type Pixel = T;
+
+    ghost items = { pixels_left };
+
+    ghost answer_of = { PixelsWalked };
+
+    fn draw(&mut self, _alloc: Global, side: Side) -> Result<Option<T>, AllocError> {
+        Ok(draw_pixel(self, side).copied())
+    }
+
+    fn left(&self) -> usize {
+        self.len()
+    }
+
+    fn answer(total: usize, drawn: Sequence<Drawn<T>>) -> Answer<T>
+        ensures { result ≡ PixelsWalked total drawn }
+    {
+        Answer::PixelsWalked { total, drawn }
+    }
 }

@@ -1,5 +1,5 @@
 //! The kinds of call that draw from the iterators of a plane, in turn from the sides of a list.
-ghost use Rattle.std.specs.Prelude.{◌≡◌, ℕ, List, None, length, map, IfOk};
+ghost use Rattle.std.specs.Prelude.{◌≡◌, ℕ, List, length, map, IfOk};
 ghost use Rattle.v_frame.specs.Walk.{item_from, left_by, draws_answer};
 ghost use Rattle.v_frame.specs.declared.replay.answer.Answer.TheVariants.{RowsWalked, PixelsWalked, BytesWalked};
 
@@ -15,8 +15,7 @@ use std::alloc::{AllocError, Global};
 pub(crate) trait Walk {
     ghost use Rattle.v_frame.specs.declared.replay.answer.Answer.{Answer};
     ghost use Rattle.v_frame.specs.declared.replay.draw.Drawn.{Drawn};
-    ghost use Rattle.std.specs.Prelude.{◌≡◌, ℕ, List, Option, length, IfOk};
-    ghost use Rattle.std.specs.Borrow.{MutBor};
+    ghost use Rattle.std.specs.Prelude.{◌≡◌, ℕ, List, length, IfOk};
     ghost use Rattle.v_frame.specs.Walk.{item_from, left_by};
 
     /// What stands in an answer for an item.
@@ -28,17 +27,13 @@ pub(crate) trait Walk {
     // The items that are left.
     ghost items: { Self → List Self.Item };
 
-    // The slice behind the iterator as it began, where it lends parts of it of which nothing is written.
-    ghost slice: { Self → Option (MutBor (List Self.Pixel)) };
-
     // The answer of so many items and these draws.
     ghost answer_of: { ℕ → List (Drawn Self.Item) → Answer Self.Pixel };
 
     /// One draw.
     fn draw(&mut self, alloc: Global, side: Side) -> Result<Option<Self::Item>, AllocError>
         ensures item { IfOk result (λ item. item ≡ item_from side (items self.old)) }
-        ensures left { items self.new ≡ left_by side (items self.old) }
-        ensures slice { slice self.new ≡ slice self.old };
+        ensures left { items self.new ≡ left_by side (items self.old) };
 
     /// How many items are left.
     fn left(&self) -> usize
@@ -55,8 +50,6 @@ impl<'a, T: Pixel> Walk for Rows<'a, T> {
     type Pixel = T;
 
     ghost items = { λ rows. rows };
-
-    ghost slice = { λ _. None };
 
     ghost answer_of = { RowsWalked };
 
@@ -89,8 +82,6 @@ impl<'a, T: Pixel> Walk for Pixels<'a, T> {
 
     ghost items = { λ pixels. pixels };
 
-    ghost slice = { λ _. None };
-
     ghost answer_of = { PixelsWalked };
 
     fn draw(&mut self, _alloc: Global, side: Side) -> Result<Option<T>, AllocError> {
@@ -117,8 +108,6 @@ impl<'a, T: Pixel> Walk for ByteData<'a, T> {
     type Pixel = T;
 
     ghost items = { λ bytes. bytes };
-
-    ghost slice = { λ _. None };
 
     ghost answer_of = { BytesWalked };
 
@@ -164,9 +153,8 @@ pub(crate) fn draw_items<W: Walk, D: Draw>(
 ) -> Result<Vec<Drawn<W::Item>>, AllocError>
 where
     W::Item: Drop,
-    ensures counted { IfOk result (λ drawn.
+    ensures { IfOk result (λ drawn.
         drawn.items ≡ draws_answer (W.items walk.old) (map D.side_of draws.now)) }
-    ensures slice { W.slice walk.new ≡ W.slice walk.old }
 {
     let mut drawn = Vec::with_capacity(alloc, draws.len())?;
     for draw in draws {

@@ -9,4 +9,4 @@ pub returns-clause-once : goal.returns-clause-once
 returns-clause-once g c =
     let items = row_major (table_of c.args.plane.now) in
     let sides = c.args.sides.now in
-    IfOk-weaker c.draw_items.result _ _ (λ drawn e. sides_drawn_once items sides drawn.items e) (rw (c.pixels.ensures.pixels) at c.draw_items.ensures.counted)
+    IfOk-weaker c.draw_items.result _ _ (λ drawn e. sides_drawn_once items sides drawn.items e) (rw (c.pixels.ensures.pixels) at c.draw_items.ensures)

@@ -1,5 +1,5 @@
 -- One more draw, and the end.
-use Rattle.std.proofs.Common.{◌<◌, ◌∙◌, List, length, map, arith}
+use Rattle.std.proofs.Common.{◌<◌, List, length, map, arith}
 use Rattle.std.proofs.lemmas.List.{length-map}
 use Rattle.v_frame.specs.declared.replay.draw.Side.{Side}
 use Rattle.v_frame.proofs.Draws.{side_at, drawn_more, left_more, all_drawn}
@@ -21,18 +21,11 @@ loop-draw-preserved g c =
     record {
       answers = rw pushed (drawn_more all sides i c.side.result within here before after so_far.left drew.left c.loop-draw.drawn.items c.in_ok-item.item c.left.result so_far.answers drew.item c.left.ensures);
       left = left_more all sides i c.side.result within here before after so_far.left drew.left;
-      slice = drew.slice ∙ so_far.slice;
       drawn = omega (arith, rw c.unwrap.ensures at c.push.ensures.len, so_far.drawn);
       room = omega (arith, so_far.room, c.push.ensures.capacity);
     }
 
-pub returns-clause-counted : goal.returns-clause-counted
-returns-clause-counted g c =
+pub returns : goal.returns
+returns g c =
     let sides : List Side = map g.D.Draw.side_of c.args.draws.now in
     all_drawn (g.W.Walk.items c.args.walk.now) sides c.loop-draw.draw-index c.loop-draw.drawn.items (omega (arith, length-map c.args.draws.now g.D.Draw.side_of)) c.loop-draw.invariant.answers
-
-pub returns-clause-slice : goal.returns-clause-slice
-returns-clause-slice g c = c.loop-draw.invariant.slice
-
-pub returns-in_err-item-clause-slice : goal.returns-in_err-item-clause-slice
-returns-in_err-item-clause-slice g c = c.in_err-item.ensures.slice ∙ c.loop-draw.invariant.slice
