@@ -4,6 +4,10 @@
 //! plane, row after row, each with its low byte first. Decoders write video so, and encoders read it. Nothing in front of a
 //! frame tells its size, so a reader needs a frame of the right sizes to read into.
 //!
+//! Clauses on the bytes of a reader or a writer say something where its type tells them. Of the writers over memory, `Vec<u8>`
+//! and `VecDeque<u8>` do, and what wraps them, as a `Box` or a `BufWriter`; a `Cursor` and `&mut [u8]` don't. Of the readers
+//! over memory `&[u8]`, `VecDeque<u8>` and a `Cursor` do.
+//!
 //! Our own. `Rattle.v_frame_planar.specs.Planar` has the words for clauses.
 #![tactic(auto)]
 

@@ -1,7 +1,7 @@
 //! Frames from their planar bytes.
-ghost use Rattle.std.specs.Prelude.{◌≡◌, ◌-◌, ◌*◌, ◌++◌, ◌<◌, ◌≤◌, false, length, take, option_map, Err, IfOk, IfErr, OnOk, OnErr, SomeIff};
+ghost use Rattle.std.specs.Prelude.{◌≡◌, ◌-◌, ◌++◌, ◌<◌, ◌≤◌, false, length, take, option_map, Err, IfOk, IfErr, OnOk, OnErr, SomeIff};
 ghost use Rattle.std.specs.Io.KnownBytes.{Consumes, IsAtEnd};
-ghost use Rattle.v_frame.specs.Prelude.{byte_list, height_of, isize_max, unshown, width_of, KeepsBorders, table_of, tables_of};
+ghost use Rattle.v_frame.specs.Prelude.{byte_list, isize_max, unshown, KeepsBorders, table_of, tables_of};
 ghost use Rattle.v_frame_planar.specs.Planar.{bytes_of_plane, planar_bytes, size_of, sizes_of, MayStopReading, Reads};
 
 use crate::counted::Counted;
@@ -62,23 +62,11 @@ fn planar_length<T: Pixel>(frame: &Frame<T>) -> Option<usize>
     ensures { let count = length (planar_bytes T.form (tables_of frame.now)) in
         SomeIff result (count ≤ isize_max) count }
 {
-    let y = length_of(&frame.y_plane);
-    let u = frame.u_plane.as_ref().map_or(0, length_of);
-    let v = frame.v_plane.as_ref().map_or(0, length_of);
+    let y = frame.y_plane.byte_len();
+    let u = frame.u_plane.as_ref().map_or(0, Plane::byte_len);
+    let v = frame.v_plane.as_ref().map_or(0, Plane::byte_len);
     let length = (y + u).checked_add(v)?;
     (length <= isize::MAX as usize).then_some(length)
-}
-
-/// How many bytes a plane shows.
-pub(crate) fn length_of<T: Pixel>(plane: &Plane<T>) -> usize
-    ensures value { result ≡ length (byte_list T.form (table_of plane.now)) }
-    ensures packed { let table = table_of plane.now in
-        result ≡ width_of table * height_of table * T.form.size }
-    ensures bound { result ≤ isize_max }
-{
-    // The size of the table, for the proof.
-    let _size = (plane.width(), plane.height());
-    plane.byte_data().len()
 }
 
 /// Fills a buffer from a reader, and tells how much of it was filled before the reader came to its end.
@@ -147,7 +135,7 @@ fn show_plane<'a, T: Pixel>(plane: &mut Plane<T>, bytes: &'a [u8]) -> &'a [u8]
     ensures border { unshown plane.new ≡ unshown plane.old }
     ensures size { size_of (table_of plane.new) ≡ size_of (table_of plane.old) }
 {
-    let (shown, rest) = bytes.split_at(length_of(plane));
+    let (shown, rest) = bytes.split_at(plane.byte_len());
     if plane.copy_from_u8_slice(shown).is_err() {
         unreachable!()
     }

@@ -1,5 +1,5 @@
 //! The buffer of a plane: a list of fixed length.
-ghost use Rattle.std.specs.Prelude.{◌≡◌, ◌<◌, ◌≤◌, All, length, map, replicate, None, Some, IsSome, slice_get, slice_range, IfOk, IfErr};
+ghost use Rattle.std.specs.Prelude.{◌≡◌, ◌<◌, ◌≤◌, All, [], length, map, replicate, None, Some, IsSome, slice_get, slice_range, IsOk, IfOk, IfErr};
 ghost use Rattle.std.specs.Cmp.Lexicographic.{pointwise, lists_per, lists_equiv};
 ghost use Rattle.std.specs.Option.{option_copied_mut};
 ghost use Rattle.std.specs.Borrow.{sem};
@@ -49,11 +49,12 @@ impl<T: Drop> Drop for AlignedData<T> {
 }
 
 impl<T> AlignedData<T> {
-    /// `len` copies of `value`.
+    /// `len` copies of `value`. No copies take no memory.
     pub fn new(alloc: Global, value: T, len: usize) -> Result<Self, AllocError>
     where
         T: Copy,
-        ensures { IfOk result (λ d. d ≡ replicate len value) }
+        ensures copies { IfOk result (λ d. d ≡ replicate len value) }
+        ensures no_entries { len ≡ 0 → IsOk result }
     {
         let mut filling = Filling::new(alloc, len)?;
         for _ in 0..len {
@@ -62,11 +63,12 @@ impl<T> AlignedData<T> {
         Ok(filling.finish())
     }
 
-    /// The same entries in a buffer of their own.
+    /// The same entries in a buffer of their own. No entries take no memory.
     pub fn clone(&self, alloc: Global) -> Result<Self, AllocError>
     where
         T: Copy,
-        ensures { IfOk result (λ copy. copy ≡ self.now) }
+        ensures same { IfOk result (λ copy. copy ≡ self.now) }
+        ensures no_entries { self.now ≡ [] → IsOk result }
     {
         let mut filling = Filling::new(alloc, self.len)?;
         for entry in self.as_slice() {
@@ -131,9 +133,10 @@ fn entry_of<T>(entries: &mut [T], place: usize) -> &mut T
 }
 
 impl<T> AlignedData<Option<T>> {
-    /// `len` entries without a value.
+    /// `len` entries without a value. No entries take no memory.
     pub fn without_values(alloc: Global, len: usize) -> Result<Self, AllocError>
-        ensures { IfOk result (λ d. d ≡ replicate len None) }
+        ensures entries { IfOk result (λ d. d ≡ replicate len None) }
+        ensures no_entries { len ≡ 0 → IsOk result }
     {
         let mut filling = Filling::new(alloc, len)?;
         for _ in 0..len {
@@ -142,13 +145,15 @@ impl<T> AlignedData<Option<T>> {
         Ok(filling.finish())
     }
 
-    /// The values, each moved to its place in a buffer of their own. Without memory for that nothing is moved.
+    /// The values, each moved to its place in a buffer of their own. Without memory for that nothing is moved. No values take
+    /// no memory.
     pub fn into_values(mut self, alloc: Global) -> Result<AlignedData<T>, Self>
     where
         T: Drop,
         requires { All IsSome self }
         ensures values { IfOk result (λ d. map Some d ≡ self) }
         ensures kept { IfErr result (λ d. d ≡ self) }
+        ensures no_entries { self ≡ [] → IsOk result }
     {
         let Ok(mut values) = Filling::new(alloc, self.len) else {
             return Err(self);

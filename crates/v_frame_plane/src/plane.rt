@@ -350,4 +350,18 @@ impl<T: Pixel> Plane<T> {
     {
         self.as_plane_ref().byte_data()
     }
+
+    /// How many bytes [`byte_data`](Self::byte_data) gives: those of `width * height` pixels.
+    ///
+    /// It walks over none of them. Our own.
+    pub fn byte_len(&self) -> usize
+        ensures value { result
+            ≡ self.now.geometry.width * self.now.geometry.height * T.form.size }
+        ensures bytes { result ≡ length (byte_list T.form (table_of self.now)) }
+        ensures table { let table = table_of self.now in
+            result ≡ width_of table * height_of table * T.form.size }
+        ensures bound { result < 2 ^ 63 }
+    {
+        self.as_plane_ref().byte_len()
+    }
 }

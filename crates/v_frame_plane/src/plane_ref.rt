@@ -8,7 +8,7 @@ ghost use Rattle.v_frame_plane.specs.Plane.{IsWhole, raster, table_of};
 
 use crate::bytes::ByteData;
 use crate::pixels::Pixels;
-use crate::place::{checked_place, row_start, visible_place};
+use crate::place::{checked_place, row_start, visible_place, visible_size};
 use crate::rows::Rows;
 use std::fmt;
 use std::marker::Model;
@@ -171,6 +171,18 @@ impl<'a, T: Pixel> PlaneRef<'a, T> {
         ensures runs_back { GivesInReverse ℕ }
     {
         ByteData::new(self)
+    }
+
+    /// How many bytes [`byte_data`](Self::byte_data) gives: those of `width * height` pixels. It walks over none of them.
+    pub fn byte_len(&self) -> usize
+        ensures value { result
+            ≡ self.now.geometry.width * self.now.geometry.height * T.form.size }
+        ensures bytes { result ≡ length (byte_list T.form (table_of self.now)) }
+        ensures table { let table = table_of self.now in
+            result ≡ width_of table * height_of table * T.form.size }
+        ensures bound { result < 2 ^ 63 }
+    {
+        visible_size(self.geometry) * T::BYTES
     }
 }
 

@@ -27,7 +27,7 @@ pub fn count_of_bytes<T: Pixel>(plane: &Plane<T>) -> usize
         ≡ plane.now.geometry.width * plane.now.geometry.height * T.form.size }
     ensures bytes { result ≡ length (byte_list T.form (table_of plane.now)) }
 {
-    plane.byte_data().len()
+    plane.byte_len()
 }
 
 /// Fills the visible rectangle from bytes without tails, and appends what it then shows: the source, where it was accepted.

@@ -17,6 +17,7 @@ pub fn brighten(alloc: Global, frame: &mut Frame<u8>, by: u8) -> Result<(), Allo
     ensures border { KeepsBorders frame.old frame.new }
 {
     full_walks_change_each_pixel::<u8>();
+    // The law is about rows of one width, and a width that was read is that of all rows.
     let _width = frame.y_plane.width();
     let draws = brighter_pixels(alloc, &frame.y_plane, by)?;
     let calls = [VisibleCall::PixelsMut {

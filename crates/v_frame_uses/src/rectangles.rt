@@ -23,6 +23,7 @@ pub fn fill_rectangle<T: Pixel>(
         → slice_get (table_of plane.new) k ≡ slice_get (table_of plane.old) k }
     ensures border { KeepsBorder plane.old plane.new }
 {
+    // A height that was read fits its type, and so does the sum that it bounds.
     let _rows = plane.height();
     for row in y..y + height {
         put_in_row(plane, x, row, pixels);
@@ -54,6 +55,7 @@ pub fn blit<T: Pixel>(
         → slice_get (table_of plane.new) k ≡ slice_get (table_of plane.old) k }
     ensures border { KeepsBorder plane.old plane.new }
 {
+    // Heights that were read fit their type, and so do the sums that they bound.
     let _rows = (plane.height(), source.height());
     for k in 0..height {
         let pixels = part_of_row(source, from_y + k, from_x, width);

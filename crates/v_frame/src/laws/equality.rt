@@ -1,9 +1,8 @@
-//! What `==` of planes and of frames compares.
+//! What `==` of frames compares.
 ghost use Rattle.std.specs.Prelude.{◌≡◌, ◌↔◌, IsTrue};
 
 use crate::frame::Frame;
 use crate::pixel::Pixel;
-use crate::plane::Plane;
 
 /// Frames are equal exactly where all five of their fields are.
 pub fn frames_are_equal<T: Pixel>(a: &Frame<T>, b: &Frame<T>) -> bool

@@ -101,16 +101,16 @@ pub enum VisibleCall<T> {
         /// The sides. Past the end of the iterator the item is `None`.
         draws: Sequence<Side>,
     },
-    /// The rows of [`Plane::rows`](crate::plane::Plane::rows), drawn from these sides in turn and then overwritten: each
-    /// row as it was is answered.
+    /// [`Plane::rows_mut`](crate::plane::Plane::rows_mut), drawn from these sides in turn: each row as it was is answered,
+    /// and then overwritten.
     RowsMut {
         /// The plane.
         plane: usize,
         /// The sides, and what each draw writes. Past the end of the iterator the item is `None`, and nothing is written.
         draws: Sequence<RowDraw<T>>,
     },
-    /// The pixels of [`Plane::pixels`](crate::plane::Plane::pixels), drawn from these sides in turn and then replaced:
-    /// each pixel as it was is answered.
+    /// [`Plane::pixels_mut`](crate::plane::Plane::pixels_mut), drawn from these sides in turn: each pixel as it was is
+    /// answered, and then replaced.
     PixelsMut {
         /// The plane.
         plane: usize,

@@ -1,5 +1,5 @@
 //! A block of memory while it is being filled.
-ghost use Rattle.std.specs.Prelude.{◌≡◌, ◌+◌, ◌<◌, [], ◌∷◌, ◌++◌, IfOk};
+ghost use Rattle.std.specs.Prelude.{◌≡◌, ◌+◌, ◌<◌, [], ◌∷◌, ◌++◌, IsOk, IfOk};
 ghost use Rattle.v_frame_plane.specs.Filling.{filled_with};
 
 use super::AlignedData;
@@ -32,11 +32,12 @@ impl<T> Model for Filling<T> {
 }
 
 impl<T> Filling<T> {
-    /// A block with room for `len` entries, none of which is written.
+    /// A block with room for `len` entries, none of which is written. Room for no entries is never refused.
     pub(super) fn new(alloc: Global, len: usize) -> Result<Self, AllocError>
-        ensures { IfOk result (λ f. f ≡ filled_with [] len) }
+        ensures room { IfOk result (λ f. f ≡ filled_with [] len) }
+        ensures no_entries { len ≡ 0 → IsOk result }
     {
-        if !may_hold::<T>(len) {
+        if len != 0 && !may_hold::<T>(len) {
             return Err(AllocError);
         }
         let (base, cells, deed) = take_room(&alloc, len)?;
