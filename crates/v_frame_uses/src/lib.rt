@@ -20,6 +20,4 @@ pub mod rectangles;
 pub mod row_pairs;
 pub mod start;
 pub mod streams;
-#[cfg(test)]
-mod tests;
 pub mod walks;

@@ -177,12 +177,3 @@ fn built_words_are_zero(rt: HostRuntime) {
     let frame = zeros::<u16>(&rt, rt.alloc(), (32, 16, [0, 0, 0, 0]));
     assert!(rt; frame.y_plane.data() == [0; 512].as_slice());
 }
-
-#[test]
-fn a_built_frame_is_zero(rt: HostRuntime) {
-    let builder = padded((2, 2), Yuv422, 9, [2, 0, 1, 0]);
-    let frame = laws::built_frame_is_zero::<u16>(rt.alloc(), builder).expect(&rt, "memory");
-    assert_eq!(rt; frame.y_plane.data(), [0; 12].as_slice());
-    let chroma = frame.plane(2).expect(&rt, "V");
-    assert_eq!(rt; chroma.data(), [0; 6].as_slice());
-}

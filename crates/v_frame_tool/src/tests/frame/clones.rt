@@ -37,19 +37,6 @@ fn marks(frame: &Frame<u8>) -> [Option<u8>; 3] {
 }
 
 #[test]
-fn a_clone_of_a_frame_keeps_its_planes(rt: HostRuntime) {
-    for index in [0, 1, 2] {
-        let mut frame = with_chroma(&rt, rt.alloc());
-        let copy = frame.clone(rt.alloc()).expect(&rt, "memory");
-        mark(&rt, &mut frame, index, 100);
-        assert!(rt;
-            frame != copy && marks(&copy) == [Some(1), Some(2), Some(3)],
-            "at {index}"
-        );
-    }
-}
-
-#[test]
 fn a_refused_clone_leaves_the_frame(rt: HostRuntime) {
     let frame = with_chroma(&rt, rt.alloc());
     let equal = match frame.clone(rt.alloc()) {

@@ -42,55 +42,6 @@ fn refusals_come_in_their_order(rt: HostRuntime) {
 }
 
 #[test]
-fn an_odd_padding_is_refused_where_it_is_halved(rt: HostRuntime) {
-    let halved = padded((1920, 1080), Yuv422, 8, [15, 0, 0, 0]);
-    assert!(rt; refusal::<u8>(rt.alloc(), halved) == Some(FrameError::UnsupportedResolution));
-    let full = padded((1920, 1080), Yuv444, 8, [15, 0, 0, 0]);
-    assert!(rt; refusal::<u8>(rt.alloc(), full).is_none());
-}
-
-#[test]
-fn columns_without_a_quarter_are_refused(rt: HostRuntime) {
-    let refused = [
-        padded((6, 2), Yuv411, 8, [0, 0, 0, 0]),
-        padded((8, 2), Yuv411, 8, [2, 8, 1, 0]),
-        padded((8, 2), Yuv411, 8, [4, 6, 1, 0]),
-    ];
-    for builder in refused {
-        assert!(rt; refusal::<u8>(rt.alloc(), builder) == Some(FrameError::UnsupportedResolution));
-    }
-    for rows in [[3, 0], [1, 3]] {
-        let [top, bottom] = rows;
-        let odd_rows = padded((8, 1), Yuv411, 8, [4, 8, top, bottom]);
-        assert!(rt; refusal::<u8>(rt.alloc(), odd_rows).is_none());
-    }
-}
-
-#[test]
-fn other_refusals_need_no_memory(rt: HostRuntime) {
-    let depth = FrameBuilder::new(1920, 1080, Monochrome, 7);
-    let wanted = FrameError::UnsupportedBitDepth { found: 7 };
-    assert!(rt; depth.build::<u8>(rt.alloc()).err() == Some(wanted));
-    let mismatch = FrameBuilder::new(1920, 1080, Monochrome, 10);
-    let built = mismatch.build::<u8>(rt.alloc());
-    assert!(rt; built.err() == Some(FrameError::DataTypeMismatch));
-    let empty = FrameBuilder::new(0, 1080, Monochrome, 8);
-    let built = empty.build::<u8>(rt.alloc());
-    assert!(rt; built.err() == Some(FrameError::UnsupportedResolution));
-    let odd = padded((1920, 1080), Yuv420, 8, [0, 0, 0, 1]);
-    let built = odd.build::<u8>(rt.alloc());
-    assert!(rt; built.err() == Some(FrameError::UnsupportedResolution));
-}
-
-#[test]
-fn a_refused_build_hands_out_no_frame(rt: HostRuntime) {
-    match luma::<u8>((3, 2, [2, 2, 2, 0])).build::<u8>(rt.alloc()) {
-        Ok(frame) => assert!(rt; table_of(&frame.y_plane) == [Some([0, 0, 0]), Some([0, 0, 0])]),
-        Err(error) => assert_eq!(rt; error, FrameError::OutOfMemory),
-    }
-}
-
-#[test]
 fn a_refused_build_of_three_planes_hands_out_no_frame(rt: HostRuntime) {
     let builder = padded((4, 2), Yuv420, 8, [2, 2, 2, 0]);
     match builder.build::<u8>(rt.alloc()) {

@@ -48,14 +48,6 @@ fn strides_are_counted_in_bytes(rt: HostRuntime) {
 }
 
 #[test]
-fn a_stride_may_be_odd(rt: HostRuntime) {
-    let mut plane = zeros::<u16>(&rt, rt.alloc(), SQUARE).y_plane;
-    let source = [2, 1, 4, 3, 99, 6, 5, 8, 7, 99];
-    assert!(rt; plane.copy_from_u8_slice_with_stride(&source, 5).is_ok());
-    assert!(rt; shows_four_words(&plane));
-}
-
-#[test]
 fn the_stride_is_tested_before_the_length(rt: HostRuntime) {
     let mut plane = zeros::<u8>(&rt, rt.alloc(), (5, 2, [0, 0, 0, 0])).y_plane;
     let cases = [
@@ -190,26 +182,4 @@ fn words_of_each_width_leave_a_numbered_border(rt: HostRuntime) {
         assert!(rt; copied.is_ok() && words.last() == Some(&last));
         assert!(rt; holds(&rt, rt.alloc(), &plane, layout, words.as_slice()));
     }
-}
-
-#[test]
-fn bytes_come_back(rt: HostRuntime) {
-    let mut plane = zeros::<u16>(&rt, rt.alloc(), SQUARE).y_plane;
-    let bytes = [2, 1, 4, 3, 6, 5, 8, 7];
-    assert!(rt; plane.copy_from_u8_slice(&bytes).is_ok() && plane.byte_data().eq(bytes));
-    let source = [8, 7, 6, 5, 9, 4, 3, 2, 1, 9];
-    assert!(rt; plane.copy_from_u8_slice_with_stride(&source, 5).is_ok());
-    assert!(rt; plane.byte_data().eq([8, 7, 6, 5, 4, 3, 2, 1]));
-}
-
-#[test]
-fn packed_copies_of_one_byte_agree(rt: HostRuntime) {
-    let mut left = numbered::<u8>(&rt, rt.alloc(), (2, 1, [1, 0, 0, 0])).y_plane;
-    let mut right = left.clone(rt.alloc()).expect(&rt, "memory");
-    let answers = laws::packed_copies_agree(&mut left, &mut right, &[5, 6]);
-    assert!(rt; answers == (Ok(()), Ok(())));
-    assert!(rt; left.data() == [100, 5, 6].as_slice());
-    assert!(rt; right.data() == [100, 5, 6].as_slice());
-    let answers = laws::packed_copies_agree(&mut left, &mut right, &[5]);
-    assert!(rt; answers == (Err(other_length(2, 1)), Err(other_length(2, 1))));
 }

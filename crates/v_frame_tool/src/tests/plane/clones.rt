@@ -37,21 +37,6 @@ fn a_clone_of_values_is_a_plane_of_its_own(rt: HostRuntime) {
 }
 
 #[test]
-fn a_clone_has_the_border_too(rt: HostRuntime) {
-    let frame = with_buffer(&rt, rt.alloc(), &[1, 2, 9, 3, 4, 8]);
-    let copy = cloned(&rt, rt.alloc(), &frame.y_plane);
-    let whole = copy.data() == [1, 2, 9, 3, 4, 8].as_slice();
-    assert!(rt; whole && copy.geometry() == frame.y_plane.geometry());
-}
-
-#[test]
-fn a_plane_of_options_is_cloned(rt: HostRuntime) {
-    let plane = holding(&rt, rt.alloc(), pair(), &[Some(5), None]);
-    let copy = cloned(&rt, rt.alloc(), &plane);
-    assert!(rt; copy.data() == [Some(5), None].as_slice() && copy == plane);
-}
-
-#[test]
 fn eight_words_equal_their_clone(rt: HostRuntime) {
     let pixels = [1, 2, 3, 4, 5, 6, 7, 65535];
     let frame = showing::<u16>(&rt, rt.alloc(), (8, 1, [0, 0, 0, 0]), &pixels);
@@ -69,9 +54,4 @@ fn a_refused_clone_leaves_the_plane(rt: HostRuntime) {
         Err(_) => true,
     };
     assert!(rt; equal && frame.y_plane.data() == [1, 2, 9, 3, 4, 8].as_slice());
-}
-
-#[test]
-fn refused_clones_are_explained(rt: HostRuntime) {
-    assert!(rt; displays(&rt, rt.alloc(), &AllocError, "memory allocation failed"));
 }

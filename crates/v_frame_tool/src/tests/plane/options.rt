@@ -14,37 +14,11 @@ fn bordered() -> Option<PlaneGeometry> {
 }
 
 #[test]
-fn a_new_plane_of_options_has_no_value(rt: HostRuntime) {
-    let plane = vacant::<u8>(&rt, rt.alloc(), pair());
-    assert!(rt; plane.data() == [None, None].as_slice() && !plane.is_init());
-}
-
-#[test]
 fn options_that_are_filled_become_values(rt: HostRuntime) {
     let plane = holding(&rt, rt.alloc(), pair(), &[Some(5), Some(6)]);
     assert!(rt; plane.is_init());
     let plane = values_of(&rt, rt.alloc(), plane);
     assert!(rt; plane.data() == [5, 6].as_slice());
-}
-
-/// Whether a plane has the pixels 5 and 6 in one row and none below.
-fn has_five_and_six(plane: &Plane<u8>) -> bool {
-    let row = plane.row(0) == Some([5, 6].as_slice());
-    row && plane.pixel(1, 0) == Some(6) && plane.pixel(0, 1).is_none()
-}
-
-#[test]
-fn values_keep_their_geometry(rt: HostRuntime) {
-    let plane = five_and_six(&rt, rt.alloc());
-    assert!(rt; Some(plane.geometry()) == pair() && has_five_and_six(&plane));
-}
-
-#[test]
-fn one_value_of_two_is_not_enough(rt: HostRuntime) {
-    let first = holding(&rt, rt.alloc(), pair(), &[Some(5), None]);
-    assert!(rt; !first.is_init());
-    let second = holding(&rt, rt.alloc(), pair(), &[None, Some(6)]);
-    assert!(rt; !second.is_init());
 }
 
 #[test]
@@ -117,17 +91,6 @@ fn sixteen_entries_of_a_built_plane_are_read_back(rt: HostRuntime) {
     assert!(rt; has_count(&plane));
 }
 
-#[test]
-fn a_border_place_without_a_value_is_not_enough(rt: HostRuntime) {
-    for place in [0, 3, 4, 7, 12, 15] {
-        let mut plane = sixteen(&rt, rt.alloc());
-        assert!(rt; plane.is_init(), "at {place}");
-        let entry = plane.data_mut().get_mut(place).expect(&rt, "a place");
-        *entry = None;
-        assert!(rt; !plane.is_init(), "at {place}");
-    }
-}
-
 /// Three texts.
 const TEXTS: [&str; 3] = ["Hello World", "", "This is a test"];
 
@@ -164,13 +127,6 @@ fn texts_that_are_filled_are_read_back(rt: HostRuntime) {
     let plane = filled_with_texts(&rt, rt.alloc(), &TEXTS);
     let plane = values_of(&rt, rt.alloc(), plane);
     assert!(rt; are_the_texts(plane.data()));
-}
-
-#[test]
-fn texts_are_given_up_half_filled(rt: HostRuntime) {
-    let plane = filled_with_texts(&rt, rt.alloc(), &["Hello World"]);
-    assert!(rt; !plane.is_init() && hold(plane.data(), [Some("Hello World"), None, None]));
-    drop(plane);
 }
 
 #[test]

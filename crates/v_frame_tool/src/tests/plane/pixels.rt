@@ -29,27 +29,3 @@ fn pixel_past_the_width_is_in_the_next_row(rt: HostRuntime) {
     let plane = showing(&rt, rt.alloc(), (4, 4, [0, 0, 0, 0]), &source).y_plane;
     assert!(rt; pixels_around(&plane) == [None, None, None, Some(5), Some(5)]);
 }
-
-#[test]
-fn pixels_come_from_values_and_from_bytes(rt: HostRuntime) {
-    assert!(rt; laws::pixel_of_value::<u8>(255) == Some(255));
-    assert!(rt; laws::pixel_of_value::<u8>(256) == None);
-    assert!(rt; laws::pixel_of_value::<u16>(65535) == Some(65535));
-    assert!(rt; laws::pixel_of_bytes::<u8>(&[7]) == 7);
-    assert!(rt; laws::pixel_of_bytes::<u16>(&[1, 2]) == 513);
-    assert!(rt; laws::pixels_are_equal(3u8, 3));
-    assert!(rt; laws::pixels_compare(256u16, 3) == Ordering::Greater);
-}
-
-#[test]
-fn a_row_is_decoded_low_byte_first(rt: HostRuntime) {
-    let mut bytes = [0; 3];
-    u8::decode_row(&mut bytes, &[7, 8, 255]);
-    assert_eq!(rt; bytes, [7, 8, 255]);
-    let mut words = [9; 2];
-    u16::decode_row(&mut words, &[2, 1, 255, 0]);
-    assert_eq!(rt; words, [0x0102, 255]);
-    let mut none: [u16; 0] = [];
-    u16::decode_row(&mut none, &[]);
-    assert_eq!(rt; none.len(), 0);
-}

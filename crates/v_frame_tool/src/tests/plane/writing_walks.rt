@@ -96,13 +96,6 @@ fn a_padded_plane_is_written_draw_by_draw(rt: HostRuntime) {
 }
 
 #[test]
-fn a_plane_in_a_numbered_border_is_written_draw_by_draw(rt: HostRuntime) {
-    let mut plane = counted(&rt, rt.alloc(), BORDERED).y_plane;
-    assert!(rt; gives_its_pixels(&mut plane));
-    assert!(rt; plane.data() == bordered_buffer([1, 7, 3, 4, 5, 9]).as_slice());
-}
-
-#[test]
 fn filled_pixels_are_read_back(rt: HostRuntime) {
     let cases = [
         (
@@ -154,15 +147,6 @@ fn fill_three_rows(plane: &mut Plane<u8>) -> (usize, (usize, Option<usize>), usi
     (all, bounds, left)
 }
 
-/// Fills each row, the first one with 1 and each other with one more.
-fn fill_rows_in_a_loop(plane: &mut Plane<u8>) {
-    let mut value = 0;
-    for row in plane.rows_mut() {
-        value = u8::wrapping_add(value, 1);
-        row.fill(value);
-    }
-}
-
 /// The first row, the last and then the second, where each has three pixels.
 fn rows_from_both_ends(plane: &Plane<u8>) -> [Option<[u8; 3]>; 3] {
     let mut rows = plane.rows();
@@ -176,30 +160,6 @@ fn rows_are_filled_from_both_ends(rt: HostRuntime) {
     assert!(rt; fill_three_rows(&mut plane) == (3, (3, Some(3)), 1));
     assert!(rt; plane.data() == [1, 1, 1, 2, 2, 2, 3, 3, 3].as_slice());
     assert!(rt; rows_from_both_ends(&plane) == [Some([1; 3]), Some([3; 3]), Some([2; 3])]);
-}
-
-#[test]
-fn rows_are_filled_in_a_loop(rt: HostRuntime) {
-    let layout = (2, 3, [1, 2, 1, 1]);
-    let mut plane = numbered(&rt, rt.alloc(), layout).y_plane;
-    fill_rows_in_a_loop(&mut plane);
-    assert!(rt; holds(&rt, rt.alloc(), &plane, layout, &[1, 1, 2, 2, 3, 3]));
-}
-
-#[test]
-fn rows_that_are_filled_leave_a_numbered_border(rt: HostRuntime) {
-    let layout = (3, 3, [1, 2, 1, 1]);
-    let mut plane = numbered(&rt, rt.alloc(), layout).y_plane;
-    assert!(rt; fill_three_rows(&mut plane) == (3, (3, Some(3)), 1));
-    assert!(rt;
-        holds(
-            &rt,
-            rt.alloc(),
-            &plane,
-            layout,
-            &[1, 1, 1, 2, 2, 2, 3, 3, 3]
-        )
-    );
 }
 
 /// What four pixels held, the last of them drawn second, which are replaced.
@@ -217,77 +177,6 @@ fn pixels_are_filled_from_both_ends(rt: HostRuntime) {
     let mut plane = zeros(&rt, rt.alloc(), (2, 2, [0, 0, 0, 0])).y_plane;
     let held = fill_four_pixels(&mut plane);
     assert!(rt; held == [Some(0); 4] && plane.data() == [10, 20, 30, 40].as_slice());
-}
-
-/// Replaces the first pixel and five from the back: what the first held, whether there were five, and a draw more.
-fn finish_from_the_back(plane: &mut Plane<u8>) -> (Option<u8>, bool, (Option<u8>, usize)) {
-    let mut pixels = plane.pixels_mut();
-    let first = replace(pixels.next(), 9);
-    let mut lent = true;
-    for _draw in 0..5 {
-        lent = replace(pixels.next_back(), 5).is_some() && lent;
-    }
-    (first, lent, (pixels.next().copied(), pixels.len()))
-}
-
-#[test]
-fn a_row_begun_from_the_front_is_finished_from_the_back(rt: HostRuntime) {
-    for padding in [[0, 0, 0, 0], [2, 1, 1, 3]] {
-        let layout = (3, 2, padding);
-        let mut plane = counted(&rt, rt.alloc(), layout).y_plane;
-        let draws = finish_from_the_back(&mut plane);
-        assert!(rt; draws == (Some(1), true, (None, 0)));
-        assert!(rt; table_of(&plane) == [Some([9, 5, 5]), Some([5, 5, 5])]);
-        assert!(rt; holds(&rt, rt.alloc(), &plane, layout, &[9, 5, 5, 5, 5, 5]));
-    }
-}
-
-/// Whether six draws lend a pixel, and three from each side after them lend none and leave none.
-fn six_pixels_are_lent(plane: &mut Plane<u8>) -> bool {
-    let mut pixels = plane.pixels_mut();
-    let mut as_wanted = true;
-    for _draw in 0..6 {
-        as_wanted = pixels.next_back().is_some() && as_wanted;
-    }
-    for _draw in 0..3 {
-        as_wanted = pixels.next().is_none() && pixels.next_back().is_none() && as_wanted;
-        as_wanted = pixels.len() == 0 && pixels.size_hint() == (0, Some(0)) && as_wanted;
-    }
-    as_wanted
-}
-
-/// The same of two rows.
-fn two_rows_are_lent(plane: &mut Plane<u8>) -> bool {
-    let mut rows = plane.rows_mut();
-    let mut as_wanted = rows.next_back().is_some() && rows.next().is_some();
-    for _draw in 0..3 {
-        as_wanted = rows.next_back().is_none() && rows.next().is_none() && as_wanted;
-        as_wanted = rows.len() == 0 && as_wanted;
-    }
-    as_wanted
-}
-
-#[test]
-fn a_walk_past_its_end_lends_nothing(rt: HostRuntime) {
-    let layout = BORDERED_ALL_ROUND;
-    let mut plane = counted(&rt, rt.alloc(), layout).y_plane;
-    assert!(rt; six_pixels_are_lent(&mut plane) && two_rows_are_lent(&mut plane));
-    assert!(rt; holds(&rt, rt.alloc(), &plane, layout, &[1, 2, 3, 4, 5, 6]));
-}
-
-/// Whether draws from both ends lend three rows, to the last. Nothing is written.
-fn three_rows_are_drawn(plane: &mut Plane<u8>) -> bool {
-    let mut rows = plane.rows_mut();
-    let outer = rows.next().is_some() && rows.next_back().is_some();
-    let inner = rows.next().is_some() && rows.next_back().is_none();
-    outer && inner && rows.len() == 0
-}
-
-#[test]
-fn rows_that_are_drawn_and_not_written_leave_the_buffer(rt: HostRuntime) {
-    let mut plane = numbered::<u8>(&rt, rt.alloc(), (3, 3, [1, 2, 1, 1])).y_plane;
-    let drawn = three_rows_are_drawn(&mut plane);
-    assert!(rt; drawn && plane.data() == numbers(&rt, rt.alloc(), 30).as_slice());
 }
 
 /// Whether draws from both ends lend six pixels, to the last. Nothing is written.
@@ -314,17 +203,4 @@ fn walks_that_are_dropped_undrawn_leave_the_buffer(rt: HostRuntime) {
     assert!(rt; plane.data() == numbers(&rt, rt.alloc(), 24).as_slice());
     drop(plane.pixels_mut());
     assert!(rt; plane.data() == numbers(&rt, rt.alloc(), 24).as_slice());
-}
-
-/// How long the walks over rows and over pixels are, which draw nothing.
-fn lengths(plane: &mut Plane<u8>) -> (usize, usize) {
-    let rows = plane.rows_mut().len();
-    (rows, plane.pixels_mut().len())
-}
-
-#[test]
-fn a_walk_without_a_draw_leaves_the_plane(rt: HostRuntime) {
-    let mut plane = counted(&rt, rt.alloc(), (3, 1, [1, 0, 0, 1])).y_plane;
-    let whole = lengths(&mut plane) == (1, 3);
-    assert!(rt; whole && plane.data() == [100, 1, 2, 3, 104, 105, 106, 107].as_slice());
 }

@@ -29,36 +29,6 @@ fn sequences_show_their_items(rt: HostRuntime) {
     assert!(rt; pixels_show(&rt, rt.alloc(), &[1, 2, 30], "[1, 2, 30]"));
 }
 
-/// The length of a sequence, whether it is empty, the greatest item and the first.
-fn measures(pixels: &Sequence<u8>) -> (usize, bool, Option<u8>, Option<u8>) {
-    let greatest = pixels.iter().copied().max();
-    (
-        pixels.len(),
-        pixels.is_empty(),
-        greatest,
-        pixels.first().copied(),
-    )
-}
-
-/// The items that a walk over a sequence gives.
-fn walked(rt: &impl Abort, alloc: Global, pixels: &Sequence<u8>) -> Vec<u8> {
-    let mut again = Vec::new(alloc);
-    for pixel in pixels {
-        again.push(*pixel).expect(rt, "memory");
-    }
-    again
-}
-
-#[test]
-fn sequences_read_as_slices(rt: HostRuntime) {
-    let pixels = sequence(&rt, rt.alloc(), &[4, 5, 6]);
-    let again = walked(&rt, rt.alloc(), &pixels);
-    let as_slice = measures(&pixels) == (3, false, Some(6), Some(4));
-    assert!(rt; as_slice && again.as_slice() == pixels.as_slice());
-    let none = sequence(&rt, rt.alloc(), &[]);
-    assert!(rt; measures(&none) == (0, true, None, None));
-}
-
 #[test]
 fn calls_show_what_they_name(rt: HostRuntime) {
     let width: VisibleCall<u8> = VisibleCall::Width { plane: 1 };

@@ -53,32 +53,6 @@ fn words_of_each_depth_go_through_a_frame(rt: HostRuntime) {
     }
 }
 
-#[test]
-fn bytes_go_through_a_frame(rt: HostRuntime) {
-    let wanted = without_tails::<u8>(&rt, rt.alloc());
-    let builder = padded((4, 2), Monochrome, 8, [0, 3, 0, 1]);
-    let answers = through_a_frame::<u8>(&rt, rt.alloc(), builder, 5, &[Side::Front; 8]);
-    assert!(rt; answers.expect(&rt, "memory").as_slice() == wanted.as_slice());
-}
-
-#[test]
-fn refused_bytes_leave_a_frame_of_zeros(rt: HostRuntime) {
-    let builder = padded((2, 1), Monochrome, 10, [0, 0, 0, 0]);
-    let answers = through_a_frame::<u16>(&rt, rt.alloc(), builder, 3, &[Side::Back]);
-    let wanted = [
-        Answer::Copied(Err(short_stride(3, 2))),
-        bytes_walked(&rt, rt.alloc(), 4, &[(Some(0), 3)]),
-    ];
-    assert!(rt; answers.expect(&rt, "memory").as_slice() == wanted.as_slice());
-}
-
-#[test]
-fn a_refused_frame_takes_no_bytes(rt: HostRuntime) {
-    let builder = padded((2, 1), Monochrome, 8, [0, 0, 0, 0]);
-    let refused = through_a_frame::<u16>(&rt, rt.alloc(), builder, 5, &[Side::Front; 8]);
-    assert!(rt; refused.err() == Some(FrameError::DataTypeMismatch));
-}
-
 /// The pixels 1 to 6 in a border whose entries are numbered, of a layout that has three columns and two rows.
 fn one_to_six(rt: &impl Abort, alloc: Global, layout: Layout) -> Frame<u8>
     ensures { tables_of result
@@ -92,30 +66,6 @@ fn one_to_six(rt: &impl Abort, alloc: Global, layout: Layout) -> Frame<u8>
         panic!(rt; "another frame");
     }
     frame
-}
-
-#[test]
-fn alike_frames_are_replayed_side_by_side(rt: HostRuntime) {
-    let mut first = one_to_six(&rt, rt.alloc(), BARE);
-    let mut second = one_to_six(&rt, rt.alloc(), BORDERED);
-    let calls = [
-        VisibleCall::PixelMut {
-            plane: 0,
-            x: 1,
-            y: 0,
-            value: 9,
-        },
-        VisibleCall::Row { plane: 0, y: 0 },
-    ];
-    let both = laws::alike_frames_answer_alike(rt.alloc(), &mut first, &mut second, &calls);
-    let (left, right) = both.expect(&rt, "memory");
-    let wanted = [
-        Answer::PixelShown(2),
-        row_shown(&rt, rt.alloc(), &[1, 9, 3]),
-    ];
-    assert!(rt; left.as_slice() == wanted.as_slice() && right.as_slice() == wanted.as_slice());
-    let pixels = [1, 9, 3, 4, 5, 6];
-    assert!(rt; holds(&rt, rt.alloc(), &second.y_plane, BORDERED, &pixels));
 }
 
 /// Calls of nine kinds.

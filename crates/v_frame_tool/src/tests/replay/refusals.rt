@@ -74,29 +74,6 @@ fn a_stopped_walk_leaves_the_calls_in_front(rt: HostRuntime) {
 }
 
 #[test]
-fn a_stopped_walk_over_bytes_leaves_the_calls_in_front(rt: HostRuntime) {
-    let layout = (2, 1, [1, 2, 1, 0]);
-    let mut frame = numbered::<u16>(&rt, rt.alloc(), layout);
-    let blank = numbers::<u16>(&rt, rt.alloc(), 10);
-    let copied = expected_buffer(&rt, rt.alloc(), layout, &[0x0102, 0x0304]);
-    let calls = [
-        bytes(&rt, rt.alloc(), &[Side::Back]),
-        strided(&rt, rt.alloc(), &[2, 1, 4, 3, 99], 5),
-        bytes(&rt, rt.alloc(), &[Side::Back, Side::Front]),
-        bytes(&rt, rt.alloc(), &[]),
-    ];
-    let wanted = [
-        bytes_walked(&rt, rt.alloc(), 4, &[(Some(0xA1), 3)]),
-        Answer::Copied(Ok(())),
-        bytes_walked(&rt, rt.alloc(), 4, &[(Some(3), 3), (Some(2), 2)]),
-        bytes_walked(&rt, rt.alloc(), 4, &[]),
-    ];
-    let done = calls_done(&rt, rt.alloc(), &mut frame, &calls, &wanted);
-    let left = if done < 2 { &blank } else { &copied };
-    assert!(rt; frame.y_plane.data() == left.as_slice());
-}
-
-#[test]
 fn a_replay_stopped_between_two_writes(rt: HostRuntime) {
     let mut frame = numbered(&rt, rt.alloc(), BORDERED);
     let calls = [

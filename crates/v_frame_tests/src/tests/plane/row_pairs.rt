@@ -1,7 +1,7 @@
 //! Two rows that are lent at once.
 
 use crate::tests::support::buffers::{bordered_buffer, holds};
-use crate::tests::support::frames::{counted, showing};
+use crate::tests::support::frames::counted;
 use std::process::Abort;
 use v_frame::pixel::Pixel;
 use v_frame::plane::{Plane, PlaneGeometry, visible_rows_mut};
@@ -64,21 +64,6 @@ fn two_rows_are_written_and_no_more(rt: HostRuntime) {
             assert!(rt; holds(&rt, rt.alloc(), &plane, layout, &wanted));
         }
     }
-}
-
-#[test]
-fn two_rows_of_words_are_exchanged(rt: HostRuntime) {
-    let layout = (3, 2, [1, 0, 2, 1]);
-    let pixels: [u16; 6] = [0x101, 0x202, 0x303, 0x404, 0x505, 0x606];
-    let mut plane = showing(&rt, rt.alloc(), layout, &pixels).y_plane;
-    if plane.height() != 2 {
-        panic!(rt; "another height");
-    }
-    let geometry = plane.geometry();
-    let (row, other) = visible_rows_mut(plane.data_mut(), geometry, 0, 1);
-    row.swap_with_slice(other);
-    let wanted = [0x404, 0x505, 0x606, 0x101, 0x202, 0x303];
-    assert!(rt; holds(&rt, rt.alloc(), &plane, layout, &wanted));
 }
 
 #[test]

@@ -1,0 +1,6 @@
+//! Tests with expected values that were worked out by hand.
+
+mod frame;
+mod plane;
+mod support;
+mod uses;

@@ -1,0 +1,4 @@
+//! Frames: built and compared.
+
+mod builds;
+mod equality;

@@ -1,0 +1,56 @@
+//! What frames are equal.
+
+use std::alloc::Global;
+use std::num::NonZeroU8;
+use std::process::Abort;
+use v_frame::chroma::ChromaSubsampling::{self, Yuv420, Yuv444};
+use v_frame::frame::{Frame, FrameBuilder};
+
+/// A format, a depth, the planes that are kept, and the one whose first pixel is marked.
+type Change = (ChromaSubsampling, u8, [bool; 2], Option<usize>);
+
+/// A frame of zeros, two pixels by two in 4:2:0, whose fields and pixels are changed so.
+fn changed(
+    rt: &impl Abort,
+    alloc: Global,
+    (subsampling, depth, [keeps_u, keeps_v], marked): Change,
+) -> Frame<u16> {
+    let builder = FrameBuilder::new(2, 2, Yuv420, 10);
+    let mut frame = builder.build::<u16>(alloc).expect(rt, "a frame");
+    if let Some(index) = marked {
+        let plane = frame.plane_mut(index).expect(rt, "a plane");
+        *plane.pixel_mut(0, 0).expect(rt, "a pixel") = 1;
+    }
+    frame.subsampling = subsampling;
+    frame.bit_depth = NonZeroU8::new(depth).expect(rt, "a depth");
+    if !keeps_u {
+        frame.u_plane = None;
+    }
+    if !keeps_v {
+        frame.v_plane = None;
+    }
+    frame
+}
+
+#[test]
+fn frames_are_equal_in_all_five_fields(rt: HostRuntime) {
+    let unchanged = (Yuv420, 10, [true, true], None);
+    let cases = [
+        (unchanged, true),
+        ((Yuv444, 10, [true, true], None), false),
+        ((Yuv420, 12, [true, true], None), false),
+        ((Yuv420, 10, [false, true], None), false),
+        ((Yuv420, 10, [true, false], None), false),
+        ((Yuv420, 10, [true, true], Some(0)), false),
+        ((Yuv420, 10, [true, true], Some(1)), false),
+        ((Yuv420, 10, [true, true], Some(2)), false),
+    ];
+    for (change, equal) in cases {
+        let frame = changed(&rt, rt.alloc(), unchanged);
+        let other = changed(&rt, rt.alloc(), change);
+        assert!(rt;
+            (frame == other, frame != other) == (equal, !equal),
+            "{change:?}"
+        );
+    }
+}

@@ -1,0 +1,67 @@
+//! What planes are equal.
+
+use std::alloc::Global;
+use std::process::Abort;
+use v_frame::plane::{Plane, PlaneGeometry};
+
+/// The width, the height, the paddings to the left and to the right, and the ratios.
+type Shape = ([usize; 4], [u8; 2]);
+
+/// A plane of this shape, which has four places, with these entries.
+fn holding(
+    rt: &impl Abort,
+    alloc: Global,
+    ([width, height, left, right], [ratio_x, ratio_y]): Shape,
+    entries: [Option<u8>; 4],
+) -> Plane<Option<u8>> {
+    let geometry = PlaneGeometry::new(width, height, left, right, 0, 0, ratio_x, ratio_y);
+    let geometry = geometry.expect(rt, "no geometry");
+    if geometry.checked_alloc_size().is_none() {
+        panic!(rt; "too large");
+    }
+    let mut plane = Plane::<u8>::new_uninit(alloc, geometry).expect(rt, "memory");
+    let data = plane.data_mut();
+    if data.len() != 4 {
+        panic!(rt; "another size");
+    }
+    data.copy_from_slice(&entries);
+    plane
+}
+
+#[test]
+fn planes_are_equal_in_geometry_and_in_each_entry(rt: HostRuntime) {
+    let (padded, ratios) = ([2, 1, 1, 1], [1, 1]);
+    let entries = [Some(1), Some(2), Some(3), Some(4)];
+    let cases = [
+        ((padded, ratios), entries, true),
+        (
+            (padded, ratios),
+            [Some(9), Some(2), Some(3), Some(4)],
+            false,
+        ),
+        (
+            (padded, ratios),
+            [Some(1), Some(2), Some(3), Some(9)],
+            false,
+        ),
+        (
+            (padded, ratios),
+            [Some(1), Some(9), Some(3), Some(4)],
+            false,
+        ),
+        ((padded, ratios), [Some(1), None, Some(3), Some(4)], false),
+        (([2, 1, 2, 0], ratios), entries, false),
+        (([4, 1, 0, 0], ratios), entries, false),
+        (([2, 2, 0, 0], ratios), entries, false),
+        ((padded, [2, 1]), entries, false),
+        ((padded, [1, 2]), entries, false),
+    ];
+    for (shape, other_entries, equal) in cases {
+        let plane = holding(&rt, rt.alloc(), (padded, ratios), entries);
+        let other = holding(&rt, rt.alloc(), shape, other_entries);
+        assert!(rt;
+            (plane == other, plane != other) == (equal, !equal),
+            "{shape:?}"
+        );
+    }
+}
