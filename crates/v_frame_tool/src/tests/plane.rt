@@ -1,5 +1,7 @@
 //! Planes: their geometries, what they show, and what is written into them.
 
+mod blank;
+mod border_of_200;
 mod byte_copies;
 mod byte_walks;
 mod clones;
@@ -7,12 +9,15 @@ mod copies;
 mod debugs;
 mod draws;
 mod drops;
+mod each_width;
 mod equality;
 mod extremes;
 mod geometry;
 mod held_pixels;
 mod lent;
+mod many_draws;
 mod options;
+mod packed_words;
 mod pixels;
 mod row_pairs;
 mod rows_of_bytes;

@@ -1,5 +1,6 @@
 //! Replays: lists of calls, and what they answer and leave.
 
+mod border_entries;
 mod borders;
 mod byte_walks;
 mod calls;

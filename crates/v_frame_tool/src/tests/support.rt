@@ -10,4 +10,5 @@ pub mod planar;
 pub mod readers;
 pub mod reads;
 pub mod texts;
+pub mod watched;
 pub mod writers;
