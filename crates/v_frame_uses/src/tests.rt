@@ -3,8 +3,6 @@
 use crate::answers::first_answers;
 use crate::bytes::{append_bytes, through_a_plane, without_tails};
 use crate::frames::{built_chroma_size, reason_not_to_build};
-use crate::held_pixels::write_ends;
-use crate::held_rows::fill_last_row;
 use crate::pictures::brighten;
 use crate::planes::{copy_with_plane, plane_of_places};
 use crate::start::{fill_row, first_frame, row_with};
@@ -15,6 +13,8 @@ use v_frame::chroma::ChromaSubsampling;
 use v_frame::frame::{Frame, FrameBuilder, FrameError};
 use v_frame::plane::{CopyError, Plane, PlaneGeometry};
 use v_frame::replay::Answer;
+use v_frame_held::held_pixels::write_ends;
+use v_frame_held::held_rows::fill_last_row;
 use v_frame_planar::Counted;
 
 /// The number of an entry: 100 and its place.
