@@ -17,7 +17,6 @@ pub use Rattle.v_frame.specs.Frame.{Tables, tables_of, table_at, with_table, pla
 pub use Rattle.v_frame.specs.Build.{FrameRequest, refusal_of, IsBlank, IsZeroEverywhere}
 pub use Rattle.v_frame.specs.Walk.{draws_answer, drawn_in_turn, left_in_turn, front_draw, rows_written, pixels_written}
 pub use Rattle.v_frame.specs.Replay.{answers_to, tables_after, reply_to, StoppedAfter}
-
 -- what proofs by hand of callers cite of rows and pixels that are held: what the plane ends as, what
 -- a draw lends, and what a walk that is let go leaves
 pub use Rattle.v_frame_plane.specs.Lends.{LendsBuffer}
@@ -26,7 +25,6 @@ pub use Rattle.v_frame_plane.specs.SecondPixels.{PixelEndsAs, SecondPixels, Part
 pub use Rattle.v_frame_plane.specs.LetGo.{RowsAreLetGo, PixelsAreLetGo}
 pub use Rattle.v_frame_plane.specs.declared.rows_mut.RowsMut.{RowsMut}
 pub use Rattle.v_frame_plane.specs.declared.pixels_mut.PixelsMut.{PixelsMut}
-
 use Rattle.v_frame.specs.declared.frame.Frame.{Frame as TheFrame}
 use Rattle.v_frame.specs.declared.frame.error.FrameError.{FrameError as TheFrameError}
 use Rattle.v_frame.specs.declared.replay.call.VisibleCall.{VisibleCall as TheVisibleCall}
