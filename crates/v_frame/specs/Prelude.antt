@@ -6,17 +6,25 @@ pub use Rattle.v_frame_layout.specs.Geometry.{Geometry, geometry_of, stride_of, 
 pub use Rattle.v_frame_layout.specs.Table.{Table, width_of, height_of, pixel_at, row_major, with_pixel, with_writes, with_item_by, overwritten_row, cut_rows}
 pub use Rattle.v_frame_layout.specs.declared.chroma.ChromaSubsampling.{ChromaSubsampling}
 pub use Rattle.v_frame_layout.specs.declared.chroma.ChromaSubsampling.TheVariants.{Yuv420, Yuv422, Yuv411, Yuv444, Monochrome}
-pub use Rattle.v_frame_plane.specs.Plane.{Raster, raster, filled, table_of, border_of, KeepsBorder, unshown, IsWhole, IsFull, options_of}
+pub use Rattle.v_frame_plane.specs.Plane.{Raster, raster, filled, table_of, border_of, with_entries, KeepsBorder, unshown, IsWhole, IsFull, options_of}
 pub use Rattle.v_frame_plane.specs.Copy.{CopyOutcome, Copies, packed_copy, strided_copy, packed_byte_copy, piece_fronts, strided_table}
 pub use Rattle.v_frame_plane.specs.Laws.{HasMarks, HasPlaces, HoldsPixels, AgreeAt, IsMadeOfEntries}
-pub use Rattle.v_frame_plane.specs.RowsLeft.{rows_left}
-pub use Rattle.v_frame_plane.specs.PixelsLeft.{pixels_left}
+pub use Rattle.v_frame_plane.specs.RowsLeft.{rows_left, rows_slice}
+pub use Rattle.v_frame_plane.specs.PixelsLeft.{pixels_left, pixels_slice}
 pub use Rattle.v_frame_plane.specs.declared.error.CopyError.{CopyError}
 pub use Rattle.v_frame_plane.specs.declared.error.CopyError.TheVariants.{DataLength, InvalidStride}
 pub use Rattle.v_frame.specs.Frame.{Tables, tables_of, table_at, with_table, plane_at, KeepsBorders}
 pub use Rattle.v_frame.specs.Build.{FrameRequest, refusal_of, IsBlank, IsZeroEverywhere}
 pub use Rattle.v_frame.specs.Walk.{draws_answer, drawn_in_turn, left_in_turn, front_draw, rows_written, pixels_written}
 pub use Rattle.v_frame.specs.Replay.{answers_to, tables_after, reply_to, StoppedAfter}
+-- what proofs by hand of callers cite of rows and pixels that are held: what the plane ends as, what
+-- a draw lends, and what a walk that is let go leaves
+pub use Rattle.v_frame_plane.specs.Lends.{LendsBuffer}
+pub use Rattle.v_frame_plane.specs.SecondRows.{EndsAs, SecondRows, KeepsRows, TakesFirstRow, TakesLastRow, LendsFirstRow, LendsLastRow, entries_with, WritesTable, WritesEachTable}
+pub use Rattle.v_frame_plane.specs.SecondPixels.{PixelEndsAs, SecondPixels, Parts, ArePartsOf, KeepsPixels, TakesFirstPixel, TakesLastPixel, LendsFirstPixel, LendsLastPixel, BeginsOver}
+pub use Rattle.v_frame_plane.specs.LetGo.{RowsAreLetGo, PixelsAreLetGo}
+pub use Rattle.v_frame_plane.specs.declared.rows_mut.RowsMut.{RowsMut}
+pub use Rattle.v_frame_plane.specs.declared.pixels_mut.PixelsMut.{PixelsMut}
 use Rattle.v_frame.specs.declared.frame.Frame.{Frame as TheFrame}
 use Rattle.v_frame.specs.declared.frame.error.FrameError.{FrameError as TheFrameError}
 use Rattle.v_frame.specs.declared.replay.call.VisibleCall.{VisibleCall as TheVisibleCall}

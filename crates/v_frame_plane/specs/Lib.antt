@@ -7,6 +7,7 @@ pub mod Cut
 pub mod Filling
 pub mod Laws
 pub mod Lends
+pub mod LetGo
 pub mod PixelsLeft
 pub mod Plane
 pub mod RowsLeft

@@ -8,6 +8,8 @@ ghost use Rattle.v_frame_layout.specs.Pixel.{one_byte};
 ghost use Rattle.v_frame_layout.specs.Table.{Table, width_of, height_of, row_major};
 ghost use Rattle.v_frame_plane.specs.Plane.{Raster, table_of};
 ghost use Rattle.v_frame_plane.specs.Copy.{Copies, packed_copy, piece_fronts, strided_copy, packed_byte_copy};
+ghost use Rattle.v_frame_plane.specs.LetGo.{PixelsAreLetGo, RowsAreLetGo};
+ghost use Rattle.std.specs.Borrow.{sem};
 ghost use Rattle.v_frame_plane.specs.Laws.{DeterminesBuffer, HasPlaces, HasMarks, HoldsPixels, IsMadeOfEntries, ComesBack};
 
 use crate::plane::{CopyError, Plane};
@@ -85,3 +87,14 @@ pub fn packed_copies_agree(
     let (_left, _right) = (left.data(), right.data());
     (of_pixels, of_bytes)
 }
+
+/// Rows for writing that are let go hold, once the borrow of their plane ends, what they show: that is their second list,
+/// which the clauses `leaves` of the draws of `RowsMut` take back to the rows with which it began.
+pub fn rows_are_let_go<T>()
+    ensures* { sem 𝓛 (RowsAreLetGo T.row) }
+{}
+
+/// Pixels for writing that are let go hold, once the borrow of their plane ends, what they show, as rows do.
+pub fn pixels_are_let_go<T>()
+    ensures* { sem 𝓛 (PixelsAreLetGo T.row) }
+{}

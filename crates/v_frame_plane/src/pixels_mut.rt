@@ -13,8 +13,10 @@ use std::mem;
 
 /// The visible pixels of a plane for writing, row after row from the top, from both ends.
 ///
-/// A pixel may be held while others are drawn, and outlives the iterator. Stands for the iterator of `Plane::pixels_mut` of
-/// `v_frame` 0.7.0.
+/// A pixel may be held while others are drawn, and outlives the iterator. What the pixels leave in the plane is told to
+/// those who call [`PixelsMut::next`] and [`PixelsMut::next_back`]: a `for` loop or an adapter draws by the traits'
+/// methods, of which the pixels and their number are known, and not what they leave. Stands for the iterator of
+/// `Plane::pixels_mut` of `v_frame` 0.7.0.
 #[derive(Drop)]
 pub struct PixelsMut<'a, T> {
     // The row that was begun from the front, the rows that were not begun, and the one that was begun from the back.
@@ -95,8 +97,8 @@ impl<'a, T> PixelsMut<'a, T> {
         }
     }
 
-    /// The next pixel, as [`Iterator::next`] draws it. The clause `leaves`, which no trait can have, tells what the
-    /// plane shows once the borrow ends. Our own.
+    /// The next pixel, as [`Iterator::next`] draws it. The clause `leaves`, which the trait's `next` doesn't have, tells
+    /// what the plane shows once the borrow ends. Our own.
     #[inline]
     pub fn next(&mut self) -> Option<&'a mut T>
         ensures* leaves { sem 𝓛 (LendsFirstPixel T.row self.old result self.new) }

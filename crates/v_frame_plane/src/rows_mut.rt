@@ -14,8 +14,10 @@ use v_frame_layout::geometry::PlaneGeometry;
 
 /// The visible rows of a plane for writing, from the top, from both ends.
 ///
-/// A row may be held while others are drawn, and outlives the iterator. Stands for the iterator of `Plane::rows_mut` of
-/// `v_frame` 0.7.0.
+/// A row may be held while others are drawn, and outlives the iterator. What the rows leave in the plane is told to those
+/// who call [`RowsMut::next`] and [`RowsMut::next_back`]: a `for` loop or an adapter draws by the traits' methods, of which
+/// the rows and their number are known, and not what they leave. Stands for the iterator of `Plane::rows_mut` of `v_frame`
+/// 0.7.0.
 #[derive(Drop)]
 pub struct RowsMut<'a, T> {
     // The next row begins `start` entries behind the begin of `rest`.
@@ -61,8 +63,8 @@ impl<'a, T> RowsMut<'a, T> {
         self.count * self.width
     }
 
-    /// The next row, as [`Iterator::next`] draws it. The clause `leaves`, which no trait can have, tells what the
-    /// plane shows once the borrow ends. Our own.
+    /// The next row, as [`Iterator::next`] draws it. The clause `leaves`, which the trait's `next` doesn't have, tells
+    /// what the plane shows once the borrow ends. Our own.
     #[inline]
     pub fn next(&mut self) -> Option<&'a mut [T]>
         ensures* leaves { sem 𝓛 (LendsFirstRow T.row self.old result self.new) }

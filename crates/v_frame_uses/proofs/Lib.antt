@@ -1,4 +1,2 @@
 pub mod Carrying
 pub mod Filling
-pub mod HeldPixels
-pub mod HeldRows

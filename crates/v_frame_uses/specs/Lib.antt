@@ -1,5 +1,4 @@
 pub mod Answers
-pub mod HeldPixels
 pub mod Rectangles
 pub mod RowPairs
 pub mod Streams

@@ -9,8 +9,6 @@ pub mod answers;
 pub mod border;
 pub mod bytes;
 pub mod frames;
-pub mod held_pixels;
-pub mod held_rows;
 pub mod lent;
 pub mod pictures;
 pub mod pixels;

@@ -10,12 +10,8 @@ use Rattle.std.proofs.lemmas.List.{map-append}
 use base.Fml.{fres}
 use denote.Follow.{follows, followed}
 use denote.Lend.{LentAgain, comes_back}
-use Rattle.v_frame.specs.Prelude.{Raster}
-use Rattle.v_frame_plane.specs.Plane.{with_entries}
-use Rattle.v_frame_plane.specs.RowsLeft.{rows_left}
-use Rattle.v_frame_plane.specs.SecondRows.{EndsAs, KeepsRows, SecondRows, TakesLastRow, entries_with}
+use Rattle.v_frame.specs.Prelude.{EndsAs, KeepsRows, Raster, RowsMut, SecondRows, TakesLastRow, entries_with, rows_left, with_entries}
 use Rattle.v_frame_plane.specs.contracts.plane.Plane.{the_row}
-use Rattle.v_frame_plane.specs.declared.rows_mut.RowsMut.{RowsMut}
 use Rattle.v_frame_plane.proofs.Lists.{slice_set-at}
 use Rattle.v_frame_plane.proofs.Loans.{Back, lft_over, share_within}
 

@@ -22,16 +22,13 @@ use denote.Triple.Entry.{on_entry}
 use types.Kit.{Item, Post as Exits, any_q, post}
 use types.Match.{in_variant, vrt}
 use types.Run.{store, switches_on, unit_lit}
-use Rattle.v_frame.specs.Prelude.{Raster, KeepsBorder, row_major, table_of}
-use Rattle.v_frame_plane.specs.PixelsLeft.{pixels_left, pixels_slice, LendsPixelsInOrder, LendsPixelsInReverse}
-use Rattle.v_frame_plane.specs.Plane.{with_entries}
-use Rattle.v_frame_plane.specs.SecondPixels.{BeginsOver, LendsFirstPixel, LendsLastPixel, PixelEndsAs, SecondPixels}
+use Rattle.v_frame.specs.Prelude.{BeginsOver, KeepsBorder, LendsFirstPixel, LendsLastPixel, PixelEndsAs, PixelsMut, Raster, SecondPixels, pixels_left, pixels_slice, row_major, table_of, with_entries}
+use Rattle.v_frame_plane.specs.PixelsLeft.{LendsPixelsInOrder, LendsPixelsInReverse}
 use Rattle.v_frame_plane.specs.contracts.pixels_mut.PixelsMut as walks
 use Rattle.v_frame_plane.specs.contracts.pixels_mut.PixelsMut.next
 use Rattle.v_frame_plane.specs.contracts.pixels_mut.PixelsMut.next_back
 use Rattle.v_frame_plane.specs.contracts.plane.Plane.{the_row}
 use Rattle.v_frame_plane.specs.contracts.plane.Plane.pixels_mut
-use Rattle.v_frame_plane.specs.declared.pixels_mut.PixelsMut.{PixelsMut}
 use Rattle.v_frame_plane.proofs.Loans.{lft_over, lft_within, share_within}
 use Rattle.v_frame_plane.proofs.PixelCalls.{asked, lends_self, self_back}
 use Rattle.v_frame_plane.proofs.PixelMemory.{Bare, Named, as_named, bare, lowered}
@@ -40,11 +37,11 @@ use Rattle.v_frame_plane.proofs.pixels_mut.PixelsMut.TheLaws.{lowers, the_row_la
 use Rattle.v_frame_plane.proofs.pixels_mut.PixelsMut.next.Met as next_met
 use Rattle.v_frame_plane.proofs.pixels_mut.PixelsMut.next_back.Met as next_back_met
 use Rattle.v_frame_plane.proofs.plane.Plane.pixels_mut.Met as pixels_mut_met
-use Rattle.v_frame_uses.specs.HeldPixels.{with_ends}
-use Rattle.v_frame_uses.specs.contracts.held_pixels.write_ends as f
-use Rattle.v_frame_uses.proofs.HeldPixels.{Shows, asks, by_pixel, closes_pixel, ends_of, none_left, none_left_first, opens_pixel, pixel_let_go, took_first, took_last, written}
-use Rattle.v_frame_uses.proofs.held_pixels.write_ends.Statement.{statement}
-use Rattle.v_frame_uses.proofs.held_pixels.write_ends.Code as code
+use Rattle.v_frame_held.specs.HeldPixels.{with_ends}
+use Rattle.v_frame_held.specs.contracts.held_pixels.write_ends as f
+use Rattle.v_frame_held.proofs.HeldPixels.{Shows, asks, by_pixel, closes_pixel, ends_of, none_left, none_left_first, opens_pixel, pixel_let_go, took_first, took_last, written}
+use Rattle.v_frame_held.proofs.held_pixels.write_ends.Statement.{statement}
+use Rattle.v_frame_held.proofs.held_pixels.write_ends.Code as code
 
 pub write_ends_spec : {M : Type 1} → statement M
 write_ends_spec 𝓤 𝓛 𝓜 𝓡 wired T laws copy clone dict met =

@@ -21,17 +21,13 @@ use types.Run.{switches_on, unit_lit}
 use Rattle.std.proofs.Common.{All, map, replicate, slice_set, subst}
 use Rattle.std.proofs.lemmas.List.{length-replicate}
 use Rattle.std.proofs.alloc.Shapes.{head, arm_body}
-use Rattle.v_frame.specs.Prelude.{Raster, KeepsBorder, table_of}
+use Rattle.v_frame.specs.Prelude.{EndsAs, KeepsBorder, LendsBuffer, LendsLastRow, Raster, RowsMut, SecondRows, WritesEachTable, entries_with, rows_left, rows_slice, table_of, with_entries}
 use Rattle.v_frame_plane.specs.Cursor.{PixelsAreCountable}
-use Rattle.v_frame_plane.specs.Lends.{LendsBuffer}
-use Rattle.v_frame_plane.specs.Plane.{with_entries}
-use Rattle.v_frame_plane.specs.RowsLeft.{LendsRowsInOrder, LendsRowsInReverse, rows_left, rows_slice}
-use Rattle.v_frame_plane.specs.SecondRows.{EndsAs, LendsLastRow, SecondRows, WritesEachTable, entries_with}
+use Rattle.v_frame_plane.specs.RowsLeft.{LendsRowsInOrder, LendsRowsInReverse}
 use Rattle.v_frame_plane.specs.contracts.plane.Plane as planes
 use Rattle.v_frame_plane.specs.contracts.plane.Plane.rows_mut
 use Rattle.v_frame_plane.specs.contracts.rows_mut.RowsMut as walks
 use Rattle.v_frame_plane.specs.contracts.rows_mut.RowsMut.next_back
-use Rattle.v_frame_plane.specs.declared.rows_mut.RowsMut.{RowsMut}
 use Rattle.v_frame_plane.proofs.Loans.{lft_within, share_within}
 use Rattle.v_frame_plane.proofs.RowCalls.{Draw, asked, by_row, draws, drew}
 use Rattle.v_frame_plane.proofs.RowLoans.{rows_let_go}
@@ -39,12 +35,12 @@ use Rattle.v_frame_plane.proofs.RowMemory.{Bare, Named, bare, lowered, numbers, 
 use Rattle.v_frame_plane.proofs.plane.Plane.rows_mut.Met as rows_mut_met
 use Rattle.v_frame_plane.proofs.rows_mut.RowsMut.TheLaws as walk_laws
 use Rattle.v_frame_plane.proofs.rows_mut.RowsMut.next_back.Met as next_back_met
-use Rattle.v_frame_uses.specs.contracts.held_rows.fill
-use Rattle.v_frame_uses.specs.contracts.held_rows.fill_last_row as f
-use Rattle.v_frame_uses.proofs.HeldRows.{as_long, last_as_long, last_set, none_set, plane_back, took_last_row, took_no_row}
-use Rattle.v_frame_uses.proofs.held_rows.fill.Met as fill_met
-use Rattle.v_frame_uses.proofs.held_rows.fill_last_row.Statement.{statement}
-use Rattle.v_frame_uses.proofs.held_rows.fill_last_row.Code as code
+use Rattle.v_frame_held.specs.contracts.held_rows.fill
+use Rattle.v_frame_held.specs.contracts.held_rows.fill_last_row as f
+use Rattle.v_frame_held.proofs.HeldRows.{as_long, last_as_long, last_set, none_set, plane_back, took_last_row, took_no_row}
+use Rattle.v_frame_held.proofs.held_rows.fill.Met as fill_met
+use Rattle.v_frame_held.proofs.held_rows.fill_last_row.Statement.{statement}
+use Rattle.v_frame_held.proofs.held_rows.fill_last_row.Code as code
 
 pub fill_last_row_spec : {M : Type 1} → statement M
 fill_last_row_spec 𝓤 𝓛 𝓜 𝓡 wired T laws copy clone dict met =
@@ -120,7 +116,7 @@ fill_last_row_spec 𝓤 𝓛 𝓜 𝓡 wired T laws copy clone dict met =
     let given : Fills.Ghost = (((κw, (κT, tt)), (qw, (rT, tt)), (inside, tt), (row, (value, tt)), (slice_of row ∷ [], (val value, tt))), tt) in
     nothing ! $ move ! (10 ∷ 0 ∷ []) $ join ! $ move ! (1 ∷ 0 ∷ []) $ join ! $ nothing ! $ move ! (5 ∷ 0 ∷ []) $ join ! $ move ! (4 ∷ 0 ∷ []) $ join ! $ join ! $
     nothing ! $ use0 𝓛 (raw (fact 𝓤 (κT ⊑ T.lives))) (fact_i 𝓤 _ (emp 𝓤) inT) $ join ! $ move ! (1 ∷ 0 ∷ []) $ join ! $ use1 𝓛 (raw (Fills.pre given)) (id⊢ 𝓤 _) $
-    calls_at_last ! run Fills (fill_met.met 𝓤 𝓛 𝓜 𝓡 (code.calls-v_frame_uses::held_rows::fill 𝓡.env wired) T laws copy clone dict met) given (and_then ! (get ! refl) (and_then ! (get ! refl) (no_more !))) (λ v₂.
+    calls_at_last ! run Fills (fill_met.met 𝓤 𝓛 𝓜 𝓡 (code.calls-v_frame_held::held_rows::fill 𝓡.env wired) T laws copy clone dict met) given (and_then ! (get ! refl) (and_then ! (get ! refl) (no_more !))) (λ v₂.
     use1 𝓛 (later (some (λ (u : Unit {0}). ((‵ (flft κw qw) ⊛ ‵ (flft κT rT) ⊛ ‵ ftrue) ⊛ ‵ (unit.own_val u (v₂ ∷ []))) ⊛
     some (λ (lasting : Lasts (fill.ended T clone dict) given.0.0 given.0.3). ‵ (lasts (fill.ended T clone dict) given.0.0 given.0.3 lasting) ⊛ raw (fact 𝓤 (lasting.0 ≡ replicate (length row.now) value)))))) (id⊢ 𝓤 _) $
     await ! tt $ pick ! (λ u. split ! $ split ! $ move ! (1 ∷ []) $ feq_l ! (λ is_unit.

@@ -3,7 +3,7 @@
 //! What the plane ends as is proved by hand, in `proofs/held_pixels/write_ends`. A caller of such a function needs no proof.
 ghost use Rattle.std.specs.Prelude.{◌<◌, ◌≡◌, length};
 ghost use Rattle.v_frame.specs.Prelude.{KeepsBorder, row_major, table_of};
-ghost use Rattle.v_frame_uses.specs.HeldPixels.{with_ends};
+ghost use Rattle.v_frame_held.specs.HeldPixels.{with_ends};
 
 use v_frame::pixel::Pixel;
 use v_frame::plane::Plane;

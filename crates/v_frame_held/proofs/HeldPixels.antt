@@ -15,14 +15,9 @@ use denote.Param.{layout, param}
 use denote.Param.Laws.{IsCopy}
 use mir.Syntax.{Lifetime}
 use types.Kit.{show}
-use Rattle.v_frame.specs.Prelude.{Raster, table_of, row_major, KeepsBorder}
-use Rattle.v_frame_plane.specs.PixelsLeft.{pixels_left}
-use Rattle.v_frame_plane.specs.Plane.{with_entries}
-use Rattle.v_frame_plane.specs.SecondPixels.{BeginsOver, PixelEndsAs, SecondPixels, TakesFirstPixel, TakesLastPixel}
-use Rattle.v_frame_plane.specs.SecondRows.{entries_with}
+use Rattle.v_frame.specs.Prelude.{BeginsOver, KeepsBorder, PixelEndsAs, PixelsMut, Raster, SecondPixels, TakesFirstPixel, TakesLastPixel, entries_with, pixels_left, row_major, table_of, with_entries}
 use Rattle.v_frame_plane.specs.contracts.plane.Plane.{the_row}
-use Rattle.v_frame_plane.specs.declared.pixels_mut.PixelsMut.{PixelsMut}
-use Rattle.v_frame_uses.specs.HeldPixels.{with_ends}
+use Rattle.v_frame_held.specs.HeldPixels.{with_ends}
 
 -- three draws, from the back, the front and the back, take the last, the first and the last but one
 pub ends_of : {X : Type 0} (pixels one two three : List X) (a b c x y z : X) → pixels ≡ one ++ c ∷ [] → one ≡ a ∷ two → two ≡ three ++ b ∷ []

@@ -1,7 +1,7 @@
 -- One more entry holds the value.
 use Rattle.std.proofs.Common.{List, length, ◌<◌, arith, ap, ◌∙◌, slice_set}
-use Rattle.v_frame_uses.proofs.HeldRows.{filled_more}
-use Rattle.v_frame_uses.proofs.held_rows.fill.Goals as goal
+use Rattle.v_frame_held.proofs.HeldRows.{filled_more}
+use Rattle.v_frame_held.proofs.held_rows.fill.Goals as goal
 
 pub loop-i-preserved : goal.loop-i-preserved
 loop-i-preserved g c =

@@ -1,0 +1,2 @@
+pub mod HeldPixels
+pub mod HeldRows
