@@ -1,10 +1,8 @@
-//! Frames: built, refused, cloned and compared.
+//! Frames: built, refused and cloned.
 
 mod builds;
 mod clones;
 mod debugs;
-mod equality;
 mod formats;
-mod quarter_width;
 mod refusals;
 mod threads;

@@ -3,7 +3,6 @@
 mod borders;
 mod byte_walks;
 mod calls;
-mod copies;
 mod debugs;
 mod extremes;
 mod laws;
