@@ -5,7 +5,6 @@ mod byte_walks;
 mod clones;
 mod copies;
 mod debugs;
-mod draws;
 mod drops;
 mod extremes;
 mod geometry;
