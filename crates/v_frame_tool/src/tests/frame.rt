@@ -1,12 +1,10 @@
-//! Frames: built, refused, cloned and compared.
+//! Frames: built, refused and cloned.
 
 mod builds;
 mod clones;
 mod debugs;
 mod each_padding;
-mod equality;
 mod formats;
 mod quarter_paddings;
-mod quarter_width;
 mod refusals;
 mod threads;

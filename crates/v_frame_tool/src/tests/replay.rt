@@ -4,7 +4,6 @@ mod border_entries;
 mod borders;
 mod byte_walks;
 mod calls;
-mod copies;
 mod debugs;
 mod extremes;
 mod laws;

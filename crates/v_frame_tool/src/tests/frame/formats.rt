@@ -20,49 +20,32 @@ fn ratios_of_the_formats(rt: HostRuntime) {
 
 #[test]
 fn sizes_under_each_format(rt: HostRuntime) {
-    let formats = [Yuv420, Yuv422, Yuv411, Yuv444, Monochrome];
-    let full_hd = [
-        Some((960, 540)),
-        Some((960, 1080)),
-        Some((480, 1080)),
-        Some((1920, 1080)),
-        None,
+    let cases = [
+        (Yuv420, (1920, 1080), Some((960, 540))),
+        (Yuv422, (1920, 1080), Some((960, 1080))),
+        (Yuv411, (1920, 1080), Some((480, 1080))),
+        (Yuv444, (1920, 1080), Some((1920, 1080))),
+        (Monochrome, (1920, 1080), None),
+        (Yuv420, (3840, 2160), Some((1920, 1080))),
+        (Yuv422, (3840, 2160), Some((1920, 2160))),
+        (Yuv444, (3840, 2160), Some((3840, 2160))),
+        (Yuv420, (1921, 1080), None),
+        (Yuv420, (1920, 1081), None),
+        (Yuv420, (1921, 1081), None),
+        (Yuv420, (2, 2), Some((1, 1))),
+        (Yuv444, (1, 1), Some((1, 1))),
+        (Yuv420, (0, 0), Some((0, 0))),
+        (Yuv422, (2, 1), Some((1, 1))),
+        (Yuv422, (1921, 1080), None),
+        (Yuv411, (8, 3), Some((2, 3))),
+        (Yuv411, (6, 2), None),
+        (Yuv411, (usize::MAX, 2), None),
     ];
-    let ultra_hd = [
-        Some((1920, 1080)),
-        Some((1920, 2160)),
-        Some((960, 2160)),
-        Some((3840, 2160)),
-        None,
-    ];
-    for i in 0..5 {
-        assert_eq!(rt; formats[i].chroma_dimensions(1920, 1080), full_hd[i]);
-        assert_eq!(rt; formats[i].chroma_dimensions(3840, 2160), ultra_hd[i]);
-    }
-}
-
-#[test]
-fn odd_sizes_have_no_half(rt: HostRuntime) {
-    assert_eq!(rt; Yuv420.chroma_dimensions(1921, 1080), None);
-    assert_eq!(rt; Yuv420.chroma_dimensions(1920, 1081), None);
-    assert_eq!(rt; Yuv420.chroma_dimensions(1921, 1081), None);
-    assert_eq!(rt; Yuv420.chroma_dimensions(2, 2), Some((1, 1)));
-    assert_eq!(rt; Yuv444.chroma_dimensions(1, 1), Some((1, 1)));
-}
-
-#[test]
-fn sizes_of_chroma(rt: HostRuntime) {
-    assert!(rt; Yuv420.chroma_dimensions(0, 0) == Some((0, 0)));
-    assert!(rt; Yuv422.chroma_dimensions(2, 1) == Some((1, 1)));
-    assert!(rt; Yuv422.chroma_dimensions(1921, 1080).is_none());
-}
-
-#[test]
-fn columns_have_a_quarter_or_no_chroma(rt: HostRuntime) {
-    assert!(rt; Yuv411.chroma_dimensions(8, 3) == Some((2, 3)));
-    assert!(rt; Yuv411.chroma_dimensions(0, 1) == Some((0, 1)));
-    assert!(rt; Yuv411.chroma_dimensions(720, 480) == Some((180, 480)));
-    for odd in [1, 2, 3, 6, 1921, usize::MAX] {
-        assert!(rt; Yuv411.chroma_dimensions(odd, 2).is_none());
+    for (format, (width, height), chroma) in cases {
+        assert_eq!(rt;
+            format.chroma_dimensions(width, height),
+            chroma,
+            "{format:?}"
+        );
     }
 }

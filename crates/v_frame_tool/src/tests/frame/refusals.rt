@@ -3,24 +3,36 @@
 //! With memory each build here that takes some answers `Ok`. `rt try --test --fail-alloc N` runs each test with its request
 //! `N` refused: then the test takes the branch of the refusal and passes.
 
-use crate::tests::support::frames::{luma, padded, refusal};
-use crate::tests::support::reads::table_of;
+use crate::tests::support::frames::{padded, refusal};
 use crate::tests::support::texts::displays;
 use v_frame::chroma::ChromaSubsampling::{Monochrome, Yuv411, Yuv420, Yuv422, Yuv444};
 use v_frame::frame::{FrameBuilder, FrameError};
 
 #[test]
-fn sizes_that_have_no_half_are_refused(rt: HostRuntime) {
-    let refused = [
-        FrameBuilder::new(0, 1080, Yuv420, 8),
-        FrameBuilder::new(1921, 1080, Yuv420, 8),
-        FrameBuilder::new(1920, 1081, Yuv420, 8),
-        FrameBuilder::new(1920, 0, Yuv422, 8),
-        FrameBuilder::new(1921, 1080, Yuv422, 8),
-        FrameBuilder::new(1920, 1080, Yuv420, 8).luma_padding_left(15),
+fn sizes_and_paddings_that_chroma_divides(rt: HostRuntime) {
+    let cases = [
+        ((0, 1080), Yuv420, [0; 4], false),
+        ((1921, 1080), Yuv420, [0; 4], false),
+        ((1920, 1081), Yuv420, [0; 4], false),
+        ((1920, 0), Yuv422, [0; 4], false),
+        ((1921, 1080), Yuv422, [0; 4], false),
+        ((1920, 1080), Yuv420, [15, 0, 0, 0], false),
+        ((1920, 1080), Yuv422, [15, 0, 0, 0], false),
+        ((1920, 1080), Yuv444, [15, 0, 0, 0], true),
+        ((6, 2), Yuv411, [0; 4], false),
+        ((8, 2), Yuv411, [2, 8, 1, 0], false),
+        ((8, 2), Yuv411, [4, 6, 1, 0], false),
+        ((8, 2), Yuv411, [4, 8, 3, 0], true),
+        ((8, 1), Yuv411, [4, 8, 1, 3], true),
     ];
-    for builder in refused {
-        assert!(rt; refusal::<u8>(rt.alloc(), builder) == Some(FrameError::UnsupportedResolution));
+    for (size, format, padding, is_built) in cases {
+        let refused = refusal::<u8>(rt.alloc(), padded(size, format, 8, padding));
+        let wanted = if is_built {
+            None
+        } else {
+            Some(FrameError::UnsupportedResolution)
+        };
+        assert!(rt; refused == wanted, "{size:?} {format:?}");
     }
 }
 

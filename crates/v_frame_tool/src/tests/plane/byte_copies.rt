@@ -6,7 +6,6 @@ use crate::tests::support::frames::{BARE, BORDERED, Layout, numbered, zeros};
 use crate::tests::support::reads::table_of;
 use std::alloc::Global;
 use std::process::Abort;
-use v_frame::laws;
 use v_frame::plane::Plane;
 
 /// Two words by two without a border.

@@ -1,7 +1,6 @@
 //! Walks over the bytes of planes.
 
-use crate::tests::support::frames::{BARE, BORDERED_ALL_ROUND, counted, numbered, showing};
-use crate::tests::support::reads::told;
+use crate::tests::support::frames::{counted, numbered, showing};
 use crate::tests::support::texts::shows;
 use std::alloc::Global;
 use std::process::Abort;

@@ -3,9 +3,8 @@
 //! Where a test says what a refusal leaves, `rt try --test --fail-alloc N` takes it there, as in the refusals of replays.
 
 use crate::tests::support::frames::{nine, showing, with_buffer, write_pixel};
-use crate::tests::support::options::{five_and_six, holding, pair};
-use crate::tests::support::texts::displays;
-use std::alloc::{AllocError, Global};
+use crate::tests::support::options::five_and_six;
+use std::alloc::Global;
 use std::process::Abort;
 use v_frame::plane::Plane;
 

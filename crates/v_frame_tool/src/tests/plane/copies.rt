@@ -5,6 +5,7 @@ use crate::tests::support::errors::{other_length, short_stride};
 use crate::tests::support::frames::{BARE, BORDERED, numbered, zeros};
 use crate::tests::support::reads::table_of;
 use crate::tests::support::texts::displays;
+use std::alloc::AllocError;
 
 #[test]
 fn a_copy_of_another_length_changes_nothing(rt: HostRuntime) {
@@ -29,6 +30,7 @@ fn packed_pixels_of_other_lengths(rt: HostRuntime) {
 
 #[test]
 fn refused_copies_are_explained(rt: HostRuntime) {
+    assert!(rt; displays(&rt, rt.alloc(), &AllocError, "memory allocation failed"));
     let wanted = "data length mismatch, expected 6, found 5";
     assert!(rt; displays(&rt, rt.alloc(), &other_length(6, 5), wanted));
     let wanted = "provided stride 3 was less than the visible width 2";

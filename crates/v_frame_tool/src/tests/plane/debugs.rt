@@ -5,6 +5,7 @@ use crate::tests::support::options::{holding, pair};
 use crate::tests::support::texts::shows;
 use std::alloc::Global;
 use std::process::Abort;
+use v_frame::plane::{PlaneGeometry, PlaneRef};
 
 /// The text of a plane of one row with this width, whose entries show as `data`.
 fn row_text(rt: &impl Abort, alloc: Global, data: &str, width: usize) -> String {
@@ -21,16 +22,19 @@ fn row_shows(rt: &impl Abort, alloc: Global, pixels: &[u8], data: &str) -> bool 
 }
 
 #[test]
-fn up_to_five_entries_show_whole(rt: HostRuntime) {
-    assert!(rt; row_shows(&rt, rt.alloc(), &[0, 7, 0], "[0, 7, 0]"));
-    assert!(rt; row_shows(&rt, rt.alloc(), &[1, 2, 3, 4, 5], "[1, 2, 3, 4, 5]"));
-}
-
-#[test]
-fn more_entries_show_the_first_five(rt: HostRuntime) {
-    assert!(rt; row_shows(&rt, rt.alloc(), &[1, 2, 3, 4, 5, 6], "[1, 2, 3, 4, 5, ..]"));
-    let twelve = [0, 0, 0, 0, 42, 0, 0, 0, 0, 0, 123, 0];
-    assert!(rt; row_shows(&rt, rt.alloc(), &twelve, "[0, 0, 0, 0, 42, ..]"));
+fn five_entries_show_at_most(rt: HostRuntime) {
+    let cases = [
+        ([0, 7, 0].as_slice(), "[0, 7, 0]"),
+        (&[1, 2, 3, 4, 5], "[1, 2, 3, 4, 5]"),
+        (&[1, 2, 3, 4, 5, 6], "[1, 2, 3, 4, 5, ..]"),
+        (
+            &[0, 0, 0, 0, 42, 0, 0, 0, 0, 0, 123, 0],
+            "[0, 0, 0, 0, 42, ..]",
+        ),
+    ];
+    for (pixels, data) in cases {
+        assert!(rt; row_shows(&rt, rt.alloc(), pixels, data), "{data}");
+    }
 }
 
 #[test]
@@ -49,4 +53,14 @@ const NINE: &str = "Plane { data: [0, 1, 2, 3, 4, ..], geometry: PlaneGeometry {
 fn a_plane_shows_its_entries_and_its_geometry(rt: HostRuntime) {
     let frame = nine(&rt, rt.alloc());
     assert!(rt; shows(&rt, rt.alloc(), &frame.y_plane, NINE));
+}
+
+#[test]
+fn a_lent_plane_shows_its_entries_and_its_geometry(rt: HostRuntime) {
+    let geometry = PlaneGeometry::unpadded(2, 1, 1, 1).expect(&rt, "a geometry");
+    let plane = PlaneRef::new(geometry, [5u8, 6].as_slice()).expect(&rt, "a plane");
+    let wanted =
+        "PlaneRef { data: [5, 6], geometry: PlaneGeometry { width: 2, height: 1, stride: 2, \
+         pad_left: 0, pad_right: 0, pad_top: 0, pad_bottom: 0, subsampling_x: 1, subsampling_y: 1 } }";
+    assert!(rt; shows(&rt, rt.alloc(), &plane, wanted));
 }

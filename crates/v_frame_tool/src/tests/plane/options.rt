@@ -3,7 +3,7 @@
 //! Where a test says what a refusal leaves, `rt try --test --fail-alloc N` takes it there, as in the refusals of replays.
 
 use crate::tests::support::frames::zeros;
-use crate::tests::support::options::{five_and_six, holding, pair, vacant, values_of};
+use crate::tests::support::options::{holding, pair, vacant, values_of};
 use std::alloc::Global;
 use std::process::Abort;
 use v_frame::plane::{Plane, PlaneGeometry};
@@ -15,6 +15,10 @@ fn bordered() -> Option<PlaneGeometry> {
 
 #[test]
 fn options_that_are_filled_become_values(rt: HostRuntime) {
+    for entries in [[None, None], [Some(5), None], [None, Some(6)]] {
+        let plane = holding(&rt, rt.alloc(), pair(), &entries);
+        assert!(rt; !plane.is_init());
+    }
     let plane = holding(&rt, rt.alloc(), pair(), &[Some(5), Some(6)]);
     assert!(rt; plane.is_init());
     let plane = values_of(&rt, rt.alloc(), plane);

@@ -1,9 +1,6 @@
-//! Pixels that are read past the rectangle, and what values and bytes they are.
+//! Pixels that are read past the rectangle.
 
 use crate::tests::support::frames::{numbered, showing};
-use std::cmp::Ordering;
-use v_frame::laws;
-use v_frame::pixel::Pixel;
 use v_frame::plane::Plane;
 
 #[test]

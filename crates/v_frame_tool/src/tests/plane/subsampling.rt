@@ -1,85 +1,81 @@
 //! Geometries of chroma planes: paddings are divided as sizes are, and what is odd has no half.
 
+use std::process::Abort;
 use v_frame::chroma::ChromaSubsampling::{Monochrome, Yuv411, Yuv420, Yuv422, Yuv444};
 use v_frame::plane::{PlaneGeometry, SubsamplingError};
 
+/// The width and the height, the paddings left, right, top and bottom, and the ratios.
+type Shape = ([usize; 2], [usize; 4], [u8; 2]);
+
+/// The geometry of this shape.
+fn geometry(
+    rt: &impl Abort,
+    ([width, height], [left, right, top, bottom], [ratio_x, ratio_y]): Shape,
+) -> PlaneGeometry {
+    PlaneGeometry::new(width, height, left, right, top, bottom, ratio_x, ratio_y).expect(
+        rt,
+        "a geometry",
+    )
+}
+
+/// A padded plane whose columns, rows and paddings all have a half.
+const EVEN: Shape = ([1920, 1080], [40, 30, 20, 10], [1, 1]);
+
+/// A plane with an odd padding below.
+const ODD_BELOW: Shape = ([1920, 1080], [10, 10, 40, 15], [1, 1]);
+
+/// The chroma of the padded plane in 4:2:0.
+const HALVED: Shape = ([960, 540], [20, 15, 10, 5], [2, 2]);
+
+/// The same with a right padding that has a quarter.
+const QUARTERED: Shape = ([960, 540], [20, 16, 10, 5], [2, 2]);
+
+/// A plane whose ratios are set already.
+const SMALL: Shape = ([8, 8], [0; 4], [2, 2]);
+
 #[test]
-fn chroma_of_a_padded_plane(rt: HostRuntime) {
-    let padded = PlaneGeometry::new(1920, 1080, 40, 30, 20, 10, 1, 1).expect(&rt, "padded");
-    let half = PlaneGeometry::new(960, 1080, 20, 15, 20, 10, 2, 1).expect(&rt, "half");
-    assert!(rt; half.stride() == 995);
+fn sizes_and_paddings_are_divided(rt: HostRuntime) {
     let cases = [
-        (Monochrome, None),
-        (Yuv444, Some(padded)),
-        (Yuv422, Some(half)),
+        (EVEN, Yuv444, EVEN),
+        (EVEN, Yuv422, ([960, 1080], [20, 15, 20, 10], [2, 1])),
+        (EVEN, Yuv420, HALVED),
+        (ODD_BELOW, Yuv422, ([960, 1080], [5, 5, 40, 15], [2, 1])),
+        (QUARTERED, Yuv411, ([240, 540], [5, 4, 10, 5], [4, 1])),
+        (SMALL, Yuv422, ([4, 8], [0; 4], [2, 1])),
+        (SMALL, Yuv444, SMALL),
     ];
-    for (format, wanted) in cases {
-        assert!(rt; padded.for_subsampling(format) == Ok(wanted));
+    for (luma, format, chroma) in cases {
+        let wanted = geometry(&rt, chroma);
+        let found = geometry(&rt, luma).for_subsampling(format);
+        assert!(rt; found == Ok(Some(wanted)), "{luma:?} {format:?}");
     }
-}
-
-#[test]
-fn paddings_are_halved_as_sizes_are(rt: HostRuntime) {
-    let luma = PlaneGeometry::new(1920, 1080, 40, 30, 20, 10, 1, 1).expect(&rt, "a geometry");
-    let chroma = PlaneGeometry::new(960, 540, 20, 15, 10, 5, 2, 2).expect(&rt, "a geometry");
-    assert!(rt; chroma.stride() == 995);
-    assert!(rt; luma.for_subsampling(Yuv420) == Ok(Some(chroma)));
-}
-
-#[test]
-fn quarters_of_chroma_that_is_half_as_large(rt: HostRuntime) {
-    let half = PlaneGeometry::new(960, 540, 20, 15, 10, 5, 2, 2).expect(&rt, "half");
-    assert!(rt; half.for_subsampling(Yuv411) == Err(SubsamplingError));
-    let wider = PlaneGeometry::new(960, 540, 20, 16, 10, 5, 2, 2).expect(&rt, "wider");
-    let quarter = PlaneGeometry::new(240, 540, 5, 4, 10, 5, 4, 1).expect(&rt, "quarter");
-    assert!(rt; wider.for_subsampling(Yuv411) == Ok(Some(quarter)));
-}
-
-#[test]
-fn an_odd_padding_of_rows_has_no_half(rt: HostRuntime) {
-    let luma = PlaneGeometry::new(1920, 1080, 10, 10, 40, 15, 1, 1).expect(&rt, "a geometry");
-    let chroma = PlaneGeometry::new(960, 1080, 5, 5, 40, 15, 2, 1).expect(&rt, "a geometry");
-    assert!(rt; luma.for_subsampling(Yuv422) == Ok(Some(chroma)));
-    assert!(rt; luma.for_subsampling(Yuv420) == Err(SubsamplingError));
-}
-
-#[test]
-fn ratios_are_set_and_not_multiplied(rt: HostRuntime) {
-    let halved = PlaneGeometry::new(8, 8, 0, 0, 0, 0, 2, 2).expect(&rt, "a geometry");
-    let again = PlaneGeometry::new(4, 8, 0, 0, 0, 0, 2, 1).expect(&rt, "a geometry");
-    assert!(rt; halved.for_subsampling(Yuv422) == Ok(Some(again)));
-    assert!(rt; halved.for_subsampling(Yuv444) == Ok(Some(halved)));
-    assert!(rt; halved.for_subsampling(Monochrome) == Ok(None));
-}
-
-/// Whether no format of fewer columns takes this plane, and its chroma is itself in 4:4:4.
-fn has_no_half(odd: &PlaneGeometry) -> bool {
-    odd.for_subsampling(Yuv422) == Err(SubsamplingError)
-        && odd.for_subsampling(Yuv420) == Err(SubsamplingError)
-        && odd.for_subsampling(Yuv411) == Err(SubsamplingError)
-        && odd.for_subsampling(Yuv444) == Ok(Some(*odd))
-        && odd.for_subsampling(Monochrome) == Ok(None)
+    assert!(rt; geometry(&rt, HALVED).stride() == 995);
 }
 
 #[test]
 fn odd_sizes_and_paddings_have_no_half(rt: HostRuntime) {
-    let wide = PlaneGeometry::unpadded(1921, 1080, 1, 1).expect(&rt, "wide");
-    let small = PlaneGeometry::unpadded(17, 41, 1, 1).expect(&rt, "small");
-    let padded = PlaneGeometry::new(1920, 1080, 10, 7, 40, 20, 1, 1).expect(&rt, "padded");
-    assert!(rt; has_no_half(&wide) && has_no_half(&small) && has_no_half(&padded));
-}
-
-/// Whether 4:2:0 alone refuses this plane.
-fn has_odd_rows(odd: &PlaneGeometry) -> bool {
-    odd.for_subsampling(Yuv420) == Err(SubsamplingError)
-        && odd.for_subsampling(Yuv422).is_ok()
-        && odd.for_subsampling(Yuv411).is_ok()
-        && odd.for_subsampling(Yuv444).is_ok()
-        && odd.for_subsampling(Monochrome).is_ok()
-}
-
-#[test]
-fn an_odd_height_has_no_half(rt: HostRuntime) {
-    let high = PlaneGeometry::unpadded(1920, 1081, 1, 1).expect(&rt, "high");
-    assert!(rt; has_odd_rows(&high));
+    let (wide, small, high) = ([1921, 1080], [17, 41], [1920, 1081]);
+    let odd_right = ([1920, 1080], [10, 7, 40, 20], [1, 1]);
+    let halves = [Yuv420, Yuv422, Yuv411];
+    let cases = [
+        (EVEN, [true, true, false]),
+        ((wide, [0; 4], [1, 1]), [false; 3]),
+        ((small, [0; 4], [1, 1]), [false; 3]),
+        (odd_right, [false; 3]),
+        ((high, [0; 4], [1, 1]), [false, true, true]),
+        (ODD_BELOW, [false, true, false]),
+        (HALVED, [false, false, false]),
+    ];
+    for (shape, divided) in cases {
+        let luma = geometry(&rt, shape);
+        for (format, is_divided) in halves.into_iter().zip(divided) {
+            let chroma = luma.for_subsampling(format);
+            assert!(rt;
+                (chroma == Err(SubsamplingError)) != is_divided,
+                "{shape:?} {format:?}"
+            );
+        }
+        assert!(rt; luma.for_subsampling(Yuv444) == Ok(Some(luma)), "{shape:?}");
+        assert!(rt; luma.for_subsampling(Monochrome) == Ok(None), "{shape:?}");
+    }
 }

@@ -1,11 +1,10 @@
 //! Walks over planes, by rows and by pixels.
 
-use crate::tests::support::frames::{BARE, BORDERED_ALL_ROUND, counted, zeros};
-use crate::tests::support::reads::{three_of, told};
+use crate::tests::support::frames::{BORDERED_ALL_ROUND, counted, zeros};
 use crate::tests::support::texts::shows;
 use std::alloc::Global;
 use std::process::Abort;
-use v_frame::plane::{Pixels, Plane, Rows};
+use v_frame::plane::{Pixels, Plane};
 
 /// Three pixels by two with a border on all sides.
 fn bordered(rt: &impl Abort, alloc: Global) -> Plane<u8> {

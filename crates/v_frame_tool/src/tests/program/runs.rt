@@ -37,35 +37,29 @@ fn prints_nothing(rt: &HostRuntime, source: &[u8], length: usize) -> bool {
 
 #[test]
 fn rows_are_printed(rt: HostRuntime) {
-    assert!(rt; prints(&rt, &EIGHT, &PRINTED));
+    let cases = [
+        (EIGHT, PRINTED.as_slice()),
+        (
+            [255; 8],
+            b"plane 0: 4 x 2\n255 255 255 255\n255 255 255 255\n",
+        ),
+        (
+            [0, 1, 2, 3, 4, 5, 6, 7],
+            b"plane 0: 4 x 2\n0 1 2 3\n4 5 6 7\n",
+        ),
+    ];
+    for (source, wanted) in cases {
+        assert!(rt; prints(&rt, &source, wanted));
+    }
 }
 
 #[test]
-fn the_rows_are_those_of_the_source(rt: HostRuntime) {
-    let wanted = b"plane 0: 4 x 2\n255 255 255 255\n255 255 255 255\n";
-    assert!(rt; prints(&rt, &[255; 8], wanted));
-}
-
-#[test]
-fn a_source_that_begins_with_0_is_printed_from_0(rt: HostRuntime) {
-    let wanted = b"plane 0: 4 x 2\n0 1 2 3\n4 5 6 7\n";
-    assert!(rt; prints(&rt, &[0, 1, 2, 3, 4, 5, 6, 7], wanted));
-}
-
-#[test]
-fn a_short_source_prints_nothing(rt: HostRuntime) {
-    assert!(rt; prints_nothing(&rt, &[1, 2, 3, 4, 5, 6, 7], 7));
-}
-
-#[test]
-fn sources_of_no_pixel_and_of_nine_print_nothing(rt: HostRuntime) {
-    assert!(rt; prints_nothing(&rt, &[], 0) && prints_nothing(&rt, &[9; 9], 9));
-}
-
-#[test]
-fn a_source_of_sixteen_pixels_prints_nothing(rt: HostRuntime) {
-    let source = [1, 2, 3, 4, 5, 6, 7, 8, 9, 10, 11, 12, 13, 14, 15, 16];
-    assert!(rt; prints_nothing(&rt, &source, 16));
+fn a_source_of_another_length_prints_nothing(rt: HostRuntime) {
+    for length in [7, 0, 9, 16] {
+        let source = [9; 16];
+        let source = source.get(..length).expect(&rt, "so many pixels");
+        assert!(rt; prints_nothing(&rt, source, length), "{length} pixels");
+    }
 }
 
 /// What `run` answers over a writer that has this habit at its first call, how much the writer took, and the failures.

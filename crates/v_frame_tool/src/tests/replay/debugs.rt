@@ -1,17 +1,12 @@
 //! The debug texts of lists of calls and of their answers.
 
 use crate::tests::support::answers::drawn;
-use crate::tests::support::calls::{row_draws, sequence};
+use crate::tests::support::calls::{bytes, copy, pixels_mut, row_mut, rows_mut, sequence};
 use crate::tests::support::errors::other_length;
 use crate::tests::support::texts::shows;
 use std::alloc::Global;
 use std::process::Abort;
-use v_frame::replay::{Answer, PixelDraw, ReplayStopped, Sequence, Side, VisibleCall};
-
-/// Whether a call shows this debug text.
-fn call_shows(rt: &impl Abort, alloc: Global, call: VisibleCall<u8>, wanted: &str) -> bool {
-    shows(rt, alloc, &call, wanted)
-}
+use v_frame::replay::{Answer, ReplayStopped, Side, VisibleCall};
 
 /// Whether an answer shows this debug text.
 fn answer_shows(rt: &impl Abort, alloc: Global, answer: Answer<u8>, wanted: &str) -> bool {
@@ -31,64 +26,33 @@ fn sequences_show_their_items(rt: HostRuntime) {
 
 #[test]
 fn calls_show_what_they_name(rt: HostRuntime) {
-    let width: VisibleCall<u8> = VisibleCall::Width { plane: 1 };
-    assert!(rt; call_shows(&rt, rt.alloc(), width, "Width { plane: 1 }"));
-    let copy = VisibleCall::CopyFromSlice {
-        plane: 0,
-        source: sequence(&rt, rt.alloc(), &[7u8, 8]),
-    };
-    assert!(rt;
-        call_shows(
-            &rt,
-            rt.alloc(),
-            copy,
-            "CopyFromSlice { plane: 0, source: [7, 8] }"
-        )
-    );
-}
-
-#[test]
-fn a_row_shows_what_overwrites_it(rt: HostRuntime) {
-    let row = VisibleCall::RowMut {
-        plane: 2,
-        y: 3,
-        writes: sequence(&rt, rt.alloc(), &[Some(9u8), None]),
-    };
-    let wanted = "RowMut { plane: 2, y: 3, writes: [Some(9), None] }";
-    assert!(rt; call_shows(&rt, rt.alloc(), row, wanted));
-}
-
-#[test]
-fn walks_show_their_sides(rt: HostRuntime) {
-    let bytes: VisibleCall<u8> = VisibleCall::ByteData {
-        plane: 1,
-        draws: sequence(&rt, rt.alloc(), &[Side::Back]),
-    };
-    assert!(rt;
-        call_shows(
-            &rt,
-            rt.alloc(),
-            bytes,
-            "ByteData { plane: 1, draws: [Back] }"
-        )
-    );
-}
-
-#[test]
-fn draws_show_what_they_write(rt: HostRuntime) {
-    let draws = [(Side::Front, [Some(9), None].as_slice())];
-    let rows = VisibleCall::RowsMut {
-        plane: 1,
-        draws: row_draws(&rt, rt.alloc(), &draws),
-    };
-    let wanted = "RowsMut { plane: 1, draws: [RowDraw { side: Front, writes: [Some(9), None] }] }";
-    assert!(rt; call_shows(&rt, rt.alloc(), rows, wanted));
-    let pixel: PixelDraw<u8> = PixelDraw {
-        side: Side::Back,
-        value: None,
-    };
-    let wanted = "PixelDraw { side: Back, value: None }";
-    assert!(rt; shows(&rt, rt.alloc(), &pixel, wanted));
+    let alloc = rt.alloc();
+    let cases = [
+        (VisibleCall::Width { plane: 1 }, "Width { plane: 1 }"),
+        (
+            copy(&rt, alloc, &[7u8, 8]),
+            "CopyFromSlice { plane: 0, source: [7, 8] }",
+        ),
+        (
+            row_mut(&rt, alloc, 3, &[Some(9), None]),
+            "RowMut { plane: 0, y: 3, writes: [Some(9), None] }",
+        ),
+        (
+            bytes(&rt, alloc, &[Side::Back]),
+            "ByteData { plane: 0, draws: [Back] }",
+        ),
+        (
+            rows_mut(&rt, alloc, &[(Side::Front, &[Some(9), None])]),
+            "RowsMut { plane: 0, draws: [RowDraw { side: Front, writes: [Some(9), None] }] }",
+        ),
+        (
+            pixels_mut(&rt, alloc, &[(Side::Back, None)]),
+            "PixelsMut { plane: 0, draws: [PixelDraw { side: Back, value: None }] }",
+        ),
+    ];
+    for (call, wanted) in &cases {
+        assert!(rt; shows(&rt, alloc, call, wanted), "{wanted}");
+    }
 }
 
 #[test]

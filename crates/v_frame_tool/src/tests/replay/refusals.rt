@@ -4,13 +4,9 @@
 //! there and shows nothing; where a request of its replay is refused, the calls in front are done, no other has written
 //! anything, and the test passes.
 
-use crate::tests::support::answers::{
-    bytes_walked, calls_done, pixels_walked, row_shown, rows_walked,
-};
-use crate::tests::support::buffers::{NUMBERED_SIX, bordered_buffer, expected_buffer, numbers};
-use crate::tests::support::calls::{
-    bytes, copy, pixels, pixels_mut, row_mut, rows, rows_mut, strided,
-};
+use crate::tests::support::answers::{calls_done, pixels_walked, row_shown, rows_walked};
+use crate::tests::support::buffers::{NUMBERED_SIX, bordered_buffer};
+use crate::tests::support::calls::{copy, pixels, pixels_mut, row_mut, rows, rows_mut};
 use crate::tests::support::frames::{BORDERED, counted, numbered};
 use std::alloc::Global;
 use std::process::Abort;

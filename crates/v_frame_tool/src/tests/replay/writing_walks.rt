@@ -1,16 +1,13 @@
 //! Writing walks in lists of calls.
 
 use crate::tests::support::answers::{answers_are, pixels_walked, rows_walked};
-use crate::tests::support::buffers::{
-    bordered_buffer, buffer_in_200, holds, number_entries, numbers,
-};
-use crate::tests::support::calls::{pixel_draws, pixels_mut, row_draws, rows_mut};
-use crate::tests::support::frames::{BARE, BORDERED, counted, in_200, padded, showing};
+use crate::tests::support::buffers::{bordered_buffer, buffer_in_200, holds};
+use crate::tests::support::calls::{pixels_mut, rows_mut};
+use crate::tests::support::frames::{BARE, BORDERED, counted, in_200, showing};
 use std::alloc::Global;
 use std::process::Abort;
-use v_frame::chroma::ChromaSubsampling;
 use v_frame::frame::Frame;
-use v_frame::replay::{Answer, Side, VisibleCall};
+use v_frame::replay::Side;
 
 /// Draws of pixels, of which the first and the last write.
 const DRAWS: [(Side, Option<u8>); 3] = [

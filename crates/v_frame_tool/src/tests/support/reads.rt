@@ -1,4 +1,4 @@
-//! What planes, geometries and walks tell, as plain values.
+//! What planes and geometries tell, as plain values.
 
 use v_frame::plane::{Plane, PlaneGeometry};
 
@@ -28,9 +28,4 @@ pub fn numbers_of(geometry: &PlaneGeometry) -> [usize; 9] {
         usize::from(geometry.subsampling_x()),
         usize::from(geometry.subsampling_y()),
     ]
-}
-
-/// What a walk tells of its length.
-pub fn told(walk: &impl ExactSizeIterator) -> (usize, (usize, Option<usize>)) {
-    (walk.len(), walk.size_hint())
 }
