@@ -3,12 +3,14 @@
 //! Nothing takes memory once the call was made, so a request that is refused is one of the preparation or of the call.
 
 mod builds;
+mod calls_that_take_no_memory;
 mod clones;
+mod drops;
 mod options;
 mod pictures;
 mod planar;
 mod replays;
-mod without_memory;
+mod row_writes;
 
 use crate::outcome::Outcome;
 use std::alloc::Global;
@@ -20,11 +22,15 @@ pub fn seen(alloc: Global, case: &str) -> Result<Outcome, Outcome> {
         "new_uninit" => options::new_uninit(alloc),
         "assume_init" => options::assume_init(alloc),
         "assume_init_of_texts" => options::assume_init_of_texts(alloc),
+        "assume_init_of_counted_drops" => drops::assume_init_of_counted_drops(alloc),
         "clone_of_a_plane" => clones::clone_of_a_plane(alloc),
         "clone_of_a_frame" => clones::clone_of_a_frame(alloc),
         "read_frame" => planar::read_a_frame(alloc),
         "replay" => replays::replay_of_a_list(alloc),
-        "without_memory" => without_memory::without_memory(alloc),
+        "replay_of_two_row_writes" => row_writes::replay_of_two_row_writes(alloc),
+        "calls_that_take_no_memory" => {
+            calls_that_take_no_memory::calls_that_take_no_memory(alloc)
+        }
         _ => Err(Outcome::Wrong("no case has this name")),
     }
 }

@@ -42,10 +42,10 @@ pub fn assume_init(alloc: Global) -> Result<Outcome, Outcome> {
 }
 
 /// Where a place was left without a value.
-const NOT_FILLED: Outcome = Outcome::Wrong("a place without a value");
+pub const NOT_FILLED: Outcome = Outcome::Wrong("a place without a value");
 
 /// A plane of one row without a value.
-fn row_of<T>(alloc: Global, width: usize) -> Result<Plane<Option<T>>, Outcome> {
+pub fn row_of<T>(alloc: Global, width: usize) -> Result<Plane<Option<T>>, Outcome> {
     let Some(geometry) = PlaneGeometry::unpadded(width, 1, 1, 1) else {
         return Err(NO_GEOMETRY);
     };

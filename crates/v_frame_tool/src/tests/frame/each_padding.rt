@@ -10,8 +10,9 @@ use v_frame::pixel::Pixel;
 /// Whether three planes of three pixels by two are built with these paddings, of so many zeros each.
 fn is_built<T: Pixel>(rt: &impl Abort, alloc: Global, depth: u8, padding: [usize; 4]) -> bool {
     let [left, right, top, bottom] = padding;
-    let stride = left + 3 + right;
-    let count = (top + 2 + bottom) * stride;
+    let stride = left.saturating_add(3).saturating_add(right);
+    let rows = top.saturating_add(2).saturating_add(bottom);
+    let count = rows.saturating_mul(stride);
     let builder = padded((3, 2), Yuv444, depth, padding);
     let frame = builder.build::<T>(alloc).expect(rt, "a frame");
     let mut is_right = frame.bit_depth.get() == depth;

@@ -5,17 +5,22 @@ use crate::tests::support::frames::in_200;
 use crate::tests::support::reads::table_of;
 use v_frame::plane::Plane;
 
-/// Writes 40 at the begin of the last row and then 30 at the end of the first, once their walk is gone.
+/// Writes this pixel of a lent row.
+fn write_pixel(row: Option<&mut [u8]>, x: usize, value: u8) {
+    if let Some(row) = row {
+        if let Some(pixel) = row.get_mut(x) {
+            *pixel = value;
+        }
+    }
+}
+
+/// Writes 40 to the last row's first pixel and then 30 to the first row's last, once their walk is gone.
 fn write_held_rows(plane: &mut Plane<u8>) {
     let mut rows = plane.rows_mut();
     let (first, last) = (rows.next(), rows.next_back());
     drop(rows);
-    if let Some([pixel, ..]) = last {
-        *pixel = 40;
-    }
-    if let Some([.., pixel]) = first {
-        *pixel = 30;
-    }
+    write_pixel(last, 0, 40);
+    write_pixel(first, 2, 30);
 }
 
 #[test]

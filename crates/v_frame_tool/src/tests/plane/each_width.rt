@@ -17,10 +17,11 @@ fn new_plane<T: Pixel>(rt: &impl Abort, alloc: Global, width: usize) -> Plane<T>
 /// Whether a new plane of this width has its rows, its stride and zeros alone.
 fn is_new<T: Pixel>(rt: &impl Abort, alloc: Global, width: usize) -> bool {
     let plane = new_plane::<T>(rt, alloc, width);
+    let stride = width.saturating_add(1);
     let size = (plane.width(), plane.height(), plane.geometry().stride());
     let rows = plane.rows().all(|row| row.len() == width) && plane.rows().len() == 2;
     let zeros = plane.data().iter().all(|entry| *entry == T::ZERO);
-    size == (width, 2, width + 1) && rows && zeros && plane.data().len() == 4 * (width + 1)
+    size == (width, 2, stride) && rows && zeros && plane.data().len() == stride.saturating_mul(4)
 }
 
 #[test]

@@ -51,7 +51,7 @@ fn packed_words_of_each_width_leave_a_numbered_border(rt: HostRuntime) {
     for (width, below, last) in WIDTHS {
         let layout = (width, 2, [3, 1, 1, 0]);
         let mut plane = numbered::<u16>(&rt, rt.alloc(), layout).y_plane;
-        let bytes = source(&rt, rt.alloc(), 4 * width);
+        let bytes = source(&rt, rt.alloc(), width.saturating_mul(4));
         assert!(rt;
             plane.copy_from_u8_slice(bytes.as_slice()).is_ok(),
             "{width} pixels"
@@ -59,7 +59,7 @@ fn packed_words_of_each_width_leave_a_numbered_border(rt: HostRuntime) {
         assert!(rt; plane.pixel(0, 0) == Some(0x300B) && plane.pixel(15, 0) == Some(0x8661));
         assert!(rt; plane.pixel(0, 1) == Some(below), "{width} pixels");
         assert!(rt; plane.pixels().next_back() == Some(last), "{width} pixels");
-        let words = words(&rt, rt.alloc(), 2 * width);
+        let words = words(&rt, rt.alloc(), width.saturating_mul(2));
         assert!(rt;
             holds(&rt, rt.alloc(), &plane, layout, words.as_slice()),
             "{width} pixels"

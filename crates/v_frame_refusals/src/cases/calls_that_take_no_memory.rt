@@ -1,4 +1,4 @@
-//! Calls that take no memory, and so answer as ever whatever is refused.
+//! Calls that take no memory, and so answer as ever whichever request is refused.
 
 use crate::outcome::Outcome;
 use std::alloc::Global;
@@ -11,7 +11,7 @@ use v_frame_planar::{Counted, write_frame};
 
 /// Builds that are refused before they ask for memory, reading over an array, the replay of no call, and a frame that is
 /// written.
-pub fn without_memory(alloc: Global) -> Result<Outcome, Outcome> {
+pub fn calls_that_take_no_memory(alloc: Global) -> Result<Outcome, Outcome> {
     if !builds_are_refused(alloc) {
         return Err(Outcome::Wrong("a build that is refused"));
     }
