@@ -1,0 +1,151 @@
+//! The calls of a case.
+
+use crate::fault::{CaseFault, LineFault};
+use crate::lines::Lines;
+use crate::tokens::Tokens;
+use std::alloc::Global;
+use v_frame::pixel::Pixel;
+use v_frame::replay::{PixelDraw, RowDraw, Sequence, VisibleCall};
+
+/// Reads how many calls there are, where another line is this fault.
+pub fn read_count(lines: &mut Lines<'_>, other: LineFault) -> Result<u64, CaseFault> {
+    let mut tokens = lines.next_line()?;
+    tokens.keyword("calls", other)?;
+    let count = tokens.number()?;
+    tokens.end()?;
+    Ok(count)
+}
+
+/// Reads the calls, a line each.
+pub fn read_calls<T: Pixel>(
+    alloc: Global,
+    lines: &mut Lines<'_>,
+) -> Result<Vec<VisibleCall<T>>, CaseFault> {
+    let mut calls = Vec::new(alloc);
+    for _ in 0..read_count(lines, LineFault::NotAnEdit)? {
+        let mut tokens = lines.next_line()?;
+        let call = read_call(alloc, &mut tokens)?;
+        tokens.end()?;
+        calls.push(call)?;
+    }
+    Ok(calls)
+}
+
+/// Reads a call.
+fn read_call<T: Pixel>(
+    alloc: Global,
+    tokens: &mut Tokens<'_>,
+) -> Result<VisibleCall<T>, CaseFault> {
+    Ok(match tokens.word()? {
+        "Width" => VisibleCall::Width {
+            plane: tokens.size()?,
+        },
+        "Height" => VisibleCall::Height {
+            plane: tokens.size()?,
+        },
+        "Row" => VisibleCall::Row {
+            plane: tokens.size()?,
+            y: tokens.size()?,
+        },
+        "Pixel" => VisibleCall::Pixel {
+            plane: tokens.size()?,
+            x: tokens.size()?,
+            y: tokens.size()?,
+        },
+        "Rows" => VisibleCall::Rows {
+            plane: tokens.size()?,
+            draws: tokens.sides(alloc)?,
+        },
+        "Pixels" => VisibleCall::Pixels {
+            plane: tokens.size()?,
+            draws: tokens.sides(alloc)?,
+        },
+        "ByteData" => VisibleCall::ByteData {
+            plane: tokens.size()?,
+            draws: tokens.sides(alloc)?,
+        },
+        name => read_write(alloc, name, tokens)?,
+    })
+}
+
+/// Reads a call that writes a row, a pixel or what it draws, behind its name.
+fn read_write<T: Pixel>(
+    alloc: Global,
+    name: &str,
+    tokens: &mut Tokens<'_>,
+) -> Result<VisibleCall<T>, CaseFault> {
+    Ok(match name {
+        "RowMut" => VisibleCall::RowMut {
+            plane: tokens.size()?,
+            y: tokens.size()?,
+            writes: tokens.options(alloc)?,
+        },
+        "PixelMut" => VisibleCall::PixelMut {
+            plane: tokens.size()?,
+            x: tokens.size()?,
+            y: tokens.size()?,
+            value: tokens.pixel()?,
+        },
+        "RowsMut" => VisibleCall::RowsMut {
+            plane: tokens.size()?,
+            draws: read_row_draws(alloc, tokens)?,
+        },
+        "PixelsMut" => VisibleCall::PixelsMut {
+            plane: tokens.size()?,
+            draws: read_pixel_draws(alloc, tokens)?,
+        },
+        name => read_copy(alloc, name, tokens)?,
+    })
+}
+
+/// Reads a call that copies, behind its name.
+fn read_copy<T: Pixel>(
+    alloc: Global,
+    name: &str,
+    tokens: &mut Tokens<'_>,
+) -> Result<VisibleCall<T>, CaseFault> {
+    Ok(match name {
+        "CopyFromSlice" => VisibleCall::CopyFromSlice {
+            plane: tokens.size()?,
+            source: tokens.source(alloc)?,
+        },
+        "CopyFromU8Slice" => VisibleCall::CopyFromU8Slice {
+            plane: tokens.size()?,
+            source: tokens.source(alloc)?,
+        },
+        "CopyFromU8SliceWithStride" => VisibleCall::CopyFromU8SliceWithStride {
+            plane: tokens.size()?,
+            stride: tokens.size()?,
+            source: tokens.source(alloc)?,
+        },
+        _ => return Err(tokens.fault(LineFault::UnknownCall)),
+    })
+}
+
+/// Reads a list of draws of rows.
+fn read_row_draws<T: Pixel>(
+    alloc: Global,
+    tokens: &mut Tokens<'_>,
+) -> Result<Sequence<RowDraw<T>>, CaseFault> {
+    let mut draws = Vec::new(alloc);
+    for _ in 0..tokens.number()? {
+        let side = tokens.side()?;
+        let writes = tokens.options(alloc)?;
+        draws.push(RowDraw { side, writes })?;
+    }
+    Ok(draws.into())
+}
+
+/// Reads a list of draws of pixels.
+fn read_pixel_draws<T: Pixel>(
+    alloc: Global,
+    tokens: &mut Tokens<'_>,
+) -> Result<Sequence<PixelDraw<T>>, CaseFault> {
+    let mut draws = Vec::new(alloc);
+    for _ in 0..tokens.number()? {
+        let side = tokens.side()?;
+        let value = tokens.option()?;
+        draws.push(PixelDraw { side, value })?;
+    }
+    Ok(draws.into())
+}

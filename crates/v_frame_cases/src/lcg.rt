@@ -1,0 +1,41 @@
+//! Pixels that follow from a seed.
+ghost use Rattle.std.specs.Prelude.{◌≡◌, ◌+◌, ◌*◌, ◌/◌, ◌%◌, ◌^◌, ◌<◌};
+
+use v_frame::pixel::Pixel;
+
+/// A linear congruence modulo 2^31.
+#[derive(Drop)]
+pub struct Lcg {
+    state: u64,
+    ghost reduced: { state < 2 ^ 31 },
+}
+
+impl Lcg {
+    /// The congruence of a seed.
+    pub fn new(seed: u64) -> Self
+        ensures { result.state ≡ seed % 2 ^ 31 }
+    {
+        Lcg {
+            state: seed % 0x8000_0000,
+        }
+    }
+
+    /// The next pixel of this type.
+    pub fn pixel<T: Pixel>(&mut self) -> T {
+        let number = self.step();
+        if T::BYTES == 1 {
+            T::from_u8((number % 256) as u8)
+        } else {
+            T::try_from_u16(number).unwrap_or(T::ZERO)
+        }
+    }
+
+    /// The next number: one step, and its upper 16 bits.
+    fn step(&mut self) -> u16
+        ensures state { self.new.state ≡ (1103515245 * self.old.state + 12345) % 2 ^ 31 }
+        ensures value { result ≡ self.new.state / 2 ^ 15 }
+    {
+        self.state = (1_103_515_245 * self.state + 12345) % 0x8000_0000;
+        (self.state / 0x8000) as u16
+    }
+}
