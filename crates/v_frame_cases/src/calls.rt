@@ -64,12 +64,12 @@ fn read_call<T: Pixel>(
             plane: tokens.size()?,
             draws: tokens.sides(alloc)?,
         },
-        name => read_writing_call(alloc, name, tokens)?,
+        name => read_write(alloc, name, tokens)?,
     })
 }
 
-/// Reads a call that writes, behind its name.
-fn read_writing_call<T: Pixel>(
+/// Reads a call that writes a row, a pixel or what it draws, behind its name.
+fn read_write<T: Pixel>(
     alloc: Global,
     name: &str,
     tokens: &mut Tokens<'_>,
@@ -86,6 +86,25 @@ fn read_writing_call<T: Pixel>(
             y: tokens.size()?,
             value: tokens.pixel()?,
         },
+        "RowsMut" => VisibleCall::RowsMut {
+            plane: tokens.size()?,
+            draws: read_row_draws(alloc, tokens)?,
+        },
+        "PixelsMut" => VisibleCall::PixelsMut {
+            plane: tokens.size()?,
+            draws: read_pixel_draws(alloc, tokens)?,
+        },
+        name => read_copy(alloc, name, tokens)?,
+    })
+}
+
+/// Reads a call that copies, behind its name.
+fn read_copy<T: Pixel>(
+    alloc: Global,
+    name: &str,
+    tokens: &mut Tokens<'_>,
+) -> Result<VisibleCall<T>, CaseFault> {
+    Ok(match name {
         "CopyFromSlice" => VisibleCall::CopyFromSlice {
             plane: tokens.size()?,
             source: tokens.source(alloc)?,
@@ -98,14 +117,6 @@ fn read_writing_call<T: Pixel>(
             plane: tokens.size()?,
             stride: tokens.size()?,
             source: tokens.source(alloc)?,
-        },
-        "RowsMut" => VisibleCall::RowsMut {
-            plane: tokens.size()?,
-            draws: read_row_draws(alloc, tokens)?,
-        },
-        "PixelsMut" => VisibleCall::PixelsMut {
-            plane: tokens.size()?,
-            draws: read_pixel_draws(alloc, tokens)?,
         },
         _ => return Err(tokens.fault(LineFault::UnknownCall)),
     })
