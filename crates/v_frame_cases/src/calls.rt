@@ -36,85 +36,85 @@ fn read_call<T: Pixel>(
     alloc: Global,
     tokens: &mut Tokens<'_>,
 ) -> Result<VisibleCall<T>, CaseFault> {
-    Ok(match tokens.word()? {
-        "Width" => VisibleCall::Width {
-            plane: tokens.size()?,
-        },
-        "Height" => VisibleCall::Height {
-            plane: tokens.size()?,
-        },
+    let name = tokens.word()?;
+    let plane = tokens.size()?;
+    Ok(match name {
+        "Width" => VisibleCall::Width { plane },
+        "Height" => VisibleCall::Height { plane },
         "Row" => VisibleCall::Row {
-            plane: tokens.size()?,
+            plane,
             y: tokens.size()?,
         },
         "Pixel" => VisibleCall::Pixel {
-            plane: tokens.size()?,
+            plane,
             x: tokens.size()?,
             y: tokens.size()?,
         },
         "Rows" => VisibleCall::Rows {
-            plane: tokens.size()?,
+            plane,
             draws: tokens.sides(alloc)?,
         },
         "Pixels" => VisibleCall::Pixels {
-            plane: tokens.size()?,
+            plane,
             draws: tokens.sides(alloc)?,
         },
         "ByteData" => VisibleCall::ByteData {
-            plane: tokens.size()?,
+            plane,
             draws: tokens.sides(alloc)?,
         },
-        name => read_write(alloc, name, tokens)?,
+        name => read_write(alloc, name, plane, tokens)?,
     })
 }
 
-/// Reads a call that writes a row, a pixel or what it draws, behind its name.
+/// Reads a call that writes a row, a pixel or what it draws, behind its plane.
 fn read_write<T: Pixel>(
     alloc: Global,
     name: &str,
+    plane: usize,
     tokens: &mut Tokens<'_>,
 ) -> Result<VisibleCall<T>, CaseFault> {
     Ok(match name {
         "RowMut" => VisibleCall::RowMut {
-            plane: tokens.size()?,
+            plane,
             y: tokens.size()?,
             writes: tokens.options(alloc)?,
         },
         "PixelMut" => VisibleCall::PixelMut {
-            plane: tokens.size()?,
+            plane,
             x: tokens.size()?,
             y: tokens.size()?,
             value: tokens.pixel()?,
         },
         "RowsMut" => VisibleCall::RowsMut {
-            plane: tokens.size()?,
+            plane,
             draws: read_row_draws(alloc, tokens)?,
         },
         "PixelsMut" => VisibleCall::PixelsMut {
-            plane: tokens.size()?,
+            plane,
             draws: read_pixel_draws(alloc, tokens)?,
         },
-        name => read_copy(alloc, name, tokens)?,
+        name => read_copy(alloc, name, plane, tokens)?,
     })
 }
 
-/// Reads a call that copies, behind its name.
+/// Reads a call that copies, behind its plane.
 fn read_copy<T: Pixel>(
     alloc: Global,
     name: &str,
+    plane: usize,
     tokens: &mut Tokens<'_>,
 ) -> Result<VisibleCall<T>, CaseFault> {
     Ok(match name {
         "CopyFromSlice" => VisibleCall::CopyFromSlice {
-            plane: tokens.size()?,
+            plane,
             source: tokens.source(alloc)?,
         },
         "CopyFromU8Slice" => VisibleCall::CopyFromU8Slice {
-            plane: tokens.size()?,
+            plane,
             source: tokens.source(alloc)?,
         },
         "CopyFromU8SliceWithStride" => VisibleCall::CopyFromU8SliceWithStride {
-            plane: tokens.size()?,
+            plane,
             stride: tokens.size()?,
             source: tokens.source(alloc)?,
         },

@@ -6,7 +6,7 @@ use std::io::{self, ErrorKind};
 use v_frame::frame::FrameError;
 
 /// Why the cases could not be answered to their end.
-#[derive(Debug, PartialEq, Eq, Drop)]
+#[derive(Debug, Drop)]
 pub enum CaseFault {
     /// The input could not be read.
     Read,
@@ -24,7 +24,7 @@ pub enum CaseFault {
 }
 
 /// What is wrong with a line.
-#[derive(Debug, PartialEq, Eq, Drop)]
+#[derive(Debug, Drop)]
 pub enum LineFault {
     /// The line isn't UTF-8.
     NotText,
@@ -40,7 +40,7 @@ pub enum LineFault {
     MissingToken,
     /// There are tokens behind the last one that the line should have.
     ExtraToken,
-    /// A token should be a number and isn't made of decimal digits.
+    /// A token should be a number and isn't made of decimal digits, or is above the largest of 64 bits.
     NotANumber,
     /// A number is above the largest of its type.
     NumberTooLarge,
@@ -121,7 +121,7 @@ impl LineFault {
             LineFault::EmptyToken => "more than one space, or a space at an end",
             LineFault::MissingToken => "a token is missing",
             LineFault::ExtraToken => "more tokens than there should be",
-            LineFault::NotANumber => "not a decimal number",
+            LineFault::NotANumber => "not a decimal number of 64 bits",
             LineFault::NumberTooLarge => "number too large",
             LineFault::NotACase => "expected `case`",
             LineFault::UnknownKind => "unknown kind of case",

@@ -22,25 +22,11 @@ pub struct Spec {
     /// The type of the pixels.
     pub pixel_type: PixelType,
     depth: u8,
-    size: Size,
+    /// The visible columns and rows of luma.
+    size: [usize; 2],
     format: ChromaSubsampling,
-    paddings: Paddings,
-}
-
-/// The visible columns and rows of luma.
-#[derive(Clone, Copy)]
-pub struct Size {
-    width: usize,
-    height: usize,
-}
-
-/// The border columns and rows of luma.
-#[derive(Clone, Copy)]
-pub struct Paddings {
-    left: usize,
-    right: usize,
-    top: usize,
-    bottom: usize,
+    /// The border columns of luma on the left and on the right, and its border rows at the top and at the bottom.
+    paddings: [usize; 4],
 }
 
 impl Spec {
@@ -52,9 +38,9 @@ impl Spec {
             _ => return Err(tokens.fault(LineFault::UnknownPixelType)),
         };
         let depth = tokens.byte()?;
-        let size = Size::read(tokens)?;
+        let size = tokens.sizes()?;
         let format = read_format(tokens)?;
-        let paddings = Paddings::read(tokens)?;
+        let paddings = tokens.sizes()?;
         tokens.end()?;
         Ok(Spec {
             pixel_type,
@@ -67,8 +53,8 @@ impl Spec {
 
     /// Reads a frame of luma alone, of this depth and of pixels of this type.
     pub fn read_luma<T: Pixel>(tokens: &mut Tokens<'_>, depth: u8) -> Result<Self, CaseFault> {
-        let size = Size::read(tokens)?;
-        let paddings = Paddings::read(tokens)?;
+        let size = tokens.sizes()?;
+        let paddings = tokens.sizes()?;
         tokens.end()?;
         Ok(Spec {
             pixel_type: if T::BYTES == 1 {
@@ -85,11 +71,13 @@ impl Spec {
 
     /// Builds the frame.
     pub fn build<T: Pixel>(&self, alloc: Global) -> Result<Frame<T>, FrameError> {
-        FrameBuilder::new(self.size.width, self.size.height, self.format, self.depth)
-            .luma_padding_left(self.paddings.left)
-            .luma_padding_right(self.paddings.right)
-            .luma_padding_top(self.paddings.top)
-            .luma_padding_bottom(self.paddings.bottom)
+        let [width, height] = self.size;
+        let [left, right, top, bottom] = self.paddings;
+        FrameBuilder::new(width, height, self.format, self.depth)
+            .luma_padding_left(left)
+            .luma_padding_right(right)
+            .luma_padding_top(top)
+            .luma_padding_bottom(bottom)
             .build(alloc)
     }
 
@@ -102,28 +90,6 @@ impl Spec {
         self.build(alloc).map_err(|error| match error {
             FrameError::OutOfMemory => CaseFault::OutOfMemory,
             error => tokens.fault(LineFault::NotBuilt(error)),
-        })
-    }
-}
-
-impl Size {
-    /// Reads two numbers.
-    fn read(tokens: &mut Tokens<'_>) -> Result<Self, CaseFault> {
-        Ok(Size {
-            width: tokens.size()?,
-            height: tokens.size()?,
-        })
-    }
-}
-
-impl Paddings {
-    /// Reads four numbers.
-    fn read(tokens: &mut Tokens<'_>) -> Result<Self, CaseFault> {
-        Ok(Paddings {
-            left: tokens.size()?,
-            right: tokens.size()?,
-            top: tokens.size()?,
-            bottom: tokens.size()?,
         })
     }
 }

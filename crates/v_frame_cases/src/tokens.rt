@@ -76,6 +76,15 @@ impl<'a> Tokens<'a> {
         usize::try_from(number).map_err(|_| self.fault(LineFault::NumberTooLarge))
     }
 
+    /// As many such numbers as there are to be.
+    pub fn sizes<const N: usize>(&mut self) -> Result<[usize; N], CaseFault> {
+        let mut sizes = [0; N];
+        for size in &mut sizes {
+            *size = self.size()?;
+        }
+        Ok(sizes)
+    }
+
     /// A number below 256.
     pub fn byte(&mut self) -> Result<u8, CaseFault> {
         let number = self.number()?;
@@ -108,11 +117,10 @@ impl<'a> Tokens<'a> {
     /// The number that a token tells.
     fn number_of(&self, word: &str) -> Result<u64, CaseFault> {
         // `parse` takes a sign as well.
-        if !word.bytes().all(|byte| byte.is_ascii_digit()) {
-            return Err(self.fault(LineFault::NotANumber));
+        match word.parse::<u64>() {
+            Ok(number) if !word.starts_with('+') => Ok(number),
+            _ => Err(self.fault(LineFault::NotANumber)),
         }
-        let number = word.parse::<u64>();
-        number.map_err(|_| self.fault(LineFault::NumberTooLarge))
     }
 
     /// The pixel whose value a token tells.

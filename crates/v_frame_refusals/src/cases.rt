@@ -11,6 +11,7 @@ mod pictures;
 mod planar;
 mod replays;
 mod row_writes;
+mod texts;
 
 use crate::outcome::Outcome;
 use std::alloc::Global;
@@ -28,6 +29,7 @@ pub fn seen(alloc: Global, case: &str) -> Result<Outcome, Outcome> {
         "read_frame" => planar::read_a_frame(alloc),
         "replay" => replays::replay_of_a_list(alloc),
         "replay_of_two_row_writes" => row_writes::replay_of_two_row_writes(alloc),
+        "run_into_a_fixed_slice" => Ok(texts::run_into_a_fixed_slice(alloc)),
         "calls_that_take_no_memory" => {
             calls_that_take_no_memory::calls_that_take_no_memory(alloc)
         }

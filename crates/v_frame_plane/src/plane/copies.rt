@@ -1,17 +1,15 @@
 //! Copies into a plane, from pixels and from bytes.
 //!
-//! What a buffer lends for writing can't be followed through a struct. So each call hands the plane's two parts, its geometry
-//! and a slice that is the whole buffer, to a function over these, and all three of those share the loop of `encoding`.
+//! Pixels and bytes share the loop of `encoding`, and bytes without tails are bytes with the stride of a row.
 ghost use Rattle.std.specs.Prelude.{◌≡◌, ◌*◌, ◌+◌, length, OnOk};
 ghost use Rattle.v_frame_layout.specs.Pixel.{byte_list};
 ghost use Rattle.v_frame_layout.specs.Table.{width_of, height_of, row_major};
-ghost use Rattle.v_frame_plane.specs.Plane.{IsWhole, raster, table_of};
+ghost use Rattle.v_frame_plane.specs.Plane.{table_of};
 ghost use Rattle.v_frame_plane.specs.Copy.{Copies, packed_copy, piece_fronts, strided_copy, packed_byte_copy};
 
 use super::{CopyError, Plane};
 use crate::encoding::{AsBytes, AsPixels, write_rows};
 use crate::place::visible_size;
-use v_frame_layout::geometry::PlaneGeometry;
 use v_frame_layout::pixel::Pixel;
 
 impl<T: Pixel> Plane<T> {
@@ -28,7 +26,16 @@ impl<T: Pixel> Plane<T> {
         ensures source { OnOk result (row_major (table_of self.new) ≡ src.now) }
     {
         let geometry = self.geometry;
-        copy_pixels(geometry, self.buffer.as_mut_slice(), src)
+        let expected = visible_size(geometry);
+        if src.len() != expected {
+            return Err(CopyError::DataLength {
+                expected,
+                found: src.len(),
+            });
+        }
+        let buffer = self.buffer.as_mut_slice();
+        write_rows::<T, AsPixels>(geometry, buffer, src, geometry.width());
+        Ok(())
     }
 
     /// Replaces the visible pixels by those whose bytes are `src`, row after row, low byte first. The border stays.
@@ -44,8 +51,8 @@ impl<T: Pixel> Plane<T> {
             (packed_byte_copy T.form (table_of self.old) src.now) }
         ensures source { OnOk result (byte_list T.form (table_of self.new) ≡ src.now) }
     {
-        let geometry = self.geometry;
-        copy_packed_bytes(geometry, self.buffer.as_mut_slice(), src)
+        let stride = self.geometry.width() * T::BYTES;
+        self.copy_from_u8_slice_with_stride(src, stride)
     }
 
     /// Replaces the visible pixels by those of a source with a stride: the bytes of row `y` stand from `stride * y` on,
@@ -70,73 +77,19 @@ impl<T: Pixel> Plane<T> {
             (piece_fronts (width_of table * T.form.size) stride (height_of table) src.now)) }
     {
         let geometry = self.geometry;
-        copy_strided_bytes(geometry, self.buffer.as_mut_slice(), src, stride)
+        let width = geometry.width();
+        if stride < width * T::BYTES {
+            return Err(CopyError::InvalidStride { stride, width });
+        }
+        let expected = stride.checked_mul(geometry.height());
+        if expected != Some(src.len()) {
+            return Err(CopyError::DataLength {
+                expected: expected.unwrap_or(usize::MAX),
+                found: src.len(),
+            });
+        }
+        let buffer = self.buffer.as_mut_slice();
+        write_rows::<T, AsBytes>(geometry, buffer, src, stride);
+        Ok(())
     }
-}
-
-/// Writes the visible rows from pixels, row after row, or refuses them and writes nothing.
-fn copy_pixels<T: Copy>(
-    geometry: PlaneGeometry,
-    buffer: &mut [T],
-    src: &[T],
-) -> Result<(), CopyError>
-    requires { IsWhole geometry buffer.old }
-    ensures copied { let old = raster geometry buffer.old in let new = raster geometry buffer.new in
-        Copies old new result (packed_copy (table_of old) src.now) }
-    ensures source { OnOk result (row_major (table_of (raster geometry buffer.new)) ≡ src.now) }
-{
-    let expected = visible_size(geometry);
-    if src.len() != expected {
-        return Err(CopyError::DataLength {
-            expected,
-            found: src.len(),
-        });
-    }
-    write_rows::<T, AsPixels>(geometry, buffer, src, geometry.width());
-    Ok(())
-}
-
-/// Writes the visible rows from bytes without tails, or refuses them and writes nothing.
-fn copy_packed_bytes<T: Pixel>(
-    geometry: PlaneGeometry,
-    buffer: &mut [T],
-    src: &[u8],
-) -> Result<(), CopyError>
-    requires { IsWhole geometry buffer.old }
-    ensures copied { let old = raster geometry buffer.old in let new = raster geometry buffer.new in
-        Copies old new result (packed_byte_copy T.form (table_of old) src.now) }
-    ensures source { OnOk result
-        (byte_list T.form (table_of (raster geometry buffer.new)) ≡ src.now) }
-{
-    let stride = geometry.width() * T::BYTES;
-    copy_strided_bytes(geometry, buffer, src, stride)
-}
-
-/// Writes the visible rows from bytes with a stride, or refuses them and writes nothing.
-fn copy_strided_bytes<T: Pixel>(
-    geometry: PlaneGeometry,
-    buffer: &mut [T],
-    src: &[u8],
-    stride: usize,
-) -> Result<(), CopyError>
-    requires { IsWhole geometry buffer.old }
-    ensures copied { let old = raster geometry buffer.old in let new = raster geometry buffer.new in
-        Copies old new result (strided_copy T.form (table_of old) src.now stride) }
-    ensures source { let table = table_of (raster geometry buffer.old) in
-        OnOk result (byte_list T.form (table_of (raster geometry buffer.new))
-        ≡ row_major (piece_fronts (width_of table * T.form.size) stride (height_of table) src.now)) }
-{
-    let width = geometry.width();
-    if stride < width * T::BYTES {
-        return Err(CopyError::InvalidStride { stride, width });
-    }
-    let expected = stride.checked_mul(geometry.height());
-    if expected != Some(src.len()) {
-        return Err(CopyError::DataLength {
-            expected: expected.unwrap_or(usize::MAX),
-            found: src.len(),
-        });
-    }
-    write_rows::<T, AsBytes>(geometry, buffer, src, stride);
-    Ok(())
 }

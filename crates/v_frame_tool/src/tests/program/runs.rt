@@ -3,10 +3,8 @@
 use crate::counted::Counted;
 use crate::fault::ToolFault;
 use crate::run::run;
-use crate::tests::support::errors::other_length;
 use crate::tests::support::writers::{Habit, Stubborn, at_first, slow_writer};
 use std::io::Cursor;
-use v_frame::frame::FrameError;
 
 /// The pixels 1 to 8.
 const EIGHT: [u8; 8] = [1, 2, 3, 4, 5, 6, 7, 8];
@@ -28,13 +26,6 @@ fn prints(rt: &HostRuntime, source: &[u8], wanted: &[u8]) -> bool {
     answer == Ok(()) && text.get(..end) == Some(wanted)
 }
 
-/// Whether `run` refuses this source for its length and writes nothing.
-fn prints_nothing(rt: &HostRuntime, source: &[u8], length: usize) -> bool {
-    let (answer, end, text) = written(rt, source);
-    let refused = ToolFault::Copy(other_length(8, length));
-    (answer, end, text) == (Err(refused), 0, [0; 64])
-}
-
 #[test]
 fn rows_are_printed(rt: HostRuntime) {
     let cases = [
@@ -50,15 +41,6 @@ fn rows_are_printed(rt: HostRuntime) {
     ];
     for (source, wanted) in cases {
         assert!(rt; prints(&rt, &source, wanted));
-    }
-}
-
-#[test]
-fn a_source_of_another_length_prints_nothing(rt: HostRuntime) {
-    for length in [7, 0, 9, 16] {
-        let source = [9; 16];
-        let source = source.get(..length).expect(&rt, "so many pixels");
-        assert!(rt; prints_nothing(&rt, source, length), "{length} pixels");
     }
 }
 
@@ -113,17 +95,5 @@ fn a_slow_writer_gets_all_until_it_fails(rt: HostRuntime) {
         let taken = &out.inner().taken;
         assert_eq!(rt; taken.position() as usize, calls);
         assert!(rt; taken.get_ref().get(..calls) == PRINTED.get(..calls));
-    }
-}
-
-#[test]
-fn a_program_without_memory_says_so(rt: HostRuntime) {
-    let mut out = Counted::new(Cursor::new([0u8; 64]));
-    match run(rt.alloc(), &mut out, &EIGHT) {
-        Ok(()) => assert_eq!(rt; out.inner().position(), 31),
-        Err(fault) => {
-            let frame = ToolFault::Frame(FrameError::OutOfMemory);
-            assert!(rt; fault == frame || fault == ToolFault::OutOfMemory);
-        }
     }
 }

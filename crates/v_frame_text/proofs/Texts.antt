@@ -6,7 +6,7 @@ use Rattle.v_frame.specs.declared.replay.answer.Answer.TheVariants.{Copied, Numb
 use Rattle.v_frame_planar.specs.Counted.{Watched, StopsWriting}
 use Rattle.v_frame_planar.specs.declared.counted.WriteFault.{WriteFault}
 use Rattle.v_frame_planar.specs.declared.counted.WriteFault.TheVariants.{Failed, TookNothing}
-use Rattle.v_frame_tool.specs.Run.{blank_tables, calls_on, tool_fault_of, LeavesWriter}
+use Rattle.v_frame_text.specs.Run.{blank_tables, calls_on, tool_fault_of, LeavesWriter}
 
 pub after_copy : (source : List ℕ) (rest : List (Answer ℕ)) (copied : Result (Unit {0}) CopyError) → is_ok copied ≡ true → answers_to one_byte (calls_on source) blank_tables ≡ Copied copied ∷ rest
     → rest ≡ Number (length (take 4 source)) ∷ Number 2 ∷ RowShown (Some (take 4 source)) ∷ RowShown (Some (take 4 (drop 4 source))) ∷ []

@@ -1,10 +1,10 @@
 -- What is written is the text of the answers, which are those of an accepted copy.
 use Rattle.std.proofs.Common.{ℕ, ◌≡◌, List, ◌∙◌, sym, ap, subst, take, drop, length, is_ok, rules}
 use Rattle.v_frame.specs.Prelude.{cut_rows}
-use Rattle.v_frame_tool.specs.Printed.{text_of_table}
-use Rattle.v_frame_tool.specs.Run.{tool_fault_of, LeavesWriter}
-use Rattle.v_frame_tool.proofs.Texts.{after_copy, leaves_writer}
-use Rattle.v_frame_tool.proofs.run.run.Goals as goal
+use Rattle.v_frame_text.specs.Printed.{text_of_table}
+use Rattle.v_frame_text.specs.Run.{tool_fault_of, LeavesWriter}
+use Rattle.v_frame_text.proofs.Texts.{after_copy, leaves_writer}
+use Rattle.v_frame_text.proofs.run.run.Goals as goal
 
 pub returns-clause-ok : goal.returns-clause-ok
 returns-clause-ok g c =

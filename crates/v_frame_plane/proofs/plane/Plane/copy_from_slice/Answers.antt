@@ -1,42 +1,45 @@
 -- The copy is decided by the sizes of the plane, which are those of its table.
-use Rattle.std.proofs.Common.{◌≡◌, ◌*◌, List, map, refl, ap, ◌∙◌, sym}
+use Rattle.std.proofs.Common.{◌≡◌, ◌*◌, List, length, map, refl, ap, ◌∙◌, sym}
 use Rattle.v_frame_layout.specs.Table.{row_major, cut_rows}
-use Rattle.v_frame_plane.specs.Plane.{Raster, raster}
+use Rattle.v_frame_plane.specs.Plane.{Raster, raster, table_of, border_of}
 use Rattle.v_frame_plane.specs.Copy.{CopyOutcome, piece_fronts}
 use Rattle.v_frame_plane.proofs.CopyLemmas.{copy_refused, copy_accepted, row_major-cut_rows}
+use Rattle.v_frame_plane.proofs.Lists.{refill_same}
 use Rattle.v_frame_plane.proofs.Sources.{rows_of_packed}
-use Rattle.v_frame_plane.proofs.plane.copies.copy_pixels.Goals as goal
+use Rattle.v_frame_plane.proofs.plane.Plane.copy_from_slice.Goals as goal
 
 pub returns-then-src-expected-clause-copied : goal.returns-then-src-expected-clause-copied
 returns-then-src-expected-clause-copied g c =
-    let p : Raster g.row.T.Denot = raster c.args.geometry c.args.buffer.now in
+    let p : Raster g.row.T.Denot = raster c.self.inside.geometry c.self.inside.buffer in
     let size = c.visible_size-expected.ensures in
-    let refused = copy_refused p c.args.src.now c.visible_size-expected.result size.valid.high c.requires.whole size.value c.if-src-expected.true in
-    record {
+    let refused = copy_refused p c.args.src.now c.visible_size-expected.result size.valid.high c.self.invariant.whole size.value c.if-src-expected.true in
+    rw (← c.self.view_is) (record {
       answer = sym (ap (λ (o : CopyOutcome g.row.T.Denot). o.answer) refused);
       table = sym (ap (λ (o : CopyOutcome g.row.T.Denot). o.table) refused);
       border = refl;
       geometry = refl;
       refused = refl;
-    }
+    })
 
 pub returns : goal.returns
 returns g c =
-    let k = c.args.geometry in
+    let k = c.self.inside.geometry in
     let source = c.args.src.now in
-    let p : Raster g.row.T.Denot = raster k c.args.buffer.now in
+    let p : Raster g.row.T.Denot = raster k c.self.inside.buffer in
     let size = c.visible_size-expected.ensures in
-    let accepted = copy_accepted p source c.visible_size-expected.result size.valid.high c.requires.whole size.value c.if-src-expected.false in
+    let accepted = copy_accepted p source c.visible_size-expected.result size.valid.high c.self.invariant.whole size.value c.if-src-expected.false in
     let packed : map (λ (row : List g.row.T.Denot). row) (piece_fronts (k.width * 1) c.width.result k.height source) ≡ cut_rows k.width k.height source =
     ap (λ stride. map (λ (row : List g.row.T.Denot). row) (piece_fronts (k.width * 1) stride k.height source)) c.width.ensures.value ∙ rows_of_packed k.width k.height source in
-    let rows = c.write_rows.ensures.table ∙ packed in
-    record {
+    let entries = c.as_mut_slice-buffer.ensures.value in
+    let left = refill_same c.self.inside.buffer c.write_rows.new.buffer (c.write_rows.auto.buffer ∙ ap length entries) in
+    let rows = ap (λ (b : List g.row.T.Denot). table_of (raster k b)) left ∙ c.write_rows.ensures.table ∙ packed in
+    rw (← c.self.view_is) (record {
       copied = record {
         answer = sym (ap (λ (o : CopyOutcome g.row.T.Denot). o.answer) accepted);
         table = rows ∙ sym (ap (λ (o : CopyOutcome g.row.T.Denot). o.table) accepted);
-        border = c.write_rows.ensures.border;
+        border = ap (λ (b : List g.row.T.Denot). border_of (raster k b)) left ∙ c.write_rows.ensures.border ∙ ap (λ (b : List g.row.T.Denot). border_of (raster k b)) entries;
         geometry = refl;
         refused = tt;
       };
       source = ap row_major rows ∙ row_major-cut_rows k.width k.height source (c.if-src-expected.false ∙ size.value);
-    }
+    })

@@ -7,8 +7,8 @@ use Rattle.v_frame.specs.declared.frame.error.FrameError.TheVariants.{OutOfMemor
 use Rattle.v_frame_planar.specs.Counted.{Watched, HasFailed, AppendsBeginning}
 use Rattle.v_frame_planar.specs.declared.counted.WriteFault.{WriteFault}
 use Rattle.v_frame_planar.specs.declared.counted.WriteFault.TheVariants.{Failed, TookNothing}
-use Rattle.v_frame_tool.specs.declared.fault.ToolFault.{ToolFault}
-use Rattle.v_frame_tool.specs.declared.fault.ToolFault.TheVariants.{Frame, Copy, OutOfMemory, Output, WriteZero}
+use Rattle.v_frame_text.specs.declared.fault.ToolFault.{ToolFault}
+use Rattle.v_frame_text.specs.declared.fault.ToolFault.TheVariants.{Frame, Copy, OutOfMemory, Output, WriteZero}
 
 -- a luma plane of 4 by 2 zeros, and no other plane
 abbrev pub blank_tables : Tables ℕ

@@ -1,0 +1,30 @@
+//! A small frame that is written as text.
+
+use crate::outcome::Outcome;
+use std::alloc::Global;
+use v_frame::frame::FrameError;
+use v_frame_planar::Counted;
+use v_frame_text::fault::ToolFault;
+use v_frame_text::run::run;
+
+/// What is written of the pixels 1 to 8.
+const WRITTEN: [u8; 31] = *b"plane 0: 4 x 2\n1 2 3 4\n5 6 7 8\n";
+
+/// Eight pixels are written into room of a fixed length, which takes no memory itself. Where memory is refused, nothing was
+/// written, and no write failed.
+pub fn run_into_a_fixed_slice(alloc: Global) -> Outcome {
+    let mut room = [0; 40];
+    let mut out = Counted::new(room.as_mut_slice());
+    let answer = run(alloc, &mut out, &[1, 2, 3, 4, 5, 6, 7, 8]);
+    let left = out.inner().len();
+    let failures = out.failures();
+    drop(out);
+    let text = room.get(..40 - left.min(40));
+    match answer {
+        Ok(()) => Outcome::done(failures == 0 && text == Some(WRITTEN.as_slice())),
+        Err(ToolFault::Frame(FrameError::OutOfMemory)) | Err(ToolFault::OutOfMemory) => {
+            Outcome::kept(failures == 0 && left == 40 && room == [0; 40])
+        }
+        Err(_) => Outcome::Wrong("another fault of the program"),
+    }
+}
