@@ -2,4 +2,5 @@ pub mod Chroma
 pub mod Geometry
 pub mod Laws
 pub mod Pixel
+pub mod PixelRows
 pub mod Table

@@ -1,0 +1,10 @@
+-- The lanes are absolute differences, and their sum fits.
+use Rattle.std.proofs.Common.{w16, w32, refl, ◌∙◌, lit<}
+use Rattle.v_frame_layout.proofs.RowLanes.{absolute_block_fits, absolute_block_sum}
+use Rattle.v_frame_layout.proofs.row_sums.AbsoluteDifferenceU16.of_blocks.Goals as goal
+
+pub overflow_add-differences : goal.overflow_add-differences
+overflow_add-differences c = absolute_block_fits w16 w32 65535 refl c.args.a.now c.args.b.now c.type_inv.a c.type_inv.b c.requires.first c.requires.second (lit< tt)
+
+pub returns : goal.returns
+returns c = c.from.ensures ∙ absolute_block_sum w16 w32 65535 refl c.args.a.now c.args.b.now c.type_inv.a c.type_inv.b c.requires.first c.requires.second
