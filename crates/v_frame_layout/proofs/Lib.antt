@@ -5,4 +5,5 @@ pub mod PixelBytes
 pub mod Plans
 pub mod RowLanes
 pub mod RowPairs
+pub mod TableSums
 pub mod Tables

@@ -105,3 +105,16 @@ module _ (w v : Width) (m : ℕ) (edge : 2 ^ bits w ≡ m + 1) (a b : List ℕ) 
   pub squared_block_sum : m * m < 2 ^ 32
       → let gaps = map (λ gap. gap) (gap_lanes w (take 32 a) (take 32 b)) in fold_l (λ sum x. sum + x) 0 (zip2 (λ x y. (x * y) % 2 ^ 32) gaps gaps) ≡ sum_by (λ p. squared_error p.0 p.1) (zip (take 32 a) (take 32 b))
   squared_block_sum narrow = rw (squares_are narrow, map_of_lanes (λ gap. gap * gap) abs_diff (take 32 a) (take 32 b)) (fold_of_lanes squared_error (take 32 a) (take 32 b))
+
+  -- the same, where they are widened before they are added
+  pub wide_squared_block_fits : m * m < 2 ^ 32 → m * m * 32 < 2 ^ bits v
+      → let gaps = map (λ gap. gap) (gap_lanes w (take 32 a) (take 32 b)) in Steps (λ sum x. Fits v (sum + x)) (λ sum x. sum + x) 0 (map (λ square. square) (zip2 (λ x y. (x * y) % 2 ^ 32) gaps gaps))
+  wide_squared_block_fits narrow room =
+      let gaps = map (λ (gap : ℕ). gap) (gap_lanes w (take 32 a) (take 32 b)) in
+      rw (map-id (zip2 (λ x y. (x * y) % 2 ^ 32) gaps gaps)) (squared_block_fits narrow room)
+
+  pub wide_squared_block_sum : m * m < 2 ^ 32
+      → let gaps = map (λ gap. gap) (gap_lanes w (take 32 a) (take 32 b)) in fold_l (λ sum x. sum + x) 0 (map (λ square. square) (zip2 (λ x y. (x * y) % 2 ^ 32) gaps gaps)) ≡ sum_by (λ p. squared_error p.0 p.1) (zip (take 32 a) (take 32 b))
+  wide_squared_block_sum narrow =
+      let gaps = map (λ (gap : ℕ). gap) (gap_lanes w (take 32 a) (take 32 b)) in
+      rw (map-id (zip2 (λ x y. (x * y) % 2 ^ 32) gaps gaps)) (squared_block_sum narrow)

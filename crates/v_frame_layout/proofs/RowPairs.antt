@@ -1,6 +1,9 @@
 -- Sums over the pairs of two lists, in pieces.
-use Rattle.std.proofs.Common.{ℕ, zero, suc, ◌≡◌, ◌+◌, ◌<◌, List, [], ◌∷◌, ◌++◌, length, take, drop, get_or, refl, arith}
+use Rattle.std.proofs.Common.{ℕ, zero, suc, ◌≡◌, ◌+◌, ◌*◌, ◌<◌, ◌≤◌, List, [], ◌∷◌, ◌++◌, length, take, drop, get_or, refl, arith}
 use Rattle.std.specs.Prelude.{sum_by, zip}
+use Rattle.std.specs.Int.{abs_diff}
+use Rattle.std.proofs.Math.Nat.{mul-le-mul}
+use Rattle.v_frame_layout.specs.PixelRows.{squared_error}
 use Rattle.std.specs.Simd.Lanes.{zip2, sum_l}
 use Rattle.std.proofs.lemmas.List.{drop_more, drop-drop}
 use Rattle.std.proofs.lemmas.List.Sums.{sum_by-cons}
@@ -46,3 +49,23 @@ pub sum_of_lanes : {X Y : Type 0} (f : X → Y → ℕ) (xs : List X) (ys : List
 sum_of_lanes f [] ys = refl
 sum_of_lanes f (x ∷ xs) [] = refl
 sum_of_lanes f (x ∷ xs) (y ∷ ys) = omega (arith, sum_of_lanes f xs ys, sum_by-cons (λ p. f p.0 p.1) (x, y) (zip xs ys))
+
+-- a sum over pairs of values below a size, of which each pair adds at most so much
+sum_of_pairs-at_most : (f : ℕ → ℕ → ℕ) (size most : ℕ) → ((x y : ℕ) → x < size → y < size → f x y ≤ most) → (xs ys : List ℕ) → ((k : ℕ) → get_or xs k 0 < size) → ((k : ℕ) → get_or ys k 0 < size)
+    → sum_by (λ p. f p.0 p.1) (zip xs ys) ≤ most * length xs
+sum_of_pairs-at_most f size most each [] ys small small1 = omega arith
+sum_of_pairs-at_most f size most each (x ∷ xs) [] small small1 = omega arith
+sum_of_pairs-at_most f size most each (x ∷ xs) (y ∷ ys) small small1 =
+    let rest = sum_of_pairs-at_most f size most each xs ys (λ k. small (suc k)) (λ k. small1 (suc k)) in
+    let long : most * length (x ∷ xs) ≡ most + most * length xs = omega arith in
+    omega (arith, long, rest, each x y (small 0) (small1 0), sum_by-cons (λ p. f p.0 p.1) (x, y) (zip xs ys))
+
+-- sums over pairs of values of 16 bits
+module _ (xs ys : List ℕ) (small : (k : ℕ) → get_or xs k 0 < 65536) (small1 : (k : ℕ) → get_or ys k 0 < 65536) where
+  pub differences-at_most : sum_by (λ p. abs_diff p.0 p.1) (zip xs ys) ≤ 65536 * length xs
+  differences-at_most = sum_of_pairs-at_most abs_diff 65536 65536 (λ x y h h1. omega arith) xs ys small small1
+
+  pub squares-at_most : sum_by (λ p. squared_error p.0 p.1) (zip xs ys) ≤ 4294967296 * length xs
+  squares-at_most =
+      let gap : (x y : ℕ) → x < 65536 → y < 65536 → abs_diff x y ≤ 65536 = λ x y h h1. omega arith in
+      sum_of_pairs-at_most squared_error 65536 4294967296 (λ x y h h1. mul-le-mul (gap x y h h1) (gap x y h h1)) xs ys small small1

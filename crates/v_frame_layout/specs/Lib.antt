@@ -4,3 +4,4 @@ pub mod Laws
 pub mod Pixel
 pub mod PixelRows
 pub mod Table
+pub mod WorkedPixelRows

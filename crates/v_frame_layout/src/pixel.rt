@@ -89,12 +89,14 @@ pub trait Pixel: Copy
     /// The sum of the absolute differences of two rows, which must be equally long. It is always exact.
     fn sum_of_absolute_differences(a: &[Self], b: &[Self]) -> u128
         requires { length a.now ≡ length b.now }
-        ensures { result ≡ absolute_differences form.value a.now b.now };
+        ensures value { result ≡ absolute_differences form.value a.now b.now }
+        ensures fits { result ≤ 2 ^ 16 * length a.now };
 
     /// The sum of the squares of the differences of two rows, which must be equally long. It is always exact.
     fn sum_of_squared_errors(a: &[Self], b: &[Self]) -> u128
         requires { length a.now ≡ length b.now }
-        ensures { result ≡ squared_errors form.value a.now b.now };
+        ensures value { result ≡ squared_errors form.value a.now b.now }
+        ensures fits { result ≤ 2 ^ 32 * length a.now };
 
     /// Makes one row of half the size of two: each pixel of `dst` becomes the mean of the block of two by two at its
     /// place in `top` and `bottom`, rounded, and a half upwards. Both must be twice as long as `dst`.
