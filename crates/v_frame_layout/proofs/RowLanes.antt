@@ -64,57 +64,57 @@ map_of_lanes g f (x ∷ xs) (y ∷ ys) = ap (λ lanes. g (f x y) ∷ lanes) (map
 fold_of_lanes : (f : ℕ → ℕ → ℕ) (xs ys : List ℕ) → fold_l (λ sum x. sum + x) 0 (zip2 f xs ys) ≡ sum_by (λ p. f p.0 p.1) (zip xs ys)
 fold_of_lanes f xs ys = fold-sum 0 (zip2 f xs ys) ∙ zero-add (sum_l (zip2 f xs ys)) ∙ sum_of_lanes f xs ys
 
--- the sums of a block of 32 lanes, of values up to m in the width w: they fit the width v, and are those over pairs
-module _ (w v : Width) (m : ℕ) (edge : 2 ^ bits w ≡ m + 1) (a b : List ℕ) (fits : (k : ℕ) → Fits w (get_or a k 0)) (fits1 : (k : ℕ) → Fits w (get_or b k 0)) (long : 32 ≤ length a) (long1 : 32 ≤ length b) where
-  is : gap_lanes w (take 32 a) (take 32 b) ≡ zip2 abs_diff (take 32 a) (take 32 b)
-  is = gap_lanes_is w (take 32 a) (take 32 b) (below_from_Fits w _ (chunk-fits w 0 32 a fits)) (below_from_Fits w _ (chunk-fits w 0 32 b fits1))
+-- the sums of a block of n lanes, of values up to m in the width w: they fit the width v, and are those over pairs
+module _ (w v : Width) (m n : ℕ) (edge : 2 ^ bits w ≡ m + 1) (a b : List ℕ) (fits : (k : ℕ) → Fits w (get_or a k 0)) (fits1 : (k : ℕ) → Fits w (get_or b k 0)) (long : n ≤ length a) (long1 : n ≤ length b) where
+  is : gap_lanes w (take n a) (take n b) ≡ zip2 abs_diff (take n a) (take n b)
+  is = gap_lanes_is w (take n a) (take n b) (below_from_Fits w _ (chunk-fits w 0 n a fits)) (below_from_Fits w _ (chunk-fits w 0 n b fits1))
 
-  at_most : Each1 (λ gap. gap ≤ m) (zip2 abs_diff (take 32 a) (take 32 b))
+  at_most : Each1 (λ gap. gap ≤ m) (zip2 abs_diff (take n a) (take n b))
   at_most =
-      let small = rw edge at (below_from_Fits w _ (chunk-fits w 0 32 a fits)) in
-      let small1 = rw edge at (below_from_Fits w _ (chunk-fits w 0 32 b fits1)) in
-      gaps_at_most m (take 32 a) (take 32 b) small small1
+      let small = rw edge at (below_from_Fits w _ (chunk-fits w 0 n a fits)) in
+      let small1 = rw edge at (below_from_Fits w _ (chunk-fits w 0 n b fits1)) in
+      gaps_at_most m (take n a) (take n b) small small1
 
-  count : length (zip2 abs_diff (take 32 a) (take 32 b)) ≡ 32
+  count : length (zip2 abs_diff (take n a) (take n b)) ≡ n
   count =
-      let first = length-take-le 32 a long in
-      length-zip2 abs_diff (take 32 a) (take 32 b) (first ∙ sym (length-take-le 32 b long1)) ∙ first
+      let first = length-take-le n a long in
+      length-zip2 abs_diff (take n a) (take n b) (first ∙ sym (length-take-le n b long1)) ∙ first
 
-  pub absolute_block_fits : m * 32 < 2 ^ bits v → Steps (λ sum x. Fits v (sum + x)) (λ sum x. sum + x) 0 (map (λ gap. gap) (gap_lanes w (take 32 a) (take 32 b)))
+  pub absolute_block_fits : m * n < 2 ^ bits v → Steps (λ sum x. Fits v (sum + x)) (λ sum x. sum + x) 0 (map (λ gap. gap) (gap_lanes w (take n a) (take n b)))
   absolute_block_fits room =
-      let gaps = zip2 abs_diff (take 32 a) (take 32 b) in
-      rw (is, map-id gaps) (sum_fits v 0 gaps (omega (arith, sum_bound m gaps at_most, ap (λ n. m * n) count, room)))
+      let gaps = zip2 abs_diff (take n a) (take n b) in
+      rw (is, map-id gaps) (sum_fits v 0 gaps (omega (arith, sum_bound m gaps at_most, ap (λ k. m * k) count, room)))
 
-  pub absolute_block_sum : fold_l (λ sum x. sum + x) 0 (map (λ gap. gap) (gap_lanes w (take 32 a) (take 32 b))) ≡ sum_by (λ p. abs_diff p.0 p.1) (zip (take 32 a) (take 32 b))
-  absolute_block_sum = rw (is, map-id (zip2 abs_diff (take 32 a) (take 32 b))) (fold_of_lanes abs_diff (take 32 a) (take 32 b))
+  pub absolute_block_sum : fold_l (λ sum x. sum + x) 0 (map (λ gap. gap) (gap_lanes w (take n a) (take n b))) ≡ sum_by (λ p. abs_diff p.0 p.1) (zip (take n a) (take n b))
+  absolute_block_sum = rw (is, map-id (zip2 abs_diff (take n a) (take n b))) (fold_of_lanes abs_diff (take n a) (take n b))
 
   -- with squares that are made in 32 bits
-  squares_are : m * m < 2 ^ 32 → let gaps = map (λ gap. gap) (gap_lanes w (take 32 a) (take 32 b)) in zip2 (λ x y. (x * y) % 2 ^ 32) gaps gaps ≡ map (λ gap. gap * gap) (zip2 abs_diff (take 32 a) (take 32 b))
+  squares_are : m * m < 2 ^ 32 → let gaps = map (λ gap. gap) (gap_lanes w (take n a) (take n b)) in zip2 (λ x y. (x * y) % 2 ^ 32) gaps gaps ≡ map (λ gap. gap * gap) (zip2 abs_diff (take n a) (take n b))
   squares_are narrow =
-      let gaps = zip2 abs_diff (take 32 a) (take 32 b) in
+      let gaps = zip2 abs_diff (take n a) (take n b) in
       rw (is, map-id gaps) (wrapped_squares (2 ^ 32) m narrow gaps at_most)
 
-  pub squared_block_fits : m * m < 2 ^ 32 → m * m * 32 < 2 ^ bits v
-      → let gaps = map (λ gap. gap) (gap_lanes w (take 32 a) (take 32 b)) in Steps (λ sum x. Fits v (sum + x)) (λ sum x. sum + x) 0 (zip2 (λ x y. (x * y) % 2 ^ 32) gaps gaps)
+  pub squared_block_fits : m * m < 2 ^ 32 → m * m * n < 2 ^ bits v
+      → let gaps = map (λ gap. gap) (gap_lanes w (take n a) (take n b)) in Steps (λ sum x. Fits v (sum + x)) (λ sum x. sum + x) 0 (zip2 (λ x y. (x * y) % 2 ^ 32) gaps gaps)
   squared_block_fits narrow room =
-      let gaps = zip2 abs_diff (take 32 a) (take 32 b) in
+      let gaps = zip2 abs_diff (take n a) (take n b) in
       let squares = map (λ gap. gap * gap) gaps in
-      let many : length squares ≡ 32 = length-map gaps (λ gap. gap * gap) ∙ count in
-      rw (squares_are narrow) (sum_fits v 0 squares (omega (arith, sum_bound (m * m) squares (squares_at_most m gaps at_most), ap (λ n. m * m * n) many, room)))
+      let many : length squares ≡ n = length-map gaps (λ gap. gap * gap) ∙ count in
+      rw (squares_are narrow) (sum_fits v 0 squares (omega (arith, sum_bound (m * m) squares (squares_at_most m gaps at_most), ap (λ k. m * m * k) many, room)))
 
   pub squared_block_sum : m * m < 2 ^ 32
-      → let gaps = map (λ gap. gap) (gap_lanes w (take 32 a) (take 32 b)) in fold_l (λ sum x. sum + x) 0 (zip2 (λ x y. (x * y) % 2 ^ 32) gaps gaps) ≡ sum_by (λ p. squared_error p.0 p.1) (zip (take 32 a) (take 32 b))
-  squared_block_sum narrow = rw (squares_are narrow, map_of_lanes (λ gap. gap * gap) abs_diff (take 32 a) (take 32 b)) (fold_of_lanes squared_error (take 32 a) (take 32 b))
+      → let gaps = map (λ gap. gap) (gap_lanes w (take n a) (take n b)) in fold_l (λ sum x. sum + x) 0 (zip2 (λ x y. (x * y) % 2 ^ 32) gaps gaps) ≡ sum_by (λ p. squared_error p.0 p.1) (zip (take n a) (take n b))
+  squared_block_sum narrow = rw (squares_are narrow, map_of_lanes (λ gap. gap * gap) abs_diff (take n a) (take n b)) (fold_of_lanes squared_error (take n a) (take n b))
 
   -- the same, where they are widened before they are added
-  pub wide_squared_block_fits : m * m < 2 ^ 32 → m * m * 32 < 2 ^ bits v
-      → let gaps = map (λ gap. gap) (gap_lanes w (take 32 a) (take 32 b)) in Steps (λ sum x. Fits v (sum + x)) (λ sum x. sum + x) 0 (map (λ square. square) (zip2 (λ x y. (x * y) % 2 ^ 32) gaps gaps))
+  pub wide_squared_block_fits : m * m < 2 ^ 32 → m * m * n < 2 ^ bits v
+      → let gaps = map (λ gap. gap) (gap_lanes w (take n a) (take n b)) in Steps (λ sum x. Fits v (sum + x)) (λ sum x. sum + x) 0 (map (λ square. square) (zip2 (λ x y. (x * y) % 2 ^ 32) gaps gaps))
   wide_squared_block_fits narrow room =
-      let gaps = map (λ (gap : ℕ). gap) (gap_lanes w (take 32 a) (take 32 b)) in
+      let gaps = map (λ (gap : ℕ). gap) (gap_lanes w (take n a) (take n b)) in
       rw (map-id (zip2 (λ x y. (x * y) % 2 ^ 32) gaps gaps)) (squared_block_fits narrow room)
 
   pub wide_squared_block_sum : m * m < 2 ^ 32
-      → let gaps = map (λ gap. gap) (gap_lanes w (take 32 a) (take 32 b)) in fold_l (λ sum x. sum + x) 0 (map (λ square. square) (zip2 (λ x y. (x * y) % 2 ^ 32) gaps gaps)) ≡ sum_by (λ p. squared_error p.0 p.1) (zip (take 32 a) (take 32 b))
+      → let gaps = map (λ gap. gap) (gap_lanes w (take n a) (take n b)) in fold_l (λ sum x. sum + x) 0 (map (λ square. square) (zip2 (λ x y. (x * y) % 2 ^ 32) gaps gaps)) ≡ sum_by (λ p. squared_error p.0 p.1) (zip (take n a) (take n b))
   wide_squared_block_sum narrow =
-      let gaps = map (λ (gap : ℕ). gap) (gap_lanes w (take 32 a) (take 32 b)) in
+      let gaps = map (λ (gap : ℕ). gap) (gap_lanes w (take n a) (take n b)) in
       rw (map-id (zip2 (λ x y. (x * y) % 2 ^ 32) gaps gaps)) (squared_block_sum narrow)

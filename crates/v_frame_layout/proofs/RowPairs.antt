@@ -1,11 +1,11 @@
 -- Sums over the pairs of two lists, in pieces.
-use Rattle.std.proofs.Common.{ℕ, zero, suc, ◌≡◌, ◌+◌, ◌*◌, ◌<◌, ◌≤◌, List, [], ◌∷◌, ◌++◌, length, take, drop, get_or, refl, arith}
+use Rattle.std.proofs.Common.{ℕ, zero, suc, ◌≡◌, ◌+◌, ◌-◌, ◌*◌, ◌<◌, ◌≤◌, List, [], ◌∷◌, ◌++◌, length, take, drop, get_or, refl, arith}
 use Rattle.std.specs.Prelude.{sum_by, zip}
 use Rattle.std.specs.Int.{abs_diff}
 use Rattle.std.proofs.Math.Nat.{mul-le-mul}
 use Rattle.v_frame_layout.specs.PixelRows.{squared_error}
 use Rattle.std.specs.Simd.Lanes.{zip2, sum_l}
-use Rattle.std.proofs.lemmas.List.{drop_more, drop-drop}
+use Rattle.std.proofs.lemmas.List.{drop_more, drop-drop, take_rest}
 use Rattle.std.proofs.lemmas.List.Sums.{sum_by-cons}
 
 module _ {X : Type 0} (Y : Type 0) where
@@ -23,11 +23,12 @@ module _ {X Y : Type 0} (of : X × Y → ℕ) where
       omega (arith, sum_of_pairs-split n xs ys, sum_by-cons of (x, y) (zip xs ys), sum_by-cons of (x, y) (zip (take n xs) (take n ys)))
 
   -- a loop over two lists in pieces, one step on
-  pub sum_of_pairs-piece_more : (at n so_far piece whole : ℕ) (xs : List X) (ys : List Y) → piece ≡ sum_by of (zip (take n (drop at xs)) (take n (drop at ys)))
+  pub sum_of_pairs-piece_more : (at n so_far piece whole : ℕ) (xs : List X) (ys : List Y) → piece ≡ sum_by of (zip (take n (take (length xs - at) (drop at xs))) (take n (take (length ys - at) (drop at ys))))
       → so_far + sum_by of (zip (drop at xs) (drop at ys)) ≡ whole → so_far + piece + sum_by of (zip (drop (at + n) xs) (drop (at + n) ys)) ≡ whole
   sum_of_pairs-piece_more at n so_far piece whole xs ys is invariant =
       let split = rw (drop-drop n at xs, drop-drop n at ys) at (sum_of_pairs-split n (drop at xs) (drop at ys)) in
-      omega (arith, split, is, invariant)
+      let here = rw (take_rest xs at, take_rest ys at) at is in
+      omega (arith, split, here, invariant)
 
   -- the same, where the piece is one pair
   pub sum_of_pairs-one_more : (i so_far whole : ℕ) (xs : List X) (ys : List Y) (x : X) (y : Y) → i < length xs → i < length ys
