@@ -1,11 +1,10 @@
--- Rows of half the size, in pieces, and in lanes of two neighbours.
-use Rattle.std.proofs.Common.{ℕ, zero, suc, ◌≡◌, ◌+◌, ◌*◌, ◌/◌, ◌%◌, ◌<◌, ◌≤◌, List, [], ◌∷◌, ◌++◌, length, take, drop, get_or, set, bit_and, refl, sym, ◌∙◌, ap, arith}
-use Rattle.std.specs.Simd.Lanes.{Each1, zip2, number_l, digits_l, put_chunk}
+-- Rows of half the size, in pieces.
+use Rattle.std.proofs.Common.{ℕ, zero, suc, ◌≡◌, ◌+◌, ◌-◌, ◌*◌, ◌<◌, ◌≤◌, List, [], ◌∷◌, ◌++◌, length, take, drop, get_or, set, refl, sym, ◌∙◌, ap, arith}
+use Rattle.std.specs.Simd.Lanes.{put_chunk}
 use Rattle.std.proofs.Math.Seq.{take-add}
-use Rattle.std.proofs.lemmas.List.{drop_more, take_more_set, length-take-le, length-drop}
+use Rattle.std.proofs.lemmas.List.{drop_more, take_more_set, length-take-le, length-drop, take_rest}
 use Rattle.std.proofs.lemmas.Simd.{take_more_put_chunk}
-use Rattle.std.proofs.lemmas.Nat.{and_mask}
-use Rattle.v_frame_layout.specs.Pixel.{PixelForm, one_byte}
+use Rattle.v_frame_layout.specs.Pixel.{PixelForm}
 use Rattle.v_frame_layout.specs.PixelRows.{halved, rounded_mean}
 
 module _ {T : Type 0} (form : PixelForm T) where
@@ -40,14 +39,15 @@ module _ {T : Type 0} (form : PixelForm T) where
       (halved-append n (take (2 * n) top) (take (2 * n) bottom) _ _ (length-take-le (2 * n) top (omega (arith, long))) (length-take-le (2 * n) bottom (omega (arith, long1))))
 
   -- a loop that writes a block of lanes at a time, one step on
-  pub halved-block_more : (at n : ℕ) (pixels top bottom lanes : List T) → at + n ≤ length pixels → length top ≡ 2 * length pixels → length bottom ≡ 2 * length pixels
-      → lanes ≡ halved form (take (2 * n) (drop (2 * at) top)) (take (2 * n) (drop (2 * at) bottom)) → take at pixels ≡ halved form (take (2 * at) top) (take (2 * at) bottom)
-      → take (at + n) (put_chunk at pixels lanes) ≡ halved form (take (2 * (at + n)) top) (take (2 * (at + n)) bottom)
-  halved-block_more at n pixels top bottom lanes room long long1 is so_far =
+  pub halved-block_more : (at from n : ℕ) (pixels top bottom lanes : List T) → from ≡ 2 * at → at + n ≤ length pixels → length top ≡ 2 * length pixels → length bottom ≡ 2 * length pixels
+      → lanes ≡ halved form (take (2 * n) (take (length top - from) (drop from top))) (take (2 * n) (take (length bottom - from) (drop from bottom)))
+      → take at pixels ≡ halved form (take (2 * at) top) (take (2 * at) bottom) → take (at + n) (put_chunk at pixels lanes) ≡ halved form (take (2 * (at + n)) top) (take (2 * (at + n)) bottom)
+  halved-block_more at from n pixels top bottom lanes double room long long1 is so_far =
+      let here = rw (take_rest top from, take_rest bottom from, double) at is in
       let first = length-take-le (2 * n) (drop (2 * at) top) (omega (arith, room, long, length-drop (2 * at) top)) in
       let second = length-take-le (2 * n) (drop (2 * at) bottom) (omega (arith, room, long1, length-drop (2 * at) bottom)) in
-      let count : length lanes ≡ n = ap length is ∙ length-halved n _ _ first second in
-      take_more_put_chunk at pixels lanes (at + n) (omega (arith, count)) room ∙ ap (λ front. front ++ lanes) so_far ∙ ap (λ back. halved form (take (2 * at) top) (take (2 * at) bottom) ++ back) is
+      let count : length lanes ≡ n = ap length here ∙ length-halved n _ _ first second in
+      take_more_put_chunk at pixels lanes (at + n) (omega (arith, count)) room ∙ ap (λ front. front ++ lanes) so_far ∙ ap (λ back. halved form (take (2 * at) top) (take (2 * at) bottom) ++ back) here
       ∙ sym (halved-fronts at n top bottom (omega (arith, room, long)) (omega (arith, room, long1)))
 
   -- a loop that writes a pixel at a time, one step on
@@ -57,33 +57,3 @@ module _ {T : Type 0} (form : PixelForm T) where
   halved-one_more i pixels top bottom pixel d room long long1 is so_far =
       let pair = rw (drop_more top (2 * i) d (omega (arith, room, long)), drop_more top (2 * i + 1) d (omega (arith, room, long)), drop_more bottom (2 * i) d (omega (arith, room, long1)), drop_more bottom (2 * i + 1) d (omega (arith, room, long1))) at (halved-fronts i 1 top bottom (omega (arith, room, long)) (omega (arith, room, long1))) in
       take_more_set pixels i pixel room ∙ ap (λ front. front ++ pixel ∷ []) so_far ∙ ap (λ p. halved form (take (2 * i) top) (take (2 * i) bottom) ++ p ∷ []) is ∙ sym pair
-
--- what a lane of two bytes, and the lane below, become
-abbrev lane_mean : ℕ → ℕ → ℕ
-lane_mean t b = ((((bit_and t 255 + t / 256) % 65536 + bit_and b 255) % 65536 + b / 256) % 65536 + 2) % 65536 / 4
-
-lane_mean_is : (a b c d : ℕ) → a < 256 → b < 256 → c < 256 → d < 256 → lane_mean (a + 256 * b) (c + 256 * d) ≡ rounded_mean a b c d
-lane_mean_is a b c d small small1 small2 small3 =
-    let low : bit_and (a + 256 * b) 255 ≡ a = and_mask (a + 256 * b) 8 ∙ omega (arith, small, small1) in
-    let low1 : bit_and (c + 256 * d) 255 ≡ c = and_mask (c + 256 * d) 8 ∙ omega (arith, small2, small3) in
-    let high : (a + 256 * b) / 256 ≡ b = omega (arith, small) in
-    let high1 : (c + 256 * d) / 256 ≡ d = omega (arith, small2) in
-    rw (low, low1, high, high1) (omega (arith, small, small1, small2, small3))
-
-pub halved_lanes : (n : ℕ) (top bottom : List ℕ) → 2 * n ≤ length top → 2 * n ≤ length bottom → Each1 (λ x. x < 256) top → Each1 (λ x. x < 256) bottom
-    → zip2 lane_mean (digits_l 65536 n (number_l 256 (take (2 * n) top))) (digits_l 65536 n (number_l 256 (take (2 * n) bottom))) ≡ halved one_byte (take (2 * n) top) (take (2 * n) bottom)
-halved_lanes zero top bottom long long1 small small1 = refl
-halved_lanes (suc n) [] bottom long long1 small small1 = absurd (omega (arith, long))
-halved_lanes (suc n) (a ∷ []) bottom long long1 small small1 = absurd (omega (arith, long))
-halved_lanes (suc n) (a ∷ b ∷ top) [] long long1 small small1 = absurd (omega (arith, long1))
-halved_lanes (suc n) (a ∷ b ∷ top) (c ∷ []) long long1 small small1 = absurd (omega (arith, long1))
-halved_lanes (suc n) (a ∷ b ∷ top) (c ∷ d ∷ bottom) long long1 small small1 =
-    let e : 2 * suc n ≡ suc (suc (2 * n)) = omega arith in
-    let rest : ℕ = number_l 256 (take (2 * n) top) in
-    let rest1 : ℕ = number_l 256 (take (2 * n) bottom) in
-    let first : (a + 256 * (b + 256 * rest)) % 65536 ≡ a + 256 * b = omega (arith, small) in
-    let left : (a + 256 * (b + 256 * rest)) / 65536 ≡ rest = omega (arith, small) in
-    let first1 : (c + 256 * (d + 256 * rest1)) % 65536 ≡ c + 256 * d = omega (arith, small1) in
-    let left1 : (c + 256 * (d + 256 * rest1)) / 65536 ≡ rest1 = omega (arith, small1) in
-    let mean = lane_mean_is a b c d small.0 small.1.0 small1.0 small1.1.0 in
-    rw (e, first, left, first1, left1, mean) (ap (λ pixels. rounded_mean a b c d ∷ pixels) (halved_lanes n top bottom (omega (arith, long)) (omega (arith, long1)) small.1.1 small1.1.1))

@@ -1,5 +1,6 @@
 pub mod ChromaLemmas
 pub mod Decoding
+pub mod HalfLanes
 pub mod HalfRows
 pub mod PixelBytes
 pub mod Plans
