@@ -34,6 +34,7 @@ pub mod RowDraws
 pub mod RowLoans
 pub mod RowMemory
 pub mod RowPairs
+pub mod RowWrites
 pub mod SecondRows
 pub mod Sources
 pub mod Steps

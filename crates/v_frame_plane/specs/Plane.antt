@@ -99,6 +99,8 @@ module _ {T : Type 0} where
     pub geometry : new.geometry ≡ old.geometry
     pub border : border_of new ≡ border_of old
     pub table : table_of new ≡ slice_set (table_of old) y row
+    pub written : slice_get (table_of new) y ≡ Some row
+    pub others : (k : ℕ) → k ≢ y → slice_get (table_of new) k ≡ slice_get (table_of old) k
 
   -- the plane with other entries where the visible pixels of row y lie
   abbrev pub with_row : Raster T → ℕ → List T → Raster T

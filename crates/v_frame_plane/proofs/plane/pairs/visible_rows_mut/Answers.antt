@@ -2,7 +2,8 @@
 use Rattle.std.proofs.Common.{◌<◌, refl, ap, ◌∙◌, arith}
 use Rattle.v_frame_plane.specs.Plane.{Raster, raster, with_two_parts}
 use Rattle.v_frame_layout.specs.Geometry.{place_of}
-use Rattle.v_frame_plane.proofs.RowPairs.{rows_apart, row_at, row_wide, writes_each_pair}
+use Rattle.v_frame_plane.proofs.RowPairs.{rows_apart, writes_each_pair}
+use Rattle.v_frame_plane.proofs.RowWrites.{row_at, row_wide}
 use Rattle.v_frame_plane.proofs.plane.pairs.visible_rows_mut.Goals as goal
 
 pub two_parts-requires-clause-order : goal.two_parts-requires-clause-order
