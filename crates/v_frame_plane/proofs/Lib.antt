@@ -29,6 +29,7 @@ pub mod PixelParts
 pub mod PixelRefills
 pub mod PixelsLetGo
 pub mod Places
+pub mod Regions
 pub mod RowCalls
 pub mod RowDraws
 pub mod RowLoans

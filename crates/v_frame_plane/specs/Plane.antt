@@ -3,7 +3,7 @@
 -- others.
 use Rattle.std.specs.Prelude.{ℕ, ◌≡◌, ◌≢◌, ◌+◌, All, List, [], ◌∷◌, ◌++◌, length, map, take, drop, replicate, Option, Some, IsSome, slice_get, slice_set}
 use Rattle.std.specs.List.{refill}
-use Rattle.v_frame_layout.specs.Geometry.{Geometry, Mark, Border, Visible, Piece, cutting_plan, place_of, alloc_size_of, Fits}
+use Rattle.v_frame_layout.specs.Geometry.{Geometry, Mark, Border, Visible, Piece, cutting_plan, place_of, alloc_size_of, whole_geometry, Fits}
 use Rattle.v_frame_layout.specs.Table.{with_pixel}
 
 -- a plane: its geometry, and its whole buffer, row after row from the top
@@ -58,6 +58,10 @@ module _ {T : Type 0} where
   -- its border, piece after piece
   abbrev pub border_of : Raster T → List (List T)
   border_of plane = border_pieces (picture plane)
+
+  -- the rows of its whole buffer, from the top, those of the border too
+  abbrev pub whole_rows : Raster T → List (List T)
+  whole_rows plane = table_of (raster (whole_geometry plane.geometry) plane.buffer)
 
   -- all of a plane that it does not show
   abbrev pub unshown : Raster T → Geometry × List (List T)
