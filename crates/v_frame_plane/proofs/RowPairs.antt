@@ -18,7 +18,7 @@ rows_apart g y z start next width order first second wide =
 module _ {T : Type 0} where
   -- two parts that are written at once are one that is written after the other
   pub parts_in_turn : (xs ys zs : List T) (start next width : ℕ) → start + width ≤ next → next + width ≤ length xs → length ys ≡ width → length zs ≡ width
-      → with_two_parts xs start next width ys zs ≡ overwritten (overwritten xs start ys) next zs
+      → with_two_parts xs start width next width ys zs ≡ overwritten (overwritten xs start ys) next zs
   parts_in_turn xs ys zs start next width order inside wide other_wide =
       let n : ℕ = next - (start + width) in
       let rest : List T = drop (start + width) xs in
@@ -54,7 +54,7 @@ module _ {T : Type 0} where
         let once : List T = overwritten xs start row in
         let long : length once ≡ length xs = length-overwritten xs row start (omega (arith, wide, within)) in
         let written : entries_with_rows p y z row other ≡ overwritten once next other =
-        ap (λ k. with_two_parts xs k (place_of g 0 z) g.width row other) first ∙ ap (λ k. with_two_parts xs start k g.width row other) second ∙
+        ap (λ k. with_two_parts xs k g.width (place_of g 0 z) g.width row other) first ∙ ap (λ k. with_two_parts xs start g.width k g.width row other) second ∙
         parts_in_turn xs row other start next g.width (rows_apart g y z start next g.width order (sym first) (sym second) refl) other_within wide other_wide in
         let kept = ap length written ∙ length-overwritten once other next (omega (arith, long, other_wide, other_within)) ∙ long in
         let left = refill_same xs (entries_with_rows p y z row other) kept ∙ written in

@@ -1,8 +1,10 @@
--- One row of a buffer: what is lent of it, and what the table is where it is written.
-use Rattle.std.proofs.Common.{ℕ, ◌≡◌, ◌+◌, ◌<◌, ◌≤◌, List, ◌++◌, length, take, drop, Some, slice_get, refl, sym, ◌∙◌, ap, arith, length-append, length-take-le, length-drop}
+-- One row of a buffer: what is lent of it, and of what lies behind it, and what the table is where the row is written.
+use Rattle.std.proofs.Common.{ℕ, ◌≡◌, ◌+◌, ◌-◌, ◌<◌, ◌≤◌, List, [], ◌++◌, length, take, drop, Some, slice_get, refl, sym, ◌∙◌, ap, subst, arith, append-nil, length-append, length-take-le, length-drop}
+use Rattle.std.proofs.lemmas.List.{drop-drop, drop_all}
+use Rattle.std.specs.List.{refill}
 use Rattle.std.proofs.lemmas.Option.{get_or_from_slice_get, slice_get_within}
 use Rattle.v_frame_layout.specs.Geometry.{alloc_size_of, place_of}
-use Rattle.v_frame_plane.specs.Plane.{Raster, raster, table_of, border_of, with_part, WritesEachRow}
+use Rattle.v_frame_plane.specs.Plane.{Raster, raster, table_of, border_of, with_part, with_two_parts, WritesRow, WritesEachRow, WritesEachFront}
 use Rattle.v_frame_plane.proofs.Lists.{refill_same, set_is_read, others_are_read}
 use Rattle.v_frame_layout.proofs.Plans.{row_start, place_of_row, row_within}
 use Rattle.v_frame_plane.proofs.Pictures.{shown_row, length-shown, overwritten, shown_overwritten, border_overwritten}
@@ -17,6 +19,14 @@ module _ {T : Type 0} where
   -- what is written inside a list keeps its length
   with_part-overwritten : (xs ys : List T) (start : ℕ) → start + length ys ≤ length xs → with_part xs start ys ≡ overwritten xs start ys
   with_part-overwritten xs ys start inside = refill_same xs (overwritten xs start ys) (length-overwritten xs ys start inside)
+
+  -- two parts that lie side by side, up to the end of a list
+  pub parts_to_the_end : (xs ys zs : List T) (start width : ℕ) → start + width ≤ length xs → with_two_parts xs start width (start + width) (length xs - (start + width)) ys zs ≡ take start xs ++ (ys ++ zs)
+  parts_to_the_end xs ys zs start width inside =
+      let end = start + width in
+      let between : drop end (take end xs) ≡ [] = drop_all end (take end xs) (omega (arith, length-take-le end xs inside)) in
+      let behind : drop (end + (length xs - end)) xs ≡ [] = drop_all (end + (length xs - end)) xs (omega (arith, inside)) in
+      ap (λ r. take start xs ++ (ys ++ (r ++ (zs ++ drop (end + (length xs - end)) xs)))) between ∙ ap (λ r. take start xs ++ (ys ++ (zs ++ r))) behind ∙ ap (λ r. take start xs ++ (ys ++ r)) (append-nil zs)
 
   module _ (p : Raster T) (whole : length p.buffer ≡ alloc_size_of p.geometry) where
     -- the part that is lent is the row of the table
@@ -45,3 +55,10 @@ module _ {T : Type 0} where
           written = ap (λ t. slice_get t y) shown ∙ set_is_read (table_of p) y row (omega (arith, high, length-shown p));
           others = λ k from_y. ap (λ t. slice_get t k) shown ∙ others_are_read (table_of p) y k row from_y;
         }
+
+    -- and so does one in front of the rest of the buffer
+    pub writes_each_front : (y : ℕ) (old rest : List T) → y < p.geometry.height → slice_get (table_of p) y ≡ Some old → rest ≡ drop (place_of p.geometry 0 y + p.geometry.width) p.buffer → WritesEachFront p y old rest
+    writes_each_front y old rest high is behind = λ row same.
+        let xs = p.buffer in let start = place_of p.geometry 0 y in
+        let kept : drop (length row) (drop start xs) ≡ rest = drop-drop (length row) start xs ∙ ap (λ n. drop (start + n) xs) (same ∙ row_wide y old is) ∙ sym behind in
+        subst (λ r. WritesRow p y (raster p.geometry (refill (length xs) xs (take start xs ++ (row ++ r)))) row) kept (writes_each_row y old high is row same)
