@@ -1,5 +1,5 @@
 //! Pixels: what a plane holds.
-ghost use Rattle.std.specs.Prelude.{◌≡◌, ℕ, ◌+◌, ◌/◌, ◌^◌, ◌<◌, ◌≤◌, ◌*◌, ◌↔◌, length, nat_eq, IsSome, IfSome, refl};
+ghost use Rattle.std.specs.Prelude.{◌≡◌, ℕ, ◌+◌, ◌/◌, ◌^◌, ◌<◌, ◌≤◌, ◌*◌, ◌↔◌, length, nat_eq, replicate, IsSome, IfSome, refl};
 ghost use Rattle.std.specs.Ordering.{nat_cmp};
 ghost use Rattle.std.proofs.Common.{lit<};
 ghost use Rattle.v_frame_layout.specs.Pixel.{PixelForm, one_byte, two_bytes, byte_of, value_of_bytes, pixels_of_bytes};
@@ -243,6 +243,16 @@ impl Pixel for u16 {
             dst[i] = u16::from_le_bytes([src[2 * i], src[2 * i + 1]]);
         }
     }
+}
+
+/// Fills a row, or any slice, with one pixel.
+///
+/// Of `fill` a proof for any pixel type knows that it writes clones. It stands here, beside the law that a clone of a pixel is
+/// that pixel, so that callers need not prove it again. Our own.
+pub fn fill_row<T: Pixel>(row: &mut [T], pixel: T)
+    ensures { row.new ≡ replicate (length row.old) pixel }
+{
+    row.fill(pixel);
 }
 
 /// The pixels of the first 32 bytes.
