@@ -2,13 +2,13 @@
 -- behind its type (`Answer.Number 3`), and needs no import there.
 pub use Rattle.v_frame_layout.specs.Pixel.{PixelForm, one_byte, two_bytes, bytes_of, byte_of, value_of_bytes, bytes_of_pixels, byte_list}
 pub use Rattle.v_frame_layout.specs.Chroma.{ratio_of, chroma_size_of, subsampled}
-pub use Rattle.v_frame_layout.specs.Geometry.{Geometry, geometry_of, stride_of, alloc_height_of, alloc_size_of, IsGeometry, Fits, place_of, origin_of, usize_max, isize_max, Mark, Border, Visible, cutting_plan, mark_at}
-pub use Rattle.v_frame_layout.specs.Table.{Table, width_of, height_of, pixel_at, row_major, with_pixel, with_writes, with_item_by, overwritten_row, cut_rows}
+pub use Rattle.v_frame_layout.specs.Geometry.{Geometry, geometry_of, stride_of, alloc_height_of, alloc_size_of, IsGeometry, IsInside, Fits, place_of, origin_of, region_geometry, whole_geometry, usize_max, isize_max, Mark, Border, Visible, cutting_plan, mark_at}
+pub use Rattle.v_frame_layout.specs.Table.{Table, width_of, height_of, pixel_at, rectangle, row_major, with_pixel, with_writes, with_item_by, overwritten_row, cut_rows}
 pub use Rattle.v_frame_layout.specs.declared.chroma.ChromaSubsampling.{ChromaSubsampling}
 pub use Rattle.v_frame_layout.specs.declared.chroma.ChromaSubsampling.TheVariants.{Yuv420, Yuv422, Yuv411, Yuv444, Monochrome}
-pub use Rattle.v_frame_plane.specs.Plane.{Raster, raster, filled, table_of, border_of, with_entries, KeepsBorder, unshown, IsWhole, IsFull, options_of}
+pub use Rattle.v_frame_plane.specs.Plane.{Raster, raster, filled, table_of, border_of, whole_rows, with_entries, KeepsBorder, unshown, IsWhole, IsFull, options_of}
 pub use Rattle.v_frame_plane.specs.Copy.{CopyOutcome, Copies, packed_copy, strided_copy, packed_byte_copy, piece_fronts, strided_table}
-pub use Rattle.v_frame_plane.specs.Laws.{HasMarks, HasPlaces, HoldsPixels, AgreeAt, IsMadeOfEntries}
+pub use Rattle.v_frame_plane.specs.Laws.{HasMarks, HasPlaces, HoldsPixels, HoldsRows, ShowsRectangle, AgreeAt, IsMadeOfEntries}
 pub use Rattle.v_frame_plane.specs.RowsLeft.{rows_left, rows_slice}
 pub use Rattle.v_frame_plane.specs.PixelsLeft.{pixels_left, pixels_slice}
 pub use Rattle.v_frame_plane.specs.declared.error.CopyError.{CopyError}

@@ -59,6 +59,24 @@ geometry_of width height left right top bottom x y =
       subsampling_y = y;
     }
 
+-- a rectangle that begins at column x of row y lies inside the visible one, and is not empty
+pub record IsInside (g : Geometry) (x y width height : ℕ) : Type 0 where
+  pub wide : 0 < width
+  pub high : 0 < height
+  pub across : x + width ≤ g.width
+  pub down : y + height ≤ g.height
+
+-- the geometry that shows only this rectangle of the same buffer: all round it is border
+abbrev pub region_geometry : Geometry → ℕ → ℕ → ℕ → ℕ → Geometry
+region_geometry g x y width height =
+    geometry_of width height (g.pad_left + x) (g.width - (x + width) + g.pad_right) (g.pad_top + y)
+    (g.height - (y + height) + g.pad_bottom) g.subsampling_x g.subsampling_y
+
+-- the geometry that shows the whole of the same buffer: there is no border
+abbrev pub whole_geometry : Geometry → Geometry
+whole_geometry g =
+    geometry_of (stride_of g) (alloc_height_of g) 0 0 0 0 g.subsampling_x g.subsampling_y
+
 pub data Mark : Type 0 where
   Border : Mark
   Visible : Mark

@@ -1,6 +1,6 @@
 -- Tables of rows: their sizes, their pixels, their row-major list, a list cut into rows, and what
 -- is written into them.
-use Rattle.std.specs.Prelude.{ℕ, zero, suc, List, [], ◌∷◌, ◌++◌, length, take, drop, Option, Some, None, slice_get, slice_set, unwrap_or, option_and_then}
+use Rattle.std.specs.Prelude.{ℕ, zero, suc, List, [], ◌∷◌, ◌++◌, length, map, take, drop, Option, Some, None, slice_get, slice_set, unwrap_or, option_and_then}
 
 -- a list with its item of a number changed, where it has one
 abbrev pub with_item_by : {X : Type 0} → (X → X) → List X → ℕ → Option X → List X
@@ -27,6 +27,11 @@ module _ {T : Type 0} where
   abbrev pub row_major : Table T → List T
   row_major [] = []
   row_major (row ∷ rows) = row ++ row_major rows
+
+  -- the rectangle of width by height pixels that begins at column x of row y
+  abbrev pub rectangle : ℕ → ℕ → ℕ → ℕ → Table T → Table T
+  rectangle x y width height rows =
+      map (λ row. take width (drop x row)) (take height (drop y rows))
 
   -- a row overwritten: each entry is what is written there, where something is, and else as before
   abbrev pub overwritten_row : List T → List (Option T) → List T

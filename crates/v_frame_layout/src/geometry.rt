@@ -1,6 +1,6 @@
 //! Geometry: where the visible rectangle of a plane lies in its buffer.
-ghost use Rattle.std.specs.Prelude.{◌≡◌, ◌+◌, ◌*◌, ◌<◌, ◌≤◌, IsTrue, SomeIff};
-ghost use Rattle.v_frame_layout.specs.Geometry.{stride_of, alloc_height_of, alloc_size_of, IsGeometry, Fits, usize_max, origin_of};
+ghost use Rattle.std.specs.Prelude.{◌≡◌, ◌+◌, ◌*◌, ◌<◌, ◌≤◌, IfSome, IsTrue, SomeIff};
+ghost use Rattle.v_frame_layout.specs.Geometry.{stride_of, alloc_height_of, alloc_size_of, IsGeometry, IsInside, Fits, usize_max, origin_of, region_geometry, whole_geometry};
 
 use crate::chroma::ChromaSubsampling;
 use std::marker::Model;
@@ -212,6 +212,57 @@ impl PlaneGeometry {
         ensures within { result < alloc_size_of self.now }
     {
         self.stride * self.pad_top + self.pad_left
+    }
+
+    /// The geometry of a rectangle of the visible pixels in the same buffer: all round it is border. The rectangle begins at
+    /// column `x` of row `y`, and the ratios stay.
+    ///
+    /// `None` exactly where the rectangle is empty or not inside the visible one.
+    /// [`checked_alloc_size`](Self::checked_alloc_size) must be `Some`. Our own.
+    pub fn region(&self, x: usize, y: usize, width: usize, height: usize) -> Option<Self>
+        requires { Fits self.now }
+        ensures value { SomeIff result (IsInside self.now x y width height)
+            (region_geometry self.now x y width height) }
+        ensures size { IfSome result (λ region. alloc_size_of region ≡ alloc_size_of self.now) }
+    {
+        let right = x.checked_add(width)?;
+        let bottom = y.checked_add(height)?;
+        if width == 0 || height == 0 || right > self.width || bottom > self.height {
+            return None;
+        }
+        Some(PlaneGeometry {
+            width,
+            height,
+            stride: self.stride,
+            pad_left: self.pad_left + x,
+            pad_right: self.width - right + self.pad_right,
+            pad_top: self.pad_top + y,
+            pad_bottom: self.height - bottom + self.pad_bottom,
+            subsampling_x: self.subsampling_x,
+            subsampling_y: self.subsampling_y,
+        })
+    }
+
+    /// The geometry of the whole buffer, as a picture without a border. The ratios stay.
+    ///
+    /// So what reads or writes visible rows does it to the rows of the buffer, those of the border too.
+    /// [`checked_alloc_size`](Self::checked_alloc_size) must be `Some`, and is the same. Our own.
+    pub fn whole_buffer(&self) -> Self
+        requires { Fits self.now }
+        ensures value { result ≡ whole_geometry self.now }
+        ensures size { alloc_size_of result ≡ alloc_size_of self.now }
+    {
+        PlaneGeometry {
+            width: self.stride,
+            height: self.alloc_height(),
+            stride: self.stride,
+            pad_left: 0,
+            pad_right: 0,
+            pad_top: 0,
+            pad_bottom: 0,
+            subsampling_x: self.subsampling_x,
+            subsampling_y: self.subsampling_y,
+        }
     }
 
     /// The geometry of the chroma planes beside a luma plane of this one.

@@ -1,5 +1,5 @@
 //! Pixels: what a plane holds.
-ghost use Rattle.std.specs.Prelude.{◌≡◌, ℕ, ◌+◌, ◌/◌, ◌^◌, ◌<◌, ◌≤◌, ◌*◌, ◌↔◌, length, nat_eq, IsSome, IfSome, refl};
+ghost use Rattle.std.specs.Prelude.{◌≡◌, ℕ, ◌+◌, ◌/◌, ◌^◌, ◌<◌, ◌≤◌, ◌*◌, ◌↔◌, length, nat_eq, replicate, IsSome, IfSome, refl};
 ghost use Rattle.std.specs.Ordering.{nat_cmp};
 ghost use Rattle.std.proofs.Common.{lit<};
 ghost use Rattle.v_frame_layout.specs.PixelRows.{absolute_differences, squared_errors, halved};
@@ -289,6 +289,16 @@ impl Pixel for u16 {
     fn halve_rows(dst: &mut [u16], top: &[u16], bottom: &[u16]) {
         halve_words(dst, top, bottom);
     }
+}
+
+/// Fills a row, or any slice, with one pixel.
+///
+/// Of `fill` a proof for any pixel type knows that it writes clones. It stands here, beside the law that a clone of a pixel is
+/// that pixel, so that callers need not prove it again. Our own.
+pub fn fill_row<T: Pixel>(row: &mut [T], pixel: T)
+    ensures { row.new ≡ replicate (length row.old) pixel }
+{
+    row.fill(pixel);
 }
 
 /// The pixels of the first 32 bytes.

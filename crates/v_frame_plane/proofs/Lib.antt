@@ -29,11 +29,13 @@ pub mod PixelParts
 pub mod PixelRefills
 pub mod PixelsLetGo
 pub mod Places
+pub mod Regions
 pub mod RowCalls
 pub mod RowDraws
 pub mod RowLoans
 pub mod RowMemory
 pub mod RowPairs
+pub mod RowWrites
 pub mod SecondRows
 pub mod Sources
 pub mod Steps

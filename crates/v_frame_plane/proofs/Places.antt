@@ -1,10 +1,11 @@
 -- Places of pixels: what stands at one, and that it is the table's pixel inside the rectangle.
-use Rattle.std.proofs.Common.{ℕ, ◌≡◌, ◌+◌, ◌-◌, ◌<◌, ◌≤◌, List, length, take, drop, Option, Some, None, slice_get, option_and_then, option_copied, Bor, All, inl, inr, length-take-le, length-drop, refl, sym, ◌∙◌, ap, arith}
+use Rattle.std.proofs.Common.{ℕ, ◌≡◌, ◌+◌, ◌-◌, ◌*◌, ◌<◌, ◌≤◌, List, length, take, drop, Option, Some, None, slice_get, option_and_then, option_copied, Bor, All, inl, inr, length-take-le, length-drop, refl, sym, ◌∙◌, ap, arith}
 use Rattle.std.proofs.lemmas.Bool.{cases_lt}
 use Rattle.std.proofs.lemmas.Option.{slice_get_past, slice_get_read, slice_get_cases, get_or_from_slice_get}
 use Rattle.std.specs.Slice.{IsGetResult}
-use Rattle.v_frame_layout.specs.Geometry.{Geometry, alloc_size_of, usize_max, place_of}
+use Rattle.v_frame_layout.specs.Geometry.{Geometry, stride_of, alloc_size_of, usize_max, place_of}
 use Rattle.v_frame_plane.specs.Plane.{Raster, table_of}
+use Rattle.v_frame_plane.specs.Laws.{HoldsRows}
 use Rattle.v_frame_layout.specs.Table.{pixel_at}
 use Rattle.v_frame_plane.proofs.Lists.{slice_get-take, slice_get-drop}
 use Rattle.v_frame_layout.proofs.Plans.{row_start, place_of_row, row_within}
@@ -34,6 +35,13 @@ module _ {T : Type 0} where
       let n : start + width - start ≡ p.geometry.width = omega arith in
       let at : start ≡ row_start p.geometry y = s ∙ place_of_row p.geometry y high in
       rw (n, at, b) (sym (shown_row p y h))
+
+  -- each row of the table is a part of the buffer
+  pub rows_are_parts : (p : Raster T) → HoldsRows p
+  unfolding row_start
+  rows_are_parts p y h =
+      let at : row_start p.geometry y ≡ (p.geometry.pad_top + y) * stride_of p.geometry + p.geometry.pad_left = omega arith in
+      shown_row p y h ∙ ap (λ k. Some (take p.geometry.width (drop k p.buffer))) at
 
   -- below the table there is no row
   pub no_row_below : (p : Raster T) (y : ℕ) → p.geometry.height ≤ y → slice_get (table_of p) y ≡ None

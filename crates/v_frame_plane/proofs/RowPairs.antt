@@ -1,14 +1,13 @@
 -- Two rows of a buffer: that they lie apart, and what the table is where both are written.
 use Rattle.std.proofs.Common.{ℕ, ◌≡◌, ◌≢◌, ◌+◌, ◌-◌, ◌<◌, ◌≤◌, List, ◌++◌, length, take, drop, Some, slice_get, slice_set, refl, sym, ◌∙◌, ap, arith, append_assoc, length-append, length-take-le, length-drop, length-set, take-append-drop}
 use Rattle.std.proofs.lemmas.List.{drop-drop, drop-take, take_at, drop_at}
-use Rattle.std.proofs.lemmas.Option.{get_or_from_slice_get, slice_get_within}
 use Rattle.std.proofs.Math.Nat.{mul-le-mul_right}
 use Rattle.v_frame_layout.specs.Geometry.{Geometry, stride_of, alloc_size_of, place_of}
 use Rattle.v_frame_plane.specs.Plane.{Raster, raster, table_of, border_of, with_two_parts, entries_with_rows, WritesEachPair}
 use Rattle.v_frame_plane.proofs.Lists.{refill_same, set_is_read, others_are_read}
 use Rattle.v_frame_layout.proofs.Plans.{row_start, place_of_row, row_within}
-use Rattle.v_frame_plane.proofs.Pictures.{shown_row, length-shown, overwritten, shown_overwritten, border_overwritten}
-use Rattle.v_frame_plane.proofs.Places.{rows_are_wide}
+use Rattle.v_frame_plane.proofs.Pictures.{length-shown, overwritten, shown_overwritten, border_overwritten}
+use Rattle.v_frame_plane.proofs.RowWrites.{length-overwritten, row_wide}
 
 -- the upper row ends where the lower one begins, or before
 pub rows_apart : (g : Geometry) (y z start next width : ℕ) → y < z → start ≡ place_of g 0 y → next ≡ place_of g 0 z → width ≡ g.width → start + width ≤ next
@@ -17,14 +16,9 @@ rows_apart g y z start next width order first second wide =
     omega (arith, first, second, wide, mul-le-mul_right (stride_of g) below)
 
 module _ {T : Type 0} where
-  pub length-overwritten : (xs ys : List T) (start : ℕ) → start + length ys ≤ length xs → length (overwritten xs start ys) ≡ length xs
-  length-overwritten xs ys start inside =
-      let rest = drop (length ys) (drop start xs) in
-      omega (arith, length-append (take start xs) (ys ++ rest), length-append ys rest, length-take-le start xs (omega (arith, inside)), length-drop (length ys) (drop start xs), length-drop start xs)
-
   -- two parts that are written at once are one that is written after the other
   pub parts_in_turn : (xs ys zs : List T) (start next width : ℕ) → start + width ≤ next → next + width ≤ length xs → length ys ≡ width → length zs ≡ width
-      → with_two_parts xs start next width ys zs ≡ overwritten (overwritten xs start ys) next zs
+      → with_two_parts xs start width next width ys zs ≡ overwritten (overwritten xs start ys) next zs
   parts_in_turn xs ys zs start next width order inside wide other_wide =
       let n : ℕ = next - (start + width) in
       let rest : List T = drop (start + width) xs in
@@ -46,23 +40,13 @@ module _ {T : Type 0} where
       sym (append_assoc (take start xs) (ys ++ take n rest) (zs ++ behind)) ∙ ap (λ r. r ++ (zs ++ behind)) (sym above) ∙ ap (λ r. take next (overwritten xs start ys) ++ (zs ++ r)) (sym left)
 
   module _ (p : Raster T) (whole : length p.buffer ≡ alloc_size_of p.geometry) where
-    -- the part that is lent is the row of the table
-    pub row_at : (y start width : ℕ) (lent : List T) → y < p.geometry.height → start ≡ place_of p.geometry 0 y → width ≡ p.geometry.width → lent ≡ take width (drop start p.buffer) → slice_get (table_of p) y ≡ Some lent
-    row_at y start width lent high at wide is =
-        let g = p.geometry in
-        let place : start ≡ row_start g y = at ∙ place_of_row g y (omega (arith, high)) in
-        shown_row p y high ∙ sym (ap Some (is ∙ ap (λ n. take n (drop start p.buffer)) wide ∙ ap (λ k. take g.width (drop k p.buffer)) place))
-
-    pub row_wide : (y : ℕ) (lent : List T) → slice_get (table_of p) y ≡ Some lent → length lent ≡ p.geometry.width
-    row_wide y lent is = sym (ap length (get_or_from_slice_get (table_of p) y lent lent is)) ∙ rows_are_wide p whole y lent (slice_get_within (table_of p) y lent is)
-
     -- two rows that are written where two lie replace both in the table, and leave the border
     pub writes_each_pair : (y z : ℕ) (old old_other : List T) → y < z → z < p.geometry.height → slice_get (table_of p) y ≡ Some old → slice_get (table_of p) z ≡ Some old_other → WritesEachPair p y z old old_other
     writes_each_pair y z old old_other order high is other_is = λ row other same other_same.
         let g = p.geometry in let xs = p.buffer in
         let start = row_start g y in let next = row_start g z in
-        let wide : length row ≡ g.width = same ∙ row_wide y old is in
-        let other_wide : length other ≡ g.width = other_same ∙ row_wide z old_other other_is in
+        let wide : length row ≡ g.width = same ∙ row_wide p whole y old is in
+        let other_wide : length other ≡ g.width = other_same ∙ row_wide p whole z old_other other_is in
         let upper : y < g.height = omega (arith, order, high) in
         let within : start + g.width ≤ length xs = omega (arith, whole, row_within g y upper) in
         let other_within : next + g.width ≤ length xs = omega (arith, whole, row_within g z high) in
@@ -70,7 +54,7 @@ module _ {T : Type 0} where
         let once : List T = overwritten xs start row in
         let long : length once ≡ length xs = length-overwritten xs row start (omega (arith, wide, within)) in
         let written : entries_with_rows p y z row other ≡ overwritten once next other =
-        ap (λ k. with_two_parts xs k (place_of g 0 z) g.width row other) first ∙ ap (λ k. with_two_parts xs start k g.width row other) second ∙
+        ap (λ k. with_two_parts xs k g.width (place_of g 0 z) g.width row other) first ∙ ap (λ k. with_two_parts xs start g.width k g.width row other) second ∙
         parts_in_turn xs row other start next g.width (rows_apart g y z start next g.width order (sym first) (sym second) refl) other_within wide other_wide in
         let kept = ap length written ∙ length-overwritten once other next (omega (arith, long, other_wide, other_within)) ∙ long in
         let left = refill_same xs (entries_with_rows p y z row other) kept ∙ written in

@@ -13,9 +13,9 @@ module _ (T : RattleType) (slice : MutBor (List T.Denot)) (cut : MutBor T.Denot
   abbrev pub LendsLast : Fml
   LendsLast = LendsBoth (Array T 0) T (Array T 0) slice cut (λ entry rest. rest ++ entry ∷ [])
 
--- the two parts of so many entries as they were left, at the places where they begin
-abbrev pub LendsTwoParts : (T : RattleType) → MutBor (List T.Denot) → ℕ → ℕ → ℕ
+-- the two parts, each of so many entries, as they were left, at the places where they begin
+abbrev pub LendsTwoParts : (T : RattleType) → MutBor (List T.Denot) → ℕ → ℕ → ℕ → ℕ
     → MutBor (List T.Denot) × MutBor (List T.Denot) → Fml
-LendsTwoParts T slice start next width parts =
+LendsTwoParts T slice start width next other parts =
     LendsBoth (Array T 0) (Array T 0) (Array T 0) slice parts
-    (with_two_parts slice.now start next width)
+    (with_two_parts slice.now start width next other)

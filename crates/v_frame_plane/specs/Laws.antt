@@ -1,10 +1,10 @@
 -- Laws of places and of planes, each carried by a function of the module `laws`.
-use Rattle.std.specs.Prelude.{ℕ, ◌≡◌, ◌+◌, ◌*◌, ◌<◌, ◌≤◌, List, length, Some, None, OnOk, slice_get}
+use Rattle.std.specs.Prelude.{ℕ, ◌≡◌, ◌+◌, ◌*◌, ◌<◌, ◌≤◌, List, length, take, drop, Some, None, OnOk, slice_get}
 use Rattle.v_frame_layout.specs.Geometry.{Geometry, stride_of, alloc_height_of, alloc_size_of, Mark, Border, Visible, cutting_plan, mark_at, place_of}
 use Rattle.v_frame_layout.specs.Pixel.{PixelForm, byte_list}
-use Rattle.v_frame_layout.specs.Table.{pixel_at}
+use Rattle.v_frame_layout.specs.Table.{pixel_at, rectangle}
 use Rattle.v_frame_plane.specs.Copy.{CopyOutcome}
-use Rattle.v_frame_plane.specs.Plane.{Raster, table_of, border_of}
+use Rattle.v_frame_plane.specs.Plane.{Raster, table_of, border_of, whole_rows}
 
 -- geometry, table and border together determine a buffer of the size that the geometry lays down
 abbrev pub DeterminesBuffer : Type 0 → Type 0
@@ -42,6 +42,21 @@ module _ {T : Type 0} where
   HoldsPixels p =
       (x y : ℕ) → x < p.geometry.width → y < p.geometry.height
       → slice_get p.buffer (place_of p.geometry x y) ≡ pixel_at (table_of p) x y
+
+  -- each row of the table is the part of the buffer that begins behind the rows above it and what
+  -- lies to its left
+  abbrev pub HoldsRows : Raster T → Type 0
+  HoldsRows p =
+      (y : ℕ) → y < p.geometry.height
+      → slice_get (table_of p) y
+      ≡ Some (take p.geometry.width
+      (drop ((p.geometry.pad_top + y) * stride_of p.geometry + p.geometry.pad_left) p.buffer))
+
+  -- what a plane shows is a rectangle of the rows of its whole buffer
+  abbrev pub ShowsRectangle : Raster T → Type 0
+  ShowsRectangle p =
+      table_of p ≡ rectangle p.geometry.pad_left p.geometry.pad_top p.geometry.width
+      p.geometry.height (whole_rows p)
 
   -- two planes hold the same entry at each place of a mark
   abbrev pub AgreeAt : Mark → Raster T → Raster T → Type 0

@@ -2,7 +2,7 @@
 use Rattle.std.specs.Prelude.{ℕ, ◌≡◌, List, length, Option, IfSome}
 use Rattle.std.specs.Borrow.{Lends, LendsBoth, LendsIf, LendsSo, Fml, RattleType, MutBor, Array}
 use Rattle.v_frame_layout.specs.Geometry.{Geometry}
-use Rattle.v_frame_plane.specs.Plane.{Raster, raster, WritesRow, with_row, with_entry, with_entries, entries_with_rows}
+use Rattle.v_frame_plane.specs.Plane.{Raster, raster, WritesRow, with_row, with_entry, with_entries, entries_with_row, entries_with_rows}
 use Rattle.v_frame_plane.specs.contracts.plane.Plane.{the_row}
 
 module _ (T : RattleType) (plane : MutBor (Raster T.Denot)) where
@@ -30,6 +30,14 @@ module _ (T : RattleType) (plane : MutBor (Raster T.Denot)) where
   -- the same, where there is such an entry; else nothing is lent, and the plane is as before
   abbrev pub LendsPixel : ℕ → ℕ → Option (MutBor T.Denot) → Fml
   LendsPixel x y r = LendsIf (the_row T) T plane r (with_entry plane.now x y) plane.now
+
+-- once the borrows of a row of a whole buffer and of all behind it end, the entries from the place
+-- of row y on are what they show last
+abbrev pub LendsRowAndRest : (T : RattleType) → MutBor (List T.Denot) → Geometry → ℕ
+    → MutBor (List T.Denot) × MutBor (List T.Denot) → Fml
+LendsRowAndRest T buffer geometry y parts =
+    LendsBoth (Array T 0) (Array T 0) (Array T 0) buffer parts
+    (entries_with_row (raster geometry buffer.now) y)
 
 -- once the borrows of two rows of a whole buffer end, the entries where rows y and z lie are what
 -- they show last

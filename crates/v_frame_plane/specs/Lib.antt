@@ -13,4 +13,5 @@ pub mod Plane
 pub mod RowsLeft
 pub mod SecondPixels
 pub mod SecondRows
+pub mod WorkedRegions
 pub mod WorkedRows

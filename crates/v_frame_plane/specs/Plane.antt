@@ -3,7 +3,7 @@
 -- others.
 use Rattle.std.specs.Prelude.{ℕ, ◌≡◌, ◌≢◌, ◌+◌, All, List, [], ◌∷◌, ◌++◌, length, map, take, drop, replicate, Option, Some, IsSome, slice_get, slice_set}
 use Rattle.std.specs.List.{refill}
-use Rattle.v_frame_layout.specs.Geometry.{Geometry, Mark, Border, Visible, Piece, cutting_plan, place_of, alloc_size_of, Fits}
+use Rattle.v_frame_layout.specs.Geometry.{Geometry, Mark, Border, Visible, Piece, cutting_plan, place_of, alloc_size_of, whole_geometry, Fits}
 use Rattle.v_frame_layout.specs.Table.{with_pixel}
 
 -- a plane: its geometry, and its whole buffer, row after row from the top
@@ -59,6 +59,10 @@ module _ {T : Type 0} where
   abbrev pub border_of : Raster T → List (List T)
   border_of plane = border_pieces (picture plane)
 
+  -- the rows of its whole buffer, from the top, those of the border too
+  abbrev pub whole_rows : Raster T → List (List T)
+  whole_rows plane = table_of (raster (whole_geometry plane.geometry) plane.buffer)
+
   -- all of a plane that it does not show
   abbrev pub unshown : Raster T → Geometry × List (List T)
   unshown plane = (plane.geometry, border_of plane)
@@ -86,12 +90,12 @@ abbrev pub with_part : {T : Type 0} → List T → ℕ → List T → List T
 with_part xs start ys =
     refill (length xs) xs (take start xs ++ (ys ++ drop (length ys) (drop start xs)))
 
--- xs with ys and zs written where two parts of so many entries begin, the first in front of the
--- second
-abbrev pub with_two_parts : {T : Type 0} → List T → ℕ → ℕ → ℕ → List T → List T → List T
-with_two_parts xs start next width ys zs =
+-- xs with ys and zs written where two parts begin, the first in front of the second, each of so
+-- many entries
+abbrev pub with_two_parts : {T : Type 0} → List T → ℕ → ℕ → ℕ → ℕ → List T → List T → List T
+with_two_parts xs start width next other ys zs =
     take start xs
-    ++ (ys ++ (drop (start + width) (take next xs) ++ (zs ++ drop (next + width) xs)))
+    ++ (ys ++ (drop (start + width) (take next xs) ++ (zs ++ drop (next + other) xs)))
 
 module _ {T : Type 0} where
   -- row y of the table is another one, and all else is as before
@@ -99,6 +103,8 @@ module _ {T : Type 0} where
     pub geometry : new.geometry ≡ old.geometry
     pub border : border_of new ≡ border_of old
     pub table : table_of new ≡ slice_set (table_of old) y row
+    pub written : slice_get (table_of new) y ≡ Some row
+    pub others : (k : ℕ) → k ≢ y → slice_get (table_of new) k ≡ slice_get (table_of old) k
 
   -- the plane with other entries where the visible pixels of row y lie
   abbrev pub with_row : Raster T → ℕ → List T → Raster T
@@ -109,6 +115,17 @@ module _ {T : Type 0} where
   abbrev pub WritesEachRow : Raster T → ℕ → List T → Type 0
   WritesEachRow plane y old =
       (row : List T) → length row ≡ length old → WritesRow plane y (with_row plane y row) row
+
+  -- the buffer with other entries there, and with a rest behind them
+  abbrev pub entries_with_row : Raster T → ℕ → List T → List T → List T
+  entries_with_row plane y row rest =
+      take (place_of plane.geometry 0 y) plane.buffer ++ (row ++ rest)
+
+  -- so each row as long as the one that is there is written in front of the rest that is there
+  abbrev pub WritesEachFront : Raster T → ℕ → List T → List T → Type 0
+  WritesEachFront plane y old rest =
+      (row : List T) → length row ≡ length old
+      → WritesRow plane y (with_entries plane (entries_with_row plane y row rest)) row
 
   -- the plane with another entry at the place of (x, y), which may lie in the border, and all else
   -- as before
@@ -139,8 +156,9 @@ module _ {T : Type 0} where
   -- the buffer with other entries where the visible pixels of rows y and z lie, y above z
   abbrev pub entries_with_rows : Raster T → ℕ → ℕ → List T → List T → List T
   entries_with_rows plane y z row other =
-      with_two_parts plane.buffer (place_of plane.geometry 0 y) (place_of plane.geometry 0 z)
-      plane.geometry.width row other
+      let width : ℕ = plane.geometry.width in
+      with_two_parts plane.buffer (place_of plane.geometry 0 y) width (place_of plane.geometry 0 z)
+      width row other
 
   -- so any two rows as long as those that are there are written as rows y and z of the table
   abbrev pub WritesEachPair : Raster T → ℕ → ℕ → List T → List T → Type 0

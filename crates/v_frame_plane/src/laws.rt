@@ -10,7 +10,7 @@ ghost use Rattle.v_frame_plane.specs.Plane.{Raster, table_of};
 ghost use Rattle.v_frame_plane.specs.Copy.{Copies, packed_copy, piece_fronts, strided_copy, packed_byte_copy};
 ghost use Rattle.v_frame_plane.specs.LetGo.{PixelsAreLetGo, RowsAreLetGo};
 ghost use Rattle.std.specs.Borrow.{sem};
-ghost use Rattle.v_frame_plane.specs.Laws.{DeterminesBuffer, HasPlaces, HasMarks, HoldsPixels, IsMadeOfEntries, ComesBack};
+ghost use Rattle.v_frame_plane.specs.Laws.{DeterminesBuffer, HasPlaces, HasMarks, HoldsPixels, HoldsRows, IsMadeOfEntries, ComesBack, ShowsRectangle};
 
 use crate::plane::{CopyError, Plane};
 use v_frame_layout::pixel::Pixel;
@@ -28,6 +28,16 @@ pub fn pixels_have_places()
 /// The entry at the place of a visible pixel is that pixel.
 pub fn places_hold_pixels<T: Pixel>()
     ensures { (p : Raster T) → HoldsPixels p }
+{}
+
+/// Each row of a table is a part of the buffer: as many pixels as the plane is wide, from the place of its first one on.
+pub fn rows_are_parts<T>()
+    ensures { (p : Raster T) → HoldsRows p }
+{}
+
+/// What a plane shows is a rectangle of its whole buffer, seen as a picture without a border.
+pub fn tables_are_rectangles<T>()
+    ensures { (p : Raster T) → ShowsRectangle p }
 {}
 
 /// The mark of the place in each row and column of a buffer: visible inside the rectangle, and else border. Past the buffer

@@ -41,7 +41,7 @@ use crate::place::{checked_place, row_start, visible_place};
 pub use crate::plane_ref::PlaneRef;
 pub use crate::rows::Rows;
 pub use crate::rows_mut::RowsMut;
-pub use pairs::visible_rows_mut;
+pub use pairs::{split_row_mut, visible_rows_mut};
 use std::alloc::{AllocError, Global};
 use std::marker::Model;
 pub use v_frame_layout::geometry::{PlaneGeometry, SubsamplingError};

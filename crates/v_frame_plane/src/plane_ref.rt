@@ -1,9 +1,9 @@
 //! A plane's two parts, lent for reading: a geometry, and a slice that is the whole buffer.
 ghost use Rattle.std.specs.Prelude.{All, List, ℕ, ◌≡◌, ◌^◌, ◌<◌, ◌≤◌, ◌*◌, ◌↔◌, length, IsNone, IfSome, SomeIff, slice_get, option_copied};
 ghost use Rattle.std.specs.Map.Iter.{ShowsInOrder, ShowsInReverse, GivesInOrder, GivesInReverse, deref};
-ghost use Rattle.v_frame_layout.specs.Geometry.{alloc_size_of, Fits, place_of};
+ghost use Rattle.v_frame_layout.specs.Geometry.{alloc_size_of, Fits, IsInside, place_of, region_geometry};
 ghost use Rattle.v_frame_layout.specs.Pixel.{byte_list};
-ghost use Rattle.v_frame_layout.specs.Table.{width_of, height_of, pixel_at, row_major};
+ghost use Rattle.v_frame_layout.specs.Table.{width_of, height_of, pixel_at, rectangle, row_major};
 ghost use Rattle.v_frame_plane.specs.Plane.{IsWhole, raster, table_of};
 
 use crate::bytes::ByteData;
@@ -68,6 +68,21 @@ impl<'a, T> PlaneRef<'a, T> {
             geometry: self.geometry,
             buffer: self.buffer,
         }
+    }
+
+    /// The rectangle of `width` by `height` pixels that begins at column `x` of row `y`, as a plane over the same buffer.
+    ///
+    /// `None` exactly where the rectangle is empty or not inside the visible one. All round it is border, and the ratios stay.
+    /// Nothing is copied, so what reads a plane reads a block of one, as a search for motion does. Our own.
+    pub fn region(&self, x: usize, y: usize, width: usize, height: usize) -> Option<Self>
+        ensures value { let geometry = self.now.geometry in
+            SomeIff result (IsInside geometry x y width height)
+            (raster (region_geometry geometry x y width height) self.now.buffer) }
+        ensures table { IfSome result (λ region. table_of region
+            ≡ rectangle x y width height (table_of self.now)) }
+    {
+        let geometry = self.geometry.region(x, y, width, height)?;
+        Some(Self::of_parts(geometry, self.buffer))
     }
 
     /// The visible width in pixels, never zero.

@@ -1,12 +1,34 @@
-//! Two rows of a plane for writing at once.
+//! Two parts of a whole buffer for writing at once: a row and what lies behind it, and two rows.
 ghost use Rattle.std.specs.Prelude.{◌≡◌, ◌+◌, ◌<◌, ◌≤◌, Some, drop, length, slice_get, take};
 ghost use Rattle.std.specs.Borrow.{sem};
+ghost use Rattle.v_frame_layout.specs.Geometry.{place_of};
 ghost use Rattle.v_frame_plane.specs.Cut.{LendsTwoParts};
-ghost use Rattle.v_frame_plane.specs.Lends.{LendsVisibleRows};
-ghost use Rattle.v_frame_plane.specs.Plane.{IsWhole, WritesEachPair, raster, table_of};
+ghost use Rattle.v_frame_plane.specs.Lends.{LendsRowAndRest, LendsVisibleRows};
+ghost use Rattle.v_frame_plane.specs.Plane.{IsWhole, WritesEachFront, WritesEachPair, raster, table_of};
 
 use super::PlaneGeometry;
 use crate::place::row_start;
+
+/// The visible pixels of row `y` for writing, and the entries of the buffer behind them.
+///
+/// `buffer` is the whole buffer of a plane of this geometry, as for [`visible_rows_mut`]. Where the row alone is written, a
+/// caller's proof knows all that [`Plane::visible_row_mut`](super::Plane::visible_row_mut) tells; the rest stands beside it
+/// since the toolchain follows no loan of a slice from a slice, but one of two. Our own.
+pub fn split_row_mut<T>(buffer: &mut [T], geometry: PlaneGeometry, y: usize) -> (&mut [T], &mut [T])
+    requires whole { IsWhole geometry buffer.old }
+    requires high { y < geometry.height }
+    ensures* writes_back { sem 𝓛 (LendsRowAndRest T.row buffer.entry geometry y result) }
+    ensures row { slice_get (table_of (raster geometry buffer.old)) y ≡ Some result.0.now }
+    ensures wide { length result.0.now ≡ geometry.width }
+    ensures rest { result.1.now ≡ drop (place_of geometry 0 y + geometry.width) buffer.old }
+    ensures written { WritesEachFront (raster geometry buffer.old) y result.0.now result.1.now }
+{
+    let start = row_start(geometry, y);
+    let width = geometry.width();
+    let end = start + width;
+    let behind = buffer.len() - end;
+    two_parts(buffer, start, width, end, behind)
+}
 
 /// The visible pixels of rows `y` and `z` for writing, the first above the second.
 ///
@@ -30,20 +52,27 @@ pub fn visible_rows_mut<T>(
 {
     let start = row_start(geometry, y);
     let next = row_start(geometry, z);
-    two_parts(buffer, start, next, geometry.width())
+    let width = geometry.width();
+    two_parts(buffer, start, width, next, width)
 }
 
-/// Two parts of a slice, each of `width` entries, that begin at `start` and at `next`.
-fn two_parts<T>(entries: &mut [T], start: usize, next: usize, width: usize) -> (&mut [T], &mut [T])
+/// Two parts of a slice: one of `width` entries from `start` on, and behind it one of `other` entries from `next` on.
+fn two_parts<T>(
+    entries: &mut [T],
+    start: usize,
+    width: usize,
+    next: usize,
+    other: usize,
+) -> (&mut [T], &mut [T])
     requires order { start + width ≤ next }
-    requires within { next + width ≤ length entries.old }
-    ensures* writes_back { sem 𝓛 (LendsTwoParts T.row entries.entry start next width result) }
+    requires within { next + other ≤ length entries.old }
+    ensures* writes_back { sem 𝓛 (LendsTwoParts T.row entries.entry start width next other result) }
     ensures first { result.0.now ≡ take width (drop start entries.old) }
-    ensures second { result.1.now ≡ take width (drop next entries.old) }
+    ensures second { result.1.now ≡ take other (drop next entries.old) }
 {
     let (front, back) = entries.split_at_mut(next);
     let (_, rest) = front.split_at_mut(start);
     let (first, _) = rest.split_at_mut(width);
-    let (second, _) = back.split_at_mut(width);
+    let (second, _) = back.split_at_mut(other);
     (first, second)
 }
