@@ -1,5 +1,10 @@
 pub mod ChromaLemmas
 pub mod Decoding
+pub mod HalfLanes
+pub mod HalfRows
 pub mod PixelBytes
 pub mod Plans
+pub mod RowLanes
+pub mod RowPairs
+pub mod TableSums
 pub mod Tables

@@ -1,8 +1,19 @@
--- Laws of quotients and of chroma sizes, each carried by a function of the module `laws`.
-use Rattle.std.specs.Prelude.{ℕ, ◌≡◌, ◌*◌, ◌/◌, ◌≤◌, true, Some}
+-- Laws of sums over rows, of quotients and of chroma sizes, each carried by a function of the module `laws`.
+use Rattle.std.specs.Prelude.{ℕ, ◌≡◌, ◌+◌, ◌*◌, ◌/◌, ◌≤◌, true, Some, List, ◌++◌, length, drop, slice_get}
+use Rattle.v_frame_layout.specs.Table.{Table, row_major}
 use Rattle.v_frame_layout.specs.Geometry.{Geometry, alloc_size_of}
 use Rattle.v_frame_layout.specs.Chroma.{has_quotient, chroma_size_of}
 use Rattle.v_frame_layout.specs.declared.chroma.ChromaSubsampling.{ChromaSubsampling}
+
+-- a sum over two rows is made of the sums over their parts, where the first parts are equally long;
+-- so a sum over what is left of two tables is that over their next rows, and over what these leave
+pub record AddsUp {T : Type 0} (sum : List T → List T → ℕ) : Type 0 where
+  pub joined : (a b a1 b1 : List T) → length a ≡ length b
+      → sum (a ++ a1) (b ++ b1) ≡ sum a b + sum a1 b1
+  pub by_rows : (table other : Table T) (y : ℕ) (row row1 : List T) → slice_get table y ≡ Some row
+      → slice_get other y ≡ Some row1 → length row ≡ length row1
+      → sum (row_major (drop y table)) (row_major (drop y other))
+      ≡ sum row row1 + sum (row_major (drop (y + 1) table)) (row_major (drop (y + 1) other))
 
 -- the exact quotient of a by a ratio is the number that gives a again, where there is one
 pub record IsQuotient (a ratio : ℕ) : Type 0 where

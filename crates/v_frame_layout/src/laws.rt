@@ -2,13 +2,14 @@
 //!
 //! Each function makes the calls that its law speaks of, and its contract is the law. A law of the definitions alone has
 //! an empty body. Our own.
-ghost use Rattle.std.specs.Prelude.{◌≡◌, ℕ, ◌^◌, ◌<◌, ◌↔◌, length, Some, Ok, IsTrue, slice_get};
+ghost use Rattle.std.specs.Prelude.{◌≡◌, ℕ, ◌*◌, ◌^◌, ◌<◌, ◌↔◌, List, ◌++◌, length, Some, Ok, IsTrue, slice_get};
 ghost use Rattle.std.specs.Ordering.{nat_cmp};
 ghost use Rattle.v_frame_layout.specs.Pixel.{bytes_of};
-ghost use Rattle.v_frame_layout.specs.Laws.{IsQuotient, HasChromaSize};
+ghost use Rattle.v_frame_layout.specs.Laws.{AddsUp, IsQuotient, HasChromaSize};
 ghost use Rattle.v_frame_layout.specs.Chroma.{subsampled};
 ghost use Rattle.v_frame_layout.specs.declared.chroma.ChromaSubsampling.{ChromaSubsampling};
 ghost use Rattle.v_frame_layout.specs.Geometry.{Geometry};
+ghost use Rattle.v_frame_layout.specs.PixelRows.{absolute_differences, squared_errors, halved};
 ghost use Rattle.v_frame_layout.specs.Table.{Table};
 
 use crate::geometry::PlaneGeometry;
@@ -54,6 +55,22 @@ pub fn pixels_hash<T: Pixel>()
 pub fn tables_agree_by_rows<T>()
     ensures { (table other : Table T) → length table ≡ length other
         → ((y : ℕ) → y < length table → slice_get table y ≡ slice_get other y) → table ≡ other }
+{}
+
+/// Sums over two rows are made of those over their parts, and sums over two tables of those over their rows, one row after
+/// the other.
+pub fn sums_add_up<T: Pixel>()
+    ensures absolute { AddsUp (absolute_differences T.form.value) }
+    ensures squared { AddsUp (squared_errors T.form.value) }
+{}
+
+/// A row of half the size has half the length of its two sources, and is made of the halves of their parts, where the first
+/// parts have one even length.
+pub fn halves_join<T: Pixel>()
+    ensures length { (n : ℕ) (top bottom : List T) → length top ≡ 2 * n → length bottom ≡ 2 * n
+        → length (halved T.form top bottom) ≡ n }
+    ensures joined { (n : ℕ) (top bottom top1 bottom1 : List T) → length top ≡ 2 * n → length bottom ≡ 2 * n
+        → halved T.form (top ++ top1) (bottom ++ bottom1) ≡ halved T.form top bottom ++ halved T.form top1 bottom1 }
 {}
 
 /// Geometries are equal exactly where their sizes, paddings and ratios are.

@@ -5,5 +5,7 @@
 
 pub mod chroma;
 pub mod geometry;
+mod halving;
 pub mod laws;
 pub mod pixel;
+mod row_sums;

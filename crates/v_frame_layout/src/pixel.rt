@@ -2,8 +2,11 @@
 ghost use Rattle.std.specs.Prelude.{◌≡◌, ℕ, ◌+◌, ◌/◌, ◌^◌, ◌<◌, ◌≤◌, ◌*◌, ◌↔◌, length, nat_eq, replicate, IsSome, IfSome, refl};
 ghost use Rattle.std.specs.Ordering.{nat_cmp};
 ghost use Rattle.std.proofs.Common.{lit<};
+ghost use Rattle.v_frame_layout.specs.PixelRows.{absolute_differences, squared_errors, halved};
 ghost use Rattle.v_frame_layout.specs.Pixel.{PixelForm, one_byte, two_bytes, byte_of, value_of_bytes, pixels_of_bytes};
 
+use crate::halving::{halve_bytes, halve_words};
+use crate::row_sums::{Absolute, Squared, sum_over_rows};
 use std::fmt::{Binary, Debug, Display, LowerHex, Octal, UpperHex};
 use std::hash::Hash;
 use std::simd::{u8x32, u16x16};
@@ -82,6 +85,25 @@ pub trait Pixel: Copy
     fn decode_row(dst: &mut [Self], src: &[u8])
         requires { length src.now ≡ BYTES * length dst.old }
         ensures { dst.new ≡ pixels_of_bytes form (length dst.old) src.now };
+
+    /// The sum of the absolute differences of two rows, which must be equally long. It is always exact.
+    fn sum_of_absolute_differences(a: &[Self], b: &[Self]) -> u128
+        requires { length a.now ≡ length b.now }
+        ensures value { result ≡ absolute_differences form.value a.now b.now }
+        ensures fits { result ≤ 2 ^ 16 * length a.now };
+
+    /// The sum of the squares of the differences of two rows, which must be equally long. It is always exact.
+    fn sum_of_squared_errors(a: &[Self], b: &[Self]) -> u128
+        requires { length a.now ≡ length b.now }
+        ensures value { result ≡ squared_errors form.value a.now b.now }
+        ensures fits { result ≤ 2 ^ 32 * length a.now };
+
+    /// Makes one row of half the size of two: each pixel of `dst` becomes the mean of the block of two by two at its
+    /// place in `top` and `bottom`, rounded, and a half upwards. Both must be twice as long as `dst`.
+    fn halve_rows(dst: &mut [Self], top: &[Self], bottom: &[Self])
+        requires top { length top.now ≡ 2 * length dst.old }
+        requires bottom { length bottom.now ≡ 2 * length dst.old }
+        ensures { dst.new ≡ halved form top.now bottom.now };
 
     // One value, one pixel.
     ghost one_value: { (p q : Self) → form.value p ≡ form.value q → p ≡ q };
@@ -174,6 +196,18 @@ impl Pixel for u8 {
     fn decode_row(dst: &mut [u8], src: &[u8]) {
         dst.copy_from_slice(src);
     }
+
+    fn sum_of_absolute_differences(a: &[u8], b: &[u8]) -> u128 {
+        sum_over_rows::<u8, Absolute>(a, b)
+    }
+
+    fn sum_of_squared_errors(a: &[u8], b: &[u8]) -> u128 {
+        sum_over_rows::<u8, Squared>(a, b)
+    }
+
+    fn halve_rows(dst: &mut [u8], top: &[u8], bottom: &[u8]) {
+        halve_bytes(dst, top, bottom);
+    }
 }
 
 impl Pixel for u16 {
@@ -242,6 +276,18 @@ impl Pixel for u16 {
         for i in 16 * blocks..dst.len() {
             dst[i] = u16::from_le_bytes([src[2 * i], src[2 * i + 1]]);
         }
+    }
+
+    fn sum_of_absolute_differences(a: &[u16], b: &[u16]) -> u128 {
+        sum_over_rows::<u16, Absolute>(a, b)
+    }
+
+    fn sum_of_squared_errors(a: &[u16], b: &[u16]) -> u128 {
+        sum_over_rows::<u16, Squared>(a, b)
+    }
+
+    fn halve_rows(dst: &mut [u16], top: &[u16], bottom: &[u16]) {
+        halve_words(dst, top, bottom);
     }
 }
 

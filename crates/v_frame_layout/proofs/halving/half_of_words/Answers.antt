@@ -1,0 +1,6 @@
+-- The lanes are the means of blocks of four.
+use Rattle.v_frame_layout.proofs.HalfLanes.{halved_words}
+use Rattle.v_frame_layout.proofs.halving.half_of_words.Goals as goal
+
+pub returns : goal.returns
+returns c = halved_words 8 c.args.top.now c.args.bottom.now c.requires.first c.requires.second c.type_inv.top c.type_inv.bottom
