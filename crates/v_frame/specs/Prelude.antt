@@ -1,6 +1,8 @@
 -- The words and types that callers' clauses cite, passed on from one place. A variant is written
 -- behind its type (`Answer.Number 3`), and needs no import there.
 pub use Rattle.v_frame_layout.specs.Pixel.{PixelForm, one_byte, two_bytes, bytes_of, byte_of, value_of_bytes, bytes_of_pixels, byte_list}
+pub use Rattle.v_frame_layout.specs.PixelRows.{squared_error, rounded_mean, absolute_differences, squared_errors, halved}
+pub use Rattle.v_frame_layout.specs.Laws.{AddsUp}
 pub use Rattle.v_frame_layout.specs.Chroma.{ratio_of, chroma_size_of, subsampled}
 pub use Rattle.v_frame_layout.specs.Geometry.{Geometry, geometry_of, stride_of, alloc_height_of, alloc_size_of, IsGeometry, IsInside, Fits, place_of, origin_of, region_geometry, whole_geometry, usize_max, isize_max, Mark, Border, Visible, cutting_plan, mark_at}
 pub use Rattle.v_frame_layout.specs.Table.{Table, width_of, height_of, pixel_at, rectangle, row_major, with_pixel, with_writes, with_item_by, overwritten_row, cut_rows}

@@ -26,8 +26,9 @@ pub use bytes::bytes_go_through_a_frame;
 pub use equality::frames_are_equal;
 use std::alloc::{AllocError, Global};
 pub use v_frame_layout::laws::{
-    chroma_sizes_agree, geometries_are_equal, pixel_of_bytes, pixel_of_value, pixels_are_equal,
-    pixels_compare, pixels_hash, quotients_are_exact, tables_agree_by_rows,
+    chroma_sizes_agree, geometries_are_equal, halves_join, pixel_of_bytes, pixel_of_value,
+    pixels_are_equal, pixels_compare, pixels_hash, quotients_are_exact, sums_add_up,
+    tables_agree_by_rows,
 };
 pub use v_frame_plane::laws::{
     alike_entries_show_alike, buffer_is_determined, bytes_come_back, bytes_come_back_without_tails,
