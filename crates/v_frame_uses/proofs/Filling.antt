@@ -7,62 +7,16 @@ use Rattle.std.proofs.Math.Nat.{mul-le-mul_right, div-add-mod, mod-lt}
 use Rattle.v_frame.specs.Prelude.{Geometry, stride_of, alloc_height_of, alloc_size_of, raster, filled, Mark, Border, Visible, cutting_plan, mark_at, HasMarks, AgreeAt}
 
 module _ {T : Type 0} where
-  get-front : (a b : List T) (i : ℕ) → i < length a → slice_get (a ++ b) i ≡ slice_get a i
-  get-front [] b i h = absurd (omega arith)
-  get-front (x ∷ a) b zero h = refl
-  get-front (x ∷ a) b (suc i) h = get-front a b i (omega arith)
-
-  get-back : (a b : List T) (i : ℕ) → slice_get (a ++ b) (length a + i) ≡ slice_get b i
-  get-back [] b i = let e : 0 + i ≡ i = omega arith in rw e refl
-  get-back (x ∷ a) b i =
-      let e : suc (length a) + i ≡ suc (length a + i) = omega arith in
-      ap (slice_get (x ∷ (a ++ b))) e ∙ get-back a b i
-
-  get-take : (n : ℕ) (xs : List T) (i : ℕ) → i < n → slice_get (take n xs) i ≡ slice_get xs i
-  get-take zero xs i h = absurd (omega arith)
-  get-take (suc n) [] i h = refl
-  get-take (suc n) (x ∷ xs) zero h = refl
-  get-take (suc n) (x ∷ xs) (suc i) h = get-take n xs i (omega arith)
-
-  get-drop : (n : ℕ) (xs : List T) (i : ℕ) → slice_get (drop n xs) i ≡ slice_get xs (n + i)
-  get-drop zero xs i = let e : 0 + i ≡ i = omega arith in rw e refl
-  get-drop (suc n) [] i = refl
-  get-drop (suc n) (x ∷ xs) i =
-      let e : suc n + i ≡ suc (n + i) = omega arith in
-      get-drop n xs i ∙ ap (slice_get (x ∷ xs)) (sym e)
-
   get-replicate : (n : ℕ) (x : T) (i : ℕ) → i < n → slice_get (replicate n x) i ≡ Some x
   get-replicate zero x i h = absurd (omega arith)
   get-replicate (suc n) x zero h = refl
   get-replicate (suc n) x (suc i) h = get-replicate n x i (omega arith)
-
-  length-copies : (n : ℕ) (x : T) → length (replicate n x) ≡ n
-  length-copies zero x = refl
-  length-copies (suc n) x = ap suc (length-copies n x)
 
   -- the places from one up to another hold a value, and all others what they held
   pub record IsFilled (value : T) (start end : ℕ) (old new : List T) : Type 0 where
     pub before : (place : ℕ) → place < start → slice_get new place ≡ slice_get old place
     pub inside : (place : ℕ) → start ≤ place → place < end → slice_get new place ≡ Some value
     pub behind : (place : ℕ) → end ≤ place → slice_get new place ≡ slice_get old place
-
-  -- a part of a list that is replaced by copies of a value
-  pub filled_part : (xs ys : List T) (value : T) (start end n : ℕ) → start ≤ end → end ≤ length xs → n ≡ end - start → ys ≡ replicate n value → IsFilled value start end xs (take start xs ++ (ys ++ drop n (drop start xs)))
-  filled_part xs ys value start end n order within size filled =
-      let front : length (take start xs) ≡ start = length-take-le start xs (omega arith) in
-      let rest = drop n (drop start xs) in
-      let long : length ys ≡ n = ap length filled ∙ length-copies n value in
-      record {
-        before = λ place h. get-front (take start xs) (ys ++ rest) place (omega arith) ∙ get-take start xs place h;
-        inside = λ place from to.
-            let at : place ≡ length (take start xs) + (place - start) = omega arith in
-            ap (slice_get (take start xs ++ (ys ++ rest))) at ∙ get-back (take start xs) (ys ++ rest) (place - start) ∙ get-front ys rest (place - start) (omega arith) ∙ ap (λ zs. slice_get zs (place - start)) filled ∙ get-replicate n value (place - start) (omega arith);
-        behind = λ place from.
-            let past : ℕ = place - end in
-            let at : place ≡ length (take start xs) + (length ys + past) = omega arith in
-            let is : start + (n + past) ≡ place = omega arith in
-            ap (slice_get (take start xs ++ (ys ++ rest))) at ∙ get-back (take start xs) (ys ++ rest) (length ys + past) ∙ get-back ys rest past ∙ get-drop n (drop start xs) past ∙ get-drop start xs (n + past) ∙ ap (slice_get xs) is;
-      }
 
   -- the visible places hold what they held, and the border places below `end` the value
   pub record IsFilledUpTo (g : Geometry) (value : T) (end : ℕ) (old new : List T) : Type 0 where

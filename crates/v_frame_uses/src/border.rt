@@ -1,10 +1,10 @@
 //! The border of a plane, filled through its whole buffer.
-ghost use Rattle.std.specs.Prelude.{◌≡◌, ◌<◌, ◌≤◌, ℕ, length, Some, slice_get};
-ghost use Rattle.v_frame.specs.Prelude.{alloc_size_of, Fits, raster, filled, table_of, border_of, Border, Visible, cutting_plan, mark_at, AgreeAt};
+ghost use Rattle.std.specs.Prelude.{◌≡◌, ◌≢◌, ◌-◌, ◌<◌, ◌≤◌, ℕ, length, Some, slice_get};
+ghost use Rattle.v_frame.specs.Prelude.{alloc_size_of, Fits, raster, filled, table_of, border_of, whole_rows, Border, Visible, cutting_plan, mark_at, AgreeAt};
 
 use v_frame::laws::{alike_entries_show_alike, places_have_marks};
-use v_frame::pixel::Pixel;
-use v_frame::plane::{Plane, PlaneGeometry};
+use v_frame::pixel::{Pixel, fill_row};
+use v_frame::plane::{Plane, PlaneGeometry, visible_rows_mut};
 
 /// Fills the border of a plane with one value: afterwards it is that of a plane that holds the value everywhere. What the
 /// plane shows stays.
@@ -57,5 +57,22 @@ fn fill_part<T: Pixel>(buffer: &mut [T], start: usize, end: usize, value: T)
     ensures behind { (place : ℕ) → end ≤ place
         → slice_get buffer.new place ≡ slice_get buffer.old place }
 {
-    buffer[start..end].fill(value);
+    fill_row(&mut buffer[start..end], value);
+}
+
+/// Repeats the first visible row in the row above it, each with its border. All other rows of the buffer stay.
+pub fn repeat_first_row<T: Pixel>(plane: &mut Plane<T>)
+    requires { 0 < plane.old.geometry.pad_top }
+    ensures above { let top = plane.old.geometry.pad_top in
+        slice_get (whole_rows plane.new) (top - 1) ≡ slice_get (whole_rows plane.old) top }
+    ensures others { (k : ℕ) → k ≢ plane.old.geometry.pad_top - 1
+        → slice_get (whole_rows plane.new) k ≡ slice_get (whole_rows plane.old) k }
+    ensures geometry { plane.new.geometry ≡ plane.old.geometry }
+{
+    let geometry = plane.geometry();
+    let whole = geometry.whole_buffer();
+    let top = geometry.pad_top();
+    let _height = plane.height();
+    let (above, first) = visible_rows_mut(plane.data_mut(), whole, top - 1, top);
+    above.copy_from_slice(first);
 }

@@ -1,9 +1,9 @@
-//! Planes whose buffer is kept elsewhere: read without a copy.
-ghost use Rattle.std.specs.Prelude.{◌≡◌, Some, length, slice_get, IfSome};
-ghost use Rattle.v_frame.specs.Prelude.{geometry_of, pixel_at, raster, row_major, table_of};
+//! Planes whose buffer is kept elsewhere: read and written without a copy.
+ghost use Rattle.std.specs.Prelude.{ℕ, ◌≡◌, ◌≢◌, ◌<◌, Some, length, replicate, slice_get, slice_set};
+ghost use Rattle.v_frame.specs.Prelude.{IsWhole, KeepsBorder, geometry_of, pixel_at, raster, row_major, table_of};
 
-use v_frame::pixel::Pixel;
-use v_frame::plane::{Plane, PlaneGeometry, PlaneRef};
+use v_frame::pixel::{Pixel, fill_row};
+use v_frame::plane::{Plane, PlaneGeometry, PlaneRef, split_row_mut};
 
 /// The pixel at column 1 of row 1 of an array that holds 3 by 2 pixels in a border of one column to the left and one row above.
 pub fn pixel_of_an_array(entries: &[u16; 12]) -> Option<u16>
@@ -34,4 +34,16 @@ pub fn first_row<'a, T>(plane: &PlaneRef<'a, T>) -> &'a [T]
         Some(row) => row,
         None => unreachable!(),
     }
+}
+
+/// Fills a row of a plane whose buffer is kept elsewhere. All else stays, its border too.
+pub fn fill_row_of_buffer<T: Pixel>(buffer: &mut [T], geometry: PlaneGeometry, y: usize, pixel: T)
+    requires whole { IsWhole geometry buffer.old }
+    requires high { y < geometry.height }
+    ensures table { table_of (raster geometry buffer.new) ≡ slice_set
+        (table_of (raster geometry buffer.old)) y (replicate geometry.width pixel) }
+    ensures border { KeepsBorder (raster geometry buffer.old) (raster geometry buffer.new) }
+{
+    let (row, _) = split_row_mut(buffer, geometry, y);
+    fill_row(row, pixel);
 }

@@ -15,6 +15,7 @@ pub mod pixels;
 pub mod planes;
 pub mod reads;
 pub mod rectangles;
+pub mod regions;
 pub mod row_pairs;
 pub mod start;
 pub mod streams;

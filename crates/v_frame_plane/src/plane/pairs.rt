@@ -23,11 +23,11 @@ pub fn split_row_mut<T>(buffer: &mut [T], geometry: PlaneGeometry, y: usize) -> 
     ensures rest { result.1.now ≡ drop (place_of geometry 0 y + geometry.width) buffer.old }
     ensures written { WritesEachFront (raster geometry buffer.old) y result.0.now result.1.now }
 {
-    let start = row_start(geometry, y);
+    let place = row_start(geometry, y);
     let width = geometry.width();
-    let end = start + width;
+    let end = place + width;
     let behind = buffer.len() - end;
-    two_parts(buffer, start, width, end, behind)
+    two_parts(buffer, place, width, end, behind)
 }
 
 /// The visible pixels of rows `y` and `z` for writing, the first above the second.

@@ -10,9 +10,9 @@ pub returns : goal.returns
 returns g c =
     let xs = c.args.buffer.now in let y = c.args.y in let lent = c.two_parts.result in
     let p : Raster g.row.T.Denot = raster c.args.geometry xs in
-    let s = c.row_start-start.result in let n = c.width-width.result in let k = c.args.geometry in
-    let start = c.row_start-start.ensures.place in let width = c.width-width.ensures.value in let whole = c.requires.whole.whole in
-    let within : s + n ≤ length xs = omega (arith, c.row_start-start.ensures.within, width, whole) in
+    let s = c.row_start-place.result in let n = c.width-width.result in let k = c.args.geometry in
+    let start = c.row_start-place.ensures.place in let width = c.width-width.ensures.value in let whole = c.requires.whole.whole in
+    let within : s + n ≤ length xs = omega (arith, c.row_start-place.ensures.within, width, whole) in
     let row = row_at p whole y s n lent.0.now c.requires.high start width c.two_parts.ensures.first in
     let rest = c.two_parts.ensures.second ∙ take_all _ (drop (s + n) xs) (omega (arith, length-drop (s + n) xs)) ∙ ap (λ a. drop (a + n) xs) start ∙ ap (λ w. drop (place_of k 0 y + w) xs) width in (
       ((refl, refl), λ ys zs. parts_to_the_end xs ys zs s n within ∙ ap (λ a. take a xs ++ (ys ++ zs)) start),
