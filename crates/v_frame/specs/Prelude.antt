@@ -10,7 +10,7 @@ pub use Rattle.v_frame_layout.specs.declared.chroma.ChromaSubsampling.{ChromaSub
 pub use Rattle.v_frame_layout.specs.declared.chroma.ChromaSubsampling.TheVariants.{Yuv420, Yuv422, Yuv411, Yuv444, Monochrome}
 pub use Rattle.v_frame_plane.specs.Plane.{Raster, raster, filled, table_of, border_of, whole_rows, with_entries, KeepsBorder, unshown, IsWhole, IsFull, options_of}
 pub use Rattle.v_frame_plane.specs.Copy.{CopyOutcome, Copies, packed_copy, strided_copy, packed_byte_copy, piece_fronts, strided_table}
-pub use Rattle.v_frame_plane.specs.Laws.{HasMarks, HasPlaces, HoldsPixels, HoldsRows, ShowsRectangle, AgreeAt, IsMadeOfEntries}
+pub use Rattle.v_frame_plane.specs.Laws.{HasMarks, HasPlaces, HoldsPixels, HoldsRows, HoldsPixelsFrom, ShowsRectangle, AgreeAt, IsMadeOfEntries}
 pub use Rattle.v_frame_plane.specs.RowsLeft.{rows_left, rows_slice}
 pub use Rattle.v_frame_plane.specs.PixelsLeft.{pixels_left, pixels_slice}
 pub use Rattle.v_frame_plane.specs.declared.error.CopyError.{CopyError}

@@ -28,13 +28,13 @@ use std::alloc::{AllocError, Global};
 pub use v_frame_layout::laws::{
     chroma_sizes_agree, geometries_are_equal, halves_join, pixel_of_bytes, pixel_of_value,
     pixels_are_equal, pixels_compare, pixels_hash, quotients_are_exact, sums_add_up,
-    tables_agree_by_rows,
+    tables_agree_by_pixels, tables_agree_by_rows,
 };
 pub use v_frame_plane::laws::{
     alike_entries_show_alike, buffer_is_determined, bytes_come_back, bytes_come_back_without_tails,
     packed_copies_agree, packed_outcomes_agree, pixels_are_let_go, pixels_have_places,
-    places_have_marks, places_hold_pixels, planes_are_equal, rows_are_let_go, rows_are_parts,
-    tables_are_rectangles,
+    places_have_marks, places_hold_pixels, planes_are_equal, rectangles_hold_pixels,
+    rows_are_let_go, rows_are_parts, tables_are_rectangles,
 };
 pub use walks::full_walks_change_each_pixel;
 pub use writing_walks::{lent_pixels_are_drawn_once, lent_rows_are_drawn_once};

@@ -2,7 +2,7 @@
 //!
 //! Each function makes the calls that its law speaks of, and its contract is the law. A law of the definitions alone has
 //! an empty body. Our own.
-ghost use Rattle.std.specs.Prelude.{◌≡◌, ℕ, ◌*◌, ◌^◌, ◌<◌, ◌↔◌, List, ◌++◌, length, Some, Ok, IsTrue, slice_get};
+ghost use Rattle.std.specs.Prelude.{◌≡◌, ℕ, ◌*◌, ◌^◌, ◌<◌, ◌↔◌, All, List, ◌++◌, length, Some, Ok, IsTrue, slice_get};
 ghost use Rattle.std.specs.Ordering.{nat_cmp};
 ghost use Rattle.v_frame_layout.specs.Pixel.{bytes_of};
 ghost use Rattle.v_frame_layout.specs.Laws.{AddsUp, IsQuotient, HasChromaSize};
@@ -10,7 +10,7 @@ ghost use Rattle.v_frame_layout.specs.Chroma.{subsampled};
 ghost use Rattle.v_frame_layout.specs.declared.chroma.ChromaSubsampling.{ChromaSubsampling};
 ghost use Rattle.v_frame_layout.specs.Geometry.{Geometry};
 ghost use Rattle.v_frame_layout.specs.PixelRows.{absolute_differences, squared_errors, halved};
-ghost use Rattle.v_frame_layout.specs.Table.{Table};
+ghost use Rattle.v_frame_layout.specs.Table.{Table, pixel_at};
 
 use crate::geometry::PlaneGeometry;
 use crate::pixel::Pixel;
@@ -55,6 +55,14 @@ pub fn pixels_hash<T: Pixel>()
 pub fn tables_agree_by_rows<T>()
     ensures { (table other : Table T) → length table ≡ length other
         → ((y : ℕ) → y < length table → slice_get table y ≡ slice_get other y) → table ≡ other }
+{}
+
+/// Tables of one size are equal where they agree pixel by pixel: what a filter has done, told as one table.
+pub fn tables_agree_by_pixels<T>()
+    ensures { (width : ℕ) (table other : Table T) → length table ≡ length other
+        → All (λ row. length row ≡ width) table → All (λ row. length row ≡ width) other
+        → ((x y : ℕ) → x < width → y < length table → pixel_at table x y ≡ pixel_at other x y)
+        → table ≡ other }
 {}
 
 /// Sums over two rows are made of those over their parts, and sums over two tables of those over their rows, one row after

@@ -1,11 +1,12 @@
 -- Rectangles of a table: what a plane shows of a buffer of which another shows more.
-use Rattle.std.proofs.Common.{ℕ, ◌≡◌, ◌+◌, ◌*◌, ◌<◌, ◌≤◌, List, length, map, take, drop, Some, slice_get, refl, sym, ◌∙◌, ap, arith, length-take-le, length-drop}
+use Rattle.std.proofs.Common.{ℕ, ◌≡◌, ◌+◌, ◌*◌, ◌<◌, ◌≤◌, List, length, map, take, drop, Option, Some, None, option_map, option_and_then, slice_get, refl, sym, ◌∙◌, ap, arith, length-take-le, length-drop}
 use Rattle.std.proofs.lemmas.List.{length-map, drop-drop, drop-take, take-take}
 use Rattle.v_frame_layout.specs.Geometry.{Geometry, stride_of, IsInside, region_geometry, whole_geometry}
-use Rattle.v_frame_layout.specs.Table.{rectangle}
+use Rattle.std.proofs.lemmas.Option.{slice_get-map as mapped}
+use Rattle.v_frame_layout.specs.Table.{Table, rectangle}
 use Rattle.v_frame_layout.proofs.Plans.{row_start}
 use Rattle.v_frame_layout.proofs.Tables.{same_by_slice_get}
-use Rattle.v_frame_plane.specs.Laws.{ShowsRectangle}
+use Rattle.v_frame_plane.specs.Laws.{ShowsRectangle, HoldsPixelsFrom}
 use Rattle.v_frame_plane.specs.Plane.{Raster, raster, table_of}
 use Rattle.v_frame_plane.proofs.Lists.{slice_get-take, slice_get-drop, slice_get-map}
 use Rattle.v_frame_plane.proofs.Pictures.{shown_row, length-shown}
@@ -57,3 +58,17 @@ module _ {T : Type 0} where
       let g = p.geometry in
       shows_part g (whole_geometry g) g.pad_left g.pad_top p.buffer
       (record { stride = omega arith; left = omega arith; top = omega arith; across = omega arith; down = omega arith })
+
+  -- the pixels of a rectangle are those of the table, counted from its corner
+  module _ (x i width : ℕ) (across : i < width) where
+    pixel_of_part : (row : Option (List T)) → option_and_then (λ r. slice_get r i) (option_map (λ r. take width (drop x r)) row) ≡ option_and_then (λ r. slice_get r (x + i)) row
+    pixel_of_part None = refl
+    pixel_of_part (Some row) = slice_get-take width (drop x row) i across ∙ slice_get-drop x row i
+
+  pub rectangle_holds : (rows : Table T) (x y width height : ℕ) → HoldsPixelsFrom rows x y width height (rectangle x y width height rows)
+  rectangle_holds rows x y width height = λ i j across down.
+      let cut : List T → List T = λ row. take width (drop x row) in
+      let below = drop y rows in
+      ap (option_and_then (λ r. slice_get r i)) (mapped cut (take height below) j)
+      ∙ pixel_of_part x i width across (slice_get (take height below) j)
+      ∙ ap (option_and_then (λ r. slice_get r (x + i))) (slice_get-take height below j down ∙ slice_get-drop y rows j)

@@ -2,7 +2,7 @@
 use Rattle.std.specs.Prelude.{ℕ, ◌≡◌, ◌+◌, ◌*◌, ◌<◌, ◌≤◌, List, length, take, drop, Some, None, OnOk, slice_get}
 use Rattle.v_frame_layout.specs.Geometry.{Geometry, stride_of, alloc_height_of, alloc_size_of, Mark, Border, Visible, cutting_plan, mark_at, place_of}
 use Rattle.v_frame_layout.specs.Pixel.{PixelForm, byte_list}
-use Rattle.v_frame_layout.specs.Table.{pixel_at, rectangle}
+use Rattle.v_frame_layout.specs.Table.{Table, pixel_at, rectangle}
 use Rattle.v_frame_plane.specs.Copy.{CopyOutcome}
 use Rattle.v_frame_plane.specs.Plane.{Raster, table_of, border_of, whole_rows}
 
@@ -57,6 +57,11 @@ module _ {T : Type 0} where
   ShowsRectangle p =
       table_of p ≡ rectangle p.geometry.pad_left p.geometry.pad_top p.geometry.width
       p.geometry.height (whole_rows p)
+
+  -- a table of so many pixels holds those of another one from column x of row y on
+  abbrev pub HoldsPixelsFrom : Table T → ℕ → ℕ → ℕ → ℕ → Table T → Type 0
+  HoldsPixelsFrom rows x y width height part =
+      (i j : ℕ) → i < width → j < height → pixel_at part i j ≡ pixel_at rows (x + i) (y + j)
 
   -- two planes hold the same entry at each place of a mark
   abbrev pub AgreeAt : Mark → Raster T → Raster T → Type 0

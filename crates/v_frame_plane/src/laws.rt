@@ -5,12 +5,12 @@
 ghost use Rattle.std.specs.Prelude.{All, List, ℕ, ◌≡◌, ◌*◌, ◌<◌, ◌≤◌, ◌↔◌, IsTrue};
 ghost use Rattle.v_frame_layout.specs.Geometry.{Geometry, usize_max};
 ghost use Rattle.v_frame_layout.specs.Pixel.{one_byte};
-ghost use Rattle.v_frame_layout.specs.Table.{Table, width_of, height_of, row_major};
+ghost use Rattle.v_frame_layout.specs.Table.{Table, width_of, height_of, rectangle, row_major};
 ghost use Rattle.v_frame_plane.specs.Plane.{Raster, table_of};
 ghost use Rattle.v_frame_plane.specs.Copy.{Copies, packed_copy, piece_fronts, strided_copy, packed_byte_copy};
 ghost use Rattle.v_frame_plane.specs.LetGo.{PixelsAreLetGo, RowsAreLetGo};
 ghost use Rattle.std.specs.Borrow.{sem};
-ghost use Rattle.v_frame_plane.specs.Laws.{DeterminesBuffer, HasPlaces, HasMarks, HoldsPixels, HoldsRows, IsMadeOfEntries, ComesBack, ShowsRectangle};
+ghost use Rattle.v_frame_plane.specs.Laws.{DeterminesBuffer, HasPlaces, HasMarks, HoldsPixels, HoldsRows, HoldsPixelsFrom, IsMadeOfEntries, ComesBack, ShowsRectangle};
 
 use crate::plane::{CopyError, Plane};
 use v_frame_layout::pixel::Pixel;
@@ -38,6 +38,12 @@ pub fn rows_are_parts<T>()
 /// What a plane shows is a rectangle of its whole buffer, seen as a picture without a border.
 pub fn tables_are_rectangles<T>()
     ensures { (p : Raster T) → ShowsRectangle p }
+{}
+
+/// The pixels of a rectangle are those of the table, counted from its corner.
+pub fn rectangles_hold_pixels<T>()
+    ensures { (rows : Table T) (x y width height : ℕ) → HoldsPixelsFrom rows x y width height
+        (rectangle x y width height rows) }
 {}
 
 /// The mark of the place in each row and column of a buffer: visible inside the rectangle, and else border. Past the buffer

@@ -1,0 +1,5 @@
+use Rattle.v_frame_layout.proofs.Tables.{same_by_pixel_at}
+use Rattle.v_frame_layout.proofs.laws.tables_agree_by_pixels.Goals as goal
+
+pub returns : goal.returns
+returns g c = same_by_pixel_at
