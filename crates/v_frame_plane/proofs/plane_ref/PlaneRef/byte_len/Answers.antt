@@ -1,6 +1,6 @@
 -- The pixels are those of the rectangle, and each has two bytes at most.
 use Rattle.std.proofs.Common.{◌≡◌, ◌*◌, length, ◌∙◌, sym, ap, arith}
-use Rattle.v_frame_layout.specs.Table.{width_of, height_of, row_major}
+use Rattle.v_frame_layout.specs.Table.{width_of, row_major}
 use Rattle.v_frame_plane.specs.Plane.{Raster, raster, table_of}
 use Rattle.v_frame_plane.proofs.BegunPixels.{length-bytes_of_pixels, few_bytes}
 use Rattle.v_frame_plane.proofs.BegunRows.{visible_pixels, visible_few}
