@@ -8,7 +8,8 @@ use Rattle.v_frame_layout.specs.Pixel.{one_byte, two_bytes}
 use Rattle.v_frame_layout.specs.PixelRows.{halved, rounded_mean}
 
 -- lanes that hold two neighbours each, in a base with room for the sum of four pixels
-module _ (base : ℕ) (room : 4 * base ≤ base * base) (low : (a b : ℕ) → a < base → b < base → bit_and (a + base * b) (base - 1) ≡ a) (high : (a b : ℕ) → a < base → (a + base * b) / base ≡ b)
+module _ (base : ℕ) (room : 4 * base ≤ base * base) (low : (a b : ℕ) → a < base → b < base → bit_and (a + base * b) (base - 1) ≡ a)
+    (high : (a b : ℕ) → a < base → (a + base * b) / base ≡ b)
     (first : (a b rest : ℕ) → a < base → b < base → (a + base * (b + base * rest)) % (base * base) ≡ a + base * b)
     (left : (a b rest : ℕ) → a < base → b < base → (a + base * (b + base * rest)) / (base * base) ≡ rest) where
   -- what such a lane, and the lane below, become
@@ -26,7 +27,8 @@ module _ (base : ℕ) (room : 4 * base ≤ base * base) (low : (a b : ℕ) → a
       rw (low a b small small1, low c d small2 small3, high a b small, high c d small2, two, three, four, all) refl
 
   halved_lanes : (n : ℕ) (top bottom : List ℕ) → 2 * n ≤ length top → 2 * n ≤ length bottom → Each1 (λ x. x < base) top → Each1 (λ x. x < base) bottom
-      → zip2 lane_mean (digits_l (base * base) n (number_l base (take (2 * n) top))) (digits_l (base * base) n (number_l base (take (2 * n) bottom))) ≡ halved one_byte (take (2 * n) top) (take (2 * n) bottom)
+      → zip2 lane_mean (digits_l (base * base) n (number_l base (take (2 * n) top))) (digits_l (base * base) n (number_l base (take (2 * n) bottom)))
+      ≡ halved one_byte (take (2 * n) top) (take (2 * n) bottom)
   halved_lanes zero top bottom long long1 small small1 = refl
   halved_lanes (suc n) [] bottom long long1 small small1 = absurd (omega (arith, long))
   halved_lanes (suc n) (a ∷ []) bottom long long1 small small1 = absurd (omega (arith, long))
@@ -44,17 +46,24 @@ module _ (base : ℕ) (room : 4 * base ≤ base * base) (low : (a b : ℕ) → a
 abbrev byte_mean : ℕ → ℕ → ℕ
 byte_mean t b = ((((bit_and t 255 + t / 256) % 65536 + bit_and b 255) % 65536 + b / 256) % 65536 + 2) % 65536 / 4
 
-pub halved_bytes : (n : ℕ) (top bottom : List ℕ) → 2 * n ≤ length top → 2 * n ≤ length bottom → ((k : ℕ) → Fits w8 (get_or top k 0)) → ((k : ℕ) → Fits w8 (get_or bottom k 0))
-    → zip2 byte_mean (digits_l 65536 n (number_l 256 (take (2 * n) top))) (digits_l 65536 n (number_l 256 (take (2 * n) bottom))) ≡ halved one_byte (take (2 * n) top) (take (2 * n) bottom)
+pub halved_bytes : (n : ℕ) (top bottom : List ℕ) → 2 * n ≤ length top → 2 * n ≤ length bottom
+    → ((k : ℕ) → Fits w8 (get_or top k 0)) → ((k : ℕ) → Fits w8 (get_or bottom k 0))
+    → zip2 byte_mean (digits_l 65536 n (number_l 256 (take (2 * n) top))) (digits_l 65536 n (number_l 256 (take (2 * n) bottom)))
+    ≡ halved one_byte (take (2 * n) top) (take (2 * n) bottom)
 halved_bytes n top bottom long long1 fits fits1 =
-    halved_lanes 256 (omega arith) (λ a b small small1. and_mask (a + 256 * b) 8 ∙ omega (arith, small)) (λ a b small. omega (arith, small)) (λ a b rest small small1. omega (arith, small, small1)) (λ a b rest small small1. omega (arith, small, small1))
+    halved_lanes 256 (omega arith) (λ a b small small1. and_mask (a + 256 * b) 8 ∙ omega (arith, small)) (λ a b small. omega (arith, small))
+    (λ a b rest small small1. omega (arith, small, small1)) (λ a b rest small small1. omega (arith, small, small1))
     n top bottom long long1 (Each1-from_get_or (λ x. x < 256) top 0 (λ k h. (fits k).fits)) (Each1-from_get_or (λ x. x < 256) bottom 0 (λ k h. (fits1 k).fits))
 
 -- lanes of two wider pixels, which are made of their bytes
 abbrev word_mean : ℕ → ℕ → ℕ
 word_mean t b = ((((bit_and t 65535 + t / 65536) % 4294967296 + bit_and b 65535) % 4294967296 + b / 65536) % 4294967296 + 2) % 4294967296 / 4
 
-bytes_of_words : (n : ℕ) (words : List ℕ) → n ≤ length words → Each1 (λ x. x < 65536) words → number_l 256 (digits_l 256 (2 * n) (number_l 65536 (take n words))) ≡ number_l 65536 (take n words)
+abbrev word_lanes : ℕ → List ℕ → List ℕ
+word_lanes n pixels = digits_l 4294967296 n (number_l 256 (digits_l 256 (2 * (2 * n)) (number_l 65536 (take (2 * n) pixels))))
+
+bytes_of_words : (n : ℕ) (words : List ℕ) → n ≤ length words → Each1 (λ x. x < 65536) words
+    → number_l 256 (digits_l 256 (2 * n) (number_l 65536 (take n words))) ≡ number_l 65536 (take n words)
 bytes_of_words zero words long small = refl
 bytes_of_words (suc n) [] long small = absurd (omega (arith, long))
 bytes_of_words (suc n) (word ∷ words) long small =
@@ -66,11 +75,13 @@ bytes_of_words (suc n) (word ∷ words) long small =
     let more = bytes_of_words n words (omega (arith, long)) small.1 in
     rw (e, low, high, left, more) (omega arith)
 
-pub halved_words : (n : ℕ) (top bottom : List ℕ) → 2 * n ≤ length top → 2 * n ≤ length bottom → ((k : ℕ) → Fits w16 (get_or top k 0)) → ((k : ℕ) → Fits w16 (get_or bottom k 0))
-    → let lanes : List ℕ → List ℕ = λ pixels. digits_l 4294967296 n (number_l 256 (digits_l 256 (2 * (2 * n)) (number_l 65536 (take (2 * n) pixels)))) in zip2 word_mean (lanes top) (lanes bottom) ≡ halved two_bytes (take (2 * n) top) (take (2 * n) bottom)
+pub halved_words : (n : ℕ) (top bottom : List ℕ) → 2 * n ≤ length top → 2 * n ≤ length bottom
+    → ((k : ℕ) → Fits w16 (get_or top k 0)) → ((k : ℕ) → Fits w16 (get_or bottom k 0))
+    → zip2 word_mean (word_lanes n top) (word_lanes n bottom) ≡ halved two_bytes (take (2 * n) top) (take (2 * n) bottom)
 halved_words n top bottom long long1 fits fits1 =
     let small = Each1-from_get_or (λ x. x < 65536) top 0 (λ k h. (fits k).fits) in
     let small1 = Each1-from_get_or (λ x. x < 65536) bottom 0 (λ k h. (fits1 k).fits) in
     rw (bytes_of_words (2 * n) top long small, bytes_of_words (2 * n) bottom long1 small1)
-    (halved_lanes 65536 (omega arith) (λ a b small small1. and_mask (a + 65536 * b) 16 ∙ omega (arith, small)) (λ a b small. omega (arith, small)) (λ a b rest small small1. omega (arith, small, small1)) (λ a b rest small small1. omega (arith, small, small1))
+    (halved_lanes 65536 (omega arith) (λ a b small small1. and_mask (a + 65536 * b) 16 ∙ omega (arith, small)) (λ a b small. omega (arith, small))
+    (λ a b rest small small1. omega (arith, small, small1)) (λ a b rest small small1. omega (arith, small, small1))
     n top bottom long long1 small small1)

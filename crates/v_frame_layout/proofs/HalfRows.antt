@@ -9,7 +9,8 @@ use Rattle.v_frame_layout.specs.PixelRows.{halved, rounded_mean}
 
 module _ {T : Type 0} (form : PixelForm T) where
   -- rows that are joined, the first two of one even length
-  pub halved-append : (n : ℕ) (top bottom top1 bottom1 : List T) → length top ≡ 2 * n → length bottom ≡ 2 * n → halved form (top ++ top1) (bottom ++ bottom1) ≡ halved form top bottom ++ halved form top1 bottom1
+  pub halved-append : (n : ℕ) (top bottom top1 bottom1 : List T) → length top ≡ 2 * n → length bottom ≡ 2 * n
+      → halved form (top ++ top1) (bottom ++ bottom1) ≡ halved form top bottom ++ halved form top1 bottom1
   halved-append zero [] [] top1 bottom1 long long1 = refl
   halved-append zero [] (c ∷ bottom) top1 bottom1 long long1 = absurd (omega (arith, long1))
   halved-append zero (a ∷ top) bottom top1 bottom1 long long1 = absurd (omega (arith, long))
@@ -32,28 +33,42 @@ module _ {T : Type 0} (form : PixelForm T) where
 
   -- the fronts of two rows are some pixels, and then those of what these leave
   halved-fronts : (n more : ℕ) (top bottom : List T) → 2 * (n + more) ≤ length top → 2 * (n + more) ≤ length bottom
-      → halved form (take (2 * (n + more)) top) (take (2 * (n + more)) bottom) ≡ halved form (take (2 * n) top) (take (2 * n) bottom) ++ halved form (take (2 * more) (drop (2 * n) top)) (take (2 * more) (drop (2 * n) bottom))
+      → halved form (take (2 * (n + more)) top) (take (2 * (n + more)) bottom)
+      ≡ halved form (take (2 * n) top) (take (2 * n) bottom) ++ halved form (take (2 * more) (drop (2 * n) top)) (take (2 * more) (drop (2 * n) bottom))
   halved-fronts n more top bottom long long1 =
       let both : 2 * (n + more) ≡ 2 * n + 2 * more = omega arith in
       rw (both, take-add (2 * n) (2 * more) top, take-add (2 * n) (2 * more) bottom)
-      (halved-append n (take (2 * n) top) (take (2 * n) bottom) _ _ (length-take-le (2 * n) top (omega (arith, long))) (length-take-le (2 * n) bottom (omega (arith, long1))))
+      (halved-append n (take (2 * n) top) (take (2 * n) bottom) _ _ (length-take-le (2 * n) top (omega (arith, long)))
+      (length-take-le (2 * n) bottom (omega (arith, long1))))
 
   -- a loop that writes a block of lanes at a time, one step on
-  pub halved-block_more : (at from n : ℕ) (pixels top bottom lanes : List T) → from ≡ 2 * at → at + n ≤ length pixels → length top ≡ 2 * length pixels → length bottom ≡ 2 * length pixels
+  pub halved-block_more : (at from n : ℕ) (pixels top bottom lanes : List T) → from ≡ 2 * at → at + n ≤ length pixels
+      → length top ≡ 2 * length pixels → length bottom ≡ 2 * length pixels
       → lanes ≡ halved form (take (2 * n) (take (length top - from) (drop from top))) (take (2 * n) (take (length bottom - from) (drop from bottom)))
-      → take at pixels ≡ halved form (take (2 * at) top) (take (2 * at) bottom) → take (at + n) (put_chunk at pixels lanes) ≡ halved form (take (2 * (at + n)) top) (take (2 * (at + n)) bottom)
+      → take at pixels ≡ halved form (take (2 * at) top) (take (2 * at) bottom)
+      → take (at + n) (put_chunk at pixels lanes) ≡ halved form (take (2 * (at + n)) top) (take (2 * (at + n)) bottom)
   halved-block_more at from n pixels top bottom lanes double room long long1 is so_far =
       let here = rw (take_rest top from, take_rest bottom from, double) at is in
       let first = length-take-le (2 * n) (drop (2 * at) top) (omega (arith, room, long, length-drop (2 * at) top)) in
       let second = length-take-le (2 * n) (drop (2 * at) bottom) (omega (arith, room, long1, length-drop (2 * at) bottom)) in
       let count : length lanes ≡ n = ap length here ∙ length-halved n _ _ first second in
-      take_more_put_chunk at pixels lanes (at + n) (omega (arith, count)) room ∙ ap (λ front. front ++ lanes) so_far ∙ ap (λ back. halved form (take (2 * at) top) (take (2 * at) bottom) ++ back) here
+      take_more_put_chunk at pixels lanes (at + n) (omega (arith, count)) room ∙ ap (λ front. front ++ lanes) so_far
+      ∙ ap (λ back. halved form (take (2 * at) top) (take (2 * at) bottom) ++ back) here
       ∙ sym (halved-fronts at n top bottom (omega (arith, room, long)) (omega (arith, room, long1)))
 
   -- a loop that writes a pixel at a time, one step on
-  pub halved-one_more : (i : ℕ) (pixels top bottom : List T) (pixel d : T) → i < length pixels → length top ≡ 2 * length pixels → length bottom ≡ 2 * length pixels
-      → pixel ≡ form.pixel_of (rounded_mean (form.value (get_or top (2 * i) d)) (form.value (get_or top (2 * i + 1) d)) (form.value (get_or bottom (2 * i) d)) (form.value (get_or bottom (2 * i + 1) d)))
-      → take i pixels ≡ halved form (take (2 * i) top) (take (2 * i) bottom) → take (i + 1) (set pixels i pixel) ≡ halved form (take (2 * (i + 1)) top) (take (2 * (i + 1)) bottom)
+  pub halved-one_more : (i : ℕ) (pixels top bottom : List T) (pixel d : T) → i < length pixels
+      → length top ≡ 2 * length pixels → length bottom ≡ 2 * length pixels
+      → let at : List T → ℕ → ℕ = λ row k. form.value (get_or row k d) in
+      pixel ≡ form.pixel_of (rounded_mean (at top (2 * i)) (at top (2 * i + 1)) (at bottom (2 * i)) (at bottom (2 * i + 1)))
+      → take i pixels ≡ halved form (take (2 * i) top) (take (2 * i) bottom)
+      → take (i + 1) (set pixels i pixel) ≡ halved form (take (2 * (i + 1)) top) (take (2 * (i + 1)) bottom)
   halved-one_more i pixels top bottom pixel d room long long1 is so_far =
-      let pair = rw (drop_more top (2 * i) d (omega (arith, room, long)), drop_more top (2 * i + 1) d (omega (arith, room, long)), drop_more bottom (2 * i) d (omega (arith, room, long1)), drop_more bottom (2 * i + 1) d (omega (arith, room, long1))) at (halved-fronts i 1 top bottom (omega (arith, room, long)) (omega (arith, room, long1))) in
-      take_more_set pixels i pixel room ∙ ap (λ front. front ++ pixel ∷ []) so_far ∙ ap (λ p. halved form (take (2 * i) top) (take (2 * i) bottom) ++ p ∷ []) is ∙ sym pair
+      let pair = rw (
+        drop_more top (2 * i) d (omega (arith, room, long)),
+        drop_more top (2 * i + 1) d (omega (arith, room, long)),
+        drop_more bottom (2 * i) d (omega (arith, room, long1)),
+        drop_more bottom (2 * i + 1) d (omega (arith, room, long1)),
+      ) at (halved-fronts i 1 top bottom (omega (arith, room, long)) (omega (arith, room, long1))) in
+      take_more_set pixels i pixel room ∙ ap (λ front. front ++ pixel ∷ []) so_far
+      ∙ ap (λ p. halved form (take (2 * i) top) (take (2 * i) bottom) ++ p ∷ []) is ∙ sym pair

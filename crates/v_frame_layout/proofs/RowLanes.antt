@@ -50,7 +50,8 @@ squares_at_most m [] small = tt
 squares_at_most m (gap ∷ gaps) small = (mul-le-mul small.0 small.0, squares_at_most m gaps small.1)
 
 -- squares in lanes with room for them do not wrap
-wrapped_squares : (size m : ℕ) → m * m < size → (gaps : List ℕ) → Each1 (λ gap. gap ≤ m) gaps → zip2 (λ x y. (x * y) % size) gaps gaps ≡ map (λ gap. gap * gap) gaps
+wrapped_squares : (size m : ℕ) → m * m < size → (gaps : List ℕ) → Each1 (λ gap. gap ≤ m) gaps
+    → zip2 (λ x y. (x * y) % size) gaps gaps ≡ map (λ gap. gap * gap) gaps
 wrapped_squares size m room [] small = refl
 wrapped_squares size m room (gap ∷ gaps) small =
     let fits : gap * gap < size = omega (arith, mul-le-mul small.0 small.0) in
@@ -61,11 +62,26 @@ map_of_lanes g f [] ys = refl
 map_of_lanes g f (x ∷ xs) [] = refl
 map_of_lanes g f (x ∷ xs) (y ∷ ys) = ap (λ lanes. g (f x y) ∷ lanes) (map_of_lanes g f xs ys)
 
-fold_of_lanes : (f : ℕ → ℕ → ℕ) (xs ys : List ℕ) → fold_l (λ sum x. sum + x) 0 (zip2 f xs ys) ≡ sum_by (λ p. f p.0 p.1) (zip xs ys)
+-- the first differences of two lists, widened; squares that are made in 32 bits; the lanes of a vector, added
+abbrev wide_gaps : Width → ℕ → List ℕ → List ℕ → List ℕ
+wide_gaps w n a b = map (λ gap. gap) (gap_lanes w (take n a) (take n b))
+
+abbrev squares_of : List ℕ → List ℕ
+squares_of gaps = zip2 (λ x y. (x * y) % 2 ^ 32) gaps gaps
+
+abbrev lane_sum : List ℕ → ℕ
+lane_sum lanes = fold_l (λ sum x. sum + x) 0 lanes
+
+-- no addition of these leaves the width
+abbrev AddWithin : Width → List ℕ → Type 0
+AddWithin v lanes = Steps (λ sum x. Fits v (sum + x)) (λ sum x. sum + x) 0 lanes
+
+fold_of_lanes : (f : ℕ → ℕ → ℕ) (xs ys : List ℕ) → lane_sum (zip2 f xs ys) ≡ sum_by (λ p. f p.0 p.1) (zip xs ys)
 fold_of_lanes f xs ys = fold-sum 0 (zip2 f xs ys) ∙ zero-add (sum_l (zip2 f xs ys)) ∙ sum_of_lanes f xs ys
 
 -- the sums of a block of n lanes, of values up to m in the width w: they fit the width v, and are those over pairs
-module _ (w v : Width) (m n : ℕ) (edge : 2 ^ bits w ≡ m + 1) (a b : List ℕ) (fits : (k : ℕ) → Fits w (get_or a k 0)) (fits1 : (k : ℕ) → Fits w (get_or b k 0)) (long : n ≤ length a) (long1 : n ≤ length b) where
+module _ (w v : Width) (m n : ℕ) (edge : 2 ^ bits w ≡ m + 1) (a b : List ℕ) (fits : (k : ℕ) → Fits w (get_or a k 0))
+    (fits1 : (k : ℕ) → Fits w (get_or b k 0)) (long : n ≤ length a) (long1 : n ≤ length b) where
   is : gap_lanes w (take n a) (take n b) ≡ zip2 abs_diff (take n a) (take n b)
   is = gap_lanes_is w (take n a) (take n b) (below_from_Fits w _ (chunk-fits w 0 n a fits)) (below_from_Fits w _ (chunk-fits w 0 n b fits1))
 
@@ -80,41 +96,36 @@ module _ (w v : Width) (m n : ℕ) (edge : 2 ^ bits w ≡ m + 1) (a b : List ℕ
       let first = length-take-le n a long in
       length-zip2 abs_diff (take n a) (take n b) (first ∙ sym (length-take-le n b long1)) ∙ first
 
-  pub absolute_block_fits : m * n < 2 ^ bits v → Steps (λ sum x. Fits v (sum + x)) (λ sum x. sum + x) 0 (map (λ gap. gap) (gap_lanes w (take n a) (take n b)))
+  pub absolute_block_fits : m * n < 2 ^ bits v → AddWithin v (wide_gaps w n a b)
   absolute_block_fits room =
       let gaps = zip2 abs_diff (take n a) (take n b) in
       rw (is, map-id gaps) (sum_fits v 0 gaps (omega (arith, sum_bound m gaps at_most, ap (λ k. m * k) count, room)))
 
-  pub absolute_block_sum : fold_l (λ sum x. sum + x) 0 (map (λ gap. gap) (gap_lanes w (take n a) (take n b))) ≡ sum_by (λ p. abs_diff p.0 p.1) (zip (take n a) (take n b))
+  pub absolute_block_sum : lane_sum (wide_gaps w n a b) ≡ sum_by (λ p. abs_diff p.0 p.1) (zip (take n a) (take n b))
   absolute_block_sum = rw (is, map-id (zip2 abs_diff (take n a) (take n b))) (fold_of_lanes abs_diff (take n a) (take n b))
 
-  -- with squares that are made in 32 bits
-  squares_are : m * m < 2 ^ 32 → let gaps = map (λ gap. gap) (gap_lanes w (take n a) (take n b)) in zip2 (λ x y. (x * y) % 2 ^ 32) gaps gaps ≡ map (λ gap. gap * gap) (zip2 abs_diff (take n a) (take n b))
+  squares_are : m * m < 2 ^ 32 → squares_of (wide_gaps w n a b) ≡ map (λ gap. gap * gap) (zip2 abs_diff (take n a) (take n b))
   squares_are narrow =
       let gaps = zip2 abs_diff (take n a) (take n b) in
       rw (is, map-id gaps) (wrapped_squares (2 ^ 32) m narrow gaps at_most)
 
-  pub squared_block_fits : m * m < 2 ^ 32 → m * m * n < 2 ^ bits v
-      → let gaps = map (λ gap. gap) (gap_lanes w (take n a) (take n b)) in Steps (λ sum x. Fits v (sum + x)) (λ sum x. sum + x) 0 (zip2 (λ x y. (x * y) % 2 ^ 32) gaps gaps)
+  pub squared_block_fits : m * m < 2 ^ 32 → m * m * n < 2 ^ bits v → AddWithin v (squares_of (wide_gaps w n a b))
   squared_block_fits narrow room =
       let gaps = zip2 abs_diff (take n a) (take n b) in
       let squares = map (λ gap. gap * gap) gaps in
       let many : length squares ≡ n = length-map gaps (λ gap. gap * gap) ∙ count in
-      rw (squares_are narrow) (sum_fits v 0 squares (omega (arith, sum_bound (m * m) squares (squares_at_most m gaps at_most), ap (λ k. m * m * k) many, room)))
+      let most = sum_bound (m * m) squares (squares_at_most m gaps at_most) in
+      rw (squares_are narrow) (sum_fits v 0 squares (omega (arith, most, ap (λ k. m * m * k) many, room)))
 
-  pub squared_block_sum : m * m < 2 ^ 32
-      → let gaps = map (λ gap. gap) (gap_lanes w (take n a) (take n b)) in fold_l (λ sum x. sum + x) 0 (zip2 (λ x y. (x * y) % 2 ^ 32) gaps gaps) ≡ sum_by (λ p. squared_error p.0 p.1) (zip (take n a) (take n b))
-  squared_block_sum narrow = rw (squares_are narrow, map_of_lanes (λ gap. gap * gap) abs_diff (take n a) (take n b)) (fold_of_lanes squared_error (take n a) (take n b))
+  pub squared_block_sum : m * m < 2 ^ 32 → lane_sum (squares_of (wide_gaps w n a b)) ≡ sum_by (λ p. squared_error p.0 p.1) (zip (take n a) (take n b))
+  squared_block_sum narrow =
+      let each = map_of_lanes (λ gap. gap * gap) abs_diff (take n a) (take n b) in
+      rw (squares_are narrow, each) (fold_of_lanes squared_error (take n a) (take n b))
 
-  -- the same, where they are widened before they are added
-  pub wide_squared_block_fits : m * m < 2 ^ 32 → m * m * n < 2 ^ bits v
-      → let gaps = map (λ gap. gap) (gap_lanes w (take n a) (take n b)) in Steps (λ sum x. Fits v (sum + x)) (λ sum x. sum + x) 0 (map (λ square. square) (zip2 (λ x y. (x * y) % 2 ^ 32) gaps gaps))
-  wide_squared_block_fits narrow room =
-      let gaps = map (λ (gap : ℕ). gap) (gap_lanes w (take n a) (take n b)) in
-      rw (map-id (zip2 (λ x y. (x * y) % 2 ^ 32) gaps gaps)) (squared_block_fits narrow room)
+  -- the same, where the squares are widened before they are added
+  pub wide_squared_block_fits : m * m < 2 ^ 32 → m * m * n < 2 ^ bits v → AddWithin v (map (λ square. square) (squares_of (wide_gaps w n a b)))
+  wide_squared_block_fits narrow room = rw (map-id (squares_of (wide_gaps w n a b))) (squared_block_fits narrow room)
 
   pub wide_squared_block_sum : m * m < 2 ^ 32
-      → let gaps = map (λ gap. gap) (gap_lanes w (take n a) (take n b)) in fold_l (λ sum x. sum + x) 0 (map (λ square. square) (zip2 (λ x y. (x * y) % 2 ^ 32) gaps gaps)) ≡ sum_by (λ p. squared_error p.0 p.1) (zip (take n a) (take n b))
-  wide_squared_block_sum narrow =
-      let gaps = map (λ (gap : ℕ). gap) (gap_lanes w (take n a) (take n b)) in
-      rw (map-id (zip2 (λ x y. (x * y) % 2 ^ 32) gaps gaps)) (squared_block_sum narrow)
+      → lane_sum (map (λ square. square) (squares_of (wide_gaps w n a b))) ≡ sum_by (λ p. squared_error p.0 p.1) (zip (take n a) (take n b))
+  wide_squared_block_sum narrow = rw (map-id (squares_of (wide_gaps w n a b))) (squared_block_sum narrow)

@@ -1,11 +1,11 @@
 -- Sums over the pairs of two lists, in pieces.
-use Rattle.std.proofs.Common.{ℕ, zero, suc, ◌≡◌, ◌+◌, ◌-◌, ◌*◌, ◌<◌, ◌≤◌, List, [], ◌∷◌, ◌++◌, length, take, drop, get_or, refl, arith}
+use Rattle.std.proofs.Common.{ℕ, zero, suc, ◌≡◌, ◌+◌, ◌-◌, ◌*◌, ◌^◌, ◌<◌, ◌≤◌, List, [], ◌∷◌, ◌++◌, length, take, drop, get_or, refl, arith}
 use Rattle.std.specs.Prelude.{sum_by, zip}
 use Rattle.std.specs.Int.{abs_diff}
 use Rattle.std.proofs.Math.Nat.{mul-le-mul}
 use Rattle.v_frame_layout.specs.PixelRows.{squared_error}
 use Rattle.std.specs.Simd.Lanes.{zip2, sum_l}
-use Rattle.std.proofs.lemmas.List.{drop_more, drop-drop, take_rest}
+use Rattle.std.proofs.lemmas.List.{drop-drop, take_rest}
 use Rattle.std.proofs.lemmas.List.Sums.{sum_by-cons}
 
 module _ {X : Type 0} (Y : Type 0) where
@@ -15,35 +15,40 @@ module _ {X : Type 0} (Y : Type 0) where
 
 module _ {X Y : Type 0} (of : X × Y → ℕ) where
   -- a sum over pairs is that of the first n of them, and that of those they leave
-  pub sum_of_pairs-split : (n : ℕ) (xs : List X) (ys : List Y) → sum_by of (zip xs ys) ≡ sum_by of (zip (take n xs) (take n ys)) + sum_by of (zip (drop n xs) (drop n ys))
+  pub sum_of_pairs-split : (n : ℕ) (xs : List X) (ys : List Y)
+      → sum_by of (zip xs ys) ≡ sum_by of (zip (take n xs) (take n ys)) + sum_by of (zip (drop n xs) (drop n ys))
   sum_of_pairs-split zero xs ys = omega arith
   sum_of_pairs-split (suc n) [] ys = refl
   sum_of_pairs-split (suc n) (x ∷ xs) [] = rw (no_pairs Y (drop n xs)) refl
   sum_of_pairs-split (suc n) (x ∷ xs) (y ∷ ys) =
       omega (arith, sum_of_pairs-split n xs ys, sum_by-cons of (x, y) (zip xs ys), sum_by-cons of (x, y) (zip (take n xs) (take n ys)))
 
+  -- the pairs up to a place are summed: with those that are left this is the whole, and each pair added less than 2 ^ 64
+  abbrev pub SumsUpTo : ℕ → List X → List Y → ℕ → Type 0
+  SumsUpTo at xs ys so_far = (so_far + sum_by of (zip (drop at xs) (drop at ys)) ≡ sum_by of (zip xs ys)) × (so_far ≤ 2 ^ 64 * at)
+
   -- a loop over two lists in pieces, one step on
-  pub sum_of_pairs-piece_more : (at n so_far piece whole : ℕ) (xs : List X) (ys : List Y) → piece ≡ sum_by of (zip (take n (take (length xs - at) (drop at xs))) (take n (take (length ys - at) (drop at ys))))
-      → so_far + sum_by of (zip (drop at xs) (drop at ys)) ≡ whole → so_far + piece + sum_by of (zip (drop (at + n) xs) (drop (at + n) ys)) ≡ whole
-  sum_of_pairs-piece_more at n so_far piece whole xs ys is invariant =
+  pub sums_up_to-piece_more : (at n so_far piece : ℕ) (xs : List X) (ys : List Y) → 0 < n → piece < 2 ^ 64
+      → piece ≡ sum_by of (zip (take n (take (length xs - at) (drop at xs))) (take n (take (length ys - at) (drop at ys))))
+      → SumsUpTo at xs ys so_far → SumsUpTo (at + n) xs ys (so_far + piece)
+  sums_up_to-piece_more at n so_far piece xs ys some small is invariant =
       let split = rw (drop-drop n at xs, drop-drop n at ys) at (sum_of_pairs-split n (drop at xs) (drop at ys)) in
       let here = rw (take_rest xs at, take_rest ys at) at is in
-      omega (arith, split, here, invariant)
-
-  -- the same, where the piece is one pair
-  pub sum_of_pairs-one_more : (i so_far whole : ℕ) (xs : List X) (ys : List Y) (x : X) (y : Y) → i < length xs → i < length ys
-      → so_far + sum_by of (zip (drop i xs) (drop i ys)) ≡ whole → so_far + of (get_or xs i x, get_or ys i y) + sum_by of (zip (drop (i + 1) xs) (drop (i + 1) ys)) ≡ whole
-  sum_of_pairs-one_more i so_far whole xs ys x y h h1 invariant =
-      let split = rw (drop_more xs i x h, drop_more ys i y h1) at invariant in
-      omega (arith, split, sum_by-cons of (get_or xs i x, get_or ys i y) (zip (drop (i + 1) xs) (drop (i + 1) ys)))
+      (omega (arith, split, here, invariant.0), omega (arith, some, small, invariant.1))
 
   -- a sum over pairs of lists that are joined, the first two of one length
-  pub sum_of_pairs-append : (xs xs1 : List X) (ys ys1 : List Y) → length xs ≡ length ys → sum_by of (zip (xs ++ xs1) (ys ++ ys1)) ≡ sum_by of (zip xs ys) + sum_by of (zip xs1 ys1)
+  pub sum_of_pairs-append : (xs xs1 : List X) (ys ys1 : List Y) → length xs ≡ length ys
+      → sum_by of (zip (xs ++ xs1) (ys ++ ys1)) ≡ sum_by of (zip xs ys) + sum_by of (zip xs1 ys1)
   sum_of_pairs-append [] xs1 [] ys1 same = omega arith
   sum_of_pairs-append [] xs1 (y ∷ ys) ys1 same = absurd (omega (arith, same))
   sum_of_pairs-append (x ∷ xs) xs1 [] ys1 same = absurd (omega (arith, same))
   sum_of_pairs-append (x ∷ xs) xs1 (y ∷ ys) ys1 same =
-      omega (arith, sum_of_pairs-append xs xs1 ys ys1 (omega (arith, same)), sum_by-cons of (x, y) (zip (xs ++ xs1) (ys ++ ys1)), sum_by-cons of (x, y) (zip xs ys))
+      omega (
+        arith,
+        sum_of_pairs-append xs xs1 ys ys1 (omega (arith, same)),
+        sum_by-cons of (x, y) (zip (xs ++ xs1) (ys ++ ys1)),
+        sum_by-cons of (x, y) (zip xs ys),
+      )
 
 -- the sum of lanes that are made of two vectors
 pub sum_of_lanes : {X Y : Type 0} (f : X → Y → ℕ) (xs : List X) (ys : List Y) → sum_l (zip2 f xs ys) ≡ sum_by (λ p. f p.0 p.1) (zip xs ys)
@@ -52,7 +57,8 @@ sum_of_lanes f (x ∷ xs) [] = refl
 sum_of_lanes f (x ∷ xs) (y ∷ ys) = omega (arith, sum_of_lanes f xs ys, sum_by-cons (λ p. f p.0 p.1) (x, y) (zip xs ys))
 
 -- a sum over pairs of values below a size, of which each pair adds at most so much
-sum_of_pairs-at_most : (f : ℕ → ℕ → ℕ) (size most : ℕ) → ((x y : ℕ) → x < size → y < size → f x y ≤ most) → (xs ys : List ℕ) → ((k : ℕ) → get_or xs k 0 < size) → ((k : ℕ) → get_or ys k 0 < size)
+sum_of_pairs-at_most : (f : ℕ → ℕ → ℕ) (size most : ℕ) → ((x y : ℕ) → x < size → y < size → f x y ≤ most) → (xs ys : List ℕ)
+    → ((k : ℕ) → get_or xs k 0 < size) → ((k : ℕ) → get_or ys k 0 < size)
     → sum_by (λ p. f p.0 p.1) (zip xs ys) ≤ most * length xs
 sum_of_pairs-at_most f size most each [] ys small small1 = omega arith
 sum_of_pairs-at_most f size most each (x ∷ xs) [] small small1 = omega arith

@@ -10,7 +10,7 @@ pub trait Difference<T> {
     // What two pixels at one place add.
     ghost between: { T → T → ℕ };
 
-    /// What two pixels at one place add.
+    /// What these two pixels add.
     fn of_pixels(a: T, b: T) -> u32
         ensures { result ≡ between a b };
 

@@ -1,12 +1,13 @@
--- What is summed, and what is left, is the whole; and each block, as each pixel, adds less than 2 ^ 64.
-use Rattle.std.proofs.Common.{◌≡◌, ◌≤◌, ◌+◌, ◌*◌, ◌^◌, drop, sum_by, zip}
+-- The pairs so far are summed.
+use Rattle.std.proofs.Common.{◌*◌}
+use Rattle.v_frame_layout.proofs.RowPairs.{SumsUpTo}
 use Rattle.v_frame_layout.proofs.row_sums.sum_over_rows.Given as goal
 
 abbrev pub invariant-loop-block : goal.invariant-loop-block
-invariant-loop-block g l = (l.sum + sum_by (λ p. g.D.Difference.between p.0 p.1) (zip (drop (32 * l.block) l.a) (drop (32 * l.block) l.b)) ≡ sum_by (λ p. g.D.Difference.between p.0 p.1) (zip l.a l.b)) × (l.sum ≤ 2 ^ 64 * l.block)
+invariant-loop-block g l = SumsUpTo (λ p. g.D.Difference.between p.0 p.1) (32 * l.block) l.a l.b l.sum
 
 abbrev pub invariant-loop-eight : goal.invariant-loop-eight
-invariant-loop-eight g l = (l.sum + sum_by (λ p. g.D.Difference.between p.0 p.1) (zip (drop (8 * l.eight) l.a) (drop (8 * l.eight) l.b)) ≡ sum_by (λ p. g.D.Difference.between p.0 p.1) (zip l.a l.b)) × (l.sum ≤ 2 ^ 64 * l.eight)
+invariant-loop-eight g l = SumsUpTo (λ p. g.D.Difference.between p.0 p.1) (8 * l.eight) l.a l.b l.sum
 
 abbrev pub invariant-loop-i : goal.invariant-loop-i
-invariant-loop-i g l = (l.sum + sum_by (λ p. g.D.Difference.between p.0 p.1) (zip (drop l.i l.a) (drop l.i l.b)) ≡ sum_by (λ p. g.D.Difference.between p.0 p.1) (zip l.a l.b)) × (l.sum ≤ 2 ^ 64 * l.i)
+invariant-loop-i g l = SumsUpTo (λ p. g.D.Difference.between p.0 p.1) l.i l.a l.b l.sum

@@ -5,4 +5,5 @@ use Rattle.v_frame_layout.proofs.pixel.U16Pixel.sum_of_squared_errors.Goals as g
 
 pub returns-clause-fits : goal.returns-clause-fits
 returns-clause-fits c =
-    rw c.sum_over_rows.ensures (squares-at_most c.args.a.now c.args.b.now (λ k. omega (arith, (c.type_inv.a k).fits)) (λ k. omega (arith, (c.type_inv.b k).fits)))
+    rw c.sum_over_rows.ensures
+    (squares-at_most c.args.a.now c.args.b.now (λ k. omega (arith, (c.type_inv.a k).fits)) (λ k. omega (arith, (c.type_inv.b k).fits)))
