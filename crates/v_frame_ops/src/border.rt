@@ -3,7 +3,7 @@ ghost use Rattle.std.specs.Prelude.{◌≡◌, ◌≢◌, ◌+◌, ◌-◌, ◌<
 ghost use Rattle.v_frame.specs.Prelude.{IsWhole, pixel_at, raster, stride_of, alloc_height_of, table_of, whole_rows};
 ghost use Rattle.v_frame_ops.specs.Border.{nearest, IsPadded};
 
-use v_frame::laws::{rectangles_hold_pixels, tables_agree_by_pixels, tables_are_rectangles};
+use v_frame::laws::{tables_agree_by_pixels, tables_are_rectangles};
 use v_frame::pixel::{Pixel, fill_row};
 use v_frame::plane::{Plane, PlaneGeometry, split_row_mut, visible_rows_mut};
 
@@ -13,30 +13,49 @@ pub fn pad<T: Pixel>(plane: &mut Plane<T>)
     ensures table { table_of plane.new ≡ table_of plane.old }
     ensures geometry { plane.new.geometry ≡ plane.old.geometry }
 {
-    tables_are_rectangles::<T>();
-    rectangles_hold_pixels::<T>();
     tables_agree_by_pixels::<T>();
     let geometry = plane.geometry();
-    prove!(plane.width() == geometry.width() && plane.height() == geometry.height());
+    let _before = (plane.width(), plane.height());
     pad_buffer(plane.data_mut(), geometry);
-    prove!(plane.width() == geometry.width() && plane.height() == geometry.height());
+    let _after = (plane.width(), plane.height());
+}
+
+/// Pads the whole buffer of a plane, and leaves its visible pixels.
+fn pad_buffer<T: Pixel>(buffer: &mut [T], geometry: PlaneGeometry)
+    requires { IsWhole geometry buffer.old }
+    ensures padded { (x y : ℕ) → x < stride_of geometry → y < alloc_height_of geometry
+        → pixel_at (whole_rows (raster geometry buffer.new)) x y
+        ≡ pixel_at (table_of (raster geometry buffer.old))
+        (nearest geometry.pad_left geometry.width x) (nearest geometry.pad_top geometry.height y) }
+    ensures visible { (x y : ℕ) → x < geometry.width → y < geometry.height
+        → pixel_at (table_of (raster geometry buffer.new)) x y
+        ≡ pixel_at (table_of (raster geometry buffer.old)) x y }
+{
+    tables_are_rectangles::<T>();
+    let _width = geometry.width();
+    extend_picture(buffer, geometry);
 }
 
 /// Extends the rows of the picture to both sides, and then repeats the first one above and the last one below.
-fn pad_buffer<T: Pixel>(buffer: &mut [T], geometry: PlaneGeometry)
+fn extend_picture<T: Pixel>(buffer: &mut [T], geometry: PlaneGeometry)
     requires { IsWhole geometry buffer.old }
-    ensures entries { (x y : ℕ) → x < stride_of geometry → y < alloc_height_of geometry
+    ensures { (x y : ℕ) → x < stride_of geometry → y < alloc_height_of geometry
         → pixel_at (whole_rows (raster geometry buffer.new)) x y
         ≡ pixel_at (whole_rows (raster geometry buffer.old))
         (geometry.pad_left + nearest geometry.pad_left geometry.width x)
         (geometry.pad_top + nearest geometry.pad_top geometry.height y) }
 {
     let whole = geometry.whole_buffer();
-    let top = geometry.pad_top();
-    let bottom = top + geometry.height();
-    extend_rows(buffer, whole, top, bottom, geometry.pad_left(), geometry.width());
-    repeat_row_up(buffer, whole, top);
-    repeat_row_down(buffer, whole, bottom);
+    let (top, height) = (geometry.pad_top(), geometry.height());
+    extend_rows(
+        buffer,
+        whole,
+        top,
+        top + height,
+        geometry.pad_left(),
+        geometry.width(),
+    );
+    repeat_rows(buffer, whole, top, height);
 }
 
 /// Extends each row from `top` on and above `bottom` to both sides, from the `width` pixels that begin at column `left`.
@@ -104,6 +123,18 @@ fn fill_part<T: Pixel>(row: &mut [T], start: usize, end: usize, pixel: T)
     ensures behind { (x : ℕ) → end ≤ x → slice_get row.new x ≡ slice_get row.old x }
 {
     fill_row(&mut row[start..end], pixel);
+}
+
+/// Makes each row the one nearest to it of the `height` rows that begin with row `top`.
+fn repeat_rows<T: Pixel>(buffer: &mut [T], whole: PlaneGeometry, top: usize, height: usize)
+    requires whole { IsWhole whole buffer.old }
+    requires some { 0 < height }
+    requires high { top + height ≤ whole.height }
+    ensures { (y : ℕ) → y < whole.height → slice_get (table_of (raster whole buffer.new)) y
+        ≡ slice_get (table_of (raster whole buffer.old)) (top + nearest top height y) }
+{
+    repeat_row_up(buffer, whole, top);
+    repeat_row_down(buffer, whole, top + height);
 }
 
 /// Copies the row `from` into each row above it.

@@ -1,6 +1,6 @@
 //! Planes, changed: each pixel by a function, alone or with that of another plane, all to one pixel, or a rectangle to what
 //! another plane shows. Borders stay.
-ghost use Rattle.std.specs.Prelude.{◌≡◌, ◌≢◌, ◌+◌, ◌<◌, ◌≤◌, ◌⊎◌, ℕ, length, map, replicate, slice_get, Some};
+ghost use Rattle.std.specs.Prelude.{◌≡◌, ◌≢◌, ◌+◌, ◌<◌, ◌≤◌, ◌⊎◌, ℕ, List, length, map, replicate, slice_get, Some};
 ghost use Rattle.v_frame.specs.Prelude.{KeepsBorder, pixel_at, table_of};
 ghost use Rattle.v_frame_ops.specs.Change.{combined, MapsPixels, CombinesPixels, WritesTable};
 ghost use Rattle.v_frame_ops.specs.Rows.{MapsItems, CombinesItems};
@@ -108,8 +108,29 @@ fn combine_rows<T: Pixel, F: Fn(T, T) -> T>(
 {
     prove!(plane.height() == other.height());
     for y in 0..other.height() {
-        combine_row(plane.visible_row_mut(y), visible_row(other, y), combine);
+        combine_row_at(plane, y, visible_row(other, y), combine);
     }
+}
+
+/// Makes row `y` of a plane one of results of `combine`.
+fn combine_row_at<T: Pixel, F: Fn(T, T) -> T>(
+    plane: &mut Plane<T>,
+    y: usize,
+    other: &[T],
+    combine: &F,
+)
+    requires callable { F.IsAlwaysCallable combine.now }
+    requires wide { length other.now ≡ plane.old.geometry.width }
+    requires high { y < plane.old.geometry.height }
+    ensures row { (row : List T) → slice_get (table_of plane.old) y ≡ Some row
+        → (new : List T) × CombinesItems (F.post combine.now) row other.now new
+        × (slice_get (table_of plane.new) y ≡ Some new) }
+    ensures others { (k : ℕ) → k ≢ y
+        → slice_get (table_of plane.new) k ≡ slice_get (table_of plane.old) k }
+    ensures count { length (table_of plane.new) ≡ length (table_of plane.old) }
+    ensures border { KeepsBorder plane.old plane.new }
+{
+    combine_row(plane.visible_row_mut(y), other, combine);
 }
 
 /// Makes each pixel of a row a result of `combine` at it and at the pixel in its place in the other row.
