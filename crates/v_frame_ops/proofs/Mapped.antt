@@ -1,11 +1,10 @@
 -- A list whose items became results of a function is the function over the list, and a table whose
 -- rows became such rows is one whose pixels became results.
-use Rattle.std.proofs.Common.{ℕ, suc, zero, ◌≡◌, ◌<◌, List, [], ◌∷◌, length, map, Option, Some, None, option_and_then, slice_get, refl, ap, ◌∙◌, arith}
+use Rattle.std.proofs.Common.{ℕ, suc, ◌≡◌, List, [], ◌∷◌, map, Option, Some, None, option_and_then, slice_get, refl, ap, ◌∙◌, arith}
 use Rattle.std.specs.List.{zip}
-use Rattle.v_frame.specs.Prelude.{Table, pixel_at}
+use Rattle.v_frame.specs.Prelude.{Table}
 use Rattle.v_frame_ops.specs.Change.{MapsPixels, CombinesPixels}
 use Rattle.v_frame_ops.specs.Rows.{MapsItems, CombinesItems}
-
 
 -- the row in which a pixel stands
 found_row : {T : Type 0} (x : ℕ) (p : T) (o : Option (List T)) → option_and_then (λ row. slice_get row x) o ≡ Some p

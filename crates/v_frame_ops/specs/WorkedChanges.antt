@@ -1,5 +1,5 @@
 -- Changed tables and rows worked out by hand. Each line computes: it is proved by `refl`.
-use Rattle.std.specs.Prelude.{ℕ, ◌≡◌, ◌+◌, ◌/◌, List, [], ◌∷◌, map, Some, None, refl}
+use Rattle.std.specs.Prelude.{ℕ, ◌≡◌, ◌+◌, ◌/◌, [], ◌∷◌, refl}
 use Rattle.v_frame.specs.Prelude.{Table, Raster, geometry_of, raster, table_of, whole_rows, pixel_at}
 use Rattle.v_frame_ops.specs.Border.{nearest}
 use Rattle.v_frame_ops.specs.Change.{combined}

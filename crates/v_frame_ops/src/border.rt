@@ -14,13 +14,25 @@ pub fn pad<T: Pixel>(plane: &mut Plane<T>)
     ensures geometry { plane.new.geometry ≡ plane.old.geometry }
 {
     tables_agree_by_pixels::<T>();
-    let geometry = plane.geometry();
     let _before = (plane.width(), plane.height());
-    pad_buffer(plane.data_mut(), geometry);
+    pad_pixels(plane);
     let _after = (plane.width(), plane.height());
 }
 
-/// Pads the whole buffer of a plane, and leaves its visible pixels.
+/// Pads a plane, and leaves its visible pixels.
+fn pad_pixels<T: Pixel>(plane: &mut Plane<T>)
+    ensures padded { let g = plane.old.geometry in (x y : ℕ) → x < stride_of g → y < alloc_height_of g
+        → pixel_at (whole_rows plane.new) x y ≡ pixel_at (table_of plane.old)
+        (nearest g.pad_left g.width x) (nearest g.pad_top g.height y) }
+    ensures visible { (x y : ℕ) → x < plane.old.geometry.width → y < plane.old.geometry.height
+        → pixel_at (table_of plane.new) x y ≡ pixel_at (table_of plane.old) x y }
+    ensures geometry { plane.new.geometry ≡ plane.old.geometry }
+{
+    let geometry = plane.geometry();
+    pad_buffer(plane.data_mut(), geometry);
+}
+
+/// The same of a whole buffer.
 fn pad_buffer<T: Pixel>(buffer: &mut [T], geometry: PlaneGeometry)
     requires { IsWhole geometry buffer.old }
     ensures padded { (x y : ℕ) → x < stride_of geometry → y < alloc_height_of geometry

@@ -53,12 +53,7 @@ pub fn fill<T: Pixel>(plane: &mut Plane<T>, pixel: T)
 }
 
 /// Writes all that `source` shows into `target`, from column `x` of row `y` on, where it has to have room.
-pub fn copy_region<T: Pixel>(
-    source: &PlaneRef<'_, T>,
-    target: &mut Plane<T>,
-    x: usize,
-    y: usize,
-)
+pub fn copy_region<T: Pixel>(source: &PlaneRef<'_, T>, target: &mut Plane<T>, x: usize, y: usize)
     requires wide { x + source.now.geometry.width ≤ target.old.geometry.width }
     requires high { y + source.now.geometry.height ≤ target.old.geometry.height }
     ensures written { WritesTable (table_of target.old) x y (table_of source.now)

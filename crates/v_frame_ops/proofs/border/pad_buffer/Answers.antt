@@ -1,25 +1,22 @@
 -- What is extended over the whole buffer continues the picture, whose own pixels are the nearest to themselves.
-use Rattle.std.proofs.Common.{◌≡◌, ◌+◌, sym, ◌∙◌, ap, arith}
-use Rattle.v_frame.specs.Prelude.{pixel_at, raster, whole_rows}
+use Rattle.std.proofs.Common.{◌≡◌, ◌+◌, arith}
+use Rattle.v_frame.specs.Prelude.{raster}
 use Rattle.v_frame_ops.specs.Border.{nearest}
 use Rattle.v_frame_ops.proofs.border.pad_buffer.Goals as goal
 
 pub returns-clause-padded : goal.returns-clause-padded
 returns-clause-padded g c = λ x y across down.
     let geometry = c.args.geometry in
-    let column = nearest geometry.pad_left geometry.width x in
-    let row = nearest geometry.pad_top geometry.height y in
-    c.extend_picture.ensures x y across down ∙ sym (c.tables_are_rectangles.ensures.pixels (raster geometry c.args.buffer.now) column row (omega arith) (omega arith))
+    let extended = c.extend_picture.ensures x y across down in
+    let shown = c.tables_are_rectangles.ensures.pixels (raster geometry c.args.buffer.now) (nearest geometry.pad_left geometry.width x) (nearest geometry.pad_top geometry.height y) (omega arith) (omega arith) in
+    cc
 
 pub returns-clause-visible : goal.returns-clause-visible
 returns-clause-visible g c = λ x y across down.
     let geometry = c.args.geometry in
-    let rows = whole_rows (raster geometry c.args.buffer.now) in
-    let column = geometry.pad_left + x in
-    let row = geometry.pad_top + y in
-    let same : geometry.pad_left + nearest geometry.pad_left geometry.width column ≡ column = omega arith in
-    let same_row : geometry.pad_top + nearest geometry.pad_top geometry.height row ≡ row = omega arith in
-    let shows = c.tables_are_rectangles.ensures.pixels in
-    shows (raster geometry c.extend_picture.new.buffer) x y across down ∙ c.extend_picture.ensures column row (omega arith) (omega arith)
-    ∙ ap (λ i. pixel_at rows i (geometry.pad_top + nearest geometry.pad_top geometry.height row)) same ∙ ap (pixel_at rows column) same_row
-    ∙ sym (shows (raster geometry c.args.buffer.now) x y across down)
+    let extended = c.extend_picture.ensures (geometry.pad_left + x) (geometry.pad_top + y) (omega arith) (omega arith) in
+    let column : geometry.pad_left + nearest geometry.pad_left geometry.width (geometry.pad_left + x) ≡ geometry.pad_left + x = omega arith in
+    let row : geometry.pad_top + nearest geometry.pad_top geometry.height (geometry.pad_top + y) ≡ geometry.pad_top + y = omega arith in
+    let before = c.tables_are_rectangles.ensures.pixels (raster geometry c.args.buffer.now) x y across down in
+    let after = c.tables_are_rectangles.ensures.pixels (raster geometry c.extend_picture.new.buffer) x y across down in
+    cc
