@@ -1,0 +1,6 @@
+-- Row after row, and in each pixel after pixel.
+use Rattle.v_frame_ops.proofs.Tables.{same_by_pixel_at}
+use Rattle.v_frame_ops.proofs.laws.tables_agree_by_pixels.Goals as goal
+
+pub returns : goal.returns
+returns g c = same_by_pixel_at

@@ -1,0 +1,6 @@
+pub mod Border
+pub mod Change
+pub mod Compare
+pub mod Prelude
+pub mod Rows
+pub mod WorkedChanges

@@ -1,0 +1,47 @@
+-- Changed tables and rows worked out by hand. Each line computes: it is proved by `refl`.
+use Rattle.std.specs.Prelude.{ℕ, ◌≡◌, ◌+◌, ◌/◌, [], ◌∷◌, refl}
+use Rattle.v_frame.specs.Prelude.{Table, Raster, geometry_of, raster, table_of, whole_rows, pixel_at}
+use Rattle.v_frame_ops.specs.Border.{nearest}
+use Rattle.v_frame_ops.specs.Change.{combined}
+
+abbrev two_rows : Table ℕ
+two_rows = (1 ∷ 2 ∷ 3 ∷ []) ∷ (4 ∷ 5 ∷ 6 ∷ []) ∷ []
+
+abbrev two_others : Table ℕ
+two_others = (9 ∷ 8 ∷ 7 ∷ []) ∷ (1 ∷ 0 ∷ 2 ∷ []) ∷ []
+
+means : combined (combined (λ p q. (p + q) / 2)) two_rows two_others
+    ≡ (5 ∷ 5 ∷ 5 ∷ []) ∷ (2 ∷ 2 ∷ 4 ∷ []) ∷ []
+means = refl
+
+-- behind a border of 2, three columns: those of the border before and behind, and the three
+before : nearest 2 3 0 ≡ 0
+before = refl
+
+first : nearest 2 3 2 ≡ 0
+first = refl
+
+last : nearest 2 3 4 ≡ 2
+last = refl
+
+behind : nearest 2 3 9 ≡ 2
+behind = refl
+
+-- 3 by 2 pixels, with 1 column of border to the left, 2 to the right, and 1 row above
+abbrev padded : Raster ℕ
+padded =
+    raster (geometry_of 3 2 1 2 1 0 1 1)
+    (1 ∷ 1 ∷ 2 ∷ 3 ∷ 3 ∷ 3 ∷
+    1 ∷ 1 ∷ 2 ∷ 3 ∷ 3 ∷ 3 ∷
+    4 ∷ 4 ∷ 5 ∷ 6 ∷ 6 ∷ 6 ∷ [])
+
+its_table : table_of padded ≡ two_rows
+its_table = refl
+
+above_to_the_right : pixel_at (whole_rows padded) 5 0
+    ≡ pixel_at (table_of padded) (nearest 1 3 5) (nearest 1 2 0)
+above_to_the_right = refl
+
+below_to_the_left : pixel_at (whole_rows padded) 0 2
+    ≡ pixel_at (table_of padded) (nearest 1 3 0) (nearest 1 2 2)
+below_to_the_left = refl

@@ -1,0 +1,182 @@
+//! The border of a plane, made the continuation of what it shows: what a search for motion and a filter read past the edge.
+ghost use Rattle.std.specs.Prelude.{◌≡◌, ◌≢◌, ◌+◌, ◌-◌, ◌<◌, ◌≤◌, ◌⊎◌, ℕ, length, slice_get, Some};
+ghost use Rattle.v_frame.specs.Prelude.{IsWhole, pixel_at, raster, stride_of, alloc_height_of, table_of, whole_rows};
+ghost use Rattle.v_frame_ops.specs.Border.{nearest, IsPadded};
+
+use crate::laws::{tables_agree_by_pixels, whole_rows_hold_pixels};
+use v_frame::pixel::{Pixel, fill_row};
+use v_frame::plane::{Plane, PlaneGeometry, split_row_mut, visible_rows_mut};
+
+/// Makes each pixel of the border the visible pixel nearest to it. What the plane shows stays.
+pub fn pad<T: Pixel>(plane: &mut Plane<T>)
+    ensures padded { IsPadded plane.new }
+    ensures table { table_of plane.new ≡ table_of plane.old }
+    ensures geometry { plane.new.geometry ≡ plane.old.geometry }
+{
+    tables_agree_by_pixels::<T>();
+    let _before = (plane.width(), plane.height());
+    pad_pixels(plane);
+    let _after = (plane.width(), plane.height());
+}
+
+/// Pads a plane, and leaves its visible pixels.
+fn pad_pixels<T: Pixel>(plane: &mut Plane<T>)
+    ensures padded { let g = plane.old.geometry in (x y : ℕ) → x < stride_of g → y < alloc_height_of g
+        → pixel_at (whole_rows plane.new) x y ≡ pixel_at (table_of plane.old)
+        (nearest g.pad_left g.width x) (nearest g.pad_top g.height y) }
+    ensures visible { (x y : ℕ) → x < plane.old.geometry.width → y < plane.old.geometry.height
+        → pixel_at (table_of plane.new) x y ≡ pixel_at (table_of plane.old) x y }
+    ensures geometry { plane.new.geometry ≡ plane.old.geometry }
+{
+    let geometry = plane.geometry();
+    pad_buffer(plane.data_mut(), geometry);
+}
+
+/// The same of a whole buffer.
+fn pad_buffer<T: Pixel>(buffer: &mut [T], geometry: PlaneGeometry)
+    requires { IsWhole geometry buffer.old }
+    ensures padded { (x y : ℕ) → x < stride_of geometry → y < alloc_height_of geometry
+        → pixel_at (whole_rows (raster geometry buffer.new)) x y
+        ≡ pixel_at (table_of (raster geometry buffer.old))
+        (nearest geometry.pad_left geometry.width x) (nearest geometry.pad_top geometry.height y) }
+    ensures visible { (x y : ℕ) → x < geometry.width → y < geometry.height
+        → pixel_at (table_of (raster geometry buffer.new)) x y
+        ≡ pixel_at (table_of (raster geometry buffer.old)) x y }
+{
+    whole_rows_hold_pixels::<T>();
+    let _width = geometry.width();
+    extend_picture(buffer, geometry);
+}
+
+/// Extends the rows of the picture to both sides, and then repeats the first one above and the last one below.
+fn extend_picture<T: Pixel>(buffer: &mut [T], geometry: PlaneGeometry)
+    requires { IsWhole geometry buffer.old }
+    ensures { (x y : ℕ) → x < stride_of geometry → y < alloc_height_of geometry
+        → pixel_at (whole_rows (raster geometry buffer.new)) x y
+        ≡ pixel_at (whole_rows (raster geometry buffer.old))
+        (geometry.pad_left + nearest geometry.pad_left geometry.width x)
+        (geometry.pad_top + nearest geometry.pad_top geometry.height y) }
+{
+    let whole = geometry.whole_buffer();
+    let (top, height) = (geometry.pad_top(), geometry.height());
+    extend_rows(
+        buffer,
+        whole,
+        top,
+        top + height,
+        geometry.pad_left(),
+        geometry.width(),
+    );
+    repeat_rows(buffer, whole, top, height);
+}
+
+/// Extends each row from `top` on and above `bottom` to both sides, from the `width` pixels that begin at column `left`.
+fn extend_rows<T: Pixel>(
+    buffer: &mut [T],
+    whole: PlaneGeometry,
+    top: usize,
+    bottom: usize,
+    left: usize,
+    width: usize,
+)
+    requires whole { IsWhole whole buffer.old }
+    requires high { bottom ≤ whole.height }
+    requires some { 0 < width }
+    requires wide { left + width ≤ whole.width }
+    ensures inside { (x y : ℕ) → x < whole.width → top ≤ y → y < bottom
+        → pixel_at (table_of (raster whole buffer.new)) x y
+        ≡ pixel_at (table_of (raster whole buffer.old)) (left + nearest left width x) y }
+{
+    for y in top..bottom {
+        extend_row_at(buffer, whole, y, left, width);
+    }
+}
+
+/// Extends row `y` to both sides.
+fn extend_row_at<T: Pixel>(
+    buffer: &mut [T],
+    whole: PlaneGeometry,
+    y: usize,
+    left: usize,
+    width: usize,
+)
+    requires whole { IsWhole whole buffer.old }
+    requires high { y < whole.height }
+    requires some { 0 < width }
+    requires wide { left + width ≤ whole.width }
+    ensures row { (x : ℕ) → x < whole.width → pixel_at (table_of (raster whole buffer.new)) x y
+        ≡ pixel_at (table_of (raster whole buffer.old)) (left + nearest left width x) y }
+    ensures others { (k : ℕ) → k ≢ y → slice_get (table_of (raster whole buffer.new)) k
+        ≡ slice_get (table_of (raster whole buffer.old)) k }
+{
+    let (row, _) = split_row_mut(buffer, whole, y);
+    extend_row(row, left, width);
+}
+
+/// Makes each pixel of a row the one nearest to it of the `width` pixels that begin at column `left`.
+fn extend_row<T: Pixel>(row: &mut [T], left: usize, width: usize)
+    requires some { 0 < width }
+    requires wide { left + width ≤ length row.old }
+    ensures { (x : ℕ) → x < length row.old
+        → slice_get row.new x ≡ slice_get row.old (left + nearest left width x) }
+{
+    let first = row[left];
+    let last = row[left + width - 1];
+    fill_part(row, 0, left, first);
+    fill_part(row, left + width, row.len(), last);
+}
+
+/// Fills the pixels of a row from one column up to another.
+fn fill_part<T: Pixel>(row: &mut [T], start: usize, end: usize, pixel: T)
+    requires order { start ≤ end }
+    requires within { end ≤ length row.old }
+    ensures before { (x : ℕ) → x < start → slice_get row.new x ≡ slice_get row.old x }
+    ensures inside { (x : ℕ) → start ≤ x → x < end → slice_get row.new x ≡ Some pixel }
+    ensures behind { (x : ℕ) → end ≤ x → slice_get row.new x ≡ slice_get row.old x }
+{
+    fill_row(&mut row[start..end], pixel);
+}
+
+/// Makes each row the one nearest to it of the `height` rows that begin with row `top`.
+fn repeat_rows<T: Pixel>(buffer: &mut [T], whole: PlaneGeometry, top: usize, height: usize)
+    requires whole { IsWhole whole buffer.old }
+    requires some { 0 < height }
+    requires high { top + height ≤ whole.height }
+    ensures { (y : ℕ) → y < whole.height → slice_get (table_of (raster whole buffer.new)) y
+        ≡ slice_get (table_of (raster whole buffer.old)) (top + nearest top height y) }
+{
+    repeat_row_up(buffer, whole, top);
+    repeat_row_down(buffer, whole, top + height);
+}
+
+/// Copies the row `from` into each row above it.
+fn repeat_row_up<T: Pixel>(buffer: &mut [T], whole: PlaneGeometry, from: usize)
+    requires whole { IsWhole whole buffer.old }
+    requires high { from < whole.height }
+    ensures above { (y : ℕ) → y < from → slice_get (table_of (raster whole buffer.new)) y
+        ≡ slice_get (table_of (raster whole buffer.old)) from }
+    ensures others { (y : ℕ) → from ≤ y → slice_get (table_of (raster whole buffer.new)) y
+        ≡ slice_get (table_of (raster whole buffer.old)) y }
+{
+    for y in 0..from {
+        let (above, row) = visible_rows_mut(buffer, whole, y, from);
+        above.copy_from_slice(row);
+    }
+}
+
+/// Copies the last row above `end` into each row from there on.
+fn repeat_row_down<T: Pixel>(buffer: &mut [T], whole: PlaneGeometry, end: usize)
+    requires whole { IsWhole whole buffer.old }
+    requires some { 0 < end }
+    requires high { end ≤ whole.height }
+    ensures below { (y : ℕ) → end ≤ y → y < whole.height
+        → slice_get (table_of (raster whole buffer.new)) y
+        ≡ slice_get (table_of (raster whole buffer.old)) (end - 1) }
+    ensures others { (y : ℕ) → y < end → slice_get (table_of (raster whole buffer.new)) y
+        ≡ slice_get (table_of (raster whole buffer.old)) y }
+{
+    for y in end..whole.height() {
+        let (row, below) = visible_rows_mut(buffer, whole, end - 1, y);
+        below.copy_from_slice(row);
+    }
+}

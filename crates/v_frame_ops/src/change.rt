@@ -1,0 +1,166 @@
+//! Planes, changed: each pixel by a function, alone or with that of another plane, all to one pixel, or a rectangle to what
+//! another plane shows. Borders stay.
+ghost use Rattle.std.specs.Prelude.{◌≡◌, ◌≢◌, ◌+◌, ◌<◌, ◌≤◌, ◌⊎◌, ℕ, List, length, map, replicate, slice_get, Some};
+ghost use Rattle.v_frame.specs.Prelude.{KeepsBorder, pixel_at, table_of};
+ghost use Rattle.v_frame_ops.specs.Change.{combined, MapsPixels, CombinesPixels, WritesTable};
+ghost use Rattle.v_frame_ops.specs.Rows.{MapsItems, CombinesItems};
+
+use crate::visible::visible_row;
+use v_frame::pixel::{Pixel, fill_row};
+use v_frame::plane::{Plane, PlaneRef};
+
+/// Makes each visible pixel a result of `change` at it.
+///
+/// `change` may be called at any pixel, and sees no place. With a saturating addition, a shift or the like the compiler makes
+/// packed code of it.
+pub fn map_pixels<T: Pixel, F: Fn(T) -> T>(plane: &mut Plane<T>, change: F)
+    requires { F.IsAlwaysCallable change }
+    ensures pixels { MapsPixels (F.post change) (table_of plane.old) (table_of plane.new) }
+    ensures mapped { (g : T → T) → ((p q : T) → F.post change p q → q ≡ g p)
+        → table_of plane.new ≡ map (map g) (table_of plane.old) }
+    ensures border { KeepsBorder plane.old plane.new }
+{
+    map_rows(plane, &change);
+}
+
+/// Makes each visible pixel a result of `combine` at it and at the pixel in its place in `other`, which has the same size.
+pub fn combine_pixels<T: Pixel, F: Fn(T, T) -> T>(
+    plane: &mut Plane<T>,
+    other: &PlaneRef<'_, T>,
+    combine: F,
+)
+    requires callable { F.IsAlwaysCallable combine }
+    requires wide { other.now.geometry.width ≡ plane.old.geometry.width }
+    requires high { other.now.geometry.height ≡ plane.old.geometry.height }
+    ensures pixels { CombinesPixels (F.post combine) (table_of plane.old) (table_of other.now)
+        (table_of plane.new) }
+    ensures combined { (g : T → T → T) → ((p q r : T) → F.post combine p q r → r ≡ g p q)
+        → table_of plane.new ≡ combined (combined g) (table_of plane.old) (table_of other.now) }
+    ensures border { KeepsBorder plane.old plane.new }
+{
+    combine_rows(plane, other, &combine);
+}
+
+/// Makes each visible pixel this one.
+pub fn fill<T: Pixel>(plane: &mut Plane<T>, pixel: T)
+    ensures rows { (y : ℕ) → y < plane.old.geometry.height
+        → slice_get (table_of plane.new) y ≡ Some (replicate plane.old.geometry.width pixel) }
+    ensures border { KeepsBorder plane.old plane.new }
+{
+    for y in 0..plane.height() {
+        fill_row(plane.visible_row_mut(y), pixel);
+    }
+}
+
+/// Writes all that `source` shows into `target`, from column `x` of row `y` on, where it has to have room.
+pub fn copy_region<T: Pixel>(source: &PlaneRef<'_, T>, target: &mut Plane<T>, x: usize, y: usize)
+    requires wide { x + source.now.geometry.width ≤ target.old.geometry.width }
+    requires high { y + source.now.geometry.height ≤ target.old.geometry.height }
+    ensures written { WritesTable (table_of target.old) x y (table_of source.now)
+        (table_of target.new) }
+    ensures border { KeepsBorder target.old target.new }
+{
+    // Sizes that were read fit their type, and so do the sums that they bound.
+    prove!(source.width() <= target.width() && source.height() <= target.height());
+    for k in 0..source.height() {
+        write_row_part(target, x, y + k, visible_row(source, k));
+    }
+}
+
+/// Makes each visible row one of results of `change`.
+fn map_rows<T: Pixel, F: Fn(T) -> T>(plane: &mut Plane<T>, change: &F)
+    requires { F.IsAlwaysCallable change.now }
+    ensures rows { MapsItems (MapsItems (F.post change.now)) (table_of plane.old) (table_of plane.new) }
+    ensures border { KeepsBorder plane.old plane.new }
+{
+    for y in 0..plane.height() {
+        map_row(plane.visible_row_mut(y), change);
+    }
+}
+
+/// Makes each pixel of a row a result of `change` at it.
+fn map_row<T: Pixel, F: Fn(T) -> T>(row: &mut [T], change: &F)
+    requires { F.IsAlwaysCallable change.now }
+    ensures { MapsItems (F.post change.now) row.old row.new }
+{
+    for x in 0..row.len() {
+        row[x] = change(row[x]);
+    }
+}
+
+/// Makes each visible row one of results of `combine`.
+fn combine_rows<T: Pixel, F: Fn(T, T) -> T>(
+    plane: &mut Plane<T>,
+    other: &PlaneRef<'_, T>,
+    combine: &F,
+)
+    requires callable { F.IsAlwaysCallable combine.now }
+    requires wide { other.now.geometry.width ≡ plane.old.geometry.width }
+    requires high { other.now.geometry.height ≡ plane.old.geometry.height }
+    ensures rows { CombinesItems (CombinesItems (F.post combine.now)) (table_of plane.old)
+        (table_of other.now) (table_of plane.new) }
+    ensures border { KeepsBorder plane.old plane.new }
+{
+    prove!(plane.height() == other.height());
+    for y in 0..other.height() {
+        combine_row_at(plane, y, visible_row(other, y), combine);
+    }
+}
+
+/// Makes row `y` of a plane one of results of `combine`.
+fn combine_row_at<T: Pixel, F: Fn(T, T) -> T>(
+    plane: &mut Plane<T>,
+    y: usize,
+    other: &[T],
+    combine: &F,
+)
+    requires callable { F.IsAlwaysCallable combine.now }
+    requires wide { length other.now ≡ plane.old.geometry.width }
+    requires high { y < plane.old.geometry.height }
+    ensures row { (row : List T) → slice_get (table_of plane.old) y ≡ Some row
+        → (new : List T) × CombinesItems (F.post combine.now) row other.now new
+        × (slice_get (table_of plane.new) y ≡ Some new) }
+    ensures others { (k : ℕ) → k ≢ y
+        → slice_get (table_of plane.new) k ≡ slice_get (table_of plane.old) k }
+    ensures count { length (table_of plane.new) ≡ length (table_of plane.old) }
+    ensures border { KeepsBorder plane.old plane.new }
+{
+    combine_row(plane.visible_row_mut(y), other, combine);
+}
+
+/// Makes each pixel of a row a result of `combine` at it and at the pixel in its place in the other row.
+fn combine_row<T: Pixel, F: Fn(T, T) -> T>(row: &mut [T], other: &[T], combine: &F)
+    requires callable { F.IsAlwaysCallable combine.now }
+    requires wide { length other.now ≡ length row.old }
+    ensures { CombinesItems (F.post combine.now) row.old other.now row.new }
+{
+    for x in 0..row.len() {
+        row[x] = combine(row[x], other[x]);
+    }
+}
+
+/// Writes pixels into row `y` of a plane, from column `x` on.
+fn write_row_part<T: Pixel>(plane: &mut Plane<T>, x: usize, y: usize, pixels: &[T])
+    requires wide { x + length pixels.now ≤ plane.old.geometry.width }
+    requires high { y < plane.old.geometry.height }
+    ensures inside { (i : ℕ) → i < length pixels.now
+        → pixel_at (table_of plane.new) (x + i) y ≡ slice_get pixels.now i }
+    ensures beside { (i : ℕ) → (i < x) ⊎ (x + length pixels.now ≤ i)
+        → pixel_at (table_of plane.new) i y ≡ pixel_at (table_of plane.old) i y }
+    ensures others { (i k : ℕ) → k ≢ y
+        → pixel_at (table_of plane.new) i k ≡ pixel_at (table_of plane.old) i k }
+    ensures border { KeepsBorder plane.old plane.new }
+{
+    put_pixels(plane.visible_row_mut(y), x, pixels);
+}
+
+/// Writes pixels into a row, from column `x` on.
+fn put_pixels<T: Pixel>(row: &mut [T], x: usize, pixels: &[T])
+    requires { x + length pixels.now ≤ length row.old }
+    ensures inside { (k : ℕ) → k < length pixels.now
+        → slice_get row.new (x + k) ≡ slice_get pixels.now k }
+    ensures beside { (k : ℕ) → (k < x) ⊎ (x + length pixels.now ≤ k)
+        → slice_get row.new k ≡ slice_get row.old k }
+{
+    row[x..x + pixels.len()].copy_from_slice(pixels);
+}
