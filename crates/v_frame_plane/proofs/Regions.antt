@@ -3,11 +3,11 @@ use Rattle.std.proofs.Common.{ℕ, ◌≡◌, ◌+◌, ◌*◌, ◌<◌, ◌≤�
 use Rattle.std.proofs.lemmas.List.{length-map, drop-drop, drop-take, take-take}
 use Rattle.v_frame_layout.specs.Geometry.{Geometry, stride_of, IsInside, region_geometry, whole_geometry}
 use Rattle.std.proofs.lemmas.Option.{slice_get-map as mapped}
-use Rattle.v_frame_layout.specs.Table.{Table, rectangle}
+use Rattle.v_frame_layout.specs.Table.{Table, pixel_at, rectangle}
 use Rattle.v_frame_layout.proofs.Plans.{row_start}
 use Rattle.v_frame_layout.proofs.Tables.{same_by_slice_get}
 use Rattle.v_frame_plane.specs.Laws.{ShowsRectangle, HoldsPixelsFrom}
-use Rattle.v_frame_plane.specs.Plane.{Raster, raster, table_of}
+use Rattle.v_frame_plane.specs.Plane.{Raster, raster, table_of, whole_rows}
 use Rattle.v_frame_plane.proofs.Lists.{slice_get-take, slice_get-drop, slice_get-map}
 use Rattle.v_frame_plane.proofs.Pictures.{shown_row, length-shown}
 
@@ -72,3 +72,9 @@ module _ {T : Type 0} where
       ap (option_and_then (λ r. slice_get r i)) (mapped cut (take height below) j)
       ∙ pixel_of_part x i width across (slice_get (take height below) j)
       ∙ ap (option_and_then (λ r. slice_get r (x + i))) (slice_get-take height below j down ∙ slice_get-drop y rows j)
+
+  -- so the visible pixels are those of the whole buffer behind the border
+  pub whole_holds : (p : Raster T) → HoldsPixelsFrom (whole_rows p) p.geometry.pad_left p.geometry.pad_top p.geometry.width p.geometry.height (table_of p)
+  whole_holds p = λ i j across down.
+      let g = p.geometry in
+      ap (λ rows. pixel_at rows i j) (shows_rectangle p) ∙ rectangle_holds (whole_rows p) g.pad_left g.pad_top g.width g.height i j across down

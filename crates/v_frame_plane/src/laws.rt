@@ -6,7 +6,7 @@ ghost use Rattle.std.specs.Prelude.{All, List, ℕ, ◌≡◌, ◌*◌, ◌<◌,
 ghost use Rattle.v_frame_layout.specs.Geometry.{Geometry, usize_max};
 ghost use Rattle.v_frame_layout.specs.Pixel.{one_byte};
 ghost use Rattle.v_frame_layout.specs.Table.{Table, width_of, height_of, rectangle, row_major};
-ghost use Rattle.v_frame_plane.specs.Plane.{Raster, table_of};
+ghost use Rattle.v_frame_plane.specs.Plane.{Raster, table_of, whole_rows};
 ghost use Rattle.v_frame_plane.specs.Copy.{Copies, packed_copy, piece_fronts, strided_copy, packed_byte_copy};
 ghost use Rattle.v_frame_plane.specs.LetGo.{PixelsAreLetGo, RowsAreLetGo};
 ghost use Rattle.std.specs.Borrow.{sem};
@@ -37,7 +37,9 @@ pub fn rows_are_parts<T>()
 
 /// What a plane shows is a rectangle of its whole buffer, seen as a picture without a border.
 pub fn tables_are_rectangles<T>()
-    ensures { (p : Raster T) → ShowsRectangle p }
+    ensures table { (p : Raster T) → ShowsRectangle p }
+    ensures pixels { (p : Raster T) → let g = p.geometry in
+        HoldsPixelsFrom (whole_rows p) g.pad_left g.pad_top g.width g.height (table_of p) }
 {}
 
 /// The pixels of a rectangle are those of the table, counted from its corner.
