@@ -1,10 +1,13 @@
--- Rows and tables whose pixels were changed one by one, two rows or tables that were made one, and
--- a table that was written into another.
-use Rattle.std.specs.Prelude.{ℕ, ◌≡◌, ◌+◌, ◌<◌, ◌≤◌, ◌⊎◌, List, map, Some}
+-- Rows and tables whose pixels were changed one by one, and two that were made one.
+use Rattle.std.specs.Prelude.{ℕ, ◌≡◌, List, map, Some}
 use Rattle.std.specs.List.{zip}
-use Rattle.v_frame.specs.Prelude.{Table, width_of, height_of, pixel_at}
+use Rattle.v_frame.specs.Prelude.{Table, pixel_at}
 
--- the pixels of two rows made one by one, or, of that, the rows of two tables
+-- the pixels of a row changed by a function, or, by that, the rows of a table
+abbrev pub mapped : {X : Type 0} → (X → X) → List X → List X
+mapped change xs = map change xs
+
+-- the pixels of two rows made one by one, or, by that, the rows of two tables
 abbrev pub combined : {X : Type 0} → (X → X → X) → List X → List X → List X
 combined make xs ys = map (λ pair. make pair.0 pair.1) (zip xs ys)
 
@@ -20,12 +23,3 @@ module _ {T : Type 0} where
   CombinesPixels gives old other new =
       (x y : ℕ) (p q : T) → pixel_at old x y ≡ Some p → pixel_at other x y ≡ Some q
       → (r : T) × gives p q r × (pixel_at new x y ≡ Some r)
-
-  -- a table was written into another one, from column x of row y on: the pixels there are those of
-  -- the table, and all others are as they were
-  pub record WritesTable (old : Table T) (x y : ℕ) (source new : Table T) : Type 0 where
-    pub inside : (i j : ℕ) → i < width_of source → j < height_of source
-        → pixel_at new (x + i) (y + j) ≡ pixel_at source i j
-    pub beside : (i j : ℕ)
-        → ((i < x) ⊎ (x + width_of source ≤ i)) ⊎ ((j < y) ⊎ (y + height_of source ≤ j))
-        → pixel_at new i j ≡ pixel_at old i j

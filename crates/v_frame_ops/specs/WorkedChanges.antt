@@ -2,13 +2,16 @@
 use Rattle.std.specs.Prelude.{ℕ, ◌≡◌, ◌+◌, ◌/◌, [], ◌∷◌, refl}
 use Rattle.v_frame.specs.Prelude.{Table, Raster, geometry_of, raster, table_of, whole_rows, pixel_at}
 use Rattle.v_frame_ops.specs.Border.{nearest}
-use Rattle.v_frame_ops.specs.Change.{combined}
+use Rattle.v_frame_ops.specs.Change.{mapped, combined}
 
 abbrev two_rows : Table ℕ
 two_rows = (1 ∷ 2 ∷ 3 ∷ []) ∷ (4 ∷ 5 ∷ 6 ∷ []) ∷ []
 
 abbrev two_others : Table ℕ
 two_others = (9 ∷ 8 ∷ 7 ∷ []) ∷ (1 ∷ 0 ∷ 2 ∷ []) ∷ []
+
+halves : mapped (mapped (λ p. p / 2)) two_rows ≡ (0 ∷ 1 ∷ 1 ∷ []) ∷ (2 ∷ 2 ∷ 3 ∷ []) ∷ []
+halves = refl
 
 means : combined (combined (λ p q. (p + q) / 2)) two_rows two_others
     ≡ (5 ∷ 5 ∷ 5 ∷ []) ∷ (2 ∷ 2 ∷ 4 ∷ []) ∷ []

@@ -1,8 +1,8 @@
 //! Planes, changed: each pixel by a function, alone or with that of another plane, all to one pixel, or a rectangle to what
 //! another plane shows. Borders stay.
-ghost use Rattle.std.specs.Prelude.{◌≡◌, ◌≢◌, ◌+◌, ◌<◌, ◌≤◌, ◌⊎◌, ℕ, List, length, map, replicate, slice_get, Some};
+ghost use Rattle.std.specs.Prelude.{◌≡◌, ◌≢◌, ◌+◌, ◌<◌, ◌≤◌, ◌⊎◌, ℕ, List, length, replicate, slice_get, Some};
 ghost use Rattle.v_frame.specs.Prelude.{KeepsBorder, pixel_at, table_of};
-ghost use Rattle.v_frame_ops.specs.Change.{combined, MapsPixels, CombinesPixels, WritesTable};
+ghost use Rattle.v_frame_ops.specs.Change.{mapped, combined, MapsPixels, CombinesPixels};
 ghost use Rattle.v_frame_ops.specs.Rows.{MapsItems, CombinesItems};
 
 use crate::visible::visible_row;
@@ -17,7 +17,7 @@ pub fn map_pixels<T: Pixel, F: Fn(T) -> T>(plane: &mut Plane<T>, change: F)
     requires { F.IsAlwaysCallable change }
     ensures pixels { MapsPixels (F.post change) (table_of plane.old) (table_of plane.new) }
     ensures mapped { (g : T → T) → ((p q : T) → F.post change p q → q ≡ g p)
-        → table_of plane.new ≡ map (map g) (table_of plane.old) }
+        → table_of plane.new ≡ mapped (mapped g) (table_of plane.old) }
     ensures border { KeepsBorder plane.old plane.new }
 {
     map_rows(plane, &change);
@@ -45,6 +45,8 @@ pub fn combine_pixels<T: Pixel, F: Fn(T, T) -> T>(
 pub fn fill<T: Pixel>(plane: &mut Plane<T>, pixel: T)
     ensures rows { (y : ℕ) → y < plane.old.geometry.height
         → slice_get (table_of plane.new) y ≡ Some (replicate plane.old.geometry.width pixel) }
+    ensures pixels { (x y : ℕ) → x < plane.old.geometry.width → y < plane.old.geometry.height
+        → pixel_at (table_of plane.new) x y ≡ Some pixel }
     ensures border { KeepsBorder plane.old plane.new }
 {
     for y in 0..plane.height() {
@@ -56,8 +58,11 @@ pub fn fill<T: Pixel>(plane: &mut Plane<T>, pixel: T)
 pub fn copy_region<T: Pixel>(source: &PlaneRef<'_, T>, target: &mut Plane<T>, x: usize, y: usize)
     requires wide { x + source.now.geometry.width ≤ target.old.geometry.width }
     requires high { y + source.now.geometry.height ≤ target.old.geometry.height }
-    ensures written { WritesTable (table_of target.old) x y (table_of source.now)
-        (table_of target.new) }
+    ensures inside { (i j : ℕ) → i < source.now.geometry.width → j < source.now.geometry.height
+        → pixel_at (table_of target.new) (x + i) (y + j) ≡ pixel_at (table_of source.now) i j }
+    ensures beside { (i j : ℕ) → ((i < x) ⊎ (x + source.now.geometry.width ≤ i))
+        ⊎ ((j < y) ⊎ (y + source.now.geometry.height ≤ j))
+        → pixel_at (table_of target.new) i j ≡ pixel_at (table_of target.old) i j }
     ensures border { KeepsBorder target.old target.new }
 {
     // Sizes that were read fit their type, and so do the sums that they bound.

@@ -1,4 +1,6 @@
 pub mod Answers
+pub mod Filters
 pub mod Rectangles
 pub mod RowPairs
 pub mod Streams
+pub mod WorkedFilters

@@ -8,8 +8,11 @@
 pub mod answers;
 pub mod border;
 pub mod bytes;
+pub mod collages;
+pub mod filters;
 pub mod frames;
 pub mod lent;
+pub mod motion;
 pub mod pictures;
 pub mod pixels;
 pub mod planes;

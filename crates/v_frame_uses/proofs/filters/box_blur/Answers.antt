@@ -1,0 +1,35 @@
+-- What lies around the picture is the nearest of its pixels, at each of the nine places.
+use Rattle.std.proofs.Common.{ℕ, ◌≡◌, ◌+◌, ◌-◌, ◌<◌, Option, Some, ◌∙◌, ap, arith}
+use Rattle.v_frame.specs.Prelude.{pixel_at, table_of, width_of, height_of}
+use Rattle.v_frame_ops.specs.Prelude.{nearest}
+use Rattle.v_frame_uses.specs.Filters.{mean_of_nine}
+use Rattle.v_frame_uses.proofs.filters.box_blur.Goals as goal
+
+same_means : (f g : ℕ → ℕ → Option ℕ) (x y : ℕ) → ((i j : ℕ) → i < x + 3 → j < y + 3 → f i j ≡ g i j) → mean_of_nine f x y ≡ mean_of_nine g x y
+same_means f g x y same =
+    let a = same x y (omega arith) (omega arith) in
+    let b = same (x + 1) y (omega arith) (omega arith) in
+    let c = same (x + 2) y (omega arith) (omega arith) in
+    let d = same x (y + 1) (omega arith) (omega arith) in
+    let e = same (x + 1) (y + 1) (omega arith) (omega arith) in
+    let h = same (x + 2) (y + 1) (omega arith) (omega arith) in
+    let i = same x (y + 2) (omega arith) (omega arith) in
+    let j = same (x + 1) (y + 2) (omega arith) (omega arith) in
+    let k = same (x + 2) (y + 2) (omega arith) (omega arith) in
+    cc
+
+pub returns-clause-blurred : goal.returns-clause-blurred
+returns-clause-blurred c = λ x y across down.
+    let plane = c.args.source.now in
+    let rows = table_of plane in
+    let around = c.one_pixel_around-around in
+    let near : (i j : ℕ) → i < plane.geometry.width + 2 → j < plane.geometry.height + 2
+    → pixel_at (table_of around.result) i j ≡ pixel_at rows (nearest 1 (width_of rows) i) (nearest 1 (height_of rows) j) = λ i j wide high.
+    let left = plane.geometry.pad_left - 1 + i in
+    let top = plane.geometry.pad_top - 1 + j in
+    let shown = around.ensures.pixels i j (omega arith) (omega arith) in
+    let padded = c.requires.padded left top (omega arith) (omega arith) in
+    let column : nearest plane.geometry.pad_left plane.geometry.width left ≡ nearest 1 (width_of rows) i = omega arith in
+    let row : nearest plane.geometry.pad_top plane.geometry.height top ≡ nearest 1 (height_of rows) j = omega arith in
+    cc in
+    c.blur_inside.ensures.blurred x y across down ∙ ap Some (same_means _ _ x y (λ i j wide high. near i j (omega arith) (omega arith)))
