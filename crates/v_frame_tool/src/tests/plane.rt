@@ -1,7 +1,6 @@
 //! Planes: their geometries, what they show, and what is written into them.
 
 mod blank;
-mod border_of_200;
 mod byte_copies;
 mod byte_walks;
 mod clones;
@@ -11,6 +10,7 @@ mod drops;
 mod each_width;
 mod extremes;
 mod geometry;
+mod held_items;
 mod held_pixels;
 mod many_draws;
 mod options;

@@ -124,37 +124,6 @@ fn two_rows(rt: &impl Abort, alloc: Global, stride: usize) -> Vec<u8> {
     source
 }
 
-/// The last pixel of a row.
-fn last_of(row: Option<&[u16]>) -> Option<u16> {
-    row?.last().copied()
-}
-
-/// The first pixels of two rows, the last of the second, and both ends of the buffer.
-fn ends(plane: &Plane<u16>) -> [Option<u16>; 5] {
-    [
-        plane.pixel(0, 0),
-        plane.pixel(0, 1),
-        last_of(plane.row(1)),
-        plane.data().first().copied(),
-        plane.data().last().copied(),
-    ]
-}
-
-#[test]
-fn words_of_each_width_in_a_border(rt: HostRuntime) {
-    for (width, stride, last) in WIDTHS {
-        let mut plane = zeros::<u16>(&rt, rt.alloc(), (width, 2, [3, 1, 0, 0])).y_plane;
-        plane.data_mut().fill(0xABCD);
-        let source = two_rows(&rt, rt.alloc(), stride);
-        let copied = plane.copy_from_u8_slice_with_stride(source.as_slice(), stride);
-        assert!(rt; copied.is_ok());
-        let wanted = [0x0801, 0x2720, last, 0xABCD, 0xABCD].map(Some);
-        assert!(rt; ends(&plane) == wanted);
-        let border = plane.data().iter().filter(|entry| **entry == 0xABCD);
-        assert!(rt; border.count() == 8);
-    }
-}
-
 /// The first so many words of each of these two rows of bytes.
 fn words_of_two_rows(rt: &impl Abort, alloc: Global, width: usize) -> Vec<u16> {
     let mut words = Vec::new(alloc);
@@ -179,6 +148,7 @@ fn words_of_each_width_leave_a_numbered_border(rt: HostRuntime) {
         let copied = plane.copy_from_u8_slice_with_stride(source.as_slice(), stride);
         let words = words_of_two_rows(&rt, rt.alloc(), width);
         assert!(rt; copied.is_ok() && words.last() == Some(&last));
+        assert!(rt; (plane.pixel(0, 0), plane.pixel(0, 1)) == (Some(0x0801), Some(0x2720)));
         assert!(rt; holds(&rt, rt.alloc(), &plane, layout, words.as_slice()));
     }
 }

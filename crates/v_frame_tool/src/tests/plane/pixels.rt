@@ -1,13 +1,7 @@
 //! Pixels that are read past the rectangle.
 
-use crate::tests::support::frames::{numbered, showing};
+use crate::tests::support::frames::showing;
 use v_frame::plane::Plane;
-
-#[test]
-fn pixel_reaches_the_end_of_the_buffer(rt: HostRuntime) {
-    let plane = numbered::<u8>(&rt, rt.alloc(), (4, 3, [2, 2, 1, 1])).y_plane;
-    assert!(rt; (plane.pixel(5, 3), plane.pixel(6, 3)) == (Some(139), None));
-}
 
 /// Pixels below, right of and far from a plane of four by four, and what comes after its first row.
 fn pixels_around(plane: &Plane<u8>) -> [Option<u8>; 5] {

@@ -1,27 +1,9 @@
 //! Rows and pixels written in place.
 
-use crate::tests::support::buffers::{holds, numbers};
-use crate::tests::support::frames::{numbered, showing, write_pixel};
+use crate::tests::support::buffers::holds;
+use crate::tests::support::frames::{showing, write_pixel};
 use std::process::Abort;
 use v_frame::plane::Plane;
-
-#[test]
-fn a_pixel_past_the_width_is_in_the_border(rt: HostRuntime) {
-    let mut plane = numbered::<u8>(&rt, rt.alloc(), (4, 3, [2, 2, 1, 1])).y_plane;
-    write_pixel(&rt, &mut plane, 4, 0, 7);
-    let mut wanted = numbers::<u8>(&rt, rt.alloc(), 40);
-    *wanted.get_mut(14).expect(&rt, "an entry") = 7;
-    assert!(rt; plane.data() == wanted.as_slice());
-    let rows = [
-        [110, 111, 112, 113],
-        [118, 119, 120, 121],
-        [126, 127, 128, 129],
-    ];
-    for (y, row) in rows.iter().enumerate() {
-        assert!(rt; plane.row(y) == Some(row.as_slice()));
-    }
-    assert!(rt; plane.pixel(4, 0) == Some(7));
-}
 
 /// Writes a whole row, which has to have this many pixels.
 fn write_row(rt: &impl Abort, plane: &mut Plane<u8>, y: usize, pixels: &[u8]) {

@@ -1,10 +1,8 @@
 //! Walks that lend rows and pixels of a plane for writing.
 
-use crate::tests::support::buffers::{bordered_buffer, buffer_in_200, holds, numbers};
-use crate::tests::support::frames::{
-    BARE, BORDERED, BORDERED_ALL_ROUND, counted, in_200, numbered, zeros,
-};
-use crate::tests::support::reads::{table_of, three_of};
+use crate::tests::support::buffers::{buffer_in_200, holds};
+use crate::tests::support::frames::{BARE, in_200, numbered, zeros};
+use crate::tests::support::reads::three_of;
 use v_frame::plane::Plane;
 
 /// What a lent pixel holds, which is replaced by this value.
@@ -29,49 +27,6 @@ fn count_up(plane: &mut Plane<u8>) {
         *pixel = next;
         next = u8::wrapping_add(next, 1);
     }
-}
-
-/// Writes this pixel of a lent row.
-fn write_pixel(row: Option<&mut [u8]>, x: usize, value: u8) {
-    if let Some(row) = row {
-        if let Some(pixel) = row.get_mut(x) {
-            *pixel = value;
-        }
-    }
-}
-
-/// Writes a pixel of the last row and one of the first, once their walk is over.
-fn write_held_rows(plane: &mut Plane<u8>) {
-    let mut rows = plane.rows_mut();
-    let (first, last) = (rows.next(), rows.next_back());
-    drop(rows);
-    write_pixel(last, 0, 40);
-    write_pixel(first, 2, 30);
-}
-
-#[test]
-fn held_rows_are_written_after_the_walk(rt: HostRuntime) {
-    let mut plane = counted(&rt, rt.alloc(), BORDERED).y_plane;
-    write_held_rows(&mut plane);
-    let written = table_of(&plane) == [Some([1, 2, 30]), Some([40, 5, 6])];
-    assert!(rt; written && plane.data() == bordered_buffer([1, 2, 30, 40, 5, 6]).as_slice());
-}
-
-/// What the second, the last and the first pixel held, which are replaced once their walk is over.
-fn replace_held_pixels(plane: &mut Plane<u8>) -> [Option<u8>; 3] {
-    let mut pixels = plane.pixels_mut();
-    let (first, last, second) = (pixels.next(), pixels.next_back(), pixels.next());
-    drop(pixels);
-    let (second, last, first) = (replace(second, 7), replace(last, 9), replace(first, 8));
-    [second, last, first]
-}
-
-#[test]
-fn held_pixels_are_written_after_the_walk(rt: HostRuntime) {
-    let mut plane = counted(&rt, rt.alloc(), BORDERED).y_plane;
-    let held = replace_held_pixels(&mut plane) == [Some(2), Some(6), Some(1)];
-    assert!(rt; held && table_of(&plane) == [Some([8, 7, 3]), Some([4, 5, 9])]);
-    assert!(rt; plane.data() == bordered_buffer([8, 7, 3, 4, 5, 9]).as_slice());
 }
 
 /// Three draws, of which the first and the last replace their pixel, and the bounds of what is left.
@@ -177,30 +132,4 @@ fn pixels_are_filled_from_both_ends(rt: HostRuntime) {
     let mut plane = zeros(&rt, rt.alloc(), (2, 2, [0, 0, 0, 0])).y_plane;
     let held = fill_four_pixels(&mut plane);
     assert!(rt; held == [Some(0); 4] && plane.data() == [10, 20, 30, 40].as_slice());
-}
-
-/// Whether draws from both ends lend six pixels, to the last. Nothing is written.
-fn six_pixels_are_drawn(plane: &mut Plane<u8>) -> bool {
-    let mut pixels = plane.pixels_mut();
-    let mut lent = true;
-    for _turn in 0..3 {
-        lent = pixels.next().is_some() && pixels.next_back().is_some() && lent;
-    }
-    lent && pixels.next().is_none() && pixels.next_back().is_none() && pixels.len() == 0
-}
-
-#[test]
-fn pixels_that_are_drawn_and_not_written_leave_the_buffer(rt: HostRuntime) {
-    let mut plane = numbered::<u8>(&rt, rt.alloc(), BORDERED_ALL_ROUND).y_plane;
-    let drawn = six_pixels_are_drawn(&mut plane);
-    assert!(rt; drawn && plane.data() == numbers(&rt, rt.alloc(), 24).as_slice());
-}
-
-#[test]
-fn walks_that_are_dropped_undrawn_leave_the_buffer(rt: HostRuntime) {
-    let mut plane = numbered::<u8>(&rt, rt.alloc(), BORDERED_ALL_ROUND).y_plane;
-    drop(plane.rows_mut());
-    assert!(rt; plane.data() == numbers(&rt, rt.alloc(), 24).as_slice());
-    drop(plane.pixels_mut());
-    assert!(rt; plane.data() == numbers(&rt, rt.alloc(), 24).as_slice());
 }

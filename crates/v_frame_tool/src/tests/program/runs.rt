@@ -51,18 +51,6 @@ fn hindered_at_first(rt: &HostRuntime, habit: Habit) -> (Result<(), ToolFault>, 
     (answer, out.inner().taken.position(), out.failures())
 }
 
-#[test]
-fn an_interrupted_write_is_not_tried_again(rt: HostRuntime) {
-    let wanted = (Err(ToolFault::Output), 0, 1);
-    assert!(rt; hindered_at_first(&rt, Habit::Fails) == wanted);
-}
-
-#[test]
-fn a_writer_that_takes_nothing_once_is_given_up(rt: HostRuntime) {
-    let wanted = (Err(ToolFault::WriteZero), 0, 0);
-    assert!(rt; hindered_at_first(&rt, Habit::TakesNone) == wanted);
-}
-
 /// What `run` answers over a writer of this habit, and the failures.
 fn hindered(rt: &HostRuntime, habit: Habit) -> (Result<(), ToolFault>, u64) {
     let mut out = Counted::new(Stubborn(habit));
@@ -71,13 +59,15 @@ fn hindered(rt: &HostRuntime, habit: Habit) -> (Result<(), ToolFault>, u64) {
 }
 
 #[test]
-fn a_failed_write_is_answered(rt: HostRuntime) {
-    assert!(rt; hindered(&rt, Habit::Fails) == (Err(ToolFault::Output), 1));
-}
-
-#[test]
-fn a_write_of_nothing_is_answered(rt: HostRuntime) {
-    assert!(rt; hindered(&rt, Habit::TakesNone) == (Err(ToolFault::WriteZero), 0));
+fn a_hindered_write_is_answered_and_not_tried_again(rt: HostRuntime) {
+    for (habit, failures) in [(Habit::Fails, 1), (Habit::TakesNone, 0)] {
+        let fault = || match habit {
+            Habit::Fails => ToolFault::Output,
+            Habit::TakesNone => ToolFault::WriteZero,
+        };
+        assert!(rt; hindered_at_first(&rt, habit) == (Err(fault()), 0, failures));
+        assert!(rt; hindered(&rt, habit) == (Err(fault()), failures));
+    }
 }
 
 #[test]

@@ -4,7 +4,7 @@ use crate::tests::support::answers::{answers_are, row_shown};
 use crate::tests::support::buffers::bordered_buffer;
 use crate::tests::support::calls::{copy, row_mut, sequence};
 use crate::tests::support::errors::other_length;
-use crate::tests::support::frames::{BARE, BORDERED, numbered, padded, with_buffer, zeros};
+use crate::tests::support::frames::{BARE, BORDERED, numbered, padded, zeros};
 use crate::tests::support::reads::table_of;
 use v_frame::chroma::ChromaSubsampling::{Yuv420, Yuv422};
 use v_frame::frame::FrameBuilder;
@@ -67,34 +67,6 @@ fn writes_leave_gaps_and_stop_at_the_width(rt: HostRuntime) {
     assert!(rt; answers_are(&rt, rt.alloc(), &mut frame, &calls, &wanted));
     assert!(rt; table_of(&frame.y_plane) == [Some([1, 8, 3]), Some([4, 5, 6])]);
     assert!(rt; frame.y_plane.data() == bordered_buffer([1, 8, 3, 4, 5, 6]).as_slice());
-}
-
-#[test]
-fn frames_that_differ_in_the_border_answer_alike(rt: HostRuntime) {
-    let calls = [
-        VisibleCall::Row { plane: 0, y: 0 },
-        VisibleCall::PixelMut {
-            plane: 0,
-            x: 1,
-            y: 1,
-            value: 8,
-        },
-        VisibleCall::Row { plane: 0, y: 1 },
-    ];
-    let wanted = [
-        row_shown(&rt, rt.alloc(), &[1, 2]),
-        Answer::PixelShown(4),
-        row_shown(&rt, rt.alloc(), &[3, 8]),
-    ];
-    let cases = [
-        ([1, 2, 102, 3, 4, 105], [1, 2, 102, 3, 8, 105]),
-        ([1, 2, 9, 3, 4, 7], [1, 2, 9, 3, 8, 7]),
-    ];
-    for (before, after) in cases {
-        let mut frame = with_buffer(&rt, rt.alloc(), &before);
-        assert!(rt; answers_are(&rt, rt.alloc(), &mut frame, &calls, &wanted));
-        assert!(rt; frame.y_plane.data() == after.as_slice());
-    }
 }
 
 #[test]

@@ -2,7 +2,7 @@
 
 use crate::tests::support::answers::{answers_are, pixels_walked, rows_walked};
 use crate::tests::support::calls::{pixels, rows};
-use crate::tests::support::frames::{BARE, BORDERED, counted, with_buffer};
+use crate::tests::support::frames::{BARE, BORDERED, counted};
 use v_frame::replay::{Answer, Side, VisibleCall};
 
 #[test]
@@ -63,15 +63,4 @@ fn a_walk_without_draws_tells_its_length(rt: HostRuntime) {
         rows_walked(&rt, rt.alloc(), 2, &[]),
     ];
     assert!(rt; answers_are(&rt, rt.alloc(), &mut frame, &calls, &wanted));
-}
-
-#[test]
-fn walks_see_no_border(rt: HostRuntime) {
-    let wanted = [pixels_walked(&rt, rt.alloc(), 4, &[(Some(4), 3), (Some(1), 2)])];
-    for buffer in [[1, 2, 102, 3, 4, 105], [1, 2, 9, 3, 4, 7]] {
-        let mut frame = with_buffer(&rt, rt.alloc(), &buffer);
-        let calls = [pixels(&rt, rt.alloc(), &[Side::Back, Side::Front])];
-        assert!(rt; answers_are(&rt, rt.alloc(), &mut frame, &calls, &wanted));
-        assert!(rt; frame.y_plane.data() == buffer.as_slice());
-    }
 }

@@ -48,15 +48,9 @@ fn a_writing_walk_draw_by_draw(rt: HostRuntime) {
         let mut bordered = in_200(&rt, rt.alloc());
         assert!(rt; gives(&rt, rt.alloc(), &mut bordered, count));
         assert!(rt; bordered.y_plane.data() == buffer_in_200(pixels).as_slice());
-    }
-}
-
-#[test]
-fn a_writing_walk_in_a_numbered_border_draw_by_draw(rt: HostRuntime) {
-    for (count, pixels) in LEFT.into_iter().enumerate() {
-        let mut frame = counted(&rt, rt.alloc(), BORDERED);
-        assert!(rt; gives(&rt, rt.alloc(), &mut frame, count));
-        assert!(rt; frame.y_plane.data() == bordered_buffer(pixels).as_slice());
+        let mut numbered = counted(&rt, rt.alloc(), BORDERED);
+        assert!(rt; gives(&rt, rt.alloc(), &mut numbered, count));
+        assert!(rt; numbered.y_plane.data() == bordered_buffer(pixels).as_slice());
     }
 }
 
