@@ -1,5 +1,7 @@
--- A walk over lent pixels with which no draw was made: how its rows end, by what its pixels end as. Assumes `Logic`.
-use Rattle.v_frame_plane.proofs.Steps.{◌≡◌, List, [], ◌∷◌, ◌++◌, length, refl, sym, ap, ◌∙◌, emp, ent, sep, fact, fact_i, RattleType, Ura, ‵, raw, ◌$◌, ◌∵◌, !, qed, done, drop, fpick, fsplit, join, move, rewrite, use0, Logic, sem}
+-- An iterator over lent pixels whose items are all left: how its rows end, by what its pixels end as. Assumes `Logic`.
+use Rattle.v_frame_plane.proofs.lent.Steps.{◌≡◌, List, [], ◌∷◌, ◌++◌, length, refl, sym, ap, ◌∙◌, emp, ent, sep, fact, fact_i, RattleType, Ura, ‵, raw, ◌$◌}
+use Rattle.v_frame_plane.proofs.lent.Steps.{◌∵◌}
+use Rattle.v_frame_plane.proofs.lent.Steps.{ !, qed, done, drop, fpick, fsplit, join, move, rewrite, use0, Logic, sem}
 use Rattle.std.proofs.Common.{append-nil}
 use Rattle.std.proofs.lemmas.List.{nil_from_length}
 use Rattle.std.specs.Prelude.{All, map}
@@ -8,7 +10,7 @@ use Rattle.v_frame_plane.specs.Plane.{Raster, table_of}
 use Rattle.v_frame_plane.specs.SecondPixels.{Parts, ArePartsOf, BeginsOver, SecondPixels}
 use Rattle.v_frame_plane.specs.SecondRows.{SecondRows}
 use Rattle.v_frame_plane.specs.declared.pixels_mut.PixelsMut.{PixelsMut}
-use Rattle.v_frame_plane.proofs.Cursors.{rows_are_long}
+use Rattle.v_frame_plane.proofs.iterators.Cursors.{rows_are_long}
 use Rattle.v_frame.proofs.CutRows.{cut_again}
 
 module _ {T : Type 0} (plane : Raster T) (walk : PixelsMut T) (begins : BeginsOver plane walk) (second : List T) where
@@ -23,18 +25,23 @@ module _ {T : Type 0} (plane : Raster T) (walk : PixelsMut T) (begins : BeginsOv
   pub rows_of_parts : (parts : Parts T) → ArePartsOf walk second parts → (parts.rows ≡ cut) × (map length cut ≡ map length table)
   rows_of_parts parts are =
       let rows = walk.rows in
-      let wide : All (λ row. length row ≡ rows.width) table = rw (sym begins.rows) (rows_are_long rows.start rows.width rows.gap rows.count rows.rest.now rows.within.within) in
+      let wide : All (λ row. length row ≡ rows.width) table =
+      rw (sym begins.rows) (rows_are_long rows.start rows.width rows.gap rows.count rows.rest.now rows.within.within) in
       let long : map length parts.rows ≡ map length table = are.rows ∙ ap (map length) begins.rows in
       let no_front : parts.front ≡ [] = nil_from_length parts.front (are.front ∙ ap length begins.front) in
       let no_back : parts.back ≡ [] = nil_from_length parts.back (are.back ∙ ap length begins.back) in
-      let joined : second ≡ row_major parts.rows = are.joined ∙ ap (λ xs. xs ++ (row_major parts.rows ++ parts.back)) no_front ∙ ap (λ xs. row_major parts.rows ++ xs) no_back ∙ append-nil (row_major parts.rows) in
+      let joined : second ≡ row_major parts.rows = are.joined ∙ ap (λ xs. xs ++ (row_major parts.rows ++ parts.back)) no_front ∙
+      ap (λ xs. row_major parts.rows ++ xs) no_back ∙ append-nil (row_major parts.rows) in
       let is : cut ≡ parts.rows = ap (cut_rows (width_of table) (height_of table)) joined ∙ cut_again rows.width table parts.rows long wide in
       (sym is, ap (map length) is ∙ long)
 
-pub rows_end : {M : Type 1} {𝓤 : Ura M} (𝓛 : Logic 𝓤) (T : RattleType) (plane : Raster T.Denot) (walk : PixelsMut T.Denot) → BeginsOver plane walk → (second : List T.Denot)
+pub rows_end : {M : Type 1} {𝓤 : Ura M} (𝓛 : Logic 𝓤) (T : RattleType) (plane : Raster T.Denot) (walk : PixelsMut T.Denot) → BeginsOver plane walk →
+    (second : List T.Denot)
     → let last : Table T.Denot = cut_rows (width_of (table_of plane)) (height_of (table_of plane)) second in
     ent 𝓤 (sem 𝓛 (SecondPixels T walk second)) (sep 𝓤 (fact 𝓤 (map length last ≡ map length (table_of plane))) (sem 𝓛 (SecondRows T walk.rows last)))
 rows_end {M} {𝓤} 𝓛 T plane walk begins second =
     let last : Table T.Denot = cut_rows (width_of (table_of plane)) (height_of (table_of plane)) second in
-    qed 𝓛 (‵ (SecondPixels T walk second) ∷ []) ∵ fpick ! (λ parts. fpick ! (λ are. fsplit ! $ drop ! $ fsplit ! $ move ! (1 ∷ []) $ drop ! $ let told = rows_of_parts plane walk begins second parts are in
-    rewrite ! 0 (λ (rows : Table T.Denot). ‵ (SecondRows T walk.rows rows)) told.0 refl $ use0 𝓛 (raw (fact 𝓤 (map length last ≡ map length (table_of plane)))) (fact_i 𝓤 _ (emp 𝓤) told.1) $ join ! $ done !))
+    qed 𝓛 (‵ (SecondPixels T walk second) ∷ []) ∵ fpick ! (λ parts. fpick ! (λ are. fsplit ! $ drop ! $ fsplit ! $ move ! (1 ∷ []) $ drop ! $ let told =
+    rows_of_parts plane walk begins second parts are in
+    rewrite ! 0 (λ (rows : Table T.Denot). ‵ (SecondRows T walk.rows rows)) told.0 refl $
+    use0 𝓛 (raw (fact 𝓤 (map length last ≡ map length (table_of plane)))) (fact_i 𝓤 _ (emp 𝓤) told.1) $ join ! $ done !))

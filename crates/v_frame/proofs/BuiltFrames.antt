@@ -18,7 +18,8 @@ module _ {T : Type 0} (zero : T) where
   chroma_filled None = tt
   chroma_filled (Some g) = filled_everywhere g
 
-  chroma_plane_size : (s : ChromaSubsampling) (g : Geometry) (chroma : Option Geometry) → subsampled s g ≡ Ok chroma → option_map size_of (option_map (filled zero) chroma) ≡ chroma_size_of s g.width g.height
+  chroma_plane_size : (s : ChromaSubsampling) (g : Geometry) (chroma : Option Geometry) → subsampled s g ≡ Ok chroma →
+      option_map size_of (option_map (filled zero) chroma) ≡ chroma_size_of s g.width g.height
   chroma_plane_size s g None e = sym (no_chroma_size s g e)
   chroma_plane_size s g (Some c) e = sym (chroma_size s g c e)
 

@@ -1,5 +1,6 @@
--- Bytes that go through a frame: it is built, filled by a copy with a stride, and walked over its bytes.
-use Rattle.std.proofs.Common.{ℕ, ◌≡◌, ◌*◌, ◌^◌, ◌<◌, ◌≤◌, Bool, true, false, ◌&&◌, ◌||◌, ltb, if◌then◌else◌, List, [], ◌∷◌, length, Option, Some, None, Result, Ok, Err, refl, ◌∙◌, ap}
+-- Bytes that go through a frame: it is built, filled by a copy with a stride, and its bytes are taken.
+use Rattle.std.proofs.Common.{ℕ, ◌≡◌, ◌*◌, ◌^◌, ◌<◌, ◌≤◌, Bool, true, false, ◌&&◌, ◌||◌, ltb, if◌then◌else◌, List, [], ◌∷◌, length, Option, Some, None}
+use Rattle.std.proofs.Common.{Result, Ok, Err, refl, ◌∙◌, ap}
 use Rattle.std.specs.Prelude.{MatchOption, IsOkUnless, is_ok}
 use Rattle.std.proofs.lemmas.Bool.{ltb-true}
 use Rattle.std.proofs.lemmas.List.{length-replicate}
@@ -19,30 +20,33 @@ use Rattle.v_frame.specs.declared.replay.draw.Side.{Side}
 use Rattle.v_frame.specs.declared.replay.call.VisibleCall.TheVariants.{CopyFromU8SliceWithStride, ByteData}
 use Rattle.v_frame.specs.declared.replay.answer.Answer.{Answer}
 use Rattle.v_frame.specs.declared.replay.answer.Answer.TheVariants.{Copied, BytesWalked}
-use Rattle.v_frame_plane.proofs.BytesBack.{AreBytes, table_comes_back}
-use Rattle.v_frame_plane.proofs.ByteLaws.{accepted_copy}
+use Rattle.v_frame_plane.proofs.copies.BytesBack.{AreBytes, table_comes_back}
+use Rattle.v_frame_plane.proofs.copies.ByteLaws.{accepted_copy}
 use Rattle.v_frame_layout.proofs.ChromaLemmas.{both_true}
-use Rattle.v_frame_plane.proofs.CopyLemmas.{width_of_shown, height_of_shown}
+use Rattle.v_frame_plane.proofs.copies.CopyLemmas.{width_of_shown, height_of_shown}
 
 module _ {X : Type 0} (r : Result X FrameError) (built : X) (is : r ≡ Ok built) where
   -- what was not refused has passed each test
-  passed : (a b c : Bool) (e f g o : FrameError) → MatchOption (if a then Some e else (if b then Some f else (if c then None else Some g))) (IsOkUnless r o) (λ fault. r ≡ Err fault) → c ≡ true
+  passed : (a b c : Bool) (e f g o : FrameError) →
+      MatchOption (if a then Some e else (if b then Some f else (if c then None else Some g))) (IsOkUnless r o) (λ fault. r ≡ Err fault) → c ≡ true
   passed a b true e f g o h = refl
   passed true b false e f g o h = cc
   passed false true false e f g o h = cc
   passed false false false e f g o h = cc
 
   -- so a frame that was built has a height
-  pub built_high : (bytes : ℕ) (asked : FrameRequest) (o : FrameError) → MatchOption (refusal_of bytes asked) (IsOkUnless r o) (λ fault. r ≡ Err fault) → 0 < asked.height
+  pub built_high : (bytes : ℕ) (asked : FrameRequest) (o : FrameError) → MatchOption (refusal_of bytes asked) (IsOkUnless r o) (λ fault. r ≡ Err fault) →
+      0 < asked.height
   built_high bytes asked o h =
       let depth = asked.bit_depth in
       let luma = luma_geometry asked in
-      let all = passed (ltb depth 8 || ltb 16 depth) (is_mismatch bytes depth) (is_laid_out luma && is_ok (subsampled asked.subsampling luma)) (UnsupportedBitDepth depth) DataTypeMismatch UnsupportedResolution o h in
+      let all = passed (ltb depth 8 || ltb 16 depth) (is_mismatch bytes depth) (is_laid_out luma && is_ok (subsampled asked.subsampling luma))
+      (UnsupportedBitDepth depth) DataTypeMismatch UnsupportedResolution o h in
       let laid_out = both_true (is_laid_out luma) (is_ok (subsampled asked.subsampling luma)) all in
       let wide = both_true (ltb 0 asked.width) _ laid_out.0 in
       ltb-true 0 asked.height (both_true (ltb 0 asked.height) _ wide.1).0
 
--- an error that is handed on comes for the same reason
+-- an error that is passed on comes for the same reason
 pub refusal_goes_on : {X Y : Type 0} (r : Result X FrameError) (s : Result Y FrameError) (e o : FrameError) (due : Option FrameError) → r ≡ Err e → s ≡ Err e
     → MatchOption due (IsOkUnless r o) (λ fault. r ≡ Err fault) → MatchOption due (IsOkUnless s o) (λ fault. s ≡ Err fault)
 refusal_goes_on r s e o None was is h = let why = rw was at h in rw is why
@@ -59,13 +63,17 @@ module _ {T : Type 0} where
     pub blank_height : height_of blank ≡ asked.height
     blank_height = height_of_shown (filled zero (luma_geometry asked))
 
-  -- what the copy and the walk answer
-  module _ (form : PixelForm T) (back : (v : ℕ) → v < 256 ^ form.size → form.value (form.pixel_of v) ≡ v) (source : List ℕ) (bytes : AreBytes source) (stride : ℕ) (sides : List Side) where
-    pub path_answers : (tables : Tables T) (width height : ℕ) → width_of tables.y ≡ width → height_of tables.y ≡ height → width * form.size ≤ stride → length source ≡ stride * height
+  -- what the copy and the iteration answer
+  module _ (form : PixelForm T) (back : (v : ℕ) → v < 256 ^ form.size → form.value (form.pixel_of v) ≡ v) (source : List ℕ) (bytes : AreBytes source) (stride :
+      ℕ) (sides : List Side) where
+    pub path_answers : (tables : Tables T) (width height : ℕ) → width_of tables.y ≡ width → height_of tables.y ≡ height → width * form.size ≤ stride →
+        length source ≡ stride * height
         → answers_to form (CopyFromU8SliceWithStride 0 source stride ∷ ByteData 0 sides ∷ []) tables
-        ≡ Copied (Ok tt) ∷ BytesWalked (length (row_major (piece_fronts (width * form.size) stride height source))) (draws_answer (row_major (piece_fronts (width * form.size) stride height source)) sides) ∷ []
+        ≡ Copied (Ok tt) ∷ BytesWalked (length (row_major (piece_fronts (width * form.size) stride height source)))
+        (draws_answer (row_major (piece_fronts (width * form.size) stride height source)) sides) ∷ []
     path_answers tables width height w h fits whole =
         let walked : List ℕ → List (Answer T) = λ list. Copied (Ok tt) ∷ BytesWalked (length list) (draws_answer list sides) ∷ [] in
         let table = strided_table form width height stride source in
         let copy = accepted_copy form tables.y source stride width height w h fits whole in
-        ap (λ (o : CopyOutcome T). Copied o.answer ∷ BytesWalked (length (byte_list form o.table)) (draws_answer (byte_list form o.table) sides) ∷ []) copy ∙ ap walked (table_comes_back form back width height stride source fits whole bytes)
+        ap (λ (o : CopyOutcome T). Copied o.answer ∷ BytesWalked (length (byte_list form o.table)) (draws_answer (byte_list form o.table) sides) ∷ []) copy ∙
+        ap walked (table_comes_back form back width height stride source fits whole bytes)

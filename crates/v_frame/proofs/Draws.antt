@@ -1,5 +1,7 @@
--- Draws told by counts are draws one after another, and each item is drawn once.
-use Rattle.std.proofs.Common.{ℕ, ◌≡◌, ◌+◌, ◌-◌, ◌<◌, ◌≤◌, cond, not, suc, inl, inr, List, [], ◌∷◌, ◌++◌, length, map, take, drop, reverse, Option, Some, None, slice_get, get_or, refl, sym, ◌∙◌, ap, subst, arith, append-nil, append_assoc, length-append, length-take-le, length-drop}
+-- What calls of `next` and `next_back` give by counts is what they give one after another, and each item is given once.
+use Rattle.std.proofs.Common.{ℕ, ◌≡◌, ◌+◌, ◌-◌, ◌<◌, ◌≤◌, cond, not, suc, inl, inr, List, [], ◌∷◌, ◌++◌, length, map, take, drop, reverse, Option, Some}
+use Rattle.std.proofs.Common.{None, slice_get, get_or, refl, sym, ◌∙◌, ap, subst, arith, append-nil, append_assoc, length-append, length-take-le}
+use Rattle.std.proofs.Common.{length-drop}
 use Rattle.std.specs.Option.{option_to_list}
 use Rattle.std.proofs.lemmas.Bool.{cases_lt, lt-ltb, le-ltb}
 use Rattle.std.proofs.lemmas.List.{get_or-map, map-id, drop-drop, drop-take, take-take, take_all, take_more, reverse-append}
@@ -8,10 +10,11 @@ use Rattle.std.proofs.lemmas.Option.{slice_get_past, slice_get-get_or}
 use Rattle.v_frame.specs.declared.replay.draw.Side.{Side}
 use Rattle.v_frame.specs.declared.replay.draw.Side.TheVariants.{Front, Back}
 use Rattle.v_frame.specs.declared.replay.draw.Drawn.{Drawn}
-use Rattle.v_frame.specs.Walk.{is_front, fronts, backs, number_of_item, item_from, left_by, drawn_in_turn, left_in_turn, item_after, drawn_after, draws_answer, given_from, AreCounted, AreDrawnOnce, AreAllGiven}
-use Rattle.v_frame_plane.proofs.Lists.{slice_get-take, slice_get-drop}
+use Rattle.v_frame.specs.Walk.{is_front, fronts, backs, number_of_item, item_from, left_by, drawn_in_turn, left_in_turn, item_after, drawn_after}
+use Rattle.v_frame.specs.Walk.{draws_answer, given_from, AreCounted, AreDrawnOnce, AreAllGiven}
+use Rattle.v_frame_plane.proofs.tables.Lists.{slice_get-take, slice_get-drop}
 
--- counts of some draws and some more
+-- counts of some calls and some more
 pub fronts-append : (before sides : List Side) → fronts (before ++ sides) ≡ fronts before + fronts sides
 fronts-append before sides = sum_by-append (λ side. cond (is_front side) 1 0) before sides
 
@@ -29,7 +32,7 @@ all_draws (side ∷ sides) = omega (arith, fronts-append (side ∷ []) sides, ba
 abbrev pub answer : {X : Type 0} → Option X → ℕ → Drawn X
 answer item left = record { item = item; left = left }
 
--- what so many draws from the front and so many from the back leave
+-- what so many calls from the front and so many from the back leave
 module _ {X : Type 0} (items : List X) where
   abbrev between : ℕ → ℕ → List X
   between f b = take (length items - f - b) (drop f items)
@@ -46,7 +49,8 @@ module _ {X : Type 0} (items : List X) where
   last_between f b h =
       let long = length-between f b in
       let at : f + (length (between f b) - 1) ≡ length items - 1 - b = omega arith in
-      slice_get-take (length items - f - b) (drop f items) (length (between f b) - 1) (omega arith) ∙ slice_get-drop f items (length (between f b) - 1) ∙ ap (slice_get items) at
+      slice_get-take (length items - f - b) (drop f items) (length (between f b) - 1) (omega arith) ∙ slice_get-drop f items (length (between f b) - 1) ∙
+      ap (slice_get items) at
 
   none_between : (f b i : ℕ) → length items ≤ f + b → slice_get (between f b) i ≡ None
   none_between f b i h = slice_get_past (between f b) i (omega (arith, length-between f b))
@@ -56,7 +60,8 @@ module _ {X : Type 0} (items : List X) where
       elim (cases_lt (f + b) (length items)) [
         | inl more ↦
             let m : length items - f - b ≡ 1 + (length items - (f + 1) - b) = omega arith in
-            ap (λ n. drop 1 (take n (drop f items))) m ∙ drop-take 1 (length items - (f + 1) - b) (drop f items) ∙ ap (take (length items - (f + 1) - b)) (drop-drop 1 f items)
+            ap (λ n. drop 1 (take n (drop f items))) m ∙ drop-take 1 (length items - (f + 1) - b) (drop f items) ∙
+            ap (take (length items - (f + 1) - b)) (drop-drop 1 f items)
         | inr none ↦
             let m : length items - f - b ≡ 0 = omega arith in
             let n : length items - (f + 1) - b ≡ 0 = omega arith in
@@ -66,7 +71,8 @@ module _ {X : Type 0} (items : List X) where
   after_back : (f b : ℕ) → take (length (between f b) - 1) (between f b) ≡ between f (b + 1)
   after_back f b =
       let m : length items - f - b - 1 ≡ length items - f - (b + 1) = omega arith in
-      ap (λ n. take (n - 1) (between f b)) (length-between f b) ∙ take-take (length items - f - b - 1) (length items - f - b) (drop f items) (omega arith) ∙ ap (λ n. take n (drop f items)) m
+      ap (λ n. take (n - 1) (between f b)) (length-between f b) ∙ take-take (length items - f - b - 1) (length items - f - b) (drop f items) (omega arith) ∙
+      ap (λ n. take n (drop f items)) m
 
   some_item : (side : Side) (before : List Side) → fronts before + backs before < length items
       → item_from side (between (fronts before) (backs before)) ≡ slice_get items (number_of_item side (length items) before)
@@ -84,7 +90,8 @@ module _ {X : Type 0} (items : List X) where
         | inr none ↦ rw (le-ltb (length before) (length items) none) (no_item side before (omega (arith, all_draws before)))
       ]
 
-  left_is : (side : Side) (before : List Side) → left_by side (between (fronts before) (backs before)) ≡ between (fronts (before ++ side ∷ [])) (backs (before ++ side ∷ []))
+  left_is : (side : Side) (before : List Side) → left_by side (between (fronts before) (backs before)) ≡
+      between (fronts (before ++ side ∷ [])) (backs (before ++ side ∷ []))
   left_is Front before =
       let f : fronts before + 1 ≡ fronts (before ++ Front ∷ []) = sym (fronts-append before (Front ∷ [])) in
       let b : backs before ≡ backs (before ++ Front ∷ []) = omega (arith, backs-append before (Front ∷ [])) in
@@ -104,7 +111,9 @@ module _ {X : Type 0} (items : List X) where
   counted_after before (side ∷ sides) =
       let after = before ++ side ∷ [] in
       let rest = counted_after after sides ∙ ap (λ left. drawn_in_turn left sides) (sym (left_is side before)) in
-      let first : answer (item_after items before side) (length items - length before - 1) ≡ answer (item_from side (between (fronts before) (backs before))) (length (left_by side (between (fronts before) (backs before)))) = cc (item_is side before, count_left side before) in
+      let first : answer (item_after items before side) (length items - length before - 1) ≡
+      answer (item_from side (between (fronts before) (backs before))) (length (left_by side (between (fronts before) (backs before)))) =
+      cc (item_is side before, count_left side before) in
       cc
 
 pub are_counted : (X : Type 0) → AreCounted X
@@ -113,8 +122,9 @@ are_counted X = λ items sides.
     let all : between items 0 0 ≡ items = ap (λ n. take n items) whole ∙ take_all (length items) items (omega arith) in
     counted_after items [] sides ∙ ap (λ left. drawn_in_turn left sides) all
 
--- the side of a draw of a list
-pub side_at : {D : Type 0} (side_of : D → Side) (draws : List D) (i : ℕ) (draw : D) (side : Side) → i < length draws → draw ≡ get_or draws i draw → side ≡ side_of draw → side ≡ get_or (map side_of draws) i side
+-- the side of a call of a list
+pub side_at : {D : Type 0} (side_of : D → Side) (draws : List D) (i : ℕ) (draw : D) (side : Side) → i < length draws → draw ≡ get_or draws i draw →
+    side ≡ side_of draw → side ≡ get_or (map side_of draws) i side
 side_at side_of draws i draw side within here is = is ∙ ap side_of here ∙ sym (get_or-map side_of draws i draw side within)
 
 -- an item of the list is read with any default
@@ -150,14 +160,18 @@ module _ {X : Type 0} where
       let rest = take (length items - 1) items in
       let item = slice_get items (length items - 1) in
       let drawn = drawn_in_turn rest sides in
-      let back = reverse-append (option_to_list item) (given_from Back sides drawn) ∙ ap (λ last. reverse (given_from Back sides drawn) ++ last) (reversed_once item) in
-      others_and_last items ∙ ap (λ others. others ++ option_to_list item) (once_in_turn rest sides) ∙ append_assoc (given_from Front sides drawn) _ _ ∙ ap (λ others. given_from Front sides drawn ++ others) (append_assoc (left_in_turn rest sides) _ _) ∙ ap (λ last. given_from Front sides drawn ++ (left_in_turn rest sides ++ last)) (sym back)
+      let back = reverse-append (option_to_list item) (given_from Back sides drawn) ∙
+      ap (λ last. reverse (given_from Back sides drawn) ++ last) (reversed_once item) in
+      others_and_last items ∙ ap (λ others. others ++ option_to_list item) (once_in_turn rest sides) ∙ append_assoc (given_from Front sides drawn) _ _ ∙
+      ap (λ others. given_from Front sides drawn ++ others) (append_assoc (left_in_turn rest sides) _ _) ∙
+      ap (λ last. given_from Front sides drawn ++ (left_in_turn rest sides ++ last)) (sym back)
 
   pub drawn_once : (items : List X) (sides : List Side) → AreDrawnOnce items sides (draws_answer items sides)
   drawn_once items sides = rw (are_counted X items sides) (once_in_turn items sides)
 
-  -- where the draws are their sides
-  pub sides_drawn_once : (items : List X) (sides : List Side) (answers : List (Drawn X)) → answers ≡ draws_answer items (map (λ side. side) sides) → AreDrawnOnce items sides answers
+  -- where the calls are their sides
+  pub sides_drawn_once : (items : List X) (sides : List Side) (answers : List (Drawn X)) → answers ≡ draws_answer items (map (λ side. side) sides) →
+      AreDrawnOnce items sides answers
   sides_drawn_once items sides answers is =
       let counted : answers ≡ draws_answer items sides = is ∙ ap (draws_answer items) (map-id sides) in
       subst (AreDrawnOnce items sides) (sym counted) (drawn_once items sides)
@@ -174,24 +188,27 @@ module _ {X : Type 0} where
   nothing [] h = refl
   nothing (x ∷ xs) h = absurd (omega arith)
 
-  -- as many draws as there are items leave nothing
+  -- as many calls as there are items leave nothing
   pub all_given : (items : List X) (sides : List Side) → length items ≤ length sides → AreAllGiven items sides (draws_answer items sides)
   all_given items sides enough =
       let none = nothing (left_in_turn items sides) (omega (arith, length-left_in_turn items sides)) in
       let answers = draws_answer items sides in
       drawn_once items sides ∙ ap (λ left. given_from Front sides answers ++ (left ++ reverse (given_from Back sides answers))) none
 
-  -- one more draw of a list
+  -- one more call of a list
   drawn-push : (items : List X) (sides : List Side) (side : Side)
-      → drawn_in_turn items (sides ++ side ∷ []) ≡ drawn_in_turn items sides ++ answer (item_from side (left_in_turn items sides)) (length (left_by side (left_in_turn items sides))) ∷ []
+      → drawn_in_turn items (sides ++ side ∷ []) ≡ drawn_in_turn items sides ++
+      answer (item_from side (left_in_turn items sides)) (length (left_by side (left_in_turn items sides))) ∷ []
   drawn-push items [] side = refl
-  drawn-push items (first ∷ sides) side = ap (λ drawn. answer (item_from first items) (length (left_by first items)) ∷ drawn) (drawn-push (left_by first items) sides side)
+  drawn-push items (first ∷ sides) side = ap (λ drawn. answer (item_from first items) (length (left_by first items)) ∷
+      drawn) (drawn-push (left_by first items) sides side)
 
   pub left-push : (items : List X) (sides : List Side) (side : Side) → left_in_turn items (sides ++ side ∷ []) ≡ left_by side (left_in_turn items sides)
   left-push items [] side = refl
   left-push items (first ∷ sides) side = left-push (left_by first items) sides side
 
-  module _ (items : List X) (sides : List Side) (i : ℕ) (side : Side) (within : i < length sides) (here : side ≡ get_or sides i side) (left more : List X) (so_far : left ≡ left_in_turn items (take i sides))
+  module _ (items : List X) (sides : List Side) (i : ℕ) (side : Side) (within : i < length sides) (here : side ≡ get_or sides i side) (left more :
+      List X) (so_far : left ≡ left_in_turn items (take i sides))
       (less : more ≡ left_by side left) where
     next_sides : take (i + 1) sides ≡ take i sides ++ side ∷ []
     next_sides = take_more sides i side within ∙ ap (λ s. take i sides ++ s ∷ []) (sym here)
@@ -199,13 +216,16 @@ module _ {X : Type 0} where
     pub left_more : more ≡ left_in_turn items (take (i + 1) sides)
     left_more = less ∙ ap (left_by side) so_far ∙ sym (left-push items (take i sides) side) ∙ ap (left_in_turn items) (sym next_sides)
 
-    pub drawn_more : (answers : List (Drawn X)) (item : Option X) (count : ℕ) → answers ≡ drawn_in_turn items (take i sides) → item ≡ item_from side left → count ≡ length more
+    pub drawn_more : (answers : List (Drawn X)) (item : Option X) (count : ℕ) → answers ≡ drawn_in_turn items (take i sides) → item ≡ item_from side left →
+        count ≡ length more
         → answers ++ answer item count ∷ [] ≡ drawn_in_turn items (take (i + 1) sides)
     drawn_more answers item count before given counted =
         let here : answer item count ≡ answer (item_from side (left_in_turn items (take i sides))) (length (left_by side (left_in_turn items (take i sides)))) =
         cc (ap (item_from side) so_far, ap length (less ∙ ap (left_by side) so_far)) in
-        ap (λ drawn. drawn ++ answer item count ∷ []) before ∙ ap (λ one. drawn_in_turn items (take i sides) ++ one ∷ []) here ∙ sym (drawn-push items (take i sides) side) ∙ ap (drawn_in_turn items) (sym next_sides)
+        ap (λ drawn. drawn ++ answer item count ∷ []) before ∙ ap (λ one. drawn_in_turn items (take i sides) ++ one ∷ []) here ∙
+        sym (drawn-push items (take i sides) side) ∙ ap (drawn_in_turn items) (sym next_sides)
 
-  -- the answers of all draws
-  pub all_drawn : (items : List X) (sides : List Side) (n : ℕ) (answers : List (Drawn X)) → n ≡ length sides → answers ≡ drawn_in_turn items (take n sides) → answers ≡ draws_answer items sides
+  -- the answers of all calls
+  pub all_drawn : (items : List X) (sides : List Side) (n : ℕ) (answers : List (Drawn X)) → n ≡ length sides → answers ≡ drawn_in_turn items (take n sides) →
+      answers ≡ draws_answer items sides
   all_drawn items sides n answers e so_far = so_far ∙ ap (drawn_in_turn items) (take_all n sides (omega arith)) ∙ sym (are_counted X items sides)

@@ -1,12 +1,16 @@
 pub mod BegunWalks
 pub mod BuiltFrames
 pub mod BytePaths
+pub mod CallSteps
 pub mod CutRows
+pub mod Drawing
 pub mod DrawnItems
 pub mod DrawnLoans
 pub mod Draws
 pub mod FullWalks
+pub mod Lending
 pub mod OptionCases
 pub mod PutBack
 pub mod Replays
 pub mod SharedItems
+pub mod Steps

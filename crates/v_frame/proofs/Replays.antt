@@ -31,7 +31,8 @@ module _ {T : Type 0} (form : PixelForm T) where
     so_far : take (i + 1) calls ≡ take i calls ++ call ∷ []
     so_far = take_more calls i call within ∙ ap (λ c. take i calls ++ c ∷ []) (sym here)
 
-    pub answers_more : (old : Tables T) → answers_to form (take (i + 1) calls) old ≡ answers_to form (take i calls) old ++ (reply_to form call (tables_after form (take i calls) old)).answer ∷ []
+    pub answers_more : (old : Tables T) → answers_to form (take (i + 1) calls) old ≡ answers_to form (take i calls) old ++
+        (reply_to form call (tables_after form (take i calls) old)).answer ∷ []
     answers_more old = ap (λ cs. answers_to form cs old) so_far ∙ answers_to-push (take i calls) call old
 
     pub tables_more : (old : Tables T) → tables_after form (take (i + 1) calls) old ≡ (reply_to form call (tables_after form (take i calls) old)).tables

@@ -1,9 +1,16 @@
 -- One element of a slice for reading, by its number: what a `&` to it holds, and one element more of a list. Assumes `Logic`.
-use Rattle.v_frame_plane.proofs.Steps.{ℕ, ◌≡◌, ◌+◌, ◌*◌, ◌<◌, List, [], ◌∷◌, ◌++◌, length, take, refl, ap, arith, Lft, ent, Ura, ‵, ◌$◌, ◌∵◌, !, qed, done, fsplit, keep, rewrite, use1, Logic, sem}
+use Rattle.v_frame_plane.proofs.lent.Steps.{RattleType, Val, vptr, mem, Goal, Item, Step, step, feq_i, fjoin, ℕ, ◌≡◌, ◌+◌, ◌*◌, ◌<◌, List, [], ◌∷◌, ◌++◌}
+use Rattle.v_frame_plane.proofs.lent.Steps.{length}
+use Rattle.v_frame_plane.proofs.lent.Steps.{take, refl, ap, arith, Lft, ent, Ura, ‵, ◌$◌, ◌∵◌, !, qed, done, fsplit, keep, rewrite, use1, Logic, sem}
 use Rattle.std.specs.Prelude.{zero, suc}
-use base.Fml.{Fml}
+use base.Fml.{Fml, fhide}
 use denote.Index.{place, place_is}
-use denote.Memory.{each_shared}
+use denote.Memory.{each_shared, hidden_shr, shared_of}
+use denote.Opens.{laws_dup}
+use denote.RattleType.{RowLaws}
+use denote.Ref.{ShrRef}
+use denote.Slice.{elements_shared, elements_shr_laws}
+use mir.Syntax.{Lifetime}
 
 module _ {D : Type 0} where
   pub nth_of : (xs : List D) (i : ℕ) → i < length xs → D
@@ -30,3 +37,13 @@ module _ {D : Type 0} where
     pub shared_nth : (xs : List D) (o i : ℕ) (h : i < length xs) → ent 𝓤 (sem 𝓛 (each_shared xs c size b o κ)) (sem 𝓛 (c (nth_of xs i h) b (i * size + o) κ))
     shared_nth xs o i h = qed 𝓛 (‵ (each_shared xs c size b o κ) ∷ []) ∵ use1 𝓛 (‵ (c (nth_of xs i h) b (place size o i) κ)) (shared_at xs o i h) $
         rewrite ! 0 (λ (k : ℕ). ‵ (c (nth_of xs i h) b k κ)) (place_is size o i) refl $ done !
+
+-- a `&` to an element that a `&` to the slice gives
+module _ {M : Type 1} {𝓤 : Ura M} {𝓛 : Logic 𝓤} {K : Type 0} {Γ : List (Item 𝓤)} {G : Goal 𝓤 𝓛.H} where
+  pub lends_nth : K → (R : RattleType) → RowLaws R → (ℓ : Lifetime) (κ : Lft) (xs : List R.Denot) (b o i : ℕ) (h : i < length xs)
+      → let p = i * (mem R).size + o in let Each : Item 𝓤 = ‵ (fhide (elements_shared R xs b o κ)) in
+      Step K 𝓛 (‵ ((ShrRef ℓ κ R).own_val (record { ref_ptr = (b, p); now = nth_of xs i h }) (vptr b p ∷ [])) ∷ Each ∷ Γ) G (Each ∷ Γ) G
+  lends_nth t R shr ℓ κ xs b o i h = step (λ k. let p = i * (mem R).size + o in
+      laws_dup t (elements_shared R xs b o) (elements_shr_laws R shr xs b o) κ $
+      use1 𝓛 (‵ (hidden_shr R κ (nth_of xs i h) b p)) (shared_nth 𝓛 (shared_of R) (mem R).size b κ xs o i h) $
+      feq_i t (List Val) (vptr b p ∷ []) (vptr b p ∷ []) refl $ fjoin t $ k)

@@ -6,9 +6,11 @@ use Rattle.v_frame_layout.specs.Pixel.{PixelForm, byte_list}
 use Rattle.v_frame.specs.Walk.{draws_answer, side_of_row, side_of_pixel, rows_written, pixels_written}
 use Rattle.v_frame.specs.Frame.{Tables, table_at, with_table}
 use Rattle.v_frame.specs.declared.replay.call.VisibleCall.{VisibleCall}
-use Rattle.v_frame.specs.declared.replay.call.VisibleCall.TheVariants.{Width, Height, Row, RowMut, Pixel, PixelMut, CopyFromSlice, CopyFromU8Slice, CopyFromU8SliceWithStride, Rows, Pixels, ByteData, RowsMut, PixelsMut}
+use Rattle.v_frame.specs.declared.replay.call.VisibleCall.TheVariants.{Width, Height, Row, RowMut, Pixel, PixelMut, CopyFromSlice, CopyFromU8Slice}
+use Rattle.v_frame.specs.declared.replay.call.VisibleCall.TheVariants.{CopyFromU8SliceWithStride, Rows, Pixels, ByteData, RowsMut, PixelsMut}
 use Rattle.v_frame.specs.declared.replay.answer.Answer.{Answer}
-use Rattle.v_frame.specs.declared.replay.answer.Answer.TheVariants.{NoPlane, OutsideRectangle, Number, RowShown, PixelShown, Copied, RowsWalked, PixelsWalked, BytesWalked}
+use Rattle.v_frame.specs.declared.replay.answer.Answer.TheVariants.{NoPlane, OutsideRectangle, Number, RowShown, PixelShown, Copied, RowsWalked}
+use Rattle.v_frame.specs.declared.replay.answer.Answer.TheVariants.{PixelsWalked, BytesWalked}
 
 -- what a call answers, and the table that it leaves
 pub record TableReply (T : Type 0) : Type 0 where
@@ -66,7 +68,7 @@ module _ {T : Type 0} where
   abbrev pub reply_of_copy : CopyOutcome T → TableReply T
   reply_of_copy copy = record { answer = Copied copy.answer; table = copy.table }
 
--- what calls answer and leave, where this is how pixels stand in bytes
+-- what calls answer and leave, where this is how pixels are made of bytes
 module _ {T : Type 0} (form : PixelForm T) where
   -- a call on the table of its plane
   abbrev pub on_table : VisibleCall T → Table T → TableReply T

@@ -1,5 +1,7 @@
--- Walks over a list of anything, drawn from both ends, and what a walk that writes leaves.
-use Rattle.std.specs.Prelude.{ℕ, ◌≡◌, ◌-◌, nat_lt, if◌then◌else◌, Bool, true, false, not, List, [], ◌∷◌, ◌++◌, length, map, take, drop, reverse, count_by, Option, Some, None, unwrap_or, slice_get}
+-- Double-ended iterators over a list of anything, and what an iterator that writes leaves. A call
+-- is one of `next`, from the front, or of `next_back`, from the back.
+use Rattle.std.specs.Prelude.{ℕ, ◌≡◌, ◌-◌, nat_lt, if◌then◌else◌, Bool, true, false, not, List, [], ◌∷◌, ◌++◌, length, map, take, drop, reverse, count_by}
+use Rattle.std.specs.Prelude.{Option, Some, None, unwrap_or, slice_get}
 use Rattle.std.specs.Option.{option_to_list}
 use Rattle.v_frame_layout.specs.Table.{Table, width_of, height_of, row_major, cut_rows, overwritten_row, with_item_by}
 use Rattle.v_frame.specs.declared.replay.draw.Side.{Side}
@@ -8,7 +10,7 @@ use Rattle.v_frame.specs.declared.replay.draw.Drawn.{Drawn}
 use Rattle.v_frame.specs.declared.replay.draw.RowDraw.{RowDraw}
 use Rattle.v_frame.specs.declared.replay.draw.PixelDraw.{PixelDraw}
 
--- how many of some draws were from the front, and how many from the back
+-- how many of some calls were from the front, and how many from the back
 abbrev pub is_front : Side → Bool
 is_front Front = true
 is_front Back = false
@@ -19,14 +21,14 @@ fronts sides = count_by is_front sides
 abbrev pub backs : List Side → ℕ
 backs sides = count_by (λ side. not (is_front side)) sides
 
--- the number of the item that a draw takes of so many items, after some draws
+-- the number of the item that a call takes of so many items, after some calls
 abbrev pub number_of_item : Side → ℕ → List Side → ℕ
 number_of_item Front items before = fronts before
 number_of_item Back items before = items - 1 - backs before
 
 module _ {X : Type 0} where
-  -- between two draws a walk is the list of the items left: a draw gives the first or the last of
-  -- them, where there is one, and leaves the others
+  -- between two calls an iterator is the list of the items left: a call gives the first or the last
+  -- of them, where there is one, and leaves the others
   abbrev pub item_from : Side → List X → Option X
   item_from Front items = slice_get items 0
   item_from Back items = slice_get items (length items - 1)
@@ -35,7 +37,7 @@ module _ {X : Type 0} where
   left_by Front items = drop 1 items
   left_by Back items = take (length items - 1) items
 
-  -- what draws give one after another, and the items that they leave
+  -- what calls give one after another, and the items that they leave
   abbrev pub drawn_in_turn : List X → List Side → List (Drawn X)
   drawn_in_turn items [] = []
   drawn_in_turn items (side ∷ sides) =
@@ -46,24 +48,24 @@ module _ {X : Type 0} where
   left_in_turn items [] = items
   left_in_turn items (side ∷ sides) = left_in_turn (left_by side items) sides
 
-  -- by counts: what a draw gives after some draws, where these were fewer than the items
+  -- by counts: what a call gives after some calls, where these were fewer than the items
   abbrev pub item_after : List X → List Side → Side → Option X
   item_after items before side =
       if nat_lt (length before) (length items)
       then slice_get items (number_of_item side (length items) before) else None
 
-  -- what draws give after those before them, and how many items each leaves
+  -- what calls give after those before them, and how many items each leaves
   abbrev pub drawn_after : List X → List Side → List Side → List (Drawn X)
   drawn_after items before [] = []
   drawn_after items before (side ∷ sides) =
       record { item = item_after items before side; left = length items - length before - 1 }
       ∷ drawn_after items (before ++ side ∷ []) sides
 
-  -- what the draws of a walk answer
+  -- what the calls on an iterator answer
   abbrev pub draws_answer : List X → List Side → List (Drawn X)
   draws_answer items sides = drawn_after items [] sides
 
-  -- the items of those answers that were drawn from one side, in their order
+  -- the items of those answers that were taken from one side, in their order
   abbrev pub given_by : Side → Side → Option X → List X
   given_by Front Front item = option_to_list item
   given_by Front Back item = []
@@ -76,13 +78,13 @@ module _ {X : Type 0} where
   given_from side (drawn ∷ sides) (answer ∷ answers) =
       given_by side drawn answer.item ++ given_from side sides answers
 
--- draws told by counts are the same as draws one after another
+-- what calls give by counts is what they give one after another
 abbrev pub AreCounted : Type 0 → Type 0
 AreCounted X =
     (items : List X) (sides : List Side) → draws_answer items sides ≡ drawn_in_turn items sides
 
--- the front draws gave the items from the front on, the back draws those from the back on, and what
--- is left lies between
+-- the calls from the front gave the items from the front on, those from the back gave the items
+-- from the back on, and what is left is between them
 abbrev pub AreDrawnOnce : {X : Type 0} → List X → List Side → List (Drawn X) → Type 0
 AreDrawnOnce items sides answers =
     items ≡ given_from Front sides answers
@@ -93,25 +95,25 @@ abbrev pub AreAllGiven : {X : Type 0} → List X → List Side → List (Drawn X
 AreAllGiven items sides answers =
     items ≡ given_from Front sides answers ++ reverse (given_from Back sides answers)
 
--- What a writing walk leaves: an item that no draw took is as before, and one that a draw took
--- holds what that draw wrote.
+-- What a writing iterator leaves: an item that no call took is as before, and one that a call took
+-- holds what was written for that call.
 
--- draws of any kind, each with its side and with what it makes of the item that it takes
+-- calls of any kind, each with its side and with what it makes of the item that it takes
 module _ {X D : Type 0} (side_of : D → Side) (make : D → X → X) where
-  -- a draw after some others changes the item that it takes, where these were fewer than the items
+  -- a call after some others changes the item that it takes, where these were fewer than the items
   abbrev pub changed_by : List X → List Side → D → List X
   changed_by items before draw =
       let number : ℕ = number_of_item (side_of draw) (length items) before in
       if nat_lt (length before) (length items)
       then with_item_by (make draw) items number (slice_get items number) else items
 
-  -- what draws after some others leave
+  -- what calls after some others leave
   abbrev pub changed_after : List X → List Side → List D → List X
   changed_after items before [] = items
   changed_after items before (draw ∷ draws) =
       changed_after (changed_by items before draw) (before ++ side_of draw ∷ []) draws
 
-  -- what the draws of a walk leave
+  -- what the calls on an iterator leave
   abbrev pub walk_leaves : List X → List D → List X
   walk_leaves items draws = changed_after items [] draws
 
@@ -122,7 +124,7 @@ module _ {T : Type 0} where
   abbrev pub side_of_pixel : PixelDraw T → Side
   side_of_pixel draw = draw.side
 
-  -- a row that a draw took is overwritten, and a pixel that one took is replaced, where there is a
+  -- a row that a call took is overwritten, and a pixel that one took is replaced, where there is a
   -- value
   abbrev pub row_written : RowDraw T → List T → List T
   row_written draw row = overwritten_row row draw.writes
@@ -130,21 +132,22 @@ module _ {T : Type 0} where
   abbrev pub pixel_written : PixelDraw T → T → T
   pixel_written draw pixel = unwrap_or draw.value pixel
 
-  -- the table after a writing walk over its rows
+  -- the table after a writing iteration over its rows
   abbrev pub rows_written : Table T → List (RowDraw T) → Table T
   rows_written rows draws = walk_leaves side_of_row row_written rows draws
 
-  -- the table after a writing walk over its pixels: the pixels that are left, cut into rows again
+  -- the table after a writing iteration over its pixels: the pixels that are left, cut into rows
+  -- again
   abbrev pub pixels_written : Table T → List (PixelDraw T) → Table T
   pixels_written rows draws =
       cut_rows (width_of rows) (height_of rows)
       (walk_leaves side_of_pixel pixel_written (row_major rows) draws)
 
-  -- a draw from the front that replaces the pixel
+  -- a call from the front that replaces the pixel
   abbrev pub front_draw : T → PixelDraw T
   front_draw value = record { side = Front; value = Some value }
 
-  -- a draw from the front for each pixel, with what a function gives there, changes each pixel of
+  -- a call from the front for each pixel, with what a function gives there, changes each pixel of
   -- the table by the function
   abbrev pub ChangesEachPixel : Table T → Type 0
   ChangesEachPixel rows =

@@ -51,7 +51,7 @@ stride_below_a_row : wide two_by_two (1 ∷ 2 ∷ 3 ∷ 4 ∷ 5 ∷ 6 ∷ []) 3
     ≡ record { answer = Err (InvalidStride 3 2); table = two_by_two }
 stride_below_a_row = refl
 
--- a stride that is too short is told before a length that is another
+-- a stride that is too short is refused before a wrong length is
 stride_before_length : wide two_by_two [] 3
     ≡ record { answer = Err (InvalidStride 3 2); table = two_by_two }
 stride_before_length = refl

@@ -1,4 +1,4 @@
--- Small walks worked out by hand. Each line computes: it is proved by `refl`.
+-- Small iterations worked out by hand. Each line computes: it is proved by `refl`.
 use Rattle.std.specs.Prelude.{ℕ, ◌≡◌, List, [], ◌∷◌, Option, Some, None, refl}
 use Rattle.v_frame.specs.declared.replay.draw.Side.{Side}
 use Rattle.v_frame.specs.declared.replay.draw.Side.TheVariants.{Front, Back}
@@ -16,7 +16,7 @@ use Rattle.v_frame.specs.Walk.{draws_answer, drawn_in_turn, left_in_turn}
 abbrev drawn : {X : Type 0} → Option X → ℕ → Drawn X
 drawn item left = record { item = item; left = left }
 
--- six items, drawn past their end from both sides
+-- six items, taken past their end from both sides
 abbrev six_items : List ℕ
 six_items = 1 ∷ 2 ∷ 3 ∷ 4 ∷ 5 ∷ 6 ∷ []
 
@@ -42,14 +42,14 @@ rows_from_both_ends : draws_answer two_rows (Back ∷ Front ∷ Back ∷ [])
     ≡ drawn (Some (4 ∷ 5 ∷ 6 ∷ [])) 1 ∷ drawn (Some (1 ∷ 2 ∷ 3 ∷ [])) 0 ∷ drawn None 0 ∷ []
 rows_from_both_ends = refl
 
--- a draw from each end leaves what lies between, and a walk over nothing gives nothing
+-- a call from each end leaves what is between, and an iterator over nothing gives nothing
 left_between : left_in_turn six_items (Back ∷ Front ∷ []) ≡ 2 ∷ 3 ∷ 4 ∷ 5 ∷ []
 left_between = refl
 
 no_items : draws_answer {X = ℕ} [] (Front ∷ Back ∷ []) ≡ drawn None 0 ∷ drawn None 0 ∷ []
 no_items = refl
 
--- walks in a list of calls, on a plane of 3 by 2 pixels
+-- iterations in a list of calls, on a plane of 3 by 2 pixels
 abbrev six_pixels : Tables ℕ
 six_pixels = record { y = two_rows; u = None; v = None }
 
@@ -75,7 +75,7 @@ one_byte_each : answers_to one_byte (ByteData 0 (Back ∷ Front ∷ []) ∷ []) 
     ≡ BytesWalked 6 (drawn (Some 6) 5 ∷ drawn (Some 1) 4 ∷ []) ∷ []
 one_byte_each = refl
 
--- draws that write, on planes of one size each
+-- iterations that write, on planes of one size each
 abbrev row_draw : Side → List (Option ℕ) → RowDraw ℕ
 row_draw side writes = record { side = side; writes = writes }
 
@@ -85,7 +85,7 @@ pixel_draw side value = record { side = side; value = value }
 abbrev showing : List (List ℕ) → Tables ℕ
 showing rows = record { y = rows; u = None; v = None }
 
--- a pixel is taken once, and a draw that takes none writes none
+-- a pixel is taken once, and a call that takes none writes none
 abbrev five_pixel_draws : List (VisibleCall ℕ)
 five_pixel_draws =
     PixelsMut 0 (pixel_draw Front (Some 1) ∷ pixel_draw Back (Some 2) ∷ pixel_draw Back (Some 3)
@@ -100,7 +100,7 @@ written_past_the_end : tables_after one_byte five_pixel_draws (showing ((5 ∷ 6
     ≡ showing ((1 ∷ 3 ∷ 2 ∷ []) ∷ [])
 written_past_the_end = refl
 
--- an item that was drawn and not written is as before
+-- an item that was taken and not written is as before
 abbrev three_pixel_draws : List (VisibleCall ℕ)
 three_pixel_draws =
     PixelsMut 0 (pixel_draw Back (Some 9) ∷ pixel_draw Front None ∷ pixel_draw Front (Some 7) ∷ [])

@@ -14,8 +14,8 @@ ghost use Rattle.v_frame.specs.Replay.{answers_to, tables_after};
 
 mod bytes;
 mod equality;
-mod walks;
-mod writing_walks;
+mod iterations;
+mod writing_iterators;
 
 use crate::frame::{Frame, FrameBuilder, FrameError};
 use crate::pixel::Pixel;
@@ -24,6 +24,7 @@ use crate::replay::walk::draw_items;
 use crate::replay::{Answer, Drawn, Sequence, Side, VisibleCall, replay};
 pub use bytes::bytes_go_through_a_frame;
 pub use equality::frames_are_equal;
+pub use iterations::full_iterations_change_each_pixel;
 use std::alloc::{AllocError, Global};
 pub use v_frame_layout::laws::{
     chroma_sizes_agree, geometries_are_equal, halves_join, pixel_of_bytes, pixel_of_value,
@@ -31,18 +32,17 @@ pub use v_frame_layout::laws::{
     tables_agree_by_rows,
 };
 pub use v_frame_plane::laws::{
-    alike_entries_show_alike, buffer_is_determined, bytes_come_back, bytes_come_back_without_tails,
-    packed_copies_agree, packed_outcomes_agree, pixels_are_let_go, pixels_have_places,
-    places_have_marks, places_hold_pixels, planes_are_equal, rows_are_let_go, rows_are_parts,
-    tables_are_rectangles,
+    buffer_is_determined, bytes_come_back, bytes_come_back_without_tails,
+    dropped_pixels_keep_their_values, dropped_rows_keep_their_pixels, packed_copies_agree,
+    packed_outcomes_agree, pixels_have_places, places_have_marks, places_hold_pixels,
+    planes_are_equal, rows_are_parts, same_entries_same_table, tables_are_rectangles,
 };
-pub use walks::full_walks_change_each_pixel;
-pub use writing_walks::{lent_pixels_are_drawn_once, lent_rows_are_drawn_once};
+pub use writing_iterators::{lent_pixels_are_drawn_once, lent_rows_are_drawn_once};
 
-/// Two frames that show the same answer every list of calls alike, and show the same afterwards.
+/// Two frames that show the same give the same answers to every list of calls, and show the same afterwards.
 ///
-/// The error is that of memory. Each frame keeps its own border.
-pub fn alike_frames_answer_alike<T: Pixel>(
+/// The error is an allocation failure. Each frame keeps its own border, in either case.
+pub fn same_tables_same_answers<T: Pixel>(
     alloc: Global,
     a: &mut Frame<T>,
     b: &mut Frame<T>,
@@ -51,7 +51,7 @@ pub fn alike_frames_answer_alike<T: Pixel>(
     requires { tables_of a.old ≡ tables_of b.old }
     ensures answers { IfOk result (λ both.
         both.0.items ≡ answers_to T.form calls.now (tables_of a.old)) }
-    ensures alike { IfOk result (λ both. both.0.items ≡ both.1.items) }
+    ensures same_answers { IfOk result (λ both. both.0.items ≡ both.1.items) }
     ensures tables { OnOk result
         (tables_of a.new ≡ tables_after T.form calls.now (tables_of a.old)) }
     ensures shown { OnOk result (tables_of a.new ≡ tables_of b.new) }
@@ -74,20 +74,21 @@ pub fn built_frame_is_zero<T: Pixel>(
     builder.build(alloc)
 }
 
-/// What draws from a walk answer, told by counts, is what they give one after another: each the first or the last of the
-/// items left.
+/// Calls of `next` and `next_back`, one after another, each give the first or the last of the items left. That is what their
+/// counts say too.
 pub fn draws_are_counted<T>()
     ensures { AreCounted T }
 {}
 
-/// Any draws from a walk give each item once, from its end: those from the front, those from the back, and what is left
-/// make up the items.
+/// Any calls of `next` and `next_back` give each item once, from its end: those from the front, those from the back, and what
+/// is left make up the items.
 pub fn items_are_drawn_once<T>()
     ensures { (items : List T) (sides : List Side)
         → AreDrawnOnce items sides (draws_answer items sides) }
 {}
 
-/// Any draws from the rows of a plane give each row once, from its end. The error is that of memory: rows are copied.
+/// Any calls of `next` and `next_back` give each row of a plane once, from its end. The error is an allocation failure: rows
+/// are copied.
 pub fn rows_are_drawn_once<T: Pixel>(
     alloc: Global,
     plane: &Plane<T>,
@@ -100,7 +101,7 @@ pub fn rows_are_drawn_once<T: Pixel>(
     draw_items(alloc, &mut plane.rows(), sides)
 }
 
-/// Any draws from the pixels of a plane give each pixel once, from its end. The error is that of memory.
+/// Any calls of `next` and `next_back` give each pixel of a plane once, from its end. The error is an allocation failure.
 pub fn pixels_are_drawn_once<T: Pixel>(
     alloc: Global,
     plane: &Plane<T>,
@@ -114,7 +115,7 @@ pub fn pixels_are_drawn_once<T: Pixel>(
     draw_items(alloc, &mut plane.pixels(), sides)
 }
 
-/// Any draws from the bytes of a plane give each byte once, from its end. The error is that of memory.
+/// Any calls of `next` and `next_back` give each byte of a plane once, from its end. The error is an allocation failure.
 pub fn bytes_are_drawn_once<T: Pixel>(
     alloc: Global,
     plane: &Plane<T>,

@@ -5,7 +5,7 @@
 //!
 //! It is built in three steps, each with the whole meaning of what it does in its own contract: a call on one plane is a call
 //! on its table; a call on a frame finds its plane and is a call on tables; a list is the induction over these. Each kind of
-//! call stands in one of the files beside this one. All of them call planes and frames by what is public there.
+//! call is in one of the files beside this one. All of them use the public calls of planes and frames alone.
 ghost use Rattle.std.specs.Prelude.{◌≡◌, ℕ, None, Some, IfOk, IfErr, OnOk, OnErr};
 ghost use Rattle.v_frame_plane.specs.Plane.{KeepsBorder, table_of};
 ghost use Rattle.v_frame.specs.Frame.{tables_of, plane_at, KeepsBorders};

@@ -1,11 +1,16 @@
--- For a proof by hand of a function that holds pixels of a writing walk: what a walk's second list is by the draws, and the pixels as they end. Assumes `Logic`.
---     took_first, took_last     a draw, and what the pixel and the walk left end as.        pixel_let_go     a pixel that is let go ends as it is
---     written     a plane under a walk with which no draw was made ends with the second list as its pixels
---     asks     what is asked at a draw, which has no condition.        opens_pixel, closes_pixel     a pixel is there to be written, and is held again.        by_pixel     what a draw gives, where it gives a pixel
-use Rattle.v_frame_plane.proofs.Steps.{ℕ, ◌≡◌, ◌-◌, List, [], ◌∷◌, ◌++◌, length, list_drop, take, Option, Some, None, MutBor, refl, sym, ap, ◌∙◌, arith, Lft, Share, fat, fauth, flft, fobor, fobs, full_share, SProp, all_e, apply∗, ent, sep, wand, fact, fact_i, emp, Array, shows, mem, RattleType, MutRef, YieldsFirstMut, YieldsLastMut, mut_vals, nothing, only, peeks, opens, closes, live, of_list, Val, Ura, Goal, Item, Seq, Soaks, Step, step, ‵, raw, ◌$◌, ◌∵◌, !, qed, done, drop, feq_i, feq_l, fjoin3, fpick, fsplit, fsplit3, frame, join, keep, move, rewrite, use0, use1, use2, Logic, sem, Body}
+-- For a proof by hand of a function that holds pixels of a writing iterator: what an iterator's final values is by the draws, and
+-- the pixels as they end. Assumes `Logic`.
+--     took_first, took_last     a call, and what the pixel and the iterator left end as.        pixel_dropped     a pixel that is dropped ends as it is
+--     written     a plane under an iterator with which no draw was made ends with the final values as its pixels
+--     opens_pixel, closes_pixel     a pixel is there to be written, and is held again.
+use Rattle.v_frame_plane.proofs.lent.Steps.{ℕ, ◌≡◌, ◌-◌, List, [], ◌∷◌, ◌++◌, length, list_drop, take, Option, None, MutBor, refl, sym, ap, ◌∙◌, arith, Lft}
+use Rattle.v_frame_plane.proofs.lent.Steps.{Share, fat, fauth, flft, fobor, fobs, full_share, SProp, ent, sep, fact, fact_i, emp, Array, shows, mem, RattleType}
+use Rattle.v_frame_plane.proofs.lent.Steps.{MutRef, YieldsFirstMut, YieldsLastMut, mut_vals, peeks, opens, closes, Val, Ura, Goal, Item, Soaks, Step, step, ‵}
+use Rattle.v_frame_plane.proofs.lent.Steps.{raw, ◌$◌, ◌∵◌, !, qed, done, drop, feq_i, fjoin3, fpick, fsplit3, frame, keep, move, rewrite, use0, use1, use2}
+use Rattle.v_frame_plane.proofs.lent.Steps.{Logic}
+use Rattle.v_frame_plane.proofs.lent.Steps.{sem, Body}
 use Rattle.std.proofs.Common.{map, append-nil, append_assoc, length-append, subst, take_at}
 use Rattle.std.proofs.lemmas.List.{nil_from_length}
-use Rattle.std.specs.contracts.option.Option as Opt
 use base.Fml.{fres}
 use base.Logic.{ex}
 use denote.Memory.{cell_at}
@@ -15,20 +20,23 @@ use denote.Param.{layout, param}
 use denote.Param.Laws.{IsCopy}
 use mir.Syntax.{Lifetime}
 use types.Kit.{show}
-use Rattle.v_frame.specs.Prelude.{BeginsOver, KeepsBorder, PixelEndsAs, PixelsMut, Raster, SecondPixels, TakesFirstPixel, TakesLastPixel, entries_with, pixels_left, row_major, table_of, with_entries}
+use Rattle.v_frame.specs.Prelude.{BeginsOver, KeepsBorder, PixelEndsAs, PixelsMut, Raster, SecondPixels, TakesFirstPixel, TakesLastPixel, entries_with}
+use Rattle.v_frame.specs.Prelude.{pixels_left, row_major, table_of, with_entries}
 use Rattle.v_frame_plane.specs.contracts.plane.Plane.{the_row}
+use Rattle.v_frame_plane.proofs.lent.Loans.{at_one}
 use Rattle.v_frame_held.specs.HeldPixels.{with_ends}
 
--- three draws, from the back, the front and the back, take the last, the first and the last but one
+-- three calls, from the back, the front and the back, take the last, the first and the last but one
 pub ends_of : {X : Type 0} (pixels one two three : List X) (a b c x y z : X) → pixels ≡ one ++ c ∷ [] → one ≡ a ∷ two → two ≡ three ++ b ∷ []
     → (x ∷ (three ++ y ∷ [])) ++ z ∷ [] ≡ with_ends x y z pixels
 ends_of pixels one two three a b c x y z last first before =
-    let all : pixels ≡ a ∷ (three ++ (b ∷ c ∷ [])) = last ∙ ap (λ xs. xs ++ c ∷ []) (first ∙ ap (λ xs. a ∷ xs) before) ∙ ap (λ xs. a ∷ xs) (append_assoc three (b ∷ []) (c ∷ [])) in
+    let all : pixels ≡ a ∷ (three ++ (b ∷ c ∷ [])) = last ∙ ap (λ xs. xs ++ c ∷ []) (first ∙ ap (λ xs. a ∷ xs) before) ∙
+    ap (λ xs. a ∷ xs) (append_assoc three (b ∷ []) (c ∷ [])) in
     let long : length pixels - 3 ≡ length three = omega (arith, ap length all, length-append three (b ∷ c ∷ [])) in
     let kept : take (length pixels - 3) (list_drop 1 pixels) ≡ three = rw (long, all) (take_at three (b ∷ c ∷ []) (length three) refl) in
     ap (λ xs. x ∷ xs) (append_assoc three (y ∷ []) (z ∷ []) ∙ ap (λ xs. xs ++ y ∷ z ∷ []) (sym kept))
 
--- where a draw gives nothing, nothing was left
+-- where a call gives nothing, nothing was left
 pub none_left : {X : Type 0} (old new : PixelsMut X) (r : Option (MutBor X)) → r ≡ None → YieldsLastMut pixels_left old r new → pixels_left old ≡ []
 none_left old new r none steps = (subst (λ r. YieldsLastMut pixels_left old r new) none steps).0
 
@@ -39,9 +47,6 @@ none_left_first old new r none steps = (subst (λ r. YieldsFirstMut pixels_left 
 pub record Shows {X : Type 0} (old new : Raster X) (shown : List X) : Type 0 where
   pub pixels : row_major (table_of new) ≡ shown
   pub border : KeepsBorder old new
-
-pub asks : {M : Type 1} {𝓤 : Ura M} (𝓛 : Logic 𝓤) (P Q R : SProp 𝓤) → ent 𝓤 (sep 𝓤 P (sep 𝓤 Q R)) (sep 𝓤 P (sep 𝓤 Q (emp 𝓤)))
-asks 𝓛 P Q R = qed 𝓛 (raw P ∷ raw Q ∷ raw R ∷ []) ∵ move ! (2 ∷ []) $ drop ! $ nothing ! $ move ! (2 ∷ 0 ∷ []) $ join ! $ move ! (1 ∷ 0 ∷ []) $ join ! $ done !
 
 module _ {M : Type 1} {𝓤 : Ura M} (𝓛 : Logic 𝓤) (T : RattleType) where
   abbrev Ends : MutBor T.Denot → T.Denot → SProp 𝓤
@@ -55,19 +60,13 @@ module _ {M : Type 1} {𝓤 : Ura M} (𝓛 : Logic 𝓤) (T : RattleType) where
     Held held = sep 𝓤 (Ends pixel held.0) (Second new held.1)
 
     pub took_first : ent 𝓤 (sep 𝓤 (sem 𝓛 (TakesFirstPixel T old new pixel)) (sep 𝓤 (Ends pixel x) (Second new second))) (Second old (x ∷ second))
-    took_first =
-        let Says : T.Denot × List T.Denot → SProp 𝓤 = λ held. wand 𝓤 (Held held) (Second old (held.0 ∷ held.1)) in
-        qed 𝓛 (‵ (TakesFirstPixel T old new pixel) ∷ raw (Held (x, second)) ∷ []) ∵ use1 𝓛 (raw (Says (x, second))) (all_e 𝓤 Says (x, second)) $
-        move ! (1 ∷ 0 ∷ []) $ use2 𝓛 (‵ (SecondPixels T old (x ∷ second))) (apply∗ 𝓤 (Held (x, second)) (Second old (x ∷ second))) $ done !
+    took_first = at_one 𝓛 Held (λ held. Second old (held.0 ∷ held.1)) (x, second)
 
     pub took_last : ent 𝓤 (sep 𝓤 (sem 𝓛 (TakesLastPixel T old new pixel)) (sep 𝓤 (Ends pixel x) (Second new second))) (Second old (second ++ x ∷ []))
-    took_last =
-        let Says : T.Denot × List T.Denot → SProp 𝓤 = λ held. wand 𝓤 (Held held) (Second old (held.1 ++ held.0 ∷ [])) in
-        qed 𝓛 (‵ (TakesLastPixel T old new pixel) ∷ raw (Held (x, second)) ∷ []) ∵ use1 𝓛 (raw (Says (x, second))) (all_e 𝓤 Says (x, second)) $
-        move ! (1 ∷ 0 ∷ []) $ use2 𝓛 (‵ (SecondPixels T old (second ++ x ∷ []))) (apply∗ 𝓤 (Held (x, second)) (Second old (second ++ x ∷ []))) $ done !
+    took_last = at_one 𝓛 Held (λ held. Second old (held.1 ++ held.0 ∷ [])) (x, second)
 
-  pub pixel_let_go : (ℓ : Lifetime) (κ : Lft) (pixel : MutBor T.Denot) (vs : List Val) → ent 𝓤 (sem 𝓛 ((MutRef ℓ κ T).own_val pixel vs)) (Ends pixel pixel.now)
-  pixel_let_go ℓ κ pixel vs = qed 𝓛 (‵ ((MutRef ℓ κ T).own_val pixel vs) ∷ []) ∵ fsplit3 ! $ keep ! (1 ∷ []) $
+  pub pixel_dropped : (ℓ : Lifetime) (κ : Lft) (pixel : MutBor T.Denot) (vs : List Val) → ent 𝓤 (sem 𝓛 ((MutRef ℓ κ T).own_val pixel vs)) (Ends pixel pixel.now)
+  pixel_dropped ℓ κ pixel vs = qed 𝓛 (‵ ((MutRef ℓ κ T).own_val pixel vs) ∷ []) ∵ fsplit3 ! $ keep ! (1 ∷ []) $
       use1 𝓛 (‵ (PixelEndsAs T pixel.ghost_name pixel.now)) (𝓛.names.obs-res pixel.ghost_name (T.coded.code pixel.now)) $ done !
 
   pub written : (old : Raster T.Denot) (γ : ℕ) (walk : PixelsMut T.Denot) (pixels : List T.Denot) → BeginsOver old walk
@@ -80,16 +79,24 @@ module _ {M : Type 1} {𝓤 : Ura M} (𝓛 : Logic 𝓤) (T : RattleType) where
       let table = begins.written parts.rows (are.rows ∙ ap (λ rows. map length rows) begins.rows) in
       let front : parts.front ≡ [] = nil_from_length parts.front (are.front ∙ ap length begins.front) in
       let back : parts.back ≡ [] = nil_from_length parts.back (are.back ∙ ap length begins.back) in
-      let all : pixels ≡ row_major parts.rows = are.joined ∙ ap (λ xs. xs ++ (row_major parts.rows ++ parts.back)) front ∙ ap (λ xs. row_major parts.rows ++ xs) back ∙ append-nil (row_major parts.rows) in
-      move ! (3 ∷ 1 ∷ []) $ use2 𝓛 (‵ (fres γ ((the_row T).coded.code new))) (followed 𝓛 (the_row T) (Array T 0) (with_entries old) γ walk.rows.rest.ghost_name entries) $
+      let all : pixels ≡ row_major parts.rows = are.joined ∙ ap (λ xs. xs ++ (row_major parts.rows ++ parts.back)) front ∙
+      ap (λ xs. row_major parts.rows ++ xs) back ∙ append-nil (row_major parts.rows) in
+      move ! (3 ∷ 1 ∷ []) $ use2 𝓛 (‵ (fres γ ((the_row T).coded.code new))) (followed 𝓛 (the_row T) (Array T 0) (with_entries old) γ walk.rows.rest.ghost_name
+      entries) $
       show ! (λ (new : Raster T.Denot). sep 𝓤 (fact 𝓤 (Shows old new pixels)) (sem 𝓛 (fres γ ((the_row T).coded.code new)))) new $
-      use0 𝓛 (raw (fact 𝓤 (Shows old new pixels))) (fact_i 𝓤 _ (emp 𝓤) (record { pixels = ap row_major table.table ∙ sym all; border = rw (table.geometry, table.border) refl })) $
+      use0 𝓛 (raw (fact 𝓤 (Shows old new pixels))) (fact_i 𝓤 _ (emp 𝓤) (record {
+        pixels = ap row_major table.table ∙ sym all;
+        border =
+            rw (table.geometry, table.border) refl;
+      })) $
       frame ! $ keep ! (0 ∷ []) $ done !))
 
 module _ {M : Type 1} {𝓤 : Ura M} {𝓛 : Logic 𝓤} {K : Type 0} {Γ : List (Item 𝓤)} {G : Goal 𝓤 𝓛.H} where
-  -- [what lies there; the open borrow, in three]
-  pub opens_pixel : K → Soaks G → (T : RattleType) (copy : IsCopy T) (ℓ : Lifetime) (κ : Lft) (q : Share) (pixel : MutBor T.Denot) → let code = T.coded.code pixel.now in let b = pixel.ref_ptr.0 in let o = pixel.ref_ptr.1 in
-      Step K 𝓛 (‵ (fat full_share (layout T) b o (copy.val pixel.now)) ∷ ‵ (fobor κ q (Body (mem (param 0 T)) b o pixel.ghost_name)) ∷ ‵ (fobs pixel.ghost_name code) ∷ ‵ (fauth pixel.ghost_name code) ∷ Γ) G
+  -- [what is there; the open borrow, in three]
+  pub opens_pixel : K → Soaks G → (T : RattleType) (copy : IsCopy T) (ℓ : Lifetime) (κ : Lft) (q : Share) (pixel : MutBor T.Denot) → let code =
+      T.coded.code pixel.now in let b = pixel.ref_ptr.0 in let o = pixel.ref_ptr.1 in
+      Step K 𝓛 (‵ (fat full_share (layout T) b o (copy.val pixel.now)) ∷ ‵ (fobor κ q (Body (mem (param 0 T)) b o pixel.ghost_name)) ∷
+      ‵ (fobs pixel.ghost_name code) ∷ ‵ (fauth pixel.ghost_name code) ∷ Γ) G
       (‵ ((MutRef ℓ κ (param 0 T)).own_val pixel (mut_vals pixel)) ∷ ‵ (flft κ q) ∷ Γ) G
   opens_pixel t z T copy ℓ κ q pixel = step (λ k. let item = param 0 T in let b = pixel.ref_ptr.0 in let o = pixel.ref_ptr.1 in
       fsplit3 t $ drop t $ opens t z item {h = pixel.now} b o (λ us. move t (1 ∷ []) $ peeks t item _ (shows 𝓛 item) pixel.now us (λ is. drop t $
@@ -97,18 +104,11 @@ module _ {M : Type 1} {𝓤 : Ura M} {𝓛 : Logic 𝓤} {K : Type 0} {Γ : List
       use1 𝓛 (‵ (fat full_share (layout T) b o (copy.val pixel.now))) (𝓛.laws.raw_at full_share (layout T) b o (copy.val pixel.now)) $ k)))
 
   -- it is held again, with what was written there
-  pub closes_pixel : K → Soaks G → (T : RattleType) (copy : IsCopy T) (ℓ : Lifetime) (κ : Lft) (q : Share) {u v : Gv} (pixel : MutBor T.Denot) (x : T.Denot) → let b = pixel.ref_ptr.0 in let o = pixel.ref_ptr.1 in
+  pub closes_pixel : K → Soaks G → (T : RattleType) (copy : IsCopy T) (ℓ : Lifetime) (κ : Lft) (q : Share) {u v : Gv} (pixel : MutBor T.Denot) (x : T.Denot) →
+      let b = pixel.ref_ptr.0 in let o = pixel.ref_ptr.1 in
       Step K 𝓛 (‵ ((MutRef ℓ κ (param 0 T)).own_val (record pixel { now = x }) (mut_vals pixel)) ∷ ‵ (flft κ q) ∷ Γ) G
-      (‵ (fat full_share (layout T) b o (copy.val x)) ∷ ‵ ((param 0 T).own_val x (copy.val x ∷ [])) ∷ ‵ (fobor κ q (Body (mem (param 0 T)) b o pixel.ghost_name)) ∷ ‵ (fobs pixel.ghost_name u) ∷ ‵ (fauth pixel.ghost_name v) ∷ Γ) G
+      (‵ (fat full_share (layout T) b o (copy.val x)) ∷ ‵ ((param 0 T).own_val x (copy.val x ∷ [])) ∷
+      ‵ (fobor κ q (Body (mem (param 0 T)) b o pixel.ghost_name)) ∷ ‵ (fobs pixel.ghost_name u) ∷ ‵ (fauth pixel.ghost_name v) ∷ Γ) G
   closes_pixel t z T copy ℓ κ q pixel x = step (λ k. let item = param 0 T in let b = pixel.ref_ptr.0 in let o = pixel.ref_ptr.1 in
       use1 𝓛 (‵ (cell_at full_share item.mir (copy.val x ∷ []) b o)) (𝓛.laws.at_raw full_share (layout T) b o (copy.val x)) $
       closes t z item x (copy.val x ∷ []) b o $ feq_i t (List Val) (mut_vals pixel) (mut_vals pixel) refl $ fjoin3 t $ k)
-
-module _ {M : Type 1} {𝓤 : Ura M} {𝓛 : Logic 𝓤} {K : Type 0} {Γ : List (Item 𝓤)} {G : Goal 𝓤 𝓛.H} where
-  pub by_pixel : K → (T : RattleType) (ℓ : Lifetime) (κ : Lft) (r : Option (MutBor T.Denot)) (v : Val) → (r ≡ None → ⊥)
-      → ((pixel : MutBor T.Denot) → r ≡ Some pixel → v ≡ live 1 (of_list (mut_vals pixel)) → Seq K 𝓛 (‵ ((MutRef ℓ κ T).own_val pixel (mut_vals pixel)) ∷ Γ) G)
-      → Seq K 𝓛 (‵ ((Opt.the_row (MutRef ℓ κ T)).own_val r (v ∷ [])) ∷ Γ) G
-  by_pixel t T ℓ κ None v some with = absurd (some refl)
-  by_pixel t T ℓ κ (Some pixel) v some with = let One = MutRef ℓ κ T in
-      fpick t (λ us. fsplit t $ feq_l t (λ e. fpick t (λ vss. fsplit t $ feq_l t (λ are. fsplit t $ peeks t One _ (shows 𝓛 One) pixel vss.0 (λ is. rewrite t 0 (λ (ws : List Val). ‵ (One.own_val pixel ws)) is.0 refl $
-      move t (1 ∷ []) $ drop t $ with pixel refl (ap only e ∙ ap (λ ws. live 1 (of_list ws)) (are ∙ ap (λ ws. ws ++ []) is.0)))))))

@@ -1,6 +1,7 @@
-//! Pixels of a plane that are held while others are drawn, and written once the walk over them is gone.
+//! Pixels of a plane that are held while the iterator gives others, and written once the iterator is dropped.
 //!
-//! What the plane ends as is proved by hand, in `proofs/held_pixels/write_ends`. A caller of such a function needs no proof.
+//! What the plane holds in the end is proved by hand, in `proofs/held_pixels/write_ends`. A caller of such a function needs no
+//! proof.
 ghost use Rattle.std.specs.Prelude.{◌<◌, ◌≡◌, length};
 ghost use Rattle.v_frame.specs.Prelude.{KeepsBorder, row_major, table_of};
 ghost use Rattle.v_frame_held.specs.HeldPixels.{with_ends};
@@ -10,8 +11,8 @@ use v_frame::plane::Plane;
 
 /// Writes the first visible pixel and the last two. All others stay, and so does the border.
 ///
-/// The three are drawn from both ends in turn, are held, and are written in another order than they were drawn, the first
-/// one twice.
+/// The three are taken from both ends in turn, are held, and are written in another order than they were taken, the first one
+/// twice.
 pub fn write_ends<T: Copy>(plane: &mut Plane<T>, first: T, before_last: T, last: T)
     requires { 2 < length (row_major (table_of plane.old)) }
     ensures pixels { row_major (table_of plane.new)
@@ -34,7 +35,7 @@ pub fn write_ends<T: Copy>(plane: &mut Plane<T>, first: T, before_last: T, last:
     *end = last;
 }
 
-/// Writes one mark over the first visible pixel and the last, and another over the last but one.
+/// Writes `mark` over the first visible pixel and the last, and `other` over the last but one.
 pub fn mark_ends<T: Pixel>(plane: &mut Plane<T>, mark: T, other: T)
     requires { 2 < length (row_major (table_of plane.old)) }
     ensures pixels { row_major (table_of plane.new)

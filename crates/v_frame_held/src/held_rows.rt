@@ -1,6 +1,6 @@
 //! A row that an iterator lends from the end of a plane, written.
 //!
-//! What the plane ends as is proved by hand, in `proofs/held_rows/fill_last_row`.
+//! What the plane holds in the end is proved by hand, in `proofs/held_rows/fill_last_row`.
 ghost use Rattle.std.specs.Prelude.{◌≡◌, ◌-◌, length, replicate, slice_set};
 ghost use Rattle.v_frame.specs.Prelude.{KeepsBorder, height_of, table_of};
 
@@ -19,7 +19,7 @@ pub fn fill_last_row<T: Copy>(plane: &mut Plane<T>, value: T)
     }
 }
 
-/// Fills a row with one value. The standard `fill` asks for a `clone` that cannot fail, which `Copy` does not say.
+/// Fills a row with one value. The standard `fill` asks for a `clone` that cannot fail, which `Copy` does not promise.
 fn fill<T: Copy>(row: &mut [T], value: T)
     ensures { row.new ≡ replicate (length row.old) value }
 {

@@ -1,9 +1,11 @@
 -- Geometries of chroma planes: they are no larger than that of luma, and their size is that of the chroma planes.
-use Rattle.std.proofs.Common.{ℕ, ◌≡◌, ◌*◌, ◌/◌, ◌≤◌, if◌then◌else◌, Bool, true, false, Option, Some, None, Result, Ok, Err, refl, ap, subst, arith, eq-eqb, ◌&&◌, ◌==◌}
+use Rattle.std.proofs.Common.{ℕ, ◌≡◌, ◌*◌, ◌/◌, ◌≤◌, if◌then◌else◌, Bool, true, false, Option, Some, None, Result, Ok, Err, refl, ap, subst, arith, eq-eqb}
+use Rattle.std.proofs.Common.{◌&&◌, ◌==◌}
 use Rattle.std.proofs.lemmas.Bool.Decides.{nat_tests}
 use Rattle.std.proofs.Math.Nat.{div-le_self, div-one, mul-le-mul_left, mul-le-mul_right}
 use Rattle.v_frame_layout.specs.Geometry.{Geometry, stride_of, alloc_height_of, alloc_size_of, Fits}
-use Rattle.v_frame_layout.specs.Chroma.{ratio_of, has_quotient, size_by, chroma_size_of, is_divisible, divided_geometry, subsampled_by, is_full, subsampled, geometry_in}
+use Rattle.v_frame_layout.specs.Chroma.{ratio_of, has_quotient, size_by, chroma_size_of, is_divisible, divided_geometry, subsampled_by, is_full, subsampled}
+use Rattle.v_frame_layout.specs.Chroma.{geometry_in}
 use Rattle.v_frame_layout.specs.Laws.{HasChromaSize}
 use Rattle.std.specs.Result.{result_ok}
 use Rattle.v_frame_layout.specs.declared.geometry.SubsamplingError.{SubsamplingError}
@@ -12,7 +14,12 @@ use Rattle.v_frame_layout.specs.declared.chroma.ChromaSubsampling.{ChromaSubsamp
 divided_size : (x y : ℕ) (g : Geometry) → alloc_size_of (divided_geometry x y g) ≤ alloc_size_of g
 divided_size x y g =
     let wide : stride_of (divided_geometry x y g) ≤ stride_of g = omega (arith, div-le_self g.width x, div-le_self g.pad_left x, div-le_self g.pad_right x) in
-    let high : alloc_height_of (divided_geometry x y g) ≤ alloc_height_of g = omega (arith, div-le_self g.height y, div-le_self g.pad_top y, div-le_self g.pad_bottom y) in
+    let high : alloc_height_of (divided_geometry x y g) ≤ alloc_height_of g = omega (
+      arith,
+      div-le_self g.height y,
+      div-le_self g.pad_top y,
+      div-le_self g.pad_bottom y,
+    ) in
     omega (arith, mul-le-mul_left (alloc_height_of (divided_geometry x y g)) wide, mul-le-mul_right (stride_of g) high)
 
 -- chroma has the luma geometry, or the quotients by a ratio
@@ -20,11 +27,13 @@ data FromLuma (g : Geometry) : Geometry → Type 0 where
   full : FromLuma g g
   parts : (x y : ℕ) → FromLuma g (divided_geometry x y g)
 
-from_divided : (divides : Bool) (x y : ℕ) (g c : Geometry) → geometry_in (if divides then Ok (Some (divided_geometry x y g)) else Err (record {})) ≡ Some c → FromLuma g c
+from_divided : (divides : Bool) (x y : ℕ) (g c : Geometry) → geometry_in (if divides then Ok (Some (divided_geometry x y g)) else Err (record {})) ≡ Some c →
+    FromLuma g c
 from_divided true x y g c e = let is : divided_geometry x y g ≡ c = cc in subst (FromLuma g) is (parts x y)
 from_divided false x y g c e = cc
 
-from_full : (whole : Bool) (x y : ℕ) (g c : Geometry) → geometry_in (if whole then Ok (Some g) else (if is_divisible x y g then Ok (Some (divided_geometry x y g)) else Err (record {}))) ≡ Some c → FromLuma g c
+from_full : (whole : Bool) (x y : ℕ) (g c : Geometry) →
+    geometry_in (if whole then Ok (Some g) else (if is_divisible x y g then Ok (Some (divided_geometry x y g)) else Err (record {}))) ≡ Some c → FromLuma g c
 from_full true x y g c e = let is : g ≡ c = cc in subst (FromLuma g) is full
 from_full false x y g c e = from_divided (is_divisible x y g) x y g c e
 
@@ -61,7 +70,8 @@ unfolding refused
 if_ok true k c e = (refl, cc)
 if_ok false k c e = cc
 
-size_by_quotients : (x y : ℕ) (g c : Geometry) → (if is_divisible x y g then Ok (Some (divided_geometry x y g)) else refused) ≡ Ok (Some c) → size_by (Some (x, y)) g.width g.height ≡ Some (c.width, c.height)
+size_by_quotients : (x y : ℕ) (g c : Geometry) → (if is_divisible x y g then Ok (Some (divided_geometry x y g)) else refused) ≡ Ok (Some c) →
+    size_by (Some (x, y)) g.width g.height ≡ Some (c.width, c.height)
 size_by_quotients x y g c e =
     let given = if_ok (is_divisible x y g) (divided_geometry x y g) c e in
     let columns = both_true (has_quotient g.width x) _ given.0 in
@@ -78,7 +88,8 @@ size_of_full g c e =
     let rows : has_quotient g.height 1 ≡ true = eq-eqb (g.height / 1 * 1) g.height (omega arith) in
     rw (columns, rows, width, height) (ap (λ (k : Geometry). Some (k.width, k.height)) e)
 
-size_if_full : (whole : Bool) (x y : ℕ) (g c : Geometry) → is_full (x, y) ≡ whole → (if whole then Ok (Some g) else (if is_divisible x y g then Ok (Some (divided_geometry x y g)) else refused)) ≡ Ok (Some c)
+size_if_full : (whole : Bool) (x y : ℕ) (g c : Geometry) → is_full (x, y) ≡ whole →
+    (if whole then Ok (Some g) else (if is_divisible x y g then Ok (Some (divided_geometry x y g)) else refused)) ≡ Ok (Some c)
     → size_by (Some (x, y)) g.width g.height ≡ Some (c.width, c.height)
 size_if_full true x y g c is e =
     let ones = both_true (x == 1) (y == 1) is in

@@ -1,5 +1,6 @@
 -- Pixels decoded from bytes, one more or sixteen more at a time.
-use Rattle.std.proofs.Common.{ℕ, zero, suc, ◌≡◌, ◌+◌, ◌*◌, ◌<◌, List, [], ◌∷◌, ◌++◌, length, take, drop, get_or, set, map, refl, sym, ◌∙◌, ap, arith, zero-add, ◌≤◌, ◌/◌, ◌%◌}
+use Rattle.std.proofs.Common.{ℕ, zero, suc, ◌≡◌, ◌+◌, ◌*◌, ◌<◌, List, [], ◌∷◌, ◌++◌, length, take, drop, get_or, set, map, refl, sym, ◌∙◌, ap, arith, zero-add}
+use Rattle.std.proofs.Common.{◌≤◌, ◌/◌, ◌%◌}
 use Rattle.std.proofs.lemmas.Simd.{take_more_put_chunk}
 use Rattle.std.proofs.lemmas.List.{drop-drop, drop_more, map-append, take_more_set}
 use Rattle.std.specs.Simd.Lanes.{Each1, put_chunk, number_l, digits_l}
@@ -8,14 +9,17 @@ use Rattle.v_frame_layout.specs.Table.{cut_rows}
 
 module _ {T : Type 0} where
   -- the pieces of a source are some, and then those of what these leave
-  cut_rows-append : (width pieces more : ℕ) (source : List T) → cut_rows width (pieces + more) source ≡ cut_rows width pieces source ++ cut_rows width more (drop (width * pieces) source)
+  cut_rows-append : (width pieces more : ℕ) (source : List T) → cut_rows width (pieces + more) source ≡ cut_rows width pieces source ++
+      cut_rows width more (drop (width * pieces) source)
   cut_rows-append width zero more source =
       let none : width * 0 ≡ 0 = omega arith in
       rw (zero-add more, none) refl
   cut_rows-append width (suc pieces) more source =
       let k : suc pieces + more ≡ suc (pieces + more) = omega arith in
       let e : width + width * pieces ≡ width * suc pieces = omega arith in
-      rw k (ap (λ rest. take width source ∷ rest) (cut_rows-append width pieces more (drop width source) ∙ ap (λ left. cut_rows width pieces (drop width source) ++ cut_rows width more left) (drop-drop (width * pieces) width source ∙ ap (λ n. drop n source) e)))
+      rw k (ap (λ rest. take width source ∷ rest) (cut_rows-append width pieces more (drop width source) ∙
+      ap (λ left. cut_rows width pieces (drop width source) ++ cut_rows width more left) (drop-drop (width * pieces) width source ∙
+      ap (λ n. drop n source) e)))
 
 module _ {T : Type 0} where
   -- the pixels of a list of bytes are some, and then those of the bytes that these leave
@@ -31,7 +35,8 @@ value_of_byte byte = omega arith
 
 pub one_byte_pixels : (bytes : List ℕ) → pixels_of_bytes one_byte (length bytes) bytes ≡ bytes
 one_byte_pixels [] = refl
-one_byte_pixels (byte ∷ bytes) = ap (λ first. first ∷ pixels_of_bytes one_byte (length bytes) bytes) (value_of_byte byte) ∙ ap (λ rest. byte ∷ rest) (one_byte_pixels bytes)
+one_byte_pixels (byte ∷ bytes) = ap (λ first. first ∷ pixels_of_bytes one_byte (length bytes) bytes) (value_of_byte byte) ∙
+    ap (λ rest. byte ∷ rest) (one_byte_pixels bytes)
 
 pub both_bytes : (bytes : List ℕ) (k : ℕ) → k + 1 < length bytes → take 2 (drop k bytes) ≡ get_or bytes k 0 ∷ get_or bytes (k + 1) 0 ∷ []
 both_bytes bytes k h =
@@ -39,15 +44,19 @@ both_bytes bytes k h =
     rw (drop_more bytes k 0 here, drop_more bytes (k + 1) 0 h) refl
 
 -- a loop that decodes two bytes at a time, one step on
-pub two_byte_pixels-more : (pixels bytes : List ℕ) (i pixel : ℕ) → length bytes ≡ 2 * length pixels → i < length pixels → pixel ≡ value_of_bytes (get_or bytes (2 * i) 0 ∷ get_or bytes (2 * i + 1) 0 ∷ [])
+pub two_byte_pixels-more : (pixels bytes : List ℕ) (i pixel : ℕ) → length bytes ≡ 2 * length pixels → i < length pixels →
+    pixel ≡ value_of_bytes (get_or bytes (2 * i) 0 ∷ get_or bytes (2 * i + 1) 0 ∷ [])
     → take i pixels ≡ pixels_of_bytes two_bytes i bytes → take (i + 1) (set pixels i pixel) ≡ pixels_of_bytes two_bytes (i + 1) bytes
 two_byte_pixels-more pixels bytes i pixel whole h is so_far =
     let both : 2 * i + 1 < length bytes = omega arith in
-    take_more_set pixels i pixel h ∙ ap (λ front. front ++ pixel ∷ []) so_far ∙ ap (λ p. pixels_of_bytes two_bytes i bytes ++ p ∷ []) (is ∙ ap value_of_bytes (sym (both_bytes bytes (2 * i) both))) ∙ sym (pixels_of_bytes-append two_bytes i 1 bytes)
+    take_more_set pixels i pixel h ∙ ap (λ front. front ++ pixel ∷ []) so_far ∙ ap (λ p. pixels_of_bytes two_bytes i bytes ++ p ∷ []) (is ∙
+    ap value_of_bytes (sym (both_bytes bytes (2 * i) both))) ∙ sym (pixels_of_bytes-append two_bytes i 1 bytes)
 
 -- a loop that decodes a block of sixteen pixels at a time, one step on
-pub two_byte_pixels-block_more : (pixels bytes lanes : List ℕ) (block : ℕ) → 16 * (block + 1) ≤ length pixels → lanes ≡ pixels_of_bytes two_bytes 16 (drop (32 * block) bytes)
-    → take (16 * block) pixels ≡ pixels_of_bytes two_bytes (16 * block) bytes → take (16 * (block + 1)) (put_chunk (16 * block) pixels lanes) ≡ pixels_of_bytes two_bytes (16 * (block + 1)) bytes
+pub two_byte_pixels-block_more : (pixels bytes lanes : List ℕ) (block : ℕ) → 16 * (block + 1) ≤ length pixels →
+    lanes ≡ pixels_of_bytes two_bytes 16 (drop (32 * block) bytes)
+    → take (16 * block) pixels ≡ pixels_of_bytes two_bytes (16 * block) bytes → take (16 * (block + 1)) (put_chunk (16 * block) pixels lanes) ≡
+    pixels_of_bytes two_bytes (16 * (block + 1)) bytes
 two_byte_pixels-block_more pixels bytes lanes block room is so_far =
     let pixels_on : 16 * (block + 1) ≡ 16 * block + 16 = omega arith in
     let bytes_on : 32 * block ≡ 2 * (16 * block) = omega arith in

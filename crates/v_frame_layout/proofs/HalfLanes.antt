@@ -1,5 +1,6 @@
 -- Rows of half the size, in lanes of two neighbours.
-use Rattle.std.proofs.Common.{ℕ, zero, suc, ◌≡◌, ◌+◌, ◌-◌, ◌*◌, ◌/◌, ◌%◌, ◌<◌, ◌≤◌, List, [], ◌∷◌, length, take, get_or, bit_and, refl, ◌∙◌, ap, arith, Fits, w8, w16}
+use Rattle.std.proofs.Common.{ℕ, zero, suc, ◌≡◌, ◌+◌, ◌-◌, ◌*◌, ◌/◌, ◌%◌, ◌<◌, ◌≤◌, List, [], ◌∷◌, length, take, get_or, bit_and, refl, ◌∙◌, ap, arith, Fits}
+use Rattle.std.proofs.Common.{w8, w16}
 use Rattle.std.specs.Simd.Lanes.{Each1, zip2, number_l, digits_l}
 use Rattle.std.proofs.Math.Nat.{mod-eq_of_lt}
 use Rattle.std.proofs.lemmas.Nat.{and_mask}

@@ -1,7 +1,8 @@
 -- Where the plan of a geometry puts a row: how many entries lie in front of it, and that it lies in the buffer.
 use Rattle.std.proofs.Common.{ℕ, zero, suc, ◌≡◌, ◌+◌, ◌-◌, ◌*◌, ◌<◌, ◌≤◌, List, [], ◌∷◌, ◌++◌, refl, sym, ◌∙◌, ap, arith, append_assoc}
 use Rattle.std.proofs.Math.Nat.{mul-le-mul_right}
-use Rattle.v_frame_layout.specs.Geometry.{Geometry, stride_of, alloc_size_of, Piece, border_piece, visible_piece, times, outer_row, crossing_row, cutting_plan, entries_in_front, origin_of, place_of}
+use Rattle.v_frame_layout.specs.Geometry.{Geometry, stride_of, alloc_size_of, Piece, border_piece, visible_piece, times, outer_row, crossing_row, cutting_plan}
+use Rattle.v_frame_layout.specs.Geometry.{entries_in_front, origin_of, place_of}
 
 -- the entries of all pieces
 abbrev pub total : List Piece → ℕ
@@ -25,9 +26,16 @@ total-times (suc n) p = omega (arith, total-append p (times n p), total-times n 
 -- the plan covers the buffer
 pub total-cutting_plan : (g : Geometry) → total (cutting_plan g) ≡ alloc_size_of g
 total-cutting_plan g =
-    omega (arith, total-append (times g.pad_top (outer_row g)) (times g.height (crossing_row g) ++ times g.pad_bottom (outer_row g)), total-append (times g.height (crossing_row g)) (times g.pad_bottom (outer_row g)), total-times g.pad_top (outer_row g), total-times g.height (crossing_row g), total-times g.pad_bottom (outer_row g))
+    omega (
+      arith,
+      total-append (times g.pad_top (outer_row g)) (times g.height (crossing_row g) ++ times g.pad_bottom (outer_row g)),
+      total-append (times g.height (crossing_row g)) (times g.pad_bottom (outer_row g)),
+      total-times g.pad_top (outer_row g),
+      total-times g.height (crossing_row g),
+      total-times g.pad_bottom (outer_row g),
+    )
 
--- what stands in front of the y-th visible piece, and behind it
+-- what is in front of the y-th visible piece, and behind it
 abbrev pub before_row : Geometry → ℕ → List Piece
 before_row g y = times g.pad_top (outer_row g) ++ (times y (crossing_row g) ++ border_piece g.pad_left ∷ [])
 
@@ -37,7 +45,8 @@ after_row g y = border_piece g.pad_right ∷ (times (g.height - suc y) (crossing
 pub plan_at_row : (g : Geometry) (y : ℕ) → y < g.height → cutting_plan g ≡ before_row g y ++ visible_piece g.width ∷ after_row g y
 plan_at_row g y h =
     let e : g.height ≡ y + suc (g.height - suc y) = omega arith in
-    let split : times g.height (crossing_row g) ≡ times y (crossing_row g) ++ times (suc (g.height - suc y)) (crossing_row g) = ap (λ n. times n (crossing_row g)) e ∙ times-add y (suc (g.height - suc y)) (crossing_row g) in
+    let split : times g.height (crossing_row g) ≡ times y (crossing_row g) ++ times (suc (g.height - suc y)) (crossing_row g) =
+    ap (λ n. times n (crossing_row g)) e ∙ times-add y (suc (g.height - suc y)) (crossing_row g) in
     ap (λ rows. times g.pad_top (outer_row g) ++ (rows ++ times g.pad_bottom (outer_row g))) split ∙ simp append_assoc
 
 -- the place where the y-th visible row begins
@@ -47,7 +56,13 @@ row_start g y = g.pad_top * stride_of g + (y * stride_of g + g.pad_left)
 pub total-before_row : (g : Geometry) (y : ℕ) → total (before_row g y) ≡ row_start g y
 unfolding row_start
 total-before_row g y =
-    omega (arith, total-append (times g.pad_top (outer_row g)) (times y (crossing_row g) ++ border_piece g.pad_left ∷ []), total-append (times y (crossing_row g)) (border_piece g.pad_left ∷ []), total-times g.pad_top (outer_row g), total-times y (crossing_row g))
+    omega (
+      arith,
+      total-append (times g.pad_top (outer_row g)) (times y (crossing_row g) ++ border_piece g.pad_left ∷ []),
+      total-append (times y (crossing_row g)) (border_piece g.pad_left ∷ []),
+      total-times g.pad_top (outer_row g),
+      total-times y (crossing_row g),
+    )
 
 front_of_crossing : (g : Geometry) (n : ℕ) (rest : List Piece) → 0 < n → entries_in_front (times n (crossing_row g) ++ rest) ≡ g.pad_left
 front_of_crossing g zero rest h = absurd (omega arith)
@@ -60,7 +75,11 @@ front_of_outer g (suc n) rest = omega (arith, front_of_outer g n rest)
 -- the place of the pixel (0, 0), which a plane has, since it has a row
 pub origin_is : (g : Geometry) → 0 < g.height → origin_of g ≡ g.pad_top * stride_of g + g.pad_left
 origin_is g h =
-    omega (arith, front_of_outer g g.pad_top (times g.height (crossing_row g) ++ times g.pad_bottom (outer_row g)), front_of_crossing g g.height (times g.pad_bottom (outer_row g)) h)
+    omega (
+      arith,
+      front_of_outer g g.pad_top (times g.height (crossing_row g) ++ times g.pad_bottom (outer_row g)),
+      front_of_crossing g g.height (times g.pad_bottom (outer_row g)) h,
+    )
 
 -- the same, as the code computes it
 pub origin_by_stride : (g : Geometry) (stride : ℕ) → stride ≡ stride_of g → 0 < g.height → stride * g.pad_top + g.pad_left ≡ origin_of g
@@ -84,7 +103,8 @@ visible_within g =
     omega (arith, mul-le-mul_right g.height wide, mul-le-mul_right (stride_of g) high)
 
 -- the row that the code finds lies in the buffer
-pub row_start_within : (g : Geometry) (origin stride y : ℕ) → origin ≡ origin_of g → stride ≡ stride_of g → y < g.height → origin + stride * y + g.width ≤ alloc_size_of g
+pub row_start_within : (g : Geometry) (origin stride y : ℕ) → origin ≡ origin_of g → stride ≡ stride_of g → y < g.height →
+    origin + stride * y + g.width ≤ alloc_size_of g
 row_start_within g origin stride y o s h =
     let high : 0 < g.height = omega arith in
     omega (arith, place_of_row g y high, row_within g y h, ap (λ k. k * y) s)

@@ -1,5 +1,6 @@
 -- Lanes of differences, and what they add up to.
-use Rattle.std.proofs.Common.{ℕ, ◌≡◌, ◌+◌, ◌-◌, ◌*◌, ◌^◌, ◌%◌, ◌<◌, ◌≤◌, List, [], ◌∷◌, Bool, true, false, cond, ltb, length, take, get_or, map, refl, sym, ◌∙◌, ap, arith, zero-add, Fits}
+use Rattle.std.proofs.Common.{ℕ, ◌≡◌, ◌+◌, ◌-◌, ◌*◌, ◌^◌, ◌%◌, ◌<◌, ◌≤◌, List, [], ◌∷◌, Bool, true, false, cond, ltb, length, take, get_or, map, refl, sym, ◌∙◌}
+use Rattle.std.proofs.Common.{ap, arith, zero-add, Fits}
 use Rattle.v_frame_layout.specs.PixelRows.{squared_error}
 use Rattle.v_frame_layout.proofs.RowPairs.{sum_of_lanes}
 use mir.Syntax.{Width}

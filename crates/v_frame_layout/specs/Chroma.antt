@@ -5,7 +5,7 @@ use Rattle.v_frame_layout.specs.declared.chroma.ChromaSubsampling.{ChromaSubsamp
 use Rattle.v_frame_layout.specs.declared.chroma.ChromaSubsampling.TheVariants.{Yuv420, Yuv422, Yuv411, Yuv444, Monochrome}
 use Rattle.v_frame_layout.specs.declared.geometry.SubsamplingError.{SubsamplingError}
 
--- how many luma columns, and how many luma rows, stand beside one chroma column and one chroma row
+-- how many luma columns there are for one chroma column, and how many luma rows for one chroma row
 abbrev pub ratio_of : ChromaSubsampling → Option (ℕ × ℕ)
 ratio_of Yuv420 = Some (2, 2)
 ratio_of Yuv422 = Some (2, 1)

@@ -1,8 +1,8 @@
 -- The eight numbers that lay a plane out in its buffer, the sizes that follow from them, and where
--- each pixel lies.
+-- each pixel is.
 use Rattle.std.specs.Prelude.{ℕ, zero, suc, ◌+◌, ◌-◌, ◌*◌, ◌^◌, ◌<◌, ◌≤◌, nat_lt, if◌then◌else◌, List, [], ◌∷◌, ◌++◌, Option, Some, None}
 
--- a visible rectangle of width by height, the border round it, and how often luma is sampled for
+-- a visible rectangle of width by height, the border around it, and how often luma is sampled for
 -- each sample of the plane
 pub record Geometry : Type 0 where
   pub width : ℕ
@@ -59,14 +59,14 @@ geometry_of width height left right top bottom x y =
       subsampling_y = y;
     }
 
--- a rectangle that begins at column x of row y lies inside the visible one, and is not empty
+-- a rectangle that begins at column x of row y is inside the visible one, and is not empty
 pub record IsInside (g : Geometry) (x y width height : ℕ) : Type 0 where
   pub wide : 0 < width
   pub high : 0 < height
   pub across : x + width ≤ g.width
   pub down : y + height ≤ g.height
 
--- the geometry that shows only this rectangle of the same buffer: all round it is border
+-- the geometry that shows only this rectangle of the same buffer: everything around it is border
 abbrev pub region_geometry : Geometry → ℕ → ℕ → ℕ → ℕ → Geometry
 region_geometry g x y width height =
     geometry_of width height (g.pad_left + x) (g.width - (x + width) + g.pad_right) (g.pad_top + y)
@@ -127,7 +127,7 @@ origin_of g = entries_in_front (cutting_plan g)
 abbrev pub place_of : Geometry → ℕ → ℕ → ℕ
 place_of g x y = origin_of g + (x + y * stride_of g)
 
--- the mark of the piece that a place of the buffer lies in
+-- the mark of the piece that has this place of the buffer
 abbrev pub mark_at : List Piece → ℕ → Option Mark
 mark_at [] place = None
 mark_at (piece ∷ plan) place =

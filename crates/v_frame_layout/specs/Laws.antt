@@ -1,4 +1,5 @@
--- Laws of sums over rows, of quotients and of chroma sizes, each carried by a function of the module `laws`.
+-- Laws of sums over rows, of quotients and of chroma sizes, each the contract of a function of the
+-- module `laws`.
 use Rattle.std.specs.Prelude.{ℕ, ◌≡◌, ◌+◌, ◌*◌, ◌/◌, ◌≤◌, true, Some, List, ◌++◌, length, drop, slice_get}
 use Rattle.v_frame_layout.specs.Table.{Table, row_major}
 use Rattle.v_frame_layout.specs.Geometry.{Geometry, alloc_size_of}

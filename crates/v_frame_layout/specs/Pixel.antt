@@ -24,7 +24,8 @@ value_from i (byte ∷ bytes) = byte * 256 ^ i + value_from (i + 1) bytes
 abbrev pub value_of_bytes : List ℕ → ℕ
 value_of_bytes bytes = value_from 0 bytes
 
--- how a pixel type stands in bytes: bytes of a pixel, its value, and the pixel that has a value
+-- how pixels of a type are made of bytes: bytes of a pixel, its value, and the pixel that has a
+-- value
 pub record PixelForm (T : Type 0) : Type 0 where
   pub size : ℕ
   pub value : T → ℕ

@@ -49,7 +49,7 @@ impl ChromaSubsampling {
         Some((luma_width / x, luma_height / y))
     }
 
-    /// How many luma columns stand beside one chroma column, and how many luma rows beside one chroma row.
+    /// How many luma columns there are for one chroma column, and how many luma rows for one chroma row.
     ///
     /// Ports `ChromaSubsampling::subsample_ratio` of `v_frame` 0.7.0.
     pub fn subsample_ratio(&self) -> Option<(NonZeroU8, NonZeroU8)>

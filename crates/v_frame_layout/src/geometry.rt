@@ -160,14 +160,14 @@ impl PlaneGeometry {
         self.pad_bottom
     }
 
-    /// The horizontal ratio: how many luma columns stand beside one column of the plane.
+    /// The horizontal ratio: how many luma columns there are for one column of the plane.
     pub fn subsampling_x(&self) -> u8
         ensures { result ≡ self.now.subsampling_x }
     {
         self.subsampling_x
     }
 
-    /// The vertical ratio: how many luma rows stand beside one row of the plane.
+    /// The vertical ratio: how many luma rows there are for one row of the plane.
     pub fn subsampling_y(&self) -> u8
         ensures { result ≡ self.now.subsampling_y }
     {
@@ -176,8 +176,8 @@ impl PlaneGeometry {
 
     /// The number of pixels in the buffer, where a buffer can be that large: at most 4611686018427387903.
     ///
-    /// It tests what [`data_origin`](Self::data_origin), [`alloc_height`](Self::alloc_height) and
-    /// [`alloc_size`](Self::alloc_size) ask for. Our own.
+    /// `Some` is what [`data_origin`](Self::data_origin), [`alloc_height`](Self::alloc_height) and
+    /// [`alloc_size`](Self::alloc_size) require. Our own.
     pub fn checked_alloc_size(&self) -> Option<usize>
         ensures { SomeIff result (Fits self.now) (alloc_size_of self.now) }
     {
@@ -205,7 +205,7 @@ impl PlaneGeometry {
         self.alloc_height() * self.stride
     }
 
-    /// The place of the pixel (0, 0) in the buffer. [`checked_alloc_size`](Self::checked_alloc_size) must be `Some`.
+    /// The index of the pixel (0, 0) in the buffer. [`checked_alloc_size`](Self::checked_alloc_size) must be `Some`.
     pub fn data_origin(&self) -> usize
         requires { Fits self.now }
         ensures value { result ≡ origin_of self.now }
@@ -214,8 +214,8 @@ impl PlaneGeometry {
         self.stride * self.pad_top + self.pad_left
     }
 
-    /// The geometry of a rectangle of the visible pixels in the same buffer: all round it is border. The rectangle begins at
-    /// column `x` of row `y`, and the ratios stay.
+    /// The geometry of a rectangle of the visible pixels in the same buffer: everything around it is border. The rectangle
+    /// begins at column `x` of row `y`, and the ratios stay.
     ///
     /// `None` exactly where the rectangle is empty or not inside the visible one.
     /// [`checked_alloc_size`](Self::checked_alloc_size) must be `Some`. Our own.
@@ -245,7 +245,7 @@ impl PlaneGeometry {
 
     /// The geometry of the whole buffer, as a picture without a border. The ratios stay.
     ///
-    /// So what reads or writes visible rows does it to the rows of the buffer, those of the border too.
+    /// What reads or writes visible rows then reads or writes all rows of the buffer, those of the border too.
     /// [`checked_alloc_size`](Self::checked_alloc_size) must be `Some`, and is the same. Our own.
     pub fn whole_buffer(&self) -> Self
         requires { Fits self.now }

@@ -46,12 +46,12 @@ pub fn pixels_compare<T: Pixel>(p: T, q: T) -> Ordering
     p.cmp(&q)
 }
 
-/// Pixels of one value are hashed alike.
+/// Pixels of one value have one hash.
 pub fn pixels_hash<T: Pixel>()
     ensures { (p q : T) → T.form.value p ≡ T.form.value q → T.hash_input p ≡ T.hash_input q }
 {}
 
-/// Tables of as many rows are equal where they agree row by row: what a loop over rows has done, told as one table.
+/// Tables of as many rows are equal where they agree row by row. So what a loop over rows did can be stated as one table.
 pub fn tables_agree_by_rows<T>()
     ensures { (table other : Table T) → length table ≡ length other
         → ((y : ℕ) → y < length table → slice_get table y ≡ slice_get other y) → table ≡ other }
@@ -85,7 +85,8 @@ pub fn quotients_are_exact()
     ensures { (a ratio : ℕ) → 0 < ratio → IsQuotient a ratio }
 {}
 
-/// Where a luma geometry has a chroma geometry, that has the size of the chroma planes, and its buffer is no larger.
+/// Where a luma geometry has a chroma geometry, the chroma geometry has the size of the chroma planes, and its buffer is no
+/// larger.
 pub fn chroma_sizes_agree()
     ensures { (s : ChromaSubsampling) (luma chroma : Geometry)
         → subsampled s luma ≡ Ok (Some chroma) → HasChromaSize s luma chroma }

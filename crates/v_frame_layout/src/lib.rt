@@ -1,6 +1,6 @@
-//! What planes are laid out by: pixels, formats and geometries, and their laws.
+//! The layout of planes: pixels, formats and geometries, and their laws.
 //!
-//! Users name `v_frame`, which hands all of this on.
+//! Users name `v_frame`, which re-exports all of this.
 #![tactic(auto)]
 
 pub mod chroma;

@@ -22,7 +22,7 @@ mod sealed {
 
 /// A sample of one plane: `u8` for a bit depth of 8, `u16` for more.
 ///
-/// Ports the trait `Pixel` of `v_frame` 0.7.0. Its functions and constants are our own: they stand for the conversion
+/// Ports the trait `Pixel` of `v_frame` 0.7.0. Its functions and constants are our own: they take the place of the conversion
 /// traits that the original asks of a pixel, for its casts of bytes, and for `size_of`.
 pub trait Pixel: Copy
     + Clone
@@ -38,7 +38,7 @@ pub trait Pixel: Copy
     + Binary
     + sealed::Sealed
     + 'static {
-    // How a pixel stands in bytes: how many it has, its value, and the pixel that has a value.
+    // How a pixel is made of bytes: how many it has, its value, and the pixel that has a value.
     ghost form: { PixelForm Self };
 
     ghost BYTES: { ℕ };
@@ -80,8 +80,8 @@ pub trait Pixel: Copy
         requires { i < BYTES }
         ensures { result ≡ byte_of (form.value self) i };
 
-    /// Decodes a row: each pixel of `dst` becomes the one whose bytes stand at its place in `src`, low byte first.
-    /// There must be [`BYTES`](Pixel::BYTES) bytes for each pixel.
+    /// Decodes a row: pixel `i` of `dst` becomes the one whose bytes begin at index `i * BYTES` of `src`, low byte first. There
+    /// must be [`BYTES`](Pixel::BYTES) bytes for each pixel.
     fn decode_row(dst: &mut [Self], src: &[u8])
         requires { length src.now ≡ BYTES * length dst.old }
         ensures { dst.new ≡ pixels_of_bytes form (length dst.old) src.now };
@@ -98,8 +98,8 @@ pub trait Pixel: Copy
         ensures value { result ≡ squared_errors form.value a.now b.now }
         ensures fits { result ≤ 2 ^ 32 * length a.now };
 
-    /// Makes one row of half the size of two: each pixel of `dst` becomes the mean of the block of two by two at its
-    /// place in `top` and `bottom`, rounded, and a half upwards. Both must be twice as long as `dst`.
+    /// Makes one row of half the size of two: pixel `i` of `dst` becomes the mean of the pixels `2 * i` and `2 * i + 1` of
+    /// `top` and of `bottom`, rounded to the nearest value and upwards at a half. Both must be twice as long as `dst`.
     fn halve_rows(dst: &mut [Self], top: &[Self], bottom: &[Self])
         requires top { length top.now ≡ 2 * length dst.old }
         requires bottom { length bottom.now ≡ 2 * length dst.old }
@@ -293,8 +293,8 @@ impl Pixel for u16 {
 
 /// Fills a row, or any slice, with one pixel.
 ///
-/// Of `fill` a proof for any pixel type knows that it writes clones. It stands here, beside the law that a clone of a pixel is
-/// that pixel, so that callers need not prove it again. Our own.
+/// A proof for any pixel type knows of `fill` that it writes clones. This function is beside the law that a clone of a pixel is
+/// that pixel, so callers need not prove it again. Our own.
 pub fn fill_row<T: Pixel>(row: &mut [T], pixel: T)
     ensures { row.new ≡ replicate (length row.old) pixel }
 {

@@ -5,9 +5,9 @@ ghost use Rattle.v_frame_layout.specs.PixelRows.{squared_error};
 
 use std::simd::Simd;
 
-/// What is summed of two rows.
+/// What is summed over two rows.
 pub trait Difference<T> {
-    // What two pixels at one place add.
+    // What two pixels at the same index add.
     ghost between: { T → T → ℕ };
 
     /// What these two pixels add.

@@ -6,7 +6,7 @@ use Rattle.v_frame.specs.Prelude.{Table}
 use Rattle.v_frame_ops.specs.Change.{MapsPixels, CombinesPixels}
 use Rattle.v_frame_ops.specs.Rows.{MapsItems, CombinesItems}
 
--- the row in which a pixel stands
+-- the row that has a pixel
 found_row : {T : Type 0} (x : ℕ) (p : T) (o : Option (List T)) → option_and_then (λ row. slice_get row x) o ≡ Some p
     → (row : List T) × (o ≡ Some row) × (slice_get row x ≡ Some p)
 found_row x p None h = absurd (let no : None ≡ Some p = h in cc)
@@ -42,7 +42,12 @@ module _ {T : Type 0} (gives : T → T → T → Type 0) where
       let first = maps.at 0 p q refl refl in
       let found : Some r ≡ Some first.0 = first.2 in
       let given : first.0 ≡ g p q = is p q first.0 first.1 in
-      let rest = combines_whole g is old other new (record { count = omega (arith, maps.count); as_many = omega (arith, maps.as_many); at = λ k a b h i. maps.at (suc k) a b h i }) in
+      let rest = combines_whole g is old other new (record {
+        count = omega (arith, maps.count);
+        as_many = omega (arith, maps.as_many);
+        at =
+            λ k a b h i. maps.at (suc k) a b h i;
+      }) in
       cc
 
   pub combines_pixels : (old other new : Table T) → CombinesItems (CombinesItems gives) old other new → CombinesPixels gives old other new

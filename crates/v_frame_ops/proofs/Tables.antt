@@ -1,6 +1,7 @@
 -- Lists that agree at each place are equal, and so are tables of one size that agree pixel by pixel; the pixels of a rectangle
 -- are those of its table.
-use Rattle.std.proofs.Common.{ℕ, zero, suc, ◌≡◌, ◌+◌, ◌<◌, All, List, [], ◌∷◌, length, map, take, drop, Option, Some, None, option_map, option_and_then, slice_get, refl, sym, ◌∙◌, ap, arith}
+use Rattle.std.proofs.Common.{ℕ, zero, suc, ◌≡◌, ◌+◌, ◌<◌, All, List, [], ◌∷◌, length, take, drop, Option, Some, None, option_map, option_and_then, slice_get}
+use Rattle.std.proofs.Common.{refl, sym, ◌∙◌, ap, arith}
 use Rattle.std.proofs.lemmas.List.Elements.{All-head, All-tail}
 use Rattle.std.proofs.lemmas.Option.{slice_get-map}
 use Rattle.v_frame.specs.Prelude.{Table, pixel_at, rectangle}
@@ -30,7 +31,8 @@ module _ {X : Type 0} where
       slice_get-drop n xs i ∙ ap (slice_get (x ∷ xs)) (sym e)
 
 module _ {T : Type 0} where
-  pub same_by_pixel_at : (width : ℕ) (table other : Table T) → length table ≡ length other → All (λ row. length row ≡ width) table → All (λ row. length row ≡ width) other
+  pub same_by_pixel_at : (width : ℕ) (table other : Table T) → length table ≡ length other → All (λ row. length row ≡ width) table →
+      All (λ row. length row ≡ width) other
       → ((x y : ℕ) → x < width → y < length table → pixel_at table x y ≡ pixel_at other x y) → table ≡ other
   same_by_pixel_at width [] [] same wide wide1 each = refl
   same_by_pixel_at width [] (row1 ∷ other) same wide wide1 each = absurd (omega arith)
@@ -45,7 +47,8 @@ module _ {T : Type 0} where
       cc
 
   module _ (x i width : ℕ) (across : i < width) where
-    pixel_of_part : (row : Option (List T)) → option_and_then (λ r. slice_get r i) (option_map (λ r. take width (drop x r)) row) ≡ option_and_then (λ r. slice_get r (x + i)) row
+    pixel_of_part : (row : Option (List T)) → option_and_then (λ r. slice_get r i) (option_map (λ r. take width (drop x r)) row) ≡
+        option_and_then (λ r. slice_get r (x + i)) row
     pixel_of_part None = refl
     pixel_of_part (Some row) = slice_get-take width (drop x row) i across ∙ slice_get-drop x row i
 

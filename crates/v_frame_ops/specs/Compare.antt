@@ -1,13 +1,13 @@
--- Two rows, or two tables, of one size, compared place by place.
+-- Comparisons of two rows, or two tables, of one size.
 use Rattle.std.specs.Prelude.{ℕ, ◌≡◌, ◌≢◌, ◌<◌, List, length, slice_get}
 use Rattle.v_frame.specs.Prelude.{Table, pixel_at}
 
 module _ {T : Type 0} where
-  -- two rows have the same pixels in front of a place
+  -- two rows have the same pixels in front of an index
   abbrev pub SameBelow : List T → List T → ℕ → Type 0
   SameBelow row other x = (k : ℕ) → k < x → slice_get row k ≡ slice_get other k
 
-  -- a place is the first one at which two rows differ
+  -- an index is the first one at which two rows differ
   pub record DifferFirstAt (row other : List T) (x : ℕ) : Type 0 where
     pub within : x < length row
     pub before : SameBelow row other x

@@ -1,4 +1,4 @@
--- The words that callers' clauses cite, passed on from one place.
+-- The words that callers' clauses cite, re-exported from one place.
 pub use Rattle.v_frame_ops.specs.Border.{nearest, IsPadded}
 pub use Rattle.v_frame_ops.specs.Change.{mapped, combined, MapsPixels, CombinesPixels}
 pub use Rattle.v_frame_ops.specs.Compare.{IsFirstDifference}

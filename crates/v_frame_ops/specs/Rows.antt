@@ -9,7 +9,7 @@ pub record MapsItems {X : Type 0} (gives : X → X → Type 0) (old new : List X
   pub at : (k : ℕ) (p : X) → slice_get old k ≡ Some p
       → (q : X) × gives p q × (slice_get new k ≡ Some q)
 
--- each item of a list became one that is given at it and at the one in its place in another
+-- each item of a list became one that is given at it and at the one of the same index in another
 pub record CombinesItems {X : Type 0} (gives : X → X → X → Type 0) (old other new : List X)
     : Type 0 where
   pub count : length new ≡ length old

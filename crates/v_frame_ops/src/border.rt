@@ -1,4 +1,4 @@
-//! The border of a plane, made the continuation of what it shows: what a search for motion and a filter read past the edge.
+//! The border of a plane, made the continuation of what the plane shows: motion search and filters read it past the edge.
 ghost use Rattle.std.specs.Prelude.{◌≡◌, ◌≢◌, ◌+◌, ◌-◌, ◌<◌, ◌≤◌, ◌⊎◌, ℕ, length, slice_get, Some};
 ghost use Rattle.v_frame.specs.Prelude.{IsWhole, pixel_at, raster, stride_of, alloc_height_of, table_of, whole_rows};
 ghost use Rattle.v_frame_ops.specs.Border.{nearest, IsPadded};
@@ -32,7 +32,7 @@ fn pad_pixels<T: Pixel>(plane: &mut Plane<T>)
     pad_buffer(plane.data_mut(), geometry);
 }
 
-/// The same of a whole buffer.
+/// Does the same to a whole buffer.
 fn pad_buffer<T: Pixel>(buffer: &mut [T], geometry: PlaneGeometry)
     requires { IsWhole geometry buffer.old }
     ensures padded { (x y : ℕ) → x < stride_of geometry → y < alloc_height_of geometry

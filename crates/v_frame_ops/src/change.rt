@@ -1,4 +1,4 @@
-//! Planes, changed: each pixel by a function, alone or with that of another plane, all to one pixel, or a rectangle to what
+//! Changes of planes: each pixel by a function, alone or with that of another plane, all to one pixel, or a rectangle to what
 //! another plane shows. Borders stay.
 ghost use Rattle.std.specs.Prelude.{◌≡◌, ◌≢◌, ◌+◌, ◌<◌, ◌≤◌, ◌⊎◌, ℕ, List, length, replicate, slice_get, Some};
 ghost use Rattle.v_frame.specs.Prelude.{KeepsBorder, pixel_at, table_of};
@@ -11,8 +11,8 @@ use v_frame::plane::{Plane, PlaneRef};
 
 /// Makes each visible pixel a result of `change` at it.
 ///
-/// `change` may be called at any pixel, and sees no place. With a saturating addition, a shift or the like the compiler makes
-/// packed code of it.
+/// `change` has to accept any pixel, and doesn't learn its column and row. With a saturating addition, a shift or the like the
+/// compiler makes packed code of it.
 pub fn map_pixels<T: Pixel, F: Fn(T) -> T>(plane: &mut Plane<T>, change: F)
     requires { F.IsAlwaysCallable change }
     ensures pixels { MapsPixels (F.post change) (table_of plane.old) (table_of plane.new) }
@@ -23,7 +23,8 @@ pub fn map_pixels<T: Pixel, F: Fn(T) -> T>(plane: &mut Plane<T>, change: F)
     map_rows(plane, &change);
 }
 
-/// Makes each visible pixel a result of `combine` at it and at the pixel in its place in `other`, which has the same size.
+/// Makes each visible pixel a result of `combine` at it and at the pixel of the same column and row of `other`, which has the
+/// same size.
 pub fn combine_pixels<T: Pixel, F: Fn(T, T) -> T>(
     plane: &mut Plane<T>,
     other: &PlaneRef<'_, T>,
@@ -41,7 +42,7 @@ pub fn combine_pixels<T: Pixel, F: Fn(T, T) -> T>(
     combine_rows(plane, other, &combine);
 }
 
-/// Makes each visible pixel this one.
+/// Sets each visible pixel to `pixel`.
 pub fn fill<T: Pixel>(plane: &mut Plane<T>, pixel: T)
     ensures rows { (y : ℕ) → y < plane.old.geometry.height
         → slice_get (table_of plane.new) y ≡ Some (replicate plane.old.geometry.width pixel) }
@@ -54,7 +55,7 @@ pub fn fill<T: Pixel>(plane: &mut Plane<T>, pixel: T)
     }
 }
 
-/// Writes all that `source` shows into `target`, from column `x` of row `y` on, where it has to have room.
+/// Writes all that `source` shows into `target`, from column `x` of row `y` on. There has to be room for it.
 pub fn copy_region<T: Pixel>(source: &PlaneRef<'_, T>, target: &mut Plane<T>, x: usize, y: usize)
     requires wide { x + source.now.geometry.width ≤ target.old.geometry.width }
     requires high { y + source.now.geometry.height ≤ target.old.geometry.height }
@@ -133,7 +134,7 @@ fn combine_row_at<T: Pixel, F: Fn(T, T) -> T>(
     combine_row(plane.visible_row_mut(y), other, combine);
 }
 
-/// Makes each pixel of a row a result of `combine` at it and at the pixel in its place in the other row.
+/// Makes each pixel of a row a result of `combine` at it and at the pixel of the same index in the other row.
 fn combine_row<T: Pixel, F: Fn(T, T) -> T>(row: &mut [T], other: &[T], combine: &F)
     requires callable { F.IsAlwaysCallable combine.now }
     requires wide { length other.now ≡ length row.old }

@@ -1,4 +1,4 @@
-//! Two planes of one size, compared: how far they are apart, and where they first differ.
+//! Comparisons of two planes of one size: how far they are apart, and where they first differ.
 ghost use Rattle.std.specs.Prelude.{◌≡◌, ◌≢◌, ◌<◌, ◌≤◌, ◌*◌, ◌^◌, ◌↔◌, ℕ, length, slice_get, IsNone, IsTrue, IfSome};
 ghost use Rattle.v_frame.specs.Prelude.{absolute_differences, row_major, squared_errors, table_of};
 ghost use Rattle.v_frame_ops.specs.Compare.{SameBelow, DifferFirstAt, IsFirstDifference};
@@ -9,7 +9,7 @@ use v_frame::laws::sums_add_up;
 use v_frame::pixel::Pixel;
 use v_frame::plane::PlaneRef;
 
-/// The sum of the absolute differences of the pixels of two planes, place by place. It is exact, and never too large.
+/// The sum of the absolute differences of the pixels of two planes, pixel by pixel. It is exact, and never too large.
 pub fn sum_of_absolute_differences<T: Pixel>(a: &PlaneRef<'_, T>, b: &PlaneRef<'_, T>) -> u128
     requires wide { a.now.geometry.width ≡ b.now.geometry.width }
     requires high { a.now.geometry.height ≡ b.now.geometry.height }
@@ -26,7 +26,7 @@ pub fn sum_of_absolute_differences<T: Pixel>(a: &PlaneRef<'_, T>, b: &PlaneRef<'
     sum
 }
 
-/// The sum of the squares of the differences of the pixels of two planes, place by place. It is exact, and never too large.
+/// The sum of the squares of the differences of the pixels of two planes, pixel by pixel. It is exact, and never too large.
 pub fn sum_of_squared_errors<T: Pixel>(a: &PlaneRef<'_, T>, b: &PlaneRef<'_, T>) -> u128
     requires wide { a.now.geometry.width ≡ b.now.geometry.width }
     requires high { a.now.geometry.height ≡ b.now.geometry.height }
@@ -67,7 +67,7 @@ pub fn first_difference<T: Pixel>(
     None
 }
 
-/// So many rows of a plane have fewer than 2^63 pixels, as all of them have.
+/// So many rows of a plane have fewer than 2^63 pixels, since all of its rows have fewer.
 fn rows_are_countable<T: Pixel>(plane: &PlaneRef<'_, T>, rows: usize)
     requires { rows ≤ plane.now.geometry.height }
     ensures { rows * plane.now.geometry.width < 2 ^ 63 }
@@ -75,7 +75,7 @@ fn rows_are_countable<T: Pixel>(plane: &PlaneRef<'_, T>, rows: usize)
     let _pixels = plane.pixels();
 }
 
-/// The first place at which two rows differ.
+/// The first index at which two rows differ.
 fn first_difference_of_rows<T: Pixel>(row: &[T], other: &[T]) -> Option<usize>
     requires { length row.now ≡ length other.now }
     ensures none { IsNone result → SameBelow row.now other.now (length row.now) }

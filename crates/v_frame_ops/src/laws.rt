@@ -1,11 +1,11 @@
-//! Laws of tables, pixel by pixel: what a caller cites who writes a filter. Each is the contract of a function. Our own.
+//! Laws of tables, pixel by pixel, which the proof of a filter cites. Each is the contract of a function. Our own.
 ghost use Rattle.std.specs.Prelude.{◌≡◌, ◌<◌, ℕ, All, length};
 ghost use Rattle.v_frame.specs.Prelude.{Raster, Table, pixel_at, rectangle, table_of, whole_rows};
 ghost use Rattle.v_frame_ops.specs.Rows.{HoldsPixelsFrom};
 
 use v_frame::laws::tables_are_rectangles;
 
-/// Tables of one size are equal where they agree pixel by pixel: what a filter has done, told as one table.
+/// Tables of one size are equal where they agree pixel by pixel. So what a filter did can be stated as one table.
 pub fn tables_agree_by_pixels<T>()
     ensures { (width : ℕ) (table other : Table T) → length table ≡ length other
         → All (λ row. length row ≡ width) table → All (λ row. length row ≡ width) other

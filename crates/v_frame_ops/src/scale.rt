@@ -6,8 +6,8 @@ use crate::visible::visible_row;
 use v_frame::pixel::Pixel;
 use v_frame::plane::{Plane, PlaneRef};
 
-/// Shows in `target` what `source` shows, in half the size: each pixel is the mean of a block of two by two, rounded, and a
-/// half upwards. The border of the target stays.
+/// Shows in `target` what `source` shows, in half the size: each pixel is the mean of a block of two by two, rounded to the
+/// nearest value and upwards at a half. The border of the target stays.
 pub fn downscale<T: Pixel>(source: &PlaneRef<'_, T>, target: &mut Plane<T>)
     requires wide { source.now.geometry.width ≡ 2 * target.old.geometry.width }
     requires high { source.now.geometry.height ≡ 2 * target.old.geometry.height }

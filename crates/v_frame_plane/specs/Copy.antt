@@ -21,8 +21,8 @@ module _ {T : Type 0} where
       then record { answer = Ok tt; table = cut_rows (width_of table) (height_of table) source }
       else record { answer = Err (DataLength pixels (length source)); table = table }
 
--- a source cut into pieces of a stride, of each piece its front: what stands behind the front is
--- the tail of the piece
+-- a source cut into pieces of a stride, of each piece its front: what is behind the front is the
+-- tail of the piece
 abbrev pub piece_fronts : {S : Type 0} → ℕ → ℕ → ℕ → List S → List (List S)
 piece_fronts front stride pieces source = map (take front) (cut_rows stride pieces source)
 

@@ -1,5 +1,5 @@
--- How the walks over a plane keep what is left: rows of one width that lie ahead in a slice, and
--- rows and pixels that were begun.
+-- How the iterators over a plane keep what is left: rows of one width that are ahead in a slice,
+-- and rows and pixels that were begun.
 use Rattle.std.specs.Prelude.{All, ℕ, zero, suc, ◌≡◌, ◌+◌, ◌*◌, ◌^◌, ◌<◌, ◌≤◌, List, [], ◌∷◌, ◌++◌, length, take, drop, Option, Some, None, IfSome}
 use Rattle.v_frame_layout.specs.Pixel.{PixelForm, byte_of, bytes_of_pixels}
 use Rattle.v_frame_layout.specs.Table.{row_major}
@@ -13,7 +13,7 @@ module _ {T : Type 0} where
       take width (drop start entries)
       ∷ rows_ahead gap width gap count (drop width (drop start entries))
 
--- rows aren't empty, one of them with its gap can be counted, and all lie within so many entries
+-- rows aren't empty, one of them with its gap can be counted, and all are within so many entries
 pub record RowsAreWithin (start width gap count entries : ℕ) : Type 0 where
   pub wide : 0 < width
   pub stride : width + gap < 2 ^ 64
@@ -27,7 +27,7 @@ pub record PixelsAreCountable {T : Type 0} (front : List T) (rows : List (List T
   pub bound : length front + length (row_major rows) + length back < 2 ^ 63
 
 module _ {T : Type 0} (form : PixelForm T) where
-  -- one byte of a pixel of two, where the other one was drawn
+  -- one byte of a pixel of two, where the other one was given
   abbrev pub other_byte : ℕ → Option T → List ℕ
   other_byte i None = []
   other_byte i (Some pixel) = byte_of (form.value pixel) i ∷ []

@@ -1,4 +1,4 @@
--- Laws of places and of planes, each carried by a function of the module `laws`.
+-- Laws of places and of planes, each the contract of a function of the module `laws`.
 use Rattle.std.specs.Prelude.{ℕ, ◌≡◌, ◌+◌, ◌*◌, ◌<◌, ◌≤◌, List, length, take, drop, Some, None, OnOk, slice_get}
 use Rattle.v_frame_layout.specs.Geometry.{Geometry, stride_of, alloc_height_of, alloc_size_of, Mark, Border, Visible, cutting_plan, mark_at, place_of}
 use Rattle.v_frame_layout.specs.Pixel.{PixelForm, byte_list}
@@ -22,7 +22,7 @@ pub record HasPlaces (g : Geometry) : Type 0 where
       → place_of g x y ≡ place_of g x' y' → (x ≡ x') × (y ≡ y')
 
 -- the mark of the place in each row and column of the buffer: border above, below and on both sides
--- of what is visible. Past the buffer there is none
+-- of what is visible. Past the end of the buffer there is none
 pub record HasMarks (g : Geometry) : Type 0 where
   pub above : (row column : ℕ) → row < g.pad_top → column < stride_of g
       → mark_at (cutting_plan g) (row * stride_of g + column) ≡ Some Border
@@ -44,7 +44,7 @@ module _ {T : Type 0} where
       → slice_get p.buffer (place_of p.geometry x y) ≡ pixel_at (table_of p) x y
 
   -- each row of the table is the part of the buffer that begins behind the rows above it and what
-  -- lies to its left
+  -- is to its left
   abbrev pub HoldsRows : Raster T → Type 0
   HoldsRows p =
       (y : ℕ) → y < p.geometry.height

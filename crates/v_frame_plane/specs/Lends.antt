@@ -10,7 +10,7 @@ module _ (T : RattleType) (plane : MutBor (Raster T.Denot)) where
   abbrev pub LendsBuffer : MutBor (List T.Denot) → Fml
   LendsBuffer r = Lends (the_row T) (Array T 0) plane r (with_entries plane.now)
 
-  -- once the borrow r ends, the entries where row y lies are what r shows last
+  -- once the borrow r ends, the entries of row y are what r shows last
   abbrev pub LendsVisibleRow : ℕ → MutBor (List T.Denot) → Fml
   LendsVisibleRow y r = Lends (the_row T) (Array T 0) plane r (with_row plane.now y)
 
@@ -39,8 +39,8 @@ LendsRowAndRest T buffer geometry y parts =
     LendsBoth (Array T 0) (Array T 0) (Array T 0) buffer parts
     (entries_with_row (raster geometry buffer.now) y)
 
--- once the borrows of two rows of a whole buffer end, the entries where rows y and z lie are what
--- they show last
+-- once the borrows of two rows of a whole buffer end, the entries of rows y and z are what they
+-- show last
 abbrev pub LendsVisibleRows : (T : RattleType) → MutBor (List T.Denot) → Geometry → ℕ → ℕ
     → MutBor (List T.Denot) × MutBor (List T.Denot) → Fml
 LendsVisibleRows T buffer geometry y z rows =

@@ -4,10 +4,10 @@ pub mod BlockLends
 pub mod Copy
 pub mod Cursor
 pub mod Cut
+pub mod Dropped
 pub mod Filling
 pub mod Laws
 pub mod Lends
-pub mod LetGo
 pub mod PixelsLeft
 pub mod Plane
 pub mod RowsLeft

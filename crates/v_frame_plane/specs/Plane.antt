@@ -106,7 +106,7 @@ module _ {T : Type 0} where
     pub written : slice_get (table_of new) y ≡ Some row
     pub others : (k : ℕ) → k ≢ y → slice_get (table_of new) k ≡ slice_get (table_of old) k
 
-  -- the plane with other entries where the visible pixels of row y lie
+  -- the plane with other entries where the visible pixels of row y are
   abbrev pub with_row : Raster T → ℕ → List T → Raster T
   with_row plane y row =
       raster plane.geometry (with_part plane.buffer (place_of plane.geometry 0 y) row)
@@ -127,7 +127,7 @@ module _ {T : Type 0} where
       (row : List T) → length row ≡ length old
       → WritesRow plane y (with_entries plane (entries_with_row plane y row rest)) row
 
-  -- the plane with another entry at the place of (x, y), which may lie in the border, and all else
+  -- the plane with another entry at the place of (x, y), which may be in the border, and all else
   -- as before
   abbrev pub with_entry : Raster T → ℕ → ℕ → T → Raster T
   with_entry plane x y entry =
@@ -153,7 +153,7 @@ module _ {T : Type 0} where
     pub second : slice_get (table_of new) z ≡ Some other
     pub others : (k : ℕ) → k ≢ y → k ≢ z → slice_get (table_of new) k ≡ slice_get (table_of old) k
 
-  -- the buffer with other entries where the visible pixels of rows y and z lie, y above z
+  -- the buffer with other entries where the visible pixels of rows y and z are, y above z
   abbrev pub entries_with_rows : Raster T → ℕ → ℕ → List T → List T → List T
   entries_with_rows plane y z row other =
       let width : ℕ = plane.geometry.width in

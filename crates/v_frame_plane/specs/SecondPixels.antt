@@ -1,5 +1,5 @@
--- What the pixels of a writing walk leave. Beside the pixels that are left, a walk means a second
--- list: what each of them holds when the borrow ends.
+-- What the pixels of a writing iterator leave. Beside the pixels that are left, an iterator means
+-- their final values: what each of them holds when the borrow ends.
 use Rattle.std.specs.Prelude.{◌≡◌, List, [], ◌∷◌, ◌++◌, length, map, Option, Some, None}
 use Rattle.std.specs.Borrow.{Fml, GName, RattleType, MutBor}
 use base.Fml.{fsep, fwand, fall, fex, fres}
@@ -9,7 +9,7 @@ use Rattle.v_frame_plane.specs.RowsLeft.{rows_left}
 use Rattle.v_frame_plane.specs.SecondRows.{EndsAs, SecondRows, WritesEachTable}
 use Rattle.v_frame_plane.specs.declared.pixels_mut.PixelsMut.{PixelsMut}
 
--- a second list by its parts: what the row that was begun from the front holds, the rows that were
+-- final values by their parts: what the row that was begun from the front holds, the rows that were
 -- not begun, and the row that was begun from the back
 pub record Parts (T : Type 0) : Type 0 where
   pub front : List T
@@ -17,14 +17,14 @@ pub record Parts (T : Type 0) : Type 0 where
   pub back : List T
 
 module _ {T : Type 0} where
-  -- each part is as long as what it stands for, and joined they are the list
+  -- each part is as long as what holds it in the end, and joined they are the list
   pub record ArePartsOf (walk : PixelsMut T) (second : List T) (parts : Parts T) : Type 0 where
     pub joined : second ≡ parts.front ++ (row_major parts.rows ++ parts.back)
     pub front : length parts.front ≡ length walk.front.now
     pub rows : map length parts.rows ≡ map length (rows_left walk.rows)
     pub back : length parts.back ≡ length walk.back.now
 
-  -- a walk with which no draw was made over a plane: no row is begun, its rows are those that are
+  -- an iterator over a plane whose items are all left: no row is begun, its rows are those that are
   -- shown, and they write each table
   pub record BeginsOver (plane : Raster T) (walk : PixelsMut T) : Type 0 where
     pub front : walk.front.now ≡ []
@@ -37,7 +37,7 @@ module _ (T : RattleType) where
   abbrev pub PixelEndsAs : GName → T.Denot → Fml
   PixelEndsAs name pixel = fres name (T.coded.code pixel)
 
-  -- when the borrow ends, the pixels that the walk has left hold these
+  -- when the borrow ends, the pixels that the iterator has left hold these
   abbrev pub SecondPixels : PixelsMut T.Denot → List T.Denot → Fml
   SecondPixels walk second =
       fex (Parts T.Denot) (λ parts.
@@ -68,7 +68,7 @@ module _ (T : RattleType) where
           fwand (fsep (PixelEndsAs pixel.ghost_name held.0) (SecondPixels new held.1))
           (SecondPixels old (held.1 ++ held.0 ∷ [])))
 
-  -- what a draw from the front leaves, and what one from the back does
+  -- what `next` leaves, and what `next_back` does
   abbrev pub LendsFirstPixel : PixelsMut T.Denot → Option (MutBor T.Denot) → PixelsMut T.Denot → Fml
   LendsFirstPixel old None new = KeepsPixels old new
   LendsFirstPixel old (Some pixel) new = TakesFirstPixel old new pixel

@@ -1,5 +1,5 @@
--- What the rows of a writing walk leave. Beside the rows that are left, a walk means a second list:
--- what each of them holds when the borrow ends.
+-- What the rows of a writing iterator leave. Beside the rows that are left, an iterator means their
+-- final values: what each of them holds when the borrow ends.
 use Rattle.std.specs.Prelude.{ℕ, zero, suc, ◌≡◌, List, [], ◌∷◌, ◌++◌, length, map, take, drop, Option, Some, None}
 use Rattle.std.specs.Borrow.{Fml, GName, RattleType, MutBor, Array}
 use base.Fml.{fsep, fwand, fall, fres}
@@ -8,7 +8,7 @@ use Rattle.v_frame_plane.specs.RowsLeft.{rows_left}
 use Rattle.v_frame_plane.specs.declared.rows_mut.RowsMut.{RowsMut}
 
 module _ {T : Type 0} where
-  -- the entries with these rows where the rows ahead lie; where the rows end early, the other
+  -- the entries with these rows where the rows ahead are; where the rows end early, the other
   -- entries stay
   abbrev pub with_rows_ahead : ℕ → ℕ → ℕ → ℕ → List T → List (List T) → List T
   with_rows_ahead start width gap zero entries rows = entries
@@ -17,7 +17,7 @@ module _ {T : Type 0} where
       take start entries
       ++ (row ++ with_rows_ahead gap width gap count (drop width (drop start entries)) rows)
 
-  -- what the slice of a walk holds with these rows in the place of those that are left
+  -- what the slice of an iterator holds with these rows in the place of those that are left
   abbrev pub entries_with : RowsMut T → List (List T) → List T
   entries_with walk = with_rows_ahead walk.start walk.width walk.gap walk.count walk.rest.now
 
@@ -27,7 +27,8 @@ module _ {T : Type 0} where
     pub border : border_of new ≡ border_of old
     pub table : table_of new ≡ rows
 
-  -- so each table whose rows are as long as those that are shown is written by the rows of the walk
+  -- so each table whose rows are as long as those that are shown is written by the rows of the
+  -- iterator
   abbrev pub WritesEachTable : Raster T → RowsMut T → Type 0
   WritesEachTable plane walk =
       (rows : List (List T)) → map length rows ≡ map length (table_of plane)
@@ -38,7 +39,7 @@ module _ (T : RattleType) where
   abbrev pub EndsAs : GName → List T.Denot → Fml
   EndsAs name entries = fres name ((Array T 0).coded.code entries)
 
-  -- when the borrow ends, the rows that the walk has left hold these
+  -- when the borrow ends, the rows that the iterator has left hold these
   abbrev pub SecondRows : RowsMut T.Denot → List (List T.Denot) → Fml
   SecondRows walk second = EndsAs walk.rest.ghost_name (entries_with walk second)
 
@@ -66,7 +67,7 @@ module _ (T : RattleType) where
           fwand (fsep (EndsAs row.ghost_name held.0) (SecondRows new held.1))
           (SecondRows old (held.1 ++ held.0 ∷ []))))
 
-  -- what a draw from the front leaves, and what one from the back does
+  -- what `next` leaves, and what `next_back` does
   abbrev pub LendsFirstRow : RowsMut T.Denot → Option (MutBor (List T.Denot)) → RowsMut T.Denot
       → Fml
   LendsFirstRow old None new = KeepsRows old new

@@ -1,4 +1,4 @@
--- Second lists of rows worked out by hand. Each line computes: it is proved by `refl`.
+-- Final values of rows worked out by hand. Each line computes: it is proved by `refl`.
 use Rattle.std.specs.Prelude.{ℕ, ◌≡◌, List, [], ◌∷◌, refl}
 use Rattle.v_frame_layout.specs.Geometry.{geometry_of, stride_of, origin_of}
 use Rattle.v_frame_plane.specs.Cursor.{rows_ahead}
@@ -19,7 +19,7 @@ each_in_its_place = refl
 as_they_are : with_rows_ahead 1 2 2 3 twelve (rows_ahead 1 2 2 3 twelve) ≡ twelve
 as_they_are = refl
 
--- where the rows end early the others stay, and rows past those that lie ahead are put nowhere
+-- where the rows end early the others stay, and rows past those that are ahead are put nowhere
 one_of_three : with_rows_ahead 1 2 2 3 twelve ((7 ∷ 8 ∷ []) ∷ [])
     ≡ 20 ∷ 7 ∷ 8 ∷ 21 ∷ 22 ∷ 3 ∷ 4 ∷ 23 ∷ 24 ∷ 5 ∷ 6 ∷ 25 ∷ []
 one_of_three = refl

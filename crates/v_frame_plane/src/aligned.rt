@@ -14,7 +14,7 @@ use std::alloc::{AllocError, Global};
 use std::fmt;
 use std::marker::Model;
 
-/// The entries of a buffer. How they are kept is known here alone. Stands for `AlignedData` of `v_frame` 0.7.0.
+/// The entries of a buffer. Only this module knows how they are kept. It takes the place of `AlignedData` of `v_frame` 0.7.0.
 pub struct AlignedData<T> {
     base: Base<T>,
     len: usize,
@@ -49,7 +49,7 @@ impl<T: Drop> Drop for AlignedData<T> {
 }
 
 impl<T> AlignedData<T> {
-    /// `len` copies of `value`. No copies take no memory.
+    /// `len` copies of `value`. With `len` 0 it takes no memory.
     pub fn new(alloc: Global, value: T, len: usize) -> Result<Self, AllocError>
     where
         T: Copy,
@@ -63,7 +63,7 @@ impl<T> AlignedData<T> {
         Ok(filling.finish())
     }
 
-    /// The same entries in a buffer of their own. No entries take no memory.
+    /// The same entries in a buffer of their own. An empty buffer takes no memory.
     pub fn clone(&self, alloc: Global) -> Result<Self, AllocError>
     where
         T: Copy,
@@ -102,7 +102,7 @@ impl<T> AlignedData<T> {
         self.cells.slice_mut(self.base, start, end)
     }
 
-    /// The entry at a place for writing.
+    /// The entry at index `place`, for writing.
     pub fn entry_mut(&mut self, place: usize) -> &mut T
         requires { place < length self.old }
         ensures* writes_back { sem 𝓛 (LendsEntry T.row self.entry place result) }
@@ -111,7 +111,7 @@ impl<T> AlignedData<T> {
         entry_of(self.as_mut_slice(), place)
     }
 
-    /// The entry at a place for writing, where there is one.
+    /// The entry at index `place`, for writing, where there is one.
     pub fn get_mut(&mut self, place: usize) -> Option<&mut T>
         ensures* writes_back { sem 𝓛 (LendsEntryIf T.row self.entry place result) }
         ensures value { option_copied_mut result ≡ slice_get self.old place }
@@ -123,7 +123,7 @@ impl<T> AlignedData<T> {
     }
 }
 
-/// An entry of a slice for writing.
+/// The entry of a slice at index `place`, for writing.
 fn entry_of<T>(entries: &mut [T], place: usize) -> &mut T
     requires { place < length entries.old }
     ensures* writes_back { sem 𝓛 (LendsEntryOf T.row entries.entry place result) }
@@ -133,7 +133,7 @@ fn entry_of<T>(entries: &mut [T], place: usize) -> &mut T
 }
 
 impl<T> AlignedData<Option<T>> {
-    /// `len` entries without a value. No entries take no memory.
+    /// `len` entries without a value. With `len` 0 it takes no memory.
     pub fn without_values(alloc: Global, len: usize) -> Result<Self, AllocError>
         ensures entries { IfOk result (λ d. d ≡ replicate len None) }
         ensures no_entries { len ≡ 0 → IsOk result }
@@ -145,8 +145,8 @@ impl<T> AlignedData<Option<T>> {
         Ok(filling.finish())
     }
 
-    /// The values, each moved to its place in a buffer of their own. Without memory for that nothing is moved. No values take
-    /// no memory.
+    /// The values, moved in their order to a buffer of their own. Where there is no memory for it, nothing is moved. An empty
+    /// buffer takes no memory.
     pub fn into_values(mut self, alloc: Global) -> Result<AlignedData<T>, Self>
     where
         T: Drop,

@@ -14,14 +14,14 @@ use std::iter::FusedIterator;
 use std::marker::Model;
 use v_frame_layout::pixel::Pixel;
 
-/// The bytes of the visible pixels of a plane, pixel after pixel, each with its low byte first, from both ends.
+/// A double-ended iterator over the bytes of the visible pixels of a plane, pixel after pixel, each with its low byte first.
 ///
-/// From the back the high byte of the last pixel comes first. A pixel that was begun from one end may be finished from
-/// the other. A contract sees the iterator as the list of the bytes that are left. Stands for the iterator of
+/// From the back the high byte of the last pixel comes first. A pixel that was begun from one end may be finished from the
+/// other. A contract sees the iterator as the list of the bytes that are left. It takes the place of the iterator of
 /// `Plane::byte_data` of `v_frame` 0.7.0.
 #[derive(Drop)]
 pub struct ByteData<'a, T: Pixel> {
-    // The pixel whose low byte was drawn, the pixels that were not begun, and the one whose high byte was drawn.
+    // The pixel whose low byte was given, the pixels that were not begun, and the one whose high byte was given.
     front: Option<T>,
     pixels: Pixels<'a, T>,
     back: Option<T>,
@@ -53,7 +53,7 @@ impl<'a, T: Pixel> ByteData<'a, T> {
         }
     }
 
-    /// The same iterator once more.
+    /// A copy of the iterator.
     fn again(&self) -> Self
         ensures { result ≡ self.now }
     {

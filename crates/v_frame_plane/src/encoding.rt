@@ -8,12 +8,12 @@ use crate::place::row_start;
 use v_frame_layout::geometry::PlaneGeometry;
 use v_frame_layout::pixel::Pixel;
 
-/// How a row of pixels stands in a source.
+/// How a source holds a row of pixels.
 pub trait Encoding<T> {
     /// What a source is a list of.
     type Entry;
 
-    // The pixels of a row, of which there are so many, from the entries that hold them.
+    // The pixels of a row of this many, from the entries that hold them.
     ghost row_of: { ℕ → List Self.Entry → List T };
 
     ghost ENTRIES: { ℕ };
@@ -21,7 +21,7 @@ pub trait Encoding<T> {
     /// Entries of one pixel.
     const ENTRIES: usize;
 
-    /// Overwrites a row by the pixels that stand in the entries.
+    /// Overwrites a row with the pixels that the entries hold.
     fn write_row(row: &mut [T], entries: &[Self::Entry])
         requires { length entries.now ≡ ENTRIES * length row.old }
         ensures { row.new ≡ row_of (length row.old) entries.now };
@@ -61,7 +61,7 @@ impl<T: Pixel> Encoding<T> for AsBytes {
     }
 }
 
-/// Writes the visible rows of a whole buffer: row `y` from the front of the `y`-th piece of a stride of the source.
+/// Writes the visible rows of a whole buffer: row `y` from the entries of the source that begin at index `stride * y`.
 ///
 /// The stride is in entries.
 pub fn write_rows<T, E: Encoding<T>>(

@@ -8,7 +8,7 @@ ghost use Rattle.v_frame_layout.specs.Pixel.{one_byte};
 ghost use Rattle.v_frame_layout.specs.Table.{Table, width_of, height_of, row_major};
 ghost use Rattle.v_frame_plane.specs.Plane.{Raster, table_of};
 ghost use Rattle.v_frame_plane.specs.Copy.{Copies, packed_copy, piece_fronts, strided_copy, packed_byte_copy};
-ghost use Rattle.v_frame_plane.specs.LetGo.{PixelsAreLetGo, RowsAreLetGo};
+ghost use Rattle.v_frame_plane.specs.Dropped.{DroppedPixelsKeepTheirValues, DroppedRowsKeepTheirPixels};
 ghost use Rattle.std.specs.Borrow.{sem};
 ghost use Rattle.v_frame_plane.specs.Laws.{DeterminesBuffer, HasPlaces, HasMarks, HoldsPixels, HoldsRows, IsMadeOfEntries, ComesBack, ShowsRectangle};
 
@@ -40,15 +40,15 @@ pub fn tables_are_rectangles<T>()
     ensures { (p : Raster T) → ShowsRectangle p }
 {}
 
-/// The mark of the place in each row and column of a buffer: visible inside the rectangle, and else border. Past the buffer
-/// there is none.
+/// Each place of a buffer has a mark, by its row and column: visible inside the rectangle, and else border. Past the end of the
+/// buffer no place has one.
 pub fn places_have_marks()
     ensures { (g : Geometry) → HasMarks g }
 {}
 
 /// Planes of one geometry that hold the same entries at their visible places show the same table, and planes that hold the
 /// same at their border places have the same border.
-pub fn alike_entries_show_alike<T: Pixel>()
+pub fn same_entries_same_table<T: Pixel>()
     ensures { (p q : Raster T) → p.geometry ≡ q.geometry → IsMadeOfEntries p q }
 {}
 
@@ -98,13 +98,14 @@ pub fn packed_copies_agree(
     (of_pixels, of_bytes)
 }
 
-/// Rows for writing that are let go hold, once the borrow of their plane ends, what they show: that is their second list,
-/// which the clauses `leaves` of the draws of `RowsMut` take back to the rows with which it began.
-pub fn rows_are_let_go<T>()
-    ensures* { sem 𝓛 (RowsAreLetGo T.row) }
+/// Rows for writing whose iterator is dropped hold, once the borrow of their plane ends, what they show. These are their final
+/// values, which the clauses `leaves` of `RowsMut::next` and `RowsMut::next_back` lead back to the rows with which the iterator
+/// began.
+pub fn dropped_rows_keep_their_pixels<T>()
+    ensures* { sem 𝓛 (DroppedRowsKeepTheirPixels T.row) }
 {}
 
-/// Pixels for writing that are let go hold, once the borrow of their plane ends, what they show, as rows do.
-pub fn pixels_are_let_go<T>()
-    ensures* { sem 𝓛 (PixelsAreLetGo T.row) }
+/// Pixels for writing whose iterator is dropped hold, once the borrow of their plane ends, what they show, as rows do.
+pub fn dropped_pixels_keep_their_values<T>()
+    ensures* { sem 𝓛 (DroppedPixelsKeepTheirValues T.row) }
 {}

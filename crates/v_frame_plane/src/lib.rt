@@ -1,12 +1,12 @@
 //! Planes: rectangles of visible pixels inside a border, each in one buffer.
 //!
-//! Users name `v_frame`, which hands all of this on. [`plane`] has what they call, and [`laws`] what holds of it beyond a
+//! Users name `v_frame`, which re-exports all of this. [`plane`] has what they call, and [`laws`] what holds of it beyond a
 //! single call. All else is private. From the bottom up:
 //!
 //! | module | what it promises to those above |
 //! |---|---|
 //! | `aligned` | The buffer: a list of fixed length, made, read, cloned, compared, and lent for writing whole, in part or at one entry. How it is kept is known there alone: in a block of raw memory, behind the five functions with pointers of `aligned::block`. |
-//! | `place` | Where a row begins and where a pixel lies, in a geometry that fits. |
+//! | `place` | Where a row begins and where a pixel is, in a geometry that fits. |
 //! | `error` | Why a copy is refused. |
 //! | `plane_ref` | A geometry and a slice that is the whole buffer, read as a plane. |
 //! | `rows`, `pixels`, `bytes`, `rows_mut`, `pixels_mut` | The five iterators: the list of the items that are left, of which `next` takes the first and `next_back` the last. |

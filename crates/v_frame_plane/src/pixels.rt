@@ -13,10 +13,10 @@ use std::iter::FusedIterator;
 use std::marker::Model;
 use std::{fmt, mem};
 
-/// The visible pixels of a plane, row after row from the top, from both ends.
+/// A double-ended iterator over the visible pixels of a plane, row after row from the top.
 ///
-/// A contract sees it as the list of the pixels that are left. Stands for the iterator of `Plane::pixels` of `v_frame`
-/// 0.7.0.
+/// A contract sees it as the list of the pixels that are left. It takes the place of the iterator of `Plane::pixels` of
+/// `v_frame` 0.7.0.
 #[derive(Drop)]
 pub struct Pixels<'a, T> {
     // The row that was begun from the front, the rows that were not begun, and the one that was begun from the back.
@@ -51,7 +51,7 @@ impl<'a, T> Pixels<'a, T> {
         }
     }
 
-    /// The same iterator once more.
+    /// A copy of the iterator.
     pub(crate) fn again(&self) -> Self
         ensures { result ≡ self.now }
     {

@@ -11,11 +11,11 @@ use crate::rows_mut::RowsMut;
 use std::iter::FusedIterator;
 use std::mem;
 
-/// The visible pixels of a plane for writing, row after row from the top, from both ends.
+/// A double-ended iterator over the visible pixels of a plane for writing, row after row from the top.
 ///
-/// A pixel may be held while others are drawn, and outlives the iterator. What the pixels leave in the plane is told to
-/// those who call [`PixelsMut::next`] and [`PixelsMut::next_back`]: a `for` loop or an adapter draws by the traits'
-/// methods, of which the pixels and their number are known, and not what they leave. Stands for the iterator of
+/// A pixel may be held while the iterator gives others, and outlives the iterator. The contracts of [`PixelsMut::next`] and
+/// [`PixelsMut::next_back`] say what the pixels leave in the plane. A `for` loop or an adapter calls the traits' methods
+/// instead, whose contracts give the pixels and their number, and not what they leave. It takes the place of the iterator of
 /// `Plane::pixels_mut` of `v_frame` 0.7.0.
 #[derive(Drop)]
 pub struct PixelsMut<'a, T> {
@@ -97,8 +97,8 @@ impl<'a, T> PixelsMut<'a, T> {
         }
     }
 
-    /// The next pixel, as [`Iterator::next`] draws it. The clause `leaves`, which the trait's `next` doesn't have, tells
-    /// what the plane shows once the borrow ends. Our own.
+    /// The next pixel, as [`Iterator::next`] gives it. The clause `leaves`, which the trait's `next` doesn't have, says what
+    /// the plane shows once the borrow ends. Our own.
     #[inline]
     pub fn next(&mut self) -> Option<&'a mut T>
         ensures* leaves { sem 𝓛 (LendsFirstPixel T.row self.old result self.new) }
@@ -115,7 +115,7 @@ impl<'a, T> PixelsMut<'a, T> {
         None
     }
 
-    /// The last pixel, as [`DoubleEndedIterator::next_back`] draws it. Our own.
+    /// The last pixel, as [`DoubleEndedIterator::next_back`] gives it. Our own.
     #[inline]
     pub fn next_back(&mut self) -> Option<&'a mut T>
         ensures* leaves { sem 𝓛 (LendsLastPixel T.row self.old result self.new) }

@@ -1,10 +1,10 @@
-//! Where the visible pixels of a geometry lie in its buffer.
+//! Where the visible pixels of a geometry are in its buffer.
 ghost use Rattle.std.specs.Prelude.{◌≡◌, ◌+◌, ◌*◌, ◌<◌, ◌≤◌, SomeIff};
 ghost use Rattle.v_frame_layout.specs.Geometry.{alloc_size_of, IsGeometry, Fits, usize_max, place_of};
 
 use v_frame_layout::geometry::PlaneGeometry;
 
-/// The place of the first pixel of row `y`.
+/// The index of the first pixel of row `y`.
 pub fn row_start(geometry: PlaneGeometry, y: usize) -> usize
     requires fits { Fits geometry }
     requires inside { y < geometry.height }
@@ -14,7 +14,7 @@ pub fn row_start(geometry: PlaneGeometry, y: usize) -> usize
     geometry.data_origin() + geometry.stride() * y
 }
 
-/// The place of a visible pixel.
+/// The index of a visible pixel.
 pub fn visible_place(geometry: PlaneGeometry, x: usize, y: usize) -> usize
     requires fits { Fits geometry }
     requires wide { x < geometry.width }
@@ -34,7 +34,7 @@ pub fn visible_size(geometry: PlaneGeometry) -> usize
     geometry.width() * geometry.height()
 }
 
-/// The place of (x, y), which may lie past the buffer, where it can be counted.
+/// The index of (x, y), which may be past the end of the buffer. `None` where no `usize` holds it.
 pub fn checked_place(geometry: PlaneGeometry, x: usize, y: usize) -> Option<usize>
     requires { Fits geometry }
     ensures { let place = place_of geometry x y in SomeIff result (place ≤ usize_max) place }

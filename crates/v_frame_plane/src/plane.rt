@@ -13,13 +13,13 @@
 //!     +----------+------------------------+-----------+
 //!     |                  pad_bottom                   |
 //!     +-----------------------------------------------+
-//!       o stands at the place data_origin of the buffer, (x, y) at data_origin + stride * y + x
+//!       o is at index data_origin of the buffer, (x, y) at index data_origin + stride * y + x
 //! ```
 //!
-//! What a plane shows is the table of its visible rows. All that [`copy_from_slice`](Plane::copy_from_slice),
-//! [`row_mut`](Plane::row_mut), the iterators and the other visible calls write is the table; the border is reached by
-//! [`data_mut`](Plane::data_mut), and by [`pixel_mut`](Plane::pixel_mut) past the visible width. [`PlaneRef`] reads a
-//! plane whose buffer is kept elsewhere.
+//! What a plane shows is the table of its visible rows. [`copy_from_slice`](Plane::copy_from_slice),
+//! [`row_mut`](Plane::row_mut), the iterators and the other visible calls write the table alone. [`data_mut`](Plane::data_mut)
+//! reaches the border, and so does [`pixel_mut`](Plane::pixel_mut) past the visible width. [`PlaneRef`] reads a plane whose
+//! buffer is kept elsewhere.
 ghost use Rattle.std.specs.Prelude.{All, List, ℕ, ◌≡◌, [], ◌*◌, ◌^◌, ◌<◌, ◌≤◌, ◌↔◌, length, IsNone, IfOk, IfSome, Some, slice_get, option_copied};
 ghost use Rattle.std.specs.Map.Iter.{ShowsInOrder, ShowsInReverse, GivesInOrder, GivesInReverse, deref};
 ghost use Rattle.v_frame_layout.specs.Geometry.{alloc_size_of, Fits, place_of};
@@ -152,8 +152,8 @@ impl<T> Plane<T> {
 
     /// The visible pixels of row `y` for writing. `None` exactly below the visible rectangle.
     ///
-    /// What is written through it is lost to the proof of a caller, since the toolchain follows no `Option` of a slice for
-    /// writing: where the table that is left has to be proved, [`visible_row_mut`](Self::visible_row_mut) lends the same.
+    /// After writing through it, automatic proofs know nothing of the pixels, since the toolchain follows no `Option` of a
+    /// slice for writing. Where the table that is left has to be proved, use [`visible_row_mut`](Self::visible_row_mut).
     ///
     /// Ports `Plane::row_mut` of `v_frame` 0.7.0.
     pub fn row_mut(&mut self, y: usize) -> Option<&mut [T]>
@@ -168,9 +168,9 @@ impl<T> Plane<T> {
         Some(self.visible_row_mut(y))
     }
 
-    /// The visible pixels of row `y` for writing, where that row is visible: [`height`](Self::height) tells.
+    /// The visible pixels of row `y` for writing. `y` must be below [`height`](Self::height).
     ///
-    /// Our own, beside [`row_mut`](Self::row_mut): a caller's proof follows what is written through it.
+    /// Our own, beside [`row_mut`](Self::row_mut): a caller's automatic proof knows what is written through it.
     pub fn visible_row_mut(&mut self, y: usize) -> &mut [T]
         requires { y < self.old.geometry.height }
         ensures* writes_back { sem 𝓛 (LendsVisibleRow T.row self.entry y result) }
@@ -183,7 +183,7 @@ impl<T> Plane<T> {
         self.buffer.part_mut(start, start + geometry.width())
     }
 
-    /// The visible rows, from the top, from both ends.
+    /// A double-ended iterator over the visible rows, from the top.
     ///
     /// Ports `Plane::rows` of `v_frame` 0.7.0.
     pub fn rows(&self) -> Rows<'_, T>
@@ -196,10 +196,11 @@ impl<T> Plane<T> {
         self.as_plane_ref().rows()
     }
 
-    /// The visible rows for writing, from the top, from both ends.
+    /// A double-ended iterator over the visible rows for writing, from the top.
     ///
-    /// Rows may be held while others are drawn, and written in any order, after the iterator is gone too: when the borrow
-    /// ends, the plane shows what each held last, and all else is as it was. The iterator's draws tell which row is which.
+    /// Rows may be held while the iterator gives others, and written in any order, even after the iterator is dropped. When the
+    /// borrow ends, the plane shows what each row held last, and all else is as it was. The contracts of [`RowsMut::next`] and
+    /// [`RowsMut::next_back`] say which row is which.
     ///
     /// Ports `Plane::rows_mut` of `v_frame` 0.7.0.
     pub fn rows_mut(&mut self) -> RowsMut<'_, T>
@@ -217,8 +218,8 @@ impl<T> Plane<T> {
         RowsMut::new(geometry, self.buffer.as_mut_slice())
     }
 
-    /// A visible pixel for writing, where column `x` of row `y` is visible: [`width`](Self::width) and
-    /// [`height`](Self::height) tell.
+    /// The visible pixel at column `x` of row `y`, for writing. `x` must be below [`width`](Self::width), and `y` below
+    /// [`height`](Self::height).
     ///
     /// Our own, beside [`pixel_mut`](Self::pixel_mut). To write many pixels, write by rows, which is much faster.
     pub fn visible_pixel_mut(&mut self, x: usize, y: usize) -> &mut T
@@ -235,11 +236,12 @@ impl<T> Plane<T> {
         self.buffer.entry_mut(place)
     }
 
-    /// The visible pixels for writing, row after row from the top, from both ends.
+    /// A double-ended iterator over the visible pixels for writing, row after row from the top.
     ///
-    /// Pixels may be held while others are drawn, and written in any order, after the iterator is gone too: when the borrow
-    /// ends, the plane shows what each held last, and all else is as it was. The iterator's draws tell which pixel is which.
-    /// To write whole rows, [`rows_mut`](Self::rows_mut) is much faster.
+    /// Pixels may be held while the iterator gives others, and written in any order, even after the iterator is dropped. When
+    /// the borrow ends, the plane shows what each pixel held last, and all else is as it was. The contracts of
+    /// [`PixelsMut::next`] and [`PixelsMut::next_back`] say which pixel is which. To write whole rows,
+    /// [`rows_mut`](Self::rows_mut) is much faster.
     ///
     /// Ports `Plane::pixels_mut` of `v_frame` 0.7.0.
     pub fn pixels_mut(&mut self) -> PixelsMut<'_, T>
@@ -276,10 +278,10 @@ impl<T: Pixel> Plane<T> {
         Ok(Plane { geometry, buffer })
     }
 
-    /// The entry at the place of column `x` and row `y`. `None` exactly where that place lies past the end of the buffer.
+    /// The entry at the index of column `x` and row `y`. `None` exactly where that index is past the end of the buffer.
     ///
-    /// Past the visible width it reaches the border, or the next row where there is none: only the end of the buffer is
-    /// tested, as `Plane::pixel` of `v_frame` 0.7.0 does, which it ports.
+    /// Past the visible width it reaches the border, or the next row where there is no border: only the end of the buffer is
+    /// tested. Ports `Plane::pixel` of `v_frame` 0.7.0, which does the same.
     pub fn pixel(&self, x: usize, y: usize) -> Option<T>
         ensures value { result ≡ slice_get self.now.buffer (place_of self.now.geometry x y) }
         ensures none { IsNone result
@@ -290,11 +292,11 @@ impl<T: Pixel> Plane<T> {
         self.as_plane_ref().pixel(x, y)
     }
 
-    /// The entry at the place of column `x` and row `y` for writing. `None` exactly where that place lies past the end of
-    /// the buffer.
+    /// The entry at the index of column `x` and row `y`, for writing. `None` exactly where that index is past the end of the
+    /// buffer.
     ///
-    /// As [`pixel`](Self::pixel) it reaches past the visible width. To write many pixels, write by rows: it takes a small
-    /// part of the time. Ports `Plane::pixel_mut` of `v_frame` 0.7.0.
+    /// Like [`pixel`](Self::pixel), it reaches past the visible width. To write many pixels, write by rows, which is much
+    /// faster. Ports `Plane::pixel_mut` of `v_frame` 0.7.0.
     pub fn pixel_mut(&mut self, x: usize, y: usize) -> Option<&mut T>
         ensures* writes_back { sem 𝓛 (LendsPixel T.row self.entry x y result) }
         ensures value { option_copied_mut result
@@ -312,7 +314,7 @@ impl<T: Pixel> Plane<T> {
         self.checked_entry_mut(x, y)
     }
 
-    /// The entry at the place of (x, y) for writing, `None` past the end of the buffer.
+    /// The entry at the index of (x, y) for writing, `None` past the end of the buffer.
     fn checked_entry_mut(&mut self, x: usize, y: usize) -> Option<&mut T>
         ensures* writes_back { sem 𝓛 (LendsPixel T.row self.entry x y result) }
         ensures value { option_copied_mut result
@@ -324,7 +326,7 @@ impl<T: Pixel> Plane<T> {
         self.buffer.get_mut(place)
     }
 
-    /// The visible pixels, row after row from the top, from both ends.
+    /// A double-ended iterator over the visible pixels, row after row from the top.
     ///
     /// Ports `Plane::pixels` of `v_frame` 0.7.0.
     pub fn pixels(&self) -> Pixels<'_, T>
@@ -337,7 +339,8 @@ impl<T: Pixel> Plane<T> {
         self.as_plane_ref().pixels()
     }
 
-    /// The bytes of the visible pixels, row after row from the top, each pixel with its low byte first, from both ends.
+    /// A double-ended iterator over the bytes of the visible pixels, row after row from the top, each pixel with its low byte
+    /// first.
     ///
     /// Ports `Plane::byte_data` of `v_frame` 0.7.0.
     pub fn byte_data(&self) -> ByteData<'_, T>
@@ -353,7 +356,7 @@ impl<T: Pixel> Plane<T> {
 
     /// How many bytes [`byte_data`](Self::byte_data) gives: those of `width * height` pixels.
     ///
-    /// It walks over none of them. Our own.
+    /// It reads none of them. Our own.
     pub fn byte_len(&self) -> usize
         ensures value { result
             ≡ self.now.geometry.width * self.now.geometry.height * T.form.size }

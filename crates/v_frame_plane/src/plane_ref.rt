@@ -50,7 +50,7 @@ impl<'a, T> PlaneRef<'a, T> {
         Some(Self::of_parts(geometry, buffer))
     }
 
-    /// The plane of these parts, which are one.
+    /// The plane of these parts, which belong together.
     pub(crate) fn of_parts(geometry: PlaneGeometry, buffer: &'a [T]) -> Self
         requires { IsWhole geometry buffer.now }
         ensures { result ≡ raster geometry buffer.now }
@@ -58,7 +58,7 @@ impl<'a, T> PlaneRef<'a, T> {
         PlaneRef { geometry, buffer }
     }
 
-    /// The same plane once more.
+    /// A second view of the same plane.
     ///
     /// Our own, in place of `Clone`, which may fail here, and `Copy`, which a type with a model of its own can't have.
     pub fn again(&self) -> Self
@@ -72,8 +72,8 @@ impl<'a, T> PlaneRef<'a, T> {
 
     /// The rectangle of `width` by `height` pixels that begins at column `x` of row `y`, as a plane over the same buffer.
     ///
-    /// `None` exactly where the rectangle is empty or not inside the visible one. All round it is border, and the ratios stay.
-    /// Nothing is copied, so what reads a plane reads a block of one, as a search for motion does. Our own.
+    /// `None` exactly where the rectangle is empty or not inside the visible one. Everything around it is border, and the
+    /// ratios stay. Nothing is copied: what reads a plane, as a motion search does, reads a block of one too. Our own.
     pub fn region(&self, x: usize, y: usize, width: usize, height: usize) -> Option<Self>
         ensures value { let geometry = self.now.geometry in
             SomeIff result (IsInside geometry x y width height)
@@ -133,7 +133,7 @@ impl<'a, T> PlaneRef<'a, T> {
         Some(&self.buffer[start..start + self.geometry.width()])
     }
 
-    /// The visible rows, from the top, from both ends.
+    /// A double-ended iterator over the visible rows, from the top.
     pub fn rows(&self) -> Rows<'a, T>
         ensures rows { result ≡ table_of self.now }
         ensures wide { All (λ row. length row ≡ self.now.geometry.width) result }
@@ -146,9 +146,9 @@ impl<'a, T> PlaneRef<'a, T> {
 }
 
 impl<'a, T: Copy> PlaneRef<'a, T> {
-    /// The entry at the place of column `x` and row `y`. `None` exactly where that place lies past the end of the buffer.
+    /// The entry at the index of column `x` and row `y`. `None` exactly where that index is past the end of the buffer.
     ///
-    /// The visible rectangle is tested first: there the place needs no further test.
+    /// The visible rectangle is tested first: there the index needs no further test.
     pub fn pixel(&self, x: usize, y: usize) -> Option<T>
         ensures value { result ≡ slice_get self.now.buffer (place_of self.now.geometry x y) }
         ensures none { IsNone result
@@ -163,7 +163,7 @@ impl<'a, T: Copy> PlaneRef<'a, T> {
         self.buffer.get(place).copied()
     }
 
-    /// The visible pixels, row after row from the top, from both ends.
+    /// A double-ended iterator over the visible pixels, row after row from the top.
     pub fn pixels(&self) -> Pixels<'a, T>
         ensures pixels { result ≡ row_major (table_of self.now) }
         ensures count { length result ≡ self.now.geometry.width * self.now.geometry.height }
@@ -176,7 +176,8 @@ impl<'a, T: Copy> PlaneRef<'a, T> {
 }
 
 impl<'a, T: Pixel> PlaneRef<'a, T> {
-    /// The bytes of the visible pixels, row after row from the top, each pixel with its low byte first, from both ends.
+    /// A double-ended iterator over the bytes of the visible pixels, row after row from the top, each pixel with its low byte
+    /// first.
     pub fn byte_data(&self) -> ByteData<'a, T>
         ensures bytes { result ≡ byte_list T.form (table_of self.now) }
         ensures count { length result
@@ -188,7 +189,7 @@ impl<'a, T: Pixel> PlaneRef<'a, T> {
         ByteData::new(self)
     }
 
-    /// How many bytes [`byte_data`](Self::byte_data) gives: those of `width * height` pixels. It walks over none of them.
+    /// How many bytes [`byte_data`](Self::byte_data) gives: those of `width * height` pixels. It reads none of them.
     pub fn byte_len(&self) -> usize
         ensures value { result
             ≡ self.now.geometry.width * self.now.geometry.height * T.form.size }

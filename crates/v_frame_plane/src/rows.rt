@@ -13,16 +13,17 @@ use std::fmt;
 use std::iter::FusedIterator;
 use std::marker::Model;
 
-/// The visible rows of a plane, from the top, from both ends.
+/// A double-ended iterator over the visible rows of a plane, from the top.
 ///
-/// A contract sees it as the list of the rows that are left. Stands for the iterator of `Plane::rows` of `v_frame` 0.7.0.
+/// A contract sees it as the list of the rows that are left. It takes the place of the iterator of `Plane::rows` of `v_frame`
+/// 0.7.0.
 #[derive(Drop)]
 pub struct Rows<'a, T> {
-    // The next row begins `start` entries behind the begin of `rest`.
+    // The next row begins at index `start` of `rest`.
     rest: &'a [T],
     start: usize,
     width: usize,
-    // What lies between two rows.
+    // The entries between two rows.
     gap: usize,
     count: usize,
 }
@@ -57,7 +58,7 @@ impl<'a, T> Rows<'a, T> {
         }
     }
 
-    /// How many pixels the rows have that are left.
+    /// How many pixels the rows that are left have.
     #[inline]
     pub(crate) fn pixel_count(&self) -> usize
         ensures { result ≡ length (row_major self.now) }
@@ -65,7 +66,7 @@ impl<'a, T> Rows<'a, T> {
         self.count * self.width
     }
 
-    /// The same iterator once more.
+    /// A copy of the iterator.
     pub(crate) fn again(&self) -> Self
         ensures { result ≡ self.now }
     {
@@ -100,7 +101,7 @@ impl<'a, T> Iterator for Rows<'a, T> {
     }
 
     #[inline]
-    #[tactic(auto, using(crate::proofs::Cursors::count_of_rows))]
+    #[tactic(auto, using(crate::proofs::iterators::Cursors::count_of_rows))]
     fn size_hint(&self) -> (usize, Option<usize>)
         ensures lower { IsWithinCount result.0 (at_most (length self.now)) }
         ensures upper { IfSome result.1 (UpTo (at_most (length self.now))) }
@@ -114,7 +115,7 @@ impl<'a, T> DoubleEndedIterator for Rows<'a, T> {
     ghost next_back_gives = { TakesLast deref };
 
     #[inline]
-    #[tactic(auto, using(crate::proofs::Cursors::last_row, crate::proofs::Cursors::count_of_rows))]
+    #[tactic(auto, using(crate::proofs::iterators::Cursors::last_row, crate::proofs::iterators::Cursors::count_of_rows))]
     fn next_back(&mut self) -> Option<&'a [T]> {
         if self.count == 0 {
             return None;
@@ -130,7 +131,7 @@ impl<'a, T> DoubleEndedIterator for Rows<'a, T> {
 
 impl<'a, T> ExactSizeIterator for Rows<'a, T> {
     #[inline]
-    #[tactic(auto, using(crate::proofs::Cursors::count_of_rows))]
+    #[tactic(auto, using(crate::proofs::iterators::Cursors::count_of_rows))]
     fn len(&self) -> usize {
         self.count
     }

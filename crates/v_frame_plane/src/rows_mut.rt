@@ -12,19 +12,19 @@ use std::iter::FusedIterator;
 use std::mem;
 use v_frame_layout::geometry::PlaneGeometry;
 
-/// The visible rows of a plane for writing, from the top, from both ends.
+/// A double-ended iterator over the visible rows of a plane for writing, from the top.
 ///
-/// A row may be held while others are drawn, and outlives the iterator. What the rows leave in the plane is told to those
-/// who call [`RowsMut::next`] and [`RowsMut::next_back`]: a `for` loop or an adapter draws by the traits' methods, of which
-/// the rows and their number are known, and not what they leave. Stands for the iterator of `Plane::rows_mut` of `v_frame`
-/// 0.7.0.
+/// A row may be held while the iterator gives others, and outlives the iterator. The contracts of [`RowsMut::next`] and
+/// [`RowsMut::next_back`] say what the rows leave in the plane. A `for` loop or an adapter calls the traits' methods instead,
+/// whose contracts give the rows and their number, and not what they leave. It takes the place of the iterator of
+/// `Plane::rows_mut` of `v_frame` 0.7.0.
 #[derive(Drop)]
 pub struct RowsMut<'a, T> {
-    // The next row begins `start` entries behind the begin of `rest`.
+    // The next row begins at index `start` of `rest`.
     rest: &'a mut [T],
     start: usize,
     width: usize,
-    // What lies between two rows.
+    // The entries between two rows.
     gap: usize,
     count: usize,
     ghost within: { RowsAreWithin start width gap count (length rest.now) },
@@ -55,7 +55,7 @@ impl<'a, T> RowsMut<'a, T> {
         }
     }
 
-    /// How many pixels the rows have that are left.
+    /// How many pixels the rows that are left have.
     #[inline]
     pub(crate) fn pixel_count(&self) -> usize
         ensures { result ≡ length (row_major (rows_left self.now)) }
@@ -63,8 +63,8 @@ impl<'a, T> RowsMut<'a, T> {
         self.count * self.width
     }
 
-    /// The next row, as [`Iterator::next`] draws it. The clause `leaves`, which the trait's `next` doesn't have, tells
-    /// what the plane shows once the borrow ends. Our own.
+    /// The next row, as [`Iterator::next`] gives it. The clause `leaves`, which the trait's `next` doesn't have, says what the
+    /// plane shows once the borrow ends. Our own.
     #[inline]
     pub fn next(&mut self) -> Option<&'a mut [T]>
         ensures* leaves { sem 𝓛 (LendsFirstRow T.row self.old result self.new) }
@@ -82,7 +82,7 @@ impl<'a, T> RowsMut<'a, T> {
         Some(row)
     }
 
-    /// The last row, as [`DoubleEndedIterator::next_back`] draws it. Our own.
+    /// The last row, as [`DoubleEndedIterator::next_back`] gives it. Our own.
     #[inline]
     pub fn next_back(&mut self) -> Option<&'a mut [T]>
         ensures* leaves { sem 𝓛 (LendsLastRow T.row self.old result self.new) }
@@ -116,7 +116,7 @@ impl<'a, T> Iterator for RowsMut<'a, T> {
     }
 
     #[inline]
-    #[tactic(auto, using(crate::proofs::Cursors::count_of_rows))]
+    #[tactic(auto, using(crate::proofs::iterators::Cursors::count_of_rows))]
     fn size_hint(&self) -> (usize, Option<usize>)
         ensures lower { IsWithinCount result.0 (item_count rows_left self.now) }
         ensures upper { IfSome result.1 (UpTo (item_count rows_left self.now)) }
@@ -139,7 +139,7 @@ impl<'a, T> DoubleEndedIterator for RowsMut<'a, T> {
 
 impl<'a, T> ExactSizeIterator for RowsMut<'a, T> {
     #[inline]
-    #[tactic(auto, using(crate::proofs::Cursors::count_of_rows))]
+    #[tactic(auto, using(crate::proofs::iterators::Cursors::count_of_rows))]
     fn len(&self) -> usize {
         self.count
     }

@@ -15,11 +15,12 @@ use crate::plane::{CopyError, Plane};
 use crate::replay::{Answer, Side, VisibleCall, replay};
 use std::alloc::{AllocError, Global};
 
-/// Bytes with a stride go through a frame: it is built, filled from them, and its bytes are drawn from these sides in turn.
+/// Bytes with a stride go through a frame: it is built, filled from them, and its bytes are taken from these sides in turn.
 ///
-/// A source that has a row and its tail for each row of the frame is copied, and what is drawn are its rows without their
-/// tails. As many draws as these have bytes give all of them: those from the front on, and behind them those from the
-/// back on. The frame is refused as by [`FrameBuilder::build`], and memory is the only other error.
+/// A source that has a row and its tail for each row of the frame is copied, and the bytes taken are its rows without their
+/// tails. With as many sides as these have bytes, all are taken: those from the front in their order, and behind them those
+/// from the back in reverse. The frame is refused as by [`FrameBuilder::build`], and an allocation failure is the only other
+/// error.
 pub fn bytes_go_through_a_frame<T: Pixel>(
     alloc: Global,
     builder: FrameBuilder,
@@ -47,7 +48,7 @@ pub fn bytes_go_through_a_frame<T: Pixel>(
     replay(alloc, &mut frame, calls.as_slice()).map_err(|_| FrameError::OutOfMemory)
 }
 
-/// A copy of bytes with a stride into luma, and draws of luma's bytes.
+/// The calls that copy bytes with a stride into luma and take luma's bytes from these sides.
 fn copy_and_walk<T: Pixel>(
     alloc: Global,
     source: Vec<u8>,

@@ -80,41 +80,43 @@ pub enum VisibleCall<T> {
         /// Bytes from the start of one row of the source to the start of the next.
         stride: usize,
     },
-    /// [`Plane::rows`](crate::plane::Plane::rows), drawn from these sides in turn.
+    /// [`Plane::rows`](crate::plane::Plane::rows), whose items are taken from these sides in turn.
     Rows {
         /// The plane.
         plane: usize,
         /// The sides. Past the end of the iterator the item is `None`.
         draws: Sequence<Side>,
     },
-    /// [`Plane::pixels`](crate::plane::Plane::pixels), drawn from these sides in turn.
+    /// [`Plane::pixels`](crate::plane::Plane::pixels), whose items are taken from these sides in turn.
     Pixels {
         /// The plane.
         plane: usize,
         /// The sides. Past the end of the iterator the item is `None`.
         draws: Sequence<Side>,
     },
-    /// [`Plane::byte_data`](crate::plane::Plane::byte_data), drawn from these sides in turn.
+    /// [`Plane::byte_data`](crate::plane::Plane::byte_data), whose items are taken from these sides in turn.
     ByteData {
         /// The plane.
         plane: usize,
         /// The sides. Past the end of the iterator the item is `None`.
         draws: Sequence<Side>,
     },
-    /// [`Plane::rows_mut`](crate::plane::Plane::rows_mut), drawn from these sides in turn: each row as it was is answered,
-    /// and then overwritten.
+    /// [`Plane::rows_mut`](crate::plane::Plane::rows_mut), whose items are taken from these sides in turn: each row as it was
+    /// is answered, and then overwritten.
     RowsMut {
         /// The plane.
         plane: usize,
-        /// The sides, and what each draw writes. Past the end of the iterator the item is `None`, and nothing is written.
+        /// The sides, and what to write into each item. Past the end of the iterator the item is `None`, and nothing is
+        /// written.
         draws: Sequence<RowDraw<T>>,
     },
-    /// [`Plane::pixels_mut`](crate::plane::Plane::pixels_mut), drawn from these sides in turn: each pixel as it was is
-    /// answered, and then replaced.
+    /// [`Plane::pixels_mut`](crate::plane::Plane::pixels_mut), whose items are taken from these sides in turn: each pixel as it
+    /// was is answered, and then replaced.
     PixelsMut {
         /// The plane.
         plane: usize,
-        /// The sides, and what each draw writes. Past the end of the iterator the item is `None`, and nothing is written.
+        /// The sides, and what to write into each item. Past the end of the iterator the item is `None`, and nothing is
+        /// written.
         draws: Sequence<PixelDraw<T>>,
     },
 }

@@ -1,8 +1,8 @@
-//! Draws from an iterator: from which side, what one writes, and what one gave.
+//! Calls of `next` and `next_back` as values: from which side, what to write into the item, and what the call gave.
 
 use super::sequence::Sequence;
 
-/// The side that an iterator is drawn from. Our own.
+/// The side of an iterator that an item is taken from. Our own.
 #[derive(Debug, Clone, Copy, PartialEq, Eq)]
 pub enum Side {
     /// `next`.
@@ -11,42 +11,42 @@ pub enum Side {
     Back,
 }
 
-/// A draw of a row that is then overwritten. Our own.
+/// A call of `next` or `next_back` that gives a row for writing, which is then overwritten. Our own.
 #[derive(Debug, PartialEq, Eq, Drop)]
 pub struct RowDraw<T> {
-    /// The side that the row is drawn from.
+    /// The side that the row is taken from.
     pub side: Side,
     /// What to write into the row, from the left. `None` leaves a pixel, and so does a list that ends before it. Entries
     /// past the width are ignored.
     pub writes: Sequence<Option<T>>,
 }
 
-/// A draw of a pixel that is then replaced. Our own.
+/// A call of `next` or `next_back` that gives a pixel for writing, which is then replaced. Our own.
 #[derive(Debug, PartialEq, Eq, Drop)]
 pub struct PixelDraw<T> {
-    /// The side that the pixel is drawn from.
+    /// The side that the pixel is taken from.
     pub side: Side,
     /// The new pixel. `None` leaves the pixel as it is.
     pub value: Option<T>,
 }
 
-/// What one draw gave. Our own.
+/// What one call of `next` or `next_back` gave. Our own.
 #[derive(Debug, PartialEq, Eq, Drop)]
 pub struct Drawn<I> {
     /// The item. `None` past the end of the iterator.
     pub item: Option<I>,
-    /// How many items are left after the draw.
+    /// How many items are left after the call.
     pub left: usize,
 }
 
-/// A draw of a list of draws, whatever it writes.
+/// One of a list of calls of `next` and `next_back`, whatever it writes.
 pub(crate) trait Draw {
     ghost use Rattle.std.specs.Prelude.{◌≡◌};
     ghost use Rattle.v_frame.specs.declared.replay.draw.Side.{Side};
 
     ghost side_of: { Self → Side };
 
-    /// The side that it draws from.
+    /// The side that it takes an item from.
     fn side(&self) -> Side
         ensures { result ≡ side_of self.now };
 }

@@ -1,13 +1,12 @@
-//! The kinds of call that write pixels: one by its column and row, or those that draws take.
+//! The kinds of call that write pixels: one by its column and row, or those that an iterator gives.
 ghost use Rattle.std.specs.Prelude.{◌≡◌, [], ◌∷◌, length, map, IfOk, OnOk, OnErr};
 ghost use Rattle.v_frame_layout.specs.Table.{pixel_at, row_major, with_pixel};
 ghost use Rattle.v_frame_plane.specs.Plane.{KeepsBorder, table_of};
 ghost use Rattle.std.specs.Borrow.{sem};
-ghost use Rattle.std.specs.Option.{option_copied_mut};
 ghost use Rattle.v_frame_plane.specs.PixelsLeft.{pixels_left};
-ghost use Rattle.v_frame.specs.DrawnItems.{LendsPixelFrom, PutsPixelsBack};
+ghost use Rattle.v_frame.specs.DrawnItems.{PutsPixelsBack};
 ghost use Rattle.v_frame.specs.Replay.{answer_of_pixel};
-ghost use Rattle.v_frame.specs.Walk.{draws_answer, item_from, left_by, pixel_written, side_of_pixel, pixels_written};
+ghost use Rattle.v_frame.specs.Walk.{draws_answer, left_by, pixel_written, side_of_pixel, pixels_written};
 ghost use Rattle.v_frame.specs.declared.replay.answer.Answer.TheVariants.{PixelsWalked};
 
 use super::answer::Answer;
@@ -35,7 +34,7 @@ pub(crate) fn replay_pixel_mut<T: Pixel>(
     Answer::PixelShown(mem::replace(plane.visible_pixel_mut(x, y), value))
 }
 
-/// Replaces the pixels that these draws take, once there is room for what they were.
+/// Replaces the pixels that `draws` take, once there is room for what they were.
 pub(crate) fn replay_pixels_mut<T: Pixel>(
     alloc: Global,
     plane: &mut Plane<T>,
@@ -52,7 +51,7 @@ pub(crate) fn replay_pixels_mut<T: Pixel>(
     Ok(answer)
 }
 
-/// Replaces the pixels that these draws take. A draw past the last pixel writes nothing.
+/// Replaces the pixels that `draws` take. Past the last pixel nothing is written.
 fn write_pixels<T: Copy>(plane: &mut Plane<T>, draws: &[PixelDraw<T>])
     ensures table { table_of plane.new ≡ pixels_written (table_of plane.old) draws.now }
     ensures border { KeepsBorder plane.old plane.new }
@@ -63,33 +62,25 @@ fn write_pixels<T: Copy>(plane: &mut Plane<T>, draws: &[PixelDraw<T>])
     }
 }
 
-/// One draw, and the write where it gives a pixel.
+/// One call of `next` or `next_back`, and the write where it gives a pixel.
 fn write_pixel<T: Copy>(walk: &mut PixelsMut<'_, T>, draw: &PixelDraw<T>)
     ensures* leaves { sem 𝓛 (PutsPixelsBack T.row (draw.now ∷ []) walk.old walk.new) }
     ensures left { pixels_left walk.new ≡ left_by draw.now.side (pixels_left walk.old) }
 {
-    if let Some(pixel) = draw_pixel(walk, draw.side()) {
+    let pixel = match draw.side() {
+        Side::Front => walk.next(),
+        Side::Back => walk.next_back(),
+    };
+    if let Some(pixel) = pixel {
         replace_by(pixel, draw);
     }
 }
 
-/// Writes what a draw writes into a pixel.
+/// Replaces a pixel by the value of `draw`, where it has one.
 fn replace_by<T: Copy>(pixel: &mut T, draw: &PixelDraw<T>)
     ensures { pixel.new ≡ pixel_written draw.now pixel.old }
 {
     if let Some(value) = draw.value {
         *pixel = value;
-    }
-}
-
-/// One draw, from this side.
-pub(crate) fn draw_pixel<'a, T>(walk: &mut PixelsMut<'a, T>, side: Side) -> Option<&'a mut T>
-    ensures* leaves { sem 𝓛 (LendsPixelFrom T.row side walk.old result walk.new) }
-    ensures item { option_copied_mut result ≡ item_from side (pixels_left walk.old) }
-    ensures left { pixels_left walk.new ≡ left_by side (pixels_left walk.old) }
-{
-    match side {
-        Side::Front => walk.next(),
-        Side::Back => walk.next_back(),
     }
 }

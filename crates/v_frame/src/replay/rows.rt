@@ -1,12 +1,11 @@
-//! The kinds of call that write rows: one by its number, or those that draws take.
+//! The kinds of call that write rows: one by its number, or those that an iterator gives.
 ghost use Rattle.std.specs.Prelude.{◌≡◌, [], ◌∷◌, length, map, slice_get, IfOk, OnOk, OnErr};
 ghost use Rattle.v_frame_layout.specs.Table.{overwritten_row, with_writes};
 ghost use Rattle.v_frame_plane.specs.Plane.{KeepsBorder, table_of};
 ghost use Rattle.std.specs.Borrow.{sem};
-ghost use Rattle.std.specs.Option.{option_copied_mut};
 ghost use Rattle.v_frame_plane.specs.RowsLeft.{rows_left};
-ghost use Rattle.v_frame.specs.DrawnItems.{LendsRowFrom, PutsRowsBack};
-ghost use Rattle.v_frame.specs.Walk.{draws_answer, item_from, left_by, row_written, side_of_row, rows_written};
+ghost use Rattle.v_frame.specs.DrawnItems.{PutsRowsBack};
+ghost use Rattle.v_frame.specs.Walk.{draws_answer, left_by, row_written, side_of_row, rows_written};
 ghost use Rattle.v_frame.specs.declared.replay.answer.Answer.TheVariants.{RowShown, RowsWalked};
 
 use super::answer::Answer;
@@ -45,17 +44,17 @@ fn overwrite_row<T: Copy>(plane: &mut Plane<T>, y: usize, writes: &[Option<T>])
     }
 }
 
-/// Writes those pixels that are there into a row. Those past its end are ignored.
+/// Writes those entries that have a pixel into a row. Entries past its end are ignored.
 fn overwrite<T: Copy>(row: &mut [T], writes: &[Option<T>])
     ensures { row.new ≡ overwritten_row row.old writes.now }
 {
     for i in 0..row.len().min(writes.len()) {
-        // A store at each place, and no branch: so several pixels are written at once.
+        // A store at each index, and no branch: so several pixels are written at once.
         row[i] = writes[i].unwrap_or(row[i]);
     }
 }
 
-/// Overwrites the rows that these draws take, once there is room for what they were.
+/// Overwrites the rows that `draws` take, once there is room for what they were.
 pub(crate) fn replay_rows_mut<T: Pixel>(
     alloc: Global,
     plane: &mut Plane<T>,
@@ -72,7 +71,7 @@ pub(crate) fn replay_rows_mut<T: Pixel>(
     Ok(answer)
 }
 
-/// Overwrites the rows that these draws take. A draw past the last row writes nothing.
+/// Overwrites the rows that `draws` take. Past the last row nothing is written.
 fn write_rows<T: Copy>(plane: &mut Plane<T>, draws: &[RowDraw<T>])
     ensures table { table_of plane.new ≡ rows_written (table_of plane.old) draws.now }
     ensures border { KeepsBorder plane.old plane.new }
@@ -83,31 +82,23 @@ fn write_rows<T: Copy>(plane: &mut Plane<T>, draws: &[RowDraw<T>])
     }
 }
 
-/// One draw, and the write where it gives a row.
+/// One call of `next` or `next_back`, and the write where it gives a row.
 fn write_row<T: Copy>(walk: &mut RowsMut<'_, T>, draw: &RowDraw<T>)
     ensures* leaves { sem 𝓛 (PutsRowsBack T.row (draw.now ∷ []) walk.old walk.new) }
     ensures left { rows_left walk.new ≡ left_by draw.now.side (rows_left walk.old) }
 {
-    if let Some(row) = draw_row(walk, draw.side()) {
+    let row = match draw.side() {
+        Side::Front => walk.next(),
+        Side::Back => walk.next_back(),
+    };
+    if let Some(row) = row {
         overwrite_by(row, draw);
     }
 }
 
-/// Writes what a draw writes into a row.
+/// Overwrites a row by the writes of `draw`.
 fn overwrite_by<T: Copy>(row: &mut [T], draw: &RowDraw<T>)
     ensures { row.new ≡ row_written draw.now row.old }
 {
     overwrite(row, draw.writes.as_slice());
-}
-
-/// One draw, from this side.
-pub(crate) fn draw_row<'a, T>(walk: &mut RowsMut<'a, T>, side: Side) -> Option<&'a mut [T]>
-    ensures* leaves { sem 𝓛 (LendsRowFrom T.row side walk.old result walk.new) }
-    ensures item { option_copied_mut result ≡ item_from side (rows_left walk.old) }
-    ensures left { rows_left walk.new ≡ left_by side (rows_left walk.old) }
-{
-    match side {
-        Side::Front => walk.next(),
-        Side::Back => walk.next_back(),
-    }
 }

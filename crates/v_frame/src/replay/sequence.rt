@@ -11,7 +11,7 @@ use std::marker::Model;
 use std::ops::DerefSlice;
 use std::{fmt, slice};
 
-/// A list that stands in a [`VisibleCall`](super::VisibleCall) or an [`Answer`](super::Answer).
+/// A list in a [`VisibleCall`](super::VisibleCall) or an [`Answer`](super::Answer).
 ///
 /// It is a `Vec` that contracts see as its list, and it reads as a slice does. Neither conversion takes memory. Our own.
 #[derive(Drop)]

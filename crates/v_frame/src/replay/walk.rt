@@ -1,4 +1,4 @@
-//! The kinds of call that draw from the iterators of a plane, in turn from the sides of a list.
+//! The kinds of call that take items from the iterators of a plane, from the sides of a list in turn.
 ghost use Rattle.std.specs.Prelude.{◌≡◌, ℕ, List, length, map, IfOk};
 ghost use Rattle.v_frame.specs.Walk.{item_from, left_by, draws_answer};
 ghost use Rattle.v_frame.specs.declared.replay.answer.Answer.TheVariants.{RowsWalked, PixelsWalked, BytesWalked};
@@ -10,15 +10,14 @@ use crate::pixel::Pixel;
 use crate::plane::{ByteData, Pixels, Rows};
 use std::alloc::{AllocError, Global};
 
-/// An iterator over a plane that is drawn from both ends. What a draw gives stands in an answer, so what the iterator only
-/// lends is copied.
+/// A double-ended iterator over a plane. An answer holds what it gives, so what it only lends is copied.
 pub(crate) trait Walk {
     ghost use Rattle.v_frame.specs.declared.replay.answer.Answer.{Answer};
     ghost use Rattle.v_frame.specs.declared.replay.draw.Drawn.{Drawn};
     ghost use Rattle.std.specs.Prelude.{◌≡◌, ℕ, List, length, IfOk};
     ghost use Rattle.v_frame.specs.Walk.{item_from, left_by};
 
-    /// What stands in an answer for an item.
+    /// What an answer holds for an item.
     type Item;
 
     /// The pixels of the plane.
@@ -27,10 +26,10 @@ pub(crate) trait Walk {
     // The items that are left.
     ghost items: { Self → List Self.Item };
 
-    // The answer of so many items and these draws.
+    // The answer where the iterator began with so many items and gave these.
     ghost answer_of: { ℕ → List (Drawn Self.Item) → Answer Self.Pixel };
 
-    /// One draw.
+    /// The next item from this side, as an answer holds it.
     fn draw(&mut self, alloc: Global, side: Side) -> Result<Option<Self::Item>, AllocError>
         ensures item { IfOk result (λ item. item ≡ item_from side (items self.old)) }
         ensures left { items self.new ≡ left_by side (items self.old) };
@@ -39,7 +38,7 @@ pub(crate) trait Walk {
     fn left(&self) -> usize
         ensures { result ≡ length (items self.now) };
 
-    /// The answer where the iterator began with so many items and was drawn from so.
+    /// The answer where the iterator began with `total` items and gave these.
     fn answer(total: usize, drawn: Sequence<Drawn<Self::Item>>) -> Answer<Self::Pixel>
         ensures { result ≡ answer_of total drawn };
 }
@@ -129,7 +128,7 @@ impl<'a, T: Pixel> Walk for ByteData<'a, T> {
     }
 }
 
-/// The answer of an iterator that is drawn from the sides of these draws in turn.
+/// The answer of an iterator whose items are taken from the sides of `draws` in turn.
 pub(crate) fn walk_answer<W: Walk, D: Draw>(
     alloc: Global,
     walk: &mut W,
@@ -145,7 +144,7 @@ where
     Ok(W::answer(total, drawn.into()))
 }
 
-/// Draws from an iterator, from the sides of these draws in turn.
+/// Takes items from an iterator, from the sides of `draws` in turn.
 pub(crate) fn draw_items<W: Walk, D: Draw>(
     alloc: Global,
     walk: &mut W,

@@ -74,7 +74,7 @@ unsafe impl<T, A: Allocator + Send> Send for Deed<T, A> {}
 // A `&` to it holds nothing.
 unsafe impl<T, A: Allocator> Sync for Deed<T, A> {}
 
-/// Room for `len` entries. Where these take no bytes no memory is asked for.
+/// Room for `len` entries. Where these take no bytes, no memory is requested.
 pub(super) fn take_room<T, A: Allocator>(
     alloc: &A,
     len: usize,
@@ -139,7 +139,7 @@ pub(super) fn give_back<T: Drop, A: Allocator>(
 impl<T> Cells<T> {
     ghost use Rattle.v_frame_plane.specs.BlockLends.{LendsItems};
 
-    /// Writes an entry at the next place.
+    /// Writes the entry at index `place`, behind those that were written.
     pub(super) fn write_next(&mut self, base: Base<T>, place: usize, entry: T)
         requires { (base.ptr ≡ self.old.at) × (length self.old.items ≡ place) × (0 < self.old.spare) }
         ensures items { (self.new.at ≡ self.old.at) × (self.new.items ≡ self.old.items ++ entry ∷ []) }

@@ -8,7 +8,7 @@ use std::alloc::{AllocError, Global};
 use std::marker::Model;
 use std_alloc::room::may_hold;
 
-/// A block that is being filled, from the first place on. Given up early, it drops what was written, and gives the memory
+/// A block that is being filled, from index 0 on. Where it is dropped early, it drops what was written and gives the memory
 /// back.
 pub(super) struct Filling<T> {
     base: Base<T>,
@@ -62,7 +62,7 @@ impl<T> Filling<T> {
         self.written += 1;
     }
 
-    /// The buffer, where every entry is written.
+    /// The buffer, once every entry is written.
     pub(super) fn finish(self) -> AlignedData<T>
         requires { self.spare ≡ 0 }
         ensures { result ≡ self.items }

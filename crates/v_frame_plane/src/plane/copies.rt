@@ -55,16 +55,16 @@ impl<T: Pixel> Plane<T> {
         self.copy_from_u8_slice_with_stride(src, stride)
     }
 
-    /// Replaces the visible pixels by those of a source with a stride: the bytes of row `y` stand from `stride * y` on,
-    /// low byte first. What stands behind them, up to the next row, is not read. The border stays.
+    /// Replaces the visible pixels by those of a source with a stride: the bytes of row `y` begin at index `stride * y`, low
+    /// byte first. The bytes between its end and the next row are not read. The border stays.
     ///
     /// The stride is in bytes. Ports `Plane::copy_from_u8_slice_with_stride` of `v_frame` 0.7.0.
     ///
     /// # Errors
     ///
     /// [`CopyError::InvalidStride`] where the stride holds no row; else [`CopyError::DataLength`] where `src` has another
-    /// length than a stride for each row, the last one too. A length that no `usize` holds is told as `usize::MAX`. Then
-    /// nothing is written.
+    /// length than a stride for each row, the last one too. Where no `usize` holds the expected length, the error has
+    /// `usize::MAX`. Then nothing is written.
     pub fn copy_from_u8_slice_with_stride(
         &mut self,
         src: &[u8],

@@ -1,4 +1,4 @@
-//! Planes that are filled entry by entry: each place holds a value or none.
+//! Planes that are filled entry by entry: each entry holds a value or none.
 ghost use Rattle.std.specs.Prelude.{◌≡◌, ◌↔◌, None, IsTrue, IfOk, IfErr};
 ghost use Rattle.v_frame_layout.specs.Geometry.{Fits};
 ghost use Rattle.v_frame_plane.specs.Plane.{IsFull, options_of, filled};
@@ -8,7 +8,7 @@ use crate::aligned::AlignedData;
 use std::alloc::{AllocError, Global};
 
 impl<T> Plane<T> {
-    /// A plane with `None` at every place, to be filled through [`data_mut`](Self::data_mut).
+    /// A plane whose entries are all `None`, to be filled through [`data_mut`](Self::data_mut).
     ///
     /// The [`checked_alloc_size`](PlaneGeometry::checked_alloc_size) of the geometry has to be `Some`.
     ///
@@ -30,7 +30,7 @@ impl<T> Plane<T> {
 }
 
 impl<T> Plane<Option<T>> {
-    /// Whether every place holds a value, in the border too. Our own.
+    /// Whether every entry holds a value, in the border too. Our own.
     pub fn is_init(&self) -> bool
         ensures { IsTrue result ↔ IsFull self.now }
     {
@@ -39,13 +39,13 @@ impl<T> Plane<Option<T>> {
 }
 
 impl<T: Drop> Plane<Option<T>> {
-    /// The plane of the values. [`is_init`](Self::is_init) has to be true: each place holds one.
+    /// The plane of the values. [`is_init`](Self::is_init) has to be true.
     ///
     /// Ports `Plane::assume_init` of `v_frame` 0.7.0, which asks the same of its callers and takes no second buffer.
     ///
     /// # Errors
     ///
-    /// The plane of options as it was, each value in its place, where the request for the second buffer's memory was refused.
+    /// The plane of options as it was, each value where it was, where the request for the second buffer's memory was refused.
     pub fn assume_init(self, alloc: Global) -> Result<Plane<T>, Self>
         requires { IsFull self }
         ensures values { IfOk result (λ plane. options_of plane ≡ self) }

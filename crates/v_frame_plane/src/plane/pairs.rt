@@ -12,8 +12,8 @@ use crate::place::row_start;
 /// The visible pixels of row `y` for writing, and the entries of the buffer behind them.
 ///
 /// `buffer` is the whole buffer of a plane of this geometry, as for [`visible_rows_mut`]. Where the row alone is written, a
-/// caller's proof knows all that [`Plane::visible_row_mut`](super::Plane::visible_row_mut) tells; the rest stands beside it
-/// since the toolchain follows no loan of a slice from a slice, but one of two. Our own.
+/// caller's proof knows all that [`Plane::visible_row_mut`](super::Plane::visible_row_mut) promises. The rest is lent beside it
+/// since the toolchain follows no loan of one slice from a slice, but a loan of two. Our own.
 pub fn split_row_mut<T>(buffer: &mut [T], geometry: PlaneGeometry, y: usize) -> (&mut [T], &mut [T])
     requires whole { IsWhole geometry buffer.old }
     requires high { y < geometry.height }
@@ -33,7 +33,7 @@ pub fn split_row_mut<T>(buffer: &mut [T], geometry: PlaneGeometry, y: usize) -> 
 /// The visible pixels of rows `y` and `z` for writing, the first above the second.
 ///
 /// `buffer` is the whole buffer of a plane of this geometry: `visible_rows_mut(plane.data_mut(), geometry, y, z)`, where
-/// `geometry` was read before. A caller's proof follows what is written through both rows. Our own.
+/// `geometry` was read before. A caller's automatic proof knows what is written through both rows. Our own.
 pub fn visible_rows_mut<T>(
     buffer: &mut [T],
     geometry: PlaneGeometry,

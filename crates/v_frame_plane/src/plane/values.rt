@@ -1,4 +1,4 @@
-//! Planes as values: copies of them, when they are equal, and how they are shown to a programmer.
+//! Planes as values: clones, equality and debug texts.
 ghost use Rattle.std.specs.Prelude.{◌≡◌, IfOk};
 
 use super::Plane;

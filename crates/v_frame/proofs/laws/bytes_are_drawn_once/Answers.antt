@@ -1,4 +1,4 @@
--- Draws that are told by counts give each item once.
+-- Calls that are told by counts give each item once.
 use Rattle.std.proofs.lemmas.Result.{IfOk-weaker}
 use Rattle.v_frame_plane.specs.Plane.{table_of}
 use Rattle.v_frame_layout.specs.Pixel.{byte_list}

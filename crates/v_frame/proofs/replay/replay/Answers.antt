@@ -18,14 +18,19 @@ loop-call-preserved g c =
     let so_far = c.loop-call.invariant in
     let did = c.in-Ok-replay_call.ensures in
     record {
-      answers = rw c.unwrap.ensures at c.push.ensures.items ∙ ap (λ (done : List (Answer g.row.T.Denot)). done ++ c.in-Ok-replay_call.answer ∷ []) so_far.answers ∙ ap (λ a. answers_to form (take i calls) (tables_of c.args.frame.now) ++ a ∷ []) (did.answer ∙ ap (λ t. (reply_to form call t).answer) so_far.tables) ∙ sym (answers_more form calls i call within c.call-item.is (tables_of c.args.frame.now));
-      tables = did.tables ∙ ap (λ t. (reply_to form call t).tables) so_far.tables ∙ sym (tables_more form calls i call within c.call-item.is (tables_of c.args.frame.now));
+      answers = rw c.unwrap.ensures at c.push.ensures.items ∙ ap (λ (done : List (Answer g.row.T.Denot)). done ++ c.in-Ok-replay_call.answer ∷
+          []) so_far.answers ∙ ap (λ a. answers_to form (take i calls) (tables_of c.args.frame.now) ++ a ∷ []) (did.answer ∙
+          ap (λ t. (reply_to form call t).answer) so_far.tables) ∙ sym (answers_more form calls i call within c.call-item.is (tables_of c.args.frame.now));
+      tables = did.tables ∙ ap (λ t. (reply_to form call t).tables) so_far.tables ∙
+          sym (tables_more form calls i call within c.call-item.is (tables_of c.args.frame.now));
       border = keeps_border_twice c.args.frame.now c.loop-call.frame c.replay_call.new.frame so_far.border did.border;
-      unwritten = λ index none. did.unwritten index (λ h. none (written_now calls i call within c.call-item.is index h)) ∙ so_far.unwritten index (λ h. none (written_before calls i call within c.call-item.is index h));
+      unwritten = λ index none. did.unwritten index (λ h. none (written_now calls i call within c.call-item.is index h)) ∙
+          so_far.unwritten index (λ h. none (written_before calls i call within c.call-item.is index h));
       done = omega (arith, rw c.unwrap.ensures at c.push.ensures.len, so_far.done);
       room = omega (arith, so_far.room, c.push.ensures.capacity);
     }
 
 pub returns-in-Err-replay_call-clause-unwritten : goal.returns-in-Err-replay_call-clause-unwritten
 returns-in-Err-replay_call-clause-unwritten g c = λ index none.
-    ap (λ (f : Frame g.row.T.Denot). plane_at f index) c.in-Err-replay_call.ensures.err ∙ c.loop-call.invariant.unwritten index (λ h. none (written_in_front c.args.calls.now c.loop-call.call-index index h))
+    ap (λ (f : Frame g.row.T.Denot). plane_at f index) c.in-Err-replay_call.ensures.err ∙
+    c.loop-call.invariant.unwritten index (λ h. none (written_in_front c.args.calls.now c.loop-call.call-index index h))

@@ -1,43 +1,31 @@
--- `fill_last_row` lends its plane to a walk, draws a row from its end, fills it, and lets the walk go. What a plane ends as, of which such a row was lent, no generated proof follows, so this one follows the code.
-use Rattle.v_frame_plane.proofs.Steps.{ℕ, ◌≡◌, ◌-◌, ◌^◌, ◌<◌, List, [], ◌∷◌, ◌++◌, length, Option, MutBor, Lft, lit<, refl, sym, ap, ◌∙◌, proved, after, ⊤, MakesProgress, YieldsLastMut, item_count, flft, ftrue, fat, full_share, emp, id⊢, ◌⊑◌, fact, fact_i, tables, param, MutRef, NamedLft, mut_vals, mut_Tells, plain, heard, nothing, only, shows, Lasts, lasts, triple_of, framed, Stays, stay_ref, Goes-ref, walk_of, ends_at, calls_at, inst_fn, a_type, named, SProp, Val, alloc_all, env, free_all, get, get_in, lands_as, look_at, look_in_at, pass_all, sets, through, ‵, raw, ◌⊛◌, some, later, at_ret, prop, ◌$◌, ◌∵◌, !, qed, await, done, drop, feq_i, feq_l, fsplit, fjoin, frame, join, keep, move, peeks, pick, rewrite, split, split3, suffices, use0, use1, use2, use3, whole, sub, agg, addr, and_then, enter, exec, first, fld, from, hop, no_more, of_opd, returns, skips, stop}
+-- `fill_last_row` lends its plane to an iterator, draws a row from its end, fills it, and drops the iterator. What a plane ends as, of which such a row was
+-- lent, no generated proof follows, so this one follows the code.
+use Rattle.v_frame.proofs.Steps.{Goes-dropped, Goes-ref, List, MakesProgress, MutBor, MutRef, NamedLft, Option, SProp, Sq, Stays, Val, Wp, YieldsLastMut}
+use Rattle.v_frame.proofs.Steps.{a_type, addr, after, after_seq, agg, alloc_all, and_then, any_q, ap, arm_body, at_ret, bounded, copied, dcons, dnil, drop}
+use Rattle.v_frame.proofs.Steps.{enter, env, exec, fact, feq_i, feq_l, finally-res, first, fld, flft, framed, free_all, from, fsplit, get, get_in, get_tag}
+use Rattle.v_frame.proofs.Steps.{give_at, head, heard, hop, id⊢, in_variant, inst_fn, item_count, keep, lands_as, lands_last, length, length-replicate, lit<}
+use Rattle.v_frame.proofs.Steps.{look_at, look_in_at, map, meet_⊑_right, move, mut_Tells, mut_vals, named, no, no_more, nothing, of_opd, only, param}
+use Rattle.v_frame.proofs.Steps.{param_laws, pass_all, plain, post, prop, proved, raw, refl, replicate, returns, rewrite, sets, skips, slice_set, spot_of}
+use Rattle.v_frame.proofs.Steps.{stay_dropped, stay_ref, stop, sub, subst, switches_on, sym, tables, take_at, through, unit_lit, use1, use2, use3, vptr, vrt}
+use Rattle.v_frame.proofs.Steps.{vunit, walk_of, whole, !, [], ‵, ⊑_trans, ⊤, ◌$◌, ◌++◌, ◌-◌, ◌∙◌, ◌∷◌, ◌≡◌, ◌⊑◌}
 use base.Share
-use contract.BorrowLft.{meet_⊑_right}
-use denote.Builtin.{unit}
-use denote.Exit.{no}
-use denote.FollowSlice.{finally-res}
-use denote.Lend.{LentAgain, lends_again}
-use denote.Param.{bounded, copied}
-use denote.Param.Laws.{param_laws}
-use denote.Triple.Call.{calls_at_last}
-use denote.Triple.Walked.{stay_dropped, Goes-dropped}
-use lib.Dec
-use mir.Syntax.{dcons, dnil, ty_unit}
-use mir.Val.{WT, has_ty, vunit}
-use prog.Wp.{Wp, after_seq}
-use types.ByLocal.{get_tag, give_at, lands_last, take_at}
-use types.Kit.{Sq, any_q, post}
-use types.Match.{in_variant, vrt}
-use types.Run.{switches_on, unit_lit}
-use Rattle.std.proofs.Common.{All, map, replicate, slice_set, subst}
-use Rattle.std.proofs.lemmas.List.{length-replicate}
-use Rattle.std.proofs.alloc.Shapes.{head, arm_body}
-use Rattle.v_frame.specs.Prelude.{EndsAs, KeepsBorder, LendsBuffer, LendsLastRow, Raster, RowsMut, SecondRows, WritesEachTable, entries_with, rows_left, rows_slice, table_of, with_entries}
-use Rattle.v_frame_plane.specs.Cursor.{PixelsAreCountable}
-use Rattle.v_frame_plane.specs.RowsLeft.{LendsRowsInOrder, LendsRowsInReverse}
+use Rattle.v_frame.specs.Prelude.{EndsAs, LendsBuffer, LendsLastRow, SecondRows, entries_with, rows_left, rows_slice, table_of, with_entries}
+use Rattle.v_frame.proofs.CallSteps.{asks_that, calls, calls_last, ends, opened, spelt, tells, told, unit_fits}
+use Rattle.v_frame.proofs.Lending.{RowsBegin, lends_plane, lends_walk, rows_back, rows_begin, walk_back}
 use Rattle.v_frame_plane.specs.contracts.plane.Plane as planes
 use Rattle.v_frame_plane.specs.contracts.plane.Plane.rows_mut
 use Rattle.v_frame_plane.specs.contracts.rows_mut.RowsMut as walks
 use Rattle.v_frame_plane.specs.contracts.rows_mut.RowsMut.next_back
-use Rattle.v_frame_plane.proofs.Loans.{lft_within, share_within}
-use Rattle.v_frame_plane.proofs.RowCalls.{Draw, asked, by_row, draws, drew}
-use Rattle.v_frame_plane.proofs.RowLoans.{rows_let_go}
-use Rattle.v_frame_plane.proofs.RowMemory.{Bare, Named, bare, lowered, numbers, slice_of}
+use Rattle.v_frame_plane.proofs.lent.Loans.{share_within}
+use Rattle.v_frame_plane.proofs.lent.RowCalls.{by_row}
+use Rattle.v_frame_plane.proofs.lent.RowLoans.{rows_dropped}
+use Rattle.v_frame_plane.proofs.lent.RowMemory.{lowered, slice_of}
 use Rattle.v_frame_plane.proofs.plane.Plane.rows_mut.Met as rows_mut_met
 use Rattle.v_frame_plane.proofs.rows_mut.RowsMut.TheLaws as walk_laws
 use Rattle.v_frame_plane.proofs.rows_mut.RowsMut.next_back.Met as next_back_met
 use Rattle.v_frame_held.specs.contracts.held_rows.fill
 use Rattle.v_frame_held.specs.contracts.held_rows.fill_last_row as f
-use Rattle.v_frame_held.proofs.HeldRows.{as_long, last_as_long, last_set, none_set, plane_back, took_last_row, took_no_row}
+use Rattle.v_frame_held.proofs.HeldRows.{as_long, last_as_long, last_set, none_set, took_last_row, took_no_row}
 use Rattle.v_frame_held.proofs.held_rows.fill.Met as fill_met
 use Rattle.v_frame_held.proofs.held_rows.fill_last_row.Statement.{statement}
 use Rattle.v_frame_held.proofs.held_rows.fill_last_row.Code as code
@@ -55,79 +43,94 @@ fill_last_row_spec 𝓤 𝓛 𝓜 𝓡 wired T laws copy clone dict met =
     let Plane = planes.the_row item in let plane = a.0 in let value = a.1.0 in let b = plane.ref_ptr.0 in let o = plane.ref_ptr.1 in
     let table = table_of plane.now in let filled = replicate plane.now.geometry.width value in let last = slice_set table (length table - 1) filled in
     let y : W.Ghost = ((κs, qs, bounds, a, (mut_vals plane, (val value, tt))), g) in let Post : Val → SProp 𝓤 = W.post y in
-    let Ref = λ (κ' : Lft) (p : MutBor (Raster T.Denot)). (MutRef (named 0) κ' Plane).own_val p (mut_vals plane) in let Value = item.own_val value (val value) in
     let fits = (((param_laws 0 T laws).lawful 𝓛).typed value (val value) are.1.0).0 in
-    let Lends = triple_of 𝓛 (rows_mut.signature T) (rows_mut.spec T 𝓛 𝓜.mem 𝓡.returns) in let Fills = triple_of 𝓛 (fill.signature T) (fill.spec T clone dict 𝓛 𝓜.mem 𝓡.returns) in
-    qed 𝓛 (((‵ (flft κ q) ⊛ ‵ (flft κT qT) ⊛ ‵ ftrue) ⊛ ‵ (Ref κ plane) ⊛ ‵ Value ⊛ ‵ ftrue) ∷ (raw (fact 𝓤 (κT ⊑ T.lives)) ⊛ ‵ ftrue) ∷ []) ∵
-    move ! (1 ∷ []) $ split ! $ heard ! _ (λ inT. drop ! $ split ! $ split3 ! $ move ! (3 ∷ []) $ split3 ! $ keep ! (0 ∷ 3 ∷ 4 ∷ 1 ∷ []) $
+    opened 𝓛 ended.signature κs qs a (mut_vals plane, (val value, tt)) (κT ⊑ T.lives) (λ inT.
+    -- [the tokens of κ and κT; the plane; the value]
     enter ! _ _ _ _ _ $ alloc_all ! (λ l. pass_all ! refl ((tt, tt), (fits, tt)) $ let En = env function.locals l in
-    sets ! (addr ! (through ! refl (stop !))) refl (tt, tt) $
-    -- the plane is lent for the lifetime of the walk: [the plane; the tokens of κ and κT; the value; the locals]
-    move ! (2 ∷ []) $ use1 𝓛 (‵ (flft κT (Share.left qT)) ⊛ ‵ (flft κT (Share.right qT))) (𝓛.lfts.lft_split κT qT) $ split ! $ lft_within ! tt κT (Share.left qT) (λ α.
+    sets ! (addr ! (through ! refl (stop !))) refl (tt, tt) $ move ! (2 ∷ 0 ∷ 1 ∷ []) $ lends_plane ! tt T κ κT q qT plane (λ α δ.
     let κw = α ∷ κT in let qw = share_within (Share.left qT) in let rT = Share.right qT in let inside = meet_⊑_right (α ∷ []) κT in
-    move ! (3 ∷ 4 ∷ []) $ use2 𝓛 (later (some (λ (δ : ℕ). ‵ (Ref κw (record plane { ghost_name = δ })) ⊛ ‵ (LentAgain Plane κ κw q plane.ghost_name b o δ plane.now))))
-    (lends_again 𝓛 Plane (named 0) κ κw q plane.ghost_name b o (named 0) plane.now) $ await ! tt $ pick ! (λ δ. split ! $ let loan = record plane { ghost_name = δ } in
-    let lent : Lends.Ghost = (((κw, (κT, tt)), (qw, (rT, tt)), (inside, tt), (loan, tt), (mut_vals plane, tt)), tt) in
-    nothing ! $ move ! (1 ∷ 0 ∷ []) $ join ! $ nothing ! $ move ! (5 ∷ 0 ∷ []) $ join ! $ move ! (3 ∷ 0 ∷ []) $ join ! $ join ! $
-    nothing ! $ use0 𝓛 (raw (fact 𝓤 (κT ⊑ T.lives))) (fact_i 𝓤 _ (emp 𝓤) inT) $ join ! $ move ! (1 ∷ 0 ∷ []) $ join ! $ use1 𝓛 (raw (Lends.pre lent)) (id⊢ 𝓤 _) $
-    calls_at ! run Lends (rows_mut_met.met 𝓤 𝓛 𝓜 𝓡 (code.calls-v_frame_plane::plane::Plane::rows_mut 𝓡.env wired) T laws) lent (and_then ! (get ! refl) (no_more !)) (λ v.
-    let ℓ : NamedLft = record { mir = named 1; lft = κw } in let Walk = walks.the_row ℓ item in let spelled = (walk_laws.lowers ℓ item (param_laws 0 T laws)).val_is in
-    use1 𝓛 (later (some (λ (w : RowsMut T.Denot). ((‵ (flft κw qw) ⊛ ‵ (flft κT rT) ⊛ ‵ ftrue) ⊛ ‵ (Walk.own_val w (v ∷ []))) ⊛
-    some (λ (ws : Lasts (rows_mut.ended T) lent.0.0 lent.0.3). ‵ (lasts (rows_mut.ended T) lent.0.0 lent.0.3 ws) ⊛ ‵ (LendsBuffer item loan (rows_slice w)) ⊛ raw (fact 𝓤 ((rows_slice w).now ≡ plane.now.buffer)) ⊛ raw (fact 𝓤 (rows_left w ≡ table_of plane.now)) ⊛ raw (fact 𝓤 (WritesEachTable plane.now w)) ⊛
-    raw (fact 𝓤 (All (λ row. length row ≡ plane.now.geometry.width) (rows_left w))) ⊛ raw (fact 𝓤 (PixelsAreCountable [] (rows_left w) [])) ⊛ raw (fact 𝓤 (length (rows_left w) < 2 ^ 63)) ⊛ raw (fact 𝓤 (LendsRowsInOrder T.Denot)) ⊛ raw (fact 𝓤 (LendsRowsInReverse T.Denot)))))) (id⊢ 𝓤 _) $
-    await ! tt $ pick ! (λ w. split ! $ split ! $ split3 ! $ move ! (3 ∷ []) $ peeks ! Walk _ (shows 𝓛 Walk) w (v ∷ []) (λ is. rewrite ! 0 (λ (us : List Val). ‵ (Walk.own_val w us)) (spelled w (v ∷ []) is) refl $
-    peeks ! Walk _ (shows 𝓛 Walk) w (lowered w ∷ []) (λ its. let typed = ((walk_laws.the_row_laws ℓ item (param_laws 0 T laws)).lawful 𝓛).typed w (lowered w ∷ []) its in
-    lands_as ! (ap only (spelled w (v ∷ []) is)) refl typed.0 $ sets ! (of_opd ! (get ! refl)) refl typed.0 $
-    move ! (4 ∷ []) $ pick ! (λ ws. split3 ! $ drop ! $ move ! (1 ∷ []) $ split ! $ drop ! $ split ! $ heard ! _ (λ shown. split ! $ heard ! _ (λ written. split ! $ heard ! _ (λ wide. drop ! $
-    -- [how the plane ends; the walk; the tokens of κw and κT; nothing; the plane's lender; the way back to the token of κT; the value; the locals]. A row is drawn
-    let d = next_back.clauses T 𝓛 𝓜.mem 𝓡.returns in let meets = next_back_met.met 𝓤 𝓛 𝓜 𝓡 (code.calls-v_frame_plane::rows_mut::RowsMut::next_back 𝓡.env wired) T laws in
+    let loan = record plane { ghost_name = δ } in
+    -- [the plane, lent; the tokens of κw and κT; its lender; the way back; the value; the locals]
+    calls ! (1 ∷ 2 ∷ 0 ∷ []) run (rows_mut.ended T) (rows_mut.clauses T 𝓛 𝓜.mem 𝓡.returns)
+    (rows_mut_met.met 𝓤 𝓛 𝓜 𝓡 (code.calls-v_frame_plane::plane::Plane::rows_mut 𝓡.env wired) T laws)
+    (((κw, (κT, tt)), (qw, (rT, tt)), (inside, tt), (loan, tt), (mut_vals plane, tt)), tt) (asks_that 𝓤 inT) refl (and_then ! (get ! refl) (no_more !))
+    (λ w ws. ‵ (LendsBuffer item loan (rows_slice w)) ∷ raw (fact 𝓤 (RowsBegin plane.now w)) ∷ []) (λ w ws. rows_begin 𝓛 T loan w) (λ v w ws.
+    let ℓ : NamedLft = record { mir = named 1; lft = κw } in let Walk = walks.the_row ℓ item in
+    let spelled = (walk_laws.lowers ℓ item (param_laws 0 T laws)).val_is in
+    spelt ! Walk lowered spelled w v (λ e is. let typed = ((walk_laws.the_row_laws ℓ item (param_laws 0 T laws)).lawful 𝓛).typed w (lowered w ∷ []) is in
+    lands_as ! e refl typed.0 $ sets ! (of_opd ! (get ! refl)) refl typed.0 $ move ! (2 ∷ 5 ∷ []) $ heard ! _ (λ begun. drop ! $
+    -- [the iterator; how the plane ends; the tokens of κw and κT; the plane's lender; the way back; the value; the locals]. A row is drawn
+    let τ = (spot_of 𝓤 𝓛.H En 3).0 in
+    sets ! (addr ! (from ! (stop !))) refl (tt, tt) $ take_at ! 3 $ move ! (0 ∷ 1 ∷ 3 ∷ []) $
+    lends_walk ! tt Walk refl τ refl κw qw w (l 3) 0 (lowered w) (λ β γ.
+    let κc = β ∷ κw in let inw = meet_⊑_right (β ∷ []) κw in
+    -- [the iterator, lent; the tokens of κc and κw; its lender; the way back; how the plane ends; the token of κT; the plane's lender; the way back; the value]
+    calls ! (1 ∷ 2 ∷ 6 ∷ 0 ∷ []) run (next_back.ended T) (next_back.clauses T 𝓛 𝓜.mem 𝓡.returns)
+    (next_back_met.met 𝓤 𝓛 𝓜 𝓡 (code.calls-v_frame_plane::rows_mut::RowsMut::next_back 𝓡.env wired) T laws) (
+      (
+        (κc, (κw, (κT, tt))),
+        (share_within (Share.left qw), (Share.right qw, (rT, tt))),
+        (inw, (⊑_trans κc κw κT inw inside, (inside, tt))),
+        (record { ref_ptr = (l 3, 0); ghost_name = γ; now = w }, tt),
+        (vptr (l 3) 0 ∷ [], tt),
+      ),
+      tt,
+    ) (asks_that 𝓤 inT) refl
+    (and_then ! (get ! refl) (no_more !)) (λ r ws. ‵ (LendsLastRow item w r ws.0) ∷ raw (fact 𝓤 (YieldsLastMut rows_left w r ws.0)) ∷
+    raw (fact 𝓤 (MakesProgress (λ _. ⊤) (item_count rows_left) w r ws.0)) ∷ []) (λ r ws. id⊢ 𝓤 _) (λ v₁ r ws. let left = ws.0 in
+    move ! (2 ∷ 3 ∷ []) $ heard ! _ (λ steps. drop ! $
+    -- [the row; what the draw says; the tokens of κc, κw and κT; how the iterator ends; its lender; the way back; how the plane ends; ..]
+    move ! (2 ∷ 3 ∷ 5 ∷ 6 ∷ 7 ∷ []) $ walk_back ! tt Walk refl τ refl κw qw β γ (l 3) 0 left (lowered left) (λ u is. ap only (spelled left (u ∷ []) is)) $
+    give_at ! 3 $ move ! (2 ∷ []) $
+    -- [the row; the iterator; the token of κw; what the draw says; the token of κT; how the plane ends; the plane's lender; the way back; the value; the
+    -- locals]
     let Then = any_q (after_seq 𝓤 𝓛.H (Wp 𝓤 𝓛.H 𝓣.C 𝓣.Λ En (after 6 function.body) (post 𝓤 𝓛.H (at_ret En Post))) (post 𝓤 𝓛.H (at_ret En Post))) in
-    -- how it ends, with these rows as the walk's second list
-    let ends : (rows : List (List T.Denot)) → rows ≡ last → map length rows ≡ map length table → Sq 𝓛 (‵ (flft κT qT) ∷ ‵ (Ref κ (record plane { now = with_entries plane.now (entries_with w rows) })) ∷ ‵ (flft κ q) ∷ []) (prop (Post vunit)) = λ rows are_last long.
-    let told = written rows long in let new = with_entries plane.now (entries_with w rows) in
-    suffices ! _ (ends_at 𝓛 ended stayed c y vunit tt (new, (tt, tt)) (tt, (tt, tt))) $
-    feq_i ! (List Val) (vunit ∷ []) (vunit ∷ []) refl $ nothing ! $ nothing ! $ fjoin ! $ move ! (3 ∷ 0 ∷ []) $ fjoin ! $ join ! $
-    nothing ! $ move ! (2 ∷ 0 ∷ []) $ join ! $ move ! (2 ∷ 0 ∷ []) $ join ! $ join ! $ frame ! $
-    use0 𝓛 (raw (fact 𝓤 (KeepsBorder plane.now new))) (fact_i 𝓤 _ (emp 𝓤) (λ k. (told.geometry k, told.border k))) $ use0 𝓛 (raw (fact 𝓤 (table_of new ≡ last))) (fact_i 𝓤 _ (emp 𝓤) (told.table ∙ are_last)) $ join ! $ done ! in
-    sets ! (addr ! (from ! (stop !))) refl (tt, tt) $ take_at ! 3 $ use1 𝓛 (‵ (fat full_share Bare (l 3) 0 (lowered w))) (bare 𝓛 (l 3) 0 (numbers w.start w.width w.gap w.count) ℓ item (slice_of w.rest)) $
-    move ! (0 ∷ 2 ∷ 3 ∷ 4 ∷ []) $ draws ! tt T d κw κT inside qw rT w (l 3) 0 (λ β γ. tt) inT (λ β γ. id⊢ 𝓤 _) (λ β γ.
-    calls_at ! run (Draw 𝓛 T d κw κT) meets (asked 𝓛 T d κw κT w (l 3) 0 β γ inside qw rT tt) (and_then ! (get ! refl) (no_more !)) (λ v₁. drew ! tt T laws d κw κT inside qw rT w (l 3) 0 β γ tt v₁ (λ r left.
-    use1 𝓛 (‵ (fat full_share (Named ℓ item) (l 3) 0 (lowered left))) (𝓛.laws.raw_at full_share (Named ℓ item) (l 3) 0 (lowered left)) $ give_at ! 3 $
-    -- [what the walk owns; the row; what the draw says; the tokens of κw and κT; how the plane ends; nothing; the plane's lender; the way back; the value; the locals]
-    move ! (2 ∷ []) $ use1 𝓛 (‵ (LendsLastRow item w r left) ⊛ raw (fact 𝓤 (YieldsLastMut rows_left w r left)) ⊛ raw (fact 𝓤 (MakesProgress (λ _. ⊤) (item_count rows_left) w r left))) (id⊢ 𝓤 _) $
-    split3 ! $ move ! (1 ∷ []) $ heard ! _ (λ steps. move ! (1 ∷ []) $ drop ! $ move ! (2 ∷ []) $ by_row ! T κw r v₁
-    -- where there is none, the walk is let go as it is
+    -- how it ends, with these rows as the final values of the iterator
+    let finish : (rows : List (List T.Denot)) → rows ≡ last → map length rows ≡ map length table → Sq 𝓛 (‵ (flft κT qT) ∷
+    ‵ ((MutRef (named 0) κ Plane).own_val (record plane { now = with_entries plane.now (entries_with w rows) }) (mut_vals plane)) ∷ ‵ (flft κ q) ∷ [])
+    (prop (Post vunit)) = λ rows are_last long.
+    let table_is = begun.written rows long in let new = with_entries plane.now (entries_with w rows) in
+    nothing ! $ feq_i ! (List Val) (vunit ∷ []) (vunit ∷ []) refl $ ends ! (4 ∷ 2 ∷ 3 ∷ 1 ∷ 0 ∷ []) ended stayed c y vunit tt (new, (tt, tt))
+    (tt, (tt, tt)) refl $ tells ! (table_is.table ∙ are_last) $ told ! (λ k. (table_is.geometry k, table_is.border k)) in
+    by_row ! T κw r v₁
+    -- where there is none, the iterator is dropped as it is
     (λ gone out. let none : (rows_left w ≡ []) × (rows_left left ≡ []) = subst (λ r. YieldsLastMut rows_left w r left) gone steps in
-    rewrite ! 0 (λ (r : Option (MutBor (List T.Denot))). ‵ (LendsLastRow item w r left)) gone refl $ lands_as ! out refl (tt, (record { fits = lit< tt }, tt)) $
-    first ! $ switches_on ! (get_tag ! (vrt ! refl (fld ! refl (stop !))) (whole !)) $ exec ! 𝓣.C 𝓣.Λ En (arm_body 1 (head (after 5 function.body))) Then $ skips ! $ exec ! 𝓣.C 𝓣.Λ En (after 6 function.body) (at_ret En Post) $
-    move ! (1 ∷ []) $ use1 𝓛 (‵ (SecondRows item left (rows_left left))) (rows_let_go 𝓛 item ℓ left (lowered left ∷ [])) $ move ! (1 ∷ 0 ∷ []) $
+    rewrite ! 2 (λ (r : Option (MutBor (List T.Denot))). ‵ (LendsLastRow item w r left)) gone refl $ lands_as ! out refl (tt, (record { fits = lit< tt }, tt)) $
+    first ! $ switches_on ! (get_tag ! (vrt ! refl (fld ! refl (stop !))) (whole !)) $ exec ! 𝓣.C 𝓣.Λ En (arm_body 1 (head (after 5 function.body))) Then $
+    skips ! $ exec ! 𝓣.C 𝓣.Λ En (after 6 function.body) (at_ret En Post) $
+    use1 𝓛 (‵ (SecondRows item left (rows_left left))) (rows_dropped 𝓛 item ℓ left (lowered left ∷ [])) $ move ! (2 ∷ 0 ∷ []) $
     use2 𝓛 (‵ (SecondRows item w (rows_left left))) (took_no_row 𝓛 item w left (rows_left left)) $
-    move ! (0 ∷ 1 ∷ 2 ∷ 3 ∷ 5 ∷ 6 ∷ []) $ plane_back ! tt T α δ κ κT q qT plane w (rows_left left) $
+    rows_back ! tt T α δ κ κT q qT plane w (rows_left left) $
     sets ! (of_opd ! (unit_lit !)) refl (tt, tt) $ returns ! (look_at ! 0 refl) $ free_all ! refl $ keep ! (0 ∷ 1 ∷ 2 ∷ []) $
-    let same : rows_left left ≡ table = none.1 ∙ sym none.0 ∙ shown in ends (rows_left left) (same ∙ none_set table filled (sym shown ∙ none.0)) (ap (λ rows. map length rows) same))
+    let same : rows_left left ≡ table = none.1 ∙ sym none.0 ∙ begun.rows in finish (rows_left left) (same ∙
+    none_set table filled (sym begun.rows ∙ none.0)) (ap (λ rows. map length rows) same))
     -- where there is one, it is filled
-    (λ row is out row_fits. let drawn : rows_left w ≡ rows_left left ++ row.now ∷ [] = subst (λ r. YieldsLastMut rows_left w r left) is steps in let as_wide : length row.now ≡ plane.now.geometry.width = last_as_long (rows_left w) (rows_left left) row.now plane.now.geometry.width wide drawn in
-    rewrite ! 1 (λ (r : Option (MutBor (List T.Denot))). ‵ (LendsLastRow item w r left)) is refl $ lands_as ! out refl (tt, (record { fits = lit< tt }, ((tt, (record { fits = row_fits }, tt)), tt))) $
+    (λ row is out row_fits. let drawn : rows_left w ≡ rows_left left ++ row.now ∷ [] = subst (λ r. YieldsLastMut rows_left w r left) is steps in
+    let as_wide : length row.now ≡ plane.now.geometry.width = last_as_long (rows_left w) (rows_left left) row.now plane.now.geometry.width begun.wide drawn in
+    rewrite ! 3 (λ (r : Option (MutBor (List T.Denot))). ‵ (LendsLastRow item w r left)) is refl $
+    lands_as ! out refl (tt, (record { fits = lit< tt }, ((tt, (record { fits = row_fits }, tt)), tt))) $
     first ! $ switches_on ! (get_tag ! (vrt ! refl (fld ! refl (stop !))) (whole !)) $ exec ! 𝓣.C 𝓣.Λ En (arm_body 0 (head (after 5 function.body))) Then $
     sets ! (of_opd ! (get_in ! (vrt ! refl (fld ! refl (stop !))) (in_variant ! 1 0 refl refl (whole !)))) refl (tt, (tt, (record { fits = row_fits }, tt))) $
     sets ! (addr ! (from ! (fld ! refl (hop ! (look_in_at ! 4 (sub ! 0 refl (whole !))) (stop !))))) refl (tt, tt) $
-    sets ! (agg ! (and_then ! (get ! refl) (and_then ! (get_in ! (fld ! refl (stop !)) (sub ! 1 refl (whole !))) (no_more !)))) refl (tt, (tt, (record { fits = row_fits }, tt))) $
-    -- [the row; what the draw says; what the walk owns; the tokens of κw and κT; how the plane ends; nothing; the plane's lender; the way back; the value; the locals]
-    let given : Fills.Ghost = (((κw, (κT, tt)), (qw, (rT, tt)), (inside, tt), (row, (value, tt)), (slice_of row ∷ [], (val value, tt))), tt) in
-    nothing ! $ move ! (10 ∷ 0 ∷ []) $ join ! $ move ! (1 ∷ 0 ∷ []) $ join ! $ nothing ! $ move ! (5 ∷ 0 ∷ []) $ join ! $ move ! (4 ∷ 0 ∷ []) $ join ! $ join ! $
-    nothing ! $ use0 𝓛 (raw (fact 𝓤 (κT ⊑ T.lives))) (fact_i 𝓤 _ (emp 𝓤) inT) $ join ! $ move ! (1 ∷ 0 ∷ []) $ join ! $ use1 𝓛 (raw (Fills.pre given)) (id⊢ 𝓤 _) $
-    calls_at_last ! run Fills (fill_met.met 𝓤 𝓛 𝓜 𝓡 (code.calls-v_frame_held::held_rows::fill 𝓡.env wired) T laws copy clone dict met) given (and_then ! (get ! refl) (and_then ! (get ! refl) (no_more !))) (λ v₂.
-    use1 𝓛 (later (some (λ (u : Unit {0}). ((‵ (flft κw qw) ⊛ ‵ (flft κT rT) ⊛ ‵ ftrue) ⊛ ‵ (unit.own_val u (v₂ ∷ []))) ⊛
-    some (λ (lasting : Lasts (fill.ended T clone dict) given.0.0 given.0.3). ‵ (lasts (fill.ended T clone dict) given.0.0 given.0.3 lasting) ⊛ raw (fact 𝓤 (lasting.0 ≡ replicate (length row.now) value)))))) (id⊢ 𝓤 _) $
-    await ! tt $ pick ! (λ u. split ! $ split ! $ move ! (1 ∷ []) $ feq_l ! (λ is_unit.
-    lands_last ! refl (subst (λ (z : Val). lib.Dec.T (has_ty ty_unit z) × WT z) (sym (ap only is_unit)) (tt, tt)) $ exec ! 𝓣.C 𝓣.Λ En (after 6 function.body) (at_ret En Post) $
-    -- [the tokens; what the call says; what the draw says; what the walk owns; how the plane ends; nothing; the plane's lender; the way back; the locals]
-    move ! (1 ∷ []) $ pick ! (λ lasting. split ! $ move ! (1 ∷ []) $ heard ! _ (λ is_filled. fsplit ! $ fsplit ! $ fsplit ! $
-    use1 𝓛 (‵ (EndsAs item row.ghost_name lasting.0)) (finally-res 𝓛 item row.ghost_name lasting.0) $ rewrite ! 0 (λ (xs : List T.Denot). ‵ (EndsAs item row.ghost_name xs)) (is_filled ∙ ap (λ n. replicate n value) as_wide) refl $
-    -- [how the row ends; its length; its borrow; nothing; the tokens; what the draw says; what the walk owns; how the plane ends; nothing; the plane's lender; the way back; the locals]
-    move ! (4 ∷ []) $ split3 ! $ move ! (8 ∷ []) $ use1 𝓛 (‵ (SecondRows item left (rows_left left))) (rows_let_go 𝓛 item ℓ left (lowered left ∷ [])) $
-    move ! (8 ∷ 4 ∷ 0 ∷ []) $ use3 𝓛 (‵ (SecondRows item w (rows_left left ++ filled ∷ []))) (took_last_row 𝓛 item w left row filled) $
-    move ! (0 ∷ 1 ∷ 2 ∷ 7 ∷ 9 ∷ 10 ∷ []) $ plane_back ! tt T α δ κ κT q qT plane w (rows_left left ++ filled ∷ []) $
+    sets ! (agg ! (and_then ! (get ! refl) (and_then ! (get_in ! (fld ! refl (stop !)) (sub ! 1 refl (whole !))) (no_more !)))) refl
+    (tt, (tt, (record { fits = row_fits }, tt))) $
+    -- [the row; the iterator; the token of κw; what the draw says; the token of κT; how the plane ends; the plane's lender; the way back; the value; the
+    -- locals]
+    calls_last ! (2 ∷ 4 ∷ 0 ∷ 8 ∷ []) run (fill.ended T clone dict) (fill.clauses T clone dict 𝓛 𝓜.mem 𝓡.returns)
+    (fill_met.met 𝓤 𝓛 𝓜 𝓡 (code.calls-v_frame_held::held_rows::fill 𝓡.env wired) T laws copy clone dict met)
+    (((κw, (κT, tt)), (qw, (rT, tt)), (inside, tt), (row, (value, tt)), (slice_of row ∷ [], (val value, tt))), tt) (asks_that 𝓤 inT) refl
+    (and_then ! (get ! refl) (and_then ! (get ! refl) (no_more !))) (λ u lasting. raw (fact 𝓤 (lasting.0 ≡ replicate (length row.now) value)) ∷ [])
+    (λ u lasting. id⊢ 𝓤 _) (λ v₂ u lasting. feq_l ! (λ is_unit. heard ! _ (λ is_filled.
+    lands_last ! refl (unit_fits is_unit) $
+    exec ! 𝓣.C 𝓣.Λ En (after 6 function.body) (at_ret En Post) $
+    -- [the tokens of κw and κT; how the row ends; nothing; the iterator; what the draw says; how the plane ends; the plane's lender; the way back; the locals]
+    move ! (2 ∷ []) $ fsplit ! $ fsplit ! $ use1 𝓛 (‵ (EndsAs item row.ghost_name lasting.0)) (finally-res 𝓛 item row.ghost_name lasting.0) $
+    rewrite ! 0 (λ (xs : List T.Denot). ‵ (EndsAs item row.ghost_name xs)) (is_filled ∙ ap (λ n. replicate n value) as_wide) refl $
+    -- [how the row ends; its length; its borrow; the tokens of κw and κT; nothing; the iterator; what the draw says; how the plane ends; ..]
+    move ! (6 ∷ []) $ use1 𝓛 (‵ (SecondRows item left (rows_left left))) (rows_dropped 𝓛 item ℓ left (lowered left ∷ [])) $
+    move ! (7 ∷ 1 ∷ 0 ∷ []) $ use3 𝓛 (‵ (SecondRows item w (rows_left left ++ filled ∷ []))) (took_last_row 𝓛 item w left row filled) $
+    move ! (0 ∷ 3 ∷ 4 ∷ 6 ∷ 7 ∷ 8 ∷ []) $ rows_back ! tt T α δ κ κT q qT plane w (rows_left left ++ filled ∷ []) $
     sets ! (of_opd ! (unit_lit !)) refl (tt, tt) $ returns ! (look_at ! 0 refl) $ free_all ! refl $ keep ! (0 ∷ 1 ∷ 2 ∷ []) $
-    let shows_row : table ≡ rows_left left ++ row.now ∷ [] = sym shown ∙ drawn in
-    ends (rows_left left ++ filled ∷ []) (last_set table (rows_left left) row.now filled shows_row) (as_long table (rows_left left) row.now filled shows_row (length-replicate plane.now.geometry.width value ∙ sym as_wide)))))))))))))))))))))))))
+    let shows_row : table ≡ rows_left left ++ row.now ∷ [] = sym begun.rows ∙ drawn in
+    finish (rows_left left ++ filled ∷ []) (last_set table (rows_left left) row.now filled shows_row)
+    (as_long table (rows_left left) row.now filled shows_row (length-replicate plane.now.geometry.width value ∙ sym as_wide))))))))))))))))

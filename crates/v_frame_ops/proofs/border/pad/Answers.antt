@@ -9,4 +9,5 @@ returns-clause-table g c =
     let down_is = ap (λ (geometry : Geometry). geometry.height) c.pad_pixels.ensures.geometry in
     let same : c.width.result ≡ c.width-2.result = omega arith in
     let wide = subst (λ (n : ℕ). All (λ (row : List g.row.T.Denot). length row ≡ n) (table_of c.args.plane.now)) same c.width.ensures.rows in
-    c.tables_agree_by_pixels.ensures c.width-2.result _ _ (omega arith) c.width-2.ensures.rows wide (λ x y across down. c.pad_pixels.ensures.visible x y (omega arith) (omega arith))
+    c.tables_agree_by_pixels.ensures c.width-2.result _ _ (omega arith) c.width-2.ensures.rows wide
+    (λ x y across down. c.pad_pixels.ensures.visible x y (omega arith) (omega arith))

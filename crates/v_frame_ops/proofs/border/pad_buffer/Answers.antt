@@ -8,7 +8,8 @@ pub returns-clause-padded : goal.returns-clause-padded
 returns-clause-padded g c = λ x y across down.
     let geometry = c.args.geometry in
     let extended = c.extend_picture.ensures x y across down in
-    let shown = c.whole_rows_hold_pixels.ensures (raster geometry c.args.buffer.now) (nearest geometry.pad_left geometry.width x) (nearest geometry.pad_top geometry.height y) (omega arith) (omega arith) in
+    let shown = c.whole_rows_hold_pixels.ensures (raster geometry c.args.buffer.now) (nearest geometry.pad_left geometry.width x)
+    (nearest geometry.pad_top geometry.height y) (omega arith) (omega arith) in
     cc
 
 pub returns-clause-visible : goal.returns-clause-visible

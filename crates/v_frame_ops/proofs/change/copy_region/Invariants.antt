@@ -6,6 +6,7 @@ use Rattle.v_frame_ops.proofs.change.copy_region.Given as goal
 abbrev pub invariant-loop-k : goal.invariant-loop-k
 invariant-loop-k g l = record {
   inside : (i j : ℕ) → i < l.source.geometry.width → j < l.k → pixel_at (table_of l.target) (l.x + i) (l.y + j) ≡ pixel_at (table_of l.source) i j;
-  beside : (i j : ℕ) → ((i < l.x) ⊎ (l.x + l.source.geometry.width ≤ i)) ⊎ ((j < l.y) ⊎ (l.y + l.k ≤ j)) → pixel_at (table_of l.target) i j ≡ pixel_at (table_of l.fn.target) i j;
+  beside : (i j : ℕ) → ((i < l.x) ⊎ (l.x + l.source.geometry.width ≤ i)) ⊎ ((j < l.y) ⊎ (l.y + l.k ≤ j)) →
+      pixel_at (table_of l.target) i j ≡ pixel_at (table_of l.fn.target) i j;
   border : KeepsBorder l.fn.target l.target;
 }

@@ -9,4 +9,5 @@ slice_get-replicate (suc n) p (suc x) h = slice_get-replicate n p x (omega arith
 
 pub returns-clause-pixels : goal.returns-clause-pixels
 returns-clause-pixels g c = λ x y across down.
-    ap (option_and_then (λ row. slice_get row x)) (c.loop-y.invariant.filled y (omega arith)) ∙ slice_get-replicate c.args.plane.now.geometry.width c.args.pixel x across
+    ap (option_and_then (λ row. slice_get row x)) (c.loop-y.invariant.filled y (omega arith)) ∙
+    slice_get-replicate c.args.plane.now.geometry.width c.args.pixel x across

@@ -1,5 +1,5 @@
 -- What a plane shows is a rectangle of the rows of its whole buffer.
-use Rattle.std.proofs.Common.{◌≡◌, ◌∙◌, ap}
+use Rattle.std.proofs.Common.{◌∙◌, ap}
 use Rattle.v_frame.specs.Prelude.{pixel_at, whole_rows}
 use Rattle.v_frame_ops.proofs.laws.whole_rows_hold_pixels.Goals as goal
 

@@ -1,14 +1,18 @@
 -- The front of a piece is one more row, and then the end.
 use Rattle.std.proofs.Common.{◌≡◌, ◌+◌, ◌-◌, ◌*◌, ◌<◌, length, take, drop, refl, ◌∙◌, ap, arith, length-take-le, length-drop}
 use Rattle.v_frame_layout.specs.Geometry.{alloc_size_of}
-use Rattle.v_frame_plane.proofs.CopyLemmas.{one_more_row, border_put_row, all_rows}
-use Rattle.v_frame_plane.proofs.Sources.{front_within, length-rows, row_of_piece}
+use Rattle.v_frame_plane.proofs.copies.CopyLemmas.{one_more_row, border_put_row, all_rows}
+use Rattle.v_frame_plane.proofs.copies.Sources.{front_within, length-rows, row_of_piece}
 use Rattle.v_frame_plane.proofs.encoding.write_rows.Goals as goal
 
 pub overflow_add-from : goal.overflow_add-from
 overflow_add-from g c =
-    let front : c.width-width.result * c.ENTRIES.result ≡ c.args.geometry.width * g.E.Encoding.ENTRIES = ap (λ w. w * c.ENTRIES.result) c.width-width.ensures.value ∙ ap (λ n. c.args.geometry.width * n) c.ENTRIES.ensures in
-    let within = front_within (c.args.geometry.width * g.E.Encoding.ENTRIES) c.args.stride c.args.geometry.height c.loop-y.y c.requires.stride (omega (arith, c.height-y-end.ensures.value)) in
+    let front : c.width-width.result * c.ENTRIES.result ≡ c.args.geometry.width * g.E.Encoding.ENTRIES =
+    ap (λ w. w * c.ENTRIES.result) c.width-width.ensures.value ∙ ap (λ n. c.args.geometry.width * n) c.ENTRIES.ensures in
+    let within = front_within (c.args.geometry.width * g.E.Encoding.ENTRIES) c.args.stride c.args.geometry.height c.loop-y.y c.requires.stride (omega (
+      arith,
+      c.height-y-end.ensures.value,
+    )) in
     omega (arith, front, within)
 
 pub loop-y-preserved : goal.loop-y-preserved
@@ -17,16 +21,22 @@ loop-y-preserved g c =
     let y = c.loop-y.y in
     let start = c.row_start-start.result in
     let row = c.write_row.new.row in
-    let front : c.width-width.result * c.ENTRIES.result ≡ k.width * g.E.Encoding.ENTRIES = ap (λ w. w * c.ENTRIES.result) c.width-width.ensures.value ∙ ap (λ n. k.width * n) c.ENTRIES.ensures in
+    let front : c.width-width.result * c.ENTRIES.result ≡ k.width * g.E.Encoding.ENTRIES = ap (λ w. w * c.ENTRIES.result) c.width-width.ensures.value ∙
+    ap (λ n. k.width * n) c.ENTRIES.ensures in
     let high : y < k.height = omega (arith, c.height-y-end.ensures.value) in
     let whole : length c.loop-y.buffer ≡ alloc_size_of k = c.loop-y.auto.buffer ∙ c.requires.plane.whole in
     let cut : start + c.width-width.result - start ≡ k.width = omega (arith, c.width-width.ensures.value) in
-    let part = length-take-le (start + c.width-width.result - start) (drop start c.loop-y.buffer) (omega (arith, length-drop start c.loop-y.buffer, c.row_start-start.ensures.within)) in
+    let part = length-take-le (start + c.width-width.result - start) (drop start c.loop-y.buffer) (omega (
+      arith,
+      length-drop start c.loop-y.buffer,
+      c.row_start-start.ensures.within,
+    )) in
     let same : length row ≡ start + c.width-width.result - start = c.write_row.auto.row ∙ part in
     let from = c.args.stride * y in
     let entries = take (from + c.width-width.result * c.ENTRIES.result - from) (drop from c.args.src.now) in
     let made : row ≡ g.E.Encoding.row_of k.width entries = c.write_row.ensures ∙ ap (λ n. g.E.Encoding.row_of n entries) (part ∙ cut) in
-    let is = row_of_piece (g.E.Encoding.row_of k.width) (k.width * g.E.Encoding.ENTRIES) c.args.stride k.height c.args.src.now y from (c.width-width.result * c.ENTRIES.result) row high c.requires.stride refl front made in
+    let is = row_of_piece (g.E.Encoding.row_of k.width) (k.width * g.E.Encoding.ENTRIES) c.args.stride k.height c.args.src.now y from
+    (c.width-width.result * c.ENTRIES.result) row high c.requires.stride refl front made in
     record {
       table = one_more_row k c.loop-y.buffer _ row _ y start _ high c.row_start-start.ensures.place same cut whole is c.loop-y.invariant.table;
       border = border_put_row k c.loop-y.buffer row y start _ high c.row_start-start.ensures.place same cut whole ∙ c.loop-y.invariant.border;

@@ -1,4 +1,4 @@
-use Rattle.v_frame_plane.proofs.Determined.{determines_buffer}
+use Rattle.v_frame_plane.proofs.tables.Determined.{determines_buffer}
 use Rattle.v_frame_plane.proofs.laws.buffer_is_determined.Goals as goal
 
 pub returns : goal.returns

@@ -1,7 +1,7 @@
 use Rattle.std.proofs.Common.{refl}
 use Rattle.v_frame_plane.specs.Copy.{strided_copy}
-use Rattle.v_frame_plane.proofs.BytesBack.{are_bytes}
-use Rattle.v_frame_plane.proofs.ByteLaws.{strided_bytes}
+use Rattle.v_frame_plane.proofs.copies.BytesBack.{are_bytes}
+use Rattle.v_frame_plane.proofs.copies.ByteLaws.{strided_bytes}
 use Rattle.v_frame_plane.proofs.laws.bytes_come_back_without_tails.Goals as goal
 
 pub returns : goal.returns

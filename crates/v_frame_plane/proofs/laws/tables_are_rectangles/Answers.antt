@@ -1,4 +1,4 @@
-use Rattle.v_frame_plane.proofs.Regions.{shows_rectangle}
+use Rattle.v_frame_plane.proofs.tables.Regions.{shows_rectangle}
 use Rattle.v_frame_plane.proofs.laws.tables_are_rectangles.Goals as goal
 
 pub returns : goal.returns

@@ -9,7 +9,7 @@ use Rattle.v_frame.specs.Build.{luma_geometry}
 use Rattle.v_frame_plane.specs.Plane.{Raster, filled, table_of}
 use Rattle.v_frame.specs.declared.frame.error.FrameError.TheVariants.{OutOfMemory}
 use Rattle.v_frame.specs.declared.replay.call.VisibleCall.{VisibleCall}
-use Rattle.v_frame_plane.proofs.BytesBack.{AreBytes, are_bytes}
+use Rattle.v_frame_plane.proofs.copies.BytesBack.{AreBytes, are_bytes}
 use Rattle.v_frame.proofs.BytePaths.{built_high, blank_width, blank_height, path_answers, refusal_goes_on}
 use Rattle.v_frame.proofs.Draws.{all_given}
 use Rattle.v_frame.proofs.laws.bytes.bytes_go_through_a_frame.Goals as goal
@@ -29,7 +29,8 @@ returns-clause-answers g c =
     let bytes : AreBytes source = are_bytes source fit in
     let calls = ap (λ (cs : List (VisibleCall g.row.T.Denot)). answers_to form cs (tables_of frame)) (c.as_slice.ensures.value ∙ c.in_ok-calls.ensures) in
     λ fits whole.
-    let answers = path_answers form g.met.T.Pixel.value_of_pixel source bytes c.args.stride c.args.sides.items (tables_of frame) asked.width asked.height width height fits whole in
+    let answers = path_answers form g.met.T.Pixel.value_of_pixel source bytes c.args.stride c.args.sides.items (tables_of frame) asked.width asked.height width
+    height fits whole in
     let given = IfOk-weaker c.replay.result _ _ (λ done e. e ∙ calls ∙ answers) c.replay.ensures.answers in
     search rules
 
@@ -43,4 +44,5 @@ pub returns-in_err-calls-clause-all : goal.returns-in_err-calls-clause-all
 returns-in_err-calls-clause-all g c = λ enough. all_given _ _ enough
 
 pub returns-in_err-frame-clause-refused : goal.returns-in_err-frame-clause-refused
-returns-in_err-frame-clause-refused g c = refusal_goes_on c.build.result c.from_residual.result c.in_err-frame.field-0.0 OutOfMemory _ (search rules) (search rules) c.build.ensures.refused
+returns-in_err-frame-clause-refused g c =
+    refusal_goes_on c.build.result c.from_residual.result c.in_err-frame.field-0.0 OutOfMemory _ (search rules) (search rules) c.build.ensures.refused

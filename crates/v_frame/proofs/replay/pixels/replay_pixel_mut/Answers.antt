@@ -1,7 +1,7 @@
 -- Inside the rectangle the pixel is read and replaced. Outside of it nothing is.
 use Rattle.std.proofs.Common.{sym, arith}
 use Rattle.v_frame_plane.specs.Plane.{table_of}
-use Rattle.v_frame_plane.proofs.Overwrites.{with_pixel_beside, with_row_below}
+use Rattle.v_frame_plane.proofs.tables.Overwrites.{with_pixel_beside, with_row_below}
 use Rattle.v_frame.proofs.replay.pixels.replay_pixel_mut.Goals as goal
 use Rattle.v_frame.proofs.replay.pixels.replay_pixel_mut.Goals.{then-x-width-via-then-x-width, then-x-width-via-else-x-width+then-y-height}
 

@@ -1,48 +1,38 @@
--- `write_row` draws, and where there is a row, overwrites it. Rattle learns nothing of what a draw says of held rows, so this proof follows the code. Assumes `Logic`.
-use Rattle.v_frame_plane.proofs.Steps.{◌≡◌, List, [], ◌∷◌, Option, MutBor, lit<, refl, sym, ap, ◌∙◌, proved, after, flft, ftrue, emp, id⊢, ◌⊑◌, fact, fact_i, tables, param, MutRef, mut_vals, mut_Tells, plain, named_lft, MutSlice, heard, nothing, only, shows, Lasts, lasts, triple_of, framed, Stays, walk_of, ends_at, calls_at, inst_fn, a_type, named, SProp, Val, of_list, alloc_all, env, free_all, get, get_in, lands_as, look_at, look_in_at, pass_all, sets, through, ‵, raw, ◌⊛◌, some, later, at_ret, prop, ◌$◌, ◌∵◌, !, qed, await, done, drop, feq_i, feq_l, fsplit, fjoin, join, keep, move, peeks, pick, rewrite, split, split3, suffices, use0, use1, use2, live, whole, sub, agg, addr, and_then, enter, exec, first, fld, from, hop, no_more, of_opd, returns, skips, stop}
-use denote.Builtin.{RefOf, unit}
-use denote.Exit.{yes}
-use denote.FollowSlice.{finally-res}
-use denote.Opens.{shr_dup}
-use denote.Param.{bounded, copied}
-use denote.Ref.{ShrRef, shr_vals, shr_Tells}
-use denote.Triple.Call.{calls_at_last}
-use denote.Triple.Walked.{gave_ref, stay_dropped, Goes-gave_ref, Goes-dropped}
-use mir.Syntax.{dcons, dnil, ty_unit}
-use mir.Val.{WT, has_ty, vunit}
-use lib.Dec
-use Rattle.std.proofs.Common.{length, subst}
-use denote.Slice.{slice_val}
-use prog.Wp.{Wp, after_seq, at_return}
-use types.ByLocal.{get_tag, lands_last}
-use types.Kit.{any_q, Sq}
-use types.Match.{in_variant, vrt}
-use types.Run.{switches_on, unit_lit}
-use Rattle.std.proofs.alloc.Shapes.{front, arm_body}
-use Rattle.std.specs.contracts.option.Option as Opt
-use Rattle.std.specs.Option.{option_copied_mut}
+-- `write_row` draws from a side, and where there is a row, overwrites it. Rattle learns nothing of what a call says of held rows, so this proof follows the
+-- code. Assumes `Logic`.
+use Rattle.v_frame.proofs.Steps.{Bound, Exits, Goes-dropped, Goes-gave_ref, Item, List, MutBor, MutSlice, Option, RefOf, SProp, ShrRef, Sq, Stays, Val, Wp}
+use Rattle.v_frame.proofs.Steps.{a_type, addr, after, after_seq, agg, alloc_all, and_then, any_q, ap, arm_body, at_ret, at_return, bounded, copied, dcons}
+use Rattle.v_frame.proofs.Steps.{dnil, done, enter, env, exec, fact, feq_i, feq_l, finally-res, first, fld, flft, forget_but, framed, free_all, from, front}
+use Rattle.v_frame.proofs.Steps.{fsplit, ftrue, gave_ref, get, get_in, get_tag, heard, holding, hop, id⊢, in_variant, inst_fn, is, keep, lands_as}
+use Rattle.v_frame.proofs.Steps.{lands_last, lit<, look_at, look_in_at, move, mut_Tells, mut_vals, named, named_lft, no_more, nothing, of_opd}
+use Rattle.v_frame.proofs.Steps.{option_copied_mut, option_laws, option_row, param, param_laws, pass_all, peeks, plain, prop, proved, raw, refl, returns}
+use Rattle.v_frame.proofs.Steps.{rewrite, runs, says, sets, shows, shr_Tells, shr_vals, skips, stay_dropped, stop, sub, switches_on, sym, tables, through}
+use Rattle.v_frame.proofs.Steps.{unit_lit, use1, use2, vptr, vrt, vunit, walk_of, whole, yes, ℕ, !, [], ‵, ◌$◌, ◌∙◌, ◌∷◌, ◌≡◌, ◌⊑◌}
 use Rattle.v_frame_plane.specs.RowsLeft.{rows_left}
 use Rattle.v_frame_plane.specs.SecondRows.{EndsAs}
 use Rattle.v_frame_plane.specs.contracts.rows_mut.RowsMut as rows_mut
-use Rattle.v_frame.specs.DrawnItems.{LendsRowFrom, PutsRowsBack}
-use Rattle.v_frame.specs.Walk.{item_from, left_by, row_written}
-use Rattle.v_frame.specs.declared.replay.draw.Side.{Side}
+use Rattle.v_frame_plane.specs.contracts.rows_mut.RowsMut.next
+use Rattle.v_frame_plane.specs.contracts.rows_mut.RowsMut.next_back
+use Rattle.v_frame_plane.specs.declared.rows_mut.RowsMut.{RowsMut}
+use Rattle.v_frame_plane.proofs.lent.RowCalls.{by_row}
+use Rattle.v_frame_plane.proofs.lent.RowMemory.{slice_of}
+use Rattle.v_frame_plane.proofs.lent.Taken.{slice_laws}
+use Rattle.v_frame_plane.proofs.rows_mut.RowsMut.next.Met as next_met
+use Rattle.v_frame_plane.proofs.rows_mut.RowsMut.next_back.Met as next_back_met
+use Rattle.v_frame.specs.DrawnItems.{PutsRowsBack}
+use Rattle.v_frame.specs.Walk.{left_by, row_written}
 use Rattle.v_frame.specs.contracts.replay.draw.RowDraw as row_draw
 use Rattle.v_frame.specs.contracts.replay.draw.RowDrawDraw.side
-use Rattle.v_frame.specs.contracts.replay.draw.Side as sides
-use Rattle.v_frame.specs.contracts.replay.rows.draw_row
 use Rattle.v_frame.specs.contracts.replay.rows.overwrite_by
 use Rattle.v_frame.specs.contracts.replay.rows.write_row
+use Rattle.v_frame.proofs.CallSteps.{asks_that, calls, calls_last, ends, opened, read_twice, tokens, unit_fits}
+use Rattle.v_frame.proofs.Drawing.{LendsRowFrom, Draws, Gave, by_side, from_back, from_front}
 use Rattle.v_frame.proofs.PutBack.{no_row_taken, row_taken}
-use Rattle.v_frame.proofs.OptionCases.{by_option}
 use Rattle.v_frame.proofs.replay.draw.RowDraw.TheLaws as draw_laws
 use Rattle.v_frame.proofs.replay.draw.RowDrawDraw.side.Met as side_met
-use Rattle.v_frame.proofs.replay.draw.Side.TheLaws as side_laws
-use Rattle.v_frame.proofs.replay.rows.draw_row.Met as draw_row_met
 use Rattle.v_frame.proofs.replay.rows.overwrite_by.Met as overwrite_by_met
 use Rattle.v_frame.proofs.replay.rows.write_row.Statement.{statement}
 use Rattle.v_frame.proofs.replay.rows.write_row.Code as code
-use denote.Param.Laws.{param_laws}
 
 pub write_row_spec : {M : Type 1} → statement M
 write_row_spec 𝓤 𝓛 𝓜 𝓡 wired T laws copy clone dict bound =
@@ -53,76 +43,90 @@ write_row_spec 𝓤 𝓛 𝓜 𝓡 wired T laws copy clone dict bound =
     let stayed : Stays En₀.signature.params En₀.kept = (gave_ref (0 ∷ []) tt Kept, (stay_dropped Lent yes, tt)) in
     proved 𝓛 En₀ stayed c 𝓜 𝓡 (Goes-gave_ref 𝓛 4 0 tt Kept, (Goes-dropped 𝓛 4 Lent yes (λ κs x w. refl), tt))
     (write_row.Key.name args) function (code.unfolded 𝓤 𝓛.H 𝓜 𝓡 wired (T, tt) dict)
-    (λ κs. (mut_vals, (shr_vals, tt))) (λ κs. (mut_Tells (named 0) κs.0 (rows_mut.the_row (named_lft 4 1 tt κs) (copied 0 T)), (shr_Tells (named 2) κs.1.1.0 (row_draw.the_row (copied 0 T)), tt))) (λ κs qs bounds a g are.
-    let κ = κs.0 in let q = qs.0 in let κa = κs.1.0 in let qa = qs.1.0 in let κd = κs.1.1.0 in let qd = qs.1.1.0 in let κT = κs.1.1.1.0 in let qT = qs.1.1.1.0 in
+    (λ κs. (mut_vals, (shr_vals, tt))) (λ κs. (
+      mut_Tells (named 0) κs.0 (rows_mut.the_row (named_lft 4 1 tt κs) (copied 0 T)),
+      (shr_Tells (named 2) κs.1.1.0 (row_draw.the_row (copied 0 T)), tt),
+    )) (λ κs qs bounds a g are.
+    let κ = κs.0 in let q = qs.0 in let κa = κs.1.0 in let qa = qs.1.0 in let κd = κs.1.1.0 in let qd = qs.1.1.0 in let κT = κs.1.1.1.0 in let qT =
+    qs.1.1.1.0 in
     let 𝓣 = tables 𝓤 𝓛.H 𝓜 𝓡 𝓡.env in let run = framed 𝓤 𝓛.H 𝓜 𝓣 in let W = walk_of 𝓛 En₀ stayed c in
-    let ℓ = named_lft 4 1 tt κs in let Slice = MutSlice (named 1) κa item in let Draw = ShrRef (named 2) κd (row_draw.the_row item) in
+    let Slice = MutSlice (named 1) κa item in let Given = option_row Slice in let Draw = ShrRef (named 2) κd (row_draw.the_row item) in
     let self = a.0 in let draw = a.1.0 in let h = self.now in let d = draw.now in
-    let y : W.Ghost = ((κs, qs, bounds, a, (mut_vals self, (shr_vals draw, tt))), tt) in
-    let Post : Val → SProp 𝓤 = W.post y in
-    let Asks = triple_of 𝓛 (side.signature T) (side.spec T 𝓛 𝓜.mem 𝓡.returns) in
-    let Draws = triple_of 𝓛 (draw_row.signature T) (draw_row.spec T 𝓛 𝓜.mem 𝓡.returns) in
-    let Writes = triple_of 𝓛 (overwrite_by.signature T) (overwrite_by.spec T clone dict 𝓛 𝓜.mem 𝓡.returns) in
+    let y : W.Ghost = ((κs, qs, bounds, a, (mut_vals self, (shr_vals draw, tt))), tt) in let Post : Val → SProp 𝓤 = W.post y in
+    let Left : RowsMut T.Denot → Item 𝓤 = λ new. ‵ (stayed.0.has κs self new (mut_vals self)) in
     -- it ends so, with a row or with none
-    let ends : (s : Side) (ws : Lasts (draw_row.ended T) (κ, (κa, (κT, tt))) (self, (s, tt))) → rows_left ws.0 ≡ left_by d.side (rows_left h)
-    → Sq 𝓛 (‵ (PutsRowsBack item (d ∷ []) h ws.0) ∷ ‵ (lasts (draw_row.ended T) (κ, (κa, (κT, tt))) (self, (s, tt)) ws) ∷ ‵ (flft κ q) ∷ ‵ (flft κa qa) ∷ ‵ (flft κd qd) ∷ ‵ (flft κT qT) ∷ []) (prop (Post vunit)) = λ s ws left.
-    suffices ! _ (ends_at 𝓛 En₀ stayed c y vunit tt (ws.0, (tt, tt)) (tt, (tt, tt))) $
-    use0 𝓛 (raw (fact 𝓤 (rows_left ws.0 ≡ left_by d.side (rows_left h)))) (fact_i 𝓤 _ (emp 𝓤) left) $ move ! (1 ∷ 0 ∷ []) $ join ! $ move ! (1 ∷ []) $ fsplit ! $ move ! (1 ∷ []) $ drop ! $ nothing ! $ nothing ! $ fjoin ! $ move ! (1 ∷ 0 ∷ []) $ fjoin ! $
-    feq_i ! (List Val) (vunit ∷ []) (vunit ∷ []) refl $ move ! (1 ∷ 0 ∷ []) $ join ! $ nothing ! $ move ! (6 ∷ 0 ∷ []) $ join ! $ move ! (5 ∷ 0 ∷ []) $ join ! $ move ! (4 ∷ 0 ∷ []) $ join ! $ move ! (3 ∷ 0 ∷ []) $ join ! $ join ! $ join ! $ done ! in
-    let asked : Asks.Ghost = (((κd, (κT, tt)), (qd, (qT, tt)), (bounds.1.1.1.0, tt), (draw, tt), (shr_vals draw, tt)), tt) in
-    qed 𝓛 (((‵ (flft κ q) ⊛ ‵ (flft κa qa) ⊛ ‵ (flft κd qd) ⊛ ‵ (flft κT qT) ⊛ ‵ ftrue) ⊛ ‵ ((MutRef (named 0) κ (rows_mut.the_row ℓ item)).own_val self (mut_vals self)) ⊛ ‵ (Draw.own_val draw (shr_vals draw)) ⊛ ‵ ftrue) ∷ (raw (fact 𝓤 (κT ⊑ T.lives)) ⊛ ‵ ftrue) ∷ []) ∵
-    move ! (1 ∷ []) $ split ! $ heard ! _ (λ inT. drop ! $ split ! $ move ! (1 ∷ []) $ split3 ! $ move ! (3 ∷ []) $ split3 ! $ move ! (2 ∷ []) $ split3 ! $ keep ! (6 ∷ 0 ∷ 1 ∷ 3 ∷ 4 ∷ 5 ∷ []) $
-    fsplit ! $ drop ! $ shr_dup ! (row_draw.the_row item) (draw_laws.the_row_laws item (param_laws 0 T laws)).shr_laws d draw.ref_ptr.0 draw.ref_ptr.1 κd $
-    feq_i ! (List Val) (shr_vals draw) (shr_vals draw) refl $ fjoin ! $ move ! (1 ∷ []) $ feq_i ! (List Val) (shr_vals draw) (shr_vals draw) refl $ fjoin ! $
+    let finish : (new : RowsMut T.Denot) → rows_left new ≡ left_by d.side (rows_left h) → Sq 𝓛 (‵ (PutsRowsBack item (d ∷ []) h new) ∷
+    tokens 4 κs qs (Left new ∷ [])) (prop (Post vunit)) = λ new left.
+    nothing ! $ feq_i ! (List Val) (vunit ∷ []) (vunit ∷ []) refl $
+    ends ! (3 ∷ 4 ∷ 5 ∷ 6 ∷ 7 ∷ 1 ∷ 0 ∷ []) En₀ stayed c y vunit tt (new, (tt, tt)) (tt, (tt, tt)) refl $ says ! left $ done ! in
+    opened 𝓛 En₀.signature κs qs a (mut_vals self, (shr_vals draw, tt)) (κT ⊑ T.lives) (λ inT.
+    -- [the tokens of κ, κa, κd and κT; self; the draw]
+    move ! (5 ∷ []) $ read_twice ! (named 2) κd (row_draw.the_row item) (draw_laws.the_row_laws item (param_laws 0 T laws)).shr_laws draw $
     enter ! _ _ _ _ _ $ alloc_all ! (λ l. pass_all ! refl ((tt, tt), ((tt, tt), tt)) $ let En = env function.locals l in
+    let Then : ℕ → Exits 𝓤 𝓛.H = λ n. any_q (after_seq 𝓤 𝓛.H (Wp 𝓤 𝓛.H 𝓣.C 𝓣.Λ En (after n function.body) (at_return 𝓤 𝓛.H En Post))
+    (at_return 𝓤 𝓛.H En Post)) in
+    -- what is done with the row, once it is drawn: [the row; what is lent; the tokens of κ, κa and κT; how the iterator ends; the token of κd; nothing; the
+    -- draw]
+    let Drawn : Val → Option (MutBor (List T.Denot)) → RowsMut T.Denot → List (Item 𝓤) = λ v r new. ‵ (Given.own_val r (v ∷ [])) ∷
+    ‵ (LendsRowFrom item d.side h r new) ∷ ‵ (flft κ q) ∷ ‵ (flft κa qa) ∷ ‵ (flft κT qT) ∷ Left new ∷ ‵ (flft κd qd) ∷ ‵ ftrue ∷
+    ‵ (Draw.own_val draw (shr_vals draw)) ∷
+    holding 𝓛 En ((1, vptr self.ref_ptr.0 self.ref_ptr.1) ∷ (2, vptr draw.ref_ptr.0 draw.ref_ptr.1) ∷ (6, v) ∷ []) in
+    let writes : (v : Val) (r : Option (MutBor (List T.Denot))) (new : RowsMut T.Denot) → Gave 𝓛 rows_left (LendsRowFrom item) h d.side r new →
+    Sq 𝓛 (Drawn v r new) (runs 𝓣.C 𝓣.Λ En (after 2 function.body) (at_ret En Post)) = λ v r new gave.
+    by_row ! T κa r v (λ is_none e.
+    sets ! (is ! (of_opd ! (get ! refl)) e) refl (tt, (record { fits = lit< tt }, tt)) $ first ! $
+    switches_on ! (get_tag ! (vrt ! refl (fld ! refl (stop !))) (whole !)) $ exec ! 𝓣.C 𝓣.Λ En (arm_body 1 (front (after 3 function.body))) (Then 4) $
+    skips ! $ exec ! 𝓣.C 𝓣.Λ En (after 4 function.body) (at_ret En Post) $
+    sets ! (of_opd ! (unit_lit !)) refl (tt, tt) $ returns ! (look_at ! 0 refl) $ free_all ! refl $
+    rewrite ! 0 (λ (o : Option (MutBor (List T.Denot))). ‵ (LendsRowFrom item d.side h o new)) is_none refl $
+    use1 𝓛 (‵ (PutsRowsBack item (d ∷ []) h new)) (no_row_taken 𝓛 item h new d.side (row_written d) (sym (ap option_copied_mut (sym is_none) ∙ gave.0))) $
+    keep ! (0 ∷ 1 ∷ 2 ∷ 5 ∷ 3 ∷ 4 ∷ []) $ finish new gave.1) (λ row is_row e fits.
+    sets ! (is ! (of_opd ! (get ! refl)) e) refl (tt, (record { fits = lit< tt }, ((tt, (record { fits = fits }, tt)), tt))) $ first ! $
+    switches_on ! (get_tag ! (vrt ! refl (fld ! refl (stop !))) (whole !)) $ exec ! 𝓣.C 𝓣.Λ En (arm_body 0 (front (after 3 function.body))) (Then 4) $
+    sets ! (of_opd ! (get_in ! (vrt ! refl (fld ! refl (stop !))) (in_variant ! 1 0 refl refl (whole !)))) refl (tt, (tt, (record { fits = fits }, tt))) $
+    sets ! (addr ! (from ! (fld ! refl (hop ! (look_in_at ! 4 (sub ! 0 refl (whole !))) (stop !))))) refl (tt, tt) $
+    sets ! (agg ! (and_then ! (get ! refl) (and_then ! (get_in ! (fld ! refl (stop !)) (sub ! 1 refl (whole !))) (no_more !)))) refl
+    (tt, (tt, (record { fits = fits }, tt))) $
+    calls_last ! (3 ∷ 6 ∷ 4 ∷ 0 ∷ 8 ∷ []) run (overwrite_by.ended T clone dict) (overwrite_by.clauses T clone dict 𝓛 𝓜.mem 𝓡.returns)
+    (overwrite_by_met.met 𝓤 𝓛 𝓜 𝓡 (code.calls-v_frame::replay::rows::overwrite_by 𝓡.env wired) T laws copy clone dict bound)
+    (((κa, (κd, (κT, tt))), (qa, (qd, (qT, tt))), (bounds.1.1.0, (bounds.1.1.1.0, tt)), (row, (draw, tt)), (slice_of row ∷ [], (shr_vals draw, tt))), tt)
+    (asks_that 𝓤 inT) refl
+    (and_then ! (get ! refl) (and_then ! (get ! refl) (no_more !))) (λ o last. raw (fact 𝓤 (last.0 ≡ row_written d row.now)) ∷ []) (λ o last. id⊢ 𝓤 _)
+    (λ w o last. feq_l ! (λ is_unit. heard ! _ (λ written.
+    lands_last ! refl (unit_fits is_unit) $
+    exec ! 𝓣.C 𝓣.Λ En (after 4 function.body) (at_ret En Post) $
+    sets ! (of_opd ! (unit_lit !)) refl (tt, tt) $ returns ! (look_at ! 0 refl) $ free_all ! refl $
+    -- [the tokens of κa, κd and κT; how the row ends; nothing; what is lent; the token of κ; how the iterator ends; nothing]
+    move ! (3 ∷ []) $ fsplit ! $ fsplit ! $ use1 𝓛 (‵ (EndsAs item row.ghost_name last.0)) (finally-res 𝓛 item row.ghost_name last.0) $
+    rewrite ! 0 (λ (xs : List T.Denot). ‵ (EndsAs item row.ghost_name xs)) written refl $
+    rewrite ! 7 (λ (o : Option (MutBor (List T.Denot))). ‵ (LendsRowFrom item d.side h o new)) is_row refl $ move ! (0 ∷ 7 ∷ []) $
+    use2 𝓛 (‵ (PutsRowsBack item (d ∷ []) h new)) (row_taken 𝓛 item h new d.side (row_written d) row (sym (ap option_copied_mut (sym is_row) ∙ gave.0))) $
+    keep ! (0 ∷ 7 ∷ 3 ∷ 4 ∷ 5 ∷ 8 ∷ []) $ finish new gave.1)))) in
+    -- [the draw, twice; the tokens of κ, κa, κd and κT; self; the locals]
+    calls ! (4 ∷ 5 ∷ 0 ∷ []) run (side.ended T) (side.clauses T 𝓛 𝓜.mem 𝓡.returns)
+    (side_met.met 𝓤 𝓛 𝓜 𝓡 (code.calls-v_frame::replay::draw::RowDrawDraw::side 𝓡.env wired) T laws)
+    (((κd, (κT, tt)), (qd, (qT, tt)), (bounds.1.1.1.0, tt), (draw, tt), (shr_vals draw, tt)), tt) (asks_that 𝓤 inT) refl
+    (and_then ! (get ! refl) (no_more !)) (λ s ws. raw (fact 𝓤 (s ≡ d.side)) ∷ []) (λ s ws. id⊢ 𝓤 _) (λ u s ws.
+    move ! (1 ∷ []) $ heard ! _ (λ is_side.
+    -- [the side; the tokens of κd and κT; nothing; the draw; the tokens of κ and κa; self; the locals]
+    let typing = (option_laws Slice (slice_laws T κa laws)).lawful 𝓛 in
+    let its : Bound 𝓛 (next.signature T) =
+    ((κ, (κa, (κT, tt))), (q, (qa, (qT, tt))), (bounds.0, (bounds.1.0, (bounds.1.1.0, tt))), (self, tt), (mut_vals self, tt)) in
+    by_side ! s u (λ is_front e. lands_as ! e refl (tt, (record { fits = lit< tt }, tt)) $ first ! $
+    switches_on ! (get_tag ! (vrt ! refl (fld ! refl (stop !))) (whole !)) $ exec ! 𝓣.C 𝓣.Λ En (arm_body 0 (front (after 1 function.body))) (Then 2) $
     sets ! (addr ! (through ! refl (stop !))) refl (tt, tt) $
-    -- [the draw, twice; the tokens of κd, κT, κ and κa; self; the locals]
-    nothing ! $ move ! (1 ∷ 0 ∷ []) $ join ! $ nothing ! $ move ! (4 ∷ 0 ∷ []) $ join ! $ move ! (3 ∷ 0 ∷ []) $ join ! $ join ! $
-    nothing ! $ use0 𝓛 (raw (fact 𝓤 (κT ⊑ T.lives))) (fact_i 𝓤 _ (emp 𝓤) inT) $ join ! $ move ! (1 ∷ 0 ∷ []) $ join ! $ use1 𝓛 (raw (Asks.pre asked)) (id⊢ 𝓤 _) $
-    calls_at ! run Asks (side_met.met 𝓤 𝓛 𝓜 𝓡 (code.calls-v_frame::replay::draw::RowDrawDraw::side 𝓡.env wired) T laws) asked (and_then ! (get ! refl) (no_more !)) (λ u.
-    use1 𝓛 (later (some (λ (s : Side). ((‵ (flft κd qd) ⊛ ‵ (flft κT qT) ⊛ ‵ ftrue) ⊛ ‵ (sides.the_row.own_val s (u ∷ []))) ⊛
-    some (λ (ws : Lasts (side.ended T) asked.0.0 asked.0.3). ‵ (lasts (side.ended T) asked.0.0 asked.0.3 ws) ⊛ raw (fact 𝓤 (s ≡ d.side)))))) (id⊢ 𝓤 _) $
-    await ! tt $ pick ! (λ s. split ! $ split ! $ split3 ! $ move ! (3 ∷ []) $ peeks ! sides.the_row _ (shows 𝓛 sides.the_row) s (u ∷ []) (λ its. lands_as ! refl refl ((side_laws.the_row_laws.lawful 𝓛).typed s (u ∷ []) its).0 $
-    -- [the side; the tokens of κd and κT; nothing; what the call says; the draw; the tokens of κ and κa; self; the locals]
-    move ! (4 ∷ []) $ pick ! (λ ws. split ! $ drop ! $ heard ! _ (λ is_side.
-    let drawn : Draws.Ghost = (((κ, (κa, (κT, tt))), (q, (qa, (qT, tt))), (bounds.0, (bounds.1.0, (bounds.1.1.0, tt))), (self, (s, tt)), (mut_vals self, (u ∷ [], tt))), tt) in
-    nothing ! $ move ! (1 ∷ 0 ∷ []) $ join ! $ move ! (7 ∷ 0 ∷ []) $ join ! $ nothing ! $ move ! (3 ∷ 0 ∷ []) $ join ! $ move ! (6 ∷ 0 ∷ []) $ join ! $ move ! (5 ∷ 0 ∷ []) $ join ! $ join ! $
-    nothing ! $ use0 𝓛 (raw (fact 𝓤 (κT ⊑ T.lives))) (fact_i 𝓤 _ (emp 𝓤) inT) $ join ! $ move ! (1 ∷ 0 ∷ []) $ join ! $ use1 𝓛 (raw (Draws.pre drawn)) (id⊢ 𝓤 _) $
-    calls_at ! run Draws (draw_row_met.met 𝓤 𝓛 𝓜 𝓡 (code.calls-v_frame::replay::rows::draw_row 𝓡.env wired) T laws) drawn (and_then ! (get ! refl) (and_then ! (get ! refl) (no_more !))) (λ v.
-    use1 𝓛 (later (some (λ (r : Option (MutBor (List T.Denot))). ((‵ (flft κ q) ⊛ ‵ (flft κa qa) ⊛ ‵ (flft κT qT) ⊛ ‵ ftrue) ⊛ ‵ ((Opt.the_row Slice).own_val r (v ∷ []))) ⊛
-    some (λ (ws : Lasts (draw_row.ended T) drawn.0.0 drawn.0.3). ‵ (lasts (draw_row.ended T) drawn.0.0 drawn.0.3 ws) ⊛ ‵ (LendsRowFrom item s h r ws.0) ⊛ raw (fact 𝓤 (option_copied_mut r ≡ item_from s (rows_left h))) ⊛ raw (fact 𝓤 (rows_left ws.0 ≡ left_by s (rows_left h))))))) (id⊢ 𝓤 _) $
-    await ! tt $ pick ! (λ r. split ! $ split ! $ move ! (2 ∷ []) $ pick ! (λ ws. split3 ! $ move ! (2 ∷ []) $ split ! $ heard ! _ (λ is_item. heard ! _ (λ is_left.
-    -- [how the walk ends; what is lent; the tokens of κ, κa and κT; the row; the token of κd; nothing; the draw; the locals]
-    let new = ws.0 in let left : rows_left new ≡ left_by d.side (rows_left h) = is_left ∙ ap (λ (side : Side). left_by side (rows_left h)) is_side in
-    let item_is : option_copied_mut r ≡ item_from d.side (rows_left h) = is_item ∙ ap (λ (side : Side). item_from side (rows_left h)) is_side in
-    let Then = any_q (after_seq 𝓤 𝓛.H (Wp 𝓤 𝓛.H 𝓣.C 𝓣.Λ En (after 4 function.body) (at_return 𝓤 𝓛.H En Post)) (at_return 𝓤 𝓛.H En Post)) in
-    rewrite ! 1 (λ (side : Side). ‵ (LendsRowFrom item side h r new)) is_side refl $ move ! (3 ∷ []) $ by_option ! Slice r v (λ is_none e.
-    lands_as ! e refl (tt, (record { fits = lit< tt }, tt)) $
-    first ! $ switches_on ! (get_tag ! (vrt ! refl (fld ! refl (stop !))) (whole !)) $ exec ! 𝓣.C 𝓣.Λ En (arm_body 1 (front (after 3 function.body))) Then $ skips ! $ exec ! 𝓣.C 𝓣.Λ En (after 4 function.body) (at_ret En Post) $
-    sets ! (of_opd ! (unit_lit !)) refl (tt, tt) $ returns ! (look_at ! 0 refl) $ free_all ! refl $
-    rewrite ! 1 (λ (o : Option (MutBor (List T.Denot))). ‵ (LendsRowFrom item d.side h o new)) is_none refl $ move ! (1 ∷ []) $
-    use1 𝓛 (‵ (PutsRowsBack item (d ∷ []) h new)) (no_row_taken 𝓛 item h new d.side (row_written d) (sym (ap option_copied_mut (sym is_none) ∙ item_is))) $
-    move ! (2 ∷ []) $ split3 ! $ move ! (2 ∷ []) $ split ! $ keep ! (4 ∷ 5 ∷ 2 ∷ 3 ∷ 6 ∷ 0 ∷ []) $ ends s ws left) (λ row vs is_row e.
-    -- [the row; how the walk ends; what is lent; the tokens of κ, κa and κT; the token of κd; nothing; the draw; the locals]
-    peeks ! Slice _ (shows 𝓛 Slice) row vs (λ holds. rewrite ! 0 (λ (us : List Val). ‵ (Slice.own_val row us)) holds.0.0 refl $ let row_fits = holds.0.1.0 in
-    lands_as ! (e ∙ ap (λ (us : List Val). live 1 (of_list us)) holds.0.0) refl (tt, (record { fits = lit< tt }, ((tt, (record { fits = row_fits }, tt)), tt))) $
-    first ! $ switches_on ! (get_tag ! (vrt ! refl (fld ! refl (stop !))) (whole !)) $ exec ! 𝓣.C 𝓣.Λ En (arm_body 0 (front (after 3 function.body))) Then $
-    sets ! (of_opd ! (get_in ! (vrt ! refl (fld ! refl (stop !))) (in_variant ! 1 0 refl refl (whole !)))) refl (tt, (tt, (record { fits = row_fits }, tt))) $
-    sets ! (addr ! (from ! (fld ! refl (hop ! (look_in_at ! 3 (sub ! 0 refl (whole !))) (stop !))))) refl (tt, tt) $
-    sets ! (agg ! (and_then ! (get ! refl) (and_then ! (get_in ! (fld ! refl (stop !)) (sub ! 1 refl (whole !))) (no_more !)))) refl (tt, (tt, (record { fits = row_fits }, tt))) $
-    let written : Writes.Ghost = (((κa, (κd, (κT, tt))), (qa, (qd, (qT, tt))), (bounds.1.1.0, (bounds.1.1.1.0, tt)), (row, (draw, tt)), (slice_val row.ref_ptr (length row.now) ∷ [], (shr_vals draw, tt))), tt) in
-    move ! (3 ∷ []) $ split3 ! $ move ! (2 ∷ []) $ split ! $ nothing ! $ move ! (10 ∷ 0 ∷ []) $ join ! $ move ! (5 ∷ 0 ∷ []) $ join ! $
-    nothing ! $ move ! (2 ∷ 0 ∷ []) $ join ! $ move ! (7 ∷ 0 ∷ []) $ join ! $ move ! (4 ∷ 0 ∷ []) $ join ! $ join ! $
-    nothing ! $ use0 𝓛 (raw (fact 𝓤 (κT ⊑ T.lives))) (fact_i 𝓤 _ (emp 𝓤) inT) $ join ! $ move ! (1 ∷ 0 ∷ []) $ join ! $ use1 𝓛 (raw (Writes.pre written)) (id⊢ 𝓤 _) $
-    calls_at_last ! run Writes (overwrite_by_met.met 𝓤 𝓛 𝓜 𝓡 (code.calls-v_frame::replay::rows::overwrite_by 𝓡.env wired) T laws copy clone dict bound) written (and_then ! (get ! refl) (and_then ! (get ! refl) (no_more !))) (λ w.
-    use1 𝓛 (later (some (λ (o : Unit {0}). ((‵ (flft κa qa) ⊛ ‵ (flft κd qd) ⊛ ‵ (flft κT qT) ⊛ ‵ ftrue) ⊛ ‵ (unit.own_val o (w ∷ []))) ⊛
-    some (λ (ends : Lasts (overwrite_by.ended T clone dict) written.0.0 written.0.3). ‵ (lasts (overwrite_by.ended T clone dict) written.0.0 written.0.3 ends) ⊛ raw (fact 𝓤 (ends.0 ≡ row_written d row.now)))))) (id⊢ 𝓤 _) $
-    await ! tt $ pick ! (λ o. split ! $ split ! $ move ! (1 ∷ []) $ feq_l ! (λ is_unit.
-    lands_last ! refl (subst (λ (z : Val). lib.Dec.T (has_ty ty_unit z) × WT z) (sym (ap only is_unit)) (tt, tt)) $ exec ! 𝓣.C 𝓣.Λ En (after 4 function.body) (at_ret En Post) $
-    sets ! (of_opd ! (unit_lit !)) refl (tt, tt) $ returns ! (look_at ! 0 refl) $ free_all ! refl $
-    -- [the tokens of κa, κd and κT; what the call says; nothing; the token of κ; how the walk ends; what is lent]
-    move ! (1 ∷ []) $ pick ! (λ last. split ! $ move ! (1 ∷ []) $ heard ! _ (λ is. fsplit ! $ fsplit ! $ fsplit ! $
-    use1 𝓛 (‵ (EndsAs item row.ghost_name last.0)) (finally-res 𝓛 item row.ghost_name last.0) $ rewrite ! 0 (λ (xs : List T.Denot). ‵ (EndsAs item row.ghost_name xs)) is refl $
-    rewrite ! 8 (λ (o : Option (MutBor (List T.Denot))). ‵ (LendsRowFrom item d.side h o new)) is_row refl $ move ! (0 ∷ 8 ∷ []) $
-    use2 𝓛 (‵ (PutsRowsBack item (d ∷ []) h new)) (row_taken 𝓛 item h new d.side (row_written d) row (sym (ap option_copied_mut (sym is_row) ∙ item_is))) $
-    move ! (4 ∷ []) $ split3 ! $ move ! (2 ∷ []) $ split ! $ keep ! (4 ∷ 10 ∷ 9 ∷ 2 ∷ 3 ∷ 0 ∷ []) $ ends s ws left))))))))))))))))))))
+    calls_last ! (4 ∷ 5 ∷ 1 ∷ 6 ∷ []) run (next.ended T) (next.clauses T 𝓛 𝓜.mem 𝓡.returns)
+    (next_met.met 𝓤 𝓛 𝓜 𝓡 (code.calls-v_frame_plane::rows_mut::RowsMut::next 𝓡.env wired) T laws) (its, tt) (asks_that 𝓤 inT) refl
+    (and_then ! (get ! refl) (no_more !)) (λ r ws. Draws 𝓛 rows_left (LendsRowFrom item) h d.side r ws.0)
+    (λ r ws. from_front 𝓛 rows_left (LendsRowFrom item) h d.side r ws.0 (sym is_side ∙ is_front)) (λ v r ws.
+    peeks ! Given _ (shows 𝓛 Given) r (v ∷ []) (λ fits. move ! (2 ∷ []) $ heard ! _ (λ gave. lands_last ! refl (typing.typed r (v ∷ []) fits).0 $
+    exec ! 𝓣.C 𝓣.Λ En (after 2 function.body) (at_ret En Post) $ forget_but ! En (1 ∷ 2 ∷ 6 ∷ []) refl $ writes v r ws.0 gave))))
+    (λ is_back e. lands_as ! e refl (tt, (record { fits = lit< tt }, tt)) $ first ! $
+    switches_on ! (get_tag ! (vrt ! refl (fld ! refl (stop !))) (whole !)) $ exec ! 𝓣.C 𝓣.Λ En (arm_body 1 (front (after 1 function.body))) (Then 2) $
+    sets ! (addr ! (through ! refl (stop !))) refl (tt, tt) $
+    calls_last ! (4 ∷ 5 ∷ 1 ∷ 6 ∷ []) run (next_back.ended T) (next_back.clauses T 𝓛 𝓜.mem 𝓡.returns)
+    (next_back_met.met 𝓤 𝓛 𝓜 𝓡 (code.calls-v_frame_plane::rows_mut::RowsMut::next_back 𝓡.env wired) T laws) (its, tt) (asks_that 𝓤 inT) refl
+    (and_then ! (get ! refl) (no_more !)) (λ r ws. Draws 𝓛 rows_left (LendsRowFrom item) h d.side r ws.0)
+    (λ r ws. from_back 𝓛 rows_left (LendsRowFrom item) h d.side r ws.0 (sym is_side ∙ is_back)) (λ v r ws.
+    peeks ! Given _ (shows 𝓛 Given) r (v ∷ []) (λ fits. move ! (2 ∷ []) $ heard ! _ (λ gave. lands_last ! refl (typing.typed r (v ∷ []) fits).0 $
+    exec ! 𝓣.C 𝓣.Λ En (after 2 function.body) (at_ret En Post) $ forget_but ! En (1 ∷ 2 ∷ 6 ∷ []) refl $ writes v r ws.0 gave)))))))))

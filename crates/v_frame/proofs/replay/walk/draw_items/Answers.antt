@@ -1,4 +1,4 @@
--- One more draw, and the end.
+-- One more call, and the end.
 use Rattle.std.proofs.Common.{◌<◌, List, length, map, arith}
 use Rattle.std.proofs.lemmas.List.{length-map}
 use Rattle.v_frame.specs.declared.replay.draw.Side.{Side}
@@ -19,7 +19,8 @@ loop-draw-preserved g c =
     let drew = c.in_ok-item.ensures in
     let pushed = rw c.unwrap.ensures at c.push.ensures.items in
     record {
-      answers = rw pushed (drawn_more all sides i c.side.result within here before after so_far.left drew.left c.loop-draw.drawn.items c.in_ok-item.item c.left.result so_far.answers drew.item c.left.ensures);
+      answers = rw pushed (drawn_more all sides i c.side.result within here before after so_far.left drew.left c.loop-draw.drawn.items c.in_ok-item.item
+          c.left.result so_far.answers drew.item c.left.ensures);
       left = left_more all sides i c.side.result within here before after so_far.left drew.left;
       drawn = omega (arith, rw c.unwrap.ensures at c.push.ensures.len, so_far.drawn);
       room = omega (arith, so_far.room, c.push.ensures.capacity);
@@ -28,4 +29,7 @@ loop-draw-preserved g c =
 pub returns : goal.returns
 returns g c =
     let sides : List Side = map g.D.Draw.side_of c.args.draws.now in
-    all_drawn (g.W.Walk.items c.args.walk.now) sides c.loop-draw.draw-index c.loop-draw.drawn.items (omega (arith, length-map c.args.draws.now g.D.Draw.side_of)) c.loop-draw.invariant.answers
+    all_drawn (g.W.Walk.items c.args.walk.now) sides c.loop-draw.draw-index c.loop-draw.drawn.items (omega (
+      arith,
+      length-map c.args.draws.now g.D.Draw.side_of,
+    )) c.loop-draw.invariant.answers

@@ -1,4 +1,4 @@
--- The answers and what is left are those of the draws so far, and there is room for the others.
+-- The answers and what is left are those of the calls so far, and there is room for the others.
 use Rattle.std.proofs.Common.{◌≡◌, ◌≤◌, length, map, take, vec_len, vec_capacity}
 use Rattle.v_frame.specs.Walk.{drawn_in_turn, left_in_turn}
 use Rattle.v_frame.proofs.replay.walk.draw_items.Given as goal

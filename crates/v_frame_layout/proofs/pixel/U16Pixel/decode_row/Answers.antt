@@ -14,4 +14,5 @@ loop-block-preserved c =
 
 pub loop-i-preserved : goal.loop-i-preserved
 loop-i-preserved c =
-    two_byte_pixels-more c.loop-i.dst c.args.src.now c.loop-i.i c.from_le_bytes.result (omega arith) (omega arith) (c.from_le_bytes.ensures ∙ omega arith) c.loop-i.invariant
+    two_byte_pixels-more c.loop-i.dst c.args.src.now c.loop-i.i c.from_le_bytes.result (omega arith) (omega arith) (c.from_le_bytes.ensures ∙
+    omega arith) c.loop-i.invariant

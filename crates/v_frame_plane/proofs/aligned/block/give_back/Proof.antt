@@ -1,4 +1,4 @@
--- `give_back` lets the entries go from the first on, so that the block is room again, and hands that to the allocator. Assumes `Logic`.
+-- `give_back` drops the entries from the first on, so that the block is room again, and gives that to the allocator. Assumes `Logic`.
 use mathlib.Core.Path.{◌≡◌, refl, sym, ap, subst, ◌∙◌}
 use mathlib.Core.WellFounded.InvImage
 use mathlib.Core.List.{List, [], ◌∷◌, ◌++◌}
@@ -54,8 +54,8 @@ use Rattle.std_alloc.proofs.RawLayout.{as_raw}
 use Rattle.std_alloc.proofs.RcSteps.{word, word-Good}
 use Rattle.std_alloc.proofs.VecSteps.Shapes.{after, head, inside}
 use Rattle.v_frame_plane.specs.Block.{entries_at, room_at, cells_own, deed_owns}
-use Rattle.v_frame_plane.proofs.BlockRooms.{Bases, Kept, Deeds, wide, in_rows, no_bytes, no_bytes_had, at_had, deed_some, room_grown, room_joined}
-use Rattle.v_frame_plane.proofs.BlockRooms.{Drops, at_drops, drop_takes, drop_leaves}
+use Rattle.v_frame_plane.proofs.block.BlockRooms.{Bases, Kept, Deeds, wide, in_rows, no_bytes, no_bytes_had, at_had, deed_some, room_grown, room_joined}
+use Rattle.v_frame_plane.proofs.block.BlockRooms.{Drops, at_drops, drop_takes, drop_leaves}
 use Rattle.v_frame_plane.specs.contracts.aligned.block.give_back as F
 use Rattle.v_frame_plane.specs.contracts.aligned.block.give_back.Key.{name as #self}
 use Rattle.v_frame_plane.proofs.aligned.block.give_back.Statement as stated
@@ -120,7 +120,7 @@ module _ (E : El) (Z : Al) (d : Dict) {M : Type 1} {𝓤 : Ura M} (𝓛 : Logic 
   abbrev Post : Val → SProp 𝓤
   Post = (walk_of 𝓛 (ended E Z d) (stayed E Z d) (clauses E Z d 𝓛 at_mem run)).post bound
 
-  -- the token of the allocator's lifetime, which the walk leaves alone
+  -- the token of the allocator's lifetime, which the code leaves alone
   abbrev rest : Item 𝓤
   rest = ‵ (flft κ₂ q₂) ⊛ ‵ ftrue
 
@@ -182,7 +182,7 @@ module _ (E : El) (Z : Al) (d : Dict) {M : Type 1} {𝓤 : Ura M} (𝓛 : Logic 
           after_turn 𝓤 H (Below 𝓛 Fewer Now t)
           (after_block 𝓤 H (after_seq 𝓤 H (Wp 𝓤 H 𝓣.C 𝓣.Λ En (tail E Z d) (at_return 𝓤 H En Post)) (at_return 𝓤 H En Post)))
 
-      -- one turn: where an entry is left it is let go, and else the code behind the loop runs
+      -- one turn: where an entry is left it is dropped, and else the code behind the loop runs
       turns : (i : ℕ) (xs : List (el_x E)) (e : i + length xs ≡ written)
           → Sq 𝓛 (Now (i, xs, e)) (runs 𝓣.C 𝓣.Λ En (turn E Z d) (any_q (Turned (i, xs, e))))
       unfolding after_turn

@@ -60,7 +60,7 @@ use Rattle.std_alloc.proofs.RcSteps.{Good, first_Good, word, word-Good}
 use Rattle.std_alloc.proofs.ResultValues.{ok_of, err_of}
 use Rattle.std_alloc.proofs.VecSteps.Shapes.{after, head, arm_body}
 use Rattle.v_frame_plane.specs.Block.{cells_own, deed_owns}
-use Rattle.v_frame_plane.proofs.BlockRooms.{Bases, Kept, Deeds, Marks, wide, no_bytes, no_bytes_made, at_made, no_room, cells_made, deed_none, deed_some}
+use Rattle.v_frame_plane.proofs.block.BlockRooms.{Bases, Kept, Deeds, Marks, wide, no_bytes, no_bytes_made, at_made, no_room, cells_made, deed_none, deed_some}
 use Rattle.v_frame_plane.specs.contracts.aligned.block.take_room as F
 use Rattle.v_frame_plane.specs.contracts.aligned.block.take_room.Key.{name as #self}
 use Rattle.v_frame_plane.proofs.aligned.block.take_room.Statement as stated
@@ -145,7 +145,7 @@ module _ (E : El) (Z : Al) {M : Type 1} {𝓤 : Ura M} (𝓛 : Logic 𝓤) (at_m
   abbrev handle : Bor Z.row.Denot
   handle = record { ref_ptr = (rb, ro); now = a }
 
-  -- the tokens of the two lifetimes that the walk leaves alone
+  -- the tokens of the two lifetimes that the code leaves alone
   abbrev rest : Item 𝓤
   rest = ‵ (flft κ₁ q₁) ⊛ ‵ (flft κ₂ q₂) ⊛ ‵ ftrue
 

@@ -1,6 +1,6 @@
 -- The bytes of a plane are no more than its buffer takes.
 use Rattle.std.proofs.Common.{◌*◌, None, ap, arith}
-use Rattle.v_frame_plane.proofs.BegunPixels.{count_of_bytes, few_bytes}
+use Rattle.v_frame_plane.proofs.iterators.BegunPixels.{count_of_bytes, few_bytes}
 use Rattle.v_frame_plane.proofs.bytes.ByteData.new.Goals as goal
 
 pub returns-clause-count : goal.returns-clause-count

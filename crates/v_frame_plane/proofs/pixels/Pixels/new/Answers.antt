@@ -2,7 +2,7 @@
 use Rattle.std.proofs.Common.{append-nil}
 use Rattle.v_frame_layout.specs.Table.{row_major}
 use Rattle.v_frame_plane.specs.Plane.{table_of}
-use Rattle.v_frame_plane.proofs.BegunRows.{visible_countable, visible_pixels, visible_few}
+use Rattle.v_frame_plane.proofs.iterators.BegunRows.{visible_countable, visible_pixels, visible_few}
 use Rattle.v_frame_plane.proofs.pixels.Pixels.new.Goals as goal
 
 pub invariant_of-result : goal.invariant_of-result

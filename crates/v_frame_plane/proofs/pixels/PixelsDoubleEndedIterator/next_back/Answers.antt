@@ -1,6 +1,6 @@
 -- A row is begun: the last one, or the one that was begun from the front.
 use Rattle.std.proofs.Common.{List, Bor, ◌∙◌, ap}
-use Rattle.v_frame_plane.proofs.BegunRows.{last_begun, front_begun, last_of_rows, last_of_front, fewer_left}
+use Rattle.v_frame_plane.proofs.iterators.BegunRows.{last_begun, front_begun, last_of_rows, last_of_front, fewer_left}
 use Rattle.v_frame_plane.proofs.pixels.PixelsDoubleEndedIterator.next_back.Goals as goal
 use Rattle.v_frame_plane.proofs.pixels.PixelsDoubleEndedIterator.next_back.Goals.{in-Some-next_back, in-None}
 
@@ -13,10 +13,12 @@ invariant_of-self-2 g c =
     let rest = c.next_back.new.self in
     let cut = c.in_ok-pixel.ensures.cases.0 in
     elim c.match-next_back.branch [
-      | in-Some-next_back w ↦ rw (w.self-inside-is) (last_begun a.front.now a.back.now row others a.rows rest pixel c.self.invariant (rw (w.row-is) w.in-Some-next_back.ensures.steps) cut)
+      | in-Some-next_back w ↦ rw (w.self-inside-is) (last_begun a.front.now a.back.now row others a.rows rest pixel c.self.invariant
+          (rw (w.row-is) w.in-Some-next_back.ensures.steps) cut)
       | in-None w ↦
           let taken = ap (λ (r : Bor (List g.row.T.Denot)). r.now) (w.row-is ∙ w.take-row.ensures.value) in
-          rw (w.self-inside-is) (front_begun a.front.now a.back.now row others w.take-row.new.dest.now a.rows rest pixel c.self.invariant w.in-None.ensures.steps.1 w.take-row.ensures.after taken cut)
+          rw (w.self-inside-is) (front_begun a.front.now a.back.now row others w.take-row.new.dest.now a.rows rest pixel c.self.invariant
+          w.in-None.ensures.steps.1 w.take-row.ensures.after taken cut)
     ]
 
 pub returns-clause-steps : goal.returns-clause-steps
@@ -29,10 +31,14 @@ returns-clause-steps g c =
     let cut = c.in_ok-pixel.ensures.cases.0 in
     let none = c.in_default.ensures.cases in
     elim c.match-next_back.branch [
-      | in-Some-next_back w ↦ rw (w.self-inside-is, ← c.self.view_is) (last_of_rows a.front.now a.back.now row others a.rows rest pixel none (rw (w.row-is) w.in-Some-next_back.ensures.steps) cut)
+      | in-Some-next_back w ↦ rw (
+        w.self-inside-is,
+        ← c.self.view_is,
+      ) (last_of_rows a.front.now a.back.now row others a.rows rest pixel none (rw (w.row-is) w.in-Some-next_back.ensures.steps) cut)
       | in-None w ↦
           let taken = ap (λ (r : Bor (List g.row.T.Denot)). r.now) (w.row-is ∙ w.take-row.ensures.value) in
-          rw (w.self-inside-is, ← c.self.view_is) (last_of_front a.front.now a.back.now row others w.take-row.new.dest.now a.rows rest pixel none w.in-None.ensures.steps.0 w.in-None.ensures.steps.1 w.take-row.ensures.after taken cut)
+          rw (w.self-inside-is, ← c.self.view_is) (last_of_front a.front.now a.back.now row others w.take-row.new.dest.now a.rows rest pixel none
+          w.in-None.ensures.steps.0 w.in-None.ensures.steps.1 w.take-row.ensures.after taken cut)
     ]
 
 pub returns-clause-goes : goal.returns-clause-goes

@@ -5,8 +5,8 @@ use Rattle.std.specs.Option.{ghost_name_of}
 use borrow.Follows.Closed.{read_of}
 use Rattle.v_frame_layout.specs.Geometry.{alloc_size_of, place_of}
 use Rattle.v_frame_plane.specs.Plane.{Raster, raster}
-use Rattle.v_frame_plane.proofs.Places.{past_counting}
-use Rattle.v_frame_plane.proofs.Writes.{set_at, none_past}
+use Rattle.v_frame_plane.proofs.tables.Places.{past_counting}
+use Rattle.v_frame_plane.proofs.tables.Writes.{set_at, none_past}
 use Rattle.v_frame_plane.proofs.plane.Plane.checked_entry_mut.Goals as goal
 
 pub returns : goal.returns
@@ -26,7 +26,8 @@ returns-in_err-place g c =
     let p : Raster g.row.T.Denot = raster c.self.inside.geometry c.self.inside.buffer in
     let fits = c.self.invariant.fits in
     let past : alloc_size_of p.geometry ≤ place_of p.geometry c.args.x c.args.y = past_counting _ _ c.in_err-place.ensures (omega arith) in
-    let none : slice_get p.buffer (place_of p.geometry c.args.x c.args.y) ≡ None = slice_get_past p.buffer (place_of p.geometry c.args.x c.args.y) (omega (arith, c.self.invariant.whole)) in
+    let none : slice_get p.buffer (place_of p.geometry c.args.x c.args.y) ≡ None =
+    slice_get_past p.buffer (place_of p.geometry c.args.x c.args.y) (omega (arith, c.self.invariant.whole)) in
     rw (c.from_residual.ensures, ← c.self.view_is) (
       refl,
       record { writes_back = tt; value = sym none; none = (λ _. past, λ _. refl) },

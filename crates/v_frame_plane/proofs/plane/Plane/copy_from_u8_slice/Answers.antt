@@ -3,9 +3,9 @@ use Rattle.std.proofs.Common.{◌≡◌, ◌*◌, ◌∙◌, ap, sym, subst, ari
 use Rattle.v_frame_layout.specs.Table.{width_of}
 use Rattle.v_frame_plane.specs.Plane.{Raster, raster, table_of}
 use Rattle.v_frame_plane.specs.Copy.{Copies, strided_copy, packed_byte_copy}
-use Rattle.v_frame_plane.proofs.BytesBack.{AreBytes}
-use Rattle.v_frame_plane.proofs.ByteLaws.{packed_bytes}
-use Rattle.v_frame_plane.proofs.CopyLemmas.{width_of_shown}
+use Rattle.v_frame_plane.proofs.copies.BytesBack.{AreBytes}
+use Rattle.v_frame_plane.proofs.copies.ByteLaws.{packed_bytes}
+use Rattle.v_frame_plane.proofs.copies.CopyLemmas.{width_of_shown}
 use Rattle.v_frame_plane.proofs.plane.Plane.copy_from_u8_slice.Goals as goal
 
 pub returns : goal.returns
@@ -17,11 +17,14 @@ returns g c =
     let new : Raster g.row.T.Denot = c.copy_from_u8_slice_with_stride.new.self in
     let shown : c.width.result ≡ width_of (table_of p) = c.width.ensures.value ∙ sym (width_of_shown p c.width.ensures.valid.high c.self.invariant.whole) in
     let wide : c.width.result ≡ width_of (table_of old) = shown ∙ ap (λ (r : Raster g.row.T.Denot). width_of (table_of r)) c.self.view_is in
-    let row : c.width.result * c.BYTES.result ≡ width_of (table_of old) * form.size = ap (λ w. w * c.BYTES.result) wide ∙ ap (λ n. width_of (table_of old) * n) (c.BYTES.ensures ∙ g.met.T.Pixel.bytes_of_form) in
+    let row : c.width.result * c.BYTES.result ≡ width_of (table_of old) * form.size = ap (λ w. w * c.BYTES.result) wide ∙
+    ap (λ n. width_of (table_of old) * n) (c.BYTES.ensures ∙ g.met.T.Pixel.bytes_of_form) in
     let copied : Copies old new c.copy_from_u8_slice_with_stride.result (packed_byte_copy form (table_of old) source) =
-    subst (λ stride. Copies old new c.copy_from_u8_slice_with_stride.result (strided_copy form (table_of old) source stride)) row c.copy_from_u8_slice_with_stride.ensures.copied in
+    subst (λ stride. Copies old new c.copy_from_u8_slice_with_stride.result (strided_copy form (table_of old) source stride)) row
+    c.copy_from_u8_slice_with_stride.ensures.copied in
     let bytes : AreBytes source = record { below = λ i. omega (arith, c.type_inv.src i) } in
     record {
       copied = copied;
-      source = packed_bytes form g.met.T.Pixel.value_of_pixel (table_of old) (table_of new) source bytes c.copy_from_u8_slice_with_stride.result copied.answer copied.table;
+      source = packed_bytes form g.met.T.Pixel.value_of_pixel (table_of old) (table_of new) source bytes c.copy_from_u8_slice_with_stride.result copied.answer
+          copied.table;
     }

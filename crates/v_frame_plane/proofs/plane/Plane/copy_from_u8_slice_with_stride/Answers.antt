@@ -4,11 +4,11 @@ use Rattle.v_frame_layout.specs.Geometry.{usize_max}
 use Rattle.v_frame_plane.specs.Plane.{Raster, raster, table_of, border_of}
 use Rattle.v_frame_plane.specs.Copy.{CopyOutcome, Copies, strided_copy}
 use Rattle.v_frame_plane.specs.declared.error.CopyError.TheVariants.{DataLength}
-use Rattle.v_frame_plane.proofs.ByteCopies.{asked_is_found, asked_is_other, asked_is_told, refused_by_stride, refused_by_length, accepted}
+use Rattle.v_frame_plane.proofs.copies.ByteCopies.{asked_is_found, asked_is_other, asked_is_told, refused_by_stride, refused_by_length, accepted}
 use Rattle.std.specs.List.{refill}
-use Rattle.v_frame_plane.proofs.Lists.{refill_same}
-use Rattle.v_frame_plane.proofs.BytesBack.{AreBytes}
-use Rattle.v_frame_plane.proofs.ByteLaws.{strided_bytes}
+use Rattle.v_frame_plane.proofs.tables.Lists.{refill_same}
+use Rattle.v_frame_plane.proofs.copies.BytesBack.{AreBytes}
+use Rattle.v_frame_plane.proofs.copies.ByteLaws.{strided_bytes}
 use Rattle.v_frame_plane.proofs.plane.Plane.copy_from_u8_slice_with_stride.Goals as goal
 
 pub returns-then-stride-width-clause-copied : goal.returns-then-stride-width-clause-copied
@@ -16,7 +16,8 @@ returns-then-stride-width-clause-copied g c =
     let form = g.T.Pixel.form in
     let p : Raster g.row.T.Denot = raster c.self.inside.geometry c.self.inside.buffer in
     let bytes = c.BYTES.ensures ∙ g.met.T.Pixel.bytes_of_form in
-    let refused = refused_by_stride form p c.args.src.now c.args.stride c.width-width.result c.self.inside.geometry.height c.width-width.ensures.valid.high c.self.invariant.whole c.width-width.ensures.value refl (omega (arith, ap (λ n. c.width-width.result * n) bytes)) in
+    let refused = refused_by_stride form p c.args.src.now c.args.stride c.width-width.result c.self.inside.geometry.height c.width-width.ensures.valid.high
+    c.self.invariant.whole c.width-width.ensures.value refl (omega (arith, ap (λ n. c.width-width.result * n) bytes)) in
     rw (← c.self.view_is) (record {
       answer = sym (ap (λ (o : CopyOutcome g.row.T.Denot). o.answer) refused);
       table = sym (ap (λ (o : CopyOutcome g.row.T.Denot). o.table) refused);
@@ -36,7 +37,8 @@ returns-then-ne-clause-copied g c =
     let fits : c.width-width.result * form.size ≤ c.args.stride = omega (arith, ap (λ n. c.width-width.result * n) bytes) in
     let other = asked_is_other asked product found c.checked_mul-expected.ensures (omega arith) (sym c.if-ne.ensures) in
     let told : c.unwrap_or.result ≡ min product usize_max = c.unwrap_or.ensures ∙ asked_is_told asked product c.checked_mul-expected.ensures in
-    let refused = refused_by_length form p c.args.src.now c.args.stride c.width-width.result c.height.result c.width-width.ensures.valid.high c.self.invariant.whole c.width-width.ensures.value c.height.ensures.value fits other in
+    let refused = refused_by_length form p c.args.src.now c.args.stride c.width-width.result c.height.result c.width-width.ensures.valid.high
+    c.self.invariant.whole c.width-width.ensures.value c.height.ensures.value fits other in
     rw (← c.self.view_is) (record {
       answer = ap (λ n. Err (DataLength n found)) told ∙ ap (λ (o : CopyOutcome g.row.T.Denot). o.answer) (sym refused);
       table = ap (λ (o : CopyOutcome g.row.T.Denot). o.table) (sym refused);
@@ -55,13 +57,21 @@ returns g c =
     let left = refill_same old.buffer c.write_rows.new.buffer (c.write_rows.auto.buffer ∙ ap length entries) in
     let new : Raster g.row.T.Denot = raster k (refill (length old.buffer) old.buffer c.write_rows.new.buffer) in
     let size = c.BYTES.ensures ∙ g.met.T.Pixel.bytes_of_form in
-    let fits : k.width * form.size ≤ c.args.stride = omega (arith, ap (λ n. c.width-width.result * n) size, ap (λ n. n * form.size) c.width-width.ensures.value) in
-    let same = asked_is_found c.checked_mul-expected.result (c.args.stride * c.height.result) (length source) c.checked_mul-expected.ensures (sym c.if-ne.ensures) in
-    let done = accepted form old source c.args.stride k.width k.height c.width-width.ensures.valid.high c.self.invariant.whole refl refl fits (same ∙ ap (λ n. c.args.stride * n) c.height.ensures.value) in
+    let fits : k.width * form.size ≤ c.args.stride = omega (
+      arith,
+      ap (λ n. c.width-width.result * n) size,
+      ap (λ n. n * form.size) c.width-width.ensures.value,
+    ) in
+    let same = asked_is_found c.checked_mul-expected.result (c.args.stride * c.height.result) (length source) c.checked_mul-expected.ensures
+    (sym c.if-ne.ensures) in
+    let done = accepted form old source c.args.stride k.width k.height c.width-width.ensures.valid.high c.self.invariant.whole refl refl fits (same ∙
+    ap (λ n. c.args.stride * n) c.height.ensures.value) in
     let copied : Copies old new (Ok tt) (strided_copy form (table_of old) source c.args.stride) = record {
       answer = ap (λ (o : CopyOutcome g.row.T.Denot). o.answer) (sym done);
-      table = ap (λ (b : List g.row.T.Denot). table_of (raster k b)) left ∙ c.write_rows.ensures.table ∙ ap (λ (o : CopyOutcome g.row.T.Denot). o.table) (sym done);
-      border = ap (λ (b : List g.row.T.Denot). border_of (raster k b)) left ∙ c.write_rows.ensures.border ∙ ap (λ (b : List g.row.T.Denot). border_of (raster k b)) entries;
+      table = ap (λ (b : List g.row.T.Denot). table_of (raster k b)) left ∙ c.write_rows.ensures.table ∙
+          ap (λ (o : CopyOutcome g.row.T.Denot). o.table) (sym done);
+      border = ap (λ (b : List g.row.T.Denot). border_of (raster k b)) left ∙ c.write_rows.ensures.border ∙
+          ap (λ (b : List g.row.T.Denot). border_of (raster k b)) entries;
       geometry = refl;
       refused = tt;
     } in

@@ -1,8 +1,8 @@
 -- The entry that is lent is the table's pixel, and what is left there replaces it.
 use Rattle.std.proofs.Common.{◌<◌, slice_get, refl, sym, ap, ◌∙◌, arith}
 use Rattle.v_frame_plane.specs.Plane.{Raster, raster}
-use Rattle.v_frame_plane.proofs.Places.{pixel_inside, place_within}
-use Rattle.v_frame_plane.proofs.Writes.{set_at, writes_each_pixel}
+use Rattle.v_frame_plane.proofs.tables.Places.{pixel_inside, place_within}
+use Rattle.v_frame_plane.proofs.tables.Writes.{set_at, writes_each_pixel}
 use Rattle.v_frame_plane.proofs.plane.Plane.visible_pixel_mut.Goals as goal
 
 pub returns : goal.returns

@@ -1,8 +1,8 @@
 -- The part of the buffer that is lent is row y of the table, and a row left there replaces it.
 use Rattle.std.proofs.Common.{◌<◌, Some, refl, sym, ap, ◌∙◌, arith}
 use Rattle.v_frame_plane.specs.Plane.{Raster, raster, with_part, with_row}
-use Rattle.v_frame_plane.proofs.Places.{shown_slice}
-use Rattle.v_frame_plane.proofs.RowWrites.{row_wide, writes_each_row}
+use Rattle.v_frame_plane.proofs.tables.Places.{shown_slice}
+use Rattle.v_frame_plane.proofs.tables.RowWrites.{row_wide, writes_each_row}
 use Rattle.v_frame_plane.proofs.plane.Plane.visible_row_mut.Goals as goal
 
 pub returns : goal.returns
@@ -13,7 +13,8 @@ returns g c =
     let lent = c.part_mut.result.now in
     let whole = c.self.invariant.whole in
     let high : c.args.y < p.geometry.height = omega (arith, c.requires, ap (λ k. k.height) geometry) in
-    let value = sym (shown_slice p c.args.y c.row_start-start.result c.width.result p.buffer high start c.width.ensures.value refl) ∙ ap Some (sym c.part_mut.ensures.value) in (
+    let value = sym (shown_slice p c.args.y c.row_start-start.result c.width.result p.buffer high start c.width.ensures.value refl) ∙
+    ap Some (sym c.part_mut.ensures.value) in (
       (refl, λ w. ap (λ a. raster p.geometry (with_part p.buffer a w)) start ∙ ap (λ r. with_row r c.args.y w) c.self.view_is),
       record {
         writes_back = tt;

@@ -3,7 +3,7 @@ use Rattle.std.proofs.Common.{◌≤◌, ◌+◌, ◌++◌, length, take, drop, 
 use Rattle.std.proofs.lemmas.List.{take_all}
 use Rattle.v_frame_plane.specs.Plane.{Raster, raster}
 use Rattle.v_frame_layout.specs.Geometry.{place_of}
-use Rattle.v_frame_plane.proofs.RowWrites.{parts_to_the_end, row_at, row_wide, writes_each_front}
+use Rattle.v_frame_plane.proofs.tables.RowWrites.{parts_to_the_end, row_at, row_wide, writes_each_front}
 use Rattle.v_frame_plane.proofs.plane.pairs.split_row_mut.Goals as goal
 
 pub returns : goal.returns
@@ -14,7 +14,8 @@ returns g c =
     let start = c.row_start-place.ensures.place in let width = c.width-width.ensures.value in let whole = c.requires.whole.whole in
     let within : s + n ≤ length xs = omega (arith, c.row_start-place.ensures.within, width, whole) in
     let row = row_at p whole y s n lent.0.now c.requires.high start width c.two_parts.ensures.first in
-    let rest = c.two_parts.ensures.second ∙ take_all _ (drop (s + n) xs) (omega (arith, length-drop (s + n) xs)) ∙ ap (λ a. drop (a + n) xs) start ∙ ap (λ w. drop (place_of k 0 y + w) xs) width in (
+    let rest = c.two_parts.ensures.second ∙ take_all _ (drop (s + n) xs) (omega (arith, length-drop (s + n) xs)) ∙ ap (λ a. drop (a + n) xs) start ∙
+    ap (λ w. drop (place_of k 0 y + w) xs) width in (
       ((refl, refl), λ ys zs. parts_to_the_end xs ys zs s n within ∙ ap (λ a. take a xs ++ (ys ++ zs)) start),
       record {
         writes_back = tt;

@@ -1,5 +1,5 @@
--- A run of draws gives what was left, in order.
-use Rattle.v_frame_plane.proofs.WalkRuns.{gives_in_order, gives_in_reverse}
+-- Calls from one end give what was left, in order.
+use Rattle.v_frame_plane.proofs.iterators.WalkRuns.{gives_in_order, gives_in_reverse}
 use Rattle.v_frame_plane.proofs.plane_ref.PlaneRef.byte_data.Goals as goal
 
 pub returns-clause-runs : goal.returns-clause-runs

@@ -1,10 +1,10 @@
 -- The pixels are those of the rectangle, and each has two bytes at most.
 use Rattle.std.proofs.Common.{◌≡◌, ◌*◌, length, ◌∙◌, sym, ap, arith}
-use Rattle.v_frame_layout.specs.Table.{width_of, height_of, row_major}
+use Rattle.v_frame_layout.specs.Table.{width_of, row_major}
 use Rattle.v_frame_plane.specs.Plane.{Raster, raster, table_of}
-use Rattle.v_frame_plane.proofs.BegunPixels.{length-bytes_of_pixels, few_bytes}
-use Rattle.v_frame_plane.proofs.BegunRows.{visible_pixels, visible_few}
-use Rattle.v_frame_plane.proofs.CopyLemmas.{width_of_shown, height_of_shown}
+use Rattle.v_frame_plane.proofs.iterators.BegunPixels.{length-bytes_of_pixels, few_bytes}
+use Rattle.v_frame_plane.proofs.iterators.BegunRows.{visible_pixels, visible_few}
+use Rattle.v_frame_plane.proofs.copies.CopyLemmas.{width_of_shown, height_of_shown}
 use Rattle.v_frame_plane.proofs.plane_ref.PlaneRef.byte_len.Goals as goal
 
 pub overflow_mul-result : goal.overflow_mul-result
@@ -20,8 +20,10 @@ returns g c =
     let p : Raster g.row.T.Denot = raster c.self.inside.geometry c.self.inside.buffer.now in
     let pixels = row_major (table_of p) in
     let count : c.visible_size.result * c.BYTES.result ≡ p.geometry.width * p.geometry.height * form.size =
-    ap (λ n. n * c.BYTES.result) c.visible_size.ensures.value ∙ ap (λ n. p.geometry.width * p.geometry.height * n) (c.BYTES.ensures ∙ g.met.T.Pixel.bytes_of_form) in
-    let shown : p.geometry.width * p.geometry.height * form.size ≡ length pixels * form.size = ap (λ n. n * form.size) (sym (visible_pixels p c.self.invariant)) in
+    ap (λ n. n * c.BYTES.result) c.visible_size.ensures.value ∙ ap (λ n. p.geometry.width * p.geometry.height * n) (c.BYTES.ensures ∙
+    g.met.T.Pixel.bytes_of_form) in
+    let shown : p.geometry.width * p.geometry.height * form.size ≡ length pixels * form.size =
+    ap (λ n. n * form.size) (sym (visible_pixels p c.self.invariant)) in
     let wide : p.geometry.width ≡ width_of (table_of p) = sym (width_of_shown p c.visible_size.ensures.valid.high c.self.invariant.whole) in
     rw (← c.self.view_is) (record {
       value = count;

@@ -1,7 +1,7 @@
 -- The table is as high as the rectangle.
 use Rattle.std.proofs.Common.{◌∙◌, sym}
 use Rattle.v_frame_plane.specs.Plane.{Raster, raster}
-use Rattle.v_frame_plane.proofs.CopyLemmas.{height_of_shown}
+use Rattle.v_frame_plane.proofs.copies.CopyLemmas.{height_of_shown}
 use Rattle.v_frame_plane.proofs.plane_ref.PlaneRef.height.Goals as goal
 
 pub returns-clause-table : goal.returns-clause-table

@@ -3,7 +3,7 @@ use Rattle.std.proofs.Common.{◌<◌, length, slice_get, ap, sym, ◌∙◌, ar
 use Rattle.std.proofs.lemmas.Option.{slice_get_past, slice_get-get_or}
 use Rattle.v_frame_plane.specs.Plane.{Raster, raster}
 use Rattle.v_frame_layout.specs.Geometry.{place_of}
-use Rattle.v_frame_plane.proofs.Places.{pixel_inside, past_counting, copied_get}
+use Rattle.v_frame_plane.proofs.tables.Places.{pixel_inside, past_counting, copied_get}
 use Rattle.v_frame_plane.proofs.plane_ref.PlaneRef.pixel.Goals as goal
 
 -- inside the rectangle
@@ -11,21 +11,28 @@ pub returns-then-y-height-clause-value : goal.returns-then-y-height-clause-value
 returns-then-y-height-clause-value g c =
     let p : Raster g.row.T.Denot = raster c.self.inside.geometry c.self.inside.buffer.now in
     let within : c.visible_place.result < length p.buffer = omega (arith, c.visible_place.ensures.within, c.self.invariant.whole) in
-    rw (← c.self.view_is) (sym (slice_get-get_or p.buffer c.visible_place.result c.index-self-visible_place.result within) ∙ ap (slice_get p.buffer) c.visible_place.ensures.place)
+    rw (← c.self.view_is) (sym (slice_get-get_or p.buffer c.visible_place.result c.index-self-visible_place.result within) ∙
+    ap (slice_get p.buffer) c.visible_place.ensures.place)
 
 pub returns-then-y-height-clause-inside : goal.returns-then-y-height-clause-inside
 returns-then-y-height-clause-inside g c = rw (← c.self.view_is) (λ wide high.
     let p : Raster g.row.T.Denot = raster c.self.inside.geometry c.self.inside.buffer.now in
     let within : c.visible_place.result < length p.buffer = omega (arith, c.visible_place.ensures.within, c.self.invariant.whole) in
-    sym (slice_get-get_or p.buffer c.visible_place.result c.index-self-visible_place.result within) ∙ ap (slice_get p.buffer) c.visible_place.ensures.place ∙ pixel_inside p c.args.x c.args.y wide high)
+    sym (slice_get-get_or p.buffer c.visible_place.result c.index-self-visible_place.result within) ∙ ap (slice_get p.buffer) c.visible_place.ensures.place ∙
+    pixel_inside p c.args.x c.args.y wide high)
 
 -- a place that can't be counted lies past the buffer
 pub returns-in_err-place-clause-value : goal.returns-in_err-place-clause-value
 returns-in_err-place-clause-value g c =
     let p : Raster g.row.T.Denot = raster c.self.inside.geometry c.self.inside.buffer.now in
-    rw (← c.self.view_is) (c.from_residual.ensures ∙ sym (slice_get_past p.buffer (place_of p.geometry c.args.x c.args.y) (omega (arith, c.self.invariant.whole, past_counting (length p.buffer) (place_of p.geometry c.args.x c.args.y) c.in_err-place.ensures (omega arith)))))
+    rw (← c.self.view_is) (c.from_residual.ensures ∙ sym (slice_get_past p.buffer (place_of p.geometry c.args.x c.args.y) (omega (
+      arith,
+      c.self.invariant.whole,
+      past_counting (length p.buffer) (place_of p.geometry c.args.x c.args.y) c.in_err-place.ensures (omega arith),
+    ))))
 
 pub returns-clause-value : goal.returns-clause-value
 returns-clause-value g c =
     let p : Raster g.row.T.Denot = raster c.self.inside.geometry c.self.inside.buffer.now in
-    rw (← c.self.view_is) (c.copied.ensures ∙ copied_get p.buffer c.in_ok-place.place c.get.result c.get.ensures.lookup ∙ ap (slice_get p.buffer) c.in_ok-place.ensures.1)
+    rw (← c.self.view_is) (c.copied.ensures ∙ copied_get p.buffer c.in_ok-place.place c.get.result c.get.ensures.lookup ∙
+    ap (slice_get p.buffer) c.in_ok-place.ensures.1)

@@ -1,8 +1,8 @@
 -- The table is as wide as the rectangle.
 use Rattle.std.proofs.Common.{◌∙◌, sym}
 use Rattle.v_frame_plane.specs.Plane.{Raster, raster}
-use Rattle.v_frame_plane.proofs.CopyLemmas.{width_of_shown}
-use Rattle.v_frame_plane.proofs.Places.{rows_are_wide}
+use Rattle.v_frame_plane.proofs.copies.CopyLemmas.{width_of_shown}
+use Rattle.v_frame_plane.proofs.tables.Places.{rows_are_wide}
 use Rattle.v_frame_plane.proofs.plane_ref.PlaneRef.width.Goals as goal
 
 pub returns-clause-table : goal.returns-clause-table

@@ -2,7 +2,7 @@
 use Rattle.std.proofs.Common.{◌≡◌, ◌-◌, length, sym, ◌∙◌, ap, arith}
 use Rattle.v_frame_layout.specs.Geometry.{alloc_size_of}
 use Rattle.v_frame_plane.specs.Plane.{Raster, raster, table_of}
-use Rattle.v_frame_plane.proofs.Cursors.{visible_rows, rows_within, few_rows}
+use Rattle.v_frame_plane.proofs.iterators.Cursors.{visible_rows, rows_within, few_rows}
 use Rattle.v_frame_plane.proofs.rows.Rows.new.Goals as goal
 
 pub invariant_of-result : goal.invariant_of-result
@@ -13,7 +13,12 @@ invariant_of-result g c =
     record {
       wide = omega (arith, valid.wide);
       stride = omega (arith, valid.stride_fits);
-      within = λ _. omega (arith, whole, rows_within k c.data_origin.result c.width-width.result (c.stride.result - c.width-width.result) c.height.result valid.high c.data_origin.ensures.value c.width-width.ensures.value (omega arith) c.height.ensures.value);
+      within = λ _. omega (
+        arith,
+        whole,
+        rows_within k c.data_origin.result c.width-width.result (c.stride.result - c.width-width.result) c.height.result
+            valid.high c.data_origin.ensures.value c.width-width.ensures.value (omega arith) c.height.ensures.value,
+      );
     }
 
 pub returns : goal.returns
@@ -22,10 +27,15 @@ returns g c =
     let valid = c.width-width.ensures.valid in
     let own : Raster g.row.T.Denot = raster k c.data.result.now in
     let same : own ≡ c.args.plane.now = λ i. record { geometry = c.geometry-geometry.ensures.value i; buffer = c.data.ensures.value i } in
-    let rows = visible_rows k c.data.result.now c.data_origin.result c.width-width.result (c.stride.result - c.width-width.result) c.height.result c.data_origin.ensures.value c.width-width.ensures.value (omega arith) c.height.ensures.value in
+    let rows = visible_rows k c.data.result.now c.data_origin.result c.width-width.result (c.stride.result - c.width-width.result) c.height.result
+    c.data_origin.ensures.value c.width-width.ensures.value (omega arith) c.height.ensures.value in
     record {
       rows = rows ∙ ap table_of same;
       bound = rw (rows) (few_rows own valid.wide c.geometry-geometry.ensures.fits);
-      plane = record { fits = rw (c.geometry-geometry.ensures.value) at c.geometry-geometry.ensures.fits; whole = ap length (sym c.data.ensures.value) ∙ c.data.ensures.whole };
+      plane = record {
+        fits = rw (c.geometry-geometry.ensures.value) at c.geometry-geometry.ensures.fits;
+        whole = ap length (sym c.data.ensures.value) ∙
+            c.data.ensures.whole;
+      };
       valid = rw (c.geometry-geometry.ensures.value) at valid;
     }

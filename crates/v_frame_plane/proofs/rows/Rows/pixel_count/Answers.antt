@@ -1,7 +1,7 @@
 -- Each row that is left has all its width.
 use Rattle.std.proofs.Common.{◌*◌, sym, ◌∙◌, ap}
 use Rattle.v_frame_plane.specs.Cursor.{rows_ahead}
-use Rattle.v_frame_plane.proofs.Cursors.{count_of_rows, rows_are_long, pixels_of_rows}
+use Rattle.v_frame_plane.proofs.iterators.Cursors.{count_of_rows, rows_are_long, pixels_of_rows}
 use Rattle.v_frame_plane.proofs.rows.Rows.pixel_count.Goals as goal
 
 pub returns : goal.returns

@@ -11,7 +11,7 @@ use denote.Struct.Lending.{of_Lends}
 use Rattle.core.specs.contracts.marker.PhantomData as marker
 use Rattle.v_frame_plane.specs.contracts.aligned.block.Cells as C
 use Rattle.v_frame_plane.proofs.aligned.block.Cells.TheLaw.Statement.{statement}
-use Rattle.v_frame_plane.proofs.BlockLent.{cells_lent_laws, Lends-cells}
+use Rattle.v_frame_plane.proofs.block.BlockLent.{cells_lent_laws, Lends-cells}
 
 pub shares : (R : RattleType) (L : Laws R) → statement R L
 shares R L =

@@ -40,7 +40,7 @@ use Rattle.v_frame_plane.specs.contracts.aligned.block.Base.{the_row as Base}
 use Rattle.v_frame_plane.specs.contracts.aligned.block.Cells.{the_row as Cells}
 use Rattle.v_frame_plane.specs.contracts.aligned.block.Cells.slice.{ended, clauses}
 use Rattle.v_frame_plane.specs.contracts.aligned.block.Cells.slice.Key.{name as #self}
-use Rattle.v_frame_plane.proofs.BlockEntries.{lent_are_shared}
+use Rattle.v_frame_plane.proofs.block.BlockEntries.{lent_are_shared}
 use Rattle.v_frame_plane.proofs.aligned.block.Base.TheLaws.{lowered, lowers}
 use Rattle.v_frame_plane.proofs.aligned.block.Cells.slice.Statement.{statement}
 use Rattle.v_frame_plane.proofs.aligned.block.Cells.slice.Code as code

@@ -49,7 +49,7 @@ use Rattle.v_frame_plane.specs.contracts.aligned.block.Base.{the_row as Base}
 use Rattle.v_frame_plane.specs.contracts.aligned.block.Cells.{the_row as Cells}
 use Rattle.v_frame_plane.specs.contracts.aligned.block.Cells.slice_mut.{ended, clauses}
 use Rattle.v_frame_plane.specs.contracts.aligned.block.Cells.slice_mut.Key.{name as #self}
-use Rattle.v_frame_plane.proofs.BlockParts as parts
+use Rattle.v_frame_plane.proofs.block.BlockParts as parts
 use Rattle.v_frame_plane.proofs.aligned.block.Base.TheLaws.{lowered, lowers}
 use Rattle.v_frame_plane.proofs.aligned.block.Cells.slice_mut.Statement.{statement}
 use Rattle.v_frame_plane.proofs.aligned.block.Cells.slice_mut.Code as code
@@ -81,7 +81,7 @@ slice_mut_spec 𝓤 𝓛 𝓜 𝓡 wired T L =
     -- [what the name is seen at; the borrow; the token of κ; the other tokens; the locals]
     opens ! tt (Cells R) {h = d} rb ro (λ vs. move ! (1 ∷ []) $ fsplit ! $ move ! (1 ∷ []) $
     in_a_block ! d.at (λ p. cells_own R p xs d.spare) (id⊢ 𝓤 (never 𝓤)) (λ b o e. fsplit ! $ flt_l ! (λ small. fsplit ! $
-    -- [the entries; the room; the mark; its cell; the three parts of the borrow, which is open; the other tokens; the locals]
+    -- [the entries; the room; the marker; its cell; the three parts of the borrow, which is open; the other tokens; the locals]
     let part = take n (drop start xs) in let at = parts.from R d start o in
     let within : start + n ≤ length xs = omega (arith, ordered, inside) in
     let count : length part ≡ n = length-take-le n (drop start xs) (omega (arith, within, length-drop start xs)) in

@@ -41,7 +41,7 @@ use Rattle.v_frame_plane.specs.contracts.aligned.block.Base.{the_row as Base}
 use Rattle.v_frame_plane.specs.contracts.aligned.block.Cells.{the_row as Cells}
 use Rattle.v_frame_plane.specs.contracts.aligned.block.Cells.write_next.{ended, clauses}
 use Rattle.v_frame_plane.specs.contracts.aligned.block.Cells.write_next.Key.{name as #self}
-use Rattle.v_frame_plane.proofs.BlockEntries.{one_machine_value, first_place, put_last}
+use Rattle.v_frame_plane.proofs.block.BlockEntries.{one_machine_value, first_place, put_last}
 use Rattle.v_frame_plane.proofs.aligned.block.Base.TheLaws.{lowers}
 use Rattle.v_frame_plane.proofs.aligned.block.Cells.write_next.Statement.{statement}
 use Rattle.v_frame_plane.proofs.aligned.block.Cells.write_next.Code as code
@@ -80,7 +80,7 @@ write_next_spec 𝓤 𝓛 𝓜 𝓡 wired T L =
     -- [what the name is seen at; the borrow; the token; what x owns; the other token; the locals]
     opens ! tt (Cells R) {h = d} rb ro (λ vs. move ! (1 ∷ []) $ fsplit ! $ move ! (1 ∷ []) $
     in_a_block ! d.at (λ p. cells_own R p xs d.spare) (id⊢ 𝓤 (never 𝓤)) (λ b o e. fsplit ! $ flt_l ! (λ small. fsplit ! $ move ! (1 ∷ []) $
-    -- [the room; the entries; the mark; its cell; the three parts of the borrow, which is open; what x owns; the other token; the locals]
+    -- [the room; the entries; the marker; its cell; the three parts of the borrow, which is open; what x owns; the other token; the locals]
     let left = d.spare - 1 in let more : suc left ≡ d.spare = omega (arith, asked.2) in
     let tiny : s < 2 ^ 64 = omega (arith, one_below (length xs + d.spare) s (2 ^ 63) (omega (arith, asked.2)) small) in
     let far : place * s < 2 ^ 64 = omega (arith, times_below place (length xs + d.spare) s (2 ^ 63) (omega (arith, asked.1)) small) in
@@ -101,7 +101,7 @@ write_next_spec 𝓤 𝓛 𝓜 𝓡 wired T L =
     sets ! (of_opd ! (unit_lit !)) refl (tt, tt) $
     move ! (0 ∷ 8 ∷ []) $ use2 𝓛 (‵ (part_at R full_share x b at)) (part_in 𝓛 R refl full_share x b at v) $
     move ! (2 ∷ 0 ∷ []) $ use2 𝓛 (‵ (entries_at R b o ys)) (put_last R 𝓛 b xs x o at (ap (λ n. n * s + o) (sym asked.1))) $
-    -- [the entries, x behind them; the room; the mark; its cell; the three parts of the borrow, which is open; the other token; the locals]
+    -- [the entries, x behind them; the room; the marker; its cell; the three parts of the borrow, which is open; the other token; the locals]
     move ! (1 ∷ []) $ rewrite ! 0 (λ (n : ℕ). ‵ (room_at R b n left)) beyond refl $
     move ! (1 ∷ 0 ∷ []) $ fjoin ! $ flt_i ! ((length ys + left) * s) (2 ^ 63) (subst (λ n. n * s < 2 ^ 63) same small) $ fjoin ! $
     rewrite ! 0 (λ (p : Ptr). ‵ (cells_own R p ys left)) (sym e) refl $ move ! (1 ∷ 0 ∷ []) $ fjoin ! $

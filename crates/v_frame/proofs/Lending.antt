@@ -1,0 +1,132 @@
+-- Lending, in a proof by hand: a plane to an iterator over it, and an iterator to one call. Assumes `Logic`.
+--     lends_plane, plane_back     the plane is lent for a lifetime within κT, and is there again, as it ended
+--     rows_back     the same, from what its rows end as
+--     lends_walk, walk_back     an iterator in a local is lent to a call, and is there again, as the call left it
+--     rows_begin, pixels_begin     what `rows_mut` and `pixels_mut` say of the iterator that they give
+use Rattle.v_frame_plane.proofs.lent.Steps.{ℕ, ◌≡◌, ◌^◌, ◌<◌, List, [], ◌∷◌, length, MutBor, Lft, Share, Fml, fat, flent, flft, fsep, full_share, ent, sep}
+use Rattle.v_frame_plane.proofs.lent.Steps.{fact}
+use Rattle.v_frame_plane.proofs.lent.Steps.{RattleType, MutRef, mut_vals, mem, named, param, Val, vptr, Ura, Goal, Item, Seq, Soaks, Step, step, ‵, raw, ◌⊛◌}
+use Rattle.v_frame_plane.proofs.lent.Steps.{some, later, ◌$◌, ◌∵◌, !, qed, await, drop, frame, fsplit, heard, move, pick, split, use1, use2, use3, Logic, sem}
+use Rattle.v_frame_plane.proofs.lent.Steps.{Body, Array, Ty}
+use Rattle.std.proofs.Common.{All}
+use base.Fml.{fres}
+use base.Share
+use denote.Follow.{follows, followed}
+use denote.Laws.{Is}
+use denote.Lend.{LentAgain, comes_back, lends_again}
+use denote.Memory.{lone}
+use mir.Raw.{raw as raw_ty}
+use types.Kit.{mean}
+use Rattle.v_frame_layout.specs.Table.{row_major}
+use Rattle.v_frame_plane.specs.Cursor.{PixelsAreCountable}
+use Rattle.v_frame_plane.specs.Lends.{LendsBuffer}
+use Rattle.v_frame_plane.specs.PixelsLeft.{LendsPixelsInOrder, LendsPixelsInReverse, pixels_left, pixels_slice}
+use Rattle.v_frame_plane.specs.Plane.{Raster, table_of, with_entries}
+use Rattle.v_frame_plane.specs.RowsLeft.{LendsRowsInOrder, LendsRowsInReverse, rows_left, rows_slice}
+use Rattle.v_frame_plane.specs.SecondPixels.{BeginsOver}
+use Rattle.v_frame_plane.specs.SecondRows.{SecondRows, WritesEachTable, entries_with}
+use Rattle.v_frame_plane.specs.contracts.plane.Plane.{the_row}
+use Rattle.v_frame_plane.specs.declared.pixels_mut.PixelsMut.{PixelsMut}
+use Rattle.v_frame_plane.specs.declared.rows_mut.RowsMut.{RowsMut}
+use Rattle.v_frame.proofs.CallSteps.{told}
+use Rattle.v_frame_plane.proofs.lent.Loans as loans
+use Rattle.v_frame_plane.proofs.lent.Loans.{Back, lft_over, lft_within, share_within}
+
+module _ {M : Type 1} {𝓤 : Ura M} (T : RattleType) where
+  -- what the plane's lender keeps
+  abbrev Kept : (α δ : ℕ) (κ κT : Lft) (q : Share) → MutBor (Raster T.Denot) → Item 𝓤
+  Kept α δ κ κT q plane = ‵ (LentAgain (the_row (param 0 T)) κ (α ∷ κT) q plane.ghost_name plane.ref_ptr.0 plane.ref_ptr.1 δ plane.now)
+
+module _ {M : Type 1} {𝓤 : Ura M} {𝓛 : Logic 𝓤} {K : Type 0} {Γ : List (Item 𝓤)} {G : Goal 𝓤 𝓛.H} where
+  module _ (t : K) (z : Soaks G) (T : RattleType) where
+    -- [the plane, lent; the tokens of its lifetime and of κT; what its lender keeps; the way back]
+    pub lends_plane : (κ κT : Lft) (q qT : Share) (plane : MutBor (Raster T.Denot))
+        → ((α δ : ℕ) → Seq K 𝓛 (‵ ((MutRef (named 0) (α ∷ κT) (the_row (param 0 T))).own_val (record plane { ghost_name = δ }) (mut_vals plane)) ∷
+        ‵ (flft (α ∷ κT) (share_within (Share.left qT))) ∷ ‵ (flft κT (Share.right qT)) ∷ Kept T α δ κ κT q plane ∷ raw (Back 𝓛 α κT
+        (Share.left qT)) ∷ Γ) G)
+        → Seq K 𝓛 (‵ ((MutRef (named 0) κ (the_row (param 0 T))).own_val plane (mut_vals plane)) ∷ ‵ (flft κ q) ∷ ‵ (flft κT qT) ∷ Γ) G
+    lends_plane κ κT q qT plane k = let b = plane.ref_ptr.0 in let o = plane.ref_ptr.1 in
+        move t (2 ∷ []) $ use1 𝓛 (‵ (flft κT (Share.left qT)) ⊛ ‵ (flft κT (Share.right qT))) (𝓛.lfts.lft_split κT qT) $ split t $
+        lft_within t z κT (Share.left qT) (λ α. let κw : Lft = α ∷ κT in move t (3 ∷ 4 ∷ []) $
+        use2 𝓛 (later (some (λ (δ : ℕ). ‵ ((MutRef (named 0) κw (the_row (param 0 T))).own_val (record plane { ghost_name = δ })
+        (mut_vals plane)) ⊛ Kept T α δ κ κT q plane)))
+        (lends_again 𝓛 (the_row (param 0 T)) (named 0) κ κw q plane.ghost_name b o (named 0) plane.now) $ await t z $ pick t (λ δ. split t $
+        move t (0 ∷ 2 ∷ 4 ∷ 1 ∷ 3 ∷ []) $
+        k α δ))
+
+    pub plane_back : (α δ : ℕ) (κ κT : Lft) (q qT : Share) (plane : MutBor (Raster T.Denot)) (new : Raster T.Denot)
+        → Step K 𝓛 (‵ (flft κT qT) ∷ ‵ ((MutRef (named 0) κ (the_row (param 0 T))).own_val (record plane { now = new }) (mut_vals plane)) ∷ ‵ (flft κ q) ∷ Γ) G
+        (‵ (fres δ ((the_row (param 0 T)).coded.code new)) ∷ ‵ (flft (α ∷ κT) (share_within (Share.left qT))) ∷ ‵ (flft κT
+        (Share.right qT)) ∷ Kept T α δ κ κT q plane ∷
+        raw (Back 𝓛 α κT (Share.left qT)) ∷ Γ) G
+    plane_back α δ κ κT q qT plane new = step (λ k. let κw : Lft = α ∷ κT in move t (1 ∷ 4 ∷ []) $ lft_over t z α κT (Share.left qT) $ move t (0 ∷ 4 ∷ 2 ∷ []) $
+        use3 𝓛 (later (‵ ((MutRef (named 0) κ (the_row (param 0 T))).own_val (record plane { now = new }) (mut_vals plane)) ⊛ ‵ (flft κ q)))
+        (comes_back 𝓛 (the_row (param 0 T)) (named 0) κ κw q plane.ghost_name plane.ref_ptr.0 plane.ref_ptr.1 δ plane.now new) $ await t z $ split t $
+        move t (2 ∷ 3 ∷ []) $ use2 𝓛 (‵ (flft κT qT)) (𝓛.lfts.lft_join κT qT) $ k)
+
+  -- [how the iterator ends; the tokens of its lifetime and of κT; how the plane's entries end; what the plane's lender keeps; the way back]
+  pub rows_back : K → Soaks G → (T : RattleType) (α δ : ℕ) (κ κT : Lft) (q qT : Share) (plane : MutBor (Raster T.Denot)) (walk : RowsMut T.Denot) (rows :
+      List (List T.Denot))
+      → let Plane = the_row (param 0 T) in let new = with_entries plane.now (entries_with walk rows) in
+      Step K 𝓛 (‵ (flft κT qT) ∷ ‵ ((MutRef (named 0) κ Plane).own_val (record plane { now = new }) (mut_vals plane)) ∷ ‵ (flft κ q) ∷ Γ) G
+      (‵ (SecondRows (param 0 T) walk rows) ∷ ‵ (flft (α ∷ κT) (share_within (Share.left qT))) ∷ ‵ (flft κT (Share.right qT)) ∷
+      ‵ (follows Plane (Array (param 0 T) 0) δ walk.rest.ghost_name (with_entries plane.now)) ∷
+      ‵ (LentAgain Plane κ (α ∷ κT) q plane.ghost_name plane.ref_ptr.0 plane.ref_ptr.1 δ plane.now) ∷ raw (Back 𝓛 α κT (Share.left qT)) ∷ Γ) G
+  rows_back t z T α δ κ κT q qT plane walk rows = step (λ k. let Plane = the_row (param 0 T) in let entries = entries_with walk rows in let new =
+      with_entries plane.now entries in
+      move t (3 ∷ 0 ∷ []) $ use2 𝓛 (‵ (fres δ (Plane.coded.code new))) (followed 𝓛 Plane (Array (param 0 T) 0) (with_entries plane.now) δ walk.rest.ghost_name
+      entries) $ plane_back t z T α δ κ κT q qT plane new $ k)
+
+  module _ (t : K) (z : Soaks G) (R : RattleType) (one : R.mir ≡ lone R.mir ∷ []) (τ : Ty) (same : raw_ty τ ≡ raw_ty (lone R.mir)) (κ : Lft) (q : Share) where
+    -- [what is lent; the tokens of the loan and of κ; what its lender keeps; the way back]
+    pub lends_walk : (x : R.Denot) (b o : ℕ) (v : Val)
+        → ((α γ : ℕ) → Seq K 𝓛 (‵ ((MutRef (named 0) (α ∷ κ) R).own_val (record { ref_ptr = (b, o); ghost_name = γ; now = x }) (vptr b o ∷ [])) ∷
+        ‵ (flft (α ∷ κ) (share_within (Share.left q))) ∷ ‵ (flft κ (Share.right q)) ∷ ‵ (flent (α ∷ κ) (Body (mem R) b o γ)) ∷
+        raw (Back 𝓛 α κ (Share.left q)) ∷ Γ) G)
+        → Seq K 𝓛 (‵ (fat full_share τ b o v) ∷ ‵ (R.own_val x (v ∷ [])) ∷ ‵ (flft κ q) ∷ Γ) G
+    lends_walk x b o v k =
+        move t (2 ∷ []) $ use1 𝓛 (‵ (flft κ (Share.left q)) ⊛ ‵ (flft κ (Share.right q))) (𝓛.lfts.lft_split κ q) $ split t $ move t (2 ∷ 3 ∷ 0 ∷ []) $
+        loans.lends t z R one τ same κ (Share.left q) x b o v (λ α γ. move t (0 ∷ 2 ∷ 4 ∷ 1 ∷ 3 ∷ []) $ k α γ)
+
+    pub walk_back : (α γ b o : ℕ) (new : R.Denot) (v : Val) {said : Fml} → ((u : Val) → Is R new (u ∷ []) → u ≡ v)
+        → Step K 𝓛 (‵ (fat full_share τ b o v) ∷ ‵ (R.own_val new (v ∷ [])) ∷ ‵ (flft κ q) ∷ Γ) G
+        (‵ (flft (α ∷ κ) (share_within (Share.left q))) ∷ ‵ (flft κ (Share.right q)) ∷ ‵ (fsep (fres γ (R.coded.code new)) said) ∷
+        ‵ (flent (α ∷ κ) (Body (mem R) b o γ)) ∷ raw (Back 𝓛 α κ (Share.left q)) ∷ Γ) G
+    walk_back α γ b o new v spelled = step (λ k. move t (0 ∷ 4 ∷ []) $ lft_over t z α κ (Share.left q) $
+        -- [the loan is over; both halves of the token of κ; the last value; what the lender keeps]
+        move t (1 ∷ 2 ∷ []) $ use2 𝓛 (‵ (flft κ q)) (𝓛.lfts.lft_join κ q) $ move t (2 ∷ []) $ fsplit t $ move t (3 ∷ 4 ∷ 0 ∷ []) $
+        loans.comes_back t z R one τ same (α ∷ κ) γ b o new v spelled $ move t (2 ∷ []) $ drop t $ k)
+
+-- how an iterator over the rows of a plane begins
+pub record RowsBegin {X : Type 0} (plane : Raster X) (walk : RowsMut X) : Type 0 where
+  pub rows : rows_left walk ≡ table_of plane
+  pub written : WritesEachTable plane walk
+  pub wide : All (λ row. length row ≡ plane.geometry.width) (rows_left walk)
+
+-- and one over its pixels
+pub record PixelsBegin {X : Type 0} (plane : Raster X) (walk : PixelsMut X) : Type 0 where
+  pub pixels : pixels_left walk ≡ row_major (table_of plane)
+  pub begins : BeginsOver plane walk
+
+module _ {M : Type 1} {𝓤 : Ura M} (𝓛 : Logic 𝓤) (T : RattleType) (loan : MutBor (Raster T.Denot)) where
+  -- what the calls say
+  abbrev RowsSaid : RowsMut T.Denot → Item 𝓤
+  RowsSaid walk = ‵ (LendsBuffer (param 0 T) loan (rows_slice walk)) ⊛ raw (fact 𝓤 ((rows_slice walk).now ≡ loan.now.buffer)) ⊛
+      raw (fact 𝓤 (rows_left walk ≡ table_of loan.now)) ⊛ raw (fact 𝓤 (WritesEachTable loan.now walk)) ⊛
+      raw (fact 𝓤 (All (λ row. length row ≡ loan.now.geometry.width) (rows_left walk))) ⊛ raw (fact 𝓤 (PixelsAreCountable [] (rows_left walk) [])) ⊛
+      raw (fact 𝓤 (length (rows_left walk) < 2 ^ 63)) ⊛ raw (fact 𝓤 (LendsRowsInOrder T.Denot)) ⊛ raw (fact 𝓤 (LendsRowsInReverse T.Denot))
+
+  abbrev PixelsSaid : PixelsMut T.Denot → Item 𝓤
+  PixelsSaid walk = ‵ (LendsBuffer (param 0 T) loan (pixels_slice walk)) ⊛ raw (fact 𝓤 ((pixels_slice walk).now ≡ loan.now.buffer)) ⊛
+      raw (fact 𝓤 (pixels_left walk ≡ row_major (table_of loan.now))) ⊛ raw (fact 𝓤 (BeginsOver loan.now walk)) ⊛
+      raw (fact 𝓤 (length (pixels_left walk) < 2 ^ 63)) ⊛ raw (fact 𝓤 (LendsPixelsInOrder T.Denot)) ⊛ raw (fact 𝓤 (LendsPixelsInReverse T.Denot))
+
+  pub rows_begin : (walk : RowsMut T.Denot) → ent 𝓤 (mean 𝓛 (RowsSaid walk)) (sep 𝓤 (sem 𝓛 (LendsBuffer (param 0 T) loan (rows_slice walk)))
+      (fact 𝓤 (RowsBegin loan.now walk)))
+  rows_begin walk = qed 𝓛 (RowsSaid walk ∷ []) ∵ split ! $ frame ! $ split ! $ drop ! $ split ! $ heard ! _ (λ rows. split ! $ heard ! _ (λ written. split ! $
+      heard ! _ (λ wide. told ! (record { rows = rows; written = written; wide = wide }))))
+
+  pub pixels_begin : (walk : PixelsMut T.Denot) → ent 𝓤 (mean 𝓛 (PixelsSaid walk)) (sep 𝓤 (sem 𝓛 (LendsBuffer (param 0 T) loan (pixels_slice walk)))
+      (fact 𝓤 (PixelsBegin loan.now walk)))
+  pixels_begin walk = qed 𝓛 (PixelsSaid walk ∷ []) ∵ split ! $ frame ! $ split ! $ drop ! $ split ! $ heard ! _ (λ pixels. split ! $ heard ! _ (λ begins.
+      told ! (record { pixels = pixels; begins = begins })))

@@ -1,5 +1,0 @@
-use Rattle.v_frame.proofs.FullWalks.{changes_each_pixel}
-use Rattle.v_frame.proofs.laws.walks.full_walks_change_each_pixel.Goals as goal
-
-pub returns : goal.returns
-returns g c = changes_each_pixel

@@ -1,0 +1,6 @@
+-- The block of memory that a buffer is kept in.
+pub mod BlockCrosses
+pub mod BlockEntries
+pub mod BlockLent
+pub mod BlockParts
+pub mod BlockRooms

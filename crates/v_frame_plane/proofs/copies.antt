@@ -1,0 +1,6 @@
+-- Copies of pixels and of bytes.
+pub mod ByteCopies
+pub mod ByteLaws
+pub mod BytesBack
+pub mod CopyLemmas
+pub mod Sources

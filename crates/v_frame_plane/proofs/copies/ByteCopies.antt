@@ -1,0 +1,70 @@
+-- What decides a copy of bytes: its stride, then the length that is asked for, which a `usize` may not hold.
+use Rattle.std.proofs.Common.{ℕ, ◌≡◌, ◌*◌, ◌^◌, ◌-◌, ◌<◌, ◌≤◌, true, false, not, nat_eq, eqb, ltb, min, List, length, Option, Some, None, Ok, Err, unwrap_or}
+use Rattle.std.proofs.Common.{SomeIff, eq-eqb, inl, inr, refl, sym, ◌∙◌, ap, arith}
+use Rattle.std.proofs.lemmas.Bool.{lt-ltb, le-ltb}
+use Rattle.std.proofs.lemmas.Bool.Decides.{eqb_tells, nat_tests}
+use Rattle.std.specs.Option.{option_eq}
+use Rattle.v_frame_layout.specs.Geometry.{alloc_size_of, usize_max}
+use Rattle.v_frame_layout.specs.Pixel.{PixelForm}
+use Rattle.v_frame_plane.specs.Plane.{Raster, table_of}
+use Rattle.v_frame_layout.specs.Table.{width_of, height_of}
+use Rattle.v_frame_plane.specs.Copy.{strided_table, strided_copy}
+use Rattle.v_frame_plane.specs.declared.error.CopyError.TheVariants.{DataLength, InvalidStride}
+use Rattle.v_frame_plane.proofs.copies.CopyLemmas.{width_of_shown, height_of_shown}
+
+-- a product that is asked for, as it was counted, and a length that was found
+pub asked_is_found : (asked : Option ℕ) (product found : ℕ) → SomeIff asked (product < 2 ^ 64) product → not (option_eq nat_eq asked (Some found)) ≡ false →
+    found ≡ product
+asked_is_found None product found counted e = cc
+asked_is_found (Some n) product found counted e = grind (arith, nat_tests)
+
+pub asked_is_other : (asked : Option ℕ) (product found : ℕ) → SomeIff asked (product < 2 ^ 64) product → found < 2 ^ 64 →
+    not (option_eq nat_eq asked (Some found)) ≡ true → found ≡ product → ⊥
+asked_is_other None product found counted h e same = counted (omega arith)
+asked_is_other (Some n) product found counted h e same = grind (arith, nat_tests)
+
+pub asked_is_told : (asked : Option ℕ) (product : ℕ) → SomeIff asked (product < 2 ^ 64) product → unwrap_or asked (2 ^ 64 - 1) ≡ min product usize_max
+asked_is_told None product counted = let h : (product < 2 ^ 64 → ⊥) = counted in omega arith
+asked_is_told (Some n) product counted = omega arith
+
+-- the sizes of the plane, as the code reads them, are those of its table
+module _ {T : Type 0} (form : PixelForm T) (p : Raster T) (source : List ℕ) (stride width height : ℕ) (some_row : 0 < p.geometry.height) (whole :
+    length p.buffer ≡ alloc_size_of p.geometry) (w : width ≡ p.geometry.width) (h : height ≡ p.geometry.height) where
+  wide : width_of (table_of p) ≡ width
+  wide = width_of_shown p some_row whole ∙ sym w
+
+  high : height_of (table_of p) ≡ height
+  high = height_of_shown p ∙ sym h
+
+  -- the stride holds no row
+  pub refused_by_stride : stride < width * form.size → strided_copy form (table_of p) source stride ≡
+      record { answer = Err (InvalidStride stride width); table = table_of p }
+  refused_by_stride below =
+      let yes : ltb stride (width_of (table_of p) * form.size) ≡ true = lt-ltb stride (width_of (table_of p) * form.size) (omega (
+        arith,
+        ap (λ w. w * form.size) wide,
+      )) in
+      rw (yes, wide) refl
+
+  module _ (fits : width * form.size ≤ stride) where
+    no_refusal : ltb stride (width_of (table_of p) * form.size) ≡ false
+    no_refusal = le-ltb stride (width_of (table_of p) * form.size) (omega (arith, ap (λ w. w * form.size) wide))
+
+    -- the source has another length
+    pub refused_by_length : (length source ≡ stride * height → ⊥) → strided_copy form (table_of p) source stride ≡
+        record { answer = Err (DataLength (min (stride * height) usize_max) (length source)); table = table_of p }
+    refused_by_length other =
+        let no : eqb (length source) (stride * height_of (table_of p)) ≡ false =
+        elim (eqb_tells (length source) (stride * height_of (table_of p))) [
+          | inl is ↦ absurd (other (is.1 ∙
+              ap (λ n. stride * n) high))
+          | inr differs ↦ differs.0
+        ] in
+        rw (no_refusal, no, high) refl
+
+    pub accepted : length source ≡ stride * height → strided_copy form (table_of p) source stride ≡
+        record { answer = Ok tt; table = strided_table form width height stride source }
+    accepted same =
+        let yes : eqb (length source) (stride * height_of (table_of p)) ≡ true = eq-eqb (length source) (stride * height_of (table_of p)) (same ∙
+        ap (λ n. stride * n) (sym high)) in
+        rw (no_refusal, yes, wide, high) refl

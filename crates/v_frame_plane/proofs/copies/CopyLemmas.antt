@@ -1,0 +1,130 @@
+-- Rows of a packed source, written one after the other over those of a plane.
+use Rattle.std.proofs.Common.{ℕ, zero, suc, ◌≡◌, ◌+◌, ◌*◌, ◌<◌, ◌≤◌, eqb, true, false, eq-eqb, inl, inr, List, [], ◌∷◌, ◌++◌, length, take, drop, Some, Ok, Err}
+use Rattle.std.proofs.Common.{slice_get, slice_set, refl, sym, ◌∙◌, ap, arith, append-nil, take-append-drop, length-drop, length-take, length-take-le}
+use Rattle.std.proofs.lemmas.List.{drop-drop, take_all, drop_all}
+use Rattle.std.proofs.lemmas.Bool.{cases_lt}
+use Rattle.std.proofs.lemmas.Bool.Decides.{eqb_tells}
+use Rattle.std.proofs.Math.Nat.{mul-le-mul_right}
+use borrow.Rule.Slice.PartMut.{put_mid}
+use Rattle.v_frame_layout.specs.Geometry.{Geometry, alloc_size_of, place_of}
+use Rattle.v_frame_plane.specs.Plane.{Raster, raster, table_of, border_of}
+use Rattle.v_frame_layout.specs.Table.{Table, width_of, height_of, row_major, cut_rows}
+use Rattle.v_frame_plane.specs.Copy.{packed_copy}
+use Rattle.v_frame_plane.specs.declared.error.CopyError.TheVariants.{DataLength}
+use Rattle.v_frame_plane.proofs.tables.Lists.{one_more}
+use Rattle.v_frame_layout.proofs.Plans.{row_start, place_of_row, row_within, visible_within}
+use Rattle.v_frame_plane.proofs.tables.Pictures.{overwritten, shown_overwritten, border_overwritten, shown_row, length-shown}
+
+positive_factor : (w h : ℕ) → 0 < w * h → 0 < h
+positive_factor w zero p = absurd (omega (arith, p))
+positive_factor w (suc h) p = omega arith
+
+module _ {T : Type 0} where
+  pub length-cut_rows : (width height : ℕ) (source : List T) → length (cut_rows width height source) ≡ height
+  length-cut_rows width zero source = refl
+  length-cut_rows width (suc height) source = ap suc (length-cut_rows width height (drop width source))
+
+  -- the rows of a packed source are the source
+  pub row_major-cut_rows : (width height : ℕ) (source : List T) → length source ≡ width * height → row_major (cut_rows width height source) ≡ source
+  row_major-cut_rows width zero [] h = refl
+  row_major-cut_rows width zero (pixel ∷ source) h = absurd (omega (arith, h))
+  row_major-cut_rows width (suc height) source h =
+      let rest : length (drop width source) ≡ width * height = omega (arith, h, length-drop width source) in
+      ap (λ pixels. take width source ++ pixels) (row_major-cut_rows width height (drop width source) rest) ∙ take-append-drop width source
+
+  -- piece y of a source is what it holds from `width * y` on
+  pub slice_get-cut_rows : (width height : ℕ) (source : List T) (y : ℕ) → y < height →
+      slice_get (cut_rows width height source) y ≡ Some (take width (drop (width * y) source))
+  slice_get-cut_rows width zero source y h = absurd (omega arith)
+  slice_get-cut_rows width (suc height) source zero h = let e : width * 0 ≡ 0 = omega arith in rw e refl
+  slice_get-cut_rows width (suc height) source (suc y) h =
+      let e : width + width * y ≡ width * suc y = omega arith in
+      slice_get-cut_rows width height (drop width source) y (omega arith) ∙ ap (λ s. Some (take width s)) (drop-drop (width * y) width source) ∙
+      ap (λ n. Some (take width (drop n source))) e
+
+  -- a write of `k` entries from the place where row y begins on
+  put_row : (g : Geometry) (xs row : List T) (y start k : ℕ) → y < g.height → start ≡ place_of g 0 y → length row ≡ k →
+      put_mid start k xs row ≡ overwritten xs (row_start g y) row
+  put_row g xs row y start k h s n =
+      let at : start ≡ row_start g y = s ∙ place_of_row g y (omega arith) in
+      ap (λ p. put_mid p k xs row) at ∙ ap (λ m. put_mid (row_start g y) m xs row) (sym n)
+
+  pub shown_put_row : (g : Geometry) (xs row : List T) (y start k : ℕ) → y < g.height → start ≡ place_of g 0 y → length row ≡ k → k ≡ g.width →
+      length xs ≡ alloc_size_of g
+      → table_of (raster g (put_mid start k xs row)) ≡ slice_set (table_of (raster g xs)) y row
+  shown_put_row g xs row y start k h s n w whole =
+      ap (λ b. table_of (raster g b)) (put_row g xs row y start k h s n) ∙ shown_overwritten g xs row y h (n ∙ w) (omega (arith, row_within g y h))
+
+  pub border_put_row : (g : Geometry) (xs row : List T) (y start k : ℕ) → y < g.height → start ≡ place_of g 0 y → length row ≡ k → k ≡ g.width →
+      length xs ≡ alloc_size_of g
+      → border_of (raster g (put_mid start k xs row)) ≡ border_of (raster g xs)
+  border_put_row g xs row y start k h s n w whole =
+      ap (λ b. border_of (raster g b)) (put_row g xs row y start k h s n) ∙ border_overwritten g xs row y h (n ∙ w) (omega (arith, row_within g y h))
+
+  -- one more row of those that are written
+  pub one_more_row : (g : Geometry) (xs ys row : List T) (rows : Table T) (y start k : ℕ) → y < g.height → start ≡ place_of g 0 y → length row ≡ k →
+      k ≡ g.width → length xs ≡ alloc_size_of g
+      → slice_get rows y ≡ Some row
+      → table_of (raster g xs) ≡ take y rows ++ drop y (table_of (raster g ys))
+      → table_of (raster g (put_mid start k xs row)) ≡ take (y + 1) rows ++ drop (y + 1) (table_of (raster g ys))
+  one_more_row g xs ys row rows y start k h s n w whole is so_far =
+      shown_put_row g xs row y start k h s n w whole ∙ ap (λ t. slice_set t y row) so_far ∙
+      one_more rows (table_of (raster g ys)) y row is (omega (arith, length-shown (raster g ys)))
+
+  -- after the last row the table is these rows
+  pub all_rows : (g : Geometry) (xs ys : List T) (rows : Table T) (y : ℕ) → length rows ≡ g.height → g.height ≤ y
+      → table_of (raster g xs) ≡ take y rows ++ drop y (table_of (raster g ys))
+      → table_of (raster g xs) ≡ rows
+  all_rows g xs ys rows y as_many h so_far =
+      so_far ∙ ap (λ t. t ++ drop y (table_of (raster g ys))) (take_all y rows (omega arith)) ∙
+      ap (λ t. rows ++ t) (drop_all y (table_of (raster g ys)) (omega (arith, length-shown (raster g ys)))) ∙ append-nil rows
+
+  width_of_first : (t : Table T) (row : List T) → slice_get t 0 ≡ Some row → width_of t ≡ length row
+  width_of_first [] row e = cc
+  width_of_first (first ∷ rows) row e = let same : first ≡ row = cc in ap length same
+
+  -- the sizes of a table are those of its plane
+  pub width_of_shown : (p : Raster T) → 0 < p.geometry.height → length p.buffer ≡ alloc_size_of p.geometry → width_of (table_of p) ≡ p.geometry.width
+  width_of_shown p h whole =
+      let g = p.geometry in
+      width_of_first (table_of p) _ (shown_row p 0 h) ∙ length-take-le g.width (drop (row_start g 0) p.buffer) (omega (
+        arith,
+        length-drop (row_start g 0) p.buffer,
+        row_within g 0 h,
+      ))
+
+  pub height_of_shown : (p : Raster T) → height_of (table_of p) ≡ p.geometry.height
+  height_of_shown p = length-shown p
+
+  -- a copy is decided by the sizes of the plane
+  module _ (p : Raster T) (source : List T) (expected : ℕ) (high : 0 < p.geometry.height) (whole : length p.buffer ≡ alloc_size_of p.geometry) (e : expected ≡
+      p.geometry.width * p.geometry.height) where
+    pixels : width_of (table_of p) * height_of (table_of p) ≡ expected
+    pixels = ap (λ n. n * height_of (table_of p)) (width_of_shown p high whole) ∙ ap (λ n. p.geometry.width * n) (height_of_shown p) ∙ sym e
+
+    pub copy_refused : (length source ≡ expected → ⊥) → packed_copy (table_of p) source ≡
+        record { answer = Err (DataLength expected (length source)); table = table_of p }
+    copy_refused other =
+        let no : eqb (length source) (width_of (table_of p) * height_of (table_of p)) ≡ false =
+        elim (eqb_tells (length source) (width_of (table_of p) * height_of (table_of p))) [ inl h ↦ absurd (other (h.1 ∙ pixels)) | inr h ↦ h.0 ] in
+        rw (no, pixels) refl
+
+    pub copy_accepted : length source ≡ expected → packed_copy (table_of p) source ≡
+        record { answer = Ok tt; table = cut_rows p.geometry.width p.geometry.height source }
+    copy_accepted same =
+        let yes : eqb (length source) (width_of (table_of p) * height_of (table_of p)) ≡ true =
+        eq-eqb (length source) (width_of (table_of p) * height_of (table_of p)) (same ∙ sym pixels) in
+        rw (yes, width_of_shown p high whole, height_of_shown p) refl
+
+  -- a table has no more pixels than the buffer of its plane has entries
+  pub pixels_within : (p : Raster T) → width_of (table_of p) * height_of (table_of p) ≤ alloc_size_of p.geometry
+  pixels_within p =
+      let g = p.geometry in
+      let rows : height_of (table_of p) ≡ g.height = height_of_shown p in
+      elim (cases_lt 0 g.height) [
+        | inl high ↦
+            let first = width_of_first (table_of p) _ (shown_row p 0 high) in
+            let wide : width_of (table_of p) ≤ g.width = omega (arith, first, length-take g.width (drop (row_start g 0) p.buffer)) in
+            omega (arith, ap (λ n. width_of (table_of p) * n) rows, mul-le-mul_right g.height wide, visible_within g)
+        | inr none ↦ let flat : height_of (table_of p) ≡ 0 = omega arith in omega (arith, ap (λ n. width_of (table_of p) * n) flat)
+      ]

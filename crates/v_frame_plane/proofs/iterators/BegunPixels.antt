@@ -1,0 +1,40 @@
+-- An iterator over bytes as a pixel that was begun from the front, pixels, and a pixel that was begun from the back.
+use Rattle.std.proofs.Common.{ℕ, ◌≡◌, ◌+◌, ◌*◌, ◌^◌, ◌<◌, ◌≤◌, List, [], ◌∷◌, ◌++◌, length, Option, Some, None, is_some, refl, arith, length-append}
+use Rattle.std.proofs.Math.Nat.{mul-le-mul_right}
+use Rattle.std.specs.Int.{from_bool}
+use Rattle.v_frame_layout.specs.Pixel.{PixelForm, bytes_of, bytes_of_pixels}
+use Rattle.v_frame_plane.specs.Cursor.{other_byte, bytes_ahead}
+use Rattle.v_frame_layout.proofs.PixelBytes.{length-bytes_from}
+
+module _ {T : Type 0} (form : PixelForm T) where
+  pub length-bytes_of_pixels : (pixels : List T) → length (bytes_of_pixels form pixels) ≡ length pixels * form.size
+  length-bytes_of_pixels [] = omega arith
+  length-bytes_of_pixels (pixel ∷ pixels) =
+      omega (
+        arith,
+        length-append (bytes_of form.size (form.value pixel)) (bytes_of_pixels form pixels),
+        length-bytes_from 0 form.size (form.value pixel),
+        length-bytes_of_pixels pixels,
+      )
+
+  count_of_other : (i : ℕ) (begun : Option T) → length (other_byte form i begun) ≡ from_bool (is_some begun)
+  count_of_other i None = refl
+  count_of_other i (Some pixel) = refl
+
+  pub count_of_bytes : (front : Option T) (pixels : List T) (back : Option T)
+      → length (bytes_ahead form front pixels back) ≡ from_bool (is_some front) + length pixels * form.size + from_bool (is_some back)
+  count_of_bytes front pixels back =
+      omega (
+        arith,
+        length-append (other_byte form 1 front) (bytes_of_pixels form pixels ++ other_byte form 0 back),
+        length-append (bytes_of_pixels form pixels) (other_byte form 0 back),
+        length-bytes_of_pixels pixels,
+        count_of_other 1 front,
+        count_of_other 0 back,
+      )
+
+  -- pixels of two bytes at most
+  pub few_bytes : (pixels : List T) → form.size < 3 → 2 * length pixels < 2 ^ 63 → length pixels * form.size < 2 ^ 63
+  few_bytes pixels small bound =
+      let all : form.size * length pixels ≤ 2 * length pixels = mul-le-mul_right (length pixels) (omega arith) in
+      omega arith

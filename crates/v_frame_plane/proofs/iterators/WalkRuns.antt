@@ -1,0 +1,28 @@
+-- What calls from one end give, at an iterator that is seen as the list of the items left.
+use Rattle.std.proofs.Common.{List, ap, length}
+use Rattle.std.proofs.iter.runs.Sources.{from_front, from_back, as_is, as_is_back}
+use Rattle.std.specs.Iterator.{YieldsFirstMut, YieldsLastMut}
+use Rattle.std.specs.Iterator.Runs.{YieldsMutRefsInOrder, YieldsMutRefsInReverse}
+use Rattle.std.specs.Map.Iter.{TakesFirst, TakesLast, ShowsInOrder, ShowsInReverse, GivesInOrder, GivesInReverse}
+
+module _ {A X : Type 0} (shows : A → X) where
+  pub shows_in_order : ShowsInOrder shows
+  shows_in_order = from_front (TakesFirst shows) shows (λ s. s) (λ s t h. ap length h.0) (λ s x t h. h)
+
+  pub shows_in_reverse : ShowsInReverse shows
+  shows_in_reverse = from_back (TakesLast shows) shows (λ s. s) (λ s t h. ap length h.0) (λ s x t h. h)
+
+module _ {X : Type 0} where
+  pub gives_in_order : GivesInOrder X
+  gives_in_order p s = as_is p p.from (shows_in_order (λ x. x) p s)
+
+  pub gives_in_reverse : GivesInReverse X
+  gives_in_reverse p s = as_is_back p p.from (shows_in_reverse (λ x. x) p s)
+
+-- the same, at an iterator whose items are `&mut`
+module _ {S X : Type 0} (rest : S → List X) where
+  pub lends_in_order : YieldsMutRefsInOrder (YieldsFirstMut rest) rest
+  lends_in_order = from_front (YieldsFirstMut rest) (λ x. x.now) rest (λ s t h. ap length h.0) (λ s x t h. h)
+
+  pub lends_in_reverse : YieldsMutRefsInReverse (YieldsLastMut rest) rest
+  lends_in_reverse = from_back (YieldsLastMut rest) (λ x. x.now) rest (λ s t h. ap length h.0) (λ s x t h. h)

@@ -1,0 +1,22 @@
+-- What lends rows and pixels for writing, and the steps of the proofs by hand of it.
+pub mod Cuts
+pub mod Loans
+pub mod PixelCalls
+pub mod PixelCuts
+pub mod PixelDraws
+pub mod PixelLoans
+pub mod PixelMemory
+pub mod PixelNext
+pub mod PixelParts
+pub mod PixelRefill
+pub mod PixelSides
+pub mod PixelStep
+pub mod PixelsDropped
+pub mod RowCalls
+pub mod RowDraws
+pub mod RowLoans
+pub mod RowMemory
+pub mod SecondRows
+pub mod Sides
+pub mod Steps
+pub mod Taken

@@ -1,0 +1,110 @@
+-- A call of `split_at_mut`, for a proof by hand. Assumes `Logic`.
+--     cuts        the slice goes to the call.        cut     its two parts, and that it ends as they do
+--     slice_fits, slices_fit     what code stores is well typed
+--     dropped      a part that is not used ends as it is.        ends_joined     from what both parts end as, what the slice does
+use Rattle.v_frame_plane.proofs.lent.Steps.{ℕ, ◌≡◌, ◌+◌, ◌^◌, ◌<◌, ◌≤◌, List, [], ◌∷◌, ◌++◌, length, take, list_drop, w64, MutBor, refl, ap, ◌∙◌, Lft, Share}
+use Rattle.v_frame_plane.proofs.lent.Steps.{flft}
+use Rattle.v_frame_plane.proofs.lent.Steps.{ftrue, SProp, emp, id⊢, ◌⊑◌, Fun, fact, fact_i, Array, usize, shows, param, uint_vals, uint_Makes, RattleType}
+use Rattle.v_frame_plane.proofs.lent.Steps.{MutSlice}
+use Rattle.v_frame_plane.proofs.lent.Steps.{slice_val, heard, nothing, only, owned, peeks, Lasts, lasts, triple_of, Contract, named, Val, of_list, vcons, vnil}
+use Rattle.v_frame_plane.proofs.lent.Steps.{vstruct, Memory, Routine, Ura, Item, Seq, ‵, raw, ◌⊛◌, some, later, ◌$◌, await, drop, feq_l, fjoin, fpick, fsplit}
+use Rattle.v_frame_plane.proofs.lent.Steps.{join}
+use Rattle.v_frame_plane.proofs.lent.Steps.{move, pick, rewrite, split, split3, use0, use1, Logic, ent, sep, fobs, ◌∵◌, !, qed, done, keep, fsplit3, sem, Fml}
+use Rattle.v_frame_plane.proofs.lent.Steps.{both_by, follows_both, Tuple}
+use Rattle.std.specs.List.{SameBelow, TailFrom}
+use denote.Triple.Statement.{Triple}
+use denote.Triple.Call.{calls_at}
+use lib.Dec.{T}
+use mir.Syntax.{Body, Callee, Place, Opd as Operand, call, seq}
+use mir.Val.{WT, has_ty, vint, vptr}
+use Rattle.v_frame_plane.proofs.lent.Steps.{Ty, erased, mut, slice_ty, tcons, tnil, ty_param, ty_ref, ty_struct}
+use prog.Wp.{Calls, Env, Loops}
+use sound.WpLaws.{FmC}
+use types.Kit.{Post, lands, regoal, runs}
+use types.Run.{Opds}
+use denote.FollowSlice.{heres_id}
+use mir.Syntax.{Lifetime}
+use Rattle.core.specs.contracts.slice.slice+T.split_at_mut
+use Rattle.v_frame_plane.specs.SecondRows.{EndsAs}
+use Rattle.v_frame_plane.proofs.lent.Loans.{at_one}
+
+-- a slice as code has it, and two of them, are well typed where their lengths fit, wherever they lie
+abbrev At : ℕ → Val
+At n = vstruct (vcons (vptr 0 0) (vcons (vint w64 n) vnil))
+
+abbrev Part : Ty
+Part = slice_ty (ty_ref erased mut (ty_param 0))
+
+pub slice_fits : {n : ℕ} → n < 2 ^ 64 → T (has_ty Part (At n)) × WT (At n)
+slice_fits fits = (tt, (tt, (record { fits = fits }, tt)))
+
+pub slices_fit : {n k : ℕ} → n < 2 ^ 64 → k < 2 ^ 64 → let v = vstruct (vcons (At n) (vcons (At k) vnil)) in
+    T (has_ty (ty_struct [] (tcons Part (tcons Part tnil))) v) × WT v
+slices_fit one two = (tt, ((tt, (record { fits = one }, tt)), ((tt, (record { fits = two }, tt)), tt)))
+
+-- the whole ends as its front and its back do, joined
+abbrev pub Joins : (T : RattleType) → (whole front back : MutBor (List T.Denot)) → Fml
+Joins T whole front back = follows_both (Array T 0) (Array T 0) (Array T 0) whole.ghost_name front.ghost_name back.ghost_name ◌++◌
+
+module _ {M : Type 1} {𝓤 : Ura M} (𝓛 : Logic 𝓤) (at_mem : Memory → SProp 𝓤) (run : Routine → Fun 𝓤) (T : RattleType) where
+  abbrev pub Split : Contract 𝓤
+  Split = triple_of 𝓛 (split_at_mut.signature T) (split_at_mut.spec T 𝓛 at_mem run)
+
+  abbrev pub asked : (κ κT : Lft) (q qT : Share) → κ ⊑ κT → MutBor (List T.Denot) → ℕ → Split.Ghost
+  asked κ κT q qT inT x n = (((κ, (κT, tt)), (q, (qT, tt)), (inT, tt), (x, (n, tt)), (slice_val x.ref_ptr (length x.now) ∷ [], (uint_vals w64 n, tt))), tt)
+
+module _ {M : Type 1} {𝓤 : Ura M} {𝓛 : Logic 𝓤} {K : Type 0} {Γ : List (Item 𝓤)} {E : Env 𝓤 𝓛.H} {C : Calls 𝓤 𝓛.H} {Λ : Loops 𝓤 𝓛.H} {f : Callee} {xs :
+    List Operand} {d : Place} {rest : Body} {p : Post 𝓤 𝓛.H} where
+  -- up to where the two parts are stored
+  pub splits : K → FmC 𝓤 𝓛.H 𝓛.laws C → (at_mem : Memory → SProp 𝓤) (run : Routine → Fun 𝓤) (T : RattleType) → Triple 𝓤 (C f) (Split 𝓛 at_mem run T) →
+      (κ κT : Lft) (q qT : Share) (inT : κ ⊑ κT) → κT ⊑ T.lives → (x : MutBor (List T.Denot)) (n : ℕ) → n < 2 ^ 64 → n ≤ length x.now
+      → let S = Split 𝓛 at_mem run T in let y = asked 𝓛 at_mem run T κ κT q qT inT x n in
+      let Slice = MutSlice (named 0) κ (param 0 T) in let held = λ (r : MutBor (List T.Denot)). slice_val r.ref_ptr (length r.now) in
+      Opds K 𝓛 (raw (S.pre y) ∷ Γ) E xs (S.args y) →
+      ((front back : MutBor (List T.Denot)) → front.now ≡ take n x.now → back.now ≡ list_drop n x.now → length front.now < 2 ^ 64 → length back.now < 2 ^ 64
+      → Seq K 𝓛 (‵ (Slice.own_val front (held front ∷ [])) ∷ ‵ (Slice.own_val back (held back ∷ [])) ∷ ‵ (Joins (param 0 T) x front back) ∷ ‵ (flft κ q) ∷
+      ‵ (flft κT qT) ∷ Γ) (lands C Λ E d (vstruct (vcons (held front) (vcons (held back) vnil))) rest p))
+      → Seq K 𝓛 (‵ (Slice.own_val x (held x ∷ [])) ∷ ‵ (flft κ q) ∷ ‵ (flft κT qT) ∷ Γ) (runs C Λ E (seq (call f xs d) rest) p)
+  splits t fm at_mem run T met κ κT q qT inT lives x n fits h os k =
+      let S = Split 𝓛 at_mem run T in let y = asked 𝓛 at_mem run T κ κT q qT inT x n in let Slice = MutSlice (named 0) κ (param 0 T) in
+      let held = λ (r : MutBor (List T.Denot)). slice_val r.ref_ptr (length r.now) in
+      nothing t $ owned t usize _ (uint_Makes 𝓛 w64) n _ (refl, fits) $ fjoin t $ move t (1 ∷ 0 ∷ []) $ fjoin t $
+      nothing t $ move t (3 ∷ 0 ∷ []) $ join t $ move t (2 ∷ 0 ∷ []) $ join t $ join t $
+      use0 𝓛 (raw (fact 𝓤 (n ≤ length x.now))) (fact_i 𝓤 _ (emp 𝓤) h) $ use0 𝓛 (raw (fact 𝓤 (κT ⊑ T.lives))) (fact_i 𝓤 _ (emp 𝓤) lives) $ join t $
+      move t (1 ∷ 0 ∷ []) $ join t $ use1 𝓛 (raw (S.pre y)) (id⊢ 𝓤 _) $
+      calls_at t fm S met y os (λ v.
+      use1 𝓛 (later (some (λ (r : MutBor (List T.Denot) × MutBor (List T.Denot)). ((‵ (flft κ q) ⊛ ‵ (flft κT qT) ⊛ ‵ ftrue) ⊛
+      ‵ ((Tuple (Slice ∷ Slice ∷ [])).own_val r (v ∷ []))) ⊛
+      some (λ (ws : Lasts (split_at_mut.ended T) y.0.0 y.0.3). ‵ (lasts (split_at_mut.ended T) y.0.0 y.0.3 ws) ⊛ raw (fact 𝓤 (x.now ≡ r.0.now ++ r.1.now)) ⊛
+      raw (fact 𝓤 (length r.0.now ≡ n)) ⊛ raw (fact 𝓤 (length r.1.now + n ≡ length x.now)) ⊛
+      raw (fact 𝓤 (r.0.now ≡ take n x.now)) ⊛ raw (fact 𝓤 (r.1.now ≡ list_drop n x.now)) ⊛ raw (fact 𝓤 (SameBelow x.now r.0.now n × TailFrom x.now r.1.now n)) ⊛
+      ‵ (Joins (param 0 T) x r.0 r.1))))) (id⊢ 𝓤 _) $
+      await t tt $ pick t (λ r. split t $ split t $ split3 t $ move t (3 ∷ []) $ fpick t (λ vss. fsplit t $ feq_l t (λ e. fsplit t $ move t (1 ∷ []) $
+      fsplit t $
+      -- [the back; nothing; the front; the tokens; nothing; what the call ensures]
+      peeks t Slice _ (shows 𝓛 Slice) r.1 vss.1.0 (λ two. rewrite t 0 (λ (us : List Val). ‵ (Slice.own_val r.1 us)) two.0.0 refl $
+      move t (2 ∷ []) $ peeks t Slice _ (shows 𝓛 Slice) r.0 vss.0 (λ one. rewrite t 0 (λ (us : List Val). ‵ (Slice.own_val r.0 us)) one.0.0 refl $
+      move t (6 ∷ []) $ pick t (λ ws. split t $ drop t $ split t $ heard t _ (λ _. split t $
+      heard t _ (λ _. split t $ heard t _ (λ _. split t $ heard t _ (λ front. split t $ heard t _ (λ back. split t $ heard t _ (λ _.
+      -- [how the slice ends; the front; the back; nothing; the tokens; nothing]
+      move t (3 ∷ 6 ∷ []) $ drop t $ drop t $ move t (1 ∷ 2 ∷ []) $
+      regoal t (λ (u : Val). lands C Λ E d u rest p) (ap only e ∙ ap (λ (us : List Val). vstruct (of_list (us ++ (vss.1.0 ++ [])))) one.0.0 ∙
+      ap (λ (us : List Val). vstruct (of_list (held r.0 ∷ (us ++ [])))) two.0.0) refl $
+      k r.0 r.1 front back one.0.1.0 two.0.1.0)))))))))))))
+
+module _ {M : Type 1} {𝓤 : Ura M} (𝓛 : Logic 𝓤) (T : RattleType) where
+  abbrev Ends : MutBor (List T.Denot) → List T.Denot → SProp 𝓤
+  Ends x xs = sem 𝓛 (EndsAs T x.ghost_name xs)
+
+  -- a slice that is dropped ends as it is
+  pub dropped : (ℓ : Lifetime) (κ : Lft) (x : MutBor (List T.Denot)) (vs : List Val) → ent 𝓤 (sem 𝓛 ((MutSlice ℓ κ T).own_val x vs)) (Ends x x.now)
+  dropped ℓ κ x vs = qed 𝓛 (‵ ((MutSlice ℓ κ T).own_val x vs) ∷ []) ∵ fsplit3 ! $ keep ! (1 ∷ []) $
+      rewrite ! 0 (λ (xs : List T.Denot). ‵ (fobs x.ghost_name ((Array T 0).coded.code xs))) (heres_id T x.now) refl $
+      use1 𝓛 (‵ (EndsAs T x.ghost_name x.now)) (𝓛.names.obs-res x.ghost_name ((Array T 0).coded.code x.now)) $ done !
+
+  -- a slice that was cut ends as its two parts
+  pub ends_joined : (whole front back : MutBor (List T.Denot)) (xs ys : List T.Denot) →
+      ent 𝓤 (sep 𝓤 (sem 𝓛 (Joins T whole front back)) (sep 𝓤 (Ends front xs) (Ends back ys))) (Ends whole (xs ++ ys))
+  unfolding both_by
+  ends_joined whole front back xs ys = at_one 𝓛 (λ (p : List T.Denot × List T.Denot). sep 𝓤 (Ends front p.0) (Ends back p.1)) (λ p. Ends whole (p.0 ++
+      p.1)) (xs, ys)

@@ -1,0 +1,130 @@
+-- For a proof by hand of a function that makes calls within a lifetime of its own. Each step is one of the logic's
+-- calculus, and acts on the head of the context. Assumes `Logic`.
+--     lft_within      of the token of κ a lifetime α ∷ κ is made, which lies within κ.        lft_over     it is over, and the token of κ is there again
+--     lends           the value at a place is lent for such a lifetime.        comes_back     that is over, and the value is there again, as it was left
+--     opens_self     a `&mut` to self is opened.        begins     a function of three lifetimes with the one parameter self begins
+-- lends_self the same for the self of a call, which has half of the token of κ beside that of the loan. self_back self
+-- and the tokens, from what the call gives
+--     at_one          what is given for each h where A h is held, at one h
+use Rattle.std.proofs.Common.{ℕ, ◌≡◌, List, [], ◌∷◌, refl}
+use base.Fml.{Fml, Lft, Share, fat, fauth, fdead, flent, flft, fobor, fobs, fres, fsep, ftrue}
+use base.Fraction.{full_share}
+use base.FractionLaws.{common}
+use base.Share
+use base.Logic.{SProp, all, all_e, ent, sep, wand, apply∗}
+use borrow.Table.OneValue.{part_in_at, part_out_at}
+use contract.BorrowLft.{meet_⊑_left}
+use contract.Lifetimes.{Lfts, Shares}
+use contract.Monad.{fact}
+use denote.Laws.{Is, shows}
+use denote.Lend.{lends_ref, ref_back}
+use denote.Memory.{cell_at, lone, mem, part_at}
+use denote.RattleType.{RattleType}
+use denote.Ref.{MutBor, MutRef, mut_vals}
+use denote.Steps.{heard, nothing, opens, peeks}
+use mir.Raw.{raw as raw_ty}
+use mir.Syntax.{Ty, named}
+use mir.Val.{Val, vptr}
+use seplogic.Ra.Ura.{Ura}
+use types.Kit.{Goal, Item, Seq, Soaks, Sq, Step, step, mean, prop, ‵, raw, ◌⊛◌, some, later, ◌$◌, ◌∵◌, !, qed, await, done, drop, fsplit, fsplit3, join, keep}
+use types.Kit.{move, pick, rewrite, split, split3, use1, use2, use3}
+use types.Logic.{Logic}
+use types.SemTy.{Body}
+use types.Tokens.{lft-common, lft_end, lft_new}
+
+-- the share that there is of the token of α ∷ κ, for the share q of that of κ
+abbrev pub share_within : Share → Share
+share_within q = (common full_share q).0
+
+-- the way back from the token of α ∷ κ to that of κ
+abbrev pub Back : {M : Type 1} {𝓤 : Ura M} (𝓛 : Logic 𝓤) → ℕ → Lft → Share → SProp 𝓤
+Back {𝓤 = 𝓤} 𝓛 α κ q = wand 𝓤 (𝓛.A.lft (α ∷ κ) (share_within q)) (sep 𝓤 (𝓛.A.lft (α ∷ []) full_share) (𝓛.A.lft κ q))
+
+module _ {M : Type 1} {𝓤 : Ura M} {𝓛 : Logic 𝓤} {K : Type 0} {Γ : List (Item 𝓤)} {G : Goal 𝓤 𝓛.H} where
+  abbrev pub lft_within : K → Soaks G → (κ : Lft) (q : Share) → ((α : ℕ) → Seq K 𝓛 (‵ (flft (α ∷ κ) (share_within q)) ∷ raw (Back 𝓛 α κ q) ∷ Γ) G) →
+      Seq K 𝓛 (‵ (flft κ q) ∷ Γ) G
+  lft_within t z κ q k = lft_new t z (λ α. use2 𝓛 (‵ (flft (α ∷ κ) (share_within q)) ⊛ raw (Back 𝓛 α κ q)) (lft-common 𝓛 (α ∷ []) κ full_share q) $ split t $
+      k α)
+
+  abbrev pub lft_over : K → Soaks G → (α : ℕ) (κ : Lft) (q : Share) → Step K 𝓛 (‵ (fdead (α ∷ κ)) ∷ ‵ (flft κ q) ∷ Γ) G (‵ (flft (α ∷ κ) (share_within q)) ∷
+      raw (Back 𝓛 α κ q) ∷ Γ) G
+  lft_over t z α κ q = step (λ s. use2 𝓛 (‵ (flft (α ∷ []) full_share) ⊛ ‵ (flft κ q)) (apply∗ 𝓤 (𝓛.A.lft (α ∷ κ) (share_within q)) _) $ split t $ lft_end t z $
+      use1 𝓛 (‵ (fdead (α ∷ κ))) (𝓛.lfts.dead-incl (α ∷ κ) (α ∷ []) (meet_⊑_left (α ∷ []) κ)) $ s)
+
+module _ {M : Type 1} {𝓤 : Ura M} {𝓛 : Logic 𝓤} {K : Type 0} {Γ : List (Item 𝓤)} {G : Goal 𝓤 𝓛.H} where
+  -- τ is the type of the cell, as the machine has it
+  module _ (t : K) (z : Soaks G) (R : RattleType) (one : R.mir ≡ lone R.mir ∷ []) (τ : Ty) (is : raw_ty τ ≡ raw_ty (lone R.mir)) where
+    pub lends : (κ : Lft) (q : Share) (x : R.Denot) (b o : ℕ) (v : Val)
+        → ((α γ : ℕ) → Seq K 𝓛 (‵ ((MutRef (named 0) (α ∷ κ) R).own_val (record { ref_ptr = (b, o); ghost_name = γ; now = x }) (vptr b o ∷ [])) ∷
+        ‵ (flent (α ∷ κ) (Body (mem R) b o γ)) ∷ ‵ (flft (α ∷ κ) (share_within q)) ∷ raw (Back 𝓛 α κ q) ∷ Γ) G)
+        → Seq K 𝓛 (‵ (fat full_share τ b o v) ∷ ‵ (R.own_val x (v ∷ [])) ∷ ‵ (flft κ q) ∷ Γ) G
+    lends κ q x b o v k =
+        use2 𝓛 (‵ (part_at R full_share x b o)) (part_in_at 𝓛 R one full_share x b o τ is v) $ move t (1 ∷ []) $ lft_within t z κ q (λ α. move t (2 ∷ []) $
+        use1 𝓛 (later (some (λ (γ : ℕ). ‵ ((MutRef (named 0) (α ∷ κ) R).own_val (record { ref_ptr = (b, o); ghost_name = γ; now = x }) (vptr b o ∷ [])) ⊛
+        ‵ (flent (α ∷ κ) (Body (mem R) b o γ)))))
+        (lends_ref 𝓛 R (named 0) (α ∷ κ) x b o) $ await t z $ pick t (λ γ. split t $ k α γ))
+
+    pub comes_back : (κ : Lft) (γ b o : ℕ) (new : R.Denot) (v : Val) → ((u : Val) → Is R new (u ∷ []) → u ≡ v)
+        → Step K 𝓛 (‵ (fat full_share τ b o v) ∷ ‵ (R.own_val new (v ∷ [])) ∷ Γ) G (‵ (fdead κ) ∷ ‵ (flent κ (Body (mem R) b o γ)) ∷
+        ‵ (fres γ (R.coded.code new)) ∷ Γ) G
+    comes_back κ γ b o new v spelled = step (λ k.
+        use3 𝓛 (later (‵ (part_at R full_share new b o))) (ref_back 𝓛 R κ γ new b o) $ await t z $
+        use1 𝓛 (some (λ (u : Val). ‵ (fat full_share τ b o u) ⊛ ‵ (R.own_val new (u ∷ [])))) (part_out_at 𝓛 R one full_share new b o τ is) $
+        pick t (λ u. split t $
+        move t (1 ∷ []) $ peeks t R _ (shows 𝓛 R) new (u ∷ []) (λ its. rewrite t 0 (λ (w : Val). ‵ (R.own_val new (w ∷ []))) (spelled u its) refl $
+        move t (1 ∷ []) $ rewrite t 0 (λ (w : Val). ‵ (fat full_share τ b o w)) (spelled u its) refl $ k)))
+
+-- the tokens of such a call, whose own lifetime is α ∷ κ
+abbrev Tokens : {M : Type 1} {𝓤 : Ura M} (κ κT : Lft) (q qT : Share) → ℕ → Item 𝓤
+Tokens κ κT q qT α = ‵ (flft (α ∷ κ) (share_within (Share.left q))) ⊛ ‵ (flft κ (Share.right q)) ⊛ ‵ (flft κT qT) ⊛ ‵ ftrue
+
+module _ {M : Type 1} {𝓤 : Ura M} {𝓛 : Logic 𝓤} {K : Type 0} {Γ : List (Item 𝓤)} {G : Goal 𝓤 𝓛.H} where
+  module _ (t : K) (z : Soaks G) (R : RattleType) (one : R.mir ≡ lone R.mir ∷ []) (τ : Ty) (is : raw_ty τ ≡ raw_ty (lone R.mir)) (κ κT : Lft) (q qT :
+      Share) where
+    pub lends_self : (x : R.Denot) (b o : ℕ) (v : Val)
+        → ((α γ : ℕ) → Seq K 𝓛 ((Tokens κ κT q qT α ⊛ ‵ ((MutRef (named 0) (α ∷ κ) R).own_val (record { ref_ptr = (b, o); ghost_name = γ; now = x }) (vptr b o ∷
+        [])) ⊛ ‵ ftrue) ∷ ‵ (flent (α ∷ κ) (Body (mem R) b o γ)) ∷ raw (Back 𝓛 α κ (Share.left q)) ∷ Γ) G)
+        → Seq K 𝓛 (‵ (fat full_share τ b o v) ∷ ‵ (R.own_val x (v ∷ [])) ∷ ‵ (flft κ q) ∷ ‵ (flft κT qT) ∷ Γ) G
+    lends_self x b o v k =
+        move t (2 ∷ []) $ use1 𝓛 (‵ (flft κ (Share.left q)) ⊛ ‵ (flft κ (Share.right q))) (𝓛.lfts.lft_split κ q) $ split t $ move t (2 ∷ 3 ∷ 0 ∷ []) $
+        lends t z R one τ is κ (Share.left q) x b o v (λ α γ.
+        -- [self, lent; what its lender keeps; the token of the loan; the way back; the other half of the token of κ; the token of κT]
+        nothing t $ move t (1 ∷ 0 ∷ []) $ join t $ nothing t $ move t (6 ∷ 0 ∷ []) $ join t $ move t (5 ∷ 0 ∷ []) $ join t $ move t (3 ∷ 0 ∷ []) $ join t $
+        join t $ k α γ)
+
+    pub self_back : (α γ b o : ℕ) (new : R.Denot) (v : Val) {said none : Fml} → ((u : Val) → Is R new (u ∷ []) → u ≡ v)
+        → Step K 𝓛 (‵ (fat full_share τ b o v) ∷ ‵ (R.own_val new (v ∷ [])) ∷ ‵ (flft κ q) ∷ ‵ (flft κT qT) ∷ Γ) G
+        (Tokens κ κT q qT α ∷ ‵ (fsep (fsep (fres γ (R.coded.code new)) said) none) ∷ ‵ (flent (α ∷ κ) (Body (mem R) b o γ)) ∷ raw (Back 𝓛 α κ (Share.left q)) ∷
+        Γ) G
+    self_back α γ b o new v spelled = step (λ k.
+        split t $ move t (0 ∷ 4 ∷ []) $ lft_over t z α κ (Share.left q) $ move t (2 ∷ []) $ split3 t $ move t (4 ∷ 0 ∷ []) $
+        use2 𝓛 (‵ (flft κ q)) (𝓛.lfts.lft_join κ q) $ move t (4 ∷ []) $ fsplit t $ fsplit t $
+        -- [the last value; what is said of it; nothing; the tokens of κ and κT; nothing; the loan is over; what the lender keeps]
+        move t (6 ∷ 7 ∷ 0 ∷ []) $ comes_back t z R one τ is (α ∷ κ) γ b o new v spelled $ move t (2 ∷ 3 ∷ 6 ∷ []) $ drop t $ drop t $ drop t $ k)
+
+module _ {M : Type 1} {𝓤 : Ura M} {𝓛 : Logic 𝓤} {K : Type 0} {Γ : List (Item 𝓤)} {G : Goal 𝓤 𝓛.H} where
+  -- a `&mut` to what vs spells is opened: its cell, what it owns, and the open borrow, in three
+  pub opens_self : K → Soaks G → (R : RattleType) (κ : Lft) (q : Share) (self : MutBor R.Denot) (vs : List Val) →
+      ((us : List Val) → Is R self.now us → us ≡ vs) → let b = self.ref_ptr.0 in let o = self.ref_ptr.1 in let code = R.coded.code self.now in
+      Step K 𝓛 (‵ (cell_at full_share R.mir vs b o) ∷ ‵ (R.own_val self.now vs) ∷ ‵ (fobor κ q (Body (mem R) b o self.ghost_name)) ∷
+      ‵ (fobs self.ghost_name code) ∷
+      ‵ (fauth self.ghost_name code) ∷ Γ) G (‵ ((MutRef (named 0) κ R).own_val self (mut_vals self)) ∷ ‵ (flft κ q) ∷ Γ) G
+  opens_self t z R κ q self vs spelled = step (λ k.
+      let b = self.ref_ptr.0 in let o = self.ref_ptr.1 in
+      fsplit3 t $ drop t $ opens t z R {h = self.now} b o (λ us. move t (1 ∷ []) $ peeks t R _ (shows 𝓛 R) self.now us (λ is.
+      rewrite t 0 (λ (ws : List Val). ‵ (R.own_val self.now ws)) (spelled us is) refl $
+      rewrite t 1 (λ (ws : List Val). ‵ (cell_at full_share R.mir ws b o)) (spelled us is) refl $ move t (1 ∷ []) $ k)))
+
+-- a function of three lifetimes with the one parameter self begins: what it asks besides is the last entry
+pub begins : {M : Type 1} {𝓤 : Ura M} (𝓛 : Logic 𝓤) (κs : Lfts 3) (qs : Shares 3) (self : Fml) (lives : Type 0) (asked : Item 𝓤) {P : SProp 𝓤}
+    → (lives → Sq 𝓛 (‵ self ∷ ‵ (flft κs.0 qs.0) ∷ ‵ (flft κs.1.0 qs.1.0) ∷ ‵ (flft κs.1.1.0 qs.1.1.0) ∷ asked ∷ []) (prop P))
+    → ent 𝓤 (sep 𝓤 (mean 𝓛 ((‵ (flft κs.0 qs.0) ⊛ ‵ (flft κs.1.0 qs.1.0) ⊛ ‵ (flft κs.1.1.0 qs.1.1.0) ⊛ ‵ ftrue) ⊛ ‵ self ⊛ ‵ ftrue))
+    (sep 𝓤 (fact 𝓤 lives) (mean 𝓛 asked))) P
+begins {𝓤 = 𝓤} 𝓛 κs qs self lives asked k =
+    qed 𝓛 (((‵ (flft κs.0 qs.0) ⊛ ‵ (flft κs.1.0 qs.1.0) ⊛ ‵ (flft κs.1.1.0 qs.1.1.0) ⊛ ‵ ftrue) ⊛ ‵ self ⊛ ‵ ftrue) ∷ raw (fact 𝓤 lives) ∷ asked ∷ []) ∵
+    move ! (1 ∷ []) $ heard ! _ (λ inT. split ! $ split ! $ move ! (1 ∷ []) $ split3 ! $ move ! (4 ∷ []) $ split ! $ keep ! (0 ∷ 5 ∷ 2 ∷ 3 ∷ 6 ∷ []) $ k inT)
+
+pub at_one : {M : Type 1} {𝓤 : Ura M} (𝓛 : Logic 𝓤) {H : Type 0} (A B : H → SProp 𝓤) (h : H) → ent 𝓤 (sep 𝓤 (all 𝓤 (λ (x : H). wand 𝓤 (A x) (B x))) (A h)) (B h)
+at_one {𝓤 = 𝓤} 𝓛 {H = H} A B h = let Gives : H → SProp 𝓤 = λ x. wand 𝓤 (A x) (B x) in
+    qed 𝓛 (raw (all 𝓤 Gives) ∷ raw (A h) ∷ []) ∵ use1 𝓛 (raw (Gives h)) (all_e 𝓤 Gives h) $ move ! (1 ∷ 0 ∷ []) $ use2 𝓛 (raw (B h)) (apply∗ 𝓤 (A h) (B h)) $
+    done !

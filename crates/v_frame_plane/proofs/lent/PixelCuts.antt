@@ -1,0 +1,158 @@
+-- A call of `cut_first` or `cut_last`, and what `next` or `next_back`, which makes it, leaves of the final values. Assumes `Logic`.
+--     cuts_one     the slice goes to the call, which gives its pixel and the rest: it ends as they do
+--     takes_near, fewer, steps     so the iterator ends as the pixel and what is left, which can be counted, and the pixel is the next at that end
+use Rattle.v_frame_plane.proofs.lent.Steps.{◌≡◌, ◌^◌, ◌<◌, List, [], ◌∷◌, ◌++◌, length, MutBor, refl, sym, ap, ◌∙◌, arith, Lft, Share, flft, ftrue, SProp, emp}
+use Rattle.v_frame_plane.proofs.lent.Steps.{ent}
+use Rattle.v_frame_plane.proofs.lent.Steps.{sep, wand, id⊢, ◌⊑◌, fact, fact_i, Array, shows, param, RattleType, MutRef, MutSlice, slice_val, heard, nothing}
+use Rattle.v_frame_plane.proofs.lent.Steps.{only}
+use Rattle.v_frame_plane.proofs.lent.Steps.{peeks, Lasts, lasts, triple_of, Contract, named, Val, of_list, vcons, vnil, vptr, vstruct, Ura, Item, Seq, ‵, raw}
+use Rattle.v_frame_plane.proofs.lent.Steps.{◌⊛◌}
+use Rattle.v_frame_plane.proofs.lent.Steps.{some, later, ◌$◌, ◌∵◌, !, qed, assume, await, done, drop, each, feq_l, fjoin, fpick, fsplit, fsplit3, join, move}
+use Rattle.v_frame_plane.proofs.lent.Steps.{pick}
+use Rattle.v_frame_plane.proofs.lent.Steps.{rewrite, split, split3, use0, use1, use3, Logic, sem, append_assoc, both_by, follows_both, Tuple}
+use Rattle.std.proofs.Common.{length-append}
+use base.Fml.{GName}
+use denote.Triple.Call.{calls_at}
+use denote.Triple.Clauses.{closing}
+use denote.Triple.Statement.{Triple}
+use mir.Syntax.{Body, Callee, Place, Opd as Operand, call, seq}
+use prog.Wp.{Calls, Env, Loops}
+use sound.WpLaws.{FmC}
+use types.Kit.{Post, lands, regoal, runs}
+use types.Run.{Opds}
+use Rattle.v_frame_layout.specs.Table.{row_major}
+use Rattle.v_frame_plane.specs.RowsLeft.{rows_left}
+use Rattle.v_frame_plane.specs.SecondRows.{EndsAs}
+use Rattle.v_frame_plane.specs.SecondPixels.{Parts, PixelEndsAs, SecondPixels}
+use Rattle.v_frame_plane.specs.contracts.pixels_mut.cut_first
+use Rattle.v_frame_plane.specs.declared.pixels_mut.PixelsMut.{PixelsMut}
+use Rattle.v_frame_plane.proofs.lent.Loans.{at_one}
+use Rattle.v_frame_plane.proofs.lent.PixelSides.{cut_clauses}
+use Rattle.v_frame_plane.proofs.lent.PixelParts.{of_parts}
+use Rattle.v_frame_plane.proofs.lent.Sides.{Side, at_front, at_back, near, far, put, Countable, walk_by, Steps, Takes}
+
+-- where the pixel of a slice is that was cut into this one and the rest
+abbrev Put : Type 0 → Type 0
+Put X = X → List X → List X
+
+abbrev pub cut_of : {X : Type 0} → MutBor X → MutBor (List X) → Val
+cut_of pixel rest = vstruct (vcons (vptr pixel.ref_ptr.0 pixel.ref_ptr.1) (vcons (slice_val rest.ref_ptr (length rest.now)) vnil))
+
+module _ {M : Type 1} {𝓤 : Ura M} (𝓛 : Logic 𝓤) (T : RattleType) (s : Side) where
+  abbrev pub Cut : Contract 𝓤
+  Cut = triple_of 𝓛 (cut_first.signature T) (closing 𝓛 (cut_first.ended T) (cut_clauses 𝓛 T s))
+
+  abbrev pub asked : (κ κT : Lft) (q qT : Share) → κ ⊑ κT → MutBor (List T.Denot) → Cut.Ghost
+  asked κ κT q qT inT x = (((κ, (κT, tt)), (q, (qT, tt)), (inT, tt), (x, tt), (slice_val x.ref_ptr (length x.now) ∷ [], tt)), tt)
+
+module _ {M : Type 1} {𝓤 : Ura M} {𝓛 : Logic 𝓤} {K : Type 0} {Γ : List (Item 𝓤)} {E : Env 𝓤 𝓛.H} {C : Calls 𝓤 𝓛.H} {Λ : Loops 𝓤 𝓛.H} {f : Callee} {xs :
+    List Operand} {d : Place} {rest : Body} {p : Post 𝓤 𝓛.H} where
+  pub cuts_one : K → FmC 𝓤 𝓛.H 𝓛.laws C → (T : RattleType) (s : Side) → Triple 𝓤 (C f) (Cut 𝓛 T s) → (κ κT : Lft) (q qT : Share) (inT : κ ⊑ κT) →
+      κT ⊑ T.lives → (x : MutBor (List T.Denot)) → 0 < length x.now
+      → let Slice = MutSlice (named 0) κ (param 0 T) in let Pixel = MutRef (named 0) κ (param 0 T) in let y = asked 𝓛 T s κ κT q qT inT x in
+      Opds K 𝓛 (raw ((Cut 𝓛 T s).pre y) ∷ Γ) E xs ((Cut 𝓛 T s).args y) →
+      ((pixel : MutBor T.Denot) (rest' : MutBor (List T.Denot)) → x.now ≡ put s pixel.now rest'.now → length rest'.now < 2 ^ 64
+      → Seq K 𝓛 (‵ (Pixel.own_val pixel (vptr pixel.ref_ptr.0 pixel.ref_ptr.1 ∷ [])) ∷ ‵ (Slice.own_val rest' (slice_val rest'.ref_ptr (length rest'.now) ∷
+      [])) ∷
+      ‵ (follows_both (Array (param 0 T) 0) (param 0 T) (Array (param 0 T) 0) x.ghost_name pixel.ghost_name rest'.ghost_name (put s)) ∷ ‵ (flft κ q) ∷
+      ‵ (flft κT qT) ∷ Γ) (lands C Λ E d (cut_of pixel rest') rest p))
+      → Seq K 𝓛 (‵ (Slice.own_val x (slice_val x.ref_ptr (length x.now) ∷ [])) ∷ ‵ (flft κ q) ∷ ‵ (flft κT qT) ∷ Γ) (runs C Λ E (seq (call f xs d) rest) p)
+  cuts_one t fm T s met κ κT q qT inT lives x some_left os k =
+      let Slice = MutSlice (named 0) κ (param 0 T) in let Pixel = MutRef (named 0) κ (param 0 T) in let y = asked 𝓛 T s κ κT q qT inT x in
+      nothing t $ move t (1 ∷ 0 ∷ []) $ fjoin t $
+      nothing t $ move t (3 ∷ 0 ∷ []) $ join t $ move t (2 ∷ 0 ∷ []) $ join t $ join t $
+      use0 𝓛 (raw (fact 𝓤 (0 < length x.now))) (fact_i 𝓤 _ (emp 𝓤) some_left) $ use0 𝓛 (raw (fact 𝓤 (κT ⊑ T.lives))) (fact_i 𝓤 _ (emp 𝓤) lives) $ join t $
+      move t (1 ∷ 0 ∷ []) $ join t $ use1 𝓛 (raw ((Cut 𝓛 T s).pre (asked 𝓛 T s κ κT q qT inT x))) (id⊢ 𝓤 _) $
+      calls_at t fm (Cut 𝓛 T s) met y os (λ v.
+      use1 𝓛 (later (some (λ (r : MutBor T.Denot × MutBor (List T.Denot)). ((‵ (flft κ q) ⊛ ‵ (flft κT qT) ⊛ ‵ ftrue) ⊛
+      ‵ ((Tuple (Pixel ∷ Slice ∷ [])).own_val r (v ∷ []))) ⊛
+      some (λ (ws : Lasts (cut_first.ended T) y.0.0 y.0.3). ‵ (lasts (cut_first.ended T) y.0.0 y.0.3 ws) ⊛
+      ‵ (follows_both (Array (param 0 T) 0) (param 0 T) (Array (param 0 T) 0) x.ghost_name r.0.ghost_name r.1.ghost_name (put s)) ⊛
+      raw (fact 𝓤 (x.now ≡ put s r.0.now r.1.now)))))) (id⊢ 𝓤 _) $
+      await t tt $ pick t (λ r. split t $ split t $ split3 t $ move t (3 ∷ []) $ fpick t (λ vss. fsplit t $ feq_l t (λ e. fsplit t $ move t (1 ∷ []) $
+      fsplit t $
+      -- [the rest; nothing; the pixel; the tokens; nothing; what the call ensures]
+      peeks t Slice _ (shows 𝓛 Slice) r.1 vss.1.0 (λ two. rewrite t 0 (λ (us : List Val). ‵ (Slice.own_val r.1 us)) two.0.0 refl $
+      move t (2 ∷ []) $ peeks t Pixel _ (shows 𝓛 Pixel) r.0 vss.0 (λ one. rewrite t 0 (λ (us : List Val). ‵ (Pixel.own_val r.0 us)) one.0 refl $
+      move t (6 ∷ []) $ pick t (λ ws. split t $ drop t $ split t $ move t (1 ∷ []) $ heard t _ (λ is.
+      -- [how the slice ends; the pixel; the rest; nothing; the tokens; nothing]
+      move t (3 ∷ 6 ∷ []) $ drop t $ drop t $ move t (1 ∷ 2 ∷ []) $
+      regoal t (λ (u : Val). lands C Λ E d u rest p) (ap only e ∙ ap (λ (us : List Val). vstruct (of_list (us ++ (vss.1.0 ++ [])))) one.0 ∙
+      ap (λ (us : List Val). vstruct (of_list (vptr r.0.ref_ptr.0 r.0.ref_ptr.1 ∷ (us ++ [])))) two.0.0) refl $
+      k r.0 r.1 is two.0.1.0))))))))
+
+module _ {M : Type 1} {𝓤 : Ura M} (𝓛 : Logic 𝓤) (T : RattleType) where
+  abbrev Whole : RattleType
+  Whole = Array T 0
+
+  abbrev Ends : GName → List T.Denot → SProp 𝓤
+  Ends name entries = sem 𝓛 (EndsAs T name entries)
+
+  abbrev One : GName → T.Denot → SProp 𝓤
+  One name pixel = sem 𝓛 (PixelEndsAs T name pixel)
+
+  -- a slice that was cut ends as its pixel and the rest
+  pub ends_put : (put : Put T.Denot) (whole pixel rest : GName) (w : T.Denot) (xs : List T.Denot)
+      → ent 𝓤 (sep 𝓤 (sem 𝓛 (follows_both Whole T Whole whole pixel rest put)) (sep 𝓤 (One pixel w) (Ends rest xs))) (Ends whole (put w xs))
+  unfolding both_by
+  ends_put put whole pixel rest w xs = at_one 𝓛 (λ (p : T.Denot × List T.Denot). sep 𝓤 (One pixel p.0) (Ends rest p.1)) (λ p. Ends whole (put p.0 p.1)) (w, xs)
+
+  module _ (old : PixelsMut T.Denot) (pixel : MutBor T.Denot) (rest : MutBor (List T.Denot)) where
+    abbrev Held : Type 0
+    Held = T.Denot × List T.Denot
+
+    pub takes_near : (s : Side) → (near s old).now ≡ put s pixel.now rest.now → (countable : Countable s rest.now (rows_left old.rows) (far s old).now) →
+        ent 𝓤 (sem 𝓛 (follows_both Whole T Whole (near s old).ghost_name pixel.ghost_name rest.ghost_name (put s)))
+        (sem 𝓛 (Takes s T old pixel (walk_by s rest old.rows (far s old) countable)))
+    takes_near at_front is countable =
+        let new : PixelsMut T.Denot = record { front = rest; rows = old.rows; back = old.back; countable = countable } in
+        let Both : Held → SProp 𝓤 = λ held. sep 𝓤 (One pixel.ghost_name held.0) (sem 𝓛 (SecondPixels T new held.1)) in
+        qed 𝓛 (‵ (follows_both Whole T Whole old.front.ghost_name pixel.ghost_name rest.ghost_name ◌∷◌) ∷ []) ∵
+        each ! (λ (held : Held). wand 𝓤 (Both held) (sem 𝓛 (SecondPixels T old (held.0 ∷
+        held.1)))) (λ held. assume ! (‵ (PixelEndsAs T pixel.ghost_name held.0) ⊛ ‵ (SecondPixels T new held.1)) $ split ! $
+        move ! (1 ∷ []) $ fpick ! (λ ps. fpick ! (λ are. fsplit3 ! $
+        -- [the front; the rows; the back; the pixel; how the front was cut]
+        move ! (4 ∷ 3 ∷ 0 ∷ []) $ use3 𝓛 (‵ (EndsAs T old.front.ghost_name (held.0 ∷
+        ps.front))) (ends_put ◌∷◌ old.front.ghost_name pixel.ghost_name rest.ghost_name held.0 ps.front) $
+        move ! (1 ∷ 2 ∷ 0 ∷ []) $ fjoin ! $ move ! (1 ∷ 0 ∷ []) $ fjoin ! $
+        let all : Parts T.Denot = record { front = held.0 ∷ ps.front; rows = ps.rows; back = ps.back } in
+        use1 𝓛 (‵ (SecondPixels T old (held.0 ∷ held.1))) (of_parts 𝓛 T old (held.0 ∷ held.1) all
+        (record { joined = ap (λ xs. held.0 ∷ xs) are.joined; front = omega (arith, are.front, ap length is); rows = are.rows; back = are.back })) $ done !)))
+    takes_near at_back is countable =
+        let new : PixelsMut T.Denot = record { front = old.front; rows = old.rows; back = rest; countable = countable } in
+        let Both : Held → SProp 𝓤 = λ held. sep 𝓤 (One pixel.ghost_name held.0) (sem 𝓛 (SecondPixels T new held.1)) in
+        qed 𝓛 (‵ (follows_both Whole T Whole old.back.ghost_name pixel.ghost_name rest.ghost_name (put at_back)) ∷ []) ∵
+        each ! (λ (held : Held). wand 𝓤 (Both held) (sem 𝓛 (SecondPixels T old (held.1 ++ held.0 ∷
+        [])))) (λ held. assume ! (‵ (PixelEndsAs T pixel.ghost_name held.0) ⊛ ‵ (SecondPixels T new held.1)) $ split ! $
+        move ! (1 ∷ []) $ fpick ! (λ ps. fpick ! (λ are. fsplit3 ! $
+        -- [the front; the rows; the back; the pixel; how the back was cut]
+        move ! (4 ∷ 3 ∷ 2 ∷ []) $ use3 𝓛 (‵ (EndsAs T old.back.ghost_name (ps.back ++ held.0 ∷
+        []))) (ends_put (put at_back) old.back.ghost_name pixel.ghost_name rest.ghost_name held.0 ps.back) $
+        move ! (2 ∷ 0 ∷ 1 ∷ []) $ fjoin ! $ move ! (1 ∷ 0 ∷ []) $ fjoin ! $
+        let all : Parts T.Denot = record { front = ps.front; rows = ps.rows; back = ps.back ++ held.0 ∷ [] } in
+        let joined : held.1 ++ held.0 ∷ [] ≡ ps.front ++ (row_major ps.rows ++ (ps.back ++ held.0 ∷ [])) = ap (λ xs. xs ++ held.0 ∷ []) are.joined ∙
+        append_assoc ps.front (row_major ps.rows ++ ps.back) (held.0 ∷ []) ∙ ap (λ xs. ps.front ++
+        xs) (append_assoc (row_major ps.rows) ps.back (held.0 ∷ [])) in
+        use1 𝓛 (‵ (SecondPixels T old (held.1 ++ held.0 ∷ []))) (of_parts 𝓛 T old (held.1 ++ held.0 ∷ []) all
+        (record {
+          joined = joined;
+          front = are.front;
+          rows = are.rows;
+          back = length-append ps.back (held.0 ∷ []) ∙
+              omega (arith, are.back, ap length is, length-append rest.now (pixel.now ∷ []));
+        })) $ done !)))
+
+module _ {X : Type 0} (walk : PixelsMut X) where
+  -- one pixel less at this end
+  pub fewer : (s : Side) (pixel : X) (rest : List X) → (near s walk).now ≡ put s pixel rest → Countable s rest (rows_left walk.rows) (far s walk).now
+  fewer at_front pixel rest is = record { full = walk.countable.full; bound = omega (arith, walk.countable.bound, ap length is) }
+  fewer at_back pixel rest is =
+      record { full = walk.countable.full; bound = omega (arith, walk.countable.bound, ap length is, length-append rest (pixel ∷ [])) }
+
+  -- that pixel is the first of all, or the last
+  pub steps : (s : Side) (pixel : MutBor X) (rest : MutBor (List X)) → (near s walk).now ≡ put s pixel.now rest.now →
+      (countable : Countable s rest.now (rows_left walk.rows) (far s walk).now) → Steps s walk pixel (walk_by s rest walk.rows (far s walk) countable)
+  steps at_front pixel rest is countable = ap (λ xs. xs ++ (row_major (rows_left walk.rows) ++ walk.back.now)) is
+  steps at_back pixel rest is countable = let rows = row_major (rows_left walk.rows) in let last = pixel.now ∷ [] in
+      ap (λ xs. walk.front.now ++ (rows ++ xs)) is ∙ ap (λ xs. walk.front.now ++ xs) (sym (append_assoc rows rest.now last)) ∙
+      sym (append_assoc walk.front.now (rows ++ rest.now) last)

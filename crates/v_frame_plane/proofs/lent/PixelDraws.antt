@@ -1,0 +1,49 @@
+-- What a call of an iterator that lends pixels leaves, by its steps, of which one only begins a row. Assumes `Logic`.
+--     after_keeping     a step that keeps the pixels, and then another one
+--     yields_pixel, moves, yields_none, rests     the plain clauses of a call that gives a pixel, and of one that gives none
+use Rattle.v_frame_plane.proofs.lent.Steps.{◌≡◌, List, [], ◌∷◌, length, Option, Some, None, MutBor, sym, ap, ◌∙◌, arith, ⊤, MakesProgress, item_count, SProp}
+use Rattle.v_frame_plane.proofs.lent.Steps.{all}
+use Rattle.v_frame_plane.proofs.lent.Steps.{ent, sep, wand, RattleType, Ura, ‵, raw, ◌$◌, ◌∵◌, !, qed, assume, done, each, move, use2, Logic, sem}
+use Rattle.std.proofs.Common.{length-append}
+use Rattle.v_frame_plane.specs.PixelsLeft.{pixels_left}
+use Rattle.v_frame_plane.specs.SecondPixels.{SecondPixels, KeepsPixels}
+use Rattle.v_frame_plane.specs.declared.pixels_mut.PixelsMut.{PixelsMut}
+use Rattle.v_frame_plane.proofs.lent.Loans.{at_one}
+use Rattle.v_frame_plane.proofs.lent.Sides.{Side, at_front, at_back, Steps, Yields}
+
+module _ {M : Type 1} {𝓤 : Ura M} (𝓛 : Logic 𝓤) (T : RattleType) where
+  abbrev Second : PixelsMut T.Denot → List T.Denot → SProp 𝓤
+  Second walk second = sem 𝓛 (SecondPixels T walk second)
+
+  -- where this is held, the iterator has those final values
+  abbrev pub Leaves : {H : Type 0} (held : H → SProp 𝓤) (second : H → List T.Denot) → PixelsMut T.Denot → SProp 𝓤
+  Leaves {H} held second walk = all 𝓤 (λ (h : H). wand 𝓤 (held h) (Second walk (second h)))
+
+  -- what the iterator between has, the one before has
+  pub after_keeping : {H : Type 0} (held : H → SProp 𝓤) (second : H → List T.Denot) (old mid : PixelsMut T.Denot) →
+      ent 𝓤 (sep 𝓤 (sem 𝓛 (KeepsPixels T old mid)) (Leaves held second mid)) (Leaves held second old)
+  after_keeping {H} held second old mid =
+      qed 𝓛 (‵ (KeepsPixels T old mid) ∷ raw (Leaves held second mid) ∷ []) ∵
+      each ! (λ (h : H). wand 𝓤 (held h) (Second old (second h))) (λ h. assume ! (raw (held h)) $
+      move ! (2 ∷ 0 ∷ []) $ use2 𝓛 (raw (Second mid (second h))) (at_one 𝓛 held (λ x. Second mid (second x)) h) $
+      move ! (1 ∷ 0 ∷ []) $ use2 𝓛 (raw (Second old (second h))) (at_one 𝓛 (Second mid) (Second old) (second h)) $ done !)
+
+module _ {X : Type 0} (old new : PixelsMut X) where
+  abbrev pub no_pixel : Option (MutBor X)
+  no_pixel = None
+
+  pub rests : pixels_left new ≡ pixels_left old → MakesProgress (λ _. ⊤) (item_count pixels_left) old no_pixel new
+  rests same = record { on = λ _. tt; keeps = tt; rests = λ _. tt }
+
+  pub yields_none : (s : Side) → pixels_left new ≡ pixels_left old → pixels_left new ≡ [] → Yields s old no_pixel new
+  yields_none at_front same none = (sym same ∙ none, none)
+  yields_none at_back same none = (sym same ∙ none, none)
+
+  module _ (pixel : MutBor X) where
+    pub yields_pixel : (s : Side) → Steps s old pixel new → Yields s old (Some pixel) new
+    yields_pixel at_front steps = steps
+    yields_pixel at_back steps = steps
+
+    pub moves : (s : Side) → Steps s old pixel new → MakesProgress (λ _. ⊤) (item_count pixels_left) old (Some pixel) new
+    moves at_front is = record { on = λ _. (tt, tt, omega (arith, ap length is)); keeps = tt; rests = λ _. tt }
+    moves at_back is = record { on = λ _. (tt, tt, omega (arith, ap length is, length-append (pixels_left new) (pixel.now ∷ []))); keeps = tt; rests = λ _. tt }

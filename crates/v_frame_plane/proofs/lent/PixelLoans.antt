@@ -1,0 +1,199 @@
+-- What an iterator over lent pixels is once a row was begun, and that what its pixels hold when the borrow ends, those that were left before do. Assumes
+-- `Logic`.
+--     begun     a row was drawn and is what was begun at this end now.        taken     no row was left, and the other end's row was taken
+--     keeps_by     how each of these keeps its pixels: what an end of the new iterator's parts is for the old one
+use Rattle.v_frame_plane.proofs.lent.Steps.{◌≡◌, ◌+◌, ◌^◌, ◌<◌, List, Option, None, [], ◌∷◌, ◌++◌, length, Some, MutBor, refl, sym, ap, ◌∙◌, arith, SProp, all}
+use Rattle.v_frame_plane.proofs.lent.Steps.{all_e, apply∗, ent, sep, wand, RattleType, Ura, ‵, raw, ◌$◌, ◌∵◌, !, qed, assume, done, each, fjoin3, fpick, fsplit}
+use Rattle.v_frame_plane.proofs.lent.Steps.{fsplit3, join, keep, move, rewrite, use1, use2, use3, Logic, sem, append_assoc, Fml, fsep}
+use Rattle.std.proofs.Common.{map, subst, append-nil}
+use Rattle.std.proofs.lemmas.List.{nil_from_length, length-map, map-append}
+use Rattle.std.proofs.lemmas.List.Elements.{All-head, All-nil, All-pop}
+use Rattle.v_frame_layout.specs.Table.{row_major}
+use Rattle.v_frame_plane.specs.Cursor.{PixelsAreCountable}
+use Rattle.v_frame_plane.specs.PixelsLeft.{pixels_left}
+use Rattle.v_frame_plane.specs.RowsLeft.{rows_left}
+use Rattle.v_frame_plane.specs.SecondPixels.{Parts, ArePartsOf, SecondPixels, KeepsPixels}
+use Rattle.v_frame_plane.specs.SecondRows.{EndsAs, SecondRows, KeepsRows, TakesFirstRow, TakesLastRow}
+use Rattle.v_frame_plane.specs.declared.pixels_mut.PixelsMut.{PixelsMut}
+use Rattle.v_frame_plane.specs.declared.rows_mut.RowsMut.{RowsMut}
+use Rattle.v_frame_plane.proofs.lent.Loans.{at_one}
+use Rattle.v_frame_plane.proofs.lent.PixelParts.{PartsEnd, of_parts}
+use Rattle.v_frame_plane.proofs.lent.Sides.{Side, at_front, at_back, near, far, Countable, walk_by, RowSteps, LendsRow}
+use Rattle.v_frame_plane.proofs.iterators.BegunRows.{row_begun, last_row_begun, last_row_left}
+
+module _ {T : Type 0} (old : PixelsMut T) (rows : RowsMut T) where
+  abbrev was : List (List T)
+  was = rows_left old.rows
+
+  abbrev left : List (List T)
+  left = rows_left rows
+
+  module _ (row : MutBor (List T)) where
+    pub begun_countable : (s : Side) → RowSteps s old.rows row.now rows → Countable s row.now left (far s old).now
+    begun_countable at_front = row_begun old.front.now old.back.now row.now was left old.countable
+    begun_countable at_back = last_row_begun old.front.now old.back.now row.now was left old.countable
+
+    abbrev pub begun : (s : Side) → RowSteps s old.rows row.now rows → PixelsMut T
+    begun s is = walk_by s row rows (far s old) (begun_countable s is)
+
+    pub begun_left : (s : Side) (is : RowSteps s old.rows row.now rows) → length (near s old).now ≡ 0 → pixels_left (begun s is) ≡ pixels_left old
+    begun_left at_front is none = rw (nil_from_length old.front.now none, is) (sym (append_assoc row.now (row_major left) old.back.now))
+    begun_left at_back is none = last_row_left old.front.now old.back.now row.now was left none is
+
+    pub begun_full : (s : Side) (is : RowSteps s old.rows row.now rows) → length (near s (begun s is)).now ≡ 0 → pixels_left (begun s is) ≡ []
+    begun_full at_front is none = let full : 0 < length row.now = All-head (λ row. 0 < length row) row.now left
+        (subst (λ rs. PixelsAreCountable old.front.now rs old.back.now) is old.countable).full in absurd (omega (arith, full, none))
+    begun_full at_back is none = let full : 0 < length row.now = (All-pop (λ row. 0 < length row) was left (Some row.now) is old.countable.full).1 in
+        absurd (omega (arith, full, none))
+
+  -- e is what `take` leaves
+  module _ (e : MutBor (List T)) (empty : e.now ≡ []) (had : was ≡ []) (none : left ≡ []) where
+    few : (front back : List T) → length front + length back < 2 ^ 63 → PixelsAreCountable front left back
+    few front back bound = record { full = rw none (All-nil (λ row. 0 < length row)); bound = omega (arith, bound, ap (λ rs. length (row_major rs)) none) }
+
+    pub taken_countable : (s : Side) → Countable s (far s old).now left e.now
+    taken_countable at_front = few old.back.now e.now (omega (arith, old.countable.bound, ap length empty))
+    taken_countable at_back = few e.now old.front.now (omega (arith, old.countable.bound, ap length empty))
+
+    abbrev pub taken : Side → PixelsMut T
+    taken s = walk_by s (far s old) rows e (taken_countable s)
+
+    pub taken_left : (s : Side) → length (near s old).now ≡ 0 → pixels_left (taken s) ≡ pixels_left old
+    taken_left at_front nil = rw (nil_from_length old.front.now nil, had, none, empty) (append-nil old.back.now)
+    taken_left at_back nil = rw (nil_from_length old.back.now nil, had, none, empty) (sym (append-nil old.front.now))
+
+    pub taken_none : (s : Side) → length (near s (taken s)).now ≡ 0 → pixels_left (taken s) ≡ []
+    taken_none at_front nil = rw (nil_from_length old.back.now nil, none, empty) refl
+    taken_none at_back nil = rw (nil_from_length old.front.now nil, none, empty) refl
+
+module _ {M : Type 1} {𝓤 : Ura M} (𝓛 : Logic 𝓤) (T : RattleType) where
+  keeps_by : (old new : PixelsMut T.Denot) (given : Fml) (turn : Parts T.Denot → Parts T.Denot)
+      → ((second : List T.Denot) (parts : Parts T.Denot) → ArePartsOf new second parts →
+      ArePartsOf old second (turn parts) × (ent 𝓤 (sep 𝓤 (sem 𝓛 (PartsEnd T new parts)) (sem 𝓛 given)) (sem 𝓛 (PartsEnd T old (turn parts)))))
+      → ent 𝓤 (sem 𝓛 given) (sem 𝓛 (KeepsPixels T old new))
+  keeps_by old new given turn goes =
+      qed 𝓛 (‵ given ∷ []) ∵ each ! (λ (second :
+      List T.Denot). wand 𝓤 (sem 𝓛 (SecondPixels T new second)) (sem 𝓛 (SecondPixels T old second))) (λ second. assume ! (‵ (SecondPixels T new second)) $
+      fpick ! (λ parts. fpick ! (λ are. let to = goes second parts are in use2 𝓛 (‵ (PartsEnd T old (turn parts))) to.1 $
+      use1 𝓛 (‵ (SecondPixels T old second)) (of_parts 𝓛 T old second (turn parts) to.0) $ done !)))
+
+  module _ (old : PixelsMut T.Denot) (rows : RowsMut T.Denot) where
+    abbrev Ends : MutBor (List T.Denot) → List T.Denot → Fml
+    Ends x entries = EndsAs T x.ghost_name entries
+
+    abbrev Left : List (List T.Denot)
+    Left = rows_left rows
+
+    -- what two entries of an `all` over rows give
+    no_rows : (parts : List (List T.Denot)) → map length parts ≡ map length Left → Left ≡ [] → parts ≡ []
+    no_rows parts same none = nil_from_length parts (sym (length-map parts length) ∙ ap length same ∙ length-map Left length ∙ ap length none)
+
+    rows_kept : (ps : List (List T.Denot)) → ps ≡ [] →
+        ent 𝓤 (sep 𝓤 (sem 𝓛 (KeepsRows T old.rows rows)) (sem 𝓛 (SecondRows T rows ps))) (sem 𝓛 (SecondRows T old.rows []))
+    rows_kept ps none =
+        let Was : List (List T.Denot) → SProp 𝓤 = λ second. sem 𝓛 (SecondRows T old.rows second) in let Is : List (List T.Denot) → SProp 𝓤 =
+        λ second. sem 𝓛 (SecondRows T rows second) in
+        qed 𝓛 (‵ (KeepsRows T old.rows rows) ∷ ‵ (SecondRows T rows ps) ∷ []) ∵ use2 𝓛 (‵ (SecondRows T old.rows ps)) (at_one 𝓛 Is Was ps) $
+        rewrite ! 0 (λ second. ‵ (SecondRows T old.rows second)) none refl $ done !
+
+    -- the row that was at its end, and what the draw of a row leaves
+    abbrev Drawn : Side → Option (MutBor (List T.Denot)) → Fml
+    Drawn s r = fsep (Ends (near s old) (near s old).now) (LendsRow s T old.rows r rows)
+
+    module _ (row : MutBor (List T.Denot)) where
+      abbrev Both : List T.Denot × List (List T.Denot) → SProp 𝓤
+      Both held = sep 𝓤 (sem 𝓛 (Ends row held.0)) (sem 𝓛 (SecondRows T rows held.1))
+
+      pub keeps_begun : (s : Side) (is : RowSteps s old.rows row.now rows) → length (near s old).now ≡ 0 →
+          ent 𝓤 (sem 𝓛 (Drawn s (Some row))) (sem 𝓛 (KeepsPixels T old (begun old rows row s is)))
+      keeps_begun at_front is none =
+          let new = begun old rows row at_front is in
+          keeps_by old new (fsep (Ends old.front old.front.now) (TakesFirstRow T old.rows rows row)) (λ parts. record {
+            front = [];
+            rows =
+                parts.front ∷ parts.rows;
+            back = parts.back;
+          }) (λ second parts are. let held : List T.Denot × List (List T.Denot) = (parts.front, parts.rows) in (
+            record {
+              joined = are.joined ∙ sym (append_assoc parts.front (row_major parts.rows) parts.back);
+              front = sym none;
+              rows = ap (λ n. n ∷ map length parts.rows) are.front ∙ ap (λ ns. length row.now ∷ ns) are.rows ∙ ap (λ rs. map length rs) (sym is);
+              back = are.back;
+            },
+            qed 𝓛 (‵ (PartsEnd T new parts) ∷ ‵ (fsep (Ends old.front old.front.now) (TakesFirstRow T old.rows rows row)) ∷ []) ∵ fsplit3 ! $ move ! (3 ∷ []) $
+                fsplit ! $
+                rewrite ! 0 (λ xs. ‵ (Ends old.front xs)) (nil_from_length old.front.now none) refl $
+                -- [the old front; what a call leaves; the row; the rows; the back]
+                move ! (1 ∷ 2 ∷ 3 ∷ []) $ use3 𝓛 (‵ (SecondRows T old.rows (parts.front ∷
+                parts.rows))) (at_one 𝓛 Both (λ held. sem 𝓛 (SecondRows T old.rows (held.0 ∷ held.1))) held) $
+                move ! (1 ∷ 0 ∷ []) $ fjoin3 ! $ done !,
+          ))
+      keeps_begun at_back is none =
+          let new = begun old rows row at_back is in let Gives : List T.Denot × List (List T.Denot) → SProp 𝓤 =
+          λ held. wand 𝓤 (Both held) (sem 𝓛 (SecondRows T old.rows (held.1 ++ held.0 ∷ []))) in
+          let Says : List T.Denot × List (List T.Denot) → SProp 𝓤 = λ held. all 𝓤 (λ (same : length held.1 ≡ length Left). Gives held) in
+          keeps_by old new (fsep (Ends old.back old.back.now) (TakesLastRow T old.rows rows row)) (λ parts. record {
+            front = parts.front;
+            rows =
+                parts.rows ++ parts.back ∷ [];
+            back = [];
+          }) (λ second parts are. let held : List T.Denot × List (List T.Denot) = (parts.back, parts.rows) in
+          let many : length parts.rows ≡ length Left = sym (length-map parts.rows length) ∙ ap length are.rows ∙ length-map Left length in (
+            record {
+              joined = are.joined ∙ last_row_left parts.front [] parts.back (parts.rows ++ parts.back ∷ []) parts.rows refl refl;
+              front = are.front;
+              rows = map-append length parts.rows (parts.back ∷ []) ∙ ap (λ ns. ns ++ length parts.back ∷ []) are.rows ∙
+                  ap (λ n. map length Left ++ n ∷ []) are.back ∙ sym (map-append length Left (row.now ∷ [])) ∙ ap (λ rs. map length rs) (sym is);
+              back = sym none;
+            },
+            qed 𝓛 (‵ (PartsEnd T new parts) ∷ ‵ (fsep (Ends old.back old.back.now) (TakesLastRow T old.rows rows row)) ∷ []) ∵ fsplit3 ! $ move ! (3 ∷ []) $
+                fsplit ! $
+                rewrite ! 0 (λ xs. ‵ (Ends old.back xs)) (nil_from_length old.back.now none) refl $
+                -- [the old back; what a call leaves; the front; the rows; the row]
+                move ! (1 ∷ []) $ use1 𝓛 (raw (Says held)) (all_e 𝓤 Says held) $ use1 𝓛 (raw (Gives held)) (all_e 𝓤 (λ (same : length held.1 ≡
+                length Left). Gives held) many) $
+                move ! (4 ∷ 3 ∷ []) $ join ! $ use2 𝓛 (‵ (SecondRows T old.rows (parts.rows ++ parts.back ∷ []))) (apply∗ 𝓤 (Both held) _) $
+                move ! (2 ∷ 0 ∷ []) $ fjoin3 ! $ done !,
+          ))
+
+    module _ (e : MutBor (List T.Denot)) (empty : e.now ≡ []) (had : rows_left old.rows ≡ []) (none : Left ≡ []) where
+      pub keeps_taken : (s : Side) → length (near s old).now ≡ 0 → ent 𝓤 (sem 𝓛 (Drawn s None)) (sem 𝓛 (KeepsPixels T old (taken old rows e empty had none s)))
+      keeps_taken at_front nil =
+          let new = taken old rows e empty had none at_front in
+          keeps_by old new (fsep (Ends old.front old.front.now) (KeepsRows T old.rows rows)) (λ parts. record {
+            front = [];
+            rows = [];
+            back =
+                parts.front;
+          }) (λ second parts are. let rows_nil = no_rows parts.rows are.rows none in (
+            record {
+              joined = are.joined ∙ rw (rows_nil, nil_from_length parts.back (are.back ∙ ap length empty)) (append-nil parts.front);
+              front = sym nil;
+              rows = ap (λ rs. map length rs) (sym had);
+              back = are.front;
+            },
+            qed 𝓛 (‵ (PartsEnd T new parts) ∷ ‵ (fsep (Ends old.front old.front.now) (KeepsRows T old.rows rows)) ∷ []) ∵ fsplit3 ! $ move ! (3 ∷ []) $
+                fsplit ! $
+                rewrite ! 0 (λ xs. ‵ (Ends old.front xs)) (nil_from_length old.front.now nil) refl $
+                -- [the old front; what the rows keep; the old back; the rows; what was taken from]
+                move ! (1 ∷ 3 ∷ []) $ use2 𝓛 (‵ (SecondRows T old.rows [])) (rows_kept parts.rows rows_nil) $ keep ! (1 ∷ 0 ∷ 2 ∷ []) $ fjoin3 ! $ done !,
+          ))
+      keeps_taken at_back nil =
+          let new = taken old rows e empty had none at_back in
+          keeps_by old new (fsep (Ends old.back old.back.now) (KeepsRows T old.rows rows)) (λ parts. record {
+            front = parts.back;
+            rows = [];
+            back =
+                [];
+          }) (λ second parts are. let rows_nil = no_rows parts.rows are.rows none in (
+            record {
+              joined = are.joined ∙ rw (rows_nil, nil_from_length parts.front (are.front ∙ ap length empty)) (sym (append-nil parts.back));
+              front = are.back;
+              rows = ap (λ rs. map length rs) (sym had);
+              back = sym nil;
+            },
+            qed 𝓛 (‵ (PartsEnd T new parts) ∷ ‵ (fsep (Ends old.back old.back.now) (KeepsRows T old.rows rows)) ∷ []) ∵ fsplit3 ! $ move ! (3 ∷ []) $ fsplit ! $
+                rewrite ! 0 (λ xs. ‵ (Ends old.back xs)) (nil_from_length old.back.now nil) refl $
+                -- [the old back; what the rows keep; what was taken from; the rows; the old front]
+                move ! (1 ∷ 3 ∷ []) $ use2 𝓛 (‵ (SecondRows T old.rows [])) (rows_kept parts.rows rows_nil) $ keep ! (3 ∷ 0 ∷ 1 ∷ []) $ fjoin3 ! $ done !,
+          ))

@@ -1,0 +1,185 @@
+-- An iterator that lends pixels, in memory, for the proofs by hand of its `next` and `next_back`. Assumes `Logic`.
+--     opens_pixels     a `&mut` to it is opened.        parts, pixels_owned     what it owns, apart and again together
+--     front_out, rows_out, back_out     a field goes out.        field_in     it is there again, with another value
+--     closes_pixels     self is closed at the iterator that it is now.        stayed, ends_step, ends_refill     how a step on it ends
+use Rattle.v_frame_plane.proofs.lent.Steps.{ℕ, ◌+◌, ◌^◌, ◌<◌, List, [], ◌∷◌, length, MutBor, refl, Lft, Share, fat, fauth, fbor, flft, fobor, fobs, full_share}
+use Rattle.v_frame_plane.proofs.lent.Steps.{SProp, all, ent, sep, wand, shows, mem, param, Laws, param_laws, RattleType, Valss, MutRef, NamedLft, mut_vals}
+use Rattle.v_frame_plane.proofs.lent.Steps.{plain}
+use Rattle.v_frame_plane.proofs.lent.Steps.{named_lft, MutSlice, slice_ty, nothing, peeks, Clauses, at_exit, Stays, stay_ref, walk_of, ends_at, Ty, Tys, erased}
+use Rattle.v_frame_plane.proofs.lent.Steps.{mut}
+use Rattle.v_frame_plane.proofs.lent.Steps.{named, tcons, tnil, ty_param, ty_ref, ty_struct, Val, vcons, vnil, vstruct, Ura, Goal, Item, Seq, Soaks, Step, step}
+use Rattle.v_frame_plane.proofs.lent.Steps.{‵}
+use Rattle.v_frame_plane.proofs.lent.Steps.{raw, ◌⊛◌, prop, ◌$◌, ◌∵◌, !, qed, done, drop, feq_i, feq_l, fjoin, fpack, fpick, fsplit, move, rewrite, split}
+use Rattle.v_frame_plane.proofs.lent.Steps.{suffices}
+use Rattle.v_frame_plane.proofs.lent.Steps.{use2, Logic, sem, Body, AllOutlive, Shares, Lfts, shape, within, Args, ◌≡◌, emp, fact, fact_i, cell_at, closes}
+use Rattle.v_frame_plane.proofs.lent.Steps.{join}
+use Rattle.v_frame_plane.proofs.lent.Steps.{use0, use1, use3}
+use base.Stored.{Gv}
+use types.Kit.{by}
+use mir.Val.{vunit}
+use Rattle.v_frame_plane.specs.PixelsLeft.{pixels_left}
+use Rattle.v_frame_plane.specs.SecondPixels.{KeepsPixels}
+use Rattle.v_frame_plane.specs.contracts.pixels_mut.PixelsMut.refill_front
+use Rattle.v_frame_plane.specs.contracts.pixels_mut.PixelsMut.{struct, the_row, the_type}
+use Rattle.v_frame_plane.specs.contracts.pixels_mut.PixelsMut.next_of_front
+use Rattle.v_frame_plane.specs.contracts.rows_mut.RowsMut as rows_mut
+use Rattle.v_frame_plane.specs.declared.pixels_mut.PixelsMut.{PixelsMut}
+use Rattle.v_frame_plane.proofs.lent.Loans.{at_one, opens_self}
+use Rattle.v_frame_plane.proofs.lent.RowMemory.{exits, slice_of, Bare as RowsBare, Named as RowsNamed, lowered as rows_lowered}
+use Rattle.v_frame_plane.proofs.lent.Taken.{Slice, word}
+use Rattle.v_frame_plane.proofs.pixels_mut.PixelsMut.TheLaws.{lowers}
+use Rattle.v_frame_plane.proofs.rows_mut.RowsMut.TheLaws.{lowers as rows_lowers}
+
+abbrev Fields : Tys
+Fields = tcons word (tcons RowsBare (tcons word tnil))
+
+-- it as a machine value, of its fields
+abbrev pub whole : Val → Val → Val → Val
+whole front rows back = vstruct (vcons front (vcons rows (vcons back vnil)))
+
+-- where its rows lie, in bytes
+abbrev pub rows_offset : ℕ
+rows_offset = 16
+
+abbrev pub lowered : {X : Type 0} → PixelsMut X → Val
+lowered walk = whole (slice_of walk.front) (rows_lowered walk.rows) (slice_of walk.back)
+
+-- its type, as the machine sees it and as code names it
+abbrev pub Bare : Ty
+Bare = ty_struct [] Fields
+
+abbrev pub Named : (a : NamedLft) (T : RattleType) → Ty
+Named a T = let part = slice_ty (ty_ref erased mut (ty_param 0)) in ty_struct (struct a T).name (tcons part (tcons (RowsNamed a T) (tcons part tnil)))
+
+module _ {M : Type 1} {𝓤 : Ura M} (𝓛 : Logic 𝓤) (b o : ℕ) where
+  abbrev Slot : Ty → ℕ → Val → SProp 𝓤
+  Slot τ d u = 𝓛.H.at full_share τ b (o + d) u
+
+  abbrev Whole : Val → SProp 𝓤
+  Whole v = 𝓛.H.at full_share Bare b o v
+
+  -- it without the field of this type at this place, where `put` says what it is with a value there
+  abbrev pub Around : Ty → ℕ → (Val → Val) → SProp 𝓤
+  Around τ d put = all 𝓤 (λ (u : Val). wand 𝓤 (Slot τ d u) (Whole (put u)))
+
+  module _ (front rows back : Val) where
+    pub front_out : ent 𝓤 (Whole (whole front rows back)) (sep 𝓤 (Slot word 0 front) (Around word 0 (λ u. whole u rows back)))
+    front_out = 𝓛.laws.at_field full_share [] Fields 0 word 0 refl b o (vcons front (vcons rows (vcons back vnil)))
+
+    pub rows_out : ent 𝓤 (Whole (whole front rows back)) (sep 𝓤 (Slot RowsBare rows_offset rows) (Around RowsBare rows_offset (λ u. whole front u back)))
+    rows_out = 𝓛.laws.at_field full_share [] Fields 1 RowsBare rows_offset refl b o (vcons front (vcons rows (vcons back vnil)))
+
+    pub back_out : ent 𝓤 (Whole (whole front rows back)) (sep 𝓤 (Slot word 64 back) (Around word 64 (λ u. whole front rows u)))
+    back_out = 𝓛.laws.at_field full_share [] Fields 2 word 64 refl b o (vcons front (vcons rows (vcons back vnil)))
+
+  pub field_in : (τ : Ty) (d : ℕ) (put : Val → Val) (v : Val) → ent 𝓤 (sep 𝓤 (Slot τ d v) (Around τ d put)) (Whole (put v))
+  field_in τ d put v = qed 𝓛 (‵ (fat full_share τ b (o + d) v) ∷ raw (Around τ d put) ∷ []) ∵ move ! (1 ∷ 0 ∷ []) $
+      use2 𝓛 (‵ (fat full_share Bare b o (put v))) (at_one 𝓛 (Slot τ d) (λ u. Whole (put u)) v) $ done !
+
+  -- as code names it, and as the machine sees it
+  pub as_named : (a : NamedLft) (T : RattleType) (v : Val) → ent 𝓤 (Whole v) (𝓛.H.at full_share (Named a T) b o v)
+  as_named a T v = 𝓛.laws.raw_at full_share (Named a T) b o v
+
+  pub bare : (a : NamedLft) (T : RattleType) (v : Val) → ent 𝓤 (𝓛.H.at full_share (Named a T) b o v) (Whole v)
+  bare a T v = 𝓛.laws.at_raw full_share (Named a T) b o v
+
+-- what an iterator owns, from what its parts do
+pub pixels_owned : {M : Type 1} {𝓤 : Ura M} (𝓛 : Logic 𝓤) (a : NamedLft) (T : RattleType) (walk : PixelsMut T.Denot) → let One = MutSlice a.mir a.lft T in
+    ent 𝓤 (sep 𝓤 (sem 𝓛 (One.own_val walk.front (slice_of walk.front ∷ []))) (sep 𝓤 (sem 𝓛 ((rows_mut.the_row a T).own_val walk.rows (rows_lowered walk.rows ∷
+    []))) (sem 𝓛 (One.own_val walk.back (slice_of walk.back ∷ [])))))
+    (sem 𝓛 ((the_row a T).own_val walk (lowered walk ∷ [])))
+pixels_owned 𝓛 a T walk =
+    let One = MutSlice a.mir a.lft T in
+    qed 𝓛 (‵ (One.own_val walk.front (slice_of walk.front ∷ [])) ∷ (‵ ((rows_mut.the_row a T).own_val walk.rows (rows_lowered walk.rows ∷ [])) ⊛
+    ‵ (One.own_val walk.back (slice_of walk.back ∷ []))) ∷ []) ∵
+    move ! (1 ∷ []) $ split ! $ nothing ! $ move ! (2 ∷ 0 ∷ []) $ fjoin ! $ move ! (1 ∷ 0 ∷ []) $ fjoin ! $ move ! (1 ∷ 0 ∷ []) $ fjoin ! $
+    feq_i ! (List Val) (lowered walk ∷ []) (lowered walk ∷ []) refl $ fjoin ! $
+    fpack ! (Valss (shape (the_type a T)).fields) (within (shape (the_type a T)) ((the_type a T).to walk) (lowered walk ∷ [])) (
+      slice_of walk.front ∷ [],
+      (rows_lowered walk.rows ∷ [], (slice_of walk.back ∷ [], tt)),
+    ) $ done !
+
+module _ {M : Type 1} {𝓤 : Ura M} {𝓛 : Logic 𝓤} {K : Type 0} {Γ : List (Item 𝓤)} {G : Goal 𝓤 𝓛.H} where
+  -- its cell, what it owns, and the open borrow, in three
+  pub opens_pixels : K → Soaks G → (a : NamedLft) (T : RattleType) → Laws T → (κ : Lft) (q : Share) (self : MutBor (PixelsMut T.Denot)) → let Row =
+      the_row a (param 0 T) in let b = self.ref_ptr.0 in let o = self.ref_ptr.1 in let code = Row.coded.code self.now in
+      Step K 𝓛 (‵ (fat full_share Bare b o (lowered self.now)) ∷ ‵ (Row.own_val self.now (lowered self.now ∷ [])) ∷
+      ‵ (fobor κ q (Body (mem Row) b o self.ghost_name)) ∷ ‵ (fobs self.ghost_name code) ∷ ‵ (fauth self.ghost_name code) ∷ Γ) G
+      (‵ ((MutRef (named 0) κ Row).own_val self (mut_vals self)) ∷ ‵ (flft κ q) ∷ Γ) G
+  opens_pixels t z a T laws κ q self =
+      opens_self t z (the_row a (param 0 T)) κ q self (lowered self.now ∷ []) ((lowers a (param 0 T) (param_laws 0 T laws)).val_is self.now)
+
+  -- self is closed at the iterator that it is now
+  pub closes_pixels : K → Soaks G → (a : NamedLft) (T : RattleType) {κ : Lft} {q : Share} {u v : Gv} (self : MutBor (PixelsMut T.Denot)) (new :
+      PixelsMut T.Denot)
+      → let Row = the_row a (param 0 T) in let One = MutSlice a.mir a.lft (param 0 T) in let b = self.ref_ptr.0 in let o = self.ref_ptr.1 in let γ =
+      self.ghost_name in
+      Step K 𝓛 (‵ (fobs γ (Row.coded.code new)) ∷ ‵ (fbor κ (Body (mem Row) b o γ)) ∷ ‵ (flft κ q) ∷ Γ) G
+      (‵ (One.own_val new.front (slice_of new.front ∷ [])) ∷ ‵ ((rows_mut.the_row a (param 0 T)).own_val new.rows (rows_lowered new.rows ∷ [])) ∷
+      ‵ (One.own_val new.back (slice_of new.back ∷ []))
+      ∷ ‵ (fat full_share (Named a (param 0 T)) b o (lowered new)) ∷ ‵ (fobor κ q (Body (mem Row) b o γ)) ∷ ‵ (fobs γ u) ∷ ‵ (fauth γ v) ∷ Γ) G
+  closes_pixels t z a T self new = step (λ k.
+      let Row = the_row a (param 0 T) in let b = self.ref_ptr.0 in let o = self.ref_ptr.1 in
+      use3 𝓛 (‵ (Row.own_val new (lowered new ∷ []))) (pixels_owned 𝓛 a (param 0 T) new) $ move t (1 ∷ []) $
+      use1 𝓛 (‵ (cell_at full_share Row.mir (lowered new ∷ []) b o)) (bare 𝓛 b o a (param 0 T) (lowered new)) $ closes t z Row new (lowered new ∷ []) b o $ k)
+
+  -- what its parts own, and that their lengths fit
+  pub parts : K → Soaks G → (a : NamedLft) (T : RattleType) → Laws T → (walk : PixelsMut T.Denot) → let One = Slice T a.lft in
+      (length walk.front.now < 2 ^ 64 → length walk.back.now < 2 ^ 64
+      → Seq K 𝓛 (‵ (One.own_val walk.front (slice_of walk.front ∷ [])) ∷ ‵ ((rows_mut.the_row a (param 0 T)).own_val walk.rows (rows_lowered walk.rows ∷ [])) ∷
+      ‵ (One.own_val walk.back (slice_of walk.back ∷ [])) ∷ Γ) G)
+      → Seq K 𝓛 (‵ ((the_row a (param 0 T)).own_val walk (lowered walk ∷ [])) ∷ Γ) G
+  parts t z a T laws walk k =
+      let One = Slice T a.lft in let Rows = rows_mut.the_row a (param 0 T) in
+      fpick t (λ vss. fsplit t $ feq_l t (λ _. fsplit t $ peeks t One _ (shows 𝓛 One) walk.front vss.0 (λ front. rewrite t 0 (λ (us :
+      List Val). ‵ (One.own_val walk.front us)) front.0.0 refl $
+      move t (1 ∷ []) $ fsplit t $ peeks t Rows _ (shows 𝓛 Rows) walk.rows vss.1.0 (λ rows. rewrite t 0 (λ (us :
+      List Val). ‵ (Rows.own_val walk.rows us)) ((rows_lowers a (param 0 T) (param_laws 0 T laws)).val_is walk.rows vss.1.0 rows) refl $
+      move t (1 ∷ []) $ fsplit t $ peeks t One _ (shows 𝓛 One) walk.back vss.1.1.0 (λ back. rewrite t 0 (λ (us :
+      List Val). ‵ (One.own_val walk.back us)) back.0.0 refl $
+      move t (1 ∷ []) $ drop t $ move t (2 ∷ 1 ∷ 0 ∷ []) $ k front.0.1.0 back.0.1.0)))))
+
+-- a step on self that gives something keeps self in the same way
+abbrev pub stayed : (T : RattleType) → Stays (next_of_front.ended T).signature.params (next_of_front.ended T).kept
+stayed T = (stay_ref (0 ∷ []) tt (plain (λ κs. the_row (named_lft 3 1 tt κs) (param 0 T))), tt)
+
+module _ {M : Type 1} {𝓤 : Ura M} {𝓛 : Logic 𝓤} {K : Type 0} {Γ : List (Item 𝓤)} where
+  -- a step that gives a pixel ends in self, the tokens, the pixel and what its contract ensures
+  pub ends_step : K → (T : RattleType) (c : Clauses 𝓤 (next_of_front.ended T)) (κs : Lfts 3) (qs : Shares 3) (bounds :
+      AllOutlive 3 (next_of_front.ended T).signature.outlives κs) (a : Args (next_of_front.ended T).signature κs) (g : (c κs a).ghost) (out : Val) (r :
+      MutBor T.Denot) (new : PixelsMut T.Denot)
+      → let Row = the_row (named_lft 3 1 tt κs) (param 0 T) in let self = a.0 in
+      Step K 𝓛 Γ (prop ((c κs a).ensures g r (at_exit (next_of_front.ended T) κs a (new, tt))))
+      (‵ (fobs self.ghost_name (Row.coded.code new)) ∷ ‵ (fbor κs.0 (Body (mem Row) self.ref_ptr.0 self.ref_ptr.1 self.ghost_name)) ∷ ‵ (flft κs.0 qs.0) ∷
+      ‵ (flft κs.1.0 qs.1.0) ∷ ‵ (flft κs.1.1.0 qs.1.1.0)
+      ∷ ‵ ((MutRef (named 1) κs.1.0 (param 0 T)).own_val r (out ∷ [])) ∷ Γ) (prop ((walk_of 𝓛 (next_of_front.ended T) (stayed T) c).post (
+        (
+          κs,
+          qs,
+          bounds,
+          a,
+          (mut_vals a.0, tt),
+        ),
+        g,
+      ) out))
+  ends_step t T c κs qs bounds a g out r new = step (λ k.
+      suffices t _ (ends_at 𝓛 (next_of_front.ended T) (stayed T) c ((κs, qs, bounds, a, (mut_vals a.0, tt)), g) out r (new, tt) (tt, tt)) $
+      exits t (mut_vals a.0) _ _ κs qs _ $ k)
+
+module _ {M : Type 1} {𝓤 : Ura M} {𝓛 : Logic 𝓤} {K : Type 0} where
+  -- a step that begins a row ends in self, the tokens and what its contract ensures
+  pub ends_refill : K → (T : RattleType) (c : Clauses 𝓤 (refill_front.ended T)) (κs : Lfts 3) (qs : Shares 3) (bounds :
+      AllOutlive 3 (refill_front.ended T).signature.outlives κs) (a : Args (refill_front.ended T).signature κs) (g : (c κs a).ghost) (new :
+      PixelsMut T.Denot) (begun : Type 0)
+      → let Row = the_row (named_lft 3 1 tt κs) (param 0 T) in let self = a.0 in
+      ent 𝓤 (sep 𝓤 (sem 𝓛 (KeepsPixels (param 0 T) self.now new)) (sep 𝓤 (fact 𝓤 (pixels_left new ≡
+      pixels_left self.now)) (fact 𝓤 begun))) ((c κs a).ensures g tt (at_exit (refill_front.ended T) κs a (new, tt)))
+      → pixels_left new ≡ pixels_left self.now → begun
+      → Seq K 𝓛 (‵ (fobs self.ghost_name (Row.coded.code new)) ∷ ‵ (fbor κs.0 (Body (mem Row) self.ref_ptr.0 self.ref_ptr.1 self.ghost_name)) ∷
+      ‵ (flft κs.0 qs.0) ∷ ‵ (flft κs.1.0 qs.1.0) ∷ ‵ (flft κs.1.1.0 qs.1.1.0) ∷ ‵ (KeepsPixels (param 0 T) self.now new) ∷ [])
+      (prop ((walk_of 𝓛 (refill_front.ended T) (stayed T) c).post ((κs, qs, bounds, a, (mut_vals a.0, tt)), g) vunit))
+  ends_refill t T c κs qs bounds a g new begun says left full =
+      suffices t _ (ends_at 𝓛 (refill_front.ended T) (stayed T) c ((κs, qs, bounds, a, (mut_vals a.0, tt)), g) vunit tt (new, tt) (tt, tt)) $
+      feq_i t (List Val) (vunit ∷ []) (vunit ∷ []) refl $ move t (1 ∷ 2 ∷ 3 ∷ 4 ∷ 5 ∷ 0 ∷ []) $ exits t (mut_vals a.0) _ _ κs qs _ $
+      use0 𝓛 (raw (fact 𝓤 begun)) (fact_i 𝓤 begun (emp 𝓤) full) $ use0 𝓛 (raw (fact 𝓤 (pixels_left new ≡ pixels_left a.0.now))) (fact_i 𝓤 _ (emp 𝓤) left) $
+      join t $ move t (1 ∷ 0 ∷ []) $ by t says

@@ -1,0 +1,169 @@
+-- The end of an iterator that lends pixels at which a function works, in code, in memory and in contracts, so that one proof follows the functions of both
+-- ends.
+-- Assumes `Logic`.
+--     near_len, near_fits     the length of this end's row, as code reads it of self, and that it fits
+--     near_place, near_part, near_out, far_out     the field of this end in code, in the cell of self, and out of it
+--     whole_by, by_sides     self as a machine value, of its parts as seen from this end.        sides, closes_by     self, apart, and closed
+--     cut_clauses, row_clauses, step_clauses, refill_clauses, draw_clauses     the contracts of the functions of this end
+use Rattle.v_frame_plane.proofs.lent.Steps.{ℕ, ◌≡◌, ◌+◌, ◌^◌, ◌<◌, List, [], ◌∷◌, length, Some, None, MutBor, ⊤, MakesProgress, item_count, Share, Lft, fauth}
+use Rattle.v_frame_plane.proofs.lent.Steps.{fbor}
+use Rattle.v_frame_plane.proofs.lent.Steps.{fobor, fobs, flft, mem, Body, Step, step, !, refl, ◌$◌, move, Array, Laws, MutSlice, NamedLft, Goal, Seq, Soaks}
+use Rattle.v_frame_plane.proofs.lent.Steps.{follows_both, full_share, fat, ftrue, ent, sep, id⊢, fact, ◌⊑◌, param, RattleType, Clauses, Ty, Val, vptr, vint}
+use Rattle.v_frame_plane.proofs.lent.Steps.{w64}
+use Rattle.v_frame_plane.proofs.lent.Steps.{Ura, Item, ‵, Logic, sem, sub, fld, look_in, load, of_opd, stop, through, erased, mut, slice_ty, tcons, tnil}
+use Rattle.v_frame_plane.proofs.lent.Steps.{ty_int}
+use Rattle.v_frame_plane.proofs.lent.Steps.{ty_param, ty_ref, ty_struct}
+use base.Stored.{Gv}
+use lib.Dec.{T}
+use mir.Syntax.{Sym, deref, field, place, copy, rv_opd}
+use mir.Val.{Fits, WT, has_ty}
+use prog.Wp.{Env}
+use types.ByLocal.{at}
+use types.Kit.{Go, nth}
+use types.Part.{Part}
+use types.Run.{Finds, Rv}
+use Rattle.v_frame_plane.specs.PixelsLeft.{pixels_left}
+use Rattle.v_frame_plane.specs.RowsLeft.{rows_left}
+use Rattle.v_frame_plane.specs.SecondPixels.{KeepsPixels}
+use Rattle.v_frame_plane.specs.contracts.pixels_mut.cut_first
+use Rattle.v_frame_plane.specs.contracts.pixels_mut.PixelsMut.{the_row}
+use Rattle.v_frame_plane.specs.contracts.pixels_mut.PixelsMut.next
+use Rattle.v_frame_plane.specs.contracts.pixels_mut.PixelsMut.next_of_front
+use Rattle.v_frame_plane.specs.contracts.pixels_mut.PixelsMut.refill_front
+use Rattle.v_frame_plane.specs.contracts.rows_mut.RowsMut as rows_mut
+use Rattle.v_frame_plane.specs.contracts.rows_mut.RowsMut.next as rows_next
+use Rattle.v_frame_plane.specs.declared.rows_mut.RowsMut.{RowsMut}
+use Rattle.v_frame_plane.specs.declared.pixels_mut.PixelsMut.{PixelsMut}
+use Rattle.v_frame_plane.proofs.lent.PixelMemory.{Around, Bare, Named, back_out, closes_pixels, front_out, lowered, parts, whole}
+use Rattle.v_frame_plane.proofs.lent.RowMemory.{slice_of, lowered as rows_lowered}
+use Rattle.v_frame_plane.proofs.lent.Sides.{Side, at_front, at_back, slot, other, offset, near, far, put, Countable, walk_by, Steps, Yields, YieldsRow}
+use Rattle.v_frame_plane.proofs.lent.Sides.{LendsRow}
+use Rattle.v_frame_plane.proofs.lent.Sides.{Takes, Lends}
+use Rattle.v_frame_plane.proofs.lent.Taken.{Slice, word}
+
+-- self as a machine value, of its field at this end, its rows and its field at the other end
+abbrev pub whole_by : Side → Val → Val → Val → Val
+whole_by at_front near rows far = whole near rows far
+whole_by at_back near rows far = whole far rows near
+
+pub near_fits : (s : Side) {X : Type 0} (walk : PixelsMut X) → T (has_ty Bare (lowered walk)) × WT (lowered walk) → Fits w64 (length (near s walk).now)
+near_fits at_front walk ok = ok.1.0.1.0
+near_fits at_back walk ok = ok.1.1.1.0.1.0
+
+module _ {M : Type 1} {𝓤 : Ura M} (𝓛 : Logic 𝓤) (T : RattleType) (old new : PixelsMut T.Denot) where
+  pub lends_pixel : (s : Side) (pixel : MutBor T.Denot) → ent 𝓤 (sem 𝓛 (Takes s T old pixel new)) (sem 𝓛 (Lends s T old (Some pixel) new))
+  lends_pixel at_front pixel = id⊢ 𝓤 _
+  lends_pixel at_back pixel = id⊢ 𝓤 _
+
+  pub lends_none : (s : Side) → ent 𝓤 (sem 𝓛 (KeepsPixels T old new)) (sem 𝓛 (Lends s T old None new))
+  lends_none at_front = id⊢ 𝓤 _
+  lends_none at_back = id⊢ 𝓤 _
+
+module _ {M : Type 1} {𝓤 : Ura M} (𝓛 : Logic 𝓤) (T : RattleType) (s : Side) where
+  abbrev pub cut_clauses : Clauses 𝓤 (cut_first.ended T)
+  cut_clauses = λ κs a. record {
+    ghost = Unit {0};
+    requires = λ _. sep 𝓤 (fact 𝓤 (κs.1.0 ⊑ T.lives)) (fact 𝓤 (0 < length a.0.now));
+    ensures = λ _ r end. let Slices = Array (param 0 T) 0 in
+        sep 𝓤 (sem 𝓛 (follows_both Slices (param 0 T) Slices a.0.ghost_name r.0.ghost_name r.1.ghost_name (put s))) (fact 𝓤 (a.0.now ≡ put s r.0.now r.1.now));
+  }
+
+  abbrev pub row_clauses : Clauses 𝓤 (rows_next.ended T)
+  row_clauses = λ κs a. record {
+    ghost = Unit {0};
+    requires = λ _. sep 𝓤 (fact 𝓤 (κs.1.1.0 ⊑ T.lives)) (sem 𝓛 ftrue);
+    ensures = λ _ r end. sep 𝓤 (sem 𝓛 (LendsRow s (param 0 T) a.0.now r end.0.now)) (sep 𝓤 (fact 𝓤 (YieldsRow s a.0.now r end.0.now))
+        (fact 𝓤 (MakesProgress (λ _. ⊤) (item_count rows_left) a.0.now r end.0.now)));
+  }
+
+  abbrev pub step_clauses : Clauses 𝓤 (next_of_front.ended T)
+  step_clauses = λ κs a. record {
+    ghost = Unit {0};
+    requires = λ _. sep 𝓤 (fact 𝓤 (κs.1.1.0 ⊑ T.lives)) (fact 𝓤 (0 < length (near s a.0.now).now));
+    ensures = λ _ pixel end. sep 𝓤 (sem 𝓛 (Takes s (param 0 T) a.0.now pixel end.0.now)) (fact 𝓤 (Steps s a.0.now pixel end.0.now));
+  }
+
+  abbrev pub refill_clauses : Clauses 𝓤 (refill_front.ended T)
+  refill_clauses = λ κs a. record {
+    ghost = Unit {0};
+    requires = λ _. sep 𝓤 (fact 𝓤 (κs.1.1.0 ⊑ T.lives)) (fact 𝓤 (length (near s a.0.now).now ≡ 0));
+    ensures = λ _ _ end. sep 𝓤 (sem 𝓛 (KeepsPixels (param 0 T) a.0.now end.0.now)) (sep 𝓤 (fact 𝓤 (pixels_left end.0.now ≡ pixels_left a.0.now))
+        (fact 𝓤 (length (near s end.0.now).now ≡ 0 → pixels_left end.0.now ≡ [])));
+  }
+
+  abbrev pub draw_clauses : Clauses 𝓤 (next.ended T)
+  draw_clauses = λ κs a. record {
+    ghost = Unit {0};
+    requires = λ _. sep 𝓤 (fact 𝓤 (κs.1.1.0 ⊑ T.lives)) (sem 𝓛 ftrue);
+    ensures = λ _ r end. sep 𝓤 (sem 𝓛 (Lends s (param 0 T) a.0.now r end.0.now)) (sep 𝓤 (fact 𝓤 (Yields s a.0.now r end.0.now))
+        (fact 𝓤 (MakesProgress (λ _. ⊤) (item_count pixels_left) a.0.now r end.0.now)));
+  }
+
+-- a slice, and self where code goes through a reference to it, of the names that it and its rows have there
+abbrev pub part : Ty
+part = slice_ty (ty_ref erased mut (ty_param 0))
+
+abbrev pub Walk : Sym → Sym → Ty
+Walk ν ρ = let n = ty_int w64 in ty_struct ν (tcons part (tcons (ty_struct ρ (tcons part (tcons n (tcons n (tcons n (tcons n tnil)))))) (tcons part tnil)))
+
+module _ {M : Type 1} {𝓤 : Ura M} {𝓛 : Logic 𝓤} {Γ : List (Item 𝓤)} {result self : Ty × ℕ} {locals : Env 𝓤 𝓛.H} where
+  pub near_len : Go {0} → (s : Side) {X : Type 0} (walk : PixelsMut X) {ν ρ : Sym} {q p : Share} {b o : ℕ} {back : Val → Item 𝓤} →
+      at 𝓛 1 Γ ≡ ‵ (fat p self.0 self.1 0 (vptr b o)) → Part (Go {0}) 𝓛 (nth 𝓛 0 Γ) q Bare b o (lowered walk) back →
+      Rv (Go {0}) 𝓛 Γ (result ∷ self ∷ locals) (rv_opd (copy (place 1 (deref (Walk ν ρ) ∷ field (slot s) ∷ field 1 ∷ []))))
+      (vint w64 (length (near s walk).now))
+  near_len t at_front walk here cell =
+      of_opd ! (load ! (through ! here (fld ! refl (fld ! refl (stop !)))) (look_in ! 0 (sub ! 1 refl (sub ! 0 refl cell))))
+  near_len t at_back walk here cell =
+      of_opd ! (load ! (through ! here (fld ! refl (fld ! refl (stop !)))) (look_in ! 0 (sub ! 1 refl (sub ! 2 refl cell))))
+
+  -- its field at this end, and that field of its cell
+  pub near_place : Go {0} → (s : Side) {ν ρ : Sym} {p : Share} {b o : ℕ} → at 𝓛 1 Γ ≡ ‵ (fat p self.0 self.1 0 (vptr b o)) →
+      Finds (Go {0}) 𝓛 Γ (result ∷ self ∷ locals) (place 1 (deref (Walk ν ρ) ∷ field (slot s) ∷ [])) (part, b, o + offset s)
+  near_place t at_front here = through ! here (fld ! refl (stop !))
+  near_place t at_back here = through ! here (fld ! refl (stop !))
+
+module _ {M : Type 1} {𝓤 : Ura M} {𝓛 : Logic 𝓤} where
+  pub near_part : Go {0} → (s : Side) (a : NamedLft) (T : RattleType) {i : Item 𝓤} {q : Share} {b o : ℕ} (near rows far : Val) {back : Val → Item 𝓤} →
+      Part (Go {0}) 𝓛 i q (Named a T) b o (whole_by s near rows far) back → Part (Go {0}) 𝓛 i q part b (o + offset s) near (λ u. back (whole_by s u rows far))
+  near_part t at_front a T near rows far cell = sub ! 0 refl cell
+  near_part t at_back a T near rows far cell = sub ! 2 refl cell
+
+-- self as a machine value, with these for its rows
+pub by_sides : {X : Type 0} (s : Side) (walk : PixelsMut X) (rows : Val) → whole (slice_of walk.front) rows (slice_of walk.back) ≡
+    whole_by s (slice_of (near s walk)) rows (slice_of (far s walk))
+by_sides at_front walk rows = refl
+by_sides at_back walk rows = refl
+
+module _ {M : Type 1} {𝓤 : Ura M} (𝓛 : Logic 𝓤) (b o : ℕ) (near rows far : Val) where
+  pub near_out : (s : Side) → ent 𝓤 (𝓛.H.at full_share Bare b o (whole_by s near rows far)) (sep 𝓤 (𝓛.H.at full_share word b (o + offset s) near)
+      (Around 𝓛 b o word (offset s) (λ u. whole_by s u rows far)))
+  near_out at_front = front_out 𝓛 b o near rows far
+  near_out at_back = back_out 𝓛 b o far rows near
+
+  pub far_out : (s : Side) → ent 𝓤 (𝓛.H.at full_share Bare b o (whole_by s near rows far)) (sep 𝓤 (𝓛.H.at full_share word b (o + offset (other s)) far)
+      (Around 𝓛 b o word (offset (other s)) (λ u. whole_by s near rows u)))
+  far_out at_front = back_out 𝓛 b o near rows far
+  far_out at_back = front_out 𝓛 b o far rows near
+
+module _ {M : Type 1} {𝓤 : Ura M} {𝓛 : Logic 𝓤} {K : Type 0} {Γ : List (Item 𝓤)} {G : Goal 𝓤 𝓛.H} where
+  pub sides : K → Soaks G → (s : Side) (a : NamedLft) (T : RattleType) → Laws T → (walk : PixelsMut T.Denot) → let One = Slice T a.lft in
+      (length (near s walk).now < 2 ^ 64 → length (far s walk).now < 2 ^ 64
+      → Seq K 𝓛 (‵ (One.own_val (near s walk) (slice_of (near s walk) ∷ [])) ∷
+      ‵ ((rows_mut.the_row a (param 0 T)).own_val walk.rows (rows_lowered walk.rows ∷ [])) ∷
+      ‵ (One.own_val (far s walk) (slice_of (far s walk) ∷ [])) ∷ Γ) G)
+      → Seq K 𝓛 (‵ ((the_row a (param 0 T)).own_val walk (lowered walk ∷ [])) ∷ Γ) G
+  sides t z at_front a T laws walk k = parts t z a T laws walk k
+  sides t z at_back a T laws walk k = parts t z a T laws walk (λ front back. move t (2 ∷ 1 ∷ 0 ∷ []) $ k back front)
+
+  pub closes_by : K → Soaks G → (s : Side) (a : NamedLft) (T : RattleType) {κ : Lft} {q : Share} {u v : Gv} (self : MutBor (PixelsMut T.Denot)) (near :
+      MutBor (List T.Denot)) (rows : RowsMut T.Denot) (far : MutBor (List T.Denot)) (countable : Countable s near.now (rows_left rows) far.now)
+      → let Row = the_row a (param 0 T) in let One = MutSlice a.mir a.lft (param 0 T) in let b = self.ref_ptr.0 in let o = self.ref_ptr.1 in
+      let γ = self.ghost_name in let new = walk_by s near rows far countable in
+      Step K 𝓛 (‵ (fobs γ (Row.coded.code new)) ∷ ‵ (fbor κ (Body (mem Row) b o γ)) ∷ ‵ (flft κ q) ∷ Γ) G
+      (‵ (One.own_val near (slice_of near ∷ [])) ∷ ‵ ((rows_mut.the_row a (param 0 T)).own_val rows (rows_lowered rows ∷ [])) ∷
+      ‵ (One.own_val far (slice_of far ∷ [])) ∷
+      ‵ (fat full_share (Named a (param 0 T)) b o (whole_by s (slice_of near) (rows_lowered rows) (slice_of far))) ∷
+      ‵ (fobor κ q (Body (mem Row) b o γ)) ∷ ‵ (fobs γ u) ∷ ‵ (fauth γ v) ∷ Γ) G
+  closes_by t z at_front a T self near rows far countable = closes_pixels t z a T self (walk_by at_front near rows far countable)
+  closes_by t z at_back a T self near rows far countable =
+      step (λ k. move t (2 ∷ 1 ∷ 0 ∷ []) $ closes_pixels t z a T self (walk_by at_back near rows far countable) $ k)

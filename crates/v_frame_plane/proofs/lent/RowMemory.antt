@@ -1,0 +1,178 @@
+-- An iterator that lends rows, in memory, for the proofs by hand of its `next` and `next_back`. Assumes `Logic`.
+-- opens_walk a `&mut` to it is opened. takes_slice `take` at its slice. bare,
+-- walk_owned what it is made of again
+--     exits     the tokens, self and what is given, in which a function of `&mut self` of an iterator ends.        ends_draw      how a call ends
+use Rattle.v_frame_plane.proofs.lent.Steps.{ℕ, ◌+◌, ◌^◌, ◌<◌, List, [], ◌∷◌, length, Option, w64, MutBor, refl, Lft, Share, fat, fauth, fbor, flent, flft}
+use Rattle.v_frame_plane.proofs.lent.Steps.{fobor}
+use Rattle.v_frame_plane.proofs.lent.Steps.{fobs, full_share, SProp, all, ent, sep, wand, ◌⊑◌, Fun, usize, shows, mem, param, Laws, param_laws, uint_vals}
+use Rattle.v_frame_plane.proofs.lent.Steps.{uint_Makes, RattleType, Valss, MutRef, NamedLft, mut_vals, plain, named_lft, MutSlice, slice_ty, slice_val, nothing}
+use Rattle.v_frame_plane.proofs.lent.Steps.{owned, peeks, Clauses, at_exit, Stays, stay_ref, walk_of, ends_at, Ty, Tys, erased, mut, named, tcons, tnil, ty_int}
+use Rattle.v_frame_plane.proofs.lent.Steps.{ty_param, ty_ref, ty_struct, Val, Vals, vcons, vint, vnil, vstruct, Memory, Routine, Ura, Goal, Item, Seq, Soaks}
+use Rattle.v_frame_plane.proofs.lent.Steps.{Step}
+use Rattle.v_frame_plane.proofs.lent.Steps.{step, ‵, raw, ◌⊛◌, prop, ◌$◌, ◌∵◌, !, qed, done, drop, feq_i, feq_l, fjoin, fjoin3, fpack, fpick, frame, fsplit}
+use Rattle.v_frame_plane.proofs.lent.Steps.{join}
+use Rattle.v_frame_plane.proofs.lent.Steps.{move, rewrite, split, suffices, use1, use2, Logic, sem, Body, Fml, feq, fsep, ftrue, AllOutlive, Shares, Lfts, Args}
+use Rattle.v_frame_plane.proofs.lent.Steps.{shape, within, mean}
+use Rattle.std.specs.contracts.option.Option as Opt
+use denote.Triple.Statement.{Triple}
+use mir.Syntax.{Body as Code, Callee, Place, Opd as Operand, call, seq}
+use prog.Wp.{Calls, Env, Loops}
+use sound.WpLaws.{FmC}
+use types.Kit.{Post, lands, runs}
+use types.Run.{Opds}
+use lib.Dec.{T}
+use mir.Val.{Fits, WT, has_ty}
+use Rattle.v_frame_plane.specs.contracts.rows_mut.RowsMut.{struct, the_row, the_type}
+use Rattle.v_frame_plane.specs.contracts.rows_mut.RowsMut.next
+use Rattle.v_frame_plane.specs.declared.rows_mut.RowsMut.{RowsMut}
+use Rattle.v_frame_plane.proofs.lent.Loans.{Back, at_one, opens_self}
+use Rattle.v_frame_plane.proofs.lent.Taken.{Slice, Take, Taken, asked, calls_take, word}
+use Rattle.v_frame_plane.proofs.rows_mut.RowsMut.TheLaws.{lowers}
+
+-- its numbers, and it as a machine value
+abbrev Numbers : Tys
+Numbers = tcons (ty_int w64) (tcons (ty_int w64) (tcons (ty_int w64) (tcons (ty_int w64) tnil)))
+
+abbrev pub numbers : (start width gap count : ℕ) → Vals
+numbers start width gap count = vcons (vint w64 start) (vcons (vint w64 width) (vcons (vint w64 gap) (vcons (vint w64 count) vnil)))
+
+abbrev pub slice_of : {X : Type 0} → MutBor (List X) → Val
+slice_of x = slice_val x.ref_ptr (length x.now)
+
+abbrev pub lowered : {X : Type 0} → RowsMut X → Val
+lowered walk = vstruct (vcons (slice_of walk.rest) (numbers walk.start walk.width walk.gap walk.count))
+
+-- the positions of its fields
+abbrev pub rest_at : ℕ
+rest_at = 0
+
+abbrev pub start_at : ℕ
+start_at = 1
+
+abbrev pub width_at : ℕ
+width_at = 2
+
+abbrev pub gap_at : ℕ
+gap_at = 3
+
+abbrev pub count_at : ℕ
+count_at = 4
+
+-- its type, as the machine sees it and as code names it
+abbrev pub Bare : Ty
+Bare = ty_struct [] (tcons word Numbers)
+
+abbrev pub Named : (a : NamedLft) (T : RattleType) → Ty
+Named a T = ty_struct (struct a T).name (tcons (slice_ty (ty_ref erased mut (ty_param 0))) Numbers)
+
+-- in a cell its numbers fit, and so does the length of its slice
+module _ {X : Type 0} (walk : RowsMut X) (ok : T (has_ty Bare (lowered walk)) × WT (lowered walk)) where
+  abbrev pub rest_fit : Fits w64 (length walk.rest.now)
+  rest_fit = ok.1.0.1.0
+
+  abbrev pub start_fit : Fits w64 walk.start
+  start_fit = ok.1.1.0
+
+  abbrev pub width_fit : Fits w64 walk.width
+  width_fit = ok.1.1.1.0
+
+  abbrev pub gap_fit : Fits w64 walk.gap
+  gap_fit = ok.1.1.1.1.0
+
+  abbrev pub count_fit : Fits w64 walk.count
+  count_fit = ok.1.1.1.1.1.0
+
+module _ {M : Type 1} {𝓤 : Ura M} (𝓛 : Logic 𝓤) (b o : ℕ) (ns : Vals) where
+  abbrev Slot : Val → SProp 𝓤
+  Slot u = 𝓛.H.at full_share word b (o + 0) u
+
+  abbrev Whole : Val → SProp 𝓤
+  Whole u = 𝓛.H.at full_share Bare b o (vstruct (vcons u ns))
+
+  abbrev Around : SProp 𝓤
+  Around = all 𝓤 (λ (u : Val). wand 𝓤 (Slot u) (Whole u))
+
+  slice_in : (a : NamedLft) (T : RattleType) (v : Val) → ent 𝓤 (sep 𝓤 (Slot v) Around) (𝓛.H.at full_share (Named a T) b o (vstruct (vcons v ns)))
+  slice_in a T v = qed 𝓛 (‵ (fat full_share word b (o + 0) v) ∷ raw Around ∷ []) ∵ move ! (1 ∷ 0 ∷ []) $
+      use2 𝓛 (‵ (fat full_share Bare b o (vstruct (vcons v ns)))) (at_one 𝓛 Slot Whole v) $
+      use1 𝓛 (‵ (fat full_share (Named a T) b o (vstruct (vcons v ns)))) (𝓛.laws.raw_at full_share (Named a T) b o (vstruct (vcons v ns))) $ done !
+
+  pub bare : (a : NamedLft) (T : RattleType) (v : Val) → ent 𝓤 (𝓛.H.at full_share (Named a T) b o (vstruct (vcons v ns))) (Whole v)
+  bare a T v = 𝓛.laws.at_raw full_share (Named a T) b o (vstruct (vcons v ns))
+
+-- what an iterator owns, from what its slice does
+pub walk_owned : {M : Type 1} {𝓤 : Ura M} (𝓛 : Logic 𝓤) (a : NamedLft) (T : RattleType) (walk : RowsMut T.Denot) → walk.start < 2 ^ 64 → walk.width < 2 ^ 64 →
+    walk.gap < 2 ^ 64 → walk.count < 2 ^ 64
+    → ent 𝓤 (sem 𝓛 ((MutSlice a.mir a.lft T).own_val walk.rest (slice_of walk.rest ∷ []))) (sem 𝓛 ((the_row a T).own_val walk (lowered walk ∷ [])))
+walk_owned 𝓛 a T walk s w g c =
+    qed 𝓛 (‵ ((MutSlice a.mir a.lft T).own_val walk.rest (slice_of walk.rest ∷ [])) ∷ []) ∵
+    nothing ! $ owned ! usize _ (uint_Makes 𝓛 w64) walk.count _ (refl, c) $ fjoin ! $ owned ! usize _ (uint_Makes 𝓛 w64) walk.gap _ (refl, g) $ fjoin ! $
+    owned ! usize _ (uint_Makes 𝓛 w64) walk.width _ (refl, w) $ fjoin ! $ owned ! usize _ (uint_Makes 𝓛 w64) walk.start _ (refl, s) $ fjoin ! $
+    move ! (1 ∷ 0 ∷ []) $ fjoin ! $
+    feq_i ! (List Val) (lowered walk ∷ []) (lowered walk ∷ []) refl $ fjoin ! $
+    fpack ! (Valss (shape (the_type a T)).fields) (within (shape (the_type a T)) ((the_type a T).to walk) (lowered walk ∷ [])) (
+      slice_of walk.rest ∷ [],
+      (uint_vals w64 walk.start, (uint_vals w64 walk.width, (uint_vals w64 walk.gap, (uint_vals w64 walk.count, tt)))),
+    ) $ done !
+
+module _ {M : Type 1} {𝓤 : Ura M} {𝓛 : Logic 𝓤} {K : Type 0} {Γ : List (Item 𝓤)} {G : Goal 𝓤 𝓛.H} where
+  -- its cell, what it owns, and the open borrow, in three
+  pub opens_walk : K → Soaks G → (a : NamedLft) (T : RattleType) → Laws T → (κ : Lft) (q : Share) (self : MutBor (RowsMut T.Denot)) → let Row =
+      the_row a (param 0 T) in let b = self.ref_ptr.0 in let o = self.ref_ptr.1 in let code = Row.coded.code self.now in
+      Step K 𝓛 (‵ (fat full_share Bare b o (lowered self.now)) ∷ ‵ (Row.own_val self.now (lowered self.now ∷ [])) ∷
+      ‵ (fobor κ q (Body (mem Row) b o self.ghost_name)) ∷ ‵ (fobs self.ghost_name code) ∷ ‵ (fauth self.ghost_name code) ∷ Γ) G
+      (‵ ((MutRef (named 0) κ Row).own_val self (mut_vals self)) ∷ ‵ (flft κ q) ∷ Γ) G
+  opens_walk t z a T laws κ q self =
+      opens_self t z (the_row a (param 0 T)) κ q self (lowered self.now ∷ []) ((lowers a (param 0 T) (param_laws 0 T laws)).val_is self.now)
+
+module _ {M : Type 1} {𝓤 : Ura M} {𝓛 : Logic 𝓤} {K : Type 0} {Γ : List (Item 𝓤)} {E : Env 𝓤 𝓛.H} {C : Calls 𝓤 𝓛.H} {Λ : Loops 𝓤 𝓛.H} {f : Callee} {xs :
+    List Operand} {d : Place} {rest : Code} {p : Post 𝓤 𝓛.H} where
+  -- `take` at its slice: the iterator with another slice in its field, the slice that it had, and the token
+  pub takes_slice : K → FmC 𝓤 𝓛.H 𝓛.laws C → (at_mem : Memory → SProp 𝓤) (run : Routine → Fun 𝓤) (T : RattleType) (a : NamedLft) →
+      Triple 𝓤 (C f) (Take 𝓛 at_mem run T a.lft) → (q : Share) (walk : RowsMut T.Denot) (b o : ℕ) (ns : Vals) → a.lft ⊑ T.lives
+      → ((α γ : ℕ) → let y = asked 𝓛 at_mem run T a.lft q walk.rest b (o + 0) α γ in Opds K 𝓛 (raw ((Take 𝓛 at_mem run T a.lft).pre y) ∷
+      ‵ (flent (α ∷ a.lft) (Body (mem (Taken T a.lft)) b (o + 0) γ)) ∷ raw (Back 𝓛 α a.lft q) ∷ raw (Around 𝓛 b o ns) ∷ Γ) E xs
+      ((Take 𝓛 at_mem run T a.lft).args y))
+      → ((e : MutBor (List T.Denot)) → length walk.rest.now < 2 ^ 64
+      → Seq K 𝓛 (‵ (fat full_share (Named a (param 0 T)) b o (vstruct (vcons (slice_val e.ref_ptr 0) ns))) ∷
+      ‵ ((Slice T a.lft).own_val walk.rest (slice_of walk.rest ∷ [])) ∷ ‵ (flft a.lft q) ∷ Γ) (lands C Λ E d (slice_of walk.rest) rest p))
+      → Seq K 𝓛 (‵ (fat full_share Bare b o (vstruct (vcons (slice_of walk.rest) ns))) ∷ ‵ ((the_row a (param 0 T)).own_val walk (lowered walk ∷ [])) ∷
+      ‵ (flft a.lft q) ∷ Γ) (runs C Λ E (seq (call f xs d) rest) p)
+  takes_slice t fm at_mem run T a met q walk b o ns inT os k =
+      let One = Slice T a.lft in let held = slice_of walk.rest in
+      move t (1 ∷ []) $ fpick t (λ vss. fsplit t $ feq_l t (λ _. fsplit t $ peeks t One _ (shows 𝓛 One) walk.rest vss.0 (λ its. rewrite t 0 (λ (us :
+      List Val). ‵ (One.own_val walk.rest us)) its.0.0 refl $
+      move t (1 ∷ []) $ drop t $ move t (1 ∷ []) $ use1 𝓛 (‵ (fat full_share word b (o + 0) held) ⊛
+      raw (Around 𝓛 b o ns)) (𝓛.laws.at_field full_share [] (tcons word Numbers) 0 word 0 refl b o (vcons held ns)) $ split t $
+      -- [the field; the way back; the slice; the token]
+      move t (0 ∷ 2 ∷ 3 ∷ []) $ calls_take t fm at_mem run T a.lft met q walk.rest b (o + 0) inT os (λ e _.
+      -- [the field; what it owns now; the slice; the token; the way back]
+      move t (1 ∷ []) $ drop t $ move t (0 ∷ 3 ∷ []) $ use2 𝓛 (‵ (fat full_share (Named a (param 0 T)) b o (vstruct (vcons (slice_val e.ref_ptr 0) ns))))
+      (slice_in 𝓛 b o ns a (param 0 T) (slice_val e.ref_ptr 0)) $ k e its.0.1.0))))
+
+-- `next` and `next_back` keep self in the same way
+abbrev pub stayed : (T : RattleType) → Stays (next.ended T).signature.params (next.ended T).kept
+stayed T = (stay_ref (0 ∷ []) tt (plain (λ κs. the_row (named_lft 3 1 tt κs) (param 0 T))), tt)
+
+module _ {M : Type 1} {𝓤 : Ura M} {𝓛 : Logic 𝓤} {K : Type 0} {Γ : List (Item 𝓤)} where
+  pub exits : K → (vs : List Val) (here borrow : Fml) (κs : Lfts 3) (qs : Shares 3) (out : Fml) {P : SProp 𝓤}
+      → Step K 𝓛 Γ (prop P) (‵ here ∷ ‵ borrow ∷ ‵ (flft κs.0 qs.0) ∷ ‵ (flft κs.1.0 qs.1.0) ∷ ‵ (flft κs.1.1.0 qs.1.1.0) ∷ ‵ out ∷ Γ)
+      (prop (sep 𝓤 (mean 𝓛 ((‵ (flft κs.0 qs.0) ⊛ ‵ (flft κs.1.0 qs.1.0) ⊛ ‵ (flft κs.1.1.0 qs.1.1.0) ⊛ ‵ ftrue) ⊛
+      ‵ (fsep (fsep (feq (List Val) vs vs) (fsep here borrow)) ftrue) ⊛ ‵ out)) P))
+  exits t vs here borrow κs qs out = step (λ k.
+      feq_i t (List Val) vs vs refl $ fjoin3 t $ nothing t $ move t (1 ∷ 0 ∷ []) $ fjoin t $ move t (0 ∷ 4 ∷ []) $ join t $
+      nothing t $ move t (4 ∷ 0 ∷ []) $ join t $ move t (3 ∷ 0 ∷ []) $ join t $ move t (2 ∷ 0 ∷ []) $ join t $ join t $ frame t $ k)
+
+  -- `next` and `next_back` end in self, the tokens, what is given and what the contract ensures
+  pub ends_draw : K → (T : RattleType) (c : Clauses 𝓤 (next.ended T)) (κs : Lfts 3) (qs : Shares 3) (bounds :
+      AllOutlive 3 (next.ended T).signature.outlives κs) (a : Args (next.ended T).signature κs) (g : (c κs a).ghost) (out : Val) (r :
+      Option (MutBor (List T.Denot))) (new : RowsMut T.Denot)
+      → let Row = the_row (named_lft 3 1 tt κs) (param 0 T) in let self = a.0 in
+      Step K 𝓛 Γ (prop ((c κs a).ensures g r (at_exit (next.ended T) κs a (new, tt))))
+      (‵ (fobs self.ghost_name (Row.coded.code new)) ∷ ‵ (fbor κs.0 (Body (mem Row) self.ref_ptr.0 self.ref_ptr.1 self.ghost_name)) ∷ ‵ (flft κs.0 qs.0) ∷
+      ‵ (flft κs.1.0 qs.1.0) ∷ ‵ (flft κs.1.1.0 qs.1.1.0)
+      ∷ ‵ ((Opt.the_row (MutSlice (named 1) κs.1.0 (param 0 T))).own_val r (out ∷ [])) ∷
+      Γ) (prop ((walk_of 𝓛 (next.ended T) (stayed T) c).post ((κs, qs, bounds, a, (mut_vals a.0, tt)), g) out))
+  ends_draw t T c κs qs bounds a g out r new = step (λ k.
+      suffices t _ (ends_at 𝓛 (next.ended T) (stayed T) c ((κs, qs, bounds, a, (mut_vals a.0, tt)), g) out r (new, tt) (tt, tt)) $
+      exits t (mut_vals a.0) _ _ κs qs _ $ k)

@@ -1,0 +1,132 @@
+-- A call of `mem::take` at a place that holds a `&mut [T]` of the lifetime κ, for a proof by hand. Assumes `Logic`.
+--     calls_take     the place is lent to the call, and holds an empty slice afterwards: what it held is handed back
+use Rattle.v_frame_plane.proofs.lent.Steps.{ℕ, ◌≡◌, List, [], ◌∷◌, length, w64, MutBor, refl, ap, ◌∙◌, Lft, Share, fat, flent, flft, ftrue, full_share, SProp}
+use Rattle.v_frame_plane.proofs.lent.Steps.{emp}
+use Rattle.v_frame_plane.proofs.lent.Steps.{id⊢, ◌⊑◌, ⊑_trans, Fun, fact, fact_i, shows, mem, param, Laws, param_laws, RattleType, NamedLft, MutSlice}
+use Rattle.v_frame_plane.proofs.lent.Steps.{slice_val}
+use Rattle.v_frame_plane.proofs.lent.Steps.{heard, nothing, only, peeks, Lasts, lasts, triple_of, Contract, Ty, a_type, named, tcons, tnil, ty_int, ty_ptr}
+use Rattle.v_frame_plane.proofs.lent.Steps.{ty_struct, Val, vptr, Memory, Routine, Ura, Item, Seq, ‵, raw, ◌⊛◌, some, later, ◌$◌, await, drop, fsplit, join}
+use Rattle.v_frame_plane.proofs.lent.Steps.{move}
+use Rattle.v_frame_plane.proofs.lent.Steps.{pick, rewrite, split, split3, use0, use1, use2, Logic, Body, no}
+use base.Share
+use contract.BorrowLft.{⊑_meet, ⊑_refl, meet_⊑_right}
+use contract.Running.{Running}
+use denote.Param.{arg, bounded, layout}
+use denote.Param.Laws.{arg_laws, of_field, row_shared}
+use denote.Param.Shared.{mut_slice_shared}
+use denote.Struct.Field.{mut_slice_field}
+use denote.Struct.Laws.{mut_slice_laws}
+use denote.Triple.Statement.{Triple}
+use denote.Triple.Call.{calls_at}
+use mir.Syntax.{Body as Code, Callee, Place, Opd as Operand, call, seq}
+use prog.Wp.{Calls, Env, Loops}
+use sound.WpLaws.{FmC}
+use types.Kit.{Post, lands, regoal, runs}
+use types.Run.{Opds}
+use mir.Syntax.{dcons, dnil}
+use prog.Model.{Model}
+use prog.Wired.{Wired}
+use Rattle.std.specs.contracts.mem.take
+use Rattle.core.proofs.mem.take.Met as take_met
+use Rattle.core.proofs.mem.take.Symbol as take_code
+use Rattle.core.proofs.slice.empty.RefMutSliceDefault.TheImpl.Met as default_met
+use Rattle.core.proofs.slice.empty.RefMutSliceDefault.default.Symbol as default_code
+use Rattle.core.specs.contracts.slice.empty.RefMutSliceDefault.TheImpl.{ghosts, dict}
+use Rattle.v_frame_plane.proofs.lent.Loans.{Back, comes_back, lends, lft_over, share_within}
+
+-- a slice as a place in memory has it
+abbrev pub word : Ty
+word = ty_struct [] (tcons ty_ptr (tcons (ty_int w64) tnil))
+
+module _ (T : RattleType) (κ : Lft) where
+  abbrev pub Slice : RattleType
+  Slice = MutSlice (named 1) κ (param 0 T)
+
+  abbrev pub Taken : RattleType
+  Taken = arg word no Slice
+
+  abbrev pub element : RattleType
+  element = arg (layout T) no (param 0 T)
+
+  module _ (laws : Laws T) where
+    abbrev pub element_laws : Laws element
+    element_laws = arg_laws (layout T) no (param 0 T) (param_laws 0 T laws) refl
+
+    abbrev named_lft : NamedLft
+    named_lft = record { mir = named 1; lft = κ }
+
+    abbrev pub slice_laws : Laws Slice
+    slice_laws = of_field (mut_slice_field named_lft (param 0 T) tt) (mut_slice_laws named_lft (param 0 T) tt) refl
+        (mut_slice_shared named_lft (param 0 T) tt (row_shared (param 0 T) (param_laws 0 T laws)))
+
+    abbrev pub taken_laws : Laws Taken
+    taken_laws = arg_laws word no Slice slice_laws refl
+
+module _ {M : Type 1} {𝓤 : Ura M} (𝓛 : Logic 𝓤) (at_mem : Memory → SProp 𝓤) (run : Routine → Fun 𝓤) (T : RattleType) (κ : Lft) where
+  abbrev pub Take : Contract 𝓤
+  Take = triple_of 𝓛 (take.signature (Taken T κ)) (take.spec (Taken T κ) (ghosts (element T κ)) (dict (element T κ)) 𝓛 at_mem run)
+
+  module _ (q : Share) (x : MutBor (List T.Denot)) (b o : ℕ) where
+    abbrev pub asked : ℕ → ℕ → Take.Ghost
+    asked α γ = let κ' : Lft = α ∷ κ in let s = share_within q in (
+      (
+        (κ', (κ', tt)),
+        (Share.left s, (Share.right s, tt)),
+        (⊑_refl κ', tt),
+        (record { ref_ptr = (b, o); ghost_name = γ; now = x }, tt),
+        (vptr b o ∷ [], tt),
+      ),
+      tt,
+    )
+
+-- the call does what `take` promises
+pub take_meets : {M : Type 1} {𝓤 : Ura M} (𝓛 : Logic 𝓤) (𝓜 : Model 𝓤 𝓛.H) (𝓡 : Running 𝓤 𝓛.H 𝓜) → Wired 𝓡.env take_code.code → Wired 𝓡.env default_code.code →
+    (T : RattleType) (laws : Laws T) (κ : Lft) → κ ⊑ T.lives
+    → Triple 𝓤 (𝓡.run (𝓡.env (take_code.name (bounded (a_type ∷ []) (Taken T κ, tt) (dcons (dict (element T κ)) dnil))))) (Take 𝓛 𝓜.mem 𝓡.returns T κ)
+take_meets {M} {𝓤} 𝓛 𝓜 𝓡 takes defaults T laws κ inT =
+    take_met.met 𝓤 𝓛 𝓜 𝓡 takes (Taken T κ) (taken_laws T κ laws) (ghosts (element T κ)) (dict (element T κ)) (record {
+      default =
+          (default_met.bound 𝓡.env defaults κ (element T κ) (element_laws T κ laws) inT M 𝓤 𝓛 𝓜 𝓡).default;
+    })
+
+module _ {M : Type 1} {𝓤 : Ura M} {𝓛 : Logic 𝓤} {K : Type 0} {Γ : List (Item 𝓤)} {E : Env 𝓤 𝓛.H} {C : Calls 𝓤 𝓛.H} {Λ : Loops 𝓤 𝓛.H} {f : Callee} {xs :
+    List Operand} {d : Place} {rest : Code} {p : Post 𝓤 𝓛.H} where
+  -- up to where what the place held is stored: the place holds an empty slice then
+  pub calls_take : K → FmC 𝓤 𝓛.H 𝓛.laws C → (at_mem : Memory → SProp 𝓤) (run : Routine → Fun 𝓤) (T : RattleType) (κ : Lft) →
+      Triple 𝓤 (C f) (Take 𝓛 at_mem run T κ) → (q : Share) (x : MutBor (List T.Denot)) (b o : ℕ) → κ ⊑ T.lives
+      → let One = Slice T κ in let held = slice_val x.ref_ptr (length x.now) in
+      ((α γ : ℕ) → let y = asked 𝓛 at_mem run T κ q x b o α γ in Opds K 𝓛 (raw ((Take 𝓛 at_mem run T κ).pre y) ∷
+      ‵ (flent (α ∷ κ) (Body (mem (Taken T κ)) b o γ)) ∷ raw (Back 𝓛 α κ q) ∷ Γ) E xs ((Take 𝓛 at_mem run T κ).args y)) →
+      ((e : MutBor (List T.Denot)) → e.now ≡ []
+      → Seq K 𝓛 (‵ (fat full_share word b o (slice_val e.ref_ptr 0)) ∷ ‵ (One.own_val e (slice_val e.ref_ptr 0 ∷ [])) ∷ ‵ (One.own_val x (held ∷ [])) ∷
+      ‵ (flft κ q) ∷ Γ) (lands C Λ E d held rest p))
+      → Seq K 𝓛 (‵ (fat full_share word b o held) ∷ ‵ (One.own_val x (held ∷ [])) ∷ ‵ (flft κ q) ∷ Γ) (runs C Λ E (seq (call f xs d) rest) p)
+  calls_take t fm at_mem run T κ met q x b o inT os k =
+      let X = Taken T κ in let s = share_within q in
+      lends t tt X refl word refl κ q x b o (slice_val x.ref_ptr (length x.now)) (λ α γ. let κ' : Lft = α ∷ κ in let y = asked 𝓛 at_mem run T κ q x b o α γ in
+      -- [the place, lent; what its lender keeps; the token of κ'; the way back to that of κ]
+      nothing t $ move t (1 ∷ 0 ∷ []) $ join t $ move t (2 ∷ []) $ use1 𝓛 (‵ (flft κ' (Share.left s)) ⊛ ‵ (flft κ' (Share.right s))) (𝓛.lfts.lft_split κ' s) $
+      split t $
+      nothing t $ move t (2 ∷ 0 ∷ []) $ join t $ move t (1 ∷ 0 ∷ []) $ join t $ join t $
+      let within : κ' ⊑ X.lives = ⊑_meet κ' κ T.lives (meet_⊑_right (α ∷ []) κ) (⊑_trans κ' κ T.lives (meet_⊑_right (α ∷ []) κ) inT) in
+      nothing t $ use0 𝓛 (raw (fact 𝓤 (κ' ⊑ X.lives))) (fact_i 𝓤 _ (emp 𝓤) within) $ join t $ move t (1 ∷ 0 ∷ []) $ join t $
+      use1 𝓛 (raw ((Take 𝓛 at_mem run T κ).pre y)) (id⊢ 𝓤 _) $
+      calls_at t fm (Take 𝓛 at_mem run T κ) met y (os α γ) (λ v.
+      use1 𝓛 (later (some (λ (r : MutBor (List T.Denot)). ((‵ (flft κ' (Share.left s)) ⊛ ‵ (flft κ' (Share.right s)) ⊛ ‵ ftrue) ⊛ ‵ (X.own_val r (v ∷ []))) ⊛
+      some (λ (ws : Lasts (take.ended X (ghosts (element T κ)) (dict (element T κ))) y.0.0 y.0.3). ‵
+      (lasts (take.ended X (ghosts (element T κ)) (dict (element T κ))) y.0.0 y.0.3 ws) ⊛ raw (fact 𝓤 (r ≡ x)) ⊛
+      raw (fact 𝓤 (ws.0.now ≡ [])))))) (id⊢ 𝓤 _) $
+      await t tt $ pick t (λ r. split t $ split t $ split3 t $ use2 𝓛 (‵ (flft κ' s)) (𝓛.lfts.lft_join κ' s) $
+      -- [the token of κ'; nothing; what was handed back; what the call ensures; what the lender keeps; the way back to the token of κ]
+      move t (0 ∷ 5 ∷ []) $ lft_over t tt α κ q $ move t (4 ∷ []) $ pick t (λ ws. split t $ move t (1 ∷ []) $ split t $
+      heard t _ (λ same. heard t _ (λ empty. fsplit t $ fsplit t $
+      -- [the last value lent; its borrow; nothing; κ' is over; the token of κ; nothing; what was handed back; what the lender keeps]
+      let e = ws.0 in
+      move t (3 ∷ 7 ∷ 0 ∷ []) $ comes_back t tt X refl word refl κ' γ b o e (slice_val e.ref_ptr 0) (λ u holds. ap only holds.0.0 ∙
+      ap (λ (xs : List T.Denot). slice_val e.ref_ptr (length xs)) empty) $
+      -- [the place; what it owns; its borrow; nothing; the token of κ; nothing; what was handed back]
+      move t (6 ∷ []) $ rewrite t 0 (λ (r : MutBor (List T.Denot)). ‵ ((Slice T κ).own_val r (v ∷ []))) same refl $
+      peeks t (Slice T κ) _ (shows 𝓛 (Slice T κ)) x (v ∷ []) (λ held.
+      rewrite t 0 (λ (w : Val). ‵ ((Slice T κ).own_val x (w ∷ []))) (ap only held.0.0) refl $
+      move t (3 ∷ 4 ∷ 6 ∷ []) $ drop t $ drop t $ drop t $ move t (1 ∷ 2 ∷ 0 ∷ []) $
+      regoal t (λ (u : Val). lands C Λ E d u rest p) (ap only held.0.0) refl $ k e empty)))))))

@@ -1,0 +1,38 @@
+-- Each visible pixel has a place of its own, in a visible piece.
+use Rattle.std.proofs.Common.{ℕ, ◌≡◌, ◌+◌, ◌<◌, ◌≤◌, ◌∷◌, ◌++◌, inl, inr, sym, ◌∙◌, ap, arith}
+use Rattle.std.proofs.lemmas.Bool.{cases_lt}
+use Rattle.std.proofs.Math.Nat.{mul-le-mul_right}
+use Rattle.v_frame_layout.specs.Geometry.{Geometry, stride_of, mark_at, visible_piece, place_of}
+use Rattle.v_frame_plane.specs.Laws.{HasPlaces}
+use Rattle.v_frame_layout.proofs.Plans.{total, before_row, after_row, plan_at_row, total-before_row, row_start, place_of_row}
+use Rattle.v_frame_plane.proofs.tables.Marks.{mark_at-here, mark_at-append}
+use Rattle.v_frame_plane.proofs.tables.Places.{place_within}
+
+-- two rows that are apart have no entry in common
+rows_apart : (g : Geometry) (x y x' y' : ℕ) → x < g.width → y < y' → row_start g y + x ≡ row_start g y' + x' → ⊥
+unfolding row_start
+rows_apart g x y x' y' hx below e =
+    let above : y + 1 ≤ y' = omega arith in
+    omega (arith, mul-le-mul_right (stride_of g) above)
+
+same_place : (g : Geometry) (x y x' y' : ℕ) → x < g.width → x' < g.width → row_start g y + x ≡ row_start g y' + x' → (x ≡ x') × (y ≡ y')
+same_place g x y x' y' hx hx' e =
+    elim (cases_lt y y') [
+      | inl below ↦ absurd (rows_apart g x y x' y' hx below e)
+      | inr not_below ↦ elim (cases_lt y' y) [
+        | inl below ↦ absurd (rows_apart g x' y' x y hx' below (sym e))
+        | inr not_above ↦ let same : y ≡ y' = omega arith in (omega (arith, ap (row_start g) same), same)
+      ]
+    ]
+
+pub has_places : (g : Geometry) → HasPlaces g
+has_places g = record {
+  within = place_within g;
+  visible = λ x y hx hy.
+      let at : place_of g x y ≡ total (before_row g y) + x = omega (arith, place_of_row g y (omega arith), total-before_row g y) in
+      ap (λ plan. mark_at plan (place_of g x y)) (plan_at_row g y hy) ∙ ap (mark_at (before_row g y ++ visible_piece g.width ∷ after_row g y)) at ∙
+      mark_at-append (before_row g y) (visible_piece g.width ∷ after_row g y) x ∙ mark_at-here (visible_piece g.width) (after_row g y) x hx;
+  apart = λ x y x' y' hx hy hx' hy' e.
+      let high : 0 < g.height = omega arith in
+      same_place g x y x' y' hx hx' (omega (arith, place_of_row g y high, place_of_row g y' high));
+}

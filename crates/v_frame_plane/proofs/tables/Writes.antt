@@ -1,0 +1,70 @@
+-- An entry that is set inside the rectangle is a pixel of the table, and leaves the border.
+use Rattle.std.proofs.Common.{ℕ, ◌≡◌, ◌+◌, ◌<◌, ◌≤◌, ◌↔◌, List, ◌++◌, length, take, drop, Option, Some, None, IsNone, MutBor, true, false, inl, inr, slice_get}
+use Rattle.std.proofs.Common.{slice_set, refl, sym, ◌∙◌, ap, arith, length-take-le, length-drop, length-set}
+use Rattle.std.specs.Option.{option_copied_mut}
+use Rattle.std.proofs.lemmas.Option.{slice_get_cases, slice_get_past}
+use Rattle.v_frame_layout.specs.Geometry.{alloc_size_of, place_of}
+use Rattle.v_frame_plane.specs.Plane.{Raster, raster, table_of, border_of, with_entry, WritesPixel, WritesEachPixel}
+use Rattle.v_frame_layout.specs.Table.{with_pixel, with_item_by}
+use Rattle.v_frame_plane.proofs.tables.Lists.{set_in_part}
+use Rattle.v_frame_layout.proofs.Plans.{row_start, place_of_row, row_within}
+use Rattle.v_frame_plane.proofs.tables.Pictures.{shown_row, overwritten, shown_overwritten, border_overwritten}
+
+module _ {T : Type 0} (p : Raster T) (x y : ℕ) (pixel : T) (wide : x < p.geometry.width) (high : y < p.geometry.height) (whole : length p.buffer ≡
+    alloc_size_of p.geometry) where
+  row : List T
+  row = take p.geometry.width (drop (row_start p.geometry y) p.buffer)
+
+  row_length : length row ≡ p.geometry.width
+  unfolding row
+  row_length = length-take-le p.geometry.width (drop (row_start p.geometry y) p.buffer) (omega (
+    arith,
+    length-drop (row_start p.geometry y) p.buffer,
+    row_within p.geometry y high,
+  ))
+
+  new_length : length (slice_set row x pixel) ≡ p.geometry.width
+  new_length = length-set row x pixel ∙ row_length
+
+  -- setting the entry is writing the row with the pixel set
+  entry_is_in_row : slice_set p.buffer (place_of p.geometry x y) pixel ≡ overwritten p.buffer (row_start p.geometry y) (slice_set row x pixel)
+  unfolding row
+  entry_is_in_row =
+      let g = p.geometry in
+      let at : place_of g x y ≡ row_start g y + x = omega (arith, place_of_row g y (omega arith)) in
+      ap (λ k. slice_set p.buffer k pixel) at ∙ set_in_part p.buffer (row_start g y) g.width x pixel wide (omega (arith, row_within g y high)) ∙
+      ap (λ k. take (row_start g y) p.buffer ++ (slice_set row x pixel ++ drop k (drop (row_start g y) p.buffer))) (sym new_length)
+
+  shown_set : table_of (raster p.geometry (slice_set p.buffer (place_of p.geometry x y) pixel)) ≡ with_pixel (table_of p) x y pixel
+  unfolding row
+  shown_set =
+      ap (λ b. table_of (raster p.geometry b)) entry_is_in_row ∙ shown_overwritten p.geometry p.buffer (slice_set row x pixel) y high new_length (omega (
+        arith,
+        row_within p.geometry y high,
+      )) ∙ ap (with_item_by (λ r. slice_set r x pixel) (table_of p) y) (sym (shown_row p y high))
+
+  border_set : border_of (raster p.geometry (slice_set p.buffer (place_of p.geometry x y) pixel)) ≡ border_of p
+  border_set =
+      ap (λ b. border_of (raster p.geometry b)) entry_is_in_row ∙
+      border_overwritten p.geometry p.buffer (slice_set row x pixel) y high new_length (omega (arith, row_within p.geometry y high))
+
+  pub writes_pixel : WritesPixel p x y (with_entry p x y pixel) pixel
+  writes_pixel = record { geometry = refl; border = border_set; table = shown_set }
+
+pub writes_each_pixel : {T : Type 0} (p : Raster T) (x y : ℕ) → x < p.geometry.width → y < p.geometry.height → length p.buffer ≡ alloc_size_of p.geometry →
+    WritesEachPixel p x y
+writes_each_pixel p x y wide high whole = λ pixel. writes_pixel p x y pixel wide high whole
+
+-- what the code's write at a place leaves
+pub set_at : {T : Type 0} (p : Raster T) (x y place : ℕ) (entry : T) → place ≡ place_of p.geometry x y →
+    raster p.geometry (slice_set p.buffer place entry) ≡ with_entry p x y entry
+set_at p x y place entry at = ap (λ k. raster p.geometry (slice_set p.buffer k entry)) at
+
+-- a place has no entry exactly past the end
+pub none_past : {X : Type 0} (r : Option (MutBor X)) (xs : List X) (place : ℕ) → option_copied_mut r ≡ slice_get xs place → IsNone r ↔ (length xs ≤ place)
+none_past {X} None xs place e =
+    let past : (x : X) → slice_get xs place ≡ Some x → ⊥ = λ x here. let no : None ≡ Some x = e ∙ here in cc in
+    (λ _. elim (slice_get_cases xs place).1 [ inl here ↦ absurd (past here.0 here.2) | inr end ↦ end.0 ], λ _. refl)
+none_past {X} (Some r) xs place e =
+    let held : slice_get xs place ≡ None → ⊥ = λ past. let no : Some r.now ≡ None = e ∙ past in cc in
+    (λ h. let no : true ≡ false = h in cc, λ past. absurd (held (slice_get_past xs place past)))

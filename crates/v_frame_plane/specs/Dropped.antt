@@ -1,0 +1,33 @@
+-- What iterators that lend rows and pixels leave when they are dropped: what they show.
+use Rattle.std.specs.Prelude.{List}
+use Rattle.std.specs.Borrow.{Fml, RattleType}
+use base.Fml.{fall, fwand}
+use denote.Ref.{NamedLft}
+use mir.Val.{Val}
+use Rattle.v_frame_plane.specs.PixelsLeft.{pixels_left}
+use Rattle.v_frame_plane.specs.RowsLeft.{rows_left}
+use Rattle.v_frame_plane.specs.SecondPixels.{SecondPixels}
+use Rattle.v_frame_plane.specs.SecondRows.{SecondRows}
+use Rattle.v_frame_plane.specs.contracts.pixels_mut.PixelsMut.{the_row as pixels_row}
+use Rattle.v_frame_plane.specs.contracts.rows_mut.RowsMut.{the_row as rows_row}
+use Rattle.v_frame_plane.specs.declared.pixels_mut.PixelsMut.{PixelsMut}
+use Rattle.v_frame_plane.specs.declared.rows_mut.RowsMut.{RowsMut}
+
+module _ (T : RattleType) where
+  -- whoever owns an iterator, of whatever lifetime, may drop it: the rows that are left hold then,
+  -- when the borrow ends, what they show
+  abbrev pub DroppedRowsKeepTheirPixels : Fml
+  DroppedRowsKeepTheirPixels =
+      fall NamedLft (λ lifetime.
+      fall (RowsMut T.Denot) (λ walk.
+      fall (List Val) (λ values.
+      fwand ((rows_row lifetime T).own_val walk values) (SecondRows T walk (rows_left walk)))))
+
+  -- the same of pixels
+  abbrev pub DroppedPixelsKeepTheirValues : Fml
+  DroppedPixelsKeepTheirValues =
+      fall NamedLft (λ lifetime.
+      fall (PixelsMut T.Denot) (λ walk.
+      fall (List Val) (λ values.
+      fwand ((pixels_row lifetime T).own_val walk values)
+      (SecondPixels T walk (pixels_left walk)))))
