@@ -10,7 +10,8 @@ module _ {T : Type 0} (form : PixelForm T) where
   bytes-append first rest = flat_map-append (λ pixel. bytes_of form.size (form.value pixel)) first rest
 
   -- where a run was encoded, it stands behind what was encoded before
-  pub one_more_run : (all front part : List ℕ) (pending row first rest behind : List T) → all ≡ front ++ bytes_of_pixels form pending → row ++ behind ≡ pending → row ≡ first ++ rest → part ≡ bytes_of_pixels form first
+  pub one_more_run : (all front part : List ℕ) (pending row first rest behind : List T) → all ≡ front ++ bytes_of_pixels form pending →
+      row ++ behind ≡ pending → row ≡ first ++ rest → part ≡ bytes_of_pixels form first
       → all ≡ (front ++ part) ++ bytes_of_pixels form (rest ++ behind)
   one_more_run all front part pending row first rest behind is whole cut encoded =
       let pixels : pending ≡ first ++ (rest ++ behind) = sym whole ∙ ap (λ r. r ++ behind) cut ∙ append_assoc first rest behind in
@@ -26,5 +27,7 @@ module _ {T : Type 0} (form : PixelForm T) where
   pub bytes_of_planar_pixels : (tables : Tables T) → bytes_of_pixels form (planar_pixels tables) ≡ planar_bytes form tables
   bytes_of_planar_pixels tables =
       let luma = bytes_of_pixels form (row_major tables.y) in
-      let chroma = bytes-append (pixels_of_plane tables.u) (pixels_of_plane tables.v) ∙ ap (λ u. u ++ bytes_of_pixels form (pixels_of_plane tables.v)) (bytes_of_absent tables.u) ∙ ap (λ v. bytes_of_plane form tables.u ++ v) (bytes_of_absent tables.v) in
+      let chroma = bytes-append (pixels_of_plane tables.u) (pixels_of_plane tables.v) ∙
+      ap (λ u. u ++ bytes_of_pixels form (pixels_of_plane tables.v)) (bytes_of_absent tables.u) ∙
+      ap (λ v. bytes_of_plane form tables.u ++ v) (bytes_of_absent tables.v) in
       bytes-append (row_major tables.y) (pixels_of_plane tables.u ++ pixels_of_plane tables.v) ∙ ap (λ rest. luma ++ rest) chroma

@@ -8,11 +8,15 @@ use lib.Seq.{take-add, take-append-le}
 -- the pieces in front of a place
 pub taken_twice : (n m : ℕ) (bytes : List ℕ) → take n bytes ++ take m (drop n bytes) ≡ take (n + m) bytes
 taken_twice n m bytes =
-    ap (λ front. front ++ take m (drop n bytes)) (sym (take-take n (n + m) bytes (omega arith))) ∙ ap (λ rest. take n (take (n + m) bytes) ++ rest) (sym (drop-take n m bytes)) ∙ take-append-drop n (take (n + m) bytes)
+    ap (λ front. front ++ take m (drop n bytes)) (sym (take-take n (n + m) bytes (omega arith))) ∙
+    ap (λ rest. take n (take (n + m) bytes) ++ rest) (sym (drop-take n m bytes)) ∙ take-append-drop n (take (n + m) bytes)
 
 -- the front of a buffer of which a part was filled anew, and the first of that part
-pub taken_from_part : (at long n : ℕ) (old part : List ℕ) → at ≤ length old → n ≤ length part → take (at + n) (put_mid at long old part) ≡ take at old ++ take n part
+pub taken_from_part : (at long n : ℕ) (old part : List ℕ) → at ≤ length old → n ≤ length part →
+    take (at + n) (put_mid at long old part) ≡ take at old ++ take n part
 taken_from_part at long n old part within fits =
     let new = put_mid at long old part in
     let behind = post_of at long old in
-    take-add at n new ∙ ap (λ front. front ++ take n (drop at new)) (take-put_mid_below at long old part at (le_refl at) within) ∙ ap (λ rest. take at old ++ take n rest) (drop_at (take at old) (part ++ behind) at (length-take-le at old within)) ∙ ap (λ rest. take at old ++ rest) (take-append-le n part behind fits)
+    take-add at n new ∙ ap (λ front. front ++ take n (drop at new)) (take-put_mid_below at long old part at (le_refl at) within) ∙
+    ap (λ rest. take at old ++ take n rest) (drop_at (take at old) (part ++ behind) at (length-take-le at old within)) ∙
+    ap (λ rest. take at old ++ rest) (take-append-le n part behind fits)

@@ -1,12 +1,15 @@
--- A reader or a writer whose failures are counted, and what is left of a writer that gave up.
-use Rattle.std.specs.Prelude.{ℕ, ◌≡◌, ◌-◌, ◌^◌, ◌<◌, ◌⊎◌, List, length, take, Option}
+-- A reader or a writer whose failures are counted, with the kind of the last one, and what is left
+-- of a writer that gave up.
+use Rattle.std.specs.Prelude.{ℕ, ◌≡◌, ◌-◌, ◌^◌, ◌<◌, ◌⊎◌, List, length, take, Option, IsSome}
 use Rattle.std.specs.Io.KnownBytes.{Appends}
+use Rattle.std.specs.declared.io.ErrorKind.{ErrorKind}
 use Rattle.v_frame_planar.specs.declared.counted.WriteFault.{WriteFault}
 use Rattle.v_frame_planar.specs.declared.counted.WriteFault.TheVariants.{Failed, TookNothing}
 
 pub record Watched (D : Type 0) : Type 0 where
   pub inner : D
   pub failures : ℕ
+  pub last_failure : Option ErrorKind
 
 -- the count stays here
 abbrev pub u64_max : ℕ
@@ -30,3 +33,8 @@ module _ {W : Type 0} (contents : W → Option (List ℕ)) (old new : Watched W)
   StopsWriting TookNothing =
       AppendsBeginning (contents old.inner) (contents new.inner) bytes
       × (new.failures ≡ old.failures)
+
+-- where a write failed, the kind of its error is told, and else the last failure is as before
+abbrev pub TellsWriteCause : Option ErrorKind → Option ErrorKind → WriteFault → Type 0
+TellsWriteCause old new Failed = IsSome new
+TellsWriteCause old new TookNothing = new ≡ old

@@ -1,3 +1,5 @@
 pub mod Counted
 pub mod Pending
 pub mod Planar
+pub mod Video
+pub mod WorkedVideo

@@ -1,6 +1,7 @@
 -- The planar bytes of a frame, and what a call that reads or writes them leaves.
-use Rattle.std.specs.Prelude.{ℕ, ◌≡◌, ◌+◌, ◌*◌, ◌<◌, ◌++◌, Bool, true, false, List, [], length, Option, Some, None, option_map}
+use Rattle.std.specs.Prelude.{ℕ, ◌≡◌, ◌+◌, ◌*◌, ◌<◌, ◌++◌, Bool, true, false, List, [], length, Option, Some, None, IsSome, option_map}
 use Rattle.std.specs.Io.KnownBytes.{Consumes, IsAtEnd}
+use Rattle.std.specs.declared.io.ErrorKind.{ErrorKind}
 use Rattle.v_frame.specs.Prelude.{PixelForm, byte_list, Table, width_of, height_of, row_major, Tables, isize_max}
 use Rattle.v_frame_planar.specs.Counted.{Watched, HasFailed, StopsWriting}
 use Rattle.v_frame_planar.specs.declared.counted.WriteFault.{WriteFault}
@@ -87,3 +88,13 @@ module _ {W : Type 0} (contents : W → Option (List ℕ)) (old new : Watched W)
   MayStopWriting Read = ⊥
   MayStopWriting Write = StopsWriting contents old new bytes Failed
   MayStopWriting WriteZero = StopsWriting contents old new bytes TookNothing
+
+-- where a read or a write failed, the kind of its error is told, and else the last failure is as
+-- before
+abbrev pub TellsCause : Option ErrorKind → Option ErrorKind → PlanarError → Type 0
+TellsCause old new (Truncated expected found) = new ≡ old
+TellsCause old new TooLarge = new ≡ old
+TellsCause old new OutOfMemory = new ≡ old
+TellsCause old new Read = IsSome new
+TellsCause old new Write = IsSome new
+TellsCause old new WriteZero = new ≡ old

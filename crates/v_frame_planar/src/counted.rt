@@ -1,8 +1,9 @@
-//! Readers and writers whose failures are counted.
-ghost use Rattle.std.specs.Prelude.{◌≡◌, ◌+◌, if◌then◌else◌, min, IfErr, OnOk, OnErr};
-ghost use Rattle.std.specs.Io.KnownBytes.{Appends, ReadConsumes, WriteAppends};
+//! Readers and writers whose failures are counted, with the kind of the last one.
+ghost use Rattle.std.specs.Prelude.{◌≡◌, ◌+◌, min, None, Some, IfErr, MatchResult, OnOk, OnErr};
+ghost use Rattle.std.specs.Io.KnownBytes.{Appends, Keeps, ReadConsumes, WriteAppends};
 ghost use Rattle.std.specs.Io.{ReadsAtMost, WritesAtMost};
-ghost use Rattle.v_frame_planar.specs.Counted.{u64_max, StopsWriting};
+ghost use Rattle.std.specs.IoError.{error_kind};
+ghost use Rattle.v_frame_planar.specs.Counted.{u64_max, StopsWriting, TellsWriteCause};
 
 use std::io;
 use std::marker::Model;
@@ -16,11 +17,12 @@ pub enum WriteFault {
     TookNothing,
 }
 
-/// A reader or a writer, and how often it failed. Our own.
+/// A reader or a writer, how often it failed, and why the last time. Our own.
 #[derive(Drop)]
 pub struct Counted<D> {
     inner: D,
     failures: u64,
+    last_failure: Option<io::ErrorKind>,
 }
 
 impl<D> Model for Counted<D> {
@@ -28,15 +30,23 @@ impl<D> Model for Counted<D> {
 
     ghost Value = { Watched D };
 
-    ghost view = { λ a. record { inner = a.inner; failures = a.failures } };
+    ghost view = { λ a. record {
+      inner = a.inner;
+      failures = a.failures;
+      last_failure = a.last_failure;
+    } };
 }
 
 impl<D> Counted<D> {
     /// No failure of `inner` has been counted yet.
     pub fn new(inner: D) -> Self
-        ensures { result ≡ record { inner = inner; failures = 0 } }
+        ensures { result ≡ record { inner = inner; failures = 0; last_failure = None } }
     {
-        Counted { inner, failures: 0 }
+        Counted {
+            inner,
+            failures: 0,
+            last_failure: None,
+        }
     }
 
     /// The reader or the writer.
@@ -53,21 +63,32 @@ impl<D> Counted<D> {
         self.inner
     }
 
-    /// How often a read or a write failed. The count stays at `u64::MAX`.
+    /// How often a read, a write or a flush failed. The count stays at `u64::MAX`.
     pub fn failures(&self) -> u64
         ensures { result ≡ self.now.failures }
     {
         self.failures
     }
 
-    /// Counts a failure, where it is one.
-    fn count(&mut self, is_failure: bool)
-        ensures inner { self.new.inner ≡ self.old.inner }
-        ensures failures { self.new.failures ≡ (if is_failure then min (self.old.failures + 1)
-            u64_max else self.old.failures) }
+    /// The kind of the last error that the reader or the writer answered. `None` where it has answered none yet.
+    pub fn last_failure(&self) -> Option<io::ErrorKind>
+        ensures { result ≡ self.now.last_failure }
     {
-        if is_failure {
+        self.last_failure
+    }
+
+    /// Counts a failure and keeps its kind, where it is one.
+    fn note<T>(&mut self, answer: &io::Result<T>)
+        ensures inner { self.new.inner ≡ self.old.inner }
+        ensures failures { MatchResult answer.now (λ _. self.new.failures ≡ self.old.failures)
+            (λ _. self.new.failures ≡ min (self.old.failures + 1) u64_max) }
+        ensures told { MatchResult answer.now
+            (λ _. self.new.last_failure ≡ self.old.last_failure)
+            (λ error. self.new.last_failure ≡ Some (error_kind error)) }
+    {
+        if let Err(error) = answer {
             self.failures = self.failures.saturating_add(1);
+            self.last_failure = Some(error.kind());
         }
     }
 }
@@ -80,9 +101,11 @@ impl<D: io::Read> Counted<D> {
             result buf.new }
         ensures ok { OnOk result (self.new.failures ≡ self.old.failures) }
         ensures err { OnErr result (self.new.failures ≡ min (self.old.failures + 1) u64_max) }
+        ensures told { MatchResult result (λ _. self.new.last_failure ≡ self.old.last_failure)
+            (λ error. self.new.last_failure ≡ Some (error_kind error)) }
     {
         let result = self.inner.read(buf);
-        self.count(result.is_err());
+        self.note(&result);
         result
     }
 }
@@ -95,9 +118,24 @@ impl<D: io::Write> Counted<D> {
             result buf.now }
         ensures ok { OnOk result (self.new.failures ≡ self.old.failures) }
         ensures err { OnErr result (self.new.failures ≡ min (self.old.failures + 1) u64_max) }
+        ensures told { MatchResult result (λ _. self.new.last_failure ≡ self.old.last_failure)
+            (λ error. self.new.last_failure ≡ Some (error_kind error)) }
     {
         let result = self.inner.write(buf);
-        self.count(result.is_err());
+        self.note(&result);
+        result
+    }
+
+    /// One call of `flush` of the writer: what it has taken and still keeps goes on its way. An error of it is counted.
+    pub fn flush(&mut self) -> io::Result<()>
+        ensures bytes { Keeps (D.contents self.old.inner) (D.contents self.new.inner) }
+        ensures ok { OnOk result (self.new.failures ≡ self.old.failures) }
+        ensures err { OnErr result (self.new.failures ≡ min (self.old.failures + 1) u64_max) }
+        ensures told { MatchResult result (λ _. self.new.last_failure ≡ self.old.last_failure)
+            (λ error. self.new.last_failure ≡ Some (error_kind error)) }
+    {
+        let result = self.inner.flush();
+        self.note(&result);
         result
     }
 
@@ -107,12 +145,14 @@ impl<D: io::Write> Counted<D> {
     ///
     /// [`WriteFault::Failed`] where a write failed, an interrupted one too, which is not tried again, and
     /// [`WriteFault::TookNothing`] where a write took none of the bytes that it was offered. Then a beginning of the bytes
-    /// was written.
+    /// was written. Why a write failed, [`last_failure`](Self::last_failure) tells.
     pub fn write_all(&mut self, bytes: &[u8]) -> Result<(), WriteFault>
         ensures ok { OnOk result (Appends (D.contents self.old.inner) (D.contents self.new.inner)
             bytes.now) }
         ensures uncounted { OnOk result (self.new.failures ≡ self.old.failures) }
         ensures fault { IfErr result (StopsWriting D.contents self.old self.new bytes.now) }
+        ensures cause { MatchResult result (λ _. self.new.last_failure ≡ self.old.last_failure)
+            (TellsWriteCause self.old.last_failure self.new.last_failure) }
     {
         let mut written = 0;
         while written < bytes.len() {

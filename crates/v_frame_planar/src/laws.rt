@@ -8,7 +8,7 @@ use v_frame::pixel::Pixel;
 use v_frame::plane::Plane;
 
 /// Frames whose planes have the same sizes have as many planar bytes. So what was written of the one, the other reads whole.
-pub fn alike_sizes_take_as_many_bytes<T: Pixel>(first: &Frame<T>, second: &Frame<T>)
+pub fn same_sizes_same_byte_count<T: Pixel>(first: &Frame<T>, second: &Frame<T>)
     ensures { sizes_of (tables_of first.now) ≡ sizes_of (tables_of second.now)
         → length (planar_bytes T.form (tables_of first.now))
         ≡ length (planar_bytes T.form (tables_of second.now)) }

@@ -1,8 +1,8 @@
 //! Frames from their planar bytes.
-ghost use Rattle.std.specs.Prelude.{◌≡◌, ◌-◌, ◌++◌, ◌<◌, ◌≤◌, false, length, take, option_map, Err, IfOk, IfErr, OnOk, OnErr, SomeIff};
+ghost use Rattle.std.specs.Prelude.{◌≡◌, ◌-◌, ◌++◌, ◌<◌, ◌≤◌, false, length, take, option_map, Err, IfOk, IfErr, MatchResult, OnOk, OnErr, SomeIff};
 ghost use Rattle.std.specs.Io.KnownBytes.{Consumes, IsAtEnd};
 ghost use Rattle.v_frame.specs.Prelude.{byte_list, isize_max, unshown, KeepsBorders, table_of, tables_of};
-ghost use Rattle.v_frame_planar.specs.Planar.{bytes_of_plane, planar_bytes, size_of, sizes_of, MayStopReading, Reads};
+ghost use Rattle.v_frame_planar.specs.Planar.{bytes_of_plane, planar_bytes, size_of, sizes_of, MayStopReading, Reads, TellsCause};
 
 use crate::counted::Counted;
 use crate::error::PlanarError;
@@ -22,7 +22,7 @@ use v_frame::plane::Plane;
 ///
 /// [`PlanarError::TooLarge`] where the frame has more than `isize::MAX` bytes, else [`PlanarError::OutOfMemory`] where the
 /// request for memory was refused: for these nothing was read. [`PlanarError::Read`] where a read failed, an interrupted one
-/// too, which is not tried again. [`PlanarError::Truncated`] where the reader came to its end inside the frame. After each of
+/// too, which is not tried again; [`Counted::last_failure`] tells why. [`PlanarError::Truncated`] where the reader came to its end inside the frame. After each of
 /// them the frame is as it was.
 pub fn read_frame<T: Pixel, R: io::Read>(
     alloc: Global,
@@ -41,6 +41,9 @@ pub fn read_frame<T: Pixel, R: io::Read>(
         → result ≡ Err PlanarError.TooLarge }
     ensures error { IfErr result (MayStopReading R.remaining reader.old reader.new
         (length (planar_bytes T.form (tables_of frame.old)))) }
+    ensures cause { MatchResult result
+        (λ _. reader.new.last_failure ≡ reader.old.last_failure)
+        (TellsCause reader.old.last_failure reader.new.last_failure) }
     ensures unread { OnErr result (frame.new ≡ frame.old) }
 {
     let expected = planar_length(frame).ok_or(PlanarError::TooLarge)?;
@@ -81,6 +84,9 @@ fn read_until_full<R: io::Read>(
         → IsAtEnd (R.remaining reader.new.inner)) }
     ensures uncounted { OnOk result (reader.new.failures ≡ reader.old.failures) }
     ensures failed { IfErr result (λ error. error ≡ PlanarError.Read) }
+    ensures cause { MatchResult result
+        (λ _. reader.new.last_failure ≡ reader.old.last_failure)
+        (TellsCause reader.old.last_failure reader.new.last_failure) }
     ensures error { IfErr result (MayStopReading R.remaining reader.old reader.new
         (length buf.old)) }
     ensures size { length buf.new ≡ length buf.old }

@@ -1,8 +1,8 @@
 //! Frames as their planar bytes.
-ghost use Rattle.std.specs.Prelude.{◌≡◌, IfErr, OnOk};
+ghost use Rattle.std.specs.Prelude.{◌≡◌, IfErr, MatchResult, OnOk};
 ghost use Rattle.std.specs.Io.KnownBytes.{Appends};
 ghost use Rattle.v_frame.specs.Prelude.{tables_of};
-ghost use Rattle.v_frame_planar.specs.Planar.{planar_bytes, MayStopWriting};
+ghost use Rattle.v_frame_planar.specs.Planar.{planar_bytes, MayStopWriting, TellsCause};
 
 use crate::counted::Counted;
 use crate::error::PlanarError;
@@ -12,14 +12,14 @@ use v_frame::frame::Frame;
 use v_frame::pixel::Pixel;
 
 /// How many bytes are encoded and offered at once.
-const BLOCK: usize = 8192;
+const BLOCK: usize = 65536;
 
 /// Writes the planar bytes of a frame. It takes no memory. Our own.
 ///
 /// # Errors
 ///
-/// [`PlanarError::Write`] where a write failed, an interrupted one too, which is not tried again.
-/// [`PlanarError::WriteZero`] where a write took none of the bytes that it was offered. After these a beginning of the bytes
+/// [`PlanarError::Write`] where a write failed, an interrupted one too, which is not tried again;
+/// [`Counted::last_failure`] tells why. [`PlanarError::WriteZero`] where a write took none of the bytes that it was offered. After these a beginning of the bytes
 /// was written.
 pub fn write_frame<T: Pixel, W: io::Write>(
     writer: &mut Counted<W>,
@@ -30,6 +30,9 @@ pub fn write_frame<T: Pixel, W: io::Write>(
     ensures uncounted { OnOk result (writer.new.failures ≡ writer.old.failures) }
     ensures error { IfErr result (MayStopWriting W.contents writer.old writer.new
         (planar_bytes T.form (tables_of frame.now))) }
+    ensures cause { MatchResult result
+        (λ _. writer.new.last_failure ≡ writer.old.last_failure)
+        (TellsCause writer.old.last_failure writer.new.last_failure) }
 {
     let mut pending = Pending::new(frame);
     let mut block = [0; BLOCK];

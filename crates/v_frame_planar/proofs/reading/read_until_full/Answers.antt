@@ -17,4 +17,5 @@ loop-found-preserved g c =
       size = search rules;
       got = subst (Consumes _ _) (sym all) (Consumes-trans _ _ _ _ _ before.got given.bytes.0);
       failures = given.ok ∙ before.failures;
+      last_failure = given.told ∙ before.last_failure;
     }

@@ -9,6 +9,7 @@ invariant-loop-found g l = record {
   size : length l.buf ≡ length l.fn.buf;
   got : Consumes (g.R.Read.remaining l.fn.reader.inner) (g.R.Read.remaining l.reader.inner) (take l.found l.buf);
   failures : l.reader.failures ≡ l.fn.reader.failures;
+  last_failure : l.reader.last_failure ≡ l.fn.reader.last_failure;
 }
 
 abbrev pub decreases-loop-found : goal.decreases-loop-found

@@ -11,7 +11,7 @@ pub loop-pending-init : goal.loop-pending-init
 loop-pending-init g c =
     let form = g.T.Pixel.form in
     let all = sym (bytes_of_planar_pixels form (tables_of c.args.frame.now)) ∙ ap (bytes_of_pixels form) (sym c.new-pending.ensures) in
-    record { sent = ([], Appends-nil _, all); failures = search rules }
+    record { sent = ([], Appends-nil _, all); failures = search rules; last_failure = search rules }
 
 pub loop-pending-preserved : goal.loop-pending-preserved
 loop-pending-preserved g c =
@@ -24,6 +24,7 @@ loop-pending-preserved g c =
     record {
       sent = (front ++ part, Appends-trans _ _ _ front part before.sent.1 (search rules), all);
       failures = done.uncounted ∙ before.failures;
+      last_failure = done.cause ∙ before.last_failure;
     }
 
 pub returns-in_err-write_all-clause-error : goal.returns-in_err-write_all-clause-error
@@ -34,5 +35,6 @@ returns-in_err-write_all-clause-error g c =
     let rest = bytes_of_pixels g.T.Pixel.form (pixels_pending c.fill-filled.new.self) in
     let fault = c.in_err-write_all.field-0.0 in
     let all = before.sent.2 ∙ ap (λ b. front ++ b) c.fill-filled.ensures.bytes in
-    let stopped = stops_later _ front part rest all g.W.Write.contents c.args.writer.now c.loop-pending.writer c.write_all.new.self before.sent.1 before.failures fault (search rules) in
+    let stopped = stops_later _ front part rest all g.W.Write.contents c.args.writer.now c.loop-pending.writer c.write_all.new.self before.sent.1
+    before.failures fault (search rules) in
     search rules

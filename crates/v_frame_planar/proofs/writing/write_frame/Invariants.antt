@@ -11,6 +11,7 @@ invariant-loop-pending g l = record {
   sent : (front : List ℕ) × Appends (g.W.Write.contents l.fn.writer.inner) (g.W.Write.contents l.writer.inner) front
       × (planar_bytes g.T.Pixel.form (tables_of l.fn.frame) ≡ front ++ bytes_of_pixels g.T.Pixel.form (pixels_pending l.pending));
   failures : l.writer.failures ≡ l.fn.writer.failures;
+  last_failure : l.writer.last_failure ≡ l.fn.writer.last_failure;
 }
 
 abbrev pub decreases-loop-pending : goal.decreases-loop-pending

@@ -15,9 +15,11 @@ loop-written-preserved g c =
     let before = g.D.Write.contents c.args.self.now.inner in
     let now = g.D.Write.contents c.write.new.self.inner in
     let did = c.in-Ok.ensures in
-    let sent = Appends-trans before (g.D.Write.contents c.loop-written.self.inner) now (take at text) (take count rest) c.loop-written.invariant.sent did.bytes in
+    let sent = Appends-trans before (g.D.Write.contents c.loop-written.self.inner) now (take at text) (take count rest) c.loop-written.invariant.sent did.bytes
+    in
     record {
       within = omega (arith, did.bound, length-take (length text - at) (drop at text), length-drop at text);
       sent = subst (λ (bytes : List ℕ). Appends before now bytes) (ap (λ b. take at text ++ take count b) (take_rest text at) ∙ taken_twice at count text) sent;
       failures = did.ok ∙ c.loop-written.invariant.failures;
+      last_failure = did.told ∙ c.loop-written.invariant.last_failure;
     }

@@ -8,6 +8,7 @@ invariant-loop-written g l = record {
   within : l.written ≤ length l.bytes;
   sent : Appends (g.D.Write.contents l.fn.self.inner) (g.D.Write.contents l.self.inner) (take l.written l.bytes);
   failures : l.self.failures ≡ l.fn.self.failures;
+  last_failure : l.self.last_failure ≡ l.fn.self.last_failure;
 }
 
 abbrev pub decreases-loop-written : goal.decreases-loop-written

@@ -19,7 +19,8 @@ loop-block-preserved g c =
     let long = c.BYTES-in-loop-block-2.result * length first in
     let size : length part ≡ long = search rules in
     let cut : begun.row.now ≡ first ++ rest = search rules in
-    let run = one_more_run form (bytes_of_pixels form (pixels_pending c.args.self.now)) (take filled block) part (pixels_pending c.loop-block.self) begun.row.now first rest (pixels_behind begun) before.bytes c.begin_row.ensures.pixels cut c.encode_row.ensures in
+    let run = one_more_run form (bytes_of_pixels form (pixels_pending c.args.self.now)) (take filled block) part (pixels_pending c.loop-block.self)
+    begun.row.now first rest (pixels_behind begun) before.bytes c.begin_row.ensures.pixels cut c.encode_row.ensures in
     let joined = taken_from_part filled (filled + long - filled) long block part before.within (omega (arith, size)) in
     let whole : take long part ≡ part = take_all long part (omega (arith, size)) in
     record {
