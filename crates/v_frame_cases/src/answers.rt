@@ -21,25 +21,23 @@ fn print_answer<T: Pixel, W: Write>(out: &mut W, answer: &Answer<T>) -> io::Resu
         Answer::NoPlane => write!(out, "NoPlane"),
         Answer::OutsideRectangle => write!(out, "OutsideRectangle"),
         Answer::Number(number) => write!(out, "Number {number}"),
-        Answer::RowShown(row) => {
-            write!(out, "RowShown")?;
-            print_row(out, row)
-        }
+        Answer::RowShown(row) => print_row_shown(out, row),
         Answer::PixelShown(pixel) => write!(out, "PixelShown {pixel}"),
         Answer::Copied(copied) => print_copied(out, copied),
-        Answer::RowsWalked { total, drawn } => {
-            write!(out, "RowsWalked {total} {}", drawn.len())?;
-            print_rows(out, drawn.as_slice())
-        }
+        Answer::RowsWalked { total, drawn } => print_rows(out, *total, drawn.as_slice()),
         Answer::PixelsWalked { total, drawn } => {
-            write!(out, "PixelsWalked {total} {}", drawn.len())?;
-            print_drawn(out, drawn.as_slice())
+            print_items(out, "PixelsWalked", *total, drawn.as_slice())
         }
         Answer::BytesWalked { total, drawn } => {
-            write!(out, "BytesWalked {total} {}", drawn.len())?;
-            print_drawn(out, drawn.as_slice())
+            print_items(out, "BytesWalked", *total, drawn.as_slice())
         }
     }
+}
+
+/// Prints the answer of a call that read or wrote a row.
+fn print_row_shown<T: Pixel, W: Write>(out: &mut W, row: &Option<Sequence<T>>) -> io::Result<()> {
+    write!(out, "RowShown")?;
+    print_row(out, row)
 }
 
 /// Prints what a copy answered.
@@ -63,8 +61,13 @@ fn print_row<T: Pixel, W: Write>(out: &mut W, row: &Option<Sequence<T>>) -> io::
     }
 }
 
-/// Prints the rows that were drawn, and how many were left after each.
-fn print_rows<T: Pixel, W: Write>(out: &mut W, drawn: &[Drawn<Sequence<T>>]) -> io::Result<()> {
+/// Prints the answer of an iteration over rows: the rows that it gave, and how many were left after each.
+fn print_rows<T: Pixel, W: Write>(
+    out: &mut W,
+    total: usize,
+    drawn: &[Drawn<Sequence<T>>],
+) -> io::Result<()> {
+    print_total(out, "RowsWalked", total, drawn.len())?;
     for Drawn { item, left } in drawn {
         print_row(out, item)?;
         write!(out, " {left}")?;
@@ -72,13 +75,29 @@ fn print_rows<T: Pixel, W: Write>(out: &mut W, drawn: &[Drawn<Sequence<T>>]) -> 
     Ok(())
 }
 
-/// Prints the pixels or bytes that were drawn, and how many were left after each.
-fn print_drawn<T: Pixel, W: Write>(out: &mut W, drawn: &[Drawn<T>]) -> io::Result<()> {
-    for Drawn { item, left } in drawn {
-        match item {
-            Some(item) => write!(out, " {item} {left}")?,
-            None => write!(out, " - {left}")?,
-        }
+/// Prints the answer of an iteration over pixels or bytes: what it gave, and how many were left after each.
+fn print_items<T: Pixel, W: Write>(
+    out: &mut W,
+    name: &str,
+    total: usize,
+    drawn: &[Drawn<T>],
+) -> io::Result<()> {
+    print_total(out, name, total, drawn.len())?;
+    for drawn in drawn {
+        print_item(out, drawn)?;
     }
     Ok(())
+}
+
+/// Prints the name of an answer, how many items the iterator had, and how many calls there were.
+fn print_total<W: Write>(out: &mut W, name: &str, total: usize, calls: usize) -> io::Result<()> {
+    write!(out, "{name} {total} {calls}")
+}
+
+/// Prints an item, or that there is none, and how many are left.
+fn print_item<T: Pixel, W: Write>(out: &mut W, Drawn { item, left }: &Drawn<T>) -> io::Result<()> {
+    match item {
+        Some(item) => write!(out, " {item} {left}"),
+        None => write!(out, " - {left}"),
+    }
 }

@@ -23,12 +23,20 @@ pub fn read_calls<T: Pixel>(
 ) -> Result<Vec<VisibleCall<T>>, CaseFault> {
     let mut calls = Vec::new(alloc);
     for _ in 0..read_count(lines, LineFault::NotAnEdit)? {
-        let mut tokens = lines.next_line()?;
-        let call = read_call(alloc, &mut tokens)?;
-        tokens.end()?;
-        calls.push(call)?;
+        calls.push(read_call_line(alloc, lines)?)?;
     }
     Ok(calls)
+}
+
+/// Reads the line of a call.
+fn read_call_line<T: Pixel>(
+    alloc: Global,
+    lines: &mut Lines<'_>,
+) -> Result<VisibleCall<T>, CaseFault> {
+    let mut tokens = lines.next_line()?;
+    let call = read_call(alloc, &mut tokens)?;
+    tokens.end()?;
+    Ok(call)
 }
 
 /// Reads a call.
@@ -66,7 +74,7 @@ fn read_call<T: Pixel>(
     })
 }
 
-/// Reads a call that writes a row, a pixel or what it draws, behind its plane.
+/// Reads a call that writes a row, a pixel or the items of an iterator, behind its plane.
 fn read_write<T: Pixel>(
     alloc: Global,
     name: &str,
@@ -122,30 +130,43 @@ fn read_copy<T: Pixel>(
     })
 }
 
-/// Reads a list of draws of rows.
+/// Reads the calls on an iterator of lent rows.
 fn read_row_draws<T: Pixel>(
     alloc: Global,
     tokens: &mut Tokens<'_>,
 ) -> Result<Sequence<RowDraw<T>>, CaseFault> {
     let mut draws = Vec::new(alloc);
     for _ in 0..tokens.number()? {
-        let side = tokens.side()?;
-        let writes = tokens.options(alloc)?;
-        draws.push(RowDraw { side, writes })?;
+        draws.push(read_row_draw(alloc, tokens)?)?;
     }
     Ok(draws.into())
 }
 
-/// Reads a list of draws of pixels.
+/// Reads a call on an iterator of lent rows.
+fn read_row_draw<T: Pixel>(
+    alloc: Global,
+    tokens: &mut Tokens<'_>,
+) -> Result<RowDraw<T>, CaseFault> {
+    let side = tokens.side()?;
+    let writes = tokens.options(alloc)?;
+    Ok(RowDraw { side, writes })
+}
+
+/// Reads the calls on an iterator of lent pixels.
 fn read_pixel_draws<T: Pixel>(
     alloc: Global,
     tokens: &mut Tokens<'_>,
 ) -> Result<Sequence<PixelDraw<T>>, CaseFault> {
     let mut draws = Vec::new(alloc);
     for _ in 0..tokens.number()? {
-        let side = tokens.side()?;
-        let value = tokens.option()?;
-        draws.push(PixelDraw { side, value })?;
+        draws.push(read_pixel_draw(tokens)?)?;
     }
     Ok(draws.into())
+}
+
+/// Reads a call on an iterator of lent pixels.
+fn read_pixel_draw<T: Pixel>(tokens: &mut Tokens<'_>) -> Result<PixelDraw<T>, CaseFault> {
+    let side = tokens.side()?;
+    let value = tokens.option()?;
+    Ok(PixelDraw { side, value })
 }

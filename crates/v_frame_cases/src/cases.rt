@@ -8,7 +8,7 @@ use crate::lines::Lines;
 use crate::print::{print_build, print_frame};
 use crate::spec::{PixelType, Spec};
 use std::alloc::Global;
-use std::io::Write;
+use std::io::{self, Write};
 use v_frame::frame::Frame;
 use v_frame::pixel::Pixel;
 use v_frame::replay::{VisibleCall, replay};
@@ -28,21 +28,41 @@ pub fn answer_cases<W: Write>(
     Ok(())
 }
 
+/// What a case has.
+enum Kind {
+    /// One frame and calls.
+    Replay,
+    /// Two frames, and calls that are made on each.
+    Pair,
+    /// Builds alone.
+    Builds,
+}
+
 /// Answers the case that begins in the next line.
 fn answer_case<W: Write>(
     alloc: Global,
     lines: &mut Lines<'_>,
     out: &mut W,
 ) -> Result<(), CaseFault> {
+    let (id, kind) = read_start(lines)?;
+    match kind {
+        Kind::Replay => answer_replay(alloc, lines, id, out),
+        Kind::Pair => answer_pair(alloc, lines, id, out),
+        Kind::Builds => answer_builds(alloc, lines, id, out),
+    }
+}
+
+/// Reads the line that begins a case.
+fn read_start<'a>(lines: &mut Lines<'a>) -> Result<(&'a str, Kind), CaseFault> {
     let mut tokens = lines.next_line()?;
     tokens.keyword("case", LineFault::NotACase)?;
     let id = tokens.word()?;
     let kind = tokens.word()?;
     tokens.end()?;
     match kind {
-        "replay" => answer_replay(alloc, lines, id, out),
-        "pair" => answer_pair(alloc, lines, id, out),
-        "build" => answer_builds(alloc, lines, id, out),
+        "replay" => Ok((id, Kind::Replay)),
+        "pair" => Ok((id, Kind::Pair)),
+        "build" => Ok((id, Kind::Builds)),
         _ => Err(tokens.fault(LineFault::UnknownKind)),
     }
 }
@@ -52,6 +72,16 @@ fn read_end(lines: &mut Lines<'_>) -> Result<(), CaseFault> {
     let mut tokens = lines.next_line()?;
     tokens.keyword("end", LineFault::NotTheEnd)?;
     tokens.end()
+}
+
+/// Prints the line that begins the answer of a case.
+fn print_start<W: Write>(out: &mut W, id: &str) -> io::Result<()> {
+    writeln!(out, "case {id}")
+}
+
+/// Prints the line that ends it.
+fn print_end<W: Write>(out: &mut W) -> io::Result<()> {
+    writeln!(out, "end")
 }
 
 /// A case of one frame.
@@ -77,11 +107,31 @@ fn answer_frame<'a, T: Pixel, W: Write>(
     out: &mut W,
 ) -> Result<(), CaseFault> {
     let mut frame = first.frame::<T>(alloc, lines)?;
+    let calls = read_calls_to_end(alloc, lines)?;
+    print_replay(alloc, id, &mut frame, calls.as_slice(), out)
+}
+
+/// Reads the calls of a case, and its end.
+fn read_calls_to_end<T: Pixel>(
+    alloc: Global,
+    lines: &mut Lines<'_>,
+) -> Result<Vec<VisibleCall<T>>, CaseFault> {
     let calls = read_calls(alloc, lines)?;
     read_end(lines)?;
-    writeln!(out, "case {id}")?;
-    answer_calls(alloc, &mut frame, calls.as_slice(), out)?;
-    writeln!(out, "end")?;
+    Ok(calls)
+}
+
+/// Prints the answer of a case of one frame.
+fn print_replay<T: Pixel, W: Write>(
+    alloc: Global,
+    id: &str,
+    frame: &mut Frame<T>,
+    calls: &[VisibleCall<T>],
+    out: &mut W,
+) -> Result<(), CaseFault> {
+    print_start(out, id)?;
+    answer_calls(alloc, frame, calls, out)?;
+    print_end(out)?;
     Ok(())
 }
 
@@ -108,22 +158,50 @@ fn answer_frames<'a, T: Pixel, W: Write>(
     out: &mut W,
 ) -> Result<(), CaseFault> {
     let mut one = first.frame::<T>(alloc, lines)?;
+    let mut other = read_second(alloc, lines, first.spec.pixel_type)?;
+    let calls = read_calls_to_end(alloc, lines)?;
+    print_pair(alloc, id, &mut one, &mut other, calls.as_slice(), out)
+}
+
+/// Reads the second frame of a pair, whose pixels have to be of this type.
+fn read_second<T: Pixel>(
+    alloc: Global,
+    lines: &mut Lines<'_>,
+    pixel_type: PixelType,
+) -> Result<Frame<T>, CaseFault> {
     let second = FrameLine::read(lines, LineFault::NotAnEdit)?;
-    if second.spec.pixel_type != first.spec.pixel_type {
+    if second.spec.pixel_type != pixel_type {
         return Err(second.fault(LineFault::OtherPixelType));
     }
-    let mut other = second.frame::<T>(alloc, lines)?;
-    let calls = read_calls(alloc, lines)?;
-    read_end(lines)?;
-    let equal = one == other;
-    writeln!(out, "case {id}")?;
-    writeln!(out, "equal {equal}")?;
-    answer_calls(alloc, &mut one, calls.as_slice(), out)?;
-    answer_calls(alloc, &mut other, calls.as_slice(), out)?;
-    let equal = one == other;
-    writeln!(out, "equal {equal}")?;
-    writeln!(out, "end")?;
+    second.frame(alloc, lines)
+}
+
+/// Prints the answer of a case of two frames.
+fn print_pair<T: Pixel, W: Write>(
+    alloc: Global,
+    id: &str,
+    one: &mut Frame<T>,
+    other: &mut Frame<T>,
+    calls: &[VisibleCall<T>],
+    out: &mut W,
+) -> Result<(), CaseFault> {
+    print_start(out, id)?;
+    print_equality(out, one, other)?;
+    answer_calls(alloc, one, calls, out)?;
+    answer_calls(alloc, other, calls, out)?;
+    print_equality(out, one, other)?;
+    print_end(out)?;
     Ok(())
+}
+
+/// Prints whether two frames are equal.
+fn print_equality<T: Pixel, W: Write>(
+    out: &mut W,
+    one: &Frame<T>,
+    other: &Frame<T>,
+) -> io::Result<()> {
+    let equal = one == other;
+    writeln!(out, "equal {equal}")
 }
 
 /// Does all calls of a case on a frame, and prints their answers and what they leave.
@@ -145,20 +223,36 @@ fn answer_builds<W: Write>(
     id: &str,
     out: &mut W,
 ) -> Result<(), CaseFault> {
+    let specs = read_specs(alloc, lines)?;
+    read_end(lines)?;
+    print_start(out, id)?;
+    for spec in specs.iter() {
+        answer_build(alloc, spec, out)?;
+    }
+    print_end(out)?;
+    Ok(())
+}
+
+/// Reads what should be built, a line each.
+fn read_specs(alloc: Global, lines: &mut Lines<'_>) -> Result<Vec<Spec>, CaseFault> {
     let mut specs = Vec::new(alloc);
     for _ in 0..read_count(lines, LineFault::NotCalls)? {
-        let mut tokens = lines.next_line()?;
-        tokens.keyword("build", LineFault::NotABuild)?;
-        specs.push(Spec::read(&mut tokens)?)?;
+        specs.push(read_build(lines)?)?;
     }
-    read_end(lines)?;
-    writeln!(out, "case {id}")?;
-    for spec in specs.iter() {
-        match spec.pixel_type {
-            PixelType::U8 => print_build(alloc, out, spec.build::<u8>(alloc))?,
-            PixelType::U16 => print_build(alloc, out, spec.build::<u16>(alloc))?,
-        }
+    Ok(specs)
+}
+
+/// Reads what should be built.
+fn read_build(lines: &mut Lines<'_>) -> Result<Spec, CaseFault> {
+    let mut tokens = lines.next_line()?;
+    tokens.keyword("build", LineFault::NotABuild)?;
+    Spec::read(&mut tokens)
+}
+
+/// Builds a frame, and prints what that gives.
+fn answer_build<W: Write>(alloc: Global, spec: &Spec, out: &mut W) -> Result<(), CaseFault> {
+    match spec.pixel_type {
+        PixelType::U8 => print_build(alloc, out, spec.build::<u8>(alloc)),
+        PixelType::U16 => print_build(alloc, out, spec.build::<u16>(alloc)),
     }
-    writeln!(out, "end")?;
-    Ok(())
 }

@@ -1,4 +1,5 @@
 //! What is written into the buffer of a plane before the calls.
+ghost use Rattle.std.specs.Prelude.{◌≡◌, IfOk, length};
 
 use crate::fault::{CaseFault, LineFault};
 use crate::lcg::Lcg;
@@ -18,43 +19,49 @@ pub fn fill_plane<T: Pixel>(
             let value = tokens.pixel()?;
             plane.data_mut().fill(value);
         }
-        "lcg" => {
-            let mut lcg = Lcg::new(tokens.number()?);
-            for entry in plane.data_mut() {
-                *entry = lcg.pixel();
-            }
-        }
-        "list" => {
-            let values = tokens.pixels(alloc)?;
-            fill_whole(plane, values.as_slice(), tokens)?;
-        }
-        "border" => {
-            let value = tokens.pixel()?;
-            fill_border(plane, value);
-        }
-        "table" => {
-            let values = tokens.pixels(alloc)?;
-            fill_table(plane, values.as_slice(), tokens)?;
-        }
+        "lcg" => fill_congruence(plane, tokens.number()?),
+        "list" => fill_whole(alloc, plane, tokens)?,
+        "border" => fill_border(plane, tokens.pixel()?),
+        "table" => fill_table(alloc, plane, tokens)?,
         _ => return Err(tokens.fault(LineFault::UnknownFill)),
     }
     tokens.end()
 }
 
-/// Writes the whole buffer.
+/// Writes the whole buffer, pixel after pixel of a congruence.
+fn fill_congruence<T: Pixel>(plane: &mut Plane<T>, seed: u64) {
+    let mut lcg = Lcg::new(seed);
+    for entry in plane.data_mut() {
+        *entry = lcg.pixel();
+    }
+}
+
+/// Reads a list, which has to have this length.
+fn read_list<T: Pixel>(
+    alloc: Global,
+    tokens: &mut Tokens<'_>,
+    expected: usize,
+) -> Result<Vec<T>, CaseFault>
+    ensures { IfOk result (λ values. length values.items ≡ expected) }
+{
+    let values = tokens.pixels(alloc)?;
+    let found = values.len();
+    if found == expected {
+        Ok(values)
+    } else {
+        Err(tokens.fault(LineFault::FillLength { expected, found }))
+    }
+}
+
+/// Writes the whole buffer from a list.
 fn fill_whole<T: Pixel>(
+    alloc: Global,
     plane: &mut Plane<T>,
-    values: &[T],
-    tokens: &Tokens<'_>,
+    tokens: &mut Tokens<'_>,
 ) -> Result<(), CaseFault> {
     let buffer = plane.data_mut();
-    if buffer.len() != values.len() {
-        return Err(tokens.fault(LineFault::FillLength {
-            expected: buffer.len(),
-            found: values.len(),
-        }));
-    }
-    buffer.copy_from_slice(values);
+    let values = read_list(alloc, tokens, buffer.len())?;
+    buffer.copy_from_slice(values.as_slice());
     Ok(())
 }
 
@@ -68,20 +75,22 @@ fn fill_border<T: Pixel>(plane: &mut Plane<T>, value: T) {
     }
 }
 
-/// Writes the visible pixels, row after row.
+/// Writes the visible pixels from a list, row after row.
 fn fill_table<T: Pixel>(
+    alloc: Global,
     plane: &mut Plane<T>,
-    values: &[T],
-    tokens: &Tokens<'_>,
+    tokens: &mut Tokens<'_>,
 ) -> Result<(), CaseFault> {
     let geometry = plane.geometry();
-    let expected = geometry.width().saturating_mul(geometry.height());
-    if values.len() != expected {
-        return Err(tokens.fault(LineFault::FillLength {
-            expected,
-            found: values.len(),
-        }));
-    }
+    let count = geometry.width().saturating_mul(geometry.height());
+    let values = read_list(alloc, tokens, count)?;
+    write_table(plane, values.as_slice());
+    Ok(())
+}
+
+/// Writes the visible pixels, row after row.
+fn write_table<T: Pixel>(plane: &mut Plane<T>, values: &[T]) {
+    let geometry = plane.geometry();
     let mut values = values.iter();
     for (place, entry) in plane.data_mut().iter_mut().enumerate() {
         if is_visible(&geometry, place)
@@ -90,7 +99,6 @@ fn fill_table<T: Pixel>(
             *entry = *value;
         }
     }
-    Ok(())
 }
 
 /// Whether a place of the buffer lies in the visible rectangle.

@@ -7,7 +7,7 @@ use std::io::{self, Write};
 use v_frame::chroma::ChromaSubsampling;
 use v_frame::frame::{Frame, FrameError};
 use v_frame::pixel::Pixel;
-use v_frame::plane::Plane;
+use v_frame::plane::{Plane, PlaneGeometry};
 
 /// A longer buffer is written as runs.
 const LONGEST_LIST: usize = 4096;
@@ -29,16 +29,30 @@ pub fn print_build<T: Pixel, W: Write>(
     built: Result<Frame<T>, FrameError>,
 ) -> Result<(), CaseFault> {
     match built {
-        Ok(frame) => {
-            writeln!(out, "Ok")?;
-            print_frame(alloc, out, &frame)?;
-        }
-        Err(FrameError::UnsupportedBitDepth { found }) => {
+        Ok(frame) => print_built(alloc, out, &frame),
+        Err(error) => print_refusal(out, error),
+    }
+}
+
+/// Prints a frame that was built.
+fn print_built<T: Pixel, W: Write>(
+    alloc: Global,
+    out: &mut W,
+    frame: &Frame<T>,
+) -> Result<(), CaseFault> {
+    writeln!(out, "Ok")?;
+    print_frame(alloc, out, frame)
+}
+
+/// Prints why a frame was not built, apart from allocation failure.
+fn print_refusal<W: Write>(out: &mut W, error: FrameError) -> Result<(), CaseFault> {
+    match error {
+        FrameError::UnsupportedBitDepth { found } => {
             writeln!(out, "Err UnsupportedBitDepth {found}")?;
         }
-        Err(FrameError::DataTypeMismatch) => writeln!(out, "Err DataTypeMismatch")?,
-        Err(FrameError::UnsupportedResolution) => writeln!(out, "Err UnsupportedResolution")?,
-        Err(FrameError::OutOfMemory) => return Err(CaseFault::OutOfMemory),
+        FrameError::DataTypeMismatch => writeln!(out, "Err DataTypeMismatch")?,
+        FrameError::UnsupportedResolution => writeln!(out, "Err UnsupportedResolution")?,
+        FrameError::OutOfMemory => return Err(CaseFault::OutOfMemory),
     }
     Ok(())
 }
@@ -53,10 +67,21 @@ pub fn print_frame<T: Pixel, W: Write>(
     let depth = frame.bit_depth.get();
     writeln!(out, "frame {format} {depth}")?;
     for index in 0..3 {
-        match frame.plane(index) {
-            Some(plane) => print_plane(alloc, out, index, plane)?,
-            None => writeln!(out, "plane {index} -")?,
-        }
+        print_plane_at(alloc, out, frame, index)?;
+    }
+    Ok(())
+}
+
+/// Prints the plane of this index, or that there is none.
+fn print_plane_at<T: Pixel, W: Write>(
+    alloc: Global,
+    out: &mut W,
+    frame: &Frame<T>,
+    index: usize,
+) -> Result<(), CaseFault> {
+    match frame.plane(index) {
+        Some(plane) => print_plane(alloc, out, index, plane)?,
+        None => writeln!(out, "plane {index} -")?,
     }
     Ok(())
 }
@@ -79,23 +104,48 @@ fn print_plane<T: Pixel, W: Write>(
     index: usize,
     plane: &Plane<T>,
 ) -> Result<(), CaseFault> {
-    let geometry = plane.geometry();
+    print_geometry(out, index, &plane.geometry())?;
+    print_buffer(alloc, out, index, plane.data())
+}
+
+/// Prints the geometry of a plane.
+fn print_geometry<W: Write>(out: &mut W, index: usize, geometry: &PlaneGeometry) -> io::Result<()> {
     let (width, height, stride) = (geometry.width(), geometry.height(), geometry.stride());
     let (left, right) = (geometry.pad_left(), geometry.pad_right());
     let (top, bottom) = (geometry.pad_top(), geometry.pad_bottom());
     let (columns, rows) = (geometry.subsampling_x(), geometry.subsampling_y());
     write!(out, "plane {index} {width} {height} {stride} ")?;
-    writeln!(out, "{left} {right} {top} {bottom} {columns} {rows}")?;
-    let entries = plane.data();
+    writeln!(out, "{left} {right} {top} {bottom} {columns} {rows}")
+}
+
+/// Prints the whole buffer of a plane.
+fn print_buffer<T: Pixel, W: Write>(
+    alloc: Global,
+    out: &mut W,
+    index: usize,
+    entries: &[T],
+) -> Result<(), CaseFault> {
     if entries.len() > LONGEST_LIST {
-        let runs = runs_of(alloc, entries)?;
-        write!(out, "buffer {index} runs {}", entries.len())?;
-        print_list(out, runs.as_slice())?;
+        print_runs(alloc, out, index, entries)?;
     } else {
         write!(out, "buffer {index} list")?;
         print_list(out, entries)?;
     }
     writeln!(out, "")?;
+    Ok(())
+}
+
+/// Prints a buffer as runs.
+fn print_runs<T: Pixel, W: Write>(
+    alloc: Global,
+    out: &mut W,
+    index: usize,
+    entries: &[T],
+) -> Result<(), CaseFault> {
+    let length = entries.len();
+    let runs = runs_of(alloc, entries)?;
+    write!(out, "buffer {index} runs {length}")?;
+    print_list(out, runs.as_slice())?;
     Ok(())
 }
 

@@ -2,7 +2,7 @@
 
 use crate::fault::{CaseFault, LineFault};
 use crate::lcg::Lcg;
-use std::alloc::Global;
+use std::alloc::{AllocError, Global};
 use v_frame::pixel::Pixel;
 use v_frame::replay::{Sequence, Side};
 
@@ -105,7 +105,7 @@ impl<'a> Tokens<'a> {
         }
     }
 
-    /// The side that an iterator is drawn from.
+    /// The side of an iterator that a call takes an item from.
     pub fn side(&mut self) -> Result<Side, CaseFault> {
         match self.word()? {
             "F" => Ok(Side::Front),
@@ -168,15 +168,21 @@ impl<'a> Tokens<'a> {
         match self.word()? {
             "list" => Ok(self.pixels(alloc)?.into()),
             "lcg" => {
-                let mut lcg = Lcg::new(self.number()?);
+                let seed = self.number()?;
                 let count = self.size()?;
-                let mut pixels = Vec::with_capacity(alloc, count)?;
-                for _ in 0..count {
-                    pixels.push(lcg.pixel())?;
-                }
-                Ok(pixels.into())
+                Ok(congruence(alloc, seed, count)?.into())
             }
             _ => Err(self.fault(LineFault::UnknownSource)),
         }
     }
+}
+
+/// So many pixels of a congruence.
+fn congruence<T: Pixel>(alloc: Global, seed: u64, count: usize) -> Result<Vec<T>, AllocError> {
+    let mut lcg = Lcg::new(seed);
+    let mut pixels = Vec::with_capacity(alloc, count)?;
+    for _ in 0..count {
+        pixels.push(lcg.pixel())?;
+    }
+    Ok(pixels)
 }

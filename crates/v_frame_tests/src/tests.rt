@@ -2,6 +2,8 @@
 
 mod frame;
 mod operations;
+mod planar;
 mod plane;
 mod support;
 mod uses;
+mod y4m;

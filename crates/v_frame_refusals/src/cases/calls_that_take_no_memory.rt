@@ -55,7 +55,7 @@ fn array_is_read() -> bool {
         return false;
     };
     match PlaneRef::new(geometry, &ENTRIES) {
-        Some(plane) => plane.geometry() == geometry && is_measured(&plane) && is_walked(&plane),
+        Some(plane) => plane.geometry() == geometry && is_measured(&plane) && is_iterated(&plane),
         None => false,
     }
 }
@@ -68,8 +68,8 @@ fn is_measured(plane: &PlaneRef<'_, u16>) -> bool {
     size && rows && pixels && plane.again().data() == ENTRIES.as_slice()
 }
 
-/// Whether the walks of a plane over the array give what it shows, from both ends.
-fn is_walked(plane: &PlaneRef<'_, u16>) -> bool {
+/// Whether the iterators of a plane over the array give what it shows, from both ends.
+fn is_iterated(plane: &PlaneRef<'_, u16>) -> bool {
     let rows = [[0x0102, 0x0304].as_slice(), [0x0506, 0x0708].as_slice()];
     let pixels = [0x0102, 0x0304, 0x0506, 0x0708];
     let bytes = [2, 1, 4, 3, 6, 5, 8, 7];

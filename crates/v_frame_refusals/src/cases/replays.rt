@@ -74,7 +74,7 @@ fn calls(alloc: Global) -> Result<[VisibleCall<u16>; 6], AllocError> {
     ])
 }
 
-/// The last row gets a pixel, the first one none, and the third draw is past the end.
+/// The last row gets a pixel, the first one none, and the third call is past the end.
 fn row_draws(alloc: Global) -> Result<Sequence<RowDraw<u16>>, AllocError> {
     let below = Sequence::from_slice(alloc, &[None, Some(50)])?;
     let above = Sequence::from_slice(alloc, &[])?;
@@ -147,7 +147,7 @@ fn answers(alloc: Global) -> Result<[Answer<u16>; 6], AllocError> {
     ])
 }
 
-/// The rows that are drawn, the last one first, and then none.
+/// The rows that the calls give, the last one first, and then none.
 fn drawn_rows(alloc: Global) -> Result<Sequence<Drawn<Sequence<u16>>>, AllocError> {
     let below = Sequence::from_slice(alloc, &[4, 5, 6])?;
     let above = Sequence::from_slice(alloc, &[1, 2, 3])?;
@@ -168,7 +168,7 @@ fn drawn_rows(alloc: Global) -> Result<Sequence<Drawn<Sequence<u16>>>, AllocErro
     Ok(Vec::from_array(alloc, draws)?.into())
 }
 
-/// Items that are drawn, each with how many it leaves.
+/// Items that the calls give, each with how many it leaves.
 fn drawn<I: Copy, const N: usize>(
     alloc: Global,
     draws: [(I, usize); N],

@@ -1,7 +1,7 @@
-//! Planes: compared, walked, lent, and written through what their walks lend.
+//! Planes: compared, read by iterators, lent, and written through what iterators lend.
 
 mod equality;
+mod iterators;
 mod lent;
 mod row_pairs;
-mod walks;
-mod writing_walks;
+mod writing_iterators;

@@ -5,6 +5,5 @@ mod clones;
 mod debugs;
 mod each_padding;
 mod formats;
-mod quarter_paddings;
 mod refusals;
 mod threads;

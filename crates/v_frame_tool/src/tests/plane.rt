@@ -2,7 +2,7 @@
 
 mod blank;
 mod byte_copies;
-mod byte_walks;
+mod byte_iterators;
 mod clones;
 mod copies;
 mod debugs;
@@ -12,12 +12,12 @@ mod extremes;
 mod geometry;
 mod held_items;
 mod held_pixels;
-mod many_draws;
+mod iterators;
 mod options;
 mod packed_words;
+mod past_the_last;
 mod pixels;
 mod rows_of_bytes;
 mod subsampling;
-mod walks;
 mod writes;
-mod writing_walks;
+mod writing_iterators;

@@ -2,11 +2,11 @@
 
 mod border_entries;
 mod borders;
-mod byte_walks;
+mod byte_iterators;
 mod calls;
 mod debugs;
 mod extremes;
+mod iterators;
 mod laws;
 mod refusals;
-mod walks;
-mod writing_walks;
+mod writing_iterators;

@@ -19,10 +19,10 @@ fn counts_to_six(plane: &PlaneRef<'_, u8>) -> bool {
     let rows = plane.row(0) == Some([1, 2, 3].as_slice())
         && plane.row(1) == Some([4, 5, 6].as_slice())
         && plane.row(2).is_none();
-    let walks = plane.pixels().rev().eq([6, 5, 4, 3, 2, 1])
+    let iterators = plane.pixels().rev().eq([6, 5, 4, 3, 2, 1])
         && plane.byte_data().eq([1, 2, 3, 4, 5, 6])
         && plane.rows().len() == 2;
-    rows && walks
+    rows && iterators
 }
 
 #[test]

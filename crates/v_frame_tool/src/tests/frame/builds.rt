@@ -7,7 +7,6 @@ use std::process::Abort;
 use v_frame::chroma::ChromaSubsampling;
 use v_frame::chroma::ChromaSubsampling::{Monochrome, Yuv411, Yuv420, Yuv422, Yuv444};
 use v_frame::frame::{Frame, FrameBuilder};
-use v_frame::laws;
 use v_frame::pixel::Pixel;
 use v_frame::plane::Plane;
 
@@ -152,14 +151,27 @@ fn three_planes_are_padded_and_zero(rt: HostRuntime) {
     assert!(rt; chroma_is(&frame, chroma));
 }
 
+/// Eight pixels by two in 4:1:1, with so many rows above them.
+fn quartered(rt: &impl Abort, alloc: Global, above: usize) -> Frame<u8> {
+    let builder = padded((8, 2), Yuv411, 8, [4, 8, above, 0]);
+    builder.build::<u8>(alloc).expect(rt, "a frame")
+}
+
 #[test]
 fn planes_of_a_quarter_of_the_columns_are_padded_and_zero(rt: HostRuntime) {
-    let frame = padded((8, 2), Yuv411, 8, [4, 8, 1, 0])
-        .build::<u8>(rt.alloc())
-        .expect(&rt, "a frame");
+    let frame = quartered(&rt, rt.alloc(), 1);
     let luma = ((8, 2), [8, 2, 20, 4, 8, 1, 0, 1, 1], [0; 60].as_slice());
     assert!(rt; layout(&frame.y_plane) == luma);
     let chroma = ((2, 2), [2, 2, 5, 1, 2, 1, 0, 4, 1], [0; 15].as_slice());
+    assert!(rt; chroma_is(&frame, chroma));
+}
+
+#[test]
+fn three_rows_above_are_three_above_a_quarter_of_the_columns(rt: HostRuntime) {
+    let frame = quartered(&rt, rt.alloc(), 3);
+    let luma = ((8, 2), [8, 2, 20, 4, 8, 3, 0, 1, 1], [0; 100].as_slice());
+    assert!(rt; layout(&frame.y_plane) == luma);
+    let chroma = ((2, 2), [2, 2, 5, 1, 2, 3, 0, 4, 1], [0; 25].as_slice());
     assert!(rt; chroma_is(&frame, chroma));
 }
 

@@ -12,43 +12,66 @@ use v_frame::pixel::Pixel;
 /// What a writer has taken of a frame, 4096 bytes a call at most.
 fn taken<T: Pixel>(rt: &impl Abort, alloc: Global, frame: &Frame<T>) -> Vec<u8> {
     let mut writer = Counted::new(watched_writer(alloc, 4096, 0));
-    assert!(rt; write_frame(&mut writer, frame) == Ok(()) && writer.failures() == 0);
+    let answer = write_frame(&mut writer, frame);
+    assert!(rt; answer == Ok(()) && writer.failures() == 0);
     assert!(rt; (writer.inner().empty_writes, writer.inner().flushes) == (0, 0));
     writer.into_inner().taken
 }
 
+/// A row of so many bytes, each the remainder of its place by 251.
+fn row_of_bytes(rt: &impl Abort, alloc: Global, width: usize) -> Frame<u8> {
+    let mut frame = zeros::<u8>(rt, alloc, (width, 1, [1, 2, 0, 0]));
+    for (place, pixel) in frame.y_plane.pixels_mut().enumerate() {
+        *pixel = (place % 251) as u8;
+    }
+    frame
+}
+
+/// Whether bytes are the remainders of their places by 251.
+fn are_remainders(bytes: &[u8]) -> bool {
+    let mut places = bytes.iter().enumerate();
+    places.all(|(place, byte)| usize::from(*byte) == place % 251)
+}
+
 #[test]
 fn a_long_row_of_bytes_is_taken_in_parts(rt: HostRuntime) {
-    for width in [8193, 12288, 12289, 20_000] {
-        let mut frame = zeros::<u8>(&rt, rt.alloc(), (width, 1, [1, 2, 0, 0]));
-        for (place, pixel) in frame.y_plane.pixels_mut().enumerate() {
-            *pixel = (place % 251) as u8;
-        }
+    for width in [65_537, 69_632, 69_633, 140_000] {
+        let frame = row_of_bytes(&rt, rt.alloc(), width);
         let bytes = taken(&rt, rt.alloc(), &frame);
-        assert_eq!(rt; bytes.len(), width);
-        for (place, byte) in bytes.iter().enumerate() {
-            assert!(rt; usize::from(*byte) == place % 251, "at {place}");
-        }
+        assert!(rt;
+            bytes.len() == width && are_remainders(bytes.as_slice()),
+            "{width} bytes"
+        );
     }
+}
+
+/// A row of so many words, each the number of its place.
+fn row_of_words(rt: &impl Abort, alloc: Global, width: usize) -> Frame<u16> {
+    let mut frame = zeros::<u16>(rt, alloc, (width, 1, [1, 2, 0, 0]));
+    for (place, pixel) in frame.y_plane.pixels_mut().enumerate() {
+        *pixel = (place % 65_536) as u16;
+    }
+    frame
+}
+
+/// Whether bytes, two each and the low one first, are the numbers of their places.
+fn are_places(bytes: &[u8]) -> bool {
+    let mut places = bytes.iter().enumerate();
+    places.all(|(place, byte)| {
+        let (word, is_low) = (place / 2, place % 2 == 0);
+        let wanted = if is_low { word } else { word / 256 } % 256;
+        usize::from(*byte) == wanted
+    })
 }
 
 #[test]
 fn a_long_row_of_words_is_taken_in_parts(rt: HostRuntime) {
-    for width in [4097, 8193, 10_000] {
-        let mut frame = zeros::<u16>(&rt, rt.alloc(), (width, 1, [1, 2, 0, 0]));
-        for (place, pixel) in frame.y_plane.pixels_mut().enumerate() {
-            *pixel = (place % 65_536) as u16;
-        }
+    for width in [32_769, 65_537, 80_000] {
+        let frame = row_of_words(&rt, rt.alloc(), width);
         let bytes = taken(&rt, rt.alloc(), &frame);
-        assert_eq!(rt; bytes.len(), 2 * width);
-        for (place, byte) in bytes.iter().enumerate() {
-            let word = place / 2;
-            let wanted = if place % 2 == 0 {
-                word % 256
-            } else {
-                word / 256
-            };
-            assert!(rt; usize::from(*byte) == wanted, "at {place}");
-        }
+        assert!(rt;
+            bytes.len() == 2 * width && are_places(bytes.as_slice()),
+            "{width} words"
+        );
     }
 }

@@ -17,37 +17,53 @@ fn small() -> FrameBuilder {
     FrameBuilder::new(2, 2, Yuv420, 8)
 }
 
+/// Whether a small frame shows the bytes 1 to 6.
+fn shows_six(frame: &Frame<u8>) -> bool {
+    let luma = frame.y_plane.data() == [1, 2, 3, 4].as_slice();
+    match (frame.plane(1), frame.plane(2)) {
+        (Some(u), Some(v)) => luma && (u.data(), v.data()) == ([5].as_slice(), [6].as_slice()),
+        _ => false,
+    }
+}
+
 #[test]
 fn a_frame_a_rest_and_the_end(rt: HostRuntime) {
     let mut frame = small().build::<u8>(rt.alloc()).expect(&rt, "a frame");
     let mut reader = Counted::new(&BYTES[..7]);
-    assert!(rt; read_frame(rt.alloc(), &mut reader, &mut frame) == Ok(true));
-    assert!(rt; frame.y_plane.data() == [1, 2, 3, 4].as_slice());
-    assert!(rt; frame.plane(1).expect(&rt, "U").data() == [5].as_slice());
-    assert!(rt; frame.plane(2).expect(&rt, "V").data() == [6].as_slice());
-    let shown = frame.clone(rt.alloc()).expect(&rt, "memory");
+    let whole = read_frame(rt.alloc(), &mut reader, &mut frame);
+    assert!(rt; whole == Ok(true) && shows_six(&frame));
     let truncated = PlanarError::Truncated {
         expected: 6,
         found: 1,
     };
-    assert!(rt; read_frame(rt.alloc(), &mut reader, &mut frame) == Err(truncated));
-    assert!(rt; frame == shown);
-    assert!(rt; read_frame(rt.alloc(), &mut reader, &mut frame) == Ok(false));
-    assert!(rt; frame == shown && reader.failures() == 0);
+    let rest = read_frame(rt.alloc(), &mut reader, &mut frame);
+    assert!(rt; rest == Err(truncated) && shows_six(&frame));
+    let end = read_frame(rt.alloc(), &mut reader, &mut frame);
+    assert!(rt; end == Ok(false) && shows_six(&frame) && reader.failures() == 0);
+}
+
+/// What a read of a frame answers from so many bytes, so many calls long and so many bytes a call, with the failures and
+/// how many bytes are left.
+fn read_in_pieces(
+    alloc: Global,
+    frame: &mut Frame<u8>,
+    bytes: &[u8],
+    (most, calls): (usize, usize),
+) -> (Result<bool, PlanarError>, u64, usize) {
+    let mut reader = Counted::new(Pieces {
+        left: bytes,
+        most,
+        calls,
+    });
+    let answer = read_frame(alloc, &mut reader, frame);
+    (answer, reader.failures(), reader.inner().left.len())
 }
 
 #[test]
 fn six_bytes_one_by_one(rt: HostRuntime) {
     let mut frame = small().build::<u8>(rt.alloc()).expect(&rt, "a frame");
-    let mut reader = Counted::new(Pieces {
-        left: &BYTES[..6],
-        most: 1,
-        calls: 6,
-    });
-    assert!(rt; read_frame(rt.alloc(), &mut reader, &mut frame) == Ok(true));
-    assert!(rt; frame.y_plane.data() == [1, 2, 3, 4].as_slice());
-    assert!(rt; frame.plane(1).expect(&rt, "U").data() == [5].as_slice());
-    assert!(rt; frame.plane(2).expect(&rt, "V").data() == [6].as_slice());
+    let answer = read_in_pieces(rt.alloc(), &mut frame, &BYTES[..6], (1, 6));
+    assert!(rt; answer == (Ok(true), 0, 0) && shows_six(&frame));
 }
 
 /// A format, a depth, and paddings.
@@ -119,14 +135,13 @@ fn the_end_inside_a_frame_leaves_it_as_it_was(rt: HostRuntime) {
     let before = numbered_planes::<u8>(&rt, rt.alloc(), small());
     let mut frame = numbered_planes::<u8>(&rt, rt.alloc(), small());
     for found in 1..6 {
-        let mut reader = Counted::new(Pieces {
-            left: &BYTES[..found],
-            most: 2,
-            calls: 100,
-        });
+        let bytes = BYTES.get(..found).expect(&rt, "so many bytes");
         let truncated = PlanarError::Truncated { expected: 6, found };
-        assert!(rt; read_frame(rt.alloc(), &mut reader, &mut frame) == Err(truncated));
-        assert!(rt; frame == before && reader.inner().left.is_empty());
+        let answer = read_in_pieces(rt.alloc(), &mut frame, bytes, (2, 100));
+        assert!(rt;
+            answer == (Err(truncated), 0, 0) && frame == before,
+            "{found} bytes"
+        );
     }
 }
 
@@ -134,29 +149,21 @@ fn the_end_inside_a_frame_leaves_it_as_it_was(rt: HostRuntime) {
 fn a_failed_read_leaves_the_frame_as_it_was(rt: HostRuntime) {
     let before = numbered_planes::<u8>(&rt, rt.alloc(), small());
     let mut frame = numbered_planes::<u8>(&rt, rt.alloc(), small());
-    for calls in 0..6 {
-        let mut reader = Counted::new(Pieces {
-            left: &BYTES,
-            most: 1,
-            calls,
-        });
-        assert!(rt; read_frame(rt.alloc(), &mut reader, &mut frame) == Err(PlanarError::Read));
-        assert!(rt; frame == before && reader.failures() == 1);
-        assert!(rt; reader.inner().left == &BYTES[calls..]);
+    for (calls, left) in [(0, 60), (1, 59), (2, 58), (3, 57), (4, 56), (5, 55)] {
+        let answer = read_in_pieces(rt.alloc(), &mut frame, &BYTES, (1, calls));
+        assert!(rt;
+            answer == (Err(PlanarError::Read), 1, left) && frame == before,
+            "{calls} calls"
+        );
     }
 }
 
 #[test]
 fn three_bytes_and_a_failure(rt: HostRuntime) {
     let mut frame = small().build::<u8>(rt.alloc()).expect(&rt, "a frame");
-    let mut reader = Counted::new(Pieces {
-        left: &BYTES,
-        most: 3,
-        calls: 1,
-    });
-    assert!(rt; read_frame(rt.alloc(), &mut reader, &mut frame) == Err(PlanarError::Read));
+    let answer = read_in_pieces(rt.alloc(), &mut frame, &BYTES, (3, 1));
+    assert!(rt; answer == (Err(PlanarError::Read), 1, 57));
     assert!(rt; frame.y_plane.data() == [0; 4].as_slice());
-    assert!(rt; reader.inner().left == &BYTES[3..]);
 }
 
 #[test]

@@ -28,27 +28,43 @@ fn mark(rt: &impl Abort, plane: &mut Plane<u16>, number: u16) {
     *plane.pixel_mut(0, 0).expect(rt, "a pixel") = number;
 }
 
-#[test]
-fn three_frames_and_a_truncated_fourth(rt: HostRuntime) {
-    let mut writer = Counted::new(Vec::new(rt.alloc()));
+/// The bytes of four frames of the stream.
+fn four_frames(rt: &impl Abort, alloc: Global) -> Vec<u8> {
+    let mut writer = Counted::new(Vec::new(alloc));
     for number in 0..4 {
-        let frame = frame_of(&rt, rt.alloc(), number);
+        let frame = frame_of(rt, alloc, number);
         assert!(rt; write_frame(&mut writer, &frame) == Ok(()));
     }
-    let stream = writer.into_inner();
-    assert!(rt; stream.len() == 128);
+    writer.into_inner()
+}
+
+/// Whether the next frame of a stream is that of this number, which a frame then shows.
+fn is_next(
+    rt: &impl Abort,
+    alloc: Global,
+    reader: &mut Counted<&[u8]>,
+    frame: &mut Frame<u16>,
+    number: u16,
+) -> bool {
+    let answer = read_frame(alloc, reader, frame);
+    answer == Ok(true) && *frame == frame_of(rt, alloc, number)
+}
+
+#[test]
+fn three_frames_and_a_truncated_fourth(rt: HostRuntime) {
+    let stream = four_frames(&rt, rt.alloc());
     let first = stream.as_slice().get(..121).expect(&rt, "121 bytes");
     let mut reader = Counted::new(first);
     let mut frame = numbered_planes::<u16>(&rt, rt.alloc(), builder());
     for number in 0..3 {
-        assert!(rt; read_frame(rt.alloc(), &mut reader, &mut frame) == Ok(true));
-        assert!(rt; frame == frame_of(&rt, rt.alloc(), number));
+        assert!(rt; is_next(&rt, rt.alloc(), &mut reader, &mut frame, number));
     }
     let truncated = PlanarError::Truncated {
         expected: 32,
         found: 25,
     };
-    assert!(rt; read_frame(rt.alloc(), &mut reader, &mut frame) == Err(truncated));
-    assert!(rt; read_frame(rt.alloc(), &mut reader, &mut frame) == Ok(false));
+    let rest = read_frame(rt.alloc(), &mut reader, &mut frame);
+    let end = read_frame(rt.alloc(), &mut reader, &mut frame);
+    assert!(rt; stream.len() == 128 && (rest, end) == (Err(truncated), Ok(false)));
     assert!(rt; frame == frame_of(&rt, rt.alloc(), 2));
 }

@@ -2,7 +2,7 @@
 
 use crate::counted::Counted;
 use crate::planar::{PlanarError, write_frame};
-use crate::tests::support::frames::{BORDERED, luma, numbered, padded};
+use crate::tests::support::frames::{BORDERED, numbered, padded};
 use crate::tests::support::planar::{BYTES, counted_bytes, numbered_planes};
 use crate::tests::support::writers::{Habit, Stubborn, at_first, slow_writer};
 use std::alloc::Global;
@@ -48,24 +48,38 @@ fn words(rt: &impl Abort, alloc: Global) -> Frame<u16> {
     frame
 }
 
+/// What `write_frame` answers over a writer that takes a byte at each of so many calls and then has this habit, the
+/// failures, and whether just these bytes were taken.
+fn begun<T: Pixel>(
+    frame: &Frame<T>,
+    (calls, habit): (usize, Habit),
+    bytes: &[u8],
+) -> (Result<(), PlanarError>, u64, bool) {
+    let mut writer = Counted::new(slow_writer(calls, habit));
+    let answer = write_frame(&mut writer, frame);
+    let taken = &writer.inner().taken;
+    let front = taken.get_ref().get(..bytes.len());
+    let is_taken = taken.position() == bytes.len() as u64 && front == Some(bytes);
+    (answer, writer.failures(), is_taken)
+}
+
 #[test]
 fn words_go_low_byte_first(rt: HostRuntime) {
     let frame = words(&rt, rt.alloc());
     assert!(rt; written(&rt, rt.alloc(), &frame).as_slice() == [2, 1, 4, 3].as_slice());
-    let mut writer = Counted::new(slow_writer(100, Habit::Fails));
-    assert!(rt; write_frame(&mut writer, &frame) == Ok(()));
-    assert!(rt; writer.inner().taken.position() == 4);
-    assert!(rt; &writer.inner().taken.get_ref()[..4] == [2, 1, 4, 3].as_slice());
+    assert!(rt; begun(&frame, (100, Habit::Fails), &[2, 1, 4, 3]) == (Ok(()), 0, true));
 }
 
 #[test]
 fn a_failed_write_leaves_a_beginning(rt: HostRuntime) {
     let frame = words(&rt, rt.alloc());
-    for calls in 0..4 {
-        let mut writer = Counted::new(slow_writer(calls, Habit::Fails));
-        assert!(rt; write_frame(&mut writer, &frame) == Err(PlanarError::Write));
-        assert!(rt; writer.inner().taken.position() == calls as u64 && writer.failures() == 1);
-        assert!(rt; writer.inner().taken.get_ref()[..calls] == [2, 1, 4, 3][..calls]);
+    let beginnings = [[].as_slice(), &[2], &[2, 1], &[2, 1, 4]];
+    for (calls, bytes) in beginnings.into_iter().enumerate() {
+        let answer = begun(&frame, (calls, Habit::Fails), bytes);
+        assert!(rt;
+            answer == (Err(PlanarError::Write), 1, true),
+            "{calls} calls"
+        );
     }
 }
 
@@ -73,10 +87,12 @@ fn a_failed_write_leaves_a_beginning(rt: HostRuntime) {
 fn a_write_of_nothing_leaves_a_beginning(rt: HostRuntime) {
     let (frame, _) = counted_bytes::<u8>(&rt, rt.alloc(), FrameBuilder::new(2, 2, Yuv420, 8));
     for calls in 0..6 {
-        let mut writer = Counted::new(slow_writer(calls, Habit::TakesNone));
-        assert!(rt; write_frame(&mut writer, &frame) == Err(PlanarError::WriteZero));
-        assert!(rt; writer.inner().taken.position() == calls as u64 && writer.failures() == 0);
-        assert!(rt; writer.inner().taken.get_ref()[..calls] == BYTES[..calls]);
+        let bytes = BYTES.get(..calls).expect(&rt, "so many bytes");
+        let answer = begun(&frame, (calls, Habit::TakesNone), bytes);
+        assert!(rt;
+            answer == (Err(PlanarError::WriteZero), 0, true),
+            "{calls} calls"
+        );
     }
 }
 
@@ -99,34 +115,4 @@ fn planes_that_a_user_replaced_are_written(rt: HostRuntime) {
     frame.v_plane = Some(numbered::<u8>(&rt, rt.alloc(), BORDERED).y_plane);
     let wanted = [100, 101, 102, 103, 107, 108, 109, 113, 114, 115];
     assert!(rt; written(&rt, rt.alloc(), &frame).as_slice() == wanted.as_slice());
-}
-
-/// A frame of one row of so many pixels, of which no two neighbours are alike.
-fn long_row<T: Pixel>(rt: &impl Abort, alloc: Global, width: usize) -> Frame<T> {
-    let builder = luma::<T>((width, 1, [1, 2, 0, 0]));
-    let mut frame = builder.build::<T>(alloc).expect(rt, "a frame");
-    for (place, pixel) in frame.y_plane.pixels_mut().enumerate() {
-        *pixel = T::from_u8((place % 251) as u8);
-    }
-    frame
-}
-
-#[test]
-fn rows_longer_than_a_block_are_written_whole(rt: HostRuntime) {
-    for width in [4095, 4096, 4097, 8191, 8192, 8193, 20_000] {
-        let bytes = long_row::<u8>(&rt, rt.alloc(), width);
-        assert!(rt;
-            written(&rt, rt.alloc(), &bytes)
-                .iter()
-                .copied()
-                .eq(bytes.y_plane.byte_data())
-        );
-        let words = long_row::<u16>(&rt, rt.alloc(), width);
-        assert!(rt;
-            written(&rt, rt.alloc(), &words)
-                .iter()
-                .copied()
-                .eq(words.y_plane.byte_data())
-        );
-    }
 }

@@ -1,6 +1,7 @@
 //! Copies of bytes into a plane, packed and with a stride.
 
 use crate::tests::support::buffers::{bordered_buffer, holds, numbers};
+use crate::tests::support::bytes::{stepped, stepped_words};
 use crate::tests::support::errors::{other_length, short_stride};
 use crate::tests::support::frames::{BARE, BORDERED, Layout, numbered, zeros};
 use crate::tests::support::reads::table_of;
@@ -111,32 +112,22 @@ const WIDTHS: [(usize, usize, u16); 5] = [
     (33, 67, 0xE7E0),
 ];
 
-/// Two rows of so many bytes. The first begin at 1 and 32, and each other byte is 7 more than the one before.
+/// The items of one row and then those of the row below.
+fn joined<T: Copy>(rt: &impl Abort, mut above: Vec<T>, below: &[T]) -> Vec<T> {
+    above.extend_from_slice(below).expect(rt, "memory");
+    above
+}
+
+/// Two rows of so many bytes, which begin at 1 and 32 and grow by 7.
 fn two_rows(rt: &impl Abort, alloc: Global, stride: usize) -> Vec<u8> {
-    let mut source = Vec::new(alloc);
-    for start in [1u8, 32] {
-        let mut byte = start;
-        for _ in 0..stride {
-            source.push(byte).expect(rt, "memory");
-            byte = byte.wrapping_add(7);
-        }
-    }
-    source
+    let below = stepped(rt, alloc, 32, 7, stride);
+    joined(rt, stepped(rt, alloc, 1, 7, stride), below.as_slice())
 }
 
 /// The first so many words of each of these two rows of bytes.
 fn words_of_two_rows(rt: &impl Abort, alloc: Global, width: usize) -> Vec<u16> {
-    let mut words = Vec::new(alloc);
-    for start in [1u8, 32] {
-        let mut low = start;
-        for _ in 0..width {
-            let high = low.wrapping_add(7);
-            let word = u16::from_le_bytes([low, high]);
-            words.push(word).expect(rt, "memory");
-            low = high.wrapping_add(7);
-        }
-    }
-    words
+    let below = stepped_words(rt, alloc, 32, 7, width);
+    joined(rt, stepped_words(rt, alloc, 1, 7, width), below.as_slice())
 }
 
 #[test]

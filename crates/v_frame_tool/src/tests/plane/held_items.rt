@@ -60,8 +60,8 @@ fn held_pixels_are_written_and_no_border(rt: HostRuntime) {
     assert!(rt; numbered.data() == bordered_buffer(written).as_slice());
 }
 
-/// Whether draws by turns lend six pixels, to the last. Nothing is written.
-fn all_are_drawn_by_turns(plane: &mut Plane<u8>) -> bool {
+/// Whether calls of `next` and `next_back` by turns lend six pixels, to the last. Nothing is written.
+fn all_are_lent_by_turns(plane: &mut Plane<u8>) -> bool {
     let mut pixels = plane.pixels_mut();
     let mut are_lent = true;
     for _turn in 0..3 {
@@ -74,12 +74,15 @@ fn all_are_drawn_by_turns(plane: &mut Plane<u8>) -> bool {
 fn iterators_that_write_nothing_leave_the_buffer(rt: HostRuntime) {
     let shown = [1, 2, 3, 4, 5, 6];
     let in_200 = (in_200(&rt, rt.alloc()).y_plane, buffer_in_200(shown));
-    let numbered = (counted(&rt, rt.alloc(), BORDERED).y_plane, bordered_buffer(shown));
+    let numbered = (
+        counted(&rt, rt.alloc(), BORDERED).y_plane,
+        bordered_buffer(shown),
+    );
     for (mut plane, before) in [in_200, numbered] {
         drop(plane.rows_mut());
         drop(plane.pixels_mut());
         assert!(rt; plane.data() == before.as_slice());
-        assert!(rt; all_are_drawn_by_turns(&mut plane));
+        assert!(rt; all_are_lent_by_turns(&mut plane));
         assert!(rt; plane.data() == before.as_slice());
     }
 }

@@ -8,7 +8,7 @@ use v_frame::plane::Plane;
 /// Two pixels by two in a buffer of nine entries.
 const CORNERED: (usize, usize, [usize; 4]) = (2, 2, [1, 0, 0, 1]);
 
-/// Draws the last pixel, the first and the last but one, writes that one, and then the first twice.
+/// Takes the last pixel, the first and the last but one, writes that one, and then the first twice.
 fn write_two_of_three<T: Pixel>(plane: &mut Plane<T>, before_last: T, once: T, twice: T) {
     let mut pixels = plane.pixels_mut();
     let (_last, first, held) = (pixels.next_back(), pixels.next(), pixels.next_back());

@@ -1,9 +1,8 @@
 //! Packed copies of words into rows of one, two and more steps of sixteen, with and without a rest.
 
 use crate::tests::support::buffers::holds;
+use crate::tests::support::bytes::{stepped, stepped_words};
 use crate::tests::support::frames::numbered;
-use std::alloc::Global;
-use std::process::Abort;
 
 /// Widths, with the first pixel of the second row and its last one.
 ///
@@ -22,47 +21,18 @@ const WIDTHS: [(usize, u16, u16); 11] = [
     (65, 0xFAD5, 0x7A55),
 ];
 
-/// So many bytes, each 37 more than the one before.
-fn source(rt: &impl Abort, alloc: Global, count: usize) -> Vec<u8> {
-    let mut bytes = Vec::new(alloc);
-    let mut byte: u8 = 11;
-    for _ in 0..count {
-        bytes.push(byte).expect(rt, "memory");
-        byte = byte.wrapping_add(37);
-    }
-    bytes
-}
-
-/// So many words of these bytes: the first is 11 + 256 * 48, and both bytes of each further word are 74 more.
-fn words(rt: &impl Abort, alloc: Global, count: usize) -> Vec<u16> {
-    let mut words = Vec::new(alloc);
-    let (mut low, mut high) = (11u8, 48u8);
-    for _ in 0..count {
-        let word = u16::from(high) * 256 + u16::from(low);
-        words.push(word).expect(rt, "memory");
-        low = low.wrapping_add(74);
-        high = high.wrapping_add(74);
-    }
-    words
-}
-
 #[test]
 fn packed_words_of_each_width_leave_a_numbered_border(rt: HostRuntime) {
     for (width, below, last) in WIDTHS {
         let layout = (width, 2, [3, 1, 1, 0]);
         let mut plane = numbered::<u16>(&rt, rt.alloc(), layout).y_plane;
-        let bytes = source(&rt, rt.alloc(), width.saturating_mul(4));
-        assert!(rt;
-            plane.copy_from_u8_slice(bytes.as_slice()).is_ok(),
-            "{width} pixels"
-        );
-        assert!(rt; plane.pixel(0, 0) == Some(0x300B) && plane.pixel(15, 0) == Some(0x8661));
-        assert!(rt; plane.pixel(0, 1) == Some(below), "{width} pixels");
-        assert!(rt; plane.pixels().next_back() == Some(last), "{width} pixels");
-        let words = words(&rt, rt.alloc(), width.saturating_mul(2));
-        assert!(rt;
-            holds(&rt, rt.alloc(), &plane, layout, words.as_slice()),
-            "{width} pixels"
-        );
+        let bytes = stepped(&rt, rt.alloc(), 11, 37, width.saturating_mul(4));
+        let copied = plane.copy_from_u8_slice(bytes.as_slice());
+        let above = (plane.pixel(0, 0), plane.pixel(15, 0));
+        let ends = (plane.pixel(0, 1), plane.pixels().next_back());
+        assert!(rt; copied.is_ok() && above == (Some(0x300B), Some(0x8661)));
+        assert!(rt; ends == (Some(below), Some(last)), "{width} pixels");
+        let words = stepped_words(&rt, rt.alloc(), 11, 37, width.saturating_mul(2));
+        assert!(rt; holds(&rt, rt.alloc(), &plane, layout, words.as_slice()));
     }
 }

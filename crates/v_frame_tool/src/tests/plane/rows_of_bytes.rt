@@ -1,19 +1,9 @@
 //! Rows of bytes, decoded into rows of pixels of each length around a step of sixteen.
 
+use crate::tests::support::bytes::{stepped, stepped_words};
 use std::alloc::Global;
 use std::process::Abort;
 use v_frame::pixel::Pixel;
-
-/// The bytes 11, 48 and on, each 37 more than the one before.
-fn bytes(rt: &impl Abort, alloc: Global, count: usize) -> Vec<u8> {
-    let mut bytes = Vec::new(alloc);
-    let mut byte = 11u8;
-    for _ in 0..count {
-        bytes.push(byte).expect(rt, "memory");
-        byte = byte.wrapping_add(37);
-    }
-    bytes
-}
 
 #[test]
 fn seventeen_words_come_from_their_bytes(rt: HostRuntime) {
@@ -27,23 +17,10 @@ fn seventeen_words_come_from_their_bytes(rt: HostRuntime) {
     assert!(rt; (first, before_last, last) == (0x0100, 0x1F1E, 0x2120));
 }
 
-/// The words of these bytes from the second on.
-fn words(rt: &impl Abort, alloc: Global, count: usize) -> Vec<u16> {
-    let mut words = Vec::new(alloc);
-    let mut low = 48u8;
-    for _ in 0..count {
-        let high = low.wrapping_add(37);
-        let word = u16::from_le_bytes([low, high]);
-        words.push(word).expect(rt, "memory");
-        low = high.wrapping_add(37);
-    }
-    words
-}
-
-/// Whether a row of so many words, decoded from the second of these bytes on, has their words, and what stands behind it is
-/// kept.
+/// Whether a row of so many words, decoded from the bytes 48, 85 and on behind one more, has their words, and what stands
+/// behind it is kept.
 fn is_decoded(rt: &impl Abort, alloc: Global, count: usize) -> bool {
-    let source = bytes(rt, alloc, 120);
+    let source = stepped(rt, alloc, 11, 37, 120);
     let mut row = [0xABCD; 50];
     let end = count.saturating_mul(2).saturating_add(1);
     let part = source.as_slice().get(1..end).expect(rt, "so many bytes");
@@ -53,7 +30,8 @@ fn is_decoded(rt: &impl Abort, alloc: Global, count: usize) -> bool {
     }
     u16::decode_row(front, part);
     let (decoded, behind) = row.split_at(count);
-    decoded == words(rt, alloc, count).as_slice() && behind.iter().all(|word| *word == 0xABCD)
+    decoded == stepped_words(rt, alloc, 48, 37, count).as_slice()
+        && behind.iter().all(|word| *word == 0xABCD)
 }
 
 #[test]

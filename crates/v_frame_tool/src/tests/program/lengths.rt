@@ -4,7 +4,8 @@ use crate::counted::Counted;
 use crate::fault::ToolFault;
 use crate::run::run;
 use crate::tests::support::errors::other_length;
-use crate::tests::support::watched::watched_writer;
+use crate::tests::support::watched::{WatchedWriter, watched_writer};
+use std::alloc::Global;
 
 /// The pixels 1 to 20.
 const TWENTY: [u8; 20] = [
@@ -14,42 +15,64 @@ const TWENTY: [u8; 20] = [
 /// What is printed of the first eight.
 const PRINTED: [u8; 31] = *b"plane 0: 4 x 2\n1 2 3 4\n5 6 7 8\n";
 
+/// What the program answers to so many pixels, its writer, and the failures.
+fn answered(
+    alloc: Global,
+    length: usize,
+    (most, failing): (usize, usize),
+) -> (Result<(), ToolFault>, WatchedWriter, u64) {
+    let mut out = Counted::new(watched_writer(alloc, most, failing));
+    let source = TWENTY.get(..length).unwrap_or(&[]);
+    let answer = run(alloc, &mut out, source);
+    let failures = out.failures();
+    (answer, out.into_inner(), failures)
+}
+
+/// Whether a writer has this text, and was called without an empty write and without a flush.
+fn has_only(writer: &WatchedWriter, text: &[u8]) -> bool {
+    let calls = (writer.empty_writes, writer.flushes);
+    calls == (0, 0) && writer.taken.as_slice() == text
+}
+
 #[test]
-fn eight_pixels_are_printed_and_no_other_number(rt: HostRuntime) {
+fn eight_pixels_are_printed(rt: HostRuntime) {
+    for most in [1, 2, 15, 30, 31, 32, 100] {
+        let (answer, writer, failures) = answered(rt.alloc(), 8, (most, 0));
+        assert!(rt; (answer, failures) == (Ok(()), 0), "{most} a call");
+        assert!(rt;
+            writer.writes > 0 && has_only(&writer, &PRINTED),
+            "{most} a call"
+        );
+    }
+}
+
+/// Whether so many pixels are refused, and nothing is written.
+fn is_refused(alloc: Global, length: usize) -> bool {
+    let (answer, writer, failures) = answered(alloc, length, (100, 0));
+    let refused = Err(ToolFault::Copy(other_length(8, length)));
+    (answer, writer.writes, failures) == (refused, 0, 0) && has_only(&writer, &[])
+}
+
+#[test]
+fn no_other_number_of_pixels_is_printed(rt: HostRuntime) {
     for length in 0..=20 {
-        let mut out = Counted::new(watched_writer(rt.alloc(), 100, 0));
-        let answer = run(rt.alloc(), &mut out, &TWENTY[..length]);
-        let taken = out.inner().taken.as_slice();
-        if length == 8 {
-            assert!(rt; answer == Ok(()) && taken == PRINTED.as_slice());
-        } else {
-            let refused = ToolFault::Copy(other_length(8, length));
-            assert!(rt;
-                answer == Err(refused) && taken.is_empty(),
-                "{length} pixels"
-            );
-            assert_eq!(rt; out.inner().writes, 0, "{length} pixels");
-        }
-        assert!(rt; out.inner().flushes == 0 && out.failures() == 0);
+        assert!(rt;
+            is_refused(rt.alloc(), length) != (length == 8),
+            "{length} pixels"
+        );
     }
 }
 
 #[test]
-fn no_write_is_empty_and_nothing_is_flushed(rt: HostRuntime) {
-    for most in [1, 2, 15, 30, 31, 32] {
-        let mut out = Counted::new(watched_writer(rt.alloc(), most, 0));
-        assert!(rt; run(rt.alloc(), &mut out, &TWENTY[..8]) == Ok(()));
-        assert!(rt; out.inner().taken.as_slice() == PRINTED.as_slice());
-        assert!(rt; out.inner().writes > 0 && out.failures() == 0);
+fn a_write_that_fails_is_the_last(rt: HostRuntime) {
+    for (failing, taken) in [(1, 0), (2, 1), (31, 30)] {
+        let (answer, writer, failures) = answered(rt.alloc(), 8, (1, failing));
+        let calls = (answer, writer.writes, failures);
         assert!(rt;
-            (out.inner().empty_writes, out.inner().flushes) == (0, 0),
-            "{most} a call"
+            calls == (Err(ToolFault::Output), failing, 1),
+            "call {failing}"
         );
-    }
-    for failing in [1, 2, 31] {
-        let mut out = Counted::new(watched_writer(rt.alloc(), 1, failing));
-        assert!(rt; run(rt.alloc(), &mut out, &TWENTY[..8]) == Err(ToolFault::Output));
-        assert!(rt; (out.inner().writes, out.failures()) == (failing, 1));
-        assert!(rt; (out.inner().empty_writes, out.inner().flushes) == (0, 0));
+        let text = PRINTED.get(..taken).expect(&rt, "a beginning");
+        assert!(rt; has_only(&writer, text), "call {failing}");
     }
 }

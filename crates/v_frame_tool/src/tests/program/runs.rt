@@ -70,20 +70,27 @@ fn a_hindered_write_is_answered_and_not_tried_again(rt: HostRuntime) {
     }
 }
 
+/// What `run` answers over a writer that takes one byte at each of so many calls and then fails, whether it took the
+/// beginning of the text that has so many bytes, and the failures.
+fn slowed(rt: &HostRuntime, calls: usize) -> (Result<(), ToolFault>, bool, u64) {
+    let mut out = Counted::new(slow_writer(calls, Habit::Fails));
+    let answer = run(rt.alloc(), &mut out, &EIGHT);
+    let taken = &out.inner().taken;
+    let front = taken.get_ref().get(..calls) == PRINTED.get(..calls);
+    (
+        answer,
+        front && taken.position() as usize == calls,
+        out.failures(),
+    )
+}
+
 #[test]
 fn a_slow_writer_gets_all_until_it_fails(rt: HostRuntime) {
-    for calls in 0..=PRINTED.len() {
-        let mut out = Counted::new(slow_writer(calls, Habit::Fails));
-        let answer = run(rt.alloc(), &mut out, &EIGHT);
-        let failed = calls < PRINTED.len();
-        let wanted = if failed {
-            Err(ToolFault::Output)
-        } else {
-            Ok(())
-        };
-        assert!(rt; (answer, out.failures()) == (wanted, u64::from(failed)));
-        let taken = &out.inner().taken;
-        assert_eq!(rt; taken.position() as usize, calls);
-        assert!(rt; taken.get_ref().get(..calls) == PRINTED.get(..calls));
+    for calls in 0..PRINTED.len() {
+        assert!(rt;
+            slowed(&rt, calls) == (Err(ToolFault::Output), true, 1),
+            "{calls} calls"
+        );
     }
+    assert!(rt; slowed(&rt, PRINTED.len()) == (Ok(()), true, 0));
 }

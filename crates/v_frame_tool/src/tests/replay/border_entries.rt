@@ -6,7 +6,11 @@ use crate::tests::support::frames::with_buffer;
 use v_frame::replay::{Answer, Side, VisibleCall};
 
 /// The pixels 1, 2 above 3, 4, with a column of zeros to their right, with a 9 in it, and with entries of its own.
-const BUFFERS: [[u8; 6]; 3] = [[1, 2, 0, 3, 4, 0], [1, 2, 9, 3, 4, 0], [1, 2, 102, 3, 4, 105]];
+const BUFFERS: [[u8; 6]; 3] = [
+    [1, 2, 0, 3, 4, 0],
+    [1, 2, 9, 3, 4, 0],
+    [1, 2, 102, 3, 4, 105],
+];
 
 #[test]
 fn frames_that_differ_in_one_border_entry_are_unequal(rt: HostRuntime) {
@@ -28,7 +32,7 @@ fn frames_that_differ_in_one_border_entry_give_the_same_pixels(rt: HostRuntime) 
 }
 
 #[test]
-fn frames_that_differ_in_one_border_entry_are_written_alike(rt: HostRuntime) {
+fn frames_that_differ_in_one_border_entry_are_written_the_same_way(rt: HostRuntime) {
     let calls = [
         VisibleCall::Row { plane: 0, y: 0 },
         VisibleCall::PixelMut {
@@ -44,7 +48,11 @@ fn frames_that_differ_in_one_border_entry_are_written_alike(rt: HostRuntime) {
         Answer::PixelShown(4),
         row_shown(&rt, rt.alloc(), &[3, 8]),
     ];
-    let after = [[1, 2, 0, 3, 8, 0], [1, 2, 9, 3, 8, 0], [1, 2, 102, 3, 8, 105]];
+    let after = [
+        [1, 2, 0, 3, 8, 0],
+        [1, 2, 9, 3, 8, 0],
+        [1, 2, 102, 3, 8, 105],
+    ];
     for (before, after) in BUFFERS.into_iter().zip(after) {
         let mut frame = with_buffer(&rt, rt.alloc(), &before);
         assert!(rt; answers_are(&rt, rt.alloc(), &mut frame, &calls, &wanted));

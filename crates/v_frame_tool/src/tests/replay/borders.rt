@@ -2,7 +2,7 @@
 //! outside.
 
 use crate::tests::support::answers::{answers_are, bytes_walked, pixels_walked, rows_walked};
-use crate::tests::support::buffers::{holds, number_entries};
+use crate::tests::support::buffers::number_entries;
 use crate::tests::support::calls::{bytes, pixel_draws, rows_mut, sequence};
 use crate::tests::support::errors::short_stride;
 use crate::tests::support::frames::{BARE, BORDERED, Layout, padded};
@@ -20,9 +20,6 @@ const BEFORE: [[u16; 6]; 3] = [[1, 2, 3, 4, 5, 6], [0; 6], [0; 6]];
 /// What they show after the calls.
 const AFTER: [[u16; 6]; 3] = [[1, 2, 3, 4, 50, 6], [0; 6], [7, 0, 0, 0, 0, 8]];
 
-/// The value of a border that holds one value.
-const BORDER: u16 = 43981;
-
 /// Fills a plane with one value, or numbers its entries.
 fn fill_or_number(rt: &impl Abort, plane: &mut Plane<u16>, value: Option<u16>) {
     match value {
@@ -31,16 +28,16 @@ fn fill_or_number(rt: &impl Abort, plane: &mut Plane<u16>, value: Option<u16>) {
     }
 }
 
-/// Three planes of words, which show what stands before the calls in borders of one value, or else numbered ones.
+/// Three planes of words, which show these pixels in borders of one value, or else numbered ones.
 fn framed(
     rt: &impl Abort,
     alloc: Global,
-    (width, height, padding): Layout,
-    border: Option<u16>,
+    ((width, height, padding), border): (Layout, Option<u16>),
+    shown: [[u16; 6]; 3],
 ) -> Frame<u16> {
     let builder = padded((width, height), Yuv444, 16, padding);
     let mut frame = builder.build::<u16>(alloc).expect(rt, "a frame");
-    for (index, pixels) in BEFORE.iter().enumerate() {
+    for (index, pixels) in shown.iter().enumerate() {
         let plane = frame.plane_mut(index).expect(rt, "a plane");
         fill_or_number(rt, plane, border);
         plane.copy_from_slice(pixels).expect(rt, "a copy");
@@ -108,38 +105,11 @@ fn answer_as_told(rt: &impl Abort, alloc: Global, frame: &mut Frame<u16>) -> boo
     answers_are(rt, alloc, frame, &calls, &answers)
 }
 
-/// The buffer of the layout `BORDERED` with one value in its border.
-fn in_one_value([a, b, c, d, e, f]: [u16; 6]) -> [u16; 18] {
-    let v = BORDER;
-    [v, v, v, v, v, v, v, a, b, c, v, v, v, d, e, f, v, v]
-}
-
 #[test]
-fn a_packed_frame_answers_the_mixed_calls(rt: HostRuntime) {
-    let mut frame = framed(&rt, rt.alloc(), BARE, None);
-    assert!(rt; answer_as_told(&rt, rt.alloc(), &mut frame));
-    for (index, pixels) in AFTER.iter().enumerate() {
-        let plane = frame.plane(index).expect(&rt, "a plane");
-        assert!(rt; plane.data() == pixels.as_slice());
-    }
-}
-
-#[test]
-fn a_border_of_one_value_is_kept_by_the_mixed_calls(rt: HostRuntime) {
-    let mut frame = framed(&rt, rt.alloc(), BORDERED, Some(BORDER));
-    assert!(rt; answer_as_told(&rt, rt.alloc(), &mut frame));
-    for (index, pixels) in AFTER.iter().enumerate() {
-        let plane = frame.plane(index).expect(&rt, "a plane");
-        assert!(rt; plane.data() == in_one_value(*pixels).as_slice());
-    }
-}
-
-#[test]
-fn a_numbered_border_is_kept_by_the_mixed_calls(rt: HostRuntime) {
-    let mut frame = framed(&rt, rt.alloc(), BORDERED, None);
-    assert!(rt; answer_as_told(&rt, rt.alloc(), &mut frame));
-    for (index, pixels) in AFTER.iter().enumerate() {
-        let plane = frame.plane(index).expect(&rt, "a plane");
-        assert!(rt; holds(&rt, rt.alloc(), plane, BORDERED, pixels));
+fn mixed_calls_are_answered_in_each_border_and_keep_it(rt: HostRuntime) {
+    for (layout, border) in [(BARE, None), (BORDERED, Some(43981)), (BORDERED, None)] {
+        let mut frame = framed(&rt, rt.alloc(), (layout, border), BEFORE);
+        assert!(rt; answer_as_told(&rt, rt.alloc(), &mut frame));
+        assert!(rt; frame == framed(&rt, rt.alloc(), (layout, border), AFTER));
     }
 }

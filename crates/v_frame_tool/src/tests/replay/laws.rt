@@ -14,7 +14,7 @@ use v_frame::laws;
 use v_frame::pixel::Pixel;
 use v_frame::replay::{Answer, Side, VisibleCall};
 
-/// What a frame answers that is built, filled from two rows of four bytes, each with a tail of one, and walked.
+/// What a frame answers that is built, filled from two rows of four bytes, each with a tail of one, and read byte by byte.
 fn through_a_frame<T: Pixel>(
     rt: &impl Abort,
     alloc: Global,
@@ -27,7 +27,7 @@ fn through_a_frame<T: Pixel>(
     laws::bytes_go_through_a_frame(alloc, builder, source, stride, sides)
 }
 
-/// The answers where the source is copied and walked from the front, a draw for each byte.
+/// The answers where the source is copied and read from the front, a call for each byte.
 fn without_tails<T>(rt: &impl Abort, alloc: Global) -> [Answer<T>; 2] {
     let drawn = [
         (Some(2), 7),
@@ -103,12 +103,12 @@ fn nine_answers(rt: &impl Abort, alloc: Global) -> [Answer<u8>; 9] {
 }
 
 #[test]
-fn alike_frames_answer_nine_calls_alike_and_keep_their_borders(rt: HostRuntime) {
+fn frames_that_show_the_same_answer_nine_calls_and_keep_their_borders(rt: HostRuntime) {
     let (above, around) = (BORDERED, (3, 2, [2, 0, 1, 3]));
     let mut first = one_to_six(&rt, rt.alloc(), above);
     let mut second = one_to_six(&rt, rt.alloc(), around);
     let calls = nine_calls(&rt, rt.alloc());
-    let both = laws::alike_frames_answer_alike(rt.alloc(), &mut first, &mut second, &calls);
+    let both = laws::same_tables_same_answers(rt.alloc(), &mut first, &mut second, &calls);
     let (left, right) = both.expect(&rt, "memory");
     let wanted = nine_answers(&rt, rt.alloc());
     assert!(rt; left.as_slice() == wanted.as_slice() && right.as_slice() == wanted.as_slice());

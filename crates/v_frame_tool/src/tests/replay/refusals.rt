@@ -48,7 +48,7 @@ fn a_stopped_replay_has_done_its_first_calls(rt: HostRuntime) {
 }
 
 #[test]
-fn a_stopped_walk_leaves_the_calls_in_front(rt: HostRuntime) {
+fn a_stopped_iteration_leaves_the_calls_in_front(rt: HostRuntime) {
     let calls = [
         rows(&rt, rt.alloc(), &[Side::Front]),
         copy(&rt, rt.alloc(), &[1, 2, 3, 4, 5, 6]),
@@ -89,7 +89,7 @@ fn a_replay_stopped_between_two_writes(rt: HostRuntime) {
 }
 
 #[test]
-fn a_stopped_writing_walk_has_written_nothing(rt: HostRuntime) {
+fn a_stopped_writing_iteration_has_written_nothing(rt: HostRuntime) {
     let mut frame = counted(&rt, rt.alloc(), BORDERED);
     let draws = [
         (Side::Back, [Some(7)].as_slice()),

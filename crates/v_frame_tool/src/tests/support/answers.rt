@@ -12,7 +12,7 @@ pub fn row_shown<T: Copy>(rt: &impl Abort, alloc: Global, row: &[T]) -> Answer<T
     Answer::RowShown(Some(sequence(rt, alloc, row)))
 }
 
-/// Items that were drawn, each with how many it left.
+/// Items that an iterator gave, each with how many it left.
 pub fn drawn<I: Copy>(
     rt: &impl Abort,
     alloc: Global,
@@ -29,7 +29,7 @@ pub fn drawn<I: Copy>(
     drawn.into()
 }
 
-/// Rows that were drawn, each with how many it left.
+/// Rows that an iterator gave, each with how many it left.
 pub fn drawn_rows<T: Copy>(
     rt: &impl Abort,
     alloc: Global,
@@ -47,7 +47,7 @@ pub fn drawn_rows<T: Copy>(
     drawn.into()
 }
 
-/// The answer of a walk over rows.
+/// The answer of an iteration over rows.
 pub fn rows_walked<T: Copy>(
     rt: &impl Abort,
     alloc: Global,
@@ -60,7 +60,7 @@ pub fn rows_walked<T: Copy>(
     }
 }
 
-/// The answer of a walk over pixels.
+/// The answer of an iteration over pixels.
 pub fn pixels_walked<T: Copy>(
     rt: &impl Abort,
     alloc: Global,
@@ -73,7 +73,7 @@ pub fn pixels_walked<T: Copy>(
     }
 }
 
-/// The answer of a walk over bytes.
+/// The answer of an iteration over bytes.
 pub fn bytes_walked<T>(
     rt: &impl Abort,
     alloc: Global,

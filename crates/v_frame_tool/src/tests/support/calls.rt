@@ -40,7 +40,7 @@ pub fn row_mut<T: Copy>(
     }
 }
 
-/// A walk over rows.
+/// An iteration over rows.
 pub fn rows<T>(rt: &impl Abort, alloc: Global, draws: &[Side]) -> VisibleCall<T> {
     VisibleCall::Rows {
         plane: 0,
@@ -48,7 +48,7 @@ pub fn rows<T>(rt: &impl Abort, alloc: Global, draws: &[Side]) -> VisibleCall<T>
     }
 }
 
-/// A walk over pixels.
+/// An iteration over pixels.
 pub fn pixels<T>(rt: &impl Abort, alloc: Global, draws: &[Side]) -> VisibleCall<T> {
     VisibleCall::Pixels {
         plane: 0,
@@ -56,7 +56,7 @@ pub fn pixels<T>(rt: &impl Abort, alloc: Global, draws: &[Side]) -> VisibleCall<
     }
 }
 
-/// A walk over bytes.
+/// An iteration over bytes.
 pub fn bytes<T>(rt: &impl Abort, alloc: Global, draws: &[Side]) -> VisibleCall<T> {
     VisibleCall::ByteData {
         plane: 0,
@@ -64,7 +64,7 @@ pub fn bytes<T>(rt: &impl Abort, alloc: Global, draws: &[Side]) -> VisibleCall<T
     }
 }
 
-/// What each draw of a row writes, as a list of draws.
+/// The list of calls on an iterator of lent rows, with what each writes.
 pub fn row_draws<T: Copy>(
     rt: &impl Abort,
     alloc: Global,
@@ -81,7 +81,7 @@ pub fn row_draws<T: Copy>(
     list.into()
 }
 
-/// What each draw of a pixel writes, as a list of draws.
+/// The list of calls on an iterator of lent pixels, with what each writes.
 pub fn pixel_draws<T: Copy>(
     rt: &impl Abort,
     alloc: Global,
@@ -98,7 +98,7 @@ pub fn pixel_draws<T: Copy>(
     list.into()
 }
 
-/// A walk that writes rows.
+/// An iteration that writes rows.
 pub fn rows_mut<T: Copy>(
     rt: &impl Abort,
     alloc: Global,
@@ -110,7 +110,7 @@ pub fn rows_mut<T: Copy>(
     }
 }
 
-/// A walk that writes pixels.
+/// An iteration that writes pixels.
 pub fn pixels_mut<T: Copy>(
     rt: &impl Abort,
     alloc: Global,

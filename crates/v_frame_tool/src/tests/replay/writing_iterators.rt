@@ -1,4 +1,4 @@
-//! Writing walks in lists of calls.
+//! Iterations that write, in lists of calls.
 
 use crate::tests::support::answers::{answers_are, pixels_walked, rows_walked};
 use crate::tests::support::buffers::{bordered_buffer, buffer_in_200, holds};
@@ -9,14 +9,14 @@ use std::process::Abort;
 use v_frame::frame::Frame;
 use v_frame::replay::Side;
 
-/// Draws of pixels, of which the first and the last write.
+/// Calls on an iterator of lent pixels, of which the first and the last write.
 const DRAWS: [(Side, Option<u8>); 3] = [
     (Side::Back, Some(9)),
     (Side::Front, None),
     (Side::Front, Some(7)),
 ];
 
-/// What they draw from the pixels 1 to 6.
+/// What they give of the pixels 1 to 6.
 const DRAWN: [(Option<u8>, usize); 3] = [(Some(6), 5), (Some(1), 4), (Some(2), 3)];
 
 /// What none, one, two and three of them leave.
@@ -32,7 +32,7 @@ fn front<T>(items: &[T], count: usize) -> &[T] {
     items.get(..count).unwrap_or(items)
 }
 
-/// Whether the first few draws, in a replay, give what they have to.
+/// Whether the first few of these calls, in a replay, give what they have to.
 fn gives(rt: &impl Abort, alloc: Global, frame: &mut Frame<u8>, count: usize) -> bool {
     let calls = [pixels_mut(rt, alloc, front(&DRAWS, count))];
     let wanted = [pixels_walked(rt, alloc, 6, front(&DRAWN, count))];
@@ -40,7 +40,7 @@ fn gives(rt: &impl Abort, alloc: Global, frame: &mut Frame<u8>, count: usize) ->
 }
 
 #[test]
-fn a_writing_walk_draw_by_draw(rt: HostRuntime) {
+fn pixels_are_written_call_by_call(rt: HostRuntime) {
     for (count, pixels) in LEFT.into_iter().enumerate() {
         let mut plain = counted(&rt, rt.alloc(), BARE);
         assert!(rt; gives(&rt, rt.alloc(), &mut plain, count));

@@ -1,4 +1,4 @@
-//! Walks over bytes in lists of calls.
+//! Iterations over bytes in lists of calls.
 
 use crate::tests::support::answers::{answers_are, bytes_walked};
 use crate::tests::support::calls::{bytes, sequence};
@@ -14,7 +14,7 @@ fn word_row(rt: &impl Abort, alloc: Global, pixels: &[u16]) -> Frame<u16> {
 }
 
 #[test]
-fn a_word_is_drawn_from_both_ends(rt: HostRuntime) {
+fn a_word_is_read_from_both_ends(rt: HostRuntime) {
     let mut frame = word_row(&rt, rt.alloc(), &[0x0102]);
     let calls = [
         bytes(&rt, rt.alloc(), &[Side::Front, Side::Back, Side::Front]),
@@ -31,7 +31,7 @@ fn a_word_is_drawn_from_both_ends(rt: HostRuntime) {
 }
 
 #[test]
-fn two_words_are_drawn_past_the_end(rt: HostRuntime) {
+fn two_words_are_read_past_the_end(rt: HostRuntime) {
     use Side::{Back, Front};
     let mut frame = word_row(&rt, rt.alloc(), &[0x0102, 0x0304]);
     let calls = [bytes(&rt, rt.alloc(), &[Front, Back, Front, Back, Back])];

@@ -1,4 +1,4 @@
-//! Draws from the walks of a plane by their laws, past the last item.
+//! Calls of `next` and `next_back` on the iterators of a plane, by their laws, past the last item.
 
 use crate::tests::support::answers::{drawn, drawn_rows};
 use crate::tests::support::buffers::holds;
@@ -9,7 +9,7 @@ use v_frame::replay::Side::{self, Back, Front};
 /// Two columns and five rows.
 const TALL: Layout = (2, 5, [1, 2, 1, 1]);
 
-/// Two draws more than there are rows.
+/// The sides of two calls more than there are rows.
 const ROW_SIDES: [Side; 7] = [Back, Front, Front, Back, Back, Front, Back];
 
 /// What they give of the rows 1, 2 to 9, 10.
@@ -23,7 +23,7 @@ const ROWS: [(Option<&[u8]>, usize); 7] = [
     (None, 0),
 ];
 
-/// Two draws more than there are pixels.
+/// The sides of two calls more than there are pixels.
 const PIXEL_SIDES: [Side; 12] = [
     Front, Back, Back, Front, Front, Back, Front, Back, Back, Front, Front, Back,
 ];
@@ -45,14 +45,14 @@ const PIXELS: [(Option<u8>, usize); 12] = [
 ];
 
 #[test]
-fn rows_are_drawn_past_the_last(rt: HostRuntime) {
+fn rows_end_past_the_last(rt: HostRuntime) {
     let plane = counted(&rt, rt.alloc(), TALL).y_plane;
     let given = laws::rows_are_drawn_once(rt.alloc(), &plane, &ROW_SIDES).expect(&rt, "memory");
     assert!(rt; given.as_slice() == drawn_rows(&rt, rt.alloc(), &ROWS).as_slice());
 }
 
 #[test]
-fn pixels_are_drawn_past_the_last(rt: HostRuntime) {
+fn pixels_end_past_the_last(rt: HostRuntime) {
     let plane = counted(&rt, rt.alloc(), TALL).y_plane;
     let given = laws::pixels_are_drawn_once(rt.alloc(), &plane, &PIXEL_SIDES);
     let given = given.expect(&rt, "memory");
@@ -60,7 +60,7 @@ fn pixels_are_drawn_past_the_last(rt: HostRuntime) {
 }
 
 #[test]
-fn lent_rows_are_drawn_past_the_last(rt: HostRuntime) {
+fn lent_rows_end_past_the_last(rt: HostRuntime) {
     let mut plane = counted(&rt, rt.alloc(), TALL).y_plane;
     let given = laws::lent_rows_are_drawn_once(rt.alloc(), &mut plane, &ROW_SIDES);
     let given = given.expect(&rt, "memory");
@@ -70,7 +70,7 @@ fn lent_rows_are_drawn_past_the_last(rt: HostRuntime) {
 }
 
 #[test]
-fn lent_pixels_are_drawn_past_the_last(rt: HostRuntime) {
+fn lent_pixels_end_past_the_last(rt: HostRuntime) {
     let mut plane = counted(&rt, rt.alloc(), TALL).y_plane;
     let given = laws::lent_pixels_are_drawn_once(rt.alloc(), &mut plane, &PIXEL_SIDES);
     let given = given.expect(&rt, "memory");
@@ -79,7 +79,7 @@ fn lent_pixels_are_drawn_past_the_last(rt: HostRuntime) {
     assert!(rt; holds(&rt, rt.alloc(), &plane, TALL, &pixels));
 }
 
-/// Two draws more than six words have bytes.
+/// The sides of two calls more than six words have bytes.
 const BYTE_SIDES: [Side; 14] = [
     Back, Back, Back, Front, Front, Front, Back, Front, Back, Front, Back, Front, Front, Back,
 ];
@@ -103,7 +103,7 @@ const BYTES: [(Option<u8>, usize); 14] = [
 ];
 
 #[test]
-fn bytes_are_drawn_past_the_last(rt: HostRuntime) {
+fn bytes_end_past_the_last(rt: HostRuntime) {
     let words = [0x0102, 0x0304, 0x0506, 0x0708, 0x090A, 0x0B0C];
     let plane = showing::<u16>(&rt, rt.alloc(), (3, 2, [1, 0, 0, 1]), &words).y_plane;
     let given = laws::bytes_are_drawn_once(rt.alloc(), &plane, &BYTE_SIDES).expect(&rt, "memory");

@@ -1,4 +1,4 @@
-//! Walks over the bytes of planes.
+//! Iterators over the bytes of planes.
 
 use crate::tests::support::frames::{counted, numbered, showing};
 use crate::tests::support::texts::shows;
@@ -13,7 +13,7 @@ fn four_words(rt: &impl Abort, alloc: Global, padding: [usize; 4]) -> Plane<u16>
     showing(rt, alloc, (2, 2, padding), &pixels).y_plane
 }
 
-/// All bytes, as a loop draws them.
+/// All bytes, as a loop gives them.
 fn looped(rt: &impl Abort, alloc: Global, plane: &Plane<u16>) -> Vec<u8> {
     let mut bytes = Vec::new(alloc);
     for byte in plane.byte_data() {
@@ -31,7 +31,7 @@ fn low_bytes_come_first(rt: HostRuntime) {
     }
 }
 
-/// Four draws by turns, from the front first.
+/// Two calls of `next` and two of `next_back` by turns.
 fn by_turns<T: Pixel>(bytes: &mut ByteData<'_, T>) -> [Option<u8>; 4] {
     [
         bytes.next(),
@@ -42,7 +42,7 @@ fn by_turns<T: Pixel>(bytes: &mut ByteData<'_, T>) -> [Option<u8>; 4] {
 }
 
 #[test]
-fn bytes_are_drawn_by_turns(rt: HostRuntime) {
+fn bytes_come_by_turns(rt: HostRuntime) {
     let plane = counted(&rt, rt.alloc(), (2, 2, [0, 0, 0, 0])).y_plane;
     let mut bytes = plane.byte_data();
     assert!(rt; by_turns(&mut bytes) == [Some(1), Some(4), Some(2), Some(3)]);
@@ -52,12 +52,12 @@ fn bytes_are_drawn_by_turns(rt: HostRuntime) {
     assert!(rt; by_turns(&mut bytes) == [Some(4), Some(5), Some(3), Some(6)]);
 }
 
-/// A draw from each end, the front first.
+/// What `next` gives, and then `next_back`.
 fn ends(bytes: &mut ByteData<'_, u16>) -> (Option<u8>, Option<u8>) {
     (bytes.next(), bytes.next_back())
 }
 
-/// How many bytes a walk tells and gives, the first one, and how many are left after it.
+/// How many bytes an iterator tells and gives, the first one, and how many are left after it.
 fn counts<T: Pixel>(plane: &Plane<T>) -> ([usize; 3], Option<u8>) {
     let mut bytes = plane.byte_data();
     let (length, first) = (bytes.len(), bytes.next());
@@ -74,7 +74,7 @@ fn bytes_are_counted(rt: HostRuntime) {
 }
 
 #[test]
-fn a_walk_over_bytes_is_cloned_and_shown(rt: HostRuntime) {
+fn an_iterator_over_bytes_is_cloned_and_shown(rt: HostRuntime) {
     let plane = four_words(&rt, rt.alloc(), [1, 2, 1, 1]);
     let mut bytes = plane.byte_data();
     assert!(rt; ends(&mut bytes) == (Some(2), Some(7)));

@@ -1,4 +1,4 @@
-//! Walks over planes, by rows and by pixels.
+//! Iterators over planes, by rows and by pixels.
 
 use crate::tests::support::frames::{BORDERED_ALL_ROUND, counted};
 use crate::tests::support::reads::three_of;
@@ -13,34 +13,34 @@ fn bordered(rt: &impl Abort, alloc: Global) -> Plane<u8> {
 
 /// All pixels by turns, from the front first.
 fn by_turns(rt: &impl Abort, alloc: Global, mut pixels: Pixels<'_, u8>) -> Vec<u8> {
-    let mut drawn = Vec::new(alloc);
+    let mut given = Vec::new(alloc);
     let mut from_front = true;
-    for _draw in 0..pixels.len() {
+    for _call in 0..pixels.len() {
         let pixel = if from_front {
             pixels.next()
         } else {
             pixels.next_back()
         };
-        drawn.push(pixel.unwrap_or(0)).expect(rt, "memory");
+        given.push(pixel.unwrap_or(0)).expect(rt, "memory");
         from_front = !from_front;
     }
-    drawn
+    given
 }
 
 /// All pixels of a plane from the front, then from the back, then by turns.
 fn three_ways(rt: &impl Abort, alloc: Global, plane: &Plane<u8>) -> Vec<u8> {
-    let mut drawn = Vec::new(alloc);
+    let mut given = Vec::new(alloc);
     for pixel in plane.pixels() {
-        drawn.push(pixel).expect(rt, "memory");
+        given.push(pixel).expect(rt, "memory");
     }
     for pixel in plane.pixels().rev() {
-        drawn.push(pixel).expect(rt, "memory");
+        given.push(pixel).expect(rt, "memory");
     }
     let turns = by_turns(rt, alloc, plane.pixels());
-    drawn
+    given
         .extend_from_slice(turns.as_slice())
         .expect(rt, "memory");
-    drawn
+    given
 }
 
 #[test]
@@ -63,18 +63,18 @@ fn pixels_come_row_after_row_from_both_ends(rt: HostRuntime) {
     ];
     for (width, height, padding, wanted) in cases {
         let plane = counted(&rt, rt.alloc(), (width, height, padding)).y_plane;
-        let drawn = three_ways(&rt, rt.alloc(), &plane);
-        assert!(rt; (plane.rows().len(), drawn.as_slice()) == (height, wanted));
+        let given = three_ways(&rt, rt.alloc(), &plane);
+        assert!(rt; (plane.rows().len(), given.as_slice()) == (height, wanted));
     }
 }
 
-/// A draw from each end, the front first.
+/// What `next` gives, and then `next_back`.
 fn ends(pixels: &mut Pixels<'_, u8>) -> (Option<u8>, Option<u8>) {
     (pixels.next(), pixels.next_back())
 }
 
 #[test]
-fn a_walk_is_cloned_with_what_is_left(rt: HostRuntime) {
+fn an_iterator_is_cloned_with_what_is_left(rt: HostRuntime) {
     let plane = bordered(&rt, rt.alloc());
     let mut pixels = plane.pixels();
     assert!(rt; ends(&mut pixels) == (Some(1), Some(6)));
@@ -84,7 +84,7 @@ fn a_walk_is_cloned_with_what_is_left(rt: HostRuntime) {
     assert!(rt; left.as_slice() == [2, 3, 4, 5].as_slice());
 }
 
-/// The first row, the last one as a copy of the walk then gives it, and how many the walk itself has left.
+/// The first row, the last one as a copy of the iterator then gives it, and how many the iterator itself has left.
 fn cloned(rt: &impl Abort, mut rows: Rows<'_, u8>) -> (Option<[u8; 3]>, Option<[u8; 3]>, usize) {
     let first = three_of(rows.next());
     let mut copy = rows.clone().expect(rt, "memory");
@@ -92,7 +92,7 @@ fn cloned(rt: &impl Abort, mut rows: Rows<'_, u8>) -> (Option<[u8; 3]>, Option<[
 }
 
 #[test]
-fn a_walk_over_rows_is_cloned(rt: HostRuntime) {
+fn an_iterator_over_rows_is_cloned(rt: HostRuntime) {
     let plane = bordered(&rt, rt.alloc());
     assert!(rt; cloned(&rt, plane.rows()) == (Some([1, 2, 3]), Some([4, 5, 6]), 1));
 }

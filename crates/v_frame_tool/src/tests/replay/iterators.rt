@@ -1,4 +1,4 @@
-//! Walks over rows and over pixels in lists of calls.
+//! Iterations over rows and over pixels in lists of calls.
 
 use crate::tests::support::answers::{answers_are, pixels_walked, rows_walked};
 use crate::tests::support::calls::{pixels, rows};
@@ -6,7 +6,7 @@ use crate::tests::support::frames::{BARE, BORDERED, counted};
 use v_frame::replay::{Answer, Side, VisibleCall};
 
 #[test]
-fn pixels_are_drawn_past_the_end(rt: HostRuntime) {
+fn pixels_are_read_past_the_end(rt: HostRuntime) {
     use Side::{Back, Front};
     let draws = [Front, Back, Back, Back, Front, Front, Back];
     let items = [
@@ -27,7 +27,7 @@ fn pixels_are_drawn_past_the_end(rt: HostRuntime) {
 }
 
 #[test]
-fn rows_are_drawn_past_the_end(rt: HostRuntime) {
+fn rows_are_read_past_the_end(rt: HostRuntime) {
     let calls = [rows(&rt, rt.alloc(), &[Side::Back, Side::Front, Side::Back])];
     let drawn = [
         (Some([4, 5, 6].as_slice()), 1),
@@ -42,7 +42,7 @@ fn rows_are_drawn_past_the_end(rt: HostRuntime) {
 }
 
 #[test]
-fn a_walk_without_draws_tells_its_length(rt: HostRuntime) {
+fn an_iteration_without_calls_tells_its_length(rt: HostRuntime) {
     let mut frame = counted(&rt, rt.alloc(), BARE);
     let calls = [
         VisibleCall::Width { plane: 0 },

@@ -1,4 +1,4 @@
-//! Walks over planes, by rows and by pixels.
+//! Iterators over planes, by rows and by pixels.
 
 use crate::tests::support::frames::{BORDERED_ALL_ROUND, counted, zeros};
 use crate::tests::support::texts::shows;
@@ -11,12 +11,12 @@ fn bordered(rt: &impl Abort, alloc: Global) -> Plane<u8> {
     counted(rt, alloc, BORDERED_ALL_ROUND).y_plane
 }
 
-/// A draw from each end, the front first.
+/// What `next` gives, and then `next_back`.
 fn ends(pixels: &mut Pixels<'_, u8>) -> (Option<u8>, Option<u8>) {
     (pixels.next(), pixels.next_back())
 }
 
-/// How many rows and pixels a plane has, as its walks tell and as they are counted.
+/// How many rows and pixels a plane has, as its iterators tell and as they are counted.
 fn lengths(plane: &Plane<u8>) -> [usize; 4] {
     [
         plane.rows().len(),
@@ -33,13 +33,13 @@ fn lengths_at(rt: &impl Abort, alloc: Global, width: usize, height: usize) -> [u
 }
 
 #[test]
-fn walks_are_as_long_as_the_plane(rt: HostRuntime) {
+fn iterators_are_as_long_as_the_plane(rt: HostRuntime) {
     assert!(rt; lengths_at(&rt, rt.alloc(), 10, 5) == [5, 5, 50, 50]);
     assert!(rt; lengths_at(&rt, rt.alloc(), 1920, 1080) == [1080, 1080, 2073600, 2073600]);
 }
 
 #[test]
-fn a_walk_shows_what_is_left(rt: HostRuntime) {
+fn an_iterator_shows_what_is_left(rt: HostRuntime) {
     let plane = bordered(&rt, rt.alloc());
     assert!(rt; shows(&rt, rt.alloc(), &plane.rows(), "[[1, 2, 3], [4, 5, 6]]"));
     let mut pixels = plane.pixels();

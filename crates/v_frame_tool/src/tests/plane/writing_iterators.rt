@@ -1,7 +1,7 @@
-//! Walks that lend rows and pixels of a plane for writing.
+//! Iterators that lend rows and pixels of a plane for writing.
 
-use crate::tests::support::buffers::{buffer_in_200, holds};
-use crate::tests::support::frames::{BARE, in_200, numbered, zeros};
+use crate::tests::support::buffers::{bordered_buffer, buffer_in_200, holds};
+use crate::tests::support::frames::{BARE, BORDERED, counted, in_200, numbered, zeros};
 use crate::tests::support::reads::three_of;
 use v_frame::plane::Plane;
 
@@ -29,8 +29,8 @@ fn count_up(plane: &mut Plane<u8>) {
     }
 }
 
-/// Three draws, of which the first and the last replace their pixel, and the bounds of what is left.
-fn draw_by_draw(plane: &mut Plane<u8>) -> ([(Option<u8>, usize); 3], (usize, Option<usize>)) {
+/// Three calls, of which the first and the last replace their pixel, and the bounds of what is left.
+fn call_by_call(plane: &mut Plane<u8>) -> ([(Option<u8>, usize); 3], (usize, Option<usize>)) {
     let mut pixels = plane.pixels_mut();
     let first = (replace(pixels.next_back(), 9), pixels.len());
     let second = (pixels.next().copied(), pixels.len());
@@ -38,16 +38,20 @@ fn draw_by_draw(plane: &mut Plane<u8>) -> ([(Option<u8>, usize); 3], (usize, Opt
     ([first, second, third], pixels.size_hint())
 }
 
-/// Whether these draws give the last, the first and the second pixel of six.
+/// Whether these calls give the last, the first and the second pixel of six.
 fn gives_its_pixels(plane: &mut Plane<u8>) -> bool {
-    draw_by_draw(plane) == ([(Some(6), 5), (Some(1), 4), (Some(2), 3)], (3, Some(3)))
+    call_by_call(plane) == ([(Some(6), 5), (Some(1), 4), (Some(2), 3)], (3, Some(3)))
 }
 
 #[test]
-fn a_padded_plane_is_written_draw_by_draw(rt: HostRuntime) {
+fn a_padded_plane_is_written_call_by_call(rt: HostRuntime) {
+    let written = [1, 7, 3, 4, 5, 9];
     let mut plane = in_200(&rt, rt.alloc()).y_plane;
     assert!(rt; gives_its_pixels(&mut plane));
-    assert!(rt; plane.data() == buffer_in_200([1, 7, 3, 4, 5, 9]).as_slice());
+    assert!(rt; plane.data() == buffer_in_200(written).as_slice());
+    let mut numbered = counted(&rt, rt.alloc(), BORDERED).y_plane;
+    assert!(rt; gives_its_pixels(&mut numbered));
+    assert!(rt; numbered.data() == bordered_buffer(written).as_slice());
 }
 
 #[test]
@@ -68,7 +72,7 @@ fn filled_pixels_are_read_back(rt: HostRuntime) {
     }
 }
 
-/// Six draws by turns, of which the last is from the front too, and then one from each side.
+/// Six calls by turns, of which the last is of `next` too, and then one of each.
 fn from_both_ends(plane: &Plane<u8>) -> [(Option<u8>, Option<u8>); 4] {
     let mut pixels = plane.pixels();
     let outer = (pixels.next(), pixels.next_back());
@@ -111,13 +115,17 @@ fn rows_from_both_ends(plane: &Plane<u8>) -> [Option<[u8; 3]>; 3] {
 
 #[test]
 fn rows_are_filled_from_both_ends(rt: HostRuntime) {
-    let mut plane = zeros(&rt, rt.alloc(), (3, 3, [0, 0, 0, 0])).y_plane;
-    assert!(rt; fill_three_rows(&mut plane) == (3, (3, Some(3)), 1));
-    assert!(rt; plane.data() == [1, 1, 1, 2, 2, 2, 3, 3, 3].as_slice());
-    assert!(rt; rows_from_both_ends(&plane) == [Some([1; 3]), Some([3; 3]), Some([2; 3])]);
+    let filled = [1, 1, 1, 2, 2, 2, 3, 3, 3];
+    for padding in [[0, 0, 0, 0], [1, 2, 1, 1]] {
+        let layout = (3, 3, padding);
+        let mut plane = numbered(&rt, rt.alloc(), layout).y_plane;
+        assert!(rt; fill_three_rows(&mut plane) == (3, (3, Some(3)), 1));
+        assert!(rt; holds(&rt, rt.alloc(), &plane, layout, &filled));
+        assert!(rt; rows_from_both_ends(&plane) == [Some([1; 3]), Some([3; 3]), Some([2; 3])]);
+    }
 }
 
-/// What four pixels held, the last of them drawn second, which are replaced.
+/// What four pixels held, the last of them taken second, which are replaced.
 fn fill_four_pixels(plane: &mut Plane<u8>) -> [Option<u8>; 4] {
     let mut pixels = plane.pixels_mut();
     let first = replace(pixels.next(), 10);

@@ -1,0 +1,4 @@
+//! Raw video: frames of any size, and why a read or a write failed.
+
+mod failures;
+mod sizes;

@@ -1,0 +1,142 @@
+//! YUV4MPEG2 streams: headers as ffmpeg writes them, the text of each refusal, and streams that are copied or cut off.
+
+use std::alloc::Global;
+use std::io::{self, ErrorKind, Read};
+use std::process::Abort;
+use v_frame_planar::{Counted, PlanarError};
+use v_frame_uses::y4m::{copy_frame, copy_header};
+use v_frame_y4m::{Y4mError, header_line, parse_header, read_frame, read_header};
+
+/// Lines that ffmpeg wrote.
+const LINES: [&str; 6] = [
+    "YUV4MPEG2 W35 H27 F25:1 Ip A36:35 C420jpeg XYSCSS=420JPEG XCOLORRANGE=LIMITED",
+    "YUV4MPEG2 W36 H28 F30000:1001 Ip A10:11 C420mpeg2 XYSCSS=420MPEG2 XCOLORRANGE=LIMITED",
+    "YUV4MPEG2 W35 H27 F24000:1001 Ip A36:35 C420p10 XYSCSS=420P10 XCOLORRANGE=LIMITED",
+    "YUV4MPEG2 W35 H27 F25:1 Ip A36:35 C411 XYSCSS=411 XCOLORRANGE=LIMITED",
+    "YUV4MPEG2 W35 H12 F50:1 Ip A8:9 C444p16 XYSCSS=444P16 XCOLORRANGE=LIMITED",
+    "YUV4MPEG2 W37 H15 F25:1 Ip A20:21 Cmono10 XCOLORRANGE=FULL",
+];
+
+/// What is written for what a line says.
+fn written_back(rt: &impl Abort, alloc: Global, line: &str) -> Vec<u8> {
+    let header = parse_header(alloc, line.as_bytes()).expect(rt, "a header");
+    header_line(alloc, &header).expect(rt, "memory")
+}
+
+#[test]
+fn headers_of_ffmpeg_come_back(rt: HostRuntime) {
+    for line in LINES {
+        assert!(rt; written_back(&rt, rt.alloc(), line).as_slice() == line.as_bytes());
+    }
+}
+
+#[test]
+fn parameters_are_put_in_order(rt: HostRuntime) {
+    let written = written_back(&rt, rt.alloc(), "YUV4MPEG2 X1 C422 H12 Xb Im W35");
+    assert!(rt; written.as_slice() == b"YUV4MPEG2 W35 H12 Im C422 X1 Xb".as_slice());
+}
+
+/// Lines that are refused, and the message of each.
+const REFUSED: [(&str, &str); 11] = [
+    ("YUV4MPEG", "not a YUV4MPEG2 stream"),
+    ("YUV4MPEG2 W35", "parameter H is missing"),
+    ("YUV4MPEG2 W35 H12 W35", "parameter W stands twice"),
+    ("YUV4MPEG2 W35  H12", "malformed parameter ``"),
+    ("YUV4MPEG2 W35 H12 Q1", "malformed parameter `Q1`"),
+    ("YUV4MPEG2 W03 H12", "malformed parameter `W03`"),
+    ("YUV4MPEG2 W35 H12 F25", "malformed parameter `F25`"),
+    ("YUV4MPEG2 W35 H12 Ix", "malformed parameter `Ix`"),
+    ("YUV4MPEG2 W35 H0", "parameter H is 0"),
+    (
+        "YUV4MPEG2 W18446744073709551616 H12",
+        "size too large `W18446744073709551616`",
+    ),
+    ("YUV4MPEG2 W36 H14 C444alpha", "unknown colour `C444alpha`"),
+];
+
+#[test]
+fn refusals_say_why(rt: HostRuntime) {
+    for (line, message) in REFUSED {
+        let told = match parse_header(rt.alloc(), line.as_bytes()) {
+            Ok(_) => String::new(rt.alloc()),
+            Err(error) => error.to_string(rt.alloc()).expect(&rt, "memory"),
+        };
+        assert!(rt; told.as_str() == message);
+    }
+}
+
+/// A stream of two frames of 30 by 1 pixels.
+const STREAM: &[u8] = b"YUV4MPEG2 W30 H1 C420jpeg\nFRAME\n\
+abcdefghijklmnopqrstuvwxyz0123ABCDEFGHIJKLMNOPQRSTUVWXYZ4567FRAME Ip\n\
+7654ZYXWVUTSRQPONMLKJIHGFEDCBA3210zyxwvutsrqponmlkjihgfedcba";
+
+#[test]
+fn a_stream_is_copied(rt: HostRuntime) {
+    let mut reader = Counted::new(STREAM);
+    let mut writer = Counted::new(Vec::new(rt.alloc()));
+    let header = copy_header(rt.alloc(), &mut reader, &mut writer).expect(&rt, "a header");
+    let mut frame = header.frame::<u8>(rt.alloc(), 0).expect(&rt, "memory");
+    for more in [true, true, false] {
+        let copied = copy_frame(rt.alloc(), &mut reader, &mut writer, &mut frame);
+        assert!(rt; copied == Ok(more));
+    }
+    let wanted = b"YUV4MPEG2 W30 H1 C420jpeg\nFRAME\n\
+abcdefghijklmnopqrstuvwxyz0123ABCDEFGHIJKLMNOPQRSTUVWXYZ4567FRAME\n\
+7654ZYXWVUTSRQPONMLKJIHGFEDCBA3210zyxwvutsrqponmlkjihgfedcba";
+    assert!(rt; writer.into_inner().as_slice() == wanted.as_slice());
+}
+
+/// What the second of two frames answers where a stream has so many bytes.
+fn second_frame(rt: &impl Abort, alloc: Global, length: usize) -> Result<bool, Y4mError> {
+    let mut reader = Counted::new(&STREAM[..length.min(STREAM.len())]);
+    let header = read_header(alloc, &mut reader).expect(rt, "a header");
+    let mut frame = header.frame::<u8>(alloc, 0).expect(rt, "memory");
+    read_frame(alloc, &mut reader, &mut frame).expect(rt, "a frame");
+    read_frame(alloc, &mut reader, &mut frame)
+}
+
+#[test]
+fn streams_that_are_cut_off_say_where(rt: HostRuntime) {
+    let truncated = |found| Err(Y4mError::Planar(PlanarError::Truncated {
+        expected: 60,
+        found,
+    }));
+    assert!(rt; second_frame(&rt, rt.alloc(), 92) == Ok(false));
+    assert!(rt; second_frame(&rt, rt.alloc(), 94) == Err(Y4mError::UnfinishedLine));
+    assert!(rt; second_frame(&rt, rt.alloc(), 101) == truncated(0));
+    assert!(rt; second_frame(&rt, rt.alloc(), 103) == truncated(2));
+}
+
+/// A reader that gives one byte of a source at each call, and fails after as many calls.
+#[derive(Drop)]
+struct ByteByByte<'a> {
+    left: &'a [u8],
+    calls: usize,
+}
+
+impl Read for ByteByByte<'_> {
+    fn read(&mut self, buf: &mut [u8]) -> io::Result<usize> {
+        if self.calls == 0 {
+            return Err(io::Error::from(ErrorKind::BrokenPipe));
+        }
+        self.calls -= 1;
+        let count = 1.min(buf.len()).min(self.left.len());
+        let (first, rest) = self.left.split_at(count);
+        buf[..count].copy_from_slice(first);
+        self.left = rest;
+        Ok(count)
+    }
+}
+
+#[test]
+fn streams_come_byte_by_byte(rt: HostRuntime) {
+    let left = STREAM;
+    let mut reader = Counted::new(ByteByByte { left, calls: 100 });
+    let header = read_header(rt.alloc(), &mut reader).expect(&rt, "a header");
+    let mut frame = header.frame::<u8>(rt.alloc(), 0).expect(&rt, "memory");
+    assert!(rt; read_frame(rt.alloc(), &mut reader, &mut frame) == Ok(true));
+    assert!(rt; frame.y_plane.row(0) == Some(b"abcdefghijklmnopqrstuvwxyz0123".as_slice()));
+    let failed = Err(Y4mError::Planar(PlanarError::Read));
+    assert!(rt; read_frame(rt.alloc(), &mut reader, &mut frame) == failed);
+    assert!(rt; reader.last_failure() == Some(ErrorKind::BrokenPipe));
+}
