@@ -1,0 +1,244 @@
+-- Where each colour stands among those that a parameter says, and that no two are spelled alike.
+use Rattle.std.proofs.Common.{ℕ, ◌≡◌, ◌≢◌, ◌+◌, ◌<◌, ◌≤◌, List, [], ◌∷◌, drop, get_or, cond, refl, sym, ◌∙◌, ap, subst, rules, arith, lit<}
+use Rattle.std.specs.Prelude.{Option, Some, None, unwrap_or}
+use Rattle.std.specs.Str.{bytes_eq}
+use Rattle.std.specs.List.{AllByRecursion}
+use Rattle.std.proofs.lemmas.List.Elements.{All-from_recursion}
+use Rattle.v_frame_y4m.specs.Colour.{colour_text, stated}
+use Rattle.v_frame_y4m.specs.Header.{parameter_of}
+use Rattle.v_frame_y4m.specs.declared.colour.TheConstants.{STATED}
+use Rattle.v_frame_y4m.specs.declared.colour.Depth.TheVariants.{Nine, Ten, Twelve, Fourteen, Sixteen}
+use Rattle.v_frame_y4m.specs.declared.colour.Colour.{Colour}
+use Rattle.v_frame_y4m.specs.declared.colour.Colour.TheVariants.{Unstated, Yuv420, Yuv420Jpeg, Yuv420Mpeg2, Yuv420Paldv, Yuv411, Yuv422, Yuv444, Mono}
+use Rattle.v_frame_y4m.specs.declared.colour.Colour.TheVariants.{Yuv420Deep, Yuv422Deep, Yuv444Deep, MonoDeep}
+
+abbrev pub rank : Colour → ℕ
+rank Unstated = 28
+rank Yuv420 = 0
+rank Yuv420Jpeg = 1
+rank Yuv420Mpeg2 = 2
+rank Yuv420Paldv = 3
+rank Yuv411 = 4
+rank Yuv422 = 5
+rank Yuv444 = 6
+rank Mono = 7
+rank (Yuv420Deep Nine) = 8
+rank (Yuv420Deep Ten) = 9
+rank (Yuv420Deep Twelve) = 10
+rank (Yuv420Deep Fourteen) = 11
+rank (Yuv420Deep Sixteen) = 12
+rank (Yuv422Deep Nine) = 13
+rank (Yuv422Deep Ten) = 14
+rank (Yuv422Deep Twelve) = 15
+rank (Yuv422Deep Fourteen) = 16
+rank (Yuv422Deep Sixteen) = 17
+rank (Yuv444Deep Nine) = 18
+rank (Yuv444Deep Ten) = 19
+rank (Yuv444Deep Twelve) = 20
+rank (Yuv444Deep Fourteen) = 21
+rank (Yuv444Deep Sixteen) = 22
+rank (MonoDeep Nine) = 23
+rank (MonoDeep Ten) = 24
+rank (MonoDeep Twelve) = 25
+rank (MonoDeep Fourteen) = 26
+rank (MonoDeep Sixteen) = 27
+
+none_is_not_some : (c : Colour) → None ≡ Some c → ⊥
+none_is_not_some c is = search rules
+
+pub ranked : (c w : Colour) → stated c ≡ Some c → get_or STATED (rank c) w ≡ c
+ranked Unstated w is = absurd (none_is_not_some Unstated is)
+ranked Yuv420 w is = refl
+ranked Yuv420Jpeg w is = refl
+ranked Yuv420Mpeg2 w is = refl
+ranked Yuv420Paldv w is = refl
+ranked Yuv411 w is = refl
+ranked Yuv422 w is = refl
+ranked Yuv444 w is = refl
+ranked Mono w is = refl
+ranked (Yuv420Deep Nine) w is = refl
+ranked (Yuv420Deep Ten) w is = refl
+ranked (Yuv420Deep Twelve) w is = refl
+ranked (Yuv420Deep Fourteen) w is = refl
+ranked (Yuv420Deep Sixteen) w is = refl
+ranked (Yuv422Deep Nine) w is = refl
+ranked (Yuv422Deep Ten) w is = refl
+ranked (Yuv422Deep Twelve) w is = refl
+ranked (Yuv422Deep Fourteen) w is = refl
+ranked (Yuv422Deep Sixteen) w is = refl
+ranked (Yuv444Deep Nine) w is = refl
+ranked (Yuv444Deep Ten) w is = refl
+ranked (Yuv444Deep Twelve) w is = refl
+ranked (Yuv444Deep Fourteen) w is = refl
+ranked (Yuv444Deep Sixteen) w is = refl
+ranked (MonoDeep Nine) w is = refl
+ranked (MonoDeep Ten) w is = refl
+ranked (MonoDeep Twelve) w is = refl
+ranked (MonoDeep Fourteen) w is = refl
+ranked (MonoDeep Sixteen) w is = refl
+
+pub rank_below : (c : Colour) → stated c ≡ Some c → rank c < 28
+rank_below Unstated is = absurd (none_is_not_some Unstated is)
+rank_below Yuv420 is = lit< tt
+rank_below Yuv420Jpeg is = lit< tt
+rank_below Yuv420Mpeg2 is = lit< tt
+rank_below Yuv420Paldv is = lit< tt
+rank_below Yuv411 is = lit< tt
+rank_below Yuv422 is = lit< tt
+rank_below Yuv444 is = lit< tt
+rank_below Mono is = lit< tt
+rank_below (Yuv420Deep Nine) is = lit< tt
+rank_below (Yuv420Deep Ten) is = lit< tt
+rank_below (Yuv420Deep Twelve) is = lit< tt
+rank_below (Yuv420Deep Fourteen) is = lit< tt
+rank_below (Yuv420Deep Sixteen) is = lit< tt
+rank_below (Yuv422Deep Nine) is = lit< tt
+rank_below (Yuv422Deep Ten) is = lit< tt
+rank_below (Yuv422Deep Twelve) is = lit< tt
+rank_below (Yuv422Deep Fourteen) is = lit< tt
+rank_below (Yuv422Deep Sixteen) is = lit< tt
+rank_below (Yuv444Deep Nine) is = lit< tt
+rank_below (Yuv444Deep Ten) is = lit< tt
+rank_below (Yuv444Deep Twelve) is = lit< tt
+rank_below (Yuv444Deep Fourteen) is = lit< tt
+rank_below (Yuv444Deep Sixteen) is = lit< tt
+rank_below (MonoDeep Nine) is = lit< tt
+rank_below (MonoDeep Ten) is = lit< tt
+rank_below (MonoDeep Twelve) is = lit< tt
+rank_below (MonoDeep Fourteen) is = lit< tt
+rank_below (MonoDeep Sixteen) is = lit< tt
+
+-- the colour that a text spells, for the proof alone
+abbrev pub spelled_by : List ℕ → List Colour → Colour
+spelled_by text [] = Unstated
+spelled_by text (c ∷ cs) = cond (bytes_eq (colour_text c) text) c (spelled_by text cs)
+
+-- the colour that the parameters of its letter say
+abbrev pub said_by : List (List ℕ) → Colour
+said_by parameters = spelled_by (drop 1 (get_or parameters 0 [])) STATED
+
+pub said_again : (c : Colour) → said_by (parameter_of 67 colour_text (stated c)) ≡ c
+said_again Unstated = refl
+said_again Yuv420 = refl
+said_again Yuv420Jpeg = refl
+said_again Yuv420Mpeg2 = refl
+said_again Yuv420Paldv = refl
+said_again Yuv411 = refl
+said_again Yuv422 = refl
+said_again Yuv444 = refl
+said_again Mono = refl
+said_again (Yuv420Deep Nine) = refl
+said_again (Yuv420Deep Ten) = refl
+said_again (Yuv420Deep Twelve) = refl
+said_again (Yuv420Deep Fourteen) = refl
+said_again (Yuv420Deep Sixteen) = refl
+said_again (Yuv422Deep Nine) = refl
+said_again (Yuv422Deep Ten) = refl
+said_again (Yuv422Deep Twelve) = refl
+said_again (Yuv422Deep Fourteen) = refl
+said_again (Yuv422Deep Sixteen) = refl
+said_again (Yuv444Deep Nine) = refl
+said_again (Yuv444Deep Ten) = refl
+said_again (Yuv444Deep Twelve) = refl
+said_again (Yuv444Deep Fourteen) = refl
+said_again (Yuv444Deep Sixteen) = refl
+said_again (MonoDeep Nine) = refl
+said_again (MonoDeep Ten) = refl
+said_again (MonoDeep Twelve) = refl
+said_again (MonoDeep Fourteen) = refl
+said_again (MonoDeep Sixteen) = refl
+
+pub one_colour : (c d : Colour) → parameter_of 67 colour_text (stated c) ≡ parameter_of 67 colour_text (stated d) → c ≡ d
+one_colour c d same = sym (said_again c) ∙ ap said_by same ∙ said_again d
+
+-- what a parameter says is said by it
+pub stated_is : (c d : Colour) → stated c ≡ Some d → stated d ≡ Some d
+stated_is Unstated d said = absurd (none_is_not_some d said)
+stated_is Yuv420 d said = subst (λ (x : Colour). stated x ≡ Some x) (ap (λ (o : Option Colour). unwrap_or o Unstated) said) refl
+stated_is Yuv420Jpeg d said = subst (λ (x : Colour). stated x ≡ Some x) (ap (λ (o : Option Colour). unwrap_or o Unstated) said) refl
+stated_is Yuv420Mpeg2 d said = subst (λ (x : Colour). stated x ≡ Some x) (ap (λ (o : Option Colour). unwrap_or o Unstated) said) refl
+stated_is Yuv420Paldv d said = subst (λ (x : Colour). stated x ≡ Some x) (ap (λ (o : Option Colour). unwrap_or o Unstated) said) refl
+stated_is Yuv411 d said = subst (λ (x : Colour). stated x ≡ Some x) (ap (λ (o : Option Colour). unwrap_or o Unstated) said) refl
+stated_is Yuv422 d said = subst (λ (x : Colour). stated x ≡ Some x) (ap (λ (o : Option Colour). unwrap_or o Unstated) said) refl
+stated_is Yuv444 d said = subst (λ (x : Colour). stated x ≡ Some x) (ap (λ (o : Option Colour). unwrap_or o Unstated) said) refl
+stated_is Mono d said = subst (λ (x : Colour). stated x ≡ Some x) (ap (λ (o : Option Colour). unwrap_or o Unstated) said) refl
+stated_is (Yuv420Deep depth) d said = subst (λ (x : Colour). stated x ≡ Some x) (ap (λ (o : Option Colour). unwrap_or o Unstated) said) refl
+stated_is (Yuv422Deep depth) d said = subst (λ (x : Colour). stated x ≡ Some x) (ap (λ (o : Option Colour). unwrap_or o Unstated) said) refl
+stated_is (Yuv444Deep depth) d said = subst (λ (x : Colour). stated x ≡ Some x) (ap (λ (o : Option Colour). unwrap_or o Unstated) said) refl
+stated_is (MonoDeep depth) d said = subst (λ (x : Colour). stated x ≡ Some x) (ap (λ (o : Option Colour). unwrap_or o Unstated) said) refl
+
+-- a colour that is spelled so is not the one at hand, and stands behind it
+pub further : (text : List ℕ) (i : ℕ) (w c : Colour) → ¬ (text ≡ colour_text (get_or STATED i w)) → stated c ≡ Some c → text ≡ colour_text c → i ≤ rank c
+    → i + 1 ≤ rank c
+further text i w c miss said is low =
+    let other : i ≢ rank c = λ e. miss (is ∙ ap colour_text (sym (ap (λ (k : ℕ). get_or STATED k w) e ∙ ranked c w said))) in
+    omega (arith, other, low)
+
+listed : AllByRecursion (λ c. stated c ≡ Some c) STATED
+listed = (
+  refl,
+  (
+    refl,
+    (
+      refl,
+      (
+        refl,
+        (
+          refl,
+          (
+            refl,
+            (
+              refl,
+              (
+                refl,
+                (
+                  refl,
+                  (
+                    refl,
+                    (
+                      refl,
+                      (
+                        refl,
+                        (
+                          refl,
+                          (
+                            refl,
+                            (
+                              refl,
+                              (
+                                refl,
+                                (
+                                  refl,
+                                  (
+                                    refl,
+                                    (
+                                      refl,
+                                      (
+                                        refl,
+                                        (
+                                          refl,
+                                          (refl, (refl, (refl, (refl, (refl, (refl, (refl, tt))))))),
+                                        ),
+                                      ),
+                                    ),
+                                  ),
+                                ),
+                              ),
+                            ),
+                          ),
+                        ),
+                      ),
+                    ),
+                  ),
+                ),
+              ),
+            ),
+          ),
+        ),
+      ),
+    ),
+  ),
+)
+
+pub stated_at : (i : ℕ) (w : Colour) → i < 28 → stated (get_or STATED i w) ≡ Some (get_or STATED i w)
+stated_at i w within = All-from_recursion (λ c. stated c ≡ Some c) STATED listed i w within

@@ -1,0 +1,10 @@
+pub mod CleanPieces
+pub mod ColourTexts
+pub mod FrameStops
+pub mod HeaderFaults
+pub mod HeaderLines
+pub mod HeaderParts
+pub mod HeaderTexts
+pub mod Letters
+pub mod NumberTexts
+pub mod WritingStops

@@ -1,0 +1,17 @@
+-- What was read stands at the front of the buffer, and has no line feed.
+use Rattle.std.proofs.Common.{◌≡◌, ◌≢◌, ◌≤◌, ◌+◌, ◌-◌, length, take}
+use Rattle.std.specs.Prelude.{All}
+use Rattle.std.specs.Io.KnownBytes.{Consumes}
+use Rattle.v_frame_y4m.proofs.lines.read_line.Given as goal
+
+abbrev pub invariant-loop-byte : goal.invariant-loop-byte
+invariant-loop-byte g l = record {
+  within : l.at ≤ length l.line;
+  size : length l.line ≡ length l.fn.line;
+  got : Consumes (g.R.Read.remaining l.fn.reader.inner) (g.R.Read.remaining l.reader.inner) (take l.at l.line);
+  ended : All (λ byte. byte ≢ 10) (take l.at l.line);
+  failures : l.reader.failures ≡ l.fn.reader.failures;
+}
+
+abbrev pub decreases-loop-byte : goal.decreases-loop-byte
+decreases-loop-byte g l = length l.line + 1 - l.at

@@ -1,0 +1,72 @@
+-- What is wrong with a header line that is refused.
+use Rattle.std.specs.Prelude.{ℕ, ◌≡◌, ◌≢◌, ◌^◌, ◌<◌, ◌≤◌, ◌⊎◌, All, Contains, List, [], ◌∷◌, drop, length, slice_index, Some}
+use Rattle.std.specs.Fmt.{decimal}
+use Rattle.v_frame_y4m.specs.Colour.{colour_text, stated}
+use Rattle.v_frame_y4m.specs.Header.{of_letter, letters, interlacing_text, pieces, ratio_text, signature, FitsRatio}
+use Rattle.v_frame_y4m.specs.declared.colour.Colour.{Colour}
+use Rattle.v_frame_y4m.specs.declared.header.Ratio.{Ratio}
+use Rattle.v_frame_y4m.specs.declared.header.Interlacing.{Interlacing}
+use Rattle.v_frame_y4m.specs.declared.error.HeaderError.{HeaderError}
+use Rattle.v_frame_y4m.specs.declared.error.HeaderError.TheVariants.{NotAStream, Missing, Doubled, Malformed, ZeroSize, SizeTooLarge, UnknownColour}
+use Rattle.v_frame_y4m.specs.declared.error.HeaderError.TheVariants.{OutOfMemory}
+
+-- the bytes are ASCII digits without a leading zero
+abbrev pub AreDigits : List ℕ → Type 0
+AreDigits text = (48 < slice_index text 0) × All (λ byte. (48 ≤ byte) × (byte ≤ 57)) text
+
+-- a letter that may stand once
+abbrev pub IsOnce : ℕ → Type 0
+IsOnce letter = Contains letters letter × (letter ≢ 88)
+
+module _ (parameters : List (List ℕ)) where
+  -- this is the one parameter of its letter, and it spells no number of the type
+  abbrev pub HasNoNumber : ℕ → List ℕ → Type 0
+  HasNoNumber letter text =
+      (of_letter letter parameters ≡ text ∷ [])
+      × ((n : ℕ) → n < 2 ^ 64 → text ≢ letter ∷ decimal n)
+
+  abbrev pub HasNoRatio : ℕ → List ℕ → Type 0
+  HasNoRatio letter text =
+      (of_letter letter parameters ≡ text ∷ [])
+      × ((r : Ratio) → FitsRatio r → text ≢ letter ∷ ratio_text r)
+
+  abbrev pub HasNoInterlacing : List ℕ → Type 0
+  HasNoInterlacing text =
+      (of_letter 73 parameters ≡ text ∷ [])
+      × ((i : Interlacing) → text ≢ 73 ∷ interlacing_text i)
+
+  abbrev pub HasNoColour : List ℕ → Type 0
+  HasNoColour text =
+      (of_letter 67 parameters ≡ text ∷ [])
+      × ((c : Colour) → stated c ≡ Some c → text ≢ 67 ∷ colour_text c)
+
+  -- W or H
+  abbrev pub IsOfSize : (ℕ → Type 0) → Type 0
+  IsOfSize P = P 87 ⊎ P 72
+
+  -- the error may come at these parameters
+  abbrev pub HasFault : HeaderError → Type 0
+  HasFault NotAStream = ⊥
+  HasFault (Missing letter) =
+      (of_letter letter parameters ≡ []) × IsOfSize (λ required. letter ≡ required)
+  HasFault (Doubled letter) =
+      (1 < length (of_letter letter parameters)) × IsOnce letter
+  HasFault (Malformed text) =
+      (Contains parameters text.bytes × ¬ (Contains letters (slice_index text.bytes 0)))
+      ⊎ (IsOfSize (λ letter. HasNoNumber letter text.bytes)
+      ⊎ (HasNoRatio 70 text.bytes ⊎ (HasNoRatio 65 text.bytes ⊎ HasNoInterlacing text.bytes)))
+  HasFault (ZeroSize letter) =
+      (of_letter letter parameters ≡ (letter ∷ decimal 0) ∷ [])
+      × IsOfSize (λ required. letter ≡ required)
+  HasFault (SizeTooLarge text) =
+      IsOfSize (λ letter. HasNoNumber letter text.bytes)
+      × AreDigits (drop 1 text.bytes)
+  HasFault (UnknownColour text) = HasNoColour text.bytes
+  HasFault OutOfMemory = Unit {0}
+
+-- the error may come at this line
+abbrev pub IsRefusedFor : List ℕ → HeaderError → Type 0
+IsRefusedFor line error =
+    (error ≡ OutOfMemory)
+    ⊎ (((error ≡ NotAStream) × ((parameters : List (List ℕ)) → pieces line ≢ signature ∷ parameters))
+    ⊎ ((parameters : List (List ℕ)) × (pieces line ≡ signature ∷ parameters) × HasFault parameters error))

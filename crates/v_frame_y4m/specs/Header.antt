@@ -1,0 +1,100 @@
+-- The grammar of the header line, a line being bytes without a line feed: `YUV4MPEG2`, and behind it
+-- parameters, each after one space and each with its letter first.
+use Rattle.std.specs.Prelude.{ℕ, ◌≡◌, ◌≢◌, ◌^◌, ◌<◌, ◌==◌, All, Contains, List, [], ◌∷◌, ◌++◌, codes, filter, flat_map, map, slice_index, IfSome, Option, Some}
+use Rattle.std.specs.Prelude.{None}
+use Rattle.std.specs.List.{slice_split}
+use Rattle.std.specs.Fmt.{decimal}
+use Rattle.v_frame_y4m.specs.Colour.{colour_text, stated}
+use Rattle.v_frame_y4m.specs.declared.header.Ratio.{Ratio}
+use Rattle.v_frame_y4m.specs.declared.header.Interlacing.{Interlacing}
+use Rattle.v_frame_y4m.specs.declared.header.Interlacing.TheVariants.{Progressive, TopFirst, BottomFirst, Mixed, Unknown}
+use Rattle.v_frame_y4m.specs.declared.header.StreamHeader.{StreamHeader}
+
+abbrev pub signature : List ℕ
+signature = codes "YUV4MPEG2"
+
+-- the pieces of a line between its spaces
+abbrev pub pieces : List ℕ → List (List ℕ)
+pieces line = slice_split (λ byte. byte == 32) line
+
+-- the parameters of a letter, in their order
+abbrev pub of_letter : ℕ → List (List ℕ) → List (List ℕ)
+of_letter letter parameters = filter (λ parameter. slice_index parameter 0 == letter) parameters
+
+-- a parameter that may be missing
+abbrev pub parameter_of : {A : Type 0} → ℕ → (A → List ℕ) → Option A → List (List ℕ)
+parameter_of letter spell None = []
+parameter_of letter spell (Some a) = (letter ∷ spell a) ∷ []
+
+-- two decimal numbers with a colon between
+abbrev pub ratio_text : Ratio → List ℕ
+ratio_text r = decimal r.numerator ++ 58 ∷ decimal r.denominator
+
+abbrev pub interlacing_text : Interlacing → List ℕ
+interlacing_text Progressive = codes "p"
+interlacing_text TopFirst = codes "t"
+interlacing_text BottomFirst = codes "b"
+interlacing_text Mixed = codes "m"
+interlacing_text Unknown = codes "?"
+
+abbrev pub FitsRatio : Ratio → Type 0
+FitsRatio r = (r.numerator < 2 ^ 64) × (r.denominator < 2 ^ 64)
+
+-- the letters W, H, F, I, A, C and X
+abbrev pub letters : List ℕ
+letters = codes "WHFIACX"
+
+-- The parameters say what the header says: W and H stand once, F, I, A and C as often as the header
+-- has them, and X for each of its extensions. The order of the letters is free.
+pub record Says (parameters : List (List ℕ)) (h : StreamHeader) : Type 0 where
+  pub width : of_letter 87 parameters ≡ (87 ∷ decimal h.width) ∷ []
+  pub height : of_letter 72 parameters ≡ (72 ∷ decimal h.height) ∷ []
+  pub frame_rate : of_letter 70 parameters ≡ parameter_of 70 ratio_text h.frame_rate
+  pub interlacing : of_letter 73 parameters ≡ parameter_of 73 interlacing_text h.interlacing
+  pub pixel_aspect : of_letter 65 parameters ≡ parameter_of 65 ratio_text h.pixel_aspect
+  pub colour : of_letter 67 parameters ≡ parameter_of 67 colour_text (stated h.colour)
+  pub extensions : of_letter 88 parameters ≡ map (λ text. 88 ∷ text) h.extensions
+  pub known : All (λ parameter. Contains letters (slice_index parameter 0)) parameters
+
+-- the numbers that a header can hold, with a picture of at least one pixel
+pub record HasSize (h : StreamHeader) : Type 0 where
+  pub width : (0 < h.width) × (h.width < 2 ^ 64)
+  pub height : (0 < h.height) × (h.height < 2 ^ 64)
+  pub frame_rate : IfSome h.frame_rate FitsRatio
+  pub pixel_aspect : IfSome h.pixel_aspect FitsRatio
+
+-- the line is a header line, and says this
+pub record IsHeader (line : List ℕ) (h : StreamHeader) : Type 0 where
+  pub parameters : List (List ℕ)
+  pub pieces : pieces line ≡ signature ∷ parameters
+  pub says : Says parameters h
+  pub size : HasSize h
+
+-- the parameters in the order in which they are written
+abbrev pub parameters_of : StreamHeader → List (List ℕ)
+parameters_of h =
+    (87 ∷ decimal h.width) ∷ (72 ∷ decimal h.height) ∷ (parameter_of 70 ratio_text h.frame_rate
+    ++ (parameter_of 73 interlacing_text h.interlacing ++ (parameter_of 65 ratio_text h.pixel_aspect
+    ++ (parameter_of 67 colour_text (stated h.colour) ++ map (λ text. 88 ∷ text) h.extensions))))
+
+-- each after a space
+abbrev pub spelled : List (List ℕ) → List ℕ
+spelled parameters = flat_map (λ parameter. 32 ∷ parameter) parameters
+
+-- the line that is written for a header
+abbrev pub header_line : StreamHeader → List ℕ
+header_line h = signature ++ spelled (parameters_of h)
+
+-- no byte is a space or a line feed
+abbrev pub IsPiece : List ℕ → Type 0
+IsPiece text = All (λ byte. (byte ≢ 32) × (byte ≢ 10)) text
+
+-- a header that has a line
+pub record IsWritable (h : StreamHeader) : Type 0 where
+  pub width : 0 < h.width
+  pub height : 0 < h.height
+  pub extensions : All IsPiece h.extensions
+
+-- the parameters stand letter by letter, in the order in which they are written
+abbrev pub IsInOrder : List (List ℕ) → Type 0
+IsInOrder parameters = parameters ≡ flat_map (λ letter. of_letter letter parameters) letters

@@ -1,0 +1,4 @@
+pub mod Colour
+pub mod Faults
+pub mod Header
+pub mod Streams

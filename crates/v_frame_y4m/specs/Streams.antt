@@ -1,0 +1,119 @@
+-- Streams: a header line and then frames, each behind a line of its own, and what a call leaves of
+-- the reader or the writer.
+use Rattle.std.specs.Prelude.{ℕ, ◌≡◌, ◌≢◌, ◌+◌, ◌<◌, ◌≤◌, ◌⊎◌, All, List, [], ◌∷◌, ◌++◌, Bool, true, false, codes, length, Option}
+use Rattle.std.specs.Io.KnownBytes.{Consumes, IsAtEnd}
+use Rattle.v_frame.specs.Prelude.{isize_max}
+use Rattle.v_frame_planar.specs.Counted.{Watched, HasFailed, StopsWriting}
+use Rattle.v_frame_planar.specs.Planar.{MayStopReading}
+use Rattle.v_frame_planar.specs.declared.error.PlanarError.{PlanarError}
+use Rattle.v_frame_planar.specs.declared.error.PlanarError.TheVariants.{Truncated, TooLarge, Read, Write, WriteZero, OutOfMemory}
+use Rattle.v_frame_planar.specs.declared.counted.WriteFault.TheVariants.{Failed, TookNothing}
+use Rattle.v_frame_y4m.specs.Faults.{IsRefusedFor}
+use Rattle.v_frame_y4m.specs.Header.{IsHeader}
+use Rattle.v_frame_y4m.specs.declared.header.StreamHeader.{StreamHeader}
+use Rattle.v_frame_y4m.specs.declared.error.Y4mError.{Y4mError}
+use Rattle.v_frame_y4m.specs.declared.error.Y4mError.TheVariants.{Header, LineTooLong, UnfinishedLine, NoFrame, Planar}
+
+-- how many bytes a line may have without its line feed
+abbrev pub longest : ℕ
+longest = 1024
+
+-- a line without its line feed
+abbrev pub IsLine : List ℕ → Type 0
+IsLine line = All (λ byte. byte ≢ 10) line
+
+-- the line in front of a frame: `FRAME`, and parameters behind a space, if any
+abbrev pub IsFrameLine : List ℕ → Type 0
+IsFrameLine line = (line ≡ codes "FRAME") ⊎ ((rest : List ℕ) × (line ≡ codes "FRAME " ++ rest))
+
+module _ {R : Type 0} (remaining : R → Option (List ℕ)) (old new : Watched R) where
+  -- these bytes were read, and nothing behind them
+  abbrev pub Took : List ℕ → Type 0
+  Took bytes = Consumes (remaining old.inner) (remaining new.inner) bytes
+
+  -- no byte was read, since a read failed
+  abbrev pub StopsReadingByte : Y4mError → Type 0
+  StopsReadingByte error =
+      (error ≡ Planar Read) × Took [] × HasFailed old.failures new.failures
+
+  -- the error may come inside a line that may have n bytes
+  abbrev pub MayStopInLine : ℕ → Y4mError → Type 0
+  MayStopInLine n (Header error) = ⊥
+  MayStopInLine n LineTooLong =
+      ((bytes : List ℕ) × Took bytes × IsLine bytes × (length bytes ≡ n + 1))
+      × (new.failures ≡ old.failures)
+  MayStopInLine n UnfinishedLine =
+      ((bytes : List ℕ) × Took bytes × IsLine bytes × (0 < length bytes) × (length bytes ≤ n))
+      × IsAtEnd (remaining new.inner) × (new.failures ≡ old.failures)
+  MayStopInLine n NoFrame = ⊥
+  MayStopInLine n (Planar error) =
+      (error ≡ Read) × ((bytes : List ℕ) × Took bytes × (length bytes ≤ n))
+      × HasFailed old.failures new.failures
+
+  -- a line that says this was read, with its line feed
+  abbrev pub ReadsHeader : StreamHeader → Type 0
+  ReadsHeader h =
+      (line : List ℕ) × IsHeader line h × IsLine line × (length line ≤ longest) × Took (line ++ 10 ∷ [])
+
+  -- the error may come where a header is due
+  abbrev pub MayStopInHeader : Y4mError → Type 0
+  MayStopInHeader (Header error) =
+      (line : List ℕ) × IsRefusedFor line error × IsLine line × Took (line ++ 10 ∷ [])
+  MayStopInHeader LineTooLong = MayStopInLine longest LineTooLong
+  MayStopInHeader UnfinishedLine =
+      ((bytes : List ℕ) × Took bytes × IsLine bytes × (length bytes ≤ longest))
+      × IsAtEnd (remaining new.inner) × (new.failures ≡ old.failures)
+  MayStopInHeader NoFrame = ⊥
+  MayStopInHeader (Planar error) = MayStopInLine longest (Planar error)
+
+  -- a frame of these planar bytes was read with the line in front, or the reader stood at its end
+  abbrev pub ReadsFrame : List ℕ → Bool → Type 0
+  ReadsFrame bytes true =
+      (line : List ℕ) × IsFrameLine line × IsLine line × Took (line ++ 10 ∷ bytes)
+  ReadsFrame bytes false = Took [] × IsAtEnd (remaining new.inner)
+
+  -- the line in front of a frame was read, and so many bytes behind it
+  abbrev pub TookOfFrame : ℕ → Type 0
+  TookOfFrame count =
+      (line : List ℕ) × IsFrameLine line × ((bytes : List ℕ) × Took (line ++ 10 ∷ bytes) × (length bytes ≡ count))
+
+  -- the error may come at n planar bytes, behind the line in front of them
+  abbrev pub MayStopInBytes : ℕ → Y4mError → Type 0
+  MayStopInBytes n error =
+      (fault : PlanarError) × (error ≡ Planar fault)
+      × (MayStopReading remaining old new n fault
+      ⊎ ((fault ≡ Truncated n 0) × Took [] × IsAtEnd (remaining new.inner) × (new.failures ≡ old.failures)))
+
+  -- the error may come at a frame of n planar bytes
+  abbrev pub MayStopInFrame : ℕ → Y4mError → Type 0
+  MayStopInFrame n (Header error) = ⊥
+  MayStopInFrame n LineTooLong = MayStopInLine longest LineTooLong
+  MayStopInFrame n UnfinishedLine = MayStopInLine longest UnfinishedLine
+  MayStopInFrame n NoFrame =
+      ((line : List ℕ) × ¬ (IsFrameLine line) × IsLine line × Took (line ++ 10 ∷ []))
+      × (new.failures ≡ old.failures)
+  MayStopInFrame n (Planar (Truncated expected found)) =
+      (expected ≡ n) × ((found ≡ 0) ⊎ (found < n)) × TookOfFrame found
+      × IsAtEnd (remaining new.inner) × (new.failures ≡ old.failures)
+  MayStopInFrame n (Planar TooLarge) =
+      (isize_max < n) × TookOfFrame 0 × (new.failures ≡ old.failures)
+  MayStopInFrame n (Planar OutOfMemory) = TookOfFrame 0 × (new.failures ≡ old.failures)
+  MayStopInFrame n (Planar Read) =
+      (MayStopInLine longest (Planar Read))
+      ⊎ (((count : ℕ) × (count < n) × TookOfFrame count) × HasFailed old.failures new.failures)
+  MayStopInFrame n (Planar Write) = ⊥
+  MayStopInFrame n (Planar WriteZero) = ⊥
+
+module _ {W : Type 0} (contents : W → Option (List ℕ)) (old new : Watched W) (bytes : List ℕ) where
+  -- the error may come at a writer that was to write these bytes
+  abbrev pub MayStopWritingLine : Y4mError → Type 0
+  MayStopWritingLine (Header error) = ⊥
+  MayStopWritingLine LineTooLong = ⊥
+  MayStopWritingLine UnfinishedLine = ⊥
+  MayStopWritingLine NoFrame = ⊥
+  MayStopWritingLine (Planar (Truncated expected found)) = ⊥
+  MayStopWritingLine (Planar TooLarge) = ⊥
+  MayStopWritingLine (Planar OutOfMemory) = new ≡ old
+  MayStopWritingLine (Planar Read) = ⊥
+  MayStopWritingLine (Planar Write) = StopsWriting contents old new bytes Failed
+  MayStopWritingLine (Planar WriteZero) = StopsWriting contents old new bytes TookNothing

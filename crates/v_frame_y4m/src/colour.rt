@@ -1,0 +1,221 @@
+//! The colours of a stream: format, bit depth, and where chroma is sited.
+ghost use Rattle.std.specs.Prelude.{◌≡◌, ◌≢◌, ◌↔◌, IfNone, IfSome, IsTrue};
+ghost use Rattle.v_frame_y4m.specs.Colour.{bits_of, colour_text, depth_of, siting_of, stated, subsampling_of};
+ghost use Rattle.v_frame_y4m.specs.declared.colour.Colour.{Colour as TheColour};
+
+use v_frame::chroma::ChromaSubsampling;
+
+/// Bits a pixel, above 8. Our own.
+#[derive(Debug, Clone, Copy, PartialEq, Eq)]
+pub enum Depth {
+    /// 9 bits.
+    Nine,
+    /// 10 bits.
+    Ten,
+    /// 12 bits.
+    Twelve,
+    /// 14 bits.
+    Fourteen,
+    /// 16 bits.
+    Sixteen,
+}
+
+impl Depth {
+    /// The number of bits.
+    pub fn bits(self) -> u8
+        ensures { result ≡ bits_of self }
+    {
+        match self {
+            Depth::Nine => 9,
+            Depth::Ten => 10,
+            Depth::Twelve => 12,
+            Depth::Fourteen => 14,
+            Depth::Sixteen => 16,
+        }
+    }
+}
+
+/// Where the chroma samples of 8-bit 4:2:0 lie beside those of luma. Our own.
+#[derive(Debug, Clone, Copy, PartialEq, Eq)]
+pub enum ChromaSiting {
+    /// In the middle of four luma samples, as in JPEG and MPEG-1.
+    Centre,
+    /// Beside the left column of the four, between their rows, as in MPEG-2.
+    Left,
+    /// As in PAL DV, where Cb and Cr lie on luma samples of rows in turn.
+    Alternating,
+}
+
+/// The colour of a stream, its parameter `C`: a format, a bit depth, and where chroma is sited. Our own.
+#[derive(Debug, Clone, Copy, PartialEq, Eq)]
+pub enum Colour {
+    /// The header has no parameter `C`: 4:2:0 as in JPEG.
+    Unstated,
+    /// `420`: 4:2:0 as in JPEG.
+    Yuv420,
+    /// `420jpeg`: 4:2:0 as in JPEG.
+    Yuv420Jpeg,
+    /// `420mpeg2`: 4:2:0 as in MPEG-2.
+    Yuv420Mpeg2,
+    /// `420paldv`: 4:2:0 as in PAL DV.
+    Yuv420Paldv,
+    /// `411`: 4:1:1.
+    Yuv411,
+    /// `422`: 4:2:2.
+    Yuv422,
+    /// `444`: 4:4:4.
+    Yuv444,
+    /// `mono`: luma alone.
+    Mono,
+    /// `420p` and a depth: 4:2:0 above 8 bits.
+    Yuv420Deep(Depth),
+    /// `422p` and a depth: 4:2:2 above 8 bits.
+    Yuv422Deep(Depth),
+    /// `444p` and a depth: 4:4:4 above 8 bits.
+    Yuv444Deep(Depth),
+    /// `mono` and a depth: luma alone above 8 bits.
+    MonoDeep(Depth),
+}
+
+/// The colours that a parameter says.
+const STATED: [Colour; 28] = [
+    Colour::Yuv420,
+    Colour::Yuv420Jpeg,
+    Colour::Yuv420Mpeg2,
+    Colour::Yuv420Paldv,
+    Colour::Yuv411,
+    Colour::Yuv422,
+    Colour::Yuv444,
+    Colour::Mono,
+    Colour::Yuv420Deep(Depth::Nine),
+    Colour::Yuv420Deep(Depth::Ten),
+    Colour::Yuv420Deep(Depth::Twelve),
+    Colour::Yuv420Deep(Depth::Fourteen),
+    Colour::Yuv420Deep(Depth::Sixteen),
+    Colour::Yuv422Deep(Depth::Nine),
+    Colour::Yuv422Deep(Depth::Ten),
+    Colour::Yuv422Deep(Depth::Twelve),
+    Colour::Yuv422Deep(Depth::Fourteen),
+    Colour::Yuv422Deep(Depth::Sixteen),
+    Colour::Yuv444Deep(Depth::Nine),
+    Colour::Yuv444Deep(Depth::Ten),
+    Colour::Yuv444Deep(Depth::Twelve),
+    Colour::Yuv444Deep(Depth::Fourteen),
+    Colour::Yuv444Deep(Depth::Sixteen),
+    Colour::MonoDeep(Depth::Nine),
+    Colour::MonoDeep(Depth::Ten),
+    Colour::MonoDeep(Depth::Twelve),
+    Colour::MonoDeep(Depth::Fourteen),
+    Colour::MonoDeep(Depth::Sixteen),
+];
+
+impl Colour {
+    /// What this text behind the letter `C` says.
+    pub(crate) fn parse(text: &[u8]) -> Option<Self>
+        ensures unknown { IfNone result ((c : TheColour) → stated c ≡ Some c → text.now ≢ colour_text c) }
+        ensures known { IfSome result (λ c. text.now ≡ colour_text c) }
+        ensures said { IfSome result (λ c. stated c ≡ Some c) }
+    {
+        for colour in STATED {
+            if colour.is_spelled(text) {
+                return Some(colour);
+            }
+        }
+        None
+    }
+
+    /// Whether this text spells the colour.
+    fn is_spelled(self, text: &[u8]) -> bool
+        ensures { IsTrue result ↔ (text.now ≡ colour_text self) }
+    {
+        text == self.text().as_bytes()
+    }
+
+    /// The format of the frames.
+    pub fn subsampling(self) -> ChromaSubsampling
+        ensures { result ≡ subsampling_of self }
+    {
+        match self {
+            Colour::Unstated
+            | Colour::Yuv420
+            | Colour::Yuv420Jpeg
+            | Colour::Yuv420Mpeg2
+            | Colour::Yuv420Paldv
+            | Colour::Yuv420Deep(_) => ChromaSubsampling::Yuv420,
+            Colour::Yuv411 => ChromaSubsampling::Yuv411,
+            Colour::Yuv422 | Colour::Yuv422Deep(_) => ChromaSubsampling::Yuv422,
+            Colour::Yuv444 | Colour::Yuv444Deep(_) => ChromaSubsampling::Yuv444,
+            Colour::Mono | Colour::MonoDeep(_) => ChromaSubsampling::Monochrome,
+        }
+    }
+
+    /// How many bits a pixel has, 8 to 16. Pixels of 8 bits are `u8`, deeper ones `u16`.
+    pub fn bit_depth(self) -> u8
+        ensures { result ≡ depth_of self }
+    {
+        match self {
+            Colour::Yuv420Deep(depth)
+            | Colour::Yuv422Deep(depth)
+            | Colour::Yuv444Deep(depth)
+            | Colour::MonoDeep(depth) => depth.bits(),
+            _ => 8,
+        }
+    }
+
+    /// Where chroma is sited. `None` but for 4:2:0 of 8 bits.
+    pub fn siting(self) -> Option<ChromaSiting>
+        ensures { result ≡ siting_of self }
+    {
+        match self {
+            Colour::Unstated | Colour::Yuv420 | Colour::Yuv420Jpeg => Some(ChromaSiting::Centre),
+            Colour::Yuv420Mpeg2 => Some(ChromaSiting::Left),
+            Colour::Yuv420Paldv => Some(ChromaSiting::Alternating),
+            _ => None,
+        }
+    }
+
+    /// What stands behind the letter `C`, nothing for [`Unstated`](Self::Unstated).
+    pub fn text(self) -> &'static str
+        ensures { result.now ≡ colour_text self }
+    {
+        match self {
+            Colour::Unstated => "",
+            Colour::Yuv420 => "420",
+            Colour::Yuv420Jpeg => "420jpeg",
+            Colour::Yuv420Mpeg2 => "420mpeg2",
+            Colour::Yuv420Paldv => "420paldv",
+            Colour::Yuv411 => "411",
+            Colour::Yuv422 => "422",
+            Colour::Yuv444 => "444",
+            Colour::Mono => "mono",
+            Colour::Yuv420Deep(depth) => match depth {
+                Depth::Nine => "420p9",
+                Depth::Ten => "420p10",
+                Depth::Twelve => "420p12",
+                Depth::Fourteen => "420p14",
+                Depth::Sixteen => "420p16",
+            },
+            Colour::Yuv422Deep(depth) => match depth {
+                Depth::Nine => "422p9",
+                Depth::Ten => "422p10",
+                Depth::Twelve => "422p12",
+                Depth::Fourteen => "422p14",
+                Depth::Sixteen => "422p16",
+            },
+            Colour::Yuv444Deep(depth) => match depth {
+                Depth::Nine => "444p9",
+                Depth::Ten => "444p10",
+                Depth::Twelve => "444p12",
+                Depth::Fourteen => "444p14",
+                Depth::Sixteen => "444p16",
+            },
+            Colour::MonoDeep(depth) => match depth {
+                Depth::Nine => "mono9",
+                Depth::Ten => "mono10",
+                Depth::Twelve => "mono12",
+                Depth::Fourteen => "mono14",
+                Depth::Sixteen => "mono16",
+            },
+        }
+    }
+}

@@ -1,0 +1,112 @@
+//! Why a stream was not read, or not written.
+
+use crate::text::Text;
+use std::alloc::AllocError;
+use thiserror::Error;
+use v_frame_planar::{PlanarError, WriteFault};
+
+/// Why a header line was refused. Our own.
+#[derive(Debug, PartialEq, Eq, Drop, Error)]
+pub enum HeaderError {
+    /// The line does not begin with `YUV4MPEG2`.
+    #[error("not a YUV4MPEG2 stream")]
+    NotAStream,
+    /// A required parameter, `W` or `H`, is missing.
+    #[error("parameter {0} is missing")]
+    Missing(char),
+    /// A parameter stands twice that may stand once.
+    #[error("parameter {0} stands twice")]
+    Doubled(char),
+    /// A parameter has an unknown letter, or its letter does not go with the rest.
+    #[error("malformed parameter `{0}`")]
+    Malformed(Text),
+    /// The width or the height, as the letter says, is 0.
+    #[error("parameter {0} is 0")]
+    ZeroSize(char),
+    /// The width or the height is above `usize::MAX`.
+    #[error("size too large `{0}`")]
+    SizeTooLarge(Text),
+    /// The colour, `C` and what follows, is none of those that are read.
+    #[error("unknown colour `{0}`")]
+    UnknownColour(Text),
+    /// A request for memory was refused.
+    #[error("out of memory")]
+    OutOfMemory,
+}
+
+impl From<AllocError> for HeaderError {
+    ghost use Rattle.std.specs.Prelude.{◌≡◌};
+    ghost use Rattle.v_frame_y4m.specs.declared.error.HeaderError.TheVariants.{OutOfMemory};
+
+    ghost from_gives = { λ refused error. error ≡ OutOfMemory };
+
+    fn from(_refused: AllocError) -> Self {
+        HeaderError::OutOfMemory
+    }
+}
+
+/// Why a call on a stream gave up. Our own.
+#[derive(Debug, PartialEq, Eq, Drop, Error)]
+pub enum Y4mError {
+    /// The header line was refused.
+    #[error(transparent)]
+    Header(HeaderError),
+    /// No line feed stands among the first 1025 bytes of a line.
+    #[error("line longer than 1024 bytes")]
+    LineTooLong,
+    /// The reader came to its end inside a line.
+    #[error("the stream ends inside a line")]
+    UnfinishedLine,
+    /// Another line stands where a frame's line `FRAME` is due.
+    #[error("no FRAME where a frame is due")]
+    NoFrame,
+    /// The planar bytes of a frame were not read or not written whole, or a read, a write or a request for memory failed.
+    #[error(transparent)]
+    Planar(PlanarError),
+}
+
+impl From<HeaderError> for Y4mError {
+    ghost use Rattle.std.specs.Prelude.{◌≡◌};
+    ghost use Rattle.v_frame_y4m.specs.declared.error.Y4mError.TheVariants.{Header};
+
+    ghost from_gives = { λ refusal error. error ≡ Header refusal };
+
+    fn from(refusal: HeaderError) -> Self {
+        Y4mError::Header(refusal)
+    }
+}
+
+impl From<PlanarError> for Y4mError {
+    ghost use Rattle.std.specs.Prelude.{◌≡◌};
+    ghost use Rattle.v_frame_y4m.specs.declared.error.Y4mError.TheVariants.{Planar};
+
+    ghost from_gives = { λ fault error. error ≡ Planar fault };
+
+    fn from(fault: PlanarError) -> Self {
+        Y4mError::Planar(fault)
+    }
+}
+
+impl From<WriteFault> for Y4mError {
+    ghost use Rattle.std.specs.Prelude.{◌≡◌};
+    ghost use Rattle.v_frame_planar.specs.Planar.{error_of};
+    ghost use Rattle.v_frame_y4m.specs.declared.error.Y4mError.TheVariants.{Planar};
+
+    ghost from_gives = { λ fault error. error ≡ Planar (error_of fault) };
+
+    fn from(fault: WriteFault) -> Self {
+        Y4mError::Planar(fault.into())
+    }
+}
+
+impl From<AllocError> for Y4mError {
+    ghost use Rattle.std.specs.Prelude.{◌≡◌};
+    ghost use Rattle.v_frame_planar.specs.declared.error.PlanarError.TheVariants.{OutOfMemory};
+    ghost use Rattle.v_frame_y4m.specs.declared.error.Y4mError.TheVariants.{Planar};
+
+    ghost from_gives = { λ refused error. error ≡ Planar OutOfMemory };
+
+    fn from(_refused: AllocError) -> Self {
+        Y4mError::Planar(PlanarError::OutOfMemory)
+    }
+}

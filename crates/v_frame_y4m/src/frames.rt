@@ -1,0 +1,47 @@
+//! Frames of the size that a header says.
+ghost use Rattle.std.specs.Prelude.{◌≡◌, IfOk, MatchOption, IsOkUnless};
+ghost use Rattle.v_frame.specs.Prelude.{tables_of};
+ghost use Rattle.v_frame_planar.specs.Planar.{sizes_of};
+ghost use Rattle.v_frame_planar.specs.Video.{chroma_sizes_of, plain_tables, video_refusal_of, video_request, IsBlankVideo};
+ghost use Rattle.v_frame_y4m.specs.Colour.{depth_of, subsampling_of};
+
+use crate::header::StreamHeader;
+use std::alloc::Global;
+use v_frame::frame::{Frame, FrameError};
+use v_frame::pixel::Pixel;
+use v_frame_planar::video_frame;
+
+impl StreamHeader {
+    /// A frame to read the frames of the stream into: of its size, its format and its bit depth, with all planes zero.
+    ///
+    /// The pixels are `u8` where [`Colour::bit_depth`](crate::Colour::bit_depth) is 8, else `u16`. The border has `padding`
+    /// pixels on all four sides of luma, or so many more that it divides; 0 serves a reader. Our own.
+    ///
+    /// # Errors
+    ///
+    /// Those of [`video_frame`]: [`FrameError::DataTypeMismatch`] where `T` has not the size of the pixels,
+    /// [`FrameError::UnsupportedResolution`] where a size is zero or cannot be held, and [`FrameError::OutOfMemory`] where a
+    /// request for memory was refused.
+    pub fn frame<T: Pixel>(&self, alloc: Global, padding: usize) -> Result<Frame<T>, FrameError>
+        ensures refused { MatchOption (video_refusal_of T.BYTES (video_request self.now.width
+            self.now.height (subsampling_of self.now.colour) (depth_of self.now.colour) padding))
+            (IsOkUnless result FrameError.OutOfMemory) (λ e. result ≡ Err e) }
+        ensures blank { IfOk result (IsBlankVideo T.ZERO (video_request self.now.width
+            self.now.height (subsampling_of self.now.colour) (depth_of self.now.colour) padding)) }
+        ensures tables { IfOk result (λ frame. tables_of frame ≡ plain_tables T.ZERO
+            self.now.width self.now.height (subsampling_of self.now.colour)) }
+        ensures sizes { let chroma = chroma_sizes_of (subsampling_of self.now.colour)
+            self.now.width self.now.height in
+            IfOk result (λ frame. sizes_of (tables_of frame)
+            ≡ ((self.now.width, self.now.height), (chroma, chroma))) }
+    {
+        video_frame(
+            alloc,
+            self.width,
+            self.height,
+            self.colour.subsampling(),
+            self.colour.bit_depth(),
+            padding,
+        )
+    }
+}

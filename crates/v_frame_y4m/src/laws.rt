@@ -1,0 +1,38 @@
+//! Laws of headers and their lines. Each is the contract of a function.
+ghost use Rattle.std.specs.Prelude.{ℕ, ◌≡◌, ◌≢◌, List, All, drop};
+ghost use Rattle.v_frame_y4m.specs.Faults.{IsRefusedFor};
+ghost use Rattle.v_frame_y4m.specs.Header.{header_line as line_of, pieces, HasSize, IsHeader, IsInOrder, IsPiece};
+ghost use Rattle.v_frame_y4m.specs.declared.error.HeaderError.{HeaderError as TheError};
+ghost use Rattle.v_frame_y4m.specs.declared.header.StreamHeader.{StreamHeader as TheHeader};
+
+use crate::error::HeaderError;
+
+/// A line says one header at most.
+pub fn headers_are_told_apart()
+    ensures { (line : List ℕ) (h k : TheHeader) → IsHeader line h → IsHeader line k → h ≡ k }
+{}
+
+/// A line that is refused, apart from allocation failure, says no header.
+pub fn refused_lines_say_nothing()
+    ensures { (line : List ℕ) (error : TheError) (h : TheHeader) → error ≢ HeaderError.OutOfMemory
+        → IsRefusedFor line error → IsHeader line h → ⊥ }
+{}
+
+/// The line that is written for a header says it.
+pub fn written_lines_say_the_header()
+    ensures { (h : TheHeader) → HasSize h → All IsPiece h.extensions → IsHeader (line_of h) h }
+{}
+
+/// A line in the order in which we write, W, H, F, I, A, C and each X, is written back as it was.
+pub fn lines_in_order_are_written_back()
+    ensures { (line : List ℕ) (h : TheHeader) → IsHeader line h → IsInOrder (drop 1 (pieces line))
+        → line_of h ≡ line }
+{}
+
+/// A header that is written is read back the same, apart from allocation failure.
+pub fn written_headers_are_read_back()
+    ensures same { (h k : TheHeader) → HasSize h → All IsPiece h.extensions
+        → IsHeader (line_of h) k → k ≡ h }
+    ensures unrefused { (h : TheHeader) (error : TheError) → HasSize h → All IsPiece h.extensions
+        → IsRefusedFor (line_of h) error → error ≡ HeaderError.OutOfMemory }
+{}

@@ -1,0 +1,37 @@
+//! YUV4MPEG2 streams: raw planar video behind a header line that tells its size, its rate and its colour.
+//!
+//! ```text
+//! YUV4MPEG2 W176 H144 F25:1 Ip A1:1 C420jpeg XYSCSS=420JPEG    the header line
+//! FRAME                                                        a line before each frame
+//! ...                                                          the planar bytes: Y, then U, then V
+//! FRAME
+//! ...
+//! ```
+//!
+//! [`read_header`] and then [`read_frame`] until it answers `false` read a stream; [`write_header`] and [`write_frame`]
+//! write one. Between the two stands a [`StreamHeader`], which tells by [`StreamHeader::frame`] what frames to read into.
+//!
+//! Our own. `Rattle.v_frame_y4m.specs.Header` has the grammar of the header line, and `Rattle.v_frame_y4m.specs.Streams`
+//! what the calls leave.
+#![tactic(auto)]
+
+mod colour;
+mod error;
+mod frames;
+mod header;
+pub mod laws;
+mod line;
+mod lines;
+mod numbers;
+mod parameters;
+mod parsing;
+mod streams;
+mod text;
+
+pub use colour::{ChromaSiting, Colour, Depth};
+pub use error::{HeaderError, Y4mError};
+pub use header::{Interlacing, Ratio, StreamHeader};
+pub use line::header_line;
+pub use parsing::parse_header;
+pub use streams::{read_frame, read_header, write_frame, write_header};
+pub use text::Text;

@@ -1,0 +1,110 @@
+//! The line that is written for a header.
+ghost use Rattle.std.specs.Prelude.{◌≡◌, ◌++◌, ◌∷◌, [], decimal, map, IfOk, OnOk};
+ghost use Rattle.v_frame_y4m.specs.Colour.{colour_text, stated};
+ghost use Rattle.v_frame_y4m.specs.Header.{header_line, interlacing_text, parameter_of, ratio_text, spelled};
+
+use crate::colour::Colour;
+use crate::header::{Interlacing, Ratio, StreamHeader};
+use crate::parsing::SIGNATURE;
+use std::alloc::{AllocError, Global};
+use v_frame::replay::Sequence;
+
+/// The line of a header, without its line feed: `YUV4MPEG2`, and then W, H, F, I, A, C and each X, as ffmpeg writes them.
+/// Our own.
+///
+/// # Errors
+///
+/// [`AllocError`] where a request for memory was refused.
+pub fn header_line(alloc: Global, header: &StreamHeader) -> Result<Vec<u8>, AllocError>
+    ensures { IfOk result (λ line. line.items ≡ header_line header.now) }
+{
+    let mut line = Vec::from_slice(alloc, SIGNATURE)?;
+    push_size(alloc, &mut line, header.width, header.height)?;
+    push_ratio(alloc, &mut line, b'F', header.frame_rate)?;
+    push_interlacing(&mut line, header.interlacing)?;
+    push_ratio(alloc, &mut line, b'A', header.pixel_aspect)?;
+    push_colour(&mut line, header.colour)?;
+    push_extensions(&mut line, header.extensions.as_slice())?;
+    Ok(line)
+}
+
+/// The same with its line feed.
+pub(crate) fn ended_line(alloc: Global, header: &StreamHeader) -> Result<Vec<u8>, AllocError>
+    ensures { IfOk result (λ line. line.items ≡ header_line header.now ++ 10 ∷ []) }
+{
+    let mut line = header_line(alloc, header)?;
+    line.push(b'\n')?;
+    Ok(line)
+}
+
+/// Adds a space, a letter and a text.
+fn push(line: &mut Vec<u8>, letter: u8, text: &[u8]) -> Result<(), AllocError>
+    ensures { OnOk result (line.new.items ≡ line.old.items ++ 32 ∷ (letter ∷ text.now)) }
+{
+    line.push(b' ')?;
+    line.push(letter)?;
+    line.extend_from_slice(text)
+}
+
+/// Adds the width and the height.
+fn push_size(
+    alloc: Global,
+    line: &mut Vec<u8>,
+    width: usize,
+    height: usize,
+) -> Result<(), AllocError>
+    ensures { OnOk result (line.new.items ≡ line.old.items
+        ++ spelled ((87 ∷ decimal width) ∷ (72 ∷ decimal height) ∷ [])) }
+{
+    push(line, b'W', width.to_string(alloc)?.as_bytes())?;
+    push(line, b'H', height.to_string(alloc)?.as_bytes())
+}
+
+/// Adds a ratio, where it is there.
+fn push_ratio(
+    alloc: Global,
+    line: &mut Vec<u8>,
+    letter: u8,
+    ratio: Option<Ratio>,
+) -> Result<(), AllocError>
+    ensures { OnOk result (line.new.items ≡ line.old.items
+        ++ spelled (parameter_of letter ratio_text ratio)) }
+{
+    match ratio {
+        Some(ratio) => push(line, letter, ratio.text(alloc)?.as_bytes()),
+        None => Ok(()),
+    }
+}
+
+/// Adds the interlacing, where it is there.
+fn push_interlacing(line: &mut Vec<u8>, interlacing: Option<Interlacing>) -> Result<(), AllocError>
+    ensures { OnOk result (line.new.items ≡ line.old.items
+        ++ spelled (parameter_of 73 interlacing_text interlacing)) }
+{
+    match interlacing {
+        Some(interlacing) => push(line, b'I', interlacing.text().as_bytes()),
+        None => Ok(()),
+    }
+}
+
+/// Adds the colour, where a parameter says it.
+fn push_colour(line: &mut Vec<u8>, colour: Colour) -> Result<(), AllocError>
+    ensures { OnOk result (line.new.items ≡ line.old.items
+        ++ spelled (parameter_of 67 colour_text (stated colour))) }
+{
+    if colour == Colour::Unstated {
+        return Ok(());
+    }
+    push(line, b'C', colour.text().as_bytes())
+}
+
+/// Adds the extensions.
+fn push_extensions(line: &mut Vec<u8>, extensions: &[Sequence<u8>]) -> Result<(), AllocError>
+    ensures { OnOk result (line.new.items ≡ line.old.items
+        ++ spelled (map (λ text. 88 ∷ text) extensions.now)) }
+{
+    for extension in extensions {
+        push(line, b'X', extension.as_slice())?;
+    }
+    Ok(())
+}

@@ -1,0 +1,160 @@
+//! Headers from their lines.
+ghost use Rattle.std.specs.Prelude.{◌≡◌, ◌<◌, ◌⊎◌, ◌↔◌, ◌∷◌, [], map, decimal, IfOk, IfErr, IsTrue};
+ghost use Rattle.v_frame_y4m.specs.Colour.{colour_text, stated};
+ghost use Rattle.v_frame_y4m.specs.Faults.{HasFault, IsRefusedFor};
+ghost use Rattle.v_frame_y4m.specs.Header.{of_letter, parameter_of, ratio_text, interlacing_text, signature, HasSize, IsHeader, Says};
+
+use crate::colour::Colour;
+use crate::error::HeaderError;
+use crate::header::{Interlacing, Ratio, StreamHeader};
+use crate::numbers::{are_digits, number, ratio};
+use crate::parameters::{check_letters, extensions, only, pieces_of};
+use crate::text::Text;
+use std::alloc::Global;
+
+/// What a header line begins with.
+pub(crate) const SIGNATURE: &[u8] = b"YUV4MPEG2";
+
+/// What a header line says, without its line feed. Our own.
+///
+/// Numbers are read as they are written: decimal digits without a leading zero.
+///
+/// # Errors
+///
+/// [`HeaderError::NotAStream`] where the line does not begin with `YUV4MPEG2` as a piece of its own, and else what is wrong
+/// with its parameters, [`HeaderError::OutOfMemory`] where a request for memory was refused.
+pub fn parse_header(alloc: Global, line: &[u8]) -> Result<StreamHeader, HeaderError>
+    ensures found { IfOk result (IsHeader line.now) }
+    ensures refused { IfErr result (IsRefusedFor line.now) }
+{
+    let pieces = pieces_of(alloc, line)?;
+    if pieces.is_empty() || !is_signature(pieces[0]) {
+        return Err(HeaderError::NotAStream);
+    }
+    header_of(alloc, &pieces[1..])
+}
+
+/// Whether this is what a header line begins with.
+fn is_signature(piece: &[u8]) -> bool
+    ensures { IsTrue result ↔ (piece.now ≡ signature) }
+{
+    piece == SIGNATURE
+}
+
+/// What parameters say.
+fn header_of(alloc: Global, parameters: &[&[u8]]) -> Result<StreamHeader, HeaderError>
+    ensures says { IfOk result (Says (map (λ parameter. parameter.now) parameters.now)) }
+    ensures size { IfOk result HasSize }
+    ensures error { IfErr result (HasFault (map (λ parameter. parameter.now) parameters.now)) }
+{
+    check_letters(alloc, parameters)?;
+    let (width, height) = size(alloc, parameters)?;
+    let (frame_rate, pixel_aspect) = ratios(alloc, parameters)?;
+    let interlacing = interlacing(alloc, parameters)?;
+    let colour = colour(alloc, parameters)?;
+    let extensions = extensions(alloc, parameters)?;
+    Ok(StreamHeader {
+        width,
+        height,
+        frame_rate,
+        interlacing,
+        pixel_aspect,
+        colour,
+        extensions,
+    })
+}
+
+/// The width and the height.
+fn size(alloc: Global, parameters: &[&[u8]]) -> Result<(usize, usize), HeaderError>
+    ensures width { IfOk result (λ size. (of_letter 87 (map (λ parameter. parameter.now) parameters.now)
+        ≡ (87 ∷ decimal size.0) ∷ []) × (0 < size.0)) }
+    ensures height { IfOk result (λ size. (of_letter 72 (map (λ parameter. parameter.now) parameters.now)
+        ≡ (72 ∷ decimal size.1) ∷ []) × (0 < size.1)) }
+    ensures error { IfErr result (HasFault (map (λ parameter. parameter.now) parameters.now)) }
+{
+    Ok((
+        length(alloc, parameters, b'W')?,
+        length(alloc, parameters, b'H')?,
+    ))
+}
+
+/// The width or the height, in pixels.
+fn length(alloc: Global, parameters: &[&[u8]], letter: u8) -> Result<usize, HeaderError>
+    requires { (letter ≡ 87) ⊎ (letter ≡ 72) }
+    ensures ok { IfOk result (λ n. (of_letter letter (map (λ parameter. parameter.now) parameters.now)
+        ≡ (letter ∷ decimal n) ∷ []) × (0 < n)) }
+    ensures error { IfErr result (HasFault (map (λ parameter. parameter.now) parameters.now)) }
+{
+    let Some((text, digits)) = only(parameters, letter)? else {
+        return Err(HeaderError::Missing(letter as char));
+    };
+    match number(digits) {
+        Some(0) => Err(HeaderError::ZeroSize(letter as char)),
+        Some(n) => Ok(n as usize),
+        None if are_digits(digits) => { Err(HeaderError::SizeTooLarge(Text::new(alloc, text)?)) }
+        None => Err(HeaderError::Malformed(Text::new(alloc, text)?)),
+    }
+}
+
+/// The frame rate and the pixel aspect.
+fn ratios(
+    alloc: Global,
+    parameters: &[&[u8]],
+) -> Result<(Option<Ratio>, Option<Ratio>), HeaderError>
+    ensures frame_rate { IfOk result (λ r. of_letter 70 (map (λ parameter. parameter.now) parameters.now)
+        ≡ parameter_of 70 ratio_text r.0) }
+    ensures pixel_aspect { IfOk result (λ r. of_letter 65 (map (λ parameter. parameter.now) parameters.now)
+        ≡ parameter_of 65 ratio_text r.1) }
+    ensures error { IfErr result (HasFault (map (λ parameter. parameter.now) parameters.now)) }
+{
+    Ok((
+        rate(alloc, parameters, b'F')?,
+        rate(alloc, parameters, b'A')?,
+    ))
+}
+
+/// The ratio of a letter.
+fn rate(alloc: Global, parameters: &[&[u8]], letter: u8) -> Result<Option<Ratio>, HeaderError>
+    requires { (letter ≡ 70) ⊎ (letter ≡ 65) }
+    ensures ok { IfOk result (λ r. of_letter letter (map (λ parameter. parameter.now) parameters.now)
+        ≡ parameter_of letter ratio_text r) }
+    ensures error { IfErr result (HasFault (map (λ parameter. parameter.now) parameters.now)) }
+{
+    let Some((text, value)) = only(parameters, letter)? else {
+        return Ok(None);
+    };
+    match ratio(value) {
+        Some(found) => Ok(Some(found)),
+        None => Err(HeaderError::Malformed(Text::new(alloc, text)?)),
+    }
+}
+
+/// How the rows go with time.
+fn interlacing(alloc: Global, parameters: &[&[u8]]) -> Result<Option<Interlacing>, HeaderError>
+    ensures ok { IfOk result (λ i. of_letter 73 (map (λ parameter. parameter.now) parameters.now)
+        ≡ parameter_of 73 interlacing_text i) }
+    ensures error { IfErr result (HasFault (map (λ parameter. parameter.now) parameters.now)) }
+{
+    let Some((text, value)) = only(parameters, b'I')? else {
+        return Ok(None);
+    };
+    match Interlacing::parse(value) {
+        Some(found) => Ok(Some(found)),
+        None => Err(HeaderError::Malformed(Text::new(alloc, text)?)),
+    }
+}
+
+/// The colour.
+fn colour(alloc: Global, parameters: &[&[u8]]) -> Result<Colour, HeaderError>
+    ensures ok { IfOk result (λ c. of_letter 67 (map (λ parameter. parameter.now) parameters.now)
+        ≡ parameter_of 67 colour_text (stated c)) }
+    ensures error { IfErr result (HasFault (map (λ parameter. parameter.now) parameters.now)) }
+{
+    let Some((text, value)) = only(parameters, b'C')? else {
+        return Ok(Colour::Unstated);
+    };
+    match Colour::parse(value) {
+        Some(found) => Ok(found),
+        None => Err(HeaderError::UnknownColour(Text::new(alloc, text)?)),
+    }
+}
