@@ -1,0 +1,3 @@
+pub mod Copies
+pub mod Run
+pub mod Streams

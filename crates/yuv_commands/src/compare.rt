@@ -1,0 +1,139 @@
+//! Two streams, compared frame by frame.
+ghost use Rattle.std.specs.Prelude.{◌≡◌};
+ghost use Rattle.v_frame.specs.Prelude.{tables_of};
+ghost use Rattle.v_frame_planar.specs.Planar.{sizes_of};
+
+use crate::fault::{Fault, Problem};
+use crate::progress::Progress;
+use crate::report::FrameLines;
+use crate::stream::Input;
+use std::alloc::Global;
+use std::io;
+use v_frame::frame::Frame;
+use v_frame::pixel::Pixel;
+use yuv_frames::{
+    PixelDifference, PlaneSums, first_difference_of_frames, squared_errors_of_frames,
+};
+
+/// One of two streams. Our own.
+#[derive(Clone, Copy, Debug, PartialEq, Eq)]
+pub enum Side {
+    /// The first one.
+    First,
+    /// The second one.
+    Second,
+}
+
+/// How far two streams are apart. Our own.
+#[derive(Clone, Copy, Debug, PartialEq, Eq)]
+pub struct Comparison {
+    /// How many frames both have.
+    pub frames: u64,
+    /// The sums of the squared errors of these, plane by plane. A sum stays at `u128::MAX`.
+    pub errors: PlaneSums,
+    /// The first pixel that differs, and how many frames stand before its own.
+    pub difference: Option<(u64, PixelDifference)>,
+    /// The stream that has more frames, where one has.
+    pub longer: Option<Side>,
+}
+
+impl Comparison {
+    /// That of no frames, of which each would have the planes of this one.
+    pub fn new<T: Pixel>(frame: &Frame<T>) -> Self {
+        Comparison {
+            frames: 0,
+            errors: PlaneSums {
+                y: 0,
+                u: frame.u_plane.as_ref().map(|_| 0),
+                v: frame.v_plane.as_ref().map(|_| 0),
+            },
+            difference: None,
+            longer: None,
+        }
+    }
+
+    /// Whether the streams show the same.
+    pub fn shows_the_same(&self) -> bool {
+        self.difference.is_none() && self.longer.is_none()
+    }
+
+    /// This with one more frame of each stream, of which the errors are these.
+    fn with_frames<T: Pixel>(&self, first: &Frame<T>, second: &Frame<T>, errors: &PlaneSums) -> Self
+        requires { sizes_of (tables_of first.now) ≡ sizes_of (tables_of second.now) }
+    {
+        let difference = match self.difference {
+            Some(found) => Some(found),
+            None => match first_difference_of_frames(first, second) {
+                Some(found) => Some((self.frames, found)),
+                None => None,
+            },
+        };
+        Comparison {
+            frames: self.frames.saturating_add(1),
+            errors: self.errors.plus(errors),
+            difference,
+            longer: None,
+        }
+    }
+}
+
+/// What the next step of two streams found.
+enum Step {
+    /// Each has a frame.
+    Frames,
+    /// One of them is at its end, or both are; the one that is not.
+    End(Option<Side>),
+}
+
+/// Compares two streams as far as both go. With `lines` each two frames get a line.
+///
+/// Our own.
+///
+/// # Errors
+///
+/// A [`Fault`] with the stream of which a frame was not read, or where a line was not written.
+pub fn compare_streams<T: Pixel, R: io::Read, S: io::Read, W: io::Write, E: io::Write>(
+    alloc: Global,
+    first: &mut Input<T, R>,
+    second: &mut Input<T, S>,
+    lines: &mut FrameLines<W>,
+    progress: &mut Progress<E>,
+) -> Result<Comparison, Fault>
+    requires { sizes_of (tables_of first.old.frame) ≡ sizes_of (tables_of second.old.frame) }
+{
+    let mut found = Comparison::new(&first.frame);
+    for before in 0..u64::MAX {
+        match advance_both(alloc, first, second, before)? {
+            Step::Frames => {}
+            Step::End(longer) => return Ok(Comparison { longer, ..found }),
+        }
+        let errors = squared_errors_of_frames(&first.frame, &second.frame);
+        lines.tell(alloc, before, &errors).map_err(Fault::report)?;
+        found = found.with_frames(&first.frame, &second.frame, &errors);
+        progress.show(before + 1);
+    }
+    Ok(found)
+}
+
+/// Reads the next frame of each stream.
+fn advance_both<T: Pixel, R: io::Read, S: io::Read>(
+    alloc: Global,
+    first: &mut Input<T, R>,
+    second: &mut Input<T, S>,
+    before: u64,
+) -> Result<Step, Fault> {
+    let one = match first.advance(alloc, before) {
+        Ok(one) => one,
+        Err(fault) => return Err(Fault::first(Problem::Frame(fault))),
+    };
+    let other = match second.advance(alloc, before) {
+        Ok(other) => other,
+        Err(fault) => return Err(Fault::second(Problem::Frame(fault))),
+    };
+    Ok(match (one, other) {
+        (true, true) => Step::Frames,
+        (true, false) => Step::End(Some(Side::First)),
+        (false, true) => Step::End(Some(Side::Second)),
+        (false, false) => Step::End(None),
+    })
+}

@@ -1,0 +1,177 @@
+//! The program: its arguments are read and done, and what went wrong is told.
+ghost use Rattle.std.specs.Prelude.{◌≡◌};
+ghost use Rattle.yuv_commands.specs.Run.{status_code};
+
+use crate::arguments::{Command, read_command};
+use crate::commands::{do_compare, do_copy, do_info};
+use crate::fault::{Fault, Place};
+use crate::progress::Progress;
+use std::io;
+use std::rt::Files;
+
+/// How the program is called.
+const USAGE: &str = "usage: yuv info FILE [--progress]
+       yuv compare FILE FILE [--frames] [--progress]
+       yuv copy FILE FILE [--crop X,Y,W,H] [--half] [--raw] [--progress]
+       yuv help
+
+A file is a YUV4MPEG2 stream, and - is standard input or output. Headerless raw
+video is read behind --raw WIDTHxHEIGHT:FORMAT, as --raw 1920x1080:420p10 FILE,
+and written by copy with --raw alone. The format is one of 420jpeg 420mpeg2
+420paldv 411 422 444 mono, or 420p 422p 444p mono with 9 10 12 14 or 16 bits.
+
+info       tells what a stream is, and how many frames it has
+compare    tells how far two streams of one format are apart, with --frames for
+           each frame. Status 0: they show the same, 1: they differ
+copy       writes the frames of the first file to the second, a part of each
+           with --crop, and at half the size with --half
+
+Status 2: something failed. Frames are counted from 1, columns and rows from 0.
+";
+
+/// How the program ended. Our own.
+#[derive(Clone, Copy, Debug, PartialEq, Eq)]
+pub enum Status {
+    /// All was done, and what was compared shows the same.
+    Same,
+    /// What was compared differs.
+    Different,
+    /// Something failed.
+    Failed,
+}
+
+impl Status {
+    /// The exit status of a process.
+    pub fn code(self) -> u8
+        ensures { result ≡ status_code self }
+    {
+        match self {
+            Status::Same => 0,
+            Status::Different => 1,
+            Status::Failed => 2,
+        }
+    }
+}
+
+/// What a program has of its system. Our own.
+#[derive(Drop)]
+pub struct Streams<I, O, E> {
+    /// Standard input.
+    pub input: I,
+    /// Standard output.
+    pub output: O,
+    /// Standard error.
+    pub error: E,
+}
+
+/// Does what the arguments, without the program's own name, ask for.
+///
+/// Our own.
+pub fn run<H, I, O, E>(rt: &H, words: &[&str], streams: Streams<I, O, E>) -> Status
+where
+    H: Files + AllocGlobal,
+    I: io::Read + Drop,
+    O: io::Write + Drop,
+    E: io::Write + Drop,
+{
+    let Streams {
+        input,
+        mut output,
+        error,
+    } = streams;
+    let mut progress = Progress {
+        out: error,
+        is_shown: false,
+    };
+    match read_command(words) {
+        Ok(Command::Help) => {
+            let _ = output.write_all(USAGE.as_bytes());
+            Status::Failed
+        }
+        Ok(command) => run_command(rt, &command, input, output, &mut progress),
+        Err(wrong) => {
+            let _ = write!(progress.out, "yuv: {wrong}\n{USAGE}");
+            Status::Failed
+        }
+    }
+}
+
+/// Does a command, and tells what went wrong.
+fn run_command<H, I, O, E>(
+    rt: &H,
+    command: &Command<'_>,
+    input: I,
+    output: O,
+    progress: &mut Progress<E>,
+) -> Status
+where
+    H: Files + AllocGlobal,
+    I: io::Read + Drop,
+    O: io::Write + Drop,
+    E: io::Write,
+{
+    progress.is_shown = command.shows_progress();
+    let done = do_command(rt, command, input, output, progress);
+    progress.end();
+    match done {
+        Ok(status) => status,
+        Err(fault) => {
+            let name = name_of(command, fault.place);
+            let problem = fault.problem;
+            let _ = writeln!(progress.out, "yuv: {name}: {problem}");
+            Status::Failed
+        }
+    }
+}
+
+/// Does a command.
+fn do_command<H, I, O, E>(
+    rt: &H,
+    command: &Command<'_>,
+    input: I,
+    output: O,
+    progress: &mut Progress<E>,
+) -> Result<Status, Fault>
+where
+    H: Files + AllocGlobal,
+    I: io::Read + Drop,
+    O: io::Write + Drop,
+    E: io::Write,
+{
+    match command {
+        Command::Help => Ok(Status::Failed),
+        Command::Info { file, .. } => do_info(rt, file, input, output, progress),
+        Command::Compare {
+            first,
+            second,
+            frames,
+            ..
+        } => { do_compare(rt, first, second, *frames, input, output, progress) }
+        Command::Copy {
+            input: from,
+            output: to,
+            wanted,
+            ..
+        } => { do_copy(rt, from, to, wanted, input, output, progress) }
+    }
+}
+
+/// The name of what a command was working on.
+fn name_of<'a>(command: &Command<'a>, place: Place) -> &'a str {
+    let (first, second) = match command {
+        Command::Help => ("-", "-"),
+        Command::Info { file, .. } => (file.name, "-"),
+        Command::Compare { first, second, .. } => (first.name, second.name),
+        Command::Copy { input, output, .. } => (input.name, *output),
+    };
+    let name = match place {
+        Place::First => first,
+        Place::Second => second,
+        Place::Report => "-",
+    };
+    match (name, place) {
+        ("-", Place::Report) => "standard output",
+        ("-", _) => "-",
+        (name, _) => name,
+    }
+}

@@ -1,0 +1,84 @@
+//! Numbers that belong to the planes of a frame.
+ghost use Rattle.std.specs.Prelude.{◌≡◌, ◌+◌, unwrap_or};
+ghost use Rattle.v_frame.specs.Prelude.{table_of, tables_of};
+ghost use Rattle.v_frame_planar.specs.Planar.{size_of, sizes_of};
+ghost use Rattle.yuv_frames.specs.Sums.{added, added_chroma, at_most, multiplied, pixels_of_size, pixels_of_sizes};
+
+use v_frame::frame::Frame;
+use v_frame::pixel::Pixel;
+use v_frame::plane::Plane;
+
+/// A number for each plane of a frame. Our own.
+#[derive(Clone, Copy, Debug, PartialEq, Eq)]
+pub struct PlaneSums {
+    /// That of luma.
+    pub y: u128,
+    /// That of the first chroma plane, where there is one.
+    pub u: Option<u128>,
+    /// That of the second chroma plane, where there is one.
+    pub v: Option<u128>,
+}
+
+impl PlaneSums {
+    /// The sums, plane by plane. One stays at `u128::MAX`. Our own.
+    pub fn plus(&self, more: &PlaneSums) -> Self
+        ensures { result ≡ added self.now more.now }
+    {
+        PlaneSums {
+            y: self.y.saturating_add(more.y),
+            u: plus_chroma(self.u, more.u),
+            v: plus_chroma(self.v, more.v),
+        }
+    }
+
+    /// The numbers, each so many times. One stays at `u128::MAX`. Our own.
+    pub fn times(&self, count: u64) -> Self
+        ensures { result ≡ multiplied self.now count }
+    {
+        let count = u128::from(count);
+        PlaneSums {
+            y: self.y.saturating_mul(count),
+            u: self.u.map(|number| number.saturating_mul(count)),
+            v: self.v.map(|number| number.saturating_mul(count)),
+        }
+    }
+
+    /// The sum over all planes. It stays at `u128::MAX`. Our own.
+    pub fn total(&self) -> u128
+        ensures { result ≡ at_most (at_most (self.now.y + unwrap_or self.now.u 0)
+            + unwrap_or self.now.v 0) }
+    {
+        self.y
+            .saturating_add(self.u.unwrap_or(0))
+            .saturating_add(self.v.unwrap_or(0))
+    }
+}
+
+/// The sum of two numbers of chroma planes, where both are there.
+fn plus_chroma(first: Option<u128>, second: Option<u128>) -> Option<u128>
+    ensures { result ≡ added_chroma first second }
+{
+    match (first, second) {
+        (Some(first), Some(second)) => Some(first.saturating_add(second)),
+        _ => None,
+    }
+}
+
+/// How many pixels each plane shows. Our own.
+pub fn pixel_counts<T: Pixel>(frame: &Frame<T>) -> PlaneSums
+    ensures { result ≡ pixels_of_sizes (sizes_of (tables_of frame.now)) }
+{
+    PlaneSums {
+        y: pixels_of_plane(&frame.y_plane),
+        u: frame.u_plane.as_ref().map(pixels_of_plane),
+        v: frame.v_plane.as_ref().map(pixels_of_plane),
+    }
+}
+
+/// How many pixels a plane shows.
+fn pixels_of_plane<T: Pixel>(plane: &Plane<T>) -> u128
+    ensures { result ≡ pixels_of_size (size_of (table_of plane.now)) }
+{
+    // The product of two `usize` fits.
+    plane.width() as u128 * plane.height() as u128
+}
