@@ -1,5 +1,6 @@
 -- One more frame of a stream, and the end of it.
-use Rattle.std.proofs.Common.{ℕ, ◌≡◌, ◌+◌, List, [], ◌∷◌, ◌++◌, length, map, flat_map, Option, option_map, suc, min, refl, sym, ◌∙◌, ap, subst, arith, append-nil, length-append}
+use Rattle.std.proofs.Common.{ℕ, ◌≡◌, ◌+◌, List, [], ◌∷◌, ◌++◌, length, map, flat_map, Option, option_map, suc, min, refl, sym, ◌∙◌, ap, subst, arith}
+use Rattle.std.proofs.Common.{append-nil, length-append}
 use Rattle.std.proofs.lemmas.List.Elements.{All-push}
 use Rattle.std.proofs.lemmas.Grind.{flat_map-append}
 use Rattle.std.proofs.lemmas.List.{length-map}
@@ -17,7 +18,8 @@ module _ {T : Type 0} (form : PixelForm T) (size : (ℕ × ℕ) × (Option (ℕ 
     joined : (bytes : Tables T → List ℕ) (tables : Tables T) → flat_map bytes before.shown ++ bytes tables ≡ flat_map bytes (before.shown ++ tables ∷ [])
     joined bytes tables = sym (flat_map-append bytes before.shown (tables ∷ []) ∙ ap (λ b. flat_map bytes before.shown ++ b) (append-nil (bytes tables)))
 
-    pub one_more_frame : (tables : Tables T) → sizes_of tables ≡ size → Consumes mid left' (planar_bytes form tables) → Appends now has' (planar_bytes form (change tables)) → Carries form size change left left' has has' (count + 1)
+    pub one_more_frame : (tables : Tables T) → sizes_of tables ≡ size → Consumes mid left' (planar_bytes form tables) →
+        Appends now has' (planar_bytes form (change tables)) → Carries form size change left left' has has' (count + 1)
     one_more_frame tables sized read written = record {
       shown = before.shown ++ tables ∷ [];
       counted = length-append before.shown (tables ∷ []) ∙ ap (λ n. n + 1) before.counted;
@@ -38,7 +40,9 @@ module _ {T : Type 0} (form : PixelForm T) (size : (ℕ × ℕ) × (Option (ℕ 
 -- brighter tables have the same sizes
 size_of_mapped : (f : ℕ → ℕ) (table : Table ℕ) → size_of (map (map f) table) ≡ size_of table
 size_of_mapped f [] = refl
-size_of_mapped f (row ∷ rows) = ap (λ (w : ℕ). (w, length (map f row ∷ map (map f) rows))) (length-map row f) ∙ ap (λ (h : ℕ). (length row, suc h)) (length-map rows (map f))
+size_of_mapped f (row ∷ rows) = ap (λ (w : ℕ). (w, length (map f row ∷ map (map f) rows))) (length-map row f) ∙
+    ap (λ (h : ℕ). (length row, suc h)) (length-map rows (map f))
 
 pub brighter_sizes : (by : ℕ) (tables : Tables ℕ) → sizes_of (brighter by tables) ≡ sizes_of tables
-brighter_sizes by tables = ap (λ (s : ℕ × ℕ). (s, (option_map size_of tables.u, option_map size_of tables.v))) (size_of_mapped (λ pixel. min (pixel + by) 255) tables.y)
+brighter_sizes by tables = ap (λ (s : ℕ × ℕ). (s, (option_map size_of tables.u, option_map size_of tables.v))) (size_of_mapped (λ pixel. min (pixel +
+    by) 255) tables.y)

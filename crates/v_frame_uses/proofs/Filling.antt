@@ -1,10 +1,12 @@
 -- A buffer whose border is filled from the front on, part after part.
-use Rattle.std.proofs.Common.{ℕ, zero, suc, ◌≡◌, ◌+◌, ◌-◌, ◌*◌, ◌/◌, ◌%◌, ◌<◌, ◌≤◌, List, [], ◌∷◌, ◌++◌, length, take, drop, replicate, Some, None, slice_get, inl, inr, refl, sym, ◌∙◌, ap, arith, length-take-le}
+use Rattle.std.proofs.Common.{ℕ, zero, suc, ◌≡◌, ◌+◌, ◌-◌, ◌*◌, ◌/◌, ◌%◌, ◌<◌, ◌≤◌, List, [], ◌∷◌, ◌++◌, length, take, drop, replicate, Some, None, slice_get}
+use Rattle.std.proofs.Common.{inl, inr, refl, sym, ◌∙◌, ap, arith, length-take-le}
 use Rattle.std.proofs.lemmas.Bool.{cases_lt}
 use Rattle.std.proofs.lemmas.List.{take_at}
 use Rattle.std.specs.List.{refill}
 use Rattle.std.proofs.Math.Nat.{mul-le-mul_right, div-add-mod, mod-lt}
-use Rattle.v_frame.specs.Prelude.{Geometry, stride_of, alloc_height_of, alloc_size_of, raster, filled, Mark, Border, Visible, cutting_plan, mark_at, HasMarks, AgreeAt}
+use Rattle.v_frame.specs.Prelude.{Geometry, stride_of, alloc_height_of, alloc_size_of, raster, filled, Mark, Border, Visible, cutting_plan, mark_at, HasMarks}
+use Rattle.v_frame.specs.Prelude.{AgreeAt}
 
 module _ {T : Type 0} where
   get-replicate : (n : ℕ) (x : T) (i : ℕ) → i < n → slice_get (replicate n x) i ≡ Some x
@@ -55,7 +57,7 @@ module _ {T : Type 0} where
       ];
     }
 
--- the places of a range are those of the rows and columns that lie in it
+-- the places of a range are those of the rows and columns that are in it
 row_and_column : (width place : ℕ) → 0 < width → (row : ℕ) × (column : ℕ) × (place ≡ row * width + column) × (column < width)
 row_and_column width place wide = (place / width, place % width, omega (arith, div-add-mod place width), mod-lt place wide)
 
@@ -78,12 +80,14 @@ module _ (g : Geometry) (marks : HasMarks g) where
       let in_front : at.0 * stride_of g + at.1 < g.pad_top * stride_of g = omega (arith, at.2) in
       ap (mark_at (cutting_plan g)) at.2 ∙ marks.above at.0 at.1 (earlier_row (stride_of g) at.0 at.1 g.pad_top in_front) at.3
 
-  pub marks_below : 0 < stride_of g → (place : ℕ) → (g.pad_top + g.height) * stride_of g ≤ place → place < alloc_size_of g → mark_at (cutting_plan g) place ≡ Some Border
+  pub marks_below : 0 < stride_of g → (place : ℕ) → (g.pad_top + g.height) * stride_of g ≤ place → place < alloc_size_of g →
+      mark_at (cutting_plan g) place ≡ Some Border
   marks_below wide place from to =
       let at = row_and_column (stride_of g) place wide in
       let behind : (g.pad_top + g.height) * stride_of g ≤ at.0 * stride_of g + at.1 = omega (arith, at.2) in
       let in_front : at.0 * stride_of g + at.1 < alloc_height_of g * stride_of g = omega (arith, at.2) in
-      ap (mark_at (cutting_plan g)) at.2 ∙ marks.below at.0 at.1 (later_row (stride_of g) at.0 at.1 (g.pad_top + g.height) at.3 behind) (earlier_row (stride_of g) at.0 at.1 (alloc_height_of g) in_front) at.3
+      ap (mark_at (cutting_plan g)) at.2 ∙ marks.below at.0 at.1 (later_row (stride_of g) at.0 at.1 (g.pad_top +
+      g.height) at.3 behind) (earlier_row (stride_of g) at.0 at.1 (alloc_height_of g) in_front) at.3
 
   -- the three parts of a row that crosses the rectangle and begins at a place
   module _ (y start : ℕ) (high : y < g.height) (begins : start ≡ (g.pad_top + y) * stride_of g) where
@@ -115,7 +119,8 @@ module _ (g : Geometry) (marks : HasMarks g) where
   filled_everywhere value old new all place h = all.border place (within_buffer place Border h) h
 
   -- so it is where every place holds the value
-  pub agrees_with_filled : {T : Type 0} (value : T) (new : List T) → ((place : ℕ) → mark_at (cutting_plan g) place ≡ Some Border → slice_get new place ≡ Some value)
+  pub agrees_with_filled : {T : Type 0} (value : T) (new : List T) → ((place : ℕ) → mark_at (cutting_plan g) place ≡ Some Border →
+      slice_get new place ≡ Some value)
       → AgreeAt Border (raster g new) (filled value g)
   agrees_with_filled value new border place h = border place h ∙ sym (get-replicate (alloc_size_of g) value place (within_buffer place Border h))
 

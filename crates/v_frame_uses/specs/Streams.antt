@@ -14,6 +14,6 @@ pub record Carries {T : Type 0} (form : PixelForm T) (size : (ℕ × ℕ) × (Op
   pub read : Consumes left left' (flat_map (planar_bytes form) shown)
   pub written : Appends has has' (flat_map (λ tables. planar_bytes form (change tables)) shown)
 
--- the luma pixels of bytes made brighter by so much, up to the largest value
+-- the luma pixels of bytes made brighter by this much, up to the largest value
 abbrev pub brighter : ℕ → Tables ℕ → Tables ℕ
 brighter by tables = with_table tables 0 (map (map (λ pixel. min (pixel + by) 255)) tables.y)

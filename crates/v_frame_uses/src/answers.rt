@@ -1,4 +1,4 @@
-//! Calls as values, and their answers, read.
+//! Calls as values, and what is read from their answers.
 ghost use Rattle.std.specs.Prelude.{◌≡◌, [], ◌∷◌, Some, IfOk, IfErr, count_by, option_copied};
 ghost use Rattle.v_frame_uses.specs.Answers.{row_in};
 

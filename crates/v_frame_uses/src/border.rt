@@ -2,7 +2,7 @@
 ghost use Rattle.std.specs.Prelude.{◌≡◌, ◌≢◌, ◌-◌, ◌<◌, ◌≤◌, ℕ, length, Some, slice_get};
 ghost use Rattle.v_frame.specs.Prelude.{alloc_size_of, Fits, raster, filled, table_of, border_of, whole_rows, Border, Visible, cutting_plan, mark_at, AgreeAt};
 
-use v_frame::laws::{alike_entries_show_alike, places_have_marks};
+use v_frame::laws::{places_have_marks, same_entries_same_table};
 use v_frame::pixel::{Pixel, fill_row};
 use v_frame::plane::{Plane, PlaneGeometry, visible_rows_mut};
 
@@ -14,7 +14,7 @@ pub fn fill_border<T: Pixel>(plane: &mut Plane<T>, value: T)
     ensures geometry { plane.new.geometry ≡ plane.old.geometry }
 {
     places_have_marks();
-    alike_entries_show_alike::<T>();
+    same_entries_same_table::<T>();
     let geometry = plane.geometry();
     fill_border_places(geometry, plane.data_mut(), value);
 }

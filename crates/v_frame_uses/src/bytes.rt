@@ -32,7 +32,7 @@ pub fn count_of_bytes<T: Pixel>(plane: &Plane<T>) -> usize
 
 /// Fills the visible rectangle from bytes without tails, and appends what it then shows: the source, where it was accepted.
 ///
-/// The outer error is that of memory. Then the plane may be filled already.
+/// The outer error is an allocation failure. Then the plane may be filled already.
 pub fn through_a_plane<T: Pixel>(
     plane: &mut Plane<T>,
     source: &[u8],
@@ -53,7 +53,7 @@ pub fn through_a_plane<T: Pixel>(
 /// Fills the visible rectangle from bytes with a stride, and appends what it then shows: the rows of the source without their
 /// tails, where it was accepted.
 ///
-/// The outer error is that of memory. Then the plane may be filled already.
+/// The outer error is an allocation failure. Then the plane may be filled already.
 pub fn without_tails<T: Pixel>(
     plane: &mut Plane<T>,
     source: &[u8],

@@ -17,7 +17,7 @@ pub fn halve_pixels(plane: &mut Plane<u8>)
     map_pixels(plane, |pixel| pixel / 2);
 }
 
-/// Makes each luma pixel darker by so much, down to 0. The chroma planes stay.
+/// Makes each luma pixel darker by `by`, down to 0. The chroma planes stay.
 pub fn darken(frame: &mut Frame<u8>, by: u8)
     ensures tables { tables_of frame.new ≡ with_table (tables_of frame.old) 0
         (mapped (mapped (λ pixel. pixel - by)) (table_of frame.old.y_plane)) }

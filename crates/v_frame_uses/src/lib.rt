@@ -1,8 +1,7 @@
 //! What users write over `v_frame`: small functions, each with a contract of what it gives and leaves. Not all of them are
 //! exact.
 //!
-//! They are examples to copy, and they show that the public contracts are enough: nothing here looks into `v_frame`. Our
-//! own.
+//! They are there to be copied, and they show that the public contracts are enough: nothing here looks into `v_frame`. Our own.
 #![tactic(auto)]
 
 pub mod answers;
@@ -11,6 +10,7 @@ pub mod bytes;
 pub mod collages;
 pub mod filters;
 pub mod frames;
+pub mod iterators;
 pub mod lent;
 pub mod motion;
 pub mod pictures;
@@ -22,4 +22,5 @@ pub mod regions;
 pub mod row_pairs;
 pub mod start;
 pub mod streams;
-pub mod walks;
+pub mod video;
+pub mod y4m;

@@ -1,5 +1,4 @@
-//! What a search for motion asks of planes: how far blocks are apart, whether planes show the same, and the next smaller
-//! picture.
+//! What motion search asks of planes: how far blocks are apart, whether planes show the same, and the next smaller picture.
 ghost use Rattle.std.specs.Prelude.{◌≡◌, ◌*◌, ◌+◌, ◌≤◌, ◌↔◌, ℕ, List, IfSome, IsTrue, Some, slice_get};
 ghost use Rattle.v_frame.specs.Prelude.{absolute_differences, halved, rectangle, row_major, squared_errors, table_of};
 ghost use Rattle.v_frame_ops.specs.Prelude.{IsPadded};
@@ -26,7 +25,7 @@ pub fn cost_of_block<T: Pixel>(
     Some(sum_of_absolute_differences(&region, block))
 }
 
-/// Whether the squared errors of two planes of one size are at most so many.
+/// Whether the sum of the squared errors of two planes of one size is at most `most`.
 pub fn is_close<T: Pixel>(a: &PlaneRef<'_, T>, b: &PlaneRef<'_, T>, most: u128) -> bool
     requires wide { a.now.geometry.width ≡ b.now.geometry.width }
     requires high { a.now.geometry.height ≡ b.now.geometry.height }

@@ -9,7 +9,7 @@ use v_frame::laws::frames_are_equal;
 use v_frame::pixel::Pixel;
 use v_frame::plane::{Plane, PlaneGeometry};
 
-/// A plane in which each entry is its place in the buffer, counted from the front, as far as 16 bits tell it.
+/// A plane in which each entry is its index in the buffer, modulo 2^16.
 pub fn plane_of_places(alloc: Global, geometry: PlaneGeometry) -> Result<Plane<u16>, AllocError>
     requires { Fits geometry }
     ensures geometry { IfOk result (λ plane. plane.geometry ≡ geometry) }
@@ -21,7 +21,7 @@ pub fn plane_of_places(alloc: Global, geometry: PlaneGeometry) -> Result<Plane<u
     plane.assume_init(alloc).map_err(|_| AllocError)
 }
 
-/// Fills each entry with its place.
+/// Fills each entry with its index, modulo 2^16.
 fn fill_with_places(entries: &mut [Option<u16>])
     ensures { (place : ℕ) → place < length entries.old
         → slice_index_or entries.new place None ≡ Some (place % 65536) }

@@ -1,4 +1,4 @@
-//! Planes, read, and one filled.
+//! Reads of planes, and one that fills a plane.
 ghost use Rattle.std.specs.Prelude.{◌≡◌, ◌-◌, ◌*◌, ◌≤◌, ◌↔◌, IsTrue, Some, length, min, slice_get};
 ghost use Rattle.std.specs.Bool.{OnTrue, OnFalse};
 ghost use Rattle.v_frame.specs.Prelude.{alloc_size_of, isize_max, table_of, border_of, width_of, height_of, pixel_at, row_major};
@@ -34,8 +34,8 @@ pub fn nearest_row<T>(plane: &Plane<T>, y: usize) -> &[T]
     }
 }
 
-/// Fills the visible rectangle from packed pixels and tells whether it did: exactly where there is one for each place of
-/// the table. Then the rows, joined, are these pixels.
+/// Fills the visible rectangle from packed pixels and tells whether it did: exactly where there is one for each visible pixel.
+/// Then the rows, joined, are these pixels.
 pub fn is_filled_from<T: Pixel>(plane: &mut Plane<T>, source: &[T]) -> bool
     ensures accepted { IsTrue result
         ↔ (length source.now ≡ width_of (table_of plane.old) * height_of (table_of plane.old)) }

@@ -63,7 +63,7 @@ pub fn blit<T: Pixel>(
     }
 }
 
-/// So many pixels of row `y`, from column `x` on.
+/// `count` pixels of row `y`, from column `x` on.
 fn part_of_row<T: Pixel>(plane: &Plane<T>, y: usize, x: usize, count: usize) -> &[T]
     requires high { y < plane.now.geometry.height }
     requires wide { x + count ≤ plane.now.geometry.width }

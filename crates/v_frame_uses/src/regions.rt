@@ -1,4 +1,4 @@
-//! Blocks of a plane, read where they lie.
+//! Blocks of a plane, read without a copy.
 ghost use Rattle.std.specs.Prelude.{◌≡◌, ◌*◌, ◌==◌, ◌↔◌, IfSome, IsSome};
 ghost use Rattle.std.specs.List.{list_any};
 ghost use Rattle.v_frame.specs.Prelude.{IsInside, byte_list, rectangle, table_of};

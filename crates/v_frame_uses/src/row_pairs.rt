@@ -62,8 +62,8 @@ pub fn mix_rows_up(plane: &mut Plane<u8>)
     }
 }
 
-/// Smooths a plane from top to bottom: each row becomes a mix of the one above it, twice itself and the one below it. At
-/// the edges, where one of these lacks, it is mixed with the other alone.
+/// Smooths a plane from top to bottom: each row becomes a mix of the one above it, twice itself and the one below it. At the
+/// edges, where one of these is missing, it is mixed with the other alone.
 pub fn smooth_rows(plane: &mut Plane<u8>)
     ensures inner { (k : ℕ) (above row below : List ℕ)
         → slice_get (table_of plane.old) k ≡ Some above

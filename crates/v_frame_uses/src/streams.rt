@@ -1,4 +1,4 @@
-//! Streams of frames as planar bytes: copied, changed on their way, and read back.
+//! Streams of frames as headerless raw video: copied, changed on their way, and read back.
 ghost use Rattle.std.specs.Prelude.{◌≡◌, ◌<◌, ◌≤◌, IfOk, OnOk};
 ghost use Rattle.std.specs.Io.KnownBytes.{IsAtEnd};
 ghost use Rattle.v_frame.specs.Prelude.{one_byte, tables_of, KeepsBorders};
@@ -10,7 +10,7 @@ use std::alloc::Global;
 use std::io;
 use v_frame::frame::Frame;
 use v_frame::pixel::Pixel;
-use v_frame_planar::laws::alike_sizes_take_as_many_bytes;
+use v_frame_planar::laws::same_sizes_same_byte_count;
 use v_frame_planar::{Counted, PlanarError, read_frame, write_frame};
 
 /// Copies the frames of a stream to another one, so many at most, and counts them. Each is of the size of `frame`, which
@@ -74,7 +74,7 @@ pub fn through_memory<T: Pixel>(
         ≡ planar_bytes T.form (tables_of from.now)) }
     ensures borders { KeepsBorders to.old to.new }
 {
-    alike_sizes_take_as_many_bytes(to, from);
+    same_sizes_same_byte_count(to, from);
     let mut writer = Counted::new(Vec::new(alloc));
     write_frame(&mut writer, from)?;
     let bytes = writer.into_inner();

@@ -10,7 +10,7 @@ returns-clause-table g c =
     let new = c.fill_border_places.new.buffer in
     let buffer = put_back p.buffer new (c.fill_border_places.auto.buffer ∙ ap length c.data_mut.ensures.value) in
     let visible = rw (c.geometry-geometry.ensures.value, c.data_mut.ensures.value) at c.fill_border_places.ensures.visible in
-    ap (λ b. table_of (raster p.geometry b)) buffer ∙ (c.alike_entries_show_alike.ensures (raster p.geometry new) p refl).table visible
+    ap (λ b. table_of (raster p.geometry b)) buffer ∙ (c.same_entries_same_table.ensures (raster p.geometry new) p refl).table visible
 
 pub returns-clause-border : goal.returns-clause-border
 returns-clause-border g c =
@@ -18,4 +18,5 @@ returns-clause-border g c =
     let new = c.fill_border_places.new.buffer in
     let buffer = put_back p.buffer new (c.fill_border_places.auto.buffer ∙ ap length c.data_mut.ensures.value) in
     let border = rw c.geometry-geometry.ensures.value at c.fill_border_places.ensures.border in
-    ap (λ b. border_of (raster p.geometry b)) buffer ∙ (c.alike_entries_show_alike.ensures (raster p.geometry new) (filled c.args.value p.geometry) refl).border (agrees_with_filled p.geometry (c.places_have_marks.ensures p.geometry) c.args.value new border)
+    ap (λ b. border_of (raster p.geometry b)) buffer ∙ (c.same_entries_same_table.ensures (raster p.geometry new)
+    (filled c.args.value p.geometry) refl).border (agrees_with_filled p.geometry (c.places_have_marks.ensures p.geometry) c.args.value new border)

@@ -1,4 +1,4 @@
--- What lies around the picture is the nearest of its pixels, at each of the nine places.
+-- What is around the picture is the nearest of its pixels, at each of the nine places.
 use Rattle.std.proofs.Common.{ℕ, ◌≡◌, ◌+◌, ◌-◌, ◌<◌, Option, Some, ◌∙◌, ap, arith}
 use Rattle.v_frame.specs.Prelude.{pixel_at, table_of, width_of, height_of}
 use Rattle.v_frame_ops.specs.Prelude.{nearest}

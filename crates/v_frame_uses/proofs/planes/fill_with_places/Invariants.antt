@@ -1,4 +1,4 @@
--- The entries so far hold their places.
+-- The entries so far hold their indexes.
 use Rattle.std.proofs.Common.{◌≡◌, ◌%◌, ◌<◌, ℕ, None, Some, slice_index_or}
 use Rattle.v_frame_uses.proofs.planes.fill_with_places.Given as goal
 

@@ -26,7 +26,8 @@ mixed_all (p ∷ row) (q ∷ other) (suc x) h same = ap (λ r. (p + q) / 2 ∷ r
 pub loop-x-preserved : goal.loop-x-preserved
 loop-x-preserved c =
     let x = c.loop-x.x in let row = c.args.row.now in let other = c.args.other.now in
-    ap (slice_set c.loop-x.row x) c.midpoint.ensures ∙ ap (λ r. slice_set r x ((slice_index_or r x 0 + slice_index_or other x 0) / 2)) c.loop-x.invariant ∙ mixed_more row other x 0 0 c.loop-x-test.true c.requires
+    ap (slice_set c.loop-x.row x) c.midpoint.ensures ∙ ap (λ r. slice_set r x ((slice_index_or r x 0 + slice_index_or other x 0) / 2)) c.loop-x.invariant ∙
+    mixed_more row other x 0 0 c.loop-x-test.true c.requires
 
 pub returns : goal.returns
 returns c = c.loop-x.invariant ∙ mixed_all c.args.row.now c.args.other.now c.loop-x.x c.loop-x-test.false c.requires

@@ -6,7 +6,8 @@ use Rattle.v_frame_uses.proofs.row_pairs.mix_rows_up.Given as goal
 
 abbrev pub invariant-loop-k : goal.invariant-loop-k
 invariant-loop-k l = record {
-  mixed : (j : ℕ) (above row : List ℕ) → l.height ≤ j + l.k → slice_get (table_of l.fn.plane) j ≡ Some above → slice_get (table_of l.fn.plane) (j + 1) ≡ Some row → slice_get (table_of l.plane) (j + 1) ≡ Some (averages row above);
+  mixed : (j : ℕ) (above row : List ℕ) → l.height ≤ j + l.k → slice_get (table_of l.fn.plane) j ≡ Some above →
+      slice_get (table_of l.fn.plane) (j + 1) ≡ Some row → slice_get (table_of l.plane) (j + 1) ≡ Some (averages row above);
   others : (j : ℕ) → j + l.k ≤ l.height → slice_get (table_of l.plane) j ≡ slice_get (table_of l.fn.plane) j;
   border : KeepsBorder l.fn.plane l.plane;
 }

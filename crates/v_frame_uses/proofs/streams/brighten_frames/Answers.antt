@@ -15,8 +15,10 @@ loop-done-preserved g c =
     let before = c.loop-done.invariant in
     let shown = tables_of c.read_frame.new.frame in
     let changed : tables_of c.brighten.new.frame ≡ brighter c.args.by shown = c.in_ok-brighten.ensures.tables in
-    let read : Consumes (g.R.Read.remaining c.loop-done.reader.inner) (g.R.Read.remaining c.read_frame.new.reader.inner) (planar_bytes one_byte shown) = search rules in
-    let written = subst (λ t. Appends (g.W.Write.contents c.loop-done.writer.inner) (g.W.Write.contents c.write_frame.new.writer.inner) (planar_bytes one_byte t)) changed c.in_ok-write_frame.ensures.ok in
+    let read : Consumes (g.R.Read.remaining c.loop-done.reader.inner) (g.R.Read.remaining c.read_frame.new.reader.inner) (planar_bytes one_byte shown) =
+    search rules in
+    let written = subst (λ t. Appends (g.W.Write.contents c.loop-done.writer.inner) (g.W.Write.contents c.write_frame.new.writer.inner)
+    (planar_bytes one_byte t)) changed c.in_ok-write_frame.ensures.ok in
     let sized = c.in_ok-read_frame.ensures.sizes ∙ before.sized in
     record {
       carried = one_more_frame one_byte _ _ _ _ _ _ _ _ _ before.carried shown sized read written;

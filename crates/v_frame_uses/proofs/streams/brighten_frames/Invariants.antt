@@ -7,6 +7,7 @@ use Rattle.v_frame_uses.proofs.streams.brighten_frames.Given as goal
 
 abbrev pub invariant-loop-done : goal.invariant-loop-done
 invariant-loop-done g l = record {
-  carried : Carries one_byte (sizes_of (tables_of l.fn.frame)) (brighter l.by) (g.R.Read.remaining l.fn.reader.inner) (g.R.Read.remaining l.reader.inner) (g.W.Write.contents l.fn.writer.inner) (g.W.Write.contents l.writer.inner) l.done;
+  carried : Carries one_byte (sizes_of (tables_of l.fn.frame)) (brighter l.by) (g.R.Read.remaining l.fn.reader.inner) (g.R.Read.remaining l.reader.inner)
+      (g.W.Write.contents l.fn.writer.inner) (g.W.Write.contents l.writer.inner) l.done;
   sized : sizes_of (tables_of l.frame) ≡ sizes_of (tables_of l.fn.frame);
 }

@@ -14,7 +14,8 @@ loop-count-preserved g c =
     let before = c.loop-count.invariant in
     let form = g.T.Pixel.form in
     let shown = tables_of c.read_frame.new.frame in
-    let read : Consumes (g.R.Read.remaining c.loop-count.reader.inner) (g.R.Read.remaining c.read_frame.new.reader.inner) (planar_bytes form shown) = search rules in
+    let read : Consumes (g.R.Read.remaining c.loop-count.reader.inner) (g.R.Read.remaining c.read_frame.new.reader.inner) (planar_bytes form shown) =
+    search rules in
     let sized = c.in_ok-read_frame.ensures.sizes ∙ before.sized in
     record {
       carried = one_more_frame form _ _ _ _ _ _ _ _ _ before.carried shown sized read c.in_ok-write_frame.ensures.ok;

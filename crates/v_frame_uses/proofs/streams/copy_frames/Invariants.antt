@@ -7,6 +7,7 @@ use Rattle.v_frame_uses.proofs.streams.copy_frames.Given as goal
 
 abbrev pub invariant-loop-count : goal.invariant-loop-count
 invariant-loop-count g l = record {
-  carried : Carries g.T.Pixel.form (sizes_of (tables_of l.fn.frame)) (λ tables. tables) (g.R.Read.remaining l.fn.reader.inner) (g.R.Read.remaining l.reader.inner) (g.W.Write.contents l.fn.writer.inner) (g.W.Write.contents l.writer.inner) l.count;
+  carried : Carries g.T.Pixel.form (sizes_of (tables_of l.fn.frame)) (λ tables. tables) (g.R.Read.remaining l.fn.reader.inner)
+      (g.R.Read.remaining l.reader.inner) (g.W.Write.contents l.fn.writer.inner) (g.W.Write.contents l.writer.inner) l.count;
   sized : sizes_of (tables_of l.frame) ≡ sizes_of (tables_of l.fn.frame);
 }

@@ -1,7 +1,7 @@
 -- The sum so far and that of what is left are the whole, and no sum grows past what so many pixels can have.
 use Rattle.std.proofs.Common.{◌≡◌, ◌+◌, ◌*◌, ◌^◌, ◌≤◌, length, sum_by}
 use Rattle.v_frame.specs.Prelude.{table_of, row_major}
-use Rattle.v_frame_uses.proofs.walks.sum_of_pixels.Given as goal
+use Rattle.v_frame_uses.proofs.iterators.sum_of_pixels.Given as goal
 
 abbrev pub invariant-loop-pixel : goal.invariant-loop-pixel
 invariant-loop-pixel g l = record {

@@ -2,7 +2,7 @@
 use Rattle.std.proofs.Common.{◌≡◌, List, [], ◌∷◌, ◌⊎◌, inl, inr, refl, arith}
 use Rattle.std.specs.List.{zip}
 use Rattle.std.specs.Iterator.Adapters.{zip_first, zip_second}
-use Rattle.v_frame_uses.proofs.walks.count_of_differing_pixels.Goals as goal
+use Rattle.v_frame_uses.proofs.iterators.count_of_differing_pixels.Goals as goal
 
 no_pairs : {A B : Type 0} (xs : List A) (ys : List B) → (xs ≡ []) ⊎ (ys ≡ []) → zip xs ys ≡ []
 no_pairs [] ys ended = refl

@@ -4,7 +4,7 @@ use Rattle.std.specs.Prelude.{count_by}
 use Rattle.std.specs.List.{zip}
 use Rattle.std.specs.Iterator.Adapters.{zip_first, zip_second}
 use Rattle.v_frame.specs.Prelude.{table_of, row_major}
-use Rattle.v_frame_uses.proofs.walks.count_of_differing_pixels.Given as goal
+use Rattle.v_frame_uses.proofs.iterators.count_of_differing_pixels.Given as goal
 
 abbrev pub invariant-loop-p : goal.invariant-loop-p
 invariant-loop-p g l = record {

@@ -1,4 +1,4 @@
-//! Planes, walked: sums, counts and extremes of their pixels.
+//! Iterations over planes: sums, counts and extremes of their pixels.
 ghost use Rattle.std.specs.Prelude.{◌≡◌, ◌↔◌, ◌≤◌, not, All, Contains, length, count_by, sum_by, IfSome, IsNone};
 ghost use Rattle.std.specs.List.{zip};
 ghost use Rattle.v_frame.specs.Prelude.{table_of, row_major};
@@ -17,7 +17,7 @@ pub fn sum_of_pixels<T: Pixel>(plane: &Plane<T>) -> u128
     sum
 }
 
-/// How many visible pixels of two planes differ, place by place. The planes have one size.
+/// How many visible pixels of two planes differ, pixel by pixel. The planes have one size.
 pub fn count_of_differing_pixels<T: Pixel>(a: &Plane<T>, b: &Plane<T>) -> usize
     requires wide { a.now.geometry.width ≡ b.now.geometry.width }
     requires high { a.now.geometry.height ≡ b.now.geometry.height }
