@@ -12,10 +12,14 @@ fn main(rt: HostRuntime) -> ExitCode {
 
 /// Does what the arguments ask for.
 fn run_with_arguments(rt: &HostRuntime) -> io::Result<Status> {
-    let mut arguments = env::args(rt)?;
-    let _program = arguments.next();
+    let mut given = env::args(rt)?;
+    let _program = given.next();
+    let mut arguments = Vec::new(rt.alloc());
+    for argument in given {
+        arguments.push(argument)?;
+    }
     let mut words = Vec::new(rt.alloc());
-    for argument in arguments.as_slice() {
+    for argument in arguments.iter() {
         words.push(argument.as_str())?;
     }
     let streams = Streams {

@@ -1,5 +1,5 @@
 -- One more frame of a stream, and the end of it.
-use Rattle.std.proofs.Common.{ℕ, ◌≡◌, ◌+◌, All, List, [], ◌∷◌, ◌++◌, length, flat_map, Option, refl, sym, ◌∙◌, ap, subst, arith, append-nil, length-append}
+use Rattle.std.proofs.Common.{ℕ, ◌≡◌, ◌+◌, List, [], ◌∷◌, ◌++◌, flat_map, Option, refl, sym, ◌∙◌, ap, subst, arith, append-nil, length-append}
 use Rattle.std.proofs.lemmas.List.Elements.{All-push}
 use Rattle.std.proofs.lemmas.Grind.{flat_map-append}
 use Rattle.std.specs.Io.KnownBytes.{Appends, Consumes}

@@ -1,7 +1,8 @@
 //! Two streams, compared frame by frame.
-ghost use Rattle.std.specs.Prelude.{◌≡◌};
+ghost use Rattle.std.specs.Prelude.{◌≡◌, ◌↔◌, IfSome, IsNone, IsTrue, Some};
 ghost use Rattle.v_frame.specs.Prelude.{tables_of};
 ghost use Rattle.v_frame_planar.specs.Planar.{sizes_of};
+ghost use Rattle.yuv_frames.specs.Sums.{added};
 
 use crate::fault::{Fault, Problem};
 use crate::progress::Progress;
@@ -53,13 +54,19 @@ impl Comparison {
     }
 
     /// Whether the streams show the same.
-    pub fn shows_the_same(&self) -> bool {
+    pub fn shows_the_same(&self) -> bool
+        ensures { IsTrue result ↔ (IsNone self.now.difference × IsNone self.now.longer) }
+    {
         self.difference.is_none() && self.longer.is_none()
     }
 
     /// This with one more frame of each stream, of which the errors are these.
     fn with_frames<T: Pixel>(&self, first: &Frame<T>, second: &Frame<T>, errors: &PlaneSums) -> Self
         requires { sizes_of (tables_of first.now) ≡ sizes_of (tables_of second.now) }
+        ensures errors { result.errors ≡ added self.now.errors errors.now }
+        ensures earlier { IfSome self.now.difference (λ found. result.difference ≡ Some found) }
+        ensures same { IsNone result.difference ↔ (IsNone self.now.difference
+            × (tables_of first.now ≡ tables_of second.now)) }
     {
         let difference = match self.difference {
             Some(found) => Some(found),
@@ -121,7 +128,12 @@ fn advance_both<T: Pixel, R: io::Read, S: io::Read>(
     first: &mut Input<T, R>,
     second: &mut Input<T, S>,
     before: u64,
-) -> Result<Step, Fault> {
+) -> Result<Step, Fault>
+    ensures first { sizes_of (tables_of first.new.frame)
+        ≡ sizes_of (tables_of first.old.frame) }
+    ensures second { sizes_of (tables_of second.new.frame)
+        ≡ sizes_of (tables_of second.old.frame) }
+{
     let one = match first.advance(alloc, before) {
         Ok(one) => one,
         Err(fault) => return Err(Fault::first(Problem::Frame(fault))),

@@ -1,7 +1,7 @@
 -- One more frame was carried as it is, or the copy stops behind those that were.
-use Rattle.std.proofs.Common.{◌≡◌, ◌∙◌, true, refl, subst, rules}
+use Rattle.std.proofs.Common.{◌∙◌, true, refl, subst, rules}
 use Rattle.std.specs.Io.KnownBytes.{Appends}
-use Rattle.v_frame.specs.Prelude.{Tables, tables_of}
+use Rattle.v_frame.specs.Prelude.{tables_of}
 use Rattle.v_frame_planar.specs.Counted.{AppendsBeginning}
 use Rattle.v_frame_planar.specs.Planar.{sizes_of}
 use Rattle.yuv_commands.specs.Copies.{IsWriteFault, StopsCopy}

@@ -1,5 +1,5 @@
 -- One more frame was carried and changed, or the copy stops behind those that were.
-use Rattle.std.proofs.Common.{◌≡◌, ◌∙◌, true, refl, sym, subst, rules}
+use Rattle.std.proofs.Common.{◌∙◌, true, refl, sym, subst, rules}
 use Rattle.std.specs.Io.KnownBytes.{Appends}
 use Rattle.v_frame.specs.Prelude.{Tables, tables_of}
 use Rattle.yuv_frames.specs.Edits.{edited, EditFits, Sizes}
