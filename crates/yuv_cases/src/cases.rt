@@ -1,16 +1,18 @@
 //! The runs, one after the other.
 
+use crate::pipe::Pipe;
 use std::alloc::Global;
 use std::fs;
 use std::io::{self, BufWriter, Read, Write};
 use std::rt::Files;
 use yuv_commands::{Streams, run};
 
-/// A run: its arguments, and the files that stand for the standard streams.
+/// A run: its arguments, the files that stand for the standard streams, and how many bytes standard output takes.
 #[derive(Drop)]
 struct Case<'a> {
     words: Vec<&'a str>,
     input: Option<&'a str>,
+    room: usize,
     output: Option<&'a str>,
 }
 
@@ -36,6 +38,10 @@ fn case_of(alloc: Global, line: &str) -> io::Result<Case<'_>> {
         Some((line, file)) => (line, Some(file)),
         None => (line, None),
     };
+    let (line, room) = match line.split_once(" | ") {
+        Some((line, room)) => (line, room.parse().unwrap_or(0)),
+        None => (line, usize::MAX),
+    };
     let (line, input) = match line.split_once(" < ") {
         Some((line, file)) => (line, Some(file)),
         None => (line, None),
@@ -48,6 +54,7 @@ fn case_of(alloc: Global, line: &str) -> io::Result<Case<'_>> {
     Ok(Case {
         words,
         input,
+        room,
         output,
     })
 }
@@ -60,7 +67,7 @@ fn run_case<H: Files + AllocGlobal, W: Write>(rt: &H, line: &str, out: &mut W) -
         Some(file) => fs::read(rt, file)?,
         None => Vec::new(alloc),
     };
-    let mut output = Vec::new(alloc);
+    let mut output = Pipe::new(alloc, case.room);
     let mut error = Vec::new(alloc);
     let streams = Streams {
         input: given.as_slice(),
@@ -70,8 +77,8 @@ fn run_case<H: Files + AllocGlobal, W: Write>(rt: &H, line: &str, out: &mut W) -
     let status = run(rt, case.words.as_slice(), streams).code();
     writeln!(out, "$ yuv {line}")?;
     match case.output {
-        Some(file) => print_same(rt, output.as_slice(), file, out)?,
-        None => out.write_all(output.as_slice())?,
+        Some(file) => print_same(rt, output.taken(), file, out)?,
+        None => out.write_all(output.taken())?,
     }
     out.write_all(error.as_slice())?;
     writeln!(out, "status {status}")

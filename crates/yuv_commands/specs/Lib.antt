@@ -1,3 +1,4 @@
+pub mod Comparisons
 pub mod Copies
 pub mod Run
 pub mod Streams

@@ -1,8 +1,10 @@
 //! Two streams, compared frame by frame.
-ghost use Rattle.std.specs.Prelude.{◌≡◌, ◌↔◌, IfSome, IsNone, IsTrue, Some};
+ghost use Rattle.std.specs.Prelude.{◌≡◌, ◌+◌, ◌↔◌, IfOk, IfSome, IsNone, IsTrue, None, Some, min};
 ghost use Rattle.v_frame.specs.Prelude.{tables_of};
 ghost use Rattle.v_frame_planar.specs.Planar.{sizes_of};
+ghost use Rattle.yuv_frames.specs.Frames.{FramesDifferFirst};
 ghost use Rattle.yuv_frames.specs.Sums.{added};
+ghost use Rattle.yuv_commands.specs.Comparisons.{most_frames, no_errors, Compares, StepReads};
 
 use crate::fault::{Fault, Problem};
 use crate::progress::Progress;
@@ -40,7 +42,14 @@ pub struct Comparison {
 
 impl Comparison {
     /// That of no frames, of which each would have the planes of this one.
-    pub fn new<T: Pixel>(frame: &Frame<T>) -> Self {
+    pub fn new<T: Pixel>(frame: &Frame<T>) -> Self
+        ensures { result ≡ record {
+          frames = 0;
+          errors = no_errors (sizes_of (tables_of frame.now));
+          difference = None;
+          longer = None;
+        } }
+    {
         Comparison {
             frames: 0,
             errors: PlaneSums {
@@ -63,10 +72,15 @@ impl Comparison {
     /// This with one more frame of each stream, of which the errors are these.
     fn with_frames<T: Pixel>(&self, first: &Frame<T>, second: &Frame<T>, errors: &PlaneSums) -> Self
         requires { sizes_of (tables_of first.now) ≡ sizes_of (tables_of second.now) }
+        ensures frames { result.frames ≡ min (self.now.frames + 1) most_frames }
         ensures errors { result.errors ≡ added self.now.errors errors.now }
         ensures earlier { IfSome self.now.difference (λ found. result.difference ≡ Some found) }
         ensures same { IsNone result.difference ↔ (IsNone self.now.difference
             × (tables_of first.now ≡ tables_of second.now)) }
+        ensures first { IfSome result.difference (λ found. IsNone self.now.difference
+            → (found.0 ≡ self.now.frames)
+            × FramesDifferFirst T.form.value (tables_of first.now) (tables_of second.now) found.1) }
+        ensures longer { result.longer ≡ None }
     {
         let difference = match self.difference {
             Some(found) => Some(found),
@@ -107,6 +121,10 @@ pub fn compare_streams<T: Pixel, R: io::Read, S: io::Read, W: io::Write, E: io::
     progress: &mut Progress<E>,
 ) -> Result<Comparison, Fault>
     requires { sizes_of (tables_of first.old.frame) ≡ sizes_of (tables_of second.old.frame) }
+    ensures { IfOk result (Compares T.form first.old.container second.old.container
+        (R.remaining first.old.reader.inner) (R.remaining first.new.reader.inner)
+        (S.remaining second.old.reader.inner) (S.remaining second.new.reader.inner)
+        (sizes_of (tables_of first.old.frame))) }
 {
     let mut found = Comparison::new(&first.frame);
     for before in 0..u64::MAX {
@@ -129,10 +147,16 @@ fn advance_both<T: Pixel, R: io::Read, S: io::Read>(
     second: &mut Input<T, S>,
     before: u64,
 ) -> Result<Step, Fault>
+    ensures read { IfOk result (StepReads T.form first.old.container second.old.container
+        (R.remaining first.old.reader.inner) (R.remaining first.new.reader.inner)
+        (S.remaining second.old.reader.inner) (S.remaining second.new.reader.inner)
+        (tables_of first.new.frame, tables_of second.new.frame)) }
     ensures first { sizes_of (tables_of first.new.frame)
         ≡ sizes_of (tables_of first.old.frame) }
     ensures second { sizes_of (tables_of second.new.frame)
         ≡ sizes_of (tables_of second.old.frame) }
+    ensures first_container { first.new.container ≡ first.old.container }
+    ensures second_container { second.new.container ≡ second.old.container }
 {
     let one = match first.advance(alloc, before) {
         Ok(one) => one,
