@@ -1,5 +1,6 @@
 -- What lends rows and pixels for writing, and the steps of the proofs by hand of it.
 pub mod Cuts
+pub mod Dropped
 pub mod Loans
 pub mod PixelCalls
 pub mod PixelCuts
