@@ -46,5 +46,5 @@ module _ {M : Type 1} {𝓤 : Ura M} (𝓛 : Logic 𝓤) (𝓜 : Model 𝓤 𝓛
       -- [the token of κT; nothing]
       move ! (1 ∷ []) $ drop ! $ use0 𝓛 (‵ law) holds $
       suffices ! _ (ends_at 𝓛 En stayed clauses ((κs, qs, bounds, a, tt), g) vunit tt tt tt) $
-      nothing ! $ feq_i ! (List Val) (vunit ∷ []) (vunit ∷ []) refl $ move ! (1 ∷ 0 ∷ []) $ join ! $ nothing ! $ move ! (3 ∷ 0 ∷ []) $ join ! $ join ! $ join ! $
-      done !))
+      nothing ! $ feq_i ! (List Val) (vunit ∷ []) (vunit ∷ []) refl $ move ! (1 ∷ 0 ∷ []) $ join ! $ nothing ! $ move ! (3 ∷ 0 ∷ []) $ join ! $ join ! $
+      join ! $ done !))

@@ -17,6 +17,7 @@ use Rattle.v_frame_plane.proofs.lent.Steps.{use0, use1, use3}
 use base.Stored.{Gv}
 use types.Kit.{by}
 use mir.Val.{vunit}
+use prog.Memory.{size}
 use Rattle.v_frame_plane.specs.PixelsLeft.{pixels_left}
 use Rattle.v_frame_plane.specs.SecondPixels.{KeepsPixels}
 use Rattle.v_frame_plane.specs.contracts.pixels_mut.PixelsMut.refill_front
@@ -37,9 +38,12 @@ Fields = tcons word (tcons RowsBare (tcons word tnil))
 abbrev pub whole : Val → Val → Val → Val
 whole front rows back = vstruct (vcons front (vcons rows (vcons back vnil)))
 
--- where its rows lie, in bytes
+-- where its rows lie, and its last field, in bytes
 abbrev pub rows_offset : ℕ
-rows_offset = 16
+rows_offset = size word
+
+abbrev pub back_offset : ℕ
+back_offset = rows_offset + size RowsBare
 
 abbrev pub lowered : {X : Type 0} → PixelsMut X → Val
 lowered walk = whole (slice_of walk.front) (rows_lowered walk.rows) (slice_of walk.back)
@@ -69,8 +73,8 @@ module _ {M : Type 1} {𝓤 : Ura M} (𝓛 : Logic 𝓤) (b o : ℕ) where
     pub rows_out : ent 𝓤 (Whole (whole front rows back)) (sep 𝓤 (Slot RowsBare rows_offset rows) (Around RowsBare rows_offset (λ u. whole front u back)))
     rows_out = 𝓛.laws.at_field full_share [] Fields 1 RowsBare rows_offset refl b o (vcons front (vcons rows (vcons back vnil)))
 
-    pub back_out : ent 𝓤 (Whole (whole front rows back)) (sep 𝓤 (Slot word 64 back) (Around word 64 (λ u. whole front rows u)))
-    back_out = 𝓛.laws.at_field full_share [] Fields 2 word 64 refl b o (vcons front (vcons rows (vcons back vnil)))
+    pub back_out : ent 𝓤 (Whole (whole front rows back)) (sep 𝓤 (Slot word back_offset back) (Around word back_offset (λ u. whole front rows u)))
+    back_out = 𝓛.laws.at_field full_share [] Fields 2 word back_offset refl b o (vcons front (vcons rows (vcons back vnil)))
 
   pub field_in : (τ : Ty) (d : ℕ) (put : Val → Val) (v : Val) → ent 𝓤 (sep 𝓤 (Slot τ d v) (Around τ d put)) (Whole (put v))
   field_in τ d put v = qed 𝓛 (‵ (fat full_share τ b (o + d) v) ∷ raw (Around τ d put) ∷ []) ∵ move ! (1 ∷ 0 ∷ []) $

@@ -11,7 +11,6 @@ use Rattle.v_frame_plane.proofs.lent.Steps.{fobor, fobs, flft, mem, Body, Step, 
 use Rattle.v_frame_plane.proofs.lent.Steps.{follows_both, full_share, fat, ftrue, ent, sep, id⊢, fact, ◌⊑◌, param, RattleType, Clauses, Ty, Val, vptr, vint}
 use Rattle.v_frame_plane.proofs.lent.Steps.{w64}
 use Rattle.v_frame_plane.proofs.lent.Steps.{Ura, Item, ‵, Logic, sem, sub, fld, look_in, load, of_opd, stop, through, erased, mut, slice_ty, tcons, tnil}
-use Rattle.v_frame_plane.proofs.lent.Steps.{ty_int}
 use Rattle.v_frame_plane.proofs.lent.Steps.{ty_param, ty_ref, ty_struct}
 use base.Stored.{Gv}
 use lib.Dec.{T}
@@ -35,7 +34,7 @@ use Rattle.v_frame_plane.specs.contracts.rows_mut.RowsMut.next as rows_next
 use Rattle.v_frame_plane.specs.declared.rows_mut.RowsMut.{RowsMut}
 use Rattle.v_frame_plane.specs.declared.pixels_mut.PixelsMut.{PixelsMut}
 use Rattle.v_frame_plane.proofs.lent.PixelMemory.{Around, Bare, Named, back_out, closes_pixels, front_out, lowered, parts, whole}
-use Rattle.v_frame_plane.proofs.lent.RowMemory.{slice_of, lowered as rows_lowered}
+use Rattle.v_frame_plane.proofs.lent.RowMemory.{Numbers, slice_of, lowered as rows_lowered}
 use Rattle.v_frame_plane.proofs.lent.Sides.{Side, at_front, at_back, slot, other, offset, near, far, put, Countable, walk_by, Steps, Yields, YieldsRow}
 use Rattle.v_frame_plane.proofs.lent.Sides.{LendsRow}
 use Rattle.v_frame_plane.proofs.lent.Sides.{Takes, Lends}
@@ -104,7 +103,7 @@ abbrev pub part : Ty
 part = slice_ty (ty_ref erased mut (ty_param 0))
 
 abbrev pub Walk : Sym → Sym → Ty
-Walk ν ρ = let n = ty_int w64 in ty_struct ν (tcons part (tcons (ty_struct ρ (tcons part (tcons n (tcons n (tcons n (tcons n tnil)))))) (tcons part tnil)))
+Walk ν ρ = ty_struct ν (tcons part (tcons (ty_struct ρ (tcons part Numbers)) (tcons part tnil)))
 
 module _ {M : Type 1} {𝓤 : Ura M} {𝓛 : Logic 𝓤} {Γ : List (Item 𝓤)} {result self : Ty × ℕ} {locals : Env 𝓤 𝓛.H} where
   pub near_len : Go {0} → (s : Side) {X : Type 0} (walk : PixelsMut X) {ν ρ : Sym} {q p : Share} {b o : ℕ} {back : Val → Item 𝓤} →

@@ -30,7 +30,7 @@ use Rattle.v_frame_plane.proofs.lent.Taken.{Slice, Take, Taken, asked, calls_tak
 use Rattle.v_frame_plane.proofs.rows_mut.RowsMut.TheLaws.{lowers}
 
 -- its numbers, and it as a machine value
-abbrev Numbers : Tys
+abbrev pub Numbers : Tys
 Numbers = tcons (ty_int w64) (tcons (ty_int w64) (tcons (ty_int w64) (tcons (ty_int w64) tnil)))
 
 abbrev pub numbers : (start width gap count : ℕ) → Vals

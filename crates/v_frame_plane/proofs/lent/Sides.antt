@@ -11,6 +11,7 @@ use Rattle.v_frame_plane.specs.SecondPixels.{LendsFirstPixel, LendsLastPixel, Pi
 use Rattle.v_frame_plane.specs.SecondRows.{LendsFirstRow, LendsLastRow}
 use Rattle.v_frame_plane.specs.declared.pixels_mut.PixelsMut.{PixelsMut}
 use Rattle.v_frame_plane.specs.declared.rows_mut.RowsMut.{RowsMut}
+use Rattle.v_frame_plane.proofs.lent.PixelMemory.{back_offset}
 
 pub data Side : Type 0 where
   at_front at_back : Side
@@ -26,7 +27,7 @@ other at_back = at_front
 -- where that field begins, in bytes
 abbrev pub offset : Side → ℕ
 offset at_front = 0
-offset at_back = 64
+offset at_back = back_offset
 
 module _ {X : Type 0} where
   abbrev pub near : Side → PixelsMut X → MutBor (List X)
