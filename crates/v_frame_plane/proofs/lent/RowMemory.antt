@@ -1,6 +1,6 @@
 -- An iterator that lends rows, in memory, for the proofs by hand of its `next` and `next_back`. Assumes `Logic`.
--- opens_walk a `&mut` to it is opened. takes_slice `take` at its slice. bare,
--- walk_owned what it is made of again
+--     opens_walk     a `&mut` to it is opened.        takes_slice     `take` at its slice.        moved     it after a call
+--     bare, walk_owned     what it is made of again
 --     exits     the tokens, self and what is given, in which a function of `&mut self` of an iterator ends.        ends_draw      how a call ends
 use Rattle.v_frame_plane.proofs.lent.Steps.{ℕ, ◌+◌, ◌^◌, ◌<◌, List, [], ◌∷◌, length, Option, w64, MutBor, refl, Lft, Share, fat, fauth, fbor, flent, flft}
 use Rattle.v_frame_plane.proofs.lent.Steps.{fobor}
@@ -22,6 +22,7 @@ use types.Kit.{Post, lands, runs}
 use types.Run.{Opds}
 use lib.Dec.{T}
 use mir.Val.{Fits, WT, has_ty}
+use Rattle.v_frame_plane.specs.Cursor.{RowsAreWithin}
 use Rattle.v_frame_plane.specs.contracts.rows_mut.RowsMut.{struct, the_row, the_type}
 use Rattle.v_frame_plane.specs.contracts.rows_mut.RowsMut.next
 use Rattle.v_frame_plane.specs.declared.rows_mut.RowsMut.{RowsMut}
@@ -29,18 +30,18 @@ use Rattle.v_frame_plane.proofs.lent.Loans.{Back, at_one, opens_self}
 use Rattle.v_frame_plane.proofs.lent.Taken.{Slice, Take, Taken, asked, calls_take, word}
 use Rattle.v_frame_plane.proofs.rows_mut.RowsMut.TheLaws.{lowers}
 
--- its numbers, and it as a machine value
+-- its numbers, where `start` and `count` are these, and it as a machine value
 abbrev pub Numbers : Tys
 Numbers = tcons (ty_int w64) (tcons (ty_int w64) (tcons (ty_int w64) (tcons (ty_int w64) tnil)))
 
-abbrev pub numbers : (start width gap count : ℕ) → Vals
-numbers start width gap count = vcons (vint w64 start) (vcons (vint w64 width) (vcons (vint w64 gap) (vcons (vint w64 count) vnil)))
+abbrev pub numbers : {X : Type 0} → RowsMut X → (start count : ℕ) → Vals
+numbers walk start count = vcons (vint w64 start) (vcons (vint w64 walk.width) (vcons (vint w64 walk.gap) (vcons (vint w64 count) vnil)))
 
 abbrev pub slice_of : {X : Type 0} → MutBor (List X) → Val
 slice_of x = slice_val x.ref_ptr (length x.now)
 
 abbrev pub lowered : {X : Type 0} → RowsMut X → Val
-lowered walk = vstruct (vcons (slice_of walk.rest) (numbers walk.start walk.width walk.gap walk.count))
+lowered walk = vstruct (vcons (slice_of walk.rest) (numbers walk walk.start walk.count))
 
 -- the positions of its fields
 abbrev pub rest_at : ℕ
@@ -65,8 +66,17 @@ Bare = ty_struct [] (tcons word Numbers)
 abbrev pub Named : (a : NamedLft) (T : RattleType) → Ty
 Named a T = ty_struct (struct a T).name (tcons (slice_ty (ty_ref erased mut (ty_param 0))) Numbers)
 
--- in a cell its numbers fit, and so does the length of its slice
-module _ {X : Type 0} (walk : RowsMut X) (ok : T (has_ty Bare (lowered walk)) × WT (lowered walk)) where
+-- it after a call, with another slice, start and count
+abbrev pub moved : {X : Type 0} (walk : RowsMut X) (rest : MutBor (List X)) (start count : ℕ) →
+    RowsAreWithin start walk.width walk.gap count (length rest.now) → RowsMut X
+moved walk rest start count within =
+    record { rest = rest; start = start; width = walk.width; gap = walk.gap; count = count; within = within }
+
+-- in a cell it is well typed: its numbers fit, and so does the length of its slice
+abbrev pub WellTyped : {X : Type 0} → RowsMut X → Type 0
+WellTyped walk = T (has_ty Bare (lowered walk)) × WT (lowered walk)
+
+module _ {X : Type 0} (walk : RowsMut X) (ok : WellTyped walk) where
   abbrev pub rest_fit : Fits w64 (length walk.rest.now)
   rest_fit = ok.1.0.1.0
 
@@ -100,11 +110,13 @@ module _ {M : Type 1} {𝓤 : Ura M} (𝓛 : Logic 𝓤) (b o : ℕ) (ns : Vals)
   pub bare : (a : NamedLft) (T : RattleType) (v : Val) → ent 𝓤 (𝓛.H.at full_share (Named a T) b o (vstruct (vcons v ns))) (Whole v)
   bare a T v = 𝓛.laws.at_raw full_share (Named a T) b o (vstruct (vcons v ns))
 
--- what an iterator owns, from what its slice does
-pub walk_owned : {M : Type 1} {𝓤 : Ura M} (𝓛 : Logic 𝓤) (a : NamedLft) (T : RattleType) (walk : RowsMut T.Denot) → walk.start < 2 ^ 64 → walk.width < 2 ^ 64 →
-    walk.gap < 2 ^ 64 → walk.count < 2 ^ 64
-    → ent 𝓤 (sem 𝓛 ((MutSlice a.mir a.lft T).own_val walk.rest (slice_of walk.rest ∷ []))) (sem 𝓛 ((the_row a T).own_val walk (lowered walk ∷ [])))
-walk_owned 𝓛 a T walk s w g c =
+-- what an iterator owns after a call, from what its slice does
+pub walk_owned : {M : Type 1} {𝓤 : Ura M} (𝓛 : Logic 𝓤) (a : NamedLft) (T : RattleType) (old : RowsMut T.Denot) → WellTyped old →
+    (rest : MutBor (List T.Denot)) (start count : ℕ) (inside : RowsAreWithin start old.width old.gap count (length rest.now)) → start < 2 ^ 64 →
+    count < 2 ^ 64 → let walk = moved old rest start count inside in
+    ent 𝓤 (sem 𝓛 ((MutSlice a.mir a.lft T).own_val rest (slice_of rest ∷ []))) (sem 𝓛 ((the_row a T).own_val walk (lowered walk ∷ [])))
+walk_owned 𝓛 a T old ok rest start count inside s c =
+    let walk = moved old rest start count inside in let w = (width_fit old ok).fits in let g = (gap_fit old ok).fits in
     qed 𝓛 (‵ ((MutSlice a.mir a.lft T).own_val walk.rest (slice_of walk.rest ∷ [])) ∷ []) ∵
     nothing ! $ owned ! usize _ (uint_Makes 𝓛 w64) walk.count _ (refl, c) $ fjoin ! $ owned ! usize _ (uint_Makes 𝓛 w64) walk.gap _ (refl, g) $ fjoin ! $
     owned ! usize _ (uint_Makes 𝓛 w64) walk.width _ (refl, w) $ fjoin ! $ owned ! usize _ (uint_Makes 𝓛 w64) walk.start _ (refl, s) $ fjoin ! $

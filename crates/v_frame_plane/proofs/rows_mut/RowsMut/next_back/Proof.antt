@@ -16,12 +16,11 @@ use Rattle.v_frame_plane.specs.RowsLeft.{rows_left}
 use Rattle.v_frame_plane.specs.SecondRows.{EndsAs, LendsLastRow}
 use Rattle.v_frame_plane.specs.contracts.rows_mut.RowsMut as rows_mut
 use Rattle.v_frame_plane.specs.contracts.rows_mut.RowsMut.next_back
-use Rattle.v_frame_plane.specs.declared.rows_mut.RowsMut.{RowsMut}
 use Rattle.v_frame_plane.proofs.lent.Cuts.{dropped, splits, slice_fits, slices_fit}
 use Rattle.v_frame_plane.proofs.lent.Loans.{begins}
 use Rattle.v_frame_plane.proofs.lent.RowDraws.{no_row, some_left, none_left, stays, moves_on, last_drawn, behind, last_within, front_within}
 use Rattle.v_frame_plane.proofs.lent.RowLoans.{keeps_rows, lends_last_row}
-use Rattle.v_frame_plane.proofs.lent.RowMemory.{bare, count_at, count_fit, ends_draw, gap_at, gap_fit, lowered, numbers, opens_walk, rest_at, rest_fit}
+use Rattle.v_frame_plane.proofs.lent.RowMemory.{bare, count_at, count_fit, ends_draw, gap_at, gap_fit, lowered, moved, numbers, opens_walk, rest_at, rest_fit}
 use Rattle.v_frame_plane.proofs.lent.RowMemory.{slice_of}
 use Rattle.v_frame_plane.proofs.lent.RowMemory.{start_at, start_fit, stayed, takes_slice, walk_owned, width_at, width_fit}
 use Rattle.v_frame_plane.proofs.lent.Taken.{take_meets}
@@ -38,7 +37,7 @@ next_back_spec 𝓤 𝓛 𝓜 𝓡 wired T laws =
     let κ = κs.0 in let q = qs.0 in let κa = κs.1.0 in let qa = qs.1.0 in let κT = κs.1.1.0 in let qT = qs.1.1.0 in let aT = bounds.1.1.0 in
     let ℓ = named_lft 3 1 tt κs in let Row = rows_mut.the_row ℓ item in let Slice = MutSlice (named 1) κa item in
     let self = a.0 in let b = self.ref_ptr.0 in let o = self.ref_ptr.1 in let h = self.now in let rest = h.rest in let ns =
-    numbers h.start h.width h.gap h.count in
+    numbers h h.start h.count in
     let meets = split_met.met 𝓤 𝓛 𝓜 𝓡 (code.calls-core::slice::slice+T::split_at_mut 𝓡.env wired) T laws in
     let Post = (walk_of 𝓛 (next_back.ended T) (stayed T) c).post ((κs, qs, bounds, a, (mut_vals self, tt)), g) in
     begins 𝓛 κs qs ((MutRef (named 0) κ Row).own_val self (mut_vals self)) (κT ⊑ T.lives) (‵ ftrue) (λ inT. keep ! (0 ∷ 1 ∷ 2 ∷ 3 ∷ []) $
@@ -65,7 +64,7 @@ next_back_spec 𝓤 𝓛 𝓜 𝓡 wired T laws =
     sets ! (bin ! (get ! refl) (lit ! tt) more_left) refl (tt, record { fits = fewer }) $
     assigns ! (of_opd ! (get ! refl)) (through ! refl (fld ! refl (stop !))) (store_in ! 0 (sub ! count_at refl (whole !)) (tt, record { fits = fewer })) $
     -- the place of the last row
-    let ns = numbers h.start h.width h.gap (h.count - 1) in
+    let ns = numbers h h.start (h.count - 1) in
     let stride : h.width + h.gap < 2 ^ 64 = h.within.stride in
     let between : (h.count - 1) * (h.width + h.gap) < 2 ^ 64 = omega (arith, room, (rest_fit h ok).fits) in
     let place : behind h < 2 ^ 64 = omega (arith, room, (rest_fit h ok).fits) in
@@ -104,15 +103,7 @@ next_back_spec 𝓤 𝓛 𝓜 𝓡 wired T laws =
     (and_then ! (get ! refl) (and_then ! (get ! refl) (no_more !))) (λ row back row_is back_is row_fits back_fits.
     lands_as ! refl refl (slices_fit row_fits back_fits) $
     sets ! (of_opd ! (get_in ! (fld ! refl (stop !)) (sub ! 0 refl (whole !)))) refl (slice_fits row_fits) $
-    let new : RowsMut T.Denot = record {
-      rest = others;
-      start = h.start;
-      width = h.width;
-      gap = h.gap;
-      count = h.count - 1;
-      within =
-          front_within h others.now more_left others_is;
-    } in
+    let within = front_within h others.now more_left others_is in let new = moved h others h.start (h.count - 1) within in
     let part = slice_val row.ref_ptr (length row.now) in let out = live 1 (of_list (part ∷ [])) in
     sets ! (addr ! (from ! (fld ! refl (hop ! (look_in_at ! 5 (sub ! 0 refl (whole !))) (stop !))))) refl (tt, tt) $
     sets ! (agg ! (and_then ! (get ! refl) (and_then ! (get_in ! (fld ! refl (stop !)) (sub ! 1 refl (whole !))) (no_more !)))) refl (slice_fits row_fits) $
@@ -123,7 +114,7 @@ next_back_spec 𝓤 𝓛 𝓜 𝓡 wired T laws =
     -- [the row; the back; how the last part ends; the tokens of κa and κT; the others; how the slice ends; self's cell; the open borrow]
     move ! (1 ∷ []) $ use1 𝓛 (‵ (EndsAs item back.ghost_name back.now)) (dropped 𝓛 item (named 0) κa back _) $
     move ! (7 ∷ []) $ use1 𝓛 (‵ (cell_at full_share Row.mir (lowered new ∷ []) b o)) (bare 𝓛 b o ns ℓ item (slice_of others)) $
-    move ! (6 ∷ []) $ use1 𝓛 (‵ (Row.own_val new (lowered new ∷ []))) (walk_owned 𝓛 ℓ item new start_fits.fits width_fits.fits gap_fits.fits fewer) $
+    move ! (6 ∷ []) $ use1 𝓛 (‵ (Row.own_val new (lowered new ∷ []))) (walk_owned 𝓛 ℓ item h ok others h.start (h.count - 1) within start_fits.fits fewer) $
     -- [what self owns; self's cell; how the back ends; the row; how the last part ends; the tokens of κa and κT; how the slice ends; the open borrow]
     move ! (1 ∷ 0 ∷ 8 ∷ 9 ∷ 10 ∷ []) $ closes ! tt Row new (lowered new ∷ []) b o $
     returns ! (look_at ! 0 refl) $ free_all ! refl $
