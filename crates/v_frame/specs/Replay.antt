@@ -42,20 +42,14 @@ module _ {T : Type 0} where
 
   -- the plane that a call may write
   abbrev pub written_plane : VisibleCall T → Option ℕ
-  written_plane (Width plane) = None
-  written_plane (Height plane) = None
-  written_plane (Row plane y) = None
   written_plane (RowMut plane y writes) = Some plane
-  written_plane (Pixel plane x y) = None
   written_plane (PixelMut plane x y value) = Some plane
   written_plane (CopyFromSlice plane source) = Some plane
   written_plane (CopyFromU8Slice plane source) = Some plane
   written_plane (CopyFromU8SliceWithStride plane source stride) = Some plane
-  written_plane (Rows plane draws) = None
-  written_plane (Pixels plane draws) = None
-  written_plane (ByteData plane draws) = None
   written_plane (RowsMut plane draws) = Some plane
   written_plane (PixelsMut plane draws) = Some plane
+  written_plane call = None
 
   -- some call of the list may write the plane of this index
   abbrev pub WritesPlane : List (VisibleCall T) → ℕ → Type 0
