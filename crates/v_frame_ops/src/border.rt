@@ -1,5 +1,5 @@
 //! The border of a plane, made the continuation of what the plane shows: motion search and filters read it past the edge.
-ghost use Rattle.std.specs.Prelude.{◌≡◌, ◌≢◌, ◌+◌, ◌-◌, ◌<◌, ◌≤◌, ◌⊎◌, ℕ, length, slice_get, Some};
+ghost use Rattle.std.specs.Prelude.{◌≡◌, ◌≢◌, ◌+◌, ◌-◌, ◌<◌, ◌≤◌, ◌⊎◌, ℕ, length, replicate, slice_get, Some};
 ghost use Rattle.v_frame.specs.Prelude.{IsWhole, pixel_at, raster, stride_of, alloc_height_of, table_of, whole_rows};
 ghost use Rattle.v_frame_ops.specs.Border.{nearest, IsPadded};
 
@@ -134,7 +134,45 @@ fn fill_part<T: Pixel>(row: &mut [T], start: usize, end: usize, pixel: T)
     ensures inside { (x : ℕ) → start ≤ x → x < end → slice_get row.new x ≡ Some pixel }
     ensures behind { (x : ℕ) → end ≤ x → slice_get row.new x ≡ slice_get row.old x }
 {
-    fill_row(&mut row[start..end], pixel);
+    if end - start < 16 {
+        fill_row(&mut row[start..end], pixel);
+    } else {
+        fill_blocks(row, start, end, pixel);
+    }
+}
+
+/// Does the same by blocks of 16 pixels. A border is a block or two wide, and a loop that may end at each pixel takes longer
+/// to begin and to end than to write. The last block may reach back into the one before it.
+fn fill_blocks<T: Pixel>(row: &mut [T], start: usize, end: usize, pixel: T)
+    requires order { start + 16 ≤ end }
+    requires within { end ≤ length row.old }
+    ensures before { (x : ℕ) → x < start → slice_get row.new x ≡ slice_get row.old x }
+    ensures inside { (x : ℕ) → start ≤ x → x < end → slice_get row.new x ≡ Some pixel }
+    ensures behind { (x : ℕ) → end ≤ x → slice_get row.new x ≡ slice_get row.old x }
+{
+    for block in 0..(end - start - 1) / 16 {
+        fill_block(row, start + 16 * block, pixel);
+    }
+    fill_block(row, end - 16, pixel);
+}
+
+/// Fills the 16 pixels of a row from a column on.
+fn fill_block<T: Pixel>(row: &mut [T], start: usize, pixel: T)
+    requires { start + 16 ≤ length row.old }
+    ensures before { (x : ℕ) → x < start → slice_get row.new x ≡ slice_get row.old x }
+    ensures inside { (x : ℕ) → start ≤ x → x < start + 16 → slice_get row.new x ≡ Some pixel }
+    ensures behind { (x : ℕ) → start + 16 ≤ x → slice_get row.new x ≡ slice_get row.old x }
+    ensures wide { length row.new ≡ length row.old }
+{
+    fill_sixteen(&mut row[start..start + 16], pixel);
+}
+
+/// Fills 16 pixels.
+fn fill_sixteen<T: Pixel>(pixels: &mut [T], pixel: T)
+    requires { length pixels.old ≡ 16 }
+    ensures { pixels.new ≡ replicate (length pixels.old) pixel }
+{
+    pixels.copy_from_slice(&[pixel; 16]);
 }
 
 /// Makes each row the one nearest to it of the `height` rows that begin with row `top`.
