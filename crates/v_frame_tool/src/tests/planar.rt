@@ -1,7 +1,6 @@
 //! Planar bytes: frames that are read and written, from and to streams of all habits.
 
 mod calls;
-mod counted;
 mod long_rows;
 mod reads;
 mod streams;

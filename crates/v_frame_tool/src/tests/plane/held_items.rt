@@ -3,7 +3,22 @@
 use crate::tests::support::buffers::{bordered_buffer, buffer_in_200};
 use crate::tests::support::frames::{BORDERED, counted, in_200};
 use crate::tests::support::reads::table_of;
+use std::alloc::Global;
+use std::process::Abort;
 use v_frame::plane::Plane;
+
+/// A plane in each of the two borders, and the buffer that shows these pixels in it.
+fn planes_and_buffers(
+    rt: &impl Abort,
+    alloc: Global,
+    shown: [u8; 6],
+) -> [(Plane<u8>, [u8; 18]); 2] {
+    let numbered = counted(rt, alloc, BORDERED).y_plane;
+    [
+        (in_200(rt, alloc).y_plane, buffer_in_200(shown)),
+        (numbered, bordered_buffer(shown)),
+    ]
+}
 
 /// Writes this pixel of a lent row.
 fn write_pixel(row: Option<&mut [u8]>, x: usize, value: u8) {
@@ -25,14 +40,11 @@ fn write_held_rows(plane: &mut Plane<u8>) {
 
 #[test]
 fn held_rows_are_written_and_no_border(rt: HostRuntime) {
-    let written = [1, 2, 30, 40, 5, 6];
-    let mut plane = in_200(&rt, rt.alloc()).y_plane;
-    write_held_rows(&mut plane);
-    assert!(rt; table_of(&plane) == [Some([1, 2, 30]), Some([40, 5, 6])]);
-    assert!(rt; plane.data() == buffer_in_200(written).as_slice());
-    let mut numbered = counted(&rt, rt.alloc(), BORDERED).y_plane;
-    write_held_rows(&mut numbered);
-    assert!(rt; numbered.data() == bordered_buffer(written).as_slice());
+    for (mut plane, wanted) in planes_and_buffers(&rt, rt.alloc(), [1, 2, 30, 40, 5, 6]) {
+        write_held_rows(&mut plane);
+        assert!(rt; table_of(&plane) == [Some([1, 2, 30]), Some([40, 5, 6])]);
+        assert!(rt; plane.data() == wanted.as_slice());
+    }
 }
 
 /// Writes 9 to the last pixel and then 7 to the first, once their iterator is gone.
@@ -50,14 +62,11 @@ fn write_held_pixels(plane: &mut Plane<u8>) {
 
 #[test]
 fn held_pixels_are_written_and_no_border(rt: HostRuntime) {
-    let written = [7, 2, 3, 4, 5, 9];
-    let mut plane = in_200(&rt, rt.alloc()).y_plane;
-    write_held_pixels(&mut plane);
-    assert!(rt; table_of(&plane) == [Some([7, 2, 3]), Some([4, 5, 9])]);
-    assert!(rt; plane.data() == buffer_in_200(written).as_slice());
-    let mut numbered = counted(&rt, rt.alloc(), BORDERED).y_plane;
-    write_held_pixels(&mut numbered);
-    assert!(rt; numbered.data() == bordered_buffer(written).as_slice());
+    for (mut plane, wanted) in planes_and_buffers(&rt, rt.alloc(), [7, 2, 3, 4, 5, 9]) {
+        write_held_pixels(&mut plane);
+        assert!(rt; table_of(&plane) == [Some([7, 2, 3]), Some([4, 5, 9])]);
+        assert!(rt; plane.data() == wanted.as_slice());
+    }
 }
 
 /// Whether calls of `next` and `next_back` by turns lend six pixels, to the last. Nothing is written.
@@ -72,13 +81,7 @@ fn all_are_lent_by_turns(plane: &mut Plane<u8>) -> bool {
 
 #[test]
 fn iterators_that_write_nothing_leave_the_buffer(rt: HostRuntime) {
-    let shown = [1, 2, 3, 4, 5, 6];
-    let in_200 = (in_200(&rt, rt.alloc()).y_plane, buffer_in_200(shown));
-    let numbered = (
-        counted(&rt, rt.alloc(), BORDERED).y_plane,
-        bordered_buffer(shown),
-    );
-    for (mut plane, before) in [in_200, numbered] {
+    for (mut plane, before) in planes_and_buffers(&rt, rt.alloc(), [1, 2, 3, 4, 5, 6]) {
         drop(plane.rows_mut());
         drop(plane.pixels_mut());
         assert!(rt; plane.data() == before.as_slice());
