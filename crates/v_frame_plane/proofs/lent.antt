@@ -17,6 +17,7 @@ pub mod RowCalls
 pub mod RowDraws
 pub mod RowLoans
 pub mod RowMemory
+pub mod RowNext
 pub mod SecondRows
 pub mod Sides
 pub mod Steps

@@ -1,5 +1,5 @@
 //! The iterator that lends the visible rows of a plane for writing.
-ghost use Rattle.std.specs.Prelude.{◌≡◌, [], ◌^◌, ◌<◌, length, Some, IfSome, ⊤};
+ghost use Rattle.std.specs.Prelude.{◌≡◌, [], ◌+◌, ◌*◌, ◌^◌, ◌<◌, length, Some, IfSome, ⊤};
 ghost use Rattle.std.specs.Iterator.{UpTo, MakesProgress, YieldsFirstMut, YieldsLastMut, item_count};
 ghost use Rattle.std.specs.Iterator.SizeHint.{IsWithinCount};
 ghost use Rattle.v_frame_plane.specs.Cursor.{PixelsAreCountable, RowsAreWithin};
@@ -71,15 +71,29 @@ impl<'a, T> RowsMut<'a, T> {
         ensures steps { YieldsFirstMut rows_left self.old result self.new }
         ensures goes { MakesProgress (λ _. ⊤) (item_count rows_left) self.old result self.new }
     {
-        if self.count == 0 {
+        let RowsMut {
+            start,
+            width,
+            gap,
+            count,
+            ..
+        } = *self;
+        if count == 0 {
             return None;
         }
-        let (_, rest) = mem::take(&mut self.rest).split_at_mut(self.start);
-        let (row, rest) = rest.split_at_mut(self.width);
-        self.rest = rest;
-        self.start = self.gap;
-        self.count -= 1;
-        Some(row)
+        let left = count - 1;
+        let place = row_place(start, width, gap, 0);
+        let cut = mem::take(&mut self.rest).split_at_mut(place);
+        let row = cut.1.split_at_mut(width);
+        // What lies behind the row is kept.
+        *self = RowsMut {
+            rest: row.1,
+            start: gap,
+            width,
+            gap,
+            count: left,
+        };
+        Some(row.0)
     }
 
     /// The last row, as [`DoubleEndedIterator::next_back`] gives it. Our own.
@@ -89,16 +103,40 @@ impl<'a, T> RowsMut<'a, T> {
         ensures steps { YieldsLastMut rows_left self.old result self.new }
         ensures goes { MakesProgress (λ _. ⊤) (item_count rows_left) self.old result self.new }
     {
-        if self.count == 0 {
+        let RowsMut {
+            start,
+            width,
+            gap,
+            count,
+            ..
+        } = *self;
+        if count == 0 {
             return None;
         }
-        self.count -= 1;
-        let behind = self.start + self.count * (self.width + self.gap);
-        let (rest, last) = mem::take(&mut self.rest).split_at_mut(behind);
-        self.rest = rest;
-        let (row, _) = last.split_at_mut(self.width);
-        Some(row)
+        let left = count - 1;
+        let place = row_place(start, width, gap, left);
+        let cut = mem::take(&mut self.rest).split_at_mut(place);
+        let row = cut.1.split_at_mut(width);
+        // What lies in front of the row is kept.
+        *self = RowsMut {
+            rest: cut.0,
+            start,
+            width,
+            gap,
+            count: left,
+        };
+        Some(row.0)
     }
+}
+
+/// Where the row of this number begins, counted from the next one.
+#[inline]
+fn row_place(start: usize, width: usize, gap: usize, row: usize) -> usize
+    requires stride { width + gap < 2 ^ 64 }
+    requires within { start + row * (width + gap) < 2 ^ 64 }
+    ensures { result ≡ start + row * (width + gap) }
+{
+    start + row * (width + gap)
 }
 
 impl<'a, T> Iterator for RowsMut<'a, T> {

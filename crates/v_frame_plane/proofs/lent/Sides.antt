@@ -1,6 +1,6 @@
 -- The two ends of an iterator that lends pixels, so that one definition and one proof serve both.
 --     near, far     the row that was begun from this end, and from the other.        slot, offset     the number of this end's field, and its place in bytes
---     put     where a pixel stands that was cut off there.        walk_by     the iterator of its parts, as seen from this end
+--     at_side     the one of two things that is this end's.        put     where a pixel stands that was cut off there.        walk_by     the iterator of its parts, as seen from this end
 --     Steps, Yields, Takes, Lends     what is said of a call of a pixel from there.        RowSteps, YieldsRow, LendsRow     the same of a call of a row
 use Rattle.v_frame_plane.proofs.lent.Steps.{ℕ, ◌≡◌, List, [], ◌∷◌, ◌++◌, Option, Some, None, MutBor, YieldsFirstMut, YieldsLastMut, Fml, RattleType}
 use base.Fml.{fsep, fwand, fall}
@@ -15,6 +15,10 @@ use Rattle.v_frame_plane.proofs.lent.PixelMemory.{back_offset}
 
 pub data Side : Type 0 where
   at_front at_back : Side
+
+abbrev pub at_side : {X : Type 0} → Side → X → X → X
+at_side at_front x y = x
+at_side at_back x y = y
 
 abbrev pub slot : Side → ℕ
 slot at_front = 0

@@ -1,0 +1,305 @@
+-- `next` and `next_back` of an iterator that lends rows, of which `s` is the one end: the slice is cut where the row next to that end begins and where it ends,
+-- and what lies towards the other end is kept. A `&mut` in a field of self no generated proof follows, so this one follows the code. Assumes `Logic`.
+use Rattle.v_frame_plane.proofs.lent.Steps.{ℕ, ◌≡◌, ◌+◌, ◌-◌, ◌*◌, ◌^◌, ◌<◌, ◌≤◌, List, [], ◌∷◌, length, take, list_drop, Some, None, MutBor, lit<, w64}
+use Rattle.v_frame_plane.proofs.lent.Steps.{Val, fat, slice_val, vcons, vstruct, refl, ap, ◌∙◌, arith, length-drop, proved, Some-of, none_of, ⊤, MakesProgress, item_count, ftrue, full_share, emp}
+use Rattle.v_frame_plane.proofs.lent.Steps.{ent, sep, id⊢, SProp, Fun, ◌⊑◌, ⊑_trans, fact, fact_i, tables, param, MutRef, mut_vals, mut_Tells, plain}
+use Rattle.v_frame_plane.proofs.lent.Steps.{named_lft, MutSlice, usize, uint_vals, uint_Makes, closes, owned, nothing, heard, only, calls_at, framed, triple_of}
+use Rattle.v_frame_plane.proofs.lent.Steps.{Contract, Lasts, lasts, Goes-ref, walk_of, eqb→eq, named, mut, erased, of_list, vint, alloc_all, env, free_all, get}
+use Rattle.v_frame_plane.proofs.lent.Steps.{get_in, lands_as, look_at, look_in_at, pass_all, sets, through, ‵, raw, ◌⊛◌, some, later, at_ret, ◌$◌, !, await, done}
+use Rattle.v_frame_plane.proofs.lent.Steps.{drop, feq_l, fjoin, fsplit, join, keep, move, pick, split, use0, use1, use3, step, Step, Goal, Item, live, agg, look_in}
+use Rattle.v_frame_plane.proofs.lent.Steps.{sub, whole, addr, and_then, assigns, bin, branches, enter, exec, first, fld, from, hop, lit, load, no_more}
+use Rattle.v_frame_plane.proofs.lent.Steps.{of_opd, returns, returns_within, skips, stop, well_typed, sem, RattleType, Laws, Logic, Ura, Ty, Lft, Memory, Routine}
+use Rattle.v_frame_plane.proofs.lent.Steps.{slice_ty, tcons, tnil, ty_int, ty_param, ty_ref, ty_struct}
+use contract.Running.{MachineTables, Running}
+use denote.Triple.Clauses.{closing}
+use denote.Triple.Spec.{Meets}
+use denote.Triple.Statement.{Triple}
+use mir.Syntax.{Body, Callee, Fn, Place, Opd as Operand, Sym, addr_of, aggregate, assign, call, cond, copy, deref, eq, field, int, local, op2, place, return}
+use mir.Syntax.{rv_opd, seq, skip, sub as minus, ttcons, ttnil, ty_bool, ty_enum, unsigned, value_local, w8}
+use prog.Model.{Model}
+use prog.Wp.{Calls, Closed, Env, Loops, Spot}
+use sound.WpLaws.{FmC}
+use types.Kit.{Post as After, flt_l, lands, regoal, runs}
+use types.Run.{Finds, Opd, Opds, store_raw}
+use Rattle.std.specs.contracts.option.Option as Opt
+use Rattle.v_frame_plane.specs.Cursor.{RowsAreWithin}
+use Rattle.v_frame_plane.specs.RowsLeft.{rows_left}
+use Rattle.v_frame_plane.specs.SecondRows.{EndsAs}
+use Rattle.v_frame_plane.specs.contracts.rows_mut.RowsMut as rows_mut
+use Rattle.v_frame_plane.specs.contracts.rows_mut.RowsMut.next
+use Rattle.v_frame_plane.specs.contracts.rows_mut.row_place
+use Rattle.v_frame_plane.specs.declared.rows_mut.RowsMut.{RowsMut}
+use Rattle.v_frame_plane.proofs.lent.Cuts.{Joins, Split, dropped, splits, slice_fits, slices_fit}
+use Rattle.v_frame_plane.proofs.lent.Loans.{begins}
+use Rattle.v_frame_plane.proofs.lent.PixelSides.{part, row_clauses}
+use Rattle.v_frame_plane.proofs.lent.RowDraws.{no_row, some_left, none_left, stays, moves_on, first_drawn, last_drawn, row_within, last_within, rest_within}
+use Rattle.v_frame_plane.proofs.lent.RowDraws.{front_within}
+use Rattle.v_frame_plane.proofs.lent.RowLoans.{keeps_rows, lends_first_row, lends_last_row}
+use Rattle.v_frame_plane.proofs.lent.RowMemory.{Bare, Numbers, WellTyped, bare, count_at, count_fit, ends_draw, gap_at, gap_fit, lowered, moved, numbers, opens_walk, slice_of}
+use Rattle.v_frame_plane.proofs.lent.RowMemory.{rest_fit, start_at, start_fit, stayed, takes_slice, walk_owned, width_at, width_fit}
+use Rattle.v_frame_plane.proofs.lent.Sides.{Side, at_front, at_back, at_side, LendsRow, YieldsRow}
+use Rattle.v_frame_plane.proofs.lent.Taken.{Take}
+
+-- the code, of the names that it has for what a call gives, for self and for two parts, of the types of self and of an entry, and of the functions that it calls
+module _ (option self pair : Sym) (kept entry : Ty) (s : Side) (placing taking splitting : Callee) where
+  abbrev Self : Ty
+  Self = ty_struct self (tcons part Numbers)
+
+  abbrev own : ℕ → Place
+  own k = place 1 (deref Self ∷ field k ∷ [])
+
+  -- a slice is lent on: part k of the two in local i, by way of the locals j and j'
+  abbrev pointer : (i k : ℕ) → Place
+  pointer i k = place i (field k ∷ field 0 ∷ deref entry ∷ [])
+
+  abbrev size : (i k : ℕ) → Operand
+  size i k = copy (place i (field k ∷ field 1 ∷ []))
+
+  abbrev lent_on : Place → Operand → (j j' : ℕ) → Body → Body
+  lent_on at n j j' rest = seq (assign (place j []) (addr_of at)) (seq (assign (place j' []) (aggregate (copy (place j []) ∷ n ∷ []))) rest)
+
+  abbrev drawn : Body
+  drawn =
+      seq (assign (place 6 []) (op2 (minus unsigned) (copy (place 5 [])) (int w64 1)))
+      (seq (call placing (copy (place 2 []) ∷ copy (place 3 []) ∷ copy (place 4 []) ∷ at_side s (int w64 0) (copy (place 6 [])) ∷ []) (place 7 []))
+      (seq (assign (place 12 []) (addr_of (own 0))) (seq (call taking (copy (place 12 []) ∷ []) (place 11 []))
+      (seq (call splitting (copy (place 11 []) ∷ copy (place 7 []) ∷ []) (place 8 [])) (lent_on (pointer 8 1) (size 8 1) 13 14
+      (seq (call splitting (copy (place 14 []) ∷ copy (place 3 []) ∷ []) (place 9 [])) (lent_on (at_side s (pointer 9 1) (pointer 8 0)) (at_side s (size 9 1) (size 8 0)) 15 16
+      (seq (assign (place 17 []) (aggregate (copy (place 16 []) ∷ at_side s (copy (place 4 [])) (copy (place 2 [])) ∷ copy (place 3 []) ∷ copy (place 4 []) ∷ copy (place 6 []) ∷ [])))
+      (seq (assign (place 1 (deref Self ∷ [])) (rv_opd (copy (place 17 [])))) (lent_on (pointer 9 0) (size 9 0) 18 19
+      (seq (assign (place 0 []) (aggregate (int w8 1 ∷ copy (place 19 []) ∷ []))) return)))))))))))
+
+  abbrev reads : (k i : ℕ) → Body → Body
+  reads k i rest = seq (assign (place i []) (rv_opd (copy (own k)))) rest
+
+  abbrev code : Fn
+  code =
+      let number = local (ty_int w64) value_local in let slice = local part value_local in let parts = local (ty_struct pair (tcons part (tcons part tnil))) value_local in
+      let pointer = local (ty_ref erased mut (ty_param 0)) value_local in
+      record {
+        lifetimes = 2;
+        outlives = (1, 0) ∷ (2, 0) ∷ (2, 1) ∷ [];
+        ty_params = [];
+        givens = 0;
+        params = 1;
+        body =
+            reads 1 2 (reads 2 3 (reads 3 4 (reads 4 5 (seq (assign (place 10 []) (op2 eq (copy (place 5 [])) (int w64 0)))
+            (seq (cond (copy (place 10 [])) (seq (assign (place 0 []) (aggregate (int w8 0 ∷ []))) return) skip) drawn)))));
+        locals =
+            local (ty_enum option (ttcons tnil (ttcons (tcons (slice_ty (ty_ref (named 1) mut (ty_param 0))) tnil) ttnil))) value_local ∷
+            local (ty_ref (named 0) mut kept) value_local ∷ number ∷ number ∷ number ∷ number ∷ number ∷ number ∷ parts ∷ parts ∷ local ty_bool value_local ∷
+            slice ∷ local (ty_ref erased mut part) value_local ∷ pointer ∷ slice ∷ pointer ∷ slice ∷ local Self value_local ∷ pointer ∷ slice ∷ [];
+      }
+
+-- where the row of this number begins
+module _ {M : Type 1} {𝓤 : Ura M} (𝓛 : Logic 𝓤) (at_mem : Memory → SProp 𝓤) (run : Routine → Fun 𝓤) where
+  abbrev Placing : Contract 𝓤
+  Placing = triple_of 𝓛 row_place.signature (row_place.spec 𝓛 at_mem run)
+
+  abbrev asked : (start width gap row : ℕ) → Placing.Ghost
+  asked start width gap row = (
+    (tt, tt, tt, (start, (width, (gap, (row, tt)))), (uint_vals w64 start, (uint_vals w64 width, (uint_vals w64 gap, (uint_vals w64 row, tt))))),
+    tt,
+  )
+
+module _ {M : Type 1} {𝓤 : Ura M} {𝓛 : Logic 𝓤} {K : Type 0} {Γ : List (Item 𝓤)} {E : Env 𝓤 𝓛.H} {C : Calls 𝓤 𝓛.H} {Λ : Loops 𝓤 𝓛.H} {f : Callee} {xs :
+    List Operand} {d : Place} {rest : Body} {p : After 𝓤 𝓛.H} where
+  places : K → FmC 𝓤 𝓛.H 𝓛.laws C → (at_mem : Memory → SProp 𝓤) (run : Routine → Fun 𝓤) → Triple 𝓤 (C f) (Placing 𝓛 at_mem run) →
+      (start width gap row : ℕ) → start < 2 ^ 64 → width < 2 ^ 64 → gap < 2 ^ 64 → row < 2 ^ 64 → width + gap < 2 ^ 64 → start + row * (width + gap) < 2 ^ 64
+      → let S = Placing 𝓛 at_mem run in let y = asked 𝓛 at_mem run start width gap row in Opds K 𝓛 (raw (S.pre y) ∷ Γ) E xs (S.args y)
+      → Step K 𝓛 Γ (lands C Λ E d (vint w64 (start + row * (width + gap))) rest p) Γ (runs C Λ E (seq (call f xs d) rest) p)
+  places t fm at_mem run met start width gap row start_fits width_fits gap_fits row_fits stride inside os = step (λ k.
+      let S = Placing 𝓛 at_mem run in let y = asked 𝓛 at_mem run start width gap row in
+      nothing t $ owned t usize _ (uint_Makes 𝓛 w64) row _ (refl, row_fits) $ fjoin t $ owned t usize _ (uint_Makes 𝓛 w64) gap _ (refl, gap_fits) $ fjoin t $
+      owned t usize _ (uint_Makes 𝓛 w64) width _ (refl, width_fits) $ fjoin t $ owned t usize _ (uint_Makes 𝓛 w64) start _ (refl, start_fits) $ fjoin t $
+      nothing t $ join t $ use0 𝓛 (raw (fact 𝓤 (start + row * (width + gap) < 2 ^ 64))) (fact_i 𝓤 _ (emp 𝓤) inside) $
+      use0 𝓛 (raw (fact 𝓤 (width + gap < 2 ^ 64))) (fact_i 𝓤 _ (emp 𝓤) stride) $ join t $ move t (1 ∷ 0 ∷ []) $ join t $ use1 𝓛 (raw (S.pre y)) (id⊢ 𝓤 _) $
+      calls_at t fm S met y os (λ v.
+      use1 𝓛 (later (some (λ (r : ℕ). (‵ ftrue ⊛ ‵ (usize.own_val r (v ∷ []))) ⊛ some (λ (ws : Lasts row_place.ended y.0.0 y.0.3).
+      ‵ (lasts row_place.ended y.0.0 y.0.3 ws) ⊛ raw (fact 𝓤 (r ≡ start + row * (width + gap))))))) (id⊢ 𝓤 _) $
+      await t tt $ pick t (λ r. split t $ split t $ drop t $ fsplit t $ feq_l t (λ e. flt_l t (λ _. pick t (λ ws. split t $ drop t $ heard t _ (λ is.
+      regoal t (λ u. lands C Λ E d u rest p) (ap only e ∙ ap (vint w64) is) refl $ k)))))))
+
+-- the numbers of a draw from this end, and what it takes of the slice: what lies in front of the row, what begins with it, the row, and what lies behind it
+module _ {X : Type 0} (s : Side) (old : RowsMut X) where
+  abbrev number : ℕ
+  number = at_side s 0 (old.count - 1)
+
+  abbrev place_of : ℕ
+  place_of = old.start + number * (old.width + old.gap)
+
+  abbrev start_of : ℕ
+  start_of = at_side s old.gap old.start
+
+inside : {X : Type 0} (s : Side) (old : RowsMut X) → 0 < old.count → place_of s old + old.width ≤ length old.rest.now
+inside at_front old more = omega (arith, row_within old more)
+inside at_back old more = last_within old more
+
+number_fits : {X : Type 0} (s : Side) (old : RowsMut X) → old.count < 2 ^ 64 → number s old < 2 ^ 64
+number_fits at_front old fits = omega arith
+number_fits at_back old fits = omega (arith, fits)
+
+module _ {X : Type 0} (old : RowsMut X) (before at row behind : MutBor (List X)) (more : 0 < old.count) where
+  record Cut (s : Side) : Type 0 where
+    before_is : before.now ≡ take (place_of s old) old.rest.now
+    at_is : at.now ≡ list_drop (place_of s old) old.rest.now
+    row_is : row.now ≡ take old.width at.now
+    behind_is : behind.now ≡ list_drop old.width at.now
+
+  abbrev begins_at : old.start + 0 * (old.width + old.gap) ≡ old.start
+  begins_at = omega arith
+
+  from_first : at.now ≡ list_drop (place_of at_front old) old.rest.now → at.now ≡ list_drop old.start old.rest.now
+  from_first is = is ∙ ap (λ n. list_drop n old.rest.now) begins_at
+
+  within_by : (s : Side) → Cut s → RowsAreWithin (start_of s old) old.width old.gap (old.count - 1) (length (at_side s behind before).now)
+  within_by at_front cut = rest_within old behind.now more (cut.behind_is ∙ ap (list_drop old.width) (from_first cut.at_is))
+  within_by at_back cut = front_within old before.now more cut.before_is
+
+  abbrev left : (s : Side) → Cut s → RowsMut X
+  left s cut = moved old (at_side s behind before) (start_of s old) (old.count - 1) (within_by s cut)
+
+  drawn_by : (s : Side) (cut : Cut s) → YieldsRow s old (Some row) (left s cut)
+  drawn_by at_front cut = first_drawn old (left at_front cut) row more refl refl refl refl (cut.row_is ∙ ap (take old.width) (from_first cut.at_is))
+      (cut.behind_is ∙ ap (list_drop old.width) (from_first cut.at_is))
+  drawn_by at_back cut = last_drawn old (left at_back cut) row more refl refl refl refl (cut.row_is ∙ ap (take old.width) cut.at_is) cut.before_is
+
+none_by : {X : Type 0} (s : Side) (old : RowsMut X) → old.count ≡ 0 → YieldsRow s old None old
+none_by at_front old none = none_left old none
+none_by at_back old none = none_left old none
+
+fits_by : {X : Type 0} (size : X → ℕ) (s : Side) {x y : X} → size x < 2 ^ 64 → size y < 2 ^ 64 → size (at_side s x y) < 2 ^ 64
+fits_by size at_front x y = x
+fits_by size at_back x y = y
+
+module _ {M : Type 1} {𝓤 : Ura M} (𝓛 : Logic 𝓤) (T : RattleType) (old : RowsMut T.Denot) where
+  leaves_none : (s : Side) → ent 𝓤 (emp 𝓤) (sem 𝓛 (LendsRow s T old None old))
+  leaves_none at_front = keeps_rows 𝓛 T old
+  leaves_none at_back = keeps_rows 𝓛 T old
+
+  leaves_row : (s : Side) (before at row behind : MutBor (List T.Denot)) (more : 0 < old.count) (cut : Cut old before at row behind more s) →
+      let other = at_side s before behind in
+      ent 𝓤 (sep 𝓤 (sem 𝓛 (EndsAs T other.ghost_name other.now)) (sep 𝓤 (sem 𝓛 (Joins T old.rest before at)) (sem 𝓛 (Joins T at row behind))))
+      (sem 𝓛 (LendsRow s T old (Some row) (left old before at row behind more s cut)))
+  leaves_row at_front before at row behind more cut =
+      lends_first_row 𝓛 T old (left old before at row behind more at_front cut) row before at (cut.before_is ∙ ap (λ n. take n old.rest.now)
+      (begins_at old before at row behind more)) (cut.behind_is ∙ ap (list_drop old.width) (from_first old before at row behind more cut.at_is))
+      refl refl refl refl more
+  leaves_row at_back before at row behind more cut =
+      lends_last_row 𝓛 T old (left old before at row behind more at_back cut) row at behind cut.before_is (cut.behind_is ∙ ap (list_drop old.width) cut.at_is)
+      refl refl refl refl more
+
+-- what code reads by side
+module _ {M : Type 1} {𝓤 : Ura M} {𝓛 : Logic 𝓤} {K : Type 0} {Γ : List (Item 𝓤)} {E : Env 𝓤 𝓛.H} where
+  opd_by : (s : Side) (v : Side → Val) {x y : Operand} → Opd K 𝓛 Γ E x (v at_front) → Opd K 𝓛 Γ E y (v at_back) → Opd K 𝓛 Γ E (at_side s x y) (v s)
+  opd_by at_front v x y = x
+  opd_by at_back v x y = y
+
+  finds_by : (s : Side) (v : Side → Spot 𝓤 𝓛.H) {x y : Place} → Finds K 𝓛 Γ E x (v at_front) → Finds K 𝓛 Γ E y (v at_back)
+      → Finds K 𝓛 Γ E (at_side s x y) (v s)
+  finds_by at_front v x y = x
+  finds_by at_back v x y = y
+
+module _ {M : Type 1} {𝓤 : Ura M} {𝓛 : Logic 𝓤} {K : Type 0} {X : Type 0} {Γ : List (Item 𝓤)} {G : Goal 𝓤 𝓛.H} where
+  -- what is kept, and then the other one
+  kept_first : K → (s : Side) (Own : X → Item 𝓤) (behind before : X) → Step K 𝓛 (Own (at_side s behind before) ∷ Own (at_side s before behind) ∷ Γ) G
+      (Own behind ∷ Own before ∷ Γ) G
+  kept_first t at_front Own behind before = step (λ k. k)
+  kept_first t at_back Own behind before = step (λ k. move t (1 ∷ 0 ∷ []) $ k)
+
+module _ {M : Type 1} {𝓤 : Ura M} (𝓛 : Logic 𝓤) (𝓜 : Model 𝓤 𝓛.H) (𝓡 : Running 𝓤 𝓛.H 𝓜) (T : RattleType) (laws : Laws T) (s : Side) where
+  abbrev 𝓣 : MachineTables 𝓤 𝓛.H 𝓜
+  𝓣 = tables 𝓤 𝓛.H 𝓜 𝓡 𝓡.env
+
+  pub meets : (option self pair : Sym) (kept entry : Ty) (placing taking splitting key : Callee) →
+      Triple 𝓤 (𝓣.C placing) (Placing 𝓛 𝓜.mem 𝓡.returns) → ((κ : Lft) → κ ⊑ T.lives → Triple 𝓤 (𝓣.C taking) (Take 𝓛 𝓜.mem 𝓡.returns T κ)) →
+      Triple 𝓤 (𝓣.C splitting) (Split 𝓛 𝓜.mem 𝓡.returns T) → Closed 𝓤 𝓛.H 𝓣.C 𝓣.Λ key (code option self pair kept entry s placing taking splitting)
+      → Meets 𝓛 (next.signature T) (𝓣.C key) (closing 𝓛 (next.ended T) (row_clauses 𝓛 T s))
+  meets option self' pair kept entry placing taking splitting key place_meets take_meets split_meets closed =
+      let item = param 0 T in let c = row_clauses 𝓛 T s in let run = framed 𝓤 𝓛.H 𝓜 𝓣 in
+      let function = code option self' pair kept entry s placing taking splitting in
+      proved 𝓛 (next.ended T) (stayed T) c 𝓜 𝓡 (Goes-ref 𝓛 3 0 tt (plain (λ κs. rows_mut.the_row (named_lft 3 1 tt κs) item)), tt) key function closed
+      (λ κs. (mut_vals, tt)) (λ κs. (mut_Tells (named 0) κs.0 (rows_mut.the_row (named_lft 3 1 tt κs) item), tt)) (λ κs qs bounds a g are.
+      let κ = κs.0 in let q = qs.0 in let κa = κs.1.0 in let qa = qs.1.0 in let κT = κs.1.1.0 in let qT = qs.1.1.0 in let aT = bounds.1.1.0 in
+      let ℓ = named_lft 3 1 tt κs in let Row = rows_mut.the_row ℓ item in let Slice = MutSlice (named 1) κa item in
+      let self = a.0 in let b = self.ref_ptr.0 in let o = self.ref_ptr.1 in let h = self.now in let rest = h.rest in
+      let Post = (walk_of 𝓛 (next.ended T) (stayed T) c).post ((κs, qs, bounds, a, (mut_vals self, tt)), g) in
+      begins 𝓛 κs qs ((MutRef (named 0) κ Row).own_val self (mut_vals self)) (κT ⊑ T.lives) (‵ ftrue) (λ inT. keep ! (0 ∷ 1 ∷ 2 ∷ 3 ∷ []) $
+      let inA = ⊑_trans κa κT T.lives aT inT in
+      enter ! _ _ _ _ _ $ alloc_all ! (λ l. pass_all ! refl ((tt, tt), tt) $ opens_walk ! tt ℓ T laws κ q self $
+      -- [self's cell; what it owns; the open borrow, in three; the tokens of κa and κT; the locals]
+      well_typed ! (λ ok. let start_fits = start_fit h ok in let width_fits = width_fit h ok in let gap_fits = gap_fit h ok in let count_fits = count_fit h ok in
+      sets ! (of_opd ! (load ! (through ! refl (fld ! refl (stop !))) (look_in ! 0 (sub ! start_at refl (whole !))))) refl (tt, start_fits) $
+      sets ! (of_opd ! (load ! (through ! refl (fld ! refl (stop !))) (look_in ! 0 (sub ! width_at refl (whole !))))) refl (tt, width_fits) $
+      sets ! (of_opd ! (load ! (through ! refl (fld ! refl (stop !))) (look_in ! 0 (sub ! gap_at refl (whole !))))) refl (tt, gap_fits) $
+      sets ! (of_opd ! (load ! (through ! refl (fld ! refl (stop !))) (look_in ! 0 (sub ! count_at refl (whole !))))) refl (tt, count_fits) $
+      sets ! (bin ! (get ! refl) (lit ! tt) tt) refl (tt, tt) $
+      first ! $ branches ! (get ! refl)
+      -- where no row is left all stays as it is
+      (λ empty. closes ! tt Row h (lowered h ∷ []) b o $
+      sets ! (agg ! (and_then ! (lit ! tt) (no_more !))) refl (tt, (record { fits = lit< tt }, tt)) $
+      returns_within ! Post refl (look_at ! 0 refl) $ free_all ! refl $
+      use0 𝓛 (‵ ((Opt.the_row Slice).own_val None (live 0 (of_list []) ∷ []))) (none_of 𝓛 Slice) $ move ! (1 ∷ 2 ∷ 3 ∷ 4 ∷ 5 ∷ []) $
+      ends_draw ! T c κs qs bounds a g (live 0 (of_list [])) None h $
+      use0 𝓛 (raw (fact 𝓤 (MakesProgress (λ _. ⊤) (item_count rows_left) h (no_row h) h))) (fact_i 𝓤 _ (emp 𝓤) (stays h)) $
+      use0 𝓛 (raw (fact 𝓤 (YieldsRow s h None h))) (fact_i 𝓤 _ (emp 𝓤) (none_by s h (eqb→eq h.count 0 empty))) $ join ! $
+      use0 𝓛 (‵ (LendsRow s item h None h)) (leaves_none 𝓛 item h s) $ join ! $ done !)
+      (λ test. let more : 0 < h.count = some_left h.count test in let room = inside s h more in let here = place_of s h in
+      let fewer : h.count - 1 < 2 ^ 64 = omega (arith, count_fits.fits) in let place_fits : here < 2 ^ 64 = omega (arith, room, (rest_fit h ok).fits) in
+      skips ! $ exec ! 𝓣.C 𝓣.Λ (env function.locals l) (drawn option self' pair kept entry s placing taking splitting) (at_ret _ Post) $
+      sets ! (bin ! (get ! refl) (lit ! tt) more) refl (tt, record { fits = fewer }) $
+      places ! run 𝓜.mem 𝓡.returns place_meets h.start h.width h.gap (number s h) start_fits.fits width_fits.fits gap_fits.fits
+      (number_fits s h count_fits.fits) h.within.stride place_fits (and_then ! (get ! refl) (and_then ! (get ! refl) (and_then ! (get ! refl) (and_then !
+      (opd_by s (λ e. vint w64 (number e h)) (lit ! tt) (get ! refl)) (no_more !))))) $
+      lands_as ! refl refl (tt, record { fits = place_fits }) $
+      sets ! (addr ! (through ! refl (fld ! refl (stop !)))) refl (tt, tt) $
+      move ! (0 ∷ 1 ∷ 5 ∷ []) $ takes_slice ! run 𝓜.mem 𝓡.returns T ℓ (take_meets κa inA) qa h b o (numbers h h.start h.count) inA
+      (λ α γ. and_then ! (get ! refl) (no_more !)) (λ e rest_fits.
+      lands_as ! refl refl (slice_fits rest_fits) $
+      -- [self's cell; the slice; the token of κa; the open borrow, in three; the token of κT; the locals]
+      move ! (1 ∷ 2 ∷ 6 ∷ []) $ splits ! run 𝓜.mem 𝓡.returns T split_meets κa κT qa qT aT inT rest here place_fits (omega (arith, room))
+      (and_then ! (get ! refl) (and_then ! (get ! refl) (no_more !))) (λ before at before_is at_is before_fits at_fits.
+      lands_as ! refl refl (slices_fit before_fits at_fits) $
+      sets ! (addr ! (from ! (fld ! refl (fld ! refl (hop ! (look_in_at ! 8 (sub ! 0 refl (sub ! 1 refl (whole !)))) (stop !)))))) refl (tt, tt) $
+      sets ! (agg ! (and_then ! (get ! refl) (and_then ! (get_in ! (fld ! refl (fld ! refl (stop !))) (sub ! 1 refl (sub ! 1 refl (whole !)))) (no_more !)))) refl
+      (slice_fits at_fits) $
+      -- [what lies in front; what begins with the row; how the slice ends; the tokens of κa and κT; self's cell; the open borrow]
+      move ! (1 ∷ 3 ∷ 4 ∷ []) $ splits ! run 𝓜.mem 𝓡.returns T split_meets κa κT qa qT aT inT at h.width width_fits.fits
+      (omega (arith, room, ap length at_is, length-drop here rest.now))
+      (and_then ! (get ! refl) (and_then ! (get ! refl) (no_more !))) (λ row behind row_is behind_is row_fits behind_fits.
+      lands_as ! refl refl (slices_fit row_fits behind_fits) $
+      -- [the row; what lies behind; how the second part ends; the tokens of κa and κT; what lies in front; how the slice ends; self's cell; the open borrow]
+      let cut : Cut h before at row behind more s = record { before_is = before_is; at_is = at_is; row_is = row_is; behind_is = behind_is } in
+      let new = left h before at row behind more s cut in let kept = at_side s behind before in let other = at_side s before behind in
+      let kept_fits : length kept.now < 2 ^ 64 = fits_by (λ (x : MutBor (List T.Denot)). length x.now) s behind_fits before_fits in let start'_fits : start_of s h < 2 ^ 64 = fits_by (λ n. n) s gap_fits.fits start_fits.fits in
+      sets ! (addr ! (finds_by s (λ e. let kept = at_side e behind before in (entry, kept.ref_ptr.0, kept.ref_ptr.1))
+      (from ! (fld ! refl (fld ! refl (hop ! (look_in_at ! 9 (sub ! 0 refl (sub ! 1 refl (whole !)))) (stop !)))))
+      (from ! (fld ! refl (fld ! refl (hop ! (look_in_at ! 8 (sub ! 0 refl (sub ! 0 refl (whole !)))) (stop !))))))) refl (tt, tt) $
+      sets ! (agg ! (and_then ! (get ! refl) (and_then ! (opd_by s (λ e. let kept = at_side e behind before in vint w64 (length kept.now))
+      (get_in ! (fld ! refl (fld ! refl (stop !))) (sub ! 1 refl (sub ! 1 refl (whole !))))
+      (get_in ! (fld ! refl (fld ! refl (stop !))) (sub ! 1 refl (sub ! 0 refl (whole !))))) (no_more !)))) refl (slice_fits kept_fits) $
+      let typed : WellTyped new = (tt, ((tt, (record { fits = kept_fits }, tt)), (record { fits = start'_fits }, (width_fits, (gap_fits, (record { fits = fewer }, tt)))))) in
+      sets ! (agg ! (and_then ! (get ! refl) (and_then ! (opd_by s (λ e. vint w64 (start_of e h)) (get ! refl) (get ! refl))
+      (and_then ! (get ! refl) (and_then ! (get ! refl) (and_then ! (get ! refl) (no_more !))))))) refl typed $
+      let ns = numbers h h.start h.count in
+      move ! (7 ∷ []) $ use1 𝓛 (‵ (fat full_share Bare b o (vstruct (vcons (slice_val e.ref_ptr 0) ns)))) (bare 𝓛 b o ns ℓ item (slice_val e.ref_ptr 0)) $
+      assigns ! (of_opd ! (get ! refl)) (through ! refl (stop !)) (store_raw ! 0 refl typed) $
+      let part = slice_of row in let out = live 1 (of_list (part ∷ [])) in
+      sets ! (addr ! (from ! (fld ! refl (fld ! refl (hop ! (look_in_at ! 9 (sub ! 0 refl (sub ! 0 refl (whole !)))) (stop !)))))) refl (tt, tt) $
+      sets ! (agg ! (and_then ! (get ! refl) (and_then ! (get_in ! (fld ! refl (fld ! refl (stop !))) (sub ! 1 refl (sub ! 0 refl (whole !)))) (no_more !)))) refl
+      (slice_fits row_fits) $
+      sets ! (agg ! (and_then ! (lit ! tt) (and_then ! (get ! refl) (no_more !)))) refl (tt, (record { fits = lit< tt }, ((tt, (record { fits = row_fits }, tt)), tt))) $
+      move ! (2 ∷ 6 ∷ []) $ kept_first ! s (λ x. ‵ (Slice.own_val x (slice_of x ∷ []))) behind before $
+      -- [what is kept; the other part; self's cell; the row; how the second part ends; the tokens of κa and κT; how the slice ends; the open borrow]
+      use1 𝓛 (‵ (Row.own_val new (lowered new ∷ []))) (walk_owned 𝓛 ℓ item h ok kept (start_of s h) (h.count - 1) (within_by h before at row behind more s cut)
+      start'_fits fewer) $
+      move ! (1 ∷ []) $ use1 𝓛 (‵ (EndsAs item other.ghost_name other.now)) (dropped 𝓛 item (named 0) κa other _) $
+      move ! (2 ∷ 1 ∷ 8 ∷ 9 ∷ 10 ∷ []) $ closes ! tt Row new (lowered new ∷ []) b o $ returns ! (look_at ! 0 refl) $ free_all ! refl $
+      -- [self, in two; the token of κ; how the other part ends; the row; how the second part ends; the tokens of κa and κT; how the slice ends]
+      move ! (3 ∷ 8 ∷ 5 ∷ []) $ use3 𝓛 (‵ (LendsRow s item h (Some row) new)) (leaves_row 𝓛 item h s before at row behind more cut) $
+      move ! (4 ∷ []) $ use1 𝓛 (‵ ((Opt.the_row Slice).own_val (Some row) (out ∷ []))) (Some-of 𝓛 Slice row part) $
+      -- [the row, as it is given; what the call leaves; self, in two; the tokens]
+      move ! (2 ∷ 3 ∷ 4 ∷ 5 ∷ 6 ∷ 0 ∷ []) $ ends_draw ! T c κs qs bounds a g out (Some row) new $
+      use0 𝓛 (raw (fact 𝓤 (MakesProgress (λ _. ⊤) (item_count rows_left) h (Some row) new))) (fact_i 𝓤 _ (emp 𝓤) (moves_on h new row more refl refl refl)) $
+      use0 𝓛 (raw (fact 𝓤 (YieldsRow s h (Some row) new))) (fact_i 𝓤 _ (emp 𝓤) (drawn_by h before at row behind more s cut)) $ join ! $
+      move ! (1 ∷ 0 ∷ []) $ join ! $ done !))))))))
