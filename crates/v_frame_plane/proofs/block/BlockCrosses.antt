@@ -1,13 +1,9 @@
 -- The parts of a block may cross threads where its entries, and its allocator, may.
-use Rattle.std.specs.Prelude.{ℕ, ◌+◌, ◌*◌, ◌==◌, Bool, true, false, List, [], ◌∷◌}
-use Rattle.std.specs.Mem.{type_size}
-use base.Fraction.{full_share}
+use Rattle.v_frame_plane.proofs.lent.Steps.{ℕ, ◌+◌, ◌*◌, List, [], ◌∷◌, full_share, RattleType, ◌==◌, Bool, true, false, type_size, Ptr, block_ptr, null_ptr}
+use Rattle.v_frame_plane.proofs.lent.Steps.{exits_of, fields, to, IsSend, IsSync, Common, AllSend, part_keyless, owning_send, struct_send, struct_sync}
+use Rattle.v_frame_plane.proofs.lent.Steps.{sendable}
 use base.Shift.{Keyless}
-use denote.RattleType.{RattleType}
-use denote.RawPtr.{Ptr, block_ptr, null_ptr}
-use denote.Struct.Struct.{exits_of}
-use denote.Struct.Owning.{shape, fields, to}
-use denote.Param.Send.{IsSend, IsSync, Common, AllSend, part_keyless, owning_send, struct_send, struct_sync, sendable}
+use denote.Struct.Owning.{shape}
 use Rattle.core.specs.declared.alloc.Allocator.{Ghosts}
 use Rattle.std_alloc.proofs.SendSync.{FreesAnywhere, quiet}
 use Rattle.v_frame_plane.specs.Block.{entries_at, lent_at, cells_own, cells_lent, token_if}

@@ -1,25 +1,7 @@
 -- The entries of a block, as a slice has them, and the `Cells` that they go back to.
-use mathlib.Core.Path.{◌≡◌, refl, ap}
-use Prim.Native.Nat.{ℕ, suc, ◌+◌, ◌*◌}
-use native.Mathlib.Nat.{zero-mul, suc-mul}
-use native.Mathlib.Omega.{arith}
-use mathlib.Core.List.{List, [], ◌∷◌, ◌++◌}
-use lib.ListN.{length}
-use seplogic.Ra.Ura.{Ura}
-use base.Fraction.{full_share}
-use base.Logic.{ent, sep}
-use base.Fml.{Lft, Fml, ftrue, froom}
-use mir.Syntax.{Ty, ty_array}
-use mir.Val.{Val}
-use types.Kit.{‵, ◌⊛◌, ◌$◌, ◌∵◌, !, qed, by, move, use1, use2, split, rewrite, fsplit, fjoin, frame, done}
-use types.Logic.{Logic, sem}
-use denote.RattleType.{RattleType}
-use denote.Laws.{Typed}
-use denote.Memory.{lone, part_at, shared_of}
-use denote.Sharing.{beside}
-use denote.Slice.{elements_shared}
-use Rattle.std.specs.Mem.{type_size}
-use Rattle.std_alloc.proofs.RcSteps.{Good}
+use Rattle.v_frame_plane.proofs.lent.Steps.{◌≡◌, refl, ap, ℕ, ◌+◌, ◌*◌, arith, List, [], ◌∷◌, ◌++◌, length, Ura, full_share, ent, sep, Lft, Fml, ftrue, Ty, Val}
+use Rattle.v_frame_plane.proofs.lent.Steps.{‵, ◌⊛◌, ◌$◌, ◌∵◌, !, qed, move, use1, use2, split, rewrite, fsplit, fjoin, frame, done, Logic, sem, RattleType, suc}
+use Rattle.v_frame_plane.proofs.lent.Steps.{zero-mul, suc-mul, froom, ty_array, by, Typed, lone, part_at, shared_of, beside, elements_shared, type_size, Good}
 use Rattle.v_frame_plane.specs.Block.{entries_at, room_at, lent_at}
 
 module _ (R : RattleType) (b : ℕ) where

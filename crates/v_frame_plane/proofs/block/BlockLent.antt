@@ -1,19 +1,8 @@
 -- A `&` to a block is made where one to each entry is. Assumes `Logic`.
-use Prim.Native.Nat.{ℕ, ◌+◌, ◌*◌}
-use Rattle.std.specs.Prelude.{List, [], ◌∷◌, length}
-use Rattle.std.specs.Mem.{type_size}
-use seplogic.Ra.Ura.{Ura}
-use base.Fraction.{full_share}
-use base.Fml.{Lft, Incl, ftrue, ffalse, fsep}
-use types.Logic.{Logic}
-use denote.RattleType.{RattleType, RowLaws}
-use denote.Memory.{part_at, shared_of}
-use denote.Param.Laws.{Laws}
-use denote.RawPtr.{Ptr, block_ptr, null_ptr}
-use denote.Sharing.{ShrLaws, said}
-use denote.SharingLaws.{beside_shr_laws, nothing_shr_laws, said_shr_laws}
+use Rattle.v_frame_plane.proofs.lent.Steps.{ℕ, ◌+◌, ◌*◌, List, [], ◌∷◌, length, Ura, full_share, Lft, ftrue, fsep, Logic, RattleType, Laws, type_size, Incl}
+use Rattle.v_frame_plane.proofs.lent.Steps.{ffalse, RowLaws, part_at, shared_of, Ptr, block_ptr, null_ptr, ShrLaws, said, beside_shr_laws, nothing_shr_laws}
+use Rattle.v_frame_plane.proofs.lent.Steps.{said_shr_laws, Lends, Lends-both, Lends-first, Lends-nothing, Lends-said, Lends-false}
 use denote.Shares.{Shares-less}
-use denote.Struct.Lending.{Lends, Lends-both, Lends-first, Lends-nothing, Lends-said, Lends-false}
 use Rattle.v_frame_plane.specs.Block.{entries_at, lent_at, room_at, fits, cells_own, cells_lent}
 
 module _ (R : RattleType) (L : RowLaws R) where

@@ -1,25 +1,12 @@
 -- A part of a block's entries, as a slice has them, and the `Cells` that it goes back to.
-use mathlib.Core.Path.{◌≡◌, refl, sym, ap, subst}
-use Prim.Native.Nat.{ℕ, ◌+◌, ◌*◌, ◌^◌, ◌<◌, ◌≤◌}
-use native.Mathlib.Omega.{arith}
-use mathlib.Core.List.{List, [], ◌∷◌, ◌++◌}
-use lib.ListN.{length, take, drop, take-append-drop, length-take, length-drop, length-append}
+use Rattle.v_frame_plane.proofs.lent.Steps.{◌≡◌, refl, sym, ap, ℕ, ◌+◌, ◌*◌, ◌^◌, ◌<◌, ◌≤◌, arith, List, [], ◌∷◌, ◌++◌, length, take, list_drop as drop}
+use Rattle.v_frame_plane.proofs.lent.Steps.{length-drop, Ura, full_share, ent, sep, Fml, fsep, Val, ‵, ◌⊛◌, ◌$◌, ◌∵◌, !, qed, move, use1, use2, split, rewrite}
+use Rattle.v_frame_plane.proofs.lent.Steps.{fsplit, fsplit3, fjoin, fpack, done, Logic, sem, RattleType, mem, cell_at, subst, take-append-drop, length-take}
+use Rattle.v_frame_plane.proofs.lent.Steps.{length-append, flt_i, cells, cut_app, join_app, part_at, Ptr, block_ptr, Struct, type_size}
 use lib.Seq.{take_at}
-use seplogic.Ra.Ura.{Ura}
-use base.Fraction.{full_share}
-use base.Logic.{ent, sep}
-use base.Fml.{Fml, fsep}
-use mir.Val.{Val}
-use types.Kit.{‵, ◌⊛◌, ◌$◌, ◌∵◌, !, qed, move, use1, use2, split, rewrite, fsplit, fsplit3, fjoin, fpack, flt_i, done}
-use types.Logic.{Logic, sem}
-use types.SemTy.{cells}
-use borrow.Table.Elements.{at, cut_app, join_app, length-take-le}
-use denote.RattleType.{RattleType}
-use denote.Memory.{mem, cell_at, part_at, part_of}
-use denote.RawPtr.{Ptr, block_ptr}
+use borrow.Table.Elements.{at, length-take-le}
+use denote.Memory.{part_of}
 use denote.Struct.Owning.{shape}
-use denote.Struct.Struct.{Struct}
-use Rattle.std.specs.Mem.{type_size}
 use Rattle.v_frame_plane.specs.Block.{entries_at, room_at, cells_own}
 use Rattle.v_frame_plane.specs.BlockLends.{with_items}
 use Rattle.v_frame_plane.specs.Plane.{with_part}

@@ -1,40 +1,17 @@
 -- What the proofs of `take_room` and `give_back` share: the parts as machine values, and room for entries. Assumes `Logic`.
-use mathlib.Core.Path.{◌≡◌, refl, sym, ap, subst, ◌∙◌}
-use mathlib.Core.Bool.{Bool, true, false, not}
-use Prim.Native.Nat.{ℕ, suc, ◌+◌, ◌*◌, ◌<◌, ◌^◌}
-use native.Mathlib.Nat.{zero-mul, zero-add, add_comm}
-use native.Mathlib.Omega.{arith}
-use mathlib.Core.List.{List, [], ◌∷◌, ◌++◌}
-use lib.Dec.{T, eqb}
-use seplogic.Ra.Ura.{Ura}
-use mir.Syntax.{ty_array}
-use mir.Val.{Val, vunit, vstruct, vcons, vnil, of_list}
+use Rattle.v_frame_plane.proofs.lent.Steps.{◌≡◌, refl, sym, ap, ◌∙◌, ℕ, ◌+◌, ◌*◌, ◌<◌, ◌^◌, arith, List, [], ◌∷◌, ◌++◌, Ura, Val, vstruct, vcons, vnil, of_list}
+use Rattle.v_frame_plane.proofs.lent.Steps.{ent, sep, emp, wand, id⊢, Lft, Share, ftrue, feq, fsep, flft, fact, fact_i, ◌⊑◌, Logic, sem, Item, Goal, Seq, Step}
+use Rattle.v_frame_plane.proofs.lent.Steps.{step, ‵, raw, some, later, ◌⊛◌, ◌$◌, ◌∵◌, !, qed, move, keep, drop as skip, use0, use1, split, join, pick, fsplit}
+use Rattle.v_frame_plane.proofs.lent.Steps.{fjoin, fpick, fpack, feq_i, feq_l, rewrite, await, done, RattleType, Valss, nothing, only, within, triple_of}
+use Rattle.v_frame_plane.proofs.lent.Steps.{Contract, subst, Bool, true, false, not, suc, zero-mul, zero-add, add_comm, T, eqb, ty_array, vunit, guard, via}
+use Rattle.v_frame_plane.proofs.lent.Steps.{fst∗, froom, align, by, check, flt_i, updating, now as at_once, Ptr, RawPtr, block_ptr, ptr_val, Shape, Struct}
+use Rattle.v_frame_plane.proofs.lent.Steps.{type_size, El, R, el_x, elτ, Al, token, P, word, as_raw, as_written}
 use mir.Raw.{raw as bare}
-use base.Logic.{ent, sep, emp, guard, via, fst∗, wand, id⊢}
-use base.Fml.{Lft, Share, ftrue, feq, fsep, froom, flft}
-use contract.Monad.{fact, fact_i}
-use contract.BorrowLft.{◌⊑◌}
-use prog.Memory.{align}
 use prog.Align.{dv_self}
-use types.Logic.{Logic, sem}
-use types.Kit.{Item, Goal, Seq, Step, step, ‵, raw, some, later, ◌⊛◌, ◌$◌, ◌∵◌, !, qed, by, move, keep, drop as skip, use0, use1, split, join, pick, check}
-use types.Kit.{fsplit, fjoin, fpick, fpack, feq_i, feq_l, flt_i, rewrite, await, updating, now as at_once, done}
-use denote.RattleType.{RattleType, Valss}
-use denote.RawPtr.{Ptr, RawPtr, block_ptr, ptr_val}
 use denote.Shadow.{makes_shadow}
-use denote.Steps.{nothing, only}
-use denote.Struct.Struct.{Shape, Struct, within}
 use denote.Struct.Owning.{shape}
-use Rattle.std.specs.Mem.{type_size}
 use denote.Param.Glue as glue
-use denote.Triple.Spec.{triple_of}
-use denote.Triple.Statement.{Contract}
-use Rattle.core.proofs.mem.Param.{El, R, el_x, elτ}
 use Rattle.core.proofs.ptr.Rows as Rows
-use Rattle.core.proofs.alloc.Calls.{Al, token}
-use Rattle.core.proofs.slots.Leases.{P}
-use Rattle.std_alloc.proofs.RcSteps.{word}
-use Rattle.std_alloc.proofs.RawLayout.{as_raw, as_written}
 use Rattle.v_frame_plane.specs.Block.{cells_own, deed_owns, token_if, room_at}
 use Rattle.v_frame_plane.specs.contracts.aligned.block.Base as Base
 use Rattle.v_frame_plane.specs.contracts.aligned.block.Cells as Cells

@@ -3,27 +3,15 @@
 --     slice_fits, slices_fit     what code stores is well typed
 --     dropped      a part that is not used ends as it is.        ends_joined     from what both parts end as, what the slice does
 use Rattle.v_frame_plane.proofs.lent.Steps.{ℕ, ◌≡◌, ◌+◌, ◌^◌, ◌<◌, ◌≤◌, List, [], ◌∷◌, ◌++◌, length, take, list_drop, w64, MutBor, refl, ap, ◌∙◌, Lft, Share}
-use Rattle.v_frame_plane.proofs.lent.Steps.{flft}
-use Rattle.v_frame_plane.proofs.lent.Steps.{ftrue, SProp, emp, id⊢, ◌⊑◌, Fun, fact, fact_i, Array, usize, shows, param, uint_vals, uint_Makes, RattleType}
-use Rattle.v_frame_plane.proofs.lent.Steps.{MutSlice}
-use Rattle.v_frame_plane.proofs.lent.Steps.{slice_val, heard, nothing, only, owned, peeks, Lasts, lasts, triple_of, Contract, named, Val, of_list, vcons, vnil}
-use Rattle.v_frame_plane.proofs.lent.Steps.{vstruct, Memory, Routine, Ura, Item, Seq, ‵, raw, ◌⊛◌, some, later, ◌$◌, await, drop, feq_l, fjoin, fpick, fsplit}
-use Rattle.v_frame_plane.proofs.lent.Steps.{join}
-use Rattle.v_frame_plane.proofs.lent.Steps.{move, pick, rewrite, split, split3, use0, use1, Logic, ent, sep, fobs, ◌∵◌, !, qed, done, keep, fsplit3, sem, Fml}
-use Rattle.v_frame_plane.proofs.lent.Steps.{both_by, follows_both, Tuple}
-use Rattle.std.specs.List.{SameBelow, TailFrom}
-use denote.Triple.Statement.{Triple}
-use denote.Triple.Call.{calls_at}
-use lib.Dec.{T}
-use mir.Syntax.{Body, Callee, Place, Opd as Operand, call, seq}
-use mir.Val.{WT, has_ty, vint, vptr}
-use Rattle.v_frame_plane.proofs.lent.Steps.{Ty, erased, mut, slice_ty, tcons, tnil, ty_param, ty_ref, ty_struct}
-use prog.Wp.{Calls, Env, Loops}
-use sound.WpLaws.{FmC}
-use types.Kit.{Post, lands, regoal, runs}
-use types.Run.{Opds}
+use Rattle.v_frame_plane.proofs.lent.Steps.{flft, ftrue, SProp, emp, id⊢, ◌⊑◌, Fun, fact, fact_i, Array, usize, shows, param, uint_vals, uint_Makes, RattleType}
+use Rattle.v_frame_plane.proofs.lent.Steps.{MutSlice, slice_val, heard, nothing, only, owned, peeks, Lasts, lasts, triple_of, Contract, named, Val, of_list}
+use Rattle.v_frame_plane.proofs.lent.Steps.{vcons, vnil, vstruct, Memory, Routine, Ura, Item, Seq, ‵, raw, ◌⊛◌, some, later, ◌$◌, await, drop, feq_l, fjoin}
+use Rattle.v_frame_plane.proofs.lent.Steps.{fpick, fsplit, join, move, pick, rewrite, split, split3, use0, use1, Logic, ent, sep, fobs, ◌∵◌, !, qed, done, keep}
+use Rattle.v_frame_plane.proofs.lent.Steps.{fsplit3, sem, Fml, both_by, follows_both, Tuple, calls_at, vint, vptr, Ty, erased, mut, slice_ty, tcons, tnil}
+use Rattle.v_frame_plane.proofs.lent.Steps.{ty_param, ty_ref, ty_struct, SameBelow, TailFrom, Triple, T, Callee, Place, Opd as Operand, call, seq, Lifetime, WT}
+use Rattle.v_frame_plane.proofs.lent.Steps.{has_ty, Calls, Env, Loops, FmC, Post, lands, regoal, runs, Opds}
+use mir.Syntax.{Body}
 use denote.FollowSlice.{heres_id}
-use mir.Syntax.{Lifetime}
 use Rattle.core.specs.contracts.slice.slice+T.split_at_mut
 use Rattle.v_frame_plane.specs.SecondRows.{EndsAs}
 use Rattle.v_frame_plane.proofs.lent.Loans.{at_one}

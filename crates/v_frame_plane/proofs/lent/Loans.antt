@@ -6,31 +6,15 @@
 -- lends_self the same for the self of a call, which has half of the token of κ beside that of the loan. self_back self
 -- and the tokens, from what the call gives
 --     at_one          what is given for each h where A h is held, at one h
-use Rattle.std.proofs.Common.{ℕ, ◌≡◌, List, [], ◌∷◌, refl}
-use base.Fml.{Fml, Lft, Share, fat, fauth, fdead, flent, flft, fobor, fobs, fres, fsep, ftrue}
-use base.Fraction.{full_share}
+use Rattle.v_frame_plane.proofs.lent.Steps.{ℕ, ◌≡◌, List, [], ◌∷◌, refl, Fml, Lft, Share, fat, fauth, flent, flft, fobor, fobs, fsep, ftrue, full_share, SProp}
+use Rattle.v_frame_plane.proofs.lent.Steps.{all, all_e, ent, sep, wand, apply∗, Lfts, Shares, fact, shows, cell_at, mem, RattleType, MutBor, MutRef, mut_vals}
+use Rattle.v_frame_plane.proofs.lent.Steps.{heard, nothing, opens, peeks, Ty, named, Val, vptr, Ura, Goal, Item, Seq, Soaks, Step, step, mean, prop, ‵, raw}
+use Rattle.v_frame_plane.proofs.lent.Steps.{◌⊛◌, some, later, ◌$◌, ◌∵◌, !, qed, await, done, drop, fsplit, fsplit3, join, keep, move, pick, rewrite, split}
+use Rattle.v_frame_plane.proofs.lent.Steps.{split3, use1, use2, use3, Logic, Body, fdead, fres, part_in_at, part_out_at, meet_⊑_left, Is, lends_ref, ref_back}
+use Rattle.v_frame_plane.proofs.lent.Steps.{lone, part_at, Sq, lft-common, lft_end, lft_new}
 use base.FractionLaws.{common}
 use base.Share
-use base.Logic.{SProp, all, all_e, ent, sep, wand, apply∗}
-use borrow.Table.OneValue.{part_in_at, part_out_at}
-use contract.BorrowLft.{meet_⊑_left}
-use contract.Lifetimes.{Lfts, Shares}
-use contract.Monad.{fact}
-use denote.Laws.{Is, shows}
-use denote.Lend.{lends_ref, ref_back}
-use denote.Memory.{cell_at, lone, mem, part_at}
-use denote.RattleType.{RattleType}
-use denote.Ref.{MutBor, MutRef, mut_vals}
-use denote.Steps.{heard, nothing, opens, peeks}
 use mir.Raw.{raw as raw_ty}
-use mir.Syntax.{Ty, named}
-use mir.Val.{Val, vptr}
-use seplogic.Ra.Ura.{Ura}
-use types.Kit.{Goal, Item, Seq, Soaks, Sq, Step, step, mean, prop, ‵, raw, ◌⊛◌, some, later, ◌$◌, ◌∵◌, !, qed, await, done, drop, fsplit, fsplit3, join, keep}
-use types.Kit.{move, pick, rewrite, split, split3, use1, use2, use3}
-use types.Logic.{Logic}
-use types.SemTy.{Body}
-use types.Tokens.{lft-common, lft_end, lft_new}
 
 -- the share that there is of the token of α ∷ κ, for the share q of that of κ
 abbrev pub share_within : Share → Share

@@ -3,18 +3,12 @@
 -- and what it ensures. pixel_back the same at a call's last call, which gave a pixel: self is closed
 --     ends_draw      how a call ends
 use Rattle.v_frame_plane.proofs.lent.Steps.{Some-of, live, heard, ℕ, ◌≡◌, List, [], ◌∷◌, Option, Some, MutBor, refl, ap, Lft, fat, fauth, fbor, flent, flft}
-use Rattle.v_frame_plane.proofs.lent.Steps.{fobor}
-use Rattle.v_frame_plane.proofs.lent.Steps.{fobs, ftrue, full_share, SProp, emp, id⊢, ◌⊑◌, ⊑_trans, sep, Fun, fact, fact_i, shows, mem, param, Laws, param_laws}
-use Rattle.v_frame_plane.proofs.lent.Steps.{RattleType, MutRef, mut_vals, named_lft, only, peeks, closes, Clauses, Lasts, lasts, at_exit, triple_of, walk_of}
-use Rattle.v_frame_plane.proofs.lent.Steps.{ends_at, named, Val, of_list, Memory, Routine, Ura, Goal, Item, Seq, Soaks, Step, step, ‵, raw, ◌⊛◌, some, later}
-use Rattle.v_frame_plane.proofs.lent.Steps.{prop}
-use Rattle.v_frame_plane.proofs.lent.Steps.{◌$◌, await, join, move, pick, rewrite, split, suffices, use0, use1, Logic, sem, Body, Fml, mean, AllOutlive, Shares}
-use Rattle.v_frame_plane.proofs.lent.Steps.{Lfts, Args}
-use base.Logic.{ex}
+use Rattle.v_frame_plane.proofs.lent.Steps.{fobor, fobs, ftrue, full_share, SProp, emp, id⊢, ◌⊑◌, ⊑_trans, sep, Fun, fact, fact_i, shows, mem, param, Laws}
+use Rattle.v_frame_plane.proofs.lent.Steps.{param_laws, RattleType, MutRef, mut_vals, named_lft, only, peeks, closes, Clauses, Lasts, lasts, at_exit, triple_of}
+use Rattle.v_frame_plane.proofs.lent.Steps.{walk_of, ends_at, named, Val, of_list, Memory, Routine, Ura, Goal, Item, Seq, Soaks, Step, step, ‵, raw, ◌⊛◌, some}
+use Rattle.v_frame_plane.proofs.lent.Steps.{later, prop, ◌$◌, await, join, move, pick, rewrite, split, suffices, use0, use1, Logic, sem, Body, Fml, mean}
+use Rattle.v_frame_plane.proofs.lent.Steps.{AllOutlive, Shares, Lfts, Args, ex, Gv, meet_⊑_right, alive, on_entry}
 use base.Share
-use base.Stored.{Gv}
-use contract.BorrowLft.{meet_⊑_right}
-use denote.Triple.Entry.{alive, on_entry}
 use Rattle.std.specs.contracts.option.Option as Opt
 use Rattle.v_frame_plane.specs.contracts.pixels_mut.PixelsMut.{the_row}
 use Rattle.v_frame_plane.specs.contracts.pixels_mut.PixelsMut.refill_front

@@ -2,24 +2,13 @@
 --     cuts_one     the slice goes to the call, which gives its pixel and the rest: it ends as they do
 --     takes_near, fewer, steps     so the iterator ends as the pixel and what is left, which can be counted, and the pixel is the next at that end
 use Rattle.v_frame_plane.proofs.lent.Steps.{◌≡◌, ◌^◌, ◌<◌, List, [], ◌∷◌, ◌++◌, length, MutBor, refl, sym, ap, ◌∙◌, arith, Lft, Share, flft, ftrue, SProp, emp}
-use Rattle.v_frame_plane.proofs.lent.Steps.{ent}
-use Rattle.v_frame_plane.proofs.lent.Steps.{sep, wand, id⊢, ◌⊑◌, fact, fact_i, Array, shows, param, RattleType, MutRef, MutSlice, slice_val, heard, nothing}
-use Rattle.v_frame_plane.proofs.lent.Steps.{only}
-use Rattle.v_frame_plane.proofs.lent.Steps.{peeks, Lasts, lasts, triple_of, Contract, named, Val, of_list, vcons, vnil, vptr, vstruct, Ura, Item, Seq, ‵, raw}
-use Rattle.v_frame_plane.proofs.lent.Steps.{◌⊛◌}
-use Rattle.v_frame_plane.proofs.lent.Steps.{some, later, ◌$◌, ◌∵◌, !, qed, assume, await, done, drop, each, feq_l, fjoin, fpick, fsplit, fsplit3, join, move}
-use Rattle.v_frame_plane.proofs.lent.Steps.{pick}
-use Rattle.v_frame_plane.proofs.lent.Steps.{rewrite, split, split3, use0, use1, use3, Logic, sem, append_assoc, both_by, follows_both, Tuple}
-use Rattle.std.proofs.Common.{length-append}
-use base.Fml.{GName}
-use denote.Triple.Call.{calls_at}
-use denote.Triple.Clauses.{closing}
-use denote.Triple.Statement.{Triple}
-use mir.Syntax.{Body, Callee, Place, Opd as Operand, call, seq}
-use prog.Wp.{Calls, Env, Loops}
-use sound.WpLaws.{FmC}
-use types.Kit.{Post, lands, regoal, runs}
-use types.Run.{Opds}
+use Rattle.v_frame_plane.proofs.lent.Steps.{ent, sep, wand, id⊢, ◌⊑◌, fact, fact_i, Array, shows, param, RattleType, MutRef, MutSlice, slice_val, heard}
+use Rattle.v_frame_plane.proofs.lent.Steps.{nothing, only, peeks, Lasts, lasts, triple_of, Contract, named, Val, of_list, vcons, vnil, vptr, vstruct, Ura, Item}
+use Rattle.v_frame_plane.proofs.lent.Steps.{Seq, ‵, raw, ◌⊛◌, some, later, ◌$◌, ◌∵◌, !, qed, assume, await, done, drop, each, feq_l, fjoin, fpick, fsplit}
+use Rattle.v_frame_plane.proofs.lent.Steps.{fsplit3, join, move, pick, rewrite, split, split3, use0, use1, use3, Logic, sem, append_assoc, both_by}
+use Rattle.v_frame_plane.proofs.lent.Steps.{follows_both, Tuple, calls_at, length-append, GName, closing, Triple, Callee, Place, Opd as Operand, call, seq}
+use Rattle.v_frame_plane.proofs.lent.Steps.{Calls, Env, Loops, FmC, Post, lands, regoal, runs, Opds}
+use mir.Syntax.{Body}
 use Rattle.v_frame_layout.specs.Table.{row_major}
 use Rattle.v_frame_plane.specs.RowsLeft.{rows_left}
 use Rattle.v_frame_plane.specs.SecondRows.{EndsAs}

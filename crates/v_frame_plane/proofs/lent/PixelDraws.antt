@@ -2,9 +2,8 @@
 --     after_keeping     a step that keeps the pixels, and then another one
 --     yields_pixel, moves, yields_none, rests     the plain clauses of a call that gives a pixel, and of one that gives none
 use Rattle.v_frame_plane.proofs.lent.Steps.{◌≡◌, List, [], ◌∷◌, length, Option, Some, None, MutBor, sym, ap, ◌∙◌, arith, ⊤, MakesProgress, item_count, SProp}
-use Rattle.v_frame_plane.proofs.lent.Steps.{all}
-use Rattle.v_frame_plane.proofs.lent.Steps.{ent, sep, wand, RattleType, Ura, ‵, raw, ◌$◌, ◌∵◌, !, qed, assume, done, each, move, use2, Logic, sem}
-use Rattle.std.proofs.Common.{length-append}
+use Rattle.v_frame_plane.proofs.lent.Steps.{all, ent, sep, wand, RattleType, Ura, ‵, raw, ◌$◌, ◌∵◌, !, qed, assume, done, each, move, use2, Logic, sem}
+use Rattle.v_frame_plane.proofs.lent.Steps.{length-append}
 use Rattle.v_frame_plane.specs.PixelsLeft.{pixels_left}
 use Rattle.v_frame_plane.specs.SecondPixels.{SecondPixels, KeepsPixels}
 use Rattle.v_frame_plane.specs.declared.pixels_mut.PixelsMut.{PixelsMut}

@@ -4,23 +4,13 @@
 use Rattle.v_frame_plane.proofs.lent.Steps.{ℕ, at_exit, ◌≡◌, ◌<◌, [], ◌∷◌, length, Some, None, MutBor, lit<, refl, sym, ap, ◌∙◌, arith, proved, none_of, ⊤}
 use Rattle.v_frame_plane.proofs.lent.Steps.{MakesProgress, item_count, ftrue, emp, sep, ◌⊑◌, fact, fact_i, tables, param, MutRef, mut_vals, mut_Tells, plain}
 use Rattle.v_frame_plane.proofs.lent.Steps.{named_lft, closes, heard, only, calls_at, framed, triple_of, Goes-ref, walk_of, named, mut, erased, of_list}
-use Rattle.v_frame_plane.proofs.lent.Steps.{alloc_all}
-use Rattle.v_frame_plane.proofs.lent.Steps.{env, free_all, get, lands_as, look_at, pass_all, sets, through, ‵, raw, ◌⊛◌, at_ret, ◌$◌, !, done, feq_l, join}
-use Rattle.v_frame_plane.proofs.lent.Steps.{keep}
-use Rattle.v_frame_plane.proofs.lent.Steps.{move, split, use0, use1, use2, live, agg, whole, addr, and_then, bin, branches, enter, exec, first, lit, no_more}
-use Rattle.v_frame_plane.proofs.lent.Steps.{returns, returns_within, skips, stop, well_typed, prop, sem, RattleType, Laws, Logic, Ura, Ty, tcons, tnil, ty_int}
-use Rattle.v_frame_plane.proofs.lent.Steps.{ty_param, ty_ref, w64, Contract}
-use contract.Running.{MachineTables, Running}
-use denote.Builtin.{unit}
-use denote.Triple.Clauses.{closing}
-use denote.Triple.Spec.{Meets}
-use denote.Triple.Statement.{Triple}
-use lib.Dec.{ltb→lt, nltb→le}
-use mir.Syntax.{Body, Callee, Fn, Local, Sym, addr_of, aggregate, assign, call, cond, copy, deref, field, int, local, lt, op2, place, return, rv_opd, seq, skip}
-use mir.Syntax.{ttcons, ttnil, ty_bool, ty_enum, ty_unit, unsigned, value_local, w8}
-use prog.Model.{Model}
-use prog.Wp.{Closed}
-use types.Kit.{Sq}
+use Rattle.v_frame_plane.proofs.lent.Steps.{alloc_all, env, free_all, get, lands_as, look_at, pass_all, sets, through, ‵, raw, ◌⊛◌, at_ret, ◌$◌, !, done, feq_l}
+use Rattle.v_frame_plane.proofs.lent.Steps.{join, keep, move, split, use0, use1, use2, live, agg, whole, addr, and_then, bin, branches, enter, exec, first, lit}
+use Rattle.v_frame_plane.proofs.lent.Steps.{no_more, returns, returns_within, skips, stop, well_typed, prop, sem, RattleType, Laws, Logic, Ura, Ty, tcons, tnil}
+use Rattle.v_frame_plane.proofs.lent.Steps.{ty_int, ty_param, ty_ref, w64, Contract, MachineTables, Running, unit, closing, Meets, Triple, ltb→lt, nltb→le}
+use Rattle.v_frame_plane.proofs.lent.Steps.{Callee, Fn, Local, Sym, addr_of, aggregate, assign, call, cond, copy, deref, field, int, local, lt, op2, place}
+use Rattle.v_frame_plane.proofs.lent.Steps.{return, rv_opd, seq, skip, ttcons, ttnil, ty_bool, ty_enum, ty_unit, unsigned, value_local, w8, Model, Closed, Sq}
+use mir.Syntax.{Body}
 use Rattle.std.specs.contracts.option.Option as Opt
 use Rattle.v_frame_plane.specs.PixelsLeft.{pixels_left}
 use Rattle.v_frame_plane.specs.SecondPixels.{KeepsPixels, PixelEndsAs, SecondPixels}

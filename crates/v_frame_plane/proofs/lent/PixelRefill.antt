@@ -1,25 +1,16 @@
 -- `refill_front` and `refill_back` of an iterator that lends pixels, of which `s` is the one end: the next of the rows from there is what was begun at that end
 -- now, or what the other end had is. What a `&mut` in a field of self ends as no generated proof follows, so this one follows the code. Assumes `Logic`.
 use Rattle.v_frame_plane.proofs.lent.Steps.{◌≡◌, ◌+◌, [], ◌∷◌, length, List, Option, MutBor, lit<, refl, sym, proved, ⊤, MakesProgress, item_count, fat}
-use Rattle.v_frame_plane.proofs.lent.Steps.{full_share}
-use Rattle.v_frame_plane.proofs.lent.Steps.{id⊢, ◌⊑◌, ⊑_trans, fact, tables, param, MutRef, mut_vals, mut_Tells, plain, named_lft, MutSlice, slice_val, heard}
-use Rattle.v_frame_plane.proofs.lent.Steps.{calls_at, framed, Goes-ref, walk_of, named, alloc_all, env, free_all, get, get_in, lands_as, look_at, look_in_at}
-use Rattle.v_frame_plane.proofs.lent.Steps.{pass_all, sets, through, ‵, raw, ◌⊛◌, at_ret, ◌$◌, !, drop, fjoin, move, rewrite, split, split3, use1, use2, agg}
-use Rattle.v_frame_plane.proofs.lent.Steps.{store_in, sub, whole as entire, addr, and_then, enter, exec, first, fld, from, hop, no_more, of_opd, returns, stop}
-use Rattle.v_frame_plane.proofs.lent.Steps.{RattleType, Laws, Lft, Logic, Ura, Ty, tcons, tnil, erased, mut, ty_param, ty_ref, Contract, triple_of}
-use Rattle.std.proofs.Common.{subst}
-use contract.Running.{MachineTables, Running}
-use denote.Triple.Clauses.{closing}
-use denote.Triple.Spec.{Meets}
-use denote.Triple.Statement.{Triple}
-use mir.Syntax.{Body, Callee, Fn, Place, Sym, addr_of, aggregate, arm, assign, call, copy, deref, field, local, no_default, opd_unit, place, return, rv_opd}
-use mir.Syntax.{seq, switch, ttcons, ttnil, ty_enum, ty_unit, value_local, variant}
-use prog.Model.{Model}
-use prog.Wp.{Closed, Wp, after_seq}
-use types.ByLocal.{get_tag}
-use types.Kit.{any_q, post}
-use types.Match.{in_variant, vrt}
-use types.Run.{assigns_last, switches_on, unit_lit}
+use Rattle.v_frame_plane.proofs.lent.Steps.{full_share, id⊢, ◌⊑◌, ⊑_trans, fact, tables, param, MutRef, mut_vals, mut_Tells, plain, named_lft, MutSlice}
+use Rattle.v_frame_plane.proofs.lent.Steps.{slice_val, heard, calls_at, framed, Goes-ref, walk_of, named, alloc_all, env, free_all, get, get_in, lands_as}
+use Rattle.v_frame_plane.proofs.lent.Steps.{look_at, look_in_at, pass_all, sets, through, ‵, raw, ◌⊛◌, at_ret, ◌$◌, !, drop, fjoin, move, rewrite, split}
+use Rattle.v_frame_plane.proofs.lent.Steps.{split3, use1, use2, agg, store_in, sub, whole as entire, addr, and_then, enter, exec, first, fld, from, hop}
+use Rattle.v_frame_plane.proofs.lent.Steps.{no_more, of_opd, returns, stop, RattleType, Laws, Lft, Logic, Ura, Ty, tcons, tnil, erased, mut, ty_param, ty_ref}
+use Rattle.v_frame_plane.proofs.lent.Steps.{Contract, triple_of, subst, MachineTables, Running, closing, Meets, Triple, Callee, Fn, Place, Sym, addr_of}
+use Rattle.v_frame_plane.proofs.lent.Steps.{aggregate, arm, assign, call, copy, deref, field, local, no_default, opd_unit, place, return, rv_opd, seq, switch}
+use Rattle.v_frame_plane.proofs.lent.Steps.{ttcons, ttnil, ty_enum, ty_unit, value_local, variant, Model, Closed, Wp, after_seq, get_tag, any_q, post}
+use Rattle.v_frame_plane.proofs.lent.Steps.{in_variant, vrt, assigns_last, switches_on, unit_lit}
+use mir.Syntax.{Body}
 use Rattle.v_frame_plane.specs.RowsLeft.{rows_left}
 use Rattle.v_frame_plane.specs.SecondRows.{EndsAs}
 use Rattle.v_frame_plane.specs.SecondPixels.{KeepsPixels}

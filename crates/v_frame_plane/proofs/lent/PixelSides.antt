@@ -6,21 +6,11 @@
 --     whole_by, by_sides     self as a machine value, of its parts as seen from this end.        sides, closes_by     self, apart, and closed
 --     cut_clauses, row_clauses, step_clauses, refill_clauses, draw_clauses     the contracts of the functions of this end
 use Rattle.v_frame_plane.proofs.lent.Steps.{ℕ, ◌≡◌, ◌+◌, ◌^◌, ◌<◌, List, [], ◌∷◌, length, Some, None, MutBor, ⊤, MakesProgress, item_count, Share, Lft, fauth}
-use Rattle.v_frame_plane.proofs.lent.Steps.{fbor}
-use Rattle.v_frame_plane.proofs.lent.Steps.{fobor, fobs, flft, mem, Body, Step, step, !, refl, ◌$◌, move, Array, Laws, MutSlice, NamedLft, Goal, Seq, Soaks}
-use Rattle.v_frame_plane.proofs.lent.Steps.{follows_both, full_share, fat, ftrue, ent, sep, id⊢, fact, ◌⊑◌, param, RattleType, Clauses, Ty, Val, vptr, vint}
-use Rattle.v_frame_plane.proofs.lent.Steps.{w64}
-use Rattle.v_frame_plane.proofs.lent.Steps.{Ura, Item, ‵, Logic, sem, sub, fld, look_in, load, of_opd, stop, through, erased, mut, slice_ty, tcons, tnil}
-use Rattle.v_frame_plane.proofs.lent.Steps.{ty_param, ty_ref, ty_struct}
-use base.Stored.{Gv}
-use lib.Dec.{T}
-use mir.Syntax.{Sym, deref, field, place, copy, rv_opd}
-use mir.Val.{Fits, WT, has_ty}
-use prog.Wp.{Env}
-use types.ByLocal.{at}
-use types.Kit.{Go, nth}
-use types.Part.{Part}
-use types.Run.{Finds, Rv}
+use Rattle.v_frame_plane.proofs.lent.Steps.{fbor, fobor, fobs, flft, mem, Body, Step, step, !, refl, ◌$◌, move, Array, Laws, MutSlice, NamedLft, Goal, Seq}
+use Rattle.v_frame_plane.proofs.lent.Steps.{Soaks, follows_both, full_share, fat, ftrue, ent, sep, id⊢, fact, ◌⊑◌, param, RattleType, Clauses, Ty, Val, vptr}
+use Rattle.v_frame_plane.proofs.lent.Steps.{vint, w64, Ura, Item, ‵, Logic, sem, sub, fld, look_in, load, of_opd, stop, through, erased, mut, slice_ty, tcons}
+use Rattle.v_frame_plane.proofs.lent.Steps.{tnil, ty_param, ty_ref, ty_struct, Gv, T, Sym, deref, field, place, copy, rv_opd, Fits, WT, has_ty, Env, at, Go}
+use Rattle.v_frame_plane.proofs.lent.Steps.{nth, Part, Finds, Rv}
 use Rattle.v_frame_plane.specs.PixelsLeft.{pixels_left}
 use Rattle.v_frame_plane.specs.RowsLeft.{rows_left}
 use Rattle.v_frame_plane.specs.SecondPixels.{KeepsPixels}
@@ -36,8 +26,7 @@ use Rattle.v_frame_plane.specs.declared.pixels_mut.PixelsMut.{PixelsMut}
 use Rattle.v_frame_plane.proofs.lent.PixelMemory.{Around, Bare, Named, back_out, closes_pixels, front_out, lowered, parts, whole}
 use Rattle.v_frame_plane.proofs.lent.RowMemory.{Numbers, slice_of, lowered as rows_lowered}
 use Rattle.v_frame_plane.proofs.lent.Sides.{Side, at_front, at_back, slot, other, offset, near, far, put, Countable, walk_by, Steps, Yields, YieldsRow}
-use Rattle.v_frame_plane.proofs.lent.Sides.{LendsRow}
-use Rattle.v_frame_plane.proofs.lent.Sides.{Takes, Lends}
+use Rattle.v_frame_plane.proofs.lent.Sides.{LendsRow, Takes, Lends}
 use Rattle.v_frame_plane.proofs.lent.Taken.{Slice, word}
 
 -- self as a machine value, of its field at this end, its rows and its field at the other end

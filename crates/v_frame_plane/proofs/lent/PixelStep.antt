@@ -5,15 +5,9 @@ use Rattle.v_frame_plane.proofs.lent.Steps.{◌+◌, ◌<◌, [], ◌∷◌, len
 use Rattle.v_frame_plane.proofs.lent.Steps.{mut_vals, mut_Tells, plain, named_lft, slice_val, heard, framed, Goes-ref, named, alloc_all, free_all, get, get_in}
 use Rattle.v_frame_plane.proofs.lent.Steps.{lands_as, look_at, look_in_at, pass_all, sets, through, ‵, raw, ◌⊛◌, ◌$◌, !, done, drop, join, move, split, rewrite}
 use Rattle.v_frame_plane.proofs.lent.Steps.{use0, use1, use2, agg, store_in, sub, whole, addr, and_then, assigns, enter, fld, from, hop, no_more, of_opd}
-use Rattle.v_frame_plane.proofs.lent.Steps.{returns}
-use Rattle.v_frame_plane.proofs.lent.Steps.{stop, RattleType, Laws, Lft, Logic, Ura, Ty, tcons, tnil, erased, mut, ty_param, ty_ref, ty_struct}
-use contract.Running.{MachineTables, Running}
-use denote.Triple.Clauses.{closing}
-use denote.Triple.Spec.{Meets}
-use denote.Triple.Statement.{Triple}
-use mir.Syntax.{Callee, Fn, Sym, addr_of, aggregate, assign, call, copy, deref, field, local, place, return, rv_opd, seq, value_local}
-use prog.Model.{Model}
-use prog.Wp.{Closed}
+use Rattle.v_frame_plane.proofs.lent.Steps.{returns, stop, RattleType, Laws, Lft, Logic, Ura, Ty, tcons, tnil, erased, mut, ty_param, ty_ref, ty_struct}
+use Rattle.v_frame_plane.proofs.lent.Steps.{MachineTables, Running, closing, Meets, Triple, Callee, Fn, Sym, addr_of, aggregate, assign, call, copy, deref}
+use Rattle.v_frame_plane.proofs.lent.Steps.{field, local, place, return, rv_opd, seq, value_local, Model, Closed}
 use Rattle.v_frame_plane.specs.contracts.pixels_mut.PixelsMut.{the_row}
 use Rattle.v_frame_plane.specs.contracts.pixels_mut.PixelsMut.next_of_front
 use Rattle.v_frame_plane.proofs.lent.PixelCuts.{Cut, cuts_one, fewer, steps, takes_near}

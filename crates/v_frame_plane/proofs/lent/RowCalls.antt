@@ -2,15 +2,11 @@
 -- signature: `c` is the clauses of the one that is called. Assumes `Logic`.
 --     draws     the place is lent to the call.        drew     it holds the iterator afterwards.        by_row     whether there is a row
 use Rattle.v_frame_plane.proofs.lent.Steps.{ℕ, ◌≡◌, ◌^◌, ◌<◌, List, [], ◌∷◌, ◌++◌, length, Option, Some, None, MutBor, refl, ap, ◌∙◌, Lft, Share, fat, flent}
-use Rattle.v_frame_plane.proofs.lent.Steps.{flft}
-use Rattle.v_frame_plane.proofs.lent.Steps.{ftrue, full_share, SProp, emp, ent, sep, id⊢, ◌⊑◌, ⊑_trans, fact, fact_i, shows, mem, param, Laws, param_laws}
+use Rattle.v_frame_plane.proofs.lent.Steps.{flft, ftrue, full_share, SProp, emp, ent, sep, id⊢, ◌⊑◌, ⊑_trans, fact, fact_i, shows, mem, param, Laws, param_laws}
 use Rattle.v_frame_plane.proofs.lent.Steps.{RattleType, nothing, only, peeks, Clauses, Lasts, at_exit, lasts, triple_of, Contract, named, Val, of_list, vptr}
-use Rattle.v_frame_plane.proofs.lent.Steps.{Ura}
-use Rattle.v_frame_plane.proofs.lent.Steps.{Goal, Item, Seq, Soaks, ‵, raw, ◌⊛◌, some, later, ◌$◌, await, drop, feq_l, fpick, fsplit, join, move, pick, rewrite}
-use Rattle.v_frame_plane.proofs.lent.Steps.{split, use0, use1, Logic, live, Body, Lfts, Args}
+use Rattle.v_frame_plane.proofs.lent.Steps.{Ura, Goal, Item, Seq, Soaks, ‵, raw, ◌⊛◌, some, later, ◌$◌, await, drop, feq_l, fpick, fsplit, join, move, pick}
+use Rattle.v_frame_plane.proofs.lent.Steps.{rewrite, split, use0, use1, Logic, live, Body, Lfts, Args, meet_⊑_right, closing}
 use base.Share
-use contract.BorrowLft.{meet_⊑_right}
-use denote.Triple.Clauses.{closing}
 use Rattle.std.specs.contracts.option.Option as Opt
 use Rattle.v_frame_plane.specs.contracts.rows_mut.RowsMut.{the_row}
 use Rattle.v_frame_plane.specs.contracts.rows_mut.RowsMut.next

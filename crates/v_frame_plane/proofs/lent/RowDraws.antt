@@ -1,9 +1,7 @@
 -- What the numbers of an iterator that lends rows are before and after `next` and `next_back`.
-use Rattle.std.proofs.Common.{ℕ, zero, suc, ◌≡◌, ◌+◌, ◌-◌, ◌*◌, ◌<◌, ◌≤◌, List, [], length, take, drop, Option, Some, None, MutBor, ap, ◌∙◌, arith}
-use Rattle.std.proofs.Common.{length-take-le, length-drop}
-use Rattle.std.specs.Prelude.{not, ⊤}
-use lib.Dec.{T, T_not, eqb}
-use Rattle.std.specs.Iterator.{MakesProgress, YieldsFirstMut, YieldsLastMut, item_count}
+use Rattle.v_frame_plane.proofs.lent.Steps.{ℕ, ◌≡◌, ◌+◌, ◌-◌, ◌*◌, ◌<◌, ◌≤◌, List, [], length, take, list_drop as drop, Option, Some, None, MutBor, ap, ◌∙◌}
+use Rattle.v_frame_plane.proofs.lent.Steps.{arith, length-take-le, length-drop, ⊤, MakesProgress, YieldsFirstMut, YieldsLastMut, item_count, zero, suc, not, T}
+use Rattle.v_frame_plane.proofs.lent.Steps.{T_not, eqb}
 use Rattle.v_frame_plane.specs.Cursor.{RowsAreWithin}
 use Rattle.v_frame_plane.specs.RowsLeft.{rows_left}
 use Rattle.v_frame_plane.specs.declared.rows_mut.RowsMut.{RowsMut}

@@ -1,9 +1,7 @@
 -- How an iterator's slice ends, of which rows were lent: what a call leaves of the final values, and what an iterator that is dropped does. Assumes `Logic`.
 use Rattle.v_frame_plane.proofs.lent.Steps.{◌≡◌, ◌+◌, ◌-◌, ◌*◌, ◌<◌, List, [], ◌∷◌, ◌++◌, length, take, list_drop, MutBor, refl, sym, ap, ◌∙◌, SProp, all, emp}
-use Rattle.v_frame_plane.proofs.lent.Steps.{ent}
-use Rattle.v_frame_plane.proofs.lent.Steps.{sep, wand, RattleType, NamedLft, Val, Ura, ‵, ◌⊛◌, ◌$◌, ◌∵◌, !, qed, assume, done, drop, each, fpick, fsplit, keep}
-use Rattle.v_frame_plane.proofs.lent.Steps.{move}
-use Rattle.v_frame_plane.proofs.lent.Steps.{rewrite, split, use1, use2, use3, Logic, sem}
+use Rattle.v_frame_plane.proofs.lent.Steps.{ent, sep, wand, RattleType, NamedLft, Val, Ura, ‵, ◌⊛◌, ◌$◌, ◌∵◌, !, qed, assume, done, drop, each, fpick, fsplit}
+use Rattle.v_frame_plane.proofs.lent.Steps.{keep, move, rewrite, split, use1, use2, use3, Logic, sem}
 use Rattle.v_frame_plane.specs.RowsLeft.{rows_left}
 use Rattle.v_frame_plane.specs.SecondRows.{EndsAs, SecondRows, KeepsRows, TakesFirstRow, TakesLastRow, entries_with}
 use Rattle.v_frame_plane.specs.contracts.rows_mut.RowsMut.{the_row}

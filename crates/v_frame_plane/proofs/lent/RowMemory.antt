@@ -3,25 +3,16 @@
 --     bare, walk_owned     what it is made of again
 --     exits     the tokens, self and what is given, in which a function of `&mut self` of an iterator ends.        ends_draw      how a call ends
 use Rattle.v_frame_plane.proofs.lent.Steps.{ℕ, ◌+◌, ◌^◌, ◌<◌, List, [], ◌∷◌, length, Option, w64, MutBor, refl, Lft, Share, fat, fauth, fbor, flent, flft}
-use Rattle.v_frame_plane.proofs.lent.Steps.{fobor}
-use Rattle.v_frame_plane.proofs.lent.Steps.{fobs, full_share, SProp, all, ent, sep, wand, ◌⊑◌, Fun, usize, shows, mem, param, Laws, param_laws, uint_vals}
-use Rattle.v_frame_plane.proofs.lent.Steps.{uint_Makes, RattleType, Valss, MutRef, NamedLft, mut_vals, plain, named_lft, MutSlice, slice_ty, slice_val, nothing}
-use Rattle.v_frame_plane.proofs.lent.Steps.{owned, peeks, Clauses, at_exit, Stays, stay_ref, walk_of, ends_at, Ty, Tys, erased, mut, named, tcons, tnil, ty_int}
-use Rattle.v_frame_plane.proofs.lent.Steps.{ty_param, ty_ref, ty_struct, Val, Vals, vcons, vint, vnil, vstruct, Memory, Routine, Ura, Goal, Item, Seq, Soaks}
-use Rattle.v_frame_plane.proofs.lent.Steps.{Step}
-use Rattle.v_frame_plane.proofs.lent.Steps.{step, ‵, raw, ◌⊛◌, prop, ◌$◌, ◌∵◌, !, qed, done, drop, feq_i, feq_l, fjoin, fjoin3, fpack, fpick, frame, fsplit}
-use Rattle.v_frame_plane.proofs.lent.Steps.{join}
-use Rattle.v_frame_plane.proofs.lent.Steps.{move, rewrite, split, suffices, use1, use2, Logic, sem, Body, Fml, feq, fsep, ftrue, AllOutlive, Shares, Lfts, Args}
-use Rattle.v_frame_plane.proofs.lent.Steps.{shape, within, mean}
+use Rattle.v_frame_plane.proofs.lent.Steps.{fobor, fobs, full_share, SProp, all, ent, sep, wand, ◌⊑◌, Fun, usize, shows, mem, param, Laws, param_laws}
+use Rattle.v_frame_plane.proofs.lent.Steps.{uint_vals, uint_Makes, RattleType, Valss, MutRef, NamedLft, mut_vals, plain, named_lft, MutSlice, slice_ty}
+use Rattle.v_frame_plane.proofs.lent.Steps.{slice_val, nothing, owned, peeks, Clauses, at_exit, Stays, stay_ref, walk_of, ends_at, Ty, Tys, erased, mut, named}
+use Rattle.v_frame_plane.proofs.lent.Steps.{tcons, tnil, ty_int, ty_param, ty_ref, ty_struct, Val, Vals, vcons, vint, vnil, vstruct, Memory, Routine, Ura, Goal}
+use Rattle.v_frame_plane.proofs.lent.Steps.{Item, Seq, Soaks, Step, step, ‵, raw, ◌⊛◌, prop, ◌$◌, ◌∵◌, !, qed, done, drop, feq_i, feq_l, fjoin, fjoin3, fpack}
+use Rattle.v_frame_plane.proofs.lent.Steps.{fpick, frame, fsplit, join, move, rewrite, split, suffices, use1, use2, Logic, sem, Body, Fml, feq, fsep, ftrue}
+use Rattle.v_frame_plane.proofs.lent.Steps.{AllOutlive, Shares, Lfts, Args, shape, within, mean, Triple, Callee, Place, Opd as Operand, call, seq, Calls, Env}
+use Rattle.v_frame_plane.proofs.lent.Steps.{Loops, FmC, Post, lands, runs, Opds, T, Fits, WT, has_ty}
 use Rattle.std.specs.contracts.option.Option as Opt
-use denote.Triple.Statement.{Triple}
-use mir.Syntax.{Body as Code, Callee, Place, Opd as Operand, call, seq}
-use prog.Wp.{Calls, Env, Loops}
-use sound.WpLaws.{FmC}
-use types.Kit.{Post, lands, runs}
-use types.Run.{Opds}
-use lib.Dec.{T}
-use mir.Val.{Fits, WT, has_ty}
+use mir.Syntax.{Body as Code}
 use Rattle.v_frame_plane.specs.Cursor.{RowsAreWithin}
 use Rattle.v_frame_plane.specs.contracts.rows_mut.RowsMut.{struct, the_row, the_type}
 use Rattle.v_frame_plane.specs.contracts.rows_mut.RowsMut.next

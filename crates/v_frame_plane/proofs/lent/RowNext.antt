@@ -1,26 +1,21 @@
 -- `next` and `next_back` of an iterator that lends rows, of which `s` is the one end: the slice is cut where the row next to that end begins and where it ends,
 -- and what lies towards the other end is kept. A `&mut` in a field of self no generated proof follows, so this one follows the code. Assumes `Logic`.
-use Rattle.v_frame_plane.proofs.lent.Steps.{ℕ, ◌≡◌, ◌+◌, ◌-◌, ◌*◌, ◌^◌, ◌<◌, ◌≤◌, List, [], ◌∷◌, length, take, list_drop, Some, None, MutBor, lit<, w64}
-use Rattle.v_frame_plane.proofs.lent.Steps.{Val, fat, slice_val, vcons, vstruct, refl, ap, ◌∙◌, arith, length-drop, proved, Some-of, none_of, ⊤, MakesProgress, item_count, ftrue, full_share, emp}
-use Rattle.v_frame_plane.proofs.lent.Steps.{ent, sep, id⊢, SProp, Fun, ◌⊑◌, ⊑_trans, fact, fact_i, tables, param, MutRef, mut_vals, mut_Tells, plain}
-use Rattle.v_frame_plane.proofs.lent.Steps.{named_lft, MutSlice, usize, uint_vals, uint_Makes, closes, owned, nothing, heard, only, calls_at, framed, triple_of}
-use Rattle.v_frame_plane.proofs.lent.Steps.{Contract, Lasts, lasts, Goes-ref, walk_of, eqb→eq, named, mut, erased, of_list, vint, alloc_all, env, free_all, get}
-use Rattle.v_frame_plane.proofs.lent.Steps.{get_in, lands_as, look_at, look_in_at, pass_all, sets, through, ‵, raw, ◌⊛◌, some, later, at_ret, ◌$◌, !, await, done}
-use Rattle.v_frame_plane.proofs.lent.Steps.{drop, feq_l, fjoin, fsplit, join, keep, move, pick, split, use0, use1, use3, step, Step, Goal, Item, live, agg, look_in}
-use Rattle.v_frame_plane.proofs.lent.Steps.{sub, whole, addr, and_then, assigns, bin, branches, enter, exec, first, fld, from, hop, lit, load, no_more}
-use Rattle.v_frame_plane.proofs.lent.Steps.{of_opd, returns, returns_within, skips, stop, well_typed, sem, RattleType, Laws, Logic, Ura, Ty, Lft, Memory, Routine}
-use Rattle.v_frame_plane.proofs.lent.Steps.{slice_ty, tcons, tnil, ty_int, ty_param, ty_ref, ty_struct}
-use contract.Running.{MachineTables, Running}
-use denote.Triple.Clauses.{closing}
-use denote.Triple.Spec.{Meets}
-use denote.Triple.Statement.{Triple}
-use mir.Syntax.{Body, Callee, Fn, Place, Opd as Operand, Sym, addr_of, aggregate, assign, call, cond, copy, deref, eq, field, int, local, op2, place, return}
-use mir.Syntax.{rv_opd, seq, skip, sub as minus, ttcons, ttnil, ty_bool, ty_enum, unsigned, value_local, w8}
-use prog.Model.{Model}
-use prog.Wp.{Calls, Closed, Env, Loops, Spot}
-use sound.WpLaws.{FmC}
-use types.Kit.{Post as After, flt_l, lands, regoal, runs}
-use types.Run.{Finds, Opd, Opds, store_raw}
+use Rattle.v_frame_plane.proofs.lent.Steps.{ℕ, ◌≡◌, ◌+◌, ◌-◌, ◌*◌, ◌^◌, ◌<◌, ◌≤◌, List, [], ◌∷◌, length, take, list_drop, Some, None, MutBor, lit<, w64, Val}
+use Rattle.v_frame_plane.proofs.lent.Steps.{fat, slice_val, vcons, vstruct, refl, ap, ◌∙◌, arith, length-drop, proved, Some-of, none_of, ⊤, MakesProgress}
+use Rattle.v_frame_plane.proofs.lent.Steps.{item_count, ftrue, full_share, emp, ent, sep, id⊢, SProp, Fun, ◌⊑◌, ⊑_trans, fact, fact_i, tables, param, MutRef}
+use Rattle.v_frame_plane.proofs.lent.Steps.{mut_vals, mut_Tells, plain, named_lft, MutSlice, usize, uint_vals, uint_Makes, closes, owned, nothing, heard, only}
+use Rattle.v_frame_plane.proofs.lent.Steps.{calls_at, framed, triple_of, Contract, Lasts, lasts, Goes-ref, walk_of, eqb→eq, named, mut, erased, of_list, vint}
+use Rattle.v_frame_plane.proofs.lent.Steps.{alloc_all, env, free_all, get, get_in, lands_as, look_at, look_in_at, pass_all, sets, through, ‵, raw, ◌⊛◌, some}
+use Rattle.v_frame_plane.proofs.lent.Steps.{later, at_ret, ◌$◌, !, await, done, drop, feq_l, fjoin, fsplit, join, keep, move, pick, split, use0, use1, use3}
+use Rattle.v_frame_plane.proofs.lent.Steps.{step, Step, Goal, Item, live, agg, look_in, sub, whole, addr, and_then, assigns, bin, branches, enter, exec, first}
+use Rattle.v_frame_plane.proofs.lent.Steps.{fld, from, hop, lit, load, no_more, of_opd, returns, returns_within, skips, stop, well_typed, sem, RattleType, Laws}
+use Rattle.v_frame_plane.proofs.lent.Steps.{Logic, Ura, Ty, Lft, Memory, Routine, slice_ty, tcons, tnil, ty_int, ty_param, ty_ref, ty_struct, MachineTables}
+use Rattle.v_frame_plane.proofs.lent.Steps.{Running, closing, Meets, Triple, Callee, Fn, Place, Opd as Operand, Sym, addr_of, aggregate, assign, call, cond}
+use Rattle.v_frame_plane.proofs.lent.Steps.{copy, deref, eq, field, int, local, op2, place, return, rv_opd, seq, skip, ttcons, ttnil, ty_bool, ty_enum}
+use Rattle.v_frame_plane.proofs.lent.Steps.{unsigned, value_local, w8, Model, Calls, Closed, Env, Loops, Spot, FmC, Post as After, flt_l, lands, regoal, runs}
+use Rattle.v_frame_plane.proofs.lent.Steps.{Finds, Opds, store_raw}
+use mir.Syntax.{Body, sub as minus}
+use types.Run.{Opd}
 use Rattle.std.specs.contracts.option.Option as Opt
 use Rattle.v_frame_plane.specs.Cursor.{RowsAreWithin}
 use Rattle.v_frame_plane.specs.RowsLeft.{rows_left}
@@ -35,8 +30,8 @@ use Rattle.v_frame_plane.proofs.lent.PixelSides.{part, row_clauses}
 use Rattle.v_frame_plane.proofs.lent.RowDraws.{no_row, some_left, none_left, stays, moves_on, first_drawn, last_drawn, row_within, last_within, rest_within}
 use Rattle.v_frame_plane.proofs.lent.RowDraws.{front_within}
 use Rattle.v_frame_plane.proofs.lent.RowLoans.{keeps_rows, lends_first_row, lends_last_row}
-use Rattle.v_frame_plane.proofs.lent.RowMemory.{Bare, Numbers, WellTyped, bare, count_at, count_fit, ends_draw, gap_at, gap_fit, lowered, moved, numbers, opens_walk, slice_of}
-use Rattle.v_frame_plane.proofs.lent.RowMemory.{rest_fit, start_at, start_fit, stayed, takes_slice, walk_owned, width_at, width_fit}
+use Rattle.v_frame_plane.proofs.lent.RowMemory.{Bare, Numbers, WellTyped, bare, count_at, count_fit, ends_draw, gap_at, gap_fit, lowered, moved, numbers}
+use Rattle.v_frame_plane.proofs.lent.RowMemory.{opens_walk, slice_of, rest_fit, start_at, start_fit, stayed, takes_slice, walk_owned, width_at, width_fit}
 use Rattle.v_frame_plane.proofs.lent.Sides.{Side, at_front, at_back, at_side, LendsRow, YieldsRow}
 use Rattle.v_frame_plane.proofs.lent.Taken.{Take}
 

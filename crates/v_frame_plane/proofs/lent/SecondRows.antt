@@ -1,10 +1,9 @@
 -- Final values of rows in the place of those that an iterator has left: what `next` and `next_back` take of them, and what a plane with them shows.
-use Rattle.std.proofs.Common.{ℕ, zero, suc, ◌≡◌, ◌+◌, ◌-◌, ◌*◌, ◌<◌, ◌≤◌, List, [], ◌∷◌, ◌++◌, length, map, take, drop, get_or, All, refl, sym, ◌∙◌, ap, arith}
-use Rattle.std.proofs.Common.{append_assoc, take-append-drop, length-take-le, length-drop, length-append}
-use Rattle.std.proofs.lemmas.List.{drop-drop, drop-take, take-take, take_at, drop_at, length-map, get_or-map}
-use Rattle.std.proofs.lemmas.List.Elements.{All-head, All-tail}
+use Rattle.v_frame_plane.proofs.lent.Steps.{ℕ, ◌≡◌, ◌+◌, ◌-◌, ◌*◌, ◌<◌, ◌≤◌, List, [], ◌∷◌, ◌++◌, length, take, list_drop as drop, refl, sym, ◌∙◌, ap, arith}
+use Rattle.v_frame_plane.proofs.lent.Steps.{append_assoc, length-take-le, length-drop, zero, suc, map, get_or, All, take-append-drop, length-append, drop-drop}
+use Rattle.v_frame_plane.proofs.lent.Steps.{drop-take, take-take, drop_at, length-map, get_or-map, All-head, All-tail, refill}
+use Rattle.std.proofs.lemmas.List.{take_at}
 use Rattle.std.proofs.Math.Seq.{take-append-add, drop-append-add}
-use Rattle.std.specs.List.{refill}
 use Rattle.v_frame_layout.specs.Geometry.{Geometry, stride_of, alloc_size_of, origin_of}
 use Rattle.v_frame_layout.proofs.Plans.{row_start, place_of_row, row_within}
 use Rattle.v_frame_plane.specs.Cursor.{rows_ahead}

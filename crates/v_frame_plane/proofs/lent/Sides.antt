@@ -2,8 +2,8 @@
 --     near, far     the row that was begun from this end, and from the other.        slot, offset     the number of this end's field, and its place in bytes
 --     at_side     the one of two things that is this end's.        put     where a pixel stands that was cut off there.        walk_by     the iterator of its parts, as seen from this end
 --     Steps, Yields, Takes, Lends     what is said of a call of a pixel from there.        RowSteps, YieldsRow, LendsRow     the same of a call of a row
-use Rattle.v_frame_plane.proofs.lent.Steps.{ℕ, ◌≡◌, List, [], ◌∷◌, ◌++◌, Option, Some, None, MutBor, YieldsFirstMut, YieldsLastMut, Fml, RattleType}
-use base.Fml.{fsep, fwand, fall}
+use Rattle.v_frame_plane.proofs.lent.Steps.{ℕ, ◌≡◌, List, [], ◌∷◌, ◌++◌, Option, Some, None, MutBor, YieldsFirstMut, YieldsLastMut, Fml, RattleType, fsep}
+use Rattle.v_frame_plane.proofs.lent.Steps.{fwand, fall}
 use Rattle.v_frame_plane.specs.Cursor.{PixelsAreCountable}
 use Rattle.v_frame_plane.specs.PixelsLeft.{pixels_left}
 use Rattle.v_frame_plane.specs.RowsLeft.{rows_left}

@@ -1,30 +1,15 @@
 -- A call of `mem::take` at a place that holds a `&mut [T]` of the lifetime κ, for a proof by hand. Assumes `Logic`.
 --     calls_take     the place is lent to the call, and holds an empty slice afterwards: what it held is handed back
 use Rattle.v_frame_plane.proofs.lent.Steps.{ℕ, ◌≡◌, List, [], ◌∷◌, length, w64, MutBor, refl, ap, ◌∙◌, Lft, Share, fat, flent, flft, ftrue, full_share, SProp}
-use Rattle.v_frame_plane.proofs.lent.Steps.{emp}
-use Rattle.v_frame_plane.proofs.lent.Steps.{id⊢, ◌⊑◌, ⊑_trans, Fun, fact, fact_i, shows, mem, param, Laws, param_laws, RattleType, NamedLft, MutSlice}
-use Rattle.v_frame_plane.proofs.lent.Steps.{slice_val}
-use Rattle.v_frame_plane.proofs.lent.Steps.{heard, nothing, only, peeks, Lasts, lasts, triple_of, Contract, Ty, a_type, named, tcons, tnil, ty_int, ty_ptr}
-use Rattle.v_frame_plane.proofs.lent.Steps.{ty_struct, Val, vptr, Memory, Routine, Ura, Item, Seq, ‵, raw, ◌⊛◌, some, later, ◌$◌, await, drop, fsplit, join}
-use Rattle.v_frame_plane.proofs.lent.Steps.{move}
-use Rattle.v_frame_plane.proofs.lent.Steps.{pick, rewrite, split, split3, use0, use1, use2, Logic, Body, no}
+use Rattle.v_frame_plane.proofs.lent.Steps.{emp, id⊢, ◌⊑◌, ⊑_trans, Fun, fact, fact_i, shows, mem, param, Laws, param_laws, RattleType, NamedLft, MutSlice}
+use Rattle.v_frame_plane.proofs.lent.Steps.{slice_val, heard, nothing, only, peeks, Lasts, lasts, triple_of, Contract, Ty, a_type, named, tcons, tnil, ty_int}
+use Rattle.v_frame_plane.proofs.lent.Steps.{ty_ptr, ty_struct, Val, vptr, Memory, Routine, Ura, Item, Seq, ‵, raw, ◌⊛◌, some, later, ◌$◌, await, drop, fsplit}
+use Rattle.v_frame_plane.proofs.lent.Steps.{join, move, pick, rewrite, split, split3, use0, use1, use2, Logic, Body, no, calls_at, ⊑_meet, ⊑_refl, meet_⊑_right}
+use Rattle.v_frame_plane.proofs.lent.Steps.{Running, arg, bounded, layout, arg_laws, of_field, row_shared, mut_slice_shared, mut_slice_laws, Triple, Callee}
+use Rattle.v_frame_plane.proofs.lent.Steps.{Place, Opd as Operand, call, seq, dcons, dnil, Calls, Env, Loops, FmC, Post, lands, regoal, runs, Opds, Model}
 use base.Share
-use contract.BorrowLft.{⊑_meet, ⊑_refl, meet_⊑_right}
-use contract.Running.{Running}
-use denote.Param.{arg, bounded, layout}
-use denote.Param.Laws.{arg_laws, of_field, row_shared}
-use denote.Param.Shared.{mut_slice_shared}
 use denote.Struct.Field.{mut_slice_field}
-use denote.Struct.Laws.{mut_slice_laws}
-use denote.Triple.Statement.{Triple}
-use denote.Triple.Call.{calls_at}
-use mir.Syntax.{Body as Code, Callee, Place, Opd as Operand, call, seq}
-use prog.Wp.{Calls, Env, Loops}
-use sound.WpLaws.{FmC}
-use types.Kit.{Post, lands, regoal, runs}
-use types.Run.{Opds}
-use mir.Syntax.{dcons, dnil}
-use prog.Model.{Model}
+use mir.Syntax.{Body as Code}
 use prog.Wired.{Wired}
 use Rattle.std.specs.contracts.mem.take
 use Rattle.core.proofs.mem.take.Met as take_met

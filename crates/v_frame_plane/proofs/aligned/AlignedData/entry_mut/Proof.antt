@@ -1,36 +1,12 @@
 -- `entry_mut` lends an entry of the slice that `as_mut_slice` lends. Rattle follows no loan of a loan, so this proof follows the code. Assumes `Logic`.
-use Rattle.std.proofs.Common.{◌≡◌, ◌<◌, List, [], ◌∷◌, length, ℕ, Some, slice_get, slice_set, drop as list_drop, w64, MutBor, refl, sym, ap, subst, ◌∙◌}
-use Rattle.std.proofs.lemmas.List.{take_at, length-set}
-use Rattle.std.proofs.raw_atomic.Walks.{proved}
-use Rattle.std.specs.List.{refill}
-use base.Fml.{ftrue}
-use base.Logic.{emp, id⊢}
-use contract.BorrowLft.{◌⊑◌}
-use contract.Monad.{fact, fact_i}
-use contract.Running.{tables}
-use denote.Array.{Array}
-use denote.Builtin.{usize}
-use denote.Exit.{yes, no}
-use denote.Follow.{follows, follows_then}
-use denote.Laws.{shows}
-use denote.Param.{param, layouts}
-use denote.Plain.{uint_vals, uint_Tells}
-use denote.Ref.{MutRef, mut_vals, mut_Tells, mut_Lawful}
-use denote.Signature.{plain}
-use denote.Slice.{MutSlice, mut_slice_Lawful}
-use denote.Steps.{nothing, peeks, heard}
-use denote.Triple.Call.{calls_at}
-use denote.Triple.Clauses.{Lasts, lasts}
-use denote.Triple.Entry.{alive}
-use denote.Triple.Spec.{triple_of}
-use denote.Triple.Table.{framed}
-use denote.Triple.Walked.{Stays, stay_dropped, Goes-dropped, Goes-spent_ref, ends_at, says}
-use mir.MapTy.{inst_fn}
-use mir.Syntax.{a_type, named}
-use types.ByLocal.{alloc_all, pass_all, free_all, look_at, get, through, sets, lands_as}
-use types.Kit.{‵, raw, ◌⊛◌, some, later, ◌$◌, ◌∵◌, !, qed, done, move, drop, use0, use1, use2, split, split3, join, fjoin, group}
-use types.Kit.{pick, await, rewrite, suffices, frame}
-use types.Run.{enter, addr, stop, no_more, and_then, returns}
+use Rattle.v_frame_plane.proofs.lent.Steps.{◌≡◌, ◌<◌, List, [], ◌∷◌, length, ℕ, Some, list_drop, w64, MutBor, refl, sym, ap, ◌∙◌, proved, ftrue, emp, id⊢, ◌⊑◌}
+use Rattle.v_frame_plane.proofs.lent.Steps.{fact, fact_i, tables, Array, usize, yes, no, shows, param, layouts, uint_vals, uint_Tells, MutRef, mut_vals}
+use Rattle.v_frame_plane.proofs.lent.Steps.{mut_Tells, plain, MutSlice, nothing, peeks, heard, calls_at, Lasts, lasts, triple_of, framed, Stays, stay_dropped}
+use Rattle.v_frame_plane.proofs.lent.Steps.{Goes-dropped, ends_at, inst_fn, a_type, named, alloc_all, pass_all, free_all, look_at, get, through, sets, lands_as}
+use Rattle.v_frame_plane.proofs.lent.Steps.{‵, raw, ◌⊛◌, some, later, ◌$◌, ◌∵◌, !, qed, done, move, drop, use0, use1, use2, split, split3, join, fjoin, group}
+use Rattle.v_frame_plane.proofs.lent.Steps.{pick, await, rewrite, suffices, frame, enter, addr, stop, no_more, and_then, returns, slice_get, slice_set, subst}
+use Rattle.v_frame_plane.proofs.lent.Steps.{length-set, refill, follows, follows_then, mut_Lawful, mut_slice_Lawful, alive, Goes-spent_ref, says}
+use Rattle.std.proofs.lemmas.List.{take_at}
 use Rattle.v_frame_plane.specs.contracts.aligned.AlignedData.{the_row}
 use Rattle.v_frame_plane.specs.contracts.aligned.AlignedData.as_mut_slice
 use Rattle.v_frame_plane.proofs.aligned.AlignedData.as_mut_slice.Met as slice_met

@@ -1,61 +1,28 @@
 -- `give_back` drops the entries from the first on, so that the block is room again, and gives that to the allocator. Assumes `Logic`.
-use mathlib.Core.Path.{◌≡◌, refl, sym, ap, subst, ◌∙◌}
+use Rattle.v_frame_plane.proofs.lent.Steps.{◌≡◌, refl, sym, ap, ◌∙◌, List, [], ◌∷◌, ◌++◌, ℕ, ◌+◌, ◌*◌, ◌≤◌, ◌<◌, ◌^◌, arith, lit<, length, Ura, full_share}
+use Rattle.v_frame_plane.proofs.lent.Steps.{a_type, named, w64, ty_int, inst_fn, Val, vptr, vint, SProp, ent, sep, id⊢, Fml, Lft, Share, ftrue, fat, flft}
+use Rattle.v_frame_plane.proofs.lent.Steps.{Memory, Routine, Logic, Fun, fact, ◌⊑◌, tables, Item, ‵, raw, some, later, ◌⊛◌, at_ret, ◌$◌, ◌∵◌, !, qed, move}
+use Rattle.v_frame_plane.proofs.lent.Steps.{keep, drop, use0, use1, use2, split, join, group, pick, await, rewrite, fsplit, fjoin, feq_i, feq_l, suffices, done}
+use Rattle.v_frame_plane.proofs.lent.Steps.{whole, sub, load, stop, fld, lit, bin, of_opd, and_then, no_more, first, branches, skips, exec, returns, enter}
+use Rattle.v_frame_plane.proofs.lent.Steps.{alloc_all, pass_all, free_all, look_at, get, get_in, through, sets, env, usize, yes, no, plain, nothing, heard}
+use Rattle.v_frame_plane.proofs.lent.Steps.{Clauses, triple_of, Stays, stay_dropped, walk_of, ends_at, Goes-dropped, after, subst, suc, zero-mul, suc-mul, T}
+use Rattle.v_frame_plane.proofs.lent.Steps.{ltb→lt, nltb→le, Fn, Dict, dcons, dnil, method, no_args, ty_unit, ty_array, has_ty, WT, vunit, never, Incl-trans}
+use Rattle.v_frame_plane.proofs.lent.Steps.{froom, align, capped, capped_fits, Env, Out, Wp, WpFn, Tables, after_seq, after_block, at_return, fm_of, WpFn-mono}
+use Rattle.v_frame_plane.proofs.lent.Steps.{Sq, ⋆, given, any_q, runs, by, learn, flt_l, look, size_lit, size_word, align_word, unit_lit, blocks, jumps, loops}
+use Rattle.v_frame_plane.proofs.lent.Steps.{again, Below, forget, forget_but, holding, take_at, give_at, sets_last, lands_last, is, RefOf, hidden_shr, owns}
+use Rattle.v_frame_plane.proofs.lent.Steps.{bounded, Ptr, block_ptr, in_a_block, Bor, ShrRef, calls_at_last, Ended, closing, on_entry, Meets, Triple, entered}
+use Rattle.v_frame_plane.proofs.lent.Steps.{walk_Meets, Al, Goes-blank, token, gives_key, Gives, at_gives, Gives-goes, Gives-Gives, El, R, el_x, elτ, el_out}
+use Rattle.v_frame_plane.proofs.lent.Steps.{times_below, one_below, one_more, uncapped, block_ty, block_size, block_align, P, as_raw, word, word-Good, head}
+use Rattle.v_frame_plane.proofs.lent.Steps.{inside}
 use mathlib.Core.WellFounded.InvImage
-use mathlib.Core.List.{List, [], ◌∷◌, ◌++◌}
-use Prim.Native.Nat.{ℕ, suc, ◌+◌, ◌*◌, ◌≤◌, ◌<◌, ◌^◌}
-use native.Mathlib.Nat.{zero-mul, suc-mul}
-use native.Mathlib.Omega.{arith}
-use lib.Dec.{T, lit<, ltb→lt, nltb→le}
-use lib.ListN.{length}
 use lib.WfN.{lt-wf_rel}
-use seplogic.Ra.Ura.{Ura}
-use base.Fraction.{full_share}
-use mir.Syntax.{Fn, Args, Body, Dict, a_type, dcons, dnil, method, no_args, named, w64, ty_int, ty_unit, ty_array}
-use mir.MapTy.{inst_fn}
-use mir.Val.{Val, has_ty, WT, vptr, vint, vunit}
-use base.Logic.{SProp, ent, sep, never, id⊢}
-use base.Fml.{Fml, Lft, Share, Incl-trans, ftrue, fat, froom, flft}
-use prog.Memory.{Memory, align, capped}
-use prog.Capped.{capped_fits}
-use prog.Routine.{Routine}
-use prog.Wp.{Env, Out, Wp, WpFn, Tables, after_seq, after_block, after_turn, at_return}
-use types.Logic.{Logic}
-use contract.Monad.{Fun, fact}
-use contract.BorrowLft.{◌⊑◌}
-use contract.Running.{tables, tables_of}
-use sound.WpLaws.{fm_of, WpFn-mono}
-use types.Kit.{Item, Sq, ⋆, ‵, raw, some, given, later, ◌⊛◌, any_q, runs, at_ret, ◌$◌, ◌∵◌, !, qed, by, move, keep, drop, use0, use1, use2, split, join, group}
-use types.Kit.{pick, learn, await, rewrite, fsplit, fjoin, feq_i, feq_l, flt_l, suffices, done}
-use types.Part.{whole, sub}
-use types.Run.{look, load, stop, fld, lit, size_lit, size_word, align_word, bin, unit_lit, of_opd, and_then, no_more, first, blocks, branches, skips, jumps}
-use types.Run.{loops, again, Below, forget, exec, returns, enter}
-use types.ByLocal.{alloc_all, pass_all, free_all, forget_but, holding, look_at, take_at, give_at, get, get_in, through, sets, sets_last, lands_last, is, env}
-use denote.Builtin.{RefOf, usize}
-use denote.Exit.{yes, no}
-use denote.Memory.{hidden_shr}
-use denote.RattleType.{owns}
-use denote.Param.{bounded}
-use denote.RawPtr.{Ptr, block_ptr, in_a_block}
-use denote.Ref.{Bor, ShrRef}
-use denote.Signature.{plain}
-use denote.Steps.{nothing, heard}
-use denote.Triple.Call.{calls_at_last}
-use denote.Triple.Clauses.{Clauses, Ended, closing}
-use denote.Triple.Entry.{on_entry}
-use denote.Triple.Spec.{Meets, triple_of}
-use denote.Triple.Statement.{Triple}
-use denote.Triple.Table.{entered}
-use denote.Triple.Walked.{Stays, stay_dropped, walk_of, ends_at, Goes-dropped, walk_Meets}
-use Rattle.core.proofs.alloc.Calls.{Al, Goes-blank, token, gives_key, Gives, at_gives, Gives-goes, Gives-Gives}
-use Rattle.core.proofs.mem.Param.{El, R, el_x, elτ}
-use Rattle.core.proofs.ptr.Rows.{Good, el_out, times_below, one_below, one_more}
-use Rattle.core.proofs.slots.Leases.{uncapped, block_ty, block_size, block_align, P}
-use Rattle.std_alloc.proofs.RawLayout.{as_raw}
-use Rattle.std_alloc.proofs.RcSteps.{word, word-Good}
-use Rattle.std_alloc.proofs.VecSteps.Shapes.{after, head, inside}
+use mir.Syntax.{Args, Body}
+use prog.Wp.{after_turn}
+use contract.Running.{tables_of}
+use Rattle.core.proofs.ptr.Rows.{Good}
 use Rattle.v_frame_plane.specs.Block.{entries_at, room_at, cells_own, deed_owns}
-use Rattle.v_frame_plane.proofs.block.BlockRooms.{Bases, Kept, Deeds, wide, in_rows, no_bytes, no_bytes_had, at_had, deed_some, room_grown, room_joined}
-use Rattle.v_frame_plane.proofs.block.BlockRooms.{Drops, at_drops, drop_takes, drop_leaves}
+use Rattle.v_frame_plane.proofs.block.BlockRooms.{Bases, Kept, Deeds, wide, in_rows, no_bytes, no_bytes_had, at_had, deed_some, room_grown, room_joined, Drops}
+use Rattle.v_frame_plane.proofs.block.BlockRooms.{at_drops, drop_takes, drop_leaves}
 use Rattle.v_frame_plane.specs.contracts.aligned.block.give_back as F
 use Rattle.v_frame_plane.specs.contracts.aligned.block.give_back.Key.{name as #self}
 use Rattle.v_frame_plane.proofs.aligned.block.give_back.Statement as stated

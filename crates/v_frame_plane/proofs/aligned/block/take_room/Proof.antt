@@ -1,64 +1,26 @@
 -- `take_room` makes the parts of a block without entries: of nothing where they take no bytes, else of what the allocator answered. Assumes `Logic`.
-use mathlib.Core.Bool.{true, false}
-use mathlib.Core.Path.{◌≡◌, refl, sym, ap, subst}
-use Prim.Native.Nat.{ℕ, ◌*◌, ◌<◌, ◌^◌}
-use native.Mathlib.Omega.{arith}
-use mathlib.Core.List.{List, [], ◌∷◌, ◌++◌}
-use lib.Dec.{lit<, eqb→eq}
-use seplogic.Ra.Ura.{Ura}
-use mir.Syntax.{Fn, Body, named, w64, ty_array}
-use mir.MapTy.{inst_fn}
-use mir.Val.{Val, vptr, vint, vstruct, vcons, vnil}
-use base.Logic.{SProp, ent, sep, via}
-use base.Fml.{Fml, Lft, Share, Incl-trans, ftrue, froom, flft}
-use prog.Memory.{Memory, align, capped}
-use prog.Capped.{capped_fits}
-use prog.Routine.{Routine}
-use prog.Wp.{Env, Calls, Loops, Wp, WpFn, Tables, after_seq, at_return}
-use types.Logic.{Logic, sem}
-use contract.Monad.{Fun, fact, fact_i}
-use contract.BorrowLft.{◌⊑◌}
-use contract.Running.{tables, tables_of}
-use sound.WpLaws.{FmC, fm_of, WpFn-mono}
-use types.Kit.{Item, Step, step, Post as After, ⋆, ‵, raw, later, ◌⊛◌, prop, any_q, at_ret, ◌$◌, ◌∵◌, !, qed, by, move, keep, use0, use1, use2, split, join}
-use types.Kit.{fsplit, fsplit3, fjoin, feq_i, feq_l, flt_l, fpack, await, rewrite, suffices, frame, done}
-use types.Match.{live, vrt, in_variant}
-use types.Part.{whole, agg}
-use types.Run.{stop, fld, from, addr, lit, bin, of_opd, size_word, align_word, and_then, no_more, first, branches, skips, switches_on, exec}
-use types.Run.{returns, returns_within, enter}
-use types.ByLocal.{alloc_all, pass_all, free_all, look_at, get, get_in, get_tag, sets, sets_last, lands_as, is, env}
-use denote.Builtin.{RefOf, usize}
-use denote.Exit.{yes}
-use denote.Laws.{Is}
-use denote.Memory.{hidden_shr}
-use denote.Param.{layout}
-use denote.RattleType.{RattleType, Valss, owns}
-use denote.RawPtr.{Ptr, block_ptr}
-use denote.Ref.{Bor, ShrRef}
-use denote.Signature.{plain}
-use denote.Steps.{nothing, owned}
+use Rattle.v_frame_plane.proofs.lent.Steps.{◌≡◌, refl, sym, ap, ℕ, ◌*◌, ◌<◌, ◌^◌, arith, List, [], ◌∷◌, ◌++◌, lit<, eqb→eq, Ura, named, w64, inst_fn, Val, vptr}
+use Rattle.v_frame_plane.proofs.lent.Steps.{vint, vstruct, vcons, vnil, SProp, ent, sep, Fml, Lft, Share, ftrue, flft, Memory, Routine, Logic, sem, Fun, fact}
+use Rattle.v_frame_plane.proofs.lent.Steps.{fact_i, ◌⊑◌, tables, Item, Step, step, ‵, raw, later, ◌⊛◌, prop, at_ret, ◌$◌, ◌∵◌, !, qed, move, keep, use0, use1}
+use Rattle.v_frame_plane.proofs.lent.Steps.{use2, split, join, fsplit, fsplit3, fjoin, feq_i, feq_l, fpack, await, rewrite, suffices, frame, done, live, whole}
+use Rattle.v_frame_plane.proofs.lent.Steps.{agg, stop, fld, from, addr, lit, bin, of_opd, and_then, no_more, first, branches, skips, exec, returns}
+use Rattle.v_frame_plane.proofs.lent.Steps.{returns_within, enter, alloc_all, pass_all, free_all, look_at, get, get_in, sets, lands_as, env, usize, yes}
+use Rattle.v_frame_plane.proofs.lent.Steps.{RattleType, Valss, plain, nothing, owned, within as packed, Tuple, tuple_type, calls_at, Clauses, triple_of, Stays}
+use Rattle.v_frame_plane.proofs.lent.Steps.{stay_dropped, walk_of, ends_at, Goes-dropped, after, true, false, subst, Fn, ty_array, via, Incl-trans, froom}
+use Rattle.v_frame_plane.proofs.lent.Steps.{align, capped, capped_fits, Env, Calls, Loops, Wp, WpFn, Tables, after_seq, at_return, FmC, fm_of, WpFn-mono}
+use Rattle.v_frame_plane.proofs.lent.Steps.{Post as After, ⋆, any_q, by, flt_l, vrt, in_variant, size_word, align_word, switches_on, get_tag, sets_last, is}
+use Rattle.v_frame_plane.proofs.lent.Steps.{RefOf, Is, hidden_shr, layout, owns, Ptr, block_ptr, Bor, ShrRef, Struct, Struct-Makes, Ended, closing, on_entry}
+use Rattle.v_frame_plane.proofs.lent.Steps.{Meets, Triple, entered, needs, walk_Meets, IfOk, IsOk, Ok, Err, El, R, elτ, Al, token, second, Answer-typed}
+use Rattle.v_frame_plane.proofs.lent.Steps.{takes_key, Takes, at_takes, Answered, Takes-goes, Takes-gives, answers, uncapped, block_ty, block_size, block_align}
+use Rattle.v_frame_plane.proofs.lent.Steps.{args, P, as_written, Good, first_Good, word, word-Good, head, arm_body}
+use mir.Syntax.{Body}
+use contract.Running.{tables_of}
 use denote.Struct.Declared as Declared
-use denote.Struct.Struct.{Struct, Struct-Makes, within as packed}
-use denote.Struct.Tuple.{Tuple, tuple_type}
-use denote.Triple.Call.{calls_at}
-use denote.Triple.Clauses.{Clauses, Ended, closing}
-use denote.Triple.Entry.{on_entry}
-use denote.Triple.Spec.{Meets, triple_of}
-use denote.Triple.Statement.{Triple}
-use denote.Triple.Table.{entered}
-use denote.Triple.Walked.{needs, Stays, stay_dropped, walk_of, ends_at, Goes-dropped, walk_Meets}
-use Rattle.std.specs.Prelude.{IfOk, IsOk, Ok, Err}
 use Rattle.std.proofs.Math.Facts.{eqb_no}
 use Rattle.std.specs.Vec.Ownership.{FitsInBlock}
 use Rattle.core.specs.contracts.result.Result as RS
 use Rattle.core.specs.contracts.alloc.AllocError as AE
-use Rattle.core.proofs.mem.Param.{El, R, elτ}
-use Rattle.core.proofs.alloc.Calls.{Al, token, second, Answer-typed, takes_key, Takes, at_takes, Answered, Takes-goes, Takes-gives, answers}
-use Rattle.core.proofs.slots.Leases.{uncapped, block_ty, block_size, block_align, args, P}
-use Rattle.std_alloc.proofs.RawLayout.{as_written}
-use Rattle.std_alloc.proofs.RcSteps.{Good, first_Good, word, word-Good}
 use Rattle.std_alloc.proofs.ResultValues.{ok_of, err_of}
-use Rattle.std_alloc.proofs.VecSteps.Shapes.{after, head, arm_body}
 use Rattle.v_frame_plane.specs.Block.{cells_own, deed_owns}
 use Rattle.v_frame_plane.proofs.block.BlockRooms.{Bases, Kept, Deeds, Marks, wide, no_bytes, no_bytes_made, at_made, no_room, cells_made, deed_none, deed_some}
 use Rattle.v_frame_plane.specs.contracts.aligned.block.take_room as F

@@ -1,17 +1,12 @@
 -- `pixels_mut` makes the iterator over the pixels of that over the rows, whose slice is the whole buffer. That this slice
 -- lies two fields deep no generated proof follows, so this one follows the code.
 use Rattle.v_frame_plane.proofs.lent.Steps.{◌≡◌, ◌^◌, ◌<◌, [], ◌∷◌, length, refl, sym, ap, ◌∙◌, arith, proved, emp, id⊢, ◌⊑◌, fact, fact_i, tables, param}
-use Rattle.v_frame_plane.proofs.lent.Steps.{layouts}
-use Rattle.v_frame_plane.proofs.lent.Steps.{MutRef, mut_vals, mut_Tells, plain, named_lft, Array, shows, heard, nothing, peeks, calls_at, framed, Lasts, lasts}
-use Rattle.v_frame_plane.proofs.lent.Steps.{triple_of, walk_of, ends_at, Stays, inst_fn, a_type, named, flft, ftrue, alloc_all, free_all, get, lands_as}
-use Rattle.v_frame_plane.proofs.lent.Steps.{look_at}
-use Rattle.v_frame_plane.proofs.lent.Steps.{pass_all, sets, through, ‵, raw, ◌⊛◌, some, later, ◌$◌, ◌∵◌, !, qed, await, done, drop, fjoin, frame, join, keep}
-use Rattle.v_frame_plane.proofs.lent.Steps.{move}
-use Rattle.v_frame_plane.proofs.lent.Steps.{pick, rewrite, split, split3, suffices, use0, use1, addr, and_then, enter, no_more, returns, stop, RattleType, no}
-use Rattle.v_frame_plane.proofs.lent.Steps.{stay_dropped, param_laws}
-use Rattle.std.proofs.Common.{All, append-nil, subst}
-use denote.Follow.{follows_by, follows}
-use denote.Triple.Walked.{Goes-spent_ref}
+use Rattle.v_frame_plane.proofs.lent.Steps.{layouts, MutRef, mut_vals, mut_Tells, plain, named_lft, Array, shows, heard, nothing, peeks, calls_at, framed}
+use Rattle.v_frame_plane.proofs.lent.Steps.{Lasts, lasts, triple_of, walk_of, ends_at, Stays, inst_fn, a_type, named, flft, ftrue, alloc_all, free_all, get}
+use Rattle.v_frame_plane.proofs.lent.Steps.{lands_as, look_at, pass_all, sets, through, ‵, raw, ◌⊛◌, some, later, ◌$◌, ◌∵◌, !, qed, await, done, drop, fjoin}
+use Rattle.v_frame_plane.proofs.lent.Steps.{frame, join, keep, move, pick, rewrite, split, split3, suffices, use0, use1, addr, and_then, enter, no_more}
+use Rattle.v_frame_plane.proofs.lent.Steps.{returns, stop, RattleType, no, stay_dropped, param_laws, All, append-nil, subst, follows, Goes-spent_ref}
+use denote.Follow.{follows_by}
 use Rattle.v_frame_plane.specs.contracts.plane.Plane.{the_row}
 use Rattle.v_frame_plane.specs.contracts.plane.Plane.rows_mut
 use Rattle.v_frame_plane.specs.contracts.plane.Plane.pixels_mut

@@ -1,53 +1,21 @@
 -- `row_mut` tests y and passes on what `visible_row_mut` lends, in a `Some`. Rattle makes no proof where a `&mut [T]` may be lent, so this one follows the
 -- code.
-use Rattle.std.proofs.Common.{ℕ, ◌≡◌, ◌<◌, ◌≤◌, ◌↔◌, true, false, List, [], ◌∷◌, length, Option, Some, None, IsNone, slice_get, lit<, w64, MutBor, Bor, refl}
-use Rattle.std.proofs.Common.{sym, ap, arith}
-use Rattle.std.proofs.alloc.Shapes.{after}
-use Rattle.std.proofs.option.Made.{Some-of, none_of}
-use Rattle.std.proofs.raw_atomic.Walks.{proved}
+use Rattle.v_frame_plane.proofs.lent.Steps.{ℕ, ◌≡◌, ◌<◌, ◌≤◌, List, [], ◌∷◌, length, Option, Some, None, lit<, w64, MutBor, refl, sym, ap, arith, after}
+use Rattle.v_frame_plane.proofs.lent.Steps.{Some-of, none_of, proved, Lft, flent, flft, ftrue, full_share, ent, emp, id⊢, ◌⊑◌, ⊑_trans, fact, fact_i, tables}
+use Rattle.v_frame_plane.proofs.lent.Steps.{Array, usize, yes, no, shows, mem, param, layouts, param_laws, uint_vals, uint_Tells, uint_Makes, RattleType}
+use Rattle.v_frame_plane.proofs.lent.Steps.{MutRef, mut_vals, mut_Tells, plain, MutSlice, slice_val, nothing, only, owned, peeks, heard, calls_at, Lasts, lasts}
+use Rattle.v_frame_plane.proofs.lent.Steps.{triple_of, framed, Stays, stay_dropped, Goes-dropped, walk_of, ends_at, inst_fn, a_type, named, Val, of_list, Ura}
+use Rattle.v_frame_plane.proofs.lent.Steps.{alloc_all, pass_all, free_all, look_at, get, through, sets, lands_as, env, ‵, raw, ◌⊛◌, some, later, at_ret, ◌$◌}
+use Rattle.v_frame_plane.proofs.lent.Steps.{◌∵◌, !, qed, done, keep, move, drop, use0, use1, use2, split, split3, join, pick, await, rewrite, suffices, frame}
+use Rattle.v_frame_plane.proofs.lent.Steps.{fsplit, fsplit3, fjoin, fjoin3, fpack, feq_i, feq_l, Logic, sem, live, agg, enter, lit, addr, bin, stop, no_more}
+use Rattle.v_frame_plane.proofs.lent.Steps.{and_then, first, branches, skips, exec, returns, returns_within, ◌↔◌, true, false, IsNone, slice_get, Bor, fres}
+use Rattle.v_frame_plane.proofs.lent.Steps.{Incl-refl, ⊑_refl, meet_⊑_right, follows, follows_if, lends_shr, part_at, ShrRef, shr_vals, Goes-spent_ref, leb→le}
+use Rattle.v_frame_plane.proofs.lent.Steps.{nleb→lt, flt_l, lent_back}
 use Rattle.std.specs.Option.{IfSome, ghost_name_of}
 use Rattle.std.specs.contracts.option.Option as Opt
-use base.Fml.{Lft, flent, flft, fres, ftrue, Incl-refl}
-use base.Fraction.{full_share}
-use base.Logic.{ent, emp, id⊢}
 use base.Share
-use contract.BorrowLft.{◌⊑◌, ⊑_refl, ⊑_trans, meet_⊑_right}
-use contract.Monad.{fact, fact_i}
-use contract.Running.{tables}
-use denote.Array.{Array}
-use denote.Builtin.{usize}
-use denote.Exit.{yes, no}
-use denote.Follow.{follows, follows_by, follows_if, such_by}
-use denote.Laws.{shows}
-use denote.Lend.{lends_shr}
-use denote.Memory.{mem, part_at}
-use denote.Param.{param, layouts}
-use denote.Param.Laws.{param_laws}
-use denote.Plain.{uint_vals, uint_Tells, uint_Makes}
-use denote.RattleType.{RattleType}
-use denote.Ref.{MutRef, ShrRef, mut_vals, mut_Tells, shr_vals}
-use denote.Signature.{plain}
-use denote.Slice.{MutSlice, slice_val}
-use denote.Steps.{nothing, only, owned, peeks, heard}
-use denote.Triple.Call.{calls_at}
-use denote.Triple.Clauses.{Lasts, lasts}
-use denote.Triple.Spec.{triple_of}
-use denote.Triple.Table.{framed}
-use denote.Triple.Walked.{Stays, stay_dropped, Goes-dropped, Goes-spent_ref, walk_of, ends_at}
-use lib.Dec.{leb→le, nleb→lt}
-use mir.MapTy.{inst_fn}
-use mir.Syntax.{a_type, named}
-use mir.Val.{Val, of_list}
-use seplogic.Ra.Ura.{Ura}
-use types.ByLocal.{alloc_all, pass_all, free_all, look_at, get, through, sets, lands_as, env}
-use types.Kit.{‵, raw, ◌⊛◌, some, later, at_ret, ◌$◌, ◌∵◌, !, qed, done, keep, move, drop, use0, use1, use2, split, split3, join, pick, await, rewrite}
-use types.Kit.{suffices, frame, fsplit, fsplit3, fjoin, fjoin3, fpack, feq_i, feq_l, flt_l}
-use types.Logic.{Logic, sem}
-use types.Match.{live}
+use denote.Follow.{follows_by, such_by}
 use types.Mut.{open_ref, close_ref}
-use types.Part.{agg}
-use types.Run.{enter, lit, addr, bin, stop, no_more, and_then, first, branches, skips, exec, returns, returns_within}
-use types.Tokens.{lent_back}
 use Rattle.v_frame_plane.specs.Plane.{Raster, table_of, WritesRow, WritesEachRow, with_row}
 use Rattle.v_frame_layout.specs.Table.{height_of}
 use Rattle.v_frame_plane.specs.Lends.{LendsRow}

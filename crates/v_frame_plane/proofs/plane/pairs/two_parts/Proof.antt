@@ -2,18 +2,12 @@
 -- part of a part, so this proof follows the code.
 use Rattle.v_frame_plane.proofs.lent.Steps.{ℕ, ◌≡◌, ◌+◌, ◌-◌, ◌≤◌, List, [], ◌∷◌, ◌++◌, length, take, list_drop, w64, MutBor, refl, ap, ◌∙◌, arith, length-drop}
 use Rattle.v_frame_plane.proofs.lent.Steps.{proved, flft, ftrue, emp, ent, sep, wand, ◌⊑◌, fact, fact_i, tables, usize, param, layouts, plain, uint_vals}
-use Rattle.v_frame_plane.proofs.lent.Steps.{RattleType}
-use Rattle.v_frame_plane.proofs.lent.Steps.{Valss, MutSlice, slice_val, heard, nothing, framed, Stays, ends_at, inst_fn, a_type, named, Val, vcons, vnil}
-use Rattle.v_frame_plane.proofs.lent.Steps.{vstruct}
-use Rattle.v_frame_plane.proofs.lent.Steps.{Ura, alloc_all, free_all, get, get_in, lands_as, look_at, look_in_at, pass_all, sets, Item, ‵, raw, ◌⊛◌, ◌$◌, ◌∵◌}
-use Rattle.v_frame_plane.proofs.lent.Steps.{ ! }
-use Rattle.v_frame_plane.proofs.lent.Steps.{qed, assume, done, each, feq_i, fjoin, fpack, frame, join, keep, move, rewrite, split, split3, suffices, use0, use1}
-use Rattle.v_frame_plane.proofs.lent.Steps.{use3, agg, sub, whole, addr, and_then, enter, fld, from, hop, no_more, of_opd, returns, stop, Logic, sem}
-use Rattle.v_frame_plane.proofs.lent.Steps.{append_assoc}
-use Rattle.v_frame_plane.proofs.lent.Steps.{length-take-le, yes, no, both_by, uint_Tells, mut_slice_vals, mut_slice_Tells, shape, within, tuple_type}
-use Rattle.v_frame_plane.proofs.lent.Steps.{stay_dropped}
-use Rattle.v_frame_plane.proofs.lent.Steps.{Goes-dropped, Goes-spent_slice, mean, group}
-use Rattle.std.proofs.lemmas.List.{take-take, drop-drop, drop-take}
+use Rattle.v_frame_plane.proofs.lent.Steps.{RattleType, Valss, MutSlice, slice_val, heard, nothing, framed, Stays, ends_at, inst_fn, a_type, named, Val, vcons}
+use Rattle.v_frame_plane.proofs.lent.Steps.{vnil, vstruct, Ura, alloc_all, free_all, get, get_in, lands_as, look_at, look_in_at, pass_all, sets, Item, ‵, raw}
+use Rattle.v_frame_plane.proofs.lent.Steps.{◌⊛◌, ◌$◌, ◌∵◌, !, qed, assume, done, each, feq_i, fjoin, fpack, frame, join, keep, move, rewrite, split, split3}
+use Rattle.v_frame_plane.proofs.lent.Steps.{suffices, use0, use1, use3, agg, sub, whole, addr, and_then, enter, fld, from, hop, no_more, of_opd, returns, stop}
+use Rattle.v_frame_plane.proofs.lent.Steps.{Logic, sem, append_assoc, length-take-le, yes, no, both_by, uint_Tells, mut_slice_vals, mut_slice_Tells, shape}
+use Rattle.v_frame_plane.proofs.lent.Steps.{within, tuple_type, stay_dropped, Goes-dropped, Goes-spent_slice, mean, group, take-take, drop-drop, drop-take}
 use Rattle.core.proofs.slice.slice+T.split_at_mut.Met as split_met
 use Rattle.v_frame_plane.specs.Cut.{LendsTwoParts}
 use Rattle.v_frame_plane.specs.Plane.{with_two_parts}

@@ -1,13 +1,5 @@
 -- A `&` to the entries of a block reaches each of them. Assumes `Logic`.
-use mathlib.Core.List.{[], ◌++◌}
-use base.Fml.{Incl-trans}
-use contract.BorrowLft.{meet_⊑_left}
-use denote.RattleType.{RattleType}
-use denote.RawPtr.{RawPtr}
-use denote.Param.Laws.{Laws}
-use denote.Param.Shared.{copy_shared}
-use denote.Struct.Laws.{field_copy}
-use denote.Struct.Lending.{of_Lends}
+use Rattle.v_frame_plane.proofs.lent.Steps.{[], ◌++◌, RattleType, Laws, Incl-trans, meet_⊑_left, RawPtr, copy_shared, field_copy, of_Lends}
 use Rattle.core.specs.contracts.marker.PhantomData as marker
 use Rattle.v_frame_plane.specs.contracts.aligned.block.Cells as C
 use Rattle.v_frame_plane.proofs.aligned.block.Cells.TheLaw.Statement.{statement}

@@ -1,40 +1,13 @@
 -- `slice` shows the entries that the `&` to the cells reaches. Assumes `Logic`.
-use mathlib.Core.Path.{◌≡◌, refl, sym, ap, ◌∙◌}
-use Prim.Native.Nat.{◌+◌, ◌*◌, ◌^◌, ◌<◌}
-use native.Mathlib.Omega.{arith}
-use mathlib.Core.List.{List, [], ◌∷◌}
-use lib.ListN.{length}
-use mir.Syntax.{a_type, named, erased, imm, w64, ty_ref}
-use mir.MapTy.{inst_fn}
-use mir.Val.{Val}
-use base.Logic.{never, id⊢}
-use base.Fml.{Lft, Fml}
-use contract.Monad.{fact}
-use contract.BorrowLft.{◌⊑◌}
-use contract.Running.{tables}
-use types.Kit.{Item, prop, Sq, ‵, raw, ◌⊛◌, at_ret, ◌$◌, ◌∵◌, !, qed, move, keep, drop, split, fsplit, fjoin, flt_l, flt_i, feq_i, rewrite, suffices, done}
-use types.Part.{whole, sub, agg}
-use types.Run.{stop, fld, of_opd, and_then, no_more, first, blocks, exec, returns, enter}
-use types.ByLocal.{alloc_all, pass_all, free_all, look_at, get, get_in, sets, sets_last, is, env}
-use denote.Builtin.{RefOf, usize}
-use denote.Exit.{yes, no}
+use Rattle.v_frame_plane.proofs.lent.Steps.{◌≡◌, refl, sym, ap, ◌∙◌, ◌+◌, ◌*◌, ◌^◌, ◌<◌, arith, List, [], ◌∷◌, length, a_type, named, erased, w64, ty_ref}
+use Rattle.v_frame_plane.proofs.lent.Steps.{inst_fn, Val, id⊢, Lft, Fml, fact, ◌⊑◌, tables, Item, prop, ‵, raw, ◌⊛◌, at_ret, ◌$◌, ◌∵◌, !, qed, move, keep, drop}
+use Rattle.v_frame_plane.proofs.lent.Steps.{split, fsplit, fjoin, feq_i, rewrite, suffices, done, whole, sub, agg, stop, fld, of_opd, and_then, no_more, first}
+use Rattle.v_frame_plane.proofs.lent.Steps.{exec, returns, enter, alloc_all, pass_all, free_all, look_at, get, get_in, sets, env, usize, yes, no, param}
+use Rattle.v_frame_plane.proofs.lent.Steps.{layouts, param_laws, uint_vals, uint_Tells, Valss, plain, slice_ty, slice_val, heard, nothing, Stays, walk_of}
+use Rattle.v_frame_plane.proofs.lent.Steps.{ends_at, stay_dropped, Goes-dropped, after, proved, imm, never, Sq, flt_l, flt_i, blocks, sets_last, is, RefOf}
+use Rattle.v_frame_plane.proofs.lent.Steps.{layout, owns, ptr_val, in_a_block, shr_vals, shr_Tells, types_at, alive, says, times_below, type_size, Good}
+use Rattle.v_frame_plane.proofs.lent.Steps.{word-Good}
 use denote.Opens.{hide, unhide}
-use denote.Param.{param, layout, layouts}
-use denote.Param.Laws.{param_laws}
-use denote.Plain.{uint_vals, uint_Tells}
-use denote.RattleType.{Valss, owns}
-use denote.RawPtr.{ptr_val, in_a_block}
-use denote.Ref.{shr_vals, shr_Tells}
-use denote.Signature.{plain, types_at}
-use denote.Slice.{slice_ty, slice_val}
-use denote.Steps.{heard, nothing}
-use denote.Triple.Entry.{alive}
-use denote.Triple.Walked.{Stays, walk_of, ends_at, says, stay_dropped, Goes-dropped}
-use Rattle.core.proofs.alloc.Shapes.{after}
-use Rattle.core.proofs.ptr.Rows.{times_below}
-use Rattle.std.proofs.raw_atomic.Walks.{proved}
-use Rattle.std.specs.Mem.{type_size}
-use Rattle.std_alloc.proofs.RcSteps.{Good, word-Good}
 use Rattle.v_frame_plane.specs.Block.{lent_at, cells_lent}
 use Rattle.v_frame_plane.specs.contracts.aligned.block.Base.{the_row as Base}
 use Rattle.v_frame_plane.specs.contracts.aligned.block.Cells.{the_row as Cells}

@@ -1,49 +1,16 @@
 -- `slice_mut` lends a part of the entries as a slice, and the cells end with what that shows last in the part's place. Assumes `Logic`.
-use mathlib.Core.Path.{◌≡◌, refl, sym, ap, subst, ◌∙◌}
-use Prim.Native.Nat.{ℕ, ◌+◌, ◌-◌, ◌*◌, ◌^◌, ◌<◌, ◌≤◌}
-use native.Mathlib.Omega.{arith}
-use mathlib.Core.List.{List, [], ◌∷◌}
-use lib.ListN.{length, take, drop, length-drop}
-use mir.Syntax.{a_type, named, w64}
-use mir.MapTy.{inst_fn}
-use mir.Val.{Fits, vint, vptr}
-use base.Logic.{never, id⊢}
-use base.Fml.{GName, fsep, fat, ftrue, flft}
-use base.Fraction.{full_share}
-use borrow.Table.Elements.{at_mul, length-take-le}
-use contract.Monad.{fact}
-use contract.BorrowLft.{◌⊑◌}
-use contract.Running.{tables}
-use types.Kit.{Item, ‵, raw, ◌⊛◌, some, later, at_ret, ◌$◌, ◌∵◌, !, qed, move, keep, split}
-use types.Kit.{split3, join, group, pick, await, use1, fsplit, fsplit3, fjoin, flt_l, rewrite, suffices, frame, done}
-use types.Logic.{sem}
-use types.SemTy.{cells}
-use types.Part.{whole, sub, agg}
-use types.Run.{stop, fld, of_opd, bin, size_word, and_then, no_more, first, blocks, exec, returns, enter}
-use types.ByLocal.{alloc_all, pass_all, free_all, look_at, get, get_in, sets, sets_last, take_at, give_at, is, env}
-use denote.Array.{Array}
-use denote.Builtin.{RefMutOf, usize}
-use denote.Exit.{yes, no}
-use denote.Follow.{follows}
+use Rattle.v_frame_plane.proofs.lent.Steps.{◌≡◌, refl, sym, ap, ◌∙◌, ℕ, ◌+◌, ◌-◌, ◌*◌, ◌^◌, ◌<◌, ◌≤◌, arith, List, [], ◌∷◌, length, take, list_drop as drop}
+use Rattle.v_frame_plane.proofs.lent.Steps.{length-drop, a_type, named, w64, inst_fn, vint, vptr, id⊢, fsep, fat, ftrue, flft, full_share, fact, ◌⊑◌, tables}
+use Rattle.v_frame_plane.proofs.lent.Steps.{Item, ‵, raw, ◌⊛◌, some, later, at_ret, ◌$◌, ◌∵◌, !, qed, move, keep, split, split3, join, group, pick, await, use1}
+use Rattle.v_frame_plane.proofs.lent.Steps.{fsplit, fsplit3, fjoin, rewrite, suffices, frame, done, sem, whole, sub, agg, stop, fld, of_opd, bin, and_then}
+use Rattle.v_frame_plane.proofs.lent.Steps.{no_more, first, exec, returns, enter, alloc_all, pass_all, free_all, look_at, get, get_in, sets, env, Array, usize}
+use Rattle.v_frame_plane.proofs.lent.Steps.{yes, no, mem, param, layouts, param_laws, uint_vals, uint_Tells, Valss, MutBor, mut_vals, mut_Tells, plain}
+use Rattle.v_frame_plane.proofs.lent.Steps.{MutSlice, slice_val, heard, nothing, opens, Stays, walk_of, ends_at, stay_dropped, Goes-dropped, after, proved}
+use Rattle.v_frame_plane.proofs.lent.Steps.{subst, Fits, never, GName, at_mul, flt_l, cells, size_word, blocks, sets_last, take_at, give_at, is, RefMutOf}
+use Rattle.v_frame_plane.proofs.lent.Steps.{follows, layout, owns, Ptr, in_a_block, types_at, says, Goes-spent_ref, times_below, uncapped, capped, type_size}
+use Rattle.v_frame_plane.proofs.lent.Steps.{word, word-Good}
+use borrow.Table.Elements.{length-take-le}
 use denote.FollowSlice.{lends_Elements}
-use denote.Memory.{mem}
-use denote.Param.{param, layout, layouts}
-use denote.Param.Laws.{param_laws}
-use denote.Plain.{uint_vals, uint_Tells}
-use denote.RattleType.{Valss, owns}
-use denote.RawPtr.{Ptr, in_a_block}
-use denote.Ref.{MutBor, mut_vals, mut_Tells}
-use denote.Signature.{plain, types_at}
-use denote.Slice.{MutSlice, slice_val}
-use denote.Steps.{heard, nothing, opens}
-use denote.Triple.Walked.{Stays, walk_of, ends_at, says, stay_dropped, Goes-dropped, Goes-spent_ref}
-use Rattle.core.proofs.alloc.Shapes.{after}
-use Rattle.core.proofs.ptr.Rows.{times_below}
-use Rattle.core.proofs.slots.Leases.{uncapped}
-use prog.Memory.{capped}
-use Rattle.std.proofs.raw_atomic.Walks.{proved}
-use Rattle.std.specs.Mem.{type_size}
-use Rattle.std_alloc.proofs.RcSteps.{word, word-Good}
 use Rattle.v_frame_plane.specs.Block.{cells_own}
 use Rattle.v_frame_plane.specs.contracts.aligned.block.Base.{the_row as Base}
 use Rattle.v_frame_plane.specs.contracts.aligned.block.Cells.{the_row as Cells}

@@ -1,41 +1,12 @@
 -- `write_next` makes the first place of the room an entry behind the others. Assumes `Logic`.
-use mathlib.Core.Path.{◌≡◌, refl, sym, ap, subst, ◌∙◌}
-use Prim.Native.Nat.{ℕ, suc, ◌+◌, ◌-◌, ◌*◌, ◌^◌, ◌<◌}
-use native.Mathlib.Nat.{suc-mul}
-use native.Mathlib.Omega.{arith}
-use mathlib.Core.List.{List, [], ◌∷◌, ◌++◌}
-use lib.ListN.{length, length-append}
-use mir.Syntax.{a_type}
-use mir.MapTy.{inst_fn}
-use mir.Val.{Val, vptr, vunit}
-use base.Fraction.{full_share}
-use base.Logic.{SProp, emp, never, id⊢}
-use base.Fml.{fsep, ftrue, fat, froom, flft}
-use borrow.Table.OneValue.{part_in}
-use contract.Monad.{fact, fact_i}
-use contract.BorrowLft.{◌⊑◌}
-use contract.Running.{tables}
-use prog.Wp.{WpFn}
-use types.Kit.{‵, raw, prop, ◌⊛◌, at_ret, ◌$◌, ◌∵◌, !, qed, by, move, keep, split}
-use types.Kit.{join, use0, use1, use2, regoal, fsplit, fsplit3, fjoin, fjoin3, feq_i, flt_l, flt_i, rewrite}
-use types.Part.{whole, sub}
-use types.Run.{size_lit, init, stop, fld, unit_lit, of_opd, bin, assigns_last, first, blocks, exec, returns, enter}
-use types.ByLocal.{alloc_all, pass_all, free_all, look_at, get, get_in, through, sets, take_at, give_at, env}
-use denote.Builtin.{usize}
-use denote.Exit.{yes, no}
-use denote.Memory.{part_at}
-use denote.Param.{param, layout, layouts}
-use denote.Param.Laws.{param_laws}
-use denote.RattleType.{owns}
-use denote.RawPtr.{Ptr, in_a_block}
-use denote.Signature.{plain, types_at}
-use denote.Steps.{heard, nothing, opens, closes}
-use denote.Triple.Walked.{Stays, walk_of, stay_ref, stay_dropped, Goes-ref, Goes-dropped}
-use Rattle.core.proofs.alloc.Shapes.{after}
-use Rattle.core.proofs.ptr.Rows.{times_below, one_below}
-use Rattle.std.proofs.raw_atomic.Walks.{proved_at, leaves}
-use Rattle.std.specs.Mem.{type_size}
-use Rattle.std_alloc.proofs.RcSteps.{word, word-Good}
+use Rattle.v_frame_plane.proofs.lent.Steps.{◌≡◌, refl, sym, ap, ◌∙◌, ℕ, ◌+◌, ◌-◌, ◌*◌, ◌^◌, ◌<◌, arith, List, [], ◌∷◌, ◌++◌, length, a_type, inst_fn, Val, vptr}
+use Rattle.v_frame_plane.proofs.lent.Steps.{full_share, SProp, emp, id⊢, fsep, ftrue, fat, flft, fact, fact_i, ◌⊑◌, tables, ‵, raw, prop, ◌⊛◌, at_ret, ◌$◌, ◌∵◌}
+use Rattle.v_frame_plane.proofs.lent.Steps.{ !, qed, move, keep, split, join, use0, use1, use2, fsplit, fsplit3, fjoin, fjoin3, feq_i, rewrite, whole, sub, stop}
+use Rattle.v_frame_plane.proofs.lent.Steps.{fld, of_opd, bin, first, exec, returns, enter, alloc_all, pass_all, free_all, look_at, get, get_in, through, sets}
+use Rattle.v_frame_plane.proofs.lent.Steps.{env, usize, yes, no, param, layouts, param_laws, plain, heard, nothing, opens, closes, Stays, walk_of, stay_ref}
+use Rattle.v_frame_plane.proofs.lent.Steps.{stay_dropped, Goes-ref, Goes-dropped, after, subst, suc, suc-mul, length-append, vunit, never, froom, part_in, WpFn}
+use Rattle.v_frame_plane.proofs.lent.Steps.{by, regoal, flt_l, flt_i, size_lit, init, unit_lit, assigns_last, blocks, take_at, give_at, part_at, layout, owns}
+use Rattle.v_frame_plane.proofs.lent.Steps.{Ptr, in_a_block, types_at, times_below, one_below, proved_at, leaves, type_size, word, word-Good}
 use Rattle.v_frame_plane.specs.Block.{entries_at, room_at, cells_own}
 use Rattle.v_frame_plane.specs.contracts.aligned.block.Base.{the_row as Base}
 use Rattle.v_frame_plane.specs.contracts.aligned.block.Cells.{the_row as Cells}
