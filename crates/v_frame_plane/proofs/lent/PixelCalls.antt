@@ -1,23 +1,20 @@
 -- A call of a method of an iterator that lends pixels, on `&mut self` lent on, for the proofs by hand of its `next` and `next_back`. Assumes `Logic`.
 -- lends_self self, open, goes to the call. self_back it is there again, as the call left it, with what the call gives
 -- and what it ensures. pixel_back the same at a call's last call, which gave a pixel: self is closed
---     ends_draw      how a call ends
-use Rattle.v_frame_plane.proofs.lent.Steps.{Some-of, live, heard, ℕ, ◌≡◌, List, [], ◌∷◌, Option, Some, MutBor, refl, ap, Lft, fat, fauth, fbor, flent, flft}
+use Rattle.v_frame_plane.proofs.lent.Steps.{Some-of, live, heard, ℕ, ◌≡◌, List, [], ◌∷◌, Some, MutBor, refl, ap, Lft, fat, fauth, fbor, flent, flft}
 use Rattle.v_frame_plane.proofs.lent.Steps.{fobor, fobs, ftrue, full_share, SProp, emp, id⊢, ◌⊑◌, ⊑_trans, sep, Fun, fact, fact_i, shows, mem, param, Laws}
-use Rattle.v_frame_plane.proofs.lent.Steps.{param_laws, RattleType, MutRef, mut_vals, named_lft, only, peeks, closes, Clauses, Lasts, lasts, at_exit, triple_of}
-use Rattle.v_frame_plane.proofs.lent.Steps.{walk_of, ends_at, named, Val, of_list, Memory, Routine, Ura, Goal, Item, Seq, Soaks, Step, step, ‵, raw, ◌⊛◌, some}
-use Rattle.v_frame_plane.proofs.lent.Steps.{later, prop, ◌$◌, await, join, move, pick, rewrite, split, suffices, use0, use1, Logic, sem, Body, Fml, mean}
-use Rattle.v_frame_plane.proofs.lent.Steps.{AllOutlive, Shares, Lfts, Args, ex, Gv, meet_⊑_right, alive, on_entry}
+use Rattle.v_frame_plane.proofs.lent.Steps.{param_laws, RattleType, MutRef, mut_vals, named_lft, only, peeks, closes, Lasts, lasts, triple_of}
+use Rattle.v_frame_plane.proofs.lent.Steps.{named, Val, of_list, Memory, Routine, Ura, Goal, Item, Seq, Soaks, ‵, raw, ◌⊛◌, some}
+use Rattle.v_frame_plane.proofs.lent.Steps.{later, ◌$◌, await, join, move, pick, rewrite, split, use0, use1, Logic, sem, Body, Fml, mean}
+use Rattle.v_frame_plane.proofs.lent.Steps.{AllOutlive, Shares, Lfts, ex, Gv, meet_⊑_right, alive, on_entry}
 use base.Share
 use Rattle.std.specs.contracts.option.Option as Opt
 use Rattle.v_frame_plane.specs.contracts.pixels_mut.PixelsMut.{the_row}
 use Rattle.v_frame_plane.specs.contracts.pixels_mut.PixelsMut.refill_front
-use Rattle.v_frame_plane.specs.contracts.pixels_mut.PixelsMut.next
 use Rattle.v_frame_plane.specs.declared.pixels_mut.PixelsMut.{PixelsMut}
 use Rattle.v_frame_plane.proofs.lent.Loans as loans
 use Rattle.v_frame_plane.proofs.lent.Loans.{Back, share_within}
-use Rattle.v_frame_plane.proofs.lent.RowMemory.{exits}
-use Rattle.v_frame_plane.proofs.lent.PixelMemory.{Bare, lowered, stayed}
+use Rattle.v_frame_plane.proofs.lent.PixelMemory.{Bare, lowered}
 use Rattle.v_frame_plane.proofs.pixels_mut.PixelsMut.TheLaws.{lowers}
 
 module _ {M : Type 1} {𝓤 : Ura M} (𝓛 : Logic 𝓤) (T : RattleType) (κs : Lfts 3) (qs : Shares 3) (bounds :
@@ -115,18 +112,3 @@ module _ {M : Type 1} {𝓤 : Ura M} {𝓛 : Logic 𝓤} {K : Type 0} {Γ : List
       move t (4 ∷ []) $ peeks t Pixel _ (shows 𝓛 Pixel) pixel (v ∷ []) (λ is. rewrite t 0 (λ (vs : List Val). ‵ (Pixel.own_val pixel vs)) is.0 refl $
       use1 𝓛 (‵ ((Opt.the_row Pixel).own_val (Some pixel) (live 1 (of_list (mut_vals pixel)) ∷ []))) (Some-of 𝓛 Pixel pixel (only (mut_vals pixel))) $
       move t (1 ∷ 2 ∷ 3 ∷ 5 ∷ 6 ∷ 0 ∷ []) $ k pixel new stepped (ap only is.0))))
-
-module _ {M : Type 1} {𝓤 : Ura M} {𝓛 : Logic 𝓤} {K : Type 0} {Γ : List (Item 𝓤)} where
-  -- `next` and `next_back` close self, and end in self, the tokens, what is given and what the contract ensures
-  pub ends_draw : K → (T : RattleType) (c : Clauses 𝓤 (next.ended T)) (κs : Lfts 3) (qs : Shares 3) (bounds :
-      AllOutlive 3 (next.ended T).signature.outlives κs) (a : Args (next.ended T).signature κs) (g : (c κs a).ghost) (out : Val) (r :
-      Option (MutBor T.Denot)) (new : PixelsMut T.Denot)
-      → let Row = the_row (named_lft 3 1 tt κs) (param 0 T) in let self = a.0 in
-      Step K 𝓛 Γ (prop ((c κs a).ensures g r (at_exit (next.ended T) κs a (new, tt))))
-      (‵ (fobs self.ghost_name (Row.coded.code new)) ∷ ‵ (fbor κs.0 (Body (mem Row) self.ref_ptr.0 self.ref_ptr.1 self.ghost_name)) ∷ ‵ (flft κs.0 qs.0) ∷
-      ‵ (flft κs.1.0 qs.1.0) ∷ ‵ (flft κs.1.1.0 qs.1.1.0)
-      ∷ ‵ ((Opt.the_row (MutRef (named 1) κs.1.0 (param 0 T))).own_val r (out ∷ [])) ∷
-      Γ) (prop ((walk_of 𝓛 (next.ended T) (stayed T) c).post ((κs, qs, bounds, a, (mut_vals a.0, tt)), g) out))
-  ends_draw t T c κs qs bounds a g out r new = step (λ k.
-      suffices t _ (ends_at 𝓛 (next.ended T) (stayed T) c ((κs, qs, bounds, a, (mut_vals a.0, tt)), g) out r (new, tt) (tt, tt)) $
-      exits t (mut_vals a.0) _ _ κs qs _ $ k)

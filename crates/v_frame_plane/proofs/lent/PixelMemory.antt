@@ -1,13 +1,13 @@
 -- An iterator that lends pixels, in memory, for the proofs by hand of its `next` and `next_back`. Assumes `Logic`.
---     opens_pixels     a `&mut` to it is opened.        parts, pixels_owned     what it owns, apart and again together
+--     parts, pixels_owned     what it owns, apart and again together
 --     front_out, rows_out, back_out     a field goes out.        field_in     it is there again, with another value
---     closes_pixels     self is closed at the iterator that it is now.        stayed, ends_step, ends_refill     how a step on it ends
+--     closes_pixels     self is closed at the iterator that it is now.        stayed, ends_refill     how a step on it ends
 use Rattle.v_frame_plane.proofs.lent.Steps.{ℕ, ◌+◌, ◌^◌, ◌<◌, List, [], ◌∷◌, length, MutBor, refl, Lft, Share, fat, fauth, fbor, flft, fobor, fobs, full_share}
-use Rattle.v_frame_plane.proofs.lent.Steps.{SProp, all, ent, sep, wand, shows, mem, param, Laws, param_laws, RattleType, Valss, MutRef, NamedLft, mut_vals}
+use Rattle.v_frame_plane.proofs.lent.Steps.{SProp, all, ent, sep, wand, shows, mem, param, Laws, param_laws, RattleType, Valss, NamedLft, mut_vals}
 use Rattle.v_frame_plane.proofs.lent.Steps.{plain, named_lft, MutSlice, slice_ty, nothing, peeks, Clauses, at_exit, Stays, stay_ref, walk_of, ends_at, Ty, Tys}
-use Rattle.v_frame_plane.proofs.lent.Steps.{erased, mut, named, tcons, tnil, ty_param, ty_ref, ty_struct, Val, vcons, vnil, vstruct, Ura, Goal, Item, Seq}
+use Rattle.v_frame_plane.proofs.lent.Steps.{erased, mut, tcons, tnil, ty_param, ty_ref, ty_struct, Val, vcons, vnil, vstruct, Ura, Goal, Item, Seq}
 use Rattle.v_frame_plane.proofs.lent.Steps.{Soaks, Step, step, ‵, raw, ◌⊛◌, prop, ◌$◌, ◌∵◌, !, qed, done, drop, feq_i, feq_l, fjoin, fpack, fpick, fsplit, move}
-use Rattle.v_frame_plane.proofs.lent.Steps.{rewrite, split, suffices, use2, Logic, sem, Body, AllOutlive, Shares, Lfts, shape, within, Args, ◌≡◌, emp, fact}
+use Rattle.v_frame_plane.proofs.lent.Steps.{rewrite, split, use2, Logic, sem, Body, AllOutlive, Shares, Lfts, shape, within, Args, ◌≡◌, emp, fact}
 use Rattle.v_frame_plane.proofs.lent.Steps.{fact_i, cell_at, closes, join, use0, use1, use3, Gv, by, vunit, size}
 use Rattle.v_frame_plane.specs.PixelsLeft.{pixels_left}
 use Rattle.v_frame_plane.specs.SecondPixels.{KeepsPixels}
@@ -16,10 +16,9 @@ use Rattle.v_frame_plane.specs.contracts.pixels_mut.PixelsMut.{struct, the_row, 
 use Rattle.v_frame_plane.specs.contracts.pixels_mut.PixelsMut.next_of_front
 use Rattle.v_frame_plane.specs.contracts.rows_mut.RowsMut as rows_mut
 use Rattle.v_frame_plane.specs.declared.pixels_mut.PixelsMut.{PixelsMut}
-use Rattle.v_frame_plane.proofs.lent.Loans.{at_one, opens_self}
+use Rattle.v_frame_plane.proofs.lent.Loans.{at_one}
 use Rattle.v_frame_plane.proofs.lent.RowMemory.{exits, slice_of, Bare as RowsBare, Named as RowsNamed, lowered as rows_lowered}
 use Rattle.v_frame_plane.proofs.lent.Taken.{Slice, word}
-use Rattle.v_frame_plane.proofs.pixels_mut.PixelsMut.TheLaws.{lowers}
 use Rattle.v_frame_plane.proofs.rows_mut.RowsMut.TheLaws.{lowers as rows_lowers}
 
 abbrev Fields : Tys
@@ -95,15 +94,6 @@ pixels_owned 𝓛 a T walk =
     ) $ done !
 
 module _ {M : Type 1} {𝓤 : Ura M} {𝓛 : Logic 𝓤} {K : Type 0} {Γ : List (Item 𝓤)} {G : Goal 𝓤 𝓛.H} where
-  -- its cell, what it owns, and the open borrow, in three
-  pub opens_pixels : K → Soaks G → (a : NamedLft) (T : RattleType) → Laws T → (κ : Lft) (q : Share) (self : MutBor (PixelsMut T.Denot)) → let Row =
-      the_row a (param 0 T) in let b = self.ref_ptr.0 in let o = self.ref_ptr.1 in let code = Row.coded.code self.now in
-      Step K 𝓛 (‵ (fat full_share Bare b o (lowered self.now)) ∷ ‵ (Row.own_val self.now (lowered self.now ∷ [])) ∷
-      ‵ (fobor κ q (Body (mem Row) b o self.ghost_name)) ∷ ‵ (fobs self.ghost_name code) ∷ ‵ (fauth self.ghost_name code) ∷ Γ) G
-      (‵ ((MutRef (named 0) κ Row).own_val self (mut_vals self)) ∷ ‵ (flft κ q) ∷ Γ) G
-  opens_pixels t z a T laws κ q self =
-      opens_self t z (the_row a (param 0 T)) κ q self (lowered self.now ∷ []) ((lowers a (param 0 T) (param_laws 0 T laws)).val_is self.now)
-
   -- self is closed at the iterator that it is now
   pub closes_pixels : K → Soaks G → (a : NamedLft) (T : RattleType) {κ : Lft} {q : Share} {u v : Gv} (self : MutBor (PixelsMut T.Denot)) (new :
       PixelsMut T.Denot)
@@ -138,29 +128,6 @@ module _ {M : Type 1} {𝓤 : Ura M} {𝓛 : Logic 𝓤} {K : Type 0} {Γ : List
 abbrev pub stayed : (T : RattleType) → Stays (next_of_front.ended T).signature.params (next_of_front.ended T).kept
 stayed T = (stay_ref (0 ∷ []) tt (plain (λ κs. the_row (named_lft 3 1 tt κs) (param 0 T))), tt)
 
-module _ {M : Type 1} {𝓤 : Ura M} {𝓛 : Logic 𝓤} {K : Type 0} {Γ : List (Item 𝓤)} where
-  -- a step that gives a pixel ends in self, the tokens, the pixel and what its contract ensures
-  pub ends_step : K → (T : RattleType) (c : Clauses 𝓤 (next_of_front.ended T)) (κs : Lfts 3) (qs : Shares 3) (bounds :
-      AllOutlive 3 (next_of_front.ended T).signature.outlives κs) (a : Args (next_of_front.ended T).signature κs) (g : (c κs a).ghost) (out : Val) (r :
-      MutBor T.Denot) (new : PixelsMut T.Denot)
-      → let Row = the_row (named_lft 3 1 tt κs) (param 0 T) in let self = a.0 in
-      Step K 𝓛 Γ (prop ((c κs a).ensures g r (at_exit (next_of_front.ended T) κs a (new, tt))))
-      (‵ (fobs self.ghost_name (Row.coded.code new)) ∷ ‵ (fbor κs.0 (Body (mem Row) self.ref_ptr.0 self.ref_ptr.1 self.ghost_name)) ∷ ‵ (flft κs.0 qs.0) ∷
-      ‵ (flft κs.1.0 qs.1.0) ∷ ‵ (flft κs.1.1.0 qs.1.1.0)
-      ∷ ‵ ((MutRef (named 1) κs.1.0 (param 0 T)).own_val r (out ∷ [])) ∷ Γ) (prop ((walk_of 𝓛 (next_of_front.ended T) (stayed T) c).post (
-        (
-          κs,
-          qs,
-          bounds,
-          a,
-          (mut_vals a.0, tt),
-        ),
-        g,
-      ) out))
-  ends_step t T c κs qs bounds a g out r new = step (λ k.
-      suffices t _ (ends_at 𝓛 (next_of_front.ended T) (stayed T) c ((κs, qs, bounds, a, (mut_vals a.0, tt)), g) out r (new, tt) (tt, tt)) $
-      exits t (mut_vals a.0) _ _ κs qs _ $ k)
-
 module _ {M : Type 1} {𝓤 : Ura M} {𝓛 : Logic 𝓤} {K : Type 0} where
   -- a step that begins a row ends in self, the tokens and what its contract ensures
   pub ends_refill : K → (T : RattleType) (c : Clauses 𝓤 (refill_front.ended T)) (κs : Lfts 3) (qs : Shares 3) (bounds :
@@ -174,7 +141,7 @@ module _ {M : Type 1} {𝓤 : Ura M} {𝓛 : Logic 𝓤} {K : Type 0} where
       ‵ (flft κs.0 qs.0) ∷ ‵ (flft κs.1.0 qs.1.0) ∷ ‵ (flft κs.1.1.0 qs.1.1.0) ∷ ‵ (KeepsPixels (param 0 T) self.now new) ∷ [])
       (prop ((walk_of 𝓛 (refill_front.ended T) (stayed T) c).post ((κs, qs, bounds, a, (mut_vals a.0, tt)), g) vunit))
   ends_refill t T c κs qs bounds a g new begun says left full =
-      suffices t _ (ends_at 𝓛 (refill_front.ended T) (stayed T) c ((κs, qs, bounds, a, (mut_vals a.0, tt)), g) vunit tt (new, tt) (tt, tt)) $
-      feq_i t (List Val) (vunit ∷ []) (vunit ∷ []) refl $ move t (1 ∷ 2 ∷ 3 ∷ 4 ∷ 5 ∷ 0 ∷ []) $ exits t (mut_vals a.0) _ _ κs qs _ $
+      feq_i t (List Val) (vunit ∷ []) (vunit ∷ []) refl $ move t (1 ∷ 2 ∷ 3 ∷ 4 ∷ 5 ∷ 0 ∷ []) $
+      exits t (mut_vals a.0) κs qs (ends_at 𝓛 (refill_front.ended T) (stayed T) c ((κs, qs, bounds, a, (mut_vals a.0, tt)), g) vunit tt (new, tt) (tt, tt)) $
       use0 𝓛 (raw (fact 𝓤 begun)) (fact_i 𝓤 begun (emp 𝓤) full) $ use0 𝓛 (raw (fact 𝓤 (pixels_left new ≡ pixels_left a.0.now))) (fact_i 𝓤 _ (emp 𝓤) left) $
       join t $ move t (1 ∷ 0 ∷ []) $ by t says

@@ -9,8 +9,10 @@ use Rattle.v_frame_plane.proofs.lent.Steps.{no_more, of_opd, returns, stop, Ratt
 use Rattle.v_frame_plane.proofs.lent.Steps.{Contract, triple_of, subst, MachineTables, Running, closing, Meets, Triple, Callee, Fn, Place, Sym, addr_of}
 use Rattle.v_frame_plane.proofs.lent.Steps.{aggregate, arm, assign, call, copy, deref, field, local, no_default, opd_unit, place, return, rv_opd, seq, switch}
 use Rattle.v_frame_plane.proofs.lent.Steps.{ttcons, ttnil, ty_enum, ty_unit, value_local, variant, Model, Closed, Wp, after_seq, get_tag, any_q, post}
-use Rattle.v_frame_plane.proofs.lent.Steps.{in_variant, vrt, assigns_last, switches_on, unit_lit}
+use Rattle.v_frame_plane.proofs.lent.Steps.{in_variant, vrt, assigns_last, switches_on, unit_lit, param_laws}
 use mir.Syntax.{Body}
+use Rattle.v_frame_plane.proofs.pixels_mut.PixelsMut.TheLaws.{lowers}
+use Rattle.v_frame_plane.proofs.lent.PixelMemory.{lowered, Around, Bare, Named, as_named, ends_refill, field_in, rows_offset, rows_out, stayed, whole}
 use Rattle.v_frame_plane.specs.RowsLeft.{rows_left}
 use Rattle.v_frame_plane.specs.SecondRows.{EndsAs}
 use Rattle.v_frame_plane.specs.SecondPixels.{KeepsPixels}
@@ -18,8 +20,7 @@ use Rattle.v_frame_plane.specs.contracts.pixels_mut.PixelsMut.{the_row}
 use Rattle.v_frame_plane.specs.contracts.pixels_mut.PixelsMut.refill_front
 use Rattle.v_frame_plane.specs.contracts.rows_mut.RowsMut.next
 use Rattle.v_frame_plane.proofs.lent.Cuts.{dropped, slice_fits}
-use Rattle.v_frame_plane.proofs.lent.Loans.{begins}
-use Rattle.v_frame_plane.proofs.lent.PixelMemory.{Around, Bare, Named, as_named, ends_refill, field_in, opens_pixels, rows_offset, rows_out, stayed, whole}
+use Rattle.v_frame_plane.proofs.lent.Loans.{begins, opens_self}
 use Rattle.v_frame_plane.proofs.lent.PixelLoans.{begun, begun_countable, begun_full, begun_left, keeps_begun, keeps_taken, taken, taken_countable, taken_left}
 use Rattle.v_frame_plane.proofs.lent.PixelLoans.{taken_none}
 use Rattle.v_frame_plane.proofs.lent.PixelSides.{Walk, by_sides, closes_by, far_out, near_part, near_place, part, refill_clauses, row_clauses, sides, whole_by}
@@ -85,7 +86,7 @@ module _ {M : Type 1} {𝓤 : Ura M} (𝓛 : Logic 𝓤) (𝓜 : Model 𝓤 𝓛
       let Post = (walk_of 𝓛 (refill_front.ended T) (stayed T) c).post ((κs, qs, bounds, a, (mut_vals self, tt)), g) in
       begins 𝓛 κs qs ((MutRef (named 0) κ Row).own_val self (mut_vals self)) (κT ⊑ T.lives)
       (raw (fact 𝓤 (length x.now ≡ 0))) (λ inT. move ! (4 ∷ []) $ heard ! _ (λ none.
-      enter ! _ _ _ _ _ $ alloc_all ! (λ l. pass_all ! refl ((tt, tt), tt) $ opens_pixels ! tt ℓ T laws κ q self $
+      enter ! _ _ _ _ _ $ alloc_all ! (λ l. pass_all ! refl ((tt, tt), tt) $ opens_self ! tt Row κ q self (lowered h ∷ []) ((lowers ℓ item (param_laws 0 T laws)).val_is h) $
       let En = env function.locals l in let Then =
       any_q (after_seq 𝓤 𝓛.H (Wp 𝓤 𝓛.H 𝓣.C 𝓣.Λ En behind (post 𝓤 𝓛.H (at_ret En Post))) (post 𝓤 𝓛.H (at_ret En Post))) in
       -- [self's cell; what it owns; the open borrow, in three; the tokens of κa and κT; the locals]

@@ -7,16 +7,17 @@ use Rattle.v_frame_plane.proofs.lent.Steps.{lands_as, look_at, look_in_at, pass_
 use Rattle.v_frame_plane.proofs.lent.Steps.{use0, use1, use2, agg, store_in, sub, whole, addr, and_then, assigns, enter, fld, from, hop, no_more, of_opd}
 use Rattle.v_frame_plane.proofs.lent.Steps.{returns, stop, RattleType, Laws, Lft, Logic, Ura, Ty, tcons, tnil, erased, mut, ty_param, ty_ref, ty_struct}
 use Rattle.v_frame_plane.proofs.lent.Steps.{MachineTables, Running, closing, Meets, Triple, Callee, Fn, Sym, addr_of, aggregate, assign, call, copy, deref}
-use Rattle.v_frame_plane.proofs.lent.Steps.{field, local, place, return, rv_opd, seq, value_local, Model, Closed}
+use Rattle.v_frame_plane.proofs.lent.Steps.{field, local, place, return, rv_opd, seq, value_local, Model, Closed, ends_at, param_laws}
+use Rattle.v_frame_plane.proofs.pixels_mut.PixelsMut.TheLaws.{lowers}
+use Rattle.v_frame_plane.proofs.lent.RowMemory.{exits, slice_of, lowered as rows_lowered}
+use Rattle.v_frame_plane.proofs.lent.PixelMemory.{lowered, Around, Bare, Named, as_named, field_in, stayed}
 use Rattle.v_frame_plane.specs.contracts.pixels_mut.PixelsMut.{the_row}
 use Rattle.v_frame_plane.specs.contracts.pixels_mut.PixelsMut.next_of_front
 use Rattle.v_frame_plane.proofs.lent.PixelCuts.{Cut, cuts_one, fewer, steps, takes_near}
 use Rattle.v_frame_plane.proofs.lent.Cuts.{slice_fits}
-use Rattle.v_frame_plane.proofs.lent.Loans.{begins}
-use Rattle.v_frame_plane.proofs.lent.PixelMemory.{Around, Bare, Named, as_named, ends_step, field_in, opens_pixels, stayed}
+use Rattle.v_frame_plane.proofs.lent.Loans.{begins, opens_self}
 use Rattle.v_frame_plane.proofs.lent.PixelSides.{Walk, by_sides, closes_by, near_out, near_part, near_place, part, sides, step_clauses, whole_by}
 use Rattle.v_frame_plane.proofs.lent.Sides.{Side, Steps, Takes, far, near, offset, slot, walk_by}
-use Rattle.v_frame_plane.proofs.lent.RowMemory.{slice_of, lowered as rows_lowered}
 use Rattle.v_frame_plane.proofs.lent.Taken.{Take, calls_take, word}
 
 -- the code, of the names that it has for self, for its rows and for a pair, of the type of self, of that of an entry, and of the functions that it calls
@@ -61,7 +62,7 @@ module _ {M : Type 1} {𝓤 : Ura M} (𝓛 : Logic 𝓤) (𝓜 : Model 𝓤 𝓛
       begins 𝓛 κs qs ((MutRef (named 0) κ Row).own_val self (mut_vals self)) (κT ⊑ T.lives)
       (raw (fact 𝓤 (0 < length x.now))) (λ inT. move ! (4 ∷ []) $ heard ! _ (λ some_left.
       let inA = ⊑_trans κa κT T.lives aT inT in
-      enter ! _ _ _ _ _ $ alloc_all ! (λ l. pass_all ! refl ((tt, tt), tt) $ opens_pixels ! tt ℓ T laws κ q self $
+      enter ! _ _ _ _ _ $ alloc_all ! (λ l. pass_all ! refl ((tt, tt), tt) $ opens_self ! tt Row κ q self (lowered h ∷ []) ((lowers ℓ item (param_laws 0 T laws)).val_is h) $
       -- [self's cell; what it owns; the open borrow, in three; the tokens of κa and κT; the locals]
       move ! (1 ∷ []) $ sides ! tt s ℓ T laws h (λ fits _.
       sets ! (addr ! (near_place ! s refl)) refl (tt, tt) $
@@ -94,6 +95,6 @@ module _ {M : Type 1} {𝓤 : Ura M} (𝓛 : Logic 𝓤) (𝓜 : Model 𝓤 𝓛
       returns ! (look_at ! 0 refl) $ free_all ! refl $
       -- [self, in two; the token of κ; the pixel; how this end ends; the tokens of κa and κT]
       move ! (4 ∷ []) $ use1 𝓛 (‵ (Takes s item h pixel new)) (takes_near 𝓛 item h pixel rest s is countable) $
-      move ! (1 ∷ 2 ∷ 3 ∷ 5 ∷ 6 ∷ 4 ∷ []) $ ends_step ! T c κs qs bounds a g _ pixel new $
+      move ! (1 ∷ 2 ∷ 3 ∷ 5 ∷ 6 ∷ 4 ∷ []) $ exits ! (mut_vals self) κs qs (ends_at 𝓛 (next_of_front.ended T) (stayed T) c ((κs, qs, bounds, a, (mut_vals self, tt)), g) _ pixel (new, tt) (tt, tt)) $
       use0 𝓛 (raw (fact 𝓤 (Steps s h pixel new))) (fact_i 𝓤 _ (emp 𝓤) (steps h s pixel rest is countable)) $
       move ! (1 ∷ 0 ∷ []) $ join ! $ done !)))))))

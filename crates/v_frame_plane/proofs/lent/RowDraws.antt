@@ -1,11 +1,14 @@
--- What the numbers of an iterator that lends rows are before and after `next` and `next_back`.
-use Rattle.v_frame_plane.proofs.lent.Steps.{ℕ, ◌≡◌, ◌+◌, ◌-◌, ◌*◌, ◌<◌, ◌≤◌, List, [], length, take, list_drop as drop, Option, Some, None, MutBor, ap, ◌∙◌}
-use Rattle.v_frame_plane.proofs.lent.Steps.{arith, length-take-le, length-drop, ⊤, MakesProgress, YieldsFirstMut, YieldsLastMut, item_count, zero, suc, not, T}
-use Rattle.v_frame_plane.proofs.lent.Steps.{T_not, eqb}
+-- What the numbers of an iterator that lends rows are before and after `next` and `next_back`, of which `s` is the end.
+--     number, place_of, start_of     the row that is taken, where it begins, and where the next one begins then
+--     Cut     the slice is cut where the row begins, and where it ends.        left     the iterator that is left of it
+use Rattle.v_frame_plane.proofs.lent.Steps.{ℕ, zero, suc, ◌≡◌, ◌+◌, ◌-◌, ◌*◌, ◌^◌, ◌<◌, ◌≤◌, List, length, take, list_drop, Option, Some, None, MutBor, ap}
+use Rattle.v_frame_plane.proofs.lent.Steps.{◌∙◌, arith, length-take-le, length-drop, not, ⊤, T, T_not, eqb, MakesProgress, item_count}
 use Rattle.v_frame_plane.specs.Cursor.{RowsAreWithin}
 use Rattle.v_frame_plane.specs.RowsLeft.{rows_left}
 use Rattle.v_frame_plane.specs.declared.rows_mut.RowsMut.{RowsMut}
 use Rattle.v_frame_plane.proofs.iterators.Cursors.{count_of_rows, first_row, last_row, no_rows}
+use Rattle.v_frame_plane.proofs.lent.RowMemory.{moved}
+use Rattle.v_frame_plane.proofs.lent.Sides.{Side, at_front, at_back, at_side, YieldsRow}
 
 -- the test that both begin with
 pub some_left : (count : ℕ) → T (not (eqb count 0)) → 0 < count
@@ -18,32 +21,32 @@ one_more (suc count) stride h =
     let e : suc count - 1 ≡ count = omega arith in
     rw e (omega arith)
 
+module _ {X : Type 0} (s : Side) (old : RowsMut X) where
+  abbrev pub number : ℕ
+  number = at_side s 0 (old.count - 1)
+
+  abbrev pub place_of : ℕ
+  place_of = at_side s old.start (old.start + (old.count - 1) * (old.width + old.gap))
+
+  abbrev pub start_of : ℕ
+  start_of = at_side s old.gap old.start
+
 module _ {X : Type 0} (old : RowsMut X) where
-  -- how many entries lie in front of the last row
-  abbrev pub behind : ℕ
-  behind = old.start + (old.count - 1) * (old.width + old.gap)
+  pub is_place : (s : Side) → old.start + number s old * (old.width + old.gap) ≡ place_of s old
+  is_place at_front = omega arith
+  is_place at_back = omega arith
 
-  pub row_within : 0 < old.count → old.start + old.width ≤ length old.rest.now
-  row_within more = omega (arith, old.within.within more, one_more old.count (old.width + old.gap) more)
+  pub number_fits : (s : Side) → old.count < 2 ^ 64 → number s old < 2 ^ 64
+  number_fits at_front fits = omega arith
+  number_fits at_back fits = omega (arith, fits)
 
-  pub last_within : 0 < old.count → behind + old.width ≤ length old.rest.now
-  last_within more = omega (arith, old.within.within more, one_more old.count (old.width + old.gap) more)
+  pub inside : (s : Side) → 0 < old.count → place_of s old + old.width ≤ length old.rest.now
+  inside at_front more = omega (arith, old.within.within more, one_more old.count (old.width + old.gap) more)
+  inside at_back more = omega (arith, old.within.within more, one_more old.count (old.width + old.gap) more)
 
-  pub rest_within : (rest : List X) → 0 < old.count → rest ≡ drop old.width (drop old.start old.rest.now) →
-      RowsAreWithin old.gap old.width old.gap (old.count - 1) (length rest)
-  rest_within rest more is =
-      let long : length rest ≡ length old.rest.now - old.start - old.width = ap length is ∙ length-drop old.width (drop old.start old.rest.now) ∙
-      ap (λ n. n - old.width) (length-drop old.start old.rest.now) in
-      let rows = one_more old.count (old.width + old.gap) more in
-      record { wide = old.within.wide; stride = old.within.stride; within = λ left. omega (arith, old.within.within more) }
-
-  pub front_within : (rest : List X) → 0 < old.count → rest ≡ take behind old.rest.now → RowsAreWithin old.start old.width old.gap (old.count - 1) (length rest)
-  front_within rest more is =
-      let long : length rest ≡ behind = ap length is ∙ length-take-le behind old.rest.now (omega (arith, last_within more)) in
-      record { wide = old.within.wide; stride = old.within.stride; within = λ left. omega arith }
-
-  pub none_left : old.count ≡ 0 → (rows_left old ≡ []) × (rows_left old ≡ [])
-  none_left none = let e = no_rows old.start old.width old.gap old.count old.rest.now none in (e, e)
+  pub none_left : (s : Side) → old.count ≡ 0 → YieldsRow s old None old
+  none_left at_front none = let e = no_rows old.start old.width old.gap old.count old.rest.now none in (e, e)
+  none_left at_back none = let e = no_rows old.start old.width old.gap old.count old.rest.now none in (e, e)
 
   abbrev pub no_row : Option (MutBor (List X))
   no_row = None
@@ -51,10 +54,35 @@ module _ {X : Type 0} (old : RowsMut X) where
   pub stays : MakesProgress (λ _. ⊤) (item_count rows_left) old no_row old
   stays = record { on = λ _. tt; keeps = tt; rests = λ _. tt }
 
-  module _ (new : RowsMut X) (row : MutBor (List X)) (more : 0 < old.count) (width : new.width ≡ old.width) (gap : new.gap ≡ old.gap) (count : new.count ≡
-      old.count - 1) where
-    pub moves_on : MakesProgress (λ _. ⊤) (item_count rows_left) old (Some row) new
-    moves_on = record {
+  module _ (before at row behind : MutBor (List X)) (more : 0 < old.count) (s : Side) where
+    pub record Cut : Type 0 where
+      pub before_is : before.now ≡ take (place_of s old) old.rest.now
+      pub at_is : at.now ≡ list_drop (place_of s old) old.rest.now
+      pub row_is : row.now ≡ take old.width at.now
+      pub behind_is : behind.now ≡ list_drop old.width at.now
+
+  module _ (before at row behind : MutBor (List X)) (more : 0 < old.count) where
+    abbrev Its : Side → Type 0
+    Its s = Cut before at row behind more s
+
+    pub behind_all : (s : Side) → Its s → behind.now ≡ list_drop old.width (list_drop (place_of s old) old.rest.now)
+    behind_all s cut = cut.behind_is ∙ ap (list_drop old.width) cut.at_is
+
+    pub within : (s : Side) → Its s → RowsAreWithin (start_of s old) old.width old.gap (old.count - 1) (length (at_side s behind before).now)
+    within at_front cut =
+        let long : length behind.now ≡ length old.rest.now - old.start - old.width = ap length (behind_all at_front cut) ∙
+        length-drop old.width (list_drop old.start old.rest.now) ∙ ap (λ n. n - old.width) (length-drop old.start old.rest.now) in
+        let rows = one_more old.count (old.width + old.gap) more in
+        record { wide = old.within.wide; stride = old.within.stride; within = λ left. omega (arith, old.within.within more) }
+    within at_back cut =
+        let long = ap length cut.before_is ∙ length-take-le (place_of at_back old) old.rest.now (omega (arith, inside at_back more)) in
+        record { wide = old.within.wide; stride = old.within.stride; within = λ left. omega (arith, long) }
+
+    abbrev pub left : (s : Side) → Its s → RowsMut X
+    left s cut = moved old (at_side s behind before) (start_of s old) (old.count - 1) (within s cut)
+
+    pub moves_on : (s : Side) (cut : Its s) → MakesProgress (λ _. ⊤) (item_count rows_left) old (Some row) (left s cut)
+    moves_on s cut = let new = left s cut in record {
       on = λ _. (
         tt,
         tt,
@@ -68,10 +96,7 @@ module _ {X : Type 0} (old : RowsMut X) where
       rests = λ _. tt;
     }
 
-    pub first_drawn : new.start ≡ old.gap → row.now ≡ take old.width (drop old.start old.rest.now) →
-        new.rest.now ≡ drop old.width (drop old.start old.rest.now) → YieldsFirstMut rows_left old (Some row) new
-    first_drawn start is rest = rw (start, width, gap, count, is, rest) (first_row old.start old.width old.gap old.count old.rest.now more)
-
-    pub last_drawn : new.start ≡ old.start → row.now ≡ take old.width (drop behind old.rest.now) → new.rest.now ≡ take behind old.rest.now →
-        YieldsLastMut rows_left old (Some row) new
-    last_drawn start is rest = rw (start, width, gap, count, is, rest) (last_row old.start old.width old.gap old.count old.rest.now more)
+    pub draws : (s : Side) (cut : Its s) → YieldsRow s old (Some row) (left s cut)
+    draws at_front cut =
+        rw (cut.row_is, cut.at_is, behind_all at_front cut) (first_row old.start old.width old.gap old.count old.rest.now more)
+    draws at_back cut = rw (cut.row_is, cut.at_is, cut.before_is) (last_row old.start old.width old.gap old.count old.rest.now more)

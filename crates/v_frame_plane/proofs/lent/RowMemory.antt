@@ -1,25 +1,23 @@
 -- An iterator that lends rows, in memory, for the proofs by hand of its `next` and `next_back`. Assumes `Logic`.
---     opens_walk     a `&mut` to it is opened.        takes_slice     `take` at its slice.        moved     it after a call
+--     takes_slice     `take` at its slice.        moved     it after a call
 --     bare, walk_owned     what it is made of again
---     exits     the tokens, self and what is given, in which a function of `&mut self` of an iterator ends.        ends_draw      how a call ends
-use Rattle.v_frame_plane.proofs.lent.Steps.{ℕ, ◌+◌, ◌^◌, ◌<◌, List, [], ◌∷◌, length, Option, w64, MutBor, refl, Lft, Share, fat, fauth, fbor, flent, flft}
-use Rattle.v_frame_plane.proofs.lent.Steps.{fobor, fobs, full_share, SProp, all, ent, sep, wand, ◌⊑◌, Fun, usize, shows, mem, param, Laws, param_laws}
-use Rattle.v_frame_plane.proofs.lent.Steps.{uint_vals, uint_Makes, RattleType, Valss, MutRef, NamedLft, mut_vals, plain, named_lft, MutSlice, slice_ty}
-use Rattle.v_frame_plane.proofs.lent.Steps.{slice_val, nothing, owned, peeks, Clauses, at_exit, Stays, stay_ref, walk_of, ends_at, Ty, Tys, erased, mut, named}
-use Rattle.v_frame_plane.proofs.lent.Steps.{tcons, tnil, ty_int, ty_param, ty_ref, ty_struct, Val, Vals, vcons, vint, vnil, vstruct, Memory, Routine, Ura, Goal}
-use Rattle.v_frame_plane.proofs.lent.Steps.{Item, Seq, Soaks, Step, step, ‵, raw, ◌⊛◌, prop, ◌$◌, ◌∵◌, !, qed, done, drop, feq_i, feq_l, fjoin, fjoin3, fpack}
+--     exits     the tokens, self and what is given, in which a function of `&mut self` of an iterator ends
+use Rattle.v_frame_plane.proofs.lent.Steps.{ℕ, ◌+◌, ◌^◌, ◌<◌, List, [], ◌∷◌, length, w64, MutBor, refl, Share, fat, flent, flft}
+use Rattle.v_frame_plane.proofs.lent.Steps.{full_share, SProp, all, ent, sep, wand, ◌⊑◌, Fun, usize, shows, mem, param}
+use Rattle.v_frame_plane.proofs.lent.Steps.{uint_vals, uint_Makes, RattleType, Valss, NamedLft, plain, named_lft, MutSlice, slice_ty}
+use Rattle.v_frame_plane.proofs.lent.Steps.{slice_val, nothing, owned, peeks, Stays, stay_ref, Ty, Tys, erased, mut}
+use Rattle.v_frame_plane.proofs.lent.Steps.{tcons, tnil, ty_int, ty_param, ty_ref, ty_struct, Val, Vals, vcons, vint, vnil, vstruct, Memory, Routine, Ura}
+use Rattle.v_frame_plane.proofs.lent.Steps.{Item, Seq, Step, step, ‵, raw, ◌⊛◌, prop, ◌$◌, ◌∵◌, !, qed, done, drop, feq_i, feq_l, fjoin, fjoin3, fpack}
 use Rattle.v_frame_plane.proofs.lent.Steps.{fpick, frame, fsplit, join, move, rewrite, split, suffices, use1, use2, Logic, sem, Body, Fml, feq, fsep, ftrue}
-use Rattle.v_frame_plane.proofs.lent.Steps.{AllOutlive, Shares, Lfts, Args, shape, within, mean, Triple, Callee, Place, Opd as Operand, call, seq, Calls, Env}
+use Rattle.v_frame_plane.proofs.lent.Steps.{Shares, Lfts, shape, within, mean, Triple, Callee, Place, Opd as Operand, call, seq, Calls, Env}
 use Rattle.v_frame_plane.proofs.lent.Steps.{Loops, FmC, Post, lands, runs, Opds, T, Fits, WT, has_ty}
-use Rattle.std.specs.contracts.option.Option as Opt
 use mir.Syntax.{Body as Code}
 use Rattle.v_frame_plane.specs.Cursor.{RowsAreWithin}
 use Rattle.v_frame_plane.specs.contracts.rows_mut.RowsMut.{struct, the_row, the_type}
 use Rattle.v_frame_plane.specs.contracts.rows_mut.RowsMut.next
 use Rattle.v_frame_plane.specs.declared.rows_mut.RowsMut.{RowsMut}
-use Rattle.v_frame_plane.proofs.lent.Loans.{Back, at_one, opens_self}
+use Rattle.v_frame_plane.proofs.lent.Loans.{Back, at_one}
 use Rattle.v_frame_plane.proofs.lent.Taken.{Slice, Take, Taken, asked, calls_take, word}
-use Rattle.v_frame_plane.proofs.rows_mut.RowsMut.TheLaws.{lowers}
 
 -- its numbers, where `start` and `count` are these, and it as a machine value
 abbrev pub Numbers : Tys
@@ -118,16 +116,6 @@ walk_owned 𝓛 a T old ok rest start count inside s c =
       (uint_vals w64 walk.start, (uint_vals w64 walk.width, (uint_vals w64 walk.gap, (uint_vals w64 walk.count, tt)))),
     ) $ done !
 
-module _ {M : Type 1} {𝓤 : Ura M} {𝓛 : Logic 𝓤} {K : Type 0} {Γ : List (Item 𝓤)} {G : Goal 𝓤 𝓛.H} where
-  -- its cell, what it owns, and the open borrow, in three
-  pub opens_walk : K → Soaks G → (a : NamedLft) (T : RattleType) → Laws T → (κ : Lft) (q : Share) (self : MutBor (RowsMut T.Denot)) → let Row =
-      the_row a (param 0 T) in let b = self.ref_ptr.0 in let o = self.ref_ptr.1 in let code = Row.coded.code self.now in
-      Step K 𝓛 (‵ (fat full_share Bare b o (lowered self.now)) ∷ ‵ (Row.own_val self.now (lowered self.now ∷ [])) ∷
-      ‵ (fobor κ q (Body (mem Row) b o self.ghost_name)) ∷ ‵ (fobs self.ghost_name code) ∷ ‵ (fauth self.ghost_name code) ∷ Γ) G
-      (‵ ((MutRef (named 0) κ Row).own_val self (mut_vals self)) ∷ ‵ (flft κ q) ∷ Γ) G
-  opens_walk t z a T laws κ q self =
-      opens_self t z (the_row a (param 0 T)) κ q self (lowered self.now ∷ []) ((lowers a (param 0 T) (param_laws 0 T laws)).val_is self.now)
-
 module _ {M : Type 1} {𝓤 : Ura M} {𝓛 : Logic 𝓤} {K : Type 0} {Γ : List (Item 𝓤)} {E : Env 𝓤 𝓛.H} {C : Calls 𝓤 𝓛.H} {Λ : Loops 𝓤 𝓛.H} {f : Callee} {xs :
     List Operand} {d : Place} {rest : Code} {p : Post 𝓤 𝓛.H} where
   -- `take` at its slice: the iterator with another slice in its field, the slice that it had, and the token
@@ -158,24 +146,10 @@ abbrev pub stayed : (T : RattleType) → Stays (next.ended T).signature.params (
 stayed T = (stay_ref (0 ∷ []) tt (plain (λ κs. the_row (named_lft 3 1 tt κs) (param 0 T))), tt)
 
 module _ {M : Type 1} {𝓤 : Ura M} {𝓛 : Logic 𝓤} {K : Type 0} {Γ : List (Item 𝓤)} where
-  pub exits : K → (vs : List Val) (here borrow : Fml) (κs : Lfts 3) (qs : Shares 3) (out : Fml) {P : SProp 𝓤}
-      → Step K 𝓛 Γ (prop P) (‵ here ∷ ‵ borrow ∷ ‵ (flft κs.0 qs.0) ∷ ‵ (flft κs.1.0 qs.1.0) ∷ ‵ (flft κs.1.1.0 qs.1.1.0) ∷ ‵ out ∷ Γ)
-      (prop (sep 𝓤 (mean 𝓛 ((‵ (flft κs.0 qs.0) ⊛ ‵ (flft κs.1.0 qs.1.0) ⊛ ‵ (flft κs.1.1.0 qs.1.1.0) ⊛ ‵ ftrue) ⊛
-      ‵ (fsep (fsep (feq (List Val) vs vs) (fsep here borrow)) ftrue) ⊛ ‵ out)) P))
-  exits t vs here borrow κs qs out = step (λ k.
+  -- `e` says what they are to show besides
+  pub exits : K → (vs : List Val) (κs : Lfts 3) (qs : Shares 3) {here borrow out : Fml} {P Q : SProp 𝓤} → ent 𝓤 (sep 𝓤 (mean 𝓛 ((‵ (flft κs.0 qs.0) ⊛
+      ‵ (flft κs.1.0 qs.1.0) ⊛ ‵ (flft κs.1.1.0 qs.1.1.0) ⊛ ‵ ftrue) ⊛ ‵ (fsep (fsep (feq (List Val) vs vs) (fsep here borrow)) ftrue) ⊛ ‵ out)) P) Q
+      → Step K 𝓛 Γ (prop P) (‵ here ∷ ‵ borrow ∷ ‵ (flft κs.0 qs.0) ∷ ‵ (flft κs.1.0 qs.1.0) ∷ ‵ (flft κs.1.1.0 qs.1.1.0) ∷ ‵ out ∷ Γ) (prop Q)
+  exits t vs κs qs e = step (λ k. suffices t _ e $
       feq_i t (List Val) vs vs refl $ fjoin3 t $ nothing t $ move t (1 ∷ 0 ∷ []) $ fjoin t $ move t (0 ∷ 4 ∷ []) $ join t $
       nothing t $ move t (4 ∷ 0 ∷ []) $ join t $ move t (3 ∷ 0 ∷ []) $ join t $ move t (2 ∷ 0 ∷ []) $ join t $ join t $ frame t $ k)
-
-  -- `next` and `next_back` end in self, the tokens, what is given and what the contract ensures
-  pub ends_draw : K → (T : RattleType) (c : Clauses 𝓤 (next.ended T)) (κs : Lfts 3) (qs : Shares 3) (bounds :
-      AllOutlive 3 (next.ended T).signature.outlives κs) (a : Args (next.ended T).signature κs) (g : (c κs a).ghost) (out : Val) (r :
-      Option (MutBor (List T.Denot))) (new : RowsMut T.Denot)
-      → let Row = the_row (named_lft 3 1 tt κs) (param 0 T) in let self = a.0 in
-      Step K 𝓛 Γ (prop ((c κs a).ensures g r (at_exit (next.ended T) κs a (new, tt))))
-      (‵ (fobs self.ghost_name (Row.coded.code new)) ∷ ‵ (fbor κs.0 (Body (mem Row) self.ref_ptr.0 self.ref_ptr.1 self.ghost_name)) ∷ ‵ (flft κs.0 qs.0) ∷
-      ‵ (flft κs.1.0 qs.1.0) ∷ ‵ (flft κs.1.1.0 qs.1.1.0)
-      ∷ ‵ ((Opt.the_row (MutSlice (named 1) κs.1.0 (param 0 T))).own_val r (out ∷ [])) ∷
-      Γ) (prop ((walk_of 𝓛 (next.ended T) (stayed T) c).post ((κs, qs, bounds, a, (mut_vals a.0, tt)), g) out))
-  ends_draw t T c κs qs bounds a g out r new = step (λ k.
-      suffices t _ (ends_at 𝓛 (next.ended T) (stayed T) c ((κs, qs, bounds, a, (mut_vals a.0, tt)), g) out r (new, tt) (tt, tt)) $
-      exits t (mut_vals a.0) _ _ κs qs _ $ k)

@@ -1,38 +1,37 @@
 -- `next` and `next_back` of an iterator that lends rows, of which `s` is the one end: the slice is cut where the row next to that end begins and where it ends,
 -- and what lies towards the other end is kept. A `&mut` in a field of self no generated proof follows, so this one follows the code. Assumes `Logic`.
-use Rattle.v_frame_plane.proofs.lent.Steps.{ℕ, ◌≡◌, ◌+◌, ◌-◌, ◌*◌, ◌^◌, ◌<◌, ◌≤◌, List, [], ◌∷◌, length, take, list_drop, Some, None, MutBor, lit<, w64, Val}
-use Rattle.v_frame_plane.proofs.lent.Steps.{fat, slice_val, vcons, vstruct, refl, ap, ◌∙◌, arith, length-drop, proved, Some-of, none_of, ⊤, MakesProgress}
-use Rattle.v_frame_plane.proofs.lent.Steps.{item_count, ftrue, full_share, emp, ent, sep, id⊢, SProp, Fun, ◌⊑◌, ⊑_trans, fact, fact_i, tables, param, MutRef}
-use Rattle.v_frame_plane.proofs.lent.Steps.{mut_vals, mut_Tells, plain, named_lft, MutSlice, usize, uint_vals, uint_Makes, closes, owned, nothing, heard, only}
-use Rattle.v_frame_plane.proofs.lent.Steps.{calls_at, framed, triple_of, Contract, Lasts, lasts, Goes-ref, walk_of, eqb→eq, named, mut, erased, of_list, vint}
-use Rattle.v_frame_plane.proofs.lent.Steps.{alloc_all, env, free_all, get, get_in, lands_as, look_at, look_in_at, pass_all, sets, through, ‵, raw, ◌⊛◌, some}
-use Rattle.v_frame_plane.proofs.lent.Steps.{later, at_ret, ◌$◌, !, await, done, drop, feq_l, fjoin, fsplit, join, keep, move, pick, split, use0, use1, use3}
-use Rattle.v_frame_plane.proofs.lent.Steps.{step, Step, Goal, Item, live, agg, look_in, sub, whole, addr, and_then, assigns, bin, branches, enter, exec, first}
-use Rattle.v_frame_plane.proofs.lent.Steps.{fld, from, hop, lit, load, no_more, of_opd, returns, returns_within, skips, stop, well_typed, sem, RattleType, Laws}
-use Rattle.v_frame_plane.proofs.lent.Steps.{Logic, Ura, Ty, Lft, Memory, Routine, slice_ty, tcons, tnil, ty_int, ty_param, ty_ref, ty_struct, MachineTables}
-use Rattle.v_frame_plane.proofs.lent.Steps.{Running, closing, Meets, Triple, Callee, Fn, Place, Opd as Operand, Sym, addr_of, aggregate, assign, call, cond}
-use Rattle.v_frame_plane.proofs.lent.Steps.{copy, deref, eq, field, int, local, op2, place, return, rv_opd, seq, skip, ttcons, ttnil, ty_bool, ty_enum}
-use Rattle.v_frame_plane.proofs.lent.Steps.{unsigned, value_local, w8, Model, Calls, Closed, Env, Loops, Spot, FmC, Post as After, flt_l, lands, regoal, runs}
-use Rattle.v_frame_plane.proofs.lent.Steps.{Finds, Opds, store_raw}
+use Rattle.v_frame_plane.proofs.lent.Steps.{ends_at, param_laws, ℕ, ◌≡◌, ◌+◌, ◌-◌, ◌*◌, ◌^◌, ◌<◌, List, [], ◌∷◌, length, Some, None}
+use Rattle.v_frame_plane.proofs.lent.Steps.{MutBor, lit<, w64, Val, fat, slice_val, vcons, vstruct, refl, ap, ◌∙◌, arith, length-drop, proved, Some-of, none_of}
+use Rattle.v_frame_plane.proofs.lent.Steps.{⊤, MakesProgress, item_count, ftrue, full_share, emp, id⊢, SProp, Fun, ◌⊑◌, ⊑_trans, fact, fact_i, tables}
+use Rattle.v_frame_plane.proofs.lent.Steps.{param, MutRef, mut_vals, mut_Tells, plain, named_lft, MutSlice, usize, uint_vals, uint_Makes, closes, owned}
+use Rattle.v_frame_plane.proofs.lent.Steps.{nothing, heard, only, calls_at, framed, triple_of, Contract, Lasts, lasts, Goes-ref, walk_of, eqb→eq, named, mut}
+use Rattle.v_frame_plane.proofs.lent.Steps.{erased, of_list, vint, alloc_all, env, free_all, get, get_in, lands_as, look_at, look_in_at, pass_all, sets}
+use Rattle.v_frame_plane.proofs.lent.Steps.{through, ‵, raw, ◌⊛◌, some, later, at_ret, ◌$◌, !, await, done, drop, feq_l, fjoin, fsplit, join, keep, move, pick}
+use Rattle.v_frame_plane.proofs.lent.Steps.{split, use0, use1, use3, step, Step, Goal, Item, live, agg, look_in, sub, whole, addr, and_then, assigns, bin}
+use Rattle.v_frame_plane.proofs.lent.Steps.{branches, enter, exec, first, fld, from, hop, lit, load, no_more, of_opd, returns, returns_within, skips, stop}
+use Rattle.v_frame_plane.proofs.lent.Steps.{well_typed, RattleType, Laws, Logic, Ura, Ty, Lft, Memory, Routine, slice_ty, tcons, tnil, ty_int, ty_param}
+use Rattle.v_frame_plane.proofs.lent.Steps.{ty_ref, ty_struct, MachineTables, Running, closing, Meets, Triple, Callee, Fn, Place, Opd as Operand, Sym, addr_of}
+use Rattle.v_frame_plane.proofs.lent.Steps.{aggregate, assign, call, cond, copy, deref, eq, field, int, local, op2, place, return, rv_opd, seq, skip, ttcons}
+use Rattle.v_frame_plane.proofs.lent.Steps.{ttnil, ty_bool, ty_enum, unsigned, value_local, w8, Model, Calls, Closed, Env, Loops, Spot, FmC, Post as After}
+use Rattle.v_frame_plane.proofs.lent.Steps.{flt_l, lands, regoal, runs, Finds, Opds, store_raw, subst, sym}
 use mir.Syntax.{Body, sub as minus}
 use types.Run.{Opd}
 use Rattle.std.specs.contracts.option.Option as Opt
-use Rattle.v_frame_plane.specs.Cursor.{RowsAreWithin}
+use Rattle.v_frame_plane.proofs.lent.RowMemory.{exits, Bare, Numbers, WellTyped, bare, count_at, count_fit, gap_at, gap_fit, lowered, numbers, slice_of}
+use Rattle.v_frame_plane.proofs.lent.RowMemory.{rest_fit, start_at, start_fit, stayed, takes_slice, walk_owned, width_at, width_fit}
 use Rattle.v_frame_plane.specs.RowsLeft.{rows_left}
 use Rattle.v_frame_plane.specs.SecondRows.{EndsAs}
 use Rattle.v_frame_plane.specs.contracts.rows_mut.RowsMut as rows_mut
 use Rattle.v_frame_plane.specs.contracts.rows_mut.RowsMut.next
 use Rattle.v_frame_plane.specs.contracts.rows_mut.row_place
-use Rattle.v_frame_plane.specs.declared.rows_mut.RowsMut.{RowsMut}
-use Rattle.v_frame_plane.proofs.lent.Cuts.{Joins, Split, dropped, splits, slice_fits, slices_fit}
-use Rattle.v_frame_plane.proofs.lent.Loans.{begins}
+use Rattle.v_frame_plane.proofs.lent.Cuts.{Split, dropped, splits, slice_fits, slices_fit}
+use Rattle.v_frame_plane.proofs.lent.Loans.{begins, opens_self}
 use Rattle.v_frame_plane.proofs.lent.PixelSides.{part, row_clauses}
-use Rattle.v_frame_plane.proofs.lent.RowDraws.{no_row, some_left, none_left, stays, moves_on, first_drawn, last_drawn, row_within, last_within, rest_within}
-use Rattle.v_frame_plane.proofs.lent.RowDraws.{front_within}
-use Rattle.v_frame_plane.proofs.lent.RowLoans.{keeps_rows, lends_first_row, lends_last_row}
-use Rattle.v_frame_plane.proofs.lent.RowMemory.{Bare, Numbers, WellTyped, bare, count_at, count_fit, ends_draw, gap_at, gap_fit, lowered, moved, numbers}
-use Rattle.v_frame_plane.proofs.lent.RowMemory.{opens_walk, slice_of, rest_fit, start_at, start_fit, stayed, takes_slice, walk_owned, width_at, width_fit}
+use Rattle.v_frame_plane.proofs.lent.RowDraws.{Cut, draws, inside, is_place, left, moves_on, no_row, none_left, number, number_fits, place_of, some_left}
+use Rattle.v_frame_plane.proofs.lent.RowDraws.{start_of, stays}
+use Rattle.v_frame_plane.proofs.lent.RowLoans.{leaves_none, leaves_row}
 use Rattle.v_frame_plane.proofs.lent.Sides.{Side, at_front, at_back, at_side, LendsRow, YieldsRow}
+use Rattle.v_frame_plane.proofs.rows_mut.RowsMut.TheLaws.{lowers}
 use Rattle.v_frame_plane.proofs.lent.Taken.{Take}
 
 -- the code, of the names that it has for what a call gives, for self and for two parts, of the types of self and of an entry, and of the functions that it calls
@@ -115,74 +114,9 @@ module _ {M : Type 1} {𝓤 : Ura M} {𝓛 : Logic 𝓤} {K : Type 0} {Γ : List
       await t tt $ pick t (λ r. split t $ split t $ drop t $ fsplit t $ feq_l t (λ e. flt_l t (λ _. pick t (λ ws. split t $ drop t $ heard t _ (λ is.
       regoal t (λ u. lands C Λ E d u rest p) (ap only e ∙ ap (vint w64) is) refl $ k)))))))
 
--- the numbers of a draw from this end, and what it takes of the slice: what lies in front of the row, what begins with it, the row, and what lies behind it
-module _ {X : Type 0} (s : Side) (old : RowsMut X) where
-  abbrev number : ℕ
-  number = at_side s 0 (old.count - 1)
-
-  abbrev place_of : ℕ
-  place_of = old.start + number * (old.width + old.gap)
-
-  abbrev start_of : ℕ
-  start_of = at_side s old.gap old.start
-
-inside : {X : Type 0} (s : Side) (old : RowsMut X) → 0 < old.count → place_of s old + old.width ≤ length old.rest.now
-inside at_front old more = omega (arith, row_within old more)
-inside at_back old more = last_within old more
-
-number_fits : {X : Type 0} (s : Side) (old : RowsMut X) → old.count < 2 ^ 64 → number s old < 2 ^ 64
-number_fits at_front old fits = omega arith
-number_fits at_back old fits = omega (arith, fits)
-
-module _ {X : Type 0} (old : RowsMut X) (before at row behind : MutBor (List X)) (more : 0 < old.count) where
-  record Cut (s : Side) : Type 0 where
-    before_is : before.now ≡ take (place_of s old) old.rest.now
-    at_is : at.now ≡ list_drop (place_of s old) old.rest.now
-    row_is : row.now ≡ take old.width at.now
-    behind_is : behind.now ≡ list_drop old.width at.now
-
-  abbrev begins_at : old.start + 0 * (old.width + old.gap) ≡ old.start
-  begins_at = omega arith
-
-  from_first : at.now ≡ list_drop (place_of at_front old) old.rest.now → at.now ≡ list_drop old.start old.rest.now
-  from_first is = is ∙ ap (λ n. list_drop n old.rest.now) begins_at
-
-  within_by : (s : Side) → Cut s → RowsAreWithin (start_of s old) old.width old.gap (old.count - 1) (length (at_side s behind before).now)
-  within_by at_front cut = rest_within old behind.now more (cut.behind_is ∙ ap (list_drop old.width) (from_first cut.at_is))
-  within_by at_back cut = front_within old before.now more cut.before_is
-
-  abbrev left : (s : Side) → Cut s → RowsMut X
-  left s cut = moved old (at_side s behind before) (start_of s old) (old.count - 1) (within_by s cut)
-
-  drawn_by : (s : Side) (cut : Cut s) → YieldsRow s old (Some row) (left s cut)
-  drawn_by at_front cut = first_drawn old (left at_front cut) row more refl refl refl refl (cut.row_is ∙ ap (take old.width) (from_first cut.at_is))
-      (cut.behind_is ∙ ap (list_drop old.width) (from_first cut.at_is))
-  drawn_by at_back cut = last_drawn old (left at_back cut) row more refl refl refl refl (cut.row_is ∙ ap (take old.width) cut.at_is) cut.before_is
-
-none_by : {X : Type 0} (s : Side) (old : RowsMut X) → old.count ≡ 0 → YieldsRow s old None old
-none_by at_front old none = none_left old none
-none_by at_back old none = none_left old none
-
 fits_by : {X : Type 0} (size : X → ℕ) (s : Side) {x y : X} → size x < 2 ^ 64 → size y < 2 ^ 64 → size (at_side s x y) < 2 ^ 64
 fits_by size at_front x y = x
 fits_by size at_back x y = y
-
-module _ {M : Type 1} {𝓤 : Ura M} (𝓛 : Logic 𝓤) (T : RattleType) (old : RowsMut T.Denot) where
-  leaves_none : (s : Side) → ent 𝓤 (emp 𝓤) (sem 𝓛 (LendsRow s T old None old))
-  leaves_none at_front = keeps_rows 𝓛 T old
-  leaves_none at_back = keeps_rows 𝓛 T old
-
-  leaves_row : (s : Side) (before at row behind : MutBor (List T.Denot)) (more : 0 < old.count) (cut : Cut old before at row behind more s) →
-      let other = at_side s before behind in
-      ent 𝓤 (sep 𝓤 (sem 𝓛 (EndsAs T other.ghost_name other.now)) (sep 𝓤 (sem 𝓛 (Joins T old.rest before at)) (sem 𝓛 (Joins T at row behind))))
-      (sem 𝓛 (LendsRow s T old (Some row) (left old before at row behind more s cut)))
-  leaves_row at_front before at row behind more cut =
-      lends_first_row 𝓛 T old (left old before at row behind more at_front cut) row before at (cut.before_is ∙ ap (λ n. take n old.rest.now)
-      (begins_at old before at row behind more)) (cut.behind_is ∙ ap (list_drop old.width) (from_first old before at row behind more cut.at_is))
-      refl refl refl refl more
-  leaves_row at_back before at row behind more cut =
-      lends_last_row 𝓛 T old (left old before at row behind more at_back cut) row at behind cut.before_is (cut.behind_is ∙ ap (list_drop old.width) cut.at_is)
-      refl refl refl refl more
 
 -- what code reads by side
 module _ {M : Type 1} {𝓤 : Ura M} {𝓛 : Logic 𝓤} {K : Type 0} {Γ : List (Item 𝓤)} {E : Env 𝓤 𝓛.H} where
@@ -218,10 +152,10 @@ module _ {M : Type 1} {𝓤 : Ura M} (𝓛 : Logic 𝓤) (𝓜 : Model 𝓤 𝓛
       let κ = κs.0 in let q = qs.0 in let κa = κs.1.0 in let qa = qs.1.0 in let κT = κs.1.1.0 in let qT = qs.1.1.0 in let aT = bounds.1.1.0 in
       let ℓ = named_lft 3 1 tt κs in let Row = rows_mut.the_row ℓ item in let Slice = MutSlice (named 1) κa item in
       let self = a.0 in let b = self.ref_ptr.0 in let o = self.ref_ptr.1 in let h = self.now in let rest = h.rest in
-      let Post = (walk_of 𝓛 (next.ended T) (stayed T) c).post ((κs, qs, bounds, a, (mut_vals self, tt)), g) in
+      let Walk = walk_of 𝓛 (next.ended T) (stayed T) c in let bound : Walk.Ghost = ((κs, qs, bounds, a, (mut_vals self, tt)), g) in let Post = Walk.post bound in
       begins 𝓛 κs qs ((MutRef (named 0) κ Row).own_val self (mut_vals self)) (κT ⊑ T.lives) (‵ ftrue) (λ inT. keep ! (0 ∷ 1 ∷ 2 ∷ 3 ∷ []) $
       let inA = ⊑_trans κa κT T.lives aT inT in
-      enter ! _ _ _ _ _ $ alloc_all ! (λ l. pass_all ! refl ((tt, tt), tt) $ opens_walk ! tt ℓ T laws κ q self $
+      enter ! _ _ _ _ _ $ alloc_all ! (λ l. pass_all ! refl ((tt, tt), tt) $ opens_self ! tt Row κ q self (lowered h ∷ []) ((lowers ℓ item (param_laws 0 T laws)).val_is h) $
       -- [self's cell; what it owns; the open borrow, in three; the tokens of κa and κT; the locals]
       well_typed ! (λ ok. let start_fits = start_fit h ok in let width_fits = width_fit h ok in let gap_fits = gap_fit h ok in let count_fits = count_fit h ok in
       sets ! (of_opd ! (load ! (through ! refl (fld ! refl (stop !))) (look_in ! 0 (sub ! start_at refl (whole !))))) refl (tt, start_fits) $
@@ -235,18 +169,18 @@ module _ {M : Type 1} {𝓤 : Ura M} (𝓛 : Logic 𝓤) (𝓜 : Model 𝓤 𝓛
       sets ! (agg ! (and_then ! (lit ! tt) (no_more !))) refl (tt, (record { fits = lit< tt }, tt)) $
       returns_within ! Post refl (look_at ! 0 refl) $ free_all ! refl $
       use0 𝓛 (‵ ((Opt.the_row Slice).own_val None (live 0 (of_list []) ∷ []))) (none_of 𝓛 Slice) $ move ! (1 ∷ 2 ∷ 3 ∷ 4 ∷ 5 ∷ []) $
-      ends_draw ! T c κs qs bounds a g (live 0 (of_list [])) None h $
+      exits ! (mut_vals self) κs qs (ends_at 𝓛 (next.ended T) (stayed T) c bound (live 0 (of_list [])) None (h, tt) (tt, tt)) $
       use0 𝓛 (raw (fact 𝓤 (MakesProgress (λ _. ⊤) (item_count rows_left) h (no_row h) h))) (fact_i 𝓤 _ (emp 𝓤) (stays h)) $
-      use0 𝓛 (raw (fact 𝓤 (YieldsRow s h None h))) (fact_i 𝓤 _ (emp 𝓤) (none_by s h (eqb→eq h.count 0 empty))) $ join ! $
-      use0 𝓛 (‵ (LendsRow s item h None h)) (leaves_none 𝓛 item h s) $ join ! $ done !)
-      (λ test. let more : 0 < h.count = some_left h.count test in let room = inside s h more in let here = place_of s h in
-      let fewer : h.count - 1 < 2 ^ 64 = omega (arith, count_fits.fits) in let place_fits : here < 2 ^ 64 = omega (arith, room, (rest_fit h ok).fits) in
+      use0 𝓛 (raw (fact 𝓤 (YieldsRow s h None h))) (fact_i 𝓤 _ (emp 𝓤) (none_left h s (eqb→eq h.count 0 empty))) $ join ! $
+      use0 𝓛 (‵ (LendsRow s item h None h)) (leaves_none 𝓛 item s h) $ join ! $ done !)
+      (λ test. let more : 0 < h.count = some_left h.count test in let room = inside h s more in let here = place_of s h in
+      let fewer : h.count - 1 < 2 ^ 64 = omega (arith, count_fits.fits) in let place_fits : here < 2 ^ 64 = omega (arith, room, (rest_fit h ok).fits) in let sum_fits = subst (λ n. n < 2 ^ 64) (sym (is_place h s)) place_fits in
       skips ! $ exec ! 𝓣.C 𝓣.Λ (env function.locals l) (drawn option self' pair kept entry s placing taking splitting) (at_ret _ Post) $
       sets ! (bin ! (get ! refl) (lit ! tt) more) refl (tt, record { fits = fewer }) $
       places ! run 𝓜.mem 𝓡.returns place_meets h.start h.width h.gap (number s h) start_fits.fits width_fits.fits gap_fits.fits
-      (number_fits s h count_fits.fits) h.within.stride place_fits (and_then ! (get ! refl) (and_then ! (get ! refl) (and_then ! (get ! refl) (and_then !
+      (number_fits h s count_fits.fits) h.within.stride sum_fits (and_then ! (get ! refl) (and_then ! (get ! refl) (and_then ! (get ! refl) (and_then !
       (opd_by s (λ e. vint w64 (number e h)) (lit ! tt) (get ! refl)) (no_more !))))) $
-      lands_as ! refl refl (tt, record { fits = place_fits }) $
+      lands_as ! (ap (vint w64) (is_place h s)) refl (tt, record { fits = place_fits }) $
       sets ! (addr ! (through ! refl (fld ! refl (stop !)))) refl (tt, tt) $
       move ! (0 ∷ 1 ∷ 5 ∷ []) $ takes_slice ! run 𝓜.mem 𝓡.returns T ℓ (take_meets κa inA) qa h b o (numbers h h.start h.count) inA
       (λ α γ. and_then ! (get ! refl) (no_more !)) (λ e rest_fits.
@@ -286,15 +220,14 @@ module _ {M : Type 1} {𝓤 : Ura M} (𝓛 : Logic 𝓤) (𝓜 : Model 𝓤 𝓛
       sets ! (agg ! (and_then ! (lit ! tt) (and_then ! (get ! refl) (no_more !)))) refl (tt, (record { fits = lit< tt }, ((tt, (record { fits = row_fits }, tt)), tt))) $
       move ! (2 ∷ 6 ∷ []) $ kept_first ! s (λ x. ‵ (Slice.own_val x (slice_of x ∷ []))) behind before $
       -- [what is kept; the other part; self's cell; the row; how the second part ends; the tokens of κa and κT; how the slice ends; the open borrow]
-      use1 𝓛 (‵ (Row.own_val new (lowered new ∷ []))) (walk_owned 𝓛 ℓ item h ok kept (start_of s h) (h.count - 1) (within_by h before at row behind more s cut)
-      start'_fits fewer) $
+      use1 𝓛 (‵ (Row.own_val new (lowered new ∷ []))) (walk_owned 𝓛 ℓ item h ok kept (start_of s h) (h.count - 1) new.within start'_fits fewer) $
       move ! (1 ∷ []) $ use1 𝓛 (‵ (EndsAs item other.ghost_name other.now)) (dropped 𝓛 item (named 0) κa other _) $
       move ! (2 ∷ 1 ∷ 8 ∷ 9 ∷ 10 ∷ []) $ closes ! tt Row new (lowered new ∷ []) b o $ returns ! (look_at ! 0 refl) $ free_all ! refl $
       -- [self, in two; the token of κ; how the other part ends; the row; how the second part ends; the tokens of κa and κT; how the slice ends]
-      move ! (3 ∷ 8 ∷ 5 ∷ []) $ use3 𝓛 (‵ (LendsRow s item h (Some row) new)) (leaves_row 𝓛 item h s before at row behind more cut) $
+      move ! (3 ∷ 8 ∷ 5 ∷ []) $ use3 𝓛 (‵ (LendsRow s item h (Some row) new)) (leaves_row 𝓛 item h before at row behind more s cut) $
       move ! (4 ∷ []) $ use1 𝓛 (‵ ((Opt.the_row Slice).own_val (Some row) (out ∷ []))) (Some-of 𝓛 Slice row part) $
       -- [the row, as it is given; what the call leaves; self, in two; the tokens]
-      move ! (2 ∷ 3 ∷ 4 ∷ 5 ∷ 6 ∷ 0 ∷ []) $ ends_draw ! T c κs qs bounds a g out (Some row) new $
-      use0 𝓛 (raw (fact 𝓤 (MakesProgress (λ _. ⊤) (item_count rows_left) h (Some row) new))) (fact_i 𝓤 _ (emp 𝓤) (moves_on h new row more refl refl refl)) $
-      use0 𝓛 (raw (fact 𝓤 (YieldsRow s h (Some row) new))) (fact_i 𝓤 _ (emp 𝓤) (drawn_by h before at row behind more s cut)) $ join ! $
+      move ! (2 ∷ 3 ∷ 4 ∷ 5 ∷ 6 ∷ 0 ∷ []) $ exits ! (mut_vals self) κs qs (ends_at 𝓛 (next.ended T) (stayed T) c bound out (Some row) (new, tt) (tt, tt)) $
+      use0 𝓛 (raw (fact 𝓤 (MakesProgress (λ _. ⊤) (item_count rows_left) h (Some row) new))) (fact_i 𝓤 _ (emp 𝓤) (moves_on h before at row behind more s cut)) $
+      use0 𝓛 (raw (fact 𝓤 (YieldsRow s h (Some row) new))) (fact_i 𝓤 _ (emp 𝓤) (draws h before at row behind more s cut)) $ join ! $
       move ! (1 ∷ 0 ∷ []) $ join ! $ done !))))))))
