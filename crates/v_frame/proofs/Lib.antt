@@ -14,3 +14,4 @@ pub mod PutBack
 pub mod Replays
 pub mod SharedItems
 pub mod Steps
+pub mod Writes

@@ -1,7 +1,8 @@
 -- An `Option` by value, in a proof by hand: the proof goes on for each variant. by_ref is for an `Option` of a `&mut`. Assumes `Logic`.
 use Rattle.v_frame_plane.proofs.lent.Steps.{Lft, MutBor, MutRef, mut_vals, peeks, rewrite, shows, ◌≡◌, List, [], ◌∷◌, Option, Some, None, refl, ap, ◌∙◌}
 use Rattle.v_frame_plane.proofs.lent.Steps.{RattleType, only, Val, of_list, Ura, Goal, Item, Seq, ‵, ◌$◌, drop, feq_l, fpick, fsplit, live, move, Logic}
-use Rattle.std.proofs.Common.{append-nil}
+use Rattle.std.proofs.Common.{append-nil, subst}
+use denote.Laws.{Is}
 use mir.Syntax.{Lifetime}
 use Rattle.std.specs.contracts.option.Option as Opt
 
@@ -20,3 +21,11 @@ module _ {M : Type 1} {𝓤 : Ura M} {𝓛 : Logic 𝓤} {K : Type 0} {Γ : List
       → Seq K 𝓛 (‵ ((Opt.the_row (MutRef ℓ κ X)).own_val r (v ∷ [])) ∷ Γ) G
   by_ref t ℓ κ X r v none some = by_option t (MutRef ℓ κ X) r v none (λ x vs is e. peeks t (MutRef ℓ κ X) _ (shows 𝓛 (MutRef ℓ κ X)) x vs (λ at.
       rewrite t 0 (λ (us : List Val). ‵ ((MutRef ℓ κ X).own_val x us)) at.0 refl $ some x is (e ∙ ap (λ (us : List Val). live 1 (of_list us)) at.0)))
+
+  -- of a type whose machine value its value tells
+  pub by_told : K → (X : RattleType) (lowered : X.Denot → Val) → ((x : X.Denot) (vs : List Val) → Is X x vs → vs ≡ lowered x ∷ []) → (r : Option X.Denot) (v :
+      Val) → (r ≡ None → v ≡ live 0 (of_list []) → Seq K 𝓛 Γ G)
+      → ((x : X.Denot) → r ≡ Some x → v ≡ live 1 (of_list (lowered x ∷ [])) → Is X x (lowered x ∷ []) → Seq K 𝓛 (‵ (X.own_val x (lowered x ∷ [])) ∷ Γ) G)
+      → Seq K 𝓛 (‵ ((Opt.the_row X).own_val r (v ∷ [])) ∷ Γ) G
+  by_told t X lowered told r v none some = by_option t X r v none (λ x vs is e. peeks t X _ (shows 𝓛 X) x vs (λ at. let same = told x vs at in
+      rewrite t 0 (λ (us : List Val). ‵ (X.own_val x us)) same refl $ some x is (e ∙ ap (λ (us : List Val). live 1 (of_list us)) same) (subst (Is X x) same at)))

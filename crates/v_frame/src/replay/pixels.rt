@@ -63,7 +63,7 @@ fn write_pixels<T: Copy>(plane: &mut Plane<T>, draws: &[PixelDraw<T>])
 }
 
 /// One call of `next` or `next_back`, and the write where it gives a pixel.
-fn write_pixel<T: Copy>(walk: &mut PixelsMut<'_, T>, draw: &PixelDraw<T>)
+pub(crate) fn write_pixel<T: Copy>(walk: &mut PixelsMut<'_, T>, draw: &PixelDraw<T>)
     ensures* leaves { sem 𝓛 (PutsPixelsBack T.row (draw.now ∷ []) walk.old walk.new) }
     ensures left { pixels_left walk.new ≡ left_by draw.now.side (pixels_left walk.old) }
 {
@@ -77,7 +77,7 @@ fn write_pixel<T: Copy>(walk: &mut PixelsMut<'_, T>, draw: &PixelDraw<T>)
 }
 
 /// Replaces a pixel by the value of `draw`, where it has one.
-fn replace_by<T: Copy>(pixel: &mut T, draw: &PixelDraw<T>)
+pub(crate) fn replace_by<T: Copy>(pixel: &mut T, draw: &PixelDraw<T>)
     ensures { pixel.new ≡ pixel_written draw.now pixel.old }
 {
     if let Some(value) = draw.value {

@@ -83,7 +83,7 @@ fn write_rows<T: Copy>(plane: &mut Plane<T>, draws: &[RowDraw<T>])
 }
 
 /// One call of `next` or `next_back`, and the write where it gives a row.
-fn write_row<T: Copy>(walk: &mut RowsMut<'_, T>, draw: &RowDraw<T>)
+pub(crate) fn write_row<T: Copy>(walk: &mut RowsMut<'_, T>, draw: &RowDraw<T>)
     ensures* leaves { sem 𝓛 (PutsRowsBack T.row (draw.now ∷ []) walk.old walk.new) }
     ensures left { rows_left walk.new ≡ left_by draw.now.side (rows_left walk.old) }
 {
@@ -97,7 +97,7 @@ fn write_row<T: Copy>(walk: &mut RowsMut<'_, T>, draw: &RowDraw<T>)
 }
 
 /// Overwrites a row by the writes of `draw`.
-fn overwrite_by<T: Copy>(row: &mut [T], draw: &RowDraw<T>)
+pub(crate) fn overwrite_by<T: Copy>(row: &mut [T], draw: &RowDraw<T>)
     ensures { row.new ≡ row_written draw.now row.old }
 {
     overwrite(row, draw.writes.as_slice());

@@ -1,34 +1,7 @@
--- `write_row` draws from a side, and where there is a row, overwrites it. Rattle learns nothing of what a call says of held rows, so this proof follows the
--- code. Assumes `Logic`.
-use Rattle.v_frame.proofs.Steps.{Bound, Exits, Goes-dropped, Goes-gave_ref, Item, List, MutBor, MutSlice, Option, RefOf, SProp, ShrRef, Sq, Stays, Val, Wp}
-use Rattle.v_frame.proofs.Steps.{a_type, addr, after, after_seq, agg, alloc_all, and_then, any_q, ap, arm_body, at_ret, at_return, bounded, copied, dcons}
-use Rattle.v_frame.proofs.Steps.{dnil, done, enter, env, exec, fact, feq_i, feq_l, finally-res, first, fld, flft, forget_but, framed, free_all, from, front}
-use Rattle.v_frame.proofs.Steps.{fsplit, ftrue, gave_ref, get, get_in, get_tag, heard, holding, hop, id⊢, in_variant, inst_fn, is, keep, lands_as}
-use Rattle.v_frame.proofs.Steps.{lands_last, lit<, look_at, look_in_at, move, mut_Tells, mut_vals, named, named_lft, no_more, nothing, of_opd}
-use Rattle.v_frame.proofs.Steps.{option_copied_mut, option_laws, option_row, param, param_laws, pass_all, peeks, plain, prop, proved, raw, refl, returns}
-use Rattle.v_frame.proofs.Steps.{rewrite, runs, says, sets, shows, shr_Tells, shr_vals, skips, stay_dropped, stop, sub, switches_on, sym, tables, through}
-use Rattle.v_frame.proofs.Steps.{unit_lit, use1, use2, vptr, vrt, vunit, walk_of, whole, yes, ℕ, !, [], ‵, ◌$◌, ◌∙◌, ◌∷◌, ◌≡◌, ◌⊑◌}
-use Rattle.v_frame_plane.specs.RowsLeft.{rows_left}
-use Rattle.v_frame_plane.specs.SecondRows.{EndsAs}
-use Rattle.v_frame_plane.specs.contracts.rows_mut.RowsMut as rows_mut
-use Rattle.v_frame_plane.specs.contracts.rows_mut.RowsMut.next
-use Rattle.v_frame_plane.specs.contracts.rows_mut.RowsMut.next_back
-use Rattle.v_frame_plane.specs.declared.rows_mut.RowsMut.{RowsMut}
-use Rattle.v_frame_plane.proofs.lent.RowCalls.{by_row}
-use Rattle.v_frame_plane.proofs.lent.RowMemory.{slice_of}
-use Rattle.v_frame_plane.proofs.lent.Taken.{slice_laws}
+-- `write_row` draws from a side, and where there is a row, overwrites it.
 use Rattle.v_frame_plane.proofs.rows_mut.RowsMut.next.Met as next_met
 use Rattle.v_frame_plane.proofs.rows_mut.RowsMut.next_back.Met as next_back_met
-use Rattle.v_frame.specs.DrawnItems.{PutsRowsBack}
-use Rattle.v_frame.specs.Walk.{left_by, row_written}
-use Rattle.v_frame.specs.contracts.replay.draw.RowDraw as row_draw
-use Rattle.v_frame.specs.contracts.replay.draw.RowDrawDraw.side
-use Rattle.v_frame.specs.contracts.replay.rows.overwrite_by
-use Rattle.v_frame.specs.contracts.replay.rows.write_row
-use Rattle.v_frame.proofs.CallSteps.{asks_that, calls, calls_last, ends, opened, read_twice, tokens, unit_fits}
-use Rattle.v_frame.proofs.Drawing.{LendsRowFrom, Draws, Gave, by_side, from_back, from_front}
-use Rattle.v_frame.proofs.PutBack.{no_row_taken, row_taken}
-use Rattle.v_frame.proofs.replay.draw.RowDraw.TheLaws as draw_laws
+use Rattle.v_frame.proofs.Writes.{of_rows, item_written}
 use Rattle.v_frame.proofs.replay.draw.RowDrawDraw.side.Met as side_met
 use Rattle.v_frame.proofs.replay.rows.overwrite_by.Met as overwrite_by_met
 use Rattle.v_frame.proofs.replay.rows.write_row.Statement.{statement}
@@ -36,97 +9,9 @@ use Rattle.v_frame.proofs.replay.rows.write_row.Code as code
 
 pub write_row_spec : {M : Type 1} → statement M
 write_row_spec 𝓤 𝓛 𝓜 𝓡 wired T laws copy clone dict bound =
-    let item = param 0 T in let args = bounded (a_type ∷ []) (T, tt) (dcons dict dnil) in let function = inst_fn args code.function in
-    let En₀ = write_row.ended T clone dict in let c = write_row.clauses T clone dict 𝓛 𝓜.mem 𝓡.returns in
-    let Kept = plain (λ κs. rows_mut.the_row (named_lft 4 1 tt κs) (copied 0 T)) in
-    let Lent = RefOf (2 ∷ []) tt (plain (λ _. row_draw.the_row (copied 0 T))) (λ κs. tt) in
-    let stayed : Stays En₀.signature.params En₀.kept = (gave_ref (0 ∷ []) tt Kept, (stay_dropped Lent yes, tt)) in
-    proved 𝓛 En₀ stayed c 𝓜 𝓡 (Goes-gave_ref 𝓛 4 0 tt Kept, (Goes-dropped 𝓛 4 Lent yes (λ κs x w. refl), tt))
-    (write_row.Key.name args) function (code.unfolded 𝓤 𝓛.H 𝓜 𝓡 wired (T, tt) dict)
-    (λ κs. (mut_vals, (shr_vals, tt))) (λ κs. (
-      mut_Tells (named 0) κs.0 (rows_mut.the_row (named_lft 4 1 tt κs) (copied 0 T)),
-      (shr_Tells (named 2) κs.1.1.0 (row_draw.the_row (copied 0 T)), tt),
-    )) (λ κs qs bounds a g are.
-    let κ = κs.0 in let q = qs.0 in let κa = κs.1.0 in let qa = qs.1.0 in let κd = κs.1.1.0 in let qd = qs.1.1.0 in let κT = κs.1.1.1.0 in let qT =
-    qs.1.1.1.0 in
-    let 𝓣 = tables 𝓤 𝓛.H 𝓜 𝓡 𝓡.env in let run = framed 𝓤 𝓛.H 𝓜 𝓣 in let W = walk_of 𝓛 En₀ stayed c in
-    let Slice = MutSlice (named 1) κa item in let Given = option_row Slice in let Draw = ShrRef (named 2) κd (row_draw.the_row item) in
-    let self = a.0 in let draw = a.1.0 in let h = self.now in let d = draw.now in
-    let y : W.Ghost = ((κs, qs, bounds, a, (mut_vals self, (shr_vals draw, tt))), tt) in let Post : Val → SProp 𝓤 = W.post y in
-    let Left : RowsMut T.Denot → Item 𝓤 = λ new. ‵ (stayed.0.has κs self new (mut_vals self)) in
-    -- it ends so, with a row or with none
-    let finish : (new : RowsMut T.Denot) → rows_left new ≡ left_by d.side (rows_left h) → Sq 𝓛 (‵ (PutsRowsBack item (d ∷ []) h new) ∷
-    tokens 4 κs qs (Left new ∷ [])) (prop (Post vunit)) = λ new left.
-    nothing ! $ feq_i ! (List Val) (vunit ∷ []) (vunit ∷ []) refl $
-    ends ! (3 ∷ 4 ∷ 5 ∷ 6 ∷ 7 ∷ 1 ∷ 0 ∷ []) En₀ stayed c y vunit tt (new, (tt, tt)) (tt, (tt, tt)) refl $ says ! left $ done ! in
-    opened 𝓛 En₀.signature κs qs a (mut_vals self, (shr_vals draw, tt)) (κT ⊑ T.lives) (λ inT.
-    -- [the tokens of κ, κa, κd and κT; self; the draw]
-    move ! (5 ∷ []) $ read_twice ! (named 2) κd (row_draw.the_row item) (draw_laws.the_row_laws item (param_laws 0 T laws)).shr_laws draw $
-    enter ! _ _ _ _ _ $ alloc_all ! (λ l. pass_all ! refl ((tt, tt), ((tt, tt), tt)) $ let En = env function.locals l in
-    let Then : ℕ → Exits 𝓤 𝓛.H = λ n. any_q (after_seq 𝓤 𝓛.H (Wp 𝓤 𝓛.H 𝓣.C 𝓣.Λ En (after n function.body) (at_return 𝓤 𝓛.H En Post))
-    (at_return 𝓤 𝓛.H En Post)) in
-    -- what is done with the row, once it is drawn: [the row; what is lent; the tokens of κ, κa and κT; how the iterator ends; the token of κd; nothing; the
-    -- draw]
-    let Drawn : Val → Option (MutBor (List T.Denot)) → RowsMut T.Denot → List (Item 𝓤) = λ v r new. ‵ (Given.own_val r (v ∷ [])) ∷
-    ‵ (LendsRowFrom item d.side h r new) ∷ ‵ (flft κ q) ∷ ‵ (flft κa qa) ∷ ‵ (flft κT qT) ∷ Left new ∷ ‵ (flft κd qd) ∷ ‵ ftrue ∷
-    ‵ (Draw.own_val draw (shr_vals draw)) ∷
-    holding 𝓛 En ((1, vptr self.ref_ptr.0 self.ref_ptr.1) ∷ (2, vptr draw.ref_ptr.0 draw.ref_ptr.1) ∷ (6, v) ∷ []) in
-    let writes : (v : Val) (r : Option (MutBor (List T.Denot))) (new : RowsMut T.Denot) → Gave 𝓛 rows_left (LendsRowFrom item) h d.side r new →
-    Sq 𝓛 (Drawn v r new) (runs 𝓣.C 𝓣.Λ En (after 2 function.body) (at_ret En Post)) = λ v r new gave.
-    by_row ! T κa r v (λ is_none e.
-    sets ! (is ! (of_opd ! (get ! refl)) e) refl (tt, (record { fits = lit< tt }, tt)) $ first ! $
-    switches_on ! (get_tag ! (vrt ! refl (fld ! refl (stop !))) (whole !)) $ exec ! 𝓣.C 𝓣.Λ En (arm_body 1 (front (after 3 function.body))) (Then 4) $
-    skips ! $ exec ! 𝓣.C 𝓣.Λ En (after 4 function.body) (at_ret En Post) $
-    sets ! (of_opd ! (unit_lit !)) refl (tt, tt) $ returns ! (look_at ! 0 refl) $ free_all ! refl $
-    rewrite ! 0 (λ (o : Option (MutBor (List T.Denot))). ‵ (LendsRowFrom item d.side h o new)) is_none refl $
-    use1 𝓛 (‵ (PutsRowsBack item (d ∷ []) h new)) (no_row_taken 𝓛 item h new d.side (row_written d) (sym (ap option_copied_mut (sym is_none) ∙ gave.0))) $
-    keep ! (0 ∷ 1 ∷ 2 ∷ 5 ∷ 3 ∷ 4 ∷ []) $ finish new gave.1) (λ row is_row e fits.
-    sets ! (is ! (of_opd ! (get ! refl)) e) refl (tt, (record { fits = lit< tt }, ((tt, (record { fits = fits }, tt)), tt))) $ first ! $
-    switches_on ! (get_tag ! (vrt ! refl (fld ! refl (stop !))) (whole !)) $ exec ! 𝓣.C 𝓣.Λ En (arm_body 0 (front (after 3 function.body))) (Then 4) $
-    sets ! (of_opd ! (get_in ! (vrt ! refl (fld ! refl (stop !))) (in_variant ! 1 0 refl refl (whole !)))) refl (tt, (tt, (record { fits = fits }, tt))) $
-    sets ! (addr ! (from ! (fld ! refl (hop ! (look_in_at ! 4 (sub ! 0 refl (whole !))) (stop !))))) refl (tt, tt) $
-    sets ! (agg ! (and_then ! (get ! refl) (and_then ! (get_in ! (fld ! refl (stop !)) (sub ! 1 refl (whole !))) (no_more !)))) refl
-    (tt, (tt, (record { fits = fits }, tt))) $
-    calls_last ! (3 ∷ 6 ∷ 4 ∷ 0 ∷ 8 ∷ []) run (overwrite_by.ended T clone dict) (overwrite_by.clauses T clone dict 𝓛 𝓜.mem 𝓡.returns)
-    (overwrite_by_met.met 𝓤 𝓛 𝓜 𝓡 (code.calls-v_frame::replay::rows::overwrite_by 𝓡.env wired) T laws copy clone dict bound)
-    (((κa, (κd, (κT, tt))), (qa, (qd, (qT, tt))), (bounds.1.1.0, (bounds.1.1.1.0, tt)), (row, (draw, tt)), (slice_of row ∷ [], (shr_vals draw, tt))), tt)
-    (asks_that 𝓤 inT) refl
-    (and_then ! (get ! refl) (and_then ! (get ! refl) (no_more !))) (λ o last. raw (fact 𝓤 (last.0 ≡ row_written d row.now)) ∷ []) (λ o last. id⊢ 𝓤 _)
-    (λ w o last. feq_l ! (λ is_unit. heard ! _ (λ written.
-    lands_last ! refl (unit_fits is_unit) $
-    exec ! 𝓣.C 𝓣.Λ En (after 4 function.body) (at_ret En Post) $
-    sets ! (of_opd ! (unit_lit !)) refl (tt, tt) $ returns ! (look_at ! 0 refl) $ free_all ! refl $
-    -- [the tokens of κa, κd and κT; how the row ends; nothing; what is lent; the token of κ; how the iterator ends; nothing]
-    move ! (3 ∷ []) $ fsplit ! $ fsplit ! $ use1 𝓛 (‵ (EndsAs item row.ghost_name last.0)) (finally-res 𝓛 item row.ghost_name last.0) $
-    rewrite ! 0 (λ (xs : List T.Denot). ‵ (EndsAs item row.ghost_name xs)) written refl $
-    rewrite ! 7 (λ (o : Option (MutBor (List T.Denot))). ‵ (LendsRowFrom item d.side h o new)) is_row refl $ move ! (0 ∷ 7 ∷ []) $
-    use2 𝓛 (‵ (PutsRowsBack item (d ∷ []) h new)) (row_taken 𝓛 item h new d.side (row_written d) row (sym (ap option_copied_mut (sym is_row) ∙ gave.0))) $
-    keep ! (0 ∷ 7 ∷ 3 ∷ 4 ∷ 5 ∷ 8 ∷ []) $ finish new gave.1)))) in
-    -- [the draw, twice; the tokens of κ, κa, κd and κT; self; the locals]
-    calls ! (4 ∷ 5 ∷ 0 ∷ []) run (side.ended T) (side.clauses T 𝓛 𝓜.mem 𝓡.returns)
+    item_written 𝓛 𝓜 𝓡 T laws clone dict _ _ _ _ _ _ _ _ _ _ _ of_rows _
     (side_met.met 𝓤 𝓛 𝓜 𝓡 (code.calls-v_frame::replay::draw::RowDrawDraw::side 𝓡.env wired) T laws)
-    (((κd, (κT, tt)), (qd, (qT, tt)), (bounds.1.1.1.0, tt), (draw, tt), (shr_vals draw, tt)), tt) (asks_that 𝓤 inT) refl
-    (and_then ! (get ! refl) (no_more !)) (λ s ws. raw (fact 𝓤 (s ≡ d.side)) ∷ []) (λ s ws. id⊢ 𝓤 _) (λ u s ws.
-    move ! (1 ∷ []) $ heard ! _ (λ is_side.
-    -- [the side; the tokens of κd and κT; nothing; the draw; the tokens of κ and κa; self; the locals]
-    let typing = (option_laws Slice (slice_laws T κa laws)).lawful 𝓛 in
-    let its : Bound 𝓛 (next.signature T) =
-    ((κ, (κa, (κT, tt))), (q, (qa, (qT, tt))), (bounds.0, (bounds.1.0, (bounds.1.1.0, tt))), (self, tt), (mut_vals self, tt)) in
-    by_side ! s u (λ is_front e. lands_as ! e refl (tt, (record { fits = lit< tt }, tt)) $ first ! $
-    switches_on ! (get_tag ! (vrt ! refl (fld ! refl (stop !))) (whole !)) $ exec ! 𝓣.C 𝓣.Λ En (arm_body 0 (front (after 1 function.body))) (Then 2) $
-    sets ! (addr ! (through ! refl (stop !))) refl (tt, tt) $
-    calls_last ! (4 ∷ 5 ∷ 1 ∷ 6 ∷ []) run (next.ended T) (next.clauses T 𝓛 𝓜.mem 𝓡.returns)
-    (next_met.met 𝓤 𝓛 𝓜 𝓡 (code.calls-v_frame_plane::rows_mut::RowsMut::next 𝓡.env wired) T laws) (its, tt) (asks_that 𝓤 inT) refl
-    (and_then ! (get ! refl) (no_more !)) (λ r ws. Draws 𝓛 rows_left (LendsRowFrom item) h d.side r ws.0)
-    (λ r ws. from_front 𝓛 rows_left (LendsRowFrom item) h d.side r ws.0 (sym is_side ∙ is_front)) (λ v r ws.
-    peeks ! Given _ (shows 𝓛 Given) r (v ∷ []) (λ fits. move ! (2 ∷ []) $ heard ! _ (λ gave. lands_last ! refl (typing.typed r (v ∷ []) fits).0 $
-    exec ! 𝓣.C 𝓣.Λ En (after 2 function.body) (at_ret En Post) $ forget_but ! En (1 ∷ 2 ∷ 6 ∷ []) refl $ writes v r ws.0 gave))))
-    (λ is_back e. lands_as ! e refl (tt, (record { fits = lit< tt }, tt)) $ first ! $
-    switches_on ! (get_tag ! (vrt ! refl (fld ! refl (stop !))) (whole !)) $ exec ! 𝓣.C 𝓣.Λ En (arm_body 1 (front (after 1 function.body))) (Then 2) $
-    sets ! (addr ! (through ! refl (stop !))) refl (tt, tt) $
-    calls_last ! (4 ∷ 5 ∷ 1 ∷ 6 ∷ []) run (next_back.ended T) (next_back.clauses T 𝓛 𝓜.mem 𝓡.returns)
-    (next_back_met.met 𝓤 𝓛 𝓜 𝓡 (code.calls-v_frame_plane::rows_mut::RowsMut::next_back 𝓡.env wired) T laws) (its, tt) (asks_that 𝓤 inT) refl
-    (and_then ! (get ! refl) (no_more !)) (λ r ws. Draws 𝓛 rows_left (LendsRowFrom item) h d.side r ws.0)
-    (λ r ws. from_back 𝓛 rows_left (LendsRowFrom item) h d.side r ws.0 (sym is_side ∙ is_back)) (λ v r ws.
-    peeks ! Given _ (shows 𝓛 Given) r (v ∷ []) (λ fits. move ! (2 ∷ []) $ heard ! _ (λ gave. lands_last ! refl (typing.typed r (v ∷ []) fits).0 $
-    exec ! 𝓣.C 𝓣.Λ En (after 2 function.body) (at_ret En Post) $ forget_but ! En (1 ∷ 2 ∷ 6 ∷ []) refl $ writes v r ws.0 gave)))))))))
+    (next_met.met 𝓤 𝓛 𝓜 𝓡 (code.calls-v_frame_plane::rows_mut::RowsMut::next 𝓡.env wired) T laws)
+    (next_back_met.met 𝓤 𝓛 𝓜 𝓡 (code.calls-v_frame_plane::rows_mut::RowsMut::next_back 𝓡.env wired) T laws)
+    (overwrite_by_met.met 𝓤 𝓛 𝓜 𝓡 (code.calls-v_frame::replay::rows::overwrite_by 𝓡.env wired) T laws copy clone dict bound)
+    (code.unfolded 𝓤 𝓛.H 𝓜 𝓡 wired (T, tt) dict)
