@@ -108,25 +108,26 @@ pub record PixelsBegin {X : Type 0} (plane : Raster X) (walk : PixelsMut X) : Ty
   pub pixels : pixels_left walk ≡ row_major (table_of plane)
   pub begins : BeginsOver plane walk
 
-module _ {M : Type 1} {𝓤 : Ura M} (𝓛 : Logic 𝓤) (T : RattleType) (loan : MutBor (Raster T.Denot)) where
+module _ {M : Type 1} {𝓤 : Ura M} (T : RattleType) (loan : MutBor (Raster T.Denot)) where
   -- what the calls say
-  abbrev RowsSaid : RowsMut T.Denot → Item 𝓤
+  abbrev pub RowsSaid : RowsMut T.Denot → Item 𝓤
   RowsSaid walk = ‵ (LendsBuffer (param 0 T) loan (rows_slice walk)) ⊛ raw (fact 𝓤 ((rows_slice walk).now ≡ loan.now.buffer)) ⊛
       raw (fact 𝓤 (rows_left walk ≡ table_of loan.now)) ⊛ raw (fact 𝓤 (WritesEachTable loan.now walk)) ⊛
       raw (fact 𝓤 (All (λ row. length row ≡ loan.now.geometry.width) (rows_left walk))) ⊛ raw (fact 𝓤 (PixelsAreCountable [] (rows_left walk) [])) ⊛
       raw (fact 𝓤 (length (rows_left walk) < 2 ^ 63)) ⊛ raw (fact 𝓤 (LendsRowsInOrder T.Denot)) ⊛ raw (fact 𝓤 (LendsRowsInReverse T.Denot))
 
-  abbrev PixelsSaid : PixelsMut T.Denot → Item 𝓤
+  abbrev pub PixelsSaid : PixelsMut T.Denot → Item 𝓤
   PixelsSaid walk = ‵ (LendsBuffer (param 0 T) loan (pixels_slice walk)) ⊛ raw (fact 𝓤 ((pixels_slice walk).now ≡ loan.now.buffer)) ⊛
       raw (fact 𝓤 (pixels_left walk ≡ row_major (table_of loan.now))) ⊛ raw (fact 𝓤 (BeginsOver loan.now walk)) ⊛
       raw (fact 𝓤 (length (pixels_left walk) < 2 ^ 63)) ⊛ raw (fact 𝓤 (LendsPixelsInOrder T.Denot)) ⊛ raw (fact 𝓤 (LendsPixelsInReverse T.Denot))
 
-  pub rows_begin : (walk : RowsMut T.Denot) → ent 𝓤 (mean 𝓛 (RowsSaid walk)) (sep 𝓤 (sem 𝓛 (LendsBuffer (param 0 T) loan (rows_slice walk)))
+module _ {M : Type 1} {𝓤 : Ura M} (𝓛 : Logic 𝓤) (T : RattleType) (loan : MutBor (Raster T.Denot)) where
+  pub rows_begin : (walk : RowsMut T.Denot) → ent 𝓤 (mean 𝓛 (RowsSaid T loan walk)) (sep 𝓤 (sem 𝓛 (LendsBuffer (param 0 T) loan (rows_slice walk)))
       (fact 𝓤 (RowsBegin loan.now walk)))
-  rows_begin walk = qed 𝓛 (RowsSaid walk ∷ []) ∵ split ! $ frame ! $ split ! $ drop ! $ split ! $ heard ! _ (λ rows. split ! $ heard ! _ (λ written. split ! $
+  rows_begin walk = qed 𝓛 (RowsSaid T loan walk ∷ []) ∵ split ! $ frame ! $ split ! $ drop ! $ split ! $ heard ! _ (λ rows. split ! $ heard ! _ (λ written. split ! $
       heard ! _ (λ wide. told ! (record { rows = rows; written = written; wide = wide }))))
 
-  pub pixels_begin : (walk : PixelsMut T.Denot) → ent 𝓤 (mean 𝓛 (PixelsSaid walk)) (sep 𝓤 (sem 𝓛 (LendsBuffer (param 0 T) loan (pixels_slice walk)))
+  pub pixels_begin : (walk : PixelsMut T.Denot) → ent 𝓤 (mean 𝓛 (PixelsSaid T loan walk)) (sep 𝓤 (sem 𝓛 (LendsBuffer (param 0 T) loan (pixels_slice walk)))
       (fact 𝓤 (PixelsBegin loan.now walk)))
-  pixels_begin walk = qed 𝓛 (PixelsSaid walk ∷ []) ∵ split ! $ frame ! $ split ! $ drop ! $ split ! $ heard ! _ (λ pixels. split ! $ heard ! _ (λ begins.
+  pixels_begin walk = qed 𝓛 (PixelsSaid T loan walk ∷ []) ∵ split ! $ frame ! $ split ! $ drop ! $ split ! $ heard ! _ (λ pixels. split ! $ heard ! _ (λ begins.
       told ! (record { pixels = pixels; begins = begins })))

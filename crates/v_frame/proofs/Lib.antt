@@ -14,4 +14,5 @@ pub mod PutBack
 pub mod Replays
 pub mod SharedItems
 pub mod Steps
+pub mod WriteItems
 pub mod Writes

@@ -52,7 +52,7 @@ pub(crate) fn replay_pixels_mut<T: Pixel>(
 }
 
 /// Replaces the pixels that `draws` take. Past the last pixel nothing is written.
-fn write_pixels<T: Copy>(plane: &mut Plane<T>, draws: &[PixelDraw<T>])
+pub(crate) fn write_pixels<T: Copy>(plane: &mut Plane<T>, draws: &[PixelDraw<T>])
     ensures table { table_of plane.new ≡ pixels_written (table_of plane.old) draws.now }
     ensures border { KeepsBorder plane.old plane.new }
 {

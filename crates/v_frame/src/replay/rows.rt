@@ -72,7 +72,7 @@ pub(crate) fn replay_rows_mut<T: Pixel>(
 }
 
 /// Overwrites the rows that `draws` take. Past the last row nothing is written.
-fn write_rows<T: Copy>(plane: &mut Plane<T>, draws: &[RowDraw<T>])
+pub(crate) fn write_rows<T: Copy>(plane: &mut Plane<T>, draws: &[RowDraw<T>])
     ensures table { table_of plane.new ≡ rows_written (table_of plane.old) draws.now }
     ensures border { KeepsBorder plane.old plane.new }
 {
