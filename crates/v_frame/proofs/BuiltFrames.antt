@@ -3,7 +3,7 @@ use Rattle.std.proofs.Common.{◌≡◌, Option, Some, None, Ok, All, IfSome, op
 use Rattle.std.proofs.lemmas.List.{get_or-replicate, length-replicate}
 use Rattle.v_frame_layout.specs.Geometry.{Geometry, alloc_size_of}
 use Rattle.v_frame_layout.specs.Chroma.{chroma_size_of, subsampled}
-use Rattle.v_frame.specs.Build.{FrameRequest, luma_geometry, IsZeroEverywhere, size_of, chroma_geometry, IsBlank}
+use Rattle.v_frame.specs.Build.{FrameRequest, luma_geometry, IsZeroEverywhere, visible_size_of, chroma_geometry, IsBlank}
 use Rattle.v_frame_plane.specs.Plane.{filled}
 use Rattle.v_frame_layout.specs.declared.chroma.ChromaSubsampling.{ChromaSubsampling}
 use Rattle.v_frame_layout.proofs.ChromaLemmas.{chroma_size, no_chroma_size}
@@ -19,7 +19,7 @@ module _ {T : Type 0} (zero : T) where
   chroma_filled (Some g) = filled_everywhere g
 
   chroma_plane_size : (s : ChromaSubsampling) (g : Geometry) (chroma : Option Geometry) → subsampled s g ≡ Ok chroma →
-      option_map size_of (option_map (filled zero) chroma) ≡ chroma_size_of s g.width g.height
+      option_map visible_size_of (option_map (filled zero) chroma) ≡ chroma_size_of s g.width g.height
   chroma_plane_size s g None e = sym (no_chroma_size s g e)
   chroma_plane_size s g (Some c) e = sym (chroma_size s g c e)
 
@@ -31,6 +31,6 @@ module _ {T : Type 0} (zero : T) where
         y = rw blank.y_plane (filled_everywhere luma);
         u = rw blank.u_plane (chroma_filled chroma);
         v = rw blank.v_plane (chroma_filled chroma);
-        size_of_u = ap (option_map size_of) blank.u_plane ∙ chroma_plane_size asked.subsampling luma chroma blank.chroma;
-        size_of_v = ap (option_map size_of) blank.v_plane ∙ chroma_plane_size asked.subsampling luma chroma blank.chroma;
+        size_of_u = ap (option_map visible_size_of) blank.u_plane ∙ chroma_plane_size asked.subsampling luma chroma blank.chroma;
+        size_of_v = ap (option_map visible_size_of) blank.v_plane ∙ chroma_plane_size asked.subsampling luma chroma blank.chroma;
       }

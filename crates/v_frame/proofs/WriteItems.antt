@@ -45,8 +45,8 @@ use Rattle.v_frame_plane.proofs.lent.RowLoans.{rows_dropped}
 use Rattle.v_frame_plane.proofs.pixels_mut.PixelsMut.TheLaws as pixels_laws
 use Rattle.v_frame_plane.proofs.rows_mut.RowsMut.TheLaws as rows_laws
 use Rattle.v_frame.specs.Walk.{left_by, left_in_turn, pixels_written, rows_written, walk_leaves}
-use Rattle.v_frame.specs.contracts.replay.pixels.write_pixels
-use Rattle.v_frame.specs.contracts.replay.rows.write_rows
+use Rattle.v_frame.specs.contracts.replay.pixel_writes.write_pixels
+use Rattle.v_frame.specs.contracts.replay.row_writes.write_rows
 use Rattle.v_frame.proofs.BegunWalks.{rows_end}
 use Rattle.v_frame.proofs.CallSteps.{asks_that, calls, calls_last, ends, opened, spelt, tells, told, unit_fits}
 use Rattle.v_frame.proofs.DrawnItems.{nth_left, rows_as_long}

@@ -48,10 +48,10 @@ use Rattle.v_frame.specs.contracts.replay.draw.PixelDraw as pixel_draw
 use Rattle.v_frame.specs.contracts.replay.draw.PixelDrawDraw.side as pixel_side
 use Rattle.v_frame.specs.contracts.replay.draw.RowDraw as row_draw
 use Rattle.v_frame.specs.contracts.replay.draw.RowDrawDraw.side as row_side
-use Rattle.v_frame.specs.contracts.replay.pixels.replace_by
-use Rattle.v_frame.specs.contracts.replay.pixels.write_pixel
-use Rattle.v_frame.specs.contracts.replay.rows.overwrite_by
-use Rattle.v_frame.specs.contracts.replay.rows.write_row
+use Rattle.v_frame.specs.contracts.replay.pixel_writes.replace_by
+use Rattle.v_frame.specs.contracts.replay.pixel_writes.write_pixel
+use Rattle.v_frame.specs.contracts.replay.row_writes.overwrite_by
+use Rattle.v_frame.specs.contracts.replay.row_writes.write_row
 use Rattle.v_frame.proofs.CallSteps.{asks_that, calls, calls_last, ends, opened, read_twice, tokens, unit_fits}
 use Rattle.v_frame.proofs.Drawing.{LendsPixelFrom, LendsRowFrom, Draws, Gave, by_side, from_back, from_front}
 use Rattle.v_frame.proofs.OptionCases.{by_told}

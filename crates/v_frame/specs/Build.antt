@@ -63,15 +63,15 @@ module _ {T : Type 0} where
     pub bit_depth : non_zero_u8_get frame.bit_depth ≡ request.bit_depth
 
 module _ {T : Type 0} where
-  abbrev pub size_of : Raster T → ℕ × ℕ
-  size_of plane = (plane.geometry.width, plane.geometry.height)
+  abbrev pub visible_size_of : Raster T → ℕ × ℕ
+  visible_size_of plane = (plane.geometry.width, plane.geometry.height)
 
   -- a built frame is zero everywhere, and its chroma planes have their size or are absent
   pub record IsZeroEverywhere (zero : T) (request : FrameRequest) (frame : Frame T) : Type 0 where
     pub y : All (λ pixel. pixel ≡ zero) frame.y_plane.buffer
     pub u : IfSome frame.u_plane (λ plane. All (λ pixel. pixel ≡ zero) plane.buffer)
     pub v : IfSome frame.v_plane (λ plane. All (λ pixel. pixel ≡ zero) plane.buffer)
-    pub size_of_u : option_map size_of frame.u_plane
+    pub size_of_u : option_map visible_size_of frame.u_plane
         ≡ chroma_size_of request.subsampling request.width request.height
-    pub size_of_v : option_map size_of frame.v_plane
+    pub size_of_v : option_map visible_size_of frame.v_plane
         ≡ chroma_size_of request.subsampling request.width request.height

@@ -12,7 +12,7 @@ ghost use Rattle.v_frame.specs.declared.replay.draw.Side.{Side};
 ghost use Rattle.v_frame.specs.Walk.{draws_answer, AreCounted, AreDrawnOnce};
 ghost use Rattle.v_frame.specs.Replay.{answers_to, tables_after};
 
-mod bytes;
+mod byte_paths;
 mod equality;
 mod iterations;
 mod writing_iterators;
@@ -22,7 +22,7 @@ use crate::pixel::Pixel;
 use crate::plane::Plane;
 use crate::replay::walk::draw_items;
 use crate::replay::{Answer, Drawn, Sequence, Side, VisibleCall, replay};
-pub use bytes::bytes_go_through_a_frame;
+pub use byte_paths::bytes_go_through_a_frame;
 pub use equality::frames_are_equal;
 pub use iterations::full_iterations_change_each_pixel;
 use std::alloc::{AllocError, Global};

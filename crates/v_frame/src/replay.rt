@@ -14,9 +14,9 @@ ghost use Rattle.v_frame.specs.Replay.{written_plane, WritesPlane, on_table, rep
 mod answer;
 mod call;
 mod draw;
-pub(crate) mod pixels;
+pub(crate) mod pixel_writes;
 mod reads;
-pub(crate) mod rows;
+pub(crate) mod row_writes;
 mod sequence;
 pub(crate) mod walk;
 
@@ -26,9 +26,9 @@ use crate::plane::Plane;
 pub use answer::{Answer, ReplayStopped};
 pub use call::VisibleCall;
 pub use draw::{Drawn, PixelDraw, RowDraw, Side};
-use pixels::{replay_pixel_mut, replay_pixels_mut};
+use pixel_writes::{replay_pixel_mut, replay_pixels_mut};
 use reads::{pixel_shown, row_shown};
-use rows::{replay_row_mut, replay_rows_mut};
+use row_writes::{replay_row_mut, replay_rows_mut};
 pub use sequence::Sequence;
 use std::alloc::{AllocError, Global};
 use walk::walk_answer;

@@ -1,2 +1,2 @@
 pub mod Carrying
-pub mod Filling
+pub mod FilledBorders

@@ -2,7 +2,7 @@
 ghost use Rattle.std.specs.Prelude.{◌≡◌, [], ◌∷◌, Some, IfOk, IfErr, count_by, option_copied};
 ghost use Rattle.v_frame_uses.specs.Answers.{row_in};
 
-use crate::pixels::set_pixel;
+use crate::single_pixels::set_pixel;
 use std::alloc::Global;
 use v_frame::chroma::ChromaSubsampling;
 use v_frame::frame::{FrameBuilder, FrameError};

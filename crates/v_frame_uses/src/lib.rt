@@ -6,7 +6,6 @@
 
 pub mod answers;
 pub mod border;
-pub mod bytes;
 pub mod collages;
 pub mod filters;
 pub mod frames;
@@ -14,12 +13,13 @@ pub mod iterators;
 pub mod lent;
 pub mod motion;
 pub mod pictures;
-pub mod pixels;
 pub mod planes;
+pub mod raw_bytes;
 pub mod reads;
 pub mod rectangles;
 pub mod regions;
 pub mod row_pairs;
+pub mod single_pixels;
 pub mod start;
 pub mod streams;
 pub mod video;

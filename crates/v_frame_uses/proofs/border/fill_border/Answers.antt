@@ -1,7 +1,7 @@
 -- The table is made of the visible entries, and the border of the others.
 use Rattle.std.proofs.Common.{length, ◌∙◌, ap, refl}
 use Rattle.v_frame.specs.Prelude.{raster, filled, table_of, border_of}
-use Rattle.v_frame_uses.proofs.Filling.{put_back, agrees_with_filled}
+use Rattle.v_frame_uses.proofs.FilledBorders.{put_back, agrees_with_filled}
 use Rattle.v_frame_uses.proofs.border.fill_border.Goals as goal
 
 pub returns-clause-table : goal.returns-clause-table

@@ -1,8 +1,8 @@
 -- Each part of the border is filled in its turn, and what is visible is passed over.
 use Rattle.std.proofs.Common.{ℕ, ◌≡◌, ◌+◌, ◌*◌, ◌<◌, length, refl, ◌∙◌, arith}
 use Rattle.v_frame.specs.Prelude.{stride_of, alloc_size_of}
-use Rattle.v_frame_uses.proofs.Filling.{nothing_filled, part_filled, visible_skipped, marks_above, marks_below, marks_left, marks_visible, marks_right}
-use Rattle.v_frame_uses.proofs.Filling.{row_within, filled_everywhere}
+use Rattle.v_frame_uses.proofs.FilledBorders.{nothing_filled, part_filled, visible_skipped, marks_above, marks_below, marks_left, marks_visible, marks_right}
+use Rattle.v_frame_uses.proofs.FilledBorders.{row_within, filled_everywhere}
 use Rattle.v_frame_uses.proofs.border.fill_border_places.Goals as goal
 
 pub loop-y-init : goal.loop-y-init

@@ -1,6 +1,6 @@
 -- The rows above row y are filled.
 use Rattle.std.proofs.Common.{◌+◌, ◌*◌}
-use Rattle.v_frame_uses.proofs.Filling.{IsFilledUpTo}
+use Rattle.v_frame_uses.proofs.FilledBorders.{IsFilledUpTo}
 use Rattle.v_frame_uses.proofs.border.fill_border_places.Given as goal
 
 abbrev pub invariant-loop-y : goal.invariant-loop-y

@@ -2,13 +2,13 @@
 use Rattle.v_frame_plane.proofs.plane.Plane.rows_mut.Met as rows_mut_met
 use Rattle.v_frame.proofs.WriteItems.{items_written}
 use Rattle.v_frame.proofs.Writes.{of_rows}
-use Rattle.v_frame.proofs.replay.rows.write_row.Met as write_row_met
-use Rattle.v_frame.proofs.replay.rows.write_rows.Statement.{statement}
-use Rattle.v_frame.proofs.replay.rows.write_rows.Code as code
+use Rattle.v_frame.proofs.replay.row_writes.write_row.Met as write_row_met
+use Rattle.v_frame.proofs.replay.row_writes.write_rows.Statement.{statement}
+use Rattle.v_frame.proofs.replay.row_writes.write_rows.Code as code
 
 pub write_rows_spec : {M : Type 1} → statement M
 write_rows_spec 𝓤 𝓛 𝓜 𝓡 wired T laws copy clone dict bound =
     items_written 𝓛 𝓜 𝓡 T laws clone dict _ _ _ _ _ _ _ of_rows _
     (rows_mut_met.met 𝓤 𝓛 𝓜 𝓡 (code.calls-v_frame_plane::plane::Plane::rows_mut 𝓡.env wired) T laws)
-    (write_row_met.met 𝓤 𝓛 𝓜 𝓡 (code.calls-v_frame::replay::rows::write_row 𝓡.env wired) T laws copy clone dict bound)
+    (write_row_met.met 𝓤 𝓛 𝓜 𝓡 (code.calls-v_frame::replay::row_writes::write_row 𝓡.env wired) T laws copy clone dict bound)
     (code.unfolded 𝓤 𝓛.H 𝓜 𝓡 wired (T, tt) dict)

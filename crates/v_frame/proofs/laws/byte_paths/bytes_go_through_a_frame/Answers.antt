@@ -12,7 +12,7 @@ use Rattle.v_frame.specs.declared.replay.call.VisibleCall.{VisibleCall}
 use Rattle.v_frame_plane.proofs.copies.BytesBack.{AreBytes, are_bytes}
 use Rattle.v_frame.proofs.BytePaths.{built_high, blank_width, blank_height, path_answers, refusal_goes_on}
 use Rattle.v_frame.proofs.Draws.{all_given}
-use Rattle.v_frame.proofs.laws.bytes.bytes_go_through_a_frame.Goals as goal
+use Rattle.v_frame.proofs.laws.byte_paths.bytes_go_through_a_frame.Goals as goal
 
 pub returns-clause-answers : goal.returns-clause-answers
 returns-clause-answers g c =

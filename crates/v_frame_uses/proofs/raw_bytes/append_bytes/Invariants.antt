@@ -1,7 +1,7 @@
 -- What was appended and what is left are the bytes of the plane, and there is room for what is left.
 use Rattle.std.proofs.Common.{◌≡◌, ◌++◌, ◌+◌, ◌≤◌, length, vec_len, vec_capacity}
 use Rattle.v_frame.specs.Prelude.{table_of, byte_list}
-use Rattle.v_frame_uses.proofs.bytes.append_bytes.Given as goal
+use Rattle.v_frame_uses.proofs.raw_bytes.append_bytes.Given as goal
 
 abbrev pub invariant-loop-byte : goal.invariant-loop-byte
 invariant-loop-byte g l = record {

@@ -2,7 +2,7 @@
 use Rattle.std.proofs.Common.{◌<◌, List, length, Some, get_or, slice_set, unwrap_or, sym, ◌∙◌, ap, arith}
 use Rattle.std.proofs.lemmas.Option.{slice_get-get_or}
 use Rattle.v_frame_plane.proofs.tables.Overwrites.{overwritten_by_none, written_more, written_all}
-use Rattle.v_frame.proofs.replay.rows.overwrite.Goals as goal
+use Rattle.v_frame.proofs.replay.row_writes.overwrite.Goals as goal
 
 pub loop-i-init : goal.loop-i-init
 loop-i-init g c = sym (overwritten_by_none c.args.row.now)

@@ -3,9 +3,9 @@ use Rattle.v_frame_plane.proofs.pixels_mut.PixelsMut.next.Met as next_met
 use Rattle.v_frame_plane.proofs.pixels_mut.PixelsMut.next_back.Met as next_back_met
 use Rattle.v_frame.proofs.Writes.{of_pixels, item_written}
 use Rattle.v_frame.proofs.replay.draw.PixelDrawDraw.side.Met as side_met
-use Rattle.v_frame.proofs.replay.pixels.replace_by.Met as replace_by_met
-use Rattle.v_frame.proofs.replay.pixels.write_pixel.Statement.{statement}
-use Rattle.v_frame.proofs.replay.pixels.write_pixel.Code as code
+use Rattle.v_frame.proofs.replay.pixel_writes.replace_by.Met as replace_by_met
+use Rattle.v_frame.proofs.replay.pixel_writes.write_pixel.Statement.{statement}
+use Rattle.v_frame.proofs.replay.pixel_writes.write_pixel.Code as code
 
 pub write_pixel_spec : {M : Type 1} → statement M
 write_pixel_spec 𝓤 𝓛 𝓜 𝓡 wired T laws copy clone dict bound =
@@ -13,5 +13,5 @@ write_pixel_spec 𝓤 𝓛 𝓜 𝓡 wired T laws copy clone dict bound =
     (side_met.met 𝓤 𝓛 𝓜 𝓡 (code.calls-v_frame::replay::draw::PixelDrawDraw::side 𝓡.env wired) T laws)
     (next_met.met 𝓤 𝓛 𝓜 𝓡 (code.calls-v_frame_plane::pixels_mut::PixelsMut::next 𝓡.env wired) T laws)
     (next_back_met.met 𝓤 𝓛 𝓜 𝓡 (code.calls-v_frame_plane::pixels_mut::PixelsMut::next_back 𝓡.env wired) T laws)
-    (replace_by_met.met 𝓤 𝓛 𝓜 𝓡 (code.calls-v_frame::replay::pixels::replace_by 𝓡.env wired) T laws copy clone dict bound)
+    (replace_by_met.met 𝓤 𝓛 𝓜 𝓡 (code.calls-v_frame::replay::pixel_writes::replace_by 𝓡.env wired) T laws copy clone dict bound)
     (code.unfolded 𝓤 𝓛.H 𝓜 𝓡 wired (T, tt) dict)

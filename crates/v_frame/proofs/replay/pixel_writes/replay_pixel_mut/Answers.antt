@@ -2,8 +2,8 @@
 use Rattle.std.proofs.Common.{sym, arith}
 use Rattle.v_frame_plane.specs.Plane.{table_of}
 use Rattle.v_frame_plane.proofs.tables.Overwrites.{with_pixel_beside, with_row_below}
-use Rattle.v_frame.proofs.replay.pixels.replay_pixel_mut.Goals as goal
-use Rattle.v_frame.proofs.replay.pixels.replay_pixel_mut.Goals.{then-x-width-via-then-x-width, then-x-width-via-else-x-width+then-y-height}
+use Rattle.v_frame.proofs.replay.pixel_writes.replay_pixel_mut.Goals as goal
+use Rattle.v_frame.proofs.replay.pixel_writes.replay_pixel_mut.Goals.{then-x-width-via-then-x-width, then-x-width-via-else-x-width+then-y-height}
 
 pub returns-then-x-width-clause-table : goal.returns-then-x-width-clause-table
 returns-then-x-width-clause-table g c =

@@ -3,9 +3,9 @@ use Rattle.v_frame_plane.proofs.rows_mut.RowsMut.next.Met as next_met
 use Rattle.v_frame_plane.proofs.rows_mut.RowsMut.next_back.Met as next_back_met
 use Rattle.v_frame.proofs.Writes.{of_rows, item_written}
 use Rattle.v_frame.proofs.replay.draw.RowDrawDraw.side.Met as side_met
-use Rattle.v_frame.proofs.replay.rows.overwrite_by.Met as overwrite_by_met
-use Rattle.v_frame.proofs.replay.rows.write_row.Statement.{statement}
-use Rattle.v_frame.proofs.replay.rows.write_row.Code as code
+use Rattle.v_frame.proofs.replay.row_writes.overwrite_by.Met as overwrite_by_met
+use Rattle.v_frame.proofs.replay.row_writes.write_row.Statement.{statement}
+use Rattle.v_frame.proofs.replay.row_writes.write_row.Code as code
 
 pub write_row_spec : {M : Type 1} → statement M
 write_row_spec 𝓤 𝓛 𝓜 𝓡 wired T laws copy clone dict bound =
@@ -13,5 +13,5 @@ write_row_spec 𝓤 𝓛 𝓜 𝓡 wired T laws copy clone dict bound =
     (side_met.met 𝓤 𝓛 𝓜 𝓡 (code.calls-v_frame::replay::draw::RowDrawDraw::side 𝓡.env wired) T laws)
     (next_met.met 𝓤 𝓛 𝓜 𝓡 (code.calls-v_frame_plane::rows_mut::RowsMut::next 𝓡.env wired) T laws)
     (next_back_met.met 𝓤 𝓛 𝓜 𝓡 (code.calls-v_frame_plane::rows_mut::RowsMut::next_back 𝓡.env wired) T laws)
-    (overwrite_by_met.met 𝓤 𝓛 𝓜 𝓡 (code.calls-v_frame::replay::rows::overwrite_by 𝓡.env wired) T laws copy clone dict bound)
+    (overwrite_by_met.met 𝓤 𝓛 𝓜 𝓡 (code.calls-v_frame::replay::row_writes::overwrite_by 𝓡.env wired) T laws copy clone dict bound)
     (code.unfolded 𝓤 𝓛.H 𝓜 𝓡 wired (T, tt) dict)
