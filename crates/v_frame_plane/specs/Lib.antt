@@ -11,6 +11,7 @@ pub mod Lends
 pub mod PixelsLeft
 pub mod Plane
 pub mod RowsLeft
+pub mod Second
 pub mod SecondPixels
 pub mod SecondRows
 pub mod WorkedRegions

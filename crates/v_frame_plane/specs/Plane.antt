@@ -98,6 +98,12 @@ with_two_parts xs start width next other ys zs =
     ++ (ys ++ (drop (start + width) (take next xs) ++ (zs ++ drop (next + other) xs)))
 
 module _ {T : Type 0} where
+  -- another table is shown, and all else is as before
+  pub record WritesTable (old new : Raster T) (rows : List (List T)) : Type 0 where
+    pub geometry : new.geometry ≡ old.geometry
+    pub border : border_of new ≡ border_of old
+    pub table : table_of new ≡ rows
+
   -- row y of the table is another one, and all else is as before
   pub record WritesRow (old : Raster T) (y : ℕ) (new : Raster T) (row : List T) : Type 0 where
     pub geometry : new.geometry ≡ old.geometry
@@ -134,10 +140,8 @@ module _ {T : Type 0} where
       raster plane.geometry (slice_set plane.buffer (place_of plane.geometry x y) entry)
 
   -- the pixel of column x in row y of the table is another one, and all else is as before
-  pub record WritesPixel (old : Raster T) (x y : ℕ) (new : Raster T) (pixel : T) : Type 0 where
-    pub geometry : new.geometry ≡ old.geometry
-    pub border : border_of new ≡ border_of old
-    pub table : table_of new ≡ with_pixel (table_of old) x y pixel
+  abbrev pub WritesPixel : Raster T → ℕ → ℕ → Raster T → T → Type 0
+  WritesPixel old x y new pixel = WritesTable old new (with_pixel (table_of old) x y pixel)
 
   -- so any pixel is written as the pixel of column x in row y of the table
   abbrev pub WritesEachPixel : Raster T → ℕ → ℕ → Type 0

@@ -1,11 +1,11 @@
--- What the pixels of a writing iterator leave. Beside the pixels that are left, an iterator means
--- their final values: what each of them holds when the borrow ends.
-use Rattle.std.specs.Prelude.{◌≡◌, List, [], ◌∷◌, ◌++◌, length, map, Option, Some, None}
+-- What the pixels of a writing iterator leave.
+use Rattle.std.specs.Prelude.{◌≡◌, List, [], ◌∷◌, ◌++◌, length, map, Option}
 use Rattle.std.specs.Borrow.{Fml, GName, RattleType, MutBor}
-use base.Fml.{fsep, fwand, fall, fex, fres}
+use base.Fml.{fsep, fex, fres}
 use Rattle.v_frame_layout.specs.Table.{row_major}
 use Rattle.v_frame_plane.specs.Plane.{Raster, table_of}
 use Rattle.v_frame_plane.specs.RowsLeft.{rows_left}
+use Rattle.v_frame_plane.specs.Second.{Keeps, LendsBy, Takes}
 use Rattle.v_frame_plane.specs.SecondRows.{EndsAs, SecondRows, WritesEachTable}
 use Rattle.v_frame_plane.specs.declared.pixels_mut.PixelsMut.{PixelsMut}
 
@@ -45,34 +45,18 @@ module _ (T : RattleType) where
       fsep (EndsAs T walk.front.ghost_name parts.front)
       (fsep (SecondRows T walk.rows parts.rows) (EndsAs T walk.back.ghost_name parts.back))))
 
-  module _ (old new : PixelsMut T.Denot) where
-    -- what the pixels that are left now hold then, those that were left before do
-    abbrev pub KeepsPixels : Fml
-    KeepsPixels =
-        fall (List T.Denot) (λ second.
-        fwand (SecondPixels new second) (SecondPixels old second))
+  abbrev pub KeepsPixels : PixelsMut T.Denot → PixelsMut T.Denot → Fml
+  KeepsPixels = Keeps PixelEndsAs SecondPixels
 
-    module _ (pixel : MutBor T.Denot) where
-      -- what this pixel and those that are left now hold then, those that were left before do, with
-      -- this pixel as the first
-      abbrev pub TakesFirstPixel : Fml
-      TakesFirstPixel =
-          fall (T.Denot × List T.Denot) (λ held.
-          fwand (fsep (PixelEndsAs pixel.ghost_name held.0) (SecondPixels new held.1))
-          (SecondPixels old (held.0 ∷ held.1)))
+  abbrev pub TakesFirstPixel : PixelsMut T.Denot → PixelsMut T.Denot → MutBor T.Denot → Fml
+  TakesFirstPixel = Takes PixelEndsAs SecondPixels ◌∷◌
 
-      -- the same, with this pixel as the last
-      abbrev pub TakesLastPixel : Fml
-      TakesLastPixel =
-          fall (T.Denot × List T.Denot) (λ held.
-          fwand (fsep (PixelEndsAs pixel.ghost_name held.0) (SecondPixels new held.1))
-          (SecondPixels old (held.1 ++ held.0 ∷ [])))
+  abbrev pub TakesLastPixel : PixelsMut T.Denot → PixelsMut T.Denot → MutBor T.Denot → Fml
+  TakesLastPixel = Takes PixelEndsAs SecondPixels (λ pixel rest. rest ++ pixel ∷ [])
 
   -- what `next` leaves, and what `next_back` does
   abbrev pub LendsFirstPixel : PixelsMut T.Denot → Option (MutBor T.Denot) → PixelsMut T.Denot → Fml
-  LendsFirstPixel old None new = KeepsPixels old new
-  LendsFirstPixel old (Some pixel) new = TakesFirstPixel old new pixel
+  LendsFirstPixel = LendsBy KeepsPixels TakesFirstPixel
 
   abbrev pub LendsLastPixel : PixelsMut T.Denot → Option (MutBor T.Denot) → PixelsMut T.Denot → Fml
-  LendsLastPixel old None new = KeepsPixels old new
-  LendsLastPixel old (Some pixel) new = TakesLastPixel old new pixel
+  LendsLastPixel = LendsBy KeepsPixels TakesLastPixel

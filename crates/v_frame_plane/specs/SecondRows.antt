@@ -1,9 +1,10 @@
--- What the rows of a writing iterator leave. Beside the rows that are left, an iterator means their
--- final values: what each of them holds when the borrow ends.
-use Rattle.std.specs.Prelude.{ℕ, zero, suc, ◌≡◌, List, [], ◌∷◌, ◌++◌, length, map, take, drop, Option, Some, None}
+-- What the rows of a writing iterator leave.
+use Rattle.std.specs.Prelude.{ℕ, zero, suc, ◌≡◌, List, [], ◌∷◌, ◌++◌, length, map, take, drop, Option}
 use Rattle.std.specs.Borrow.{Fml, GName, RattleType, MutBor, Array}
 use base.Fml.{fsep, fwand, fall, fres}
-use Rattle.v_frame_plane.specs.Plane.{Raster, table_of, border_of, with_entries}
+pub use Rattle.v_frame_plane.specs.Plane.{WritesTable}
+use Rattle.v_frame_plane.specs.Plane.{Raster, table_of, with_entries}
+use Rattle.v_frame_plane.specs.Second.{Keeps, LendsBy, Takes}
 use Rattle.v_frame_plane.specs.RowsLeft.{rows_left}
 use Rattle.v_frame_plane.specs.declared.rows_mut.RowsMut.{RowsMut}
 
@@ -21,12 +22,6 @@ module _ {T : Type 0} where
   abbrev pub entries_with : RowsMut T → List (List T) → List T
   entries_with walk = with_rows_ahead walk.start walk.width walk.gap walk.count walk.rest.now
 
-  -- another table is shown, and all else is as before
-  pub record WritesTable (old new : Raster T) (rows : List (List T)) : Type 0 where
-    pub geometry : new.geometry ≡ old.geometry
-    pub border : border_of new ≡ border_of old
-    pub table : table_of new ≡ rows
-
   -- so each table whose rows are as long as those that are shown is written by the rows of the
   -- iterator
   abbrev pub WritesEachTable : Raster T → RowsMut T → Type 0
@@ -43,36 +38,24 @@ module _ (T : RattleType) where
   abbrev pub SecondRows : RowsMut T.Denot → List (List T.Denot) → Fml
   SecondRows walk second = EndsAs walk.rest.ghost_name (entries_with walk second)
 
-  module _ (old new : RowsMut T.Denot) where
-    -- what the rows that are left now hold then, those that were left before do
-    abbrev pub KeepsRows : Fml
-    KeepsRows =
-        fall (List (List T.Denot)) (λ second.
-        fwand (SecondRows new second) (SecondRows old second))
+  abbrev pub KeepsRows : RowsMut T.Denot → RowsMut T.Denot → Fml
+  KeepsRows = Keeps EndsAs SecondRows
 
-    module _ (row : MutBor (List T.Denot)) where
-      -- what this row and those that are left now hold then, those that were left before do, with
-      -- this row as the first
-      abbrev pub TakesFirstRow : Fml
-      TakesFirstRow =
-          fall (List T.Denot × List (List T.Denot)) (λ held.
-          fwand (fsep (EndsAs row.ghost_name held.0) (SecondRows new held.1))
-          (SecondRows old (held.0 ∷ held.1)))
+  abbrev pub TakesFirstRow : RowsMut T.Denot → RowsMut T.Denot → MutBor (List T.Denot) → Fml
+  TakesFirstRow = Takes EndsAs SecondRows ◌∷◌
 
-      -- the same, with this row as the last
-      abbrev pub TakesLastRow : Fml
-      TakesLastRow =
-          fall (List T.Denot × List (List T.Denot)) (λ held.
-          fall (length held.1 ≡ length (rows_left new)) (λ _.
-          fwand (fsep (EndsAs row.ghost_name held.0) (SecondRows new held.1))
-          (SecondRows old (held.1 ++ held.0 ∷ []))))
+  -- with this row as the last, where the rows that are left keep their number
+  abbrev pub TakesLastRow : RowsMut T.Denot → RowsMut T.Denot → MutBor (List T.Denot) → Fml
+  TakesLastRow old new row =
+      fall (List T.Denot × List (List T.Denot)) (λ held.
+      fall (length held.1 ≡ length (rows_left new)) (λ _.
+      fwand (fsep (EndsAs row.ghost_name held.0) (SecondRows new held.1))
+      (SecondRows old (held.1 ++ held.0 ∷ []))))
 
   -- what `next` leaves, and what `next_back` does
   abbrev pub LendsFirstRow : RowsMut T.Denot → Option (MutBor (List T.Denot)) → RowsMut T.Denot
       → Fml
-  LendsFirstRow old None new = KeepsRows old new
-  LendsFirstRow old (Some row) new = TakesFirstRow old new row
+  LendsFirstRow = LendsBy KeepsRows TakesFirstRow
 
   abbrev pub LendsLastRow : RowsMut T.Denot → Option (MutBor (List T.Denot)) → RowsMut T.Denot → Fml
-  LendsLastRow old None new = KeepsRows old new
-  LendsLastRow old (Some row) new = TakesLastRow old new row
+  LendsLastRow = LendsBy KeepsRows TakesLastRow

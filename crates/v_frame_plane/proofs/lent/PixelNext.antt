@@ -5,7 +5,7 @@ use Rattle.v_frame_plane.proofs.lent.Steps.{ℕ, at_exit, ◌≡◌, ◌<◌, []
 use Rattle.v_frame_plane.proofs.lent.Steps.{MakesProgress, item_count, ftrue, emp, sep, ◌⊑◌, fact, fact_i, tables, param, MutRef, mut_vals, mut_Tells, plain}
 use Rattle.v_frame_plane.proofs.lent.Steps.{named_lft, closes, heard, only, calls_at, framed, triple_of, Goes-ref, walk_of, named, mut, erased, of_list}
 use Rattle.v_frame_plane.proofs.lent.Steps.{alloc_all, env, free_all, get, lands_as, look_at, pass_all, sets, through, ‵, raw, ◌⊛◌, at_ret, ◌$◌, !, done, feq_l}
-use Rattle.v_frame_plane.proofs.lent.Steps.{join, keep, move, split, use0, use1, use2, live, agg, whole, addr, and_then, bin, branches, enter, exec, first, lit}
+use Rattle.v_frame_plane.proofs.lent.Steps.{join, keep, move, split, use0, use2, live, agg, whole, addr, and_then, bin, branches, enter, exec, first, lit}
 use Rattle.v_frame_plane.proofs.lent.Steps.{no_more, returns, returns_within, skips, stop, well_typed, prop, sem, RattleType, Laws, Logic, Ura, Ty, tcons, tnil}
 use Rattle.v_frame_plane.proofs.lent.Steps.{ty_int, ty_param, ty_ref, w64, Contract, MachineTables, Running, unit, closing, Meets, Triple, ltb→lt, nltb→le}
 use Rattle.v_frame_plane.proofs.lent.Steps.{Callee, Fn, Local, Sym, addr_of, aggregate, assign, call, cond, copy, deref, field, int, local, lt, op2, place}
@@ -26,8 +26,8 @@ use Rattle.v_frame_plane.proofs.lent.PixelCalls.{asked, lends_self, pixel_back, 
 use Rattle.v_frame_plane.proofs.lent.PixelDraws.{after_keeping, moves, no_pixel, rests, yields_none, yields_pixel}
 use Rattle.v_frame_plane.proofs.lent.Loans.{begins, opens_self}
 use Rattle.v_frame_plane.proofs.lent.PixelMemory.{lowered, stayed}
-use Rattle.v_frame_plane.proofs.lent.PixelSides.{Walk, draw_clauses, lends_none, lends_pixel, near_fits, near_len, refill_clauses, step_clauses}
-use Rattle.v_frame_plane.proofs.lent.Sides.{Side, Lends, Steps, Takes, Yields, near, put, slot}
+use Rattle.v_frame_plane.proofs.lent.PixelSides.{Walk, draw_clauses, near_fits, near_len, refill_clauses, step_clauses}
+use Rattle.v_frame_plane.proofs.lent.Sides.{Side, Steps, Takes, Yields, near, put, slot}
 
 -- the code, of the names that it has for what a call gives, for self and for its rows, of the types of a reference to self, and of the functions that it calls
 module _ (option self rows : Sym) (kept lent : Ty) (s : Side) (steps refills : Callee) where
@@ -89,16 +89,17 @@ module _ {M : Type 1} {𝓤 : Ura M} (𝓛 : Logic 𝓤) (𝓜 : Model 𝓤 𝓛
       let self = a.0 in let b = self.ref_ptr.0 in let o = self.ref_ptr.1 in let h = self.now in
       let Keeps = λ (_ : Unit {0}) (new : PixelsMut T.Denot). ‵ (KeepsPixels item h new) ⊛ raw (fact 𝓤 (pixels_left new ≡ pixels_left h)) ⊛
       raw (fact 𝓤 (length (near s new).now ≡ 0 → pixels_left new ≡ [])) in
-      let Walk = walk_of 𝓛 (next.ended T) (stayed T) c in let bound : Walk.Ghost = ((κs, qs, bounds, a, (mut_vals self, tt)), g) in let Post = Walk.post bound in
+      let Walk = walk_of 𝓛 (next.ended T) (stayed T) c in let bound : Walk.Ghost = ((κs, qs, bounds, a, (mut_vals self, tt)), g) in
+      let Post = Walk.post bound in
       -- what is said where a pixel is given
       let given : (pixel : MutBor T.Denot) (new : PixelsMut T.Denot) → Steps s h pixel new →
       Sq 𝓛 (‵ (Takes s item h pixel new) ∷ []) (prop ((c κs a).ensures g (Some pixel) (at_exit (next.ended T) κs a (new, tt)))) = λ pixel new is.
-      use1 𝓛 (‵ (Lends s item h (Some pixel) new)) (lends_pixel 𝓛 item h new s pixel) $
       use0 𝓛 (raw (fact 𝓤 (MakesProgress (λ _. ⊤) (item_count pixels_left) h (Some pixel) new))) (fact_i 𝓤 _ (emp 𝓤) (moves h new pixel s is)) $
       use0 𝓛 (raw (fact 𝓤 (Yields s h (Some pixel) new))) (fact_i 𝓤 _ (emp 𝓤) (yields_pixel h new pixel s is)) $ join ! $
       move ! (1 ∷ 0 ∷ []) $ join ! $ done ! in
       begins 𝓛 κs qs ((MutRef (named 0) κ Row).own_val self (mut_vals self)) (κT ⊑ T.lives) (‵ ftrue) (λ inT. keep ! (0 ∷ 1 ∷ 2 ∷ 3 ∷ []) $
-      enter ! _ _ _ _ _ $ alloc_all ! (λ l. pass_all ! refl ((tt, tt), tt) $ opens_self ! tt Row κ q self (lowered h ∷ []) ((lowers ℓ item (param_laws 0 T laws)).val_is h) $ move ! (0 ∷ 1 ∷ 5 ∷ 6 ∷ []) $
+      enter ! _ _ _ _ _ $ alloc_all ! (λ l. pass_all ! refl ((tt, tt), tt) $
+      opens_self ! tt Row κ q self (lowered h ∷ []) ((lowers ℓ item (param_laws 0 T laws)).val_is h) $ move ! (0 ∷ 1 ∷ 5 ∷ 6 ∷ []) $
       let En = env function.locals l in
       -- [self's cell; what it owns; the tokens of κa and κT; the open borrow, in three; the locals]
       well_typed ! (λ ok.
@@ -113,7 +114,8 @@ module _ {M : Type 1} {𝓤 : Ura M} (𝓛 : Logic 𝓤) (𝓜 : Model 𝓤 𝓛
       lands_as ! is refl (tt, tt) $
       sets ! (agg ! (and_then ! (lit ! tt) (and_then ! (get ! refl) (no_more !)))) refl (tt, (record { fits = lit< tt }, (tt, tt))) $
       returns_within ! Post refl (look_at ! 0 refl) $ free_all ! refl $
-      exits ! (mut_vals self) κs qs (ends_at 𝓛 (next.ended T) (stayed T) c bound (live 1 (of_list (mut_vals pixel))) (Some pixel) (new, tt) (tt, tt)) $ given pixel new steps))))
+      exits ! (mut_vals self) κs qs (ends_at 𝓛 (next.ended T) (stayed T) c bound (live 1 (of_list (mut_vals pixel))) (Some pixel) (new, tt) (tt, tt)) $
+      given pixel new steps))))
       (λ none.
       skips ! $ exec ! 𝓣.C 𝓣.Λ En (refilled option self' rows kept lent s steps refills) (at_ret En Post) $
       sets ! (addr ! (through ! refl (stop !))) refl (tt, tt) $
@@ -148,7 +150,7 @@ module _ {M : Type 1} {𝓤 : Ura M} (𝓛 : Logic 𝓤) (𝓜 : Model 𝓤 𝓛
       returns ! (look_at ! 0 refl) $ free_all ! refl $
       -- [self, in two; the token of κ; those of κa and κT; that the pixels are kept]
       use0 𝓛 (‵ ((Opt.the_row Pixel).own_val None (live 0 (of_list []) ∷ []))) (none_of 𝓛 Pixel) $ move ! (1 ∷ 2 ∷ 3 ∷ 4 ∷ 5 ∷ 0 ∷ []) $
-      exits ! (mut_vals self) κs qs (ends_at 𝓛 (next.ended T) (stayed T) c bound (live 0 (of_list [])) None (mid, tt) (tt, tt)) $ use1 𝓛 (‵ (Lends s item h None mid)) (lends_none 𝓛 item h mid s) $
+      exits ! (mut_vals self) κs qs (ends_at 𝓛 (next.ended T) (stayed T) c bound (live 0 (of_list [])) None (mid, tt) (tt, tt)) $
       use0 𝓛 (raw (fact 𝓤 (MakesProgress (λ _. ⊤) (item_count pixels_left) h (no_pixel h mid) mid))) (fact_i 𝓤 _ (emp 𝓤) (rests h mid left)) $
       use0 𝓛 (raw (fact 𝓤 (Yields s h (no_pixel h mid) mid))) (fact_i 𝓤 _ (emp 𝓤) (yields_none h mid s left (begun zero))) $ join ! $
       move ! (1 ∷ 0 ∷ []) $ join ! $ done !)))))))))))))

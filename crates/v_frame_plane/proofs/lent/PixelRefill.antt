@@ -86,7 +86,8 @@ module _ {M : Type 1} {𝓤 : Ura M} (𝓛 : Logic 𝓤) (𝓜 : Model 𝓤 𝓛
       let Post = (walk_of 𝓛 (refill_front.ended T) (stayed T) c).post ((κs, qs, bounds, a, (mut_vals self, tt)), g) in
       begins 𝓛 κs qs ((MutRef (named 0) κ Row).own_val self (mut_vals self)) (κT ⊑ T.lives)
       (raw (fact 𝓤 (length x.now ≡ 0))) (λ inT. move ! (4 ∷ []) $ heard ! _ (λ none.
-      enter ! _ _ _ _ _ $ alloc_all ! (λ l. pass_all ! refl ((tt, tt), tt) $ opens_self ! tt Row κ q self (lowered h ∷ []) ((lowers ℓ item (param_laws 0 T laws)).val_is h) $
+      enter ! _ _ _ _ _ $ alloc_all ! (λ l. pass_all ! refl ((tt, tt), tt) $
+      opens_self ! tt Row κ q self (lowered h ∷ []) ((lowers ℓ item (param_laws 0 T laws)).val_is h) $
       let En = env function.locals l in let Then =
       any_q (after_seq 𝓤 𝓛.H (Wp 𝓤 𝓛.H 𝓣.C 𝓣.Λ En behind (post 𝓤 𝓛.H (at_ret En Post))) (post 𝓤 𝓛.H (at_ret En Post))) in
       -- [self's cell; what it owns; the open borrow, in three; the tokens of κa and κT; the locals]

@@ -5,9 +5,9 @@
 --     near_place, near_part, near_out, far_out     the field of this end in code, in the cell of self, and out of it
 --     whole_by, by_sides     self as a machine value, of its parts as seen from this end.        sides, closes_by     self, apart, and closed
 --     cut_clauses, row_clauses, step_clauses, refill_clauses, draw_clauses     the contracts of the functions of this end
-use Rattle.v_frame_plane.proofs.lent.Steps.{ℕ, ◌≡◌, ◌+◌, ◌^◌, ◌<◌, List, [], ◌∷◌, length, Some, None, MutBor, ⊤, MakesProgress, item_count, Share, Lft, fauth}
+use Rattle.v_frame_plane.proofs.lent.Steps.{ℕ, ◌≡◌, ◌+◌, ◌^◌, ◌<◌, List, [], ◌∷◌, length, MutBor, ⊤, MakesProgress, item_count, Share, Lft, fauth}
 use Rattle.v_frame_plane.proofs.lent.Steps.{fbor, fobor, fobs, flft, mem, Body, Step, step, !, refl, ◌$◌, move, Array, Laws, MutSlice, NamedLft, Goal, Seq}
-use Rattle.v_frame_plane.proofs.lent.Steps.{Soaks, follows_both, full_share, fat, ftrue, ent, sep, id⊢, fact, ◌⊑◌, param, RattleType, Clauses, Ty, Val, vptr}
+use Rattle.v_frame_plane.proofs.lent.Steps.{Soaks, follows_both, full_share, fat, ftrue, ent, sep, fact, ◌⊑◌, param, RattleType, Clauses, Ty, Val, vptr}
 use Rattle.v_frame_plane.proofs.lent.Steps.{vint, w64, Ura, Item, ‵, Logic, sem, sub, fld, look_in, load, of_opd, stop, through, erased, mut, slice_ty, tcons}
 use Rattle.v_frame_plane.proofs.lent.Steps.{tnil, ty_param, ty_ref, ty_struct, Gv, T, Sym, deref, field, place, copy, rv_opd, Fits, WT, has_ty, Env, at, Go}
 use Rattle.v_frame_plane.proofs.lent.Steps.{nth, Part, Finds, Rv}
@@ -37,15 +37,6 @@ whole_by at_back near rows far = whole far rows near
 pub near_fits : (s : Side) {X : Type 0} (walk : PixelsMut X) → T (has_ty Bare (lowered walk)) × WT (lowered walk) → Fits w64 (length (near s walk).now)
 near_fits at_front walk ok = ok.1.0.1.0
 near_fits at_back walk ok = ok.1.1.1.0.1.0
-
-module _ {M : Type 1} {𝓤 : Ura M} (𝓛 : Logic 𝓤) (T : RattleType) (old new : PixelsMut T.Denot) where
-  pub lends_pixel : (s : Side) (pixel : MutBor T.Denot) → ent 𝓤 (sem 𝓛 (Takes s T old pixel new)) (sem 𝓛 (Lends s T old (Some pixel) new))
-  lends_pixel at_front pixel = id⊢ 𝓤 _
-  lends_pixel at_back pixel = id⊢ 𝓤 _
-
-  pub lends_none : (s : Side) → ent 𝓤 (sem 𝓛 (KeepsPixels T old new)) (sem 𝓛 (Lends s T old None new))
-  lends_none at_front = id⊢ 𝓤 _
-  lends_none at_back = id⊢ 𝓤 _
 
 module _ {M : Type 1} {𝓤 : Ura M} (𝓛 : Logic 𝓤) (T : RattleType) (s : Side) where
   abbrev pub cut_clauses : Clauses 𝓤 (cut_first.ended T)

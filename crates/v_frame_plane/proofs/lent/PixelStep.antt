@@ -62,7 +62,8 @@ module _ {M : Type 1} {𝓤 : Ura M} (𝓛 : Logic 𝓤) (𝓜 : Model 𝓤 𝓛
       begins 𝓛 κs qs ((MutRef (named 0) κ Row).own_val self (mut_vals self)) (κT ⊑ T.lives)
       (raw (fact 𝓤 (0 < length x.now))) (λ inT. move ! (4 ∷ []) $ heard ! _ (λ some_left.
       let inA = ⊑_trans κa κT T.lives aT inT in
-      enter ! _ _ _ _ _ $ alloc_all ! (λ l. pass_all ! refl ((tt, tt), tt) $ opens_self ! tt Row κ q self (lowered h ∷ []) ((lowers ℓ item (param_laws 0 T laws)).val_is h) $
+      enter ! _ _ _ _ _ $ alloc_all ! (λ l. pass_all ! refl ((tt, tt), tt) $
+      opens_self ! tt Row κ q self (lowered h ∷ []) ((lowers ℓ item (param_laws 0 T laws)).val_is h) $
       -- [self's cell; what it owns; the open borrow, in three; the tokens of κa and κT; the locals]
       move ! (1 ∷ []) $ sides ! tt s ℓ T laws h (λ fits _.
       sets ! (addr ! (near_place ! s refl)) refl (tt, tt) $
@@ -95,6 +96,7 @@ module _ {M : Type 1} {𝓤 : Ura M} (𝓛 : Logic 𝓤) (𝓜 : Model 𝓤 𝓛
       returns ! (look_at ! 0 refl) $ free_all ! refl $
       -- [self, in two; the token of κ; the pixel; how this end ends; the tokens of κa and κT]
       move ! (4 ∷ []) $ use1 𝓛 (‵ (Takes s item h pixel new)) (takes_near 𝓛 item h pixel rest s is countable) $
-      move ! (1 ∷ 2 ∷ 3 ∷ 5 ∷ 6 ∷ 4 ∷ []) $ exits ! (mut_vals self) κs qs (ends_at 𝓛 (next_of_front.ended T) (stayed T) c ((κs, qs, bounds, a, (mut_vals self, tt)), g) _ pixel (new, tt) (tt, tt)) $
+      move ! (1 ∷ 2 ∷ 3 ∷ 5 ∷ 6 ∷ 4 ∷ []) $
+      exits ! (mut_vals self) κs qs (ends_at 𝓛 (next_of_front.ended T) (stayed T) c ((κs, qs, bounds, a, (mut_vals self, tt)), g) _ pixel (new, tt) (tt, tt)) $
       use0 𝓛 (raw (fact 𝓤 (Steps s h pixel new))) (fact_i 𝓤 _ (emp 𝓤) (steps h s pixel rest is countable)) $
       move ! (1 ∷ 0 ∷ []) $ join ! $ done !)))))))

@@ -52,7 +52,8 @@ module _ {M : Type 1} {𝓤 : Ura M} (𝓛 : Logic 𝓤) (T : RattleType) where
         rw (cut.before_is, behind_all old before at row behind more at_front cut)
         (with_first_row old.start old.width old.gap old.count old.rest.now held.0 held.1 more) in
         -- [the row; the rest; what lies in front; how both are cut]
-        move ! (3 ∷ 4 ∷ 2 ∷ 0 ∷ 1 ∷ []) $ group ! 5 $ use1 𝓛 (‵ (EndsAs T old.rest.ghost_name (before.now ++ (held.0 ++ rest)))) (joins before.now held.0 rest) $
+        move ! (3 ∷ 4 ∷ 2 ∷ 0 ∷ 1 ∷ []) $ group ! 5 $
+        use1 𝓛 (‵ (EndsAs T old.rest.ghost_name (before.now ++ (held.0 ++ rest)))) (joins before.now held.0 rest) $
         rewrite ! 0 (λ (xs : List T.Denot). ‵ (EndsAs T old.rest.ghost_name xs)) entries refl $ done !)
     leaves_row at_back cut =
         let new = left old before at row behind more at_back cut in
@@ -67,7 +68,8 @@ module _ {M : Type 1} {𝓤 : Ura M} (𝓛 : Logic 𝓤) (T : RattleType) where
         rw (cut.before_is, behind_all old before at row behind more at_back cut)
         (with_last_row old.start old.width old.gap old.count old.rest.now held.0 held.1 more many) in
         -- [the row; the rest; what lies behind; how both are cut]
-        move ! (3 ∷ 4 ∷ 1 ∷ 0 ∷ 2 ∷ []) $ group ! 5 $ use1 𝓛 (‵ (EndsAs T old.rest.ghost_name (rest ++ (held.0 ++ behind.now)))) (joins rest held.0 behind.now) $
+        move ! (3 ∷ 4 ∷ 1 ∷ 0 ∷ 2 ∷ []) $ group ! 5 $
+        use1 𝓛 (‵ (EndsAs T old.rest.ghost_name (rest ++ (held.0 ++ behind.now)))) (joins rest held.0 behind.now) $
         rewrite ! 0 (λ (xs : List T.Denot). ‵ (EndsAs T old.rest.ghost_name xs)) entries refl $ done !))
 
   -- an iterator that is dropped has as final values what it shows

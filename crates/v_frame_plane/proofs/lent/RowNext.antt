@@ -34,7 +34,8 @@ use Rattle.v_frame_plane.proofs.lent.Sides.{Side, at_front, at_back, at_side, Le
 use Rattle.v_frame_plane.proofs.rows_mut.RowsMut.TheLaws.{lowers}
 use Rattle.v_frame_plane.proofs.lent.Taken.{Take}
 
--- the code, of the names that it has for what a call gives, for self and for two parts, of the types of self and of an entry, and of the functions that it calls
+-- the code, of the names that it has for what a call gives, for self and for two parts, of the types of self and of an entry, and of the functions that it
+-- calls
 module _ (option self pair : Sym) (kept entry : Ty) (s : Side) (placing taking splitting : Callee) where
   abbrev Self : Ty
   Self = ty_struct self (tcons part Numbers)
@@ -58,8 +59,10 @@ module _ (option self pair : Sym) (kept entry : Ty) (s : Side) (placing taking s
       (seq (call placing (copy (place 2 []) ∷ copy (place 3 []) ∷ copy (place 4 []) ∷ at_side s (int w64 0) (copy (place 6 [])) ∷ []) (place 7 []))
       (seq (assign (place 12 []) (addr_of (own 0))) (seq (call taking (copy (place 12 []) ∷ []) (place 11 []))
       (seq (call splitting (copy (place 11 []) ∷ copy (place 7 []) ∷ []) (place 8 [])) (lent_on (pointer 8 1) (size 8 1) 13 14
-      (seq (call splitting (copy (place 14 []) ∷ copy (place 3 []) ∷ []) (place 9 [])) (lent_on (at_side s (pointer 9 1) (pointer 8 0)) (at_side s (size 9 1) (size 8 0)) 15 16
-      (seq (assign (place 17 []) (aggregate (copy (place 16 []) ∷ at_side s (copy (place 4 [])) (copy (place 2 [])) ∷ copy (place 3 []) ∷ copy (place 4 []) ∷ copy (place 6 []) ∷ [])))
+      (seq (call splitting (copy (place 14 []) ∷ copy (place 3 []) ∷ []) (place 9 []))
+      (lent_on (at_side s (pointer 9 1) (pointer 8 0)) (at_side s (size 9 1) (size 8 0)) 15 16
+      (seq (assign (place 17 []) (aggregate (copy (place 16 []) ∷ at_side s (copy (place 4 [])) (copy (place 2 [])) ∷
+      copy (place 3 []) ∷ copy (place 4 []) ∷ copy (place 6 []) ∷ [])))
       (seq (assign (place 1 (deref Self ∷ [])) (rv_opd (copy (place 17 [])))) (lent_on (pointer 9 0) (size 9 0) 18 19
       (seq (assign (place 0 []) (aggregate (int w8 1 ∷ copy (place 19 []) ∷ []))) return)))))))))))
 
@@ -68,7 +71,8 @@ module _ (option self pair : Sym) (kept entry : Ty) (s : Side) (placing taking s
 
   abbrev code : Fn
   code =
-      let number = local (ty_int w64) value_local in let slice = local part value_local in let parts = local (ty_struct pair (tcons part (tcons part tnil))) value_local in
+      let number = local (ty_int w64) value_local in let slice = local part value_local in
+      let parts = local (ty_struct pair (tcons part (tcons part tnil))) value_local in
       let pointer = local (ty_ref erased mut (ty_param 0)) value_local in
       record {
         lifetimes = 2;
@@ -152,12 +156,15 @@ module _ {M : Type 1} {𝓤 : Ura M} (𝓛 : Logic 𝓤) (𝓜 : Model 𝓤 𝓛
       let κ = κs.0 in let q = qs.0 in let κa = κs.1.0 in let qa = qs.1.0 in let κT = κs.1.1.0 in let qT = qs.1.1.0 in let aT = bounds.1.1.0 in
       let ℓ = named_lft 3 1 tt κs in let Row = rows_mut.the_row ℓ item in let Slice = MutSlice (named 1) κa item in
       let self = a.0 in let b = self.ref_ptr.0 in let o = self.ref_ptr.1 in let h = self.now in let rest = h.rest in
-      let Walk = walk_of 𝓛 (next.ended T) (stayed T) c in let bound : Walk.Ghost = ((κs, qs, bounds, a, (mut_vals self, tt)), g) in let Post = Walk.post bound in
+      let Walk = walk_of 𝓛 (next.ended T) (stayed T) c in let bound : Walk.Ghost = ((κs, qs, bounds, a, (mut_vals self, tt)), g) in
+      let Post = Walk.post bound in
       begins 𝓛 κs qs ((MutRef (named 0) κ Row).own_val self (mut_vals self)) (κT ⊑ T.lives) (‵ ftrue) (λ inT. keep ! (0 ∷ 1 ∷ 2 ∷ 3 ∷ []) $
       let inA = ⊑_trans κa κT T.lives aT inT in
-      enter ! _ _ _ _ _ $ alloc_all ! (λ l. pass_all ! refl ((tt, tt), tt) $ opens_self ! tt Row κ q self (lowered h ∷ []) ((lowers ℓ item (param_laws 0 T laws)).val_is h) $
+      enter ! _ _ _ _ _ $ alloc_all ! (λ l. pass_all ! refl ((tt, tt), tt) $
+      opens_self ! tt Row κ q self (lowered h ∷ []) ((lowers ℓ item (param_laws 0 T laws)).val_is h) $
       -- [self's cell; what it owns; the open borrow, in three; the tokens of κa and κT; the locals]
-      well_typed ! (λ ok. let start_fits = start_fit h ok in let width_fits = width_fit h ok in let gap_fits = gap_fit h ok in let count_fits = count_fit h ok in
+      well_typed ! (λ ok. let start_fits = start_fit h ok in let width_fits = width_fit h ok in let gap_fits = gap_fit h ok in
+      let count_fits = count_fit h ok in
       sets ! (of_opd ! (load ! (through ! refl (fld ! refl (stop !))) (look_in ! 0 (sub ! start_at refl (whole !))))) refl (tt, start_fits) $
       sets ! (of_opd ! (load ! (through ! refl (fld ! refl (stop !))) (look_in ! 0 (sub ! width_at refl (whole !))))) refl (tt, width_fits) $
       sets ! (of_opd ! (load ! (through ! refl (fld ! refl (stop !))) (look_in ! 0 (sub ! gap_at refl (whole !))))) refl (tt, gap_fits) $
@@ -174,7 +181,8 @@ module _ {M : Type 1} {𝓤 : Ura M} (𝓛 : Logic 𝓤) (𝓜 : Model 𝓤 𝓛
       use0 𝓛 (raw (fact 𝓤 (YieldsRow s h None h))) (fact_i 𝓤 _ (emp 𝓤) (none_left h s (eqb→eq h.count 0 empty))) $ join ! $
       use0 𝓛 (‵ (LendsRow s item h None h)) (leaves_none 𝓛 item s h) $ join ! $ done !)
       (λ test. let more : 0 < h.count = some_left h.count test in let room = inside h s more in let here = place_of s h in
-      let fewer : h.count - 1 < 2 ^ 64 = omega (arith, count_fits.fits) in let place_fits : here < 2 ^ 64 = omega (arith, room, (rest_fit h ok).fits) in let sum_fits = subst (λ n. n < 2 ^ 64) (sym (is_place h s)) place_fits in
+      let fewer : h.count - 1 < 2 ^ 64 = omega (arith, count_fits.fits) in let place_fits : here < 2 ^ 64 = omega (arith, room, (rest_fit h ok).fits) in
+      let sum_fits = subst (λ n. n < 2 ^ 64) (sym (is_place h s)) place_fits in
       skips ! $ exec ! 𝓣.C 𝓣.Λ (env function.locals l) (drawn option self' pair kept entry s placing taking splitting) (at_ret _ Post) $
       sets ! (bin ! (get ! refl) (lit ! tt) more) refl (tt, record { fits = fewer }) $
       places ! run 𝓜.mem 𝓡.returns place_meets h.start h.width h.gap (number s h) start_fits.fits width_fits.fits gap_fits.fits
@@ -190,8 +198,8 @@ module _ {M : Type 1} {𝓤 : Ura M} (𝓛 : Logic 𝓤) (𝓜 : Model 𝓤 𝓛
       (and_then ! (get ! refl) (and_then ! (get ! refl) (no_more !))) (λ before at before_is at_is before_fits at_fits.
       lands_as ! refl refl (slices_fit before_fits at_fits) $
       sets ! (addr ! (from ! (fld ! refl (fld ! refl (hop ! (look_in_at ! 8 (sub ! 0 refl (sub ! 1 refl (whole !)))) (stop !)))))) refl (tt, tt) $
-      sets ! (agg ! (and_then ! (get ! refl) (and_then ! (get_in ! (fld ! refl (fld ! refl (stop !))) (sub ! 1 refl (sub ! 1 refl (whole !)))) (no_more !)))) refl
-      (slice_fits at_fits) $
+      sets ! (agg ! (and_then ! (get ! refl) (and_then ! (get_in ! (fld ! refl (fld ! refl (stop !))) (sub ! 1 refl (sub ! 1 refl (whole !)))) (no_more !))))
+      refl (slice_fits at_fits) $
       -- [what lies in front; what begins with the row; how the slice ends; the tokens of κa and κT; self's cell; the open borrow]
       move ! (1 ∷ 3 ∷ 4 ∷ []) $ splits ! run 𝓜.mem 𝓡.returns T split_meets κa κT qa qT aT inT at h.width width_fits.fits
       (omega (arith, room, ap length at_is, length-drop here rest.now))
@@ -200,14 +208,16 @@ module _ {M : Type 1} {𝓤 : Ura M} (𝓛 : Logic 𝓤) (𝓜 : Model 𝓤 𝓛
       -- [the row; what lies behind; how the second part ends; the tokens of κa and κT; what lies in front; how the slice ends; self's cell; the open borrow]
       let cut : Cut h before at row behind more s = record { before_is = before_is; at_is = at_is; row_is = row_is; behind_is = behind_is } in
       let new = left h before at row behind more s cut in let kept = at_side s behind before in let other = at_side s before behind in
-      let kept_fits : length kept.now < 2 ^ 64 = fits_by (λ (x : MutBor (List T.Denot)). length x.now) s behind_fits before_fits in let start'_fits : start_of s h < 2 ^ 64 = fits_by (λ n. n) s gap_fits.fits start_fits.fits in
+      let kept_fits : length kept.now < 2 ^ 64 = fits_by (λ (x : MutBor (List T.Denot)). length x.now) s behind_fits before_fits in
+      let start'_fits : start_of s h < 2 ^ 64 = fits_by (λ n. n) s gap_fits.fits start_fits.fits in
       sets ! (addr ! (finds_by s (λ e. let kept = at_side e behind before in (entry, kept.ref_ptr.0, kept.ref_ptr.1))
       (from ! (fld ! refl (fld ! refl (hop ! (look_in_at ! 9 (sub ! 0 refl (sub ! 1 refl (whole !)))) (stop !)))))
       (from ! (fld ! refl (fld ! refl (hop ! (look_in_at ! 8 (sub ! 0 refl (sub ! 0 refl (whole !)))) (stop !))))))) refl (tt, tt) $
       sets ! (agg ! (and_then ! (get ! refl) (and_then ! (opd_by s (λ e. let kept = at_side e behind before in vint w64 (length kept.now))
       (get_in ! (fld ! refl (fld ! refl (stop !))) (sub ! 1 refl (sub ! 1 refl (whole !))))
       (get_in ! (fld ! refl (fld ! refl (stop !))) (sub ! 1 refl (sub ! 0 refl (whole !))))) (no_more !)))) refl (slice_fits kept_fits) $
-      let typed : WellTyped new = (tt, ((tt, (record { fits = kept_fits }, tt)), (record { fits = start'_fits }, (width_fits, (gap_fits, (record { fits = fewer }, tt)))))) in
+      let typed : WellTyped new =
+      (tt, ((tt, (record { fits = kept_fits }, tt)), (record { fits = start'_fits }, (width_fits, (gap_fits, (record { fits = fewer }, tt)))))) in
       sets ! (agg ! (and_then ! (get ! refl) (and_then ! (opd_by s (λ e. vint w64 (start_of e h)) (get ! refl) (get ! refl))
       (and_then ! (get ! refl) (and_then ! (get ! refl) (and_then ! (get ! refl) (no_more !))))))) refl typed $
       let ns = numbers h h.start h.count in
@@ -215,9 +225,10 @@ module _ {M : Type 1} {𝓤 : Ura M} (𝓛 : Logic 𝓤) (𝓜 : Model 𝓤 𝓛
       assigns ! (of_opd ! (get ! refl)) (through ! refl (stop !)) (store_raw ! 0 refl typed) $
       let part = slice_of row in let out = live 1 (of_list (part ∷ [])) in
       sets ! (addr ! (from ! (fld ! refl (fld ! refl (hop ! (look_in_at ! 9 (sub ! 0 refl (sub ! 0 refl (whole !)))) (stop !)))))) refl (tt, tt) $
-      sets ! (agg ! (and_then ! (get ! refl) (and_then ! (get_in ! (fld ! refl (fld ! refl (stop !))) (sub ! 1 refl (sub ! 0 refl (whole !)))) (no_more !)))) refl
-      (slice_fits row_fits) $
-      sets ! (agg ! (and_then ! (lit ! tt) (and_then ! (get ! refl) (no_more !)))) refl (tt, (record { fits = lit< tt }, ((tt, (record { fits = row_fits }, tt)), tt))) $
+      sets ! (agg ! (and_then ! (get ! refl) (and_then ! (get_in ! (fld ! refl (fld ! refl (stop !))) (sub ! 1 refl (sub ! 0 refl (whole !)))) (no_more !))))
+      refl (slice_fits row_fits) $
+      sets ! (agg ! (and_then ! (lit ! tt) (and_then ! (get ! refl) (no_more !))))
+      refl (tt, (record { fits = lit< tt }, ((tt, (record { fits = row_fits }, tt)), tt))) $
       move ! (2 ∷ 6 ∷ []) $ kept_first ! s (λ x. ‵ (Slice.own_val x (slice_of x ∷ []))) behind before $
       -- [what is kept; the other part; self's cell; the row; how the second part ends; the tokens of κa and κT; how the slice ends; the open borrow]
       use1 𝓛 (‵ (Row.own_val new (lowered new ∷ []))) (walk_owned 𝓛 ℓ item h ok kept (start_of s h) (h.count - 1) new.within start'_fits fewer) $

@@ -1,13 +1,14 @@
 -- The two ends of an iterator that lends pixels, so that one definition and one proof serve both.
 --     near, far     the row that was begun from this end, and from the other.        slot, offset     the number of this end's field, and its place in bytes
---     at_side     the one of two things that is this end's.        put     where a pixel stands that was cut off there.        walk_by     the iterator of its parts, as seen from this end
+--     at_side     the one of two things that is this end's.        put     where a pixel stands that was cut off there
+--     walk_by     the iterator of its parts, as seen from this end
 --     Steps, Yields, Takes, Lends     what is said of a call of a pixel from there.        RowSteps, YieldsRow, LendsRow     the same of a call of a row
-use Rattle.v_frame_plane.proofs.lent.Steps.{ℕ, ◌≡◌, List, [], ◌∷◌, ◌++◌, Option, Some, None, MutBor, YieldsFirstMut, YieldsLastMut, Fml, RattleType, fsep}
-use Rattle.v_frame_plane.proofs.lent.Steps.{fwand, fall}
+use Rattle.v_frame_plane.proofs.lent.Steps.{ℕ, ◌≡◌, List, [], ◌∷◌, ◌++◌, Option, Some, None, MutBor, YieldsFirstMut, YieldsLastMut, Fml, RattleType}
 use Rattle.v_frame_plane.specs.Cursor.{PixelsAreCountable}
 use Rattle.v_frame_plane.specs.PixelsLeft.{pixels_left}
 use Rattle.v_frame_plane.specs.RowsLeft.{rows_left}
-use Rattle.v_frame_plane.specs.SecondPixels.{LendsFirstPixel, LendsLastPixel, PixelEndsAs, SecondPixels}
+use Rattle.v_frame_plane.specs.Second.{LendsBy, Takes as TakesItem}
+use Rattle.v_frame_plane.specs.SecondPixels.{KeepsPixels, PixelEndsAs, SecondPixels}
 use Rattle.v_frame_plane.specs.SecondRows.{LendsFirstRow, LendsLastRow}
 use Rattle.v_frame_plane.specs.declared.pixels_mut.PixelsMut.{PixelsMut}
 use Rattle.v_frame_plane.specs.declared.rows_mut.RowsMut.{RowsMut}
@@ -77,16 +78,12 @@ module _ {X : Type 0} where
   no_rows at_front old new none = none
   no_rows at_back old new none = none
 
-module _ (s : Side) (T : RattleType) (old : PixelsMut T.Denot) where
-  -- this pixel is drawn at this end: what it and those that are left then hold, those that were left before do
-  abbrev pub Takes : MutBor T.Denot → PixelsMut T.Denot → Fml
-  Takes pixel new =
-      fall (T.Denot × List T.Denot) (λ held.
-      fwand (fsep (PixelEndsAs T pixel.ghost_name held.0) (SecondPixels T new held.1)) (SecondPixels T old (put s held.0 held.1)))
+-- this pixel is drawn at this end: what it and those that are left then hold, those that were left before do
+abbrev pub Takes : Side → (T : RattleType) → PixelsMut T.Denot → MutBor T.Denot → PixelsMut T.Denot → Fml
+Takes s T old pixel new = TakesItem (PixelEndsAs T) (SecondPixels T) (put s) old new pixel
 
 abbrev pub Lends : Side → (T : RattleType) → PixelsMut T.Denot → Option (MutBor T.Denot) → PixelsMut T.Denot → Fml
-Lends at_front = LendsFirstPixel
-Lends at_back = LendsLastPixel
+Lends s T = LendsBy (KeepsPixels T) (λ old new pixel. Takes s T old pixel new)
 
 abbrev pub LendsRow : Side → (T : RattleType) → RowsMut T.Denot → Option (MutBor (List T.Denot)) → RowsMut T.Denot → Fml
 LendsRow at_front = LendsFirstRow

@@ -1,7 +1,7 @@
 -- `write_next` makes the first place of the room an entry behind the others. Assumes `Logic`.
 use Rattle.v_frame_plane.proofs.lent.Steps.{◌≡◌, refl, sym, ap, ◌∙◌, ℕ, ◌+◌, ◌-◌, ◌*◌, ◌^◌, ◌<◌, arith, List, [], ◌∷◌, ◌++◌, length, a_type, inst_fn, Val, vptr}
 use Rattle.v_frame_plane.proofs.lent.Steps.{full_share, SProp, emp, id⊢, fsep, ftrue, fat, flft, fact, fact_i, ◌⊑◌, tables, ‵, raw, prop, ◌⊛◌, at_ret, ◌$◌, ◌∵◌}
-use Rattle.v_frame_plane.proofs.lent.Steps.{ !, qed, move, keep, split, join, use0, use1, use2, fsplit, fsplit3, fjoin, fjoin3, feq_i, rewrite, whole, sub, stop}
+use Rattle.v_frame_plane.proofs.lent.Steps.{qed, !, move, keep, split, join, use0, use1, use2, fsplit, fsplit3, fjoin, fjoin3, feq_i, rewrite, whole, sub, stop}
 use Rattle.v_frame_plane.proofs.lent.Steps.{fld, of_opd, bin, first, exec, returns, enter, alloc_all, pass_all, free_all, look_at, get, get_in, through, sets}
 use Rattle.v_frame_plane.proofs.lent.Steps.{env, usize, yes, no, param, layouts, param_laws, plain, heard, nothing, opens, closes, Stays, walk_of, stay_ref}
 use Rattle.v_frame_plane.proofs.lent.Steps.{stay_dropped, Goes-ref, Goes-dropped, after, subst, suc, suc-mul, length-append, vunit, never, froom, part_in, WpFn}
