@@ -1,5 +1,4 @@
 -- A call from a side, in a proof by hand: which side it is, and what `next` or `next_back` says then. Assumes `Logic`.
-use Rattle.v_frame_plane.proofs.lent.Steps.{RattleType}
 use Rattle.v_frame_plane.proofs.lent.Steps.{◌≡◌, List, [], ◌∷◌, Option, MutBor, refl, sym, ap, Fml, SProp, ent, sep, fact, fact_i, shows, ⊤, MakesProgress}
 use Rattle.v_frame_plane.proofs.lent.Steps.{item_count, YieldsFirstMut, YieldsLastMut, only, peeks, Val, Ura, Goal, Item, Seq, ‵, raw, ◌$◌, drop, Logic, sem}
 use Rattle.std.proofs.Common.{subst}
@@ -7,28 +6,12 @@ use Rattle.std.specs.Option.{option_copied_mut}
 use base.Logic.{fst∗, mono_r}
 use contract.Monad.{fact_use}
 use types.Kit.{⋆}
-use Rattle.v_frame_plane.specs.SecondPixels.{LendsFirstPixel, LendsLastPixel}
-use Rattle.v_frame_plane.specs.SecondRows.{LendsFirstRow, LendsLastRow}
-use Rattle.v_frame_plane.specs.declared.pixels_mut.PixelsMut.{PixelsMut}
-use Rattle.v_frame_plane.specs.declared.rows_mut.RowsMut.{RowsMut}
 use Rattle.v_frame.specs.Walk.{item_from, left_by}
 use Rattle.v_frame.specs.contracts.replay.draw.Side.{the_row}
 use Rattle.v_frame.specs.declared.replay.draw.Side.{Side}
 use Rattle.v_frame.specs.declared.replay.draw.Side.TheVariants.{Front, Back}
 use Rattle.v_frame.proofs.DrawnItems.{first_drawn, last_drawn}
 use Rattle.v_frame.proofs.replay.draw.Side.TheLaws.{lowers}
-
-module _ (T : RattleType) where
-  -- what a call from a side leaves
-  abbrev pub LendsRowFrom : Side → RowsMut T.Denot → Option (MutBor (List T.Denot))
-      → RowsMut T.Denot → Fml
-  LendsRowFrom Front old row new = LendsFirstRow T old row new
-  LendsRowFrom Back old row new = LendsLastRow T old row new
-
-  abbrev pub LendsPixelFrom : Side → PixelsMut T.Denot → Option (MutBor T.Denot)
-      → PixelsMut T.Denot → Fml
-  LendsPixelFrom Front old pixel new = LendsFirstPixel T old pixel new
-  LendsPixelFrom Back old pixel new = LendsLastPixel T old pixel new
 
 module _ {M : Type 1} {𝓤 : Ura M} {𝓛 : Logic 𝓤} {K : Type 0} {Γ : List (Item 𝓤)} {G : Goal 𝓤 𝓛.H} where
   pub by_side : K → (side : Side) (u : Val) → (side ≡ Front → u ≡ lowers.lowered Front → Seq K 𝓛 Γ G) → (side ≡ Back → u ≡ lowers.lowered Back → Seq K 𝓛 Γ G)

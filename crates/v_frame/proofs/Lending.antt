@@ -2,7 +2,7 @@
 --     lends_plane, plane_back     the plane is lent for a lifetime within κT, and is there again, as it ended
 --     rows_back     the same, from what its rows end as
 --     lends_walk, walk_back     an iterator in a local is lent to a call, and is there again, as the call left it
---     rows_begin, pixels_begin     what `rows_mut` and `pixels_mut` say of the iterator that they give
+--     begins     what `rows_mut` and `pixels_mut` say of the iterator that they give
 use Rattle.v_frame_plane.proofs.lent.Steps.{ℕ, ◌≡◌, ◌^◌, ◌<◌, List, [], ◌∷◌, length, MutBor, Lft, Share, Fml, fat, flent, flft, fsep, full_share, ent, sep}
 use Rattle.v_frame_plane.proofs.lent.Steps.{fact}
 use Rattle.v_frame_plane.proofs.lent.Steps.{RattleType, MutRef, mut_vals, mem, named, param, Val, vptr, Ura, Goal, Item, Seq, Soaks, Step, step, ‵, raw, ◌⊛◌}
@@ -29,6 +29,7 @@ use Rattle.v_frame_plane.specs.contracts.plane.Plane.{the_row}
 use Rattle.v_frame_plane.specs.declared.pixels_mut.PixelsMut.{PixelsMut}
 use Rattle.v_frame_plane.specs.declared.rows_mut.RowsMut.{RowsMut}
 use Rattle.v_frame.proofs.CallSteps.{told}
+use Rattle.v_frame.proofs.ItemKinds.{Begins, Kind, Walk, of_pixels, slice}
 use Rattle.v_frame_plane.proofs.lent.Loans as loans
 use Rattle.v_frame_plane.proofs.lent.Loans.{Back, lft_over, lft_within, share_within}
 
@@ -97,37 +98,20 @@ module _ {M : Type 1} {𝓤 : Ura M} {𝓛 : Logic 𝓤} {K : Type 0} {Γ : List
         move t (1 ∷ 2 ∷ []) $ use2 𝓛 (‵ (flft κ q)) (𝓛.lfts.lft_join κ q) $ move t (2 ∷ []) $ fsplit t $ move t (3 ∷ 4 ∷ 0 ∷ []) $
         loans.comes_back t z R one τ same (α ∷ κ) γ b o new v spelled $ move t (2 ∷ []) $ drop t $ k)
 
--- how an iterator over the rows of a plane begins
-pub record RowsBegin {X : Type 0} (plane : Raster X) (walk : RowsMut X) : Type 0 where
-  pub rows : rows_left walk ≡ table_of plane
-  pub written : WritesEachTable plane walk
-  pub wide : All (λ row. length row ≡ plane.geometry.width) (rows_left walk)
-
--- and one over its pixels
-pub record PixelsBegin {X : Type 0} (plane : Raster X) (walk : PixelsMut X) : Type 0 where
-  pub pixels : pixels_left walk ≡ row_major (table_of plane)
-  pub begins : BeginsOver plane walk
-
 module _ {M : Type 1} {𝓤 : Ura M} (T : RattleType) (loan : MutBor (Raster T.Denot)) where
   -- what the calls say
-  abbrev pub RowsSaid : RowsMut T.Denot → Item 𝓤
-  RowsSaid walk = ‵ (LendsBuffer (param 0 T) loan (rows_slice walk)) ⊛ raw (fact 𝓤 ((rows_slice walk).now ≡ loan.now.buffer)) ⊛
+  abbrev Said : (k : Kind) → Walk T k → Item 𝓤
+  Said of_pixels walk = ‵ (LendsBuffer (param 0 T) loan (pixels_slice walk)) ⊛ raw (fact 𝓤 ((pixels_slice walk).now ≡ loan.now.buffer)) ⊛
+      raw (fact 𝓤 (pixels_left walk ≡ row_major (table_of loan.now))) ⊛ raw (fact 𝓤 (BeginsOver loan.now walk)) ⊛
+      raw (fact 𝓤 (length (pixels_left walk) < 2 ^ 63)) ⊛ raw (fact 𝓤 (LendsPixelsInOrder T.Denot)) ⊛ raw (fact 𝓤 (LendsPixelsInReverse T.Denot))
+  Said _ walk = ‵ (LendsBuffer (param 0 T) loan (rows_slice walk)) ⊛ raw (fact 𝓤 ((rows_slice walk).now ≡ loan.now.buffer)) ⊛
       raw (fact 𝓤 (rows_left walk ≡ table_of loan.now)) ⊛ raw (fact 𝓤 (WritesEachTable loan.now walk)) ⊛
       raw (fact 𝓤 (All (λ row. length row ≡ loan.now.geometry.width) (rows_left walk))) ⊛ raw (fact 𝓤 (PixelsAreCountable [] (rows_left walk) [])) ⊛
       raw (fact 𝓤 (length (rows_left walk) < 2 ^ 63)) ⊛ raw (fact 𝓤 (LendsRowsInOrder T.Denot)) ⊛ raw (fact 𝓤 (LendsRowsInReverse T.Denot))
 
-  abbrev pub PixelsSaid : PixelsMut T.Denot → Item 𝓤
-  PixelsSaid walk = ‵ (LendsBuffer (param 0 T) loan (pixels_slice walk)) ⊛ raw (fact 𝓤 ((pixels_slice walk).now ≡ loan.now.buffer)) ⊛
-      raw (fact 𝓤 (pixels_left walk ≡ row_major (table_of loan.now))) ⊛ raw (fact 𝓤 (BeginsOver loan.now walk)) ⊛
-      raw (fact 𝓤 (length (pixels_left walk) < 2 ^ 63)) ⊛ raw (fact 𝓤 (LendsPixelsInOrder T.Denot)) ⊛ raw (fact 𝓤 (LendsPixelsInReverse T.Denot))
-
-module _ {M : Type 1} {𝓤 : Ura M} (𝓛 : Logic 𝓤) (T : RattleType) (loan : MutBor (Raster T.Denot)) where
-  pub rows_begin : (walk : RowsMut T.Denot) → ent 𝓤 (mean 𝓛 (RowsSaid T loan walk)) (sep 𝓤 (sem 𝓛 (LendsBuffer (param 0 T) loan (rows_slice walk)))
-      (fact 𝓤 (RowsBegin loan.now walk)))
-  rows_begin walk = qed 𝓛 (RowsSaid T loan walk ∷ []) ∵ split ! $ frame ! $ split ! $ drop ! $ split ! $ heard ! _ (λ rows. split ! $ heard ! _ (λ written. split ! $
-      heard ! _ (λ wide. told ! (record { rows = rows; written = written; wide = wide }))))
-
-  pub pixels_begin : (walk : PixelsMut T.Denot) → ent 𝓤 (mean 𝓛 (PixelsSaid T loan walk)) (sep 𝓤 (sem 𝓛 (LendsBuffer (param 0 T) loan (pixels_slice walk)))
-      (fact 𝓤 (PixelsBegin loan.now walk)))
-  pixels_begin walk = qed 𝓛 (PixelsSaid T loan walk ∷ []) ∵ split ! $ frame ! $ split ! $ drop ! $ split ! $ heard ! _ (λ pixels. split ! $ heard ! _ (λ begins.
-      told ! (record { pixels = pixels; begins = begins })))
+  pub begins : (𝓛 : Logic 𝓤) (k : Kind) (walk : Walk T k) → ent 𝓤 (mean 𝓛 (Said k walk)) (sep 𝓤 (sem 𝓛 (LendsBuffer (param 0 T) loan (slice T k walk)))
+      (fact 𝓤 (Begins T k loan.now walk)))
+  begins 𝓛 of_pixels walk = qed 𝓛 (Said of_pixels walk ∷ []) ∵ split ! $ frame ! $ split ! $ drop ! $ split ! $ heard ! _ (λ all. split ! $
+      heard ! _ (λ tells. told ! (record { all = all; written = tells.written; tells = tells })))
+  begins 𝓛 k walk = qed 𝓛 (Said k walk ∷ []) ∵ split ! $ frame ! $ split ! $ drop ! $ split ! $ heard ! _ (λ all. split ! $
+      heard ! _ (λ written. split ! $ heard ! _ (λ tells. told ! (record { all = all; written = written; tells = tells }))))

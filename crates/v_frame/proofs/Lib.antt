@@ -8,11 +8,12 @@ pub mod DrawnItems
 pub mod DrawnLoans
 pub mod Draws
 pub mod FullWalks
+pub mod ItemKinds
 pub mod Lending
 pub mod OptionCases
 pub mod PutBack
 pub mod Replays
 pub mod SharedItems
 pub mod Steps
+pub mod WriteItem
 pub mod WriteItems
-pub mod Writes

@@ -1,6 +1,6 @@
 -- An `Option` by value, in a proof by hand: the proof goes on for each variant. by_ref is for an `Option` of a `&mut`. Assumes `Logic`.
 use Rattle.v_frame_plane.proofs.lent.Steps.{Lft, MutBor, MutRef, mut_vals, peeks, rewrite, shows, ◌≡◌, List, [], ◌∷◌, Option, Some, None, refl, ap, ◌∙◌}
-use Rattle.v_frame_plane.proofs.lent.Steps.{RattleType, only, Val, of_list, Ura, Goal, Item, Seq, ‵, ◌$◌, drop, feq_l, fpick, fsplit, live, move, Logic}
+use Rattle.v_frame_plane.proofs.lent.Steps.{RattleType, only, Val, of_list, vptr, Ura, Goal, Item, Seq, ‵, ◌$◌, drop, feq_l, fpick, fsplit, live, move, Logic}
 use Rattle.std.proofs.Common.{append-nil, subst}
 use denote.Laws.{Is}
 use mir.Syntax.{Lifetime}
@@ -16,12 +16,6 @@ module _ {M : Type 1} {𝓤 : Ura M} {𝓛 : Logic 𝓤} {K : Type 0} {Γ : List
       feq_l t (λ is. fsplit t $ move t (1 ∷ []) $ drop t $ some x vss.0 refl (ap only e ∙
       ap (λ (ws : List Val). live 1 (of_list ws)) (is ∙ append-nil vss.0))))))
 
-  pub by_ref : K → (ℓ : Lifetime) (κ : Lft) (X : RattleType) (r : Option (MutBor X.Denot)) (v : Val) → (r ≡ None → v ≡ live 0 (of_list []) → Seq K 𝓛 Γ G)
-      → ((x : MutBor X.Denot) → r ≡ Some x → v ≡ live 1 (of_list (mut_vals x)) → Seq K 𝓛 (‵ ((MutRef ℓ κ X).own_val x (mut_vals x)) ∷ Γ) G)
-      → Seq K 𝓛 (‵ ((Opt.the_row (MutRef ℓ κ X)).own_val r (v ∷ [])) ∷ Γ) G
-  by_ref t ℓ κ X r v none some = by_option t (MutRef ℓ κ X) r v none (λ x vs is e. peeks t (MutRef ℓ κ X) _ (shows 𝓛 (MutRef ℓ κ X)) x vs (λ at.
-      rewrite t 0 (λ (us : List Val). ‵ ((MutRef ℓ κ X).own_val x us)) at.0 refl $ some x is (e ∙ ap (λ (us : List Val). live 1 (of_list us)) at.0)))
-
   -- of a type whose machine value its value tells
   pub by_told : K → (X : RattleType) (lowered : X.Denot → Val) → ((x : X.Denot) (vs : List Val) → Is X x vs → vs ≡ lowered x ∷ []) → (r : Option X.Denot) (v :
       Val) → (r ≡ None → v ≡ live 0 (of_list []) → Seq K 𝓛 Γ G)
@@ -29,3 +23,8 @@ module _ {M : Type 1} {𝓤 : Ura M} {𝓛 : Logic 𝓤} {K : Type 0} {Γ : List
       → Seq K 𝓛 (‵ ((Opt.the_row X).own_val r (v ∷ [])) ∷ Γ) G
   by_told t X lowered told r v none some = by_option t X r v none (λ x vs is e. peeks t X _ (shows 𝓛 X) x vs (λ at. let same = told x vs at in
       rewrite t 0 (λ (us : List Val). ‵ (X.own_val x us)) same refl $ some x is (e ∙ ap (λ (us : List Val). live 1 (of_list us)) same) (subst (Is X x) same at)))
+
+  pub by_ref : K → (ℓ : Lifetime) (κ : Lft) (X : RattleType) (r : Option (MutBor X.Denot)) (v : Val) → (r ≡ None → v ≡ live 0 (of_list []) → Seq K 𝓛 Γ G)
+      → ((x : MutBor X.Denot) → r ≡ Some x → v ≡ live 1 (of_list (mut_vals x)) → Seq K 𝓛 (‵ ((MutRef ℓ κ X).own_val x (mut_vals x)) ∷ Γ) G)
+      → Seq K 𝓛 (‵ ((Opt.the_row (MutRef ℓ κ X)).own_val r (v ∷ [])) ∷ Γ) G
+  by_ref t ℓ κ X r v none some = by_told t (MutRef ℓ κ X) (λ x. vptr x.ref_ptr.0 x.ref_ptr.1) (λ x vs is. is.0) r v none (λ x is e _. some x is e)

@@ -13,7 +13,8 @@ use Rattle.v_frame.specs.Prelude.{LendsBuffer, LendsFirstPixel, LendsLastPixel, 
 use Rattle.v_frame.specs.Prelude.{row_major, table_of}
 use Rattle.v_frame.proofs.CallSteps.{asks_that, both_facts, calls, ends, opened_by, spelt, tells, told}
 use Rattle.v_frame.proofs.OptionCases.{by_ref}
-use Rattle.v_frame.proofs.Lending.{PixelsBegin, lends_plane, lends_walk, pixels_begin, plane_back, walk_back}
+use Rattle.v_frame.proofs.ItemKinds.{Begins, of_pixels}
+use Rattle.v_frame.proofs.Lending.{begins, lends_plane, lends_walk, plane_back, walk_back}
 use Rattle.v_frame_plane.specs.contracts.pixels_mut.PixelsMut as walks
 use Rattle.v_frame_plane.specs.contracts.pixels_mut.PixelsMut.next
 use Rattle.v_frame_plane.specs.contracts.pixels_mut.PixelsMut.next_back
@@ -65,7 +66,7 @@ write_ends_spec 𝓤 𝓛 𝓜 𝓡 wired T laws copy clone dict met =
     calls ! (1 ∷ 2 ∷ 0 ∷ []) run (pixels_mut.ended T) (pixels_mut.clauses T 𝓛 𝓜.mem 𝓡.returns)
     (pixels_mut_met.met 𝓤 𝓛 𝓜 𝓡 (code.calls-v_frame_plane::plane::Plane::pixels_mut 𝓡.env wired) T laws)
     (((κ', (κT, tt)), (s, (rT, tt)), (inside, tt), (loan, tt), (mut_vals plane, tt)), tt) (asks_that 𝓤 inT) refl (and_then ! (get ! refl) (no_more !))
-    (λ w ws. ‵ (LendsBuffer item loan (pixels_slice w)) ∷ raw (fact 𝓤 (PixelsBegin plane.now w)) ∷ []) (λ w ws. pixels_begin 𝓛 T loan w) (λ v walk ws.
+    (λ w ws. ‵ (LendsBuffer item loan (pixels_slice w)) ∷ raw (fact 𝓤 (Begins T of_pixels plane.now w)) ∷ []) (λ w ws. begins T loan 𝓛 of_pixels w) (λ v walk ws.
     let ℓ : NamedLft = record { mir = named 1; lft = κ' } in let Walking = walks.the_row ℓ item in let spelled = (lowers ℓ item (param_laws 0 T laws)).val_is in
     spelt ! Walking lowered spelled walk v (λ e is. let ww = (((walk_laws ℓ item (param_laws 0 T laws)).lawful 𝓛).typed walk (lowered walk ∷ []) is).0 in
     lands_as ! e refl ww $ sets ! (of_opd ! (get ! refl)) refl ww $ move ! (2 ∷ 5 ∷ []) $ heard ! _ (λ begun. drop ! $
@@ -87,7 +88,7 @@ write_ends_spec 𝓤 𝓛 𝓜 𝓡 wired T laws copy clone dict met =
     λ old r new. ‵ (LendsLastPixel item old r new) ∷ raw (fact 𝓤 (YieldsLastMut pixels_left old r new)) ∷ Moves old r new ∷ [] in
     let First : PixelsMut T.Denot → Option (MutBor T.Denot) → PixelsMut T.Denot → List (Item 𝓤) =
     λ old r new. ‵ (LendsFirstPixel item old r new) ∷ raw (fact 𝓤 (YieldsFirstMut pixels_left old r new)) ∷ Moves old r new ∷ [] in
-    let some₀ : 2 < length (pixels_left walk) = omega (arith, known.1, ap length begun.pixels) in
+    let some₀ : 2 < length (pixels_left walk) = omega (arith, known.1, ap length begun.all) in
     -- the last pixel
     sets ! (addr ! (from ! (stop !))) refl (tt, tt) $ take_at ! 5 $ move ! (0 ∷ 1 ∷ 3 ∷ []) $
     lends_walk ! tt Walking refl τ refl κ' s walk (l 5) 0 (lowered walk) (λ β γ.
@@ -160,9 +161,9 @@ write_ends_spec 𝓤 𝓛 𝓜 𝓡 wired T laws copy clone dict met =
     (pixels_left three ++ y ∷ []))) $
     let pixels = with_ends x y z (row_major (table_of plane.now)) in
     rewrite ! 0 (λ (xs : List T.Denot). ‵ (SecondPixels item walk xs)) (ends_of (row_major (table_of plane.now)) (pixels_left one) (pixels_left two)
-    (pixels_left three) start.now before.now end.now x y z (sym begun.pixels ∙ last) foremost next_to) refl $
+    (pixels_left three) start.now before.now end.now x y z (sym begun.all ∙ last) foremost next_to) refl $
     move ! (3 ∷ 0 ∷ []) $ use2 𝓛 (some (λ (new : Raster T.Denot). raw (fact 𝓤 (Shows plane.now new pixels)) ⊛
-    ‵ (fres δ (Plane.coded.code new)))) (written 𝓛 item plane.now δ walk pixels begun.begins) $ pick ! (λ new. split ! $ heard ! _ (λ shows_them.
+    ‵ (fres δ (Plane.coded.code new)))) (written 𝓛 item plane.now δ walk pixels begun.tells) $ pick ! (λ new. split ! $ heard ! _ (λ shows_them.
     -- [how the plane ended; the tokens of κ' and κT; what its lender keeps; the way back; the locals]
     plane_back ! tt T α δ κ κT q qT plane new $
     -- [the token of κT; the plane; the token of κ; the locals]

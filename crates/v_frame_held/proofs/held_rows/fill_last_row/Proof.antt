@@ -11,7 +11,8 @@ use Rattle.v_frame.proofs.Steps.{vunit, walk_of, whole, !, [], ‵, ⊑_trans, �
 use base.Share
 use Rattle.v_frame.specs.Prelude.{EndsAs, LendsBuffer, LendsLastRow, SecondRows, entries_with, rows_left, rows_slice, table_of, with_entries}
 use Rattle.v_frame.proofs.CallSteps.{asks_that, calls, calls_last, ends, opened, spelt, tells, told, unit_fits}
-use Rattle.v_frame.proofs.Lending.{RowsBegin, lends_plane, lends_walk, rows_back, rows_begin, walk_back}
+use Rattle.v_frame.proofs.ItemKinds.{Begins, of_rows}
+use Rattle.v_frame.proofs.Lending.{begins, lends_plane, lends_walk, rows_back, walk_back}
 use Rattle.v_frame_plane.specs.contracts.plane.Plane as planes
 use Rattle.v_frame_plane.specs.contracts.plane.Plane.rows_mut
 use Rattle.v_frame_plane.specs.contracts.rows_mut.RowsMut as walks
@@ -54,7 +55,7 @@ fill_last_row_spec 𝓤 𝓛 𝓜 𝓡 wired T laws copy clone dict met =
     calls ! (1 ∷ 2 ∷ 0 ∷ []) run (rows_mut.ended T) (rows_mut.clauses T 𝓛 𝓜.mem 𝓡.returns)
     (rows_mut_met.met 𝓤 𝓛 𝓜 𝓡 (code.calls-v_frame_plane::plane::Plane::rows_mut 𝓡.env wired) T laws)
     (((κw, (κT, tt)), (qw, (rT, tt)), (inside, tt), (loan, tt), (mut_vals plane, tt)), tt) (asks_that 𝓤 inT) refl (and_then ! (get ! refl) (no_more !))
-    (λ w ws. ‵ (LendsBuffer item loan (rows_slice w)) ∷ raw (fact 𝓤 (RowsBegin plane.now w)) ∷ []) (λ w ws. rows_begin 𝓛 T loan w) (λ v w ws.
+    (λ w ws. ‵ (LendsBuffer item loan (rows_slice w)) ∷ raw (fact 𝓤 (Begins T of_rows plane.now w)) ∷ []) (λ w ws. begins T loan 𝓛 of_rows w) (λ v w ws.
     let ℓ : NamedLft = record { mir = named 1; lft = κw } in let Walk = walks.the_row ℓ item in
     let spelled = (walk_laws.lowers ℓ item (param_laws 0 T laws)).val_is in
     spelt ! Walk lowered spelled w v (λ e is. let typed = ((walk_laws.the_row_laws ℓ item (param_laws 0 T laws)).lawful 𝓛).typed w (lowered w ∷ []) is in
@@ -102,11 +103,11 @@ fill_last_row_spec 𝓤 𝓛 𝓜 𝓡 wired T laws copy clone dict met =
     use2 𝓛 (‵ (SecondRows item w (rows_left left))) (took_no_row 𝓛 item w left (rows_left left)) $
     rows_back ! tt T α δ κ κT q qT plane w (rows_left left) $
     sets ! (of_opd ! (unit_lit !)) refl (tt, tt) $ returns ! (look_at ! 0 refl) $ free_all ! refl $ keep ! (0 ∷ 1 ∷ 2 ∷ []) $
-    let same : rows_left left ≡ table = none.1 ∙ sym none.0 ∙ begun.rows in finish (rows_left left) (same ∙
-    none_set table filled (sym begun.rows ∙ none.0)) (ap (λ rows. map length rows) same))
+    let same : rows_left left ≡ table = none.1 ∙ sym none.0 ∙ begun.all in finish (rows_left left) (same ∙
+    none_set table filled (sym begun.all ∙ none.0)) (ap (λ rows. map length rows) same))
     -- where there is one, it is filled
     (λ row is out row_fits. let drawn : rows_left w ≡ rows_left left ++ row.now ∷ [] = subst (λ r. YieldsLastMut rows_left w r left) is steps in
-    let as_wide : length row.now ≡ plane.now.geometry.width = last_as_long (rows_left w) (rows_left left) row.now plane.now.geometry.width begun.wide drawn in
+    let as_wide : length row.now ≡ plane.now.geometry.width = last_as_long (rows_left w) (rows_left left) row.now plane.now.geometry.width begun.tells drawn in
     rewrite ! 3 (λ (r : Option (MutBor (List T.Denot))). ‵ (LendsLastRow item w r left)) is refl $
     lands_as ! out refl (tt, (record { fits = lit< tt }, ((tt, (record { fits = row_fits }, tt)), tt))) $
     first ! $ switches_on ! (get_tag ! (vrt ! refl (fld ! refl (stop !))) (whole !)) $ exec ! 𝓣.C 𝓣.Λ En (arm_body 0 (head (after 5 function.body))) Then $
@@ -131,6 +132,6 @@ fill_last_row_spec 𝓤 𝓛 𝓜 𝓡 wired T laws copy clone dict met =
     move ! (7 ∷ 1 ∷ 0 ∷ []) $ use3 𝓛 (‵ (SecondRows item w (rows_left left ++ filled ∷ []))) (took_last_row 𝓛 item w left row filled) $
     move ! (0 ∷ 3 ∷ 4 ∷ 6 ∷ 7 ∷ 8 ∷ []) $ rows_back ! tt T α δ κ κT q qT plane w (rows_left left ++ filled ∷ []) $
     sets ! (of_opd ! (unit_lit !)) refl (tt, tt) $ returns ! (look_at ! 0 refl) $ free_all ! refl $ keep ! (0 ∷ 1 ∷ 2 ∷ []) $
-    let shows_row : table ≡ rows_left left ++ row.now ∷ [] = sym begun.rows ∙ drawn in
+    let shows_row : table ≡ rows_left left ++ row.now ∷ [] = sym begun.all ∙ drawn in
     finish (rows_left left ++ filled ∷ []) (last_set table (rows_left left) row.now filled shows_row)
     (as_long table (rows_left left) row.now filled shows_row (length-replicate plane.now.geometry.width value ∙ sym as_wide))))))))))))))))

@@ -1,7 +1,8 @@
 -- `write_pixel` draws from a side, and where there is a pixel, replaces it.
 use Rattle.v_frame_plane.proofs.pixels_mut.PixelsMut.next.Met as next_met
 use Rattle.v_frame_plane.proofs.pixels_mut.PixelsMut.next_back.Met as next_back_met
-use Rattle.v_frame.proofs.Writes.{of_pixels, item_written}
+use Rattle.v_frame.proofs.ItemKinds.{of_pixels}
+use Rattle.v_frame.proofs.WriteItem.{item_written}
 use Rattle.v_frame.proofs.replay.draw.PixelDrawDraw.side.Met as side_met
 use Rattle.v_frame.proofs.replay.pixel_writes.replace_by.Met as replace_by_met
 use Rattle.v_frame.proofs.replay.pixel_writes.write_pixel.Statement.{statement}

@@ -1,7 +1,7 @@
 -- `write_pixels` writes each draw through an iterator over the pixels of its plane.
 use Rattle.v_frame_plane.proofs.plane.Plane.pixels_mut.Met as pixels_mut_met
 use Rattle.v_frame.proofs.WriteItems.{items_written}
-use Rattle.v_frame.proofs.Writes.{of_pixels}
+use Rattle.v_frame.proofs.ItemKinds.{of_pixels}
 use Rattle.v_frame.proofs.replay.pixel_writes.write_pixel.Met as write_pixel_met
 use Rattle.v_frame.proofs.replay.pixel_writes.write_pixels.Statement.{statement}
 use Rattle.v_frame.proofs.replay.pixel_writes.write_pixels.Code as code

@@ -1,7 +1,8 @@
 -- `write_row` draws from a side, and where there is a row, overwrites it.
 use Rattle.v_frame_plane.proofs.rows_mut.RowsMut.next.Met as next_met
 use Rattle.v_frame_plane.proofs.rows_mut.RowsMut.next_back.Met as next_back_met
-use Rattle.v_frame.proofs.Writes.{of_rows, item_written}
+use Rattle.v_frame.proofs.ItemKinds.{of_rows}
+use Rattle.v_frame.proofs.WriteItem.{item_written}
 use Rattle.v_frame.proofs.replay.draw.RowDrawDraw.side.Met as side_met
 use Rattle.v_frame.proofs.replay.row_writes.overwrite_by.Met as overwrite_by_met
 use Rattle.v_frame.proofs.replay.row_writes.write_row.Statement.{statement}

@@ -1,7 +1,7 @@
 -- `write_rows` writes each draw through an iterator over the rows of its plane.
 use Rattle.v_frame_plane.proofs.plane.Plane.rows_mut.Met as rows_mut_met
 use Rattle.v_frame.proofs.WriteItems.{items_written}
-use Rattle.v_frame.proofs.Writes.{of_rows}
+use Rattle.v_frame.proofs.ItemKinds.{of_rows}
 use Rattle.v_frame.proofs.replay.row_writes.write_row.Met as write_row_met
 use Rattle.v_frame.proofs.replay.row_writes.write_rows.Statement.{statement}
 use Rattle.v_frame.proofs.replay.row_writes.write_rows.Code as code

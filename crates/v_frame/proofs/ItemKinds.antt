@@ -1,0 +1,116 @@
+-- What an iterator that writes gives: rows, or pixels. A proof over a kind stands once: its last clause is checked for each kind, where these words compute.
+--     walk_row, draw_row     the types of the iterator and of a draw.        Walk, Draw, Entry     their values, and what a draw changes
+--     left, shown, rows_of, slice     what is left of the iterator, and of a plane's; its rows, and its slice
+--     side_of, made, written     what a draw says.        Second, Ends, Lends, Puts     how they end
+--     Begins     how the iterator of a plane begins.        Promise, Kept     what a function says, and that it is so
+use Rattle.v_frame_plane.proofs.lent.Steps.{◌≡◌, List, length, Option, MutBor, NamedLft, RattleType, Fml, Clauses, Logic, Ura, param}
+use Rattle.std.proofs.Common.{All}
+use contract.Running.{Running}
+use denote.Triple.Clauses.{Ended, closing}
+use denote.Triple.Spec.{Meets}
+use mir.Syntax.{Callee}
+use prog.Model.{Model}
+use Rattle.v_frame_layout.specs.Table.{Table, row_major}
+use Rattle.v_frame_plane.specs.PixelsLeft.{pixels_left, pixels_slice}
+use Rattle.v_frame_plane.specs.Plane.{Raster, table_of}
+use Rattle.v_frame_plane.specs.RowsLeft.{rows_left, rows_slice}
+use Rattle.v_frame_plane.specs.SecondPixels.{BeginsOver, LendsFirstPixel, LendsLastPixel, PixelEndsAs, SecondPixels}
+use Rattle.v_frame_plane.specs.SecondRows.{EndsAs, LendsFirstRow, LendsLastRow, SecondRows, WritesEachTable}
+use Rattle.v_frame_plane.specs.contracts.pixels_mut.PixelsMut as pixels_mut
+use Rattle.v_frame_plane.specs.contracts.rows_mut.RowsMut as rows_mut
+use Rattle.v_frame_plane.specs.declared.pixels_mut.PixelsMut.{PixelsMut}
+use Rattle.v_frame_plane.specs.declared.rows_mut.RowsMut.{RowsMut}
+use Rattle.v_frame.specs.DrawnItems.{PutsBack}
+use Rattle.v_frame.specs.Walk.{pixel_written, pixels_written, row_written, rows_written}
+use Rattle.v_frame.specs.contracts.replay.draw.PixelDraw as pixel_draw
+use Rattle.v_frame.specs.contracts.replay.draw.RowDraw as row_draw
+use Rattle.v_frame.specs.declared.replay.draw.PixelDraw.{PixelDraw}
+use Rattle.v_frame.specs.declared.replay.draw.RowDraw.{RowDraw}
+use Rattle.v_frame.specs.declared.replay.draw.Side.{Side}
+use Rattle.v_frame.specs.declared.replay.draw.Side.TheVariants.{Front, Back}
+
+-- `neither` has a first clause of its own, so that a last clause is split
+pub data Kind : Type 0 where
+  neither of_rows of_pixels : Kind
+
+abbrev pub walk_row : Kind → NamedLft → RattleType → RattleType
+walk_row of_pixels = pixels_mut.the_row
+walk_row _ = rows_mut.the_row
+
+abbrev pub draw_row : Kind → RattleType → RattleType
+draw_row of_pixels = pixel_draw.the_row
+draw_row _ = row_draw.the_row
+
+module _ (T : RattleType) where
+  abbrev pub Walk : Kind → Type 0
+  Walk of_pixels = PixelsMut T.Denot
+  Walk _ = RowsMut T.Denot
+
+  abbrev pub Draw : Kind → Type 0
+  Draw of_pixels = PixelDraw T.Denot
+  Draw _ = RowDraw T.Denot
+
+  abbrev pub Entry : Kind → Type 0
+  Entry of_pixels = T.Denot
+  Entry _ = List T.Denot
+
+  abbrev pub left : (k : Kind) → Walk k → List (Entry k)
+  left of_pixels = pixels_left
+  left _ = rows_left
+
+  abbrev pub shown : (k : Kind) → Raster T.Denot → List (Entry k)
+  shown of_pixels plane = row_major (table_of plane)
+  shown _ plane = table_of plane
+
+  abbrev pub rows_of : (k : Kind) → Walk k → RowsMut T.Denot
+  rows_of of_pixels walk = walk.rows
+  rows_of _ walk = walk
+
+  abbrev pub slice : (k : Kind) → Walk k → MutBor (List T.Denot)
+  slice of_pixels = pixels_slice
+  slice _ = rows_slice
+
+  abbrev pub side_of : (k : Kind) → Draw k → Side
+  side_of of_pixels draw = draw.side
+  side_of _ draw = draw.side
+
+  abbrev pub made : (k : Kind) → Draw k → Entry k → Entry k
+  made of_pixels = pixel_written
+  made _ = row_written
+
+  abbrev pub written : (k : Kind) → Table T.Denot → List (Draw k) → Table T.Denot
+  written of_pixels = pixels_written
+  written _ = rows_written
+
+  abbrev pub Second : (k : Kind) → Walk k → List (Entry k) → Fml
+  Second of_pixels = SecondPixels (param 0 T)
+  Second _ = SecondRows (param 0 T)
+
+  abbrev pub Ends : (k : Kind) → MutBor (Entry k) → Entry k → Fml
+  Ends of_pixels x = PixelEndsAs (param 0 T) x.ghost_name
+  Ends _ x = EndsAs (param 0 T) x.ghost_name
+
+  -- what a call from a side leaves
+  abbrev pub Lends : (k : Kind) → Side → Walk k → Option (MutBor (Entry k)) → Walk k → Fml
+  Lends of_pixels Front = LendsFirstPixel (param 0 T)
+  Lends of_pixels Back = LendsLastPixel (param 0 T)
+  Lends _ Front = LendsFirstRow (param 0 T)
+  Lends _ Back = LendsLastRow (param 0 T)
+
+  abbrev pub Puts : (k : Kind) → List (Draw k) → Walk k → Walk k → Fml
+  Puts k = PutsBack (left k) (Second k) (side_of k) (made k)
+
+  abbrev Tells : (k : Kind) → Raster T.Denot → Walk k → Type 0
+  Tells of_pixels plane walk = BeginsOver plane walk
+  Tells _ plane walk = All (λ row. length row ≡ plane.geometry.width) (rows_left walk)
+
+  pub record Begins (k : Kind) (plane : Raster T.Denot) (walk : Walk k) : Type 0 where
+    pub all : left k walk ≡ shown k plane
+    pub written : WritesEachTable plane (rows_of k walk)
+    pub tells : Tells k plane walk
+
+abbrev pub Promise : {M : Type 1} → Ura M → Type 2
+Promise 𝓤 = (ended : Ended) × Clauses 𝓤 ended
+
+abbrev pub Kept : {M : Type 1} {𝓤 : Ura M} (𝓛 : Logic 𝓤) (𝓜 : Model 𝓤 𝓛.H) → Running 𝓤 𝓛.H 𝓜 → Promise 𝓤 → Callee → Type 1
+Kept 𝓛 𝓜 𝓡 p f = Meets 𝓛 p.0.signature (𝓡.run (𝓡.env f)) (closing 𝓛 p.0 p.1)
