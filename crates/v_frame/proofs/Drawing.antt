@@ -1,17 +1,14 @@
 -- A call from a side, in a proof by hand: which side it is, and what `next` or `next_back` says then. Assumes `Logic`.
 use Rattle.v_frame_plane.proofs.lent.Steps.{◌≡◌, List, [], ◌∷◌, Option, MutBor, refl, sym, ap, Fml, SProp, ent, sep, fact, fact_i, shows, ⊤, MakesProgress}
 use Rattle.v_frame_plane.proofs.lent.Steps.{item_count, YieldsFirstMut, YieldsLastMut, only, peeks, Val, Ura, Goal, Item, Seq, ‵, raw, ◌$◌, drop, Logic, sem}
-use Rattle.std.proofs.Common.{subst}
-use Rattle.std.specs.Option.{option_copied_mut}
 use base.Logic.{fst∗, mono_r}
 use contract.Monad.{fact_use}
 use types.Kit.{⋆}
-use Rattle.v_frame.specs.Walk.{item_from, left_by}
-use Rattle.v_frame.specs.contracts.replay.draw.Side.{the_row}
-use Rattle.v_frame.specs.declared.replay.draw.Side.{Side}
-use Rattle.v_frame.specs.declared.replay.draw.Side.TheVariants.{Front, Back}
-use Rattle.v_frame.proofs.DrawnItems.{first_drawn, last_drawn}
-use Rattle.v_frame.proofs.replay.draw.Side.TheLaws.{lowers}
+use Rattle.std.proofs.{Common.subst}
+use Rattle.std.specs.{Option.option_copied_mut}
+use Rattle.v_frame.specs.{Walk.item_from, Walk.left_by, contracts.replay.draw.Side.the_row, declared.replay.draw.Side.Side}
+use Rattle.v_frame.specs.{declared.replay.draw.Side.TheVariants.Front, declared.replay.draw.Side.TheVariants.Back}
+use Rattle.v_frame.proofs.{DrawnItems.first_drawn, DrawnItems.last_drawn, replay.draw.Side.TheLaws.lowers}
 
 module _ {M : Type 1} {𝓤 : Ura M} {𝓛 : Logic 𝓤} {K : Type 0} {Γ : List (Item 𝓤)} {G : Goal 𝓤 𝓛.H} where
   pub by_side : K → (side : Side) (u : Val) → (side ≡ Front → u ≡ lowers.lowered Front → Seq K 𝓛 Γ G) → (side ≡ Back → u ≡ lowers.lowered Back → Seq K 𝓛 Γ G)

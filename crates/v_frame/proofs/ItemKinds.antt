@@ -4,30 +4,24 @@
 --     side_of, made, written     what a draw says.        Second, Ends, Lends, Puts     how they end
 --     Begins     how the iterator of a plane begins.        Promise, Kept     what a function says, and that it is so
 use Rattle.v_frame_plane.proofs.lent.Steps.{◌≡◌, List, length, Option, MutBor, NamedLft, RattleType, Fml, Clauses, Logic, Ura, param}
-use Rattle.std.proofs.Common.{All}
 use contract.Running.{Running}
 use denote.Triple.Clauses.{Ended, closing}
 use denote.Triple.Spec.{Meets}
 use mir.Syntax.{Callee}
 use prog.Model.{Model}
-use Rattle.v_frame_layout.specs.Table.{Table, row_major}
-use Rattle.v_frame_plane.specs.PixelsLeft.{pixels_left, pixels_slice}
-use Rattle.v_frame_plane.specs.Plane.{Raster, table_of}
-use Rattle.v_frame_plane.specs.RowsLeft.{rows_left, rows_slice}
 use Rattle.v_frame_plane.specs.SecondPixels.{BeginsOver, LendsFirstPixel, LendsLastPixel, PixelEndsAs, SecondPixels}
 use Rattle.v_frame_plane.specs.SecondRows.{EndsAs, LendsFirstRow, LendsLastRow, SecondRows, WritesEachTable}
+use Rattle.v_frame.specs.Walk.{pixel_written, pixels_written, row_written, rows_written}
+use Rattle.std.proofs.{Common.All}
+use Rattle.v_frame_layout.specs.{Table.Table, Table.row_major}
+use Rattle.v_frame_plane.specs.{PixelsLeft.pixels_left, PixelsLeft.pixels_slice, Plane.Raster, Plane.table_of, RowsLeft.rows_left, RowsLeft.rows_slice}
+use Rattle.v_frame_plane.specs.{declared.pixels_mut.PixelsMut.PixelsMut, declared.rows_mut.RowsMut.RowsMut}
+use Rattle.v_frame.specs.{DrawnItems.PutsBack, declared.replay.draw.PixelDraw.PixelDraw, declared.replay.draw.RowDraw.RowDraw, declared.replay.draw.Side.Side}
+use Rattle.v_frame.specs.{declared.replay.draw.Side.TheVariants.Front, declared.replay.draw.Side.TheVariants.Back}
 use Rattle.v_frame_plane.specs.contracts.pixels_mut.PixelsMut as pixels_mut
 use Rattle.v_frame_plane.specs.contracts.rows_mut.RowsMut as rows_mut
-use Rattle.v_frame_plane.specs.declared.pixels_mut.PixelsMut.{PixelsMut}
-use Rattle.v_frame_plane.specs.declared.rows_mut.RowsMut.{RowsMut}
-use Rattle.v_frame.specs.DrawnItems.{PutsBack}
-use Rattle.v_frame.specs.Walk.{pixel_written, pixels_written, row_written, rows_written}
 use Rattle.v_frame.specs.contracts.replay.draw.PixelDraw as pixel_draw
 use Rattle.v_frame.specs.contracts.replay.draw.RowDraw as row_draw
-use Rattle.v_frame.specs.declared.replay.draw.PixelDraw.{PixelDraw}
-use Rattle.v_frame.specs.declared.replay.draw.RowDraw.{RowDraw}
-use Rattle.v_frame.specs.declared.replay.draw.Side.{Side}
-use Rattle.v_frame.specs.declared.replay.draw.Side.TheVariants.{Front, Back}
 
 -- `neither` has a first clause of its own, so that a last clause is split
 pub data Kind : Type 0 where

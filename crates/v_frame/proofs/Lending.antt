@@ -4,34 +4,29 @@
 --     lends_walk, walk_back     an iterator in a local is lent to a call, and is there again, as the call left it
 --     begins     what `rows_mut` and `pixels_mut` say of the iterator that they give
 use Rattle.v_frame_plane.proofs.lent.Steps.{ℕ, ◌≡◌, ◌^◌, ◌<◌, List, [], ◌∷◌, length, MutBor, Lft, Share, Fml, fat, flent, flft, fsep, full_share, ent, sep}
-use Rattle.v_frame_plane.proofs.lent.Steps.{fact}
-use Rattle.v_frame_plane.proofs.lent.Steps.{RattleType, MutRef, mut_vals, mem, named, param, Val, vptr, Ura, Goal, Item, Seq, Soaks, Step, step, ‵, raw, ◌⊛◌}
-use Rattle.v_frame_plane.proofs.lent.Steps.{some, later, ◌$◌, ◌∵◌, !, qed, await, drop, frame, fsplit, heard, move, pick, split, use1, use2, use3, Logic, sem}
-use Rattle.v_frame_plane.proofs.lent.Steps.{Body, Array, Ty}
-use Rattle.std.proofs.Common.{All}
+use Rattle.v_frame_plane.proofs.lent.Steps.{fact, RattleType, MutRef, mut_vals, mem, named, param, Val, vptr, Ura, Goal, Item, Seq, Soaks, Step, step, ‵, raw}
+use Rattle.v_frame_plane.proofs.lent.Steps.{◌⊛◌, some, later, ◌$◌, ◌∵◌, !, qed, await, drop, frame, fsplit, heard, move, pick, split, use1, use2, use3, Logic}
+use Rattle.v_frame_plane.proofs.lent.Steps.{sem, Body, Array, Ty}
 use base.Fml.{fres}
-use base.Share
 use denote.Follow.{follows, followed}
 use denote.Laws.{Is}
 use denote.Lend.{LentAgain, comes_back, lends_again}
 use denote.Memory.{lone}
 use mir.Raw.{raw as raw_ty}
 use types.Kit.{mean}
-use Rattle.v_frame_layout.specs.Table.{row_major}
-use Rattle.v_frame_plane.specs.Cursor.{PixelsAreCountable}
-use Rattle.v_frame_plane.specs.Lends.{LendsBuffer}
 use Rattle.v_frame_plane.specs.PixelsLeft.{LendsPixelsInOrder, LendsPixelsInReverse, pixels_left, pixels_slice}
 use Rattle.v_frame_plane.specs.Plane.{Raster, table_of, with_entries}
 use Rattle.v_frame_plane.specs.RowsLeft.{LendsRowsInOrder, LendsRowsInReverse, rows_left, rows_slice}
-use Rattle.v_frame_plane.specs.SecondPixels.{BeginsOver}
 use Rattle.v_frame_plane.specs.SecondRows.{SecondRows, WritesEachTable, entries_with}
-use Rattle.v_frame_plane.specs.contracts.plane.Plane.{the_row}
-use Rattle.v_frame_plane.specs.declared.pixels_mut.PixelsMut.{PixelsMut}
-use Rattle.v_frame_plane.specs.declared.rows_mut.RowsMut.{RowsMut}
-use Rattle.v_frame.proofs.CallSteps.{told}
 use Rattle.v_frame.proofs.ItemKinds.{Begins, Kind, Walk, of_pixels, slice}
-use Rattle.v_frame_plane.proofs.lent.Loans as loans
 use Rattle.v_frame_plane.proofs.lent.Loans.{Back, lft_over, lft_within, share_within}
+use Rattle.std.proofs.{Common.All}
+use Rattle.v_frame_layout.specs.{Table.row_major}
+use Rattle.v_frame_plane.specs.{Cursor.PixelsAreCountable, Lends.LendsBuffer, SecondPixels.BeginsOver, contracts.plane.Plane.the_row}
+use Rattle.v_frame_plane.specs.{declared.pixels_mut.PixelsMut.PixelsMut, declared.rows_mut.RowsMut.RowsMut}
+use Rattle.v_frame.proofs.{CallSteps.told}
+use base.Share
+use Rattle.v_frame_plane.proofs.lent.Loans as loans
 
 module _ {M : Type 1} {𝓤 : Ura M} (T : RattleType) where
   -- what the plane's lender keeps

@@ -2,12 +2,10 @@
 use Rattle.v_frame_plane.proofs.lent.Steps.{◌≡◌, List, [], ◌∷◌, ◌++◌, length, Some, None, MutBor, SProp, all_e, ent, sep, RattleType, Ura, ‵, raw, ◌$◌, ◌∵◌, ! }
 use Rattle.v_frame_plane.proofs.lent.Steps.{qed, done, each, move, param, use1, use2, Logic, sem}
 use base.Fml.{Fml, fwand, fall, fsep}
-use Rattle.v_frame.specs.DrawnItems.{put_back}
-use Rattle.v_frame.specs.Walk.{item_from}
-use Rattle.v_frame.specs.declared.replay.draw.Side.{Side}
-use Rattle.v_frame.specs.declared.replay.draw.Side.TheVariants.{Front, Back}
 use Rattle.v_frame.proofs.DrawnLoans.{Puts, none_drawn_from, first_put_back, last_put_back}
 use Rattle.v_frame.proofs.ItemKinds.{Ends, Entry, Kind, Lends, Second, Walk, left, of_pixels}
+use Rattle.v_frame.specs.{DrawnItems.put_back, Walk.item_from, declared.replay.draw.Side.Side, declared.replay.draw.Side.TheVariants.Front}
+use Rattle.v_frame.specs.{declared.replay.draw.Side.TheVariants.Back}
 
 module _ {M : Type 1} {𝓤 : Ura M} (𝓛 : Logic 𝓤) (T : RattleType) where
   abbrev Put : (k : Kind) → Side → (Entry T k → Entry T k) → (old new : Walk T k) → SProp 𝓤

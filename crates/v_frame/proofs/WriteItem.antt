@@ -1,14 +1,14 @@
 -- A call of `next` or `next_back` and the write into what it gives. Rattle learns nothing of what a call says of held items, so the proof follows the code.
 -- It stands once for rows and pixels: see `ItemKinds.antt`. Assumes `Logic`.
-use Rattle.v_frame.proofs.Steps.{Bound, Exits, Goes-dropped, Goes-gave_ref, Item, List, MutBor, MutRef, MutSlice, Option, RefOf, SProp, ShrRef, Sq, Stays, Val, Wp}
-use Rattle.v_frame.proofs.Steps.{a_type, addr, after, after_seq, agg, alloc_all, and_then, any_q, ap, arm_body, at_ret, at_return, bounded, copied, dcons}
+use Rattle.v_frame.proofs.Steps.{Bound, Exits, Goes-dropped, Goes-gave_ref, Item, List, MutBor, MutRef, MutSlice, Option, RefOf, SProp, ShrRef, Sq, Stays, Val}
+use Rattle.v_frame.proofs.Steps.{Wp, a_type, addr, after, after_seq, agg, alloc_all, and_then, any_q, ap, arm_body, at_ret, at_return, bounded, copied, dcons}
 use Rattle.v_frame.proofs.Steps.{dnil, done, enter, env, exec, fact, feq_i, feq_l, finally-res, first, fld, flft, forget_but, framed, free_all, from, front}
-use Rattle.v_frame.proofs.Steps.{fsplit, ftrue, gave_ref, get, get_in, get_tag, heard, holding, hop, id⊢, in_variant, inst_fn, is, keep, lands_as}
-use Rattle.v_frame.proofs.Steps.{lands_last, lit<, look_at, look_in_at, move, mut_Tells, mut_vals, named, named_lft, no_more, nothing, of_opd}
-use Rattle.v_frame.proofs.Steps.{option_copied_mut, option_laws, option_row, param, param_laws, pass_all, peeks, plain, prop, proved, raw, refl, returns}
-use Rattle.v_frame.proofs.Steps.{rewrite, runs, says, sets, shows, shr_Tells, shr_vals, skips, stay_dropped, stop, sub, switches_on, sym, tables, through}
-use Rattle.v_frame.proofs.Steps.{unit_lit, use1, use2, vptr, vrt, vunit, walk_of, whole, yes, ℕ, !, [], ‵, ◌$◌, ◌∙◌, ◌∷◌, ◌≡◌, ◌⊑◌, Fml, NamedLft, Lft, length}
-use Rattle.v_frame.proofs.Steps.{Is, mut_ref_field, mut_ref_laws, mut_ref_shared, of_field, row_shared, live, of_list, ◌<◌, ◌^◌}
+use Rattle.v_frame.proofs.Steps.{fsplit, ftrue, gave_ref, get, get_in, get_tag, heard, holding, hop, id⊢, in_variant, inst_fn, is, keep, lands_as, lands_last}
+use Rattle.v_frame.proofs.Steps.{lit<, look_at, look_in_at, move, mut_Tells, mut_vals, named, named_lft, no_more, nothing, of_opd, option_copied_mut}
+use Rattle.v_frame.proofs.Steps.{option_laws, option_row, param, param_laws, pass_all, peeks, plain, prop, proved, raw, refl, returns, rewrite, runs, says}
+use Rattle.v_frame.proofs.Steps.{sets, shows, shr_Tells, shr_vals, skips, stay_dropped, stop, sub, switches_on, sym, tables, through, unit_lit, use1, use2}
+use Rattle.v_frame.proofs.Steps.{vptr, vrt, vunit, walk_of, whole, yes, ℕ, !, [], ‵, ◌$◌, ◌∙◌, ◌∷◌, ◌≡◌, ◌⊑◌, Fml, NamedLft, Lft, length, Is, mut_ref_field}
+use Rattle.v_frame.proofs.Steps.{mut_ref_laws, mut_ref_shared, of_field, row_shared, live, of_list, ◌<◌, ◌^◌}
 use Rattle.v_frame_plane.proofs.lent.Steps.{None, Some, Step, step, qed, ◌∵◌, ◌++◌, Logic, Ura, RattleType, Laws, Ty, ent, sem, tcons, tnil, ty_ref, ty_param}
 use Rattle.v_frame_plane.proofs.lent.Steps.{erased, mut, slice_ty}
 use contract.Running.{MachineTables, Running}
@@ -20,27 +20,15 @@ use mir.Val.{WT}
 use prog.Model.{Model}
 use prog.Wp.{Closed}
 use types.Kit.{Go}
-use Rattle.std.specs.declared.clone.Clone.{Ghosts}
-use Rattle.v_frame_plane.specs.contracts.pixels_mut.PixelsMut.next as next_pixel
-use Rattle.v_frame_plane.specs.contracts.pixels_mut.PixelsMut.next_back as last_pixel
-use Rattle.v_frame_plane.specs.contracts.rows_mut.RowsMut.next as next_row
-use Rattle.v_frame_plane.specs.contracts.rows_mut.RowsMut.next_back as last_row
-use Rattle.v_frame_plane.proofs.lent.RowMemory.{slice_of}
-use Rattle.v_frame_plane.proofs.lent.Taken.{slice_laws}
-use Rattle.v_frame.specs.Walk.{left_by}
-use Rattle.v_frame.specs.declared.replay.draw.Side.{Side}
-use Rattle.v_frame.specs.declared.replay.draw.Side.TheVariants.{Front, Back}
-use Rattle.v_frame.specs.contracts.replay.draw.PixelDrawDraw.side as pixel_side
-use Rattle.v_frame.specs.contracts.replay.draw.RowDrawDraw.side as row_side
-use Rattle.v_frame.specs.contracts.replay.pixel_writes.replace_by
-use Rattle.v_frame.specs.contracts.replay.pixel_writes.write_pixel
-use Rattle.v_frame.specs.contracts.replay.row_writes.overwrite_by
-use Rattle.v_frame.specs.contracts.replay.row_writes.write_row
 use Rattle.v_frame.proofs.CallSteps.{asks_that, calls, calls_last, ends, opened, read_twice, tokens, unit_fits}
 use Rattle.v_frame.proofs.Drawing.{Draws, Gave, by_side, from_back, from_front}
 use Rattle.v_frame.proofs.ItemKinds.{Draw, Ends, Entry, Kept, Kind, Lends, Promise, Puts, Walk, draw_row, left, made, neither, of_pixels, walk_row}
-use Rattle.v_frame.proofs.OptionCases.{by_told}
-use Rattle.v_frame.proofs.PutBack.{item_taken, none_taken}
+use Rattle.std.specs.{declared.clone.Clone.Ghosts}
+use Rattle.v_frame_plane.proofs.lent.{RowMemory.slice_of, Taken.slice_laws}
+use Rattle.v_frame.specs.{Walk.left_by, declared.replay.draw.Side.Side, declared.replay.draw.Side.TheVariants.Front, declared.replay.draw.Side.TheVariants.Back}
+use Rattle.v_frame.proofs.{OptionCases.by_told, PutBack.item_taken, PutBack.none_taken}
+use Rattle.v_frame_plane.specs.contracts as lower
+use Rattle.v_frame.specs.contracts.replay as replay
 use Rattle.v_frame.proofs.replay.draw.PixelDraw.TheLaws as pixel_draw_laws
 use Rattle.v_frame.proofs.replay.draw.RowDraw.TheLaws as row_draw_laws
 
@@ -80,22 +68,22 @@ module _ (T : RattleType) where
 module _ {M : Type 1} {𝓤 : Ura M} (𝓛 : Logic 𝓤) (𝓜 : Model 𝓤 𝓛.H) (𝓡 : Running 𝓤 𝓛.H 𝓜) (T : RattleType) (laws : Laws T) (clone : Ghosts T.Denot) (dict :
     Dict) where
   abbrev asks : Kind → Promise 𝓤
-  asks of_pixels = (pixel_side.ended T, pixel_side.clauses T 𝓛 𝓜.mem 𝓡.returns)
-  asks _ = (row_side.ended T, row_side.clauses T 𝓛 𝓜.mem 𝓡.returns)
+  asks of_pixels = (replay.draw.PixelDrawDraw.side.ended T, replay.draw.PixelDrawDraw.side.clauses T 𝓛 𝓜.mem 𝓡.returns)
+  asks _ = (replay.draw.RowDrawDraw.side.ended T, replay.draw.RowDrawDraw.side.clauses T 𝓛 𝓜.mem 𝓡.returns)
 
   abbrev draws : Kind → Side → Promise 𝓤
-  draws of_pixels Front = (next_pixel.ended T, next_pixel.clauses T 𝓛 𝓜.mem 𝓡.returns)
-  draws of_pixels Back = (last_pixel.ended T, last_pixel.clauses T 𝓛 𝓜.mem 𝓡.returns)
-  draws _ Front = (next_row.ended T, next_row.clauses T 𝓛 𝓜.mem 𝓡.returns)
-  draws _ Back = (last_row.ended T, last_row.clauses T 𝓛 𝓜.mem 𝓡.returns)
+  draws of_pixels Front = (lower.pixels_mut.PixelsMut.next.ended T, lower.pixels_mut.PixelsMut.next.clauses T 𝓛 𝓜.mem 𝓡.returns)
+  draws of_pixels Back = (lower.pixels_mut.PixelsMut.next_back.ended T, lower.pixels_mut.PixelsMut.next_back.clauses T 𝓛 𝓜.mem 𝓡.returns)
+  draws _ Front = (lower.rows_mut.RowsMut.next.ended T, lower.rows_mut.RowsMut.next.clauses T 𝓛 𝓜.mem 𝓡.returns)
+  draws _ Back = (lower.rows_mut.RowsMut.next_back.ended T, lower.rows_mut.RowsMut.next_back.clauses T 𝓛 𝓜.mem 𝓡.returns)
 
   abbrev changes : Kind → Promise 𝓤
-  changes of_pixels = (replace_by.ended T clone dict, replace_by.clauses T clone dict 𝓛 𝓜.mem 𝓡.returns)
-  changes _ = (overwrite_by.ended T clone dict, overwrite_by.clauses T clone dict 𝓛 𝓜.mem 𝓡.returns)
+  changes of_pixels = (replay.pixel_writes.replace_by.ended T clone dict, replay.pixel_writes.replace_by.clauses T clone dict 𝓛 𝓜.mem 𝓡.returns)
+  changes _ = (replay.row_writes.overwrite_by.ended T clone dict, replay.row_writes.overwrite_by.clauses T clone dict 𝓛 𝓜.mem 𝓡.returns)
 
   abbrev pub writes_item : Kind → Promise 𝓤
-  writes_item of_pixels = (write_pixel.ended T clone dict, write_pixel.clauses T clone dict 𝓛 𝓜.mem 𝓡.returns)
-  writes_item _ = (write_row.ended T clone dict, write_row.clauses T clone dict 𝓛 𝓜.mem 𝓡.returns)
+  writes_item of_pixels = (replay.pixel_writes.write_pixel.ended T clone dict, replay.pixel_writes.write_pixel.clauses T clone dict 𝓛 𝓜.mem 𝓡.returns)
+  writes_item _ = (replay.row_writes.write_row.ended T clone dict, replay.row_writes.write_row.clauses T clone dict 𝓛 𝓜.mem 𝓡.returns)
 
   -- the code, of the names and types that it has, and of the functions that it calls
   module _ (option side : Sym) (kept drawing lent whole_walk entry : Ty) (asking ahead behind changing : Callee) where

@@ -1,53 +1,47 @@
 -- A whole iteration of calls that write: the plane is lent to an iterator, each draw writes through it in a loop, and it is dropped. Rattle learns nothing of
 -- what the iterator says of held items, so the proof follows the code. It stands once for rows and pixels: see `ItemKinds.antt`. Assumes `Logic`.
-use Rattle.v_frame.proofs.Steps.{Below, Fml, Goes-dropped, Goes-ref, Item, LentAgain, List, NamedLft, Out, SProp, SliceRefOf, Sq, Stays, Val, Wp}
-use Rattle.v_frame.proofs.Steps.{a_type, addr, after, after_block, after_seq, after_turn, again, alloc_all, and_then, any_q, ap, arith, at_ret, at_return}
-use Rattle.v_frame.proofs.Steps.{bin, blocks, bounded, branches, copied, dcons, dnil, drop, elements_shared, enter, env, exec, fact, feq_i, feq_l, fhide}
-use Rattle.v_frame.proofs.Steps.{first, fld, flft, forget_but, framed, free_all, from, fsplit, get, get_in, give_at, head, heard, holding, id⊢, inst_fn}
-use Rattle.v_frame.proofs.Steps.{jumps, lands_as, lands_last, length, lit, lit<, look_at, loops, lt-wf_rel, ltb→lt, map, meet_⊑_right, mem, move}
-use Rattle.v_frame.proofs.Steps.{mul-le-mul_right, mut_Tells, mut_vals, named, nltb→le, no_more, nothing, of_opd, only, param, param_laws, pass_all, plain}
-use Rattle.v_frame.proofs.Steps.{proved, raw, refl, returns, runs, sets, sets_last, shr_slice_Tells, shr_slice_vals, size_lit, skips, slice_val, split}
-use Rattle.v_frame.proofs.Steps.{spot_of, stay_dropped, stay_ref, stop, sub, tables, tables_of, take, take_at, through, unit_lit, use0, use1, use2, vint}
-use Rattle.v_frame.proofs.Steps.{vptr, vunit, w64, walk_of, whole, yes, ℕ, !, [], ‵, ⊑_trans, ◌$◌, ◌*◌, ◌+◌, ◌-◌, ◌<◌, ◌^◌, ◌∷◌, ◌≡◌, ◌≤◌, ◌⊑◌, ◌⊛◌}
-use Rattle.v_frame.proofs.Steps.{MutBor, size_lit, lit, mul-le-mul_right, split, option_row}
+use Rattle.v_frame.proofs.Steps.{Below, Fml, Goes-dropped, Goes-ref, Item, LentAgain, List, NamedLft, Out, SProp, SliceRefOf, Sq, Stays, Val, Wp, a_type, addr}
+use Rattle.v_frame.proofs.Steps.{after, after_block, after_seq, after_turn, again, alloc_all, and_then, any_q, ap, arith, at_ret, at_return, bin, blocks}
+use Rattle.v_frame.proofs.Steps.{bounded, branches, copied, dcons, dnil, drop, elements_shared, enter, env, exec, fact, feq_i, feq_l, fhide, first, fld, flft}
+use Rattle.v_frame.proofs.Steps.{forget_but, framed, free_all, from, fsplit, get, get_in, give_at, head, heard, holding, id⊢, inst_fn, jumps, lands_as}
+use Rattle.v_frame.proofs.Steps.{lands_last, length, lit, lit<, look_at, loops, lt-wf_rel, ltb→lt, map, meet_⊑_right, mem, move, mul-le-mul_right, mut_Tells}
+use Rattle.v_frame.proofs.Steps.{mut_vals, named, nltb→le, no_more, nothing, of_opd, only, param, param_laws, pass_all, plain, proved, raw, refl, returns, runs}
+use Rattle.v_frame.proofs.Steps.{sets, sets_last, shr_slice_Tells, shr_slice_vals, size_lit, skips, slice_val, split, spot_of, stay_dropped, stay_ref, stop}
+use Rattle.v_frame.proofs.Steps.{sub, tables, tables_of, take, take_at, through, unit_lit, use0, use1, use2, vint, vptr, vunit, w64, walk_of, whole, yes, ℕ, ! }
+use Rattle.v_frame.proofs.Steps.{[], ‵, ⊑_trans, ◌$◌, ◌*◌, ◌+◌, ◌-◌, ◌<◌, ◌^◌, ◌∷◌, ◌≡◌, ◌≤◌, ◌⊑◌, ◌⊛◌, MutBor, size_lit, lit, mul-le-mul_right, split}
+use Rattle.v_frame.proofs.Steps.{option_row}
 use Rattle.v_frame_plane.proofs.lent.Steps.{Logic, Ura, RattleType, Laws, Ty, ent, sep, sem, emp, fact_i, erased, mut, slice_ty, ty_int, ty_ptr, ty_ref}
-use base.Share
 use base.Logic.{emp∗, mono_l, via}
 use contract.Running.{MachineTables, Running}
 use denote.Lowered.{Lowered}
 use denote.Memory.{lone}
-use mathlib.Core.WellFounded.InvImage
-use mir.Syntax.{Body, Callee, Dict, Fn, Opd as Operand, add, addr_of, assign, block, call, cond, copy, deref, exit, field, imm, int, local, loop, lt, memory_slot}
-use mir.Syntax.{mul, offset, op2, opd_unit, place, return, rv_opd, seq, size_of, skip, ty_bool, ty_unit, unsigned, value_local}
+use mir.Syntax.{Body, Callee, Dict, Fn, Opd as Operand, add, addr_of, assign, block, call, cond, copy, deref, exit, field, imm, int, local, loop, lt}
+use mir.Syntax.{memory_slot, mul, offset, op2, opd_unit, place, return, rv_opd, seq, size_of, skip, ty_bool, ty_unit, unsigned, value_local}
 use mir.Val.{Fits}
 use prog.Model.{Model}
 use prog.Wp.{Closed, Env}
 use types.Kit.{Go}
 use types.Run.{Opd}
-use Rattle.std.specs.declared.clone.Clone.{Ghosts}
-use Rattle.v_frame_plane.specs.Lends.{LendsBuffer}
 use Rattle.v_frame_plane.specs.Plane.{Raster, table_of, with_entries}
 use Rattle.v_frame_plane.specs.SecondRows.{SecondRows, WritesTable, entries_with}
-use Rattle.v_frame_plane.specs.contracts.plane.Plane as planes
-use Rattle.v_frame_plane.specs.contracts.plane.Plane.pixels_mut
-use Rattle.v_frame_plane.specs.contracts.plane.Plane.rows_mut
-use Rattle.v_frame_plane.proofs.lent.Loans.{Back, share_within}
-use Rattle.v_frame_plane.proofs.lent.PixelsDropped.{pixels_dropped}
-use Rattle.v_frame_plane.proofs.lent.RowLoans.{rows_dropped}
-use Rattle.v_frame_plane.proofs.pixels_mut.PixelsMut.TheLaws as pixels_laws
-use Rattle.v_frame_plane.proofs.rows_mut.RowsMut.TheLaws as rows_laws
 use Rattle.v_frame.specs.Walk.{left_by, left_in_turn, walk_leaves}
-use Rattle.v_frame.specs.contracts.replay.pixel_writes.write_pixels
-use Rattle.v_frame.specs.contracts.replay.row_writes.write_rows
-use Rattle.v_frame.proofs.BegunWalks.{rows_end}
 use Rattle.v_frame.proofs.CallSteps.{asks_that, calls, calls_last, ends, opened, spelt, tells, told, unit_fits}
-use Rattle.v_frame.proofs.DrawnItems.{nth_left, rows_as_long}
 use Rattle.v_frame.proofs.DrawnLoans.{each_drawn, none_drawn, nth_drawn}
 use Rattle.v_frame.proofs.ItemKinds.{Begins, Draw, Kept, Kind, Promise, Puts, Second, Walk, draw_row, left, made, neither, of_pixels, rows_of, shown, side_of}
 use Rattle.v_frame.proofs.ItemKinds.{slice, walk_row, written}
 use Rattle.v_frame.proofs.Lending.{begins, lends_plane, lends_walk, rows_back, walk_back}
-use Rattle.v_frame.proofs.SharedItems.{lends_nth, nth_of}
-use Rattle.v_frame.proofs.WriteItem.{draws_laws, writes_item}
+use Rattle.std.specs.{declared.clone.Clone.Ghosts}
+use Rattle.v_frame_plane.specs.{Lends.LendsBuffer}
+use Rattle.v_frame_plane.proofs.lent.{Loans.Back, Loans.share_within, PixelsDropped.pixels_dropped, RowLoans.rows_dropped}
+use Rattle.v_frame.proofs.{BegunWalks.rows_end, DrawnItems.nth_left, DrawnItems.rows_as_long, SharedItems.lends_nth, SharedItems.nth_of, WriteItem.draws_laws}
+use Rattle.v_frame.proofs.{WriteItem.writes_item}
+use base.Share
+use mathlib.Core.WellFounded.InvImage
+use Rattle.v_frame_plane.specs.contracts.plane.Plane as planes
+use Rattle.v_frame_plane.proofs.pixels_mut.PixelsMut.TheLaws as pixels_laws
+use Rattle.v_frame_plane.proofs.rows_mut.RowsMut.TheLaws as rows_laws
+use Rattle.v_frame.specs.contracts.replay.pixel_writes.write_pixels
+use Rattle.v_frame.specs.contracts.replay.row_writes.write_rows
 
 module _ (T : RattleType) where
   abbrev lowers : (k : Kind) (ℓ : NamedLft) → Laws T → Lowered (walk_row k ℓ (param 0 T))
@@ -92,8 +86,8 @@ module _ (T : RattleType) where
 module _ {M : Type 1} {𝓤 : Ura M} (𝓛 : Logic 𝓤) (𝓜 : Model 𝓤 𝓛.H) (𝓡 : Running 𝓤 𝓛.H 𝓜) (T : RattleType) (laws : Laws T) (clone : Ghosts T.Denot) (dict :
     Dict) where
   abbrev opens : Kind → Promise 𝓤
-  opens of_pixels = (pixels_mut.ended T, pixels_mut.clauses T 𝓛 𝓜.mem 𝓡.returns)
-  opens _ = (rows_mut.ended T, rows_mut.clauses T 𝓛 𝓜.mem 𝓡.returns)
+  opens of_pixels = (planes.pixels_mut.ended T, planes.pixels_mut.clauses T 𝓛 𝓜.mem 𝓡.returns)
+  opens _ = (planes.rows_mut.ended T, planes.rows_mut.clauses T 𝓛 𝓜.mem 𝓡.returns)
 
   abbrev writes_items : Kind → Promise 𝓤
   writes_items of_pixels = (write_pixels.ended T clone dict, write_pixels.clauses T clone dict 𝓛 𝓜.mem 𝓡.returns)

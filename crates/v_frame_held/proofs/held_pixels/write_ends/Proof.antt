@@ -4,35 +4,26 @@ use Rattle.v_frame.proofs.Steps.{Bound, Exits, Goes-dropped, Goes-ref, Is, Item,
 use Rattle.v_frame.proofs.Steps.{YieldsFirstMut, YieldsLastMut, a_type, addr, after, after_seq, alloc_all, and_then, any_q, ap, arith, arm_body, assigns}
 use Rattle.v_frame.proofs.Steps.{at_ret, bounded, copied, dcons, dnil, drop, enter, env, exec, fact, feq_i, first, fld, framed, free_all, fres, from, get}
 use Rattle.v_frame.proofs.Steps.{get_in, get_tag, give_at, head, heard, id⊢, in_variant, inst_fn, item_count, lands_as, length, length-append, lit<, look_at}
-use Rattle.v_frame.proofs.Steps.{meet_⊑_right, move, mut_Tells, mut_vals, named, no, no_more, nothing, of_opd, only, param, param_laws, pass_all, pick}
-use Rattle.v_frame.proofs.Steps.{plain, post, proved, raw, refl, returns, rewrite, sets, sets_last, some, split, spot_of, stay_dropped, stay_ref, stop}
-use Rattle.v_frame.proofs.Steps.{store, subst, switches_on, sym, tables, take_at, through, unit_lit, use1, use2, use3, vptr, vrt, vunit, walk_of, whole, ℕ}
-use Rattle.v_frame.proofs.Steps.{ !, [], ‵, ⊑_trans, ⊤, ◌$◌, ◌++◌, ◌<◌, ◌∙◌, ◌∷◌, ◌≡◌, ◌⊑◌, ◌⊛◌}
-use base.Share
+use Rattle.v_frame.proofs.Steps.{meet_⊑_right, move, mut_Tells, mut_vals, named, no, no_more, nothing, of_opd, only, param, param_laws, pass_all, pick, plain}
+use Rattle.v_frame.proofs.Steps.{post, proved, raw, refl, returns, rewrite, sets, sets_last, some, split, spot_of, stay_dropped, stay_ref, stop, store, subst}
+use Rattle.v_frame.proofs.Steps.{switches_on, sym, tables, take_at, through, unit_lit, use1, use2, use3, vptr, vrt, vunit, walk_of, whole, ℕ, !, [], ‵, ⊑_trans}
+use Rattle.v_frame.proofs.Steps.{⊤, ◌$◌, ◌++◌, ◌<◌, ◌∙◌, ◌∷◌, ◌≡◌, ◌⊑◌, ◌⊛◌}
 use Rattle.v_frame.specs.Prelude.{LendsBuffer, LendsFirstPixel, LendsLastPixel, PixelEndsAs, PixelsMut, Raster, SecondPixels, pixels_left, pixels_slice}
 use Rattle.v_frame.specs.Prelude.{row_major, table_of}
 use Rattle.v_frame.proofs.CallSteps.{asks_that, both_facts, calls, ends, opened_by, spelt, tells, told}
-use Rattle.v_frame.proofs.OptionCases.{by_ref}
-use Rattle.v_frame.proofs.ItemKinds.{Begins, of_pixels}
 use Rattle.v_frame.proofs.Lending.{begins, lends_plane, lends_walk, plane_back, walk_back}
+use Rattle.v_frame_held.proofs.HeldPixels.{Shows, closes_pixel, ends_of, none_left, none_left_first, opens_pixel, pixel_dropped, took_first, took_last, written}
+use Rattle.v_frame.proofs.{OptionCases.by_ref, ItemKinds.Begins, ItemKinds.of_pixels}
+use Rattle.v_frame_plane.proofs.lent.{Loans.share_within, PixelMemory.lowered, PixelsDropped.pixels_dropped}
+use Rattle.v_frame_held.specs.{HeldPixels.with_ends}
+use Rattle.v_frame_held.proofs.{held_pixels.write_ends.Statement.statement}
+use base.Share
 use Rattle.v_frame_plane.specs.contracts.pixels_mut.PixelsMut as walks
-use Rattle.v_frame_plane.specs.contracts.pixels_mut.PixelsMut.next
-use Rattle.v_frame_plane.specs.contracts.pixels_mut.PixelsMut.next_back
-use Rattle.v_frame_plane.specs.contracts.plane.Plane.{the_row}
-use Rattle.v_frame_plane.specs.contracts.plane.Plane.pixels_mut
-use Rattle.v_frame_plane.proofs.lent.Loans.{share_within}
-use Rattle.v_frame_plane.proofs.lent.PixelMemory.{lowered}
-use Rattle.v_frame_plane.proofs.lent.PixelsDropped.{pixels_dropped}
-use Rattle.v_frame_plane.proofs.pixels_mut.PixelsMut.TheLaws.{lowers, the_row_laws as walk_laws}
-use Rattle.v_frame_plane.proofs.pixels_mut.PixelsMut.next.Met as next_met
-use Rattle.v_frame_plane.proofs.pixels_mut.PixelsMut.next_back.Met as next_back_met
 use Rattle.v_frame_plane.proofs.plane.Plane.pixels_mut.Met as pixels_mut_met
-use Rattle.v_frame_held.specs.HeldPixels.{with_ends}
 use Rattle.v_frame_held.specs.contracts.held_pixels.write_ends as f
-use Rattle.v_frame_held.proofs.HeldPixels.{Shows, closes_pixel, ends_of, none_left, none_left_first, opens_pixel, pixel_dropped, took_first, took_last}
-use Rattle.v_frame_held.proofs.HeldPixels.{written}
-use Rattle.v_frame_held.proofs.held_pixels.write_ends.Statement.{statement}
 use Rattle.v_frame_held.proofs.held_pixels.write_ends.Code as code
+use Rattle.v_frame_plane.specs.contracts.plane.Plane as planes
+use Rattle.v_frame_plane.proofs.pixels_mut.PixelsMut as of_walks
 
 pub write_ends_spec : {M : Type 1} → statement M
 write_ends_spec 𝓤 𝓛 𝓜 𝓡 wired T laws copy clone dict met =
@@ -40,14 +31,14 @@ write_ends_spec 𝓤 𝓛 𝓜 𝓡 wired T laws copy clone dict met =
     let 𝓣 = tables 𝓤 𝓛.H 𝓜 𝓡 𝓡.env in let run = framed 𝓤 𝓛.H 𝓜 𝓣 in let c = f.clauses T clone dict 𝓛 𝓜.mem 𝓡.returns in
     let ended = f.ended T clone dict in
     let stayed : Stays ended.signature.params ended.kept =
-    (stay_ref (0 ∷ []) tt (plain (λ _. the_row seen)), (stay_dropped _ no, (stay_dropped _ no, (stay_dropped _ no, tt)))) in
+    (stay_ref (0 ∷ []) tt (plain (λ _. planes.the_row seen)), (stay_dropped _ no, (stay_dropped _ no, (stay_dropped _ no, tt)))) in
     let Walk = walk_of 𝓛 ended stayed c in let goes = Goes-dropped 𝓛 2 (plain (λ _. seen)) no (λ κs x w. refl) in
     let val = λ (x : T.Denot). copy.val x ∷ [] in
-    proved 𝓛 ended stayed c 𝓜 𝓡 (Goes-ref 𝓛 2 0 tt (plain (λ _. the_row seen)), (goes, (goes, (goes, tt))))
+    proved 𝓛 ended stayed c 𝓜 𝓡 (Goes-ref 𝓛 2 0 tt (plain (λ _. planes.the_row seen)), (goes, (goes, (goes, tt))))
     (f.Key.name args) function (code.unfolded 𝓤 𝓛.H 𝓜 𝓡 wired (T, tt) dict)
     (λ κs. (mut_vals, (val, (val, (val, tt))))) (λ κs.
-    (mut_Tells (named 0) κs.0 (the_row item), (copy.tells, (copy.tells, (copy.tells, tt))))) (λ κs qs bounds a g are.
-    let Plane = the_row item in let κ = κs.0 in let q = qs.0 in let κT = κs.1.0 in let qT = qs.1.0 in
+    (mut_Tells (named 0) κs.0 (planes.the_row item), (copy.tells, (copy.tells, (copy.tells, tt))))) (λ κs qs bounds a g are.
+    let Plane = planes.the_row item in let κ = κs.0 in let q = qs.0 in let κT = κs.1.0 in let qT = qs.1.0 in
     let plane = a.0 in let x = a.1.0 in let y = a.1.1.0 in let z = a.1.1.1.0 in let b = plane.ref_ptr.0 in let o = plane.ref_ptr.1 in
     let Own = λ (w : T.Denot). item.own_val w (val w) in
     let wt = λ (w : T.Denot) (is : Is item w (val w)). (((param_laws 0 T laws).lawful 𝓛).typed w (val w) is).0 in
@@ -63,25 +54,25 @@ write_ends_spec 𝓤 𝓛 𝓜 𝓡 wired T laws copy clone dict met =
     let κ' : Lft = α ∷ κT in let s = share_within (Share.left qT) in let rT = Share.right qT in let inside : κ' ⊑ κT = meet_⊑_right (α ∷ []) κT in
     let loan : MutBor (Raster T.Denot) = record plane { ghost_name = δ } in
     -- [the plane, lent; the tokens of κ' and κT; its lender; the way back; the three values; the locals]
-    calls ! (1 ∷ 2 ∷ 0 ∷ []) run (pixels_mut.ended T) (pixels_mut.clauses T 𝓛 𝓜.mem 𝓡.returns)
+    calls ! (1 ∷ 2 ∷ 0 ∷ []) run (planes.pixels_mut.ended T) (planes.pixels_mut.clauses T 𝓛 𝓜.mem 𝓡.returns)
     (pixels_mut_met.met 𝓤 𝓛 𝓜 𝓡 (code.calls-v_frame_plane::plane::Plane::pixels_mut 𝓡.env wired) T laws)
     (((κ', (κT, tt)), (s, (rT, tt)), (inside, tt), (loan, tt), (mut_vals plane, tt)), tt) (asks_that 𝓤 inT) refl (and_then ! (get ! refl) (no_more !))
     (λ w ws. ‵ (LendsBuffer item loan (pixels_slice w)) ∷ raw (fact 𝓤 (Begins T of_pixels plane.now w)) ∷ []) (λ w ws. begins T loan 𝓛 of_pixels w) (λ v walk ws.
-    let ℓ : NamedLft = record { mir = named 1; lft = κ' } in let Walking = walks.the_row ℓ item in let spelled = (lowers ℓ item (param_laws 0 T laws)).val_is in
-    spelt ! Walking lowered spelled walk v (λ e is. let ww = (((walk_laws ℓ item (param_laws 0 T laws)).lawful 𝓛).typed walk (lowered walk ∷ []) is).0 in
+    let ℓ : NamedLft = record { mir = named 1; lft = κ' } in let Walking = walks.the_row ℓ item in let spelled = (of_walks.TheLaws.lowers ℓ item (param_laws 0 T laws)).val_is in
+    spelt ! Walking lowered spelled walk v (λ e is. let ww = (((of_walks.TheLaws.the_row_laws ℓ item (param_laws 0 T laws)).lawful 𝓛).typed walk (lowered walk ∷ []) is).0 in
     lands_as ! e refl ww $ sets ! (of_opd ! (get ! refl)) refl ww $ move ! (2 ∷ 5 ∷ []) $ heard ! _ (λ begun. drop ! $
     -- [what the iterator owns; how the plane ends; the tokens of κ' and κT; its lender; the way back; the three values; the locals]
     let τ = (spot_of 𝓤 𝓛.H En 5).0 in
     let tells_of : (new : PixelsMut T.Denot) (u : Val) → Is Walking new (u ∷ []) → u ≡ lowered new = λ new u is. ap only (spelled new (u ∷ []) is) in
-    let its : PixelsMut T.Denot → ℕ → ℕ → Bound 𝓛 (next.signature T) = λ old β γ. let κc : Lft = β ∷ κ' in let in_c = meet_⊑_right (β ∷ []) κ' in (
+    let its : PixelsMut T.Denot → ℕ → ℕ → Bound 𝓛 (walks.next.signature T) = λ old β γ. let κc : Lft = β ∷ κ' in let in_c = meet_⊑_right (β ∷ []) κ' in (
       (κc, (κ', (κT, tt))),
       (share_within (Share.left s), (Share.right s, (rT, tt))),
       (in_c, (⊑_trans κc κ' κT in_c inside, (inside, tt))),
       (record { ref_ptr = (l 5, 0); ghost_name = γ; now = old }, tt),
       (vptr (l 5) 0 ∷ [], tt),
     ) in
-    let back_meets = next_back_met.met 𝓤 𝓛 𝓜 𝓡 (code.calls-v_frame_plane::pixels_mut::PixelsMut::next_back 𝓡.env wired) T laws in
-    let front_meets = next_met.met 𝓤 𝓛 𝓜 𝓡 (code.calls-v_frame_plane::pixels_mut::PixelsMut::next 𝓡.env wired) T laws in
+    let back_meets = of_walks.next_back.Met.met 𝓤 𝓛 𝓜 𝓡 (code.calls-v_frame_plane::pixels_mut::PixelsMut::next_back 𝓡.env wired) T laws in
+    let front_meets = of_walks.next.Met.met 𝓤 𝓛 𝓜 𝓡 (code.calls-v_frame_plane::pixels_mut::PixelsMut::next 𝓡.env wired) T laws in
     let Moves : PixelsMut T.Denot → Option (MutBor T.Denot) → PixelsMut T.Denot → Item 𝓤 =
     λ old r new. raw (fact 𝓤 (MakesProgress (λ _. ⊤) (item_count pixels_left) old r new)) in
     let Last : PixelsMut T.Denot → Option (MutBor T.Denot) → PixelsMut T.Denot → List (Item 𝓤) =
@@ -92,7 +83,7 @@ write_ends_spec 𝓤 𝓛 𝓜 𝓡 wired T laws copy clone dict met =
     -- the last pixel
     sets ! (addr ! (from ! (stop !))) refl (tt, tt) $ take_at ! 5 $ move ! (0 ∷ 1 ∷ 3 ∷ []) $
     lends_walk ! tt Walking refl τ refl κ' s walk (l 5) 0 (lowered walk) (λ β γ.
-    calls ! (1 ∷ 2 ∷ 6 ∷ 0 ∷ []) run (next_back.ended T) (next_back.clauses T 𝓛 𝓜.mem 𝓡.returns) back_meets (its walk β γ, tt) (asks_that 𝓤 inT) refl
+    calls ! (1 ∷ 2 ∷ 6 ∷ 0 ∷ []) run (walks.next_back.ended T) (walks.next_back.clauses T 𝓛 𝓜.mem 𝓡.returns) back_meets (its walk β γ, tt) (asks_that 𝓤 inT) refl
     (and_then ! (get ! refl) (no_more !)) (λ r ws. Last walk r ws.0) (λ r ws. id⊢ 𝓤 _) (λ v₁ r₁ ws₁. let one = ws₁.0 in
     move ! (2 ∷ 3 ∷ []) $ heard ! _ (λ steps₁. drop ! $ move ! (2 ∷ 3 ∷ 5 ∷ 6 ∷ 7 ∷ []) $
     walk_back ! tt Walking refl τ refl κ' s β γ (l 5) 0 one (lowered one) (tells_of one) $ give_at ! 5 $ move ! (2 ∷ []) $
@@ -107,7 +98,7 @@ write_ends_spec 𝓤 𝓛 𝓜 𝓡 wired T laws copy clone dict met =
     let some₁ : 1 < length (pixels_left one) = omega (arith, some₀, ap length last, length-append (pixels_left one) (end.now ∷ [])) in
     sets ! (addr ! (from ! (stop !))) refl (tt, tt) $ take_at ! 5 $ move ! (0 ∷ 2 ∷ 3 ∷ []) $
     lends_walk ! tt Walking refl τ refl κ' s one (l 5) 0 (lowered one) (λ β γ.
-    calls ! (1 ∷ 2 ∷ 7 ∷ 0 ∷ []) run (next.ended T) (next.clauses T 𝓛 𝓜.mem 𝓡.returns) front_meets (its one β γ, tt) (asks_that 𝓤 inT) refl
+    calls ! (1 ∷ 2 ∷ 7 ∷ 0 ∷ []) run (walks.next.ended T) (walks.next.clauses T 𝓛 𝓜.mem 𝓡.returns) front_meets (its one β γ, tt) (asks_that 𝓤 inT) refl
     (and_then ! (get ! refl) (no_more !)) (λ r ws. First one r ws.0) (λ r ws. id⊢ 𝓤 _) (λ v₂ r₂ ws₂. let two = ws₂.0 in
     move ! (2 ∷ 3 ∷ []) $ heard ! _ (λ steps₂. drop ! $ move ! (2 ∷ 3 ∷ 5 ∷ 6 ∷ 7 ∷ []) $
     walk_back ! tt Walking refl τ refl κ' s β γ (l 5) 0 two (lowered two) (tells_of two) $ give_at ! 5 $ move ! (2 ∷ []) $
@@ -123,7 +114,7 @@ write_ends_spec 𝓤 𝓛 𝓜 𝓡 wired T laws copy clone dict met =
     let some₂ : 0 < length (pixels_left two) = omega (arith, some₁, ap length foremost) in
     sets ! (addr ! (from ! (stop !))) refl (tt, tt) $ take_at ! 5 $ move ! (0 ∷ 2 ∷ 3 ∷ []) $
     lends_walk ! tt Walking refl τ refl κ' s two (l 5) 0 (lowered two) (λ β γ.
-    calls ! (1 ∷ 2 ∷ 7 ∷ 0 ∷ []) run (next_back.ended T) (next_back.clauses T 𝓛 𝓜.mem 𝓡.returns) back_meets (its two β γ, tt) (asks_that 𝓤 inT) refl
+    calls ! (1 ∷ 2 ∷ 7 ∷ 0 ∷ []) run (walks.next_back.ended T) (walks.next_back.clauses T 𝓛 𝓜.mem 𝓡.returns) back_meets (its two β γ, tt) (asks_that 𝓤 inT) refl
     (and_then ! (get ! refl) (no_more !)) (λ r ws. Last two r ws.0) (λ r ws. id⊢ 𝓤 _) (λ v₃ r₃ ws₃. let three = ws₃.0 in
     move ! (2 ∷ 3 ∷ []) $ heard ! _ (λ steps₃. drop ! $ move ! (2 ∷ 3 ∷ 5 ∷ 6 ∷ 7 ∷ []) $
     walk_back ! tt Walking refl τ refl κ' s β γ (l 5) 0 three (lowered three) (tells_of three) $ give_at ! 5 $ move ! (2 ∷ []) $

@@ -8,28 +8,22 @@ use Rattle.v_frame.proofs.Steps.{look_at, look_in_at, map, meet_⊑_right, move,
 use Rattle.v_frame.proofs.Steps.{param_laws, pass_all, plain, post, prop, proved, raw, refl, replicate, returns, rewrite, sets, skips, slice_set, spot_of}
 use Rattle.v_frame.proofs.Steps.{stay_dropped, stay_ref, stop, sub, subst, switches_on, sym, tables, take_at, through, unit_lit, use1, use2, use3, vptr, vrt}
 use Rattle.v_frame.proofs.Steps.{vunit, walk_of, whole, !, [], ‵, ⊑_trans, ⊤, ◌$◌, ◌++◌, ◌-◌, ◌∙◌, ◌∷◌, ◌≡◌, ◌⊑◌}
-use base.Share
 use Rattle.v_frame.specs.Prelude.{EndsAs, LendsBuffer, LendsLastRow, SecondRows, entries_with, rows_left, rows_slice, table_of, with_entries}
 use Rattle.v_frame.proofs.CallSteps.{asks_that, calls, calls_last, ends, opened, spelt, tells, told, unit_fits}
-use Rattle.v_frame.proofs.ItemKinds.{Begins, of_rows}
 use Rattle.v_frame.proofs.Lending.{begins, lends_plane, lends_walk, rows_back, walk_back}
+use Rattle.v_frame_held.proofs.HeldRows.{as_long, last_as_long, last_set, none_set, took_last_row, took_no_row}
+use Rattle.v_frame.proofs.{ItemKinds.Begins, ItemKinds.of_rows}
+use Rattle.v_frame_plane.proofs.lent.{Loans.share_within, RowCalls.by_row, RowLoans.rows_dropped, RowMemory.lowered, RowMemory.slice_of}
+use Rattle.v_frame_held.proofs.{held_rows.fill_last_row.Statement.statement}
+use base.Share
 use Rattle.v_frame_plane.specs.contracts.plane.Plane as planes
-use Rattle.v_frame_plane.specs.contracts.plane.Plane.rows_mut
 use Rattle.v_frame_plane.specs.contracts.rows_mut.RowsMut as walks
-use Rattle.v_frame_plane.specs.contracts.rows_mut.RowsMut.next_back
-use Rattle.v_frame_plane.proofs.lent.Loans.{share_within}
-use Rattle.v_frame_plane.proofs.lent.RowCalls.{by_row}
-use Rattle.v_frame_plane.proofs.lent.RowLoans.{rows_dropped}
-use Rattle.v_frame_plane.proofs.lent.RowMemory.{lowered, slice_of}
 use Rattle.v_frame_plane.proofs.plane.Plane.rows_mut.Met as rows_mut_met
-use Rattle.v_frame_plane.proofs.rows_mut.RowsMut.TheLaws as walk_laws
-use Rattle.v_frame_plane.proofs.rows_mut.RowsMut.next_back.Met as next_back_met
 use Rattle.v_frame_held.specs.contracts.held_rows.fill
 use Rattle.v_frame_held.specs.contracts.held_rows.fill_last_row as f
-use Rattle.v_frame_held.proofs.HeldRows.{as_long, last_as_long, last_set, none_set, took_last_row, took_no_row}
 use Rattle.v_frame_held.proofs.held_rows.fill.Met as fill_met
-use Rattle.v_frame_held.proofs.held_rows.fill_last_row.Statement.{statement}
 use Rattle.v_frame_held.proofs.held_rows.fill_last_row.Code as code
+use Rattle.v_frame_plane.proofs.rows_mut.RowsMut as of_walks
 
 pub fill_last_row_spec : {M : Type 1} → statement M
 fill_last_row_spec 𝓤 𝓛 𝓜 𝓡 wired T laws copy clone dict met =
@@ -52,13 +46,13 @@ fill_last_row_spec 𝓤 𝓛 𝓜 𝓡 wired T laws copy clone dict met =
     let κw = α ∷ κT in let qw = share_within (Share.left qT) in let rT = Share.right qT in let inside = meet_⊑_right (α ∷ []) κT in
     let loan = record plane { ghost_name = δ } in
     -- [the plane, lent; the tokens of κw and κT; its lender; the way back; the value; the locals]
-    calls ! (1 ∷ 2 ∷ 0 ∷ []) run (rows_mut.ended T) (rows_mut.clauses T 𝓛 𝓜.mem 𝓡.returns)
+    calls ! (1 ∷ 2 ∷ 0 ∷ []) run (planes.rows_mut.ended T) (planes.rows_mut.clauses T 𝓛 𝓜.mem 𝓡.returns)
     (rows_mut_met.met 𝓤 𝓛 𝓜 𝓡 (code.calls-v_frame_plane::plane::Plane::rows_mut 𝓡.env wired) T laws)
     (((κw, (κT, tt)), (qw, (rT, tt)), (inside, tt), (loan, tt), (mut_vals plane, tt)), tt) (asks_that 𝓤 inT) refl (and_then ! (get ! refl) (no_more !))
     (λ w ws. ‵ (LendsBuffer item loan (rows_slice w)) ∷ raw (fact 𝓤 (Begins T of_rows plane.now w)) ∷ []) (λ w ws. begins T loan 𝓛 of_rows w) (λ v w ws.
     let ℓ : NamedLft = record { mir = named 1; lft = κw } in let Walk = walks.the_row ℓ item in
-    let spelled = (walk_laws.lowers ℓ item (param_laws 0 T laws)).val_is in
-    spelt ! Walk lowered spelled w v (λ e is. let typed = ((walk_laws.the_row_laws ℓ item (param_laws 0 T laws)).lawful 𝓛).typed w (lowered w ∷ []) is in
+    let spelled = (of_walks.TheLaws.lowers ℓ item (param_laws 0 T laws)).val_is in
+    spelt ! Walk lowered spelled w v (λ e is. let typed = ((of_walks.TheLaws.the_row_laws ℓ item (param_laws 0 T laws)).lawful 𝓛).typed w (lowered w ∷ []) is in
     lands_as ! e refl typed.0 $ sets ! (of_opd ! (get ! refl)) refl typed.0 $ move ! (2 ∷ 5 ∷ []) $ heard ! _ (λ begun. drop ! $
     -- [the iterator; how the plane ends; the tokens of κw and κT; the plane's lender; the way back; the value; the locals]. A row is drawn
     let τ = (spot_of 𝓤 𝓛.H En 3).0 in
@@ -66,8 +60,8 @@ fill_last_row_spec 𝓤 𝓛 𝓜 𝓡 wired T laws copy clone dict met =
     lends_walk ! tt Walk refl τ refl κw qw w (l 3) 0 (lowered w) (λ β γ.
     let κc = β ∷ κw in let inw = meet_⊑_right (β ∷ []) κw in
     -- [the iterator, lent; the tokens of κc and κw; its lender; the way back; how the plane ends; the token of κT; the plane's lender; the way back; the value]
-    calls ! (1 ∷ 2 ∷ 6 ∷ 0 ∷ []) run (next_back.ended T) (next_back.clauses T 𝓛 𝓜.mem 𝓡.returns)
-    (next_back_met.met 𝓤 𝓛 𝓜 𝓡 (code.calls-v_frame_plane::rows_mut::RowsMut::next_back 𝓡.env wired) T laws) (
+    calls ! (1 ∷ 2 ∷ 6 ∷ 0 ∷ []) run (walks.next_back.ended T) (walks.next_back.clauses T 𝓛 𝓜.mem 𝓡.returns)
+    (of_walks.next_back.Met.met 𝓤 𝓛 𝓜 𝓡 (code.calls-v_frame_plane::rows_mut::RowsMut::next_back 𝓡.env wired) T laws) (
       (
         (κc, (κw, (κT, tt))),
         (share_within (Share.left qw), (Share.right qw, (rT, tt))),
