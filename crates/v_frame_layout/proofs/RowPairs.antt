@@ -1,5 +1,5 @@
 -- Sums over the pairs of two lists, in pieces.
-use Rattle.std.proofs.Common.{ℕ, zero, suc, ◌≡◌, ◌+◌, ◌-◌, ◌*◌, ◌^◌, ◌<◌, ◌≤◌, List, [], ◌∷◌, ◌++◌, length, take, drop, get_or, refl, arith}
+use Rattle.std.proofs.Common.{ℕ, zero, suc, ◌≡◌, ◌+◌, ◌-◌, ◌*◌, ◌^◌, ◌<◌, ◌≤◌, List, [], ◌∷◌, ◌++◌, length, take, drop, get_or, mul-suc, refl, sym, subst, arith}
 use Rattle.std.specs.Prelude.{sum_by, zip}
 use Rattle.std.specs.Int.{abs_diff}
 use Rattle.std.proofs.Math.Nat.{mul-le-mul}
@@ -27,13 +27,16 @@ module _ {X Y : Type 0} (of : X × Y → ℕ) where
   abbrev pub SumsUpTo : ℕ → List X → List Y → ℕ → Type 0
   SumsUpTo at xs ys so_far = (so_far + sum_by of (zip (drop at xs) (drop at ys)) ≡ sum_by of (zip xs ys)) × (so_far ≤ 2 ^ 64 * at)
 
-  -- a loop over two lists in pieces, one step on
-  pub sums_up_to-piece_more : (at n so_far piece : ℕ) (xs : List X) (ys : List Y) → 0 < n → piece < 2 ^ 64
-      → piece ≡ sum_by of (zip (take n (take (length xs - at) (drop at xs))) (take n (take (length ys - at) (drop at ys))))
-      → SumsUpTo at xs ys so_far → SumsUpTo (at + n) xs ys (so_far + piece)
-  sums_up_to-piece_more at n so_far piece xs ys some small is invariant =
+  -- a loop over two lists in pieces of n, one step on from the piece of number k
+  pub sums_up_to-piece_more : (n k so_far piece : ℕ) (xs : List X) (ys : List Y) → 0 < n → piece < 2 ^ 64
+      → piece ≡ sum_by of (zip (take n (take (length xs - n * k) (drop (n * k) xs))) (take n (take (length ys - n * k) (drop (n * k) ys))))
+      → SumsUpTo (n * k) xs ys so_far → SumsUpTo (n * (k + 1)) xs ys (so_far + piece)
+  sums_up_to-piece_more n k so_far piece xs ys some small is invariant =
+      let at = n * k in
+      let next : n * (k + 1) ≡ at + n = omega (arith, mul-suc n k) in
       let split = rw (drop-drop n at xs, drop-drop n at ys) at (sum_of_pairs-split n (drop at xs) (drop at ys)) in
       let here = rw (take_rest xs at, take_rest ys at) at is in
+      subst (λ (m : ℕ). SumsUpTo m xs ys (so_far + piece)) (sym next)
       (omega (arith, split, here, invariant.0), omega (arith, some, small, invariant.1))
 
   -- a sum over pairs of lists that are joined, the first two of one length

@@ -5,18 +5,14 @@ use Rattle.v_frame_layout.proofs.row_sums.sum_over_rows.Goals as goal
 
 pub loop-block-preserved : goal.loop-block-preserved
 loop-block-preserved g c =
-    let at = 32 * c.loop-block.block in
-    let on : 32 * (c.loop-block.block + 1) ≡ at + 32 = omega arith in
     let piece = c.of_blocks in
-    rw (on, c.from-sum.ensures)
-    (sums_up_to-piece_more (λ p. g.D.Difference.between p.0 p.1) at 32 c.loop-block.sum piece.result c.args.a.now c.args.b.now (lit< tt)
-    piece.type_inv piece.ensures c.loop-block.invariant)
+    rw c.from-sum.ensures
+    (sums_up_to-piece_more (λ p. g.D.Difference.between p.0 p.1) 32 c.loop-block.block c.loop-block.sum piece.result c.args.a.now c.args.b.now
+    (lit< tt) piece.type_inv piece.ensures c.loop-block.invariant)
 
 pub loop-eight-preserved : goal.loop-eight-preserved
 loop-eight-preserved g c =
-    let at = 8 * c.loop-eight.eight in
-    let on : 8 * (c.loop-eight.eight + 1) ≡ at + 8 = omega arith in
     let piece = c.of_eights in
-    rw (on, c.from-sum-in-loop-eight.ensures)
-    (sums_up_to-piece_more (λ p. g.D.Difference.between p.0 p.1) at 8 c.loop-eight.sum piece.result c.args.a.now c.args.b.now (lit< tt)
-    piece.type_inv piece.ensures c.loop-eight.invariant)
+    rw c.from-sum-in-loop-eight.ensures
+    (sums_up_to-piece_more (λ p. g.D.Difference.between p.0 p.1) 8 c.loop-eight.eight c.loop-eight.sum piece.result c.args.a.now c.args.b.now
+    (lit< tt) piece.type_inv piece.ensures c.loop-eight.invariant)
