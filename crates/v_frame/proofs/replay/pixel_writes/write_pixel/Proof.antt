@@ -9,5 +9,5 @@ write_pixel_spec 𝓤 𝓛 𝓜 𝓡 wired T laws copy clone dict bound = item_w
     (calls.draw.PixelDrawDraw.side.Met.met 𝓤 𝓛 𝓜 𝓡 (code.calls-v_frame::replay::draw::PixelDrawDraw::side 𝓡.env wired) T laws)
     (of_walks.next.Met.met 𝓤 𝓛 𝓜 𝓡 (code.calls-v_frame_plane::pixels_mut::PixelsMut::next 𝓡.env wired) T laws)
     (of_walks.next_back.Met.met 𝓤 𝓛 𝓜 𝓡 (code.calls-v_frame_plane::pixels_mut::PixelsMut::next_back 𝓡.env wired) T laws)
-    (calls.pixels.replace_by.Met.met 𝓤 𝓛 𝓜 𝓡 (code.calls-v_frame::replay::pixel_writes::replace_by 𝓡.env wired) T laws copy clone dict bound)
+    (calls.pixel_writes.replace_by.Met.met 𝓤 𝓛 𝓜 𝓡 (code.calls-v_frame::replay::pixel_writes::replace_by 𝓡.env wired) T laws copy clone dict bound)
     (code.unfolded 𝓤 𝓛.H 𝓜 𝓡 wired (T, tt) dict)

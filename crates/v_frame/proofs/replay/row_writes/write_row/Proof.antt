@@ -9,5 +9,5 @@ write_row_spec 𝓤 𝓛 𝓜 𝓡 wired T laws copy clone dict bound = item_wri
     (calls.draw.RowDrawDraw.side.Met.met 𝓤 𝓛 𝓜 𝓡 (code.calls-v_frame::replay::draw::RowDrawDraw::side 𝓡.env wired) T laws)
     (of_walks.next.Met.met 𝓤 𝓛 𝓜 𝓡 (code.calls-v_frame_plane::rows_mut::RowsMut::next 𝓡.env wired) T laws)
     (of_walks.next_back.Met.met 𝓤 𝓛 𝓜 𝓡 (code.calls-v_frame_plane::rows_mut::RowsMut::next_back 𝓡.env wired) T laws)
-    (calls.rows.overwrite_by.Met.met 𝓤 𝓛 𝓜 𝓡 (code.calls-v_frame::replay::row_writes::overwrite_by 𝓡.env wired) T laws copy clone dict bound)
+    (calls.row_writes.overwrite_by.Met.met 𝓤 𝓛 𝓜 𝓡 (code.calls-v_frame::replay::row_writes::overwrite_by 𝓡.env wired) T laws copy clone dict bound)
     (code.unfolded 𝓤 𝓛.H 𝓜 𝓡 wired (T, tt) dict)
