@@ -1,4 +1,4 @@
--- The names of the logic that proofs by hand of what lends parts of a slice cite, re-exported from one place. Declares nothing.
+-- The names of the logic that proofs by hand cite, re-exported from one place. Declares nothing.
 pub use Prim.Native.Nat.{suc}
 pub use Rattle.core.proofs.alloc.Calls.{Al, Answer-typed, Answered, Gives, Gives-Gives, Gives-goes, Goes-blank, Takes, Takes-gives, Takes-goes, answers}
 pub use Rattle.core.proofs.alloc.Calls.{at_gives, at_takes, gives_key, second, takes_key, token}
