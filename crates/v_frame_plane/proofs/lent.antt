@@ -1,4 +1,5 @@
 -- What lends rows and pixels for writing, and the steps of the proofs by hand of it.
+pub mod CallSteps
 pub mod Cuts
 pub mod Dropped
 pub mod Loans

@@ -3,17 +3,18 @@
 --     slice_fits, slices_fit     what code stores is well typed
 --     dropped      a part that is not used ends as it is.        ends_joined     from what both parts end as, what the slice does
 use Rattle.v_frame_plane.proofs.lent.Steps.{ℕ, ◌≡◌, ◌+◌, ◌^◌, ◌<◌, ◌≤◌, List, [], ◌∷◌, ◌++◌, length, take, list_drop, w64, MutBor, refl, ap, ◌∙◌, Lft, Share}
-use Rattle.v_frame_plane.proofs.lent.Steps.{flft, ftrue, SProp, emp, id⊢, ◌⊑◌, Fun, fact, fact_i, Array, usize, shows, param, uint_vals, uint_Makes, RattleType}
-use Rattle.v_frame_plane.proofs.lent.Steps.{MutSlice, slice_val, heard, nothing, only, owned, peeks, Lasts, lasts, triple_of, Contract, named, Val, of_list}
-use Rattle.v_frame_plane.proofs.lent.Steps.{vcons, vnil, vstruct, Memory, Routine, Ura, Item, Seq, ‵, raw, ◌⊛◌, some, later, ◌$◌, await, drop, feq_l, fjoin}
-use Rattle.v_frame_plane.proofs.lent.Steps.{fpick, fsplit, join, move, pick, rewrite, split, split3, use0, use1, Logic, ent, sep, fobs, ◌∵◌, !, qed, done, keep}
-use Rattle.v_frame_plane.proofs.lent.Steps.{fsplit3, sem, Fml, both_by, follows_both, Tuple, calls_at, vint, vptr, Ty, erased, mut, slice_ty, tcons, tnil}
+use Rattle.v_frame_plane.proofs.lent.Steps.{flft, SProp, id⊢, ◌⊑◌, Fun, fact, Array, usize, shows, param, uint_vals, uint_Makes, RattleType}
+use Rattle.v_frame_plane.proofs.lent.Steps.{MutSlice, slice_val, heard, only, owned, peeks, triple_of, Contract, named, Val, of_list}
+use Rattle.v_frame_plane.proofs.lent.Steps.{vcons, vnil, vstruct, Memory, Routine, Ura, Item, Seq, ‵, raw, ◌$◌, drop, feq_l}
+use Rattle.v_frame_plane.proofs.lent.Steps.{fpick, fsplit, move, rewrite, use1, Logic, ent, sep, fobs, ◌∵◌, !, qed, done, keep}
+use Rattle.v_frame_plane.proofs.lent.Steps.{fsplit3, sem, Fml, both_by, follows_both, vint, vptr, Ty, erased, mut, slice_ty, tcons, tnil}
 use Rattle.v_frame_plane.proofs.lent.Steps.{ty_param, ty_ref, ty_struct, SameBelow, TailFrom, Triple, T, Callee, Place, Opd as Operand, call, seq, Lifetime, WT}
 use Rattle.v_frame_plane.proofs.lent.Steps.{has_ty, Calls, Env, Loops, FmC, Post, lands, regoal, runs, Opds}
 use mir.Syntax.{Body}
 use denote.FollowSlice.{heres_id}
 use Rattle.core.specs.contracts.slice.slice+T.split_at_mut
 use Rattle.v_frame_plane.specs.SecondRows.{EndsAs}
+use Rattle.v_frame_plane.proofs.lent.CallSteps.{asks_both, calls}
 use Rattle.v_frame_plane.proofs.lent.Loans.{at_one}
 
 -- a slice as code has it, and two of them, are well typed where their lengths fit, wherever they lie
@@ -54,31 +55,21 @@ module _ {M : Type 1} {𝓤 : Ura M} {𝓛 : Logic 𝓤} {K : Type 0} {Γ : List
       ‵ (flft κT qT) ∷ Γ) (lands C Λ E d (vstruct (vcons (held front) (vcons (held back) vnil))) rest p))
       → Seq K 𝓛 (‵ (Slice.own_val x (held x ∷ [])) ∷ ‵ (flft κ q) ∷ ‵ (flft κT qT) ∷ Γ) (runs C Λ E (seq (call f xs d) rest) p)
   splits t fm at_mem run T met κ κT q qT inT lives x n fits h os k =
-      let S = Split 𝓛 at_mem run T in let y = asked 𝓛 at_mem run T κ κT q qT inT x n in let Slice = MutSlice (named 0) κ (param 0 T) in
-      let held = λ (r : MutBor (List T.Denot)). slice_val r.ref_ptr (length r.now) in
-      nothing t $ owned t usize _ (uint_Makes 𝓛 w64) n _ (refl, fits) $ fjoin t $ move t (1 ∷ 0 ∷ []) $ fjoin t $
-      nothing t $ move t (3 ∷ 0 ∷ []) $ join t $ move t (2 ∷ 0 ∷ []) $ join t $ join t $
-      use0 𝓛 (raw (fact 𝓤 (n ≤ length x.now))) (fact_i 𝓤 _ (emp 𝓤) h) $ use0 𝓛 (raw (fact 𝓤 (κT ⊑ T.lives))) (fact_i 𝓤 _ (emp 𝓤) lives) $ join t $
-      move t (1 ∷ 0 ∷ []) $ join t $ use1 𝓛 (raw (S.pre y)) (id⊢ 𝓤 _) $
-      calls_at t fm S met y os (λ v.
-      use1 𝓛 (later (some (λ (r : MutBor (List T.Denot) × MutBor (List T.Denot)). ((‵ (flft κ q) ⊛ ‵ (flft κT qT) ⊛ ‵ ftrue) ⊛
-      ‵ ((Tuple (Slice ∷ Slice ∷ [])).own_val r (v ∷ []))) ⊛
-      some (λ (ws : Lasts (split_at_mut.ended T) y.0.0 y.0.3). ‵ (lasts (split_at_mut.ended T) y.0.0 y.0.3 ws) ⊛ raw (fact 𝓤 (x.now ≡ r.0.now ++ r.1.now)) ⊛
-      raw (fact 𝓤 (length r.0.now ≡ n)) ⊛ raw (fact 𝓤 (length r.1.now + n ≡ length x.now)) ⊛
-      raw (fact 𝓤 (r.0.now ≡ take n x.now)) ⊛ raw (fact 𝓤 (r.1.now ≡ list_drop n x.now)) ⊛ raw (fact 𝓤 (SameBelow x.now r.0.now n × TailFrom x.now r.1.now n)) ⊛
-      ‵ (Joins (param 0 T) x r.0 r.1))))) (id⊢ 𝓤 _) $
-      await t tt $ pick t (λ r. split t $ split t $ split3 t $ move t (3 ∷ []) $ fpick t (λ vss. fsplit t $ feq_l t (λ e. fsplit t $ move t (1 ∷ []) $
-      fsplit t $
-      -- [the back; nothing; the front; the tokens; nothing; what the call ensures]
+      let Slice = MutSlice (named 0) κ (param 0 T) in let held = λ (r : MutBor (List T.Denot)). slice_val r.ref_ptr (length r.now) in
+      owned t usize _ (uint_Makes 𝓛 w64) n _ (refl, fits) $
+      calls t (2 ∷ 3 ∷ 1 ∷ 0 ∷ []) fm (split_at_mut.ended T) (split_at_mut.clauses T 𝓛 at_mem run) met (asked 𝓛 at_mem run T κ κT q qT inT x n)
+      (asks_both 𝓤 lives h) refl os (λ r ws. raw (fact 𝓤 (x.now ≡ r.0.now ++ r.1.now)) ∷ raw (fact 𝓤 (length r.0.now ≡ n)) ∷
+      raw (fact 𝓤 (length r.1.now + n ≡ length x.now)) ∷ raw (fact 𝓤 (r.0.now ≡ take n x.now)) ∷ raw (fact 𝓤 (r.1.now ≡ list_drop n x.now)) ∷
+      raw (fact 𝓤 (SameBelow x.now r.0.now n × TailFrom x.now r.1.now n)) ∷ ‵ (Joins (param 0 T) x r.0 r.1) ∷ []) (λ r ws. id⊢ 𝓤 _) (λ v r ws.
+      fpick t (λ vss. fsplit t $ feq_l t (λ e. fsplit t $ move t (1 ∷ []) $ fsplit t $
+      -- [the back; nothing; the front; six facts; how the slice ends; the tokens; nothing, twice]
       peeks t Slice _ (shows 𝓛 Slice) r.1 vss.1.0 (λ two. rewrite t 0 (λ (us : List Val). ‵ (Slice.own_val r.1 us)) two.0.0 refl $
       move t (2 ∷ []) $ peeks t Slice _ (shows 𝓛 Slice) r.0 vss.0 (λ one. rewrite t 0 (λ (us : List Val). ‵ (Slice.own_val r.0 us)) one.0.0 refl $
-      move t (6 ∷ []) $ pick t (λ ws. split t $ drop t $ split t $ heard t _ (λ _. split t $
-      heard t _ (λ _. split t $ heard t _ (λ _. split t $ heard t _ (λ front. split t $ heard t _ (λ back. split t $ heard t _ (λ _.
-      -- [how the slice ends; the front; the back; nothing; the tokens; nothing]
-      move t (3 ∷ 6 ∷ []) $ drop t $ drop t $ move t (1 ∷ 2 ∷ []) $
+      move t (6 ∷ 7 ∷ []) $ heard t _ (λ front. heard t _ (λ back.
+      move t (2 ∷ 3 ∷ 4 ∷ 5 ∷ 6 ∷ 10 ∷ 11 ∷ []) $ drop t $ drop t $ drop t $ drop t $ drop t $ drop t $ drop t $
       regoal t (λ (u : Val). lands C Λ E d u rest p) (ap only e ∙ ap (λ (us : List Val). vstruct (of_list (us ++ (vss.1.0 ++ [])))) one.0.0 ∙
       ap (λ (us : List Val). vstruct (of_list (held r.0 ∷ (us ++ [])))) two.0.0) refl $
-      k r.0 r.1 front back one.0.1.0 two.0.1.0)))))))))))))
+      k r.0 r.1 front back one.0.1.0 two.0.1.0)))))))
 
 module _ {M : Type 1} {𝓤 : Ura M} (𝓛 : Logic 𝓤) (T : RattleType) where
   abbrev Ends : MutBor (List T.Denot) → List T.Denot → SProp 𝓤

@@ -1,12 +1,11 @@
 -- A call of a method of an iterator that lends pixels, on `&mut self` lent on, for the proofs by hand of its `next` and `next_back`. Assumes `Logic`.
 -- lends_self self, open, goes to the call. self_back it is there again, as the call left it, with what the call gives
 -- and what it ensures. pixel_back the same at a call's last call, which gave a pixel: self is closed
-use Rattle.v_frame_plane.proofs.lent.Steps.{Some-of, live, heard, ℕ, ◌≡◌, List, [], ◌∷◌, Some, MutBor, refl, ap, Lft, fat, fauth, fbor, flent, flft}
-use Rattle.v_frame_plane.proofs.lent.Steps.{fobor, fobs, ftrue, full_share, SProp, emp, id⊢, ◌⊑◌, ⊑_trans, sep, Fun, fact, fact_i, shows, mem, param, Laws}
-use Rattle.v_frame_plane.proofs.lent.Steps.{param_laws, RattleType, MutRef, mut_vals, named_lft, only, peeks, closes, Lasts, lasts, triple_of}
-use Rattle.v_frame_plane.proofs.lent.Steps.{named, Val, of_list, Memory, Routine, Ura, Goal, Item, Seq, Soaks, ‵, raw, ◌⊛◌, some}
-use Rattle.v_frame_plane.proofs.lent.Steps.{later, ◌$◌, await, join, move, pick, rewrite, split, use0, use1, Logic, sem, Body, Fml, mean}
-use Rattle.v_frame_plane.proofs.lent.Steps.{AllOutlive, Shares, Lfts, ex, Gv, meet_⊑_right, alive, on_entry}
+use Rattle.v_frame_plane.proofs.lent.Steps.{Some-of, live, heard, ℕ, ◌≡◌, List, [], ◌∷◌, Some, MutBor, refl, ap, Lft, fat, fauth, fbor, flent, flft, fobor}
+use Rattle.v_frame_plane.proofs.lent.Steps.{fobs, ftrue, full_share, SProp, emp, id⊢, ◌⊑◌, ⊑_trans, sep, Fun, fact, fact_i, shows, mem, param, Laws, param_laws}
+use Rattle.v_frame_plane.proofs.lent.Steps.{RattleType, MutRef, mut_vals, named_lft, only, peeks, closes, Lasts, lasts, triple_of, named, Val, of_list, Memory}
+use Rattle.v_frame_plane.proofs.lent.Steps.{Routine, Ura, Goal, Item, Seq, Soaks, ‵, raw, ◌⊛◌, some, later, ◌$◌, await, join, move, pick, rewrite, split, use0}
+use Rattle.v_frame_plane.proofs.lent.Steps.{use1, Logic, sem, Body, Fml, mean, AllOutlive, Shares, Lfts, ex, Gv, meet_⊑_right, alive, on_entry}
 use base.Share
 use Rattle.std.specs.contracts.option.Option as Opt
 use Rattle.v_frame_plane.specs.contracts.pixels_mut.PixelsMut.{the_row}

@@ -1,12 +1,12 @@
 -- A call of `cut_first` or `cut_last`, and what `next` or `next_back`, which makes it, leaves of the final values. Assumes `Logic`.
 --     cuts_one     the slice goes to the call, which gives its pixel and the rest: it ends as they do
 --     takes_near, fewer, steps     so the iterator ends as the pixel and what is left, which can be counted, and the pixel is the next at that end
-use Rattle.v_frame_plane.proofs.lent.Steps.{◌≡◌, ◌^◌, ◌<◌, List, [], ◌∷◌, ◌++◌, length, MutBor, refl, sym, ap, ◌∙◌, arith, Lft, Share, flft, ftrue, SProp, emp}
-use Rattle.v_frame_plane.proofs.lent.Steps.{ent, sep, wand, id⊢, ◌⊑◌, fact, fact_i, Array, shows, param, RattleType, MutRef, MutSlice, slice_val, heard}
-use Rattle.v_frame_plane.proofs.lent.Steps.{nothing, only, peeks, Lasts, lasts, triple_of, Contract, named, Val, of_list, vcons, vnil, vptr, vstruct, Ura, Item}
-use Rattle.v_frame_plane.proofs.lent.Steps.{Seq, ‵, raw, ◌⊛◌, some, later, ◌$◌, ◌∵◌, !, qed, assume, await, done, drop, each, feq_l, fjoin, fpick, fsplit}
-use Rattle.v_frame_plane.proofs.lent.Steps.{fsplit3, join, move, pick, rewrite, split, split3, use0, use1, use3, Logic, sem, append_assoc, both_by}
-use Rattle.v_frame_plane.proofs.lent.Steps.{follows_both, Tuple, calls_at, length-append, GName, closing, Triple, Callee, Place, Opd as Operand, call, seq}
+use Rattle.v_frame_plane.proofs.lent.Steps.{◌≡◌, ◌^◌, ◌<◌, List, [], ◌∷◌, ◌++◌, length, MutBor, refl, sym, ap, ◌∙◌, arith, Lft, Share, flft, SProp}
+use Rattle.v_frame_plane.proofs.lent.Steps.{ent, sep, wand, id⊢, ◌⊑◌, fact, Array, shows, param, RattleType, MutRef, MutSlice, slice_val, heard}
+use Rattle.v_frame_plane.proofs.lent.Steps.{only, peeks, triple_of, Contract, named, Val, of_list, vcons, vnil, vptr, vstruct, Ura, Item}
+use Rattle.v_frame_plane.proofs.lent.Steps.{Seq, ‵, raw, ◌⊛◌, ◌$◌, ◌∵◌, !, qed, assume, done, drop, each, feq_l, fjoin, fpick, fsplit}
+use Rattle.v_frame_plane.proofs.lent.Steps.{fsplit3, move, rewrite, split, use1, use3, Logic, sem, append_assoc, both_by}
+use Rattle.v_frame_plane.proofs.lent.Steps.{follows_both, length-append, GName, closing, Triple, Callee, Place, Opd as Operand, call, seq}
 use Rattle.v_frame_plane.proofs.lent.Steps.{Calls, Env, Loops, FmC, Post, lands, regoal, runs, Opds}
 use mir.Syntax.{Body}
 use Rattle.v_frame_layout.specs.Table.{row_major}
@@ -15,6 +15,7 @@ use Rattle.v_frame_plane.specs.SecondRows.{EndsAs}
 use Rattle.v_frame_plane.specs.SecondPixels.{Parts, PixelEndsAs, SecondPixels}
 use Rattle.v_frame_plane.specs.contracts.pixels_mut.cut_first
 use Rattle.v_frame_plane.specs.declared.pixels_mut.PixelsMut.{PixelsMut}
+use Rattle.v_frame_plane.proofs.lent.CallSteps.{asks_both, calls}
 use Rattle.v_frame_plane.proofs.lent.Loans.{at_one}
 use Rattle.v_frame_plane.proofs.lent.PixelSides.{cut_clauses}
 use Rattle.v_frame_plane.proofs.lent.PixelParts.{of_parts}
@@ -47,28 +48,18 @@ module _ {M : Type 1} {𝓤 : Ura M} {𝓛 : Logic 𝓤} {K : Type 0} {Γ : List
       ‵ (flft κT qT) ∷ Γ) (lands C Λ E d (cut_of pixel rest') rest p))
       → Seq K 𝓛 (‵ (Slice.own_val x (slice_val x.ref_ptr (length x.now) ∷ [])) ∷ ‵ (flft κ q) ∷ ‵ (flft κT qT) ∷ Γ) (runs C Λ E (seq (call f xs d) rest) p)
   cuts_one t fm T s met κ κT q qT inT lives x some_left os k =
-      let Slice = MutSlice (named 0) κ (param 0 T) in let Pixel = MutRef (named 0) κ (param 0 T) in let y = asked 𝓛 T s κ κT q qT inT x in
-      nothing t $ move t (1 ∷ 0 ∷ []) $ fjoin t $
-      nothing t $ move t (3 ∷ 0 ∷ []) $ join t $ move t (2 ∷ 0 ∷ []) $ join t $ join t $
-      use0 𝓛 (raw (fact 𝓤 (0 < length x.now))) (fact_i 𝓤 _ (emp 𝓤) some_left) $ use0 𝓛 (raw (fact 𝓤 (κT ⊑ T.lives))) (fact_i 𝓤 _ (emp 𝓤) lives) $ join t $
-      move t (1 ∷ 0 ∷ []) $ join t $ use1 𝓛 (raw ((Cut 𝓛 T s).pre (asked 𝓛 T s κ κT q qT inT x))) (id⊢ 𝓤 _) $
-      calls_at t fm (Cut 𝓛 T s) met y os (λ v.
-      use1 𝓛 (later (some (λ (r : MutBor T.Denot × MutBor (List T.Denot)). ((‵ (flft κ q) ⊛ ‵ (flft κT qT) ⊛ ‵ ftrue) ⊛
-      ‵ ((Tuple (Pixel ∷ Slice ∷ [])).own_val r (v ∷ []))) ⊛
-      some (λ (ws : Lasts (cut_first.ended T) y.0.0 y.0.3). ‵ (lasts (cut_first.ended T) y.0.0 y.0.3 ws) ⊛
-      ‵ (follows_both (Array (param 0 T) 0) (param 0 T) (Array (param 0 T) 0) x.ghost_name r.0.ghost_name r.1.ghost_name (put s)) ⊛
-      raw (fact 𝓤 (x.now ≡ put s r.0.now r.1.now)))))) (id⊢ 𝓤 _) $
-      await t tt $ pick t (λ r. split t $ split t $ split3 t $ move t (3 ∷ []) $ fpick t (λ vss. fsplit t $ feq_l t (λ e. fsplit t $ move t (1 ∷ []) $
-      fsplit t $
-      -- [the rest; nothing; the pixel; the tokens; nothing; what the call ensures]
+      let Slice = MutSlice (named 0) κ (param 0 T) in let Pixel = MutRef (named 0) κ (param 0 T) in
+      calls t (1 ∷ 2 ∷ 0 ∷ []) fm (cut_first.ended T) (cut_clauses 𝓛 T s) met (asked 𝓛 T s κ κT q qT inT x) (asks_both 𝓤 lives some_left) refl os
+      (λ r ws. ‵ (follows_both (Array (param 0 T) 0) (param 0 T) (Array (param 0 T) 0) x.ghost_name r.0.ghost_name r.1.ghost_name (put s)) ∷
+      raw (fact 𝓤 (x.now ≡ put s r.0.now r.1.now)) ∷ []) (λ r ws. id⊢ 𝓤 _) (λ v r ws.
+      fpick t (λ vss. fsplit t $ feq_l t (λ e. fsplit t $ move t (1 ∷ []) $ fsplit t $
+      -- [the rest; nothing; the pixel; how the slice ends; a fact; the tokens; nothing]
       peeks t Slice _ (shows 𝓛 Slice) r.1 vss.1.0 (λ two. rewrite t 0 (λ (us : List Val). ‵ (Slice.own_val r.1 us)) two.0.0 refl $
       move t (2 ∷ []) $ peeks t Pixel _ (shows 𝓛 Pixel) r.0 vss.0 (λ one. rewrite t 0 (λ (us : List Val). ‵ (Pixel.own_val r.0 us)) one.0 refl $
-      move t (6 ∷ []) $ pick t (λ ws. split t $ drop t $ split t $ move t (1 ∷ []) $ heard t _ (λ is.
-      -- [how the slice ends; the pixel; the rest; nothing; the tokens; nothing]
-      move t (3 ∷ 6 ∷ []) $ drop t $ drop t $ move t (1 ∷ 2 ∷ []) $
+      move t (2 ∷ 7 ∷ 4 ∷ []) $ drop t $ drop t $ heard t _ (λ is.
       regoal t (λ (u : Val). lands C Λ E d u rest p) (ap only e ∙ ap (λ (us : List Val). vstruct (of_list (us ++ (vss.1.0 ++ [])))) one.0 ∙
       ap (λ (us : List Val). vstruct (of_list (vptr r.0.ref_ptr.0 r.0.ref_ptr.1 ∷ (us ++ [])))) two.0.0) refl $
-      k r.0 r.1 is two.0.1.0))))))))
+      k r.0 r.1 is two.0.1.0))))))
 
 module _ {M : Type 1} {𝓤 : Ura M} (𝓛 : Logic 𝓤) (T : RattleType) where
   abbrev Whole : RattleType

@@ -3,12 +3,12 @@
 --     front_out, rows_out, back_out     a field goes out.        field_in     it is there again, with another value
 --     closes_pixels     self is closed at the iterator that it is now.        stayed, ends_refill     how a step on it ends
 use Rattle.v_frame_plane.proofs.lent.Steps.{ℕ, ◌+◌, ◌^◌, ◌<◌, List, [], ◌∷◌, length, MutBor, refl, Lft, Share, fat, fauth, fbor, flft, fobor, fobs, full_share}
-use Rattle.v_frame_plane.proofs.lent.Steps.{SProp, all, ent, sep, wand, shows, mem, param, Laws, param_laws, RattleType, Valss, NamedLft, mut_vals}
-use Rattle.v_frame_plane.proofs.lent.Steps.{plain, named_lft, MutSlice, slice_ty, nothing, peeks, Clauses, at_exit, Stays, stay_ref, walk_of, ends_at, Ty, Tys}
-use Rattle.v_frame_plane.proofs.lent.Steps.{erased, mut, tcons, tnil, ty_param, ty_ref, ty_struct, Val, vcons, vnil, vstruct, Ura, Goal, Item, Seq}
-use Rattle.v_frame_plane.proofs.lent.Steps.{Soaks, Step, step, ‵, raw, ◌⊛◌, prop, ◌$◌, ◌∵◌, !, qed, done, drop, feq_i, feq_l, fjoin, fpack, fpick, fsplit, move}
-use Rattle.v_frame_plane.proofs.lent.Steps.{rewrite, split, use2, Logic, sem, Body, AllOutlive, Shares, Lfts, shape, within, Args, ◌≡◌, emp, fact}
-use Rattle.v_frame_plane.proofs.lent.Steps.{fact_i, cell_at, closes, join, use0, use1, use3, Gv, by, vunit, size}
+use Rattle.v_frame_plane.proofs.lent.Steps.{SProp, all, ent, sep, wand, shows, mem, param, Laws, param_laws, RattleType, Valss, NamedLft, mut_vals, plain}
+use Rattle.v_frame_plane.proofs.lent.Steps.{named_lft, MutSlice, slice_ty, nothing, peeks, Clauses, at_exit, Stays, stay_ref, walk_of, ends_at, Ty, Tys, erased}
+use Rattle.v_frame_plane.proofs.lent.Steps.{mut, tcons, tnil, ty_param, ty_ref, ty_struct, Val, vcons, vnil, vstruct, Ura, Goal, Item, Seq, Soaks, Step, step}
+use Rattle.v_frame_plane.proofs.lent.Steps.{‵, raw, ◌⊛◌, prop, ◌$◌, ◌∵◌, !, qed, done, drop, feq_i, feq_l, fjoin, fpack, fpick, fsplit, move, rewrite, split}
+use Rattle.v_frame_plane.proofs.lent.Steps.{use2, Logic, sem, Body, AllOutlive, Shares, Lfts, shape, within, Args, ◌≡◌, emp, fact, fact_i, cell_at, closes}
+use Rattle.v_frame_plane.proofs.lent.Steps.{join, use0, use1, use3, Gv, by, vunit, size}
 use Rattle.v_frame_plane.specs.PixelsLeft.{pixels_left}
 use Rattle.v_frame_plane.specs.SecondPixels.{KeepsPixels}
 use Rattle.v_frame_plane.specs.contracts.pixels_mut.PixelsMut.refill_front

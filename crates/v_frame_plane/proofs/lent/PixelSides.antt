@@ -5,12 +5,12 @@
 --     near_place, near_part, near_out, far_out     the field of this end in code, in the cell of self, and out of it
 --     whole_by, by_sides     self as a machine value, of its parts as seen from this end.        sides, closes_by     self, apart, and closed
 --     cut_clauses, row_clauses, step_clauses, refill_clauses, draw_clauses     the contracts of the functions of this end
-use Rattle.v_frame_plane.proofs.lent.Steps.{ℕ, ◌≡◌, ◌+◌, ◌^◌, ◌<◌, List, [], ◌∷◌, length, MutBor, ⊤, MakesProgress, item_count, Share, Lft, fauth}
-use Rattle.v_frame_plane.proofs.lent.Steps.{fbor, fobor, fobs, flft, mem, Body, Step, step, !, refl, ◌$◌, move, Array, Laws, MutSlice, NamedLft, Goal, Seq}
-use Rattle.v_frame_plane.proofs.lent.Steps.{Soaks, follows_both, full_share, fat, ftrue, ent, sep, fact, ◌⊑◌, param, RattleType, Clauses, Ty, Val, vptr}
-use Rattle.v_frame_plane.proofs.lent.Steps.{vint, w64, Ura, Item, ‵, Logic, sem, sub, fld, look_in, load, of_opd, stop, through, erased, mut, slice_ty, tcons}
-use Rattle.v_frame_plane.proofs.lent.Steps.{tnil, ty_param, ty_ref, ty_struct, Gv, T, Sym, deref, field, place, copy, rv_opd, Fits, WT, has_ty, Env, at, Go}
-use Rattle.v_frame_plane.proofs.lent.Steps.{nth, Part, Finds, Rv}
+use Rattle.v_frame_plane.proofs.lent.Steps.{ℕ, ◌≡◌, ◌+◌, ◌^◌, ◌<◌, List, [], ◌∷◌, length, MutBor, ⊤, MakesProgress, item_count, Share, Lft, fauth, fbor, fobor}
+use Rattle.v_frame_plane.proofs.lent.Steps.{fobs, flft, mem, Body, Step, step, !, refl, ◌$◌, move, Array, Laws, MutSlice, NamedLft, Goal, Seq, Soaks}
+use Rattle.v_frame_plane.proofs.lent.Steps.{follows_both, full_share, fat, ftrue, ent, sep, fact, ◌⊑◌, param, RattleType, Clauses, Ty, Val, vptr, vint, w64}
+use Rattle.v_frame_plane.proofs.lent.Steps.{Ura, Item, ‵, Logic, sem, sub, fld, look_in, load, of_opd, stop, through, erased, mut, slice_ty, tcons, tnil}
+use Rattle.v_frame_plane.proofs.lent.Steps.{ty_param, ty_ref, ty_struct, Gv, T, Sym, deref, field, place, copy, rv_opd, Fits, WT, has_ty, Env, at, Go, nth}
+use Rattle.v_frame_plane.proofs.lent.Steps.{Part, Finds, Rv}
 use Rattle.v_frame_plane.specs.PixelsLeft.{pixels_left}
 use Rattle.v_frame_plane.specs.RowsLeft.{rows_left}
 use Rattle.v_frame_plane.specs.SecondPixels.{KeepsPixels}

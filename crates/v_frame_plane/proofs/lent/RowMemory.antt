@@ -2,15 +2,14 @@
 --     takes_slice     `take` at its slice.        moved     it after a call
 --     bare, walk_owned     what it is made of again
 --     exits     the tokens, self and what is given, in which a function of `&mut self` of an iterator ends
-use Rattle.v_frame_plane.proofs.lent.Steps.{ℕ, ◌+◌, ◌^◌, ◌<◌, List, [], ◌∷◌, length, w64, MutBor, refl, Share, fat, flent, flft}
-use Rattle.v_frame_plane.proofs.lent.Steps.{full_share, SProp, all, ent, sep, wand, ◌⊑◌, Fun, usize, shows, mem, param}
-use Rattle.v_frame_plane.proofs.lent.Steps.{uint_vals, uint_Makes, RattleType, Valss, NamedLft, plain, named_lft, MutSlice, slice_ty}
-use Rattle.v_frame_plane.proofs.lent.Steps.{slice_val, nothing, owned, peeks, Stays, stay_ref, Ty, Tys, erased, mut}
-use Rattle.v_frame_plane.proofs.lent.Steps.{tcons, tnil, ty_int, ty_param, ty_ref, ty_struct, Val, Vals, vcons, vint, vnil, vstruct, Memory, Routine, Ura}
-use Rattle.v_frame_plane.proofs.lent.Steps.{Item, Seq, Step, step, ‵, raw, ◌⊛◌, prop, ◌$◌, ◌∵◌, !, qed, done, drop, feq_i, feq_l, fjoin, fjoin3, fpack}
-use Rattle.v_frame_plane.proofs.lent.Steps.{fpick, frame, fsplit, join, move, rewrite, split, suffices, use1, use2, Logic, sem, Body, Fml, feq, fsep, ftrue}
-use Rattle.v_frame_plane.proofs.lent.Steps.{Shares, Lfts, shape, within, mean, Triple, Callee, Place, Opd as Operand, call, seq, Calls, Env}
-use Rattle.v_frame_plane.proofs.lent.Steps.{Loops, FmC, Post, lands, runs, Opds, T, Fits, WT, has_ty}
+use Rattle.v_frame_plane.proofs.lent.Steps.{ℕ, ◌+◌, ◌^◌, ◌<◌, List, [], ◌∷◌, length, w64, MutBor, refl, Share, fat, flent, flft, full_share, SProp, all, ent}
+use Rattle.v_frame_plane.proofs.lent.Steps.{sep, wand, ◌⊑◌, Fun, usize, shows, mem, param, uint_vals, uint_Makes, RattleType, Valss, NamedLft, plain, named_lft}
+use Rattle.v_frame_plane.proofs.lent.Steps.{MutSlice, slice_ty, slice_val, nothing, owned, peeks, Stays, stay_ref, Ty, Tys, erased, mut, tcons, tnil, ty_int}
+use Rattle.v_frame_plane.proofs.lent.Steps.{ty_param, ty_ref, ty_struct, Val, Vals, vcons, vint, vnil, vstruct, Memory, Routine, Ura, Item, Seq, Step, step, ‵}
+use Rattle.v_frame_plane.proofs.lent.Steps.{raw, ◌⊛◌, prop, ◌$◌, ◌∵◌, !, qed, done, drop, feq_i, feq_l, fjoin, fjoin3, fpack, fpick, frame, fsplit, join, move}
+use Rattle.v_frame_plane.proofs.lent.Steps.{rewrite, split, suffices, use1, use2, Logic, sem, Body, Fml, feq, fsep, ftrue, Shares, Lfts, shape, within, mean}
+use Rattle.v_frame_plane.proofs.lent.Steps.{Triple, Callee, Place, Opd as Operand, call, seq, Calls, Env, Loops, FmC, Post, lands, runs, Opds, T, Fits, WT}
+use Rattle.v_frame_plane.proofs.lent.Steps.{has_ty}
 use mir.Syntax.{Body as Code}
 use Rattle.v_frame_plane.specs.Cursor.{RowsAreWithin}
 use Rattle.v_frame_plane.specs.contracts.rows_mut.RowsMut.{struct, the_row, the_type}

@@ -1,19 +1,19 @@
 -- `next` and `next_back` of an iterator that lends rows, of which `s` is the one end: the slice is cut where the row next to that end begins and where it ends,
 -- and what lies towards the other end is kept. A `&mut` in a field of self no generated proof follows, so this one follows the code. Assumes `Logic`.
-use Rattle.v_frame_plane.proofs.lent.Steps.{ends_at, param_laws, ℕ, ◌≡◌, ◌+◌, ◌-◌, ◌*◌, ◌^◌, ◌<◌, List, [], ◌∷◌, length, Some, None}
-use Rattle.v_frame_plane.proofs.lent.Steps.{MutBor, lit<, w64, Val, fat, slice_val, vcons, vstruct, refl, ap, ◌∙◌, arith, length-drop, proved, Some-of, none_of}
-use Rattle.v_frame_plane.proofs.lent.Steps.{⊤, MakesProgress, item_count, ftrue, full_share, emp, id⊢, SProp, Fun, ◌⊑◌, ⊑_trans, fact, fact_i, tables}
-use Rattle.v_frame_plane.proofs.lent.Steps.{param, MutRef, mut_vals, mut_Tells, plain, named_lft, MutSlice, usize, uint_vals, uint_Makes, closes, owned}
-use Rattle.v_frame_plane.proofs.lent.Steps.{nothing, heard, only, calls_at, framed, triple_of, Contract, Lasts, lasts, Goes-ref, walk_of, eqb→eq, named, mut}
-use Rattle.v_frame_plane.proofs.lent.Steps.{erased, of_list, vint, alloc_all, env, free_all, get, get_in, lands_as, look_at, look_in_at, pass_all, sets}
-use Rattle.v_frame_plane.proofs.lent.Steps.{through, ‵, raw, ◌⊛◌, some, later, at_ret, ◌$◌, !, await, done, drop, feq_l, fjoin, fsplit, join, keep, move, pick}
-use Rattle.v_frame_plane.proofs.lent.Steps.{split, use0, use1, use3, step, Step, Goal, Item, live, agg, look_in, sub, whole, addr, and_then, assigns, bin}
-use Rattle.v_frame_plane.proofs.lent.Steps.{branches, enter, exec, first, fld, from, hop, lit, load, no_more, of_opd, returns, returns_within, skips, stop}
-use Rattle.v_frame_plane.proofs.lent.Steps.{well_typed, RattleType, Laws, Logic, Ura, Ty, Lft, Memory, Routine, slice_ty, tcons, tnil, ty_int, ty_param}
-use Rattle.v_frame_plane.proofs.lent.Steps.{ty_ref, ty_struct, MachineTables, Running, closing, Meets, Triple, Callee, Fn, Place, Opd as Operand, Sym, addr_of}
-use Rattle.v_frame_plane.proofs.lent.Steps.{aggregate, assign, call, cond, copy, deref, eq, field, int, local, op2, place, return, rv_opd, seq, skip, ttcons}
-use Rattle.v_frame_plane.proofs.lent.Steps.{ttnil, ty_bool, ty_enum, unsigned, value_local, w8, Model, Calls, Closed, Env, Loops, Spot, FmC, Post as After}
-use Rattle.v_frame_plane.proofs.lent.Steps.{flt_l, lands, regoal, runs, Finds, Opds, store_raw, subst, sym}
+use Rattle.v_frame_plane.proofs.lent.Steps.{ends_at, param_laws, ℕ, ◌≡◌, ◌+◌, ◌-◌, ◌*◌, ◌^◌, ◌<◌, List, [], ◌∷◌, length, Some, None, MutBor, lit<, w64, Val}
+use Rattle.v_frame_plane.proofs.lent.Steps.{fat, slice_val, vcons, vstruct, refl, ap, ◌∙◌, arith, length-drop, proved, Some-of, none_of, ⊤, MakesProgress}
+use Rattle.v_frame_plane.proofs.lent.Steps.{item_count, ftrue, full_share, emp, id⊢, SProp, Fun, ◌⊑◌, ⊑_trans, fact, fact_i, tables, param, MutRef, mut_vals}
+use Rattle.v_frame_plane.proofs.lent.Steps.{mut_Tells, plain, named_lft, MutSlice, usize, uint_vals, uint_Makes, closes, owned, heard, only}
+use Rattle.v_frame_plane.proofs.lent.Steps.{framed, triple_of, Contract, Goes-ref, walk_of, eqb→eq, named, mut, erased, of_list, vint, alloc_all}
+use Rattle.v_frame_plane.proofs.lent.Steps.{env, free_all, get, get_in, lands_as, look_at, look_in_at, pass_all, sets, through, ‵, raw}
+use Rattle.v_frame_plane.proofs.lent.Steps.{at_ret, ◌$◌, !, done, drop, feq_l, fsplit, join, keep, move, use0, use1, use3, step}
+use Rattle.v_frame_plane.proofs.lent.Steps.{Step, Goal, Item, live, agg, look_in, sub, whole, addr, and_then, assigns, bin, branches, enter, exec, first, fld}
+use Rattle.v_frame_plane.proofs.lent.Steps.{from, hop, lit, load, no_more, of_opd, returns, returns_within, skips, stop, well_typed, RattleType, Laws, Logic}
+use Rattle.v_frame_plane.proofs.lent.Steps.{Ura, Ty, Lft, Memory, Routine, slice_ty, tcons, tnil, ty_int, ty_param, ty_ref, ty_struct, MachineTables, Running}
+use Rattle.v_frame_plane.proofs.lent.Steps.{closing, Meets, Triple, Callee, Fn, Place, Opd as Operand, Sym, addr_of, aggregate, assign, call, cond, copy, deref}
+use Rattle.v_frame_plane.proofs.lent.Steps.{eq, field, int, local, op2, place, return, rv_opd, seq, skip, ttcons, ttnil, ty_bool, ty_enum, unsigned}
+use Rattle.v_frame_plane.proofs.lent.Steps.{value_local, w8, Model, Closed, Env, Spot, flt_l, Finds}
+use Rattle.v_frame_plane.proofs.lent.Steps.{store_raw, subst, sym}
 use mir.Syntax.{Body, sub as minus}
 use types.Run.{Opd}
 use Rattle.std.specs.contracts.option.Option as Opt
@@ -24,6 +24,7 @@ use Rattle.v_frame_plane.specs.SecondRows.{EndsAs}
 use Rattle.v_frame_plane.specs.contracts.rows_mut.RowsMut as rows_mut
 use Rattle.v_frame_plane.specs.contracts.rows_mut.RowsMut.next
 use Rattle.v_frame_plane.specs.contracts.rows_mut.row_place
+use Rattle.v_frame_plane.proofs.lent.CallSteps.{asks_both, calls}
 use Rattle.v_frame_plane.proofs.lent.Cuts.{Split, dropped, splits, slice_fits, slices_fit}
 use Rattle.v_frame_plane.proofs.lent.Loans.{begins, opens_self}
 use Rattle.v_frame_plane.proofs.lent.PixelSides.{part, row_clauses}
@@ -94,30 +95,6 @@ module _ {M : Type 1} {𝓤 : Ura M} (𝓛 : Logic 𝓤) (at_mem : Memory → SP
   abbrev Placing : Contract 𝓤
   Placing = triple_of 𝓛 row_place.signature (row_place.spec 𝓛 at_mem run)
 
-  abbrev asked : (start width gap row : ℕ) → Placing.Ghost
-  asked start width gap row = (
-    (tt, tt, tt, (start, (width, (gap, (row, tt)))), (uint_vals w64 start, (uint_vals w64 width, (uint_vals w64 gap, (uint_vals w64 row, tt))))),
-    tt,
-  )
-
-module _ {M : Type 1} {𝓤 : Ura M} {𝓛 : Logic 𝓤} {K : Type 0} {Γ : List (Item 𝓤)} {E : Env 𝓤 𝓛.H} {C : Calls 𝓤 𝓛.H} {Λ : Loops 𝓤 𝓛.H} {f : Callee} {xs :
-    List Operand} {d : Place} {rest : Body} {p : After 𝓤 𝓛.H} where
-  places : K → FmC 𝓤 𝓛.H 𝓛.laws C → (at_mem : Memory → SProp 𝓤) (run : Routine → Fun 𝓤) → Triple 𝓤 (C f) (Placing 𝓛 at_mem run) →
-      (start width gap row : ℕ) → start < 2 ^ 64 → width < 2 ^ 64 → gap < 2 ^ 64 → row < 2 ^ 64 → width + gap < 2 ^ 64 → start + row * (width + gap) < 2 ^ 64
-      → let S = Placing 𝓛 at_mem run in let y = asked 𝓛 at_mem run start width gap row in Opds K 𝓛 (raw (S.pre y) ∷ Γ) E xs (S.args y)
-      → Step K 𝓛 Γ (lands C Λ E d (vint w64 (start + row * (width + gap))) rest p) Γ (runs C Λ E (seq (call f xs d) rest) p)
-  places t fm at_mem run met start width gap row start_fits width_fits gap_fits row_fits stride inside os = step (λ k.
-      let S = Placing 𝓛 at_mem run in let y = asked 𝓛 at_mem run start width gap row in
-      nothing t $ owned t usize _ (uint_Makes 𝓛 w64) row _ (refl, row_fits) $ fjoin t $ owned t usize _ (uint_Makes 𝓛 w64) gap _ (refl, gap_fits) $ fjoin t $
-      owned t usize _ (uint_Makes 𝓛 w64) width _ (refl, width_fits) $ fjoin t $ owned t usize _ (uint_Makes 𝓛 w64) start _ (refl, start_fits) $ fjoin t $
-      nothing t $ join t $ use0 𝓛 (raw (fact 𝓤 (start + row * (width + gap) < 2 ^ 64))) (fact_i 𝓤 _ (emp 𝓤) inside) $
-      use0 𝓛 (raw (fact 𝓤 (width + gap < 2 ^ 64))) (fact_i 𝓤 _ (emp 𝓤) stride) $ join t $ move t (1 ∷ 0 ∷ []) $ join t $ use1 𝓛 (raw (S.pre y)) (id⊢ 𝓤 _) $
-      calls_at t fm S met y os (λ v.
-      use1 𝓛 (later (some (λ (r : ℕ). (‵ ftrue ⊛ ‵ (usize.own_val r (v ∷ []))) ⊛ some (λ (ws : Lasts row_place.ended y.0.0 y.0.3).
-      ‵ (lasts row_place.ended y.0.0 y.0.3 ws) ⊛ raw (fact 𝓤 (r ≡ start + row * (width + gap))))))) (id⊢ 𝓤 _) $
-      await t tt $ pick t (λ r. split t $ split t $ drop t $ fsplit t $ feq_l t (λ e. flt_l t (λ _. pick t (λ ws. split t $ drop t $ heard t _ (λ is.
-      regoal t (λ u. lands C Λ E d u rest p) (ap only e ∙ ap (vint w64) is) refl $ k)))))))
-
 fits_by : {X : Type 0} (size : X → ℕ) (s : Side) {x y : X} → size x < 2 ^ 64 → size y < 2 ^ 64 → size (at_side s x y) < 2 ^ 64
 fits_by size at_front x y = x
 fits_by size at_back x y = y
@@ -185,10 +162,25 @@ module _ {M : Type 1} {𝓤 : Ura M} (𝓛 : Logic 𝓤) (𝓜 : Model 𝓤 𝓛
       let sum_fits = subst (λ n. n < 2 ^ 64) (sym (is_place h s)) place_fits in
       skips ! $ exec ! 𝓣.C 𝓣.Λ (env function.locals l) (drawn option self' pair kept entry s placing taking splitting) (at_ret _ Post) $
       sets ! (bin ! (get ! refl) (lit ! tt) more) refl (tt, record { fits = fewer }) $
-      places ! run 𝓜.mem 𝓡.returns place_meets h.start h.width h.gap (number s h) start_fits.fits width_fits.fits gap_fits.fits
-      (number_fits h s count_fits.fits) h.within.stride sum_fits (and_then ! (get ! refl) (and_then ! (get ! refl) (and_then ! (get ! refl) (and_then !
-      (opd_by s (λ e. vint w64 (number e h)) (lit ! tt) (get ! refl)) (no_more !))))) $
-      lands_as ! (ap (vint w64) (is_place h s)) refl (tt, record { fits = place_fits }) $
+      owned ! usize _ (uint_Makes 𝓛 w64) (number s h) _ (refl, number_fits h s count_fits.fits) $
+      owned ! usize _ (uint_Makes 𝓛 w64) h.gap _ (refl, gap_fits.fits) $
+      owned ! usize _ (uint_Makes 𝓛 w64) h.width _ (refl, width_fits.fits) $ owned ! usize _ (uint_Makes 𝓛 w64) h.start _ (refl, start_fits.fits) $
+      calls ! (0 ∷ 1 ∷ 2 ∷ 3 ∷ []) run row_place.ended (row_place.clauses 𝓛 𝓜.mem 𝓡.returns) place_meets (
+        (
+          tt,
+          tt,
+          tt,
+          (h.start, (h.width, (h.gap, (number s h, tt)))),
+          (uint_vals w64 h.start, (uint_vals w64 h.width, (uint_vals w64 h.gap, (uint_vals w64 (number s h), tt)))),
+        ),
+        tt,
+      )
+      (asks_both 𝓤 h.within.stride sum_fits) refl
+      (and_then ! (get ! refl) (and_then ! (get ! refl) (and_then ! (get ! refl) (and_then !
+      (opd_by s (λ e. vint w64 (number e h)) (lit ! tt) (get ! refl)) (no_more !)))))
+      (λ r ws. raw (fact 𝓤 (r ≡ h.start + number s h * (h.width + h.gap))) ∷ []) (λ r ws. id⊢ 𝓤 _) (λ v r ws.
+      fsplit ! $ feq_l ! (λ e. flt_l ! (λ _. heard ! _ (λ is. drop ! $ drop ! $ drop ! $ drop ! $
+      lands_as ! (ap only e ∙ ap (vint w64) (is ∙ is_place h s)) refl (tt, record { fits = place_fits }) $
       sets ! (addr ! (through ! refl (fld ! refl (stop !)))) refl (tt, tt) $
       move ! (0 ∷ 1 ∷ 5 ∷ []) $ takes_slice ! run 𝓜.mem 𝓡.returns T ℓ (take_meets κa inA) qa h b o (numbers h h.start h.count) inA
       (λ α γ. and_then ! (get ! refl) (no_more !)) (λ e rest_fits.
@@ -241,4 +233,4 @@ module _ {M : Type 1} {𝓤 : Ura M} (𝓛 : Logic 𝓤) (𝓜 : Model 𝓤 𝓛
       move ! (2 ∷ 3 ∷ 4 ∷ 5 ∷ 6 ∷ 0 ∷ []) $ exits ! (mut_vals self) κs qs (ends_at 𝓛 (next.ended T) (stayed T) c bound out (Some row) (new, tt) (tt, tt)) $
       use0 𝓛 (raw (fact 𝓤 (MakesProgress (λ _. ⊤) (item_count rows_left) h (Some row) new))) (fact_i 𝓤 _ (emp 𝓤) (moves_on h before at row behind more s cut)) $
       use0 𝓛 (raw (fact 𝓤 (YieldsRow s h (Some row) new))) (fact_i 𝓤 _ (emp 𝓤) (draws h before at row behind more s cut)) $ join ! $
-      move ! (1 ∷ 0 ∷ []) $ join ! $ done !))))))))
+      move ! (1 ∷ 0 ∷ []) $ join ! $ done !))))))))))))

@@ -16,40 +16,41 @@ pub use Rattle.std.proofs.raw_atomic.Walks.{proved, leaves, proved_at}
 pub use Rattle.std.specs.Iterator.{MakesProgress, YieldsFirstMut, YieldsLastMut, item_count}
 pub use Rattle.std.specs.List.{SameBelow, TailFrom, refill}
 pub use Rattle.std.specs.Mem.{type_size}
-pub use Rattle.std.specs.Prelude.{⊤, Err, IfOk, IsOk, Ok, ◌==◌}
+pub use Rattle.std.specs.Prelude.{⊤, Err, IfOk, IsOk, Ok, ◌==◌, count_by, nat_lt}
 pub use Rattle.std_alloc.proofs.RawLayout.{as_raw, as_written}
 pub use Rattle.std_alloc.proofs.RcSteps.{Good, first_Good, word, word-Good}
 pub use Rattle.std_alloc.proofs.VecSteps.Shapes.{arm_body, head, inside}
 pub use base.Fml.{Fml, Lft, Share, fat, fauth, fbor, feq, fex, flent, flft, fobor, fobs, fsep, ftrue, GName, Incl, Incl-refl, Incl-trans, fall, fdead, ffalse}
 pub use base.Fml.{fres, froom, fwand}
 pub use base.Fraction.{full_share}
-pub use base.Logic.{SProp, all, all_e, apply∗, emp, ent, id⊢, sep, wand, ex, fst∗, guard, never, via}
+pub use base.Logic.{SProp, all, all_e, apply∗, emp, ent, id⊢, sep, wand, ex, fst∗, guard, never, via, assoc', assoc∗, comm∗, emp∗, mono_l, mono_r, snd∗}
 pub use base.Stored.{Gv}
 pub use borrow.Table.Elements.{at_mul, cut_app, join_app}
 pub use borrow.Table.OneValue.{part_in, part_in_at, part_out_at}
 pub use contract.BorrowLft.{◌⊑◌, ⊑_trans, meet_⊑_left, meet_⊑_right, ⊑_meet, ⊑_refl}
-pub use contract.Lifetimes.{AllOutlive, Lfts, Shares}
-pub use contract.Monad.{Fun, fact, fact_i}
+pub use contract.Lifetimes.{AllOutlive, Lfts, Shares, toks}
+pub use contract.Monad.{Fun, fact, fact_i, fact_use, top}
 pub use contract.Running.{tables, MachineTables, Running}
 pub use denote.Array.{Array}
 pub use denote.Builtin.{usize, RefMutOf, RefOf, unit}
-pub use denote.Exit.{yes, no}
+pub use denote.Exit.{yes, no, left}
 unfoldable pub use denote.Follow.{both_by, follows_both}
 pub use denote.Follow.{follows, follows_if, follows_then}
 pub use denote.Laws.{shows, Is, Typed}
 pub use denote.Lend.{lends_ref, lends_shr, ref_back}
 pub use denote.Memory.{cell_at, mem, hidden_shr, lone, part_at, shared_of}
+pub use denote.Opens.{hide, shr_dup, unhide}
 pub use denote.Param.{param, layouts, arg, bounded, layout}
 pub use denote.Param.Laws.{Laws, param_laws, arg_laws, of_field, row_shared}
 pub use denote.Param.Send.{AllSend, Common, IsSend, IsSync, owning_send, part_keyless, sendable, struct_send, struct_sync}
 pub use denote.Param.Shared.{copy_shared, mut_slice_shared}
 pub use denote.Plain.{uint_vals, uint_Makes, uint_Tells}
-pub use denote.RattleType.{RattleType, Valss, RowLaws, owns}
+pub use denote.RattleType.{RattleType, Valss, RowLaws, owns, Denots}
 pub use denote.RawPtr.{Ptr, RawPtr, block_ptr, in_a_block, null_ptr, ptr_val}
 pub use denote.Ref.{MutRef, NamedLft, mut_vals, mut_Tells, Bor, ShrRef, mut_Lawful, shr_Tells, shr_vals}
 pub use denote.Sharing.{ShrLaws, beside, said}
 pub use denote.SharingLaws.{beside_shr_laws, nothing_shr_laws, said_shr_laws}
-pub use denote.Signature.{plain, named_lft, types_at}
+pub use denote.Signature.{plain, named_lft, types_at, Signature, Slot, type_at}
 pub use denote.Slice.{MutSlice, slice_ty, slice_val, mut_slice_vals, mut_slice_Tells, elements_shared, mut_slice_Lawful}
 pub use denote.Steps.{closes, heard, nothing, only, opens, owned, peeks}
 pub use denote.Struct.Declared.{shape}
@@ -60,12 +61,13 @@ pub use denote.Struct.Struct.{within, Shape, Struct, Struct-Makes, exits_of}
 pub use denote.Struct.Tuple.{Tuple, tuple_type}
 pub use denote.Triple.Call.{calls_at, calls_at_last}
 pub use denote.Triple.Clauses.{Clauses, Lasts, at_exit, lasts, Ended, closing}
-pub use denote.Triple.Entry.{Args, alive, on_entry}
+pub use denote.Triple.End.{Fins, Kepts, lasts_of}
+pub use denote.Triple.Entry.{Args, alive, on_entry, Res}
 pub use denote.Triple.Spec.{triple_of, Meets}
 pub use denote.Triple.Statement.{Contract, Triple}
 pub use denote.Triple.Table.{framed, entered}
 pub use denote.Triple.Walked.{Stays, stay_ref, Goes-ref, walk_of, ends_at, stay_dropped, Goes-dropped, Goes-spent_slice, Goes-spent_ref, needs, says}
-pub use denote.Triple.Walked.{walk_Meets}
+pub use denote.Triple.Walked.{walk_Meets, Fit, has_of}
 pub use lib.Dec.{eqb→eq, T, T_not, eqb, leb→le, ltb→lt, nleb→lt, nltb→le}
 pub use lib.ListN.{length-take, take-append-drop}
 pub use mathlib.Core.Bool.{Bool, false, not, true}
@@ -88,7 +90,8 @@ pub use types.ByLocal.{alloc_all, env, free_all, get, get_in, lands_as, look_at,
 pub use types.ByLocal.{is, lands_last, sets_last, take_at}
 pub use types.Kit.{Goal, Item, Seq, Soaks, Step, step, ‵, raw, ◌⊛◌, some, later, prop, at_ret, ◌$◌, ◌∵◌, !, qed, assume, await, done, drop, each, feq_i, feq_l}
 pub use types.Kit.{fjoin, fjoin3, fpack, fpick, frame, fsplit, fsplit3, join, keep, move, pick, rewrite, split, split3, suffices, use0, use1, use2, use3, group}
-pub use types.Kit.{mean, Go, Post, Sq, any_q, by, check, flt_i, flt_l, given, lands, learn, now, nth, post, regoal, runs, updating, ⋆}
+pub use types.Kit.{mean, Go, Post, Sq, any_q, by, check, flt_i, flt_l, given, lands, learn, now, nth, post, regoal, runs, updating, ⋆, ++⊢, pop, push, sel}
+pub use types.Kit.{sel⊢, settles}
 pub use types.Logic.{Logic, sem}
 pub use types.Match.{live, in_variant, vrt}
 pub use types.Part.{agg, look_in, store_in, sub, whole, Part}

@@ -1,10 +1,10 @@
 -- A call of `mem::take` at a place that holds a `&mut [T]` of the lifetime κ, for a proof by hand. Assumes `Logic`.
 --     calls_take     the place is lent to the call, and holds an empty slice afterwards: what it held is handed back
-use Rattle.v_frame_plane.proofs.lent.Steps.{ℕ, ◌≡◌, List, [], ◌∷◌, length, w64, MutBor, refl, ap, ◌∙◌, Lft, Share, fat, flent, flft, ftrue, full_share, SProp}
-use Rattle.v_frame_plane.proofs.lent.Steps.{emp, id⊢, ◌⊑◌, ⊑_trans, Fun, fact, fact_i, shows, mem, param, Laws, param_laws, RattleType, NamedLft, MutSlice}
-use Rattle.v_frame_plane.proofs.lent.Steps.{slice_val, heard, nothing, only, peeks, Lasts, lasts, triple_of, Contract, Ty, a_type, named, tcons, tnil, ty_int}
-use Rattle.v_frame_plane.proofs.lent.Steps.{ty_ptr, ty_struct, Val, vptr, Memory, Routine, Ura, Item, Seq, ‵, raw, ◌⊛◌, some, later, ◌$◌, await, drop, fsplit}
-use Rattle.v_frame_plane.proofs.lent.Steps.{join, move, pick, rewrite, split, split3, use0, use1, use2, Logic, Body, no, calls_at, ⊑_meet, ⊑_refl, meet_⊑_right}
+use Rattle.v_frame_plane.proofs.lent.Steps.{ℕ, ◌≡◌, List, [], ◌∷◌, length, w64, MutBor, refl, ap, ◌∙◌, Lft, Share, fat, flent, flft, full_share, SProp}
+use Rattle.v_frame_plane.proofs.lent.Steps.{id⊢, ◌⊑◌, ⊑_trans, Fun, fact, shows, mem, param, Laws, param_laws, RattleType, NamedLft, MutSlice}
+use Rattle.v_frame_plane.proofs.lent.Steps.{slice_val, heard, only, peeks, triple_of, Contract, Ty, a_type, named, tcons, tnil, ty_int}
+use Rattle.v_frame_plane.proofs.lent.Steps.{ty_ptr, ty_struct, Val, vptr, Memory, Routine, Ura, Item, Seq, ‵, raw, ◌⊛◌, ◌$◌, drop, fsplit}
+use Rattle.v_frame_plane.proofs.lent.Steps.{move, rewrite, split, use1, use2, Logic, Body, no, ⊑_meet, ⊑_refl, meet_⊑_right}
 use Rattle.v_frame_plane.proofs.lent.Steps.{Running, arg, bounded, layout, arg_laws, of_field, row_shared, mut_slice_shared, mut_slice_laws, Triple, Callee}
 use Rattle.v_frame_plane.proofs.lent.Steps.{Place, Opd as Operand, call, seq, dcons, dnil, Calls, Env, Loops, FmC, Post, lands, regoal, runs, Opds, Model}
 use base.Share
@@ -17,6 +17,7 @@ use Rattle.core.proofs.mem.take.Symbol as take_code
 use Rattle.core.proofs.slice.empty.RefMutSliceDefault.TheImpl.Met as default_met
 use Rattle.core.proofs.slice.empty.RefMutSliceDefault.default.Symbol as default_code
 use Rattle.core.specs.contracts.slice.empty.RefMutSliceDefault.TheImpl.{ghosts, dict}
+use Rattle.v_frame_plane.proofs.lent.CallSteps.{asks_that, calls}
 use Rattle.v_frame_plane.proofs.lent.Loans.{Back, comes_back, lends, lft_over, share_within}
 
 -- a slice as a place in memory has it
@@ -88,30 +89,23 @@ module _ {M : Type 1} {𝓤 : Ura M} {𝓛 : Logic 𝓤} {K : Type 0} {Γ : List
       → Seq K 𝓛 (‵ (fat full_share word b o held) ∷ ‵ (One.own_val x (held ∷ [])) ∷ ‵ (flft κ q) ∷ Γ) (runs C Λ E (seq (call f xs d) rest) p)
   calls_take t fm at_mem run T κ met q x b o inT os k =
       let X = Taken T κ in let s = share_within q in
-      lends t tt X refl word refl κ q x b o (slice_val x.ref_ptr (length x.now)) (λ α γ. let κ' : Lft = α ∷ κ in let y = asked 𝓛 at_mem run T κ q x b o α γ in
-      -- [the place, lent; what its lender keeps; the token of κ'; the way back to that of κ]
-      nothing t $ move t (1 ∷ 0 ∷ []) $ join t $ move t (2 ∷ []) $ use1 𝓛 (‵ (flft κ' (Share.left s)) ⊛ ‵ (flft κ' (Share.right s))) (𝓛.lfts.lft_split κ' s) $
-      split t $
-      nothing t $ move t (2 ∷ 0 ∷ []) $ join t $ move t (1 ∷ 0 ∷ []) $ join t $ join t $
+      lends t tt X refl word refl κ q x b o (slice_val x.ref_ptr (length x.now)) (λ α γ. let κ' : Lft = α ∷ κ in
       let within : κ' ⊑ X.lives = ⊑_meet κ' κ T.lives (meet_⊑_right (α ∷ []) κ) (⊑_trans κ' κ T.lives (meet_⊑_right (α ∷ []) κ) inT) in
-      nothing t $ use0 𝓛 (raw (fact 𝓤 (κ' ⊑ X.lives))) (fact_i 𝓤 _ (emp 𝓤) within) $ join t $ move t (1 ∷ 0 ∷ []) $ join t $
-      use1 𝓛 (raw ((Take 𝓛 at_mem run T κ).pre y)) (id⊢ 𝓤 _) $
-      calls_at t fm (Take 𝓛 at_mem run T κ) met y (os α γ) (λ v.
-      use1 𝓛 (later (some (λ (r : MutBor (List T.Denot)). ((‵ (flft κ' (Share.left s)) ⊛ ‵ (flft κ' (Share.right s)) ⊛ ‵ ftrue) ⊛ ‵ (X.own_val r (v ∷ []))) ⊛
-      some (λ (ws : Lasts (take.ended X (ghosts (element T κ)) (dict (element T κ))) y.0.0 y.0.3). ‵
-      (lasts (take.ended X (ghosts (element T κ)) (dict (element T κ))) y.0.0 y.0.3 ws) ⊛ raw (fact 𝓤 (r ≡ x)) ⊛
-      raw (fact 𝓤 (ws.0.now ≡ [])))))) (id⊢ 𝓤 _) $
-      await t tt $ pick t (λ r. split t $ split t $ split3 t $ use2 𝓛 (‵ (flft κ' s)) (𝓛.lfts.lft_join κ' s) $
-      -- [the token of κ'; nothing; what was handed back; what the call ensures; what the lender keeps; the way back to the token of κ]
-      move t (0 ∷ 5 ∷ []) $ lft_over t tt α κ q $ move t (4 ∷ []) $ pick t (λ ws. split t $ move t (1 ∷ []) $ split t $
-      heard t _ (λ same. heard t _ (λ empty. fsplit t $ fsplit t $
-      -- [the last value lent; its borrow; nothing; κ' is over; the token of κ; nothing; what was handed back; what the lender keeps]
+      -- [the place, lent; what its lender keeps; the token of κ'; the way back to that of κ]
+      move t (2 ∷ []) $ use1 𝓛 (‵ (flft κ' (Share.left s)) ⊛ ‵ (flft κ' (Share.right s))) (𝓛.lfts.lft_split κ' s) $ split t $
+      calls t (0 ∷ 1 ∷ 2 ∷ []) fm (take.ended X (ghosts (element T κ)) (dict (element T κ)))
+      (take.clauses X (ghosts (element T κ)) (dict (element T κ)) 𝓛 at_mem run)
+      met (asked 𝓛 at_mem run T κ q x b o α γ) (asks_that 𝓤 within) refl (os α γ)
+      (λ r ws. raw (fact 𝓤 (r ≡ x)) ∷ raw (fact 𝓤 (ws.0.now ≡ [])) ∷ []) (λ r ws. id⊢ 𝓤 _) (λ v r ws.
+      move t (1 ∷ 2 ∷ []) $ heard t _ (λ same. heard t _ (λ empty. move t (1 ∷ 2 ∷ []) $ use2 𝓛 (‵ (flft κ' s)) (𝓛.lfts.lft_join κ' s) $
+      -- [the token of κ'; what was handed back; the last value lent, and its borrow; what the lender keeps; the way back to the token of κ]
       let e = ws.0 in
-      move t (3 ∷ 7 ∷ 0 ∷ []) $ comes_back t tt X refl word refl κ' γ b o e (slice_val e.ref_ptr 0) (λ u holds. ap only holds.0.0 ∙
+      move t (0 ∷ 4 ∷ []) $ lft_over t tt α κ q $ move t (3 ∷ []) $ fsplit t $
+      move t (2 ∷ 5 ∷ 0 ∷ []) $ comes_back t tt X refl word refl κ' γ b o e (slice_val e.ref_ptr 0) (λ u holds. ap only holds.0.0 ∙
       ap (λ (xs : List T.Denot). slice_val e.ref_ptr (length xs)) empty) $
-      -- [the place; what it owns; its borrow; nothing; the token of κ; nothing; what was handed back]
-      move t (6 ∷ []) $ rewrite t 0 (λ (r : MutBor (List T.Denot)). ‵ ((Slice T κ).own_val r (v ∷ []))) same refl $
+      -- [the place; what it owns; its borrow; the token of κ; what was handed back]
+      move t (4 ∷ []) $ rewrite t 0 (λ (r : MutBor (List T.Denot)). ‵ ((Slice T κ).own_val r (v ∷ []))) same refl $
       peeks t (Slice T κ) _ (shows 𝓛 (Slice T κ)) x (v ∷ []) (λ held.
       rewrite t 0 (λ (w : Val). ‵ ((Slice T κ).own_val x (w ∷ []))) (ap only held.0.0) refl $
-      move t (3 ∷ 4 ∷ 6 ∷ []) $ drop t $ drop t $ drop t $ move t (1 ∷ 2 ∷ 0 ∷ []) $
-      regoal t (λ (u : Val). lands C Λ E d u rest p) (ap only held.0.0) refl $ k e empty)))))))
+      move t (3 ∷ []) $ drop t $ move t (1 ∷ 2 ∷ 0 ∷ []) $
+      regoal t (λ (u : Val). lands C Λ E d u rest p) (ap only held.0.0) refl $ k e empty)))))

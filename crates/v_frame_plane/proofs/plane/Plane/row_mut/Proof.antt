@@ -1,13 +1,13 @@
 -- `row_mut` tests y and passes on what `visible_row_mut` lends, in a `Some`. Rattle makes no proof where a `&mut [T]` may be lent, so this one follows the
 -- code.
 use Rattle.v_frame_plane.proofs.lent.Steps.{ℕ, ◌≡◌, ◌<◌, ◌≤◌, List, [], ◌∷◌, length, Option, Some, None, lit<, w64, MutBor, refl, sym, ap, arith, after}
-use Rattle.v_frame_plane.proofs.lent.Steps.{Some-of, none_of, proved, Lft, flent, flft, ftrue, full_share, ent, emp, id⊢, ◌⊑◌, ⊑_trans, fact, fact_i, tables}
-use Rattle.v_frame_plane.proofs.lent.Steps.{Array, usize, yes, no, shows, mem, param, layouts, param_laws, uint_vals, uint_Tells, uint_Makes, RattleType}
-use Rattle.v_frame_plane.proofs.lent.Steps.{MutRef, mut_vals, mut_Tells, plain, MutSlice, slice_val, nothing, only, owned, peeks, heard, calls_at, Lasts, lasts}
-use Rattle.v_frame_plane.proofs.lent.Steps.{triple_of, framed, Stays, stay_dropped, Goes-dropped, walk_of, ends_at, inst_fn, a_type, named, Val, of_list, Ura}
-use Rattle.v_frame_plane.proofs.lent.Steps.{alloc_all, pass_all, free_all, look_at, get, through, sets, lands_as, env, ‵, raw, ◌⊛◌, some, later, at_ret, ◌$◌}
-use Rattle.v_frame_plane.proofs.lent.Steps.{◌∵◌, !, qed, done, keep, move, drop, use0, use1, use2, split, split3, join, pick, await, rewrite, suffices, frame}
-use Rattle.v_frame_plane.proofs.lent.Steps.{fsplit, fsplit3, fjoin, fjoin3, fpack, feq_i, feq_l, Logic, sem, live, agg, enter, lit, addr, bin, stop, no_more}
+use Rattle.v_frame_plane.proofs.lent.Steps.{Some-of, none_of, proved, Lft, flent, flft, full_share, ent, emp, id⊢, ◌⊑◌, ⊑_trans, fact, fact_i, tables}
+use Rattle.v_frame_plane.proofs.lent.Steps.{Array, usize, yes, no, shows, mem, param, layouts, param_laws, uint_vals, uint_Tells, RattleType}
+use Rattle.v_frame_plane.proofs.lent.Steps.{mut_vals, mut_Tells, plain, MutSlice, slice_val, nothing, only, peeks, heard}
+use Rattle.v_frame_plane.proofs.lent.Steps.{framed, Stays, stay_dropped, Goes-dropped, walk_of, inst_fn, a_type, named, Val, of_list, Ura}
+use Rattle.v_frame_plane.proofs.lent.Steps.{alloc_all, pass_all, free_all, look_at, get, through, sets, lands_as, env, ‵, raw, ◌⊛◌, later, at_ret, ◌$◌}
+use Rattle.v_frame_plane.proofs.lent.Steps.{◌∵◌, !, qed, done, keep, move, drop, use0, use1, use2, split, join, await, rewrite}
+use Rattle.v_frame_plane.proofs.lent.Steps.{fsplit, fsplit3, fjoin3, fpack, feq_i, feq_l, Logic, sem, live, agg, enter, lit, addr, bin, stop, no_more}
 use Rattle.v_frame_plane.proofs.lent.Steps.{and_then, first, branches, skips, exec, returns, returns_within, ◌↔◌, true, false, IsNone, slice_get, Bor, fres}
 use Rattle.v_frame_plane.proofs.lent.Steps.{Incl-refl, ⊑_refl, meet_⊑_right, follows, follows_if, lends_shr, part_at, ShrRef, shr_vals, Goes-spent_ref, leb→le}
 use Rattle.v_frame_plane.proofs.lent.Steps.{nleb→lt, flt_l, lent_back}
@@ -21,6 +21,7 @@ use Rattle.v_frame_layout.specs.Table.{height_of}
 use Rattle.v_frame_plane.specs.Lends.{LendsRow}
 use Rattle.v_frame_plane.specs.contracts.plane.Plane.{the_row}
 use Rattle.v_frame_plane.proofs.plane.Plane.TheLaws.{the_row_laws, the_within}
+use Rattle.v_frame_plane.proofs.lent.CallSteps.{asks_both, asks_that, calls, ends, opened}
 use Rattle.v_frame_plane.proofs.lent.Loans.{lft_over, lft_within, share_within}
 use Rattle.v_frame_plane.proofs.tables.Places.{no_row_below}
 use Rattle.v_frame_plane.specs.contracts.plane.Plane.height
@@ -56,7 +57,7 @@ row_mut_spec 𝓤 𝓛 𝓜 𝓡 wired T laws =
     let args = layouts (a_type ∷ []) (T, tt) in
     let c = row_mut.clauses T 𝓛 𝓜.mem 𝓡.returns in
     let Walk = walk_of 𝓛 (row_mut.ended T) (stayed T) c in
-    let 𝓣 = tables 𝓤 𝓛.H 𝓜 𝓡 𝓡.env in
+    let 𝓣 = tables 𝓤 𝓛.H 𝓜 𝓡 𝓡.env in let run = framed 𝓤 𝓛.H 𝓜 𝓣 in
     let function = inst_fn args code.function in
     proved 𝓛 (row_mut.ended T) (stayed T) c 𝓜 𝓡 (
       Goes-spent_ref 𝓛 2 (0 ∷ []) tt (plain (λ _. the_row item)),
@@ -67,48 +68,36 @@ row_mut_spec 𝓤 𝓛 𝓜 𝓡 wired T laws =
     let Plane = the_row item in
     let κ = κs.0 in let q = qs.0 in let κT = κs.1.0 in let qT = qs.1.0 in
     let self = a.0 in let y = a.1.0 in let b = self.ref_ptr.0 in let o = self.ref_ptr.1 in
-    let Self = (MutRef (named 0) κ Plane).own_val self (mut_vals self) in
     let Row = MutSlice (named 0) κ item in
     let bound : Walk.Ghost = ((κs, qs, bounds, a, (mut_vals self, (uint_vals w64 y, tt))), tt) in
-    qed 𝓛 (((‵ (flft κ q) ⊛ ‵ (flft κT qT) ⊛ ‵ ftrue) ⊛ ‵ Self ⊛ ‵ (usize.own_val y (uint_vals w64 y)) ⊛ ‵ ftrue) ∷ raw (fact 𝓤 (κT ⊑ T.lives)) ∷ ‵ ftrue ∷
-    []) ∵
-    move ! (1 ∷ []) $ heard ! _ (λ inT. split ! $ split3 ! $ move ! (3 ∷ []) $ split ! $ keep ! (0 ∷ 2 ∷ 3 ∷ []) $
+    opened 𝓛 (row_mut.ended T).signature κs qs a (mut_vals self, (uint_vals w64 y, tt)) (κT ⊑ T.lives) (λ inT.
     enter ! _ _ _ _ _ $ alloc_all ! (λ l. pass_all ! refl ((tt, tt), ((tt, record { fits = are.1.0.1 }), tt)) $
     sets ! (addr ! (through ! refl (stop !))) refl (tt, tt) $
     -- the plane is shared with `height` for a lifetime κ', which is made for that call
-    move ! (2 ∷ []) $ lft_within ! tt κT qT (λ α.
+    move ! (1 ∷ []) $ lft_within ! tt κT qT (λ α.
     let κ' : Lft = α ∷ κT in let s = share_within qT in
     let within : κ' ⊑ T.lives = ⊑_trans κ' κT T.lives (meet_⊑_right (α ∷ []) κT) inT in
     let shared : Bor (Raster T.Denot) = record { ref_ptr = self.ref_ptr; now = self.now } in
-    -- [the token of κ'; the way back to that of κT; self; the token of κ; the locals]
-    move ! (2 ∷ 3 ∷ []) $ fsplit3 ! $ drop ! $ open_ref ! tt (mem Plane) $ move ! (0 ∷ 4 ∷ []) $
+    -- [the token of κ'; the way back to that of κT; the token of κ; self; y; the locals]
+    move ! (3 ∷ 2 ∷ []) $ fsplit3 ! $ drop ! $ open_ref ! tt (mem Plane) $ move ! (0 ∷ 4 ∷ []) $
     use2 𝓛 (later ((‵ ((ShrRef (named 0) κ' Plane).own_val shared (shr_vals shared)) ⊛ ‵ (flent κ' (part_at Plane full_share self.now b o))) ⊛ ‵ (flft κ' s)))
     (lends_shr 𝓛 Plane (named 0) κ' full_share self.now b o Plane.lives ((the_row_laws item (param_laws 0 T laws)).shares 𝓛 self.now) ((κ', s) ∷
     []) (the_within item κ' within) (Incl-refl κ')) $ await ! tt $ split ! $ split ! $
-    -- [the plane, shared; the right to it; the token of κ'; self, open, in three entries; the way back to that of κT; the locals]
-    let Height = triple_of 𝓛 (height.signature T) (height.spec T 𝓛 𝓜.mem 𝓡.returns) in
-    let asked : Height.Ghost = (((κ', (κ', tt)), (Share.left s, (Share.right s, tt)), (⊑_refl κ', tt), (shared, tt), (shr_vals shared, tt)), tt) in
-    nothing ! $ move ! (1 ∷ 0 ∷ []) $ join ! $ move ! (2 ∷ []) $ use1 𝓛 (‵ (flft κ' (Share.left s)) ⊛ ‵ (flft κ' (Share.right s))) (𝓛.lfts.lft_split κ' s) $
-    split ! $
-    nothing ! $ move ! (2 ∷ 0 ∷ []) $ join ! $ move ! (1 ∷ 0 ∷ []) $ join ! $ join ! $
-    nothing ! $ use0 𝓛 (raw (fact 𝓤 (κ' ⊑ T.lives))) (fact_i 𝓤 _ (emp 𝓤) within) $ join ! $ move ! (1 ∷ 0 ∷ []) $ join ! $
-    use1 𝓛 (raw (Height.pre asked)) (id⊢ 𝓤 _) $
-    calls_at ! (framed 𝓤 𝓛.H 𝓜 𝓣) Height (height_met.met 𝓤 𝓛 𝓜 𝓡 (code.calls-v_frame_plane::plane::Plane::height 𝓡.env wired) T laws) asked
-    (and_then ! (get ! refl) (no_more !)) (λ v.
-    use1 𝓛 (later (some (λ (r : ℕ). ((‵ (flft κ' (Share.left s)) ⊛ ‵ (flft κ' (Share.right s)) ⊛ ‵ ftrue) ⊛ ‵ (usize.own_val r (v ∷ []))) ⊛
-    some (λ (ws : Lasts (height.ended T) asked.0.0 asked.0.3). ‵ (lasts (height.ended T) asked.0.0 asked.0.3 ws) ⊛ raw (fact 𝓤 (r ≡ self.now.geometry.height)) ⊛
-    raw (fact 𝓤 (0 < r)) ⊛ raw (fact 𝓤 (r ≡ height_of (table_of self.now))))))) (id⊢ 𝓤 _) $
-    await ! tt $ pick ! (λ rows. split ! $ split ! $ split3 ! $ use2 𝓛 (‵ (flft κ' s)) (𝓛.lfts.lft_join κ' s) $
-    move ! (0 ∷ 8 ∷ []) $ lft_over ! tt α κT qT $
-    -- [κ' is over; the token of κT; nothing; the height; what the call ensures; the right to the plane; self, open; the locals]
-    move ! (0 ∷ 5 ∷ []) $ lent_back ! tt $ move ! (0 ∷ 5 ∷ 6 ∷ 7 ∷ []) $ close_ref ! tt (mem Plane) self.now $
-    feq_i ! (List Val) (mut_vals self) (mut_vals self) refl $ fjoin3 ! $
-    -- [self; the token of κ; that of κT; nothing; the height; what the call ensures; the locals]
-    move ! (5 ∷ []) $ pick ! (λ ws. split ! $ drop ! $ split3 ! $ heard ! _ (λ is_height. drop ! $ drop ! $
-    move ! (4 ∷ []) $ fsplit ! $ feq_l ! (λ e. flt_l ! (λ fits. move ! (3 ∷ []) $ drop ! $
+    -- [the plane, shared; the right to it; the token of κ'; self, open, in three entries; the way back to that of κT; y; the locals]
+    move ! (2 ∷ []) $ use1 𝓛 (‵ (flft κ' (Share.left s)) ⊛ ‵ (flft κ' (Share.right s))) (𝓛.lfts.lft_split κ' s) $ split ! $
+    calls ! (0 ∷ 1 ∷ 2 ∷ []) run (height.ended T) (height.clauses T 𝓛 𝓜.mem 𝓡.returns)
+    (height_met.met 𝓤 𝓛 𝓜 𝓡 (code.calls-v_frame_plane::plane::Plane::height 𝓡.env wired) T laws)
+    (((κ', (κ', tt)), (Share.left s, (Share.right s, tt)), (⊑_refl κ', tt), (shared, tt), (shr_vals shared, tt)), tt) (asks_that 𝓤 within) refl
+    (and_then ! (get ! refl) (no_more !)) (λ r ws. raw (fact 𝓤 (r ≡ self.now.geometry.height)) ∷ raw (fact 𝓤 (0 < r)) ∷
+    raw (fact 𝓤 (r ≡ height_of (table_of self.now))) ∷ []) (λ r ws. id⊢ 𝓤 _) (λ v rows ws.
+    fsplit ! $ feq_l ! (λ e. flt_l ! (λ fits. heard ! _ (λ is_height. drop ! $ drop ! $ use2 𝓛 (‵ (flft κ' s)) (𝓛.lfts.lft_join κ' s) $
+    -- [the token of κ'; nothing; the right to the plane; self, open; the way back to the token of κT; y; the locals]
+    move ! (0 ∷ 6 ∷ []) $ lft_over ! tt α κT qT $ move ! (0 ∷ 3 ∷ []) $ lent_back ! tt $
+    move ! (0 ∷ 3 ∷ 4 ∷ 5 ∷ []) $ close_ref ! tt (mem Plane) self.now $ feq_i ! (List Val) (mut_vals self) (mut_vals self) refl $ fjoin3 ! $
+    move ! (3 ∷ []) $ drop ! $
     lands_as ! (ap only e) refl (tt, record { fits = fits }) $
     sets ! (bin ! (get ! refl) (get ! refl) tt) refl (tt, tt) $
-    -- [self; the token of κ; that of κT; the locals]
+    -- [self; the token of κ; that of κT; y; the locals]
     first ! $ branches ! (get ! refl)
     -- below the rectangle the plane stays as it is
     (λ below.
@@ -118,10 +107,10 @@ row_mut_spec 𝓤 𝓛 𝓜 𝓡 wired T laws =
     (𝓛.names.obs-res self.ghost_name (Plane.coded.code self.now)) $
     use1 𝓛 (‵ (LendsRow item self y None)) (told 𝓛 item self y None (λ row. tt)) $
     use0 𝓛 (‵ ((Opt.the_row Row).own_val None (live 0 (of_list []) ∷ []))) (none_of 𝓛 Row) $
-    suffices ! _ (ends_at 𝓛 (row_mut.ended T) (stayed T) c bound (live 0 (of_list [])) None (tt, (tt, tt)) (tt, (tt, tt))) $
-    nothing ! $ nothing ! $ fjoin ! $ nothing ! $ fjoin ! $ join ! $ nothing ! $ move ! (4 ∷ 0 ∷ []) $ join ! $ move ! (3 ∷ 0 ∷ []) $ join ! $ join ! $
+    nothing ! $ nothing ! $
+    ends ! (4 ∷ 5 ∷ 0 ∷ 1 ∷ 2 ∷ []) (row_mut.ended T) (stayed T) c bound (live 0 (of_list [])) None (tt, (tt, tt)) (tt, (tt, tt)) refl $
     let past : self.now.geometry.height ≤ y = omega (arith, leb→le rows y below, is_height) in
-    frame ! $ use0 𝓛 (raw (fact 𝓤 (IfSome {T = MutBor (List T.Denot)} None (λ row. length row.now ≡ self.now.geometry.width)))) (fact_i 𝓤 _ (emp 𝓤) tt) $
+    use0 𝓛 (raw (fact 𝓤 (IfSome {T = MutBor (List T.Denot)} None (λ row. length row.now ≡ self.now.geometry.width)))) (fact_i 𝓤 _ (emp 𝓤) tt) $
     use0 𝓛 (raw (fact 𝓤 (IsNone {T = MutBor (List T.Denot)} None ↔ (self.now.geometry.height ≤ y)))) (fact_i 𝓤 _ (emp 𝓤) (λ _. past, λ _. refl)) $ join ! $
     use0 𝓛 (raw (fact 𝓤 (None ≡ slice_get (table_of self.now) y))) (fact_i 𝓤 _ (emp 𝓤) (sym (no_row_below self.now y past))) $ join ! $ move ! (1 ∷ 0 ∷ []) $
     join ! $ done !)
@@ -129,26 +118,16 @@ row_mut_spec 𝓤 𝓛 𝓜 𝓡 wired T laws =
     (λ within_rows.
     skips ! $ exec ! 𝓣.C 𝓣.Λ (env function.locals l) (after 4 function.body) (at_ret _ (Walk.post bound)) $
     sets ! (addr ! (through ! refl (stop !))) refl (tt, tt) $
-    -- [self; the token of κ; that of κT; the locals]
-    let VisibleRow = triple_of 𝓛 (visible_row_mut.signature T) (visible_row_mut.spec T 𝓛 𝓜.mem 𝓡.returns) in
+    -- [self; the token of κ; that of κT; y; the locals]
     let inside : y < self.now.geometry.height = omega (arith, nleb→lt rows y within_rows, is_height) in
-    nothing ! $ owned ! usize _ (uint_Makes 𝓛 w64) y _ (refl, are.1.0.1) $ fjoin ! $ move ! (1 ∷ 0 ∷ []) $ fjoin ! $
-    nothing ! $ move ! (3 ∷ 0 ∷ []) $ join ! $ move ! (2 ∷ 0 ∷ []) $ join ! $ join ! $
-    use0 𝓛 (raw (fact 𝓤 (y < self.now.geometry.height))) (fact_i 𝓤 _ (emp 𝓤) inside) $ use0 𝓛 (raw (fact 𝓤 (κT ⊑ T.lives))) (fact_i 𝓤 _ (emp 𝓤) inT) $ join ! $
-    move ! (1 ∷ 0 ∷ []) $ join ! $ use1 𝓛 (raw (VisibleRow.pre bound)) (id⊢ 𝓤 _) $
-    calls_at ! (framed 𝓤 𝓛.H 𝓜 𝓣) VisibleRow (visible_row_mut_met.met 𝓤 𝓛 𝓜 𝓡 (code.calls-v_frame_plane::plane::Plane::visible_row_mut 𝓡.env wired) T laws)
-    bound
-    (and_then ! (get ! refl) (and_then ! (get ! refl) (no_more !))) (λ w.
-    use1 𝓛 (later (some (λ (r : MutBor (List T.Denot)). ((‵ (flft κ q) ⊛ ‵ (flft κT qT) ⊛ ‵ ftrue) ⊛ ‵ (Row.own_val r (w ∷ []))) ⊛
-    some (λ (ws : Lasts (visible_row_mut.ended T) κs a). ‵ (lasts (visible_row_mut.ended T) κs a ws) ⊛
-    ‵ (follows Plane (Array item 0) self.ghost_name r.ghost_name (with_row self.now y)) ⊛
-    raw (fact 𝓤 (slice_get (table_of self.now) y ≡ Some r.now)) ⊛ raw (fact 𝓤 (WritesEachRow self.now y r.now)) ⊛
-    raw (fact 𝓤 (length r.now ≡ self.now.geometry.width)))))) (id⊢ 𝓤 _) $
-    await ! tt $ pick ! (λ r. split ! $ split ! $ move ! (1 ∷ []) $ peeks ! Row _ (shows 𝓛 Row) r (w ∷ []) (λ is.
-    rewrite ! 0 (λ (vs : List Val). ‵ (Row.own_val r vs)) is.0.0 refl $
-    move ! (2 ∷ []) $ pick ! (λ ws. split ! $ drop ! $ split3 ! $ move ! (1 ∷ []) $
-    heard ! _ (λ value. move ! (1 ∷ []) $ split ! $ heard ! _ (λ written. heard ! _ (λ wide.
-    -- [how the plane ends; the row; the tokens; the locals]
+    calls ! (1 ∷ 2 ∷ 0 ∷ 3 ∷ []) run (visible_row_mut.ended T) (visible_row_mut.clauses T 𝓛 𝓜.mem 𝓡.returns)
+    (visible_row_mut_met.met 𝓤 𝓛 𝓜 𝓡 (code.calls-v_frame_plane::plane::Plane::visible_row_mut 𝓡.env wired) T laws) bound (asks_both 𝓤 inT inside) refl
+    (and_then ! (get ! refl) (and_then ! (get ! refl) (no_more !)))
+    (λ r ws. ‵ (follows Plane (Array item 0) self.ghost_name r.ghost_name (with_row self.now y)) ∷ raw (fact 𝓤 (slice_get (table_of self.now) y ≡ Some r.now)) ∷
+    raw (fact 𝓤 (WritesEachRow self.now y r.now)) ∷ raw (fact 𝓤 (length r.now ≡ self.now.geometry.width)) ∷ []) (λ r ws. id⊢ 𝓤 _) (λ w r ws.
+    peeks ! Row _ (shows 𝓛 Row) r (w ∷ []) (λ is. rewrite ! 0 (λ (vs : List Val). ‵ (Row.own_val r vs)) is.0.0 refl $
+    move ! (2 ∷ 3 ∷ 4 ∷ []) $ heard ! _ (λ value. heard ! _ (λ written. heard ! _ (λ wide.
+    -- [the row; how the plane ends; the tokens; nothing, twice; the locals]
     let part = slice_val r.ref_ptr (length r.now) in
     let out = live 1 (of_list (part ∷ [])) in
     lands_as ! (ap only is.0.0) refl (tt, (tt, (record { fits = is.0.1.0 }, tt))) $
@@ -156,15 +135,14 @@ row_mut_spec 𝓤 𝓛 𝓜 𝓡 wired T laws =
       tt,
       (record { fits = lit< tt }, ((tt, (record { fits = is.0.1.0 }, tt)), tt)),
     ) $
-    returns ! (look_at ! 0 refl) $ free_all ! refl $
+    returns ! (look_at ! 0 refl) $ free_all ! refl $ keep ! (1 ∷ 0 ∷ 2 ∷ 3 ∷ []) $
     use1 𝓛 (‵ (LendsRow item self y (Some r))) (told 𝓛 item self y (Some r) written) $
     move ! (1 ∷ []) $ use1 𝓛 (‵ ((Opt.the_row Row).own_val (Some r) (out ∷ []))) (Some-of 𝓛 Row r part) $
-    suffices ! _ (ends_at 𝓛 (row_mut.ended T) (stayed T) c bound out (Some r) (tt, (tt, tt)) (tt, (tt, tt))) $
-    nothing ! $ nothing ! $ fjoin ! $ nothing ! $ fjoin ! $ join ! $ move ! (2 ∷ 0 ∷ []) $ join ! $ frame ! $
+    nothing ! $ nothing ! $ ends ! (4 ∷ 5 ∷ 0 ∷ 1 ∷ 2 ∷ []) (row_mut.ended T) (stayed T) c bound out (Some r) (tt, (tt, tt)) (tt, (tt, tt)) refl $
     use0 𝓛 (raw (fact 𝓤 (IfSome (Some r) (λ row. length row.now ≡ self.now.geometry.width)))) (fact_i 𝓤 _ (emp 𝓤) wide) $
     use0 𝓛 (raw (fact 𝓤 (IsNone (Some r) ↔ (self.now.geometry.height ≤ y)))) (fact_i 𝓤 _ (emp 𝓤) (
       λ h. absurd (is_lent r h),
       λ past. absurd (omega (arith, past, inside)),
     )) $ join ! $
     use0 𝓛 (raw (fact 𝓤 (Some r.now ≡ slice_get (table_of self.now) y))) (fact_i 𝓤 _ (emp 𝓤) (sym value)) $ join ! $ move ! (1 ∷ 0 ∷ []) $ join ! $
-    done !))))))))))))))))))
+    done !))))))))))))))

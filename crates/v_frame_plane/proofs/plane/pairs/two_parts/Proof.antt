@@ -2,17 +2,19 @@
 -- part of a part, so this proof follows the code.
 use Rattle.v_frame_plane.proofs.lent.Steps.{ℕ, ◌≡◌, ◌+◌, ◌-◌, ◌≤◌, List, [], ◌∷◌, ◌++◌, length, take, list_drop, w64, MutBor, refl, ap, ◌∙◌, arith, length-drop}
 use Rattle.v_frame_plane.proofs.lent.Steps.{proved, flft, ftrue, emp, ent, sep, wand, ◌⊑◌, fact, fact_i, tables, usize, param, layouts, plain, uint_vals}
-use Rattle.v_frame_plane.proofs.lent.Steps.{RattleType, Valss, MutSlice, slice_val, heard, nothing, framed, Stays, ends_at, inst_fn, a_type, named, Val, vcons}
+use Rattle.v_frame_plane.proofs.lent.Steps.{RattleType, Valss, MutSlice, slice_val, heard, nothing, framed, Stays, inst_fn, a_type, named, Val, vcons}
 use Rattle.v_frame_plane.proofs.lent.Steps.{vnil, vstruct, Ura, alloc_all, free_all, get, get_in, lands_as, look_at, look_in_at, pass_all, sets, Item, ‵, raw}
-use Rattle.v_frame_plane.proofs.lent.Steps.{◌⊛◌, ◌$◌, ◌∵◌, !, qed, assume, done, each, feq_i, fjoin, fpack, frame, join, keep, move, rewrite, split, split3}
-use Rattle.v_frame_plane.proofs.lent.Steps.{suffices, use0, use1, use3, agg, sub, whole, addr, and_then, enter, fld, from, hop, no_more, of_opd, returns, stop}
+use Rattle.v_frame_plane.proofs.lent.Steps.{◌⊛◌, ◌$◌, ◌∵◌, !, qed, assume, done, each, feq_i, fjoin, fpack, join, keep, move, rewrite, split, split3}
+use Rattle.v_frame_plane.proofs.lent.Steps.{use0, use1, use3, agg, sub, whole, addr, and_then, enter, fld, from, hop, no_more, of_opd, returns, stop}
 use Rattle.v_frame_plane.proofs.lent.Steps.{Logic, sem, append_assoc, length-take-le, yes, no, both_by, uint_Tells, mut_slice_vals, mut_slice_Tells, shape}
 use Rattle.v_frame_plane.proofs.lent.Steps.{within, tuple_type, stay_dropped, Goes-dropped, Goes-spent_slice, mean, group, take-take, drop-drop, drop-take}
+use Rattle.v_frame_plane.proofs.lent.Steps.{walk_of}
 use Rattle.core.proofs.slice.slice+T.split_at_mut.Met as split_met
 use Rattle.v_frame_plane.specs.Cut.{LendsTwoParts}
 use Rattle.v_frame_plane.specs.Plane.{with_two_parts}
 use Rattle.v_frame_plane.specs.SecondRows.{EndsAs}
 use Rattle.v_frame_plane.specs.contracts.plane.pairs.two_parts
+use Rattle.v_frame_plane.proofs.lent.CallSteps.{ends}
 use Rattle.v_frame_plane.proofs.lent.Cuts.{Joins, ends_joined, dropped, splits, slice_fits, slices_fit}
 use Rattle.v_frame_plane.proofs.plane.pairs.two_parts.Statement.{statement}
 use Rattle.v_frame_plane.proofs.plane.pairs.two_parts.Code as code
@@ -153,29 +155,14 @@ two_parts_spec 𝓤 𝓛 𝓜 𝓡 wired T laws =
     let Both = Slice ∷ Slice ∷ [] in let out = vstruct (vcons (held first) (vcons (held second) vnil)) in
     nothing ! $ move ! (2 ∷ 0 ∷ []) $ fjoin ! $ move ! (4 ∷ 0 ∷ []) $ fjoin ! $ feq_i ! (List Val) (out ∷ []) (out ∷ []) refl $ fjoin ! $
     fpack ! (Valss Both) (within (shape (tuple_type Both)) (first, (second, tt)) (out ∷ [])) (held first ∷ [], (held second ∷ [], tt)) $
-    nothing ! $ move ! (4 ∷ 0 ∷ []) $ join ! $ move ! (3 ∷ 0 ∷ []) $ join ! $ move ! (1 ∷ []) $
-    -- [both parts; the tokens; how the slice ends]
-    suffices ! _ (ends_at 𝓛 En stayed c (
-      (
-        κs,
-        qs,
-        bounds,
-        a,
-        (
-          held x ∷ [],
-          (
-            uint_vals w64 start,
-            (uint_vals w64 width, (uint_vals w64 next, (uint_vals w64 other, tt))),
-          ),
-        ),
-      ),
+    -- [both parts; how the slice ends; the tokens]
+    let y : (walk_of 𝓛 En stayed c).Ghost = (
+      (κs, qs, bounds, a, (held x ∷ [], (uint_vals w64 start, (uint_vals w64 width, (uint_vals w64 next, (uint_vals w64 other, tt)))))),
       g,
-    ) out (first, second) (tt, (tt, (tt, (tt, (tt, tt))))) (
-      tt,
-      (tt, (tt, (tt, (tt, tt)))),
-    )) $
-    nothing ! $ nothing ! $ fjoin ! $ nothing ! $ fjoin ! $ nothing ! $ fjoin ! $ nothing ! $ fjoin ! $ nothing ! $ fjoin ! $ join ! $ move ! (1 ∷ 0 ∷ []) $
-    join ! $ frame ! $
+    ) in
+    nothing ! $ nothing ! $ nothing ! $ nothing ! $ nothing ! $
+    ends ! (7 ∷ 8 ∷ 0 ∷ 1 ∷ 2 ∷ 3 ∷ 4 ∷ 5 ∷ []) En stayed c y out (first, second) (tt, (tt, (tt, (tt, (tt, tt)))))
+    (tt, (tt, (tt, (tt, (tt, tt))))) refl $
     use0 𝓛 (raw (fact 𝓤 (second.now ≡ take other (list_drop next x.now)))) (fact_i 𝓤 _ (emp 𝓤) (second_is ∙ ap (take other) back_is)) $
     use0 𝓛 (raw (fact 𝓤 (first.now ≡ take width (list_drop start x.now)))) (fact_i 𝓤 _ (emp 𝓤) (first_is ∙ ap (take width) of_rest ∙
     part_of_front x.now start width next other order)) $ join ! $

@@ -6,8 +6,7 @@ use Rattle.v_frame_plane.proofs.lent.Steps.{exec, returns, enter, alloc_all, pas
 use Rattle.v_frame_plane.proofs.lent.Steps.{layouts, param_laws, uint_vals, uint_Tells, Valss, plain, slice_ty, slice_val, heard, nothing, Stays, walk_of}
 use Rattle.v_frame_plane.proofs.lent.Steps.{ends_at, stay_dropped, Goes-dropped, after, proved, imm, never, Sq, flt_l, flt_i, blocks, sets_last, is, RefOf}
 use Rattle.v_frame_plane.proofs.lent.Steps.{layout, owns, ptr_val, in_a_block, shr_vals, shr_Tells, types_at, alive, says, times_below, type_size, Good}
-use Rattle.v_frame_plane.proofs.lent.Steps.{word-Good}
-use denote.Opens.{hide, unhide}
+use Rattle.v_frame_plane.proofs.lent.Steps.{word-Good, hide, unhide}
 use Rattle.v_frame_plane.specs.Block.{lent_at, cells_lent}
 use Rattle.v_frame_plane.specs.contracts.aligned.block.Base.{the_row as Base}
 use Rattle.v_frame_plane.specs.contracts.aligned.block.Cells.{the_row as Cells}
