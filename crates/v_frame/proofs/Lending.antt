@@ -3,6 +3,18 @@
 --     rows_back     the same, from what its rows end as
 --     lends_walk, walk_back     an iterator in a local is lent to a call, and is there again, as the call left it
 --     begins     what `rows_mut` and `pixels_mut` say of the iterator that they give
+use Rattle.v_frame_plane.proofs.lent.Steps.{Laws, NamedLft, framed, param_laws, refl, tables, ◌⊑◌}
+use contract.Running.{MachineTables, Running}
+use denote.Laws.{Typed}
+use denote.Lowered.{Lowered}
+use mir.Syntax.{Body as Code, Callee, Lifetime, Opd as Operand, Place, call, seq}
+use prog.Model.{Model}
+use prog.Wp.{Env}
+use types.Kit.{Post, lands, regoal, runs}
+use types.Run.{Opds}
+use contract.BorrowLft.{meet_⊑_right}
+use Rattle.v_frame_plane.specs.contracts.plane.Plane as planes
+use Rattle.v_frame_plane.proofs as of_walks
 use Rattle.v_frame_plane.proofs.lent.Steps.{ℕ, ◌≡◌, ◌^◌, ◌<◌, List, [], ◌∷◌, length, MutBor, Lft, Share, Fml, fat, flent, flft, fsep, full_share, ent, sep}
 use Rattle.v_frame_plane.proofs.lent.Steps.{fact, RattleType, MutRef, mut_vals, mem, named, param, Val, vptr, Ura, Goal, Item, Seq, Soaks, Step, step, ‵, raw}
 use Rattle.v_frame_plane.proofs.lent.Steps.{◌⊛◌, some, later, ◌$◌, ◌∵◌, !, qed, await, drop, frame, fsplit, heard, move, pick, split, use1, use2, use3, Logic}
@@ -18,34 +30,34 @@ use Rattle.v_frame_plane.specs.PixelsLeft.{LendsPixelsInOrder, LendsPixelsInReve
 use Rattle.v_frame_plane.specs.Plane.{Raster, table_of, with_entries}
 use Rattle.v_frame_plane.specs.RowsLeft.{LendsRowsInOrder, LendsRowsInReverse, rows_left, rows_slice}
 use Rattle.v_frame_plane.specs.SecondRows.{SecondRows, WritesEachTable, entries_with}
-use Rattle.v_frame.proofs.ItemKinds.{Begins, Kind, Walk, of_pixels, slice}
+use Rattle.v_frame.proofs.ItemKinds.{Begins, Kept, Kind, Promise, Walk, neither, of_pixels, slice, walk_row}
 use Rattle.v_frame_plane.proofs.lent.Loans.{Back, lft_over, lft_within, share_within}
 use Rattle.std.proofs.{Common.All}
 use Rattle.v_frame_layout.specs.{Table.row_major}
 use Rattle.v_frame_plane.specs.{Cursor.PixelsAreCountable, Lends.LendsBuffer, SecondPixels.BeginsOver, contracts.plane.Plane.the_row}
-use Rattle.v_frame_plane.specs.{declared.pixels_mut.PixelsMut.PixelsMut, declared.rows_mut.RowsMut.RowsMut}
-use Rattle.v_frame.proofs.{CallSteps.told}
+use Rattle.v_frame_plane.specs.{declared.rows_mut.RowsMut.RowsMut}
+use Rattle.v_frame.proofs.{CallSteps.told, CallSteps.asks_that, CallSteps.calls, CallSteps.spelt}
 use base.Share
 use Rattle.v_frame_plane.proofs.lent.Loans as loans
 
 module _ {M : Type 1} {𝓤 : Ura M} (T : RattleType) where
   -- what the plane's lender keeps
-  abbrev Kept : (α δ : ℕ) (κ κT : Lft) (q : Share) → MutBor (Raster T.Denot) → Item 𝓤
-  Kept α δ κ κT q plane = ‵ (LentAgain (the_row (param 0 T)) κ (α ∷ κT) q plane.ghost_name plane.ref_ptr.0 plane.ref_ptr.1 δ plane.now)
+  abbrev pub Kept_by : (α δ : ℕ) (κ κT : Lft) (q : Share) → MutBor (Raster T.Denot) → Item 𝓤
+  Kept_by α δ κ κT q plane = ‵ (LentAgain (the_row (param 0 T)) κ (α ∷ κT) q plane.ghost_name plane.ref_ptr.0 plane.ref_ptr.1 δ plane.now)
 
 module _ {M : Type 1} {𝓤 : Ura M} {𝓛 : Logic 𝓤} {K : Type 0} {Γ : List (Item 𝓤)} {G : Goal 𝓤 𝓛.H} where
   module _ (t : K) (z : Soaks G) (T : RattleType) where
     -- [the plane, lent; the tokens of its lifetime and of κT; what its lender keeps; the way back]
     pub lends_plane : (κ κT : Lft) (q qT : Share) (plane : MutBor (Raster T.Denot))
         → ((α δ : ℕ) → Seq K 𝓛 (‵ ((MutRef (named 0) (α ∷ κT) (the_row (param 0 T))).own_val (record plane { ghost_name = δ }) (mut_vals plane)) ∷
-        ‵ (flft (α ∷ κT) (share_within (Share.left qT))) ∷ ‵ (flft κT (Share.right qT)) ∷ Kept T α δ κ κT q plane ∷ raw (Back 𝓛 α κT
+        ‵ (flft (α ∷ κT) (share_within (Share.left qT))) ∷ ‵ (flft κT (Share.right qT)) ∷ Kept_by T α δ κ κT q plane ∷ raw (Back 𝓛 α κT
         (Share.left qT)) ∷ Γ) G)
         → Seq K 𝓛 (‵ ((MutRef (named 0) κ (the_row (param 0 T))).own_val plane (mut_vals plane)) ∷ ‵ (flft κ q) ∷ ‵ (flft κT qT) ∷ Γ) G
     lends_plane κ κT q qT plane k = let b = plane.ref_ptr.0 in let o = plane.ref_ptr.1 in
         move t (2 ∷ []) $ use1 𝓛 (‵ (flft κT (Share.left qT)) ⊛ ‵ (flft κT (Share.right qT))) (𝓛.lfts.lft_split κT qT) $ split t $
         lft_within t z κT (Share.left qT) (λ α. let κw : Lft = α ∷ κT in move t (3 ∷ 4 ∷ []) $
         use2 𝓛 (later (some (λ (δ : ℕ). ‵ ((MutRef (named 0) κw (the_row (param 0 T))).own_val (record plane { ghost_name = δ })
-        (mut_vals plane)) ⊛ Kept T α δ κ κT q plane)))
+        (mut_vals plane)) ⊛ Kept_by T α δ κ κT q plane)))
         (lends_again 𝓛 (the_row (param 0 T)) (named 0) κ κw q plane.ghost_name b o (named 0) plane.now) $ await t z $ pick t (λ δ. split t $
         move t (0 ∷ 2 ∷ 4 ∷ 1 ∷ 3 ∷ []) $
         k α δ))
@@ -53,7 +65,7 @@ module _ {M : Type 1} {𝓤 : Ura M} {𝓛 : Logic 𝓤} {K : Type 0} {Γ : List
     pub plane_back : (α δ : ℕ) (κ κT : Lft) (q qT : Share) (plane : MutBor (Raster T.Denot)) (new : Raster T.Denot)
         → Step K 𝓛 (‵ (flft κT qT) ∷ ‵ ((MutRef (named 0) κ (the_row (param 0 T))).own_val (record plane { now = new }) (mut_vals plane)) ∷ ‵ (flft κ q) ∷ Γ) G
         (‵ (fres δ ((the_row (param 0 T)).coded.code new)) ∷ ‵ (flft (α ∷ κT) (share_within (Share.left qT))) ∷ ‵ (flft κT
-        (Share.right qT)) ∷ Kept T α δ κ κT q plane ∷
+        (Share.right qT)) ∷ Kept_by T α δ κ κT q plane ∷
         raw (Back 𝓛 α κT (Share.left qT)) ∷ Γ) G
     plane_back α δ κ κT q qT plane new = step (λ k. let κw : Lft = α ∷ κT in move t (1 ∷ 4 ∷ []) $ lft_over t z α κT (Share.left qT) $ move t (0 ∷ 4 ∷ 2 ∷ []) $
         use3 𝓛 (later (‵ ((MutRef (named 0) κ (the_row (param 0 T))).own_val (record plane { now = new }) (mut_vals plane)) ⊛ ‵ (flft κ q)))
@@ -110,3 +122,45 @@ module _ {M : Type 1} {𝓤 : Ura M} (T : RattleType) (loan : MutBor (Raster T.D
       heard ! _ (λ tells. told ! (record { all = all; written = tells.written; tells = tells })))
   begins 𝓛 k walk = qed 𝓛 (Said k walk ∷ []) ∵ split ! $ frame ! $ split ! $ drop ! $ split ! $ heard ! _ (λ all. split ! $
       heard ! _ (λ written. split ! $ heard ! _ (λ tells. told ! (record { all = all; written = written; tells = tells }))))
+
+module _ {M : Type 1} {𝓤 : Ura M} (𝓛 : Logic 𝓤) (𝓜 : Model 𝓤 𝓛.H) (𝓡 : Running 𝓤 𝓛.H 𝓜) (T : RattleType) (laws : Laws T) where
+  abbrev 𝓣 : MachineTables 𝓤 𝓛.H 𝓜
+  𝓣 = tables 𝓤 𝓛.H 𝓜 𝓡 𝓡.env
+
+  abbrev pub opens : Kind → Promise 𝓤
+  opens of_pixels = (planes.pixels_mut.ended T, planes.pixels_mut.clauses T 𝓛 𝓜.mem 𝓡.returns)
+  opens _ = (planes.rows_mut.ended T, planes.rows_mut.clauses T 𝓛 𝓜.mem 𝓡.returns)
+
+  abbrev pub lowers : (k : Kind) (ℓ : NamedLft) → Lowered (walk_row k ℓ (param 0 T))
+  lowers of_pixels ℓ = of_walks.pixels_mut.PixelsMut.TheLaws.lowers ℓ (param 0 T) (param_laws 0 T laws)
+  lowers _ ℓ = of_walks.rows_mut.RowsMut.TheLaws.lowers ℓ (param 0 T) (param_laws 0 T laws)
+
+  abbrev walk_laws : (k : Kind) (ℓ : NamedLft) → Laws (walk_row k ℓ (param 0 T))
+  walk_laws of_pixels ℓ = of_walks.pixels_mut.PixelsMut.TheLaws.the_row_laws ℓ (param 0 T) (param_laws 0 T laws)
+  walk_laws _ ℓ = of_walks.rows_mut.RowsMut.TheLaws.the_row_laws ℓ (param 0 T) (param_laws 0 T laws)
+
+  abbrev Begun : Kind → Type 2
+  Begun neither = Unit {2}
+  Begun k = (K : Type 0) (Γ : List (Item 𝓤)) (E : Env 𝓤 𝓛.H) (p : Post 𝓤 𝓛.H) (f : Callee) (xs : List Operand) (d : Place) (rest : Code) → K →
+      Kept 𝓛 𝓜 𝓡 (opens k) f →
+      (m : Lifetime) (κ κT : Lft) (q qT : Share) (plane : MutBor (Raster T.Denot)) → κT ⊑ T.lives →
+      ((i j l : Item 𝓤) → Opds K 𝓛 (i ∷ j ∷ l ∷ Γ) E xs (mut_vals plane)) →
+      ((α δ : ℕ) (walk : Walk T k) → let ℓ : NamedLft = record { mir = m; lft = α ∷ κT } in let R = walk_row k ℓ (param 0 T) in
+      let u = (lowers k ℓ).lowered walk in Begins T k plane.now walk → Typed R.mir (u ∷ []) →
+      Seq K 𝓛 (‵ (R.own_val walk (u ∷ [])) ∷ ‵ (LendsBuffer (param 0 T) (record plane { ghost_name = δ }) (slice T k walk)) ∷
+      ‵ (flft (α ∷ κT) (share_within (Share.left qT))) ∷ ‵ (flft κT (Share.right qT)) ∷ Kept_by T α δ κ κT q plane ∷ raw (Back 𝓛 α κT (Share.left qT)) ∷ Γ)
+      (lands 𝓣.C 𝓣.Λ E d u rest p))
+      → Seq K 𝓛 (‵ ((MutRef (named 0) κ (the_row (param 0 T))).own_val plane (mut_vals plane)) ∷ ‵ (flft κ q) ∷ ‵ (flft κT qT) ∷ Γ)
+      (runs 𝓣.C 𝓣.Λ E (seq (call f xs d) rest) p)
+
+  -- the plane is lent to the iterator that a call gives
+  pub begins_walk : (k : Kind) → Begun k
+  begins_walk neither = tt
+  begins_walk k = λ K Γ E p f xs d rest t opened m κ κT q qT plane inT os go. lends_plane t tt T κ κT q qT plane (λ α δ.
+      let κw = α ∷ κT in let loan = record plane { ghost_name = δ } in
+      calls t (1 ∷ 2 ∷ 0 ∷ []) (framed 𝓤 𝓛.H 𝓜 𝓣) (opens k).0 (opens k).1 opened
+      (((κw, (κT, tt)), (share_within (Share.left qT), (Share.right qT, tt)), (meet_⊑_right (α ∷ []) κT, tt), (loan, tt), (mut_vals plane, tt)), tt)
+      (asks_that 𝓤 inT) refl (os _ _ _) (λ w ws. ‵ (LendsBuffer (param 0 T) loan (slice T k w)) ∷ raw (fact 𝓤 (Begins T k plane.now w)) ∷ [])
+      (λ w ws. begins T loan 𝓛 k w) (λ v w ws. let ℓ : NamedLft = record { mir = m; lft = κw } in let low = (lowers k ℓ).lowered in
+      spelt t (walk_row k ℓ (param 0 T)) low (lowers k ℓ).val_is w v (λ e is. regoal t (λ (u : Val). lands 𝓣.C 𝓣.Λ E d u rest p) e refl $
+      move t (2 ∷ 5 ∷ []) $ heard t _ (λ begun. drop t $ go α δ w begun (((walk_laws k ℓ).lawful 𝓛).typed w (low w ∷ []) is)))))

@@ -1,19 +1,17 @@
 -- A whole iteration of calls that write: the plane is lent to an iterator, each draw writes through it in a loop, and it is dropped. Rattle learns nothing of
 -- what the iterator says of held items, so the proof follows the code. It stands once for rows and pixels: see `ItemKinds.antt`. Assumes `Logic`.
-use Rattle.v_frame.proofs.Steps.{Below, Fml, Goes-dropped, Goes-ref, Item, LentAgain, List, NamedLft, Out, SProp, SliceRefOf, Sq, Stays, Val, Wp, a_type, addr}
+use Rattle.v_frame.proofs.Steps.{Below, Fml, Goes-dropped, Goes-ref, Item, LentAgain, List, NamedLft, Out, SProp, SliceRefOf, Sq, Stays, Val, Wp, addr}
 use Rattle.v_frame.proofs.Steps.{after, after_block, after_seq, after_turn, again, alloc_all, and_then, any_q, ap, arith, at_ret, at_return, bin, blocks}
-use Rattle.v_frame.proofs.Steps.{bounded, branches, copied, dcons, dnil, drop, elements_shared, enter, env, exec, fact, feq_i, feq_l, fhide, first, fld, flft}
-use Rattle.v_frame.proofs.Steps.{forget_but, framed, free_all, from, fsplit, get, get_in, give_at, head, heard, holding, id⊢, inst_fn, jumps, lands_as}
+use Rattle.v_frame.proofs.Steps.{branches, copied, drop, elements_shared, enter, env, exec, fact, feq_i, feq_l, fhide, first, fld, flft}
+use Rattle.v_frame.proofs.Steps.{forget_but, framed, free_all, from, fsplit, get, get_in, give_at, head, heard, holding, id⊢, jumps, lands_as}
 use Rattle.v_frame.proofs.Steps.{lands_last, length, lit, lit<, look_at, loops, lt-wf_rel, ltb→lt, map, meet_⊑_right, mem, move, mul-le-mul_right, mut_Tells}
-use Rattle.v_frame.proofs.Steps.{mut_vals, named, nltb→le, no_more, nothing, of_opd, only, param, param_laws, pass_all, plain, proved, raw, refl, returns, runs}
+use Rattle.v_frame.proofs.Steps.{mut_vals, named, nltb→le, no_more, nothing, of_opd, only, param, pass_all, plain, proved, raw, refl, returns, runs}
 use Rattle.v_frame.proofs.Steps.{sets, sets_last, shr_slice_Tells, shr_slice_vals, size_lit, skips, slice_val, split, spot_of, stay_dropped, stay_ref, stop}
 use Rattle.v_frame.proofs.Steps.{sub, tables, tables_of, take, take_at, through, unit_lit, use0, use1, use2, vint, vptr, vunit, w64, walk_of, whole, yes, ℕ, ! }
-use Rattle.v_frame.proofs.Steps.{[], ‵, ⊑_trans, ◌$◌, ◌*◌, ◌+◌, ◌-◌, ◌<◌, ◌^◌, ◌∷◌, ◌≡◌, ◌≤◌, ◌⊑◌, ◌⊛◌, MutBor, size_lit, lit, mul-le-mul_right, split}
-use Rattle.v_frame.proofs.Steps.{option_row}
+use Rattle.v_frame.proofs.Steps.{[], ‵, ⊑_trans, ◌$◌, ◌*◌, ◌+◌, ◌-◌, ◌<◌, ◌^◌, ◌∷◌, ◌≡◌, ◌≤◌, ◌⊑◌, ◌⊛◌, size_lit, lit, mul-le-mul_right, split}
 use Rattle.v_frame_plane.proofs.lent.Steps.{Logic, Ura, RattleType, Laws, Ty, ent, sep, sem, emp, fact_i, erased, mut, slice_ty, ty_int, ty_ptr, ty_ref}
 use base.Logic.{emp∗, mono_l, via}
 use contract.Running.{MachineTables, Running}
-use denote.Lowered.{Lowered}
 use denote.Memory.{lone}
 use mir.Syntax.{Body, Callee, Dict, Fn, Opd as Operand, add, addr_of, assign, block, call, cond, copy, deref, exit, field, imm, int, local, loop, lt}
 use mir.Syntax.{memory_slot, mul, offset, op2, opd_unit, place, return, rv_opd, seq, size_of, skip, ty_bool, ty_unit, unsigned, value_local}
@@ -25,11 +23,11 @@ use types.Run.{Opd}
 use Rattle.v_frame_plane.specs.Plane.{Raster, table_of, with_entries}
 use Rattle.v_frame_plane.specs.SecondRows.{SecondRows, WritesTable, entries_with}
 use Rattle.v_frame.specs.Walk.{left_by, left_in_turn, walk_leaves}
-use Rattle.v_frame.proofs.CallSteps.{asks_that, calls, calls_last, ends, opened, spelt, tells, told, unit_fits}
+use Rattle.v_frame.proofs.CallSteps.{asks_that, calls_last, ends, opened, tells, told, unit_fits}
 use Rattle.v_frame.proofs.DrawnLoans.{each_drawn, none_drawn, nth_drawn}
 use Rattle.v_frame.proofs.ItemKinds.{Begins, Draw, Kept, Kind, Promise, Puts, Second, Walk, draw_row, left, made, neither, of_pixels, rows_of, shown, side_of}
 use Rattle.v_frame.proofs.ItemKinds.{slice, walk_row, written}
-use Rattle.v_frame.proofs.Lending.{begins, lends_plane, lends_walk, rows_back, walk_back}
+use Rattle.v_frame.proofs.Lending.{begins_walk, lowers, opens, lends_walk, rows_back, walk_back}
 use Rattle.std.specs.{declared.clone.Clone.Ghosts}
 use Rattle.v_frame_plane.specs.{Lends.LendsBuffer}
 use Rattle.v_frame_plane.proofs.lent.{Loans.Back, Loans.share_within, PixelsDropped.pixels_dropped, RowLoans.rows_dropped}
@@ -38,20 +36,10 @@ use Rattle.v_frame.proofs.{WriteItem.writes_item}
 use base.Share
 use mathlib.Core.WellFounded.InvImage
 use Rattle.v_frame_plane.specs.contracts.plane.Plane as planes
-use Rattle.v_frame_plane.proofs.pixels_mut.PixelsMut.TheLaws as pixels_laws
-use Rattle.v_frame_plane.proofs.rows_mut.RowsMut.TheLaws as rows_laws
 use Rattle.v_frame.specs.contracts.replay.pixel_writes.write_pixels
 use Rattle.v_frame.specs.contracts.replay.row_writes.write_rows
 
 module _ (T : RattleType) where
-  abbrev lowers : (k : Kind) (ℓ : NamedLft) → Laws T → Lowered (walk_row k ℓ (param 0 T))
-  lowers of_pixels ℓ laws = pixels_laws.lowers ℓ (param 0 T) (param_laws 0 T laws)
-  lowers _ ℓ laws = rows_laws.lowers ℓ (param 0 T) (param_laws 0 T laws)
-
-  abbrev walk_laws : (k : Kind) (ℓ : NamedLft) → Laws T → Laws (walk_row k ℓ (param 0 T))
-  walk_laws of_pixels ℓ laws = pixels_laws.the_row_laws ℓ (param 0 T) (param_laws 0 T laws)
-  walk_laws _ ℓ laws = rows_laws.the_row_laws ℓ (param 0 T) (param_laws 0 T laws)
-
   abbrev Owned : (k : Kind) → NamedLft → Walk T k → List Val → Fml
   Owned of_pixels ℓ = (walk_row of_pixels ℓ (param 0 T)).own_val
   Owned k ℓ = (walk_row k ℓ (param 0 T)).own_val
@@ -85,10 +73,6 @@ module _ (T : RattleType) where
 
 module _ {M : Type 1} {𝓤 : Ura M} (𝓛 : Logic 𝓤) (𝓜 : Model 𝓤 𝓛.H) (𝓡 : Running 𝓤 𝓛.H 𝓜) (T : RattleType) (laws : Laws T) (clone : Ghosts T.Denot) (dict :
     Dict) where
-  abbrev opens : Kind → Promise 𝓤
-  opens of_pixels = (planes.pixels_mut.ended T, planes.pixels_mut.clauses T 𝓛 𝓜.mem 𝓡.returns)
-  opens _ = (planes.rows_mut.ended T, planes.rows_mut.clauses T 𝓛 𝓜.mem 𝓡.returns)
-
   abbrev writes_items : Kind → Promise 𝓤
   writes_items of_pixels = (write_pixels.ended T clone dict, write_pixels.clauses T clone dict 𝓛 𝓜.mem 𝓡.returns)
   writes_items _ = (write_rows.ended T clone dict, write_rows.clauses T clone dict 𝓛 𝓜.mem 𝓡.returns)
@@ -130,7 +114,7 @@ module _ {M : Type 1} {𝓤 : Ura M} (𝓛 : Logic 𝓤) (𝓜 : Model 𝓤 𝓛
 
     abbrev Written : Kind → Type 2
     Written neither = Unit {2}
-    Written k = (key : Callee) → Kept 𝓛 𝓜 𝓡 (opens k) opening → Kept 𝓛 𝓜 𝓡 (item_writes k) writing → Closed 𝓤 𝓛.H 𝓣.C 𝓣.Λ key (code k) →
+    Written k = (key : Callee) → Kept 𝓛 𝓜 𝓡 (opens 𝓛 𝓜 𝓡 T laws k) opening → Kept 𝓛 𝓜 𝓡 (item_writes k) writing → Closed 𝓤 𝓛.H 𝓣.C 𝓣.Λ key (code k) →
         Kept 𝓛 𝓜 𝓡 (writes_items k) key
 
     pub items_written : (k : Kind) → Written k
@@ -155,17 +139,12 @@ module _ {M : Type 1} {𝓤 : Ura M} (𝓛 : Logic 𝓤) (𝓜 : Model 𝓤 𝓛
         -- [the tokens of κ, κd and κT; the plane; the draws]
         move ! (4 ∷ []) $ fsplit ! $ drop ! $ enter ! _ _ _ _ _ $ alloc_all ! (λ l. pass_all ! refl ((tt, tt), ((tt, (tt, (record { fits = n_fits }, tt))), tt)) $
         let En = env function.locals l in
-        sets ! (addr ! (through ! refl (stop !))) refl (tt, tt) $ move ! (4 ∷ 1 ∷ 3 ∷ []) $ lends_plane ! tt T κ κT q qT plane (λ α δ.
-        let κw = α ∷ κT in let qw = share_within (Share.left qT) in let rT = Share.right qT in let inT' = meet_⊑_right (α ∷ []) κT in
-        let loan = record plane { ghost_name = δ } in
-        -- [the plane, lent; the tokens of κw and κT; its lender; the way back; the draws; the token of κd; the locals]
-        calls ! (1 ∷ 2 ∷ 0 ∷ []) run (opens k).0 (opens k).1 opened_by
-        (((κw, (κT, tt)), (qw, (rT, tt)), (inT', tt), (loan, tt), (mut_vals plane, tt)), tt) (asks_that 𝓤 inT) refl (and_then ! (get ! refl) (no_more !))
-        (λ w ws. ‵ (LendsBuffer item loan (slice T k w)) ∷ raw (fact 𝓤 (Begins T k plane.now w)) ∷ []) (λ w ws. begins T loan 𝓛 k w) (λ v w ws.
-        let ℓ : NamedLft = record { mir = named 0; lft = κw } in let Walking = walk_row k ℓ item in let low = (lowers T k ℓ laws).lowered in
-        let spelled = (lowers T k ℓ laws).val_is in
-        spelt ! Walking low spelled w v (λ e is. let typed = ((walk_laws T k ℓ laws).lawful 𝓛).typed w (low w ∷ []) is in
-        lands_as ! e refl typed.0 $ sets ! (of_opd ! (get ! refl)) refl typed.0 $ move ! (2 ∷ 5 ∷ []) $ heard ! _ (λ begun. drop ! $
+        sets ! (addr ! (through ! refl (stop !))) refl (tt, tt) $ move ! (4 ∷ 1 ∷ 3 ∷ []) $ begins_walk 𝓛 𝓜 𝓡 T laws k _ _ _ _ _ _ _ _ ! opened_by (named 0) κ κT q qT plane inT
+        (λ i j m. and_then ! (get ! refl) (no_more !)) (λ α δ w begun typed. let κw = α ∷ κT in let qw = share_within (Share.left qT) in
+        let rT = Share.right qT in let inT' = meet_⊑_right (α ∷ []) κT in let loan = record plane { ghost_name = δ } in
+        let ℓ : NamedLft = record { mir = named 0; lft = κw } in let Walking = walk_row k ℓ item in let low = (lowers 𝓛 𝓜 𝓡 T laws k ℓ).lowered in
+        let spelled = (lowers 𝓛 𝓜 𝓡 T laws k ℓ).val_is in
+        lands_as ! refl refl typed.0 $ sets ! (of_opd ! (get ! refl)) refl typed.0 $
         -- [the iterator; how the plane ends; the tokens of κw and κT; the plane's lender; the way back; the draws; the token of κd; the locals]
         let Shows : Item 𝓤 = ‵ (LendsBuffer item loan (slice T k w)) in let Lender : Item 𝓤 = ‵ (LentAgain Plane κ κw q plane.ghost_name b o δ plane.now) in
         let turning : Body = head (head (after 2 (head (head (after 3 function.body))))) in
@@ -238,4 +217,4 @@ module _ {M : Type 1} {𝓤 : Ura M} (𝓛 : Logic 𝓤) (𝓜 : Model 𝓤 𝓛
         first ! $ blocks ! $ sets ! (of_opd ! (lit ! tt)) refl (tt, record { fits = lit< tt }) $
         sets ! (of_opd ! (get_in ! (fld ! refl (stop !)) (sub ! 1 refl (whole !)))) refl (tt, record { fits = n_fits }) $
         forget_but ! En (1 ∷ 2 ∷ 3 ∷ 4 ∷ 8 ∷ []) refl $ blocks ! $ loops ! (tables_of 𝓤 𝓛.H 𝓜 𝓣) Nearer (InvImage.wf (λ (t :
-        State). n - t.0.0) lt-wf_rel.wf) Now turns ((0, w), omega arith, refl))))))))
+        State). n - t.0.0) lt-wf_rel.wf) Now turns ((0, w), omega arith, refl)))))

@@ -8,12 +8,12 @@ use Rattle.v_frame.proofs.Steps.{meet_⊑_right, move, mut_Tells, mut_vals, name
 use Rattle.v_frame.proofs.Steps.{post, proved, raw, refl, returns, rewrite, sets, sets_last, some, split, spot_of, stay_dropped, stay_ref, stop, store, subst}
 use Rattle.v_frame.proofs.Steps.{switches_on, sym, tables, take_at, through, unit_lit, use1, use2, use3, vptr, vrt, vunit, walk_of, whole, ℕ, !, [], ‵, ⊑_trans}
 use Rattle.v_frame.proofs.Steps.{⊤, ◌$◌, ◌++◌, ◌<◌, ◌∙◌, ◌∷◌, ◌≡◌, ◌⊑◌, ◌⊛◌}
-use Rattle.v_frame.specs.Prelude.{LendsBuffer, LendsFirstPixel, LendsLastPixel, PixelEndsAs, PixelsMut, Raster, SecondPixels, pixels_left, pixels_slice}
+use Rattle.v_frame.specs.Prelude.{LendsFirstPixel, LendsLastPixel, PixelEndsAs, PixelsMut, Raster, SecondPixels, pixels_left}
 use Rattle.v_frame.specs.Prelude.{row_major, table_of}
-use Rattle.v_frame.proofs.CallSteps.{asks_that, both_facts, calls, ends, opened_by, spelt, tells, told}
-use Rattle.v_frame.proofs.Lending.{begins, lends_plane, lends_walk, plane_back, walk_back}
+use Rattle.v_frame.proofs.CallSteps.{asks_that, both_facts, calls, ends, opened_by, tells, told}
+use Rattle.v_frame.proofs.Lending.{begins_walk, lends_walk, plane_back, walk_back}
 use Rattle.v_frame_held.proofs.HeldPixels.{Shows, closes_pixel, ends_of, none_left, none_left_first, opens_pixel, pixel_dropped, took_first, took_last, written}
-use Rattle.v_frame.proofs.{OptionCases.by_ref, ItemKinds.Begins, ItemKinds.of_pixels}
+use Rattle.v_frame.proofs.{OptionCases.by_ref, ItemKinds.of_pixels}
 use Rattle.v_frame_plane.proofs.lent.{Loans.share_within, PixelMemory.lowered, PixelsDropped.pixels_dropped}
 use Rattle.v_frame_held.specs.{HeldPixels.with_ends}
 use Rattle.v_frame_held.proofs.{held_pixels.write_ends.Statement.statement}
@@ -50,17 +50,13 @@ write_ends_spec 𝓤 𝓛 𝓜 𝓡 wired T laws copy clone dict met =
     enter ! _ _ _ _ _ $ alloc_all ! (λ l. pass_all ! refl ((tt, tt), (wx, (wy, (wz, tt)))) $
     let En = env function.locals l in let Then : ℕ → Exits 𝓤 𝓛.H =
     λ n. any_q (after_seq 𝓤 𝓛.H (Wp 𝓤 𝓛.H 𝓣.C 𝓣.Λ En (after n function.body) (post 𝓤 𝓛.H (at_ret En Post))) (post 𝓤 𝓛.H (at_ret En Post))) in
-    sets ! (addr ! (through ! refl (stop !))) refl (tt, tt) $ move ! (2 ∷ 0 ∷ 1 ∷ []) $ lends_plane ! tt T κ κT q qT plane (λ α δ.
+    sets ! (addr ! (through ! refl (stop !))) refl (tt, tt) $ move ! (2 ∷ 0 ∷ 1 ∷ []) $ begins_walk 𝓛 𝓜 𝓡 T laws of_pixels _ _ _ _ _ _ _ _ !
+    (pixels_mut_met.met 𝓤 𝓛 𝓜 𝓡 (code.calls-v_frame_plane::plane::Plane::pixels_mut 𝓡.env wired) T laws) (named 1) κ κT q qT plane inT
+    (λ i j m. and_then ! (get ! refl) (no_more !)) (λ α δ walk begun typed.
     let κ' : Lft = α ∷ κT in let s = share_within (Share.left qT) in let rT = Share.right qT in let inside : κ' ⊑ κT = meet_⊑_right (α ∷ []) κT in
-    let loan : MutBor (Raster T.Denot) = record plane { ghost_name = δ } in
-    -- [the plane, lent; the tokens of κ' and κT; its lender; the way back; the three values; the locals]
-    calls ! (1 ∷ 2 ∷ 0 ∷ []) run (planes.pixels_mut.ended T) (planes.pixels_mut.clauses T 𝓛 𝓜.mem 𝓡.returns)
-    (pixels_mut_met.met 𝓤 𝓛 𝓜 𝓡 (code.calls-v_frame_plane::plane::Plane::pixels_mut 𝓡.env wired) T laws)
-    (((κ', (κT, tt)), (s, (rT, tt)), (inside, tt), (loan, tt), (mut_vals plane, tt)), tt) (asks_that 𝓤 inT) refl (and_then ! (get ! refl) (no_more !))
-    (λ w ws. ‵ (LendsBuffer item loan (pixels_slice w)) ∷ raw (fact 𝓤 (Begins T of_pixels plane.now w)) ∷ []) (λ w ws. begins T loan 𝓛 of_pixels w) (λ v walk ws.
-    let ℓ : NamedLft = record { mir = named 1; lft = κ' } in let Walking = walks.the_row ℓ item in let spelled = (of_walks.TheLaws.lowers ℓ item (param_laws 0 T laws)).val_is in
-    spelt ! Walking lowered spelled walk v (λ e is. let ww = (((of_walks.TheLaws.the_row_laws ℓ item (param_laws 0 T laws)).lawful 𝓛).typed walk (lowered walk ∷ []) is).0 in
-    lands_as ! e refl ww $ sets ! (of_opd ! (get ! refl)) refl ww $ move ! (2 ∷ 5 ∷ []) $ heard ! _ (λ begun. drop ! $
+    let ℓ : NamedLft = record { mir = named 1; lft = κ' } in let Walking = walks.the_row ℓ item in
+    let spelled = (of_walks.TheLaws.lowers ℓ item (param_laws 0 T laws)).val_is in
+    lands_as ! refl refl typed.0 $ sets ! (of_opd ! (get ! refl)) refl typed.0 $
     -- [what the iterator owns; how the plane ends; the tokens of κ' and κT; its lender; the way back; the three values; the locals]
     let τ = (spot_of 𝓤 𝓛.H En 5).0 in
     let tells_of : (new : PixelsMut T.Denot) (u : Val) → Is Walking new (u ∷ []) → u ≡ lowered new = λ new u is. ap only (spelled new (u ∷ []) is) in
@@ -161,4 +157,4 @@ write_ends_spec 𝓤 𝓛 𝓜 𝓡 wired T laws copy clone dict met =
     sets ! (of_opd ! (unit_lit !)) refl (tt, tt) $ returns ! (look_at ! 0 refl) $ free_all ! refl $
     nothing ! $ nothing ! $ nothing ! $ feq_i ! (List Val) (vunit ∷ []) (vunit ∷ []) refl $
     ends ! (6 ∷ 4 ∷ 5 ∷ 1 ∷ 2 ∷ 3 ∷ 0 ∷ []) ended stayed c bound vunit tt (new, (tt, (tt, (tt, tt)))) (tt, (tt, (tt, (tt, tt)))) refl $
-    tells ! shows_them.pixels $ told ! shows_them.border)))))))))))))))))))))
+    tells ! shows_them.pixels $ told ! shows_them.border))))))))))))))))))

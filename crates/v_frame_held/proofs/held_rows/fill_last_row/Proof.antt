@@ -8,11 +8,11 @@ use Rattle.v_frame.proofs.Steps.{look_at, look_in_at, map, meet_⊑_right, move,
 use Rattle.v_frame.proofs.Steps.{param_laws, pass_all, plain, post, prop, proved, raw, refl, replicate, returns, rewrite, sets, skips, slice_set, spot_of}
 use Rattle.v_frame.proofs.Steps.{stay_dropped, stay_ref, stop, sub, subst, switches_on, sym, tables, take_at, through, unit_lit, use1, use2, use3, vptr, vrt}
 use Rattle.v_frame.proofs.Steps.{vunit, walk_of, whole, !, [], ‵, ⊑_trans, ⊤, ◌$◌, ◌++◌, ◌-◌, ◌∙◌, ◌∷◌, ◌≡◌, ◌⊑◌}
-use Rattle.v_frame.specs.Prelude.{EndsAs, LendsBuffer, LendsLastRow, SecondRows, entries_with, rows_left, rows_slice, table_of, with_entries}
-use Rattle.v_frame.proofs.CallSteps.{asks_that, calls, calls_last, ends, opened, spelt, tells, told, unit_fits}
-use Rattle.v_frame.proofs.Lending.{begins, lends_plane, lends_walk, rows_back, walk_back}
+use Rattle.v_frame.specs.Prelude.{EndsAs, LendsLastRow, SecondRows, entries_with, rows_left, table_of, with_entries}
+use Rattle.v_frame.proofs.CallSteps.{asks_that, calls, calls_last, ends, opened, tells, told, unit_fits}
+use Rattle.v_frame.proofs.Lending.{begins_walk, lends_walk, rows_back, walk_back}
 use Rattle.v_frame_held.proofs.HeldRows.{as_long, last_as_long, last_set, none_set, took_last_row, took_no_row}
-use Rattle.v_frame.proofs.{ItemKinds.Begins, ItemKinds.of_rows}
+use Rattle.v_frame.proofs.{ItemKinds.of_rows}
 use Rattle.v_frame_plane.proofs.lent.{Loans.share_within, RowCalls.by_row, RowLoans.rows_dropped, RowMemory.lowered, RowMemory.slice_of}
 use Rattle.v_frame_held.proofs.{held_rows.fill_last_row.Statement.statement}
 use base.Share
@@ -42,18 +42,13 @@ fill_last_row_spec 𝓤 𝓛 𝓜 𝓡 wired T laws copy clone dict met =
     opened 𝓛 ended.signature κs qs a (mut_vals plane, (val value, tt)) (κT ⊑ T.lives) (λ inT.
     -- [the tokens of κ and κT; the plane; the value]
     enter ! _ _ _ _ _ $ alloc_all ! (λ l. pass_all ! refl ((tt, tt), (fits, tt)) $ let En = env function.locals l in
-    sets ! (addr ! (through ! refl (stop !))) refl (tt, tt) $ move ! (2 ∷ 0 ∷ 1 ∷ []) $ lends_plane ! tt T κ κT q qT plane (λ α δ.
+    sets ! (addr ! (through ! refl (stop !))) refl (tt, tt) $ move ! (2 ∷ 0 ∷ 1 ∷ []) $ begins_walk 𝓛 𝓜 𝓡 T laws of_rows _ _ _ _ _ _ _ _ !
+    (rows_mut_met.met 𝓤 𝓛 𝓜 𝓡 (code.calls-v_frame_plane::plane::Plane::rows_mut 𝓡.env wired) T laws) (named 1) κ κT q qT plane inT
+    (λ i j m. and_then ! (get ! refl) (no_more !)) (λ α δ w begun typed.
     let κw = α ∷ κT in let qw = share_within (Share.left qT) in let rT = Share.right qT in let inside = meet_⊑_right (α ∷ []) κT in
-    let loan = record plane { ghost_name = δ } in
-    -- [the plane, lent; the tokens of κw and κT; its lender; the way back; the value; the locals]
-    calls ! (1 ∷ 2 ∷ 0 ∷ []) run (planes.rows_mut.ended T) (planes.rows_mut.clauses T 𝓛 𝓜.mem 𝓡.returns)
-    (rows_mut_met.met 𝓤 𝓛 𝓜 𝓡 (code.calls-v_frame_plane::plane::Plane::rows_mut 𝓡.env wired) T laws)
-    (((κw, (κT, tt)), (qw, (rT, tt)), (inside, tt), (loan, tt), (mut_vals plane, tt)), tt) (asks_that 𝓤 inT) refl (and_then ! (get ! refl) (no_more !))
-    (λ w ws. ‵ (LendsBuffer item loan (rows_slice w)) ∷ raw (fact 𝓤 (Begins T of_rows plane.now w)) ∷ []) (λ w ws. begins T loan 𝓛 of_rows w) (λ v w ws.
     let ℓ : NamedLft = record { mir = named 1; lft = κw } in let Walk = walks.the_row ℓ item in
     let spelled = (of_walks.TheLaws.lowers ℓ item (param_laws 0 T laws)).val_is in
-    spelt ! Walk lowered spelled w v (λ e is. let typed = ((of_walks.TheLaws.the_row_laws ℓ item (param_laws 0 T laws)).lawful 𝓛).typed w (lowered w ∷ []) is in
-    lands_as ! e refl typed.0 $ sets ! (of_opd ! (get ! refl)) refl typed.0 $ move ! (2 ∷ 5 ∷ []) $ heard ! _ (λ begun. drop ! $
+    lands_as ! refl refl typed.0 $ sets ! (of_opd ! (get ! refl)) refl typed.0 $
     -- [the iterator; how the plane ends; the tokens of κw and κT; the plane's lender; the way back; the value; the locals]. A row is drawn
     let τ = (spot_of 𝓤 𝓛.H En 3).0 in
     sets ! (addr ! (from ! (stop !))) refl (tt, tt) $ take_at ! 3 $ move ! (0 ∷ 1 ∷ 3 ∷ []) $
@@ -128,4 +123,4 @@ fill_last_row_spec 𝓤 𝓛 𝓜 𝓡 wired T laws copy clone dict met =
     sets ! (of_opd ! (unit_lit !)) refl (tt, tt) $ returns ! (look_at ! 0 refl) $ free_all ! refl $ keep ! (0 ∷ 1 ∷ 2 ∷ []) $
     let shows_row : table ≡ rows_left left ++ row.now ∷ [] = sym begun.all ∙ drawn in
     finish (rows_left left ++ filled ∷ []) (last_set table (rows_left left) row.now filled shows_row)
-    (as_long table (rows_left left) row.now filled shows_row (length-replicate plane.now.geometry.width value ∙ sym as_wide))))))))))))))))
+    (as_long table (rows_left left) row.now filled shows_row (length-replicate plane.now.geometry.width value ∙ sym as_wide)))))))))))))
