@@ -3,6 +3,25 @@
 --     took_first, took_last     a call, and what the pixel and the iterator left end as.        pixel_dropped     a pixel that is dropped ends as it is
 --     written     a plane under an iterator with which no draw was made ends with the final values as its pixels
 --     opens_pixel, closes_pixel     a pixel is there to be written, and is held again.
+use Rattle.v_frame_plane.proofs.lent.Steps.{Clauses, Laws, NamedLft, Seq, ⊤, MakesProgress, item_count, ap, heard, id⊢, named, only, param_laws, vptr, ◌⊑◌, ⊑_trans}
+use base.Share
+use base.Fml.{Fml}
+use Rattle.std.specs.contracts.option.Option.{the_row as option_row}
+use contract.BorrowLft.{meet_⊑_right}
+use denote.Memory.{lone}
+use denote.Triple.Clauses.{closing}
+use denote.Triple.Spec.{Meets}
+use mir.Raw.{raw as raw_ty}
+use mir.Syntax.{Body as Code, Callee, Opd as Operand, Place, Ty, call, seq}
+use prog.Wp.{Calls, Env, Loops}
+use sound.WpLaws.{FmC}
+use types.Kit.{Post, lands, runs}
+use types.Run.{Opds}
+use Rattle.v_frame_plane.specs.contracts.pixels_mut.PixelsMut as walks
+use Rattle.v_frame_plane.proofs.lent.{Loans.share_within, PixelMemory.lowered}
+use Rattle.v_frame_plane.proofs.pixels_mut.PixelsMut.TheLaws.{lowers}
+use Rattle.v_frame.proofs.CallSteps.{asks_that, calls}
+use Rattle.v_frame.proofs.Lending.{lends_walk, walk_back}
 use Rattle.v_frame_plane.proofs.lent.Steps.{ℕ, ◌≡◌, ◌-◌, List, [], ◌∷◌, ◌++◌, length, list_drop, take, Option, None, MutBor, refl, sym, ap, ◌∙◌, arith, Lft}
 use Rattle.v_frame_plane.proofs.lent.Steps.{Share, fat, fauth, flft, fobor, fobs, full_share, SProp, ent, sep, fact, fact_i, emp, Array, shows, mem, RattleType}
 use Rattle.v_frame_plane.proofs.lent.Steps.{MutRef, YieldsFirstMut, YieldsLastMut, mut_vals, peeks, opens, closes, Val, Ura, Goal, Item, Soaks, Step, step, ‵}
@@ -112,3 +131,47 @@ module _ {M : Type 1} {𝓤 : Ura M} {𝓛 : Logic 𝓤} {K : Type 0} {Γ : List
   closes_pixel t z T copy ℓ κ q pixel x = step (λ k. let item = param 0 T in let b = pixel.ref_ptr.0 in let o = pixel.ref_ptr.1 in
       use1 𝓛 (‵ (cell_at full_share item.mir (copy.val x ∷ []) b o)) (𝓛.laws.at_raw full_share (layout T) b o (copy.val x)) $
       closes t z item x (copy.val x ∷ []) b o $ feq_i t (List Val) (mut_vals pixel) (mut_vals pixel) refl $ fjoin3 t $ k)
+
+module _ {M : Type 1} {𝓤 : Ura M} (𝓛 : Logic 𝓤) (T : RattleType) where
+  abbrev Draws : Type 1
+  Draws = PixelsMut T.Denot → Option (MutBor T.Denot) → PixelsMut T.Denot → Fml
+
+  abbrev Yields : Type 1
+  Yields = PixelsMut T.Denot → Option (MutBor T.Denot) → PixelsMut T.Denot → Type 0
+
+  abbrev draw_clauses : Draws → Yields → Clauses 𝓤 (walks.next.ended T)
+  draw_clauses lends yields = λ κs a. record {
+    ghost = Unit {0};
+    requires = λ _. sep 𝓤 (fact 𝓤 (κs.1.1.0 ⊑ T.lives)) (emp 𝓤);
+    ensures = λ _ r end. sep 𝓤 (sem 𝓛 (lends a.0.now r end.0.now)) (sep 𝓤 (fact 𝓤 (yields a.0.now r end.0.now))
+        (fact 𝓤 (MakesProgress (λ _. ⊤) (item_count pixels_left) a.0.now r end.0.now)));
+  }
+
+module _ {M : Type 1} {𝓤 : Ura M} {𝓛 : Logic 𝓤} {K : Type 0} {Γ : List (Item 𝓤)} {E : Env 𝓤 𝓛.H} {C : Calls 𝓤 𝓛.H} {Λ : Loops 𝓤 𝓛.H} {p : Post 𝓤 𝓛.H} {f :
+    Callee} {xs : List Operand} {d : Place} {rest : Code} where
+  -- a call of `next` or `next_back` on an iterator in a local: [its cell; the iterator; its token; the pixel, and how it was drawn; the token of κT]
+  pub draws_pixel : K → FmC 𝓤 𝓛.H 𝓛.laws C → (T : RattleType) (laws : Laws T) (lends : Draws 𝓛 T) (yields : Yields 𝓛 T) →
+      Meets 𝓛 (walks.next.signature T) (C f) (closing 𝓛 (walks.next.ended T) (draw_clauses 𝓛 T lends yields)) → (κ κT : Lft) (q qT : Share) → κ ⊑ κT →
+      κT ⊑ T.lives → (τ : Ty) (b : ℕ) (old : PixelsMut T.Denot) → let R = walks.the_row (record { mir = named 1; lft = κ }) (param 0 T) in
+      raw_ty τ ≡ raw_ty (lone R.mir) → ((i j l : Item 𝓤) → Opds K 𝓛 (i ∷ j ∷ l ∷ Γ) E xs (vptr b 0 ∷ [])) →
+      ((v : Val) (r : Option (MutBor T.Denot)) (new : PixelsMut T.Denot) → yields old r new → Seq K 𝓛 (‵ (fat full_share τ b 0 (lowered new)) ∷
+      ‵ (R.own_val new (lowered new ∷ [])) ∷ ‵ (flft κ q) ∷ ‵ ((option_row (MutRef (named 1) κ (param 0 T))).own_val r (v ∷ [])) ∷ ‵ (lends old r new) ∷
+      ‵ (flft κT qT) ∷ Γ) (lands C Λ E d v rest p))
+      → Seq K 𝓛 (‵ (fat full_share τ b 0 (lowered old)) ∷ ‵ (R.own_val old (lowered old ∷ [])) ∷ ‵ (flft κ q) ∷ ‵ (flft κT qT) ∷ Γ)
+      (runs C Λ E (seq (call f xs d) rest) p)
+  draws_pixel t run T laws lends yields met κ κT q qT inside inT τ b old same os k =
+      let ℓ : NamedLft = record { mir = named 1; lft = κ } in let R = walks.the_row ℓ (param 0 T) in
+      lends_walk t tt R refl τ same κ q old b 0 (lowered old) (λ β γ. let κc : Lft = β ∷ κ in let in_c = meet_⊑_right (β ∷ []) κ in
+      calls t (1 ∷ 2 ∷ 5 ∷ 0 ∷ []) run (walks.next.ended T) (draw_clauses 𝓛 T lends yields) met (
+        (
+          (κc, (κ, (κT, tt))),
+          (share_within (Share.left q), (Share.right q, (qT, tt))),
+          (in_c, (⊑_trans κc κ κT in_c inside, (inside, tt))),
+          (record { ref_ptr = (b, 0); ghost_name = γ; now = old }, tt),
+          (vptr b 0 ∷ [], tt),
+        ),
+        tt,
+      ) (asks_that 𝓤 inT) refl (os _ _ _) (λ r ws. ‵ (lends old r ws.0) ∷ raw (fact 𝓤 (yields old r ws.0)) ∷
+      raw (fact 𝓤 (MakesProgress (λ _. ⊤) (item_count pixels_left) old r ws.0)) ∷ []) (λ r ws. id⊢ 𝓤 _) (λ v r ws. let new = ws.0 in
+      move t (2 ∷ 3 ∷ []) $ heard t _ (λ steps. drop t $ move t (2 ∷ 3 ∷ 5 ∷ 6 ∷ 7 ∷ []) $ walk_back t tt R refl τ same κ q β γ b 0 new (lowered new)
+      (λ u is. ap only ((lowers ℓ (param 0 T) (param_laws 0 T laws)).val_is new (u ∷ []) is)) $ k v r new steps)))

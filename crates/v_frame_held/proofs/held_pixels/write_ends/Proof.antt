@@ -1,18 +1,18 @@
 -- `write_ends` holds three pixels, and writes through them once the iterator is dropped. What a plane ends as, of which such pixels were lent, no generated
 -- proof follows, so this one follows the code.
-use Rattle.v_frame.proofs.Steps.{Bound, Exits, Goes-dropped, Goes-ref, Is, Item, Lft, List, MakesProgress, MutBor, NamedLft, Option, Stays, Val, Wp}
+use Rattle.v_frame.proofs.Steps.{Exits, Goes-dropped, Goes-ref, Is, Lft, List, MutBor, NamedLft, Option, Stays, Val, Wp}
 use Rattle.v_frame.proofs.Steps.{YieldsFirstMut, YieldsLastMut, a_type, addr, after, after_seq, alloc_all, and_then, any_q, ap, arith, arm_body, assigns}
-use Rattle.v_frame.proofs.Steps.{at_ret, bounded, copied, dcons, dnil, drop, enter, env, exec, fact, feq_i, first, fld, framed, free_all, fres, from, get}
-use Rattle.v_frame.proofs.Steps.{get_in, get_tag, give_at, head, heard, id⊢, in_variant, inst_fn, item_count, lands_as, length, length-append, lit<, look_at}
-use Rattle.v_frame.proofs.Steps.{meet_⊑_right, move, mut_Tells, mut_vals, named, no, no_more, nothing, of_opd, only, param, param_laws, pass_all, pick, plain}
+use Rattle.v_frame.proofs.Steps.{at_ret, bounded, copied, dcons, dnil, enter, env, exec, fact, feq_i, first, fld, framed, free_all, fres, from, get}
+use Rattle.v_frame.proofs.Steps.{get_in, get_tag, give_at, head, heard, in_variant, inst_fn, lands_as, length, length-append, lit<, look_at}
+use Rattle.v_frame.proofs.Steps.{meet_⊑_right, move, mut_Tells, mut_vals, named, no, no_more, nothing, of_opd, param, param_laws, pass_all, pick, plain}
 use Rattle.v_frame.proofs.Steps.{post, proved, raw, refl, returns, rewrite, sets, sets_last, some, split, spot_of, stay_dropped, stay_ref, stop, store, subst}
-use Rattle.v_frame.proofs.Steps.{switches_on, sym, tables, take_at, through, unit_lit, use1, use2, use3, vptr, vrt, vunit, walk_of, whole, ℕ, !, [], ‵, ⊑_trans}
-use Rattle.v_frame.proofs.Steps.{⊤, ◌$◌, ◌++◌, ◌<◌, ◌∙◌, ◌∷◌, ◌≡◌, ◌⊑◌, ◌⊛◌}
-use Rattle.v_frame.specs.Prelude.{LendsFirstPixel, LendsLastPixel, PixelEndsAs, PixelsMut, Raster, SecondPixels, pixels_left}
+use Rattle.v_frame.proofs.Steps.{switches_on, sym, tables, take_at, through, unit_lit, use1, use2, use3, vrt, vunit, walk_of, whole, ℕ, !, [], ‵}
+use Rattle.v_frame.proofs.Steps.{◌$◌, ◌++◌, ◌<◌, ◌∙◌, ◌∷◌, ◌≡◌, ◌⊑◌, ◌⊛◌}
+use Rattle.v_frame.specs.Prelude.{LendsFirstPixel, LendsLastPixel, PixelEndsAs, Raster, SecondPixels, pixels_left}
 use Rattle.v_frame.specs.Prelude.{row_major, table_of}
-use Rattle.v_frame.proofs.CallSteps.{asks_that, both_facts, calls, ends, opened_by, tells, told}
-use Rattle.v_frame.proofs.Lending.{begins_walk, lends_walk, plane_back, walk_back}
-use Rattle.v_frame_held.proofs.HeldPixels.{Shows, closes_pixel, ends_of, none_left, none_left_first, opens_pixel, pixel_dropped, took_first, took_last, written}
+use Rattle.v_frame.proofs.CallSteps.{both_facts, ends, opened_by, tells, told}
+use Rattle.v_frame.proofs.Lending.{begins_walk, plane_back}
+use Rattle.v_frame_held.proofs.HeldPixels.{Shows, closes_pixel, draws_pixel, ends_of, none_left, none_left_first, opens_pixel, pixel_dropped, took_first, took_last, written}
 use Rattle.v_frame.proofs.{OptionCases.by_ref, ItemKinds.of_pixels}
 use Rattle.v_frame_plane.proofs.lent.{Loans.share_within, PixelMemory.lowered, PixelsDropped.pixels_dropped}
 use Rattle.v_frame_held.specs.{HeldPixels.with_ends}
@@ -59,30 +59,13 @@ write_ends_spec 𝓤 𝓛 𝓜 𝓡 wired T laws copy clone dict met =
     lands_as ! refl refl typed.0 $ sets ! (of_opd ! (get ! refl)) refl typed.0 $
     -- [what the iterator owns; how the plane ends; the tokens of κ' and κT; its lender; the way back; the three values; the locals]
     let τ = (spot_of 𝓤 𝓛.H En 5).0 in
-    let tells_of : (new : PixelsMut T.Denot) (u : Val) → Is Walking new (u ∷ []) → u ≡ lowered new = λ new u is. ap only (spelled new (u ∷ []) is) in
-    let its : PixelsMut T.Denot → ℕ → ℕ → Bound 𝓛 (walks.next.signature T) = λ old β γ. let κc : Lft = β ∷ κ' in let in_c = meet_⊑_right (β ∷ []) κ' in (
-      (κc, (κ', (κT, tt))),
-      (share_within (Share.left s), (Share.right s, (rT, tt))),
-      (in_c, (⊑_trans κc κ' κT in_c inside, (inside, tt))),
-      (record { ref_ptr = (l 5, 0); ghost_name = γ; now = old }, tt),
-      (vptr (l 5) 0 ∷ [], tt),
-    ) in
-    let back_meets = of_walks.next_back.Met.met 𝓤 𝓛 𝓜 𝓡 (code.calls-v_frame_plane::pixels_mut::PixelsMut::next_back 𝓡.env wired) T laws in
-    let front_meets = of_walks.next.Met.met 𝓤 𝓛 𝓜 𝓡 (code.calls-v_frame_plane::pixels_mut::PixelsMut::next 𝓡.env wired) T laws in
-    let Moves : PixelsMut T.Denot → Option (MutBor T.Denot) → PixelsMut T.Denot → Item 𝓤 =
-    λ old r new. raw (fact 𝓤 (MakesProgress (λ _. ⊤) (item_count pixels_left) old r new)) in
-    let Last : PixelsMut T.Denot → Option (MutBor T.Denot) → PixelsMut T.Denot → List (Item 𝓤) =
-    λ old r new. ‵ (LendsLastPixel item old r new) ∷ raw (fact 𝓤 (YieldsLastMut pixels_left old r new)) ∷ Moves old r new ∷ [] in
-    let First : PixelsMut T.Denot → Option (MutBor T.Denot) → PixelsMut T.Denot → List (Item 𝓤) =
-    λ old r new. ‵ (LendsFirstPixel item old r new) ∷ raw (fact 𝓤 (YieldsFirstMut pixels_left old r new)) ∷ Moves old r new ∷ [] in
+    let last_meets = of_walks.next_back.Met.met 𝓤 𝓛 𝓜 𝓡 (code.calls-v_frame_plane::pixels_mut::PixelsMut::next_back 𝓡.env wired) T laws in
+    let first_meets = of_walks.next.Met.met 𝓤 𝓛 𝓜 𝓡 (code.calls-v_frame_plane::pixels_mut::PixelsMut::next 𝓡.env wired) T laws in
     let some₀ : 2 < length (pixels_left walk) = omega (arith, known.1, ap length begun.all) in
     -- the last pixel
-    sets ! (addr ! (from ! (stop !))) refl (tt, tt) $ take_at ! 5 $ move ! (0 ∷ 1 ∷ 3 ∷ []) $
-    lends_walk ! tt Walking refl τ refl κ' s walk (l 5) 0 (lowered walk) (λ β γ.
-    calls ! (1 ∷ 2 ∷ 6 ∷ 0 ∷ []) run (walks.next_back.ended T) (walks.next_back.clauses T 𝓛 𝓜.mem 𝓡.returns) back_meets (its walk β γ, tt) (asks_that 𝓤 inT) refl
-    (and_then ! (get ! refl) (no_more !)) (λ r ws. Last walk r ws.0) (λ r ws. id⊢ 𝓤 _) (λ v₁ r₁ ws₁. let one = ws₁.0 in
-    move ! (2 ∷ 3 ∷ []) $ heard ! _ (λ steps₁. drop ! $ move ! (2 ∷ 3 ∷ 5 ∷ 6 ∷ 7 ∷ []) $
-    walk_back ! tt Walking refl τ refl κ' s β γ (l 5) 0 one (lowered one) (tells_of one) $ give_at ! 5 $ move ! (2 ∷ []) $
+    sets ! (addr ! (from ! (stop !))) refl (tt, tt) $ take_at ! 5 $ move ! (0 ∷ 1 ∷ 3 ∷ 4 ∷ []) $
+    draws_pixel ! run T laws (LendsLastPixel item) (YieldsLastMut pixels_left) last_meets κ' κT s rT inside inT τ (l 5) walk refl
+    (λ i j m. and_then ! (get ! refl) (no_more !)) (λ v₁ r₁ one steps₁. give_at ! 5 $ move ! (2 ∷ []) $
     by_ref ! (named 1) κ' item r₁ v₁ (λ none out. absurd (omega (arith, some₀, ap length (none_left walk one r₁ none steps₁)))) (λ end is₁ out₁. let last :
     pixels_left walk ≡ pixels_left one ++ end.now ∷ [] = subst (λ r. YieldsLastMut pixels_left walk r one) is₁ steps₁ in
     rewrite ! 3 (λ (r : Option (MutBor T.Denot)). ‵ (LendsLastPixel item walk r one)) is₁ refl $
@@ -92,12 +75,9 @@ write_ends_spec 𝓤 𝓛 𝓜 𝓡 wired T laws copy clone dict met =
     exec ! 𝓣.C 𝓣.Λ En (after 6 function.body) (at_ret En Post) $
     -- [the pixel; the iterator; the token of κ'; how it was drawn; the token of κT; ..]. The first pixel
     let some₁ : 1 < length (pixels_left one) = omega (arith, some₀, ap length last, length-append (pixels_left one) (end.now ∷ [])) in
-    sets ! (addr ! (from ! (stop !))) refl (tt, tt) $ take_at ! 5 $ move ! (0 ∷ 2 ∷ 3 ∷ []) $
-    lends_walk ! tt Walking refl τ refl κ' s one (l 5) 0 (lowered one) (λ β γ.
-    calls ! (1 ∷ 2 ∷ 7 ∷ 0 ∷ []) run (walks.next.ended T) (walks.next.clauses T 𝓛 𝓜.mem 𝓡.returns) front_meets (its one β γ, tt) (asks_that 𝓤 inT) refl
-    (and_then ! (get ! refl) (no_more !)) (λ r ws. First one r ws.0) (λ r ws. id⊢ 𝓤 _) (λ v₂ r₂ ws₂. let two = ws₂.0 in
-    move ! (2 ∷ 3 ∷ []) $ heard ! _ (λ steps₂. drop ! $ move ! (2 ∷ 3 ∷ 5 ∷ 6 ∷ 7 ∷ []) $
-    walk_back ! tt Walking refl τ refl κ' s β γ (l 5) 0 two (lowered two) (tells_of two) $ give_at ! 5 $ move ! (2 ∷ []) $
+    sets ! (addr ! (from ! (stop !))) refl (tt, tt) $ take_at ! 5 $ move ! (0 ∷ 2 ∷ 3 ∷ 5 ∷ []) $
+    draws_pixel ! run T laws (LendsFirstPixel item) (YieldsFirstMut pixels_left) first_meets κ' κT s rT inside inT τ (l 5) one refl
+    (λ i j m. and_then ! (get ! refl) (no_more !)) (λ v₂ r₂ two steps₂. give_at ! 5 $ move ! (2 ∷ []) $
     by_ref ! (named 1) κ' item r₂ v₂ (λ none out. absurd (omega
     (arith, some₁, ap length (none_left_first one two r₂ none steps₂)))) (λ start is₂ out₂. let foremost :
     pixels_left one ≡ start.now ∷ pixels_left two = subst (λ r. YieldsFirstMut pixels_left one r two) is₂ steps₂ in
@@ -108,12 +88,9 @@ write_ends_spec 𝓤 𝓛 𝓜 𝓡 wired T laws copy clone dict met =
     exec ! 𝓣.C 𝓣.Λ En (after 9 function.body) (at_ret En Post) $
     -- the last but one
     let some₂ : 0 < length (pixels_left two) = omega (arith, some₁, ap length foremost) in
-    sets ! (addr ! (from ! (stop !))) refl (tt, tt) $ take_at ! 5 $ move ! (0 ∷ 2 ∷ 3 ∷ []) $
-    lends_walk ! tt Walking refl τ refl κ' s two (l 5) 0 (lowered two) (λ β γ.
-    calls ! (1 ∷ 2 ∷ 7 ∷ 0 ∷ []) run (walks.next_back.ended T) (walks.next_back.clauses T 𝓛 𝓜.mem 𝓡.returns) back_meets (its two β γ, tt) (asks_that 𝓤 inT) refl
-    (and_then ! (get ! refl) (no_more !)) (λ r ws. Last two r ws.0) (λ r ws. id⊢ 𝓤 _) (λ v₃ r₃ ws₃. let three = ws₃.0 in
-    move ! (2 ∷ 3 ∷ []) $ heard ! _ (λ steps₃. drop ! $ move ! (2 ∷ 3 ∷ 5 ∷ 6 ∷ 7 ∷ []) $
-    walk_back ! tt Walking refl τ refl κ' s β γ (l 5) 0 three (lowered three) (tells_of three) $ give_at ! 5 $ move ! (2 ∷ []) $
+    sets ! (addr ! (from ! (stop !))) refl (tt, tt) $ take_at ! 5 $ move ! (0 ∷ 2 ∷ 3 ∷ 5 ∷ []) $
+    draws_pixel ! run T laws (LendsLastPixel item) (YieldsLastMut pixels_left) last_meets κ' κT s rT inside inT τ (l 5) two refl
+    (λ i j m. and_then ! (get ! refl) (no_more !)) (λ v₃ r₃ three steps₃. give_at ! 5 $ move ! (2 ∷ []) $
     by_ref ! (named 1) κ' item r₃ v₃ (λ none out. absurd (omega
     (arith, some₂, ap length (none_left two three r₃ none steps₃)))) (λ before is₃ out₃. let next_to :
     pixels_left two ≡ pixels_left three ++ before.now ∷ [] = subst (λ r. YieldsLastMut pixels_left two r three) is₃ steps₃ in
@@ -157,4 +134,4 @@ write_ends_spec 𝓤 𝓛 𝓜 𝓡 wired T laws copy clone dict met =
     sets ! (of_opd ! (unit_lit !)) refl (tt, tt) $ returns ! (look_at ! 0 refl) $ free_all ! refl $
     nothing ! $ nothing ! $ nothing ! $ feq_i ! (List Val) (vunit ∷ []) (vunit ∷ []) refl $
     ends ! (6 ∷ 4 ∷ 5 ∷ 1 ∷ 2 ∷ 3 ∷ 0 ∷ []) ended stayed c bound vunit tt (new, (tt, (tt, (tt, tt)))) (tt, (tt, (tt, (tt, tt)))) refl $
-    tells ! shows_them.pixels $ told ! shows_them.border))))))))))))))))))
+    tells ! shows_them.pixels $ told ! shows_them.border))))))))))))
