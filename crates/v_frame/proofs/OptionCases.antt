@@ -22,7 +22,8 @@ module _ {M : Type 1} {𝓤 : Ura M} {𝓛 : Logic 𝓤} {K : Type 0} {Γ : List
       → ((x : X.Denot) → r ≡ Some x → v ≡ live 1 (of_list (lowered x ∷ [])) → Is X x (lowered x ∷ []) → Seq K 𝓛 (‵ (X.own_val x (lowered x ∷ [])) ∷ Γ) G)
       → Seq K 𝓛 (‵ ((Opt.the_row X).own_val r (v ∷ [])) ∷ Γ) G
   by_told t X lowered told r v none some = by_option t X r v none (λ x vs is e. peeks t X _ (shows 𝓛 X) x vs (λ at. let same = told x vs at in
-      rewrite t 0 (λ (us : List Val). ‵ (X.own_val x us)) same refl $ some x is (e ∙ ap (λ (us : List Val). live 1 (of_list us)) same) (subst (Is X x) same at)))
+      rewrite t 0 (λ (us : List Val). ‵ (X.own_val x us)) same refl $
+      some x is (e ∙ ap (λ (us : List Val). live 1 (of_list us)) same) (subst (Is X x) same at)))
 
   pub by_ref : K → (ℓ : Lifetime) (κ : Lft) (X : RattleType) (r : Option (MutBor X.Denot)) (v : Val) → (r ≡ None → v ≡ live 0 (of_list []) → Seq K 𝓛 Γ G)
       → ((x : MutBor X.Denot) → r ≡ Some x → v ≡ live 1 (of_list (mut_vals x)) → Seq K 𝓛 (‵ ((MutRef ℓ κ X).own_val x (mut_vals x)) ∷ Γ) G)

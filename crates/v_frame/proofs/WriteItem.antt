@@ -148,7 +148,8 @@ module _ {M : Type 1} {𝓤 : Ura M} (𝓛 : Logic 𝓤) (𝓜 : Model 𝓤 𝓛
         Step (Go {0}) 𝓛 (Γ (relent k κ x)) (runs 𝓣.C 𝓣.Λ En (changes_by (handle k)) q) (Γ []) (runs 𝓣.C 𝓣.Λ En (lends_on k) q)
     lends_item of_pixels κ x ok l self draw v = sets ! (addr ! (through ! refl (stop !))) refl (tt, tt)
     lends_item _ κ x ok l self draw v = step (λ s. sets ! (addr ! (from ! (fld ! refl (hop ! (look_in_at ! 4 (sub ! 0 refl (whole !))) (stop !))))) refl
-        (tt, tt) $ sets ! (agg ! (and_then ! (get ! refl) (and_then ! (get_in ! (fld ! refl (stop !)) (sub ! 1 refl (whole !))) (no_more !)))) refl (tt, ok) $ s)
+        (tt, tt) $
+        sets ! (agg ! (and_then ! (get ! refl) (and_then ! (get_in ! (fld ! refl (stop !)) (sub ! 1 refl (whole !))) (no_more !)))) refl (tt, ok) $ s)
 
     abbrev Written : Kind → Type 2
     Written neither = Unit {2}
@@ -186,8 +187,8 @@ module _ {M : Type 1} {𝓤 : Ura M} (𝓛 : Logic 𝓤) (𝓜 : Model 𝓤 𝓛
         enter ! _ _ _ _ _ $ alloc_all ! (λ l. pass_all ! refl ((tt, tt), ((tt, tt), tt)) $ let En = env function.locals l in
         let Then : ℕ → Exits 𝓤 𝓛.H = λ n. any_q (after_seq 𝓤 𝓛.H (Wp 𝓤 𝓛.H 𝓣.C 𝓣.Λ En (after n function.body) (at_return 𝓤 𝓛.H En Post))
         (at_return 𝓤 𝓛.H En Post)) in
-        -- what is done with the item, once it is drawn: [the item; what is lent; the tokens of κ, κa and κT; how the iterator ends; the token of κd; nothing; the
-        -- draw]
+        -- what is done with the item, once it is drawn: [the item; what is lent; the tokens of κ, κa and κT; how the iterator ends; the token of κd; nothing;
+        -- the draw]
         let Drawn : Val → Option (MutBor (Entry T k)) → Walk T k → List (Item 𝓤) = λ v r new. ‵ (Gives.own_val r (v ∷ [])) ∷
         ‵ (Lends T k d.side h r new) ∷ ‵ (flft κ q) ∷ ‵ (flft κa qa) ∷ ‵ (flft κT qT) ∷ Rest new ∷ ‵ (flft κd qd) ∷ ‵ ftrue ∷
         ‵ (Read.own_val draw (shr_vals draw)) ∷

@@ -98,7 +98,8 @@ module _ {M : Type 1} {𝓤 : Ura M} (𝓛 : Logic 𝓤) (𝓜 : Model 𝓤 𝓛
       body =
           seq (assign (place 7 []) (addr_of (place 1 (deref whole_plane ∷ [])))) (seq (call opening (copy (place 7 []) ∷ []) (place 6 []))
           (seq (assign (place 3 []) (rv_opd (copy (place 6 [])))) (seq (block (seq (assign (place 4 []) (rv_opd (int w64 0)))
-          (seq (assign (place 8 []) (rv_opd (copy (place 2 (field 1 ∷ []))))) (block (loop (turn k)))))) (seq (assign (place 0 []) (rv_opd opd_unit)) return))));
+          (seq (assign (place 8 []) (rv_opd (copy (place 2 (field 1 ∷ []))))) (block (loop (turn k))))))
+          (seq (assign (place 0 []) (rv_opd opd_unit)) return))));
       locals =
           local ty_unit value_local ∷ local (ty_ref (named 0) mut kept) value_local ∷ local (slice_ty (ty_ref (named 1) imm drawing)) value_local ∷
           local (bare T k) memory_slot ∷ number ∷ local (ty_ref erased imm drawing) value_local ∷ local (bare T k) value_local ∷
@@ -137,10 +138,11 @@ module _ {M : Type 1} {𝓤 : Ura M} (𝓛 : Logic 𝓤) (𝓜 : Model 𝓤 𝓛
         let Each : Fml = fhide (elements_shared Read draws bd od κd) in
         opened 𝓛 En₀.signature κs qs a (mut_vals plane, (shr_slice_vals a.1.0, tt)) (κT ⊑ T.lives) (λ inT.
         -- [the tokens of κ, κd and κT; the plane; the draws]
-        move ! (4 ∷ []) $ fsplit ! $ drop ! $ enter ! _ _ _ _ _ $ alloc_all ! (λ l. pass_all ! refl ((tt, tt), ((tt, (tt, (record { fits = n_fits }, tt))), tt)) $
-        let En = env function.locals l in
-        sets ! (addr ! (through ! refl (stop !))) refl (tt, tt) $ move ! (4 ∷ 1 ∷ 3 ∷ []) $ begins_walk 𝓛 𝓜 𝓡 T laws k _ _ _ _ _ _ _ _ ! opened_by (named 0) κ κT q qT plane inT
-        (λ i j m. and_then ! (get ! refl) (no_more !)) (λ α δ w begun typed. let κw = α ∷ κT in let qw = share_within (Share.left qT) in
+        move ! (4 ∷ []) $ fsplit ! $ drop ! $ enter ! _ _ _ _ _ $ alloc_all ! (λ l.
+        pass_all ! refl ((tt, tt), ((tt, (tt, (record { fits = n_fits }, tt))), tt)) $ let En = env function.locals l in
+        sets ! (addr ! (through ! refl (stop !))) refl (tt, tt) $ move ! (4 ∷ 1 ∷ 3 ∷ []) $
+        begins_walk 𝓛 𝓜 𝓡 T laws k _ _ _ _ _ _ _ _ ! opened_by (named 0) κ κT q qT plane inT (λ i j m.
+        and_then ! (get ! refl) (no_more !)) (λ α δ w begun typed. let κw = α ∷ κT in let qw = share_within (Share.left qT) in
         let rT = Share.right qT in let inT' = meet_⊑_right (α ∷ []) κT in let loan = record plane { ghost_name = δ } in
         let ℓ : NamedLft = record { mir = named 0; lft = κw } in let Walking = walk_row k ℓ item in let low = (lowers 𝓛 𝓜 𝓡 T laws k ℓ).lowered in
         let spelled = (lowers 𝓛 𝓜 𝓡 T laws k ℓ).val_is in

@@ -3,7 +3,8 @@
 --     took_first, took_last     a call, and what the pixel and the iterator left end as.        pixel_dropped     a pixel that is dropped ends as it is
 --     written     a plane under an iterator with which no draw was made ends with the final values as its pixels
 --     opens_pixel, closes_pixel     a pixel is there to be written, and is held again.
-use Rattle.v_frame_plane.proofs.lent.Steps.{Clauses, Laws, NamedLft, Seq, ⊤, MakesProgress, item_count, ap, heard, id⊢, named, only, param_laws, vptr, ◌⊑◌, ⊑_trans}
+use Rattle.v_frame_plane.proofs.lent.Steps.{Clauses, Laws, NamedLft, Seq, ⊤, MakesProgress, item_count, ap, heard, id⊢, named, only, param_laws, vptr}
+use Rattle.v_frame_plane.proofs.lent.Steps.{◌⊑◌, ⊑_trans}
 use base.Share
 use base.Fml.{Fml}
 use Rattle.std.specs.contracts.option.Option.{the_row as option_row}

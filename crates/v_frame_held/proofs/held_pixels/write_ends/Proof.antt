@@ -12,7 +12,8 @@ use Rattle.v_frame.specs.Prelude.{LendsFirstPixel, LendsLastPixel, PixelEndsAs, 
 use Rattle.v_frame.specs.Prelude.{row_major, table_of}
 use Rattle.v_frame.proofs.CallSteps.{both_facts, ends, opened_by, tells, told}
 use Rattle.v_frame.proofs.Lending.{begins_walk, plane_back}
-use Rattle.v_frame_held.proofs.HeldPixels.{Shows, closes_pixel, draws_pixel, ends_of, none_left, none_left_first, opens_pixel, pixel_dropped, took_first, took_last, written}
+use Rattle.v_frame_held.proofs.HeldPixels.{Shows, closes_pixel, draws_pixel, ends_of, none_left, none_left_first, opens_pixel, pixel_dropped, took_first}
+use Rattle.v_frame_held.proofs.HeldPixels.{took_last, written}
 use Rattle.v_frame.proofs.{OptionCases.by_ref, ItemKinds.of_pixels}
 use Rattle.v_frame_plane.proofs.lent.{Loans.share_within, PixelMemory.lowered, PixelsDropped.pixels_dropped}
 use Rattle.v_frame_held.specs.{HeldPixels.with_ends}
