@@ -3,48 +3,40 @@
 --     took_first, took_last     a call, and what the pixel and the iterator left end as.        pixel_dropped     a pixel that is dropped ends as it is
 --     written     a plane under an iterator with which no draw was made ends with the final values as its pixels
 --     opens_pixel, closes_pixel     a pixel is there to be written, and is held again.
-use Rattle.v_frame_plane.proofs.lent.Steps.{Clauses, Laws, NamedLft, Seq, ⊤, MakesProgress, item_count, ap, heard, id⊢, named, only, param_laws, vptr}
-use Rattle.v_frame_plane.proofs.lent.Steps.{◌⊑◌, ⊑_trans}
-use base.Share
-use base.Fml.{Fml}
-use Rattle.std.specs.contracts.option.Option.{the_row as option_row}
+use Rattle.v_frame_plane.proofs.lent.Steps.{Clauses, Laws, NamedLft, Seq, ⊤, MakesProgress, item_count, ap, heard, id⊢, named, only, param_laws, vptr, ◌⊑◌}
+use Rattle.v_frame_plane.proofs.lent.Steps.{⊑_trans, ℕ, ◌≡◌, ◌-◌, List, [], ◌∷◌, ◌++◌, length, list_drop, take, Option, None, MutBor, refl, sym, ap, ◌∙◌, arith}
+use Rattle.v_frame_plane.proofs.lent.Steps.{Lft, Share, fat, fauth, flft, fobor, fobs, full_share, SProp, ent, sep, fact, fact_i, emp, Array, shows, mem}
+use Rattle.v_frame_plane.proofs.lent.Steps.{RattleType, MutRef, YieldsFirstMut, YieldsLastMut, mut_vals, peeks, opens, closes, Val, Ura, Goal, Item, Soaks}
+use Rattle.v_frame_plane.proofs.lent.Steps.{Step, step, ‵, raw, ◌$◌, ◌∵◌, !, qed, done, drop, feq_i, fjoin3, fpick, fsplit3, frame, keep, move, rewrite, use0}
+use Rattle.v_frame_plane.proofs.lent.Steps.{use1, use2, Logic, sem, Body}
+use base.Fml.{Fml, fres}
 use contract.BorrowLft.{meet_⊑_right}
-use denote.Memory.{lone}
+use denote.Memory.{lone, cell_at}
 use denote.Triple.Clauses.{closing}
 use denote.Triple.Spec.{Meets}
 use mir.Raw.{raw as raw_ty}
-use mir.Syntax.{Body as Code, Callee, Opd as Operand, Place, Ty, call, seq}
+use mir.Syntax.{Body as Code, Callee, Opd as Operand, Place, Ty, call, seq, Lifetime}
 use prog.Wp.{Calls, Env, Loops}
 use sound.WpLaws.{FmC}
-use types.Kit.{Post, lands, runs}
+use types.Kit.{Post, lands, runs, show}
 use types.Run.{Opds}
-use Rattle.v_frame_plane.specs.contracts.pixels_mut.PixelsMut as walks
-use Rattle.v_frame_plane.proofs.lent.{Loans.share_within, PixelMemory.lowered}
-use Rattle.v_frame_plane.proofs.pixels_mut.PixelsMut.TheLaws.{lowers}
-use Rattle.v_frame.proofs.CallSteps.{asks_that, calls}
-use Rattle.v_frame.proofs.Lending.{lends_walk, walk_back}
-use Rattle.v_frame_plane.proofs.lent.Steps.{ℕ, ◌≡◌, ◌-◌, List, [], ◌∷◌, ◌++◌, length, list_drop, take, Option, None, MutBor, refl, sym, ap, ◌∙◌, arith, Lft}
-use Rattle.v_frame_plane.proofs.lent.Steps.{Share, fat, fauth, flft, fobor, fobs, full_share, SProp, ent, sep, fact, fact_i, emp, Array, shows, mem, RattleType}
-use Rattle.v_frame_plane.proofs.lent.Steps.{MutRef, YieldsFirstMut, YieldsLastMut, mut_vals, peeks, opens, closes, Val, Ura, Goal, Item, Soaks, Step, step, ‵}
-use Rattle.v_frame_plane.proofs.lent.Steps.{raw, ◌$◌, ◌∵◌, !, qed, done, drop, feq_i, fjoin3, fpick, fsplit3, frame, keep, move, rewrite, use0, use1, use2}
-use Rattle.v_frame_plane.proofs.lent.Steps.{Logic}
-use Rattle.v_frame_plane.proofs.lent.Steps.{sem, Body}
 use Rattle.std.proofs.Common.{map, append-nil, append_assoc, length-append, subst, take_at}
-use Rattle.std.proofs.lemmas.List.{nil_from_length}
-use base.Fml.{fres}
 use base.Logic.{ex}
-use denote.Memory.{cell_at}
 use base.Stored.{Gv}
 use denote.Follow.{follows, followed}
 use denote.Param.{layout, param}
 use denote.Param.Laws.{IsCopy}
-use mir.Syntax.{Lifetime}
-use types.Kit.{show}
 use Rattle.v_frame.specs.Prelude.{BeginsOver, KeepsBorder, PixelEndsAs, PixelsMut, Raster, SecondPixels, TakesFirstPixel, TakesLastPixel, entries_with}
 use Rattle.v_frame.specs.Prelude.{pixels_left, row_major, table_of, with_entries}
-use Rattle.v_frame_plane.specs.contracts.plane.Plane.{the_row}
-use Rattle.v_frame_plane.proofs.lent.Loans.{at_one}
-use Rattle.v_frame_held.specs.HeldPixels.{with_ends}
+use Rattle.std.specs.{contracts.option.Option.the_row as option_row}
+use Rattle.v_frame_plane.proofs.{lent.Loans.share_within, lent.PixelMemory.lowered, pixels_mut.PixelsMut.TheLaws.lowers}
+use Rattle.v_frame.proofs.{CallSteps.asks_that, CallSteps.calls, Lending.lends_walk, Lending.walk_back}
+use Rattle.std.proofs.{lemmas.List.nil_from_length}
+use Rattle.v_frame_plane.specs.{contracts.plane.Plane.the_row}
+use Rattle.v_frame_plane.proofs.lent.{Loans.at_one}
+use Rattle.v_frame_held.specs.{HeldPixels.with_ends}
+use base.Share
+use Rattle.v_frame_plane.specs.contracts.pixels_mut.PixelsMut as walks
 
 -- three calls, from the back, the front and the back, take the last, the first and the last but one
 pub ends_of : {X : Type 0} (pixels one two three : List X) (a b c x y z : X) → pixels ≡ one ++ c ∷ [] → one ≡ a ∷ two → two ≡ three ++ b ∷ []

@@ -4,11 +4,10 @@
 use Rattle.v_frame_plane.proofs.lent.Steps.{ℕ, ◌≡◌, ◌-◌, List, [], ◌∷◌, ◌++◌, length, MutBor, refl, sym, ap, ◌∙◌, arith, SProp, all, all_e, apply∗, ent, sep}
 use Rattle.v_frame_plane.proofs.lent.Steps.{wand, RattleType, Ura, ‵, raw, ◌$◌, ◌∵◌, !, qed, done, move, use1, use2, Logic, sem}
 use Rattle.std.proofs.Common.{suc, zero, ◌+◌, ◌<◌, All, drop, map, get_or, replicate, slice_set, length-append}
-use Rattle.std.proofs.Math.Seq.{get_or-append_seam}
-use Rattle.std.proofs.lemmas.List.{map-append}
 use Rattle.v_frame.specs.Prelude.{EndsAs, KeepsRows, RowsMut, SecondRows, TakesLastRow, rows_left}
-use Rattle.v_frame_plane.proofs.tables.Lists.{slice_set-at}
-use Rattle.v_frame_plane.proofs.lent.Loans.{at_one}
+use Rattle.std.proofs.{Math.Seq.get_or-append_seam, lemmas.List.map-append}
+use Rattle.v_frame_plane.proofs.{tables.Lists.slice_set-at}
+use Rattle.v_frame_plane.proofs.lent.{Loans.at_one}
 
 pub filled_more : {X : Type 0} (row : List X) (i : ℕ) (x : X) → i < length row → slice_set (replicate i x ++ drop i row) i x ≡ replicate (i + 1) x ++
     drop (i + 1) row
