@@ -11,10 +11,10 @@ use v_frame::plane::{CopyError, PlaneGeometry};
 use v_frame::replay::Answer;
 use v_frame_planar::Counted;
 use v_frame_uses::answers::first_answers;
-use v_frame_uses::raw_bytes::{through_a_plane, without_tails};
 use v_frame_uses::frames::{built_chroma_size, reason_not_to_build};
 use v_frame_uses::pictures::brighten;
 use v_frame_uses::planes::{copy_with_plane, plane_of_places};
+use v_frame_uses::raw_bytes::{through_a_plane, without_tails};
 use v_frame_uses::start::{fill_row, first_frame, row_with};
 use v_frame_uses::streams::{brighten_frames, copy_frames, through_memory};
 

@@ -1,6 +1,6 @@
 //! Buffers of bytes whose entries are numbered, so that each entry of a border has a value of its own.
 
-use crate::tests::support::frames::{BORDERED, Layout};
+use crate::tests::support::frames::Layout;
 use std::alloc::Global;
 use std::process::Abort;
 use v_frame::plane::Plane;
@@ -59,11 +59,4 @@ pub const fn bordered_buffer(pixels: [u8; 6]) -> [u8; 18] {
     [
         100, 101, 102, 103, 104, 105, 106, a, b, c, 110, 111, 112, d, e, f, 116, 117,
     ]
-}
-
-#[test]
-fn an_expected_buffer_is_numbered_around_its_pixels(rt: HostRuntime) {
-    let pixels: [u8; 6] = [1, 2, 3, 4, 5, 6];
-    let buffer = expected_buffer(&rt, rt.alloc(), BORDERED, &pixels);
-    assert!(rt; buffer.as_slice() == bordered_buffer(pixels).as_slice());
 }
