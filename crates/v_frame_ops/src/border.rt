@@ -4,7 +4,7 @@ ghost use Rattle.v_frame.specs.Prelude.{IsWhole, pixel_at, raster, stride_of, al
 ghost use Rattle.v_frame_ops.specs.Border.{nearest, IsPadded};
 
 use crate::laws::{tables_agree_by_pixels, whole_rows_hold_pixels};
-use v_frame::pixel::{Pixel, fill_row};
+use v_frame::pixel::Pixel;
 use v_frame::plane::{Plane, PlaneGeometry, split_row_mut, visible_rows_mut};
 
 /// Makes each pixel of the border the visible pixel nearest to it. What the plane shows stays.
@@ -33,7 +33,7 @@ fn pad_pixels<T: Pixel>(plane: &mut Plane<T>)
 }
 
 /// Does the same to a whole buffer.
-fn pad_buffer<T: Pixel>(buffer: &mut [T], geometry: PlaneGeometry)
+fn pad_buffer<T: Copy>(buffer: &mut [T], geometry: PlaneGeometry)
     requires { IsWhole geometry buffer.old }
     ensures padded { (x y : ℕ) → x < stride_of geometry → y < alloc_height_of geometry
         → pixel_at (whole_rows (raster geometry buffer.new)) x y
@@ -49,7 +49,7 @@ fn pad_buffer<T: Pixel>(buffer: &mut [T], geometry: PlaneGeometry)
 }
 
 /// Extends the rows of the picture to both sides, and then repeats the first one above and the last one below.
-fn extend_picture<T: Pixel>(buffer: &mut [T], geometry: PlaneGeometry)
+fn extend_picture<T: Copy>(buffer: &mut [T], geometry: PlaneGeometry)
     requires { IsWhole geometry buffer.old }
     ensures { (x y : ℕ) → x < stride_of geometry → y < alloc_height_of geometry
         → pixel_at (whole_rows (raster geometry buffer.new)) x y
@@ -71,7 +71,7 @@ fn extend_picture<T: Pixel>(buffer: &mut [T], geometry: PlaneGeometry)
 }
 
 /// Extends each row from `top` on and above `bottom` to both sides, from the `width` pixels that begin at column `left`.
-fn extend_rows<T: Pixel>(
+fn extend_rows<T: Copy>(
     buffer: &mut [T],
     whole: PlaneGeometry,
     top: usize,
@@ -93,7 +93,7 @@ fn extend_rows<T: Pixel>(
 }
 
 /// Extends row `y` to both sides.
-fn extend_row_at<T: Pixel>(
+fn extend_row_at<T: Copy>(
     buffer: &mut [T],
     whole: PlaneGeometry,
     y: usize,
@@ -114,7 +114,7 @@ fn extend_row_at<T: Pixel>(
 }
 
 /// Makes each pixel of a row the one nearest to it of the `width` pixels that begin at column `left`.
-fn extend_row<T: Pixel>(row: &mut [T], left: usize, width: usize)
+fn extend_row<T: Copy>(row: &mut [T], left: usize, width: usize)
     requires some { 0 < width }
     requires wide { left + width ≤ length row.old }
     ensures { (x : ℕ) → x < length row.old
@@ -127,7 +127,7 @@ fn extend_row<T: Pixel>(row: &mut [T], left: usize, width: usize)
 }
 
 /// Fills the pixels of a row from one column up to another.
-fn fill_part<T: Pixel>(row: &mut [T], start: usize, end: usize, pixel: T)
+fn fill_part<T: Copy>(row: &mut [T], start: usize, end: usize, pixel: T)
     requires order { start ≤ end }
     requires within { end ≤ length row.old }
     ensures before { (x : ℕ) → x < start → slice_get row.new x ≡ slice_get row.old x }
@@ -135,7 +135,9 @@ fn fill_part<T: Pixel>(row: &mut [T], start: usize, end: usize, pixel: T)
     ensures behind { (x : ℕ) → end ≤ x → slice_get row.new x ≡ slice_get row.old x }
 {
     if end - start < 16 {
-        fill_row(&mut row[start..end], pixel);
+        for x in start..end {
+            row[x] = pixel;
+        }
     } else {
         fill_blocks(row, start, end, pixel);
     }
@@ -143,7 +145,7 @@ fn fill_part<T: Pixel>(row: &mut [T], start: usize, end: usize, pixel: T)
 
 /// Does the same by blocks of 16 pixels. A border is a block or two wide, and a loop that may end at each pixel takes longer
 /// to begin and to end than to write. The last block may reach back into the one before it.
-fn fill_blocks<T: Pixel>(row: &mut [T], start: usize, end: usize, pixel: T)
+fn fill_blocks<T: Copy>(row: &mut [T], start: usize, end: usize, pixel: T)
     requires order { start + 16 ≤ end }
     requires within { end ≤ length row.old }
     ensures before { (x : ℕ) → x < start → slice_get row.new x ≡ slice_get row.old x }
@@ -157,7 +159,7 @@ fn fill_blocks<T: Pixel>(row: &mut [T], start: usize, end: usize, pixel: T)
 }
 
 /// Fills the 16 pixels of a row from a column on.
-fn fill_block<T: Pixel>(row: &mut [T], start: usize, pixel: T)
+fn fill_block<T: Copy>(row: &mut [T], start: usize, pixel: T)
     requires { start + 16 ≤ length row.old }
     ensures before { (x : ℕ) → x < start → slice_get row.new x ≡ slice_get row.old x }
     ensures inside { (x : ℕ) → start ≤ x → x < start + 16 → slice_get row.new x ≡ Some pixel }
@@ -168,7 +170,7 @@ fn fill_block<T: Pixel>(row: &mut [T], start: usize, pixel: T)
 }
 
 /// Fills 16 pixels.
-fn fill_sixteen<T: Pixel>(pixels: &mut [T], pixel: T)
+fn fill_sixteen<T: Copy>(pixels: &mut [T], pixel: T)
     requires { length pixels.old ≡ 16 }
     ensures { pixels.new ≡ replicate (length pixels.old) pixel }
 {
@@ -176,7 +178,7 @@ fn fill_sixteen<T: Pixel>(pixels: &mut [T], pixel: T)
 }
 
 /// Makes each row the one nearest to it of the `height` rows that begin with row `top`.
-fn repeat_rows<T: Pixel>(buffer: &mut [T], whole: PlaneGeometry, top: usize, height: usize)
+fn repeat_rows<T: Copy>(buffer: &mut [T], whole: PlaneGeometry, top: usize, height: usize)
     requires whole { IsWhole whole buffer.old }
     requires some { 0 < height }
     requires high { top + height ≤ whole.height }
@@ -188,7 +190,7 @@ fn repeat_rows<T: Pixel>(buffer: &mut [T], whole: PlaneGeometry, top: usize, hei
 }
 
 /// Copies the row `from` into each row above it.
-fn repeat_row_up<T: Pixel>(buffer: &mut [T], whole: PlaneGeometry, from: usize)
+fn repeat_row_up<T: Copy>(buffer: &mut [T], whole: PlaneGeometry, from: usize)
     requires whole { IsWhole whole buffer.old }
     requires high { from < whole.height }
     ensures above { (y : ℕ) → y < from → slice_get (table_of (raster whole buffer.new)) y
@@ -203,7 +205,7 @@ fn repeat_row_up<T: Pixel>(buffer: &mut [T], whole: PlaneGeometry, from: usize)
 }
 
 /// Copies the last row above `end` into each row from there on.
-fn repeat_row_down<T: Pixel>(buffer: &mut [T], whole: PlaneGeometry, end: usize)
+fn repeat_row_down<T: Copy>(buffer: &mut [T], whole: PlaneGeometry, end: usize)
     requires whole { IsWhole whole buffer.old }
     requires some { 0 < end }
     requires high { end ≤ whole.height }

@@ -85,7 +85,7 @@ fn map_rows<T: Pixel, F: Fn(T) -> T>(plane: &mut Plane<T>, change: &F)
 }
 
 /// Makes each pixel of a row a result of `change` at it.
-fn map_row<T: Pixel, F: Fn(T) -> T>(row: &mut [T], change: &F)
+fn map_row<T: Copy, F: Fn(T) -> T>(row: &mut [T], change: &F)
     requires { F.IsAlwaysCallable change.now }
     ensures { MapsItems (F.post change.now) row.old row.new }
 {
@@ -135,7 +135,7 @@ fn combine_row_at<T: Pixel, F: Fn(T, T) -> T>(
 }
 
 /// Makes each pixel of a row a result of `combine` at it and at the pixel of the same index in the other row.
-fn combine_row<T: Pixel, F: Fn(T, T) -> T>(row: &mut [T], other: &[T], combine: &F)
+fn combine_row<T: Copy, F: Fn(T, T) -> T>(row: &mut [T], other: &[T], combine: &F)
     requires callable { F.IsAlwaysCallable combine.now }
     requires wide { length other.now ≡ length row.old }
     ensures { CombinesItems (F.post combine.now) row.old other.now row.new }
@@ -161,7 +161,7 @@ fn write_row_part<T: Pixel>(plane: &mut Plane<T>, x: usize, y: usize, pixels: &[
 }
 
 /// Writes pixels into a row, from column `x` on.
-fn put_pixels<T: Pixel>(row: &mut [T], x: usize, pixels: &[T])
+fn put_pixels<T: Copy>(row: &mut [T], x: usize, pixels: &[T])
     requires { x + length pixels.now ≤ length row.old }
     ensures inside { (k : ℕ) → k < length pixels.now
         → slice_get row.new (x + k) ≡ slice_get pixels.now k }
