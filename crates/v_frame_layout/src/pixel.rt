@@ -293,12 +293,13 @@ impl Pixel for u16 {
 
 /// Fills a row, or any slice, with one pixel.
 ///
-/// A proof for any pixel type knows of `fill` that it writes clones. This function is beside the law that a clone of a pixel is
-/// that pixel, so callers need not prove it again. Our own.
-pub fn fill_row<T: Pixel>(row: &mut [T], pixel: T)
+/// A proof for any pixel type knows of `fill` that it writes clones, and not that a clone of a pixel is that pixel. Our own.
+pub fn fill_row<T: Copy>(row: &mut [T], pixel: T)
     ensures { row.new ≡ replicate (length row.old) pixel }
 {
-    row.fill(pixel);
+    for x in 0..row.len() {
+        row[x] = pixel;
+    }
 }
 
 /// The pixels of the first 32 bytes.

@@ -4,7 +4,7 @@ ghost use Rattle.v_frame.specs.Prelude.{IsWhole, pixel_at, raster, stride_of, al
 ghost use Rattle.v_frame_ops.specs.Border.{nearest, IsPadded};
 
 use crate::laws::{tables_agree_by_pixels, whole_rows_hold_pixels};
-use v_frame::pixel::Pixel;
+use v_frame::pixel::{Pixel, fill_row};
 use v_frame::plane::{Plane, PlaneGeometry, split_row_mut, visible_rows_mut};
 
 /// Makes each pixel of the border the visible pixel nearest to it. What the plane shows stays.
@@ -135,9 +135,7 @@ fn fill_part<T: Copy>(row: &mut [T], start: usize, end: usize, pixel: T)
     ensures behind { (x : ℕ) → end ≤ x → slice_get row.new x ≡ slice_get row.old x }
 {
     if end - start < 16 {
-        for x in start..end {
-            row[x] = pixel;
-        }
+        fill_row(&mut row[start..end], pixel);
     } else {
         fill_blocks(row, start, end, pixel);
     }
