@@ -18,7 +18,7 @@ use std::alloc::{AllocError, Global};
 use std::mem;
 
 /// Replaces a pixel of the visible rectangle.
-pub(crate) fn replay_pixel_mut<T: Pixel>(
+pub(crate) fn replay_pixel_mut<T: Copy>(
     plane: &mut Plane<T>,
     x: usize,
     y: usize,

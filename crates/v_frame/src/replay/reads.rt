@@ -12,7 +12,7 @@ use crate::plane::Plane;
 use std::alloc::{AllocError, Global};
 
 /// The row, copied.
-pub(crate) fn row_shown<T: Pixel>(
+pub(crate) fn row_shown<T: Copy>(
     alloc: Global,
     plane: &Plane<T>,
     y: usize,

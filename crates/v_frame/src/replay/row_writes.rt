@@ -12,12 +12,11 @@ use super::answer::Answer;
 use super::draw::{Draw, RowDraw, Side};
 use super::reads::row_shown;
 use super::walk::walk_answer;
-use crate::pixel::Pixel;
 use crate::plane::{Plane, RowsMut};
 use std::alloc::{AllocError, Global};
 
 /// Overwrites a row, once there is room for what it was.
-pub(crate) fn replay_row_mut<T: Pixel>(
+pub(crate) fn replay_row_mut<T: Copy>(
     alloc: Global,
     plane: &mut Plane<T>,
     y: usize,
@@ -55,7 +54,7 @@ fn overwrite<T: Copy>(row: &mut [T], writes: &[Option<T>])
 }
 
 /// Overwrites the rows that `draws` take, once there is room for what they were.
-pub(crate) fn replay_rows_mut<T: Pixel>(
+pub(crate) fn replay_rows_mut<T: Copy>(
     alloc: Global,
     plane: &mut Plane<T>,
     draws: &[RowDraw<T>],

@@ -43,7 +43,7 @@ pub(crate) trait Walk {
         ensures { result ≡ answer_of total drawn };
 }
 
-impl<'a, T: Pixel> Walk for Rows<'a, T> {
+impl<'a, T: Copy> Walk for Rows<'a, T> {
     type Item = Sequence<T>;
 
     type Pixel = T;
@@ -74,7 +74,7 @@ impl<'a, T: Pixel> Walk for Rows<'a, T> {
     }
 }
 
-impl<'a, T: Pixel> Walk for Pixels<'a, T> {
+impl<'a, T: Copy> Walk for Pixels<'a, T> {
     type Item = T;
 
     type Pixel = T;
