@@ -3,7 +3,6 @@
 mod builds;
 mod clones;
 mod debugs;
-mod each_padding;
 mod formats;
 mod refusals;
 mod threads;

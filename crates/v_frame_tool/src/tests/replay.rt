@@ -1,12 +1,10 @@
 //! Replays: lists of calls, and what they answer and leave.
 
-mod border_entries;
 mod borders;
-mod byte_iterators;
 mod calls;
 mod debugs;
-mod extremes;
-mod iterators;
+mod iterations;
 mod laws;
+mod planes;
 mod refusals;
-mod writing_iterators;
+mod words;

@@ -10,12 +10,6 @@ const NINE: &str = "Frame { y_plane: Plane { data: [0, 1, 2, 3, 4, ..], geometry
      pad_left: 0, pad_right: 0, pad_top: 0, pad_bottom: 0, subsampling_x: 1, subsampling_y: 1 } }, \
      u_plane: None, v_plane: None, subsampling: Monochrome, bit_depth: 8 }";
 
-#[test]
-fn a_monochrome_frame_shows_no_chroma(rt: HostRuntime) {
-    let frame = nine(&rt, rt.alloc());
-    assert!(rt; shows(&rt, rt.alloc(), &frame, NINE));
-}
-
 /// The text of a frame of two pixels in one row, whose chroma planes have one pixel.
 const HALVED: &str =
     "Frame { y_plane: Plane { data: [0, 0], geometry: PlaneGeometry { width: 2, height: 1, stride: 2, \
@@ -28,6 +22,8 @@ const HALVED: &str =
 
 #[test]
 fn chroma_planes_show_as_options(rt: HostRuntime) {
+    let frame = nine(&rt, rt.alloc());
+    assert!(rt; shows(&rt, rt.alloc(), &frame, NINE));
     let builder = padded((2, 1), ChromaSubsampling::Yuv422, 8, [0, 0, 0, 0]);
     let frame = builder.build::<u8>(rt.alloc()).expect(&rt, "a frame");
     assert!(rt; shows(&rt, rt.alloc(), &frame, HALVED));

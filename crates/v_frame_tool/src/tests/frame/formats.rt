@@ -1,51 +1,55 @@
 //! Ratios of the five formats, and the sizes that they give chroma planes.
 
-use v_frame::chroma::ChromaSubsampling::{Monochrome, Yuv411, Yuv420, Yuv422, Yuv444};
+use v_frame::chroma::ChromaSubsampling::{self, Monochrome, Yuv411, Yuv420, Yuv422, Yuv444};
+
+/// The formats, and the ratios of their chroma.
+static RATIOS: [(ChromaSubsampling, Option<(u8, u8)>); 5] = [
+    (Yuv420, Some((2, 2))),
+    (Yuv422, Some((2, 1))),
+    (Yuv411, Some((4, 1))),
+    (Yuv444, Some((1, 1))),
+    (Monochrome, None),
+];
 
 #[test]
 fn ratios_of_the_formats(rt: HostRuntime) {
-    let cases = [
-        (Yuv420, Some((2, 2))),
-        (Yuv422, Some((2, 1))),
-        (Yuv411, Some((4, 1))),
-        (Yuv444, Some((1, 1))),
-        (Monochrome, None),
-    ];
-    for (format, ratio) in cases {
-        let found = format.subsample_ratio().map(|(x, y)| (x.get(), y.get()));
-        assert_eq!(rt; found, ratio, "{format:?}");
-        assert_eq!(rt; format.has_chroma(), ratio.is_some(), "{format:?}");
+    for (format, ratio) in &RATIOS {
+        let found = match format.subsample_ratio() {
+            Some((x, y)) => Some((x.get(), y.get())),
+            None => None,
+        };
+        let told = (found, format.has_chroma());
+        assert!(rt; told == (*ratio, ratio.is_some()), "{format:?}");
     }
 }
 
+/// Formats, sizes of luma, and sizes of chroma.
+static SIZES: [(ChromaSubsampling, (usize, usize), Option<(usize, usize)>); 19] = [
+    (Yuv420, (1920, 1080), Some((960, 540))),
+    (Yuv422, (1920, 1080), Some((960, 1080))),
+    (Yuv411, (1920, 1080), Some((480, 1080))),
+    (Yuv444, (1920, 1080), Some((1920, 1080))),
+    (Monochrome, (1920, 1080), None),
+    (Yuv420, (3840, 2160), Some((1920, 1080))),
+    (Yuv422, (3840, 2160), Some((1920, 2160))),
+    (Yuv444, (3840, 2160), Some((3840, 2160))),
+    (Yuv420, (1921, 1080), None),
+    (Yuv420, (1920, 1081), None),
+    (Yuv420, (1921, 1081), None),
+    (Yuv420, (2, 2), Some((1, 1))),
+    (Yuv444, (1, 1), Some((1, 1))),
+    (Yuv420, (0, 0), Some((0, 0))),
+    (Yuv422, (2, 1), Some((1, 1))),
+    (Yuv422, (1921, 1080), None),
+    (Yuv411, (8, 3), Some((2, 3))),
+    (Yuv411, (6, 2), None),
+    (Yuv411, (usize::MAX, 2), None),
+];
+
 #[test]
 fn sizes_under_each_format(rt: HostRuntime) {
-    let cases = [
-        (Yuv420, (1920, 1080), Some((960, 540))),
-        (Yuv422, (1920, 1080), Some((960, 1080))),
-        (Yuv411, (1920, 1080), Some((480, 1080))),
-        (Yuv444, (1920, 1080), Some((1920, 1080))),
-        (Monochrome, (1920, 1080), None),
-        (Yuv420, (3840, 2160), Some((1920, 1080))),
-        (Yuv422, (3840, 2160), Some((1920, 2160))),
-        (Yuv444, (3840, 2160), Some((3840, 2160))),
-        (Yuv420, (1921, 1080), None),
-        (Yuv420, (1920, 1081), None),
-        (Yuv420, (1921, 1081), None),
-        (Yuv420, (2, 2), Some((1, 1))),
-        (Yuv444, (1, 1), Some((1, 1))),
-        (Yuv420, (0, 0), Some((0, 0))),
-        (Yuv422, (2, 1), Some((1, 1))),
-        (Yuv422, (1921, 1080), None),
-        (Yuv411, (8, 3), Some((2, 3))),
-        (Yuv411, (6, 2), None),
-        (Yuv411, (usize::MAX, 2), None),
-    ];
-    for (format, (width, height), chroma) in cases {
-        assert_eq!(rt;
-            format.chroma_dimensions(width, height),
-            chroma,
-            "{format:?}"
-        );
+    for (format, (width, height), chroma) in &SIZES {
+        let found = format.chroma_dimensions(*width, *height);
+        assert!(rt; found == *chroma, "{format:?} {width} by {height}");
     }
 }

@@ -4,53 +4,81 @@
 //! `N` refused: then the test takes the branch of the refusal and passes.
 
 use crate::tests::support::frames::{padded, refusal};
-use crate::tests::support::texts::displays;
-use v_frame::chroma::ChromaSubsampling::{Monochrome, Yuv411, Yuv420, Yuv422, Yuv444};
-use v_frame::frame::{FrameBuilder, FrameError};
+use crate::tests::support::texts::{displays, shows};
+use std::alloc::Global;
+use std::process::Abort;
+use v_frame::chroma::ChromaSubsampling::{self, Monochrome, Yuv411, Yuv420, Yuv422, Yuv444};
+use v_frame::frame::FrameError;
+use v_frame::pixel::Pixel;
+
+/// A width, a height, a format, a depth, and paddings left, right, top and bottom.
+type Shape = ((usize, usize), ChromaSubsampling, u8, [usize; 4]);
+
+/// Frames of bytes that are not built and those that are, and the debug text of the refusal.
+static BYTES: [(Shape, &str); 18] = [
+    (((0, 1080), Yuv420, 8, [0; 4]), SIZE),
+    (((1921, 1080), Yuv420, 8, [0; 4]), SIZE),
+    (((1920, 1081), Yuv420, 8, [0; 4]), SIZE),
+    (((1920, 0), Yuv422, 8, [0; 4]), SIZE),
+    (((1921, 1080), Yuv422, 8, [0; 4]), SIZE),
+    (((1920, 1080), Yuv420, 8, [15, 0, 0, 0]), SIZE),
+    (((1920, 1080), Yuv422, 8, [15, 0, 0, 0]), SIZE),
+    (((1920, 1080), Yuv444, 8, [15, 0, 0, 0]), "None"),
+    (((6, 2), Yuv411, 8, [0; 4]), SIZE),
+    (((8, 2), Yuv411, 8, [2, 8, 1, 0]), SIZE),
+    (((8, 2), Yuv411, 8, [4, 6, 1, 0]), SIZE),
+    (((8, 2), Yuv411, 8, [4, 8, 3, 0]), "None"),
+    (((2, 2), Yuv422, 8, [0, 0, usize::MAX, 0]), SIZE),
+    (((2, 2), Yuv422, 8, [usize::MAX, 0, 0, 0]), SIZE),
+    (((4611686018427387904, 1), Monochrome, 8, [0; 4]), SIZE),
+    (((1920, 1080), Yuv420, 7, [0; 4]), SEVEN),
+    (((1920, 1080), Yuv420, 10, [0; 4]), TYPE),
+    (
+        ((4611686018427387903, 1), Monochrome, 8, [0; 4]),
+        "Some(OutOfMemory)",
+    ),
+];
+
+/// Refused for the size or a padding.
+const SIZE: &str = "Some(UnsupportedResolution)";
+
+/// Refused for a depth of 7.
+const SEVEN: &str = "Some(UnsupportedBitDepth { found: 7 })";
+
+/// Refused for the type of the pixels.
+const TYPE: &str = "Some(DataTypeMismatch)";
+
+/// Frames of words that are not built.
+static WORDS: [(Shape, &str); 3] = [
+    (((1920, 1080), Yuv420, 8, [0; 4]), TYPE),
+    (
+        ((0, 1080), Yuv420, 17, [0; 4]),
+        "Some(UnsupportedBitDepth { found: 17 })",
+    ),
+    (
+        ((4611686018427387903, 1), Monochrome, 10, [0; 4]),
+        "Some(OutOfMemory)",
+    ),
+];
+
+/// Stops the test where a frame is refused for another reason, or is built where there is one.
+fn check_refusal<T: Pixel>(rt: &impl Abort, alloc: Global, (shape, wanted): (Shape, &str)) {
+    let (size, format, depth, padding) = shape;
+    let refused = refusal::<T>(alloc, padded(size, format, depth, padding));
+    assert!(rt;
+        shows(rt, alloc, &refused, wanted),
+        "{size:?} {format:?} {depth}"
+    );
+}
 
 #[test]
-fn sizes_and_paddings_that_chroma_divides(rt: HostRuntime) {
-    let cases = [
-        ((0, 1080), Yuv420, [0; 4], false),
-        ((1921, 1080), Yuv420, [0; 4], false),
-        ((1920, 1081), Yuv420, [0; 4], false),
-        ((1920, 0), Yuv422, [0; 4], false),
-        ((1921, 1080), Yuv422, [0; 4], false),
-        ((1920, 1080), Yuv420, [15, 0, 0, 0], false),
-        ((1920, 1080), Yuv422, [15, 0, 0, 0], false),
-        ((1920, 1080), Yuv444, [15, 0, 0, 0], true),
-        ((6, 2), Yuv411, [0; 4], false),
-        ((8, 2), Yuv411, [2, 8, 1, 0], false),
-        ((8, 2), Yuv411, [4, 6, 1, 0], false),
-        ((8, 2), Yuv411, [4, 8, 3, 0], true),
-        ((8, 1), Yuv411, [4, 8, 1, 3], true),
-    ];
-    for (size, format, padding, is_built) in cases {
-        let refused = refusal::<u8>(rt.alloc(), padded(size, format, 8, padding));
-        let wanted = if is_built {
-            None
-        } else {
-            Some(FrameError::UnsupportedResolution)
-        };
-        assert!(rt; refused == wanted, "{size:?} {format:?}");
+fn frames_are_refused_for_the_first_reason(rt: HostRuntime) {
+    for case in &BYTES {
+        check_refusal::<u8>(&rt, rt.alloc(), *case);
     }
-}
-
-/// A frame of this width in 4:2:0, at this depth.
-fn halved(width: usize, depth: u8) -> FrameBuilder {
-    FrameBuilder::new(width, 1080, Yuv420, depth)
-}
-
-#[test]
-fn refusals_come_in_their_order(rt: HostRuntime) {
-    let alloc = rt.alloc();
-    let seven = FrameError::UnsupportedBitDepth { found: 7 };
-    assert!(rt; refusal::<u8>(alloc, halved(1920, 7)) == Some(seven));
-    assert!(rt; refusal::<u8>(alloc, halved(1920, 10)) == Some(FrameError::DataTypeMismatch));
-    assert!(rt; refusal::<u16>(alloc, halved(1920, 8)) == Some(FrameError::DataTypeMismatch));
-    let seventeen = FrameError::UnsupportedBitDepth { found: 17 };
-    assert!(rt; refusal::<u16>(alloc, halved(0, 17)) == Some(seventeen));
-    assert!(rt; refusal::<u8>(alloc, halved(0, 8)) == Some(FrameError::UnsupportedResolution));
+    for case in &WORDS {
+        check_refusal::<u16>(&rt, rt.alloc(), *case);
+    }
 }
 
 #[test]
@@ -66,16 +94,6 @@ fn a_refused_build_of_three_planes_hands_out_no_frame(rt: HostRuntime) {
         }
         Err(error) => assert!(rt; error == FrameError::OutOfMemory),
     }
-}
-
-#[test]
-fn a_buffer_past_all_memory_is_refused(rt: HostRuntime) {
-    let widest = FrameBuilder::new(4611686018427387903, 1, Monochrome, 8);
-    let built = widest.build::<u8>(rt.alloc());
-    assert!(rt; built.err() == Some(FrameError::OutOfMemory));
-    let widest = FrameBuilder::new(4611686018427387903, 1, Monochrome, 10);
-    let built = widest.build::<u16>(rt.alloc());
-    assert!(rt; built.err() == Some(FrameError::OutOfMemory));
 }
 
 #[test]

@@ -1,110 +1,165 @@
 //! Copies of bytes into a plane, packed and with a stride.
 
-use crate::tests::support::buffers::{bordered_buffer, holds, numbers};
-use crate::tests::support::bytes::{stepped, stepped_words};
-use crate::tests::support::errors::{other_length, short_stride};
-use crate::tests::support::frames::{BARE, BORDERED, Layout, numbered, zeros};
-use crate::tests::support::reads::table_of;
+use crate::tests::support::frames::{BARE, BORDERED, Layout, with_buffer, zeros};
+use crate::tests::support::texts::shows;
 use std::alloc::Global;
 use std::process::Abort;
-use v_frame::plane::Plane;
+use v_frame::pixel::Pixel;
 
-/// Two words by two without a border.
-const SQUARE: Layout = (2, 2, [0, 0, 0, 0]);
+/// A copy: the source, its stride, the debug text of the answer, and the buffer after it.
+type Copied<'a, T> = (&'a [u8], usize, &'a str, &'a [T]);
 
-/// Whether a plane of 2 by 2 words shows 0x0102, 0x0304 above 0x0506, 0x0708.
-fn shows_four_words(plane: &Plane<u16>) -> bool {
-    let (above, below) = ([0x0102, 0x0304], [0x0506, 0x0708]);
-    plane.row(0) == Some(above.as_slice()) && plane.row(1) == Some(below.as_slice())
-}
-
-#[test]
-fn strided_copy_drops_tails(rt: HostRuntime) {
-    let mut plane = numbered::<u8>(&rt, rt.alloc(), BORDERED).y_plane;
-    let source = [10, 20, 30, 99, 99, 40, 50, 60, 99, 99];
-    let refused = plane.copy_from_u8_slice_with_stride(&source[..8], 5);
-    assert!(rt; refused == Err(other_length(10, 8)));
-    assert!(rt; plane.data() == numbers(&rt, rt.alloc(), 18).as_slice());
-    assert!(rt; plane.copy_from_u8_slice_with_stride(&source, 5).is_ok());
-    assert!(rt; plane.data() == bordered_buffer([10, 20, 30, 40, 50, 60]).as_slice());
-}
-
-#[test]
-fn strides_are_counted_in_bytes(rt: HostRuntime) {
-    let mut plane = zeros::<u16>(&rt, rt.alloc(), SQUARE).y_plane;
-    let source = [2, 1, 4, 3, 255, 255, 6, 5, 8, 7, 255, 255];
-    let cases = [
-        (6, 3, short_stride(3, 2)),
-        (8, 3, short_stride(3, 2)),
-        (6, 6, other_length(12, 6)),
-    ];
-    for (len, stride, refused) in cases {
-        let front = source.get(..len).expect(&rt, "so many bytes");
-        assert!(rt; plane.copy_from_u8_slice_with_stride(front, stride) == Err(refused));
-        assert!(rt; plane.data() == [0; 4].as_slice());
+/// Stops the test where copies into a plane of zeros, one after the other, answer or leave anything else.
+fn check_copies<T: Pixel>(
+    rt: &impl Abort,
+    alloc: Global,
+    layout: Layout,
+    copies: &[Copied<'_, T>],
+) {
+    let mut frame = zeros::<T>(rt, alloc, layout);
+    for (source, stride, answer, after) in copies {
+        let copied = frame
+            .y_plane
+            .copy_from_u8_slice_with_stride(*source, *stride);
+        assert!(rt; shows(rt, alloc, &copied, *answer), "{answer}");
+        assert!(rt; frame.y_plane.data() == *after, "{answer}");
     }
-    assert!(rt; plane.copy_from_u8_slice_with_stride(&source, 6).is_ok());
-    assert!(rt; shows_four_words(&plane));
 }
 
-#[test]
-fn the_stride_is_tested_before_the_length(rt: HostRuntime) {
-    let mut plane = zeros::<u8>(&rt, rt.alloc(), (5, 2, [0, 0, 0, 0])).y_plane;
-    let cases = [
-        (8, 4, short_stride(4, 5)),
-        (10, 4, short_stride(4, 5)),
-        (0, 0, short_stride(0, 5)),
-        (0, 5, other_length(10, 0)),
-        (11, 5, other_length(10, 11)),
-    ];
-    for (len, stride, refused) in cases {
-        let source = [1; 11];
-        let front = source.get(..len).expect(&rt, "so many bytes");
-        assert!(rt; plane.copy_from_u8_slice_with_stride(front, stride) == Err(refused));
-        assert!(rt; plane.data() == [0; 10].as_slice());
-    }
-    assert!(rt; plane.copy_from_u8_slice_with_stride(&[1; 10], 5).is_ok());
-    assert!(rt; plane.copy_from_u8_slice_with_stride(&[2; 12], 6).is_ok());
-    assert!(rt; plane.data() == [2; 10].as_slice());
-}
+/// Two rows of three bytes, each with a tail of two.
+static TAILS: [Copied<'static, u8>; 2] = [
+    (
+        &[10, 20, 30, 99, 99, 40, 50, 60],
+        5,
+        "Err(DataLength { expected: 10, found: 8 })",
+        &[0; 18],
+    ),
+    (
+        &[10, 20, 30, 99, 99, 40, 50, 60, 99, 99],
+        5,
+        "Ok(())",
+        &[0, 0, 0, 0, 0, 0, 0, 10, 20, 30, 0, 0, 0, 40, 50, 60, 0, 0],
+    ),
+];
+
+/// Strides and lengths for five bytes by two.
+static FIVE: [Copied<'static, u8>; 5] = [
+    (
+        &[1; 8],
+        4,
+        "Err(InvalidStride { stride: 4, width: 5 })",
+        &[0; 10],
+    ),
+    (
+        &[],
+        0,
+        "Err(InvalidStride { stride: 0, width: 5 })",
+        &[0; 10],
+    ),
+    (
+        &[1; 11],
+        5,
+        "Err(DataLength { expected: 10, found: 11 })",
+        &[0; 10],
+    ),
+    (&[1; 10], 5, "Ok(())", &[1; 10]),
+    (&[2; 12], 6, "Ok(())", &[2; 10]),
+];
+
+/// Strides whose length for two rows no `usize` holds, and one below.
+static LARGEST: [Copied<'static, u8>; 3] = [
+    (
+        &[1, 2, 3, 4],
+        usize::MAX,
+        "Err(DataLength { expected: 18446744073709551615, found: 4 })",
+        &[0; 6],
+    ),
+    (
+        &[],
+        9223372036854775808,
+        "Err(DataLength { expected: 18446744073709551615, found: 0 })",
+        &[0; 6],
+    ),
+    (
+        &[],
+        9223372036854775807,
+        "Err(DataLength { expected: 18446744073709551614, found: 0 })",
+        &[0; 6],
+    ),
+];
+
+/// One byte too few in each of two rows of two bytes.
+static SQUARE: [Copied<'static, u8>; 1] = [(
+    &[1; 4],
+    3,
+    "Err(DataLength { expected: 6, found: 4 })",
+    &[0; 4],
+)];
 
 #[test]
-fn a_length_that_no_usize_holds(rt: HostRuntime) {
-    let mut plane = zeros::<u8>(&rt, rt.alloc(), BARE).y_plane;
-    let half = 0x8000_0000_0000_0000;
-    let cases = [
-        (
-            [1, 2, 3, 4].as_slice(),
-            usize::MAX,
-            other_length(usize::MAX, 4),
-        ),
-        (&[], half, other_length(usize::MAX, 0)),
-        (&[], half - 1, other_length(usize::MAX - 1, 0)),
-    ];
-    for (source, stride, refused) in cases {
-        assert!(rt; plane.copy_from_u8_slice_with_stride(source, stride) == Err(refused));
-        assert!(rt; table_of(&plane) == [Some([0; 3]), Some([0; 3])]);
-    }
+fn bytes_are_copied_without_their_tails(rt: HostRuntime) {
+    check_copies(&rt, rt.alloc(), BORDERED, &TAILS);
+    check_copies(&rt, rt.alloc(), (5, 2, [0; 4]), &FIVE);
+    check_copies(&rt, rt.alloc(), BARE, &LARGEST);
+    check_copies(&rt, rt.alloc(), (2, 2, [0; 4]), &SQUARE);
+}
+
+/// Strides in bytes for two words by two.
+static WORDS: [Copied<'static, u16>; 5] = [
+    (
+        &[2, 1, 4, 3, 255, 255],
+        3,
+        "Err(InvalidStride { stride: 3, width: 2 })",
+        &[0; 4],
+    ),
+    (
+        &[2, 1, 4, 3, 255, 255, 6, 5],
+        3,
+        "Err(InvalidStride { stride: 3, width: 2 })",
+        &[0; 4],
+    ),
+    (
+        &[],
+        0,
+        "Err(InvalidStride { stride: 0, width: 2 })",
+        &[0; 4],
+    ),
+    (
+        &[2, 1, 4, 3, 255, 255],
+        6,
+        "Err(DataLength { expected: 12, found: 6 })",
+        &[0; 4],
+    ),
+    (
+        &[2, 1, 4, 3, 255, 255, 6, 5, 8, 7, 255, 255],
+        6,
+        "Ok(())",
+        &[0x0102, 0x0304, 0x0506, 0x0708],
+    ),
+];
+
+#[test]
+fn words_are_copied_by_strides_in_bytes(rt: HostRuntime) {
+    check_copies(&rt, rt.alloc(), (2, 2, [0; 4]), &WORDS);
 }
 
 #[test]
 fn packed_words(rt: HostRuntime) {
-    let layout = (2, 2, [1, 0, 0, 1]);
-    let mut plane = numbered::<u16>(&rt, rt.alloc(), layout).y_plane;
-    let source = [2, 1, 4, 3, 6, 5, 8, 7];
-    assert!(rt; plane.copy_from_u8_slice(&source).is_ok());
-    assert!(rt; shows_four_words(&plane));
-    for len in [4, 0] {
-        let front = source.get(..len).expect(&rt, "so many bytes");
-        assert!(rt; plane.copy_from_u8_slice(front) == Err(other_length(8, len)));
-        assert!(rt; shows_four_words(&plane));
-    }
-    let wanted = [0x0102, 0x0304, 0x0506, 0x0708];
-    assert!(rt; holds(&rt, rt.alloc(), &plane, layout, &wanted));
+    let before = [0xA100, 0, 0, 0xA103, 0, 0, 0xA106, 0xA107, 0xA108];
+    let wanted = [
+        0xA100, 0x0102, 0x0304, 0xA103, 0x0506, 0x0708, 0xA106, 0xA107, 0xA108,
+    ];
+    let mut frame = with_buffer::<u16>(&rt, rt.alloc(), (2, 2, [1, 0, 0, 1]), &before);
+    let copied = frame.y_plane.copy_from_u8_slice(&[2, 1, 4, 3, 6, 5, 8, 7]);
+    assert!(rt; copied.is_ok() && frame.y_plane.data() == wanted.as_slice());
+    let refused = frame.y_plane.copy_from_u8_slice(&[2, 1, 4, 3]);
+    let answer = "Err(DataLength { expected: 8, found: 4 })";
+    assert!(rt; shows(&rt, rt.alloc(), &refused, answer));
+    assert!(rt; frame.y_plane.data() == wanted.as_slice());
 }
 
 /// The widths of planes of words and the strides of two rows for them, with the last pixel of the second.
-const WIDTHS: [(usize, usize, u16); 5] = [
+static WIDTHS: [(usize, usize, u16); 5] = [
     (1, 3, 0x2720),
     (15, 31, 0xEBE4),
     (16, 33, 0xF9F2),
@@ -112,34 +167,47 @@ const WIDTHS: [(usize, usize, u16); 5] = [
     (33, 67, 0xE7E0),
 ];
 
-/// The items of one row and then those of the row below.
-fn joined<T: Copy>(rt: &impl Abort, mut above: Vec<T>, below: &[T]) -> Vec<T> {
-    above.extend_from_slice(below).expect(rt, "memory");
-    above
-}
-
 /// Two rows of so many bytes, which begin at 1 and 32 and grow by 7.
 fn two_rows(rt: &impl Abort, alloc: Global, stride: usize) -> Vec<u8> {
-    let below = stepped(rt, alloc, 32, 7, stride);
-    joined(rt, stepped(rt, alloc, 1, 7, stride), below.as_slice())
+    let mut bytes = Vec::new(alloc);
+    for first in [1, 32] {
+        let mut byte: u8 = first;
+        for _ in 0..stride {
+            bytes.push(byte).expect(rt, "memory");
+            byte = byte.wrapping_add(7);
+        }
+    }
+    bytes
 }
 
-/// The first so many words of each of these two rows of bytes.
-fn words_of_two_rows(rt: &impl Abort, alloc: Global, width: usize) -> Vec<u16> {
-    let below = stepped_words(rt, alloc, 32, 7, width);
-    joined(rt, stepped_words(rt, alloc, 1, 7, width), below.as_slice())
+/// Stops the test where words are not copied, or the border does not stay.
+fn check_width(rt: &impl Abort, alloc: Global, (width, stride, last): (usize, usize, u16)) {
+    let mut frame = zeros::<u16>(rt, alloc, (width, 2, [3, 1, 0, 0]));
+    frame.y_plane.data_mut().fill(0xABCD);
+    let source = two_rows(rt, alloc, stride);
+    let copied = frame
+        .y_plane
+        .copy_from_u8_slice_with_stride(source.as_slice(), stride);
+    assert!(rt; copied.is_ok());
+    let plane = &frame.y_plane;
+    let ends = (
+        plane.pixel(0, 0),
+        plane.pixel(0, 1),
+        plane.pixel(width.saturating_sub(1), 1),
+    );
+    assert!(rt;
+        ends == (Some(0x0801), Some(0x2720), Some(last)),
+        "{width} words"
+    );
+    let between = width.saturating_add(3)..width.saturating_add(7);
+    assert!(rt; plane.data().get(..3) == Some([0xABCD; 3].as_slice()));
+    assert!(rt; plane.data().get(between) == Some([0xABCD; 4].as_slice()));
+    assert!(rt; plane.data().last() == Some(&0xABCD));
 }
 
 #[test]
-fn words_of_each_width_leave_a_numbered_border(rt: HostRuntime) {
-    for (width, stride, last) in WIDTHS {
-        let layout = (width, 2, [3, 1, 0, 0]);
-        let mut plane = numbered::<u16>(&rt, rt.alloc(), layout).y_plane;
-        let source = two_rows(&rt, rt.alloc(), stride);
-        let copied = plane.copy_from_u8_slice_with_stride(source.as_slice(), stride);
-        let words = words_of_two_rows(&rt, rt.alloc(), width);
-        assert!(rt; copied.is_ok() && words.last() == Some(&last));
-        assert!(rt; (plane.pixel(0, 0), plane.pixel(0, 1)) == (Some(0x0801), Some(0x2720)));
-        assert!(rt; holds(&rt, rt.alloc(), &plane, layout, words.as_slice()));
+fn words_of_each_width_leave_their_border(rt: HostRuntime) {
+    for width in &WIDTHS {
+        check_width(&rt, rt.alloc(), *width);
     }
 }

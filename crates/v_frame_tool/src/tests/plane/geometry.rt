@@ -1,49 +1,21 @@
 //! Sizes and paddings of geometries: what follows from them, and what is too large.
 
-use crate::tests::support::frames::refusal;
 use crate::tests::support::reads::numbers_of;
-use v_frame::chroma::ChromaSubsampling::Monochrome;
-use v_frame::frame::{FrameBuilder, FrameError};
 use v_frame::plane::PlaneGeometry;
-
-/// The stride, where the visible pixels begin, the height of the buffer, and its size, checked and not.
-fn sizes(geometry: &PlaneGeometry) -> Option<[usize; 5]> {
-    let checked = geometry.checked_alloc_size()?;
-    Some([
-        geometry.stride(),
-        geometry.data_origin(),
-        geometry.alloc_height(),
-        checked,
-        geometry.alloc_size(),
-    ])
-}
 
 #[test]
 fn sizes_follow_from_the_paddings(rt: HostRuntime) {
     let geometry = PlaneGeometry::new(4, 3, 2, 2, 1, 1, 1, 1).expect(&rt, "a geometry");
-    assert!(rt; sizes(&geometry) == Some([8, 10, 5, 40, 40]));
-}
-
-#[test]
-fn a_stride_past_usize_is_no_geometry(rt: HostRuntime) {
-    let width = usize::MAX - 50;
-    assert!(rt; PlaneGeometry::new(width, 1080, 30, 30, 0, 0, 1, 1).is_none());
-    let widest = PlaneGeometry::new(width, 1080, 25, 25, 0, 0, 1, 1).expect(&rt, "a geometry");
-    assert!(rt; (widest.stride(), widest.checked_alloc_size()) == (usize::MAX, None));
-}
-
-/// The size of the buffer for one row of this many pixels without a border, where a buffer can be so large.
-fn size_of_row(width: usize) -> Option<usize> {
-    PlaneGeometry::unpadded(width, 1, 1, 1)?.checked_alloc_size()
-}
-
-#[test]
-fn the_largest_buffer(rt: HostRuntime) {
-    assert!(rt; size_of_row(4611686018427387903) == Some(4611686018427387903));
-    assert!(rt; PlaneGeometry::unpadded(4611686018427387904, 1, 1, 1).is_some());
-    assert!(rt; size_of_row(4611686018427387904).is_none());
-    let larger = FrameBuilder::new(4611686018427387904, 1, Monochrome, 8);
-    assert!(rt; refusal::<u8>(rt.alloc(), larger) == Some(FrameError::UnsupportedResolution));
+    if geometry.checked_alloc_size() != Some(40) {
+        panic!(rt; "another size");
+    }
+    let sizes = [
+        geometry.stride(),
+        geometry.data_origin(),
+        geometry.alloc_height(),
+        geometry.alloc_size(),
+    ];
+    assert!(rt; sizes == [8, 10, 5, 40]);
 }
 
 #[test]
@@ -54,10 +26,62 @@ fn getters_tell_what_was_given(rt: HostRuntime) {
     assert!(rt; numbers_of(&unpadded) == [1920, 1080, 1920, 0, 0, 0, 0, 1, 1]);
 }
 
+/// Widths, heights, paddings left, right, top and bottom, and ratios that make no geometry: a size or a ratio is zero, or
+/// no `usize` holds the stride.
+static NONE: [([usize; 6], [u8; 2]); 9] = [
+    ([0, 1080, 40, 30, 20, 10], [1, 1]),
+    ([1920, 0, 40, 30, 20, 10], [1, 1]),
+    ([1920, 1080, 40, 30, 20, 10], [0, 1]),
+    ([1920, 1080, 40, 30, 20, 10], [1, 0]),
+    ([usize::MAX - 50, 1080, 30, 30, 0, 0], [1, 1]),
+    ([1, 1, usize::MAX, 0, 0, 0], [1, 1]),
+    ([1, 1, 0, usize::MAX, 0, 0], [1, 1]),
+    ([1, 1, usize::MAX, usize::MAX, 0, 0], [1, 1]),
+    ([1, 1, usize::MAX - 2, 2, 0, 0], [1, 1]),
+];
+
+/// The same with a geometry, its stride, and the size of the buffer where there can be one.
+static SOME: [([usize; 6], usize, Option<usize>); 4] = [
+    ([usize::MAX - 50, 1080, 25, 25, 0, 0], usize::MAX, None),
+    ([1, 1, usize::MAX - 1, 0, 0, 0], usize::MAX, None),
+    ([1, 1, usize::MAX - 2, 1, 0, 0], usize::MAX, None),
+    ([1, usize::MAX, 0, 0, usize::MAX, usize::MAX], 1, None),
+];
+
 #[test]
-fn zero_is_no_size_and_no_ratio(rt: HostRuntime) {
-    assert!(rt; PlaneGeometry::new(0, 1080, 40, 30, 20, 10, 1, 1).is_none());
-    assert!(rt; PlaneGeometry::new(1920, 0, 40, 30, 20, 10, 1, 1).is_none());
-    assert!(rt; PlaneGeometry::new(1920, 1080, 40, 30, 20, 10, 0, 1).is_none());
+fn strides_are_as_large_as_numbers_go(rt: HostRuntime) {
+    for (sizes, [x, y]) in &NONE {
+        let [width, height, left, right, top, bottom] = *sizes;
+        let none = PlaneGeometry::new(width, height, left, right, top, bottom, *x, *y);
+        assert!(rt; none.is_none(), "{width} by {height}");
+    }
+    for (sizes, stride, size) in &SOME {
+        let [width, height, left, right, top, bottom] = *sizes;
+        let geometry = PlaneGeometry::new(width, height, left, right, top, bottom, 1, 1);
+        let geometry = geometry.expect(&rt, "a geometry");
+        let told = (geometry.stride(), geometry.checked_alloc_size());
+        assert!(rt; told == (*stride, *size), "{width} by {height}");
+    }
+}
+
+/// Sizes of planes without a border, with the size of the buffer where there can be one. The product of the third is two
+/// to the power of 64, and no `usize` holds it.
+static UNPADDED: [(usize, usize, Option<usize>); 5] = [
+    (4611686018427387903, 1, Some(4611686018427387903)),
+    (4611686018427387904, 1, None),
+    (4294967296, 4294967296, None),
+    (2147483648, 2147483648, None),
+    (2147483648, 2147483647, Some(4611686016279904256)),
+];
+
+#[test]
+fn buffers_are_as_large_as_numbers_go(rt: HostRuntime) {
+    for (width, height, size) in &UNPADDED {
+        let geometry = PlaneGeometry::unpadded(*width, *height, 1, 1).expect(&rt, "a geometry");
+        assert!(rt;
+            geometry.checked_alloc_size() == *size,
+            "{width} by {height}"
+        );
+    }
     assert!(rt; PlaneGeometry::unpadded(1920, 1080, 1, 0).is_none());
 }

@@ -1,50 +1,28 @@
-//! Rows and pixels of 1, 2, 3 above 4, 5, 6 that are lent, in a border of 200 and in a numbered one.
+//! Rows and pixels that are lent, and written once their iterator is gone.
 
-use crate::tests::support::buffers::{bordered_buffer, buffer_in_200};
-use crate::tests::support::frames::{BORDERED, counted, in_200};
-use crate::tests::support::reads::table_of;
-use std::alloc::Global;
-use std::process::Abort;
+use crate::tests::support::buffers::buffer_in_200;
+use crate::tests::support::frames::{in_200, with_buffer};
 use v_frame::plane::Plane;
-
-/// A plane in each of the two borders, and the buffer that shows these pixels in it.
-fn planes_and_buffers(
-    rt: &impl Abort,
-    alloc: Global,
-    shown: [u8; 6],
-) -> [(Plane<u8>, [u8; 18]); 2] {
-    let numbered = counted(rt, alloc, BORDERED).y_plane;
-    [
-        (in_200(rt, alloc).y_plane, buffer_in_200(shown)),
-        (numbered, bordered_buffer(shown)),
-    ]
-}
-
-/// Writes this pixel of a lent row.
-fn write_pixel(row: Option<&mut [u8]>, x: usize, value: u8) {
-    if let Some(row) = row {
-        if let Some(pixel) = row.get_mut(x) {
-            *pixel = value;
-        }
-    }
-}
 
 /// Writes 40 to the last row's first pixel and then 30 to the first row's last, once their iterator is gone.
 fn write_held_rows(plane: &mut Plane<u8>) {
     let mut rows = plane.rows_mut();
     let (first, last) = (rows.next(), rows.next_back());
     drop(rows);
-    write_pixel(last, 0, 40);
-    write_pixel(first, 2, 30);
+    if let Some([pixel, ..]) = last {
+        *pixel = 40;
+    }
+    if let Some([.., pixel]) = first {
+        *pixel = 30;
+    }
 }
 
 #[test]
 fn held_rows_are_written_and_no_border(rt: HostRuntime) {
-    for (mut plane, wanted) in planes_and_buffers(&rt, rt.alloc(), [1, 2, 30, 40, 5, 6]) {
-        write_held_rows(&mut plane);
-        assert!(rt; table_of(&plane) == [Some([1, 2, 30]), Some([40, 5, 6])]);
-        assert!(rt; plane.data() == wanted.as_slice());
-    }
+    let mut frame = in_200(&rt, rt.alloc());
+    write_held_rows(&mut frame.y_plane);
+    let wanted = buffer_in_200([1, 2, 30, 40, 5, 6]);
+    assert!(rt; frame.y_plane.data() == wanted.as_slice());
 }
 
 /// Writes 9 to the last pixel and then 7 to the first, once their iterator is gone.
@@ -62,30 +40,32 @@ fn write_held_pixels(plane: &mut Plane<u8>) {
 
 #[test]
 fn held_pixels_are_written_and_no_border(rt: HostRuntime) {
-    for (mut plane, wanted) in planes_and_buffers(&rt, rt.alloc(), [7, 2, 3, 4, 5, 9]) {
-        write_held_pixels(&mut plane);
-        assert!(rt; table_of(&plane) == [Some([7, 2, 3]), Some([4, 5, 9])]);
-        assert!(rt; plane.data() == wanted.as_slice());
-    }
+    let mut frame = in_200(&rt, rt.alloc());
+    write_held_pixels(&mut frame.y_plane);
+    let wanted = buffer_in_200([7, 2, 3, 4, 5, 9]);
+    assert!(rt; frame.y_plane.data() == wanted.as_slice());
 }
 
-/// Whether calls of `next` and `next_back` by turns lend six pixels, to the last. Nothing is written.
-fn all_are_lent_by_turns(plane: &mut Plane<u8>) -> bool {
+/// Takes the last pixel, the first and the last but one, and once their iterator is gone writes 20 to the last but one, 10
+/// to the first, and then 11.
+fn write_two_of_three(plane: &mut Plane<u16>) {
     let mut pixels = plane.pixels_mut();
-    let mut are_lent = true;
-    for _turn in 0..3 {
-        are_lent = pixels.next().is_some() && pixels.next_back().is_some() && are_lent;
+    let (_last, first, held) = (pixels.next_back(), pixels.next(), pixels.next_back());
+    drop(pixels);
+    if let Some(pixel) = held {
+        *pixel = 20;
     }
-    are_lent && pixels.next().is_none() && pixels.next_back().is_none()
+    if let Some(pixel) = first {
+        *pixel = 10;
+        *pixel = 11;
+    }
 }
 
 #[test]
-fn iterators_that_write_nothing_leave_the_buffer(rt: HostRuntime) {
-    for (mut plane, before) in planes_and_buffers(&rt, rt.alloc(), [1, 2, 3, 4, 5, 6]) {
-        drop(plane.rows_mut());
-        drop(plane.pixels_mut());
-        assert!(rt; plane.data() == before.as_slice());
-        assert!(rt; all_are_lent_by_turns(&mut plane));
-        assert!(rt; plane.data() == before.as_slice());
-    }
+fn held_words_are_written_in_another_order(rt: HostRuntime) {
+    let before = [500, 1, 2, 500, 3, 4, 500, 500, 500];
+    let mut frame = with_buffer::<u16>(&rt, rt.alloc(), (2, 2, [1, 0, 0, 1]), &before);
+    write_two_of_three(&mut frame.y_plane);
+    let wanted = [500, 11, 2, 500, 20, 4, 500, 500, 500];
+    assert!(rt; frame.y_plane.data() == wanted.as_slice());
 }

@@ -1,48 +1,61 @@
-//! Iterators over planes, by rows and by pixels.
+//! Iterators over the rows, the pixels and the bytes of planes.
 
-use crate::tests::support::frames::{BORDERED_ALL_ROUND, counted, zeros};
+use crate::tests::support::frames::{counted, with_buffer, zeros};
 use crate::tests::support::texts::shows;
-use std::alloc::Global;
-use std::process::Abort;
-use v_frame::plane::{Pixels, Plane};
-
-/// Three pixels by two with a border on all sides.
-fn bordered(rt: &impl Abort, alloc: Global) -> Plane<u8> {
-    counted(rt, alloc, BORDERED_ALL_ROUND).y_plane
-}
-
-/// What `next` gives, and then `next_back`.
-fn ends(pixels: &mut Pixels<'_, u8>) -> (Option<u8>, Option<u8>) {
-    (pixels.next(), pixels.next_back())
-}
-
-/// How many rows and pixels a plane has, as its iterators tell and as they are counted.
-fn lengths(plane: &Plane<u8>) -> [usize; 4] {
-    [
-        plane.rows().len(),
-        plane.rows().count(),
-        plane.pixels().len(),
-        plane.pixels().count(),
-    ]
-}
-
-/// The same of a plane of this size.
-fn lengths_at(rt: &impl Abort, alloc: Global, width: usize, height: usize) -> [usize; 4] {
-    let frame = zeros(rt, alloc, (width, height, [0, 0, 0, 0]));
-    lengths(&frame.y_plane)
-}
+use v_frame::plane::Plane;
 
 #[test]
 fn iterators_are_as_long_as_the_plane(rt: HostRuntime) {
-    assert!(rt; lengths_at(&rt, rt.alloc(), 10, 5) == [5, 5, 50, 50]);
-    assert!(rt; lengths_at(&rt, rt.alloc(), 1920, 1080) == [1080, 1080, 2073600, 2073600]);
+    let small = zeros::<u8>(&rt, rt.alloc(), (10, 5, [0; 4]));
+    assert!(rt; small.y_plane.rows().count() == 5);
+    let large = zeros::<u8>(&rt, rt.alloc(), (1920, 1080, [0; 4]));
+    assert!(rt; large.y_plane.pixels().count() == 2073600);
 }
 
 #[test]
-fn an_iterator_shows_what_is_left(rt: HostRuntime) {
-    let plane = bordered(&rt, rt.alloc());
+fn iterators_show_what_is_left(rt: HostRuntime) {
+    let frame = counted(&rt, rt.alloc());
+    let plane = &frame.y_plane;
     assert!(rt; shows(&rt, rt.alloc(), &plane.rows(), "[[1, 2, 3], [4, 5, 6]]"));
-    let mut pixels = plane.pixels();
-    assert!(rt; ends(&mut pixels) == (Some(1), Some(6)));
-    assert!(rt; shows(&rt, rt.alloc(), &pixels, "[2, 3, 4, 5]"));
+    assert!(rt; shows(&rt, rt.alloc(), &plane.pixels(), "[1, 2, 3, 4, 5, 6]"));
+    let mut bytes = plane.byte_data();
+    assert!(rt; bytes.next_back() == Some(6));
+    let copy = bytes.clone().expect(&rt, "memory");
+    assert!(rt; shows(&rt, rt.alloc(), &copy, "[1, 2, 3, 4, 5]"));
+}
+
+#[test]
+fn low_bytes_come_first(rt: HostRuntime) {
+    let words = [0x0102, 0x0304, 0x0506, 0x0708];
+    let frame = with_buffer::<u16>(&rt, rt.alloc(), (2, 2, [0; 4]), &words);
+    let bytes: Vec<u8> = frame
+        .y_plane
+        .byte_data()
+        .collect(rt.alloc())
+        .expect(&rt, "memory");
+    assert!(rt; bytes.as_slice() == [2, 1, 4, 3, 6, 5, 8, 7].as_slice());
+}
+
+/// Writes the numbers from 0 on, pixel after pixel.
+fn count_up(plane: &mut Plane<u8>) {
+    let mut next = 0;
+    for pixel in plane.pixels_mut() {
+        *pixel = next;
+        next = u8::wrapping_add(next, 1);
+    }
+}
+
+#[test]
+fn filled_pixels_are_read_back(rt: HostRuntime) {
+    let count = [0, 1, 2, 3, 4, 5, 6, 7, 8, 9, 10, 11];
+    for (layout, end) in [((2, 3, [0; 4]), 6), ((4, 3, [2, 2, 1, 1]), 12)] {
+        let mut frame = zeros(&rt, rt.alloc(), layout);
+        count_up(&mut frame.y_plane);
+        let pixels: Vec<u8> = frame
+            .y_plane
+            .pixels()
+            .collect(rt.alloc())
+            .expect(&rt, "memory");
+        assert!(rt; Some(pixels.as_slice()) == count.get(..end));
+    }
 }

@@ -1,22 +1,32 @@
 //! Pixels that are read past the rectangle.
 
-use crate::tests::support::frames::showing;
-use v_frame::plane::Plane;
+use crate::tests::support::frames::with_buffer;
 
-/// Pixels below, right of and far from a plane of four by four, and what comes after its first row.
-fn pixels_around(plane: &Plane<u8>) -> [Option<u8>; 5] {
-    [
+#[test]
+fn pixel_past_the_width_is_in_the_next_row(rt: HostRuntime) {
+    let buffer = [1, 2, 3, 4, 5, 6, 7, 8, 9, 10, 11, 12, 13, 14, 15, 16];
+    let frame = with_buffer::<u8>(&rt, rt.alloc(), (4, 4, [0; 4]), &buffer);
+    let plane = &frame.y_plane;
+    let around = [
         plane.pixel(0, 4),
         plane.pixel(16, 0),
         plane.pixel(usize::MAX, usize::MAX),
         plane.pixel(4, 0),
         plane.pixel(0, 1),
-    ]
+    ];
+    assert!(rt; around == [None, None, None, Some(5), Some(5)]);
 }
 
 #[test]
-fn pixel_past_the_width_is_in_the_next_row(rt: HostRuntime) {
-    let source = [1, 2, 3, 4, 5, 6, 7, 8, 9, 10, 11, 12, 13, 14, 15, 16];
-    let plane = showing(&rt, rt.alloc(), (4, 4, [0, 0, 0, 0]), &source).y_plane;
-    assert!(rt; pixels_around(&plane) == [None, None, None, Some(5), Some(5)]);
+fn no_pixel_is_so_far_away(rt: HostRuntime) {
+    let mut frame = with_buffer::<u8>(&rt, rt.alloc(), (2, 1, [0; 4]), &[1, 2]);
+    let plane = &mut frame.y_plane;
+    let far = [
+        plane.pixel(0, 9223372036854775808),
+        plane.pixel(usize::MAX, 1),
+        plane.pixel(2, 0),
+    ];
+    assert!(rt; far == [None; 3] && plane.row(usize::MAX).is_none());
+    assert!(rt; plane.pixel_mut(0, usize::MAX).is_none());
+    assert!(rt; plane.row_mut(usize::MAX).is_none());
 }

@@ -1,105 +1,111 @@
-//! Lists of calls that read, and that write one row or one pixel.
+//! Calls that read, and that write one row or one pixel, on planes of bytes.
 
-use crate::tests::support::answers::{answers_are, row_shown};
-use crate::tests::support::buffers::bordered_buffer;
-use crate::tests::support::calls::{copy, row_mut, sequence};
-use crate::tests::support::errors::other_length;
-use crate::tests::support::frames::{BARE, BORDERED, numbered, padded, zeros};
-use crate::tests::support::reads::table_of;
-use v_frame::chroma::ChromaSubsampling::{Yuv420, Yuv422};
-use v_frame::frame::FrameBuilder;
-use v_frame::replay::{Answer, VisibleCall, replay};
+use crate::tests::support::answers::{Replay, check_replay};
+use crate::tests::support::calls::Call::{
+    CopyPixels, Height, Pixel, PixelMut, Row, RowMut, Rows, Width,
+};
+use crate::tests::support::frames::{BARE, BORDERED, with_buffer};
+use v_frame::replay::{VisibleCall, replay};
+
+/// A copy that is refused and one that is not, and then a pixel, a place, a row and a plane.
+static COPIED: Replay<'static, u8> = Replay {
+    layout: BARE,
+    before: &[0, 0, 0, 0, 0, 0],
+    steps: &[
+        (
+            CopyPixels(0, &[1, 2, 3, 4, 5]),
+            "Copied(Err(DataLength { expected: 6, found: 5 }))",
+        ),
+        (CopyPixels(0, &[1, 2, 3, 4, 5, 6]), "Copied(Ok(()))"),
+        (Pixel(0, 2, 1), "PixelShown(6)"),
+        (Pixel(0, 3, 0), "OutsideRectangle"),
+        (Row(0, 2), "RowShown(None)"),
+        (Width(1), "NoPlane"),
+    ],
+    after: &[1, 2, 3, 4, 5, 6],
+};
+
+/// Writes that leave gaps, and stop at the width and at the height.
+static GAPS: Replay<'static, u8> = Replay {
+    layout: BORDERED,
+    before: &[
+        100, 101, 102, 103, 104, 105, 106, 1, 2, 3, 110, 111, 112, 4, 5, 6, 116, 117,
+    ],
+    steps: &[
+        (
+            RowMut(0, 0, &[None, Some(8), None, Some(5)]),
+            "RowShown(Some([1, 2, 3]))",
+        ),
+        (RowMut(0, 2, &[Some(9)]), "RowShown(None)"),
+    ],
+    after: &[
+        100, 101, 102, 103, 104, 105, 106, 1, 8, 3, 110, 111, 112, 4, 5, 6, 116, 117,
+    ],
+};
+
+/// Numbers as large as they go.
+static LARGEST: Replay<'static, u8> = Replay {
+    layout: BARE,
+    before: &[1, 2, 3, 4, 5, 6],
+    steps: &[
+        (Pixel(0, usize::MAX, usize::MAX), "OutsideRectangle"),
+        (PixelMut(0, 0, usize::MAX, 9), "OutsideRectangle"),
+        (Row(0, usize::MAX), "RowShown(None)"),
+        (Height(usize::MAX), "NoPlane"),
+    ],
+    after: &[1, 2, 3, 4, 5, 6],
+};
+
+/// Reads inside and outside, and an iteration without calls.
+static READ: Replay<'static, u8> = Replay {
+    layout: BARE,
+    before: &[1, 2, 3, 4, 5, 6],
+    steps: &[
+        (Width(0), "Number(3)"),
+        (Pixel(0, 3, 0), "OutsideRectangle"),
+        (Row(0, 2), "RowShown(None)"),
+        (Width(1), "NoPlane"),
+        (Rows(0, &[]), "RowsWalked { total: 2, drawn: [] }"),
+    ],
+    after: &[1, 2, 3, 4, 5, 6],
+};
+
+/// A pixel that is written between two rows, beside a border column of zeros.
+static IN_ZEROS: Replay<'static, u8> = Replay {
+    layout: (2, 2, [0, 1, 0, 0]),
+    before: &[1, 2, 0, 3, 4, 0],
+    steps: &[
+        (Row(0, 0), "RowShown(Some([1, 2]))"),
+        (PixelMut(0, 1, 1, 8), "PixelShown(4)"),
+        (Row(0, 1), "RowShown(Some([3, 8]))"),
+    ],
+    after: &[1, 2, 0, 3, 8, 0],
+};
+
+/// The same with a 9 in the border column.
+static BESIDE_NINE: Replay<'static, u8> = Replay {
+    layout: (2, 2, [0, 1, 0, 0]),
+    before: &[1, 2, 9, 3, 4, 0],
+    steps: &[
+        (Row(0, 0), "RowShown(Some([1, 2]))"),
+        (PixelMut(0, 1, 1, 8), "PixelShown(4)"),
+        (Row(0, 1), "RowShown(Some([3, 8]))"),
+    ],
+    after: &[1, 2, 9, 3, 8, 0],
+};
 
 #[test]
-fn six_calls_and_their_answers(rt: HostRuntime) {
-    let mut frame = zeros(&rt, rt.alloc(), BARE);
-    let calls = [
-        copy(&rt, rt.alloc(), &[1, 2, 3, 4, 5]),
-        copy(&rt, rt.alloc(), &[1, 2, 3, 4, 5, 6]),
-        VisibleCall::Pixel {
-            plane: 0,
-            x: 2,
-            y: 1,
-        },
-        VisibleCall::Pixel {
-            plane: 0,
-            x: 3,
-            y: 0,
-        },
-        VisibleCall::Row { plane: 0, y: 2 },
-        VisibleCall::Width { plane: 1 },
-    ];
-    let wanted = [
-        Answer::Copied(Err(other_length(6, 5))),
-        Answer::Copied(Ok(())),
-        Answer::PixelShown(6),
-        Answer::OutsideRectangle,
-        Answer::RowShown(None),
-        Answer::NoPlane,
-    ];
-    assert!(rt; answers_are(&rt, rt.alloc(), &mut frame, &calls, &wanted));
-    assert!(rt; table_of(&frame.y_plane) == [Some([1, 2, 3]), Some([4, 5, 6])]);
+fn calls_are_answered_and_write_their_plane(rt: HostRuntime) {
+    for case in [&COPIED, &GAPS, &LARGEST, &READ, &IN_ZEROS, &BESIDE_NINE] {
+        check_replay(&rt, rt.alloc(), case);
+    }
 }
 
 #[test]
 fn no_call_takes_no_memory(rt: HostRuntime) {
-    let mut frame = zeros(&rt, rt.alloc(), BARE);
+    let mut frame = with_buffer::<u8>(&rt, rt.alloc(), BARE, &[0; 6]);
     let calls: [VisibleCall<u8>; 0] = [];
     let answers = replay(rt.alloc(), &mut frame, &calls);
-    assert!(rt; answers.is_ok());
-    assert_eq!(rt; answers.map(|answers| answers.len()).ok(), Some(0));
-    assert!(rt; table_of(&frame.y_plane) == [Some([0, 0, 0]), Some([0, 0, 0])]);
-}
-
-#[test]
-fn writes_leave_gaps_and_stop_at_the_width(rt: HostRuntime) {
-    let mut frame = numbered(&rt, rt.alloc(), BORDERED);
-    let calls = [
-        copy(&rt, rt.alloc(), &[1, 2, 3, 4, 5, 6]),
-        row_mut(&rt, rt.alloc(), 0, &[None, Some(8), None, Some(5)]),
-        row_mut(&rt, rt.alloc(), 2, &[Some(9)]),
-    ];
-    let wanted = [
-        Answer::Copied(Ok(())),
-        row_shown(&rt, rt.alloc(), &[1, 2, 3]),
-        Answer::RowShown(None),
-    ];
-    assert!(rt; answers_are(&rt, rt.alloc(), &mut frame, &calls, &wanted));
-    assert!(rt; table_of(&frame.y_plane) == [Some([1, 8, 3]), Some([4, 5, 6])]);
-    assert!(rt; frame.y_plane.data() == bordered_buffer([1, 8, 3, 4, 5, 6]).as_slice());
-}
-
-#[test]
-fn sizes_of_three_planes_are_replayed(rt: HostRuntime) {
-    let mut frame = padded((4, 2), Yuv420, 8, [2, 2, 2, 0])
-        .build::<u8>(rt.alloc())
-        .expect(&rt, "a frame");
-    let calls: [VisibleCall<u8>; 3] = [
-        VisibleCall::Width { plane: 1 },
-        VisibleCall::Height { plane: 2 },
-        VisibleCall::Width { plane: 3 },
-    ];
-    let wanted = [Answer::Number(2), Answer::Number(1), Answer::NoPlane];
-    assert!(rt; answers_are(&rt, rt.alloc(), &mut frame, &calls, &wanted));
-}
-
-#[test]
-fn chroma_of_two_bytes_is_replayed(rt: HostRuntime) {
-    let mut frame = FrameBuilder::new(2, 2, Yuv422, 16)
-        .build::<u16>(rt.alloc())
-        .expect(&rt, "a frame");
-    let calls = [
-        VisibleCall::CopyFromSlice {
-            plane: 2,
-            source: sequence(&rt, rt.alloc(), &[65535, 1]),
-        },
-        VisibleCall::Row { plane: 1, y: 0 },
-        VisibleCall::Row { plane: 2, y: 0 },
-    ];
-    let wanted = [
-        Answer::Copied(Ok(())),
-        row_shown(&rt, rt.alloc(), &[0]),
-        row_shown(&rt, rt.alloc(), &[65535]),
-    ];
-    assert!(rt; answers_are(&rt, rt.alloc(), &mut frame, &calls, &wanted));
+    assert!(rt; answers.is_ok_and(|answers| answers.is_empty()));
+    assert!(rt; frame.y_plane.data() == [0; 6].as_slice());
 }

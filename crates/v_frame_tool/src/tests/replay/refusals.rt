@@ -4,117 +4,106 @@
 //! there and shows nothing; where a request of its replay is refused, the calls in front are done, no other has written
 //! anything, and the test passes.
 
-use crate::tests::support::answers::{calls_done, pixels_walked, row_shown, rows_walked};
-use crate::tests::support::buffers::{NUMBERED_SIX, bordered_buffer};
-use crate::tests::support::calls::{copy, pixels, pixels_mut, row_mut, rows, rows_mut};
-use crate::tests::support::frames::{BORDERED, counted, numbered};
+use crate::tests::support::answers::{Step, calls_done};
+use crate::tests::support::calls::Call::{
+    CopyPixels, Pixels, PixelsMut, Row, RowMut, Rows, RowsMut,
+};
+use crate::tests::support::frames::{BORDERED, Layout, with_buffer};
 use std::alloc::Global;
 use std::process::Abort;
-use v_frame::replay::{Answer, Side, VisibleCall};
+use v_frame::replay::Side::{Back, Front};
 
-/// Whether a numbered frame stays as it is until the second call, which has to copy 1 to 6, is done, and has these pixels
-/// from then on.
-fn copies_second(
-    rt: &impl Abort,
-    alloc: Global,
-    calls: &[VisibleCall<u8>],
-    wanted: &[Answer<u8>],
-) -> bool {
-    let mut frame = numbered(rt, alloc, BORDERED);
-    let done = calls_done(rt, alloc, &mut frame, calls, wanted);
-    let left = if done < 2 {
-        NUMBERED_SIX
-    } else {
-        [1, 2, 3, 4, 5, 6]
-    };
-    frame.y_plane.data() == bordered_buffer(left).as_slice()
+/// A replay that may be stopped after any of its calls.
+struct Stopped {
+    /// The size and the paddings of the plane.
+    layout: Layout,
+    /// The calls and their answers.
+    steps: &'static [Step<'static, u8>],
+    /// The buffer before the calls, after the first of them, and so on to the last.
+    buffers: &'static [&'static [u8]],
 }
 
-#[test]
-fn a_stopped_replay_has_done_its_first_calls(rt: HostRuntime) {
-    let calls = [
-        VisibleCall::Row { plane: 0, y: 0 },
-        copy(&rt, rt.alloc(), &[1, 2, 3, 4, 5, 6]),
-        VisibleCall::Row { plane: 0, y: 0 },
-        VisibleCall::Row { plane: 0, y: 1 },
-    ];
-    let wanted = [
-        row_shown(&rt, rt.alloc(), &[107, 108, 109]),
-        Answer::Copied(Ok(())),
-        row_shown(&rt, rt.alloc(), &[1, 2, 3]),
-        row_shown(&rt, rt.alloc(), &[4, 5, 6]),
-    ];
-    assert!(rt; copies_second(&rt, rt.alloc(), &calls, &wanted));
-}
+/// A picture in a numbered border.
+const PICTURE: [u8; 18] = [
+    100, 101, 102, 103, 104, 105, 106, 1, 2, 3, 110, 111, 112, 4, 5, 6, 116, 117,
+];
 
-#[test]
-fn a_stopped_iteration_leaves_the_calls_in_front(rt: HostRuntime) {
-    let calls = [
-        rows(&rt, rt.alloc(), &[Side::Front]),
-        copy(&rt, rt.alloc(), &[1, 2, 3, 4, 5, 6]),
-        pixels(&rt, rt.alloc(), &[Side::Back]),
-        rows(&rt, rt.alloc(), &[Side::Back, Side::Back]),
-        VisibleCall::Row { plane: 0, y: 0 },
-    ];
-    let (numbers, above, below) = ([107, 108, 109], [1, 2, 3], [4, 5, 6]);
-    let first = [(Some(numbers.as_slice()), 1)];
-    let both = [(Some(below.as_slice()), 1), (Some(above.as_slice()), 0)];
-    let wanted = [
-        rows_walked(&rt, rt.alloc(), 2, &first),
-        Answer::Copied(Ok(())),
-        pixels_walked(&rt, rt.alloc(), 6, &[(Some(6), 5)]),
-        rows_walked(&rt, rt.alloc(), 2, &both),
-        row_shown(&rt, rt.alloc(), &above),
-    ];
-    assert!(rt; copies_second(&rt, rt.alloc(), &calls, &wanted));
-}
+/// The same after a copy.
+const OTHER: [u8; 18] = [
+    100, 101, 102, 103, 104, 105, 106, 9, 8, 7, 110, 111, 112, 6, 5, 4, 116, 117,
+];
 
-#[test]
-fn a_replay_stopped_between_two_writes(rt: HostRuntime) {
-    let mut frame = numbered(&rt, rt.alloc(), BORDERED);
-    let calls = [
-        row_mut(&rt, rt.alloc(), 0, &[Some(1), Some(2), Some(3)]),
-        row_mut(&rt, rt.alloc(), 1, &[Some(4), Some(5), Some(6)]),
-    ];
-    let wanted = [
-        row_shown(&rt, rt.alloc(), &[107, 108, 109]),
-        row_shown(&rt, rt.alloc(), &[113, 114, 115]),
-    ];
-    let left = match calls_done(&rt, rt.alloc(), &mut frame, &calls, &wanted) {
-        0 => NUMBERED_SIX,
-        1 => [1, 2, 3, 113, 114, 115],
-        _ => [1, 2, 3, 4, 5, 6],
-    };
-    assert!(rt; frame.y_plane.data() == bordered_buffer(left).as_slice());
-}
-
-#[test]
-fn a_stopped_writing_iteration_has_written_nothing(rt: HostRuntime) {
-    let mut frame = counted(&rt, rt.alloc(), BORDERED);
-    let draws = [
-        (Side::Back, [Some(7)].as_slice()),
-        (Side::Front, [None, Some(8)].as_slice()),
-    ];
-    let calls = [
-        rows_mut(&rt, rt.alloc(), &draws),
-        pixels_mut(
-            &rt,
-            rt.alloc(),
-            &[(Side::Front, Some(9)), (Side::Back, Some(10))],
+/// Reads before and after a copy.
+static COPIED: Stopped = Stopped {
+    layout: BORDERED,
+    steps: &[
+        (Row(0, 0), "RowShown(Some([1, 2, 3]))"),
+        (
+            Rows(0, &[Back]),
+            "RowsWalked { total: 2, drawn: [Drawn { item: Some([4, 5, 6]), left: 1 }] }",
         ),
-    ];
-    let drawn = [
-        (Some([4, 5, 6].as_slice()), 1),
-        (Some([1, 2, 3].as_slice()), 0),
-    ];
-    let wanted = [
-        rows_walked(&rt, rt.alloc(), 2, &drawn),
-        pixels_walked(&rt, rt.alloc(), 6, &[(Some(1), 5), (Some(6), 4)]),
-    ];
-    let left = match calls_done(&rt, rt.alloc(), &mut frame, &calls, &wanted) {
-        0 => [1, 2, 3, 4, 5, 6],
-        1 => [1, 8, 3, 7, 5, 6],
-        _ => [9, 8, 3, 7, 5, 10],
-    };
-    assert!(rt; frame.y_plane.data() == bordered_buffer(left).as_slice());
+        (CopyPixels(0, &[9, 8, 7, 6, 5, 4]), "Copied(Ok(()))"),
+        (
+            Pixels(0, &[Back]),
+            "PixelsWalked { total: 6, drawn: [Drawn { item: Some(4), left: 5 }] }",
+        ),
+        (
+            Rows(0, &[Back, Back]),
+            "RowsWalked { total: 2, drawn: [Drawn { item: Some([6, 5, 4]), left: 1 }, \
+             Drawn { item: Some([9, 8, 7]), left: 0 }] }",
+        ),
+    ],
+    buffers: &[&PICTURE, &PICTURE, &PICTURE, &OTHER, &OTHER, &OTHER],
+};
+
+/// Two rows that are written, one by one.
+static ROWS: Stopped = Stopped {
+    layout: (2, 2, [0, 0, 0, 0]),
+    steps: &[
+        (RowMut(0, 0, &[Some(1), Some(2)]), "RowShown(Some([0, 0]))"),
+        (RowMut(0, 1, &[Some(3), Some(4)]), "RowShown(Some([0, 0]))"),
+    ],
+    buffers: &[&[0, 0, 0, 0], &[1, 2, 0, 0], &[1, 2, 3, 4]],
+};
+
+/// Rows and pixels that are written by iterations.
+static ITERATED: Stopped = Stopped {
+    layout: BORDERED,
+    steps: &[
+        (
+            RowsMut(0, &[(Back, &[Some(7)]), (Front, &[None, Some(8)])]),
+            "RowsWalked { total: 2, drawn: [Drawn { item: Some([4, 5, 6]), left: 1 }, \
+             Drawn { item: Some([1, 2, 3]), left: 0 }] }",
+        ),
+        (
+            PixelsMut(0, &[(Front, Some(9)), (Back, Some(10))]),
+            "PixelsWalked { total: 6, drawn: [Drawn { item: Some(1), left: 5 }, \
+             Drawn { item: Some(6), left: 4 }] }",
+        ),
+    ],
+    buffers: &[
+        &PICTURE,
+        &[
+            100, 101, 102, 103, 104, 105, 106, 1, 8, 3, 110, 111, 112, 7, 5, 6, 116, 117,
+        ],
+        &[
+            100, 101, 102, 103, 104, 105, 106, 9, 8, 3, 110, 111, 112, 7, 5, 10, 116, 117,
+        ],
+    ],
+};
+
+/// Stops the test where the calls that were not done have written anything, or those that were done have not.
+fn check_stop(rt: &impl Abort, alloc: Global, case: &Stopped) {
+    let before = case.buffers.first().expect(rt, "a buffer");
+    let mut frame = with_buffer(rt, alloc, case.layout, *before);
+    let done = calls_done(rt, alloc, &mut frame, case.steps);
+    let left = case.buffers.get(done).expect(rt, "a buffer");
+    assert!(rt; frame.y_plane.data() == *left);
+}
+
+#[test]
+fn a_stopped_replay_has_done_its_first_calls_and_written_no_more(rt: HostRuntime) {
+    for case in [&COPIED, &ROWS, &ITERATED] {
+        check_stop(&rt, rt.alloc(), case);
+    }
 }

@@ -1,120 +1,81 @@
-//! Answers as values, and replays that have to give them.
+//! Replays that have to give answers of these texts.
 
-use crate::tests::support::calls::sequence;
+use crate::tests::support::calls::{Call, visible};
+use crate::tests::support::frames::{Layout, with_buffer};
+use crate::tests::support::texts::shows;
 use std::alloc::Global;
 use std::process::Abort;
 use v_frame::frame::Frame;
 use v_frame::pixel::Pixel;
-use v_frame::replay::{Answer, Drawn, Sequence, VisibleCall, replay};
+use v_frame::replay::{Answer, Sequence, VisibleCall, replay};
 
-/// The answer of a call that read a row.
-pub fn row_shown<T: Copy>(rt: &impl Abort, alloc: Global, row: &[T]) -> Answer<T> {
-    Answer::RowShown(Some(sequence(rt, alloc, row)))
+/// A call, and the debug text of its answer.
+pub type Step<'a, T> = (Call<'a, T>, &'a str);
+
+/// A replay on a luma plane.
+pub struct Replay<'a, T> {
+    /// The size and the paddings of the plane.
+    pub layout: Layout,
+    /// The buffer before the calls, with the border.
+    pub before: &'a [T],
+    /// The calls and their answers.
+    pub steps: &'a [Step<'a, T>],
+    /// The buffer after the calls.
+    pub after: &'a [T],
 }
 
-/// Items that an iterator gave, each with how many it left.
-pub fn drawn<I: Copy>(
+/// The calls, as a replay takes them.
+pub fn calls_of<T: Copy>(
     rt: &impl Abort,
     alloc: Global,
-    draws: &[(Option<I>, usize)],
-) -> Sequence<Drawn<I>> {
-    let mut drawn = Vec::new(alloc);
-    for (item, left) in draws {
-        let draw = Drawn {
-            item: *item,
-            left: *left,
-        };
-        drawn.push(draw).expect(rt, "memory");
+    steps: &[Step<'_, T>],
+) -> Vec<VisibleCall<T>> {
+    let mut calls = Vec::new(alloc);
+    for (call, _answer) in steps {
+        calls.push(visible(rt, alloc, call)).expect(rt, "memory");
     }
-    drawn.into()
+    calls
 }
 
-/// Rows that an iterator gave, each with how many it left.
-pub fn drawn_rows<T: Copy>(
+/// How many answers there are, which have to be those of the first calls.
+pub fn are_told<T: Pixel>(
     rt: &impl Abort,
     alloc: Global,
-    draws: &[(Option<&[T]>, usize)],
-) -> Sequence<Drawn<Sequence<T>>> {
-    let mut drawn = Vec::new(alloc);
-    for (row, left) in draws {
-        let item = match row {
-            Some(row) => Some(sequence(rt, alloc, *row)),
-            None => None,
-        };
-        let draw = Drawn { item, left: *left };
-        drawn.push(draw).expect(rt, "memory");
+    answers: &[Answer<T>],
+    steps: &[Step<'_, T>],
+) -> usize {
+    for (answer, (_call, text)) in answers.iter().zip(steps) {
+        assert!(rt; shows(rt, alloc, answer, *text), "{text}");
     }
-    drawn.into()
+    answers.len()
 }
 
-/// The answer of an iteration over rows.
-pub fn rows_walked<T: Copy>(
-    rt: &impl Abort,
-    alloc: Global,
-    total: usize,
-    draws: &[(Option<&[T]>, usize)],
-) -> Answer<T> {
-    Answer::RowsWalked {
-        total,
-        drawn: drawn_rows(rt, alloc, draws),
-    }
-}
-
-/// The answer of an iteration over pixels.
-pub fn pixels_walked<T: Copy>(
-    rt: &impl Abort,
-    alloc: Global,
-    total: usize,
-    draws: &[(Option<T>, usize)],
-) -> Answer<T> {
-    Answer::PixelsWalked {
-        total,
-        drawn: drawn(rt, alloc, draws),
-    }
-}
-
-/// The answer of an iteration over bytes.
-pub fn bytes_walked<T>(
-    rt: &impl Abort,
-    alloc: Global,
-    total: usize,
-    draws: &[(Option<u8>, usize)],
-) -> Answer<T> {
-    Answer::BytesWalked {
-        total,
-        drawn: drawn(rt, alloc, draws),
-    }
-}
-
-/// Whether a replay, which has to find its memory, gives these answers.
-pub fn answers_are<T: Pixel>(
-    rt: &impl Abort,
-    alloc: Global,
-    frame: &mut Frame<T>,
-    calls: &[VisibleCall<T>],
-    wanted: &[Answer<T>],
-) -> bool {
-    let answers = replay(alloc, frame, calls).expect(rt, "memory");
-    answers.as_slice() == wanted
-}
-
-/// How many calls a replay did, which has to give these answers: all of them, or the first few where a request for
+/// How many calls a replay did, each of which has to give its answer: all of them, or the first few where a request for
 /// memory is refused.
 pub fn calls_done<T: Pixel>(
     rt: &impl Abort,
     alloc: Global,
     frame: &mut Frame<T>,
-    calls: &[VisibleCall<T>],
-    wanted: &[Answer<T>],
+    steps: &[Step<'_, T>],
 ) -> usize {
-    let stopped = match replay(alloc, frame, calls) {
-        Ok(answers) => {
-            assert!(rt; answers.as_slice() == wanted);
-            return calls.len();
-        }
-        Err(stopped) => stopped,
+    let calls = calls_of(rt, alloc, steps);
+    let (answers, stops): (Sequence<Answer<T>>, bool) = match replay(
+        alloc,
+        frame,
+        calls.as_slice(),
+    ) {
+        Ok(answers) => (answers.into(), false),
+        Err(stopped) => (stopped.done, true),
     };
-    let done = stopped.done.as_slice();
-    assert!(rt; done.len() < calls.len() && Some(done) == wanted.get(..done.len()));
-    done.len()
+    let done = are_told(rt, alloc, answers.as_slice(), steps);
+    assert!(rt; done <= steps.len() && (done < steps.len()) == stops);
+    done
+}
+
+/// Stops the test where a replay does not answer as it has to, or leaves another buffer.
+pub fn check_replay<T: Pixel>(rt: &impl Abort, alloc: Global, case: &Replay<'_, T>) {
+    let mut frame = with_buffer(rt, alloc, case.layout, case.before);
+    let done = calls_done(rt, alloc, &mut frame, case.steps);
+    assert!(rt; done == case.steps.len());
+    assert!(rt; frame.y_plane.data() == case.after);
 }

@@ -1,74 +1,6 @@
-//! Buffers whose entries are numbered, so that each entry of a border has a value of its own.
+//! Buffers of three pixels by two in a border.
 
-use crate::tests::support::frames::{BORDERED, Layout, numbered};
-use std::alloc::Global;
-use std::process::Abort;
-use v_frame::pixel::Pixel;
-use v_frame::plane::Plane;
-
-/// The number of the entry at a place: 100 and the place, or 0xA100 and the place where a pixel has two bytes.
-pub fn number_at<T: Pixel>(rt: &impl Abort, place: usize) -> T {
-    let first: u16 = if T::BYTES == 1 { 100 } else { 0xA100 };
-    let place = u16::try_from(place).ok().expect(rt, "a small buffer");
-    let number = first.checked_add(place).expect(rt, "a small number");
-    T::try_from_u16(number).expect(rt, "a pixel")
-}
-
-/// Numbers the entries of a plane, in the border too.
-pub fn number_entries<T: Pixel>(rt: &impl Abort, plane: &mut Plane<T>) {
-    for (place, entry) in plane.data_mut().iter_mut().enumerate() {
-        *entry = number_at(rt, place);
-    }
-}
-
-/// A numbered buffer of so many entries.
-pub fn numbers<T: Pixel>(rt: &impl Abort, alloc: Global, count: usize) -> Vec<T> {
-    let mut buffer = Vec::new(alloc);
-    for place in 0..count {
-        buffer.push(number_at(rt, place)).expect(rt, "memory");
-    }
-    buffer
-}
-
-/// The numbered buffer of a plane, but with these visible pixels, row after row.
-pub fn expected_buffer<T: Pixel>(
-    rt: &impl Abort,
-    alloc: Global,
-    (width, height, [left, right, top, bottom]): Layout,
-    pixels: &[T],
-) -> Vec<T> {
-    let (right_edge, lower_edge) = (left.saturating_add(width), top.saturating_add(height));
-    let mut pixels = pixels.iter();
-    let mut buffer = Vec::new(alloc);
-    for row in 0..lower_edge.saturating_add(bottom) {
-        for column in 0..right_edge.saturating_add(right) {
-            let in_rows = top <= row && row < lower_edge;
-            let entry = if in_rows && left <= column && column < right_edge {
-                *pixels.next().expect(rt, "a pixel")
-            } else {
-                number_at(rt, buffer.len())
-            };
-            buffer.push(entry).expect(rt, "memory");
-        }
-    }
-    buffer
-}
-
-/// Whether a plane has the numbered buffer, but with these visible pixels.
-pub fn holds<T: Pixel>(
-    rt: &impl Abort,
-    alloc: Global,
-    plane: &Plane<T>,
-    layout: Layout,
-    pixels: &[T],
-) -> bool {
-    plane.data() == expected_buffer(rt, alloc, layout, pixels).as_slice()
-}
-
-/// The visible pixels of a numbered plane of the layout `BORDERED`.
-pub const NUMBERED_SIX: [u8; 6] = [107, 108, 109, 113, 114, 115];
-
-/// The numbered buffer of three pixels by two, of the layout `BORDERED`, but with these visible pixels.
+/// A buffer whose border entries have a value each, with these visible pixels.
 pub const fn bordered_buffer(pixels: [u8; 6]) -> [u8; 18] {
     let [a, b, c, d, e, f] = pixels;
     [
@@ -82,21 +14,4 @@ pub const fn buffer_in_200(pixels: [u8; 6]) -> [u8; 18] {
     [
         200, 200, 200, 200, 200, 200, 200, a, b, c, 200, 200, 200, d, e, f, 200, 200,
     ]
-}
-
-#[test]
-fn an_expected_buffer_is_numbered_around_its_pixels(rt: HostRuntime) {
-    let pixels: [u8; 6] = [1, 2, 3, 4, 5, 6];
-    let buffer = expected_buffer(&rt, rt.alloc(), BORDERED, &pixels);
-    assert!(rt; buffer.as_slice() == bordered_buffer(pixels).as_slice());
-    let words = expected_buffer::<u16>(&rt, rt.alloc(), (1, 1, [0, 1, 0, 1]), &[7]);
-    assert!(rt; words.as_slice() == [7, 0xA101, 0xA102, 0xA103].as_slice());
-}
-
-#[test]
-fn a_numbered_plane_is_numbered_whole(rt: HostRuntime) {
-    let frame = numbered::<u8>(&rt, rt.alloc(), BORDERED);
-    let buffer = bordered_buffer(NUMBERED_SIX);
-    assert!(rt; frame.y_plane.data() == buffer.as_slice());
-    assert!(rt; frame.y_plane.data() == numbers(&rt, rt.alloc(), 18).as_slice());
 }

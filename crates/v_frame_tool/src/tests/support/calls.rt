@@ -1,123 +1,123 @@
-//! Calls on the plane 0, as values.
+//! Calls of a replay as plain data.
 
 use std::alloc::Global;
 use std::process::Abort;
 use v_frame::replay::{PixelDraw, RowDraw, Sequence, Side, VisibleCall};
 
+/// A call of a replay: first the plane, and then what the call of that name takes.
+pub enum Call<'a, T> {
+    /// The width.
+    Width(usize),
+    /// The height.
+    Height(usize),
+    /// The row at y.
+    Row(usize, usize),
+    /// The row at y, which is overwritten.
+    RowMut(usize, usize, &'a [Option<T>]),
+    /// The pixel at x and y.
+    Pixel(usize, usize, usize),
+    /// The pixel at x and y, which is replaced.
+    PixelMut(usize, usize, usize, T),
+    /// A copy of pixels.
+    CopyPixels(usize, &'a [T]),
+    /// A copy of bytes with a stride.
+    CopyStrided(usize, &'a [u8], usize),
+    /// Rows from these sides.
+    Rows(usize, &'a [Side]),
+    /// Pixels from these sides.
+    Pixels(usize, &'a [Side]),
+    /// Bytes from these sides.
+    Bytes(usize, &'a [Side]),
+    /// Rows from these sides, which are overwritten.
+    RowsMut(usize, &'a [(Side, &'a [Option<T>])]),
+    /// Pixels from these sides, which are replaced.
+    PixelsMut(usize, &'a [(Side, Option<T>)]),
+}
+
 /// A sequence of these items.
-pub fn sequence<T: Copy>(rt: &impl Abort, alloc: Global, items: &[T]) -> Sequence<T> {
+fn sequence<T: Copy>(rt: &impl Abort, alloc: Global, items: &[T]) -> Sequence<T> {
     Sequence::from_slice(alloc, items).expect(rt, "memory")
 }
 
-/// A copy of pixels.
-pub fn copy<T: Copy>(rt: &impl Abort, alloc: Global, source: &[T]) -> VisibleCall<T> {
-    VisibleCall::CopyFromSlice {
-        plane: 0,
-        source: sequence(rt, alloc, source),
-    }
-}
-
-/// A copy of bytes with a stride.
-pub fn strided<T>(rt: &impl Abort, alloc: Global, source: &[u8], stride: usize) -> VisibleCall<T> {
-    VisibleCall::CopyFromU8SliceWithStride {
-        plane: 0,
-        source: sequence(rt, alloc, source),
-        stride,
-    }
-}
-
-/// A row overwritten.
-pub fn row_mut<T: Copy>(
-    rt: &impl Abort,
-    alloc: Global,
-    y: usize,
-    writes: &[Option<T>],
-) -> VisibleCall<T> {
-    VisibleCall::RowMut {
-        plane: 0,
-        y,
-        writes: sequence(rt, alloc, writes),
-    }
-}
-
-/// An iteration over rows.
-pub fn rows<T>(rt: &impl Abort, alloc: Global, draws: &[Side]) -> VisibleCall<T> {
-    VisibleCall::Rows {
-        plane: 0,
-        draws: sequence(rt, alloc, draws),
-    }
-}
-
-/// An iteration over pixels.
-pub fn pixels<T>(rt: &impl Abort, alloc: Global, draws: &[Side]) -> VisibleCall<T> {
-    VisibleCall::Pixels {
-        plane: 0,
-        draws: sequence(rt, alloc, draws),
-    }
-}
-
-/// An iteration over bytes.
-pub fn bytes<T>(rt: &impl Abort, alloc: Global, draws: &[Side]) -> VisibleCall<T> {
-    VisibleCall::ByteData {
-        plane: 0,
-        draws: sequence(rt, alloc, draws),
-    }
-}
-
-/// The list of calls on an iterator of lent rows, with what each writes.
-pub fn row_draws<T: Copy>(
+/// The calls on an iterator of lent rows, with what each writes.
+fn row_draws<T: Copy>(
     rt: &impl Abort,
     alloc: Global,
     draws: &[(Side, &[Option<T>])],
 ) -> Sequence<RowDraw<T>> {
     let mut list = Vec::new(alloc);
     for (side, writes) in draws {
-        let draw = RowDraw {
-            side: *side,
-            writes: sequence(rt, alloc, *writes),
-        };
-        list.push(draw).expect(rt, "memory");
+        let (side, writes) = (*side, sequence(rt, alloc, *writes));
+        list.push(RowDraw { side, writes }).expect(rt, "memory");
     }
     list.into()
 }
 
-/// The list of calls on an iterator of lent pixels, with what each writes.
-pub fn pixel_draws<T: Copy>(
+/// The calls on an iterator of lent pixels, with what each writes.
+fn pixel_draws<T: Copy>(
     rt: &impl Abort,
     alloc: Global,
     draws: &[(Side, Option<T>)],
 ) -> Sequence<PixelDraw<T>> {
     let mut list = Vec::new(alloc);
     for (side, value) in draws {
-        let draw = PixelDraw {
-            side: *side,
-            value: *value,
-        };
-        list.push(draw).expect(rt, "memory");
+        let (side, value) = (*side, *value);
+        list.push(PixelDraw { side, value }).expect(rt, "memory");
     }
     list.into()
 }
 
-/// An iteration that writes rows.
-pub fn rows_mut<T: Copy>(
-    rt: &impl Abort,
-    alloc: Global,
-    draws: &[(Side, &[Option<T>])],
-) -> VisibleCall<T> {
-    VisibleCall::RowsMut {
-        plane: 0,
-        draws: row_draws(rt, alloc, draws),
+/// An iteration, as a replay takes it.
+fn iteration<T: Copy>(rt: &impl Abort, alloc: Global, call: &Call<'_, T>) -> VisibleCall<T> {
+    match *call {
+        Call::Rows(plane, sides) => {
+            let draws = sequence(rt, alloc, sides);
+            VisibleCall::Rows { plane, draws }
+        }
+        Call::Pixels(plane, sides) => {
+            let draws = sequence(rt, alloc, sides);
+            VisibleCall::Pixels { plane, draws }
+        }
+        Call::Bytes(plane, sides) => {
+            let draws = sequence(rt, alloc, sides);
+            VisibleCall::ByteData { plane, draws }
+        }
+        Call::RowsMut(plane, draws) => {
+            let draws = row_draws(rt, alloc, draws);
+            VisibleCall::RowsMut { plane, draws }
+        }
+        Call::PixelsMut(plane, draws) => {
+            let draws = pixel_draws(rt, alloc, draws);
+            VisibleCall::PixelsMut { plane, draws }
+        }
+        _ => panic!(rt; "no iteration"),
     }
 }
 
-/// An iteration that writes pixels.
-pub fn pixels_mut<T: Copy>(
-    rt: &impl Abort,
-    alloc: Global,
-    draws: &[(Side, Option<T>)],
-) -> VisibleCall<T> {
-    VisibleCall::PixelsMut {
-        plane: 0,
-        draws: pixel_draws(rt, alloc, draws),
+/// A call, as a replay takes it.
+pub fn visible<T: Copy>(rt: &impl Abort, alloc: Global, call: &Call<'_, T>) -> VisibleCall<T> {
+    match *call {
+        Call::Width(plane) => VisibleCall::Width { plane },
+        Call::Height(plane) => VisibleCall::Height { plane },
+        Call::Row(plane, y) => VisibleCall::Row { plane, y },
+        Call::Pixel(plane, x, y) => VisibleCall::Pixel { plane, x, y },
+        Call::PixelMut(plane, x, y, value) => VisibleCall::PixelMut { plane, x, y, value },
+        Call::RowMut(plane, y, writes) => {
+            let writes = sequence(rt, alloc, writes);
+            VisibleCall::RowMut { plane, y, writes }
+        }
+        Call::CopyPixels(plane, pixels) => {
+            let source = sequence(rt, alloc, pixels);
+            VisibleCall::CopyFromSlice { plane, source }
+        }
+        Call::CopyStrided(plane, bytes, stride) => {
+            let source = sequence(rt, alloc, bytes);
+            VisibleCall::CopyFromU8SliceWithStride {
+                plane,
+                source,
+                stride,
+            }
+        }
+        _ => iteration(rt, alloc, call),
     }
 }

@@ -1,19 +1,6 @@
-//! What planes and geometries tell, as plain values.
+//! What geometries tell, as plain values.
 
-use v_frame::plane::{Plane, PlaneGeometry};
-
-/// The first two rows, where each has three pixels.
-pub fn table_of(plane: &Plane<u8>) -> [Option<[u8; 3]>; 2] {
-    [three_of(plane.row(0)), three_of(plane.row(1))]
-}
-
-/// The pixels of a row of three.
-pub fn three_of(row: Option<&[u8]>) -> Option<[u8; 3]> {
-    match row {
-        Some([a, b, c]) => Some([*a, *b, *c]),
-        _ => None,
-    }
-}
+use v_frame::plane::PlaneGeometry;
 
 /// The size, the stride, the paddings left, right, top and bottom, and the ratios.
 pub fn numbers_of(geometry: &PlaneGeometry) -> [usize; 9] {

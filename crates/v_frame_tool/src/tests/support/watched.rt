@@ -1,7 +1,7 @@
-//! A reader and a writer that tell how they were called.
+//! A writer that tells how it was called.
 
 use std::alloc::Global;
-use std::io::{self, ErrorKind, Read, Write};
+use std::io::{self, ErrorKind, Write};
 
 /// A writer that counts its calls.
 #[derive(Drop)]
@@ -48,42 +48,5 @@ impl Write for WatchedWriter {
     fn flush(&mut self) -> io::Result<()> {
         self.flushes = self.flushes.saturating_add(1);
         Ok(())
-    }
-}
-
-/// A reader that counts its calls.
-#[derive(Drop)]
-pub struct WatchedReader<'a> {
-    /// What is left of the source.
-    pub left: &'a [u8],
-    /// How many bytes a call gives at most.
-    pub most: usize,
-    /// The call of `read` that fails, counted from 1, or 0 where none does.
-    pub failing: usize,
-    /// How many calls of `read` there were.
-    pub reads: usize,
-}
-
-/// A reader that was not called, gives so many bytes of a source a call, and fails at the call of this number.
-pub fn watched_reader(source: &[u8], most: usize, failing: usize) -> WatchedReader<'_> {
-    WatchedReader {
-        left: source,
-        most,
-        failing,
-        reads: 0,
-    }
-}
-
-impl Read for WatchedReader<'_> {
-    fn read(&mut self, buf: &mut [u8]) -> io::Result<usize> {
-        self.reads = self.reads.saturating_add(1);
-        if self.reads == self.failing {
-            return Err(io::Error::from(ErrorKind::Interrupted));
-        }
-        let count = self.most.min(buf.len()).min(self.left.len());
-        let (first, rest) = self.left.split_at(count);
-        buf[..count].copy_from_slice(first);
-        self.left = rest;
-        Ok(count)
     }
 }

@@ -1,4 +1,4 @@
-//! Writers that fail, and that take little.
+//! A writer that takes little, and fails or takes nothing from then on.
 ghost use Rattle.std.specs.Prelude.{◌≡◌, IfOk};
 
 use std::io::{self, Cursor, ErrorKind, Write};
@@ -19,50 +19,6 @@ fn answer(habit: Habit) -> io::Result<usize>
     match habit {
         Habit::TakesNone => Ok(0),
         Habit::Fails => Err(io::Error::from(ErrorKind::Interrupted)),
-    }
-}
-
-/// A writer of one habit.
-#[derive(Drop)]
-pub struct Stubborn(pub Habit);
-
-impl Write for Stubborn {
-    fn write(&mut self, _buf: &[u8]) -> io::Result<usize> {
-        answer(self.0)
-    }
-
-    fn flush(&mut self) -> io::Result<()> {
-        Ok(())
-    }
-}
-
-/// A writer that has its habit at the first call alone, and from then on takes all that it has room for.
-#[derive(Drop)]
-pub struct AtFirst {
-    /// What it does at the first call, until then.
-    pub habit: Option<Habit>,
-    /// What was taken.
-    pub taken: Cursor<[u8; 64]>,
-}
-
-/// A writer of this habit at its first call.
-pub fn at_first(habit: Habit) -> AtFirst {
-    AtFirst {
-        habit: Some(habit),
-        taken: Cursor::new([0; 64]),
-    }
-}
-
-impl Write for AtFirst {
-    fn write(&mut self, buf: &[u8]) -> io::Result<usize> {
-        match self.habit.take() {
-            Some(habit) => answer(habit),
-            None => self.taken.write(buf),
-        }
-    }
-
-    fn flush(&mut self) -> io::Result<()> {
-        Ok(())
     }
 }
 

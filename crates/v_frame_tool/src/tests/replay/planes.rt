@@ -1,0 +1,56 @@
+//! Calls on each of three planes.
+
+use crate::tests::support::answers::{Step, calls_done};
+use crate::tests::support::calls::Call::{CopyPixels, Height, Row, Width};
+use crate::tests::support::frames::{padded, zeros};
+use v_frame::chroma::ChromaSubsampling::{Yuv420, Yuv422};
+
+/// The sizes of padded planes.
+static SIZES: [Step<'static, u8>; 3] = [
+    (Width(1), "Number(2)"),
+    (Height(2), "Number(1)"),
+    (Width(3), "NoPlane"),
+];
+
+#[test]
+fn sizes_of_three_planes_are_answered(rt: HostRuntime) {
+    let built = padded((4, 2), Yuv420, 8, [2, 2, 2, 0]).build::<u8>(rt.alloc());
+    let mut frame = built.expect(&rt, "a frame");
+    assert!(rt; calls_done(&rt, rt.alloc(), &mut frame, &SIZES) == 3);
+}
+
+/// A copy into a plane of words.
+static COPIED: [Step<'static, u16>; 3] = [
+    (CopyPixels(2, &[65535, 1]), "Copied(Ok(()))"),
+    (Row(1, 0), "RowShown(Some([0]))"),
+    (Row(2, 0), "RowShown(Some([65535]))"),
+];
+
+#[test]
+fn chroma_of_two_bytes_is_written(rt: HostRuntime) {
+    let built = padded((2, 2), Yuv422, 16, [0; 4]).build::<u16>(rt.alloc());
+    let mut frame = built.expect(&rt, "a frame");
+    assert!(rt; calls_done(&rt, rt.alloc(), &mut frame, &COPIED) == 3);
+}
+
+/// Calls on a frame whose U plane has another size, and which has no V plane.
+static REPLACED: [Step<'static, u8>; 5] = [
+    (Width(1), "Number(3)"),
+    (Height(1), "Number(1)"),
+    (
+        CopyPixels(1, &[7]),
+        "Copied(Err(DataLength { expected: 3, found: 1 }))",
+    ),
+    (Width(2), "NoPlane"),
+    (CopyPixels(0, &[1, 2, 3, 4]), "Copied(Ok(()))"),
+];
+
+#[test]
+fn planes_that_a_user_replaced_are_replayed(rt: HostRuntime) {
+    let built = padded((2, 2), Yuv420, 8, [0; 4]).build::<u8>(rt.alloc());
+    let mut frame = built.expect(&rt, "a frame");
+    frame.u_plane = Some(zeros(&rt, rt.alloc(), (3, 1, [0; 4])).y_plane);
+    frame.v_plane = None;
+    assert!(rt; calls_done(&rt, rt.alloc(), &mut frame, &REPLACED) == 5);
+    assert!(rt; frame.y_plane.data() == [1, 2, 3, 4].as_slice());
+}
