@@ -1,7 +1,6 @@
-//! Planes: compared, read by iterators, lent, and written through what iterators lend.
+//! Planes: compared, read by iterators, lent, and written through what is lent.
 
 mod equality;
 mod iterators;
 mod lent;
 mod row_pairs;
-mod writing_iterators;

@@ -1,5 +1,5 @@
-//! What tests of more than one file stand on: frames, and comparisons.
+//! What tests of more than one file stand on: frames, buffers and texts.
 
 pub mod buffers;
 pub mod frames;
-pub mod reads;
+pub mod texts;

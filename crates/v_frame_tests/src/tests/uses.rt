@@ -2,12 +2,11 @@
 //! whole buffer.
 
 use crate::tests::support::buffers::bordered_buffer;
-use crate::tests::support::frames::{BORDERED, showing};
-use std::alloc::Global;
-use std::process::Abort;
+use crate::tests::support::frames::bordered;
+use crate::tests::support::texts::shows;
 use v_frame::chroma::ChromaSubsampling;
 use v_frame::frame::{FrameBuilder, FrameError};
-use v_frame::plane::{CopyError, PlaneGeometry};
+use v_frame::plane::PlaneGeometry;
 use v_frame::replay::Answer;
 use v_frame_planar::Counted;
 use v_frame_uses::answers::first_answers;
@@ -20,7 +19,7 @@ use v_frame_uses::streams::{brighten_frames, copy_frames, through_memory};
 
 #[test]
 fn a_picture_is_made_brighter(rt: HostRuntime) {
-    let mut frame = showing(&rt, rt.alloc(), BORDERED, &[1, 2, 3, 150, 200, 255]);
+    let mut frame = bordered(&rt, rt.alloc(), [1, 2, 3, 150, 200, 255]);
     let brightened = brighten(rt.alloc(), &mut frame, 100).is_ok();
     let wanted = bordered_buffer([101, 102, 103, 250, 255, 255]);
     assert!(rt; brightened && frame.y_plane.data() == wanted.as_slice());
@@ -29,54 +28,33 @@ fn a_picture_is_made_brighter(rt: HostRuntime) {
 #[test]
 fn frames_are_refused_and_measured(rt: HostRuntime) {
     let odd = FrameBuilder::new(1921, 1080, ChromaSubsampling::Yuv420, 8);
+    let reason = reason_not_to_build::<u8>(rt.alloc(), odd);
+    assert!(rt; reason == Some(FrameError::UnsupportedResolution));
     let even = FrameBuilder::new(4, 2, ChromaSubsampling::Yuv422, 8);
+    assert!(rt; built_chroma_size::<u8>(rt.alloc(), even) == Ok(Some((2, 2))));
     let plain = FrameBuilder::new(4, 2, ChromaSubsampling::Monochrome, 8);
-    let told = (
-        reason_not_to_build::<u8>(rt.alloc(), odd),
-        built_chroma_size::<u8>(rt.alloc(), even),
-        reason_not_to_build::<u8>(rt.alloc(), plain),
-    );
-    let wanted = (
-        Some(FrameError::UnsupportedResolution),
-        Ok(Some((2, 2))),
-        None,
-    );
-    assert!(rt; told == wanted);
+    assert!(rt; reason_not_to_build::<u8>(rt.alloc(), plain).is_none());
 }
 
 #[test]
 fn bytes_come_back(rt: HostRuntime) {
-    let mut plane = showing(&rt, rt.alloc(), BORDERED, &[1, 2, 3, 4, 5, 6]).y_plane;
+    let mut plane = bordered(&rt, rt.alloc(), [1, 2, 3, 4, 5, 6]).y_plane;
     let mut out = Vec::new(rt.alloc());
     let copied = through_a_plane(&mut plane, &[9, 8, 7, 6, 5, 4], &mut out).expect(&rt, "memory");
     assert!(rt; copied.is_ok() && out.as_slice() == [9, 8, 7, 6, 5, 4].as_slice());
     assert!(rt; plane.data() == bordered_buffer([9, 8, 7, 6, 5, 4]).as_slice());
 }
 
-/// What comes out where a source with this stride goes through a plane of 3 by 2 pixels.
-fn stripped(
-    rt: &impl Abort,
-    alloc: Global,
-    source: &[u8],
-    stride: usize,
-) -> (Vec<u8>, Result<(), CopyError>) {
-    let mut plane = showing(rt, alloc, BORDERED, &[1, 2, 3, 4, 5, 6]).y_plane;
-    let mut out = Vec::new(alloc);
-    let copied = without_tails(&mut plane, source, stride, &mut out).expect(rt, "memory");
-    (out, copied)
-}
-
 #[test]
 fn bytes_come_back_without_tails(rt: HostRuntime) {
     let source = [9, 8, 7, 99, 6, 5, 4, 99];
-    let (bytes, copied) = stripped(&rt, rt.alloc(), &source, 4);
-    assert!(rt; copied.is_ok() && bytes.as_slice() == [9, 8, 7, 6, 5, 4].as_slice());
-    let (bytes, refused) = stripped(&rt, rt.alloc(), &source, 2);
-    let wanted = CopyError::InvalidStride {
-        stride: 2,
-        width: 3,
-    };
-    assert!(rt; bytes.is_empty() && refused == Err(wanted));
+    let mut plane = bordered(&rt, rt.alloc(), [1, 2, 3, 4, 5, 6]).y_plane;
+    let mut out = Vec::new(rt.alloc());
+    let refused = without_tails(&mut plane, &source, 2, &mut out).expect(&rt, "memory");
+    let answer = "Err(InvalidStride { stride: 2, width: 3 })";
+    assert!(rt; shows(&rt, rt.alloc(), &refused, answer) && out.is_empty());
+    let copied = without_tails(&mut plane, &source, 4, &mut out).expect(&rt, "memory");
+    assert!(rt; copied.is_ok() && out.as_slice() == [9, 8, 7, 6, 5, 4].as_slice());
 }
 
 #[test]
@@ -91,8 +69,7 @@ fn a_first_frame_is_read(rt: HostRuntime) {
 #[test]
 fn a_new_frame_answers(rt: HostRuntime) {
     let answers = first_answers(rt.alloc()).expect(&rt, "a frame");
-    let ends = (answers.first(), answers.last());
-    assert!(rt; ends == (Some(&Answer::Number(3)), Some(&Answer::NoPlane)));
+    assert!(rt; answers.first() == Some(&Answer::Number(3)));
 }
 
 #[test]
@@ -105,7 +82,7 @@ fn a_plane_counts_its_places(rt: HostRuntime) {
 
 #[test]
 fn a_copy_is_filled_and_compared(rt: HostRuntime) {
-    let frame = showing(&rt, rt.alloc(), BORDERED, &[1, 2, 3, 4, 5, 6]);
+    let frame = bordered(&rt, rt.alloc(), [1, 2, 3, 4, 5, 6]);
     let (copy, same) = copy_with_plane(rt.alloc(), &frame, 0, &[7, 8, 9, 10, 11, 12]).expect(
         &rt, "memory",
     );
@@ -116,7 +93,7 @@ fn a_copy_is_filled_and_compared(rt: HostRuntime) {
 #[test]
 fn streams_are_copied_and_made_brighter(rt: HostRuntime) {
     let alloc = rt.alloc();
-    let mut frame = showing(&rt, alloc, BORDERED, &[0; 6]);
+    let mut frame = bordered(&rt, alloc, [0; 6]);
     let bytes = [1, 2, 3, 4, 5, 6, 250, 251, 252, 253, 254, 255];
     let mut reader = Counted::new(bytes.as_slice());
     let mut writer = Counted::new(Vec::new(alloc));
@@ -134,8 +111,8 @@ fn streams_are_copied_and_made_brighter(rt: HostRuntime) {
 
 #[test]
 fn a_frame_goes_through_memory(rt: HostRuntime) {
-    let from = showing(&rt, rt.alloc(), BORDERED, &[1, 2, 3, 4, 5, 6]);
-    let mut to = showing(&rt, rt.alloc(), BORDERED, &[0; 6]);
+    let from = bordered(&rt, rt.alloc(), [1, 2, 3, 4, 5, 6]);
+    let mut to = bordered(&rt, rt.alloc(), [0; 6]);
     assert!(rt; through_memory(rt.alloc(), &from, &mut to) == Ok(()));
     assert!(rt; to == from);
 }

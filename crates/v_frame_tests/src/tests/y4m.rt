@@ -1,14 +1,15 @@
 //! YUV4MPEG2 streams: headers as ffmpeg writes them, the text of each refusal, and streams that are copied or cut off.
 
+use crate::tests::support::texts::shows;
 use std::alloc::Global;
 use std::io::{self, ErrorKind, Read};
 use std::process::Abort;
-use v_frame_planar::{Counted, PlanarError};
+use v_frame_planar::Counted;
 use v_frame_uses::y4m::{copy_frame, copy_header};
 use v_frame_y4m::{Y4mError, header_line, parse_header, read_frame, read_header};
 
 /// Lines that ffmpeg wrote.
-const LINES: [&str; 6] = [
+static LINES: [&str; 6] = [
     "YUV4MPEG2 W35 H27 F25:1 Ip A36:35 C420jpeg XYSCSS=420JPEG XCOLORRANGE=LIMITED",
     "YUV4MPEG2 W36 H28 F30000:1001 Ip A10:11 C420mpeg2 XYSCSS=420MPEG2 XCOLORRANGE=LIMITED",
     "YUV4MPEG2 W35 H27 F24000:1001 Ip A36:35 C420p10 XYSCSS=420P10 XCOLORRANGE=LIMITED",
@@ -25,8 +26,8 @@ fn written_back(rt: &impl Abort, alloc: Global, line: &str) -> Vec<u8> {
 
 #[test]
 fn headers_of_ffmpeg_come_back(rt: HostRuntime) {
-    for line in LINES {
-        assert!(rt; written_back(&rt, rt.alloc(), line).as_slice() == line.as_bytes());
+    for line in &LINES {
+        assert!(rt; written_back(&rt, rt.alloc(), *line).as_slice() == line.as_bytes());
     }
 }
 
@@ -37,7 +38,7 @@ fn parameters_are_put_in_order(rt: HostRuntime) {
 }
 
 /// Lines that are refused, and the message of each.
-const REFUSED: [(&str, &str); 11] = [
+static REFUSED: [(&str, &str); 11] = [
     ("YUV4MPEG", "not a YUV4MPEG2 stream"),
     ("YUV4MPEG2 W35", "parameter H is missing"),
     ("YUV4MPEG2 W35 H12 W35", "parameter W stands twice"),
@@ -56,12 +57,12 @@ const REFUSED: [(&str, &str); 11] = [
 
 #[test]
 fn refusals_say_why(rt: HostRuntime) {
-    for (line, message) in REFUSED {
+    for (line, message) in &REFUSED {
         let told = match parse_header(rt.alloc(), line.as_bytes()) {
             Ok(_) => String::new(rt.alloc()),
             Err(error) => error.to_string(rt.alloc()).expect(&rt, "memory"),
         };
-        assert!(rt; told.as_str() == message);
+        assert!(rt; told.as_str() == *message);
     }
 }
 
@@ -95,16 +96,20 @@ fn second_frame(rt: &impl Abort, alloc: Global, length: usize) -> Result<bool, Y
     read_frame(alloc, &mut reader, &mut frame)
 }
 
+/// Lengths of the stream, and the debug text of the answer.
+static CUT_OFF: [(usize, &str); 4] = [
+    (92, "Ok(false)"),
+    (94, "Err(UnfinishedLine)"),
+    (101, "Err(Planar(Truncated { expected: 60, found: 0 }))"),
+    (103, "Err(Planar(Truncated { expected: 60, found: 2 }))"),
+];
+
 #[test]
 fn streams_that_are_cut_off_say_where(rt: HostRuntime) {
-    let truncated = |found| Err(Y4mError::Planar(PlanarError::Truncated {
-        expected: 60,
-        found,
-    }));
-    assert!(rt; second_frame(&rt, rt.alloc(), 92) == Ok(false));
-    assert!(rt; second_frame(&rt, rt.alloc(), 94) == Err(Y4mError::UnfinishedLine));
-    assert!(rt; second_frame(&rt, rt.alloc(), 101) == truncated(0));
-    assert!(rt; second_frame(&rt, rt.alloc(), 103) == truncated(2));
+    for (length, answer) in &CUT_OFF {
+        let second = second_frame(&rt, rt.alloc(), *length);
+        assert!(rt; shows(&rt, rt.alloc(), &second, *answer), "{length} bytes");
+    }
 }
 
 /// A reader that gives one byte of a source at each call, and fails after as many calls.
@@ -136,7 +141,7 @@ fn streams_come_byte_by_byte(rt: HostRuntime) {
     let mut frame = header.frame::<u8>(rt.alloc(), 0).expect(&rt, "memory");
     assert!(rt; read_frame(rt.alloc(), &mut reader, &mut frame) == Ok(true));
     assert!(rt; frame.y_plane.row(0) == Some(b"abcdefghijklmnopqrstuvwxyz0123".as_slice()));
-    let failed = Err(Y4mError::Planar(PlanarError::Read));
-    assert!(rt; read_frame(rt.alloc(), &mut reader, &mut frame) == failed);
+    let failed = read_frame(rt.alloc(), &mut reader, &mut frame);
+    assert!(rt; shows(&rt, rt.alloc(), &failed, "Err(Planar(Read))"));
     assert!(rt; reader.last_failure() == Some(ErrorKind::BrokenPipe));
 }

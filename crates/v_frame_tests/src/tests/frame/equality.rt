@@ -32,25 +32,25 @@ fn changed(
     frame
 }
 
+/// Changes that make another frame.
+static CHANGES: [Change; 7] = [
+    (Yuv444, 10, [true, true], None),
+    (Yuv420, 12, [true, true], None),
+    (Yuv420, 10, [false, true], None),
+    (Yuv420, 10, [true, false], None),
+    (Yuv420, 10, [true, true], Some(0)),
+    (Yuv420, 10, [true, true], Some(1)),
+    (Yuv420, 10, [true, true], Some(2)),
+];
+
 #[test]
 fn frames_are_equal_in_all_five_fields(rt: HostRuntime) {
     let unchanged = (Yuv420, 10, [true, true], None);
-    let cases = [
-        (unchanged, true),
-        ((Yuv444, 10, [true, true], None), false),
-        ((Yuv420, 12, [true, true], None), false),
-        ((Yuv420, 10, [false, true], None), false),
-        ((Yuv420, 10, [true, false], None), false),
-        ((Yuv420, 10, [true, true], Some(0)), false),
-        ((Yuv420, 10, [true, true], Some(1)), false),
-        ((Yuv420, 10, [true, true], Some(2)), false),
-    ];
-    for (change, equal) in cases {
-        let frame = changed(&rt, rt.alloc(), unchanged);
-        let other = changed(&rt, rt.alloc(), change);
-        assert!(rt;
-            (frame == other, frame != other) == (equal, !equal),
-            "{change:?}"
-        );
+    let frame = changed(&rt, rt.alloc(), unchanged);
+    let same = changed(&rt, rt.alloc(), unchanged);
+    assert!(rt; frame == same && !(frame != same));
+    for change in &CHANGES {
+        let other = changed(&rt, rt.alloc(), *change);
+        assert!(rt; frame != other && !(frame == other), "{change:?}");
     }
 }

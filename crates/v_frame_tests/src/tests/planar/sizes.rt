@@ -1,55 +1,68 @@
 //! Frames of any size in every format: the sizes of chroma, the border, and what is refused.
 
+use crate::tests::support::texts::shows;
 use ChromaSubsampling::{Monochrome, Yuv411, Yuv420, Yuv422, Yuv444};
 use std::alloc::Global;
 use std::process::Abort;
 use v_frame::chroma::ChromaSubsampling;
-use v_frame::frame::{Frame, FrameBuilder, FrameError};
+use v_frame::frame::{Frame, FrameBuilder};
 use v_frame::pixel::Pixel;
 use v_frame::plane::Plane;
 use v_frame_planar::video_frame;
 
-/// The size of a plane in pixels.
-fn size_of<T>(plane: &Plane<T>) -> (usize, usize) {
-    (plane.width(), plane.height())
+/// The size of a plane in pixels, where it is there.
+fn size_of<T>(plane: Option<&Plane<T>>) -> Option<(usize, usize)> {
+    match plane {
+        Some(plane) => Some((plane.width(), plane.height())),
+        None => None,
+    }
 }
 
-/// The size of chroma in a frame of this luma size, where both chroma planes have it and all is zero.
-fn chroma_size<T: Pixel>(
+/// Sizes of luma, formats, and sizes of chroma.
+static SIZES: [((usize, usize), ChromaSubsampling, Option<(usize, usize)>); 14] = [
+    ((1, 1), Yuv420, Some((1, 1))),
+    ((1, 1), Yuv411, Some((1, 1))),
+    ((1, 1), Monochrome, None),
+    ((2, 3), Yuv420, Some((1, 2))),
+    ((2, 3), Yuv422, Some((1, 3))),
+    ((2, 3), Yuv411, Some((1, 3))),
+    ((7, 5), Yuv420, Some((4, 3))),
+    ((7, 5), Yuv422, Some((4, 5))),
+    ((7, 5), Yuv411, Some((2, 5))),
+    ((7, 5), Yuv444, Some((7, 5))),
+    ((35, 27), Yuv420, Some((18, 14))),
+    ((35, 27), Yuv422, Some((18, 27))),
+    ((35, 27), Yuv411, Some((9, 27))),
+    ((35, 27), Monochrome, None),
+];
+
+/// Stops the test where a frame of this size has chroma of another one.
+fn check_sizes<T: Pixel>(
     rt: &impl Abort,
     alloc: Global,
-    (width, height): (usize, usize),
-    subsampling: ChromaSubsampling,
+    (luma, subsampling, chroma): ((usize, usize), ChromaSubsampling, Option<(usize, usize)>),
     bit_depth: u8,
-) -> Option<(usize, usize)> {
-    let frame: Frame<T> = video_frame(alloc, width, height, subsampling, bit_depth, 3).expect(
+) {
+    let frame: Frame<T> = video_frame(alloc, luma.0, luma.1, subsampling, bit_depth, 3).expect(
         rt, "a frame",
     );
-    assert!(rt; size_of(&frame.y_plane) == (width, height));
     assert!(rt; (frame.subsampling, frame.bit_depth.get()) == (subsampling, bit_depth));
-    assert!(rt; frame.y_plane.data().iter().all(|pixel| *pixel == T::ZERO));
-    let u = frame.u_plane.as_ref().map(size_of);
-    let v = frame.v_plane.as_ref().map(size_of);
-    assert!(rt; u == v);
-    u
+    let sizes = [
+        size_of(frame.plane(0)),
+        size_of(frame.plane(1)),
+        size_of(frame.plane(2)),
+    ];
+    assert!(rt;
+        sizes == [Some(luma), chroma, chroma],
+        "{luma:?} {subsampling:?}"
+    );
 }
 
 #[test]
 fn chroma_covers_luma_of_any_size(rt: HostRuntime) {
-    let formats = [Yuv420, Yuv422, Yuv411, Yuv444, Monochrome];
-    let table = [
-        ((1, 1), [(1, 1), (1, 1), (1, 1), (1, 1)]),
-        ((2, 3), [(1, 2), (1, 3), (1, 3), (2, 3)]),
-        ((7, 5), [(4, 3), (4, 5), (2, 5), (7, 5)]),
-        ((35, 27), [(18, 14), (18, 27), (9, 27), (35, 27)]),
-    ];
-    for (luma, sizes) in table {
-        for (index, subsampling) in formats.into_iter().enumerate() {
-            let chroma = sizes.get(index).copied();
-            let bytes = chroma_size::<u8>(&rt, rt.alloc(), luma, subsampling, 8);
-            let words = chroma_size::<u16>(&rt, rt.alloc(), luma, subsampling, 10);
-            assert!(rt; (bytes, words) == (chroma, chroma));
-        }
+    for sizes in &SIZES {
+        check_sizes::<u8>(&rt, rt.alloc(), *sizes, 8);
+        check_sizes::<u16>(&rt, rt.alloc(), *sizes, 10);
     }
 }
 
@@ -89,22 +102,43 @@ fn a_frame_that_divides_is_as_built(rt: HostRuntime) {
     }
 }
 
-/// Why there is no such frame of bytes.
-fn refusal(alloc: Global, size: (usize, usize), depth: u8, padding: usize) -> Option<FrameError> {
-    video_frame::<u8>(alloc, size.0, size.1, Yuv420, depth, padding).err()
-}
+/// Widths, heights, depths and paddings of which there is no frame of bytes in 4:2:0, and the debug text of the reason.
+static REFUSED: [([usize; 2], u8, usize, &str); 10] = [
+    ([0, 1], 7, 0, "Some(UnsupportedBitDepth { found: 7 })"),
+    ([0, 1], 10, 0, "Some(DataTypeMismatch)"),
+    ([0, 1], 8, 0, "Some(UnsupportedResolution)"),
+    ([1, 0], 8, 0, "Some(UnsupportedResolution)"),
+    ([usize::MAX, 1], 8, 0, "Some(UnsupportedResolution)"),
+    ([1, usize::MAX], 8, 0, "Some(UnsupportedResolution)"),
+    ([1, 1], 8, usize::MAX, "Some(UnsupportedResolution)"),
+    (
+        [1, 1],
+        8,
+        18446744073709551614,
+        "Some(UnsupportedResolution)",
+    ),
+    (
+        [1, 1],
+        8,
+        9223372036854775807,
+        "Some(UnsupportedResolution)",
+    ),
+    (
+        [1, 1],
+        8,
+        4611686018427387904,
+        "Some(UnsupportedResolution)",
+    ),
+];
 
 #[test]
 fn frames_are_refused_for_the_first_reason(rt: HostRuntime) {
-    let alloc = rt.alloc();
-    let depth = FrameError::UnsupportedBitDepth { found: 7 };
-    assert!(rt; refusal(alloc, (0, 1), 7, 0) == Some(depth));
-    assert!(rt; refusal(alloc, (0, 1), 10, 0) == Some(FrameError::DataTypeMismatch));
-    let none = Some(FrameError::UnsupportedResolution);
-    for size in [(0, 1), (1, 0), (usize::MAX, 1), (1, usize::MAX)] {
-        assert!(rt; refusal(alloc, size, 8, 0) == none);
-    }
-    for padding in [usize::MAX, usize::MAX - 1, usize::MAX / 2, 1 << 62] {
-        assert!(rt; refusal(alloc, (1, 1), 8, padding) == none);
+    for ([width, height], depth, padding, reason) in &REFUSED {
+        let frame = video_frame::<u8>(rt.alloc(), *width, *height, Yuv420, *depth, *padding);
+        let told = frame.err();
+        assert!(rt;
+            shows(&rt, rt.alloc(), &told, *reason),
+            "{width} by {height}"
+        );
     }
 }

@@ -28,40 +28,32 @@ fn holding(
     plane
 }
 
+/// The shape that others are compared with.
+const SHAPE: Shape = ([2, 1, 1, 1], [1, 1]);
+
+/// Its entries.
+const ENTRIES: [Option<u8>; 4] = [Some(1), Some(2), Some(3), Some(4)];
+
+/// Shapes and entries that make another plane.
+static OTHERS: [(Shape, [Option<u8>; 4]); 9] = [
+    (SHAPE, [Some(9), Some(2), Some(3), Some(4)]),
+    (SHAPE, [Some(1), Some(2), Some(3), Some(9)]),
+    (SHAPE, [Some(1), Some(9), Some(3), Some(4)]),
+    (SHAPE, [Some(1), None, Some(3), Some(4)]),
+    (([2, 1, 2, 0], [1, 1]), ENTRIES),
+    (([4, 1, 0, 0], [1, 1]), ENTRIES),
+    (([2, 2, 0, 0], [1, 1]), ENTRIES),
+    (([2, 1, 1, 1], [2, 1]), ENTRIES),
+    (([2, 1, 1, 1], [1, 2]), ENTRIES),
+];
+
 #[test]
 fn planes_are_equal_in_geometry_and_in_each_entry(rt: HostRuntime) {
-    let (padded, ratios) = ([2, 1, 1, 1], [1, 1]);
-    let entries = [Some(1), Some(2), Some(3), Some(4)];
-    let cases = [
-        ((padded, ratios), entries, true),
-        (
-            (padded, ratios),
-            [Some(9), Some(2), Some(3), Some(4)],
-            false,
-        ),
-        (
-            (padded, ratios),
-            [Some(1), Some(2), Some(3), Some(9)],
-            false,
-        ),
-        (
-            (padded, ratios),
-            [Some(1), Some(9), Some(3), Some(4)],
-            false,
-        ),
-        ((padded, ratios), [Some(1), None, Some(3), Some(4)], false),
-        (([2, 1, 2, 0], ratios), entries, false),
-        (([4, 1, 0, 0], ratios), entries, false),
-        (([2, 2, 0, 0], ratios), entries, false),
-        ((padded, [2, 1]), entries, false),
-        ((padded, [1, 2]), entries, false),
-    ];
-    for (shape, other_entries, equal) in cases {
-        let plane = holding(&rt, rt.alloc(), (padded, ratios), entries);
-        let other = holding(&rt, rt.alloc(), shape, other_entries);
-        assert!(rt;
-            (plane == other, plane != other) == (equal, !equal),
-            "{shape:?}"
-        );
+    let plane = holding(&rt, rt.alloc(), SHAPE, ENTRIES);
+    let same = holding(&rt, rt.alloc(), SHAPE, ENTRIES);
+    assert!(rt; plane == same && !(plane != same));
+    for (shape, entries) in &OTHERS {
+        let other = holding(&rt, rt.alloc(), *shape, *entries);
+        assert!(rt; plane != other && !(plane == other), "{shape:?}");
     }
 }

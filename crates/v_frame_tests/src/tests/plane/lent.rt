@@ -1,6 +1,7 @@
 //! Planes that are made without a frame, and planes whose buffer is kept elsewhere.
 
 use crate::tests::support::buffers::bordered_buffer;
+use crate::tests::support::texts::shows;
 use std::process::Abort;
 use v_frame::plane::{Plane, PlaneGeometry, PlaneRef};
 
@@ -9,44 +10,29 @@ fn geometry(rt: &impl Abort) -> PlaneGeometry {
     PlaneGeometry::new(3, 2, 1, 2, 1, 0, 1, 1).expect(rt, "a geometry")
 }
 
-/// The pixels past the first row, the last one, and the one past the buffer.
-fn pixels_around(plane: &PlaneRef<'_, u8>) -> [Option<u8>; 3] {
-    [plane.pixel(3, 0), plane.pixel(2, 1), plane.pixel(5, 1)]
-}
-
-/// Whether a plane shows the rows 1, 2, 3 and 4, 5, 6, by rows, by pixels and by bytes.
-fn counts_to_six(plane: &PlaneRef<'_, u8>) -> bool {
-    let rows = plane.row(0) == Some([1, 2, 3].as_slice())
-        && plane.row(1) == Some([4, 5, 6].as_slice())
-        && plane.row(2).is_none();
-    let iterators = plane.pixels().rev().eq([6, 5, 4, 3, 2, 1])
-        && plane.byte_data().eq([1, 2, 3, 4, 5, 6])
-        && plane.rows().len() == 2;
-    rows && iterators
-}
-
 #[test]
 fn an_array_is_read_as_a_plane(rt: HostRuntime) {
     let entries = bordered_buffer([1, 2, 3, 4, 5, 6]);
-    let plane = PlaneRef::new(geometry(&rt), entries.as_slice()).expect(&rt, "a plane");
-    assert!(rt; (plane.width(), plane.height()) == (3, 2) && plane.geometry() == geometry(&rt));
-    assert!(rt; counts_to_six(&plane) && counts_to_six(&plane.again()));
-    assert!(rt; pixels_around(&plane) == [Some(110), Some(6), None]);
-    assert!(rt; plane.data() == entries.as_slice());
+    let lent = PlaneRef::new(geometry(&rt), entries.as_slice()).expect(&rt, "a plane");
+    assert!(rt; lent.data() == entries.as_slice() && lent.geometry() == geometry(&rt));
+    let plane = lent.again();
+    assert!(rt; (plane.width(), plane.height()) == (3, 2));
+    assert!(rt; plane.row(1) == Some([4, 5, 6].as_slice()) && plane.row(2).is_none());
+    let around = [plane.pixel(3, 0), plane.pixel(2, 1), plane.pixel(5, 1)];
+    assert!(rt; around == [Some(110), Some(6), None]);
+    assert!(rt; shows(&rt, rt.alloc(), &plane.rows(), "[[1, 2, 3], [4, 5, 6]]"));
+    assert!(rt; shows(&rt, rt.alloc(), &plane.pixels(), "[1, 2, 3, 4, 5, 6]"));
+    assert!(rt; shows(&rt, rt.alloc(), &plane.byte_data(), "[1, 2, 3, 4, 5, 6]"));
 }
 
 #[test]
 fn a_buffer_of_another_length_is_no_plane(rt: HostRuntime) {
     let entries = [0u8; 19];
-    for length in [0, 12, 17, 19] {
+    for (length, is_plane) in [(0, false), (17, false), (18, true), (19, false)] {
         let buffer = entries.get(..length).expect(&rt, "a part");
-        assert!(rt;
-            PlaneRef::new(geometry(&rt), buffer).is_none(),
-            "{length} entries"
-        );
+        let plane = PlaneRef::new(geometry(&rt), buffer);
+        assert!(rt; plane.is_some() == is_plane, "{length} entries");
     }
-    let buffer = entries.get(..18).expect(&rt, "a part");
-    assert!(rt; PlaneRef::new(geometry(&rt), buffer).is_some());
 }
 
 #[test]

@@ -1,6 +1,6 @@
-//! Luma planes alone, with a picture in a numbered border.
+//! Luma planes alone.
 
-use crate::tests::support::buffers::number_entries;
+use crate::tests::support::buffers::bordered_buffer;
 use std::alloc::Global;
 use std::process::Abort;
 use v_frame::chroma::ChromaSubsampling;
@@ -15,8 +15,13 @@ pub const BORDERED: Layout = (3, 2, [1, 2, 1, 0]);
 /// Three pixels by two with a border on all sides.
 pub const BORDERED_ALL_ROUND: Layout = (3, 2, [1, 2, 1, 1]);
 
-/// A luma plane of bytes whose entries are numbered, in the border too.
-pub fn numbered(rt: &impl Abort, alloc: Global, (width, height, padding): Layout) -> Frame<u8> {
+/// A luma plane of bytes that shows these pixels, row after row, in a border of zeros.
+pub fn showing(
+    rt: &impl Abort,
+    alloc: Global,
+    (width, height, padding): Layout,
+    pixels: &[u8],
+) -> Frame<u8> {
     let [left, right, top, bottom] = padding;
     let mut frame = FrameBuilder::new(width, height, ChromaSubsampling::Monochrome, 8)
         .luma_padding_left(left)
@@ -25,21 +30,17 @@ pub fn numbered(rt: &impl Abort, alloc: Global, (width, height, padding): Layout
         .luma_padding_bottom(bottom)
         .build::<u8>(alloc)
         .expect(rt, "a frame");
-    number_entries(rt, &mut frame.y_plane);
-    frame
-}
-
-/// A luma plane that shows these pixels, row after row, in a border whose entries are numbered.
-pub fn showing(rt: &impl Abort, alloc: Global, layout: Layout, pixels: &[u8]) -> Frame<u8> {
-    let mut frame = numbered(rt, alloc, layout);
     frame.y_plane.copy_from_slice(pixels).expect(rt, "a copy");
     frame
 }
 
-/// A luma plane that shows the pixels 1, 2 and on, row after row, in a border whose entries are numbered.
-pub fn counted(rt: &impl Abort, alloc: Global, layout: Layout) -> Frame<u8> {
-    let source = [1, 2, 3, 4, 5, 6, 7, 8, 9, 10, 11, 12];
-    let (width, height, _padding) = layout;
-    let pixels = source.get(..width.saturating_mul(height));
-    showing(rt, alloc, layout, pixels.expect(rt, "too many pixels"))
+/// These pixels, three by two, in a border whose entries have a value each.
+pub fn bordered(rt: &impl Abort, alloc: Global, pixels: [u8; 6]) -> Frame<u8> {
+    let mut frame = showing(rt, alloc, BORDERED, &pixels);
+    let data = frame.y_plane.data_mut();
+    if data.len() != 18 {
+        panic!(rt; "another size");
+    }
+    data.copy_from_slice(&bordered_buffer(pixels));
+    frame
 }
