@@ -5,11 +5,24 @@ use crate::tests::support::texts::shows;
 use std::alloc::Global;
 use std::process::Abort;
 use v_frame::pixel::Pixel;
+use v_frame::plane::Plane;
 
 /// A copy: the source, its stride, the debug text of the answer, and the buffer after it.
 type Copied<'a, T> = (&'a [u8], usize, &'a str, &'a [T]);
 
-/// Stops the test where copies into a plane of zeros, one after the other, answer or leave anything else.
+/// Stops the test where a copy into a plane answers or leaves anything else.
+fn check_copy<T: Pixel>(
+    rt: &impl Abort,
+    alloc: Global,
+    plane: &mut Plane<T>,
+    (source, stride, answer, after): Copied<'_, T>,
+) {
+    let copied = plane.copy_from_u8_slice_with_stride(source, stride);
+    assert!(rt; shows(rt, alloc, &copied, answer), "{answer}");
+    assert!(rt; plane.data() == after, "{answer}");
+}
+
+/// The same of copies into a plane of zeros, one after the other.
 fn check_copies<T: Pixel>(
     rt: &impl Abort,
     alloc: Global,
@@ -17,12 +30,8 @@ fn check_copies<T: Pixel>(
     copies: &[Copied<'_, T>],
 ) {
     let mut frame = zeros::<T>(rt, alloc, layout);
-    for (source, stride, answer, after) in copies {
-        let copied = frame
-            .y_plane
-            .copy_from_u8_slice_with_stride(*source, *stride);
-        assert!(rt; shows(rt, alloc, &copied, *answer), "{answer}");
-        assert!(rt; frame.y_plane.data() == *after, "{answer}");
+    for copied in copies {
+        check_copy(rt, alloc, &mut frame.y_plane, *copied);
     }
 }
 

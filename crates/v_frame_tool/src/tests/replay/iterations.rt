@@ -42,7 +42,7 @@ static WRITTEN_BARE: Replay<'static, u8> = Replay {
 };
 
 /// The same in a border of 200: twelve entries.
-const WRITTEN_IN_200: Replay<'static, u8> = Replay {
+static WRITTEN_IN_200: Replay<'static, u8> = Replay {
     layout: BORDERED,
     before: &[
         200, 200, 200, 200, 200, 200, //
