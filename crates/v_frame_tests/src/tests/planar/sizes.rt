@@ -103,28 +103,28 @@ fn a_frame_that_divides_is_as_built(rt: HostRuntime) {
 }
 
 /// Widths, heights, depths and paddings of which there is no frame of bytes in 4:2:0, and the debug text of the reason.
-static REFUSED: [([usize; 2], u8, usize, &str); 10] = [
-    ([0, 1], 7, 0, "Some(UnsupportedBitDepth { found: 7 })"),
-    ([0, 1], 10, 0, "Some(DataTypeMismatch)"),
-    ([0, 1], 8, 0, "Some(UnsupportedResolution)"),
-    ([1, 0], 8, 0, "Some(UnsupportedResolution)"),
-    ([usize::MAX, 1], 8, 0, "Some(UnsupportedResolution)"),
-    ([1, usize::MAX], 8, 0, "Some(UnsupportedResolution)"),
-    ([1, 1], 8, usize::MAX, "Some(UnsupportedResolution)"),
+static REFUSED: [((usize, usize), u8, usize, &str); 10] = [
+    ((0, 1), 7, 0, "Some(UnsupportedBitDepth { found: 7 })"),
+    ((0, 1), 10, 0, "Some(DataTypeMismatch)"),
+    ((0, 1), 8, 0, "Some(UnsupportedResolution)"),
+    ((1, 0), 8, 0, "Some(UnsupportedResolution)"),
+    ((usize::MAX, 1), 8, 0, "Some(UnsupportedResolution)"),
+    ((1, usize::MAX), 8, 0, "Some(UnsupportedResolution)"),
+    ((1, 1), 8, usize::MAX, "Some(UnsupportedResolution)"),
     (
-        [1, 1],
+        (1, 1),
         8,
         18446744073709551614,
         "Some(UnsupportedResolution)",
     ),
     (
-        [1, 1],
+        (1, 1),
         8,
         9223372036854775807,
         "Some(UnsupportedResolution)",
     ),
     (
-        [1, 1],
+        (1, 1),
         8,
         4611686018427387904,
         "Some(UnsupportedResolution)",
@@ -133,8 +133,9 @@ static REFUSED: [([usize; 2], u8, usize, &str); 10] = [
 
 #[test]
 fn frames_are_refused_for_the_first_reason(rt: HostRuntime) {
-    for ([width, height], depth, padding, reason) in &REFUSED {
-        let frame = video_frame::<u8>(rt.alloc(), *width, *height, Yuv420, *depth, *padding);
+    for (size, depth, padding, reason) in &REFUSED {
+        let (width, height) = *size;
+        let frame = video_frame::<u8>(rt.alloc(), width, height, Yuv420, *depth, *padding);
         let told = frame.err();
         assert!(rt;
             shows(&rt, rt.alloc(), &told, *reason),

@@ -28,6 +28,8 @@ fn a_write_is_one_call_and_no_flush(rt: HostRuntime) {
     let failed = out.write(&[3]);
     assert!(rt; failed.is_err() && out.failures() == 1);
     check_calls(&rt, &out, [3, 1, 0], &[1, 2]);
+    assert!(rt; out.write_all(&[]).is_ok());
+    check_calls(&rt, &out, [3, 1, 0], &[1, 2]);
 }
 
 /// How many bytes a call takes at most, the call that fails, the answer to writing 1 to 5, the calls, and what is taken.

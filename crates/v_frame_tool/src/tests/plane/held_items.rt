@@ -4,17 +4,22 @@ use crate::tests::support::buffers::buffer_in_200;
 use crate::tests::support::frames::{in_200, with_buffer};
 use v_frame::plane::Plane;
 
+/// Writes this pixel of a lent row.
+fn write_held(row: Option<&mut [u8]>, x: usize, value: u8) {
+    if let Some(row) = row {
+        if let Some(pixel) = row.get_mut(x) {
+            *pixel = value;
+        }
+    }
+}
+
 /// Writes 40 to the last row's first pixel and then 30 to the first row's last, once their iterator is gone.
 fn write_held_rows(plane: &mut Plane<u8>) {
     let mut rows = plane.rows_mut();
     let (first, last) = (rows.next(), rows.next_back());
     drop(rows);
-    if let Some([pixel, ..]) = last {
-        *pixel = 40;
-    }
-    if let Some([.., pixel]) = first {
-        *pixel = 30;
-    }
+    write_held(last, 0, 40);
+    write_held(first, 2, 30);
 }
 
 #[test]

@@ -129,18 +129,37 @@ fn iterations_are_answered_and_write_their_plane(rt: HostRuntime) {
     }
 }
 
-/// Numbered pixels by turns from both ends, and past the last.
+/// Pixels numbered one by one, and then read by turns from both ends, and past the last.
 static NUMBERED_BY_TURNS: Replay<'static, u8> = Replay {
     layout: BARE,
-    before: &[0, 1, 2, 3, 4, 5],
-    steps: &[(
-        Pixels(0, &[Front, Back, Front, Back, Front, Front, Front, Back]),
-        "PixelsWalked { total: 6, drawn: [Drawn { item: Some(0), left: 5 }, \
-         Drawn { item: Some(5), left: 4 }, Drawn { item: Some(1), left: 3 }, \
-         Drawn { item: Some(4), left: 2 }, Drawn { item: Some(2), left: 1 }, \
-         Drawn { item: Some(3), left: 0 }, Drawn { item: None, left: 0 }, \
-         Drawn { item: None, left: 0 }] }",
-    )],
+    before: &[0, 0, 0, 0, 0, 0],
+    steps: &[
+        (
+            PixelsMut(
+                0,
+                &[
+                    (Front, Some(0)),
+                    (Front, Some(1)),
+                    (Front, Some(2)),
+                    (Front, Some(3)),
+                    (Front, Some(4)),
+                    (Front, Some(5)),
+                ],
+            ),
+            "PixelsWalked { total: 6, drawn: [Drawn { item: Some(0), left: 5 }, \
+             Drawn { item: Some(0), left: 4 }, Drawn { item: Some(0), left: 3 }, \
+             Drawn { item: Some(0), left: 2 }, Drawn { item: Some(0), left: 1 }, \
+             Drawn { item: Some(0), left: 0 }] }",
+        ),
+        (
+            Pixels(0, &[Front, Back, Front, Back, Front, Front, Front, Back]),
+            "PixelsWalked { total: 6, drawn: [Drawn { item: Some(0), left: 5 }, \
+             Drawn { item: Some(5), left: 4 }, Drawn { item: Some(1), left: 3 }, \
+             Drawn { item: Some(4), left: 2 }, Drawn { item: Some(2), left: 1 }, \
+             Drawn { item: Some(3), left: 0 }, Drawn { item: None, left: 0 }, \
+             Drawn { item: None, left: 0 }] }",
+        ),
+    ],
     after: &[0, 1, 2, 3, 4, 5],
 };
 
@@ -157,10 +176,10 @@ static BYTES_BY_TURNS: Replay<'static, u8> = Replay {
     after: &[1, 2, 3, 4],
 };
 
-/// Rows filled from both ends, and read so, in a numbered border.
+/// Rows filled from both ends, and read so.
 static FILLED_ROWS: Replay<'static, u8> = Replay {
-    layout: (3, 3, [1, 0, 0, 1]),
-    before: &[100, 0, 0, 0, 104, 0, 0, 0, 108, 0, 0, 0, 112, 113, 114, 115],
+    layout: (3, 3, [0, 0, 0, 0]),
+    before: &[0; 9],
     steps: &[
         (
             RowsMut(
@@ -180,7 +199,7 @@ static FILLED_ROWS: Replay<'static, u8> = Replay {
              Drawn { item: Some([3, 3, 3]), left: 1 }, Drawn { item: Some([2, 2, 2]), left: 0 }] }",
         ),
     ],
-    after: &[100, 1, 1, 1, 104, 2, 2, 2, 108, 3, 3, 3, 112, 113, 114, 115],
+    after: &[1, 1, 1, 2, 2, 2, 3, 3, 3],
 };
 
 /// Pixels filled from both ends.
