@@ -34,26 +34,34 @@ const SHAPE: Shape = ([2, 1, 1, 1], [1, 1]);
 /// Its entries.
 const ENTRIES: [Option<u8>; 4] = [Some(1), Some(2), Some(3), Some(4)];
 
-/// Shapes and entries that make another plane.
-static OTHERS: [(Shape, [Option<u8>; 4]); 9] = [
-    (SHAPE, [Some(9), Some(2), Some(3), Some(4)]),
-    (SHAPE, [Some(1), Some(2), Some(3), Some(9)]),
-    (SHAPE, [Some(1), Some(9), Some(3), Some(4)]),
-    (SHAPE, [Some(1), None, Some(3), Some(4)]),
-    (([2, 1, 2, 0], [1, 1]), ENTRIES),
-    (([4, 1, 0, 0], [1, 1]), ENTRIES),
-    (([2, 2, 0, 0], [1, 1]), ENTRIES),
-    (([2, 1, 1, 1], [2, 1]), ENTRIES),
-    (([2, 1, 1, 1], [1, 2]), ENTRIES),
-];
+/// Whether a plane is equal to one of this shape and these entries, and whether it is unequal.
+fn compared(
+    rt: &impl Abort,
+    alloc: Global,
+    plane: &Plane<Option<u8>>,
+    (shape, entries): (Shape, [Option<u8>; 4]),
+) -> (bool, bool) {
+    let other = holding(rt, alloc, shape, entries);
+    (*plane == other, *plane != other)
+}
 
 #[test]
 fn planes_are_equal_in_geometry_and_in_each_entry(rt: HostRuntime) {
     let plane = holding(&rt, rt.alloc(), SHAPE, ENTRIES);
-    let same = holding(&rt, rt.alloc(), SHAPE, ENTRIES);
-    assert!(rt; plane == same && !(plane != same));
-    for (shape, entries) in &OTHERS {
-        let other = holding(&rt, rt.alloc(), *shape, *entries);
-        assert!(rt; plane != other && !(plane == other), "{shape:?}");
+    let same = (SHAPE, ENTRIES);
+    assert!(rt; compared(&rt, rt.alloc(), &plane, same) == (true, false));
+    for case in [
+        (SHAPE, [Some(9), Some(2), Some(3), Some(4)]),
+        (SHAPE, [Some(1), Some(2), Some(3), Some(9)]),
+        (SHAPE, [Some(1), Some(9), Some(3), Some(4)]),
+        (SHAPE, [Some(1), None, Some(3), Some(4)]),
+        (([2, 1, 2, 0], [1, 1]), ENTRIES),
+        (([4, 1, 0, 0], [1, 1]), ENTRIES),
+        (([2, 2, 0, 0], [1, 1]), ENTRIES),
+        (([2, 1, 1, 1], [2, 1]), ENTRIES),
+        (([2, 1, 1, 1], [1, 2]), ENTRIES),
+    ] {
+        let told = compared(&rt, rt.alloc(), &plane, case);
+        assert!(rt; told == (false, true), "{case:?}");
     }
 }
