@@ -6,24 +6,25 @@ use crate::edits::FrameLine;
 use crate::fault::{CaseFault, LineFault};
 use crate::lines::Lines;
 use crate::print::{print_build, print_frame};
+use crate::printer::Printer;
 use crate::spec::{PixelType, Spec};
 use std::alloc::Global;
-use std::io::{self, Write};
 use v_frame::frame::Frame;
 use v_frame::pixel::Pixel;
 use v_frame::replay::{VisibleCall, replay};
 
 /// Answers cases to the end of the lines.
-pub fn answer_cases<W: Write>(
+pub fn answer_cases(
     alloc: Global,
     mut lines: Lines<'_>,
-    out: &mut W,
+    out: &mut Printer,
 ) -> Result<(), CaseFault> {
     for _case in 0..u64::MAX {
         if lines.is_at_end() {
             break;
         }
         answer_case(alloc, &mut lines, out)?;
+        out.check()?;
     }
     Ok(())
 }
@@ -39,11 +40,7 @@ enum Kind {
 }
 
 /// Answers the case that begins in the next line.
-fn answer_case<W: Write>(
-    alloc: Global,
-    lines: &mut Lines<'_>,
-    out: &mut W,
-) -> Result<(), CaseFault> {
+fn answer_case(alloc: Global, lines: &mut Lines<'_>, out: &mut Printer) -> Result<(), CaseFault> {
     let (id, kind) = read_start(lines)?;
     match kind {
         Kind::Replay => answer_replay(alloc, lines, id, out),
@@ -54,10 +51,10 @@ fn answer_case<W: Write>(
 
 /// Reads the line that begins a case.
 fn read_start<'a>(lines: &mut Lines<'a>) -> Result<(&'a str, Kind), CaseFault> {
-    let mut tokens = lines.next_line()?;
-    tokens.keyword("case", LineFault::NotACase)?;
-    let id = tokens.word()?;
-    let kind = tokens.word()?;
+    let mut tokens = lines.next_line();
+    tokens.keyword("case", LineFault::NotACase);
+    let id = tokens.word();
+    let kind = tokens.word();
     tokens.end()?;
     match kind {
         "replay" => Ok((id, Kind::Replay)),
@@ -69,46 +66,47 @@ fn read_start<'a>(lines: &mut Lines<'a>) -> Result<(&'a str, Kind), CaseFault> {
 
 /// Reads the line that ends a case.
 fn read_end(lines: &mut Lines<'_>) -> Result<(), CaseFault> {
-    let mut tokens = lines.next_line()?;
-    tokens.keyword("end", LineFault::NotTheEnd)?;
+    let mut tokens = lines.next_line();
+    tokens.keyword("end", LineFault::NotTheEnd);
     tokens.end()
 }
 
 /// Prints the line that begins the answer of a case.
-fn print_start<W: Write>(out: &mut W, id: &str) -> io::Result<()> {
-    writeln!(out, "case {id}")
+fn print_start(out: &mut Printer, id: &str) {
+    out.text("case ");
+    out.text(id);
+    out.end_line();
 }
 
 /// Prints the line that ends it.
-fn print_end<W: Write>(out: &mut W) -> io::Result<()> {
-    writeln!(out, "end")
+fn print_end(out: &mut Printer) {
+    out.text("end\n");
 }
 
 /// A case of one frame.
-fn answer_replay<W: Write>(
+fn answer_replay(
     alloc: Global,
     lines: &mut Lines<'_>,
     id: &str,
-    out: &mut W,
+    out: &mut Printer,
 ) -> Result<(), CaseFault> {
     let first = FrameLine::read(lines, LineFault::NotAFrame)?;
     match first.spec.pixel_type {
-        PixelType::U8 => answer_frame::<u8, W>(alloc, lines, id, &first, out),
-        PixelType::U16 => answer_frame::<u16, W>(alloc, lines, id, &first, out),
+        PixelType::U8 => answer_frame::<u8>(alloc, lines, id, &first, out),
+        PixelType::U16 => answer_frame::<u16>(alloc, lines, id, &first, out),
     }
 }
 
 /// The calls on a frame of pixels of this type.
-fn answer_frame<'a, T: Pixel, W: Write>(
+fn answer_frame<T: Pixel>(
     alloc: Global,
-    lines: &mut Lines<'a>,
+    lines: &mut Lines<'_>,
     id: &str,
-    first: &FrameLine<'a>,
-    out: &mut W,
+    first: &FrameLine,
+    out: &mut Printer,
 ) -> Result<(), CaseFault> {
     let mut frame = first.frame::<T>(alloc, lines)?;
-    let calls = read_calls_to_end(alloc, lines)?;
-    print_replay(alloc, id, &mut frame, calls.as_slice(), out)
+    answer_one(alloc, lines, id, &mut frame, out)
 }
 
 /// Reads the calls of a case, and its end.
@@ -121,46 +119,58 @@ fn read_calls_to_end<T: Pixel>(
     Ok(calls)
 }
 
-/// Prints the answer of a case of one frame.
-fn print_replay<T: Pixel, W: Write>(
+/// Reads the calls of a case of one frame, and prints its answer.
+fn answer_one<T: Pixel>(
     alloc: Global,
+    lines: &mut Lines<'_>,
     id: &str,
     frame: &mut Frame<T>,
-    calls: &[VisibleCall<T>],
-    out: &mut W,
+    out: &mut Printer,
 ) -> Result<(), CaseFault> {
-    print_start(out, id)?;
-    answer_calls(alloc, frame, calls, out)?;
-    print_end(out)?;
+    let calls = read_calls_to_end(alloc, lines)?;
+    print_start(out, id);
+    answer_calls(alloc, frame, calls.as_slice(), out)?;
+    print_end(out);
     Ok(())
 }
 
 /// A case of two frames.
-fn answer_pair<W: Write>(
+fn answer_pair(
     alloc: Global,
     lines: &mut Lines<'_>,
     id: &str,
-    out: &mut W,
+    out: &mut Printer,
 ) -> Result<(), CaseFault> {
     let first = FrameLine::read(lines, LineFault::NotAFrame)?;
     match first.spec.pixel_type {
-        PixelType::U8 => answer_frames::<u8, W>(alloc, lines, id, &first, out),
-        PixelType::U16 => answer_frames::<u16, W>(alloc, lines, id, &first, out),
+        PixelType::U8 => answer_frames::<u8>(alloc, lines, id, &first, out),
+        PixelType::U16 => answer_frames::<u16>(alloc, lines, id, &first, out),
     }
 }
 
 /// The calls on each of two frames of pixels of this type, and whether they are equal before and after.
-fn answer_frames<'a, T: Pixel, W: Write>(
+fn answer_frames<T: Pixel>(
     alloc: Global,
-    lines: &mut Lines<'a>,
+    lines: &mut Lines<'_>,
     id: &str,
-    first: &FrameLine<'a>,
-    out: &mut W,
+    first: &FrameLine,
+    out: &mut Printer,
 ) -> Result<(), CaseFault> {
     let mut one = first.frame::<T>(alloc, lines)?;
-    let mut other = read_second(alloc, lines, first.spec.pixel_type)?;
-    let calls = read_calls_to_end(alloc, lines)?;
-    print_pair(alloc, id, &mut one, &mut other, calls.as_slice(), out)
+    answer_with_second(alloc, lines, id, first.spec.pixel_type, &mut one, out)
+}
+
+/// The same, where the first frame is built.
+fn answer_with_second<T: Pixel>(
+    alloc: Global,
+    lines: &mut Lines<'_>,
+    id: &str,
+    pixel_type: PixelType,
+    one: &mut Frame<T>,
+    out: &mut Printer,
+) -> Result<(), CaseFault> {
+    let mut other = read_second(alloc, lines, pixel_type)?;
+    answer_two(alloc, lines, id, one, &mut other, out)
 }
 
 /// Reads the second frame of a pair, whose pixels have to be of this type.
@@ -171,65 +181,69 @@ fn read_second<T: Pixel>(
 ) -> Result<Frame<T>, CaseFault> {
     let second = FrameLine::read(lines, LineFault::NotAnEdit)?;
     if second.spec.pixel_type != pixel_type {
-        return Err(second.fault(LineFault::OtherPixelType));
+        return Err(CaseFault::Malformed {
+            line: second.line,
+            fault: LineFault::OtherPixelType,
+        });
     }
     second.frame(alloc, lines)
 }
 
-/// Prints the answer of a case of two frames.
-fn print_pair<T: Pixel, W: Write>(
+/// Reads the calls of a case of two frames, and prints its answer.
+fn answer_two<T: Pixel>(
     alloc: Global,
+    lines: &mut Lines<'_>,
     id: &str,
     one: &mut Frame<T>,
     other: &mut Frame<T>,
-    calls: &[VisibleCall<T>],
-    out: &mut W,
+    out: &mut Printer,
 ) -> Result<(), CaseFault> {
-    print_start(out, id)?;
-    print_equality(out, one, other)?;
-    answer_calls(alloc, one, calls, out)?;
-    answer_calls(alloc, other, calls, out)?;
-    print_equality(out, one, other)?;
-    print_end(out)?;
+    let calls = read_calls_to_end(alloc, lines)?;
+    print_start(out, id);
+    print_equality(out, one, other);
+    answer_calls(alloc, one, calls.as_slice(), out)?;
+    answer_calls(alloc, other, calls.as_slice(), out)?;
+    print_equality(out, one, other);
+    print_end(out);
     Ok(())
 }
 
 /// Prints whether two frames are equal.
-fn print_equality<T: Pixel, W: Write>(
-    out: &mut W,
-    one: &Frame<T>,
-    other: &Frame<T>,
-) -> io::Result<()> {
+fn print_equality<T: Pixel>(out: &mut Printer, one: &Frame<T>, other: &Frame<T>) {
     let equal = one == other;
-    writeln!(out, "equal {equal}")
+    out.named("equal", &equal);
+    out.end_line();
 }
 
 /// Does all calls of a case on a frame, and prints their answers and what they leave.
-fn answer_calls<T: Pixel, W: Write>(
+fn answer_calls<T: Pixel>(
     alloc: Global,
     frame: &mut Frame<T>,
     calls: &[VisibleCall<T>],
-    out: &mut W,
+    out: &mut Printer,
 ) -> Result<(), CaseFault> {
-    let answers = replay(alloc, frame, calls).map_err(|_| CaseFault::OutOfMemory)?;
-    print_answers(out, answers.as_slice())?;
-    print_frame(alloc, out, frame)
+    let Ok(answers) = replay(alloc, frame, calls) else {
+        return Err(CaseFault::OutOfMemory);
+    };
+    print_answers(out, answers.as_slice());
+    print_frame(alloc, out, frame);
+    Ok(())
 }
 
 /// A case of builds.
-fn answer_builds<W: Write>(
+fn answer_builds(
     alloc: Global,
     lines: &mut Lines<'_>,
     id: &str,
-    out: &mut W,
+    out: &mut Printer,
 ) -> Result<(), CaseFault> {
     let specs = read_specs(alloc, lines)?;
     read_end(lines)?;
-    print_start(out, id)?;
+    print_start(out, id);
     for spec in specs.iter() {
-        answer_build(alloc, spec, out)?;
+        answer_build(alloc, spec, out);
     }
-    print_end(out)?;
+    print_end(out);
     Ok(())
 }
 
@@ -244,15 +258,15 @@ fn read_specs(alloc: Global, lines: &mut Lines<'_>) -> Result<Vec<Spec>, CaseFau
 
 /// Reads what should be built.
 fn read_build(lines: &mut Lines<'_>) -> Result<Spec, CaseFault> {
-    let mut tokens = lines.next_line()?;
-    tokens.keyword("build", LineFault::NotABuild)?;
+    let mut tokens = lines.next_line();
+    tokens.keyword("build", LineFault::NotABuild);
     Spec::read(&mut tokens)
 }
 
 /// Builds a frame, and prints what that gives.
-fn answer_build<W: Write>(alloc: Global, spec: &Spec, out: &mut W) -> Result<(), CaseFault> {
+fn answer_build(alloc: Global, spec: &Spec, out: &mut Printer) {
     match spec.pixel_type {
-        PixelType::U8 => print_build(alloc, out, spec.build::<u8>(alloc)),
-        PixelType::U16 => print_build(alloc, out, spec.build::<u16>(alloc)),
+        PixelType::U8 => print_build(alloc, out, &spec.build::<u8>(alloc)),
+        PixelType::U16 => print_build(alloc, out, &spec.build::<u16>(alloc)),
     }
 }

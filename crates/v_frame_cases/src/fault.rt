@@ -6,7 +6,7 @@ use std::io::{self, ErrorKind};
 use v_frame::frame::FrameError;
 
 /// Why the cases could not be answered to their end.
-#[derive(Debug, Drop)]
+#[derive(Drop)]
 pub enum CaseFault {
     /// The input could not be read.
     Read,
@@ -24,7 +24,7 @@ pub enum CaseFault {
 }
 
 /// What is wrong with a line.
-#[derive(Debug, Drop)]
+#[derive(Drop)]
 pub enum LineFault {
     /// The line isn't UTF-8.
     NotText,

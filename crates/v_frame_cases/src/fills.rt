@@ -1,5 +1,5 @@
 //! What is written into the buffer of a plane before the calls.
-ghost use Rattle.std.specs.Prelude.{◌≡◌, IfOk, length};
+ghost use Rattle.std.specs.Prelude.{◌≡◌, IfSome, length};
 
 use crate::fault::{CaseFault, LineFault};
 use crate::lcg::Lcg;
@@ -14,16 +14,13 @@ pub fn fill_plane<T: Pixel>(
     plane: &mut Plane<T>,
     tokens: &mut Tokens<'_>,
 ) -> Result<(), CaseFault> {
-    match tokens.word()? {
-        "all" => {
-            let value = tokens.pixel()?;
-            plane.data_mut().fill(value);
-        }
-        "lcg" => fill_congruence(plane, tokens.number()?),
-        "list" => fill_whole(alloc, plane, tokens)?,
-        "border" => fill_border(plane, tokens.pixel()?),
-        "table" => fill_table(alloc, plane, tokens)?,
-        _ => return Err(tokens.fault(LineFault::UnknownFill)),
+    match tokens.word() {
+        "all" => plane.data_mut().fill(tokens.pixel()),
+        "lcg" => fill_congruence(plane, tokens.number()),
+        "list" => fill_whole(alloc, plane, tokens),
+        "border" => fill_border(plane, tokens.pixel()),
+        "table" => fill_table(alloc, plane, tokens),
+        _ => tokens.keep(LineFault::UnknownFill),
     }
     tokens.end()
 }
@@ -37,32 +34,24 @@ fn fill_congruence<T: Pixel>(plane: &mut Plane<T>, seed: u64) {
 }
 
 /// Reads a list, which has to have this length.
-fn read_list<T: Pixel>(
-    alloc: Global,
-    tokens: &mut Tokens<'_>,
-    expected: usize,
-) -> Result<Vec<T>, CaseFault>
-    ensures { IfOk result (λ values. length values.items ≡ expected) }
+fn read_list<T: Pixel>(alloc: Global, tokens: &mut Tokens<'_>, expected: usize) -> Option<Vec<T>>
+    ensures { IfSome result (λ values. length values.items ≡ expected) }
 {
-    let values = tokens.pixels(alloc)?;
+    let values = tokens.pixels(alloc);
     let found = values.len();
     if found == expected {
-        Ok(values)
-    } else {
-        Err(tokens.fault(LineFault::FillLength { expected, found }))
+        return Some(values);
     }
+    tokens.keep(LineFault::FillLength { expected, found });
+    None
 }
 
 /// Writes the whole buffer from a list.
-fn fill_whole<T: Pixel>(
-    alloc: Global,
-    plane: &mut Plane<T>,
-    tokens: &mut Tokens<'_>,
-) -> Result<(), CaseFault> {
+fn fill_whole<T: Pixel>(alloc: Global, plane: &mut Plane<T>, tokens: &mut Tokens<'_>) {
     let buffer = plane.data_mut();
-    let values = read_list(alloc, tokens, buffer.len())?;
-    buffer.copy_from_slice(values.as_slice());
-    Ok(())
+    if let Some(values) = read_list(alloc, tokens, buffer.len()) {
+        buffer.copy_from_slice(values.as_slice());
+    }
 }
 
 /// Writes each entry of the border.
@@ -76,16 +65,12 @@ fn fill_border<T: Pixel>(plane: &mut Plane<T>, value: T) {
 }
 
 /// Writes the visible pixels from a list, row after row.
-fn fill_table<T: Pixel>(
-    alloc: Global,
-    plane: &mut Plane<T>,
-    tokens: &mut Tokens<'_>,
-) -> Result<(), CaseFault> {
+fn fill_table<T: Pixel>(alloc: Global, plane: &mut Plane<T>, tokens: &mut Tokens<'_>) {
     let geometry = plane.geometry();
     let count = geometry.width().saturating_mul(geometry.height());
-    let values = read_list(alloc, tokens, count)?;
-    write_table(plane, values.as_slice());
-    Ok(())
+    if let Some(values) = read_list(alloc, tokens, count) {
+        write_table(plane, values.as_slice());
+    }
 }
 
 /// Writes the visible pixels, row after row.

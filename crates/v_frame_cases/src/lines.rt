@@ -1,6 +1,6 @@
 //! The input, line by line.
 
-use crate::fault::{CaseFault, LineFault};
+use crate::fault::LineFault;
 use crate::tokens::Tokens;
 use std::str;
 
@@ -25,31 +25,28 @@ impl<'a> Lines<'a> {
         self.rest.is_empty()
     }
 
-    /// The next line, which has to be there.
-    ///
-    /// # Errors
-    ///
-    /// [`LineFault::EndOfInput`] where no line is left; [`LineFault::LineNotEnded`], [`LineFault::NotText`] and
-    /// [`LineFault::EmptyLine`] where it is none.
-    pub fn next_line(&mut self) -> Result<Tokens<'a>, CaseFault> {
+    /// The tokens of the next line, which has to be there. They keep [`LineFault::EndOfInput`] where no line is left, and
+    /// [`LineFault::LineNotEnded`], [`LineFault::NotText`] or [`LineFault::EmptyLine`] where it is none.
+    pub fn next_line(&mut self) -> Tokens<'a> {
         let number = self.number;
-        let line = self.take_line();
-        line.map(|line| Tokens::new(number, line))
-            .map_err(|fault| CaseFault::Malformed {
-                line: number,
-                fault,
-            })
+        match self.take_line() {
+            Ok(line) => Tokens::new(number, line),
+            Err(fault) => Tokens::faulty(number, fault),
+        }
     }
 
     /// Takes the bytes to the next line feed off the rest.
     fn take_line(&mut self) -> Result<&'a str, LineFault> {
-        if self.rest.is_empty() {
+        let rest = self.rest;
+        if rest.is_empty() {
             return Err(LineFault::EndOfInput);
         }
-        let rest = self.rest;
-        let end = rest.iter().position(|byte| *byte == b'\n');
-        let end = end.ok_or(LineFault::LineNotEnded)?;
-        let line = str::from_utf8(&rest[..end]).map_err(|_| LineFault::NotText)?;
+        let Some(end) = rest.iter().position(|byte| *byte == b'\n') else {
+            return Err(LineFault::LineNotEnded);
+        };
+        let Ok(line) = str::from_utf8(&rest[..end]) else {
+            return Err(LineFault::NotText);
+        };
         if line.is_empty() {
             return Err(LineFault::EmptyLine);
         }

@@ -14,6 +14,7 @@ mod fills;
 mod lcg;
 mod lines;
 mod print;
+mod printer;
 mod run;
 mod spec;
 mod tokens;

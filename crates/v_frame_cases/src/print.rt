@@ -1,9 +1,8 @@
 //! Frames as text.
 
-use crate::fault::CaseFault;
+use crate::printer::Printer;
 use std::alloc::{AllocError, Global};
-use std::fmt::Display;
-use std::io::{self, Write};
+use std::fmt::{self, Display};
 use v_frame::chroma::ChromaSubsampling;
 use v_frame::frame::{Frame, FrameError};
 use v_frame::pixel::Pixel;
@@ -12,78 +11,47 @@ use v_frame::plane::{Plane, PlaneGeometry};
 /// A longer buffer is written as runs.
 const LONGEST_LIST: usize = 4096;
 
-/// Prints the length of a list and its items, with a space before each.
-pub fn print_list<I: Display, W: Write>(out: &mut W, items: &[I]) -> io::Result<()> {
-    let length = items.len();
-    write!(out, " {length}")?;
-    for item in items {
-        write!(out, " {item}")?;
-    }
-    Ok(())
-}
-
 /// Prints what a build gave.
-pub fn print_build<T: Pixel, W: Write>(
+pub fn print_build<T: Pixel>(
     alloc: Global,
-    out: &mut W,
-    built: Result<Frame<T>, FrameError>,
-) -> Result<(), CaseFault> {
+    out: &mut Printer,
+    built: &Result<Frame<T>, FrameError>,
+) {
     match built {
-        Ok(frame) => print_built(alloc, out, &frame),
+        Ok(frame) => print_built(alloc, out, frame),
         Err(error) => print_refusal(out, error),
     }
 }
 
 /// Prints a frame that was built.
-fn print_built<T: Pixel, W: Write>(
-    alloc: Global,
-    out: &mut W,
-    frame: &Frame<T>,
-) -> Result<(), CaseFault> {
-    writeln!(out, "Ok")?;
-    print_frame(alloc, out, frame)
+fn print_built<T: Pixel>(alloc: Global, out: &mut Printer, frame: &Frame<T>) {
+    out.text("Ok\n");
+    print_frame(alloc, out, frame);
 }
 
-/// Prints why a frame was not built, apart from allocation failure.
-fn print_refusal<W: Write>(out: &mut W, error: FrameError) -> Result<(), CaseFault> {
+/// Prints why a frame was not built. Allocation failure is none of a case.
+fn print_refusal(out: &mut Printer, error: &FrameError) {
     match error {
-        FrameError::UnsupportedBitDepth { found } => {
-            writeln!(out, "Err UnsupportedBitDepth {found}")?;
-        }
-        FrameError::DataTypeMismatch => writeln!(out, "Err DataTypeMismatch")?,
-        FrameError::UnsupportedResolution => writeln!(out, "Err UnsupportedResolution")?,
-        FrameError::OutOfMemory => return Err(CaseFault::OutOfMemory),
+        FrameError::UnsupportedBitDepth { found } => out.named("Err UnsupportedBitDepth", found),
+        FrameError::DataTypeMismatch => out.text("Err DataTypeMismatch"),
+        FrameError::UnsupportedResolution => out.text("Err UnsupportedResolution"),
+        FrameError::OutOfMemory => out.cut_off(),
     }
-    Ok(())
+    out.end_line();
 }
 
 /// Prints the format, the depth and the planes.
-pub fn print_frame<T: Pixel, W: Write>(
-    alloc: Global,
-    out: &mut W,
-    frame: &Frame<T>,
-) -> Result<(), CaseFault> {
-    let format = name_of(frame.subsampling);
-    let depth = frame.bit_depth.get();
-    writeln!(out, "frame {format} {depth}")?;
+pub fn print_frame<T: Pixel>(alloc: Global, out: &mut Printer, frame: &Frame<T>) {
+    out.text("frame ");
+    out.named(name_of(frame.subsampling), &frame.bit_depth.get());
+    out.end_line();
     for index in 0..3 {
-        print_plane_at(alloc, out, frame, index)?;
+        out.named("plane", &index);
+        match frame.plane(index) {
+            Some(plane) => print_plane(alloc, out, index, plane),
+            None => out.text(" -\n"),
+        }
     }
-    Ok(())
-}
-
-/// Prints the plane of this index, or that there is none.
-fn print_plane_at<T: Pixel, W: Write>(
-    alloc: Global,
-    out: &mut W,
-    frame: &Frame<T>,
-    index: usize,
-) -> Result<(), CaseFault> {
-    match frame.plane(index) {
-        Some(plane) => print_plane(alloc, out, index, plane)?,
-        None => writeln!(out, "plane {index} -")?,
-    }
-    Ok(())
 }
 
 /// The name of a format.
@@ -97,56 +65,45 @@ fn name_of(format: ChromaSubsampling) -> &'static str {
     }
 }
 
-/// Prints the geometry of a plane and its whole buffer.
-fn print_plane<T: Pixel, W: Write>(
-    alloc: Global,
-    out: &mut W,
-    index: usize,
-    plane: &Plane<T>,
-) -> Result<(), CaseFault> {
-    print_geometry(out, index, &plane.geometry())?;
-    print_buffer(alloc, out, index, plane.data())
+/// Prints the geometry of a plane, behind its index, and its whole buffer.
+fn print_plane<T: Pixel>(alloc: Global, out: &mut Printer, index: usize, plane: &Plane<T>) {
+    print_geometry(out, &plane.geometry());
+    out.named("buffer", &index);
+    print_buffer(alloc, out, plane.data());
+    out.end_line();
 }
 
 /// Prints the geometry of a plane.
-fn print_geometry<W: Write>(out: &mut W, index: usize, geometry: &PlaneGeometry) -> io::Result<()> {
-    let (width, height, stride) = (geometry.width(), geometry.height(), geometry.stride());
-    let (left, right) = (geometry.pad_left(), geometry.pad_right());
-    let (top, bottom) = (geometry.pad_top(), geometry.pad_bottom());
-    let (columns, rows) = (geometry.subsampling_x(), geometry.subsampling_y());
-    write!(out, "plane {index} {width} {height} {stride} ")?;
-    writeln!(out, "{left} {right} {top} {bottom} {columns} {rows}")
+fn print_geometry(out: &mut Printer, geometry: &PlaneGeometry) {
+    out.item(&geometry.width());
+    out.item(&geometry.height());
+    out.item(&geometry.stride());
+    out.item(&geometry.pad_left());
+    out.item(&geometry.pad_right());
+    out.item(&geometry.pad_top());
+    out.item(&geometry.pad_bottom());
+    out.item(&geometry.subsampling_x());
+    out.item(&geometry.subsampling_y());
+    out.end_line();
 }
 
 /// Prints the whole buffer of a plane.
-fn print_buffer<T: Pixel, W: Write>(
-    alloc: Global,
-    out: &mut W,
-    index: usize,
-    entries: &[T],
-) -> Result<(), CaseFault> {
+fn print_buffer<T: Pixel>(alloc: Global, out: &mut Printer, entries: &[T]) {
     if entries.len() > LONGEST_LIST {
-        print_runs(alloc, out, index, entries)?;
+        print_runs(alloc, out, entries);
     } else {
-        write!(out, "buffer {index} list")?;
-        print_list(out, entries)?;
+        out.text(" list");
+        out.list(entries);
     }
-    writeln!(out, "")?;
-    Ok(())
 }
 
 /// Prints a buffer as runs.
-fn print_runs<T: Pixel, W: Write>(
-    alloc: Global,
-    out: &mut W,
-    index: usize,
-    entries: &[T],
-) -> Result<(), CaseFault> {
-    let length = entries.len();
-    let runs = runs_of(alloc, entries)?;
-    write!(out, "buffer {index} runs {length}")?;
-    print_list(out, runs.as_slice())?;
-    Ok(())
+fn print_runs<T: Pixel>(alloc: Global, out: &mut Printer, entries: &[T]) {
+    out.named(" runs", &entries.len());
+    match runs_of(alloc, entries) {
+        Ok(runs) => out.list(runs.as_slice()),
+        Err(_refused) => out.cut_off(),
+    }
 }
 
 /// Equal entries that stand side by side.
@@ -157,7 +114,7 @@ struct Run<T> {
 }
 
 impl<T: Display> Display for Run<T> {
-    fn fmt<W: std::fmt::Write>(&self, f: &mut std::fmt::Formatter<W>) -> std::fmt::Result {
+    fn fmt<W: fmt::Write>(&self, f: &mut fmt::Formatter<W>) -> fmt::Result {
         let Run { count, value } = self;
         write!(f, "{count} {value}")
     }

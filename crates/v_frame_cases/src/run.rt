@@ -3,8 +3,9 @@
 use crate::cases::answer_cases;
 use crate::fault::CaseFault;
 use crate::lines::Lines;
+use crate::printer::Printer;
 use std::alloc::Global;
-use std::io::{BufWriter, ErrorKind, Read, Write};
+use std::io::{ErrorKind, Read, Write};
 
 /// Reads cases to the end of the input, and writes the answer of each.
 ///
@@ -14,17 +15,23 @@ use std::io::{BufWriter, ErrorKind, Read, Write};
 pub fn run_cases<R: Read, W: Write + Drop>(
     alloc: Global,
     mut input: R,
-    out: W,
+    mut out: W,
 ) -> Result<(), CaseFault>
 where
     R: Drop,
 {
     let text = read_input(alloc, &mut input)?;
-    let mut out = BufWriter::new(alloc, out)?;
-    let answered = answer_cases(alloc, Lines::new(text.as_slice()), &mut out);
-    let flushed = out.flush();
+    let mut answers = Printer::new(alloc);
+    let answered = answer_cases(alloc, Lines::new(text.as_slice()), &mut answers);
+    let written = write_output(&mut out, answers.as_bytes());
     answered?;
-    flushed?;
+    written
+}
+
+/// Writes all bytes of the output.
+fn write_output<W: Write>(out: &mut W, text: &[u8]) -> Result<(), CaseFault> {
+    out.write_all(text)?;
+    out.flush()?;
     Ok(())
 }
 

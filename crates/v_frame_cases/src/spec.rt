@@ -32,41 +32,32 @@ pub struct Spec {
 impl Spec {
     /// Reads the rest of a line.
     pub fn read(tokens: &mut Tokens<'_>) -> Result<Self, CaseFault> {
-        let pixel_type = match tokens.word()? {
-            "u8" => PixelType::U8,
-            "u16" => PixelType::U16,
-            _ => return Err(tokens.fault(LineFault::UnknownPixelType)),
+        let spec = Spec {
+            pixel_type: read_type(tokens),
+            depth: tokens.byte(),
+            size: tokens.sizes(),
+            format: read_format(tokens),
+            paddings: tokens.sizes(),
         };
-        let depth = tokens.byte()?;
-        let size = tokens.sizes()?;
-        let format = read_format(tokens)?;
-        let paddings = tokens.sizes()?;
         tokens.end()?;
-        Ok(Spec {
-            pixel_type,
-            depth,
-            size,
-            format,
-            paddings,
-        })
+        Ok(spec)
     }
 
     /// Reads a frame of luma alone, of this depth and of pixels of this type.
     pub fn read_luma<T: Pixel>(tokens: &mut Tokens<'_>, depth: u8) -> Result<Self, CaseFault> {
-        let size = tokens.sizes()?;
-        let paddings = tokens.sizes()?;
-        tokens.end()?;
-        Ok(Spec {
+        let spec = Spec {
             pixel_type: if T::BYTES == 1 {
                 PixelType::U8
             } else {
                 PixelType::U16
             },
             depth,
-            size,
+            size: tokens.sizes(),
             format: ChromaSubsampling::Monochrome,
-            paddings,
-        })
+            paddings: tokens.sizes(),
+        };
+        tokens.end()?;
+        Ok(spec)
     }
 
     /// Builds the frame.
@@ -81,27 +72,42 @@ impl Spec {
             .build(alloc)
     }
 
-    /// Builds the frame that a line asks for, which has to succeed.
-    pub fn frame<T: Pixel>(
-        &self,
-        alloc: Global,
-        tokens: &Tokens<'_>,
-    ) -> Result<Frame<T>, CaseFault> {
-        self.build(alloc).map_err(|error| match error {
-            FrameError::OutOfMemory => CaseFault::OutOfMemory,
-            error => tokens.fault(LineFault::NotBuilt(error)),
-        })
+    /// Builds the frame that the line of this number asks for, which has to succeed.
+    pub fn frame<T: Pixel>(&self, alloc: Global, line: u64) -> Result<Frame<T>, CaseFault> {
+        match self.build(alloc) {
+            Ok(frame) => Ok(frame),
+            Err(FrameError::OutOfMemory) => Err(CaseFault::OutOfMemory),
+            Err(error) => Err(CaseFault::Malformed {
+                line,
+                fault: LineFault::NotBuilt(error),
+            }),
+        }
+    }
+}
+
+/// Reads the type of the pixels.
+fn read_type(tokens: &mut Tokens<'_>) -> PixelType {
+    match tokens.word() {
+        "u8" => PixelType::U8,
+        "u16" => PixelType::U16,
+        _ => {
+            tokens.keep(LineFault::UnknownPixelType);
+            PixelType::U8
+        }
     }
 }
 
 /// Reads a format.
-fn read_format(tokens: &mut Tokens<'_>) -> Result<ChromaSubsampling, CaseFault> {
-    match tokens.word()? {
-        "Yuv420" => Ok(ChromaSubsampling::Yuv420),
-        "Yuv422" => Ok(ChromaSubsampling::Yuv422),
-        "Yuv411" => Ok(ChromaSubsampling::Yuv411),
-        "Yuv444" => Ok(ChromaSubsampling::Yuv444),
-        "Monochrome" => Ok(ChromaSubsampling::Monochrome),
-        _ => Err(tokens.fault(LineFault::UnknownFormat)),
+fn read_format(tokens: &mut Tokens<'_>) -> ChromaSubsampling {
+    match tokens.word() {
+        "Yuv420" => ChromaSubsampling::Yuv420,
+        "Yuv422" => ChromaSubsampling::Yuv422,
+        "Yuv411" => ChromaSubsampling::Yuv411,
+        "Yuv444" => ChromaSubsampling::Yuv444,
+        "Monochrome" => ChromaSubsampling::Monochrome,
+        _ => {
+            tokens.keep(LineFault::UnknownFormat);
+            ChromaSubsampling::Monochrome
+        }
     }
 }

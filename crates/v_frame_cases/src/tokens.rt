@@ -1,16 +1,18 @@
-//! The tokens of a line, and the numbers that they stand for.
+//! The tokens of a line, and what they stand for.
 
 use crate::fault::{CaseFault, LineFault};
 use crate::lcg::Lcg;
-use std::alloc::{AllocError, Global};
+use std::alloc::Global;
 use v_frame::pixel::Pixel;
-use v_frame::replay::{Sequence, Side};
+use v_frame::replay::{PixelDraw, RowDraw, Sequence, Side};
 
-/// The tokens of a line that are left to read.
+/// The tokens of a line that are left to read. The first fault is kept until [`Tokens::end`] tells it: what was read behind
+/// it stands for nothing.
 #[derive(Drop)]
 pub struct Tokens<'a> {
     line: u64,
     rest: Option<&'a str>,
+    kept: Option<CaseFault>,
 }
 
 impl<'a> Tokens<'a> {
@@ -19,170 +21,263 @@ impl<'a> Tokens<'a> {
         Tokens {
             line,
             rest: Some(text),
+            kept: None,
         }
     }
 
-    /// The fault, told of this line.
-    pub fn fault(&self, fault: LineFault) -> CaseFault {
-        CaseFault::Malformed {
-            line: self.line,
-            fault,
+    /// No tokens, of a line that has this fault.
+    pub fn faulty(line: u64, fault: LineFault) -> Self {
+        Tokens {
+            line,
+            rest: None,
+            kept: Some(CaseFault::Malformed { line, fault }),
+        }
+    }
+
+    /// The number of the line.
+    pub fn line(&self) -> u64 {
+        self.line
+    }
+
+    /// Keeps a fault, if none is kept yet.
+    pub fn keep(&mut self, fault: LineFault) {
+        if self.kept.is_none() {
+            let line = self.line;
+            self.kept = Some(CaseFault::Malformed { line, fault });
+        }
+    }
+
+    /// Keeps that a request for memory was refused, if no fault is kept yet.
+    fn keep_refusal(&mut self) {
+        if self.kept.is_none() {
+            self.kept = Some(CaseFault::OutOfMemory);
+        }
+    }
+
+    /// Tells the fault that is kept, or else this one.
+    pub fn fault(&mut self, fault: LineFault) -> CaseFault {
+        match self.kept.take() {
+            Some(kept) => kept,
+            None => CaseFault::Malformed {
+                line: self.line,
+                fault,
+            },
+        }
+    }
+
+    /// Sees that no token is left, and that there was no fault.
+    pub fn end(&mut self) -> Result<(), CaseFault> {
+        match self.rest {
+            Some("") => self.keep(LineFault::EmptyToken),
+            Some(_) => self.keep(LineFault::ExtraToken),
+            None => {}
+        }
+        match self.kept.take() {
+            Some(kept) => Err(kept),
+            None => Ok(()),
         }
     }
 
     /// The next token.
-    pub fn word(&mut self) -> Result<&'a str, CaseFault> {
+    pub fn word(&mut self) -> &'a str {
         let Some(rest) = self.rest else {
-            return Err(self.fault(LineFault::MissingToken));
+            self.keep(LineFault::MissingToken);
+            return "";
         };
         let (word, rest) = match rest.split_once(' ') {
             Some((word, rest)) => (word, Some(rest)),
             None => (rest, None),
         };
         if word.is_empty() {
-            return Err(self.fault(LineFault::EmptyToken));
+            self.keep(LineFault::EmptyToken);
         }
         self.rest = rest;
-        Ok(word)
+        word
     }
 
     /// Reads the token that has to stand here, where another one is this fault.
-    pub fn keyword(&mut self, wanted: &str, fault: LineFault) -> Result<(), CaseFault> {
-        if self.word()? == wanted {
-            Ok(())
-        } else {
-            Err(self.fault(fault))
-        }
-    }
-
-    /// Sees that no token is left.
-    pub fn end(&self) -> Result<(), CaseFault> {
-        match self.rest {
-            Some("") => Err(self.fault(LineFault::EmptyToken)),
-            Some(_) => Err(self.fault(LineFault::ExtraToken)),
-            None => Ok(()),
+    pub fn keyword(&mut self, wanted: &str, fault: LineFault) {
+        if self.word() != wanted {
+            self.keep(fault);
         }
     }
 
     /// A number.
-    pub fn number(&mut self) -> Result<u64, CaseFault> {
-        let word = self.word()?;
+    pub fn number(&mut self) -> u64 {
+        let word = self.word();
         self.number_of(word)
     }
 
     /// A number of pixels or of bytes, or a place.
-    pub fn size(&mut self) -> Result<usize, CaseFault> {
-        let number = self.number()?;
-        usize::try_from(number).map_err(|_| self.fault(LineFault::NumberTooLarge))
+    pub fn size(&mut self) -> usize {
+        self.number() as usize
     }
 
     /// As many such numbers as there are to be.
-    pub fn sizes<const N: usize>(&mut self) -> Result<[usize; N], CaseFault> {
+    pub fn sizes<const N: usize>(&mut self) -> [usize; N] {
         let mut sizes = [0; N];
         for size in &mut sizes {
-            *size = self.size()?;
+            *size = self.size();
         }
-        Ok(sizes)
+        sizes
     }
 
     /// A number below 256.
-    pub fn byte(&mut self) -> Result<u8, CaseFault> {
-        let number = self.number()?;
-        u8::try_from(number).map_err(|_| self.fault(LineFault::NumberTooLarge))
+    pub fn byte(&mut self) -> u8 {
+        let number = self.number();
+        if number > 255 {
+            self.keep(LineFault::NumberTooLarge);
+        }
+        (number % 256) as u8
     }
 
     /// A pixel, by its value.
-    pub fn pixel<T: Pixel>(&mut self) -> Result<T, CaseFault> {
-        let word = self.word()?;
+    pub fn pixel<T: Pixel>(&mut self) -> T {
+        let word = self.word();
         self.pixel_of(word)
     }
 
     /// A pixel, or none.
-    pub fn option<T: Pixel>(&mut self) -> Result<Option<T>, CaseFault> {
-        match self.word()? {
-            "-" => Ok(None),
-            word => Ok(Some(self.pixel_of(word)?)),
+    fn option<T: Pixel>(&mut self) -> Option<T> {
+        match self.word() {
+            "-" => None,
+            word => Some(self.pixel_of(word)),
         }
     }
 
     /// The side of an iterator that a call takes an item from.
-    pub fn side(&mut self) -> Result<Side, CaseFault> {
-        match self.word()? {
-            "F" => Ok(Side::Front),
-            "B" => Ok(Side::Back),
-            _ => Err(self.fault(LineFault::UnknownSide)),
+    fn side(&mut self) -> Side {
+        match self.word() {
+            "F" => Side::Front,
+            "B" => Side::Back,
+            _ => {
+                self.keep(LineFault::UnknownSide);
+                Side::Front
+            }
         }
     }
 
     /// The number that a token tells.
-    fn number_of(&self, word: &str) -> Result<u64, CaseFault> {
+    fn number_of(&mut self, word: &str) -> u64 {
         // `parse` takes a sign as well.
         match word.parse::<u64>() {
-            Ok(number) if !word.starts_with('+') => Ok(number),
-            _ => Err(self.fault(LineFault::NotANumber)),
+            Ok(number) if !word.starts_with('+') => number,
+            _ => {
+                self.keep(LineFault::NotANumber);
+                0
+            }
         }
     }
 
     /// The pixel whose value a token tells.
-    fn pixel_of<T: Pixel>(&self, word: &str) -> Result<T, CaseFault> {
-        let number = self.number_of(word)?;
-        let pixel = match u16::try_from(number) {
-            Ok(value) => T::try_from_u16(value),
-            Err(_) => None,
-        };
-        pixel.ok_or(self.fault(LineFault::NumberTooLarge))
+    fn pixel_of<T: Pixel>(&mut self, word: &str) -> T {
+        let number = self.number_of(word);
+        if number < 0x1_0000
+            && let Some(pixel) = T::try_from_u16(number as u16)
+        {
+            return pixel;
+        }
+        self.keep(LineFault::NumberTooLarge);
+        T::ZERO
     }
 }
 
 /// Lists. Their length stands in front, and room is made for what is there, whatever it says.
 impl<'a> Tokens<'a> {
     /// A list of pixels.
-    pub fn pixels<T: Pixel>(&mut self, alloc: Global) -> Result<Vec<T>, CaseFault> {
+    pub fn pixels<T: Pixel>(&mut self, alloc: Global) -> Vec<T> {
         let mut pixels = Vec::new(alloc);
-        for _ in 0..self.number()? {
-            pixels.push(self.pixel()?)?;
+        for _ in 0..self.number() {
+            let pixel = self.pixel();
+            if self.kept.is_some() {
+                break;
+            }
+            self.push(&mut pixels, pixel);
         }
-        Ok(pixels)
+        pixels
     }
 
-    /// A list of pixels with gaps between them.
-    pub fn options<T: Pixel>(&mut self, alloc: Global) -> Result<Sequence<Option<T>>, CaseFault> {
-        let mut options = Vec::new(alloc);
-        for _ in 0..self.number()? {
-            options.push(self.option()?)?;
+    /// A list of entries of this kind.
+    pub fn list<E: Entry + Drop>(&mut self, alloc: Global) -> Sequence<E> {
+        let mut entries = Vec::new(alloc);
+        for _ in 0..self.number() {
+            let entry = E::read(alloc, self);
+            if self.kept.is_some() {
+                break;
+            }
+            self.push(&mut entries, entry);
         }
-        Ok(options.into())
+        entries.into()
     }
 
-    /// A list of sides.
-    pub fn sides(&mut self, alloc: Global) -> Result<Sequence<Side>, CaseFault> {
-        let mut sides = Vec::new(alloc);
-        for _ in 0..self.number()? {
-            sides.push(self.side()?)?;
+    /// Appends an entry to a list.
+    fn push<E: Drop>(&mut self, entries: &mut Vec<E>, entry: E) {
+        if entries.push(entry).is_err() {
+            self.keep_refusal();
         }
-        Ok(sides.into())
     }
 
     /// The source of a copy: a list, or as many pixels of a congruence as it says. Bytes are pixels of one byte.
-    pub fn source<T: Pixel>(&mut self, alloc: Global) -> Result<Sequence<T>, CaseFault> {
-        match self.word()? {
-            "list" => Ok(self.pixels(alloc)?.into()),
-            "lcg" => {
-                let seed = self.number()?;
-                let count = self.size()?;
-                Ok(congruence(alloc, seed, count)?.into())
+    pub fn source<T: Pixel>(&mut self, alloc: Global) -> Sequence<T> {
+        let pixels = match self.word() {
+            "list" => self.pixels(alloc),
+            "lcg" => self.congruence(alloc),
+            _ => {
+                self.keep(LineFault::UnknownSource);
+                Vec::new(alloc)
             }
-            _ => Err(self.fault(LineFault::UnknownSource)),
+        };
+        pixels.into()
+    }
+
+    /// Pixels of a congruence, by its seed and how many there are.
+    fn congruence<T: Pixel>(&mut self, alloc: Global) -> Vec<T> {
+        let mut lcg = Lcg::new(self.number());
+        let mut pixels = Vec::new(alloc);
+        for _ in 0..self.number() {
+            if self.kept.is_some() {
+                break;
+            }
+            self.push(&mut pixels, lcg.pixel());
         }
+        pixels
     }
 }
 
-/// So many pixels of a congruence.
-fn congruence<T: Pixel>(alloc: Global, seed: u64, count: usize) -> Result<Vec<T>, AllocError> {
-    let mut lcg = Lcg::new(seed);
-    let mut pixels = Vec::with_capacity(alloc, count)?;
-    for _ in 0..count {
-        pixels.push(lcg.pixel())?;
+/// What a list has.
+pub trait Entry {
+    /// Reads one.
+    fn read(alloc: Global, tokens: &mut Tokens<'_>) -> Self;
+}
+
+/// The side of an iterator that a call takes an item from.
+impl Entry for Side {
+    fn read(_alloc: Global, tokens: &mut Tokens<'_>) -> Self {
+        tokens.side()
     }
-    Ok(pixels)
+}
+
+/// A pixel, or none.
+impl<T: Pixel> Entry for Option<T> {
+    fn read(_alloc: Global, tokens: &mut Tokens<'_>) -> Self {
+        tokens.option()
+    }
+}
+
+/// A call on an iterator of lent rows.
+impl<T: Pixel> Entry for RowDraw<T> {
+    fn read(alloc: Global, tokens: &mut Tokens<'_>) -> Self {
+        let side = tokens.side();
+        let writes = tokens.list(alloc);
+        RowDraw { side, writes }
+    }
+}
+
+/// A call on an iterator of lent pixels.
+impl<T: Pixel> Entry for PixelDraw<T> {
+    fn read(_alloc: Global, tokens: &mut Tokens<'_>) -> Self {
+        let side = tokens.side();
+        let value = tokens.option();
+        PixelDraw { side, value }
+    }
 }
