@@ -116,15 +116,13 @@ pub fn read_command<'a>(words: &[&'a str]) -> Result<Command<'a>, WrongCall<'a>>
     };
     match *name {
         "help" => Ok(Command::Help),
-        "info" => read_options(rest)?.info(),
-        "compare" => read_options(rest)?.compare(),
-        "copy" => read_options(rest)?.copy(),
+        "info" | "compare" | "copy" => read_options(rest)?.command(*name),
         other => Err(WrongCall::UnknownCommand(other)),
     }
 }
 
 /// What the next argument has to be.
-#[derive(Clone, Copy, PartialEq, Eq)]
+#[derive(Clone, Copy)]
 enum Awaited {
     /// A file or an option.
     Any,
@@ -238,6 +236,15 @@ impl<'a> Options<'a> {
         match self.format {
             Some(format) => Err(WrongCall::UnusedFormat(format)),
             None => Ok(self),
+        }
+    }
+
+    /// The command of this name, which has options.
+    fn command(self, name: &str) -> Result<Command<'a>, WrongCall<'a>> {
+        match name {
+            "info" => self.info(),
+            "compare" => self.compare(),
+            _ => self.copy(),
         }
     }
 

@@ -38,11 +38,12 @@ pub fn info_text(alloc: Global, header: &StreamHeader, frames: u64) -> Result<St
         colour,
         ..
     } = header;
-    writeln!(text, "size: {width}x{height}")?;
     let format = format_text(colour.subsampling());
-    writeln!(text, "format: {format}")?;
     let depth = colour.bit_depth();
-    writeln!(text, "bit depth: {depth}")?;
+    writeln!(
+        text,
+        "size: {width}x{height}\nformat: {format}\nbit depth: {depth}"
+    )?;
     push_siting(&mut text, colour.siting())?;
     push_times(&mut text, header)?;
     push_extensions(&mut text, header)?;

@@ -88,7 +88,10 @@ where
             let _ = output.write_all(USAGE.as_bytes());
             Status::Failed
         }
-        Ok(command) => run_command(rt, &command, input, output, &mut progress),
+        Ok(command) => {
+            let mut standard = Some(input);
+            run_command(rt, &command, &mut standard, output, &mut progress)
+        }
         Err(wrong) => {
             let _ = write!(progress.out, "yuv: {wrong}\n{USAGE}");
             Status::Failed
@@ -100,7 +103,7 @@ where
 fn run_command<H, I, O, E>(
     rt: &H,
     command: &Command<'_>,
-    input: I,
+    standard: &mut Option<I>,
     output: O,
     progress: &mut Progress<E>,
 ) -> Status
@@ -111,7 +114,7 @@ where
     E: io::Write,
 {
     progress.is_shown = command.shows_progress();
-    let done = do_command(rt, command, input, output, progress);
+    let done = do_command(rt, command, standard, output, progress);
     progress.end();
     match done {
         Ok(status) => status,
@@ -128,8 +131,8 @@ where
 fn do_command<H, I, O, E>(
     rt: &H,
     command: &Command<'_>,
-    input: I,
-    output: O,
+    standard: &mut Option<I>,
+    mut output: O,
     progress: &mut Progress<E>,
 ) -> Result<Status, Fault>
 where
@@ -140,19 +143,28 @@ where
 {
     match command {
         Command::Help => Ok(Status::Failed),
-        Command::Info { file, .. } => do_info(rt, file, input, output, progress),
+        Command::Info { file, .. } => do_info(rt, file, standard, &mut output, progress),
         Command::Compare {
             first,
             second,
             frames,
             ..
-        } => { do_compare(rt, first, second, *frames, input, output, progress) }
+        } => {
+            do_compare(
+                rt,
+                (first, second),
+                *frames,
+                standard,
+                &mut output,
+                progress,
+            )
+        }
         Command::Copy {
-            input: from,
+            input,
             output: to,
             wanted,
             ..
-        } => { do_copy(rt, from, to, wanted, input, output, progress) }
+        } => { do_copy(rt, (input, to), wanted, standard, output, progress) }
     }
 }
 

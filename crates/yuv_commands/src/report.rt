@@ -58,52 +58,65 @@ fn frame_line(
 ) -> Result<String, AllocError> {
     let mut line = String::new(alloc);
     write!(line, "n:{number}")?;
-    push_errors(&mut line, errors, &scale.pixels)?;
-    push_ratios(&mut line, errors, scale)?;
+    let errors = Measured::errors(errors, &scale.pixels);
+    push_measured(&mut line, "mse", &errors)?;
+    push_measured(&mut line, "psnr", &errors.ratios(scale.bit_depth))?;
     line.push('\n')?;
     Ok(line)
 }
 
-/// Appends the mean squared errors of a frame.
-fn push_errors(
-    line: &mut String,
-    errors: &PlaneSums,
-    pixels: &PlaneSums,
-) -> Result<(), AllocError> {
-    let all = mean_squared_error(errors.total(), pixels.total());
-    let y = mean_squared_error(errors.y, pixels.y);
-    write!(line, " mse_avg:{all:.2} mse_y:{y:.2}")?;
-    if let (Some(errors), Some(pixels)) = (errors.u, pixels.u) {
-        let u = mean_squared_error(errors, pixels);
-        write!(line, " mse_u:{u:.2}")?;
-    }
-    if let (Some(errors), Some(pixels)) = (errors.v, pixels.v) {
-        let v = mean_squared_error(errors, pixels);
-        write!(line, " mse_v:{v:.2}")?;
-    }
-    Ok(())
+/// What is measured of all pixels, and of those of each plane that there is.
+#[derive(Clone, Copy)]
+struct Measured {
+    all: f64,
+    y: f64,
+    u: Option<f64>,
+    v: Option<f64>,
 }
 
-/// Appends the peak signal-to-noise ratios of a frame.
-fn push_ratios(line: &mut String, errors: &PlaneSums, scale: &Scale) -> Result<(), AllocError> {
-    let pixels = &scale.pixels;
-    let all = ratio(errors.total(), pixels.total(), scale.bit_depth);
-    let y = ratio(errors.y, pixels.y, scale.bit_depth);
-    write!(line, " psnr_avg:{all:.2} psnr_y:{y:.2}")?;
-    if let (Some(errors), Some(pixels)) = (errors.u, pixels.u) {
-        let u = ratio(errors, pixels, scale.bit_depth);
-        write!(line, " psnr_u:{u:.2}")?;
+impl Measured {
+    /// The mean squared errors of so many pixels.
+    fn errors(errors: &PlaneSums, pixels: &PlaneSums) -> Self {
+        Measured {
+            all: mean_squared_error(errors.total(), pixels.total()),
+            y: mean_squared_error(errors.y, pixels.y),
+            u: chroma_error(errors.u, pixels.u),
+            v: chroma_error(errors.v, pixels.v),
+        }
     }
-    if let (Some(errors), Some(pixels)) = (errors.v, pixels.v) {
-        let v = ratio(errors, pixels, scale.bit_depth);
-        write!(line, " psnr_v:{v:.2}")?;
+
+    /// The peak signal-to-noise ratios of these errors.
+    fn ratios(&self, bit_depth: u8) -> Self {
+        Measured {
+            all: peak_signal_to_noise(self.all, bit_depth),
+            y: peak_signal_to_noise(self.y, bit_depth),
+            u: chroma_ratio(self.u, bit_depth),
+            v: chroma_ratio(self.v, bit_depth),
+        }
     }
-    Ok(())
 }
 
-/// The peak signal-to-noise ratio of so many pixels.
-fn ratio(errors: u128, pixels: u128, bit_depth: u8) -> f64 {
-    peak_signal_to_noise(mean_squared_error(errors, pixels), bit_depth)
+/// The mean squared error of a chroma plane, where there is one.
+fn chroma_error(errors: Option<u128>, pixels: Option<u128>) -> Option<f64> {
+    Some(mean_squared_error(errors?, pixels?))
+}
+
+/// The peak signal-to-noise ratio of a chroma plane, where there is one.
+fn chroma_ratio(error: Option<f64>, bit_depth: u8) -> Option<f64> {
+    Some(peak_signal_to_noise(error?, bit_depth))
+}
+
+/// Appends what is measured of a frame, under this name.
+fn push_measured(line: &mut String, name: &str, measured: &Measured) -> Result<(), AllocError> {
+    let Measured { all, y, u, v } = measured;
+    write!(line, " {name}_avg:{all:.2} {name}_y:{y:.2}")?;
+    if let Some(u) = u {
+        write!(line, " {name}_u:{u:.2}")?;
+    }
+    if let Some(v) = v {
+        write!(line, " {name}_v:{v:.2}")?;
+    }
+    Ok(())
 }
 
 /// What is told of two streams at the end.
@@ -134,27 +147,24 @@ pub fn comparison_text(
 
 /// Appends a line for all planes, and one for each.
 fn push_planes(text: &mut String, errors: &PlaneSums, scale: &Scale) -> Result<(), AllocError> {
-    let pixels = &scale.pixels;
-    push_plane(text, "all planes", (errors.total(), pixels.total()), scale)?;
-    push_plane(text, "Y", (errors.y, pixels.y), scale)?;
-    if let (Some(errors), Some(pixels)) = (errors.u, pixels.u) {
-        push_plane(text, "U", (errors, pixels), scale)?;
-    }
-    if let (Some(errors), Some(pixels)) = (errors.v, pixels.v) {
-        push_plane(text, "V", (errors, pixels), scale)?;
-    }
-    Ok(())
+    let Measured { all, y, u, v } = Measured::errors(errors, &scale.pixels);
+    push_plane(text, "all planes", Some(all), scale.bit_depth)?;
+    push_plane(text, "Y", Some(y), scale.bit_depth)?;
+    push_plane(text, "U", u, scale.bit_depth)?;
+    push_plane(text, "V", v, scale.bit_depth)
 }
 
-/// Appends the line of one: its errors beside its pixels.
+/// Appends the line of one by its error, where there is one.
 fn push_plane(
     text: &mut String,
     name: &str,
-    (errors, pixels): (u128, u128),
-    scale: &Scale,
+    error: Option<f64>,
+    bit_depth: u8,
 ) -> Result<(), AllocError> {
-    let error = mean_squared_error(errors, pixels);
-    let ratio = peak_signal_to_noise(error, scale.bit_depth);
+    let Some(error) = error else {
+        return Ok(());
+    };
+    let ratio = peak_signal_to_noise(error, bit_depth);
     writeln!(text, "{name}: mse {error:.2}, psnr {ratio:.2}")
 }
 
@@ -172,9 +182,8 @@ fn push_difference(
         first,
         second,
     } = pixel;
-    write!(
+    writeln!(
         text,
-        "first difference: frame {frame}, plane {component}, column {x}, row {y}"
-    )?;
-    writeln!(text, ", {first} and {second}")
+        "first difference: frame {frame}, plane {component}, column {x}, row {y}, {first} and {second}"
+    )
 }

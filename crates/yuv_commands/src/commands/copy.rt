@@ -1,0 +1,266 @@
+//! The command `copy`.
+ghost use Rattle.std.specs.Prelude.{IfOk};
+ghost use Rattle.v_frame.specs.Prelude.{tables_of};
+ghost use Rattle.v_frame_planar.specs.Planar.{sizes_of};
+ghost use Rattle.yuv_frames.specs.Edits.{EditFits};
+
+use super::{Opened, open};
+use crate::arguments::{Named, Wanted};
+use crate::copy::{CopyFault, copy_frames, edit_frames};
+use crate::fault::{Caused, Fault, Problem};
+use crate::program::Status;
+use crate::progress::Progress;
+use crate::source::{Sink, create_sink};
+use crate::stream::{Container, Input, Output};
+use std::alloc::Global;
+use std::io;
+use std::rt::Files;
+use v_frame::frame::Frame;
+use v_frame::pixel::Pixel;
+use v_frame_planar::Counted;
+use v_frame_y4m::{StreamHeader, write_header};
+use yuv_frames::{Edit, Rectangle, can_edit};
+
+/// Writes a stream once more.
+pub fn do_copy<H, I, O, E>(
+    rt: &H,
+    (from, to): (&Named<'_>, &str),
+    wanted: &Wanted,
+    standard: &mut Option<I>,
+    output: O,
+    progress: &mut Progress<E>,
+) -> Result<Status, Fault>
+where
+    H: Files + AllocGlobal,
+    I: io::Read + Drop,
+    O: io::Write + Drop,
+    E: io::Write,
+{
+    if from.name == to && to != "-" {
+        return Err(Fault::second(Problem::OneFile));
+    }
+    let target = Target {
+        rt,
+        name: to,
+        output,
+    };
+    match open(rt, from, standard) {
+        Ok(opened) if opened.has_bytes() => {
+            copy_as::<u8, _, _, _, _>(opened, wanted, target, progress)
+        }
+        Ok(opened) => copy_as::<u16, _, _, _, _>(opened, wanted, target, progress),
+        Err(problem) => Err(Fault::first(problem)),
+    }
+}
+
+/// A file that is created when all that could go wrong before is seen.
+#[derive(Drop)]
+struct Target<'a, H, O> {
+    rt: &'a H,
+    name: &'a str,
+    output: O,
+}
+
+impl<'a, H: Files + AllocGlobal, O: io::Write + Drop> Target<'a, H, O> {
+    /// Creates it, and writes the header if it has one.
+    fn begin(
+        self,
+        header: &StreamHeader,
+        is_raw: bool,
+    ) -> Result<Output<Sink<H::File, O>>, Problem> {
+        let mut writer = Counted::new(create_sink(self.rt, self.name, self.output)?);
+        let container = if is_raw {
+            Container::Raw
+        } else {
+            put_header(self.rt.alloc(), &mut writer, header)?;
+            Container::Y4m
+        };
+        Ok(Output { container, writer })
+    }
+}
+
+/// Writes the header of a stream.
+fn put_header<W: io::Write>(
+    alloc: Global,
+    writer: &mut Counted<W>,
+    header: &StreamHeader,
+) -> Result<(), Problem> {
+    if !header.is_writable() {
+        return Err(Problem::Unwritable);
+    }
+    match write_header(alloc, writer, header) {
+        Ok(()) => Ok(()),
+        Err(error) => Err(Problem::Header(Caused::at(error, writer))),
+    }
+}
+
+/// Writes a stream of pixels of this type once more.
+fn copy_as<T, R, H, O, E>(
+    opened: Opened<R>,
+    wanted: &Wanted,
+    target: Target<'_, H, O>,
+    progress: &mut Progress<E>,
+) -> Result<Status, Fault>
+where
+    T: Pixel,
+    R: io::Read + Drop,
+    H: Files + AllocGlobal,
+    O: io::Write + Drop,
+    E: io::Write,
+{
+    match opened.input::<T>(target.rt.alloc()) {
+        Ok((header, mut input)) => copy_input(header, &mut input, wanted, target, progress),
+        Err(problem) => Err(Fault::first(problem)),
+    }
+}
+
+/// Writes the frames of a stream once more, behind this header or that of what is made of them.
+fn copy_input<T, R, H, O, E>(
+    header: StreamHeader,
+    input: &mut Input<T, R>,
+    wanted: &Wanted,
+    target: Target<'_, H, O>,
+    progress: &mut Progress<E>,
+) -> Result<Status, Fault>
+where
+    T: Pixel,
+    R: io::Read,
+    H: Files + AllocGlobal,
+    O: io::Write + Drop,
+    E: io::Write,
+{
+    match edit_of(&header, wanted) {
+        Ok(Some(edit)) => {
+            let header = made_header(header, &edit);
+            copy_edited(&header, &edit, input, wanted.raw, target, progress)
+        }
+        Ok(None) => copy_whole(&header, input, wanted.raw, target, progress),
+        Err(problem) => Err(Fault::first(problem)),
+    }
+}
+
+/// Writes frames as they are.
+fn copy_whole<T, R, H, O, E>(
+    header: &StreamHeader,
+    input: &mut Input<T, R>,
+    is_raw: bool,
+    target: Target<'_, H, O>,
+    progress: &mut Progress<E>,
+) -> Result<Status, Fault>
+where
+    T: Pixel,
+    R: io::Read,
+    H: Files + AllocGlobal,
+    O: io::Write + Drop,
+    E: io::Write,
+{
+    let alloc = target.rt.alloc();
+    match target.begin(header, is_raw) {
+        Ok(mut output) => status_of(copy_frames(alloc, input, &mut output, progress)),
+        Err(problem) => Err(Fault::second(problem)),
+    }
+}
+
+/// Writes what is made of frames.
+fn copy_edited<T, R, H, O, E>(
+    header: &StreamHeader,
+    edit: &Edit,
+    input: &mut Input<T, R>,
+    is_raw: bool,
+    target: Target<'_, H, O>,
+    progress: &mut Progress<E>,
+) -> Result<Status, Fault>
+where
+    T: Pixel,
+    R: io::Read,
+    H: Files + AllocGlobal,
+    O: io::Write + Drop,
+    E: io::Write,
+{
+    let alloc = target.rt.alloc();
+    let mut made = match made_frame(alloc, header, edit, &input.frame) {
+        Ok(made) => made,
+        Err(problem) => return Err(Fault::first(problem)),
+    };
+    match target.begin(header, is_raw) {
+        Ok(mut output) => status_of(edit_frames(
+            alloc,
+            edit,
+            input,
+            &mut made,
+            &mut output,
+            progress,
+        )),
+        Err(problem) => Err(Fault::second(problem)),
+    }
+}
+
+/// How the program ends behind a copy.
+fn status_of(copied: Result<u64, CopyFault>) -> Result<Status, Fault> {
+    match copied {
+        Ok(_frames) => Ok(Status::Same),
+        Err(fault) => Err(Fault::from(fault)),
+    }
+}
+
+/// What is made of each frame, where something is.
+fn edit_of(header: &StreamHeader, wanted: &Wanted) -> Result<Option<Edit>, Problem> {
+    if wanted.crop.is_none() && !wanted.half {
+        return Ok(None);
+    }
+    let whole = Rectangle {
+        x: 0,
+        y: 0,
+        width: header.width,
+        height: header.height,
+    };
+    let luma = wanted.crop.unwrap_or(whole);
+    if !luma.lies_in(header.width, header.height) {
+        return Err(Problem::Outside);
+    }
+    match Edit::new(luma, header.colour.subsampling(), wanted.half) {
+        Ok(edit) => Ok(Some(edit)),
+        Err(refusal) => Err(Problem::Misaligned(refusal)),
+    }
+}
+
+/// The header of the frames that are made.
+fn made_header(header: StreamHeader, edit: &Edit) -> StreamHeader {
+    let scale = if edit.half { 2 } else { 1 };
+    StreamHeader {
+        width: edit.luma.width / scale,
+        height: edit.luma.height / scale,
+        ..header
+    }
+}
+
+/// A frame for what is made of frames like the source, where it fits.
+fn made_frame<T: Pixel>(
+    alloc: Global,
+    header: &StreamHeader,
+    edit: &Edit,
+    source: &Frame<T>,
+) -> Result<Frame<T>, Problem>
+    ensures { IfOk result (λ made. EditFits edit.now (sizes_of (tables_of source.now))
+        (sizes_of (tables_of made))) }
+{
+    if header.width == 0 || header.height == 0 {
+        return Err(Problem::Odd);
+    }
+    let made = header.frame::<T>(alloc, 0)?;
+    if can_edit(edit, source, &made) {
+        Ok(made)
+    } else {
+        Err(Problem::Odd)
+    }
+}
+
+/// The fault of the program for one of a copy.
+impl From<CopyFault> for Fault {
+    fn from(fault: CopyFault) -> Self {
+        match fault {
+            CopyFault::Input(fault) => Fault::first(Problem::Frame(fault)),
+            CopyFault::Output(fault) => Fault::second(Problem::Frame(fault)),
+        }
+    }
+}
