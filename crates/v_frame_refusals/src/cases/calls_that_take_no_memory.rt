@@ -4,7 +4,8 @@ use crate::outcome::Outcome;
 use std::alloc::Global;
 use std::io::Cursor;
 use v_frame::chroma::ChromaSubsampling::{Monochrome, Yuv420};
-use v_frame::frame::{FrameBuilder, FrameError};
+use v_frame::frame::{Frame, FrameBuilder, FrameError};
+use v_frame::pixel::Pixel;
 use v_frame::plane::{PlaneGeometry, PlaneRef};
 use v_frame::replay::replay;
 use v_frame_planar::{Counted, write_frame};
@@ -19,31 +20,40 @@ pub fn calls_that_take_no_memory(alloc: Global) -> Result<Outcome, Outcome> {
         return Err(Outcome::Wrong("reading over an array"));
     }
     let mut frame = FrameBuilder::new(3, 2, Monochrome, 8).build::<u8>(alloc)?;
-    let replayed = replay(alloc, &mut frame, &[]);
-    let is_kept = frame.y_plane.data() == [0; 6].as_slice();
+    let is_replayed = replays_no_call(alloc, &mut frame);
+    Ok(Outcome::done(is_replayed && is_written(&frame)))
+}
+
+/// Whether the replay of no call answers nothing, and leaves a blank frame as it is.
+fn replays_no_call(alloc: Global, frame: &mut Frame<u8>) -> bool {
+    match replay(alloc, frame, &[]) {
+        Ok(answers) => answers.is_empty() && frame.y_plane.data() == [0; 6].as_slice(),
+        Err(_) => false,
+    }
+}
+
+/// Whether a blank frame is written as its bytes, and no more.
+fn is_written(frame: &Frame<u8>) -> bool {
     let mut writer = Counted::new(Cursor::new([9; 8]));
-    let written = write_frame(&mut writer, &frame).is_ok();
-    let is_written = written && *writer.inner().get_ref() == [0, 0, 0, 0, 0, 0, 9, 9];
-    let is_replayed = is_kept && replayed.is_ok_and(|answers| answers.is_empty());
-    Ok(Outcome::done(is_replayed && is_written))
+    let written = write_frame(&mut writer, frame).is_ok();
+    written && *writer.inner().get_ref() == [0, 0, 0, 0, 0, 0, 9, 9]
 }
 
 /// Whether a depth, a type and a size that no frame has are each told.
 fn builds_are_refused(alloc: Global) -> bool {
-    let depth = FrameBuilder::new(1920, 1080, Yuv420, 7).build::<u8>(alloc);
-    let words = FrameBuilder::new(1920, 1080, Yuv420, 10).build::<u8>(alloc);
-    let bytes = FrameBuilder::new(1920, 1080, Yuv420, 8).build::<u16>(alloc);
-    let first = FrameBuilder::new(0, 1080, Yuv420, 17).build::<u16>(alloc);
-    let empty = FrameBuilder::new(0, 1080, Yuv420, 8).build::<u8>(alloc);
-    let odd = FrameBuilder::new(1920, 1080, Yuv420, 8)
-        .luma_padding_bottom(1)
-        .build::<u8>(alloc);
-    depth.err() == Some(FrameError::UnsupportedBitDepth { found: 7 })
-        && words.err() == Some(FrameError::DataTypeMismatch)
-        && bytes.err() == Some(FrameError::DataTypeMismatch)
-        && first.err() == Some(FrameError::UnsupportedBitDepth { found: 17 })
-        && empty.err() == Some(FrameError::UnsupportedResolution)
-        && odd.err() == Some(FrameError::UnsupportedResolution)
+    let odd = FrameBuilder::new(1920, 1080, Yuv420, 8).luma_padding_bottom(1);
+    refusal::<u8>(alloc, 1920, 7) == Some(FrameError::UnsupportedBitDepth { found: 7 })
+        && refusal::<u8>(alloc, 1920, 10) == Some(FrameError::DataTypeMismatch)
+        && refusal::<u16>(alloc, 1920, 8) == Some(FrameError::DataTypeMismatch)
+        && refusal::<u16>(alloc, 0, 17) == Some(FrameError::UnsupportedBitDepth { found: 17 })
+        && refusal::<u8>(alloc, 0, 8) == Some(FrameError::UnsupportedResolution)
+        && odd.build::<u8>(alloc).err() == Some(FrameError::UnsupportedResolution)
+}
+
+/// Why a frame of this width and depth is not built, where it is not.
+fn refusal<T: Pixel>(alloc: Global, width: usize, depth: u8) -> Option<FrameError> {
+    let builder = FrameBuilder::new(width, 1080, Yuv420, depth);
+    builder.build::<T>(alloc).err()
 }
 
 /// Two pixels by two in a border of one column to the left.

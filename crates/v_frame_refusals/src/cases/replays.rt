@@ -3,25 +3,50 @@
 use super::pictures::{PREPARED, Tables, holds, prepared};
 use crate::outcome::Outcome;
 use std::alloc::{AllocError, Global};
+use v_frame::frame::Frame;
 use v_frame::plane::CopyError;
 use v_frame::replay::{Answer, Drawn, PixelDraw, RowDraw, Sequence, Side, VisibleCall, replay};
 
 /// A replay in a numbered border. Where it is stopped, the calls that were answered are done, and no other.
 pub fn replay_of_a_list(alloc: Global) -> Result<Outcome, Outcome> {
     let mut frame = prepared(alloc)?;
+    replay_on(alloc, &mut frame)
+}
+
+/// The replay on this frame.
+fn replay_on(alloc: Global, frame: &mut Frame<u16>) -> Result<Outcome, Outcome> {
     let calls = calls(alloc)?;
+    replay_calls(alloc, frame, &calls)
+}
+
+/// The replay of these calls.
+fn replay_calls(
+    alloc: Global,
+    frame: &mut Frame<u16>,
+    calls: &[VisibleCall<u16>],
+) -> Result<Outcome, Outcome> {
     let wanted = answers(alloc)?;
-    Ok(match replay(alloc, &mut frame, &calls) {
+    Ok(seen_of(alloc, frame, calls, &wanted))
+}
+
+/// What is seen of the replay, where these answers are wanted.
+fn seen_of(
+    alloc: Global,
+    frame: &mut Frame<u16>,
+    calls: &[VisibleCall<u16>],
+    wanted: &[Answer<u16>],
+) -> Outcome {
+    match replay(alloc, frame, calls) {
         Ok(answers) => {
-            let is_answered = answers.as_slice() == wanted.as_slice();
-            Outcome::done(is_answered && holds(&frame, tables_after(calls.len())))
+            let is_answered = answers.as_slice() == wanted;
+            Outcome::done(is_answered && holds(frame, tables_after(calls.len())))
         }
         Err(stopped) => {
             let done = stopped.done.as_slice();
             let is_answered = done.len() < calls.len() && wanted.get(..done.len()) == Some(done);
-            Outcome::kept(is_answered && holds(&frame, tables_after(done.len())))
+            Outcome::kept(is_answered && holds(frame, tables_after(done.len())))
         }
-    })
+    }
 }
 
 /// What the frame shows after so many calls of the list.
