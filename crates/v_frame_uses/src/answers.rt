@@ -27,7 +27,10 @@ pub fn first_answers(alloc: Global) -> Result<Vec<Answer<u8>>, FrameError>
         VisibleCall::Row { plane: 0, y: 1 },
         VisibleCall::Height { plane: 1 },
     ];
-    replay(alloc, &mut frame, &calls).map_err(|_| FrameError::OutOfMemory)
+    match replay(alloc, &mut frame, &calls) {
+        Ok(answers) => Ok(answers),
+        Err(_) => Err(FrameError::OutOfMemory),
+    }
 }
 
 /// The row that an answer shows, where it shows one.
