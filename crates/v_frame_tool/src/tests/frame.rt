@@ -3,6 +3,7 @@
 mod builds;
 mod clones;
 mod debugs;
+mod each_padding;
 mod formats;
 mod refusals;
 mod threads;

@@ -2,6 +2,7 @@
 
 pub mod answers;
 pub mod buffers;
+pub mod bytes;
 pub mod calls;
 pub mod errors;
 pub mod frames;

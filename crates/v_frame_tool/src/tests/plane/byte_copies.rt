@@ -1,6 +1,8 @@
 //! Copies of bytes into a plane, packed and with a stride.
 
-use crate::tests::support::frames::{BARE, BORDERED, Layout, with_buffer, zeros};
+use crate::tests::support::buffers::holds;
+use crate::tests::support::bytes::{stepped, stepped_words};
+use crate::tests::support::frames::{BARE, BORDERED, Layout, numbered, with_buffer, zeros};
 use crate::tests::support::texts::shows;
 use std::alloc::Global;
 use std::process::Abort;
@@ -35,19 +37,29 @@ fn check_copies<T: Pixel>(
     }
 }
 
+/// The pixels 1 to 6 in a numbered border.
+const BEFORE: [u8; 18] = [
+    100, 101, 102, 103, 104, 105, 106, 1, 2, 3, 110, 111, 112, 4, 5, 6, 116, 117,
+];
+
+/// The pixels 10 to 60 in the same.
+const AFTER: [u8; 18] = [
+    100, 101, 102, 103, 104, 105, 106, 10, 20, 30, 110, 111, 112, 40, 50, 60, 116, 117,
+];
+
 /// Two rows of three bytes, each with a tail of two.
 static TAILS: [Copied<'static, u8>; 2] = [
     (
         &[10, 20, 30, 99, 99, 40, 50, 60],
         5,
         "Err(DataLength { expected: 10, found: 8 })",
-        &[0; 18],
+        &BEFORE,
     ),
     (
         &[10, 20, 30, 99, 99, 40, 50, 60, 99, 99],
         5,
         "Ok(())",
-        &[0, 0, 0, 0, 0, 0, 0, 10, 20, 30, 0, 0, 0, 40, 50, 60, 0, 0],
+        &AFTER,
     ),
 ];
 
@@ -107,7 +119,10 @@ static SQUARE: [Copied<'static, u8>; 1] = [(
 
 #[test]
 fn bytes_are_copied_without_their_tails(rt: HostRuntime) {
-    check_copies(&rt, rt.alloc(), BORDERED, &TAILS);
+    let mut bordered = with_buffer::<u8>(&rt, rt.alloc(), BORDERED, &BEFORE);
+    for copied in &TAILS {
+        check_copy(&rt, rt.alloc(), &mut bordered.y_plane, *copied);
+    }
     check_copies(&rt, rt.alloc(), (5, 2, [0; 4]), &FIVE);
     check_copies(&rt, rt.alloc(), BARE, &LARGEST);
     check_copies(&rt, rt.alloc(), (2, 2, [0; 4]), &SQUARE);
@@ -176,17 +191,41 @@ static WIDTHS: [(usize, usize, u16); 5] = [
     (33, 67, 0xE7E0),
 ];
 
+/// The items of one row and then those of the row below.
+fn joined<T: Copy>(rt: &impl Abort, mut above: Vec<T>, below: &[T]) -> Vec<T> {
+    above.extend_from_slice(below).expect(rt, "memory");
+    above
+}
+
 /// Two rows of so many bytes, which begin at 1 and 32 and grow by 7.
 fn two_rows(rt: &impl Abort, alloc: Global, stride: usize) -> Vec<u8> {
-    let mut bytes = Vec::new(alloc);
-    for first in [1, 32] {
-        let mut byte: u8 = first;
-        for _ in 0..stride {
-            bytes.push(byte).expect(rt, "memory");
-            byte = byte.wrapping_add(7);
-        }
-    }
-    bytes
+    let below = stepped(rt, alloc, 32, 7, stride);
+    joined(rt, stepped(rt, alloc, 1, 7, stride), below.as_slice())
+}
+
+/// The first so many words of each of these two rows of bytes.
+fn words_of_two_rows(rt: &impl Abort, alloc: Global, width: usize) -> Vec<u16> {
+    let below = stepped_words(rt, alloc, 32, 7, width);
+    joined(rt, stepped_words(rt, alloc, 1, 7, width), below.as_slice())
+}
+
+/// Stops the test where the words are not those of the source, or an entry of a numbered border changes.
+fn check_border(rt: &impl Abort, alloc: Global, (width, stride, last): (usize, usize, u16)) {
+    let layout = (width, 2, [3, 1, 0, 0]);
+    let mut frame = numbered::<u16>(rt, alloc, layout);
+    let source = two_rows(rt, alloc, stride);
+    let copied = frame
+        .y_plane
+        .copy_from_u8_slice_with_stride(source.as_slice(), stride);
+    let words = words_of_two_rows(rt, alloc, width);
+    assert!(rt;
+        copied.is_ok() && words.last() == Some(&last),
+        "{width} words"
+    );
+    assert!(rt;
+        holds(rt, alloc, &frame.y_plane, layout, words.as_slice()),
+        "{width} words"
+    );
 }
 
 /// Stops the test where words are not copied, or the border does not stay.
@@ -218,5 +257,6 @@ fn check_width(rt: &impl Abort, alloc: Global, (width, stride, last): (usize, us
 fn words_of_each_width_leave_their_border(rt: HostRuntime) {
     for width in &WIDTHS {
         check_width(&rt, rt.alloc(), *width);
+        check_border(&rt, rt.alloc(), *width);
     }
 }

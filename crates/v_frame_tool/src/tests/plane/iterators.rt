@@ -2,7 +2,6 @@
 
 use crate::tests::support::frames::{counted, with_buffer, zeros};
 use crate::tests::support::texts::shows;
-use v_frame::plane::Plane;
 
 #[test]
 fn iterators_are_as_long_as_the_plane(rt: HostRuntime) {
@@ -34,28 +33,4 @@ fn low_bytes_come_first(rt: HostRuntime) {
         .collect(rt.alloc())
         .expect(&rt, "memory");
     assert!(rt; bytes.as_slice() == [2, 1, 4, 3, 6, 5, 8, 7].as_slice());
-}
-
-/// Writes the numbers from 0 on, pixel after pixel.
-fn count_up(plane: &mut Plane<u8>) {
-    let mut next = 0;
-    for pixel in plane.pixels_mut() {
-        *pixel = next;
-        next = u8::wrapping_add(next, 1);
-    }
-}
-
-#[test]
-fn filled_pixels_are_read_back(rt: HostRuntime) {
-    let count = [0, 1, 2, 3, 4, 5, 6, 7, 8, 9, 10, 11];
-    for (layout, end) in [((2, 3, [0; 4]), 6), ((4, 3, [2, 2, 1, 1]), 12)] {
-        let mut frame = zeros(&rt, rt.alloc(), layout);
-        count_up(&mut frame.y_plane);
-        let pixels: Vec<u8> = frame
-            .y_plane
-            .pixels()
-            .collect(rt.alloc())
-            .expect(&rt, "memory");
-        assert!(rt; Some(pixels.as_slice()) == count.get(..end));
-    }
 }

@@ -1,6 +1,6 @@
 //! Frames: blank, with a buffer, and with a picture in a border.
 
-use crate::tests::support::buffers::{bordered_buffer, buffer_in_200};
+use crate::tests::support::buffers::{bordered_buffer, buffer_in_200, number_at};
 use std::alloc::Global;
 use std::process::Abort;
 use v_frame::chroma::ChromaSubsampling;
@@ -62,6 +62,15 @@ pub fn with_buffer<T: Pixel>(
         panic!(rt; "another size");
     }
     data.copy_from_slice(buffer);
+    frame
+}
+
+/// A luma plane whose entries are numbered, in the border too.
+pub fn numbered<T: Pixel>(rt: &impl Abort, alloc: Global, layout: Layout) -> Frame<T> {
+    let mut frame = zeros(rt, alloc, layout);
+    for (place, entry) in frame.y_plane.data_mut().iter_mut().enumerate() {
+        *entry = number_at(rt, place);
+    }
     frame
 }
 

@@ -1,0 +1,38 @@
+//! Iterators over the bytes of planes, drawn by turns and counted.
+
+use crate::tests::support::frames::{numbered, with_buffer};
+use v_frame::pixel::Pixel;
+use v_frame::plane::{ByteData, Plane};
+
+/// Two calls of `next` and two of `next_back` by turns.
+fn by_turns<T: Pixel>(bytes: &mut ByteData<'_, T>) -> [Option<u8>; 4] {
+    [
+        bytes.next(),
+        bytes.next_back(),
+        bytes.next(),
+        bytes.next_back(),
+    ]
+}
+
+#[test]
+fn bytes_come_by_turns(rt: HostRuntime) {
+    let frame = with_buffer::<u8>(&rt, rt.alloc(), (2, 2, [0; 4]), &[1, 2, 3, 4]);
+    let mut bytes = frame.y_plane.byte_data();
+    assert!(rt; by_turns(&mut bytes) == [Some(1), Some(4), Some(2), Some(3)]);
+}
+
+/// How many bytes an iterator tells and gives, the first one, and how many are left after it.
+fn counts<T: Pixel>(plane: &Plane<T>) -> ([usize; 3], Option<u8>) {
+    let mut bytes = plane.byte_data();
+    let (length, first) = (bytes.len(), bytes.next());
+    ([length, plane.byte_data().count(), bytes.len()], first)
+}
+
+#[test]
+fn bytes_are_counted(rt: HostRuntime) {
+    let layout = (4, 3, [2, 2, 1, 1]);
+    let bytes = numbered::<u8>(&rt, rt.alloc(), layout);
+    assert!(rt; counts(&bytes.y_plane) == ([12, 12, 11], Some(110)));
+    let words = numbered::<u16>(&rt, rt.alloc(), layout);
+    assert!(rt; counts(&words.y_plane) == ([24, 24, 23], Some(10)));
+}
