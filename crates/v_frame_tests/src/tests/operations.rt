@@ -154,9 +154,12 @@ fn a_plane_is_softened(rt: HostRuntime) {
     let pixels = [0, 0, 0, 0, 90, 0, 0, 0, 9];
     let mut plane = showing(&rt, rt.alloc(), SQUARE, &pixels).y_plane;
     let mut target = showing(&rt, rt.alloc(), (3, 3, [2, 0, 1, 0]), &[1; 9]).y_plane;
+    for (number, entry) in (100u8..).zip(target.data_mut().iter_mut()) {
+        *entry = number;
+    }
     softened(&rt, &mut plane, &mut target);
     let wanted = [
-        0, 0, 0, 0, 0, 0, 0, 10, 10, 10, 0, 0, 10, 11, 12, 0, 0, 10, 12, 14,
+        100, 101, 102, 103, 104, 105, 106, 10, 10, 10, 110, 111, 10, 11, 12, 115, 116, 10, 12, 14,
     ];
     assert!(rt; target.data() == wanted.as_slice());
 }

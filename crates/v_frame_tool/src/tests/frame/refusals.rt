@@ -1,7 +1,4 @@
 //! Frames that are not built, and why.
-//!
-//! With memory each build here that takes some answers `Ok`. `rt try --test --fail-alloc N` runs each test with its request
-//! `N` refused: then the test takes the branch of the refusal and passes.
 
 use crate::tests::support::frames::{padded, refusal};
 use crate::tests::support::texts::{displays, shows};
@@ -81,6 +78,7 @@ fn frames_are_refused_for_the_first_reason(rt: HostRuntime) {
     }
 }
 
+/// With memory it is built; `rt try --test --fail-alloc N` refuses its request `N`, and takes the branch of the refusal.
 #[test]
 fn a_refused_build_of_three_planes_hands_out_no_frame(rt: HostRuntime) {
     let builder = padded((4, 2), Yuv420, 8, [2, 2, 2, 0]);

@@ -3,7 +3,7 @@
 use crate::counted::Counted;
 use crate::planar::write_frame;
 use crate::tests::support::planar::six_bytes;
-use crate::tests::support::readers::Pieces;
+use crate::tests::support::readers::pieces_of;
 use crate::tests::support::texts::shows;
 use crate::tests::support::watched::{WatchedWriter, watched_writer};
 use std::process::Abort;
@@ -67,15 +67,13 @@ fn a_frame_is_written_without_a_flush_and_without_an_empty_write(rt: HostRuntime
 
 #[test]
 fn a_read_is_one_call(rt: HostRuntime) {
-    let mut reader = Counted::new(Pieces {
-        left: [1, 2, 3, 4].as_slice(),
-        most: 3,
-        calls: 2,
-    });
+    let mut reader = Counted::new(pieces_of(&[1, 2, 3, 4], 3, 2));
     let mut buf = [0; 4];
     let part = reader.read(&mut buf);
     assert!(rt; shows(&rt, rt.alloc(), &part.ok(), "Some(3)") && buf == [1, 2, 3, 0]);
-    assert!(rt; reader.read(&mut []).is_ok() && reader.inner().calls == 0);
+    assert!(rt; reader.inner().reads == 1);
+    assert!(rt; reader.read(&mut []).is_ok() && reader.inner().reads == 2);
     assert!(rt; reader.read(&mut buf).is_err() && buf == [1, 2, 3, 0]);
+    assert!(rt; reader.inner().reads == 3);
     assert!(rt; (reader.failures(), reader.inner().left.len()) == (1, 1));
 }

@@ -18,6 +18,33 @@ fn taken<T: Pixel>(rt: &impl Abort, alloc: Global, frame: &Frame<T>) -> Vec<u8> 
     writer.into_inner().taken
 }
 
+/// A row of so many bytes, each the remainder of its place by 251.
+fn row_of_bytes(rt: &impl Abort, alloc: Global, width: usize) -> Frame<u8> {
+    let mut frame = zeros::<u8>(rt, alloc, (width, 1, [1, 2, 0, 0]));
+    for (place, pixel) in frame.y_plane.pixels_mut().enumerate() {
+        *pixel = (place % 251) as u8;
+    }
+    frame
+}
+
+/// Whether bytes are the remainders of their places by 251.
+fn are_remainders(bytes: &[u8]) -> bool {
+    let mut places = bytes.iter().enumerate();
+    places.all(|(place, byte)| usize::from(*byte) == place % 251)
+}
+
+#[test]
+fn a_long_row_of_bytes_is_taken_in_parts(rt: HostRuntime) {
+    for width in [8_193, 65_537, 69_632, 69_633, 140_000] {
+        let frame = row_of_bytes(&rt, rt.alloc(), width);
+        let bytes = taken(&rt, rt.alloc(), &frame);
+        assert!(rt;
+            bytes.len() == width && are_remainders(bytes.as_slice()),
+            "{width} bytes"
+        );
+    }
+}
+
 /// A row of so many words, each the number of its place.
 fn row_of_words(rt: &impl Abort, alloc: Global, width: usize) -> Frame<u16> {
     let mut frame = zeros::<u16>(rt, alloc, (width, 1, [1, 2, 0, 0]));

@@ -1,11 +1,11 @@
 //! Frames that are read: whole, in pieces, not to their end, and not at all.
 
 use crate::counted::Counted;
-use crate::planar::read_frame;
-use crate::tests::support::buffers::buffer_in_200;
-use crate::tests::support::frames::{BARE, in_200, padded, with_buffer};
+use crate::planar::{PlanarError, read_frame};
+use crate::tests::support::buffers::{buffer_in_200, rows_are};
+use crate::tests::support::frames::{BARE, BORDERED, in_200, padded, with_buffer};
 use crate::tests::support::planar::{shows_bytes, six_bytes};
-use crate::tests::support::readers::Pieces;
+use crate::tests::support::readers::pieces_of;
 use crate::tests::support::texts::shows;
 use std::alloc::Global;
 use std::process::Abort;
@@ -49,15 +49,12 @@ static PIECES: [Piecewise; 8] = [
     (&[1, 2, 3, 4, 5, 6], 1, 5, "Err(Read)", 1, 1),
 ];
 
-/// Stops the test where a read in pieces answers anything else, or changes a frame that it does not read whole.
-fn check_pieces(rt: &impl Abort, alloc: Global, case: &Piecewise) {
+/// Stops the test where a read in pieces into a frame of these bytes answers anything else, or changes a frame that it does
+/// not read whole.
+fn check_pieces(rt: &impl Abort, alloc: Global, case: &Piecewise, before: [u8; 6]) {
     let (bytes, most, calls, answer, failures, left) = *case;
-    let mut frame = six_bytes(rt, alloc, [11, 12, 13, 14, 15, 16]);
-    let mut reader = Counted::new(Pieces {
-        left: bytes,
-        most,
-        calls,
-    });
+    let mut frame = six_bytes(rt, alloc, before);
+    let mut reader = Counted::new(pieces_of(bytes, most, calls));
     let read = read_frame(alloc, &mut reader, &mut frame);
     assert!(rt; shows(rt, alloc, &read, answer), "{answer}");
     assert!(rt;
@@ -66,15 +63,16 @@ fn check_pieces(rt: &impl Abort, alloc: Global, case: &Piecewise) {
     );
     let shown = match read {
         Ok(_) => [1, 2, 3, 4, 5, 6],
-        Err(_) => [11, 12, 13, 14, 15, 16],
+        Err(_) => before,
     };
-    assert!(rt; shows_bytes(&frame, shown), "{answer}");
+    assert!(rt; frame == six_bytes(rt, alloc, shown), "{answer}");
 }
 
 #[test]
 fn frames_are_read_in_pieces_whole_or_not_at_all(rt: HostRuntime) {
     for case in &PIECES {
-        check_pieces(&rt, rt.alloc(), case);
+        check_pieces(&rt, rt.alloc(), case, [0; 6]);
+        check_pieces(&rt, rt.alloc(), case, [11, 12, 13, 14, 15, 16]);
     }
 }
 
@@ -85,6 +83,22 @@ fn borders_are_kept(rt: HostRuntime) {
     assert!(rt; read_frame(rt.alloc(), &mut reader, &mut frame) == Ok(true));
     let wanted = buffer_in_200([11, 12, 13, 14, 15, 16]);
     assert!(rt; frame.y_plane.data() == wanted.as_slice());
+    assert!(rt; rows_are(&frame.y_plane, BORDERED, &wanted));
+}
+
+/// Where its request for memory is refused, which `rt try --test --fail-alloc N` does.
+#[test]
+fn without_memory_nothing_is_read(rt: HostRuntime) {
+    let mut frame = in_200(&rt, rt.alloc());
+    let mut reader = Counted::new([11, 12, 13, 14, 15, 16].as_slice());
+    let read = read_frame(rt.alloc(), &mut reader, &mut frame);
+    let (left, pixels) = match read {
+        Ok(_) => (0, [11, 12, 13, 14, 15, 16]),
+        Err(_) => (6, [1, 2, 3, 4, 5, 6]),
+    };
+    assert!(rt; read == Ok(true) || read == Err(PlanarError::OutOfMemory));
+    assert!(rt; reader.inner().len() == left);
+    assert!(rt; frame.y_plane.data() == buffer_in_200(pixels).as_slice());
 }
 
 #[test]

@@ -1,6 +1,6 @@
 //! Copies of bytes into a plane, packed and with a stride.
 
-use crate::tests::support::buffers::holds;
+use crate::tests::support::buffers::{holds, rows_are};
 use crate::tests::support::bytes::{stepped, stepped_words};
 use crate::tests::support::frames::{BARE, BORDERED, Layout, numbered, with_buffer, zeros};
 use crate::tests::support::texts::shows;
@@ -118,11 +118,12 @@ static SQUARE: [Copied<'static, u8>; 1] = [(
 )];
 
 #[test]
-fn bytes_are_copied_without_their_tails(rt: HostRuntime) {
+fn bytes_are_copied_without_their_tails_or_refused(rt: HostRuntime) {
     let mut bordered = with_buffer::<u8>(&rt, rt.alloc(), BORDERED, &BEFORE);
     for copied in &TAILS {
         check_copy(&rt, rt.alloc(), &mut bordered.y_plane, *copied);
     }
+    assert!(rt; rows_are(&bordered.y_plane, BORDERED, &AFTER));
     check_copies(&rt, rt.alloc(), (5, 2, [0; 4]), &FIVE);
     check_copies(&rt, rt.alloc(), BARE, &LARGEST);
     check_copies(&rt, rt.alloc(), (2, 2, [0; 4]), &SQUARE);

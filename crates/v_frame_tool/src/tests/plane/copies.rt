@@ -1,6 +1,6 @@
 //! Packed copies of pixels into a plane.
 
-use crate::tests::support::buffers::bordered_buffer;
+use crate::tests::support::buffers::{bordered_buffer, rows_are};
 use crate::tests::support::errors::{other_length, short_stride};
 use crate::tests::support::frames::{BORDERED, with_buffer};
 use crate::tests::support::texts::{displays, shows};
@@ -28,6 +28,7 @@ fn a_copy_of_another_length_changes_nothing(rt: HostRuntime) {
     assert!(rt; frame.y_plane.copy_from_slice(&[1, 2, 3, 4, 5, 6]).is_ok());
     let after = bordered_buffer([1, 2, 3, 4, 5, 6]);
     assert!(rt; frame.y_plane.data() == after.as_slice());
+    assert!(rt; rows_are(&frame.y_plane, BORDERED, &after));
 }
 
 #[test]

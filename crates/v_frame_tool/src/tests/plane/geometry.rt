@@ -83,5 +83,12 @@ fn buffers_are_as_large_as_numbers_go(rt: HostRuntime) {
             "{width} by {height}"
         );
     }
-    assert!(rt; PlaneGeometry::unpadded(1920, 1080, 1, 0).is_none());
+    for (width, height, x, y) in [
+        (0, 1080, 1, 1),
+        (1920, 0, 1, 1),
+        (1920, 1080, 0, 1),
+        (1920, 1080, 1, 0),
+    ] {
+        assert!(rt; PlaneGeometry::unpadded(width, height, x, y).is_none());
+    }
 }

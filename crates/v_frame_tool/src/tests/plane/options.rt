@@ -10,6 +10,8 @@ use v_frame::plane::{Plane, PlaneGeometry};
 
 #[test]
 fn options_that_are_filled_become_values(rt: HostRuntime) {
+    let fresh = vacant::<u8>(&rt, rt.alloc(), pair());
+    assert!(rt; !fresh.is_init() && fresh.data() == [None; 2].as_slice());
     for entries in [[None, None], [Some(5), None], [None, Some(6)]] {
         let plane = holding(&rt, rt.alloc(), pair(), &entries);
         assert!(rt; !plane.is_init());

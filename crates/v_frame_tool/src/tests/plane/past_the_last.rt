@@ -1,7 +1,7 @@
 //! Calls of `next` and `next_back` on the iterators of a plane, by their laws, past the last item.
 
-use crate::tests::support::buffers::buffer_in_200;
-use crate::tests::support::frames::{counted, in_200, with_buffer};
+use crate::tests::support::buffers::{buffer_in_200, holds};
+use crate::tests::support::frames::{Layout, counted, in_200, numbered, with_buffer};
 use crate::tests::support::texts::shows;
 use v_frame::laws;
 use v_frame::replay::Side::{self, Back, Front};
@@ -43,6 +43,38 @@ fn iterators_that_write_nothing_leave_the_buffer(rt: HostRuntime) {
     assert!(rt; shows(&rt, rt.alloc(), &pixels.expect(&rt, "memory"), PIXELS));
     let wanted = buffer_in_200([1, 2, 3, 4, 5, 6]);
     assert!(rt; frame.y_plane.data() == wanted.as_slice());
+}
+
+/// Two columns and five rows.
+const TALL: Layout = (2, 5, [1, 2, 1, 1]);
+
+/// Two calls more than there are rows.
+static TALL_SIDES: [Side; 7] = [Back, Front, Front, Back, Back, Front, Back];
+
+/// What they give of the rows 1, 2 to 9, 10.
+const TALL_ROWS: &str = "[Drawn { item: Some([9, 10]), left: 4 }, \
+     Drawn { item: Some([1, 2]), left: 3 }, Drawn { item: Some([3, 4]), left: 2 }, \
+     Drawn { item: Some([7, 8]), left: 1 }, Drawn { item: Some([5, 6]), left: 0 }, \
+     Drawn { item: None, left: 0 }, Drawn { item: None, left: 0 }]";
+
+/// What seven calls by turns give of the pixels 1 to 10.
+const TALL_PIXELS: &str = "[Drawn { item: Some(1), left: 9 }, Drawn { item: Some(10), left: 8 }, \
+     Drawn { item: Some(2), left: 7 }, Drawn { item: Some(9), left: 6 }, \
+     Drawn { item: Some(3), left: 5 }, Drawn { item: Some(8), left: 4 }, \
+     Drawn { item: Some(4), left: 3 }]";
+
+#[test]
+fn seven_calls_on_five_rows_leave_a_numbered_border(rt: HostRuntime) {
+    let ten = [1, 2, 3, 4, 5, 6, 7, 8, 9, 10];
+    let mut plane = numbered::<u8>(&rt, rt.alloc(), TALL).y_plane;
+    assert!(rt; plane.copy_from_slice(&ten).is_ok());
+    let rows = laws::rows_are_drawn_once(rt.alloc(), &plane, &TALL_SIDES);
+    assert!(rt; shows(&rt, rt.alloc(), &rows.expect(&rt, "memory"), TALL_ROWS));
+    let rows = laws::lent_rows_are_drawn_once(rt.alloc(), &mut plane, &TALL_SIDES);
+    assert!(rt; shows(&rt, rt.alloc(), &rows.expect(&rt, "memory"), TALL_ROWS));
+    let pixels = laws::lent_pixels_are_drawn_once(rt.alloc(), &mut plane, &PIXEL_SIDES);
+    assert!(rt; shows(&rt, rt.alloc(), &pixels.expect(&rt, "memory"), TALL_PIXELS));
+    assert!(rt; holds(&rt, rt.alloc(), &plane, TALL, &ten));
 }
 
 /// What calls give of the bytes of the words 0x0102 and 0x0304.

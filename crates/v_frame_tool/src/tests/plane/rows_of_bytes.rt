@@ -1,5 +1,6 @@
 //! Rows of bytes, decoded into rows of pixels of each length around a step of sixteen.
 
+use crate::tests::support::bytes::{stepped, stepped_words};
 use std::alloc::Global;
 use std::process::Abort;
 use v_frame::pixel::Pixel;
@@ -13,30 +14,6 @@ fn seventeen_words_come_from_their_bytes(rt: HostRuntime) {
     let mut words = [0; 17];
     u16::decode_row(&mut words, &source);
     assert!(rt; (words[0], words[15], words[16]) == (0x0100, 0x1F1E, 0x2120));
-}
-
-/// So many bytes, each a step more than the one before.
-fn stepped(rt: &impl Abort, alloc: Global, first: u8, step: u8, count: usize) -> Vec<u8> {
-    let mut bytes = Vec::new(alloc);
-    let mut byte = first;
-    for _ in 0..count {
-        bytes.push(byte).expect(rt, "memory");
-        byte = byte.wrapping_add(step);
-    }
-    bytes
-}
-
-/// So many words of such bytes, two each and the low one first.
-fn stepped_words(rt: &impl Abort, alloc: Global, first: u8, step: u8, count: usize) -> Vec<u16> {
-    let mut words = Vec::new(alloc);
-    let mut low = first;
-    for _ in 0..count {
-        let high = low.wrapping_add(step);
-        let word = u16::from(high) * 256 + u16::from(low);
-        words.push(word).expect(rt, "memory");
-        low = high.wrapping_add(step);
-    }
-    words
 }
 
 /// Whether a row of so many words, decoded from the bytes 48, 85 and on behind one more, has their words, and what stands

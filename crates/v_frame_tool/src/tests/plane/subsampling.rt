@@ -50,6 +50,8 @@ fn sizes_and_paddings_are_divided(rt: HostRuntime) {
         assert!(rt; found == Ok(Some(wanted)), "{luma:?} {format:?}");
     }
     assert!(rt; geometry(&rt, HALVED).stride() == 995);
+    let wide = geometry(&rt, ([960, 1080], [20, 15, 20, 10], [2, 1]));
+    assert!(rt; wide.stride() == 995);
 }
 
 #[test]

@@ -3,11 +3,11 @@ ghost use Rattle.std.specs.Prelude.{◌≡◌, [], ◌∷◌, None};
 ghost use Rattle.v_frame.specs.Prelude.{tables_of};
 
 use crate::tests::support::answers::{Step, are_told, calls_of};
-use crate::tests::support::buffers::buffer_in_200;
+use crate::tests::support::buffers::holds;
 use crate::tests::support::calls::Call::{
     Bytes, CopyStrided, PixelMut, Pixels, PixelsMut, Row, RowMut, RowsMut, Width,
 };
-use crate::tests::support::frames::{BORDERED, Layout, padded, zeros};
+use crate::tests::support::frames::{BORDERED, Layout, numbered, padded};
 use crate::tests::support::texts::shows;
 use std::alloc::Global;
 use std::process::Abort;
@@ -39,13 +39,12 @@ fn words_go_through_a_frame(rt: HostRuntime) {
     assert!(rt; shows(&rt, rt.alloc(), &answers, WITHOUT_TAILS));
 }
 
-/// The pixels 1 to 6 in a border of 200, of a layout that has three columns and two rows.
+/// The pixels 1 to 6 in a numbered border, of a layout that has three columns and two rows.
 fn one_to_six(rt: &impl Abort, alloc: Global, layout: Layout) -> Frame<u8>
     ensures { tables_of result
         ≡ record { y = (1 ∷ 2 ∷ 3 ∷ []) ∷ (4 ∷ 5 ∷ 6 ∷ []) ∷ []; u = None; v = None } }
 {
-    let mut frame = zeros::<u8>(rt, alloc, layout);
-    frame.y_plane.data_mut().fill(200);
+    let mut frame = numbered::<u8>(rt, alloc, layout);
     let size = (frame.y_plane.width(), frame.y_plane.height());
     let copied = frame.y_plane.copy_from_slice(&[1, 2, 3, 4, 5, 6]);
     let chroma = frame.u_plane.is_some() || frame.v_plane.is_some();
@@ -88,7 +87,8 @@ static NINE: [Step<'static, u8>; 9] = [
 #[test]
 fn frames_that_show_the_same_answer_nine_calls_and_keep_their_borders(rt: HostRuntime) {
     let mut first = one_to_six(&rt, rt.alloc(), BORDERED);
-    let mut second = one_to_six(&rt, rt.alloc(), (3, 2, [1, 0, 0, 1]));
+    let around = (3, 2, [1, 0, 0, 1]);
+    let mut second = one_to_six(&rt, rt.alloc(), around);
     let calls = calls_of(&rt, rt.alloc(), &NINE);
     let both = laws::same_tables_same_answers(
         rt.alloc(),
@@ -99,8 +99,7 @@ fn frames_that_show_the_same_answer_nine_calls_and_keep_their_borders(rt: HostRu
     let (left, right) = both.expect(&rt, "memory");
     assert!(rt; are_told(&rt, rt.alloc(), left.as_slice(), &NINE) == 9);
     assert!(rt; are_told(&rt, rt.alloc(), right.as_slice(), &NINE) == 9);
-    let wanted = buffer_in_200([30, 8, 7, 6, 5, 4]);
-    assert!(rt; first.y_plane.data() == wanted.as_slice());
-    let wanted = [200, 30, 8, 7, 200, 6, 5, 4, 200, 200, 200, 200];
-    assert!(rt; second.y_plane.data() == wanted.as_slice());
+    let pixels = [30, 8, 7, 6, 5, 4];
+    assert!(rt; holds(&rt, rt.alloc(), &first.y_plane, BORDERED, &pixels));
+    assert!(rt; holds(&rt, rt.alloc(), &second.y_plane, around, &pixels));
 }

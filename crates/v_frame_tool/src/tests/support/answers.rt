@@ -1,5 +1,6 @@
 //! Replays that have to give answers of these texts.
 
+use crate::tests::support::buffers::rows_are;
 use crate::tests::support::calls::{Call, visible};
 use crate::tests::support::frames::{Layout, with_buffer};
 use crate::tests::support::texts::shows;
@@ -78,4 +79,5 @@ pub fn check_replay<T: Pixel>(rt: &impl Abort, alloc: Global, case: &Replay<'_, 
     let done = calls_done(rt, alloc, &mut frame, case.steps);
     assert!(rt; done == case.steps.len());
     assert!(rt; frame.y_plane.data() == case.after);
+    assert!(rt; rows_are(&frame.y_plane, case.layout, case.after));
 }

@@ -49,6 +49,25 @@ pub fn holds<T: Pixel>(
     plane.data() == expected_buffer(rt, alloc, layout, pixels).as_slice()
 }
 
+/// Whether the rows of a plane are those of a buffer of its layout, and there is none below.
+pub fn rows_are<T: Pixel>(
+    plane: &Plane<T>,
+    (width, height, [left, right, top, _bottom]): Layout,
+    buffer: &[T],
+) -> bool {
+    let stride = left.saturating_add(width).saturating_add(right);
+    let mut are_rows = plane.row(height).is_none();
+    for y in 0..height {
+        let start = top
+            .saturating_add(y)
+            .saturating_mul(stride)
+            .saturating_add(left);
+        let wanted = buffer.get(start..start.saturating_add(width));
+        are_rows = wanted.is_some() && plane.row(y) == wanted && are_rows;
+    }
+    are_rows
+}
+
 /// A buffer whose border entries have a value each, with these visible pixels.
 pub const fn bordered_buffer(pixels: [u8; 6]) -> [u8; 18] {
     let [a, b, c, d, e, f] = pixels;

@@ -11,10 +11,23 @@ pub struct Pieces<'a> {
     pub most: usize,
     /// How many calls are left.
     pub calls: usize,
+    /// How many calls of `read` there were.
+    pub reads: usize,
+}
+
+/// A reader of these bytes that was not called: at most so many a call, and it fails after so many calls.
+pub fn pieces_of(left: &[u8], most: usize, calls: usize) -> Pieces<'_> {
+    Pieces {
+        left,
+        most,
+        calls,
+        reads: 0,
+    }
 }
 
 impl Read for Pieces<'_> {
     fn read(&mut self, buf: &mut [u8]) -> io::Result<usize> {
+        self.reads = self.reads.saturating_add(1);
         if self.calls == 0 {
             return Err(io::Error::from(ErrorKind::Interrupted));
         }
