@@ -1,10 +1,10 @@
 //! What the program is asked to do, read from its arguments.
 
-use thiserror::Error;
+use std::fmt;
 use yuv_frames::Rectangle;
 
 /// A file that is read, or written, by its name. `-` is standard input or output. Our own.
-#[derive(Clone, Copy, Debug, PartialEq, Eq)]
+#[derive(Clone, Copy)]
 pub struct Named<'a> {
     /// The name of the file.
     pub name: &'a str,
@@ -13,7 +13,7 @@ pub struct Named<'a> {
 }
 
 /// What the program is asked to do. Our own.
-#[derive(Clone, Copy, Debug, PartialEq, Eq)]
+#[derive(Drop)]
 pub enum Command<'a> {
     /// To tell how it is called.
     Help,
@@ -61,7 +61,7 @@ impl<'a> Command<'a> {
 }
 
 /// How a stream is written once more. Our own.
-#[derive(Clone, Copy, Debug, PartialEq, Eq)]
+#[derive(Drop)]
 pub struct Wanted {
     /// The rectangle that is taken of each frame, in luma pixels, where not all of it is.
     pub crop: Option<Rectangle>,
@@ -72,35 +72,50 @@ pub struct Wanted {
 }
 
 /// Why the arguments ask for nothing. Our own.
-#[derive(Clone, Copy, Debug, PartialEq, Eq, Error)]
+#[derive(Drop)]
 pub enum WrongCall<'a> {
     /// There are no arguments.
-    #[error("no command is given")]
     NoCommand,
     /// The first argument is no command.
-    #[error("unknown command {0}")]
     UnknownCommand(&'a str),
     /// There is no such option.
-    #[error("unknown option {0}")]
     UnknownOption(&'a str),
     /// The command has no such option.
-    #[error("{0} is no option of this command")]
     NoOptionHere(&'static str),
     /// A file is missing.
-    #[error("a file is missing")]
     MissingFile,
     /// There are more files than the command takes.
-    #[error("one file too many: {0}")]
     ExtraFile(&'a str),
     /// What follows `--crop` is missing.
-    #[error("--crop lacks X,Y,W,H")]
     MissingRectangle,
     /// What follows `--crop` isn't four numbers.
-    #[error("--crop takes X,Y,W,H, not {0}")]
     NotARectangle(&'a str),
     /// A size and a format stand in front of no file that is read.
-    #[error("no file to read follows --raw {0}")]
     UnusedFormat(&'a str),
+}
+
+impl<'a> WrongCall<'a> {
+    /// The message, in two parts.
+    fn parts(&self) -> (&'a str, &'a str) {
+        match self {
+            WrongCall::NoCommand => ("no command is given", ""),
+            WrongCall::UnknownCommand(name) => ("unknown command ", *name),
+            WrongCall::UnknownOption(option) => ("unknown option ", *option),
+            WrongCall::NoOptionHere(option) => (*option, " is no option of this command"),
+            WrongCall::MissingFile => ("a file is missing", ""),
+            WrongCall::ExtraFile(name) => ("one file too many: ", *name),
+            WrongCall::MissingRectangle => ("--crop lacks X,Y,W,H", ""),
+            WrongCall::NotARectangle(word) => ("--crop takes X,Y,W,H, not ", *word),
+            WrongCall::UnusedFormat(format) => ("no file to read follows --raw ", *format),
+        }
+    }
+}
+
+impl fmt::Display for WrongCall<'_> {
+    fn fmt<W: fmt::Write>(&self, f: &mut fmt::Formatter<W>) -> fmt::Result {
+        let (begin, end) = self.parts();
+        write!(f, "{begin}{end}")
+    }
 }
 
 /// Reads the arguments behind the program's own name.
@@ -116,9 +131,29 @@ pub fn read_command<'a>(words: &[&'a str]) -> Result<Command<'a>, WrongCall<'a>>
     };
     match *name {
         "help" => Ok(Command::Help),
-        "info" | "compare" | "copy" => read_options(rest)?.command(*name),
+        "info" | "compare" | "copy" => read_options(*name, rest),
         other => Err(WrongCall::UnknownCommand(other)),
     }
+}
+
+/// Reads the files and the options of a command that has some.
+fn read_options<'a>(name: &str, words: &[&'a str]) -> Result<Command<'a>, WrongCall<'a>> {
+    let mut options = Options {
+        first: None,
+        second: None,
+        format: None,
+        crop: None,
+        half: false,
+        raw: false,
+        frames: false,
+        progress: false,
+        awaited: Awaited::Any,
+    };
+    for word in words {
+        options.take(*word)?;
+    }
+    options.end()?;
+    options.command(name)
 }
 
 /// What the next argument has to be.
@@ -133,7 +168,7 @@ enum Awaited {
 }
 
 /// The files and the options so far.
-#[derive(Clone, Copy)]
+#[derive(Drop)]
 struct Options<'a> {
     first: Option<Named<'a>>,
     second: Option<Named<'a>>,
@@ -146,46 +181,20 @@ struct Options<'a> {
     awaited: Awaited,
 }
 
-/// Reads files and options.
-fn read_options<'a>(words: &[&'a str]) -> Result<Options<'a>, WrongCall<'a>> {
-    let mut options = Options {
-        first: None,
-        second: None,
-        format: None,
-        crop: None,
-        half: false,
-        raw: false,
-        frames: false,
-        progress: false,
-        awaited: Awaited::Any,
-    };
-    for word in words {
-        options = options.with(*word)?;
-    }
-    options.ended()
-}
-
 impl<'a> Options<'a> {
-    /// These with one more argument.
-    fn with(mut self, word: &'a str) -> Result<Self, WrongCall<'a>> {
+    /// Takes one more argument.
+    fn take(&mut self, word: &'a str) -> Result<(), WrongCall<'a>> {
         let awaited = self.awaited;
         self.awaited = Awaited::Any;
         match awaited {
-            Awaited::Any => self.with_any(word),
-            Awaited::Rectangle => self.with_rectangle(word),
-            Awaited::Format if word.contains(':') => {
-                self.format = Some(word);
-                Ok(self)
-            }
-            Awaited::Format => {
-                self.raw = true;
-                self.with_any(word)
-            }
+            Awaited::Any => self.take_any(word),
+            Awaited::Rectangle => self.take_rectangle(word),
+            Awaited::Format => self.take_format(word),
         }
     }
 
-    /// These with a file or an option.
-    fn with_any(mut self, word: &'a str) -> Result<Self, WrongCall<'a>> {
+    /// Takes a file or an option.
+    fn take_any(&mut self, word: &'a str) -> Result<(), WrongCall<'a>> {
         match word {
             "--crop" => self.awaited = Awaited::Rectangle,
             "--raw" => self.awaited = Awaited::Format,
@@ -193,41 +202,48 @@ impl<'a> Options<'a> {
             "--frames" => self.frames = true,
             "--progress" => self.progress = true,
             option if option.starts_with("--") => return Err(WrongCall::UnknownOption(option)),
-            name => return self.with_file(name),
+            name => return self.take_file(name),
         }
-        Ok(self)
+        Ok(())
     }
 
-    /// These with one more file.
-    fn with_file(mut self, name: &'a str) -> Result<Self, WrongCall<'a>> {
-        let file = Named {
+    /// Takes one more file.
+    fn take_file(&mut self, name: &'a str) -> Result<(), WrongCall<'a>> {
+        let file = Some(Named {
             name,
-            raw: self.format,
-        };
-        self.format = None;
+            raw: self.format.take(),
+        });
         if self.first.is_none() {
-            self.first = Some(file);
+            self.first = file;
         } else if self.second.is_none() {
-            self.second = Some(file);
+            self.second = file;
         } else {
             return Err(WrongCall::ExtraFile(name));
         }
-        Ok(self)
+        Ok(())
     }
 
-    /// These with the rectangle of a crop.
-    fn with_rectangle(self, word: &'a str) -> Result<Self, WrongCall<'a>> {
-        let Some(rectangle) = rectangle_of(word) else {
-            return Err(WrongCall::NotARectangle(word));
-        };
-        Ok(Options {
-            crop: Some(rectangle),
-            ..self
-        })
+    /// Takes the rectangle of a crop.
+    fn take_rectangle(&mut self, word: &'a str) -> Result<(), WrongCall<'a>> {
+        self.crop = rectangle_of(word);
+        match self.crop {
+            Some(_) => Ok(()),
+            None => Err(WrongCall::NotARectangle(word)),
+        }
     }
 
-    /// These, where nothing is missing behind the last argument.
-    fn ended(mut self) -> Result<Self, WrongCall<'a>> {
+    /// Takes a size and a format, or else a file or an option of raw video that is written.
+    fn take_format(&mut self, word: &'a str) -> Result<(), WrongCall<'a>> {
+        if word.contains(':') {
+            self.format = Some(word);
+            return Ok(());
+        }
+        self.raw = true;
+        self.take_any(word)
+    }
+
+    /// Sees that nothing is missing behind the last argument.
+    fn end(&mut self) -> Result<(), WrongCall<'a>> {
         match self.awaited {
             Awaited::Rectangle => return Err(WrongCall::MissingRectangle),
             Awaited::Format => self.raw = true,
@@ -235,59 +251,65 @@ impl<'a> Options<'a> {
         }
         match self.format {
             Some(format) => Err(WrongCall::UnusedFormat(format)),
-            None => Ok(self),
+            None => Ok(()),
         }
     }
 
     /// The command of this name, which has options.
-    fn command(self, name: &str) -> Result<Command<'a>, WrongCall<'a>> {
-        match name {
-            "info" => self.info(),
-            "compare" => self.compare(),
-            _ => self.copy(),
+    fn command(&self, name: &str) -> Result<Command<'a>, WrongCall<'a>> {
+        if let Some(option) = self.misplaced(name) {
+            return Err(WrongCall::NoOptionHere(option));
         }
-    }
-
-    /// The command `info`.
-    fn info(self) -> Result<Command<'a>, WrongCall<'a>> {
-        self.without_edit()?;
-        if self.frames {
-            return Err(WrongCall::NoOptionHere("--frames"));
-        }
-        if let Some(second) = self.second {
-            return Err(WrongCall::ExtraFile(second.name));
-        }
-        match self.first {
-            Some(file) => Ok(Command::Info {
-                file,
+        let Some(first) = self.first else {
+            return Err(WrongCall::MissingFile);
+        };
+        match self.second {
+            None if name == "info" => Ok(Command::Info {
+                file: first,
                 progress: self.progress,
             }),
             None => Err(WrongCall::MissingFile),
+            Some(second) => self.of_two_files(name, first, second),
         }
     }
 
-    /// The command `compare`.
-    fn compare(self) -> Result<Command<'a>, WrongCall<'a>> {
-        self.without_edit()?;
-        match (self.first, self.second) {
-            (Some(first), Some(second)) => Ok(Command::Compare {
+    /// The first option that a command of this name doesn't have.
+    fn misplaced(&self, name: &str) -> Option<&'static str> {
+        let is_copy = name == "copy";
+        if self.crop.is_some() && !is_copy {
+            Some("--crop")
+        } else if self.half && !is_copy {
+            Some("--half")
+        } else if self.raw && !is_copy {
+            Some("--raw without a format")
+        } else if self.frames && name != "compare" {
+            Some("--frames")
+        } else {
+            None
+        }
+    }
+
+    /// The command of this name on two files.
+    fn of_two_files(
+        &self,
+        name: &str,
+        first: Named<'a>,
+        second: Named<'a>,
+    ) -> Result<Command<'a>, WrongCall<'a>> {
+        match name {
+            "info" => Err(WrongCall::ExtraFile(second.name)),
+            "compare" => Ok(Command::Compare {
                 first,
                 second,
                 frames: self.frames,
                 progress: self.progress,
             }),
-            _ => Err(WrongCall::MissingFile),
+            _ => self.copy(first, second),
         }
     }
 
     /// The command `copy`.
-    fn copy(self) -> Result<Command<'a>, WrongCall<'a>> {
-        if self.frames {
-            return Err(WrongCall::NoOptionHere("--frames"));
-        }
-        let (Some(input), Some(output)) = (self.first, self.second) else {
-            return Err(WrongCall::MissingFile);
-        };
+    fn copy(&self, input: Named<'a>, output: Named<'a>) -> Result<Command<'a>, WrongCall<'a>> {
         match output.raw {
             Some(format) => Err(WrongCall::UnusedFormat(format)),
             None => Ok(Command::Copy {
@@ -302,34 +324,29 @@ impl<'a> Options<'a> {
             }),
         }
     }
-
-    /// Sees that no option of `copy` is there.
-    fn without_edit(&self) -> Result<(), WrongCall<'a>> {
-        if self.crop.is_some() {
-            return Err(WrongCall::NoOptionHere("--crop"));
-        }
-        if self.half {
-            return Err(WrongCall::NoOptionHere("--half"));
-        }
-        if self.raw {
-            return Err(WrongCall::NoOptionHere("--raw without a format"));
-        }
-        Ok(())
-    }
 }
 
 /// The rectangle that is told as `X,Y,W,H`, of at least one pixel.
 fn rectangle_of(text: &str) -> Option<Rectangle> {
-    let (x, rest) = text.split_once(',')?;
-    let (y, rest) = rest.split_once(',')?;
-    let (width, height) = rest.split_once(',')?;
-    let rectangle = Rectangle {
-        x: number(x)?,
-        y: number(y)?,
-        width: number(width)?,
-        height: number(height)?,
-    };
-    (rectangle.width > 0 && rectangle.height > 0).then_some(rectangle)
+    let (x, rest) = number_before_comma(text)?;
+    let (y, rest) = number_before_comma(rest)?;
+    let (width, rest) = number_before_comma(rest)?;
+    let height = number(rest)?;
+    if width == 0 || height == 0 {
+        return None;
+    }
+    Some(Rectangle {
+        x,
+        y,
+        width,
+        height,
+    })
+}
+
+/// The number before the first comma, and what stands behind it.
+fn number_before_comma(text: &str) -> Option<(usize, &str)> {
+    let (digits, rest) = text.split_once(',')?;
+    Some((number(digits)?, rest))
 }
 
 /// The number of these decimal digits.

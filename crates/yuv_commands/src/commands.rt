@@ -40,13 +40,17 @@ impl<R: io::Read + Drop> Opened<R> {
 
     /// The stream behind its header.
     pub fn input<T: Pixel>(self, alloc: Global) -> Result<(StreamHeader, Input<T, R>), Problem> {
-        let frame = self.header.frame::<T>(alloc, 0)?;
-        let input = Input {
-            container: self.container,
-            reader: self.reader,
-            frame,
-        };
-        Ok((self.header, input))
+        match self.header.frame::<T>(alloc, 0) {
+            Ok(frame) => {
+                let input = Input {
+                    container: self.container,
+                    reader: self.reader,
+                    frame,
+                };
+                Ok((self.header, input))
+            }
+            Err(error) => Err(Problem::from(error)),
+        }
     }
 }
 

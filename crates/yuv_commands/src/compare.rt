@@ -19,7 +19,7 @@ use yuv_frames::{
 };
 
 /// One of two streams. Our own.
-#[derive(Clone, Copy, Debug, PartialEq, Eq)]
+#[derive(Clone, Copy)]
 pub enum Side {
     /// The first one.
     First,
@@ -28,7 +28,7 @@ pub enum Side {
 }
 
 /// How far two streams are apart. Our own.
-#[derive(Clone, Copy, Debug, PartialEq, Eq)]
+#[derive(Clone, Copy)]
 pub struct Comparison {
     /// How many frames both have.
     pub frames: u64,

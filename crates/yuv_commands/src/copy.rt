@@ -17,7 +17,7 @@ use v_frame::pixel::Pixel;
 use yuv_frames::{Edit, edit_frame};
 
 /// Why a stream was not copied to its end. Our own.
-#[derive(Debug, PartialEq, Eq, Drop)]
+#[derive(Drop)]
 pub enum CopyFault {
     /// The next frame was not read.
     Input(StreamFault),

@@ -3,14 +3,13 @@
 use crate::stream::StreamFault;
 use std::alloc::AllocError;
 use std::{fmt, io};
-use thiserror::Error;
 use v_frame::frame::FrameError;
 use v_frame_planar::{Counted, PlanarError};
 use v_frame_y4m::{HeaderError, Y4mError};
 use yuv_frames::Misaligned;
 
 /// An error, and what the system told where a read or a write failed. Our own.
-#[derive(Debug, PartialEq, Eq, Drop)]
+#[derive(Drop)]
 pub struct Caused<E> {
     /// The error.
     pub error: E,
@@ -39,7 +38,7 @@ impl<E: fmt::Display> fmt::Display for Caused<E> {
 }
 
 /// What a command works on. Our own.
-#[derive(Clone, Copy, Debug, PartialEq, Eq)]
+#[derive(Clone, Copy)]
 pub enum Place {
     /// The first file that it names.
     First,
@@ -50,7 +49,7 @@ pub enum Place {
 }
 
 /// Why a command gave up, and where. Our own.
-#[derive(Debug, PartialEq, Eq, Drop)]
+#[derive(Drop)]
 pub struct Fault {
     /// What it was working on.
     pub place: Place,
@@ -85,53 +84,75 @@ impl Fault {
 }
 
 /// What happened to a file. Our own.
-#[derive(Debug, PartialEq, Eq, Drop, Error)]
+#[derive(Drop)]
 pub enum Problem {
     /// It wasn't opened.
-    #[error("cannot open: {0}")]
     Open(io::ErrorKind),
     /// It wasn't created.
-    #[error("cannot create: {0}")]
     Create(io::ErrorKind),
     /// Standard input is read already.
-    #[error("standard input can be read only once")]
     InputTwice,
     /// The file that should be written is the one that is read.
-    #[error("this file is read, and cannot be written at once")]
     OneFile,
     /// What stands behind `--raw` is no size and format.
-    #[error("the size and the format behind --raw, as 1920x1080:420p10: {0}")]
     Format(HeaderError),
     /// The header was not read or not written.
-    #[error("{0}")]
     Header(Caused<Y4mError>),
     /// No header line says what should be written.
-    #[error("no header line can say this size or these extensions")]
     Unwritable,
     /// The next frame was not read or not written.
-    #[error("{0}")]
     Frame(StreamFault),
     /// A frame of this size is larger than what can be addressed.
-    #[error("the frames are too large")]
     TooLarge,
     /// The crop begins inside a chroma pixel.
-    #[error("{0}")]
     Misaligned(Misaligned),
     /// The crop doesn't lie inside the picture.
-    #[error("the crop is not inside the picture")]
     Outside,
     /// There is no half size of this picture.
-    #[error("half size takes a picture with an even width and height in each plane")]
     Odd,
     /// The second stream has another format than the first.
-    #[error("the streams have different sizes or formats")]
     OtherFormat,
     /// What was found was not written.
-    #[error("{0}")]
     Report(Caused<PlanarError>),
     /// A request for memory was refused.
-    #[error("out of memory")]
     OutOfMemory,
+}
+
+impl Problem {
+    /// What is always told of it.
+    fn text(&self) -> &'static str {
+        match self {
+            Problem::Open(_) => "cannot open: ",
+            Problem::Create(_) => "cannot create: ",
+            Problem::InputTwice => "standard input can be read only once",
+            Problem::OneFile => "this file is read, and cannot be written at once",
+            Problem::Format(_) => "the size and the format behind --raw, as 1920x1080:420p10: ",
+            Problem::Unwritable => "no header line can say this size or these extensions",
+            Problem::TooLarge => "the frames are too large",
+            Problem::Outside => "the crop is not inside the picture",
+            Problem::Odd => {
+                "half size takes a picture with an even width and height in each plane"
+            }
+            Problem::OtherFormat => "the streams have different sizes or formats",
+            Problem::OutOfMemory => "out of memory",
+            _ => "",
+        }
+    }
+}
+
+impl fmt::Display for Problem {
+    fn fmt<W: fmt::Write>(&self, f: &mut fmt::Formatter<W>) -> fmt::Result {
+        f.write_str(self.text())?;
+        match self {
+            Problem::Open(kind) | Problem::Create(kind) => fmt::Display::fmt(kind, f),
+            Problem::Format(error) => fmt::Display::fmt(error, f),
+            Problem::Header(fault) => fmt::Display::fmt(fault, f),
+            Problem::Frame(fault) => fmt::Display::fmt(fault, f),
+            Problem::Misaligned(refusal) => fmt::Display::fmt(refusal, f),
+            Problem::Report(fault) => fmt::Display::fmt(fault, f),
+            _ => Ok(()),
+        }
+    }
 }
 
 impl From<AllocError> for Problem {

@@ -2,7 +2,7 @@
 ghost use Rattle.std.specs.Prelude.{◌≡◌};
 ghost use Rattle.yuv_commands.specs.Run.{status_code};
 
-use crate::arguments::{Command, read_command};
+use crate::arguments::{Command, WrongCall, read_command};
 use crate::commands::{do_compare, do_copy, do_info};
 use crate::fault::{Fault, Place};
 use crate::progress::Progress;
@@ -30,7 +30,7 @@ Status 2: something failed. Frames are counted from 1, columns and rows from 0.
 ";
 
 /// How the program ended. Our own.
-#[derive(Clone, Copy, Debug, PartialEq, Eq)]
+#[derive(Drop)]
 pub enum Status {
     /// All was done, and what was compared shows the same.
     Same,
@@ -79,24 +79,21 @@ where
         mut output,
         error,
     } = streams;
+    let mut standard = Some(input);
     let mut progress = Progress {
         out: error,
         is_shown: false,
     };
     match read_command(words) {
-        Ok(Command::Help) => {
-            let _ = output.write_all(USAGE.as_bytes());
-            Status::Failed
-        }
-        Ok(command) => {
-            let mut standard = Some(input);
-            run_command(rt, &command, &mut standard, output, &mut progress)
-        }
-        Err(wrong) => {
-            let _ = write!(progress.out, "yuv: {wrong}\n{USAGE}");
-            Status::Failed
-        }
+        Ok(command) => run_command(rt, &command, &mut standard, &mut output, &mut progress),
+        Err(wrong) => refuse(&wrong, &mut progress.out),
     }
+}
+
+/// Tells what is wrong with the arguments, and how the program is called.
+fn refuse<E: io::Write>(wrong: &WrongCall<'_>, error: &mut E) -> Status {
+    let _ = write!(error, "yuv: {wrong}\n{USAGE}");
+    Status::Failed
 }
 
 /// Does a command, and tells what went wrong.
@@ -104,13 +101,13 @@ fn run_command<H, I, O, E>(
     rt: &H,
     command: &Command<'_>,
     standard: &mut Option<I>,
-    output: O,
+    output: &mut O,
     progress: &mut Progress<E>,
 ) -> Status
 where
     H: Files + AllocGlobal,
     I: io::Read + Drop,
-    O: io::Write + Drop,
+    O: io::Write,
     E: io::Write,
 {
     progress.is_shown = command.shows_progress();
@@ -118,13 +115,16 @@ where
     progress.end();
     match done {
         Ok(status) => status,
-        Err(fault) => {
-            let name = name_of(command, fault.place);
-            let problem = fault.problem;
-            let _ = writeln!(progress.out, "yuv: {name}: {problem}");
-            Status::Failed
-        }
+        Err(fault) => give_up(command, &fault, &mut progress.out),
     }
+}
+
+/// Tells what went wrong, and where.
+fn give_up<E: io::Write>(command: &Command<'_>, fault: &Fault, error: &mut E) -> Status {
+    let name = name_of(command, fault.place);
+    let problem = &fault.problem;
+    let _ = writeln!(error, "yuv: {name}: {problem}");
+    Status::Failed
 }
 
 /// Does a command.
@@ -132,58 +132,63 @@ fn do_command<H, I, O, E>(
     rt: &H,
     command: &Command<'_>,
     standard: &mut Option<I>,
-    mut output: O,
+    output: &mut O,
     progress: &mut Progress<E>,
 ) -> Result<Status, Fault>
 where
     H: Files + AllocGlobal,
     I: io::Read + Drop,
-    O: io::Write + Drop,
+    O: io::Write,
     E: io::Write,
 {
     match command {
-        Command::Help => Ok(Status::Failed),
-        Command::Info { file, .. } => do_info(rt, file, standard, &mut output, progress),
+        Command::Help => Ok(tell_usage(output)),
+        Command::Info { file, .. } => do_info(rt, file, standard, output, progress),
         Command::Compare {
             first,
             second,
             frames,
             ..
-        } => {
-            do_compare(
-                rt,
-                (first, second),
-                *frames,
-                standard,
-                &mut output,
-                progress,
-            )
-        }
+        } => do_compare(rt, (first, second), *frames, standard, output, progress),
         Command::Copy {
             input,
             output: to,
             wanted,
             ..
-        } => { do_copy(rt, (input, to), wanted, standard, output, progress) }
+        } => do_copy(rt, (input, to), wanted, standard, output, progress),
     }
+}
+
+/// Tells how the program is called.
+fn tell_usage<O: io::Write>(output: &mut O) -> Status {
+    let _ = output.write_all(USAGE.as_bytes());
+    Status::Failed
 }
 
 /// The name of what a command was working on.
 fn name_of<'a>(command: &Command<'a>, place: Place) -> &'a str {
-    let (first, second) = match command {
-        Command::Help => ("-", "-"),
-        Command::Info { file, .. } => (file.name, "-"),
-        Command::Compare { first, second, .. } => (first.name, second.name),
-        Command::Copy { input, output, .. } => (input.name, *output),
-    };
-    let name = match place {
-        Place::First => first,
-        Place::Second => second,
-        Place::Report => "-",
-    };
-    match (name, place) {
-        ("-", Place::Report) => "standard output",
-        ("-", _) => "-",
-        (name, _) => name,
+    match place {
+        Place::First => first_name(command),
+        Place::Second => second_name(command),
+        Place::Report => "standard output",
+    }
+}
+
+/// The name of the first file of a command.
+fn first_name<'a>(command: &Command<'a>) -> &'a str {
+    match command {
+        Command::Help => "-",
+        Command::Info { file, .. } => file.name,
+        Command::Compare { first, .. } => first.name,
+        Command::Copy { input, .. } => input.name,
+    }
+}
+
+/// The name of the second file of a command.
+fn second_name<'a>(command: &Command<'a>) -> &'a str {
+    match command {
+        Command::Help | Command::Info { .. } => "-",
+        Command::Compare { second, .. } => second.name,
+        Command::Copy { output, .. } => *output,
     }
 }

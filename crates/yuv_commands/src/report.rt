@@ -8,7 +8,7 @@ use v_frame_planar::{Counted, PlanarError};
 use yuv_frames::{PixelDifference, PlaneSums, mean_squared_error, peak_signal_to_noise};
 
 /// What the errors of frames are measured by. Our own.
-#[derive(Clone, Copy, Debug, PartialEq, Eq)]
+#[derive(Drop)]
 pub struct Scale {
     /// How many pixels each plane of a frame has.
     pub pixels: PlaneSums,
@@ -66,7 +66,7 @@ fn frame_line(
 }
 
 /// What is measured of all pixels, and of those of each plane that there is.
-#[derive(Clone, Copy)]
+#[derive(Drop)]
 struct Measured {
     all: f64,
     y: f64,
@@ -98,7 +98,10 @@ impl Measured {
 
 /// The mean squared error of a chroma plane, where there is one.
 fn chroma_error(errors: Option<u128>, pixels: Option<u128>) -> Option<f64> {
-    Some(mean_squared_error(errors?, pixels?))
+    match (errors, pixels) {
+        (Some(errors), Some(pixels)) => Some(mean_squared_error(errors, pixels)),
+        _ => None,
+    }
 }
 
 /// The peak signal-to-noise ratio of a chroma plane, where there is one.
@@ -108,15 +111,23 @@ fn chroma_ratio(error: Option<f64>, bit_depth: u8) -> Option<f64> {
 
 /// Appends what is measured of a frame, under this name.
 fn push_measured(line: &mut String, name: &str, measured: &Measured) -> Result<(), AllocError> {
-    let Measured { all, y, u, v } = measured;
-    write!(line, " {name}_avg:{all:.2} {name}_y:{y:.2}")?;
-    if let Some(u) = u {
-        write!(line, " {name}_u:{u:.2}")?;
+    push_value(line, name, "avg", Some(measured.all))?;
+    push_value(line, name, "y", Some(measured.y))?;
+    push_value(line, name, "u", measured.u)?;
+    push_value(line, name, "v", measured.v)
+}
+
+/// Appends what is measured of some pixels, where there are any.
+fn push_value(
+    line: &mut String,
+    name: &str,
+    pixels: &str,
+    value: Option<f64>,
+) -> Result<(), AllocError> {
+    match value {
+        Some(value) => write!(line, " {name}_{pixels}:{value:.2}"),
+        None => Ok(()),
     }
-    if let Some(v) = v {
-        write!(line, " {name}_v:{v:.2}")?;
-    }
-    Ok(())
 }
 
 /// What is told of two streams at the end.
@@ -133,16 +144,29 @@ pub fn comparison_text(
         bit_depth: scale.bit_depth,
     };
     push_planes(&mut text, &found.errors, &whole)?;
-    match found.difference {
-        Some((before, pixel)) => push_difference(&mut text, before, &pixel)?,
-        None => writeln!(text, "first difference: none")?,
-    }
-    match found.longer {
-        Some(Side::First) => writeln!(text, "length: the first stream has more frames")?,
-        Some(Side::Second) => writeln!(text, "length: the second stream has more frames")?,
-        None => {}
-    }
+    push_first_difference(&mut text, &found.difference)?;
+    text.push_str(length_line(found.longer))?;
     Ok(text)
+}
+
+/// The line that tells which stream has more frames, where one has.
+fn length_line(longer: Option<Side>) -> &'static str {
+    match longer {
+        Some(Side::First) => "length: the first stream has more frames\n",
+        Some(Side::Second) => "length: the second stream has more frames\n",
+        None => "",
+    }
+}
+
+/// Appends the line that tells whether a pixel differs.
+fn push_first_difference(
+    text: &mut String,
+    difference: &Option<(u64, PixelDifference)>,
+) -> Result<(), AllocError> {
+    match difference {
+        Some((before, pixel)) => push_difference(text, *before, pixel),
+        None => text.push_str("first difference: none\n"),
+    }
 }
 
 /// Appends a line for all planes, and one for each.

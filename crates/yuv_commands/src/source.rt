@@ -66,14 +66,11 @@ pub fn open_source<H: Files, I: io::Read>(
 }
 
 /// Creates a file for writing, or takes standard output for `-`.
-pub fn create_sink<H: Files, O: io::Write>(
+pub fn create_sink<H: Files, O: io::Write + Drop>(
     rt: &H,
     name: &str,
     output: O,
-) -> Result<Sink<H::File, O>, Problem>
-where
-    O: Drop,
-{
+) -> Result<Sink<H::File, O>, Problem> {
     if name == "-" {
         return Ok(Sink::Standard(output));
     }

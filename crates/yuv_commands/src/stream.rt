@@ -15,7 +15,7 @@ use v_frame_planar::Counted;
 use v_frame_y4m::Y4mError;
 
 /// How a stream holds its frames. Our own.
-#[derive(Clone, Copy, Debug, PartialEq, Eq)]
+#[derive(Clone, Copy)]
 pub enum Container {
     /// A header line, and a line before each frame.
     Y4m,
@@ -44,7 +44,7 @@ pub struct Output<W> {
 }
 
 /// Why a stream was not read or written to its end. Our own.
-#[derive(Debug, PartialEq, Eq, Drop)]
+#[derive(Drop)]
 pub struct StreamFault {
     /// How many frames went before.
     pub before: u64,
@@ -55,8 +55,8 @@ pub struct StreamFault {
 impl fmt::Display for StreamFault {
     fn fmt<W: fmt::Write>(&self, f: &mut fmt::Formatter<W>) -> fmt::Result {
         let frame = self.before.saturating_add(1);
-        let fault = &self.fault;
-        write!(f, "frame {frame}: {fault}")
+        write!(f, "frame {frame}: ")?;
+        fmt::Display::fmt(&self.fault, f)
     }
 }
 

@@ -104,19 +104,8 @@ where
     O: io::Write,
     E: io::Write,
 {
-    let bit_depth = first.bit_depth();
     match first.input::<T>(alloc) {
-        Ok((_, mut first)) => {
-            let mut lines = FrameLines {
-                out: Counted::new(output),
-                scale: Scale {
-                    pixels: pixel_counts(&first.frame),
-                    bit_depth,
-                },
-                is_told: frames,
-            };
-            compare_with(alloc, &mut first, second, &mut lines, progress)
-        }
+        Ok((_, mut first)) => compare_with(alloc, &mut first, second, frames, output, progress),
         Err(problem) => Err(Fault::first(problem)),
     }
 }
@@ -126,11 +115,22 @@ fn compare_with<T: Pixel, R: io::Read, S: io::Read + Drop, O: io::Write, E: io::
     alloc: Global,
     first: &mut Input<T, R>,
     second: Opened<S>,
-    lines: &mut FrameLines<O>,
+    frames: bool,
+    output: &mut O,
     progress: &mut Progress<E>,
 ) -> Result<Status, Fault> {
     match second.input::<T>(alloc) {
-        Ok((_, mut second)) => compare_inputs(alloc, first, &mut second, lines, progress),
+        Ok((header, mut second)) => {
+            compare_inputs(
+                alloc,
+                header.colour.bit_depth(),
+                first,
+                &mut second,
+                frames,
+                output,
+                progress,
+            )
+        }
         Err(problem) => Err(Fault::second(problem)),
     }
 }
@@ -138,24 +138,59 @@ fn compare_with<T: Pixel, R: io::Read, S: io::Read + Drop, O: io::Write, E: io::
 /// Tells how far two streams are apart, if they have one format.
 fn compare_inputs<T: Pixel, R: io::Read, S: io::Read, O: io::Write, E: io::Write>(
     alloc: Global,
+    bit_depth: u8,
     first: &mut Input<T, R>,
     second: &mut Input<T, S>,
-    lines: &mut FrameLines<O>,
+    frames: bool,
+    output: &mut O,
     progress: &mut Progress<E>,
 ) -> Result<Status, Fault> {
     if !have_one_format(&first.frame, &second.frame) {
         return Err(Fault::second(Problem::OtherFormat));
     }
-    let found = compare_streams(alloc, first, second, lines, progress)?;
-    match tell_comparison(alloc, &found, &lines.scale, &mut lines.out) {
+    let mut lines = FrameLines {
+        out: Counted::new(output),
+        scale: Scale {
+            pixels: pixel_counts(&first.frame),
+            bit_depth,
+        },
+        is_told: frames,
+    };
+    compare_telling(alloc, first, second, &mut lines, progress)
+}
+
+/// Tells how far two streams of one format are apart, and of each two frames if that is wanted.
+fn compare_telling<T: Pixel, R: io::Read, S: io::Read, O: io::Write, E: io::Write>(
+    alloc: Global,
+    first: &mut Input<T, R>,
+    second: &mut Input<T, S>,
+    lines: &mut FrameLines<O>,
+    progress: &mut Progress<E>,
+) -> Result<Status, Fault>
+    requires { sizes_of (tables_of first.old.frame) ≡ sizes_of (tables_of second.old.frame) }
+{
+    match compare_streams(alloc, first, second, lines, progress) {
+        Ok(found) => tell_comparison(alloc, &found, &lines.scale, &mut lines.out),
+        Err(fault) => Err(fault),
+    }
+}
+
+/// Tells what was found of two streams.
+fn tell_comparison<O: io::Write>(
+    alloc: Global,
+    found: &Comparison,
+    scale: &Scale,
+    out: &mut Counted<O>,
+) -> Result<Status, Fault> {
+    match write_comparison(alloc, found, scale, out) {
         Ok(()) if found.shows_the_same() => Ok(Status::Same),
         Ok(()) => Ok(Status::Different),
         Err(problem) => Err(Fault::report(problem)),
     }
 }
 
-/// Tells what was found of two streams.
-fn tell_comparison<O: io::Write>(
+/// Writes what was found of two streams.
+fn write_comparison<O: io::Write>(
     alloc: Global,
     found: &Comparison,
     scale: &Scale,

@@ -42,13 +42,11 @@ where
     let target = Target {
         rt,
         name: to,
+        is_raw: wanted.raw,
         output,
     };
     match open(rt, from, standard) {
-        Ok(opened) if opened.has_bytes() => {
-            copy_as::<u8, _, _, _, _>(opened, wanted, target, progress)
-        }
-        Ok(opened) => copy_as::<u16, _, _, _, _>(opened, wanted, target, progress),
+        Ok(opened) => copy_opened(opened, wanted, target, progress),
         Err(problem) => Err(Fault::first(problem)),
     }
 }
@@ -58,24 +56,40 @@ where
 struct Target<'a, H, O> {
     rt: &'a H,
     name: &'a str,
+    is_raw: bool,
     output: O,
 }
 
-impl<'a, H: Files + AllocGlobal, O: io::Write + Drop> Target<'a, H, O> {
+impl<H: Files + AllocGlobal, O: io::Write + Drop> Target<'_, H, O> {
     /// Creates it, and writes the header if it has one.
-    fn begin(
-        self,
-        header: &StreamHeader,
-        is_raw: bool,
-    ) -> Result<Output<Sink<H::File, O>>, Problem> {
-        let mut writer = Counted::new(create_sink(self.rt, self.name, self.output)?);
-        let container = if is_raw {
-            Container::Raw
-        } else {
-            put_header(self.rt.alloc(), &mut writer, header)?;
-            Container::Y4m
-        };
-        Ok(Output { container, writer })
+    fn begin(self, header: &StreamHeader) -> Result<Output<Sink<H::File, O>>, Problem> {
+        match create_sink(self.rt, self.name, self.output) {
+            Ok(sink) => begin(self.rt.alloc(), sink, self.is_raw, header),
+            Err(problem) => Err(problem),
+        }
+    }
+}
+
+/// A stream that is written, behind its header if it has one.
+fn begin<W: io::Write + Drop>(
+    alloc: Global,
+    sink: W,
+    is_raw: bool,
+    header: &StreamHeader,
+) -> Result<Output<W>, Problem> {
+    let mut writer = Counted::new(sink);
+    if is_raw {
+        return Ok(Output {
+            container: Container::Raw,
+            writer,
+        });
+    }
+    match put_header(alloc, &mut writer, header) {
+        Ok(()) => Ok(Output {
+            container: Container::Y4m,
+            writer,
+        }),
+        Err(problem) => Err(problem),
     }
 }
 
@@ -94,6 +108,26 @@ fn put_header<W: io::Write>(
     }
 }
 
+/// Writes a stream of which the header is known once more.
+fn copy_opened<R, H, O, E>(
+    opened: Opened<R>,
+    wanted: &Wanted,
+    target: Target<'_, H, O>,
+    progress: &mut Progress<E>,
+) -> Result<Status, Fault>
+where
+    R: io::Read + Drop,
+    H: Files + AllocGlobal,
+    O: io::Write + Drop,
+    E: io::Write,
+{
+    if opened.has_bytes() {
+        copy_as::<u8, _, _, _, _>(opened, wanted, target, progress)
+    } else {
+        copy_as::<u16, _, _, _, _>(opened, wanted, target, progress)
+    }
+}
+
 /// Writes a stream of pixels of this type once more.
 fn copy_as<T, R, H, O, E>(
     opened: Opened<R>,
@@ -109,14 +143,16 @@ where
     E: io::Write,
 {
     match opened.input::<T>(target.rt.alloc()) {
-        Ok((header, mut input)) => copy_input(header, &mut input, wanted, target, progress),
+        Ok((mut header, mut input)) => {
+            copy_input(&mut header, &mut input, wanted, target, progress)
+        }
         Err(problem) => Err(Fault::first(problem)),
     }
 }
 
 /// Writes the frames of a stream once more, behind this header or that of what is made of them.
 fn copy_input<T, R, H, O, E>(
-    header: StreamHeader,
+    header: &mut StreamHeader,
     input: &mut Input<T, R>,
     wanted: &Wanted,
     target: Target<'_, H, O>,
@@ -129,12 +165,9 @@ where
     O: io::Write + Drop,
     E: io::Write,
 {
-    match edit_of(&header, wanted) {
-        Ok(Some(edit)) => {
-            let header = made_header(header, &edit);
-            copy_edited(&header, &edit, input, wanted.raw, target, progress)
-        }
-        Ok(None) => copy_whole(&header, input, wanted.raw, target, progress),
+    match edit_of(header, wanted) {
+        Ok(Some(edit)) => copy_edited(header, &edit, input, target, progress),
+        Ok(None) => copy_whole(header, input, target, progress),
         Err(problem) => Err(Fault::first(problem)),
     }
 }
@@ -143,7 +176,6 @@ where
 fn copy_whole<T, R, H, O, E>(
     header: &StreamHeader,
     input: &mut Input<T, R>,
-    is_raw: bool,
     target: Target<'_, H, O>,
     progress: &mut Progress<E>,
 ) -> Result<Status, Fault>
@@ -155,7 +187,7 @@ where
     E: io::Write,
 {
     let alloc = target.rt.alloc();
-    match target.begin(header, is_raw) {
+    match target.begin(header) {
         Ok(mut output) => status_of(copy_frames(alloc, input, &mut output, progress)),
         Err(problem) => Err(Fault::second(problem)),
     }
@@ -163,10 +195,9 @@ where
 
 /// Writes what is made of frames.
 fn copy_edited<T, R, H, O, E>(
-    header: &StreamHeader,
+    header: &mut StreamHeader,
     edit: &Edit,
     input: &mut Input<T, R>,
-    is_raw: bool,
     target: Target<'_, H, O>,
     progress: &mut Progress<E>,
 ) -> Result<Status, Fault>
@@ -177,20 +208,36 @@ where
     O: io::Write + Drop,
     E: io::Write,
 {
+    set_size(header, edit);
+    match made_frame(target.rt.alloc(), header, edit, &input.frame) {
+        Ok(mut made) => copy_made(header, edit, input, &mut made, target, progress),
+        Err(problem) => Err(Fault::first(problem)),
+    }
+}
+
+/// Writes what is made of frames, each by way of this one.
+fn copy_made<T, R, H, O, E>(
+    header: &StreamHeader,
+    edit: &Edit,
+    input: &mut Input<T, R>,
+    made: &mut Frame<T>,
+    target: Target<'_, H, O>,
+    progress: &mut Progress<E>,
+) -> Result<Status, Fault>
+where
+    T: Pixel,
+    R: io::Read,
+    H: Files + AllocGlobal,
+    O: io::Write + Drop,
+    E: io::Write,
+    requires { EditFits edit.now (sizes_of (tables_of input.old.frame))
+        (sizes_of (tables_of made.old)) }
+{
     let alloc = target.rt.alloc();
-    let mut made = match made_frame(alloc, header, edit, &input.frame) {
-        Ok(made) => made,
-        Err(problem) => return Err(Fault::first(problem)),
-    };
-    match target.begin(header, is_raw) {
-        Ok(mut output) => status_of(edit_frames(
-            alloc,
-            edit,
-            input,
-            &mut made,
-            &mut output,
-            progress,
-        )),
+    match target.begin(header) {
+        Ok(mut output) => {
+            status_of(edit_frames(alloc, edit, input, made, &mut output, progress))
+        }
         Err(problem) => Err(Fault::second(problem)),
     }
 }
@@ -224,14 +271,11 @@ fn edit_of(header: &StreamHeader, wanted: &Wanted) -> Result<Option<Edit>, Probl
     }
 }
 
-/// The header of the frames that are made.
-fn made_header(header: StreamHeader, edit: &Edit) -> StreamHeader {
+/// Makes a header that of the frames that are made.
+fn set_size(header: &mut StreamHeader, edit: &Edit) {
     let scale = if edit.half { 2 } else { 1 };
-    StreamHeader {
-        width: edit.luma.width / scale,
-        height: edit.luma.height / scale,
-        ..header
-    }
+    header.width = edit.luma.width / scale;
+    header.height = edit.luma.height / scale;
 }
 
 /// A frame for what is made of frames like the source, where it fits.
@@ -247,11 +291,10 @@ fn made_frame<T: Pixel>(
     if header.width == 0 || header.height == 0 {
         return Err(Problem::Odd);
     }
-    let made = header.frame::<T>(alloc, 0)?;
-    if can_edit(edit, source, &made) {
-        Ok(made)
-    } else {
-        Err(Problem::Odd)
+    match header.frame::<T>(alloc, 0) {
+        Ok(made) if can_edit(edit, source, &made) => Ok(made),
+        Ok(_) => Err(Problem::Odd),
+        Err(error) => Err(Problem::from(error)),
     }
 }
 
