@@ -6,7 +6,7 @@ use std::alloc::{AllocError, Global};
 use std::io;
 use v_frame::chroma::ChromaSubsampling;
 use v_frame::pixel::Pixel;
-use v_frame_y4m::{ChromaSiting, Interlacing, StreamHeader};
+use v_frame_y4m::{ChromaSiting, Interlacing, Ratio, StreamHeader};
 
 /// Counts the frames of a stream, to its end.
 ///
@@ -75,19 +75,30 @@ fn push_siting(text: &mut String, siting: Option<ChromaSiting>) -> Result<(), Al
 
 /// Appends the rate, the interlacing and the shape of a pixel, where the header tells them.
 fn push_times(text: &mut String, header: &StreamHeader) -> Result<(), AllocError> {
-    if let Some(rate) = &header.frame_rate {
-        let (frames, seconds) = (rate.numerator, rate.denominator);
-        writeln!(text, "frame rate: {frames}:{seconds}")?;
-    }
-    if let Some(interlacing) = &header.interlacing {
-        let interlacing = interlacing_text(*interlacing);
-        writeln!(text, "interlacing: {interlacing}")?;
-    }
-    if let Some(aspect) = &header.pixel_aspect {
-        let (width, height) = (aspect.numerator, aspect.denominator);
-        writeln!(text, "pixel aspect: {width}:{height}")?;
-    }
-    Ok(())
+    push_ratio(text, "frame rate", &header.frame_rate)?;
+    push_interlacing(text, &header.interlacing)?;
+    push_ratio(text, "pixel aspect", &header.pixel_aspect)
+}
+
+/// Appends a ratio under this name, where the header tells it.
+fn push_ratio(text: &mut String, name: &str, ratio: &Option<Ratio>) -> Result<(), AllocError> {
+    let Some(ratio) = ratio else {
+        return Ok(());
+    };
+    let (numerator, denominator) = (ratio.numerator, ratio.denominator);
+    writeln!(text, "{name}: {numerator}:{denominator}")
+}
+
+/// Appends the interlacing, where the header tells it.
+fn push_interlacing(
+    text: &mut String,
+    interlacing: &Option<Interlacing>,
+) -> Result<(), AllocError> {
+    let Some(interlacing) = interlacing else {
+        return Ok(());
+    };
+    let interlacing = interlacing_text(*interlacing);
+    writeln!(text, "interlacing: {interlacing}")
 }
 
 /// How the rows of a frame go with time.
@@ -105,15 +116,21 @@ fn interlacing_text(interlacing: Interlacing) -> &'static str {
 fn push_extensions(text: &mut String, header: &StreamHeader) -> Result<(), AllocError> {
     for extension in header.extensions.as_slice() {
         text.push_str("extension: ")?;
-        for &byte in extension.as_slice() {
-            let shown = if byte.is_ascii_graphic() {
-                byte as char
-            } else {
-                '?'
-            };
-            text.push(shown)?;
-        }
+        push_shown(text, extension.as_slice())?;
         text.push('\n')?;
+    }
+    Ok(())
+}
+
+/// Appends bytes, those that are no printed ASCII as `?`.
+fn push_shown(text: &mut String, bytes: &[u8]) -> Result<(), AllocError> {
+    for &byte in bytes {
+        let shown = if byte.is_ascii_graphic() {
+            byte as char
+        } else {
+            '?'
+        };
+        text.push(shown)?;
     }
     Ok(())
 }

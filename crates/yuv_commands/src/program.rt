@@ -30,7 +30,7 @@ Status 2: something failed. Frames are counted from 1, columns and rows from 0.
 ";
 
 /// How the program ended. Our own.
-#[derive(Drop)]
+#[derive(Clone, Copy)]
 pub enum Status {
     /// All was done, and what was compared shows the same.
     Same,
@@ -113,9 +113,18 @@ where
     progress.is_shown = command.shows_progress();
     let done = do_command(rt, command, standard, output, progress);
     progress.end();
+    status_of(command, &done, &mut progress.out)
+}
+
+/// How the program ends behind a command. What went wrong is told.
+fn status_of<E: io::Write>(
+    command: &Command<'_>,
+    done: &Result<Status, Fault>,
+    error: &mut E,
+) -> Status {
     match done {
-        Ok(status) => status,
-        Err(fault) => give_up(command, &fault, &mut progress.out),
+        Ok(status) => *status,
+        Err(fault) => give_up(command, fault, error),
     }
 }
 

@@ -1,4 +1,4 @@
-//! What a command reads and writes: files by their names, and the standard streams.
+//! What a command reads: files by their names, and standard input.
 
 use crate::fault::Problem;
 use std::rt::Files;
@@ -22,31 +22,6 @@ impl<F: io::Read, I: io::Read> io::Read for Source<F, I> {
     }
 }
 
-/// A file or standard output, for writing. Our own.
-#[derive(Drop)]
-pub enum Sink<F, O> {
-    /// A file.
-    File(F),
-    /// Standard output.
-    Standard(O),
-}
-
-impl<F: io::Write, O: io::Write> io::Write for Sink<F, O> {
-    fn write(&mut self, buf: &[u8]) -> io::Result<usize> {
-        match self {
-            Sink::File(file) => file.write(buf),
-            Sink::Standard(output) => output.write(buf),
-        }
-    }
-
-    fn flush(&mut self) -> io::Result<()> {
-        match self {
-            Sink::File(file) => file.flush(),
-            Sink::Standard(output) => output.flush(),
-        }
-    }
-}
-
 /// Opens a file for reading, or takes standard input for `-`.
 pub fn open_source<H: Files, I: io::Read>(
     rt: &H,
@@ -62,20 +37,5 @@ pub fn open_source<H: Files, I: io::Read>(
     match fs::open(rt, name) {
         Ok(file) => Ok(Source::File(file)),
         Err(error) => Err(Problem::Open(error.kind())),
-    }
-}
-
-/// Creates a file for writing, or takes standard output for `-`.
-pub fn create_sink<H: Files, O: io::Write + Drop>(
-    rt: &H,
-    name: &str,
-    output: O,
-) -> Result<Sink<H::File, O>, Problem> {
-    if name == "-" {
-        return Ok(Sink::Standard(output));
-    }
-    match fs::create(rt, name) {
-        Ok(file) => Ok(Sink::File(file)),
-        Err(error) => Err(Problem::Create(error.kind())),
     }
 }

@@ -10,11 +10,10 @@ use crate::copy::{CopyFault, copy_frames, edit_frames};
 use crate::fault::{Caused, Fault, Problem};
 use crate::program::Status;
 use crate::progress::Progress;
-use crate::source::{Sink, create_sink};
 use crate::stream::{Container, Input, Output};
 use std::alloc::Global;
-use std::io;
 use std::rt::Files;
+use std::{fs, io};
 use v_frame::frame::Frame;
 use v_frame::pixel::Pixel;
 use v_frame_planar::Counted;
@@ -27,13 +26,13 @@ pub fn do_copy<H, I, O, E>(
     (from, to): (&Named<'_>, &str),
     wanted: &Wanted,
     standard: &mut Option<I>,
-    output: O,
+    output: &mut O,
     progress: &mut Progress<E>,
 ) -> Result<Status, Fault>
 where
     H: Files + AllocGlobal,
     I: io::Read + Drop,
-    O: io::Write + Drop,
+    O: io::Write,
     E: io::Write,
 {
     if from.name == to && to != "-" {
@@ -43,31 +42,19 @@ where
         rt,
         name: to,
         is_raw: wanted.raw,
-        output,
     };
     match open(rt, from, standard) {
-        Ok(opened) => copy_opened(opened, wanted, target, progress),
+        Ok(opened) => copy_opened(opened, wanted, &target, output, progress),
         Err(problem) => Err(Fault::first(problem)),
     }
 }
 
-/// A file that is created when all that could go wrong before is seen.
+/// What is written, when all that could go wrong before is seen: a file of this name, or standard output for `-`.
 #[derive(Drop)]
-struct Target<'a, H, O> {
+struct Target<'a, H> {
     rt: &'a H,
     name: &'a str,
     is_raw: bool,
-    output: O,
-}
-
-impl<H: Files + AllocGlobal, O: io::Write + Drop> Target<'_, H, O> {
-    /// Creates it, and writes the header if it has one.
-    fn begin(self, header: &StreamHeader) -> Result<Output<Sink<H::File, O>>, Problem> {
-        match create_sink(self.rt, self.name, self.output) {
-            Ok(sink) => begin(self.rt.alloc(), sink, self.is_raw, header),
-            Err(problem) => Err(problem),
-        }
-    }
 }
 
 /// A stream that is written, behind its header if it has one.
@@ -112,19 +99,20 @@ fn put_header<W: io::Write>(
 fn copy_opened<R, H, O, E>(
     opened: Opened<R>,
     wanted: &Wanted,
-    target: Target<'_, H, O>,
+    target: &Target<'_, H>,
+    output: &mut O,
     progress: &mut Progress<E>,
 ) -> Result<Status, Fault>
 where
     R: io::Read + Drop,
     H: Files + AllocGlobal,
-    O: io::Write + Drop,
+    O: io::Write,
     E: io::Write,
 {
     if opened.has_bytes() {
-        copy_as::<u8, _, _, _, _>(opened, wanted, target, progress)
+        copy_as::<u8, _, _, _, _>(opened, wanted, target, output, progress)
     } else {
-        copy_as::<u16, _, _, _, _>(opened, wanted, target, progress)
+        copy_as::<u16, _, _, _, _>(opened, wanted, target, output, progress)
     }
 }
 
@@ -132,19 +120,20 @@ where
 fn copy_as<T, R, H, O, E>(
     opened: Opened<R>,
     wanted: &Wanted,
-    target: Target<'_, H, O>,
+    target: &Target<'_, H>,
+    output: &mut O,
     progress: &mut Progress<E>,
 ) -> Result<Status, Fault>
 where
     T: Pixel,
     R: io::Read + Drop,
     H: Files + AllocGlobal,
-    O: io::Write + Drop,
+    O: io::Write,
     E: io::Write,
 {
     match opened.input::<T>(target.rt.alloc()) {
         Ok((mut header, mut input)) => {
-            copy_input(&mut header, &mut input, wanted, target, progress)
+            copy_input(&mut header, &mut input, wanted, target, output, progress)
         }
         Err(problem) => Err(Fault::first(problem)),
     }
@@ -155,19 +144,20 @@ fn copy_input<T, R, H, O, E>(
     header: &mut StreamHeader,
     input: &mut Input<T, R>,
     wanted: &Wanted,
-    target: Target<'_, H, O>,
+    target: &Target<'_, H>,
+    output: &mut O,
     progress: &mut Progress<E>,
 ) -> Result<Status, Fault>
 where
     T: Pixel,
     R: io::Read,
     H: Files + AllocGlobal,
-    O: io::Write + Drop,
+    O: io::Write,
     E: io::Write,
 {
     match edit_of(header, wanted) {
-        Ok(Some(edit)) => copy_edited(header, &edit, input, target, progress),
-        Ok(None) => copy_whole(header, input, target, progress),
+        Ok(Some(edit)) => copy_edited(header, &edit, input, target, output, progress),
+        Ok(None) => copy_whole(header, input, target, output, progress),
         Err(problem) => Err(Fault::first(problem)),
     }
 }
@@ -176,18 +166,37 @@ where
 fn copy_whole<T, R, H, O, E>(
     header: &StreamHeader,
     input: &mut Input<T, R>,
-    target: Target<'_, H, O>,
+    target: &Target<'_, H>,
+    output: &mut O,
     progress: &mut Progress<E>,
 ) -> Result<Status, Fault>
 where
     T: Pixel,
     R: io::Read,
     H: Files + AllocGlobal,
-    O: io::Write + Drop,
+    O: io::Write,
     E: io::Write,
 {
     let alloc = target.rt.alloc();
-    match target.begin(header) {
+    if target.name == "-" {
+        return copy_whole_to(alloc, header, input, output, target.is_raw, progress);
+    }
+    match fs::create(target.rt, target.name) {
+        Ok(file) => copy_whole_to(alloc, header, input, file, target.is_raw, progress),
+        Err(error) => Err(Fault::second(Problem::Create(error.kind()))),
+    }
+}
+
+/// Writes frames as they are to a writer that is open.
+fn copy_whole_to<T: Pixel, R: io::Read, W: io::Write + Drop, E: io::Write>(
+    alloc: Global,
+    header: &StreamHeader,
+    input: &mut Input<T, R>,
+    writer: W,
+    is_raw: bool,
+    progress: &mut Progress<E>,
+) -> Result<Status, Fault> {
+    match begin(alloc, writer, is_raw, header) {
         Ok(mut output) => status_of(copy_frames(alloc, input, &mut output, progress)),
         Err(problem) => Err(Fault::second(problem)),
     }
@@ -198,19 +207,20 @@ fn copy_edited<T, R, H, O, E>(
     header: &mut StreamHeader,
     edit: &Edit,
     input: &mut Input<T, R>,
-    target: Target<'_, H, O>,
+    target: &Target<'_, H>,
+    output: &mut O,
     progress: &mut Progress<E>,
 ) -> Result<Status, Fault>
 where
     T: Pixel,
     R: io::Read,
     H: Files + AllocGlobal,
-    O: io::Write + Drop,
+    O: io::Write,
     E: io::Write,
 {
     set_size(header, edit);
     match made_frame(target.rt.alloc(), header, edit, &input.frame) {
-        Ok(mut made) => copy_made(header, edit, input, &mut made, target, progress),
+        Ok(mut made) => copy_made(header, edit, input, &mut made, target, output, progress),
         Err(problem) => Err(Fault::first(problem)),
     }
 }
@@ -221,20 +231,62 @@ fn copy_made<T, R, H, O, E>(
     edit: &Edit,
     input: &mut Input<T, R>,
     made: &mut Frame<T>,
-    target: Target<'_, H, O>,
+    target: &Target<'_, H>,
+    output: &mut O,
     progress: &mut Progress<E>,
 ) -> Result<Status, Fault>
 where
     T: Pixel,
     R: io::Read,
     H: Files + AllocGlobal,
-    O: io::Write + Drop,
+    O: io::Write,
     E: io::Write,
     requires { EditFits edit.now (sizes_of (tables_of input.old.frame))
         (sizes_of (tables_of made.old)) }
 {
     let alloc = target.rt.alloc();
-    match target.begin(header) {
+    if target.name == "-" {
+        return copy_made_to(
+            alloc,
+            header,
+            edit,
+            input,
+            made,
+            output,
+            target.is_raw,
+            progress,
+        );
+    }
+    match fs::create(target.rt, target.name) {
+        Ok(file) => copy_made_to(
+            alloc,
+            header,
+            edit,
+            input,
+            made,
+            file,
+            target.is_raw,
+            progress,
+        ),
+        Err(error) => Err(Fault::second(Problem::Create(error.kind()))),
+    }
+}
+
+/// Writes what is made of frames to a writer that is open.
+fn copy_made_to<T: Pixel, R: io::Read, W: io::Write + Drop, E: io::Write>(
+    alloc: Global,
+    header: &StreamHeader,
+    edit: &Edit,
+    input: &mut Input<T, R>,
+    made: &mut Frame<T>,
+    writer: W,
+    is_raw: bool,
+    progress: &mut Progress<E>,
+) -> Result<Status, Fault>
+    requires { EditFits edit.now (sizes_of (tables_of input.old.frame))
+        (sizes_of (tables_of made.old)) }
+{
+    match begin(alloc, writer, is_raw, header) {
         Ok(mut output) => {
             status_of(edit_frames(alloc, edit, input, made, &mut output, progress))
         }
