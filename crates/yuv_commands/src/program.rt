@@ -4,7 +4,7 @@ ghost use Rattle.yuv_commands.specs.Run.{status_code};
 
 use crate::arguments::{Command, WrongCall, read_command};
 use crate::commands::{do_compare, do_copy, do_info};
-use crate::fault::{Fault, Place};
+use crate::fault::{Fault, Place, Problem};
 use crate::progress::Progress;
 use std::io;
 use std::rt::Files;
@@ -113,27 +113,30 @@ where
     progress.is_shown = command.shows_progress();
     let done = do_command(rt, command, standard, output, progress);
     progress.end();
-    status_of(command, &done, &mut progress.out)
+    status_of(command, done, &mut progress.out)
 }
 
 /// How the program ends behind a command. What went wrong is told.
 fn status_of<E: io::Write>(
     command: &Command<'_>,
-    done: &Result<Status, Fault>,
+    done: Result<Status, Fault>,
     error: &mut E,
 ) -> Status {
     match done {
-        Ok(status) => *status,
+        Ok(status) => status,
         Err(fault) => give_up(command, fault, error),
     }
 }
 
 /// Tells what went wrong, and where.
-fn give_up<E: io::Write>(command: &Command<'_>, fault: &Fault, error: &mut E) -> Status {
-    let name = name_of(command, fault.place);
-    let problem = &fault.problem;
-    let _ = writeln!(error, "yuv: {name}: {problem}");
+fn give_up<E: io::Write>(command: &Command<'_>, fault: Fault, error: &mut E) -> Status {
+    tell_fault(name_of(command, fault.place), &fault.problem, error);
     Status::Failed
+}
+
+/// Tells what went wrong with what has this name.
+fn tell_fault<E: io::Write>(name: &str, problem: &Problem, error: &mut E) {
+    let _ = writeln!(error, "yuv: {name}: {problem}");
 }
 
 /// Does a command.

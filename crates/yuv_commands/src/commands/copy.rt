@@ -57,6 +57,16 @@ struct Target<'a, H> {
     is_raw: bool,
 }
 
+impl<H: Files> Target<'_, H> {
+    /// Creates the file.
+    fn create(&self) -> Result<H::File, Fault> {
+        match fs::create(self.rt, self.name) {
+            Ok(file) => Ok(file),
+            Err(error) => Err(Fault::second(Problem::Create(error.kind()))),
+        }
+    }
+}
+
 /// A stream that is written, behind its header if it has one.
 fn begin<W: io::Write + Drop>(
     alloc: Global,
@@ -181,9 +191,9 @@ where
     if target.name == "-" {
         return copy_whole_to(alloc, header, input, output, target.is_raw, progress);
     }
-    match fs::create(target.rt, target.name) {
+    match target.create() {
         Ok(file) => copy_whole_to(alloc, header, input, file, target.is_raw, progress),
-        Err(error) => Err(Fault::second(Problem::Create(error.kind()))),
+        Err(fault) => Err(fault),
     }
 }
 
@@ -257,7 +267,7 @@ where
             progress,
         );
     }
-    match fs::create(target.rt, target.name) {
+    match target.create() {
         Ok(file) => copy_made_to(
             alloc,
             header,
@@ -268,7 +278,7 @@ where
             target.is_raw,
             progress,
         ),
-        Err(error) => Err(Fault::second(Problem::Create(error.kind()))),
+        Err(fault) => Err(fault),
     }
 }
 
