@@ -12,7 +12,7 @@ use v_frame::plane::{Plane, PlaneRef};
 use v_frame_ops::{first_difference, sum_of_squared_errors};
 
 /// Which plane of a frame. Our own.
-#[derive(Clone, Copy, Debug, PartialEq, Eq)]
+#[derive(Clone, Copy)]
 pub enum Component {
     /// Luma.
     Y,
@@ -33,7 +33,7 @@ impl fmt::Display for Component {
 }
 
 /// A pixel that two frames show differently. Our own.
-#[derive(Clone, Copy, Debug, PartialEq, Eq)]
+#[derive(Clone, Copy)]
 pub struct PixelDifference {
     /// The plane that it is in.
     pub component: Component,

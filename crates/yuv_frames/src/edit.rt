@@ -13,7 +13,7 @@ use v_frame_ops::laws::{rectangles_hold_pixels, tables_agree_by_pixels};
 use v_frame_ops::{copy_region, downscale};
 
 /// A rectangle of pixels. Our own.
-#[derive(Clone, Copy, Debug, PartialEq, Eq)]
+#[derive(Clone, Copy)]
 pub struct Rectangle {
     /// Its first column, counted from 0.
     pub x: usize,
@@ -36,7 +36,7 @@ impl Rectangle {
 }
 
 /// What is made of each plane of a frame. Our own.
-#[derive(Clone, Copy, Debug, PartialEq, Eq)]
+#[derive(Clone, Copy)]
 pub struct Edit {
     /// What is taken of luma, in its pixels.
     pub luma: Rectangle,
@@ -47,7 +47,7 @@ pub struct Edit {
 }
 
 /// Why no [`Edit`] takes this rectangle: it begins inside a chroma pixel. Our own.
-#[derive(Clone, Copy, Debug, PartialEq, Eq, Error)]
+#[derive(Debug, Drop, Error)]
 #[error("the crop begins inside a chroma pixel, which is {columns} luma columns wide and {rows} rows high")]
 pub struct Misaligned {
     /// How many luma columns stand beside one chroma column.

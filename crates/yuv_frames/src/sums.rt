@@ -9,7 +9,7 @@ use v_frame::pixel::Pixel;
 use v_frame::plane::Plane;
 
 /// A number for each plane of a frame. Our own.
-#[derive(Clone, Copy, Debug, PartialEq, Eq)]
+#[derive(Clone, Copy)]
 pub struct PlaneSums {
     /// That of luma.
     pub y: u128,
