@@ -1,5 +1,6 @@
 //! What the program is asked to do, read from its arguments.
 
+use std::error::Error;
 use std::fmt;
 use yuv_frames::Rectangle;
 
@@ -72,7 +73,7 @@ pub struct Wanted {
 }
 
 /// Why the arguments ask for nothing. Our own.
-#[derive(Drop)]
+#[derive(Debug, Drop)]
 pub enum WrongCall<'a> {
     /// There are no arguments.
     NoCommand,
@@ -117,6 +118,8 @@ impl fmt::Display for WrongCall<'_> {
         write!(f, "{begin}{end}")
     }
 }
+
+impl Error for WrongCall<'_> {}
 
 /// Reads the arguments behind the program's own name.
 ///

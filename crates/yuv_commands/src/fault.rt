@@ -2,6 +2,7 @@
 
 use crate::stream::StreamFault;
 use std::alloc::AllocError;
+use std::error::Error;
 use std::{fmt, io};
 use v_frame::frame::FrameError;
 use v_frame_planar::{Counted, PlanarError};
@@ -9,7 +10,7 @@ use v_frame_y4m::{HeaderError, Y4mError};
 use yuv_frames::Misaligned;
 
 /// An error, and what the system told where a read or a write failed. Our own.
-#[derive(Drop)]
+#[derive(Debug, Drop)]
 pub struct Caused<E> {
     /// The error.
     pub error: E,
@@ -84,7 +85,7 @@ impl Fault {
 }
 
 /// What happened to a file. Our own.
-#[derive(Drop)]
+#[derive(Debug, Drop)]
 pub enum Problem {
     /// It wasn't opened.
     Open(io::ErrorKind),
@@ -154,6 +155,8 @@ impl fmt::Display for Problem {
         }
     }
 }
+
+impl Error for Problem {}
 
 impl From<AllocError> for Problem {
     fn from(_refused: AllocError) -> Self {

@@ -44,7 +44,7 @@ pub struct Output<W> {
 }
 
 /// Why a stream was not read or written to its end. Our own.
-#[derive(Drop)]
+#[derive(Debug, Drop)]
 pub struct StreamFault {
     /// How many frames went before.
     pub before: u64,
