@@ -4,7 +4,6 @@ pub mod answers;
 pub mod buffers;
 pub mod bytes;
 pub mod calls;
-pub mod errors;
 pub mod frames;
 pub mod options;
 pub mod planar;

@@ -2,7 +2,7 @@
 //!
 //! Where a test says what a refusal leaves, `rt try --test --fail-alloc N` takes it there, as in the refusals of replays.
 
-use crate::tests::support::frames::{mark, padded, with_buffer};
+use crate::tests::support::frames::{built, mark, padded, with_buffer};
 use std::alloc::Global;
 use std::process::Abort;
 use v_frame::chroma::ChromaSubsampling::Yuv420;
@@ -10,16 +10,16 @@ use v_frame::frame::Frame;
 
 #[test]
 fn a_built_frame_equals_its_clone(rt: HostRuntime) {
-    let built = padded((640, 480), Yuv420, 8, [0; 4]).build::<u8>(rt.alloc());
-    let frame = built.expect(&rt, "a frame");
-    let copy = frame.clone(rt.alloc()).expect(&rt, "memory");
-    assert!(rt; frame == copy);
+    let frame = built::<u8>(&rt, rt.alloc(), padded((640, 480), Yuv420, 8, [0; 4]));
+    match frame.clone(rt.alloc()) {
+        Ok(copy) => assert!(rt; frame == copy),
+        Err(_) => panic!(rt; "memory"),
+    }
 }
 
 /// Two pixels by two with chroma, whose three planes begin with 1, 2 and 3.
 fn with_chroma(rt: &impl Abort, alloc: Global) -> Frame<u8> {
-    let built = padded((2, 2), Yuv420, 8, [0; 4]).build::<u8>(alloc);
-    let mut frame = built.expect(rt, "memory");
+    let mut frame = built::<u8>(rt, alloc, padded((2, 2), Yuv420, 8, [0; 4]));
     mark(rt, &mut frame, 0, 1);
     mark(rt, &mut frame, 1, 2);
     mark(rt, &mut frame, 2, 3);

@@ -1,7 +1,7 @@
 //! The debug texts of frames.
 
-use crate::tests::support::frames::{nine, padded};
-use crate::tests::support::texts::shows;
+use crate::tests::support::frames::{built, nine, padded};
+use crate::tests::support::texts::must_show;
 use v_frame::chroma::ChromaSubsampling;
 
 /// The text of a frame without chroma, three pixels by three.
@@ -22,9 +22,12 @@ const HALVED: &str =
 
 #[test]
 fn chroma_planes_show_as_options(rt: HostRuntime) {
-    let frame = nine(&rt, rt.alloc());
-    assert!(rt; shows(&rt, rt.alloc(), &frame, NINE));
-    let builder = padded((2, 1), ChromaSubsampling::Yuv422, 8, [0, 0, 0, 0]);
-    let frame = builder.build::<u8>(rt.alloc()).expect(&rt, "a frame");
-    assert!(rt; shows(&rt, rt.alloc(), &frame, HALVED));
+    must_show(&rt, rt.alloc(), &nine(&rt, rt.alloc()), NINE);
+    let halved = padded((2, 1), ChromaSubsampling::Yuv422, 8, [0; 4]);
+    must_show(
+        &rt,
+        rt.alloc(),
+        &built::<u8>(&rt, rt.alloc(), halved),
+        HALVED,
+    );
 }

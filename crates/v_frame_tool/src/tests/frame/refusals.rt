@@ -1,7 +1,7 @@
 //! Frames that are not built, and why.
 
-use crate::tests::support::frames::{padded, refusal};
-use crate::tests::support::texts::{displays, shows};
+use crate::tests::support::frames::{holds_plane, padded, refusal};
+use crate::tests::support::texts::{must_display, must_show};
 use std::alloc::Global;
 use std::process::Abort;
 use v_frame::chroma::ChromaSubsampling::{self, Monochrome, Yuv411, Yuv420, Yuv422, Yuv444};
@@ -59,49 +59,51 @@ static WORDS: [(Shape, &str); 3] = [
 ];
 
 /// Stops the test where a frame is refused for another reason, or is built where there is one.
-fn check_refusal<T: Pixel>(rt: &impl Abort, alloc: Global, (shape, wanted): (Shape, &str)) {
-    let (size, format, depth, padding) = shape;
-    let refused = refusal::<T>(alloc, padded(size, format, depth, padding));
-    assert!(rt;
-        shows(rt, alloc, &refused, wanted),
-        "{size:?} {format:?} {depth}"
-    );
+fn check_refusals<T: Pixel>(rt: &impl Abort, alloc: Global, cases: &[(Shape, &str)]) {
+    for ((size, format, depth, padding), wanted) in cases {
+        let refused = refusal::<T>(alloc, padded(*size, *format, *depth, *padding));
+        must_show(rt, alloc, &refused, *wanted);
+    }
 }
 
 #[test]
 fn frames_are_refused_for_the_first_reason(rt: HostRuntime) {
-    for case in &BYTES {
-        check_refusal::<u8>(&rt, rt.alloc(), *case);
-    }
-    for case in &WORDS {
-        check_refusal::<u16>(&rt, rt.alloc(), *case);
-    }
+    check_refusals::<u8>(&rt, rt.alloc(), &BYTES);
+    check_refusals::<u16>(&rt, rt.alloc(), &WORDS);
 }
 
 /// With memory it is built; `rt try --test --fail-alloc N` refuses its request `N`, and takes the branch of the refusal.
 #[test]
 fn a_refused_build_of_three_planes_hands_out_no_frame(rt: HostRuntime) {
-    let builder = padded((4, 2), Yuv420, 8, [2, 2, 2, 0]);
-    match builder.build::<u8>(rt.alloc()) {
+    match padded((4, 2), Yuv420, 8, [2, 2, 2, 0]).build::<u8>(rt.alloc()) {
         Ok(frame) => {
-            assert!(rt; frame.y_plane.data() == [0; 32].as_slice());
-            for index in 1..3 {
-                let chroma = frame.plane(index).expect(&rt, "a chroma plane");
-                assert!(rt; chroma.data() == [0; 8].as_slice());
-            }
+            assert!(rt; holds_plane(&frame, 0, &[0; 32]));
+            assert!(rt; holds_plane(&frame, 1, &[0; 8]) && holds_plane(&frame, 2, &[0; 8]));
         }
         Err(error) => assert!(rt; error == FrameError::OutOfMemory),
     }
 }
 
+/// Refusals, and what they say.
+static ERRORS: [(FrameError, &str); 4] = [
+    (
+        FrameError::UnsupportedBitDepth { found: 7 },
+        "only 8-16 bit frame data is supported, tried to create 7 bit frame",
+    ),
+    (
+        FrameError::DataTypeMismatch,
+        "bit depth did not match requested data type",
+    ),
+    (
+        FrameError::UnsupportedResolution,
+        "selected chroma subsampling does not support odd resolutions",
+    ),
+    (FrameError::OutOfMemory, "out of memory"),
+];
+
 #[test]
 fn refused_frames_are_explained(rt: HostRuntime) {
-    let depth = FrameError::UnsupportedBitDepth { found: 7 };
-    let wanted = "only 8-16 bit frame data is supported, tried to create 7 bit frame";
-    assert!(rt; displays(&rt, rt.alloc(), &depth, wanted));
-    let wanted = "bit depth did not match requested data type";
-    assert!(rt; displays(&rt, rt.alloc(), &FrameError::DataTypeMismatch, wanted));
-    let wanted = "selected chroma subsampling does not support odd resolutions";
-    assert!(rt; displays(&rt, rt.alloc(), &FrameError::UnsupportedResolution, wanted));
-    assert!(rt; displays(&rt, rt.alloc(), &FrameError::OutOfMemory, "out of memory"));
+    for (error, wanted) in &ERRORS {
+        must_display(&rt, rt.alloc(), error, *wanted);
+    }
 }

@@ -3,33 +3,36 @@
 use crate::counted::Counted;
 use crate::planar::write_frame;
 use crate::tests::support::planar::six_bytes;
-use crate::tests::support::readers::pieces_of;
-use crate::tests::support::texts::shows;
+use crate::tests::support::readers::{Pieces, pieces_of};
+use crate::tests::support::texts::must_show;
 use crate::tests::support::watched::{WatchedWriter, watched_writer};
+use std::alloc::Global;
 use std::process::Abort;
 
-/// Stops the test where a writer was called otherwise: the calls of `write`, those that offered nothing, the calls of
-/// `flush`, and the bytes that were taken.
-fn check_calls(rt: &impl Abort, out: &Counted<WatchedWriter>, calls: [usize; 3], taken: &[u8]) {
+/// Whether a writer was called so: the calls of `write`, those that offered nothing, the calls of `flush`, and the bytes
+/// that were taken.
+fn has_calls(out: &Counted<WatchedWriter>, calls: [usize; 3], taken: &[u8]) -> bool {
     let writer = out.inner();
-    assert!(rt; [writer.writes, writer.empty_writes, writer.flushes] == calls);
-    assert!(rt; writer.taken.as_slice() == taken);
+    [writer.writes, writer.empty_writes, writer.flushes] == calls
+        && writer.taken.as_slice() == taken
 }
+
+/// Bytes, how many of them a call takes, and the calls of `write`, the empty ones and the failures after it.
+static CALLS: [(&[u8], Option<usize>, usize, usize, u64); 3] = [
+    (&[1, 2, 3], Some(2), 1, 0, 0),
+    (&[], Some(0), 2, 1, 0),
+    (&[3], None, 3, 1, 1),
+];
 
 #[test]
 fn a_write_is_one_call_and_no_flush(rt: HostRuntime) {
     let mut out = Counted::new(watched_writer(rt.alloc(), 2, 3));
-    let part = out.write(&[1, 2, 3]);
-    assert!(rt; shows(&rt, rt.alloc(), &part.ok(), "Some(2)"));
-    check_calls(&rt, &out, [1, 0, 0], &[1, 2]);
-    let none = out.write(&[]);
-    assert!(rt; shows(&rt, rt.alloc(), &none.ok(), "Some(0)"));
-    check_calls(&rt, &out, [2, 1, 0], &[1, 2]);
-    let failed = out.write(&[3]);
-    assert!(rt; failed.is_err() && out.failures() == 1);
-    check_calls(&rt, &out, [3, 1, 0], &[1, 2]);
-    assert!(rt; out.write_all(&[]).is_ok());
-    check_calls(&rt, &out, [3, 1, 0], &[1, 2]);
+    for (bytes, taken, writes, empty_writes, failures) in &CALLS {
+        let told = (out.write(*bytes).ok(), out.failures());
+        let are_right = has_calls(&out, [*writes, *empty_writes, 0], &[1, 2]);
+        assert!(rt; told == (*taken, *failures) && are_right, "{writes} calls");
+    }
+    assert!(rt; out.write_all(&[]).is_ok() && has_calls(&out, [3, 1, 0], &[1, 2]));
 }
 
 /// How many bytes a call takes at most, the call that fails, the answer to writing 1 to 5, the calls, and what is taken.
@@ -44,13 +47,18 @@ static ALL: [AllWritten; 5] = [
     (0, 0, "Err(TookNothing)", 1, &[]),
 ];
 
+/// Stops the test where writing all of five bytes is answered otherwise, or by other calls.
+fn check_all(rt: &impl Abort, alloc: Global, (most, failing, answer, calls, taken): AllWritten) {
+    let mut out = Counted::new(watched_writer(alloc, most, failing));
+    let written = out.write_all(&[1, 2, 3, 4, 5]);
+    must_show(rt, alloc, &written, answer);
+    assert!(rt; has_calls(&out, [calls, 0, 0], taken), "{answer}");
+}
+
 #[test]
 fn writing_all_calls_until_all_is_taken_or_a_call_fails(rt: HostRuntime) {
-    for (most, failing, answer, calls, taken) in &ALL {
-        let mut out = Counted::new(watched_writer(rt.alloc(), *most, *failing));
-        let written = out.write_all(&[1, 2, 3, 4, 5]);
-        assert!(rt; shows(&rt, rt.alloc(), &written, *answer), "{answer}");
-        check_calls(&rt, &out, [*calls, 0, 0], *taken);
+    for case in &ALL {
+        check_all(&rt, rt.alloc(), *case);
     }
 }
 
@@ -59,21 +67,25 @@ fn a_frame_is_written_without_a_flush_and_without_an_empty_write(rt: HostRuntime
     let frame = six_bytes(&rt, rt.alloc(), [1, 2, 3, 4, 5, 6]);
     for most in [1, 4, 6] {
         let mut out = Counted::new(watched_writer(rt.alloc(), most, 0));
-        assert!(rt; write_frame(&mut out, &frame) == Ok(()));
+        let answer = write_frame(&mut out, &frame);
         let writes = out.inner().writes;
-        check_calls(&rt, &out, [writes, 0, 0], &[1, 2, 3, 4, 5, 6]);
+        let are_right = has_calls(&out, [writes, 0, 0], &[1, 2, 3, 4, 5, 6]);
+        assert!(rt; answer == Ok(()) && are_right, "{most} a call");
     }
+}
+
+/// How many bytes a read gives, and how many calls of `read` there were.
+fn read_once(reader: &mut Counted<Pieces<'_>>, buf: &mut [u8]) -> (Option<usize>, usize) {
+    let count = reader.read(buf).ok();
+    (count, reader.inner().reads)
 }
 
 #[test]
 fn a_read_is_one_call(rt: HostRuntime) {
     let mut reader = Counted::new(pieces_of(&[1, 2, 3, 4], 3, 2));
     let mut buf = [0; 4];
-    let part = reader.read(&mut buf);
-    assert!(rt; shows(&rt, rt.alloc(), &part.ok(), "Some(3)") && buf == [1, 2, 3, 0]);
-    assert!(rt; reader.inner().reads == 1);
-    assert!(rt; reader.read(&mut []).is_ok() && reader.inner().reads == 2);
-    assert!(rt; reader.read(&mut buf).is_err() && buf == [1, 2, 3, 0]);
-    assert!(rt; reader.inner().reads == 3);
+    assert!(rt; read_once(&mut reader, &mut buf) == (Some(3), 1) && buf == [1, 2, 3, 0]);
+    assert!(rt; read_once(&mut reader, &mut []) == (Some(0), 2));
+    assert!(rt; read_once(&mut reader, &mut buf) == (None, 3) && buf == [1, 2, 3, 0]);
     assert!(rt; (reader.failures(), reader.inner().left.len()) == (1, 1));
 }

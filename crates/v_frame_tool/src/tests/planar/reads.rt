@@ -2,26 +2,31 @@
 
 use crate::counted::Counted;
 use crate::planar::{PlanarError, read_frame};
-use crate::tests::support::buffers::{buffer_in_200, rows_are};
-use crate::tests::support::frames::{BARE, BORDERED, in_200, padded, with_buffer};
-use crate::tests::support::planar::{shows_bytes, six_bytes};
+use crate::tests::support::buffers::{buffer_in_200, has_buffer};
+use crate::tests::support::frames::{BORDERED, built, holds_plane, in_200, padded};
+use crate::tests::support::planar::{shows_bytes, six_bytes, without_u};
 use crate::tests::support::readers::pieces_of;
-use crate::tests::support::texts::shows;
+use crate::tests::support::texts::must_show;
 use std::alloc::Global;
 use std::process::Abort;
 use v_frame::chroma::ChromaSubsampling::Yuv420;
+use v_frame::frame::Frame;
+use v_frame::pixel::Pixel;
+
+/// What is answered to reads of six bytes, where there are seven.
+static ANSWERS: [&str; 3] = [
+    "Ok(true)",
+    "Err(Truncated { expected: 6, found: 1 })",
+    "Ok(false)",
+];
 
 #[test]
 fn a_frame_a_rest_and_the_end(rt: HostRuntime) {
     let mut frame = six_bytes(&rt, rt.alloc(), [0; 6]);
     let mut reader = Counted::new([1, 2, 3, 4, 5, 6, 7].as_slice());
-    for answer in [
-        "Ok(true)",
-        "Err(Truncated { expected: 6, found: 1 })",
-        "Ok(false)",
-    ] {
+    for answer in &ANSWERS {
         let read = read_frame(rt.alloc(), &mut reader, &mut frame);
-        assert!(rt; shows(&rt, rt.alloc(), &read, answer), "{answer}");
+        must_show(&rt, rt.alloc(), &read, *answer);
         assert!(rt; shows_bytes(&frame, [1, 2, 3, 4, 5, 6]) && reader.failures() == 0);
     }
 }
@@ -56,16 +61,15 @@ fn check_pieces(rt: &impl Abort, alloc: Global, case: &Piecewise, before: [u8; 6
     let mut frame = six_bytes(rt, alloc, before);
     let mut reader = Counted::new(pieces_of(bytes, most, calls));
     let read = read_frame(alloc, &mut reader, &mut frame);
-    assert!(rt; shows(rt, alloc, &read, answer), "{answer}");
-    assert!(rt;
-        (reader.failures(), reader.inner().left.len()) == (failures, left),
-        "{answer}"
-    );
-    let shown = match read {
-        Ok(_) => [1, 2, 3, 4, 5, 6],
-        Err(_) => before,
+    must_show(rt, alloc, &read, answer);
+    let shown = if read.is_ok() {
+        [1, 2, 3, 4, 5, 6]
+    } else {
+        before
     };
-    assert!(rt; frame == six_bytes(rt, alloc, shown), "{answer}");
+    let told = (reader.failures(), reader.inner().left.len());
+    let is_kept = frame == six_bytes(rt, alloc, shown);
+    assert!(rt; told == (failures, left) && is_kept, "{answer}");
 }
 
 #[test]
@@ -76,52 +80,53 @@ fn frames_are_read_in_pieces_whole_or_not_at_all(rt: HostRuntime) {
     }
 }
 
+/// Reads the bytes 11 to 16 into a frame. Stops the test where a byte is left then, or one is gone where that is refused.
+fn read_six(rt: &impl Abort, alloc: Global, frame: &mut Frame<u8>) -> Result<bool, PlanarError> {
+    let mut reader = Counted::new([11, 12, 13, 14, 15, 16].as_slice());
+    let read = read_frame(alloc, &mut reader, frame);
+    let left = if read.is_ok() { 0 } else { 6 };
+    assert!(rt; reader.inner().len() == left);
+    read
+}
+
 #[test]
 fn borders_are_kept(rt: HostRuntime) {
     let mut frame = in_200(&rt, rt.alloc());
-    let mut reader = Counted::new([11, 12, 13, 14, 15, 16].as_slice());
-    assert!(rt; read_frame(rt.alloc(), &mut reader, &mut frame) == Ok(true));
+    assert!(rt; read_six(&rt, rt.alloc(), &mut frame) == Ok(true));
     let wanted = buffer_in_200([11, 12, 13, 14, 15, 16]);
-    assert!(rt; frame.y_plane.data() == wanted.as_slice());
-    assert!(rt; rows_are(&frame.y_plane, BORDERED, &wanted));
+    assert!(rt; has_buffer(&frame.y_plane, BORDERED, &wanted));
 }
 
 /// Where its request for memory is refused, which `rt try --test --fail-alloc N` does.
 #[test]
 fn without_memory_nothing_is_read(rt: HostRuntime) {
     let mut frame = in_200(&rt, rt.alloc());
-    let mut reader = Counted::new([11, 12, 13, 14, 15, 16].as_slice());
-    let read = read_frame(rt.alloc(), &mut reader, &mut frame);
-    let (left, pixels) = match read {
-        Ok(_) => (0, [11, 12, 13, 14, 15, 16]),
-        Err(_) => (6, [1, 2, 3, 4, 5, 6]),
+    let pixels = match read_six(&rt, rt.alloc(), &mut frame) {
+        Ok(true) => [11, 12, 13, 14, 15, 16],
+        Err(PlanarError::OutOfMemory) => [1, 2, 3, 4, 5, 6],
+        _ => panic!(rt; "another answer"),
     };
-    assert!(rt; read == Ok(true) || read == Err(PlanarError::OutOfMemory));
-    assert!(rt; reader.inner().len() == left);
     assert!(rt; frame.y_plane.data() == buffer_in_200(pixels).as_slice());
+}
+
+/// Whether the bytes 1 to 12 are read so that Y and V hold these pixels, and so many bytes are left.
+fn are_read<T: Pixel>(alloc: Global, frame: &mut Frame<T>, y: &[T], v: &[T], left: usize) -> bool {
+    let mut reader = Counted::new([1, 2, 3, 4, 5, 6, 7, 8, 9, 10, 11, 12].as_slice());
+    let read = read_frame(alloc, &mut reader, frame);
+    let are_planes = holds_plane(frame, 0, y) && holds_plane(frame, 2, v);
+    read == Ok(true) && reader.inner().len() == left && are_planes
 }
 
 #[test]
 fn words_are_read_low_byte_first(rt: HostRuntime) {
-    let built = padded((2, 2), Yuv420, 9, [0; 4]).build::<u16>(rt.alloc());
-    let mut frame = built.expect(&rt, "a frame");
-    let bytes = [1, 2, 3, 4, 5, 6, 7, 8, 9, 10, 11, 12];
-    let mut reader = Counted::new(bytes.as_slice());
-    assert!(rt; read_frame(rt.alloc(), &mut reader, &mut frame) == Ok(true));
-    assert!(rt; frame.y_plane.data() == [0x0201, 0x0403, 0x0605, 0x0807].as_slice());
-    let v = frame.v_plane.as_ref().expect(&rt, "V");
-    assert!(rt; v.data() == [0x0C0B].as_slice());
+    let mut frame = built(&rt, rt.alloc(), padded((2, 2), Yuv420, 9, [0; 4]));
+    let y: [u16; 4] = [0x0201, 0x0403, 0x0605, 0x0807];
+    assert!(rt; are_read(rt.alloc(), &mut frame, &y, &[0x0C0B], 0));
 }
 
 #[test]
 fn planes_that_a_user_replaced_are_read(rt: HostRuntime) {
-    let mut frame = six_bytes(&rt, rt.alloc(), [0; 6]);
-    frame.u_plane = None;
-    frame.v_plane = Some(with_buffer(&rt, rt.alloc(), BARE, &[0; 6]).y_plane);
-    let bytes = [1, 2, 3, 4, 5, 6, 7, 8, 9, 10, 11, 12];
-    let mut reader = Counted::new(bytes.as_slice());
-    assert!(rt; read_frame(rt.alloc(), &mut reader, &mut frame) == Ok(true));
-    assert!(rt; frame.y_plane.data() == [1, 2, 3, 4].as_slice());
-    let v = frame.v_plane.as_ref().expect(&rt, "V");
-    assert!(rt; v.data() == [5, 6, 7, 8, 9, 10].as_slice() && reader.inner().len() == 2);
+    let mut frame = without_u(&rt, rt.alloc(), [0; 6], [0; 6]);
+    let v = [5, 6, 7, 8, 9, 10];
+    assert!(rt; are_read(rt.alloc(), &mut frame, &[1, 2, 3, 4], &v, 2));
 }

@@ -1,9 +1,9 @@
 //! Copies of bytes into a plane, packed and with a stride.
 
-use crate::tests::support::buffers::{holds, rows_are};
-use crate::tests::support::bytes::{stepped, stepped_words};
+use crate::tests::support::buffers::{has_buffer, holds};
+use crate::tests::support::bytes::{push_stepped, push_stepped_words, stepped, stepped_words};
 use crate::tests::support::frames::{BARE, BORDERED, Layout, numbered, with_buffer, zeros};
-use crate::tests::support::texts::shows;
+use crate::tests::support::texts::must_show;
 use std::alloc::Global;
 use std::process::Abort;
 use v_frame::pixel::Pixel;
@@ -19,8 +19,12 @@ fn check_copy<T: Pixel>(
     plane: &mut Plane<T>,
     (source, stride, answer, after): Copied<'_, T>,
 ) {
-    let copied = plane.copy_from_u8_slice_with_stride(source, stride);
-    assert!(rt; shows(rt, alloc, &copied, answer), "{answer}");
+    must_show(
+        rt,
+        alloc,
+        &plane.copy_from_u8_slice_with_stride(source, stride),
+        answer,
+    );
     assert!(rt; plane.data() == after, "{answer}");
 }
 
@@ -123,7 +127,7 @@ fn bytes_are_copied_without_their_tails_or_refused(rt: HostRuntime) {
     for copied in &TAILS {
         check_copy(&rt, rt.alloc(), &mut bordered.y_plane, *copied);
     }
-    assert!(rt; rows_are(&bordered.y_plane, BORDERED, &AFTER));
+    assert!(rt; has_buffer(&bordered.y_plane, BORDERED, &AFTER));
     check_copies(&rt, rt.alloc(), (5, 2, [0; 4]), &FIVE);
     check_copies(&rt, rt.alloc(), BARE, &LARGEST);
     check_copies(&rt, rt.alloc(), (2, 2, [0; 4]), &SQUARE);
@@ -179,7 +183,7 @@ fn packed_words(rt: HostRuntime) {
     assert!(rt; copied.is_ok() && frame.y_plane.data() == wanted.as_slice());
     let refused = frame.y_plane.copy_from_u8_slice(&[2, 1, 4, 3]);
     let answer = "Err(DataLength { expected: 8, found: 4 })";
-    assert!(rt; shows(&rt, rt.alloc(), &refused, answer));
+    must_show(&rt, rt.alloc(), &refused, answer);
     assert!(rt; frame.y_plane.data() == wanted.as_slice());
 }
 
@@ -192,22 +196,18 @@ static WIDTHS: [(usize, usize, u16); 5] = [
     (33, 67, 0xE7E0),
 ];
 
-/// The items of one row and then those of the row below.
-fn joined<T: Copy>(rt: &impl Abort, mut above: Vec<T>, below: &[T]) -> Vec<T> {
-    above.extend_from_slice(below).expect(rt, "memory");
-    above
-}
-
 /// Two rows of so many bytes, which begin at 1 and 32 and grow by 7.
 fn two_rows(rt: &impl Abort, alloc: Global, stride: usize) -> Vec<u8> {
-    let below = stepped(rt, alloc, 32, 7, stride);
-    joined(rt, stepped(rt, alloc, 1, 7, stride), below.as_slice())
+    let mut bytes = stepped(rt, alloc, 1, 7, stride);
+    push_stepped(rt, &mut bytes, 32, 7, stride);
+    bytes
 }
 
 /// The first so many words of each of these two rows of bytes.
 fn words_of_two_rows(rt: &impl Abort, alloc: Global, width: usize) -> Vec<u16> {
-    let below = stepped_words(rt, alloc, 32, 7, width);
-    joined(rt, stepped_words(rt, alloc, 1, 7, width), below.as_slice())
+    let mut words = stepped_words(rt, alloc, 1, 7, width);
+    push_stepped_words(rt, &mut words, 32, 7, width);
+    words
 }
 
 /// Stops the test where the words are not those of the source, or an entry of a numbered border changes.
@@ -215,43 +215,37 @@ fn check_border(rt: &impl Abort, alloc: Global, (width, stride, last): (usize, u
     let layout = (width, 2, [3, 1, 0, 0]);
     let mut frame = numbered::<u16>(rt, alloc, layout);
     let source = two_rows(rt, alloc, stride);
-    let copied = frame
-        .y_plane
-        .copy_from_u8_slice_with_stride(source.as_slice(), stride);
+    let plane = &mut frame.y_plane;
+    let copied = plane.copy_from_u8_slice_with_stride(source.as_slice(), stride);
     let words = words_of_two_rows(rt, alloc, width);
-    assert!(rt;
-        copied.is_ok() && words.last() == Some(&last),
-        "{width} words"
-    );
-    assert!(rt;
-        holds(rt, alloc, &frame.y_plane, layout, words.as_slice()),
-        "{width} words"
-    );
+    let is_kept = holds(rt, alloc, plane, layout, words.as_slice());
+    let is_last = words.last() == Some(&last);
+    assert!(rt; copied.is_ok() && is_last && is_kept, "{width} words");
+}
+
+/// Whether the border of two rows of so many words holds 0xABCD.
+fn is_border(buffer: &[u16], width: usize) -> bool {
+    let between = width.saturating_add(3)..width.saturating_add(7);
+    buffer.get(..3) == Some([0xABCD; 3].as_slice())
+        && buffer.get(between) == Some([0xABCD; 4].as_slice())
+        && buffer.last() == Some(&0xABCD)
 }
 
 /// Stops the test where words are not copied, or the border does not stay.
 fn check_width(rt: &impl Abort, alloc: Global, (width, stride, last): (usize, usize, u16)) {
     let mut frame = zeros::<u16>(rt, alloc, (width, 2, [3, 1, 0, 0]));
-    frame.y_plane.data_mut().fill(0xABCD);
+    let plane = &mut frame.y_plane;
+    plane.data_mut().fill(0xABCD);
     let source = two_rows(rt, alloc, stride);
-    let copied = frame
-        .y_plane
-        .copy_from_u8_slice_with_stride(source.as_slice(), stride);
-    assert!(rt; copied.is_ok());
-    let plane = &frame.y_plane;
-    let ends = (
-        plane.pixel(0, 0),
-        plane.pixel(0, 1),
-        plane.pixel(width.saturating_sub(1), 1),
-    );
+    let copied = plane.copy_from_u8_slice_with_stride(source.as_slice(), stride);
+    let first = (plane.pixel(0, 0), plane.pixel(0, 1));
+    let is_last = plane.pixel(width.saturating_sub(1), 1) == Some(last);
+    let are_first = first == (Some(0x0801), Some(0x2720));
+    let is_kept = is_border(plane.data(), width);
     assert!(rt;
-        ends == (Some(0x0801), Some(0x2720), Some(last)),
+        copied.is_ok() && are_first && is_last && is_kept,
         "{width} words"
     );
-    let between = width.saturating_add(3)..width.saturating_add(7);
-    assert!(rt; plane.data().get(..3) == Some([0xABCD; 3].as_slice()));
-    assert!(rt; plane.data().get(between) == Some([0xABCD; 4].as_slice()));
-    assert!(rt; plane.data().last() == Some(&0xABCD));
 }
 
 #[test]

@@ -1,8 +1,10 @@
 //! Iterators over the bytes of planes, drawn by turns and counted.
 
-use crate::tests::support::frames::{numbered, with_buffer};
+use crate::tests::support::frames::{Layout, numbered, with_buffer};
+use std::alloc::Global;
+use std::process::Abort;
 use v_frame::pixel::Pixel;
-use v_frame::plane::{ByteData, Plane};
+use v_frame::plane::ByteData;
 
 /// Two calls of `next` and two of `next_back` by turns.
 fn by_turns<T: Pixel>(bytes: &mut ByteData<'_, T>) -> [Option<u8>; 4] {
@@ -21,18 +23,20 @@ fn bytes_come_by_turns(rt: HostRuntime) {
     assert!(rt; by_turns(&mut bytes) == [Some(1), Some(4), Some(2), Some(3)]);
 }
 
-/// How many bytes an iterator tells and gives, the first one, and how many are left after it.
-fn counts<T: Pixel>(plane: &Plane<T>) -> ([usize; 3], Option<u8>) {
-    let mut bytes = plane.byte_data();
+/// How many bytes an iterator over a numbered plane tells and gives, the first one, and how many are left after it.
+fn counts<T: Pixel>(rt: &impl Abort, alloc: Global, layout: Layout) -> ([usize; 3], Option<u8>) {
+    let frame = numbered::<T>(rt, alloc, layout);
+    let mut bytes = frame.y_plane.byte_data();
     let (length, first) = (bytes.len(), bytes.next());
-    ([length, plane.byte_data().count(), bytes.len()], first)
+    (
+        [length, frame.y_plane.byte_data().count(), bytes.len()],
+        first,
+    )
 }
 
 #[test]
 fn bytes_are_counted(rt: HostRuntime) {
     let layout = (4, 3, [2, 2, 1, 1]);
-    let bytes = numbered::<u8>(&rt, rt.alloc(), layout);
-    assert!(rt; counts(&bytes.y_plane) == ([12, 12, 11], Some(110)));
-    let words = numbered::<u16>(&rt, rt.alloc(), layout);
-    assert!(rt; counts(&words.y_plane) == ([24, 24, 23], Some(10)));
+    assert!(rt; counts::<u8>(&rt, rt.alloc(), layout) == ([12, 12, 11], Some(110)));
+    assert!(rt; counts::<u16>(&rt, rt.alloc(), layout) == ([24, 24, 23], Some(10)));
 }

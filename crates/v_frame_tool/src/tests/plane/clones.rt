@@ -4,6 +4,14 @@
 
 use crate::tests::support::frames::{nine, with_buffer, write_pixel};
 use crate::tests::support::options::five_and_six;
+use std::alloc::Global;
+use std::process::Abort;
+use v_frame::plane::Plane;
+
+/// A clone of a plane.
+fn cloned<T: Copy>(rt: &impl Abort, alloc: Global, plane: &Plane<T>) -> Plane<T> {
+    plane.clone(alloc).expect(rt, "memory")
+}
 
 #[test]
 fn a_clone_of_a_plane_keeps_its_pixels(rt: HostRuntime) {
@@ -17,7 +25,7 @@ fn a_clone_of_a_plane_keeps_its_pixels(rt: HostRuntime) {
 #[test]
 fn a_clone_of_values_is_a_plane_of_its_own(rt: HostRuntime) {
     let mut plane = five_and_six(&rt, rt.alloc());
-    let copy = plane.clone(rt.alloc()).expect(&rt, "memory");
+    let copy = cloned(&rt, rt.alloc(), &plane);
     assert!(rt; plane == copy);
     write_pixel(&rt, &mut plane, 0, 0, 9);
     assert!(rt; plane != copy && copy.data() == [5, 6].as_slice());

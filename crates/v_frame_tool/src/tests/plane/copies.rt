@@ -1,10 +1,10 @@
 //! Packed copies of pixels into a plane.
 
-use crate::tests::support::buffers::{bordered_buffer, rows_are};
-use crate::tests::support::errors::{other_length, short_stride};
+use crate::tests::support::buffers::{bordered_buffer, has_buffer};
 use crate::tests::support::frames::{BORDERED, with_buffer};
-use crate::tests::support::texts::{displays, shows};
+use crate::tests::support::texts::{must_display, must_show};
 use std::alloc::AllocError;
+use v_frame::plane::CopyError;
 
 /// Copies of another length than six pixels, and their answers.
 static REFUSED: [(&[u8], &str); 3] = [
@@ -21,21 +21,41 @@ fn a_copy_of_another_length_changes_nothing(rt: HostRuntime) {
     let before = bordered_buffer([0; 6]);
     let mut frame = with_buffer::<u8>(&rt, rt.alloc(), BORDERED, &before);
     for (pixels, answer) in &REFUSED {
-        let refused = frame.y_plane.copy_from_slice(*pixels);
-        assert!(rt; shows(&rt, rt.alloc(), &refused, *answer), "{answer}");
+        must_show(
+            &rt,
+            rt.alloc(),
+            &frame.y_plane.copy_from_slice(*pixels),
+            *answer,
+        );
         assert!(rt; frame.y_plane.data() == before.as_slice());
     }
     assert!(rt; frame.y_plane.copy_from_slice(&[1, 2, 3, 4, 5, 6]).is_ok());
     let after = bordered_buffer([1, 2, 3, 4, 5, 6]);
-    assert!(rt; frame.y_plane.data() == after.as_slice());
-    assert!(rt; rows_are(&frame.y_plane, BORDERED, &after));
+    assert!(rt; has_buffer(&frame.y_plane, BORDERED, &after));
 }
+
+/// Refusals, and what they say.
+static ERRORS: [(CopyError, &str); 2] = [
+    (
+        CopyError::DataLength {
+            expected: 6,
+            found: 5,
+        },
+        "data length mismatch, expected 6, found 5",
+    ),
+    (
+        CopyError::InvalidStride {
+            stride: 3,
+            width: 2,
+        },
+        "provided stride 3 was less than the visible width 2",
+    ),
+];
 
 #[test]
 fn refused_copies_are_explained(rt: HostRuntime) {
-    assert!(rt; displays(&rt, rt.alloc(), &AllocError, "memory allocation failed"));
-    let wanted = "data length mismatch, expected 6, found 5";
-    assert!(rt; displays(&rt, rt.alloc(), &other_length(6, 5), wanted));
-    let wanted = "provided stride 3 was less than the visible width 2";
-    assert!(rt; displays(&rt, rt.alloc(), &short_stride(3, 2), wanted));
+    for (error, wanted) in &ERRORS {
+        must_display(&rt, rt.alloc(), error, *wanted);
+    }
+    must_display(&rt, rt.alloc(), &AllocError, "memory allocation failed");
 }

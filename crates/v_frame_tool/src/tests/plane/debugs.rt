@@ -2,7 +2,7 @@
 
 use crate::tests::support::frames::{Layout, with_buffer};
 use crate::tests::support::options::{holding, pair};
-use crate::tests::support::texts::shows;
+use crate::tests::support::texts::must_show;
 use v_frame::plane::{PlaneGeometry, PlaneRef};
 
 /// Layouts and buffers, and what planes of them show.
@@ -37,7 +37,7 @@ static PLANES: [(Layout, &[u8], &str); 4] = [
 fn a_plane_shows_five_entries_at_most_and_its_geometry(rt: HostRuntime) {
     for (layout, buffer, wanted) in &PLANES {
         let frame = with_buffer::<u8>(&rt, rt.alloc(), *layout, *buffer);
-        assert!(rt; shows(&rt, rt.alloc(), &frame.y_plane, *wanted), "{wanted}");
+        must_show(&rt, rt.alloc(), &frame.y_plane, *wanted);
     }
 }
 
@@ -54,8 +54,8 @@ const LENT: &str =
 #[test]
 fn options_and_a_lent_plane_show_the_same(rt: HostRuntime) {
     let plane = holding(&rt, rt.alloc(), pair(), &[Some(5), None]);
-    assert!(rt; shows(&rt, rt.alloc(), &plane, OPTIONS));
+    must_show(&rt, rt.alloc(), &plane, OPTIONS);
     let geometry = PlaneGeometry::unpadded(2, 1, 1, 1).expect(&rt, "a geometry");
     let plane = PlaneRef::new(geometry, [5u8, 6].as_slice()).expect(&rt, "a plane");
-    assert!(rt; shows(&rt, rt.alloc(), &plane, LENT));
+    must_show(&rt, rt.alloc(), &plane, LENT);
 }

@@ -19,15 +19,20 @@ fn is_new<T: Pixel>(rt: &impl Abort, alloc: Global, width: usize) -> bool {
     let plane = new_plane::<T>(rt, alloc, width);
     let stride = width.saturating_add(1);
     let size = (plane.width(), plane.height(), plane.geometry().stride());
-    let rows = plane.rows().all(|row| row.len() == width) && plane.rows().len() == 2;
-    let zeros = plane.data().iter().all(|entry| *entry == T::ZERO);
-    size == (width, 2, stride) && rows && zeros && plane.data().len() == stride.saturating_mul(4)
+    let mut is_right = size == (width, 2, stride) && plane.rows().len() == 2;
+    for row in plane.rows() {
+        is_right = row.len() == width && is_right;
+    }
+    for entry in plane.data() {
+        is_right = *entry == T::ZERO && is_right;
+    }
+    is_right && plane.data().len() == stride.saturating_mul(4)
 }
 
 #[test]
 fn planes_of_each_width_from_1_to_33_are_new(rt: HostRuntime) {
     for width in 1..34 {
-        assert!(rt; is_new::<u8>(&rt, rt.alloc(), width), "{width} bytes");
-        assert!(rt; is_new::<u16>(&rt, rt.alloc(), width), "{width} words");
+        let are_new = is_new::<u8>(&rt, rt.alloc(), width) && is_new::<u16>(&rt, rt.alloc(), width);
+        assert!(rt; are_new, "width {width}");
     }
 }

@@ -26,69 +26,88 @@ fn getters_tell_what_was_given(rt: HostRuntime) {
     assert!(rt; numbers_of(&unpadded) == [1920, 1080, 1920, 0, 0, 0, 0, 1, 1]);
 }
 
-/// Widths, heights, paddings left, right, top and bottom, and ratios that make no geometry: a size or a ratio is zero, or
-/// no `usize` holds the stride.
-static NONE: [([usize; 6], [u8; 2]); 9] = [
-    ([0, 1080, 40, 30, 20, 10], [1, 1]),
-    ([1920, 0, 40, 30, 20, 10], [1, 1]),
-    ([1920, 1080, 40, 30, 20, 10], [0, 1]),
-    ([1920, 1080, 40, 30, 20, 10], [1, 0]),
-    ([usize::MAX - 50, 1080, 30, 30, 0, 0], [1, 1]),
-    ([1, 1, usize::MAX, 0, 0, 0], [1, 1]),
-    ([1, 1, 0, usize::MAX, 0, 0], [1, 1]),
-    ([1, 1, usize::MAX, usize::MAX, 0, 0], [1, 1]),
-    ([1, 1, usize::MAX - 2, 2, 0, 0], [1, 1]),
-];
+/// The stride of a geometry, and the size of its buffer where there can be one.
+type Told = (usize, Option<usize>);
 
-/// The same with a geometry, its stride, and the size of the buffer where there can be one.
-static SOME: [([usize; 6], usize, Option<usize>); 4] = [
-    ([usize::MAX - 50, 1080, 25, 25, 0, 0], usize::MAX, None),
-    ([1, 1, usize::MAX - 1, 0, 0, 0], usize::MAX, None),
-    ([1, 1, usize::MAX - 2, 1, 0, 0], usize::MAX, None),
-    ([1, usize::MAX, 0, 0, usize::MAX, usize::MAX], 1, None),
+/// What a geometry tells, where it is one.
+fn told(geometry: Option<PlaneGeometry>) -> Option<Told> {
+    match geometry {
+        Some(geometry) => Some((geometry.stride(), geometry.checked_alloc_size())),
+        None => None,
+    }
+}
+
+/// Widths, heights, paddings left, right, top and bottom, and ratios, with what their geometry tells. There is none where a
+/// size or a ratio is zero, or no `usize` holds the stride.
+static PADDED: [([usize; 6], [u8; 2], Option<Told>); 13] = [
+    ([0, 1080, 40, 30, 20, 10], [1, 1], None),
+    ([1920, 0, 40, 30, 20, 10], [1, 1], None),
+    ([1920, 1080, 40, 30, 20, 10], [0, 1], None),
+    ([1920, 1080, 40, 30, 20, 10], [1, 0], None),
+    ([usize::MAX - 50, 1080, 30, 30, 0, 0], [1, 1], None),
+    ([1, 1, usize::MAX, 0, 0, 0], [1, 1], None),
+    ([1, 1, 0, usize::MAX, 0, 0], [1, 1], None),
+    ([1, 1, usize::MAX, usize::MAX, 0, 0], [1, 1], None),
+    ([1, 1, usize::MAX - 2, 2, 0, 0], [1, 1], None),
+    (
+        [usize::MAX - 50, 1080, 25, 25, 0, 0],
+        [1, 1],
+        Some((usize::MAX, None)),
+    ),
+    (
+        [1, 1, usize::MAX - 1, 0, 0, 0],
+        [1, 1],
+        Some((usize::MAX, None)),
+    ),
+    (
+        [1, 1, usize::MAX - 2, 1, 0, 0],
+        [1, 1],
+        Some((usize::MAX, None)),
+    ),
+    (
+        [1, usize::MAX, 0, 0, usize::MAX, usize::MAX],
+        [1, 1],
+        Some((1, None)),
+    ),
 ];
 
 #[test]
 fn strides_are_as_large_as_numbers_go(rt: HostRuntime) {
-    for (sizes, [x, y]) in &NONE {
-        let [width, height, left, right, top, bottom] = *sizes;
-        let none = PlaneGeometry::new(width, height, left, right, top, bottom, *x, *y);
-        assert!(rt; none.is_none(), "{width} by {height}");
-    }
-    for (sizes, stride, size) in &SOME {
-        let [width, height, left, right, top, bottom] = *sizes;
-        let geometry = PlaneGeometry::new(width, height, left, right, top, bottom, 1, 1);
-        let geometry = geometry.expect(&rt, "a geometry");
-        let told = (geometry.stride(), geometry.checked_alloc_size());
-        assert!(rt; told == (*stride, *size), "{width} by {height}");
+    for ([width, height, left, right, top, bottom], [x, y], wanted) in &PADDED {
+        let geometry = PlaneGeometry::new(*width, *height, *left, *right, *top, *bottom, *x, *y);
+        assert!(rt; told(geometry) == *wanted, "{width} by {height}");
     }
 }
 
-/// Sizes of planes without a border, with the size of the buffer where there can be one. The product of the third is two
-/// to the power of 64, and no `usize` holds it.
-static UNPADDED: [(usize, usize, Option<usize>); 5] = [
-    (4611686018427387903, 1, Some(4611686018427387903)),
-    (4611686018427387904, 1, None),
-    (4294967296, 4294967296, None),
-    (2147483648, 2147483648, None),
-    (2147483648, 2147483647, Some(4611686016279904256)),
+/// The same of planes without a border. The product of the third is two to the power of 64, and no `usize` holds it.
+static UNPADDED: [([usize; 2], [u8; 2], Option<Told>); 9] = [
+    (
+        [4611686018427387903, 1],
+        [1, 1],
+        Some((4611686018427387903, Some(4611686018427387903))),
+    ),
+    (
+        [4611686018427387904, 1],
+        [1, 1],
+        Some((4611686018427387904, None)),
+    ),
+    ([4294967296, 4294967296], [1, 1], Some((4294967296, None))),
+    ([2147483648, 2147483648], [1, 1], Some((2147483648, None))),
+    (
+        [2147483648, 2147483647],
+        [1, 1],
+        Some((2147483648, Some(4611686016279904256))),
+    ),
+    ([0, 1080], [1, 1], None),
+    ([1920, 0], [1, 1], None),
+    ([1920, 1080], [0, 1], None),
+    ([1920, 1080], [1, 0], None),
 ];
 
 #[test]
 fn buffers_are_as_large_as_numbers_go(rt: HostRuntime) {
-    for (width, height, size) in &UNPADDED {
-        let geometry = PlaneGeometry::unpadded(*width, *height, 1, 1).expect(&rt, "a geometry");
-        assert!(rt;
-            geometry.checked_alloc_size() == *size,
-            "{width} by {height}"
-        );
-    }
-    for (width, height, x, y) in [
-        (0, 1080, 1, 1),
-        (1920, 0, 1, 1),
-        (1920, 1080, 0, 1),
-        (1920, 1080, 1, 0),
-    ] {
-        assert!(rt; PlaneGeometry::unpadded(width, height, x, y).is_none());
+    for ([width, height], [x, y], wanted) in &UNPADDED {
+        let geometry = PlaneGeometry::unpadded(*width, *height, *x, *y);
+        assert!(rt; told(geometry) == *wanted, "{width} by {height}");
     }
 }

@@ -1,26 +1,33 @@
 //! Iterators over the rows, the pixels and the bytes of planes.
 
 use crate::tests::support::frames::{counted, with_buffer, zeros};
-use crate::tests::support::texts::shows;
+use crate::tests::support::texts::must_show;
+use std::alloc::Global;
+use std::process::Abort;
+
+/// How many rows and how many pixels the iterators of a plane of this size give.
+fn counts(rt: &impl Abort, alloc: Global, width: usize, height: usize) -> (usize, usize) {
+    let frame = zeros::<u8>(rt, alloc, (width, height, [0; 4]));
+    let plane = &frame.y_plane;
+    (plane.rows().count(), plane.pixels().count())
+}
 
 #[test]
 fn iterators_are_as_long_as_the_plane(rt: HostRuntime) {
-    let small = zeros::<u8>(&rt, rt.alloc(), (10, 5, [0; 4]));
-    assert!(rt; small.y_plane.rows().count() == 5);
-    let large = zeros::<u8>(&rt, rt.alloc(), (1920, 1080, [0; 4]));
-    assert!(rt; large.y_plane.pixels().count() == 2073600);
+    assert!(rt; counts(&rt, rt.alloc(), 10, 5) == (5, 50));
+    assert!(rt; counts(&rt, rt.alloc(), 1920, 1080) == (1080, 2073600));
 }
 
 #[test]
 fn iterators_show_what_is_left(rt: HostRuntime) {
     let frame = counted(&rt, rt.alloc());
     let plane = &frame.y_plane;
-    assert!(rt; shows(&rt, rt.alloc(), &plane.rows(), "[[1, 2, 3], [4, 5, 6]]"));
-    assert!(rt; shows(&rt, rt.alloc(), &plane.pixels(), "[1, 2, 3, 4, 5, 6]"));
+    must_show(&rt, rt.alloc(), &plane.rows(), "[[1, 2, 3], [4, 5, 6]]");
+    must_show(&rt, rt.alloc(), &plane.pixels(), "[1, 2, 3, 4, 5, 6]");
     let mut bytes = plane.byte_data();
     assert!(rt; bytes.next_back() == Some(6));
     let copy = bytes.clone().expect(&rt, "memory");
-    assert!(rt; shows(&rt, rt.alloc(), &copy, "[1, 2, 3, 4, 5]"));
+    must_show(&rt, rt.alloc(), &copy, "[1, 2, 3, 4, 5]");
 }
 
 #[test]

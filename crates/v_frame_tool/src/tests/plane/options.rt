@@ -3,23 +3,26 @@
 //! Where a test says what a refusal leaves, `rt try --test --fail-alloc N` takes it there, as in the refusals of replays.
 
 use crate::tests::support::frames::with_buffer;
-use crate::tests::support::options::{holding, pair, vacant, values_of};
+use crate::tests::support::options::{five_and_six, holding, pair, vacant, values_of};
 use std::alloc::Global;
 use std::process::Abort;
 use v_frame::plane::{Plane, PlaneGeometry};
+
+/// Whether both places of a plane hold a value, where these are the entries.
+fn is_filled(rt: &impl Abort, alloc: Global, entries: [Option<u8>; 2]) -> bool {
+    holding(rt, alloc, pair(), &entries).is_init()
+}
 
 #[test]
 fn options_that_are_filled_become_values(rt: HostRuntime) {
     let fresh = vacant::<u8>(&rt, rt.alloc(), pair());
     assert!(rt; !fresh.is_init() && fresh.data() == [None; 2].as_slice());
-    for entries in [[None, None], [Some(5), None], [None, Some(6)]] {
-        let plane = holding(&rt, rt.alloc(), pair(), &entries);
-        assert!(rt; !plane.is_init());
-    }
-    let plane = holding(&rt, rt.alloc(), pair(), &[Some(5), Some(6)]);
-    assert!(rt; plane.is_init());
-    let plane = values_of(&rt, rt.alloc(), plane);
-    assert!(rt; plane.data() == [5, 6].as_slice());
+    assert!(rt; !is_filled(&rt, rt.alloc(), [None, None]));
+    assert!(rt; !is_filled(&rt, rt.alloc(), [Some(5), None]));
+    assert!(rt; !is_filled(&rt, rt.alloc(), [None, Some(6)]));
+    assert!(rt; is_filled(&rt, rt.alloc(), [Some(5), Some(6)]));
+    let values = five_and_six(&rt, rt.alloc());
+    assert!(rt; values.data() == [5, 6].as_slice());
 }
 
 #[test]

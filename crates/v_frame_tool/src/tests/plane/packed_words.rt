@@ -3,11 +3,13 @@
 use crate::tests::support::buffers::holds;
 use crate::tests::support::bytes::{stepped, stepped_words};
 use crate::tests::support::frames::numbered;
+use std::alloc::Global;
+use std::process::Abort;
 
 /// Widths, with the first pixel of the second row and its last one.
 ///
 /// Byte j of the source is 37 j + 11 in one byte, and pixel i has the bytes 2 i and 2 i + 1, the low one first.
-const WIDTHS: [(usize, u16, u16); 11] = [
+static WIDTHS: [(usize, u16, u16); 11] = [
     (16, 0xD0AB, 0x2601),
     (17, 0x1AF5, 0xBA95),
     (18, 0x643F, 0x4E29),
@@ -21,18 +23,24 @@ const WIDTHS: [(usize, u16, u16); 11] = [
     (65, 0xFAD5, 0x7A55),
 ];
 
+/// Stops the test where words are not copied, or an entry of a numbered border changes.
+fn check_packed(rt: &impl Abort, alloc: Global, (width, below, last): (usize, u16, u16)) {
+    let layout = (width, 2, [3, 1, 1, 0]);
+    let mut frame = numbered::<u16>(rt, alloc, layout);
+    let plane = &mut frame.y_plane;
+    let bytes = stepped(rt, alloc, 11, 37, width.saturating_mul(4));
+    let copied = plane.copy_from_u8_slice(bytes.as_slice());
+    let above = (plane.pixel(0, 0), plane.pixel(15, 0));
+    let ends = (plane.pixel(0, 1), plane.pixels().next_back());
+    assert!(rt; copied.is_ok() && above == (Some(0x300B), Some(0x8661)));
+    assert!(rt; ends == (Some(below), Some(last)), "{width} pixels");
+    let words = stepped_words(rt, alloc, 11, 37, width.saturating_mul(2));
+    assert!(rt; holds(rt, alloc, plane, layout, words.as_slice()));
+}
+
 #[test]
 fn packed_words_of_each_width_leave_a_numbered_border(rt: HostRuntime) {
-    for (width, below, last) in WIDTHS {
-        let layout = (width, 2, [3, 1, 1, 0]);
-        let mut plane = numbered::<u16>(&rt, rt.alloc(), layout).y_plane;
-        let bytes = stepped(&rt, rt.alloc(), 11, 37, width.saturating_mul(4));
-        let copied = plane.copy_from_u8_slice(bytes.as_slice());
-        let above = (plane.pixel(0, 0), plane.pixel(15, 0));
-        let ends = (plane.pixel(0, 1), plane.pixels().next_back());
-        assert!(rt; copied.is_ok() && above == (Some(0x300B), Some(0x8661)));
-        assert!(rt; ends == (Some(below), Some(last)), "{width} pixels");
-        let words = stepped_words(&rt, rt.alloc(), 11, 37, width.saturating_mul(2));
-        assert!(rt; holds(&rt, rt.alloc(), &plane, layout, words.as_slice()));
+    for width in &WIDTHS {
+        check_packed(&rt, rt.alloc(), *width);
     }
 }

@@ -2,7 +2,7 @@
 
 use crate::tests::support::buffers::{buffer_in_200, holds};
 use crate::tests::support::frames::{Layout, counted, in_200, numbered, with_buffer};
-use crate::tests::support::texts::shows;
+use crate::tests::support::texts::must_show;
 use v_frame::laws;
 use v_frame::replay::Side::{self, Back, Front};
 
@@ -10,25 +10,25 @@ use v_frame::replay::Side::{self, Back, Front};
 static ROW_SIDES: [Side; 3] = [Back, Front, Front];
 
 /// What they give of the rows 1, 2, 3 and 4, 5, 6.
-const ROWS: &str = "[Drawn { item: Some([4, 5, 6]), left: 1 }, \
-     Drawn { item: Some([1, 2, 3]), left: 0 }, Drawn { item: None, left: 0 }]";
+const ROWS: &str = "Ok([Drawn { item: Some([4, 5, 6]), left: 1 }, \
+     Drawn { item: Some([1, 2, 3]), left: 0 }, Drawn { item: None, left: 0 }])";
 
 /// By turns, and a call more than there are pixels.
 static PIXEL_SIDES: [Side; 7] = [Front, Back, Front, Back, Front, Back, Front];
 
 /// What they give of the pixels 1 to 6.
-const PIXELS: &str = "[Drawn { item: Some(1), left: 5 }, Drawn { item: Some(6), left: 4 }, \
+const PIXELS: &str = "Ok([Drawn { item: Some(1), left: 5 }, Drawn { item: Some(6), left: 4 }, \
      Drawn { item: Some(2), left: 3 }, Drawn { item: Some(5), left: 2 }, \
      Drawn { item: Some(3), left: 1 }, Drawn { item: Some(4), left: 0 }, \
-     Drawn { item: None, left: 0 }]";
+     Drawn { item: None, left: 0 }])";
 
 #[test]
 fn rows_and_pixels_end_past_the_last(rt: HostRuntime) {
     let frame = counted(&rt, rt.alloc());
     let rows = laws::rows_are_drawn_once(rt.alloc(), &frame.y_plane, &ROW_SIDES);
-    assert!(rt; shows(&rt, rt.alloc(), &rows.expect(&rt, "memory"), ROWS));
+    must_show(&rt, rt.alloc(), &rows, ROWS);
     let pixels = laws::pixels_are_drawn_once(rt.alloc(), &frame.y_plane, &PIXEL_SIDES);
-    assert!(rt; shows(&rt, rt.alloc(), &pixels.expect(&rt, "memory"), PIXELS));
+    must_show(&rt, rt.alloc(), &pixels, PIXELS);
 }
 
 #[test]
@@ -38,9 +38,9 @@ fn iterators_that_write_nothing_leave_the_buffer(rt: HostRuntime) {
     drop(plane.rows_mut());
     drop(plane.pixels_mut());
     let rows = laws::lent_rows_are_drawn_once(rt.alloc(), plane, &ROW_SIDES);
-    assert!(rt; shows(&rt, rt.alloc(), &rows.expect(&rt, "memory"), ROWS));
+    must_show(&rt, rt.alloc(), &rows, ROWS);
     let pixels = laws::lent_pixels_are_drawn_once(rt.alloc(), plane, &PIXEL_SIDES);
-    assert!(rt; shows(&rt, rt.alloc(), &pixels.expect(&rt, "memory"), PIXELS));
+    must_show(&rt, rt.alloc(), &pixels, PIXELS);
     let wanted = buffer_in_200([1, 2, 3, 4, 5, 6]);
     assert!(rt; frame.y_plane.data() == wanted.as_slice());
 }
@@ -52,35 +52,37 @@ const TALL: Layout = (2, 5, [1, 2, 1, 1]);
 static TALL_SIDES: [Side; 7] = [Back, Front, Front, Back, Back, Front, Back];
 
 /// What they give of the rows 1, 2 to 9, 10.
-const TALL_ROWS: &str = "[Drawn { item: Some([9, 10]), left: 4 }, \
+const TALL_ROWS: &str = "Ok([Drawn { item: Some([9, 10]), left: 4 }, \
      Drawn { item: Some([1, 2]), left: 3 }, Drawn { item: Some([3, 4]), left: 2 }, \
      Drawn { item: Some([7, 8]), left: 1 }, Drawn { item: Some([5, 6]), left: 0 }, \
-     Drawn { item: None, left: 0 }, Drawn { item: None, left: 0 }]";
+     Drawn { item: None, left: 0 }, Drawn { item: None, left: 0 }])";
 
 /// What seven calls by turns give of the pixels 1 to 10.
-const TALL_PIXELS: &str = "[Drawn { item: Some(1), left: 9 }, Drawn { item: Some(10), left: 8 }, \
+const TALL_PIXELS: &str =
+    "Ok([Drawn { item: Some(1), left: 9 }, Drawn { item: Some(10), left: 8 }, \
      Drawn { item: Some(2), left: 7 }, Drawn { item: Some(9), left: 6 }, \
      Drawn { item: Some(3), left: 5 }, Drawn { item: Some(8), left: 4 }, \
-     Drawn { item: Some(4), left: 3 }]";
+     Drawn { item: Some(4), left: 3 }])";
 
 #[test]
 fn seven_calls_on_five_rows_leave_a_numbered_border(rt: HostRuntime) {
     let ten = [1, 2, 3, 4, 5, 6, 7, 8, 9, 10];
-    let mut plane = numbered::<u8>(&rt, rt.alloc(), TALL).y_plane;
+    let mut frame = numbered::<u8>(&rt, rt.alloc(), TALL);
+    let plane = &mut frame.y_plane;
     assert!(rt; plane.copy_from_slice(&ten).is_ok());
-    let rows = laws::rows_are_drawn_once(rt.alloc(), &plane, &TALL_SIDES);
-    assert!(rt; shows(&rt, rt.alloc(), &rows.expect(&rt, "memory"), TALL_ROWS));
-    let rows = laws::lent_rows_are_drawn_once(rt.alloc(), &mut plane, &TALL_SIDES);
-    assert!(rt; shows(&rt, rt.alloc(), &rows.expect(&rt, "memory"), TALL_ROWS));
-    let pixels = laws::lent_pixels_are_drawn_once(rt.alloc(), &mut plane, &PIXEL_SIDES);
-    assert!(rt; shows(&rt, rt.alloc(), &pixels.expect(&rt, "memory"), TALL_PIXELS));
-    assert!(rt; holds(&rt, rt.alloc(), &plane, TALL, &ten));
+    let rows = laws::rows_are_drawn_once(rt.alloc(), plane, &TALL_SIDES);
+    must_show(&rt, rt.alloc(), &rows, TALL_ROWS);
+    let rows = laws::lent_rows_are_drawn_once(rt.alloc(), plane, &TALL_SIDES);
+    must_show(&rt, rt.alloc(), &rows, TALL_ROWS);
+    let pixels = laws::lent_pixels_are_drawn_once(rt.alloc(), plane, &PIXEL_SIDES);
+    must_show(&rt, rt.alloc(), &pixels, TALL_PIXELS);
+    assert!(rt; holds(&rt, rt.alloc(), plane, TALL, &ten));
 }
 
 /// What calls give of the bytes of the words 0x0102 and 0x0304.
-const BYTES: &str = "[Drawn { item: Some(3), left: 3 }, Drawn { item: Some(2), left: 2 }, \
+const BYTES: &str = "Ok([Drawn { item: Some(3), left: 3 }, Drawn { item: Some(2), left: 2 }, \
      Drawn { item: Some(1), left: 1 }, Drawn { item: Some(4), left: 0 }, \
-     Drawn { item: None, left: 0 }]";
+     Drawn { item: None, left: 0 }])";
 
 #[test]
 fn bytes_end_past_the_last(rt: HostRuntime) {
@@ -88,5 +90,5 @@ fn bytes_end_past_the_last(rt: HostRuntime) {
     let frame = with_buffer::<u16>(&rt, rt.alloc(), (2, 1, [0; 4]), &words);
     let sides = [Back, Front, Front, Back, Back];
     let bytes = laws::bytes_are_drawn_once(rt.alloc(), &frame.y_plane, &sides);
-    assert!(rt; shows(&rt, rt.alloc(), &bytes.expect(&rt, "memory"), BYTES));
+    must_show(&rt, rt.alloc(), &bytes, BYTES);
 }

@@ -1,7 +1,7 @@
 //! Geometries of chroma planes: paddings are divided as sizes are, and what is odd has no half.
 
 use std::process::Abort;
-use v_frame::chroma::ChromaSubsampling::{Monochrome, Yuv411, Yuv420, Yuv422, Yuv444};
+use v_frame::chroma::ChromaSubsampling::{self, Monochrome, Yuv411, Yuv420, Yuv422, Yuv444};
 use v_frame::plane::{PlaneGeometry, SubsamplingError};
 
 /// The width and the height, the paddings left, right, top and bottom, and the ratios.
@@ -33,51 +33,54 @@ const QUARTERED: Shape = ([960, 540], [20, 16, 10, 5], [2, 2]);
 /// A plane whose ratios are set already.
 const SMALL: Shape = ([8, 8], [0; 4], [2, 2]);
 
+/// Planes, a format, and the chroma of it.
+static DIVIDED: [(Shape, ChromaSubsampling, Shape); 7] = [
+    (EVEN, Yuv444, EVEN),
+    (EVEN, Yuv422, ([960, 1080], [20, 15, 20, 10], [2, 1])),
+    (EVEN, Yuv420, HALVED),
+    (ODD_BELOW, Yuv422, ([960, 1080], [5, 5, 40, 15], [2, 1])),
+    (QUARTERED, Yuv411, ([240, 540], [5, 4, 10, 5], [4, 1])),
+    (SMALL, Yuv422, ([4, 8], [0; 4], [2, 1])),
+    (SMALL, Yuv444, SMALL),
+];
+
 #[test]
 fn sizes_and_paddings_are_divided(rt: HostRuntime) {
-    let cases = [
-        (EVEN, Yuv444, EVEN),
-        (EVEN, Yuv422, ([960, 1080], [20, 15, 20, 10], [2, 1])),
-        (EVEN, Yuv420, HALVED),
-        (ODD_BELOW, Yuv422, ([960, 1080], [5, 5, 40, 15], [2, 1])),
-        (QUARTERED, Yuv411, ([240, 540], [5, 4, 10, 5], [4, 1])),
-        (SMALL, Yuv422, ([4, 8], [0; 4], [2, 1])),
-        (SMALL, Yuv444, SMALL),
-    ];
-    for (luma, format, chroma) in cases {
-        let wanted = geometry(&rt, chroma);
-        let found = geometry(&rt, luma).for_subsampling(format);
-        assert!(rt; found == Ok(Some(wanted)), "{luma:?} {format:?}");
+    for (number, (luma, format, chroma)) in DIVIDED.iter().enumerate() {
+        let found = geometry(&rt, *luma).for_subsampling(*format);
+        assert!(rt; found == Ok(Some(geometry(&rt, *chroma))), "case {number}");
     }
     assert!(rt; geometry(&rt, HALVED).stride() == 995);
     let wide = geometry(&rt, ([960, 1080], [20, 15, 20, 10], [2, 1]));
     assert!(rt; wide.stride() == 995);
 }
 
+/// Planes, and whether each has a chroma in 4:2:0, in 4:2:2 and in 4:1:1.
+static HALVES: [(Shape, [bool; 3]); 7] = [
+    (EVEN, [true, true, false]),
+    (([1921, 1080], [0; 4], [1, 1]), [false; 3]),
+    (([17, 41], [0; 4], [1, 1]), [false; 3]),
+    (([1920, 1080], [10, 7, 40, 20], [1, 1]), [false; 3]),
+    (([1920, 1081], [0; 4], [1, 1]), [false, true, true]),
+    (ODD_BELOW, [false, true, false]),
+    (HALVED, [false, false, false]),
+];
+
+/// Whether this plane has a chroma in 4:2:0, in 4:2:2 and in 4:1:1.
+fn halves_of(luma: &PlaneGeometry) -> [bool; 3] {
+    [
+        luma.for_subsampling(Yuv420) != Err(SubsamplingError),
+        luma.for_subsampling(Yuv422) != Err(SubsamplingError),
+        luma.for_subsampling(Yuv411) != Err(SubsamplingError),
+    ]
+}
+
 #[test]
 fn odd_sizes_and_paddings_have_no_half(rt: HostRuntime) {
-    let (wide, small, high) = ([1921, 1080], [17, 41], [1920, 1081]);
-    let odd_right = ([1920, 1080], [10, 7, 40, 20], [1, 1]);
-    let halves = [Yuv420, Yuv422, Yuv411];
-    let cases = [
-        (EVEN, [true, true, false]),
-        ((wide, [0; 4], [1, 1]), [false; 3]),
-        ((small, [0; 4], [1, 1]), [false; 3]),
-        (odd_right, [false; 3]),
-        ((high, [0; 4], [1, 1]), [false, true, true]),
-        (ODD_BELOW, [false, true, false]),
-        (HALVED, [false, false, false]),
-    ];
-    for (shape, divided) in cases {
-        let luma = geometry(&rt, shape);
-        for (format, is_divided) in halves.into_iter().zip(divided) {
-            let chroma = luma.for_subsampling(format);
-            assert!(rt;
-                (chroma == Err(SubsamplingError)) != is_divided,
-                "{shape:?} {format:?}"
-            );
-        }
-        assert!(rt; luma.for_subsampling(Yuv444) == Ok(Some(luma)), "{shape:?}");
-        assert!(rt; luma.for_subsampling(Monochrome) == Ok(None), "{shape:?}");
+    for (number, (shape, halves)) in HALVES.iter().enumerate() {
+        let luma = geometry(&rt, *shape);
+        let is_whole = luma.for_subsampling(Yuv444) == Ok(Some(luma))
+            && luma.for_subsampling(Monochrome) == Ok(None);
+        assert!(rt; halves_of(&luma) == *halves && is_whole, "case {number}");
     }
 }

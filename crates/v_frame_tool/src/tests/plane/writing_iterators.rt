@@ -1,7 +1,9 @@
 //! Iterators that lend rows and pixels of a plane for writing.
 
 use crate::tests::support::buffers::{bordered_buffer, buffer_in_200, holds};
-use crate::tests::support::frames::{BARE, counted, in_200, numbered, zeros};
+use crate::tests::support::frames::{BARE, Layout, counted, in_200, numbered, zeros};
+use std::alloc::Global;
+use std::process::Abort;
 use v_frame::plane::Plane;
 
 /// What a lent pixel holds, which is replaced by this value.
@@ -45,30 +47,33 @@ fn gives_its_pixels(plane: &mut Plane<u8>) -> bool {
 #[test]
 fn a_padded_plane_is_written_call_by_call(rt: HostRuntime) {
     let written = [1, 7, 3, 4, 5, 9];
-    let mut plane = in_200(&rt, rt.alloc()).y_plane;
-    assert!(rt; gives_its_pixels(&mut plane));
-    assert!(rt; plane.data() == buffer_in_200(written).as_slice());
-    let mut numbered = counted(&rt, rt.alloc()).y_plane;
-    assert!(rt; gives_its_pixels(&mut numbered));
-    assert!(rt; numbered.data() == bordered_buffer(written).as_slice());
+    let mut frame = in_200(&rt, rt.alloc());
+    assert!(rt; gives_its_pixels(&mut frame.y_plane));
+    assert!(rt; frame.y_plane.data() == buffer_in_200(written).as_slice());
+    let mut frame = counted(&rt, rt.alloc());
+    assert!(rt; gives_its_pixels(&mut frame.y_plane));
+    assert!(rt; frame.y_plane.data() == bordered_buffer(written).as_slice());
+}
+
+/// Stops the test where the pixels of a numbered plane are not counted up, or its border does not stay.
+fn check_counted(rt: &impl Abort, alloc: Global, layout: Layout, wanted: &[u8]) {
+    let mut frame = numbered(rt, alloc, layout);
+    count_up(&mut frame.y_plane);
+    let pixels: Vec<u8> = frame.y_plane.pixels().collect(alloc).expect(rt, "memory");
+    assert!(rt; pixels.as_slice() == wanted);
+    assert!(rt; holds(rt, alloc, &frame.y_plane, layout, wanted));
 }
 
 #[test]
 fn filled_pixels_are_read_back(rt: HostRuntime) {
-    let cases = [
-        (
-            (4, 3, [2, 2, 1, 1]),
-            [0, 1, 2, 3, 4, 5, 6, 7, 8, 9, 10, 11].as_slice(),
-        ),
-        ((2, 3, [0, 0, 0, 0]), [0, 1, 2, 3, 4, 5].as_slice()),
-    ];
-    for (layout, wanted) in cases {
-        let mut plane = numbered(&rt, rt.alloc(), layout).y_plane;
-        count_up(&mut plane);
-        let pixels: Vec<u8> = plane.pixels().collect(rt.alloc()).expect(&rt, "memory");
-        assert!(rt; pixels.as_slice() == wanted);
-        assert!(rt; holds(&rt, rt.alloc(), &plane, layout, wanted));
-    }
+    let padded = (4, 3, [2, 2, 1, 1]);
+    check_counted(
+        &rt,
+        rt.alloc(),
+        padded,
+        &[0, 1, 2, 3, 4, 5, 6, 7, 8, 9, 10, 11],
+    );
+    check_counted(&rt, rt.alloc(), (2, 3, [0; 4]), &[0, 1, 2, 3, 4, 5]);
 }
 
 /// Six calls by turns, of which the last is of `next` too, and then one of each.
@@ -83,15 +88,15 @@ fn from_both_ends(plane: &Plane<u8>) -> [(Option<u8>, Option<u8>); 4] {
 
 #[test]
 fn filled_pixels_are_read_back_from_both_ends(rt: HostRuntime) {
-    let mut plane = zeros(&rt, rt.alloc(), BARE).y_plane;
-    count_up(&mut plane);
+    let mut frame = zeros(&rt, rt.alloc(), BARE);
+    count_up(&mut frame.y_plane);
     let wanted = [
         (Some(0), Some(5)),
         (Some(1), Some(4)),
         (Some(2), Some(3)),
         (None, None),
     ];
-    assert!(rt; from_both_ends(&plane) == wanted);
+    assert!(rt; from_both_ends(&frame.y_plane) == wanted);
 }
 
 /// Fills three rows, the last of them second: how many were left before and, but for one, after that.
@@ -120,16 +125,20 @@ fn rows_from_both_ends(plane: &Plane<u8>) -> [Option<[u8; 3]>; 3] {
     [three_of(first), three_of(last), three_of(second)]
 }
 
+/// Stops the test where three rows of three pixels are not filled, or their border does not stay.
+fn check_filled(rt: &impl Abort, alloc: Global, padding: [usize; 4]) {
+    let layout = (3, 3, padding);
+    let mut frame = numbered(rt, alloc, layout);
+    let plane = &mut frame.y_plane;
+    assert!(rt; fill_three_rows(plane) == (3, (3, Some(3)), 1));
+    assert!(rt; holds(rt, alloc, plane, layout, &[1, 1, 1, 2, 2, 2, 3, 3, 3]));
+    assert!(rt; rows_from_both_ends(plane) == [Some([1; 3]), Some([3; 3]), Some([2; 3])]);
+}
+
 #[test]
 fn rows_are_filled_from_both_ends(rt: HostRuntime) {
-    let filled = [1, 1, 1, 2, 2, 2, 3, 3, 3];
-    for padding in [[0, 0, 0, 0], [1, 2, 1, 1]] {
-        let layout = (3, 3, padding);
-        let mut plane = numbered(&rt, rt.alloc(), layout).y_plane;
-        assert!(rt; fill_three_rows(&mut plane) == (3, (3, Some(3)), 1));
-        assert!(rt; holds(&rt, rt.alloc(), &plane, layout, &filled));
-        assert!(rt; rows_from_both_ends(&plane) == [Some([1; 3]), Some([3; 3]), Some([2; 3])]);
-    }
+    check_filled(&rt, rt.alloc(), [0, 0, 0, 0]);
+    check_filled(&rt, rt.alloc(), [1, 2, 1, 1]);
 }
 
 /// What four pixels held, the last of them taken second, which are replaced.
@@ -144,7 +153,7 @@ fn fill_four_pixels(plane: &mut Plane<u8>) -> [Option<u8>; 4] {
 
 #[test]
 fn pixels_are_filled_from_both_ends(rt: HostRuntime) {
-    let mut plane = zeros(&rt, rt.alloc(), (2, 2, [0, 0, 0, 0])).y_plane;
-    let held = fill_four_pixels(&mut plane);
-    assert!(rt; held == [Some(0); 4] && plane.data() == [10, 20, 30, 40].as_slice());
+    let mut frame = zeros(&rt, rt.alloc(), (2, 2, [0, 0, 0, 0]));
+    assert!(rt; fill_four_pixels(&mut frame.y_plane) == [Some(0); 4]);
+    assert!(rt; frame.y_plane.data() == [10, 20, 30, 40].as_slice());
 }

@@ -4,7 +4,7 @@ use crate::tests::support::calls::Call::{
     self, Bytes, CopyPixels, PixelsMut, RowMut, RowsMut, Width,
 };
 use crate::tests::support::calls::visible;
-use crate::tests::support::texts::shows;
+use crate::tests::support::texts::must_show;
 use v_frame::replay::Side::{Back, Front};
 use v_frame::replay::{Answer, ReplayStopped};
 
@@ -34,7 +34,7 @@ static CALLS: [(Call<'static, u8>, &str); 6] = [
 fn calls_show_what_they_name(rt: HostRuntime) {
     for (call, wanted) in &CALLS {
         let call = visible(&rt, rt.alloc(), call);
-        assert!(rt; shows(&rt, rt.alloc(), &call, *wanted), "{wanted}");
+        must_show(&rt, rt.alloc(), &call, *wanted);
     }
 }
 
@@ -45,5 +45,5 @@ fn a_stopped_replay_shows_what_was_answered(rt: HostRuntime) {
         done: done.expect(&rt, "memory").into(),
     };
     let wanted = "ReplayStopped { done: [Number(3), NoPlane] }";
-    assert!(rt; shows(&rt, rt.alloc(), &stopped, wanted));
+    must_show(&rt, rt.alloc(), &stopped, wanted);
 }

@@ -8,21 +8,23 @@ use crate::tests::support::calls::Call::{
     Bytes, CopyStrided, PixelMut, Pixels, PixelsMut, Row, RowMut, RowsMut, Width,
 };
 use crate::tests::support::frames::{BORDERED, Layout, numbered, padded};
-use crate::tests::support::texts::shows;
+use crate::tests::support::texts::must_show;
 use std::alloc::Global;
 use std::process::Abort;
 use v_frame::chroma::ChromaSubsampling::Yuv422;
 use v_frame::frame::Frame;
 use v_frame::laws;
+use v_frame::plane::Plane;
+use v_frame::replay::Answer;
 use v_frame::replay::Side::{Back, Front};
 
 /// The answers where two rows of four bytes, each with a tail of one, are copied and read from the front, a call for each
 /// byte.
-const WITHOUT_TAILS: &str = "[Copied(Ok(())), BytesWalked { total: 8, drawn: [\
+const WITHOUT_TAILS: &str = "Ok([Copied(Ok(())), BytesWalked { total: 8, drawn: [\
      Drawn { item: Some(2), left: 7 }, Drawn { item: Some(1), left: 6 }, \
      Drawn { item: Some(4), left: 5 }, Drawn { item: Some(3), left: 4 }, \
      Drawn { item: Some(6), left: 3 }, Drawn { item: Some(5), left: 2 }, \
-     Drawn { item: Some(8), left: 1 }, Drawn { item: Some(7), left: 0 }] }]";
+     Drawn { item: Some(8), left: 1 }, Drawn { item: Some(7), left: 0 }] }])";
 
 #[test]
 fn words_go_through_a_frame(rt: HostRuntime) {
@@ -35,8 +37,7 @@ fn words_go_through_a_frame(rt: HostRuntime) {
         5,
         sides,
     );
-    let answers = answers.expect(&rt, "memory");
-    assert!(rt; shows(&rt, rt.alloc(), &answers, WITHOUT_TAILS));
+    must_show(&rt, rt.alloc(), &answers, WITHOUT_TAILS);
 }
 
 /// The pixels 1 to 6 in a numbered border, of a layout that has three columns and two rows.
@@ -84,10 +85,17 @@ static NINE: [Step<'static, u8>; 9] = [
     (Row(0, 0), "RowShown(Some([30, 8, 7]))"),
 ];
 
+/// Stops the test where the nine calls are answered otherwise, or other pixels or another border are left.
+fn check_nine(rt: &impl Abort, alloc: Global, answers: &[Answer<u8>], left: (&Plane<u8>, Layout)) {
+    let (plane, layout) = left;
+    assert!(rt; are_told(rt, alloc, answers, &NINE) == 9);
+    assert!(rt; holds(rt, alloc, plane, layout, &[30, 8, 7, 6, 5, 4]));
+}
+
 #[test]
 fn frames_that_show_the_same_answer_nine_calls_and_keep_their_borders(rt: HostRuntime) {
-    let mut first = one_to_six(&rt, rt.alloc(), BORDERED);
     let around = (3, 2, [1, 0, 0, 1]);
+    let mut first = one_to_six(&rt, rt.alloc(), BORDERED);
     let mut second = one_to_six(&rt, rt.alloc(), around);
     let calls = calls_of(&rt, rt.alloc(), &NINE);
     let both = laws::same_tables_same_answers(
@@ -97,9 +105,6 @@ fn frames_that_show_the_same_answer_nine_calls_and_keep_their_borders(rt: HostRu
         calls.as_slice(),
     );
     let (left, right) = both.expect(&rt, "memory");
-    assert!(rt; are_told(&rt, rt.alloc(), left.as_slice(), &NINE) == 9);
-    assert!(rt; are_told(&rt, rt.alloc(), right.as_slice(), &NINE) == 9);
-    let pixels = [30, 8, 7, 6, 5, 4];
-    assert!(rt; holds(&rt, rt.alloc(), &first.y_plane, BORDERED, &pixels));
-    assert!(rt; holds(&rt, rt.alloc(), &second.y_plane, around, &pixels));
+    check_nine(&rt, rt.alloc(), left.as_slice(), (&first.y_plane, BORDERED));
+    check_nine(&rt, rt.alloc(), right.as_slice(), (&second.y_plane, around));
 }

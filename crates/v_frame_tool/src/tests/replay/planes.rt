@@ -2,7 +2,7 @@
 
 use crate::tests::support::answers::{Step, calls_done};
 use crate::tests::support::calls::Call::{CopyPixels, Height, Row, Width};
-use crate::tests::support::frames::{padded, zeros};
+use crate::tests::support::frames::{built, luma, padded, zeros};
 use v_frame::chroma::ChromaSubsampling::{Yuv420, Yuv422};
 
 /// The sizes of padded planes.
@@ -14,8 +14,7 @@ static SIZES: [Step<'static, u8>; 3] = [
 
 #[test]
 fn sizes_of_three_planes_are_answered(rt: HostRuntime) {
-    let built = padded((4, 2), Yuv420, 8, [2, 2, 2, 0]).build::<u8>(rt.alloc());
-    let mut frame = built.expect(&rt, "a frame");
+    let mut frame = built(&rt, rt.alloc(), padded((4, 2), Yuv420, 8, [2, 2, 2, 0]));
     assert!(rt; calls_done(&rt, rt.alloc(), &mut frame, &SIZES) == 3);
 }
 
@@ -28,8 +27,7 @@ static COPIED: [Step<'static, u16>; 3] = [
 
 #[test]
 fn chroma_of_two_bytes_is_written(rt: HostRuntime) {
-    let built = padded((2, 2), Yuv422, 16, [0; 4]).build::<u16>(rt.alloc());
-    let mut frame = built.expect(&rt, "a frame");
+    let mut frame = built(&rt, rt.alloc(), padded((2, 2), Yuv422, 16, [0; 4]));
     assert!(rt; calls_done(&rt, rt.alloc(), &mut frame, &COPIED) == 3);
 }
 
@@ -47,9 +45,8 @@ static REPLACED: [Step<'static, u8>; 5] = [
 
 #[test]
 fn planes_that_a_user_replaced_are_replayed(rt: HostRuntime) {
-    let built = padded((2, 2), Yuv420, 8, [0; 4]).build::<u8>(rt.alloc());
-    let mut frame = built.expect(&rt, "a frame");
-    frame.u_plane = Some(zeros(&rt, rt.alloc(), (3, 1, [0; 4])).y_plane);
+    let mut frame = built(&rt, rt.alloc(), padded((2, 2), Yuv420, 8, [0; 4]));
+    frame.u_plane = Some(luma(zeros(&rt, rt.alloc(), (3, 1, [0; 4]))));
     frame.v_plane = None;
     assert!(rt; calls_done(&rt, rt.alloc(), &mut frame, &REPLACED) == 5);
     assert!(rt; frame.y_plane.data() == [1, 2, 3, 4].as_slice());

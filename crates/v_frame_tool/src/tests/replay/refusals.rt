@@ -33,64 +33,65 @@ const OTHER: [u8; 18] = [
     100, 101, 102, 103, 104, 105, 106, 9, 8, 7, 110, 111, 112, 6, 5, 4, 116, 117,
 ];
 
-/// Reads before and after a copy.
-static COPIED: Stopped = Stopped {
-    layout: BORDERED,
-    steps: &[
-        (Row(0, 0), "RowShown(Some([1, 2, 3]))"),
-        (
-            Rows(0, &[Back]),
-            "RowsWalked { total: 2, drawn: [Drawn { item: Some([4, 5, 6]), left: 1 }] }",
-        ),
-        (CopyPixels(0, &[9, 8, 7, 6, 5, 4]), "Copied(Ok(()))"),
-        (
-            Pixels(0, &[Back]),
-            "PixelsWalked { total: 6, drawn: [Drawn { item: Some(4), left: 5 }] }",
-        ),
-        (
-            Rows(0, &[Back, Back]),
-            "RowsWalked { total: 2, drawn: [Drawn { item: Some([6, 5, 4]), left: 1 }, \
-             Drawn { item: Some([9, 8, 7]), left: 0 }] }",
-        ),
-    ],
-    buffers: &[&PICTURE, &PICTURE, &PICTURE, &OTHER, &OTHER, &OTHER],
-};
-
-/// Two rows that are written, one by one.
-static ROWS: Stopped = Stopped {
-    layout: (2, 2, [0, 0, 0, 0]),
-    steps: &[
-        (RowMut(0, 0, &[Some(1), Some(2)]), "RowShown(Some([0, 0]))"),
-        (RowMut(0, 1, &[Some(3), Some(4)]), "RowShown(Some([0, 0]))"),
-    ],
-    buffers: &[&[0, 0, 0, 0], &[1, 2, 0, 0], &[1, 2, 3, 4]],
-};
-
-/// Rows and pixels that are written by iterations.
-static ITERATED: Stopped = Stopped {
-    layout: BORDERED,
-    steps: &[
-        (
-            RowsMut(0, &[(Back, &[Some(7)]), (Front, &[None, Some(8)])]),
-            "RowsWalked { total: 2, drawn: [Drawn { item: Some([4, 5, 6]), left: 1 }, \
-             Drawn { item: Some([1, 2, 3]), left: 0 }] }",
-        ),
-        (
-            PixelsMut(0, &[(Front, Some(9)), (Back, Some(10))]),
-            "PixelsWalked { total: 6, drawn: [Drawn { item: Some(1), left: 5 }, \
-             Drawn { item: Some(6), left: 4 }] }",
-        ),
-    ],
-    buffers: &[
-        &PICTURE,
-        &[
-            100, 101, 102, 103, 104, 105, 106, 1, 8, 3, 110, 111, 112, 7, 5, 6, 116, 117,
+/// Replays, each of which may be stopped.
+static STOPPED: [Stopped; 3] = [
+    // Reads before and after a copy.
+    Stopped {
+        layout: BORDERED,
+        steps: &[
+            (Row(0, 0), "RowShown(Some([1, 2, 3]))"),
+            (
+                Rows(0, &[Back]),
+                "RowsWalked { total: 2, drawn: [Drawn { item: Some([4, 5, 6]), left: 1 }] }",
+            ),
+            (CopyPixels(0, &[9, 8, 7, 6, 5, 4]), "Copied(Ok(()))"),
+            (
+                Pixels(0, &[Back]),
+                "PixelsWalked { total: 6, drawn: [Drawn { item: Some(4), left: 5 }] }",
+            ),
+            (
+                Rows(0, &[Back, Back]),
+                "RowsWalked { total: 2, drawn: [Drawn { item: Some([6, 5, 4]), left: 1 }, \
+                 Drawn { item: Some([9, 8, 7]), left: 0 }] }",
+            ),
         ],
-        &[
-            100, 101, 102, 103, 104, 105, 106, 9, 8, 3, 110, 111, 112, 7, 5, 10, 116, 117,
+        buffers: &[&PICTURE, &PICTURE, &PICTURE, &OTHER, &OTHER, &OTHER],
+    },
+    // Two rows that are written, one by one.
+    Stopped {
+        layout: (2, 2, [0, 0, 0, 0]),
+        steps: &[
+            (RowMut(0, 0, &[Some(1), Some(2)]), "RowShown(Some([0, 0]))"),
+            (RowMut(0, 1, &[Some(3), Some(4)]), "RowShown(Some([0, 0]))"),
         ],
-    ],
-};
+        buffers: &[&[0, 0, 0, 0], &[1, 2, 0, 0], &[1, 2, 3, 4]],
+    },
+    // Rows and pixels that are written by iterations.
+    Stopped {
+        layout: BORDERED,
+        steps: &[
+            (
+                RowsMut(0, &[(Back, &[Some(7)]), (Front, &[None, Some(8)])]),
+                "RowsWalked { total: 2, drawn: [Drawn { item: Some([4, 5, 6]), left: 1 }, \
+                 Drawn { item: Some([1, 2, 3]), left: 0 }] }",
+            ),
+            (
+                PixelsMut(0, &[(Front, Some(9)), (Back, Some(10))]),
+                "PixelsWalked { total: 6, drawn: [Drawn { item: Some(1), left: 5 }, \
+                 Drawn { item: Some(6), left: 4 }] }",
+            ),
+        ],
+        buffers: &[
+            &PICTURE,
+            &[
+                100, 101, 102, 103, 104, 105, 106, 1, 8, 3, 110, 111, 112, 7, 5, 6, 116, 117,
+            ],
+            &[
+                100, 101, 102, 103, 104, 105, 106, 9, 8, 3, 110, 111, 112, 7, 5, 10, 116, 117,
+            ],
+        ],
+    },
+];
 
 /// Stops the test where the calls that were not done have written anything, or those that were done have not.
 fn check_stop(rt: &impl Abort, alloc: Global, case: &Stopped) {
@@ -103,7 +104,7 @@ fn check_stop(rt: &impl Abort, alloc: Global, case: &Stopped) {
 
 #[test]
 fn a_stopped_replay_has_done_its_first_calls_and_written_no_more(rt: HostRuntime) {
-    for case in [&COPIED, &ROWS, &ITERATED] {
+    for case in &STOPPED {
         check_stop(&rt, rt.alloc(), case);
     }
 }

@@ -1,14 +1,14 @@
 //! Replays that have to give answers of these texts.
 
-use crate::tests::support::buffers::rows_are;
+use crate::tests::support::buffers::has_buffer;
 use crate::tests::support::calls::{Call, visible};
 use crate::tests::support::frames::{Layout, with_buffer};
-use crate::tests::support::texts::shows;
+use crate::tests::support::texts::must_show;
 use std::alloc::Global;
 use std::process::Abort;
 use v_frame::frame::Frame;
 use v_frame::pixel::Pixel;
-use v_frame::replay::{Answer, Sequence, VisibleCall, replay};
+use v_frame::replay::{Answer, ReplayStopped, VisibleCall, replay};
 
 /// A call, and the debug text of its answer.
 pub type Step<'a, T> = (Call<'a, T>, &'a str);
@@ -46,9 +46,17 @@ pub fn are_told<T: Pixel>(
     steps: &[Step<'_, T>],
 ) -> usize {
     for (answer, (_call, text)) in answers.iter().zip(steps) {
-        assert!(rt; shows(rt, alloc, answer, *text), "{text}");
+        must_show(rt, alloc, answer, *text);
     }
     answers.len()
+}
+
+/// What a replay answered, to all calls or to those before it stopped.
+fn answers_of<T>(replayed: &Result<Vec<Answer<T>>, ReplayStopped<T>>) -> &[Answer<T>] {
+    match replayed {
+        Ok(answers) => answers.as_slice(),
+        Err(stopped) => stopped.done.as_slice(),
+    }
 }
 
 /// How many calls a replay did, each of which has to give its answer: all of them, or the first few where a request for
@@ -60,24 +68,23 @@ pub fn calls_done<T: Pixel>(
     steps: &[Step<'_, T>],
 ) -> usize {
     let calls = calls_of(rt, alloc, steps);
-    let (answers, stops): (Sequence<Answer<T>>, bool) = match replay(
-        alloc,
-        frame,
-        calls.as_slice(),
-    ) {
-        Ok(answers) => (answers.into(), false),
-        Err(stopped) => (stopped.done, true),
-    };
-    let done = are_told(rt, alloc, answers.as_slice(), steps);
-    assert!(rt; done <= steps.len() && (done < steps.len()) == stops);
+    let replayed = replay(alloc, frame, calls.as_slice());
+    let done = are_told(rt, alloc, answers_of(&replayed), steps);
+    assert!(rt; done <= steps.len() && (done < steps.len()) == replayed.is_err());
     done
 }
 
 /// Stops the test where a replay does not answer as it has to, or leaves another buffer.
-pub fn check_replay<T: Pixel>(rt: &impl Abort, alloc: Global, case: &Replay<'_, T>) {
+fn check_replay<T: Pixel>(rt: &impl Abort, alloc: Global, case: &Replay<'_, T>) {
     let mut frame = with_buffer(rt, alloc, case.layout, case.before);
     let done = calls_done(rt, alloc, &mut frame, case.steps);
     assert!(rt; done == case.steps.len());
-    assert!(rt; frame.y_plane.data() == case.after);
-    assert!(rt; rows_are(&frame.y_plane, case.layout, case.after));
+    assert!(rt; has_buffer(&frame.y_plane, case.layout, case.after));
+}
+
+/// The same of each of these replays.
+pub fn check_replays<T: Pixel>(rt: &impl Abort, alloc: Global, cases: &[Replay<'_, T>]) {
+    for case in cases {
+        check_replay(rt, alloc, case);
+    }
 }

@@ -49,14 +49,14 @@ pub fn holds<T: Pixel>(
     plane.data() == expected_buffer(rt, alloc, layout, pixels).as_slice()
 }
 
-/// Whether the rows of a plane are those of a buffer of its layout, and there is none below.
-pub fn rows_are<T: Pixel>(
+/// Whether a plane has this buffer, its rows are those of the buffer, and there is none below.
+pub fn has_buffer<T: Pixel>(
     plane: &Plane<T>,
     (width, height, [left, right, top, _bottom]): Layout,
     buffer: &[T],
 ) -> bool {
     let stride = left.saturating_add(width).saturating_add(right);
-    let mut are_rows = plane.row(height).is_none();
+    let mut are_rows = plane.data() == buffer && plane.row(height).is_none();
     for y in 0..height {
         let start = top
             .saturating_add(y)

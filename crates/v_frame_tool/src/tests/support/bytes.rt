@@ -3,18 +3,41 @@
 use std::alloc::Global;
 use std::process::Abort;
 
-/// So many bytes, each a step more than the one before.
-pub fn stepped(rt: &impl Abort, alloc: Global, first: u8, step: u8, count: usize) -> Vec<u8> {
-    let mut bytes = Vec::new(alloc);
+/// Appends so many bytes, each a step more than the one before.
+pub fn push_stepped(rt: &impl Abort, bytes: &mut Vec<u8>, first: u8, step: u8, count: usize) {
     let mut byte = first;
     for _ in 0..count {
         bytes.push(byte).expect(rt, "memory");
         byte = byte.wrapping_add(step);
     }
+}
+
+/// So many bytes, each a step more than the one before.
+pub fn stepped(rt: &impl Abort, alloc: Global, first: u8, step: u8, count: usize) -> Vec<u8> {
+    let mut bytes = Vec::new(alloc);
+    push_stepped(rt, &mut bytes, first, step, count);
     bytes
 }
 
-/// So many words of such bytes, two each and the low one first.
+/// Appends so many words of such bytes, two each and the low one first.
+pub fn push_stepped_words(
+    rt: &impl Abort,
+    words: &mut Vec<u16>,
+    first: u8,
+    step: u8,
+    count: usize,
+) {
+    let mut low = first;
+    for _ in 0..count {
+        let high = low.wrapping_add(step);
+        words
+            .push(u16::from_le_bytes([low, high]))
+            .expect(rt, "memory");
+        low = high.wrapping_add(step);
+    }
+}
+
+/// So many words of such bytes.
 pub fn stepped_words(
     rt: &impl Abort,
     alloc: Global,
@@ -23,12 +46,6 @@ pub fn stepped_words(
     count: usize,
 ) -> Vec<u16> {
     let mut words = Vec::new(alloc);
-    let mut low = first;
-    for _ in 0..count {
-        let high = low.wrapping_add(step);
-        let word = u16::from(high) * 256 + u16::from(low);
-        words.push(word).expect(rt, "memory");
-        low = high.wrapping_add(step);
-    }
+    push_stepped_words(rt, &mut words, first, step, count);
     words
 }

@@ -3,7 +3,7 @@
 use crate::tests::support::buffers::{bordered_buffer, buffer_in_200, number_at};
 use std::alloc::Global;
 use std::process::Abort;
-use v_frame::chroma::ChromaSubsampling;
+use v_frame::chroma::ChromaSubsampling::{self, Monochrome};
 use v_frame::frame::{Frame, FrameBuilder, FrameError};
 use v_frame::pixel::Pixel;
 use v_frame::plane::Plane;
@@ -32,6 +32,11 @@ pub fn padded(
         .luma_padding_bottom(bottom)
 }
 
+/// The frame that is built so.
+pub fn built<T: Pixel>(rt: &impl Abort, alloc: Global, builder: FrameBuilder) -> Frame<T> {
+    builder.build(alloc).expect(rt, "a frame")
+}
+
 /// A luma plane of zeros alone, in the border too, of the least depth for bytes and of the greatest for words.
 pub fn zeros<T: Pixel>(
     rt: &impl Abort,
@@ -39,14 +44,11 @@ pub fn zeros<T: Pixel>(
     (width, height, padding): Layout,
 ) -> Frame<T> {
     let depth = if T::BYTES == 1 { 8 } else { 16 };
-    padded(
-        (width, height),
-        ChromaSubsampling::Monochrome,
-        depth,
-        padding,
+    built(
+        rt,
+        alloc,
+        padded((width, height), Monochrome, depth, padding),
     )
-    .build(alloc)
-    .expect(rt, "a frame")
 }
 
 /// A luma plane in this buffer.
@@ -74,6 +76,11 @@ pub fn numbered<T: Pixel>(rt: &impl Abort, alloc: Global, layout: Layout) -> Fra
     frame
 }
 
+/// The luma plane of a frame.
+pub fn luma<T: Pixel>(frame: Frame<T>) -> Plane<T> {
+    frame.y_plane
+}
+
 /// The pixels 1 to 6, three by two, in a border whose entries have a value each.
 pub fn counted(rt: &impl Abort, alloc: Global) -> Frame<u8> {
     with_buffer(rt, alloc, BORDERED, &bordered_buffer([1, 2, 3, 4, 5, 6]))
@@ -87,6 +94,14 @@ pub fn in_200(rt: &impl Abort, alloc: Global) -> Frame<u8> {
 /// Three pixels by three, counted from 0.
 pub fn nine(rt: &impl Abort, alloc: Global) -> Frame<u8> {
     with_buffer(rt, alloc, (3, 3, [0; 4]), &[0, 1, 2, 3, 4, 5, 6, 7, 8])
+}
+
+/// Whether the plane of this index is there with this buffer.
+pub fn holds_plane<T: Pixel>(frame: &Frame<T>, index: usize, buffer: &[T]) -> bool {
+    match frame.plane(index) {
+        Some(plane) => plane.data() == buffer,
+        None => false,
+    }
 }
 
 /// Writes a pixel of a plane.

@@ -1,37 +1,33 @@
 //! Frames of six planar bytes.
 
-use crate::tests::support::frames::padded;
+use crate::tests::support::frames::{BARE, built, holds_plane, luma, mark, padded, with_buffer};
 use std::alloc::Global;
 use std::process::Abort;
 use v_frame::chroma::ChromaSubsampling::Yuv420;
 use v_frame::frame::Frame;
-use v_frame::plane::Plane;
-
-/// Replaces the pixels of a plane.
-fn show(rt: &impl Abort, plane: Option<&mut Plane<u8>>, pixels: &[u8]) {
-    let plane = plane.expect(rt, "a plane");
-    plane.copy_from_slice(pixels).expect(rt, "a copy");
-}
 
 /// Two pixels by two in 4:2:0, which show these bytes: four of luma, and one of each chroma.
 pub fn six_bytes(rt: &impl Abort, alloc: Global, bytes: [u8; 6]) -> Frame<u8> {
-    let built = padded((2, 2), Yuv420, 8, [0; 4]).build::<u8>(alloc);
-    let mut frame = built.expect(rt, "a frame");
+    let mut frame = built(rt, alloc, padded((2, 2), Yuv420, 8, [0; 4]));
     let [a, b, c, d, u, v] = bytes;
-    show(rt, frame.plane_mut(0), &[a, b, c, d]);
-    show(rt, frame.plane_mut(1), &[u]);
-    show(rt, frame.plane_mut(2), &[v]);
+    let copied = frame.y_plane.copy_from_slice(&[a, b, c, d]);
+    assert!(rt; copied.is_ok());
+    mark(rt, &mut frame, 1, u);
+    mark(rt, &mut frame, 2, v);
+    frame
+}
+
+/// Such a frame without U, whose V is three pixels by two instead and shows these.
+pub fn without_u(rt: &impl Abort, alloc: Global, bytes: [u8; 6], v: [u8; 6]) -> Frame<u8> {
+    let mut frame = six_bytes(rt, alloc, bytes);
+    frame.u_plane = None;
+    frame.v_plane = Some(luma(with_buffer(rt, alloc, BARE, &v)));
     frame
 }
 
 /// Whether such a frame shows these bytes.
-pub fn shows_bytes(frame: &Frame<u8>, bytes: [u8; 6]) -> bool {
-    let [a, b, c, d, u, v] = bytes;
-    let luma = frame.y_plane.data() == [a, b, c, d].as_slice();
-    match (frame.plane(1), frame.plane(2)) {
-        (Some(first), Some(second)) => {
-            luma && first.data() == [u].as_slice() && second.data() == [v].as_slice()
-        }
-        _ => false,
-    }
+pub fn shows_bytes(frame: &Frame<u8>, [a, b, c, d, u, v]: [u8; 6]) -> bool {
+    holds_plane(frame, 0, &[a, b, c, d])
+        && holds_plane(frame, 1, &[u])
+        && holds_plane(frame, 2, &[v])
 }

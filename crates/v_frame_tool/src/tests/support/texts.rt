@@ -4,14 +4,19 @@ use std::alloc::Global;
 use std::fmt::{Debug, Display};
 use std::process::Abort;
 
-/// Whether a value shows this debug text.
-pub fn shows(rt: &impl Abort, alloc: Global, value: &impl Debug, wanted: &str) -> bool {
-    let text = format!(in alloc; "{value:?}").expect(rt, "memory");
-    text.as_str() == wanted
+/// Stops the test where a text is not the one that is wanted.
+fn must_be(rt: &impl Abort, text: &str, wanted: &str) {
+    assert!(rt; text == wanted, "{text} in place of {wanted}");
 }
 
-/// Whether a value displays as a text.
-pub fn displays(rt: &impl Abort, alloc: Global, value: &impl Display, wanted: &str) -> bool {
+/// Stops the test where a value has another debug text.
+pub fn must_show(rt: &impl Abort, alloc: Global, value: &impl Debug, wanted: &str) {
+    let text = format!(in alloc; "{value:?}").expect(rt, "memory");
+    must_be(rt, text.as_str(), wanted);
+}
+
+/// Stops the test where a value displays as another text.
+pub fn must_display(rt: &impl Abort, alloc: Global, value: &impl Display, wanted: &str) {
     let text = value.to_string(alloc).expect(rt, "memory");
-    text.as_str() == wanted
+    must_be(rt, text.as_str(), wanted);
 }

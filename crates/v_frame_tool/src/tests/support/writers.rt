@@ -1,6 +1,7 @@
 //! A writer that takes little, and fails or takes nothing from then on.
 ghost use Rattle.std.specs.Prelude.{◌≡◌, IfOk};
 
+use crate::counted::Counted;
 use std::io::{self, Cursor, ErrorKind, Write};
 
 /// What a writer does at a call in place of taking bytes.
@@ -57,4 +58,11 @@ impl Write for Slow {
     fn flush(&mut self) -> io::Result<()> {
         Ok(())
     }
+}
+
+/// Whether a writer has taken these bytes alone, and failed so often.
+pub fn has_taken(out: &Counted<Slow>, failures: u64, bytes: &[u8]) -> bool {
+    let taken = &out.inner().taken;
+    (taken.position(), out.failures()) == (bytes.len() as u64, failures)
+        && taken.get_ref().get(..bytes.len()) == Some(bytes)
 }
