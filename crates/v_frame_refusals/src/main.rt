@@ -7,14 +7,12 @@ mod cases;
 mod outcome;
 
 use outcome::Outcome;
-use std::alloc::{AllocError, Global};
+use std::alloc::Global;
 use std::env;
 use std::process::ExitCode;
 
 fn main(rt: HostRuntime) -> ExitCode {
-    let outcome = match asked(&rt) {
-        Ok(outcome) | Err(outcome) => outcome,
-    };
+    let outcome = asked(&rt);
     let printed = println!(rt; "{outcome}");
     if printed.is_err() || outcome.is_wrong() {
         ExitCode::FAILURE
@@ -27,37 +25,58 @@ fn main(rt: HostRuntime) -> ExitCode {
 ///
 /// Two numbers may stand behind it: how many requests are made before the case, so that another one of it is the Nth, and
 /// how many after it, one of which has to be refused where the case met no refusal.
-fn asked(rt: &HostRuntime) -> Result<Outcome, Outcome> {
-    let words = env::args(rt).map_err(|_| Outcome::Unprepared)?;
-    let mut words = words.skip(1);
-    let Some(case) = words.next() else {
-        return Err(Outcome::Wrong("no case is named"));
+fn asked(rt: &HostRuntime) -> Outcome {
+    let Ok(mut words) = env::args(rt) else {
+        return Outcome::Unprepared;
     };
-    let before = count_of(words.next())?;
-    let after = count_of(words.next())?;
-    make_requests(rt.alloc(), before)?;
-    let outcome = cases::seen(rt.alloc(), case.as_str())?;
-    let none_refused = make_requests(rt.alloc(), after).is_ok();
-    if outcome == Outcome::Done && after > 0 && none_refused {
-        return Err(Outcome::Wrong("done, though a request was refused"));
+    drop(words.next());
+    let case = words.next();
+    let before = count_of(words.next());
+    let after = count_of(words.next());
+    match case {
+        Some(case) => counted(rt.alloc(), case.as_str(), before, after),
+        None => Outcome::Wrong("no case is named"),
     }
-    Ok(outcome)
 }
 
 /// The number that an argument tells, or 0 where there is none.
-fn count_of(word: Option<String>) -> Result<u16, Outcome> {
-    let Some(word) = word else {
-        return Ok(0);
-    };
-    let count = word.parse::<u16>();
-    count.map_err(|_| Outcome::Wrong("no number of requests"))
+fn count_of(word: Option<String>) -> Option<u16> {
+    match word {
+        Some(word) => word.parse::<u16>().ok(),
+        None => Some(0),
+    }
 }
 
-/// Makes requests, and gives back at once what each got.
-fn make_requests(alloc: Global, count: u16) -> Result<(), AllocError> {
-    for _request in 0..count {
-        let room = Vec::<u8>::with_capacity(alloc, 1)?;
-        drop(room);
+/// What is seen in a case behind so many requests and in front of so many.
+fn counted(alloc: Global, case: &str, before: Option<u16>, after: Option<u16>) -> Outcome {
+    match (before, after) {
+        (Some(before), Some(after)) => {
+            if make_requests(alloc, before) {
+                followed(alloc, cases::seen(alloc, case), after)
+            } else {
+                Outcome::Unprepared
+            }
+        }
+        _ => Outcome::Wrong("no number of requests"),
     }
-    Ok(())
+}
+
+/// What was seen in a case, in front of so many requests.
+fn followed(alloc: Global, outcome: Outcome, after: u16) -> Outcome {
+    let none_refused = make_requests(alloc, after);
+    if outcome.is_done() && after > 0 && none_refused {
+        Outcome::Wrong("done, though a request was refused")
+    } else {
+        outcome
+    }
+}
+
+/// Makes requests, and gives back at once what each got. Gives whether none was refused.
+fn make_requests(alloc: Global, count: u16) -> bool {
+    for _request in 0..count {
+        if Vec::<u8>::with_capacity(alloc, 1).is_err() {
+            return false;
+        }
+    }
+    true
 }

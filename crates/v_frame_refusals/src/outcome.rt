@@ -1,11 +1,10 @@
 //! What one run saw.
 
-use std::alloc::AllocError;
 use std::fmt;
 use v_frame::frame::FrameError;
 
 /// What the run of a case saw.
-#[derive(Clone, Copy, PartialEq, Eq)]
+#[derive(Clone, Copy)]
 pub enum Outcome {
     /// A request of the preparation was refused, so the call was not made.
     Unprepared,
@@ -36,6 +35,19 @@ impl Outcome {
         }
     }
 
+    /// That of a frame that is prepared and not built.
+    pub fn of_preparation(error: FrameError) -> Self {
+        match error {
+            FrameError::OutOfMemory => Outcome::Unprepared,
+            _ => Outcome::Wrong("no frame can be prepared"),
+        }
+    }
+
+    /// Whether the call answered `Ok`, and gave what is right.
+    pub fn is_done(self) -> bool {
+        matches!(self, Outcome::Done)
+    }
+
     /// Whether the run saw what is not right.
     pub fn is_wrong(self) -> bool {
         matches!(self, Outcome::Wrong(_))
@@ -49,23 +61,6 @@ impl fmt::Display for Outcome {
             Outcome::Kept => f.write_str("refused: kept"),
             Outcome::Done => f.write_str("done"),
             Outcome::Wrong(what) => write!(f, "wrong: {what}"),
-        }
-    }
-}
-
-/// For what is prepared.
-impl From<AllocError> for Outcome {
-    fn from(_refused: AllocError) -> Self {
-        Outcome::Unprepared
-    }
-}
-
-/// For what is prepared.
-impl From<FrameError> for Outcome {
-    fn from(error: FrameError) -> Self {
-        match error {
-            FrameError::OutOfMemory => Outcome::Unprepared,
-            _ => Outcome::Wrong("no frame can be prepared"),
         }
     }
 }

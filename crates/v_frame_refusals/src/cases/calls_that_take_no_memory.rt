@@ -12,16 +12,20 @@ use v_frame_planar::{Counted, write_frame};
 
 /// Builds that are refused before they ask for memory, reading over an array, the replay of no call, and a frame that is
 /// written.
-pub fn calls_that_take_no_memory(alloc: Global) -> Result<Outcome, Outcome> {
+pub fn calls_that_take_no_memory(alloc: Global) -> Outcome {
     if !builds_are_refused(alloc) {
-        return Err(Outcome::Wrong("a build that is refused"));
+        return Outcome::Wrong("a build that is refused");
     }
     if !array_is_read() {
-        return Err(Outcome::Wrong("reading over an array"));
+        return Outcome::Wrong("reading over an array");
     }
-    let mut frame = FrameBuilder::new(3, 2, Monochrome, 8).build::<u8>(alloc)?;
-    let is_replayed = replays_no_call(alloc, &mut frame);
-    Ok(Outcome::done(is_replayed && is_written(&frame)))
+    match FrameBuilder::new(3, 2, Monochrome, 8).build::<u8>(alloc) {
+        Ok(mut frame) => {
+            let is_replayed = replays_no_call(alloc, &mut frame);
+            Outcome::done(is_replayed && is_written(&frame))
+        }
+        Err(error) => Outcome::of_preparation(error),
+    }
 }
 
 /// Whether the replay of no call answers nothing, and leaves a blank frame as it is.

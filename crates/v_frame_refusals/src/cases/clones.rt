@@ -3,26 +3,37 @@
 use super::pictures::{PREPARED, holds, is_painted, prepared};
 use crate::outcome::Outcome;
 use std::alloc::Global;
+use v_frame::frame::Frame;
 
 /// A clone of a plane inside a border.
-pub fn clone_of_a_plane(alloc: Global) -> Result<Outcome, Outcome> {
-    let frame = prepared(alloc)?;
-    let [pixels, ..] = PREPARED;
-    let cloned = frame.y_plane.clone(alloc);
-    let is_kept = holds(&frame, PREPARED);
-    Ok(match cloned {
-        Ok(copy) => Outcome::done(is_kept && is_painted(&copy, 1000, pixels)),
-        Err(_) => Outcome::kept(is_kept),
-    })
+pub fn clone_of_a_plane(alloc: Global) -> Outcome {
+    match prepared(alloc) {
+        Ok(frame) => luma_cloned(alloc, &frame),
+        Err(outcome) => outcome,
+    }
+}
+
+/// What is seen of a clone of the luma of the prepared frame.
+fn luma_cloned(alloc: Global, frame: &Frame<u16>) -> Outcome {
+    let [luma, ..] = &PREPARED;
+    match frame.y_plane.clone(alloc) {
+        Ok(copy) => Outcome::done(holds(frame, &PREPARED) && is_painted(&copy, luma)),
+        Err(_) => Outcome::kept(holds(frame, &PREPARED)),
+    }
 }
 
 /// A clone of a frame of three planes.
-pub fn clone_of_a_frame(alloc: Global) -> Result<Outcome, Outcome> {
-    let frame = prepared(alloc)?;
-    let cloned = frame.clone(alloc);
-    let is_kept = holds(&frame, PREPARED);
-    Ok(match cloned {
-        Ok(copy) => Outcome::done(is_kept && holds(&copy, PREPARED)),
-        Err(_) => Outcome::kept(is_kept),
-    })
+pub fn clone_of_a_frame(alloc: Global) -> Outcome {
+    match prepared(alloc) {
+        Ok(frame) => frame_cloned(alloc, &frame),
+        Err(outcome) => outcome,
+    }
+}
+
+/// What is seen of a clone of the prepared frame.
+fn frame_cloned(alloc: Global, frame: &Frame<u16>) -> Outcome {
+    match frame.clone(alloc) {
+        Ok(copy) => Outcome::done(holds(frame, &PREPARED) && holds(&copy, &PREPARED)),
+        Err(_) => Outcome::kept(holds(frame, &PREPARED)),
+    }
 }

@@ -5,17 +5,22 @@ use std::alloc::Global;
 use v_frame::plane::{Plane, PlaneGeometry};
 
 /// A plane without a value, in a border.
-pub fn new_uninit(alloc: Global) -> Result<Outcome, Outcome> {
-    let Some(geometry) = PlaneGeometry::new(4, 3, 2, 2, 1, 1, 1, 1) else {
-        return Err(NO_GEOMETRY);
-    };
-    if geometry.checked_alloc_size() != Some(40) {
-        return Err(NO_GEOMETRY);
+pub fn new_uninit(alloc: Global) -> Outcome {
+    match PlaneGeometry::new(4, 3, 2, 2, 1, 1, 1, 1) {
+        Some(geometry) => vacant_of(alloc, geometry),
+        None => NO_GEOMETRY,
     }
-    Ok(match Plane::<u8>::new_uninit(alloc, geometry) {
+}
+
+/// What is seen of a plane of 40 places that is made.
+fn vacant_of(alloc: Global, geometry: PlaneGeometry) -> Outcome {
+    if geometry.checked_alloc_size() != Some(40) {
+        return NO_GEOMETRY;
+    }
+    match Plane::<u8>::new_uninit(alloc, geometry) {
         Ok(plane) => Outcome::done(plane.geometry() == geometry && is_vacant(&plane)),
         Err(_) => Outcome::Kept,
-    })
+    }
 }
 
 /// Where the numbers of a geometry don't go together.
@@ -27,18 +32,28 @@ fn is_vacant(plane: &Plane<Option<u8>>) -> bool {
 }
 
 /// The values of a plane that is filled with two.
-pub fn assume_init(alloc: Global) -> Result<Outcome, Outcome> {
-    let mut plane = row_of::<u8>(alloc, 2)?;
-    for (entry, value) in plane.data_mut().iter_mut().zip([5, 6]) {
-        *entry = Some(value);
+pub fn assume_init(alloc: Global) -> Outcome {
+    match row_of::<u8>(alloc, 2) {
+        Ok(mut plane) => {
+            if let [first, second] = plane.data_mut() {
+                *first = Some(5);
+                *second = Some(6);
+            }
+            values_of(alloc, plane)
+        }
+        Err(outcome) => outcome,
     }
+}
+
+/// What is seen of the call on the plane that is filled with two.
+fn values_of(alloc: Global, plane: Plane<Option<u8>>) -> Outcome {
     if !plane.is_init() {
-        return Err(NOT_FILLED);
+        return NOT_FILLED;
     }
-    Ok(match plane.assume_init(alloc) {
+    match plane.assume_init(alloc) {
         Ok(plane) => Outcome::done(plane.data() == [5, 6].as_slice()),
         Err(plane) => Outcome::kept(plane.data() == [Some(5), Some(6)].as_slice()),
-    })
+    }
 }
 
 /// Where a place was left without a value.
@@ -52,25 +67,50 @@ pub fn row_of<T>(alloc: Global, width: usize) -> Result<Plane<Option<T>>, Outcom
     if geometry.checked_alloc_size().is_none() {
         return Err(NO_GEOMETRY);
     }
-    Ok(Plane::new_uninit(alloc, geometry)?)
+    match Plane::new_uninit(alloc, geometry) {
+        Ok(plane) => Ok(plane),
+        Err(_) => Err(Outcome::Unprepared),
+    }
 }
 
 /// Three texts, which own memory where they are not empty.
 const TEXTS: [&str; 3] = ["Hello World", "", "This is a test"];
 
 /// The values of a plane that is filled with texts.
-pub fn assume_init_of_texts(alloc: Global) -> Result<Outcome, Outcome> {
-    let mut plane = row_of::<String>(alloc, 3)?;
-    for (entry, text) in plane.data_mut().iter_mut().zip(TEXTS) {
-        *entry = Some(String::from_str(alloc, text)?);
+pub fn assume_init_of_texts(alloc: Global) -> Outcome {
+    match row_of::<String>(alloc, 3) {
+        Ok(mut plane) => {
+            if fill_with_texts(alloc, plane.data_mut()) {
+                texts_of(alloc, plane)
+            } else {
+                Outcome::Unprepared
+            }
+        }
+        Err(outcome) => outcome,
     }
+}
+
+/// Fills places with the three texts. Gives whether none was refused.
+fn fill_with_texts(alloc: Global, entries: &mut [Option<String>]) -> bool {
+    let [a, b, c] = entries else {
+        return true;
+    };
+    let [first, second, third] = TEXTS;
+    *a = String::from_str(alloc, first).ok();
+    *b = String::from_str(alloc, second).ok();
+    *c = String::from_str(alloc, third).ok();
+    a.is_some() && b.is_some() && c.is_some()
+}
+
+/// What is seen of the call on the plane that is filled with texts.
+fn texts_of(alloc: Global, plane: Plane<Option<String>>) -> Outcome {
     if !plane.is_init() {
-        return Err(NOT_FILLED);
+        return NOT_FILLED;
     }
-    Ok(match plane.assume_init(alloc) {
+    match plane.assume_init(alloc) {
         Ok(plane) => Outcome::done(are_the_texts(plane.data())),
         Err(plane) => Outcome::kept(hold_the_texts(plane.data())),
-    })
+    }
 }
 
 /// Whether these are the three texts.

@@ -6,86 +6,86 @@ use v_frame::chroma::ChromaSubsampling;
 use v_frame::frame::{Frame, FrameBuilder};
 use v_frame::plane::{Plane, PlaneGeometry};
 
-/// The visible pixels of the three planes, each 3 by 2.
-pub type Tables = [[u16; 6]; 3];
+/// The entries of a plane of 3 pixels by 2, with one border column to the left, two to the right, and a border row above. Each
+/// border entry holds a number of its own.
+pub type Buffer = [u16; 18];
 
-/// What a prepared frame shows.
-pub const PREPARED: Tables = [[1, 2, 3, 4, 5, 6], [0; 6], [0; 6]];
+/// The entries of the three planes.
+pub type Buffers = [Buffer; 3];
 
-/// The number of the first border entry of each plane.
-const FIRST_NUMBERS: [u16; 3] = [1000, 2000, 3000];
+/// What a prepared frame has.
+pub static PREPARED: Buffers = [
+    [
+        1000, 1001, 1002, 1003, 1004, 1005, 1006, 1, 2, 3, 1010, 1011, 1012, 4, 5, 6, 1016, 1017,
+    ],
+    [
+        2000, 2001, 2002, 2003, 2004, 2005, 2006, 0, 0, 0, 2010, 2011, 2012, 0, 0, 0, 2016, 2017,
+    ],
+    [
+        3000, 3001, 3002, 3003, 3004, 3005, 3006, 0, 0, 0, 3010, 3011, 3012, 0, 0, 0, 3016, 3017,
+    ],
+];
 
-/// A frame that shows [`PREPARED`], its planes in a numbered border of twelve entries each.
+/// A frame that has [`PREPARED`].
 pub fn prepared(alloc: Global) -> Result<Frame<u16>, Outcome> {
-    let mut frame = FrameBuilder::new(3, 2, ChromaSubsampling::Yuv444, 16)
+    let builder = FrameBuilder::new(3, 2, ChromaSubsampling::Yuv444, 16)
         .luma_padding_left(1)
         .luma_padding_right(2)
         .luma_padding_top(1)
-        .luma_padding_bottom(0)
-        .build::<u16>(alloc)?;
-    for (index, (first, pixels)) in FIRST_NUMBERS.into_iter().zip(PREPARED).enumerate() {
-        if let Some(plane) = frame.plane_mut(index) {
-            paint(plane, first, pixels);
-        }
+        .luma_padding_bottom(0);
+    match builder.build::<u16>(alloc) {
+        Ok(frame) => painted(frame),
+        Err(error) => Err(Outcome::of_preparation(error)),
     }
-    if holds(&frame, PREPARED) {
+}
+
+/// The frame, in which [`PREPARED`] is written.
+fn painted(mut frame: Frame<u16>) -> Result<Frame<u16>, Outcome> {
+    paint_planes(&mut frame);
+    if holds(&frame, &PREPARED) {
         Ok(frame)
     } else {
         Err(Outcome::Wrong("what was prepared"))
     }
 }
 
-/// Writes the entries of a plane, in the border too.
-fn paint(plane: &mut Plane<u16>, first: u16, pixels: [u16; 6]) {
-    let buffer = bordered(first, pixels);
-    for (entry, value) in plane.data_mut().iter_mut().zip(buffer) {
-        *entry = value;
+/// Writes the entries of each plane.
+fn paint_planes(frame: &mut Frame<u16>) {
+    let [luma, first, second] = &PREPARED;
+    paint(&mut frame.y_plane, luma);
+    if let Some(plane) = &mut frame.u_plane {
+        paint(plane, first);
+    }
+    if let Some(plane) = &mut frame.v_plane {
+        paint(plane, second);
     }
 }
 
-/// Whether a frame has these pixels, and each of its borders the numbers it was prepared with.
-pub fn holds(frame: &Frame<u16>, [luma, first, second]: Tables) -> bool {
+/// Writes the entries of a plane, in the border too.
+fn paint(plane: &mut Plane<u16>, buffer: &Buffer) {
+    let data = plane.data_mut();
+    if data.len() == 18 {
+        data.copy_from_slice(buffer);
+    }
+}
+
+/// Whether a frame has these entries, in its borders too.
+pub fn holds(frame: &Frame<u16>, [luma, first, second]: &Buffers) -> bool {
     let format = frame.subsampling == ChromaSubsampling::Yuv444 && frame.bit_depth.get() == 16;
-    let chroma = has(&frame.u_plane, 2000, first) && has(&frame.v_plane, 3000, second);
-    format && is_painted(&frame.y_plane, 1000, luma) && chroma
+    let chroma = has(&frame.u_plane, first) && has(&frame.v_plane, second);
+    format && is_painted(&frame.y_plane, luma) && chroma
 }
 
 /// Whether a chroma plane is there and has these entries.
-fn has(plane: &Option<Plane<u16>>, first: u16, pixels: [u16; 6]) -> bool {
+fn has(plane: &Option<Plane<u16>>, buffer: &Buffer) -> bool {
     match plane {
-        Some(plane) => is_painted(plane, first, pixels),
+        Some(plane) => is_painted(plane, buffer),
         None => false,
     }
 }
 
-/// Whether a plane has these pixels in a border that is numbered from `first`.
-pub fn is_painted(plane: &Plane<u16>, first: u16, pixels: [u16; 6]) -> bool {
+/// Whether a plane has these entries.
+pub fn is_painted(plane: &Plane<u16>, buffer: &Buffer) -> bool {
     let geometry = PlaneGeometry::new(3, 2, 1, 2, 1, 0, 1, 1);
-    Some(plane.geometry()) == geometry && plane.data() == bordered(first, pixels).as_slice()
-}
-
-/// Three pixels by two in a border of one column to the left, two to the right, and a row above. The border entries hold
-/// numbers from `first` on, by their places.
-fn bordered(first: u16, [a, b, c, d, e, f]: [u16; 6]) -> [u16; 18] {
-    let at = |place: u16| first.wrapping_add(place);
-    [
-        at(0),
-        at(1),
-        at(2),
-        at(3),
-        at(4),
-        at(5),
-        at(6),
-        a,
-        b,
-        c,
-        at(10),
-        at(11),
-        at(12),
-        d,
-        e,
-        f,
-        at(16),
-        at(17),
-    ]
+    geometry == Some(plane.geometry()) && plane.data() == buffer.as_slice()
 }

@@ -1,32 +1,57 @@
 //! A replay of a list of six calls, three of which write.
 
-use super::pictures::{PREPARED, Tables, holds, prepared};
+use super::pictures::{Buffers, PREPARED, holds, prepared};
+use super::preparation::Preparation;
 use crate::outcome::Outcome;
-use std::alloc::{AllocError, Global};
+use std::alloc::Global;
 use v_frame::frame::Frame;
 use v_frame::plane::CopyError;
 use v_frame::replay::{Answer, Drawn, PixelDraw, RowDraw, Sequence, Side, VisibleCall, replay};
 
+/// What the frame has after the first call.
+static AFTER_ONE: Buffers = [
+    [
+        1000, 1001, 1002, 1003, 1004, 1005, 1006, 1, 2, 3, 1010, 1011, 1012, 4, 50, 6, 1016, 1017,
+    ],
+    [
+        2000, 2001, 2002, 2003, 2004, 2005, 2006, 0, 0, 0, 2010, 2011, 2012, 0, 0, 0, 2016, 2017,
+    ],
+    [
+        3000, 3001, 3002, 3003, 3004, 3005, 3006, 0, 0, 0, 3010, 3011, 3012, 0, 0, 0, 3016, 3017,
+    ],
+];
+
+/// What the frame has after the second call, and after each one behind it.
+static AFTER_TWO: Buffers = [
+    [
+        1000, 1001, 1002, 1003, 1004, 1005, 1006, 1, 2, 3, 1010, 1011, 1012, 4, 50, 6, 1016, 1017,
+    ],
+    [
+        2000, 2001, 2002, 2003, 2004, 2005, 2006, 0, 0, 0, 2010, 2011, 2012, 0, 0, 0, 2016, 2017,
+    ],
+    [
+        3000, 3001, 3002, 3003, 3004, 3005, 3006, 7, 0, 0, 3010, 3011, 3012, 0, 0, 8, 3016, 3017,
+    ],
+];
+
 /// A replay in a numbered border. Where it is stopped, the calls that were answered are done, and no other.
-pub fn replay_of_a_list(alloc: Global) -> Result<Outcome, Outcome> {
-    let mut frame = prepared(alloc)?;
-    replay_on(alloc, &mut frame)
+pub fn replay_of_a_list(alloc: Global) -> Outcome {
+    match prepared(alloc) {
+        Ok(mut frame) => replay_on(alloc, &mut frame),
+        Err(outcome) => outcome,
+    }
 }
 
 /// The replay on this frame.
-fn replay_on(alloc: Global, frame: &mut Frame<u16>) -> Result<Outcome, Outcome> {
-    let calls = calls(alloc)?;
-    replay_calls(alloc, frame, &calls)
-}
-
-/// The replay of these calls.
-fn replay_calls(
-    alloc: Global,
-    frame: &mut Frame<u16>,
-    calls: &[VisibleCall<u16>],
-) -> Result<Outcome, Outcome> {
-    let wanted = answers(alloc)?;
-    Ok(seen_of(alloc, frame, calls, &wanted))
+fn replay_on(alloc: Global, frame: &mut Frame<u16>) -> Outcome {
+    let mut preparation = Preparation::new(alloc);
+    let calls = calls(&mut preparation);
+    let wanted = answers(&mut preparation);
+    if preparation.is_refused() {
+        Outcome::Unprepared
+    } else {
+        seen_of(alloc, frame, &calls, &wanted)
+    }
 }
 
 /// What is seen of the replay, where these answers are wanted.
@@ -38,48 +63,40 @@ fn seen_of(
 ) -> Outcome {
     match replay(alloc, frame, calls) {
         Ok(answers) => {
-            let is_answered = answers.as_slice() == wanted;
-            Outcome::done(is_answered && holds(frame, tables_after(calls.len())))
+            let answers = answers.as_slice();
+            Outcome::done(answers.len() == wanted.len() && is_left(frame, answers, wanted))
         }
         Err(stopped) => {
             let done = stopped.done.as_slice();
-            let is_answered = done.len() < calls.len() && wanted.get(..done.len()) == Some(done);
-            Outcome::kept(is_answered && holds(frame, tables_after(done.len())))
+            Outcome::kept(done.len() < calls.len() && is_left(frame, done, wanted))
         }
     }
 }
 
-/// What the frame shows after so many calls of the list.
-fn tables_after(calls: usize) -> Tables {
-    let [before, zeros, _zeros] = PREPARED;
-    let luma = if calls < 1 {
-        before
-    } else {
-        [1, 2, 3, 4, 50, 6]
+/// Whether these are the first answers of those that are wanted, and the frame is as their calls leave it.
+fn is_left(frame: &Frame<u16>, answers: &[Answer<u16>], wanted: &[Answer<u16>]) -> bool {
+    let buffers = match answers.len() {
+        0 => &PREPARED,
+        1 => &AFTER_ONE,
+        _ => &AFTER_TWO,
     };
-    let chroma = if calls < 2 { zeros } else { [7, 0, 0, 0, 0, 8] };
-    [luma, zeros, chroma]
+    wanted.get(..answers.len()) == Some(answers) && holds(frame, buffers)
 }
 
 /// The calls.
-fn calls(alloc: Global) -> Result<[VisibleCall<u16>; 6], AllocError> {
-    let row_draws = row_draws(alloc)?;
-    let pixel_draws = pixel_draws(alloc)?;
-    let byte_draws = Sequence::from_slice(alloc, &[Side::Back, Side::Back, Side::Front])?;
-    let source = Sequence::from_slice(alloc, &[1, 2, 3, 4, 5, 6, 7, 8, 9, 10])?;
-    let last = Sequence::from_slice(alloc, &[Side::Back])?;
-    Ok([
+fn calls(preparation: &mut Preparation) -> [VisibleCall<u16>; 6] {
+    [
         VisibleCall::RowsMut {
             plane: 0,
-            draws: row_draws,
+            draws: row_draws(preparation),
         },
         VisibleCall::PixelsMut {
             plane: 2,
-            draws: pixel_draws,
+            draws: pixel_draws(preparation),
         },
         VisibleCall::ByteData {
             plane: 0,
-            draws: byte_draws,
+            draws: preparation.list(&[Side::Back, Side::Back, Side::Front]),
         },
         VisibleCall::PixelMut {
             plane: 0,
@@ -89,40 +106,37 @@ fn calls(alloc: Global) -> Result<[VisibleCall<u16>; 6], AllocError> {
         },
         VisibleCall::CopyFromU8SliceWithStride {
             plane: 2,
-            source,
+            source: preparation.list(&[1, 2, 3, 4, 5, 6, 7, 8, 9, 10]),
             stride: 5,
         },
         VisibleCall::Pixels {
             plane: 2,
-            draws: last,
+            draws: preparation.list(&[Side::Back]),
         },
-    ])
+    ]
 }
 
 /// The last row gets a pixel, the first one none, and the third call is past the end.
-fn row_draws(alloc: Global) -> Result<Sequence<RowDraw<u16>>, AllocError> {
-    let below = Sequence::from_slice(alloc, &[None, Some(50)])?;
-    let above = Sequence::from_slice(alloc, &[])?;
-    let past = Sequence::from_slice(alloc, &[Some(9)])?;
+fn row_draws(preparation: &mut Preparation) -> Sequence<RowDraw<u16>> {
     let draws = [
         RowDraw {
             side: Side::Back,
-            writes: below,
+            writes: preparation.list(&[None, Some(50)]),
         },
         RowDraw {
             side: Side::Front,
-            writes: above,
+            writes: preparation.list(&[]),
         },
         RowDraw {
             side: Side::Front,
-            writes: past,
+            writes: preparation.list(&[Some(9)]),
         },
     ];
-    Ok(Vec::from_array(alloc, draws)?.into())
+    preparation.owners(draws)
 }
 
 /// The first and the last pixel are replaced, the second is left.
-fn pixel_draws(alloc: Global) -> Result<Sequence<PixelDraw<u16>>, AllocError> {
+fn pixel_draws(preparation: &mut Preparation) -> Sequence<PixelDraw<u16>> {
     let draws = [
         PixelDraw {
             side: Side::Front,
@@ -137,73 +151,51 @@ fn pixel_draws(alloc: Global) -> Result<Sequence<PixelDraw<u16>>, AllocError> {
             value: None,
         },
     ];
-    Ok(Vec::from_array(alloc, draws)?.into())
+    preparation.owners(draws)
 }
 
 /// What the calls have to answer.
-fn answers(alloc: Global) -> Result<[Answer<u16>; 6], AllocError> {
-    let rows = drawn_rows(alloc)?;
-    let pixels = drawn(alloc, [(0, 5), (0, 4), (0, 3)])?;
-    let bytes = drawn(alloc, [(0, 11), (6, 10), (1, 9)])?;
-    let last = drawn(alloc, [(8, 5)])?;
-    let refused = CopyError::InvalidStride {
-        stride: 5,
-        width: 3,
-    };
-    Ok([
+fn answers(preparation: &mut Preparation) -> [Answer<u16>; 6] {
+    [
         Answer::RowsWalked {
             total: 2,
-            drawn: rows,
+            drawn: drawn_rows(preparation),
         },
         Answer::PixelsWalked {
             total: 6,
-            drawn: pixels,
+            drawn: preparation.owners([given(0, 5), given(0, 4), given(0, 3)]),
         },
         Answer::BytesWalked {
             total: 12,
-            drawn: bytes,
+            drawn: preparation.owners([given(0, 11), given(6, 10), given(1, 9)]),
         },
         Answer::OutsideRectangle,
-        Answer::Copied(Err(refused)),
+        Answer::Copied(Err(CopyError::InvalidStride {
+            stride: 5,
+            width: 3,
+        })),
         Answer::PixelsWalked {
             total: 6,
-            drawn: last,
+            drawn: preparation.owners([given(8, 5)]),
         },
-    ])
+    ]
 }
 
 /// The rows that the calls give, the last one first, and then none.
-fn drawn_rows(alloc: Global) -> Result<Sequence<Drawn<Sequence<u16>>>, AllocError> {
-    let below = Sequence::from_slice(alloc, &[4, 5, 6])?;
-    let above = Sequence::from_slice(alloc, &[1, 2, 3])?;
-    let draws = [
-        Drawn {
-            item: Some(below),
-            left: 1,
-        },
-        Drawn {
-            item: Some(above),
-            left: 0,
-        },
-        Drawn {
-            item: None,
-            left: 0,
-        },
-    ];
-    Ok(Vec::from_array(alloc, draws)?.into())
+fn drawn_rows(preparation: &mut Preparation) -> Sequence<Drawn<Sequence<u16>>> {
+    let below = given(preparation.list(&[4, 5, 6]), 1);
+    let above = given(preparation.list(&[1, 2, 3]), 0);
+    let past = Drawn {
+        item: None,
+        left: 0,
+    };
+    preparation.owners([below, above, past])
 }
 
-/// Items that the calls give, each with how many it leaves.
-fn drawn<I: Copy, const N: usize>(
-    alloc: Global,
-    draws: [(I, usize); N],
-) -> Result<Sequence<Drawn<I>>, AllocError> {
-    let mut drawn = Vec::with_capacity(alloc, N)?;
-    for (item, left) in draws {
-        drawn.push(Drawn {
-            item: Some(item),
-            left,
-        })?;
+/// An item that a call gives, and how many it leaves.
+fn given<I>(item: I, left: usize) -> Drawn<I> {
+    Drawn {
+        item: Some(item),
+        left,
     }
-    Ok(drawn.into())
 }

@@ -1,7 +1,8 @@
 //! A replay of two calls, each of which writes a row.
 
+use super::preparation::Preparation;
 use crate::outcome::Outcome;
-use std::alloc::{AllocError, Global};
+use std::alloc::Global;
 use v_frame::chroma::ChromaSubsampling::Monochrome;
 use v_frame::frame::{Frame, FrameBuilder};
 use v_frame::replay::{Answer, Sequence, VisibleCall, replay};
@@ -11,25 +12,35 @@ use v_frame::replay::{Answer, Sequence, VisibleCall, replay};
 ///
 /// A refusal before the first write counts as one of the preparation, so that a run is seen whose refusal comes between the
 /// two writes. Then nothing is answered, and the plane is blank.
-pub fn replay_of_two_row_writes(alloc: Global) -> Result<Outcome, Outcome> {
-    let mut frame = FrameBuilder::new(2, 2, Monochrome, 8).build::<u8>(alloc)?;
-    replay_on(alloc, &mut frame)
+pub fn replay_of_two_row_writes(alloc: Global) -> Outcome {
+    match FrameBuilder::new(2, 2, Monochrome, 8).build::<u8>(alloc) {
+        Ok(mut frame) => replay_on(alloc, &mut frame),
+        Err(error) => Outcome::of_preparation(error),
+    }
 }
 
 /// The replay on this frame.
-fn replay_on(alloc: Global, frame: &mut Frame<u8>) -> Result<Outcome, Outcome> {
-    let calls = [row_mut(alloc, 0, [1, 2])?, row_mut(alloc, 1, [3, 4])?];
-    replay_calls(alloc, frame, &calls)
+fn replay_on(alloc: Global, frame: &mut Frame<u8>) -> Outcome {
+    let mut preparation = Preparation::new(alloc);
+    let calls = [
+        row_mut(0, preparation.list(&[Some(1), Some(2)])),
+        row_mut(1, preparation.list(&[Some(3), Some(4)])),
+    ];
+    let blank = Answer::RowShown(Some(preparation.list(&[0, 0])));
+    if preparation.is_refused() {
+        Outcome::Unprepared
+    } else {
+        seen_of(alloc, frame, &calls, &blank)
+    }
 }
 
-/// The replay of these calls.
-fn replay_calls(
-    alloc: Global,
-    frame: &mut Frame<u8>,
-    calls: &[VisibleCall<u8>],
-) -> Result<Outcome, Outcome> {
-    let blank = Answer::RowShown(Some(Sequence::from_slice(alloc, &[0, 0])?));
-    Ok(seen_of(alloc, frame, calls, &blank))
+/// A call that writes a row.
+fn row_mut(y: usize, writes: Sequence<Option<u8>>) -> VisibleCall<u8> {
+    VisibleCall::RowMut {
+        plane: 0,
+        y,
+        writes,
+    }
 }
 
 /// What is seen of the replay, where each call answers the same.
@@ -39,27 +50,26 @@ fn seen_of(
     calls: &[VisibleCall<u8>],
     blank: &Answer<u8>,
 ) -> Outcome {
-    let replayed = replay(alloc, frame, calls);
-    let data = frame.y_plane.data();
-    match replayed {
-        Ok(answers) => {
-            let is_answered = matches!(answers.as_slice(), [a, b] if a == blank && b == blank);
-            Outcome::done(is_answered && data == [1, 2, 3, 4].as_slice())
-        }
-        Err(stopped) => match stopped.done.as_slice() {
-            [] if data == [0; 4].as_slice() => Outcome::Unprepared,
-            [answer] => Outcome::kept(answer == blank && data == [1, 2, 0, 0].as_slice()),
-            _ => Outcome::kept(false),
-        },
+    match replay(alloc, frame, calls) {
+        Ok(answers) => Outcome::done(are_done(answers.as_slice(), blank, frame)),
+        Err(stopped) => seen_after(stopped.done.as_slice(), blank, frame),
     }
 }
 
-/// The pixels of a row replaced.
-fn row_mut(alloc: Global, y: usize, [a, b]: [u8; 2]) -> Result<VisibleCall<u8>, AllocError> {
-    let writes = Sequence::from_slice(alloc, &[Some(a), Some(b)])?;
-    Ok(VisibleCall::RowMut {
-        plane: 0,
-        y,
-        writes,
-    })
+/// Whether both calls were answered, and both rows are written.
+fn are_done(answers: &[Answer<u8>], blank: &Answer<u8>, frame: &Frame<u8>) -> bool {
+    match answers {
+        [a, b] => a == blank && b == blank && frame.y_plane.data() == [1, 2, 3, 4].as_slice(),
+        _ => false,
+    }
+}
+
+/// What is seen of a replay that is stopped behind these answers.
+fn seen_after(answers: &[Answer<u8>], blank: &Answer<u8>, frame: &Frame<u8>) -> Outcome {
+    let data = frame.y_plane.data();
+    match answers {
+        [] if data == [0; 4].as_slice() => Outcome::Unprepared,
+        [answer] => Outcome::kept(answer == blank && data == [1, 2, 0, 0].as_slice()),
+        _ => Outcome::kept(false),
+    }
 }

@@ -1,0 +1,48 @@
+//! Lists that a case prepares.
+
+use std::alloc::Global;
+use v_frame::replay::Sequence;
+
+/// Makes lists, and keeps whether a request for their memory was refused: what it gave then stands for nothing.
+#[derive(Drop)]
+pub struct Preparation {
+    alloc: Global,
+    is_refused: bool,
+}
+
+impl Preparation {
+    /// One of which nothing was asked.
+    pub fn new(alloc: Global) -> Self {
+        Preparation {
+            alloc,
+            is_refused: false,
+        }
+    }
+
+    /// Whether a request was refused.
+    pub fn is_refused(&self) -> bool {
+        self.is_refused
+    }
+
+    /// A list of these items.
+    pub fn list<T: Copy>(&mut self, items: &[T]) -> Sequence<T> {
+        match Sequence::from_slice(self.alloc, items) {
+            Ok(list) => list,
+            Err(_) => self.refused(),
+        }
+    }
+
+    /// A list of these items, which may own memory.
+    pub fn owners<T: Drop, const N: usize>(&mut self, items: [T; N]) -> Sequence<T> {
+        match Vec::from_array(self.alloc, items) {
+            Ok(list) => list.into(),
+            Err(_) => self.refused(),
+        }
+    }
+
+    /// No list, since a request was refused.
+    fn refused<T>(&mut self) -> Sequence<T> {
+        self.is_refused = true;
+        Vec::new(self.alloc).into()
+    }
+}
