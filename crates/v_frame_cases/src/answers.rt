@@ -1,12 +1,12 @@
 //! Answers as text.
 
 use crate::printer::Printer;
-use v_frame::pixel::Pixel;
+use std::fmt::Display;
 use v_frame::plane::CopyError;
 use v_frame::replay::{Answer, Drawn, Sequence};
 
 /// Prints a line for each answer.
-pub fn print_answers<T: Pixel>(out: &mut Printer, answers: &[Answer<T>]) {
+pub fn print_answers<T: Display>(out: &mut Printer, answers: &[Answer<T>]) {
     for answer in answers {
         print_answer(out, answer);
         out.end_line();
@@ -14,7 +14,7 @@ pub fn print_answers<T: Pixel>(out: &mut Printer, answers: &[Answer<T>]) {
 }
 
 /// Prints an answer.
-fn print_answer<T: Pixel>(out: &mut Printer, answer: &Answer<T>) {
+fn print_answer<T: Display>(out: &mut Printer, answer: &Answer<T>) {
     match answer {
         Answer::NoPlane => out.text("NoPlane"),
         Answer::OutsideRectangle => out.text("OutsideRectangle"),
@@ -33,7 +33,7 @@ fn print_answer<T: Pixel>(out: &mut Printer, answer: &Answer<T>) {
 }
 
 /// Prints the answer of a call that read or wrote a row.
-fn print_row_shown<T: Pixel>(out: &mut Printer, row: &Option<Sequence<T>>) {
+fn print_row_shown<T: Display>(out: &mut Printer, row: &Option<Sequence<T>>) {
     out.text("RowShown");
     print_row(out, row);
 }
@@ -54,7 +54,7 @@ fn print_copied(out: &mut Printer, copied: &Result<(), CopyError>) {
 }
 
 /// Prints a row, or that there is none.
-fn print_row<T: Pixel>(out: &mut Printer, row: &Option<Sequence<T>>) {
+fn print_row<T: Display>(out: &mut Printer, row: &Option<Sequence<T>>) {
     match row {
         Some(row) => out.list(row.as_slice()),
         None => out.text(" -"),
@@ -62,7 +62,7 @@ fn print_row<T: Pixel>(out: &mut Printer, row: &Option<Sequence<T>>) {
 }
 
 /// Prints the answer of an iteration over rows: the rows that it gave, and how many were left after each.
-fn print_rows<T: Pixel>(out: &mut Printer, total: usize, drawn: &[Drawn<Sequence<T>>]) {
+fn print_rows<T: Display>(out: &mut Printer, total: usize, drawn: &[Drawn<Sequence<T>>]) {
     out.named("RowsWalked", &total);
     out.item(&drawn.len());
     for Drawn { item, left } in drawn {
@@ -72,7 +72,7 @@ fn print_rows<T: Pixel>(out: &mut Printer, total: usize, drawn: &[Drawn<Sequence
 }
 
 /// Prints the answer of an iteration over pixels or bytes: what it gave, and how many were left after each.
-fn print_items<T: Pixel>(out: &mut Printer, name: &str, total: usize, drawn: &[Drawn<T>]) {
+fn print_items<T: Display>(out: &mut Printer, name: &str, total: usize, drawn: &[Drawn<T>]) {
     out.named(name, &total);
     out.item(&drawn.len());
     for Drawn { item, left } in drawn {
@@ -82,7 +82,7 @@ fn print_items<T: Pixel>(out: &mut Printer, name: &str, total: usize, drawn: &[D
 }
 
 /// Prints a pixel or a byte, or that there is none.
-fn print_item<T: Pixel>(out: &mut Printer, item: &Option<T>) {
+fn print_item<T: Display>(out: &mut Printer, item: &Option<T>) {
     match item {
         Some(item) => out.item(item),
         None => out.text(" -"),

@@ -3,8 +3,8 @@
 use crate::fault::{CaseFault, LineFault};
 use crate::lines::Lines;
 use crate::tokens::Tokens;
+use crate::value::Value;
 use std::alloc::Global;
-use v_frame::pixel::Pixel;
 use v_frame::replay::VisibleCall;
 
 /// Reads how many calls there are, where another line is this fault.
@@ -17,7 +17,7 @@ pub fn read_count(lines: &mut Lines<'_>, other: LineFault) -> Result<u64, CaseFa
 }
 
 /// Reads the calls, a line each.
-pub fn read_calls<T: Pixel>(
+pub fn read_calls<T: Value>(
     alloc: Global,
     lines: &mut Lines<'_>,
 ) -> Result<Vec<VisibleCall<T>>, CaseFault> {
@@ -31,7 +31,7 @@ pub fn read_calls<T: Pixel>(
 }
 
 /// Reads a call. What is none is a fault, and reads as any.
-fn read_call<T: Pixel>(alloc: Global, tokens: &mut Tokens<'_>) -> VisibleCall<T> {
+fn read_call<T: Value>(alloc: Global, tokens: &mut Tokens<'_>) -> VisibleCall<T> {
     let name = tokens.word();
     let plane = tokens.size();
     match name {
@@ -63,7 +63,7 @@ fn read_call<T: Pixel>(alloc: Global, tokens: &mut Tokens<'_>) -> VisibleCall<T>
 }
 
 /// Reads a call that writes, behind its plane.
-fn read_write<T: Pixel>(
+fn read_write<T: Value>(
     alloc: Global,
     name: &str,
     plane: usize,
@@ -94,7 +94,7 @@ fn read_write<T: Pixel>(
 }
 
 /// Reads a call that copies, behind its plane.
-fn read_copy<T: Pixel>(
+fn read_copy<T: Value>(
     alloc: Global,
     name: &str,
     plane: usize,

@@ -4,18 +4,18 @@ ghost use Rattle.std.specs.Prelude.{◌≡◌, IfSome, length};
 use crate::fault::{CaseFault, LineFault};
 use crate::lcg::Lcg;
 use crate::tokens::Tokens;
+use crate::value::Value;
 use std::alloc::Global;
-use v_frame::pixel::Pixel;
 use v_frame::plane::{Plane, PlaneGeometry};
 
 /// Reads what to write from the rest of a line, and writes it.
-pub fn fill_plane<T: Pixel>(
+pub fn fill_plane<T: Value>(
     alloc: Global,
     plane: &mut Plane<T>,
     tokens: &mut Tokens<'_>,
 ) -> Result<(), CaseFault> {
     match tokens.word() {
-        "all" => plane.data_mut().fill(tokens.pixel()),
+        "all" => fill_all(plane, tokens.pixel()),
         "lcg" => fill_congruence(plane, tokens.number()),
         "list" => fill_whole(alloc, plane, tokens),
         "border" => fill_border(plane, tokens.pixel()),
@@ -25,8 +25,15 @@ pub fn fill_plane<T: Pixel>(
     tokens.end()
 }
 
+/// Writes one pixel all over the buffer.
+fn fill_all<T: Copy>(plane: &mut Plane<T>, value: T) {
+    for entry in plane.data_mut() {
+        *entry = value;
+    }
+}
+
 /// Writes the whole buffer, pixel after pixel of a congruence.
-fn fill_congruence<T: Pixel>(plane: &mut Plane<T>, seed: u64) {
+fn fill_congruence<T: Value>(plane: &mut Plane<T>, seed: u64) {
     let mut lcg = Lcg::new(seed);
     for entry in plane.data_mut() {
         *entry = lcg.pixel();
@@ -34,7 +41,7 @@ fn fill_congruence<T: Pixel>(plane: &mut Plane<T>, seed: u64) {
 }
 
 /// Reads a list, which has to have this length.
-fn read_list<T: Pixel>(alloc: Global, tokens: &mut Tokens<'_>, expected: usize) -> Option<Vec<T>>
+fn read_list<T: Value>(alloc: Global, tokens: &mut Tokens<'_>, expected: usize) -> Option<Vec<T>>
     ensures { IfSome result (λ values. length values.items ≡ expected) }
 {
     let values = tokens.pixels(alloc);
@@ -47,7 +54,7 @@ fn read_list<T: Pixel>(alloc: Global, tokens: &mut Tokens<'_>, expected: usize) 
 }
 
 /// Writes the whole buffer from a list.
-fn fill_whole<T: Pixel>(alloc: Global, plane: &mut Plane<T>, tokens: &mut Tokens<'_>) {
+fn fill_whole<T: Value>(alloc: Global, plane: &mut Plane<T>, tokens: &mut Tokens<'_>) {
     let buffer = plane.data_mut();
     if let Some(values) = read_list(alloc, tokens, buffer.len()) {
         buffer.copy_from_slice(values.as_slice());
@@ -55,7 +62,7 @@ fn fill_whole<T: Pixel>(alloc: Global, plane: &mut Plane<T>, tokens: &mut Tokens
 }
 
 /// Writes each entry of the border.
-fn fill_border<T: Pixel>(plane: &mut Plane<T>, value: T) {
+fn fill_border<T: Copy>(plane: &mut Plane<T>, value: T) {
     let geometry = plane.geometry();
     for (place, entry) in plane.data_mut().iter_mut().enumerate() {
         if !is_visible(&geometry, place) {
@@ -65,7 +72,7 @@ fn fill_border<T: Pixel>(plane: &mut Plane<T>, value: T) {
 }
 
 /// Writes the visible pixels from a list, row after row.
-fn fill_table<T: Pixel>(alloc: Global, plane: &mut Plane<T>, tokens: &mut Tokens<'_>) {
+fn fill_table<T: Value>(alloc: Global, plane: &mut Plane<T>, tokens: &mut Tokens<'_>) {
     let geometry = plane.geometry();
     let count = geometry.width().saturating_mul(geometry.height());
     if let Some(values) = read_list(alloc, tokens, count) {
@@ -74,7 +81,7 @@ fn fill_table<T: Pixel>(alloc: Global, plane: &mut Plane<T>, tokens: &mut Tokens
 }
 
 /// Writes the visible pixels, row after row.
-fn write_table<T: Pixel>(plane: &mut Plane<T>, values: &[T]) {
+fn write_table<T: Copy>(plane: &mut Plane<T>, values: &[T]) {
     let geometry = plane.geometry();
     let mut values = values.iter();
     for (place, entry) in plane.data_mut().iter_mut().enumerate() {

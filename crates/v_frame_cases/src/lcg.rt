@@ -1,7 +1,7 @@
 //! Pixels that follow from a seed.
 ghost use Rattle.std.specs.Prelude.{◌≡◌, ◌+◌, ◌*◌, ◌/◌, ◌%◌, ◌^◌, ◌<◌};
 
-use v_frame::pixel::Pixel;
+use crate::value::Value;
 
 /// A linear congruence modulo 2^31.
 #[derive(Drop)]
@@ -21,13 +21,8 @@ impl Lcg {
     }
 
     /// The next pixel of this type.
-    pub fn pixel<T: Pixel>(&mut self) -> T {
-        let number = self.step();
-        if T::BYTES == 1 {
-            T::from_u8((number % 256) as u8)
-        } else {
-            T::try_from_u16(number).unwrap_or(T::ZERO)
-        }
+    pub fn pixel<T: Value>(&mut self) -> T {
+        T::of_step(self.step())
     }
 
     /// The next number: one step, and its upper 16 bits.

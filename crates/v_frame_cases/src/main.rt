@@ -18,6 +18,7 @@ mod printer;
 mod run;
 mod spec;
 mod tokens;
+mod value;
 
 use run::run_cases;
 use std::process::ExitCode;

@@ -88,7 +88,7 @@ fn print_geometry(out: &mut Printer, geometry: &PlaneGeometry) {
 }
 
 /// Prints the whole buffer of a plane.
-fn print_buffer<T: Pixel>(alloc: Global, out: &mut Printer, entries: &[T]) {
+fn print_buffer<T: Copy + PartialEq + Display>(alloc: Global, out: &mut Printer, entries: &[T]) {
     if entries.len() > LONGEST_LIST {
         print_runs(alloc, out, entries);
     } else {
@@ -98,7 +98,7 @@ fn print_buffer<T: Pixel>(alloc: Global, out: &mut Printer, entries: &[T]) {
 }
 
 /// Prints a buffer as runs.
-fn print_runs<T: Pixel>(alloc: Global, out: &mut Printer, entries: &[T]) {
+fn print_runs<T: Copy + PartialEq + Display>(alloc: Global, out: &mut Printer, entries: &[T]) {
     out.named(" runs", &entries.len());
     match runs_of(alloc, entries) {
         Ok(runs) => out.list(runs.as_slice()),
@@ -121,7 +121,7 @@ impl<T: Display> Display for Run<T> {
 }
 
 /// The runs of a list, each as long as it can be.
-fn runs_of<T: Pixel>(alloc: Global, entries: &[T]) -> Result<Vec<Run<T>>, AllocError> {
+fn runs_of<T: Copy + PartialEq>(alloc: Global, entries: &[T]) -> Result<Vec<Run<T>>, AllocError> {
     let mut runs: Vec<Run<T>> = Vec::new(alloc);
     for entry in entries {
         match runs.last_mut() {

@@ -2,8 +2,8 @@
 
 use crate::fault::{CaseFault, LineFault};
 use crate::lcg::Lcg;
+use crate::value::Value;
 use std::alloc::Global;
-use v_frame::pixel::Pixel;
 use v_frame::replay::{PixelDraw, RowDraw, Sequence, Side};
 
 /// The tokens of a line that are left to read. The first fault is kept until [`Tokens::end`] tells it: what was read behind
@@ -132,13 +132,13 @@ impl<'a> Tokens<'a> {
     }
 
     /// A pixel, by its value.
-    pub fn pixel<T: Pixel>(&mut self) -> T {
+    pub fn pixel<T: Value>(&mut self) -> T {
         let word = self.word();
         self.pixel_of(word)
     }
 
     /// A pixel, or none.
-    fn option<T: Pixel>(&mut self) -> Option<T> {
+    fn option<T: Value>(&mut self) -> Option<T> {
         match self.word() {
             "-" => None,
             word => Some(self.pixel_of(word)),
@@ -170,22 +170,21 @@ impl<'a> Tokens<'a> {
     }
 
     /// The pixel whose value a token tells.
-    fn pixel_of<T: Pixel>(&mut self, word: &str) -> T {
-        let number = self.number_of(word);
-        if number < 0x1_0000
-            && let Some(pixel) = T::try_from_u16(number as u16)
-        {
-            return pixel;
+    fn pixel_of<T: Value>(&mut self, word: &str) -> T {
+        match T::of_number(self.number_of(word)) {
+            Some(pixel) => pixel,
+            None => {
+                self.keep(LineFault::NumberTooLarge);
+                T::zero()
+            }
         }
-        self.keep(LineFault::NumberTooLarge);
-        T::ZERO
     }
 }
 
 /// Lists. Their length stands in front, and room is made for what is there, whatever it says.
 impl<'a> Tokens<'a> {
     /// A list of pixels.
-    pub fn pixels<T: Pixel>(&mut self, alloc: Global) -> Vec<T> {
+    pub fn pixels<T: Value>(&mut self, alloc: Global) -> Vec<T> {
         let mut pixels = Vec::new(alloc);
         for _ in 0..self.number() {
             let pixel = self.pixel();
@@ -218,7 +217,7 @@ impl<'a> Tokens<'a> {
     }
 
     /// The source of a copy: a list, or as many pixels of a congruence as it says. Bytes are pixels of one byte.
-    pub fn source<T: Pixel>(&mut self, alloc: Global) -> Sequence<T> {
+    pub fn source<T: Value>(&mut self, alloc: Global) -> Sequence<T> {
         let pixels = match self.word() {
             "list" => self.pixels(alloc),
             "lcg" => self.congruence(alloc),
@@ -231,7 +230,7 @@ impl<'a> Tokens<'a> {
     }
 
     /// Pixels of a congruence, by its seed and how many there are.
-    fn congruence<T: Pixel>(&mut self, alloc: Global) -> Vec<T> {
+    fn congruence<T: Value>(&mut self, alloc: Global) -> Vec<T> {
         let mut lcg = Lcg::new(self.number());
         let mut pixels = Vec::new(alloc);
         for _ in 0..self.number() {
@@ -258,14 +257,14 @@ impl Entry for Side {
 }
 
 /// A pixel, or none.
-impl<T: Pixel> Entry for Option<T> {
+impl<T: Value> Entry for Option<T> {
     fn read(_alloc: Global, tokens: &mut Tokens<'_>) -> Self {
         tokens.option()
     }
 }
 
 /// A call on an iterator of lent rows.
-impl<T: Pixel> Entry for RowDraw<T> {
+impl<T: Value> Entry for RowDraw<T> {
     fn read(alloc: Global, tokens: &mut Tokens<'_>) -> Self {
         let side = tokens.side();
         let writes = tokens.list(alloc);
@@ -274,7 +273,7 @@ impl<T: Pixel> Entry for RowDraw<T> {
 }
 
 /// A call on an iterator of lent pixels.
-impl<T: Pixel> Entry for PixelDraw<T> {
+impl<T: Value> Entry for PixelDraw<T> {
     fn read(_alloc: Global, tokens: &mut Tokens<'_>) -> Self {
         let side = tokens.side();
         let value = tokens.option();
