@@ -21,17 +21,17 @@ pub fn build(alloc: Global) -> Outcome {
 
 /// Whether a frame has zeros in its planes, their borders included, and each plane the size that was asked for.
 fn is_blank(frame: &Frame<u8>) -> bool {
-    let Some((first, second)) = frame.u_plane.as_ref().zip(frame.v_plane.as_ref()) else {
-        return false;
-    };
     let format = frame.subsampling == ChromaSubsampling::Yuv420 && frame.bit_depth.get() == 8;
     let luma = frame.y_plane.data() == [0; 32].as_slice()
         && Some(frame.y_plane.geometry()) == PlaneGeometry::new(4, 2, 2, 2, 2, 0, 1, 1);
-    format && luma && is_blank_chroma(first) && is_blank_chroma(second)
+    format && luma && is_blank_chroma(&frame.u_plane) && is_blank_chroma(&frame.v_plane)
 }
 
-/// Whether a plane is the chroma of that frame.
-fn is_blank_chroma(plane: &Plane<u8>) -> bool {
+/// Whether a plane is there, and is the chroma of that frame.
+fn is_blank_chroma(plane: &Option<Plane<u8>>) -> bool {
+    let Some(plane) = plane else {
+        return false;
+    };
     let geometry = PlaneGeometry::new(2, 1, 1, 1, 1, 0, 2, 2);
     Some(plane.geometry()) == geometry && plane.data() == [0; 8].as_slice()
 }

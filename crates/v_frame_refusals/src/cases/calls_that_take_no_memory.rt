@@ -61,7 +61,7 @@ fn refusal<T: Pixel>(alloc: Global, width: usize, depth: u8) -> Option<FrameErro
 }
 
 /// Two pixels by two in a border of one column to the left.
-const ENTRIES: [u16; 6] = [900, 0x0102, 0x0304, 901, 0x0506, 0x0708];
+static ENTRIES: [u16; 6] = [900, 0x0102, 0x0304, 901, 0x0506, 0x0708];
 
 /// Whether a plane over an array reads as it stands there.
 fn array_is_read() -> bool {
@@ -76,10 +76,10 @@ fn array_is_read() -> bool {
 
 /// Whether a plane over the array has its size, its rows and its pixels.
 fn is_measured(plane: &PlaneRef<'_, u16>) -> bool {
-    let size = (plane.width(), plane.height()) == (2, 2);
-    let rows = plane.row(0) == Some([0x0102, 0x0304].as_slice()) && plane.row(2).is_none();
+    let size = plane.width() == 2 && plane.height() == 2;
     let pixels = plane.pixel(1, 1) == Some(0x0708) && plane.pixel(2, 1).is_none();
-    size && rows && pixels && plane.again().data() == ENTRIES.as_slice()
+    let row = plane.row(0) == Some([0x0102, 0x0304].as_slice());
+    size && pixels && row && plane.row(2).is_none() && plane.again().data() == ENTRIES.as_slice()
 }
 
 /// Whether the iterators of a plane over the array give what it shows, from both ends.

@@ -71,6 +71,11 @@ fn paint(plane: &mut Plane<u16>, buffer: &Buffer) {
 
 /// Whether a frame has these entries, in its borders too.
 pub fn holds(frame: &Frame<u16>, [luma, first, second]: &Buffers) -> bool {
+    has_planes(frame, luma, first, second)
+}
+
+/// Whether the planes of a frame have these entries each, in their borders too.
+pub fn has_planes(frame: &Frame<u16>, luma: &Buffer, first: &Buffer, second: &Buffer) -> bool {
     let format = frame.subsampling == ChromaSubsampling::Yuv444 && frame.bit_depth.get() == 16;
     let chroma = has(&frame.u_plane, first) && has(&frame.v_plane, second);
     format && is_painted(&frame.y_plane, luma) && chroma

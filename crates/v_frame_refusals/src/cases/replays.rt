@@ -1,6 +1,6 @@
 //! A replay of a list of six calls, three of which write.
 
-use super::pictures::{Buffers, PREPARED, holds, prepared};
+use super::pictures::{Buffer, PREPARED, has_planes, prepared};
 use super::preparation::Preparation;
 use crate::outcome::Outcome;
 use std::alloc::Global;
@@ -8,30 +8,14 @@ use v_frame::frame::Frame;
 use v_frame::plane::CopyError;
 use v_frame::replay::{Answer, Drawn, PixelDraw, RowDraw, Sequence, Side, VisibleCall, replay};
 
-/// What the frame has after the first call.
-static AFTER_ONE: Buffers = [
-    [
-        1000, 1001, 1002, 1003, 1004, 1005, 1006, 1, 2, 3, 1010, 1011, 1012, 4, 50, 6, 1016, 1017,
-    ],
-    [
-        2000, 2001, 2002, 2003, 2004, 2005, 2006, 0, 0, 0, 2010, 2011, 2012, 0, 0, 0, 2016, 2017,
-    ],
-    [
-        3000, 3001, 3002, 3003, 3004, 3005, 3006, 0, 0, 0, 3010, 3011, 3012, 0, 0, 0, 3016, 3017,
-    ],
+/// What luma has after the first call.
+static WRITTEN_LUMA: Buffer = [
+    1000, 1001, 1002, 1003, 1004, 1005, 1006, 1, 2, 3, 1010, 1011, 1012, 4, 50, 6, 1016, 1017,
 ];
 
-/// What the frame has after the second call, and after each one behind it.
-static AFTER_TWO: Buffers = [
-    [
-        1000, 1001, 1002, 1003, 1004, 1005, 1006, 1, 2, 3, 1010, 1011, 1012, 4, 50, 6, 1016, 1017,
-    ],
-    [
-        2000, 2001, 2002, 2003, 2004, 2005, 2006, 0, 0, 0, 2010, 2011, 2012, 0, 0, 0, 2016, 2017,
-    ],
-    [
-        3000, 3001, 3002, 3003, 3004, 3005, 3006, 7, 0, 0, 3010, 3011, 3012, 0, 0, 8, 3016, 3017,
-    ],
+/// What the second chroma plane has after the second call.
+static WRITTEN_CHROMA: Buffer = [
+    3000, 3001, 3002, 3003, 3004, 3005, 3006, 7, 0, 0, 3010, 3011, 3012, 0, 0, 8, 3016, 3017,
 ];
 
 /// A replay in a numbered border. Where it is stopped, the calls that were answered are done, and no other.
@@ -75,12 +59,18 @@ fn seen_of(
 
 /// Whether these are the first answers of those that are wanted, and the frame is as their calls leave it.
 fn is_left(frame: &Frame<u16>, answers: &[Answer<u16>], wanted: &[Answer<u16>]) -> bool {
-    let buffers = match answers.len() {
-        0 => &PREPARED,
-        1 => &AFTER_ONE,
-        _ => &AFTER_TWO,
+    let [luma, first, second] = &PREPARED;
+    let luma = if answers.is_empty() {
+        luma
+    } else {
+        &WRITTEN_LUMA
     };
-    wanted.get(..answers.len()) == Some(answers) && holds(frame, buffers)
+    let second = if answers.len() < 2 {
+        second
+    } else {
+        &WRITTEN_CHROMA
+    };
+    wanted.get(..answers.len()) == Some(answers) && has_planes(frame, luma, first, second)
 }
 
 /// The calls.

@@ -7,8 +7,8 @@ use v_frame_planar::Counted;
 use v_frame_text::fault::ToolFault;
 use v_frame_text::run::run;
 
-/// What is written of the pixels 1 to 8.
-const WRITTEN: [u8; 31] = *b"plane 0: 4 x 2\n1 2 3 4\n5 6 7 8\n";
+/// What is written of the pixels 1 to 8, and the nine bytes of the room that are left.
+static WRITTEN: [u8; 40] = *b"plane 0: 4 x 2\n1 2 3 4\n5 6 7 8\n\0\0\0\0\0\0\0\0\0";
 
 /// Eight pixels are written into room of a fixed length, which takes no memory itself. Where memory is refused, nothing was
 /// written, and no write failed.
@@ -19,9 +19,8 @@ pub fn run_into_a_fixed_slice(alloc: Global) -> Outcome {
     let left = out.inner().len();
     let failures = out.failures();
     drop(out);
-    let text = room.get(..40 - left.min(40));
     match answer {
-        Ok(()) => Outcome::done(failures == 0 && text == Some(WRITTEN.as_slice())),
+        Ok(()) => Outcome::done(failures == 0 && left == 9 && room == WRITTEN),
         Err(ToolFault::Frame(FrameError::OutOfMemory)) | Err(ToolFault::OutOfMemory) => {
             Outcome::kept(failures == 0 && left == 40 && room == [0; 40])
         }
