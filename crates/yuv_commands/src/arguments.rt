@@ -112,6 +112,7 @@ impl<'a> WrongCall<'a> {
     }
 }
 
+// By hand, as of `Problem`: derived, it takes longer to prove.
 impl fmt::Display for WrongCall<'_> {
     fn fmt<W: fmt::Write>(&self, f: &mut fmt::Formatter<W>) -> fmt::Result {
         let (begin, end) = self.parts();

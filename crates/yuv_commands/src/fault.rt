@@ -141,6 +141,7 @@ impl Problem {
     }
 }
 
+// By hand: what is derived of so many variants takes longer to prove than a command.
 impl fmt::Display for Problem {
     fn fmt<W: fmt::Write>(&self, f: &mut fmt::Formatter<W>) -> fmt::Result {
         f.write_str(self.text())?;
