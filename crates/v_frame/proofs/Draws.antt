@@ -6,7 +6,7 @@ use Rattle.std.specs.Option.{option_to_list}
 use Rattle.std.proofs.lemmas.Bool.{cases_lt, lt-ltb, le-ltb}
 use Rattle.std.proofs.lemmas.List.{get_or-map, map-id, drop-drop, drop-take, take-take, take_all, take_more, reverse-append}
 use Rattle.std.proofs.lemmas.List.Sums.{sum_by-append}
-use Rattle.std.proofs.lemmas.Option.{slice_get_past, slice_get-get_or}
+use Rattle.std.proofs.lemmas.Option.{slice_get_past}
 use Rattle.v_frame.specs.declared.replay.draw.Side.{Side}
 use Rattle.v_frame.specs.declared.replay.draw.Side.TheVariants.{Front, Back}
 use Rattle.v_frame.specs.declared.replay.draw.Drawn.{Drawn}
@@ -126,13 +126,6 @@ are_counted X = λ items sides.
 pub side_at : {D : Type 0} (side_of : D → Side) (draws : List D) (i : ℕ) (draw : D) (side : Side) → i < length draws → draw ≡ get_or draws i draw →
     side ≡ side_of draw → side ≡ get_or (map side_of draws) i side
 side_at side_of draws i draw side within here is = is ∙ ap side_of here ∙ sym (get_or-map side_of draws i draw side within)
-
--- an item of the list is read with any default
-pub own_default : (sides : List Side) (i : ℕ) (default : Side) → i < length sides → get_or sides i default ≡ get_or sides i (get_or sides i default)
-own_default sides i default within =
-    let one = slice_get-get_or sides i default within in
-    let other = slice_get-get_or sides i (get_or sides i default) within in
-    cc
 
 module _ {X : Type 0} where
   first_and_others : (items : List X) → items ≡ option_to_list (slice_get items 0) ++ drop 1 items

@@ -5,7 +5,7 @@ use Rattle.std.specs.Int.{div_ceil}
 use Rattle.std.proofs.Math.Nat.{div-le_self, div-one, mul-le-mul_left, mul-le-mul_right, min-le_right}
 use Rattle.std.proofs.lemmas.Nat.{div-add-mod'}
 use Rattle.std.proofs.lemmas.Bool.Decides.{nat_tests}
-use Rattle.v_frame.specs.Prelude.{Geometry, geometry_of, stride_of, alloc_height_of, Fits, IsGeometry}
+use Rattle.v_frame.specs.Prelude.{Geometry, geometry_of, stride_of, alloc_height_of, Fits}
 use Rattle.v_frame_layout.specs.Chroma.{has_quotient, is_divisible, is_full, divided_geometry, subsampled_by}
 use Rattle.v_frame_layout.specs.declared.geometry.SubsamplingError.{SubsamplingError}
 use Rattle.v_frame_planar.specs.Video.{covering_geometry}
@@ -35,16 +35,6 @@ module _ (g : Geometry) (x y : ℕ) (some_x : 0 < x) (some_y : 0 < y) where
 
   rows_of_cover : alloc_height_of (covering_geometry g (x, y)) ≤ alloc_height_of g
   rows_of_cover = omega (arith, ceil_le g.height y some_y, div-le_self g.pad_top y, div-le_self g.pad_bottom y)
-
-  pub cover_is_geometry : IsGeometry g → IsGeometry (covering_geometry g (x, y))
-  cover_is_geometry is =
-      record {
-        wide = ceil_positive g.width x is.wide;
-        high = ceil_positive g.height y is.high;
-        sampled_x = some_x;
-        sampled_y = some_y;
-        stride_fits = omega (arith, stride_of_cover, is.stride_fits);
-      }
 
   pub cover_fits : Fits g → Fits (covering_geometry g (x, y))
   cover_fits fits =

@@ -1,6 +1,6 @@
 -- A buffer whose border is filled from the front on, part after part.
-use Rattle.std.proofs.Common.{ℕ, zero, suc, ◌≡◌, ◌+◌, ◌-◌, ◌*◌, ◌/◌, ◌%◌, ◌<◌, ◌≤◌, List, [], ◌∷◌, ◌++◌, length, take, drop, replicate, Some, None, slice_get}
-use Rattle.std.proofs.Common.{inl, inr, refl, sym, ◌∙◌, ap, arith, length-take-le}
+use Rattle.std.proofs.Common.{ℕ, zero, suc, ◌≡◌, ◌+◌, ◌-◌, ◌*◌, ◌/◌, ◌%◌, ◌<◌, ◌≤◌, List, [], length, drop, replicate, Some, None, slice_get}
+use Rattle.std.proofs.Common.{inl, inr, refl, sym, ◌∙◌, ap, arith}
 use Rattle.std.proofs.lemmas.Bool.{cases_lt}
 use Rattle.std.proofs.lemmas.List.{take_at}
 use Rattle.std.specs.List.{refill}

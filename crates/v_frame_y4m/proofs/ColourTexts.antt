@@ -1,5 +1,5 @@
 -- Where each colour stands among those that a parameter says, and that no two are spelled alike.
-use Rattle.std.proofs.Common.{ℕ, ◌≡◌, ◌≢◌, ◌+◌, ◌<◌, ◌≤◌, List, [], ◌∷◌, drop, get_or, cond, refl, sym, ◌∙◌, ap, subst, rules, arith, lit<}
+use Rattle.std.proofs.Common.{ℕ, ◌≡◌, ◌≢◌, ◌+◌, ◌<◌, ◌≤◌, List, [], ◌∷◌, drop, get_or, cond, refl, sym, ◌∙◌, ap, subst, rules, arith}
 use Rattle.std.specs.Prelude.{Option, Some, None, unwrap_or}
 use Rattle.std.specs.Str.{bytes_eq}
 use Rattle.std.specs.List.{AllByRecursion}
@@ -76,37 +76,6 @@ ranked (MonoDeep Ten) w is = refl
 ranked (MonoDeep Twelve) w is = refl
 ranked (MonoDeep Fourteen) w is = refl
 ranked (MonoDeep Sixteen) w is = refl
-
-pub rank_below : (c : Colour) → stated c ≡ Some c → rank c < 28
-rank_below Unstated is = absurd (none_is_not_some Unstated is)
-rank_below Yuv420 is = lit< tt
-rank_below Yuv420Jpeg is = lit< tt
-rank_below Yuv420Mpeg2 is = lit< tt
-rank_below Yuv420Paldv is = lit< tt
-rank_below Yuv411 is = lit< tt
-rank_below Yuv422 is = lit< tt
-rank_below Yuv444 is = lit< tt
-rank_below Mono is = lit< tt
-rank_below (Yuv420Deep Nine) is = lit< tt
-rank_below (Yuv420Deep Ten) is = lit< tt
-rank_below (Yuv420Deep Twelve) is = lit< tt
-rank_below (Yuv420Deep Fourteen) is = lit< tt
-rank_below (Yuv420Deep Sixteen) is = lit< tt
-rank_below (Yuv422Deep Nine) is = lit< tt
-rank_below (Yuv422Deep Ten) is = lit< tt
-rank_below (Yuv422Deep Twelve) is = lit< tt
-rank_below (Yuv422Deep Fourteen) is = lit< tt
-rank_below (Yuv422Deep Sixteen) is = lit< tt
-rank_below (Yuv444Deep Nine) is = lit< tt
-rank_below (Yuv444Deep Ten) is = lit< tt
-rank_below (Yuv444Deep Twelve) is = lit< tt
-rank_below (Yuv444Deep Fourteen) is = lit< tt
-rank_below (Yuv444Deep Sixteen) is = lit< tt
-rank_below (MonoDeep Nine) is = lit< tt
-rank_below (MonoDeep Ten) is = lit< tt
-rank_below (MonoDeep Twelve) is = lit< tt
-rank_below (MonoDeep Fourteen) is = lit< tt
-rank_below (MonoDeep Sixteen) is = lit< tt
 
 -- the colour that a text spells, for the proof alone
 abbrev pub spelled_by : List ℕ → List Colour → Colour

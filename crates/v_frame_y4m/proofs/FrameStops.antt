@@ -7,9 +7,9 @@ use Rattle.v_frame_planar.specs.Counted.{Watched, HasFailed}
 use Rattle.v_frame_planar.specs.Planar.{MayStopReading}
 use Rattle.v_frame_planar.specs.declared.error.PlanarError.{PlanarError}
 use Rattle.v_frame_planar.specs.declared.error.PlanarError.TheVariants.{Truncated, TooLarge, Read, Write, WriteZero, OutOfMemory}
-use Rattle.v_frame_y4m.specs.Streams.{longest, IsFrameLine, MayStopInBytes, MayStopInFrame, MayStopInLine}
+use Rattle.v_frame_y4m.specs.Streams.{IsFrameLine, MayStopInBytes, MayStopInFrame}
 use Rattle.v_frame_y4m.specs.declared.error.Y4mError.{Y4mError}
-use Rattle.v_frame_y4m.specs.declared.error.Y4mError.TheVariants.{Header, LineTooLong, UnfinishedLine, NoFrame, Planar}
+use Rattle.v_frame_y4m.specs.declared.error.Y4mError.TheVariants.{Planar}
 
 abbrev expected_of : PlanarError → ℕ
 expected_of (Truncated expected found) = expected
@@ -26,19 +26,6 @@ found_of Read = 0
 found_of Write = 0
 found_of WriteZero = 0
 found_of OutOfMemory = 0
-
-module _ {R : Type 0} (remaining : R → Option (List ℕ)) (old new : Watched R) (n : ℕ) where
-  pub line_stops : (error : Y4mError) → MayStopInLine remaining old new longest error → MayStopInFrame remaining old new n error
-  line_stops (Header error) stopped = stopped
-  line_stops LineTooLong stopped = stopped
-  line_stops UnfinishedLine stopped = stopped
-  line_stops NoFrame stopped = absurd stopped
-  line_stops (Planar (Truncated expected found)) stopped = absurd (search (rules, stopped.0))
-  line_stops (Planar TooLarge) stopped = absurd (search (rules, stopped.0))
-  line_stops (Planar OutOfMemory) stopped = absurd (search (rules, stopped.0))
-  line_stops (Planar Read) stopped = inl stopped
-  line_stops (Planar Write) stopped = absurd (search (rules, stopped.0))
-  line_stops (Planar WriteZero) stopped = absurd (search (rules, stopped.0))
 
 module _ {R : Type 0} (remaining : R → Option (List ℕ)) (old mid new : Watched R) (line : List ℕ)
     (read : Consumes (remaining old.inner) (remaining mid.inner) (line ++ 10 ∷ [])) where

@@ -8,7 +8,7 @@ use Rattle.v_frame.specs.Prelude.{PixelForm, Tables}
 use Rattle.v_frame_planar.specs.Planar.{sizes_of}
 use Rattle.yuv_frames.specs.Edits.{Sizes}
 use Rattle.v_frame_planar.specs.Counted.{AppendsBeginning}
-use Rattle.yuv_commands.specs.Copies.{IsReadFault, IsWriteFault, StopsCopy}
+use Rattle.yuv_commands.specs.Copies.{IsWriteFault, StopsCopy}
 use Rattle.yuv_commands.specs.declared.copy.CopyFault.{CopyFault}
 use Rattle.yuv_commands.specs.declared.copy.CopyFault.TheVariants.{Input, Output}
 use Rattle.yuv_commands.specs.Streams.{bytes_with, frame_bytes, Carries, HasLine}
@@ -61,11 +61,6 @@ module _ {T : Type 0} (form : PixelForm T) (size : Sizes) (from to : Container) 
           (Consumes-trans left mid left' _ [] before.read read);
       written = before.written;
     }
-
-    -- the next frame was not read: nothing else was written
-    pub stops_reading : (error : CopyFault) → IsReadFault count error → StopsCopy form size from to change left has now error
-    stops_reading (Input fault) behind = (mid, subst (λ (n : ℕ). Carries form size from to change left mid has now n) (sym behind) before)
-    stops_reading (Output fault) behind = absurd behind
 
     -- it was not written: a beginning of its bytes was
     pub stops_writing : (tables : Tables T) (error : CopyFault) → IsWriteFault count error

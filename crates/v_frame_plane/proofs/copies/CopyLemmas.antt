@@ -15,10 +15,6 @@ use Rattle.v_frame_plane.proofs.tables.Lists.{one_more}
 use Rattle.v_frame_layout.proofs.Plans.{row_start, place_of_row, row_within, visible_within}
 use Rattle.v_frame_plane.proofs.tables.Pictures.{overwritten, shown_overwritten, border_overwritten, shown_row, length-shown}
 
-positive_factor : (w h : ℕ) → 0 < w * h → 0 < h
-positive_factor w zero p = absurd (omega (arith, p))
-positive_factor w (suc h) p = omega arith
-
 module _ {T : Type 0} where
   pub length-cut_rows : (width height : ℕ) (source : List T) → length (cut_rows width height source) ≡ height
   length-cut_rows width zero source = refl

@@ -1,5 +1,5 @@
 -- One more block.
-use Rattle.std.proofs.Common.{◌≡◌, ◌+◌, ◌*◌, lit<, arith}
+use Rattle.std.proofs.Common.{lit<}
 use Rattle.v_frame_layout.proofs.RowPairs.{sums_up_to-piece_more}
 use Rattle.v_frame_layout.proofs.row_sums.sum_over_rows.Goals as goal
 

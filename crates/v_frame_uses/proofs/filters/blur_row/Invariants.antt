@@ -1,5 +1,5 @@
 -- The pixels so far are means.
-use Rattle.std.proofs.Common.{ℕ, ◌≡◌, ◌+◌, ◌/◌, ◌<◌, length, Some, slice_get}
+use Rattle.std.proofs.Common.{ℕ, ◌≡◌, ◌+◌, ◌/◌, ◌<◌, Some, slice_get}
 use Rattle.v_frame_uses.specs.Filters.{three_of}
 use Rattle.v_frame_uses.proofs.filters.blur_row.Given as goal
 
