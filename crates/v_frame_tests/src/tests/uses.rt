@@ -45,15 +45,23 @@ fn bytes_come_back(rt: HostRuntime) {
     assert!(rt; plane.data() == bordered_buffer([9, 8, 7, 6, 5, 4]).as_slice());
 }
 
+/// Two rows of three bytes, each with a tail of one.
+static WITH_TAILS: [u8; 8] = [9, 8, 7, 99, 6, 5, 4, 99];
+
 #[test]
-fn bytes_come_back_without_tails(rt: HostRuntime) {
-    let source = [9, 8, 7, 99, 6, 5, 4, 99];
+fn a_short_stride_gives_no_bytes(rt: HostRuntime) {
     let mut plane = bordered(&rt, rt.alloc(), [1, 2, 3, 4, 5, 6]).y_plane;
     let mut out = Vec::new(rt.alloc());
-    let refused = without_tails(&mut plane, &source, 2, &mut out).expect(&rt, "memory");
+    let refused = without_tails(&mut plane, &WITH_TAILS, 2, &mut out).expect(&rt, "memory");
     let answer = "Err(InvalidStride { stride: 2, width: 3 })";
     assert!(rt; shows(&rt, rt.alloc(), &refused, answer) && out.is_empty());
-    let copied = without_tails(&mut plane, &source, 4, &mut out).expect(&rt, "memory");
+}
+
+#[test]
+fn bytes_come_back_without_tails(rt: HostRuntime) {
+    let mut plane = bordered(&rt, rt.alloc(), [1, 2, 3, 4, 5, 6]).y_plane;
+    let mut out = Vec::new(rt.alloc());
+    let copied = without_tails(&mut plane, &WITH_TAILS, 4, &mut out).expect(&rt, "memory");
     assert!(rt; copied.is_ok() && out.as_slice() == [9, 8, 7, 6, 5, 4].as_slice());
 }
 
@@ -90,23 +98,29 @@ fn a_copy_is_filled_and_compared(rt: HostRuntime) {
     assert!(rt; !same && pixels == (Some(12), Some(6)));
 }
 
+/// The bytes of two frames.
+static FRAMES: [u8; 12] = [1, 2, 3, 4, 5, 6, 250, 251, 252, 253, 254, 255];
+
 #[test]
-fn streams_are_copied_and_made_brighter(rt: HostRuntime) {
-    let alloc = rt.alloc();
-    let mut frame = bordered(&rt, alloc, [0; 6]);
-    let bytes = [1, 2, 3, 4, 5, 6, 250, 251, 252, 253, 254, 255];
-    let mut reader = Counted::new(bytes.as_slice());
-    let mut writer = Counted::new(Vec::new(alloc));
-    let copied = copy_frames(alloc, &mut reader, &mut writer, &mut frame, 1);
-    assert!(rt; copied == Ok(1));
-    let copied = copy_frames(alloc, &mut reader, &mut writer, &mut frame, 9);
-    assert!(rt; copied == Ok(1));
-    let mut reader = Counted::new(bytes.as_slice());
-    let brightened = brighten_frames(alloc, &mut reader, &mut writer, &mut frame, 3, 9);
-    assert!(rt; brightened == Ok(2));
+fn streams_are_copied(rt: HostRuntime) {
+    let mut frame = bordered(&rt, rt.alloc(), [0; 6]);
+    let mut reader = Counted::new(FRAMES.as_slice());
+    let mut writer = Counted::new(Vec::new(rt.alloc()));
+    for most in [1, 9] {
+        let copied = copy_frames(rt.alloc(), &mut reader, &mut writer, &mut frame, most);
+        assert!(rt; copied == Ok(1));
+    }
+    assert!(rt; writer.into_inner().as_slice() == FRAMES.as_slice());
+}
+
+#[test]
+fn streams_are_made_brighter(rt: HostRuntime) {
+    let mut frame = bordered(&rt, rt.alloc(), [0; 6]);
+    let mut reader = Counted::new(FRAMES.as_slice());
+    let mut writer = Counted::new(Vec::new(rt.alloc()));
+    let brightened = brighten_frames(rt.alloc(), &mut reader, &mut writer, &mut frame, 3, 9);
     let brighter = [4, 5, 6, 7, 8, 9, 253, 254, 255, 255, 255, 255];
-    let written = writer.into_inner();
-    assert!(rt; written.as_slice().split_at(12) == (bytes.as_slice(), brighter.as_slice()));
+    assert!(rt; brightened == Ok(2) && writer.into_inner().as_slice() == brighter.as_slice());
 }
 
 #[test]

@@ -1,8 +1,11 @@
 //! Why a read, a write or a flush failed.
 
 use crate::tests::support::texts::shows;
+use std::alloc::Global;
 use std::io::{self, ErrorKind, Read, Write};
+use std::process::Abort;
 use v_frame::chroma::ChromaSubsampling;
+use v_frame::frame::Frame;
 use v_frame_planar::{Counted, PlanarError, read_frame, video_frame, write_frame};
 use v_frame_uses::video::{first_picture, write_and_flush, write_or_cause};
 
@@ -88,15 +91,25 @@ fn what_fails_nothing_tells_nothing(rt: HostRuntime) {
     assert!(rt; reader.last_failure().is_none());
 }
 
-#[test]
-fn an_odd_picture_is_read_and_sent_on_its_way(rt: HostRuntime) {
+/// A picture of 3 by 2 pixels, whose bytes count from 1.
+fn odd_picture(rt: &impl Abort, alloc: Global) -> Frame<u8> {
     let bytes = [1, 2, 3, 4, 5, 6, 7, 8, 9, 10, 11, 12];
     let mut reader = Counted::new(bytes.as_slice());
-    let picture = first_picture(rt.alloc(), &mut reader, 3, 2).expect(&rt, "a picture");
-    let picture = picture.expect(&rt, "a picture before the end");
-    assert!(rt; picture.y_plane.row(1) == Some([4, 5, 6].as_slice()));
+    let picture = first_picture(alloc, &mut reader, 3, 2).expect(rt, "a picture");
+    picture.expect(rt, "a picture before the end")
+}
+
+#[test]
+fn an_odd_picture_is_read(rt: HostRuntime) {
+    let picture = odd_picture(&rt, rt.alloc());
     let chroma = picture.v_plane.as_ref().expect(&rt, "chroma");
+    assert!(rt; picture.y_plane.row(1) == Some([4, 5, 6].as_slice()));
     assert!(rt; chroma.row(0) == Some([9, 10].as_slice()));
+}
+
+#[test]
+fn an_odd_picture_is_sent_on_its_way(rt: HostRuntime) {
+    let picture = odd_picture(&rt, rt.alloc());
     let mut writer = Counted::new(Keeping { kept: 0, sent: 0 });
     assert!(rt; write_frame(&mut writer, &picture) == Ok(()));
     assert!(rt; (writer.inner().kept, writer.inner().sent) == (10, 0));

@@ -4,13 +4,18 @@ use crate::tests::support::frames::bordered;
 use crate::tests::support::texts::shows;
 
 #[test]
-fn iterators_are_cloned_with_what_is_left(rt: HostRuntime) {
+fn pixels_are_cloned_with_what_is_left(rt: HostRuntime) {
     let frame = bordered(&rt, rt.alloc(), [1, 2, 3, 4, 5, 6]);
     let mut pixels = frame.y_plane.pixels();
     assert!(rt; (pixels.next(), pixels.next_back()) == (Some(1), Some(6)));
     let copy = pixels.clone().expect(&rt, "memory");
     assert!(rt; (pixels.next(), pixels.len(), copy.len()) == (Some(2), 3, 4));
     assert!(rt; shows(&rt, rt.alloc(), &copy, "[2, 3, 4, 5]"));
+}
+
+#[test]
+fn rows_are_cloned_with_what_is_left(rt: HostRuntime) {
+    let frame = bordered(&rt, rt.alloc(), [1, 2, 3, 4, 5, 6]);
     let mut rows = frame.y_plane.rows();
     assert!(rt; rows.next() == Some([1, 2, 3].as_slice()));
     let copy = rows.clone().expect(&rt, "memory");

@@ -20,6 +20,12 @@ fn an_array_is_read_as_a_plane(rt: HostRuntime) {
     assert!(rt; plane.row(1) == Some([4, 5, 6].as_slice()) && plane.row(2).is_none());
     let around = [plane.pixel(3, 0), plane.pixel(2, 1), plane.pixel(5, 1)];
     assert!(rt; around == [Some(110), Some(6), None]);
+}
+
+#[test]
+fn an_array_is_walked_as_a_plane(rt: HostRuntime) {
+    let entries = bordered_buffer([1, 2, 3, 4, 5, 6]);
+    let plane = PlaneRef::new(geometry(&rt), entries.as_slice()).expect(&rt, "a plane");
     assert!(rt; shows(&rt, rt.alloc(), &plane.rows(), "[[1, 2, 3], [4, 5, 6]]"));
     assert!(rt; shows(&rt, rt.alloc(), &plane.pixels(), "[1, 2, 3, 4, 5, 6]"));
     assert!(rt; shows(&rt, rt.alloc(), &plane.byte_data(), "[1, 2, 3, 4, 5, 6]"));

@@ -14,9 +14,13 @@ fn is_filled(rt: &impl Abort, alloc: Global, entries: [Option<u8>; 2]) -> bool {
 }
 
 #[test]
-fn options_that_are_filled_become_values(rt: HostRuntime) {
+fn new_places_are_vacant(rt: HostRuntime) {
     let fresh = vacant::<u8>(&rt, rt.alloc(), pair());
     assert!(rt; !fresh.is_init() && fresh.data() == [None; 2].as_slice());
+}
+
+#[test]
+fn options_that_are_filled_become_values(rt: HostRuntime) {
     assert!(rt; !is_filled(&rt, rt.alloc(), [None, None]));
     assert!(rt; !is_filled(&rt, rt.alloc(), [Some(5), None]));
     assert!(rt; !is_filled(&rt, rt.alloc(), [None, Some(6)]));

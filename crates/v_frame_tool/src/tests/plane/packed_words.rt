@@ -2,9 +2,10 @@
 
 use crate::tests::support::buffers::holds;
 use crate::tests::support::bytes::{stepped, stepped_words};
-use crate::tests::support::frames::numbered;
+use crate::tests::support::frames::{Layout, luma, numbered};
 use std::alloc::Global;
 use std::process::Abort;
+use v_frame::plane::Plane;
 
 /// Widths, with the first pixel of the second row and its last one.
 ///
@@ -23,19 +24,25 @@ static WIDTHS: [(usize, u16, u16); 11] = [
     (65, 0xFAD5, 0x7A55),
 ];
 
-/// Stops the test where words are not copied, or an entry of a numbered border changes.
+/// A plane in a numbered border to which words were copied.
+fn packed(rt: &impl Abort, alloc: Global, layout: Layout) -> Plane<u16> {
+    let mut plane = luma(numbered::<u16>(rt, alloc, layout));
+    let bytes = stepped(rt, alloc, 11, 37, layout.0.saturating_mul(4));
+    assert!(rt; plane.copy_from_u8_slice(bytes.as_slice()).is_ok());
+    plane
+}
+
+/// Stops the test where other words are copied, or an entry of a numbered border changes.
 fn check_packed(rt: &impl Abort, alloc: Global, (width, below, last): (usize, u16, u16)) {
     let layout = (width, 2, [3, 1, 1, 0]);
-    let mut frame = numbered::<u16>(rt, alloc, layout);
-    let plane = &mut frame.y_plane;
-    let bytes = stepped(rt, alloc, 11, 37, width.saturating_mul(4));
-    let copied = plane.copy_from_u8_slice(bytes.as_slice());
+    let plane = packed(rt, alloc, layout);
     let above = (plane.pixel(0, 0), plane.pixel(15, 0));
     let ends = (plane.pixel(0, 1), plane.pixels().next_back());
-    assert!(rt; copied.is_ok() && above == (Some(0x300B), Some(0x8661)));
-    assert!(rt; ends == (Some(below), Some(last)), "{width} pixels");
+    let told = (above, ends);
+    let wanted = ((Some(0x300B), Some(0x8661)), (Some(below), Some(last)));
+    assert!(rt; told == wanted, "{width} pixels");
     let words = stepped_words(rt, alloc, 11, 37, width.saturating_mul(2));
-    assert!(rt; holds(rt, alloc, plane, layout, words.as_slice()));
+    assert!(rt; holds(rt, alloc, &plane, layout, words.as_slice()));
 }
 
 #[test]
