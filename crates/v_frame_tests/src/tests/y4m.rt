@@ -7,7 +7,7 @@ use std::process::Abort;
 use v_frame::frame::Frame;
 use v_frame_planar::Counted;
 use v_frame_uses::y4m::{copy_frame, copy_header};
-use v_frame_y4m::{Y4mError, header_line, parse_header, read_frame, read_header};
+use v_frame_y4m::{StreamHeader, header_line, parse_header, read_frame, read_header};
 
 /// Lines that ffmpeg wrote.
 static LINES: [&str; 6] = [
@@ -56,14 +56,18 @@ static REFUSED: [(&str, &str); 11] = [
     ("YUV4MPEG2 W36 H14 C444alpha", "unknown colour `C444alpha`"),
 ];
 
+/// Why a line is refused. Nothing where it is not.
+fn refusal(rt: &impl Abort, alloc: Global, line: &str) -> String {
+    match parse_header(alloc, line.as_bytes()) {
+        Ok(_) => String::new(alloc),
+        Err(error) => error.to_string(alloc).expect(rt, "memory"),
+    }
+}
+
 #[test]
 fn refusals_say_why(rt: HostRuntime) {
     for (line, message) in &REFUSED {
-        let told = match parse_header(rt.alloc(), line.as_bytes()) {
-            Ok(_) => String::new(rt.alloc()),
-            Err(error) => error.to_string(rt.alloc()).expect(&rt, "memory"),
-        };
-        assert!(rt; told.as_str() == *message);
+        assert!(rt; refusal(&rt, rt.alloc(), *line).as_str() == *message);
     }
 }
 
@@ -72,16 +76,32 @@ const STREAM: &[u8] = b"YUV4MPEG2 W30 H1 C420jpeg\nFRAME\n\
 abcdefghijklmnopqrstuvwxyz0123ABCDEFGHIJKLMNOPQRSTUVWXYZ4567FRAME Ip\n\
 7654ZYXWVUTSRQPONMLKJIHGFEDCBA3210zyxwvutsrqponmlkjihgfedcba";
 
+/// A frame for a stream of this header.
+fn frame_for(rt: &impl Abort, alloc: Global, header: StreamHeader) -> Frame<u8> {
+    header.frame(alloc, 0).expect(rt, "memory")
+}
+
+/// Copies two frames, and sees the end of the stream.
+fn copy_frames(
+    rt: &impl Abort,
+    alloc: Global,
+    reader: &mut Counted<&[u8]>,
+    writer: &mut Counted<Vec<u8>>,
+    mut frame: Frame<u8>,
+) {
+    for more in [true, true, false] {
+        let copied = copy_frame(alloc, reader, writer, &mut frame).ok();
+        assert!(rt; copied == Some(more));
+    }
+}
+
 /// A copy of the stream.
 fn copied(rt: &impl Abort, alloc: Global) -> Vec<u8> {
     let mut reader = Counted::new(STREAM);
     let mut writer = Counted::new(Vec::new(alloc));
     let header = copy_header(alloc, &mut reader, &mut writer).expect(rt, "a header");
-    let mut frame = header.frame::<u8>(alloc, 0).expect(rt, "memory");
-    for more in [true, true, false] {
-        let copied = copy_frame(alloc, &mut reader, &mut writer, &mut frame);
-        assert!(rt; copied == Ok(more));
-    }
+    let frame = frame_for(rt, alloc, header);
+    copy_frames(rt, alloc, &mut reader, &mut writer, frame);
     writer.into_inner()
 }
 
@@ -93,13 +113,30 @@ abcdefghijklmnopqrstuvwxyz0123ABCDEFGHIJKLMNOPQRSTUVWXYZ4567FRAME\n\
     assert!(rt; copied(&rt, rt.alloc()).as_slice() == wanted.as_slice());
 }
 
-/// What the second of two frames answers where a stream has so many bytes.
-fn second_frame(rt: &impl Abort, alloc: Global, length: usize) -> Result<bool, Y4mError> {
+/// A frame for a stream, of which the header is read.
+fn frame_of<R: Read>(rt: &impl Abort, alloc: Global, reader: &mut Counted<R>) -> Frame<u8> {
+    let header = read_header(alloc, reader).expect(rt, "a header");
+    frame_for(rt, alloc, header)
+}
+
+/// Whether the read of another frame into this one has an answer of this debug text.
+fn next_shows<R: Read>(
+    rt: &impl Abort,
+    alloc: Global,
+    reader: &mut Counted<R>,
+    mut frame: Frame<u8>,
+    answer: &str,
+) -> bool {
+    let next = read_frame(alloc, reader, &mut frame);
+    shows(rt, alloc, &next, answer)
+}
+
+/// Whether the second of two frames has an answer of this debug text where a stream has so many bytes.
+fn second_shows(rt: &impl Abort, alloc: Global, length: usize, answer: &str) -> bool {
     let mut reader = Counted::new(&STREAM[..length.min(STREAM.len())]);
-    let header = read_header(alloc, &mut reader).expect(rt, "a header");
-    let mut frame = header.frame::<u8>(alloc, 0).expect(rt, "memory");
+    let mut frame = frame_of(rt, alloc, &mut reader);
     read_frame(alloc, &mut reader, &mut frame).expect(rt, "a frame");
-    read_frame(alloc, &mut reader, &mut frame)
+    next_shows(rt, alloc, &mut reader, frame, answer)
 }
 
 /// Lengths of the stream, and the debug text of the answer.
@@ -113,8 +150,10 @@ static CUT_OFF: [(usize, &str); 4] = [
 #[test]
 fn streams_that_are_cut_off_say_where(rt: HostRuntime) {
     for (length, answer) in &CUT_OFF {
-        let second = second_frame(&rt, rt.alloc(), *length);
-        assert!(rt; shows(&rt, rt.alloc(), &second, *answer), "{length} bytes");
+        assert!(rt;
+            second_shows(&rt, rt.alloc(), *length, *answer),
+            "{length} bytes"
+        );
     }
 }
 
@@ -141,9 +180,9 @@ impl Read for ByteByByte<'_> {
 
 /// The first frame of a stream.
 fn first_frame(rt: &impl Abort, alloc: Global, reader: &mut Counted<ByteByByte<'_>>) -> Frame<u8> {
-    let header = read_header(alloc, reader).expect(rt, "a header");
-    let mut frame = header.frame(alloc, 0).expect(rt, "memory");
-    assert!(rt; read_frame(alloc, reader, &mut frame) == Ok(true));
+    let mut frame = frame_of(rt, alloc, reader);
+    let read = read_frame(alloc, reader, &mut frame).ok();
+    assert!(rt; read == Some(true));
     frame
 }
 
@@ -151,9 +190,8 @@ fn first_frame(rt: &impl Abort, alloc: Global, reader: &mut Counted<ByteByByte<'
 fn streams_come_byte_by_byte(rt: HostRuntime) {
     let left = STREAM;
     let mut reader = Counted::new(ByteByByte { left, calls: 100 });
-    let mut frame = first_frame(&rt, rt.alloc(), &mut reader);
+    let frame = first_frame(&rt, rt.alloc(), &mut reader);
     assert!(rt; frame.y_plane.row(0) == Some(b"abcdefghijklmnopqrstuvwxyz0123".as_slice()));
-    let failed = read_frame(rt.alloc(), &mut reader, &mut frame);
-    let is_told = shows(&rt, rt.alloc(), &failed, "Err(Planar(Read))");
+    let is_told = next_shows(&rt, rt.alloc(), &mut reader, frame, "Err(Planar(Read))");
     assert!(rt; is_told && reader.last_failure() == Some(ErrorKind::BrokenPipe));
 }

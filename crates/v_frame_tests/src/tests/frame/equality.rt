@@ -43,14 +43,21 @@ static CHANGES: [Change; 7] = [
     (Yuv420, 10, [true, true], Some(2)),
 ];
 
+/// No change.
+const UNCHANGED: Change = (Yuv420, 10, [true, true], None);
+
+/// Whether a frame is equal to one that is changed so, and whether it is unequal.
+fn compared(rt: &impl Abort, alloc: Global, change: Change) -> (bool, bool) {
+    let frame = changed(rt, alloc, UNCHANGED);
+    let other = changed(rt, alloc, change);
+    (frame == other, frame != other)
+}
+
 #[test]
 fn frames_are_equal_in_all_five_fields(rt: HostRuntime) {
-    let unchanged = (Yuv420, 10, [true, true], None);
-    let frame = changed(&rt, rt.alloc(), unchanged);
-    let same = changed(&rt, rt.alloc(), unchanged);
-    assert!(rt; frame == same && !(frame != same));
+    assert!(rt; compared(&rt, rt.alloc(), UNCHANGED) == (true, false));
     for change in &CHANGES {
-        let other = changed(&rt, rt.alloc(), *change);
-        assert!(rt; frame != other && !(frame == other), "{change:?}");
+        let told = compared(&rt, rt.alloc(), *change);
+        assert!(rt; told == (false, true), "{change:?}");
     }
 }

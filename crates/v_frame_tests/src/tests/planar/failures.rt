@@ -49,43 +49,68 @@ impl Write for Keeping {
     }
 }
 
-const CAUSES: [ErrorKind; 4] = [
+static CAUSES: [ErrorKind; 4] = [
     ErrorKind::BrokenPipe,
     ErrorKind::StorageFull,
     ErrorKind::Interrupted,
     ErrorKind::Other,
 ];
 
+/// The cause of the last failure, and how many there were.
+fn failures_of<D>(inner: &Counted<D>) -> (Option<ErrorKind>, u64) {
+    (inner.last_failure(), inner.failures())
+}
+
+/// Whether a read fails.
+fn fails_to_read(inner: &mut Counted<Broken>) -> bool {
+    inner.read(&mut [0; 2]).is_err()
+}
+
+/// Whether a write and a flush fail.
+fn fails_to_write(inner: &mut Counted<Broken>) -> bool {
+    inner.write(&[1, 2]).is_err() && inner.flush().is_err()
+}
+
 #[test]
 fn the_cause_of_each_failure_is_told(rt: HostRuntime) {
-    for cause in CAUSES {
+    for cause in &CAUSES {
+        let cause = *cause;
         let mut inner = Counted::new(Broken(cause));
-        assert!(rt; inner.last_failure().is_none() && inner.read(&mut [0; 2]).is_err());
-        assert!(rt; (inner.last_failure(), inner.failures()) == (Some(cause), 1));
-        assert!(rt; inner.write(&[1, 2]).is_err() && inner.flush().is_err());
-        assert!(rt; (inner.last_failure(), inner.failures()) == (Some(cause), 3));
+        assert!(rt; inner.last_failure().is_none() && fails_to_read(&mut inner));
+        assert!(rt; failures_of(&inner) == (Some(cause), 1) && fails_to_write(&mut inner));
+        assert!(rt; failures_of(&inner) == (Some(cause), 3));
     }
+}
+
+/// A frame that a broken reader failed to read.
+fn unread(rt: &impl Abort, alloc: Global, reader: &mut Counted<Broken>) -> Frame<u8> {
+    let frame = video_frame::<u8>(alloc, 3, 3, ChromaSubsampling::Yuv420, 8, 0);
+    let mut frame = frame.expect(rt, "a frame");
+    assert!(rt; read_frame(alloc, reader, &mut frame) == Err(PlanarError::Read));
+    frame
+}
+
+/// Whether a frame is not written, which is the second failure, and the next one has the same cause.
+fn is_unwritten(writer: &mut Counted<Broken>, frame: Frame<u8>, cause: ErrorKind) -> bool {
+    let fails = write_frame(writer, &frame) == Err(PlanarError::Write);
+    let is_told = fails && failures_of(writer) == (Some(cause), 2);
+    is_told && write_or_cause(writer, &frame) == Err(cause)
 }
 
 #[test]
 fn frames_tell_the_cause(rt: HostRuntime) {
-    let frame = video_frame::<u8>(rt.alloc(), 3, 3, ChromaSubsampling::Yuv420, 8, 0);
-    let mut frame = frame.expect(&rt, "a frame");
     let cause = ErrorKind::StorageFull;
     let mut inner = Counted::new(Broken(cause));
-    assert!(rt; read_frame(rt.alloc(), &mut inner, &mut frame) == Err(PlanarError::Read));
+    let frame = unread(&rt, rt.alloc(), &mut inner);
     assert!(rt; inner.last_failure() == Some(cause));
-    assert!(rt; write_frame(&mut inner, &frame) == Err(PlanarError::Write));
-    assert!(rt; (inner.last_failure(), inner.failures()) == (Some(cause), 2));
-    assert!(rt; write_or_cause(&mut inner, &frame) == Err(cause));
+    assert!(rt; is_unwritten(&mut inner, frame, cause));
 }
 
 #[test]
 fn what_fails_nothing_tells_nothing(rt: HostRuntime) {
     let bytes = [1, 2, 3, 4, 5];
     let mut reader = Counted::new(bytes.as_slice());
-    let read = first_picture(rt.alloc(), &mut reader, 3, 3);
-    let told = read.err();
+    let told = first_picture(rt.alloc(), &mut reader, 3, 3).err();
     let truncated = "Some(Planar(Truncated { expected: 17, found: 5 }))";
     assert!(rt; shows(&rt, rt.alloc(), &told, truncated));
     assert!(rt; reader.last_failure().is_none());
@@ -99,21 +124,35 @@ fn odd_picture(rt: &impl Abort, alloc: Global) -> Frame<u8> {
     picture.expect(rt, "a picture before the end")
 }
 
+/// Whether the plane of this index is there and shows these pixels in row `y`.
+fn has_row(frame: &Frame<u8>, index: usize, y: usize, pixels: &[u8]) -> bool {
+    match frame.plane(index) {
+        Some(plane) => plane.row(y) == Some(pixels),
+        None => false,
+    }
+}
+
 #[test]
 fn an_odd_picture_is_read(rt: HostRuntime) {
     let picture = odd_picture(&rt, rt.alloc());
-    let chroma = picture.v_plane.as_ref().expect(&rt, "chroma");
-    assert!(rt; picture.y_plane.row(1) == Some([4, 5, 6].as_slice()));
-    assert!(rt; chroma.row(0) == Some([9, 10].as_slice()));
+    assert!(rt; has_row(&picture, 0, 1, &[4, 5, 6]) && has_row(&picture, 2, 0, &[9, 10]));
+}
+
+/// How many bytes a writer keeps, and how many it sent.
+fn counts_of(writer: &Counted<Keeping>) -> (usize, usize) {
+    let inner = writer.inner();
+    (inner.kept, inner.sent)
+}
+
+/// Whether a picture of 10 bytes is kept, and whether the next one sends both on their way.
+fn are_sent(writer: &mut Counted<Keeping>, picture: Frame<u8>) -> bool {
+    let is_kept = write_frame(writer, &picture) == Ok(()) && counts_of(writer) == (10, 0);
+    is_kept && write_and_flush(writer, &picture) == Ok(()) && counts_of(writer) == (0, 20)
 }
 
 #[test]
 fn an_odd_picture_is_sent_on_its_way(rt: HostRuntime) {
     let picture = odd_picture(&rt, rt.alloc());
     let mut writer = Counted::new(Keeping { kept: 0, sent: 0 });
-    assert!(rt; write_frame(&mut writer, &picture) == Ok(()));
-    assert!(rt; (writer.inner().kept, writer.inner().sent) == (10, 0));
-    assert!(rt; write_and_flush(&mut writer, &picture) == Ok(()));
-    assert!(rt; (writer.inner().kept, writer.inner().sent) == (0, 20));
-    assert!(rt; (writer.failures(), writer.last_failure()) == (0, None));
+    assert!(rt; are_sent(&mut writer, picture) && failures_of(&writer) == (None, 0));
 }

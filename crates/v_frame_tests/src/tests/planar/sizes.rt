@@ -18,6 +18,15 @@ fn size_of<T>(plane: Option<&Plane<T>>) -> Option<(usize, usize)> {
     }
 }
 
+/// The sizes of the three planes of a frame.
+fn sizes_of<T: Pixel>(frame: &Frame<T>) -> [Option<(usize, usize)>; 3] {
+    [
+        size_of(frame.plane(0)),
+        size_of(frame.plane(1)),
+        size_of(frame.plane(2)),
+    ]
+}
+
 /// Sizes of luma, formats, and sizes of chroma.
 static SIZES: [((usize, usize), ChromaSubsampling, Option<(usize, usize)>); 14] = [
     ((1, 1), Yuv420, Some((1, 1))),
@@ -36,6 +45,19 @@ static SIZES: [((usize, usize), ChromaSubsampling, Option<(usize, usize)>); 14] 
     ((35, 27), Monochrome, None),
 ];
 
+/// The format and the depth of a video frame, and the sizes of its planes.
+fn described<T: Pixel>(
+    rt: &impl Abort,
+    alloc: Global,
+    (width, height): (usize, usize),
+    subsampling: ChromaSubsampling,
+    bit_depth: u8,
+) -> (ChromaSubsampling, u8, [Option<(usize, usize)>; 3]) {
+    let frame = video_frame::<T>(alloc, width, height, subsampling, bit_depth, 3);
+    let frame = frame.expect(rt, "a frame");
+    (frame.subsampling, frame.bit_depth.get(), sizes_of(&frame))
+}
+
 /// Stops the test where a frame of this size has chroma of another one.
 fn check_sizes<T: Pixel>(
     rt: &impl Abort,
@@ -43,19 +65,9 @@ fn check_sizes<T: Pixel>(
     (luma, subsampling, chroma): ((usize, usize), ChromaSubsampling, Option<(usize, usize)>),
     bit_depth: u8,
 ) {
-    let frame: Frame<T> = video_frame(alloc, luma.0, luma.1, subsampling, bit_depth, 3).expect(
-        rt, "a frame",
-    );
-    assert!(rt; (frame.subsampling, frame.bit_depth.get()) == (subsampling, bit_depth));
-    let sizes = [
-        size_of(frame.plane(0)),
-        size_of(frame.plane(1)),
-        size_of(frame.plane(2)),
-    ];
-    assert!(rt;
-        sizes == [Some(luma), chroma, chroma],
-        "{luma:?} {subsampling:?}"
-    );
+    let told = described::<T>(rt, alloc, luma, subsampling, bit_depth);
+    let wanted = (subsampling, bit_depth, [Some(luma), chroma, chroma]);
+    assert!(rt; told == wanted, "{luma:?} {subsampling:?}");
 }
 
 #[test]
@@ -66,39 +78,39 @@ fn chroma_covers_luma_of_any_size(rt: HostRuntime) {
     }
 }
 
+/// The paddings of a plane left, right, top and bottom, where it is there.
+fn border_of<T>(plane: Option<&Plane<T>>) -> Option<[usize; 4]> {
+    let geometry = plane?.geometry();
+    Some([
+        geometry.pad_left(),
+        geometry.pad_right(),
+        geometry.pad_top(),
+        geometry.pad_bottom(),
+    ])
+}
+
 #[test]
 fn a_border_is_rounded_up_until_chroma_divides(rt: HostRuntime) {
     let frame: Frame<u8> = video_frame(rt.alloc(), 7, 5, Yuv411, 8, 5).expect(&rt, "a frame");
-    let luma = frame.y_plane.geometry();
-    let chroma = frame.u_plane.as_ref().expect(&rt, "chroma").geometry();
-    assert!(rt;
-        (
-            luma.pad_left(),
-            luma.pad_right(),
-            luma.pad_top(),
-            luma.pad_bottom()
-        ) == (8, 8, 5, 5)
-    );
-    assert!(rt;
-        (
-            chroma.pad_left(),
-            chroma.pad_right(),
-            chroma.pad_top(),
-            chroma.pad_bottom()
-        ) == (2, 2, 5, 5)
-    );
+    let borders = (border_of(frame.plane(0)), border_of(frame.plane(1)));
+    assert!(rt; borders == (Some([8, 8, 5, 5]), Some([2, 2, 5, 5])));
+}
+
+/// Whether video has the same frame as the builder, which makes one.
+fn is_as_built(alloc: Global, subsampling: ChromaSubsampling) -> bool {
+    let built = FrameBuilder::new(8, 6, subsampling, 10)
+        .luma_padding_left(4)
+        .luma_padding_right(4)
+        .luma_padding_top(4)
+        .luma_padding_bottom(4)
+        .build::<u16>(alloc);
+    built.is_ok() && video_frame(alloc, 8, 6, subsampling, 10, 4) == built
 }
 
 #[test]
 fn a_frame_that_divides_is_as_built(rt: HostRuntime) {
     for subsampling in [Yuv420, Yuv422, Yuv411, Yuv444, Monochrome] {
-        let built = FrameBuilder::new(8, 6, subsampling, 10)
-            .luma_padding_left(4)
-            .luma_padding_right(4)
-            .luma_padding_top(4)
-            .luma_padding_bottom(4)
-            .build::<u16>(rt.alloc());
-        assert!(rt; built.is_ok() && video_frame(rt.alloc(), 8, 6, subsampling, 10, 4) == built);
+        assert!(rt; is_as_built(rt.alloc(), subsampling));
     }
 }
 

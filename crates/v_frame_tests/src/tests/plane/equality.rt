@@ -34,34 +34,36 @@ const SHAPE: Shape = ([2, 1, 1, 1], [1, 1]);
 /// Its entries.
 const ENTRIES: [Option<u8>; 4] = [Some(1), Some(2), Some(3), Some(4)];
 
-/// Whether a plane is equal to one of this shape and these entries, and whether it is unequal.
+/// Whether that plane is equal to one of this shape and these entries, and whether it is unequal.
 fn compared(
     rt: &impl Abort,
     alloc: Global,
-    plane: &Plane<Option<u8>>,
     (shape, entries): (Shape, [Option<u8>; 4]),
 ) -> (bool, bool) {
+    let plane = holding(rt, alloc, SHAPE, ENTRIES);
     let other = holding(rt, alloc, shape, entries);
-    (*plane == other, *plane != other)
+    (plane == other, plane != other)
 }
+
+/// Shapes and entries that make another plane.
+const OTHERS: [(Shape, [Option<u8>; 4]); 9] = [
+    (SHAPE, [Some(9), Some(2), Some(3), Some(4)]),
+    (SHAPE, [Some(1), Some(2), Some(3), Some(9)]),
+    (SHAPE, [Some(1), Some(9), Some(3), Some(4)]),
+    (SHAPE, [Some(1), None, Some(3), Some(4)]),
+    (([2, 1, 2, 0], [1, 1]), ENTRIES),
+    (([4, 1, 0, 0], [1, 1]), ENTRIES),
+    (([2, 2, 0, 0], [1, 1]), ENTRIES),
+    (([2, 1, 1, 1], [2, 1]), ENTRIES),
+    (([2, 1, 1, 1], [1, 2]), ENTRIES),
+];
 
 #[test]
 fn planes_are_equal_in_geometry_and_in_each_entry(rt: HostRuntime) {
-    let plane = holding(&rt, rt.alloc(), SHAPE, ENTRIES);
     let same = (SHAPE, ENTRIES);
-    assert!(rt; compared(&rt, rt.alloc(), &plane, same) == (true, false));
-    for case in [
-        (SHAPE, [Some(9), Some(2), Some(3), Some(4)]),
-        (SHAPE, [Some(1), Some(2), Some(3), Some(9)]),
-        (SHAPE, [Some(1), Some(9), Some(3), Some(4)]),
-        (SHAPE, [Some(1), None, Some(3), Some(4)]),
-        (([2, 1, 2, 0], [1, 1]), ENTRIES),
-        (([4, 1, 0, 0], [1, 1]), ENTRIES),
-        (([2, 2, 0, 0], [1, 1]), ENTRIES),
-        (([2, 1, 1, 1], [2, 1]), ENTRIES),
-        (([2, 1, 1, 1], [1, 2]), ENTRIES),
-    ] {
-        let told = compared(&rt, rt.alloc(), &plane, case);
+    assert!(rt; compared(&rt, rt.alloc(), same) == (true, false));
+    for case in OTHERS {
+        let told = compared(&rt, rt.alloc(), case);
         assert!(rt; told == (false, true), "{case:?}");
     }
 }

@@ -2,6 +2,7 @@
 
 use crate::tests::support::buffers::bordered_buffer;
 use crate::tests::support::texts::shows;
+use std::alloc::Global;
 use std::process::Abort;
 use v_frame::plane::{Plane, PlaneGeometry, PlaneRef};
 
@@ -10,25 +11,38 @@ fn geometry(rt: &impl Abort) -> PlaneGeometry {
     PlaneGeometry::new(3, 2, 1, 2, 1, 0, 1, 1).expect(rt, "a geometry")
 }
 
+/// Entries that are read as a plane.
+fn lent<'a>(rt: &impl Abort, entries: &'a [u8]) -> PlaneRef<'a, u8> {
+    PlaneRef::new(geometry(rt), entries).expect(rt, "a plane")
+}
+
+/// Whether a plane has two rows of three pixels, the second of which shows these.
+fn has_second_row(plane: PlaneRef<'_, u8>, pixels: &[u8]) -> bool {
+    let size = (plane.width(), plane.height());
+    size == (3, 2) && plane.row(1) == Some(pixels) && plane.row(2).is_none()
+}
+
 #[test]
 fn an_array_is_read_as_a_plane(rt: HostRuntime) {
     let entries = bordered_buffer([1, 2, 3, 4, 5, 6]);
-    let lent = PlaneRef::new(geometry(&rt), entries.as_slice()).expect(&rt, "a plane");
-    assert!(rt; lent.data() == entries.as_slice() && lent.geometry() == geometry(&rt));
-    let plane = lent.again();
-    assert!(rt; (plane.width(), plane.height()) == (3, 2));
-    assert!(rt; plane.row(1) == Some([4, 5, 6].as_slice()) && plane.row(2).is_none());
+    let plane = lent(&rt, entries.as_slice());
+    assert!(rt; plane.data() == entries.as_slice() && plane.geometry() == geometry(&rt));
+    assert!(rt; has_second_row(plane.again(), &[4, 5, 6]));
     let around = [plane.pixel(3, 0), plane.pixel(2, 1), plane.pixel(5, 1)];
     assert!(rt; around == [Some(110), Some(6), None]);
+}
+
+/// Whether the rows, the pixels and the bytes of a plane count from 1 to 6.
+fn counts(rt: &impl Abort, alloc: Global, plane: PlaneRef<'_, u8>) -> bool {
+    shows(rt, alloc, &plane.rows(), "[[1, 2, 3], [4, 5, 6]]")
+        && shows(rt, alloc, &plane.pixels(), "[1, 2, 3, 4, 5, 6]")
+        && shows(rt, alloc, &plane.byte_data(), "[1, 2, 3, 4, 5, 6]")
 }
 
 #[test]
 fn an_array_is_walked_as_a_plane(rt: HostRuntime) {
     let entries = bordered_buffer([1, 2, 3, 4, 5, 6]);
-    let plane = PlaneRef::new(geometry(&rt), entries.as_slice()).expect(&rt, "a plane");
-    assert!(rt; shows(&rt, rt.alloc(), &plane.rows(), "[[1, 2, 3], [4, 5, 6]]"));
-    assert!(rt; shows(&rt, rt.alloc(), &plane.pixels(), "[1, 2, 3, 4, 5, 6]"));
-    assert!(rt; shows(&rt, rt.alloc(), &plane.byte_data(), "[1, 2, 3, 4, 5, 6]"));
+    assert!(rt; counts(&rt, rt.alloc(), lent(&rt, entries.as_slice())));
 }
 
 #[test]

@@ -1,17 +1,23 @@
 //! Two rows that are lent at once.
 
 use crate::tests::support::buffers::bordered_buffer;
+use std::process::Abort;
 use v_frame::plane::{PlaneGeometry, visible_rows_mut};
 
-#[test]
-fn two_rows_of_an_array_are_written(rt: HostRuntime) {
-    let geometry = PlaneGeometry::new(3, 2, 1, 2, 1, 0, 1, 1).expect(&rt, "a geometry");
-    let mut entries = bordered_buffer([1, 2, 3, 4, 5, 6]);
+/// Fills the two rows of a plane of three pixels by two in this buffer.
+fn fill_rows(rt: &impl Abort, entries: &mut [u8]) {
+    let geometry = PlaneGeometry::new(3, 2, 1, 2, 1, 0, 1, 1).expect(rt, "a geometry");
     if geometry.checked_alloc_size() != Some(entries.len()) || geometry.height() != 2 {
         panic!(rt; "another size");
     }
-    let (row, other) = visible_rows_mut(entries.as_mut_slice(), geometry, 0, 1);
+    let (row, other) = visible_rows_mut(entries, geometry, 0, 1);
     row.fill(8);
     other.fill(9);
+}
+
+#[test]
+fn two_rows_of_an_array_are_written(rt: HostRuntime) {
+    let mut entries = bordered_buffer([1, 2, 3, 4, 5, 6]);
+    fill_rows(&rt, entries.as_mut_slice());
     assert!(rt; entries == bordered_buffer([8, 8, 8, 9, 9, 9]));
 }

@@ -1,10 +1,12 @@
-//! Luma planes alone.
+//! Frames of luma alone.
 
 use crate::tests::support::buffers::bordered_buffer;
 use std::alloc::Global;
 use std::process::Abort;
 use v_frame::chroma::ChromaSubsampling;
 use v_frame::frame::{Frame, FrameBuilder};
+use v_frame::pixel::Pixel;
+use v_frame::plane::Plane;
 
 /// The width and the height of a plane, and its paddings left, right, top and bottom.
 pub type Layout = (usize, usize, [usize; 4]);
@@ -43,4 +45,9 @@ pub fn bordered(rt: &impl Abort, alloc: Global, pixels: [u8; 6]) -> Frame<u8> {
     }
     data.copy_from_slice(&bordered_buffer(pixels));
     frame
+}
+
+/// The luma plane of a frame.
+pub fn luma<T: Pixel>(frame: Frame<T>) -> Plane<T> {
+    frame.y_plane
 }

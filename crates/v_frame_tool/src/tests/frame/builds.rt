@@ -5,6 +5,7 @@ use crate::tests::support::reads::numbers_of;
 use std::alloc::Global;
 use std::process::Abort;
 use v_frame::chroma::ChromaSubsampling::{self, Monochrome, Yuv411, Yuv420, Yuv422, Yuv444};
+use v_frame::frame::Frame;
 use v_frame::pixel::Pixel;
 use v_frame::plane::Plane;
 
@@ -60,8 +61,17 @@ fn is_built<T: Pixel>(
     chroma: Option<(usize, usize)>,
 ) -> bool {
     let frame = built::<T>(rt, alloc, padded(luma, format, depth, padding));
-    (frame.subsampling, frame.bit_depth.get()) == (format, depth)
-        && size(frame.plane(0)) == Some(luma)
+    let is_format = (frame.subsampling, frame.bit_depth.get()) == (format, depth);
+    is_format && has_sizes(frame, luma, chroma)
+}
+
+/// Whether a frame has planes of these sizes.
+fn has_sizes<T: Pixel>(
+    frame: Frame<T>,
+    luma: (usize, usize),
+    chroma: Option<(usize, usize)>,
+) -> bool {
+    size(frame.plane(0)) == Some(luma)
         && size(frame.plane(1)) == chroma
         && size(frame.plane(2)) == chroma
 }
@@ -93,10 +103,18 @@ fn a_mark_in_each_plane(rt: HostRuntime) {
     mark(&rt, &mut frame, 0, 11);
     mark(&rt, &mut frame, 1, 22);
     mark(&rt, &mut frame, 2, 33);
-    assert!(rt; begins_with(frame.plane(0), 11) && begins_with(Some(&frame.y_plane), 11));
-    assert!(rt; begins_with(frame.plane(1), 22) && begins_with(frame.u_plane.as_ref(), 22));
-    assert!(rt; begins_with(frame.plane(2), 33) && begins_with(frame.v_plane.as_ref(), 33));
-    assert!(rt; frame.plane(3).is_none());
+    assert!(rt; has_marks(frame));
+}
+
+/// Whether the three planes of a frame begin with 11, 22 and 33.
+fn has_marks(frame: Frame<u8>) -> bool {
+    begins_with(frame.plane(0), 11)
+        && begins_with(Some(&frame.y_plane), 11)
+        && begins_with(frame.plane(1), 22)
+        && begins_with(frame.u_plane.as_ref(), 22)
+        && begins_with(frame.plane(2), 33)
+        && begins_with(frame.v_plane.as_ref(), 33)
+        && frame.plane(3).is_none()
 }
 
 /// The numbers of a geometry, and a buffer.
@@ -138,10 +156,15 @@ static HALVED: [LaidOut<u16>; 1] = [(
 fn check_layouts<T: Pixel>(rt: &impl Abort, alloc: Global, cases: &[LaidOut<T>]) {
     for (number, ((size, format, depth, padding), luma, chroma)) in cases.iter().enumerate() {
         let frame = built::<T>(rt, alloc, padded(*size, *format, *depth, *padding));
-        let is_luma = has_layout(frame.plane(0), *luma);
-        let is_chroma = has_layout(frame.plane(1), *chroma) && has_layout(frame.plane(2), *chroma);
-        assert!(rt; is_luma && is_chroma, "case {number}");
+        assert!(rt; has_layouts(frame, *luma, *chroma), "case {number}");
     }
+}
+
+/// Whether a frame has planes of these layouts.
+fn has_layouts<T: Pixel>(frame: Frame<T>, luma: Layout<T>, chroma: Layout<T>) -> bool {
+    has_layout(frame.plane(0), luma)
+        && has_layout(frame.plane(1), chroma)
+        && has_layout(frame.plane(2), chroma)
 }
 
 #[test]

@@ -5,6 +5,7 @@ use crate::tests::support::reads::numbers_of;
 use std::alloc::Global;
 use std::process::Abort;
 use v_frame::chroma::ChromaSubsampling::Yuv444;
+use v_frame::frame::Frame;
 use v_frame::pixel::Pixel;
 use v_frame::plane::Plane;
 
@@ -30,8 +31,12 @@ fn is_built<T: Pixel>(rt: &impl Abort, alloc: Global, depth: u8, padding: [usize
     let count = rows.saturating_mul(stride);
     let numbers = [3, 2, stride, left, right, top, bottom, 1, 1];
     let frame = built::<T>(rt, alloc, padded((3, 2), Yuv444, depth, padding));
-    frame.bit_depth.get() == depth
-        && is_zero(frame.plane(0), numbers, count)
+    frame.bit_depth.get() == depth && are_zero(frame, numbers, count)
+}
+
+/// Whether the three planes of a frame have these numbers, and so many zeros.
+fn are_zero<T: Pixel>(frame: Frame<T>, numbers: [usize; 9], count: usize) -> bool {
+    is_zero(frame.plane(0), numbers, count)
         && is_zero(frame.plane(1), numbers, count)
         && is_zero(frame.plane(2), numbers, count)
 }

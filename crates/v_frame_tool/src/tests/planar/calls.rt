@@ -8,6 +8,7 @@ use crate::tests::support::texts::must_show;
 use crate::tests::support::watched::{WatchedWriter, watched_writer};
 use std::alloc::Global;
 use std::process::Abort;
+use v_frame::frame::Frame;
 
 /// Whether a writer was called so: the calls of `write`, those that offered nothing, the calls of `flush`, and the bytes
 /// that were taken.
@@ -18,7 +19,10 @@ fn has_calls(out: &Counted<WatchedWriter>, calls: [usize; 3], taken: &[u8]) -> b
 }
 
 /// Bytes, how many of them a call takes, and the calls of `write`, the empty ones and the failures after it.
-static CALLS: [(&[u8], Option<usize>, usize, usize, u64); 3] = [
+type Call = (&'static [u8], Option<usize>, usize, usize, u64);
+
+/// Calls of a writer that takes two bytes each time, and fails at the third.
+static CALLS: [Call; 3] = [
     (&[1, 2, 3], Some(2), 1, 0, 0),
     (&[], Some(0), 2, 1, 0),
     (&[3], None, 3, 1, 1),
@@ -27,12 +31,21 @@ static CALLS: [(&[u8], Option<usize>, usize, usize, u64); 3] = [
 #[test]
 fn a_write_is_one_call_and_no_flush(rt: HostRuntime) {
     let mut out = Counted::new(watched_writer(rt.alloc(), 2, 3));
-    for (bytes, taken, writes, empty_writes, failures) in &CALLS {
-        let told = (out.write(*bytes).ok(), out.failures());
-        let are_right = has_calls(&out, [*writes, *empty_writes, 0], &[1, 2]);
-        assert!(rt; told == (*taken, *failures) && are_right, "{writes} calls");
+    for case in &CALLS {
+        check_write(&rt, &mut out, case);
     }
     assert!(rt; out.write_all(&[]).is_ok() && has_calls(&out, [3, 1, 0], &[1, 2]));
+}
+
+/// Stops the test where a write takes another count of bytes, or is made by other calls.
+fn check_write(
+    rt: &impl Abort,
+    out: &mut Counted<WatchedWriter>,
+    (bytes, taken, writes, empty_writes, failures): &Call,
+) {
+    let told = (out.write(*bytes).ok(), out.failures());
+    let are_right = has_calls(out, [*writes, *empty_writes, 0], &[1, 2]);
+    assert!(rt; told == (*taken, *failures) && are_right, "{writes} calls");
 }
 
 /// How many bytes a call takes at most, the call that fails, the answer to writing 1 to 5, the calls, and what is taken.
@@ -66,12 +79,16 @@ fn writing_all_calls_until_all_is_taken_or_a_call_fails(rt: HostRuntime) {
 fn a_frame_is_written_without_a_flush_and_without_an_empty_write(rt: HostRuntime) {
     let frame = six_bytes(&rt, rt.alloc(), [1, 2, 3, 4, 5, 6]);
     for most in [1, 4, 6] {
-        let mut out = Counted::new(watched_writer(rt.alloc(), most, 0));
-        let answer = write_frame(&mut out, &frame);
-        let writes = out.inner().writes;
-        let are_right = has_calls(&out, [writes, 0, 0], &[1, 2, 3, 4, 5, 6]);
-        assert!(rt; answer == Ok(()) && are_right, "{most} a call");
+        assert!(rt; is_written(rt.alloc(), &frame, most), "{most} a call");
     }
+}
+
+/// Whether a writer that takes so many bytes a call is offered some at each, is not flushed, and has the bytes 1 to 6 then.
+fn is_written(alloc: Global, frame: &Frame<u8>, most: usize) -> bool {
+    let mut out = Counted::new(watched_writer(alloc, most, 0));
+    let answer = write_frame(&mut out, frame);
+    let writes = out.inner().writes;
+    answer == Ok(()) && has_calls(&out, [writes, 0, 0], &[1, 2, 3, 4, 5, 6])
 }
 
 /// How many bytes a read gives, and how many calls of `read` there were.

@@ -25,10 +25,21 @@ fn a_frame_a_rest_and_the_end(rt: HostRuntime) {
     let mut frame = six_bytes(&rt, rt.alloc(), [0; 6]);
     let mut reader = Counted::new([1, 2, 3, 4, 5, 6, 7].as_slice());
     for answer in &ANSWERS {
-        let read = read_frame(rt.alloc(), &mut reader, &mut frame);
-        must_show(&rt, rt.alloc(), &read, *answer);
-        assert!(rt; shows_bytes(&frame, [1, 2, 3, 4, 5, 6]) && reader.failures() == 0);
+        check_answer(&rt, rt.alloc(), &mut reader, &mut frame, *answer);
     }
+}
+
+/// Stops the test where a read is answered otherwise or counted as a failure, or the frame does not show the bytes 1 to 6.
+fn check_answer(
+    rt: &impl Abort,
+    alloc: Global,
+    reader: &mut Counted<&[u8]>,
+    frame: &mut Frame<u8>,
+    answer: &str,
+) {
+    let read = read_frame(alloc, reader, frame);
+    must_show(rt, alloc, &read, answer);
+    assert!(rt; shows_bytes(frame, [1, 2, 3, 4, 5, 6]) && reader.failures() == 0);
 }
 
 /// A reader over a few of the bytes 1 to 7, which gives at most so many bytes at each of so many calls and then fails: what
@@ -57,19 +68,28 @@ static PIECES: [Piecewise; 8] = [
 /// Stops the test where a read in pieces into a frame of these bytes answers anything else, or changes a frame that it does
 /// not read whole.
 fn check_pieces(rt: &impl Abort, alloc: Global, case: &Piecewise, before: [u8; 6]) {
-    let (bytes, most, calls, answer, failures, left) = *case;
     let mut frame = six_bytes(rt, alloc, before);
-    let mut reader = Counted::new(pieces_of(bytes, most, calls));
-    let read = read_frame(alloc, &mut reader, &mut frame);
-    must_show(rt, alloc, &read, answer);
-    let shown = if read.is_ok() {
+    let shown = if reads_pieces(rt, alloc, case, &mut frame) {
         [1, 2, 3, 4, 5, 6]
     } else {
         before
     };
+    assert!(rt; frame == six_bytes(rt, alloc, shown), "{}", case.3);
+}
+
+/// Whether a frame is read in pieces. Stops the test where anything else is answered, counted or left.
+fn reads_pieces(
+    rt: &impl Abort,
+    alloc: Global,
+    (bytes, most, calls, answer, failures, left): &Piecewise,
+    frame: &mut Frame<u8>,
+) -> bool {
+    let mut reader = Counted::new(pieces_of(*bytes, *most, *calls));
+    let read = read_frame(alloc, &mut reader, frame);
+    must_show(rt, alloc, &read, *answer);
     let told = (reader.failures(), reader.inner().left.len());
-    let is_kept = frame == six_bytes(rt, alloc, shown);
-    assert!(rt; told == (failures, left) && is_kept, "{answer}");
+    assert!(rt; told == (*failures, *left), "{answer}");
+    read.is_ok()
 }
 
 #[test]

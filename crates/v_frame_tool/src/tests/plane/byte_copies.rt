@@ -2,7 +2,7 @@
 
 use crate::tests::support::buffers::{has_buffer, holds};
 use crate::tests::support::bytes::{push_stepped, push_stepped_words, stepped, stepped_words};
-use crate::tests::support::frames::{BARE, BORDERED, Layout, numbered, with_buffer, zeros};
+use crate::tests::support::frames::{BARE, BORDERED, Layout, luma, numbered, with_buffer, zeros};
 use crate::tests::support::texts::must_show;
 use std::alloc::Global;
 use std::process::Abort;
@@ -35,9 +35,9 @@ fn check_copies<T: Pixel>(
     layout: Layout,
     copies: &[Copied<'_, T>],
 ) {
-    let mut frame = zeros::<T>(rt, alloc, layout);
+    let mut plane = luma(zeros::<T>(rt, alloc, layout));
     for copied in copies {
-        check_copy(rt, alloc, &mut frame.y_plane, *copied);
+        check_copy(rt, alloc, &mut plane, *copied);
     }
 }
 
@@ -123,11 +123,11 @@ static SQUARE: [Copied<'static, u8>; 1] = [(
 
 #[test]
 fn bytes_are_copied_without_their_tails_or_refused(rt: HostRuntime) {
-    let mut bordered = with_buffer::<u8>(&rt, rt.alloc(), BORDERED, &BEFORE);
+    let mut bordered = luma(with_buffer::<u8>(&rt, rt.alloc(), BORDERED, &BEFORE));
     for copied in &TAILS {
-        check_copy(&rt, rt.alloc(), &mut bordered.y_plane, *copied);
+        check_copy(&rt, rt.alloc(), &mut bordered, *copied);
     }
-    assert!(rt; has_buffer(&bordered.y_plane, BORDERED, &AFTER));
+    assert!(rt; has_buffer(&bordered, BORDERED, &AFTER));
     check_copies(&rt, rt.alloc(), (5, 2, [0; 4]), &FIVE);
     check_copies(&rt, rt.alloc(), BARE, &LARGEST);
     check_copies(&rt, rt.alloc(), (2, 2, [0; 4]), &SQUARE);
@@ -178,13 +178,13 @@ fn packed_words(rt: HostRuntime) {
     let wanted = [
         0xA100, 0x0102, 0x0304, 0xA103, 0x0506, 0x0708, 0xA106, 0xA107, 0xA108,
     ];
-    let mut frame = with_buffer::<u16>(&rt, rt.alloc(), (2, 2, [1, 0, 0, 1]), &before);
-    let copied = frame.y_plane.copy_from_u8_slice(&[2, 1, 4, 3, 6, 5, 8, 7]);
-    assert!(rt; copied.is_ok() && frame.y_plane.data() == wanted.as_slice());
-    let refused = frame.y_plane.copy_from_u8_slice(&[2, 1, 4, 3]);
+    let mut plane = luma(with_buffer::<u16>(&rt, rt.alloc(), (2, 2, [1, 0, 0, 1]), &before));
+    let copied = plane.copy_from_u8_slice(&[2, 1, 4, 3, 6, 5, 8, 7]);
+    assert!(rt; copied.is_ok() && plane.data() == wanted.as_slice());
+    let refused = plane.copy_from_u8_slice(&[2, 1, 4, 3]);
     let answer = "Err(DataLength { expected: 8, found: 4 })";
     must_show(&rt, rt.alloc(), &refused, answer);
-    assert!(rt; frame.y_plane.data() == wanted.as_slice());
+    assert!(rt; plane.data() == wanted.as_slice());
 }
 
 /// The widths of planes of words and the strides of two rows for them, with the last pixel of the second.
@@ -213,12 +213,11 @@ fn words_of_two_rows(rt: &impl Abort, alloc: Global, width: usize) -> Vec<u16> {
 /// Stops the test where the words are not those of the source, or an entry of a numbered border changes.
 fn check_border(rt: &impl Abort, alloc: Global, (width, stride, last): (usize, usize, u16)) {
     let layout = (width, 2, [3, 1, 0, 0]);
-    let mut frame = numbered::<u16>(rt, alloc, layout);
+    let mut plane = luma(numbered::<u16>(rt, alloc, layout));
     let source = two_rows(rt, alloc, stride);
-    let plane = &mut frame.y_plane;
     let copied = plane.copy_from_u8_slice_with_stride(source.as_slice(), stride);
     let words = words_of_two_rows(rt, alloc, width);
-    let is_kept = holds(rt, alloc, plane, layout, words.as_slice());
+    let is_kept = holds(rt, alloc, &plane, layout, words.as_slice());
     let is_last = words.last() == Some(&last);
     assert!(rt; copied.is_ok() && is_last && is_kept, "{width} words");
 }
@@ -233,8 +232,7 @@ fn is_border(buffer: &[u16], width: usize) -> bool {
 
 /// Stops the test where words are not copied, or the border does not stay.
 fn check_width(rt: &impl Abort, alloc: Global, (width, stride, last): (usize, usize, u16)) {
-    let mut frame = zeros::<u16>(rt, alloc, (width, 2, [3, 1, 0, 0]));
-    let plane = &mut frame.y_plane;
+    let mut plane = luma(zeros::<u16>(rt, alloc, (width, 2, [3, 1, 0, 0])));
     plane.data_mut().fill(0xABCD);
     let source = two_rows(rt, alloc, stride);
     let copied = plane.copy_from_u8_slice_with_stride(source.as_slice(), stride);

@@ -1,6 +1,6 @@
 //! Iterators over the bytes of planes, drawn by turns and counted.
 
-use crate::tests::support::frames::{Layout, numbered, with_buffer};
+use crate::tests::support::frames::{Layout, luma, numbered, with_buffer};
 use std::alloc::Global;
 use std::process::Abort;
 use v_frame::pixel::Pixel;
@@ -18,20 +18,17 @@ fn by_turns<T: Pixel>(bytes: &mut ByteData<'_, T>) -> [Option<u8>; 4] {
 
 #[test]
 fn bytes_come_by_turns(rt: HostRuntime) {
-    let frame = with_buffer::<u8>(&rt, rt.alloc(), (2, 2, [0; 4]), &[1, 2, 3, 4]);
-    let mut bytes = frame.y_plane.byte_data();
+    let plane = luma(with_buffer::<u8>(&rt, rt.alloc(), (2, 2, [0; 4]), &[1, 2, 3, 4]));
+    let mut bytes = plane.byte_data();
     assert!(rt; by_turns(&mut bytes) == [Some(1), Some(4), Some(2), Some(3)]);
 }
 
 /// How many bytes an iterator over a numbered plane tells and gives, the first one, and how many are left after it.
 fn counts<T: Pixel>(rt: &impl Abort, alloc: Global, layout: Layout) -> ([usize; 3], Option<u8>) {
-    let frame = numbered::<T>(rt, alloc, layout);
-    let mut bytes = frame.y_plane.byte_data();
+    let plane = luma(numbered::<T>(rt, alloc, layout));
+    let mut bytes = plane.byte_data();
     let (length, first) = (bytes.len(), bytes.next());
-    (
-        [length, frame.y_plane.byte_data().count(), bytes.len()],
-        first,
-    )
+    ([length, plane.byte_data().count(), bytes.len()], first)
 }
 
 #[test]

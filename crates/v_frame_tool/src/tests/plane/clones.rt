@@ -2,7 +2,7 @@
 //!
 //! Where a test says what a refusal leaves, `rt try --test --fail-alloc N` takes it there, as in the refusals of replays.
 
-use crate::tests::support::frames::{nine, with_buffer, write_pixel};
+use crate::tests::support::frames::{luma, nine, with_buffer, write_pixel};
 use crate::tests::support::options::five_and_six;
 use std::alloc::Global;
 use std::process::Abort;
@@ -15,10 +15,10 @@ fn cloned<T: Copy>(rt: &impl Abort, alloc: Global, plane: &Plane<T>) -> Plane<T>
 
 #[test]
 fn a_clone_of_a_plane_keeps_its_pixels(rt: HostRuntime) {
-    let mut frame = nine(&rt, rt.alloc());
-    let copy = frame.y_plane.clone(rt.alloc()).expect(&rt, "memory");
-    write_pixel(&rt, &mut frame.y_plane, 0, 0, 100);
-    assert!(rt; frame.y_plane.pixel(0, 0) == Some(100));
+    let mut plane = luma(nine(&rt, rt.alloc()));
+    let copy = cloned(&rt, rt.alloc(), &plane);
+    write_pixel(&rt, &mut plane, 0, 0, 100);
+    assert!(rt; plane.pixel(0, 0) == Some(100));
     assert!(rt; copy.data() == [0, 1, 2, 3, 4, 5, 6, 7, 8].as_slice());
 }
 
@@ -34,19 +34,19 @@ fn a_clone_of_values_is_a_plane_of_its_own(rt: HostRuntime) {
 #[test]
 fn eight_words_equal_their_clone(rt: HostRuntime) {
     let pixels = [1, 2, 3, 4, 5, 6, 7, 65535];
-    let frame = with_buffer::<u16>(&rt, rt.alloc(), (8, 1, [0; 4]), &pixels);
-    let mut copy = frame.y_plane.clone(rt.alloc()).expect(&rt, "memory");
-    assert!(rt; copy == frame.y_plane);
+    let plane = luma(with_buffer::<u16>(&rt, rt.alloc(), (8, 1, [0; 4]), &pixels));
+    let mut copy = cloned(&rt, rt.alloc(), &plane);
+    assert!(rt; copy == plane);
     write_pixel(&rt, &mut copy, 5, 0, 0);
-    assert!(rt; copy != frame.y_plane);
+    assert!(rt; copy != plane);
 }
 
 #[test]
 fn a_refused_clone_leaves_the_plane(rt: HostRuntime) {
     let buffer = [1, 2, 9, 3, 4, 8];
-    let frame = with_buffer::<u8>(&rt, rt.alloc(), (2, 2, [0, 1, 0, 0]), &buffer);
-    if let Ok(copy) = frame.y_plane.clone(rt.alloc()) {
-        assert!(rt; copy == frame.y_plane);
+    let plane = luma(with_buffer::<u8>(&rt, rt.alloc(), (2, 2, [0, 1, 0, 0]), &buffer));
+    if let Ok(copy) = plane.clone(rt.alloc()) {
+        assert!(rt; copy == plane);
     }
-    assert!(rt; frame.y_plane.data() == buffer.as_slice());
+    assert!(rt; plane.data() == buffer.as_slice());
 }

@@ -1,10 +1,11 @@
 //! Packed copies of pixels into a plane.
 
 use crate::tests::support::buffers::{bordered_buffer, has_buffer};
-use crate::tests::support::frames::{BORDERED, with_buffer};
+use crate::tests::support::frames::{BORDERED, luma, with_buffer};
 use crate::tests::support::texts::{must_display, must_show};
-use std::alloc::AllocError;
-use v_frame::plane::CopyError;
+use std::alloc::{AllocError, Global};
+use std::process::Abort;
+use v_frame::plane::{CopyError, Plane};
 
 /// Copies of another length than six pixels, and their answers.
 static REFUSED: [(&[u8], &str); 3] = [
@@ -16,22 +17,26 @@ static REFUSED: [(&[u8], &str); 3] = [
     (&[1; 9], "Err(DataLength { expected: 6, found: 9 })"),
 ];
 
+/// Stops the test where a copy is answered otherwise, or leaves another buffer than was there before.
+fn check_refused(rt: &impl Abort, alloc: Global, plane: &mut Plane<u8>, before: &[u8]) {
+    for (pixels, answer) in &REFUSED {
+        must_show(rt, alloc, &plane.copy_from_slice(*pixels), *answer);
+        assert!(rt; plane.data() == before);
+    }
+}
+
+/// Whether the pixels 1 to 6 are copied into a bordered plane.
+fn is_copied(mut plane: Plane<u8>) -> bool {
+    let copied = plane.copy_from_slice(&[1, 2, 3, 4, 5, 6]);
+    copied.is_ok() && has_buffer(&plane, BORDERED, &bordered_buffer([1, 2, 3, 4, 5, 6]))
+}
+
 #[test]
 fn a_copy_of_another_length_changes_nothing(rt: HostRuntime) {
     let before = bordered_buffer([0; 6]);
-    let mut frame = with_buffer::<u8>(&rt, rt.alloc(), BORDERED, &before);
-    for (pixels, answer) in &REFUSED {
-        must_show(
-            &rt,
-            rt.alloc(),
-            &frame.y_plane.copy_from_slice(*pixels),
-            *answer,
-        );
-        assert!(rt; frame.y_plane.data() == before.as_slice());
-    }
-    assert!(rt; frame.y_plane.copy_from_slice(&[1, 2, 3, 4, 5, 6]).is_ok());
-    let after = bordered_buffer([1, 2, 3, 4, 5, 6]);
-    assert!(rt; has_buffer(&frame.y_plane, BORDERED, &after));
+    let mut plane = luma(with_buffer::<u8>(&rt, rt.alloc(), BORDERED, &before));
+    check_refused(&rt, rt.alloc(), &mut plane, &before);
+    assert!(rt; is_copied(plane));
 }
 
 /// Refusals, and what they say.

@@ -1,6 +1,6 @@
 //! The debug texts of planes.
 
-use crate::tests::support::frames::{Layout, with_buffer};
+use crate::tests::support::frames::{Layout, luma, with_buffer};
 use crate::tests::support::options::{holding, pair};
 use crate::tests::support::texts::must_show;
 use v_frame::plane::{PlaneGeometry, PlaneRef};
@@ -36,8 +36,8 @@ static PLANES: [(Layout, &[u8], &str); 4] = [
 #[test]
 fn a_plane_shows_five_entries_at_most_and_its_geometry(rt: HostRuntime) {
     for (layout, buffer, wanted) in &PLANES {
-        let frame = with_buffer::<u8>(&rt, rt.alloc(), *layout, *buffer);
-        must_show(&rt, rt.alloc(), &frame.y_plane, *wanted);
+        let plane = luma(with_buffer::<u8>(&rt, rt.alloc(), *layout, *buffer));
+        must_show(&rt, rt.alloc(), &plane, *wanted);
     }
 }
 

@@ -19,14 +19,26 @@ fn is_new<T: Pixel>(rt: &impl Abort, alloc: Global, width: usize) -> bool {
     let plane = new_plane::<T>(rt, alloc, width);
     let stride = width.saturating_add(1);
     let size = (plane.width(), plane.height(), plane.geometry().stride());
-    let mut is_right = size == (width, 2, stride) && plane.rows().len() == 2;
+    let is_size = size == (width, 2, stride) && plane.data().len() == stride.saturating_mul(4);
+    is_size && has_rows_of(&plane, width) && is_zero(&plane)
+}
+
+/// Whether a plane has two rows of this width.
+fn has_rows_of<T: Pixel>(plane: &Plane<T>, width: usize) -> bool {
+    let mut is_right = plane.rows().len() == 2;
     for row in plane.rows() {
         is_right = row.len() == width && is_right;
     }
+    is_right
+}
+
+/// Whether each entry of a plane is zero.
+fn is_zero<T: Pixel>(plane: &Plane<T>) -> bool {
+    let mut is_zero = true;
     for entry in plane.data() {
-        is_right = *entry == T::ZERO && is_right;
+        is_zero = *entry == T::ZERO && is_zero;
     }
-    is_right && plane.data().len() == stride.saturating_mul(4)
+    is_zero
 }
 
 #[test]

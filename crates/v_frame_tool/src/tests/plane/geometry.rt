@@ -1,6 +1,7 @@
 //! Sizes and paddings of geometries: what follows from them, and what is too large.
 
 use crate::tests::support::reads::numbers_of;
+use std::process::Abort;
 use v_frame::plane::PlaneGeometry;
 
 #[test]
@@ -37,9 +38,18 @@ fn told(geometry: Option<PlaneGeometry>) -> Option<Told> {
     }
 }
 
-/// Widths, heights, paddings left, right, top and bottom, and ratios, with what their geometry tells. There is none where a
-/// size or a ratio is zero, or no `usize` holds the stride.
-static PADDED: [([usize; 6], [u8; 2], Option<Told>); 13] = [
+/// A width, a height, paddings left, right, top and bottom, and ratios, with what their geometry tells.
+type Padded = ([usize; 6], [u8; 2], Option<Told>);
+
+/// Stops the test where a geometry tells anything else.
+fn check_padded(rt: &impl Abort, (numbers, [x, y], wanted): Padded) {
+    let [width, height, left, right, top, bottom] = numbers;
+    let geometry = PlaneGeometry::new(width, height, left, right, top, bottom, x, y);
+    assert!(rt; told(geometry) == wanted, "{width} by {height}");
+}
+
+/// There is no geometry where a size or a ratio is zero, or no `usize` holds the stride.
+static PADDED: [Padded; 13] = [
     ([0, 1080, 40, 30, 20, 10], [1, 1], None),
     ([1920, 0, 40, 30, 20, 10], [1, 1], None),
     ([1920, 1080, 40, 30, 20, 10], [0, 1], None),
@@ -73,9 +83,8 @@ static PADDED: [([usize; 6], [u8; 2], Option<Told>); 13] = [
 
 #[test]
 fn strides_are_as_large_as_numbers_go(rt: HostRuntime) {
-    for ([width, height, left, right, top, bottom], [x, y], wanted) in &PADDED {
-        let geometry = PlaneGeometry::new(*width, *height, *left, *right, *top, *bottom, *x, *y);
-        assert!(rt; told(geometry) == *wanted, "{width} by {height}");
+    for case in &PADDED {
+        check_padded(&rt, *case);
     }
 }
 

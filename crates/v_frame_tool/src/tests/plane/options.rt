@@ -2,7 +2,7 @@
 //!
 //! Where a test says what a refusal leaves, `rt try --test --fail-alloc N` takes it there, as in the refusals of replays.
 
-use crate::tests::support::frames::with_buffer;
+use crate::tests::support::frames::{luma, with_buffer};
 use crate::tests::support::options::{five_and_six, holding, pair, vacant, values_of};
 use std::alloc::Global;
 use std::process::Abort;
@@ -35,9 +35,14 @@ fn without_memory_the_options_are_given_back(rt: HostRuntime) {
     if !plane.is_init() {
         panic!(rt; "a place without a value");
     }
-    match plane.assume_init(rt.alloc()) {
-        Ok(plane) => assert!(rt; plane.data() == [5, 6].as_slice()),
-        Err(plane) => assert!(rt; plane.data() == [Some(5), Some(6)].as_slice()),
+    assert!(rt; are_five_and_six(plane.assume_init(rt.alloc())));
+}
+
+/// Whether a plane has the values 5 and 6, or the options of these.
+fn are_five_and_six(plane: Result<Plane<u8>, Plane<Option<u8>>>) -> bool {
+    match plane {
+        Ok(plane) => plane.data() == [5, 6].as_slice(),
+        Err(plane) => plane.data() == [Some(5), Some(6)].as_slice(),
     }
 }
 
@@ -69,9 +74,14 @@ fn sixteen_entries_are_read_back(rt: HostRuntime) {
     let bordered = PlaneGeometry::new(2, 2, 1, 1, 1, 1, 1, 1);
     let plane = holding(&rt, rt.alloc(), bordered, &ENTRIES);
     let plane = values_of(&rt, rt.alloc(), plane);
-    assert!(rt; plane.data() == COUNT.as_slice() && plane.row(1) == Some([9, 10].as_slice()));
-    let frame = with_buffer::<u8>(&rt, rt.alloc(), (2, 2, [1, 1, 1, 1]), &COUNT);
-    assert!(rt; frame.y_plane == plane);
+    assert!(rt; has_count(&plane));
+    let same = luma(with_buffer::<u8>(&rt, rt.alloc(), (2, 2, [1, 1, 1, 1]), &COUNT));
+    assert!(rt; same == plane);
+}
+
+/// Whether the entries of a plane are counted, and its second row is 9 and 10.
+fn has_count(plane: &Plane<u8>) -> bool {
+    plane.data() == COUNT.as_slice() && plane.row(1) == Some([9, 10].as_slice())
 }
 
 /// Three texts.

@@ -32,15 +32,22 @@ fn packed(rt: &impl Abort, alloc: Global, layout: Layout) -> Plane<u16> {
     plane
 }
 
+/// The first and the sixteenth pixel of the first row, the first of the second row, and the last.
+fn four_of(plane: &Plane<u16>) -> [Option<u16>; 4] {
+    [
+        plane.pixel(0, 0),
+        plane.pixel(15, 0),
+        plane.pixel(0, 1),
+        plane.pixels().next_back(),
+    ]
+}
+
 /// Stops the test where other words are copied, or an entry of a numbered border changes.
 fn check_packed(rt: &impl Abort, alloc: Global, (width, below, last): (usize, u16, u16)) {
     let layout = (width, 2, [3, 1, 1, 0]);
     let plane = packed(rt, alloc, layout);
-    let above = (plane.pixel(0, 0), plane.pixel(15, 0));
-    let ends = (plane.pixel(0, 1), plane.pixels().next_back());
-    let told = (above, ends);
-    let wanted = ((Some(0x300B), Some(0x8661)), (Some(below), Some(last)));
-    assert!(rt; told == wanted, "{width} pixels");
+    let wanted = [Some(0x300B), Some(0x8661), Some(below), Some(last)];
+    assert!(rt; four_of(&plane) == wanted, "{width} pixels");
     let words = stepped_words(rt, alloc, 11, 37, width.saturating_mul(2));
     assert!(rt; holds(rt, alloc, &plane, layout, words.as_slice()));
 }

@@ -1,12 +1,11 @@
 //! Pixels that are read past the rectangle.
 
-use crate::tests::support::frames::with_buffer;
+use crate::tests::support::frames::{luma, with_buffer};
 
 #[test]
 fn pixel_past_the_width_is_in_the_next_row(rt: HostRuntime) {
     let buffer = [1, 2, 3, 4, 5, 6, 7, 8, 9, 10, 11, 12, 13, 14, 15, 16];
-    let frame = with_buffer::<u8>(&rt, rt.alloc(), (4, 4, [0; 4]), &buffer);
-    let plane = &frame.y_plane;
+    let plane = luma(with_buffer::<u8>(&rt, rt.alloc(), (4, 4, [0; 4]), &buffer));
     let around = [
         plane.pixel(0, 4),
         plane.pixel(16, 0),
@@ -19,8 +18,7 @@ fn pixel_past_the_width_is_in_the_next_row(rt: HostRuntime) {
 
 #[test]
 fn no_pixel_is_so_far_away(rt: HostRuntime) {
-    let mut frame = with_buffer::<u8>(&rt, rt.alloc(), (2, 1, [0; 4]), &[1, 2]);
-    let plane = &mut frame.y_plane;
+    let mut plane = luma(with_buffer::<u8>(&rt, rt.alloc(), (2, 1, [0; 4]), &[1, 2]));
     let far = [
         plane.pixel(0, 9223372036854775808),
         plane.pixel(usize::MAX, 1),

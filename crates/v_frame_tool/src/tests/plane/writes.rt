@@ -1,7 +1,7 @@
 //! Rows and pixels written in place.
 
 use crate::tests::support::buffers::has_buffer;
-use crate::tests::support::frames::{write_pixel, zeros};
+use crate::tests::support::frames::{luma, write_pixel, zeros};
 use std::process::Abort;
 use v_frame::plane::Plane;
 
@@ -17,21 +17,25 @@ fn write_row(rt: &impl Abort, plane: &mut Plane<u8>, y: usize, pixels: &[u8]) {
 #[test]
 fn a_row_written_in_place(rt: HostRuntime) {
     let layout = (4, 3, [0; 4]);
-    let mut frame = zeros::<u8>(&rt, rt.alloc(), layout);
-    write_row(&rt, &mut frame.y_plane, 1, &[0, 1, 2, 3]);
+    let mut plane = luma(zeros::<u8>(&rt, rt.alloc(), layout));
+    write_row(&rt, &mut plane, 1, &[0, 1, 2, 3]);
     let wanted = [0, 0, 0, 0, 0, 1, 2, 3, 0, 0, 0, 0];
-    assert!(rt; has_buffer(&frame.y_plane, layout, &wanted));
-    assert!(rt; frame.y_plane.row(100).is_none());
+    assert!(rt; has_buffer(&plane, layout, &wanted));
+    assert!(rt; plane.row(100).is_none());
+}
+
+/// Writes three pixels, each of which has to be read back.
+fn write_three(rt: &impl Abort, plane: &mut Plane<u8>) {
+    for (x, y, value) in [(0, 0, 10), (2, 1, 20), (3, 3, 30)] {
+        write_pixel(rt, plane, x, y, value);
+        assert!(rt; plane.pixel(x, y) == Some(value));
+    }
 }
 
 #[test]
 fn pixels_written_in_place(rt: HostRuntime) {
-    let mut frame = zeros::<u8>(&rt, rt.alloc(), (4, 4, [0; 4]));
-    for (x, y, value) in [(0, 0, 10), (2, 1, 20), (3, 3, 30)] {
-        write_pixel(&rt, &mut frame.y_plane, x, y, value);
-        assert!(rt; frame.y_plane.pixel(x, y) == Some(value));
-    }
-    let plane = &frame.y_plane;
+    let mut plane = luma(zeros::<u8>(&rt, rt.alloc(), (4, 4, [0; 4])));
+    write_three(&rt, &mut plane);
     assert!(rt; plane.data() == [10, 0, 0, 0, 0, 0, 20, 0, 0, 0, 0, 0, 0, 0, 0, 30].as_slice());
     assert!(rt; (plane.pixel(1, 1), plane.pixel(100, 100)) == (Some(0), None));
 }

@@ -1,7 +1,7 @@
 //! Iterators that lend rows and pixels of a plane for writing.
 
 use crate::tests::support::buffers::{bordered_buffer, buffer_in_200, holds};
-use crate::tests::support::frames::{BARE, Layout, counted, in_200, numbered, zeros};
+use crate::tests::support::frames::{BARE, Layout, counted, in_200, luma, numbered, zeros};
 use std::alloc::Global;
 use std::process::Abort;
 use v_frame::plane::Plane;
@@ -39,29 +39,26 @@ fn call_by_call(plane: &mut Plane<u8>) -> ([(Option<u8>, usize); 3], (usize, Opt
     ([first, second, third], pixels.size_hint())
 }
 
-/// Whether these calls give the last, the first and the second pixel of six.
-fn gives_its_pixels(plane: &mut Plane<u8>) -> bool {
-    call_by_call(plane) == ([(Some(6), 5), (Some(1), 4), (Some(2), 3)], (3, Some(3)))
+/// Whether these calls give the last, the first and the second pixel of six, and leave this buffer.
+fn is_written(mut plane: Plane<u8>, wanted: &[u8]) -> bool {
+    let given = ([(Some(6), 5), (Some(1), 4), (Some(2), 3)], (3, Some(3)));
+    call_by_call(&mut plane) == given && plane.data() == wanted
 }
 
 #[test]
 fn a_padded_plane_is_written_call_by_call(rt: HostRuntime) {
     let written = [1, 7, 3, 4, 5, 9];
-    let mut frame = in_200(&rt, rt.alloc());
-    assert!(rt; gives_its_pixels(&mut frame.y_plane));
-    assert!(rt; frame.y_plane.data() == buffer_in_200(written).as_slice());
-    let mut frame = counted(&rt, rt.alloc());
-    assert!(rt; gives_its_pixels(&mut frame.y_plane));
-    assert!(rt; frame.y_plane.data() == bordered_buffer(written).as_slice());
+    assert!(rt; is_written(luma(in_200(&rt, rt.alloc())), &buffer_in_200(written)));
+    assert!(rt; is_written(luma(counted(&rt, rt.alloc())), &bordered_buffer(written)));
 }
 
 /// Stops the test where the pixels of a numbered plane are not counted up, or its border does not stay.
 fn check_counted(rt: &impl Abort, alloc: Global, layout: Layout, wanted: &[u8]) {
-    let mut frame = numbered(rt, alloc, layout);
-    count_up(&mut frame.y_plane);
-    let pixels: Vec<u8> = frame.y_plane.pixels().collect(alloc).expect(rt, "memory");
+    let mut plane = luma(numbered(rt, alloc, layout));
+    count_up(&mut plane);
+    let pixels: Vec<u8> = plane.pixels().collect(alloc).expect(rt, "memory");
     assert!(rt; pixels.as_slice() == wanted);
-    assert!(rt; holds(rt, alloc, &frame.y_plane, layout, wanted));
+    assert!(rt; holds(rt, alloc, &plane, layout, wanted));
 }
 
 #[test]
@@ -88,15 +85,15 @@ fn from_both_ends(plane: &Plane<u8>) -> [(Option<u8>, Option<u8>); 4] {
 
 #[test]
 fn filled_pixels_are_read_back_from_both_ends(rt: HostRuntime) {
-    let mut frame = zeros(&rt, rt.alloc(), BARE);
-    count_up(&mut frame.y_plane);
+    let mut plane = luma(zeros(&rt, rt.alloc(), BARE));
+    count_up(&mut plane);
     let wanted = [
         (Some(0), Some(5)),
         (Some(1), Some(4)),
         (Some(2), Some(3)),
         (None, None),
     ];
-    assert!(rt; from_both_ends(&frame.y_plane) == wanted);
+    assert!(rt; from_both_ends(&plane) == wanted);
 }
 
 /// Fills three rows, the last of them second: how many were left before and, but for one, after that.
@@ -128,11 +125,10 @@ fn rows_from_both_ends(plane: &Plane<u8>) -> [Option<[u8; 3]>; 3] {
 /// Stops the test where three rows of three pixels are not filled, or their border does not stay.
 fn check_filled(rt: &impl Abort, alloc: Global, padding: [usize; 4]) {
     let layout = (3, 3, padding);
-    let mut frame = numbered(rt, alloc, layout);
-    let plane = &mut frame.y_plane;
-    assert!(rt; fill_three_rows(plane) == (3, (3, Some(3)), 1));
-    assert!(rt; holds(rt, alloc, plane, layout, &[1, 1, 1, 2, 2, 2, 3, 3, 3]));
-    assert!(rt; rows_from_both_ends(plane) == [Some([1; 3]), Some([3; 3]), Some([2; 3])]);
+    let mut plane = luma(numbered(rt, alloc, layout));
+    assert!(rt; fill_three_rows(&mut plane) == (3, (3, Some(3)), 1));
+    assert!(rt; holds(rt, alloc, &plane, layout, &[1, 1, 1, 2, 2, 2, 3, 3, 3]));
+    assert!(rt; rows_from_both_ends(&plane) == [Some([1; 3]), Some([3; 3]), Some([2; 3])]);
 }
 
 #[test]
@@ -153,7 +149,7 @@ fn fill_four_pixels(plane: &mut Plane<u8>) -> [Option<u8>; 4] {
 
 #[test]
 fn pixels_are_filled_from_both_ends(rt: HostRuntime) {
-    let mut frame = zeros(&rt, rt.alloc(), (2, 2, [0, 0, 0, 0]));
-    assert!(rt; fill_four_pixels(&mut frame.y_plane) == [Some(0); 4]);
-    assert!(rt; frame.y_plane.data() == [10, 20, 30, 40].as_slice());
+    let mut plane = luma(zeros(&rt, rt.alloc(), (2, 2, [0, 0, 0, 0])));
+    assert!(rt; fill_four_pixels(&mut plane) == [Some(0); 4]);
+    assert!(rt; plane.data() == [10, 20, 30, 40].as_slice());
 }

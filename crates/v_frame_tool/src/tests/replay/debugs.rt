@@ -5,6 +5,8 @@ use crate::tests::support::calls::Call::{
 };
 use crate::tests::support::calls::visible;
 use crate::tests::support::texts::must_show;
+use std::alloc::Global;
+use std::process::Abort;
 use v_frame::replay::Side::{Back, Front};
 use v_frame::replay::{Answer, ReplayStopped};
 
@@ -30,11 +32,15 @@ static CALLS: [(Call<'static, u8>, &str); 6] = [
     ),
 ];
 
+/// Stops the test where a call shows anything else.
+fn check_call(rt: &impl Abort, alloc: Global, (call, wanted): &(Call<'_, u8>, &str)) {
+    must_show(rt, alloc, &visible(rt, alloc, call), *wanted);
+}
+
 #[test]
 fn calls_show_what_they_name(rt: HostRuntime) {
-    for (call, wanted) in &CALLS {
-        let call = visible(&rt, rt.alloc(), call);
-        must_show(&rt, rt.alloc(), &call, *wanted);
+    for case in &CALLS {
+        check_call(&rt, rt.alloc(), case);
     }
 }
 

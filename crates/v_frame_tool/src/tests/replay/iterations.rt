@@ -5,8 +5,8 @@ use crate::tests::support::calls::Call::{Bytes, Pixels, PixelsMut, Rows, RowsMut
 use crate::tests::support::frames::{BARE, BORDERED};
 use v_frame::replay::Side::{Back, Front};
 
-/// Replays of iterations.
-static REPLAYS: [Replay<'static, u8>; 12] = [
+/// Replays of iterations that read.
+static READ: [Replay<'static, u8>; 5] = [
     // Pixels and rows past the end of their iterators.
     Replay {
         layout: BARE,
@@ -27,6 +27,46 @@ static REPLAYS: [Replay<'static, u8>; 12] = [
         ],
         after: &[1, 2, 3, 4, 5, 6],
     },
+    // Both ends, beside a border column of zeros.
+    Replay {
+        layout: (2, 2, [0, 1, 0, 0]),
+        before: &[1, 2, 0, 3, 4, 0],
+        steps: &[(Pixels(0, &[Back, Front]), FOUR_AND_ONE)],
+        after: &[1, 2, 0, 3, 4, 0],
+    },
+    // The same with a 9 in the border column.
+    Replay {
+        layout: (2, 2, [0, 1, 0, 0]),
+        before: &[1, 2, 9, 3, 4, 0],
+        steps: &[(Pixels(0, &[Back, Front]), FOUR_AND_ONE)],
+        after: &[1, 2, 9, 3, 4, 0],
+    },
+    // Bytes by turns from both ends.
+    Replay {
+        layout: (2, 2, [0, 0, 0, 0]),
+        before: &[1, 2, 3, 4],
+        steps: &[(
+            Bytes(0, &[Front, Back, Front, Back]),
+            "BytesWalked { total: 4, drawn: [Drawn { item: Some(1), left: 3 }, \
+             Drawn { item: Some(4), left: 2 }, Drawn { item: Some(2), left: 1 }, \
+             Drawn { item: Some(3), left: 0 }] }",
+        )],
+        after: &[1, 2, 3, 4],
+    },
+    // Bytes counted, and after a call one less.
+    Replay {
+        layout: (4, 3, [0, 0, 0, 0]),
+        before: &[3; 12],
+        steps: &[(
+            Bytes(0, &[Front]),
+            "BytesWalked { total: 12, drawn: [Drawn { item: Some(3), left: 11 }] }",
+        )],
+        after: &[3; 12],
+    },
+];
+
+/// Replays of iterations that write.
+static WRITTEN: [Replay<'static, u8>; 7] = [
     // Two of three pixels written, without a border.
     Replay {
         layout: BARE,
@@ -87,20 +127,6 @@ static REPLAYS: [Replay<'static, u8>; 12] = [
         )],
         after: &[9, 4],
     },
-    // Both ends, beside a border column of zeros.
-    Replay {
-        layout: (2, 2, [0, 1, 0, 0]),
-        before: &[1, 2, 0, 3, 4, 0],
-        steps: &[(Pixels(0, &[Back, Front]), FOUR_AND_ONE)],
-        after: &[1, 2, 0, 3, 4, 0],
-    },
-    // The same with a 9 in the border column.
-    Replay {
-        layout: (2, 2, [0, 1, 0, 0]),
-        before: &[1, 2, 9, 3, 4, 0],
-        steps: &[(Pixels(0, &[Back, Front]), FOUR_AND_ONE)],
-        after: &[1, 2, 9, 3, 4, 0],
-    },
     // Pixels numbered one by one, and then read by turns from both ends, and past the last.
     Replay {
         layout: BARE,
@@ -133,18 +159,6 @@ static REPLAYS: [Replay<'static, u8>; 12] = [
             ),
         ],
         after: &[0, 1, 2, 3, 4, 5],
-    },
-    // Bytes by turns from both ends.
-    Replay {
-        layout: (2, 2, [0, 0, 0, 0]),
-        before: &[1, 2, 3, 4],
-        steps: &[(
-            Bytes(0, &[Front, Back, Front, Back]),
-            "BytesWalked { total: 4, drawn: [Drawn { item: Some(1), left: 3 }, \
-             Drawn { item: Some(4), left: 2 }, Drawn { item: Some(2), left: 1 }, \
-             Drawn { item: Some(3), left: 0 }] }",
-        )],
-        after: &[1, 2, 3, 4],
     },
     // Rows filled from both ends, and read so.
     Replay {
@@ -191,16 +205,6 @@ static REPLAYS: [Replay<'static, u8>; 12] = [
         )],
         after: &[10, 20, 30, 40],
     },
-    // Bytes counted, and after a call one less.
-    Replay {
-        layout: (4, 3, [0, 0, 0, 0]),
-        before: &[3; 12],
-        steps: &[(
-            Bytes(0, &[Front]),
-            "BytesWalked { total: 12, drawn: [Drawn { item: Some(3), left: 11 }] }",
-        )],
-        after: &[3; 12],
-    },
 ];
 
 /// What an iteration over six pixels gives from the back and twice from the front.
@@ -212,6 +216,11 @@ const FOUR_AND_ONE: &str = "PixelsWalked { total: 4, drawn: [Drawn { item: Some(
      Drawn { item: Some(1), left: 2 }] }";
 
 #[test]
-fn iterations_come_from_both_ends_and_write_their_plane(rt: HostRuntime) {
-    check_replays(&rt, rt.alloc(), &REPLAYS);
+fn iterations_come_from_both_ends(rt: HostRuntime) {
+    check_replays(&rt, rt.alloc(), &READ);
+}
+
+#[test]
+fn iterations_write_their_plane(rt: HostRuntime) {
+    check_replays(&rt, rt.alloc(), &WRITTEN);
 }

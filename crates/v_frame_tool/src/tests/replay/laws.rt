@@ -14,7 +14,6 @@ use std::process::Abort;
 use v_frame::chroma::ChromaSubsampling::Yuv422;
 use v_frame::frame::Frame;
 use v_frame::laws;
-use v_frame::plane::Plane;
 use v_frame::replay::Answer;
 use v_frame::replay::Side::{Back, Front};
 
@@ -86,10 +85,14 @@ static NINE: [Step<'static, u8>; 9] = [
 ];
 
 /// Stops the test where the nine calls are answered otherwise, or other pixels or another border are left.
-fn check_nine(rt: &impl Abort, alloc: Global, answers: &[Answer<u8>], left: (&Plane<u8>, Layout)) {
-    let (plane, layout) = left;
-    assert!(rt; are_told(rt, alloc, answers, &NINE) == 9);
-    assert!(rt; holds(rt, alloc, plane, layout, &[30, 8, 7, 6, 5, 4]));
+fn check_nine(
+    rt: &impl Abort,
+    alloc: Global,
+    answers: Vec<Answer<u8>>,
+    (frame, layout): (Frame<u8>, Layout),
+) {
+    assert!(rt; are_told(rt, alloc, answers.as_slice(), &NINE) == 9);
+    assert!(rt; holds(rt, alloc, &frame.y_plane, layout, &[30, 8, 7, 6, 5, 4]));
 }
 
 #[test]
@@ -105,6 +108,6 @@ fn frames_that_show_the_same_answer_nine_calls_and_keep_their_borders(rt: HostRu
         calls.as_slice(),
     );
     let (left, right) = both.expect(&rt, "memory");
-    check_nine(&rt, rt.alloc(), left.as_slice(), (&first.y_plane, BORDERED));
-    check_nine(&rt, rt.alloc(), right.as_slice(), (&second.y_plane, around));
+    check_nine(&rt, rt.alloc(), left, (first, BORDERED));
+    check_nine(&rt, rt.alloc(), right, (second, around));
 }

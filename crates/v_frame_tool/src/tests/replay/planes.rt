@@ -3,7 +3,10 @@
 use crate::tests::support::answers::{Step, calls_done};
 use crate::tests::support::calls::Call::{CopyPixels, Height, Row, Width};
 use crate::tests::support::frames::{built, luma, padded, zeros};
+use std::alloc::Global;
+use std::process::Abort;
 use v_frame::chroma::ChromaSubsampling::{Yuv420, Yuv422};
+use v_frame::frame::Frame;
 
 /// The sizes of padded planes.
 static SIZES: [Step<'static, u8>; 3] = [
@@ -43,11 +46,17 @@ static REPLACED: [Step<'static, u8>; 5] = [
     (CopyPixels(0, &[1, 2, 3, 4]), "Copied(Ok(()))"),
 ];
 
+/// Two pixels by two, with a U plane of three by one and no V plane.
+fn replaced(rt: &impl Abort, alloc: Global) -> Frame<u8> {
+    let mut frame = built(rt, alloc, padded((2, 2), Yuv420, 8, [0; 4]));
+    frame.u_plane = Some(luma(zeros(rt, alloc, (3, 1, [0; 4]))));
+    frame.v_plane = None;
+    frame
+}
+
 #[test]
 fn planes_that_a_user_replaced_are_replayed(rt: HostRuntime) {
-    let mut frame = built(&rt, rt.alloc(), padded((2, 2), Yuv420, 8, [0; 4]));
-    frame.u_plane = Some(luma(zeros(&rt, rt.alloc(), (3, 1, [0; 4]))));
-    frame.v_plane = None;
+    let mut frame = replaced(&rt, rt.alloc());
     assert!(rt; calls_done(&rt, rt.alloc(), &mut frame, &REPLACED) == 5);
     assert!(rt; frame.y_plane.data() == [1, 2, 3, 4].as_slice());
 }

@@ -69,6 +69,16 @@ pub fn calls_done<T: Pixel>(
 ) -> usize {
     let calls = calls_of(rt, alloc, steps);
     let replayed = replay(alloc, frame, calls.as_slice());
+    count_of(rt, alloc, replayed, steps)
+}
+
+/// How many answers a replay gave, which have to be those of these calls: of all, or of the first few where it stopped.
+fn count_of<T: Pixel>(
+    rt: &impl Abort,
+    alloc: Global,
+    replayed: Result<Vec<Answer<T>>, ReplayStopped<T>>,
+    steps: &[Step<'_, T>],
+) -> usize {
     let done = are_told(rt, alloc, answers_of(&replayed), steps);
     assert!(rt; done <= steps.len() && (done < steps.len()) == replayed.is_err());
     done

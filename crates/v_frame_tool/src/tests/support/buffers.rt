@@ -89,6 +89,10 @@ fn an_expected_buffer_is_numbered_around_its_pixels(rt: HostRuntime) {
     let pixels: [u8; 6] = [1, 2, 3, 4, 5, 6];
     let buffer = expected_buffer(&rt, rt.alloc(), BORDERED, &pixels);
     assert!(rt; buffer.as_slice() == bordered_buffer(pixels).as_slice());
+}
+
+#[test]
+fn an_expected_buffer_of_words_is_numbered_above_a_byte(rt: HostRuntime) {
     let words = expected_buffer::<u16>(&rt, rt.alloc(), (1, 1, [0, 1, 0, 1]), &[7]);
     assert!(rt; words.as_slice() == [7, 0xA101, 0xA102, 0xA103].as_slice());
 }
