@@ -48,7 +48,7 @@ fn check_padded(rt: &impl Abort, (numbers, [x, y], wanted): Padded) {
     assert!(rt; told(geometry) == wanted, "{width} by {height}");
 }
 
-/// There is no geometry where a size or a ratio is zero, or no `usize` holds the stride.
+/// Geometries with a border. There is none where a size or a ratio is zero, or no `usize` holds the stride.
 static PADDED: [Padded; 13] = [
     ([0, 1080, 40, 30, 20, 10], [1, 1], None),
     ([1920, 0, 40, 30, 20, 10], [1, 1], None),
