@@ -3,8 +3,9 @@ use Rattle.std.proofs.Common.{ℕ, ◌≡◌, ◌+◌, ◌<◌, List, [], ◌∷
 use Rattle.std.proofs.lemmas.List.{take_more, take-take, get_or-take}
 use Rattle.v_frame.specs.Frame.{Tables, KeepsBorders}
 use Rattle.v_frame_layout.specs.Pixel.{PixelForm}
-use Rattle.v_frame.specs.Replay.{written_plane, WritesPlane, reply_to, answers_to, tables_after}
+use Rattle.v_frame.specs.Replay.{written_plane, WritesPlane, reply_to, answers_to, tables_after, StoppedAfter}
 use Rattle.v_frame.specs.declared.frame.Frame.{Frame}
+use Rattle.v_frame.specs.declared.replay.answer.Answer.{Answer}
 use Rattle.v_frame.specs.declared.replay.call.VisibleCall.{VisibleCall}
 
 -- an element of a list's front is one of the list
@@ -37,6 +38,12 @@ module _ {T : Type 0} (form : PixelForm T) where
 
     pub tables_more : (old : Tables T) → tables_after form (take (i + 1) calls) old ≡ (reply_to form call (tables_after form (take i calls) old)).tables
     tables_more old = ap (λ cs. tables_after form cs old) so_far ∙ tables_after-push (take i calls) call old
+
+  -- a replay that has done the first calls, and not all, stopped after them
+  pub stopped_at : (calls : List (VisibleCall T)) (i : ℕ) → i < length calls → (old new : Tables T) (done : List (Answer T)) → length done ≡ i
+      → done ≡ answers_to form (take i calls) old → new ≡ tables_after form (take i calls) old → StoppedAfter form calls old done new
+  stopped_at calls i within old new done count answers tables =
+      record { early = omega (arith, count, within); answers = rw count answers; tables = rw count tables }
 
 module _ {T : Type 0} where
   -- planes that the first calls may write, and that one more may

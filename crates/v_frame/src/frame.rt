@@ -1,5 +1,5 @@
 //! Frames: planes of one picture, and how they are built.
-ghost use Rattle.std.specs.Prelude.{◌≡◌, ◌<◌, ◌≤◌, ◌&&◌, Err, is_ok, IfOk, IfErr, IfSome, ◌⊎◌, option_map, IsOkUnless, IsTrue, MatchOption, SomeIff, option_copied};
+ghost use Rattle.std.specs.Prelude.{◌≡◌, ◌<◌, ◌≤◌, ◌&&◌, Ok, Err, is_ok, None, Some, OnOk, IfOk, IfErr, IfSome, ◌⊎◌, option_map, IsOkUnless, IsTrue, MatchOption, SomeIff, option_copied};
 ghost use Rattle.std.specs.Option.{ForSome, option_copied_mut};
 ghost use Rattle.std.specs.Borrow.{sem};
 ghost use Rattle.std.specs.Int.NonZero.{non_zero_u8_get};
@@ -193,12 +193,7 @@ impl FrameBuilder {
             (IsOkUnless result FrameError.OutOfMemory) (λ e. result ≡ Err e) }
         ensures blank { IfOk result (IsBlank T.ZERO self) }
     {
-        let bit_depth = checked_depth(self.bit_depth)?;
-        let depth = self.bit_depth;
-        if (T::BYTES == 1 && depth != 8) || (T::BYTES == 2 && depth == 8) {
-            return Err(FrameError::DataTypeMismatch);
-        }
-        let (luma, chroma) = self.geometries().ok_or(FrameError::UnsupportedResolution)?;
+        let (bit_depth, luma, chroma) = self.checked::<T>()?;
         Ok(Frame {
             y_plane: Plane::new(alloc, luma)?,
             u_plane: chroma_plane(alloc, chroma)?,
@@ -206,6 +201,27 @@ impl FrameBuilder {
             subsampling: self.subsampling,
             bit_depth,
         })
+    }
+
+    /// The bit depth and the geometries of a frame of such pixels, or the first reason to refuse it.
+    fn checked<T: Pixel>(
+        &self,
+    ) -> Result<(NonZeroU8, PlaneGeometry, Option<PlaneGeometry>), FrameError>
+        ensures refused { IfErr result (λ e. refusal_of T.BYTES self.now ≡ Some e) }
+        ensures accepted { OnOk result (refusal_of T.BYTES self.now ≡ None) }
+        ensures parts { IfOk result (λ parts. (non_zero_u8_get parts.0 ≡ self.now.bit_depth)
+            × (parts.1 ≡ luma_geometry self.now) × (parts.2 ≡ chroma_geometry self.now)) }
+        ensures divides { OnOk result (subsampled self.now.subsampling (luma_geometry self.now)
+            ≡ Ok (chroma_geometry self.now)) }
+        ensures fit { IfOk result (λ parts. Fits parts.1 × ForSome parts.2 Fits) }
+    {
+        let bit_depth = checked_depth(self.bit_depth)?;
+        let depth = self.bit_depth;
+        if (T::BYTES == 1 && depth != 8) || (T::BYTES == 2 && depth == 8) {
+            return Err(FrameError::DataTypeMismatch);
+        }
+        let (luma, chroma) = self.geometries().ok_or(FrameError::UnsupportedResolution)?;
+        Ok((bit_depth, luma, chroma))
     }
 
     /// The geometries of the luma plane and of the chroma planes, where all can be laid out.

@@ -57,9 +57,24 @@ pub fn same_tables_same_answers<T: Pixel>(
     ensures shown { OnOk result (tables_of a.new ≡ tables_of b.new) }
     ensures borders { KeepsBorders a.old a.new × KeepsBorders b.old b.new }
 {
-    let first = replay(alloc, a, calls).map_err(|_| AllocError)?;
-    let second = replay(alloc, b, calls).map_err(|_| AllocError)?;
+    let first = replayed(alloc, a, calls)?;
+    let second = replayed(alloc, b, calls)?;
     Ok((first, second))
+}
+
+/// A replay whose answers so far are dropped where memory is refused.
+fn replayed<T: Pixel>(
+    alloc: Global,
+    frame: &mut Frame<T>,
+    calls: &[VisibleCall<T>],
+) -> Result<Vec<Answer<T>>, AllocError>
+    ensures answers { IfOk result (λ answers.
+        answers.items ≡ answers_to T.form calls.now (tables_of frame.old)) }
+    ensures tables { OnOk result
+        (tables_of frame.new ≡ tables_after T.form calls.now (tables_of frame.old)) }
+    ensures border { KeepsBorders frame.old frame.new }
+{
+    replay(alloc, frame, calls).map_err(|_| AllocError)
 }
 
 /// A frame that can be built is zero everywhere, and its chroma planes have the size of the format or are absent.

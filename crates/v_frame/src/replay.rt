@@ -27,11 +27,10 @@ pub use answer::{Answer, ReplayStopped};
 pub use call::VisibleCall;
 pub use draw::{Drawn, PixelDraw, RowDraw, Side};
 use pixel_writes::{replay_pixel_mut, replay_pixels_mut};
-use reads::{pixel_shown, row_shown};
+use reads::{bytes_walked, pixel_shown, pixels_walked, row_shown, rows_walked};
 use row_writes::{replay_row_mut, replay_rows_mut};
 pub use sequence::Sequence;
 use std::alloc::{AllocError, Global};
-use walk::walk_answer;
 
 /// Does the calls in order and gives their answers.
 ///
@@ -128,17 +127,9 @@ fn replay_on_plane<T: Pixel>(
         VisibleCall::CopyFromU8SliceWithStride { source, stride, .. } => Ok(Answer::Copied(
             plane.copy_from_u8_slice_with_stride(source.as_slice(), *stride),
         )),
-        VisibleCall::Rows { draws, .. } => walk_answer(alloc, &mut plane.rows(), draws.as_slice()),
-        VisibleCall::Pixels { draws, .. } => walk_answer(
-            alloc,
-            &mut plane.pixels(),
-            draws.as_slice(),
-        ),
-        VisibleCall::ByteData { draws, .. } => walk_answer(
-            alloc,
-            &mut plane.byte_data(),
-            draws.as_slice(),
-        ),
+        VisibleCall::Rows { draws, .. } => rows_walked(alloc, plane, draws.as_slice()),
+        VisibleCall::Pixels { draws, .. } => pixels_walked(alloc, plane, draws.as_slice()),
+        VisibleCall::ByteData { draws, .. } => bytes_walked(alloc, plane, draws.as_slice()),
         VisibleCall::RowsMut { draws, .. } => replay_rows_mut(alloc, plane, draws.as_slice()),
         VisibleCall::PixelsMut { draws, .. } => replay_pixels_mut(alloc, plane, draws.as_slice()),
     }

@@ -1,5 +1,5 @@
 //! Frames from their planar bytes.
-ghost use Rattle.std.specs.Prelude.{◌≡◌, ◌-◌, ◌++◌, ◌<◌, ◌≤◌, false, length, take, option_map, Err, IfOk, IfErr, MatchResult, OnOk, OnErr, SomeIff};
+ghost use Rattle.std.specs.Prelude.{◌≡◌, ◌-◌, ◌++◌, ◌<◌, ◌≤◌, ◌⊎◌, false, length, take, option_map, Err, IfOk, IfErr, MatchResult, OnOk, OnErr, SomeIff};
 ghost use Rattle.std.specs.Io.KnownBytes.{Consumes, IsAtEnd};
 ghost use Rattle.v_frame.specs.Prelude.{byte_list, isize_max, unshown, KeepsBorders, table_of, tables_of};
 ghost use Rattle.v_frame_planar.specs.Planar.{bytes_of_plane, planar_bytes, size_of, sizes_of, MayStopReading, Reads, TellsCause};
@@ -46,9 +46,8 @@ pub fn read_frame<T: Pixel, R: io::Read>(
         (TellsCause reader.old.last_failure reader.new.last_failure) }
     ensures unread { OnErr result (frame.new ≡ frame.old) }
 {
-    let expected = planar_length(frame).ok_or(PlanarError::TooLarge)?;
-    let mut bytes = Vec::with_capacity(alloc, expected)?;
-    bytes.resize(expected, 0)?;
+    let mut bytes = room_for(alloc, frame)?;
+    let expected = bytes.len();
     let found = read_until_full(reader, bytes.as_mut_slice())?;
     if found == expected {
         show(frame, bytes.as_slice());
@@ -58,6 +57,22 @@ pub fn read_frame<T: Pixel, R: io::Read>(
         return Ok(false);
     }
     Err(PlanarError::Truncated { expected, found })
+}
+
+/// Room for the planar bytes of a frame.
+fn room_for<T: Pixel>(alloc: Global, frame: &Frame<T>) -> Result<Vec<u8>, PlanarError>
+    ensures room { IfOk result (λ bytes.
+        length bytes.items ≡ length (planar_bytes T.form (tables_of frame.now))) }
+    ensures too_large { isize_max < length (planar_bytes T.form (tables_of frame.now))
+        → result ≡ Err PlanarError.TooLarge }
+    ensures error { IfErr result (λ error. (error ≡ PlanarError.OutOfMemory)
+        ⊎ ((error ≡ PlanarError.TooLarge)
+        × (isize_max < length (planar_bytes T.form (tables_of frame.now))))) }
+{
+    let count = planar_length(frame).ok_or(PlanarError::TooLarge)?;
+    let mut bytes = Vec::with_capacity(alloc, count)?;
+    bytes.resize(count, 0)?;
+    Ok(bytes)
 }
 
 /// How many planar bytes a frame has, where so many can be kept in memory.

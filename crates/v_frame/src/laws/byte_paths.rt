@@ -2,6 +2,8 @@
 ghost use Rattle.std.specs.Prelude.{◌≡◌, ◌*◌, ◌≤◌, [], ◌∷◌, length, slice_get, Some, Ok, Err, OnOk, IfOk, IsOkUnless, MatchOption};
 ghost use Rattle.v_frame.specs.Build.{luma_geometry, refusal_of};
 ghost use Rattle.v_frame_plane.specs.Plane.{filled, table_of, unshown};
+ghost use Rattle.v_frame.specs.Frame.{tables_of};
+ghost use Rattle.v_frame.specs.Replay.{answers_to};
 ghost use Rattle.v_frame.specs.Walk.{draws_answer, AreAllGiven};
 ghost use Rattle.v_frame.specs.declared.replay.call.VisibleCall.TheVariants.{CopyFromU8SliceWithStride, ByteData};
 ghost use Rattle.v_frame.specs.declared.replay.answer.Answer.TheVariants.{Copied, BytesWalked};
@@ -9,10 +11,11 @@ ghost use Rattle.v_frame_layout.specs.Table.{width_of, height_of, row_major};
 ghost use Rattle.v_frame_plane.specs.Copy.{packed_copy, piece_fronts, strided_copy, packed_byte_copy};
 ghost use Rattle.v_frame_layout.specs.Pixel.{byte_list};
 
-use crate::frame::{FrameBuilder, FrameError};
+use super::replayed;
+use crate::frame::{Frame, FrameBuilder, FrameError};
 use crate::pixel::Pixel;
 use crate::plane::{CopyError, Plane};
-use crate::replay::{Answer, Side, VisibleCall, replay};
+use crate::replay::{Answer, Side, VisibleCall};
 use std::alloc::{AllocError, Global};
 
 /// Bytes with a stride go through a frame: it is built, filled from them, and its bytes are taken from these sides in turn.
@@ -43,9 +46,24 @@ pub fn bytes_go_through_a_frame<T: Pixel>(
         length bytes ≤ length sides.items
         → AreAllGiven bytes sides.items (draws_answer bytes sides.items) }
 {
-    let mut frame = builder.build::<T>(alloc)?;
+    let frame = builder.build::<T>(alloc)?;
+    copied_and_walked(alloc, frame, source, stride, sides).map_err(|_| FrameError::OutOfMemory)
+}
+
+/// The answers of a frame whose luma is filled from bytes with a stride, and whose luma's bytes are taken from these sides.
+fn copied_and_walked<T: Pixel>(
+    alloc: Global,
+    mut frame: Frame<T>,
+    source: Vec<u8>,
+    stride: usize,
+    sides: Vec<Side>,
+) -> Result<Vec<Answer<T>>, AllocError>
+    ensures { IfOk result (λ answers. answers.items ≡ answers_to T.form
+        (CopyFromU8SliceWithStride 0 source.items stride ∷ ByteData 0 sides.items ∷ [])
+        (tables_of frame)) }
+{
     let calls = copy_and_walk(alloc, source, stride, sides)?;
-    replay(alloc, &mut frame, calls.as_slice()).map_err(|_| FrameError::OutOfMemory)
+    replayed(alloc, &mut frame, calls.as_slice())
 }
 
 /// The calls that copy bytes with a stride into luma and take luma's bytes from these sides.

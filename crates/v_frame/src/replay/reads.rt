@@ -1,12 +1,16 @@
 //! The kinds of call that read a size, a row or a pixel.
-ghost use Rattle.std.specs.Prelude.{◌≡◌, IfOk, slice_get};
-ghost use Rattle.v_frame_layout.specs.Table.{pixel_at};
+ghost use Rattle.std.specs.Prelude.{◌≡◌, IfOk, length, slice_get};
+ghost use Rattle.v_frame_layout.specs.Pixel.{byte_list};
+ghost use Rattle.v_frame_layout.specs.Table.{pixel_at, row_major};
 ghost use Rattle.v_frame_plane.specs.Plane.{table_of};
 ghost use Rattle.v_frame.specs.Replay.{answer_of_pixel};
-ghost use Rattle.v_frame.specs.declared.replay.answer.Answer.TheVariants.{RowShown};
+ghost use Rattle.v_frame.specs.Walk.{draws_answer};
+ghost use Rattle.v_frame.specs.declared.replay.answer.Answer.TheVariants.{RowShown, RowsWalked, PixelsWalked, BytesWalked};
 
 use super::answer::Answer;
+use super::draw::Side;
 use super::sequence::Sequence;
+use super::walk::walk_answer;
 use crate::pixel::Pixel;
 use crate::plane::Plane;
 use std::alloc::{AllocError, Global};
@@ -36,4 +40,40 @@ pub(crate) fn pixel_shown<T: Pixel>(plane: &Plane<T>, x: usize, y: usize) -> Ans
         Some(pixel) => Answer::PixelShown(pixel),
         None => Answer::OutsideRectangle,
     }
+}
+
+/// The rows that are drawn, copied.
+pub(crate) fn rows_walked<T: Copy>(
+    alloc: Global,
+    plane: &Plane<T>,
+    draws: &[Side],
+) -> Result<Answer<T>, AllocError>
+    ensures { let rows = table_of plane.now in IfOk result (λ answer.
+        answer ≡ RowsWalked (length rows) (draws_answer rows draws.now)) }
+{
+    walk_answer(alloc, &mut plane.rows(), draws)
+}
+
+/// The pixels that are drawn.
+pub(crate) fn pixels_walked<T: Pixel>(
+    alloc: Global,
+    plane: &Plane<T>,
+    draws: &[Side],
+) -> Result<Answer<T>, AllocError>
+    ensures { let pixels = row_major (table_of plane.now) in IfOk result (λ answer.
+        answer ≡ PixelsWalked (length pixels) (draws_answer pixels draws.now)) }
+{
+    walk_answer(alloc, &mut plane.pixels(), draws)
+}
+
+/// The bytes that are drawn.
+pub(crate) fn bytes_walked<T: Pixel>(
+    alloc: Global,
+    plane: &Plane<T>,
+    draws: &[Side],
+) -> Result<Answer<T>, AllocError>
+    ensures { let bytes = byte_list T.form (table_of plane.now) in IfOk result (λ answer.
+        answer ≡ BytesWalked (length bytes) (draws_answer bytes draws.now)) }
+{
+    walk_answer(alloc, &mut plane.byte_data(), draws)
 }

@@ -5,7 +5,7 @@ use Rattle.v_frame_layout.specs.Pixel.{PixelForm}
 use Rattle.v_frame.specs.Replay.{reply_to, answers_to}
 use Rattle.v_frame.specs.declared.frame.Frame.{Frame}
 use Rattle.v_frame.specs.declared.replay.answer.Answer.{Answer}
-use Rattle.v_frame.proofs.Replays.{answers_more, tables_more, keeps_border_twice, written_before, written_now, written_in_front}
+use Rattle.v_frame.proofs.Replays.{answers_more, tables_more, keeps_border_twice, stopped_at, written_before, written_now, written_in_front}
 use Rattle.v_frame.proofs.replay.replay.Goals as goal
 
 pub loop-call-preserved : goal.loop-call-preserved
@@ -34,3 +34,11 @@ pub returns-in-Err-replay_call-clause-unwritten : goal.returns-in-Err-replay_cal
 returns-in-Err-replay_call-clause-unwritten g c = λ index none.
     ap (λ (f : Frame g.row.T.Denot). plane_at f index) c.in-Err-replay_call.ensures.err ∙
     c.loop-call.invariant.unwritten index (λ h. none (written_in_front c.args.calls.now c.loop-call.call-index index h))
+
+pub returns-in-Err-replay_call-clause-stopped : goal.returns-in-Err-replay_call-clause-stopped
+returns-in-Err-replay_call-clause-stopped g c =
+    let i = c.loop-call.call-index in
+    let so_far = c.loop-call.invariant in
+    let within : i < length c.args.calls.now = omega arith in
+    let shown = ap (λ (f : Frame g.row.T.Denot). tables_of f) c.in-Err-replay_call.ensures.err ∙ so_far.tables in
+    rw c.into-in-Err-replay_call.ensures (stopped_at g.T.Pixel.form c.args.calls.now i within _ _ _ (omega (arith, so_far.done)) so_far.answers shown)

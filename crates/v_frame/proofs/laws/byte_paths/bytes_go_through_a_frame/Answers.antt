@@ -1,14 +1,12 @@
 -- A frame that is built shows a table of its size, which the copy fills.
-use Rattle.std.proofs.Common.{ℕ, ◌≡◌, ◌<◌, List, length, get_or, Ok, refl, ◌∙◌, ap, rules}
+use Rattle.std.proofs.Common.{ℕ, ◌≡◌, ◌<◌, length, get_or, Ok, refl, ◌∙◌, ap, rules}
 use Rattle.std.proofs.lemmas.Result.{IfOk-weaker}
 use Rattle.v_frame_layout.specs.Pixel.{PixelForm}
 use Rattle.v_frame_layout.specs.Table.{width_of, height_of}
 use Rattle.v_frame.specs.Frame.{tables_of}
-use Rattle.v_frame.specs.Replay.{answers_to}
 use Rattle.v_frame.specs.Build.{luma_geometry}
 use Rattle.v_frame_plane.specs.Plane.{Raster, filled, table_of}
 use Rattle.v_frame.specs.declared.frame.error.FrameError.TheVariants.{OutOfMemory}
-use Rattle.v_frame.specs.declared.replay.call.VisibleCall.{VisibleCall}
 use Rattle.v_frame_plane.proofs.copies.BytesBack.{AreBytes, are_bytes}
 use Rattle.v_frame.proofs.BytePaths.{built_high, blank_width, blank_height, path_answers, refusal_goes_on}
 use Rattle.v_frame.proofs.Draws.{all_given}
@@ -27,11 +25,10 @@ returns-clause-answers g c =
     let height : height_of (table_of frame.y_plane) ≡ asked.height = ap (λ (p : Raster g.row.T.Denot). height_of (table_of p)) y ∙ blank_height zero asked in
     let fit : (i d : ℕ) → i < length source → get_or source i d < 256 = search rules in
     let bytes : AreBytes source = are_bytes source fit in
-    let calls = ap (λ (cs : List (VisibleCall g.row.T.Denot)). answers_to form cs (tables_of frame)) (c.as_slice.ensures.value ∙ c.in_ok-calls.ensures) in
     λ fits whole.
     let answers = path_answers form g.met.T.Pixel.value_of_pixel source bytes c.args.stride c.args.sides.items (tables_of frame) asked.width asked.height width
     height fits whole in
-    let given = IfOk-weaker c.replay.result _ _ (λ done e. e ∙ calls ∙ answers) c.replay.ensures.answers in
+    let given = IfOk-weaker c.copied_and_walked.result _ _ (λ done e. e ∙ answers) c.copied_and_walked.ensures in
     search rules
 
 pub returns-clause-all : goal.returns-clause-all
@@ -39,9 +36,6 @@ returns-clause-all g c = λ enough. all_given _ _ enough
 
 pub returns-in_err-frame-clause-all : goal.returns-in_err-frame-clause-all
 returns-in_err-frame-clause-all g c = λ enough. all_given _ _ enough
-
-pub returns-in_err-calls-clause-all : goal.returns-in_err-calls-clause-all
-returns-in_err-calls-clause-all g c = λ enough. all_given _ _ enough
 
 pub returns-in_err-frame-clause-refused : goal.returns-in_err-frame-clause-refused
 returns-in_err-frame-clause-refused g c =
