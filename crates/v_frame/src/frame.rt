@@ -220,8 +220,10 @@ impl FrameBuilder {
         if (T::BYTES == 1 && depth != 8) || (T::BYTES == 2 && depth == 8) {
             return Err(FrameError::DataTypeMismatch);
         }
-        let (luma, chroma) = self.geometries().ok_or(FrameError::UnsupportedResolution)?;
-        Ok((bit_depth, luma, chroma))
+        match self.geometries() {
+            Some((luma, chroma)) => Ok((bit_depth, luma, chroma)),
+            None => Err(FrameError::UnsupportedResolution),
+        }
     }
 
     /// The geometries of the luma plane and of the chroma planes, where all can be laid out.

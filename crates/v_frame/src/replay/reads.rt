@@ -23,10 +23,8 @@ pub(crate) fn row_shown<T: Copy>(
 ) -> Result<Answer<T>, AllocError>
     ensures { IfOk result (λ answer. answer ≡ RowShown (slice_get (table_of plane.now) y)) }
 {
-    match plane.row(y) {
-        Some(row) => Ok(Answer::RowShown(Some(Sequence::from_slice(alloc, row)?))),
-        None => Ok(Answer::RowShown(None)),
-    }
+    let row = Sequence::from_option(alloc, plane.row(y))?;
+    Ok(Answer::RowShown(row))
 }
 
 /// The pixel of the visible rectangle.

@@ -1,5 +1,5 @@
 //! A list inside a call or an answer.
-ghost use Rattle.std.specs.Prelude.{◌≡◌, ◌^◌, ◌<◌, ◌↔◌, List, [], length, IsTrue, IfOk};
+ghost use Rattle.std.specs.Prelude.{◌≡◌, ◌^◌, ◌<◌, ◌↔◌, List, [], length, IsTrue, IfOk, option_copied};
 ghost use Rattle.std.specs.Cmp.Lexicographic.{pointwise, lists_per, lists_equiv};
 ghost use Rattle.std.specs.Iterator.Runs.{EveryRun, ItemsMapTo};
 ghost use Rattle.std.specs.Slice.Iter.{iter_rest, iter_steps};
@@ -39,6 +39,21 @@ impl<T> Sequence<T> {
         ensures { IfOk result (λ sequence. sequence ≡ items.now) }
     {
         Ok(Vec::from_slice(alloc, items)?.into())
+    }
+
+    /// A sequence of these items, where there are some.
+    pub(crate) fn from_option(
+        alloc: Global,
+        items: Option<&[T]>,
+    ) -> Result<Option<Self>, AllocError>
+    where
+        T: Copy,
+        ensures { IfOk result (λ sequence. sequence ≡ option_copied items.entry) }
+    {
+        match items {
+            Some(items) => Ok(Some(Sequence::from_slice(alloc, items)?)),
+            None => Ok(None),
+        }
     }
 
     /// How many items there are.

@@ -57,10 +57,7 @@ impl<'a, T: Copy> Walk for Rows<'a, T> {
             Side::Front => self.next(),
             Side::Back => self.next_back(),
         };
-        match row {
-            Some(row) => Ok(Some(Sequence::from_slice(alloc, row)?)),
-            None => Ok(None),
-        }
+        Sequence::from_option(alloc, row)
     }
 
     fn left(&self) -> usize {
