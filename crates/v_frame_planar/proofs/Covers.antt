@@ -1,11 +1,11 @@
 -- Chroma that covers luma: it fits where luma does, and it is that of a builder where all divides.
 use Rattle.std.proofs.Common.{ℕ, zero, suc, ◌≡◌, ◌+◌, ◌*◌, ◌/◌, ◌%◌, ◌<◌, ◌≤◌, min, Bool, true, false, ◌&&◌, ◌==◌, if◌then◌else◌, Option, Some, None, Result}
-use Rattle.std.proofs.Common.{Ok, Err, option_map, is_ok, refl, sym, ◌∙◌, ap, arith}
+use Rattle.std.proofs.Common.{Ok, Err, option_map, is_ok, SomeIff, refl, sym, ◌∙◌, ap, subst, arith}
 use Rattle.std.specs.Int.{div_ceil}
 use Rattle.std.proofs.Math.Nat.{div-le_self, div-one, mul-le-mul_left, mul-le-mul_right, min-le_right}
 use Rattle.std.proofs.lemmas.Nat.{div-add-mod'}
 use Rattle.std.proofs.lemmas.Bool.Decides.{nat_tests}
-use Rattle.v_frame.specs.Prelude.{Geometry, geometry_of, stride_of, alloc_height_of, Fits}
+use Rattle.v_frame.specs.Prelude.{Geometry, geometry_of, stride_of, alloc_height_of, Fits, IsGeometry}
 use Rattle.v_frame_layout.specs.Chroma.{has_quotient, is_divisible, is_full, divided_geometry, subsampled_by}
 use Rattle.v_frame_layout.specs.declared.geometry.SubsamplingError.{SubsamplingError}
 use Rattle.v_frame_planar.specs.Video.{covering_geometry}
@@ -40,6 +40,27 @@ module _ (g : Geometry) (x y : ℕ) (some_x : 0 < x) (some_y : 0 < y) where
   cover_fits fits =
       let c = covering_geometry g (x, y) in
       omega (arith, fits, mul-le-mul_left (alloc_height_of c) stride_of_cover, mul-le-mul_right (stride_of g) rows_of_cover)
+
+  pub cover_is_geometry : IsGeometry g → IsGeometry (covering_geometry g (x, y))
+  cover_is_geometry is = record {
+    wide = ceil_positive g.width x is.wide;
+    high = ceil_positive g.height y is.high;
+    sampled_x = some_x;
+    sampled_y = some_y;
+    stride_fits = omega (arith, stride_of_cover, is.stride_fits);
+  }
+
+-- where a geometry can be laid out, it is the one that was made
+pub laid_out : (made : Option Geometry) (given g : Geometry) → SomeIff made (IsGeometry given) given → given ≡ g → IsGeometry g → made ≡ Some g
+laid_out None given g none same is = absurd (none (subst IsGeometry (sym same) is))
+laid_out (Some x) given g both same is = ap (λ (c : Geometry). Some c) (both.1 ∙ same)
+
+-- chroma whose numbers were computed one by one
+pub cover_of : (g : Geometry) (x y across down width height left right top bottom columns rows : ℕ) → across ≡ x → down ≡ y → width ≡ g.width
+    → height ≡ g.height → left ≡ g.pad_left → right ≡ g.pad_right → top ≡ g.pad_top → bottom ≡ g.pad_bottom
+    → columns ≡ div_ceil width across → rows ≡ div_ceil height down
+    → geometry_of columns rows (left / across) (right / across) (top / down) (bottom / down) x y ≡ covering_geometry g (x, y)
+cover_of g x y across down width height left right top bottom columns rows a d w h l r t b c e = cc
 
 -- an exact quotient is the quotient rounded up
 exact_ceil : (n ratio : ℕ) → n / ratio * ratio ≡ n → div_ceil n ratio ≡ n / ratio

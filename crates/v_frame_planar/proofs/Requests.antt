@@ -1,7 +1,7 @@
 -- What decides whether a frame of any size can be made: a padding that is too large to be counted
 -- may stand for one that is larger still.
 use Rattle.std.proofs.Common.{ℕ, zero, suc, ◌≡◌, ◌*◌, ◌<◌, ◌≤◌, min, Bool, true, false, ◌&&◌, ◌||◌, ltb, leb, if◌then◌else◌, replicate, Option, Some, None}
-use Rattle.std.proofs.Common.{Result, Ok, Err, option_map, refl, sym, ◌∙◌, ap, arith}
+use Rattle.std.proofs.Common.{Result, Ok, Err, option_map, refl, sym, ◌∙◌, ap, subst, arith}
 use Rattle.std.specs.Prelude.{MatchOption, IsOkUnless, is_ok}
 use Rattle.std.specs.Int.{div_ceil}
 use Rattle.std.proofs.lemmas.List.{length-replicate}
@@ -64,13 +64,24 @@ module _ (width height : ℕ) where
     cut_decides = as_it_is _ _ refl refl
 
 -- what a builder refuses of luma with cut paddings it would refuse of luma with these
-pub cut_is_refused : (bytes width height depth across down : ℕ)
+cut_is_refused : (bytes width height depth across down : ℕ)
     → refusal_of bytes (luma_request width height depth (min across usize_max) (min down usize_max)) ≡ refusal_of bytes
     (luma_request width height depth across down)
 cut_is_refused bytes width height depth across down =
     ap (λ (laid : Bool). if ltb depth 8 || ltb 16 depth then Some (UnsupportedBitDepth depth) else
     (if is_mismatch bytes depth then Some DataTypeMismatch else (if laid && true then None else Some UnsupportedResolution)))
     (cut_decides width height across down)
+
+module _ {X : Type 0} (built : Result X FrameError) (o : FrameError) where
+  -- why a builder would refuse this luma, where it was asked for cut paddings
+  pub refused_as_cut : (bytes width height depth across down x y : ℕ) → x ≡ min across usize_max → y ≡ min down usize_max
+      → MatchOption (refusal_of bytes (luma_request width height depth x y)) (IsOkUnless built o) (λ fault. built ≡ Err fault)
+      → MatchOption (refusal_of bytes (luma_request width height depth across down)) (IsOkUnless built o) (λ fault. built ≡ Err fault)
+  refused_as_cut bytes width height depth across down x y x_is y_is =
+      subst (λ (due : Option FrameError). MatchOption due (IsOkUnless built o) (λ fault. built ≡ Err fault))
+      (ap (λ (n : ℕ). refusal_of bytes (luma_request width height depth n y)) x_is
+      ∙ ap (λ (n : ℕ). refusal_of bytes (luma_request width height depth (min across usize_max) n)) y_is
+      ∙ cut_is_refused bytes width height depth across down)
 
 -- an error that is handed on comes for the same reason
 module _ {X Y : Type 0} (r : Result X FrameError) (s : Result Y FrameError) (o : FrameError) where

@@ -1,13 +1,17 @@
--- A writer that gave up inside a block has a beginning of all bytes.
-use Rattle.std.proofs.Common.{ℕ, ◌≡◌, ◌+◌, List, ◌++◌, length, take, Option, sym, ◌∙◌, ap, subst, arith, length-append}
+-- A writer that gave up inside a block has a beginning of all bytes, and a reader is as it was where there was no room.
+use Rattle.std.proofs.Common.{ℕ, ◌≡◌, ◌+◌, min, ◌<◌, ◌≤◌, ◌≢◌, ◌⊎◌, ⊎_elim, Bool, List, ◌++◌, length, take, Option, Result, Ok, Err, IfErr, IsErrAnd}
+use Rattle.std.proofs.Common.{refl, sym, ◌∙◌, ap, subst, arith, length-append, length-take-le}
 use Rattle.std.proofs.lemmas.List.{take-append-le}
 use Rattle.std.proofs.Math.Seq.{take-append-add}
-use Rattle.std.specs.Io.KnownBytes.{Appends}
+use Rattle.std.specs.Io.KnownBytes.{Appends, Consumes, IsAtEnd}
 use Rattle.std.proofs.KnownBytes.{Appends-trans}
-use Rattle.v_frame_planar.specs.Counted.{Watched, HasFailed, AppendsBeginning, StopsWriting}
-use Rattle.v_frame_planar.specs.Planar.{error_of, MayStopWriting}
+use Rattle.v_frame_planar.specs.Counted.{u64_max, Watched, HasFailed, AppendsBeginning, StopsWriting}
+use Rattle.v_frame.specs.Prelude.{isize_max}
+use Rattle.v_frame_planar.specs.Planar.{error_of, MayStopReading, MayStopWriting}
 use Rattle.v_frame_planar.specs.declared.counted.WriteFault.{WriteFault}
 use Rattle.v_frame_planar.specs.declared.counted.WriteFault.TheVariants.{Failed, TookNothing}
+use Rattle.v_frame_planar.specs.declared.error.PlanarError.{PlanarError}
+use Rattle.v_frame_planar.specs.declared.error.PlanarError.TheVariants.{Truncated, TooLarge, OutOfMemory}
 
 module _ (all front part rest : List ℕ) (is : all ≡ front ++ (part ++ rest)) where
   later : (old mid new : Option (List ℕ)) → Appends old mid front → AppendsBeginning mid new part → AppendsBeginning old new all
@@ -28,3 +32,32 @@ module _ (all front part rest : List ℕ) (is : all ≡ front ++ (part ++ rest))
       → (fault : WriteFault) → StopsWriting contents mid new part fault → MayStopWriting contents old new all (error_of fault)
   stops_later contents old mid new sent same Failed stopped = (later _ _ _ sent stopped.0, subst (λ n. HasFailed n new.failures) same stopped.1)
   stops_later contents old mid new sent same TookNothing stopped = (later _ _ _ sent stopped.0, stopped.1 ∙ same)
+
+-- an error that is handed on is the one that came first
+pub handed_on : {X E : Type 0} (result : Result X E) (error : E) → IsErrAnd result (λ given. given ≡ error) → result ≡ Err error
+handed_on (Ok x) error is = absurd is
+handed_on (Err given) error is = ap Err is
+
+-- where there was no room for so many bytes, nothing was read
+pub no_room : {R : Type 0} (remaining : R → Option (List ℕ)) (reader : Watched R) (n : ℕ) (result : Result Bool PlanarError) (error : PlanarError)
+    → result ≡ Err error → (error ≡ OutOfMemory) ⊎ ((error ≡ TooLarge) × (isize_max < n)) → IfErr result (MayStopReading remaining reader reader n)
+no_room remaining reader n result error is why = rw is (⊎_elim (λ refused. rw refused refl) (λ large. rw large.0 (large.1, refl)) why)
+
+-- a frame of which some bytes were read, and not all, before the reader came to its end
+pub came_to_its_end : {R : Type 0} (remaining : R → Option (List ℕ)) (old new : Watched R) (expected n found : ℕ) (bytes : List ℕ) → expected ≡ n
+    → length bytes ≡ expected → found ≢ 0 → found ≢ expected → found ≤ length bytes
+    → Consumes (remaining old.inner) (remaining new.inner) (take found bytes) → (found < length bytes → IsAtEnd (remaining new.inner))
+    → new.failures ≡ old.failures → MayStopReading remaining old new n (Truncated expected found)
+came_to_its_end remaining old new expected n found bytes is size some part within got end same =
+    let less : found < expected = omega (arith, size, part, within) in (
+      is,
+      omega (arith, some),
+      omega (arith, less, is),
+      (take found bytes, got, length-take-le found bytes within),
+      end (omega (arith, less, size)),
+      same,
+    )
+
+-- one failure more is counted, or the count stays
+pub failed_once : (old new : ℕ) → new ≡ min (old + 1) u64_max → HasFailed old new
+failed_once old new is = grind arith

@@ -1,10 +1,11 @@
 //! The iterator over the bytes of the visible pixels of a plane.
-ghost use Rattle.std.specs.Prelude.{◌≡◌, ◌*◌, ◌^◌, ◌<◌, length, Some, IfSome, ⊤};
+ghost use Rattle.std.specs.Prelude.{◌≡◌, ◌*◌, ◌^◌, ◌<◌, [], ◌∷◌, ◌++◌, length, None, Some, IfSome, ⊤};
 ghost use Rattle.std.specs.Iterator.{at_most, UpTo};
 ghost use Rattle.std.specs.Iterator.SizeHint.{IsWithinCount};
 ghost use Rattle.std.specs.Map.Iter.{TakesFirst, TakesLast};
 ghost use Rattle.v_frame_plane.specs.Plane.{table_of};
-ghost use Rattle.v_frame_layout.specs.Pixel.{byte_list};
+ghost use Rattle.v_frame_plane.specs.Cursor.{other_byte};
+ghost use Rattle.v_frame_layout.specs.Pixel.{bytes_of, byte_list};
 
 use crate::pixels::Pixels;
 use crate::plane_ref::PlaneRef;
@@ -65,6 +66,34 @@ impl<'a, T: Pixel> ByteData<'a, T> {
     }
 }
 
+/// The low byte of a pixel, which is kept in `front` where it has another byte.
+#[inline]
+fn begin_front<T: Pixel>(pixel: T, front: &mut Option<T>) -> u8
+    requires { front.old ≡ None }
+    ensures bytes { bytes_of T.form.size (T.form.value pixel)
+        ≡ result ∷ other_byte T.form 1 front.new }
+    ensures low_drawn { IfSome front.new (λ pixel. T.form.size ≡ 2) }
+{
+    if T::BYTES == 2 {
+        *front = Some(pixel);
+    }
+    pixel.le_byte(0)
+}
+
+/// The last byte of a pixel, which is kept in `back` where it has another byte.
+#[inline]
+fn begin_back<T: Pixel>(pixel: T, back: &mut Option<T>) -> u8
+    requires { back.old ≡ None }
+    ensures bytes { bytes_of T.form.size (T.form.value pixel)
+        ≡ other_byte T.form 0 back.new ++ result ∷ [] }
+    ensures high_drawn { IfSome back.new (λ pixel. T.form.size ≡ 2) }
+{
+    if T::BYTES == 2 {
+        *back = Some(pixel);
+    }
+    pixel.le_byte(T::BYTES - 1)
+}
+
 impl<'a, T: Pixel> Iterator for ByteData<'a, T> {
     type Item = u8;
 
@@ -78,12 +107,7 @@ impl<'a, T: Pixel> Iterator for ByteData<'a, T> {
             return Some(pixel.le_byte(1));
         }
         match self.pixels.next() {
-            Some(pixel) => {
-                if T::BYTES == 2 {
-                    self.front = Some(pixel);
-                }
-                Some(pixel.le_byte(0))
-            }
+            Some(pixel) => Some(begin_front(pixel, &mut self.front)),
             None => Some(self.back.take()?.le_byte(0)),
         }
     }
@@ -108,12 +132,7 @@ impl<'a, T: Pixel> DoubleEndedIterator for ByteData<'a, T> {
             return Some(pixel.le_byte(0));
         }
         match self.pixels.next_back() {
-            Some(pixel) => {
-                if T::BYTES == 2 {
-                    self.back = Some(pixel);
-                }
-                Some(pixel.le_byte(T::BYTES - 1))
-            }
+            Some(pixel) => Some(begin_back(pixel, &mut self.back)),
             None => Some(self.front.take()?.le_byte(1)),
         }
     }

@@ -1,6 +1,6 @@
 //! Filters: pixel by pixel, of two planes, and one that reads neighbours.
 ghost use Rattle.std.specs.Prelude.{◌≡◌, ◌+◌, ◌-◌, ◌/◌, ◌<◌, ◌≤◌, ℕ, length, slice_get, Some};
-ghost use Rattle.v_frame.specs.Prelude.{KeepsBorder, KeepsBorders, pixel_at, table_of, tables_of, whole_rows, with_table};
+ghost use Rattle.v_frame.specs.Prelude.{KeepsBorder, KeepsBorders, pixel_at, rectangle, table_of, tables_of, whole_rows, with_table};
 ghost use Rattle.v_frame_ops.specs.Prelude.{combined, mapped, IsPadded};
 ghost use Rattle.v_frame_uses.specs.Filters.{box_mean, mean_of_nine, three_of, HasBorderAllRound};
 
@@ -62,6 +62,7 @@ pub fn box_blur(source: &Plane<u8>, target: &mut Plane<u8>)
         → pixel_at (table_of target.new) x y ≡ Some (box_mean (table_of source.now) x y) }
     ensures border { KeepsBorder target.old target.new }
 {
+    rectangles_hold_pixels::<u8>();
     let _size = (source.width(), source.height());
     let around = one_pixel_around(source);
     blur_inside(&around, target);
@@ -70,13 +71,12 @@ pub fn box_blur(source: &Plane<u8>, target: &mut Plane<u8>)
 /// What a plane shows and one pixel of its border on each side, as a plane.
 fn one_pixel_around(plane: &Plane<u8>) -> PlaneRef<'_, u8>
     requires { HasBorderAllRound plane.now.geometry }
-    ensures pixels { (x y : ℕ) → x < result.geometry.width → y < result.geometry.height
-        → pixel_at (table_of result) x y ≡ pixel_at (whole_rows plane.now)
-        (plane.now.geometry.pad_left - 1 + x) (plane.now.geometry.pad_top - 1 + y) }
+    ensures table { let g = plane.now.geometry in
+        table_of result ≡ rectangle (g.pad_left - 1) (g.pad_top - 1)
+        (g.width + 2) (g.height + 2) (whole_rows plane.now) }
     ensures wide { result.geometry.width ≡ plane.now.geometry.width + 2 }
     ensures high { result.geometry.height ≡ plane.now.geometry.height + 2 }
 {
-    rectangles_hold_pixels::<u8>();
     let geometry = plane.geometry();
     let left = geometry.pad_left() - 1;
     let top = geometry.pad_top() - 1;

@@ -1,5 +1,5 @@
 //! Whole planes and frames: made entry by entry, copied and compared.
-ghost use Rattle.std.specs.Prelude.{◌≡◌, ◌≢◌, ◌%◌, ◌<◌, ◌↔◌, ℕ, None, Some, IfOk, IsTrue, length, option_map, slice_index_or};
+ghost use Rattle.std.specs.Prelude.{◌≡◌, ◌≢◌, ◌%◌, ◌<◌, ◌↔◌, ℕ, All, None, Some, IfOk, IsSome, IsTrue, length, option_map, slice_index_or};
 ghost use Rattle.v_frame.specs.Prelude.{alloc_size_of, Fits, table_of, packed_copy, plane_at, KeepsBorders};
 
 use crate::frames::copy_into_plane;
@@ -18,12 +18,16 @@ pub fn plane_of_places(alloc: Global, geometry: PlaneGeometry) -> Result<Plane<u
 {
     let mut plane = Plane::<u16>::new_uninit(alloc, geometry)?;
     fill_with_places(plane.data_mut());
-    plane.assume_init(alloc).map_err(|_| AllocError)
+    match plane.assume_init(alloc) {
+        Ok(plane) => Ok(plane),
+        Err(_) => Err(AllocError),
+    }
 }
 
 /// Fills each entry with its index, modulo 2^16.
 fn fill_with_places(entries: &mut [Option<u16>])
-    ensures { (place : ℕ) → place < length entries.old
+    ensures full { All IsSome entries.new }
+    ensures entries { (place : ℕ) → place < length entries.old
         → slice_index_or entries.new place None ≡ Some (place % 65536) }
 {
     for place in 0..entries.len() {

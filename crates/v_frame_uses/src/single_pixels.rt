@@ -13,9 +13,13 @@ pub fn set_pixel<T: Pixel>(plane: &mut Plane<T>, x: usize, y: usize, value: T)
     ensures outside { (plane.old.geometry.width ≤ x) ⊎ (plane.old.geometry.height ≤ y)
         → plane.new ≡ plane.old }
 {
-    if x < plane.width() && y < plane.height() {
-        *plane.visible_pixel_mut(x, y) = value;
+    if plane.width() <= x {
+        return;
     }
+    if plane.height() <= y {
+        return;
+    }
+    *plane.visible_pixel_mut(x, y) = value;
 }
 
 /// Exchanges two pixels of the visible rectangle, each told by its column and its row.

@@ -1,6 +1,8 @@
 -- An iterator over bytes as a pixel that was begun from the front, pixels, and a pixel that was begun from the back.
-use Rattle.std.proofs.Common.{ℕ, ◌≡◌, ◌+◌, ◌*◌, ◌^◌, ◌<◌, ◌≤◌, List, [], ◌∷◌, ◌++◌, length, Option, Some, None, is_some, refl, arith, length-append}
+use Rattle.std.proofs.Common.{ℕ, ◌≡◌, ◌+◌, ◌*◌, ◌^◌, ◌<◌, ◌≤◌, List, [], ◌∷◌, ◌++◌, length, Option, Some, None, is_some, refl}
+use Rattle.std.proofs.Common.{arith, append_assoc, length-append}
 use Rattle.std.proofs.Math.Nat.{mul-le-mul_right}
+use Rattle.std.proofs.lemmas.List.Concat.{flat_map-append}
 use Rattle.std.specs.Int.{from_bool}
 use Rattle.v_frame_layout.specs.Pixel.{PixelForm, bytes_of, bytes_of_pixels}
 use Rattle.v_frame_plane.specs.Cursor.{other_byte, bytes_ahead}
@@ -38,3 +40,16 @@ module _ {T : Type 0} (form : PixelForm T) where
   few_bytes pixels small bound =
       let all : form.size * length pixels ≤ 2 * length pixels = mul-le-mul_right (length pixels) (omega arith) in
       omega arith
+
+  -- the first pixel is begun from the front, and the last one from the back
+  pub first_begun : (begun back : Option T) (pixels rest : List T) (pixel : T) (byte : ℕ) → pixels ≡ pixel ∷ rest →
+      bytes_of form.size (form.value pixel) ≡ byte ∷ other_byte form 1 begun
+      → bytes_ahead form None pixels back ≡ byte ∷ bytes_ahead form begun rest back
+  first_begun begun back pixels rest pixel byte p e =
+      rw (p, e) (simp append_assoc)
+
+  pub last_begun : (front begun : Option T) (pixels rest : List T) (pixel : T) (byte : ℕ) → pixels ≡ rest ++ pixel ∷ [] →
+      bytes_of form.size (form.value pixel) ≡ other_byte form 0 begun ++ byte ∷ []
+      → bytes_ahead form front pixels None ≡ bytes_ahead form front rest begun ++ byte ∷ []
+  last_begun front begun pixels rest pixel byte p e =
+      rw p (simp (flat_map-append, append_assoc, e))

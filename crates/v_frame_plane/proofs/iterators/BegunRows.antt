@@ -1,6 +1,5 @@
 -- An iterator over pixels as a row that was begun from the front, rows, and a row that was begun from the back.
 use Rattle.std.proofs.Common.{Some, ◌≡◌, ◌*◌, ◌^◌, ◌<◌, List, [], ◌∷◌, ◌++◌, length, refl, sym, ◌∙◌, ap, arith, append-nil, append_assoc, length-append}
-use Rattle.std.specs.Iterator.{MakesProgress, at_most}
 use Rattle.std.proofs.lemmas.List.Elements.{All-nil, All-rest, All-pop, All-weaker}
 use Rattle.v_frame_plane.specs.Plane.{Raster, IsWhole, table_of}
 use Rattle.v_frame_layout.specs.Table.{row_major}
@@ -94,14 +93,18 @@ module _ {T : Type 0} where
   last_of_front front back row others left rows rest pixel none was e l b n =
       rw (nothing back none, was, e, l, append-nil front) (sym b ∙ n)
 
-  -- a call from the back leaves one item fewer
-  pub fewer_left : (can : List T → Type 0) (items left : List T) (item : T) → can left → items ≡ left ++ item ∷ [] →
-      MakesProgress can (λ rest. at_most (length rest)) items (Some item) left
-  fewer_left can items left item may e = record {
-    on = λ _. (may, tt, omega (arith, ap length e, length-append left (item ∷ [])));
-    keeps = may;
-    rests = λ _. tt;
-  }
+  -- the first pixel of the next row, and that of the row that was begun from the back
+  pub first_of_rows : (front back row others : List T) (rows rest : List (List T)) (pixel : T) → length front ≡ 0 → rows ≡ row ∷ rest →
+      row ≡ pixel ∷ others
+      → front ++ (row_major rows ++ back) ≡ pixel ∷ (others ++ (row_major rest ++ back))
+  first_of_rows front back row others rows rest pixel none e n =
+      rw (nothing front none, e, n) (simp append_assoc)
+
+  pub first_of_back : (front back row others left : List T) (rows rest : List (List T)) (pixel : T) → length front ≡ 0 → rows ≡ [] → rest ≡ [] → left ≡ [] →
+      row ≡ back → row ≡ pixel ∷ others
+      → front ++ (row_major rows ++ back) ≡ pixel ∷ (others ++ (row_major rest ++ left))
+  first_of_back front back row others left rows rest pixel none was e l b n =
+      rw (nothing front none, was, e, l, append-nil others) (sym b ∙ n)
 
   -- all rows of a plane can be iterated
   pub visible_countable : (p : Raster T) → 0 < p.geometry.width → IsWhole p.geometry p.buffer → PixelsAreCountable [] (table_of p) []

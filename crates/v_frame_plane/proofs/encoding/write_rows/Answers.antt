@@ -47,3 +47,17 @@ returns-clause-table g c =
     let k = c.args.geometry in
     let rows = length-rows (g.E.Encoding.row_of k.width) (k.width * g.E.Encoding.ENTRIES) c.args.stride k.height c.args.src.now in
     all_rows k c.loop-y.buffer _ _ c.loop-y.y rows (omega (arith, c.height-y-end.ensures.value)) c.loop-y.invariant.table
+
+pub overflow_mul-front : goal.overflow_mul-front
+overflow_mul-front g c =
+    let front : c.width-width.result * c.ENTRIES.result ≡ c.args.geometry.width * g.E.Encoding.ENTRIES =
+    ap (λ w. w * c.ENTRIES.result) c.width-width.ensures.value ∙ ap (λ n. c.args.geometry.width * n) c.ENTRIES.ensures in
+    omega (arith, front)
+
+pub overflow_mul-from : goal.overflow_mul-from
+overflow_mul-from g c =
+    let within = front_within (c.args.geometry.width * g.E.Encoding.ENTRIES) c.args.stride c.args.geometry.height c.loop-y.y c.requires.stride (omega (
+      arith,
+      c.height-y-end.ensures.value,
+    )) in
+    omega (arith, within)

@@ -1,6 +1,6 @@
 -- What is around the picture is the nearest of its pixels, at each of the nine places.
 use Rattle.std.proofs.Common.{ℕ, ◌≡◌, ◌+◌, ◌-◌, ◌<◌, Option, Some, ◌∙◌, ap, arith}
-use Rattle.v_frame.specs.Prelude.{pixel_at, table_of, width_of, height_of}
+use Rattle.v_frame.specs.Prelude.{pixel_at, table_of, whole_rows, width_of, height_of}
 use Rattle.v_frame_ops.specs.Prelude.{nearest}
 use Rattle.v_frame_uses.specs.Filters.{mean_of_nine}
 use Rattle.v_frame_uses.proofs.filters.box_blur.Goals as goal
@@ -23,11 +23,13 @@ returns-clause-blurred c = λ x y across down.
     let plane = c.args.source.now in
     let rows = table_of plane in
     let around = c.one_pixel_around-around in
+    let held = c.rectangles_hold_pixels.ensures (whole_rows plane) (plane.geometry.pad_left - 1) (plane.geometry.pad_top - 1) (plane.geometry.width +
+    2) (plane.geometry.height + 2) in
     let near : (i j : ℕ) → i < plane.geometry.width + 2 → j < plane.geometry.height + 2
     → pixel_at (table_of around.result) i j ≡ pixel_at rows (nearest 1 (width_of rows) i) (nearest 1 (height_of rows) j) = λ i j wide high.
     let left = plane.geometry.pad_left - 1 + i in
     let top = plane.geometry.pad_top - 1 + j in
-    let shown = around.ensures.pixels i j (omega arith) (omega arith) in
+    let shown = ap (λ t. pixel_at t i j) around.ensures.table ∙ held i j (omega arith) (omega arith) in
     let padded = c.requires.padded left top (omega arith) (omega arith) in
     let column : nearest plane.geometry.pad_left plane.geometry.width left ≡ nearest 1 (width_of rows) i = omega arith in
     let row : nearest plane.geometry.pad_top plane.geometry.height top ≡ nearest 1 (height_of rows) j = omega arith in

@@ -1,6 +1,7 @@
 -- A row is begun: the last one, or the one that was begun from the front.
-use Rattle.std.proofs.Common.{List, Bor, ◌∙◌, ap}
-use Rattle.v_frame_plane.proofs.iterators.BegunRows.{last_begun, front_begun, last_of_rows, last_of_front, fewer_left}
+use Rattle.std.proofs.Common.{List, Bor, ◌∙◌, ap, append_assoc}
+use Rattle.v_frame_plane.proofs.iterators.BegunRows.{last_begun, front_begun, last_of_rows, last_of_front}
+use Rattle.v_frame_plane.proofs.iterators.WalkRuns.{last_taken}
 use Rattle.v_frame_plane.proofs.pixels.PixelsDoubleEndedIterator.next_back.Goals as goal
 use Rattle.v_frame_plane.proofs.pixels.PixelsDoubleEndedIterator.next_back.Goals.{in-Some-next_back, in-None}
 
@@ -42,4 +43,10 @@ returns-clause-steps g c =
     ]
 
 pub returns-clause-goes : goal.returns-clause-goes
-returns-clause-goes g c = fewer_left _ _ _ _ tt (returns-clause-steps g c)
+returns-clause-goes g c = last_taken (λ pixel. pixel) _ _ _ _ tt (returns-clause-steps g c)
+
+pub returns-in-Some-clause-steps : goal.returns-in-Some-clause-steps
+returns-in-Some-clause-steps g c = rw (← c.self.view_is, c.in-Some.ensures.cases.0) (simp append_assoc)
+
+pub returns-in-Some-clause-goes : goal.returns-in-Some-clause-goes
+returns-in-Some-clause-goes g c = last_taken (λ pixel. pixel) _ _ _ _ tt (returns-in-Some-clause-steps g c)

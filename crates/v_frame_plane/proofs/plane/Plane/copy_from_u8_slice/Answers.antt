@@ -1,5 +1,5 @@
 -- The stride of a row is the width of the table in bytes.
-use Rattle.std.proofs.Common.{◌≡◌, ◌*◌, ◌∙◌, ap, sym, subst, arith}
+use Rattle.std.proofs.Common.{◌≡◌, ◌*◌, ◌∙◌, ap, sym, subst}
 use Rattle.v_frame_layout.specs.Table.{width_of}
 use Rattle.v_frame_plane.specs.Plane.{Raster, raster, table_of}
 use Rattle.v_frame_plane.specs.Copy.{Copies, strided_copy, packed_byte_copy}
@@ -22,7 +22,7 @@ returns g c =
     let copied : Copies old new c.copy_from_u8_slice_with_stride.result (packed_byte_copy form (table_of old) source) =
     subst (λ stride. Copies old new c.copy_from_u8_slice_with_stride.result (strided_copy form (table_of old) source stride)) row
     c.copy_from_u8_slice_with_stride.ensures.copied in
-    let bytes : AreBytes source = record { below = λ i. omega (arith, c.type_inv.src i) } in
+    let bytes : AreBytes source = record { below = λ i. (c.type_inv.src i).fits } in
     record {
       copied = copied;
       source = packed_bytes form g.met.T.Pixel.value_of_pixel (table_of old) (table_of new) source bytes c.copy_from_u8_slice_with_stride.result copied.answer

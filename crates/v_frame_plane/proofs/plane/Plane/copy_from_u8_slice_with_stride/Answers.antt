@@ -17,7 +17,7 @@ returns-then-stride-width-clause-copied g c =
     let p : Raster g.row.T.Denot = raster c.self.inside.geometry c.self.inside.buffer in
     let bytes = c.BYTES.ensures ∙ g.met.T.Pixel.bytes_of_form in
     let refused = refused_by_stride form p c.args.src.now c.args.stride c.width-width.result c.self.inside.geometry.height c.width-width.ensures.valid.high
-    c.self.invariant.whole c.width-width.ensures.value refl (omega (arith, ap (λ n. c.width-width.result * n) bytes)) in
+    c.self.invariant.whole c.width-width.ensures.value refl (rw (← bytes) c.if-stride-width.true) in
     rw (← c.self.view_is) (record {
       answer = sym (ap (λ (o : CopyOutcome g.row.T.Denot). o.answer) refused);
       table = sym (ap (λ (o : CopyOutcome g.row.T.Denot). o.table) refused);
@@ -34,7 +34,7 @@ returns-then-ne-clause-copied g c =
     let found = length c.args.src.now in
     let asked = c.checked_mul-expected.result in
     let bytes = c.BYTES.ensures ∙ g.met.T.Pixel.bytes_of_form in
-    let fits : c.width-width.result * form.size ≤ c.args.stride = omega (arith, ap (λ n. c.width-width.result * n) bytes) in
+    let fits : c.width-width.result * form.size ≤ c.args.stride = rw (← bytes) c.if-stride-width.false in
     let other = asked_is_other asked product found c.checked_mul-expected.ensures (omega arith) (sym c.if-ne.ensures) in
     let told : c.unwrap_or.result ≡ min product usize_max = c.unwrap_or.ensures ∙ asked_is_told asked product c.checked_mul-expected.ensures in
     let refused = refused_by_length form p c.args.src.now c.args.stride c.width-width.result c.height.result c.width-width.ensures.valid.high
@@ -57,11 +57,7 @@ returns g c =
     let left = refill_same old.buffer c.write_rows.new.buffer (c.write_rows.auto.buffer ∙ ap length entries) in
     let new : Raster g.row.T.Denot = raster k (refill (length old.buffer) old.buffer c.write_rows.new.buffer) in
     let size = c.BYTES.ensures ∙ g.met.T.Pixel.bytes_of_form in
-    let fits : k.width * form.size ≤ c.args.stride = omega (
-      arith,
-      ap (λ n. c.width-width.result * n) size,
-      ap (λ n. n * form.size) c.width-width.ensures.value,
-    ) in
+    let fits : k.width * form.size ≤ c.args.stride = rw (← size, ← c.width-width.ensures.value) c.if-stride-width.false in
     let same = asked_is_found c.checked_mul-expected.result (c.args.stride * c.height.result) (length source) c.checked_mul-expected.ensures
     (sym c.if-ne.ensures) in
     let done = accepted form old source c.args.stride k.width k.height c.width-width.ensures.valid.high c.self.invariant.whole refl refl fits (same ∙
@@ -75,8 +71,18 @@ returns g c =
       geometry = refl;
       refused = tt;
     } in
-    let bytes : AreBytes source = record { below = λ i. omega (arith, c.type_inv.src i) } in
+    let bytes : AreBytes source = record { below = λ i. (c.type_inv.src i).fits } in
     rw (← c.self.view_is) (record {
       copied = copied;
       source = strided_bytes form g.met.T.Pixel.value_of_pixel (table_of old) (table_of new) source bytes c.args.stride (Ok tt) copied.answer copied.table;
     })
+
+pub write_rows-requires-clause-stride : goal.write_rows-requires-clause-stride
+write_rows-requires-clause-stride g c =
+    let size = c.BYTES.ensures ∙ g.met.T.Pixel.bytes_of_form in
+    rw (← size, ← c.width-width.ensures.value) c.if-stride-width.false
+
+pub write_rows-requires-clause-source : goal.write_rows-requires-clause-source
+write_rows-requires-clause-source g c =
+    asked_is_found c.checked_mul-expected.result (c.args.stride * c.height.result) (length c.args.src.now) c.checked_mul-expected.ensures
+    (sym c.if-ne.ensures) ∙ ap (λ n. c.args.stride * n) c.height.ensures.value

@@ -1,0 +1,36 @@
+-- The next byte is that of the begun pixel in front, the low one of the next pixel, or that of the begun pixel at the back.
+use Rattle.std.proofs.Common.{refl}
+use Rattle.v_frame_plane.proofs.iterators.BegunPixels.{first_begun}
+use Rattle.v_frame_plane.proofs.iterators.WalkRuns.{first_taken}
+use Rattle.v_frame_plane.proofs.bytes.ByteDataIterator.next.Goals as goal
+
+pub returns-in-Some-clause-steps : goal.returns-in-Some-clause-steps
+returns-in-Some-clause-steps g c =
+    rw (← c.self.view_is, ← c.in-Some.ensures.value, c.take.ensures.after, c.le_byte.ensures) refl
+
+pub returns-in-Some-clause-goes : goal.returns-in-Some-clause-goes
+returns-in-Some-clause-goes g c = first_taken (λ byte. byte) _ _ _ _ tt (returns-in-Some-clause-steps g c)
+
+pub returns-in-Some-next-clause-steps : goal.returns-in-Some-next-clause-steps
+returns-in-Some-next-clause-steps g c =
+    rw (← c.self.view_is, ← c.in_default.ensures.value) (first_begun g.T.Pixel.form c.begin_front.new.front c.self.inside.back c.self.inside.pixels
+    c.next.new.self c.in-Some-next.pixel c.begin_front.result c.in-Some-next.ensures.steps c.begin_front.ensures.bytes)
+
+pub returns-in-Some-next-clause-goes : goal.returns-in-Some-next-clause-goes
+returns-in-Some-next-clause-goes g c = first_taken (λ byte. byte) _ _ _ _ tt (returns-in-Some-next-clause-steps g c)
+
+pub returns-in_ok-take-in-None-clause-steps : goal.returns-in_ok-take-in-None-clause-steps
+returns-in_ok-take-in-None-clause-steps g c =
+    rw (
+      ← c.self.view_is,
+      ← c.in_default.ensures.value,
+      ← c.in_ok-take-in-None.ensures.value,
+      c.in-None.ensures.steps.0,
+      c.in-None.ensures.steps.1,
+      c.take.ensures.after,
+      c.take-in-None.ensures.after,
+      c.le_byte-in-None.ensures,
+    ) refl
+
+pub returns-in_ok-take-in-None-clause-goes : goal.returns-in_ok-take-in-None-clause-goes
+returns-in_ok-take-in-None-clause-goes g c = first_taken (λ byte. byte) _ _ _ _ tt (returns-in_ok-take-in-None-clause-steps g c)

@@ -1,0 +1,13 @@
+-- The values are as many as the entries that held them.
+use Rattle.std.proofs.Common.{length, ap, ◌∙◌}
+use Rattle.std.proofs.lemmas.List.{length-map}
+use Rattle.v_frame_plane.proofs.plane.options.Plane+Option+T.assume_init.Goals as goal
+
+pub invariant_of-result : goal.invariant_of-result
+invariant_of-result g c = record {
+  fits = c.self.invariant.fits;
+  whole = (simp length-map at (ap length c.in-Ok.ensures.values)) ∙ c.self.invariant.whole;
+}
+
+pub returns-in-Ok-clause-values : goal.returns-in-Ok-clause-values
+returns-in-Ok-clause-values g c = rw (c.in-Ok.ensures.values) c.self.view_is

@@ -1,0 +1,15 @@
+-- The last of the rows ahead is given, and the others stay ahead.
+use Rattle.std.proofs.Common.{arith}
+use Rattle.std.specs.Map.Iter.{deref}
+use Rattle.v_frame_plane.proofs.iterators.Cursors.{last_row}
+use Rattle.v_frame_plane.proofs.iterators.WalkRuns.{last_taken}
+use Rattle.v_frame_plane.proofs.rows.RowsDoubleEndedIterator.next_back.Goals as goal
+
+pub returns-clause-steps : goal.returns-clause-steps
+returns-clause-steps g c =
+    let a = c.self.inside in
+    let cut = c.split_at.ensures in
+    rw (← c.self.view_is, cut.front, cut.back) (last_row a.start a.width a.gap a.count a.rest.now (omega arith))
+
+pub returns-clause-goes : goal.returns-clause-goes
+returns-clause-goes g c = last_taken deref _ _ _ _ tt (returns-clause-steps g c)
