@@ -1,6 +1,5 @@
 //! Frames: built, refused, and changed by one plane.
 ghost use Rattle.std.specs.Prelude.{◌≡◌, ◌≢◌, ◌⊎◌, ℕ, None, Some, Err, IfOk, IsOkUnless, MatchOption, option_map};
-ghost use Rattle.v_frame.specs.Build.{visible_size_of};
 ghost use Rattle.v_frame.specs.Prelude.{table_of, packed_copy, chroma_size_of, plane_at, KeepsBorders, refusal_of, FrameError};
 
 use std::alloc::Global;
@@ -54,7 +53,8 @@ pub fn built_chroma_size<T: Pixel>(
 
 /// The visible size of the chroma planes of a frame, or nothing where it has none.
 fn chroma_size<T: Pixel>(frame: &Frame<T>) -> Option<(usize, usize)>
-    ensures { result ≡ option_map visible_size_of frame.now.u_plane }
+    ensures { result ≡ option_map
+        (λ plane. (plane.geometry.width, plane.geometry.height)) frame.now.u_plane }
 {
     match &frame.u_plane {
         Some(plane) => Some((plane.width(), plane.height())),
