@@ -4,6 +4,7 @@
 
 mod builds;
 mod calls_that_take_no_memory;
+mod checks;
 mod clones;
 mod drops;
 mod options;

@@ -56,11 +56,12 @@ impl Outcome {
 
 impl fmt::Display for Outcome {
     fn fmt<W: fmt::Write>(&self, f: &mut fmt::Formatter<W>) -> fmt::Result {
-        match self {
-            Outcome::Unprepared => f.write_str("prepared: refused"),
-            Outcome::Kept => f.write_str("refused: kept"),
-            Outcome::Done => f.write_str("done"),
-            Outcome::Wrong(what) => write!(f, "wrong: {what}"),
-        }
+        let text = match self {
+            Outcome::Unprepared => "prepared: refused",
+            Outcome::Kept => "refused: kept",
+            Outcome::Done => "done",
+            Outcome::Wrong(what) => return write!(f, "wrong: {what}"),
+        };
+        f.write_str(text)
     }
 }

@@ -1,5 +1,6 @@
 //! Calls that take no memory, and so answer as ever whichever request is refused.
 
+use super::checks::{has_entries, is};
 use crate::outcome::Outcome;
 use std::alloc::Global;
 use std::io::Cursor;
@@ -20,18 +21,22 @@ pub fn calls_that_take_no_memory(alloc: Global) -> Outcome {
         return Outcome::Wrong("reading over an array");
     }
     match FrameBuilder::new(3, 2, Monochrome, 8).build::<u8>(alloc) {
-        Ok(mut frame) => {
-            let is_replayed = replays_no_call(alloc, &mut frame);
-            Outcome::done(is_replayed && is_written(&frame))
-        }
+        Ok(frame) => seen_of(alloc, frame),
         Err(error) => Outcome::of_preparation(error),
     }
+}
+
+/// What is seen of the calls on a blank frame.
+fn seen_of(alloc: Global, mut frame: Frame<u8>) -> Outcome {
+    let is_right = replays_no_call(alloc, &mut frame) && is_written(&frame);
+    drop(frame);
+    Outcome::done(is_right)
 }
 
 /// Whether the replay of no call answers nothing, and leaves a blank frame as it is.
 fn replays_no_call(alloc: Global, frame: &mut Frame<u8>) -> bool {
     match replay(alloc, frame, &[]) {
-        Ok(answers) => answers.is_empty() && frame.y_plane.data() == [0; 6].as_slice(),
+        Ok(answers) => answers.is_empty() && has_entries(&frame.y_plane, &[0; 6]),
         Err(_) => false,
     }
 }
@@ -40,24 +45,35 @@ fn replays_no_call(alloc: Global, frame: &mut Frame<u8>) -> bool {
 fn is_written(frame: &Frame<u8>) -> bool {
     let mut writer = Counted::new(Cursor::new([9; 8]));
     let written = write_frame(&mut writer, frame).is_ok();
-    written && *writer.inner().get_ref() == [0, 0, 0, 0, 0, 0, 9, 9]
+    written && is(*writer.inner().get_ref(), [0, 0, 0, 0, 0, 0, 9, 9])
 }
 
 /// Whether a depth, a type and a size that no frame has are each told.
 fn builds_are_refused(alloc: Global) -> bool {
     let odd = FrameBuilder::new(1920, 1080, Yuv420, 8).luma_padding_bottom(1);
-    refusal::<u8>(alloc, 1920, 7) == Some(FrameError::UnsupportedBitDepth { found: 7 })
-        && refusal::<u8>(alloc, 1920, 10) == Some(FrameError::DataTypeMismatch)
-        && refusal::<u16>(alloc, 1920, 8) == Some(FrameError::DataTypeMismatch)
-        && refusal::<u16>(alloc, 0, 17) == Some(FrameError::UnsupportedBitDepth { found: 17 })
-        && refusal::<u8>(alloc, 0, 8) == Some(FrameError::UnsupportedResolution)
-        && odd.build::<u8>(alloc).err() == Some(FrameError::UnsupportedResolution)
+    is_refused::<u8>(
+        alloc,
+        sized(1920, 7),
+        FrameError::UnsupportedBitDepth { found: 7 },
+    ) && is_refused::<u8>(alloc, sized(1920, 10), FrameError::DataTypeMismatch)
+        && is_refused::<u16>(alloc, sized(1920, 8), FrameError::DataTypeMismatch)
+        && is_refused::<u16>(
+            alloc,
+            sized(0, 17),
+            FrameError::UnsupportedBitDepth { found: 17 },
+        )
+        && is_refused::<u8>(alloc, sized(0, 8), FrameError::UnsupportedResolution)
+        && is_refused::<u8>(alloc, odd, FrameError::UnsupportedResolution)
 }
 
-/// Why a frame of this width and depth is not built, where it is not.
-fn refusal<T: Pixel>(alloc: Global, width: usize, depth: u8) -> Option<FrameError> {
-    let builder = FrameBuilder::new(width, 1080, Yuv420, depth);
-    builder.build::<T>(alloc).err()
+/// A frame of this width and depth.
+fn sized(width: usize, depth: u8) -> FrameBuilder {
+    FrameBuilder::new(width, 1080, Yuv420, depth)
+}
+
+/// Whether a frame is not built, for this reason.
+fn is_refused<T: Pixel>(alloc: Global, builder: FrameBuilder, error: FrameError) -> bool {
+    is(builder.build::<T>(alloc).err(), Some(error))
 }
 
 /// Two pixels by two in a border of one column to the left.
@@ -69,17 +85,22 @@ fn array_is_read() -> bool {
         return false;
     };
     match PlaneRef::new(geometry, &ENTRIES) {
-        Some(plane) => plane.geometry() == geometry && is_measured(&plane) && is_iterated(&plane),
+        Some(plane) => {
+            is(plane.geometry(), geometry) && is_measured(&plane) && is_iterated(&plane)
+        }
         None => false,
     }
 }
 
 /// Whether a plane over the array has its size, its rows and its pixels.
 fn is_measured(plane: &PlaneRef<'_, u16>) -> bool {
-    let size = plane.width() == 2 && plane.height() == 2;
-    let pixels = plane.pixel(1, 1) == Some(0x0708) && plane.pixel(2, 1).is_none();
-    let row = plane.row(0) == Some([0x0102, 0x0304].as_slice());
-    size && pixels && row && plane.row(2).is_none() && plane.again().data() == ENTRIES.as_slice()
+    is((plane.width(), plane.height()), (2, 2))
+        && is([plane.pixel(1, 1), plane.pixel(2, 1)], [Some(0x0708), None])
+        && is(
+            [plane.row(0), plane.row(2)],
+            [Some(&[0x0102, 0x0304]), None],
+        )
+        && is(plane.again().data(), &ENTRIES)
 }
 
 /// Whether the iterators of a plane over the array give what it shows, from both ends.
@@ -87,8 +108,9 @@ fn is_iterated(plane: &PlaneRef<'_, u16>) -> bool {
     let rows = [[0x0102, 0x0304].as_slice(), [0x0506, 0x0708].as_slice()];
     let pixels = [0x0102, 0x0304, 0x0506, 0x0708];
     let bytes = [2, 1, 4, 3, 6, 5, 8, 7];
-    let from_front = plane.rows().eq(rows) && plane.pixels().eq(pixels);
-    let from_back = plane.rows().next_back() == Some([0x0506, 0x0708].as_slice())
-        && plane.pixels().next_back() == Some(0x0708);
-    from_front && from_back && plane.byte_data().eq(bytes)
+    plane.rows().eq(rows)
+        && plane.pixels().eq(pixels)
+        && is(plane.rows().next_back(), Some(&[0x0506, 0x0708]))
+        && is(plane.pixels().next_back(), Some(0x0708))
+        && plane.byte_data().eq(bytes)
 }

@@ -8,7 +8,11 @@ use v_frame::frame::Frame;
 /// A clone of a plane inside a border.
 pub fn clone_of_a_plane(alloc: Global) -> Outcome {
     match prepared(alloc) {
-        Ok(frame) => luma_cloned(alloc, &frame),
+        Ok(frame) => {
+            let outcome = luma_cloned(alloc, &frame);
+            drop(frame);
+            outcome
+        }
         Err(outcome) => outcome,
     }
 }
@@ -17,7 +21,11 @@ pub fn clone_of_a_plane(alloc: Global) -> Outcome {
 fn luma_cloned(alloc: Global, frame: &Frame<u16>) -> Outcome {
     let [luma, ..] = &PREPARED;
     match frame.y_plane.clone(alloc) {
-        Ok(copy) => Outcome::done(holds(frame, &PREPARED) && is_painted(&copy, luma)),
+        Ok(copy) => {
+            let is_right = holds(frame, &PREPARED) && is_painted(&copy, luma);
+            drop(copy);
+            Outcome::done(is_right)
+        }
         Err(_) => Outcome::kept(holds(frame, &PREPARED)),
     }
 }
@@ -25,7 +33,11 @@ fn luma_cloned(alloc: Global, frame: &Frame<u16>) -> Outcome {
 /// A clone of a frame of three planes.
 pub fn clone_of_a_frame(alloc: Global) -> Outcome {
     match prepared(alloc) {
-        Ok(frame) => frame_cloned(alloc, &frame),
+        Ok(frame) => {
+            let outcome = frame_cloned(alloc, &frame);
+            drop(frame);
+            outcome
+        }
         Err(outcome) => outcome,
     }
 }
@@ -33,7 +45,11 @@ pub fn clone_of_a_frame(alloc: Global) -> Outcome {
 /// What is seen of a clone of the prepared frame.
 fn frame_cloned(alloc: Global, frame: &Frame<u16>) -> Outcome {
     match frame.clone(alloc) {
-        Ok(copy) => Outcome::done(holds(frame, &PREPARED) && holds(&copy, &PREPARED)),
+        Ok(copy) => {
+            let is_right = holds(frame, &PREPARED) && holds(&copy, &PREPARED);
+            drop(copy);
+            Outcome::done(is_right)
+        }
         Err(_) => Outcome::kept(holds(frame, &PREPARED)),
     }
 }

@@ -56,6 +56,7 @@ fn fill(entries: &mut [Option<Counted>], drops: &Rc<Cell<u32>>) -> bool {
 /// What is seen of the call on the plane that is filled.
 fn seen_of(alloc: Global, plane: Plane<Option<Counted>>, drops: &Cell<u32>) -> Outcome {
     if !plane.is_init() {
+        drop(plane);
         return NOT_FILLED;
     }
     match plane.assume_init(alloc) {

@@ -1,5 +1,6 @@
 //! Planes that are filled entry by entry.
 
+use super::checks::{has_entries, is};
 use crate::outcome::Outcome;
 use std::alloc::Global;
 use v_frame::plane::{Plane, PlaneGeometry};
@@ -18,7 +19,7 @@ fn vacant_of(alloc: Global, geometry: PlaneGeometry) -> Outcome {
         return NO_GEOMETRY;
     }
     match Plane::<u8>::new_uninit(alloc, geometry) {
-        Ok(plane) => Outcome::done(plane.geometry() == geometry && is_vacant(&plane)),
+        Ok(plane) => seen_vacant(plane, geometry),
         Err(_) => Outcome::Kept,
     }
 }
@@ -26,9 +27,12 @@ fn vacant_of(alloc: Global, geometry: PlaneGeometry) -> Outcome {
 /// Where the numbers of a geometry don't go together.
 const NO_GEOMETRY: Outcome = Outcome::Wrong("no geometry can be prepared");
 
-/// Whether a plane of 40 places has no value.
-fn is_vacant(plane: &Plane<Option<u8>>) -> bool {
-    !plane.is_init() && plane.data() == [None; 40].as_slice()
+/// What is seen of this plane of 40 places, none of which has a value.
+fn seen_vacant(plane: Plane<Option<u8>>, geometry: PlaneGeometry) -> Outcome {
+    let is_vacant = !plane.is_init() && has_entries(&plane, &[None; 40]);
+    let is_right = is_vacant && is(plane.geometry(), geometry);
+    drop(plane);
+    Outcome::done(is_right)
 }
 
 /// The values of a plane that is filled with two.
@@ -48,12 +52,20 @@ pub fn assume_init(alloc: Global) -> Outcome {
 /// What is seen of the call on the plane that is filled with two.
 fn values_of(alloc: Global, plane: Plane<Option<u8>>) -> Outcome {
     if !plane.is_init() {
+        drop(plane);
         return NOT_FILLED;
     }
     match plane.assume_init(alloc) {
-        Ok(plane) => Outcome::done(plane.data() == [5, 6].as_slice()),
-        Err(plane) => Outcome::kept(plane.data() == [Some(5), Some(6)].as_slice()),
+        Ok(plane) => Outcome::done(ends_with(plane, &[5, 6])),
+        Err(plane) => Outcome::kept(ends_with(plane, &[Some(5), Some(6)])),
     }
+}
+
+/// Whether a plane, which is then dropped, has these entries.
+fn ends_with<T: PartialEq + Drop>(plane: Plane<T>, wanted: &[T]) -> bool {
+    let is_right = has_entries(&plane, wanted);
+    drop(plane);
+    is_right
 }
 
 /// Where a place was left without a value.
@@ -96,20 +108,34 @@ fn fill_with_texts(alloc: Global, entries: &mut [Option<String>]) -> bool {
         return true;
     };
     let [first, second, third] = TEXTS;
-    *a = String::from_str(alloc, first).ok();
-    *b = String::from_str(alloc, second).ok();
-    *c = String::from_str(alloc, third).ok();
-    a.is_some() && b.is_some() && c.is_some()
+    let is_first = fill(alloc, a, first);
+    let is_second = fill(alloc, b, second);
+    fill(alloc, c, third) && is_first && is_second
+}
+
+/// Fills a place with a text. Gives whether it was not refused.
+fn fill(alloc: Global, entry: &mut Option<String>, text: &str) -> bool {
+    *entry = String::from_str(alloc, text).ok();
+    entry.is_some()
 }
 
 /// What is seen of the call on the plane that is filled with texts.
 fn texts_of(alloc: Global, plane: Plane<Option<String>>) -> Outcome {
     if !plane.is_init() {
+        drop(plane);
         return NOT_FILLED;
     }
     match plane.assume_init(alloc) {
-        Ok(plane) => Outcome::done(are_the_texts(plane.data())),
-        Err(plane) => Outcome::kept(hold_the_texts(plane.data())),
+        Ok(plane) => {
+            let is_right = are_the_texts(plane.data());
+            drop(plane);
+            Outcome::done(is_right)
+        }
+        Err(plane) => {
+            let is_right = hold_the_texts(plane.data());
+            drop(plane);
+            Outcome::kept(is_right)
+        }
     }
 }
 

@@ -1,5 +1,6 @@
 //! Frames of three planes, each with a picture in a border whose entries are numbered.
 
+use super::checks::{has_entries, is};
 use crate::outcome::Outcome;
 use std::alloc::Global;
 use v_frame::chroma::ChromaSubsampling;
@@ -45,6 +46,7 @@ fn painted(mut frame: Frame<u16>) -> Result<Frame<u16>, Outcome> {
     if holds(&frame, &PREPARED) {
         Ok(frame)
     } else {
+        drop(frame);
         Err(Outcome::Wrong("what was prepared"))
     }
 }
@@ -53,11 +55,14 @@ fn painted(mut frame: Frame<u16>) -> Result<Frame<u16>, Outcome> {
 fn paint_planes(frame: &mut Frame<u16>) {
     let [luma, first, second] = &PREPARED;
     paint(&mut frame.y_plane, luma);
-    if let Some(plane) = &mut frame.u_plane {
-        paint(plane, first);
-    }
-    if let Some(plane) = &mut frame.v_plane {
-        paint(plane, second);
+    paint_chroma(&mut frame.u_plane, first);
+    paint_chroma(&mut frame.v_plane, second);
+}
+
+/// Writes the entries of a chroma plane, where it is there.
+fn paint_chroma(plane: &mut Option<Plane<u16>>, buffer: &Buffer) {
+    if let Some(plane) = plane {
+        paint(plane, buffer);
     }
 }
 
@@ -76,9 +81,11 @@ pub fn holds(frame: &Frame<u16>, [luma, first, second]: &Buffers) -> bool {
 
 /// Whether the planes of a frame have these entries each, in their borders too.
 pub fn has_planes(frame: &Frame<u16>, luma: &Buffer, first: &Buffer, second: &Buffer) -> bool {
-    let format = frame.subsampling == ChromaSubsampling::Yuv444 && frame.bit_depth.get() == 16;
-    let chroma = has(&frame.u_plane, first) && has(&frame.v_plane, second);
-    format && is_painted(&frame.y_plane, luma) && chroma
+    is(frame.subsampling, ChromaSubsampling::Yuv444)
+        && is(frame.bit_depth.get(), 16)
+        && is_painted(&frame.y_plane, luma)
+        && has(&frame.u_plane, first)
+        && has(&frame.v_plane, second)
 }
 
 /// Whether a chroma plane is there and has these entries.
@@ -92,5 +99,5 @@ fn has(plane: &Option<Plane<u16>>, buffer: &Buffer) -> bool {
 /// Whether a plane has these entries.
 pub fn is_painted(plane: &Plane<u16>, buffer: &Buffer) -> bool {
     let geometry = PlaneGeometry::new(3, 2, 1, 2, 1, 0, 1, 1);
-    geometry == Some(plane.geometry()) && plane.data() == buffer.as_slice()
+    is(geometry, Some(plane.geometry())) && has_entries(plane, buffer)
 }

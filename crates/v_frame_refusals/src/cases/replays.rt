@@ -1,5 +1,6 @@
 //! A replay of a list of six calls, three of which write.
 
+use super::checks::is;
 use super::pictures::{Buffer, PREPARED, has_planes, prepared};
 use super::preparation::Preparation;
 use crate::outcome::Outcome;
@@ -21,7 +22,11 @@ static WRITTEN_CHROMA: Buffer = [
 /// A replay in a numbered border. Where it is stopped, the calls that were answered are done, and no other.
 pub fn replay_of_a_list(alloc: Global) -> Outcome {
     match prepared(alloc) {
-        Ok(mut frame) => replay_on(alloc, &mut frame),
+        Ok(mut frame) => {
+            let outcome = replay_on(alloc, &mut frame);
+            drop(frame);
+            outcome
+        }
         Err(outcome) => outcome,
     }
 }
@@ -47,12 +52,15 @@ fn seen_of(
 ) -> Outcome {
     match replay(alloc, frame, calls) {
         Ok(answers) => {
-            let answers = answers.as_slice();
-            Outcome::done(answers.len() == wanted.len() && is_left(frame, answers, wanted))
+            let is_right = answers.len() == wanted.len() && is_left(frame, &answers, wanted);
+            drop(answers);
+            Outcome::done(is_right)
         }
         Err(stopped) => {
             let done = stopped.done.as_slice();
-            Outcome::kept(done.len() < calls.len() && is_left(frame, done, wanted))
+            let is_right = done.len() < calls.len() && is_left(frame, done, wanted);
+            drop(stopped);
+            Outcome::kept(is_right)
         }
     }
 }
@@ -70,7 +78,7 @@ fn is_left(frame: &Frame<u16>, answers: &[Answer<u16>], wanted: &[Answer<u16>]) 
     } else {
         &WRITTEN_CHROMA
     };
-    wanted.get(..answers.len()) == Some(answers) && has_planes(frame, luma, first, second)
+    is(wanted.get(..answers.len()), Some(answers)) && has_planes(frame, luma, first, second)
 }
 
 /// The calls.

@@ -1,5 +1,6 @@
 //! A replay of two calls, each of which writes a row.
 
+use super::checks::has_entries;
 use super::preparation::Preparation;
 use crate::outcome::Outcome;
 use std::alloc::Global;
@@ -14,7 +15,11 @@ use v_frame::replay::{Answer, Sequence, VisibleCall, replay};
 /// two writes. Then nothing is answered, and the plane is blank.
 pub fn replay_of_two_row_writes(alloc: Global) -> Outcome {
     match FrameBuilder::new(2, 2, Monochrome, 8).build::<u8>(alloc) {
-        Ok(mut frame) => replay_on(alloc, &mut frame),
+        Ok(mut frame) => {
+            let outcome = replay_on(alloc, &mut frame);
+            drop(frame);
+            outcome
+        }
         Err(error) => Outcome::of_preparation(error),
     }
 }
@@ -22,16 +27,23 @@ pub fn replay_of_two_row_writes(alloc: Global) -> Outcome {
 /// The replay on this frame.
 fn replay_on(alloc: Global, frame: &mut Frame<u8>) -> Outcome {
     let mut preparation = Preparation::new(alloc);
-    let calls = [
-        row_mut(0, preparation.list(&[Some(1), Some(2)])),
-        row_mut(1, preparation.list(&[Some(3), Some(4)])),
-    ];
+    let calls = calls(&mut preparation);
     let blank = Answer::RowShown(Some(preparation.list(&[0, 0])));
-    if preparation.is_refused() {
+    let outcome = if preparation.is_refused() {
         Outcome::Unprepared
     } else {
         seen_of(alloc, frame, &calls, &blank)
-    }
+    };
+    drop(blank);
+    outcome
+}
+
+/// The calls.
+fn calls(preparation: &mut Preparation) -> [VisibleCall<u8>; 2] {
+    [
+        row_mut(0, preparation.list(&[Some(1), Some(2)])),
+        row_mut(1, preparation.list(&[Some(3), Some(4)])),
+    ]
 }
 
 /// A call that writes a row.
@@ -58,18 +70,24 @@ fn seen_of(
 
 /// Whether both calls were answered, and both rows are written.
 fn are_done(answers: &[Answer<u8>], blank: &Answer<u8>, frame: &Frame<u8>) -> bool {
-    match answers {
-        [a, b] => a == blank && b == blank && frame.y_plane.data() == [1, 2, 3, 4].as_slice(),
-        _ => false,
+    answers.len() == 2 && are(answers, blank) && has_entries(&frame.y_plane, &[1, 2, 3, 4])
+}
+
+/// Whether each answer is this one.
+fn are(answers: &[Answer<u8>], blank: &Answer<u8>) -> bool {
+    for answer in answers {
+        if *answer != *blank {
+            return false;
+        }
     }
+    true
 }
 
 /// What is seen of a replay that is stopped behind these answers.
 fn seen_after(answers: &[Answer<u8>], blank: &Answer<u8>, frame: &Frame<u8>) -> Outcome {
-    let data = frame.y_plane.data();
-    match answers {
-        [] if data == [0; 4].as_slice() => Outcome::Unprepared,
-        [answer] => Outcome::kept(answer == blank && data == [1, 2, 0, 0].as_slice()),
+    match answers.len() {
+        0 if has_entries(&frame.y_plane, &[0; 4]) => Outcome::Unprepared,
+        1 => Outcome::kept(are(answers, blank) && has_entries(&frame.y_plane, &[1, 2, 0, 0])),
         _ => Outcome::kept(false),
     }
 }

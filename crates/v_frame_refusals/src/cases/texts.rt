@@ -1,5 +1,6 @@
 //! A small frame that is written as text.
 
+use super::checks::is;
 use crate::outcome::Outcome;
 use std::alloc::Global;
 use v_frame::frame::FrameError;
@@ -16,13 +17,17 @@ pub fn run_into_a_fixed_slice(alloc: Global) -> Outcome {
     let mut room = [0; 40];
     let mut out = Counted::new(room.as_mut_slice());
     let answer = run(alloc, &mut out, &[1, 2, 3, 4, 5, 6, 7, 8]);
-    let left = out.inner().len();
-    let failures = out.failures();
+    let counts = (out.failures(), out.inner().len());
     drop(out);
+    seen_of(answer, counts, room)
+}
+
+/// What is seen of an answer, of how many writes failed and how much room is left, and of the room.
+fn seen_of(answer: Result<(), ToolFault>, counts: (u64, usize), room: [u8; 40]) -> Outcome {
     match answer {
-        Ok(()) => Outcome::done(failures == 0 && left == 9 && room == WRITTEN),
+        Ok(()) => Outcome::done(is((counts, room), ((0, 9), WRITTEN))),
         Err(ToolFault::Frame(FrameError::OutOfMemory)) | Err(ToolFault::OutOfMemory) => {
-            Outcome::kept(failures == 0 && left == 40 && room == [0; 40])
+            Outcome::kept(is((counts, room), ((0, 40), [0; 40])))
         }
         Err(_) => Outcome::Wrong("another fault of the program"),
     }

@@ -1,9 +1,9 @@
 //! The calls of `v_frame_ops`, by what is left in whole buffers.
 ghost use Rattle.std.specs.Prelude.{◌≡◌};
 
-use crate::tests::support::buffers::bordered_buffer;
+use crate::tests::support::buffers::{bordered_buffer, has_entries, has_in_border, write_entries};
+use crate::tests::support::checks::{same, same_length};
 use crate::tests::support::frames::{BORDERED_ALL_ROUND, Layout, bordered, luma, showing};
-use std::alloc::Global;
 use std::process::Abort;
 use v_frame::chroma::ChromaSubsampling;
 use v_frame::frame::FrameBuilder;
@@ -24,171 +24,209 @@ fn same_size<T: Pixel>(rt: &impl Abort, a: &PlaneRef<'_, T>, b: &PlaneRef<'_, T>
     ensures wide { a.now.geometry.width ≡ b.now.geometry.width }
     ensures high { a.now.geometry.height ≡ b.now.geometry.height }
 {
-    if a.width() != b.width() || a.height() != b.height() {
-        panic!(rt; "another size");
-    }
+    same_length(rt, a.width(), b.width());
+    same_length(rt, a.height(), b.height());
 }
 
-/// The sums of absolute differences and of squared errors of two planes of one size.
-fn sums<T: Pixel>(rt: &impl Abort, a: &Plane<T>, b: &Plane<T>) -> (u128, u128) {
-    let (a, b) = (a.as_plane_ref(), b.as_plane_ref());
-    same_size(rt, &a, &b);
-    (
-        sum_of_absolute_differences(&a, &b),
-        sum_of_squared_errors(&a, &b),
-    )
+/// Stops the test where a plane has not this size.
+fn has_size(rt: &impl Abort, plane: &Plane<u8>, width: usize, height: usize)
+    ensures wide { plane.now.geometry.width ≡ width }
+    ensures high { plane.now.geometry.height ≡ height }
+{
+    same_length(rt, plane.width(), width);
+    same_length(rt, plane.height(), height);
 }
 
-/// The place of the first difference of two planes of one size.
-fn difference(rt: &impl Abort, a: &Plane<u8>, b: &Plane<u8>) -> Option<(usize, usize)> {
-    let (a, b) = (a.as_plane_ref(), b.as_plane_ref());
-    same_size(rt, &a, &b);
-    first_difference(&a, &b)
+/// Sums of absolute differences and of squared errors, and the place of the first difference.
+type Differences = (u128, u128, Option<(usize, usize)>);
+
+/// Stops the test where two planes have not one size, or other differences.
+fn differ<T: Pixel>(
+    rt: &impl Abort,
+    a: &PlaneRef<'_, T>,
+    b: &PlaneRef<'_, T>,
+    (absolute, squared, place): Differences,
+) {
+    same_size(rt, a, b);
+    same(rt, sum_of_absolute_differences(a, b), absolute);
+    same(rt, sum_of_squared_errors(a, b), squared);
+    same(rt, first_difference(a, b), place);
+}
+
+/// The same of two planes, and that the first one has no difference from itself.
+fn compare<T: Pixel>(rt: &impl Abort, a: Plane<T>, b: Plane<T>, differences: Differences) {
+    let first = a.as_plane_ref();
+    differ(rt, &first, &first, (0, 0, None));
+    differ(rt, &first, &b.as_plane_ref(), differences);
+    drop(b);
+    drop(a);
 }
 
 /// A plane of two pixels of 16 bits, both 0.
-fn wide_plane(rt: &impl Abort, alloc: Global) -> Plane<u16> {
+fn wide_plane(rt: &(impl Abort + AllocGlobal)) -> Plane<u16> {
     let builder = FrameBuilder::new(2, 1, ChromaSubsampling::Monochrome, 16);
-    luma(builder.build(alloc).expect(rt, "a frame"))
+    luma(builder.build(rt.alloc()).expect(rt, "a frame"))
 }
 
 #[test]
 fn differences_are_summed(rt: HostRuntime) {
-    let a = luma(bordered(&rt, rt.alloc(), [1, 2, 3, 150, 200, 255]));
-    let b = luma(showing(&rt, rt.alloc(), (3, 2, [0, 0, 0, 0]), &[3, 2, 1, 255, 0, 0]));
-    assert!(rt; sums(&rt, &a, &b) == (564, 116_058) && sums(&rt, &a, &a) == (0, 0));
-    assert!(rt; difference(&rt, &a, &b) == Some((0, 0)));
+    let rt = &rt;
+    let a = bordered(rt, [1, 2, 3, 150, 200, 255]);
+    let b = showing(rt, (3, 2, [0, 0, 0, 0]), &[3, 2, 1, 255, 0, 0]);
+    compare(rt, a, b, (564, 116_058, Some((0, 0))));
 }
 
 #[test]
 fn the_first_difference_is_told(rt: HostRuntime) {
-    let a = luma(bordered(&rt, rt.alloc(), [1, 2, 3, 150, 200, 255]));
-    let b = luma(showing(&rt, rt.alloc(), BORDERED_ALL_ROUND, &[1, 2, 3, 150, 201, 0]));
-    let told = (difference(&rt, &a, &b), difference(&rt, &a, &a));
-    assert!(rt; told == (Some((1, 1)), None));
+    let rt = &rt;
+    let a = bordered(rt, [1, 2, 3, 150, 200, 255]);
+    let b = showing(rt, BORDERED_ALL_ROUND, &[1, 2, 3, 150, 201, 0]);
+    compare(rt, a, b, (256, 65_026, Some((1, 1))));
 }
 
 #[test]
 fn wide_pixels_are_compared(rt: HostRuntime) {
-    let dark = wide_plane(&rt, rt.alloc());
-    let mut bright = wide_plane(&rt, rt.alloc());
+    let rt = &rt;
+    let dark = wide_plane(rt);
+    let mut bright = wide_plane(rt);
     fill(&mut bright, 65535);
-    let wanted = (131_070, 8_589_672_450);
-    assert!(rt; sums(&rt, &dark, &bright) == wanted);
+    compare(rt, dark, bright, (131_070, 8_589_672_450, Some((0, 0))));
 }
+
+/// Places, and how far the block is from what the plane shows there.
+static COSTS: [((usize, usize), Option<u128>); 4] = [
+    ((0, 0), Some(8)),
+    ((1, 1), Some(8)),
+    ((2, 1), None),
+    ((0, 2), None),
+];
 
 /// How far a block is from what a plane shows at this place.
 fn cost_at(plane: &Plane<u8>, block: &Plane<u8>, (x, y): (usize, usize)) -> Option<u128> {
     cost_of_block(&plane.as_plane_ref(), &block.as_plane_ref(), x, y)
 }
 
+/// Stops the test where a block is not as far from what a plane shows as [`COSTS`] tells.
+fn compare_block(rt: &impl Abort, plane: Plane<u8>, block: Plane<u8>) {
+    for (place, cost) in &COSTS {
+        let told = cost_at(&plane, &block, *place);
+        same(rt, (*place, told), (*place, *cost));
+    }
+    drop(block);
+    drop(plane);
+}
+
 #[test]
 fn a_block_is_compared(rt: HostRuntime) {
-    let plane = luma(showing(&rt, rt.alloc(), SQUARE, &[1, 2, 3, 4, 5, 6, 7, 8, 9]));
-    let block = luma(showing(&rt, rt.alloc(), (2, 2, [0, 1, 0, 1]), &[5, 5, 5, 5]));
-    assert!(rt; cost_at(&plane, &block, (0, 0)) == Some(8));
-    assert!(rt; cost_at(&plane, &block, (1, 1)) == Some(8));
-    assert!(rt; cost_at(&plane, &block, (2, 1)).is_none());
-    assert!(rt; cost_at(&plane, &block, (0, 2)).is_none());
+    let rt = &rt;
+    let plane = showing(rt, SQUARE, &[1, 2, 3, 4, 5, 6, 7, 8, 9]);
+    let block = showing(rt, (2, 2, [0, 1, 0, 1]), &[5, 5, 5, 5]);
+    compare_block(rt, plane, block);
 }
 
 #[test]
 fn a_border_continues_the_picture(rt: HostRuntime) {
-    let mut plane = luma(showing(&rt, rt.alloc(), BORDERED_ALL_ROUND, &[1, 2, 3, 4, 5, 6]));
+    let rt = &rt;
+    let mut plane = showing(rt, BORDERED_ALL_ROUND, &[1, 2, 3, 4, 5, 6]);
     pad(&mut plane);
-    let wanted: [u8; 24] = [
+    let wanted = [
         1, 1, 2, 3, 3, 3, 1, 1, 2, 3, 3, 3, 4, 4, 5, 6, 6, 6, 4, 4, 5, 6, 6, 6,
     ];
-    assert!(rt; plane.data() == wanted.as_slice());
+    has_entries(rt, plane, &wanted);
 }
 
 /// Shows in `target` the picture of half the size.
-fn halved(rt: &impl Abort, source: &Plane<u8>, target: &mut Plane<u8>) {
-    let wide = source.width() == 6 && target.width() == 3;
-    if !wide || source.height() != 4 || target.height() != 2 {
-        panic!(rt; "another size");
-    }
-    downscale(&source.as_plane_ref(), target);
+fn halved(rt: &impl Abort, source: Plane<u8>, mut target: Plane<u8>) -> Plane<u8> {
+    has_size(rt, &source, 6, 4);
+    has_size(rt, &target, 3, 2);
+    downscale(&source.as_plane_ref(), &mut target);
+    drop(source);
+    target
 }
 
 #[test]
 fn half_the_size_is_shown(rt: HostRuntime) {
+    let rt = &rt;
     let pixels = [
         0, 1, 10, 20, 255, 255, 2, 4, 30, 41, 255, 254, 7, 7, 0, 1, 1, 0, 7, 8, 1, 0, 0, 0,
     ];
-    let source = luma(showing(&rt, rt.alloc(), (6, 4, [1, 0, 0, 2]), &pixels));
-    let mut target = luma(bordered(&rt, rt.alloc(), [1, 2, 3, 4, 5, 6]));
-    halved(&rt, &source, &mut target);
-    assert!(rt; target.data() == bordered_buffer([2, 25, 255, 7, 1, 0]).as_slice());
+    let source = showing(rt, (6, 4, [1, 0, 0, 2]), &pixels);
+    let target = bordered(rt, [1, 2, 3, 4, 5, 6]);
+    has_in_border(rt, halved(rt, source, target), [2, 25, 255, 7, 1, 0]);
 }
 
 #[test]
 fn pixels_are_changed(rt: HostRuntime) {
-    let mut plane = luma(bordered(&rt, rt.alloc(), [1, 2, 3, 150, 200, 255]));
+    let rt = &rt;
+    let mut plane = bordered(rt, [1, 2, 3, 150, 200, 255]);
     halve_pixels(&mut plane);
-    assert!(rt; plane.data() == bordered_buffer([0, 1, 1, 75, 100, 127]).as_slice());
+    has_in_border(rt, plane, [0, 1, 1, 75, 100, 127]);
 }
 
 /// Mixes a plane with another one.
-fn mixed(rt: &impl Abort, plane: &mut Plane<u8>, other: &Plane<u8>) {
-    let other = other.as_plane_ref();
-    same_size(rt, &other, &plane.as_plane_ref());
-    mix_with(plane, &other);
+fn mixed(rt: &impl Abort, mut plane: Plane<u8>, other: Plane<u8>) -> Plane<u8> {
+    has_size(rt, &plane, 3, 2);
+    has_size(rt, &other, 3, 2);
+    mix_with(&mut plane, &other.as_plane_ref());
+    drop(other);
+    plane
 }
 
 #[test]
 fn pixels_are_mixed(rt: HostRuntime) {
-    let mut plane = luma(bordered(&rt, rt.alloc(), [0, 1, 1, 75, 100, 127]));
-    let other = luma(showing(&rt, rt.alloc(), BORDERED_ALL_ROUND, &[1, 2, 3, 4, 5, 6]));
-    mixed(&rt, &mut plane, &other);
-    assert!(rt; plane.data() == bordered_buffer([0, 1, 2, 39, 52, 66]).as_slice());
+    let rt = &rt;
+    let plane = bordered(rt, [0, 1, 1, 75, 100, 127]);
+    let other = showing(rt, BORDERED_ALL_ROUND, &[1, 2, 3, 4, 5, 6]);
+    has_in_border(rt, mixed(rt, plane, other), [0, 1, 2, 39, 52, 66]);
 }
 
 /// Places a picture of two pixels at the end of the second row of a plane.
-fn placed(rt: &impl Abort, picture: &Plane<u8>, plane: &mut Plane<u8>) {
-    if plane.width() != 3 || plane.height() != 2 || picture.width() != 2 || picture.height() != 1 {
-        panic!(rt; "another size");
-    }
-    copy_region(&picture.as_plane_ref(), plane, 1, 1);
+fn placed(rt: &impl Abort, picture: Plane<u8>, mut plane: Plane<u8>) -> Plane<u8> {
+    has_size(rt, &plane, 3, 2);
+    has_size(rt, &picture, 2, 1);
+    copy_region(&picture.as_plane_ref(), &mut plane, 1, 1);
+    drop(picture);
+    plane
 }
 
 #[test]
 fn a_picture_is_placed_on_a_ground(rt: HostRuntime) {
-    let mut plane = luma(bordered(&rt, rt.alloc(), [1, 2, 3, 4, 5, 6]));
-    let picture = luma(showing(&rt, rt.alloc(), (2, 1, [1, 1, 1, 1]), &[7, 8]));
+    let rt = &rt;
+    let mut plane = bordered(rt, [1, 2, 3, 4, 5, 6]);
     fill(&mut plane, 9);
-    assert!(rt; plane.data() == bordered_buffer([9; 6]).as_slice());
-    placed(&rt, &picture, &mut plane);
-    assert!(rt; plane.data() == bordered_buffer([9, 9, 9, 9, 7, 8]).as_slice());
+    same(rt, plane.data(), &bordered_buffer([9; 6]));
+    let picture = showing(rt, (2, 1, [1, 1, 1, 1]), &[7, 8]);
+    has_in_border(rt, placed(rt, picture, plane), [9, 9, 9, 9, 7, 8]);
 }
 
 /// Softens a plane into another one of its size, where it has a border all round.
-fn softened(rt: &impl Abort, plane: &mut Plane<u8>, target: &mut Plane<u8>) {
-    same_size(rt, &target.as_plane_ref(), &plane.as_plane_ref());
+fn softened(rt: &impl Abort, mut plane: Plane<u8>, mut target: Plane<u8>) -> Plane<u8> {
+    has_size(rt, &plane, 3, 3);
+    has_size(rt, &target, 3, 3);
     let geometry = plane.geometry();
-    let beside = geometry.pad_left() > 0 && geometry.pad_right() > 0;
-    if !beside || geometry.pad_top() == 0 || geometry.pad_bottom() == 0 {
-        panic!(rt; "no border");
-    }
-    soften(plane, target);
+    same_length(rt, geometry.pad_left(), 1);
+    same_length(rt, geometry.pad_right(), 1);
+    same_length(rt, geometry.pad_top(), 1);
+    same_length(rt, geometry.pad_bottom(), 1);
+    soften(&mut plane, &mut target);
+    drop(plane);
+    target
 }
 
-/// Numbers the entries of a plane from 100 on.
-fn number_entries(plane: &mut Plane<u8>) {
-    for (number, entry) in (100u8..).zip(plane.data_mut().iter_mut()) {
-        *entry = number;
-    }
-}
+/// Entries that are numbered from 100 on.
+static NUMBERED: [u8; 20] = [
+    100, 101, 102, 103, 104, 105, 106, 107, 108, 109, 110, 111, 112, 113, 114, 115, 116, 117, 118,
+    119,
+];
 
 #[test]
 fn a_plane_is_softened(rt: HostRuntime) {
-    let pixels = [0, 0, 0, 0, 90, 0, 0, 0, 9];
-    let mut plane = luma(showing(&rt, rt.alloc(), SQUARE, &pixels));
-    let mut target = luma(showing(&rt, rt.alloc(), (3, 3, [2, 0, 1, 0]), &[1; 9]));
-    number_entries(&mut target);
-    softened(&rt, &mut plane, &mut target);
+    let rt = &rt;
+    let plane = showing(rt, SQUARE, &[0, 0, 0, 0, 90, 0, 0, 0, 9]);
+    let mut target = showing(rt, (3, 3, [2, 0, 1, 0]), &[1; 9]);
+    write_entries(rt, target.data_mut(), &NUMBERED);
     let wanted = [
         100, 101, 102, 103, 104, 105, 106, 10, 10, 10, 110, 111, 10, 11, 12, 115, 116, 10, 12, 14,
     ];
-    assert!(rt; target.data() == wanted.as_slice());
+    has_entries(rt, softened(rt, plane, target), &wanted);
 }

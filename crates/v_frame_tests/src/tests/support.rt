@@ -1,5 +1,6 @@
-//! What tests of more than one file stand on: frames, buffers and texts.
+//! What tests of more than one file stand on: checks, frames, buffers and texts.
 
 pub mod buffers;
+pub mod checks;
 pub mod frames;
 pub mod texts;

@@ -1,7 +1,7 @@
 //! YUV4MPEG2 streams: headers as ffmpeg writes them, the text of each refusal, and streams that are copied or cut off.
 
-use crate::tests::support::texts::shows;
-use std::alloc::Global;
+use crate::tests::support::checks::same;
+use crate::tests::support::texts::text_of;
 use std::io::{self, ErrorKind, Read};
 use std::process::Abort;
 use v_frame::frame::Frame;
@@ -19,23 +19,26 @@ static LINES: [&str; 6] = [
     "YUV4MPEG2 W37 H15 F25:1 Ip A20:21 Cmono10 XCOLORRANGE=FULL",
 ];
 
-/// What is written for what a line says.
-fn written_back(rt: &impl Abort, alloc: Global, line: &str) -> Vec<u8> {
-    let header = parse_header(alloc, line.as_bytes()).expect(rt, "a header");
-    header_line(alloc, &header).expect(rt, "memory")
+/// Stops the test where another line is written for what a line says.
+fn write_back(rt: &(impl Abort + AllocGlobal), line: &str, wanted: &str) {
+    let header = parse_header(rt.alloc(), line.as_bytes()).expect(rt, "a header");
+    let written = header_line(rt.alloc(), &header).expect(rt, "memory");
+    same(rt, written.as_slice(), wanted.as_bytes());
 }
 
 #[test]
 fn headers_of_ffmpeg_come_back(rt: HostRuntime) {
+    let rt = &rt;
     for line in &LINES {
-        assert!(rt; written_back(&rt, rt.alloc(), *line).as_slice() == line.as_bytes());
+        write_back(rt, *line, *line);
     }
 }
 
 #[test]
 fn parameters_are_put_in_order(rt: HostRuntime) {
-    let written = written_back(&rt, rt.alloc(), "YUV4MPEG2 X1 C422 H12 Xb Im W35");
-    assert!(rt; written.as_slice() == b"YUV4MPEG2 W35 H12 Im C422 X1 Xb".as_slice());
+    let rt = &rt;
+    let line = "YUV4MPEG2 X1 C422 H12 Xb Im W35";
+    write_back(rt, line, "YUV4MPEG2 W35 H12 Im C422 X1 Xb");
 }
 
 /// Lines that are refused, and the message of each.
@@ -56,18 +59,19 @@ static REFUSED: [(&str, &str); 11] = [
     ("YUV4MPEG2 W36 H14 C444alpha", "unknown colour `C444alpha`"),
 ];
 
-/// Why a line is refused. Nothing where it is not.
-fn refusal(rt: &impl Abort, alloc: Global, line: &str) -> String {
-    match parse_header(alloc, line.as_bytes()) {
-        Ok(_) => String::new(alloc),
-        Err(error) => error.to_string(alloc).expect(rt, "memory"),
-    }
+/// Stops the test where a line is not refused with this message.
+fn refuse(rt: &(impl Abort + AllocGlobal), line: &str, message: &str) {
+    let refused = parse_header(rt.alloc(), line.as_bytes()).err();
+    let error = refused.expect(rt, "a refusal");
+    let told = error.to_string(rt.alloc()).expect(rt, "memory");
+    same(rt, (line, told.as_str()), (line, message));
 }
 
 #[test]
 fn refusals_say_why(rt: HostRuntime) {
+    let rt = &rt;
     for (line, message) in &REFUSED {
-        assert!(rt; refusal(&rt, rt.alloc(), *line).as_str() == *message);
+        refuse(rt, *line, *message);
     }
 }
 
@@ -77,66 +81,69 @@ abcdefghijklmnopqrstuvwxyz0123ABCDEFGHIJKLMNOPQRSTUVWXYZ4567FRAME Ip\n\
 7654ZYXWVUTSRQPONMLKJIHGFEDCBA3210zyxwvutsrqponmlkjihgfedcba";
 
 /// A frame for a stream of this header.
-fn frame_for(rt: &impl Abort, alloc: Global, header: StreamHeader) -> Frame<u8> {
-    header.frame(alloc, 0).expect(rt, "memory")
+fn frame_for(rt: &(impl Abort + AllocGlobal), header: StreamHeader) -> Frame<u8> {
+    header.frame(rt.alloc(), 0).expect(rt, "memory")
 }
 
 /// Copies two frames, and sees the end of the stream.
 fn copy_frames(
-    rt: &impl Abort,
-    alloc: Global,
+    rt: &(impl Abort + AllocGlobal),
     reader: &mut Counted<&[u8]>,
     writer: &mut Counted<Vec<u8>>,
-    mut frame: Frame<u8>,
+    frame: &mut Frame<u8>,
 ) {
     for more in [true, true, false] {
-        let copied = copy_frame(alloc, reader, writer, &mut frame).ok();
-        assert!(rt; copied == Some(more));
+        same(rt, copy_frame(rt.alloc(), reader, writer, frame), Ok(more));
     }
 }
 
 /// A copy of the stream.
-fn copied(rt: &impl Abort, alloc: Global) -> Vec<u8> {
+fn copied(rt: &(impl Abort + AllocGlobal)) -> Vec<u8> {
     let mut reader = Counted::new(STREAM);
-    let mut writer = Counted::new(Vec::new(alloc));
-    let header = copy_header(alloc, &mut reader, &mut writer).expect(rt, "a header");
-    let frame = frame_for(rt, alloc, header);
-    copy_frames(rt, alloc, &mut reader, &mut writer, frame);
+    let mut writer = Counted::new(Vec::new(rt.alloc()));
+    let header = copy_header(rt.alloc(), &mut reader, &mut writer).expect(rt, "a header");
+    let mut frame = frame_for(rt, header);
+    copy_frames(rt, &mut reader, &mut writer, &mut frame);
+    drop(frame);
     writer.into_inner()
 }
 
 #[test]
 fn a_stream_is_copied(rt: HostRuntime) {
+    let rt = &rt;
     let wanted = b"YUV4MPEG2 W30 H1 C420jpeg\nFRAME\n\
 abcdefghijklmnopqrstuvwxyz0123ABCDEFGHIJKLMNOPQRSTUVWXYZ4567FRAME\n\
 7654ZYXWVUTSRQPONMLKJIHGFEDCBA3210zyxwvutsrqponmlkjihgfedcba";
-    assert!(rt; copied(&rt, rt.alloc()).as_slice() == wanted.as_slice());
+    same(rt, copied(rt).as_slice(), wanted);
 }
 
 /// A frame for a stream, of which the header is read.
-fn frame_of<R: Read>(rt: &impl Abort, alloc: Global, reader: &mut Counted<R>) -> Frame<u8> {
-    let header = read_header(alloc, reader).expect(rt, "a header");
-    frame_for(rt, alloc, header)
+fn frame_of<R: Read>(rt: &(impl Abort + AllocGlobal), reader: &mut Counted<R>) -> Frame<u8> {
+    let header = read_header(rt.alloc(), reader).expect(rt, "a header");
+    frame_for(rt, header)
 }
 
-/// Whether the read of another frame into this one has an answer of this debug text.
-fn next_shows<R: Read>(
-    rt: &impl Abort,
-    alloc: Global,
+/// The debug text of the answer to the read of a frame.
+fn answer_of<R: Read>(
+    rt: &(impl Abort + AllocGlobal),
     reader: &mut Counted<R>,
-    mut frame: Frame<u8>,
-    answer: &str,
-) -> bool {
-    let next = read_frame(alloc, reader, &mut frame);
-    shows(rt, alloc, &next, answer)
+    frame: &mut Frame<u8>,
+) -> String {
+    text_of(rt, read_frame(rt.alloc(), reader, frame))
 }
 
-/// Whether the second of two frames has an answer of this debug text where a stream has so many bytes.
-fn second_shows(rt: &impl Abort, alloc: Global, length: usize, answer: &str) -> bool {
+/// Stops the test where the read of the second frame has another answer, where a stream has so many bytes.
+fn cut_off(rt: &(impl Abort + AllocGlobal), length: usize, wanted: &str) {
     let mut reader = Counted::new(&STREAM[..length.min(STREAM.len())]);
-    let mut frame = frame_of(rt, alloc, &mut reader);
-    read_frame(alloc, &mut reader, &mut frame).expect(rt, "a frame");
-    next_shows(rt, alloc, &mut reader, frame, answer)
+    let mut frame = frame_of(rt, &mut reader);
+    same(
+        rt,
+        answer_of(rt, &mut reader, &mut frame).as_str(),
+        "Ok(true)",
+    );
+    let answer = answer_of(rt, &mut reader, &mut frame);
+    drop(frame);
+    same(rt, (length, answer.as_str()), (length, wanted));
 }
 
 /// Lengths of the stream, and the debug text of the answer.
@@ -149,11 +156,9 @@ static CUT_OFF: [(usize, &str); 4] = [
 
 #[test]
 fn streams_that_are_cut_off_say_where(rt: HostRuntime) {
+    let rt = &rt;
     for (length, answer) in &CUT_OFF {
-        assert!(rt;
-            second_shows(&rt, rt.alloc(), *length, *answer),
-            "{length} bytes"
-        );
+        cut_off(rt, *length, *answer);
     }
 }
 
@@ -178,20 +183,24 @@ impl Read for ByteByByte<'_> {
     }
 }
 
-/// The first frame of a stream.
-fn first_frame(rt: &impl Abort, alloc: Global, reader: &mut Counted<ByteByByte<'_>>) -> Frame<u8> {
-    let mut frame = frame_of(rt, alloc, reader);
-    let read = read_frame(alloc, reader, &mut frame).ok();
-    assert!(rt; read == Some(true));
-    frame
-}
-
 #[test]
 fn streams_come_byte_by_byte(rt: HostRuntime) {
+    let rt = &rt;
     let left = STREAM;
     let mut reader = Counted::new(ByteByByte { left, calls: 100 });
-    let frame = first_frame(&rt, rt.alloc(), &mut reader);
-    assert!(rt; frame.y_plane.row(0) == Some(b"abcdefghijklmnopqrstuvwxyz0123".as_slice()));
-    let is_told = next_shows(&rt, rt.alloc(), &mut reader, frame, "Err(Planar(Read))");
-    assert!(rt; is_told && reader.last_failure() == Some(ErrorKind::BrokenPipe));
+    let mut frame = frame_of(rt, &mut reader);
+    same(
+        rt,
+        read_frame(rt.alloc(), &mut reader, &mut frame),
+        Ok(true),
+    );
+    same(
+        rt,
+        frame.y_plane.row(0),
+        Some(b"abcdefghijklmnopqrstuvwxyz0123"),
+    );
+    let answer = answer_of(rt, &mut reader, &mut frame);
+    drop(frame);
+    same(rt, answer.as_str(), "Err(Planar(Read))");
+    same(rt, reader.last_failure(), Some(ErrorKind::BrokenPipe));
 }

@@ -4,6 +4,7 @@ pub mod answers;
 pub mod buffers;
 pub mod bytes;
 pub mod calls;
+pub mod checks;
 pub mod frames;
 pub mod options;
 pub mod planar;

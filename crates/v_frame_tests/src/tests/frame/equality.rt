@@ -1,35 +1,43 @@
 //! What frames are equal.
 
-use std::alloc::Global;
+use crate::tests::support::checks::{compared, same};
 use std::num::NonZeroU8;
 use std::process::Abort;
 use v_frame::chroma::ChromaSubsampling::{self, Yuv420, Yuv444};
 use v_frame::frame::{Frame, FrameBuilder};
+use v_frame::plane::Plane;
 
 /// A format, a depth, the planes that are kept, and the one whose first pixel is marked.
 type Change = (ChromaSubsampling, u8, [bool; 2], Option<usize>);
 
 /// A frame of zeros, two pixels by two in 4:2:0, whose fields and pixels are changed so.
 fn changed(
-    rt: &impl Abort,
-    alloc: Global,
+    rt: &(impl Abort + AllocGlobal),
     (subsampling, depth, [keeps_u, keeps_v], marked): Change,
 ) -> Frame<u16> {
     let builder = FrameBuilder::new(2, 2, Yuv420, 10);
-    let mut frame = builder.build::<u16>(alloc).expect(rt, "a frame");
-    if let Some(index) = marked {
+    let mut frame = builder.build::<u16>(rt.alloc()).expect(rt, "a frame");
+    mark(rt, &mut frame, marked);
+    frame.subsampling = subsampling;
+    frame.bit_depth = NonZeroU8::new(depth).expect(rt, "a depth");
+    keep(&mut frame.u_plane, keeps_u);
+    keep(&mut frame.v_plane, keeps_v);
+    frame
+}
+
+/// Marks the first pixel of the plane of this index.
+fn mark(rt: &impl Abort, frame: &mut Frame<u16>, index: Option<usize>) {
+    if let Some(index) = index {
         let plane = frame.plane_mut(index).expect(rt, "a plane");
         *plane.pixel_mut(0, 0).expect(rt, "a pixel") = 1;
     }
-    frame.subsampling = subsampling;
-    frame.bit_depth = NonZeroU8::new(depth).expect(rt, "a depth");
-    if !keeps_u {
-        frame.u_plane = None;
+}
+
+/// Drops a plane that is not kept.
+fn keep(plane: &mut Option<Plane<u16>>, is_kept: bool) {
+    if !is_kept {
+        *plane = None;
     }
-    if !keeps_v {
-        frame.v_plane = None;
-    }
-    frame
 }
 
 /// Changes that make another frame.
@@ -46,18 +54,18 @@ static CHANGES: [Change; 7] = [
 /// No change.
 const UNCHANGED: Change = (Yuv420, 10, [true, true], None);
 
-/// Whether a frame is equal to one that is changed so, and whether it is unequal.
-fn compared(rt: &impl Abort, alloc: Global, change: Change) -> (bool, bool) {
-    let frame = changed(rt, alloc, UNCHANGED);
-    let other = changed(rt, alloc, change);
-    (frame == other, frame != other)
+/// Stops the test where a frame that is changed so is not equal, or not unequal, as it is wanted.
+fn compare(rt: &(impl Abort + AllocGlobal), change: Change, wanted: (bool, bool)) {
+    let frame = changed(rt, UNCHANGED);
+    let other = changed(rt, change);
+    same(rt, (change, compared(frame, other)), (change, wanted));
 }
 
 #[test]
 fn frames_are_equal_in_all_five_fields(rt: HostRuntime) {
-    assert!(rt; compared(&rt, rt.alloc(), UNCHANGED) == (true, false));
+    let rt = &rt;
+    compare(rt, UNCHANGED, (true, false));
     for change in &CHANGES {
-        let told = compared(&rt, rt.alloc(), *change);
-        assert!(rt; told == (false, true), "{change:?}");
+        compare(rt, *change, (false, true));
     }
 }

@@ -1,7 +1,7 @@
 //! Why a read, a write or a flush failed.
 
+use crate::tests::support::checks::same;
 use crate::tests::support::texts::shows;
-use std::alloc::Global;
 use std::io::{self, ErrorKind, Read, Write};
 use std::process::Abort;
 use v_frame::chroma::ChromaSubsampling;
@@ -61,81 +61,92 @@ fn failures_of<D>(inner: &Counted<D>) -> (Option<ErrorKind>, u64) {
     (inner.last_failure(), inner.failures())
 }
 
-/// Whether a read fails.
-fn fails_to_read(inner: &mut Counted<Broken>) -> bool {
-    inner.read(&mut [0; 2]).is_err()
-}
-
-/// Whether a write and a flush fail.
-fn fails_to_write(inner: &mut Counted<Broken>) -> bool {
-    inner.write(&[1, 2]).is_err() && inner.flush().is_err()
+/// Stops the test where a read does not fail for this cause as the first of all, or a write and a flush as the next ones.
+fn fails_for(rt: &impl Abort, cause: ErrorKind) {
+    let mut inner = Counted::new(Broken(cause));
+    same(rt, failures_of(&inner), (None, 0));
+    same(rt, (cause, inner.read(&mut [0; 2]).is_err()), (cause, true));
+    same(rt, failures_of(&inner), (Some(cause), 1));
+    same(rt, (cause, inner.write(&[1, 2]).is_err()), (cause, true));
+    same(rt, (cause, inner.flush().is_err()), (cause, true));
+    same(rt, failures_of(&inner), (Some(cause), 3));
 }
 
 #[test]
 fn the_cause_of_each_failure_is_told(rt: HostRuntime) {
+    let rt = &rt;
     for cause in &CAUSES {
-        let cause = *cause;
-        let mut inner = Counted::new(Broken(cause));
-        assert!(rt; inner.last_failure().is_none() && fails_to_read(&mut inner));
-        assert!(rt; failures_of(&inner) == (Some(cause), 1) && fails_to_write(&mut inner));
-        assert!(rt; failures_of(&inner) == (Some(cause), 3));
+        fails_for(rt, *cause);
     }
 }
 
-/// A frame that a broken reader failed to read.
-fn unread(rt: &impl Abort, alloc: Global, reader: &mut Counted<Broken>) -> Frame<u8> {
-    let frame = video_frame::<u8>(alloc, 3, 3, ChromaSubsampling::Yuv420, 8, 0);
-    let mut frame = frame.expect(rt, "a frame");
-    assert!(rt; read_frame(alloc, reader, &mut frame) == Err(PlanarError::Read));
-    frame
+/// Stops the test where a frame is read from a broken reader.
+fn is_unread(rt: &(impl Abort + AllocGlobal), reader: &mut Counted<Broken>, frame: &mut Frame<u8>) {
+    same(
+        rt,
+        read_frame(rt.alloc(), reader, frame),
+        Err(PlanarError::Read),
+    );
 }
 
-/// Whether a frame is not written, which is the second failure, and the next one has the same cause.
-fn is_unwritten(writer: &mut Counted<Broken>, frame: Frame<u8>, cause: ErrorKind) -> bool {
-    let fails = write_frame(writer, &frame) == Err(PlanarError::Write);
-    let is_told = fails && failures_of(writer) == (Some(cause), 2);
-    is_told && write_or_cause(writer, &frame) == Err(cause)
+/// Stops the test where a frame is written, or the failure is not the second one, or the next one has another cause.
+fn is_unwritten(
+    rt: &impl Abort,
+    writer: &mut Counted<Broken>,
+    frame: &Frame<u8>,
+    cause: ErrorKind,
+) {
+    same(rt, write_frame(writer, frame), Err(PlanarError::Write));
+    same(rt, failures_of(writer), (Some(cause), 2));
+    same(rt, write_or_cause(writer, frame), Err(cause));
 }
 
 #[test]
 fn frames_tell_the_cause(rt: HostRuntime) {
+    let rt = &rt;
     let cause = ErrorKind::StorageFull;
     let mut inner = Counted::new(Broken(cause));
-    let frame = unread(&rt, rt.alloc(), &mut inner);
-    assert!(rt; inner.last_failure() == Some(cause));
-    assert!(rt; is_unwritten(&mut inner, frame, cause));
+    let frame = video_frame::<u8>(rt.alloc(), 3, 3, ChromaSubsampling::Yuv420, 8, 0);
+    let mut frame = frame.expect(rt, "a frame");
+    is_unread(rt, &mut inner, &mut frame);
+    same(rt, inner.last_failure(), Some(cause));
+    is_unwritten(rt, &mut inner, &frame, cause);
+    drop(frame);
 }
 
 #[test]
 fn what_fails_nothing_tells_nothing(rt: HostRuntime) {
-    let bytes = [1, 2, 3, 4, 5];
-    let mut reader = Counted::new(bytes.as_slice());
+    let rt = &rt;
+    let mut reader = Counted::new([1, 2, 3, 4, 5].as_slice());
     let told = first_picture(rt.alloc(), &mut reader, 3, 3).err();
     let truncated = "Some(Planar(Truncated { expected: 17, found: 5 }))";
-    assert!(rt; shows(&rt, rt.alloc(), &told, truncated));
-    assert!(rt; reader.last_failure().is_none());
+    shows(rt, told, truncated);
+    same(rt, reader.last_failure(), None);
 }
 
 /// A picture of 3 by 2 pixels, whose bytes count from 1.
-fn odd_picture(rt: &impl Abort, alloc: Global) -> Frame<u8> {
+fn odd_picture(rt: &(impl Abort + AllocGlobal)) -> Frame<u8> {
     let bytes = [1, 2, 3, 4, 5, 6, 7, 8, 9, 10, 11, 12];
     let mut reader = Counted::new(bytes.as_slice());
-    let picture = first_picture(alloc, &mut reader, 3, 2).expect(rt, "a picture");
+    let picture = first_picture(rt.alloc(), &mut reader, 3, 2).expect(rt, "a picture");
     picture.expect(rt, "a picture before the end")
 }
 
-/// Whether the plane of this index is there and shows these pixels in row `y`.
-fn has_row(frame: &Frame<u8>, index: usize, y: usize, pixels: &[u8]) -> bool {
+/// What the plane of this index shows in row `y`, where it is there.
+fn row_of(frame: &Frame<u8>, index: usize, y: usize) -> Option<&[u8]> {
     match frame.plane(index) {
-        Some(plane) => plane.row(y) == Some(pixels),
-        None => false,
+        Some(plane) => plane.row(y),
+        None => None,
     }
 }
 
 #[test]
 fn an_odd_picture_is_read(rt: HostRuntime) {
-    let picture = odd_picture(&rt, rt.alloc());
-    assert!(rt; has_row(&picture, 0, 1, &[4, 5, 6]) && has_row(&picture, 2, 0, &[9, 10]));
+    let rt = &rt;
+    let picture = odd_picture(rt);
+    same(rt, row_of(&picture, 0, 1), Some(&[4, 5, 6]));
+    same(rt, row_of(&picture, 2, 0), Some(&[9, 10]));
+    drop(picture);
 }
 
 /// How many bytes a writer keeps, and how many it sent.
@@ -144,15 +155,20 @@ fn counts_of(writer: &Counted<Keeping>) -> (usize, usize) {
     (inner.kept, inner.sent)
 }
 
-/// Whether a picture of 10 bytes is kept, and whether the next one sends both on their way.
-fn are_sent(writer: &mut Counted<Keeping>, picture: Frame<u8>) -> bool {
-    let is_kept = write_frame(writer, &picture) == Ok(()) && counts_of(writer) == (10, 0);
-    is_kept && write_and_flush(writer, &picture) == Ok(()) && counts_of(writer) == (0, 20)
+/// Stops the test where a picture of 10 bytes is not kept, or the next one does not send both on their way.
+fn are_sent(rt: &impl Abort, writer: &mut Counted<Keeping>, picture: &Frame<u8>) {
+    same(rt, write_frame(writer, picture), Ok(()));
+    same(rt, counts_of(writer), (10, 0));
+    same(rt, write_and_flush(writer, picture), Ok(()));
+    same(rt, counts_of(writer), (0, 20));
 }
 
 #[test]
 fn an_odd_picture_is_sent_on_its_way(rt: HostRuntime) {
-    let picture = odd_picture(&rt, rt.alloc());
+    let rt = &rt;
+    let picture = odd_picture(rt);
     let mut writer = Counted::new(Keeping { kept: 0, sent: 0 });
-    assert!(rt; are_sent(&mut writer, picture) && failures_of(&writer) == (None, 0));
+    are_sent(rt, &mut writer, &picture);
+    drop(picture);
+    same(rt, failures_of(&writer), (None, 0));
 }

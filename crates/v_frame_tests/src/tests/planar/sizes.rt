@@ -1,8 +1,8 @@
 //! Frames of any size in every format: the sizes of chroma, the border, and what is refused.
 
-use crate::tests::support::texts::shows;
+use crate::tests::support::checks::same;
+use crate::tests::support::texts::text_of;
 use ChromaSubsampling::{Monochrome, Yuv411, Yuv420, Yuv422, Yuv444};
-use std::alloc::Global;
 use std::process::Abort;
 use v_frame::chroma::ChromaSubsampling;
 use v_frame::frame::{Frame, FrameBuilder};
@@ -16,15 +16,6 @@ fn size_of<T>(plane: Option<&Plane<T>>) -> Option<(usize, usize)> {
         Some(plane) => Some((plane.width(), plane.height())),
         None => None,
     }
-}
-
-/// The sizes of the three planes of a frame.
-fn sizes_of<T: Pixel>(frame: &Frame<T>) -> [Option<(usize, usize)>; 3] {
-    [
-        size_of(frame.plane(0)),
-        size_of(frame.plane(1)),
-        size_of(frame.plane(2)),
-    ]
 }
 
 /// Sizes of luma, formats, and sizes of chroma.
@@ -45,36 +36,36 @@ static SIZES: [((usize, usize), ChromaSubsampling, Option<(usize, usize)>); 14] 
     ((35, 27), Monochrome, None),
 ];
 
-/// The format and the depth of a video frame, and the sizes of its planes.
-fn described<T: Pixel>(
-    rt: &impl Abort,
-    alloc: Global,
-    (width, height): (usize, usize),
-    subsampling: ChromaSubsampling,
-    bit_depth: u8,
-) -> (ChromaSubsampling, u8, [Option<(usize, usize)>; 3]) {
-    let frame = video_frame::<T>(alloc, width, height, subsampling, bit_depth, 3);
-    let frame = frame.expect(rt, "a frame");
-    (frame.subsampling, frame.bit_depth.get(), sizes_of(&frame))
+/// The format and the depth of a frame, and the sizes of its planes.
+fn described<T: Pixel>(frame: &Frame<T>) -> (ChromaSubsampling, u8, [Option<(usize, usize)>; 3]) {
+    let sizes = [
+        size_of(frame.plane(0)),
+        size_of(frame.plane(1)),
+        size_of(frame.plane(2)),
+    ];
+    (frame.subsampling, frame.bit_depth.get(), sizes)
 }
 
 /// Stops the test where a frame of this size has chroma of another one.
 fn check_sizes<T: Pixel>(
-    rt: &impl Abort,
-    alloc: Global,
+    rt: &(impl Abort + AllocGlobal),
     (luma, subsampling, chroma): ((usize, usize), ChromaSubsampling, Option<(usize, usize)>),
     bit_depth: u8,
 ) {
-    let told = described::<T>(rt, alloc, luma, subsampling, bit_depth);
+    let (width, height) = luma;
+    let frame = video_frame::<T>(rt.alloc(), width, height, subsampling, bit_depth, 3);
+    let frame = frame.expect(rt, "a frame");
     let wanted = (subsampling, bit_depth, [Some(luma), chroma, chroma]);
-    assert!(rt; told == wanted, "{luma:?} {subsampling:?}");
+    same(rt, described(&frame), wanted);
+    drop(frame);
 }
 
 #[test]
 fn chroma_covers_luma_of_any_size(rt: HostRuntime) {
+    let rt = &rt;
     for sizes in &SIZES {
-        check_sizes::<u8>(&rt, rt.alloc(), *sizes, 8);
-        check_sizes::<u16>(&rt, rt.alloc(), *sizes, 10);
+        check_sizes::<u8>(rt, *sizes, 8);
+        check_sizes::<u16>(rt, *sizes, 10);
     }
 }
 
@@ -91,31 +82,42 @@ fn border_of<T>(plane: Option<&Plane<T>>) -> Option<[usize; 4]> {
 
 #[test]
 fn a_border_is_rounded_up_until_chroma_divides(rt: HostRuntime) {
-    let frame: Frame<u8> = video_frame(rt.alloc(), 7, 5, Yuv411, 8, 5).expect(&rt, "a frame");
-    let borders = (border_of(frame.plane(0)), border_of(frame.plane(1)));
-    assert!(rt; borders == (Some([8, 8, 5, 5]), Some([2, 2, 5, 5])));
+    let rt = &rt;
+    let frame: Frame<u8> = video_frame(rt.alloc(), 7, 5, Yuv411, 8, 5).expect(rt, "a frame");
+    same(rt, border_of(frame.plane(0)), Some([8, 8, 5, 5]));
+    same(rt, border_of(frame.plane(1)), Some([2, 2, 5, 5]));
+    drop(frame);
 }
 
-/// Whether video has the same frame as the builder, which makes one.
-fn is_as_built(alloc: Global, subsampling: ChromaSubsampling) -> bool {
+/// Stops the test where video has another frame than the builder.
+fn is_as_built(rt: &(impl Abort + AllocGlobal), subsampling: ChromaSubsampling) {
     let built = FrameBuilder::new(8, 6, subsampling, 10)
         .luma_padding_left(4)
         .luma_padding_right(4)
         .luma_padding_top(4)
         .luma_padding_bottom(4)
-        .build::<u16>(alloc);
-    built.is_ok() && video_frame(alloc, 8, 6, subsampling, 10, 4) == built
+        .build::<u16>(rt.alloc())
+        .expect(rt, "a frame");
+    same(
+        rt,
+        video_frame(rt.alloc(), 8, 6, subsampling, 10, 4),
+        Ok(built),
+    );
 }
 
 #[test]
 fn a_frame_that_divides_is_as_built(rt: HostRuntime) {
+    let rt = &rt;
     for subsampling in [Yuv420, Yuv422, Yuv411, Yuv444, Monochrome] {
-        assert!(rt; is_as_built(rt.alloc(), subsampling));
+        is_as_built(rt, subsampling);
     }
 }
 
-/// Widths, heights, depths and paddings of which there is no frame of bytes in 4:2:0, and the debug text of the reason.
-static REFUSED: [((usize, usize), u8, usize, &str); 10] = [
+/// The width and the height, the depth and the padding of no frame of bytes in 4:2:0, and the debug text of the reason.
+type Refusal = ((usize, usize), u8, usize, &'static str);
+
+/// What is refused.
+static REFUSED: [Refusal; 10] = [
     ((0, 1), 7, 0, "Some(UnsupportedBitDepth { found: 7 })"),
     ((0, 1), 10, 0, "Some(DataTypeMismatch)"),
     ((0, 1), 8, 0, "Some(UnsupportedResolution)"),
@@ -143,15 +145,19 @@ static REFUSED: [((usize, usize), u8, usize, &str); 10] = [
     ),
 ];
 
+/// Stops the test where a frame is refused for another reason.
+fn check_refusal(rt: &(impl Abort + AllocGlobal), refusal: Refusal) {
+    let (size, depth, padding, _) = refusal;
+    let (width, height) = size;
+    let frame = video_frame::<u8>(rt.alloc(), width, height, Yuv420, depth, padding);
+    let told = text_of(rt, frame.err());
+    same(rt, (size, depth, padding, told.as_str()), refusal);
+}
+
 #[test]
 fn frames_are_refused_for_the_first_reason(rt: HostRuntime) {
-    for (size, depth, padding, reason) in &REFUSED {
-        let (width, height) = *size;
-        let frame = video_frame::<u8>(rt.alloc(), width, height, Yuv420, *depth, *padding);
-        let told = frame.err();
-        assert!(rt;
-            shows(&rt, rt.alloc(), &told, *reason),
-            "{width} by {height}"
-        );
+    let rt = &rt;
+    for refusal in &REFUSED {
+        check_refusal(rt, *refusal);
     }
 }

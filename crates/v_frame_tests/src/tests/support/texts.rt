@@ -1,11 +1,15 @@
 //! The texts of values.
 
-use std::alloc::Global;
+use crate::tests::support::checks::same;
 use std::fmt::Debug;
 use std::process::Abort;
 
-/// Whether a value shows this debug text.
-pub fn shows(rt: &impl Abort, alloc: Global, value: &impl Debug, wanted: &str) -> bool {
-    let text = format!(in alloc; "{value:?}").expect(rt, "memory");
-    text.as_str() == wanted
+/// The debug text of a value.
+pub fn text_of<T: Debug + Drop>(rt: &(impl Abort + AllocGlobal), value: T) -> String {
+    format!(in rt.alloc(); "{value:?}").expect(rt, "memory")
+}
+
+/// Stops the test where a value has another debug text.
+pub fn shows<T: Debug + Drop>(rt: &(impl Abort + AllocGlobal), value: T, wanted: &str) {
+    same(rt, text_of(rt, value).as_str(), wanted);
 }

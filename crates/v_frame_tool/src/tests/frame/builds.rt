@@ -1,9 +1,8 @@
 //! Frames that are built: the sizes of their planes, and what these hold.
 
-use crate::tests::support::frames::{built, mark, padded, zeros};
+use crate::tests::support::checks::{Test, must, must_at, must_have};
+use crate::tests::support::frames::{blank_plane, built, mark, padded};
 use crate::tests::support::reads::numbers_of;
-use std::alloc::Global;
-use std::process::Abort;
 use v_frame::chroma::ChromaSubsampling::{self, Monochrome, Yuv411, Yuv420, Yuv422, Yuv444};
 use v_frame::frame::Frame;
 use v_frame::pixel::Pixel;
@@ -45,48 +44,49 @@ static WORDS: [Built; 9] = [
     (((3840, 2160), Yuv420, 10, [0; 4]), Some((1920, 1080))),
 ];
 
-/// The size of a plane, where it is there.
-fn size<T: Pixel>(plane: Option<&Plane<T>>) -> Option<(usize, usize)> {
+/// Whether a plane has this size, or is not there where it has none.
+fn has_size<T: Pixel>(plane: Option<&Plane<T>>, size: Option<(usize, usize)>) -> bool {
     match plane {
-        Some(plane) => Some((plane.width(), plane.height())),
-        None => None,
+        Some(plane) => Some((plane.width(), plane.height())) == size,
+        None => size.is_none(),
     }
 }
 
 /// Whether a frame is built as asked, with chroma planes of this size.
 fn is_built<T: Pixel>(
-    rt: &impl Abort,
-    alloc: Global,
+    rt: &impl Test,
     (luma, format, depth, padding): Shape,
     chroma: Option<(usize, usize)>,
 ) -> bool {
-    let frame = built::<T>(rt, alloc, padded(luma, format, depth, padding));
-    let is_format = (frame.subsampling, frame.bit_depth.get()) == (format, depth);
-    is_format && has_sizes(frame, luma, chroma)
+    let frame = built::<T>(rt, padded(luma, format, depth, padding));
+    let is_format = frame.subsampling == format && frame.bit_depth.get() == depth;
+    let is_sized = has_sizes(&frame, luma, chroma);
+    drop(frame);
+    is_format && is_sized
 }
 
 /// Whether a frame has planes of these sizes.
 fn has_sizes<T: Pixel>(
-    frame: Frame<T>,
+    frame: &Frame<T>,
     luma: (usize, usize),
     chroma: Option<(usize, usize)>,
 ) -> bool {
-    size(frame.plane(0)) == Some(luma)
-        && size(frame.plane(1)) == chroma
-        && size(frame.plane(2)) == chroma
+    has_size(frame.plane(0), Some(luma))
+        && has_size(frame.plane(1), chroma)
+        && has_size(frame.plane(2), chroma)
 }
 
 /// Stops the test at the first of these frames that is not built as asked.
-fn check_builds<T: Pixel>(rt: &impl Abort, alloc: Global, cases: &[Built]) {
+fn check_builds<T: Pixel>(rt: &impl Test, cases: &[Built]) {
     for (number, (shape, chroma)) in cases.iter().enumerate() {
-        assert!(rt; is_built::<T>(rt, alloc, *shape, *chroma), "case {number}");
+        must_at(rt, is_built::<T>(rt, *shape, *chroma), number);
     }
 }
 
 #[test]
 fn chroma_planes_have_the_size_of_the_format(rt: HostRuntime) {
-    check_builds::<u8>(&rt, rt.alloc(), &BYTES);
-    check_builds::<u16>(&rt, rt.alloc(), &WORDS);
+    check_builds::<u8>(&rt, &BYTES);
+    check_builds::<u16>(&rt, &WORDS);
 }
 
 /// Whether a plane is there whose first pixel is this one.
@@ -99,15 +99,17 @@ fn begins_with(plane: Option<&Plane<u8>>, value: u8) -> bool {
 
 #[test]
 fn a_mark_in_each_plane(rt: HostRuntime) {
-    let mut frame = built::<u8>(&rt, rt.alloc(), padded((1920, 1080), Yuv420, 8, [0; 4]));
-    mark(&rt, &mut frame, 0, 11);
-    mark(&rt, &mut frame, 1, 22);
-    mark(&rt, &mut frame, 2, 33);
-    assert!(rt; has_marks(frame));
+    let rt = &rt;
+    let mut frame = built::<u8>(rt, padded((1920, 1080), Yuv420, 8, [0; 4]));
+    mark(rt, &mut frame, 0, 11);
+    mark(rt, &mut frame, 1, 22);
+    mark(rt, &mut frame, 2, 33);
+    must(rt, has_marks(&frame));
+    drop(frame);
 }
 
 /// Whether the three planes of a frame begin with 11, 22 and 33.
-fn has_marks(frame: Frame<u8>) -> bool {
+fn has_marks(frame: &Frame<u8>) -> bool {
     begins_with(frame.plane(0), 11)
         && begins_with(Some(&frame.y_plane), 11)
         && begins_with(frame.plane(1), 22)
@@ -153,24 +155,29 @@ static HALVED: [LaidOut<u16>; 1] = [(
 )];
 
 /// Stops the test where a luma plane or a chroma plane has another layout.
-fn check_layouts<T: Pixel>(rt: &impl Abort, alloc: Global, cases: &[LaidOut<T>]) {
-    for (number, ((size, format, depth, padding), luma, chroma)) in cases.iter().enumerate() {
-        let frame = built::<T>(rt, alloc, padded(*size, *format, *depth, *padding));
-        assert!(rt; has_layouts(frame, *luma, *chroma), "case {number}");
+fn check_layouts<T: Pixel>(rt: &impl Test, cases: &[LaidOut<T>]) {
+    for (number, case) in cases.iter().enumerate() {
+        must_at(rt, is_laid_out(rt, *case), number);
     }
 }
 
-/// Whether a frame has planes of these layouts.
-fn has_layouts<T: Pixel>(frame: Frame<T>, luma: Layout<T>, chroma: Layout<T>) -> bool {
-    has_layout(frame.plane(0), luma)
+/// Whether a frame is built with planes of these layouts.
+fn is_laid_out<T: Pixel>(
+    rt: &impl Test,
+    ((size, format, depth, padding), luma, chroma): LaidOut<T>,
+) -> bool {
+    let frame = built::<T>(rt, padded(size, format, depth, padding));
+    let are_laid_out = has_layout(frame.plane(0), luma)
         && has_layout(frame.plane(1), chroma)
-        && has_layout(frame.plane(2), chroma)
+        && has_layout(frame.plane(2), chroma);
+    drop(frame);
+    are_laid_out
 }
 
 #[test]
 fn planes_are_padded_and_zero(rt: HostRuntime) {
-    check_layouts(&rt, rt.alloc(), &PADDED);
-    check_layouts(&rt, rt.alloc(), &HALVED);
-    let frame = zeros::<u16>(&rt, rt.alloc(), (32, 16, [0; 4]));
-    assert!(rt; frame.y_plane.data() == [0; 512].as_slice());
+    let rt = &rt;
+    check_layouts(rt, &PADDED);
+    check_layouts(rt, &HALVED);
+    must_have(rt, &blank_plane::<u16>(rt, (32, 16, [0; 4])), &[0; 512]);
 }

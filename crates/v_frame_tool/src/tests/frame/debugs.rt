@@ -22,12 +22,8 @@ const HALVED: &str =
 
 #[test]
 fn chroma_planes_show_as_options(rt: HostRuntime) {
-    must_show(&rt, rt.alloc(), &nine(&rt, rt.alloc()), NINE);
+    let rt = &rt;
+    must_show(rt, &nine(rt), NINE);
     let halved = padded((2, 1), ChromaSubsampling::Yuv422, 8, [0; 4]);
-    must_show(
-        &rt,
-        rt.alloc(),
-        &built::<u8>(&rt, rt.alloc(), halved),
-        HALVED,
-    );
+    must_show(rt, &built::<u8>(rt, halved), HALVED);
 }

@@ -1,5 +1,6 @@
 //! Ratios of the five formats, and the sizes that they give chroma planes.
 
+use crate::tests::support::checks::must_at;
 use v_frame::chroma::ChromaSubsampling::{self, Monochrome, Yuv411, Yuv420, Yuv422, Yuv444};
 
 /// The formats, and the ratios of their chroma.
@@ -13,13 +14,13 @@ static RATIOS: [(ChromaSubsampling, Option<(u8, u8)>); 5] = [
 
 #[test]
 fn ratios_of_the_formats(rt: HostRuntime) {
-    for (format, ratio) in &RATIOS {
+    for (number, (format, ratio)) in RATIOS.iter().enumerate() {
         let found = match format.subsample_ratio() {
             Some((x, y)) => Some((x.get(), y.get())),
             None => None,
         };
         let told = (found, format.has_chroma());
-        assert!(rt; told == (*ratio, ratio.is_some()), "{format:?}");
+        must_at(&rt, told == (*ratio, ratio.is_some()), number);
     }
 }
 
@@ -48,8 +49,8 @@ static SIZES: [(ChromaSubsampling, (usize, usize), Option<(usize, usize)>); 19] 
 
 #[test]
 fn sizes_under_each_format(rt: HostRuntime) {
-    for (format, (width, height), chroma) in &SIZES {
+    for (number, (format, (width, height), chroma)) in SIZES.iter().enumerate() {
         let found = format.chroma_dimensions(*width, *height);
-        assert!(rt; found == *chroma, "{format:?} {width} by {height}");
+        must_at(&rt, found == *chroma, number);
     }
 }

@@ -7,7 +7,7 @@ fn crosses<T: Send + Sync>(_value: &T) {}
 
 #[test]
 fn frames_may_cross_threads(rt: HostRuntime) {
-    let frame = zeros::<u16>(&rt, rt.alloc(), BARE);
+    let frame = zeros::<u16>(&rt, BARE);
     crosses(&frame);
     crosses(&frame.y_plane);
     crosses(&frame.y_plane.as_plane_ref());

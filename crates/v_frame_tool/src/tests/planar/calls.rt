@@ -2,12 +2,12 @@
 
 use crate::counted::Counted;
 use crate::planar::write_frame;
+use crate::tests::support::checks::{Test, must, must_at, must_for, same};
 use crate::tests::support::planar::six_bytes;
 use crate::tests::support::readers::{Pieces, pieces_of};
 use crate::tests::support::texts::must_show;
 use crate::tests::support::watched::{WatchedWriter, watched_writer};
 use std::alloc::Global;
-use std::process::Abort;
 use v_frame::frame::Frame;
 
 /// Whether a writer was called so: the calls of `write`, those that offered nothing, the calls of `flush`, and the bytes
@@ -34,18 +34,22 @@ fn a_write_is_one_call_and_no_flush(rt: HostRuntime) {
     for case in &CALLS {
         check_write(&rt, &mut out, case);
     }
-    assert!(rt; out.write_all(&[]).is_ok() && has_calls(&out, [3, 1, 0], &[1, 2]));
+    must(
+        &rt,
+        out.write_all(&[]).is_ok() && has_calls(&out, [3, 1, 0], &[1, 2]),
+    );
 }
 
 /// Stops the test where a write takes another count of bytes, or is made by other calls.
 fn check_write(
-    rt: &impl Abort,
+    rt: &impl Test,
     out: &mut Counted<WatchedWriter>,
     (bytes, taken, writes, empty_writes, failures): &Call,
 ) {
-    let told = (out.write(*bytes).ok(), out.failures());
+    let count = out.write(*bytes).ok();
+    must_at(rt, count == *taken && out.failures() == *failures, *writes);
     let are_right = has_calls(out, [*writes, *empty_writes, 0], &[1, 2]);
-    assert!(rt; told == (*taken, *failures) && are_right, "{writes} calls");
+    must_at(rt, are_right, *writes);
 }
 
 /// How many bytes a call takes at most, the call that fails, the answer to writing 1 to 5, the calls, and what is taken.
@@ -61,26 +65,27 @@ static ALL: [AllWritten; 5] = [
 ];
 
 /// Stops the test where writing all of five bytes is answered otherwise, or by other calls.
-fn check_all(rt: &impl Abort, alloc: Global, (most, failing, answer, calls, taken): AllWritten) {
-    let mut out = Counted::new(watched_writer(alloc, most, failing));
+fn check_all(rt: &impl Test, (most, failing, answer, calls, taken): AllWritten) {
+    let mut out = Counted::new(watched_writer(rt.alloc(), most, failing));
     let written = out.write_all(&[1, 2, 3, 4, 5]);
-    must_show(rt, alloc, &written, answer);
-    assert!(rt; has_calls(&out, [calls, 0, 0], taken), "{answer}");
+    must_show(rt, &written, answer);
+    must_for(rt, has_calls(&out, [calls, 0, 0], taken), answer);
 }
 
 #[test]
 fn writing_all_calls_until_all_is_taken_or_a_call_fails(rt: HostRuntime) {
     for case in &ALL {
-        check_all(&rt, rt.alloc(), *case);
+        check_all(&rt, *case);
     }
 }
 
 #[test]
 fn a_frame_is_written_without_a_flush_and_without_an_empty_write(rt: HostRuntime) {
-    let frame = six_bytes(&rt, rt.alloc(), [1, 2, 3, 4, 5, 6]);
+    let frame = six_bytes(&rt, [1, 2, 3, 4, 5, 6]);
     for most in [1, 4, 6] {
-        assert!(rt; is_written(rt.alloc(), &frame, most), "{most} a call");
+        must_at(&rt, is_written(rt.alloc(), &frame, most), most);
     }
+    drop(frame);
 }
 
 /// Whether a writer that takes so many bytes a call is offered some at each, is not flushed, and has the bytes 1 to 6 then.
@@ -97,12 +102,25 @@ fn read_once(reader: &mut Counted<Pieces<'_>>, buf: &mut [u8]) -> (Option<usize>
     (count, reader.inner().reads)
 }
 
+/// Stops the test where a read gives another count of bytes, is made by another number of calls, or leaves others in the
+/// buffer.
+fn check_read(
+    rt: &impl Test,
+    reader: &mut Counted<Pieces<'_>>,
+    buf: &mut [u8],
+    (count, reads, left): (Option<usize>, usize, &[u8]),
+) {
+    must_at(rt, read_once(reader, buf) == (count, reads), reads);
+    must_at(rt, *buf == *left, reads);
+}
+
 #[test]
 fn a_read_is_one_call(rt: HostRuntime) {
+    let rt = &rt;
     let mut reader = Counted::new(pieces_of(&[1, 2, 3, 4], 3, 2));
     let mut buf = [0; 4];
-    assert!(rt; read_once(&mut reader, &mut buf) == (Some(3), 1) && buf == [1, 2, 3, 0]);
-    assert!(rt; read_once(&mut reader, &mut []) == (Some(0), 2));
-    assert!(rt; read_once(&mut reader, &mut buf) == (None, 3) && buf == [1, 2, 3, 0]);
-    assert!(rt; (reader.failures(), reader.inner().left.len()) == (1, 1));
+    check_read(rt, &mut reader, &mut buf, (Some(3), 1, &[1, 2, 3, 0]));
+    check_read(rt, &mut reader, &mut [], (Some(0), 2, &[]));
+    check_read(rt, &mut reader, &mut buf, (None, 3, &[1, 2, 3, 0]));
+    same(rt, (reader.failures(), reader.inner().left.len()), (1, 1));
 }

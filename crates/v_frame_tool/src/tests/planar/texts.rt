@@ -22,6 +22,6 @@ static ERRORS: [(PlanarError, &str); 6] = [
 #[test]
 fn errors_are_explained(rt: HostRuntime) {
     for (error, wanted) in &ERRORS {
-        must_display(&rt, rt.alloc(), error, *wanted);
+        must_display(&rt, error, *wanted);
     }
 }

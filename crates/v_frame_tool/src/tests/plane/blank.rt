@@ -1,7 +1,8 @@
 //! Planes of zeros, in the border too.
 
 use crate::tests::support::buffers::has_buffer;
-use crate::tests::support::frames::{Layout, luma, write_pixel, zeros};
+use crate::tests::support::checks::must;
+use crate::tests::support::frames::{Layout, blank_plane, write_pixel};
 use v_frame::plane::Plane;
 
 /// Four pixels by three in a buffer of 40 entries.
@@ -24,8 +25,12 @@ fn is_blank(plane: &Plane<u8>) -> bool {
 
 #[test]
 fn a_blank_plane_reads_zero_and_a_pixel_past_its_width_shows_in_no_row(rt: HostRuntime) {
-    let mut plane = luma(zeros::<u8>(&rt, rt.alloc(), PADDED));
-    assert!(rt; is_blank(&plane));
-    write_pixel(&rt, &mut plane, 4, 0, 7);
-    assert!(rt; plane.pixel(4, 0) == Some(7) && has_buffer(&plane, PADDED, &WRITTEN));
+    let rt = &rt;
+    let mut plane = blank_plane::<u8>(rt, PADDED);
+    must(rt, is_blank(&plane));
+    write_pixel(rt, &mut plane, 4, 0, 7);
+    must(
+        rt,
+        plane.pixel(4, 0) == Some(7) && has_buffer(&plane, PADDED, &WRITTEN),
+    );
 }

@@ -2,10 +2,11 @@
 
 use crate::tests::support::buffers::{has_buffer, holds};
 use crate::tests::support::bytes::{push_stepped, push_stepped_words, stepped, stepped_words};
-use crate::tests::support::frames::{BARE, BORDERED, Layout, luma, numbered, with_buffer, zeros};
+use crate::tests::support::checks::{Test, must, must_at, must_have, same};
+use crate::tests::support::frames::{
+    BARE, BORDERED, Layout, blank_plane, numbered_plane, plane_of,
+};
 use crate::tests::support::texts::must_show;
-use std::alloc::Global;
-use std::process::Abort;
 use v_frame::pixel::Pixel;
 use v_frame::plane::Plane;
 
@@ -14,30 +15,20 @@ type Copied<'a, T> = (&'a [u8], usize, &'a str, &'a [T]);
 
 /// Stops the test where a copy into a plane answers or leaves anything else.
 fn check_copy<T: Pixel>(
-    rt: &impl Abort,
-    alloc: Global,
+    rt: &impl Test,
     plane: &mut Plane<T>,
     (source, stride, answer, after): Copied<'_, T>,
 ) {
-    must_show(
-        rt,
-        alloc,
-        &plane.copy_from_u8_slice_with_stride(source, stride),
-        answer,
-    );
-    assert!(rt; plane.data() == after, "{answer}");
+    let copied = plane.copy_from_u8_slice_with_stride(source, stride);
+    must_show(rt, &copied, answer);
+    must_have(rt, plane, after);
 }
 
 /// The same of copies into a plane of zeros, one after the other.
-fn check_copies<T: Pixel>(
-    rt: &impl Abort,
-    alloc: Global,
-    layout: Layout,
-    copies: &[Copied<'_, T>],
-) {
-    let mut plane = luma(zeros::<T>(rt, alloc, layout));
+fn check_copies<T: Pixel>(rt: &impl Test, layout: Layout, copies: &[Copied<'_, T>]) {
+    let mut plane = blank_plane::<T>(rt, layout);
     for copied in copies {
-        check_copy(rt, alloc, &mut plane, *copied);
+        check_copy(rt, &mut plane, *copied);
     }
 }
 
@@ -123,14 +114,15 @@ static SQUARE: [Copied<'static, u8>; 1] = [(
 
 #[test]
 fn bytes_are_copied_without_their_tails_or_refused(rt: HostRuntime) {
-    let mut bordered = luma(with_buffer::<u8>(&rt, rt.alloc(), BORDERED, &BEFORE));
+    let rt = &rt;
+    let mut bordered = plane_of::<u8>(rt, BORDERED, &BEFORE);
     for copied in &TAILS {
-        check_copy(&rt, rt.alloc(), &mut bordered, *copied);
+        check_copy(rt, &mut bordered, *copied);
     }
-    assert!(rt; has_buffer(&bordered, BORDERED, &AFTER));
-    check_copies(&rt, rt.alloc(), (5, 2, [0; 4]), &FIVE);
-    check_copies(&rt, rt.alloc(), BARE, &LARGEST);
-    check_copies(&rt, rt.alloc(), (2, 2, [0; 4]), &SQUARE);
+    must(rt, has_buffer(&bordered, BORDERED, &AFTER));
+    check_copies(rt, (5, 2, [0; 4]), &FIVE);
+    check_copies(rt, BARE, &LARGEST);
+    check_copies(rt, (2, 2, [0; 4]), &SQUARE);
 }
 
 /// Strides in bytes for two words by two.
@@ -169,22 +161,26 @@ static WORDS: [Copied<'static, u16>; 5] = [
 
 #[test]
 fn words_are_copied_by_strides_in_bytes(rt: HostRuntime) {
-    check_copies(&rt, rt.alloc(), (2, 2, [0; 4]), &WORDS);
+    check_copies(&rt, (2, 2, [0; 4]), &WORDS);
 }
 
 #[test]
 fn packed_words(rt: HostRuntime) {
+    let rt = &rt;
     let before = [0xA100, 0, 0, 0xA103, 0, 0, 0xA106, 0xA107, 0xA108];
     let wanted = [
         0xA100, 0x0102, 0x0304, 0xA103, 0x0506, 0x0708, 0xA106, 0xA107, 0xA108,
     ];
-    let mut plane = luma(with_buffer::<u16>(&rt, rt.alloc(), (2, 2, [1, 0, 0, 1]), &before));
-    let copied = plane.copy_from_u8_slice(&[2, 1, 4, 3, 6, 5, 8, 7]);
-    assert!(rt; copied.is_ok() && plane.data() == wanted.as_slice());
+    let mut plane = plane_of::<u16>(rt, (2, 2, [1, 0, 0, 1]), &before);
+    must_show(
+        rt,
+        &plane.copy_from_u8_slice(&[2, 1, 4, 3, 6, 5, 8, 7]),
+        "Ok(())",
+    );
+    must_have(rt, &plane, &wanted);
     let refused = plane.copy_from_u8_slice(&[2, 1, 4, 3]);
-    let answer = "Err(DataLength { expected: 8, found: 4 })";
-    must_show(&rt, rt.alloc(), &refused, answer);
-    assert!(rt; plane.data() == wanted.as_slice());
+    must_show(rt, &refused, "Err(DataLength { expected: 8, found: 4 })");
+    must_have(rt, &plane, &wanted);
 }
 
 /// The widths of planes of words and the strides of two rows for them, with the last pixel of the second.
@@ -197,29 +193,33 @@ static WIDTHS: [(usize, usize, u16); 5] = [
 ];
 
 /// Two rows of so many bytes, which begin at 1 and 32 and grow by 7.
-fn two_rows(rt: &impl Abort, alloc: Global, stride: usize) -> Vec<u8> {
-    let mut bytes = stepped(rt, alloc, 1, 7, stride);
+fn two_rows(rt: &impl Test, stride: usize) -> Vec<u8> {
+    let mut bytes = stepped(rt, 1, 7, stride);
     push_stepped(rt, &mut bytes, 32, 7, stride);
     bytes
 }
 
 /// The first so many words of each of these two rows of bytes.
-fn words_of_two_rows(rt: &impl Abort, alloc: Global, width: usize) -> Vec<u16> {
-    let mut words = stepped_words(rt, alloc, 1, 7, width);
+fn words_of_two_rows(rt: &impl Test, width: usize) -> Vec<u16> {
+    let mut words = stepped_words(rt, 1, 7, width);
     push_stepped_words(rt, &mut words, 32, 7, width);
     words
 }
 
-/// Stops the test where the words are not those of the source, or an entry of a numbered border changes.
-fn check_border(rt: &impl Abort, alloc: Global, (width, stride, last): (usize, usize, u16)) {
-    let layout = (width, 2, [3, 1, 0, 0]);
-    let mut plane = luma(numbered::<u16>(rt, alloc, layout));
-    let source = two_rows(rt, alloc, stride);
+/// Copies these two rows of bytes into a plane.
+fn copy_two_rows(rt: &impl Test, plane: &mut Plane<u16>, stride: usize) {
+    let source = two_rows(rt, stride);
     let copied = plane.copy_from_u8_slice_with_stride(source.as_slice(), stride);
-    let words = words_of_two_rows(rt, alloc, width);
-    let is_kept = holds(rt, alloc, &plane, layout, words.as_slice());
-    let is_last = words.last() == Some(&last);
-    assert!(rt; copied.is_ok() && is_last && is_kept, "{width} words");
+    must(rt, copied.is_ok());
+}
+
+/// Stops the test where the words are not those of the source, or an entry of a numbered border changes.
+fn check_border(rt: &impl Test, width: usize, stride: usize) {
+    let layout = (width, 2, [3, 1, 0, 0]);
+    let mut plane = numbered_plane::<u16>(rt, layout);
+    copy_two_rows(rt, &mut plane, stride);
+    let words = words_of_two_rows(rt, width);
+    must_at(rt, holds(rt, &plane, layout, words.as_slice()), width);
 }
 
 /// Whether the border of two rows of so many words holds 0xABCD.
@@ -231,25 +231,28 @@ fn is_border(buffer: &[u16], width: usize) -> bool {
 }
 
 /// Stops the test where words are not copied, or the border does not stay.
-fn check_width(rt: &impl Abort, alloc: Global, (width, stride, last): (usize, usize, u16)) {
-    let mut plane = luma(zeros::<u16>(rt, alloc, (width, 2, [3, 1, 0, 0])));
+fn check_width(rt: &impl Test, (width, stride, last): (usize, usize, u16)) {
+    let mut plane = blank_plane::<u16>(rt, (width, 2, [3, 1, 0, 0]));
     plane.data_mut().fill(0xABCD);
-    let source = two_rows(rt, alloc, stride);
-    let copied = plane.copy_from_u8_slice_with_stride(source.as_slice(), stride);
-    let first = (plane.pixel(0, 0), plane.pixel(0, 1));
-    let is_last = plane.pixel(width.saturating_sub(1), 1) == Some(last);
-    let are_first = first == (Some(0x0801), Some(0x2720));
-    let is_kept = is_border(plane.data(), width);
-    assert!(rt;
-        copied.is_ok() && are_first && is_last && is_kept,
-        "{width} words"
-    );
+    copy_two_rows(rt, &mut plane, stride);
+    must_at(rt, has_three(&plane, width, last), width);
+    must_at(rt, is_border(plane.data(), width), width);
+}
+
+/// Whether the first pixel of each row is that of its bytes, and the last one is this.
+fn has_three(plane: &Plane<u16>, width: usize, last: u16) -> bool {
+    let found = [
+        plane.pixel(0, 0),
+        plane.pixel(0, 1),
+        plane.pixel(width.saturating_sub(1), 1),
+    ];
+    found == [Some(0x0801), Some(0x2720), Some(last)]
 }
 
 #[test]
 fn words_of_each_width_leave_their_border(rt: HostRuntime) {
-    for width in &WIDTHS {
-        check_width(&rt, rt.alloc(), *width);
-        check_border(&rt, rt.alloc(), *width);
+    for case in &WIDTHS {
+        check_width(&rt, *case);
+        check_border(&rt, case.0, case.1);
     }
 }

@@ -1,10 +1,10 @@
 //! Packed copies of pixels into a plane.
 
 use crate::tests::support::buffers::{bordered_buffer, has_buffer};
-use crate::tests::support::frames::{BORDERED, luma, with_buffer};
+use crate::tests::support::checks::{Test, must, must_have};
+use crate::tests::support::frames::{BORDERED, plane_of};
 use crate::tests::support::texts::{must_display, must_show};
-use std::alloc::{AllocError, Global};
-use std::process::Abort;
+use std::alloc::AllocError;
 use v_frame::plane::{CopyError, Plane};
 
 /// Copies of another length than six pixels, and their answers.
@@ -18,10 +18,10 @@ static REFUSED: [(&[u8], &str); 3] = [
 ];
 
 /// Stops the test where a copy is answered otherwise, or leaves another buffer than was there before.
-fn check_refused(rt: &impl Abort, alloc: Global, plane: &mut Plane<u8>, before: &[u8]) {
+fn check_refused(rt: &impl Test, plane: &mut Plane<u8>, before: &[u8]) {
     for (pixels, answer) in &REFUSED {
-        must_show(rt, alloc, &plane.copy_from_slice(*pixels), *answer);
-        assert!(rt; plane.data() == before);
+        must_show(rt, &plane.copy_from_slice(*pixels), *answer);
+        must_have(rt, plane, before);
     }
 }
 
@@ -33,10 +33,11 @@ fn is_copied(mut plane: Plane<u8>) -> bool {
 
 #[test]
 fn a_copy_of_another_length_changes_nothing(rt: HostRuntime) {
+    let rt = &rt;
     let before = bordered_buffer([0; 6]);
-    let mut plane = luma(with_buffer::<u8>(&rt, rt.alloc(), BORDERED, &before));
-    check_refused(&rt, rt.alloc(), &mut plane, &before);
-    assert!(rt; is_copied(plane));
+    let mut plane = plane_of::<u8>(rt, BORDERED, &before);
+    check_refused(rt, &mut plane, &before);
+    must(rt, is_copied(plane));
 }
 
 /// Refusals, and what they say.
@@ -60,7 +61,7 @@ static ERRORS: [(CopyError, &str); 2] = [
 #[test]
 fn refused_copies_are_explained(rt: HostRuntime) {
     for (error, wanted) in &ERRORS {
-        must_display(&rt, rt.alloc(), error, *wanted);
+        must_display(&rt, error, *wanted);
     }
-    must_display(&rt, rt.alloc(), &AllocError, "memory allocation failed");
+    must_display(&rt, &AllocError, "memory allocation failed");
 }

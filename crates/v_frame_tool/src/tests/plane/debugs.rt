@@ -1,6 +1,6 @@
 //! The debug texts of planes.
 
-use crate::tests::support::frames::{Layout, luma, with_buffer};
+use crate::tests::support::frames::{Layout, plane_of};
 use crate::tests::support::options::{holding, pair};
 use crate::tests::support::texts::must_show;
 use v_frame::plane::{PlaneGeometry, PlaneRef};
@@ -36,8 +36,8 @@ static PLANES: [(Layout, &[u8], &str); 4] = [
 #[test]
 fn a_plane_shows_five_entries_at_most_and_its_geometry(rt: HostRuntime) {
     for (layout, buffer, wanted) in &PLANES {
-        let plane = luma(with_buffer::<u8>(&rt, rt.alloc(), *layout, *buffer));
-        must_show(&rt, rt.alloc(), &plane, *wanted);
+        let plane = plane_of::<u8>(&rt, *layout, *buffer);
+        must_show(&rt, &plane, *wanted);
     }
 }
 
@@ -53,9 +53,10 @@ const LENT: &str =
 
 #[test]
 fn options_and_a_lent_plane_show_the_same(rt: HostRuntime) {
-    let plane = holding(&rt, rt.alloc(), pair(), &[Some(5), None]);
-    must_show(&rt, rt.alloc(), &plane, OPTIONS);
-    let geometry = PlaneGeometry::unpadded(2, 1, 1, 1).expect(&rt, "a geometry");
-    let plane = PlaneRef::new(geometry, [5u8, 6].as_slice()).expect(&rt, "a plane");
-    must_show(&rt, rt.alloc(), &plane, LENT);
+    let rt = &rt;
+    let plane = holding(rt, pair(), &[Some(5), None]);
+    must_show(rt, &plane, OPTIONS);
+    let geometry = PlaneGeometry::unpadded(2, 1, 1, 1).expect(rt, "a geometry");
+    let plane = PlaneRef::new(geometry, [5u8, 6].as_slice()).expect(rt, "a plane");
+    must_show(rt, &plane, LENT);
 }

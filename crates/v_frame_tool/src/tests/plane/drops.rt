@@ -2,10 +2,9 @@
 //!
 //! Where `assume_init` is refused, `rt try --test --fail-alloc N` takes a test there, as in the refusals of replays.
 
+use crate::tests::support::checks::{Test, must, same};
 use crate::tests::support::options::{vacant, values_of};
-use std::alloc::Global;
 use std::cell::Cell;
-use std::process::Abort;
 use std::rc::Rc;
 use v_frame::plane::{Plane, PlaneGeometry};
 
@@ -22,18 +21,13 @@ impl Drop for Counted {
 }
 
 /// A count of drops, none so far.
-fn none_so_far(rt: &impl Abort, alloc: Global) -> Rc<Cell<u32>> {
-    Rc::new(alloc, Cell::new(0)).ok().expect(rt, "memory")
+fn none_so_far(rt: &impl Test) -> Rc<Cell<u32>> {
+    Rc::new(rt.alloc(), Cell::new(0)).ok().expect(rt, "memory")
 }
 
 /// Three places in one row, of which the first few hold an element.
-fn held(
-    rt: &impl Abort,
-    alloc: Global,
-    drops: &Rc<Cell<u32>>,
-    count: usize,
-) -> Plane<Option<Counted>> {
-    let mut plane = vacant(rt, alloc, PlaneGeometry::unpadded(3, 1, 1, 1));
+fn held(rt: &impl Test, drops: &Rc<Cell<u32>>, count: usize) -> Plane<Option<Counted>> {
+    let mut plane = vacant(rt, PlaneGeometry::unpadded(3, 1, 1, 1));
     for entry in plane.data_mut().iter_mut().take(count) {
         let drops = drops.clone().expect(rt, "memory");
         *entry = Some(Counted { drops });
@@ -43,34 +37,35 @@ fn held(
 
 #[test]
 fn a_plane_of_options_drops_what_it_holds(rt: HostRuntime) {
+    let rt = &rt;
     for count in [0, 3] {
-        let drops = none_so_far(&rt, rt.alloc());
-        let plane = held(&rt, rt.alloc(), &drops, count);
-        assert!(rt; drops.get() == 0);
+        let drops = none_so_far(rt);
+        let plane = held(rt, &drops, count);
+        same(rt, drops.get(), 0);
         drop(plane);
-        assert!(rt; drops.get() as usize == count);
+        same(rt, drops.get() as usize, count);
     }
 }
 
 #[test]
 fn a_plane_of_values_drops_each_once(rt: HostRuntime) {
-    let drops = none_so_far(&rt, rt.alloc());
-    let plane = held(&rt, rt.alloc(), &drops, 3);
-    let plane = values_of(&rt, rt.alloc(), plane);
-    assert!(rt; drops.get() == 0);
+    let rt = &rt;
+    let drops = none_so_far(rt);
+    let plane = held(rt, &drops, 3);
+    let plane = values_of(rt, plane);
+    same(rt, drops.get(), 0);
     drop(plane);
-    assert!(rt; drops.get() == 3);
+    same(rt, drops.get(), 3);
 }
 
 #[test]
 fn a_plane_that_is_given_back_drops_each_once(rt: HostRuntime) {
-    let drops = none_so_far(&rt, rt.alloc());
-    let plane = held(&rt, rt.alloc(), &drops, 3);
-    if !plane.is_init() {
-        panic!(rt; "a place without a value");
-    }
+    let rt = &rt;
+    let drops = none_so_far(rt);
+    let plane = held(rt, &drops, 3);
+    must(rt, plane.is_init());
     let given = plane.assume_init(rt.alloc());
-    assert!(rt; drops.get() == 0);
+    same(rt, drops.get(), 0);
     drop(given);
-    assert!(rt; drops.get() == 3);
+    same(rt, drops.get(), 3);
 }

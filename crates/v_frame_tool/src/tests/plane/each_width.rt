@@ -1,22 +1,19 @@
 //! Planes of zeros of each small width.
 
-use std::alloc::Global;
-use std::process::Abort;
+use crate::tests::support::checks::{Test, must, must_at};
 use v_frame::pixel::Pixel;
 use v_frame::plane::{Plane, PlaneGeometry};
 
 /// A new plane of this width, two rows high, with a column to the left and a row above and below.
-fn new_plane<T: Pixel>(rt: &impl Abort, alloc: Global, width: usize) -> Plane<T> {
+fn new_plane<T: Pixel>(rt: &impl Test, width: usize) -> Plane<T> {
     let geometry = PlaneGeometry::new(width, 2, 1, 0, 1, 1, 1, 1).expect(rt, "a geometry");
-    if geometry.checked_alloc_size().is_none() {
-        panic!(rt; "too large");
-    }
-    Plane::<T>::new(alloc, geometry).expect(rt, "memory")
+    must(rt, geometry.checked_alloc_size().is_some());
+    Plane::<T>::new(rt.alloc(), geometry).expect(rt, "memory")
 }
 
 /// Whether a new plane of this width has its rows, its stride and zeros alone.
-fn is_new<T: Pixel>(rt: &impl Abort, alloc: Global, width: usize) -> bool {
-    let plane = new_plane::<T>(rt, alloc, width);
+fn is_new<T: Pixel>(rt: &impl Test, width: usize) -> bool {
+    let plane = new_plane::<T>(rt, width);
     let stride = width.saturating_add(1);
     let size = (plane.width(), plane.height(), plane.geometry().stride());
     let is_size = size == (width, 2, stride) && plane.data().len() == stride.saturating_mul(4);
@@ -43,8 +40,9 @@ fn is_zero<T: Pixel>(plane: &Plane<T>) -> bool {
 
 #[test]
 fn planes_of_each_width_from_1_to_33_are_new(rt: HostRuntime) {
+    let rt = &rt;
     for width in 1..34 {
-        let are_new = is_new::<u8>(&rt, rt.alloc(), width) && is_new::<u16>(&rt, rt.alloc(), width);
-        assert!(rt; are_new, "width {width}");
+        let are_new = is_new::<u8>(rt, width) && is_new::<u16>(rt, width);
+        must_at(rt, are_new, width);
     }
 }

@@ -1,30 +1,38 @@
 //! Sizes and paddings of geometries: what follows from them, and what is too large.
 
+use crate::tests::support::checks::{Test, must, must_at, same};
 use crate::tests::support::reads::numbers_of;
-use std::process::Abort;
 use v_frame::plane::PlaneGeometry;
 
 #[test]
 fn sizes_follow_from_the_paddings(rt: HostRuntime) {
-    let geometry = PlaneGeometry::new(4, 3, 2, 2, 1, 1, 1, 1).expect(&rt, "a geometry");
-    if geometry.checked_alloc_size() != Some(40) {
-        panic!(rt; "another size");
-    }
+    let rt = &rt;
+    let geometry = PlaneGeometry::new(4, 3, 2, 2, 1, 1, 1, 1).expect(rt, "a geometry");
+    must(rt, geometry.checked_alloc_size() == Some(40));
     let sizes = [
         geometry.stride(),
         geometry.data_origin(),
         geometry.alloc_height(),
         geometry.alloc_size(),
     ];
-    assert!(rt; sizes == [8, 10, 5, 40]);
+    same(rt, sizes, [8, 10, 5, 40]);
 }
 
 #[test]
 fn getters_tell_what_was_given(rt: HostRuntime) {
-    let padded = PlaneGeometry::new(1920, 1080, 40, 30, 20, 10, 1, 1).expect(&rt, "padded");
-    assert!(rt; numbers_of(&padded) == [1920, 1080, 1990, 40, 30, 20, 10, 1, 1]);
-    let unpadded = PlaneGeometry::unpadded(1920, 1080, 1, 1).expect(&rt, "unpadded");
-    assert!(rt; numbers_of(&unpadded) == [1920, 1080, 1920, 0, 0, 0, 0, 1, 1]);
+    let rt = &rt;
+    let padded = PlaneGeometry::new(1920, 1080, 40, 30, 20, 10, 1, 1).expect(rt, "padded");
+    same(
+        rt,
+        numbers_of(&padded),
+        [1920, 1080, 1990, 40, 30, 20, 10, 1, 1],
+    );
+    let unpadded = PlaneGeometry::unpadded(1920, 1080, 1, 1).expect(rt, "unpadded");
+    same(
+        rt,
+        numbers_of(&unpadded),
+        [1920, 1080, 1920, 0, 0, 0, 0, 1, 1],
+    );
 }
 
 /// The stride of a geometry, and the size of its buffer where there can be one.
@@ -42,10 +50,10 @@ fn told(geometry: Option<PlaneGeometry>) -> Option<Told> {
 type Padded = ([usize; 6], [u8; 2], Option<Told>);
 
 /// Stops the test where a geometry tells anything else.
-fn check_padded(rt: &impl Abort, (numbers, [x, y], wanted): Padded) {
+fn check_padded(rt: &impl Test, (numbers, [x, y], wanted): Padded) {
     let [width, height, left, right, top, bottom] = numbers;
     let geometry = PlaneGeometry::new(width, height, left, right, top, bottom, x, y);
-    assert!(rt; told(geometry) == wanted, "{width} by {height}");
+    must_at(rt, told(geometry) == wanted, width);
 }
 
 /// Geometries with a border. There is none where a size or a ratio is zero, or no `usize` holds the stride.
@@ -115,8 +123,8 @@ static UNPADDED: [([usize; 2], [u8; 2], Option<Told>); 9] = [
 
 #[test]
 fn buffers_are_as_large_as_numbers_go(rt: HostRuntime) {
-    for ([width, height], [x, y], wanted) in &UNPADDED {
+    for (number, ([width, height], [x, y], wanted)) in UNPADDED.iter().enumerate() {
         let geometry = PlaneGeometry::unpadded(*width, *height, *x, *y);
-        assert!(rt; told(geometry) == *wanted, "{width} by {height}");
+        must_at(&rt, told(geometry) == *wanted, number);
     }
 }

@@ -1,8 +1,8 @@
 //! Rows and pixels that are lent, and written once their iterator is gone.
 
 use crate::tests::support::buffers::{bordered_buffer, buffer_in_200, has_buffer};
-use crate::tests::support::frames::{BORDERED, Layout, counted, in_200, with_buffer};
-use v_frame::frame::Frame;
+use crate::tests::support::checks::must;
+use crate::tests::support::frames::{BORDERED, Layout, counted_plane, plane_in_200, plane_of};
 use v_frame::plane::Plane;
 
 /// Writes this pixel of a lent row.
@@ -23,17 +23,24 @@ fn write_held_rows(plane: &mut Plane<u8>) {
     write_held(first, 2, 30);
 }
 
-/// Whether a bordered frame has this buffer once its held rows are written.
-fn has_rows_written(mut frame: Frame<u8>, wanted: &[u8]) -> bool {
-    write_held_rows(&mut frame.y_plane);
-    has_buffer(&frame.y_plane, BORDERED, wanted)
+/// Whether a bordered plane has this buffer once its held rows are written.
+fn has_rows_written(mut plane: Plane<u8>, wanted: &[u8]) -> bool {
+    write_held_rows(&mut plane);
+    has_buffer(&plane, BORDERED, wanted)
 }
 
 #[test]
 fn held_rows_are_written_and_no_border(rt: HostRuntime) {
+    let rt = &rt;
     let wanted = [1, 2, 30, 40, 5, 6];
-    assert!(rt; has_rows_written(in_200(&rt, rt.alloc()), &buffer_in_200(wanted)));
-    assert!(rt; has_rows_written(counted(&rt, rt.alloc()), &bordered_buffer(wanted)));
+    must(
+        rt,
+        has_rows_written(plane_in_200(rt), &buffer_in_200(wanted)),
+    );
+    must(
+        rt,
+        has_rows_written(counted_plane(rt), &bordered_buffer(wanted)),
+    );
 }
 
 /// Writes 9 to the last pixel and then 7 to the first, once their iterator is gone.
@@ -49,17 +56,24 @@ fn write_held_pixels(plane: &mut Plane<u8>) {
     }
 }
 
-/// Whether a bordered frame has this buffer once its held pixels are written.
-fn has_pixels_written(mut frame: Frame<u8>, wanted: &[u8]) -> bool {
-    write_held_pixels(&mut frame.y_plane);
-    has_buffer(&frame.y_plane, BORDERED, wanted)
+/// Whether a bordered plane has this buffer once its held pixels are written.
+fn has_pixels_written(mut plane: Plane<u8>, wanted: &[u8]) -> bool {
+    write_held_pixels(&mut plane);
+    has_buffer(&plane, BORDERED, wanted)
 }
 
 #[test]
 fn held_pixels_are_written_and_no_border(rt: HostRuntime) {
+    let rt = &rt;
     let wanted = [7, 2, 3, 4, 5, 9];
-    assert!(rt; has_pixels_written(in_200(&rt, rt.alloc()), &buffer_in_200(wanted)));
-    assert!(rt; has_pixels_written(counted(&rt, rt.alloc()), &bordered_buffer(wanted)));
+    must(
+        rt,
+        has_pixels_written(plane_in_200(rt), &buffer_in_200(wanted)),
+    );
+    must(
+        rt,
+        has_pixels_written(counted_plane(rt), &bordered_buffer(wanted)),
+    );
 }
 
 /// Takes the last pixel, the first and the last but one, and once their iterator is gone writes 20 to the last but one, 10
@@ -80,20 +94,21 @@ fn write_two_of_three(plane: &mut Plane<u16>) {
 /// Two pixels by two with a column to the left and a row below.
 const WORDS: Layout = (2, 2, [1, 0, 0, 1]);
 
-/// Whether a frame of words has this buffer once two of its pixels are written.
-fn has_words_written(mut frame: Frame<u16>, wanted: &[u16]) -> bool {
-    write_two_of_three(&mut frame.y_plane);
-    has_buffer(&frame.y_plane, WORDS, wanted)
+/// Whether a plane of words has this buffer once two of its pixels are written.
+fn has_words_written(mut plane: Plane<u16>, wanted: &[u16]) -> bool {
+    write_two_of_three(&mut plane);
+    has_buffer(&plane, WORDS, wanted)
 }
 
 #[test]
 fn held_words_are_written_in_another_order(rt: HostRuntime) {
+    let rt = &rt;
     let before = [500, 1, 2, 500, 3, 4, 500, 500, 500];
     let wanted = [500, 11, 2, 500, 20, 4, 500, 500, 500];
-    let frame = with_buffer(&rt, rt.alloc(), WORDS, &before);
-    assert!(rt; has_words_written(frame, &wanted));
+    let plane = plane_of(rt, WORDS, &before);
+    must(rt, has_words_written(plane, &wanted));
     let before = [0xA100, 1, 2, 0xA103, 3, 4, 0xA106, 0xA107, 0xA108];
     let wanted = [0xA100, 11, 2, 0xA103, 20, 4, 0xA106, 0xA107, 0xA108];
-    let frame = with_buffer(&rt, rt.alloc(), WORDS, &before);
-    assert!(rt; has_words_written(frame, &wanted));
+    let plane = plane_of(rt, WORDS, &before);
+    must(rt, has_words_written(plane, &wanted));
 }

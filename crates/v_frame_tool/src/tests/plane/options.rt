@@ -2,40 +2,42 @@
 //!
 //! Where a test says what a refusal leaves, `rt try --test --fail-alloc N` takes it there, as in the refusals of replays.
 
-use crate::tests::support::frames::{luma, with_buffer};
+use crate::tests::support::checks::{Test, must, must_have, same};
+use crate::tests::support::frames::plane_of;
 use crate::tests::support::options::{five_and_six, holding, pair, vacant, values_of};
-use std::alloc::Global;
-use std::process::Abort;
 use v_frame::plane::{Plane, PlaneGeometry};
 
 /// Whether both places of a plane hold a value, where these are the entries.
-fn is_filled(rt: &impl Abort, alloc: Global, entries: [Option<u8>; 2]) -> bool {
-    holding(rt, alloc, pair(), &entries).is_init()
+fn is_filled(rt: &impl Test, entries: [Option<u8>; 2]) -> bool {
+    holding(rt, pair(), &entries).is_init()
 }
 
 #[test]
 fn new_places_are_vacant(rt: HostRuntime) {
-    let fresh = vacant::<u8>(&rt, rt.alloc(), pair());
-    assert!(rt; !fresh.is_init() && fresh.data() == [None; 2].as_slice());
+    let fresh = vacant::<u8>(&rt, pair());
+    must(
+        &rt,
+        !fresh.is_init() && fresh.data() == [None; 2].as_slice(),
+    );
 }
 
 #[test]
 fn options_that_are_filled_become_values(rt: HostRuntime) {
-    assert!(rt; !is_filled(&rt, rt.alloc(), [None, None]));
-    assert!(rt; !is_filled(&rt, rt.alloc(), [Some(5), None]));
-    assert!(rt; !is_filled(&rt, rt.alloc(), [None, Some(6)]));
-    assert!(rt; is_filled(&rt, rt.alloc(), [Some(5), Some(6)]));
-    let values = five_and_six(&rt, rt.alloc());
-    assert!(rt; values.data() == [5, 6].as_slice());
+    let rt = &rt;
+    must(rt, !is_filled(rt, [None, None]));
+    must(rt, !is_filled(rt, [Some(5), None]));
+    must(rt, !is_filled(rt, [None, Some(6)]));
+    must(rt, is_filled(rt, [Some(5), Some(6)]));
+    let values = five_and_six(rt);
+    must_have(rt, &values, &[5, 6]);
 }
 
 #[test]
 fn without_memory_the_options_are_given_back(rt: HostRuntime) {
-    let plane = holding(&rt, rt.alloc(), pair(), &[Some(5), Some(6)]);
-    if !plane.is_init() {
-        panic!(rt; "a place without a value");
-    }
-    assert!(rt; are_five_and_six(plane.assume_init(rt.alloc())));
+    let rt = &rt;
+    let plane = holding(rt, pair(), &[Some(5), Some(6)]);
+    must(rt, plane.is_init());
+    must(rt, are_five_and_six(plane.assume_init(rt.alloc())));
 }
 
 /// Whether a plane has the values 5 and 6, or the options of these.
@@ -71,12 +73,13 @@ static ENTRIES: [Option<u8>; 16] = [
 
 #[test]
 fn sixteen_entries_are_read_back(rt: HostRuntime) {
+    let rt = &rt;
     let bordered = PlaneGeometry::new(2, 2, 1, 1, 1, 1, 1, 1);
-    let plane = holding(&rt, rt.alloc(), bordered, &ENTRIES);
-    let plane = values_of(&rt, rt.alloc(), plane);
-    assert!(rt; has_count(&plane));
-    let same = luma(with_buffer::<u8>(&rt, rt.alloc(), (2, 2, [1, 1, 1, 1]), &COUNT));
-    assert!(rt; same == plane);
+    let plane = holding(rt, bordered, &ENTRIES);
+    let plane = values_of(rt, plane);
+    must(rt, has_count(&plane));
+    let other = plane_of::<u8>(rt, (2, 2, [1, 1, 1, 1]), &COUNT);
+    must(rt, other == plane);
 }
 
 /// Whether the entries of a plane are counted, and its second row is 9 and 10.
@@ -88,10 +91,10 @@ fn has_count(plane: &Plane<u8>) -> bool {
 static TEXTS: [&str; 3] = ["Hello World", "", "This is a test"];
 
 /// Three places that are filled with the texts.
-fn filled_with_texts(rt: &impl Abort, alloc: Global) -> Plane<Option<String>> {
-    let mut plane = vacant(rt, alloc, PlaneGeometry::unpadded(3, 1, 1, 1));
+fn filled_with_texts(rt: &impl Test) -> Plane<Option<String>> {
+    let mut plane = vacant(rt, PlaneGeometry::unpadded(3, 1, 1, 1));
     for (entry, text) in plane.data_mut().iter_mut().zip(&TEXTS) {
-        *entry = Some(String::from_str(alloc, *text).expect(rt, "memory"));
+        *entry = Some(String::from_str(rt.alloc(), *text).expect(rt, "memory"));
     }
     plane
 }
@@ -106,9 +109,10 @@ fn are_the_texts(entries: &[String]) -> bool {
 
 #[test]
 fn texts_that_are_filled_are_read_back(rt: HostRuntime) {
-    let plane = filled_with_texts(&rt, rt.alloc());
-    let plane = values_of(&rt, rt.alloc(), plane);
-    assert!(rt; are_the_texts(plane.data()));
+    let rt = &rt;
+    let plane = filled_with_texts(rt);
+    let plane = values_of(rt, plane);
+    must(rt, are_the_texts(plane.data()));
 }
 
 /// Whether three places hold the texts.
@@ -121,21 +125,26 @@ fn hold_the_texts(entries: &[Option<String>]) -> bool {
 
 #[test]
 fn without_memory_the_texts_are_given_back(rt: HostRuntime) {
-    let plane = filled_with_texts(&rt, rt.alloc());
-    if !plane.is_init() {
-        panic!(rt; "a place without a value");
-    }
-    match plane.assume_init(rt.alloc()) {
-        Ok(plane) => assert!(rt; are_the_texts(plane.data())),
-        Err(plane) => assert!(rt; hold_the_texts(plane.data())),
+    let rt = &rt;
+    let plane = filled_with_texts(rt);
+    must(rt, plane.is_init());
+    must(rt, has_the_texts(plane.assume_init(rt.alloc())));
+}
+
+/// Whether a plane has the texts, or the options of these.
+fn has_the_texts(plane: Result<Plane<String>, Plane<Option<String>>>) -> bool {
+    match plane {
+        Ok(plane) => are_the_texts(plane.data()),
+        Err(plane) => hold_the_texts(plane.data()),
     }
 }
 
 #[test]
 fn elements_without_a_size_are_counted(rt: HostRuntime) {
-    let mut plane = vacant::<()>(&rt, rt.alloc(), pair());
-    assert!(rt; !plane.is_init());
+    let rt = &rt;
+    let mut plane = vacant::<()>(rt, pair());
+    must(rt, !plane.is_init());
     plane.data_mut().fill(Some(()));
-    let plane = values_of(&rt, rt.alloc(), plane);
-    assert!(rt; plane.data().len() == 2);
+    let plane = values_of(rt, plane);
+    same(rt, plane.data().len(), 2);
 }

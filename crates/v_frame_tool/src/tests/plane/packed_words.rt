@@ -2,9 +2,8 @@
 
 use crate::tests::support::buffers::holds;
 use crate::tests::support::bytes::{stepped, stepped_words};
-use crate::tests::support::frames::{Layout, luma, numbered};
-use std::alloc::Global;
-use std::process::Abort;
+use crate::tests::support::checks::{Test, must, must_at};
+use crate::tests::support::frames::{Layout, numbered_plane};
 use v_frame::plane::Plane;
 
 /// Widths, with the first pixel of the second row and its last one.
@@ -25,10 +24,10 @@ static WIDTHS: [(usize, u16, u16); 11] = [
 ];
 
 /// A plane in a numbered border to which words were copied.
-fn packed(rt: &impl Abort, alloc: Global, layout: Layout) -> Plane<u16> {
-    let mut plane = luma(numbered::<u16>(rt, alloc, layout));
-    let bytes = stepped(rt, alloc, 11, 37, layout.0.saturating_mul(4));
-    assert!(rt; plane.copy_from_u8_slice(bytes.as_slice()).is_ok());
+fn packed(rt: &impl Test, layout: Layout) -> Plane<u16> {
+    let mut plane = numbered_plane::<u16>(rt, layout);
+    let bytes = stepped(rt, 11, 37, layout.0.saturating_mul(4));
+    must(rt, plane.copy_from_u8_slice(bytes.as_slice()).is_ok());
     plane
 }
 
@@ -43,18 +42,18 @@ fn four_of(plane: &Plane<u16>) -> [Option<u16>; 4] {
 }
 
 /// Stops the test where other words are copied, or an entry of a numbered border changes.
-fn check_packed(rt: &impl Abort, alloc: Global, (width, below, last): (usize, u16, u16)) {
+fn check_packed(rt: &impl Test, (width, below, last): (usize, u16, u16)) {
     let layout = (width, 2, [3, 1, 1, 0]);
-    let plane = packed(rt, alloc, layout);
+    let plane = packed(rt, layout);
     let wanted = [Some(0x300B), Some(0x8661), Some(below), Some(last)];
-    assert!(rt; four_of(&plane) == wanted, "{width} pixels");
-    let words = stepped_words(rt, alloc, 11, 37, width.saturating_mul(2));
-    assert!(rt; holds(rt, alloc, &plane, layout, words.as_slice()));
+    must_at(rt, four_of(&plane) == wanted, width);
+    let words = stepped_words(rt, 11, 37, width.saturating_mul(2));
+    must(rt, holds(rt, &plane, layout, words.as_slice()));
 }
 
 #[test]
 fn packed_words_of_each_width_leave_a_numbered_border(rt: HostRuntime) {
     for width in &WIDTHS {
-        check_packed(&rt, rt.alloc(), *width);
+        check_packed(&rt, *width);
     }
 }

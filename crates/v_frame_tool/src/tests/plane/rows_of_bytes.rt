@@ -1,8 +1,7 @@
 //! Rows of bytes, decoded into rows of pixels of each length around a step of sixteen.
 
 use crate::tests::support::bytes::{stepped, stepped_words};
-use std::alloc::Global;
-use std::process::Abort;
+use crate::tests::support::checks::{Test, must, must_at, same};
 use v_frame::pixel::Pixel;
 
 #[test]
@@ -13,29 +12,36 @@ fn seventeen_words_come_from_their_bytes(rt: HostRuntime) {
     ];
     let mut words = [0; 17];
     u16::decode_row(&mut words, &source);
-    assert!(rt; (words[0], words[15], words[16]) == (0x0100, 0x1F1E, 0x2120));
+    same(
+        &rt,
+        (words[0], words[15], words[16]),
+        (0x0100, 0x1F1E, 0x2120),
+    );
 }
 
-/// Whether a row of so many words, decoded from the bytes 48, 85 and on behind one more, has their words, and what stands
-/// behind it is kept.
-fn is_decoded(rt: &impl Abort, alloc: Global, count: usize) -> bool {
-    let source = stepped(rt, alloc, 11, 37, 120);
-    let mut row = [0xABCD; 50];
+/// Decodes a row of so many words from the bytes behind the first.
+fn decode(rt: &impl Test, row: &mut [u16], bytes: &[u8], count: usize) {
     let end = count.saturating_mul(2).saturating_add(1);
-    let part = source.as_slice().get(1..end).expect(rt, "so many bytes");
+    let part = bytes.get(1..end).expect(rt, "so many bytes");
     let front = row.get_mut(..count).expect(rt, "so many words");
-    if part.len() != front.len() * 2 {
-        panic!(rt; "another length");
-    }
+    must(rt, part.len() == front.len() * 2);
     u16::decode_row(front, part);
-    let (decoded, behind) = row.split_at(count);
-    decoded == stepped_words(rt, alloc, 48, 37, count).as_slice()
-        && Some(behind) == [0xABCD; 50].as_slice().get(count..)
+}
+
+/// Stops the test where a row of so many words, decoded from the bytes 48, 85 and on, has others, or what stands behind it
+/// is changed.
+fn check_decoded(rt: &impl Test, bytes: &[u8], count: usize) {
+    let mut row = [0xABCD; 50];
+    decode(rt, &mut row, bytes, count);
+    let mut wanted = stepped_words(rt, 48, 37, count);
+    wanted.resize(50, 0xABCD).expect(rt, "memory");
+    must_at(rt, row.as_slice() == wanted.as_slice(), count);
 }
 
 #[test]
 fn rows_of_each_length_come_from_their_bytes(rt: HostRuntime) {
+    let bytes = stepped(&rt, 11, 37, 120);
     for count in 0..50 {
-        assert!(rt; is_decoded(&rt, rt.alloc(), count), "{count} words");
+        check_decoded(&rt, bytes.as_slice(), count);
     }
 }

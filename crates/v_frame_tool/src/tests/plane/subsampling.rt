@@ -1,6 +1,6 @@
 //! Geometries of chroma planes: paddings are divided as sizes are, and what is odd has no half.
 
-use std::process::Abort;
+use crate::tests::support::checks::{Test, must_at, same};
 use v_frame::chroma::ChromaSubsampling::{self, Monochrome, Yuv411, Yuv420, Yuv422, Yuv444};
 use v_frame::plane::{PlaneGeometry, SubsamplingError};
 
@@ -9,7 +9,7 @@ type Shape = ([usize; 2], [usize; 4], [u8; 2]);
 
 /// The geometry of this shape.
 fn geometry(
-    rt: &impl Abort,
+    rt: &impl Test,
     ([width, height], [left, right, top, bottom], [ratio_x, ratio_y]): Shape,
 ) -> PlaneGeometry {
     PlaneGeometry::new(width, height, left, right, top, bottom, ratio_x, ratio_y).expect(
@@ -46,13 +46,14 @@ static DIVIDED: [(Shape, ChromaSubsampling, Shape); 7] = [
 
 #[test]
 fn sizes_and_paddings_are_divided(rt: HostRuntime) {
+    let rt = &rt;
     for (number, (luma, format, chroma)) in DIVIDED.iter().enumerate() {
-        let found = geometry(&rt, *luma).for_subsampling(*format);
-        assert!(rt; found == Ok(Some(geometry(&rt, *chroma))), "case {number}");
+        let found = geometry(rt, *luma).for_subsampling(*format);
+        must_at(rt, found == Ok(Some(geometry(rt, *chroma))), number);
     }
-    assert!(rt; geometry(&rt, HALVED).stride() == 995);
-    let wide = geometry(&rt, ([960, 1080], [20, 15, 20, 10], [2, 1]));
-    assert!(rt; wide.stride() == 995);
+    same(rt, geometry(rt, HALVED).stride(), 995);
+    let wide = geometry(rt, ([960, 1080], [20, 15, 20, 10], [2, 1]));
+    same(rt, wide.stride(), 995);
 }
 
 /// Planes, and whether each has a chroma in 4:2:0, in 4:2:2 and in 4:1:1.
@@ -81,6 +82,6 @@ fn odd_sizes_and_paddings_have_no_half(rt: HostRuntime) {
         let luma = geometry(&rt, *shape);
         let is_whole = luma.for_subsampling(Yuv444) == Ok(Some(luma))
             && luma.for_subsampling(Monochrome) == Ok(None);
-        assert!(rt; halves_of(&luma) == *halves && is_whole, "case {number}");
+        must_at(&rt, halves_of(&luma) == *halves && is_whole, number);
     }
 }

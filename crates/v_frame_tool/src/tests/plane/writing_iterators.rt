@@ -1,9 +1,10 @@
 //! Iterators that lend rows and pixels of a plane for writing.
 
 use crate::tests::support::buffers::{bordered_buffer, buffer_in_200, holds};
-use crate::tests::support::frames::{BARE, Layout, counted, in_200, luma, numbered, zeros};
-use std::alloc::Global;
-use std::process::Abort;
+use crate::tests::support::checks::{Test, must, must_have, same};
+use crate::tests::support::frames::{
+    BARE, Layout, blank_plane, counted_plane, numbered_plane, plane_in_200,
+};
 use v_frame::plane::Plane;
 
 /// What a lent pixel holds, which is replaced by this value.
@@ -47,30 +48,26 @@ fn is_written(mut plane: Plane<u8>, wanted: &[u8]) -> bool {
 
 #[test]
 fn a_padded_plane_is_written_call_by_call(rt: HostRuntime) {
+    let rt = &rt;
     let written = [1, 7, 3, 4, 5, 9];
-    assert!(rt; is_written(luma(in_200(&rt, rt.alloc())), &buffer_in_200(written)));
-    assert!(rt; is_written(luma(counted(&rt, rt.alloc())), &bordered_buffer(written)));
+    must(rt, is_written(plane_in_200(rt), &buffer_in_200(written)));
+    must(rt, is_written(counted_plane(rt), &bordered_buffer(written)));
 }
 
 /// Stops the test where the pixels of a numbered plane are not counted up, or its border does not stay.
-fn check_counted(rt: &impl Abort, alloc: Global, layout: Layout, wanted: &[u8]) {
-    let mut plane = luma(numbered(rt, alloc, layout));
+fn check_counted(rt: &impl Test, layout: Layout, wanted: &[u8]) {
+    let mut plane = numbered_plane(rt, layout);
     count_up(&mut plane);
-    let pixels: Vec<u8> = plane.pixels().collect(alloc).expect(rt, "memory");
-    assert!(rt; pixels.as_slice() == wanted);
-    assert!(rt; holds(rt, alloc, &plane, layout, wanted));
+    let pixels: Vec<u8> = plane.pixels().collect(rt.alloc()).expect(rt, "memory");
+    same(rt, pixels.as_slice(), wanted);
+    must(rt, holds(rt, &plane, layout, wanted));
 }
 
 #[test]
 fn filled_pixels_are_read_back(rt: HostRuntime) {
     let padded = (4, 3, [2, 2, 1, 1]);
-    check_counted(
-        &rt,
-        rt.alloc(),
-        padded,
-        &[0, 1, 2, 3, 4, 5, 6, 7, 8, 9, 10, 11],
-    );
-    check_counted(&rt, rt.alloc(), (2, 3, [0; 4]), &[0, 1, 2, 3, 4, 5]);
+    check_counted(&rt, padded, &[0, 1, 2, 3, 4, 5, 6, 7, 8, 9, 10, 11]);
+    check_counted(&rt, (2, 3, [0; 4]), &[0, 1, 2, 3, 4, 5]);
 }
 
 /// Six calls by turns, of which the last is of `next` too, and then one of each.
@@ -85,7 +82,7 @@ fn from_both_ends(plane: &Plane<u8>) -> [(Option<u8>, Option<u8>); 4] {
 
 #[test]
 fn filled_pixels_are_read_back_from_both_ends(rt: HostRuntime) {
-    let mut plane = luma(zeros(&rt, rt.alloc(), BARE));
+    let mut plane = blank_plane(&rt, BARE);
     count_up(&mut plane);
     let wanted = [
         (Some(0), Some(5)),
@@ -93,7 +90,7 @@ fn filled_pixels_are_read_back_from_both_ends(rt: HostRuntime) {
         (Some(2), Some(3)),
         (None, None),
     ];
-    assert!(rt; from_both_ends(&plane) == wanted);
+    same(&rt, from_both_ends(&plane), wanted);
 }
 
 /// Fills three rows, the last of them second: how many were left before and, but for one, after that.
@@ -123,18 +120,22 @@ fn rows_from_both_ends(plane: &Plane<u8>) -> [Option<[u8; 3]>; 3] {
 }
 
 /// Stops the test where three rows of three pixels are not filled, or their border does not stay.
-fn check_filled(rt: &impl Abort, alloc: Global, padding: [usize; 4]) {
+fn check_filled(rt: &impl Test, padding: [usize; 4]) {
     let layout = (3, 3, padding);
-    let mut plane = luma(numbered(rt, alloc, layout));
-    assert!(rt; fill_three_rows(&mut plane) == (3, (3, Some(3)), 1));
-    assert!(rt; holds(rt, alloc, &plane, layout, &[1, 1, 1, 2, 2, 2, 3, 3, 3]));
-    assert!(rt; rows_from_both_ends(&plane) == [Some([1; 3]), Some([3; 3]), Some([2; 3])]);
+    let mut plane = numbered_plane(rt, layout);
+    same(rt, fill_three_rows(&mut plane), (3, (3, Some(3)), 1));
+    must(rt, holds(rt, &plane, layout, &[1, 1, 1, 2, 2, 2, 3, 3, 3]));
+    same(
+        rt,
+        rows_from_both_ends(&plane),
+        [Some([1; 3]), Some([3; 3]), Some([2; 3])],
+    );
 }
 
 #[test]
 fn rows_are_filled_from_both_ends(rt: HostRuntime) {
-    check_filled(&rt, rt.alloc(), [0, 0, 0, 0]);
-    check_filled(&rt, rt.alloc(), [1, 2, 1, 1]);
+    check_filled(&rt, [0, 0, 0, 0]);
+    check_filled(&rt, [1, 2, 1, 1]);
 }
 
 /// What four pixels held, the last of them taken second, which are replaced.
@@ -149,7 +150,8 @@ fn fill_four_pixels(plane: &mut Plane<u8>) -> [Option<u8>; 4] {
 
 #[test]
 fn pixels_are_filled_from_both_ends(rt: HostRuntime) {
-    let mut plane = luma(zeros(&rt, rt.alloc(), (2, 2, [0, 0, 0, 0])));
-    assert!(rt; fill_four_pixels(&mut plane) == [Some(0); 4]);
-    assert!(rt; plane.data() == [10, 20, 30, 40].as_slice());
+    let rt = &rt;
+    let mut plane = blank_plane(rt, (2, 2, [0, 0, 0, 0]));
+    same(rt, fill_four_pixels(&mut plane), [Some(0); 4]);
+    must_have(rt, &plane, &[10, 20, 30, 40]);
 }

@@ -3,6 +3,7 @@
 use crate::counted::Counted;
 use crate::fault::ToolFault;
 use crate::run::run;
+use crate::tests::support::checks::must_at;
 use crate::tests::support::watched::{WatchedWriter, watched_writer};
 use std::alloc::Global;
 use v_frame::plane::CopyError;
@@ -51,13 +52,13 @@ fn is_run(alloc: Global, length: usize, most: usize) -> bool {
 #[test]
 fn eight_pixels_are_printed(rt: HostRuntime) {
     for most in [1, 2, 15, 30, 31, 32, 100] {
-        assert!(rt; is_run(rt.alloc(), 8, most), "{most} a call");
+        must_at(&rt, is_run(rt.alloc(), 8, most), most);
     }
 }
 
 #[test]
 fn no_other_number_of_pixels_is_printed(rt: HostRuntime) {
     for length in 0..=20 {
-        assert!(rt; is_run(rt.alloc(), length, 100), "{length} pixels");
+        must_at(&rt, is_run(rt.alloc(), length, 100), length);
     }
 }

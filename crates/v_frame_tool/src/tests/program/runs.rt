@@ -2,11 +2,10 @@
 
 use crate::counted::Counted;
 use crate::run::run;
+use crate::tests::support::checks::{Test, must_at};
 use crate::tests::support::texts::must_show;
 use crate::tests::support::writers::Habit::{self, Fails, TakesNone};
 use crate::tests::support::writers::{has_taken, slow_writer};
-use std::alloc::Global;
-use std::process::Abort;
 
 /// Pixels, how many calls take a byte each, what the writer does then, what the program answers, the failures, and what is
 /// printed.
@@ -94,27 +93,23 @@ static HINDERED: [Run; 5] = [
 ];
 
 /// Stops the test where the program answers or prints anything else, or writes again after it was hindered.
-fn check_run(
-    rt: &impl Abort,
-    alloc: Global,
-    (pixels, calls, habit, answer, failures, printed): Run,
-) {
+fn check_run(rt: &impl Test, (pixels, calls, habit, answer, failures, printed): Run) {
     let mut out = Counted::new(slow_writer(calls, habit));
-    let ran = run(alloc, &mut out, pixels);
-    must_show(rt, alloc, &ran, answer);
-    assert!(rt; has_taken(&out, failures, printed), "{calls} calls");
+    let ran = run(rt.alloc(), &mut out, pixels);
+    must_show(rt, &ran, answer);
+    must_at(rt, has_taken(&out, failures, printed), calls);
 }
 
 #[test]
 fn rows_are_printed(rt: HostRuntime) {
     for run in &RUNS {
-        check_run(&rt, rt.alloc(), *run);
+        check_run(&rt, *run);
     }
 }
 
 #[test]
 fn a_hindered_write_is_answered_and_not_tried_again(rt: HostRuntime) {
     for run in &HINDERED {
-        check_run(&rt, rt.alloc(), *run);
+        check_run(&rt, *run);
     }
 }

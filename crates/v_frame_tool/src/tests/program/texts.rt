@@ -26,6 +26,6 @@ static FAULTS: [(ToolFault, &str); 5] = [
 #[test]
 fn faults_of_the_program_are_explained(rt: HostRuntime) {
     for (fault, wanted) in &FAULTS {
-        must_display(&rt, rt.alloc(), fault, *wanted);
+        must_display(&rt, fault, *wanted);
     }
 }

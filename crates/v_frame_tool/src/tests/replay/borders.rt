@@ -5,9 +5,8 @@ use crate::tests::support::answers::{Step, calls_done};
 use crate::tests::support::calls::Call::{
     Bytes, CopyStrided, PixelMut, Pixels, PixelsMut, RowsMut,
 };
+use crate::tests::support::checks::{Test, must, same};
 use crate::tests::support::frames::{BARE, BORDERED, Layout, built, padded};
-use std::alloc::Global;
-use std::process::Abort;
 use v_frame::chroma::ChromaSubsampling::Yuv444;
 use v_frame::frame::Frame;
 use v_frame::replay::Side::{Back, Front};
@@ -19,13 +18,8 @@ static BEFORE: [[u16; 6]; 3] = [[1, 2, 3, 4, 5, 6], [0; 6], [0; 6]];
 static AFTER: [[u16; 6]; 3] = [[1, 2, 3, 4, 50, 6], [0; 6], [7, 0, 0, 0, 0, 8]];
 
 /// Three planes of words, which show these pixels in borders of 43981.
-fn framed(
-    rt: &impl Abort,
-    alloc: Global,
-    (width, height, padding): Layout,
-    shown: &[[u16; 6]; 3],
-) -> Frame<u16> {
-    let mut frame = built(rt, alloc, padded((width, height), Yuv444, 16, padding));
+fn framed(rt: &impl Test, (width, height, padding): Layout, shown: &[[u16; 6]; 3]) -> Frame<u16> {
+    let mut frame = built(rt, padded((width, height), Yuv444, 16, padding));
     for (index, pixels) in shown.iter().enumerate() {
         let plane = frame.plane_mut(index).expect(rt, "a plane");
         plane.data_mut().fill(43981);
@@ -66,14 +60,17 @@ static MIXED: [Step<'static, u16>; 6] = [
 ];
 
 /// Stops the test where a frame with these paddings answers otherwise, or another buffer is left.
-fn check_mixed(rt: &impl Abort, alloc: Global, layout: Layout) {
-    let mut frame = framed(rt, alloc, layout, &BEFORE);
-    assert!(rt; calls_done(rt, alloc, &mut frame, &MIXED) == 6);
-    assert!(rt; frame == framed(rt, alloc, layout, &AFTER));
+fn check_mixed(rt: &impl Test, layout: Layout) {
+    let mut frame = framed(rt, layout, &BEFORE);
+    let wanted = framed(rt, layout, &AFTER);
+    same(rt, calls_done(rt, &mut frame, &MIXED), 6);
+    must(rt, frame == wanted);
+    drop(frame);
+    drop(wanted);
 }
 
 #[test]
 fn mixed_calls_are_answered_in_each_border_and_keep_it(rt: HostRuntime) {
-    check_mixed(&rt, rt.alloc(), BARE);
-    check_mixed(&rt, rt.alloc(), BORDERED);
+    check_mixed(&rt, BARE);
+    check_mixed(&rt, BORDERED);
 }

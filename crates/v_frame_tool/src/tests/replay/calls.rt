@@ -4,6 +4,7 @@ use crate::tests::support::answers::{Replay, check_replays};
 use crate::tests::support::calls::Call::{
     CopyPixels, Height, Pixel, PixelMut, Row, RowMut, Rows, Width,
 };
+use crate::tests::support::checks::{must, must_have, same};
 use crate::tests::support::frames::{BARE, BORDERED, luma, with_buffer};
 use std::alloc::Global;
 use v_frame::frame::Frame;
@@ -96,14 +97,15 @@ static REPLAYS: [Replay<'static, u8>; 6] = [
 
 #[test]
 fn calls_are_answered_and_write_their_plane(rt: HostRuntime) {
-    check_replays(&rt, rt.alloc(), &REPLAYS);
+    check_replays(&rt, &REPLAYS);
 }
 
 #[test]
 fn no_call_takes_no_memory(rt: HostRuntime) {
-    let mut frame = with_buffer::<u8>(&rt, rt.alloc(), BARE, &[0; 6]);
-    assert!(rt; is_unanswered(rt.alloc(), &mut frame));
-    assert!(rt; luma(frame).data() == [0; 6].as_slice());
+    let rt = &rt;
+    let mut frame = with_buffer::<u8>(rt, BARE, &[0; 6]);
+    must(rt, is_unanswered(rt.alloc(), &mut frame));
+    must_have(rt, &luma(frame), &[0; 6]);
 }
 
 /// Whether a replay of no call has no answer.

@@ -4,9 +4,8 @@ use crate::tests::support::calls::Call::{
     self, Bytes, CopyPixels, PixelsMut, RowMut, RowsMut, Width,
 };
 use crate::tests::support::calls::visible;
+use crate::tests::support::checks::Test;
 use crate::tests::support::texts::must_show;
-use std::alloc::Global;
-use std::process::Abort;
 use v_frame::replay::Side::{Back, Front};
 use v_frame::replay::{Answer, ReplayStopped};
 
@@ -33,14 +32,14 @@ static CALLS: [(Call<'static, u8>, &str); 6] = [
 ];
 
 /// Stops the test where a call shows anything else.
-fn check_call(rt: &impl Abort, alloc: Global, (call, wanted): &(Call<'_, u8>, &str)) {
-    must_show(rt, alloc, &visible(rt, alloc, call), *wanted);
+fn check_call(rt: &impl Test, (call, wanted): &(Call<'_, u8>, &str)) {
+    must_show(rt, &visible(rt, call), *wanted);
 }
 
 #[test]
 fn calls_show_what_they_name(rt: HostRuntime) {
     for case in &CALLS {
-        check_call(&rt, rt.alloc(), case);
+        check_call(&rt, case);
     }
 }
 
@@ -51,5 +50,5 @@ fn a_stopped_replay_shows_what_was_answered(rt: HostRuntime) {
         done: done.expect(&rt, "memory").into(),
     };
     let wanted = "ReplayStopped { done: [Number(3), NoPlane] }";
-    must_show(&rt, rt.alloc(), &stopped, wanted);
+    must_show(&rt, &stopped, wanted);
 }

@@ -2,6 +2,7 @@
 
 use crate::tests::support::answers::{Replay, check_replays};
 use crate::tests::support::calls::Call::{Bytes, Pixels, PixelsMut, Rows, RowsMut};
+use crate::tests::support::checks::same;
 use crate::tests::support::frames::{BARE, BORDERED};
 use v_frame::replay::Side::{Back, Front};
 
@@ -217,10 +218,10 @@ const FOUR_AND_ONE: &str = "PixelsWalked { total: 4, drawn: [Drawn { item: Some(
 
 #[test]
 fn iterations_come_from_both_ends(rt: HostRuntime) {
-    check_replays(&rt, rt.alloc(), &READ);
+    check_replays(&rt, &READ);
 }
 
 #[test]
 fn iterations_write_their_plane(rt: HostRuntime) {
-    check_replays(&rt, rt.alloc(), &WRITTEN);
+    check_replays(&rt, &WRITTEN);
 }

@@ -7,13 +7,13 @@ use crate::tests::support::buffers::holds;
 use crate::tests::support::calls::Call::{
     Bytes, CopyStrided, PixelMut, Pixels, PixelsMut, Row, RowMut, RowsMut, Width,
 };
-use crate::tests::support::frames::{BORDERED, Layout, numbered, padded};
+use crate::tests::support::checks::{Test, must, same};
+use crate::tests::support::frames::{BORDERED, Layout, luma, numbered, padded};
 use crate::tests::support::texts::must_show;
-use std::alloc::Global;
-use std::process::Abort;
 use v_frame::chroma::ChromaSubsampling::Yuv422;
 use v_frame::frame::Frame;
 use v_frame::laws;
+use v_frame::plane::Plane;
 use v_frame::replay::Answer;
 use v_frame::replay::Side::{Back, Front};
 
@@ -27,24 +27,25 @@ const WITHOUT_TAILS: &str = "Ok([Copied(Ok(())), BytesWalked { total: 8, drawn: 
 
 #[test]
 fn words_go_through_a_frame(rt: HostRuntime) {
+    let rt = &rt;
     let source = Vec::from_slice(rt.alloc(), &[2, 1, 4, 3, 99, 6, 5, 8, 7, 99]);
-    let sides = Vec::from_slice(rt.alloc(), &[Front; 8]).expect(&rt, "memory");
+    let sides = Vec::from_slice(rt.alloc(), &[Front; 8]).expect(rt, "memory");
     let answers = laws::bytes_go_through_a_frame::<u16>(
         rt.alloc(),
         padded((2, 2), Yuv422, 10, [2, 0, 1, 0]),
-        source.expect(&rt, "memory"),
+        source.expect(rt, "memory"),
         5,
         sides,
     );
-    must_show(&rt, rt.alloc(), &answers, WITHOUT_TAILS);
+    must_show(rt, &answers, WITHOUT_TAILS);
 }
 
 /// The pixels 1 to 6 in a numbered border, of a layout that has three columns and two rows.
-fn one_to_six(rt: &impl Abort, alloc: Global, layout: Layout) -> Frame<u8>
+fn one_to_six(rt: &impl Test, layout: Layout) -> Frame<u8>
     ensures { tables_of result
         ≡ record { y = (1 ∷ 2 ∷ 3 ∷ []) ∷ (4 ∷ 5 ∷ 6 ∷ []) ∷ []; u = None; v = None } }
 {
-    let mut frame = numbered::<u8>(rt, alloc, layout);
+    let mut frame = numbered::<u8>(rt, layout);
     let size = (frame.y_plane.width(), frame.y_plane.height());
     let copied = frame.y_plane.copy_from_slice(&[1, 2, 3, 4, 5, 6]);
     let chroma = frame.u_plane.is_some() || frame.v_plane.is_some();
@@ -85,29 +86,25 @@ static NINE: [Step<'static, u8>; 9] = [
 ];
 
 /// Stops the test where the nine calls are answered otherwise, or other pixels or another border are left.
-fn check_nine(
-    rt: &impl Abort,
-    alloc: Global,
-    answers: Vec<Answer<u8>>,
-    (frame, layout): (Frame<u8>, Layout),
-) {
-    assert!(rt; are_told(rt, alloc, answers.as_slice(), &NINE) == 9);
-    assert!(rt; holds(rt, alloc, &frame.y_plane, layout, &[30, 8, 7, 6, 5, 4]));
+fn check_nine(rt: &impl Test, answers: &[Answer<u8>], plane: &Plane<u8>, layout: Layout) {
+    same(rt, are_told(rt, answers, &NINE), 9);
+    must(rt, holds(rt, plane, layout, &[30, 8, 7, 6, 5, 4]));
 }
 
 #[test]
 fn frames_that_show_the_same_answer_nine_calls_and_keep_their_borders(rt: HostRuntime) {
+    let rt = &rt;
     let around = (3, 2, [1, 0, 0, 1]);
-    let mut first = one_to_six(&rt, rt.alloc(), BORDERED);
-    let mut second = one_to_six(&rt, rt.alloc(), around);
-    let calls = calls_of(&rt, rt.alloc(), &NINE);
+    let mut first = one_to_six(rt, BORDERED);
+    let mut second = one_to_six(rt, around);
+    let calls = calls_of(rt, &NINE);
     let both = laws::same_tables_same_answers(
         rt.alloc(),
         &mut first,
         &mut second,
         calls.as_slice(),
     );
-    let (left, right) = both.expect(&rt, "memory");
-    check_nine(&rt, rt.alloc(), left, (first, BORDERED));
-    check_nine(&rt, rt.alloc(), right, (second, around));
+    let (left, right) = both.expect(rt, "memory");
+    check_nine(rt, left.as_slice(), &luma(first), BORDERED);
+    check_nine(rt, right.as_slice(), &luma(second), around);
 }

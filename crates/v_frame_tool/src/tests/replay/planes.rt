@@ -2,11 +2,18 @@
 
 use crate::tests::support::answers::{Step, calls_done};
 use crate::tests::support::calls::Call::{CopyPixels, Height, Row, Width};
-use crate::tests::support::frames::{built, luma, padded, zeros};
-use std::alloc::Global;
-use std::process::Abort;
+use crate::tests::support::checks::{Test, must, must_have};
+use crate::tests::support::frames::{blank_plane, built, luma, padded};
 use v_frame::chroma::ChromaSubsampling::{Yuv420, Yuv422};
 use v_frame::frame::Frame;
+use v_frame::pixel::Pixel;
+use v_frame::plane::Plane;
+
+/// The luma plane of a frame behind these calls, all of which have to give their answers.
+fn answered<T: Pixel>(rt: &impl Test, mut frame: Frame<T>, steps: &[Step<'_, T>]) -> Plane<T> {
+    must(rt, calls_done(rt, &mut frame, steps) == steps.len());
+    luma(frame)
+}
 
 /// The sizes of padded planes.
 static SIZES: [Step<'static, u8>; 3] = [
@@ -17,8 +24,8 @@ static SIZES: [Step<'static, u8>; 3] = [
 
 #[test]
 fn sizes_of_three_planes_are_answered(rt: HostRuntime) {
-    let mut frame = built(&rt, rt.alloc(), padded((4, 2), Yuv420, 8, [2, 2, 2, 0]));
-    assert!(rt; calls_done(&rt, rt.alloc(), &mut frame, &SIZES) == 3);
+    let frame = built(&rt, padded((4, 2), Yuv420, 8, [2, 2, 2, 0]));
+    drop(answered(&rt, frame, &SIZES));
 }
 
 /// A copy into a plane of words.
@@ -30,8 +37,8 @@ static COPIED: [Step<'static, u16>; 3] = [
 
 #[test]
 fn chroma_of_two_bytes_is_written(rt: HostRuntime) {
-    let mut frame = built(&rt, rt.alloc(), padded((2, 2), Yuv422, 16, [0; 4]));
-    assert!(rt; calls_done(&rt, rt.alloc(), &mut frame, &COPIED) == 3);
+    let frame = built(&rt, padded((2, 2), Yuv422, 16, [0; 4]));
+    drop(answered(&rt, frame, &COPIED));
 }
 
 /// Calls on a frame whose U plane has another size, and which has no V plane.
@@ -47,16 +54,16 @@ static REPLACED: [Step<'static, u8>; 5] = [
 ];
 
 /// Two pixels by two, with a U plane of three by one and no V plane.
-fn replaced(rt: &impl Abort, alloc: Global) -> Frame<u8> {
-    let mut frame = built(rt, alloc, padded((2, 2), Yuv420, 8, [0; 4]));
-    frame.u_plane = Some(luma(zeros(rt, alloc, (3, 1, [0; 4]))));
+fn replaced(rt: &impl Test) -> Frame<u8> {
+    let mut frame = built(rt, padded((2, 2), Yuv420, 8, [0; 4]));
+    frame.u_plane = Some(blank_plane(rt, (3, 1, [0; 4])));
     frame.v_plane = None;
     frame
 }
 
 #[test]
 fn planes_that_a_user_replaced_are_replayed(rt: HostRuntime) {
-    let mut frame = replaced(&rt, rt.alloc());
-    assert!(rt; calls_done(&rt, rt.alloc(), &mut frame, &REPLACED) == 5);
-    assert!(rt; frame.y_plane.data() == [1, 2, 3, 4].as_slice());
+    let rt = &rt;
+    let plane = answered(rt, replaced(rt), &REPLACED);
+    must_have(rt, &plane, &[1, 2, 3, 4]);
 }

@@ -46,5 +46,5 @@ static REPLAYS: [Replay<'static, u16>; 3] = [
 
 #[test]
 fn words_are_read_low_byte_first_from_both_ends(rt: HostRuntime) {
-    check_replays(&rt, rt.alloc(), &REPLAYS);
+    check_replays(&rt, &REPLAYS);
 }

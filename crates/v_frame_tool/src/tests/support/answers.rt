@@ -2,10 +2,9 @@
 
 use crate::tests::support::buffers::has_buffer;
 use crate::tests::support::calls::{Call, visible};
-use crate::tests::support::frames::{Layout, with_buffer};
+use crate::tests::support::checks::{Test, must, same};
+use crate::tests::support::frames::{Layout, luma, with_buffer};
 use crate::tests::support::texts::must_show;
-use std::alloc::Global;
-use std::process::Abort;
 use v_frame::frame::Frame;
 use v_frame::pixel::Pixel;
 use v_frame::replay::{Answer, ReplayStopped, VisibleCall, replay};
@@ -26,27 +25,18 @@ pub struct Replay<'a, T> {
 }
 
 /// The calls, as a replay takes them.
-pub fn calls_of<T: Copy>(
-    rt: &impl Abort,
-    alloc: Global,
-    steps: &[Step<'_, T>],
-) -> Vec<VisibleCall<T>> {
-    let mut calls = Vec::new(alloc);
+pub fn calls_of<T: Copy>(rt: &impl Test, steps: &[Step<'_, T>]) -> Vec<VisibleCall<T>> {
+    let mut calls = Vec::new(rt.alloc());
     for (call, _answer) in steps {
-        calls.push(visible(rt, alloc, call)).expect(rt, "memory");
+        calls.push(visible(rt, call)).expect(rt, "memory");
     }
     calls
 }
 
 /// How many answers there are, which have to be those of the first calls.
-pub fn are_told<T: Pixel>(
-    rt: &impl Abort,
-    alloc: Global,
-    answers: &[Answer<T>],
-    steps: &[Step<'_, T>],
-) -> usize {
+pub fn are_told<T: Pixel>(rt: &impl Test, answers: &[Answer<T>], steps: &[Step<'_, T>]) -> usize {
     for (answer, (_call, text)) in answers.iter().zip(steps) {
-        must_show(rt, alloc, answer, *text);
+        must_show(rt, answer, *text);
     }
     answers.len()
 }
@@ -61,40 +51,39 @@ fn answers_of<T>(replayed: &Result<Vec<Answer<T>>, ReplayStopped<T>>) -> &[Answe
 
 /// How many calls a replay did, each of which has to give its answer: all of them, or the first few where a request for
 /// memory is refused.
-pub fn calls_done<T: Pixel>(
-    rt: &impl Abort,
-    alloc: Global,
-    frame: &mut Frame<T>,
-    steps: &[Step<'_, T>],
-) -> usize {
-    let calls = calls_of(rt, alloc, steps);
-    let replayed = replay(alloc, frame, calls.as_slice());
-    count_of(rt, alloc, replayed, steps)
+pub fn calls_done<T: Pixel>(rt: &impl Test, frame: &mut Frame<T>, steps: &[Step<'_, T>]) -> usize {
+    let calls = calls_of(rt, steps);
+    let replayed = replay(rt.alloc(), frame, calls.as_slice());
+    count_of(rt, replayed, steps)
 }
 
 /// How many answers a replay gave, which have to be those of these calls: of all, or of the first few where it stopped.
 fn count_of<T: Pixel>(
-    rt: &impl Abort,
-    alloc: Global,
+    rt: &impl Test,
     replayed: Result<Vec<Answer<T>>, ReplayStopped<T>>,
     steps: &[Step<'_, T>],
 ) -> usize {
-    let done = are_told(rt, alloc, answers_of(&replayed), steps);
-    assert!(rt; done <= steps.len() && (done < steps.len()) == replayed.is_err());
+    let done = are_told(rt, answers_of(&replayed), steps);
+    must(
+        rt,
+        done <= steps.len() && (done < steps.len()) == replayed.is_err(),
+    );
     done
 }
 
 /// Stops the test where a replay does not answer as it has to, or leaves another buffer.
-fn check_replay<T: Pixel>(rt: &impl Abort, alloc: Global, case: &Replay<'_, T>) {
-    let mut frame = with_buffer(rt, alloc, case.layout, case.before);
-    let done = calls_done(rt, alloc, &mut frame, case.steps);
-    assert!(rt; done == case.steps.len());
-    assert!(rt; has_buffer(&frame.y_plane, case.layout, case.after));
+fn check_replay<T: Pixel>(rt: &impl Test, case: &Replay<'_, T>) {
+    let mut frame = with_buffer(rt, case.layout, case.before);
+    must(
+        rt,
+        calls_done(rt, &mut frame, case.steps) == case.steps.len(),
+    );
+    must(rt, has_buffer(&luma(frame), case.layout, case.after));
 }
 
 /// The same of each of these replays.
-pub fn check_replays<T: Pixel>(rt: &impl Abort, alloc: Global, cases: &[Replay<'_, T>]) {
+pub fn check_replays<T: Pixel>(rt: &impl Test, cases: &[Replay<'_, T>]) {
     for case in cases {
-        check_replay(rt, alloc, case);
+        check_replay(rt, case);
     }
 }

@@ -1,7 +1,6 @@
 //! Calls of a replay as plain data.
 
-use std::alloc::Global;
-use std::process::Abort;
+use crate::tests::support::checks::Test;
 use v_frame::replay::{PixelDraw, RowDraw, Sequence, Side, VisibleCall};
 
 /// A call of a replay: first the plane, and then what the call of that name takes.
@@ -35,31 +34,23 @@ pub enum Call<'a, T> {
 }
 
 /// A sequence of these items.
-fn sequence<T: Copy>(rt: &impl Abort, alloc: Global, items: &[T]) -> Sequence<T> {
-    Sequence::from_slice(alloc, items).expect(rt, "memory")
+fn sequence<T: Copy>(rt: &impl Test, items: &[T]) -> Sequence<T> {
+    Sequence::from_slice(rt.alloc(), items).expect(rt, "memory")
 }
 
 /// The calls on an iterator of lent rows, with what each writes.
-fn row_draws<T: Copy>(
-    rt: &impl Abort,
-    alloc: Global,
-    draws: &[(Side, &[Option<T>])],
-) -> Sequence<RowDraw<T>> {
-    let mut list = Vec::new(alloc);
+fn row_draws<T: Copy>(rt: &impl Test, draws: &[(Side, &[Option<T>])]) -> Sequence<RowDraw<T>> {
+    let mut list = Vec::new(rt.alloc());
     for (side, writes) in draws {
-        let (side, writes) = (*side, sequence(rt, alloc, *writes));
+        let (side, writes) = (*side, sequence(rt, *writes));
         list.push(RowDraw { side, writes }).expect(rt, "memory");
     }
     list.into()
 }
 
 /// The calls on an iterator of lent pixels, with what each writes.
-fn pixel_draws<T: Copy>(
-    rt: &impl Abort,
-    alloc: Global,
-    draws: &[(Side, Option<T>)],
-) -> Sequence<PixelDraw<T>> {
-    let mut list = Vec::new(alloc);
+fn pixel_draws<T: Copy>(rt: &impl Test, draws: &[(Side, Option<T>)]) -> Sequence<PixelDraw<T>> {
+    let mut list = Vec::new(rt.alloc());
     for (side, value) in draws {
         let (side, value) = (*side, *value);
         list.push(PixelDraw { side, value }).expect(rt, "memory");
@@ -68,26 +59,26 @@ fn pixel_draws<T: Copy>(
 }
 
 /// An iteration, as a replay takes it.
-fn iteration<T: Copy>(rt: &impl Abort, alloc: Global, call: &Call<'_, T>) -> VisibleCall<T> {
+fn iteration<T: Copy>(rt: &impl Test, call: &Call<'_, T>) -> VisibleCall<T> {
     match *call {
         Call::Rows(plane, sides) => {
-            let draws = sequence(rt, alloc, sides);
+            let draws = sequence(rt, sides);
             VisibleCall::Rows { plane, draws }
         }
         Call::Pixels(plane, sides) => {
-            let draws = sequence(rt, alloc, sides);
+            let draws = sequence(rt, sides);
             VisibleCall::Pixels { plane, draws }
         }
         Call::Bytes(plane, sides) => {
-            let draws = sequence(rt, alloc, sides);
+            let draws = sequence(rt, sides);
             VisibleCall::ByteData { plane, draws }
         }
         Call::RowsMut(plane, draws) => {
-            let draws = row_draws(rt, alloc, draws);
+            let draws = row_draws(rt, draws);
             VisibleCall::RowsMut { plane, draws }
         }
         Call::PixelsMut(plane, draws) => {
-            let draws = pixel_draws(rt, alloc, draws);
+            let draws = pixel_draws(rt, draws);
             VisibleCall::PixelsMut { plane, draws }
         }
         _ => panic!(rt; "no iteration"),
@@ -95,7 +86,7 @@ fn iteration<T: Copy>(rt: &impl Abort, alloc: Global, call: &Call<'_, T>) -> Vis
 }
 
 /// A call, as a replay takes it.
-pub fn visible<T: Copy>(rt: &impl Abort, alloc: Global, call: &Call<'_, T>) -> VisibleCall<T> {
+pub fn visible<T: Copy>(rt: &impl Test, call: &Call<'_, T>) -> VisibleCall<T> {
     match *call {
         Call::Width(plane) => VisibleCall::Width { plane },
         Call::Height(plane) => VisibleCall::Height { plane },
@@ -103,21 +94,21 @@ pub fn visible<T: Copy>(rt: &impl Abort, alloc: Global, call: &Call<'_, T>) -> V
         Call::Pixel(plane, x, y) => VisibleCall::Pixel { plane, x, y },
         Call::PixelMut(plane, x, y, value) => VisibleCall::PixelMut { plane, x, y, value },
         Call::RowMut(plane, y, writes) => {
-            let writes = sequence(rt, alloc, writes);
+            let writes = sequence(rt, writes);
             VisibleCall::RowMut { plane, y, writes }
         }
         Call::CopyPixels(plane, pixels) => {
-            let source = sequence(rt, alloc, pixels);
+            let source = sequence(rt, pixels);
             VisibleCall::CopyFromSlice { plane, source }
         }
         Call::CopyStrided(plane, bytes, stride) => {
-            let source = sequence(rt, alloc, bytes);
+            let source = sequence(rt, bytes);
             VisibleCall::CopyFromU8SliceWithStride {
                 plane,
                 source,
                 stride,
             }
         }
-        _ => iteration(rt, alloc, call),
+        _ => iteration(rt, call),
     }
 }

@@ -1,8 +1,8 @@
 //! Frames: blank, with a buffer, and with a picture in a border.
 
 use crate::tests::support::buffers::{bordered_buffer, buffer_in_200, number_at};
+use crate::tests::support::checks::{Test, must};
 use std::alloc::Global;
-use std::process::Abort;
 use v_frame::chroma::ChromaSubsampling::{self, Monochrome};
 use v_frame::frame::{Frame, FrameBuilder, FrameError};
 use v_frame::pixel::Pixel;
@@ -33,43 +33,28 @@ pub fn padded(
 }
 
 /// The frame that is built so.
-pub fn built<T: Pixel>(rt: &impl Abort, alloc: Global, builder: FrameBuilder) -> Frame<T> {
-    builder.build(alloc).expect(rt, "a frame")
+pub fn built<T: Pixel>(rt: &impl Test, builder: FrameBuilder) -> Frame<T> {
+    builder.build(rt.alloc()).expect(rt, "a frame")
 }
 
 /// A luma plane of zeros alone, in the border too, of the least depth for bytes and of the greatest for words.
-pub fn zeros<T: Pixel>(
-    rt: &impl Abort,
-    alloc: Global,
-    (width, height, padding): Layout,
-) -> Frame<T> {
+pub fn zeros<T: Pixel>(rt: &impl Test, (width, height, padding): Layout) -> Frame<T> {
     let depth = if T::BYTES == 1 { 8 } else { 16 };
-    built(
-        rt,
-        alloc,
-        padded((width, height), Monochrome, depth, padding),
-    )
+    built(rt, padded((width, height), Monochrome, depth, padding))
 }
 
 /// A luma plane in this buffer.
-pub fn with_buffer<T: Pixel>(
-    rt: &impl Abort,
-    alloc: Global,
-    layout: Layout,
-    buffer: &[T],
-) -> Frame<T> {
-    let mut frame = zeros(rt, alloc, layout);
+pub fn with_buffer<T: Pixel>(rt: &impl Test, layout: Layout, buffer: &[T]) -> Frame<T> {
+    let mut frame = zeros(rt, layout);
     let data = frame.y_plane.data_mut();
-    if data.len() != buffer.len() {
-        panic!(rt; "another size");
-    }
+    must(rt, data.len() == buffer.len());
     data.copy_from_slice(buffer);
     frame
 }
 
 /// A luma plane whose entries are numbered, in the border too.
-pub fn numbered<T: Pixel>(rt: &impl Abort, alloc: Global, layout: Layout) -> Frame<T> {
-    let mut frame = zeros(rt, alloc, layout);
+pub fn numbered<T: Pixel>(rt: &impl Test, layout: Layout) -> Frame<T> {
+    let mut frame = zeros(rt, layout);
     for (place, entry) in frame.y_plane.data_mut().iter_mut().enumerate() {
         *entry = number_at(rt, place);
     }
@@ -81,19 +66,44 @@ pub fn luma<T: Pixel>(frame: Frame<T>) -> Plane<T> {
     frame.y_plane
 }
 
+/// A plane of zeros, in the border too.
+pub fn blank_plane<T: Pixel>(rt: &impl Test, layout: Layout) -> Plane<T> {
+    luma(zeros(rt, layout))
+}
+
+/// A plane in this buffer.
+pub fn plane_of<T: Pixel>(rt: &impl Test, layout: Layout, buffer: &[T]) -> Plane<T> {
+    luma(with_buffer(rt, layout, buffer))
+}
+
+/// A plane whose entries are numbered, in the border too.
+pub fn numbered_plane<T: Pixel>(rt: &impl Test, layout: Layout) -> Plane<T> {
+    luma(numbered(rt, layout))
+}
+
 /// The pixels 1 to 6, three by two, in a border whose entries have a value each.
-pub fn counted(rt: &impl Abort, alloc: Global) -> Frame<u8> {
-    with_buffer(rt, alloc, BORDERED, &bordered_buffer([1, 2, 3, 4, 5, 6]))
+pub fn counted(rt: &impl Test) -> Frame<u8> {
+    with_buffer(rt, BORDERED, &bordered_buffer([1, 2, 3, 4, 5, 6]))
+}
+
+/// Their plane.
+pub fn counted_plane(rt: &impl Test) -> Plane<u8> {
+    luma(counted(rt))
 }
 
 /// The pixels 1 to 6, three by two, in a border whose entries hold 200.
-pub fn in_200(rt: &impl Abort, alloc: Global) -> Frame<u8> {
-    with_buffer(rt, alloc, BORDERED, &buffer_in_200([1, 2, 3, 4, 5, 6]))
+pub fn in_200(rt: &impl Test) -> Frame<u8> {
+    with_buffer(rt, BORDERED, &buffer_in_200([1, 2, 3, 4, 5, 6]))
+}
+
+/// Their plane.
+pub fn plane_in_200(rt: &impl Test) -> Plane<u8> {
+    luma(in_200(rt))
 }
 
 /// Three pixels by three, counted from 0.
-pub fn nine(rt: &impl Abort, alloc: Global) -> Frame<u8> {
-    with_buffer(rt, alloc, (3, 3, [0; 4]), &[0, 1, 2, 3, 4, 5, 6, 7, 8])
+pub fn nine(rt: &impl Test) -> Frame<u8> {
+    with_buffer(rt, (3, 3, [0; 4]), &[0, 1, 2, 3, 4, 5, 6, 7, 8])
 }
 
 /// Whether the plane of this index is there with this buffer.
@@ -105,12 +115,12 @@ pub fn holds_plane<T: Pixel>(frame: &Frame<T>, index: usize, buffer: &[T]) -> bo
 }
 
 /// Writes a pixel of a plane.
-pub fn write_pixel<T: Pixel>(rt: &impl Abort, plane: &mut Plane<T>, x: usize, y: usize, value: T) {
+pub fn write_pixel<T: Pixel>(rt: &impl Test, plane: &mut Plane<T>, x: usize, y: usize, value: T) {
     *plane.pixel_mut(x, y).expect(rt, "a pixel") = value;
 }
 
 /// Writes the first pixel of the plane of this index.
-pub fn mark<T: Pixel>(rt: &impl Abort, frame: &mut Frame<T>, index: usize, value: T) {
+pub fn mark<T: Pixel>(rt: &impl Test, frame: &mut Frame<T>, index: usize, value: T) {
     let plane = frame.plane_mut(index).expect(rt, "a plane");
     write_pixel(rt, plane, 0, 0, value);
 }

@@ -1,7 +1,6 @@
 //! Planes that are filled entry by entry.
 
-use std::alloc::Global;
-use std::process::Abort;
+use crate::tests::support::checks::{Test, must};
 use v_frame::plane::{Plane, PlaneGeometry};
 
 /// Two pixels in one row, without a border.
@@ -10,45 +9,34 @@ pub fn pair() -> Option<PlaneGeometry> {
 }
 
 /// A plane without a value anywhere.
-pub fn vacant<T: Drop>(
-    rt: &impl Abort,
-    alloc: Global,
-    geometry: Option<PlaneGeometry>,
-) -> Plane<Option<T>> {
+pub fn vacant<T: Drop>(rt: &impl Test, geometry: Option<PlaneGeometry>) -> Plane<Option<T>> {
     let geometry = geometry.expect(rt, "no geometry");
-    if geometry.checked_alloc_size().is_none() {
-        panic!(rt; "too large");
-    }
-    Plane::new_uninit(alloc, geometry).expect(rt, "memory")
+    must(rt, geometry.checked_alloc_size().is_some());
+    Plane::new_uninit(rt.alloc(), geometry).expect(rt, "memory")
 }
 
 /// A plane whose buffer has these entries.
 pub fn holding(
-    rt: &impl Abort,
-    alloc: Global,
+    rt: &impl Test,
     geometry: Option<PlaneGeometry>,
     entries: &[Option<u8>],
 ) -> Plane<Option<u8>> {
-    let mut plane = vacant(rt, alloc, geometry);
+    let mut plane = vacant(rt, geometry);
     let data = plane.data_mut();
-    if data.len() != entries.len() {
-        panic!(rt; "another size");
-    }
+    must(rt, data.len() == entries.len());
     data.copy_from_slice(entries);
     plane
 }
 
 /// The plane of the values, where each place holds one.
-pub fn values_of<T: Drop>(rt: &impl Abort, alloc: Global, plane: Plane<Option<T>>) -> Plane<T> {
-    if !plane.is_init() {
-        panic!(rt; "a place without a value");
-    }
-    let values = plane.assume_init(alloc).ok();
+pub fn values_of<T: Drop>(rt: &impl Test, plane: Plane<Option<T>>) -> Plane<T> {
+    must(rt, plane.is_init());
+    let values = plane.assume_init(rt.alloc()).ok();
     values.expect(rt, "memory")
 }
 
 /// The pixels 5 and 6 in one row.
-pub fn five_and_six(rt: &impl Abort, alloc: Global) -> Plane<u8> {
-    let plane = holding(rt, alloc, pair(), &[Some(5), Some(6)]);
-    values_of(rt, alloc, plane)
+pub fn five_and_six(rt: &impl Test) -> Plane<u8> {
+    let plane = holding(rt, pair(), &[Some(5), Some(6)]);
+    values_of(rt, plane)
 }
