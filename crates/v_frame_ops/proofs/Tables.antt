@@ -1,11 +1,15 @@
 -- Lists that agree at each place are equal, and so are tables of one size that agree pixel by pixel; the pixels of a rectangle
--- are those of its table.
-use Rattle.std.proofs.Common.{ℕ, zero, suc, ◌≡◌, ◌+◌, ◌<◌, All, List, [], ◌∷◌, length, take, drop, Option, Some, None, option_map, option_and_then, slice_get}
-use Rattle.std.proofs.Common.{refl, sym, ◌∙◌, ap, arith}
+-- are those of its table. And loops over rows: that move pixels within them, write them into a table, or compare them.
+use Rattle.std.proofs.Common.{ℕ, zero, suc, ◌≡◌, ◌≢◌, ◌+◌, ◌<◌, ◌≤◌, ◌⊎◌, All, List, [], ◌∷◌, length, take, drop, slice_get}
+use Rattle.std.proofs.Common.{Option, Some, None, option_map, option_and_then, refl, sym, ◌∙◌, ap, ⊎_elim, arith}
 use Rattle.std.proofs.lemmas.List.Elements.{All-head, All-tail}
-use Rattle.std.proofs.lemmas.Option.{slice_get-map}
+use Rattle.std.proofs.lemmas.Option.{same_Some, slice_get-map}
 use Rattle.v_frame.specs.Prelude.{Table, pixel_at, rectangle}
+use Rattle.std.proofs.Math.ListN.{set}
+use Rattle.v_frame_ops.proofs.Changed.{slice_get-set_same}
+use Rattle.v_frame_ops.specs.Compare.{SameBelow, DifferFirstAt, IsFirstDifference}
 use Rattle.v_frame_ops.specs.Rows.{HoldsPixelsFrom}
+use borrow.Author.Count.{below_more}
 
 module _ {X : Type 0} where
   same_by_slice_get : (xs ys : List X) → length xs ≡ length ys → ((k : ℕ) → k < length xs → slice_get xs k ≡ slice_get ys k) → xs ≡ ys
@@ -17,20 +21,79 @@ module _ {X : Type 0} where
       let others = same_by_slice_get xs ys (omega arith) (λ k h. each (suc k) (omega arith)) in
       cc
 
-  slice_get-take : (n : ℕ) (xs : List X) (i : ℕ) → i < n → slice_get (take n xs) i ≡ slice_get xs i
+  pub slice_get-take : (n : ℕ) (xs : List X) (i : ℕ) → i < n → slice_get (take n xs) i ≡ slice_get xs i
   slice_get-take zero xs i h = absurd (omega arith)
   slice_get-take (suc n) [] i h = refl
   slice_get-take (suc n) (x ∷ xs) zero h = refl
   slice_get-take (suc n) (x ∷ xs) (suc i) h = slice_get-take n xs i (omega arith)
 
-  slice_get-drop : (n : ℕ) (xs : List X) (i : ℕ) → slice_get (drop n xs) i ≡ slice_get xs (n + i)
+  pub slice_get-drop : (n : ℕ) (xs : List X) (i : ℕ) → slice_get (drop n xs) i ≡ slice_get xs (n + i)
   slice_get-drop zero xs i = let e : 0 + i ≡ i = omega arith in rw e refl
   slice_get-drop (suc n) [] i = refl
   slice_get-drop (suc n) (x ∷ xs) i =
       let e : suc n + i ≡ suc (n + i) = omega arith in
       slice_get-drop n xs i ∙ ap (slice_get (x ∷ xs)) (sym e)
 
+-- the rows of a table from one on and in front of another have the pixels that they had in other columns, and the rows behind are
+-- as they were
+pub record MovedBelow {T : Type 0} (from : ℕ → ℕ) (width top : ℕ) (old now : Table T) (y : ℕ) : Type 0 where
+  pub inside : (k : ℕ) → k < y → (x : ℕ) → x < width → top ≤ k → pixel_at now x k ≡ pixel_at old (from x) k
+  pub others : (k : ℕ) → y ≤ k → slice_get now k ≡ slice_get old k
+
+-- a table has in front of a row the rows of another one, each from column x of row y on, and all else is as it was
+pub record PlacedBelow {T : Type 0} (x y width : ℕ) (shown old now : Table T) (k : ℕ) : Type 0 where
+  pub inside : (j : ℕ) → j < k → (i : ℕ) → i < width → pixel_at now (x + i) (y + j) ≡ pixel_at shown i j
+  pub beside : (i j : ℕ) → (i < x) ⊎ (x + width ≤ i) → pixel_at now i j ≡ pixel_at old i j
+  pub above : (i j : ℕ) → j < y → pixel_at now i j ≡ pixel_at old i j
+  pub below : (i j : ℕ) → y + k ≤ j → pixel_at now i j ≡ pixel_at old i j
+
 module _ {T : Type 0} where
+  pub one_more_placed : (x y width : ℕ) (shown old now after : Table T) (k : ℕ) (row : List T) → PlacedBelow x y width shown old now k
+      → slice_get shown k ≡ Some row → length row ≡ width → ((i : ℕ) → i < length row → pixel_at after (x + i) (y + k) ≡ slice_get row i)
+      → ((i j : ℕ) → (i < x) ⊎ (x + length row ≤ i) → pixel_at after i j ≡ pixel_at now i j)
+      → ((i j : ℕ) → j ≢ y + k → pixel_at after i j ≡ pixel_at now i j) → PlacedBelow x y width shown old after (k + 1)
+  one_more_placed x y width shown old now after k row so_far is wide inside beside others = record {
+    inside =
+        below_more (λ j. (i : ℕ) → i < width → pixel_at after (x + i) (y + j) ≡ pixel_at shown i j) k
+        (λ j h i across. others (x + i) (y + j) (omega arith) ∙ so_far.inside j h i across)
+        (λ i across. inside i (omega arith) ∙ sym (ap (option_and_then (λ r. slice_get r i)) is));
+    beside = λ i j out. (rw wide at beside) i j out ∙ so_far.beside i j out;
+    above = λ i j h. others i j (omega arith) ∙ so_far.above i j h;
+    below = λ i j h. others i j (omega arith) ∙ so_far.below i j (omega arith);
+  }
+
+  pub all_beside : (x y width height : ℕ) (shown old now : Table T) (k : ℕ) → PlacedBelow x y width shown old now k → k ≤ height
+      → (i j : ℕ) → ((i < x) ⊎ (x + width ≤ i)) ⊎ ((j < y) ⊎ (y + height ≤ j)) → pixel_at now i j ≡ pixel_at old i j
+  all_beside x y width height shown old now k placed end i j =
+      ⊎_elim (placed.beside i j) (⊎_elim (placed.above i j) (λ h. placed.below i j (omega arith)))
+
+  pub one_more_moved : (from : ℕ → ℕ) (width top : ℕ) (old now after : Table T) (y : ℕ) → MovedBelow from width top old now y
+      → ((x : ℕ) → x < width → pixel_at after x y ≡ pixel_at now (from x) y) → ((k : ℕ) → k ≢ y → slice_get after k ≡ slice_get now k)
+      → MovedBelow from width top old after (y + 1)
+  one_more_moved from width top old now after y so_far row others = record {
+    inside =
+        below_more (λ k. (x : ℕ) → x < width → top ≤ k → pixel_at after x k ≡ pixel_at old (from x) k) y
+        (λ k h x across down. ap (option_and_then (λ r. slice_get r x)) (others k (omega arith)) ∙ so_far.inside k h x across down)
+        (λ x across down. row x across ∙ ap (option_and_then (λ r. slice_get r (from x))) (so_far.others y (omega arith)));
+    others = λ k h. others k (omega arith) ∙ so_far.others k (omega arith);
+  }
+
+  -- where a row is replaced by one that moves a pixel, the table has that pixel there
+  pub pixel_is_moved : (old : Table T) (x y from : ℕ) (row new : List T) → slice_get old y ≡ Some row → slice_get new x ≡ slice_get row from
+      → pixel_at (set old y new) x y ≡ pixel_at old from y
+  pixel_is_moved old x y from row new is same =
+      ap (option_and_then (λ r. slice_get r x)) (slice_get-set_same old y row new new is refl) ∙ same
+      ∙ sym (ap (option_and_then (λ r. slice_get r from)) is)
+
+  -- where a row is replaced by one that keeps its pixel of a column, the table keeps all pixels of that column
+  pub pixel_is_kept : (old : Table T) (x y : ℕ) (row new : List T) → slice_get old y ≡ Some row → slice_get new x ≡ slice_get row x
+      → (k : ℕ) → pixel_at (set old y new) x k ≡ pixel_at old x k
+  pixel_is_kept [] x y row new is same k = refl
+  pixel_is_kept (first ∷ old) x zero row new is same zero = same ∙ ap (λ r. slice_get r x) (sym (same_Some first row is))
+  pixel_is_kept (first ∷ old) x zero row new is same (suc k) = refl
+  pixel_is_kept (first ∷ old) x (suc y) row new is same zero = refl
+  pixel_is_kept (first ∷ old) x (suc y) row new is same (suc k) = pixel_is_kept old x y row new is same k
+
   pub same_by_pixel_at : (width : ℕ) (table other : Table T) → length table ≡ length other → All (λ row. length row ≡ width) table →
       All (λ row. length row ≡ width) other
       → ((x y : ℕ) → x < width → y < length table → pixel_at table x y ≡ pixel_at other x y) → table ≡ other
@@ -45,6 +108,29 @@ module _ {T : Type 0} where
       let wide3 = All-tail (λ row. length row ≡ width) row1 other wide1 in
       let others = same_by_pixel_at width table other (omega arith) wide2 wide3 (λ x y h k. each x (suc y) h (omega arith)) in
       cc
+
+  -- the rows of one number in two tables
+  module _ (table other : Table T) (y : ℕ) (row beside : List T) (is : slice_get table y ≡ Some row) (is_beside : slice_get other y ≡ Some beside)
+      (above : (i j : ℕ) → j < y → pixel_at table i j ≡ pixel_at other i j) where
+    pixel_here : (x : ℕ) → pixel_at table x y ≡ slice_get row x
+    pixel_here x = ap (option_and_then (λ r. slice_get r x)) is
+
+    pixel_beside : (x : ℕ) → pixel_at other x y ≡ slice_get beside x
+    pixel_beside x = ap (option_and_then (λ r. slice_get r x)) is_beside
+
+    pub first_difference_is : (x : ℕ) → DifferFirstAt row beside x → IsFirstDifference table other x y
+    first_difference_is x at = record {
+      above = above;
+      before = λ i h. pixel_here i ∙ at.before i h ∙ sym (pixel_beside i);
+      differs = λ same. at.differs (sym (pixel_here x) ∙ same ∙ pixel_beside x);
+    }
+
+    pub one_more_row_same : length row ≡ length beside → SameBelow row beside (length row)
+        → (i j : ℕ) → j < y + 1 → pixel_at table i j ≡ pixel_at other i j
+    one_more_row_same wide same i =
+        let rows = same_by_slice_get row beside wide same in
+        below_more (λ j. pixel_at table i j ≡ pixel_at other i j) y (above i)
+        (pixel_here i ∙ ap (λ r. slice_get r i) rows ∙ sym (pixel_beside i))
 
   module _ (x i width : ℕ) (across : i < width) where
     pixel_of_part : (row : Option (List T)) → option_and_then (λ r. slice_get r i) (option_map (λ r. take width (drop x r)) row) ≡

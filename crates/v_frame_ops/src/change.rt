@@ -151,8 +151,8 @@ fn write_row_part<T: Pixel>(plane: &mut Plane<T>, x: usize, y: usize, pixels: &[
     requires high { y < plane.old.geometry.height }
     ensures inside { (i : ℕ) → i < length pixels.now
         → pixel_at (table_of plane.new) (x + i) y ≡ slice_get pixels.now i }
-    ensures beside { (i : ℕ) → (i < x) ⊎ (x + length pixels.now ≤ i)
-        → pixel_at (table_of plane.new) i y ≡ pixel_at (table_of plane.old) i y }
+    ensures beside { (i k : ℕ) → (i < x) ⊎ (x + length pixels.now ≤ i)
+        → pixel_at (table_of plane.new) i k ≡ pixel_at (table_of plane.old) i k }
     ensures others { (i k : ℕ) → k ≢ y
         → pixel_at (table_of plane.new) i k ≡ pixel_at (table_of plane.old) i k }
     ensures border { KeepsBorder plane.old plane.new }

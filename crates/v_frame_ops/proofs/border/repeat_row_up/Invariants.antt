@@ -1,11 +1,7 @@
 -- The rows so far are copies, and the others are as they were.
-use Rattle.std.proofs.Common.{ℕ, ◌≡◌, ◌<◌, ◌≤◌, slice_get}
-use Rattle.v_frame.specs.Prelude.{IsWhole, raster, table_of}
+use Rattle.v_frame.specs.Prelude.{raster, table_of}
+use Rattle.v_frame_ops.proofs.Changed.{CopiedBelow}
 use Rattle.v_frame_ops.proofs.border.repeat_row_up.Given as goal
 
 abbrev pub invariant-loop-y : goal.invariant-loop-y
-invariant-loop-y g l = record {
-  whole : IsWhole l.whole l.buffer;
-  above : (k : ℕ) → k < l.y → slice_get (table_of (raster l.whole l.buffer)) k ≡ slice_get (table_of (raster l.whole l.fn.buffer)) l.from;
-  others : (k : ℕ) → l.y ≤ k → slice_get (table_of (raster l.whole l.buffer)) k ≡ slice_get (table_of (raster l.whole l.fn.buffer)) k;
-}
+invariant-loop-y g l = CopiedBelow 0 l.from (table_of (raster l.whole l.fn.buffer)) (table_of (raster l.whole l.buffer)) l.y

@@ -1,14 +1,11 @@
 -- The rows so far are made of results, and the others and the border are as they were.
-use Rattle.std.proofs.Common.{ℕ, ◌≡◌, ◌<◌, ◌≤◌, List, length, Some, slice_get}
 use Rattle.v_frame.specs.Prelude.{KeepsBorder, table_of}
 use Rattle.v_frame_ops.specs.Rows.{CombinesItems}
+use Rattle.v_frame_ops.proofs.Changed.{ChangedBelow, GivenWith}
 use Rattle.v_frame_ops.proofs.change.combine_rows.Given as goal
 
 abbrev pub invariant-loop-y : goal.invariant-loop-y
 invariant-loop-y g l = record {
-  count : length (table_of l.plane) ≡ length (table_of l.fn.plane);
-  changed : (k : ℕ) (p q : List g.row.T.Denot) → k < l.y → slice_get (table_of l.fn.plane) k ≡ Some p → slice_get (table_of l.other) k ≡ Some q
-      → (r : List g.row.T.Denot) × CombinesItems (goal.F-post g l.combine) p q r × (slice_get (table_of l.plane) k ≡ Some r);
-  others : (k : ℕ) → l.y ≤ k → slice_get (table_of l.plane) k ≡ slice_get (table_of l.fn.plane) k;
+  rows : ChangedBelow (GivenWith (CombinesItems (goal.F-post g l.combine)) (table_of l.other)) (table_of l.fn.plane) (table_of l.plane) l.y;
   border : KeepsBorder l.fn.plane l.plane;
 }

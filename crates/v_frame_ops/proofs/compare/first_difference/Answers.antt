@@ -1,6 +1,7 @@
 -- Where no row has a difference, both tables have one size and the same pixels.
 use Rattle.std.proofs.Common.{ℕ, ◌≡◌, All, List, length, refl, subst, arith}
 use Rattle.v_frame.specs.Prelude.{table_of}
+use Rattle.v_frame_ops.proofs.Tables.{first_difference_is, one_more_row_same}
 use Rattle.v_frame_ops.proofs.compare.first_difference.Goals as goal
 
 pub returns-clause-none : goal.returns-clause-none
@@ -11,3 +12,16 @@ returns-clause-none g c =
           (λ x y across down. c.loop-y.invariant x y (omega arith)),
       λ alike. refl,
     )
+
+pub returns-in-Some-clause-first : goal.returns-in-Some-clause-first
+returns-in-Some-clause-first g c =
+    first_difference_is (table_of c.args.a.now) (table_of c.args.b.now) c.loop-y.y c.visible_row.result.now c.visible_row-in-loop-y.result.now
+    c.visible_row.ensures.row c.visible_row-in-loop-y.ensures.row c.loop-y.invariant c.in-Some.x c.in-Some.ensures.first
+
+pub returns-in-Some-clause-within : goal.returns-in-Some-clause-within
+returns-in-Some-clause-within g c = let within = c.in-Some.ensures.first.within in (omega arith, omega arith)
+
+pub loop-y-preserved : goal.loop-y-preserved
+loop-y-preserved g c =
+    one_more_row_same (table_of c.args.a.now) (table_of c.args.b.now) c.loop-y.y c.visible_row.result.now c.visible_row-in-loop-y.result.now
+    c.visible_row.ensures.row c.visible_row-in-loop-y.ensures.row c.loop-y.invariant (omega arith) (c.in_default.ensures.none refl)
