@@ -11,6 +11,7 @@ pub mod FullWalks
 pub mod ItemKinds
 pub mod Lending
 pub mod OptionCases
+pub mod PlaneCalls
 pub mod PutBack
 pub mod Replays
 pub mod SharedItems

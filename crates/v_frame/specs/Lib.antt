@@ -2,6 +2,7 @@ pub mod Build
 pub mod DrawnItems
 pub mod Frame
 pub mod Lends
+pub mod PlaneReply
 pub mod Prelude
 pub mod Replay
 pub mod Walk

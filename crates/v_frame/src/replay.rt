@@ -7,9 +7,9 @@
 //! on its table; a call on a frame finds its plane and is a call on tables; a list is the induction over these. Each kind of
 //! call is in one of the files beside this one. All of them use the public calls of planes and frames alone.
 ghost use Rattle.std.specs.Prelude.{◌≡◌, ℕ, None, Some, IfOk, IfErr, OnOk, OnErr};
-ghost use Rattle.v_frame_plane.specs.Plane.{KeepsBorder, table_of};
 ghost use Rattle.v_frame.specs.Frame.{tables_of, plane_at, KeepsBorders};
-ghost use Rattle.v_frame.specs.Replay.{written_plane, WritesPlane, on_table, reply_to, answers_to, tables_after, StoppedAfter};
+ghost use Rattle.v_frame.specs.PlaneReply.{RepliesOn};
+ghost use Rattle.v_frame.specs.Replay.{written_plane, WritesPlane, reply_to, answers_to, tables_after, StoppedAfter};
 
 mod answer;
 mod call;
@@ -98,13 +98,7 @@ fn replay_on_plane<T: Pixel>(
     plane: &mut Plane<T>,
     call: &VisibleCall<T>,
 ) -> Result<Answer<T>, AllocError>
-    ensures answer { IfOk result (λ answer.
-        answer ≡ (on_table T.form call.now (table_of plane.old)).answer) }
-    ensures table { OnOk result
-        (table_of plane.new ≡ (on_table T.form call.now (table_of plane.old)).table) }
-    ensures err { OnErr result (plane.new ≡ plane.old) }
-    ensures border { KeepsBorder plane.old plane.new }
-    ensures unwritten { written_plane call.now ≡ None → plane.new ≡ plane.old }
+    ensures { RepliesOn T.form call.now plane.old plane.new result }
 {
     match call {
         VisibleCall::Width { .. } => Ok(Answer::Number(plane.width())),

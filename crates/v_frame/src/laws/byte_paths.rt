@@ -46,24 +46,24 @@ pub fn bytes_go_through_a_frame<T: Pixel>(
         length bytes ≤ length sides.items
         → AreAllGiven bytes sides.items (draws_answer bytes sides.items) }
 {
-    let frame = builder.build::<T>(alloc)?;
-    copied_and_walked(alloc, frame, source, stride, sides).map_err(|_| FrameError::OutOfMemory)
+    let mut frame = builder.build::<T>(alloc)?;
+    copied_and_walked(alloc, &mut frame, source, stride, sides).map_err(|_| FrameError::OutOfMemory)
 }
 
 /// The answers of a frame whose luma is filled from bytes with a stride, and whose luma's bytes are taken from these sides.
 fn copied_and_walked<T: Pixel>(
     alloc: Global,
-    mut frame: Frame<T>,
+    frame: &mut Frame<T>,
     source: Vec<u8>,
     stride: usize,
     sides: Vec<Side>,
 ) -> Result<Vec<Answer<T>>, AllocError>
     ensures { IfOk result (λ answers. answers.items ≡ answers_to T.form
         (CopyFromU8SliceWithStride 0 source.items stride ∷ ByteData 0 sides.items ∷ [])
-        (tables_of frame)) }
+        (tables_of frame.old)) }
 {
     let calls = copy_and_walk(alloc, source, stride, sides)?;
-    replayed(alloc, &mut frame, calls.as_slice())
+    replayed(alloc, frame, calls.as_slice())
 }
 
 /// The calls that copy bytes with a stride into luma and take luma's bytes from these sides.

@@ -141,7 +141,7 @@ impl<T: PartialEq> PartialEq for Sequence<T> {
     ghost laws = { lists_per T.PartialEq.laws };
 
     fn eq(&self, other: &Self) -> bool {
-        self.items.as_slice() == other.items.as_slice()
+        self.items == other.items
     }
 }
 
@@ -151,6 +151,6 @@ impl<T: Eq> Eq for Sequence<T> {
 
 impl<T: fmt::Debug> fmt::Debug for Sequence<T> {
     fn fmt<W: fmt::Write>(&self, f: &mut fmt::Formatter<W>) -> fmt::Result {
-        self.items.as_slice().fmt(f)
+        self.items.fmt(f)
     }
 }

@@ -1,8 +1,9 @@
 -- One more call: its answer, its tables, and the planes that it may write.
-use Rattle.std.proofs.Common.{◌<◌, List, [], ◌∷◌, ◌++◌, length, take, ◌∙◌, ap, sym, arith}
+use Rattle.std.proofs.Common.{◌<◌, List, [], ◌∷◌, ◌++◌, length, take, refl, ◌∙◌, ap, sym, arith}
+use Rattle.std.proofs.lemmas.List.{take_all}
 use Rattle.v_frame.specs.Frame.{tables_of, plane_at}
 use Rattle.v_frame_layout.specs.Pixel.{PixelForm}
-use Rattle.v_frame.specs.Replay.{reply_to, answers_to}
+use Rattle.v_frame.specs.Replay.{reply_to, answers_to, tables_after}
 use Rattle.v_frame.specs.declared.frame.Frame.{Frame}
 use Rattle.v_frame.specs.declared.replay.answer.Answer.{Answer}
 use Rattle.v_frame.proofs.Replays.{answers_more, tables_more, keeps_border_twice, stopped_at, written_before, written_now, written_in_front}
@@ -42,3 +43,25 @@ returns-in-Err-replay_call-clause-stopped g c =
     let within : i < length c.args.calls.now = omega arith in
     let shown = ap (λ (f : Frame g.row.T.Denot). tables_of f) c.in-Err-replay_call.ensures.err ∙ so_far.tables in
     rw c.into-in-Err-replay_call.ensures (stopped_at g.T.Pixel.form c.args.calls.now i within _ _ _ (omega (arith, so_far.done)) so_far.answers shown)
+
+pub loop-call-init : goal.loop-call-init
+loop-call-init g c = record {
+  answers = c.in-Ok.ensures.items;
+  tables = refl;
+  border = record { subsampling = refl; bit_depth = refl; y_plane = refl; u_plane = refl; v_plane = refl };
+  unwritten = λ index none. refl;
+  done = c.in-Ok.ensures.len;
+  room = omega (arith, c.in-Ok.ensures.capacity);
+}
+
+pub returns-clause-answers : goal.returns-clause-answers
+returns-clause-answers g c = c.loop-call.invariant.answers ∙
+    ap (λ calls. answers_to g.T.Pixel.form calls (tables_of c.args.frame.now)) (take_all c.loop-call.call-index c.args.calls.now c.loop-call-test.false)
+
+pub returns-clause-tables : goal.returns-clause-tables
+returns-clause-tables g c = c.loop-call.invariant.tables ∙
+    ap (λ calls. tables_after g.T.Pixel.form calls (tables_of c.args.frame.now)) (take_all c.loop-call.call-index c.args.calls.now c.loop-call-test.false)
+
+pub returns-clause-unwritten : goal.returns-clause-unwritten
+returns-clause-unwritten g c = λ index none.
+    c.loop-call.invariant.unwritten index (λ h. none (written_in_front c.args.calls.now c.loop-call.call-index index h))

@@ -1,0 +1,17 @@
+-- What a call on one plane answers and leaves, as its call on the table that the plane shows does.
+use Rattle.std.specs.Prelude.{◌≡◌, None, Result, IfOk, OnOk, OnErr}
+use Rattle.std.specs.declared.alloc.AllocError.{AllocError}
+use Rattle.v_frame_layout.specs.Pixel.{PixelForm}
+use Rattle.v_frame_plane.specs.Plane.{Raster, table_of, KeepsBorder}
+use Rattle.v_frame.specs.Replay.{written_plane, on_table}
+use Rattle.v_frame.specs.declared.replay.call.VisibleCall.{VisibleCall}
+use Rattle.v_frame.specs.declared.replay.answer.Answer.{Answer}
+
+-- where memory is refused, and where the call writes no plane, the plane is as before
+pub record RepliesOn {T : Type 0} (form : PixelForm T) (call : VisibleCall T) (old new : Raster T)
+    (result : Result (Answer T) AllocError) : Type 0 where
+  pub answer : IfOk result (λ answer. answer ≡ (on_table form call (table_of old)).answer)
+  pub table : OnOk result (table_of new ≡ (on_table form call (table_of old)).table)
+  pub err : OnErr result (new ≡ old)
+  pub border : KeepsBorder old new
+  pub unwritten : written_plane call ≡ None → new ≡ old
