@@ -155,16 +155,26 @@ impl<T> AlignedData<Option<T>> {
         ensures kept { IfErr result (λ d. d ≡ self) }
         ensures no_entries { self ≡ [] → IsOk result }
     {
-        let Ok(mut values) = Filling::new(alloc, self.len) else {
-            return Err(self);
-        };
-        for entry in self.as_mut_slice() {
-            if let Some(value) = entry.take() {
-                values.push(value);
-            }
+        match Filling::new(alloc, self.len) {
+            Ok(values) => Ok(move_values(self.as_mut_slice(), values)),
+            Err(_) => Err(self),
         }
-        Ok(values.finish())
     }
+}
+
+/// Moves the values of these entries, in their order, to a block that has room for them.
+fn move_values<T: Drop>(entries: &mut [Option<T>], mut values: Filling<T>) -> AlignedData<T>
+    requires full { All IsSome entries.old }
+    requires none_moved { values.items ≡ [] }
+    requires room { values.spare ≡ length entries.old }
+    ensures { map Some result ≡ entries.old }
+{
+    for entry in entries {
+        if let Some(value) = entry.take() {
+            values.push(value);
+        }
+    }
+    values.finish()
 }
 
 impl<T: PartialEq> PartialEq for AlignedData<T> {

@@ -1,12 +1,20 @@
 -- An iterator over bytes as a pixel that was begun from the front, pixels, and a pixel that was begun from the back.
 use Rattle.std.proofs.Common.{ℕ, ◌≡◌, ◌+◌, ◌*◌, ◌^◌, ◌<◌, ◌≤◌, List, [], ◌∷◌, ◌++◌, length, Option, Some, None, is_some, refl}
 use Rattle.std.proofs.Common.{arith, append_assoc, length-append}
-use Rattle.std.proofs.Math.Nat.{mul-le-mul_right}
+use Rattle.std.proofs.Math.Nat.{mul-le-mul_left, mul-le-mul_right}
 use Rattle.std.proofs.lemmas.List.Concat.{flat_map-append}
 use Rattle.std.specs.Int.{from_bool}
+use Rattle.v_frame_layout.specs.Geometry.{Geometry, Fits}
 use Rattle.v_frame_layout.specs.Pixel.{PixelForm, bytes_of, bytes_of_pixels}
 use Rattle.v_frame_plane.specs.Cursor.{other_byte, bytes_ahead}
+use Rattle.v_frame_layout.proofs.Plans.{origin_within}
 use Rattle.v_frame_layout.proofs.PixelBytes.{length-bytes_from}
+
+-- the bytes of a row can be counted
+pub row_bytes : (g : Geometry) (size : ℕ) → 0 < g.height → Fits g → size < 3 → g.width * size < 2 ^ 64
+row_bytes g size high fits small =
+    let few : size ≤ 2 = omega arith in
+    omega (arith, origin_within g high, mul-le-mul_left g.width few)
 
 module _ {T : Type 0} (form : PixelForm T) where
   pub length-bytes_of_pixels : (pixels : List T) → length (bytes_of_pixels form pixels) ≡ length pixels * form.size

@@ -34,7 +34,7 @@ impl<T> Plane<Option<T>> {
     pub fn is_init(&self) -> bool
         ensures { IsTrue result ↔ IsFull self.now }
     {
-        self.data().iter().all(|entry| entry.is_some())
+        self.data().iter().all(Option::is_some)
     }
 }
 

@@ -6,7 +6,13 @@ use Rattle.v_frame_plane.specs.Copy.{Copies, strided_copy, packed_byte_copy}
 use Rattle.v_frame_plane.proofs.copies.BytesBack.{AreBytes}
 use Rattle.v_frame_plane.proofs.copies.ByteLaws.{packed_bytes}
 use Rattle.v_frame_plane.proofs.copies.CopyLemmas.{width_of_shown}
+use Rattle.v_frame_plane.proofs.iterators.BegunPixels.{row_bytes}
 use Rattle.v_frame_plane.proofs.plane.Plane.copy_from_u8_slice.Goals as goal
+
+pub overflow_mul-stride : goal.overflow_mul-stride
+overflow_mul-stride g c =
+    rw (c.width.ensures.value, c.BYTES.ensures, g.met.T.Pixel.bytes_of_form)
+    (record { fits = row_bytes c.self.inside.geometry _ c.width.ensures.valid.high c.self.invariant.fits g.met.T.Pixel.byte_or_two.1 })
 
 pub returns : goal.returns
 returns g c =

@@ -9,7 +9,13 @@ use Rattle.std.specs.List.{refill}
 use Rattle.v_frame_plane.proofs.tables.Lists.{refill_same}
 use Rattle.v_frame_plane.proofs.copies.BytesBack.{AreBytes}
 use Rattle.v_frame_plane.proofs.copies.ByteLaws.{strided_bytes}
+use Rattle.v_frame_plane.proofs.iterators.BegunPixels.{row_bytes}
 use Rattle.v_frame_plane.proofs.plane.Plane.copy_from_u8_slice_with_stride.Goals as goal
+
+pub overflow_mul-width : goal.overflow_mul-width
+overflow_mul-width g c =
+    rw (c.width-width.ensures.value, c.BYTES.ensures, g.met.T.Pixel.bytes_of_form)
+    (record { fits = row_bytes c.self.inside.geometry _ c.width-width.ensures.valid.high c.self.invariant.fits g.met.T.Pixel.byte_or_two.1 })
 
 pub returns-then-stride-width-clause-copied : goal.returns-then-stride-width-clause-copied
 returns-then-stride-width-clause-copied g c =

@@ -1,6 +1,6 @@
 -- The values so far and the entries ahead are the entries, those ahead have values, and there is room for them.
 use Rattle.std.proofs.Common.{◌≡◌, ◌+◌, ◌++◌, All, IsSome, length, map, drop, Some}
-use Rattle.v_frame_plane.proofs.aligned.AlignedData+Option+T.into_values.Given as goal
+use Rattle.v_frame_plane.proofs.aligned.move_values.Given as goal
 
 abbrev pub invariant-loop-entry : goal.invariant-loop-entry
 invariant-loop-entry g l = record {
