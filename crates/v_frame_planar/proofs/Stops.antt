@@ -1,13 +1,14 @@
 -- A writer that gave up inside a block has a beginning of all bytes, and a reader is as it was where there was no room.
-use Rattle.std.proofs.Common.{ℕ, ◌≡◌, ◌+◌, min, ◌<◌, ◌≤◌, ◌≢◌, ◌⊎◌, ⊎_elim, Bool, List, ◌++◌, length, take, Option, Result, Ok, Err, IfErr, IsErrAnd}
-use Rattle.std.proofs.Common.{refl, sym, ◌∙◌, ap, subst, arith, length-append, length-take-le}
+use Rattle.std.proofs.Common.{ℕ, ◌≡◌, ◌+◌, min, ◌<◌, ◌≤◌, ◌≢◌, ◌⊎◌, ⊎_elim, Bool, true, false, List, ◌++◌, length, take, take_all, Option}
+use Rattle.std.proofs.Common.{Result, Ok, Err, IfErr, IsErrAnd, refl, sym, ◌∙◌, ap, subst, arith, length-append, length-take-le}
+use Rattle.std.specs.Prelude.{IfOk, MatchBool}
 use Rattle.std.proofs.lemmas.List.{take-append-le}
 use Rattle.std.proofs.Math.Seq.{take-append-add}
 use Rattle.std.specs.Io.KnownBytes.{Appends, Consumes, IsAtEnd}
 use Rattle.std.proofs.KnownBytes.{Appends-trans}
 use Rattle.v_frame_planar.specs.Counted.{u64_max, Watched, HasFailed, AppendsBeginning, StopsWriting}
 use Rattle.v_frame.specs.Prelude.{isize_max}
-use Rattle.v_frame_planar.specs.Planar.{error_of, MayStopReading, MayStopWriting}
+use Rattle.v_frame_planar.specs.Planar.{error_of, MayStopReading, MayStopWriting, Reads}
 use Rattle.v_frame_planar.specs.declared.counted.WriteFault.{WriteFault}
 use Rattle.v_frame_planar.specs.declared.counted.WriteFault.TheVariants.{Failed, TookNothing}
 use Rattle.v_frame_planar.specs.declared.error.PlanarError.{PlanarError}
@@ -57,6 +58,33 @@ came_to_its_end remaining old new expected n found bytes is size some part withi
       end (omega (arith, less, size)),
       same,
     )
+
+-- what was shown is what was read, or the reader stood at its end
+pub was_read : {R : Type 0} (X : Type 0) (remaining : R → Option (List ℕ)) (old new : Watched R) (part bytes all : List ℕ) (found : ℕ)
+    (result : Result Bool PlanarError) → bytes ≡ part → Consumes (remaining old.inner) (remaining new.inner) (take found part)
+    → (found < length part → IsAtEnd (remaining new.inner))
+    → IfOk result (λ more. MatchBool more ((found ≡ length bytes) × (all ≡ bytes)) ((found ≡ 0) × (found ≢ length bytes) × X))
+    → IfOk result (Reads remaining old new all)
+was_read X remaining old new part bytes all found (Ok true) same got end shown =
+    let whole = take_all found part (omega (arith, shown.0, ap length same)) in
+    subst (Consumes (remaining old.inner) (remaining new.inner)) (whole ∙ sym same ∙ sym shown.1) got
+was_read X remaining old new part bytes all found (Ok false) same got end shown = (
+  subst (λ (n : ℕ). Consumes (remaining old.inner) (remaining new.inner) (take n part)) shown.0 got,
+  end (omega (arith, shown.0, shown.1, ap length same)),
+)
+was_read X remaining old new part bytes all found (Err error) same got end shown = tt
+
+-- an error comes of a frame that came to its end
+pub was_truncated : {R : Type 0} (X : Type 0) (remaining : R → Option (List ℕ)) (old new : Watched R) (n : ℕ) (part bytes : List ℕ) (found : ℕ)
+    (result : Result Bool PlanarError) → bytes ≡ part → length bytes ≡ n → found ≤ length part
+    → Consumes (remaining old.inner) (remaining new.inner) (take found part) → (found < length part → IsAtEnd (remaining new.inner))
+    → new.failures ≡ old.failures
+    → IfErr result (λ error. (error ≡ Truncated (length bytes) found) × (found ≢ 0) × (found ≢ length bytes) × X)
+    → IfErr result (MayStopReading remaining old new n)
+was_truncated X remaining old new n part bytes found (Ok more) same is within got end kept stopped = tt
+was_truncated X remaining old new n part bytes found (Err error) same is within got end kept stopped =
+    subst (MayStopReading remaining old new n) (sym stopped.0)
+    (came_to_its_end remaining old new (length bytes) n found part is (sym (ap length same)) stopped.1 stopped.2 within got end kept)
 
 -- one failure more is counted, or the count stays
 pub failed_once : (old new : ℕ) → new ≡ min (old + 1) u64_max → HasFailed old new

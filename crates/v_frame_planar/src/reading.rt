@@ -1,5 +1,5 @@
 //! Frames from their planar bytes.
-ghost use Rattle.std.specs.Prelude.{◌≡◌, ◌-◌, ◌++◌, ◌<◌, ◌≤◌, ◌⊎◌, false, length, take, option_map, Err, IfOk, IfErr, MatchResult, OnOk, OnErr, SomeIff};
+ghost use Rattle.std.specs.Prelude.{◌≡◌, ◌≢◌, ◌-◌, ◌++◌, ◌<◌, ◌≤◌, ◌⊎◌, false, length, take, option_map, Err, IfOk, IfErr, MatchBool, MatchResult, OnOk, OnErr, SomeIff};
 ghost use Rattle.std.specs.Io.KnownBytes.{Consumes, IsAtEnd};
 ghost use Rattle.v_frame.specs.Prelude.{byte_list, isize_max, unshown, KeepsBorders, table_of, tables_of};
 ghost use Rattle.v_frame_planar.specs.Planar.{bytes_of_plane, planar_bytes, size_of, sizes_of, MayStopReading, Reads, TellsCause};
@@ -47,10 +47,30 @@ pub fn read_frame<T: Pixel, R: io::Read>(
     ensures unread { OnErr result (frame.new ≡ frame.old) }
 {
     let mut bytes = room_for(alloc, frame)?;
-    let expected = bytes.len();
     let found = read_until_full(reader, bytes.as_mut_slice())?;
+    show_whole(frame, bytes.as_slice(), found)
+}
+
+/// Shows the planar bytes of a frame where all of them were found. `false` where none was.
+fn show_whole<T: Pixel>(
+    frame: &mut Frame<T>,
+    bytes: &[u8],
+    found: usize,
+) -> Result<bool, PlanarError>
+    requires { length bytes.now ≡ length (planar_bytes T.form (tables_of frame.old)) }
+    ensures shown { IfOk result (λ more. MatchBool more
+        ((found ≡ length bytes.now) × (planar_bytes T.form (tables_of frame.new) ≡ bytes.now))
+        ((found ≡ 0) × (found ≢ length bytes.now) × (frame.new ≡ frame.old))) }
+    ensures borders { KeepsBorders frame.old frame.new }
+    ensures sizes { sizes_of (tables_of frame.new) ≡ sizes_of (tables_of frame.old) }
+    ensures as_many { length (planar_bytes T.form (tables_of frame.new))
+        ≡ length (planar_bytes T.form (tables_of frame.old)) }
+    ensures truncated { IfErr result (λ error. (error ≡ PlanarError.Truncated (length bytes.now) found)
+        × (found ≢ 0) × (found ≢ length bytes.now) × (frame.new ≡ frame.old)) }
+{
+    let expected = bytes.len();
     if found == expected {
-        show(frame, bytes.as_slice());
+        show(frame, bytes);
         return Ok(true);
     }
     if found == 0 {

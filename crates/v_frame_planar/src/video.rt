@@ -52,10 +52,11 @@ pub fn video_frame<T: Pixel>(
     // That luma is not empty, the clause on sizes needs.
     let _height = y_plane.height();
     let chroma = chroma_geometry(y_plane.geometry(), subsampling);
+    let (u_plane, v_plane) = chroma_planes(alloc, chroma)?;
     Ok(Frame {
         y_plane,
-        u_plane: blank_plane(alloc, chroma)?,
-        v_plane: blank_plane(alloc, chroma)?,
+        u_plane,
+        v_plane,
         subsampling,
         bit_depth,
     })
@@ -136,6 +137,18 @@ fn chroma_geometry(luma: PlaneGeometry, subsampling: ChromaSubsampling) -> Optio
         ratio_x,
         ratio_y,
     )
+}
+
+/// Two planes of zeros, where there are any.
+fn chroma_planes<T: Pixel>(
+    alloc: Global,
+    geometry: Option<PlaneGeometry>,
+) -> Result<(Option<Plane<T>>, Option<Plane<T>>), AllocError>
+    requires { ForSome geometry Fits }
+    ensures { IfOk result (λ planes. (planes.0 ≡ option_map (filled T.ZERO) geometry)
+        × (planes.1 ≡ option_map (filled T.ZERO) geometry)) }
+{
+    Ok((blank_plane(alloc, geometry)?, blank_plane(alloc, geometry)?))
 }
 
 /// A plane of zeros, where there is one.

@@ -20,7 +20,7 @@ pub fn fill_border<T: Pixel>(plane: &mut Plane<T>, value: T)
 }
 
 /// Fills the rows above the rectangle, what lies on both sides of it, and the rows below.
-fn fill_border_places<T: Pixel>(geometry: PlaneGeometry, buffer: &mut [T], value: T)
+fn fill_border_places<T: Copy>(geometry: PlaneGeometry, buffer: &mut [T], value: T)
     requires fits { Fits geometry }
     requires whole { length buffer.old ≡ alloc_size_of geometry }
     ensures border { (place : ℕ) → mark_at (cutting_plan geometry) place ≡ Some Border
@@ -47,7 +47,7 @@ fn fill_border_places<T: Pixel>(geometry: PlaneGeometry, buffer: &mut [T], value
 }
 
 /// Fills the entries from one place up to another.
-fn fill_part<T: Pixel>(buffer: &mut [T], start: usize, end: usize, value: T)
+fn fill_part<T: Copy>(buffer: &mut [T], start: usize, end: usize, value: T)
     requires order { start ≤ end }
     requires within { end ≤ length buffer.old }
     ensures before { (place : ℕ) → place < start

@@ -64,7 +64,7 @@ pub fn blit<T: Pixel>(
 }
 
 /// `count` pixels of row `y`, from column `x` on.
-fn part_of_row<T: Pixel>(plane: &Plane<T>, y: usize, x: usize, count: usize) -> &[T]
+fn part_of_row<T>(plane: &Plane<T>, y: usize, x: usize, count: usize) -> &[T]
     requires high { y < plane.now.geometry.height }
     requires wide { x + count ≤ plane.now.geometry.width }
     ensures part { (row : List T) → slice_get (table_of plane.now) y ≡ Some row
@@ -78,7 +78,7 @@ fn part_of_row<T: Pixel>(plane: &Plane<T>, y: usize, x: usize, count: usize) -> 
 }
 
 /// Writes pixels into row `y` of a plane, from column `x` on.
-fn put_in_row<T: Pixel>(plane: &mut Plane<T>, x: usize, y: usize, pixels: &[T])
+fn put_in_row<T: Copy>(plane: &mut Plane<T>, x: usize, y: usize, pixels: &[T])
     requires wide { x + length pixels.now ≤ plane.old.geometry.width }
     requires high { y < plane.old.geometry.height }
     ensures row { (row : List T) → slice_get (table_of plane.old) y ≡ Some row

@@ -75,10 +75,17 @@ pub fn through_memory<T: Pixel>(
     ensures borders { KeepsBorders to.old to.new }
 {
     same_sizes_same_byte_count(to, from);
-    let mut writer = Counted::new(Vec::new(alloc));
-    write_frame(&mut writer, from)?;
-    let bytes = writer.into_inner();
+    let bytes = bytes_of_frame(alloc, from)?;
     let mut reader = Counted::new(bytes.as_slice());
     read_frame(alloc, &mut reader, to)?;
     Ok(())
+}
+
+/// The bytes that a frame is written as.
+fn bytes_of_frame<T: Pixel>(alloc: Global, frame: &Frame<T>) -> Result<Vec<u8>, PlanarError>
+    ensures { IfOk result (λ bytes. bytes.items ≡ planar_bytes T.form (tables_of frame.now)) }
+{
+    let mut writer = Counted::new(Vec::new(alloc));
+    write_frame(&mut writer, frame)?;
+    Ok(writer.into_inner())
 }

@@ -1,6 +1,7 @@
 -- What a frame leaves of the reader behind the line in front of it.
 use Rattle.std.proofs.Common.{ℕ, ◌≡◌, ◌⊎◌, List, [], ◌∷◌, ◌++◌, Option, refl, sym, ◌∙◌, ap, subst, rules, append_assoc}
 use mathlib.Core.Logic.{inl, inr}
+use Rattle.std.specs.Prelude.{Result, Ok, Err, IfErr, IsErrAnd}
 use Rattle.std.specs.Io.KnownBytes.{Consumes, IsAtEnd}
 use Rattle.std.proofs.KnownBytes.{Consumes-nil, Consumes-trans}
 use Rattle.v_frame_planar.specs.Counted.{Watched, HasFailed}
@@ -66,3 +67,9 @@ module _ {R : Type 0} (remaining : R → Option (List ℕ)) (old mid new : Watch
 
     pub bytes_stop : (error : Y4mError) → MayStopInBytes remaining mid new n error → MayStopInFrame remaining old new n error
     bytes_stop error stopped = subst (MayStopInFrame remaining old new n) (sym stopped.1) (fault_stops stopped.0 stopped.2)
+
+-- what an error tells still holds where it is handed on
+pub handed_on : {X : Type 0} (P : Y4mError → Type 0) (result : Result X Y4mError) (error : Y4mError) → IsErrAnd result (λ given. given ≡ error)
+    → P error → IfErr result P
+handed_on P (Ok x) error is stopped = tt
+handed_on P (Err given) error is stopped = subst P (sym is) stopped

@@ -49,3 +49,9 @@ module _ (front rest : List ℕ) where
     stops_behind sent same OutOfMemory stopped = absurd stopped
     stops_behind sent same Write stopped = (behind _ _ _ sent stopped.0, subst (λ (n : ℕ). HasFailed n new.failures) same stopped.1)
     stops_behind sent same WriteZero stopped = (behind _ _ _ sent stopped.0, stopped.1 ∙ same)
+
+-- a writer that gave up at all bytes
+pub stops_writing : {W : Type 0} (contents : W → Option (List ℕ)) (old new : Watched W) (bytes : List ℕ) (fault : WriteFault)
+    → StopsWriting contents old new bytes fault → MayStopWritingLine contents old new bytes (Planar (error_of fault))
+stops_writing contents old new bytes Failed stopped = stopped
+stops_writing contents old new bytes TookNothing stopped = stopped

@@ -1,7 +1,7 @@
 //! The line that is written for a header.
 ghost use Rattle.std.specs.Prelude.{◌≡◌, ◌++◌, ◌∷◌, [], decimal, map, IfOk, OnOk};
 ghost use Rattle.v_frame_y4m.specs.Colour.{colour_text, stated};
-ghost use Rattle.v_frame_y4m.specs.Header.{header_line, interlacing_text, parameter_of, ratio_text, spelled};
+ghost use Rattle.v_frame_y4m.specs.Header.{header_line, interlacing_text, parameter_of, parameters_of, ratio_text, spelled};
 
 use crate::colour::Colour;
 use crate::header::{Interlacing, Ratio, StreamHeader};
@@ -19,12 +19,7 @@ pub fn header_line(alloc: Global, header: &StreamHeader) -> Result<Vec<u8>, Allo
     ensures { IfOk result (λ line. line.items ≡ header_line header.now) }
 {
     let mut line = Vec::from_slice(alloc, SIGNATURE)?;
-    push_size(alloc, &mut line, header.width, header.height)?;
-    push_ratio(alloc, &mut line, b'F', header.frame_rate)?;
-    push_interlacing(&mut line, header.interlacing)?;
-    push_ratio(alloc, &mut line, b'A', header.pixel_aspect)?;
-    push_colour(&mut line, header.colour)?;
-    push_extensions(&mut line, header.extensions.as_slice())?;
+    push_parameters(alloc, &mut line, header)?;
     Ok(line)
 }
 
@@ -35,6 +30,22 @@ pub(crate) fn ended_line(alloc: Global, header: &StreamHeader) -> Result<Vec<u8>
     let mut line = header_line(alloc, header)?;
     line.push(b'\n')?;
     Ok(line)
+}
+
+/// Adds the parameters.
+fn push_parameters(
+    alloc: Global,
+    line: &mut Vec<u8>,
+    header: &StreamHeader,
+) -> Result<(), AllocError>
+    ensures { OnOk result (line.new.items ≡ line.old.items ++ spelled (parameters_of header.now)) }
+{
+    push_size(alloc, line, header.width, header.height)?;
+    push_ratio(alloc, line, b'F', header.frame_rate)?;
+    push_interlacing(line, header.interlacing)?;
+    push_ratio(alloc, line, b'A', header.pixel_aspect)?;
+    push_colour(line, header.colour)?;
+    push_extensions(line, header.extensions.as_slice())
 }
 
 /// Adds a space, a letter and a text.

@@ -1,5 +1,5 @@
 //! Streams read and written: the header, and then frame by frame.
-ghost use Rattle.std.specs.Prelude.{◌≡◌, ◌≤◌, ◌↔◌, ◌++◌, ◌∷◌, [], codes, false, length, IfOk, IfErr, IsTrue, OnOk, OnErr};
+ghost use Rattle.std.specs.Prelude.{ℕ, ◌≡◌, ◌≤◌, ◌↔◌, ◌++◌, ◌∷◌, [], codes, false, length, IfOk, IfErr, IsTrue, OnOk, OnErr};
 ghost use Rattle.std.specs.Io.KnownBytes.{Appends, Consumes};
 ghost use Rattle.v_frame.specs.Prelude.{isize_max, KeepsBorders, tables_of};
 ghost use Rattle.v_frame_planar.specs.Planar.{planar_bytes, sizes_of};
@@ -98,15 +98,27 @@ pub fn read_frame<T: Pixel, R: io::Read>(
         (length (planar_bytes T.form (tables_of frame.old)))) }
     ensures unread { OnErr result (frame.new ≡ frame.old) }
 {
-    let mut line = [0; LONGEST];
-    let Some(length) = read_line(reader, &mut line)? else {
+    let more = read_frame_line(reader)?;
+    if !more {
         return Ok(false);
-    };
-    if !is_frame_line(&line[..length]) {
-        return Err(Y4mError::NoFrame);
     }
     read_planar(alloc, reader, frame)?;
     Ok(true)
+}
+
+/// Reads the line in front of a frame. `false` where the reader stood at its end before it.
+fn read_frame_line<R: io::Read>(reader: &mut Counted<R>) -> Result<bool, Y4mError>
+    ensures read { IfOk result (ReadsFrame R.remaining reader.old reader.new []) }
+    ensures uncounted { OnOk result (reader.new.failures ≡ reader.old.failures) }
+    ensures error { IfErr result (λ error. (n : ℕ)
+        → MayStopInFrame R.remaining reader.old reader.new n error) }
+{
+    let mut line = [0; LONGEST];
+    match read_line(reader, &mut line)? {
+        Some(length) if is_frame_line(&line[..length]) => Ok(true),
+        Some(_) => Err(Y4mError::NoFrame),
+        None => Ok(false),
+    }
 }
 
 /// Whether this is a line in front of a frame.
@@ -137,21 +149,22 @@ fn read_planar<T: Pixel, R: io::Read>(
     if v_frame_planar::read_frame(alloc, reader, frame)? {
         return Ok(());
     }
-    Err(Y4mError::Planar(PlanarError::Truncated {
-        expected: planar_length(frame),
-        found: 0,
-    }))
+    Err(nothing_found(frame))
 }
 
-/// How many planar bytes a frame has.
-fn planar_length<T: Pixel>(frame: &Frame<T>) -> usize
+/// The error where the reader stands at its end behind the line of a frame.
+fn nothing_found<T: Pixel>(frame: &Frame<T>) -> Y4mError
     requires { length (planar_bytes T.form (tables_of frame.now)) ≤ isize_max }
-    ensures { result ≡ length (planar_bytes T.form (tables_of frame.now)) }
+    ensures { result ≡ Y4mError.Planar
+        (PlanarError.Truncated (length (planar_bytes T.form (tables_of frame.now))) 0) }
 {
     let y = frame.y_plane.byte_len();
     let u = frame.u_plane.as_ref().map_or(0, Plane::byte_len);
     let v = frame.v_plane.as_ref().map_or(0, Plane::byte_len);
-    y + u + v
+    Y4mError::Planar(PlanarError::Truncated {
+        expected: y + u + v,
+        found: 0,
+    })
 }
 
 /// Writes a frame: the line `FRAME`, and the planar bytes. Our own.

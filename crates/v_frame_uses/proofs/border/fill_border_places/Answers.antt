@@ -28,7 +28,7 @@ overflow_add-start-in-loop-y g c =
     rw (c.pad_top-top.ensures, c.stride-stride.ensures, c.pad_left-left.ensures) (omega (arith, c.requires.fits))
 
 pub fill_part-requires-in-loop-y-clause-within : goal.fill_part-requires-in-loop-y-clause-within
-fill_part-requires-in-loop-y-clause-within g c κs within =
+fill_part-requires-in-loop-y-clause-within g c =
     let k = c.args.geometry in
     let whole : length c.loop-y.buffer ≡ alloc_size_of k = c.loop-y.auto.buffer ∙ c.fill_part.auto.buffer ∙ c.requires.whole in
     let row = row_within k c.loop-y.y (omega (arith, c.height-y-end.ensures.value)) in
@@ -45,7 +45,7 @@ overflow_add-start-in-loop-y-3 g c =
     rw (c.pad_top-top.ensures, c.stride-stride.ensures) (omega (arith, c.requires.fits))
 
 pub fill_part-requires-in-loop-y-2-clause-within : goal.fill_part-requires-in-loop-y-2-clause-within
-fill_part-requires-in-loop-y-2-clause-within g c κs within =
+fill_part-requires-in-loop-y-2-clause-within g c =
     let k = c.args.geometry in
     let whole : length c.fill_part-in-loop-y.new.buffer ≡ alloc_size_of k = c.fill_part-in-loop-y.auto.buffer ∙ c.loop-y.auto.buffer ∙ c.fill_part.auto.buffer ∙
     c.requires.whole in

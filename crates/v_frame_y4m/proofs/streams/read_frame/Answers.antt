@@ -1,23 +1,34 @@
--- Where the planar bytes stop, behind the line.
-use Rattle.std.proofs.Common.{◌≡◌, [], ◌∷◌, ◌++◌, length, take, rules}
-use Rattle.std.specs.Io.KnownBytes.{Consumes}
+-- What stands behind the line of a frame, and where its bytes stop.
+use Rattle.std.proofs.Common.{[], length, subst}
 use Rattle.v_frame.specs.Prelude.{tables_of}
 use Rattle.v_frame_planar.specs.Planar.{planar_bytes}
-use Rattle.v_frame_y4m.specs.Streams.{IsFrameLine, MayStopInBytes}
-use Rattle.v_frame_y4m.proofs.FrameStops.{bytes_stop}
+use Rattle.v_frame_y4m.specs.Streams.{MayStopInFrame, ReadsFrame}
+use Rattle.v_frame_y4m.proofs.FrameStops.{after_line, bytes_stop, handed_on}
 use Rattle.v_frame_y4m.proofs.streams.read_frame.Goals as goal
+
+pub returns-in_err-more-clause-error : goal.returns-in_err-more-clause-error
+returns-in_err-more-clause-error g c =
+    let n = length (planar_bytes g.T.Pixel.form (tables_of c.args.frame.now)) in
+    let stops = MayStopInFrame g.R.Read.remaining c.args.reader.now c.read_frame_line.new.reader n in
+    handed_on stops _ c.in_err-more.field-0.0 c.from_residual.ensures.1 (c.in_err-more.ensures.error n)
+
+pub returns-clause-read : goal.returns-clause-read
+returns-clause-read g c =
+    let remaining = g.R.Read.remaining in
+    let old = c.args.reader.now in
+    let mid = c.read_frame_line.new.reader in
+    let taken = subst (ReadsFrame remaining old mid []) c.if-not-more.false c.in_ok-more.ensures.read in
+    let all = after_line remaining old mid c.read_planar.new.reader taken.0 taken.3 _ c.in_ok-read_planar.ensures.read in
+    (taken.0, taken.1, taken.2, all)
 
 pub returns-in_err-read_planar-clause-error : goal.returns-in_err-read_planar-clause-error
 returns-in_err-read_planar-clause-error g c =
-    let line = take c.in-Some.length c.read_line.new.line in
     let remaining = g.R.Read.remaining in
     let old = c.args.reader.now in
-    let mid = c.read_line.new.reader in
+    let mid = c.read_frame_line.new.reader in
     let new = c.read_planar.new.reader in
-    let read : Consumes (remaining old.inner) (remaining mid.inner) (line ++ 10 ∷ []) = search rules in
-    let is : IsFrameLine line = search rules in
-    let same : mid.failures ≡ old.failures = search rules in
+    let taken = subst (ReadsFrame remaining old mid []) c.if-not-more.false c.in_ok-more.ensures.read in
     let n = length (planar_bytes g.T.Pixel.form (tables_of c.args.frame.now)) in
-    let stopped : MayStopInBytes remaining mid new n c.in_err-read_planar.field-0.0 = search rules in
-    let all = bytes_stop remaining old mid new line read n is same c.in_err-read_planar.field-0.0 stopped in
-    search rules
+    let error = c.in_err-read_planar.field-0.0 in
+    let stopped = bytes_stop remaining old mid new taken.0 taken.3 n taken.1 c.in_ok-more.ensures.uncounted error c.in_err-read_planar.ensures.error in
+    handed_on (MayStopInFrame remaining old new n) _ error c.from_residual-in_err-read_planar.ensures.1 stopped
