@@ -1,8 +1,10 @@
 -- Where the plan of a geometry puts a row: how many entries lie in front of it, and that it lies in the buffer.
-use Rattle.std.proofs.Common.{ℕ, zero, suc, ◌≡◌, ◌+◌, ◌-◌, ◌*◌, ◌<◌, ◌≤◌, List, [], ◌∷◌, ◌++◌, refl, sym, ◌∙◌, ap, arith, append_assoc}
-use Rattle.std.proofs.Math.Nat.{mul-le-mul_right}
+use Rattle.std.proofs.Common.{ℕ, zero, suc, ◌≡◌, ◌+◌, ◌-◌, ◌*◌, ◌<◌, ◌≤◌, min, Bool, true, false, leb}
+use Rattle.std.proofs.Common.{List, [], ◌∷◌, ◌++◌, refl, sym, ◌∙◌, ap, arith, append_assoc}
+use Rattle.std.proofs.Math.Nat.{mul-le-mul_left, mul-le-mul_right}
+use Rattle.std.proofs.lemmas.Bool.{leb-true, leb-false}
 use Rattle.v_frame_layout.specs.Geometry.{Geometry, stride_of, alloc_size_of, Piece, border_piece, visible_piece, times, outer_row, crossing_row, cutting_plan}
-use Rattle.v_frame_layout.specs.Geometry.{entries_in_front, origin_of, place_of}
+use Rattle.v_frame_layout.specs.Geometry.{entries_in_front, origin_of, place_of, usize_max}
 
 -- the entries of all pieces
 abbrev pub total : List Piece → ℕ
@@ -112,3 +114,18 @@ row_start_within g origin stride y o s h =
 -- the origin lies in front of the first row, which lies in the buffer
 pub origin_within : (g : Geometry) → 0 < g.height → origin_of g + g.width ≤ alloc_size_of g
 origin_within g h = omega (arith, place_of_row g 0 h, row_within g 0 h)
+
+-- a number of entries that was cut to what can be counted
+cut_by : (fits : Bool) (rows stride cut size : ℕ) → leb rows usize_max ≡ fits → 0 < stride → cut ≡ min rows usize_max
+    → size ≡ min (cut * stride) usize_max → size ≡ min (rows * stride) usize_max
+cut_by true rows stride cut size fits some cut_is size_is =
+    let whole : cut ≡ rows = omega (arith, leb-true rows usize_max fits, cut_is) in
+    size_is ∙ ap (λ n. min (n * stride) usize_max) whole
+cut_by false rows stride cut size fits some cut_is size_is =
+    let one : 1 ≤ stride = omega (arith, some) in
+    omega (arith, leb-false rows usize_max fits, cut_is, size_is, mul-le-mul_left cut one, mul-le-mul_left rows one)
+
+pub counted_size : (height top bottom stride first rows size : ℕ) → 0 < stride → first ≡ min (height + top) usize_max
+    → rows ≡ min (first + bottom) usize_max → size ≡ min (rows * stride) usize_max → size ≡ min ((height + top + bottom) * stride) usize_max
+counted_size height top bottom stride first rows size some first_is rows_is size_is =
+    cut_by _ (height + top + bottom) stride rows size refl some (omega (arith, first_is, rows_is)) size_is

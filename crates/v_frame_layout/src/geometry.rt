@@ -181,11 +181,12 @@ impl PlaneGeometry {
     pub fn checked_alloc_size(&self) -> Option<usize>
         ensures { SomeIff result (Fits self.now) (alloc_size_of self.now) }
     {
+        // What is too large to be counted stays too large.
         let rows = self
             .height
-            .checked_add(self.pad_top)?
-            .checked_add(self.pad_bottom)?;
-        let size = rows.checked_mul(self.stride)?;
+            .saturating_add(self.pad_top)
+            .saturating_add(self.pad_bottom);
+        let size = rows.saturating_mul(self.stride);
         (size <= isize::MAX as usize / 2).then_some(size)
     }
 
@@ -225,8 +226,9 @@ impl PlaneGeometry {
             (region_geometry self.now x y width height) }
         ensures size { IfSome result (λ region. alloc_size_of region ≡ alloc_size_of self.now) }
     {
-        let right = x.checked_add(width)?;
-        let bottom = y.checked_add(height)?;
+        // No buffer is so large that a sum past `usize::MAX` could be inside it.
+        let right = x.saturating_add(width);
+        let bottom = y.saturating_add(height);
         if width == 0 || height == 0 || right > self.width || bottom > self.height {
             return None;
         }

@@ -1,8 +1,15 @@
 -- Pixels that are encoded run by run.
-use Rattle.std.proofs.Common.{ℕ, ◌≡◌, List, ◌++◌, None, Some, Option, refl, ◌∙◌, sym, ap, append_assoc}
+use Rattle.std.proofs.Common.{ℕ, ◌≡◌, ◌+◌, ◌*◌, ◌<◌, ◌≤◌, List, ◌++◌, length, None, Some, Option, refl, ◌∙◌, sym, ap, append_assoc, length-append, arith}
+use Rattle.std.proofs.Math.Nat.{mul-le-mul_left}
 use Rattle.std.proofs.lemmas.Grind.{flat_map-append}
-use Rattle.v_frame.specs.Prelude.{PixelForm, Table, Tables, bytes_of, bytes_of_pixels, row_major}
+use Rattle.v_frame.specs.Prelude.{PixelForm, Table, Tables, byte_list, bytes_of, bytes_of_pixels, row_major}
 use Rattle.v_frame_planar.specs.Planar.{bytes_of_plane, planar_bytes, pixels_of_plane, planar_pixels}
+
+-- the bytes of a pixel lie in those of its row
+pub within_row : (pixel i n long : ℕ) → i < n → long ≡ pixel * n → pixel * i + pixel ≤ long
+within_row pixel i n long before is =
+    let next : pixel * (i + 1) ≤ pixel * n = mul-le-mul_left pixel (omega (arith, before)) in
+    omega (arith, next, is)
 
 module _ {T : Type 0} (form : PixelForm T) where
   -- the bytes of two runs
@@ -18,6 +25,14 @@ module _ {T : Type 0} (form : PixelForm T) where
       let bytes : bytes_of_pixels form pending ≡ part ++ bytes_of_pixels form (rest ++ behind) =
       ap (bytes_of_pixels form) pixels ∙ bytes-append first (rest ++ behind) ∙ ap (λ p. p ++ bytes_of_pixels form (rest ++ behind)) (sym encoded) in
       is ∙ ap (λ b. front ++ b) bytes ∙ sym (append_assoc front part (bytes_of_pixels form (rest ++ behind)))
+
+  -- so many planar bytes there are
+  pub planar_length : (tables : Tables T) → length (planar_bytes form tables) ≡ length (byte_list form tables.y)
+      + (length (bytes_of_plane form tables.u) + length (bytes_of_plane form tables.v))
+  planar_length tables =
+      let chroma = bytes_of_plane form tables.u ++ bytes_of_plane form tables.v in
+      length-append (byte_list form tables.y) chroma ∙ ap (λ n. length (byte_list form tables.y) + n)
+      (length-append (bytes_of_plane form tables.u) (bytes_of_plane form tables.v))
 
   bytes_of_absent : (table : Option (Table T)) → bytes_of_pixels form (pixels_of_plane table) ≡ bytes_of_plane form table
   bytes_of_absent None = refl

@@ -2,7 +2,7 @@
 -- may stand for one that is larger still.
 use Rattle.std.proofs.Common.{ℕ, zero, suc, ◌≡◌, ◌*◌, ◌<◌, ◌≤◌, min, Bool, true, false, ◌&&◌, ◌||◌, ltb, leb, if◌then◌else◌, replicate, Option, Some, None}
 use Rattle.std.proofs.Common.{Result, Ok, Err, option_map, refl, sym, ◌∙◌, ap, subst, arith}
-use Rattle.std.specs.Prelude.{MatchOption, IsOkUnless, is_ok}
+use Rattle.std.specs.Prelude.{MatchOption, IsOkUnless, IfOk, is_ok}
 use Rattle.std.specs.Int.{div_ceil}
 use Rattle.std.proofs.lemmas.List.{length-replicate}
 use Rattle.std.proofs.Math.Nat.{min-eq_left, mul-le-mul_left}
@@ -20,7 +20,7 @@ use Rattle.v_frame.specs.declared.frame.error.FrameError.{FrameError}
 use Rattle.v_frame.specs.declared.frame.error.FrameError.TheVariants.{UnsupportedBitDepth, DataTypeMismatch, UnsupportedResolution}
 use Rattle.v_frame_planar.specs.Planar.{size_of, sizes_of}
 use Rattle.v_frame_planar.specs.Video.{luma_request, video_request, chroma_sizes_of, covering_size, covering_geometry, covering_chroma, plain_table}
-use Rattle.v_frame_planar.specs.Video.{plain_tables, IsBlankVideo}
+use Rattle.v_frame_planar.specs.Video.{plain_tables, HasBlankLuma, IsBlankVideo}
 use Rattle.v_frame_planar.proofs.Covers.{both, ceil_positive, subsampled_covers}
 use Rattle.v_frame_planar.proofs.Filled.{table_of_filled}
 
@@ -83,20 +83,55 @@ module _ {X : Type 0} (built : Result X FrameError) (o : FrameError) where
       ∙ ap (λ (n : ℕ). refusal_of bytes (luma_request width height depth (min across usize_max) n)) y_is
       ∙ cut_is_refused bytes width height depth across down)
 
--- an error that is handed on comes for the same reason
+-- an error that is handed on comes for the same reason, and what goes on from a value may be refused memory
 module _ {X Y : Type 0} (r : Result X FrameError) (s : Result Y FrameError) (o : FrameError) where
   pub refusal_goes_on : (due : Option FrameError) (e : FrameError) → r ≡ Err e → s ≡ Err e → MatchOption due (IsOkUnless r o) (λ fault. r ≡ Err fault)
       → MatchOption due (IsOkUnless s o) (λ fault. s ≡ Err fault)
   refusal_goes_on None e was is h = let why = rw was at h in rw is why
   refusal_goes_on (Some fault) e was is h = cc
 
--- where a builder accepts the whole request, it can lay out chroma
-can_divide : (a b c d : Bool) (e f g : FrameError) → (if a then Some e else (if b then Some f else (if c && d then None else Some g))) ≡ None → d ≡ true
-can_divide true b c d e f g h = cc
-can_divide false true c d e f g h = cc
-can_divide false false true true e f g h = refl
-can_divide false false true false e f g h = cc
-can_divide false false false d e f g h = cc
+  pub value_goes_on : (due : Option FrameError) (x : X) → r ≡ Ok x → IsOkUnless s o → MatchOption due (IsOkUnless r o) (λ fault. r ≡ Err fault)
+      → MatchOption due (IsOkUnless s o) (λ fault. s ≡ Err fault)
+  value_goes_on None x was is h = is
+  value_goes_on (Some fault) x was is h = cc
+
+-- where a builder accepts the whole request, it can lay out luma, and chroma
+lays_out : (a b c d : Bool) (e f g : FrameError) → (if a then Some e else (if b then Some f else (if c && d then None else Some g))) ≡ None
+    → (c ≡ true) × (d ≡ true)
+lays_out true b c d e f g h = cc
+lays_out false true c d e f g h = cc
+lays_out false false true true e f g h = (refl, refl)
+lays_out false false true false e f g h = cc
+lays_out false false false d e f g h = cc
+
+-- what was made is not refused
+accepted : {X : Type 0} (due : Option FrameError) (o : FrameError) (x : X) → MatchOption due (IsOkUnless (Ok x) o) (λ fault. Ok x ≡ Err fault) → due ≡ None
+accepted None o x h = refl
+accepted (Some fault) o x h = cc
+
+-- so luma that was made for cut paddings has those that were asked for
+pub luma_as_asked : {T : Type 0} (value : T) (built : Result (Frame T) FrameError) (o : FrameError) (bytes depth padding width height : ℕ)
+    (subsampling : ChromaSubsampling) (x y : ℕ)
+    → let asked = video_request width height subsampling depth padding in
+    x ≡ min asked.pad_left usize_max → y ≡ min asked.pad_top usize_max
+    → MatchOption (refusal_of bytes (luma_request width height depth x y)) (IsOkUnless built o) (λ fault. built ≡ Err fault)
+    → IfOk built (IsBlank value (luma_request width height depth x y)) → IfOk built (HasBlankLuma value asked)
+luma_as_asked value (Err error) o bytes depth padding width height subsampling x y x_is y_is refused blank = tt
+luma_as_asked value (Ok frame) o bytes depth padding width height subsampling x y x_is y_is refused blank =
+    let asked = video_request width height subsampling depth padding in
+    let none = accepted (refusal_of bytes (luma_request width height depth x y)) o frame refused in
+    let laid = lays_out (ltb depth 8 || ltb 16 depth) (is_mismatch bytes depth) (is_laid_out (padded width height x y)) true (UnsupportedBitDepth depth)
+    DataTypeMismatch UnsupportedResolution none in
+    let small = counted width height x y laid.0 in
+    let across : x ≡ asked.pad_left = omega (arith, x_is, small.0) in
+    let down : y ≡ asked.pad_top = omega (arith, y_is, small.1) in
+    let high = both (ltb 0 height) _ (both (ltb 0 width) _ laid.0).1 in
+    record {
+      y_plane = blank.y_plane ∙ ap (λ (n : ℕ). filled value (padded width height n y)) across
+          ∙ ap (λ (n : ℕ). filled value (padded width height asked.pad_left n)) down;
+      bit_depth = blank.bit_depth;
+      some = ltb-true 0 height high.0;
+    }
 
 -- the chroma of a builder that accepts the request is the chroma that covers luma
 pub accepted_covers : (bytes : ℕ) (request : FrameRequest) → refusal_of bytes request ≡ None
@@ -104,13 +139,13 @@ pub accepted_covers : (bytes : ℕ) (request : FrameRequest) → refusal_of byte
 accepted_covers bytes request h =
     let luma = luma_geometry request in
     let depth = request.bit_depth in
-    let ok = can_divide (ltb depth 8 || ltb 16 depth) (is_mismatch bytes depth) (is_laid_out luma) (is_ok (subsampled request.subsampling luma))
+    let ok = lays_out (ltb depth 8 || ltb 16 depth) (is_mismatch bytes depth) (is_laid_out luma) (is_ok (subsampled request.subsampling luma))
     (UnsupportedBitDepth depth) DataTypeMismatch UnsupportedResolution h in
-    subsampled_covers luma refl refl (ratio_of request.subsampling) ok
+    subsampled_covers luma refl refl (ratio_of request.subsampling) ok.1
 
 module _ {T : Type 0} (value : T) where
   -- so the frame is the one that it builds
-  pub accepted_is_built : (bytes : ℕ) (request : FrameRequest) (frame : Frame T) → IsBlankVideo value request frame → refusal_of bytes request ≡ None
+  accepted_is_built : (bytes : ℕ) (request : FrameRequest) (frame : Frame T) → IsBlankVideo value request frame → refusal_of bytes request ≡ None
       → IsBlank value request frame
   accepted_is_built bytes request frame blank h =
       let chroma = accepted_covers bytes request h in
@@ -143,7 +178,7 @@ module _ {T : Type 0} (value : T) where
   ) (ap (λ (t : Table T). Some t) (table_of_filled value (covering_geometry g ratio)))
 
   -- what a blank frame shows
-  pub tables_of_blank : (width height depth padding : ℕ) (subsampling : ChromaSubsampling) (frame : Frame T)
+  tables_of_blank : (width height depth padding : ℕ) (subsampling : ChromaSubsampling) (frame : Frame T)
       → IsBlankVideo value (video_request width height subsampling depth padding) frame → tables_of frame ≡ plain_tables value width height subsampling
   tables_of_blank width height depth padding subsampling frame blank =
       let luma = luma_geometry (video_request width height subsampling depth padding) in
@@ -167,7 +202,7 @@ module _ {T : Type 0} (value : T) where
   chroma_size width height some Monochrome = refl
 
   -- and the sizes of what a blank frame shows
-  pub sizes_of_blank : (width height : ℕ) (s : ChromaSubsampling) (tables : Tables T) → 0 < height → tables ≡ plain_tables value width height s
+  sizes_of_blank : (width height : ℕ) (s : ChromaSubsampling) (tables : Tables T) → 0 < height → tables ≡ plain_tables value width height s
       → sizes_of tables ≡ ((width, height), (chroma_sizes_of s width height, chroma_sizes_of s width height))
   sizes_of_blank width height s tables some is =
       let chroma = chroma_size width height some s in
@@ -179,3 +214,18 @@ module _ {T : Type 0} (value : T) where
           option_map size_of plain.v,
         ),
       )) (plain_size width height some) ∙ ap (λ (c : Option (ℕ × ℕ)). ((width, height), (c, c))) chroma
+
+  -- all that is told of a blank frame, where there is one
+  pub told_of_blank : (bytes width height depth padding : ℕ) (s : ChromaSubsampling) (result : Result (Frame T) FrameError)
+      → let asked = video_request width height s depth padding in
+      0 < height → IfOk result (IsBlankVideo value asked)
+      → IfOk result (λ frame. tables_of frame ≡ plain_tables value width height s)
+      × IfOk result (λ frame. sizes_of (tables_of frame) ≡ ((width, height), (chroma_sizes_of s width height, chroma_sizes_of s width height)))
+      × (refusal_of bytes asked ≡ None → IfOk result (IsBlank value asked))
+  told_of_blank bytes width height depth padding s (Ok frame) some blank =
+      let tables = tables_of_blank width height depth padding s frame blank in (
+        tables,
+        sizes_of_blank width height s (tables_of frame) some tables,
+        λ accepts. accepted_is_built bytes (video_request width height s depth padding) frame blank accepts,
+      )
+  told_of_blank bytes width height depth padding s (Err error) some blank = (tt, tt, λ accepts. tt)

@@ -1,6 +1,6 @@
 -- Frames of any size: chroma covers luma, whether its size divides or not, and the border is as
 -- wide as asked for, or wider until it divides.
-use Rattle.std.specs.Prelude.{ℕ, ◌≡◌, ◌*◌, ◌/◌, Option, unwrap_or, option_map, replicate}
+use Rattle.std.specs.Prelude.{ℕ, ◌≡◌, ◌*◌, ◌/◌, ◌<◌, Option, unwrap_or, option_map, replicate}
 use Rattle.std.specs.Int.{div_ceil}
 use Rattle.std.specs.Int.NonZero.{non_zero_u8_get}
 use Rattle.v_frame.specs.Prelude.{ratio_of, ChromaSubsampling, Monochrome, Geometry, geometry_of, filled, Table, Tables, FrameRequest, refusal_of, Frame}
@@ -76,6 +76,12 @@ module _ {T : Type 0} where
     pub v_plane : frame.v_plane ≡ option_map (filled zero) (covering_chroma request)
     pub subsampling : frame.subsampling ≡ request.subsampling
     pub bit_depth : non_zero_u8_get frame.bit_depth ≡ request.bit_depth
+
+  -- the luma of such a frame, and its depth
+  pub record HasBlankLuma (zero : T) (request : FrameRequest) (frame : Frame T) : Type 0 where
+    pub y_plane : frame.y_plane ≡ filled zero (luma_geometry request)
+    pub bit_depth : non_zero_u8_get frame.bit_depth ≡ request.bit_depth
+    pub some : 0 < request.height
 
   -- a table of a size that holds one value
   abbrev pub plain_table : T → ℕ × ℕ → Table T

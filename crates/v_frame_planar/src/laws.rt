@@ -3,9 +3,9 @@ ghost use Rattle.std.specs.Prelude.{◌≡◌, length};
 ghost use Rattle.v_frame.specs.Prelude.{tables_of};
 ghost use Rattle.v_frame_planar.specs.Planar.{byte_count, planar_bytes, sizes_of};
 
+use crate::reading::chroma_len;
 use v_frame::frame::Frame;
 use v_frame::pixel::Pixel;
-use v_frame::plane::Plane;
 
 /// Frames whose planes have the same sizes have as many planar bytes. So what was written of the one, the other reads whole.
 pub fn same_sizes_same_byte_count<T: Pixel>(first: &Frame<T>, second: &Frame<T>)
@@ -24,6 +24,6 @@ fn measure<T: Pixel>(frame: &Frame<T>)
 {
     // No count is used: what the clauses of these calls say is the proof.
     let _y = frame.y_plane.byte_len();
-    let _u = frame.u_plane.as_ref().map(Plane::byte_len);
-    let _v = frame.v_plane.as_ref().map(Plane::byte_len);
+    let _u = chroma_len(&frame.u_plane);
+    let _v = chroma_len(&frame.v_plane);
 }

@@ -1,8 +1,8 @@
 //! Frames from their planar bytes.
-ghost use Rattle.std.specs.Prelude.{◌≡◌, ◌≢◌, ◌-◌, ◌++◌, ◌<◌, ◌≤◌, ◌⊎◌, false, length, take, option_map, Err, IfOk, IfErr, MatchBool, MatchResult, OnOk, OnErr, SomeIff};
+ghost use Rattle.std.specs.Prelude.{◌≡◌, ◌≢◌, ◌-◌, ◌++◌, ◌<◌, ◌≤◌, ◌⊎◌, false, length, min, take, option_map, Err, IfOk, IfErr, MatchBool, MatchResult, OnOk, OnErr};
 ghost use Rattle.std.specs.Io.KnownBytes.{Consumes, IsAtEnd};
-ghost use Rattle.v_frame.specs.Prelude.{byte_list, isize_max, unshown, KeepsBorders, table_of, tables_of};
-ghost use Rattle.v_frame_planar.specs.Planar.{bytes_of_plane, planar_bytes, size_of, sizes_of, MayStopReading, Reads, TellsCause};
+ghost use Rattle.v_frame.specs.Prelude.{byte_list, isize_max, usize_max, unshown, KeepsBorders, table_of, tables_of};
+ghost use Rattle.v_frame_planar.specs.Planar.{bytes_of_plane, plane_byte_count, planar_bytes, size_of, sizes_of, MayStopReading, Reads, TellsCause};
 
 use crate::counted::Counted;
 use crate::error::PlanarError;
@@ -89,22 +89,34 @@ fn room_for<T: Pixel>(alloc: Global, frame: &Frame<T>) -> Result<Vec<u8>, Planar
         ⊎ ((error ≡ PlanarError.TooLarge)
         × (isize_max < length (planar_bytes T.form (tables_of frame.now))))) }
 {
-    let count = planar_length(frame).ok_or(PlanarError::TooLarge)?;
-    let mut bytes = Vec::with_capacity(alloc, count)?;
+    let count = planar_len(frame);
+    if count > isize::MAX as usize {
+        return Err(PlanarError::TooLarge);
+    }
+    let mut bytes = Vec::new(alloc);
     bytes.resize(count, 0)?;
     Ok(bytes)
 }
 
-/// How many planar bytes a frame has, where so many can be kept in memory.
-fn planar_length<T: Pixel>(frame: &Frame<T>) -> Option<usize>
-    ensures { let count = length (planar_bytes T.form (tables_of frame.now)) in
-        SomeIff result (count ≤ isize_max) count }
+/// How many planar bytes a frame has, as far as they can be counted.
+fn planar_len<T: Pixel>(frame: &Frame<T>) -> usize
+    ensures { result ≡ min (length (planar_bytes T.form (tables_of frame.now))) usize_max }
 {
-    let y = frame.y_plane.byte_len();
-    let u = frame.u_plane.as_ref().map_or(0, Plane::byte_len);
-    let v = frame.v_plane.as_ref().map_or(0, Plane::byte_len);
-    let length = (y + u).checked_add(v)?;
-    (length <= isize::MAX as usize).then_some(length)
+    let chroma = chroma_len(&frame.u_plane) + chroma_len(&frame.v_plane);
+    frame.y_plane.byte_len().saturating_add(chroma)
+}
+
+/// How many bytes a chroma plane has, none where it is absent.
+pub(crate) fn chroma_len<T: Pixel>(plane: &Option<Plane<T>>) -> usize
+    ensures value { result ≡ length (bytes_of_plane T.form (option_map table_of plane.now)) }
+    ensures size { result
+        ≡ plane_byte_count T.form.size (option_map size_of (option_map table_of plane.now)) }
+    ensures bound { result ≤ isize_max }
+{
+    match plane {
+        Some(plane) => plane.byte_len(),
+        None => 0,
+    }
 }
 
 /// Fills a buffer from a reader, and tells how much of it was filled before the reader came to its end.

@@ -1,14 +1,11 @@
 //! Blank frames of any size.
 ghost use Rattle.std.specs.Prelude.{◌≡◌, ◌<◌, None, Err, IfOk, IsOkUnless, MatchOption, option_map};
-ghost use Rattle.std.specs.Int.NonZero.{non_zero_u8_get};
 ghost use Rattle.std.specs.Option.{ForSome};
-ghost use Rattle.v_frame.specs.Build.{luma_geometry};
-ghost use Rattle.v_frame.specs.Prelude.{filled, Fits, IsBlank, ratio_of, refusal_of, tables_of};
+ghost use Rattle.v_frame.specs.Prelude.{filled, Fits, FrameRequest, IsBlank, ratio_of, refusal_of, tables_of};
 ghost use Rattle.v_frame_planar.specs.Planar.{sizes_of};
-ghost use Rattle.v_frame_planar.specs.Video.{chroma_sizes_of, covering_geometry, luma_request, plain_tables, ratio_or_one, video_refusal_of, video_request, IsBlankVideo};
+ghost use Rattle.v_frame_planar.specs.Video.{chroma_sizes_of, covering_geometry, plain_tables, ratio_or_one, video_refusal_of, video_request, HasBlankLuma, IsBlankVideo};
 
 use std::alloc::{AllocError, Global};
-use std::num::NonZeroU8;
 use v_frame::chroma::ChromaSubsampling;
 use v_frame::frame::{Frame, FrameBuilder, FrameError};
 use v_frame::pixel::Pixel;
@@ -48,63 +45,58 @@ pub fn video_frame<T: Pixel>(
     ensures as_built { let request = video_request width height subsampling bit_depth padding in
         refusal_of T.BYTES request ≡ None → IfOk result (IsBlank T.ZERO request) }
 {
-    let (y_plane, bit_depth) = luma_plane(alloc, width, height, subsampling, bit_depth, padding)?;
-    // That luma is not empty, the clause on sizes needs.
-    let _height = y_plane.height();
-    let chroma = chroma_geometry(y_plane.geometry(), subsampling);
-    let (u_plane, v_plane) = chroma_planes(alloc, chroma)?;
-    Ok(Frame {
-        y_plane,
-        u_plane,
-        v_plane,
-        subsampling,
-        bit_depth,
-    })
+    match luma_frame(alloc, width, height, subsampling, bit_depth, padding) {
+        Ok(luma) => with_chroma(alloc, luma, subsampling),
+        Err(error) => Err(error),
+    }
 }
 
-/// The luma plane of such a frame, and its depth.
-fn luma_plane<T: Pixel>(
+/// Such a frame with its luma plane alone.
+fn luma_frame<T: Pixel>(
     alloc: Global,
     width: usize,
     height: usize,
     subsampling: ChromaSubsampling,
     bit_depth: u8,
     padding: usize,
-) -> Result<(Plane<T>, NonZeroU8), FrameError>
+) -> Result<Frame<T>, FrameError>
     ensures refused { let request = video_request width height subsampling bit_depth padding in
         MatchOption (video_refusal_of T.BYTES request)
         (IsOkUnless result FrameError.OutOfMemory) (λ e. result ≡ Err e) }
     ensures blank { let request = video_request width height subsampling bit_depth padding in
-        IfOk result (λ luma. (luma.0 ≡ filled T.ZERO (luma_geometry request))
-        × (non_zero_u8_get luma.1 ≡ request.bit_depth)) }
+        IfOk result (HasBlankLuma T.ZERO request) }
 {
     let (columns, rows) = ratios(subsampling);
     // A padding that is too large to be counted stays too large, and is refused with the row or the buffer.
     let across = padding.div_ceil(columns).saturating_mul(columns);
     let down = padding.div_ceil(rows).saturating_mul(rows);
-    let frame = luma_frame(alloc, width, height, bit_depth, across, down)?;
-    Ok((frame.y_plane, frame.bit_depth))
-}
-
-/// A frame of luma alone, with paddings on the left and the right, and above and below.
-fn luma_frame<T: Pixel>(
-    alloc: Global,
-    width: usize,
-    height: usize,
-    bit_depth: u8,
-    across: usize,
-    down: usize,
-) -> Result<Frame<T>, FrameError>
-    ensures refused { MatchOption (refusal_of T.BYTES (luma_request width height bit_depth across down))
-        (IsOkUnless result FrameError.OutOfMemory) (λ e. result ≡ Err e) }
-    ensures blank { IfOk result (IsBlank T.ZERO (luma_request width height bit_depth across down)) }
-{
     FrameBuilder::new(width, height, ChromaSubsampling::Monochrome, bit_depth)
         .luma_padding_left(across)
         .luma_padding_right(across)
         .luma_padding_top(down)
         .luma_padding_bottom(down)
         .build(alloc)
+}
+
+/// The frame of this luma, with blank chroma planes where the format has them.
+fn with_chroma<T: Pixel>(
+    alloc: Global,
+    luma: Frame<T>,
+    subsampling: ChromaSubsampling,
+) -> Result<Frame<T>, FrameError>
+    ensures refused { IsOkUnless result FrameError.OutOfMemory }
+    ensures blank { (request : FrameRequest) → HasBlankLuma T.ZERO request luma
+        → request.subsampling ≡ subsampling → IfOk result (IsBlankVideo T.ZERO request) }
+{
+    let chroma = chroma_geometry(luma.y_plane.geometry(), subsampling);
+    let (u_plane, v_plane) = chroma_planes(alloc, chroma)?;
+    Ok(Frame {
+        y_plane: luma.y_plane,
+        u_plane,
+        v_plane,
+        subsampling,
+        bit_depth: luma.bit_depth,
+    })
 }
 
 /// The ratios of a format, 1 and 1 where it has no chroma.
@@ -148,18 +140,10 @@ fn chroma_planes<T: Pixel>(
     ensures { IfOk result (λ planes. (planes.0 ≡ option_map (filled T.ZERO) geometry)
         × (planes.1 ≡ option_map (filled T.ZERO) geometry)) }
 {
-    Ok((blank_plane(alloc, geometry)?, blank_plane(alloc, geometry)?))
-}
-
-/// A plane of zeros, where there is one.
-fn blank_plane<T: Pixel>(
-    alloc: Global,
-    geometry: Option<PlaneGeometry>,
-) -> Result<Option<Plane<T>>, AllocError>
-    requires { ForSome geometry Fits }
-    ensures { IfOk result (λ plane. plane ≡ option_map (filled T.ZERO) geometry) }
-{
-    geometry
-        .map(|geometry| Plane::new(alloc, geometry))
-        .transpose()
+    let Some(geometry) = geometry else {
+        return Ok((None, None));
+    };
+    let u_plane = Plane::new(alloc, geometry)?;
+    let v_plane = Plane::new(alloc, geometry)?;
+    Ok((Some(u_plane), Some(v_plane)))
 }

@@ -39,7 +39,9 @@ pub fn run<W: io::Write>(
         (text_of_table (cut_rows 4 2 source.now))) }
 {
     let mut answers = answers_of_frame(alloc, source)?;
-    take_copied(&mut answers).map_err(ToolFault::Copy)?;
+    if let Err(error) = take_copied(&mut answers) {
+        return Err(ToolFault::Copy(error));
+    }
     let text = text_of(alloc, answers.as_slice())?;
     out.write_all(text.as_bytes())?;
     Ok(())
@@ -72,13 +74,15 @@ fn small_frame(alloc: Global) -> Result<Frame<u8>, ToolFault>
     ensures ok { IfOk result (λ frame. tables_of frame ≡ blank_tables) }
     ensures fault { IfErr result (λ fault. fault ≡ ToolFault.Frame FrameError.OutOfMemory) }
 {
-    FrameBuilder::new(4, 2, ChromaSubsampling::Monochrome, 8)
+    let builder = FrameBuilder::new(4, 2, ChromaSubsampling::Monochrome, 8)
         .luma_padding_left(2)
         .luma_padding_right(1)
         .luma_padding_top(1)
-        .luma_padding_bottom(0)
-        .build::<u8>(alloc)
-        .map_err(ToolFault::Frame)
+        .luma_padding_bottom(0);
+    match builder.build(alloc) {
+        Ok(frame) => Ok(frame),
+        Err(error) => Err(ToolFault::Frame(error)),
+    }
 }
 
 /// Takes the first answer off the list, which is that of a copy.

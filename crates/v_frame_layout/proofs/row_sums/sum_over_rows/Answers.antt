@@ -1,5 +1,6 @@
--- One more block.
-use Rattle.std.proofs.Common.{lit<}
+-- One more block, one more pair, and all.
+use Rattle.std.proofs.Common.{lit<, arith}
+use Rattle.std.proofs.lemmas.Grind.{common_steps}
 use Rattle.v_frame_layout.proofs.RowPairs.{sums_up_to-piece_more}
 use Rattle.v_frame_layout.proofs.row_sums.sum_over_rows.Goals as goal
 
@@ -16,3 +17,9 @@ loop-eight-preserved g c =
     rw c.from-sum-in-loop-eight.ensures
     (sums_up_to-piece_more (λ p. g.D.Difference.between p.0 p.1) 8 c.loop-eight.eight c.loop-eight.sum piece.result c.args.a.now c.args.b.now
     (lit< tt) piece.type_inv piece.ensures c.loop-eight.invariant)
+
+pub loop-i-preserved : goal.loop-i-preserved
+loop-i-preserved g c = grind (arith, common_steps)
+
+pub returns : goal.returns
+returns g c = grind (arith, common_steps)

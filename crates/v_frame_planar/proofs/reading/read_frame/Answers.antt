@@ -1,5 +1,6 @@
 -- A frame for which there was no room, and one that came to its end.
-use Rattle.std.proofs.Common.{length, sym, ◌∙◌, ap}
+use Rattle.std.proofs.Common.{length, sym, ◌∙◌, ap, arith}
+use Rattle.std.proofs.lemmas.Grind.{common_steps}
 use Rattle.v_frame_planar.proofs.Stops.{handed_on, no_room, was_read, was_truncated}
 use Rattle.v_frame_planar.proofs.Streams.{taken_whole}
 use Rattle.v_frame_planar.proofs.reading.read_frame.Goals as goal
@@ -8,6 +9,9 @@ pub returns-in_err-bytes-clause-error : goal.returns-in_err-bytes-clause-error
 returns-in_err-bytes-clause-error g c =
     let error = c.in_err-bytes.field-0.0 in
     no_room g.R.Read.remaining c.args.reader.now _ c.from_residual.result error (handed_on _ error c.from_residual.ensures.1) c.in_err-bytes.ensures.error
+
+pub show_whole-requires-after_bounds : goal.show_whole-requires-after_bounds
+show_whole-requires-after_bounds g c = grind (arith, common_steps)
 
 pub returns-clause-read : goal.returns-clause-read
 returns-clause-read g c =

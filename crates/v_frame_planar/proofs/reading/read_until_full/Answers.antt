@@ -1,5 +1,6 @@
 -- One more read fills the buffer by what it gave, and a failed one leaves what was read.
-use Rattle.std.proofs.Common.{◌+◌, ◌-◌, ◌<◌, min, length, take, sym, ◌∙◌, ap, subst, rules, length-take-le}
+use Rattle.std.proofs.Common.{◌+◌, ◌-◌, ◌<◌, min, length, take, sym, ◌∙◌, ap, subst, rules, arith, length-take-le}
+use Rattle.std.proofs.lemmas.Grind.{common_steps}
 use Rattle.std.specs.Io.KnownBytes.{Consumes}
 use Rattle.std.proofs.KnownBytes.{Consumes-kept, Consumes-trans}
 use Rattle.v_frame_planar.specs.Counted.{u64_max}
@@ -36,3 +37,6 @@ pub returns-in-Ok-eq0-clause-at_end : goal.returns-in-Ok-eq0-clause-at_end
 returns-in-Ok-eq0-clause-at_end g c =
     let some : 0 < length c.read.new.buf = search rules in
     λ less. c.in-Ok-eq0.ensures.bytes.1 c.in-Ok-eq0.field-0-test some
+
+pub returns-in-Ok-eq0-clause-bytes : goal.returns-in-Ok-eq0-clause-bytes
+returns-in-Ok-eq0-clause-bytes g c = grind (arith, common_steps)

@@ -1,29 +1,21 @@
--- A blank frame shows tables of zeros, and is the frame that is built where all divides.
-use Rattle.std.proofs.Common.{◌<◌, rules}
+-- What is told of a blank frame follows from the request, which luma alone can refuse.
+use Rattle.std.proofs.Common.{refl}
 use Rattle.v_frame.specs.declared.frame.error.FrameError.TheVariants.{OutOfMemory}
 use Rattle.v_frame_planar.specs.Video.{video_request}
-use Rattle.v_frame_planar.proofs.Requests.{accepted_is_built, refusal_goes_on, tables_of_blank, sizes_of_blank}
-use Rattle.v_frame_planar.proofs.Stops.{handed_on}
+use Rattle.v_frame_planar.proofs.Requests.{told_of_blank, value_goes_on}
 use Rattle.v_frame_planar.proofs.video.video_frame.Goals as goal
 
-pub returns-clause-blank : goal.returns-clause-blank
-returns-clause-blank g c = search rules
-
-pub returns-clause-tables : goal.returns-clause-tables
-returns-clause-tables g c = tables_of_blank g.T.Pixel.ZERO c.args.width c.args.height c.args.bit_depth c.args.padding c.args.subsampling _
-    (returns-clause-blank g c)
-
-pub returns-clause-sizes : goal.returns-clause-sizes
-returns-clause-sizes g c =
-    let some : 0 < c.args.height = search rules in
-    sizes_of_blank g.T.Pixel.ZERO c.args.width c.args.height c.args.subsampling _ some (returns-clause-tables g c)
-
-pub returns-clause-as_built : goal.returns-clause-as_built
-returns-clause-as_built g c = accepted_is_built g.T.Pixel.ZERO g.T.Pixel.BYTES
-    (video_request c.args.width c.args.height c.args.subsampling c.args.bit_depth c.args.padding) _ (returns-clause-blank g c)
-
-pub returns-in_err-y_plane-clause-refused : goal.returns-in_err-y_plane-clause-refused
-returns-in_err-y_plane-clause-refused g c =
-    let error = c.in_err-y_plane.field-0.0 in
-    let is = handed_on _ error c.from_residual.ensures.1 in
-    refusal_goes_on c.luma_plane.result c.from_residual.result OutOfMemory _ error c.in_err-y_plane.was is c.luma_plane.ensures.refused
+pub returns-in-Ok : goal.returns-in-Ok
+returns-in-Ok g c =
+    let a = c.args in
+    let luma = c.in-Ok.ensures.blank in
+    let blank = c.with_chroma.ensures.blank (video_request a.width a.height a.subsampling a.bit_depth a.padding) luma refl in
+    let told = told_of_blank g.T.Pixel.ZERO g.T.Pixel.BYTES a.width a.height a.bit_depth a.padding a.subsampling c.with_chroma.result luma.some blank in
+    record {
+      refused = value_goes_on c.luma_frame.result c.with_chroma.result OutOfMemory _ c.in-Ok.luma c.in-Ok.is c.with_chroma.ensures.refused
+          c.luma_frame.ensures.refused;
+      blank = blank;
+      tables = told.0;
+      sizes = told.1;
+      as_built = told.2;
+    }

@@ -1,5 +1,6 @@
 -- One more block goes behind what was written, or the bytes stop inside it.
-use Rattle.std.proofs.Common.{◌++◌, [], take, sym, ◌∙◌, ap, append_assoc, rules}
+use Rattle.std.proofs.Common.{◌++◌, [], take, sym, ◌∙◌, ap, append_assoc, rules, arith}
+use Rattle.std.proofs.lemmas.Grind.{common_steps}
 use Rattle.std.proofs.KnownBytes.{Appends-nil, Appends-trans}
 use Rattle.v_frame.specs.Prelude.{bytes_of_pixels, tables_of}
 use Rattle.v_frame_planar.specs.Pending.{pixels_pending}
@@ -38,3 +39,6 @@ returns-in_err-write_all-clause-error g c =
     let stopped = stops_later _ front part rest all g.W.Write.contents c.args.writer.now c.loop-pending.writer c.write_all.new.self before.sent.1
     before.failures fault (search rules) in
     search rules
+
+pub loop-pending-smaller : goal.loop-pending-smaller
+loop-pending-smaller g c = grind (arith, common_steps)

@@ -1,5 +1,5 @@
 -- What is written is the text of the answers, which are those of an accepted copy.
-use Rattle.std.proofs.Common.{ℕ, ◌≡◌, List, ◌∙◌, sym, ap, subst, take, drop, length, is_ok, rules}
+use Rattle.std.proofs.Common.{ℕ, ◌≡◌, List, ◌∙◌, sym, ap, subst, take, drop, length, is_ok, true, rules}
 use Rattle.v_frame.specs.Prelude.{cut_rows}
 use Rattle.v_frame_text.specs.Printed.{text_of_table}
 use Rattle.v_frame_text.specs.Run.{tool_fault_of, LeavesWriter}
@@ -9,7 +9,7 @@ use Rattle.v_frame_text.proofs.run.run.Goals as goal
 pub returns-clause-ok : goal.returns-clause-ok
 returns-clause-ok g c =
     let source = c.args.source.now in
-    let accepted = sym c.map_err.ensures.variant ∙ ap is_ok c.in_ok-map_err.was in
+    let accepted : is_ok c.take_copied.result ≡ true = search rules in
     let answers = after_copy source c.take_copied.new.answers.items c.take_copied.result accepted (sym c.in_ok-answers.ensures.ok ∙ c.take_copied.ensures) in
     let text = c.text_of.ensures (length (take 4 source)) 2 (take 4 source) (take 4 (drop 4 source)) (c.as_slice.ensures.value ∙ answers) in
     search rules
@@ -17,7 +17,7 @@ returns-clause-ok g c =
 pub returns-in_err-write_all-clause-left : goal.returns-in_err-write_all-clause-left
 returns-in_err-write_all-clause-left g c =
     let source = c.args.source.now in
-    let accepted = sym c.map_err.ensures.variant ∙ ap is_ok c.in_ok-map_err.was in
+    let accepted : is_ok c.take_copied.result ≡ true = search rules in
     let answers = after_copy source c.take_copied.new.answers.items c.take_copied.result accepted (sym c.in_ok-answers.ensures.ok ∙ c.take_copied.ensures) in
     let text = c.text_of.ensures (length (take 4 source)) 2 (take 4 source) (take 4 (drop 4 source)) (c.as_slice.ensures.value ∙ answers) in
     let same : c.as_bytes.result.now ≡ text_of_table (cut_rows 4 2 source) = c.as_bytes.ensures.value ∙ rw (c.in_ok-text.was) at text in

@@ -1,5 +1,6 @@
 -- One more run stands behind what was encoded before.
 use Rattle.std.proofs.Common.{◌≡◌, ◌+◌, ◌-◌, ◌*◌, ◌++◌, length, take, sym, ◌∙◌, ap, take_all, rules, arith}
+use Rattle.std.proofs.lemmas.Grind.{common_steps}
 use Rattle.v_frame.specs.Prelude.{bytes_of_pixels}
 use Rattle.v_frame_planar.specs.Pending.{pixels_pending, pixels_behind}
 use Rattle.v_frame_planar.proofs.Blocks.{one_more_run}
@@ -27,3 +28,18 @@ loop-block-preserved g c =
       within = search rules;
       bytes = run ∙ ap (λ front. front ++ bytes_of_pixels form (rest ++ pixels_behind begun)) (sym (joined ∙ ap (λ p. take filled block ++ p) whole));
     }
+
+pub overflow_mul-end : goal.overflow_mul-end
+overflow_mul-end g c = grind (arith, common_steps)
+
+pub overflow_add-end : goal.overflow_add-end
+overflow_add-end g c = grind (arith, common_steps)
+
+pub slice_bounds-encode_row-end : goal.slice_bounds-encode_row-end
+slice_bounds-encode_row-end g c = grind (arith, common_steps)
+
+pub encode_row-requires-after_bounds : goal.encode_row-requires-after_bounds
+encode_row-requires-after_bounds g c = grind (arith, common_steps)
+
+pub loop-block-smaller : goal.loop-block-smaller
+loop-block-smaller g c = grind (arith, common_steps)
