@@ -2,6 +2,7 @@
 pub mod Determined
 pub mod Entries
 pub mod Equality
+pub mod Kept
 pub mod Lists
 pub mod Marks
 pub mod Overwrites

@@ -197,11 +197,12 @@ const SHOWN_ENTRIES: usize = 5;
 /// The first entries, and two dots where there are more.
 impl<T: fmt::Debug> fmt::Debug for AlignedData<T> {
     fn fmt<W: fmt::Write>(&self, f: &mut fmt::Formatter<W>) -> fmt::Result {
-        match self.as_slice().get(..SHOWN_ENTRIES) {
-            Some(first) if self.len > SHOWN_ENTRIES => {
-                f.debug_list().slice(first).finish_non_exhaustive()
-            }
-            _ => self.as_slice().fmt(f),
+        let entries = self.as_slice();
+        if entries.len() <= SHOWN_ENTRIES {
+            return entries.fmt(f);
         }
+        f.debug_list()
+            .slice(&entries[..SHOWN_ENTRIES])
+            .finish_non_exhaustive()
     }
 }

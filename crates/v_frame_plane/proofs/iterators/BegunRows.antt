@@ -1,6 +1,6 @@
 -- An iterator over pixels as a row that was begun from the front, rows, and a row that was begun from the back.
-use Rattle.std.proofs.Common.{Some, ◌≡◌, ◌*◌, ◌^◌, ◌<◌, List, [], ◌∷◌, ◌++◌, length, refl, sym, ◌∙◌, ap, arith, append-nil, append_assoc, length-append}
-use Rattle.std.proofs.lemmas.List.Elements.{All-nil, All-rest, All-pop, All-weaker}
+use Rattle.std.proofs.Common.{All, Some, ◌≡◌, ◌*◌, ◌^◌, ◌<◌, ◌≤◌, List, [], ◌∷◌, ◌++◌, length, refl, sym, ◌∙◌, ap, arith, subst, append-nil, append_assoc, length-append}
+use Rattle.std.proofs.lemmas.List.Elements.{All-nil, All-head, All-rest, All-pop, All-weaker}
 use Rattle.v_frame_plane.specs.Plane.{Raster, IsWhole, table_of}
 use Rattle.v_frame_layout.specs.Table.{row_major}
 use Rattle.v_frame_plane.specs.Cursor.{PixelsAreCountable}
@@ -105,6 +105,52 @@ module _ {T : Type 0} where
       → front ++ (row_major rows ++ back) ≡ pixel ∷ (others ++ (row_major rest ++ left))
   first_of_back front back row others left rows rest pixel none was e l b n =
       rw (nothing front none, was, e, l, append-nil others) (sym b ∙ n)
+
+  -- where no pixel is found, the rows that were not begun are fewer, and none was left
+  pub row_gone : (front back row : List T) (rows rest : List (List T)) → PixelsAreCountable front rows back → rows ≡ row ∷ rest →
+      PixelsAreCountable front rest back
+  row_gone front back row rows rest before e = record {
+    full = All-rest IsFull row rest rows e before.full;
+    bound = omega (arith, before.bound, ap (λ (rs : List (List T)). length (row_major rs)) e, length-append row (row_major rest));
+  }
+
+  pub last_row_gone : (front back row : List T) (rows rest : List (List T)) → PixelsAreCountable front rows back → rows ≡ rest ++ row ∷ [] →
+      PixelsAreCountable front rest back
+  last_row_gone front back row rows rest before e =
+      let begun = last_row_begun front back row rows rest before e in
+      record {
+        full = begun.full;
+        bound = omega (
+          arith,
+          before.bound,
+          ap (λ (rs : List (List T)). length (row_major rs)) e,
+          ap length (row_major-push rest row),
+          length-append (row_major rest) row,
+        );
+      }
+
+  pub rows_gone : (front back begun others : List T) (rows rest : List (List T)) → PixelsAreCountable front rows back → length begun ≤ length front →
+      length others ≤ length back → rest ≡ [] → PixelsAreCountable begun rest others
+  rows_gone front back begun others rows rest before f b e = rw e record { full = All-nil IsFull; bound = omega (arith, before.bound) }
+
+  -- a row that was not begun is not empty
+  pub row_is_full : {P : Type 0} (row : List T) (rows rest : List (List T)) → All IsFull rows → rows ≡ row ∷ rest → length row ≡ 0 → P
+  row_is_full row rows rest full e empty = absurd (omega (arith, All-head IsFull row rest (subst (All IsFull) e full)))
+
+  pub last_row_is_full : {P : Type 0} (row : List T) (rows rest : List (List T)) → All IsFull rows → rows ≡ rest ++ row ∷ [] → length row ≡ 0 → P
+  last_row_is_full row rows rest full e empty = absurd (omega (arith, (All-pop IsFull rows rest (Some row) e full).1))
+
+  pub none_of_back : (front back row left : List T) (rows rest : List (List T)) → length front ≡ 0 → rows ≡ [] → rest ≡ [] → left ≡ [] → row ≡ back →
+      length row ≡ 0
+      → (front ++ (row_major rows ++ back) ≡ []) × (front ++ (row_major rest ++ left) ≡ [])
+  none_of_back front back row left rows rest none was e l b empty =
+      rw (nothing front none, was, e, l, ← b, nothing row empty) (refl, refl)
+
+  pub none_of_front : (front back row left : List T) (rows rest : List (List T)) → length back ≡ 0 → rows ≡ [] → rest ≡ [] → left ≡ [] → row ≡ front →
+      length row ≡ 0
+      → (front ++ (row_major rows ++ back) ≡ []) × (left ++ (row_major rest ++ back) ≡ [])
+  none_of_front front back row left rows rest none was e l b empty =
+      rw (nothing back none, was, e, l, ← b, nothing row empty) (refl, refl)
 
   -- all rows of a plane can be iterated
   pub visible_countable : (p : Raster T) → 0 < p.geometry.width → IsWhole p.geometry p.buffer → PixelsAreCountable [] (table_of p) []

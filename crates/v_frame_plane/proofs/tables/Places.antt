@@ -1,5 +1,5 @@
 -- Places of pixels: what is at one, and that it is the table's pixel inside the rectangle.
-use Rattle.std.proofs.Common.{ℕ, ◌≡◌, ◌+◌, ◌-◌, ◌*◌, ◌<◌, ◌≤◌, List, length, take, drop, Option, Some, None, slice_get, option_and_then, option_copied, Bor}
+use Rattle.std.proofs.Common.{ℕ, ◌≡◌, ◌+◌, ◌-◌, ◌*◌, ◌<◌, ◌≤◌, ◌↔◌, IsNone, true, false, List, length, take, drop, Option, Some, None, slice_get, option_and_then, option_copied, Bor}
 use Rattle.std.proofs.Common.{All, inl, inr, length-take-le, length-drop, refl, sym, ◌∙◌, ap, arith}
 use Rattle.std.proofs.lemmas.Bool.{cases_lt}
 use Rattle.std.proofs.lemmas.Option.{slice_get_past, slice_get_read, slice_get_cases, get_or_from_slice_get}
@@ -26,6 +26,15 @@ past_counting size place above fits = elim (cases_lt usize_max place) [ inl past
 pub copied_get : {X : Type 0} (xs : List X) (i : ℕ) (r : Option (Bor X)) → IsGetResult xs i i r → option_copied r ≡ slice_get xs i
 copied_get xs i None h = sym (slice_get_past xs i h.3)
 copied_get xs i (Some x) h = sym (slice_get_read xs (length xs) i x.now refl h.3.0 h.1)
+
+-- no entry is read exactly where the place is past the end
+pub none_past_end : {X : Type 0} (xs : List X) (place : ℕ) (r : Option X) → r ≡ slice_get xs place → IsNone r ↔ (length xs ≤ place)
+none_past_end {X} xs place None e =
+    let past : (x : X) → slice_get xs place ≡ Some x → ⊥ = λ x here. let no : None ≡ Some x = e ∙ here in cc in
+    (λ _. elim (slice_get_cases xs place).1 [ inl here ↦ absurd (past here.0 here.2) | inr end ↦ end.0 ], λ _. refl)
+none_past_end xs place (Some x) e =
+    let held : slice_get xs place ≡ None → ⊥ = λ past. let no : Some x ≡ None = e ∙ past in cc in
+    (λ h. let no : true ≡ false = h in cc, λ past. absurd (held (slice_get_past xs place past)))
 
 module _ {T : Type 0} where
   -- the part of the buffer that the code reads for a row is that row of the table

@@ -38,3 +38,16 @@ returns g c =
       arith,
       c.loop-entry.auto.entry-items,
     )))
+
+pub loop-entry-init : goal.loop-entry-init
+loop-entry-init g c = record {
+  values = ap (λ (moved : List g.row.T.Denot). map Some moved ++ c.args.entries.now) c.requires.none_moved;
+  full = c.requires.full;
+  room = omega (arith, c.requires.room);
+}
+
+pub push-requires : goal.push-requires
+push-requires g c = omega (arith, c.loop-entry.invariant.room, c.loop-entry-test.true, c.loop-entry.auto.entry-items)
+
+pub finish-requires : goal.finish-requires
+finish-requires g c = omega (arith, c.loop-entry.invariant.room, c.loop-entry-test.false, c.loop-entry.auto.entry-items, c.loop-entry.auto.entry-index-end)

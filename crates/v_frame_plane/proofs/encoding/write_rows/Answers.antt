@@ -1,5 +1,5 @@
 -- The front of a piece is one more row, and then the end.
-use Rattle.std.proofs.Common.{◌≡◌, ◌+◌, ◌-◌, ◌*◌, ◌<◌, length, take, drop, refl, ◌∙◌, ap, arith, length-take-le, length-drop}
+use Rattle.std.proofs.Common.{◌≡◌, ◌+◌, ◌-◌, ◌*◌, ◌<◌, ◌≤◌, length, take, drop, refl, sym, ◌∙◌, ap, arith, length-take-le, length-drop}
 use Rattle.v_frame_layout.specs.Geometry.{alloc_size_of}
 use Rattle.v_frame_plane.proofs.copies.CopyLemmas.{one_more_row, border_put_row, all_rows}
 use Rattle.v_frame_plane.proofs.copies.Sources.{front_within, length-rows, row_of_piece}
@@ -61,3 +61,64 @@ overflow_mul-from g c =
       c.height-y-end.ensures.value,
     )) in
     omega (arith, within)
+
+pub loop-y-init : goal.loop-y-init
+loop-y-init g c = record { table = refl; border = refl }
+
+pub row_start-start-requires-clause-inside : goal.row_start-start-requires-clause-inside
+row_start-start-requires-clause-inside g c = omega (arith, c.height-y-end.ensures.value)
+
+pub overflow_add-start : goal.overflow_add-start
+overflow_add-start g c = omega (arith, c.row_start-start.ensures.within, c.width-width.ensures.value, c.requires.plane.fits)
+
+pub write_row-requires : goal.write_row-requires
+write_row-requires g c =
+    let k = c.args.geometry in
+    let start = c.row_start-start.result in
+    let from = c.args.stride * c.loop-y.y in
+    let entries = k.width * g.E.Encoding.ENTRIES in
+    let front : c.width-width.result * c.ENTRIES.result ≡ entries = ap (λ w. w * c.ENTRIES.result) c.width-width.ensures.value ∙
+    ap (λ n. k.width * n) c.ENTRIES.ensures in
+    let high : c.loop-y.y < k.height = omega (arith, c.height-y-end.ensures.value) in
+    let within = front_within entries c.args.stride k.height c.loop-y.y c.requires.stride high in
+    let whole : length c.loop-y.buffer ≡ alloc_size_of k = c.loop-y.auto.buffer ∙ c.requires.plane.whole in
+    let row : start + c.width-width.result - start ≡ k.width = omega (arith, c.width-width.ensures.value) in
+    let part = length-take-le (start + c.width-width.result - start) (drop start c.loop-y.buffer) (omega (
+      arith,
+      length-drop start c.loop-y.buffer,
+      c.row_start-start.ensures.within,
+    )) in
+    let piece : from + c.width-width.result * c.ENTRIES.result - from ≡ entries = omega (arith, front) in
+    let source = length-take-le (from + c.width-width.result * c.ENTRIES.result - from) (drop from c.args.src.now) (omega (
+      arith,
+      length-drop from c.args.src.now,
+      within,
+      piece,
+      c.requires.source,
+    )) in
+    let other_way : entries ≡ g.E.Encoding.ENTRIES * k.width = omega arith in
+    source ∙ piece ∙ other_way ∙ ap (λ n. g.E.Encoding.ENTRIES * n) (sym (part ∙ row))
+
+pub returns-clause-border : goal.returns-clause-border
+returns-clause-border g c = c.loop-y.invariant.border
+
+pub slice_bounds-write_row-end : goal.slice_bounds-write_row-end
+slice_bounds-write_row-end g c =
+    let inside : c.row_start-start.result + c.width-width.result ≤ length c.loop-y.buffer = omega (
+      arith,
+      c.row_start-start.ensures.within,
+      c.width-width.ensures.value,
+      c.loop-y.auto.buffer,
+      c.requires.plane.whole,
+    ) in
+    inside
+
+pub slice_bounds-write_row-end-in-loop-y : goal.slice_bounds-write_row-end-in-loop-y
+slice_bounds-write_row-end-in-loop-y g c =
+    let from = c.args.stride * c.loop-y.y in
+    let entries = c.args.geometry.width * g.E.Encoding.ENTRIES in
+    let front : c.width-width.result * c.ENTRIES.result ≡ entries = ap (λ w. w * c.ENTRIES.result) c.width-width.ensures.value ∙
+    ap (λ n. c.args.geometry.width * n) c.ENTRIES.ensures in
+    let within = front_within entries c.args.stride c.args.geometry.height c.loop-y.y c.requires.stride (omega (arith, c.height-y-end.ensures.value)) in
+    let inside : from + c.width-width.result * c.ENTRIES.result ≤ length c.args.src.now = omega (arith, front, within, c.requires.source) in
+    inside

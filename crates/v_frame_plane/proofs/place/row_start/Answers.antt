@@ -1,5 +1,5 @@
 -- A row of the plane lies in the buffer.
-use Rattle.std.proofs.Common.{arith}
+use Rattle.std.proofs.Common.{◌*◌, ap, arith}
 use Rattle.v_frame_layout.proofs.Plans.{row_start_within}
 use Rattle.v_frame_plane.proofs.place.row_start.Goals as goal
 
@@ -18,3 +18,6 @@ overflow_add-result c =
 pub returns-clause-within : goal.returns-clause-within
 returns-clause-within c =
     row_start_within c.args.geometry c.data_origin.result c.stride.result c.args.y c.data_origin.ensures.value c.stride.ensures c.requires.inside
+
+pub returns-clause-place : goal.returns-clause-place
+returns-clause-place c = omega (arith, c.data_origin.ensures.value, ap (λ k. k * c.args.y) c.stride.ensures)

@@ -1,6 +1,6 @@
 -- The last byte is that of the begun pixel at the back, the last one of the last pixel, or that of the begun pixel in front.
 use Rattle.std.proofs.Common.{refl, append_assoc}
-use Rattle.v_frame_plane.proofs.iterators.BegunPixels.{last_begun}
+use Rattle.v_frame_plane.proofs.iterators.BegunPixels.{last_begun, last_drawn, none_left}
 use Rattle.v_frame_plane.proofs.iterators.WalkRuns.{last_taken}
 use Rattle.v_frame_plane.proofs.bytes.ByteDataDoubleEndedIterator.next_back.Goals as goal
 
@@ -34,3 +34,38 @@ returns-in_ok-take-in-None-clause-steps g c =
 
 pub returns-in_ok-take-in-None-clause-goes : goal.returns-in_ok-take-in-None-clause-goes
 returns-in_ok-take-in-None-clause-goes g c = last_taken (λ byte. byte) _ _ _ _ tt (returns-in_ok-take-in-None-clause-steps g c)
+
+pub invariant_of-self : goal.invariant_of-self
+invariant_of-self g c =
+    rw (c.take.ensures.after) record { low_drawn = c.self.invariant.low_drawn; high_drawn = tt; bound = c.self.invariant.bound }
+
+pub invariant_of-self-in-Some-next_back : goal.invariant_of-self-in-Some-next_back
+invariant_of-self-in-Some-next_back g c =
+    let a = c.self.inside in
+    last_drawn g.T.Pixel.form.size a.front c.begin_back.new.back a.back a.pixels c.next_back.new.self c.in-Some-next_back.pixel c.self.invariant
+    c.in-Some-next_back.ensures.steps c.begin_back.ensures.high_drawn
+
+pub invariant_of-self-in-None : goal.invariant_of-self-in-None
+invariant_of-self-in-None g c =
+    none_left g.T.Pixel.form.size _ _ _ c.take-in-None.ensures.after c.in-None.ensures.steps.1 c.take.ensures.after
+
+-- no byte is left
+pub invariant_of-self-in_err-take-in-None : goal.invariant_of-self-in_err-take-in-None
+invariant_of-self-in_err-take-in-None g c =
+    none_left g.T.Pixel.form.size _ _ _ c.take-in-None.ensures.after c.in-None.ensures.steps.1 c.take.ensures.after
+
+pub returns-in_err-take-in-None-clause-steps : goal.returns-in_err-take-in-None-clause-steps
+returns-in_err-take-in-None-clause-steps g c =
+    rw (
+      c.from_residual.ensures,
+      ← c.self.view_is,
+      ← c.in_default.ensures.value,
+      ← c.in_err-take-in-None.ensures.value,
+      c.in-None.ensures.steps.0,
+      c.in-None.ensures.steps.1,
+      c.take.ensures.after,
+      c.take-in-None.ensures.after,
+    ) (refl, refl)
+
+pub returns-in_err-take-in-None-clause-goes : goal.returns-in_err-take-in-None-clause-goes
+returns-in_err-take-in-None-clause-goes g c = last_taken (λ byte. byte) _ _ _ _ tt (returns-in_err-take-in-None-clause-steps g c)

@@ -5,6 +5,7 @@ use Rattle.std.specs.Option.{ghost_name_of}
 use borrow.Follows.Closed.{read_of}
 use Rattle.v_frame_layout.specs.Geometry.{alloc_size_of, place_of}
 use Rattle.v_frame_plane.specs.Plane.{Raster, raster}
+use Rattle.v_frame_plane.proofs.tables.Kept.{whole_with_entry}
 use Rattle.v_frame_plane.proofs.tables.Places.{past_counting}
 use Rattle.v_frame_plane.proofs.tables.Writes.{set_at, none_past}
 use Rattle.v_frame_plane.proofs.plane.Plane.checked_entry_mut.Goals as goal
@@ -32,3 +33,8 @@ returns-in_err-place g c =
       refl,
       record { writes_back = tt; value = sym none; none = (λ _. past, λ _. refl) },
     )
+
+pub invariant_of-self-lent : goal.invariant_of-self-lent
+invariant_of-self-lent g c = λ r.
+    let k = c.self.inside.geometry in
+    (λ w. whole_with_entry k c.self.inside.buffer c.in_ok-place.place w c.self.invariant, c.self.invariant)

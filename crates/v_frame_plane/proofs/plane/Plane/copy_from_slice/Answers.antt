@@ -1,9 +1,10 @@
 -- The copy is decided by the sizes of the plane, which are those of its table.
-use Rattle.std.proofs.Common.{◌≡◌, ◌*◌, List, length, map, refl, ap, ◌∙◌, sym}
+use Rattle.std.proofs.Common.{◌≡◌, ◌*◌, List, length, map, refl, ap, ◌∙◌, sym, arith}
 use Rattle.v_frame_layout.specs.Table.{row_major, cut_rows}
 use Rattle.v_frame_plane.specs.Plane.{Raster, raster, table_of, border_of}
 use Rattle.v_frame_plane.specs.Copy.{CopyOutcome, piece_fronts}
 use Rattle.v_frame_plane.proofs.copies.CopyLemmas.{copy_refused, copy_accepted, row_major-cut_rows}
+use Rattle.v_frame_plane.proofs.tables.Kept.{whole_refilled}
 use Rattle.v_frame_plane.proofs.tables.Lists.{refill_same}
 use Rattle.v_frame_plane.proofs.copies.Sources.{rows_of_packed}
 use Rattle.v_frame_plane.proofs.plane.Plane.copy_from_slice.Goals as goal
@@ -45,3 +46,16 @@ returns g c =
       };
       source = ap row_major rows ∙ row_major-cut_rows k.width k.height source (c.if-src-expected.false ∙ size.value);
     })
+
+pub write_rows-requires-clause-plane : goal.write_rows-requires-clause-plane
+write_rows-requires-clause-plane g c = rw (c.as_mut_slice-buffer.ensures.value) c.self.invariant
+
+pub write_rows-requires-clause-stride : goal.write_rows-requires-clause-stride
+write_rows-requires-clause-stride g c = omega (arith, c.width.ensures.value)
+
+pub write_rows-requires-clause-source : goal.write_rows-requires-clause-source
+write_rows-requires-clause-source g c =
+    c.if-src-expected.false ∙ c.visible_size-expected.ensures.value ∙ ap (λ w. w * c.self.inside.geometry.height) (sym c.width.ensures.value)
+
+pub invariant_of-self : goal.invariant_of-self
+invariant_of-self g c = whole_refilled c.self.inside.geometry c.self.inside.buffer c.write_rows.new.buffer c.self.invariant

@@ -6,6 +6,7 @@ use Rattle.v_frame_plane.specs.Copy.{CopyOutcome, Copies, strided_copy}
 use Rattle.v_frame_plane.specs.declared.error.CopyError.TheVariants.{DataLength}
 use Rattle.v_frame_plane.proofs.copies.ByteCopies.{asked_is_found, asked_is_other, asked_is_told, refused_by_stride, refused_by_length, accepted}
 use Rattle.std.specs.List.{refill}
+use Rattle.v_frame_plane.proofs.tables.Kept.{whole_refilled}
 use Rattle.v_frame_plane.proofs.tables.Lists.{refill_same}
 use Rattle.v_frame_plane.proofs.copies.BytesBack.{AreBytes}
 use Rattle.v_frame_plane.proofs.copies.ByteLaws.{strided_bytes}
@@ -92,3 +93,9 @@ pub write_rows-requires-clause-source : goal.write_rows-requires-clause-source
 write_rows-requires-clause-source g c =
     asked_is_found c.checked_mul-expected.result (c.args.stride * c.height.result) (length c.args.src.now) c.checked_mul-expected.ensures
     (sym c.if-ne.ensures) ∙ ap (λ n. c.args.stride * n) c.height.ensures.value
+
+pub write_rows-requires-clause-plane : goal.write_rows-requires-clause-plane
+write_rows-requires-clause-plane g c = rw (c.as_mut_slice-buffer.ensures.value) c.self.invariant
+
+pub invariant_of-self : goal.invariant_of-self
+invariant_of-self g c = whole_refilled c.self.inside.geometry c.self.inside.buffer c.write_rows.new.buffer c.self.invariant

@@ -4,6 +4,7 @@ use Rattle.std.specs.List.{refill}
 use Rattle.v_frame_plane.specs.Plane.{Raster, raster, table_of}
 use Rattle.v_frame_plane.specs.RowsLeft.{rows_left}
 use Rattle.v_frame_plane.specs.SecondRows.{WritesEachTable}
+use Rattle.v_frame_plane.proofs.tables.Kept.{whole_refilled}
 use Rattle.v_frame_plane.proofs.tables.Places.{rows_are_wide}
 use Rattle.v_frame_plane.proofs.iterators.WalkRuns.{lends_in_order, lends_in_reverse}
 use Rattle.v_frame_plane.proofs.plane.Plane.rows_mut.Goals as goal
@@ -33,3 +34,9 @@ returns g c =
         runs_back = lends_in_reverse rows_left;
       },
     )
+
+pub new-requires : goal.new-requires
+new-requires g c = rw (c.as_mut_slice.ensures.value) c.self.invariant
+
+pub invariant_of-self-lent : goal.invariant_of-self-lent
+invariant_of-self-lent g c = λ w. whole_refilled c.self.inside.geometry c.self.inside.buffer w c.self.invariant

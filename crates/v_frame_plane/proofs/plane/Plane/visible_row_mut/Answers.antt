@@ -1,6 +1,7 @@
 -- The part of the buffer that is lent is row y of the table, and a row left there replaces it.
 use Rattle.std.proofs.Common.{◌<◌, Some, refl, sym, ap, ◌∙◌, arith}
 use Rattle.v_frame_plane.specs.Plane.{Raster, raster, with_part, with_row}
+use Rattle.v_frame_plane.proofs.tables.Kept.{whole_with_part}
 use Rattle.v_frame_plane.proofs.tables.Places.{shown_slice}
 use Rattle.v_frame_plane.proofs.tables.RowWrites.{row_wide, writes_each_row}
 use Rattle.v_frame_plane.proofs.plane.Plane.visible_row_mut.Goals as goal
@@ -23,3 +24,9 @@ returns g c =
         wide = row_wide p whole c.args.y lent value ∙ ap (λ k. k.width) geometry;
       },
     )
+
+pub part_mut-requires-clause-within : goal.part_mut-requires-clause-within
+part_mut-requires-clause-within g c = omega (arith, c.row_start-start.ensures.within, c.width.ensures.value, c.self.invariant.whole)
+
+pub invariant_of-self-lent : goal.invariant_of-self-lent
+invariant_of-self-lent g c = λ w. whole_with_part c.self.inside.geometry c.self.inside.buffer c.row_start-start.result w c.self.invariant

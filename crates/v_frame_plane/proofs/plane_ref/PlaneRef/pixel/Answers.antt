@@ -3,7 +3,7 @@ use Rattle.std.proofs.Common.{◌<◌, length, slice_get, ap, sym, ◌∙◌, ar
 use Rattle.std.proofs.lemmas.Option.{slice_get_past, slice_get-get_or}
 use Rattle.v_frame_plane.specs.Plane.{Raster, raster}
 use Rattle.v_frame_layout.specs.Geometry.{place_of}
-use Rattle.v_frame_plane.proofs.tables.Places.{pixel_inside, past_counting, copied_get}
+use Rattle.v_frame_plane.proofs.tables.Places.{pixel_inside, past_counting, copied_get, none_past_end}
 use Rattle.v_frame_plane.proofs.plane_ref.PlaneRef.pixel.Goals as goal
 
 -- inside the rectangle
@@ -36,3 +36,13 @@ returns-clause-value g c =
     let p : Raster g.row.T.Denot = raster c.self.inside.geometry c.self.inside.buffer.now in
     rw (← c.self.view_is) (c.copied.ensures ∙ copied_get p.buffer c.in_ok-place.place c.get.result c.get.ensures.lookup ∙
     ap (slice_get p.buffer) c.in_ok-place.ensures.1)
+
+pub bounds-self-inside-visible_place : goal.bounds-self-inside-visible_place
+bounds-self-inside-visible_place g c = omega (arith, c.visible_place.ensures.within, c.self.invariant.whole)
+
+pub returns-clause-none : goal.returns-clause-none
+returns-clause-none g c =
+    let p : Raster g.row.T.Denot = raster c.self.inside.geometry c.self.inside.buffer.now in
+    let value = returns-clause-value g c in
+    let none = none_past_end p.buffer (place_of p.geometry c.args.x c.args.y) c.copied.result (rw (← c.self.view_is) at value) in
+    rw (← c.self.view_is) (rw (c.self.invariant.whole) at none)

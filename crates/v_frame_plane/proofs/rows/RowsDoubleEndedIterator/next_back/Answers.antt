@@ -1,7 +1,7 @@
 -- The last of the rows ahead is given, and the others stay ahead.
 use Rattle.std.proofs.Common.{arith}
 use Rattle.std.specs.Map.Iter.{deref}
-use Rattle.v_frame_plane.proofs.iterators.Cursors.{last_row}
+use Rattle.v_frame_plane.proofs.iterators.Cursors.{last_row, no_rows}
 use Rattle.v_frame_plane.proofs.iterators.WalkRuns.{last_taken}
 use Rattle.v_frame_plane.proofs.rows.RowsDoubleEndedIterator.next_back.Goals as goal
 
@@ -13,3 +13,9 @@ returns-clause-steps g c =
 
 pub returns-clause-goes : goal.returns-clause-goes
 returns-clause-goes g c = last_taken deref _ _ _ _ tt (returns-clause-steps g c)
+
+pub returns-then-self-eq0-clause-steps : goal.returns-then-self-eq0-clause-steps
+returns-then-self-eq0-clause-steps g c =
+    let a = c.self.inside in
+    let none = no_rows a.start a.width a.gap a.count a.rest.now c.if-self-eq0.true in
+    rw (← c.self.view_is) (none, none)

@@ -11,3 +11,12 @@ invariant_of-result g c = record {
 
 pub returns-in-Ok-clause-values : goal.returns-in-Ok-clause-values
 returns-in-Ok-clause-values g c = rw (c.in-Ok.ensures.values) c.self.view_is
+
+pub into_values-requires : goal.into_values-requires
+into_values-requires g c = rw (← c.self.view_is) at c.requires
+
+pub invariant_of-result-in-Err : goal.invariant_of-result-in-Err
+invariant_of-result-in-Err g c = rw (c.in-Err.ensures.kept) c.self.invariant
+
+pub returns-in-Err-clause-kept : goal.returns-in-Err-clause-kept
+returns-in-Err-clause-kept g c = rw (c.in-Err.ensures.kept) c.self.view_is

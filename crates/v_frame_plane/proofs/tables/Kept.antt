@@ -1,0 +1,36 @@
+-- A buffer that is written keeps its length, so it stays whole.
+use Rattle.std.proofs.Common.{ℕ, ◌≡◌, ◌-◌, ◌++◌, List, length, take, drop, slice_range, slice_set, refl, sym, ◌∙◌, ap, arith, length-append, length-drop, length-set}
+use Rattle.std.proofs.lemmas.List.{take_all, take-append-le}
+use Rattle.std.specs.List.{refill, length_refill}
+use Rattle.v_frame_layout.specs.Geometry.{Geometry}
+use Rattle.v_frame_plane.specs.Plane.{IsWhole, with_part}
+
+module _ {T : Type 0} where
+  length-refilled : (xs ys : List T) → length (refill (length xs) xs ys) ≡ length xs
+  length-refilled xs ys = sym (length_refill (length xs) xs ys refl)
+
+  pub length-with_part : (xs : List T) (start : ℕ) (ys : List T) → length (with_part xs start ys) ≡ length xs
+  length-with_part xs start ys = length-refilled xs (take start xs ++ (ys ++ drop (length ys) (drop start xs)))
+
+  -- a part from the first place on
+  pub front_part : (xs ys : List T) → with_part xs 0 ys ≡ refill (length xs) xs ys
+  front_part xs ys =
+      take-append-le (length xs) (ys ++ drop (length ys) xs) (drop (length (ys ++ drop (length ys) xs)) xs) (omega (
+        arith,
+        length-append ys (drop (length ys) xs),
+        length-drop (length ys) xs,
+      ))
+
+  pub front_range : (xs : List T) (n : ℕ) → length xs ≡ n → slice_range xs 0 n ≡ xs
+  front_range xs n e =
+      let all : n - 0 ≡ n = omega arith in
+      ap (λ k. take k xs) all ∙ take_all n xs (omega arith)
+
+  pub whole_refilled : (g : Geometry) (xs ys : List T) → IsWhole g xs → IsWhole g (refill (length xs) xs ys)
+  whole_refilled g xs ys is = record { fits = is.fits; whole = length-refilled xs ys ∙ is.whole }
+
+  pub whole_with_part : (g : Geometry) (xs : List T) (start : ℕ) (ys : List T) → IsWhole g xs → IsWhole g (with_part xs start ys)
+  whole_with_part g xs start ys is = record { fits = is.fits; whole = length-with_part xs start ys ∙ is.whole }
+
+  pub whole_with_entry : (g : Geometry) (xs : List T) (place : ℕ) (x : T) → IsWhole g xs → IsWhole g (slice_set xs place x)
+  whole_with_entry g xs place x is = record { fits = is.fits; whole = length-set xs place x ∙ is.whole }
