@@ -2,13 +2,12 @@
 ghost use Rattle.std.specs.Prelude.{◌≡◌, IfOk};
 ghost use Rattle.v_frame_layout.specs.Table.{row_major};
 ghost use Rattle.v_frame_plane.specs.Plane.{table_of};
-ghost use Rattle.v_frame.specs.declared.replay.answer.Answer.TheVariants.{RowsWalked, PixelsWalked};
 ghost use Rattle.v_frame.specs.Walk.{draws_answer, AreDrawnOnce};
 
 use crate::pixel::Pixel;
 use crate::plane::{PixelsMut, Plane, RowsMut};
 use crate::replay::walk::{Walk, draw_items};
-use crate::replay::{Answer, Drawn, Sequence, Side};
+use crate::replay::{Drawn, Sequence, Side};
 use std::alloc::{AllocError, Global};
 
 /// Any calls of `next` and `next_back` lend each row of a plane once, from its end. The error is an allocation failure: rows
@@ -44,11 +43,7 @@ impl<'a, T: Copy> Walk for RowsMut<'a, T> {
 
     type Item = Sequence<T>;
 
-    type Pixel = T;
-
     ghost items = { rows_left };
-
-    ghost answer_of = { RowsWalked };
 
     #[tactic(auto, using(crate::proofs::DrawnItems::first_drawn, crate::proofs::DrawnItems::last_drawn))]
     fn draw(&mut self, alloc: Global, side: Side) -> Result<Option<Sequence<T>>, AllocError> {
@@ -56,20 +51,11 @@ impl<'a, T: Copy> Walk for RowsMut<'a, T> {
             Side::Front => self.next(),
             Side::Back => self.next_back(),
         };
-        match row {
-            Some(row) => Ok(Some(Sequence::from_slice(alloc, row)?)),
-            None => Ok(None),
-        }
+        Sequence::from_option(alloc, row.as_deref())
     }
 
     fn left(&self) -> usize {
         self.len()
-    }
-
-    fn answer(total: usize, drawn: Sequence<Drawn<Sequence<T>>>) -> Answer<T>
-        ensures { result ≡ RowsWalked total drawn }
-    {
-        Answer::RowsWalked { total, drawn }
     }
 }
 
@@ -78,11 +64,7 @@ impl<'a, T: Copy> Walk for PixelsMut<'a, T> {
 
     type Item = T;
 
-    type Pixel = T;
-
     ghost items = { pixels_left };
-
-    ghost answer_of = { PixelsWalked };
 
     #[tactic(auto, using(crate::proofs::DrawnItems::first_drawn, crate::proofs::DrawnItems::last_drawn))]
     fn draw(&mut self, _alloc: Global, side: Side) -> Result<Option<T>, AllocError> {
@@ -95,11 +77,5 @@ impl<'a, T: Copy> Walk for PixelsMut<'a, T> {
 
     fn left(&self) -> usize {
         self.len()
-    }
-
-    fn answer(total: usize, drawn: Sequence<Drawn<T>>) -> Answer<T>
-        ensures { result ≡ PixelsWalked total drawn }
-    {
-        Answer::PixelsWalked { total, drawn }
     }
 }

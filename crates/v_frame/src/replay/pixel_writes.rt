@@ -11,7 +11,7 @@ ghost use Rattle.v_frame.specs.declared.replay.answer.Answer.TheVariants.{Pixels
 
 use super::answer::Answer;
 use super::draw::{Draw, PixelDraw, Side};
-use super::walk::walk_answer;
+use super::walk::walked;
 use crate::pixel::Pixel;
 use crate::plane::{PixelsMut, Plane};
 use std::alloc::{AllocError, Global};
@@ -46,9 +46,9 @@ pub(crate) fn replay_pixels_mut<T: Pixel>(
     ensures err { OnErr result (plane.new ≡ plane.old) }
     ensures border { KeepsBorder plane.old plane.new }
 {
-    let answer = walk_answer(alloc, &mut plane.pixels(), draws)?;
+    let (total, drawn) = walked(alloc, &mut plane.pixels(), draws)?;
     write_pixels(plane, draws);
-    Ok(answer)
+    Ok(Answer::PixelsWalked { total, drawn })
 }
 
 /// Replaces the pixels that `draws` take. Past the last pixel nothing is written.

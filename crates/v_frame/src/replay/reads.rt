@@ -10,7 +10,7 @@ ghost use Rattle.v_frame.specs.declared.replay.answer.Answer.TheVariants.{RowSho
 use super::answer::Answer;
 use super::draw::Side;
 use super::sequence::Sequence;
-use super::walk::walk_answer;
+use super::walk::walked;
 use crate::pixel::Pixel;
 use crate::plane::Plane;
 use std::alloc::{AllocError, Global};
@@ -49,7 +49,8 @@ pub(crate) fn rows_walked<T: Copy>(
     ensures { let rows = table_of plane.now in IfOk result (λ answer.
         answer ≡ RowsWalked (length rows) (draws_answer rows draws.now)) }
 {
-    walk_answer(alloc, &mut plane.rows(), draws)
+    let (total, drawn) = walked(alloc, &mut plane.rows(), draws)?;
+    Ok(Answer::RowsWalked { total, drawn })
 }
 
 /// The pixels that are drawn.
@@ -61,7 +62,8 @@ pub(crate) fn pixels_walked<T: Pixel>(
     ensures { let pixels = row_major (table_of plane.now) in IfOk result (λ answer.
         answer ≡ PixelsWalked (length pixels) (draws_answer pixels draws.now)) }
 {
-    walk_answer(alloc, &mut plane.pixels(), draws)
+    let (total, drawn) = walked(alloc, &mut plane.pixels(), draws)?;
+    Ok(Answer::PixelsWalked { total, drawn })
 }
 
 /// The bytes that are drawn.
@@ -73,5 +75,6 @@ pub(crate) fn bytes_walked<T: Pixel>(
     ensures { let bytes = byte_list T.form (table_of plane.now) in IfOk result (λ answer.
         answer ≡ BytesWalked (length bytes) (draws_answer bytes draws.now)) }
 {
-    walk_answer(alloc, &mut plane.byte_data(), draws)
+    let (total, drawn) = walked(alloc, &mut plane.byte_data(), draws)?;
+    Ok(Answer::BytesWalked { total, drawn })
 }

@@ -11,7 +11,7 @@ ghost use Rattle.v_frame.specs.declared.replay.answer.Answer.TheVariants.{RowSho
 use super::answer::Answer;
 use super::draw::{Draw, RowDraw, Side};
 use super::reads::row_shown;
-use super::walk::walk_answer;
+use super::walk::walked;
 use crate::plane::{Plane, RowsMut};
 use std::alloc::{AllocError, Global};
 
@@ -65,9 +65,9 @@ pub(crate) fn replay_rows_mut<T: Copy>(
     ensures err { OnErr result (plane.new ≡ plane.old) }
     ensures border { KeepsBorder plane.old plane.new }
 {
-    let answer = walk_answer(alloc, &mut plane.rows(), draws)?;
+    let (total, drawn) = walked(alloc, &mut plane.rows(), draws)?;
     write_rows(plane, draws);
-    Ok(answer)
+    Ok(Answer::RowsWalked { total, drawn })
 }
 
 /// Overwrites the rows that `draws` take. Past the last row nothing is written.

@@ -1,9 +1,7 @@
 //! The kinds of call that take items from the iterators of a plane, from the sides of a list in turn.
-ghost use Rattle.std.specs.Prelude.{◌≡◌, ℕ, List, length, map, IfOk};
+ghost use Rattle.std.specs.Prelude.{◌≡◌, List, length, map, IfOk};
 ghost use Rattle.v_frame.specs.Walk.{item_from, left_by, draws_answer};
-ghost use Rattle.v_frame.specs.declared.replay.answer.Answer.TheVariants.{RowsWalked, PixelsWalked, BytesWalked};
 
-use super::answer::Answer;
 use super::draw::{Draw, Drawn, Side};
 use super::sequence::Sequence;
 use crate::pixel::Pixel;
@@ -12,22 +10,14 @@ use std::alloc::{AllocError, Global};
 
 /// A double-ended iterator over a plane. An answer holds what it gives, so what it only lends is copied.
 pub(crate) trait Walk {
-    ghost use Rattle.v_frame.specs.declared.replay.answer.Answer.{Answer};
-    ghost use Rattle.v_frame.specs.declared.replay.draw.Drawn.{Drawn};
-    ghost use Rattle.std.specs.Prelude.{◌≡◌, ℕ, List, length, IfOk};
+    ghost use Rattle.std.specs.Prelude.{◌≡◌, List, length, IfOk};
     ghost use Rattle.v_frame.specs.Walk.{item_from, left_by};
 
     /// What an answer holds for an item.
     type Item;
 
-    /// The pixels of the plane.
-    type Pixel;
-
     // The items that are left.
     ghost items: { Self → List Self.Item };
-
-    // The answer where the iterator began with so many items and gave these.
-    ghost answer_of: { ℕ → List (Drawn Self.Item) → Answer Self.Pixel };
 
     /// The next item from this side, as an answer holds it.
     fn draw(&mut self, alloc: Global, side: Side) -> Result<Option<Self::Item>, AllocError>
@@ -37,20 +27,12 @@ pub(crate) trait Walk {
     /// How many items are left.
     fn left(&self) -> usize
         ensures { result ≡ length (items self.now) };
-
-    /// The answer where the iterator began with `total` items and gave these.
-    fn answer(total: usize, drawn: Sequence<Drawn<Self::Item>>) -> Answer<Self::Pixel>
-        ensures { result ≡ answer_of total drawn };
 }
 
 impl<'a, T: Copy> Walk for Rows<'a, T> {
     type Item = Sequence<T>;
 
-    type Pixel = T;
-
     ghost items = { λ rows. rows };
-
-    ghost answer_of = { RowsWalked };
 
     fn draw(&mut self, alloc: Global, side: Side) -> Result<Option<Sequence<T>>, AllocError> {
         let row = match side {
@@ -63,22 +45,12 @@ impl<'a, T: Copy> Walk for Rows<'a, T> {
     fn left(&self) -> usize {
         self.len()
     }
-
-    fn answer(total: usize, drawn: Sequence<Drawn<Sequence<T>>>) -> Answer<T>
-        ensures { result ≡ RowsWalked total drawn }
-    {
-        Answer::RowsWalked { total, drawn }
-    }
 }
 
 impl<'a, T: Copy> Walk for Pixels<'a, T> {
     type Item = T;
 
-    type Pixel = T;
-
     ghost items = { λ pixels. pixels };
-
-    ghost answer_of = { PixelsWalked };
 
     fn draw(&mut self, _alloc: Global, side: Side) -> Result<Option<T>, AllocError> {
         Ok(match side {
@@ -90,22 +62,12 @@ impl<'a, T: Copy> Walk for Pixels<'a, T> {
     fn left(&self) -> usize {
         self.len()
     }
-
-    fn answer(total: usize, drawn: Sequence<Drawn<T>>) -> Answer<T>
-        ensures { result ≡ PixelsWalked total drawn }
-    {
-        Answer::PixelsWalked { total, drawn }
-    }
 }
 
 impl<'a, T: Pixel> Walk for ByteData<'a, T> {
     type Item = u8;
 
-    type Pixel = T;
-
     ghost items = { λ bytes. bytes };
-
-    ghost answer_of = { BytesWalked };
 
     fn draw(&mut self, _alloc: Global, side: Side) -> Result<Option<u8>, AllocError> {
         Ok(match side {
@@ -117,28 +79,22 @@ impl<'a, T: Pixel> Walk for ByteData<'a, T> {
     fn left(&self) -> usize {
         self.len()
     }
-
-    fn answer(total: usize, drawn: Sequence<Drawn<u8>>) -> Answer<T>
-        ensures { result ≡ BytesWalked total drawn }
-    {
-        Answer::BytesWalked { total, drawn }
-    }
 }
 
-/// The answer of an iterator whose items are taken from the sides of `draws` in turn.
-pub(crate) fn walk_answer<W: Walk, D: Draw>(
+/// How many items an iterator begins with, and what it gives where they are taken from the sides of `draws` in turn.
+pub(crate) fn walked<W: Walk, D: Draw>(
     alloc: Global,
     walk: &mut W,
     draws: &[D],
-) -> Result<Answer<W::Pixel>, AllocError>
+) -> Result<(usize, Sequence<Drawn<W::Item>>), AllocError>
 where
     W::Item: Drop,
-    ensures { let items = W.items walk.old in IfOk result (λ answer.
-        answer ≡ W.answer_of (length items) (draws_answer items (map D.side_of draws.now))) }
+    ensures { let items = W.items walk.old in IfOk result (λ walked. (walked.0 ≡ length items)
+        × (walked.1 ≡ draws_answer items (map D.side_of draws.now))) }
 {
     let total = walk.left();
     let drawn = draw_items(alloc, walk, draws)?;
-    Ok(W::answer(total, drawn.into()))
+    Ok((total, drawn.into()))
 }
 
 /// Takes items from an iterator, from the sides of `draws` in turn.
