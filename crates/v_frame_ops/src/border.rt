@@ -20,7 +20,7 @@ pub fn pad<T: Pixel>(plane: &mut Plane<T>)
 }
 
 /// Pads a plane, and leaves its visible pixels.
-fn pad_pixels<T: Pixel>(plane: &mut Plane<T>)
+fn pad_pixels<T: Copy>(plane: &mut Plane<T>)
     ensures padded { let g = plane.old.geometry in (x y : ℕ) → x < stride_of g → y < alloc_height_of g
         → pixel_at (whole_rows plane.new) x y ≡ pixel_at (table_of plane.old)
         (nearest g.pad_left g.width x) (nearest g.pad_top g.height y) }

@@ -74,7 +74,7 @@ pub fn copy_region<T: Pixel>(source: &PlaneRef<'_, T>, target: &mut Plane<T>, x:
 }
 
 /// Makes each visible row one of results of `change`.
-fn map_rows<T: Pixel, F: Fn(T) -> T>(plane: &mut Plane<T>, change: &F)
+fn map_rows<T: Copy, F: Fn(T) -> T>(plane: &mut Plane<T>, change: &F)
     requires { F.IsAlwaysCallable change.now }
     ensures rows { MapsItems (MapsItems (F.post change.now)) (table_of plane.old) (table_of plane.new) }
     ensures border { KeepsBorder plane.old plane.new }
@@ -95,7 +95,7 @@ fn map_row<T: Copy, F: Fn(T) -> T>(row: &mut [T], change: &F)
 }
 
 /// Makes each visible row one of results of `combine`.
-fn combine_rows<T: Pixel, F: Fn(T, T) -> T>(
+fn combine_rows<T: Copy, F: Fn(T, T) -> T>(
     plane: &mut Plane<T>,
     other: &PlaneRef<'_, T>,
     combine: &F,
@@ -114,7 +114,7 @@ fn combine_rows<T: Pixel, F: Fn(T, T) -> T>(
 }
 
 /// Makes row `y` of a plane one of results of `combine`.
-fn combine_row_at<T: Pixel, F: Fn(T, T) -> T>(
+fn combine_row_at<T: Copy, F: Fn(T, T) -> T>(
     plane: &mut Plane<T>,
     y: usize,
     other: &[T],
@@ -146,7 +146,7 @@ fn combine_row<T: Copy, F: Fn(T, T) -> T>(row: &mut [T], other: &[T], combine: &
 }
 
 /// Writes pixels into row `y` of a plane, from column `x` on.
-fn write_row_part<T: Pixel>(plane: &mut Plane<T>, x: usize, y: usize, pixels: &[T])
+fn write_row_part<T: Copy>(plane: &mut Plane<T>, x: usize, y: usize, pixels: &[T])
     requires wide { x + length pixels.now ≤ plane.old.geometry.width }
     requires high { y < plane.old.geometry.height }
     ensures inside { (i : ℕ) → i < length pixels.now

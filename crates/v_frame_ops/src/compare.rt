@@ -68,7 +68,7 @@ pub fn first_difference<T: Pixel>(
 }
 
 /// So many rows of a plane have fewer than 2^63 pixels, since all of its rows have fewer.
-fn rows_are_countable<T: Pixel>(plane: &PlaneRef<'_, T>, rows: usize)
+fn rows_are_countable<T: Copy>(plane: &PlaneRef<'_, T>, rows: usize)
     requires { rows ≤ plane.now.geometry.height }
     ensures { rows * plane.now.geometry.width < 2 ^ 63 }
 {

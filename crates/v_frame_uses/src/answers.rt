@@ -25,7 +25,9 @@ pub fn first_answers(alloc: Global) -> Result<Vec<Answer<u8>>, FrameError>
         VisibleCall::Row { plane: 0, y: 1 },
         VisibleCall::Height { plane: 1 },
     ];
-    match replay(alloc, &mut frame, &calls) {
+    let answered = replay(alloc, &mut frame, &calls);
+    drop(frame);
+    match answered {
         Ok(answers) => Ok(answers),
         Err(_) => Err(FrameError::OutOfMemory),
     }

@@ -61,7 +61,7 @@ fn fill_part<T: Copy>(buffer: &mut [T], start: usize, end: usize, value: T)
 }
 
 /// Repeats the first visible row in the row above it, each with its border. All other rows of the buffer stay.
-pub fn repeat_first_row<T: Pixel>(plane: &mut Plane<T>)
+pub fn repeat_first_row<T: Copy>(plane: &mut Plane<T>)
     requires { 0 < plane.old.geometry.pad_top }
     ensures above { let top = plane.old.geometry.pad_top in
         slice_get (whole_rows plane.new) (top - 1) ≡ slice_get (whole_rows plane.old) top }

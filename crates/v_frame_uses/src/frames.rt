@@ -48,7 +48,9 @@ pub fn built_chroma_size<T: Pixel>(
         ≡ chroma_size_of builder.subsampling builder.width builder.height) }
 {
     let frame = built_frame_is_zero::<T>(alloc, builder)?;
-    Ok(chroma_size(&frame))
+    let size = chroma_size(&frame);
+    drop(frame);
+    Ok(size)
 }
 
 /// The visible size of the chroma planes of a frame, or nothing where it has none.

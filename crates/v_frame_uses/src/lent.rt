@@ -2,7 +2,7 @@
 ghost use Rattle.std.specs.Prelude.{ℕ, ◌≡◌, ◌≢◌, ◌<◌, Some, length, replicate, slice_get, slice_set};
 ghost use Rattle.v_frame.specs.Prelude.{IsWhole, KeepsBorder, geometry_of, pixel_at, raster, row_major, table_of};
 
-use v_frame::pixel::{Pixel, fill_row};
+use v_frame::pixel::fill_row;
 use v_frame::plane::{Plane, PlaneGeometry, PlaneRef, split_row_mut};
 
 /// The pixel at column 1 of row 1 of an array that holds 3 by 2 pixels in a border of one column to the left and one row above.
@@ -15,7 +15,7 @@ pub fn pixel_of_an_array(entries: &[u16; 12]) -> Option<u16>
 }
 
 /// How many pixels two planes show together, one that is owned and one that is kept elsewhere.
-pub fn count_of_both<T: Pixel>(plane: &Plane<T>, other: &PlaneRef<'_, T>) -> (usize, usize)
+pub fn count_of_both<T: Copy>(plane: &Plane<T>, other: &PlaneRef<'_, T>) -> (usize, usize)
     ensures { result ≡ (
       length (row_major (table_of plane.now)),
       length (row_major (table_of other.now)),
@@ -37,7 +37,7 @@ pub fn first_row<'a, T>(plane: &PlaneRef<'a, T>) -> &'a [T]
 }
 
 /// Fills a row of a plane whose buffer is kept elsewhere. All else stays, its border too.
-pub fn fill_row_of_buffer<T: Pixel>(buffer: &mut [T], geometry: PlaneGeometry, y: usize, pixel: T)
+pub fn fill_row_of_buffer<T: Copy>(buffer: &mut [T], geometry: PlaneGeometry, y: usize, pixel: T)
     requires whole { IsWhole geometry buffer.old }
     requires high { y < geometry.height }
     ensures table { table_of (raster geometry buffer.new) ≡ slice_set

@@ -1,12 +1,15 @@
 //! What users write over `v_frame`: small functions, each with a contract of what it gives and leaves. Not all of them are
 //! exact.
 //!
-//! They are there to be copied, and they show that the public contracts are enough: nothing here looks into `v_frame`. Our own.
+//! They are there to be copied, and they show that the public contracts are enough: nothing here looks into `v_frame`.
+//! README and CALLING quote some of them. Our own.
 #![tactic(auto)]
 
 pub mod answers;
 pub mod border;
 pub mod collages;
+pub mod decoded;
+pub mod filter;
 pub mod filters;
 pub mod frames;
 pub mod iterators;

@@ -3,11 +3,10 @@ ghost use Rattle.std.specs.Prelude.{◌≡◌, ◌≢◌, ℕ, ◌+◌, ◌<◌,
 ghost use Rattle.v_frame.specs.Prelude.{KeepsBorder, table_of, with_item_by};
 ghost use Rattle.v_frame_uses.specs.Rectangles.{with_pixels};
 
-use v_frame::pixel::Pixel;
 use v_frame::plane::Plane;
 
 /// Writes the same pixels into each row of a rectangle, which begins at column `x` of row `y` and has `height` rows.
-pub fn fill_rectangle<T: Pixel>(
+pub fn fill_rectangle<T: Copy>(
     plane: &mut Plane<T>,
     x: usize,
     y: usize,
@@ -32,7 +31,7 @@ pub fn fill_rectangle<T: Pixel>(
 
 /// Copies a rectangle of `width` by `height` pixels of the source, which begins at column `from_x` of row `from_y`, to column
 /// `x` of row `y` of a plane.
-pub fn blit<T: Pixel>(
+pub fn blit<T: Copy>(
     plane: &mut Plane<T>,
     x: usize,
     y: usize,
@@ -99,7 +98,7 @@ fn put_pixels<T: Copy>(row: &mut [T], x: usize, pixels: &[T])
 }
 
 /// Mirrors a row: its last pixel becomes its first one.
-pub fn mirror_row<T: Pixel>(plane: &mut Plane<T>, y: usize)
+pub fn mirror_row<T>(plane: &mut Plane<T>, y: usize)
     requires { y < plane.old.geometry.height }
     ensures table { let rows = table_of plane.old in
         table_of plane.new ≡ with_item_by reverse rows y (slice_get rows y) }

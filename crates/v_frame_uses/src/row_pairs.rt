@@ -3,11 +3,10 @@ ghost use Rattle.std.specs.Prelude.{◌≡◌, ◌≢◌, ℕ, ◌+◌, ◌-◌,
 ghost use Rattle.v_frame.specs.Prelude.{KeepsBorder, table_of};
 ghost use Rattle.v_frame_uses.specs.RowPairs.{averages};
 
-use v_frame::pixel::Pixel;
 use v_frame::plane::{Plane, visible_rows_mut};
 
 /// Exchanges two rows.
-pub fn swap_rows<T: Pixel>(plane: &mut Plane<T>, y: usize, z: usize)
+pub fn swap_rows<T: Copy>(plane: &mut Plane<T>, y: usize, z: usize)
     requires order { y < z }
     requires high { z < plane.old.geometry.height }
     ensures table { (row other : List T) → slice_get (table_of plane.old) y ≡ Some row
@@ -16,12 +15,12 @@ pub fn swap_rows<T: Pixel>(plane: &mut Plane<T>, y: usize, z: usize)
     ensures border { KeepsBorder plane.old plane.new }
 {
     let geometry = plane.geometry();
-    let (row, other) = visible_rows_mut(plane.data_mut(), geometry, y, z);
-    row.swap_with_slice(other);
+    let (upper, lower) = visible_rows_mut(plane.data_mut(), geometry, y, z);
+    upper.swap_with_slice(lower);
 }
 
 /// Copies row `y` over row `z`, which lies below it.
-pub fn copy_row_down<T: Pixel>(plane: &mut Plane<T>, y: usize, z: usize)
+pub fn copy_row_down<T: Copy>(plane: &mut Plane<T>, y: usize, z: usize)
     requires order { y < z }
     requires high { z < plane.old.geometry.height }
     ensures copied { slice_get (table_of plane.new) z ≡ slice_get (table_of plane.old) y }

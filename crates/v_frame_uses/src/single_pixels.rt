@@ -6,7 +6,7 @@ use v_frame::pixel::Pixel;
 use v_frame::plane::Plane;
 
 /// Sets a pixel of the visible rectangle. Elsewhere nothing changes, the border neither.
-pub fn set_pixel<T: Pixel>(plane: &mut Plane<T>, x: usize, y: usize, value: T)
+pub fn set_pixel<T: Copy>(plane: &mut Plane<T>, x: usize, y: usize, value: T)
     ensures border { KeepsBorder plane.old plane.new }
     ensures inside { x < plane.old.geometry.width → y < plane.old.geometry.height
         → table_of plane.new ≡ with_pixel (table_of plane.old) x y value }

@@ -1,4 +1,4 @@
-//! The file that README shows: a frame is built, filled, written and read.
+//! A first frame: built, filled, written and read. README shows how a row is filled.
 ghost use Rattle.std.specs.Prelude.{◌≡◌, ◌<◌, [], ◌∷◌, Contains, IfErr, IfOk, IfSome, replicate, slice_set};
 ghost use Rattle.v_frame.specs.Prelude.{KeepsBorder, table_of};
 

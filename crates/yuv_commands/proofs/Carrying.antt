@@ -6,7 +6,7 @@ use Rattle.std.specs.Io.KnownBytes.{Appends, Consumes}
 use Rattle.std.proofs.KnownBytes.{Appends-nil, Appends-trans, Consumes-nil, Consumes-trans}
 use Rattle.v_frame.specs.Prelude.{PixelForm, Tables}
 use Rattle.v_frame_planar.specs.Planar.{sizes_of}
-use Rattle.yuv_frames.specs.Edits.{Sizes}
+use Rattle.yuv_commands.specs.Edits.{Sizes}
 use Rattle.v_frame_planar.specs.Counted.{AppendsBeginning}
 use Rattle.yuv_commands.specs.Copies.{IsWriteFault, StopsCopy}
 use Rattle.yuv_commands.specs.declared.copy.CopyFault.{CopyFault}

@@ -9,11 +9,11 @@ use Rattle.std.specs.Io.KnownBytes.{Consumes}
 use Rattle.std.proofs.KnownBytes.{Consumes-nil, Consumes-trans}
 use Rattle.v_frame.specs.Prelude.{PixelForm, Tables}
 use Rattle.v_frame_planar.specs.Planar.{sizes_of}
-use Rattle.yuv_frames.specs.Edits.{Sizes}
-use Rattle.yuv_frames.specs.Frames.{FramesDifferFirst}
-use Rattle.yuv_frames.specs.Sums.{added}
-use Rattle.yuv_frames.specs.declared.compare.PixelDifference.{PixelDifference}
-use Rattle.yuv_frames.specs.declared.sums.PlaneSums.{PlaneSums}
+use Rattle.yuv_commands.specs.Edits.{Sizes}
+use Rattle.yuv_commands.specs.Frames.{FramesDifferFirst}
+use Rattle.yuv_commands.specs.Sums.{added}
+use Rattle.yuv_commands.specs.declared.frames.PixelDifference.{PixelDifference}
+use Rattle.yuv_commands.specs.declared.sums.PlaneSums.{PlaneSums}
 use Rattle.yuv_commands.specs.Comparisons.{errors_between, no_errors, ComparesFrames, IsDifference, Pair, ReadsFrames}
 use Rattle.yuv_commands.specs.Streams.{bytes_with, HasLine, ReadsNext}
 use Rattle.yuv_commands.specs.declared.compare.Comparison.{Comparison}

@@ -1,2 +1,4 @@
 pub mod Carrying
 pub mod Comparing
+pub mod Copied
+pub mod Halves

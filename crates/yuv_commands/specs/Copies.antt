@@ -2,7 +2,7 @@
 use Rattle.std.specs.Prelude.{ℕ, ◌≡◌, List, Option}
 use Rattle.v_frame.specs.Prelude.{PixelForm, Tables}
 use Rattle.v_frame_planar.specs.Counted.{AppendsBeginning}
-use Rattle.yuv_frames.specs.Edits.{Sizes}
+use Rattle.yuv_commands.specs.Edits.{Sizes}
 use Rattle.yuv_commands.specs.Streams.{frame_bytes, Carries}
 use Rattle.yuv_commands.specs.declared.stream.Container.{Container}
 use Rattle.yuv_commands.specs.declared.copy.CopyFault.{CopyFault}

@@ -4,7 +4,7 @@ use Rattle.std.specs.Io.KnownBytes.{Appends, Consumes, IsAtEnd}
 use Rattle.v_frame.specs.Prelude.{PixelForm, Tables}
 use Rattle.v_frame_planar.specs.Planar.{planar_bytes, sizes_of}
 use Rattle.v_frame_y4m.specs.Streams.{IsFrameLine, IsLine}
-use Rattle.yuv_frames.specs.Edits.{Sizes}
+use Rattle.yuv_commands.specs.Edits.{Sizes}
 use Rattle.yuv_commands.specs.declared.stream.Container.{Container}
 use Rattle.yuv_commands.specs.declared.stream.Container.TheVariants.{Y4m, Raw}
 

@@ -1,8 +1,7 @@
 //! What the program is asked to do, read from its arguments.
 
-use std::error::Error;
+use crate::edit::Rectangle;
 use std::fmt;
-use yuv_frames::Rectangle;
 
 /// A file that is read, or written, by its name. `-` is standard input or output. Our own.
 #[derive(Clone, Copy)]
@@ -73,7 +72,7 @@ pub struct Wanted {
 }
 
 /// Why the arguments ask for nothing. Our own.
-#[derive(Debug, Drop)]
+#[derive(Drop)]
 pub enum WrongCall<'a> {
     /// There are no arguments.
     NoCommand,
@@ -112,7 +111,7 @@ impl<'a> WrongCall<'a> {
     }
 }
 
-// By hand, as of `Problem`: derived, it takes longer to prove.
+// By hand: what is derived of so many variants takes longer to prove.
 impl fmt::Display for WrongCall<'_> {
     fn fmt<W: fmt::Write>(&self, f: &mut fmt::Formatter<W>) -> fmt::Result {
         let (begin, end) = self.parts();
@@ -120,7 +119,13 @@ impl fmt::Display for WrongCall<'_> {
     }
 }
 
-impl Error for WrongCall<'_> {}
+/// A command that has files and options.
+#[derive(Clone, Copy)]
+enum Kind {
+    Info,
+    Compare,
+    Copy,
+}
 
 /// Reads the arguments behind the program's own name.
 ///
@@ -133,15 +138,18 @@ pub fn read_command<'a>(words: &[&'a str]) -> Result<Command<'a>, WrongCall<'a>>
     let Some((name, rest)) = words.split_first() else {
         return Err(WrongCall::NoCommand);
     };
-    match *name {
-        "help" => Ok(Command::Help),
-        "info" | "compare" | "copy" => read_options(*name, rest),
-        other => Err(WrongCall::UnknownCommand(other)),
-    }
+    let kind = match *name {
+        "help" => return Ok(Command::Help),
+        "info" => Kind::Info,
+        "compare" => Kind::Compare,
+        "copy" => Kind::Copy,
+        other => return Err(WrongCall::UnknownCommand(other)),
+    };
+    read_options(kind, rest)
 }
 
 /// Reads the files and the options of a command that has some.
-fn read_options<'a>(name: &str, words: &[&'a str]) -> Result<Command<'a>, WrongCall<'a>> {
+fn read_options<'a>(kind: Kind, words: &[&'a str]) -> Result<Command<'a>, WrongCall<'a>> {
     let mut options = Options {
         first: None,
         second: None,
@@ -156,8 +164,16 @@ fn read_options<'a>(name: &str, words: &[&'a str]) -> Result<Command<'a>, WrongC
     for word in words {
         options.take(*word)?;
     }
-    options.end()?;
-    options.command(name)
+    match options.awaited {
+        Awaited::Rectangle => return Err(WrongCall::MissingRectangle),
+        Awaited::Format => options.raw = true,
+        Awaited::Any => {}
+    }
+    match (options.format, options.misplaced(kind)) {
+        (Some(format), _) => Err(WrongCall::UnusedFormat(format)),
+        (None, Some(option)) => Err(WrongCall::NoOptionHere(option)),
+        (None, None) => options.command(kind),
+    }
 }
 
 /// What the next argument has to be.
@@ -172,7 +188,7 @@ enum Awaited {
 }
 
 /// The files and the options so far.
-#[derive(Drop)]
+#[derive(Clone, Copy)]
 struct Options<'a> {
     first: Option<Named<'a>>,
     second: Option<Named<'a>>,
@@ -192,8 +208,21 @@ impl<'a> Options<'a> {
         self.awaited = Awaited::Any;
         match awaited {
             Awaited::Any => self.take_any(word),
-            Awaited::Rectangle => self.take_rectangle(word),
-            Awaited::Format => self.take_format(word),
+            Awaited::Rectangle => {
+                self.crop = rectangle_of(word);
+                match self.crop {
+                    Some(_) => Ok(()),
+                    None => Err(WrongCall::NotARectangle(word)),
+                }
+            }
+            Awaited::Format if word.contains(':') => {
+                self.format = Some(word);
+                Ok(())
+            }
+            Awaited::Format => {
+                self.raw = true;
+                self.take_any(word)
+            }
         }
     }
 
@@ -213,130 +242,69 @@ impl<'a> Options<'a> {
 
     /// Takes one more file.
     fn take_file(&mut self, name: &'a str) -> Result<(), WrongCall<'a>> {
-        let file = Some(Named {
-            name,
-            raw: self.format.take(),
-        });
-        if self.first.is_none() {
-            self.first = file;
-        } else if self.second.is_none() {
-            self.second = file;
-        } else {
-            return Err(WrongCall::ExtraFile(name));
+        let raw = self.format;
+        self.format = None;
+        let file = Some(Named { name, raw });
+        match (self.first, self.second) {
+            (None, _) => self.first = file,
+            (_, None) => self.second = file,
+            _ => return Err(WrongCall::ExtraFile(name)),
         }
         Ok(())
     }
 
-    /// Takes the rectangle of a crop.
-    fn take_rectangle(&mut self, word: &'a str) -> Result<(), WrongCall<'a>> {
-        self.crop = rectangle_of(word);
-        match self.crop {
-            Some(_) => Ok(()),
-            None => Err(WrongCall::NotARectangle(word)),
+    /// The first option that a command doesn't have.
+    fn misplaced(&self, kind: Kind) -> Option<&'static str> {
+        match kind {
+            Kind::Copy if self.frames => Some("--frames"),
+            Kind::Copy => None,
+            _ if self.crop.is_some() => Some("--crop"),
+            _ if self.half => Some("--half"),
+            _ if self.raw => Some("--raw without a format"),
+            Kind::Info if self.frames => Some("--frames"),
+            _ => None,
         }
     }
 
-    /// Takes a size and a format, or else a file or an option of raw video that is written.
-    fn take_format(&mut self, word: &'a str) -> Result<(), WrongCall<'a>> {
-        if word.contains(':') {
-            self.format = Some(word);
-            return Ok(());
-        }
-        self.raw = true;
-        self.take_any(word)
-    }
-
-    /// Sees that nothing is missing behind the last argument.
-    fn end(&mut self) -> Result<(), WrongCall<'a>> {
-        match self.awaited {
-            Awaited::Rectangle => return Err(WrongCall::MissingRectangle),
-            Awaited::Format => self.raw = true,
-            Awaited::Any => {}
-        }
-        match self.format {
-            Some(format) => Err(WrongCall::UnusedFormat(format)),
-            None => Ok(()),
-        }
-    }
-
-    /// The command of this name, which has options.
-    fn command(&self, name: &str) -> Result<Command<'a>, WrongCall<'a>> {
-        if let Some(option) = self.misplaced(name) {
-            return Err(WrongCall::NoOptionHere(option));
-        }
-        let Some(first) = self.first else {
-            return Err(WrongCall::MissingFile);
-        };
-        match self.second {
-            None if name == "info" => Ok(Command::Info {
-                file: first,
-                progress: self.progress,
-            }),
-            None => Err(WrongCall::MissingFile),
-            Some(second) => self.of_two_files(name, first, second),
-        }
-    }
-
-    /// The first option that a command of this name doesn't have.
-    fn misplaced(&self, name: &str) -> Option<&'static str> {
-        let is_copy = name == "copy";
-        if self.crop.is_some() && !is_copy {
-            Some("--crop")
-        } else if self.half && !is_copy {
-            Some("--half")
-        } else if self.raw && !is_copy {
-            Some("--raw without a format")
-        } else if self.frames && name != "compare" {
-            Some("--frames")
-        } else {
-            None
-        }
-    }
-
-    /// The command of this name on two files.
-    fn of_two_files(
-        &self,
-        name: &str,
-        first: Named<'a>,
-        second: Named<'a>,
-    ) -> Result<Command<'a>, WrongCall<'a>> {
-        match name {
-            "info" => Err(WrongCall::ExtraFile(second.name)),
-            "compare" => Ok(Command::Compare {
+    /// The command, where no file is missing.
+    fn command(&self, kind: Kind) -> Result<Command<'a>, WrongCall<'a>> {
+        let progress = self.progress;
+        match (kind, self.first, self.second) {
+            (Kind::Info, Some(file), None) => Ok(Command::Info { file, progress }),
+            (Kind::Info, Some(_), Some(extra)) => Err(WrongCall::ExtraFile(extra.name)),
+            (Kind::Compare, Some(first), Some(second)) => Ok(Command::Compare {
                 first,
                 second,
                 frames: self.frames,
-                progress: self.progress,
+                progress,
             }),
-            _ => self.copy(first, second),
-        }
-    }
-
-    /// The command `copy`.
-    fn copy(&self, input: Named<'a>, output: Named<'a>) -> Result<Command<'a>, WrongCall<'a>> {
-        match output.raw {
-            Some(format) => Err(WrongCall::UnusedFormat(format)),
-            None => Ok(Command::Copy {
-                input,
-                output: output.name,
-                wanted: Wanted {
-                    crop: self.crop,
-                    half: self.half,
-                    raw: self.raw,
-                },
-                progress: self.progress,
-            }),
+            (Kind::Copy, Some(input), Some(output)) => match output.raw {
+                Some(format) => Err(WrongCall::UnusedFormat(format)),
+                None => Ok(Command::Copy {
+                    input,
+                    output: output.name,
+                    wanted: Wanted {
+                        crop: self.crop,
+                        half: self.half,
+                        raw: self.raw,
+                    },
+                    progress,
+                }),
+            },
+            _ => Err(WrongCall::MissingFile),
         }
     }
 }
 
 /// The rectangle that is told as `X,Y,W,H`, of at least one pixel.
 fn rectangle_of(text: &str) -> Option<Rectangle> {
-    let (x, rest) = number_before_comma(text)?;
-    let (y, rest) = number_before_comma(rest)?;
-    let (width, rest) = number_before_comma(rest)?;
-    let height = number(rest)?;
-    if width == 0 || height == 0 {
+    let mut numbers = [0; 4];
+    let mut pieces = text.split(',');
+    for place in 0..4 {
+        numbers[place] = number(pieces.next())?;
+    }
+    let [x, y, width, height] = numbers;
+    if width == 0 || height == 0 || pieces.next().is_some() {
         return None;
     }
     Some(Rectangle {
@@ -347,17 +315,11 @@ fn rectangle_of(text: &str) -> Option<Rectangle> {
     })
 }
 
-/// The number before the first comma, and what stands behind it.
-fn number_before_comma(text: &str) -> Option<(usize, &str)> {
-    let (digits, rest) = text.split_once(',')?;
-    Some((number(digits)?, rest))
-}
-
-/// The number of these decimal digits.
-fn number(text: &str) -> Option<usize> {
-    // `parse` takes a sign as well.
-    if text.starts_with('+') {
-        return None;
+/// The number of these decimal digits, where they are there.
+fn number(digits: Option<&str>) -> Option<usize> {
+    match digits {
+        // `parse` takes a sign as well.
+        Some(digits) if !digits.starts_with('+') => digits.parse::<usize>().ok(),
+        _ => None,
     }
-    text.parse::<usize>().ok()
 }

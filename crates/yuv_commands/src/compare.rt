@@ -1,22 +1,22 @@
 //! Two streams, compared frame by frame.
-ghost use Rattle.std.specs.Prelude.{◌≡◌, ◌+◌, ◌↔◌, IfOk, IfSome, IsNone, IsTrue, None, Some, min};
-ghost use Rattle.v_frame.specs.Prelude.{tables_of};
+ghost use Rattle.std.specs.Prelude.{◌≡◌, ◌+◌, ◌↔◌, IfOk, IfSome, IsNone, IsTrue, None, Some, min, option_map};
+ghost use Rattle.v_frame.specs.Prelude.{table_of, tables_of};
 ghost use Rattle.v_frame_planar.specs.Planar.{sizes_of};
-ghost use Rattle.yuv_frames.specs.Frames.{FramesDifferFirst};
-ghost use Rattle.yuv_frames.specs.Sums.{added};
+ghost use Rattle.yuv_commands.specs.Frames.{FramesDifferFirst};
+ghost use Rattle.yuv_commands.specs.Sums.{added};
 ghost use Rattle.yuv_commands.specs.Comparisons.{most_frames, no_errors, Compares, StepReads};
 
 use crate::fault::{Fault, Problem};
+use crate::frames::{PixelDifference, first_difference_of_frames, squared_errors_of_frames};
 use crate::progress::Progress;
 use crate::report::FrameLines;
 use crate::stream::Input;
+use crate::sums::PlaneSums;
 use std::alloc::Global;
 use std::io;
 use v_frame::frame::Frame;
 use v_frame::pixel::Pixel;
-use yuv_frames::{
-    PixelDifference, PlaneSums, first_difference_of_frames, squared_errors_of_frames,
-};
+use v_frame::plane::Plane;
 
 /// One of two streams. Our own.
 #[derive(Clone, Copy)]
@@ -54,8 +54,8 @@ impl Comparison {
             frames: 0,
             errors: PlaneSums {
                 y: 0,
-                u: frame.u_plane.as_ref().map(|_| 0),
-                v: frame.v_plane.as_ref().map(|_| 0),
+                u: no_error(&frame.u_plane),
+                v: no_error(&frame.v_plane),
             },
             difference: None,
             longer: None,
@@ -98,6 +98,16 @@ impl Comparison {
     }
 }
 
+/// No error in a chroma plane, where it is there.
+fn no_error<T: Pixel>(plane: &Option<Plane<T>>) -> Option<u128>
+    ensures { result ≡ option_map (λ _. 0) (option_map table_of plane.now) }
+{
+    match plane {
+        Some(_) => Some(0),
+        None => None,
+    }
+}
+
 /// What the next step of two streams found.
 enum Step {
     /// Each has a frame.
@@ -133,7 +143,7 @@ pub fn compare_streams<T: Pixel, R: io::Read, S: io::Read, W: io::Write, E: io::
             Step::End(longer) => return Ok(Comparison { longer, ..found }),
         }
         let errors = squared_errors_of_frames(&first.frame, &second.frame);
-        lines.tell(alloc, before, &errors).map_err(Fault::report)?;
+        lines.tell(alloc, before, &errors)?;
         found = found.with_frames(&first.frame, &second.frame, &errors);
         progress.show(before + 1);
     }
@@ -158,18 +168,16 @@ fn advance_both<T: Pixel, R: io::Read, S: io::Read>(
     ensures first_container { first.new.container ≡ first.old.container }
     ensures second_container { second.new.container ≡ second.old.container }
 {
-    let one = match first.advance(alloc, before) {
-        Ok(one) => one,
-        Err(fault) => return Err(Fault::first(Problem::Frame(fault))),
-    };
-    let other = match second.advance(alloc, before) {
-        Ok(other) => other,
-        Err(fault) => return Err(Fault::second(Problem::Frame(fault))),
-    };
-    Ok(match (one, other) {
-        (true, true) => Step::Frames,
-        (true, false) => Step::End(Some(Side::First)),
-        (false, true) => Step::End(Some(Side::Second)),
-        (false, false) => Step::End(None),
-    })
+    match first.advance(alloc, before) {
+        Ok(one) => match second.advance(alloc, before) {
+            Ok(other) => Ok(match (one, other) {
+                (true, true) => Step::Frames,
+                (true, false) => Step::End(Some(Side::First)),
+                (false, true) => Step::End(Some(Side::Second)),
+                (false, false) => Step::End(None),
+            }),
+            Err(fault) => Err(Fault::second(Problem::Frame(fault))),
+        },
+        Err(fault) => Err(Fault::first(Problem::Frame(fault))),
+    }
 }

@@ -4,17 +4,17 @@ ghost use Rattle.std.specs.Io.KnownBytes.{Appends};
 ghost use Rattle.v_frame.specs.Prelude.{tables_of};
 ghost use Rattle.v_frame_planar.specs.Counted.{AppendsBeginning};
 ghost use Rattle.v_frame_planar.specs.Planar.{sizes_of};
-ghost use Rattle.yuv_frames.specs.Edits.{edited, EditFits};
+ghost use Rattle.yuv_commands.specs.Edits.{edited, EditFits};
 ghost use Rattle.yuv_commands.specs.Copies.{IsReadFault, IsWriteFault, StopsCopy};
 ghost use Rattle.yuv_commands.specs.Streams.{frame_bytes, Carries, ReadsNext};
 
+use crate::edit::{Edit, edit_frame};
 use crate::progress::Progress;
 use crate::stream::{Input, Output, StreamFault};
 use std::alloc::Global;
 use std::io;
 use v_frame::frame::Frame;
 use v_frame::pixel::Pixel;
-use yuv_frames::{Edit, edit_frame};
 
 /// Why a stream was not copied to its end. Our own.
 #[derive(Drop)]

@@ -1,16 +1,14 @@
 //! Why a command gave up, in words for people.
 
+use crate::edit::Misaligned;
 use crate::stream::StreamFault;
-use std::alloc::AllocError;
-use std::error::Error;
 use std::{fmt, io};
 use v_frame::frame::FrameError;
 use v_frame_planar::{Counted, PlanarError};
 use v_frame_y4m::{HeaderError, Y4mError};
-use yuv_frames::Misaligned;
 
 /// An error, and what the system told where a read or a write failed. Our own.
-#[derive(Debug, Drop)]
+#[derive(Drop)]
 pub struct Caused<E> {
     /// The error.
     pub error: E,
@@ -85,7 +83,7 @@ impl Fault {
 }
 
 /// What happened to a file. Our own.
-#[derive(Debug, Drop)]
+#[derive(Drop)]
 pub enum Problem {
     /// It wasn't opened.
     Open(io::ErrorKind),
@@ -119,10 +117,10 @@ pub enum Problem {
     OutOfMemory,
 }
 
-impl Problem {
-    /// What is always told of it.
-    fn text(&self) -> &'static str {
-        match self {
+// By hand: what is derived of so many variants takes longer to prove than a command.
+impl fmt::Display for Problem {
+    fn fmt<W: fmt::Write>(&self, f: &mut fmt::Formatter<W>) -> fmt::Result {
+        f.write_str(match self {
             Problem::Open(_) => "cannot open: ",
             Problem::Create(_) => "cannot create: ",
             Problem::InputTwice => "standard input can be read only once",
@@ -137,14 +135,7 @@ impl Problem {
             Problem::OtherFormat => "the streams have different sizes or formats",
             Problem::OutOfMemory => "out of memory",
             _ => "",
-        }
-    }
-}
-
-// By hand: what is derived of so many variants takes longer to prove than a command.
-impl fmt::Display for Problem {
-    fn fmt<W: fmt::Write>(&self, f: &mut fmt::Formatter<W>) -> fmt::Result {
-        f.write_str(self.text())?;
+        })?;
         match self {
             Problem::Open(kind) | Problem::Create(kind) => fmt::Display::fmt(kind, f),
             Problem::Format(error) => fmt::Display::fmt(error, f),
@@ -154,14 +145,6 @@ impl fmt::Display for Problem {
             Problem::Report(fault) => fmt::Display::fmt(fault, f),
             _ => Ok(()),
         }
-    }
-}
-
-impl Error for Problem {}
-
-impl From<AllocError> for Problem {
-    fn from(_refused: AllocError) -> Self {
-        Problem::OutOfMemory
     }
 }
 

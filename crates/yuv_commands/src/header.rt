@@ -40,6 +40,8 @@ fn told_header(alloc: Global, format: &str) -> Result<StreamHeader, HeaderError>
     let Some((height, colour)) = rest.split_once(':') else {
         return Err(HeaderError::Missing('C'));
     };
-    let line = format!(in alloc; "YUV4MPEG2 W{width} H{height} C{colour}")?;
+    let Ok(line) = format!(in alloc; "YUV4MPEG2 W{width} H{height} C{colour}") else {
+        return Err(HeaderError::OutOfMemory);
+    };
     parse_header(alloc, line.as_bytes())
 }

@@ -21,10 +21,11 @@ pub fn count_frames<T: Pixel, R: io::Read, E: io::Write>(
     progress: &mut Progress<E>,
 ) -> Result<u64, StreamFault> {
     for count in 0..u64::MAX {
-        if !input.advance(alloc, count)? {
-            return Ok(count);
+        match input.advance(alloc, count) {
+            Ok(true) => progress.show(count + 1),
+            Ok(false) => return Ok(count),
+            Err(fault) => return Err(fault),
         }
-        progress.show(count + 1);
     }
     Ok(u64::MAX)
 }
@@ -32,51 +33,58 @@ pub fn count_frames<T: Pixel, R: io::Read, E: io::Write>(
 /// What is told of a stream with so many frames, one line a fact.
 pub fn info_text(alloc: Global, header: &StreamHeader, frames: u64) -> Result<String, AllocError> {
     let mut text = String::new(alloc);
-    let StreamHeader {
-        width,
-        height,
-        colour,
-        ..
-    } = header;
-    let format = format_text(colour.subsampling());
-    let depth = colour.bit_depth();
-    writeln!(
-        text,
-        "size: {width}x{height}\nformat: {format}\nbit depth: {depth}"
-    )?;
-    push_siting(&mut text, colour.siting())?;
-    push_times(&mut text, header)?;
-    push_extensions(&mut text, header)?;
-    writeln!(text, "frames: {frames}")?;
-    Ok(text)
+    match push_info(&mut text, header, frames) {
+        Ok(()) => Ok(text),
+        Err(refused) => Err(refused),
+    }
 }
 
-/// The usual name of a format.
-fn format_text(subsampling: ChromaSubsampling) -> &'static str {
-    match subsampling {
+/// Appends it.
+fn push_info(text: &mut String, header: &StreamHeader, frames: u64) -> Result<(), AllocError> {
+    push_format(text, header)?;
+    push_facts(text, header)?;
+    push_extensions(text, header)?;
+    writeln!(text, "frames: {frames}")
+}
+
+/// Appends the size of a frame, and what its pixels are.
+fn push_format(text: &mut String, header: &StreamHeader) -> Result<(), AllocError> {
+    let (width, height) = (header.width, header.height);
+    let depth = header.colour.bit_depth();
+    let format = match header.colour.subsampling() {
         ChromaSubsampling::Yuv420 => "4:2:0",
         ChromaSubsampling::Yuv422 => "4:2:2",
         ChromaSubsampling::Yuv411 => "4:1:1",
         ChromaSubsampling::Yuv444 => "4:4:4",
         ChromaSubsampling::Monochrome => "luma alone",
-    }
-}
-
-/// Appends where chroma is sited, where the header tells.
-fn push_siting(text: &mut String, siting: Option<ChromaSiting>) -> Result<(), AllocError> {
-    let siting = match siting {
-        Some(ChromaSiting::Centre) => "centre",
-        Some(ChromaSiting::Left) => "left",
-        Some(ChromaSiting::Alternating) => "alternating, as in PAL DV",
-        None => return Ok(()),
     };
-    writeln!(text, "chroma siting: {siting}")
+    writeln!(
+        text,
+        "size: {width}x{height}\nformat: {format}\nbit depth: {depth}"
+    )
 }
 
-/// Appends the rate, the interlacing and the shape of a pixel, where the header tells them.
-fn push_times(text: &mut String, header: &StreamHeader) -> Result<(), AllocError> {
+/// Appends where chroma is sited, the rate, the interlacing and the shape of a pixel, where the header tells them.
+fn push_facts(text: &mut String, header: &StreamHeader) -> Result<(), AllocError> {
+    if let Some(siting) = header.colour.siting() {
+        let siting = match siting {
+            ChromaSiting::Centre => "centre",
+            ChromaSiting::Left => "left",
+            ChromaSiting::Alternating => "alternating, as in PAL DV",
+        };
+        writeln!(text, "chroma siting: {siting}")?;
+    }
     push_ratio(text, "frame rate", &header.frame_rate)?;
-    push_interlacing(text, &header.interlacing)?;
+    if let Some(interlacing) = &header.interlacing {
+        let interlacing = match interlacing {
+            Interlacing::Progressive => "progressive",
+            Interlacing::TopFirst => "top field first",
+            Interlacing::BottomFirst => "bottom field first",
+            Interlacing::Mixed => "mixed",
+            Interlacing::Unknown => "unknown",
+        };
+        writeln!(text, "interlacing: {interlacing}")?;
+    }
     push_ratio(text, "pixel aspect", &header.pixel_aspect)
 }
 
@@ -89,48 +97,19 @@ fn push_ratio(text: &mut String, name: &str, ratio: &Option<Ratio>) -> Result<()
     writeln!(text, "{name}: {numerator}:{denominator}")
 }
 
-/// Appends the interlacing, where the header tells it.
-fn push_interlacing(
-    text: &mut String,
-    interlacing: &Option<Interlacing>,
-) -> Result<(), AllocError> {
-    let Some(interlacing) = interlacing else {
-        return Ok(());
-    };
-    let interlacing = interlacing_text(*interlacing);
-    writeln!(text, "interlacing: {interlacing}")
-}
-
-/// How the rows of a frame go with time.
-fn interlacing_text(interlacing: Interlacing) -> &'static str {
-    match interlacing {
-        Interlacing::Progressive => "progressive",
-        Interlacing::TopFirst => "top field first",
-        Interlacing::BottomFirst => "bottom field first",
-        Interlacing::Mixed => "mixed",
-        Interlacing::Unknown => "unknown",
-    }
-}
-
-/// Appends the parameters `X`.
+/// Appends the parameters `X`, their bytes that are no printed ASCII as `?`.
 fn push_extensions(text: &mut String, header: &StreamHeader) -> Result<(), AllocError> {
     for extension in header.extensions.as_slice() {
         text.push_str("extension: ")?;
-        push_shown(text, extension.as_slice())?;
+        for &byte in extension.as_slice() {
+            let shown = if byte.is_ascii_graphic() {
+                byte as char
+            } else {
+                '?'
+            };
+            text.push(shown)?;
+        }
         text.push('\n')?;
-    }
-    Ok(())
-}
-
-/// Appends bytes, those that are no printed ASCII as `?`.
-fn push_shown(text: &mut String, bytes: &[u8]) -> Result<(), AllocError> {
-    for &byte in bytes {
-        let shown = if byte.is_ascii_graphic() {
-            byte as char
-        } else {
-            '?'
-        };
-        text.push(shown)?;
     }
     Ok(())
 }

@@ -6,22 +6,33 @@ mod arguments;
 mod commands;
 mod compare;
 mod copy;
+mod edit;
 mod fault;
+mod frames;
 mod header;
 mod info;
 mod program;
 mod progress;
+mod quality;
 mod report;
 mod source;
 mod stream;
+mod sums;
 
 pub use arguments::{Command, Named, Wanted, WrongCall, read_command};
 pub use compare::{Comparison, Side, compare_streams};
 pub use copy::{CopyFault, copy_frames, edit_frames};
+pub use edit::{Edit, Misaligned, Rectangle, can_edit, edit_frame};
 pub use fault::{Caused, Fault, Place, Problem};
+pub use frames::{
+    Component, PixelDifference, first_difference_of_frames, have_same_sizes,
+    squared_errors_of_frames,
+};
 pub use header::header_of;
 pub use info::{count_frames, info_text};
 pub use program::{Status, Streams, run};
 pub use progress::Progress;
+pub use quality::{mean_squared_error, peak_signal_to_noise};
 pub use report::{FrameLines, Scale, comparison_text};
 pub use stream::{Container, Input, Output, StreamFault};
+pub use sums::{PlaneSums, pixel_counts};

@@ -113,30 +113,18 @@ where
     progress.is_shown = command.shows_progress();
     let done = do_command(rt, command, standard, output, progress);
     progress.end();
-    status_of(command, done, &mut progress.out)
-}
-
-/// How the program ends behind a command. What went wrong is told.
-fn status_of<E: io::Write>(
-    command: &Command<'_>,
-    done: Result<Status, Fault>,
-    error: &mut E,
-) -> Status {
     match done {
         Ok(status) => status,
-        Err(fault) => give_up(command, fault, error),
+        Err(fault) => give_up(command, fault, &mut progress.out),
     }
 }
 
 /// Tells what went wrong, and where.
 fn give_up<E: io::Write>(command: &Command<'_>, fault: Fault, error: &mut E) -> Status {
-    tell_fault(name_of(command, fault.place), &fault.problem, error);
-    Status::Failed
-}
-
-/// Tells what went wrong with what has this name.
-fn tell_fault<E: io::Write>(name: &str, problem: &Problem, error: &mut E) {
+    let (name, problem) = (name_of(command, fault.place), &fault.problem);
     let _ = writeln!(error, "yuv: {name}: {problem}");
+    drop(fault);
+    Status::Failed
 }
 
 /// Does a command.
@@ -179,28 +167,13 @@ fn tell_usage<O: io::Write>(output: &mut O) -> Status {
 
 /// The name of what a command was working on.
 fn name_of<'a>(command: &Command<'a>, place: Place) -> &'a str {
-    match place {
-        Place::First => first_name(command),
-        Place::Second => second_name(command),
-        Place::Report => "standard output",
-    }
-}
-
-/// The name of the first file of a command.
-fn first_name<'a>(command: &Command<'a>) -> &'a str {
-    match command {
-        Command::Help => "-",
-        Command::Info { file, .. } => file.name,
-        Command::Compare { first, .. } => first.name,
-        Command::Copy { input, .. } => input.name,
-    }
-}
-
-/// The name of the second file of a command.
-fn second_name<'a>(command: &Command<'a>) -> &'a str {
-    match command {
-        Command::Help | Command::Info { .. } => "-",
-        Command::Compare { second, .. } => second.name,
-        Command::Copy { output, .. } => *output,
+    match (place, command) {
+        (Place::Report, _) => "standard output",
+        (Place::First, Command::Info { file, .. }) => file.name,
+        (Place::First, Command::Compare { first, .. }) => first.name,
+        (Place::First, Command::Copy { input, .. }) => input.name,
+        (Place::Second, Command::Compare { second, .. }) => second.name,
+        (Place::Second, Command::Copy { output, .. }) => *output,
+        _ => "-",
     }
 }

@@ -44,7 +44,7 @@ pub struct Output<W> {
 }
 
 /// Why a stream was not read or written to its end. Our own.
-#[derive(Debug, Drop)]
+#[derive(Drop)]
 pub struct StreamFault {
     /// How many frames went before.
     pub before: u64,
@@ -54,9 +54,8 @@ pub struct StreamFault {
 
 impl fmt::Display for StreamFault {
     fn fmt<W: fmt::Write>(&self, f: &mut fmt::Formatter<W>) -> fmt::Result {
-        let frame = self.before.saturating_add(1);
-        write!(f, "frame {frame}: ")?;
-        fmt::Display::fmt(&self.fault, f)
+        let (frame, fault) = (self.before.saturating_add(1), &self.fault);
+        write!(f, "frame {frame}: {fault}")
     }
 }
 

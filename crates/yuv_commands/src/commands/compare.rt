@@ -7,17 +7,18 @@ use super::{Opened, open};
 use crate::arguments::Named;
 use crate::compare::{Comparison, compare_streams};
 use crate::fault::{Fault, Problem};
+use crate::frames::have_same_sizes;
 use crate::program::Status;
 use crate::progress::Progress;
 use crate::report::{FrameLines, Scale, comparison_text, write_text};
 use crate::stream::Input;
+use crate::sums::pixel_counts;
 use std::alloc::Global;
 use std::io;
 use std::rt::Files;
 use v_frame::frame::Frame;
 use v_frame::pixel::Pixel;
 use v_frame_planar::Counted;
-use yuv_frames::{have_same_sizes, pixel_counts};
 
 /// Tells how far two streams are apart.
 pub fn do_compare<H, I, O, E>(
@@ -35,7 +36,11 @@ where
     E: io::Write,
 {
     match open(rt, first, standard) {
-        Ok(first) => compare_opened(rt, first, second, frames, standard, output, progress),
+        Ok(mut first) => {
+            let done = compare_opened(rt, &mut first, second, frames, standard, output, progress);
+            drop(first);
+            done
+        }
         Err(problem) => Err(Fault::first(problem)),
     }
 }
@@ -43,7 +48,7 @@ where
 /// Tells how far a second stream is from one that is open.
 fn compare_opened<H, R, I, O, E>(
     rt: &H,
-    first: Opened<R>,
+    first: &mut Opened<R>,
     second: &Named<'_>,
     frames: bool,
     standard: &mut Option<I>,
@@ -52,36 +57,35 @@ fn compare_opened<H, R, I, O, E>(
 ) -> Result<Status, Fault>
 where
     H: Files + AllocGlobal,
-    R: io::Read + Drop,
+    R: io::Read,
     I: io::Read + Drop,
     O: io::Write,
     E: io::Write,
 {
     match open(rt, second, standard) {
-        Ok(second) => compare_both(rt.alloc(), first, second, frames, output, progress),
+        Ok(mut second) => {
+            let done = compare_both(rt.alloc(), first, &mut second, frames, output, progress);
+            drop(second);
+            done
+        }
         Err(problem) => Err(Fault::second(problem)),
     }
 }
 
 /// Tells how far two streams that are open are apart.
-fn compare_both<R, S, O, E>(
+fn compare_both<R: io::Read, S: io::Read, O: io::Write, E: io::Write>(
     alloc: Global,
-    first: Opened<R>,
-    second: Opened<S>,
+    first: &mut Opened<R>,
+    second: &mut Opened<S>,
     frames: bool,
     output: &mut O,
     progress: &mut Progress<E>,
-) -> Result<Status, Fault>
-where
-    R: io::Read + Drop,
-    S: io::Read + Drop,
-    O: io::Write,
-    E: io::Write,
-{
-    if first.bit_depth() != second.bit_depth() {
+) -> Result<Status, Fault> {
+    let bit_depth = first.bit_depth();
+    if bit_depth != second.bit_depth() {
         return Err(Fault::second(Problem::OtherFormat));
     }
-    if first.has_bytes() {
+    if bit_depth == 8 {
         compare_as::<u8, _, _, _, _>(alloc, first, second, frames, output, progress)
     } else {
         compare_as::<u16, _, _, _, _>(alloc, first, second, frames, output, progress)
@@ -89,53 +93,63 @@ where
 }
 
 /// Tells how far two streams of pixels of this type are apart.
-fn compare_as<T, R, S, O, E>(
+fn compare_as<T: Pixel, R: io::Read, S: io::Read, O: io::Write, E: io::Write>(
     alloc: Global,
-    first: Opened<R>,
-    second: Opened<S>,
-    frames: bool,
-    output: &mut O,
-    progress: &mut Progress<E>,
-) -> Result<Status, Fault>
-where
-    T: Pixel,
-    R: io::Read + Drop,
-    S: io::Read + Drop,
-    O: io::Write,
-    E: io::Write,
-{
-    match first.input::<T>(alloc) {
-        Ok((_, mut first)) => compare_with(alloc, &mut first, second, frames, output, progress),
-        Err(problem) => Err(Fault::first(problem)),
-    }
-}
-
-/// Tells how far a second stream is from one of pixels of this type.
-fn compare_with<T: Pixel, R: io::Read, S: io::Read + Drop, O: io::Write, E: io::Write>(
-    alloc: Global,
-    first: &mut Input<T, R>,
-    second: Opened<S>,
+    first: &mut Opened<R>,
+    second: &mut Opened<S>,
     frames: bool,
     output: &mut O,
     progress: &mut Progress<E>,
 ) -> Result<Status, Fault> {
-    match second.input::<T>(alloc) {
-        Ok((header, mut second)) => {
-            compare_inputs(
+    match first.header.frame::<T>(alloc, 0) {
+        Ok(frame) => {
+            let mut first = Input {
+                container: first.container,
+                reader: Counted::new(&mut first.source),
+                frame,
+            };
+            let done = compare_with(alloc, &mut first, second, frames, output, progress);
+            drop(first);
+            done
+        }
+        Err(error) => Err(Fault::first(Problem::from(error))),
+    }
+}
+
+/// Tells how far a second stream is from one of pixels of this type.
+fn compare_with<T: Pixel, R: io::Read, S: io::Read, O: io::Write, E: io::Write>(
+    alloc: Global,
+    first: &mut Input<T, R>,
+    second: &mut Opened<S>,
+    frames: bool,
+    output: &mut O,
+    progress: &mut Progress<E>,
+) -> Result<Status, Fault> {
+    let bit_depth = second.bit_depth();
+    match second.header.frame::<T>(alloc, 0) {
+        Ok(frame) => {
+            let mut second = Input {
+                container: second.container,
+                reader: Counted::new(&mut second.source),
+                frame,
+            };
+            let done = compare_inputs(
                 alloc,
-                header.colour.bit_depth(),
+                bit_depth,
                 first,
                 &mut second,
                 frames,
                 output,
                 progress,
-            )
+            );
+            drop(second);
+            done
         }
-        Err(problem) => Err(Fault::second(problem)),
+        Err(error) => Err(Fault::second(Problem::from(error))),
     }
 }
 
-/// Tells how far two streams are apart, if they have one format.
+/// Tells how far two streams are apart, if they have one format, and of each two frames if that is wanted.
 fn compare_inputs<T: Pixel, R: io::Read, S: io::Read, O: io::Write, E: io::Write>(
     alloc: Global,
     bit_depth: u8,
@@ -156,21 +170,8 @@ fn compare_inputs<T: Pixel, R: io::Read, S: io::Read, O: io::Write, E: io::Write
         },
         is_told: frames,
     };
-    compare_telling(alloc, first, second, &mut lines, progress)
-}
-
-/// Tells how far two streams of one format are apart, and of each two frames if that is wanted.
-fn compare_telling<T: Pixel, R: io::Read, S: io::Read, O: io::Write, E: io::Write>(
-    alloc: Global,
-    first: &mut Input<T, R>,
-    second: &mut Input<T, S>,
-    lines: &mut FrameLines<O>,
-    progress: &mut Progress<E>,
-) -> Result<Status, Fault>
-    requires { sizes_of (tables_of first.old.frame) ≡ sizes_of (tables_of second.old.frame) }
-{
-    match compare_streams(alloc, first, second, lines, progress) {
-        Ok(found) => tell_comparison(alloc, &found, &lines.scale, &mut lines.out),
+    match compare_streams(alloc, first, second, &mut lines, progress) {
+        Ok(found) => tell_comparison(alloc, &found, &mut lines),
         Err(fault) => Err(fault),
     }
 }
@@ -179,25 +180,16 @@ fn compare_telling<T: Pixel, R: io::Read, S: io::Read, O: io::Write, E: io::Writ
 fn tell_comparison<O: io::Write>(
     alloc: Global,
     found: &Comparison,
-    scale: &Scale,
-    out: &mut Counted<O>,
+    lines: &mut FrameLines<O>,
 ) -> Result<Status, Fault> {
-    match write_comparison(alloc, found, scale, out) {
+    let Ok(text) = comparison_text(alloc, found, &lines.scale) else {
+        return Err(Fault::report(Problem::OutOfMemory));
+    };
+    match write_text(&mut lines.out, text.as_str()) {
         Ok(()) if found.shows_the_same() => Ok(Status::Same),
         Ok(()) => Ok(Status::Different),
-        Err(problem) => Err(Fault::report(problem)),
+        Err(fault) => Err(fault),
     }
-}
-
-/// Writes what was found of two streams.
-fn write_comparison<O: io::Write>(
-    alloc: Global,
-    found: &Comparison,
-    scale: &Scale,
-    out: &mut Counted<O>,
-) -> Result<(), Problem> {
-    let text = comparison_text(alloc, found, scale)?;
-    write_text(out, text.as_str())
 }
 
 /// Whether two frames have one format, and planes of the same sizes.

@@ -1,12 +1,13 @@
 //! The command `copy`.
-ghost use Rattle.std.specs.Prelude.{IfOk};
+ghost use Rattle.std.specs.Prelude.{IfOk, IfSome};
 ghost use Rattle.v_frame.specs.Prelude.{tables_of};
 ghost use Rattle.v_frame_planar.specs.Planar.{sizes_of};
-ghost use Rattle.yuv_frames.specs.Edits.{EditFits};
+ghost use Rattle.yuv_commands.specs.Edits.{EditFits};
 
 use super::{Opened, open};
 use crate::arguments::{Named, Wanted};
 use crate::copy::{CopyFault, copy_frames, edit_frames};
+use crate::edit::{Edit, Rectangle, can_edit};
 use crate::fault::{Caused, Fault, Problem};
 use crate::program::Status;
 use crate::progress::Progress;
@@ -18,7 +19,6 @@ use v_frame::frame::Frame;
 use v_frame::pixel::Pixel;
 use v_frame_planar::Counted;
 use v_frame_y4m::{StreamHeader, write_header};
-use yuv_frames::{Edit, Rectangle, can_edit};
 
 /// Writes a stream once more.
 pub fn do_copy<H, I, O, E>(
@@ -44,7 +44,15 @@ where
         is_raw: wanted.raw,
     };
     match open(rt, from, standard) {
-        Ok(opened) => copy_opened(opened, wanted, &target, output, progress),
+        Ok(mut opened) => {
+            let done = if opened.bit_depth() == 8 {
+                copy_as::<u8, _, _, _, _>(&mut opened, wanted, &target, output, progress)
+            } else {
+                copy_as::<u16, _, _, _, _>(&mut opened, wanted, &target, output, progress)
+            };
+            drop(opened);
+            done
+        }
         Err(problem) => Err(Fault::first(problem)),
     }
 }
@@ -57,78 +65,9 @@ struct Target<'a, H> {
     is_raw: bool,
 }
 
-impl<H: Files> Target<'_, H> {
-    /// Creates the file.
-    fn create(&self) -> Result<H::File, Fault> {
-        match fs::create(self.rt, self.name) {
-            Ok(file) => Ok(file),
-            Err(error) => Err(Fault::second(Problem::Create(error.kind()))),
-        }
-    }
-}
-
-/// A stream that is written, behind its header if it has one.
-fn begin<W: io::Write + Drop>(
-    alloc: Global,
-    sink: W,
-    is_raw: bool,
-    header: &StreamHeader,
-) -> Result<Output<W>, Problem> {
-    let mut writer = Counted::new(sink);
-    if is_raw {
-        return Ok(Output {
-            container: Container::Raw,
-            writer,
-        });
-    }
-    match put_header(alloc, &mut writer, header) {
-        Ok(()) => Ok(Output {
-            container: Container::Y4m,
-            writer,
-        }),
-        Err(problem) => Err(problem),
-    }
-}
-
-/// Writes the header of a stream.
-fn put_header<W: io::Write>(
-    alloc: Global,
-    writer: &mut Counted<W>,
-    header: &StreamHeader,
-) -> Result<(), Problem> {
-    if !header.is_writable() {
-        return Err(Problem::Unwritable);
-    }
-    match write_header(alloc, writer, header) {
-        Ok(()) => Ok(()),
-        Err(error) => Err(Problem::Header(Caused::at(error, writer))),
-    }
-}
-
-/// Writes a stream of which the header is known once more.
-fn copy_opened<R, H, O, E>(
-    opened: Opened<R>,
-    wanted: &Wanted,
-    target: &Target<'_, H>,
-    output: &mut O,
-    progress: &mut Progress<E>,
-) -> Result<Status, Fault>
-where
-    R: io::Read + Drop,
-    H: Files + AllocGlobal,
-    O: io::Write,
-    E: io::Write,
-{
-    if opened.has_bytes() {
-        copy_as::<u8, _, _, _, _>(opened, wanted, target, output, progress)
-    } else {
-        copy_as::<u16, _, _, _, _>(opened, wanted, target, output, progress)
-    }
-}
-
 /// Writes a stream of pixels of this type once more.
 fn copy_as<T, R, H, O, E>(
-    opened: Opened<R>,
+    opened: &mut Opened<R>,
     wanted: &Wanted,
     target: &Target<'_, H>,
     output: &mut O,
@@ -136,16 +75,30 @@ fn copy_as<T, R, H, O, E>(
 ) -> Result<Status, Fault>
 where
     T: Pixel,
-    R: io::Read + Drop,
+    R: io::Read,
     H: Files + AllocGlobal,
     O: io::Write,
     E: io::Write,
 {
-    match opened.input::<T>(target.rt.alloc()) {
-        Ok((mut header, mut input)) => {
-            copy_input(&mut header, &mut input, wanted, target, output, progress)
+    match opened.header.frame::<T>(target.rt.alloc(), 0) {
+        Ok(frame) => {
+            let mut input = Input {
+                container: opened.container,
+                reader: Counted::new(&mut opened.source),
+                frame,
+            };
+            let done = copy_input(
+                &mut opened.header,
+                &mut input,
+                wanted,
+                target,
+                output,
+                progress,
+            );
+            drop(input);
+            done
         }
-        Err(problem) => Err(Fault::first(problem)),
+        Err(error) => Err(Fault::first(Problem::from(error))),
     }
 }
 
@@ -165,82 +118,21 @@ where
     O: io::Write,
     E: io::Write,
 {
-    match edit_of(header, wanted) {
-        Ok(Some(edit)) => copy_edited(header, &edit, input, target, output, progress),
-        Ok(None) => copy_whole(header, input, target, output, progress),
+    match made_of(target.rt.alloc(), header, wanted, &input.frame) {
+        Ok(mut made) => {
+            let done = copy_made(header, input, &mut made, target, output, progress);
+            drop(made);
+            done
+        }
         Err(problem) => Err(Fault::first(problem)),
     }
 }
 
-/// Writes frames as they are.
-fn copy_whole<T, R, H, O, E>(
-    header: &StreamHeader,
-    input: &mut Input<T, R>,
-    target: &Target<'_, H>,
-    output: &mut O,
-    progress: &mut Progress<E>,
-) -> Result<Status, Fault>
-where
-    T: Pixel,
-    R: io::Read,
-    H: Files + AllocGlobal,
-    O: io::Write,
-    E: io::Write,
-{
-    let alloc = target.rt.alloc();
-    if target.name == "-" {
-        return copy_whole_to(alloc, header, input, output, target.is_raw, progress);
-    }
-    match target.create() {
-        Ok(file) => copy_whole_to(alloc, header, input, file, target.is_raw, progress),
-        Err(fault) => Err(fault),
-    }
-}
-
-/// Writes frames as they are to a writer that is open.
-fn copy_whole_to<T: Pixel, R: io::Read, W: io::Write + Drop, E: io::Write>(
-    alloc: Global,
-    header: &StreamHeader,
-    input: &mut Input<T, R>,
-    writer: W,
-    is_raw: bool,
-    progress: &mut Progress<E>,
-) -> Result<Status, Fault> {
-    match begin(alloc, writer, is_raw, header) {
-        Ok(mut output) => status_of(copy_frames(alloc, input, &mut output, progress)),
-        Err(problem) => Err(Fault::second(problem)),
-    }
-}
-
-/// Writes what is made of frames.
-fn copy_edited<T, R, H, O, E>(
-    header: &mut StreamHeader,
-    edit: &Edit,
-    input: &mut Input<T, R>,
-    target: &Target<'_, H>,
-    output: &mut O,
-    progress: &mut Progress<E>,
-) -> Result<Status, Fault>
-where
-    T: Pixel,
-    R: io::Read,
-    H: Files + AllocGlobal,
-    O: io::Write,
-    E: io::Write,
-{
-    set_size(header, edit);
-    match made_frame(target.rt.alloc(), header, edit, &input.frame) {
-        Ok(mut made) => copy_made(header, edit, input, &mut made, target, output, progress),
-        Err(problem) => Err(Fault::first(problem)),
-    }
-}
-
-/// Writes what is made of frames, each by way of this one.
+/// Writes frames, or what is made of them, where something is.
 fn copy_made<T, R, H, O, E>(
     header: &StreamHeader,
-    edit: &Edit,
     input: &mut Input<T, R>,
-    made: &mut Frame<T>,
+    made: &mut Option<(Edit, Frame<T>)>,
     target: &Target<'_, H>,
     output: &mut O,
     progress: &mut Progress<E>,
@@ -251,64 +143,68 @@ where
     H: Files + AllocGlobal,
     O: io::Write,
     E: io::Write,
-    requires { EditFits edit.now (sizes_of (tables_of input.old.frame))
-        (sizes_of (tables_of made.old)) }
+    requires { IfSome made.old (λ made. EditFits made.0 (sizes_of (tables_of input.old.frame))
+        (sizes_of (tables_of made.1))) }
 {
-    let alloc = target.rt.alloc();
+    let (alloc, is_raw) = (target.rt.alloc(), target.is_raw);
     if target.name == "-" {
-        return copy_made_to(
-            alloc,
-            header,
-            edit,
-            input,
-            made,
-            output,
-            target.is_raw,
-            progress,
-        );
+        return copy_to(alloc, header, input, made, output, is_raw, progress);
     }
-    match target.create() {
-        Ok(file) => copy_made_to(
-            alloc,
-            header,
-            edit,
-            input,
-            made,
-            file,
-            target.is_raw,
-            progress,
-        ),
-        Err(fault) => Err(fault),
+    match fs::create(target.rt, target.name) {
+        Ok(file) => copy_to(alloc, header, input, made, file, is_raw, progress),
+        Err(error) => Err(Fault::second(Problem::Create(error.kind()))),
     }
 }
 
-/// Writes what is made of frames to a writer that is open.
-fn copy_made_to<T: Pixel, R: io::Read, W: io::Write + Drop, E: io::Write>(
+/// Writes frames, or what is made of them, to a writer that is open.
+fn copy_to<T: Pixel, R: io::Read, W: io::Write + Drop, E: io::Write>(
     alloc: Global,
     header: &StreamHeader,
-    edit: &Edit,
     input: &mut Input<T, R>,
-    made: &mut Frame<T>,
+    made: &mut Option<(Edit, Frame<T>)>,
     writer: W,
     is_raw: bool,
     progress: &mut Progress<E>,
 ) -> Result<Status, Fault>
-    requires { EditFits edit.now (sizes_of (tables_of input.old.frame))
-        (sizes_of (tables_of made.old)) }
+    requires { IfSome made.old (λ made. EditFits made.0 (sizes_of (tables_of input.old.frame))
+        (sizes_of (tables_of made.1))) }
 {
-    match begin(alloc, writer, is_raw, header) {
-        Ok(mut output) => {
-            status_of(edit_frames(alloc, edit, input, made, &mut output, progress))
-        }
-        Err(problem) => Err(Fault::second(problem)),
+    let container = if is_raw {
+        Container::Raw
+    } else {
+        Container::Y4m
+    };
+    let mut output = Output {
+        container,
+        writer: Counted::new(writer),
+    };
+    if let Err(problem) = put_header(alloc, &mut output, header) {
+        return Err(Fault::second(problem));
     }
-}
-
-/// How the program ends behind a copy.
-fn status_of(copied: Result<u64, CopyFault>) -> Result<Status, Fault> {
+    let copied = match made {
+        Some((edit, made)) => edit_frames(alloc, edit, input, made, &mut output, progress),
+        None => copy_frames(alloc, input, &mut output, progress),
+    };
     match copied {
         Ok(_frames) => Ok(Status::Same),
         Err(fault) => Err(Fault::from(fault)),
+    }
+}
+
+/// Writes the header of a stream, if it has one.
+fn put_header<W: io::Write>(
+    alloc: Global,
+    output: &mut Output<W>,
+    header: &StreamHeader,
+) -> Result<(), Problem> {
+    match output.container {
+        Container::Raw => return Ok(()),
+        Container::Y4m if header.is_writable() => {}
+        Container::Y4m => return Err(Problem::Unwritable),
+    }
+    match write_header(alloc, &mut output.writer, header) {
+        Ok(()) => Ok(()),
+        Err(error) => Err(Problem::Header(Caused::at(error, &output.writer))),
     }
 }
 
@@ -333,29 +229,36 @@ fn edit_of(header: &StreamHeader, wanted: &Wanted) -> Result<Option<Edit>, Probl
     }
 }
 
-/// Makes a header that of the frames that are made.
-fn set_size(header: &mut StreamHeader, edit: &Edit) {
+/// What is made of frames like the source, where something is, with a frame for it. The header becomes that of what is made.
+fn made_of<T: Pixel>(
+    alloc: Global,
+    header: &mut StreamHeader,
+    wanted: &Wanted,
+    source: &Frame<T>,
+) -> Result<Option<(Edit, Frame<T>)>, Problem>
+    ensures { IfOk result (λ made. IfSome made (λ made. EditFits made.0
+        (sizes_of (tables_of source.now)) (sizes_of (tables_of made.1)))) }
+{
+    let edit = match edit_of(header, wanted) {
+        Ok(Some(edit)) => edit,
+        Ok(None) => return Ok(None),
+        Err(problem) => return Err(problem),
+    };
     let scale = if edit.half { 2 } else { 1 };
     header.width = edit.luma.width / scale;
     header.height = edit.luma.height / scale;
-}
-
-/// A frame for what is made of frames like the source, where it fits.
-fn made_frame<T: Pixel>(
-    alloc: Global,
-    header: &StreamHeader,
-    edit: &Edit,
-    source: &Frame<T>,
-) -> Result<Frame<T>, Problem>
-    ensures { IfOk result (λ made. EditFits edit.now (sizes_of (tables_of source.now))
-        (sizes_of (tables_of made))) }
-{
     if header.width == 0 || header.height == 0 {
         return Err(Problem::Odd);
     }
     match header.frame::<T>(alloc, 0) {
-        Ok(made) if can_edit(edit, source, &made) => Ok(made),
-        Ok(_) => Err(Problem::Odd),
+        Ok(made) => {
+            if can_edit(&edit, source, &made) {
+                Ok(Some((edit, made)))
+            } else {
+                drop(made);
+                Err(Problem::Odd)
+            }
+        }
         Err(error) => Err(Problem::from(error)),
     }
 }

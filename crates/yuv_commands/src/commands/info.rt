@@ -7,7 +7,7 @@ use crate::info::{count_frames, info_text};
 use crate::program::Status;
 use crate::progress::Progress;
 use crate::report::write_text;
-use crate::stream::Input;
+use crate::stream::{Input, StreamFault};
 use std::alloc::Global;
 use std::io;
 use std::rt::Files;
@@ -29,61 +29,58 @@ where
     O: io::Write,
     E: io::Write,
 {
-    match read_info(rt, file, standard, progress) {
-        Ok(text) => tell(output, text.as_str()),
+    match open(rt, file, standard) {
+        Ok(mut opened) => {
+            let done = if opened.bit_depth() == 8 {
+                tell_info::<u8, _, _, _>(rt.alloc(), &mut opened, output, progress)
+            } else {
+                tell_info::<u16, _, _, _>(rt.alloc(), &mut opened, output, progress)
+            };
+            drop(opened);
+            done
+        }
         Err(problem) => Err(Fault::first(problem)),
     }
 }
 
-/// Reads what is told of a stream.
-fn read_info<H, I, E>(
-    rt: &H,
-    file: &Named<'_>,
-    standard: &mut Option<I>,
-    progress: &mut Progress<E>,
-) -> Result<String, Problem>
-where
-    H: Files + AllocGlobal,
-    I: io::Read + Drop,
-    E: io::Write,
-{
-    let opened = open(rt, file, standard)?;
-    if opened.has_bytes() {
-        told_info::<u8, _, _>(rt.alloc(), opened, progress)
-    } else {
-        told_info::<u16, _, _>(rt.alloc(), opened, progress)
-    }
-}
-
-/// Writes what is told.
-fn tell<O: io::Write>(output: &mut O, text: &str) -> Result<Status, Fault> {
-    match write_text(&mut Counted::new(output), text) {
-        Ok(()) => Ok(Status::Same),
-        Err(problem) => Err(Fault::report(problem)),
-    }
-}
-
-/// What is told of a stream of pixels of this type.
-fn told_info<T: Pixel, R: io::Read + Drop, E: io::Write>(
+/// Tells what a stream of pixels of this type is.
+fn tell_info<T: Pixel, R: io::Read, O: io::Write, E: io::Write>(
     alloc: Global,
-    opened: Opened<R>,
+    opened: &mut Opened<R>,
+    output: &mut O,
     progress: &mut Progress<E>,
-) -> Result<String, Problem> {
-    match opened.input::<T>(alloc) {
-        Ok((header, mut input)) => told_frames(alloc, &header, &mut input, progress),
-        Err(problem) => Err(problem),
+) -> Result<Status, Fault> {
+    match opened.header.frame::<T>(alloc, 0) {
+        Ok(frame) => {
+            let mut input = Input {
+                container: opened.container,
+                reader: Counted::new(&mut opened.source),
+                frame,
+            };
+            let frames = count_frames(alloc, &mut input, progress);
+            drop(input);
+            tell_frames(alloc, &opened.header, frames, output)
+        }
+        Err(error) => Err(Fault::first(Problem::from(error))),
     }
 }
 
-/// What is told of a stream behind its header, with how many frames it has.
-fn told_frames<T: Pixel, R: io::Read, E: io::Write>(
+/// Tells what a stream is, behind its frames.
+fn tell_frames<O: io::Write>(
     alloc: Global,
     header: &StreamHeader,
-    input: &mut Input<T, R>,
-    progress: &mut Progress<E>,
-) -> Result<String, Problem> {
-    match count_frames(alloc, input, progress) {
-        Ok(frames) => Ok(info_text(alloc, header, frames)?),
-        Err(fault) => Err(Problem::Frame(fault)),
+    frames: Result<u64, StreamFault>,
+    output: &mut O,
+) -> Result<Status, Fault> {
+    let frames = match frames {
+        Ok(frames) => frames,
+        Err(fault) => return Err(Fault::first(Problem::Frame(fault))),
+    };
+    let Ok(text) = info_text(alloc, header, frames) else {
+        return Err(Fault::first(Problem::OutOfMemory));
+    };
+    match write_text(&mut Counted::new(output), text.as_str()) {
+        Ok(()) => Ok(Status::Same),
+        Err(fault) => Err(fault),
     }
 }

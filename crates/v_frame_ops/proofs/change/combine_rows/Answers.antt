@@ -1,9 +1,12 @@
 -- Each row is made of results at what both planes showed there.
-use Rattle.std.proofs.Common.{subst, rules, arith}
+use Rattle.std.proofs.Common.{refl, subst, rules, arith}
 use Rattle.v_frame.specs.Prelude.{table_of}
 use Rattle.v_frame_ops.specs.Rows.{CombinesItems}
-use Rattle.v_frame_ops.proofs.Changed.{GivenWith, same_item, one_more_changed, all_changed}
+use Rattle.v_frame_ops.proofs.Changed.{GivenWith, same_item, none_changed, one_more_changed, all_changed}
 use Rattle.v_frame_ops.proofs.change.combine_rows.Goals as goal
+
+pub loop-y-init : goal.loop-y-init
+loop-y-init g c = record { rows = none_changed _ (table_of c.args.plane.now); border = refl }
 
 pub loop-y-preserved : goal.loop-y-preserved
 loop-y-preserved g c =

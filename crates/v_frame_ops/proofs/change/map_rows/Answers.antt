@@ -1,8 +1,11 @@
 -- Each row is written with results at what it showed.
-use Rattle.std.proofs.Common.{arith}
+use Rattle.std.proofs.Common.{refl, arith}
 use Rattle.v_frame.specs.Prelude.{table_of}
-use Rattle.v_frame_ops.proofs.Changed.{one_more_set, all_changed}
+use Rattle.v_frame_ops.proofs.Changed.{none_changed, one_more_set, all_changed}
 use Rattle.v_frame_ops.proofs.change.map_rows.Goals as goal
+
+pub loop-y-init : goal.loop-y-init
+loop-y-init g c = record { rows = none_changed _ (table_of c.args.plane.now); border = refl }
 
 pub loop-y-preserved : goal.loop-y-preserved
 loop-y-preserved g c =

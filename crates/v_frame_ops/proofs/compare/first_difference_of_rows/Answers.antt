@@ -1,6 +1,6 @@
 -- A pixel that was read is the one at its index.
-use Rattle.std.proofs.Common.{◌≡◌, slice_get, true, refl, arith}
-use Rattle.std.proofs.lemmas.Option.{slice_get_read}
+use Rattle.std.proofs.Common.{◌≡◌, Some, slice_get, true, refl, sym, ◌∙◌, ap, arith}
+use Rattle.std.proofs.lemmas.Option.{same_Some, slice_get_read}
 use Rattle.v_frame_ops.proofs.compare.first_difference_of_rows.Goals as goal
 use borrow.Author.Count.{below_more}
 
@@ -13,7 +13,7 @@ returns-then-not-are_same-clause-first g c =
     let there = slice_get_read c.args.other.now _ c.loop-x.x _ c.requires c.loop-x-test.true c.index-other-x.is in record {
       within = c.loop-x-test.true;
       before = c.loop-x.invariant;
-      differs = λ same. let is : c.are_same.result ≡ true = c.are_same.ensures.1 cc in cc;
+      differs = λ same. let is : c.are_same.result ≡ true = c.are_same.ensures.1 (same_Some _ _ (sym here ∙ same ∙ there)) in cc;
     }
 
 pub loop-x-preserved : goal.loop-x-preserved
@@ -21,7 +21,8 @@ loop-x-preserved g c =
     let here = slice_get_read c.args.row.now _ c.loop-x.x _ refl c.loop-x-test.true c.index-row-x.is in
     let there = slice_get_read c.args.other.now _ c.loop-x.x _ c.requires c.loop-x-test.true c.index-other-x.is in
     let same = c.are_same.ensures.0 c.if-not-are_same.false in
-    below_more (λ k. slice_get c.args.row.now k ≡ slice_get c.args.other.now k) c.loop-x.x c.loop-x.invariant cc
+    below_more (λ k. slice_get c.args.row.now k ≡ slice_get c.args.other.now k) c.loop-x.x c.loop-x.invariant
+    (here ∙ ap Some same ∙ sym there)
 
 pub returns-clause-none : goal.returns-clause-none
 returns-clause-none g c = λ nothing k h. c.loop-x.invariant k (omega arith)

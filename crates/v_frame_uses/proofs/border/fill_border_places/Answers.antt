@@ -2,8 +2,17 @@
 use Rattle.std.proofs.Common.{ℕ, ◌≡◌, ◌+◌, ◌*◌, ◌<◌, length, refl, ◌∙◌, arith}
 use Rattle.v_frame.specs.Prelude.{stride_of, alloc_size_of}
 use Rattle.v_frame_uses.proofs.FilledBorders.{nothing_filled, part_filled, visible_skipped, marks_above, marks_below, marks_left, marks_visible, marks_right}
-use Rattle.v_frame_uses.proofs.FilledBorders.{row_within, filled_everywhere}
+use Rattle.v_frame_uses.proofs.FilledBorders.{row_within, rows_within, filled_everywhere}
 use Rattle.v_frame_uses.proofs.border.fill_border_places.Goals as goal
+
+pub overflow_mul-top : goal.overflow_mul-top
+overflow_mul-top g c =
+    let within = rows_within c.args.geometry c.args.geometry.pad_top (omega arith) in
+    rw (c.pad_top-top.ensures, c.stride-stride.ensures) (omega (arith, c.requires.fits))
+
+pub fill_part-requires-clause-within : goal.fill_part-requires-clause-within
+fill_part-requires-clause-within g c =
+    rw (c.requires.whole, c.pad_top-top.ensures, c.stride-stride.ensures) (rows_within c.args.geometry c.args.geometry.pad_top (omega arith))
 
 pub loop-y-init : goal.loop-y-init
 loop-y-init g c =
@@ -26,6 +35,11 @@ overflow_add-start-in-loop-y g c =
     let k = c.args.geometry in
     let within = row_within k c.loop-y.y (omega (arith, c.height-y-end.ensures.value)) in
     rw (c.pad_top-top.ensures, c.stride-stride.ensures, c.pad_left-left.ensures) (omega (arith, c.requires.fits))
+
+pub overflow_mul-start : goal.overflow_mul-start
+overflow_mul-start g c =
+    let within = row_within c.args.geometry c.loop-y.y (omega (arith, c.height-y-end.ensures.value)) in
+    rw (c.pad_top-top.ensures, c.stride-stride.ensures) (omega (arith, c.requires.fits))
 
 pub fill_part-requires-in-loop-y-clause-within : goal.fill_part-requires-in-loop-y-clause-within
 fill_part-requires-in-loop-y-clause-within g c =
@@ -84,6 +98,17 @@ loop-y-preserved g c =
     }) in
     let next : (k.pad_top + (y + 1)) * stride_of k ≡ start + stride_of k = omega arith in
     rw (top, stride, next) to_right
+
+pub overflow_mul-top-2 : goal.overflow_mul-top-2
+overflow_mul-top-2 g c =
+    let within = rows_within c.args.geometry (c.args.geometry.pad_top + c.args.geometry.height) (omega arith) in
+    rw (c.pad_top-top.ensures, c.stride-stride.ensures, c.height.ensures.value) (omega (arith, c.requires.fits))
+
+pub fill_part-requires-2-clause-order : goal.fill_part-requires-2-clause-order
+fill_part-requires-2-clause-order g c =
+    let whole : length c.loop-y.buffer ≡ alloc_size_of c.args.geometry = c.loop-y.auto.buffer ∙ c.fill_part.auto.buffer ∙ c.requires.whole in
+    rw (whole, c.pad_top-top.ensures, c.stride-stride.ensures, c.height.ensures.value) (rows_within c.args.geometry (c.args.geometry.pad_top +
+    c.args.geometry.height) (omega arith))
 
 pub returns : goal.returns
 returns g c =

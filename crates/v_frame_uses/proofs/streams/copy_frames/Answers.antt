@@ -1,5 +1,5 @@
 -- One more frame was carried as it is.
-use Rattle.std.proofs.Common.{[], ◌∙◌, rules}
+use Rattle.std.proofs.Common.{◌≡◌, [], ◌∙◌, rules, arith}
 use Rattle.std.specs.Io.KnownBytes.{Consumes}
 use Rattle.v_frame.specs.Prelude.{tables_of}
 use Rattle.v_frame_planar.specs.Planar.{planar_bytes}
@@ -26,3 +26,8 @@ loop-count-preserved g c =
       carried = one_more_frame form _ _ _ _ _ _ _ _ _ before.carried shown sized read c.in_ok-write_frame.ensures.ok;
       sized = sized;
     }
+
+pub returns-clause-carried : goal.returns-clause-carried
+returns-clause-carried g c =
+    let all : c.loop-count.count ≡ c.args.most = omega arith in
+    rw all at c.loop-count.invariant.carried

@@ -3,8 +3,8 @@ use Rattle.std.proofs.Common.{◌∙◌, ◌≡◌, ◌+◌, ℕ, ◌<◌, refl,
 use Rattle.std.specs.Prelude.{◌≤◌}
 use Rattle.v_frame.specs.Prelude.{tables_of}
 use Rattle.v_frame_planar.specs.Planar.{sizes_of}
-use Rattle.yuv_frames.specs.Sums.{added}
-use Rattle.yuv_frames.specs.declared.sums.PlaneSums.{PlaneSums}
+use Rattle.yuv_commands.specs.Sums.{added}
+use Rattle.yuv_commands.specs.declared.sums.PlaneSums.{PlaneSums}
 use Rattle.yuv_commands.specs.Comparisons.{most_frames, ComparesFrames, Pair, StepReads}
 use Rattle.yuv_commands.specs.declared.compare.Comparison.{Comparison}
 use Rattle.yuv_commands.specs.declared.compare.Step.TheVariants.{Frames, End}

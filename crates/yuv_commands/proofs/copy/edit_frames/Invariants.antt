@@ -2,7 +2,7 @@
 use Rattle.std.proofs.Common.{◌≡◌}
 use Rattle.v_frame.specs.Prelude.{tables_of}
 use Rattle.v_frame_planar.specs.Planar.{sizes_of}
-use Rattle.yuv_frames.specs.Edits.{edited, EditFits}
+use Rattle.yuv_commands.specs.Edits.{edited, EditFits}
 use Rattle.yuv_commands.specs.Streams.{Carries}
 use Rattle.yuv_commands.proofs.copy.edit_frames.Given as goal
 

@@ -2,9 +2,9 @@
 use Rattle.std.specs.Prelude.{ℕ, ◌≡◌, Option, Some, None, option_map}
 use Rattle.v_frame.specs.Prelude.{Table, Tables, pixel_at, row_major, squared_errors}
 use Rattle.v_frame_ops.specs.Prelude.{IsFirstDifference}
-use Rattle.yuv_frames.specs.declared.compare.Component.{Component}
-use Rattle.yuv_frames.specs.declared.compare.Component.TheVariants.{Y, U, V}
-use Rattle.yuv_frames.specs.declared.compare.PixelDifference.{PixelDifference}
+use Rattle.yuv_commands.specs.declared.frames.Component.{Component}
+use Rattle.yuv_commands.specs.declared.frames.Component.TheVariants.{Y, U, V}
+use Rattle.yuv_commands.specs.declared.frames.PixelDifference.{PixelDifference}
 
 module _ {T : Type 0} (value : T → ℕ) where
   -- the sum of the squared errors of two planes

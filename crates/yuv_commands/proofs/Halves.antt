@@ -1,7 +1,7 @@
 -- A table whose rows are halves of the pairs of another's is that one at half the size.
 use Rattle.std.proofs.Common.{ℕ, suc, ◌≡◌, ◌+◌, ◌*◌, List, [], ◌∷◌, length, Some, slice_get, refl, ◌∙◌, ap, arith}
 use Rattle.v_frame.specs.Prelude.{PixelForm, Table, halved}
-use Rattle.yuv_frames.specs.Edits.{halved_table}
+use Rattle.yuv_commands.specs.Edits.{halved_table}
 
 module _ {T : Type 0} (form : PixelForm T) where
   pub halved_by_rows : (source target : Table T) → length source ≡ 2 * length target

@@ -1,7 +1,7 @@
 -- Numbers that belong to the planes of a frame. None is larger than what 128 bits hold.
 use Rattle.std.specs.Prelude.{ℕ, ◌+◌, ◌-◌, ◌*◌, ◌^◌, min, Option, Some, None, option_map}
-use Rattle.yuv_frames.specs.Edits.{Sizes}
-use Rattle.yuv_frames.specs.declared.sums.PlaneSums.{PlaneSums}
+use Rattle.yuv_commands.specs.Edits.{Sizes}
+use Rattle.yuv_commands.specs.declared.sums.PlaneSums.{PlaneSums}
 
 abbrev pub u128_max : ℕ
 u128_max = 2 ^ 128 - 1

@@ -4,7 +4,7 @@ use Rattle.std.proofs.lemmas.List.{length-map}
 use Rattle.std.proofs.lemmas.Option.{slice_get-map, slice_get-get_or}
 use Rattle.v_frame.specs.Prelude.{table_of}
 use Rattle.v_frame_ops.specs.Prelude.{mapped}
-use Rattle.v_frame_examples.proofs.filter.invert_by_rows.Goals as goal
+use Rattle.v_frame_uses.proofs.filter.invert_by_rows.Goals as goal
 
 pub returns-clause-table : goal.returns-clause-table
 returns-clause-table c =

@@ -1,8 +1,8 @@
 -- The tables have one size, and agree pixel by pixel.
 use Rattle.std.proofs.Common.{◌≡◌, All, length, subst, arith}
 use Rattle.v_frame.specs.Prelude.{table_of}
-use Rattle.yuv_frames.proofs.Copied.{agree_from_the_corner}
-use Rattle.yuv_frames.proofs.edit.copy_plane.Goals as goal
+use Rattle.yuv_commands.proofs.Copied.{agree_from_the_corner}
+use Rattle.yuv_commands.proofs.edit.copy_plane.Goals as goal
 
 pub returns-clause-shown : goal.returns-clause-shown
 returns-clause-shown g c =

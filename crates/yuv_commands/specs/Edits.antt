@@ -2,8 +2,8 @@
 use Rattle.std.specs.Prelude.{ℕ, ◌≡◌, ◌+◌, ◌*◌, ◌/◌, ◌≤◌, if◌then◌else◌, ⊤, Bool, [], ◌∷◌, Option, Some, None, option_map}
 use Rattle.std.specs.Int.{div_ceil}
 use Rattle.v_frame.specs.Prelude.{PixelForm, Table, Tables, halved, rectangle}
-use Rattle.yuv_frames.specs.declared.edit.Rectangle.{Rectangle}
-use Rattle.yuv_frames.specs.declared.edit.Edit.{Edit}
+use Rattle.yuv_commands.specs.declared.edit.Rectangle.{Rectangle}
+use Rattle.yuv_commands.specs.declared.edit.Edit.{Edit}
 
 -- the width and the height of each plane
 abbrev pub Sizes : Type 0

@@ -2,7 +2,7 @@
 ghost use Rattle.std.specs.Prelude.{◌≡◌, ◌<◌, ◌↔◌, IfSome, IsNone, IsTrue, Some, option_map};
 ghost use Rattle.v_frame.specs.Prelude.{pixel_at, table_of, tables_of};
 ghost use Rattle.v_frame_planar.specs.Planar.{size_of, sizes_of};
-ghost use Rattle.yuv_frames.specs.Frames.{chroma_errors, plane_errors, DiffersFirst, ChromaDiffersFirst, FramesDifferFirst};
+ghost use Rattle.yuv_commands.specs.Frames.{chroma_errors, plane_errors, DiffersFirst, ChromaDiffersFirst, FramesDifferFirst};
 
 use crate::sums::PlaneSums;
 use std::fmt;

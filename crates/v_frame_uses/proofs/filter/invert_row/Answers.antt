@@ -2,7 +2,7 @@
 use Rattle.std.proofs.Common.{ℕ, ◌<◌, ◌-◌, length, slice_index_or, sym, arith}
 use Rattle.std.proofs.lemmas.List.Edits.{map_over_more}
 use Rattle.std.proofs.lemmas.Option.{get_or_from_slice_get, slice_get-get_or}
-use Rattle.v_frame_examples.proofs.filter.invert_row.Goals as goal
+use Rattle.v_frame_uses.proofs.filter.invert_row.Goals as goal
 
 pub loop-pixel-preserved : goal.loop-pixel-preserved
 loop-pixel-preserved c =

@@ -2,7 +2,7 @@
 use Rattle.std.proofs.Common.{ℕ, ◌≡◌, ◌-◌, ◌<◌, ◌≤◌, List, length, Some, slice_get}
 use Rattle.v_frame.specs.Prelude.{KeepsBorder, table_of}
 use Rattle.v_frame_ops.specs.Prelude.{mapped}
-use Rattle.v_frame_examples.proofs.filter.invert_by_rows.Given as goal
+use Rattle.v_frame_uses.proofs.filter.invert_by_rows.Given as goal
 
 abbrev pub invariant-loop-y : goal.invariant-loop-y
 invariant-loop-y l = record {

@@ -1,8 +1,8 @@
 //! Numbers that belong to the planes of a frame.
-ghost use Rattle.std.specs.Prelude.{◌≡◌, ◌+◌, unwrap_or};
+ghost use Rattle.std.specs.Prelude.{◌≡◌, ◌+◌, ◌*◌, option_map, unwrap_or};
 ghost use Rattle.v_frame.specs.Prelude.{table_of, tables_of};
 ghost use Rattle.v_frame_planar.specs.Planar.{size_of, sizes_of};
-ghost use Rattle.yuv_frames.specs.Sums.{added, added_chroma, at_most, multiplied, pixels_of_size, pixels_of_sizes};
+ghost use Rattle.yuv_commands.specs.Sums.{added, added_chroma, at_most, multiplied, pixels_of_size, pixels_of_sizes};
 
 use v_frame::frame::Frame;
 use v_frame::pixel::Pixel;
@@ -38,8 +38,8 @@ impl PlaneSums {
         let count = u128::from(count);
         PlaneSums {
             y: self.y.saturating_mul(count),
-            u: self.u.map(|number| number.saturating_mul(count)),
-            v: self.v.map(|number| number.saturating_mul(count)),
+            u: times_chroma(self.u, count),
+            v: times_chroma(self.v, count),
         }
     }
 
@@ -61,6 +61,16 @@ fn plus_chroma(first: Option<u128>, second: Option<u128>) -> Option<u128>
     match (first, second) {
         (Some(first), Some(second)) => Some(first.saturating_add(second)),
         _ => None,
+    }
+}
+
+/// The number of a chroma plane so many times, where it is there.
+fn times_chroma(number: Option<u128>, count: u128) -> Option<u128>
+    ensures { result ≡ option_map (λ number. at_most (number * count)) number }
+{
+    match number {
+        Some(number) => Some(number.saturating_mul(count)),
+        None => None,
     }
 }
 

@@ -2,7 +2,7 @@
 ghost use Rattle.std.specs.Prelude.{◌≡◌, ◌+◌, ◌*◌, ◌%◌, ◌<◌, ◌≤◌, ◌↔◌, IfOk, IfErr, IsTrue, option_map, unwrap_or};
 ghost use Rattle.v_frame.specs.Prelude.{KeepsBorder, KeepsBorders, ratio_of, rectangle, table_of, tables_of, unshown};
 ghost use Rattle.v_frame_planar.specs.Planar.{size_of, sizes_of};
-ghost use Rattle.yuv_frames.specs.Edits.{beside, edited, edited_table, halved_table, ChromaFits, EditFits, PlaneFits};
+ghost use Rattle.yuv_commands.specs.Edits.{beside, edited, edited_table, halved_table, ChromaFits, EditFits, PlaneFits};
 
 use thiserror::Error;
 use v_frame::chroma::ChromaSubsampling;
