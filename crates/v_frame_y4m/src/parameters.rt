@@ -1,5 +1,5 @@
 //! The pieces of a header line, and those among them that have a letter.
-ghost use Rattle.std.specs.Prelude.{◌≡◌, ◌↔◌, ◌∷◌, map, slice_index, All, Contains, IfOk, IfErr, IfSome, IsTrue};
+ghost use Rattle.std.specs.Prelude.{List, ℕ, ◌≡◌, ◌↔◌, ◌∷◌, map, slice_index, All, Contains, IfOk, IfErr, IfSome, IsTrue};
 ghost use Rattle.v_frame_y4m.specs.Faults.{HasFault, IsOnce};
 ghost use Rattle.v_frame_y4m.specs.Header.{letters, of_letter, parameter_of, pieces};
 
@@ -26,10 +26,22 @@ pub(crate) fn check_letters(alloc: Global, parameters: &[&[u8]]) -> Result<(), H
 {
     for &parameter in parameters {
         if !has_known_letter(parameter) {
-            return Err(HeaderError::Malformed(Text::new(alloc, parameter)?));
+            return Err(malformed(alloc, parameter));
         }
     }
     Ok(())
+}
+
+/// The error that a parameter is malformed, if there is memory to tell it.
+pub(crate) fn malformed(alloc: Global, text: &[u8]) -> HeaderError
+    ensures { (parameters : List (List ℕ))
+        → HasFault parameters (HeaderError.Malformed (record { bytes = text.now }))
+        → HasFault parameters result }
+{
+    match Text::new(alloc, text) {
+        Ok(text) => HeaderError::Malformed(text),
+        Err(_refused) => HeaderError::OutOfMemory,
+    }
 }
 
 /// Whether the first byte is one of the letters.

@@ -8,7 +8,7 @@ use crate::colour::Colour;
 use crate::error::HeaderError;
 use crate::header::{Interlacing, Ratio, StreamHeader};
 use crate::numbers::{are_digits, number, ratio};
-use crate::parameters::{check_letters, extensions, only, pieces_of};
+use crate::parameters::{check_letters, extensions, malformed, only, pieces_of};
 use crate::text::Text;
 use std::alloc::Global;
 
@@ -92,7 +92,7 @@ fn length(alloc: Global, parameters: &[&[u8]], letter: u8) -> Result<usize, Head
         Some(0) => Err(HeaderError::ZeroSize(letter as char)),
         Some(n) => Ok(n as usize),
         None if are_digits(digits) => { Err(HeaderError::SizeTooLarge(Text::new(alloc, text)?)) }
-        None => Err(HeaderError::Malformed(Text::new(alloc, text)?)),
+        None => Err(malformed(alloc, text)),
     }
 }
 
@@ -125,7 +125,7 @@ fn rate(alloc: Global, parameters: &[&[u8]], letter: u8) -> Result<Option<Ratio>
     };
     match ratio(value) {
         Some(found) => Ok(Some(found)),
-        None => Err(HeaderError::Malformed(Text::new(alloc, text)?)),
+        None => Err(malformed(alloc, text)),
     }
 }
 
@@ -140,7 +140,7 @@ fn interlacing(alloc: Global, parameters: &[&[u8]]) -> Result<Option<Interlacing
     };
     match Interlacing::parse(value) {
         Some(found) => Ok(Some(found)),
-        None => Err(HeaderError::Malformed(Text::new(alloc, text)?)),
+        None => Err(malformed(alloc, text)),
     }
 }
 

@@ -35,7 +35,7 @@ impl fmt::Display for Text {
             } else {
                 '?'
             };
-            write!(f, "{shown}")?;
+            f.write_char(shown)?;
         }
         Ok(())
     }

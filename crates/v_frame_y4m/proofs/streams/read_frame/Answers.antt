@@ -1,5 +1,6 @@
 -- What stands behind the line of a frame, and where its bytes stop.
-use Rattle.std.proofs.Common.{[], length, subst}
+use Rattle.std.proofs.Common.{arith, [], length, subst}
+use Rattle.std.proofs.lemmas.Grind.{common_steps}
 use Rattle.v_frame.specs.Prelude.{tables_of}
 use Rattle.v_frame_planar.specs.Planar.{planar_bytes}
 use Rattle.v_frame_y4m.specs.Streams.{MayStopInFrame, ReadsFrame}
@@ -32,3 +33,33 @@ returns-in_err-read_planar-clause-error g c =
     let error = c.in_err-read_planar.field-0.0 in
     let stopped = bytes_stop remaining old mid new taken.0 taken.3 n taken.1 c.in_ok-more.ensures.uncounted error c.in_err-read_planar.ensures.error in
     handed_on (MayStopInFrame remaining old new n) _ error c.from_residual-in_err-read_planar.ensures.1 stopped
+
+pub returns-then-not-more-clause-read : goal.returns-then-not-more-clause-read
+returns-then-not-more-clause-read g c = grind (arith, common_steps)
+
+pub returns-clause-borders : goal.returns-clause-borders
+returns-clause-borders g c = grind (arith, common_steps)
+
+pub returns-clause-sizes : goal.returns-clause-sizes
+returns-clause-sizes g c = grind (arith, common_steps)
+
+pub returns-then-not-more-clause-borders : goal.returns-then-not-more-clause-borders
+returns-then-not-more-clause-borders g c = grind (arith, common_steps)
+
+pub returns-in_err-read_planar-clause-borders : goal.returns-in_err-read_planar-clause-borders
+returns-in_err-read_planar-clause-borders g c = grind (arith, common_steps)
+
+pub returns-in_err-read_planar-clause-sizes : goal.returns-in_err-read_planar-clause-sizes
+returns-in_err-read_planar-clause-sizes g c = grind (arith, common_steps)
+
+pub returns-then-not-more-clause-sizes : goal.returns-then-not-more-clause-sizes
+returns-then-not-more-clause-sizes g c = grind (arith, common_steps)
+
+pub returns-clause-at_end : goal.returns-clause-at_end
+returns-clause-at_end g c = grind (arith, common_steps)
+
+pub returns-in_err-more-clause-borders : goal.returns-in_err-more-clause-borders
+returns-in_err-more-clause-borders g c = grind (arith, common_steps)
+
+pub returns-in_err-more-clause-sizes : goal.returns-in_err-more-clause-sizes
+returns-in_err-more-clause-sizes g c = grind (arith, common_steps)

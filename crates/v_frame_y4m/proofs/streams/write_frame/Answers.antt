@@ -1,5 +1,6 @@
 -- What was written is a beginning of the line and the planar bytes.
-use Rattle.std.proofs.Common.{rules}
+use Rattle.std.proofs.Common.{arith, rules}
+use Rattle.std.proofs.lemmas.Grind.{common_steps}
 use Rattle.std.specs.Prelude.{codes}
 use Rattle.v_frame.specs.Prelude.{tables_of}
 use Rattle.v_frame_planar.specs.Planar.{planar_bytes}
@@ -18,3 +19,6 @@ returns-in_err-write_frame-clause-error g c =
     (tables_of c.args.frame.now)) g.W.Write.contents c.args.writer.now c.write_all.new.self c.write_frame.new.writer (search rules)
     (search rules) c.in_err-write_frame.field-0.0 (search rules) in
     search rules
+
+pub returns-clause-ok : goal.returns-clause-ok
+returns-clause-ok g c = grind (arith, common_steps)

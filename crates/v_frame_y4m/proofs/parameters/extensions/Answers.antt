@@ -1,0 +1,10 @@
+-- One more parameter was looked at.
+use Rattle.std.proofs.Common.{arith}
+use Rattle.std.proofs.lemmas.Grind.{common_steps}
+use Rattle.v_frame_y4m.proofs.parameters.extensions.Goals as goal
+
+pub loop-parameter-preserved : goal.loop-parameter-preserved
+loop-parameter-preserved c = grind (arith, common_steps)
+
+pub returns : goal.returns
+returns c = grind (arith, common_steps)
