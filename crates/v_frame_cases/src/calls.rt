@@ -1,122 +1,143 @@
 //! The calls of a case.
 
-use crate::fault::{CaseFault, LineFault};
-use crate::lines::Lines;
-use crate::tokens::Tokens;
+use crate::fault::LineFault;
+use crate::input::Input;
+use crate::lists::Entry;
 use crate::value::Value;
-use std::alloc::Global;
 use v_frame::replay::VisibleCall;
 
-/// Reads how many calls there are, where another line is this fault.
-pub fn read_count(lines: &mut Lines<'_>, other: LineFault) -> Result<u64, CaseFault> {
-    let mut tokens = lines.next_line();
-    tokens.keyword("calls", other);
-    let count = tokens.number();
-    tokens.end()?;
-    Ok(count)
+/// The names of the calls.
+#[derive(Clone, Copy)]
+enum Name {
+    Read(ReadName),
+    Write(WriteName),
 }
 
-/// Reads the calls, a line each.
-pub fn read_calls<T: Value>(
-    alloc: Global,
-    lines: &mut Lines<'_>,
-) -> Result<Vec<VisibleCall<T>>, CaseFault> {
-    let mut calls = Vec::new(alloc);
-    for _ in 0..read_count(lines, LineFault::NotAnEdit)? {
-        let mut tokens = lines.next_line();
-        calls.push(read_call(alloc, &mut tokens))?;
-        tokens.end()?;
-    }
-    Ok(calls)
+/// Those that read.
+#[derive(Clone, Copy)]
+enum ReadName {
+    Width,
+    Height,
+    Row,
+    Pixel,
+    Rows,
+    Pixels,
+    ByteData,
 }
 
-/// Reads a call. What is none is a fault, and reads as any.
-fn read_call<T: Value>(alloc: Global, tokens: &mut Tokens<'_>) -> VisibleCall<T> {
-    let name = tokens.word();
-    let plane = tokens.size();
-    match name {
-        "Width" => VisibleCall::Width { plane },
-        "Height" => VisibleCall::Height { plane },
-        "Row" => VisibleCall::Row {
-            plane,
-            y: tokens.size(),
-        },
-        "Pixel" => VisibleCall::Pixel {
-            plane,
-            x: tokens.size(),
-            y: tokens.size(),
-        },
-        "Rows" => VisibleCall::Rows {
-            plane,
-            draws: tokens.list(alloc),
-        },
-        "Pixels" => VisibleCall::Pixels {
-            plane,
-            draws: tokens.list(alloc),
-        },
-        "ByteData" => VisibleCall::ByteData {
-            plane,
-            draws: tokens.list(alloc),
-        },
-        name => read_write(alloc, name, plane, tokens),
-    }
+/// Those that write.
+#[derive(Clone, Copy)]
+enum WriteName {
+    RowMut,
+    PixelMut,
+    RowsMut,
+    PixelsMut,
+    CopyFromSlice,
+    CopyFromU8Slice,
+    CopyFromU8SliceWithStride,
 }
 
-/// Reads a call that writes, behind its plane.
-fn read_write<T: Value>(
-    alloc: Global,
-    name: &str,
-    plane: usize,
-    tokens: &mut Tokens<'_>,
-) -> VisibleCall<T> {
-    match name {
-        "RowMut" => VisibleCall::RowMut {
-            plane,
-            y: tokens.size(),
-            writes: tokens.list(alloc),
-        },
-        "PixelMut" => VisibleCall::PixelMut {
-            plane,
-            x: tokens.size(),
-            y: tokens.size(),
-            value: tokens.pixel(),
-        },
-        "RowsMut" => VisibleCall::RowsMut {
-            plane,
-            draws: tokens.list(alloc),
-        },
-        "PixelsMut" => VisibleCall::PixelsMut {
-            plane,
-            draws: tokens.list(alloc),
-        },
-        name => read_copy(alloc, name, plane, tokens),
-    }
-}
+/// How they are spelled.
+const NAMES: [(&str, Name); 14] = [
+    ("Width", Name::Read(ReadName::Width)),
+    ("Height", Name::Read(ReadName::Height)),
+    ("Row", Name::Read(ReadName::Row)),
+    ("Pixel", Name::Read(ReadName::Pixel)),
+    ("Rows", Name::Read(ReadName::Rows)),
+    ("Pixels", Name::Read(ReadName::Pixels)),
+    ("ByteData", Name::Read(ReadName::ByteData)),
+    ("RowMut", Name::Write(WriteName::RowMut)),
+    ("PixelMut", Name::Write(WriteName::PixelMut)),
+    ("RowsMut", Name::Write(WriteName::RowsMut)),
+    ("PixelsMut", Name::Write(WriteName::PixelsMut)),
+    ("CopyFromSlice", Name::Write(WriteName::CopyFromSlice)),
+    ("CopyFromU8Slice", Name::Write(WriteName::CopyFromU8Slice)),
+    (
+        "CopyFromU8SliceWithStride",
+        Name::Write(WriteName::CopyFromU8SliceWithStride),
+    ),
+];
 
-/// Reads a call that copies, behind its plane.
-fn read_copy<T: Value>(
-    alloc: Global,
-    name: &str,
-    plane: usize,
-    tokens: &mut Tokens<'_>,
-) -> VisibleCall<T> {
-    match name {
-        "CopyFromSlice" => VisibleCall::CopyFromSlice {
-            plane,
-            source: tokens.source(alloc),
-        },
-        "CopyFromU8Slice" => VisibleCall::CopyFromU8Slice {
-            plane,
-            source: tokens.source(alloc),
-        },
-        "CopyFromU8SliceWithStride" => VisibleCall::CopyFromU8SliceWithStride {
-            plane,
-            stride: tokens.size(),
-            source: tokens.source(alloc),
-        },
-        _ => {
-            tokens.keep(LineFault::UnknownCall);
-            VisibleCall::Width { plane }
+/// A call has a line of its own. What is none is a fault, and reads as any.
+impl<T: Value> Entry for VisibleCall<T> {
+    fn read(input: &mut Input<'_>) -> Self {
+        input.next_line();
+        let name = input.choice(&NAMES);
+        let plane = input.size();
+        match name {
+            Some(Name::Read(name)) => read_reading(input, name, plane),
+            Some(Name::Write(name)) => read_writing(input, name, plane),
+            None => {
+                input.keep(LineFault::UnknownCall);
+                VisibleCall::Width { plane }
+            }
         }
+    }
+}
+
+/// Reads the rest of a call that reads.
+fn read_reading<T: Value>(input: &mut Input<'_>, name: ReadName, plane: usize) -> VisibleCall<T> {
+    match name {
+        ReadName::Width => VisibleCall::Width { plane },
+        ReadName::Height => VisibleCall::Height { plane },
+        ReadName::Row => VisibleCall::Row {
+            plane,
+            y: input.size(),
+        },
+        ReadName::Pixel => VisibleCall::Pixel {
+            plane,
+            x: input.size(),
+            y: input.size(),
+        },
+        ReadName::Rows => VisibleCall::Rows {
+            plane,
+            draws: input.list(),
+        },
+        ReadName::Pixels => VisibleCall::Pixels {
+            plane,
+            draws: input.list(),
+        },
+        ReadName::ByteData => VisibleCall::ByteData {
+            plane,
+            draws: input.list(),
+        },
+    }
+}
+
+/// Reads the rest of a call that writes.
+fn read_writing<T: Value>(input: &mut Input<'_>, name: WriteName, plane: usize) -> VisibleCall<T> {
+    match name {
+        WriteName::RowMut => VisibleCall::RowMut {
+            plane,
+            y: input.size(),
+            writes: input.list(),
+        },
+        WriteName::PixelMut => VisibleCall::PixelMut {
+            plane,
+            x: input.size(),
+            y: input.size(),
+            value: input.pixel(),
+        },
+        WriteName::RowsMut => VisibleCall::RowsMut {
+            plane,
+            draws: input.list(),
+        },
+        WriteName::PixelsMut => VisibleCall::PixelsMut {
+            plane,
+            draws: input.list(),
+        },
+        WriteName::CopyFromSlice => VisibleCall::CopyFromSlice {
+            plane,
+            source: input.source(),
+        },
+        WriteName::CopyFromU8Slice => VisibleCall::CopyFromU8Slice {
+            plane,
+            source: input.source(),
+        },
+        WriteName::CopyFromU8SliceWithStride => VisibleCall::CopyFromU8SliceWithStride {
+            plane,
+            stride: input.size(),
+            source: input.source(),
+        },
     }
 }

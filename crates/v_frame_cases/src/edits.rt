@@ -1,122 +1,99 @@
-//! Frames: how they are built, and what is edited before the calls.
+//! What is edited in a frame before the calls.
 
-use crate::fault::{CaseFault, LineFault};
+use crate::fault::LineFault;
 use crate::fills::fill_plane;
-use crate::lines::Lines;
+use crate::input::Input;
 use crate::spec::Spec;
-use crate::tokens::Tokens;
-use std::alloc::Global;
+use v_frame::chroma::ChromaSubsampling;
 use v_frame::frame::Frame;
 use v_frame::pixel::Pixel;
 use v_frame::plane::Plane;
 
-/// The line that begins a frame.
-#[derive(Drop)]
-pub struct FrameLine {
-    /// What the frame should be.
-    pub spec: Spec,
-    /// The number of the line.
-    pub line: u64,
+/// What begins a line behind a frame.
+#[derive(Clone, Copy)]
+pub enum Line {
+    /// A plane that is put in.
+    Put,
+    /// A plane that is taken away.
+    Drop,
+    /// What is written into a plane.
+    Fill,
+    /// The second frame of a pair.
+    Frame,
+    /// The calls.
+    Calls,
 }
 
-impl FrameLine {
-    /// Reads the line.
-    pub fn read(lines: &mut Lines<'_>, other: LineFault) -> Result<Self, CaseFault> {
-        let mut tokens = lines.next_line();
-        tokens.keyword("frame", other);
-        let spec = Spec::read(&mut tokens)?;
-        let line = tokens.line();
-        Ok(FrameLine { spec, line })
-    }
+/// Their first words.
+const LINES: [(&str, Line); 5] = [
+    ("put", Line::Put),
+    ("drop", Line::Drop),
+    ("fill", Line::Fill),
+    ("frame", Line::Frame),
+    ("calls", Line::Calls),
+];
 
-    /// Builds the frame, and makes the edits of the lines behind it.
-    pub fn frame<T: Pixel>(
-        &self,
-        alloc: Global,
-        lines: &mut Lines<'_>,
-    ) -> Result<Frame<T>, CaseFault> {
-        let mut frame = self.spec.frame(alloc, self.line)?;
-        for _edit in 0..u64::MAX {
-            let mut ahead = *lines;
-            if !edit_frame(alloc, &mut frame, &mut ahead)? {
+/// Makes the edits of the next lines, and reads the word that has to begin the line behind them: that of a frame or of calls.
+pub fn edit_frame<T: Pixel>(frame: &mut Frame<T>, input: &mut Input<'_>, behind: Line) {
+    for _edit in 0..u64::MAX {
+        input.next_line();
+        match (input.choice(&LINES), behind) {
+            (Some(Line::Put), _) => put_plane(frame, input),
+            (Some(Line::Drop), _) => drop_plane(frame, input),
+            (Some(Line::Fill), _) => fill(frame, input),
+            (Some(Line::Frame), Line::Frame) | (Some(Line::Calls), Line::Calls) => break,
+            _ => {
+                input.keep(LineFault::NotAnEdit);
                 break;
             }
-            *lines = ahead;
         }
-        Ok(frame)
-    }
-}
-
-/// Makes the edit of the next line, where it is one.
-fn edit_frame<T: Pixel>(
-    alloc: Global,
-    frame: &mut Frame<T>,
-    lines: &mut Lines<'_>,
-) -> Result<bool, CaseFault> {
-    let mut tokens = lines.next_line();
-    let edited = match tokens.word() {
-        "put" => put_plane(alloc, frame, &mut tokens),
-        "drop" => drop_plane(frame, &mut tokens),
-        "fill" => fill(alloc, frame, &mut tokens),
-        _ => return Ok(false),
-    };
-    match edited {
-        Ok(()) => Ok(true),
-        Err(fault) => Err(fault),
     }
 }
 
 /// Puts a new plane of zeros in the place of one, or where there is none.
-fn put_plane<T: Pixel>(
-    alloc: Global,
-    frame: &mut Frame<T>,
-    tokens: &mut Tokens<'_>,
-) -> Result<(), CaseFault> {
-    let index = tokens.size();
-    let luma = Spec::read_luma::<T>(tokens, frame.bit_depth.get())?;
-    let Frame { y_plane: plane, .. } = luma.frame(alloc, tokens.line())?;
-    if put_at(frame, index, plane) {
-        Ok(())
-    } else {
-        Err(tokens.fault(LineFault::UnknownPlane))
+fn put_plane<T: Pixel>(frame: &mut Frame<T>, input: &mut Input<'_>) {
+    let index = input.size();
+    let luma = Spec {
+        bytes: T::BYTES,
+        depth: frame.bit_depth.get(),
+        size: input.sizes(),
+        format: ChromaSubsampling::Monochrome,
+        paddings: input.sizes(),
+    };
+    input.end();
+    if let Some(Frame { y_plane, .. }) = luma.frame(input) {
+        set_plane(frame, input, index, Some(y_plane));
     }
-}
-
-/// Puts a plane in the place of this index, where there is such a place.
-fn put_at<T: Pixel>(frame: &mut Frame<T>, index: usize, plane: Plane<T>) -> bool {
-    match index {
-        0 => frame.y_plane = plane,
-        1 => frame.u_plane = Some(plane),
-        2 => frame.v_plane = Some(plane),
-        _ => return false,
-    }
-    true
 }
 
 /// Takes a chroma plane away.
-fn drop_plane<T: Pixel>(frame: &mut Frame<T>, tokens: &mut Tokens<'_>) -> Result<(), CaseFault> {
-    let index = tokens.size();
-    tokens.end()?;
-    match index {
-        1 => frame.u_plane = None,
-        2 => frame.v_plane = None,
-        _ => return Err(tokens.fault(LineFault::UnknownPlane)),
+fn drop_plane<T: Pixel>(frame: &mut Frame<T>, input: &mut Input<'_>) {
+    let index = input.size();
+    input.end();
+    set_plane(frame, input, index, None);
+}
+
+/// Sets the plane of an index, or none where there can be none.
+fn set_plane<T: Pixel>(
+    frame: &mut Frame<T>,
+    input: &mut Input<'_>,
+    index: usize,
+    plane: Option<Plane<T>>,
+) {
+    match (index, plane) {
+        (0, Some(plane)) => frame.y_plane = plane,
+        (1, plane) => frame.u_plane = plane,
+        (2, plane) => frame.v_plane = plane,
+        _ => input.keep(LineFault::UnknownPlane),
     }
-    Ok(())
 }
 
 /// Writes into the buffer of a plane.
-fn fill<T: Pixel>(
-    alloc: Global,
-    frame: &mut Frame<T>,
-    tokens: &mut Tokens<'_>,
-) -> Result<(), CaseFault> {
-    let index = tokens.size();
-    if index > 2 {
-        return Err(tokens.fault(LineFault::UnknownPlane));
-    }
+fn fill<T: Pixel>(frame: &mut Frame<T>, input: &mut Input<'_>) {
+    let index = input.size();
     match frame.plane_mut(index) {
-        Some(plane) => fill_plane(alloc, plane, tokens),
-        None => Err(tokens.fault(LineFault::AbsentPlane)),
+        Some(plane) => fill_plane(plane, input),
+        None if index > 2 => input.keep(LineFault::UnknownPlane),
+        None => input.keep(LineFault::AbsentPlane),
     }
 }

@@ -1,6 +1,5 @@
 //! Why the program gives up.
 
-use std::alloc::{AllocError, AllocFailed};
 use std::fmt;
 use std::io::{self, ErrorKind};
 use v_frame::frame::FrameError;
@@ -93,19 +92,27 @@ impl fmt::Display for CaseFault {
             CaseFault::Read => f.write_str("cannot read the input"),
             CaseFault::Write => f.write_str("cannot write the output"),
             CaseFault::OutOfMemory => f.write_str("out of memory"),
-            CaseFault::Malformed { line, fault } => write!(f, "line {line}: {fault}"),
+            CaseFault::Malformed { line, fault } => match fault {
+                LineFault::FillLength { expected, found } => {
+                    write!(
+                        f,
+                        "line {line}: expected {expected} pixels to fill, found {found}"
+                    )
+                }
+                LineFault::NotBuilt(error) => write!(f, "line {line}: not built: {error}"),
+                other => write!(f, "line {line}: {}", other.text()),
+            },
         }
     }
 }
 
-impl fmt::Display for LineFault {
-    fn fmt<W: fmt::Write>(&self, f: &mut fmt::Formatter<W>) -> fmt::Result {
-        match self {
-            LineFault::FillLength { expected, found } => {
-                write!(f, "expected {expected} pixels to fill, found {found}")
-            }
-            LineFault::NotBuilt(error) => write!(f, "not built: {error}"),
-            other => f.write_str(other.text()),
+impl CaseFault {
+    /// That of a read or a write that failed, where memory was not what it lacked.
+    pub fn of_io(error: &io::Error, other: CaseFault) -> Self {
+        if error.kind() == ErrorKind::OutOfMemory {
+            CaseFault::OutOfMemory
+        } else {
+            other
         }
     }
 }
@@ -141,29 +148,6 @@ impl LineFault {
             LineFault::OtherPixelType => "the frames of a pair have pixels of two types",
             LineFault::FillLength { .. } => "wrong number of pixels to fill",
             LineFault::NotBuilt(_) => "not built",
-        }
-    }
-}
-
-impl From<AllocError> for CaseFault {
-    fn from(_refused: AllocError) -> Self {
-        CaseFault::OutOfMemory
-    }
-}
-
-impl<T: Drop> From<AllocFailed<T>> for CaseFault {
-    fn from(_refused: AllocFailed<T>) -> Self {
-        CaseFault::OutOfMemory
-    }
-}
-
-/// For what is written.
-impl From<io::Error> for CaseFault {
-    fn from(error: io::Error) -> Self {
-        if error.kind() == ErrorKind::OutOfMemory {
-            CaseFault::OutOfMemory
-        } else {
-            CaseFault::Write
         }
     }
 }

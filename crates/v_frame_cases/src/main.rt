@@ -11,20 +11,20 @@ mod cases;
 mod edits;
 mod fault;
 mod fills;
+mod input;
 mod lcg;
-mod lines;
+mod lists;
 mod print;
 mod printer;
 mod run;
 mod spec;
-mod tokens;
 mod value;
 
 use run::run_cases;
 use std::process::ExitCode;
 
 fn main(rt: HostRuntime) -> ExitCode {
-    match run_cases(rt.alloc(), rt.stdin(), rt.stdout()) {
+    match run_cases(rt.alloc(), &mut rt.stdin(), &mut rt.stdout()) {
         Ok(()) => ExitCode::SUCCESS,
         Err(fault) => {
             let _ = eprintln!(rt; "{fault}");

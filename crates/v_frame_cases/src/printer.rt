@@ -1,6 +1,5 @@
 //! Text that is made piece by piece.
 
-use crate::fault::CaseFault;
 use std::alloc::Global;
 use std::fmt::Display;
 
@@ -25,13 +24,9 @@ impl Printer {
         self.text.as_bytes()
     }
 
-    /// Sees that the text was not cut off.
-    pub fn check(&self) -> Result<(), CaseFault> {
-        if self.is_cut_off {
-            Err(CaseFault::OutOfMemory)
-        } else {
-            Ok(())
-        }
+    /// Whether the text was cut off.
+    pub fn is_cut_off(&self) -> bool {
+        self.is_cut_off
     }
 
     /// Cuts the text off here.

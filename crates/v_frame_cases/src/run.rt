@@ -2,45 +2,43 @@
 
 use crate::cases::answer_cases;
 use crate::fault::CaseFault;
-use crate::lines::Lines;
+use crate::input::Input;
 use crate::printer::Printer;
 use std::alloc::Global;
-use std::io::{ErrorKind, Read, Write};
+use std::io::{Read, Write};
 
 /// Reads cases to the end of the input, and writes the answer of each.
 ///
 /// # Errors
 ///
 /// The first fault that is met. The cases before it are answered, as far as the writer takes what it is given.
-pub fn run_cases<R: Read, W: Write + Drop>(
+pub fn run_cases<R: Read, W: Write>(
     alloc: Global,
-    mut input: R,
-    mut out: W,
-) -> Result<(), CaseFault>
-where
-    R: Drop,
-{
-    let text = read_input(alloc, &mut input)?;
+    reader: &mut R,
+    writer: &mut W,
+) -> Result<(), CaseFault> {
+    let mut text = Vec::new(alloc);
+    if let Err(error) = reader.read_to_end(&mut text) {
+        return Err(CaseFault::of_io(&error, CaseFault::Read));
+    }
+    let mut input = Input::new(alloc, text.as_slice());
     let mut answers = Printer::new(alloc);
-    let answered = answer_cases(alloc, Lines::new(text.as_slice()), &mut answers);
-    let written = write_output(&mut out, answers.as_bytes());
-    answered?;
-    written
+    answer_cases(&mut input, &mut answers);
+    let written = write_output(writer, answers.as_bytes());
+    match input.into_fault() {
+        Some(fault) => Err(fault),
+        None => written,
+    }
 }
 
 /// Writes all bytes of the output.
-fn write_output<W: Write>(out: &mut W, text: &[u8]) -> Result<(), CaseFault> {
-    out.write_all(text)?;
-    out.flush()?;
-    Ok(())
-}
-
-/// All bytes of the input.
-fn read_input<R: Read>(alloc: Global, input: &mut R) -> Result<Vec<u8>, CaseFault> {
-    let mut text = Vec::new(alloc);
-    match input.read_to_end(&mut text) {
-        Ok(_) => Ok(text),
-        Err(error) if error.kind() == ErrorKind::OutOfMemory => Err(CaseFault::OutOfMemory),
-        Err(_) => Err(CaseFault::Read),
+fn write_output<W: Write>(writer: &mut W, text: &[u8]) -> Result<(), CaseFault> {
+    let written = match writer.write_all(text) {
+        Ok(()) => writer.flush(),
+        Err(error) => Err(error),
+    };
+    match written {
+        Ok(()) => Ok(()),
+        Err(error) => Err(CaseFault::of_io(&error, CaseFault::Write)),
     }
 }

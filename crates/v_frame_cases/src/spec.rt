@@ -1,63 +1,71 @@
 //! What a frame should be.
 
 use crate::fault::{CaseFault, LineFault};
-use crate::tokens::Tokens;
+use crate::input::Input;
+use crate::lists::Entry;
 use std::alloc::Global;
 use v_frame::chroma::ChromaSubsampling;
 use v_frame::frame::{Frame, FrameBuilder, FrameError};
 use v_frame::pixel::Pixel;
 
-/// The type of the pixels.
-#[derive(Clone, Copy, PartialEq, Eq)]
-pub enum PixelType {
-    /// One byte.
-    U8,
-    /// Two bytes.
-    U16,
-}
-
 /// Type, depth, luma size, format and luma paddings.
 #[derive(Clone, Copy)]
 pub struct Spec {
-    /// The type of the pixels.
-    pub pixel_type: PixelType,
-    depth: u8,
+    /// The bytes of a pixel: 1 of `u8`, 2 of `u16`.
+    pub bytes: usize,
+    /// The bits of a pixel.
+    pub depth: u8,
     /// The visible columns and rows of luma.
-    size: [usize; 2],
-    format: ChromaSubsampling,
+    pub size: [usize; 2],
+    /// The format.
+    pub format: ChromaSubsampling,
     /// The border columns of luma on the left and on the right, and its border rows at the top and at the bottom.
-    paddings: [usize; 4],
+    pub paddings: [usize; 4],
 }
 
-impl Spec {
-    /// Reads the rest of a line.
-    pub fn read(tokens: &mut Tokens<'_>) -> Result<Self, CaseFault> {
-        let spec = Spec {
-            pixel_type: read_type(tokens),
-            depth: tokens.byte(),
-            size: tokens.sizes(),
-            format: read_format(tokens),
-            paddings: tokens.sizes(),
-        };
-        tokens.end()?;
-        Ok(spec)
-    }
+/// The types of pixels, by their bytes.
+const TYPES: [(&str, usize); 2] = [("u8", 1), ("u16", 2)];
 
-    /// Reads a frame of luma alone, of this depth and of pixels of this type.
-    pub fn read_luma<T: Pixel>(tokens: &mut Tokens<'_>, depth: u8) -> Result<Self, CaseFault> {
-        let spec = Spec {
-            pixel_type: if T::BYTES == 1 {
-                PixelType::U8
-            } else {
-                PixelType::U16
-            },
-            depth,
-            size: tokens.sizes(),
-            format: ChromaSubsampling::Monochrome,
-            paddings: tokens.sizes(),
+/// The formats.
+const FORMATS: [(&str, ChromaSubsampling); 5] = [
+    ("Yuv420", ChromaSubsampling::Yuv420),
+    ("Yuv422", ChromaSubsampling::Yuv422),
+    ("Yuv411", ChromaSubsampling::Yuv411),
+    ("Yuv444", ChromaSubsampling::Yuv444),
+    ("Monochrome", ChromaSubsampling::Monochrome),
+];
+
+impl Spec {
+    /// What a faulty line reads as.
+    const NONE: Spec = Spec {
+        bytes: 1,
+        depth: 0,
+        size: [0, 0],
+        format: ChromaSubsampling::Monochrome,
+        paddings: [0, 0, 0, 0],
+    };
+
+    /// Reads the rest of a line.
+    pub fn read(input: &mut Input<'_>) -> Self {
+        let Some(bytes) = input.choice(&TYPES) else {
+            input.keep(LineFault::UnknownPixelType);
+            return Spec::NONE;
         };
-        tokens.end()?;
-        Ok(spec)
+        let depth = input.pixel();
+        let size = input.sizes();
+        let Some(format) = input.choice(&FORMATS) else {
+            input.keep(LineFault::UnknownFormat);
+            return Spec::NONE;
+        };
+        let paddings = input.sizes();
+        input.end();
+        Spec {
+            bytes,
+            depth,
+            size,
+            format,
+            paddings,
+        }
     }
 
     /// Builds the frame.
@@ -72,42 +80,25 @@ impl Spec {
             .build(alloc)
     }
 
-    /// Builds the frame that the line of this number asks for, which has to succeed.
-    pub fn frame<T: Pixel>(&self, alloc: Global, line: u64) -> Result<Frame<T>, CaseFault> {
-        match self.build(alloc) {
-            Ok(frame) => Ok(frame),
-            Err(FrameError::OutOfMemory) => Err(CaseFault::OutOfMemory),
-            Err(error) => Err(CaseFault::Malformed {
-                line,
-                fault: LineFault::NotBuilt(error),
-            }),
+    /// Builds the frame that a line asks for, if there was no fault. That it cannot be built is one.
+    pub fn frame<T: Pixel>(&self, input: &mut Input<'_>) -> Option<Frame<T>> {
+        if input.is_faulty() {
+            return None;
         }
+        match self.build(input.alloc) {
+            Ok(frame) => return Some(frame),
+            Err(FrameError::OutOfMemory) => input.give_up(CaseFault::OutOfMemory),
+            Err(error) => input.keep(LineFault::NotBuilt(error)),
+        }
+        None
     }
 }
 
-/// Reads the type of the pixels.
-fn read_type(tokens: &mut Tokens<'_>) -> PixelType {
-    match tokens.word() {
-        "u8" => PixelType::U8,
-        "u16" => PixelType::U16,
-        _ => {
-            tokens.keep(LineFault::UnknownPixelType);
-            PixelType::U8
-        }
-    }
-}
-
-/// Reads a format.
-fn read_format(tokens: &mut Tokens<'_>) -> ChromaSubsampling {
-    match tokens.word() {
-        "Yuv420" => ChromaSubsampling::Yuv420,
-        "Yuv422" => ChromaSubsampling::Yuv422,
-        "Yuv411" => ChromaSubsampling::Yuv411,
-        "Yuv444" => ChromaSubsampling::Yuv444,
-        "Monochrome" => ChromaSubsampling::Monochrome,
-        _ => {
-            tokens.keep(LineFault::UnknownFormat);
-            ChromaSubsampling::Monochrome
-        }
+/// The line of a build.
+impl Entry for Spec {
+    fn read(input: &mut Input<'_>) -> Self {
+        input.next_line();
+        input.keyword("build", LineFault::NotABuild);
+        Spec::read(input)
     }
 }
