@@ -18,23 +18,65 @@ mod texts;
 use crate::outcome::Outcome;
 use std::alloc::Global;
 
+/// A case.
+#[derive(Clone, Copy)]
+pub enum Case {
+    Build,
+    NewUninit,
+    AssumeInit,
+    AssumeInitOfTexts,
+    AssumeInitOfCountedDrops,
+    CloneOfAPlane,
+    CloneOfAFrame,
+    ReadFrame,
+    Replay,
+    ReplayOfTwoRowWrites,
+    RunIntoAFixedSlice,
+    CallsThatTakeNoMemory,
+}
+
+/// The cases by their names.
+static CASES: [(&str, Case); 12] = [
+    ("build", Case::Build),
+    ("new_uninit", Case::NewUninit),
+    ("assume_init", Case::AssumeInit),
+    ("assume_init_of_texts", Case::AssumeInitOfTexts),
+    (
+        "assume_init_of_counted_drops",
+        Case::AssumeInitOfCountedDrops,
+    ),
+    ("clone_of_a_plane", Case::CloneOfAPlane),
+    ("clone_of_a_frame", Case::CloneOfAFrame),
+    ("read_frame", Case::ReadFrame),
+    ("replay", Case::Replay),
+    ("replay_of_two_row_writes", Case::ReplayOfTwoRowWrites),
+    ("run_into_a_fixed_slice", Case::RunIntoAFixedSlice),
+    ("calls_that_take_no_memory", Case::CallsThatTakeNoMemory),
+];
+
 /// What is seen in the case of this name.
-pub fn seen(alloc: Global, case: &str) -> Outcome {
+pub fn seen(alloc: Global, name: &str) -> Outcome {
+    for (known, case) in &CASES {
+        if *known == name {
+            return seen_in(alloc, *case);
+        }
+    }
+    Outcome::Wrong("no case has this name")
+}
+
+/// What is seen in a case.
+fn seen_in(alloc: Global, case: Case) -> Outcome {
     match case {
-        "build" => builds::build(alloc),
-        "new_uninit" => options::new_uninit(alloc),
-        "assume_init" => options::assume_init(alloc),
-        "assume_init_of_texts" => options::assume_init_of_texts(alloc),
-        "assume_init_of_counted_drops" => drops::assume_init_of_counted_drops(alloc),
-        "clone_of_a_plane" => clones::clone_of_a_plane(alloc),
-        "clone_of_a_frame" => clones::clone_of_a_frame(alloc),
-        "read_frame" => planar::read_a_frame(alloc),
-        "replay" => replays::replay_of_a_list(alloc),
-        "replay_of_two_row_writes" => row_writes::replay_of_two_row_writes(alloc),
-        "run_into_a_fixed_slice" => texts::run_into_a_fixed_slice(alloc),
-        "calls_that_take_no_memory" => {
+        Case::Build => builds::build(alloc),
+        Case::NewUninit => options::new_uninit(alloc),
+        Case::AssumeInit => options::assume_init(alloc),
+        Case::AssumeInitOfTexts => options::assume_init_of_texts(alloc),
+        Case::AssumeInitOfCountedDrops => drops::assume_init_of_counted_drops(alloc),
+        Case::ReplayOfTwoRowWrites => row_writes::replay_of_two_row_writes(alloc),
+        Case::RunIntoAFixedSlice => texts::run_into_a_fixed_slice(alloc),
+        Case::CallsThatTakeNoMemory => {
             calls_that_take_no_memory::calls_that_take_no_memory(alloc)
         }
-        _ => Outcome::Wrong("no case has this name"),
+        _ => pictures::on_a_frame(alloc, case),
     }
 }

@@ -13,8 +13,10 @@ use std::process::ExitCode;
 
 fn main(rt: HostRuntime) -> ExitCode {
     let outcome = asked(&rt);
-    let printed = println!(rt; "{outcome}");
-    if printed.is_err() || outcome.is_wrong() {
+    let is_wrong = matches!(outcome, Outcome::Wrong(_));
+    let mark = if is_wrong { "wrong: " } else { "" };
+    let printed = println!(rt; "{mark}{}", outcome.text());
+    if printed.is_err() || is_wrong {
         ExitCode::FAILURE
     } else {
         ExitCode::SUCCESS
@@ -29,8 +31,7 @@ fn asked(rt: &HostRuntime) -> Outcome {
     let Ok(mut words) = env::args(rt) else {
         return Outcome::Unprepared;
     };
-    drop(words.next());
-    let case = words.next();
+    let case = words.nth(1);
     let before = count_of(words.next());
     let after = count_of(words.next());
     match case {
@@ -49,25 +50,19 @@ fn count_of(word: Option<String>) -> Option<u16> {
 
 /// What is seen in a case behind so many requests and in front of so many.
 fn counted(alloc: Global, case: &str, before: Option<u16>, after: Option<u16>) -> Outcome {
-    match (before, after) {
-        (Some(before), Some(after)) => {
-            if make_requests(alloc, before) {
-                followed(alloc, cases::seen(alloc, case), after)
-            } else {
-                Outcome::Unprepared
-            }
-        }
-        _ => Outcome::Wrong("no number of requests"),
+    let (Some(before), Some(after)) = (before, after) else {
+        return Outcome::Wrong("no number of requests");
+    };
+    if !make_requests(alloc, before) {
+        return Outcome::Unprepared;
     }
-}
-
-/// What was seen in a case, in front of so many requests.
-fn followed(alloc: Global, outcome: Outcome, after: u16) -> Outcome {
+    let outcome = cases::seen(alloc, case);
     let none_refused = make_requests(alloc, after);
-    if outcome.is_done() && after > 0 && none_refused {
-        Outcome::Wrong("done, though a request was refused")
-    } else {
-        outcome
+    match outcome {
+        Outcome::Done if after > 0 && none_refused => {
+            Outcome::Wrong("done, though a request was refused")
+        }
+        _ => outcome,
     }
 }
 

@@ -1,6 +1,5 @@
 //! What one run saw.
 
-use std::fmt;
 use v_frame::frame::FrameError;
 
 /// What the run of a case saw.
@@ -43,25 +42,13 @@ impl Outcome {
         }
     }
 
-    /// Whether the call answered `Ok`, and gave what is right.
-    pub fn is_done(self) -> bool {
-        matches!(self, Outcome::Done)
-    }
-
-    /// Whether the run saw what is not right.
-    pub fn is_wrong(self) -> bool {
-        matches!(self, Outcome::Wrong(_))
-    }
-}
-
-impl fmt::Display for Outcome {
-    fn fmt<W: fmt::Write>(&self, f: &mut fmt::Formatter<W>) -> fmt::Result {
-        let text = match self {
+    /// What was seen, in words.
+    pub fn text(self) -> &'static str {
+        match self {
             Outcome::Unprepared => "prepared: refused",
             Outcome::Kept => "refused: kept",
             Outcome::Done => "done",
-            Outcome::Wrong(what) => return write!(f, "wrong: {what}"),
-        };
-        f.write_str(text)
+            Outcome::Wrong(what) => what,
+        }
     }
 }

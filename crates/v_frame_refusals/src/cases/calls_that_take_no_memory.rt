@@ -1,6 +1,7 @@
 //! Calls that take no memory, and so answer as ever whichever request is refused.
 
 use super::checks::{has_entries, is};
+use super::replays::answered;
 use crate::outcome::Outcome;
 use std::alloc::Global;
 use std::io::Cursor;
@@ -8,7 +9,6 @@ use v_frame::chroma::ChromaSubsampling::{Monochrome, Yuv420};
 use v_frame::frame::{Frame, FrameBuilder, FrameError};
 use v_frame::pixel::Pixel;
 use v_frame::plane::{PlaneGeometry, PlaneRef};
-use v_frame::replay::replay;
 use v_frame_planar::{Counted, write_frame};
 
 /// Builds that are refused before they ask for memory, reading over an array, the replay of no call, and a frame that is
@@ -21,31 +21,25 @@ pub fn calls_that_take_no_memory(alloc: Global) -> Outcome {
         return Outcome::Wrong("reading over an array");
     }
     match FrameBuilder::new(3, 2, Monochrome, 8).build::<u8>(alloc) {
-        Ok(frame) => seen_of(alloc, frame),
+        Ok(mut frame) => {
+            // A blank frame is written as its bytes, and no more.
+            let mut writer = Counted::new(Cursor::new([9; 8]));
+            let is_right = replays_no_call(alloc, &mut frame)
+                && write_frame(&mut writer, &frame).is_ok()
+                && is(*writer.inner().get_ref(), [0, 0, 0, 0, 0, 0, 9, 9]);
+            drop(frame);
+            Outcome::done(is_right)
+        }
         Err(error) => Outcome::of_preparation(error),
     }
 }
 
-/// What is seen of the calls on a blank frame.
-fn seen_of(alloc: Global, mut frame: Frame<u8>) -> Outcome {
-    let is_right = replays_no_call(alloc, &mut frame) && is_written(&frame);
-    drop(frame);
-    Outcome::done(is_right)
-}
-
 /// Whether the replay of no call answers nothing, and leaves a blank frame as it is.
 fn replays_no_call(alloc: Global, frame: &mut Frame<u8>) -> bool {
-    match replay(alloc, frame, &[]) {
-        Ok(answers) => answers.is_empty() && has_entries(&frame.y_plane, &[0; 6]),
-        Err(_) => false,
-    }
-}
-
-/// Whether a blank frame is written as its bytes, and no more.
-fn is_written(frame: &Frame<u8>) -> bool {
-    let mut writer = Counted::new(Cursor::new([9; 8]));
-    let written = write_frame(&mut writer, frame).is_ok();
-    written && is(*writer.inner().get_ref(), [0, 0, 0, 0, 0, 0, 9, 9])
+    let (answers, is_whole) = answered(alloc, frame, &[]);
+    let is_right = is_whole && answers.is_empty() && has_entries(&frame.y_plane, &[0; 6]);
+    drop(answers);
+    is_right
 }
 
 /// Whether a depth, a type and a size that no frame has are each told.
@@ -79,6 +73,12 @@ fn is_refused<T: Pixel>(alloc: Global, builder: FrameBuilder, error: FrameError)
 /// Two pixels by two in a border of one column to the left.
 static ENTRIES: [u16; 6] = [900, 0x0102, 0x0304, 901, 0x0506, 0x0708];
 
+/// The pixels.
+static PIXELS: [u16; 4] = [0x0102, 0x0304, 0x0506, 0x0708];
+
+/// Their bytes.
+static BYTES: [u8; 8] = [2, 1, 4, 3, 6, 5, 8, 7];
+
 /// Whether a plane over an array reads as it stands there.
 fn array_is_read() -> bool {
     let Some(geometry) = PlaneGeometry::new(2, 2, 1, 0, 0, 0, 1, 1) else {
@@ -86,31 +86,25 @@ fn array_is_read() -> bool {
     };
     match PlaneRef::new(geometry, &ENTRIES) {
         Some(plane) => {
-            is(plane.geometry(), geometry) && is_measured(&plane) && is_iterated(&plane)
+            let shape = (plane.geometry(), plane.width(), plane.height());
+            let pixels = [plane.pixel(1, 1), plane.pixel(2, 1)];
+            let rows = [plane.row(0), plane.row(2)];
+            is(shape, (geometry, 2, 2))
+                && is(pixels, [Some(0x0708), None])
+                && is(rows, [Some(&[0x0102, 0x0304]), None])
+                && is(plane.again().data(), &ENTRIES)
+                && is_iterated(&plane)
         }
         None => false,
     }
 }
 
-/// Whether a plane over the array has its size, its rows and its pixels.
-fn is_measured(plane: &PlaneRef<'_, u16>) -> bool {
-    is((plane.width(), plane.height()), (2, 2))
-        && is([plane.pixel(1, 1), plane.pixel(2, 1)], [Some(0x0708), None])
-        && is(
-            [plane.row(0), plane.row(2)],
-            [Some(&[0x0102, 0x0304]), None],
-        )
-        && is(plane.again().data(), &ENTRIES)
-}
-
 /// Whether the iterators of a plane over the array give what it shows, from both ends.
 fn is_iterated(plane: &PlaneRef<'_, u16>) -> bool {
     let rows = [[0x0102, 0x0304].as_slice(), [0x0506, 0x0708].as_slice()];
-    let pixels = [0x0102, 0x0304, 0x0506, 0x0708];
-    let bytes = [2, 1, 4, 3, 6, 5, 8, 7];
+    let last = (plane.rows().next_back(), plane.pixels().next_back());
     plane.rows().eq(rows)
-        && plane.pixels().eq(pixels)
-        && is(plane.rows().next_back(), Some(&[0x0506, 0x0708]))
-        && is(plane.pixels().next_back(), Some(0x0708))
-        && plane.byte_data().eq(bytes)
+        && plane.pixels().eq(PIXELS)
+        && plane.byte_data().eq(BYTES)
+        && is(last, (Some(&[0x0506, 0x0708]), Some(0x0708)))
 }

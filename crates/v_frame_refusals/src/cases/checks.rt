@@ -1,6 +1,6 @@
 //! Comparisons. An operator is proved anew for the values between which it stands, so the cases share these.
 
-use v_frame::plane::Plane;
+use v_frame::plane::{Plane, PlaneGeometry};
 
 /// Whether a value is the one that is wanted.
 pub fn is<T: PartialEq + Drop>(found: T, wanted: T) -> bool {
@@ -10,4 +10,25 @@ pub fn is<T: PartialEq + Drop>(found: T, wanted: T) -> bool {
 /// Whether a plane has these entries, in its border too.
 pub fn has_entries<T: PartialEq>(plane: &Plane<T>, wanted: &[T]) -> bool {
     *plane.data() == *wanted
+}
+
+/// Whether a plane has this geometry, which is there, and these entries, in its border too.
+pub fn is_plane<T: PartialEq>(
+    plane: &Plane<T>,
+    geometry: &Option<PlaneGeometry>,
+    entries: &[T],
+) -> bool {
+    is(Some(plane.geometry()), *geometry) && has_entries(plane, entries)
+}
+
+/// Whether a plane is there, and has this geometry and these entries.
+pub fn is_chroma<T: PartialEq>(
+    plane: &Option<Plane<T>>,
+    geometry: &Option<PlaneGeometry>,
+    entries: &[T],
+) -> bool {
+    match plane {
+        Some(plane) => is_plane(plane, geometry, entries),
+        None => false,
+    }
 }

@@ -1,28 +1,18 @@
 //! Clones of a plane and of a frame.
 
-use super::pictures::{PREPARED, holds, is_painted, prepared};
+use super::checks::is_plane;
+use super::pictures::{PREPARED, holds};
 use crate::outcome::Outcome;
 use std::alloc::Global;
 use v_frame::frame::Frame;
 
-/// A clone of a plane inside a border.
-pub fn clone_of_a_plane(alloc: Global) -> Outcome {
-    match prepared(alloc) {
-        Ok(frame) => {
-            let outcome = luma_cloned(alloc, &frame);
-            drop(frame);
-            outcome
-        }
-        Err(outcome) => outcome,
-    }
-}
-
-/// What is seen of a clone of the luma of the prepared frame.
-fn luma_cloned(alloc: Global, frame: &Frame<u16>) -> Outcome {
+/// A clone of a plane inside a border: the luma of the prepared frame.
+pub fn clone_of_a_plane(alloc: Global, frame: &Frame<u16>) -> Outcome {
     let [luma, ..] = &PREPARED;
     match frame.y_plane.clone(alloc) {
         Ok(copy) => {
-            let is_right = holds(frame, &PREPARED) && is_painted(&copy, luma);
+            let geometry = Some(frame.y_plane.geometry());
+            let is_right = holds(frame, &PREPARED) && is_plane(&copy, &geometry, luma);
             drop(copy);
             Outcome::done(is_right)
         }
@@ -30,20 +20,8 @@ fn luma_cloned(alloc: Global, frame: &Frame<u16>) -> Outcome {
     }
 }
 
-/// A clone of a frame of three planes.
-pub fn clone_of_a_frame(alloc: Global) -> Outcome {
-    match prepared(alloc) {
-        Ok(frame) => {
-            let outcome = frame_cloned(alloc, &frame);
-            drop(frame);
-            outcome
-        }
-        Err(outcome) => outcome,
-    }
-}
-
-/// What is seen of a clone of the prepared frame.
-fn frame_cloned(alloc: Global, frame: &Frame<u16>) -> Outcome {
+/// A clone of the prepared frame, of three planes.
+pub fn clone_of_a_frame(alloc: Global, frame: &Frame<u16>) -> Outcome {
     match frame.clone(alloc) {
         Ok(copy) => {
             let is_right = holds(frame, &PREPARED) && holds(&copy, &PREPARED);

@@ -1,11 +1,10 @@
 //! Elements whose drops are counted.
 
-use super::options::{NOT_FILLED, row_of};
+use super::options::assumed;
 use crate::outcome::Outcome;
 use std::alloc::Global;
 use std::cell::Cell;
 use std::rc::Rc;
-use v_frame::plane::Plane;
 
 /// An element that counts its drop.
 struct Counted {
@@ -22,54 +21,33 @@ impl Drop for Counted {
 /// The values of a plane that is filled with three elements. Each is dropped once, with the plane that the call gave or gave
 /// back, and none before.
 pub fn assume_init_of_counted_drops(alloc: Global) -> Outcome {
-    match Rc::new(alloc, Cell::new(0)) {
-        Ok(drops) => counted_by(alloc, &drops),
-        Err(_) => Outcome::Unprepared,
-    }
-}
-
-/// The same, where the drops are counted here.
-fn counted_by(alloc: Global, drops: &Rc<Cell<u32>>) -> Outcome {
-    match row_of::<Counted>(alloc, 3) {
-        Ok(mut plane) => {
-            if fill(plane.data_mut(), drops) {
-                seen_of(alloc, plane, drops)
-            } else {
-                Outcome::Unprepared
-            }
+    let Ok(drops) = Rc::new(alloc, Cell::new(0)) else {
+        return Outcome::Unprepared;
+    };
+    let mut elements = [element(&drops), element(&drops), element(&drops)];
+    let given = assumed(alloc, &mut elements);
+    drop(elements);
+    match given {
+        Ok(Ok(plane)) => Outcome::done(drops_three(&drops, plane)),
+        Ok(Err(plane)) => {
+            let is_kept = plane.is_init() && plane.data().len() == 3;
+            Outcome::kept(drops_three(&drops, plane) && is_kept)
         }
         Err(outcome) => outcome,
     }
 }
 
-/// Fills places with elements. Gives whether none was refused.
-fn fill(entries: &mut [Option<Counted>], drops: &Rc<Cell<u32>>) -> bool {
-    for entry in entries {
-        match drops.clone() {
-            Ok(drops) => *entry = Some(Counted { drops }),
-            Err(_) => return false,
-        }
+/// An element that counts its drop here.
+fn element(drops: &Rc<Cell<u32>>) -> Option<Counted> {
+    match drops.clone() {
+        Ok(drops) => Some(Counted { drops }),
+        Err(_) => None,
     }
-    true
 }
 
-/// What is seen of the call on the plane that is filled.
-fn seen_of(alloc: Global, plane: Plane<Option<Counted>>, drops: &Cell<u32>) -> Outcome {
-    if !plane.is_init() {
-        drop(plane);
-        return NOT_FILLED;
-    }
-    match plane.assume_init(alloc) {
-        Ok(plane) => {
-            let before = drops.get();
-            drop(plane);
-            Outcome::done(before == 0 && drops.get() == 3)
-        }
-        Err(plane) => {
-            let is_kept = plane.is_init() && plane.data().len() == 3;
-            let before = drops.get();
-            drop(plane);
-            Outcome::kept(is_kept && before == 0 && drops.get() == 3)
-        }
-    }
+/// Whether none of three elements was dropped before, and all are with this plane of them.
+fn drops_three<P: Drop>(drops: &Cell<u32>, plane: P) -> bool {
+    let before = drops.get();
+    drop(plane);
+    before == 0 && drops.get() == 3
 }

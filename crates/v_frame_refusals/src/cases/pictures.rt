@@ -1,11 +1,12 @@
-//! Frames of three planes, each with a picture in a border whose entries are numbered.
+//! A frame of three planes, each with a picture in a border whose entries are numbered.
 
-use super::checks::{has_entries, is};
+use super::checks::{is, is_chroma, is_plane};
+use super::{Case, clones, planar, replays};
 use crate::outcome::Outcome;
 use std::alloc::Global;
-use v_frame::chroma::ChromaSubsampling;
+use v_frame::chroma::ChromaSubsampling::Yuv444;
 use v_frame::frame::{Frame, FrameBuilder};
-use v_frame::plane::{Plane, PlaneGeometry};
+use v_frame::plane::PlaneGeometry;
 
 /// The entries of a plane of 3 pixels by 2, with one border column to the left, two to the right, and a border row above. Each
 /// border entry holds a number of its own.
@@ -27,77 +28,48 @@ pub static PREPARED: Buffers = [
     ],
 ];
 
-/// A frame that has [`PREPARED`].
-pub fn prepared(alloc: Global) -> Result<Frame<u16>, Outcome> {
-    let builder = FrameBuilder::new(3, 2, ChromaSubsampling::Yuv444, 16)
+/// What is seen in a case on a frame that has [`PREPARED`].
+pub fn on_a_frame(alloc: Global, case: Case) -> Outcome {
+    let builder = FrameBuilder::new(3, 2, Yuv444, 16)
         .luma_padding_left(1)
         .luma_padding_right(2)
         .luma_padding_top(1)
         .luma_padding_bottom(0);
     match builder.build::<u16>(alloc) {
-        Ok(frame) => painted(frame),
-        Err(error) => Err(Outcome::of_preparation(error)),
+        Ok(mut frame) => {
+            let outcome = match case {
+                _ if !paint(&mut frame) => Outcome::Wrong("what was prepared"),
+                Case::CloneOfAPlane => clones::clone_of_a_plane(alloc, &frame),
+                Case::CloneOfAFrame => clones::clone_of_a_frame(alloc, &frame),
+                Case::ReadFrame => planar::read_a_frame(alloc, &mut frame),
+                _ => replays::replay_of_a_list(alloc, &mut frame),
+            };
+            drop(frame);
+            outcome
+        }
+        Err(error) => Outcome::of_preparation(error),
     }
 }
 
-/// The frame, in which [`PREPARED`] is written.
-fn painted(mut frame: Frame<u16>) -> Result<Frame<u16>, Outcome> {
-    paint_planes(&mut frame);
-    if holds(&frame, &PREPARED) {
-        Ok(frame)
-    } else {
-        drop(frame);
-        Err(Outcome::Wrong("what was prepared"))
+/// Writes the entries of each plane, in the border too. Gives whether the frame then has them.
+fn paint(frame: &mut Frame<u16>) -> bool {
+    for (index, buffer) in PREPARED.iter().enumerate() {
+        if let Some(plane) = frame.plane_mut(index) {
+            let data = plane.data_mut();
+            if data.len() == buffer.len() {
+                data.copy_from_slice(buffer);
+            }
+        }
     }
-}
-
-/// Writes the entries of each plane.
-fn paint_planes(frame: &mut Frame<u16>) {
-    let [luma, first, second] = &PREPARED;
-    paint(&mut frame.y_plane, luma);
-    paint_chroma(&mut frame.u_plane, first);
-    paint_chroma(&mut frame.v_plane, second);
-}
-
-/// Writes the entries of a chroma plane, where it is there.
-fn paint_chroma(plane: &mut Option<Plane<u16>>, buffer: &Buffer) {
-    if let Some(plane) = plane {
-        paint(plane, buffer);
-    }
-}
-
-/// Writes the entries of a plane, in the border too.
-fn paint(plane: &mut Plane<u16>, buffer: &Buffer) {
-    let data = plane.data_mut();
-    if data.len() == 18 {
-        data.copy_from_slice(buffer);
-    }
+    holds(frame, &PREPARED)
 }
 
 /// Whether a frame has these entries, in its borders too.
 pub fn holds(frame: &Frame<u16>, [luma, first, second]: &Buffers) -> bool {
-    has_planes(frame, luma, first, second)
-}
-
-/// Whether the planes of a frame have these entries each, in their borders too.
-pub fn has_planes(frame: &Frame<u16>, luma: &Buffer, first: &Buffer, second: &Buffer) -> bool {
-    is(frame.subsampling, ChromaSubsampling::Yuv444)
-        && is(frame.bit_depth.get(), 16)
-        && is_painted(&frame.y_plane, luma)
-        && has(&frame.u_plane, first)
-        && has(&frame.v_plane, second)
-}
-
-/// Whether a chroma plane is there and has these entries.
-fn has(plane: &Option<Plane<u16>>, buffer: &Buffer) -> bool {
-    match plane {
-        Some(plane) => is_painted(plane, buffer),
-        None => false,
-    }
-}
-
-/// Whether a plane has these entries.
-pub fn is_painted(plane: &Plane<u16>, buffer: &Buffer) -> bool {
     let geometry = PlaneGeometry::new(3, 2, 1, 2, 1, 0, 1, 1);
-    is(geometry, Some(plane.geometry())) && has_entries(plane, buffer)
+    is(frame.subsampling, Yuv444)
+        && is(frame.bit_depth.get(), 16)
+        && is_plane(&frame.y_plane, &geometry, luma)
+        && is_chroma(&frame.u_plane, &geometry, first)
+        && is_chroma(&frame.v_plane, &geometry, second)
 }

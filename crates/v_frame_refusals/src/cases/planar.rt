@@ -1,6 +1,6 @@
 //! A frame that is read from its planar bytes.
 
-use super::pictures::{Buffers, PREPARED, holds, prepared};
+use super::pictures::{Buffers, PREPARED, holds};
 use crate::outcome::Outcome;
 use std::alloc::Global;
 use v_frame::frame::Frame;
@@ -29,24 +29,10 @@ static READ: Buffers = [
 ];
 
 /// A frame is read. Where memory is refused, nothing was read, and the frame is as it was.
-pub fn read_a_frame(alloc: Global) -> Outcome {
-    match prepared(alloc) {
-        Ok(frame) => read_into(alloc, frame),
-        Err(outcome) => outcome,
-    }
-}
-
-/// What is seen of the reading into the prepared frame.
-fn read_into(alloc: Global, mut frame: Frame<u16>) -> Outcome {
+pub fn read_a_frame(alloc: Global, frame: &mut Frame<u16>) -> Outcome {
     let mut reader = Counted::new(BYTES.as_slice());
-    let read = read_frame(alloc, &mut reader, &mut frame);
-    let outcome = seen_of(read, reader.inner().len(), &frame);
-    drop(frame);
-    outcome
-}
-
-/// What is seen of an answer, of so many bytes that are left, and of the frame.
-fn seen_of(read: Result<bool, PlanarError>, left: usize, frame: &Frame<u16>) -> Outcome {
+    let read = read_frame(alloc, &mut reader, frame);
+    let left = reader.inner().len();
     match read {
         Ok(is_whole) => Outcome::done(is_whole && left == 1 && holds(frame, &READ)),
         Err(PlanarError::OutOfMemory) => Outcome::kept(left == 37 && holds(frame, &PREPARED)),

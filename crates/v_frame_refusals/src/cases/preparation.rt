@@ -6,24 +6,11 @@ use v_frame::replay::Sequence;
 /// Makes lists, and keeps whether a request for their memory was refused: what it gave then stands for nothing.
 #[derive(Drop)]
 pub struct Preparation {
-    alloc: Global,
-    is_refused: bool,
+    pub alloc: Global,
+    pub is_refused: bool,
 }
 
 impl Preparation {
-    /// One of which nothing was asked.
-    pub fn new(alloc: Global) -> Self {
-        Preparation {
-            alloc,
-            is_refused: false,
-        }
-    }
-
-    /// Whether a request was refused.
-    pub fn is_refused(&self) -> bool {
-        self.is_refused
-    }
-
     /// A list of these items.
     pub fn list<T: Copy>(&mut self, items: &[T]) -> Sequence<T> {
         match Sequence::from_slice(self.alloc, items) {

@@ -1,11 +1,11 @@
 //! A replay of a list of six calls, three of which write.
 
-use super::checks::is;
-use super::pictures::{Buffer, PREPARED, has_planes, prepared};
+use super::pictures::{Buffer, PREPARED, holds};
 use super::preparation::Preparation;
 use crate::outcome::Outcome;
 use std::alloc::Global;
 use v_frame::frame::Frame;
+use v_frame::pixel::Pixel;
 use v_frame::plane::CopyError;
 use v_frame::replay::{Answer, Drawn, PixelDraw, RowDraw, Sequence, Side, VisibleCall, replay};
 
@@ -19,24 +19,27 @@ static WRITTEN_CHROMA: Buffer = [
     3000, 3001, 3002, 3003, 3004, 3005, 3006, 7, 0, 0, 3010, 3011, 3012, 0, 0, 8, 3016, 3017,
 ];
 
-/// A replay in a numbered border. Where it is stopped, the calls that were answered are done, and no other.
-pub fn replay_of_a_list(alloc: Global) -> Outcome {
-    match prepared(alloc) {
-        Ok(mut frame) => {
-            let outcome = replay_on(alloc, &mut frame);
-            drop(frame);
-            outcome
-        }
-        Err(outcome) => outcome,
+/// The answers of a replay, and whether it came to its end.
+pub fn answered<T: Pixel>(
+    alloc: Global,
+    frame: &mut Frame<T>,
+    calls: &[VisibleCall<T>],
+) -> (Sequence<Answer<T>>, bool) {
+    match replay(alloc, frame, calls) {
+        Ok(answers) => (answers.into(), true),
+        Err(stopped) => (stopped.done, false),
     }
 }
 
-/// The replay on this frame.
-fn replay_on(alloc: Global, frame: &mut Frame<u16>) -> Outcome {
-    let mut preparation = Preparation::new(alloc);
+/// A replay in a numbered border. Where it is stopped, the calls that were answered are done, and no other.
+pub fn replay_of_a_list(alloc: Global, frame: &mut Frame<u16>) -> Outcome {
+    let mut preparation = Preparation {
+        alloc,
+        is_refused: false,
+    };
     let calls = calls(&mut preparation);
     let wanted = answers(&mut preparation);
-    if preparation.is_refused() {
+    if preparation.is_refused {
         Outcome::Unprepared
     } else {
         seen_of(alloc, frame, &calls, &wanted)
@@ -50,35 +53,22 @@ fn seen_of(
     calls: &[VisibleCall<u16>],
     wanted: &[Answer<u16>],
 ) -> Outcome {
-    match replay(alloc, frame, calls) {
-        Ok(answers) => {
-            let is_right = answers.len() == wanted.len() && is_left(frame, &answers, wanted);
-            drop(answers);
-            Outcome::done(is_right)
-        }
-        Err(stopped) => {
-            let done = stopped.done.as_slice();
-            let is_right = done.len() < calls.len() && is_left(frame, done, wanted);
-            drop(stopped);
-            Outcome::kept(is_right)
-        }
+    let (answers, is_whole) = answered(alloc, frame, calls);
+    let mut buffers = PREPARED;
+    if !answers.is_empty() {
+        buffers[0] = WRITTEN_LUMA;
     }
-}
-
-/// Whether these are the first answers of those that are wanted, and the frame is as their calls leave it.
-fn is_left(frame: &Frame<u16>, answers: &[Answer<u16>], wanted: &[Answer<u16>]) -> bool {
-    let [luma, first, second] = &PREPARED;
-    let luma = if answers.is_empty() {
-        luma
+    if answers.len() > 1 {
+        buffers[2] = WRITTEN_CHROMA;
+    }
+    let is_right = wanted.starts_with(&answers) && holds(frame, &buffers);
+    let are_all = answers.len() == wanted.len();
+    drop(answers);
+    if is_whole {
+        Outcome::done(are_all && is_right)
     } else {
-        &WRITTEN_LUMA
-    };
-    let second = if answers.len() < 2 {
-        second
-    } else {
-        &WRITTEN_CHROMA
-    };
-    is(wanted.get(..answers.len()), Some(answers)) && has_planes(frame, luma, first, second)
+        Outcome::kept(!are_all && is_right)
+    }
 }
 
 /// The calls.

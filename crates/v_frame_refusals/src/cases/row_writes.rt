@@ -2,11 +2,15 @@
 
 use super::checks::has_entries;
 use super::preparation::Preparation;
+use super::replays::answered;
 use crate::outcome::Outcome;
 use std::alloc::Global;
 use v_frame::chroma::ChromaSubsampling::Monochrome;
 use v_frame::frame::{Frame, FrameBuilder};
-use v_frame::replay::{Answer, Sequence, VisibleCall, replay};
+use v_frame::replay::{Answer, Sequence, VisibleCall};
+
+/// What the plane has after none, the first and both of the calls.
+static WRITTEN: [[u8; 4]; 3] = [[0; 4], [1, 2, 0, 0], [1, 2, 3, 4]];
 
 /// Two rows of a blank plane of two pixels by two are written. Where a request after the first write is refused, that write
 /// is answered and the second row is blank.
@@ -24,26 +28,24 @@ pub fn replay_of_two_row_writes(alloc: Global) -> Outcome {
     }
 }
 
-/// The replay on this frame.
+/// The replay on this frame, where each call answers the same.
 fn replay_on(alloc: Global, frame: &mut Frame<u8>) -> Outcome {
-    let mut preparation = Preparation::new(alloc);
-    let calls = calls(&mut preparation);
+    let mut preparation = Preparation {
+        alloc,
+        is_refused: false,
+    };
+    let calls = [
+        row_mut(0, preparation.list(&[Some(1), Some(2)])),
+        row_mut(1, preparation.list(&[Some(3), Some(4)])),
+    ];
     let blank = Answer::RowShown(Some(preparation.list(&[0, 0])));
-    let outcome = if preparation.is_refused() {
+    let outcome = if preparation.is_refused {
         Outcome::Unprepared
     } else {
         seen_of(alloc, frame, &calls, &blank)
     };
     drop(blank);
     outcome
-}
-
-/// The calls.
-fn calls(preparation: &mut Preparation) -> [VisibleCall<u8>; 2] {
-    [
-        row_mut(0, preparation.list(&[Some(1), Some(2)])),
-        row_mut(1, preparation.list(&[Some(3), Some(4)])),
-    ]
 }
 
 /// A call that writes a row.
@@ -55,22 +57,25 @@ fn row_mut(y: usize, writes: Sequence<Option<u8>>) -> VisibleCall<u8> {
     }
 }
 
-/// What is seen of the replay, where each call answers the same.
+/// What is seen of the replay.
 fn seen_of(
     alloc: Global,
     frame: &mut Frame<u8>,
     calls: &[VisibleCall<u8>],
     blank: &Answer<u8>,
 ) -> Outcome {
-    match replay(alloc, frame, calls) {
-        Ok(answers) => Outcome::done(are_done(answers.as_slice(), blank, frame)),
-        Err(stopped) => seen_after(stopped.done.as_slice(), blank, frame),
+    let (answers, is_whole) = answered(alloc, frame, calls);
+    let count = answers.len();
+    let is_right = match WRITTEN.get(count) {
+        Some(entries) => are(&answers, blank) && has_entries(&frame.y_plane, entries),
+        None => false,
+    };
+    drop(answers);
+    match (is_whole, count) {
+        (true, _) => Outcome::done(is_right && count == 2),
+        (false, 0) if is_right => Outcome::Unprepared,
+        (false, _) => Outcome::kept(is_right && count == 1),
     }
-}
-
-/// Whether both calls were answered, and both rows are written.
-fn are_done(answers: &[Answer<u8>], blank: &Answer<u8>, frame: &Frame<u8>) -> bool {
-    answers.len() == 2 && are(answers, blank) && has_entries(&frame.y_plane, &[1, 2, 3, 4])
 }
 
 /// Whether each answer is this one.
@@ -81,13 +86,4 @@ fn are(answers: &[Answer<u8>], blank: &Answer<u8>) -> bool {
         }
     }
     true
-}
-
-/// What is seen of a replay that is stopped behind these answers.
-fn seen_after(answers: &[Answer<u8>], blank: &Answer<u8>, frame: &Frame<u8>) -> Outcome {
-    match answers.len() {
-        0 if has_entries(&frame.y_plane, &[0; 4]) => Outcome::Unprepared,
-        1 => Outcome::kept(are(answers, blank) && has_entries(&frame.y_plane, &[1, 2, 0, 0])),
-        _ => Outcome::kept(false),
-    }
 }

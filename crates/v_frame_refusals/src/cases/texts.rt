@@ -17,13 +17,9 @@ pub fn run_into_a_fixed_slice(alloc: Global) -> Outcome {
     let mut room = [0; 40];
     let mut out = Counted::new(room.as_mut_slice());
     let answer = run(alloc, &mut out, &[1, 2, 3, 4, 5, 6, 7, 8]);
+    // How many writes failed, and how much room is left.
     let counts = (out.failures(), out.inner().len());
     drop(out);
-    seen_of(answer, counts, room)
-}
-
-/// What is seen of an answer, of how many writes failed and how much room is left, and of the room.
-fn seen_of(answer: Result<(), ToolFault>, counts: (u64, usize), room: [u8; 40]) -> Outcome {
     match answer {
         Ok(()) => Outcome::done(is((counts, room), ((0, 9), WRITTEN))),
         Err(ToolFault::Frame(FrameError::OutOfMemory)) | Err(ToolFault::OutOfMemory) => {

@@ -5,27 +5,17 @@ use crate::tests::support::buffers::{has_entries, has_in_border};
 use crate::tests::support::checks::{same, same_length};
 use crate::tests::support::frames::{bordered, bordered_frame, luma};
 use crate::tests::support::texts::shows;
-use std::process::Abort;
 use v_frame::chroma::ChromaSubsampling;
-use v_frame::frame::{Frame, FrameBuilder, FrameError};
-use v_frame::plane::{Plane, PlaneGeometry};
+use v_frame::frame::{FrameBuilder, FrameError};
+use v_frame::plane::PlaneGeometry;
 use v_frame::replay::Answer;
-use v_frame_planar::{Counted, PlanarError};
+use v_frame_planar::Counted;
 use v_frame_uses::answers::first_answers;
 use v_frame_uses::frames::{built_chroma_size, reason_not_to_build};
-use v_frame_uses::pictures::brighten;
 use v_frame_uses::planes::{copy_with_plane, plane_of_places};
 use v_frame_uses::raw_bytes::{through_a_plane, without_tails};
 use v_frame_uses::start::{fill_row, first_frame, row_with};
 use v_frame_uses::streams::{brighten_frames, copy_frames, through_memory};
-
-#[test]
-fn a_picture_is_made_brighter(rt: HostRuntime) {
-    let rt = &rt;
-    let mut frame = bordered_frame(rt, [1, 2, 3, 150, 200, 255]);
-    brighten(rt.alloc(), &mut frame, 100).expect(rt, "memory");
-    has_in_border(rt, luma(frame), [101, 102, 103, 250, 255, 255]);
-}
 
 #[test]
 fn frames_are_refused_and_measured(rt: HostRuntime) {
@@ -43,45 +33,34 @@ fn frames_are_refused_and_measured(rt: HostRuntime) {
     same(rt, reason_not_to_build::<u8>(rt.alloc(), plain), None);
 }
 
-/// Stops the test where bytes do not come back through a plane.
-fn come_back(rt: &(impl Abort + AllocGlobal), plane: &mut Plane<u8>, bytes: &[u8]) {
-    let mut out = Vec::new(rt.alloc());
-    let copied = through_a_plane(plane, bytes, &mut out).expect(rt, "memory");
-    same(rt, copied, Ok(()));
-    same(rt, out.as_slice(), bytes);
-}
+/// Two rows of three bytes, each with a tail of one.
+static WITH_TAILS: [u8; 8] = [9, 8, 7, 99, 6, 5, 4, 99];
+
+/// Strides of these rows, and the answer of a plane and the bytes that come back.
+static STRIDES: [(usize, &str, &[u8]); 2] = [
+    (2, "Err(InvalidStride { stride: 2, width: 3 })", &[]),
+    (4, "Ok(())", &[9, 8, 7, 6, 5, 4]),
+];
 
 #[test]
 fn bytes_come_back(rt: HostRuntime) {
     let rt = &rt;
-    let mut plane = bordered(rt, [1, 2, 3, 4, 5, 6]);
-    come_back(rt, &mut plane, &[9, 8, 7, 6, 5, 4]);
-    has_in_border(rt, plane, [9, 8, 7, 6, 5, 4]);
-}
-
-/// Two rows of three bytes, each with a tail of one.
-static WITH_TAILS: [u8; 8] = [9, 8, 7, 99, 6, 5, 4, 99];
-
-/// Stops the test where a plane answers otherwise to these rows with a stride, or other bytes come back.
-fn untailed(rt: &(impl Abort + AllocGlobal), stride: usize, answer: &str, bytes: &[u8]) {
+    let bytes = [9, 8, 7, 6, 5, 4];
     let mut plane = bordered(rt, [1, 2, 3, 4, 5, 6]);
     let mut out = Vec::new(rt.alloc());
-    let copied = without_tails(&mut plane, &WITH_TAILS, stride, &mut out).expect(rt, "memory");
-    shows(rt, copied, answer);
-    same(rt, out.as_slice(), bytes);
-}
-
-#[test]
-fn a_short_stride_gives_no_bytes(rt: HostRuntime) {
-    let rt = &rt;
-    let answer = "Err(InvalidStride { stride: 2, width: 3 })";
-    untailed(rt, 2, answer, &[]);
-}
-
-#[test]
-fn bytes_come_back_without_tails(rt: HostRuntime) {
-    let rt = &rt;
-    untailed(rt, 4, "Ok(())", &[9, 8, 7, 6, 5, 4]);
+    let copied = through_a_plane(&mut plane, &bytes, &mut out).expect(rt, "memory");
+    same(rt, copied, Ok(()));
+    same(rt, out.as_slice(), &bytes);
+    has_in_border(rt, plane, bytes);
+    for (stride, answer, bytes) in &STRIDES {
+        let mut plane = bordered(rt, [1, 2, 3, 4, 5, 6]);
+        let mut out = Vec::new(rt.alloc());
+        let copied = without_tails(&mut plane, &WITH_TAILS, *stride, &mut out);
+        drop(plane);
+        shows(rt, copied.expect(rt, "memory"), *answer);
+        same(rt, out.as_slice(), *bytes);
+        drop(out);
+    }
 }
 
 #[test]
@@ -102,31 +81,21 @@ fn a_new_frame_answers(rt: HostRuntime) {
     same(rt, answers.first(), Some(&Answer::Number(3)));
 }
 
-/// A plane of places in this geometry.
-fn of_places(rt: &(impl Abort + AllocGlobal), geometry: PlaneGeometry) -> Plane<u16> {
-    let _size = geometry.checked_alloc_size().expect(rt, "a buffer");
-    plane_of_places(rt.alloc(), geometry).expect(rt, "memory")
-}
-
 #[test]
 fn a_plane_counts_its_places(rt: HostRuntime) {
     let rt = &rt;
     let geometry = PlaneGeometry::new(2, 1, 1, 0, 1, 0, 1, 1).expect(rt, "a geometry");
-    let plane = of_places(rt, geometry);
+    let _size = geometry.checked_alloc_size().expect(rt, "a buffer");
+    let plane = plane_of_places(rt.alloc(), geometry).expect(rt, "memory");
     has_entries(rt, plane, &[0, 1, 2, 3, 4, 5]);
-}
-
-/// A copy of a frame that is filled from 7 to 12, and whether it is equal to the frame.
-fn filled_copy(rt: &(impl Abort + AllocGlobal), frame: &Frame<u8>) -> (Frame<u8>, bool) {
-    let filled = copy_with_plane(rt.alloc(), frame, 0, &[7, 8, 9, 10, 11, 12]);
-    filled.expect(rt, "memory")
 }
 
 #[test]
 fn a_copy_is_filled_and_compared(rt: HostRuntime) {
     let rt = &rt;
     let frame = bordered_frame(rt, [1, 2, 3, 4, 5, 6]);
-    let (copy, is_same) = filled_copy(rt, &frame);
+    let copied = copy_with_plane(rt.alloc(), &frame, 0, &[7, 8, 9, 10, 11, 12]);
+    let (copy, is_same) = copied.expect(rt, "memory");
     let pixels = [luma(copy).pixel(2, 1), luma(frame).pixel(2, 1)];
     same(rt, (pixels, is_same), ([Some(12), Some(6)], false));
 }
@@ -134,42 +103,29 @@ fn a_copy_is_filled_and_compared(rt: HostRuntime) {
 /// The bytes of two frames.
 static FRAMES: [u8; 12] = [1, 2, 3, 4, 5, 6, 250, 251, 252, 253, 254, 255];
 
-/// Copies a frame, and another one up to the end.
-fn copy_both(rt: &(impl Abort + AllocGlobal), mut frame: Frame<u8>) -> Vec<u8> {
-    let mut reader = Counted::new(FRAMES.as_slice());
-    let mut writer = Counted::new(Vec::new(rt.alloc()));
-    for most in [1, 9] {
-        let copied = copy_frames(rt.alloc(), &mut reader, &mut writer, &mut frame, most);
-        same(rt, copied, Ok(1));
-    }
-    drop(frame);
-    writer.into_inner()
-}
-
 #[test]
 fn streams_are_copied(rt: HostRuntime) {
     let rt = &rt;
-    let copied = copy_both(rt, bordered_frame(rt, [0; 6]));
-    same(rt, copied.as_slice(), &FRAMES);
-}
-
-/// Copies both frames, each brighter by 3, and counts them.
-fn brighten_both(
-    rt: &(impl Abort + AllocGlobal),
-    writer: &mut Counted<Vec<u8>>,
-) -> Result<u64, PlanarError> {
     let mut frame = bordered_frame(rt, [0; 6]);
     let mut reader = Counted::new(FRAMES.as_slice());
-    let brightened = brighten_frames(rt.alloc(), &mut reader, writer, &mut frame, 3, 9);
+    let mut writer = Counted::new(Vec::new(rt.alloc()));
+    for most in &[1, 9] {
+        let copied = copy_frames(rt.alloc(), &mut reader, &mut writer, &mut frame, *most);
+        same(rt, copied, Ok(1));
+    }
     drop(frame);
-    brightened
+    same(rt, writer.into_inner().as_slice(), &FRAMES);
 }
 
 #[test]
 fn streams_are_made_brighter(rt: HostRuntime) {
     let rt = &rt;
+    let mut frame = bordered_frame(rt, [0; 6]);
+    let mut reader = Counted::new(FRAMES.as_slice());
     let mut writer = Counted::new(Vec::new(rt.alloc()));
-    same(rt, brighten_both(rt, &mut writer), Ok(2));
+    let count = brighten_frames(rt.alloc(), &mut reader, &mut writer, &mut frame, 3, 9);
+    drop(frame);
+    same(rt, count, Ok(2));
     let brighter = [4, 5, 6, 7, 8, 9, 253, 254, 255, 255, 255, 255];
     same(rt, writer.into_inner().as_slice(), &brighter);
 }

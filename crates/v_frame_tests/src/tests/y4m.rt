@@ -27,16 +27,11 @@ fn write_back(rt: &(impl Abort + AllocGlobal), line: &str, wanted: &str) {
 }
 
 #[test]
-fn headers_of_ffmpeg_come_back(rt: HostRuntime) {
+fn headers_come_back_in_order(rt: HostRuntime) {
     let rt = &rt;
     for line in &LINES {
         write_back(rt, *line, *line);
     }
-}
-
-#[test]
-fn parameters_are_put_in_order(rt: HostRuntime) {
-    let rt = &rt;
     let line = "YUV4MPEG2 X1 C422 H12 Xb Im W35";
     write_back(rt, line, "YUV4MPEG2 W35 H12 Im C422 X1 Xb");
 }
@@ -59,19 +54,14 @@ static REFUSED: [(&str, &str); 11] = [
     ("YUV4MPEG2 W36 H14 C444alpha", "unknown colour `C444alpha`"),
 ];
 
-/// Stops the test where a line is not refused with this message.
-fn refuse(rt: &(impl Abort + AllocGlobal), line: &str, message: &str) {
-    let refused = parse_header(rt.alloc(), line.as_bytes()).err();
-    let error = refused.expect(rt, "a refusal");
-    let told = error.to_string(rt.alloc()).expect(rt, "memory");
-    same(rt, (line, told.as_str()), (line, message));
-}
-
 #[test]
 fn refusals_say_why(rt: HostRuntime) {
     let rt = &rt;
     for (line, message) in &REFUSED {
-        refuse(rt, *line, *message);
+        let refused = parse_header(rt.alloc(), line.as_bytes()).err();
+        let error = refused.expect(rt, "a refusal");
+        let told = error.to_string(rt.alloc()).expect(rt, "memory");
+        same(rt, (*line, told.as_str()), (*line, *message));
     }
 }
 
@@ -80,41 +70,27 @@ const STREAM: &[u8] = b"YUV4MPEG2 W30 H1 C420jpeg\nFRAME\n\
 abcdefghijklmnopqrstuvwxyz0123ABCDEFGHIJKLMNOPQRSTUVWXYZ4567FRAME Ip\n\
 7654ZYXWVUTSRQPONMLKJIHGFEDCBA3210zyxwvutsrqponmlkjihgfedcba";
 
-/// A frame for a stream of this header.
-fn frame_for(rt: &(impl Abort + AllocGlobal), header: StreamHeader) -> Frame<u8> {
-    header.frame(rt.alloc(), 0).expect(rt, "memory")
-}
-
-/// Copies two frames, and sees the end of the stream.
-fn copy_frames(
-    rt: &(impl Abort + AllocGlobal),
-    reader: &mut Counted<&[u8]>,
-    writer: &mut Counted<Vec<u8>>,
-    frame: &mut Frame<u8>,
-) {
-    for more in [true, true, false] {
-        same(rt, copy_frame(rt.alloc(), reader, writer, frame), Ok(more));
-    }
-}
-
-/// A copy of the stream.
-fn copied(rt: &(impl Abort + AllocGlobal)) -> Vec<u8> {
+#[test]
+fn a_stream_is_copied(rt: HostRuntime) {
+    let rt = &rt;
     let mut reader = Counted::new(STREAM);
     let mut writer = Counted::new(Vec::new(rt.alloc()));
     let header = copy_header(rt.alloc(), &mut reader, &mut writer).expect(rt, "a header");
     let mut frame = frame_for(rt, header);
-    copy_frames(rt, &mut reader, &mut writer, &mut frame);
+    for more in &[true, true, false] {
+        let copied = copy_frame(rt.alloc(), &mut reader, &mut writer, &mut frame);
+        same(rt, copied, Ok(*more));
+    }
     drop(frame);
-    writer.into_inner()
-}
-
-#[test]
-fn a_stream_is_copied(rt: HostRuntime) {
-    let rt = &rt;
     let wanted = b"YUV4MPEG2 W30 H1 C420jpeg\nFRAME\n\
 abcdefghijklmnopqrstuvwxyz0123ABCDEFGHIJKLMNOPQRSTUVWXYZ4567FRAME\n\
 7654ZYXWVUTSRQPONMLKJIHGFEDCBA3210zyxwvutsrqponmlkjihgfedcba";
-    same(rt, copied(rt).as_slice(), wanted);
+    same(rt, writer.into_inner().as_slice(), wanted);
+}
+
+/// A frame of bytes for a stream of this header.
+fn frame_for(rt: &(impl Abort + AllocGlobal), header: StreamHeader) -> Frame<u8> {
+    header.frame(rt.alloc(), 0).expect(rt, "memory")
 }
 
 /// A frame for a stream, of which the header is read.
@@ -132,21 +108,7 @@ fn answer_of<R: Read>(
     text_of(rt, read_frame(rt.alloc(), reader, frame))
 }
 
-/// Stops the test where the read of the second frame has another answer, where a stream has so many bytes.
-fn cut_off(rt: &(impl Abort + AllocGlobal), length: usize, wanted: &str) {
-    let mut reader = Counted::new(&STREAM[..length.min(STREAM.len())]);
-    let mut frame = frame_of(rt, &mut reader);
-    same(
-        rt,
-        answer_of(rt, &mut reader, &mut frame).as_str(),
-        "Ok(true)",
-    );
-    let answer = answer_of(rt, &mut reader, &mut frame);
-    drop(frame);
-    same(rt, (length, answer.as_str()), (length, wanted));
-}
-
-/// Lengths of the stream, and the debug text of the answer.
+/// Lengths of the stream, and the debug text of the answer to the read of its second frame.
 static CUT_OFF: [(usize, &str); 4] = [
     (92, "Ok(false)"),
     (94, "Err(UnfinishedLine)"),
@@ -157,8 +119,14 @@ static CUT_OFF: [(usize, &str); 4] = [
 #[test]
 fn streams_that_are_cut_off_say_where(rt: HostRuntime) {
     let rt = &rt;
-    for (length, answer) in &CUT_OFF {
-        cut_off(rt, *length, *answer);
+    for (length, wanted) in &CUT_OFF {
+        let mut reader = Counted::new(&STREAM[..(*length).min(STREAM.len())]);
+        let mut frame = frame_of(rt, &mut reader);
+        let first = answer_of(rt, &mut reader, &mut frame);
+        let second = answer_of(rt, &mut reader, &mut frame);
+        drop(frame);
+        let told = (*length, first.as_str(), second.as_str());
+        same(rt, told, (*length, "Ok(true)", *wanted));
     }
 }
 

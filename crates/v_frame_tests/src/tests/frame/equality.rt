@@ -17,20 +17,15 @@ fn changed(
 ) -> Frame<u16> {
     let builder = FrameBuilder::new(2, 2, Yuv420, 10);
     let mut frame = builder.build::<u16>(rt.alloc()).expect(rt, "a frame");
-    mark(rt, &mut frame, marked);
+    if let Some(index) = marked {
+        let plane = frame.plane_mut(index).expect(rt, "a plane");
+        *plane.pixel_mut(0, 0).expect(rt, "a pixel") = 1;
+    }
     frame.subsampling = subsampling;
     frame.bit_depth = NonZeroU8::new(depth).expect(rt, "a depth");
     keep(&mut frame.u_plane, keeps_u);
     keep(&mut frame.v_plane, keeps_v);
     frame
-}
-
-/// Marks the first pixel of the plane of this index.
-fn mark(rt: &impl Abort, frame: &mut Frame<u16>, index: Option<usize>) {
-    if let Some(index) = index {
-        let plane = frame.plane_mut(index).expect(rt, "a plane");
-        *plane.pixel_mut(0, 0).expect(rt, "a pixel") = 1;
-    }
 }
 
 /// Drops a plane that is not kept.

@@ -3,7 +3,6 @@
 use crate::tests::support::checks::same;
 use crate::tests::support::texts::shows;
 use std::io::{self, ErrorKind, Read, Write};
-use std::process::Abort;
 use v_frame::chroma::ChromaSubsampling;
 use v_frame::frame::Frame;
 use v_frame_planar::{Counted, PlanarError, read_frame, video_frame, write_frame};
@@ -61,44 +60,20 @@ fn failures_of<D>(inner: &Counted<D>) -> (Option<ErrorKind>, u64) {
     (inner.last_failure(), inner.failures())
 }
 
-/// Stops the test where a read does not fail for this cause as the first of all, or a write and a flush as the next ones.
-fn fails_for(rt: &impl Abort, cause: ErrorKind) {
-    let mut inner = Counted::new(Broken(cause));
-    same(rt, failures_of(&inner), (None, 0));
-    same(rt, (cause, inner.read(&mut [0; 2]).is_err()), (cause, true));
-    same(rt, failures_of(&inner), (Some(cause), 1));
-    same(rt, (cause, inner.write(&[1, 2]).is_err()), (cause, true));
-    same(rt, (cause, inner.flush().is_err()), (cause, true));
-    same(rt, failures_of(&inner), (Some(cause), 3));
-}
-
 #[test]
 fn the_cause_of_each_failure_is_told(rt: HostRuntime) {
     let rt = &rt;
     for cause in &CAUSES {
-        fails_for(rt, *cause);
+        let mut inner = Counted::new(Broken(*cause));
+        let before = failures_of(&inner);
+        let is_unread = inner.read(&mut [0; 2]).is_err();
+        let read = failures_of(&inner);
+        let is_unwritten = inner.write(&[1, 2]).is_err();
+        let is_unsent = inner.flush().is_err();
+        let told = [before, read, failures_of(&inner)];
+        same(rt, told, [(None, 0), (Some(*cause), 1), (Some(*cause), 3)]);
+        same(rt, [is_unread, is_unwritten, is_unsent], [true; 3]);
     }
-}
-
-/// Stops the test where a frame is read from a broken reader.
-fn is_unread(rt: &(impl Abort + AllocGlobal), reader: &mut Counted<Broken>, frame: &mut Frame<u8>) {
-    same(
-        rt,
-        read_frame(rt.alloc(), reader, frame),
-        Err(PlanarError::Read),
-    );
-}
-
-/// Stops the test where a frame is written, or the failure is not the second one, or the next one has another cause.
-fn is_unwritten(
-    rt: &impl Abort,
-    writer: &mut Counted<Broken>,
-    frame: &Frame<u8>,
-    cause: ErrorKind,
-) {
-    same(rt, write_frame(writer, frame), Err(PlanarError::Write));
-    same(rt, failures_of(writer), (Some(cause), 2));
-    same(rt, write_or_cause(writer, frame), Err(cause));
 }
 
 #[test]
@@ -108,9 +83,12 @@ fn frames_tell_the_cause(rt: HostRuntime) {
     let mut inner = Counted::new(Broken(cause));
     let frame = video_frame::<u8>(rt.alloc(), 3, 3, ChromaSubsampling::Yuv420, 8, 0);
     let mut frame = frame.expect(rt, "a frame");
-    is_unread(rt, &mut inner, &mut frame);
+    let read = read_frame(rt.alloc(), &mut inner, &mut frame);
+    same(rt, read, Err(PlanarError::Read));
     same(rt, inner.last_failure(), Some(cause));
-    is_unwritten(rt, &mut inner, &frame, cause);
+    same(rt, write_frame(&mut inner, &frame), Err(PlanarError::Write));
+    same(rt, failures_of(&inner), (Some(cause), 2));
+    same(rt, write_or_cause(&mut inner, &frame), Err(cause));
     drop(frame);
 }
 
@@ -124,14 +102,6 @@ fn what_fails_nothing_tells_nothing(rt: HostRuntime) {
     same(rt, reader.last_failure(), None);
 }
 
-/// A picture of 3 by 2 pixels, whose bytes count from 1.
-fn odd_picture(rt: &(impl Abort + AllocGlobal)) -> Frame<u8> {
-    let bytes = [1, 2, 3, 4, 5, 6, 7, 8, 9, 10, 11, 12];
-    let mut reader = Counted::new(bytes.as_slice());
-    let picture = first_picture(rt.alloc(), &mut reader, 3, 2).expect(rt, "a picture");
-    picture.expect(rt, "a picture before the end")
-}
-
 /// What the plane of this index shows in row `y`, where it is there.
 fn row_of(frame: &Frame<u8>, index: usize, y: usize) -> Option<&[u8]> {
     match frame.plane(index) {
@@ -140,35 +110,26 @@ fn row_of(frame: &Frame<u8>, index: usize, y: usize) -> Option<&[u8]> {
     }
 }
 
-#[test]
-fn an_odd_picture_is_read(rt: HostRuntime) {
-    let rt = &rt;
-    let picture = odd_picture(rt);
-    same(rt, row_of(&picture, 0, 1), Some(&[4, 5, 6]));
-    same(rt, row_of(&picture, 2, 0), Some(&[9, 10]));
-    drop(picture);
-}
-
 /// How many bytes a writer keeps, and how many it sent.
 fn counts_of(writer: &Counted<Keeping>) -> (usize, usize) {
     let inner = writer.inner();
     (inner.kept, inner.sent)
 }
 
-/// Stops the test where a picture of 10 bytes is not kept, or the next one does not send both on their way.
-fn are_sent(rt: &impl Abort, writer: &mut Counted<Keeping>, picture: &Frame<u8>) {
-    same(rt, write_frame(writer, picture), Ok(()));
-    same(rt, counts_of(writer), (10, 0));
-    same(rt, write_and_flush(writer, picture), Ok(()));
-    same(rt, counts_of(writer), (0, 20));
-}
-
 #[test]
-fn an_odd_picture_is_sent_on_its_way(rt: HostRuntime) {
+fn an_odd_picture_is_read_and_sent_on_its_way(rt: HostRuntime) {
     let rt = &rt;
-    let picture = odd_picture(rt);
+    let bytes = [1, 2, 3, 4, 5, 6, 7, 8, 9, 10, 11, 12];
+    let mut reader = Counted::new(bytes.as_slice());
+    let picture = first_picture(rt.alloc(), &mut reader, 3, 2).expect(rt, "a picture");
+    let picture = picture.expect(rt, "a picture before the end");
+    same(rt, row_of(&picture, 0, 1), Some(&[4, 5, 6]));
+    same(rt, row_of(&picture, 2, 0), Some(&[9, 10]));
     let mut writer = Counted::new(Keeping { kept: 0, sent: 0 });
-    are_sent(rt, &mut writer, &picture);
+    same(rt, write_frame(&mut writer, &picture), Ok(()));
+    same(rt, counts_of(&writer), (10, 0));
+    same(rt, write_and_flush(&mut writer, &picture), Ok(()));
     drop(picture);
+    same(rt, counts_of(&writer), (0, 20));
     same(rt, failures_of(&writer), (None, 0));
 }

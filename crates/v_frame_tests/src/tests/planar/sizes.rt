@@ -89,27 +89,19 @@ fn a_border_is_rounded_up_until_chroma_divides(rt: HostRuntime) {
     drop(frame);
 }
 
-/// Stops the test where video has another frame than the builder.
-fn is_as_built(rt: &(impl Abort + AllocGlobal), subsampling: ChromaSubsampling) {
-    let built = FrameBuilder::new(8, 6, subsampling, 10)
-        .luma_padding_left(4)
-        .luma_padding_right(4)
-        .luma_padding_top(4)
-        .luma_padding_bottom(4)
-        .build::<u16>(rt.alloc())
-        .expect(rt, "a frame");
-    same(
-        rt,
-        video_frame(rt.alloc(), 8, 6, subsampling, 10, 4),
-        Ok(built),
-    );
-}
-
 #[test]
 fn a_frame_that_divides_is_as_built(rt: HostRuntime) {
     let rt = &rt;
-    for subsampling in [Yuv420, Yuv422, Yuv411, Yuv444, Monochrome] {
-        is_as_built(rt, subsampling);
+    for subsampling in &[Yuv420, Yuv422, Yuv411, Yuv444, Monochrome] {
+        let built = FrameBuilder::new(8, 6, *subsampling, 10)
+            .luma_padding_left(4)
+            .luma_padding_right(4)
+            .luma_padding_top(4)
+            .luma_padding_bottom(4)
+            .build::<u16>(rt.alloc())
+            .expect(rt, "a frame");
+        let frame = video_frame(rt.alloc(), 8, 6, *subsampling, 10, 4);
+        same(rt, frame, Ok(built));
     }
 }
 
@@ -145,19 +137,14 @@ static REFUSED: [Refusal; 10] = [
     ),
 ];
 
-/// Stops the test where a frame is refused for another reason.
-fn check_refusal(rt: &(impl Abort + AllocGlobal), refusal: Refusal) {
-    let (size, depth, padding, _) = refusal;
-    let (width, height) = size;
-    let frame = video_frame::<u8>(rt.alloc(), width, height, Yuv420, depth, padding);
-    let told = text_of(rt, frame.err());
-    same(rt, (size, depth, padding, told.as_str()), refusal);
-}
-
 #[test]
 fn frames_are_refused_for_the_first_reason(rt: HostRuntime) {
     let rt = &rt;
     for refusal in &REFUSED {
-        check_refusal(rt, *refusal);
+        let (size, depth, padding, _) = *refusal;
+        let (width, height) = size;
+        let frame = video_frame::<u8>(rt.alloc(), width, height, Yuv420, depth, padding);
+        let told = text_of(rt, frame.err());
+        same(rt, (size, depth, padding, told.as_str()), *refusal);
     }
 }

@@ -15,15 +15,11 @@ type Case = (Shape, [Option<u8>; 4]);
 fn holding(rt: &(impl Abort + AllocGlobal), (shape, entries): Case) -> Plane<Option<u8>> {
     let ([width, height, left, right], [ratio_x, ratio_y]) = shape;
     let geometry = PlaneGeometry::new(width, height, left, right, 0, 0, ratio_x, ratio_y);
-    let mut plane = vacant(rt, geometry.expect(rt, "a geometry"));
+    let geometry = geometry.expect(rt, "a geometry");
+    let _size = geometry.checked_alloc_size().expect(rt, "a buffer");
+    let mut plane = Plane::new_uninit(rt.alloc(), geometry).expect(rt, "memory");
     write_entries(rt, plane.data_mut(), &entries);
     plane
-}
-
-/// A plane without a value.
-fn vacant(rt: &(impl Abort + AllocGlobal), geometry: PlaneGeometry) -> Plane<Option<u8>> {
-    let _size = geometry.checked_alloc_size().expect(rt, "a buffer");
-    Plane::new_uninit(rt.alloc(), geometry).expect(rt, "memory")
 }
 
 /// The shape that others are compared with.
@@ -33,7 +29,7 @@ const SHAPE: Shape = ([2, 1, 1, 1], [1, 1]);
 const ENTRIES: [Option<u8>; 4] = [Some(1), Some(2), Some(3), Some(4)];
 
 /// Entries that make another plane.
-const OTHER_ENTRIES: [[Option<u8>; 4]; 4] = [
+static OTHER_ENTRIES: [[Option<u8>; 4]; 4] = [
     [Some(9), Some(2), Some(3), Some(4)],
     [Some(1), Some(2), Some(3), Some(9)],
     [Some(1), Some(9), Some(3), Some(4)],
@@ -60,8 +56,8 @@ fn compare(rt: &(impl Abort + AllocGlobal), case: Case, wanted: (bool, bool)) {
 fn planes_are_equal_in_geometry_and_in_each_entry(rt: HostRuntime) {
     let rt = &rt;
     compare(rt, (SHAPE, ENTRIES), (true, false));
-    for entries in OTHER_ENTRIES {
-        compare(rt, (SHAPE, entries), (false, true));
+    for entries in &OTHER_ENTRIES {
+        compare(rt, (SHAPE, *entries), (false, true));
     }
     for shape in &OTHER_SHAPES {
         compare(rt, (*shape, ENTRIES), (false, true));
