@@ -3,5 +3,4 @@
 mod calls;
 mod long_rows;
 mod reads;
-mod texts;
 mod writes;

@@ -12,4 +12,3 @@ pub mod readers;
 pub mod reads;
 pub mod texts;
 pub mod watched;
-pub mod writers;

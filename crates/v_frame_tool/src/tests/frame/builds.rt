@@ -1,15 +1,14 @@
 //! Frames that are built: the sizes of their planes, and what these hold.
 
-use crate::tests::support::checks::{Test, must, must_at, must_have};
+use crate::tests::support::checks::{Test, must, must_have, same, same_at};
 use crate::tests::support::frames::{blank_plane, built, mark, padded};
 use crate::tests::support::reads::numbers_of;
 use v_frame::chroma::ChromaSubsampling::{self, Monochrome, Yuv411, Yuv420, Yuv422, Yuv444};
-use v_frame::frame::Frame;
 use v_frame::pixel::Pixel;
 use v_frame::plane::Plane;
 
 /// A width, a height, a format, a depth, and paddings left, right, top and bottom.
-type Shape = ((usize, usize), ChromaSubsampling, u8, [usize; 4]);
+pub type Shape = ((usize, usize), ChromaSubsampling, u8, [usize; 4]);
 
 /// A frame, and the size of its chroma planes.
 type Built = (Shape, Option<(usize, usize)>);
@@ -44,42 +43,27 @@ static WORDS: [Built; 9] = [
     (((3840, 2160), Yuv420, 10, [0; 4]), Some((1920, 1080))),
 ];
 
-/// Whether a plane has this size, or is not there where it has none.
-fn has_size<T: Pixel>(plane: Option<&Plane<T>>, size: Option<(usize, usize)>) -> bool {
+/// The size of a plane, where the plane is there.
+fn size_of<T: Pixel>(plane: Option<&Plane<T>>) -> Option<(usize, usize)> {
     match plane {
-        Some(plane) => Some((plane.width(), plane.height())) == size,
-        None => size.is_none(),
+        Some(plane) => Some((plane.width(), plane.height())),
+        None => None,
     }
 }
 
-/// Whether a frame is built as asked, with chroma planes of this size.
-fn is_built<T: Pixel>(
-    rt: &impl Test,
-    (luma, format, depth, padding): Shape,
-    chroma: Option<(usize, usize)>,
-) -> bool {
-    let frame = built::<T>(rt, padded(luma, format, depth, padding));
-    let is_format = frame.subsampling == format && frame.bit_depth.get() == depth;
-    let is_sized = has_sizes(&frame, luma, chroma);
-    drop(frame);
-    is_format && is_sized
-}
-
-/// Whether a frame has planes of these sizes.
-fn has_sizes<T: Pixel>(
-    frame: &Frame<T>,
-    luma: (usize, usize),
-    chroma: Option<(usize, usize)>,
-) -> bool {
-    has_size(frame.plane(0), Some(luma))
-        && has_size(frame.plane(1), chroma)
-        && has_size(frame.plane(2), chroma)
-}
-
-/// Stops the test at the first of these frames that is not built as asked.
+/// Stops the test where one of these frames is not built as asked.
 fn check_builds<T: Pixel>(rt: &impl Test, cases: &[Built]) {
-    for (number, (shape, chroma)) in cases.iter().enumerate() {
-        must_at(rt, is_built::<T>(rt, *shape, *chroma), number);
+    for (number, ((size, format, depth, padding), chroma)) in cases.iter().enumerate() {
+        let frame = built::<T>(rt, padded(*size, *format, *depth, *padding));
+        let kind = (frame.subsampling, frame.bit_depth.get());
+        let sizes = [
+            size_of(frame.plane(0)),
+            size_of(frame.plane(1)),
+            size_of(frame.plane(2)),
+        ];
+        drop(frame);
+        same_at(rt, kind, (*format, *depth), number);
+        same_at(rt, sizes, [Some(*size), *chroma, *chroma], number);
     }
 }
 
@@ -89,11 +73,11 @@ fn chroma_planes_have_the_size_of_the_format(rt: HostRuntime) {
     check_builds::<u16>(&rt, &WORDS);
 }
 
-/// Whether a plane is there whose first pixel is this one.
-fn begins_with(plane: Option<&Plane<u8>>, value: u8) -> bool {
+/// The first pixel of a plane, where the plane is there.
+fn first_of(plane: Option<&Plane<u8>>) -> Option<u8> {
     match plane {
-        Some(plane) => plane.pixel(0, 0) == Some(value),
-        None => false,
+        Some(plane) => plane.pixel(0, 0),
+        None => None,
     }
 }
 
@@ -104,37 +88,28 @@ fn a_mark_in_each_plane(rt: HostRuntime) {
     mark(rt, &mut frame, 0, 11);
     mark(rt, &mut frame, 1, 22);
     mark(rt, &mut frame, 2, 33);
-    must(rt, has_marks(&frame));
+    let found = [
+        first_of(frame.plane(0)),
+        first_of(Some(&frame.y_plane)),
+        first_of(frame.plane(1)),
+        first_of(frame.u_plane.as_ref()),
+        first_of(frame.plane(2)),
+        first_of(frame.v_plane.as_ref()),
+    ];
+    let wanted = [Some(11), Some(11), Some(22), Some(22), Some(33), Some(33)];
+    same(rt, found, wanted);
+    must(rt, frame.plane(3).is_none());
     drop(frame);
 }
 
-/// Whether the three planes of a frame begin with 11, 22 and 33.
-fn has_marks(frame: &Frame<u8>) -> bool {
-    begins_with(frame.plane(0), 11)
-        && begins_with(Some(&frame.y_plane), 11)
-        && begins_with(frame.plane(1), 22)
-        && begins_with(frame.u_plane.as_ref(), 22)
-        && begins_with(frame.plane(2), 33)
-        && begins_with(frame.v_plane.as_ref(), 33)
-        && frame.plane(3).is_none()
-}
-
 /// The numbers of a geometry, and a buffer.
-type Layout<T> = ([usize; 9], &'static [T]);
-
-/// Whether a plane is there with this layout.
-fn has_layout<T: Pixel>(plane: Option<&Plane<T>>, (numbers, buffer): Layout<T>) -> bool {
-    match plane {
-        Some(plane) => numbers_of(&plane.geometry()) == numbers && plane.data() == buffer,
-        None => false,
-    }
-}
+pub type Layout<'a, T> = ([usize; 9], &'a [T]);
 
 /// A frame, and the layouts of luma and of both chroma planes.
-type LaidOut<T> = (Shape, Layout<T>, Layout<T>);
+pub type LaidOut<'a, T> = (Shape, Layout<'a, T>, Layout<'a, T>);
 
 /// Padded frames.
-static PADDED: [LaidOut<u8>; 2] = [
+static PADDED: [LaidOut<'static, u8>; 2] = [
     (
         ((4, 2), Yuv420, 8, [2, 2, 2, 0]),
         ([4, 2, 8, 2, 2, 2, 0, 1, 1], &[0; 32]),
@@ -148,36 +123,50 @@ static PADDED: [LaidOut<u8>; 2] = [
 ];
 
 /// A frame of words.
-static HALVED: [LaidOut<u16>; 1] = [(
+static HALVED: [LaidOut<'static, u16>; 1] = [(
     ((2, 2), Yuv422, 16, [0; 4]),
     ([2, 2, 2, 0, 0, 0, 0, 1, 1], &[0; 4]),
     ([1, 2, 1, 0, 0, 0, 0, 2, 1], &[0; 2]),
 )];
 
-/// Stops the test where a luma plane or a chroma plane has another layout.
-fn check_layouts<T: Pixel>(rt: &impl Test, cases: &[LaidOut<T>]) {
-    for (number, case) in cases.iter().enumerate() {
-        must_at(rt, is_laid_out(rt, *case), number);
-    }
+/// Stops the test where a plane is not there, or has another layout.
+fn must_lie<T: Pixel>(
+    rt: &impl Test,
+    plane: Option<&Plane<T>>,
+    wanted: Layout<'_, T>,
+    number: usize,
+) {
+    let found = match plane {
+        Some(plane) => Some((numbers_of(&plane.geometry()), plane.data())),
+        None => None,
+    };
+    same_at(rt, found, Some(wanted), number);
 }
 
-/// Whether a frame is built with planes of these layouts.
-fn is_laid_out<T: Pixel>(
+/// Stops the test where a frame is built with a luma plane or a chroma plane of another layout.
+pub fn check_layout<T: Pixel>(
     rt: &impl Test,
-    ((size, format, depth, padding), luma, chroma): LaidOut<T>,
-) -> bool {
+    number: usize,
+    (size, format, depth, padding): Shape,
+    luma: Layout<'_, T>,
+    chroma: Layout<'_, T>,
+) {
     let frame = built::<T>(rt, padded(size, format, depth, padding));
-    let are_laid_out = has_layout(frame.plane(0), luma)
-        && has_layout(frame.plane(1), chroma)
-        && has_layout(frame.plane(2), chroma);
+    same_at(rt, frame.bit_depth.get(), depth, number);
+    must_lie(rt, frame.plane(0), luma, number);
+    must_lie(rt, frame.plane(1), chroma, number);
+    must_lie(rt, frame.plane(2), chroma, number);
     drop(frame);
-    are_laid_out
 }
 
 #[test]
 fn planes_are_padded_and_zero(rt: HostRuntime) {
     let rt = &rt;
-    check_layouts(rt, &PADDED);
-    check_layouts(rt, &HALVED);
+    for (number, (shape, luma, chroma)) in PADDED.iter().enumerate() {
+        check_layout(rt, number, *shape, *luma, *chroma);
+    }
+    for (shape, luma, chroma) in &HALVED {
+        check_layout(rt, 2, *shape, *luma, *chroma);
+    }
     must_have(rt, &blank_plane::<u16>(rt, (32, 16, [0; 4])), &[0; 512]);
 }

@@ -1,8 +1,9 @@
 //! The debug texts of frames.
 
-use crate::tests::support::frames::{built, nine, padded};
+use crate::tests::support::buffers;
+use crate::tests::support::frames::{built, padded, with_buffer};
 use crate::tests::support::texts::must_show;
-use v_frame::chroma::ChromaSubsampling;
+use v_frame::chroma::ChromaSubsampling::Yuv422;
 
 /// The text of a frame without chroma, three pixels by three.
 const NINE: &str = "Frame { y_plane: Plane { data: [0, 1, 2, 3, 4, ..], geometry: PlaneGeometry { \
@@ -23,7 +24,10 @@ const HALVED: &str =
 #[test]
 fn chroma_planes_show_as_options(rt: HostRuntime) {
     let rt = &rt;
-    must_show(rt, &nine(rt), NINE);
-    let halved = padded((2, 1), ChromaSubsampling::Yuv422, 8, [0; 4]);
-    must_show(rt, &built::<u8>(rt, halved), HALVED);
+    let nine = with_buffer(rt, (3, 3, [0; 4]), &buffers::NINE);
+    must_show(rt, &nine, NINE);
+    drop(nine);
+    let halved = built::<u8>(rt, padded((2, 1), Yuv422, 8, [0; 4]));
+    must_show(rt, &halved, HALVED);
+    drop(halved);
 }

@@ -1,45 +1,21 @@
 //! Frames in 4:4:4 with each padding from 0 to 9 on each side.
 
+use crate::tests::frame::builds::check_layout;
 use crate::tests::support::checks::Test;
-use crate::tests::support::frames::{built, padded};
-use crate::tests::support::reads::numbers_of;
 use v_frame::chroma::ChromaSubsampling::Yuv444;
-use v_frame::frame::Frame;
 use v_frame::pixel::Pixel;
-use v_frame::plane::Plane;
 
-/// Whether a plane is there with these numbers, and so many zeros.
-fn is_zero<T: Pixel>(plane: Option<&Plane<T>>, numbers: [usize; 9], count: usize) -> bool {
-    match plane {
-        Some(plane) => {
-            let mut is_zero = plane.data().len() == count;
-            for entry in plane.data() {
-                is_zero = *entry == T::ZERO && is_zero;
-            }
-            is_zero && numbers_of(&plane.geometry()) == numbers
-        }
-        None => false,
-    }
-}
-
-/// Whether three planes of three pixels by two are built with these paddings.
-fn is_built<T: Pixel>(rt: &impl Test, depth: u8, padding: [usize; 4]) -> bool {
+/// Stops the test where three planes of three pixels by two are not built with these paddings, or do not hold as many of
+/// these zeros alone.
+fn check_padding<T: Pixel>(rt: &impl Test, depth: u8, padding: [usize; 4], zeros: &[T]) {
     let [left, right, top, bottom] = padding;
     let stride = left.saturating_add(3).saturating_add(right);
     let rows = top.saturating_add(2).saturating_add(bottom);
-    let count = rows.saturating_mul(stride);
     let numbers = [3, 2, stride, left, right, top, bottom, 1, 1];
-    let frame = built::<T>(rt, padded((3, 2), Yuv444, depth, padding));
-    let is_built = frame.bit_depth.get() == depth && are_zero(&frame, numbers, count);
-    drop(frame);
-    is_built
-}
-
-/// Whether the three planes of a frame have these numbers, and so many zeros.
-fn are_zero<T: Pixel>(frame: &Frame<T>, numbers: [usize; 9], count: usize) -> bool {
-    is_zero(frame.plane(0), numbers, count)
-        && is_zero(frame.plane(1), numbers, count)
-        && is_zero(frame.plane(2), numbers, count)
+    let wanted = zeros.get(..rows.saturating_mul(stride));
+    let zeros = wanted.expect(rt, "so many zeros");
+    let shape = ((3, 2), Yuv444, depth, padding);
+    check_layout(rt, stride, shape, (numbers, zeros), (numbers, zeros));
 }
 
 #[test]
@@ -47,9 +23,8 @@ fn full_chroma_is_built_with_each_padding(rt: HostRuntime) {
     for left in 0..10 {
         for right in 0..10 {
             let padding = [left, right, 9 - left, 9 - right];
-            let is_bytes = is_built::<u8>(&rt, 8, padding);
-            let is_words = is_built::<u16>(&rt, 10, padding);
-            assert!(rt; is_bytes && is_words, "{left} left and {right} right");
+            check_padding::<u8>(&rt, 8, padding, &[0; 132]);
+            check_padding::<u16>(&rt, 10, padding, &[0; 132]);
         }
     }
 }

@@ -1,6 +1,6 @@
 //! Ratios of the five formats, and the sizes that they give chroma planes.
 
-use crate::tests::support::checks::must_at;
+use crate::tests::support::checks::same_at;
 use v_frame::chroma::ChromaSubsampling::{self, Monochrome, Yuv411, Yuv420, Yuv422, Yuv444};
 
 /// The formats, and the ratios of their chroma.
@@ -11,18 +11,6 @@ static RATIOS: [(ChromaSubsampling, Option<(u8, u8)>); 5] = [
     (Yuv444, Some((1, 1))),
     (Monochrome, None),
 ];
-
-#[test]
-fn ratios_of_the_formats(rt: HostRuntime) {
-    for (number, (format, ratio)) in RATIOS.iter().enumerate() {
-        let found = match format.subsample_ratio() {
-            Some((x, y)) => Some((x.get(), y.get())),
-            None => None,
-        };
-        let told = (found, format.has_chroma());
-        must_at(&rt, told == (*ratio, ratio.is_some()), number);
-    }
-}
 
 /// Formats, sizes of luma, and sizes of chroma.
 static SIZES: [(ChromaSubsampling, (usize, usize), Option<(usize, usize)>); 19] = [
@@ -48,9 +36,17 @@ static SIZES: [(ChromaSubsampling, (usize, usize), Option<(usize, usize)>); 19] 
 ];
 
 #[test]
-fn sizes_under_each_format(rt: HostRuntime) {
+fn formats_have_their_ratios_and_sizes(rt: HostRuntime) {
+    for (number, (format, ratio)) in RATIOS.iter().enumerate() {
+        let found = match format.subsample_ratio() {
+            Some((x, y)) => Some((x.get(), y.get())),
+            None => None,
+        };
+        let told = (found, format.has_chroma());
+        same_at(&rt, told, (*ratio, ratio.is_some()), number);
+    }
     for (number, (format, (width, height), chroma)) in SIZES.iter().enumerate() {
         let found = format.chroma_dimensions(*width, *height);
-        must_at(&rt, found == *chroma, number);
+        same_at(&rt, found, *chroma, number);
     }
 }

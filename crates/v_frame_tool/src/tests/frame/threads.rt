@@ -11,4 +11,5 @@ fn frames_may_cross_threads(rt: HostRuntime) {
     crosses(&frame);
     crosses(&frame.y_plane);
     crosses(&frame.y_plane.as_plane_ref());
+    drop(frame);
 }

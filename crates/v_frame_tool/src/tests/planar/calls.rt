@@ -2,21 +2,12 @@
 
 use crate::counted::Counted;
 use crate::planar::write_frame;
-use crate::tests::support::checks::{Test, must, must_at, must_for, same};
+use crate::tests::support::checks::{Test, same, same_at};
 use crate::tests::support::planar::six_bytes;
 use crate::tests::support::readers::{Pieces, pieces_of};
 use crate::tests::support::texts::must_show;
-use crate::tests::support::watched::{WatchedWriter, watched_writer};
-use std::alloc::Global;
-use v_frame::frame::Frame;
-
-/// Whether a writer was called so: the calls of `write`, those that offered nothing, the calls of `flush`, and the bytes
-/// that were taken.
-fn has_calls(out: &Counted<WatchedWriter>, calls: [usize; 3], taken: &[u8]) -> bool {
-    let writer = out.inner();
-    [writer.writes, writer.empty_writes, writer.flushes] == calls
-        && writer.taken.as_slice() == taken
-}
+use crate::tests::support::watched::Habit::Fails;
+use crate::tests::support::watched::{calls_of, must_have_taken, watched_writer};
 
 /// Bytes, how many of them a call takes, and the calls of `write`, the empty ones and the failures after it.
 type Call = (&'static [u8], Option<usize>, usize, usize, u64);
@@ -30,76 +21,56 @@ static CALLS: [Call; 3] = [
 
 #[test]
 fn a_write_is_one_call_and_no_flush(rt: HostRuntime) {
-    let mut out = Counted::new(watched_writer(rt.alloc(), 2, 3));
-    for case in &CALLS {
-        check_write(&rt, &mut out, case);
+    let rt = &rt;
+    let mut out = watched_writer(rt.alloc(), 2, 2, Fails);
+    for (bytes, taken, writes, empty_writes, failures) in &CALLS {
+        let count = out.write(*bytes).ok();
+        let told = (count, calls_of(&out));
+        same_at(rt, told, (*taken, [*writes, *empty_writes, 0]), *writes);
+        must_have_taken(rt, &out, (*failures, &[1, 2]), *writes);
     }
-    must(
-        &rt,
-        out.write_all(&[]).is_ok() && has_calls(&out, [3, 1, 0], &[1, 2]),
-    );
+    same(rt, out.write_all(&[]), Ok(()));
+    same(rt, calls_of(&out), [3, 1, 0]);
+    must_have_taken(rt, &out, (1, &[1, 2]), 4);
 }
 
-/// Stops the test where a write takes another count of bytes, or is made by other calls.
-fn check_write(
-    rt: &impl Test,
-    out: &mut Counted<WatchedWriter>,
-    (bytes, taken, writes, empty_writes, failures): &Call,
-) {
-    let count = out.write(*bytes).ok();
-    must_at(rt, count == *taken && out.failures() == *failures, *writes);
-    let are_right = has_calls(out, [*writes, *empty_writes, 0], &[1, 2]);
-    must_at(rt, are_right, *writes);
-}
-
-/// How many bytes a call takes at most, the call that fails, the answer to writing 1 to 5, the calls, and what is taken.
-type AllWritten = (usize, usize, &'static str, usize, &'static [u8]);
+/// How many bytes a call takes at most, how many calls take some before one fails, the answer to writing 1 to 5, the calls,
+/// the failures, and what is taken.
+type AllWritten = (usize, usize, &'static str, usize, u64, &'static [u8]);
 
 /// Writers that take all of five bytes, and that do not.
 static ALL: [AllWritten; 5] = [
-    (2, 0, "Ok(())", 3, &[1, 2, 3, 4, 5]),
-    (9, 0, "Ok(())", 1, &[1, 2, 3, 4, 5]),
-    (2, 1, "Err(Failed)", 1, &[]),
-    (2, 3, "Err(Failed)", 3, &[1, 2, 3, 4]),
-    (0, 0, "Err(TookNothing)", 1, &[]),
+    (2, 64, "Ok(())", 3, 0, &[1, 2, 3, 4, 5]),
+    (9, 64, "Ok(())", 1, 0, &[1, 2, 3, 4, 5]),
+    (2, 0, "Err(Failed)", 1, 1, &[]),
+    (2, 2, "Err(Failed)", 3, 1, &[1, 2, 3, 4]),
+    (0, 64, "Err(TookNothing)", 1, 0, &[]),
 ];
-
-/// Stops the test where writing all of five bytes is answered otherwise, or by other calls.
-fn check_all(rt: &impl Test, (most, failing, answer, calls, taken): AllWritten) {
-    let mut out = Counted::new(watched_writer(rt.alloc(), most, failing));
-    let written = out.write_all(&[1, 2, 3, 4, 5]);
-    must_show(rt, &written, answer);
-    must_for(rt, has_calls(&out, [calls, 0, 0], taken), answer);
-}
 
 #[test]
 fn writing_all_calls_until_all_is_taken_or_a_call_fails(rt: HostRuntime) {
-    for case in &ALL {
-        check_all(&rt, *case);
+    let rt = &rt;
+    for (number, (most, takes, answer, calls, failures, taken)) in ALL.iter().enumerate() {
+        let mut out = watched_writer(rt.alloc(), *most, *takes, Fails);
+        let written = out.write_all(&[1, 2, 3, 4, 5]);
+        must_show(rt, &written, *answer);
+        same_at(rt, calls_of(&out), [*calls, 0, 0], number);
+        must_have_taken(rt, &out, (*failures, *taken), number);
     }
 }
 
 #[test]
 fn a_frame_is_written_without_a_flush_and_without_an_empty_write(rt: HostRuntime) {
-    let frame = six_bytes(&rt, [1, 2, 3, 4, 5, 6]);
+    let rt = &rt;
+    let frame = six_bytes(rt, [1, 2, 3, 4, 5, 6]);
     for most in [1, 4, 6] {
-        must_at(&rt, is_written(rt.alloc(), &frame, most), most);
+        let mut out = watched_writer(rt.alloc(), most, 64, Fails);
+        same_at(rt, write_frame(&mut out, &frame), Ok(()), most);
+        let [_writes, empty_writes, flushes] = calls_of(&out);
+        same_at(rt, [empty_writes, flushes], [0; 2], most);
+        must_have_taken(rt, &out, (0, &[1, 2, 3, 4, 5, 6]), most);
     }
     drop(frame);
-}
-
-/// Whether a writer that takes so many bytes a call is offered some at each, is not flushed, and has the bytes 1 to 6 then.
-fn is_written(alloc: Global, frame: &Frame<u8>, most: usize) -> bool {
-    let mut out = Counted::new(watched_writer(alloc, most, 0));
-    let answer = write_frame(&mut out, frame);
-    let writes = out.inner().writes;
-    answer == Ok(()) && has_calls(&out, [writes, 0, 0], &[1, 2, 3, 4, 5, 6])
-}
-
-/// How many bytes a read gives, and how many calls of `read` there were.
-fn read_once(reader: &mut Counted<Pieces<'_>>, buf: &mut [u8]) -> (Option<usize>, usize) {
-    let count = reader.read(buf).ok();
-    (count, reader.inner().reads)
 }
 
 /// Stops the test where a read gives another count of bytes, is made by another number of calls, or leaves others in the
@@ -110,8 +81,10 @@ fn check_read(
     buf: &mut [u8],
     (count, reads, left): (Option<usize>, usize, &[u8]),
 ) {
-    must_at(rt, read_once(reader, buf) == (count, reads), reads);
-    must_at(rt, *buf == *left, reads);
+    let found = reader.read(buf).ok();
+    same_at(rt, found, count, reads);
+    same(rt, reader.inner().reads, reads);
+    same_at(rt, &*buf, left, reads);
 }
 
 #[test]

@@ -1,11 +1,9 @@
 //! Copies of bytes into a plane, packed and with a stride.
 
-use crate::tests::support::buffers::{has_buffer, holds};
-use crate::tests::support::bytes::{push_stepped, push_stepped_words, stepped, stepped_words};
-use crate::tests::support::checks::{Test, must, must_at, must_have, same};
-use crate::tests::support::frames::{
-    BARE, BORDERED, Layout, blank_plane, numbered_plane, plane_of,
-};
+use crate::tests::support::buffers::{expected_buffer, must_hold, must_show_rows};
+use crate::tests::support::bytes::{stepped, stepped_words};
+use crate::tests::support::checks::{Test, must_have, same_at};
+use crate::tests::support::frames::{BARE, BORDERED, blank_plane, numbered_plane, plane_of};
 use crate::tests::support::texts::must_show;
 use v_frame::pixel::Pixel;
 use v_frame::plane::Plane;
@@ -13,22 +11,12 @@ use v_frame::plane::Plane;
 /// A copy: the source, its stride, the debug text of the answer, and the buffer after it.
 type Copied<'a, T> = (&'a [u8], usize, &'a str, &'a [T]);
 
-/// Stops the test where a copy into a plane answers or leaves anything else.
-fn check_copy<T: Pixel>(
-    rt: &impl Test,
-    plane: &mut Plane<T>,
-    (source, stride, answer, after): Copied<'_, T>,
-) {
-    let copied = plane.copy_from_u8_slice_with_stride(source, stride);
-    must_show(rt, &copied, answer);
-    must_have(rt, plane, after);
-}
-
-/// The same of copies into a plane of zeros, one after the other.
-fn check_copies<T: Pixel>(rt: &impl Test, layout: Layout, copies: &[Copied<'_, T>]) {
-    let mut plane = blank_plane::<T>(rt, layout);
-    for copied in copies {
-        check_copy(rt, &mut plane, *copied);
+/// Stops the test where one of these copies into a plane, one after the other, answers or leaves anything else.
+fn check_copies<T: Pixel>(rt: &impl Test, plane: &mut Plane<T>, copies: &[Copied<'_, T>]) {
+    for (source, stride, answer, after) in copies {
+        let copied = plane.copy_from_u8_slice_with_stride(*source, *stride);
+        must_show(rt, &copied, *answer);
+        must_have(rt, plane, *after);
     }
 }
 
@@ -116,13 +104,11 @@ static SQUARE: [Copied<'static, u8>; 1] = [(
 fn bytes_are_copied_without_their_tails_or_refused(rt: HostRuntime) {
     let rt = &rt;
     let mut bordered = plane_of::<u8>(rt, BORDERED, &BEFORE);
-    for copied in &TAILS {
-        check_copy(rt, &mut bordered, *copied);
-    }
-    must(rt, has_buffer(&bordered, BORDERED, &AFTER));
-    check_copies(rt, (5, 2, [0; 4]), &FIVE);
-    check_copies(rt, BARE, &LARGEST);
-    check_copies(rt, (2, 2, [0; 4]), &SQUARE);
+    check_copies(rt, &mut bordered, &TAILS);
+    must_show_rows(rt, &bordered, BORDERED, &AFTER);
+    check_copies(rt, &mut blank_plane(rt, (5, 2, [0; 4])), &FIVE);
+    check_copies(rt, &mut blank_plane(rt, BARE), &LARGEST);
+    check_copies(rt, &mut blank_plane(rt, (2, 2, [0; 4])), &SQUARE);
 }
 
 /// Strides in bytes for two words by two.
@@ -159,28 +145,23 @@ static WORDS: [Copied<'static, u16>; 5] = [
     ),
 ];
 
-#[test]
-fn words_are_copied_by_strides_in_bytes(rt: HostRuntime) {
-    check_copies(&rt, (2, 2, [0; 4]), &WORDS);
-}
+/// Two words by two, with a column to the left and a row below.
+const PACKED: [u16; 9] = [
+    0xA100, 0x0102, 0x0304, 0xA103, 0x0506, 0x0708, 0xA106, 0xA107, 0xA108,
+];
 
 #[test]
-fn packed_words(rt: HostRuntime) {
+fn words_are_copied_packed_and_by_strides_in_bytes(rt: HostRuntime) {
     let rt = &rt;
+    check_copies(rt, &mut blank_plane(rt, (2, 2, [0; 4])), &WORDS);
     let before = [0xA100, 0, 0, 0xA103, 0, 0, 0xA106, 0xA107, 0xA108];
-    let wanted = [
-        0xA100, 0x0102, 0x0304, 0xA103, 0x0506, 0x0708, 0xA106, 0xA107, 0xA108,
-    ];
     let mut plane = plane_of::<u16>(rt, (2, 2, [1, 0, 0, 1]), &before);
-    must_show(
-        rt,
-        &plane.copy_from_u8_slice(&[2, 1, 4, 3, 6, 5, 8, 7]),
-        "Ok(())",
-    );
-    must_have(rt, &plane, &wanted);
+    let copied = plane.copy_from_u8_slice(&[2, 1, 4, 3, 6, 5, 8, 7]);
+    must_show(rt, &copied, "Ok(())");
+    must_have(rt, &plane, &PACKED);
     let refused = plane.copy_from_u8_slice(&[2, 1, 4, 3]);
     must_show(rt, &refused, "Err(DataLength { expected: 8, found: 4 })");
-    must_have(rt, &plane, &wanted);
+    must_have(rt, &plane, &PACKED);
 }
 
 /// The widths of planes of words and the strides of two rows for them, with the last pixel of the second.
@@ -192,67 +173,36 @@ static WIDTHS: [(usize, usize, u16); 5] = [
     (33, 67, 0xE7E0),
 ];
 
-/// Two rows of so many bytes, which begin at 1 and 32 and grow by 7.
-fn two_rows(rt: &impl Test, stride: usize) -> Vec<u8> {
-    let mut bytes = stepped(rt, 1, 7, stride);
-    push_stepped(rt, &mut bytes, 32, 7, stride);
-    bytes
-}
-
-/// The first so many words of each of these two rows of bytes.
-fn words_of_two_rows(rt: &impl Test, width: usize) -> Vec<u16> {
-    let mut words = stepped_words(rt, 1, 7, width);
-    push_stepped_words(rt, &mut words, 32, 7, width);
-    words
-}
-
-/// Copies these two rows of bytes into a plane.
-fn copy_two_rows(rt: &impl Test, plane: &mut Plane<u16>, stride: usize) {
-    let source = two_rows(rt, stride);
+/// Copies two rows of so many bytes into a plane, which begin at 1 and 32 and grow by 7. Stops the test where the first
+/// pixel of each row is not that of its bytes, or the last one is not this.
+fn copy_two_rows(
+    rt: &impl Test,
+    plane: &mut Plane<u16>,
+    (width, stride, last): (usize, usize, u16),
+) {
+    let source = stepped(rt, &[1, 32], 7, stride);
     let copied = plane.copy_from_u8_slice_with_stride(source.as_slice(), stride);
-    must(rt, copied.is_ok());
-}
-
-/// Stops the test where the words are not those of the source, or an entry of a numbered border changes.
-fn check_border(rt: &impl Test, width: usize, stride: usize) {
-    let layout = (width, 2, [3, 1, 0, 0]);
-    let mut plane = numbered_plane::<u16>(rt, layout);
-    copy_two_rows(rt, &mut plane, stride);
-    let words = words_of_two_rows(rt, width);
-    must_at(rt, holds(rt, &plane, layout, words.as_slice()), width);
-}
-
-/// Whether the border of two rows of so many words holds 0xABCD.
-fn is_border(buffer: &[u16], width: usize) -> bool {
-    let between = width.saturating_add(3)..width.saturating_add(7);
-    buffer.get(..3) == Some([0xABCD; 3].as_slice())
-        && buffer.get(between) == Some([0xABCD; 4].as_slice())
-        && buffer.last() == Some(&0xABCD)
-}
-
-/// Stops the test where words are not copied, or the border does not stay.
-fn check_width(rt: &impl Test, (width, stride, last): (usize, usize, u16)) {
-    let mut plane = blank_plane::<u16>(rt, (width, 2, [3, 1, 0, 0]));
-    plane.data_mut().fill(0xABCD);
-    copy_two_rows(rt, &mut plane, stride);
-    must_at(rt, has_three(&plane, width, last), width);
-    must_at(rt, is_border(plane.data(), width), width);
-}
-
-/// Whether the first pixel of each row is that of its bytes, and the last one is this.
-fn has_three(plane: &Plane<u16>, width: usize, last: u16) -> bool {
+    same_at(rt, copied, Ok(()), width);
     let found = [
         plane.pixel(0, 0),
         plane.pixel(0, 1),
         plane.pixel(width.saturating_sub(1), 1),
     ];
-    found == [Some(0x0801), Some(0x2720), Some(last)]
+    same_at(rt, found, [Some(0x0801), Some(0x2720), Some(last)], width);
 }
 
 #[test]
 fn words_of_each_width_leave_their_border(rt: HostRuntime) {
+    let rt = &rt;
     for case in &WIDTHS {
-        check_width(&rt, *case);
-        check_border(&rt, case.0, case.1);
+        let layout = (case.0, 2, [3, 1, 0, 0]);
+        let words = stepped_words(rt, &[1, 32], 7, case.0);
+        let mut plane = numbered_plane::<u16>(rt, layout);
+        copy_two_rows(rt, &mut plane, *case);
+        must_hold(rt, &plane, layout, words.as_slice());
+        plane.data_mut().fill(0xABCD);
+        copy_two_rows(rt, &mut plane, *case);
+        let wanted = expected_buffer(rt, layout, Some(0xABCD), words.as_slice());
+        must_have(rt, &plane, wanted.as_slice());
     }
 }

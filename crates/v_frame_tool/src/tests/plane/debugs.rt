@@ -3,7 +3,7 @@
 use crate::tests::support::frames::{Layout, plane_of};
 use crate::tests::support::options::{holding, pair};
 use crate::tests::support::texts::must_show;
-use v_frame::plane::{PlaneGeometry, PlaneRef};
+use v_frame::plane::PlaneRef;
 
 /// Layouts and buffers, and what planes of them show.
 static PLANES: [(Layout, &[u8], &str); 4] = [
@@ -33,14 +33,6 @@ static PLANES: [(Layout, &[u8], &str); 4] = [
     ),
 ];
 
-#[test]
-fn a_plane_shows_five_entries_at_most_and_its_geometry(rt: HostRuntime) {
-    for (layout, buffer, wanted) in &PLANES {
-        let plane = plane_of::<u8>(&rt, *layout, *buffer);
-        must_show(&rt, &plane, *wanted);
-    }
-}
-
 /// What a plane of options shows.
 const OPTIONS: &str =
     "Plane { data: [Some(5), None], geometry: PlaneGeometry { width: 2, height: 1, stride: 2, \
@@ -52,11 +44,14 @@ const LENT: &str =
      pad_left: 0, pad_right: 0, pad_top: 0, pad_bottom: 0, subsampling_x: 1, subsampling_y: 1 } }";
 
 #[test]
-fn options_and_a_lent_plane_show_the_same(rt: HostRuntime) {
+fn planes_show_five_entries_at_most_and_their_geometry(rt: HostRuntime) {
     let rt = &rt;
-    let plane = holding(rt, pair(), &[Some(5), None]);
-    must_show(rt, &plane, OPTIONS);
-    let geometry = PlaneGeometry::unpadded(2, 1, 1, 1).expect(rt, "a geometry");
+    for (layout, buffer, wanted) in &PLANES {
+        let plane = plane_of::<u8>(rt, *layout, *buffer);
+        must_show(rt, &plane, *wanted);
+    }
+    must_show(rt, &holding(rt, pair(), &[Some(5), None]), OPTIONS);
+    let geometry = pair().expect(rt, "a geometry");
     let plane = PlaneRef::new(geometry, [5u8, 6].as_slice()).expect(rt, "a plane");
     must_show(rt, &plane, LENT);
 }

@@ -20,11 +20,6 @@ impl Drop for Counted {
     }
 }
 
-/// A count of drops, none so far.
-fn none_so_far(rt: &impl Test) -> Rc<Cell<u32>> {
-    Rc::new(rt.alloc(), Cell::new(0)).ok().expect(rt, "memory")
-}
-
 /// Three places in one row, of which the first few hold an element.
 fn held(rt: &impl Test, drops: &Rc<Cell<u32>>, count: usize) -> Plane<Option<Counted>> {
     let mut plane = vacant(rt, PlaneGeometry::unpadded(3, 1, 1, 1));
@@ -36,35 +31,25 @@ fn held(rt: &impl Test, drops: &Rc<Cell<u32>>, count: usize) -> Plane<Option<Cou
 }
 
 #[test]
-fn a_plane_of_options_drops_what_it_holds(rt: HostRuntime) {
+fn planes_of_options_of_values_and_given_back_drop_each_element_once(rt: HostRuntime) {
     let rt = &rt;
+    let drops = Rc::new(rt.alloc(), Cell::new(0)).ok().expect(rt, "memory");
     for count in [0, 3] {
-        let drops = none_so_far(rt);
-        let plane = held(rt, &drops, count);
+        drops.set(0);
+        let options = held(rt, &drops, count);
         same(rt, drops.get(), 0);
-        drop(plane);
+        drop(options);
         same(rt, drops.get() as usize, count);
     }
-}
-
-#[test]
-fn a_plane_of_values_drops_each_once(rt: HostRuntime) {
-    let rt = &rt;
-    let drops = none_so_far(rt);
-    let plane = held(rt, &drops, 3);
-    let plane = values_of(rt, plane);
+    drops.set(0);
+    let values = values_of(rt, held(rt, &drops, 3));
     same(rt, drops.get(), 0);
-    drop(plane);
+    drop(values);
     same(rt, drops.get(), 3);
-}
-
-#[test]
-fn a_plane_that_is_given_back_drops_each_once(rt: HostRuntime) {
-    let rt = &rt;
-    let drops = none_so_far(rt);
-    let plane = held(rt, &drops, 3);
-    must(rt, plane.is_init());
-    let given = plane.assume_init(rt.alloc());
+    drops.set(0);
+    let options = held(rt, &drops, 3);
+    must(rt, options.is_init());
+    let given = options.assume_init(rt.alloc());
     same(rt, drops.get(), 0);
     drop(given);
     same(rt, drops.get(), 3);

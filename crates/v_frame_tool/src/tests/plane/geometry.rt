@@ -1,11 +1,11 @@
 //! Sizes and paddings of geometries: what follows from them, and what is too large.
 
-use crate::tests::support::checks::{Test, must, must_at, same};
+use crate::tests::support::checks::{must, same, same_at};
 use crate::tests::support::reads::numbers_of;
 use v_frame::plane::PlaneGeometry;
 
 #[test]
-fn sizes_follow_from_the_paddings(rt: HostRuntime) {
+fn sizes_follow_from_the_paddings_and_getters_tell_what_was_given(rt: HostRuntime) {
     let rt = &rt;
     let geometry = PlaneGeometry::new(4, 3, 2, 2, 1, 1, 1, 1).expect(rt, "a geometry");
     must(rt, geometry.checked_alloc_size() == Some(40));
@@ -16,23 +16,12 @@ fn sizes_follow_from_the_paddings(rt: HostRuntime) {
         geometry.alloc_size(),
     ];
     same(rt, sizes, [8, 10, 5, 40]);
-}
-
-#[test]
-fn getters_tell_what_was_given(rt: HostRuntime) {
-    let rt = &rt;
     let padded = PlaneGeometry::new(1920, 1080, 40, 30, 20, 10, 1, 1).expect(rt, "padded");
-    same(
-        rt,
-        numbers_of(&padded),
-        [1920, 1080, 1990, 40, 30, 20, 10, 1, 1],
-    );
+    let wanted = [1920, 1080, 1990, 40, 30, 20, 10, 1, 1];
+    same(rt, numbers_of(&padded), wanted);
     let unpadded = PlaneGeometry::unpadded(1920, 1080, 1, 1).expect(rt, "unpadded");
-    same(
-        rt,
-        numbers_of(&unpadded),
-        [1920, 1080, 1920, 0, 0, 0, 0, 1, 1],
-    );
+    let wanted = [1920, 1080, 1920, 0, 0, 0, 0, 1, 1];
+    same(rt, numbers_of(&unpadded), wanted);
 }
 
 /// The stride of a geometry, and the size of its buffer where there can be one.
@@ -48,13 +37,6 @@ fn told(geometry: Option<PlaneGeometry>) -> Option<Told> {
 
 /// A width, a height, paddings left, right, top and bottom, and ratios, with what their geometry tells.
 type Padded = ([usize; 6], [u8; 2], Option<Told>);
-
-/// Stops the test where a geometry tells anything else.
-fn check_padded(rt: &impl Test, (numbers, [x, y], wanted): Padded) {
-    let [width, height, left, right, top, bottom] = numbers;
-    let geometry = PlaneGeometry::new(width, height, left, right, top, bottom, x, y);
-    must_at(rt, told(geometry) == wanted, width);
-}
 
 /// Geometries with a border. There is none where a size or a ratio is zero, or no `usize` holds the stride.
 static PADDED: [Padded; 13] = [
@@ -89,13 +71,6 @@ static PADDED: [Padded; 13] = [
     ),
 ];
 
-#[test]
-fn strides_are_as_large_as_numbers_go(rt: HostRuntime) {
-    for case in &PADDED {
-        check_padded(&rt, *case);
-    }
-}
-
 /// The same of planes without a border. The product of the third is two to the power of 64, and no `usize` holds it.
 static UNPADDED: [([usize; 2], [u8; 2], Option<Told>); 9] = [
     (
@@ -122,9 +97,14 @@ static UNPADDED: [([usize; 2], [u8; 2], Option<Told>); 9] = [
 ];
 
 #[test]
-fn buffers_are_as_large_as_numbers_go(rt: HostRuntime) {
+fn strides_and_buffers_are_as_large_as_numbers_go(rt: HostRuntime) {
+    for (number, (numbers, [x, y], wanted)) in PADDED.iter().enumerate() {
+        let [width, height, left, right, top, bottom] = *numbers;
+        let geometry = PlaneGeometry::new(width, height, left, right, top, bottom, *x, *y);
+        same_at(&rt, told(geometry), *wanted, number);
+    }
     for (number, ([width, height], [x, y], wanted)) in UNPADDED.iter().enumerate() {
         let geometry = PlaneGeometry::unpadded(*width, *height, *x, *y);
-        must_at(&rt, told(geometry) == *wanted, number);
+        same_at(&rt, told(geometry), *wanted, number);
     }
 }

@@ -1,46 +1,24 @@
 //! Rows and pixels that are lent, and written once their iterator is gone.
 
-use crate::tests::support::buffers::{bordered_buffer, buffer_in_200, has_buffer};
-use crate::tests::support::checks::must;
-use crate::tests::support::frames::{BORDERED, Layout, counted_plane, plane_in_200, plane_of};
+use crate::tests::support::buffers::{COUNTED, IN_200, must_show_rows};
+use crate::tests::support::frames::{BORDERED, Layout, plane_of};
 use v_frame::plane::Plane;
-
-/// Writes this pixel of a lent row.
-fn write_held(row: Option<&mut [u8]>, x: usize, value: u8) {
-    if let Some(row) = row {
-        if let Some(pixel) = row.get_mut(x) {
-            *pixel = value;
-        }
-    }
-}
 
 /// Writes 40 to the last row's first pixel and then 30 to the first row's last, once their iterator is gone.
 fn write_held_rows(plane: &mut Plane<u8>) {
     let mut rows = plane.rows_mut();
     let (first, last) = (rows.next(), rows.next_back());
     drop(rows);
-    write_held(last, 0, 40);
-    write_held(first, 2, 30);
-}
-
-/// Whether a bordered plane has this buffer once its held rows are written.
-fn has_rows_written(mut plane: Plane<u8>, wanted: &[u8]) -> bool {
-    write_held_rows(&mut plane);
-    has_buffer(&plane, BORDERED, wanted)
-}
-
-#[test]
-fn held_rows_are_written_and_no_border(rt: HostRuntime) {
-    let rt = &rt;
-    let wanted = [1, 2, 30, 40, 5, 6];
-    must(
-        rt,
-        has_rows_written(plane_in_200(rt), &buffer_in_200(wanted)),
-    );
-    must(
-        rt,
-        has_rows_written(counted_plane(rt), &bordered_buffer(wanted)),
-    );
+    if let Some(row) = last {
+        if let Some(pixel) = row.get_mut(0) {
+            *pixel = 40;
+        }
+    }
+    if let Some(row) = first {
+        if let Some(pixel) = row.get_mut(2) {
+            *pixel = 30;
+        }
+    }
 }
 
 /// Writes 9 to the last pixel and then 7 to the first, once their iterator is gone.
@@ -56,24 +34,39 @@ fn write_held_pixels(plane: &mut Plane<u8>) {
     }
 }
 
-/// Whether a bordered plane has this buffer once its held pixels are written.
-fn has_pixels_written(mut plane: Plane<u8>, wanted: &[u8]) -> bool {
-    write_held_pixels(&mut plane);
-    has_buffer(&plane, BORDERED, wanted)
-}
+/// Buffers before either is written, once rows are, and once pixels are.
+static HELD: [[[u8; 18]; 3]; 2] = [
+    [
+        IN_200,
+        [
+            200, 200, 200, 200, 200, 200, 200, 1, 2, 30, 200, 200, 200, 40, 5, 6, 200, 200,
+        ],
+        [
+            200, 200, 200, 200, 200, 200, 200, 7, 2, 3, 200, 200, 200, 4, 5, 9, 200, 200,
+        ],
+    ],
+    [
+        COUNTED,
+        [
+            100, 101, 102, 103, 104, 105, 106, 1, 2, 30, 110, 111, 112, 40, 5, 6, 116, 117,
+        ],
+        [
+            100, 101, 102, 103, 104, 105, 106, 7, 2, 3, 110, 111, 112, 4, 5, 9, 116, 117,
+        ],
+    ],
+];
 
 #[test]
-fn held_pixels_are_written_and_no_border(rt: HostRuntime) {
+fn held_rows_and_pixels_are_written_and_no_border(rt: HostRuntime) {
     let rt = &rt;
-    let wanted = [7, 2, 3, 4, 5, 9];
-    must(
-        rt,
-        has_pixels_written(plane_in_200(rt), &buffer_in_200(wanted)),
-    );
-    must(
-        rt,
-        has_pixels_written(counted_plane(rt), &bordered_buffer(wanted)),
-    );
+    for [before, rows, pixels] in &HELD {
+        let mut plane = plane_of(rt, BORDERED, before);
+        write_held_rows(&mut plane);
+        must_show_rows(rt, &plane, BORDERED, rows);
+        let mut plane = plane_of(rt, BORDERED, before);
+        write_held_pixels(&mut plane);
+        must_show_rows(rt, &plane, BORDERED, pixels);
+    }
 }
 
 /// Takes the last pixel, the first and the last but one, and once their iterator is gone writes 20 to the last but one, 10
@@ -94,21 +87,23 @@ fn write_two_of_three(plane: &mut Plane<u16>) {
 /// Two pixels by two with a column to the left and a row below.
 const WORDS: Layout = (2, 2, [1, 0, 0, 1]);
 
-/// Whether a plane of words has this buffer once two of its pixels are written.
-fn has_words_written(mut plane: Plane<u16>, wanted: &[u16]) -> bool {
-    write_two_of_three(&mut plane);
-    has_buffer(&plane, WORDS, wanted)
-}
+/// Buffers before and after two of their words are written.
+static HELD_WORDS: [[[u16; 9]; 2]; 2] = [
+    [
+        [500, 1, 2, 500, 3, 4, 500, 500, 500],
+        [500, 11, 2, 500, 20, 4, 500, 500, 500],
+    ],
+    [
+        [0xA100, 1, 2, 0xA103, 3, 4, 0xA106, 0xA107, 0xA108],
+        [0xA100, 11, 2, 0xA103, 20, 4, 0xA106, 0xA107, 0xA108],
+    ],
+];
 
 #[test]
 fn held_words_are_written_in_another_order(rt: HostRuntime) {
-    let rt = &rt;
-    let before = [500, 1, 2, 500, 3, 4, 500, 500, 500];
-    let wanted = [500, 11, 2, 500, 20, 4, 500, 500, 500];
-    let plane = plane_of(rt, WORDS, &before);
-    must(rt, has_words_written(plane, &wanted));
-    let before = [0xA100, 1, 2, 0xA103, 3, 4, 0xA106, 0xA107, 0xA108];
-    let wanted = [0xA100, 11, 2, 0xA103, 20, 4, 0xA106, 0xA107, 0xA108];
-    let plane = plane_of(rt, WORDS, &before);
-    must(rt, has_words_written(plane, &wanted));
+    for [before, after] in &HELD_WORDS {
+        let mut plane = plane_of(&rt, WORDS, before);
+        write_two_of_three(&mut plane);
+        must_show_rows(&rt, &plane, WORDS, after);
+    }
 }

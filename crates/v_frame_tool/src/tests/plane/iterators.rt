@@ -1,34 +1,24 @@
 //! Iterators over the rows, the pixels and the bytes of planes.
 
-use crate::tests::support::checks::{Test, same};
-use crate::tests::support::frames::{blank_plane, counted_plane, plane_of};
+use crate::tests::support::buffers::COUNTED;
+use crate::tests::support::checks::same;
+use crate::tests::support::frames::{BORDERED, blank_plane, plane_of};
 use crate::tests::support::texts::must_show;
-use v_frame::plane::Plane;
 
-/// How many rows and how many pixels the iterators of a plane of this size give.
-fn counts(rt: &impl Test, width: usize, height: usize) -> (usize, usize) {
-    let plane = blank_plane::<u8>(rt, (width, height, [0; 4]));
-    (plane.rows().count(), plane.pixels().count())
-}
+/// The width and the height of a plane, and how many rows and how many pixels its iterators give.
+static COUNTS: [[usize; 4]; 2] = [[10, 5, 5, 50], [1920, 1080, 1080, 2073600]];
 
 #[test]
-fn iterators_are_as_long_as_the_plane(rt: HostRuntime) {
+fn iterators_are_as_long_as_the_plane_and_show_what_is_left(rt: HostRuntime) {
     let rt = &rt;
-    same(rt, counts(rt, 10, 5), (5, 50));
-    same(rt, counts(rt, 1920, 1080), (1080, 2073600));
-}
-
-#[test]
-fn iterators_show_what_is_left(rt: HostRuntime) {
-    let rt = &rt;
-    let plane = counted_plane(rt);
+    for [width, height, rows, pixels] in &COUNTS {
+        let plane = blank_plane::<u8>(rt, (*width, *height, [0; 4]));
+        let found = [plane.rows().count(), plane.pixels().count()];
+        same(rt, found, [*rows, *pixels]);
+    }
+    let plane = plane_of::<u8>(rt, BORDERED, &COUNTED);
     must_show(rt, &plane.rows(), "[[1, 2, 3], [4, 5, 6]]");
     must_show(rt, &plane.pixels(), "[1, 2, 3, 4, 5, 6]");
-    show_first_five(rt, &plane);
-}
-
-/// Stops the test where the bytes in front of a last 6 are not shown.
-fn show_first_five(rt: &impl Test, plane: &Plane<u8>) {
     let mut bytes = plane.byte_data();
     same(rt, bytes.next_back(), Some(6));
     let copy = bytes.clone().expect(rt, "memory");

@@ -2,49 +2,39 @@
 //!
 //! Where a test says what a refusal leaves, `rt try --test --fail-alloc N` takes it there, as in the refusals of replays.
 
-use crate::tests::support::checks::{Test, must, must_have, same};
+use crate::tests::support::checks::{Test, must, must_have, same, same_at};
 use crate::tests::support::frames::plane_of;
-use crate::tests::support::options::{five_and_six, holding, pair, vacant, values_of};
+use crate::tests::support::options::{holding, pair, vacant, values_of};
+use crate::tests::support::texts::must_show;
 use v_frame::plane::{Plane, PlaneGeometry};
 
-/// Whether both places of a plane hold a value, where these are the entries.
-fn is_filled(rt: &impl Test, entries: [Option<u8>; 2]) -> bool {
-    holding(rt, pair(), &entries).is_init()
-}
+/// Entries of two places, and whether both hold a value.
+static FILLED: [(&[Option<u8>], bool); 4] = [
+    (&[None, None], false),
+    (&[Some(5), None], false),
+    (&[None, Some(6)], false),
+    (&[Some(5), Some(6)], true),
+];
 
 #[test]
-fn new_places_are_vacant(rt: HostRuntime) {
-    let fresh = vacant::<u8>(&rt, pair());
-    must(
-        &rt,
-        !fresh.is_init() && fresh.data() == [None; 2].as_slice(),
-    );
-}
-
-#[test]
-fn options_that_are_filled_become_values(rt: HostRuntime) {
+fn new_places_are_vacant_and_filled_ones_become_values_or_without_memory_are_given_back(
+    rt: HostRuntime,
+) {
     let rt = &rt;
-    must(rt, !is_filled(rt, [None, None]));
-    must(rt, !is_filled(rt, [Some(5), None]));
-    must(rt, !is_filled(rt, [None, Some(6)]));
-    must(rt, is_filled(rt, [Some(5), Some(6)]));
-    let values = five_and_six(rt);
+    let fresh = vacant::<u8>(rt, pair());
+    must(rt, !fresh.is_init());
+    same(rt, fresh.data(), [None; 2].as_slice());
+    for (number, (entries, is_filled)) in FILLED.iter().enumerate() {
+        let plane = holding(rt, pair(), *entries);
+        same_at(rt, plane.is_init(), *is_filled, number);
+    }
+    let values = values_of(rt, holding(rt, pair(), &[Some(5), Some(6)]));
     must_have(rt, &values, &[5, 6]);
-}
-
-#[test]
-fn without_memory_the_options_are_given_back(rt: HostRuntime) {
-    let rt = &rt;
     let plane = holding(rt, pair(), &[Some(5), Some(6)]);
     must(rt, plane.is_init());
-    must(rt, are_five_and_six(plane.assume_init(rt.alloc())));
-}
-
-/// Whether a plane has the values 5 and 6, or the options of these.
-fn are_five_and_six(plane: Result<Plane<u8>, Plane<Option<u8>>>) -> bool {
-    match plane {
-        Ok(plane) => plane.data() == [5, 6].as_slice(),
-        Err(plane) => plane.data() == [Some(5), Some(6)].as_slice(),
+    match plane.assume_init(rt.alloc()) {
+        Ok(plane) => must_have(rt, &plane, &[5, 6]),
+        Err(plane) => same(rt, plane.data(), [Some(5), Some(6)].as_slice()),
     }
 }
 
@@ -75,16 +65,11 @@ static ENTRIES: [Option<u8>; 16] = [
 fn sixteen_entries_are_read_back(rt: HostRuntime) {
     let rt = &rt;
     let bordered = PlaneGeometry::new(2, 2, 1, 1, 1, 1, 1, 1);
-    let plane = holding(rt, bordered, &ENTRIES);
-    let plane = values_of(rt, plane);
-    must(rt, has_count(&plane));
+    let plane = values_of(rt, holding(rt, bordered, &ENTRIES));
+    must_have(rt, &plane, &COUNT);
+    same(rt, plane.row(1), Some([9, 10].as_slice()));
     let other = plane_of::<u8>(rt, (2, 2, [1, 1, 1, 1]), &COUNT);
     must(rt, other == plane);
-}
-
-/// Whether the entries of a plane are counted, and its second row is 9 and 10.
-fn has_count(plane: &Plane<u8>) -> bool {
-    plane.data() == COUNT.as_slice() && plane.row(1) == Some([9, 10].as_slice())
 }
 
 /// Three texts.
@@ -99,43 +84,22 @@ fn filled_with_texts(rt: &impl Test) -> Plane<Option<String>> {
     plane
 }
 
-/// Whether these entries are the three texts.
-fn are_the_texts(entries: &[String]) -> bool {
-    match entries {
-        [a, b, c] => [a.as_str(), b.as_str(), c.as_str()] == TEXTS,
-        _ => false,
-    }
-}
+/// What the texts show.
+const TEXTS_SHOWN: &str = "[\"Hello World\", \"\", \"This is a test\"]";
+
+/// What the options of them show.
+const OPTIONS_SHOWN: &str = "[Some(\"Hello World\"), Some(\"\"), Some(\"This is a test\")]";
 
 #[test]
-fn texts_that_are_filled_are_read_back(rt: HostRuntime) {
+fn texts_that_are_filled_are_read_back_and_without_memory_are_given_back(rt: HostRuntime) {
     let rt = &rt;
-    let plane = filled_with_texts(rt);
-    let plane = values_of(rt, plane);
-    must(rt, are_the_texts(plane.data()));
-}
-
-/// Whether three places hold the texts.
-fn hold_the_texts(entries: &[Option<String>]) -> bool {
-    match entries {
-        [Some(a), Some(b), Some(c)] => [a.as_str(), b.as_str(), c.as_str()] == TEXTS,
-        _ => false,
-    }
-}
-
-#[test]
-fn without_memory_the_texts_are_given_back(rt: HostRuntime) {
-    let rt = &rt;
+    let plane = values_of(rt, filled_with_texts(rt));
+    must_show(rt, &plane.data(), TEXTS_SHOWN);
     let plane = filled_with_texts(rt);
     must(rt, plane.is_init());
-    must(rt, has_the_texts(plane.assume_init(rt.alloc())));
-}
-
-/// Whether a plane has the texts, or the options of these.
-fn has_the_texts(plane: Result<Plane<String>, Plane<Option<String>>>) -> bool {
-    match plane {
-        Ok(plane) => are_the_texts(plane.data()),
-        Err(plane) => hold_the_texts(plane.data()),
+    match plane.assume_init(rt.alloc()) {
+        Ok(plane) => must_show(rt, &plane.data(), TEXTS_SHOWN),
+        Err(plane) => must_show(rt, &plane.data(), OPTIONS_SHOWN),
     }
 }
 

@@ -1,10 +1,9 @@
 //! Packed copies of words into rows of one, two and more steps of sixteen, with and without a rest.
 
-use crate::tests::support::buffers::holds;
+use crate::tests::support::buffers::must_hold;
 use crate::tests::support::bytes::{stepped, stepped_words};
-use crate::tests::support::checks::{Test, must, must_at};
-use crate::tests::support::frames::{Layout, numbered_plane};
-use v_frame::plane::Plane;
+use crate::tests::support::checks::same_at;
+use crate::tests::support::frames::numbered_plane;
 
 /// Widths, with the first pixel of the second row and its last one.
 ///
@@ -23,37 +22,24 @@ static WIDTHS: [(usize, u16, u16); 11] = [
     (65, 0xFAD5, 0x7A55),
 ];
 
-/// A plane in a numbered border to which words were copied.
-fn packed(rt: &impl Test, layout: Layout) -> Plane<u16> {
-    let mut plane = numbered_plane::<u16>(rt, layout);
-    let bytes = stepped(rt, 11, 37, layout.0.saturating_mul(4));
-    must(rt, plane.copy_from_u8_slice(bytes.as_slice()).is_ok());
-    plane
-}
-
-/// The first and the sixteenth pixel of the first row, the first of the second row, and the last.
-fn four_of(plane: &Plane<u16>) -> [Option<u16>; 4] {
-    [
-        plane.pixel(0, 0),
-        plane.pixel(15, 0),
-        plane.pixel(0, 1),
-        plane.pixels().next_back(),
-    ]
-}
-
-/// Stops the test where other words are copied, or an entry of a numbered border changes.
-fn check_packed(rt: &impl Test, (width, below, last): (usize, u16, u16)) {
-    let layout = (width, 2, [3, 1, 1, 0]);
-    let plane = packed(rt, layout);
-    let wanted = [Some(0x300B), Some(0x8661), Some(below), Some(last)];
-    must_at(rt, four_of(&plane) == wanted, width);
-    let words = stepped_words(rt, 11, 37, width.saturating_mul(2));
-    must(rt, holds(rt, &plane, layout, words.as_slice()));
-}
-
 #[test]
 fn packed_words_of_each_width_leave_a_numbered_border(rt: HostRuntime) {
-    for width in &WIDTHS {
-        check_packed(&rt, *width);
+    let rt = &rt;
+    for (width, below, last) in &WIDTHS {
+        let layout = (*width, 2, [3, 1, 1, 0]);
+        let mut plane = numbered_plane::<u16>(rt, layout);
+        let bytes = stepped(rt, &[11], 37, width.saturating_mul(4));
+        let copied = plane.copy_from_u8_slice(bytes.as_slice());
+        same_at(rt, copied, Ok(()), *width);
+        let found = [
+            plane.pixel(0, 0),
+            plane.pixel(15, 0),
+            plane.pixel(0, 1),
+            plane.pixels().next_back(),
+        ];
+        let wanted = [Some(0x300B), Some(0x8661), Some(*below), Some(*last)];
+        same_at(rt, found, wanted, *width);
+        let words = stepped_words(rt, &[11], 37, width.saturating_mul(2));
+        must_hold(rt, &plane, layout, words.as_slice());
     }
 }

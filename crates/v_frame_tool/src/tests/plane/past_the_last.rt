@@ -1,13 +1,10 @@
 //! Calls of `next` and `next_back` on the iterators of a plane, by their laws, past the last item.
 
-use crate::tests::support::buffers::{buffer_in_200, holds};
-use crate::tests::support::checks::{Test, must, must_have};
-use crate::tests::support::frames::{
-    Layout, counted_plane, numbered_plane, plane_in_200, plane_of,
-};
+use crate::tests::support::buffers::{COUNTED, IN_200, must_hold};
+use crate::tests::support::checks::{must, must_have};
+use crate::tests::support::frames::{BORDERED, Layout, numbered_plane, plane_of};
 use crate::tests::support::texts::must_show;
 use v_frame::laws;
-use v_frame::plane::Plane;
 use v_frame::replay::Side::{self, Back, Front};
 
 /// A call more than there are rows.
@@ -27,32 +24,16 @@ const PIXELS: &str = "Ok([Drawn { item: Some(1), left: 5 }, Drawn { item: Some(6
      Drawn { item: None, left: 0 }])";
 
 #[test]
-fn rows_and_pixels_end_past_the_last(rt: HostRuntime) {
-    let rt = &rt;
-    let plane = counted_plane(rt);
-    let rows = laws::rows_are_drawn_once(rt.alloc(), &plane, &ROW_SIDES);
-    must_show(rt, &rows, ROWS);
-    let pixels = laws::pixels_are_drawn_once(rt.alloc(), &plane, &PIXEL_SIDES);
-    must_show(rt, &pixels, PIXELS);
-}
-
-#[test]
 fn iterators_that_write_nothing_leave_the_buffer(rt: HostRuntime) {
     let rt = &rt;
-    let mut plane = plane_in_200(rt);
+    let mut plane = plane_of::<u8>(rt, BORDERED, &IN_200);
     drop(plane.rows_mut());
     drop(plane.pixels_mut());
-    draw_lent(rt, &mut plane);
-    let wanted = buffer_in_200([1, 2, 3, 4, 5, 6]);
-    must_have(rt, &plane, wanted.as_slice());
-}
-
-/// Draws the lent rows and pixels of the pixels 1 to 6. Stops the test where others are given.
-fn draw_lent(rt: &impl Test, plane: &mut Plane<u8>) {
-    let rows = laws::lent_rows_are_drawn_once(rt.alloc(), plane, &ROW_SIDES);
+    let rows = laws::lent_rows_are_drawn_once(rt.alloc(), &mut plane, &ROW_SIDES);
     must_show(rt, &rows, ROWS);
-    let pixels = laws::lent_pixels_are_drawn_once(rt.alloc(), plane, &PIXEL_SIDES);
+    let pixels = laws::lent_pixels_are_drawn_once(rt.alloc(), &mut plane, &PIXEL_SIDES);
     must_show(rt, &pixels, PIXELS);
+    must_have(rt, &plane, &IN_200);
 }
 
 /// Two columns and five rows.
@@ -80,18 +61,13 @@ fn seven_calls_on_five_rows_leave_a_numbered_border(rt: HostRuntime) {
     let ten = [1, 2, 3, 4, 5, 6, 7, 8, 9, 10];
     let mut plane = numbered_plane::<u8>(rt, TALL);
     must(rt, plane.copy_from_slice(&ten).is_ok());
-    draw_tall(rt, &mut plane);
-    must(rt, holds(rt, &plane, TALL, &ten));
-}
-
-/// Draws the rows and the pixels of five rows. Stops the test where others are given.
-fn draw_tall(rt: &impl Test, plane: &mut Plane<u8>) {
-    let rows = laws::rows_are_drawn_once(rt.alloc(), plane, &TALL_SIDES);
+    let rows = laws::rows_are_drawn_once(rt.alloc(), &plane, &TALL_SIDES);
     must_show(rt, &rows, TALL_ROWS);
-    let rows = laws::lent_rows_are_drawn_once(rt.alloc(), plane, &TALL_SIDES);
+    let rows = laws::lent_rows_are_drawn_once(rt.alloc(), &mut plane, &TALL_SIDES);
     must_show(rt, &rows, TALL_ROWS);
-    let pixels = laws::lent_pixels_are_drawn_once(rt.alloc(), plane, &PIXEL_SIDES);
+    let pixels = laws::lent_pixels_are_drawn_once(rt.alloc(), &mut plane, &PIXEL_SIDES);
     must_show(rt, &pixels, TALL_PIXELS);
+    must_hold(rt, &plane, TALL, &ten);
 }
 
 /// What calls give of the bytes of the words 0x0102 and 0x0304.
@@ -100,10 +76,15 @@ const BYTES: &str = "Ok([Drawn { item: Some(3), left: 3 }, Drawn { item: Some(2)
      Drawn { item: None, left: 0 }])";
 
 #[test]
-fn bytes_end_past_the_last(rt: HostRuntime) {
-    let words = [0x0102, 0x0304];
-    let plane = plane_of::<u16>(&rt, (2, 1, [0; 4]), &words);
+fn rows_pixels_and_bytes_end_past_the_last(rt: HostRuntime) {
+    let rt = &rt;
+    let plane = plane_of::<u8>(rt, BORDERED, &COUNTED);
+    let rows = laws::rows_are_drawn_once(rt.alloc(), &plane, &ROW_SIDES);
+    must_show(rt, &rows, ROWS);
+    let pixels = laws::pixels_are_drawn_once(rt.alloc(), &plane, &PIXEL_SIDES);
+    must_show(rt, &pixels, PIXELS);
+    let words = plane_of::<u16>(rt, (2, 1, [0; 4]), &[0x0102, 0x0304]);
     let sides = [Back, Front, Front, Back, Back];
-    let bytes = laws::bytes_are_drawn_once(rt.alloc(), &plane, &sides);
-    must_show(&rt, &bytes, BYTES);
+    let bytes = laws::bytes_are_drawn_once(rt.alloc(), &words, &sides);
+    must_show(rt, &bytes, BYTES);
 }

@@ -1,6 +1,6 @@
 //! Geometries of chroma planes: paddings are divided as sizes are, and what is odd has no half.
 
-use crate::tests::support::checks::{Test, must_at, same};
+use crate::tests::support::checks::{Test, same, same_at};
 use v_frame::chroma::ChromaSubsampling::{self, Monochrome, Yuv411, Yuv420, Yuv422, Yuv444};
 use v_frame::plane::{PlaneGeometry, SubsamplingError};
 
@@ -49,7 +49,7 @@ fn sizes_and_paddings_are_divided(rt: HostRuntime) {
     let rt = &rt;
     for (number, (luma, format, chroma)) in DIVIDED.iter().enumerate() {
         let found = geometry(rt, *luma).for_subsampling(*format);
-        must_at(rt, found == Ok(Some(geometry(rt, *chroma))), number);
+        same_at(rt, found, Ok(Some(geometry(rt, *chroma))), number);
     }
     same(rt, geometry(rt, HALVED).stride(), 995);
     let wide = geometry(rt, ([960, 1080], [20, 15, 20, 10], [2, 1]));
@@ -67,21 +67,18 @@ static HALVES: [(Shape, [bool; 3]); 7] = [
     (HALVED, [false, false, false]),
 ];
 
-/// Whether this plane has a chroma in 4:2:0, in 4:2:2 and in 4:1:1.
-fn halves_of(luma: &PlaneGeometry) -> [bool; 3] {
-    [
-        luma.for_subsampling(Yuv420) != Err(SubsamplingError),
-        luma.for_subsampling(Yuv422) != Err(SubsamplingError),
-        luma.for_subsampling(Yuv411) != Err(SubsamplingError),
-    ]
-}
-
 #[test]
 fn odd_sizes_and_paddings_have_no_half(rt: HostRuntime) {
+    let rt = &rt;
     for (number, (shape, halves)) in HALVES.iter().enumerate() {
-        let luma = geometry(&rt, *shape);
-        let is_whole = luma.for_subsampling(Yuv444) == Ok(Some(luma))
-            && luma.for_subsampling(Monochrome) == Ok(None);
-        must_at(&rt, halves_of(&luma) == *halves && is_whole, number);
+        let luma = geometry(rt, *shape);
+        let found = [
+            luma.for_subsampling(Yuv420) != Err(SubsamplingError),
+            luma.for_subsampling(Yuv422) != Err(SubsamplingError),
+            luma.for_subsampling(Yuv411) != Err(SubsamplingError),
+        ];
+        same_at(rt, found, *halves, number);
+        same_at(rt, luma.for_subsampling(Yuv444), Ok(Some(luma)), number);
+        same_at(rt, luma.for_subsampling(Monochrome), Ok(None), number);
     }
 }

@@ -1,11 +1,10 @@
 //! Sources of every small length, and how the program calls its writer.
 
-use crate::counted::Counted;
 use crate::fault::ToolFault;
 use crate::run::run;
-use crate::tests::support::checks::must_at;
-use crate::tests::support::watched::{WatchedWriter, watched_writer};
-use std::alloc::Global;
+use crate::tests::support::checks::{Test, same_at};
+use crate::tests::support::watched::Habit::Fails;
+use crate::tests::support::watched::{calls_of, must_have_taken, watched_writer};
 use v_frame::plane::CopyError;
 
 /// The pixels 1 to 20.
@@ -13,52 +12,33 @@ static TWENTY: [u8; 20] = [
     1, 2, 3, 4, 5, 6, 7, 8, 9, 10, 11, 12, 13, 14, 15, 16, 17, 18, 19, 20,
 ];
 
-/// What is printed of so many pixels.
-fn text_of(length: usize) -> &'static [u8] {
-    if length == 8 {
-        b"plane 0: 4 x 2\n1 2 3 4\n5 6 7 8\n"
+/// Stops the test where so many pixels are answered otherwise, or are printed otherwise to a writer that takes so many bytes a
+/// call: eight are accepted, and any other number of them is refused for its length without a call of the writer.
+fn check_length(rt: &impl Test, length: usize, most: usize) {
+    let mut out = watched_writer(rt.alloc(), most, 64, Fails);
+    let answer = run(rt.alloc(), &mut out, TWENTY.get(..length).unwrap_or(&[]));
+    let [writes, empty_writes, flushes] = calls_of(&out);
+    same_at(rt, [empty_writes, flushes], [0; 2], length);
+    same_at(rt, writes > 0, length == 8, length);
+    let (wanted, text): (_, &[u8]) = if length == 8 {
+        (Ok(()), b"plane 0: 4 x 2\n1 2 3 4\n5 6 7 8\n")
     } else {
-        b""
-    }
-}
-
-/// Whether eight pixels are accepted, and any other number of them is refused for its length.
-fn is_answer(answer: &Result<(), ToolFault>, length: usize) -> bool {
-    match answer {
-        Ok(()) => length == 8,
-        Err(ToolFault::Copy(CopyError::DataLength { expected, found })) => {
-            length != 8 && (*expected, *found) == (8, length)
-        }
-        Err(_) => false,
-    }
-}
-
-/// Whether a writer has this text, and was called for no other, without an empty write, a flush and a failure.
-fn has_only(out: &Counted<WatchedWriter>, text: &[u8]) -> bool {
-    let writer = out.inner();
-    let is_called = writer.writes > 0;
-    (writer.empty_writes, writer.flushes, out.failures()) == (0, 0, 0)
-        && is_called != text.is_empty()
-        && writer.taken.as_slice() == text
-}
-
-/// Whether so many pixels are answered, and printed to a writer that takes so many bytes a call, as they have to be.
-fn is_run(alloc: Global, length: usize, most: usize) -> bool {
-    let mut out = Counted::new(watched_writer(alloc, most, 0));
-    let answer = run(alloc, &mut out, TWENTY.get(..length).unwrap_or(&[]));
-    is_answer(&answer, length) && has_only(&out, text_of(length))
+        let (expected, found) = (8, length);
+        (
+            Err(ToolFault::Copy(CopyError::DataLength { expected, found })),
+            b"",
+        )
+    };
+    same_at(rt, answer, wanted, length);
+    must_have_taken(rt, &out, (0, text), most);
 }
 
 #[test]
-fn eight_pixels_are_printed(rt: HostRuntime) {
+fn eight_pixels_are_printed_and_no_other_number(rt: HostRuntime) {
     for most in [1, 2, 15, 30, 31, 32, 100] {
-        must_at(&rt, is_run(rt.alloc(), 8, most), most);
+        check_length(&rt, 8, most);
     }
-}
-
-#[test]
-fn no_other_number_of_pixels_is_printed(rt: HostRuntime) {
     for length in 0..=20 {
-        must_at(&rt, is_run(rt.alloc(), length, 100), length);
+        check_length(&rt, length, 100);
     }
 }

@@ -1,11 +1,9 @@
 //! The program, over writers into memory, writers that fail and writers that take little.
 
-use crate::counted::Counted;
 use crate::run::run;
-use crate::tests::support::checks::{Test, must_at};
 use crate::tests::support::texts::must_show;
-use crate::tests::support::writers::Habit::{self, Fails, TakesNone};
-use crate::tests::support::writers::{has_taken, slow_writer};
+use crate::tests::support::watched::Habit::{self, Fails, TakesNone};
+use crate::tests::support::watched::{must_have_taken, watched_writer};
 
 /// Pixels, how many calls take a byte each, what the writer does then, what the program answers, the failures, and what is
 /// printed.
@@ -18,8 +16,9 @@ type Run = (
     &'static [u8],
 );
 
-/// Runs over eight pixels and over others, to a writer that takes all.
-static RUNS: [Run; 5] = [
+/// Runs over eight pixels and over others to a writer that takes all, and then to writers that fail or take nothing at the
+/// first call, or at a later one.
+static RUNS: [Run; 10] = [
     (
         &[1, 2, 3, 4, 5, 6, 7, 8],
         64,
@@ -60,10 +59,6 @@ static RUNS: [Run; 5] = [
         0,
         b"",
     ),
-];
-
-/// Writers that fail or take nothing at the first call, or at a later one.
-static HINDERED: [Run; 5] = [
     (&[1, 2, 3, 4, 5, 6, 7, 8], 0, Fails, "Err(Output)", 1, b""),
     (
         &[1, 2, 3, 4, 5, 6, 7, 8],
@@ -92,24 +87,14 @@ static HINDERED: [Run; 5] = [
     ),
 ];
 
-/// Stops the test where the program answers or prints anything else, or writes again after it was hindered.
-fn check_run(rt: &impl Test, (pixels, calls, habit, answer, failures, printed): Run) {
-    let mut out = Counted::new(slow_writer(calls, habit));
-    let ran = run(rt.alloc(), &mut out, pixels);
-    must_show(rt, &ran, answer);
-    must_at(rt, has_taken(&out, failures, printed), calls);
-}
-
 #[test]
-fn rows_are_printed(rt: HostRuntime) {
-    for run in &RUNS {
-        check_run(&rt, *run);
-    }
-}
-
-#[test]
-fn a_hindered_write_is_answered_and_not_tried_again(rt: HostRuntime) {
-    for run in &HINDERED {
-        check_run(&rt, *run);
+fn rows_are_printed_and_a_hindered_write_is_answered_and_not_tried_again(rt: HostRuntime) {
+    let rt = &rt;
+    for (number, case) in RUNS.iter().enumerate() {
+        let (pixels, calls, habit, answer, failures, printed) = *case;
+        let mut out = watched_writer(rt.alloc(), 1, calls, habit);
+        let ran = run(rt.alloc(), &mut out, pixels);
+        must_show(rt, &ran, answer);
+        must_have_taken(rt, &out, (failures, printed), number);
     }
 }

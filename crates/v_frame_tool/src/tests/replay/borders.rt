@@ -5,7 +5,7 @@ use crate::tests::support::answers::{Step, calls_done};
 use crate::tests::support::calls::Call::{
     Bytes, CopyStrided, PixelMut, Pixels, PixelsMut, RowsMut,
 };
-use crate::tests::support::checks::{Test, must, same};
+use crate::tests::support::checks::{Test, same};
 use crate::tests::support::frames::{BARE, BORDERED, Layout, built, padded};
 use v_frame::chroma::ChromaSubsampling::Yuv444;
 use v_frame::frame::Frame;
@@ -59,18 +59,12 @@ static MIXED: [Step<'static, u16>; 6] = [
     ),
 ];
 
-/// Stops the test where a frame with these paddings answers otherwise, or another buffer is left.
-fn check_mixed(rt: &impl Test, layout: Layout) {
-    let mut frame = framed(rt, layout, &BEFORE);
-    let wanted = framed(rt, layout, &AFTER);
-    same(rt, calls_done(rt, &mut frame, &MIXED), 6);
-    must(rt, frame == wanted);
-    drop(frame);
-    drop(wanted);
-}
-
 #[test]
 fn mixed_calls_are_answered_in_each_border_and_keep_it(rt: HostRuntime) {
-    check_mixed(&rt, BARE);
-    check_mixed(&rt, BORDERED);
+    let rt = &rt;
+    for layout in [BARE, BORDERED] {
+        let mut frame = framed(rt, layout, &BEFORE);
+        same(rt, calls_done(rt, &mut frame, &MIXED), 6);
+        same(rt, frame, framed(rt, layout, &AFTER));
+    }
 }

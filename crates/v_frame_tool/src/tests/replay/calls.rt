@@ -1,17 +1,22 @@
 //! Calls that read, and that write one row or one pixel, on planes of bytes.
 
+use crate::tests::replay::iterations::{READ, WRITTEN};
+use crate::tests::replay::words::WORDS;
 use crate::tests::support::answers::{Replay, check_replays};
 use crate::tests::support::calls::Call::{
     CopyPixels, Height, Pixel, PixelMut, Row, RowMut, Rows, Width,
 };
-use crate::tests::support::checks::{must, must_have, same};
-use crate::tests::support::frames::{BARE, BORDERED, luma, with_buffer};
-use std::alloc::Global;
-use v_frame::frame::Frame;
-use v_frame::replay::{VisibleCall, replay};
+use crate::tests::support::frames::{BARE, BORDERED};
 
 /// Replays of calls that read, and that write one row or one pixel.
-static REPLAYS: [Replay<'static, u8>; 6] = [
+static REPLAYS: [Replay<'static, u8>; 7] = [
+    // No call, which takes no memory.
+    Replay {
+        layout: BARE,
+        before: &[0; 6],
+        steps: &[],
+        after: &[0; 6],
+    },
     // A copy that is refused and one that is not, and then a pixel, a place, a row and a plane.
     Replay {
         layout: BARE,
@@ -96,20 +101,10 @@ static REPLAYS: [Replay<'static, u8>; 6] = [
 ];
 
 #[test]
-fn calls_are_answered_and_write_their_plane(rt: HostRuntime) {
-    check_replays(&rt, &REPLAYS);
-}
-
-#[test]
-fn no_call_takes_no_memory(rt: HostRuntime) {
+fn calls_and_iterations_are_answered_and_write_their_plane(rt: HostRuntime) {
     let rt = &rt;
-    let mut frame = with_buffer::<u8>(rt, BARE, &[0; 6]);
-    must(rt, is_unanswered(rt.alloc(), &mut frame));
-    must_have(rt, &luma(frame), &[0; 6]);
-}
-
-/// Whether a replay of no call has no answer.
-fn is_unanswered(alloc: Global, frame: &mut Frame<u8>) -> bool {
-    let calls: [VisibleCall<u8>; 0] = [];
-    replay(alloc, frame, &calls).is_ok_and(|answers| answers.is_empty())
+    check_replays(rt, &REPLAYS);
+    check_replays(rt, &READ);
+    check_replays(rt, &WRITTEN);
+    check_replays(rt, &WORDS);
 }

@@ -4,7 +4,6 @@ use crate::tests::support::calls::Call::{
     self, Bytes, CopyPixels, PixelsMut, RowMut, RowsMut, Width,
 };
 use crate::tests::support::calls::visible;
-use crate::tests::support::checks::Test;
 use crate::tests::support::texts::must_show;
 use v_frame::replay::Side::{Back, Front};
 use v_frame::replay::{Answer, ReplayStopped};
@@ -31,24 +30,16 @@ static CALLS: [(Call<'static, u8>, &str); 6] = [
     ),
 ];
 
-/// Stops the test where a call shows anything else.
-fn check_call(rt: &impl Test, (call, wanted): &(Call<'_, u8>, &str)) {
-    must_show(rt, &visible(rt, call), *wanted);
-}
-
 #[test]
-fn calls_show_what_they_name(rt: HostRuntime) {
-    for case in &CALLS {
-        check_call(&rt, case);
+fn calls_and_a_stopped_replay_show_what_they_name(rt: HostRuntime) {
+    let rt = &rt;
+    for (call, wanted) in &CALLS {
+        must_show(rt, &visible(rt, call), *wanted);
     }
-}
-
-#[test]
-fn a_stopped_replay_shows_what_was_answered(rt: HostRuntime) {
     let done = Vec::from_array(rt.alloc(), [Answer::<u8>::Number(3), Answer::NoPlane]);
     let stopped = ReplayStopped {
-        done: done.expect(&rt, "memory").into(),
+        done: done.expect(rt, "memory").into(),
     };
     let wanted = "ReplayStopped { done: [Number(3), NoPlane] }";
-    must_show(&rt, &stopped, wanted);
+    must_show(rt, &stopped, wanted);
 }

@@ -1,13 +1,12 @@
 //! Iterations over the rows, the pixels and the bytes of planes of bytes.
 
-use crate::tests::support::answers::{Replay, check_replays};
+use crate::tests::support::answers::Replay;
 use crate::tests::support::calls::Call::{Bytes, Pixels, PixelsMut, Rows, RowsMut};
-use crate::tests::support::checks::same;
 use crate::tests::support::frames::{BARE, BORDERED};
 use v_frame::replay::Side::{Back, Front};
 
 /// Replays of iterations that read.
-static READ: [Replay<'static, u8>; 5] = [
+pub static READ: [Replay<'static, u8>; 5] = [
     // Pixels and rows past the end of their iterators.
     Replay {
         layout: BARE,
@@ -67,7 +66,7 @@ static READ: [Replay<'static, u8>; 5] = [
 ];
 
 /// Replays of iterations that write.
-static WRITTEN: [Replay<'static, u8>; 7] = [
+pub static WRITTEN: [Replay<'static, u8>; 7] = [
     // Two of three pixels written, without a border.
     Replay {
         layout: BARE,
@@ -215,13 +214,3 @@ const SIX_ONE_TWO: &str = "PixelsWalked { total: 6, drawn: [Drawn { item: Some(6
 /// The last and the first of four pixels.
 const FOUR_AND_ONE: &str = "PixelsWalked { total: 4, drawn: [Drawn { item: Some(4), left: 3 }, \
      Drawn { item: Some(1), left: 2 }] }";
-
-#[test]
-fn iterations_come_from_both_ends(rt: HostRuntime) {
-    check_replays(&rt, &READ);
-}
-
-#[test]
-fn iterations_write_their_plane(rt: HostRuntime) {
-    check_replays(&rt, &WRITTEN);
-}

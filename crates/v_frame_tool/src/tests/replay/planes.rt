@@ -2,7 +2,7 @@
 
 use crate::tests::support::answers::{Step, calls_done};
 use crate::tests::support::calls::Call::{CopyPixels, Height, Row, Width};
-use crate::tests::support::checks::{Test, must, must_have};
+use crate::tests::support::checks::{Test, must_have, same};
 use crate::tests::support::frames::{blank_plane, built, luma, padded};
 use v_frame::chroma::ChromaSubsampling::{Yuv420, Yuv422};
 use v_frame::frame::Frame;
@@ -11,7 +11,7 @@ use v_frame::plane::Plane;
 
 /// The luma plane of a frame behind these calls, all of which have to give their answers.
 fn answered<T: Pixel>(rt: &impl Test, mut frame: Frame<T>, steps: &[Step<'_, T>]) -> Plane<T> {
-    must(rt, calls_done(rt, &mut frame, steps) == steps.len());
+    same(rt, calls_done(rt, &mut frame, steps), steps.len());
     luma(frame)
 }
 
@@ -22,24 +22,12 @@ static SIZES: [Step<'static, u8>; 3] = [
     (Width(3), "NoPlane"),
 ];
 
-#[test]
-fn sizes_of_three_planes_are_answered(rt: HostRuntime) {
-    let frame = built(&rt, padded((4, 2), Yuv420, 8, [2, 2, 2, 0]));
-    drop(answered(&rt, frame, &SIZES));
-}
-
 /// A copy into a plane of words.
 static COPIED: [Step<'static, u16>; 3] = [
     (CopyPixels(2, &[65535, 1]), "Copied(Ok(()))"),
     (Row(1, 0), "RowShown(Some([0]))"),
     (Row(2, 0), "RowShown(Some([65535]))"),
 ];
-
-#[test]
-fn chroma_of_two_bytes_is_written(rt: HostRuntime) {
-    let frame = built(&rt, padded((2, 2), Yuv422, 16, [0; 4]));
-    drop(answered(&rt, frame, &COPIED));
-}
 
 /// Calls on a frame whose U plane has another size, and which has no V plane.
 static REPLACED: [Step<'static, u8>; 5] = [
@@ -53,17 +41,16 @@ static REPLACED: [Step<'static, u8>; 5] = [
     (CopyPixels(0, &[1, 2, 3, 4]), "Copied(Ok(()))"),
 ];
 
-/// Two pixels by two, with a U plane of three by one and no V plane.
-fn replaced(rt: &impl Test) -> Frame<u8> {
+#[test]
+fn calls_name_each_of_three_planes_and_planes_that_a_user_replaced(rt: HostRuntime) {
+    let rt = &rt;
+    let frame = built(rt, padded((4, 2), Yuv420, 8, [2, 2, 2, 0]));
+    drop(answered(rt, frame, &SIZES));
+    let frame = built(rt, padded((2, 2), Yuv422, 16, [0; 4]));
+    drop(answered(rt, frame, &COPIED));
     let mut frame = built(rt, padded((2, 2), Yuv420, 8, [0; 4]));
     frame.u_plane = Some(blank_plane(rt, (3, 1, [0; 4])));
     frame.v_plane = None;
-    frame
-}
-
-#[test]
-fn planes_that_a_user_replaced_are_replayed(rt: HostRuntime) {
-    let rt = &rt;
-    let plane = answered(rt, replaced(rt), &REPLACED);
+    let plane = answered(rt, frame, &REPLACED);
     must_have(rt, &plane, &[1, 2, 3, 4]);
 }

@@ -8,7 +8,7 @@ use crate::tests::support::answers::{Step, calls_done};
 use crate::tests::support::calls::Call::{
     CopyPixels, Pixels, PixelsMut, Row, RowMut, Rows, RowsMut,
 };
-use crate::tests::support::checks::{Test, must_have, same};
+use crate::tests::support::checks::must_have;
 use crate::tests::support::frames::{BORDERED, Layout, luma, with_buffer};
 use v_frame::replay::Side::{Back, Front};
 
@@ -92,18 +92,14 @@ static STOPPED: [Stopped; 3] = [
     },
 ];
 
-/// Stops the test where the calls that were not done have written anything, or those that were done have not.
-fn check_stop(rt: &impl Test, case: &Stopped) {
-    let before = case.buffers.first().expect(rt, "a buffer");
-    let mut frame = with_buffer(rt, case.layout, *before);
-    let done = calls_done(rt, &mut frame, case.steps);
-    let left = case.buffers.get(done).expect(rt, "a buffer");
-    must_have(rt, &luma(frame), *left);
-}
-
 #[test]
 fn a_stopped_replay_has_done_its_first_calls_and_written_no_more(rt: HostRuntime) {
+    let rt = &rt;
     for case in &STOPPED {
-        check_stop(&rt, case);
+        let before = case.buffers.first().expect(rt, "a buffer");
+        let mut frame = with_buffer(rt, case.layout, *before);
+        let done = calls_done(rt, &mut frame, case.steps);
+        let left = case.buffers.get(done).expect(rt, "a buffer");
+        must_have(rt, &luma(frame), *left);
     }
 }

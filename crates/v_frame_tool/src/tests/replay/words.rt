@@ -1,11 +1,11 @@
 //! Iterations over the bytes of planes of words.
 
-use crate::tests::support::answers::{Replay, check_replays};
+use crate::tests::support::answers::Replay;
 use crate::tests::support::calls::Call::Bytes;
 use v_frame::replay::Side::{Back, Front};
 
 /// Replays that read the bytes of words.
-static REPLAYS: [Replay<'static, u16>; 3] = [
+pub static WORDS: [Replay<'static, u16>; 3] = [
     // A word, from both ends and past them. There is no V plane.
     Replay {
         layout: (1, 1, [0, 0, 0, 0]),
@@ -43,8 +43,3 @@ static REPLAYS: [Replay<'static, u16>; 3] = [
         after: &[0x0304; 12],
     },
 ];
-
-#[test]
-fn words_are_read_low_byte_first_from_both_ends(rt: HostRuntime) {
-    check_replays(&rt, &REPLAYS);
-}

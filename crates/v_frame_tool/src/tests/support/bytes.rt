@@ -2,37 +2,30 @@
 
 use crate::tests::support::checks::Test;
 
-/// Appends so many bytes, each a step more than the one before.
-pub fn push_stepped(rt: &impl Test, bytes: &mut Vec<u8>, first: u8, step: u8, count: usize) {
-    let mut byte = first;
-    for _ in 0..count {
-        bytes.push(byte).expect(rt, "memory");
-        byte = byte.wrapping_add(step);
-    }
-}
-
-/// So many bytes, each a step more than the one before.
-pub fn stepped(rt: &impl Test, first: u8, step: u8, count: usize) -> Vec<u8> {
+/// Runs of so many bytes that begin with these, each byte of a run a step more than the one before.
+pub fn stepped(rt: &impl Test, firsts: &[u8], step: u8, count: usize) -> Vec<u8> {
     let mut bytes = Vec::new(rt.alloc());
-    push_stepped(rt, &mut bytes, first, step, count);
+    for first in firsts {
+        let mut byte = *first;
+        for _ in 0..count {
+            bytes.push(byte).expect(rt, "memory");
+            byte = byte.wrapping_add(step);
+        }
+    }
     bytes
 }
 
-/// Appends so many words of such bytes, two each and the low one first.
-pub fn push_stepped_words(rt: &impl Test, words: &mut Vec<u16>, first: u8, step: u8, count: usize) {
-    let mut low = first;
-    for _ in 0..count {
-        let high = low.wrapping_add(step);
-        words
-            .push(u16::from_le_bytes([low, high]))
-            .expect(rt, "memory");
-        low = high.wrapping_add(step);
-    }
-}
-
-/// So many words of such bytes.
-pub fn stepped_words(rt: &impl Test, first: u8, step: u8, count: usize) -> Vec<u16> {
+/// Runs of so many words of such bytes, two each and the low one first.
+pub fn stepped_words(rt: &impl Test, firsts: &[u8], step: u8, count: usize) -> Vec<u16> {
     let mut words = Vec::new(rt.alloc());
-    push_stepped_words(rt, &mut words, first, step, count);
+    for first in firsts {
+        let mut low = *first;
+        for _ in 0..count {
+            let high = low.wrapping_add(step);
+            let word = u16::from_le_bytes([low, high]);
+            words.push(word).expect(rt, "memory");
+            low = high.wrapping_add(step);
+        }
+    }
     words
 }

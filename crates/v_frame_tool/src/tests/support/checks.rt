@@ -25,27 +25,15 @@ pub fn same<T: PartialEq + Debug + Drop>(rt: &impl Test, found: T, wanted: T) {
     assert!(rt; found == wanted, "found {found:?}, not {wanted:?}");
 }
 
-/// Stops the test where something does not hold in the case of this number.
-pub fn must_at(rt: &impl Test, holds: bool, case: usize) {
-    assert!(rt; holds, "case {case}");
-}
-
-/// Stops the test where something does not hold in the case of this text.
-pub fn must_for(rt: &impl Test, holds: bool, case: &str) {
-    assert!(rt; holds, "{case}");
+/// The same in the case of this number.
+pub fn same_at<T: PartialEq + Debug + Drop>(rt: &impl Test, found: T, wanted: T, case: usize) {
+    assert!(rt;
+        found == wanted,
+        "case {case}: found {found:?}, not {wanted:?}"
+    );
 }
 
 /// Stops the test where a plane has another buffer.
 pub fn must_have<T: Pixel>(rt: &impl Test, plane: &Plane<T>, buffer: &[T]) {
-    assert!(rt; plane.data() == buffer);
-}
-
-/// Stops the test where another pixel is read, or one where there is none.
-pub fn must_read<T: Pixel>(
-    rt: &impl Test,
-    plane: &Plane<T>,
-    (x, y): (usize, usize),
-    pixel: Option<T>,
-) {
-    assert!(rt; plane.pixel(x, y) == pixel, "{x}, {y}");
+    same(rt, plane.data(), buffer);
 }

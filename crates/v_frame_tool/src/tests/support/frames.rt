@@ -1,10 +1,9 @@
 //! Frames: blank, with a buffer, and with a picture in a border.
 
-use crate::tests::support::buffers::{bordered_buffer, buffer_in_200, number_at};
-use crate::tests::support::checks::{Test, must};
-use std::alloc::Global;
+use crate::tests::support::buffers::number_at;
+use crate::tests::support::checks::{Test, must, same_at};
 use v_frame::chroma::ChromaSubsampling::{self, Monochrome};
-use v_frame::frame::{Frame, FrameBuilder, FrameError};
+use v_frame::frame::{Frame, FrameBuilder};
 use v_frame::pixel::Pixel;
 use v_frame::plane::Plane;
 
@@ -81,37 +80,18 @@ pub fn numbered_plane<T: Pixel>(rt: &impl Test, layout: Layout) -> Plane<T> {
     luma(numbered(rt, layout))
 }
 
-/// The pixels 1 to 6, three by two, in a border whose entries have a value each.
-pub fn counted(rt: &impl Test) -> Frame<u8> {
-    with_buffer(rt, BORDERED, &bordered_buffer([1, 2, 3, 4, 5, 6]))
-}
-
-/// Their plane.
-pub fn counted_plane(rt: &impl Test) -> Plane<u8> {
-    luma(counted(rt))
-}
-
-/// The pixels 1 to 6, three by two, in a border whose entries hold 200.
-pub fn in_200(rt: &impl Test) -> Frame<u8> {
-    with_buffer(rt, BORDERED, &buffer_in_200([1, 2, 3, 4, 5, 6]))
-}
-
-/// Their plane.
-pub fn plane_in_200(rt: &impl Test) -> Plane<u8> {
-    luma(in_200(rt))
-}
-
-/// Three pixels by three, counted from 0.
-pub fn nine(rt: &impl Test) -> Frame<u8> {
-    with_buffer(rt, (3, 3, [0; 4]), &[0, 1, 2, 3, 4, 5, 6, 7, 8])
-}
-
-/// Whether the plane of this index is there with this buffer.
-pub fn holds_plane<T: Pixel>(frame: &Frame<T>, index: usize, buffer: &[T]) -> bool {
-    match frame.plane(index) {
-        Some(plane) => plane.data() == buffer,
-        None => false,
-    }
+/// Stops the test where the plane of this index has not this buffer, or is there where it has none.
+pub fn must_have_plane<T: Pixel>(
+    rt: &impl Test,
+    frame: &Frame<T>,
+    index: usize,
+    wanted: Option<&[T]>,
+) {
+    let found = match frame.plane(index) {
+        Some(plane) => Some(plane.data()),
+        None => None,
+    };
+    same_at(rt, found, wanted, index);
 }
 
 /// Writes a pixel of a plane.
@@ -123,9 +103,4 @@ pub fn write_pixel<T: Pixel>(rt: &impl Test, plane: &mut Plane<T>, x: usize, y: 
 pub fn mark<T: Pixel>(rt: &impl Test, frame: &mut Frame<T>, index: usize, value: T) {
     let plane = frame.plane_mut(index).expect(rt, "a plane");
     write_pixel(rt, plane, 0, 0, value);
-}
-
-/// Why this frame is not built, where it is not.
-pub fn refusal<T: Pixel>(alloc: Global, builder: FrameBuilder) -> Option<FrameError> {
-    builder.build::<T>(alloc).err()
 }

@@ -34,9 +34,3 @@ pub fn values_of<T: Drop>(rt: &impl Test, plane: Plane<Option<T>>) -> Plane<T> {
     let values = plane.assume_init(rt.alloc()).ok();
     values.expect(rt, "memory")
 }
-
-/// The pixels 5 and 6 in one row.
-pub fn five_and_six(rt: &impl Test) -> Plane<u8> {
-    let plane = holding(rt, pair(), &[Some(5), Some(6)]);
-    values_of(rt, plane)
-}

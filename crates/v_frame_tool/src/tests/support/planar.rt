@@ -1,7 +1,7 @@
 //! Frames of six planar bytes.
 
 use crate::tests::support::checks::{Test, must};
-use crate::tests::support::frames::{BARE, built, holds_plane, mark, padded, plane_of};
+use crate::tests::support::frames::{BARE, built, mark, padded, plane_of};
 use v_frame::chroma::ChromaSubsampling::Yuv420;
 use v_frame::frame::Frame;
 
@@ -22,11 +22,4 @@ pub fn without_u(rt: &impl Test, bytes: [u8; 6], v: [u8; 6]) -> Frame<u8> {
     frame.u_plane = None;
     frame.v_plane = Some(plane_of(rt, BARE, &v));
     frame
-}
-
-/// Whether such a frame shows these bytes.
-pub fn shows_bytes(frame: &Frame<u8>, [a, b, c, d, u, v]: [u8; 6]) -> bool {
-    holds_plane(frame, 0, &[a, b, c, d])
-        && holds_plane(frame, 1, &[u])
-        && holds_plane(frame, 2, &[v])
 }

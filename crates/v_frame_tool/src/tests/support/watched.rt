@@ -1,17 +1,30 @@
-//! A writer that tells how it was called.
+//! A writer that takes little, tells how it was called, and fails or takes nothing from some call on.
 
+use crate::counted::Counted;
+use crate::tests::support::checks::{Test, same_at};
 use std::alloc::Global;
 use std::io::{self, ErrorKind, Write};
 
-/// A writer that counts its calls.
+/// What a writer does at a call in place of taking bytes.
+#[derive(Clone, Copy)]
+pub enum Habit {
+    /// Takes nothing.
+    TakesNone,
+    /// Fails.
+    Fails,
+}
+
+/// A writer that takes a few bytes a call, counts its calls, and after some of them has a habit.
 #[derive(Drop)]
 pub struct WatchedWriter {
     /// What was taken.
     pub taken: Vec<u8>,
     /// How many bytes a call takes at most.
     pub most: usize,
-    /// The call of `write` that fails, counted from 1, or 0 where none does.
-    pub failing: usize,
+    /// How many calls are left that take bytes.
+    pub calls: usize,
+    /// What it does then.
+    pub then: Habit,
     /// How many calls of `write` there were.
     pub writes: usize,
     /// How many of them offered no byte.
@@ -20,16 +33,22 @@ pub struct WatchedWriter {
     pub flushes: usize,
 }
 
-/// A writer that was not called, takes so many bytes a call, and fails at the call of this number.
-pub fn watched_writer(alloc: Global, most: usize, failing: usize) -> WatchedWriter {
-    WatchedWriter {
+/// A writer that was not called, takes so many bytes at each of so many calls, and then does this.
+pub fn watched_writer(
+    alloc: Global,
+    most: usize,
+    calls: usize,
+    then: Habit,
+) -> Counted<WatchedWriter> {
+    Counted::new(WatchedWriter {
         taken: Vec::new(alloc),
         most,
-        failing,
+        calls,
+        then,
         writes: 0,
         empty_writes: 0,
         flushes: 0,
-    }
+    })
 }
 
 impl Write for WatchedWriter {
@@ -38,9 +57,13 @@ impl Write for WatchedWriter {
         if buf.is_empty() {
             self.empty_writes = self.empty_writes.saturating_add(1);
         }
-        if self.writes == self.failing {
-            return Err(io::Error::from(ErrorKind::Interrupted));
+        if self.calls == 0 {
+            return match self.then {
+                Habit::TakesNone => Ok(0),
+                Habit::Fails => Err(io::Error::from(ErrorKind::Interrupted)),
+            };
         }
+        self.calls -= 1;
         let count = self.most.min(buf.len());
         self.taken.write(&buf[..count])
     }
@@ -49,4 +72,21 @@ impl Write for WatchedWriter {
         self.flushes = self.flushes.saturating_add(1);
         Ok(())
     }
+}
+
+/// Stops the test where a writer has taken other bytes, or has not failed so often, in the case of this number.
+pub fn must_have_taken(
+    rt: &impl Test,
+    out: &Counted<WatchedWriter>,
+    (failures, bytes): (u64, &[u8]),
+    case: usize,
+) {
+    let taken = out.inner().taken.as_slice();
+    same_at(rt, (out.failures(), taken), (failures, bytes), case);
+}
+
+/// The calls of `write`, those that offered nothing, and the calls of `flush`.
+pub fn calls_of(out: &Counted<WatchedWriter>) -> [usize; 3] {
+    let writer = out.inner();
+    [writer.writes, writer.empty_writes, writer.flushes]
 }
