@@ -18,11 +18,11 @@ pub loop-count-preserved : goal.loop-count-preserved
 loop-count-preserved g c =
     let before = c.loop-count.invariant in
     let form = g.T.Pixel.form in
+    let shown = tables_of c.read_next.new.input.frame in
     let left = g.R.Read.remaining c.loop-count.input.reader.inner in
     let rest = g.R.Read.remaining c.read_next.new.input.reader.inner in
     let now = g.W.Write.contents c.loop-count.output.writer.inner in
     let has = g.W.Write.contents c.write_next.new.output.writer.inner in
-    let shown = tables_of c.read_next.new.input.frame in
     let one : ReadsNext form c.loop-count.input.container left rest shown true = search rules in
     let read = subst (λ (k : Container). ReadsNext form k left rest shown true) before.from one in
     let bytes : Appends now has (frame_bytes form c.loop-count.output.container (tables_of c.edit_frame.new.target)) = c.in_ok-write_next.ensures.ok in
