@@ -1,6 +1,7 @@
 -- Rows of half the size, in pieces.
 use Rattle.std.proofs.Common.{ℕ, zero, suc, ◌≡◌, ◌+◌, ◌-◌, ◌*◌, ◌<◌, ◌≤◌, List, [], ◌∷◌, ◌++◌, length, take, drop, get_or, set, refl, sym, ◌∙◌, ap, arith}
 use Rattle.std.specs.Simd.Lanes.{put_chunk}
+use Rattle.std.proofs.Math.Nat.{mul-suc}
 use Rattle.std.proofs.Math.Seq.{take-add}
 use Rattle.std.proofs.lemmas.List.{drop_more, take_more_set, length-take-le, length-drop, take_rest}
 use Rattle.std.proofs.lemmas.Simd.{take_more_put_chunk}
@@ -41,20 +42,23 @@ module _ {T : Type 0} (form : PixelForm T) where
       (halved-append n (take (2 * n) top) (take (2 * n) bottom) _ _ (length-take-le (2 * n) top (omega (arith, long)))
       (length-take-le (2 * n) bottom (omega (arith, long1))))
 
-  -- a loop that writes a block of lanes at a time, one step on
-  pub halved-block_more : (at from n : ℕ) (pixels top bottom lanes : List T) → from ≡ 2 * at → at + n ≤ length pixels
+  -- a loop that writes a block of n lanes at a time, one step on
+  pub halved-block_more : (n block from : ℕ) (pixels top bottom lanes : List T) → let at : ℕ = n * block in from ≡ 2 * at → at + n ≤ length pixels
       → length top ≡ 2 * length pixels → length bottom ≡ 2 * length pixels
       → lanes ≡ halved form (take (2 * n) (take (length top - from) (drop from top))) (take (2 * n) (take (length bottom - from) (drop from bottom)))
       → take at pixels ≡ halved form (take (2 * at) top) (take (2 * at) bottom)
-      → take (at + n) (put_chunk at pixels lanes) ≡ halved form (take (2 * (at + n)) top) (take (2 * (at + n)) bottom)
-  halved-block_more at from n pixels top bottom lanes double room long long1 is so_far =
+      → take (n * (block + 1)) (put_chunk at pixels lanes) ≡ halved form (take (2 * (n * (block + 1))) top) (take (2 * (n * (block + 1))) bottom)
+  halved-block_more n block from pixels top bottom lanes double room long long1 is so_far =
+      let at = n * block in
+      let next : block + 1 ≡ suc block = omega arith in
+      let on = ap (λ k. n * k) next ∙ mul-suc n block in
       let here = rw (take_rest top from, take_rest bottom from, double) at is in
       let first = length-take-le (2 * n) (drop (2 * at) top) (omega (arith, room, long, length-drop (2 * at) top)) in
       let second = length-take-le (2 * n) (drop (2 * at) bottom) (omega (arith, room, long1, length-drop (2 * at) bottom)) in
       let count : length lanes ≡ n = ap length here ∙ length-halved n _ _ first second in
-      take_more_put_chunk at pixels lanes (at + n) (omega (arith, count)) room ∙ ap (λ front. front ++ lanes) so_far
+      rw on (take_more_put_chunk at pixels lanes (at + n) (omega (arith, count)) room ∙ ap (λ front. front ++ lanes) so_far
       ∙ ap (λ back. halved form (take (2 * at) top) (take (2 * at) bottom) ++ back) here
-      ∙ sym (halved-fronts at n top bottom (omega (arith, room, long)) (omega (arith, room, long1)))
+      ∙ sym (halved-fronts at n top bottom (omega (arith, room, long)) (omega (arith, room, long1))))
 
   -- a loop that writes a pixel at a time, one step on
   pub halved-one_more : (i : ℕ) (pixels top bottom : List T) (pixel d : T) → i < length pixels

@@ -1,7 +1,6 @@
 -- The size is exact, or cut to what can be counted, which is too large as well.
-use Rattle.std.proofs.Common.{◌≡◌, ◌<◌, arith}
+use Rattle.std.proofs.Common.{◌<◌, arith}
 use Rattle.std.proofs.lemmas.Grind.{common_steps}
-use Rattle.v_frame_layout.specs.Geometry.{stride_of}
 use Rattle.v_frame_layout.proofs.Plans.{counted_size}
 use Rattle.v_frame_layout.proofs.geometry.PlaneGeometry.checked_alloc_size.Goals as goal
 
