@@ -26,8 +26,7 @@ fn main(rt: HostRuntime) -> ExitCode {
 
 /// Halves the files that the arguments name.
 fn run(rt: &HostRuntime) -> Result<(), HalveError> {
-    let mut words = env::args(rt)?;
-    let _program = words.next();
+    let mut words = env::args(rt)?.skip(1);
     let width = number(words.next())?;
     let height = number(words.next())?;
     let mut frame = frame_of(rt, width, height)?;
@@ -60,11 +59,6 @@ fn halve_file<W: std::io::Write>(
 
 /// The number that an argument tells.
 fn number(word: Option<String>) -> Result<usize, HalveError> {
-    match word {
-        Some(word) => match word.parse::<usize>() {
-            Ok(number) => Ok(number),
-            Err(_) => Err(HalveError::Usage),
-        },
-        None => Err(HalveError::Usage),
-    }
+    let word = word.ok_or(HalveError::Usage)?;
+    word.parse::<usize>().map_err(|_| HalveError::Usage)
 }
