@@ -3,7 +3,7 @@ pub mod CallSteps
 pub mod Cuts
 pub mod Dropped
 pub mod Loans
-pub mod PixelCalls
+pub mod Methods
 pub mod PixelCuts
 pub mod PixelDraws
 pub mod PixelLoans

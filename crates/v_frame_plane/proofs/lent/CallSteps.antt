@@ -4,12 +4,13 @@
 --     ends        the return        tells, told     a clause that is a fact, and one that is the last
 use Rattle.v_frame_plane.proofs.lent.Steps.{ℕ, ◌≡◌, List, [], ◌∷◌, ◌++◌, refl, sym, ap, flft, SProp, emp, ent, sep, id⊢, fact, fact_i, RattleType, Valss}
 use Rattle.v_frame_plane.proofs.lent.Steps.{Clauses, Lasts, at_exit, lasts, triple_of, Stays, walk_of, Args, Val, Ura, Goal, Item, Seq, Soaks, Step, step, ‵}
-use Rattle.v_frame_plane.proofs.lent.Steps.{raw, ◌⊛◌, some, later, prop, ◌$◌, await, drop, feq_i, fjoin, fsplit, move, only, peeks, pick, rewrite, shows, split}
-use Rattle.v_frame_plane.proofs.lent.Steps.{use1, Logic, sem, Lfts, Shares, Lft, Bor, ◌-◌, zero, suc, subst, count_by, nat_lt, leaves, assoc∗, assoc', comm∗}
-use Rattle.v_frame_plane.proofs.lent.Steps.{emp∗, fst∗, mono_l, mono_r, snd∗, via, toks, fact_use, top, Denots, RowLaws, owns, left, Is, shr_dup, ShrRef}
-use Rattle.v_frame_plane.proofs.lent.Steps.{shr_vals, Signature, Slot, type_at, types_at, calls_at, calls_at_last, Ended, closing, Kepts, Fins, lasts_of, Res}
-use Rattle.v_frame_plane.proofs.lent.Steps.{alive, on_entry, Triple, Fit, has_of, T, Callee, Lifetime, Opd as Operand, Place, call, seq, ty_unit, WT, has_ty}
-use Rattle.v_frame_plane.proofs.lent.Steps.{vunit, Calls, Env, Loops, FmC, ++⊢, Go, Post, by, lands, mean, pop, push, runs, sel, sel⊢, settles, ⋆, Opds}
+use Rattle.v_frame_plane.proofs.lent.Steps.{raw, ◌⊛◌, some, later, prop, ◌$◌, await, drop, feq_i, fjoin, fsplit, move, only, peeks, pick, rewrite, shows}
+use Rattle.v_frame_plane.proofs.lent.Steps.{split, use1, Logic, sem, Lfts, Shares, Lft, Bor, ◌-◌, zero, suc, subst, count_by, nat_lt, leaves, assoc∗, assoc'}
+use Rattle.v_frame_plane.proofs.lent.Steps.{comm∗, emp∗, fst∗, mono_l, mono_r, snd∗, via, toks, fact_use, top, Denots, RowLaws, owns, left, Is, shr_dup}
+use Rattle.v_frame_plane.proofs.lent.Steps.{ShrRef, shr_vals, Signature, Slot, type_at, types_at, calls_at, calls_at_last, Ended, closing, Kepts, Fins}
+use Rattle.v_frame_plane.proofs.lent.Steps.{lasts_of, Res, alive, on_entry, Triple, Fit, has_of, T, Callee, Lifetime, Opd as Operand, Place, call, seq}
+use Rattle.v_frame_plane.proofs.lent.Steps.{ty_unit, WT, has_ty, vunit, Calls, Env, Loops, FmC, ++⊢, Go, Post, by, lands, mean, pop, push, runs, sel, sel⊢}
+use Rattle.v_frame_plane.proofs.lent.Steps.{settles, ⋆, Opds}
 use denote.Triple.Entry.{Vals}
 use mir.Syntax.{Body}
 
@@ -199,14 +200,16 @@ module _ {M : Type 1} {𝓤 : Ura M} {𝓛 : Logic 𝓤} {K : Type 0} {Γ : List
   pub told : K → {φ : Type 0} → φ → Seq K 𝓛 Γ (prop (fact 𝓤 φ))
   told t {φ} holds = record { prf = fact_i 𝓤 φ (⋆ 𝓛 Γ) holds }
 
--- a `requires` that is one fact and no more
-pub asks_that : {M : Type 1} (𝓤 : Ura M) {φ : Type 0} → φ → ent 𝓤 (emp 𝓤) (sep 𝓤 (fact 𝓤 φ) (emp 𝓤))
-asks_that 𝓤 {φ} holds = via 𝓤 (sep 𝓤 (emp 𝓤) (emp 𝓤)) (emp∗ 𝓤 (emp 𝓤)) (mono_l 𝓤 (emp 𝓤) (fact_i 𝓤 φ (emp 𝓤) holds))
+-- a `requires` that is a fact and more, one fact and no more, and two facts
+module _ {M : Type 1} (𝓤 : Ura M) {φ : Type 0} where
+  pub asks_also : {P : SProp 𝓤} → φ → ent 𝓤 (emp 𝓤) P → ent 𝓤 (emp 𝓤) (sep 𝓤 (fact 𝓤 φ) P)
+  asks_also {P} holds more = via 𝓤 P more (via 𝓤 (sep 𝓤 (emp 𝓤) P) (emp∗ 𝓤 P) (mono_l 𝓤 P (fact_i 𝓤 φ (emp 𝓤) holds)))
 
--- a `requires` that is two facts
-pub asks_both : {M : Type 1} (𝓤 : Ura M) {φ ψ : Type 0} → φ → ψ → ent 𝓤 (emp 𝓤) (sep 𝓤 (fact 𝓤 φ) (fact 𝓤 ψ))
-asks_both 𝓤 {φ} {ψ} x y = via 𝓤 (sep 𝓤 (emp 𝓤) (emp 𝓤)) (emp∗ 𝓤 (emp 𝓤)) (via 𝓤 (sep 𝓤 (fact 𝓤 φ) (emp 𝓤)) (mono_l 𝓤 (emp 𝓤) (fact_i 𝓤 φ (emp 𝓤) x))
-    (mono_r 𝓤 (fact 𝓤 φ) (fact_i 𝓤 ψ (emp 𝓤) y)))
+  pub asks_that : φ → ent 𝓤 (emp 𝓤) (sep 𝓤 (fact 𝓤 φ) (emp 𝓤))
+  asks_that holds = asks_also holds (id⊢ 𝓤 (emp 𝓤))
+
+  pub asks_both : {ψ : Type 0} → φ → ψ → ent 𝓤 (emp 𝓤) (sep 𝓤 (fact 𝓤 φ) (fact 𝓤 ψ))
+  asks_both {ψ} x y = asks_also x (fact_i 𝓤 ψ (emp 𝓤) y)
 
 -- and two facts are one
 pub both_facts : {M : Type 1} (𝓤 : Ura M) (φ ψ : Type 0) → ent 𝓤 (sep 𝓤 (fact 𝓤 φ) (fact 𝓤 ψ)) (fact 𝓤 (φ × ψ))

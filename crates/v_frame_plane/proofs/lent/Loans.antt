@@ -2,18 +2,13 @@
 -- calculus, and acts on the head of the context. Assumes `Logic`.
 --     lft_within      of the token of κ a lifetime α ∷ κ is made, which lies within κ.        lft_over     it is over, and the token of κ is there again
 --     lends           the value at a place is lent for such a lifetime.        comes_back     that is over, and the value is there again, as it was left
---     opens_self     a `&mut` to self is opened.        begins     a function of three lifetimes with the one parameter self begins
--- lends_self the same for the self of a call, which has half of the token of κ beside that of the loan. self_back self
--- and the tokens, from what the call gives
---     at_one          what is given for each h where A h is held, at one h
-use Rattle.v_frame_plane.proofs.lent.Steps.{ℕ, ◌≡◌, List, [], ◌∷◌, refl, Fml, Lft, Share, fat, fauth, flent, flft, fobor, fobs, fsep, ftrue, full_share, SProp}
-use Rattle.v_frame_plane.proofs.lent.Steps.{all, all_e, ent, sep, wand, apply∗, Lfts, Shares, fact, shows, cell_at, mem, RattleType, MutBor, MutRef, mut_vals}
-use Rattle.v_frame_plane.proofs.lent.Steps.{heard, nothing, opens, peeks, Ty, named, Val, vptr, Ura, Goal, Item, Seq, Soaks, Step, step, mean, prop, ‵, raw}
-use Rattle.v_frame_plane.proofs.lent.Steps.{◌⊛◌, some, later, ◌$◌, ◌∵◌, !, qed, await, done, drop, fsplit, fsplit3, join, keep, move, pick, rewrite, split}
-use Rattle.v_frame_plane.proofs.lent.Steps.{split3, use1, use2, use3, Logic, Body, fdead, fres, part_in_at, part_out_at, meet_⊑_left, Is, lends_ref, ref_back}
-use Rattle.v_frame_plane.proofs.lent.Steps.{lone, part_at, Sq, lft-common, lft_end, lft_new}
+--     opens_self      a `&mut` to self is opened.        at_one          what is given for each h where A h is held, at one h
+use Rattle.v_frame_plane.proofs.lent.Steps.{ℕ, ◌≡◌, List, [], ◌∷◌, refl, Lft, Share, fat, fauth, flent, flft, fobor, fobs, full_share, SProp, all, all_e, ent}
+use Rattle.v_frame_plane.proofs.lent.Steps.{sep, wand, apply∗, shows, cell_at, mem, RattleType, MutBor, MutRef, mut_vals, opens, peeks, Ty, named, Val, vptr}
+use Rattle.v_frame_plane.proofs.lent.Steps.{Ura, Goal, Item, Seq, Soaks, Step, step, ‵, raw, ◌⊛◌, some, later, ◌$◌, ◌∵◌, !, qed, await, done, drop, fsplit3}
+use Rattle.v_frame_plane.proofs.lent.Steps.{move, pick, rewrite, split, use1, use2, use3, Logic, Body, fdead, fres, part_in_at, part_out_at, meet_⊑_left, Is}
+use Rattle.v_frame_plane.proofs.lent.Steps.{lends_ref, ref_back, lone, part_at, lft-common, lft_end, lft_new}
 use base.FractionLaws.{common}
-use base.Share
 use mir.Raw.{raw as raw_ty}
 
 -- the share that there is of the token of α ∷ κ, for the share q of that of κ
@@ -58,34 +53,6 @@ module _ {M : Type 1} {𝓤 : Ura M} {𝓛 : Logic 𝓤} {K : Type 0} {Γ : List
         move t (1 ∷ []) $ peeks t R _ (shows 𝓛 R) new (u ∷ []) (λ its. rewrite t 0 (λ (w : Val). ‵ (R.own_val new (w ∷ []))) (spelled u its) refl $
         move t (1 ∷ []) $ rewrite t 0 (λ (w : Val). ‵ (fat full_share τ b o w)) (spelled u its) refl $ k)))
 
--- the tokens of such a call, whose own lifetime is α ∷ κ
-abbrev Tokens : {M : Type 1} {𝓤 : Ura M} (κ κT : Lft) (q qT : Share) → ℕ → Item 𝓤
-Tokens κ κT q qT α = ‵ (flft (α ∷ κ) (share_within (Share.left q))) ⊛ ‵ (flft κ (Share.right q)) ⊛ ‵ (flft κT qT) ⊛ ‵ ftrue
-
-module _ {M : Type 1} {𝓤 : Ura M} {𝓛 : Logic 𝓤} {K : Type 0} {Γ : List (Item 𝓤)} {G : Goal 𝓤 𝓛.H} where
-  module _ (t : K) (z : Soaks G) (R : RattleType) (one : R.mir ≡ lone R.mir ∷ []) (τ : Ty) (is : raw_ty τ ≡ raw_ty (lone R.mir)) (κ κT : Lft) (q qT :
-      Share) where
-    pub lends_self : (x : R.Denot) (b o : ℕ) (v : Val)
-        → ((α γ : ℕ) → Seq K 𝓛 ((Tokens κ κT q qT α ⊛ ‵ ((MutRef (named 0) (α ∷ κ) R).own_val (record { ref_ptr = (b, o); ghost_name = γ; now = x }) (vptr b o ∷
-        [])) ⊛ ‵ ftrue) ∷ ‵ (flent (α ∷ κ) (Body (mem R) b o γ)) ∷ raw (Back 𝓛 α κ (Share.left q)) ∷ Γ) G)
-        → Seq K 𝓛 (‵ (fat full_share τ b o v) ∷ ‵ (R.own_val x (v ∷ [])) ∷ ‵ (flft κ q) ∷ ‵ (flft κT qT) ∷ Γ) G
-    lends_self x b o v k =
-        move t (2 ∷ []) $ use1 𝓛 (‵ (flft κ (Share.left q)) ⊛ ‵ (flft κ (Share.right q))) (𝓛.lfts.lft_split κ q) $ split t $ move t (2 ∷ 3 ∷ 0 ∷ []) $
-        lends t z R one τ is κ (Share.left q) x b o v (λ α γ.
-        -- [self, lent; what its lender keeps; the token of the loan; the way back; the other half of the token of κ; the token of κT]
-        nothing t $ move t (1 ∷ 0 ∷ []) $ join t $ nothing t $ move t (6 ∷ 0 ∷ []) $ join t $ move t (5 ∷ 0 ∷ []) $ join t $ move t (3 ∷ 0 ∷ []) $ join t $
-        join t $ k α γ)
-
-    pub self_back : (α γ b o : ℕ) (new : R.Denot) (v : Val) {said none : Fml} → ((u : Val) → Is R new (u ∷ []) → u ≡ v)
-        → Step K 𝓛 (‵ (fat full_share τ b o v) ∷ ‵ (R.own_val new (v ∷ [])) ∷ ‵ (flft κ q) ∷ ‵ (flft κT qT) ∷ Γ) G
-        (Tokens κ κT q qT α ∷ ‵ (fsep (fsep (fres γ (R.coded.code new)) said) none) ∷ ‵ (flent (α ∷ κ) (Body (mem R) b o γ)) ∷ raw (Back 𝓛 α κ (Share.left q)) ∷
-        Γ) G
-    self_back α γ b o new v spelled = step (λ k.
-        split t $ move t (0 ∷ 4 ∷ []) $ lft_over t z α κ (Share.left q) $ move t (2 ∷ []) $ split3 t $ move t (4 ∷ 0 ∷ []) $
-        use2 𝓛 (‵ (flft κ q)) (𝓛.lfts.lft_join κ q) $ move t (4 ∷ []) $ fsplit t $ fsplit t $
-        -- [the last value; what is said of it; nothing; the tokens of κ and κT; nothing; the loan is over; what the lender keeps]
-        move t (6 ∷ 7 ∷ 0 ∷ []) $ comes_back t z R one τ is (α ∷ κ) γ b o new v spelled $ move t (2 ∷ 3 ∷ 6 ∷ []) $ drop t $ drop t $ drop t $ k)
-
 module _ {M : Type 1} {𝓤 : Ura M} {𝓛 : Logic 𝓤} {K : Type 0} {Γ : List (Item 𝓤)} {G : Goal 𝓤 𝓛.H} where
   -- a `&mut` to what vs spells is opened: its cell, what it owns, and the open borrow, in three
   pub opens_self : K → Soaks G → (R : RattleType) (κ : Lft) (q : Share) (self : MutBor R.Denot) (vs : List Val) →
@@ -98,15 +65,6 @@ module _ {M : Type 1} {𝓤 : Ura M} {𝓛 : Logic 𝓤} {K : Type 0} {Γ : List
       fsplit3 t $ drop t $ opens t z R {h = self.now} b o (λ us. move t (1 ∷ []) $ peeks t R _ (shows 𝓛 R) self.now us (λ is.
       rewrite t 0 (λ (ws : List Val). ‵ (R.own_val self.now ws)) (spelled us is) refl $
       rewrite t 1 (λ (ws : List Val). ‵ (cell_at full_share R.mir ws b o)) (spelled us is) refl $ move t (1 ∷ []) $ k)))
-
--- a function of three lifetimes with the one parameter self begins: what it asks besides is the last entry
-pub begins : {M : Type 1} {𝓤 : Ura M} (𝓛 : Logic 𝓤) (κs : Lfts 3) (qs : Shares 3) (self : Fml) (lives : Type 0) (asked : Item 𝓤) {P : SProp 𝓤}
-    → (lives → Sq 𝓛 (‵ self ∷ ‵ (flft κs.0 qs.0) ∷ ‵ (flft κs.1.0 qs.1.0) ∷ ‵ (flft κs.1.1.0 qs.1.1.0) ∷ asked ∷ []) (prop P))
-    → ent 𝓤 (sep 𝓤 (mean 𝓛 ((‵ (flft κs.0 qs.0) ⊛ ‵ (flft κs.1.0 qs.1.0) ⊛ ‵ (flft κs.1.1.0 qs.1.1.0) ⊛ ‵ ftrue) ⊛ ‵ self ⊛ ‵ ftrue))
-    (sep 𝓤 (fact 𝓤 lives) (mean 𝓛 asked))) P
-begins {𝓤 = 𝓤} 𝓛 κs qs self lives asked k =
-    qed 𝓛 (((‵ (flft κs.0 qs.0) ⊛ ‵ (flft κs.1.0 qs.1.0) ⊛ ‵ (flft κs.1.1.0 qs.1.1.0) ⊛ ‵ ftrue) ⊛ ‵ self ⊛ ‵ ftrue) ∷ raw (fact 𝓤 lives) ∷ asked ∷ []) ∵
-    move ! (1 ∷ []) $ heard ! _ (λ inT. split ! $ split ! $ move ! (1 ∷ []) $ split3 ! $ move ! (4 ∷ []) $ split ! $ keep ! (0 ∷ 5 ∷ 2 ∷ 3 ∷ 6 ∷ []) $ k inT)
 
 pub at_one : {M : Type 1} {𝓤 : Ura M} (𝓛 : Logic 𝓤) {H : Type 0} (A B : H → SProp 𝓤) (h : H) → ent 𝓤 (sep 𝓤 (all 𝓤 (λ (x : H). wand 𝓤 (A x) (B x))) (A h)) (B h)
 at_one {𝓤 = 𝓤} 𝓛 {H = H} A B h = let Gives : H → SProp 𝓤 = λ x. wand 𝓤 (A x) (B x) in

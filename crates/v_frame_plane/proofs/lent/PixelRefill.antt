@@ -1,31 +1,30 @@
 -- `refill_front` and `refill_back` of an iterator that lends pixels, of which `s` is the one end: the next of the rows from there is what was begun at that end
 -- now, or what the other end had is. What a `&mut` in a field of self ends as no generated proof follows, so this one follows the code. Assumes `Logic`.
-use Rattle.v_frame_plane.proofs.lent.Steps.{◌≡◌, ◌+◌, [], ◌∷◌, length, List, Option, MutBor, lit<, refl, sym, proved, ⊤, MakesProgress, item_count, fat}
-use Rattle.v_frame_plane.proofs.lent.Steps.{full_share, id⊢, ◌⊑◌, ⊑_trans, fact, tables, param, MutRef, mut_vals, mut_Tells, plain, named_lft, MutSlice}
-use Rattle.v_frame_plane.proofs.lent.Steps.{slice_val, heard, calls_at, framed, Goes-ref, walk_of, named, alloc_all, env, free_all, get, get_in, lands_as}
-use Rattle.v_frame_plane.proofs.lent.Steps.{look_at, look_in_at, pass_all, sets, through, ‵, raw, ◌⊛◌, at_ret, ◌$◌, !, drop, fjoin, move, rewrite, split}
-use Rattle.v_frame_plane.proofs.lent.Steps.{split3, use1, use2, agg, store_in, sub, whole as entire, addr, and_then, enter, exec, first, fld, from, hop}
-use Rattle.v_frame_plane.proofs.lent.Steps.{no_more, of_opd, returns, stop, RattleType, Laws, Lft, Logic, Ura, Ty, tcons, tnil, erased, mut, ty_param, ty_ref}
-use Rattle.v_frame_plane.proofs.lent.Steps.{Contract, triple_of, subst, MachineTables, Running, closing, Meets, Triple, Callee, Fn, Place, Sym, addr_of}
-use Rattle.v_frame_plane.proofs.lent.Steps.{aggregate, arm, assign, call, copy, deref, field, local, no_default, opd_unit, place, return, rv_opd, seq, switch}
-use Rattle.v_frame_plane.proofs.lent.Steps.{ttcons, ttnil, ty_enum, ty_unit, value_local, variant, Model, Closed, Wp, after_seq, get_tag, any_q, post}
-use Rattle.v_frame_plane.proofs.lent.Steps.{in_variant, vrt, assigns_last, switches_on, unit_lit, param_laws}
+use Rattle.v_frame_plane.proofs.lent.Steps.{◌+◌, [], ◌∷◌, length, List, Option, MutBor, lit<, refl, sym, fat, full_share, id⊢, ◌⊑◌, ⊑_trans, tables, param}
+use Rattle.v_frame_plane.proofs.lent.Steps.{named_lft, MutSlice, slice_val, heard, framed, named, alloc_all, env, free_all, get, get_in, lands_as, look_at}
+use Rattle.v_frame_plane.proofs.lent.Steps.{look_in_at, pass_all, sets, through, ‵, raw, ◌⊛◌, at_ret, ◌$◌, !, drop, fjoin, move, rewrite, split, split3, use1}
+use Rattle.v_frame_plane.proofs.lent.Steps.{use2, agg, store_in, sub, whole as entire, addr, and_then, enter, exec, first, fld, from, hop, no_more, of_opd}
+use Rattle.v_frame_plane.proofs.lent.Steps.{returns, stop, RattleType, Laws, Lft, Logic, Ura, Ty, tcons, tnil, erased, mut, ty_param, ty_ref, subst}
+use Rattle.v_frame_plane.proofs.lent.Steps.{MachineTables, Running, Triple, Callee, Fn, Place, Sym, addr_of, aggregate, arm, assign, copy, deref, field}
+use Rattle.v_frame_plane.proofs.lent.Steps.{no_default, opd_unit, place, return, rv_opd, seq, switch, ttcons, ttnil, ty_enum, ty_unit, variant, Model, Closed}
+use Rattle.v_frame_plane.proofs.lent.Steps.{Wp, after_seq, get_tag, any_q, post, in_variant, vrt, assigns_last, switches_on, unit_lit, param_laws, frame}
+use Rattle.v_frame_plane.proofs.lent.Steps.{feq_i, Val, vunit}
 use mir.Syntax.{Body}
 use Rattle.v_frame_plane.proofs.pixels_mut.PixelsMut.TheLaws.{lowers}
-use Rattle.v_frame_plane.proofs.lent.PixelMemory.{lowered, Around, Bare, Named, as_named, ends_refill, field_in, rows_offset, rows_out, stayed, whole}
-use Rattle.v_frame_plane.specs.RowsLeft.{rows_left}
+use Rattle.v_frame_plane.proofs.rows_mut.RowsMut.TheLaws.{lowers as rows_lowers}
+use Rattle.v_frame_plane.proofs.lent.PixelMemory.{lowered, Around, Bare, Named, as_named, field_in, rows_offset, rows_out, whole}
 use Rattle.v_frame_plane.specs.SecondRows.{EndsAs}
 use Rattle.v_frame_plane.specs.SecondPixels.{KeepsPixels}
 use Rattle.v_frame_plane.specs.contracts.pixels_mut.PixelsMut.{the_row}
-use Rattle.v_frame_plane.specs.contracts.pixels_mut.PixelsMut.refill_front
-use Rattle.v_frame_plane.specs.contracts.rows_mut.RowsMut.next
 use Rattle.v_frame_plane.proofs.lent.Cuts.{dropped, slice_fits}
-use Rattle.v_frame_plane.proofs.lent.Loans.{begins, opens_self}
+use Rattle.v_frame_plane.proofs.lent.CallSteps.{tells, told}
+use Rattle.v_frame_plane.proofs.lent.Loans.{opens_self}
+use Rattle.v_frame_plane.proofs.lent.Methods.{Ends, Met, calls_self, gets, gives, in_order, meets_by, method, set, value}
 use Rattle.v_frame_plane.proofs.lent.PixelLoans.{begun, begun_countable, begun_full, begun_left, keeps_begun, keeps_taken, taken, taken_countable, taken_left}
 use Rattle.v_frame_plane.proofs.lent.PixelLoans.{taken_none}
-use Rattle.v_frame_plane.proofs.lent.PixelSides.{Walk, by_sides, closes_by, far_out, near_part, near_place, part, refill_clauses, row_clauses, sides, whole_by}
+use Rattle.v_frame_plane.proofs.lent.PixelSides.{Walk, by_sides, closes_by, far_out, near_part, near_place, part, refill, row_draw, sides, whole_by}
 use Rattle.v_frame_plane.proofs.lent.Sides.{Side, LendsRow, YieldsRow, far, near, no_rows, offset, other, row_steps, slot}
-use Rattle.v_frame_plane.proofs.lent.RowCalls.{Draw, asked, by_row, draws, drew}
+use Rattle.v_frame_plane.proofs.lent.RowCalls.{by_row}
 use Rattle.v_frame_plane.proofs.lent.RowMemory.{slice_of, Bare as RowsBare, lowered as rows_lowered}
 use Rattle.v_frame_plane.proofs.lent.Taken.{Take, calls_take, word}
 
@@ -37,55 +36,36 @@ module _ (self rows option : Sym) (kept lent entry : Ty) (s : Side) (drawing tak
 
   -- where a row was drawn, and where there was none
   abbrev drawn : Body
-  drawn = seq (assign (place 2 []) (rv_opd (copy (place 3 (variant 1 ∷ field 1 ∷ [])))))
-      (seq (assign (place 5 []) (addr_of (place 2 (field 0 ∷ deref entry ∷ []))))
-      (seq (assign (place 6 []) (aggregate (copy (place 5 []) ∷ copy (place 2 (field 1 ∷ [])) ∷ []))) (assign (end_of s) (rv_opd (copy (place 6 []))))))
+  drawn = in_order (set 2 (rv_opd (copy (place 3 (variant 1 ∷ field 1 ∷ [])))) ∷ set 5 (addr_of (place 2 (field 0 ∷ deref entry ∷ []))) ∷
+      set 6 (aggregate (value 5 ∷ copy (place 2 (field 1 ∷ [])) ∷ [])) ∷ []) (assign (end_of s) (rv_opd (value 6)))
 
   abbrev not_drawn : Body
-  not_drawn = seq (assign (place 8 []) (addr_of (end_of (other s)))) (seq (call taking (copy (place 8 []) ∷ []) (place 7 []))
-      (assign (end_of s) (rv_opd (copy (place 7 [])))))
+  not_drawn = in_order (set 8 (addr_of (end_of (other s))) ∷ gets 7 taking (value 8 ∷ []) ∷ []) (assign (end_of s) (rv_opd (value 7)))
 
   abbrev ends : Body
-  ends = seq (assign (place 0 []) (rv_opd opd_unit)) return
+  ends = seq (set 0 (rv_opd opd_unit)) return
 
   abbrev code : Fn
-  code = record {
-    lifetimes = 2;
-    outlives = (1, 0) ∷ (2, 0) ∷ (2, 1) ∷ [];
-    ty_params = [];
-    givens = 0;
-    params = 1;
-    body =
-        seq (assign (place 4 []) (addr_of (place 1 (deref (Walk self rows) ∷ field 1 ∷ [])))) (seq (call drawing (copy (place 4 []) ∷ []) (place 3 []))
-        (seq (switch (copy (place 3 (variant 0 ∷ field 0 ∷ []))) (arm (1 ∷ []) drawn (arm (0 ∷ []) not_drawn no_default))) ends));
-    locals =
-        local ty_unit value_local ∷ local (ty_ref (named 0) mut kept) value_local ∷ local part value_local ∷
-        local (ty_enum option (ttcons tnil (ttcons (tcons part tnil) ttnil))) value_local ∷ local (ty_ref erased mut lent) value_local ∷
-        local (ty_ref erased mut (ty_param 0)) value_local ∷ local part value_local ∷ local part value_local ∷ local (ty_ref erased mut part) value_local ∷ [];
-  }
+  code = method (in_order (set 4 (addr_of (place 1 (deref (Walk self rows) ∷ field 1 ∷ []))) ∷ gets 3 drawing (value 4 ∷ []) ∷
+      switch (copy (place 3 (variant 0 ∷ field 0 ∷ []))) (arm (1 ∷ []) drawn (arm (0 ∷ []) not_drawn no_default)) ∷ []) ends)
+      (ty_unit ∷ ty_ref (named 0) mut kept ∷ part ∷ ty_enum option (ttcons tnil (ttcons (tcons part tnil) ttnil)) ∷ ty_ref erased mut lent ∷
+      ty_ref erased mut (ty_param 0) ∷ part ∷ part ∷ ty_ref erased mut part ∷ [])
 
 module _ {M : Type 1} {𝓤 : Ura M} (𝓛 : Logic 𝓤) (𝓜 : Model 𝓤 𝓛.H) (𝓡 : Running 𝓤 𝓛.H 𝓜) (T : RattleType) (laws : Laws T) (s : Side) where
   abbrev 𝓣 : MachineTables 𝓤 𝓛.H 𝓜
   𝓣 = tables 𝓤 𝓛.H 𝓜 𝓡 𝓡.env
 
-  abbrev RowDraw : Contract 𝓤
-  RowDraw = triple_of 𝓛 (next.signature T) (closing 𝓛 (next.ended T) (row_clauses 𝓛 T s))
-
-  pub meets : (self rows option : Sym) (kept lent entry : Ty) (drawing taking key : Callee) → Triple 𝓤 (𝓣.C drawing) RowDraw →
+  pub meets : (self rows option : Sym) (kept lent entry : Ty) (drawing taking key : Callee) → Met (row_draw 𝓤 T s) 𝓛 (𝓣.C drawing) →
       ((κ : Lft) → κ ⊑ T.lives → Triple 𝓤 (𝓣.C taking) (Take 𝓛 𝓜.mem 𝓡.returns T κ)) →
-      Closed 𝓤 𝓛.H 𝓣.C 𝓣.Λ key (code self rows option kept lent entry s drawing taking)
-      → Meets 𝓛 (refill_front.signature T) (𝓣.C key) (closing 𝓛 (refill_front.ended T) (refill_clauses 𝓛 T s))
+      Closed 𝓤 𝓛.H 𝓣.C 𝓣.Λ key (code self rows option kept lent entry s drawing taking) → Met (refill 𝓤 T s) 𝓛 (𝓣.C key)
   meets self' rows' option kept lent entry drawing taking key draw_meets take_meets closed =
-      let item = param 0 T in let c = refill_clauses 𝓛 T s in let d = row_clauses 𝓛 T s in let run = framed 𝓤 𝓛.H 𝓜 𝓣 in
+      let item = param 0 T in let m = refill 𝓤 T s in let run = framed 𝓤 𝓛.H 𝓜 𝓣 in
       let function = code self' rows' option kept lent entry s drawing taking in let behind = ends self' rows' option kept lent entry s drawing taking in
-      proved 𝓛 (refill_front.ended T) (stayed T) c 𝓜 𝓡 (Goes-ref 𝓛 3 0 tt (plain (λ κs. the_row (named_lft 3 1 tt κs) item)), tt) key function closed
-      (λ κs. (mut_vals, tt)) (λ κs. (mut_Tells (named 0) κs.0 (the_row (named_lft 3 1 tt κs) item), tt)) (λ κs qs bounds a g are.
+      meets_by 𝓛 𝓜 𝓡 m key function closed (λ κs qs bounds self inT.
       let κ = κs.0 in let q = qs.0 in let κa = κs.1.0 in let qa = qs.1.0 in let κT = κs.1.1.0 in let qT = qs.1.1.0 in let aT = bounds.1.1.0 in
-      let ℓ = named_lft 3 1 tt κs in let Row = the_row ℓ item in let self = a.0 in let b = self.ref_ptr.0 in let o = self.ref_ptr.1 in let h = self.now in
-      let x = near s h in let y = far s h in
-      let Post = (walk_of 𝓛 (refill_front.ended T) (stayed T) c).post ((κs, qs, bounds, a, (mut_vals self, tt)), g) in
-      begins 𝓛 κs qs ((MutRef (named 0) κ Row).own_val self (mut_vals self)) (κT ⊑ T.lives)
-      (raw (fact 𝓤 (length x.now ≡ 0))) (λ inT. move ! (4 ∷ []) $ heard ! _ (λ none.
+      let ℓ = named_lft 3 1 tt κs in let Row = the_row ℓ item in let b = self.ref_ptr.0 in let o = self.ref_ptr.1 in let h = self.now in
+      let x = near s h in let y = far s h in let Post = Ends m 𝓛 κs qs bounds self in
+      heard ! _ (λ none.
       enter ! _ _ _ _ _ $ alloc_all ! (λ l. pass_all ! refl ((tt, tt), tt) $
       opens_self ! tt Row κ q self (lowered h ∷ []) ((lowers ℓ item (param_laws 0 T laws)).val_is h) $
       let En = env function.locals l in let Then =
@@ -97,20 +77,17 @@ module _ {M : Type 1} {𝓤 : Ura M} (𝓛 : Logic 𝓤) (𝓜 : Model 𝓤 𝓛
       raw (Around 𝓛 b o RowsBare rows_offset (λ u. whole (slice_of h.front) u (slice_of h.back))))
       (rows_out 𝓛 b o (slice_of h.front) (rows_lowered h.rows) (slice_of h.back)) $ split ! $
       -- [the rows' cell; the way back; this end; what the rows own; the other end; the open borrow; the tokens of κa and κT; the locals]
-      move ! (0 ∷ 3 ∷ 8 ∷ 9 ∷ []) $ draws ! tt T d κa κT aT qa qT h.rows b (o + rows_offset) (λ α γ. tt) inT (λ α γ. id⊢ 𝓤 _) (λ α γ.
-      calls_at ! run (Draw 𝓛 T d κa κT) draw_meets (asked 𝓛 T d κa κT h.rows b (o + rows_offset) α γ aT qa qT tt) (and_then ! (get ! refl) (no_more !)) (λ v.
-      drew ! tt T laws d κa κT aT qa qT h.rows b (o + rows_offset) α γ tt v (λ r rows. let ns = rows_lowered rows in
-      -- [the rows' cell; what they own; the row; what the call ensures; the tokens of κa and κT; the way back; this end; the other end; the open borrow; the
+      move ! (0 ∷ 3 ∷ 8 ∷ 9 ∷ []) $ calls_self ! run (row_draw 𝓤 T s) draw_meets κa κT qa qT aT inT (rows_lowers ℓ item (param_laws 0 T laws)) refl RowsBare refl
+      h.rows b (o + rows_offset) (id⊢ 𝓤 _) (λ _ _ _. and_then ! (get ! refl) (no_more !)) (λ v r rows. let ns = rows_lowered rows in
+      -- [the rows' cell; what they own; the tokens of κa and κT; the row; what the call says; the way back; this end; the other end; the open borrow; the
       -- locals]
       move ! (0 ∷ 6 ∷ []) $ use2 𝓛 (‵ (fat full_share Bare b o (whole (slice_of h.front) ns (slice_of h.back))))
       (field_in 𝓛 b o RowsBare rows_offset (λ u. whole (slice_of h.front) u (slice_of h.back)) ns) $
       rewrite ! 0 (λ u. ‵ (fat full_share Bare b o u)) (by_sides s h ns) refl $
-      move ! (3 ∷ []) $ use1 𝓛 (‵ (LendsRow s item h.rows r rows) ⊛ raw (fact 𝓤 (YieldsRow s h.rows r rows)) ⊛
-      raw (fact 𝓤 (MakesProgress (λ _. ⊤) (item_count rows_left) h.rows r rows))) (id⊢ 𝓤 _) $
-      split3 ! $ move ! (1 ∷ []) $ heard ! _ (λ steps. move ! (1 ∷ []) $ drop ! $ move ! (6 ∷ []) $
+      move ! (5 ∷ []) $ split3 ! $ move ! (1 ∷ []) $ heard ! _ (λ steps. move ! (1 ∷ []) $ drop ! $ move ! (6 ∷ []) $
       use1 𝓛 (‵ (EndsAs item x.ghost_name x.now)) (dropped 𝓛 item (named 1) κa x _) $
-      -- [how this end ends; what the call leaves; self's cell; what the rows own; the row; the tokens of κa and κT; the other end; the open borrow; the locals]
-      move ! (4 ∷ []) $ by_row ! T κa r v
+      -- [how this end ends; what the call leaves; self's cell; what the rows own; the tokens of κa and κT; the row; the other end; the open borrow; the locals]
+      move ! (6 ∷ []) $ by_row ! T κa r v
       -- where there is none, what the other end had is begun here
       (λ gone out. let few = no_rows s h.rows rows (subst (λ r. YieldsRow s h.rows r rows) gone steps) in let inA = ⊑_trans κa κT T.lives aT inT in
       rewrite ! 1 (λ (r : Option (MutBor (List T.Denot))). ‵ (LendsRow s item h.rows r rows)) gone refl $
@@ -143,8 +120,8 @@ module _ {M : Type 1} {𝓤 : Ura M} (𝓛 : Logic 𝓤) (𝓜 : Model 𝓤 𝓛
       move ! (3 ∷ 5 ∷ 2 ∷ 1 ∷ 7 ∷ 8 ∷ 9 ∷ []) $ closes_by ! tt s ℓ T self y rows e (taken_countable h rows e empty few.0 few.1 s) $
       returns ! (look_at ! 0 refl) $ free_all ! refl $
       -- [self, in two; the token of κ; what the iterator keeps; the tokens of κa and κT]
-      move ! (0 ∷ 1 ∷ 2 ∷ 4 ∷ 5 ∷ []) $ ends_refill ! T c κs qs bounds a g new _ (id⊢ 𝓤 _) (taken_left h rows e empty few.0 few.1 s none)
-      (taken_none h rows e empty few.0 few.1 s)))
+      feq_i ! (List Val) (vunit ∷ []) (vunit ∷ []) refl $ move ! (0 ∷ 1 ∷ 2 ∷ 3 ∷ 5 ∷ 6 ∷ []) $ gives ! m κs qs bounds self vunit tt new $ frame ! $
+      tells ! (taken_left h rows e empty few.0 few.1 s none) $ told ! (taken_none h rows e empty few.0 few.1 s)))
       -- where there is one, it is begun here
       (λ row there out row_fits.
       let is = row_steps s h.rows row rows (subst (λ r. YieldsRow s h.rows r rows) there steps) in let new = begun h rows row s is in
@@ -165,5 +142,5 @@ module _ {M : Type 1} {𝓤 : Ura M} (𝓛 : Logic 𝓤) (𝓜 : Model 𝓤 𝓛
       move ! (2 ∷ 3 ∷ 6 ∷ 0 ∷ 7 ∷ 8 ∷ 9 ∷ []) $ closes_by ! tt s ℓ T self row rows y (begun_countable h rows row s is) $
       returns ! (look_at ! 0 refl) $ free_all ! refl $
       -- [self, in two; the token of κ; what the iterator keeps; the tokens of κa and κT]
-      move ! (0 ∷ 1 ∷ 2 ∷ 4 ∷ 5 ∷ []) $ ends_refill ! T c κs qs bounds a g new _ (id⊢ 𝓤 _) (begun_left h rows row s is none)
-      (begun_full h rows row s is)))))))))))
+      feq_i ! (List Val) (vunit ∷ []) (vunit ∷ []) refl $ move ! (0 ∷ 1 ∷ 2 ∷ 3 ∷ 5 ∷ 6 ∷ []) $ gives ! m κs qs bounds self vunit tt new $ frame ! $
+      tells ! (begun_left h rows row s is none) $ told ! (begun_full h rows row s is))))))))

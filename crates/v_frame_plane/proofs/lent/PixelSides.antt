@@ -5,24 +5,22 @@
 --     near_place, near_part, near_out, far_out     the field of this end in code, in the cell of self, and out of it
 --     whole_by, by_sides     self as a machine value, of its parts as seen from this end.        sides, closes_by     self, apart, and closed
 --     cut_clauses, row_clauses, step_clauses, refill_clauses, draw_clauses     the contracts of the functions of this end
-use Rattle.v_frame_plane.proofs.lent.Steps.{ℕ, ◌≡◌, ◌+◌, ◌^◌, ◌<◌, List, [], ◌∷◌, length, MutBor, ⊤, MakesProgress, item_count, Share, Lft, fauth, fbor, fobor}
-use Rattle.v_frame_plane.proofs.lent.Steps.{fobs, flft, mem, Body, Step, step, !, refl, ◌$◌, move, Array, Laws, MutSlice, NamedLft, Goal, Seq, Soaks}
+use Rattle.v_frame_plane.proofs.lent.Steps.{ℕ, ◌≡◌, ◌+◌, ◌^◌, ◌<◌, List, [], ◌∷◌, length, MutBor, ⊤, MakesProgress, item_count, Share, Lft, fauth, fbor}
+use Rattle.v_frame_plane.proofs.lent.Steps.{fobor, fobs, flft, mem, Body, Step, step, !, refl, ◌$◌, move, Array, Laws, MutSlice, NamedLft, Goal, Seq, Soaks}
 use Rattle.v_frame_plane.proofs.lent.Steps.{follows_both, full_share, fat, ftrue, ent, sep, fact, ◌⊑◌, param, RattleType, Clauses, Ty, Val, vptr, vint, w64}
 use Rattle.v_frame_plane.proofs.lent.Steps.{Ura, Item, ‵, Logic, sem, sub, fld, look_in, load, of_opd, stop, through, erased, mut, slice_ty, tcons, tnil}
 use Rattle.v_frame_plane.proofs.lent.Steps.{ty_param, ty_ref, ty_struct, Gv, T, Sym, deref, field, place, copy, rv_opd, Fits, WT, has_ty, Env, at, Go, nth}
-use Rattle.v_frame_plane.proofs.lent.Steps.{Part, Finds, Rv}
+use Rattle.v_frame_plane.proofs.lent.Steps.{Part, Finds, Rv, raw, ◌⊛◌, unit, MutRef}
+use Rattle.std.specs.contracts.option.Option as Opt
 use Rattle.v_frame_plane.specs.PixelsLeft.{pixels_left}
 use Rattle.v_frame_plane.specs.RowsLeft.{rows_left}
 use Rattle.v_frame_plane.specs.SecondPixels.{KeepsPixels}
 use Rattle.v_frame_plane.specs.contracts.pixels_mut.cut_first
 use Rattle.v_frame_plane.specs.contracts.pixels_mut.PixelsMut.{the_row}
-use Rattle.v_frame_plane.specs.contracts.pixels_mut.PixelsMut.next
-use Rattle.v_frame_plane.specs.contracts.pixels_mut.PixelsMut.next_of_front
-use Rattle.v_frame_plane.specs.contracts.pixels_mut.PixelsMut.refill_front
 use Rattle.v_frame_plane.specs.contracts.rows_mut.RowsMut as rows_mut
-use Rattle.v_frame_plane.specs.contracts.rows_mut.RowsMut.next as rows_next
 use Rattle.v_frame_plane.specs.declared.rows_mut.RowsMut.{RowsMut}
 use Rattle.v_frame_plane.specs.declared.pixels_mut.PixelsMut.{PixelsMut}
+use Rattle.v_frame_plane.proofs.lent.Methods.{Method}
 use Rattle.v_frame_plane.proofs.lent.PixelMemory.{Around, Bare, Named, back_out, closes_pixels, front_out, lowered, parts, whole}
 use Rattle.v_frame_plane.proofs.lent.RowMemory.{Numbers, slice_of, lowered as rows_lowered}
 use Rattle.v_frame_plane.proofs.lent.Sides.{Side, at_front, at_back, slot, other, offset, near, far, put, Countable, walk_by, Steps, Yields, YieldsRow}
@@ -47,35 +45,45 @@ module _ {M : Type 1} {𝓤 : Ura M} (𝓛 : Logic 𝓤) (T : RattleType) (s : S
         sep 𝓤 (sem 𝓛 (follows_both Slices (param 0 T) Slices a.0.ghost_name r.0.ghost_name r.1.ghost_name (put s))) (fact 𝓤 (a.0.now ≡ put s r.0.now r.1.now));
   }
 
-  abbrev pub row_clauses : Clauses 𝓤 (rows_next.ended T)
-  row_clauses = λ κs a. record {
-    ghost = Unit {0};
-    requires = λ _. sep 𝓤 (fact 𝓤 (κs.1.1.0 ⊑ T.lives)) (sem 𝓛 ftrue);
-    ensures = λ _ r end. sep 𝓤 (sem 𝓛 (LendsRow s (param 0 T) a.0.now r end.0.now)) (sep 𝓤 (fact 𝓤 (YieldsRow s a.0.now r end.0.now))
-        (fact 𝓤 (MakesProgress (λ _. ⊤) (item_count rows_left) a.0.now r end.0.now)));
+-- the methods of this end, of rows and of pixels
+module _ {M : Type 1} (𝓤 : Ura M) (T : RattleType) (s : Side) where
+  abbrev pub row_draw : Method 𝓤
+  row_draw = record {
+    R = λ ℓ. rows_mut.the_row ℓ (param 0 T);
+    Out = λ ℓ. Opt.the_row (MutSlice ℓ.mir ℓ.lft (param 0 T));
+    lives = T.lives;
+    asks = λ _ _. ‵ ftrue;
+    says = λ _ old row new. ‵ (LendsRow s (param 0 T) old row new) ⊛ raw (fact 𝓤 (YieldsRow s old row new)) ⊛
+        raw (fact 𝓤 (MakesProgress (λ _. ⊤) (item_count rows_left) old row new));
   }
 
-  abbrev pub step_clauses : Clauses 𝓤 (next_of_front.ended T)
-  step_clauses = λ κs a. record {
-    ghost = Unit {0};
-    requires = λ _. sep 𝓤 (fact 𝓤 (κs.1.1.0 ⊑ T.lives)) (fact 𝓤 (0 < length (near s a.0.now).now));
-    ensures = λ _ pixel end. sep 𝓤 (sem 𝓛 (Takes s (param 0 T) a.0.now pixel end.0.now)) (fact 𝓤 (Steps s a.0.now pixel end.0.now));
+  abbrev pub pixel_step : Method 𝓤
+  pixel_step = record {
+    R = λ ℓ. the_row ℓ (param 0 T);
+    Out = λ ℓ. MutRef ℓ.mir ℓ.lft (param 0 T);
+    lives = T.lives;
+    asks = λ _ old. raw (fact 𝓤 (0 < length (near s old).now));
+    says = λ _ old pixel new. ‵ (Takes s (param 0 T) old pixel new) ⊛ raw (fact 𝓤 (Steps s old pixel new));
   }
 
-  abbrev pub refill_clauses : Clauses 𝓤 (refill_front.ended T)
-  refill_clauses = λ κs a. record {
-    ghost = Unit {0};
-    requires = λ _. sep 𝓤 (fact 𝓤 (κs.1.1.0 ⊑ T.lives)) (fact 𝓤 (length (near s a.0.now).now ≡ 0));
-    ensures = λ _ _ end. sep 𝓤 (sem 𝓛 (KeepsPixels (param 0 T) a.0.now end.0.now)) (sep 𝓤 (fact 𝓤 (pixels_left end.0.now ≡ pixels_left a.0.now))
-        (fact 𝓤 (length (near s end.0.now).now ≡ 0 → pixels_left end.0.now ≡ [])));
+  abbrev pub refill : Method 𝓤
+  refill = record {
+    R = λ ℓ. the_row ℓ (param 0 T);
+    Out = λ _. unit;
+    lives = T.lives;
+    asks = λ _ old. raw (fact 𝓤 (length (near s old).now ≡ 0));
+    says = λ _ old _ new. ‵ (KeepsPixels (param 0 T) old new) ⊛ raw (fact 𝓤 (pixels_left new ≡ pixels_left old)) ⊛
+        raw (fact 𝓤 (length (near s new).now ≡ 0 → pixels_left new ≡ []));
   }
 
-  abbrev pub draw_clauses : Clauses 𝓤 (next.ended T)
-  draw_clauses = λ κs a. record {
-    ghost = Unit {0};
-    requires = λ _. sep 𝓤 (fact 𝓤 (κs.1.1.0 ⊑ T.lives)) (sem 𝓛 ftrue);
-    ensures = λ _ r end. sep 𝓤 (sem 𝓛 (Lends s (param 0 T) a.0.now r end.0.now)) (sep 𝓤 (fact 𝓤 (Yields s a.0.now r end.0.now))
-        (fact 𝓤 (MakesProgress (λ _. ⊤) (item_count pixels_left) a.0.now r end.0.now)));
+  abbrev pub pixel_draw : Method 𝓤
+  pixel_draw = record {
+    R = λ ℓ. the_row ℓ (param 0 T);
+    Out = λ ℓ. Opt.the_row (MutRef ℓ.mir ℓ.lft (param 0 T));
+    lives = T.lives;
+    asks = λ _ _. ‵ ftrue;
+    says = λ _ old pixel new. ‵ (Lends s (param 0 T) old pixel new) ⊛ raw (fact 𝓤 (Yields s old pixel new)) ⊛
+        raw (fact 𝓤 (MakesProgress (λ _. ⊤) (item_count pixels_left) old pixel new));
   }
 
 -- a slice, and self where code goes through a reference to it, of the names that it and its rows have there

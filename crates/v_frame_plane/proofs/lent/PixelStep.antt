@@ -1,47 +1,40 @@
 -- `next_of_front` and `next_of_back` of an iterator that lends pixels, of which `s` is the one end: the pixel next to that end is cut off the row that was
 -- begun there, and the rest is kept. What a `&mut` in a field of self ends as no generated proof follows, so this one follows the code. Assumes
 -- `Logic`.
-use Rattle.v_frame_plane.proofs.lent.Steps.{◌+◌, ◌<◌, [], ◌∷◌, length, refl, proved, fat, full_share, emp, ◌⊑◌, ⊑_trans, fact, fact_i, tables, param, MutRef}
-use Rattle.v_frame_plane.proofs.lent.Steps.{mut_vals, mut_Tells, plain, named_lft, slice_val, heard, framed, Goes-ref, named, alloc_all, free_all, get, get_in}
-use Rattle.v_frame_plane.proofs.lent.Steps.{lands_as, look_at, look_in_at, pass_all, sets, through, ‵, raw, ◌⊛◌, ◌$◌, !, done, drop, join, move, split, rewrite}
-use Rattle.v_frame_plane.proofs.lent.Steps.{use0, use1, use2, agg, store_in, sub, whole, addr, and_then, assigns, enter, fld, from, hop, no_more, of_opd}
-use Rattle.v_frame_plane.proofs.lent.Steps.{returns, stop, RattleType, Laws, Lft, Logic, Ura, Ty, tcons, tnil, erased, mut, ty_param, ty_ref, ty_struct}
-use Rattle.v_frame_plane.proofs.lent.Steps.{MachineTables, Running, closing, Meets, Triple, Callee, Fn, Sym, addr_of, aggregate, assign, call, copy, deref}
-use Rattle.v_frame_plane.proofs.lent.Steps.{field, local, place, return, rv_opd, seq, value_local, Model, Closed, ends_at, param_laws}
+use Rattle.v_frame_plane.proofs.lent.Steps.{◌+◌, [], ◌∷◌, refl, fat, full_share, ◌⊑◌, ⊑_trans, tables, param, named_lft, slice_val, heard, framed, named}
+use Rattle.v_frame_plane.proofs.lent.Steps.{alloc_all, free_all, get, get_in, lands_as, look_at, look_in_at, pass_all, sets, through, ‵, raw, ◌⊛◌, ◌$◌, ! }
+use Rattle.v_frame_plane.proofs.lent.Steps.{drop, move, split, rewrite, use1, use2, agg, store_in, sub, whole, addr, and_then, assigns, enter, fld, from, hop}
+use Rattle.v_frame_plane.proofs.lent.Steps.{no_more, of_opd, returns, stop, RattleType, Laws, Lft, Logic, Ura, Ty, tcons, tnil, erased, mut, ty_param, ty_ref}
+use Rattle.v_frame_plane.proofs.lent.Steps.{ty_struct, MachineTables, Running, Triple, Callee, Fn, Sym, addr_of, aggregate, assign, copy, deref, field, place}
+use Rattle.v_frame_plane.proofs.lent.Steps.{return, rv_opd, Model, Closed, param_laws, frame, Place}
 use Rattle.v_frame_plane.proofs.pixels_mut.PixelsMut.TheLaws.{lowers}
-use Rattle.v_frame_plane.proofs.lent.RowMemory.{exits, slice_of, lowered as rows_lowered}
-use Rattle.v_frame_plane.proofs.lent.PixelMemory.{lowered, Around, Bare, Named, as_named, field_in, stayed}
+use Rattle.v_frame_plane.proofs.lent.RowMemory.{slice_of, lowered as rows_lowered}
+use Rattle.v_frame_plane.proofs.lent.PixelMemory.{lowered, Around, Bare, Named, as_named, field_in}
 use Rattle.v_frame_plane.specs.contracts.pixels_mut.PixelsMut.{the_row}
-use Rattle.v_frame_plane.specs.contracts.pixels_mut.PixelsMut.next_of_front
 use Rattle.v_frame_plane.proofs.lent.PixelCuts.{Cut, cuts_one, fewer, steps, takes_near}
 use Rattle.v_frame_plane.proofs.lent.Cuts.{slice_fits}
-use Rattle.v_frame_plane.proofs.lent.Loans.{begins, opens_self}
-use Rattle.v_frame_plane.proofs.lent.PixelSides.{Walk, by_sides, closes_by, near_out, near_part, near_place, part, sides, step_clauses, whole_by}
-use Rattle.v_frame_plane.proofs.lent.Sides.{Side, Steps, Takes, far, near, offset, slot, walk_by}
+use Rattle.v_frame_plane.proofs.lent.CallSteps.{told}
+use Rattle.v_frame_plane.proofs.lent.Loans.{opens_self}
+use Rattle.v_frame_plane.proofs.lent.Methods.{Met, gets, gives, in_order, meets_by, method, set, value}
+use Rattle.v_frame_plane.proofs.lent.PixelSides.{Walk, by_sides, closes_by, near_out, near_part, near_place, part, pixel_step, sides, whole_by}
+use Rattle.v_frame_plane.proofs.lent.Sides.{Side, Takes, far, near, offset, slot, walk_by}
 use Rattle.v_frame_plane.proofs.lent.Taken.{Take, calls_take, word}
 
 -- the code, of the names that it has for self, for its rows and for a pair, of the type of self, of that of an entry, and of the functions that it calls
 module _ (self rows pair : Sym) (kept entry : Ty) (s : Side) (taking cutting : Callee) where
+  abbrev near_end : Place
+  near_end = place 1 (deref (Walk self rows) ∷ field (slot s) ∷ [])
+
   abbrev code : Fn
   code =
-      let near_end = place 1 (deref (Walk self rows) ∷ field (slot s) ∷ []) in let pixel = ty_ref erased mut (ty_param 0) in
-      record {
-        lifetimes = 2;
-        outlives = (1, 0) ∷ (2, 0) ∷ (2, 1) ∷ [];
-        ty_params = [];
-        givens = 0;
-        params = 1;
-        body =
-            seq (assign (place 6 []) (addr_of near_end)) (seq (call taking (copy (place 6 []) ∷ []) (place 5 []))
-            (seq (call cutting (copy (place 5 []) ∷ []) (place 4 [])) (seq (assign (place 2 []) (rv_opd (copy (place 4 (field 0 ∷ [])))))
-            (seq (assign (place 3 []) (rv_opd (copy (place 4 (field 1 ∷ []))))) (seq (assign (place 7 []) (addr_of (place 3 (field 0 ∷ deref entry ∷ []))))
-            (seq (assign (place 8 []) (aggregate (copy (place 7 []) ∷ copy (place 3 (field 1 ∷ [])) ∷ []))) (seq (assign near_end (rv_opd (copy (place 8 []))))
-            (seq (assign (place 0 []) (addr_of (place 2 (deref entry ∷ [])))) return))))))));
-        locals =
-            local (ty_ref (named 1) mut (ty_param 0)) value_local ∷ local (ty_ref (named 0) mut kept) value_local ∷ local pixel value_local ∷
-            local part value_local ∷ local (ty_struct pair (tcons pixel (tcons part tnil))) value_local ∷ local part value_local ∷
-            local (ty_ref erased mut part) value_local ∷ local pixel value_local ∷ local part value_local ∷ [];
-      }
+      let pixel = ty_ref erased mut (ty_param 0) in
+      method (in_order (
+      set 6 (addr_of near_end) ∷ gets 5 taking (value 6 ∷ []) ∷ gets 4 cutting (value 5 ∷ []) ∷ set 2 (rv_opd (copy (place 4 (field 0 ∷ [])))) ∷
+      set 3 (rv_opd (copy (place 4 (field 1 ∷ [])))) ∷ set 7 (addr_of (place 3 (field 0 ∷ deref entry ∷ []))) ∷
+      set 8 (aggregate (value 7 ∷ copy (place 3 (field 1 ∷ [])) ∷ [])) ∷ assign near_end (rv_opd (value 8)) ∷
+      set 0 (addr_of (place 2 (deref entry ∷ []))) ∷ []) return)
+      (ty_ref (named 1) mut (ty_param 0) ∷ ty_ref (named 0) mut kept ∷ pixel ∷ part ∷ ty_struct pair (tcons pixel (tcons part tnil)) ∷ part ∷
+      ty_ref erased mut part ∷ pixel ∷ part ∷ [])
 
 module _ {M : Type 1} {𝓤 : Ura M} (𝓛 : Logic 𝓤) (𝓜 : Model 𝓤 𝓛.H) (𝓡 : Running 𝓤 𝓛.H 𝓜) (T : RattleType) (laws : Laws T) (s : Side) where
   abbrev 𝓣 : MachineTables 𝓤 𝓛.H 𝓜
@@ -49,19 +42,14 @@ module _ {M : Type 1} {𝓤 : Ura M} (𝓛 : Logic 𝓤) (𝓜 : Model 𝓤 𝓛
 
   pub meets : (self rows pair : Sym) (kept entry : Ty) (taking cutting key : Callee) →
       ((κ : Lft) → κ ⊑ T.lives → Triple 𝓤 (𝓣.C taking) (Take 𝓛 𝓜.mem 𝓡.returns T κ)) → Triple 𝓤 (𝓣.C cutting) (Cut 𝓛 T s) →
-      Closed 𝓤 𝓛.H 𝓣.C 𝓣.Λ key (code self rows pair kept entry s taking cutting)
-      → Meets 𝓛 (next_of_front.signature T) (𝓣.C key) (closing 𝓛 (next_of_front.ended T) (step_clauses 𝓛 T s))
+      Closed 𝓤 𝓛.H 𝓣.C 𝓣.Λ key (code self rows pair kept entry s taking cutting) → Met (pixel_step 𝓤 T s) 𝓛 (𝓣.C key)
   meets self' rows' pair kept entry taking cutting key take_meets cut_meets closed =
-      let item = param 0 T in let c = step_clauses 𝓛 T s in let run = framed 𝓤 𝓛.H 𝓜 𝓣 in
-      proved 𝓛 (next_of_front.ended T) (stayed T) c 𝓜 𝓡 (Goes-ref 𝓛 3 0 tt (plain (λ κs. the_row (named_lft 3 1 tt κs) item)), tt)
-      key (code self' rows' pair kept entry s taking cutting) closed
-      (λ κs. (mut_vals, tt)) (λ κs. (mut_Tells (named 0) κs.0 (the_row (named_lft 3 1 tt κs) item), tt)) (λ κs qs bounds a g are.
+      let item = param 0 T in let m = pixel_step 𝓤 T s in let run = framed 𝓤 𝓛.H 𝓜 𝓣 in
+      meets_by 𝓛 𝓜 𝓡 m key (code self' rows' pair kept entry s taking cutting) closed (λ κs qs bounds self inT.
       let κ = κs.0 in let q = qs.0 in let κa = κs.1.0 in let qa = qs.1.0 in let κT = κs.1.1.0 in let qT = qs.1.1.0 in let aT = bounds.1.1.0 in
-      let ℓ = named_lft 3 1 tt κs in let Row = the_row ℓ item in let self = a.0 in let b = self.ref_ptr.0 in let o = self.ref_ptr.1 in let h = self.now in
-      let x = near s h in let rows = rows_lowered h.rows in let other = slice_of (far s h) in
-      begins 𝓛 κs qs ((MutRef (named 0) κ Row).own_val self (mut_vals self)) (κT ⊑ T.lives)
-      (raw (fact 𝓤 (0 < length x.now))) (λ inT. move ! (4 ∷ []) $ heard ! _ (λ some_left.
-      let inA = ⊑_trans κa κT T.lives aT inT in
+      let ℓ = named_lft 3 1 tt κs in let Row = the_row ℓ item in let b = self.ref_ptr.0 in let o = self.ref_ptr.1 in let h = self.now in
+      let x = near s h in let rows = rows_lowered h.rows in let other = slice_of (far s h) in let inA = ⊑_trans κa κT T.lives aT inT in
+      heard ! _ (λ some_left.
       enter ! _ _ _ _ _ $ alloc_all ! (λ l. pass_all ! refl ((tt, tt), tt) $
       opens_self ! tt Row κ q self (lowered h ∷ []) ((lowers ℓ item (param_laws 0 T laws)).val_is h) $
       -- [self's cell; what it owns; the open borrow, in three; the tokens of κa and κT; the locals]
@@ -96,7 +84,4 @@ module _ {M : Type 1} {𝓤 : Ura M} (𝓛 : Logic 𝓤) (𝓜 : Model 𝓤 𝓛
       returns ! (look_at ! 0 refl) $ free_all ! refl $
       -- [self, in two; the token of κ; the pixel; how this end ends; the tokens of κa and κT]
       move ! (4 ∷ []) $ use1 𝓛 (‵ (Takes s item h pixel new)) (takes_near 𝓛 item h pixel rest s is countable) $
-      move ! (1 ∷ 2 ∷ 3 ∷ 5 ∷ 6 ∷ 4 ∷ []) $
-      exits ! (mut_vals self) κs qs (ends_at 𝓛 (next_of_front.ended T) (stayed T) c ((κs, qs, bounds, a, (mut_vals self, tt)), g) _ pixel (new, tt) (tt, tt)) $
-      use0 𝓛 (raw (fact 𝓤 (Steps s h pixel new))) (fact_i 𝓤 _ (emp 𝓤) (steps h s pixel rest is countable)) $
-      move ! (1 ∷ 0 ∷ []) $ join ! $ done !)))))))
+      move ! (4 ∷ 1 ∷ 2 ∷ 3 ∷ 5 ∷ 6 ∷ []) $ gives ! m κs qs bounds self _ pixel new $ frame ! $ told ! (steps h s pixel rest is countable)))))))

@@ -1,37 +1,33 @@
 -- `next` and `next_back` of an iterator that lends rows, of which `s` is the one end: the slice is cut where the row next to that end begins and where it ends,
 -- and what lies towards the other end is kept. A `&mut` in a field of self no generated proof follows, so this one follows the code. Assumes `Logic`.
-use Rattle.v_frame_plane.proofs.lent.Steps.{ends_at, param_laws, ℕ, ◌≡◌, ◌+◌, ◌-◌, ◌*◌, ◌^◌, ◌<◌, List, [], ◌∷◌, length, Some, None, MutBor, lit<, w64, Val}
-use Rattle.v_frame_plane.proofs.lent.Steps.{fat, slice_val, vcons, vstruct, refl, ap, ◌∙◌, arith, length-drop, proved, Some-of, none_of, ⊤, MakesProgress}
-use Rattle.v_frame_plane.proofs.lent.Steps.{item_count, ftrue, full_share, emp, id⊢, SProp, Fun, ◌⊑◌, ⊑_trans, fact, fact_i, tables, param, MutRef, mut_vals}
-use Rattle.v_frame_plane.proofs.lent.Steps.{mut_Tells, plain, named_lft, MutSlice, usize, uint_vals, uint_Makes, closes, owned, heard, only}
-use Rattle.v_frame_plane.proofs.lent.Steps.{framed, triple_of, Contract, Goes-ref, walk_of, eqb→eq, named, mut, erased, of_list, vint, alloc_all}
-use Rattle.v_frame_plane.proofs.lent.Steps.{env, free_all, get, get_in, lands_as, look_at, look_in_at, pass_all, sets, through, ‵, raw}
-use Rattle.v_frame_plane.proofs.lent.Steps.{at_ret, ◌$◌, !, done, drop, feq_l, fsplit, join, keep, move, use0, use1, use3, step}
-use Rattle.v_frame_plane.proofs.lent.Steps.{Step, Goal, Item, live, agg, look_in, sub, whole, addr, and_then, assigns, bin, branches, enter, exec, first, fld}
-use Rattle.v_frame_plane.proofs.lent.Steps.{from, hop, lit, load, no_more, of_opd, returns, returns_within, skips, stop, well_typed, RattleType, Laws, Logic}
-use Rattle.v_frame_plane.proofs.lent.Steps.{Ura, Ty, Lft, Memory, Routine, slice_ty, tcons, tnil, ty_int, ty_param, ty_ref, ty_struct, MachineTables, Running}
-use Rattle.v_frame_plane.proofs.lent.Steps.{closing, Meets, Triple, Callee, Fn, Place, Opd as Operand, Sym, addr_of, aggregate, assign, call, cond, copy, deref}
-use Rattle.v_frame_plane.proofs.lent.Steps.{eq, field, int, local, op2, place, return, rv_opd, seq, skip, ttcons, ttnil, ty_bool, ty_enum, unsigned}
-use Rattle.v_frame_plane.proofs.lent.Steps.{value_local, w8, Model, Closed, Env, Spot, flt_l, Finds}
-use Rattle.v_frame_plane.proofs.lent.Steps.{store_raw, subst, sym}
+use Rattle.v_frame_plane.proofs.lent.Steps.{param_laws, ℕ, ◌≡◌, ◌+◌, ◌-◌, ◌*◌, ◌^◌, ◌<◌, List, [], ◌∷◌, length, Some, None, MutBor, lit<, w64, Val, fat}
+use Rattle.v_frame_plane.proofs.lent.Steps.{slice_val, vcons, vstruct, refl, ap, ◌∙◌, arith, length-drop, Some-of, none_of, full_share, id⊢, ◌⊑◌, ⊑_trans}
+use Rattle.v_frame_plane.proofs.lent.Steps.{fact, tables, param, named_lft, MutSlice, usize, uint_vals, uint_Makes, closes, owned, heard, only, framed}
+use Rattle.v_frame_plane.proofs.lent.Steps.{eqb→eq, named, mut, erased, of_list, vint, alloc_all, env, free_all, get, get_in, lands_as, look_at, look_in_at}
+use Rattle.v_frame_plane.proofs.lent.Steps.{pass_all, sets, through, ‵, raw, at_ret, ◌$◌, !, drop, feq_l, fsplit, move, use0, use1, use3, step, Step, Goal}
+use Rattle.v_frame_plane.proofs.lent.Steps.{Item, live, agg, look_in, sub, whole, addr, and_then, assigns, bin, branches, enter, exec, first, fld, from, hop}
+use Rattle.v_frame_plane.proofs.lent.Steps.{lit, load, no_more, of_opd, returns, returns_within, skips, stop, well_typed, RattleType, Laws, Logic, Ura, Ty}
+use Rattle.v_frame_plane.proofs.lent.Steps.{Lft, slice_ty, tcons, tnil, ty_int, ty_param, ty_ref, ty_struct, MachineTables, Running, Meets, Triple, Callee}
+use Rattle.v_frame_plane.proofs.lent.Steps.{Fn, Place, Opd as Operand, Sym, addr_of, aggregate, assign, cond, copy, deref, eq, field, int, op2, place, return}
+use Rattle.v_frame_plane.proofs.lent.Steps.{rv_opd, seq, skip, ttcons, ttnil, ty_bool, ty_enum, unsigned, w8, Model, Closed, Env, Spot, flt_l, Finds}
+use Rattle.v_frame_plane.proofs.lent.Steps.{store_raw, subst, sym, frame}
 use mir.Syntax.{Body, sub as minus}
 use types.Run.{Opd}
 use Rattle.std.specs.contracts.option.Option as Opt
-use Rattle.v_frame_plane.proofs.lent.RowMemory.{exits, Bare, Numbers, WellTyped, bare, count_at, count_fit, gap_at, gap_fit, lowered, numbers, slice_of}
-use Rattle.v_frame_plane.proofs.lent.RowMemory.{rest_fit, start_at, start_fit, stayed, takes_slice, walk_owned, width_at, width_fit}
-use Rattle.v_frame_plane.specs.RowsLeft.{rows_left}
+use Rattle.v_frame_plane.proofs.lent.RowMemory.{Bare, Numbers, WellTyped, bare, count_at, count_fit, gap_at, gap_fit, lowered, numbers, slice_of}
+use Rattle.v_frame_plane.proofs.lent.RowMemory.{rest_fit, start_at, start_fit, takes_slice, walk_owned, width_at, width_fit}
 use Rattle.v_frame_plane.specs.SecondRows.{EndsAs}
 use Rattle.v_frame_plane.specs.contracts.rows_mut.RowsMut as rows_mut
-use Rattle.v_frame_plane.specs.contracts.rows_mut.RowsMut.next
 use Rattle.v_frame_plane.specs.contracts.rows_mut.row_place
-use Rattle.v_frame_plane.proofs.lent.CallSteps.{asks_both, calls}
+use Rattle.v_frame_plane.proofs.lent.CallSteps.{asks_both, calls, tells, told}
 use Rattle.v_frame_plane.proofs.lent.Cuts.{Split, dropped, splits, slice_fits, slices_fit}
-use Rattle.v_frame_plane.proofs.lent.Loans.{begins, opens_self}
-use Rattle.v_frame_plane.proofs.lent.PixelSides.{part, row_clauses}
-use Rattle.v_frame_plane.proofs.lent.RowDraws.{Cut, draws, inside, is_place, left, moves_on, no_row, none_left, number, number_fits, place_of, some_left}
+use Rattle.v_frame_plane.proofs.lent.Loans.{opens_self}
+use Rattle.v_frame_plane.proofs.lent.Methods.{Ends, Met, gets, gives, in_order, meets_by, method, set, value}
+use Rattle.v_frame_plane.proofs.lent.PixelSides.{part, row_draw}
+use Rattle.v_frame_plane.proofs.lent.RowDraws.{Cut, draws, inside, is_place, left, moves_on, none_left, number, number_fits, place_of, some_left}
 use Rattle.v_frame_plane.proofs.lent.RowDraws.{start_of, stays}
 use Rattle.v_frame_plane.proofs.lent.RowLoans.{leaves_none, leaves_row}
-use Rattle.v_frame_plane.proofs.lent.Sides.{Side, at_front, at_back, at_side, LendsRow, YieldsRow}
+use Rattle.v_frame_plane.proofs.lent.Sides.{Side, at_front, at_back, at_side, LendsRow}
 use Rattle.v_frame_plane.proofs.rows_mut.RowsMut.TheLaws.{lowers}
 use Rattle.v_frame_plane.proofs.lent.Taken.{Take}
 
@@ -44,56 +40,34 @@ module _ (option self pair : Sym) (kept entry : Ty) (s : Side) (placing taking s
   abbrev own : ℕ → Place
   own k = place 1 (deref Self ∷ field k ∷ [])
 
-  -- a slice is lent on: part k of the two in local i, by way of the locals j and j'
+  -- part k of the two in local i: the pointer, which is lent on, and the length
   abbrev pointer : (i k : ℕ) → Place
   pointer i k = place i (field k ∷ field 0 ∷ deref entry ∷ [])
 
   abbrev size : (i k : ℕ) → Operand
   size i k = copy (place i (field k ∷ field 1 ∷ []))
 
-  abbrev lent_on : Place → Operand → (j j' : ℕ) → Body → Body
-  lent_on at n j j' rest = seq (assign (place j []) (addr_of at)) (seq (assign (place j' []) (aggregate (copy (place j []) ∷ n ∷ []))) rest)
-
   abbrev drawn : Body
-  drawn =
-      seq (assign (place 6 []) (op2 (minus unsigned) (copy (place 5 [])) (int w64 1)))
-      (seq (call placing (copy (place 2 []) ∷ copy (place 3 []) ∷ copy (place 4 []) ∷ at_side s (int w64 0) (copy (place 6 [])) ∷ []) (place 7 []))
-      (seq (assign (place 12 []) (addr_of (own 0))) (seq (call taking (copy (place 12 []) ∷ []) (place 11 []))
-      (seq (call splitting (copy (place 11 []) ∷ copy (place 7 []) ∷ []) (place 8 [])) (lent_on (pointer 8 1) (size 8 1) 13 14
-      (seq (call splitting (copy (place 14 []) ∷ copy (place 3 []) ∷ []) (place 9 []))
-      (lent_on (at_side s (pointer 9 1) (pointer 8 0)) (at_side s (size 9 1) (size 8 0)) 15 16
-      (seq (assign (place 17 []) (aggregate (copy (place 16 []) ∷ at_side s (copy (place 4 [])) (copy (place 2 [])) ∷
-      copy (place 3 []) ∷ copy (place 4 []) ∷ copy (place 6 []) ∷ [])))
-      (seq (assign (place 1 (deref Self ∷ [])) (rv_opd (copy (place 17 [])))) (lent_on (pointer 9 0) (size 9 0) 18 19
-      (seq (assign (place 0 []) (aggregate (int w8 1 ∷ copy (place 19 []) ∷ []))) return)))))))))))
+  drawn = in_order (
+      set 6 (op2 (minus unsigned) (value 5) (int w64 1)) ∷ gets 7 placing (value 2 ∷ value 3 ∷ value 4 ∷ at_side s (int w64 0) (value 6) ∷ []) ∷
+      set 12 (addr_of (own 0)) ∷ gets 11 taking (value 12 ∷ []) ∷ gets 8 splitting (value 11 ∷ value 7 ∷ []) ∷
+      set 13 (addr_of (pointer 8 1)) ∷ set 14 (aggregate (value 13 ∷ size 8 1 ∷ [])) ∷ gets 9 splitting (value 14 ∷ value 3 ∷ []) ∷
+      set 15 (addr_of (at_side s (pointer 9 1) (pointer 8 0))) ∷ set 16 (aggregate (value 15 ∷ at_side s (size 9 1) (size 8 0) ∷ [])) ∷
+      set 17 (aggregate (value 16 ∷ at_side s (value 4) (value 2) ∷ value 3 ∷ value 4 ∷ value 6 ∷ [])) ∷
+      assign (place 1 (deref Self ∷ [])) (rv_opd (value 17)) ∷ set 18 (addr_of (pointer 9 0)) ∷ set 19 (aggregate (value 18 ∷ size 9 0 ∷ [])) ∷
+      set 0 (aggregate (int w8 1 ∷ value 19 ∷ [])) ∷ []) return
 
-  abbrev reads : (k i : ℕ) → Body → Body
-  reads k i rest = seq (assign (place i []) (rv_opd (copy (own k)))) rest
+  abbrev reads : (k i : ℕ) → Body
+  reads k i = set i (rv_opd (copy (own k)))
 
   abbrev code : Fn
   code =
-      let number = local (ty_int w64) value_local in let slice = local part value_local in
-      let parts = local (ty_struct pair (tcons part (tcons part tnil))) value_local in
-      let pointer = local (ty_ref erased mut (ty_param 0)) value_local in
-      record {
-        lifetimes = 2;
-        outlives = (1, 0) ∷ (2, 0) ∷ (2, 1) ∷ [];
-        ty_params = [];
-        givens = 0;
-        params = 1;
-        body =
-            reads 1 2 (reads 2 3 (reads 3 4 (reads 4 5 (seq (assign (place 10 []) (op2 eq (copy (place 5 [])) (int w64 0)))
-            (seq (cond (copy (place 10 [])) (seq (assign (place 0 []) (aggregate (int w8 0 ∷ []))) return) skip) drawn)))));
-        locals =
-            local (ty_enum option (ttcons tnil (ttcons (tcons (slice_ty (ty_ref (named 1) mut (ty_param 0))) tnil) ttnil))) value_local ∷
-            local (ty_ref (named 0) mut kept) value_local ∷ number ∷ number ∷ number ∷ number ∷ number ∷ number ∷ parts ∷ parts ∷ local ty_bool value_local ∷
-            slice ∷ local (ty_ref erased mut part) value_local ∷ pointer ∷ slice ∷ pointer ∷ slice ∷ local Self value_local ∷ pointer ∷ slice ∷ [];
-      }
-
--- where the row of this number begins
-module _ {M : Type 1} {𝓤 : Ura M} (𝓛 : Logic 𝓤) (at_mem : Memory → SProp 𝓤) (run : Routine → Fun 𝓤) where
-  abbrev Placing : Contract 𝓤
-  Placing = triple_of 𝓛 row_place.signature (row_place.spec 𝓛 at_mem run)
+      let number = ty_int w64 in let parts = ty_struct pair (tcons part (tcons part tnil)) in let pointer = ty_ref erased mut (ty_param 0) in
+      method (in_order (reads 1 2 ∷ reads 2 3 ∷ reads 3 4 ∷ reads 4 5 ∷ set 10 (op2 eq (value 5) (int w64 0)) ∷
+      cond (value 10) (seq (set 0 (aggregate (int w8 0 ∷ []))) return) skip ∷ []) drawn)
+      (ty_enum option (ttcons tnil (ttcons (tcons (slice_ty (ty_ref (named 1) mut (ty_param 0))) tnil) ttnil)) ∷ ty_ref (named 0) mut kept ∷
+      number ∷ number ∷ number ∷ number ∷ number ∷ number ∷ parts ∷ parts ∷ ty_bool ∷ part ∷ ty_ref erased mut part ∷ pointer ∷ part ∷ pointer ∷
+      part ∷ Self ∷ pointer ∷ part ∷ [])
 
 fits_by : {X : Type 0} (size : X → ℕ) (s : Side) {x y : X} → size x < 2 ^ 64 → size y < 2 ^ 64 → size (at_side s x y) < 2 ^ 64
 fits_by size at_front x y = x
@@ -122,22 +96,18 @@ module _ {M : Type 1} {𝓤 : Ura M} (𝓛 : Logic 𝓤) (𝓜 : Model 𝓤 𝓛
   𝓣 = tables 𝓤 𝓛.H 𝓜 𝓡 𝓡.env
 
   pub meets : (option self pair : Sym) (kept entry : Ty) (placing taking splitting key : Callee) →
-      Triple 𝓤 (𝓣.C placing) (Placing 𝓛 𝓜.mem 𝓡.returns) → ((κ : Lft) → κ ⊑ T.lives → Triple 𝓤 (𝓣.C taking) (Take 𝓛 𝓜.mem 𝓡.returns T κ)) →
-      Triple 𝓤 (𝓣.C splitting) (Split 𝓛 𝓜.mem 𝓡.returns T) → Closed 𝓤 𝓛.H 𝓣.C 𝓣.Λ key (code option self pair kept entry s placing taking splitting)
-      → Meets 𝓛 (next.signature T) (𝓣.C key) (closing 𝓛 (next.ended T) (row_clauses 𝓛 T s))
+      Meets 𝓛 row_place.signature (𝓣.C placing) (row_place.spec 𝓛 𝓜.mem 𝓡.returns) →
+      ((κ : Lft) → κ ⊑ T.lives → Triple 𝓤 (𝓣.C taking) (Take 𝓛 𝓜.mem 𝓡.returns T κ)) → Triple 𝓤 (𝓣.C splitting) (Split 𝓛 𝓜.mem 𝓡.returns T) →
+      Closed 𝓤 𝓛.H 𝓣.C 𝓣.Λ key (code option self pair kept entry s placing taking splitting) → Met (row_draw 𝓤 T s) 𝓛 (𝓣.C key)
   meets option self' pair kept entry placing taking splitting key place_meets take_meets split_meets closed =
-      let item = param 0 T in let c = row_clauses 𝓛 T s in let run = framed 𝓤 𝓛.H 𝓜 𝓣 in
+      let item = param 0 T in let m = row_draw 𝓤 T s in let run = framed 𝓤 𝓛.H 𝓜 𝓣 in
       let function = code option self' pair kept entry s placing taking splitting in
-      proved 𝓛 (next.ended T) (stayed T) c 𝓜 𝓡 (Goes-ref 𝓛 3 0 tt (plain (λ κs. rows_mut.the_row (named_lft 3 1 tt κs) item)), tt) key function closed
-      (λ κs. (mut_vals, tt)) (λ κs. (mut_Tells (named 0) κs.0 (rows_mut.the_row (named_lft 3 1 tt κs) item), tt)) (λ κs qs bounds a g are.
+      meets_by 𝓛 𝓜 𝓡 m key function closed (λ κs qs bounds self inT.
       let κ = κs.0 in let q = qs.0 in let κa = κs.1.0 in let qa = qs.1.0 in let κT = κs.1.1.0 in let qT = qs.1.1.0 in let aT = bounds.1.1.0 in
       let ℓ = named_lft 3 1 tt κs in let Row = rows_mut.the_row ℓ item in let Slice = MutSlice (named 1) κa item in
-      let self = a.0 in let b = self.ref_ptr.0 in let o = self.ref_ptr.1 in let h = self.now in let rest = h.rest in
-      let Walk = walk_of 𝓛 (next.ended T) (stayed T) c in let bound : Walk.Ghost = ((κs, qs, bounds, a, (mut_vals self, tt)), g) in
-      let Post = Walk.post bound in
-      begins 𝓛 κs qs ((MutRef (named 0) κ Row).own_val self (mut_vals self)) (κT ⊑ T.lives) (‵ ftrue) (λ inT. keep ! (0 ∷ 1 ∷ 2 ∷ 3 ∷ []) $
-      let inA = ⊑_trans κa κT T.lives aT inT in
-      enter ! _ _ _ _ _ $ alloc_all ! (λ l. pass_all ! refl ((tt, tt), tt) $
+      let b = self.ref_ptr.0 in let o = self.ref_ptr.1 in let h = self.now in let rest = h.rest in
+      let Post = Ends m 𝓛 κs qs bounds self in let inA = ⊑_trans κa κT T.lives aT inT in
+      drop ! $ enter ! _ _ _ _ _ $ alloc_all ! (λ l. pass_all ! refl ((tt, tt), tt) $
       opens_self ! tt Row κ q self (lowered h ∷ []) ((lowers ℓ item (param_laws 0 T laws)).val_is h) $
       -- [self's cell; what it owns; the open borrow, in three; the tokens of κa and κT; the locals]
       well_typed ! (λ ok. let start_fits = start_fit h ok in let width_fits = width_fit h ok in let gap_fits = gap_fit h ok in
@@ -152,11 +122,9 @@ module _ {M : Type 1} {𝓤 : Ura M} (𝓛 : Logic 𝓤) (𝓜 : Model 𝓤 𝓛
       (λ empty. closes ! tt Row h (lowered h ∷ []) b o $
       sets ! (agg ! (and_then ! (lit ! tt) (no_more !))) refl (tt, (record { fits = lit< tt }, tt)) $
       returns_within ! Post refl (look_at ! 0 refl) $ free_all ! refl $
-      use0 𝓛 (‵ ((Opt.the_row Slice).own_val None (live 0 (of_list []) ∷ []))) (none_of 𝓛 Slice) $ move ! (1 ∷ 2 ∷ 3 ∷ 4 ∷ 5 ∷ []) $
-      exits ! (mut_vals self) κs qs (ends_at 𝓛 (next.ended T) (stayed T) c bound (live 0 (of_list [])) None (h, tt) (tt, tt)) $
-      use0 𝓛 (raw (fact 𝓤 (MakesProgress (λ _. ⊤) (item_count rows_left) h (no_row h) h))) (fact_i 𝓤 _ (emp 𝓤) (stays h)) $
-      use0 𝓛 (raw (fact 𝓤 (YieldsRow s h None h))) (fact_i 𝓤 _ (emp 𝓤) (none_left h s (eqb→eq h.count 0 empty))) $ join ! $
-      use0 𝓛 (‵ (LendsRow s item h None h)) (leaves_none 𝓛 item s h) $ join ! $ done !)
+      use0 𝓛 (‵ ((Opt.the_row Slice).own_val None (live 0 (of_list []) ∷ []))) (none_of 𝓛 Slice) $
+      gives ! m κs qs bounds self (live 0 (of_list [])) None h $ use0 𝓛 (‵ (LendsRow s item h None h)) (leaves_none 𝓛 item s h) $ frame ! $
+      tells ! (none_left h s (eqb→eq h.count 0 empty)) $ told ! (stays h))
       (λ test. let more : 0 < h.count = some_left h.count test in let room = inside h s more in let here = place_of s h in
       let fewer : h.count - 1 < 2 ^ 64 = omega (arith, count_fits.fits) in let place_fits : here < 2 ^ 64 = omega (arith, room, (rest_fit h ok).fits) in
       let sum_fits = subst (λ n. n < 2 ^ 64) (sym (is_place h s)) place_fits in
@@ -230,7 +198,5 @@ module _ {M : Type 1} {𝓤 : Ura M} (𝓛 : Logic 𝓤) (𝓜 : Model 𝓤 𝓛
       move ! (3 ∷ 8 ∷ 5 ∷ []) $ use3 𝓛 (‵ (LendsRow s item h (Some row) new)) (leaves_row 𝓛 item h before at row behind more s cut) $
       move ! (4 ∷ []) $ use1 𝓛 (‵ ((Opt.the_row Slice).own_val (Some row) (out ∷ []))) (Some-of 𝓛 Slice row part) $
       -- [the row, as it is given; what the call leaves; self, in two; the tokens]
-      move ! (2 ∷ 3 ∷ 4 ∷ 5 ∷ 6 ∷ 0 ∷ []) $ exits ! (mut_vals self) κs qs (ends_at 𝓛 (next.ended T) (stayed T) c bound out (Some row) (new, tt) (tt, tt)) $
-      use0 𝓛 (raw (fact 𝓤 (MakesProgress (λ _. ⊤) (item_count rows_left) h (Some row) new))) (fact_i 𝓤 _ (emp 𝓤) (moves_on h before at row behind more s cut)) $
-      use0 𝓛 (raw (fact 𝓤 (YieldsRow s h (Some row) new))) (fact_i 𝓤 _ (emp 𝓤) (draws h before at row behind more s cut)) $ join ! $
-      move ! (1 ∷ 0 ∷ []) $ join ! $ done !))))))))))))
+      move ! (0 ∷ 2 ∷ 3 ∷ 4 ∷ 5 ∷ 6 ∷ []) $ gives ! m κs qs bounds self out (Some row) new $ frame ! $
+      tells ! (draws h before at row behind more s cut) $ told ! (moves_on h before at row behind more s cut))))))))))))

@@ -1,12 +1,12 @@
 -- A call of `mem::take` at a place that holds a `&mut [T]` of the lifetime κ, for a proof by hand. Assumes `Logic`.
 --     calls_take     the place is lent to the call, and holds an empty slice afterwards: what it held is handed back
-use Rattle.v_frame_plane.proofs.lent.Steps.{ℕ, ◌≡◌, List, [], ◌∷◌, length, w64, MutBor, refl, ap, ◌∙◌, Lft, Share, fat, flent, flft, full_share, SProp}
-use Rattle.v_frame_plane.proofs.lent.Steps.{id⊢, ◌⊑◌, ⊑_trans, Fun, fact, shows, mem, param, Laws, param_laws, RattleType, NamedLft, MutSlice}
-use Rattle.v_frame_plane.proofs.lent.Steps.{slice_val, heard, only, peeks, triple_of, Contract, Ty, a_type, named, tcons, tnil, ty_int}
-use Rattle.v_frame_plane.proofs.lent.Steps.{ty_ptr, ty_struct, Val, vptr, Memory, Routine, Ura, Item, Seq, ‵, raw, ◌⊛◌, ◌$◌, drop, fsplit}
-use Rattle.v_frame_plane.proofs.lent.Steps.{move, rewrite, split, use1, use2, Logic, Body, no, ⊑_meet, ⊑_refl, meet_⊑_right}
-use Rattle.v_frame_plane.proofs.lent.Steps.{Running, arg, bounded, layout, arg_laws, of_field, row_shared, mut_slice_shared, mut_slice_laws, Triple, Callee}
-use Rattle.v_frame_plane.proofs.lent.Steps.{Place, Opd as Operand, call, seq, dcons, dnil, Calls, Env, Loops, FmC, Post, lands, regoal, runs, Opds, Model}
+use Rattle.v_frame_plane.proofs.lent.Steps.{ℕ, ◌≡◌, List, [], ◌∷◌, length, w64, MutBor, refl, ap, ◌∙◌, Lft, Share, fat, flent, flft, full_share, SProp, id⊢}
+use Rattle.v_frame_plane.proofs.lent.Steps.{◌⊑◌, ⊑_trans, Fun, fact, shows, mem, param, Laws, param_laws, RattleType, NamedLft, MutSlice, slice_val, heard}
+use Rattle.v_frame_plane.proofs.lent.Steps.{only, peeks, triple_of, Contract, Ty, a_type, named, tcons, tnil, ty_int, ty_ptr, ty_struct, Val, vptr, Memory}
+use Rattle.v_frame_plane.proofs.lent.Steps.{Routine, Ura, Item, Seq, ‵, raw, ◌⊛◌, ◌$◌, drop, fsplit, move, rewrite, split, use1, use2, Logic, Body, no}
+use Rattle.v_frame_plane.proofs.lent.Steps.{⊑_meet, ⊑_refl, meet_⊑_right, Running, arg, bounded, layout, arg_laws, of_field, row_shared, mut_slice_shared}
+use Rattle.v_frame_plane.proofs.lent.Steps.{mut_slice_laws, Triple, Callee, Place, Opd as Operand, call, seq, dcons, dnil, Calls, Env, Loops, FmC, Post}
+use Rattle.v_frame_plane.proofs.lent.Steps.{lands, regoal, runs, Opds, Model}
 use base.Share
 use denote.Struct.Field.{mut_slice_field}
 use mir.Syntax.{Body as Code}
