@@ -10,9 +10,7 @@ pub mod PixelLoans
 pub mod PixelMemory
 pub mod PixelNext
 pub mod PixelParts
-pub mod PixelRefill
 pub mod PixelSides
-pub mod PixelStep
 pub mod PixelsDropped
 pub mod RowCalls
 pub mod RowDraws

@@ -29,7 +29,6 @@ pub struct PixelsMut<'a, T> {
 impl<'a, T> PixelsMut<'a, T> {
     ghost use Rattle.v_frame_plane.specs.PixelsLeft.{pixels_left};
     ghost use Rattle.v_frame_plane.specs.SecondPixels.{KeepsPixels, LendsFirstPixel, LendsLastPixel};
-    ghost use Rattle.v_frame_plane.specs.SecondPixels.{TakesFirstPixel, TakesLastPixel};
 
     /// The pixels of these rows.
     pub(crate) fn new(rows: RowsMut<'a, T>) -> Self
@@ -45,58 +44,6 @@ impl<'a, T> PixelsMut<'a, T> {
         }
     }
 
-    /// The first pixel of the row that was begun from the front.
-    #[inline]
-    fn next_of_front(&mut self) -> &'a mut T
-        requires { 0 < length self.old.front.now }
-        ensures* leaves { sem 𝓛 (TakesFirstPixel T.row self.old self.new result) }
-        ensures steps { pixels_left self.old ≡ result.now ∷ pixels_left self.new }
-    {
-        let (pixel, rest) = cut_first(mem::take(&mut self.front));
-        self.front = rest;
-        pixel
-    }
-
-    /// The last pixel of the row that was begun from the back.
-    #[inline]
-    fn next_of_back(&mut self) -> &'a mut T
-        requires { 0 < length self.old.back.now }
-        ensures* leaves { sem 𝓛 (TakesLastPixel T.row self.old self.new result) }
-        ensures steps { pixels_left self.old ≡ pixels_left self.new ++ result.now ∷ [] }
-    {
-        let (pixel, rest) = cut_last(mem::take(&mut self.back));
-        self.back = rest;
-        pixel
-    }
-
-    /// Begins the next row from the front, or goes on in the one that was begun from the back.
-    #[inline]
-    fn refill_front(&mut self)
-        requires { length self.old.front.now ≡ 0 }
-        ensures* leaves { sem 𝓛 (KeepsPixels T.row self.old self.new) }
-        ensures left { pixels_left self.new ≡ pixels_left self.old }
-        ensures begun { length self.new.front.now ≡ 0 → pixels_left self.new ≡ [] }
-    {
-        match self.rows.next() {
-            Some(row) => self.front = row,
-            None => self.front = mem::take(&mut self.back),
-        }
-    }
-
-    /// Begins the last row from the back, or goes on in the one that was begun from the front.
-    #[inline]
-    fn refill_back(&mut self)
-        requires { length self.old.back.now ≡ 0 }
-        ensures* leaves { sem 𝓛 (KeepsPixels T.row self.old self.new) }
-        ensures left { pixels_left self.new ≡ pixels_left self.old }
-        ensures begun { length self.new.back.now ≡ 0 → pixels_left self.new ≡ [] }
-    {
-        match self.rows.next_back() {
-            Some(row) => self.back = row,
-            None => self.back = mem::take(&mut self.front),
-        }
-    }
-
     /// The next pixel, as [`Iterator::next`] gives it. The clause `leaves`, which the trait's `next` doesn't have, says what
     /// the plane shows once the borrow ends. Our own.
     #[inline]
@@ -105,14 +52,18 @@ impl<'a, T> PixelsMut<'a, T> {
         ensures steps { YieldsFirstMut pixels_left self.old result self.new }
         ensures goes { MakesProgress (λ _. ⊤) (item_count pixels_left) self.old result self.new }
     {
-        if self.front.len() > 0 {
-            return Some(self.next_of_front());
+        if self.front.len() == 0 {
+            match self.rows.next() {
+                Some(row) => self.front = row,
+                None => self.front = mem::take(&mut self.back),
+            }
         }
-        self.refill_front();
-        if self.front.len() > 0 {
-            return Some(self.next_of_front());
+        if self.front.len() == 0 {
+            return None;
         }
-        None
+        let (pixel, rest) = cut_first(mem::take(&mut self.front));
+        self.front = rest;
+        Some(pixel)
     }
 
     /// The last pixel, as [`DoubleEndedIterator::next_back`] gives it. Our own.
@@ -122,14 +73,18 @@ impl<'a, T> PixelsMut<'a, T> {
         ensures steps { YieldsLastMut pixels_left self.old result self.new }
         ensures goes { MakesProgress (λ _. ⊤) (item_count pixels_left) self.old result self.new }
     {
-        if self.back.len() > 0 {
-            return Some(self.next_of_back());
+        if self.back.len() == 0 {
+            match self.rows.next_back() {
+                Some(row) => self.back = row,
+                None => self.back = mem::take(&mut self.front),
+            }
         }
-        self.refill_back();
-        if self.back.len() > 0 {
-            return Some(self.next_of_back());
+        if self.back.len() == 0 {
+            return None;
         }
-        None
+        let (pixel, rest) = cut_last(mem::take(&mut self.back));
+        self.back = rest;
+        Some(pixel)
     }
 }
 

@@ -1,8 +1,8 @@
 -- What a call of an iterator that lends pixels leaves, by its steps, of which one only begins a row. Assumes `Logic`.
---     after_keeping     a step that keeps the pixels, and then another one
+--     keeps_same     what stays as it was keeps the pixels.        after_keeping     a step that keeps the pixels, and then another one
 --     yields_pixel, moves, yields_none, rests     the plain clauses of a call that gives a pixel, and of one that gives none
 use Rattle.v_frame_plane.proofs.lent.Steps.{◌≡◌, List, [], ◌∷◌, length, Option, Some, None, MutBor, sym, ap, ◌∙◌, arith, ⊤, MakesProgress, item_count, SProp}
-use Rattle.v_frame_plane.proofs.lent.Steps.{all, ent, sep, wand, RattleType, Ura, ‵, raw, ◌$◌, ◌∵◌, !, qed, assume, done, each, move, use2, Logic, sem}
+use Rattle.v_frame_plane.proofs.lent.Steps.{all, emp, ent, sep, wand, RattleType, Ura, ‵, raw, ◌$◌, ◌∵◌, !, qed, assume, done, each, move, use2, Logic, sem}
 use Rattle.v_frame_plane.proofs.lent.Steps.{length-append}
 use Rattle.v_frame_plane.specs.PixelsLeft.{pixels_left}
 use Rattle.v_frame_plane.specs.SecondPixels.{SecondPixels, KeepsPixels}
@@ -26,6 +26,9 @@ module _ {M : Type 1} {𝓤 : Ura M} (𝓛 : Logic 𝓤) (T : RattleType) where
       each ! (λ (h : H). wand 𝓤 (held h) (Second old (second h))) (λ h. assume ! (raw (held h)) $
       move ! (2 ∷ 0 ∷ []) $ use2 𝓛 (raw (Second mid (second h))) (at_one 𝓛 held (λ x. Second mid (second x)) h) $
       move ! (1 ∷ 0 ∷ []) $ use2 𝓛 (raw (Second old (second h))) (at_one 𝓛 (Second mid) (Second old) (second h)) $ done !)
+
+  pub keeps_same : (walk : PixelsMut T.Denot) → ent 𝓤 (emp 𝓤) (sem 𝓛 (KeepsPixels T walk walk))
+  keeps_same walk = qed 𝓛 [] ∵ each ! (λ (xs : List T.Denot). wand 𝓤 (Second walk xs) (Second walk xs)) (λ xs. assume ! (raw (Second walk xs)) $ done !)
 
 module _ {X : Type 0} (old new : PixelsMut X) where
   abbrev pub no_pixel : Option (MutBor X)

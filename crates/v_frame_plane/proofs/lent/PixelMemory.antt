@@ -1,23 +1,20 @@
 -- An iterator that lends pixels, in memory, for the proofs by hand of its `next` and `next_back`. Assumes `Logic`.
 --     parts, pixels_owned     what it owns, apart and again together
 --     front_out, rows_out, back_out     a field goes out.        field_in     it is there again, with another value
---     closes_pixels     self is closed at the iterator that it is now.        stayed, ends_refill     how a step on it ends
-use Rattle.v_frame_plane.proofs.lent.Steps.{ℕ, ◌+◌, ◌^◌, ◌<◌, List, [], ◌∷◌, length, MutBor, refl, Lft, Share, fat, fauth, fbor, flft, fobor, fobs, full_share}
-use Rattle.v_frame_plane.proofs.lent.Steps.{SProp, all, ent, sep, wand, shows, mem, param, Laws, param_laws, RattleType, Valss, NamedLft, mut_vals, plain}
-use Rattle.v_frame_plane.proofs.lent.Steps.{named_lft, MutSlice, slice_ty, nothing, peeks, Clauses, at_exit, Stays, stay_ref, walk_of, ends_at, Ty, Tys, erased}
+--     joins_pixels     its parts are it again.        stayed     that `next` and `next_back` keep self
+use Rattle.v_frame_plane.proofs.lent.Steps.{ℕ, ◌+◌, ◌^◌, ◌<◌, List, [], ◌∷◌, length, refl, fat, full_share}
+use Rattle.v_frame_plane.proofs.lent.Steps.{SProp, all, ent, sep, wand, shows, param, Laws, param_laws, RattleType, Valss, NamedLft, plain}
+use Rattle.v_frame_plane.proofs.lent.Steps.{named_lft, MutSlice, slice_ty, nothing, peeks, Stays, stay_ref, Ty, Tys, erased}
 use Rattle.v_frame_plane.proofs.lent.Steps.{mut, tcons, tnil, ty_param, ty_ref, ty_struct, Val, vcons, vnil, vstruct, Ura, Goal, Item, Seq, Soaks, Step, step}
-use Rattle.v_frame_plane.proofs.lent.Steps.{‵, raw, ◌⊛◌, prop, ◌$◌, ◌∵◌, !, qed, done, drop, feq_i, feq_l, fjoin, fpack, fpick, fsplit, move, rewrite, split}
-use Rattle.v_frame_plane.proofs.lent.Steps.{use2, Logic, sem, Body, AllOutlive, Shares, Lfts, shape, within, Args, ◌≡◌, emp, fact, fact_i, cell_at, closes}
-use Rattle.v_frame_plane.proofs.lent.Steps.{join, use0, use1, use3, Gv, by, vunit, size}
-use Rattle.v_frame_plane.specs.PixelsLeft.{pixels_left}
-use Rattle.v_frame_plane.specs.SecondPixels.{KeepsPixels}
-use Rattle.v_frame_plane.specs.contracts.pixels_mut.PixelsMut.refill_front
+use Rattle.v_frame_plane.proofs.lent.Steps.{‵, raw, ◌⊛◌, ◌$◌, ◌∵◌, !, qed, done, drop, feq_i, feq_l, fjoin, fpack, fpick, fsplit, move, rewrite, split}
+use Rattle.v_frame_plane.proofs.lent.Steps.{use2, Logic, sem, shape, within}
+use Rattle.v_frame_plane.proofs.lent.Steps.{use1, use3, size}
+use Rattle.v_frame_plane.specs.contracts.pixels_mut.PixelsMut.next
 use Rattle.v_frame_plane.specs.contracts.pixels_mut.PixelsMut.{struct, the_row, the_type}
-use Rattle.v_frame_plane.specs.contracts.pixels_mut.PixelsMut.next_of_front
 use Rattle.v_frame_plane.specs.contracts.rows_mut.RowsMut as rows_mut
 use Rattle.v_frame_plane.specs.declared.pixels_mut.PixelsMut.{PixelsMut}
 use Rattle.v_frame_plane.proofs.lent.Loans.{at_one}
-use Rattle.v_frame_plane.proofs.lent.RowMemory.{exits, slice_of, Bare as RowsBare, Named as RowsNamed, lowered as rows_lowered}
+use Rattle.v_frame_plane.proofs.lent.RowMemory.{slice_of, Bare as RowsBare, Named as RowsNamed, lowered as rows_lowered}
 use Rattle.v_frame_plane.proofs.lent.Taken.{Slice, word}
 use Rattle.v_frame_plane.proofs.rows_mut.RowsMut.TheLaws.{lowers as rows_lowers}
 
@@ -94,19 +91,13 @@ pixels_owned 𝓛 a T walk =
     ) $ done !
 
 module _ {M : Type 1} {𝓤 : Ura M} {𝓛 : Logic 𝓤} {K : Type 0} {Γ : List (Item 𝓤)} {G : Goal 𝓤 𝓛.H} where
-  -- self is closed at the iterator that it is now
-  pub closes_pixels : K → Soaks G → (a : NamedLft) (T : RattleType) {κ : Lft} {q : Share} {u v : Gv} (self : MutBor (PixelsMut T.Denot)) (new :
-      PixelsMut T.Denot)
-      → let Row = the_row a (param 0 T) in let One = MutSlice a.mir a.lft (param 0 T) in let b = self.ref_ptr.0 in let o = self.ref_ptr.1 in let γ =
-      self.ghost_name in
-      Step K 𝓛 (‵ (fobs γ (Row.coded.code new)) ∷ ‵ (fbor κ (Body (mem Row) b o γ)) ∷ ‵ (flft κ q) ∷ Γ) G
+  -- its parts are it again
+  pub joins_pixels : K → (a : NamedLft) (T : RattleType) (b o : ℕ) (new : PixelsMut T.Denot) → let One = MutSlice a.mir a.lft (param 0 T) in
+      Step K 𝓛 (‵ (fat full_share Bare b o (lowered new)) ∷ ‵ ((the_row a (param 0 T)).own_val new (lowered new ∷ [])) ∷ Γ) G
       (‵ (One.own_val new.front (slice_of new.front ∷ [])) ∷ ‵ ((rows_mut.the_row a (param 0 T)).own_val new.rows (rows_lowered new.rows ∷ [])) ∷
-      ‵ (One.own_val new.back (slice_of new.back ∷ []))
-      ∷ ‵ (fat full_share (Named a (param 0 T)) b o (lowered new)) ∷ ‵ (fobor κ q (Body (mem Row) b o γ)) ∷ ‵ (fobs γ u) ∷ ‵ (fauth γ v) ∷ Γ) G
-  closes_pixels t z a T self new = step (λ k.
-      let Row = the_row a (param 0 T) in let b = self.ref_ptr.0 in let o = self.ref_ptr.1 in
-      use3 𝓛 (‵ (Row.own_val new (lowered new ∷ []))) (pixels_owned 𝓛 a (param 0 T) new) $ move t (1 ∷ []) $
-      use1 𝓛 (‵ (cell_at full_share Row.mir (lowered new ∷ []) b o)) (bare 𝓛 b o a (param 0 T) (lowered new)) $ closes t z Row new (lowered new ∷ []) b o $ k)
+      ‵ (One.own_val new.back (slice_of new.back ∷ [])) ∷ ‵ (fat full_share (Named a (param 0 T)) b o (lowered new)) ∷ Γ) G
+  joins_pixels t a T b o new = step (λ k. use3 𝓛 (‵ ((the_row a (param 0 T)).own_val new (lowered new ∷ []))) (pixels_owned 𝓛 a (param 0 T) new) $ move t (1 ∷ []) $
+      use1 𝓛 (‵ (fat full_share Bare b o (lowered new))) (bare 𝓛 b o a (param 0 T) (lowered new)) $ k)
 
   -- what its parts own, and that their lengths fit
   pub parts : K → Soaks G → (a : NamedLft) (T : RattleType) → Laws T → (walk : PixelsMut T.Denot) → let One = Slice T a.lft in
@@ -124,24 +115,6 @@ module _ {M : Type 1} {𝓤 : Ura M} {𝓛 : Logic 𝓤} {K : Type 0} {Γ : List
       List Val). ‵ (One.own_val walk.back us)) back.0.0 refl $
       move t (1 ∷ []) $ drop t $ move t (2 ∷ 1 ∷ 0 ∷ []) $ k front.0.1.0 back.0.1.0)))))
 
--- a step on self that gives something keeps self in the same way
-abbrev pub stayed : (T : RattleType) → Stays (next_of_front.ended T).signature.params (next_of_front.ended T).kept
+-- `next` and `next_back` keep self in the same way
+abbrev pub stayed : (T : RattleType) → Stays (next.ended T).signature.params (next.ended T).kept
 stayed T = (stay_ref (0 ∷ []) tt (plain (λ κs. the_row (named_lft 3 1 tt κs) (param 0 T))), tt)
-
-module _ {M : Type 1} {𝓤 : Ura M} {𝓛 : Logic 𝓤} {K : Type 0} where
-  -- a step that begins a row ends in self, the tokens and what its contract ensures
-  pub ends_refill : K → (T : RattleType) (c : Clauses 𝓤 (refill_front.ended T)) (κs : Lfts 3) (qs : Shares 3) (bounds :
-      AllOutlive 3 (refill_front.ended T).signature.outlives κs) (a : Args (refill_front.ended T).signature κs) (g : (c κs a).ghost) (new :
-      PixelsMut T.Denot) (begun : Type 0)
-      → let Row = the_row (named_lft 3 1 tt κs) (param 0 T) in let self = a.0 in
-      ent 𝓤 (sep 𝓤 (sem 𝓛 (KeepsPixels (param 0 T) self.now new)) (sep 𝓤 (fact 𝓤 (pixels_left new ≡
-      pixels_left self.now)) (fact 𝓤 begun))) ((c κs a).ensures g tt (at_exit (refill_front.ended T) κs a (new, tt)))
-      → pixels_left new ≡ pixels_left self.now → begun
-      → Seq K 𝓛 (‵ (fobs self.ghost_name (Row.coded.code new)) ∷ ‵ (fbor κs.0 (Body (mem Row) self.ref_ptr.0 self.ref_ptr.1 self.ghost_name)) ∷
-      ‵ (flft κs.0 qs.0) ∷ ‵ (flft κs.1.0 qs.1.0) ∷ ‵ (flft κs.1.1.0 qs.1.1.0) ∷ ‵ (KeepsPixels (param 0 T) self.now new) ∷ [])
-      (prop ((walk_of 𝓛 (refill_front.ended T) (stayed T) c).post ((κs, qs, bounds, a, (mut_vals a.0, tt)), g) vunit))
-  ends_refill t T c κs qs bounds a g new begun says left full =
-      feq_i t (List Val) (vunit ∷ []) (vunit ∷ []) refl $ move t (1 ∷ 2 ∷ 3 ∷ 4 ∷ 5 ∷ 0 ∷ []) $
-      exits t (mut_vals a.0) κs qs (ends_at 𝓛 (refill_front.ended T) (stayed T) c ((κs, qs, bounds, a, (mut_vals a.0, tt)), g) vunit tt (new, tt) (tt, tt)) $
-      use0 𝓛 (raw (fact 𝓤 begun)) (fact_i 𝓤 begun (emp 𝓤) full) $ use0 𝓛 (raw (fact 𝓤 (pixels_left new ≡ pixels_left a.0.now))) (fact_i 𝓤 _ (emp 𝓤) left) $
-      join t $ move t (1 ∷ 0 ∷ []) $ by t says

@@ -3,28 +3,27 @@
 -- Assumes `Logic`.
 --     near_len, near_fits     the length of this end's row, as code reads it of self, and that it fits
 --     near_place, near_part, near_out, far_out     the field of this end in code, in the cell of self, and out of it
---     whole_by, by_sides     self as a machine value, of its parts as seen from this end.        sides, closes_by     self, apart, and closed
---     cut_clauses, row_clauses, step_clauses, refill_clauses, draw_clauses     the contracts of the functions of this end
-use Rattle.v_frame_plane.proofs.lent.Steps.{ℕ, ◌≡◌, ◌+◌, ◌^◌, ◌<◌, List, [], ◌∷◌, length, MutBor, ⊤, MakesProgress, item_count, Share, Lft, fauth, fbor}
-use Rattle.v_frame_plane.proofs.lent.Steps.{fobor, fobs, flft, mem, Body, Step, step, !, refl, ◌$◌, move, Array, Laws, MutSlice, NamedLft, Goal, Seq, Soaks}
+--     whole_by, by_sides     self as a machine value, of its parts as seen from this end.        sides, joins_by     self, apart, and again together
+--     cut_clauses, row_draw, pixel_draw     the contracts of the functions of this end
+use Rattle.v_frame_plane.proofs.lent.Steps.{ℕ, ◌≡◌, ◌+◌, ◌^◌, ◌<◌, List, [], ◌∷◌, length, MutBor, ⊤, MakesProgress, item_count, Share}
+use Rattle.v_frame_plane.proofs.lent.Steps.{Step, step, !, refl, ◌$◌, move, Array, Laws, MutSlice, NamedLft, Goal, Seq, Soaks}
 use Rattle.v_frame_plane.proofs.lent.Steps.{follows_both, full_share, fat, ftrue, ent, sep, fact, ◌⊑◌, param, RattleType, Clauses, Ty, Val, vptr, vint, w64}
 use Rattle.v_frame_plane.proofs.lent.Steps.{Ura, Item, ‵, Logic, sem, sub, fld, look_in, load, of_opd, stop, through, erased, mut, slice_ty, tcons, tnil}
-use Rattle.v_frame_plane.proofs.lent.Steps.{ty_param, ty_ref, ty_struct, Gv, T, Sym, deref, field, place, copy, rv_opd, Fits, WT, has_ty, Env, at, Go, nth}
-use Rattle.v_frame_plane.proofs.lent.Steps.{Part, Finds, Rv, raw, ◌⊛◌, unit, MutRef}
+use Rattle.v_frame_plane.proofs.lent.Steps.{ty_param, ty_ref, ty_struct, T, Sym, deref, field, place, copy, rv_opd, Fits, WT, has_ty, Env, at, Go, nth}
+use Rattle.v_frame_plane.proofs.lent.Steps.{Part, Finds, Rv, raw, ◌⊛◌, MutRef}
 use Rattle.std.specs.contracts.option.Option as Opt
 use Rattle.v_frame_plane.specs.PixelsLeft.{pixels_left}
 use Rattle.v_frame_plane.specs.RowsLeft.{rows_left}
-use Rattle.v_frame_plane.specs.SecondPixels.{KeepsPixels}
 use Rattle.v_frame_plane.specs.contracts.pixels_mut.cut_first
 use Rattle.v_frame_plane.specs.contracts.pixels_mut.PixelsMut.{the_row}
 use Rattle.v_frame_plane.specs.contracts.rows_mut.RowsMut as rows_mut
 use Rattle.v_frame_plane.specs.declared.rows_mut.RowsMut.{RowsMut}
 use Rattle.v_frame_plane.specs.declared.pixels_mut.PixelsMut.{PixelsMut}
 use Rattle.v_frame_plane.proofs.lent.Methods.{Method}
-use Rattle.v_frame_plane.proofs.lent.PixelMemory.{Around, Bare, Named, back_out, closes_pixels, front_out, lowered, parts, whole}
+use Rattle.v_frame_plane.proofs.lent.PixelMemory.{Around, Bare, Named, back_out, joins_pixels, front_out, lowered, parts, whole}
 use Rattle.v_frame_plane.proofs.lent.RowMemory.{Numbers, slice_of, lowered as rows_lowered}
-use Rattle.v_frame_plane.proofs.lent.Sides.{Side, at_front, at_back, slot, other, offset, near, far, put, Countable, walk_by, Steps, Yields, YieldsRow}
-use Rattle.v_frame_plane.proofs.lent.Sides.{LendsRow, Takes, Lends}
+use Rattle.v_frame_plane.proofs.lent.Sides.{Side, at_front, at_back, slot, other, offset, near, far, put, Countable, walk_by, Yields, YieldsRow}
+use Rattle.v_frame_plane.proofs.lent.Sides.{LendsRow, Lends}
 use Rattle.v_frame_plane.proofs.lent.Taken.{Slice, word}
 
 -- self as a machine value, of its field at this end, its rows and its field at the other end
@@ -55,25 +54,6 @@ module _ {M : Type 1} (𝓤 : Ura M) (T : RattleType) (s : Side) where
     asks = λ _ _. ‵ ftrue;
     says = λ _ old row new. ‵ (LendsRow s (param 0 T) old row new) ⊛ raw (fact 𝓤 (YieldsRow s old row new)) ⊛
         raw (fact 𝓤 (MakesProgress (λ _. ⊤) (item_count rows_left) old row new));
-  }
-
-  abbrev pub pixel_step : Method 𝓤
-  pixel_step = record {
-    R = λ ℓ. the_row ℓ (param 0 T);
-    Out = λ ℓ. MutRef ℓ.mir ℓ.lft (param 0 T);
-    lives = T.lives;
-    asks = λ _ old. raw (fact 𝓤 (0 < length (near s old).now));
-    says = λ _ old pixel new. ‵ (Takes s (param 0 T) old pixel new) ⊛ raw (fact 𝓤 (Steps s old pixel new));
-  }
-
-  abbrev pub refill : Method 𝓤
-  refill = record {
-    R = λ ℓ. the_row ℓ (param 0 T);
-    Out = λ _. unit;
-    lives = T.lives;
-    asks = λ _ old. raw (fact 𝓤 (length (near s old).now ≡ 0));
-    says = λ _ old _ new. ‵ (KeepsPixels (param 0 T) old new) ⊛ raw (fact 𝓤 (pixels_left new ≡ pixels_left old)) ⊛
-        raw (fact 𝓤 (length (near s new).now ≡ 0 → pixels_left new ≡ []));
   }
 
   abbrev pub pixel_draw : Method 𝓤
@@ -142,15 +122,12 @@ module _ {M : Type 1} {𝓤 : Ura M} {𝓛 : Logic 𝓤} {K : Type 0} {Γ : List
   sides t z at_front a T laws walk k = parts t z a T laws walk k
   sides t z at_back a T laws walk k = parts t z a T laws walk (λ front back. move t (2 ∷ 1 ∷ 0 ∷ []) $ k back front)
 
-  pub closes_by : K → Soaks G → (s : Side) (a : NamedLft) (T : RattleType) {κ : Lft} {q : Share} {u v : Gv} (self : MutBor (PixelsMut T.Denot)) (near :
-      MutBor (List T.Denot)) (rows : RowsMut T.Denot) (far : MutBor (List T.Denot)) (countable : Countable s near.now (rows_left rows) far.now)
-      → let Row = the_row a (param 0 T) in let One = MutSlice a.mir a.lft (param 0 T) in let b = self.ref_ptr.0 in let o = self.ref_ptr.1 in
-      let γ = self.ghost_name in let new = walk_by s near rows far countable in
-      Step K 𝓛 (‵ (fobs γ (Row.coded.code new)) ∷ ‵ (fbor κ (Body (mem Row) b o γ)) ∷ ‵ (flft κ q) ∷ Γ) G
+  pub joins_by : K → (s : Side) (a : NamedLft) (T : RattleType) (b o : ℕ) (near : MutBor (List T.Denot)) (rows : RowsMut T.Denot) (far : MutBor (List T.Denot))
+      (countable : Countable s near.now (rows_left rows) far.now) → let One = MutSlice a.mir a.lft (param 0 T) in let new = walk_by s near rows far countable in
+      Step K 𝓛 (‵ (fat full_share Bare b o (lowered new)) ∷ ‵ ((the_row a (param 0 T)).own_val new (lowered new ∷ [])) ∷ Γ) G
       (‵ (One.own_val near (slice_of near ∷ [])) ∷ ‵ ((rows_mut.the_row a (param 0 T)).own_val rows (rows_lowered rows ∷ [])) ∷
-      ‵ (One.own_val far (slice_of far ∷ [])) ∷
-      ‵ (fat full_share (Named a (param 0 T)) b o (whole_by s (slice_of near) (rows_lowered rows) (slice_of far))) ∷
-      ‵ (fobor κ q (Body (mem Row) b o γ)) ∷ ‵ (fobs γ u) ∷ ‵ (fauth γ v) ∷ Γ) G
-  closes_by t z at_front a T self near rows far countable = closes_pixels t z a T self (walk_by at_front near rows far countable)
-  closes_by t z at_back a T self near rows far countable =
-      step (λ k. move t (2 ∷ 1 ∷ 0 ∷ []) $ closes_pixels t z a T self (walk_by at_back near rows far countable) $ k)
+      ‵ (One.own_val far (slice_of far ∷ [])) ∷ ‵ (fat full_share (Named a (param 0 T)) b o (whole_by s (slice_of near) (rows_lowered rows) (slice_of far))) ∷
+      Γ) G
+  joins_by t at_front a T b o near rows far countable = joins_pixels t a T b o (walk_by at_front near rows far countable)
+  joins_by t at_back a T b o near rows far countable =
+      step (λ k. move t (2 ∷ 1 ∷ 0 ∷ []) $ joins_pixels t a T b o (walk_by at_back near rows far countable) $ k)
