@@ -28,7 +28,7 @@ pub struct PixelsMut<'a, T> {
 
 impl<'a, T> PixelsMut<'a, T> {
     ghost use Rattle.v_frame_plane.specs.PixelsLeft.{pixels_left};
-    ghost use Rattle.v_frame_plane.specs.SecondPixels.{KeepsPixels, LendsFirstPixel, LendsLastPixel};
+    ghost use Rattle.v_frame_plane.specs.SecondPixels.{LendsFirstPixel, LendsLastPixel};
 
     /// The pixels of these rows.
     pub(crate) fn new(rows: RowsMut<'a, T>) -> Self

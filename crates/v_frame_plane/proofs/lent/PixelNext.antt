@@ -100,8 +100,8 @@ module _ {M : Type 1} {𝓤 : Ura M} (𝓛 : Logic 𝓤) (𝓜 : Model 𝓤 𝓛
       let En = env function.locals l in let draw = draws option self' rows' pair kept lent entry s drawing taking cutting in
       -- self's cell; what it owns; the open borrow, in three; the tokens of κa and κT; that the pixels are kept; the locals
       let Now : PixelsMut T.Denot → List (Item 𝓤) = λ w. ‵ (fat full_share Bare b o (lowered w)) ∷ ‵ (Row.own_val w (lowered w ∷ [])) ∷
-      ‵ (fobor κ q (Borrow (mem Row) b o self.ghost_name)) ∷ ‵ (fobs self.ghost_name (Row.coded.code h)) ∷ ‵ (fauth self.ghost_name (Row.coded.code h)) ∷ ‵ (flft κa qa) ∷
-      ‵ (flft κT qT) ∷ ‵ (KeepsPixels item h w) ∷ holding 𝓛 En ((1, vptr b o) ∷ []) in
+      ‵ (fobor κ q (Borrow (mem Row) b o self.ghost_name)) ∷ ‵ (fobs self.ghost_name (Row.coded.code h)) ∷ ‵ (fauth self.ghost_name (Row.coded.code h)) ∷
+      ‵ (flft κa qa) ∷ ‵ (flft κT qT) ∷ ‵ (KeepsPixels item h w) ∷ holding 𝓛 En ((1, vptr b o) ∷ []) in
       -- the row that was begun is as it was, or another one
       let goes_on : (w : PixelsMut T.Denot) → pixels_left w ≡ pixels_left h → (length (near s w).now ≡ 0 → pixels_left w ≡ []) →
       Sq 𝓛 (Now w) (runs 𝓣.C 𝓣.Λ En draw (at_ret En Post)) = λ w left begun. well_typed ! (λ ok.
