@@ -1,8 +1,8 @@
 -- What decides a copy of bytes: its stride, then the length that is asked for, which a `usize` may not hold.
 use Rattle.std.proofs.Common.{ℕ, ◌≡◌, ◌*◌, ◌^◌, ◌-◌, ◌<◌, ◌≤◌, true, false, not, nat_eq, eqb, ltb, min, List, length, Option, Some, None, Ok, Err, unwrap_or}
-use Rattle.std.proofs.Common.{SomeIff, eq-eqb, inl, inr, refl, sym, ◌∙◌, ap, arith}
+use Rattle.std.proofs.Common.{SomeIff, refl, sym, ◌∙◌, ap, arith}
 use Rattle.std.proofs.lemmas.Bool.{lt-ltb, le-ltb}
-use Rattle.std.proofs.lemmas.Bool.Decides.{eqb_tells, nat_tests}
+use Rattle.std.proofs.lemmas.Bool.Decides.{nat_tests}
 use Rattle.std.specs.Option.{option_eq}
 use Rattle.v_frame_layout.specs.Geometry.{alloc_size_of, usize_max}
 use Rattle.v_frame_layout.specs.Pixel.{PixelForm}
@@ -10,6 +10,7 @@ use Rattle.v_frame_plane.specs.Plane.{Raster, table_of}
 use Rattle.v_frame_layout.specs.Table.{width_of, height_of}
 use Rattle.v_frame_plane.specs.Copy.{strided_table, strided_copy}
 use Rattle.v_frame_plane.specs.declared.error.CopyError.TheVariants.{DataLength, InvalidStride}
+use Rattle.v_frame_plane.proofs.copies.ByteLaws.{accepted_copy}
 use Rattle.v_frame_plane.proofs.copies.CopyLemmas.{width_of_shown, height_of_shown}
 
 -- a product that is asked for, as it was counted, and a length that was found
@@ -39,32 +40,16 @@ module _ {T : Type 0} (form : PixelForm T) (p : Raster T) (source : List ℕ) (s
   -- the stride holds no row
   pub refused_by_stride : stride < width * form.size → strided_copy form (table_of p) source stride ≡
       record { answer = Err (InvalidStride stride width); table = table_of p }
-  refused_by_stride below =
-      let yes : ltb stride (width_of (table_of p) * form.size) ≡ true = lt-ltb stride (width_of (table_of p) * form.size) (omega (
-        arith,
-        ap (λ w. w * form.size) wide,
-      )) in
-      rw (yes, wide) refl
+  refused_by_stride below = rw (wide, lt-ltb stride (width * form.size) below) refl
 
   module _ (fits : width * form.size ≤ stride) where
-    no_refusal : ltb stride (width_of (table_of p) * form.size) ≡ false
-    no_refusal = le-ltb stride (width_of (table_of p) * form.size) (omega (arith, ap (λ w. w * form.size) wide))
-
     -- the source has another length
     pub refused_by_length : (length source ≡ stride * height → ⊥) → strided_copy form (table_of p) source stride ≡
         record { answer = Err (DataLength (min (stride * height) usize_max) (length source)); table = table_of p }
     refused_by_length other =
-        let no : eqb (length source) (stride * height_of (table_of p)) ≡ false =
-        elim (eqb_tells (length source) (stride * height_of (table_of p))) [
-          | inl is ↦ absurd (other (is.1 ∙
-              ap (λ n. stride * n) high))
-          | inr differs ↦ differs.0
-        ] in
-        rw (no_refusal, no, high) refl
+        let no : eqb (length source) (stride * height) ≡ false = grind (arith, nat_tests) in
+        rw (wide, high, le-ltb stride (width * form.size) fits, no) refl
 
     pub accepted : length source ≡ stride * height → strided_copy form (table_of p) source stride ≡
         record { answer = Ok tt; table = strided_table form width height stride source }
-    accepted same =
-        let yes : eqb (length source) (stride * height_of (table_of p)) ≡ true = eq-eqb (length source) (stride * height_of (table_of p)) (same ∙
-        ap (λ n. stride * n) (sym high)) in
-        rw (no_refusal, yes, wide, high) refl
+    accepted same = accepted_copy form (table_of p) source stride width height wide high fits same

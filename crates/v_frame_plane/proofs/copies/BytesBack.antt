@@ -1,11 +1,12 @@
 -- Bytes that were decoded come back: of one pixel, of a row, and of a table.
 use Rattle.std.proofs.Common.{ℕ, zero, suc, ◌≡◌, ◌+◌, ◌*◌, ◌/◌, ◌%◌, ◌^◌, ◌<◌, ◌≤◌, List, [], ◌∷◌, ◌++◌, length, take, drop, get_or, refl, sym, ◌∙◌, ap, arith}
-use Rattle.std.proofs.Common.{add-one, lit<, length-drop, length-take-le, take-append-drop}
+use Rattle.std.proofs.Common.{add-one, lit<, inl, inr, length-take, length-drop, length-take-le, take-append-drop}
 use Rattle.std.proofs.Math.Nat.{pow-suc, mul_comm, div-div-eq-div-mul, div-one}
 use Rattle.std.proofs.lemmas.Grind.{flat_map-append}
-use Rattle.std.proofs.lemmas.List.{get_or-drop}
+use Rattle.std.proofs.lemmas.Bool.{cases_lt}
+use Rattle.std.proofs.lemmas.List.{get_or-drop, get_or-take, get_or_past}
 use Rattle.v_frame_layout.specs.Pixel.{PixelForm, bytes_from, bytes_of, value_from, value_of_bytes, bytes_of_pixels, byte_list, pixels_of_bytes}
-use Rattle.v_frame_layout.specs.Table.{row_major, cut_rows}
+use Rattle.v_frame_layout.specs.Table.{row_major}
 use Rattle.v_frame_plane.specs.Copy.{piece_fronts, strided_table}
 
 -- every number of the list is a byte
@@ -14,19 +15,16 @@ pub record AreBytes (bytes : List ℕ) : Type 0 where
 
 -- what every place of a list holds that has it
 pub are_bytes : (bytes : List ℕ) → ((i d : ℕ) → i < length bytes → get_or bytes i d < 256) → AreBytes bytes
-are_bytes bytes h = record { below = λ i. go bytes i (h i 0) } where
-  go : (bytes : List ℕ) (i : ℕ) → (i < length bytes → get_or bytes i 0 < 256) → get_or bytes i 0 < 256
-  go [] i h = lit< tt
-  go (byte ∷ bytes) zero h = h (omega arith)
-  go (byte ∷ bytes) (suc i) h = go bytes i (λ within. h (omega arith))
+are_bytes bytes h = record { below = λ i. elim (cases_lt i (length bytes)) [
+    | inl within ↦ h i 0 within
+    | inr past ↦ rw (get_or_past bytes i 0 past) (lit< tt)
+  ] }
 
 front_are_bytes : (n : ℕ) (bytes : List ℕ) → AreBytes bytes → AreBytes (take n bytes)
-front_are_bytes n bytes h = record { below = λ i. go n bytes i (h.below i) } where
-  go : (n : ℕ) (bytes : List ℕ) (i : ℕ) → get_or bytes i 0 < 256 → get_or (take n bytes) i 0 < 256
-  go zero bytes i h = lit< tt
-  go (suc n) [] i h = h
-  go (suc n) (byte ∷ bytes) zero h = h
-  go (suc n) (byte ∷ bytes) (suc i) h = go n bytes i h
+front_are_bytes n bytes h = record { below = λ i. elim (cases_lt i n) [
+    | inl within ↦ rw (get_or-take n bytes i 0 within) (h.below i)
+    | inr past ↦ rw (get_or_past (take n bytes) i 0 (omega (arith, length-take n bytes))) (lit< tt)
+  ] }
 
 rest_are_bytes : (n : ℕ) (bytes : List ℕ) → AreBytes bytes → AreBytes (drop n bytes)
 rest_are_bytes n bytes h = record { below = λ i. rw (get_or-drop n bytes i 0) (h.below (n + i)) }
@@ -43,7 +41,7 @@ bytes_from-next i zero value = refl
 bytes_from-next i (suc n) value =
     let weight : 256 ^ (i + 1) ≡ 256 * 256 ^ i = ap (λ k. 256 ^ k) (add-one i) ∙ pow-suc 256 i ∙ mul_comm (256 ^ i) 256 in
     let high : value / 256 ^ (i + 1) ≡ value / 256 / 256 ^ i = ap (λ w. value / w) weight ∙ sym (div-div-eq-div-mul value 256 (256 ^ i)) in
-    ap (λ d. (d % 256) ∷ bytes_from (i + 1 + 1) n value) high ∙ ap (λ rest. (value / 256 / 256 ^ i % 256) ∷ rest) (bytes_from-next (i + 1) n value)
+    rw (high, bytes_from-next (i + 1) n value) refl
 
 -- the value of bytes is counted in as many bytes, and these are its bytes
 pub value_of_bytes-fits : (bytes : List ℕ) → AreBytes bytes → value_of_bytes bytes < 256 ^ length bytes
@@ -63,8 +61,7 @@ bytes_of-value_of_bytes (byte ∷ bytes) h =
     let whole : value / 1 ≡ value = div-one value in
     let low : value / 1 % 256 ≡ byte = omega (arith, is, whole) in
     let high : value / 256 ≡ value_of_bytes bytes = omega (arith, is) in
-    ap (λ b. b ∷ bytes_from 1 (length bytes) value) low ∙ ap (λ rest. byte ∷ rest) (bytes_from-next 0 (length bytes) value ∙ ap (bytes_of (length bytes)) high ∙
-    bytes_of-value_of_bytes bytes (record { below = λ i. h.below (suc i) }))
+    rw (low, bytes_from-next 0 (length bytes) value, high, bytes_of-value_of_bytes bytes (record { below = λ i. h.below (suc i) })) refl
 
 module _ {T : Type 0} (form : PixelForm T) (back : (v : ℕ) → v < 256 ^ form.size → form.value (form.pixel_of v) ≡ v) where
   -- the bytes of one pixel
@@ -80,34 +77,26 @@ module _ {T : Type 0} (form : PixelForm T) (back : (v : ℕ) → v < 256 ^ form.
   row_comes_back zero [] long h = refl
   row_comes_back zero (byte ∷ bytes) long h = absurd (omega arith)
   row_comes_back (suc count) bytes long h =
-      let rest : length (drop form.size bytes) ≡ count * form.size = omega (arith, length-drop form.size bytes) in
-      let first : length (take form.size bytes) ≡ form.size = length-take-le form.size bytes (omega arith) in
-      ap (λ front. front ++ bytes_of_pixels form (pixels_of_bytes form count (drop form.size bytes)))
-      (pixel_comes_back (take form.size bytes) first (front_are_bytes form.size bytes h)) ∙
-      ap (λ behind. take form.size bytes ++ behind) (row_comes_back count (drop form.size bytes) rest (rest_are_bytes form.size bytes h)) ∙
-      take-append-drop form.size bytes
+      let first = take form.size bytes in
+      let others = drop form.size bytes in
+      rw (
+        pixel_comes_back first (length-take-le form.size bytes (omega arith)) (front_are_bytes form.size bytes h),
+        row_comes_back count others (omega (arith, length-drop form.size bytes)) (rest_are_bytes form.size bytes h),
+      ) (take-append-drop form.size bytes)
 
   -- the bytes of a table: the fronts of the pieces, joined
   pub table_comes_back : (width height stride : ℕ) (source : List ℕ) → width * form.size ≤ stride → length source ≡ stride * height → AreBytes source
       → byte_list form (strided_table form width height stride source) ≡ row_major (piece_fronts (width * form.size) stride height source)
   table_comes_back width zero stride source fits long h = refl
   table_comes_back width (suc height) stride source fits long h =
-      let row = pixels_of_bytes form width (take (width * form.size) (take stride source)) in
-      let rows = strided_table form width height stride (drop stride source) in
-      let piece : length (take stride source) ≡ stride = length-take-le stride source (omega arith) in
-      let front : length (take (width * form.size) (take stride source)) ≡ width * form.size =
-      length-take-le (width * form.size) (take stride source) (omega arith) in
-      let rest : length (drop stride source) ≡ stride * height = omega (arith, length-drop stride source) in
-      let here = row_comes_back width (take (width * form.size) (take stride source)) front
-      (front_are_bytes (width * form.size) (take stride source) (front_are_bytes stride source h)) in
-      let below = table_comes_back width height stride (drop stride source) fits rest (rest_are_bytes stride source h) in
-      flat_map-append (λ pixel. bytes_of form.size (form.value pixel)) row (row_major rows) ∙ ap (λ bytes. bytes ++ byte_list form rows) here ∙
-      ap (λ bytes. take (width * form.size) (take stride source) ++ bytes) below
-
--- pieces without tails, joined, are the source
-pub joined_pieces : (width height : ℕ) (source : List ℕ) → length source ≡ width * height → row_major (cut_rows width height source) ≡ source
-joined_pieces width zero [] long = refl
-joined_pieces width zero (byte ∷ source) long = absurd (omega arith)
-joined_pieces width (suc height) source long =
-    let rest : length (drop width source) ≡ width * height = omega (arith, length-drop width source) in
-    ap (λ bytes. take width source ++ bytes) (joined_pieces width height (drop width source) rest) ∙ take-append-drop width source
+      let piece = take stride source in
+      let front = take (width * form.size) piece in
+      let rest = drop stride source in
+      let rows = strided_table form width height stride rest in
+      let piece_long : length piece ≡ stride = length-take-le stride source (omega arith) in
+      let front_long : length front ≡ width * form.size = length-take-le (width * form.size) piece (omega arith) in
+      rw (
+        flat_map-append (λ pixel. bytes_of form.size (form.value pixel)) (pixels_of_bytes form width front) (row_major rows),
+        row_comes_back width front front_long (front_are_bytes (width * form.size) piece (front_are_bytes stride source h)),
+        table_comes_back width height stride rest fits (omega (arith, length-drop stride source)) (rest_are_bytes stride source h),
+      ) refl

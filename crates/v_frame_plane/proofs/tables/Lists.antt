@@ -1,7 +1,10 @@
 -- Facts about lists alone.
-use Rattle.std.proofs.Common.{ℕ, zero, suc, ◌≡◌, ◌≢◌, ◌+◌, ◌-◌, ◌<◌, ◌≤◌, List, [], ◌∷◌, ◌++◌, length, take, drop, map, Some, slice_get, slice_set, refl, sym}
-use Rattle.std.proofs.Common.{◌∙◌, ap, arith, take-append-drop, length-take-le, length-drop}
-use Rattle.std.proofs.lemmas.List.{take_at, take-take, drop-take, set-append_left, set-append_right}
+use Rattle.std.proofs.Common.{ℕ, zero, suc, ◌≡◌, ◌≢◌, ◌+◌, ◌<◌, ◌≤◌, List, [], ◌∷◌, ◌++◌, length, take, drop, map, Some, slice_get, slice_set, refl, sym}
+use Rattle.std.proofs.Common.{◌∙◌, ap, arith, take-append-drop, length-set}
+use Rattle.std.proofs.Math.Seq.{take-add, set-append_seam, get_or-set_same, take-set-le, drop-set-add, take-set-lt, drop-set-lt}
+use Rattle.std.proofs.lemmas.List.{take_at}
+use Rattle.std.proofs.lemmas.Option.{slice_get-map as get-map}
+use Rattle.core.proofs.iter.runs.Lists.{nth_read, nth_drop}
 use Rattle.std.specs.List.{refill}
 
 module _ {X : Type 0} where
@@ -12,11 +15,7 @@ module _ {X : Type 0} where
   slice_get-take (suc n) (x ∷ xs) (suc i) h = slice_get-take n xs i (omega arith)
 
   pub slice_get-drop : (n : ℕ) (xs : List X) (i : ℕ) → slice_get (drop n xs) i ≡ slice_get xs (n + i)
-  slice_get-drop zero xs i = let e : 0 + i ≡ i = omega arith in rw e refl
-  slice_get-drop (suc n) [] i = refl
-  slice_get-drop (suc n) (x ∷ xs) i =
-      let e : suc n + i ≡ suc (n + i) = omega arith in
-      slice_get-drop n xs i ∙ ap (slice_get (x ∷ xs)) (sym e)
+  slice_get-drop = nth_drop
 
   -- the element behind a list's front
   pub slice_get-at : (a : List X) (b : X) (c : List X) → slice_get (a ++ b ∷ c) (length a) ≡ Some b
@@ -24,14 +23,11 @@ module _ {X : Type 0} where
   slice_get-at (x ∷ a) b c = slice_get-at a b c
 
   pub slice_set-at : (a : List X) (b : X) (c : List X) (d : X) → slice_set (a ++ b ∷ c) (length a) d ≡ a ++ d ∷ c
-  slice_set-at [] b c d = refl
-  slice_set-at (x ∷ a) b c d = ap (λ r. x ∷ r) (slice_set-at a b c d)
+  slice_set-at = set-append_seam
 
   -- an element that is set is read at its place, and all others are as before
   pub set_is_read : (xs : List X) (i : ℕ) (x : X) → i < length xs → slice_get (slice_set xs i x) i ≡ Some x
-  set_is_read [] i x h = absurd (omega arith)
-  set_is_read (y ∷ xs) zero x h = refl
-  set_is_read (y ∷ xs) (suc i) x h = set_is_read xs i x (omega arith)
+  set_is_read xs i x h = rw (nth_read (slice_set xs i x) i x (omega (arith, length-set xs i x)), get_or-set_same xs i x x h) refl
 
   pub others_are_read : (xs : List X) (i k : ℕ) (x : X) → k ≢ i → slice_get (slice_set xs i x) k ≡ slice_get xs k
   others_are_read [] i k x h = refl
@@ -56,25 +52,18 @@ module _ {X : Type 0} where
 
   -- two pieces of a list, one behind the other
   pub taken_twice : (n m : ℕ) (xs : List X) → take n xs ++ take m (drop n xs) ≡ take (n + m) xs
-  taken_twice n m xs =
-      ap (λ front. front ++ take m (drop n xs)) (sym (take-take n (n + m) xs (omega arith))) ∙
-      ap (λ rest. take n (take (n + m) xs) ++ rest) (sym (drop-take n m xs)) ∙ take-append-drop n (take (n + m) xs)
+  taken_twice n m xs = sym (take-add n m xs)
 
   -- an element that is set inside a part of a list is set in that part
   pub set_in_part : (xs : List X) (start n i : ℕ) (x : X) → i < n → start + n ≤ length xs
       → slice_set xs (start + i) x ≡ take start xs ++ (slice_set (take n (drop start xs)) i x ++ drop n (drop start xs))
   set_in_part xs start n i x h inside =
-      let part = take n (drop start xs) in
-      let rest = drop n (drop start xs) in
-      let front : length (take start xs) ≡ start = length-take-le start xs (omega arith) in
-      let long : length part ≡ n = length-take-le n (drop start xs) (omega (arith, length-drop start xs)) in
-      let whole : xs ≡ take start xs ++ (part ++ rest) = sym (take-append-drop start xs) ∙
-      ap (λ ys. take start xs ++ ys) (sym (take-append-drop n (drop start xs))) in
-      let back : start + i - start ≡ i = omega arith in
-      ap (λ ys. slice_set ys (start + i) x) whole ∙ set-append_right (take start xs) (part ++ rest) start (start + i) x front (omega arith) ∙
-      ap (λ k. take start xs ++ slice_set (part ++ rest) k x) back ∙ ap (λ ys. take start xs ++ ys) (set-append_left part rest i x (omega arith))
+      sym (take-append-drop start (slice_set xs (start + i) x)) ∙ rw (
+        take-set-le start xs (start + i) x (omega arith),
+        drop-set-add start xs i x,
+        ← take-set-lt n (drop start xs) i x h,
+        ← drop-set-lt n (drop start xs) i x h,
+      ) (ap (λ ys. take start xs ++ ys) (sym (take-append-drop n (slice_set (drop start xs) i x))))
 
 pub slice_get-map : {X Y : Type 0} (f : X → Y) (xs : List X) (i : ℕ) (x : X) → slice_get xs i ≡ Some x → slice_get (map f xs) i ≡ Some (f x)
-slice_get-map f [] i x e = cc
-slice_get-map f (first ∷ xs) zero x e = let same : first ≡ x = cc in ap (λ a. Some (f a)) same
-slice_get-map f (first ∷ xs) (suc i) x e = slice_get-map f xs i x e
+slice_get-map f xs i x e = rw (get-map, e) refl

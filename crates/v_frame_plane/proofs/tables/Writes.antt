@@ -1,14 +1,14 @@
 -- An entry that is set inside the rectangle is a pixel of the table, and leaves the border.
-use Rattle.std.proofs.Common.{ℕ, ◌≡◌, ◌+◌, ◌<◌, ◌≤◌, ◌↔◌, List, ◌++◌, length, take, drop, Option, Some, None, IsNone, MutBor, true, false, inl, inr, slice_get}
+use Rattle.std.proofs.Common.{ℕ, ◌≡◌, ◌+◌, ◌<◌, ◌≤◌, ◌↔◌, List, ◌++◌, length, take, drop, Option, Some, None, IsNone, MutBor, slice_get}
 use Rattle.std.proofs.Common.{slice_set, refl, sym, ◌∙◌, ap, arith, length-take-le, length-drop, length-set}
 use Rattle.std.specs.Option.{option_copied_mut}
-use Rattle.std.proofs.lemmas.Option.{slice_get_cases, slice_get_past}
 use Rattle.v_frame_layout.specs.Geometry.{alloc_size_of, place_of}
 use Rattle.v_frame_plane.specs.Plane.{Raster, raster, table_of, border_of, with_entry, WritesPixel, WritesEachPixel}
 use Rattle.v_frame_layout.specs.Table.{with_pixel, with_item_by}
 use Rattle.v_frame_plane.proofs.tables.Lists.{set_in_part}
 use Rattle.v_frame_layout.proofs.Plans.{row_start, place_of_row, row_within}
 use Rattle.v_frame_plane.proofs.tables.Pictures.{shown_row, overwritten, shown_overwritten, border_overwritten}
+use Rattle.v_frame_plane.proofs.tables.Places.{none_past_end}
 
 module _ {T : Type 0} (p : Raster T) (x y : ℕ) (pixel : T) (wide : x < p.geometry.width) (high : y < p.geometry.height) (whole : length p.buffer ≡
     alloc_size_of p.geometry) where
@@ -62,9 +62,5 @@ set_at p x y place entry at = ap (λ k. raster p.geometry (slice_set p.buffer k 
 
 -- a place has no entry exactly past the end
 pub none_past : {X : Type 0} (r : Option (MutBor X)) (xs : List X) (place : ℕ) → option_copied_mut r ≡ slice_get xs place → IsNone r ↔ (length xs ≤ place)
-none_past {X} None xs place e =
-    let past : (x : X) → slice_get xs place ≡ Some x → ⊥ = λ x here. let no : None ≡ Some x = e ∙ here in cc in
-    (λ _. elim (slice_get_cases xs place).1 [ inl here ↦ absurd (past here.0 here.2) | inr end ↦ end.0 ], λ _. refl)
-none_past {X} (Some r) xs place e =
-    let held : slice_get xs place ≡ None → ⊥ = λ past. let no : Some r.now ≡ None = e ∙ past in cc in
-    (λ h. let no : true ≡ false = h in cc, λ past. absurd (held (slice_get_past xs place past)))
+none_past None xs place e = none_past_end xs place None e
+none_past (Some r) xs place e = none_past_end xs place (Some r.now) e
