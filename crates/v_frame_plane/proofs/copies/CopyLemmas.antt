@@ -3,7 +3,7 @@ use Rattle.std.proofs.Common.{ℕ, zero, suc, ◌≡◌, ◌+◌, ◌*◌, ◌<�
 use Rattle.std.proofs.Common.{slice_get, slice_set, refl, sym, ◌∙◌, ap, arith, append-nil, take-append-drop, length-drop, length-take, length-take-le}
 use Rattle.std.proofs.lemmas.List.{drop-drop, take_all, drop_all}
 use Rattle.std.proofs.lemmas.Bool.{cases_lt}
-use Rattle.std.proofs.lemmas.Bool.Decides.{eqb_tells}
+use Rattle.std.proofs.lemmas.Bool.Decides.{nat_tests}
 use Rattle.std.proofs.Math.Nat.{mul-le-mul_right}
 use borrow.Rule.Slice.PartMut.{put_mid}
 use Rattle.v_frame_layout.specs.Geometry.{Geometry, alloc_size_of, place_of}
@@ -25,8 +25,7 @@ module _ {T : Type 0} where
   row_major-cut_rows width zero [] h = refl
   row_major-cut_rows width zero (pixel ∷ source) h = absurd (omega (arith, h))
   row_major-cut_rows width (suc height) source h =
-      let rest : length (drop width source) ≡ width * height = omega (arith, h, length-drop width source) in
-      ap (λ pixels. take width source ++ pixels) (row_major-cut_rows width height (drop width source) rest) ∙ take-append-drop width source
+      rw (row_major-cut_rows width height (drop width source) (omega (arith, length-drop width source))) (take-append-drop width source)
 
   -- piece y of a source is what it holds from `width * y` on
   pub slice_get-cut_rows : (width height : ℕ) (source : List T) (y : ℕ) → y < height →
@@ -34,46 +33,32 @@ module _ {T : Type 0} where
   slice_get-cut_rows width zero source y h = absurd (omega arith)
   slice_get-cut_rows width (suc height) source zero h = let e : width * 0 ≡ 0 = omega arith in rw e refl
   slice_get-cut_rows width (suc height) source (suc y) h =
-      let e : width + width * y ≡ width * suc y = omega arith in
-      slice_get-cut_rows width height (drop width source) y (omega arith) ∙ ap (λ s. Some (take width s)) (drop-drop (width * y) width source) ∙
-      ap (λ n. Some (take width (drop n source))) e
+      let e : width * suc y ≡ width + width * y = omega arith in
+      rw (slice_get-cut_rows width height (drop width source) y (omega arith), drop-drop (width * y) width source, e) refl
 
-  -- a write of `k` entries from the place where row y begins on
-  put_row : (g : Geometry) (xs row : List T) (y start k : ℕ) → y < g.height → start ≡ place_of g 0 y → length row ≡ k →
-      put_mid start k xs row ≡ overwritten xs (row_start g y) row
-  put_row g xs row y start k h s n =
-      let at : start ≡ row_start g y = s ∙ place_of_row g y (omega arith) in
-      ap (λ p. put_mid p k xs row) at ∙ ap (λ m. put_mid (row_start g y) m xs row) (sym n)
+  module _ (g : Geometry) (xs row : List T) (y start k : ℕ) (high : y < g.height) (at : start ≡ place_of g 0 y) (long : length row ≡ k) (wide : k ≡ g.width)
+      (whole : length xs ≡ alloc_size_of g) where
+    -- a write of `k` entries from the place where row y begins on
+    put_row : put_mid start k xs row ≡ overwritten xs (row_start g y) row
+    put_row = let place : start ≡ row_start g y = at ∙ place_of_row g y (omega arith) in rw (place, ← long) refl
 
-  pub shown_put_row : (g : Geometry) (xs row : List T) (y start k : ℕ) → y < g.height → start ≡ place_of g 0 y → length row ≡ k → k ≡ g.width →
-      length xs ≡ alloc_size_of g
-      → table_of (raster g (put_mid start k xs row)) ≡ slice_set (table_of (raster g xs)) y row
-  shown_put_row g xs row y start k h s n w whole =
-      ap (λ b. table_of (raster g b)) (put_row g xs row y start k h s n) ∙ shown_overwritten g xs row y h (n ∙ w) (omega (arith, row_within g y h))
+    pub border_put_row : border_of (raster g (put_mid start k xs row)) ≡ border_of (raster g xs)
+    border_put_row = rw put_row (border_overwritten g xs row y high (long ∙ wide) (omega (arith, row_within g y high)))
 
-  pub border_put_row : (g : Geometry) (xs row : List T) (y start k : ℕ) → y < g.height → start ≡ place_of g 0 y → length row ≡ k → k ≡ g.width →
-      length xs ≡ alloc_size_of g
-      → border_of (raster g (put_mid start k xs row)) ≡ border_of (raster g xs)
-  border_put_row g xs row y start k h s n w whole =
-      ap (λ b. border_of (raster g b)) (put_row g xs row y start k h s n) ∙ border_overwritten g xs row y h (n ∙ w) (omega (arith, row_within g y h))
-
-  -- one more row of those that are written
-  pub one_more_row : (g : Geometry) (xs ys row : List T) (rows : Table T) (y start k : ℕ) → y < g.height → start ≡ place_of g 0 y → length row ≡ k →
-      k ≡ g.width → length xs ≡ alloc_size_of g
-      → slice_get rows y ≡ Some row
-      → table_of (raster g xs) ≡ take y rows ++ drop y (table_of (raster g ys))
-      → table_of (raster g (put_mid start k xs row)) ≡ take (y + 1) rows ++ drop (y + 1) (table_of (raster g ys))
-  one_more_row g xs ys row rows y start k h s n w whole is so_far =
-      shown_put_row g xs row y start k h s n w whole ∙ ap (λ t. slice_set t y row) so_far ∙
-      one_more rows (table_of (raster g ys)) y row is (omega (arith, length-shown (raster g ys)))
+    -- one more row of those that are written
+    pub one_more_row : (ys : List T) (rows : Table T) → slice_get rows y ≡ Some row
+        → table_of (raster g xs) ≡ take y rows ++ drop y (table_of (raster g ys))
+        → table_of (raster g (put_mid start k xs row)) ≡ take (y + 1) rows ++ drop (y + 1) (table_of (raster g ys))
+    one_more_row ys rows is so_far =
+        rw (put_row, shown_overwritten g xs row y high (long ∙ wide) (omega (arith, row_within g y high)), so_far)
+        (one_more rows (table_of (raster g ys)) y row is (omega (arith, length-shown (raster g ys))))
 
   -- after the last row the table is these rows
   pub all_rows : (g : Geometry) (xs ys : List T) (rows : Table T) (y : ℕ) → length rows ≡ g.height → g.height ≤ y
       → table_of (raster g xs) ≡ take y rows ++ drop y (table_of (raster g ys))
       → table_of (raster g xs) ≡ rows
   all_rows g xs ys rows y as_many h so_far =
-      so_far ∙ ap (λ t. t ++ drop y (table_of (raster g ys))) (take_all y rows (omega arith)) ∙
-      ap (λ t. rows ++ t) (drop_all y (table_of (raster g ys)) (omega (arith, length-shown (raster g ys)))) ∙ append-nil rows
+      rw (so_far, take_all y rows (omega arith), drop_all y (table_of (raster g ys)) (omega (arith, length-shown (raster g ys)))) (append-nil rows)
 
   width_of_first : (t : Table T) (row : List T) → slice_get t 0 ≡ Some row → width_of t ≡ length row
   width_of_first [] row e = cc
@@ -96,31 +81,26 @@ module _ {T : Type 0} where
   module _ (p : Raster T) (source : List T) (expected : ℕ) (high : 0 < p.geometry.height) (whole : length p.buffer ≡ alloc_size_of p.geometry) (e : expected ≡
       p.geometry.width * p.geometry.height) where
     pixels : width_of (table_of p) * height_of (table_of p) ≡ expected
-    pixels = ap (λ n. n * height_of (table_of p)) (width_of_shown p high whole) ∙ ap (λ n. p.geometry.width * n) (height_of_shown p) ∙ sym e
+    pixels = rw (width_of_shown p high whole, height_of_shown p) (sym e)
 
     pub copy_refused : (length source ≡ expected → ⊥) → packed_copy (table_of p) source ≡
         record { answer = Err (DataLength expected (length source)); table = table_of p }
     copy_refused other =
-        let no : eqb (length source) (width_of (table_of p) * height_of (table_of p)) ≡ false =
-        elim (eqb_tells (length source) (width_of (table_of p) * height_of (table_of p))) [ inl h ↦ absurd (other (h.1 ∙ pixels)) | inr h ↦ h.0 ] in
-        rw (no, pixels) refl
+        let no : eqb (length source) expected ≡ false = grind (arith, nat_tests) in
+        rw (pixels, no) refl
 
     pub copy_accepted : length source ≡ expected → packed_copy (table_of p) source ≡
         record { answer = Ok tt; table = cut_rows p.geometry.width p.geometry.height source }
-    copy_accepted same =
-        let yes : eqb (length source) (width_of (table_of p) * height_of (table_of p)) ≡ true =
-        eq-eqb (length source) (width_of (table_of p) * height_of (table_of p)) (same ∙ sym pixels) in
-        rw (yes, width_of_shown p high whole, height_of_shown p) refl
+    copy_accepted same = rw (pixels, eq-eqb (length source) expected same, width_of_shown p high whole, height_of_shown p) refl
 
   -- a table has no more pixels than the buffer of its plane has entries
   pub pixels_within : (p : Raster T) → width_of (table_of p) * height_of (table_of p) ≤ alloc_size_of p.geometry
   pixels_within p =
       let g = p.geometry in
-      let rows : height_of (table_of p) ≡ g.height = height_of_shown p in
-      elim (cases_lt 0 g.height) [
+      rw (height_of_shown p) (elim (cases_lt 0 g.height) [
         | inl high ↦
             let first = width_of_first (table_of p) _ (shown_row p 0 high) in
             let wide : width_of (table_of p) ≤ g.width = omega (arith, first, length-take g.width (drop (row_start g 0) p.buffer)) in
-            omega (arith, ap (λ n. width_of (table_of p) * n) rows, mul-le-mul_right g.height wide, visible_within g)
-        | inr none ↦ let flat : height_of (table_of p) ≡ 0 = omega arith in omega (arith, ap (λ n. width_of (table_of p) * n) flat)
-      ]
+            omega (arith, mul-le-mul_right g.height wide, visible_within g)
+        | inr none ↦ let flat : g.height ≡ 0 = omega arith in rw flat (omega arith)
+      ])

@@ -2,9 +2,9 @@
 use Rattle.std.proofs.Common.{ℕ, zero, suc, ◌≡◌, ◌+◌, ◌-◌, ◌*◌, ◌<◌, ◌≤◌, List, ◌∷◌, length, take, drop, map, Some, slice_get, refl, sym, ◌∙◌, ap, arith}
 use Rattle.std.proofs.Math.Nat.{mul-le-mul_left}
 use Rattle.std.proofs.lemmas.List.{length-map, map-id, take-take}
+use Rattle.std.proofs.lemmas.Option.{slice_get-map}
 use Rattle.v_frame_layout.specs.Table.{cut_rows}
 use Rattle.v_frame_plane.specs.Copy.{piece_fronts}
-use Rattle.v_frame_plane.proofs.tables.Lists.{slice_get-map}
 use Rattle.v_frame_plane.proofs.copies.CopyLemmas.{length-cut_rows, slice_get-cut_rows}
 
 -- the front of a piece ends within the source
@@ -24,22 +24,18 @@ module _ {S T : Type 0} where
       → row ≡ make (take (from + n - from) (drop from source)) → slice_get (map make (piece_fronts front stride pieces source)) y ≡ Some row
   row_of_piece make front stride pieces source y from n row h short at long is =
       let cut : from + n - from ≡ front = omega arith in
-      let piece = take stride (drop (stride * y) source) in
-      let read : take front piece ≡ take (from + n - from) (drop from source) = take-take front stride (drop (stride * y) source) short ∙
-      ap (λ k. take front (drop k source)) (sym at) ∙ ap (λ k. take k (drop from source)) (sym cut) in
-      slice_get-map make (piece_fronts front stride pieces source) y _ (slice_get-map (take front) (cut_rows stride pieces source) y _
-      (slice_get-cut_rows stride pieces source y h)) ∙ ap (λ (entries : List S). Some (make entries)) read ∙ ap Some (sym is)
+      let piece = take-take front stride (drop (stride * y) source) short in
+      rw (is, cut, at, slice_get-map, slice_get-map, slice_get-cut_rows stride pieces source y h, piece) refl
 
 -- the fronts of pieces without tails are the pieces
 pub fronts_of_packed : {S : Type 0} (width pieces : ℕ) (source : List S) → piece_fronts width width pieces source ≡ cut_rows width pieces source
 fronts_of_packed width zero source = refl
 fronts_of_packed width (suc pieces) source =
-    ap (λ piece. piece ∷ piece_fronts width width pieces (drop width source)) (take-take width width source (omega arith)) ∙
-    ap (λ rest. take width source ∷ rest) (fronts_of_packed width pieces (drop width source))
+    rw (take-take width width source (omega arith), fronts_of_packed width pieces (drop width source)) refl
 
 -- one entry a pixel, and no tails
 pub rows_of_packed : {S : Type 0} (width pieces : ℕ) (source : List S) → map (λ (entries : List S). entries) (piece_fronts (width * 1) width pieces source) ≡
     cut_rows width pieces source
 rows_of_packed width pieces source =
     let one : width * 1 ≡ width = omega arith in
-    map-id (piece_fronts (width * 1) width pieces source) ∙ ap (λ front. piece_fronts front width pieces source) one ∙ fronts_of_packed width pieces source
+    rw (map-id (piece_fronts (width * 1) width pieces source), one) (fronts_of_packed width pieces source)

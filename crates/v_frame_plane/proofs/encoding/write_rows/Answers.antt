@@ -7,13 +7,13 @@ use Rattle.v_frame_plane.proofs.encoding.write_rows.Goals as goal
 
 pub overflow_add-from : goal.overflow_add-from
 overflow_add-from g c =
-    let front : c.width-width.result * c.ENTRIES.result ≡ c.args.geometry.width * g.E.Encoding.ENTRIES =
-    ap (λ w. w * c.ENTRIES.result) c.width-width.ensures.value ∙ ap (λ n. c.args.geometry.width * n) c.ENTRIES.ensures in
-    let within = front_within (c.args.geometry.width * g.E.Encoding.ENTRIES) c.args.stride c.args.geometry.height c.loop-y.y c.requires.stride (omega (
+    rw (c.width-width.ensures.value, c.ENTRIES.ensures) (omega (
       arith,
-      c.height-y-end.ensures.value,
-    )) in
-    omega (arith, front, within)
+      front_within (c.args.geometry.width * g.E.Encoding.ENTRIES) c.args.stride c.args.geometry.height c.loop-y.y c.requires.stride (omega (
+        arith,
+        c.height-y-end.ensures.value,
+      )),
+    ))
 
 pub loop-y-preserved : goal.loop-y-preserved
 loop-y-preserved g c =
@@ -21,8 +21,7 @@ loop-y-preserved g c =
     let y = c.loop-y.y in
     let start = c.row_start-start.result in
     let row = c.write_row.new.row in
-    let front : c.width-width.result * c.ENTRIES.result ≡ k.width * g.E.Encoding.ENTRIES = ap (λ w. w * c.ENTRIES.result) c.width-width.ensures.value ∙
-    ap (λ n. k.width * n) c.ENTRIES.ensures in
+    let front : c.width-width.result * c.ENTRIES.result ≡ k.width * g.E.Encoding.ENTRIES = rw (c.width-width.ensures.value, c.ENTRIES.ensures) refl in
     let high : y < k.height = omega (arith, c.height-y-end.ensures.value) in
     let whole : length c.loop-y.buffer ≡ alloc_size_of k = c.loop-y.auto.buffer ∙ c.requires.plane.whole in
     let cut : start + c.width-width.result - start ≡ k.width = omega (arith, c.width-width.ensures.value) in
@@ -38,7 +37,7 @@ loop-y-preserved g c =
     let is = row_of_piece (g.E.Encoding.row_of k.width) (k.width * g.E.Encoding.ENTRIES) c.args.stride k.height c.args.src.now y from
     (c.width-width.result * c.ENTRIES.result) row high c.requires.stride refl front made in
     record {
-      table = one_more_row k c.loop-y.buffer _ row _ y start _ high c.row_start-start.ensures.place same cut whole is c.loop-y.invariant.table;
+      table = one_more_row k c.loop-y.buffer row y start _ high c.row_start-start.ensures.place same cut whole _ _ is c.loop-y.invariant.table;
       border = border_put_row k c.loop-y.buffer row y start _ high c.row_start-start.ensures.place same cut whole ∙ c.loop-y.invariant.border;
     }
 
@@ -50,9 +49,7 @@ returns-clause-table g c =
 
 pub overflow_mul-front : goal.overflow_mul-front
 overflow_mul-front g c =
-    let front : c.width-width.result * c.ENTRIES.result ≡ c.args.geometry.width * g.E.Encoding.ENTRIES =
-    ap (λ w. w * c.ENTRIES.result) c.width-width.ensures.value ∙ ap (λ n. c.args.geometry.width * n) c.ENTRIES.ensures in
-    omega (arith, front)
+    rw (c.width-width.ensures.value, c.ENTRIES.ensures) (omega arith)
 
 pub overflow_mul-from : goal.overflow_mul-from
 overflow_mul-from g c =
@@ -77,8 +74,7 @@ write_row-requires g c =
     let start = c.row_start-start.result in
     let from = c.args.stride * c.loop-y.y in
     let entries = k.width * g.E.Encoding.ENTRIES in
-    let front : c.width-width.result * c.ENTRIES.result ≡ entries = ap (λ w. w * c.ENTRIES.result) c.width-width.ensures.value ∙
-    ap (λ n. k.width * n) c.ENTRIES.ensures in
+    let front : c.width-width.result * c.ENTRIES.result ≡ entries = rw (c.width-width.ensures.value, c.ENTRIES.ensures) refl in
     let high : c.loop-y.y < k.height = omega (arith, c.height-y-end.ensures.value) in
     let within = front_within entries c.args.stride k.height c.loop-y.y c.requires.stride high in
     let whole : length c.loop-y.buffer ≡ alloc_size_of k = c.loop-y.auto.buffer ∙ c.requires.plane.whole in
@@ -104,21 +100,10 @@ returns-clause-border g c = c.loop-y.invariant.border
 
 pub slice_bounds-write_row-end : goal.slice_bounds-write_row-end
 slice_bounds-write_row-end g c =
-    let inside : c.row_start-start.result + c.width-width.result ≤ length c.loop-y.buffer = omega (
-      arith,
-      c.row_start-start.ensures.within,
-      c.width-width.ensures.value,
-      c.loop-y.auto.buffer,
-      c.requires.plane.whole,
-    ) in
-    inside
+    omega (arith, c.row_start-start.ensures.within, c.width-width.ensures.value, c.loop-y.auto.buffer, c.requires.plane.whole)
 
 pub slice_bounds-write_row-end-in-loop-y : goal.slice_bounds-write_row-end-in-loop-y
 slice_bounds-write_row-end-in-loop-y g c =
-    let from = c.args.stride * c.loop-y.y in
     let entries = c.args.geometry.width * g.E.Encoding.ENTRIES in
-    let front : c.width-width.result * c.ENTRIES.result ≡ entries = ap (λ w. w * c.ENTRIES.result) c.width-width.ensures.value ∙
-    ap (λ n. c.args.geometry.width * n) c.ENTRIES.ensures in
     let within = front_within entries c.args.stride c.args.geometry.height c.loop-y.y c.requires.stride (omega (arith, c.height-y-end.ensures.value)) in
-    let inside : from + c.width-width.result * c.ENTRIES.result ≤ length c.args.src.now = omega (arith, front, within, c.requires.source) in
-    inside
+    rw (c.width-width.ensures.value, c.ENTRIES.ensures) (omega (arith, within, c.requires.source))
