@@ -23,11 +23,10 @@ module _ {T : Type 0} where
   rows_are_long start width gap zero xs within = All-nil (λ row. length row ≡ width)
   rows_are_long start width gap (suc count) xs within =
       let all : start + suc count * (width + gap) ≤ length xs + gap = within (omega arith) in
-      let row : length (take width (drop start xs)) ≡ width = length-take-le width (drop start xs) (omega (arith, length-drop start xs)) in
-      let rest : length (drop width (drop start xs)) ≡ length xs - start - width = length-drop width (drop start xs) ∙
-      ap (λ n. n - width) (length-drop start xs) in
-      All-cons (λ row. length row ≡ width) (take width (drop start xs)) (rows_ahead gap width gap count (drop width (drop start xs))) row
-      (rows_are_long gap width gap count (drop width (drop start xs)) (λ more. omega arith))
+      let ahead = drop width (drop start xs) in
+      let left : length ahead ≡ length xs - start - width = rw (length-drop width (drop start xs), length-drop start xs) refl in
+      All-cons (λ row. length row ≡ width) (take width (drop start xs)) (rows_ahead gap width gap count ahead)
+      (length-take-le width (drop start xs) (omega (arith, length-drop start xs))) (rows_are_long gap width gap count ahead (λ more. omega arith))
 
   pub pixels_of_rows : (width : ℕ) (rows : List (List T)) → All (λ row. length row ≡ width) rows → length (row_major rows) ≡ length rows * width
   pixels_of_rows width [] each = omega arith
@@ -49,6 +48,14 @@ module _ {T : Type 0} where
       let e : suc count - 1 ≡ count = omega arith in
       rw e refl
 
+  -- what lies behind the first row, in front of the last one and from there on
+  pub behind_first : (start width gap count : ℕ) (xs : List T) → let last = start + suc count * (width + gap) in let behind = gap + count * (width + gap) in
+      (drop width (drop start (take last xs)) ≡ take behind (drop width (drop start xs))) × (drop last xs ≡ drop behind (drop width (drop start xs)))
+  behind_first start width gap count xs =
+      let behind = gap + count * (width + gap) in
+      let e : start + suc count * (width + gap) ≡ start + (width + behind) = omega arith in
+      rw (e, drop-take, drop-take, drop-drop behind width (drop start xs), drop-drop (width + behind) start xs) (refl, refl)
+
   -- the last row lies behind what the others take
   last_of_more : (start width gap count : ℕ) (xs : List T)
       → rows_ahead start width gap (suc count) xs ≡ rows_ahead start width gap count (take (start + count * (width + gap)) xs) ++
@@ -57,15 +64,11 @@ module _ {T : Type 0} where
       let e : start + 0 * (width + gap) ≡ start = omega arith in
       rw e refl
   last_of_more start width gap (suc count) xs =
-      let behind = gap + count * (width + gap) in
-      let ys = drop width (drop start xs) in
-      let e : start + suc count * (width + gap) ≡ start + (width + behind) = omega arith in
-      let row : take width (drop start (take (start + (width + behind)) xs)) ≡ take width (drop start xs) =
-      ap (take width) (drop-take start (width + behind) xs) ∙ take-take width (width + behind) (drop start xs) (omega arith) in
-      let rest : drop width (drop start (take (start + (width + behind)) xs)) ≡ take behind ys = ap (drop width) (drop-take start (width + behind) xs) ∙
-      drop-take width behind (drop start xs) in
-      let past : drop behind ys ≡ drop (start + (width + behind)) xs = drop-drop behind width (drop start xs) ∙ drop-drop (width + behind) start xs in
-      rw (e, row, rest, ← past) (ap (λ rows. take width (drop start xs) ∷ rows) (last_of_more gap width gap count ys))
+      let e : start + suc count * (width + gap) ≡ start + (width + (gap + count * (width + gap))) = omega arith in
+      let row : take width (drop start (take (start + suc count * (width + gap)) xs)) ≡ take width (drop start xs) =
+      rw (e, drop-take) (take-take width (width + (gap + count * (width + gap))) (drop start xs) (omega arith)) in
+      let at = behind_first start width gap count xs in
+      rw (row, at.0, at.1, last_of_more gap width gap count (drop width (drop start xs))) refl
 
   pub last_row : (start width gap count : ℕ) (xs : List T) → 0 < count
       → rows_ahead start width gap count xs ≡ rows_ahead start width gap (count - 1) (take (start + (count - 1) * (width + gap)) xs) ++
@@ -83,9 +86,12 @@ module _ {T : Type 0} where
       rw e refl
   slice_get-rows_ahead start width gap (suc count) xs (suc y) h =
       let e : start + suc y * (width + gap) ≡ start + (width + (gap + y * (width + gap))) = omega arith in
-      let past = drop-drop (gap + y * (width + gap)) width (drop start xs) ∙ drop-drop (width + (gap + y * (width + gap))) start xs in
-      slice_get-rows_ahead gap width gap count (drop width (drop start xs)) y (omega arith) ∙ ap (λ ys. Some (take width ys)) past ∙
-      ap (λ n. Some (take width (drop n xs))) (sym e)
+      rw (
+        slice_get-rows_ahead gap width gap count (drop width (drop start xs)) y (omega arith),
+        drop-drop (gap + y * (width + gap)) width (drop start xs),
+        drop-drop (width + (gap + y * (width + gap))) start xs,
+        e,
+      ) refl
 
   -- the rows ahead of the origin of a whole buffer are its visible ones
   pub visible_rows : (g : Geometry) (xs : List T) (start width gap count : ℕ) → start ≡ origin_of g → width ≡ g.width → gap ≡ stride_of g - g.width →
@@ -93,13 +99,12 @@ module _ {T : Type 0} where
       → rows_ahead start width gap count xs ≡ table_of (raster g xs)
   visible_rows g xs start width gap count s w n c =
       let p : Raster T = raster g xs in
-      let long : length (rows_ahead start width gap count xs) ≡ g.height = count_of_rows start width gap count xs ∙ c in
+      let rows = rows_ahead start width gap count xs in
+      same_by_slice_get rows (table_of p) (rw (count_of_rows start width gap count xs, c) (sym (length-shown p))) (λ y h.
+      let low : y < count = omega (arith, count_of_rows start width gap count xs) in
       let stride : width + gap ≡ stride_of g = omega arith in
-      same_by_slice_get (rows_ahead start width gap count xs) (table_of p) (long ∙ sym (length-shown p)) (λ y h.
-      let high : y < g.height = omega arith in
       let at : start + y * (width + gap) ≡ row_start g y = omega (arith, place_of_row g y (omega arith), ap (λ k. y * k) stride) in
-      slice_get-rows_ahead start width gap count xs y (omega arith) ∙ ap (λ n. Some (take n (drop (start + y * (width + gap)) xs))) w ∙
-      ap (λ n. Some (take g.width (drop n xs))) at ∙ sym (shown_row p y high))
+      rw (slice_get-rows_ahead start width gap count xs y low, shown_row p y (omega arith), at, w) refl)
 
 -- and these rows lie within it
 pub rows_within : (g : Geometry) (start width gap count : ℕ) → 0 < g.height → start ≡ origin_of g → width ≡ g.width → gap ≡ stride_of g - g.width →
