@@ -1,10 +1,10 @@
 -- A buffer is put together again from its visible pieces and its border pieces.
 use Rattle.std.proofs.Common.{◌≡◌, List, [], ◌∷◌, ◌++◌, length, take, drop, refl, sym, ◌∙◌, ap, arith}
 use Rattle.std.proofs.lemmas.List.{take_all}
+use Rattle.std.proofs.Math.Seq.{take-add}
 use Rattle.v_frame_layout.specs.Geometry.{Geometry, alloc_size_of, Mark, Border, Visible, Piece, cutting_plan}
 use Rattle.v_frame_plane.specs.Plane.{raster, cut_by, if_visible, if_border, visible_pieces, border_pieces, table_of, border_of}
 use Rattle.v_frame_plane.specs.Laws.{DeterminesBuffer}
-use Rattle.v_frame_plane.proofs.tables.Lists.{taken_twice}
 use Rattle.v_frame_layout.proofs.Plans.{total, total-cutting_plan}
 
 module _ {T : Type 0} where
@@ -22,9 +22,7 @@ module _ {T : Type 0} where
   same_cut (piece ∷ plan) xs ys v b =
       let n = piece.entries in
       let first = same_piece piece.mark (take n xs) (take n ys) _ _ _ _ v b in
-      let rest = same_cut plan (drop n xs) (drop n ys) first.1 first.2 in
-      sym (taken_twice n (total plan) xs) ∙ ap (λ front. front ++ take (total plan) (drop n xs)) first.0 ∙ ap (λ r. take n ys ++ r) rest ∙
-      taken_twice n (total plan) ys
+      rw (take-add, take-add, first.0, same_cut plan (drop n xs) (drop n ys) first.1 first.2) refl
 
   same_buffer : (g : Geometry) (xs ys : List T) → length xs ≡ alloc_size_of g → length ys ≡ alloc_size_of g → table_of (raster g xs) ≡ table_of (raster g ys) →
       border_of (raster g xs) ≡ border_of (raster g ys) → xs ≡ ys
@@ -35,8 +33,5 @@ module _ {T : Type 0} where
 
 pub determines_buffer : (T : Type 0) → DeterminesBuffer T
 determines_buffer T p q whole_p whole_q geometry table border =
-    let g = p.geometry in
-    let at = λ (k : Geometry). raster k q.buffer in
-    let buffer = same_buffer g p.buffer q.buffer whole_p (whole_q ∙ ap alloc_size_of (sym geometry)) (table ∙
-    ap (λ k. table_of (at k)) (sym geometry)) (border ∙ ap (λ k. border_of (at k)) (sym geometry)) in
+    let buffer = same_buffer p.geometry p.buffer q.buffer whole_p (rw (← geometry) at whole_q) (rw (← geometry) at table) (rw (← geometry) at border) in
     λ i. record { geometry = geometry i; buffer = buffer i }

@@ -15,9 +15,8 @@ module _ {T : Type 0} where
   same_front (suc n) (x ∷ xs) [] h = let e : Some x ≡ None = h 0 (omega arith) in cc
   same_front (suc n) (x ∷ xs) (y ∷ ys) h =
       let e : Some x ≡ Some y = h 0 (omega arith) in
-      let first : x ≡ y = cc in
       let rest = same_front n xs ys (λ i below. h (suc i) (omega arith)) in
-      ap (λ z. z ∷ take n xs) first ∙ ap (λ zs. y ∷ zs) rest
+      cc
 
   -- two lists agree wherever a plan puts a mark
   abbrev Agree : Mark → List Piece → List T → List T → Type 0
@@ -45,22 +44,17 @@ module _ {T : Type 0} where
   visible_alike [] xs ys h = refl
   visible_alike (piece ∷ plan) xs ys h =
       let n = piece.entries in
-      let rest = visible_alike plan (drop n xs) (drop n ys) (agree_in_rest Visible piece plan xs ys h) in
-      ap (λ first. first ++ visible_pieces (cut_by plan (drop n xs))) (same_visible piece.mark n plan xs ys h) ∙
-      ap (λ r. if_visible piece.mark (take n ys) ++ r) rest
+      rw (same_visible piece.mark n plan xs ys h, visible_alike plan (drop n xs) (drop n ys) (agree_in_rest Visible piece plan xs ys h)) refl
 
   border_alike : (plan : List Piece) (xs ys : List T) → Agree Border plan xs ys → border_pieces (cut_by plan xs) ≡ border_pieces (cut_by plan ys)
   border_alike [] xs ys h = refl
   border_alike (piece ∷ plan) xs ys h =
       let n = piece.entries in
-      let rest = border_alike plan (drop n xs) (drop n ys) (agree_in_rest Border piece plan xs ys h) in
-      ap (λ first. first ++ border_pieces (cut_by plan (drop n xs))) (same_border piece.mark n plan xs ys h) ∙
-      ap (λ r. if_border piece.mark (take n ys) ++ r) rest
+      rw (same_border piece.mark n plan xs ys h, border_alike plan (drop n xs) (drop n ys) (agree_in_rest Border piece plan xs ys h)) refl
 
   pub made_of_entries : (p q : Raster T) → p.geometry ≡ q.geometry → IsMadeOfEntries p q
   made_of_entries p q geometry =
-      let at = λ (k : Geometry). raster k q.buffer in
       record {
-        table = λ agree. visible_alike (cutting_plan p.geometry) p.buffer q.buffer agree ∙ ap (λ k. table_of (at k)) geometry;
-        border = λ agree. border_alike (cutting_plan p.geometry) p.buffer q.buffer agree ∙ ap (λ k. border_of (at k)) geometry;
+        table = λ agree. rw (← geometry) (visible_alike (cutting_plan p.geometry) p.buffer q.buffer agree);
+        border = λ agree. rw (← geometry) (border_alike (cutting_plan p.geometry) p.buffer q.buffer agree);
       }

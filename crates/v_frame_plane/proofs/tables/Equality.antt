@@ -52,19 +52,7 @@ geometries_decide g h =
       subsampling_x = e.1.1.1.1.1.1.1.0 i;
       subsampling_y = e.1.1.1.1.1.1.1.1 i;
     })
-    (λ e. (
-      ap (λ k. k.width) e,
-      (
-        ap (λ k. k.height) e,
-        (
-          ap stride_of e,
-          (
-            ap (λ k. k.pad_left) e,
-            (ap (λ k. k.pad_right) e, (ap (λ k. k.pad_top) e, (ap (λ k. k.pad_bottom) e, (ap (λ k. k.subsampling_x) e, ap (λ k. k.subsampling_y) e)))),
-          ),
-        ),
-      ),
-    ))
+    (λ e. rw e (refl, (refl, (refl, (refl, (refl, (refl, (refl, (refl, refl)))))))))
     numbers
 
 abbrev pub same_plane : {T : Type 0} → (T → T → Bool) → Raster T → Raster T → Bool
@@ -75,7 +63,7 @@ pub planes_decide : {T : Type 0} (eq : T → T → Bool) → ((xs ys : List T) �
 planes_decide eq decide p q =
     Decides-like (same_plane eq p q)
     (λ e i. raster (e.0 i) (e.1 i))
-    (λ e. (ap (λ r. r.geometry) e, ap (λ r. r.buffer) e))
+    (λ e. rw e (refl, refl))
     (Decides-and (same_numbers p.geometry q.geometry) (pointwise eq p.buffer q.buffer) (geometries_decide p.geometry q.geometry) (decide p.buffer q.buffer))
 
 pub formats_decide : (a b : ChromaSubsampling) → Decides (sameb the_type a b) (a ≡ b)

@@ -38,12 +38,10 @@ module _ {X : Type 0} where
   -- a pixel beside the rows, or below them, is written nowhere
   pub with_pixel_beside : (rows : Table X) (width x y : ℕ) (pixel : X) → All (λ row. length row ≡ width) rows → width ≤ x → with_pixel rows x y pixel ≡ rows
   with_pixel_beside rows width x y pixel wide h =
-      let written : Option (List X) → Table X = with_item_by (λ (r : List X). slice_set r x pixel) rows y in
       elim (slice_get_cases rows y).1 [
-        | inl row ↦ ap written row.2 ∙ ap (slice_set rows y) (set_past row.0 x pixel (omega (arith, wide y row.0 row.1, ap length row.3))) ∙
-            ap (slice_set rows y) (sym row.3) ∙ set-get_or rows y row.0
-        | inr none ↦ ap written none.1
+        | inl row ↦ rw (row.2, set_past row.0 x pixel (omega (arith, wide y row.0 row.1, ap length row.3)), ← row.3) (set-get_or rows y row.0)
+        | inr none ↦ rw none.1 refl
       ]
 
   pub with_row_below : (change : List X → List X) (rows : Table X) (y : ℕ) → length rows ≤ y → with_item_by change rows y (slice_get rows y) ≡ rows
-  with_row_below change rows y h = ap (with_item_by change rows y) (slice_get_past rows y h)
+  with_row_below change rows y h = rw (slice_get_past rows y h) refl

@@ -1,29 +1,25 @@
 -- The bridge between a buffer and its picture: what reading where the plan puts a row gives, and what writing there leaves.
 use Rattle.std.proofs.Common.{ℕ, zero, suc, ◌≡◌, ◌+◌, ◌<◌, ◌≤◌, List, [], ◌∷◌, ◌++◌, length, take, drop, Some, slice_get, slice_set, refl, sym, ◌∙◌, ap, arith}
 use Rattle.std.proofs.Common.{append_assoc, length-append, length-drop, length-take-le, take-append-drop}
-use Rattle.std.proofs.lemmas.List.{drop-drop, take-append-le, drop-append-le, take_at, drop_at}
+use Rattle.std.proofs.lemmas.List.{drop-drop, take-append-le, drop-append-le, take_at, drop_at, set_at}
 use Rattle.v_frame_layout.specs.Geometry.{Geometry, stride_of, Mark, Visible, Piece, visible_piece, times, outer_row, crossing_row, cutting_plan}
 use Rattle.v_frame_layout.proofs.Plans.{total, before_row, after_row, plan_at_row, row_start, total-before_row}
 use Rattle.v_frame_plane.specs.Plane.{Raster, cut_by, if_visible, if_border, visible_pieces, border_pieces, table_of}
-use Rattle.v_frame_plane.proofs.tables.Lists.{slice_get-at, slice_set-at}
+use Rattle.v_frame_plane.proofs.tables.Lists.{slice_get-at}
 
 module _ {T : Type 0} where
   cut_by-append : (p q : List Piece) (xs : List T) → cut_by (p ++ q) xs ≡ cut_by p xs ++ cut_by q (drop (total p) xs)
   cut_by-append [] q xs = refl
   cut_by-append (piece ∷ p) q xs =
-      ap (λ cs. (piece.mark, take piece.entries xs) ∷ cs)
-      (cut_by-append p q (drop piece.entries xs) ∙ ap (λ ys. cut_by p (drop piece.entries xs) ++ cut_by q ys) (drop-drop (total p) piece.entries xs))
+      rw (cut_by-append p q (drop piece.entries xs), drop-drop (total p) piece.entries xs) refl
 
   visible_pieces-append : (a b : List (Mark × List T)) → visible_pieces (a ++ b) ≡ visible_pieces a ++ visible_pieces b
   visible_pieces-append [] b = refl
-  visible_pieces-append (piece ∷ a) b =
-      ap (λ r. if_visible piece.0 piece.1 ++ r) (visible_pieces-append a b) ∙
-      sym (append_assoc (if_visible piece.0 piece.1) (visible_pieces a) (visible_pieces b))
+  visible_pieces-append (piece ∷ a) b = simp (visible_pieces-append a b, append_assoc)
 
   border_pieces-append : (a b : List (Mark × List T)) → border_pieces (a ++ b) ≡ border_pieces a ++ border_pieces b
   border_pieces-append [] b = refl
-  border_pieces-append (piece ∷ a) b =
-      ap (λ r. if_border piece.0 piece.1 ++ r) (border_pieces-append a b) ∙ sym (append_assoc (if_border piece.0 piece.1) (border_pieces a) (border_pieces b))
+  border_pieces-append (piece ∷ a) b = simp (border_pieces-append a b, append_assoc)
 
   -- a cut reads no further than its pieces reach
   cut_by-front : (p : List Piece) (xs ys : List T) → total p ≤ length xs → cut_by p (xs ++ ys) ≡ cut_by p xs
@@ -31,8 +27,7 @@ module _ {T : Type 0} where
   cut_by-front (piece ∷ p) xs ys h =
       let at : piece.entries ≤ length xs = omega arith in
       let more : total p ≤ length (drop piece.entries xs) = omega (arith, length-drop piece.entries xs) in
-      rw (take-append-le piece.entries xs ys at, drop-append-le piece.entries xs ys at) (ap (λ cs. (piece.mark, take piece.entries xs) ∷
-      cs) (cut_by-front p (drop piece.entries xs) ys more))
+      rw (take-append-le piece.entries xs ys at, drop-append-le piece.entries xs ys at, cut_by-front p (drop piece.entries xs) ys more) refl
 
 module _ {T : Type 0} where
   no_row_outside : (g : Geometry) (n : ℕ) (xs : List T) → visible_pieces (cut_by (times n (outer_row g)) xs) ≡ []
@@ -51,55 +46,29 @@ module _ {T : Type 0} where
       → cut_by (cutting_plan g) xs ≡ cut_by (before_row g y) xs ++ (Visible, take g.width (drop (row_start g y) xs)) ∷
       cut_by (after_row g y) (drop (row_start g y + g.width) xs)
   picture_at_row g xs y h =
-      let t = total-before_row g y in
-      ap (λ p. cut_by p xs) (plan_at_row g y h) ∙ cut_by-append (before_row g y) (visible_piece g.width ∷ after_row g y) xs ∙
-      rw (t, drop-drop g.width (row_start g y) xs) refl
+      rw (plan_at_row g y h, cut_by-append, total-before_row g y, drop-drop g.width (row_start g y) xs) refl
 
-  -- the table and the border round the y-th visible piece
+  -- the table round it
   shown_at_row : (g : Geometry) (xs : List T) (y : ℕ) → y < g.height
       → visible_pieces (cut_by (cutting_plan g) xs) ≡ visible_pieces (cut_by (before_row g y) xs) ++ take g.width (drop (row_start g y) xs) ∷
       visible_pieces (cut_by (after_row g y) (drop (row_start g y + g.width) xs))
   shown_at_row g xs y h = ap visible_pieces (picture_at_row g xs y h) ∙ visible_pieces-append (cut_by (before_row g y) xs) _
-
-  border_at_row : (g : Geometry) (xs : List T) (y : ℕ) → y < g.height
-      → border_pieces (cut_by (cutting_plan g) xs) ≡ border_pieces (cut_by (before_row g y) xs) ++
-      border_pieces (cut_by (after_row g y) (drop (row_start g y + g.width) xs))
-  border_at_row g xs y h = ap border_pieces (picture_at_row g xs y h) ∙ border_pieces-append (cut_by (before_row g y) xs) _
 
   -- what is shown at y is what is in the buffer from the start of the row on
   pub shown_row : (p : Raster T) (y : ℕ) → y < p.geometry.height → slice_get (table_of p) y ≡
       Some (take p.geometry.width (drop (row_start p.geometry y) p.buffer))
   shown_row p y h =
       let g = p.geometry in
-      let before = visible_pieces (cut_by (before_row g y) p.buffer) in
-      let e = rows_before g y p.buffer in
-      ap (λ t. slice_get t y) (shown_at_row g p.buffer y h) ∙ ap (λ k. slice_get (before ++ take g.width (drop (row_start g y) p.buffer) ∷
-      visible_pieces (cut_by (after_row g y) (drop (row_start g y + g.width) p.buffer))) k) (sym e) ∙ slice_get-at before _ _
+      let row = take g.width (drop (row_start g y) p.buffer) in
+      let after = visible_pieces (cut_by (after_row g y) (drop (row_start g y + g.width) p.buffer)) in
+      rw (shown_at_row g p.buffer y h) (rw (rows_before g y p.buffer) at (slice_get-at (visible_pieces (cut_by (before_row g y) p.buffer)) row after))
 
   pub length-shown : (p : Raster T) → length (table_of p) ≡ p.geometry.height
-  length-shown p =
-      let g = p.geometry in
-      simp (cut_by-append, visible_pieces-append, no_row_outside, rows_crossed, length-append) (omega arith)
+  length-shown p = simp (cut_by-append, visible_pieces-append, no_row_outside, rows_crossed, length-append) (omega arith)
 
   -- the entries xs with row written over those from the place a on
   abbrev pub overwritten : List T → ℕ → List T → List T
   overwritten xs a row = take a xs ++ (row ++ drop (length row) (drop a xs))
-
-  -- what is in front of the written row, in it and behind it
-  front_overwritten : (p : List Piece) (xs row : List T) (a : ℕ) → total p ≡ a → a ≤ length xs → cut_by p (overwritten xs a row) ≡ cut_by p xs
-  front_overwritten p xs row a t h =
-      let enough : total p ≤ length (take a xs) = omega (arith, length-take-le a xs h) in
-      cut_by-front p (take a xs) (row ++ drop (length row) (drop a xs)) enough ∙ sym (cut_by-front p (take a xs) (drop a xs) enough) ∙
-      ap (cut_by p) (take-append-drop a xs)
-
-  row_overwritten : (xs row : List T) (a : ℕ) → a ≤ length xs → take (length row) (drop a (overwritten xs a row)) ≡ row
-  row_overwritten xs row a h =
-      ap (take (length row)) (drop_at (take a xs) _ a (length-take-le a xs h)) ∙ take_at row _ (length row) refl
-
-  rest_overwritten : (xs row : List T) (a : ℕ) → a ≤ length xs → drop (a + length row) (overwritten xs a row) ≡ drop (a + length row) xs
-  rest_overwritten xs row a h =
-      sym (drop-drop (length row) a (overwritten xs a row)) ∙ ap (drop (length row)) (drop_at (take a xs) _ a (length-take-le a xs h)) ∙
-      drop_at row _ (length row) refl ∙ drop-drop (length row) a xs
 
   picture_of_overwritten : (g : Geometry) (xs row : List T) (y : ℕ) → y < g.height → length row ≡ g.width → row_start g y + g.width ≤ length xs
       → cut_by (cutting_plan g) (overwritten xs (row_start g y) row) ≡ cut_by (before_row g y) xs ++ (Visible, row) ∷
@@ -107,28 +76,22 @@ module _ {T : Type 0} where
   picture_of_overwritten g xs row y h same inside =
       let a = row_start g y in
       let low : a ≤ length xs = omega arith in
-      let front = front_overwritten (before_row g y) xs row a (total-before_row g y) low in
-      let shows : take g.width (drop a (overwritten xs a row)) ≡ row = ap (λ k. take k (drop a (overwritten xs a row))) (sym same) ∙
-      row_overwritten xs row a low in
-      let rest : drop (a + g.width) (overwritten xs a row) ≡ drop (a + g.width) xs = ap (λ k. drop (a + k) (overwritten xs a row)) (sym same) ∙
-      rest_overwritten xs row a low ∙ ap (λ k. drop (a + k) xs) same in
-      picture_at_row g (overwritten xs a row) y h ∙ ap (λ cs. cs ++ (Visible, take g.width (drop a (overwritten xs a row))) ∷
-      cut_by (after_row g y) (drop (a + g.width) (overwritten xs a row))) front ∙
-      ap (λ r. cut_by (before_row g y) xs ++ (Visible, r) ∷ cut_by (after_row g y) (drop (a + g.width) (overwritten xs a row))) shows ∙
-      ap (λ r. cut_by (before_row g y) xs ++ (Visible, row) ∷ cut_by (after_row g y) r) rest
+      let enough : total (before_row g y) ≤ length (take a xs) = omega (arith, total-before_row g y, length-take-le a xs low) in
+      let behind = row ++ drop (length row) (drop a xs) in
+      let from : drop a (overwritten xs a row) ≡ behind = drop_at (take a xs) behind a (length-take-le a xs low) in
+      let rest : drop (a + g.width) (overwritten xs a row) ≡ drop (a + g.width) xs =
+      rw (← drop-drop g.width a (overwritten xs a row), from, drop_at row _ g.width same, same) (drop-drop g.width a xs) in
+      let front : cut_by (before_row g y) (take a xs) ≡ cut_by (before_row g y) xs =
+      rw (← cut_by-front (before_row g y) (take a xs) (drop a xs) enough) (ap (cut_by (before_row g y)) (take-append-drop a xs)) in
+      rw (picture_at_row g (overwritten xs a row) y h, rest, from, take_at row _ g.width same, cut_by-front (before_row g y) (take a xs) behind enough, front) refl
 
   -- a row that is written where the y-th begins replaces the y-th of the table, and leaves the border
   pub shown_overwritten : (g : Geometry) (xs row : List T) (y : ℕ) → y < g.height → length row ≡ g.width → row_start g y + g.width ≤ length xs
       → visible_pieces (cut_by (cutting_plan g) (overwritten xs (row_start g y) row)) ≡ slice_set (visible_pieces (cut_by (cutting_plan g) xs)) y row
   shown_overwritten g xs row y h same inside =
-      let before = visible_pieces (cut_by (before_row g y) xs) in
-      let after = visible_pieces (cut_by (after_row g y) (drop (row_start g y + g.width) xs)) in
-      let old = take g.width (drop (row_start g y) xs) in
-      let new = ap visible_pieces (picture_of_overwritten g xs row y h same inside) ∙ visible_pieces-append (cut_by (before_row g y) xs) _ in
-      new ∙ sym (slice_set-at before old after row) ∙ ap (λ k. slice_set (before ++ old ∷ after) k row) (rows_before g y xs) ∙
-      ap (λ t. slice_set t y row) (sym (shown_at_row g xs y h))
+      rw (picture_of_overwritten g xs row y h same inside, visible_pieces-append, shown_at_row g xs y h) (sym (set_at _ _ _ row y (rows_before g y xs)))
 
   pub border_overwritten : (g : Geometry) (xs row : List T) (y : ℕ) → y < g.height → length row ≡ g.width → row_start g y + g.width ≤ length xs
       → border_pieces (cut_by (cutting_plan g) (overwritten xs (row_start g y) row)) ≡ border_pieces (cut_by (cutting_plan g) xs)
   border_overwritten g xs row y h same inside =
-      ap border_pieces (picture_of_overwritten g xs row y h same inside) ∙ border_pieces-append (cut_by (before_row g y) xs) _ ∙ sym (border_at_row g xs y h)
+      rw (picture_of_overwritten g xs row y h same inside, picture_at_row g xs y h, border_pieces-append, border_pieces-append) refl

@@ -29,12 +29,10 @@ copied_get xs i (Some x) h = sym (slice_get_read xs (length xs) i x.now refl h.3
 
 -- no entry is read exactly where the place is past the end
 pub none_past_end : {X : Type 0} (xs : List X) (place : ℕ) (r : Option X) → r ≡ slice_get xs place → IsNone r ↔ (length xs ≤ place)
-none_past_end {X} xs place None e =
-    let past : (x : X) → slice_get xs place ≡ Some x → ⊥ = λ x here. let no : None ≡ Some x = e ∙ here in cc in
-    (λ _. elim (slice_get_cases xs place).1 [ inl here ↦ absurd (past here.0 here.2) | inr end ↦ end.0 ], λ _. refl)
-none_past_end xs place (Some x) e =
-    let held : slice_get xs place ≡ None → ⊥ = λ past. let no : Some x ≡ None = e ∙ past in cc in
-    (λ h. let no : true ≡ false = h in cc, λ past. absurd (held (slice_get_past xs place past)))
+none_past_end xs place r e = rw e (elim (slice_get_cases xs place).1 [
+  | inl here ↦ rw here.2 (λ no. cc, λ past. absurd (omega arith))
+  | inr end ↦ rw end.1 (λ _. end.0, λ _. refl)
+])
 
 module _ {T : Type 0} where
   -- the part of the buffer that the code reads for a row is that row of the table
@@ -65,8 +63,7 @@ module _ {T : Type 0} where
       let g = p.geometry in
       let high : 0 < g.height = omega arith in
       let at : place_of g x y ≡ row_start g y + x = omega (arith, place_of_row g y high) in
-      let row = ap (option_and_then (λ (r : List T). slice_get r x)) (shown_row p y hy) in
-      ap (slice_get p.buffer) at ∙ sym (slice_get-drop (row_start g y) p.buffer x) ∙ sym (slice_get-take g.width (drop (row_start g y) p.buffer) x hx) ∙ sym row
+      rw (at, shown_row p y hy, slice_get-take g.width (drop (row_start g y) p.buffer) x hx) (sym (slice_get-drop (row_start g y) p.buffer x))
 
   -- every row of the table is as wide as the plane
   pub rows_are_wide : (p : Raster T) → length p.buffer ≡ alloc_size_of p.geometry → All (λ row. length row ≡ p.geometry.width) (table_of p)
@@ -79,11 +76,10 @@ module _ {T : Type 0} where
   -- past the width of its rows, and below them, a table has no pixel
   pub no_pixel_beside : (rows : List (List T)) (width x y : ℕ) → All (λ row. length row ≡ width) rows → width ≤ x → pixel_at rows x y ≡ None
   no_pixel_beside rows width x y wide h =
-      let find : Option (List T) → Option T = option_and_then (λ (r : List T). slice_get r x) in
       elim (slice_get_cases rows y).1 [
-        | inl row ↦ ap find row.2 ∙ slice_get_past row.0 x (omega (arith, wide y row.0 row.1, ap length row.3))
-        | inr none ↦ ap find none.1
+        | inl row ↦ rw row.2 (slice_get_past row.0 x (omega (arith, wide y row.0 row.1, ap length row.3)))
+        | inr none ↦ rw none.1 refl
       ]
 
   pub no_pixel_below : (rows : List (List T)) (x y : ℕ) → length rows ≤ y → pixel_at rows x y ≡ None
-  no_pixel_below rows x y h = ap (option_and_then (λ (r : List T). slice_get r x)) (slice_get_past rows y h)
+  no_pixel_below rows x y h = rw (slice_get_past rows y h) refl

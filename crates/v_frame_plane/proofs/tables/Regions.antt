@@ -23,13 +23,12 @@ record ShowsPart (part g : Geometry) (x y : ℕ) : Type 0 where
 row_start-part : (part g : Geometry) (x y k : ℕ) → ShowsPart part g x y → row_start part k ≡ row_start g (y + k) + x
 unfolding row_start
 row_start-part part g x y k is =
-    ap (λ s. part.pad_top * s + (k * s + part.pad_left)) is.stride ∙ ap (λ n. part.pad_top * stride_of g + (k * stride_of g + n)) is.left ∙
-    ap (λ n. n * stride_of g + (k * stride_of g + (g.pad_left + x))) is.top ∙ omega arith
+    rw (is.stride, is.left, is.top) (omega arith)
 
 module _ {T : Type 0} where
   -- a part of a part
   taken_inside : (xs : List T) (x n m : ℕ) → x + n ≤ m → take n (drop x (take m xs)) ≡ take n (drop x xs)
-  taken_inside xs x n m h = sym (drop-take x n (take m xs)) ∙ ap (drop x) (take-take (x + n) m xs h) ∙ drop-take x n xs
+  taken_inside xs x n m h = rw (← drop-take x n (take m xs), take-take (x + n) m xs h) (drop-take x n xs)
 
   shows_part : (part g : Geometry) (x y : ℕ) (buffer : List T) → ShowsPart part g x y
       → table_of (raster part buffer) ≡ rectangle x y part.width part.height (table_of (raster g buffer))
@@ -46,12 +45,10 @@ module _ {T : Type 0} where
       same_by_slice_get (table_of small) (map cut rows) (length-shown small ∙ sym (length-map rows cut ∙ high)) (λ k h.
       let low : k < part.height = omega (arith, h, length-shown small) in
       let from = row_start g (y + k) in
-      let row : slice_get rows k ≡ Some (take g.width (drop from buffer)) =
-      slice_get-take part.height (drop y (table_of large)) k low ∙ slice_get-drop y (table_of large) k ∙
-      shown_row large (y + k) (omega (arith, low, is.down)) in
-      shown_row small k low ∙ ap (λ n. Some (take part.width (drop n buffer))) (row_start-part part g x y k is) ∙
-      ap (λ zs. Some (take part.width zs)) (sym (drop-drop x from buffer)) ∙
-      ap Some (sym (taken_inside (drop from buffer) x part.width g.width is.across)) ∙ sym (slice_get-map cut rows k _ row))
+      let row : slice_get rows k ≡ Some (take g.width (drop from buffer)) = rw (slice_get-take part.height (drop y (table_of large)) k low,
+      slice_get-drop y (table_of large) k) (shown_row large (y + k) (omega (arith, low, is.down))) in
+      rw (shown_row small k low, row_start-part part g x y k is, slice_get-map cut rows k _ row, taken_inside (drop from buffer) x part.width g.width is.across,
+      drop-drop x from buffer) refl)
 
   -- a region shows the rectangle
   pub region_shows : (p : Raster T) (x y width height : ℕ) → IsInside p.geometry x y width height

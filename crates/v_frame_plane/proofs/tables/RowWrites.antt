@@ -35,8 +35,7 @@ module _ {T : Type 0} where
       let end = start + width in
       let between : drop end (take end xs) ≡ [] = drop_all end (take end xs) (omega (arith, length-take-le end xs inside)) in
       let behind : drop (end + (length xs - end)) xs ≡ [] = drop_all (end + (length xs - end)) xs (omega (arith, inside)) in
-      ap (λ r. take start xs ++ (ys ++ (r ++ (zs ++ drop (end + (length xs - end)) xs)))) between ∙ ap (λ r. take start xs ++ (ys ++ (zs ++ r))) behind ∙
-      ap (λ r. take start xs ++ (ys ++ r)) (append-nil zs)
+      rw (between, behind) (ap (λ r. take start xs ++ (ys ++ r)) (append-nil zs))
 
   module _ (p : Raster T) (whole : length p.buffer ≡ alloc_size_of p.geometry) where
     -- the part that is lent is the row of the table
@@ -45,7 +44,7 @@ module _ {T : Type 0} where
     row_at y start width lent high at wide is =
         let g = p.geometry in
         let place : start ≡ row_start g y = at ∙ place_of_row g y (omega (arith, high)) in
-        shown_row p y high ∙ sym (ap Some (is ∙ ap (λ n. take n (drop start p.buffer)) wide ∙ ap (λ k. take g.width (drop k p.buffer)) place))
+        rw (is, wide, place) (shown_row p y high)
 
     pub row_wide : (y : ℕ) (lent : List T) → slice_get (table_of p) y ≡ Some lent → length lent ≡ p.geometry.width
     row_wide y lent is = sym (ap length (get_or_from_slice_get (table_of p) y lent lent is)) ∙
@@ -57,17 +56,14 @@ module _ {T : Type 0} where
         let g = p.geometry in
         let wide : length row ≡ g.width = same ∙ row_wide y old is in
         let within : row_start g y + g.width ≤ length p.buffer = omega (arith, whole, row_within g y high) in
-        let left : with_part p.buffer (place_of g 0 y) row ≡ overwritten p.buffer (row_start g y) row =
-        ap (λ k. with_part p.buffer k row) (place_of_row g y (omega (arith, high))) ∙
-        with_part-overwritten p.buffer row (row_start g y) (omega (arith, wide, within)) in
-        let shown = ap (λ b. table_of (raster g b)) left ∙ shown_overwritten g p.buffer row y high wide within in
-        record {
+        let shown = shown_overwritten g p.buffer row y high wide within in
+        rw (place_of_row g y (omega arith), with_part-overwritten p.buffer row (row_start g y) (omega arith)) (record {
           geometry = refl;
-          border = ap (λ b. border_of (raster g b)) left ∙ border_overwritten g p.buffer row y high wide within;
+          border = border_overwritten g p.buffer row y high wide within;
           table = shown;
-          written = ap (λ t. slice_get t y) shown ∙ set_is_read (table_of p) y row (omega (arith, high, length-shown p));
-          others = λ k from_y. ap (λ t. slice_get t k) shown ∙ others_are_read (table_of p) y k row from_y;
-        }
+          written = rw shown (set_is_read (table_of p) y row (omega (arith, high, length-shown p)));
+          others = λ k from_y. rw shown (others_are_read (table_of p) y k row from_y);
+        })
 
     -- and so does one in front of the rest of the buffer
     pub writes_each_front : (y : ℕ) (old rest : List T) → y < p.geometry.height → slice_get (table_of p) y ≡ Some old →

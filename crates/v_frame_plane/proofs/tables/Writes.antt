@@ -12,11 +12,10 @@ use Rattle.v_frame_plane.proofs.tables.Places.{none_past_end}
 
 module _ {T : Type 0} (p : Raster T) (x y : ℕ) (pixel : T) (wide : x < p.geometry.width) (high : y < p.geometry.height) (whole : length p.buffer ≡
     alloc_size_of p.geometry) where
-  row : List T
+  abbrev row : List T
   row = take p.geometry.width (drop (row_start p.geometry y) p.buffer)
 
   row_length : length row ≡ p.geometry.width
-  unfolding row
   row_length = length-take-le p.geometry.width (drop (row_start p.geometry y) p.buffer) (omega (
     arith,
     length-drop (row_start p.geometry y) p.buffer,
@@ -28,28 +27,20 @@ module _ {T : Type 0} (p : Raster T) (x y : ℕ) (pixel : T) (wide : x < p.geome
 
   -- setting the entry is writing the row with the pixel set
   entry_is_in_row : slice_set p.buffer (place_of p.geometry x y) pixel ≡ overwritten p.buffer (row_start p.geometry y) (slice_set row x pixel)
-  unfolding row
   entry_is_in_row =
       let g = p.geometry in
       let at : place_of g x y ≡ row_start g y + x = omega (arith, place_of_row g y (omega arith)) in
-      ap (λ k. slice_set p.buffer k pixel) at ∙ set_in_part p.buffer (row_start g y) g.width x pixel wide (omega (arith, row_within g y high)) ∙
-      ap (λ k. take (row_start g y) p.buffer ++ (slice_set row x pixel ++ drop k (drop (row_start g y) p.buffer))) (sym new_length)
-
-  shown_set : table_of (raster p.geometry (slice_set p.buffer (place_of p.geometry x y) pixel)) ≡ with_pixel (table_of p) x y pixel
-  unfolding row
-  shown_set =
-      ap (λ b. table_of (raster p.geometry b)) entry_is_in_row ∙ shown_overwritten p.geometry p.buffer (slice_set row x pixel) y high new_length (omega (
-        arith,
-        row_within p.geometry y high,
-      )) ∙ ap (with_item_by (λ r. slice_set r x pixel) (table_of p) y) (sym (shown_row p y high))
-
-  border_set : border_of (raster p.geometry (slice_set p.buffer (place_of p.geometry x y) pixel)) ≡ border_of p
-  border_set =
-      ap (λ b. border_of (raster p.geometry b)) entry_is_in_row ∙
-      border_overwritten p.geometry p.buffer (slice_set row x pixel) y high new_length (omega (arith, row_within p.geometry y high))
+      rw (at, new_length) (set_in_part p.buffer (row_start g y) g.width x pixel wide (omega (arith, row_within g y high)))
 
   pub writes_pixel : WritesPixel p x y (with_entry p x y pixel) pixel
-  writes_pixel = record { geometry = refl; border = border_set; table = shown_set }
+  writes_pixel =
+      let g = p.geometry in
+      let inside : row_start g y + g.width ≤ length p.buffer = omega (arith, row_within g y high) in
+      record {
+        geometry = refl;
+        border = rw entry_is_in_row (border_overwritten g p.buffer (slice_set row x pixel) y high new_length inside);
+        table = rw (entry_is_in_row, shown_overwritten g p.buffer (slice_set row x pixel) y high new_length inside, shown_row p y high) refl;
+      }
 
 pub writes_each_pixel : {T : Type 0} (p : Raster T) (x y : ℕ) → x < p.geometry.width → y < p.geometry.height → length p.buffer ≡ alloc_size_of p.geometry →
     WritesEachPixel p x y
