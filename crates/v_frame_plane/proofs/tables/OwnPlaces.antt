@@ -1,11 +1,11 @@
 -- Each visible pixel has a place of its own, in a visible piece.
-use Rattle.std.proofs.Common.{ℕ, ◌≡◌, ◌+◌, ◌<◌, ◌≤◌, ◌∷◌, ◌++◌, inl, inr, sym, ◌∙◌, ap, arith}
+use Rattle.std.proofs.Common.{ℕ, ◌≡◌, ◌+◌, ◌*◌, ◌<◌, ◌≤◌, ◌∷◌, ◌++◌, inl, inr, sym, ◌∙◌, ap, arith}
 use Rattle.std.proofs.lemmas.Bool.{cases_lt}
 use Rattle.std.proofs.Math.Nat.{mul-le-mul_right}
 use Rattle.v_frame_layout.specs.Geometry.{Geometry, stride_of, mark_at, visible_piece, place_of}
 use Rattle.v_frame_plane.specs.Laws.{HasPlaces}
-use Rattle.v_frame_layout.proofs.Plans.{total, before_row, after_row, plan_at_row, total-before_row, row_start, place_of_row}
-use Rattle.v_frame_plane.proofs.tables.Marks.{mark_at-here, mark_at-append}
+use Rattle.v_frame_layout.proofs.Plans.{row_start, place_of_row}
+use Rattle.v_frame_plane.proofs.tables.Marks.{has_marks}
 use Rattle.v_frame_plane.proofs.tables.Places.{place_within}
 
 -- two rows that are apart have no entry in common
@@ -26,12 +26,12 @@ same_place g x y x' y' hx hx' e =
     ]
 
 pub has_places : (g : Geometry) → HasPlaces g
+unfolding row_start
 has_places g = record {
   within = place_within g;
   visible = λ x y hx hy.
-      let at : place_of g x y ≡ total (before_row g y) + x = omega (arith, place_of_row g y (omega arith), total-before_row g y) in
-      ap (λ plan. mark_at plan (place_of g x y)) (plan_at_row g y hy) ∙ ap (mark_at (before_row g y ++ visible_piece g.width ∷ after_row g y)) at ∙
-      mark_at-append (before_row g y) (visible_piece g.width ∷ after_row g y) x ∙ mark_at-here (visible_piece g.width) (after_row g y) x hx;
+      let at : place_of g x y ≡ (g.pad_top + y) * stride_of g + (g.pad_left + x) = omega (arith, place_of_row g y (omega arith)) in
+      rw at ((has_marks g).visible x y hx hy);
   apart = λ x y x' y' hx hy hx' hy' e.
       let high : 0 < g.height = omega arith in
       same_place g x y x' y' hx hx' (omega (arith, place_of_row g y high, place_of_row g y' high));
