@@ -17,7 +17,7 @@ use Rattle.v_frame_plane.specs.declared.rows_mut.RowsMut.{RowsMut}
 use Rattle.v_frame_plane.proofs.lent.Loans.{at_one}
 use Rattle.v_frame_plane.proofs.lent.PixelParts.{PartsEnd, of_parts}
 use Rattle.v_frame_plane.proofs.lent.Sides.{Side, at_front, at_back, near, far, Countable, walk_by, RowSteps, LendsRow}
-use Rattle.v_frame_plane.proofs.iterators.BegunRows.{row_begun, last_row_begun, last_row_left}
+use Rattle.v_frame_plane.proofs.iterators.BegunRows.{IsDrawn, first_drawn, last_drawn, drawn_countable, none_countable, last_row_left}
 
 module _ {T : Type 0} (old : PixelsMut T) (rows : RowsMut T) where
   abbrev was : List (List T)
@@ -27,9 +27,13 @@ module _ {T : Type 0} (old : PixelsMut T) (rows : RowsMut T) where
   left = rows_left rows
 
   module _ (row : MutBor (List T)) where
+    drawn : (s : Side) → RowSteps s old.rows row.now rows → IsDrawn was row.now left
+    drawn at_front is = first_drawn is
+    drawn at_back is = last_drawn is
+
     pub begun_countable : (s : Side) → RowSteps s old.rows row.now rows → Countable s row.now left (far s old).now
-    begun_countable at_front = row_begun old.front.now old.back.now row.now was left old.countable
-    begun_countable at_back = last_row_begun old.front.now old.back.now row.now was left old.countable
+    begun_countable at_front is = drawn_countable old.countable (drawn at_front is) row.now old.back.now (omega arith)
+    begun_countable at_back is = drawn_countable old.countable (drawn at_back is) old.front.now row.now (omega arith)
 
     abbrev pub begun : (s : Side) → RowSteps s old.rows row.now rows → PixelsMut T
     begun s is = walk_by s row rows (far s old) (begun_countable s is)
@@ -39,19 +43,14 @@ module _ {T : Type 0} (old : PixelsMut T) (rows : RowsMut T) where
     begun_left at_back is none = last_row_left old.front.now old.back.now row.now was left none is
 
     pub begun_full : (s : Side) (is : RowSteps s old.rows row.now rows) → length (near s (begun s is)).now ≡ 0 → pixels_left (begun s is) ≡ []
-    begun_full at_front is none = let full : 0 < length row.now = All-head (λ row. 0 < length row) row.now left
-        (subst (λ rs. PixelsAreCountable old.front.now rs old.back.now) is old.countable).full in absurd (omega (arith, full, none))
-    begun_full at_back is none = let full : 0 < length row.now = (All-pop (λ row. 0 < length row) was left (Some row.now) is old.countable.full).1 in
-        absurd (omega (arith, full, none))
+    begun_full at_front is none = absurd (omega (arith, ((drawn at_front is).full old.countable.full).0, none))
+    begun_full at_back is none = absurd (omega (arith, ((drawn at_back is).full old.countable.full).0, none))
 
   -- e is what `take` leaves
   module _ (e : MutBor (List T)) (empty : e.now ≡ []) (had : was ≡ []) (none : left ≡ []) where
-    few : (front back : List T) → length front + length back < 2 ^ 63 → PixelsAreCountable front left back
-    few front back bound = record { full = rw none (All-nil (λ row. 0 < length row)); bound = omega (arith, bound, ap (λ rs. length (row_major rs)) none) }
-
     pub taken_countable : (s : Side) → Countable s (far s old).now left e.now
-    taken_countable at_front = few old.back.now e.now (omega (arith, old.countable.bound, ap length empty))
-    taken_countable at_back = few e.now old.front.now (omega (arith, old.countable.bound, ap length empty))
+    taken_countable at_front = none_countable old.countable none old.back.now e.now (omega (arith, ap length empty))
+    taken_countable at_back = none_countable old.countable none e.now old.front.now (omega (arith, ap length empty))
 
     abbrev pub taken : Side → PixelsMut T
     taken s = walk_by s (far s old) rows e (taken_countable s)

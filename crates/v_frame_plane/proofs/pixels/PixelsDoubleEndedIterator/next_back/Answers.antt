@@ -1,46 +1,34 @@
 -- A row is begun: the last one, or the one that was begun from the front.
-use Rattle.std.proofs.Common.{List, [], ◌∷◌, Bor, length, ◌∙◌, ap, arith, append_assoc, length-append}
-use Rattle.v_frame_plane.proofs.iterators.BegunRows.{last_begun, front_begun, last_of_rows, last_of_front, last_row_gone, rows_gone, last_row_is_full, none_of_front}
+use Rattle.std.proofs.Common.{List, [], ◌∷◌, Bor, length, refl, ◌∙◌, ap, arith, append_assoc, append-nil, length-append}
+use Rattle.std.proofs.lemmas.List.{nil_from_length}
+use Rattle.v_frame_plane.proofs.iterators.BegunRows.{last_drawn, drawn_countable, none_countable, row_major-append}
 use Rattle.v_frame_plane.proofs.iterators.WalkRuns.{last_taken}
 use Rattle.v_frame_plane.proofs.pixels.PixelsDoubleEndedIterator.next_back.Goals as goal
 use Rattle.v_frame_plane.proofs.pixels.PixelsDoubleEndedIterator.next_back.Goals.{in-Some-next_back, in-None}
 
 pub invariant_of-self-2 : goal.invariant_of-self-2
 invariant_of-self-2 g c =
-    let a = c.self.inside in
-    let row = c.match-next_back.row.now in
-    let others = c.in_ok-pixel.rest.now in
-    let pixel = c.in_ok-pixel.pixel.now in
-    let rest = c.next_back.new.self in
-    let cut = c.in_ok-pixel.ensures.cases.0 in
+    let cut = ap length c.in_ok-pixel.ensures.cases.0 ∙ length-append c.in_ok-pixel.rest.now (c.in_ok-pixel.pixel.now ∷ []) in
     elim c.match-next_back.branch [
-      | in-Some-next_back w ↦ rw (w.self-inside-is) (last_begun a.front.now a.back.now row others a.rows rest pixel c.self.invariant
-          (rw (w.row-is) w.in-Some-next_back.ensures.steps) cut)
+      | in-Some-next_back w ↦
+          let row = ap (λ (r : Bor (List g.row.T.Denot)). length r.now) w.row-is in
+          rw (w.self-inside-is) (drawn_countable c.self.invariant (last_drawn w.in-Some-next_back.ensures.steps) _ _ (omega (arith, cut, row)))
       | in-None w ↦
-          let taken = ap (λ (r : Bor (List g.row.T.Denot)). r.now) (w.row-is ∙ w.take-row.ensures.value) in
-          rw (w.self-inside-is) (front_begun a.front.now a.back.now row others w.take-row.new.dest.now a.rows rest pixel c.self.invariant
-          w.in-None.ensures.steps.1 w.take-row.ensures.after taken cut)
+          let row = ap (λ (r : Bor (List g.row.T.Denot)). length r.now) (w.row-is ∙ w.take-row.ensures.value) in
+          rw (w.self-inside-is) (none_countable c.self.invariant w.in-None.ensures.steps.1 _ _ (omega (arith, cut, row, ap length w.take-row.ensures.after)))
     ]
 
 pub returns-clause-steps : goal.returns-clause-steps
 returns-clause-steps g c =
     let a = c.self.inside in
-    let row = c.match-next_back.row.now in
-    let others = c.in_ok-pixel.rest.now in
-    let pixel = c.in_ok-pixel.pixel.now in
-    let rest = c.next_back.new.self in
     let cut = c.in_ok-pixel.ensures.cases.0 in
-    let none = c.in_default.ensures.cases in
-    elim c.match-next_back.branch [
-      | in-Some-next_back w ↦ rw (
-        w.self-inside-is,
-        ← c.self.view_is,
-      ) (last_of_rows a.front.now a.back.now row others a.rows rest pixel none (rw (w.row-is) w.in-Some-next_back.ensures.steps) cut)
+    rw (← c.self.view_is, nil_from_length a.back.now c.in_default.ensures.cases) (elim c.match-next_back.branch [
+      | in-Some-next_back w ↦
+          rw (w.self-inside-is, w.in-Some-next_back.ensures.steps, ← w.row-is, cut) (simp (row_major-append, append_assoc, append-nil))
       | in-None w ↦
-          let taken = ap (λ (r : Bor (List g.row.T.Denot)). r.now) (w.row-is ∙ w.take-row.ensures.value) in
-          rw (w.self-inside-is, ← c.self.view_is) (last_of_front a.front.now a.back.now row others w.take-row.new.dest.now a.rows rest pixel none
-          w.in-None.ensures.steps.0 w.in-None.ensures.steps.1 w.take-row.ensures.after taken cut)
-    ]
+          let row = ap (λ (r : Bor (List g.row.T.Denot)). r.now) (w.row-is ∙ w.take-row.ensures.value) in
+          rw (w.self-inside-is, w.in-None.ensures.steps.0, w.in-None.ensures.steps.1, w.take-row.ensures.after, ← row, cut) (simp append-nil)
+    ])
 
 pub returns-clause-goes : goal.returns-clause-goes
 returns-clause-goes g c = last_taken (λ pixel. pixel) _ _ _ _ tt (returns-clause-steps g c)
@@ -62,26 +50,32 @@ invariant_of-self g c =
 -- no pixel is left
 pub invariant_of-self-in_err-pixel : goal.invariant_of-self-in_err-pixel
 invariant_of-self-in_err-pixel g c =
-    let a = c.self.inside in
-    let rest = c.next_back.new.self in
     elim c.match-next_back.branch [
-      | in-Some-next_back w ↦ rw (w.self-inside-is) (last_row_gone a.front.now a.back.now _ a.rows rest c.self.invariant w.in-Some-next_back.ensures.steps)
-      | in-None w ↦ rw (w.self-inside-is) (rows_gone a.front.now a.back.now w.take-row.new.dest.now a.back.now a.rows rest c.self.invariant
-          (omega (arith, ap length w.take-row.ensures.after)) (omega arith) w.in-None.ensures.steps.1)
+      | in-Some-next_back w ↦ rw (w.self-inside-is) (drawn_countable c.self.invariant (last_drawn w.in-Some-next_back.ensures.steps) _ _ (omega arith))
+      | in-None w ↦ rw (w.self-inside-is) (none_countable c.self.invariant w.in-None.ensures.steps.1 _ _ (omega (arith, ap length w.take-row.ensures.after)))
     ]
 
 pub returns-in_err-pixel-clause-steps : goal.returns-in_err-pixel-clause-steps
 returns-in_err-pixel-clause-steps g c =
     let a = c.self.inside in
-    let row = c.match-next_back.row.now in
-    let rest = c.next_back.new.self in
     let empty = c.in_err-pixel.ensures.cases in
     elim c.match-next_back.branch [
-      | in-Some-next_back w ↦ last_row_is_full row a.rows rest c.self.invariant.full (rw (w.row-is) w.in-Some-next_back.ensures.steps) empty
+      | in-Some-next_back w ↦
+          let row = ap (λ (r : Bor (List g.row.T.Denot)). length r.now) w.row-is in
+          absurd (omega (arith, ((last_drawn w.in-Some-next_back.ensures.steps).full c.self.invariant.full).0, empty, row))
       | in-None w ↦
-          let taken = ap (λ (r : Bor (List g.row.T.Denot)). r.now) (w.row-is ∙ w.take-row.ensures.value) in
-          rw (c.from_residual.ensures, w.self-inside-is, ← c.self.view_is) (none_of_front a.front.now a.back.now row w.take-row.new.dest.now a.rows rest
-          c.in_default.ensures.cases w.in-None.ensures.steps.0 w.in-None.ensures.steps.1 w.take-row.ensures.after taken empty)
+          let row = ap (λ (r : Bor (List g.row.T.Denot)). r.now) (w.row-is ∙ w.take-row.ensures.value) in
+          rw (
+            c.from_residual.ensures,
+            w.self-inside-is,
+            ← c.self.view_is,
+            nil_from_length a.back.now c.in_default.ensures.cases,
+            w.in-None.ensures.steps.0,
+            w.in-None.ensures.steps.1,
+            w.take-row.ensures.after,
+            ← row,
+            nil_from_length c.match-next_back.row.now empty,
+          ) (refl, refl)
     ]
 
 pub returns-in_err-pixel-clause-goes : goal.returns-in_err-pixel-clause-goes
