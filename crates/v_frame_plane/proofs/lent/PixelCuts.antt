@@ -4,7 +4,7 @@
 use Rattle.v_frame_plane.proofs.lent.Steps.{◌≡◌, ◌^◌, ◌<◌, List, [], ◌∷◌, ◌++◌, length, MutBor, refl, sym, ap, ◌∙◌, arith, Lft, Share, flft, SProp}
 use Rattle.v_frame_plane.proofs.lent.Steps.{ent, sep, wand, id⊢, ◌⊑◌, fact, Array, shows, param, RattleType, MutRef, MutSlice, slice_val, heard}
 use Rattle.v_frame_plane.proofs.lent.Steps.{only, peeks, triple_of, Contract, named, Val, of_list, vcons, vnil, vptr, vstruct, Ura, Item}
-use Rattle.v_frame_plane.proofs.lent.Steps.{Seq, ‵, raw, ◌⊛◌, ◌$◌, ◌∵◌, !, qed, assume, done, drop, each, feq_l, fjoin, fpick, fsplit}
+use Rattle.v_frame_plane.proofs.lent.Steps.{Seq, ‵, raw, ◌⊛◌, ◌$◌, ◌∵◌, !, qed, assume, done, drop, each, feq_l, fjoin3, fpick, fsplit}
 use Rattle.v_frame_plane.proofs.lent.Steps.{fsplit3, move, rewrite, split, use1, use3, Logic, sem, append_assoc, both_by}
 use Rattle.v_frame_plane.proofs.lent.Steps.{follows_both, length-append, GName, closing, Triple, Callee, Place, Opd as Operand, call, seq}
 use Rattle.v_frame_plane.proofs.lent.Steps.{Calls, Env, Loops, FmC, Post, lands, regoal, runs, Opds}
@@ -18,7 +18,7 @@ use Rattle.v_frame_plane.specs.declared.pixels_mut.PixelsMut.{PixelsMut}
 use Rattle.v_frame_plane.proofs.lent.CallSteps.{asks_both, calls}
 use Rattle.v_frame_plane.proofs.lent.Loans.{at_one}
 use Rattle.v_frame_plane.proofs.lent.PixelSides.{cut_clauses}
-use Rattle.v_frame_plane.proofs.lent.PixelParts.{of_parts}
+use Rattle.v_frame_plane.proofs.lent.PixelParts.{of_parts, parts_of}
 use Rattle.v_frame_plane.proofs.lent.Sides.{Side, at_front, at_back, near, far, put, Countable, walk_by, Steps, Takes}
 
 -- where the pixel of a slice is that was cut into this one and the rest
@@ -85,41 +85,35 @@ module _ {M : Type 1} {𝓤 : Ura M} (𝓛 : Logic 𝓤) (T : RattleType) where
         ent 𝓤 (sem 𝓛 (follows_both Whole T Whole (near s old).ghost_name pixel.ghost_name rest.ghost_name (put s)))
         (sem 𝓛 (Takes s T old pixel (walk_by s rest old.rows (far s old) countable)))
     takes_near at_front is countable =
-        let new : PixelsMut T.Denot = record { front = rest; rows = old.rows; back = old.back; countable = countable } in
+        let new = walk_by at_front rest old.rows old.back countable in
         let Both : Held → SProp 𝓤 = λ held. sep 𝓤 (One pixel.ghost_name held.0) (sem 𝓛 (SecondPixels T new held.1)) in
         qed 𝓛 (‵ (follows_both Whole T Whole old.front.ghost_name pixel.ghost_name rest.ghost_name ◌∷◌) ∷ []) ∵
-        each ! (λ (held : Held). wand 𝓤 (Both held) (sem 𝓛 (SecondPixels T old (held.0 ∷
-        held.1)))) (λ held. assume ! (‵ (PixelEndsAs T pixel.ghost_name held.0) ⊛ ‵ (SecondPixels T new held.1)) $ split ! $
+        each ! (λ held. wand 𝓤 (Both held) (sem 𝓛 (SecondPixels T old (held.0 ∷ held.1)))) (λ held.
+        assume ! (‵ (PixelEndsAs T pixel.ghost_name held.0) ⊛ ‵ (SecondPixels T new held.1)) $ split ! $
         move ! (1 ∷ []) $ fpick ! (λ ps. fpick ! (λ are. fsplit3 ! $
         -- [the front; the rows; the back; the pixel; how the front was cut]
-        move ! (4 ∷ 3 ∷ 0 ∷ []) $ use3 𝓛 (‵ (EndsAs T old.front.ghost_name (held.0 ∷
-        ps.front))) (ends_put ◌∷◌ old.front.ghost_name pixel.ghost_name rest.ghost_name held.0 ps.front) $
-        move ! (1 ∷ 2 ∷ 0 ∷ []) $ fjoin ! $ move ! (1 ∷ 0 ∷ []) $ fjoin ! $
-        let all : Parts T.Denot = record { front = held.0 ∷ ps.front; rows = ps.rows; back = ps.back } in
-        use1 𝓛 (‵ (SecondPixels T old (held.0 ∷ held.1))) (of_parts 𝓛 T old (held.0 ∷ held.1) all
+        move ! (4 ∷ 3 ∷ 0 ∷ []) $ use3 𝓛 (‵ (EndsAs T old.front.ghost_name (held.0 ∷ ps.front)))
+        (ends_put ◌∷◌ old.front.ghost_name pixel.ghost_name rest.ghost_name held.0 ps.front) $
+        move ! (0 ∷ 1 ∷ 2 ∷ []) $ fjoin3 ! $
+        use1 𝓛 (‵ (SecondPixels T old (held.0 ∷ held.1))) (of_parts 𝓛 T old (held.0 ∷ held.1) (parts_of (held.0 ∷ ps.front) ps.rows ps.back)
         (record { joined = ap (λ xs. held.0 ∷ xs) are.joined; front = omega (arith, are.front, ap length is); rows = are.rows; back = are.back })) $ done !)))
     takes_near at_back is countable =
-        let new : PixelsMut T.Denot = record { front = old.front; rows = old.rows; back = rest; countable = countable } in
+        let new = walk_by at_back rest old.rows old.front countable in
         let Both : Held → SProp 𝓤 = λ held. sep 𝓤 (One pixel.ghost_name held.0) (sem 𝓛 (SecondPixels T new held.1)) in
         qed 𝓛 (‵ (follows_both Whole T Whole old.back.ghost_name pixel.ghost_name rest.ghost_name (put at_back)) ∷ []) ∵
-        each ! (λ (held : Held). wand 𝓤 (Both held) (sem 𝓛 (SecondPixels T old (held.1 ++ held.0 ∷
-        [])))) (λ held. assume ! (‵ (PixelEndsAs T pixel.ghost_name held.0) ⊛ ‵ (SecondPixels T new held.1)) $ split ! $
+        each ! (λ held. wand 𝓤 (Both held) (sem 𝓛 (SecondPixels T old (held.1 ++ held.0 ∷ [])))) (λ held.
+        assume ! (‵ (PixelEndsAs T pixel.ghost_name held.0) ⊛ ‵ (SecondPixels T new held.1)) $ split ! $
         move ! (1 ∷ []) $ fpick ! (λ ps. fpick ! (λ are. fsplit3 ! $
         -- [the front; the rows; the back; the pixel; how the back was cut]
-        move ! (4 ∷ 3 ∷ 2 ∷ []) $ use3 𝓛 (‵ (EndsAs T old.back.ghost_name (ps.back ++ held.0 ∷
-        []))) (ends_put (put at_back) old.back.ghost_name pixel.ghost_name rest.ghost_name held.0 ps.back) $
-        move ! (2 ∷ 0 ∷ 1 ∷ []) $ fjoin ! $ move ! (1 ∷ 0 ∷ []) $ fjoin ! $
-        let all : Parts T.Denot = record { front = ps.front; rows = ps.rows; back = ps.back ++ held.0 ∷ [] } in
-        let joined : held.1 ++ held.0 ∷ [] ≡ ps.front ++ (row_major ps.rows ++ (ps.back ++ held.0 ∷ [])) = ap (λ xs. xs ++ held.0 ∷ []) are.joined ∙
-        append_assoc ps.front (row_major ps.rows ++ ps.back) (held.0 ∷ []) ∙ ap (λ xs. ps.front ++
-        xs) (append_assoc (row_major ps.rows) ps.back (held.0 ∷ [])) in
-        use1 𝓛 (‵ (SecondPixels T old (held.1 ++ held.0 ∷ []))) (of_parts 𝓛 T old (held.1 ++ held.0 ∷ []) all
+        move ! (4 ∷ 3 ∷ 2 ∷ []) $ use3 𝓛 (‵ (EndsAs T old.back.ghost_name (ps.back ++ held.0 ∷ [])))
+        (ends_put (put at_back) old.back.ghost_name pixel.ghost_name rest.ghost_name held.0 ps.back) $
+        move ! (1 ∷ 2 ∷ 0 ∷ []) $ fjoin3 ! $
+        use1 𝓛 (‵ (SecondPixels T old (held.1 ++ held.0 ∷ []))) (of_parts 𝓛 T old (held.1 ++ held.0 ∷ []) (parts_of ps.front ps.rows (ps.back ++ held.0 ∷ []))
         (record {
-          joined = joined;
+          joined = rw are.joined (simp append_assoc);
           front = are.front;
           rows = are.rows;
-          back = length-append ps.back (held.0 ∷ []) ∙
-              omega (arith, are.back, ap length is, length-append rest.now (pixel.now ∷ []));
+          back = rw (length-append ps.back (held.0 ∷ [])) (omega (arith, are.back, ap length is, length-append rest.now (pixel.now ∷ [])));
         })) $ done !)))
 
 module _ {X : Type 0} (walk : PixelsMut X) where
@@ -133,6 +127,4 @@ module _ {X : Type 0} (walk : PixelsMut X) where
   pub steps : (s : Side) (pixel : MutBor X) (rest : MutBor (List X)) → (near s walk).now ≡ put s pixel.now rest.now →
       (countable : Countable s rest.now (rows_left walk.rows) (far s walk).now) → Steps s walk pixel (walk_by s rest walk.rows (far s walk) countable)
   steps at_front pixel rest is countable = ap (λ xs. xs ++ (row_major (rows_left walk.rows) ++ walk.back.now)) is
-  steps at_back pixel rest is countable = let rows = row_major (rows_left walk.rows) in let last = pixel.now ∷ [] in
-      ap (λ xs. walk.front.now ++ (rows ++ xs)) is ∙ ap (λ xs. walk.front.now ++ xs) (sym (append_assoc rows rest.now last)) ∙
-      sym (append_assoc walk.front.now (rows ++ rest.now) last)
+  steps at_back pixel rest is countable = rw is (simp append_assoc)

@@ -15,7 +15,7 @@ use Rattle.v_frame_plane.specs.SecondRows.{EndsAs, SecondRows, KeepsRows, TakesF
 use Rattle.v_frame_plane.specs.declared.pixels_mut.PixelsMut.{PixelsMut}
 use Rattle.v_frame_plane.specs.declared.rows_mut.RowsMut.{RowsMut}
 use Rattle.v_frame_plane.proofs.lent.Loans.{at_one}
-use Rattle.v_frame_plane.proofs.lent.PixelParts.{PartsEnd, of_parts}
+use Rattle.v_frame_plane.proofs.lent.PixelParts.{PartsEnd, of_parts, parts_of}
 use Rattle.v_frame_plane.proofs.lent.Sides.{Side, at_front, at_back, near, far, Countable, walk_by, RowSteps, LendsRow}
 use Rattle.v_frame_plane.proofs.iterators.BegunRows.{IsDrawn, first_drawn, last_drawn, drawn_countable, none_countable, last_row_left}
 
@@ -64,34 +64,29 @@ module _ {T : Type 0} (old : PixelsMut T) (rows : RowsMut T) where
     taken_none at_back nil = rw (nil_from_length old.front.now nil, none, empty) refl
 
 module _ {M : Type 1} {𝓤 : Ura M} (𝓛 : Logic 𝓤) (T : RattleType) where
-  keeps_by : (old new : PixelsMut T.Denot) (given : Fml) (turn : Parts T.Denot → Parts T.Denot)
-      → ((second : List T.Denot) (parts : Parts T.Denot) → ArePartsOf new second parts →
-      ArePartsOf old second (turn parts) × (ent 𝓤 (sep 𝓤 (sem 𝓛 (PartsEnd T new parts)) (sem 𝓛 given)) (sem 𝓛 (PartsEnd T old (turn parts)))))
-      → ent 𝓤 (sem 𝓛 given) (sem 𝓛 (KeepsPixels T old new))
-  keeps_by old new given turn goes =
-      qed 𝓛 (‵ given ∷ []) ∵ each ! (λ (second :
-      List T.Denot). wand 𝓤 (sem 𝓛 (SecondPixels T new second)) (sem 𝓛 (SecondPixels T old second))) (λ second. assume ! (‵ (SecondPixels T new second)) $
-      fpick ! (λ parts. fpick ! (λ are. let to = goes second parts are in use2 𝓛 (‵ (PartsEnd T old (turn parts))) to.1 $
+  abbrev Ends : MutBor (List T.Denot) → List T.Denot → Fml
+  Ends x entries = EndsAs T x.ghost_name entries
+
+  -- nothing was left at this end, and `given` is what the draw of a row leaves
+  keeps_by : (s : Side) (old new : PixelsMut T.Denot) (given : Fml) (turn : Parts T.Denot → Parts T.Denot) → length (near s old).now ≡ 0
+      → ((second : List T.Denot) (parts : Parts T.Denot) → ArePartsOf new second parts → ArePartsOf old second (turn parts) ×
+      (ent 𝓤 (sep 𝓤 (sem 𝓛 given) (sep 𝓤 (sem 𝓛 (Ends (near s old) [])) (sem 𝓛 (PartsEnd T new parts)))) (sem 𝓛 (PartsEnd T old (turn parts)))))
+      → ent 𝓤 (sem 𝓛 (fsep (Ends (near s old) (near s old).now) given)) (sem 𝓛 (KeepsPixels T old new))
+  keeps_by s old new given turn none goes =
+      qed 𝓛 (‵ (fsep (Ends (near s old) (near s old).now) given) ∷ []) ∵ fsplit ! $
+      rewrite ! 0 (λ xs. ‵ (Ends (near s old) xs)) (nil_from_length (near s old).now none) refl $
+      each ! (λ (second : List T.Denot). wand 𝓤 (sem 𝓛 (SecondPixels T new second)) (sem 𝓛 (SecondPixels T old second))) (λ second.
+      assume ! (‵ (SecondPixels T new second)) $ fpick ! (λ parts. fpick ! (λ are. let to = goes second parts are in
+      -- [the parts; the end; what is given]
+      move ! (2 ∷ 1 ∷ 0 ∷ []) $ use3 𝓛 (‵ (PartsEnd T old (turn parts))) to.1 $
       use1 𝓛 (‵ (SecondPixels T old second)) (of_parts 𝓛 T old second (turn parts) to.0) $ done !)))
 
   module _ (old : PixelsMut T.Denot) (rows : RowsMut T.Denot) where
-    abbrev Ends : MutBor (List T.Denot) → List T.Denot → Fml
-    Ends x entries = EndsAs T x.ghost_name entries
-
     abbrev Left : List (List T.Denot)
     Left = rows_left rows
 
-    -- what two entries of an `all` over rows give
-    no_rows : (parts : List (List T.Denot)) → map length parts ≡ map length Left → Left ≡ [] → parts ≡ []
-    no_rows parts same none = nil_from_length parts (sym (length-map parts length) ∙ ap length same ∙ length-map Left length ∙ ap length none)
-
-    rows_kept : (ps : List (List T.Denot)) → ps ≡ [] →
-        ent 𝓤 (sep 𝓤 (sem 𝓛 (KeepsRows T old.rows rows)) (sem 𝓛 (SecondRows T rows ps))) (sem 𝓛 (SecondRows T old.rows []))
-    rows_kept ps none =
-        let Was : List (List T.Denot) → SProp 𝓤 = λ second. sem 𝓛 (SecondRows T old.rows second) in let Is : List (List T.Denot) → SProp 𝓤 =
-        λ second. sem 𝓛 (SecondRows T rows second) in
-        qed 𝓛 (‵ (KeepsRows T old.rows rows) ∷ ‵ (SecondRows T rows ps) ∷ []) ∵ use2 𝓛 (‵ (SecondRows T old.rows ps)) (at_one 𝓛 Is Was ps) $
-        rewrite ! 0 (λ second. ‵ (SecondRows T old.rows second)) none refl $ done !
+    same_count : (parts : List (List T.Denot)) → map length parts ≡ map length Left → length parts ≡ length Left
+    same_count parts same = sym (length-map parts length) ∙ ap length same ∙ length-map Left length
 
     -- the row that was at its end, and what the draw of a row leaves
     abbrev Drawn : Side → Option (MutBor (List T.Denot)) → Fml
@@ -105,92 +100,77 @@ module _ {M : Type 1} {𝓤 : Ura M} (𝓛 : Logic 𝓤) (T : RattleType) where
           ent 𝓤 (sem 𝓛 (Drawn s (Some row))) (sem 𝓛 (KeepsPixels T old (begun old rows row s is)))
       keeps_begun at_front is none =
           let new = begun old rows row at_front is in
-          keeps_by old new (fsep (Ends old.front old.front.now) (TakesFirstRow T old.rows rows row)) (λ parts. record {
-            front = [];
-            rows =
-                parts.front ∷ parts.rows;
-            back = parts.back;
-          }) (λ second parts are. let held : List T.Denot × List (List T.Denot) = (parts.front, parts.rows) in (
+          keeps_by at_front old new (TakesFirstRow T old.rows rows row) (λ parts. parts_of [] (parts.front ∷ parts.rows) parts.back) none (λ second parts are. (
             record {
               joined = are.joined ∙ sym (append_assoc parts.front (row_major parts.rows) parts.back);
               front = sym none;
-              rows = ap (λ n. n ∷ map length parts.rows) are.front ∙ ap (λ ns. length row.now ∷ ns) are.rows ∙ ap (λ rs. map length rs) (sym is);
+              rows = rw (is, are.front, are.rows) refl;
               back = are.back;
             },
-            qed 𝓛 (‵ (PartsEnd T new parts) ∷ ‵ (fsep (Ends old.front old.front.now) (TakesFirstRow T old.rows rows row)) ∷ []) ∵ fsplit3 ! $ move ! (3 ∷ []) $
-                fsplit ! $
-                rewrite ! 0 (λ xs. ‵ (Ends old.front xs)) (nil_from_length old.front.now none) refl $
-                -- [the old front; what a call leaves; the row; the rows; the back]
-                move ! (1 ∷ 2 ∷ 3 ∷ []) $ use3 𝓛 (‵ (SecondRows T old.rows (parts.front ∷
-                parts.rows))) (at_one 𝓛 Both (λ held. sem 𝓛 (SecondRows T old.rows (held.0 ∷ held.1))) held) $
-                move ! (1 ∷ 0 ∷ []) $ fjoin3 ! $ done !,
+            qed 𝓛 (‵ (TakesFirstRow T old.rows rows row) ∷ ‵ (Ends old.front []) ∷ ‵ (PartsEnd T new parts) ∷ []) ∵ move ! (2 ∷ []) $ fsplit3 ! $
+                -- [the row; the rows; the back; what a call leaves; the old front]
+                move ! (3 ∷ 0 ∷ 1 ∷ []) $ use3 𝓛 (‵ (SecondRows T old.rows (parts.front ∷ parts.rows)))
+                (at_one 𝓛 Both (λ held. sem 𝓛 (SecondRows T old.rows (held.0 ∷ held.1))) (parts.front, parts.rows)) $
+                move ! (2 ∷ 0 ∷ 1 ∷ []) $ fjoin3 ! $ done !,
           ))
       keeps_begun at_back is none =
-          let new = begun old rows row at_back is in let Gives : List T.Denot × List (List T.Denot) → SProp 𝓤 =
-          λ held. wand 𝓤 (Both held) (sem 𝓛 (SecondRows T old.rows (held.1 ++ held.0 ∷ []))) in
+          let new = begun old rows row at_back is in
+          let Gives : List T.Denot × List (List T.Denot) → SProp 𝓤 = λ held. wand 𝓤 (Both held) (sem 𝓛 (SecondRows T old.rows (held.1 ++ held.0 ∷ []))) in
           let Says : List T.Denot × List (List T.Denot) → SProp 𝓤 = λ held. all 𝓤 (λ (same : length held.1 ≡ length Left). Gives held) in
-          keeps_by old new (fsep (Ends old.back old.back.now) (TakesLastRow T old.rows rows row)) (λ parts. record {
-            front = parts.front;
-            rows =
-                parts.rows ++ parts.back ∷ [];
-            back = [];
-          }) (λ second parts are. let held : List T.Denot × List (List T.Denot) = (parts.back, parts.rows) in
-          let many : length parts.rows ≡ length Left = sym (length-map parts.rows length) ∙ ap length are.rows ∙ length-map Left length in (
+          keeps_by at_back old new (TakesLastRow T old.rows rows row) (λ parts. parts_of parts.front (parts.rows ++ parts.back ∷ []) []) none (λ second parts are.
+          let held : List T.Denot × List (List T.Denot) = (parts.back, parts.rows) in (
             record {
               joined = are.joined ∙ last_row_left parts.front [] parts.back (parts.rows ++ parts.back ∷ []) parts.rows refl refl;
               front = are.front;
-              rows = map-append length parts.rows (parts.back ∷ []) ∙ ap (λ ns. ns ++ length parts.back ∷ []) are.rows ∙
-                  ap (λ n. map length Left ++ n ∷ []) are.back ∙ sym (map-append length Left (row.now ∷ [])) ∙ ap (λ rs. map length rs) (sym is);
+              rows = rw (is, map-append length parts.rows (parts.back ∷ []), map-append length Left (row.now ∷ []), are.back, are.rows) refl;
               back = sym none;
             },
-            qed 𝓛 (‵ (PartsEnd T new parts) ∷ ‵ (fsep (Ends old.back old.back.now) (TakesLastRow T old.rows rows row)) ∷ []) ∵ fsplit3 ! $ move ! (3 ∷ []) $
-                fsplit ! $
-                rewrite ! 0 (λ xs. ‵ (Ends old.back xs)) (nil_from_length old.back.now none) refl $
-                -- [the old back; what a call leaves; the front; the rows; the row]
-                move ! (1 ∷ []) $ use1 𝓛 (raw (Says held)) (all_e 𝓤 Says held) $ use1 𝓛 (raw (Gives held)) (all_e 𝓤 (λ (same : length held.1 ≡
-                length Left). Gives held) many) $
-                move ! (4 ∷ 3 ∷ []) $ join ! $ use2 𝓛 (‵ (SecondRows T old.rows (parts.rows ++ parts.back ∷ []))) (apply∗ 𝓤 (Both held) _) $
-                move ! (2 ∷ 0 ∷ []) $ fjoin3 ! $ done !,
+            qed 𝓛 (‵ (TakesLastRow T old.rows rows row) ∷ ‵ (Ends old.back []) ∷ ‵ (PartsEnd T new parts) ∷ []) ∵
+                use1 𝓛 (raw (Says held)) (all_e 𝓤 Says held) $
+                use1 𝓛 (raw (Gives held)) (all_e 𝓤 (λ (same : length held.1 ≡ length Left). Gives held) (same_count parts.rows are.rows)) $
+                move ! (2 ∷ []) $ fsplit3 ! $
+                -- [the front; the rows; the row; what a call leaves; the old back]
+                move ! (2 ∷ 1 ∷ []) $ join ! $ move ! (0 ∷ 2 ∷ []) $
+                use2 𝓛 (‵ (SecondRows T old.rows (parts.rows ++ parts.back ∷ []))) (apply∗ 𝓤 (Both held) _) $
+                move ! (1 ∷ 0 ∷ []) $ fjoin3 ! $ done !,
           ))
 
     module _ (e : MutBor (List T.Denot)) (empty : e.now ≡ []) (had : rows_left old.rows ≡ []) (none : Left ≡ []) where
+      no_rows : (parts : List (List T.Denot)) → map length parts ≡ map length Left → parts ≡ []
+      no_rows parts same = nil_from_length parts (same_count parts same ∙ ap length none)
+
+      rows_kept : (ps : List (List T.Denot)) → map length ps ≡ map length Left →
+          ent 𝓤 (sep 𝓤 (sem 𝓛 (KeepsRows T old.rows rows)) (sem 𝓛 (SecondRows T rows ps))) (sem 𝓛 (SecondRows T old.rows []))
+      rows_kept ps same = qed 𝓛 (‵ (KeepsRows T old.rows rows) ∷ ‵ (SecondRows T rows ps) ∷ []) ∵ use2 𝓛 (‵ (SecondRows T old.rows ps))
+          (at_one 𝓛 (λ second. sem 𝓛 (SecondRows T rows second)) (λ second. sem 𝓛 (SecondRows T old.rows second)) ps) $
+          rewrite ! 0 (λ second. ‵ (SecondRows T old.rows second)) (no_rows ps same) refl $ done !
+
       pub keeps_taken : (s : Side) → length (near s old).now ≡ 0 → ent 𝓤 (sem 𝓛 (Drawn s None)) (sem 𝓛 (KeepsPixels T old (taken old rows e empty had none s)))
       keeps_taken at_front nil =
           let new = taken old rows e empty had none at_front in
-          keeps_by old new (fsep (Ends old.front old.front.now) (KeepsRows T old.rows rows)) (λ parts. record {
-            front = [];
-            rows = [];
-            back =
-                parts.front;
-          }) (λ second parts are. let rows_nil = no_rows parts.rows are.rows none in (
+          keeps_by at_front old new (KeepsRows T old.rows rows) (λ parts. parts_of [] [] parts.front) nil (λ second parts are. (
             record {
-              joined = are.joined ∙ rw (rows_nil, nil_from_length parts.back (are.back ∙ ap length empty)) (append-nil parts.front);
+              joined = are.joined ∙
+                  rw (no_rows parts.rows are.rows, nil_from_length parts.back (are.back ∙ ap length empty)) (append-nil parts.front);
               front = sym nil;
-              rows = ap (λ rs. map length rs) (sym had);
+              rows = rw had refl;
               back = are.front;
             },
-            qed 𝓛 (‵ (PartsEnd T new parts) ∷ ‵ (fsep (Ends old.front old.front.now) (KeepsRows T old.rows rows)) ∷ []) ∵ fsplit3 ! $ move ! (3 ∷ []) $
-                fsplit ! $
-                rewrite ! 0 (λ xs. ‵ (Ends old.front xs)) (nil_from_length old.front.now nil) refl $
-                -- [the old front; what the rows keep; the old back; the rows; what was taken from]
-                move ! (1 ∷ 3 ∷ []) $ use2 𝓛 (‵ (SecondRows T old.rows [])) (rows_kept parts.rows rows_nil) $ keep ! (1 ∷ 0 ∷ 2 ∷ []) $ fjoin3 ! $ done !,
+            qed 𝓛 (‵ (KeepsRows T old.rows rows) ∷ ‵ (Ends old.front []) ∷ ‵ (PartsEnd T new parts) ∷ []) ∵ move ! (2 ∷ []) $ fsplit3 ! $
+                -- [the old back; the rows; what was taken from; what the rows keep; the old front]
+                move ! (3 ∷ 1 ∷ []) $ use2 𝓛 (‵ (SecondRows T old.rows [])) (rows_kept parts.rows are.rows) $ keep ! (3 ∷ 0 ∷ 1 ∷ []) $ fjoin3 ! $ done !,
           ))
       keeps_taken at_back nil =
           let new = taken old rows e empty had none at_back in
-          keeps_by old new (fsep (Ends old.back old.back.now) (KeepsRows T old.rows rows)) (λ parts. record {
-            front = parts.back;
-            rows = [];
-            back =
-                [];
-          }) (λ second parts are. let rows_nil = no_rows parts.rows are.rows none in (
+          keeps_by at_back old new (KeepsRows T old.rows rows) (λ parts. parts_of parts.back [] []) nil (λ second parts are. (
             record {
-              joined = are.joined ∙ rw (rows_nil, nil_from_length parts.front (are.front ∙ ap length empty)) (sym (append-nil parts.back));
+              joined = are.joined ∙
+                  rw (no_rows parts.rows are.rows, nil_from_length parts.front (are.front ∙ ap length empty)) (sym (append-nil parts.back));
               front = are.back;
-              rows = ap (λ rs. map length rs) (sym had);
+              rows = rw had refl;
               back = sym nil;
             },
-            qed 𝓛 (‵ (PartsEnd T new parts) ∷ ‵ (fsep (Ends old.back old.back.now) (KeepsRows T old.rows rows)) ∷ []) ∵ fsplit3 ! $ move ! (3 ∷ []) $ fsplit ! $
-                rewrite ! 0 (λ xs. ‵ (Ends old.back xs)) (nil_from_length old.back.now nil) refl $
-                -- [the old back; what the rows keep; what was taken from; the rows; the old front]
-                move ! (1 ∷ 3 ∷ []) $ use2 𝓛 (‵ (SecondRows T old.rows [])) (rows_kept parts.rows rows_nil) $ keep ! (3 ∷ 0 ∷ 1 ∷ []) $ fjoin3 ! $ done !,
+            qed 𝓛 (‵ (KeepsRows T old.rows rows) ∷ ‵ (Ends old.back []) ∷ ‵ (PartsEnd T new parts) ∷ []) ∵ move ! (2 ∷ []) $ fsplit3 ! $
+                -- [what was taken from; the rows; the old front; what the rows keep; the old back]
+                move ! (3 ∷ 1 ∷ []) $ use2 𝓛 (‵ (SecondRows T old.rows [])) (rows_kept parts.rows are.rows) $ keep ! (2 ∷ 0 ∷ 3 ∷ []) $ fjoin3 ! $ done !,
           ))

@@ -4,6 +4,9 @@ use Rattle.v_frame_plane.specs.SecondRows.{EndsAs, SecondRows}
 use Rattle.v_frame_plane.specs.SecondPixels.{Parts, ArePartsOf, SecondPixels}
 use Rattle.v_frame_plane.specs.declared.pixels_mut.PixelsMut.{PixelsMut}
 
+abbrev pub parts_of : {X : Type 0} → List X → List (List X) → List X → Parts X
+parts_of front rows back = record { front = front; rows = rows; back = back }
+
 abbrev pub PartsEnd : (T : RattleType) → PixelsMut T.Denot → Parts T.Denot → Fml
 PartsEnd T walk parts = fsep (EndsAs T walk.front.ghost_name parts.front) (fsep (SecondRows T walk.rows parts.rows) (EndsAs T walk.back.ghost_name parts.back))
 
