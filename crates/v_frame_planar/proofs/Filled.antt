@@ -1,5 +1,5 @@
 -- What a plane of one value shows: a table of that value.
-use Rattle.std.proofs.Common.{ℕ, zero, suc, ◌≡◌, ◌-◌, ◌*◌, ◌≤◌, List, [], ◌∷◌, ◌++◌, take, drop, replicate, refl, ◌∙◌, ap, arith}
+use Rattle.std.proofs.Common.{ℕ, zero, suc, ◌≡◌, ◌-◌, ◌*◌, ◌≤◌, List, [], ◌++◌, drop, replicate, refl, ◌∙◌, arith}
 use Rattle.std.proofs.lemmas.List.{take-replicate, drop-replicate}
 use Rattle.v_frame.specs.Prelude.{Geometry, Table, stride_of, alloc_size_of, filled, table_of}
 use Rattle.v_frame_layout.specs.Geometry.{Piece, times, outer_row, crossing_row}
@@ -13,11 +13,10 @@ module _ {T : Type 0} (value : T) (g : Geometry) where
 
   -- rows of the border show nothing
   past_outer : (rest : List Piece) (k n : ℕ) → shown (times k (outer_row g) ++ rest) (replicate n value) ≡ shown rest (replicate (n - k * stride_of g) value)
-  past_outer rest zero n = ap (λ m. shown rest (replicate m value)) (omega arith)
+  past_outer rest zero n = let all : n - 0 * stride_of g ≡ n = omega arith in rw all
   past_outer rest (suc k) n =
-      let stride = stride_of g in
-      ap (shown (times k (outer_row g) ++ rest)) (drop-replicate stride n value) ∙ past_outer rest k (n - stride) ∙ ap (λ m. shown rest (replicate m value))
-      (omega arith)
+      let less : n - suc k * stride_of g ≡ n - stride_of g - k * stride_of g = omega arith in
+      rw (drop-replicate (stride_of g) n value, less) (past_outer rest k (n - stride_of g))
 
   only_outer : (k : ℕ) (xs : List T) → shown (times k (outer_row g)) xs ≡ []
   only_outer zero xs = refl
@@ -28,22 +27,14 @@ module _ {T : Type 0} (value : T) (g : Geometry) where
       (replicate g.width value)
   crossing zero n h = only_outer g.pad_bottom (replicate n value)
   crossing (suc k) n h =
-      let rest = times k (crossing_row g) ++ times g.pad_bottom (outer_row g) in
       let inside = n - g.pad_left in
-      let left : drop g.pad_left (replicate n value) ≡ replicate inside value = drop-replicate g.pad_left n value in
-      let row : take g.width (replicate inside value) ≡ replicate g.width value = take-replicate g.width inside value (omega (arith, h)) in
-      let behind : drop g.pad_right (drop g.width (replicate inside value)) ≡ replicate (inside - g.width - g.pad_right) value =
-      ap (drop g.pad_right) (drop-replicate g.width inside value) ∙ drop-replicate g.pad_right (inside - g.width) value in
-      let later = crossing k (inside - g.width - g.pad_right) (omega (arith, h)) in
-      ap (λ (xs : List T). take g.width xs ∷ shown rest (drop g.pad_right (drop g.width xs))) left
-      ∙ ap (λ (xs : List T). xs ∷ shown rest (drop g.pad_right (drop g.width (replicate inside value)))) row
-      ∙ ap (λ (xs : List T). replicate g.width value ∷ shown rest xs) behind
-      ∙ ap (λ (rows : Table T). replicate g.width value ∷ rows) later
+      let behind = inside - g.width in
+      let row = take-replicate g.width inside value (omega (arith, h)) in
+      let later = crossing k (behind - g.pad_right) (omega (arith, h)) in
+      rw (drop-replicate g.pad_left n value, row, drop-replicate g.width inside value, drop-replicate g.pad_right behind value, later)
 
   pub table_of_filled : table_of (filled value g) ≡ plain_table value (g.width, g.height)
   table_of_filled =
-      let stride = stride_of g in
       let all = alloc_size_of g in
       let rest = times g.height (crossing_row g) ++ times g.pad_bottom (outer_row g) in
-      let enough : g.height * stride ≤ all - g.pad_top * stride = omega arith in
-      past_outer rest g.pad_top all ∙ crossing g.height (all - g.pad_top * stride) enough
+      past_outer rest g.pad_top all ∙ crossing g.height (all - g.pad_top * stride_of g) (omega arith)

@@ -4,4 +4,3 @@ pub mod Filled
 pub mod Requests
 pub mod Sizes
 pub mod Stops
-pub mod Streams

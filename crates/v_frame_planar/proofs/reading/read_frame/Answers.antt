@@ -1,14 +1,14 @@
 -- A frame for which there was no room, and one that came to its end.
 use Rattle.std.proofs.Common.{length, sym, ◌∙◌, ap, arith}
+use Rattle.std.proofs.lemmas.List.{take_at}
 use Rattle.std.proofs.lemmas.Grind.{common_steps}
-use Rattle.v_frame_planar.proofs.Stops.{handed_on, no_room, was_read, was_truncated}
-use Rattle.v_frame_planar.proofs.Streams.{taken_whole}
+use Rattle.v_frame_planar.proofs.Stops.{no_room, was_read, was_truncated}
 use Rattle.v_frame_planar.proofs.reading.read_frame.Goals as goal
 
 pub returns-in_err-bytes-clause-error : goal.returns-in_err-bytes-clause-error
 returns-in_err-bytes-clause-error g c =
     let error = c.in_err-bytes.field-0.0 in
-    no_room g.R.Read.remaining c.args.reader.now _ c.from_residual.result error (handed_on _ error c.from_residual.ensures.1) c.in_err-bytes.ensures.error
+    no_room g.R.Read.remaining c.args.reader.now _ c.from_residual.result error c.from_residual.ensures.1 c.in_err-bytes.ensures.error
 
 pub show_whole-requires-after_bounds : goal.show_whole-requires-after_bounds
 show_whole-requires-after_bounds g c = grind (arith, common_steps)
@@ -16,17 +16,16 @@ show_whole-requires-after_bounds g c = grind (arith, common_steps)
 pub returns-clause-read : goal.returns-clause-read
 returns-clause-read g c =
     let done = c.in_ok-found.ensures in
-    let long = done.size ∙ c.as_mut_slice.ensures.len in
-    let same = c.as_slice.ensures.value ∙ taken_whole _ c.read_until_full.new.buf _ long in
-    was_read _ g.R.Read.remaining c.args.reader.now c.read_until_full.new.reader _ _ _ _ c.show_whole.result same done.bytes done.at_end
-    c.show_whole.ensures.shown
+    let same = c.as_slice.ensures.value ∙ take_at c.read_until_full.new.buf _ _ (done.size ∙ c.as_mut_slice.ensures.len) in
+    was_read g.R.Read.remaining c.args.reader.now c.read_until_full.new.reader _ _ done.bytes done.at_end _ _ c.show_whole.result
+    (rw same at c.show_whole.ensures.shown)
 
 pub returns-clause-error : goal.returns-clause-error
 returns-clause-error g c =
     let done = c.in_ok-found.ensures in
     let lent = c.as_mut_slice.ensures in
     let long = done.size ∙ lent.len in
-    let same = c.as_slice.ensures.value ∙ taken_whole _ c.read_until_full.new.buf _ long in
-    let size = ap length same ∙ long ∙ sym lent.len ∙ ap length lent.value ∙ c.in_ok-bytes.ensures.room in
-    was_truncated _ g.R.Read.remaining c.args.reader.now c.read_until_full.new.reader _ _ _ _ c.show_whole.result same size done.bound done.bytes done.at_end
-    done.uncounted c.show_whole.ensures.truncated
+    let same = c.as_slice.ensures.value ∙ take_at c.read_until_full.new.buf _ _ long in
+    let size = long ∙ sym lent.len ∙ ap length lent.value ∙ c.in_ok-bytes.ensures.room in
+    was_truncated g.R.Read.remaining c.args.reader.now c.read_until_full.new.reader _ _ done.bytes done.at_end _ _ c.show_whole.result size done.bound
+    done.uncounted (rw same at c.show_whole.ensures.truncated)

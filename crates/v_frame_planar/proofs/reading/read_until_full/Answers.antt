@@ -1,12 +1,17 @@
 -- One more read fills the buffer by what it gave, and a failed one leaves what was read.
-use Rattle.std.proofs.Common.{◌+◌, ◌-◌, ◌<◌, min, length, take, sym, ◌∙◌, ap, subst, rules, arith, length-take-le}
+use Rattle.std.proofs.Common.{ℕ, List, ◌≡◌, ◌≤◌, ◌++◌, ◌+◌, ◌-◌, ◌<◌, length, take, ◌∙◌, rules, arith, length-take-le}
 use Rattle.std.proofs.lemmas.Grind.{common_steps}
-use Rattle.std.specs.Io.KnownBytes.{Consumes}
 use Rattle.std.proofs.KnownBytes.{Consumes-kept, Consumes-trans}
-use Rattle.v_frame_planar.specs.Counted.{u64_max}
 use Rattle.v_frame_planar.proofs.Stops.{failed_once}
-use Rattle.v_frame_planar.proofs.Streams.{taken_from_part}
+use borrow.Rule.Slice.PartMut.{put_mid, post_of}
+use lib.Seq.{take-append-le, take-append-add}
 use Rattle.v_frame_planar.proofs.reading.read_until_full.Goals as goal
+
+-- the front of a buffer of which a part was filled anew, and the first of that part
+taken_from_part : (at long n : ℕ) (old part : List ℕ) → at ≤ length old → n ≤ length part → take (at + n) (put_mid at long old part) ≡ take at old ++ take n part
+taken_from_part at long n old part within fits =
+    let behind = post_of at long old in
+    rw (length-take-le at old within, take-append-le n part behind fits) at (take-append-add (take at old) (part ++ behind) n)
 
 pub loop-found-preserved : goal.loop-found-preserved
 loop-found-preserved g c =
@@ -18,7 +23,7 @@ loop-found-preserved g c =
     record {
       within = search rules;
       size = search rules;
-      got = subst (Consumes _ _) (sym all) (Consumes-trans _ _ _ _ _ before.got given.bytes.0);
+      got = rw all (Consumes-trans _ _ _ _ _ before.got given.bytes.0);
       failures = given.ok ∙ before.failures;
       last_failure = given.told ∙ before.last_failure;
     }
@@ -29,8 +34,8 @@ returns-in-Err-clause-error g c =
     let found = c.loop-found.found in
     let before = c.loop-found.invariant in
     let got = Consumes-kept _ _ _ _ before.got c.in-Err.ensures.bytes in
-    let less = subst (λ n. found < n) before.size c.loop-found-test.true in
-    let once = failed_once _ _ (c.in-Err.ensures.err ∙ ap (λ n. min (n + 1) u64_max) before.failures) in
+    let less = rw before.size at c.loop-found-test.true in
+    let once = failed_once _ _ (rw before.failures at c.in-Err.ensures.err) in
     ((found, less, (take found buf, got, length-take-le found buf before.within)), once)
 
 pub returns-in-Ok-eq0-clause-at_end : goal.returns-in-Ok-eq0-clause-at_end

@@ -1,5 +1,5 @@
 -- One more block goes behind what was written, or the bytes stop inside it.
-use Rattle.std.proofs.Common.{◌++◌, [], take, sym, ◌∙◌, ap, append_assoc, rules, arith}
+use Rattle.std.proofs.Common.{◌++◌, [], take, sym, ◌∙◌, append_assoc, rules, arith}
 use Rattle.std.proofs.lemmas.Grind.{common_steps}
 use Rattle.std.proofs.KnownBytes.{Appends-nil, Appends-trans}
 use Rattle.v_frame.specs.Prelude.{bytes_of_pixels, tables_of}
@@ -11,8 +11,8 @@ use Rattle.v_frame_planar.proofs.writing.write_frame.Goals as goal
 pub loop-pending-init : goal.loop-pending-init
 loop-pending-init g c =
     let form = g.T.Pixel.form in
-    let all = sym (bytes_of_planar_pixels form (tables_of c.args.frame.now)) ∙ ap (bytes_of_pixels form) (sym c.new-pending.ensures) in
-    record { sent = ([], Appends-nil _, all); failures = search rules; last_failure = search rules }
+    let all = sym (bytes_of_planar_pixels form (tables_of c.args.frame.now)) in
+    record { sent = ([], Appends-nil _, rw c.new-pending.ensures all); failures = search rules; last_failure = search rules }
 
 pub loop-pending-preserved : goal.loop-pending-preserved
 loop-pending-preserved g c =
@@ -21,7 +21,7 @@ loop-pending-preserved g c =
     let part = take c.fill-filled.result c.fill-filled.new.block in
     let rest = bytes_of_pixels g.T.Pixel.form (pixels_pending c.fill-filled.new.self) in
     let done = c.in_ok-write_all.ensures in
-    let all = before.sent.2 ∙ ap (λ b. front ++ b) c.fill-filled.ensures.bytes ∙ sym (append_assoc front part rest) in
+    let all = before.sent.2 ∙ rw (c.fill-filled.ensures.bytes, append_assoc front part rest) in
     record {
       sent = (front ++ part, Appends-trans _ _ _ front part before.sent.1 (search rules), all);
       failures = done.uncounted ∙ before.failures;
@@ -34,11 +34,9 @@ returns-in_err-write_all-clause-error g c =
     let front = before.sent.0 in
     let part = take c.fill-filled.result c.fill-filled.new.block in
     let rest = bytes_of_pixels g.T.Pixel.form (pixels_pending c.fill-filled.new.self) in
-    let fault = c.in_err-write_all.field-0.0 in
-    let all = before.sent.2 ∙ ap (λ b. front ++ b) c.fill-filled.ensures.bytes in
-    let stopped = stops_later _ front part rest all g.W.Write.contents c.args.writer.now c.loop-pending.writer c.write_all.new.self before.sent.1
-    before.failures fault (search rules) in
-    search rules
+    let stopped = stops_later front part rest g.W.Write.contents c.args.writer.now c.loop-pending.writer c.write_all.new.self before.sent.1 before.failures
+    c.in_err-write_all.field-0.0 (search rules) in
+    rw (before.sent.2, c.fill-filled.ensures.bytes) (search rules)
 
 pub loop-pending-smaller : goal.loop-pending-smaller
 loop-pending-smaller g c = grind (arith, common_steps)

@@ -1,9 +1,8 @@
 -- One more write appends what it took.
-use Rattle.std.proofs.Common.{ℕ, ◌-◌, List, ◌++◌, length, take, drop, ◌∙◌, ap, subst, arith, length-take, length-drop}
+use Rattle.std.proofs.Common.{◌-◌, length, take, drop, ◌∙◌, arith, length-take, length-drop}
 use Rattle.std.proofs.lemmas.List.{take_rest}
-use Rattle.std.specs.Io.KnownBytes.{Appends}
 use Rattle.std.proofs.KnownBytes.{Appends-trans}
-use Rattle.v_frame_planar.proofs.Streams.{taken_twice}
+use Rattle.std.proofs.Math.Seq.{take-add}
 use Rattle.v_frame_planar.proofs.counted.Counted.write_all.Goals as goal
 
 pub loop-written-preserved : goal.loop-written-preserved
@@ -11,15 +10,12 @@ loop-written-preserved g c =
     let text = c.args.bytes.now in
     let at = c.loop-written.written in
     let count = c.in-Ok.count in
-    let rest = take (length text - at) (drop at text) in
-    let before = g.D.Write.contents c.args.self.now.inner in
-    let now = g.D.Write.contents c.write.new.self.inner in
+    let before = c.loop-written.invariant in
     let did = c.in-Ok.ensures in
-    let sent = Appends-trans before (g.D.Write.contents c.loop-written.self.inner) now (take at text) (take count rest) c.loop-written.invariant.sent did.bytes
-    in
+    let sent = Appends-trans _ _ _ (take at text) (take count (take (length text - at) (drop at text))) before.sent did.bytes in
     record {
       within = omega (arith, did.bound, length-take (length text - at) (drop at text), length-drop at text);
-      sent = subst (λ (bytes : List ℕ). Appends before now bytes) (ap (λ b. take at text ++ take count b) (take_rest text at) ∙ taken_twice at count text) sent;
-      failures = did.ok ∙ c.loop-written.invariant.failures;
-      last_failure = did.told ∙ c.loop-written.invariant.last_failure;
+      sent = rw (take-add at count text) (rw (take_rest text at) at sent);
+      failures = did.ok ∙ before.failures;
+      last_failure = did.told ∙ before.last_failure;
     }

@@ -1,10 +1,10 @@
 -- One more run stands behind what was encoded before.
-use Rattle.std.proofs.Common.{◌≡◌, ◌+◌, ◌-◌, ◌*◌, ◌++◌, length, take, sym, ◌∙◌, ap, take_all, rules, arith}
+use Rattle.std.proofs.Common.{◌≡◌, ◌+◌, ◌-◌, ◌*◌, ◌++◌, length, take, rules, arith}
 use Rattle.std.proofs.lemmas.Grind.{common_steps}
 use Rattle.v_frame.specs.Prelude.{bytes_of_pixels}
 use Rattle.v_frame_planar.specs.Pending.{pixels_pending, pixels_behind}
 use Rattle.v_frame_planar.proofs.Blocks.{one_more_run}
-use Rattle.v_frame_planar.proofs.Streams.{taken_from_part}
+use Rattle.std.proofs.lemmas.Slice.{take-put_mid}
 use Rattle.v_frame_planar.proofs.pending.Pending.fill.Goals as goal
 
 pub loop-block-preserved : goal.loop-block-preserved
@@ -22,12 +22,8 @@ loop-block-preserved g c =
     let cut : begun.row.now ≡ first ++ rest = search rules in
     let run = one_more_run form (bytes_of_pixels form (pixels_pending c.args.self.now)) (take filled block) part (pixels_pending c.loop-block.self)
     begun.row.now first rest (pixels_behind begun) before.bytes c.begin_row.ensures.pixels cut c.encode_row.ensures in
-    let joined = taken_from_part filled (filled + long - filled) long block part before.within (omega (arith, size)) in
-    let whole : take long part ≡ part = take_all long part (omega (arith, size)) in
-    record {
-      within = search rules;
-      bytes = run ∙ ap (λ front. front ++ bytes_of_pixels form (rest ++ pixels_behind begun)) (sym (joined ∙ ap (λ p. take filled block ++ p) whole));
-    }
+    let joined = take-put_mid filled (filled + long - filled) block part (filled + long) (omega (arith, size)) before.within in
+    record { within = search rules; bytes = rw joined run }
 
 pub overflow_mul-end : goal.overflow_mul-end
 overflow_mul-end g c = grind (arith, common_steps)
