@@ -26,8 +26,8 @@ module _ (g : Geometry) (x y : ℕ) (some_x : 0 < x) (some_y : 0 < y) where
   pub cover_fits : Fits g → Fits (covering_geometry g (x, y))
   cover_fits fits =
       let c = covering_geometry g (x, y) in
-      let rows_of_cover : alloc_height_of c ≤ alloc_height_of g = omega (arith, ceil_le g.height y some_y, div-le_self g.pad_top y, div-le_self g.pad_bottom y) in
-      omega (arith, fits, mul-le-mul_left (alloc_height_of c) stride_of_cover, mul-le-mul_right (stride_of g) rows_of_cover)
+      let rows : alloc_height_of c ≤ alloc_height_of g = omega (arith, ceil_le g.height y some_y, div-le_self g.pad_top y, div-le_self g.pad_bottom y) in
+      omega (arith, fits, mul-le-mul_left (alloc_height_of c) stride_of_cover, mul-le-mul_right (stride_of g) rows)
 
   pub cover_is_geometry : IsGeometry g → IsGeometry (covering_geometry g (x, y))
   cover_is_geometry is = record {

@@ -8,7 +8,8 @@ use lib.Seq.{take-append-le, take-append-add}
 use Rattle.v_frame_planar.proofs.reading.read_until_full.Goals as goal
 
 -- the front of a buffer of which a part was filled anew, and the first of that part
-taken_from_part : (at long n : ℕ) (old part : List ℕ) → at ≤ length old → n ≤ length part → take (at + n) (put_mid at long old part) ≡ take at old ++ take n part
+taken_from_part : (at long n : ℕ) (old part : List ℕ) → at ≤ length old → n ≤ length part
+    → take (at + n) (put_mid at long old part) ≡ take at old ++ take n part
 taken_from_part at long n old part within fits =
     let behind = post_of at long old in
     rw (length-take-le at old within, take-append-le n part behind fits) at (take-append-add (take at old) (part ++ behind) n)
