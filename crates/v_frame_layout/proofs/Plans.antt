@@ -1,9 +1,9 @@
 -- Where the plan of a geometry puts a row: how many entries lie in front of it, and that it lies in the buffer.
 use Rattle.std.proofs.Common.{ℕ, zero, suc, ◌≡◌, ◌+◌, ◌-◌, ◌*◌, ◌<◌, ◌≤◌, min, Bool, true, false, leb}
-use Rattle.std.proofs.Common.{List, [], ◌∷◌, ◌++◌, refl, sym, ◌∙◌, ap, arith, append_assoc}
+use Rattle.std.proofs.Common.{List, [], ◌∷◌, ◌++◌, refl, sym, ◌∙◌, ap, arith, append_assoc, zero-add, suc-add}
 use Rattle.std.proofs.Math.Nat.{mul-le-mul_left, mul-le-mul_right}
 use Rattle.std.proofs.lemmas.Bool.{leb-true, leb-false}
-use Rattle.v_frame_layout.specs.Geometry.{Geometry, stride_of, alloc_size_of, Piece, border_piece, visible_piece, times, outer_row, crossing_row, cutting_plan}
+use Rattle.v_frame_layout.specs.Geometry.{Geometry, IsGeometry, stride_of, alloc_size_of, Piece, border_piece, visible_piece, times, outer_row, crossing_row, cutting_plan}
 use Rattle.v_frame_layout.specs.Geometry.{entries_in_front, origin_of, place_of, usize_max}
 
 -- the entries of all pieces
@@ -16,10 +16,8 @@ total-append [] q = omega arith
 total-append (piece ∷ p) q = omega (arith, total-append p q)
 
 times-add : (m n : ℕ) (p : List Piece) → times (m + n) p ≡ times m p ++ times n p
-times-add zero n p = let e : 0 + n ≡ n = omega arith in rw e refl
-times-add (suc m) n p =
-    let e : suc m + n ≡ suc (m + n) = omega arith in
-    rw e (ap (λ q. p ++ q) (times-add m n p) ∙ sym (append_assoc p (times m p) (times n p)))
+times-add zero n p = rw zero-add
+times-add (suc m) n p = rw (suc-add m n, append_assoc, times-add m n p)
 
 pub total-times : (n : ℕ) (p : List Piece) → total (times n p) ≡ n * total p
 total-times zero p = omega arith
@@ -27,15 +25,7 @@ total-times (suc n) p = omega (arith, total-append p (times n p), total-times n 
 
 -- the plan covers the buffer
 pub total-cutting_plan : (g : Geometry) → total (cutting_plan g) ≡ alloc_size_of g
-total-cutting_plan g =
-    omega (
-      arith,
-      total-append (times g.pad_top (outer_row g)) (times g.height (crossing_row g) ++ times g.pad_bottom (outer_row g)),
-      total-append (times g.height (crossing_row g)) (times g.pad_bottom (outer_row g)),
-      total-times g.pad_top (outer_row g),
-      total-times g.height (crossing_row g),
-      total-times g.pad_bottom (outer_row g),
-    )
+total-cutting_plan g = simp (total-append, total-times) (omega arith)
 
 -- what is in front of the y-th visible piece, and behind it
 abbrev pub before_row : Geometry → ℕ → List Piece
@@ -46,10 +36,9 @@ after_row g y = border_piece g.pad_right ∷ (times (g.height - suc y) (crossing
 
 pub plan_at_row : (g : Geometry) (y : ℕ) → y < g.height → cutting_plan g ≡ before_row g y ++ visible_piece g.width ∷ after_row g y
 plan_at_row g y h =
-    let e : g.height ≡ y + suc (g.height - suc y) = omega arith in
-    let split : times g.height (crossing_row g) ≡ times y (crossing_row g) ++ times (suc (g.height - suc y)) (crossing_row g) =
-    ap (λ n. times n (crossing_row g)) e ∙ times-add y (suc (g.height - suc y)) (crossing_row g) in
-    ap (λ rows. times g.pad_top (outer_row g) ++ (rows ++ times g.pad_bottom (outer_row g))) split ∙ simp append_assoc
+    let e : y + suc (g.height - suc y) ≡ g.height = omega arith in
+    let split = rw e at (times-add y (suc (g.height - suc y)) (crossing_row g)) in
+    rw split (simp append_assoc)
 
 -- the place where the y-th visible row begins
 unfoldable pub row_start : Geometry → ℕ → ℕ
@@ -57,14 +46,7 @@ row_start g y = g.pad_top * stride_of g + (y * stride_of g + g.pad_left)
 
 pub total-before_row : (g : Geometry) (y : ℕ) → total (before_row g y) ≡ row_start g y
 unfolding row_start
-total-before_row g y =
-    omega (
-      arith,
-      total-append (times g.pad_top (outer_row g)) (times y (crossing_row g) ++ border_piece g.pad_left ∷ []),
-      total-append (times y (crossing_row g)) (border_piece g.pad_left ∷ []),
-      total-times g.pad_top (outer_row g),
-      total-times y (crossing_row g),
-    )
+total-before_row g y = simp (total-append, total-times) (omega arith)
 
 front_of_crossing : (g : Geometry) (n : ℕ) (rest : List Piece) → 0 < n → entries_in_front (times n (crossing_row g) ++ rest) ≡ g.pad_left
 front_of_crossing g zero rest h = absurd (omega arith)
@@ -77,15 +59,8 @@ front_of_outer g (suc n) rest = omega (arith, front_of_outer g n rest)
 -- the place of the pixel (0, 0), which a plane has, since it has a row
 pub origin_is : (g : Geometry) → 0 < g.height → origin_of g ≡ g.pad_top * stride_of g + g.pad_left
 origin_is g h =
-    omega (
-      arith,
-      front_of_outer g g.pad_top (times g.height (crossing_row g) ++ times g.pad_bottom (outer_row g)),
-      front_of_crossing g g.height (times g.pad_bottom (outer_row g)) h,
-    )
-
--- the same, as the code computes it
-pub origin_by_stride : (g : Geometry) (stride : ℕ) → stride ≡ stride_of g → 0 < g.height → stride * g.pad_top + g.pad_left ≡ origin_of g
-origin_by_stride g stride e h = omega (arith, origin_is g h, ap (λ s. s * g.pad_top) e)
+    let rest = times g.pad_bottom (outer_row g) in
+    omega (arith, front_of_outer g g.pad_top (times g.height (crossing_row g) ++ rest), front_of_crossing g g.height rest h)
 
 pub place_of_row : (g : Geometry) (y : ℕ) → 0 < g.height → place_of g 0 y ≡ row_start g y
 unfolding row_start
@@ -115,17 +90,16 @@ row_start_within g origin stride y o s h =
 pub origin_within : (g : Geometry) → 0 < g.height → origin_of g + g.width ≤ alloc_size_of g
 origin_within g h = omega (arith, place_of_row g 0 h, row_within g 0 h)
 
--- a number of entries that was cut to what can be counted
-cut_by : (fits : Bool) (rows stride cut size : ℕ) → leb rows usize_max ≡ fits → 0 < stride → cut ≡ min rows usize_max
-    → size ≡ min (cut * stride) usize_max → size ≡ min (rows * stride) usize_max
-cut_by true rows stride cut size fits some cut_is size_is =
-    let whole : cut ≡ rows = omega (arith, leb-true rows usize_max fits, cut_is) in
-    size_is ∙ ap (λ n. min (n * stride) usize_max) whole
-cut_by false rows stride cut size fits some cut_is size_is =
-    let one : 1 ≤ stride = omega (arith, some) in
-    omega (arith, leb-false rows usize_max fits, cut_is, size_is, mul-le-mul_left cut one, mul-le-mul_left rows one)
+-- the same, as the code computes it
+pub origin_by_stride : (g : Geometry) (stride : ℕ) → stride ≡ stride_of g → IsGeometry g
+    → (stride * g.pad_top + g.pad_left ≡ origin_of g) × (origin_of g < alloc_size_of g)
+origin_by_stride g stride e is =
+    (omega (arith, origin_is g is.high, ap (λ s. s * g.pad_top) e), omega (arith, origin_within g is.high, is.wide))
 
+-- a number of entries, of rows and then of all, that was cut to what can be counted
 pub counted_size : (height top bottom stride first rows size : ℕ) → 0 < stride → first ≡ min (height + top) usize_max
     → rows ≡ min (first + bottom) usize_max → size ≡ min (rows * stride) usize_max → size ≡ min ((height + top + bottom) * stride) usize_max
 counted_size height top bottom stride first rows size some first_is rows_is size_is =
-    cut_by _ (height + top + bottom) stride rows size refl some (omega (arith, first_is, rows_is)) size_is
+    let all = height + top + bottom in
+    let whole : all ≤ usize_max → rows ≡ all = λ h. omega arith in
+    grind (arith, mul-le-mul_left rows some, mul-le-mul_left all some)

@@ -5,7 +5,8 @@ use Rattle.std.specs.Prelude.{sum_by, zip}
 use Rattle.std.specs.Int.{abs_diff}
 use Rattle.std.proofs.Math.Nat.{mul-le-mul}
 use Rattle.v_frame_layout.specs.PixelRows.{squared_error}
-use Rattle.std.specs.Simd.Lanes.{zip2, sum_l}
+use Rattle.std.specs.Simd.Lanes.{Each1, zip2, sum_l}
+use Rattle.std.proofs.lemmas.Simd.{Each1-from_get_or}
 use Rattle.std.proofs.lemmas.List.{drop-drop, take_rest}
 use Rattle.std.proofs.lemmas.List.Sums.{sum_by-cons}
 
@@ -61,22 +62,23 @@ sum_of_lanes f (x ∷ xs) [] = refl
 sum_of_lanes f (x ∷ xs) (y ∷ ys) = omega (arith, sum_of_lanes f xs ys, sum_by-cons (λ p. f p.0 p.1) (x, y) (zip xs ys))
 
 -- a sum over pairs of values below a size, of which each pair adds at most so much
-sum_of_pairs-at_most : (f : ℕ → ℕ → ℕ) (size most : ℕ) → ((x y : ℕ) → x < size → y < size → f x y ≤ most) → (xs ys : List ℕ)
-    → ((k : ℕ) → get_or xs k 0 < size) → ((k : ℕ) → get_or ys k 0 < size)
-    → sum_by (λ p. f p.0 p.1) (zip xs ys) ≤ most * length xs
-sum_of_pairs-at_most f size most each [] ys small small1 = omega arith
-sum_of_pairs-at_most f size most each (x ∷ xs) [] small small1 = omega arith
+pub sum_of_pairs-at_most : (f : ℕ → ℕ → ℕ) (size most : ℕ) → ((x y : ℕ) → x < size → y < size → f x y ≤ most) → (xs ys : List ℕ)
+    → Each1 (λ x. x < size) xs → Each1 (λ y. y < size) ys → sum_by (λ p. f p.0 p.1) (zip xs ys) ≤ most * length xs
 sum_of_pairs-at_most f size most each (x ∷ xs) (y ∷ ys) small small1 =
-    let rest = sum_of_pairs-at_most f size most each xs ys (λ k. small (suc k)) (λ k. small1 (suc k)) in
+    let rest = sum_of_pairs-at_most f size most each xs ys small.1 small1.1 in
     let long : most * length (x ∷ xs) ≡ most + most * length xs = omega arith in
-    omega (arith, long, rest, each x y (small 0) (small1 0), sum_by-cons (λ p. f p.0 p.1) (x, y) (zip xs ys))
+    omega (arith, long, rest, each x y small.0 small1.0, sum_by-cons (λ p. f p.0 p.1) (x, y) (zip xs ys))
+sum_of_pairs-at_most f size most each xs ys small small1 = omega arith
 
 -- sums over pairs of values of 16 bits
 module _ (xs ys : List ℕ) (small : (k : ℕ) → get_or xs k 0 < 65536) (small1 : (k : ℕ) → get_or ys k 0 < 65536) where
+  at_most : (f : ℕ → ℕ → ℕ) (most : ℕ) → ((x y : ℕ) → x < 65536 → y < 65536 → f x y ≤ most) → sum_by (λ p. f p.0 p.1) (zip xs ys) ≤ most * length xs
+  at_most f most each =
+      sum_of_pairs-at_most f 65536 most each xs ys (Each1-from_get_or _ xs 0 (λ k h. small k)) (Each1-from_get_or _ ys 0 (λ k h. small1 k))
+
   pub differences-at_most : sum_by (λ p. abs_diff p.0 p.1) (zip xs ys) ≤ 65536 * length xs
-  differences-at_most = sum_of_pairs-at_most abs_diff 65536 65536 (λ x y h h1. omega arith) xs ys small small1
+  differences-at_most = at_most abs_diff 65536 (λ x y h h1. omega arith)
 
   pub squares-at_most : sum_by (λ p. squared_error p.0 p.1) (zip xs ys) ≤ 4294967296 * length xs
   squares-at_most =
-      let gap : (x y : ℕ) → x < 65536 → y < 65536 → abs_diff x y ≤ 65536 = λ x y h h1. omega arith in
-      sum_of_pairs-at_most squared_error 65536 4294967296 (λ x y h h1. mul-le-mul (gap x y h h1) (gap x y h h1)) xs ys small small1
+      at_most squared_error 4294967296 (λ x y h h1. let gap : abs_diff x y ≤ 65536 = omega arith in mul-le-mul gap gap)

@@ -1,13 +1,12 @@
 -- The lanes are squares of differences, and their sum fits.
-use Rattle.std.proofs.Common.{arith, w16, w64, refl, lit<}
-use Rattle.v_frame_layout.proofs.RowLanes.{wide_squared_block_fits, wide_squared_block_sum}
+use Rattle.std.proofs.Common.{arith, w16, w64, lit<}
+use Rattle.v_frame_layout.proofs.RowLanes.{wide_squared_block}
 use Rattle.v_frame_layout.proofs.row_sums.squared_of_words.Goals as goal
 
 pub overflow_add-result : goal.overflow_add-result
 overflow_add-result g c =
-    wide_squared_block_fits w16 w64 65535 g.row.N refl c.args.a.now c.args.b.now c.type_inv.a c.type_inv.b c.requires.first c.requires.second (lit< tt)
-    (omega (arith, c.requires.lanes))
+    (wide_squared_block w16 w64 g.row.N c.args.a.now c.args.b.now c.type_inv.a c.type_inv.b c.requires.first (lit< tt) (omega (arith, c.requires.lanes))).0
 
 pub returns : goal.returns
 returns g c =
-    wide_squared_block_sum w16 w64 65535 g.row.N refl c.args.a.now c.args.b.now c.type_inv.a c.type_inv.b c.requires.first c.requires.second (lit< tt)
+    (wide_squared_block w16 w64 g.row.N c.args.a.now c.args.b.now c.type_inv.a c.type_inv.b c.requires.first (lit< tt) (omega (arith, c.requires.lanes))).1
