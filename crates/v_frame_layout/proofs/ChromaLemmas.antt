@@ -1,6 +1,6 @@
 -- Geometries of chroma planes: they are no larger than that of luma, and their size is that of the chroma planes.
-use Rattle.std.proofs.Common.{ℕ, ◌≡◌, ◌*◌, ◌/◌, ◌≤◌, if◌then◌else◌, Bool, true, false, Option, Some, None, Result, Ok, Err, refl, arith, eqb-true}
-use Rattle.std.proofs.Common.{◌&&◌, ◌==◌}
+use Rattle.std.proofs.Common.{ℕ, ◌≡◌, ◌≤◌, true, Option, Some, None, Result, Ok, Err, refl, arith, eqb-true}
+use Rattle.std.proofs.Common.{◌==◌}
 use Rattle.std.proofs.lemmas.Bool.Decides.{nat_tests}
 use Rattle.std.proofs.Math.Nat.{div-le_self, mul-le-mul_left, mul-le-mul_right}
 use Rattle.v_frame_layout.specs.Geometry.{Geometry, stride_of, alloc_height_of, alloc_size_of, Fits}

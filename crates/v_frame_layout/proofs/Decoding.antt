@@ -1,5 +1,5 @@
 -- Pixels decoded from bytes, one more or sixteen more at a time.
-use Rattle.std.proofs.Common.{ℕ, zero, suc, ◌≡◌, ◌+◌, ◌*◌, ◌<◌, List, [], ◌∷◌, ◌++◌, length, take, drop, get_or, set, map, refl, sym, ◌∙◌, ap, arith, zero-add}
+use Rattle.std.proofs.Common.{ℕ, zero, suc, ◌≡◌, ◌+◌, ◌*◌, ◌<◌, List, [], ◌∷◌, ◌++◌, length, take, drop, get_or, set, refl, ap, arith, zero-add, suc-add}
 use Rattle.std.proofs.Common.{◌≤◌, ◌/◌, ◌%◌}
 use Rattle.std.proofs.lemmas.Simd.{take_more_put_chunk}
 use Rattle.std.proofs.lemmas.List.{drop-drop, drop_more, map-append, take_more_set}
@@ -7,38 +7,24 @@ use Rattle.std.specs.Simd.Lanes.{Each1, put_chunk, number_l, digits_l}
 use Rattle.v_frame_layout.specs.Pixel.{PixelForm, one_byte, two_bytes, value_of_bytes, pixels_of_bytes}
 use Rattle.v_frame_layout.specs.Table.{cut_rows}
 
-module _ {T : Type 0} where
-  -- the pieces of a source are some, and then those of what these leave
-  cut_rows-append : (width pieces more : ℕ) (source : List T) → cut_rows width (pieces + more) source ≡ cut_rows width pieces source ++
-      cut_rows width more (drop (width * pieces) source)
-  cut_rows-append width zero more source =
-      let none : width * 0 ≡ 0 = omega arith in
-      rw (zero-add more, none) refl
-  cut_rows-append width (suc pieces) more source =
-      let k : suc pieces + more ≡ suc (pieces + more) = omega arith in
-      let e : width + width * pieces ≡ width * suc pieces = omega arith in
-      rw k (ap (λ rest. take width source ∷ rest) (cut_rows-append width pieces more (drop width source) ∙
-      ap (λ left. cut_rows width pieces (drop width source) ++ cut_rows width more left) (drop-drop (width * pieces) width source ∙
-      ap (λ n. drop n source) e)))
+-- the pieces of a source are some, and then those of what these leave
+cut_rows-append : {X : Type 0} (width pieces more : ℕ) (source : List X)
+    → cut_rows width (pieces + more) source ≡ cut_rows width pieces source ++ cut_rows width more (drop (width * pieces) source)
+cut_rows-append width zero more source = let none : width * 0 ≡ 0 = omega arith in rw (zero-add more, none)
+cut_rows-append width (suc pieces) more source =
+    let e : width + width * pieces ≡ width * suc pieces = omega arith in
+    rw (suc-add pieces more, cut_rows-append width pieces more (drop width source), drop-drop (width * pieces) width source, e)
 
-module _ {T : Type 0} where
-  -- the pixels of a list of bytes are some, and then those of the bytes that these leave
-  pixels_of_bytes-append : (form : PixelForm T) (count more : ℕ) (bytes : List ℕ)
-      → pixels_of_bytes form (count + more) bytes ≡ pixels_of_bytes form count bytes ++ pixels_of_bytes form more (drop (form.size * count) bytes)
-  pixels_of_bytes-append form count more bytes =
-      let decode : List ℕ → T = λ group. form.pixel_of (value_of_bytes group) in
-      ap (map decode) (cut_rows-append form.size count more bytes) ∙ map-append decode (cut_rows form.size count bytes) _
-
--- the value of one byte, and of two
-value_of_byte : (byte : ℕ) → value_of_bytes (byte ∷ []) ≡ byte
-value_of_byte byte = omega arith
+-- the pixels of a list of bytes are some, and then those of the bytes that these leave
+pixels_of_bytes-append : {T : Type 0} (form : PixelForm T) (count more : ℕ) (bytes : List ℕ)
+    → pixels_of_bytes form (count + more) bytes ≡ pixels_of_bytes form count bytes ++ pixels_of_bytes form more (drop (form.size * count) bytes)
+pixels_of_bytes-append form count more bytes = rw (cut_rows-append form.size count more bytes, map-append)
 
 pub one_byte_pixels : (bytes : List ℕ) → pixels_of_bytes one_byte (length bytes) bytes ≡ bytes
 one_byte_pixels [] = refl
-one_byte_pixels (byte ∷ bytes) = ap (λ first. first ∷ pixels_of_bytes one_byte (length bytes) bytes) (value_of_byte byte) ∙
-    ap (λ rest. byte ∷ rest) (one_byte_pixels bytes)
+one_byte_pixels (byte ∷ bytes) = let value : value_of_bytes (byte ∷ []) ≡ byte = omega arith in rw (value, one_byte_pixels bytes)
 
-pub both_bytes : (bytes : List ℕ) (k : ℕ) → k + 1 < length bytes → take 2 (drop k bytes) ≡ get_or bytes k 0 ∷ get_or bytes (k + 1) 0 ∷ []
+both_bytes : (bytes : List ℕ) (k : ℕ) → k + 1 < length bytes → take 2 (drop k bytes) ≡ get_or bytes k 0 ∷ get_or bytes (k + 1) 0 ∷ []
 both_bytes bytes k h =
     let here : k < length bytes = omega arith in
     rw (drop_more bytes k 0 here, drop_more bytes (k + 1) 0 h) refl
@@ -49,8 +35,7 @@ pub two_byte_pixels-more : (pixels bytes : List ℕ) (i pixel : ℕ) → length 
     → take i pixels ≡ pixels_of_bytes two_bytes i bytes → take (i + 1) (set pixels i pixel) ≡ pixels_of_bytes two_bytes (i + 1) bytes
 two_byte_pixels-more pixels bytes i pixel whole h is so_far =
     let both : 2 * i + 1 < length bytes = omega arith in
-    take_more_set pixels i pixel h ∙ ap (λ front. front ++ pixel ∷ []) so_far ∙ ap (λ p. pixels_of_bytes two_bytes i bytes ++ p ∷ []) (is ∙
-    ap value_of_bytes (sym (both_bytes bytes (2 * i) both))) ∙ sym (pixels_of_bytes-append two_bytes i 1 bytes)
+    rw (take_more_set pixels i pixel h, so_far, is, pixels_of_bytes-append two_bytes i 1 bytes, both_bytes bytes (2 * i) both)
 
 -- a loop that decodes a block of sixteen pixels at a time, one step on
 pub two_byte_pixels-block_more : (pixels bytes lanes : List ℕ) (block : ℕ) → 16 * (block + 1) ≤ length pixels →
@@ -61,19 +46,17 @@ two_byte_pixels-block_more pixels bytes lanes block room is so_far =
     let pixels_on : 16 * (block + 1) ≡ 16 * block + 16 = omega arith in
     let bytes_on : 32 * block ≡ 2 * (16 * block) = omega arith in
     let sixteen : length lanes ≡ 16 = ap length is in
-    let joined : take (16 * block) pixels ++ lanes ≡ pixels_of_bytes two_bytes (16 * block + 16) bytes =
-    rw (so_far, is, bytes_on) (sym (pixels_of_bytes-append two_bytes (16 * block) 16 bytes)) in
-    rw pixels_on (take_more_put_chunk (16 * block) pixels lanes (16 * block + 16) (omega arith) (omega arith) ∙ joined)
+    let more = pixels_of_bytes-append two_bytes (16 * block) 16 bytes in
+    rw (pixels_on, take_more_put_chunk (16 * block) pixels lanes (16 * block + 16) (omega arith) (omega arith), so_far, is, bytes_on, more)
 
 -- lanes of two bytes each, low byte first, are the pixels of these bytes
 pub two_byte_pixels-lanes : (count : ℕ) (bytes : List ℕ) → 2 * count ≤ length bytes → Each1 (λ byte. byte < 256) bytes
     → digits_l 65536 count (number_l 256 (take (2 * count) bytes)) ≡ pixels_of_bytes two_bytes count bytes
 two_byte_pixels-lanes zero bytes long small = refl
-two_byte_pixels-lanes (suc count) [] long small = absurd (omega (arith, long))
-two_byte_pixels-lanes (suc count) (byte ∷ []) long small = absurd (omega (arith, long))
 two_byte_pixels-lanes (suc count) (low ∷ high ∷ bytes) long small =
     let e : 2 * suc count ≡ suc (suc (2 * count)) = omega arith in
     let rest : ℕ = number_l 256 (take (2 * count) bytes) in
     let first : (low + 256 * (high + 256 * rest)) % 65536 ≡ value_of_bytes (low ∷ high ∷ []) = omega (arith, small) in
     let left : (low + 256 * (high + 256 * rest)) / 65536 ≡ rest = omega (arith, small) in
-    rw (e, first, left) (ap (λ pixels. value_of_bytes (low ∷ high ∷ []) ∷ pixels) (two_byte_pixels-lanes count bytes (omega (arith, long)) small.1.1))
+    rw (e, first, left, two_byte_pixels-lanes count bytes (omega (arith, long)) small.1.1)
+two_byte_pixels-lanes count bytes long small = absurd (omega (arith, long))

@@ -31,10 +31,6 @@ module _ (base : ℕ) (room : 4 * base ≤ base * base) (low : (a b : ℕ) → a
       → zip2 lane_mean (digits_l (base * base) n (number_l base (take (2 * n) top))) (digits_l (base * base) n (number_l base (take (2 * n) bottom)))
       ≡ halved one_byte (take (2 * n) top) (take (2 * n) bottom)
   halved_lanes zero top bottom long long1 small small1 = refl
-  halved_lanes (suc n) [] bottom long long1 small small1 = absurd (omega (arith, long))
-  halved_lanes (suc n) (a ∷ []) bottom long long1 small small1 = absurd (omega (arith, long))
-  halved_lanes (suc n) (a ∷ b ∷ top) [] long long1 small small1 = absurd (omega (arith, long1))
-  halved_lanes (suc n) (a ∷ b ∷ top) (c ∷ []) long long1 small small1 = absurd (omega (arith, long1))
   halved_lanes (suc n) (a ∷ b ∷ top) (c ∷ d ∷ bottom) long long1 small small1 =
       let e : 2 * suc n ≡ suc (suc (2 * n)) = omega arith in
       let rest : ℕ = number_l base (take (2 * n) top) in
@@ -42,6 +38,7 @@ module _ (base : ℕ) (room : 4 * base ≤ base * base) (low : (a b : ℕ) → a
       let mean = lane_mean_is a b c d small.0 small.1.0 small1.0 small1.1.0 in
       rw (e, first a b rest small.0 small.1.0, left a b rest small.0 small.1.0, first c d rest1 small1.0 small1.1.0, left c d rest1 small1.0 small1.1.0, mean)
       (ap (λ pixels. rounded_mean a b c d ∷ pixels) (halved_lanes n top bottom (omega (arith, long)) (omega (arith, long1)) small.1.1 small1.1.1))
+  halved_lanes n top bottom long long1 small small1 = absurd (omega (arith, long, long1))
 
 -- lanes of two bytes
 abbrev byte_mean : ℕ → ℕ → ℕ

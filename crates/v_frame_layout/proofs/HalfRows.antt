@@ -13,24 +13,14 @@ module _ {T : Type 0} (form : PixelForm T) where
   pub halved-append : (n : ℕ) (top bottom top1 bottom1 : List T) → length top ≡ 2 * n → length bottom ≡ 2 * n
       → halved form (top ++ top1) (bottom ++ bottom1) ≡ halved form top bottom ++ halved form top1 bottom1
   halved-append zero [] [] top1 bottom1 long long1 = refl
-  halved-append zero [] (c ∷ bottom) top1 bottom1 long long1 = absurd (omega (arith, long1))
-  halved-append zero (a ∷ top) bottom top1 bottom1 long long1 = absurd (omega (arith, long))
-  halved-append (suc n) [] bottom top1 bottom1 long long1 = absurd (omega (arith, long))
-  halved-append (suc n) (a ∷ []) bottom top1 bottom1 long long1 = absurd (omega (arith, long))
-  halved-append (suc n) (a ∷ b ∷ top) [] top1 bottom1 long long1 = absurd (omega (arith, long1))
-  halved-append (suc n) (a ∷ b ∷ top) (c ∷ []) top1 bottom1 long long1 = absurd (omega (arith, long1))
   halved-append (suc n) (a ∷ b ∷ top) (c ∷ d ∷ bottom) top1 bottom1 long long1 =
-      let mean = rounded_mean (form.value a) (form.value b) (form.value c) (form.value d) in
-      ap (λ pixels. form.pixel_of mean ∷ pixels) (halved-append n top bottom top1 bottom1 (omega (arith, long)) (omega (arith, long1)))
+      rw (halved-append n top bottom top1 bottom1 (omega (arith, long)) (omega (arith, long1)))
+  halved-append n top bottom top1 bottom1 long long1 = absurd (omega (arith, long, long1))
 
   pub length-halved : (n : ℕ) (top bottom : List T) → length top ≡ 2 * n → length bottom ≡ 2 * n → length (halved form top bottom) ≡ n
   length-halved zero [] bottom long long1 = refl
-  length-halved zero (a ∷ top) bottom long long1 = absurd (omega (arith, long))
-  length-halved (suc n) [] bottom long long1 = absurd (omega (arith, long))
-  length-halved (suc n) (a ∷ []) bottom long long1 = absurd (omega (arith, long))
-  length-halved (suc n) (a ∷ b ∷ top) [] long long1 = absurd (omega (arith, long1))
-  length-halved (suc n) (a ∷ b ∷ top) (c ∷ []) long long1 = absurd (omega (arith, long1))
   length-halved (suc n) (a ∷ b ∷ top) (c ∷ d ∷ bottom) long long1 = ap suc (length-halved n top bottom (omega (arith, long)) (omega (arith, long1)))
+  length-halved n top bottom long long1 = absurd (omega (arith, long, long1))
 
   -- the fronts of two rows are some pixels, and then those of what these leave
   halved-fronts : (n more : ℕ) (top bottom : List T) → 2 * (n + more) ≤ length top → 2 * (n + more) ≤ length bottom
@@ -56,9 +46,8 @@ module _ {T : Type 0} (form : PixelForm T) where
       let first = length-take-le (2 * n) (drop (2 * at) top) (omega (arith, room, long, length-drop (2 * at) top)) in
       let second = length-take-le (2 * n) (drop (2 * at) bottom) (omega (arith, room, long1, length-drop (2 * at) bottom)) in
       let count : length lanes ≡ n = ap length here ∙ length-halved n _ _ first second in
-      rw on (take_more_put_chunk at pixels lanes (at + n) (omega (arith, count)) room ∙ ap (λ front. front ++ lanes) so_far
-      ∙ ap (λ back. halved form (take (2 * at) top) (take (2 * at) bottom) ++ back) here
-      ∙ sym (halved-fronts at n top bottom (omega (arith, room, long)) (omega (arith, room, long1))))
+      let more = halved-fronts at n top bottom (omega (arith, room, long)) (omega (arith, room, long1)) in
+      rw (on, take_more_put_chunk at pixels lanes (at + n) (omega (arith, count)) room, so_far, here, more)
 
   -- a loop that writes a pixel at a time, one step on
   pub halved-one_more : (i : ℕ) (pixels top bottom : List T) (pixel d : T) → i < length pixels
@@ -74,5 +63,4 @@ module _ {T : Type 0} (form : PixelForm T) where
         drop_more bottom (2 * i) d (omega (arith, room, long1)),
         drop_more bottom (2 * i + 1) d (omega (arith, room, long1)),
       ) at (halved-fronts i 1 top bottom (omega (arith, room, long)) (omega (arith, room, long1))) in
-      take_more_set pixels i pixel room ∙ ap (λ front. front ++ pixel ∷ []) so_far
-      ∙ ap (λ p. halved form (take (2 * i) top) (take (2 * i) bottom) ++ p ∷ []) is ∙ sym pair
+      rw (take_more_set pixels i pixel room, so_far, is) (sym pair)

@@ -1,8 +1,7 @@
 -- Where the plan of a geometry puts a row: how many entries lie in front of it, and that it lies in the buffer.
-use Rattle.std.proofs.Common.{ℕ, zero, suc, ◌≡◌, ◌+◌, ◌-◌, ◌*◌, ◌<◌, ◌≤◌, min, Bool, true, false, leb}
-use Rattle.std.proofs.Common.{List, [], ◌∷◌, ◌++◌, refl, sym, ◌∙◌, ap, arith, append_assoc, zero-add, suc-add}
+use Rattle.std.proofs.Common.{ℕ, zero, suc, ◌≡◌, ◌+◌, ◌-◌, ◌*◌, ◌<◌, ◌≤◌, min}
+use Rattle.std.proofs.Common.{List, [], ◌∷◌, ◌++◌, ap, arith, append_assoc, zero-add, suc-add}
 use Rattle.std.proofs.Math.Nat.{mul-le-mul_left, mul-le-mul_right}
-use Rattle.std.proofs.lemmas.Bool.{leb-true, leb-false}
 use Rattle.v_frame_layout.specs.Geometry.{Geometry, IsGeometry, stride_of, alloc_size_of, Piece, border_piece, visible_piece, times, outer_row, crossing_row, cutting_plan}
 use Rattle.v_frame_layout.specs.Geometry.{entries_in_front, origin_of, place_of, usize_max}
 

@@ -1,6 +1,6 @@
 -- Lanes of differences, and what they add up to.
-use Rattle.std.proofs.Common.{ℕ, ◌≡◌, ◌+◌, ◌-◌, ◌*◌, ◌^◌, ◌%◌, ◌<◌, ◌≤◌, List, [], ◌∷◌, Bool, true, false, cond, ltb, length, take, get_or, map, refl, sym, ◌∙◌}
-use Rattle.std.proofs.Common.{ap, arith, zero-add, Fits}
+use Rattle.std.proofs.Common.{ℕ, ◌≡◌, ◌+◌, ◌-◌, ◌*◌, ◌^◌, ◌%◌, ◌<◌, ◌≤◌, List, ◌∷◌, cond, ltb, length, take, get_or, map, refl, ◌∙◌}
+use Rattle.std.proofs.Common.{arith, zero-add, Fits}
 use Rattle.v_frame_layout.specs.PixelRows.{squared_error}
 use Rattle.v_frame_layout.proofs.RowPairs.{sum_of_lanes, sum_of_pairs-at_most}
 use mir.Syntax.{Width}
@@ -9,8 +9,8 @@ use Rattle.std.specs.Int.{abs_diff}
 use Rattle.std.specs.Prelude.{sum_by, zip}
 use Rattle.std.specs.Simd.Lanes.{Each1, Steps, zip2, sel_l, top, fold_l, sum_l}
 use Rattle.std.proofs.lemmas.Bool.Decides.{nat_tests}
-use Rattle.std.proofs.lemmas.List.{map-id, length-map, length-take-le}
-use Rattle.std.proofs.lemmas.Simd.{tops_compared, length-zip2, sum_bound, sum_fits, fold-sum, chunk-fits, below_from_Fits}
+use Rattle.std.proofs.lemmas.List.{map-id, length-take-le}
+use Rattle.std.proofs.lemmas.Simd.{tops_compared, sum_fits, fold-sum, chunk-fits, below_from_Fits}
 use Rattle.std.proofs.Math.Nat.{mul-le-mul, add-mod_right, mod-eq_of_lt}
 
 -- the greater of two values less the smaller, in lanes that wrap

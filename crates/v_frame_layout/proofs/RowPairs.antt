@@ -1,6 +1,6 @@
 -- Sums over the pairs of two lists, in pieces.
 use Rattle.std.proofs.Common.{ℕ, zero, suc, ◌≡◌, ◌+◌, ◌-◌, ◌*◌, ◌^◌, ◌<◌, ◌≤◌, List, [], ◌∷◌, ◌++◌, length, take, drop, get_or}
-use Rattle.std.proofs.Common.{mul-suc, refl, sym, subst, arith}
+use Rattle.std.proofs.Common.{mul-suc, refl, arith}
 use Rattle.std.specs.Prelude.{sum_by, zip}
 use Rattle.std.specs.Int.{abs_diff}
 use Rattle.std.proofs.Math.Nat.{mul-le-mul}
@@ -38,28 +38,21 @@ module _ {X Y : Type 0} (of : X × Y → ℕ) where
       let next : n * (k + 1) ≡ at + n = omega (arith, mul-suc n k) in
       let split = rw (drop-drop n at xs, drop-drop n at ys) at (sum_of_pairs-split n (drop at xs) (drop at ys)) in
       let here = rw (take_rest xs at, take_rest ys at) at is in
-      subst (λ (m : ℕ). SumsUpTo m xs ys (so_far + piece)) (sym next)
-      (omega (arith, split, here, invariant.0), omega (arith, some, small, invariant.1))
+      rw next (omega (arith, split, here, invariant.0), omega (arith, some, small, invariant.1))
 
   -- a sum over pairs of lists that are joined, the first two of one length
   pub sum_of_pairs-append : (xs xs1 : List X) (ys ys1 : List Y) → length xs ≡ length ys
       → sum_by of (zip (xs ++ xs1) (ys ++ ys1)) ≡ sum_by of (zip xs ys) + sum_by of (zip xs1 ys1)
   sum_of_pairs-append [] xs1 [] ys1 same = omega arith
-  sum_of_pairs-append [] xs1 (y ∷ ys) ys1 same = absurd (omega (arith, same))
-  sum_of_pairs-append (x ∷ xs) xs1 [] ys1 same = absurd (omega (arith, same))
   sum_of_pairs-append (x ∷ xs) xs1 (y ∷ ys) ys1 same =
-      omega (
-        arith,
-        sum_of_pairs-append xs xs1 ys ys1 (omega (arith, same)),
-        sum_by-cons of (x, y) (zip (xs ++ xs1) (ys ++ ys1)),
-        sum_by-cons of (x, y) (zip xs ys),
-      )
+      let rest = sum_of_pairs-append xs xs1 ys ys1 (omega (arith, same)) in
+      omega (arith, rest, sum_by-cons of (x, y) (zip (xs ++ xs1) (ys ++ ys1)), sum_by-cons of (x, y) (zip xs ys))
+  sum_of_pairs-append xs xs1 ys ys1 same = absurd (omega (arith, same))
 
 -- the sum of lanes that are made of two vectors
 pub sum_of_lanes : {X Y : Type 0} (f : X → Y → ℕ) (xs : List X) (ys : List Y) → sum_l (zip2 f xs ys) ≡ sum_by (λ p. f p.0 p.1) (zip xs ys)
-sum_of_lanes f [] ys = refl
-sum_of_lanes f (x ∷ xs) [] = refl
 sum_of_lanes f (x ∷ xs) (y ∷ ys) = omega (arith, sum_of_lanes f xs ys, sum_by-cons (λ p. f p.0 p.1) (x, y) (zip xs ys))
+sum_of_lanes f xs ys = refl
 
 -- a sum over pairs of values below a size, of which each pair adds at most so much
 pub sum_of_pairs-at_most : (f : ℕ → ℕ → ℕ) (size most : ℕ) → ((x y : ℕ) → x < size → y < size → f x y ≤ most) → (xs ys : List ℕ)
