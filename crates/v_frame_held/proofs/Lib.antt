@@ -1,2 +1,3 @@
+pub mod HeldItems
 pub mod HeldPixels
 pub mod HeldRows
