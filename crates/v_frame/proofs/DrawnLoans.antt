@@ -1,9 +1,8 @@
 -- What draws that write leave of an iterator's final values: one draw, one more draw, and the iterator that is dropped. `second`
 -- says that an iterator has it, and `End` what an item ends as. Assumes `Logic`.
 use Rattle.v_frame_plane.proofs.lent.Steps.{ℕ, ◌+◌, ◌<◌, take, arith, ◌≡◌, List, [], ◌∷◌, ◌++◌, length, Option, Some, None, refl, sym, ap, ◌∙◌, SProp, all}
-use Rattle.v_frame_plane.proofs.lent.Steps.{all_e}
-use Rattle.v_frame_plane.proofs.lent.Steps.{apply∗, emp, ent, sep, wand, Ura, ‵, raw, ◌$◌, ◌∵◌, !, qed, assume, done, each, join, move, rewrite, use1, use2}
-use Rattle.v_frame_plane.proofs.lent.Steps.{Logic, sem}
+use Rattle.v_frame_plane.proofs.lent.Steps.{all_e, apply∗, emp, ent, sep, wand, Ura, ‵, raw, ◌$◌, ◌∵◌, !, qed, assume, done, each, join, move, rewrite, use1}
+use Rattle.v_frame_plane.proofs.lent.Steps.{use2, Logic, sem}
 use Rattle.std.proofs.Common.{subst}
 use Rattle.std.proofs.lemmas.List.{take_all}
 use Rattle.std.specs.Prelude.{map}

@@ -3,29 +3,26 @@
 --     rows_back     the same, from what its rows end as
 --     lends_walk, walk_back     an iterator in a local is lent to a call, and is there again, as the call left it
 --     begins     what `rows_mut` and `pixels_mut` say of the iterator that they give
-use Rattle.v_frame_plane.proofs.lent.Steps.{Laws, NamedLft, framed, param_laws, refl, tables, ◌⊑◌}
+use Rattle.v_frame_plane.proofs.lent.Steps.{Laws, NamedLft, framed, param_laws, refl, tables, ◌⊑◌, ℕ, ◌≡◌, ◌^◌, ◌<◌, List, [], ◌∷◌, length, MutBor, Lft}
+use Rattle.v_frame_plane.proofs.lent.Steps.{Share, Fml, fat, flent, flft, fsep, full_share, ent, sep, fact, RattleType, MutRef, mut_vals, mem, named, param}
+use Rattle.v_frame_plane.proofs.lent.Steps.{Val, vptr, Ura, Goal, Item, Seq, Soaks, Step, step, ‵, raw, ◌⊛◌, some, later, ◌$◌, ◌∵◌, !, qed, await, drop}
+use Rattle.v_frame_plane.proofs.lent.Steps.{frame, fsplit, heard, move, pick, split, use1, use2, use3, Logic, sem, Body, Array, Ty}
 use contract.Running.{MachineTables, Running}
-use denote.Laws.{Typed}
+use denote.Laws.{Typed, Is}
 use denote.Lowered.{Lowered}
 use mir.Syntax.{Body as Code, Callee, Lifetime, Opd as Operand, Place, call, seq}
 use prog.Model.{Model}
 use prog.Wp.{Env}
-use types.Kit.{Post, lands, regoal, runs}
+use types.Kit.{Post, lands, regoal, runs, mean}
 use types.Run.{Opds}
 use contract.BorrowLft.{meet_⊑_right}
 use Rattle.v_frame_plane.specs.contracts.plane.Plane as planes
 use Rattle.v_frame_plane.proofs as of_walks
-use Rattle.v_frame_plane.proofs.lent.Steps.{ℕ, ◌≡◌, ◌^◌, ◌<◌, List, [], ◌∷◌, length, MutBor, Lft, Share, Fml, fat, flent, flft, fsep, full_share, ent, sep}
-use Rattle.v_frame_plane.proofs.lent.Steps.{fact, RattleType, MutRef, mut_vals, mem, named, param, Val, vptr, Ura, Goal, Item, Seq, Soaks, Step, step, ‵, raw}
-use Rattle.v_frame_plane.proofs.lent.Steps.{◌⊛◌, some, later, ◌$◌, ◌∵◌, !, qed, await, drop, frame, fsplit, heard, move, pick, split, use1, use2, use3, Logic}
-use Rattle.v_frame_plane.proofs.lent.Steps.{sem, Body, Array, Ty}
 use base.Fml.{fres}
 use denote.Follow.{follows, followed}
-use denote.Laws.{Is}
 use denote.Lend.{LentAgain, comes_back, lends_again}
 use denote.Memory.{lone}
 use mir.Raw.{raw as raw_ty}
-use types.Kit.{mean}
 use Rattle.v_frame_plane.specs.PixelsLeft.{LendsPixelsInOrder, LendsPixelsInReverse, pixels_left, pixels_slice}
 use Rattle.v_frame_plane.specs.Plane.{Raster, table_of, with_entries}
 use Rattle.v_frame_plane.specs.RowsLeft.{LendsRowsInOrder, LendsRowsInReverse, rows_left, rows_slice}

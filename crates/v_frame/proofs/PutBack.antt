@@ -1,6 +1,6 @@
 -- What a call of `next` or `next_back` leaves of the final values of an iterator. Assumes `Logic`.
-use Rattle.v_frame_plane.proofs.lent.Steps.{◌≡◌, List, [], ◌∷◌, ◌++◌, length, Some, None, MutBor, SProp, all_e, ent, sep, RattleType, Ura, ‵, raw, ◌$◌, ◌∵◌, ! }
-use Rattle.v_frame_plane.proofs.lent.Steps.{qed, done, each, move, use1, use2, Logic, sem}
+use Rattle.v_frame_plane.proofs.lent.Steps.{◌≡◌, List, [], ◌∷◌, ◌++◌, length, Some, None, MutBor, SProp, all_e, ent, sep, RattleType, Ura, ‵, raw, ◌$◌, ◌∵◌}
+use Rattle.v_frame_plane.proofs.lent.Steps.{ !, qed, done, each, move, use1, use2, Logic, sem}
 use base.Fml.{Fml, fwand, fall, fsep}
 use Rattle.v_frame.proofs.DrawnLoans.{Puts, none_drawn_from, first_put_back, last_put_back}
 use Rattle.v_frame.proofs.ItemKinds.{Ends, Entry, Kind, Lends, Second, Walk, left, of_pixels}

@@ -1,14 +1,14 @@
 -- A whole iteration of calls that write: the plane is lent to an iterator, each draw writes through it in a loop, and it is dropped. Rattle learns nothing of
 -- what the iterator says of held items, so the proof follows the code. It stands once for rows and pixels: see `ItemKinds.antt`. Assumes `Logic`.
-use Rattle.v_frame.proofs.Steps.{Below, Fml, Goes-dropped, Goes-ref, Item, LentAgain, List, NamedLft, Out, SProp, SliceRefOf, Sq, Stays, Val, Wp, addr}
-use Rattle.v_frame.proofs.Steps.{after, after_block, after_seq, after_turn, again, alloc_all, and_then, any_q, ap, arith, at_ret, at_return, bin, blocks}
-use Rattle.v_frame.proofs.Steps.{branches, copied, drop, elements_shared, enter, env, exec, fact, feq_i, feq_l, fhide, first, fld, flft}
-use Rattle.v_frame.proofs.Steps.{forget_but, framed, free_all, from, fsplit, get, get_in, give_at, head, heard, holding, id⊢, jumps, lands_as}
-use Rattle.v_frame.proofs.Steps.{lands_last, length, lit, lit<, look_at, loops, lt-wf_rel, ltb→lt, map, meet_⊑_right, mem, move, mul-le-mul_right, mut_Tells}
-use Rattle.v_frame.proofs.Steps.{mut_vals, named, nltb→le, no_more, nothing, of_opd, only, param, pass_all, plain, proved, raw, refl, returns, runs}
-use Rattle.v_frame.proofs.Steps.{sets, sets_last, shr_slice_Tells, shr_slice_vals, size_lit, skips, slice_val, split, spot_of, stay_dropped, stay_ref, stop}
-use Rattle.v_frame.proofs.Steps.{sub, tables, tables_of, take, take_at, through, unit_lit, use0, use1, use2, vint, vptr, vunit, w64, walk_of, whole, yes, ℕ, ! }
-use Rattle.v_frame.proofs.Steps.{[], ‵, ⊑_trans, ◌$◌, ◌*◌, ◌+◌, ◌-◌, ◌<◌, ◌^◌, ◌∷◌, ◌≡◌, ◌≤◌, ◌⊑◌, ◌⊛◌, size_lit, lit, mul-le-mul_right, split}
+use Rattle.v_frame.proofs.Steps.{Below, Fml, Goes-dropped, Goes-ref, Item, LentAgain, List, NamedLft, Out, SProp, SliceRefOf, Sq, Stays, Val, Wp, addr, after}
+use Rattle.v_frame.proofs.Steps.{after_block, after_seq, after_turn, again, alloc_all, and_then, any_q, ap, arith, at_ret, at_return, bin, blocks, branches}
+use Rattle.v_frame.proofs.Steps.{copied, drop, elements_shared, enter, env, exec, fact, feq_i, feq_l, fhide, first, fld, flft, forget_but, framed, free_all}
+use Rattle.v_frame.proofs.Steps.{from, fsplit, get, get_in, give_at, head, heard, holding, id⊢, jumps, lands_as, lands_last, length, lit, lit<, look_at}
+use Rattle.v_frame.proofs.Steps.{loops, lt-wf_rel, ltb→lt, map, meet_⊑_right, mem, move, mul-le-mul_right, mut_Tells, mut_vals, named, nltb→le, no_more}
+use Rattle.v_frame.proofs.Steps.{nothing, of_opd, only, param, pass_all, plain, proved, raw, refl, returns, runs, sets, sets_last, shr_slice_Tells}
+use Rattle.v_frame.proofs.Steps.{shr_slice_vals, size_lit, skips, slice_val, split, spot_of, stay_dropped, stay_ref, stop, sub, tables, tables_of, take}
+use Rattle.v_frame.proofs.Steps.{take_at, through, unit_lit, use0, use1, use2, vint, vptr, vunit, w64, walk_of, whole, yes, ℕ, !, [], ‵, ⊑_trans, ◌$◌, ◌*◌}
+use Rattle.v_frame.proofs.Steps.{◌+◌, ◌-◌, ◌<◌, ◌^◌, ◌∷◌, ◌≡◌, ◌≤◌, ◌⊑◌, ◌⊛◌}
 use Rattle.v_frame_plane.proofs.lent.Steps.{Logic, Ura, RattleType, Laws, Ty, ent, sep, sem, emp, fact_i, erased, mut, slice_ty, ty_int, ty_ptr, ty_ref}
 use base.Logic.{emp∗, mono_l, via}
 use contract.Running.{MachineTables, Running}
