@@ -1,8 +1,8 @@
 -- What a call of `next` or `next_back` leaves of the final values of an iterator. Assumes `Logic`.
-use Rattle.v_frame_plane.proofs.lent.Steps.{◌≡◌, List, [], ◌∷◌, ◌++◌, length, Some, None, MutBor, SProp, all_e, ent, sep, RattleType, Ura, ‵, raw, ◌$◌, ◌∵◌}
-use Rattle.v_frame_plane.proofs.lent.Steps.{ !, qed, done, each, move, use1, use2, Logic, sem}
-use base.Fml.{Fml, fwand, fall, fsep}
-use Rattle.v_frame.proofs.DrawnLoans.{Puts, none_drawn_from, first_put_back, last_put_back}
+use Rattle.v_frame_plane.proofs.lent.Steps.{[], ◌∷◌, ‵, ◌$◌, ◌∵◌, !, qed, done, each, assume, join, move, use1, use2, rewrite, refl, sym, apply∗, Option, ◌≡◌}
+use Rattle.v_frame_plane.proofs.lent.Steps.{List, length, Some, None, MutBor, SProp, ent, sep, RattleType, Ura, Logic, sem}
+use base.Fml.{fwand, fsep}
+use Rattle.v_frame.proofs.DrawnLoans.{Puts}
 use Rattle.v_frame.proofs.ItemKinds.{Ends, Entry, Kind, Lends, Second, Walk, left, of_pixels}
 use Rattle.v_frame.specs.{DrawnItems.put_back, Walk.item_from, declared.replay.draw.Side.Side, declared.replay.draw.Side.TheVariants.Front}
 use Rattle.v_frame.specs.{declared.replay.draw.Side.TheVariants.Back}
@@ -14,35 +14,26 @@ module _ {M : Type 1} {𝓤 : Ura M} (𝓛 : Logic 𝓤) (T : RattleType) where
   -- a call that gave no item
   pub none_taken : (side : Side) (k : Kind) (change : Entry T k → Entry T k) (old new : Walk T k) → item_from side (left T k old) ≡ None →
       ent 𝓤 (sem 𝓛 (Lends T k side old None new)) (Put k side change old new)
-  none_taken Front of_pixels change old new = none_drawn_from 𝓛 (left T of_pixels) (Second T of_pixels) old new Front change
-  none_taken Back of_pixels change old new = none_drawn_from 𝓛 (left T of_pixels) (Second T of_pixels) old new Back change
-  none_taken side k change old new = none_drawn_from 𝓛 (left T k) (Second T k) old new side change
+  none_taken Front of_pixels change old new none = rw none (record { apply = λ a says xs same. says xs })
+  none_taken Back of_pixels change old new none = rw none (record { apply = λ a says xs same. says xs })
+  none_taken side k change old new none = rw none (record { apply = λ a says xs same. says xs })
 
-  -- what a call of the last pixel says, of a list of whatever length, and so of one as long as what is left
-  module _ (old new : Walk T of_pixels) (pixel : MutBor T.Denot) where
-    abbrev Held : Type 0
-    Held = T.Denot × List T.Denot
+  -- one that gave an item says this of any final values, and one of the last row, of as many as the rows that are left
+  takes : (side : Side) (k : Kind) (change : Entry T k → Entry T k) (old new : Walk T k) (x : MutBor (Entry T k)) (xs : List (Entry T k)) →
+      length xs ≡ length (left T k new) → ent 𝓤 (sem 𝓛 (Lends T k side old (Some x) new))
+      (sem 𝓛 (fwand (fsep (Ends T k x (change x.now)) (Second T k new xs)) (Second T k old (put_back side change (Some x.now) xs))))
+  takes Front of_pixels change old new x xs same = record { apply = λ a says. says (change x.now, xs) }
+  takes Back of_pixels change old new x xs same = record { apply = λ a says. says (change x.now, xs) }
+  takes Front k change old new x xs same = record { apply = λ a says. says (change x.now, xs) }
+  takes Back k change old new x xs same = record { apply = λ a says. says (change x.now, xs) same }
 
-    abbrev Takes : Held → Fml
-    Takes held = fwand (fsep (Ends T of_pixels pixel held.0) (Second T of_pixels new held.1)) (Second T of_pixels old (held.1 ++ held.0 ∷ []))
-
-    abbrev Long : Held → Fml
-    Long held = fall (length held.1 ≡ length (left T of_pixels new)) (λ _. Takes held)
-
-    of_any_length : ent 𝓤 (sem 𝓛 (Lends T of_pixels Back old (Some pixel) new)) (sem 𝓛 (fall Held Long))
-    of_any_length = qed 𝓛 (‵ (Lends T of_pixels Back old (Some pixel) new) ∷ []) ∵
-        each ! (λ (held : Held). sem 𝓛 (Long held)) (λ held. each ! (λ (_ : length held.1 ≡ length (left T of_pixels new)). sem 𝓛 (Takes held)) (λ same.
-        use1 𝓛 (‵ (Takes held)) (all_e 𝓤 (λ (h : Held). sem 𝓛 (Takes h)) held) $ done !))
-
-  -- one that gave an item, which ends as it was left
+  -- it ends as it was left
   pub item_taken : (side : Side) (k : Kind) (change : Entry T k → Entry T k) (old new : Walk T k) (x : MutBor (Entry T k)) →
       item_from side (left T k old) ≡ Some x.now →
       ent 𝓤 (sep 𝓤 (sem 𝓛 (Ends T k x (change x.now))) (sem 𝓛 (Lends T k side old (Some x) new))) (Put k side change old new)
-  item_taken Front of_pixels change old new x = first_put_back 𝓛 (left T of_pixels) (Second T of_pixels) old new (Ends T of_pixels x) change x.now
-  item_taken Front k change old new x = first_put_back 𝓛 (left T k) (Second T k) old new (Ends T k x) change x.now
-  item_taken Back of_pixels change old new x = λ is.
-      qed 𝓛 (‵ (Ends T of_pixels x (change x.now)) ∷ ‵ (Lends T of_pixels Back old (Some x) new) ∷ []) ∵ move ! (1 ∷ []) $
-      use1 𝓛 (‵ (fall (Held old new x) (Long old new x))) (of_any_length old new x) $ move ! (1 ∷ 0 ∷ []) $
-      use2 𝓛 (raw (Put of_pixels Back change old new)) (last_put_back 𝓛 (left T of_pixels) (Second T of_pixels) old new (Ends T of_pixels x) change x.now is) $
-      done !
-  item_taken Back k change old new x = last_put_back 𝓛 (left T k) (Second T k) old new (Ends T k x) change x.now
+  item_taken side k change old new x is = let End = Ends T k x (change x.now) in
+      qed 𝓛 (‵ End ∷ ‵ (Lends T k side old (Some x) new) ∷ []) ∵ each ! _ (λ xs. each ! _ (λ same. assume ! (‵ (Second T k new xs)) $
+      let held = fsep End (Second T k new xs) in let past = Second T k old (put_back side change (Some x.now) xs) in
+      move ! (1 ∷ 0 ∷ []) $ join ! $ move ! (1 ∷ []) $ use1 𝓛 (‵ (fwand held past)) (takes side k change old new x xs same) $ move ! (1 ∷ []) $
+      use2 𝓛 (‵ past) (apply∗ 𝓤 (sem 𝓛 held) (sem 𝓛 past)) $
+      rewrite ! 0 (λ (it : Option (Entry T k)). ‵ (Second T k old (put_back side change it xs))) (sym is) refl $ done !))

@@ -202,7 +202,7 @@ module _ {M : Type 1} {𝓤 : Ura M} (𝓛 : Logic 𝓤) (𝓜 : Model 𝓤 𝓛
         (λ over. let all : i ≡ n = omega (arith, nltb→le i n over, t.1) in
         jumps ! $ exec ! 𝓣.C 𝓣.Λ En (after 4 function.body) (at_ret En Post) $
         -- the iterator is dropped, and the plane comes back as its items end
-        use1 𝓛 (‵ (Second T k walk (left T k walk))) (dropped T 𝓛 k ℓ walk (low walk ∷ [])) $ move ! (1 ∷ 0 ∷ []) $
+        use1 𝓛 (‵ (Second T k walk (left T k walk))) (dropped T 𝓛 k ℓ walk (low walk ∷ [])) $
         let table = table_of plane.now in let first_shown = shown T k plane.now in let second = walk_leaves (side_of T k) (made T k) first_shown draws in
         let last = written T k table draws in let rows = rows_of T k w in let new = with_entries plane.now (entries_with rows last) in
         use2 𝓛 (‵ (Second T k w second))
