@@ -53,39 +53,10 @@ module _ {T : Type 0} (form : PixelForm T) where
       let all : form.size * length pixels ≤ 2 * length pixels = mul-le-mul_right (length pixels) (omega arith) in
       omega arith
 
-  -- the first pixel is begun from the front, and the last one from the back
-  pub first_begun : (begun back : Option T) (pixels rest : List T) (pixel : T) (byte : ℕ) → pixels ≡ pixel ∷ rest →
-      bytes_of form.size (form.value pixel) ≡ byte ∷ other_byte form 1 begun
-      → bytes_ahead form None pixels back ≡ byte ∷ bytes_ahead form begun rest back
-  first_begun begun back pixels rest pixel byte p e =
-      rw (p, e) (simp append_assoc)
-
-  pub last_begun : (front begun : Option T) (pixels rest : List T) (pixel : T) (byte : ℕ) → pixels ≡ rest ++ pixel ∷ [] →
-      bytes_of form.size (form.value pixel) ≡ other_byte form 0 begun ++ byte ∷ []
-      → bytes_ahead form front pixels None ≡ bytes_ahead form front rest begun ++ byte ∷ []
-  last_begun front begun pixels rest pixel byte p e =
-      rw p (simp (flat_map-append, append_assoc, e))
-
 module _ {T : Type 0} (size : ℕ) where
-  fewer : (pixels rest : List T) → length rest ≤ length pixels → size * length pixels < 2 ^ 63 → size * length rest < 2 ^ 63
-  fewer pixels rest less bound = omega (arith, mul-le-mul_left size less)
-
-  -- once the first pixel is begun, or the last one, the others can be counted as well
-  pub first_drawn : (front begun back : Option T) (pixels rest : List T) (pixel : T) → PixelsAreBegun size front pixels back → pixels ≡ pixel ∷ rest →
-      IfSome begun (λ pixel. size ≡ 2) → PixelsAreBegun size begun rest back
-  first_drawn front begun back pixels rest pixel before e drawn = record {
-    low_drawn = drawn;
-    high_drawn = before.high_drawn;
-    bound = fewer pixels rest (omega (arith, ap length e)) before.bound;
-  }
-
-  pub last_drawn : (front begun back : Option T) (pixels rest : List T) (pixel : T) → PixelsAreBegun size front pixels back → pixels ≡ rest ++ pixel ∷ [] →
-      IfSome begun (λ pixel. size ≡ 2) → PixelsAreBegun size front rest begun
-  last_drawn front begun back pixels rest pixel before e drawn = record {
-    low_drawn = before.low_drawn;
-    high_drawn = drawn;
-    bound = fewer pixels rest (omega (arith, ap length e, length-append rest (pixel ∷ []))) before.bound;
-  }
+  -- where fewer pixels are left, their bytes can be counted as well
+  pub few_left : (pixels rest : List T) → length rest ≤ length pixels → size * length pixels < 2 ^ 63 → size * length rest < 2 ^ 63
+  few_left pixels rest less bound = omega (arith, mul-le-mul_left size less)
 
   pub none_left : (front back : Option T) (pixels : List T) → front ≡ None → pixels ≡ [] → back ≡ None → PixelsAreBegun size front pixels back
   none_left front back pixels f e b = rw (f, e, b) record { low_drawn = tt; high_drawn = tt; bound = omega arith }

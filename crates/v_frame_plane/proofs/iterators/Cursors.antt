@@ -43,10 +43,9 @@ module _ {T : Type 0} where
 
   pub first_row : (start width gap count : ℕ) (xs : List T) → 0 < count
       → rows_ahead start width gap count xs ≡ take width (drop start xs) ∷ rows_ahead gap width gap (count - 1) (drop width (drop start xs))
-  first_row start width gap zero xs h = absurd (omega arith)
-  first_row start width gap (suc count) xs h =
-      let e : suc count - 1 ≡ count = omega arith in
-      rw e refl
+  first_row start width gap count xs h =
+      let e : count ≡ suc (count - 1) = omega arith in
+      ap (λ n. rows_ahead start width gap n xs) e
 
   -- what lies behind the first row, in front of the last one and from there on
   pub behind_first : (start width gap count : ℕ) (xs : List T) → let last = start + suc count * (width + gap) in let behind = gap + count * (width + gap) in
@@ -73,10 +72,9 @@ module _ {T : Type 0} where
   pub last_row : (start width gap count : ℕ) (xs : List T) → 0 < count
       → rows_ahead start width gap count xs ≡ rows_ahead start width gap (count - 1) (take (start + (count - 1) * (width + gap)) xs) ++
       take width (drop (start + (count - 1) * (width + gap)) xs) ∷ []
-  last_row start width gap zero xs h = absurd (omega arith)
-  last_row start width gap (suc count) xs h =
-      let e : suc count - 1 ≡ count = omega arith in
-      rw e (last_of_more start width gap count xs)
+  last_row start width gap count xs h =
+      let e : count ≡ suc (count - 1) = omega arith in
+      ap (λ n. rows_ahead start width gap n xs) e ∙ last_of_more start width gap (count - 1) xs
 
   slice_get-rows_ahead : (start width gap count : ℕ) (xs : List T) (y : ℕ) → y < count
       → slice_get (rows_ahead start width gap count xs) y ≡ Some (take width (drop (start + y * (width + gap)) xs))

@@ -16,10 +16,9 @@ some_left zero h = absurd (T_not (eqb 0 0) h tt)
 some_left (suc count) h = omega arith
 
 one_more : (count stride : ℕ) → 0 < count → count * stride ≡ stride + (count - 1) * stride
-one_more zero stride h = absurd (omega arith)
-one_more (suc count) stride h =
-    let e : suc count - 1 ≡ count = omega arith in
-    rw e (omega arith)
+one_more count stride h =
+    let e : count ≡ suc (count - 1) = omega arith in
+    ap (λ k. k * stride) e ∙ omega arith
 
 module _ {X : Type 0} (s : Side) (old : RowsMut X) where
   abbrev pub number : ℕ

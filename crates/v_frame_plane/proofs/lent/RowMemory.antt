@@ -32,9 +32,6 @@ abbrev pub lowered : {X : Type 0} → RowsMut X → Val
 lowered walk = vstruct (vcons (slice_of walk.rest) (numbers walk walk.start walk.count))
 
 -- the positions of its fields
-abbrev pub rest_at : ℕ
-rest_at = 0
-
 abbrev pub start_at : ℕ
 start_at = 1
 

@@ -25,10 +25,9 @@ module _ {T : Type 0} where
   pub with_first_row : (start width gap count : ℕ) (xs row : List T) (rows : List (List T)) → 0 < count
       → take start xs ++ (row ++ with_rows_ahead gap width gap (count - 1) (drop width (drop start xs)) rows) ≡
       with_rows_ahead start width gap count xs (row ∷ rows)
-  with_first_row start width gap zero xs row rows h = absurd (omega arith)
-  with_first_row start width gap (suc count) xs row rows h =
-      let e : suc count - 1 ≡ count = omega arith in
-      rw e refl
+  with_first_row start width gap count xs row rows h =
+      let e : suc (count - 1) ≡ count = omega arith in
+      ap (λ n. with_rows_ahead start width gap n xs (row ∷ rows)) e
 
   -- the last row lies behind what the others take
   with_last_of_more : (start width gap count : ℕ) (xs row : List T) (rows : List (List T)) → length rows ≡ count
@@ -48,10 +47,9 @@ module _ {T : Type 0} where
   pub with_last_row : (start width gap count : ℕ) (xs row : List T) (rows : List (List T)) → 0 < count → length rows ≡ count - 1
       → with_rows_ahead start width gap (count - 1) (take (start + (count - 1) * (width + gap)) xs) rows ++
       (row ++ drop width (drop (start + (count - 1) * (width + gap)) xs)) ≡ with_rows_ahead start width gap count xs (rows ++ row ∷ [])
-  with_last_row start width gap zero xs row rows h same = absurd (omega arith)
-  with_last_row start width gap (suc count) xs row rows h same =
-      let e : suc count - 1 ≡ count = omega arith in
-      rw e (with_last_of_more start width gap count xs row rows (same ∙ e))
+  with_last_row start width gap count xs row rows h same =
+      let e : suc (count - 1) ≡ count = omega arith in
+      with_last_of_more start width gap (count - 1) xs row rows same ∙ ap (λ n. with_rows_ahead start width gap n xs (rows ++ row ∷ [])) e
 
   -- in a longer slice all of it is behind what is in front
   with_rows_behind : (ahead start width gap count : ℕ) (front xs : List T) (rows : List (List T)) → length front ≡ ahead
@@ -66,17 +64,11 @@ module _ {T : Type 0} where
   first_written : (start width gap count : ℕ) (xs row : List T) (rows : List (List T)) → length row ≡ width → start ≤ length xs
       → with_rows_ahead start width gap (suc count) xs (row ∷ rows) ≡ with_rows_ahead (start + (width + gap)) width gap count (overwritten xs start row) rows
   first_written start width gap count xs row rows long h =
-      let front : length (take start xs ++ row) ≡ start + width = length-append (take start xs) row ∙ omega (arith, length-take-le start xs h) in
+      let front : length (take start xs ++ row) ≡ start + width = rw (length-append (take start xs) row) (omega (arith, length-take-le start xs h)) in
       let at : start + (width + gap) ≡ start + width + gap = omega arith in
-      let behind : drop (length row) (drop start xs) ≡ drop width (drop start xs) = ap (λ n. drop n (drop start xs)) long in
-      let rest = with_rows_ahead gap width gap count (drop width (drop start xs)) rows in
-      rw (
-        at,
-        behind,
-        ← append_assoc (take start xs) row (drop width (drop start xs)),
-        with_rows_behind (start + width) gap width gap count (take start xs ++ row) (drop width (drop start xs)) rows front,
-      )
-      (sym (append_assoc (take start xs) row rest))
+      let behind = drop width (drop start xs) in
+      rw (at, long, ← append_assoc (take start xs) row behind, with_rows_behind (start + width) gap width gap count (take start xs ++ row) behind rows front)
+      (sym (append_assoc (take start xs) row (with_rows_ahead gap width gap count behind rows)))
 
   -- with rows in the place of those from the y-th on a plane has these in its table, and keeps its size and its border
   written_from : (g : Geometry) (gap y count : ℕ) (xs : List T) (rows : List (List T)) → g.width + gap ≡ stride_of g → y + count ≡ g.height →

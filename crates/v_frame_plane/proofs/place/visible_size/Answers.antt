@@ -5,6 +5,4 @@ use Rattle.v_frame_plane.proofs.place.visible_size.Goals as goal
 
 pub overflow_mul-result : goal.overflow_mul-result
 overflow_mul-result c =
-    let within = visible_within c.args.geometry in
-    let fits = c.requires in
-    rw (c.width.ensures.value, c.height.ensures.value) (omega arith)
+    rw (c.width.ensures.value, c.height.ensures.value) (omega (arith, c.requires, visible_within c.args.geometry))

@@ -1,6 +1,7 @@
 -- The last byte is that of the begun pixel at the back, the last one of the last pixel, or that of the begun pixel in front.
-use Rattle.std.proofs.Common.{refl, append_assoc}
-use Rattle.v_frame_plane.proofs.iterators.BegunPixels.{last_begun, last_drawn, none_left}
+use Rattle.std.proofs.Common.{[], ◌∷◌, length, refl, ap, arith, append_assoc, length-append}
+use Rattle.std.proofs.lemmas.List.Concat.{flat_map-append}
+use Rattle.v_frame_plane.proofs.iterators.BegunPixels.{few_left, none_left}
 use Rattle.v_frame_plane.proofs.iterators.WalkRuns.{last_taken}
 use Rattle.v_frame_plane.proofs.bytes.ByteDataDoubleEndedIterator.next_back.Goals as goal
 
@@ -13,8 +14,7 @@ returns-in-Some-clause-goes g c = last_taken (λ byte. byte) _ _ _ _ tt (returns
 
 pub returns-in-Some-next_back-clause-steps : goal.returns-in-Some-next_back-clause-steps
 returns-in-Some-next_back-clause-steps g c =
-    rw (← c.self.view_is, ← c.in_default.ensures.value) (last_begun g.T.Pixel.form c.self.inside.front c.begin_back.new.back c.self.inside.pixels
-    c.next_back.new.self c.in-Some-next_back.pixel c.begin_back.result c.in-Some-next_back.ensures.steps c.begin_back.ensures.bytes)
+    rw (← c.self.view_is, ← c.in_default.ensures.value, c.in-Some-next_back.ensures.steps) (simp (flat_map-append, append_assoc, c.begin_back.ensures.bytes))
 
 pub returns-in-Some-next_back-clause-goes : goal.returns-in-Some-next_back-clause-goes
 returns-in-Some-next_back-clause-goes g c = last_taken (λ byte. byte) _ _ _ _ tt (returns-in-Some-next_back-clause-steps g c)
@@ -41,9 +41,13 @@ invariant_of-self g c =
 
 pub invariant_of-self-in-Some-next_back : goal.invariant_of-self-in-Some-next_back
 invariant_of-self-in-Some-next_back g c =
-    let a = c.self.inside in
-    last_drawn g.T.Pixel.form.size a.front c.begin_back.new.back a.back a.pixels c.next_back.new.self c.in-Some-next_back.pixel c.self.invariant
-    c.in-Some-next_back.ensures.steps c.begin_back.ensures.high_drawn
+    let steps = c.in-Some-next_back.ensures.steps in
+    record {
+      low_drawn = c.self.invariant.low_drawn;
+      high_drawn = c.begin_back.ensures.high_drawn;
+      bound = few_left g.T.Pixel.form.size _ c.next_back.new.self
+          (omega (arith, ap length steps, length-append c.next_back.new.self (c.in-Some-next_back.pixel ∷ []))) c.self.invariant.bound;
+    }
 
 pub invariant_of-self-in-None : goal.invariant_of-self-in-None
 invariant_of-self-in-None g c =

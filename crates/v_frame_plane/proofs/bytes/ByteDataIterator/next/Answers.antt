@@ -1,6 +1,6 @@
 -- The next byte is that of the begun pixel in front, the low one of the next pixel, or that of the begun pixel at the back.
-use Rattle.std.proofs.Common.{refl}
-use Rattle.v_frame_plane.proofs.iterators.BegunPixels.{first_begun, first_drawn, none_left}
+use Rattle.std.proofs.Common.{length, refl, ap, arith, append_assoc}
+use Rattle.v_frame_plane.proofs.iterators.BegunPixels.{few_left, none_left}
 use Rattle.v_frame_plane.proofs.iterators.WalkRuns.{first_taken}
 use Rattle.v_frame_plane.proofs.bytes.ByteDataIterator.next.Goals as goal
 
@@ -13,8 +13,7 @@ returns-in-Some-clause-goes g c = first_taken (λ byte. byte) _ _ _ _ tt (return
 
 pub returns-in-Some-next-clause-steps : goal.returns-in-Some-next-clause-steps
 returns-in-Some-next-clause-steps g c =
-    rw (← c.self.view_is, ← c.in_default.ensures.value) (first_begun g.T.Pixel.form c.begin_front.new.front c.self.inside.back c.self.inside.pixels
-    c.next.new.self c.in-Some-next.pixel c.begin_front.result c.in-Some-next.ensures.steps c.begin_front.ensures.bytes)
+    rw (← c.self.view_is, ← c.in_default.ensures.value, c.in-Some-next.ensures.steps, c.begin_front.ensures.bytes) (simp append_assoc)
 
 pub returns-in-Some-next-clause-goes : goal.returns-in-Some-next-clause-goes
 returns-in-Some-next-clause-goes g c = first_taken (λ byte. byte) _ _ _ _ tt (returns-in-Some-next-clause-steps g c)
@@ -40,10 +39,11 @@ invariant_of-self g c =
     rw (c.take.ensures.after) record { low_drawn = tt; high_drawn = c.self.invariant.high_drawn; bound = c.self.invariant.bound }
 
 pub invariant_of-self-in-Some-next : goal.invariant_of-self-in-Some-next
-invariant_of-self-in-Some-next g c =
-    let a = c.self.inside in
-    first_drawn g.T.Pixel.form.size a.front c.begin_front.new.front a.back a.pixels c.next.new.self c.in-Some-next.pixel c.self.invariant
-    c.in-Some-next.ensures.steps c.begin_front.ensures.low_drawn
+invariant_of-self-in-Some-next g c = record {
+  low_drawn = c.begin_front.ensures.low_drawn;
+  high_drawn = c.self.invariant.high_drawn;
+  bound = few_left g.T.Pixel.form.size _ c.next.new.self (omega (arith, ap length c.in-Some-next.ensures.steps)) c.self.invariant.bound;
+}
 
 pub invariant_of-self-in-None : goal.invariant_of-self-in-None
 invariant_of-self-in-None g c =
