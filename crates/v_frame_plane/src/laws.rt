@@ -16,38 +16,45 @@ use crate::plane::{CopyError, Plane};
 use v_frame_layout::pixel::Pixel;
 
 /// The geometry, the table and the border of a plane together determine its buffer.
+#[tactic(auto, using(crate::proofs::tables::Determined::determines_buffer))]
 pub fn buffer_is_determined<T: Pixel>()
     ensures { DeterminesBuffer T }
 {}
 
 /// Each visible pixel of a plane has a place of its own, in the buffer and in no piece of the border.
+#[tactic(auto, using(crate::proofs::tables::OwnPlaces::has_places))]
 pub fn pixels_have_places()
     ensures { (g : Geometry) → HasPlaces g }
 {}
 
 /// The entry at the place of a visible pixel is that pixel.
+#[tactic(auto, using(crate::proofs::tables::Places::pixel_inside))]
 pub fn places_hold_pixels<T: Pixel>()
     ensures { (p : Raster T) → HoldsPixels p }
 {}
 
 /// Each row of a table is a part of the buffer: as many pixels as the plane is wide, from the place of its first one on.
+#[tactic(auto, using(crate::proofs::tables::Places::rows_are_parts))]
 pub fn rows_are_parts<T>()
     ensures { (p : Raster T) → HoldsRows p }
 {}
 
 /// What a plane shows is a rectangle of its whole buffer, seen as a picture without a border.
+#[tactic(auto, using(crate::proofs::tables::Regions::shows_rectangle))]
 pub fn tables_are_rectangles<T>()
     ensures { (p : Raster T) → ShowsRectangle p }
 {}
 
 /// Each place of a buffer has a mark, by its row and column: visible inside the rectangle, and else border. Past the end of the
 /// buffer no place has one.
+#[tactic(auto, using(crate::proofs::tables::Marks::has_marks))]
 pub fn places_have_marks()
     ensures { (g : Geometry) → HasMarks g }
 {}
 
 /// Planes of one geometry that hold the same entries at their visible places show the same table, and planes that hold the
 /// same at their border places have the same border.
+#[tactic(auto, using(crate::proofs::tables::Entries::made_of_entries))]
 pub fn same_entries_same_table<T: Pixel>()
     ensures { (p q : Raster T) → p.geometry ≡ q.geometry → IsMadeOfEntries p q }
 {}
@@ -74,6 +81,7 @@ pub fn bytes_come_back_without_tails<T: Pixel>()
 {}
 
 /// For pixels of one byte the packed copy of bytes is the packed copy of pixels, where the pixels of the table can be counted.
+#[tactic(auto, using(crate::proofs::copies::ByteLaws::one_byte_copies))]
 pub fn packed_outcomes_agree()
     ensures { (table : Table ℕ) (source : List ℕ)
         → width_of table * height_of table ≤ usize_max
