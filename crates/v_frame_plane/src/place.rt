@@ -5,6 +5,7 @@ ghost use Rattle.v_frame_layout.specs.Geometry.{alloc_size_of, IsGeometry, Fits,
 use v_frame_layout::geometry::PlaneGeometry;
 
 /// The index of the first pixel of row `y`.
+#[tactic(auto, using(v_frame_layout::proofs::Plans::row_start_within))]
 pub fn row_start(geometry: PlaneGeometry, y: usize) -> usize
     requires fits { Fits geometry }
     requires inside { y < geometry.height }
@@ -26,6 +27,7 @@ pub fn visible_place(geometry: PlaneGeometry, x: usize, y: usize) -> usize
 }
 
 /// The number of visible pixels.
+#[tactic(auto, using(v_frame_layout::proofs::Plans::visible_within))]
 pub fn visible_size(geometry: PlaneGeometry) -> usize
     requires { Fits geometry }
     ensures value { result ≡ geometry.width * geometry.height }

@@ -86,6 +86,7 @@ impl<'a, T> PlaneRef<'a, T> {
     }
 
     /// The visible width in pixels, never zero.
+    #[tactic(auto, using(crate::proofs::copies::CopyLemmas::width_of_shown, crate::proofs::tables::Places::rows_are_wide))]
     pub fn width(&self) -> usize
         ensures value { result ≡ self.now.geometry.width }
         ensures positive { 0 < result }
@@ -96,6 +97,7 @@ impl<'a, T> PlaneRef<'a, T> {
     }
 
     /// The visible height in pixels, never zero.
+    #[tactic(auto, using(crate::proofs::copies::CopyLemmas::height_of_shown))]
     pub fn height(&self) -> usize
         ensures value { result ≡ self.now.geometry.height }
         ensures positive { 0 < result }
@@ -121,6 +123,7 @@ impl<'a, T> PlaneRef<'a, T> {
     }
 
     /// The visible pixels of row `y`. `None` exactly below the visible rectangle.
+    #[tactic(auto, using(crate::proofs::tables::Places::shown_slice, crate::proofs::tables::Places::no_row_below))]
     pub fn row(&self, y: usize) -> Option<&'a [T]>
         ensures value { option_copied result ≡ slice_get (table_of self.now) y }
         ensures none { IsNone result ↔ (self.now.geometry.height ≤ y) }
