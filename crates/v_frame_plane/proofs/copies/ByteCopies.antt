@@ -1,6 +1,6 @@
 -- What decides a copy of bytes: its stride, then the length that is asked for, which a `usize` may not hold.
-use Rattle.std.proofs.Common.{ℕ, ◌≡◌, ◌*◌, ◌^◌, ◌-◌, ◌<◌, ◌≤◌, true, false, not, nat_eq, eqb, ltb, min, List, length, Option, Some, None, Ok, Err, unwrap_or}
-use Rattle.std.proofs.Common.{SomeIff, refl, sym, ◌∙◌, ap, arith}
+use Rattle.std.proofs.Common.{ℕ, ◌≡◌, ◌*◌, ◌^◌, ◌-◌, ◌<◌, ◌≤◌, true, false, not, nat_eq, eqb, min, List, length, Option, Some, None, Ok, Err, unwrap_or}
+use Rattle.std.proofs.Common.{SomeIff, refl, sym, ◌∙◌, arith}
 use Rattle.std.proofs.lemmas.Bool.{lt-ltb, le-ltb}
 use Rattle.std.proofs.lemmas.Bool.Decides.{nat_tests}
 use Rattle.std.specs.Option.{option_eq}

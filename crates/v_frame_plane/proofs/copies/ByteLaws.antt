@@ -1,14 +1,13 @@
 -- Laws of copies of bytes: the bytes come back, and for pixels of one byte the two packed copies are one.
-use Rattle.std.proofs.Common.{ℕ, zero, suc, ◌≡◌, ◌*◌, ◌^◌, ◌<◌, ◌≤◌, Bool, true, false, if◌then◌else◌, eqb, ltb, min, List, ◌∷◌, length, take, drop, map}
+use Rattle.std.proofs.Common.{ℕ, zero, suc, ◌≡◌, ◌*◌, ◌^◌, ◌<◌, ◌≤◌, min, List, length, take, drop, map}
 use Rattle.std.proofs.Common.{Result, Ok, Err, OnOk, inl, inr, refl, sym, ◌∙◌, ap, arith, eq-eqb, length-drop, length-take-le}
 use Rattle.std.proofs.lemmas.Bool.{cases_lt, lt-ltb, le-ltb}
 use Rattle.std.proofs.lemmas.Bool.Decides.{eqb_tells}
 use Rattle.v_frame_layout.specs.Geometry.{usize_max}
 use Rattle.v_frame_layout.specs.Table.{Table, width_of, height_of, row_major, cut_rows}
-use Rattle.v_frame_plane.specs.Copy.{CopyOutcome, packed_copy, piece_fronts, strided_table, strided_copy, packed_byte_copy}
+use Rattle.v_frame_plane.specs.Copy.{packed_copy, piece_fronts, strided_table, strided_copy, packed_byte_copy}
 use Rattle.v_frame_layout.specs.Pixel.{PixelForm, one_byte, byte_list, pixels_of_bytes}
 use Rattle.v_frame_plane.specs.declared.error.CopyError.{CopyError}
-use Rattle.v_frame_plane.specs.declared.error.CopyError.TheVariants.{DataLength, InvalidStride}
 use Rattle.v_frame_layout.proofs.Decoding.{one_byte_pixels}
 use Rattle.v_frame_plane.proofs.copies.Sources.{fronts_of_packed}
 use Rattle.v_frame_plane.proofs.copies.BytesBack.{AreBytes, table_comes_back}

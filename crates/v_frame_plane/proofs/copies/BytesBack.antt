@@ -1,5 +1,5 @@
 -- Bytes that were decoded come back: of one pixel, of a row, and of a table.
-use Rattle.std.proofs.Common.{ℕ, zero, suc, ◌≡◌, ◌+◌, ◌*◌, ◌/◌, ◌%◌, ◌^◌, ◌<◌, ◌≤◌, List, [], ◌∷◌, ◌++◌, length, take, drop, get_or, refl, sym, ◌∙◌, ap, arith}
+use Rattle.std.proofs.Common.{ℕ, zero, suc, ◌≡◌, ◌+◌, ◌*◌, ◌/◌, ◌%◌, ◌^◌, ◌<◌, ◌≤◌, List, [], ◌∷◌, length, take, drop, get_or, refl, sym, ◌∙◌, ap, arith}
 use Rattle.std.proofs.Common.{add-one, lit<, inl, inr, length-take, length-drop, length-take-le, take-append-drop}
 use Rattle.std.proofs.Math.Nat.{pow-suc, mul_comm, div-div-eq-div-mul, div-one}
 use Rattle.std.proofs.lemmas.Grind.{flat_map-append}
@@ -15,16 +15,20 @@ pub record AreBytes (bytes : List ℕ) : Type 0 where
 
 -- what every place of a list holds that has it
 pub are_bytes : (bytes : List ℕ) → ((i d : ℕ) → i < length bytes → get_or bytes i d < 256) → AreBytes bytes
-are_bytes bytes h = record { below = λ i. elim (cases_lt i (length bytes)) [
+are_bytes bytes h = record {
+  below = λ i. elim (cases_lt i (length bytes)) [
     | inl within ↦ h i 0 within
     | inr past ↦ rw (get_or_past bytes i 0 past) (lit< tt)
-  ] }
+  ];
+}
 
 front_are_bytes : (n : ℕ) (bytes : List ℕ) → AreBytes bytes → AreBytes (take n bytes)
-front_are_bytes n bytes h = record { below = λ i. elim (cases_lt i n) [
+front_are_bytes n bytes h = record {
+  below = λ i. elim (cases_lt i n) [
     | inl within ↦ rw (get_or-take n bytes i 0 within) (h.below i)
     | inr past ↦ rw (get_or_past (take n bytes) i 0 (omega (arith, length-take n bytes))) (lit< tt)
-  ] }
+  ];
+}
 
 rest_are_bytes : (n : ℕ) (bytes : List ℕ) → AreBytes bytes → AreBytes (drop n bytes)
 rest_are_bytes n bytes h = record { below = λ i. rw (get_or-drop n bytes i 0) (h.below (n + i)) }

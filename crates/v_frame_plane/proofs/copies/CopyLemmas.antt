@@ -1,6 +1,6 @@
 -- Rows of a packed source, written one after the other over those of a plane.
-use Rattle.std.proofs.Common.{ℕ, zero, suc, ◌≡◌, ◌+◌, ◌*◌, ◌<◌, ◌≤◌, eqb, true, false, eq-eqb, inl, inr, List, [], ◌∷◌, ◌++◌, length, take, drop, Some, Ok, Err}
-use Rattle.std.proofs.Common.{slice_get, slice_set, refl, sym, ◌∙◌, ap, arith, append-nil, take-append-drop, length-drop, length-take, length-take-le}
+use Rattle.std.proofs.Common.{ℕ, zero, suc, ◌≡◌, ◌+◌, ◌*◌, ◌<◌, ◌≤◌, eqb, false, eq-eqb, inl, inr, List, [], ◌∷◌, ◌++◌, length, take, drop, Some, Ok, Err}
+use Rattle.std.proofs.Common.{slice_get, refl, sym, ◌∙◌, ap, arith, append-nil, take-append-drop, length-drop, length-take, length-take-le}
 use Rattle.std.proofs.lemmas.List.{drop-drop, take_all, drop_all}
 use Rattle.std.proofs.lemmas.Bool.{cases_lt}
 use Rattle.std.proofs.lemmas.Bool.Decides.{nat_tests}

@@ -1,8 +1,7 @@
 -- An iterator over bytes as a pixel that was begun from the front, pixels, and a pixel that was begun from the back.
-use Rattle.std.proofs.Common.{ℕ, Bool, true, false, ◌≡◌, ◌+◌, ◌*◌, ◌^◌, ◌<◌, ◌≤◌, List, [], ◌∷◌, ◌++◌, length, Option, Some, None, IfSome, is_some, refl, ap}
-use Rattle.std.proofs.Common.{arith, append_assoc, length-append}
+use Rattle.std.proofs.Common.{ℕ, Bool, true, false, ◌≡◌, ◌+◌, ◌*◌, ◌^◌, ◌<◌, ◌≤◌, List, [], ◌∷◌, ◌++◌, length, Option, Some, None, is_some, refl}
+use Rattle.std.proofs.Common.{arith, length-append}
 use Rattle.std.proofs.Math.Nat.{mul-le-mul_left, mul-le-mul_right}
-use Rattle.std.proofs.lemmas.List.Concat.{flat_map-append}
 use Rattle.std.specs.Int.{from_bool}
 use Rattle.v_frame_layout.specs.Geometry.{Geometry, Fits}
 use Rattle.v_frame_layout.specs.Pixel.{PixelForm, bytes_of, bytes_of_pixels}

@@ -1,7 +1,7 @@
 -- A call of `cut_first` or `cut_last`, and what `next` or `next_back`, which makes it, leaves of the final values. Assumes `Logic`.
 --     cuts_one     the slice goes to the call, which gives its pixel and the rest: it ends as they do
 --     takes_near, fewer, steps     so the iterator ends as the pixel and what is left, which can be counted, and the pixel is the next at that end
-use Rattle.v_frame_plane.proofs.lent.Steps.{◌≡◌, ◌^◌, ◌<◌, List, [], ◌∷◌, ◌++◌, length, MutBor, refl, sym, ap, ◌∙◌, arith, Lft, Share, flft, SProp}
+use Rattle.v_frame_plane.proofs.lent.Steps.{◌≡◌, ◌^◌, ◌<◌, List, [], ◌∷◌, ◌++◌, length, MutBor, refl, ap, ◌∙◌, arith, Lft, Share, flft, SProp}
 use Rattle.v_frame_plane.proofs.lent.Steps.{ent, sep, wand, id⊢, ◌⊑◌, fact, Array, shows, param, RattleType, MutRef, MutSlice, slice_val, heard}
 use Rattle.v_frame_plane.proofs.lent.Steps.{only, peeks, triple_of, Contract, named, Val, of_list, vcons, vnil, vptr, vstruct, Ura, Item}
 use Rattle.v_frame_plane.proofs.lent.Steps.{Seq, ‵, raw, ◌⊛◌, ◌$◌, ◌∵◌, !, qed, assume, done, drop, each, feq_l, fjoin3, fpick, fsplit}
@@ -12,7 +12,7 @@ use mir.Syntax.{Body}
 use Rattle.v_frame_layout.specs.Table.{row_major}
 use Rattle.v_frame_plane.specs.RowsLeft.{rows_left}
 use Rattle.v_frame_plane.specs.SecondRows.{EndsAs}
-use Rattle.v_frame_plane.specs.SecondPixels.{Parts, PixelEndsAs, SecondPixels}
+use Rattle.v_frame_plane.specs.SecondPixels.{PixelEndsAs, SecondPixels}
 use Rattle.v_frame_plane.specs.contracts.pixels_mut.cut_first
 use Rattle.v_frame_plane.specs.declared.pixels_mut.PixelsMut.{PixelsMut}
 use Rattle.v_frame_plane.proofs.lent.CallSteps.{asks_both, calls}

@@ -1,5 +1,5 @@
 -- A buffer is put together again from its visible pieces and its border pieces.
-use Rattle.std.proofs.Common.{◌≡◌, List, [], ◌∷◌, ◌++◌, length, take, drop, refl, sym, ◌∙◌, ap, arith}
+use Rattle.std.proofs.Common.{◌≡◌, List, [], ◌∷◌, ◌++◌, length, take, drop, refl, sym, ◌∙◌, arith}
 use Rattle.std.proofs.lemmas.List.{take_all}
 use Rattle.std.proofs.Math.Seq.{take-add}
 use Rattle.v_frame_layout.specs.Geometry.{Geometry, alloc_size_of, Mark, Border, Visible, Piece, cutting_plan}

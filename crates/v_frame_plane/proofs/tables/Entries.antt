@@ -1,7 +1,7 @@
 -- The pieces of a buffer hold what its places hold.
-use Rattle.std.proofs.Common.{ℕ, zero, suc, ◌≡◌, ◌+◌, ◌<◌, List, [], ◌∷◌, ◌++◌, take, drop, Some, None, slice_get, refl, sym, ◌∙◌, ap, arith}
-use Rattle.v_frame_layout.specs.Geometry.{Geometry, Mark, Border, Visible, Piece, cutting_plan, mark_at}
-use Rattle.v_frame_plane.specs.Plane.{Raster, raster, cut_by, if_visible, if_border, visible_pieces, border_pieces, table_of, border_of}
+use Rattle.std.proofs.Common.{ℕ, zero, suc, ◌≡◌, ◌+◌, ◌<◌, List, [], ◌∷◌, take, drop, Some, None, slice_get, refl, sym, ◌∙◌, ap, arith}
+use Rattle.v_frame_layout.specs.Geometry.{Mark, Border, Visible, Piece, cutting_plan, mark_at}
+use Rattle.v_frame_plane.specs.Plane.{Raster, cut_by, if_visible, if_border, visible_pieces, border_pieces}
 use Rattle.v_frame_plane.specs.Laws.{IsMadeOfEntries}
 use Rattle.v_frame_plane.proofs.tables.Lists.{slice_get-drop}
 use Rattle.v_frame_plane.proofs.tables.Marks.{mark_at-here, mark_at-past}

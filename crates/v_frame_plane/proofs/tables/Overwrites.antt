@@ -1,6 +1,6 @@
 -- Rows overwritten entry by entry, and tables that are written outside of what they have.
 use Rattle.std.proofs.Common.{ℕ, zero, suc, ◌≡◌, ◌+◌, ◌<◌, ◌≤◌, min, List, [], ◌∷◌, length, take, Option, Some, All, inl, inr, unwrap_or, get_or, slice_get}
-use Rattle.std.proofs.Common.{slice_set, refl, sym, ◌∙◌, ap, arith, add-one}
+use Rattle.std.proofs.Common.{slice_set, refl, ap, arith, add-one}
 use Rattle.std.proofs.lemmas.List.{set_past, set-get_or}
 use Rattle.std.proofs.lemmas.Option.{slice_get_cases, slice_get_past}
 use Rattle.v_frame_layout.specs.Table.{Table, overwritten_row, with_item_by, with_pixel}

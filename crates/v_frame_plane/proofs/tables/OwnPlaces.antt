@@ -1,8 +1,8 @@
 -- Each visible pixel has a place of its own, in a visible piece.
-use Rattle.std.proofs.Common.{ℕ, ◌≡◌, ◌+◌, ◌*◌, ◌<◌, ◌≤◌, ◌∷◌, ◌++◌, inl, inr, sym, ◌∙◌, ap, arith}
+use Rattle.std.proofs.Common.{ℕ, ◌≡◌, ◌+◌, ◌*◌, ◌<◌, ◌≤◌, inl, inr, sym, ap, arith}
 use Rattle.std.proofs.lemmas.Bool.{cases_lt}
 use Rattle.std.proofs.Math.Nat.{mul-le-mul_right}
-use Rattle.v_frame_layout.specs.Geometry.{Geometry, stride_of, mark_at, visible_piece, place_of}
+use Rattle.v_frame_layout.specs.Geometry.{Geometry, stride_of, place_of}
 use Rattle.v_frame_plane.specs.Laws.{HasPlaces}
 use Rattle.v_frame_layout.proofs.Plans.{row_start, place_of_row}
 use Rattle.v_frame_plane.proofs.tables.Marks.{has_marks}

@@ -2,9 +2,9 @@
 use Rattle.std.proofs.Common.{ℕ, zero, suc, ◌≡◌, ◌+◌, ◌<◌, ◌≤◌, List, [], ◌∷◌, ◌++◌, length, take, drop, Some, slice_get, slice_set, refl, sym, ◌∙◌, ap, arith}
 use Rattle.std.proofs.Common.{append_assoc, length-append, length-drop, length-take-le, take-append-drop}
 use Rattle.std.proofs.lemmas.List.{drop-drop, take-append-le, drop-append-le, take_at, drop_at, set_at}
-use Rattle.v_frame_layout.specs.Geometry.{Geometry, stride_of, Mark, Visible, Piece, visible_piece, times, outer_row, crossing_row, cutting_plan}
+use Rattle.v_frame_layout.specs.Geometry.{Geometry, stride_of, Mark, Visible, Piece, times, outer_row, crossing_row, cutting_plan}
 use Rattle.v_frame_layout.proofs.Plans.{total, before_row, after_row, plan_at_row, row_start, total-before_row}
-use Rattle.v_frame_plane.specs.Plane.{Raster, cut_by, if_visible, if_border, visible_pieces, border_pieces, table_of}
+use Rattle.v_frame_plane.specs.Plane.{Raster, cut_by, visible_pieces, border_pieces, table_of}
 use Rattle.v_frame_plane.proofs.tables.Lists.{slice_get-at}
 
 module _ {T : Type 0} where

@@ -1,5 +1,5 @@
 -- Places of pixels: what is at one, and that it is the table's pixel inside the rectangle.
-use Rattle.std.proofs.Common.{ℕ, ◌≡◌, ◌+◌, ◌-◌, ◌*◌, ◌<◌, ◌≤◌, ◌↔◌, IsNone, true, false, List, length, take, drop, Option, Some, None, slice_get, option_and_then, option_copied, Bor}
+use Rattle.std.proofs.Common.{ℕ, ◌≡◌, ◌+◌, ◌-◌, ◌*◌, ◌<◌, ◌≤◌, ◌↔◌, IsNone, List, length, take, drop, Option, Some, None, slice_get, option_copied, Bor}
 use Rattle.std.proofs.Common.{All, inl, inr, length-take-le, length-drop, refl, sym, ◌∙◌, ap, arith}
 use Rattle.std.proofs.lemmas.Bool.{cases_lt}
 use Rattle.std.proofs.lemmas.Option.{slice_get_past, slice_get_read, slice_get_cases, get_or_from_slice_get}

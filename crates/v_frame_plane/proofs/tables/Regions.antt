@@ -1,5 +1,5 @@
 -- Rectangles of a table: what a plane shows of a buffer of which another shows more.
-use Rattle.std.proofs.Common.{ℕ, ◌≡◌, ◌+◌, ◌*◌, ◌<◌, ◌≤◌, List, length, map, take, drop, Some, slice_get, refl, sym, ◌∙◌, ap, arith, length-take-le}
+use Rattle.std.proofs.Common.{ℕ, ◌≡◌, ◌+◌, ◌<◌, ◌≤◌, List, length, map, take, drop, Some, slice_get, refl, sym, ◌∙◌, arith, length-take-le}
 use Rattle.std.proofs.Common.{length-drop}
 use Rattle.std.proofs.lemmas.List.{length-map, drop-drop, drop-take, take-take}
 use Rattle.v_frame_layout.specs.Geometry.{Geometry, stride_of, IsInside, region_geometry, whole_geometry}
@@ -45,10 +45,17 @@ module _ {T : Type 0} where
       same_by_slice_get (table_of small) (map cut rows) (length-shown small ∙ sym (length-map rows cut ∙ high)) (λ k h.
       let low : k < part.height = omega (arith, h, length-shown small) in
       let from = row_start g (y + k) in
-      let row : slice_get rows k ≡ Some (take g.width (drop from buffer)) = rw (slice_get-take part.height (drop y (table_of large)) k low,
-      slice_get-drop y (table_of large) k) (shown_row large (y + k) (omega (arith, low, is.down))) in
-      rw (shown_row small k low, row_start-part part g x y k is, slice_get-map cut rows k _ row, taken_inside (drop from buffer) x part.width g.width is.across,
-      drop-drop x from buffer) refl)
+      let row : slice_get rows k ≡ Some (take g.width (drop from buffer)) = rw (
+        slice_get-take part.height (drop y (table_of large)) k low,
+        slice_get-drop y (table_of large) k,
+      ) (shown_row large (y + k) (omega (arith, low, is.down))) in
+      rw (
+        shown_row small k low,
+        row_start-part part g x y k is,
+        slice_get-map cut rows k _ row,
+        taken_inside (drop from buffer) x part.width g.width is.across,
+        drop-drop x from buffer,
+      ) refl)
 
   -- a region shows the rectangle
   pub region_shows : (p : Raster T) (x y width height : ℕ) → IsInside p.geometry x y width height

@@ -1,10 +1,9 @@
 -- An entry that is set inside the rectangle is a pixel of the table, and leaves the border.
-use Rattle.std.proofs.Common.{ℕ, ◌≡◌, ◌+◌, ◌<◌, ◌≤◌, ◌↔◌, List, ◌++◌, length, take, drop, Option, Some, None, IsNone, MutBor, slice_get}
-use Rattle.std.proofs.Common.{slice_set, refl, sym, ◌∙◌, ap, arith, length-take-le, length-drop, length-set}
+use Rattle.std.proofs.Common.{ℕ, ◌≡◌, ◌+◌, ◌<◌, ◌≤◌, ◌↔◌, List, length, take, drop, Option, Some, None, IsNone, MutBor, slice_get}
+use Rattle.std.proofs.Common.{slice_set, refl, ◌∙◌, ap, arith, length-take-le, length-drop, length-set}
 use Rattle.std.specs.Option.{option_copied_mut}
 use Rattle.v_frame_layout.specs.Geometry.{alloc_size_of, place_of}
-use Rattle.v_frame_plane.specs.Plane.{Raster, raster, table_of, border_of, with_entry, WritesPixel, WritesEachPixel}
-use Rattle.v_frame_layout.specs.Table.{with_pixel, with_item_by}
+use Rattle.v_frame_plane.specs.Plane.{Raster, raster, with_entry, WritesPixel, WritesEachPixel}
 use Rattle.v_frame_plane.proofs.tables.Lists.{set_in_part}
 use Rattle.v_frame_layout.proofs.Plans.{row_start, place_of_row, row_within}
 use Rattle.v_frame_plane.proofs.tables.Pictures.{shown_row, overwritten, shown_overwritten, border_overwritten}
