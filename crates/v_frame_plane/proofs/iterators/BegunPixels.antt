@@ -23,12 +23,7 @@ module _ {T : Type 0} (form : PixelForm T) where
   pub length-bytes_of_pixels : (pixels : List T) → length (bytes_of_pixels form pixels) ≡ length pixels * form.size
   length-bytes_of_pixels [] = omega arith
   length-bytes_of_pixels (pixel ∷ pixels) =
-      omega (
-        arith,
-        length-append (bytes_of form.size (form.value pixel)) (bytes_of_pixels form pixels),
-        length-bytes_from 0 form.size (form.value pixel),
-        length-bytes_of_pixels pixels,
-      )
+      rw (length-append (bytes_of form.size (form.value pixel)), length-bytes_from 0 form.size (form.value pixel), length-bytes_of_pixels pixels) (omega arith)
 
   count_of_other : (i : ℕ) (begun : Option T) → length (other_byte form i begun) ≡ from_bool (is_some begun)
   count_of_other i None = refl
@@ -36,15 +31,7 @@ module _ {T : Type 0} (form : PixelForm T) where
 
   pub count_of_bytes : (front : Option T) (pixels : List T) (back : Option T)
       → length (bytes_ahead form front pixels back) ≡ from_bool (is_some front) + length pixels * form.size + from_bool (is_some back)
-  count_of_bytes front pixels back =
-      omega (
-        arith,
-        length-append (other_byte form 1 front) (bytes_of_pixels form pixels ++ other_byte form 0 back),
-        length-append (bytes_of_pixels form pixels) (other_byte form 0 back),
-        length-bytes_of_pixels pixels,
-        count_of_other 1 front,
-        count_of_other 0 back,
-      )
+  count_of_bytes front pixels back = simp (length-append, length-bytes_of_pixels, count_of_other) (omega arith)
 
   -- pixels of two bytes at most
   pub few_bytes : (pixels : List T) → form.size < 3 → 2 * length pixels < 2 ^ 63 → length pixels * form.size < 2 ^ 63

@@ -31,12 +31,8 @@ module _ {T : Type 0} where
   pub pixels_of_rows : (width : ℕ) (rows : List (List T)) → All (λ row. length row ≡ width) rows → length (row_major rows) ≡ length rows * width
   pixels_of_rows width [] each = omega arith
   pixels_of_rows width (row ∷ rows) each =
-      omega (
-        arith,
-        length-append row (row_major rows),
-        All-head (λ row. length row ≡ width) row rows each,
-        pixels_of_rows width rows (All-tail (λ row. length row ≡ width) row rows each),
-      )
+      let others = pixels_of_rows width rows (All-tail (λ row. length row ≡ width) row rows each) in
+      rw (length-append row (row_major rows), All-head (λ row. length row ≡ width) row rows each, others) (omega arith)
 
   pub no_rows : (start width gap count : ℕ) (xs : List T) → count ≡ 0 → rows_ahead start width gap count xs ≡ []
   no_rows start width gap count xs e = rw e refl

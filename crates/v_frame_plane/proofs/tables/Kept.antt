@@ -15,11 +15,8 @@ module _ {T : Type 0} where
   -- a part from the first place on
   pub front_part : (xs ys : List T) → with_part xs 0 ys ≡ refill (length xs) xs ys
   front_part xs ys =
-      take-append-le (length xs) (ys ++ drop (length ys) xs) (drop (length (ys ++ drop (length ys) xs)) xs) (omega (
-        arith,
-        length-append ys (drop (length ys) xs),
-        length-drop (length ys) xs,
-      ))
+      let behind = drop (length ys) xs in
+      take-append-le (length xs) (ys ++ behind) (drop (length (ys ++ behind)) xs) (simp (length-append, length-drop) (omega arith))
 
   pub front_range : (xs : List T) (n : ℕ) → length xs ≡ n → slice_range xs 0 n ≡ xs
   front_range xs n e =

@@ -1,6 +1,6 @@
 -- One row of a buffer: what is lent of it, and of what lies behind it, and what the table is where the row is written.
 use Rattle.std.proofs.Common.{ℕ, ◌≡◌, ◌+◌, ◌-◌, ◌<◌, ◌≤◌, List, [], ◌++◌, length, take, drop, Some, slice_get, refl, sym, ◌∙◌, ap, subst, arith, append-nil}
-use Rattle.std.proofs.Common.{length-append, length-take-le, length-drop}
+use Rattle.std.proofs.Common.{length-append, length-take, length-take-le, length-drop}
 use Rattle.std.proofs.lemmas.List.{drop-drop, drop_all}
 use Rattle.std.specs.List.{refill}
 use Rattle.std.proofs.lemmas.Option.{get_or_from_slice_get, slice_get_within}
@@ -13,16 +13,7 @@ use Rattle.v_frame_plane.proofs.tables.Places.{rows_are_wide}
 
 module _ {T : Type 0} where
   pub length-overwritten : (xs ys : List T) (start : ℕ) → start + length ys ≤ length xs → length (overwritten xs start ys) ≡ length xs
-  length-overwritten xs ys start inside =
-      let rest = drop (length ys) (drop start xs) in
-      omega (
-        arith,
-        length-append (take start xs) (ys ++ rest),
-        length-append ys rest,
-        length-take-le start xs (omega (arith, inside)),
-        length-drop (length ys) (drop start xs),
-        length-drop start xs,
-      )
+  length-overwritten xs ys start inside = simp (length-append, length-take, length-drop) (omega arith)
 
   -- what is written inside a list keeps its length
   with_part-overwritten : (xs ys : List T) (start : ℕ) → start + length ys ≤ length xs → with_part xs start ys ≡ overwritten xs start ys

@@ -1,5 +1,5 @@
 -- A row is begun: the next one, or the one that was begun from the back.
-use Rattle.std.proofs.Common.{List, Bor, length, refl, ◌∙◌, ap, arith, append_assoc, append-nil}
+use Rattle.std.proofs.Common.{length, refl, ap, arith, append_assoc, append-nil}
 use Rattle.std.proofs.lemmas.List.{nil_from_length}
 use Rattle.v_frame_plane.proofs.iterators.BegunRows.{first_drawn, drawn_countable, none_countable}
 use Rattle.v_frame_plane.proofs.iterators.WalkRuns.{first_taken}
@@ -8,14 +8,13 @@ use Rattle.v_frame_plane.proofs.pixels.PixelsIterator.next.Goals.{in-Some-next, 
 
 pub invariant_of-self-2 : goal.invariant_of-self-2
 invariant_of-self-2 g c =
-    let cut = ap length c.in_ok-pixel.ensures.cases.0 in
     elim c.match-next.branch [
       | in-Some-next w ↦
-          let row = ap (λ (r : Bor (List g.row.T.Denot)). length r.now) w.row-is in
-          rw (w.self-inside-is) (drawn_countable c.self.invariant (first_drawn w.in-Some-next.ensures.steps) _ _ (omega (arith, cut, row)))
+          let cut = ap length (rw (w.row-is) at c.in_ok-pixel.ensures.cases.0) in
+          rw (w.self-inside-is) (drawn_countable c.self.invariant (first_drawn w.in-Some-next.ensures.steps) _ _ (omega (arith, cut)))
       | in-None w ↦
-          let row = ap (λ (r : Bor (List g.row.T.Denot)). length r.now) (w.row-is ∙ w.take-row.ensures.value) in
-          rw (w.self-inside-is) (none_countable c.self.invariant w.in-None.ensures.steps.1 _ _ (omega (arith, cut, row, ap length w.take-row.ensures.after)))
+          let cut = ap length (rw (w.row-is, w.take-row.ensures.value) at c.in_ok-pixel.ensures.cases.0) in
+          rw (w.self-inside-is) (none_countable c.self.invariant w.in-None.ensures.steps.1 _ _ (omega (arith, cut, ap length w.take-row.ensures.after)))
     ]
 
 pub returns-in-Some-clause-steps : goal.returns-in-Some-clause-steps
@@ -26,13 +25,13 @@ returns-in-Some-clause-goes g c = first_taken (λ pixel. pixel) _ _ _ _ tt (retu
 
 pub returns-clause-steps : goal.returns-clause-steps
 returns-clause-steps g c =
-    let a = c.self.inside in
-    let cut = c.in_ok-pixel.ensures.cases.0 in
-    rw (← c.self.view_is, nil_from_length a.front.now c.in_default.ensures.cases) (elim c.match-next.branch [
-      | in-Some-next w ↦ rw (w.self-inside-is, w.in-Some-next.ensures.steps, ← w.row-is, cut) (simp append_assoc)
+    rw (← c.self.view_is, nil_from_length c.self.inside.front.now c.in_default.ensures.cases) (elim c.match-next.branch [
+      | in-Some-next w ↦
+          let cut = rw (w.row-is) at c.in_ok-pixel.ensures.cases.0 in
+          rw (w.self-inside-is, w.in-Some-next.ensures.steps, cut) (simp append_assoc)
       | in-None w ↦
-          let row = ap (λ (r : Bor (List g.row.T.Denot)). r.now) (w.row-is ∙ w.take-row.ensures.value) in
-          rw (w.self-inside-is, w.in-None.ensures.steps.0, w.in-None.ensures.steps.1, w.take-row.ensures.after, ← row, cut) (simp append-nil)
+          let cut = rw (w.row-is, w.take-row.ensures.value) at c.in_ok-pixel.ensures.cases.0 in
+          rw (w.self-inside-is, w.in-None.ensures.steps.0, w.in-None.ensures.steps.1, w.take-row.ensures.after, cut) (simp append-nil)
     ])
 
 pub returns-clause-goes : goal.returns-clause-goes
@@ -52,25 +51,15 @@ invariant_of-self-in_err-pixel g c =
 
 pub returns-in_err-pixel-clause-steps : goal.returns-in_err-pixel-clause-steps
 returns-in_err-pixel-clause-steps g c =
-    let a = c.self.inside in
-    let empty = c.in_err-pixel.ensures.cases in
     elim c.match-next.branch [
       | in-Some-next w ↦
-          let row = ap (λ (r : Bor (List g.row.T.Denot)). length r.now) w.row-is in
-          absurd (omega (arith, ((first_drawn w.in-Some-next.ensures.steps).full c.self.invariant.full).0, empty, row))
+          let empty = rw (w.row-is) at c.in_err-pixel.ensures.cases in
+          absurd (omega (arith, ((first_drawn w.in-Some-next.ensures.steps).full c.self.invariant.full).0, empty))
       | in-None w ↦
-          let row = ap (λ (r : Bor (List g.row.T.Denot)). r.now) (w.row-is ∙ w.take-row.ensures.value) in
-          rw (
-            c.from_residual.ensures,
-            w.self-inside-is,
-            ← c.self.view_is,
-            nil_from_length a.front.now c.in_default.ensures.cases,
-            w.in-None.ensures.steps.0,
-            w.in-None.ensures.steps.1,
-            w.take-row.ensures.after,
-            ← row,
-            nil_from_length c.match-next.row.now empty,
-          ) (refl, refl)
+          let front = nil_from_length c.self.inside.front.now c.in_default.ensures.cases in
+          let back = nil_from_length c.self.inside.back.now (rw (w.row-is, w.take-row.ensures.value) at c.in_err-pixel.ensures.cases) in
+          let rows = w.in-None.ensures.steps in
+          rw (c.from_residual.ensures, w.self-inside-is, ← c.self.view_is, front, rows.0, rows.1, w.take-row.ensures.after, back) (refl, refl)
     ]
 
 pub returns-in_err-pixel-clause-goes : goal.returns-in_err-pixel-clause-goes
