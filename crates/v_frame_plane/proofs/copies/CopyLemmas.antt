@@ -36,21 +36,21 @@ module _ {T : Type 0} where
       let e : width * suc y ≡ width + width * y = omega arith in
       rw (slice_get-cut_rows width height (drop width source) y (omega arith), drop-drop (width * y) width source, e) refl
 
-  module _ (g : Geometry) (xs row : List T) (y start k : ℕ) (high : y < g.height) (at : start ≡ place_of g 0 y) (long : length row ≡ k) (wide : k ≡ g.width)
-      (whole : length xs ≡ alloc_size_of g) where
-    -- a write of `k` entries from the place where row y begins on
-    put_row : put_mid start k xs row ≡ overwritten xs (row_start g y) row
+  module _ (g : Geometry) (xs row : List T) (y start : ℕ) (high : y < g.height) (at : start ≡ place_of g 0 y) (long : length row ≡ g.width) (whole : length xs ≡
+      alloc_size_of g) where
+    -- a write of a row from the place on where row y begins
+    put_row : put_mid start g.width xs row ≡ overwritten xs (row_start g y) row
     put_row = let place : start ≡ row_start g y = at ∙ place_of_row g y (omega arith) in rw (place, ← long) refl
 
-    pub border_put_row : border_of (raster g (put_mid start k xs row)) ≡ border_of (raster g xs)
-    border_put_row = rw put_row (border_overwritten g xs row y high (long ∙ wide) (omega (arith, row_within g y high)))
+    pub border_put_row : border_of (raster g (put_mid start g.width xs row)) ≡ border_of (raster g xs)
+    border_put_row = rw put_row (border_overwritten g xs row y high long (omega (arith, row_within g y high)))
 
     -- one more row of those that are written
     pub one_more_row : (ys : List T) (rows : Table T) → slice_get rows y ≡ Some row
         → table_of (raster g xs) ≡ take y rows ++ drop y (table_of (raster g ys))
-        → table_of (raster g (put_mid start k xs row)) ≡ take (y + 1) rows ++ drop (y + 1) (table_of (raster g ys))
+        → table_of (raster g (put_mid start g.width xs row)) ≡ take (y + 1) rows ++ drop (y + 1) (table_of (raster g ys))
     one_more_row ys rows is so_far =
-        rw (put_row, shown_overwritten g xs row y high (long ∙ wide) (omega (arith, row_within g y high)), so_far)
+        rw (put_row, shown_overwritten g xs row y high long (omega (arith, row_within g y high)), so_far)
         (one_more rows (table_of (raster g ys)) y row is (omega (arith, length-shown (raster g ys))))
 
   -- after the last row the table is these rows

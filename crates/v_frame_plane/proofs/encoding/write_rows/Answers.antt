@@ -20,26 +20,19 @@ loop-y-preserved g c =
     let k = c.args.geometry in
     let y = c.loop-y.y in
     let start = c.row_start-start.result in
-    let row = c.write_row.new.row in
-    let front : c.width-width.result * c.ENTRIES.result ≡ k.width * g.E.Encoding.ENTRIES = rw (c.width-width.ensures.value, c.ENTRIES.ensures) refl in
+    let from = c.args.stride * y in
     let high : y < k.height = omega (arith, c.height-y-end.ensures.value) in
     let whole : length c.loop-y.buffer ≡ alloc_size_of k = c.loop-y.auto.buffer ∙ c.requires.plane.whole in
     let cut : start + c.width-width.result - start ≡ k.width = omega (arith, c.width-width.ensures.value) in
-    let part = length-take-le (start + c.width-width.result - start) (drop start c.loop-y.buffer) (omega (
-      arith,
-      length-drop start c.loop-y.buffer,
-      c.row_start-start.ensures.within,
-    )) in
-    let same : length row ≡ start + c.width-width.result - start = c.write_row.auto.row ∙ part in
-    let from = c.args.stride * y in
-    let entries = take (from + c.width-width.result * c.ENTRIES.result - from) (drop from c.args.src.now) in
-    let made : row ≡ g.E.Encoding.row_of k.width entries = c.write_row.ensures ∙ ap (λ n. g.E.Encoding.row_of n entries) (part ∙ cut) in
+    let front : c.width-width.result * c.ENTRIES.result ≡ k.width * g.E.Encoding.ENTRIES = rw (c.width-width.ensures.value, c.ENTRIES.ensures) refl in
+    let part = length-take-le k.width (drop start c.loop-y.buffer) (omega (arith, length-drop start c.loop-y.buffer, c.row_start-start.ensures.within)) in
+    let long : length c.write_row.new.row ≡ k.width = rw (cut, part) at c.write_row.auto.row in
     let is = row_of_piece (g.E.Encoding.row_of k.width) (k.width * g.E.Encoding.ENTRIES) c.args.stride k.height c.args.src.now y from
-    (c.width-width.result * c.ENTRIES.result) row high c.requires.stride refl front made in
-    record {
-      table = one_more_row k c.loop-y.buffer row y start _ high c.row_start-start.ensures.place same cut whole _ _ is c.loop-y.invariant.table;
-      border = border_put_row k c.loop-y.buffer row y start _ high c.row_start-start.ensures.place same cut whole ∙ c.loop-y.invariant.border;
-    }
+    (c.width-width.result * c.ENTRIES.result) c.write_row.new.row high c.requires.stride refl front (rw (cut, part) at c.write_row.ensures) in
+    rw cut (record {
+      table = one_more_row k c.loop-y.buffer c.write_row.new.row y start high c.row_start-start.ensures.place long whole _ _ is c.loop-y.invariant.table;
+      border = border_put_row k c.loop-y.buffer c.write_row.new.row y start high c.row_start-start.ensures.place long whole ∙ c.loop-y.invariant.border;
+    })
 
 pub returns-clause-table : goal.returns-clause-table
 returns-clause-table g c =
@@ -74,26 +67,13 @@ write_row-requires g c =
     let start = c.row_start-start.result in
     let from = c.args.stride * c.loop-y.y in
     let entries = k.width * g.E.Encoding.ENTRIES in
-    let front : c.width-width.result * c.ENTRIES.result ≡ entries = rw (c.width-width.ensures.value, c.ENTRIES.ensures) refl in
-    let high : c.loop-y.y < k.height = omega (arith, c.height-y-end.ensures.value) in
-    let within = front_within entries c.args.stride k.height c.loop-y.y c.requires.stride high in
+    let within = front_within entries c.args.stride k.height c.loop-y.y c.requires.stride (omega (arith, c.height-y-end.ensures.value)) in
     let whole : length c.loop-y.buffer ≡ alloc_size_of k = c.loop-y.auto.buffer ∙ c.requires.plane.whole in
     let row : start + c.width-width.result - start ≡ k.width = omega (arith, c.width-width.ensures.value) in
-    let part = length-take-le (start + c.width-width.result - start) (drop start c.loop-y.buffer) (omega (
-      arith,
-      length-drop start c.loop-y.buffer,
-      c.row_start-start.ensures.within,
-    )) in
-    let piece : from + c.width-width.result * c.ENTRIES.result - from ≡ entries = omega (arith, front) in
-    let source = length-take-le (from + c.width-width.result * c.ENTRIES.result - from) (drop from c.args.src.now) (omega (
-      arith,
-      length-drop from c.args.src.now,
-      within,
-      piece,
-      c.requires.source,
-    )) in
-    let other_way : entries ≡ g.E.Encoding.ENTRIES * k.width = omega arith in
-    source ∙ piece ∙ other_way ∙ ap (λ n. g.E.Encoding.ENTRIES * n) (sym (part ∙ row))
+    let piece : from + c.width-width.result * c.ENTRIES.result - from ≡ entries = rw (c.width-width.ensures.value, c.ENTRIES.ensures) (omega arith) in
+    let part = length-take-le k.width (drop start c.loop-y.buffer) (omega (arith, length-drop start c.loop-y.buffer, c.row_start-start.ensures.within)) in
+    let source = length-take-le entries (drop from c.args.src.now) (omega (arith, length-drop from c.args.src.now, within, c.requires.source)) in
+    rw (row, piece, part, source) (omega arith)
 
 pub returns-clause-border : goal.returns-clause-border
 returns-clause-border g c = c.loop-y.invariant.border
