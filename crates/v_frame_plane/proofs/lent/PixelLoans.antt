@@ -16,6 +16,7 @@ use Rattle.v_frame_plane.specs.declared.rows_mut.RowsMut.{RowsMut}
 use Rattle.v_frame_plane.proofs.lent.Loans.{at_one}
 use Rattle.v_frame_plane.proofs.lent.PixelParts.{PartsEnd, of_parts, parts_of}
 use Rattle.v_frame_plane.proofs.lent.Sides.{Side, at_front, at_back, near, far, Countable, walk_by, RowSteps, LendsRow}
+use Rattle.v_frame_plane.proofs.tables.Lists.{same_count}
 use Rattle.v_frame_plane.proofs.iterators.BegunRows.{IsDrawn, first_drawn, last_drawn, drawn_countable, none_countable, last_row_left}
 
 module _ {T : Type 0} (old : PixelsMut T) (rows : RowsMut T) where
@@ -84,9 +85,6 @@ module _ {M : Type 1} {𝓤 : Ura M} (𝓛 : Logic 𝓤) (T : RattleType) where
     abbrev Left : List (List T.Denot)
     Left = rows_left rows
 
-    same_count : (parts : List (List T.Denot)) → map length parts ≡ map length Left → length parts ≡ length Left
-    same_count parts same = sym (length-map parts length) ∙ ap length same ∙ length-map Left length
-
     -- the row that was at its end, and what the draw of a row leaves
     abbrev Drawn : Side → Option (MutBor (List T.Denot)) → Fml
     Drawn s r = fsep (Ends (near s old) (near s old).now) (LendsRow s T old.rows r rows)
@@ -126,7 +124,7 @@ module _ {M : Type 1} {𝓤 : Ura M} (𝓛 : Logic 𝓤) (T : RattleType) where
             },
             qed 𝓛 (‵ (TakesLastRow T old.rows rows row) ∷ ‵ (Ends old.back []) ∷ ‵ (PartsEnd T new parts) ∷ []) ∵
                 use1 𝓛 (raw (Says held)) (all_e 𝓤 Says held) $
-                use1 𝓛 (raw (Gives held)) (all_e 𝓤 (λ (same : length held.1 ≡ length Left). Gives held) (same_count parts.rows are.rows)) $
+                use1 𝓛 (raw (Gives held)) (all_e 𝓤 (λ (same : length held.1 ≡ length Left). Gives held) (same_count parts.rows Left are.rows)) $
                 move ! (2 ∷ []) $ fsplit3 ! $
                 -- [the front; the rows; the row; what a call leaves; the old back]
                 move ! (2 ∷ 1 ∷ []) $ join ! $ move ! (0 ∷ 2 ∷ []) $
@@ -136,7 +134,7 @@ module _ {M : Type 1} {𝓤 : Ura M} (𝓛 : Logic 𝓤) (T : RattleType) where
 
     module _ (e : MutBor (List T.Denot)) (empty : e.now ≡ []) (had : rows_left old.rows ≡ []) (none : Left ≡ []) where
       no_rows : (parts : List (List T.Denot)) → map length parts ≡ map length Left → parts ≡ []
-      no_rows parts same = nil_from_length parts (same_count parts same ∙ ap length none)
+      no_rows parts same = nil_from_length parts (same_count parts Left same ∙ ap length none)
 
       rows_kept : (ps : List (List T.Denot)) → map length ps ≡ map length Left →
           ent 𝓤 (sep 𝓤 (sem 𝓛 (KeepsRows T old.rows rows)) (sem 𝓛 (SecondRows T rows ps))) (sem 𝓛 (SecondRows T old.rows []))

@@ -1,7 +1,7 @@
 -- What the numbers of an iterator that lends rows are before and after `next` and `next_back`, of which `s` is the end.
 --     number, place_of, start_of     the row that is taken, where it begins, and where the next one begins then
 --     Cut     the slice is cut where the row begins, and where it ends.        left     the iterator that is left of it
-use Rattle.v_frame_plane.proofs.lent.Steps.{ℕ, zero, suc, ◌≡◌, ◌+◌, ◌-◌, ◌*◌, ◌^◌, ◌<◌, ◌≤◌, List, length, take, list_drop, Option, Some, None, MutBor, ap, ◌∙◌}
+use Rattle.v_frame_plane.proofs.lent.Steps.{ℕ, zero, suc, ◌≡◌, ◌+◌, ◌-◌, ◌*◌, ◌^◌, ◌<◌, ◌≤◌, List, length, take, list_drop, Option, Some, None, MutBor, refl, ap, ◌∙◌}
 use Rattle.v_frame_plane.proofs.lent.Steps.{arith, length-take-le, length-drop, not, ⊤, T, T_not, eqb, MakesProgress, item_count}
 use Rattle.v_frame_plane.specs.Cursor.{RowsAreWithin}
 use Rattle.v_frame_plane.specs.RowsLeft.{rows_left}
@@ -69,8 +69,7 @@ module _ {X : Type 0} (old : RowsMut X) where
 
     pub within : (s : Side) → Its s → RowsAreWithin (start_of s old) old.width old.gap (old.count - 1) (length (at_side s behind before).now)
     within at_front cut =
-        let long : length behind.now ≡ length old.rest.now - old.start - old.width = ap length (behind_all at_front cut) ∙
-        length-drop old.width (list_drop old.start old.rest.now) ∙ ap (λ n. n - old.width) (length-drop old.start old.rest.now) in
+        let long : length behind.now ≡ length old.rest.now - old.start - old.width = rw (behind_all at_front cut, length-drop, length-drop) refl in
         let rows = one_more old.count (old.width + old.gap) more in
         record { wide = old.within.wide; stride = old.within.stride; within = λ left. omega (arith, old.within.within more) }
     within at_back cut =

@@ -10,7 +10,7 @@ use Rattle.v_frame_plane.specs.Cursor.{rows_ahead}
 use Rattle.v_frame_plane.specs.Plane.{Raster, raster, table_of, border_of, with_entries}
 use Rattle.v_frame_plane.specs.SecondRows.{with_rows_ahead, WritesTable}
 use Rattle.v_frame_plane.proofs.iterators.Cursors.{behind_first}
-use Rattle.v_frame_plane.proofs.tables.Lists.{refill_same}
+use Rattle.v_frame_plane.proofs.tables.Lists.{refill_same, same_count}
 use Rattle.v_frame_plane.proofs.tables.Pictures.{length-shown, overwritten, shown_overwritten, border_overwritten}
 use Rattle.v_frame_plane.proofs.tables.Places.{rows_are_wide}
 use Rattle.v_frame_plane.proofs.tables.RowWrites.{length-overwritten}
@@ -99,9 +99,8 @@ module _ {T : Type 0} where
   as_wide : (p : Raster T) (rows : List (List T)) → length p.buffer ≡ alloc_size_of p.geometry → map length rows ≡ map length (table_of p) →
       All (λ row. length row ≡ p.geometry.width) rows
   as_wide p rows whole same = λ k d h.
-      let few : length rows ≡ length (table_of p) = sym (length-map rows length) ∙ ap length same ∙ length-map (table_of p) length in
-      sym (get_or-map length rows k d 0 h) ∙ ap (λ ns. get_or ns k 0) same ∙ get_or-map length (table_of p) k d 0 (omega arith) ∙
-      rows_are_wide p whole k d (omega arith)
+      let few = same_count rows (table_of p) same in
+      rw (← get_or-map length rows k d 0 h, same, get_or-map length (table_of p) k d 0 (omega arith)) (rows_are_wide p whole k d (omega arith))
 
   -- so an iterator over a whole buffer writes each table
   pub writes_table : (p : Raster T) (start width gap count : ℕ) (rows : List (List T)) → length p.buffer ≡ alloc_size_of p.geometry → 0 < p.geometry.height
@@ -110,7 +109,7 @@ module _ {T : Type 0} where
       → WritesTable p (with_entries p (with_rows_ahead start width gap count p.buffer rows)) rows
   writes_table p start width gap count rows whole high s w n c same =
       let g = p.geometry in
-      let few : length rows ≡ count = sym (length-map rows length) ∙ ap length same ∙ length-map (table_of p) length ∙ length-shown p ∙ sym c in
+      let few : length rows ≡ count = omega (arith, same_count rows (table_of p) same, length-shown p) in
       let from : start ≡ row_start g 0 = omega (arith, place_of_row g 0 high) in
       let written = written_from g gap 0 count p.buffer rows (omega arith) (omega arith) (as_wide p rows whole same) few whole in
       let entries = with_rows_ahead (row_start g 0) g.width gap count p.buffer rows in

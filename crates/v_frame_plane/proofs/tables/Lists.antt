@@ -2,7 +2,7 @@
 use Rattle.std.proofs.Common.{ℕ, zero, suc, ◌≡◌, ◌≢◌, ◌+◌, ◌<◌, ◌≤◌, List, [], ◌∷◌, ◌++◌, length, take, drop, map, Some, slice_get, slice_set, refl, sym}
 use Rattle.std.proofs.Common.{◌∙◌, ap, arith, take-append-drop, length-set}
 use Rattle.std.proofs.Math.Seq.{take-add, set-append_seam, get_or-set_same, take-set-le, drop-set-add, take-set-lt, drop-set-lt}
-use Rattle.std.proofs.lemmas.List.{take_at}
+use Rattle.std.proofs.lemmas.List.{length-map, take_at}
 use Rattle.std.proofs.lemmas.Option.{slice_get-map as get-map}
 use Rattle.core.proofs.iter.runs.Lists.{nth_read, nth_drop}
 use Rattle.std.specs.List.{refill}
@@ -67,3 +67,7 @@ module _ {X : Type 0} where
 
 pub slice_get-map : {X Y : Type 0} (f : X → Y) (xs : List X) (i : ℕ) (x : X) → slice_get xs i ≡ Some x → slice_get (map f xs) i ≡ Some (f x)
 slice_get-map f xs i x e = rw (get-map, e) refl
+
+-- lists of as many elements each are as many
+pub same_count : {X : Type 0} (xs ys : List (List X)) → map length xs ≡ map length ys → length xs ≡ length ys
+same_count xs ys e = sym (length-map xs length) ∙ ap length e ∙ length-map ys length

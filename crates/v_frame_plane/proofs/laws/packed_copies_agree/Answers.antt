@@ -22,12 +22,12 @@ returns c =
     let whole_right : length right.buffer ≡ alloc_size_of right.geometry = ap length (sym c.data-right.ensures.value) ∙ c.data-right.ensures.whole in
     let size : alloc_size_of old.geometry ≤ usize_max = omega (arith, c.data-left.ensures.whole, ap alloc_size_of pixels.geometry) in
     let counted : width_of (table_of old) * height_of (table_of old) ≤ usize_max = omega (arith, pixels_within old, size) in
-    let counted_there : width_of (table_of other) * height_of (table_of other) ≤ usize_max =
-    subst (λ (p : Raster ℕ). width_of (table_of p) * height_of (table_of p) ≤ usize_max) alike counted in
     let bytes : Copies other right c.copy_from_u8_slice-of_bytes.result (packed_copy (table_of other) source) =
-    subst (λ (outcome : CopyOutcome ℕ). Copies other right c.copy_from_u8_slice-of_bytes.result outcome) (one_byte_copies (table_of other) source counted_there)
-    c.copy_from_u8_slice-of_bytes.ensures.copied in
-    let same_geometry : left.geometry ≡ right.geometry = pixels.geometry ∙ ap (λ (p : Raster ℕ). p.geometry) alike ∙ sym bytes.geometry in
-    let same_border : border_of left ≡ border_of right = pixels.border ∙ ap border_of alike ∙ sym bytes.border in
-    let same_table : table_of left ≡ table_of right = pixels.table ∙ ap (λ (p : Raster ℕ). (packed_copy (table_of p) source).table) alike ∙ sym bytes.table in
-    record { pixels = pixels; bytes = bytes; planes = determines_buffer ℕ left right whole_left whole_right same_geometry same_table same_border }
+    rw (← one_byte_copies (table_of other) source (rw (← alike) counted)) c.copy_from_u8_slice-of_bytes.ensures.copied in
+    let same = rw (← alike) at bytes in
+    record {
+      pixels = pixels;
+      bytes = bytes;
+      planes = determines_buffer ℕ left right whole_left whole_right (pixels.geometry ∙ sym same.geometry) (pixels.table ∙ sym same.table)
+          (pixels.border ∙ sym same.border);
+    }

@@ -1,5 +1,5 @@
 -- The pixels are those of the rectangle, and each has two bytes at most.
-use Rattle.std.proofs.Common.{◌≡◌, ◌*◌, length, ◌∙◌, sym, ap, arith}
+use Rattle.std.proofs.Common.{◌≡◌, ◌*◌, length, refl, arith}
 use Rattle.v_frame_layout.specs.Table.{width_of, row_major}
 use Rattle.v_frame_plane.specs.Plane.{Raster, raster, table_of}
 use Rattle.v_frame_plane.proofs.iterators.BegunPixels.{length-bytes_of_pixels, few_bytes}
@@ -20,14 +20,12 @@ returns g c =
     let p : Raster g.row.T.Denot = raster c.self.inside.geometry c.self.inside.buffer.now in
     let pixels = row_major (table_of p) in
     let count : c.visible_size.result * c.BYTES.result ≡ p.geometry.width * p.geometry.height * form.size =
-    ap (λ n. n * c.BYTES.result) c.visible_size.ensures.value ∙ ap (λ n. p.geometry.width * p.geometry.height * n) (c.BYTES.ensures ∙
-    g.met.T.Pixel.bytes_of_form) in
-    let shown : p.geometry.width * p.geometry.height * form.size ≡ length pixels * form.size =
-    ap (λ n. n * form.size) (sym (visible_pixels p c.self.invariant)) in
-    let wide : p.geometry.width ≡ width_of (table_of p) = sym (width_of_shown p c.visible_size.ensures.valid.high c.self.invariant.whole) in
-    rw (← c.self.view_is) (record {
-      value = count;
-      bytes = count ∙ shown ∙ sym (length-bytes_of_pixels form pixels);
-      table = count ∙ ap (λ w. w * p.geometry.height * form.size) wide ∙ ap (λ h. width_of (table_of p) * h * form.size) (sym (height_of_shown p));
-      bound = rw (count, shown) (few_bytes form pixels g.met.T.Pixel.byte_or_two.1 (visible_few p c.self.invariant));
+    rw (c.visible_size.ensures.value, c.BYTES.ensures, g.met.T.Pixel.bytes_of_form) refl in
+    let shown = visible_pixels p c.self.invariant in
+    let wide = width_of_shown p c.visible_size.ensures.valid.high c.self.invariant.whole in
+    rw (← c.self.view_is, count) (record {
+      value = refl;
+      bytes = rw (length-bytes_of_pixels form pixels, shown) refl;
+      table = rw (wide, height_of_shown p) refl;
+      bound = rw (← shown) (few_bytes form pixels g.met.T.Pixel.byte_or_two.1 (visible_few p c.self.invariant));
     })

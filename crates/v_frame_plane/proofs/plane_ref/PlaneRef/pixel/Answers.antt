@@ -11,15 +11,12 @@ pub returns-then-y-height-clause-value : goal.returns-then-y-height-clause-value
 returns-then-y-height-clause-value g c =
     let p : Raster g.row.T.Denot = raster c.self.inside.geometry c.self.inside.buffer.now in
     let within : c.visible_place.result < length p.buffer = omega (arith, c.visible_place.ensures.within, c.self.invariant.whole) in
-    rw (← c.self.view_is) (sym (slice_get-get_or p.buffer c.visible_place.result c.index-self-visible_place.result within) ∙
-    ap (slice_get p.buffer) c.visible_place.ensures.place)
+    rw (← c.self.view_is, ← c.visible_place.ensures.place)
+    (sym (slice_get-get_or p.buffer c.visible_place.result c.index-self-visible_place.result within))
 
 pub returns-then-y-height-clause-inside : goal.returns-then-y-height-clause-inside
-returns-then-y-height-clause-inside g c = rw (← c.self.view_is) (λ wide high.
-    let p : Raster g.row.T.Denot = raster c.self.inside.geometry c.self.inside.buffer.now in
-    let within : c.visible_place.result < length p.buffer = omega (arith, c.visible_place.ensures.within, c.self.invariant.whole) in
-    sym (slice_get-get_or p.buffer c.visible_place.result c.index-self-visible_place.result within) ∙ ap (slice_get p.buffer) c.visible_place.ensures.place ∙
-    pixel_inside p c.args.x c.args.y wide high)
+returns-then-y-height-clause-inside g c = λ wide high.
+    returns-then-y-height-clause-value g c ∙ pixel_inside c.args.self.now c.args.x c.args.y wide high
 
 -- a place that can't be counted lies past the buffer
 pub returns-in_err-place-clause-value : goal.returns-in_err-place-clause-value
@@ -34,15 +31,13 @@ returns-in_err-place-clause-value g c =
 pub returns-clause-value : goal.returns-clause-value
 returns-clause-value g c =
     let p : Raster g.row.T.Denot = raster c.self.inside.geometry c.self.inside.buffer.now in
-    rw (← c.self.view_is) (c.copied.ensures ∙ copied_get p.buffer c.in_ok-place.place c.get.result c.get.ensures.lookup ∙
-    ap (slice_get p.buffer) c.in_ok-place.ensures.1)
+    rw (← c.self.view_is, c.copied.ensures, ← c.in_ok-place.ensures.1)
+    (copied_get p.buffer c.in_ok-place.place c.get.result c.get.ensures.lookup)
 
 pub bounds-self-inside-visible_place : goal.bounds-self-inside-visible_place
 bounds-self-inside-visible_place g c = omega (arith, c.visible_place.ensures.within, c.self.invariant.whole)
 
 pub returns-clause-none : goal.returns-clause-none
 returns-clause-none g c =
-    let p : Raster g.row.T.Denot = raster c.self.inside.geometry c.self.inside.buffer.now in
-    let value = returns-clause-value g c in
-    let none = none_past_end p.buffer (place_of p.geometry c.args.x c.args.y) c.copied.result (rw (← c.self.view_is) at value) in
-    rw (← c.self.view_is) (rw (c.self.invariant.whole) at none)
+    let none = none_past_end c.args.self.now.buffer _ c.copied.result (returns-clause-value g c) in
+    rw (← c.self.view_is) (rw (← c.self.view_is, c.self.invariant.whole) at none)

@@ -8,5 +8,4 @@ pub returns-clause-table : goal.returns-clause-table
 returns-clause-table g c =
     let p : Raster g.row.T.Denot = raster c.self.inside.geometry c.self.inside.buffer.now in
     let is = c.in_ok-geometry.ensures.value in
-    rw (← c.self.view_is) (ap table_of (c.of_parts.ensures ∙ ap (λ k. raster k p.buffer) is.1) ∙
-    region_shows p c.args.x c.args.y c.args.width c.args.height is.0)
+    rw (← c.self.view_is, c.of_parts.ensures, is.1) (region_shows p c.args.x c.args.y c.args.width c.args.height is.0)
