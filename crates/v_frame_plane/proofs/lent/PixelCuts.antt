@@ -1,13 +1,12 @@
 -- A call of `cut_first` or `cut_last`, and what `next` or `next_back`, which makes it, leaves of the final values. Assumes `Logic`.
 --     cuts_one     the slice goes to the call, which gives its pixel and the rest: it ends as they do
 --     takes_near, fewer, steps     so the iterator ends as the pixel and what is left, which can be counted, and the pixel is the next at that end
-use Rattle.v_frame_plane.proofs.lent.Steps.{◌≡◌, ◌^◌, ◌<◌, List, [], ◌∷◌, ◌++◌, length, MutBor, refl, ap, ◌∙◌, arith, Lft, Share, flft, SProp}
-use Rattle.v_frame_plane.proofs.lent.Steps.{ent, sep, wand, id⊢, ◌⊑◌, fact, Array, shows, param, RattleType, MutRef, MutSlice, slice_val, heard}
-use Rattle.v_frame_plane.proofs.lent.Steps.{only, peeks, triple_of, Contract, named, Val, of_list, vcons, vnil, vptr, vstruct, Ura, Item}
-use Rattle.v_frame_plane.proofs.lent.Steps.{Seq, ‵, raw, ◌⊛◌, ◌$◌, ◌∵◌, !, qed, assume, done, drop, each, feq_l, fjoin3, fpick, fsplit}
-use Rattle.v_frame_plane.proofs.lent.Steps.{fsplit3, move, rewrite, split, use1, use3, Logic, sem, append_assoc, both_by}
-use Rattle.v_frame_plane.proofs.lent.Steps.{follows_both, length-append, GName, closing, Triple, Callee, Place, Opd as Operand, call, seq}
-use Rattle.v_frame_plane.proofs.lent.Steps.{Calls, Env, Loops, FmC, Post, lands, regoal, runs, Opds}
+use Rattle.v_frame_plane.proofs.lent.Steps.{◌≡◌, ◌^◌, ◌<◌, List, [], ◌∷◌, ◌++◌, length, MutBor, refl, ap, ◌∙◌, arith, Lft, Share, flft, SProp, ent, sep, wand}
+use Rattle.v_frame_plane.proofs.lent.Steps.{id⊢, ◌⊑◌, fact, Array, shows, param, RattleType, MutRef, MutSlice, slice_val, heard, only, peeks, triple_of}
+use Rattle.v_frame_plane.proofs.lent.Steps.{Contract, named, Val, of_list, vcons, vnil, vptr, vstruct, Ura, Item, Seq, ‵, raw, ◌⊛◌, ◌$◌, ◌∵◌, !, qed, assume}
+use Rattle.v_frame_plane.proofs.lent.Steps.{done, drop, each, feq_l, fjoin3, fpick, fsplit, fsplit3, move, rewrite, split, use1, use3, Logic, sem, append_assoc}
+use Rattle.v_frame_plane.proofs.lent.Steps.{both_by, follows_both, length-append, GName, closing, Triple, Callee, Place, Opd as Operand, call, seq, Calls, Env}
+use Rattle.v_frame_plane.proofs.lent.Steps.{Loops, FmC, Post, lands, regoal, runs, Opds}
 use mir.Syntax.{Body}
 use Rattle.v_frame_layout.specs.Table.{row_major}
 use Rattle.v_frame_plane.specs.RowsLeft.{rows_left}

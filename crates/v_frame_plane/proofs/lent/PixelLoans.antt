@@ -114,8 +114,8 @@ module _ {M : Type 1} {𝓤 : Ura M} (𝓛 : Logic 𝓤) (T : RattleType) where
           let new = begun old rows row at_back is in
           let Gives : List T.Denot × List (List T.Denot) → SProp 𝓤 = λ held. wand 𝓤 (Both held) (sem 𝓛 (SecondRows T old.rows (held.1 ++ held.0 ∷ []))) in
           let Says : List T.Denot × List (List T.Denot) → SProp 𝓤 = λ held. all 𝓤 (λ (same : length held.1 ≡ length Left). Gives held) in
-          keeps_by at_back old new (TakesLastRow T old.rows rows row) (λ parts. parts_of parts.front (parts.rows ++ parts.back ∷ []) []) none (λ second parts are.
-          let held : List T.Denot × List (List T.Denot) = (parts.back, parts.rows) in (
+          keeps_by at_back old new (TakesLastRow T old.rows rows row) (λ parts. parts_of parts.front (parts.rows ++ parts.back ∷ []) []) none
+          (λ second parts are. let held : List T.Denot × List (List T.Denot) = (parts.back, parts.rows) in (
             record {
               joined = are.joined ∙ last_row_left parts.front [] parts.back (parts.rows ++ parts.back ∷ []) parts.rows refl refl;
               front = are.front;

@@ -1,6 +1,6 @@
 -- A buffer that is written keeps its length, so it stays whole.
-use Rattle.std.proofs.Common.{ℕ, ◌≡◌, ◌-◌, ◌++◌, List, length, take, drop, slice_range, slice_set, refl, sym, ◌∙◌, ap, arith, length-append, length-drop, length-set}
-use Rattle.std.proofs.lemmas.List.{take_all, take-append-le}
+use Rattle.std.proofs.Common.{ℕ, ◌≡◌, ◌-◌, ◌++◌, List, length, take, drop, slice_range, slice_set, refl, sym, ◌∙◌, ap, arith}
+use Rattle.std.proofs.lemmas.List.{length-append, length-drop, length-set, take_all, take-append-le}
 use Rattle.std.specs.List.{refill, length_refill}
 use Rattle.v_frame_layout.specs.Geometry.{Geometry}
 use Rattle.v_frame_plane.specs.Plane.{IsWhole, with_part}

@@ -83,7 +83,8 @@ module _ {T : Type 0} where
       rw (← drop-drop g.width a (overwritten xs a row), from, drop_at row _ g.width same, same) (drop-drop g.width a xs) in
       let front : cut_by (before_row g y) (take a xs) ≡ cut_by (before_row g y) xs =
       rw (← cut_by-front (before_row g y) (take a xs) (drop a xs) enough) (ap (cut_by (before_row g y)) (take-append-drop a xs)) in
-      rw (picture_at_row g (overwritten xs a row) y h, rest, from, take_at row _ g.width same, cut_by-front (before_row g y) (take a xs) behind enough, front) refl
+      let written = cut_by-front (before_row g y) (take a xs) behind enough in
+      rw (picture_at_row g (overwritten xs a row) y h, rest, from, take_at row _ g.width same, written, front) refl
 
   -- a row that is written where the y-th begins replaces the y-th of the table, and leaves the border
   pub shown_overwritten : (g : Geometry) (xs row : List T) (y : ℕ) → y < g.height → length row ≡ g.width → row_start g y + g.width ≤ length xs

@@ -1,6 +1,5 @@
 -- Rectangles of a table: what a plane shows of a buffer of which another shows more.
-use Rattle.std.proofs.Common.{ℕ, ◌≡◌, ◌+◌, ◌<◌, ◌≤◌, List, length, map, take, drop, Some, slice_get, refl, sym, ◌∙◌, arith, length-take-le}
-use Rattle.std.proofs.Common.{length-drop}
+use Rattle.std.proofs.Common.{ℕ, ◌≡◌, ◌+◌, ◌<◌, ◌≤◌, List, length, map, take, drop, Some, slice_get, refl, sym, ◌∙◌, arith, length-take-le, length-drop}
 use Rattle.std.proofs.lemmas.List.{length-map, drop-drop, drop-take, take-take}
 use Rattle.v_frame_layout.specs.Geometry.{Geometry, stride_of, IsInside, region_geometry, whole_geometry}
 use Rattle.v_frame_layout.specs.Table.{rectangle}
