@@ -88,6 +88,7 @@ impl<'a, T> Iterator for Rows<'a, T> {
     ghost remaining = { λ rows. at_most (length rows) };
 
     #[inline]
+    #[tactic(auto, using(crate::proofs::iterators::Cursors::rows_taken))]
     fn next(&mut self) -> Option<&'a [T]> {
         if self.count == 0 {
             return None;
@@ -115,7 +116,7 @@ impl<'a, T> DoubleEndedIterator for Rows<'a, T> {
     ghost next_back_gives = { TakesLast deref };
 
     #[inline]
-    #[tactic(auto, using(crate::proofs::iterators::Cursors::last_row, crate::proofs::iterators::Cursors::count_of_rows))]
+    #[tactic(auto, using(crate::proofs::iterators::Cursors::rows_taken))]
     fn next_back(&mut self) -> Option<&'a [T]> {
         if self.count == 0 {
             return None;

@@ -100,6 +100,9 @@ module _ {T : Type 0} where
       let at : start + y * (width + gap) ≡ row_start g y = omega (arith, place_of_row g y (omega arith), ap (λ k. y * k) stride) in
       rw (slice_get-rows_ahead start width gap count xs y low, shown_row p y (omega arith), at, w) refl)
 
+-- for calls that take a row
+pub ruleset rows_taken = (no_rows, first_row, last_row, count_of_rows)
+
 -- and these rows lie within it
 pub rows_within : (g : Geometry) (start width gap count : ℕ) → 0 < g.height → start ≡ origin_of g → width ≡ g.width → gap ≡ stride_of g - g.width →
     count ≡ g.height
