@@ -24,24 +24,23 @@ pub one_byte_pixels : (bytes : List ℕ) → pixels_of_bytes one_byte (length by
 one_byte_pixels [] = refl
 one_byte_pixels (byte ∷ bytes) = let value : value_of_bytes (byte ∷ []) ≡ byte = omega arith in rw (value, one_byte_pixels bytes)
 
-both_bytes : (bytes : List ℕ) (k : ℕ) → k + 1 < length bytes → take 2 (drop k bytes) ≡ get_or bytes k 0 ∷ get_or bytes (k + 1) 0 ∷ []
-both_bytes bytes k h =
-    let here : k < length bytes = omega arith in
-    rw (drop_more bytes k 0 here, drop_more bytes (k + 1) 0 h) refl
+-- the first pixels are those of the first bytes
+abbrev pub DecodedUpTo : ℕ → List ℕ → List ℕ → Type 0
+DecodedUpTo at pixels bytes = take at pixels ≡ pixels_of_bytes two_bytes at bytes
 
 -- a loop that decodes two bytes at a time, one step on
-pub two_byte_pixels-more : (pixels bytes : List ℕ) (i pixel : ℕ) → length bytes ≡ 2 * length pixels → i < length pixels →
-    pixel ≡ value_of_bytes (get_or bytes (2 * i) 0 ∷ get_or bytes (2 * i + 1) 0 ∷ [])
-    → take i pixels ≡ pixels_of_bytes two_bytes i bytes → take (i + 1) (set pixels i pixel) ≡ pixels_of_bytes two_bytes (i + 1) bytes
+pub two_byte_pixels-more : (pixels bytes : List ℕ) (i pixel : ℕ) → length bytes ≡ 2 * length pixels → i < length pixels
+    → pixel ≡ value_of_bytes (get_or bytes (2 * i) 0 ∷ get_or bytes (2 * i + 1) 0 ∷ [])
+    → DecodedUpTo i pixels bytes → DecodedUpTo (i + 1) (set pixels i pixel) bytes
 two_byte_pixels-more pixels bytes i pixel whole h is so_far =
-    let both : 2 * i + 1 < length bytes = omega arith in
-    rw (take_more_set pixels i pixel h, so_far, is, pixels_of_bytes-append two_bytes i 1 bytes, both_bytes bytes (2 * i) both)
+    let low = drop_more bytes (2 * i) 0 (omega arith) in
+    let high = drop_more bytes (2 * i + 1) 0 (omega arith) in
+    rw (take_more_set pixels i pixel h, so_far, is, pixels_of_bytes-append two_bytes i 1 bytes, low, high)
 
 -- a loop that decodes a block of sixteen pixels at a time, one step on
-pub two_byte_pixels-block_more : (pixels bytes lanes : List ℕ) (block : ℕ) → 16 * (block + 1) ≤ length pixels →
-    lanes ≡ pixels_of_bytes two_bytes 16 (drop (32 * block) bytes)
-    → take (16 * block) pixels ≡ pixels_of_bytes two_bytes (16 * block) bytes → take (16 * (block + 1)) (put_chunk (16 * block) pixels lanes) ≡
-    pixels_of_bytes two_bytes (16 * (block + 1)) bytes
+pub two_byte_pixels-block_more : (pixels bytes lanes : List ℕ) (block : ℕ) → 16 * (block + 1) ≤ length pixels
+    → lanes ≡ pixels_of_bytes two_bytes 16 (drop (32 * block) bytes) → DecodedUpTo (16 * block) pixels bytes
+    → DecodedUpTo (16 * (block + 1)) (put_chunk (16 * block) pixels lanes) bytes
 two_byte_pixels-block_more pixels bytes lanes block room is so_far =
     let pixels_on : 16 * (block + 1) ≡ 16 * block + 16 = omega arith in
     let bytes_on : 32 * block ≡ 2 * (16 * block) = omega arith in

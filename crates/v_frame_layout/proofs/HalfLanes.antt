@@ -1,85 +1,83 @@
 -- Rows of half the size, in lanes of two neighbours.
-use Rattle.std.proofs.Common.{ℕ, zero, suc, ◌≡◌, ◌+◌, ◌-◌, ◌*◌, ◌/◌, ◌%◌, ◌<◌, ◌≤◌, List, [], ◌∷◌, length, take, get_or, bit_and, refl, ◌∙◌, ap, arith, Fits}
-use Rattle.std.proofs.Common.{w8, w16}
-use Rattle.std.specs.Simd.Lanes.{Each1, zip2, number_l, digits_l}
-use Rattle.std.proofs.Math.Nat.{mod-eq_of_lt}
-use Rattle.std.proofs.lemmas.Nat.{and_mask}
-use Rattle.std.proofs.lemmas.Simd.{Each1-from_get_or}
+use Rattle.std.proofs.Common.{ℕ, zero, suc, ◌≡◌, ◌+◌, ◌-◌, ◌*◌, ◌/◌, ◌%◌, ◌^◌, ◌<◌, ◌≤◌, List, ◌∷◌, length, take, get_or, bit_and, refl, ◌∙◌, arith, Fits}
+use Rattle.std.proofs.Common.{w16}
+use Rattle.std.specs.Simd.Lanes.{zip2, number_l, digits_l}
+use Rattle.std.proofs.Math.Nat.{mod-eq_of_lt, mul-le-mul_left, mul-le-mul_right}
+use Rattle.std.proofs.lemmas.Nat.{and_mask, div-mul-add, mod-mul-add}
+use mir.Syntax.{Width}
+use mir.Val.{bits}
 use Rattle.v_frame_layout.specs.Pixel.{one_byte, two_bytes}
 use Rattle.v_frame_layout.specs.PixelRows.{halved, rounded_mean}
 
--- lanes that hold two neighbours each, in a base with room for the sum of four pixels
-module _ (base : ℕ) (room : 4 * base ≤ base * base) (low : (a b : ℕ) → a < base → b < base → bit_and (a + base * b) (base - 1) ≡ a)
-    (high : (a b : ℕ) → a < base → (a + base * b) / base ≡ b)
-    (first : (a b rest : ℕ) → a < base → b < base → (a + base * (b + base * rest)) % (base * base) ≡ a + base * b)
-    (left : (a b rest : ℕ) → a < base → b < base → (a + base * (b + base * rest)) / (base * base) ≡ rest) where
+-- pixels of a width with room in two of them for the sum of four
+module _ (w : Width) (room : 4 ≤ 2 ^ bits w) where
+  abbrev base : ℕ
+  base = 2 ^ bits w
+
+  -- lanes that hold two neighbours each
+  abbrev lanes : ℕ → List ℕ → List ℕ
+  lanes n pixels = digits_l (base * base) n (number_l base (take (2 * n) pixels))
+
   -- what such a lane, and the lane below, become
   abbrev lane_mean : ℕ → ℕ → ℕ
   lane_mean t b =
       let size = base * base in
       ((((bit_and t (base - 1) + t / base) % size + bit_and b (base - 1)) % size + b / base) % size + 2) % size / 4
 
+  halves : (a b : ℕ) → a < base → (bit_and (a + base * b) (base - 1) ≡ a) × ((a + base * b) / base ≡ b)
+  halves a b small =
+      let e : a + base * b ≡ b * base + a = omega arith in
+      rw e (and_mask (b * base + a) (bits w) ∙ mod-mul-add b base a small, div-mul-add b base a small)
+
+  lane_and_rest : (a b rest : ℕ) → a < base → b < base → let all = a + base * (b + base * rest) in
+      (all % (base * base) ≡ a + base * b) × (all / (base * base) ≡ rest)
+  lane_and_rest a b rest small small1 =
+      let e : a + base * (b + base * rest) ≡ rest * (base * base) + (a + base * b) = omega arith in
+      let within : a + base * b < base * base = omega (arith, mul-le-mul_left base small1) in
+      rw e (mod-mul-add rest (base * base) (a + base * b) within, div-mul-add rest (base * base) (a + base * b) within)
+
   lane_mean_is : (a b c d : ℕ) → a < base → b < base → c < base → d < base → lane_mean (a + base * b) (c + base * d) ≡ rounded_mean a b c d
   lane_mean_is a b c d small small1 small2 small3 =
-      let two : (a + b) % (base * base) ≡ a + b = mod-eq_of_lt (omega (arith, room, small, small1)) in
-      let three : (a + b + c) % (base * base) ≡ a + b + c = mod-eq_of_lt (omega (arith, room, small, small1, small2)) in
-      let four : (a + b + c + d) % (base * base) ≡ a + b + c + d = mod-eq_of_lt (omega (arith, room, small, small1, small2, small3)) in
-      let all : (a + b + c + d + 2) % (base * base) ≡ a + b + c + d + 2 = mod-eq_of_lt (omega (arith, room, small, small1, small2, small3)) in
-      rw (low a b small small1, low c d small2 small3, high a b small, high c d small2, two, three, four, all) refl
+      let top = halves a b small in
+      let bottom = halves c d small2 in
+      let whole : (x : ℕ) → x < 4 * base → x % (base * base) ≡ x = λ x h. mod-eq_of_lt (omega (arith, mul-le-mul_right base room)) in
+      let two = whole (a + b) (omega arith) in
+      let three = whole (a + b + c) (omega arith) in
+      let four = whole (a + b + c + d) (omega arith) in
+      rw (top.0, top.1, bottom.0, bottom.1, two, three, four, whole (a + b + c + d + 2) (omega arith))
 
-  halved_lanes : (n : ℕ) (top bottom : List ℕ) → 2 * n ≤ length top → 2 * n ≤ length bottom → Each1 (λ x. x < base) top → Each1 (λ x. x < base) bottom
-      → zip2 lane_mean (digits_l (base * base) n (number_l base (take (2 * n) top))) (digits_l (base * base) n (number_l base (take (2 * n) bottom)))
-      ≡ halved one_byte (take (2 * n) top) (take (2 * n) bottom)
-  halved_lanes zero top bottom long long1 small small1 = refl
-  halved_lanes (suc n) (a ∷ b ∷ top) (c ∷ d ∷ bottom) long long1 small small1 =
+  pub halved_lanes : (n : ℕ) (top bottom : List ℕ) → 2 * n ≤ length top → 2 * n ≤ length bottom
+      → ((k : ℕ) → Fits w (get_or top k 0)) → ((k : ℕ) → Fits w (get_or bottom k 0))
+      → zip2 lane_mean (lanes n top) (lanes n bottom) ≡ halved one_byte (take (2 * n) top) (take (2 * n) bottom)
+  halved_lanes zero top bottom long long1 fits fits1 = refl
+  halved_lanes (suc n) (a ∷ b ∷ top) (c ∷ d ∷ bottom) long long1 fits fits1 =
       let e : 2 * suc n ≡ suc (suc (2 * n)) = omega arith in
-      let rest : ℕ = number_l base (take (2 * n) top) in
-      let rest1 : ℕ = number_l base (take (2 * n) bottom) in
-      let mean = lane_mean_is a b c d small.0 small.1.0 small1.0 small1.1.0 in
-      rw (e, first a b rest small.0 small.1.0, left a b rest small.0 small.1.0, first c d rest1 small1.0 small1.1.0, left c d rest1 small1.0 small1.1.0, mean)
-      (ap (λ pixels. rounded_mean a b c d ∷ pixels) (halved_lanes n top bottom (omega (arith, long)) (omega (arith, long1)) small.1.1 small1.1.1))
-  halved_lanes n top bottom long long1 small small1 = absurd (omega (arith, long, long1))
-
--- lanes of two bytes
-abbrev byte_mean : ℕ → ℕ → ℕ
-byte_mean t b = ((((bit_and t 255 + t / 256) % 65536 + bit_and b 255) % 65536 + b / 256) % 65536 + 2) % 65536 / 4
-
-pub halved_bytes : (n : ℕ) (top bottom : List ℕ) → 2 * n ≤ length top → 2 * n ≤ length bottom
-    → ((k : ℕ) → Fits w8 (get_or top k 0)) → ((k : ℕ) → Fits w8 (get_or bottom k 0))
-    → zip2 byte_mean (digits_l 65536 n (number_l 256 (take (2 * n) top))) (digits_l 65536 n (number_l 256 (take (2 * n) bottom)))
-    ≡ halved one_byte (take (2 * n) top) (take (2 * n) bottom)
-halved_bytes n top bottom long long1 fits fits1 =
-    halved_lanes 256 (omega arith) (λ a b small small1. and_mask (a + 256 * b) 8 ∙ omega (arith, small)) (λ a b small. omega (arith, small))
-    (λ a b rest small small1. omega (arith, small, small1)) (λ a b rest small small1. omega (arith, small, small1))
-    n top bottom long long1 (Each1-from_get_or (λ x. x < 256) top 0 (λ k h. (fits k).fits)) (Each1-from_get_or (λ x. x < 256) bottom 0 (λ k h. (fits1 k).fits))
+      let upper = lane_and_rest a b (number_l base (take (2 * n) top)) (fits 0).fits (fits 1).fits in
+      let lower = lane_and_rest c d (number_l base (take (2 * n) bottom)) (fits1 0).fits (fits1 1).fits in
+      let mean = lane_mean_is a b c d (fits 0).fits (fits 1).fits (fits1 0).fits (fits1 1).fits in
+      let others = halved_lanes n top bottom (omega (arith, long)) (omega (arith, long1)) (λ k. fits (suc (suc k))) (λ k. fits1 (suc (suc k))) in
+      rw (e, upper.0, upper.1, lower.0, lower.1, mean, others)
+  halved_lanes n top bottom long long1 fits fits1 = absurd (omega (arith, long, long1))
 
 -- lanes of two wider pixels, which are made of their bytes
-abbrev word_mean : ℕ → ℕ → ℕ
-word_mean t b = ((((bit_and t 65535 + t / 65536) % 4294967296 + bit_and b 65535) % 4294967296 + b / 65536) % 4294967296 + 2) % 4294967296 / 4
-
 abbrev word_lanes : ℕ → List ℕ → List ℕ
 word_lanes n pixels = digits_l 4294967296 n (number_l 256 (digits_l 256 (2 * (2 * n)) (number_l 65536 (take (2 * n) pixels))))
 
-bytes_of_words : (n : ℕ) (words : List ℕ) → n ≤ length words → Each1 (λ x. x < 65536) words
+bytes_of_words : (n : ℕ) (words : List ℕ) → n ≤ length words → ((k : ℕ) → Fits w16 (get_or words k 0))
     → number_l 256 (digits_l 256 (2 * n) (number_l 65536 (take n words))) ≡ number_l 65536 (take n words)
-bytes_of_words zero words long small = refl
-bytes_of_words (suc n) [] long small = absurd (omega (arith, long))
-bytes_of_words (suc n) (word ∷ words) long small =
+bytes_of_words zero words long fits = refl
+bytes_of_words (suc n) (word ∷ words) long fits =
     let e : 2 * suc n ≡ suc (suc (2 * n)) = omega arith in
     let rest : ℕ = number_l 65536 (take n words) in
     let low : (word + 65536 * rest) % 256 ≡ word % 256 = omega arith in
-    let high : (word + 65536 * rest) / 256 % 256 ≡ word / 256 = omega (arith, small.0) in
-    let left : (word + 65536 * rest) / 256 / 256 ≡ rest = omega (arith, small.0) in
-    let more = bytes_of_words n words (omega (arith, long)) small.1 in
+    let high : (word + 65536 * rest) / 256 % 256 ≡ word / 256 = omega (arith, (fits 0).fits) in
+    let left : (word + 65536 * rest) / 256 / 256 ≡ rest = omega (arith, (fits 0).fits) in
+    let more = bytes_of_words n words (omega (arith, long)) (λ k. fits (suc k)) in
     rw (e, low, high, left, more) (omega arith)
+bytes_of_words n words long fits = absurd (omega (arith, long))
 
 pub halved_words : (n : ℕ) (top bottom : List ℕ) → 2 * n ≤ length top → 2 * n ≤ length bottom
     → ((k : ℕ) → Fits w16 (get_or top k 0)) → ((k : ℕ) → Fits w16 (get_or bottom k 0))
-    → zip2 word_mean (word_lanes n top) (word_lanes n bottom) ≡ halved two_bytes (take (2 * n) top) (take (2 * n) bottom)
+    → zip2 (lane_mean w16 (omega arith)) (word_lanes n top) (word_lanes n bottom) ≡ halved two_bytes (take (2 * n) top) (take (2 * n) bottom)
 halved_words n top bottom long long1 fits fits1 =
-    let small = Each1-from_get_or (λ x. x < 65536) top 0 (λ k h. (fits k).fits) in
-    let small1 = Each1-from_get_or (λ x. x < 65536) bottom 0 (λ k h. (fits1 k).fits) in
-    rw (bytes_of_words (2 * n) top long small, bytes_of_words (2 * n) bottom long1 small1)
-    (halved_lanes 65536 (omega arith) (λ a b small small1. and_mask (a + 65536 * b) 16 ∙ omega (arith, small)) (λ a b small. omega (arith, small))
-    (λ a b rest small small1. omega (arith, small, small1)) (λ a b rest small small1. omega (arith, small, small1))
-    n top bottom long long1 small small1)
+    rw (bytes_of_words (2 * n) top long fits, bytes_of_words (2 * n) bottom long1 fits1) (halved_lanes w16 (omega arith) n top bottom long long1 fits fits1)

@@ -1,5 +1,5 @@
 -- Rows of half the size, in pieces.
-use Rattle.std.proofs.Common.{ℕ, zero, suc, ◌≡◌, ◌+◌, ◌-◌, ◌*◌, ◌<◌, ◌≤◌, List, [], ◌∷◌, ◌++◌, length, take, drop, get_or, set, refl, sym, ◌∙◌, ap, arith}
+use Rattle.std.proofs.Common.{ℕ, zero, suc, ◌≡◌, ◌+◌, ◌-◌, ◌*◌, ◌<◌, ◌≤◌, List, [], ◌∷◌, ◌++◌, length, take, drop, get_or, set, refl, ◌∙◌, ap, arith}
 use Rattle.std.specs.Simd.Lanes.{put_chunk}
 use Rattle.std.proofs.Math.Nat.{mul-suc}
 use Rattle.std.proofs.Math.Seq.{take-add}
@@ -32,16 +32,18 @@ module _ {T : Type 0} (form : PixelForm T) where
       (halved-append n (take (2 * n) top) (take (2 * n) bottom) _ _ (length-take-le (2 * n) top (omega (arith, long)))
       (length-take-le (2 * n) bottom (omega (arith, long1))))
 
+  -- the first pixels are those of the fronts of the rows
+  abbrev pub HalvedUpTo : ℕ → List T → List T → List T → Type 0
+  HalvedUpTo at pixels top bottom = take at pixels ≡ halved form (take (2 * at) top) (take (2 * at) bottom)
+
   -- a loop that writes a block of n lanes at a time, one step on
   pub halved-block_more : (n block from : ℕ) (pixels top bottom lanes : List T) → let at : ℕ = n * block in from ≡ 2 * at → at + n ≤ length pixels
       → length top ≡ 2 * length pixels → length bottom ≡ 2 * length pixels
       → lanes ≡ halved form (take (2 * n) (take (length top - from) (drop from top))) (take (2 * n) (take (length bottom - from) (drop from bottom)))
-      → take at pixels ≡ halved form (take (2 * at) top) (take (2 * at) bottom)
-      → take (n * (block + 1)) (put_chunk at pixels lanes) ≡ halved form (take (2 * (n * (block + 1))) top) (take (2 * (n * (block + 1))) bottom)
+      → HalvedUpTo at pixels top bottom → HalvedUpTo (n * (block + 1)) (put_chunk at pixels lanes) top bottom
   halved-block_more n block from pixels top bottom lanes double room long long1 is so_far =
       let at = n * block in
-      let next : block + 1 ≡ suc block = omega arith in
-      let on = ap (λ k. n * k) next ∙ mul-suc n block in
+      let on : n * (block + 1) ≡ at + n = omega (arith, mul-suc n block) in
       let here = rw (take_rest top from, take_rest bottom from, double) at is in
       let first = length-take-le (2 * n) (drop (2 * at) top) (omega (arith, room, long, length-drop (2 * at) top)) in
       let second = length-take-le (2 * n) (drop (2 * at) bottom) (omega (arith, room, long1, length-drop (2 * at) bottom)) in
@@ -54,13 +56,10 @@ module _ {T : Type 0} (form : PixelForm T) where
       → length top ≡ 2 * length pixels → length bottom ≡ 2 * length pixels
       → let at : List T → ℕ → ℕ = λ row k. form.value (get_or row k d) in
       pixel ≡ form.pixel_of (rounded_mean (at top (2 * i)) (at top (2 * i + 1)) (at bottom (2 * i)) (at bottom (2 * i + 1)))
-      → take i pixels ≡ halved form (take (2 * i) top) (take (2 * i) bottom)
-      → take (i + 1) (set pixels i pixel) ≡ halved form (take (2 * (i + 1)) top) (take (2 * (i + 1)) bottom)
+      → HalvedUpTo i pixels top bottom → HalvedUpTo (i + 1) (set pixels i pixel) top bottom
   halved-one_more i pixels top bottom pixel d room long long1 is so_far =
-      let pair = rw (
-        drop_more top (2 * i) d (omega (arith, room, long)),
-        drop_more top (2 * i + 1) d (omega (arith, room, long)),
-        drop_more bottom (2 * i) d (omega (arith, room, long1)),
-        drop_more bottom (2 * i + 1) d (omega (arith, room, long1)),
-      ) at (halved-fronts i 1 top bottom (omega (arith, room, long)) (omega (arith, room, long1))) in
-      rw (take_more_set pixels i pixel room, so_far, is) (sym pair)
+      let pair : (row : List T) → length row ≡ 2 * length pixels
+      → drop (2 * i) row ≡ get_or row (2 * i) d ∷ get_or row (2 * i + 1) d ∷ drop (2 * i + 1 + 1) row =
+      λ row long. rw (drop_more row (2 * i) d (omega (arith, room, long)), drop_more row (2 * i + 1) d (omega (arith, room, long))) in
+      let more = halved-fronts i 1 top bottom (omega (arith, room, long)) (omega (arith, room, long1)) in
+      rw (take_more_set pixels i pixel room, so_far, is, more, pair top long, pair bottom long1)

@@ -2,8 +2,8 @@
 use Rattle.std.proofs.Common.{ℕ, zero, suc, ◌≡◌, ◌+◌, ◌-◌, ◌*◌, ◌<◌, ◌≤◌, min}
 use Rattle.std.proofs.Common.{List, [], ◌∷◌, ◌++◌, ap, arith, append_assoc, zero-add, suc-add}
 use Rattle.std.proofs.Math.Nat.{mul-le-mul_left, mul-le-mul_right}
-use Rattle.v_frame_layout.specs.Geometry.{Geometry, IsGeometry, stride_of, alloc_size_of, Piece, border_piece, visible_piece, times, outer_row, crossing_row, cutting_plan}
-use Rattle.v_frame_layout.specs.Geometry.{entries_in_front, origin_of, place_of, usize_max}
+use Rattle.v_frame_layout.specs.Geometry.{Geometry, stride_of, alloc_size_of, Piece, border_piece, visible_piece, times, outer_row, crossing_row, cutting_plan}
+use Rattle.v_frame_layout.specs.Geometry.{IsGeometry, entries_in_front, origin_of, place_of, usize_max}
 
 -- the entries of all pieces
 abbrev pub total : List Piece → ℕ

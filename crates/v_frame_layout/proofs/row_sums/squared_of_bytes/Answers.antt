@@ -9,4 +9,5 @@ overflow_add-differences g c =
 
 pub returns : goal.returns
 returns g c =
-    c.from.ensures ∙ (squared_block w8 w32 g.row.N c.args.a.now c.args.b.now c.type_inv.a c.type_inv.b c.requires.first (lit< tt) (omega (arith, c.requires.lanes))).1
+    c.from.ensures
+    ∙ (squared_block w8 w32 g.row.N c.args.a.now c.args.b.now c.type_inv.a c.type_inv.b c.requires.first (lit< tt) (omega (arith, c.requires.lanes))).1
