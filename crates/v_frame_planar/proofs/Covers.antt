@@ -1,14 +1,14 @@
 -- Chroma that covers luma: it fits where luma does, and it is that of a builder where all divides.
-use Rattle.std.proofs.Common.{ℕ, ◌≡◌, ◌/◌, ◌<◌, ◌≤◌, Bool, true, false, ◌==◌, if◌then◌else◌, Option, Some, None, Result}
-use Rattle.std.proofs.Common.{Ok, Err, option_map, is_ok, SomeIff, refl, arith}
+use Rattle.std.proofs.Common.{ℕ, ◌≡◌, ◌/◌, ◌<◌, ◌≤◌, true, ◌==◌, Option, Some, None}
+use Rattle.std.proofs.Common.{Ok, option_map, is_ok, SomeIff, refl, arith}
 use Rattle.std.specs.Int.{div_ceil}
 use Rattle.std.proofs.Math.Nat.{div-le_self, div-one, mul-le-mul_left, mul-le-mul_right}
 use Rattle.std.proofs.lemmas.Nat.{div-add-mod'}
 use Rattle.std.proofs.lemmas.Bool.{and_parts, eqb-true}
 use Rattle.v_frame.specs.Prelude.{Geometry, stride_of, alloc_height_of, Fits, IsGeometry}
-use Rattle.v_frame_layout.specs.Chroma.{has_quotient, is_divisible, is_full, divided_geometry, subsampled_by}
-use Rattle.v_frame_layout.specs.declared.geometry.SubsamplingError.{SubsamplingError}
+use Rattle.v_frame_layout.specs.Chroma.{has_quotient, is_divisible, divided_geometry, subsampled_by}
 use Rattle.v_frame.specs.Build.{FrameRequest, luma_geometry}
+use Rattle.v_frame_layout.proofs.ChromaLemmas.{by_ratio}
 use Rattle.v_frame_planar.specs.Video.{covering_geometry}
 
 -- a quotient rounded up is none only of nothing
@@ -50,11 +50,8 @@ exact_ceil n ratio e = omega (arith, eqb-true _ n e, div-add-mod' n ratio)
 -- where all divides, to cover luma is to divide it
 divided_covers : (x y : ℕ) (g : Geometry) → is_divisible x y g ≡ true → covering_geometry g (x, y) ≡ divided_geometry x y g
 divided_covers x y g e =
-    let columns = and_parts (has_quotient g.width x) _ e in
-    let left = and_parts (has_quotient g.pad_left x) _ columns.1 in
-    let right = and_parts (has_quotient g.pad_right x) _ left.1 in
-    let rows = and_parts (has_quotient g.height y) _ right.1 in
-    rw (exact_ceil g.width x columns.0, exact_ceil g.height y rows.0)
+    let sides : (has_quotient g.width x ≡ true) × (has_quotient g.height y ≡ true) = grind arith in
+    rw (exact_ceil g.width x sides.0, exact_ceil g.height y sides.1)
 
 module _ (request : FrameRequest) where
   abbrev luma : Geometry
@@ -67,20 +64,11 @@ module _ (request : FrameRequest) where
       let height : div_ceil luma.height 1 ≡ luma.height = omega arith in
       rw (width, height) (simp div-one)
 
-  -- what a builder has for chroma, by what it tests
-  abbrev chroma_by : Bool → Bool → ℕ → ℕ → Result (Option Geometry) SubsamplingError
-  chroma_by whole divided x y = if whole then Ok (Some luma) else (if divided then Ok (Some (divided_geometry x y luma)) else Err (record {}))
-
-  divides : (whole divided : Bool) (x y : ℕ) → is_full (x, y) ≡ whole → is_divisible x y luma ≡ divided → is_ok (chroma_by whole divided x y) ≡ true
-      → chroma_by whole divided x y ≡ Ok (Some (covering_geometry luma (x, y)))
-  divides true divided x y full is ok =
-      let ones = and_parts (x == 1) (y == 1) full in
-      rw (eqb-true x 1 ones.0, eqb-true y 1 ones.1, whole_covers)
-  divides false true x y full is ok = rw (divided_covers x y luma is)
-  divides false false x y full is ok = cc
-
   -- where a builder accepts the ratio, it lays chroma out so
   pub subsampled_covers : (ratio : Option (ℕ × ℕ)) → is_ok (subsampled_by ratio luma) ≡ true
       → subsampled_by ratio luma ≡ Ok (option_map (covering_geometry luma) ratio)
-  subsampled_covers None ok = refl
-  subsampled_covers (Some ratio) ok = divides (is_full ratio) (is_divisible ratio.0 ratio.1 luma) ratio.0 ratio.1 refl refl ok
+  subsampled_covers None = λ ok. refl
+  subsampled_covers (Some (x, y)) =
+      by_ratio x y luma (λ made. is_ok made ≡ true → made ≡ Ok (Some (covering_geometry luma (x, y))))
+      (λ full ok. let ones = and_parts (x == 1) (y == 1) full in rw (eqb-true x 1 ones.0, eqb-true y 1 ones.1, whole_covers))
+      (λ is ok. rw (divided_covers x y luma is)) (λ ok. cc)
