@@ -66,9 +66,9 @@ has_chroma_size s luma chroma e =
     record { size = is.0; no_wider = is.1; no_higher = is.2; no_larger = is.3 }
 
 -- without chroma there is no size
-no_size_by_ratio : (ratio : Option (ℕ × ℕ)) (g : Geometry) → subsampled_by ratio g ≡ Ok None → size_by ratio g.width g.height ≡ None
-no_size_by_ratio None g e = refl
-no_size_by_ratio (Some r) g e = absurd (grind arith)
+no_size_by : (ratio : Option (ℕ × ℕ)) (g : Geometry) → subsampled_by ratio g ≡ Ok None → size_by ratio g.width g.height ≡ None
+no_size_by None g e = refl
+no_size_by (Some r) g e = absurd (grind arith)
 
 pub no_chroma_size : (s : ChromaSubsampling) (g : Geometry) → subsampled s g ≡ Ok None → chroma_size_of s g.width g.height ≡ None
-no_chroma_size s g e = no_size_by_ratio (ratio_of s) g e
+no_chroma_size s = no_size_by (ratio_of s)

@@ -10,7 +10,7 @@ abbrev pub total : List Piece → ℕ
 total [] = 0
 total (piece ∷ plan) = piece.entries + total plan
 
-pub total-append : (p q : List Piece) → total (p ++ q) ≡ total p + total q
+total-append : (p q : List Piece) → total (p ++ q) ≡ total p + total q
 total-append [] q = omega arith
 total-append (piece ∷ p) q = omega (arith, total-append p q)
 
@@ -56,7 +56,7 @@ front_of_outer g zero rest = omega arith
 front_of_outer g (suc n) rest = omega (arith, front_of_outer g n rest)
 
 -- the place of the pixel (0, 0), which a plane has, since it has a row
-pub origin_is : (g : Geometry) → 0 < g.height → origin_of g ≡ g.pad_top * stride_of g + g.pad_left
+origin_is : (g : Geometry) → 0 < g.height → origin_of g ≡ g.pad_top * stride_of g + g.pad_left
 origin_is g h =
     let rest = times g.pad_bottom (outer_row g) in
     omega (arith, front_of_outer g g.pad_top (times g.height (crossing_row g) ++ rest), front_of_crossing g g.height rest h)
@@ -99,6 +99,4 @@ origin_by_stride g stride e is =
 pub counted_size : (height top bottom stride first rows size : ℕ) → 0 < stride → first ≡ min (height + top) usize_max
     → rows ≡ min (first + bottom) usize_max → size ≡ min (rows * stride) usize_max → size ≡ min ((height + top + bottom) * stride) usize_max
 counted_size height top bottom stride first rows size some first_is rows_is size_is =
-    let all = height + top + bottom in
-    let whole : all ≤ usize_max → rows ≡ all = λ h. omega arith in
-    grind (arith, mul-le-mul_left rows some, mul-le-mul_left all some)
+    grind (arith, mul-le-mul_left rows some, mul-le-mul_left (height + top + bottom) some)

@@ -1,6 +1,8 @@
 -- Sums over the pairs of two lists, in pieces.
 use Rattle.std.proofs.Common.{ℕ, zero, suc, ◌≡◌, ◌+◌, ◌-◌, ◌*◌, ◌^◌, ◌<◌, ◌≤◌, List, [], ◌∷◌, ◌++◌, length, take, drop, get_or}
-use Rattle.std.proofs.Common.{mul-suc, refl, arith}
+use Rattle.std.proofs.Common.{mul-suc, refl, arith, Fits}
+use mir.Syntax.{Width}
+use mir.Val.{bits}
 use Rattle.std.specs.Prelude.{sum_by, zip}
 use Rattle.std.specs.Int.{abs_diff}
 use Rattle.std.proofs.Math.Nat.{mul-le-mul}
@@ -10,10 +12,9 @@ use Rattle.std.proofs.lemmas.Simd.{Each1-from_get_or}
 use Rattle.std.proofs.lemmas.List.{drop-drop, take_rest}
 use Rattle.std.proofs.lemmas.List.Sums.{sum_by-cons}
 
-module _ {X : Type 0} (Y : Type 0) where
-  no_pairs : (xs : List X) → let none : List Y = [] in zip xs none ≡ []
-  no_pairs [] = refl
-  no_pairs (x ∷ xs) = refl
+no_pairs : {X : Type 0} (Y : Type 0) (xs : List X) → let none : List Y = [] in zip xs none ≡ []
+no_pairs Y [] = refl
+no_pairs Y (x ∷ xs) = refl
 
 module _ {X Y : Type 0} (of : X × Y → ℕ) where
   -- a sum over pairs is that of the first n of them, and that of those they leave
@@ -21,7 +22,7 @@ module _ {X Y : Type 0} (of : X × Y → ℕ) where
       → sum_by of (zip xs ys) ≡ sum_by of (zip (take n xs) (take n ys)) + sum_by of (zip (drop n xs) (drop n ys))
   sum_of_pairs-split zero xs ys = omega arith
   sum_of_pairs-split (suc n) [] ys = refl
-  sum_of_pairs-split (suc n) (x ∷ xs) [] = rw (no_pairs Y (drop n xs)) refl
+  sum_of_pairs-split (suc n) (x ∷ xs) [] = rw (no_pairs Y (drop n xs))
   sum_of_pairs-split (suc n) (x ∷ xs) (y ∷ ys) =
       omega (arith, sum_of_pairs-split n xs ys, sum_by-cons of (x, y) (zip xs ys), sum_by-cons of (x, y) (zip (take n xs) (take n ys)))
 
@@ -63,15 +64,16 @@ sum_of_pairs-at_most f size most each (x ∷ xs) (y ∷ ys) small small1 =
     omega (arith, long, rest, each x y small.0 small1.0, sum_by-cons (λ p. f p.0 p.1) (x, y) (zip xs ys))
 sum_of_pairs-at_most f size most each xs ys small small1 = omega arith
 
--- sums over pairs of values of 16 bits
-module _ (xs ys : List ℕ) (small : (k : ℕ) → get_or xs k 0 < 65536) (small1 : (k : ℕ) → get_or ys k 0 < 65536) where
-  at_most : (f : ℕ → ℕ → ℕ) (most : ℕ) → ((x y : ℕ) → x < 65536 → y < 65536 → f x y ≤ most) → sum_by (λ p. f p.0 p.1) (zip xs ys) ≤ most * length xs
+-- sums over pairs of values of up to 16 bits
+module _ (w : Width) (narrow : 2 ^ bits w ≤ 65536) (xs ys : List ℕ) (fits : (k : ℕ) → Fits w (get_or xs k 0)) (fits1 : (k : ℕ) → Fits w (get_or ys k 0)) where
+  at_most : (f : ℕ → ℕ → ℕ) (most : ℕ) → ((x y : ℕ) → x < 2 ^ bits w → y < 2 ^ bits w → f x y ≤ most)
+      → sum_by (λ p. f p.0 p.1) (zip xs ys) ≤ most * length xs
   at_most f most each =
-      sum_of_pairs-at_most f 65536 most each xs ys (Each1-from_get_or _ xs 0 (λ k h. small k)) (Each1-from_get_or _ ys 0 (λ k h. small1 k))
+      let below = λ (zs : List ℕ) (small : (k : ℕ) → Fits w (get_or zs k 0)). Each1-from_get_or (λ z. z < 2 ^ bits w) zs 0 (λ k h. (small k).fits) in
+      sum_of_pairs-at_most f (2 ^ bits w) most each xs ys (below xs fits) (below ys fits1)
 
   pub differences-at_most : sum_by (λ p. abs_diff p.0 p.1) (zip xs ys) ≤ 65536 * length xs
-  differences-at_most = at_most abs_diff 65536 (λ x y h h1. omega arith)
+  differences-at_most = at_most abs_diff 65536 (λ x y h h1. omega (arith, narrow))
 
   pub squares-at_most : sum_by (λ p. squared_error p.0 p.1) (zip xs ys) ≤ 4294967296 * length xs
-  squares-at_most =
-      at_most squared_error 4294967296 (λ x y h h1. let gap : abs_diff x y ≤ 65536 = omega arith in mul-le-mul gap gap)
+  squares-at_most = at_most squared_error 4294967296 (λ x y h h1. let gap : abs_diff x y ≤ 65536 = omega (arith, narrow) in mul-le-mul gap gap)
