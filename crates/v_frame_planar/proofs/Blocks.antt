@@ -1,20 +1,13 @@
 -- Pixels that are encoded run by run.
-use Rattle.std.proofs.Common.{ℕ, ◌≡◌, List, ◌++◌, None, Some, Option, refl, ◌∙◌, append_assoc}
+use Rattle.std.proofs.Common.{◌≡◌, List, ◌++◌, None, Some, Option, refl}
 use Rattle.std.proofs.lemmas.Grind.{flat_map-append}
 use Rattle.v_frame.specs.Prelude.{PixelForm, Table, Tables, bytes_of, bytes_of_pixels, row_major}
 use Rattle.v_frame_planar.specs.Planar.{bytes_of_plane, planar_bytes, pixels_of_plane, planar_pixels}
 
 module _ {T : Type 0} (form : PixelForm T) where
   -- the bytes of two runs
-  bytes-append : (first rest : List T) → bytes_of_pixels form (first ++ rest) ≡ bytes_of_pixels form first ++ bytes_of_pixels form rest
+  pub bytes-append : (first rest : List T) → bytes_of_pixels form (first ++ rest) ≡ bytes_of_pixels form first ++ bytes_of_pixels form rest
   bytes-append first rest = flat_map-append (λ pixel. bytes_of form.size (form.value pixel)) first rest
-
-  -- where a run was encoded, it stands behind what was encoded before
-  pub one_more_run : (all front part : List ℕ) (pending row first rest behind : List T) → all ≡ front ++ bytes_of_pixels form pending →
-      row ++ behind ≡ pending → row ≡ first ++ rest → part ≡ bytes_of_pixels form first
-      → all ≡ (front ++ part) ++ bytes_of_pixels form (rest ++ behind)
-  one_more_run all front part pending row first rest behind is whole cut encoded =
-      is ∙ rw (← whole, cut, encoded, append_assoc first rest behind, bytes-append first (rest ++ behind), append_assoc front (bytes_of_pixels form first) _)
 
   bytes_of_absent : (table : Option (Table T)) → bytes_of_pixels form (pixels_of_plane table) ≡ bytes_of_plane form table
   bytes_of_absent None = refl

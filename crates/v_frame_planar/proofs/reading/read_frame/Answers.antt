@@ -1,5 +1,5 @@
 -- A frame for which there was no room, and one that came to its end.
-use Rattle.std.proofs.Common.{length, sym, ◌∙◌, ap, arith}
+use Rattle.std.proofs.Common.{length, ◌∙◌, ap, arith}
 use Rattle.std.proofs.lemmas.List.{take_at}
 use Rattle.std.proofs.lemmas.Grind.{common_steps}
 use Rattle.v_frame_planar.proofs.Stops.{no_room, was_read, was_truncated}
@@ -7,8 +7,7 @@ use Rattle.v_frame_planar.proofs.reading.read_frame.Goals as goal
 
 pub returns-in_err-bytes-clause-error : goal.returns-in_err-bytes-clause-error
 returns-in_err-bytes-clause-error g c =
-    let error = c.in_err-bytes.field-0.0 in
-    no_room g.R.Read.remaining c.args.reader.now _ c.from_residual.result error c.from_residual.ensures.1 c.in_err-bytes.ensures.error
+    no_room g.R.Read.remaining c.args.reader.now _ c.from_residual.result _ c.from_residual.ensures.1 c.in_err-bytes.ensures.error
 
 pub show_whole-requires-after_bounds : goal.show_whole-requires-after_bounds
 show_whole-requires-after_bounds g c = grind (arith, common_steps)
@@ -24,8 +23,7 @@ pub returns-clause-error : goal.returns-clause-error
 returns-clause-error g c =
     let done = c.in_ok-found.ensures in
     let lent = c.as_mut_slice.ensures in
-    let long = done.size ∙ lent.len in
-    let same = c.as_slice.ensures.value ∙ take_at c.read_until_full.new.buf _ _ long in
-    let size = long ∙ sym lent.len ∙ ap length lent.value ∙ c.in_ok-bytes.ensures.room in
+    let same = c.as_slice.ensures.value ∙ take_at c.read_until_full.new.buf _ _ (done.size ∙ lent.len) in
+    let size = done.size ∙ ap length lent.value ∙ c.in_ok-bytes.ensures.room in
     was_truncated g.R.Read.remaining c.args.reader.now c.read_until_full.new.reader _ _ done.bytes done.at_end _ _ c.show_whole.result size done.bound
     done.uncounted (rw same at c.show_whole.ensures.truncated)

@@ -10,8 +10,7 @@ use Rattle.v_frame_planar.proofs.writing.write_frame.Goals as goal
 
 pub loop-pending-init : goal.loop-pending-init
 loop-pending-init g c =
-    let form = g.T.Pixel.form in
-    let all = sym (bytes_of_planar_pixels form (tables_of c.args.frame.now)) in
+    let all = sym (bytes_of_planar_pixels g.T.Pixel.form (tables_of c.args.frame.now)) in
     record { sent = ([], Appends-nil _, rw c.new-pending.ensures all); failures = search rules; last_failure = search rules }
 
 pub loop-pending-preserved : goal.loop-pending-preserved
@@ -19,11 +18,10 @@ loop-pending-preserved g c =
     let before = c.loop-pending.invariant in
     let front = before.sent.0 in
     let part = take c.fill-filled.result c.fill-filled.new.block in
-    let rest = bytes_of_pixels g.T.Pixel.form (pixels_pending c.fill-filled.new.self) in
     let done = c.in_ok-write_all.ensures in
-    let all = before.sent.2 ∙ rw (c.fill-filled.ensures.bytes, append_assoc front part rest) in
+    let sent = Appends-trans _ _ _ front part before.sent.1 (search rules) in
     record {
-      sent = (front ++ part, Appends-trans _ _ _ front part before.sent.1 (search rules), all);
+      sent = (front ++ part, sent, before.sent.2 ∙ rw (c.fill-filled.ensures.bytes, append_assoc front part _));
       failures = done.uncounted ∙ before.failures;
       last_failure = done.cause ∙ before.last_failure;
     }

@@ -1,9 +1,8 @@
 -- One more run stands behind what was encoded before.
-use Rattle.std.proofs.Common.{◌≡◌, ◌+◌, ◌-◌, ◌*◌, ◌++◌, length, take, rules, arith}
+use Rattle.std.proofs.Common.{◌≡◌, ◌+◌, ◌-◌, ◌*◌, ◌++◌, length, take, ◌∙◌, append_assoc, rules, arith}
 use Rattle.std.proofs.lemmas.Grind.{common_steps}
-use Rattle.v_frame.specs.Prelude.{bytes_of_pixels}
-use Rattle.v_frame_planar.specs.Pending.{pixels_pending, pixels_behind}
-use Rattle.v_frame_planar.proofs.Blocks.{one_more_run}
+use Rattle.v_frame_planar.specs.Pending.{pixels_behind}
+use Rattle.v_frame_planar.proofs.Blocks.{bytes-append}
 use Rattle.std.proofs.lemmas.Slice.{take-put_mid}
 use Rattle.v_frame_planar.proofs.pending.Pending.fill.Goals as goal
 
@@ -20,10 +19,13 @@ loop-block-preserved g c =
     let long = c.BYTES-in-loop-block-2.result * length first in
     let size : length part ≡ long = search rules in
     let cut : begun.row.now ≡ first ++ rest = search rules in
-    let run = one_more_run form (bytes_of_pixels form (pixels_pending c.args.self.now)) (take filled block) part (pixels_pending c.loop-block.self)
-    begun.row.now first rest (pixels_behind begun) before.bytes c.begin_row.ensures.pixels cut c.encode_row.ensures in
+    let behind = pixels_behind begun in
     let joined = take-put_mid filled (filled + long - filled) block part (filled + long) (omega (arith, size)) before.within in
-    record { within = search rules; bytes = rw joined run }
+    record {
+      within = search rules;
+      bytes = before.bytes ∙ rw (joined, ← c.begin_row.ensures.pixels, cut, append_assoc first rest behind)
+          (rw (bytes-append form first (rest ++ behind), ← c.encode_row.ensures, append_assoc (take filled block) part _));
+    }
 
 pub overflow_mul-end : goal.overflow_mul-end
 overflow_mul-end g c = grind (arith, common_steps)
