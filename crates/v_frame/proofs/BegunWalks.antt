@@ -1,9 +1,8 @@
 -- An iterator over lent pixels whose items are all left: how its rows end, by what its pixels end as. Assumes `Logic`.
 use Rattle.v_frame_plane.proofs.lent.Steps.{◌≡◌, List, [], ◌∷◌, ◌++◌, length, refl, sym, ap, ◌∙◌, emp, ent, sep, fact, fact_i, RattleType, Ura, ‵, raw, ◌$◌}
-use Rattle.v_frame_plane.proofs.lent.Steps.{◌∵◌, !, qed, done, drop, fpick, fsplit, join, move, rewrite, use0, Logic, sem}
+use Rattle.v_frame_plane.proofs.lent.Steps.{◌∵◌, !, qed, done, drop, fpick, fsplit, join, move, rewrite, use0, Logic, sem, append-nil, nil_from_length}
 use Rattle.v_frame_layout.specs.Table.{Table, width_of, height_of, row_major, cut_rows}
 use Rattle.v_frame_plane.specs.SecondPixels.{Parts, ArePartsOf, BeginsOver, SecondPixels}
-use Rattle.std.proofs.{Common.append-nil, lemmas.List.nil_from_length}
 use Rattle.std.specs.{Prelude.All, Prelude.map}
 use Rattle.v_frame_plane.specs.{Plane.Raster, Plane.table_of, SecondRows.SecondRows, declared.pixels_mut.PixelsMut.PixelsMut}
 use Rattle.v_frame_plane.proofs.{iterators.Cursors.rows_are_long}

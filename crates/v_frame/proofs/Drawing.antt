@@ -1,9 +1,7 @@
 -- A call from a side, in a proof by hand: which side it is, and what `next` or `next_back` says then. Assumes `Logic`.
 use Rattle.v_frame_plane.proofs.lent.Steps.{◌≡◌, List, [], ◌∷◌, Option, MutBor, refl, sym, ap, Fml, SProp, ent, sep, fact, fact_i, shows, ⊤, MakesProgress}
 use Rattle.v_frame_plane.proofs.lent.Steps.{item_count, YieldsFirstMut, YieldsLastMut, only, peeks, Val, Ura, Goal, Item, Seq, ‵, raw, ◌$◌, drop, Logic, sem}
-use base.Logic.{fst∗, mono_r}
-use contract.Monad.{fact_use}
-use types.Kit.{⋆}
+use Rattle.v_frame_plane.proofs.lent.Steps.{fst∗, mono_r, fact_use, ⋆}
 use Rattle.std.proofs.{Common.subst}
 use Rattle.std.specs.{Option.option_copied_mut}
 use Rattle.v_frame.specs.{Walk.item_from, Walk.left_by, contracts.replay.draw.Side.the_row, declared.replay.draw.Side.Side}

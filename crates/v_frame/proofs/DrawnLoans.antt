@@ -1,10 +1,9 @@
 -- What draws that write leave of an iterator's final values: one more draw, and the iterator that is dropped. `second` says that an iterator has them.
 -- Assumes `Logic`.
 use Rattle.v_frame_plane.proofs.lent.Steps.{via, mono_r, apply∗, ℕ, ◌+◌, ◌<◌, take, arith, ◌≡◌, List, [], ◌∷◌, length, refl, ap, ◌∙◌, SProp, all, emp, ent}
-use Rattle.v_frame_plane.proofs.lent.Steps.{sep, wand, Ura, ‵, ◌$◌, ◌∵◌, !, qed, assume, done, each, move, rewrite, use2, Logic, sem}
+use Rattle.v_frame_plane.proofs.lent.Steps.{sep, wand, Ura, ‵, ◌$◌, ◌∵◌, !, qed, assume, done, each, move, rewrite, use2, Logic, sem, Fml}
 use Rattle.std.proofs.lemmas.List.{take_all}
 use Rattle.std.specs.Prelude.{map}
-use base.Fml.{Fml}
 use Rattle.v_frame.specs.DrawnItems.{put_back, put_back_in_turn, PutsBack}
 use Rattle.v_frame.specs.Walk.{item_from, left_by, left_in_turn, walk_leaves}
 use Rattle.v_frame.specs.declared.replay.draw.Side.{Side}

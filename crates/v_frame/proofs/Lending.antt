@@ -6,22 +6,15 @@
 use Rattle.v_frame_plane.proofs.lent.Steps.{Laws, NamedLft, framed, param_laws, refl, tables, ◌⊑◌, ℕ, ◌≡◌, ◌^◌, ◌<◌, List, [], ◌∷◌, length, MutBor, Lft}
 use Rattle.v_frame_plane.proofs.lent.Steps.{Share, Fml, fat, flent, flft, fsep, full_share, ent, sep, fact, RattleType, MutRef, mut_vals, mem, named, param}
 use Rattle.v_frame_plane.proofs.lent.Steps.{Val, vptr, Ura, Goal, Item, Seq, Soaks, Step, step, ‵, raw, ◌⊛◌, some, later, ◌$◌, ◌∵◌, !, qed, await, drop}
-use Rattle.v_frame_plane.proofs.lent.Steps.{frame, fsplit, heard, move, pick, split, use1, use2, use3, Logic, sem, Body, Array, Ty}
-use contract.Running.{MachineTables, Running}
-use denote.Laws.{Typed, Is}
+use Rattle.v_frame_plane.proofs.lent.Steps.{frame, fsplit, heard, move, pick, split, use1, use2, use3, Logic, sem, Body, Array, Ty, MachineTables, Running}
+use Rattle.v_frame_plane.proofs.lent.Steps.{Typed, Is, Callee, Lifetime, Place, call, seq, Model, Env, Post, lands, regoal, runs, mean, Opds, meet_⊑_right}
+use Rattle.v_frame_plane.proofs.lent.Steps.{fres, follows, lone, All}
 use denote.Lowered.{Lowered}
-use mir.Syntax.{Body as Code, Callee, Lifetime, Opd as Operand, Place, call, seq}
-use prog.Model.{Model}
-use prog.Wp.{Env}
-use types.Kit.{Post, lands, regoal, runs, mean}
-use types.Run.{Opds}
-use contract.BorrowLft.{meet_⊑_right}
+use mir.Syntax.{Body as Code, Opd as Operand}
 use Rattle.v_frame_plane.specs.contracts.plane.Plane as planes
 use Rattle.v_frame_plane.proofs as of_walks
-use base.Fml.{fres}
-use denote.Follow.{follows, followed}
+use denote.Follow.{followed}
 use denote.Lend.{LentAgain, comes_back, lends_again}
-use denote.Memory.{lone}
 use mir.Raw.{raw as raw_ty}
 use Rattle.v_frame_plane.specs.PixelsLeft.{LendsPixelsInOrder, LendsPixelsInReverse, pixels_left, pixels_slice}
 use Rattle.v_frame_plane.specs.Plane.{Raster, table_of, with_entries}
@@ -29,7 +22,6 @@ use Rattle.v_frame_plane.specs.RowsLeft.{LendsRowsInOrder, LendsRowsInReverse, r
 use Rattle.v_frame_plane.specs.SecondRows.{SecondRows, WritesEachTable, entries_with}
 use Rattle.v_frame.proofs.ItemKinds.{Begins, Kept, Kind, Promise, Walk, neither, of_pixels, slice, walk_row}
 use Rattle.v_frame_plane.proofs.lent.Loans.{Back, lft_over, lft_within, share_within}
-use Rattle.std.proofs.{Common.All}
 use Rattle.v_frame_layout.specs.{Table.row_major}
 use Rattle.v_frame_plane.specs.{Cursor.PixelsAreCountable, Lends.LendsBuffer, SecondPixels.BeginsOver, contracts.plane.Plane.the_row}
 use Rattle.v_frame_plane.specs.{declared.rows_mut.RowsMut.RowsMut}

@@ -1,11 +1,10 @@
 -- What a call of `next` or `next_back` leaves of the final values of an iterator. Assumes `Logic`.
 use Rattle.v_frame_plane.proofs.lent.Steps.{[], ◌∷◌, ‵, ◌$◌, ◌∵◌, !, qed, done, each, assume, join, move, use1, use2, rewrite, refl, sym, apply∗, Option, ◌≡◌}
-use Rattle.v_frame_plane.proofs.lent.Steps.{List, length, Some, None, MutBor, SProp, ent, sep, RattleType, Ura, Logic, sem}
-use base.Fml.{fwand, fsep}
+use Rattle.v_frame_plane.proofs.lent.Steps.{List, length, Some, None, MutBor, SProp, ent, sep, RattleType, Ura, Logic, sem, fwand, fsep}
 use Rattle.v_frame.proofs.DrawnLoans.{Puts}
 use Rattle.v_frame.proofs.ItemKinds.{Ends, Entry, Kind, Lends, Second, Walk, left, of_pixels}
-use Rattle.v_frame.specs.{DrawnItems.put_back, Walk.item_from, declared.replay.draw.Side.Side, declared.replay.draw.Side.TheVariants.Front}
-use Rattle.v_frame.specs.{declared.replay.draw.Side.TheVariants.Back}
+use Rattle.v_frame.specs.{DrawnItems.put_back, Walk.item_from}
+use Rattle.v_frame.specs.declared.replay.draw.Side.{Side, TheVariants.Front, TheVariants.Back}
 
 module _ {M : Type 1} {𝓤 : Ura M} (𝓛 : Logic 𝓤) (T : RattleType) where
   abbrev Put : (k : Kind) → Side → (Entry T k → Entry T k) → (old new : Walk T k) → SProp 𝓤

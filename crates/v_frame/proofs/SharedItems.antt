@@ -1,15 +1,13 @@
 -- One element of a slice for reading, by its number: what a `&` to it holds, and one element more of a list. Assumes `Logic`.
 use Rattle.v_frame_plane.proofs.lent.Steps.{RattleType, Val, vptr, mem, Goal, Item, Step, step, feq_i, fjoin, ℕ, ◌≡◌, ◌+◌, ◌*◌, ◌<◌, List, [], ◌∷◌, ◌++◌}
 use Rattle.v_frame_plane.proofs.lent.Steps.{length, take, refl, ap, arith, Lft, ent, Ura, ‵, ◌$◌, ◌∵◌, !, qed, done, fsplit, keep, rewrite, use1, Logic, sem}
+use Rattle.v_frame_plane.proofs.lent.Steps.{Fml, hidden_shr, shared_of, RowLaws, ShrRef, elements_shared, Lifetime}
 use Rattle.std.specs.Prelude.{zero, suc}
-use base.Fml.{Fml, fhide}
+use base.Fml.{fhide}
 use denote.Index.{place, place_is}
-use denote.Memory.{each_shared, hidden_shr, shared_of}
+use denote.Memory.{each_shared}
 use denote.Opens.{laws_dup}
-use denote.RattleType.{RowLaws}
-use denote.Ref.{ShrRef}
-use denote.Slice.{elements_shared, elements_shr_laws}
-use mir.Syntax.{Lifetime}
+use denote.Slice.{elements_shr_laws}
 
 module _ {D : Type 0} where
   pub nth_of : (xs : List D) (i : ℕ) → i < length xs → D

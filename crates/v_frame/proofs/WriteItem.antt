@@ -1,32 +1,29 @@
 -- A call of `next` or `next_back` and the write into what it gives. Rattle learns nothing of what a call says of held items, so the proof follows the code.
 -- It stands once for rows and pixels: see `ItemKinds.antt`. Assumes `Logic`.
-use Rattle.v_frame.proofs.Steps.{Bound, Exits, Goes-dropped, Goes-gave_ref, Item, List, MutBor, MutRef, MutSlice, Option, RefOf, SProp, ShrRef, Sq, Stays}
-use Rattle.v_frame.proofs.Steps.{Val, Wp, addr, after, after_seq, agg, alloc_all, and_then, any_q, ap, arm_body, at_ret, at_return, copied, done, enter, env}
-use Rattle.v_frame.proofs.Steps.{exec, fact, feq_i, feq_l, finally-res, first, fld, flft, forget_but, framed, free_all, from, front, fsplit, ftrue, gave_ref}
-use Rattle.v_frame.proofs.Steps.{get, get_in, get_tag, heard, holding, hop, id⊢, in_variant, is, keep, lands_as, lands_last, lit<, look_at, look_in_at, move}
-use Rattle.v_frame.proofs.Steps.{mut_Tells, mut_vals, named, named_lft, no_more, nothing, of_opd, option_copied_mut, option_laws, option_row, param}
-use Rattle.v_frame.proofs.Steps.{param_laws, pass_all, peeks, plain, prop, proved, raw, refl, returns, rewrite, runs, says, sets, shows, shr_Tells, shr_vals}
-use Rattle.v_frame.proofs.Steps.{skips, stay_dropped, stop, sub, switches_on, sym, tables, through, unit_lit, use1, use2, vptr, vrt, vunit, walk_of, whole}
-use Rattle.v_frame.proofs.Steps.{yes, ℕ, !, [], ‵, ◌$◌, ◌∙◌, ◌∷◌, ◌≡◌, ◌⊑◌, Fml, NamedLft, Lft, Is, mut_ref_field, mut_ref_laws, mut_ref_shared, of_field}
-use Rattle.v_frame.proofs.Steps.{row_shared, live, of_list}
-use Rattle.v_frame_plane.proofs.lent.Steps.{Step, step, qed, ◌∵◌, ◌++◌, Logic, Ura, RattleType, Laws, Ty, ent, sem, tcons, tnil, ty_ref, ty_param, erased}
-use Rattle.v_frame_plane.proofs.lent.Steps.{mut, slice_ty}
-use contract.Running.{MachineTables, Running}
+use Rattle.v_frame.proofs.Steps.{Bound, Goes-gave_ref, arm_body, copied, finally-res, front, gave_ref, option_copied_mut, option_laws, option_row}
+use Rattle.v_frame.proofs.Steps.{mut_ref_field, mut_ref_laws, mut_ref_shared}
+use Rattle.v_frame_plane.proofs.lent.Steps.{Goes-dropped, Item, List, MutBor, MutRef, MutSlice, Option, RefOf, SProp, ShrRef, Sq, Stays, Val}
+use Rattle.v_frame_plane.proofs.lent.Steps.{Wp, addr, after, after_seq, agg, alloc_all, and_then, any_q, ap, at_ret, at_return, done, enter, env, exec, fact}
+use Rattle.v_frame_plane.proofs.lent.Steps.{feq_i, feq_l, first, fld, flft, forget_but, framed, free_all, from, fsplit, ftrue, get, get_in, get_tag, heard}
+use Rattle.v_frame_plane.proofs.lent.Steps.{holding, hop, id⊢, in_variant, is, keep, lands_as, lands_last, lit<, look_at, look_in_at, move, mut_Tells}
+use Rattle.v_frame_plane.proofs.lent.Steps.{mut_vals, named, named_lft, no_more, nothing, of_opd, param, param_laws, pass_all, peeks, plain, prop, proved}
+use Rattle.v_frame_plane.proofs.lent.Steps.{raw, refl, returns, rewrite, runs, says, sets, shows, shr_Tells, shr_vals, skips, stay_dropped, stop, sub}
+use Rattle.v_frame_plane.proofs.lent.Steps.{switches_on, sym, tables, through, unit_lit, use1, use2, vptr, vrt, vunit, walk_of, whole, yes, ℕ, !, [], ‵, ◌$◌}
+use Rattle.v_frame_plane.proofs.lent.Steps.{◌∙◌, ◌∷◌, ◌≡◌, ◌⊑◌, Fml, NamedLft, Lft, Is, of_field, row_shared, live, of_list, Step, step, qed, ◌∵◌, ◌++◌}
+use Rattle.v_frame_plane.proofs.lent.Steps.{Logic, Ura, RattleType, Laws, Ty, ent, sem, tcons, tnil, ty_ref, ty_param, erased, mut, slice_ty, MachineTables}
+use Rattle.v_frame_plane.proofs.lent.Steps.{Running, RowLaws, Callee, Dict, Fn, Local, Sym, addr_of, aggregate, arm, assign, call, copy, deref, field, imm}
+use Rattle.v_frame_plane.proofs.lent.Steps.{local, no_default, opd_unit, place, return, rv_opd, seq, skip, switch, ttcons, ttnil, ty_enum, ty_unit}
+use Rattle.v_frame_plane.proofs.lent.Steps.{value_local, variant, WT, Model, Closed, Go}
 use denote.Exit.{Last, left as left_at}
-use denote.RattleType.{RowLaws}
-use mir.Syntax.{Body, Callee, Dict, Fn, Local, Sym, addr_of, aggregate, arm, assign, call, copy, deref, field, imm, local, no_default, opd_unit, place}
-use mir.Syntax.{return, rv_opd, seq, skip, switch, ttcons, ttnil, ty_enum, ty_unit, value_local, variant}
-use mir.Val.{WT}
-use prog.Model.{Model}
-use prog.Wp.{Closed}
-use types.Kit.{Go}
+use mir.Syntax.{Body}
+use types.Kit.{Post as Exits}
 use Rattle.v_frame.proofs.CallSteps.{asks_that, calls, calls_last, ends, opened, read_twice, tokens, unit_fits}
 use Rattle.v_frame.proofs.Drawing.{Draws, Gave, by_side, from_back, from_front}
 use Rattle.v_frame.proofs.ItemKinds.{Ends, Entry, Kept, Kind, Lends, Promise, Puts, Walk, draw_row, left, made, neither, of_pixels, walk_row}
 use Rattle.std.specs.{declared.clone.Clone.Ghosts}
 use Rattle.v_frame_plane.proofs.lent.{RowMemory.slice_of, Taken.slice_laws}
-use Rattle.v_frame.specs.{Walk.left_by, declared.replay.draw.Side.Side, declared.replay.draw.Side.TheVariants.Front}
-use Rattle.v_frame.specs.{declared.replay.draw.Side.TheVariants.Back}
+use Rattle.v_frame.specs.Walk.{left_by}
+use Rattle.v_frame.specs.declared.replay.draw.Side.{Side, TheVariants.Front, TheVariants.Back}
 use Rattle.v_frame.proofs.{OptionCases.by_told, PutBack.item_taken, PutBack.none_taken}
 use Rattle.v_frame_plane.specs.contracts as lower
 use Rattle.v_frame.specs.contracts.replay as replay

@@ -1,24 +1,20 @@
 -- A whole iteration of calls that write: the plane is lent to an iterator, each draw writes through it in a loop, and it is dropped. Rattle learns nothing of
 -- what the iterator says of held items, so the proof follows the code. It stands once for rows and pixels: see `ItemKinds.antt`. Assumes `Logic`.
-use Rattle.v_frame.proofs.Steps.{Below, Fml, Goes-dropped, Goes-ref, Item, LentAgain, List, NamedLft, Out, SProp, SliceRefOf, Sq, Stays, Val, Wp, addr, after}
-use Rattle.v_frame.proofs.Steps.{after_block, after_seq, after_turn, again, alloc_all, and_then, any_q, ap, arith, at_ret, at_return, bin, blocks, branches}
-use Rattle.v_frame.proofs.Steps.{copied, drop, elements_shared, enter, env, exec, fact, feq_i, feq_l, fhide, first, fld, flft, forget_but, framed, free_all}
-use Rattle.v_frame.proofs.Steps.{from, fsplit, get, get_in, give_at, head, heard, holding, id⊢, jumps, lands_as, lands_last, length, lit, lit<, look_at}
-use Rattle.v_frame.proofs.Steps.{loops, lt-wf_rel, ltb→lt, map, meet_⊑_right, mem, move, mul-le-mul_right, mut_Tells, mut_vals, named, nltb→le, no_more}
-use Rattle.v_frame.proofs.Steps.{nothing, of_opd, only, param, pass_all, plain, proved, raw, refl, returns, runs, sets, sets_last, shr_slice_Tells}
-use Rattle.v_frame.proofs.Steps.{shr_slice_vals, size_lit, skips, slice_val, split, spot_of, stay_dropped, stay_ref, stop, sub, tables, tables_of, take}
-use Rattle.v_frame.proofs.Steps.{take_at, through, unit_lit, use0, use1, use2, vint, vptr, vunit, w64, walk_of, whole, yes, ℕ, !, [], ‵, ⊑_trans, ◌$◌, ◌*◌}
-use Rattle.v_frame.proofs.Steps.{◌+◌, ◌-◌, ◌<◌, ◌^◌, ◌∷◌, ◌≡◌, ◌≤◌, ◌⊑◌, ◌⊛◌}
-use Rattle.v_frame_plane.proofs.lent.Steps.{Logic, Ura, RattleType, Laws, Ty, ent, sep, sem, emp, fact_i, erased, mut, slice_ty, ty_int, ty_ptr, ty_ref}
-use base.Logic.{emp∗, mono_l, via}
-use contract.Running.{MachineTables, Running}
-use denote.Memory.{lone}
-use mir.Syntax.{Body, Callee, Dict, Fn, Opd as Operand, add, addr_of, assign, block, call, cond, copy, deref, exit, field, imm, int, local, loop, lt}
-use mir.Syntax.{memory_slot, mul, offset, op2, opd_unit, place, return, rv_opd, seq, size_of, skip, ty_bool, ty_unit, unsigned, value_local}
-use mir.Val.{Fits}
-use prog.Model.{Model}
-use prog.Wp.{Closed, Env}
-use types.Kit.{Go}
+use Rattle.v_frame.proofs.Steps.{LentAgain, SliceRefOf, after_turn, copied, fhide, head, lt-wf_rel, mul-le-mul_right, shr_slice_Tells, shr_slice_vals}
+use Rattle.v_frame.proofs.Steps.{spot_of, tables_of, w64}
+use Rattle.v_frame_plane.proofs.lent.Steps.{Below, Fml, Goes-dropped, Goes-ref, Item, List, NamedLft, Out, SProp, Sq, Stays, Val, Wp, addr, after}
+use Rattle.v_frame_plane.proofs.lent.Steps.{after_block, after_seq, again, alloc_all, and_then, any_q, ap, arith, at_ret, at_return, bin, blocks, branches}
+use Rattle.v_frame_plane.proofs.lent.Steps.{drop, elements_shared, enter, env, exec, fact, feq_i, feq_l, first, fld, flft, forget_but, framed, free_all, from}
+use Rattle.v_frame_plane.proofs.lent.Steps.{fsplit, get, get_in, give_at, heard, holding, id⊢, jumps, lands_as, lands_last, length, lit, lit<, look_at, loops}
+use Rattle.v_frame_plane.proofs.lent.Steps.{ltb→lt, map, meet_⊑_right, mem, move, mut_Tells, mut_vals, named, nltb→le, no_more, nothing, of_opd, only, param}
+use Rattle.v_frame_plane.proofs.lent.Steps.{pass_all, plain, proved, raw, refl, returns, runs, sets, sets_last, size_lit, skips, slice_val, split}
+use Rattle.v_frame_plane.proofs.lent.Steps.{stay_dropped, stay_ref, stop, sub, tables, take, take_at, through, unit_lit, use0, use1, use2, vint, vptr, vunit}
+use Rattle.v_frame_plane.proofs.lent.Steps.{walk_of, whole, yes, ℕ, !, [], ‵, ⊑_trans, ◌$◌, ◌*◌, ◌+◌, ◌-◌, ◌<◌, ◌^◌, ◌∷◌, ◌≡◌, ◌≤◌, ◌⊑◌, ◌⊛◌, Logic, Ura}
+use Rattle.v_frame_plane.proofs.lent.Steps.{RattleType, Laws, Ty, ent, sep, sem, emp, fact_i, erased, mut, slice_ty, ty_int, ty_ptr, ty_ref, emp∗, mono_l}
+use Rattle.v_frame_plane.proofs.lent.Steps.{via, MachineTables, Running, lone, Callee, Dict, Fn, addr_of, assign, call, cond, copy, deref, field, imm, int}
+use Rattle.v_frame_plane.proofs.lent.Steps.{local, lt, op2, opd_unit, place, return, rv_opd, seq, skip, ty_bool, ty_unit, unsigned, value_local, Fits, Model}
+use Rattle.v_frame_plane.proofs.lent.Steps.{Closed, Env, Go}
+use mir.Syntax.{Body, Opd as Operand, add, block, exit, loop, memory_slot, mul, offset, size_of}
 use types.Run.{Opd}
 use Rattle.v_frame_plane.specs.Plane.{Raster, table_of, with_entries}
 use Rattle.v_frame_plane.specs.SecondRows.{SecondRows, WritesTable, entries_with}
