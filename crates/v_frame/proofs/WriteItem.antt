@@ -2,23 +2,22 @@
 -- It stands once for rows and pixels: see `ItemKinds.antt`. Assumes `Logic`.
 use Rattle.v_frame.proofs.Steps.{Bound, Goes-gave_ref, arm_body, copied, finally-res, front, gave_ref, option_copied_mut, option_laws, option_row}
 use Rattle.v_frame.proofs.Steps.{mut_ref_field, mut_ref_laws, mut_ref_shared}
-use Rattle.v_frame_plane.proofs.lent.Steps.{Goes-dropped, Item, List, MutBor, MutRef, MutSlice, Option, RefOf, SProp, ShrRef, Sq, Stays, Val}
-use Rattle.v_frame_plane.proofs.lent.Steps.{Wp, addr, after, after_seq, agg, alloc_all, and_then, any_q, ap, at_ret, at_return, done, enter, env, exec, fact}
-use Rattle.v_frame_plane.proofs.lent.Steps.{feq_i, feq_l, first, fld, flft, forget_but, framed, free_all, from, fsplit, ftrue, get, get_in, get_tag, heard}
-use Rattle.v_frame_plane.proofs.lent.Steps.{holding, hop, id⊢, in_variant, is, keep, lands_as, lands_last, lit<, look_at, look_in_at, move, mut_Tells}
-use Rattle.v_frame_plane.proofs.lent.Steps.{mut_vals, named, named_lft, no_more, nothing, of_opd, param, param_laws, pass_all, peeks, plain, prop, proved}
-use Rattle.v_frame_plane.proofs.lent.Steps.{raw, refl, returns, rewrite, runs, says, sets, shows, shr_Tells, shr_vals, skips, stay_dropped, stop, sub}
-use Rattle.v_frame_plane.proofs.lent.Steps.{switches_on, sym, tables, through, unit_lit, use1, use2, vptr, vrt, vunit, walk_of, whole, yes, ℕ, !, [], ‵, ◌$◌}
-use Rattle.v_frame_plane.proofs.lent.Steps.{◌∙◌, ◌∷◌, ◌≡◌, ◌⊑◌, Fml, NamedLft, Lft, Is, of_field, row_shared, live, of_list, Step, step, qed, ◌∵◌, ◌++◌}
-use Rattle.v_frame_plane.proofs.lent.Steps.{Logic, Ura, RattleType, Laws, Ty, ent, sem, tcons, tnil, ty_ref, ty_param, erased, mut, slice_ty, MachineTables}
-use Rattle.v_frame_plane.proofs.lent.Steps.{Running, RowLaws, Callee, Dict, Fn, Local, Sym, addr_of, aggregate, arm, assign, call, copy, deref, field, imm}
-use Rattle.v_frame_plane.proofs.lent.Steps.{local, no_default, opd_unit, place, return, rv_opd, seq, skip, switch, ttcons, ttnil, ty_enum, ty_unit}
-use Rattle.v_frame_plane.proofs.lent.Steps.{value_local, variant, WT, Model, Closed, Go}
+use Rattle.v_frame_plane.proofs.lent.Steps.{Goes-dropped, Item, List, MutBor, MutRef, MutSlice, Option, RefOf, SProp, ShrRef, Sq, Stays, Val, Wp, addr, after}
+use Rattle.v_frame_plane.proofs.lent.Steps.{after_seq, agg, alloc_all, and_then, any_q, ap, at_ret, at_return, done, enter, env, exec, fact, feq_i, feq_l}
+use Rattle.v_frame_plane.proofs.lent.Steps.{first, fld, flft, forget_but, framed, free_all, from, fsplit, ftrue, get, get_in, get_tag, heard, holding, hop}
+use Rattle.v_frame_plane.proofs.lent.Steps.{id⊢, in_variant, is, keep, lands_as, lands_last, lit<, look_at, look_in_at, move, mut_vals, named, named_lft}
+use Rattle.v_frame_plane.proofs.lent.Steps.{no_more, nothing, of_opd, param, param_laws, pass_all, peeks, plain, prop, proved, raw, refl, returns, rewrite}
+use Rattle.v_frame_plane.proofs.lent.Steps.{runs, says, sets, shows, shr_vals, skips, stay_dropped, stop, sub, switches_on, sym, tables, through, unit_lit}
+use Rattle.v_frame_plane.proofs.lent.Steps.{use1, use2, vptr, vrt, vunit, walk_of, whole, yes, ℕ, !, [], ‵, ◌$◌, ◌∙◌, ◌∷◌, ◌≡◌, ◌⊑◌, Fml, NamedLft, Lft, Is}
+use Rattle.v_frame_plane.proofs.lent.Steps.{of_field, row_shared, live, of_list, Step, step, qed, ◌∵◌, ◌++◌, Logic, Ura, RattleType, Laws, Ty, ent, sem}
+use Rattle.v_frame_plane.proofs.lent.Steps.{tcons, tnil, ty_ref, ty_param, erased, mut, slice_ty, MachineTables, Running, RowLaws, Callee, Dict, Fn, Local}
+use Rattle.v_frame_plane.proofs.lent.Steps.{Sym, addr_of, aggregate, arm, assign, call, copy, deref, field, imm, local, no_default, opd_unit, place, return}
+use Rattle.v_frame_plane.proofs.lent.Steps.{rv_opd, seq, skip, switch, ttcons, ttnil, ty_enum, ty_unit, value_local, variant, WT, Model, Closed, Go, settles}
 use denote.Exit.{Last, left as left_at}
 use mir.Syntax.{Body}
 use types.Kit.{Post as Exits}
 use Rattle.v_frame.proofs.CallSteps.{asks_that, calls, calls_last, ends, opened, read_twice, tokens, unit_fits}
-use Rattle.v_frame.proofs.Drawing.{Draws, Gave, by_side, from_back, from_front}
+use Rattle.v_frame.proofs.Drawing.{Draws, by_side, from_back, from_front}
 use Rattle.v_frame.proofs.ItemKinds.{Ends, Entry, Kept, Kind, Lends, Promise, Puts, Walk, draw_row, left, made, neither, of_pixels, walk_row}
 use Rattle.std.specs.{declared.clone.Clone.Ghosts}
 use Rattle.v_frame_plane.proofs.lent.{RowMemory.slice_of, Taken.slice_laws}
@@ -163,10 +162,7 @@ module _ {M : Type 1} {𝓤 : Ura M} (𝓛 : Logic 𝓤) (𝓜 : Model 𝓤 𝓛
         let Lent = RefOf (2 ∷ []) tt (plain (λ _. draw_row k (copied 0 T))) (λ κs. tt) in
         let stayed : Stays En₀.signature.params En₀.kept = (gave_ref (0 ∷ []) tt Self, (stay_dropped Lent yes, tt)) in
         proved 𝓛 En₀ stayed c 𝓜 𝓡 (Goes-gave_ref 𝓛 4 0 tt Self, (Goes-dropped 𝓛 4 Lent yes (λ κs x w. refl), tt)) key function closed
-        (λ κs. (mut_vals, (shr_vals, tt))) (λ κs. (
-          mut_Tells (named 0) κs.0 (walk_row k (named_lft 4 1 tt κs) (copied 0 T)),
-          (shr_Tells (named 2) κs.1.1.0 (draw_row k (copied 0 T)), tt),
-        )) (λ κs qs bounds a g are.
+        (λ κs. (mut_vals, (shr_vals, tt))) (λ κs. ((λ x vs is. is.0), ((λ x vs is. is.0), tt))) (λ κs qs bounds a g are.
         let κ = κs.0 in let q = qs.0 in let κa = κs.1.0 in let qa = qs.1.0 in let κd = κs.1.1.0 in let qd = qs.1.1.0 in let κT = κs.1.1.1.0 in let qT =
         qs.1.1.1.0 in
         let run = framed 𝓤 𝓛.H 𝓜 𝓣 in let W = walk_of 𝓛 En₀ stayed c in
@@ -174,25 +170,27 @@ module _ {M : Type 1} {𝓤 : Ura M} (𝓛 : Logic 𝓤) (𝓜 : Model 𝓤 𝓛
         let self = a.0 in let draw = a.1.0 in let h = self.now in let d = draw.now in
         let y : W.Ghost = ((κs, qs, bounds, a, (mut_vals self, (shr_vals draw, tt))), tt) in let Post : Val → SProp 𝓤 = W.post y in
         let Rest : Walk T k → Item 𝓤 = λ new. ‵ (stayed.0.has κs self new (mut_vals self)) in let Leaves = Puts T k (d ∷ []) h in
-        -- it ends so, with an item or with none
-        let finish : (new : Walk T k) → left T k new ≡ left_by d.side (left T k h) → Sq 𝓛 (‵ (Leaves new) ∷
-        tokens 4 κs qs (Rest new ∷ [])) (prop (Post vunit)) = λ new fewer.
-        nothing ! $ feq_i ! (List Val) (vunit ∷ []) (vunit ∷ []) refl $
-        ends ! (3 ∷ 4 ∷ 5 ∷ 6 ∷ 7 ∷ 1 ∷ 0 ∷ []) En₀ stayed c y vunit tt (new, (tt, tt)) (tt, (tt, tt)) refl $ says ! fewer $ done ! in
         opened 𝓛 En₀.signature κs qs a (mut_vals self, (shr_vals draw, tt)) (κT ⊑ T.lives) (λ inT.
         -- [the tokens of κ, κa, κd and κT; self; the draw]
         move ! (5 ∷ []) $ read_twice ! (named 2) κd (draw_row k item) (draws_laws T k laws) draw $
         enter ! _ _ _ _ _ $ alloc_all ! (λ l. pass_all ! refl ((tt, tt), ((tt, tt), tt)) $ let En = env function.locals l in
         let Then : ℕ → Exits 𝓤 𝓛.H = λ n. any_q (after_seq 𝓤 𝓛.H (Wp 𝓤 𝓛.H 𝓣.C 𝓣.Λ En (after n function.body) (at_return 𝓤 𝓛.H En Post))
         (at_return 𝓤 𝓛.H En Post)) in
-        -- what is done with the item, once it is drawn: [the item; what is lent; the tokens of κ, κa and κT; how the iterator ends; the token of κd; nothing;
-        -- the draw]
+        -- it ends so, with an item or with none
+        let finish : (new : Walk T k) → left T k new ≡ left_by d.side (left T k h) → Sq 𝓛 (‵ (Leaves new) ∷
+        tokens 4 κs qs (Rest new ∷ [])) (prop (Post vunit)) = λ new fewer.
+        nothing ! $ feq_i ! (List Val) (vunit ∷ []) (vunit ∷ []) refl $
+        ends ! (3 ∷ 4 ∷ 5 ∷ 6 ∷ 7 ∷ 1 ∷ 0 ∷ []) En₀ stayed c y vunit tt (new, (tt, tt)) (tt, (tt, tt)) refl $ says ! fewer $ done ! in
+        -- what is done with the item, once it is drawn: [the item; what is lent; what is said; the tokens of κ, κa and κT; how the iterator ends; the token of
+        -- κd; nothing; the draw; the locals]
         let Drawn : Val → Option (MutBor (Entry T k)) → Walk T k → List (Item 𝓤) = λ v r new. ‵ (Gives.own_val r (v ∷ [])) ∷
-        ‵ (Lends T k d.side h r new) ∷ ‵ (flft κ q) ∷ ‵ (flft κa qa) ∷ ‵ (flft κT qT) ∷ Rest new ∷ ‵ (flft κd qd) ∷ ‵ ftrue ∷
+        (Draws 𝓛 (left T k) (Lends T k) h d.side r new ++ ‵ (flft κ q) ∷ ‵ (flft κa qa) ∷ ‵ (flft κT qT) ∷ Rest new ∷ ‵ (flft κd qd) ∷ ‵ ftrue ∷
         ‵ (Read.own_val draw (shr_vals draw)) ∷
-        holding 𝓛 En ((1, vptr self.ref_ptr.0 self.ref_ptr.1) ∷ (2, vptr draw.ref_ptr.0 draw.ref_ptr.1) ∷ (6, v) ∷ []) in
-        let writes : (v : Val) (r : Option (MutBor (Entry T k))) (new : Walk T k) → Gave 𝓛 (left T k) (Lends T k) h d.side r new →
-        Sq 𝓛 (Drawn v r new) (runs 𝓣.C 𝓣.Λ En (after 2 function.body) (at_ret En Post)) = λ v r new gave.
+        holding 𝓛 En ((1, vptr self.ref_ptr.0 self.ref_ptr.1) ∷ (2, vptr draw.ref_ptr.0 draw.ref_ptr.1) ∷ [])) in
+        let typing = (option_laws Given (given_laws T k κa laws)).lawful 𝓛 in
+        let writes : (v : Val) (r : Option (MutBor (Entry T k))) (new : Walk T k) → Sq 𝓛 (Drawn v r new) (settles En (place 6 []) v (Then 2)) = λ v r new.
+        peeks ! Gives _ (shows 𝓛 Gives) r (v ∷ []) (λ fits. move ! (2 ∷ []) $ heard ! _ (λ gave. lands_last ! refl (typing.typed r (v ∷ []) fits).0 $
+        exec ! 𝓣.C 𝓣.Λ En (after 2 function.body) (at_ret En Post) $
         by_told ! Given (value T k κa) (value_is T k κa) r v (λ is_none e.
         sets ! (is ! (of_opd ! (get ! refl)) e) refl (tt, (record { fits = lit< tt }, tt)) $ first ! $
         switches_on ! (get_tag ! (vrt ! refl (fld ! refl (stop !))) (whole !)) $ exec ! 𝓣.C 𝓣.Λ En (arm_body 1 (front (after 3 function.body))) (Then 4) $
@@ -219,14 +217,13 @@ module _ {M : Type 1} {𝓤 : Ura M} (𝓛 : Logic 𝓤) (𝓜 : Model 𝓤 𝓛
         rewrite ! 0 (λ (z : Entry T k). ‵ (Ends T k x z)) written refl $
         rewrite ! 5 (λ (o : Option (MutBor (Entry T k))). ‵ (Lends T k d.side h o new)) is_item refl $ move ! (0 ∷ 5 ∷ []) $
         use2 𝓛 (‵ (Leaves new)) (item_taken 𝓛 T d.side k (made T k d) h new x (sym (ap option_copied_mut (sym is_item) ∙ gave.0))) $
-        keep ! (0 ∷ 5 ∷ 1 ∷ 2 ∷ 3 ∷ 6 ∷ []) $ finish new gave.1)))) in
+        keep ! (0 ∷ 5 ∷ 1 ∷ 2 ∷ 3 ∷ 6 ∷ []) $ finish new gave.1)))))) in
         -- [the draw, twice; the tokens of κ, κa, κd and κT; self; the locals]
         calls ! (4 ∷ 5 ∷ 0 ∷ []) run (asks k).0 (asks k).1 asked
         (((κd, (κT, tt)), (qd, (qT, tt)), (bounds.1.1.1.0, tt), (draw, tt), (shr_vals draw, tt)), tt) (asks_that 𝓤 inT) refl
         (and_then ! (get ! refl) (no_more !)) (λ s ws. raw (fact 𝓤 (s ≡ d.side)) ∷ []) (λ s ws. id⊢ 𝓤 _) (λ u s ws.
         move ! (1 ∷ []) $ heard ! _ (λ is_side.
         -- [the side; the tokens of κd and κT; nothing; the draw; the tokens of κ and κa; self; the locals]
-        let typing = (option_laws Given (given_laws T k κa laws)).lawful 𝓛 in
         let its : Bound 𝓛 (draws k Front).0.signature =
         ((κ, (κa, (κT, tt))), (q, (qa, (qT, tt))), (bounds.0, (bounds.1.0, (bounds.1.1.0, tt))), (self, tt), (mut_vals self, tt)) in
         by_side ! s u (λ is_front e. lands_as ! e refl (tt, (record { fits = lit< tt }, tt)) $ first ! $
@@ -234,14 +231,10 @@ module _ {M : Type 1} {𝓤 : Ura M} (𝓛 : Logic 𝓤) (𝓜 : Model 𝓤 𝓛
         sets ! (addr ! (through ! refl (stop !))) refl (tt, tt) $
         calls_last ! (4 ∷ 5 ∷ 1 ∷ 6 ∷ []) run (draws k Front).0 (draws k Front).1 first_drawn (its, tt) (asks_that 𝓤 inT) refl
         (and_then ! (get ! refl) (no_more !)) (λ r ws. Draws 𝓛 (left T k) (Lends T k) h d.side r ws.0)
-        (λ r ws. from_front 𝓛 (left T k) (Lends T k) h d.side r ws.0 (sym is_side ∙ is_front)) (λ v r ws.
-        peeks ! Gives _ (shows 𝓛 Gives) r (v ∷ []) (λ fits. move ! (2 ∷ []) $ heard ! _ (λ gave. lands_last ! refl (typing.typed r (v ∷ []) fits).0 $
-        exec ! 𝓣.C 𝓣.Λ En (after 2 function.body) (at_ret En Post) $ forget_but ! En (1 ∷ 2 ∷ 6 ∷ []) refl $ writes v r ws.0 gave))))
+        (λ r ws. from_front 𝓛 (left T k) (Lends T k) h d.side r ws.0 (sym is_side ∙ is_front)) (λ v r ws. forget_but ! En (1 ∷ 2 ∷ []) refl $ writes v r ws.0))
         (λ is_back e. lands_as ! e refl (tt, (record { fits = lit< tt }, tt)) $ first ! $
         switches_on ! (get_tag ! (vrt ! refl (fld ! refl (stop !))) (whole !)) $ exec ! 𝓣.C 𝓣.Λ En (arm_body 1 (front (after 1 function.body))) (Then 2) $
         sets ! (addr ! (through ! refl (stop !))) refl (tt, tt) $
         calls_last ! (4 ∷ 5 ∷ 1 ∷ 6 ∷ []) run (draws k Back).0 (draws k Back).1 last_drawn (its, tt) (asks_that 𝓤 inT) refl
         (and_then ! (get ! refl) (no_more !)) (λ r ws. Draws 𝓛 (left T k) (Lends T k) h d.side r ws.0)
-        (λ r ws. from_back 𝓛 (left T k) (Lends T k) h d.side r ws.0 (sym is_side ∙ is_back)) (λ v r ws.
-        peeks ! Gives _ (shows 𝓛 Gives) r (v ∷ []) (λ fits. move ! (2 ∷ []) $ heard ! _ (λ gave. lands_last ! refl (typing.typed r (v ∷ []) fits).0 $
-        exec ! 𝓣.C 𝓣.Λ En (after 2 function.body) (at_ret En Post) $ forget_but ! En (1 ∷ 2 ∷ 6 ∷ []) refl $ writes v r ws.0 gave)))))))))
+        (λ r ws. from_back 𝓛 (left T k) (Lends T k) h d.side r ws.0 (sym is_side ∙ is_back)) (λ v r ws. forget_but ! En (1 ∷ 2 ∷ []) refl $ writes v r ws.0)))))))

@@ -1,19 +1,18 @@
 -- A whole iteration of calls that write: the plane is lent to an iterator, each draw writes through it in a loop, and it is dropped. Rattle learns nothing of
 -- what the iterator says of held items, so the proof follows the code. It stands once for rows and pixels: see `ItemKinds.antt`. Assumes `Logic`.
-use Rattle.v_frame.proofs.Steps.{LentAgain, SliceRefOf, after_turn, copied, fhide, head, lt-wf_rel, mul-le-mul_right, shr_slice_Tells, shr_slice_vals}
-use Rattle.v_frame.proofs.Steps.{spot_of, tables_of, w64}
+use Rattle.v_frame.proofs.Steps.{LentAgain, SliceRefOf, after_turn, copied, fhide, head, lt-wf_rel, mul-le-mul_right, shr_slice_vals, spot_of, tables_of, w64}
 use Rattle.v_frame_plane.proofs.lent.Steps.{Below, Fml, Goes-dropped, Goes-ref, Item, List, NamedLft, Out, SProp, Sq, Stays, Val, Wp, addr, after}
 use Rattle.v_frame_plane.proofs.lent.Steps.{after_block, after_seq, again, alloc_all, and_then, any_q, ap, arith, at_ret, at_return, bin, blocks, branches}
 use Rattle.v_frame_plane.proofs.lent.Steps.{drop, elements_shared, enter, env, exec, fact, feq_i, feq_l, first, fld, flft, forget_but, framed, free_all, from}
 use Rattle.v_frame_plane.proofs.lent.Steps.{fsplit, get, get_in, give_at, heard, holding, id⊢, jumps, lands_as, lands_last, length, lit, lit<, look_at, loops}
-use Rattle.v_frame_plane.proofs.lent.Steps.{ltb→lt, map, meet_⊑_right, mem, move, mut_Tells, mut_vals, named, nltb→le, no_more, nothing, of_opd, only, param}
-use Rattle.v_frame_plane.proofs.lent.Steps.{pass_all, plain, proved, raw, refl, returns, runs, sets, sets_last, size_lit, skips, slice_val, split}
-use Rattle.v_frame_plane.proofs.lent.Steps.{stay_dropped, stay_ref, stop, sub, tables, take, take_at, through, unit_lit, use0, use1, use2, vint, vptr, vunit}
-use Rattle.v_frame_plane.proofs.lent.Steps.{walk_of, whole, yes, ℕ, !, [], ‵, ⊑_trans, ◌$◌, ◌*◌, ◌+◌, ◌-◌, ◌<◌, ◌^◌, ◌∷◌, ◌≡◌, ◌≤◌, ◌⊑◌, ◌⊛◌, Logic, Ura}
-use Rattle.v_frame_plane.proofs.lent.Steps.{RattleType, Laws, Ty, ent, sep, sem, emp, fact_i, erased, mut, slice_ty, ty_int, ty_ptr, ty_ref, emp∗, mono_l}
-use Rattle.v_frame_plane.proofs.lent.Steps.{via, MachineTables, Running, lone, Callee, Dict, Fn, addr_of, assign, call, cond, copy, deref, field, imm, int}
-use Rattle.v_frame_plane.proofs.lent.Steps.{local, lt, op2, opd_unit, place, return, rv_opd, seq, skip, ty_bool, ty_unit, unsigned, value_local, Fits, Model}
-use Rattle.v_frame_plane.proofs.lent.Steps.{Closed, Env, Go}
+use Rattle.v_frame_plane.proofs.lent.Steps.{ltb→lt, map, meet_⊑_right, mem, move, mut_vals, named, nltb→le, no_more, nothing, of_opd, only, param, pass_all}
+use Rattle.v_frame_plane.proofs.lent.Steps.{plain, proved, raw, refl, returns, runs, sets, sets_last, size_lit, skips, slice_val, split, stay_dropped}
+use Rattle.v_frame_plane.proofs.lent.Steps.{stay_ref, stop, sub, tables, take, take_at, through, unit_lit, use0, use1, use2, vint, vptr, vunit, walk_of}
+use Rattle.v_frame_plane.proofs.lent.Steps.{whole, yes, ℕ, !, [], ‵, ⊑_trans, ◌$◌, ◌*◌, ◌+◌, ◌-◌, ◌<◌, ◌^◌, ◌∷◌, ◌≡◌, ◌≤◌, ◌⊑◌, ◌⊛◌, Logic, Ura, RattleType}
+use Rattle.v_frame_plane.proofs.lent.Steps.{Laws, Ty, ent, sep, sem, emp, fact_i, erased, mut, slice_ty, ty_int, ty_ptr, ty_ref, emp∗, mono_l, via}
+use Rattle.v_frame_plane.proofs.lent.Steps.{MachineTables, Running, lone, Callee, Dict, Fn, addr_of, assign, call, cond, copy, deref, field, imm, int, local}
+use Rattle.v_frame_plane.proofs.lent.Steps.{lt, op2, opd_unit, place, return, rv_opd, seq, skip, ty_bool, ty_unit, unsigned, value_local, Fits, Model, Closed}
+use Rattle.v_frame_plane.proofs.lent.Steps.{Env, Go}
 use mir.Syntax.{Body, Opd as Operand, add, block, exit, loop, memory_slot, mul, offset, size_of}
 use types.Run.{Opd}
 use Rattle.v_frame_plane.specs.Plane.{Raster, table_of, with_entries}
@@ -123,8 +122,7 @@ module _ {M : Type 1} {𝓤 : Ura M} (𝓛 : Logic 𝓤) (𝓜 : Model 𝓤 𝓛
         let Self = plain (λ _. planes.the_row (copied 0 T)) in let Lent = SliceRefOf (1 ∷ []) tt (plain (λ _. draw_row k (copied 0 T))) (λ κs. tt) in
         let stayed : Stays En₀.signature.params En₀.kept = (stay_ref (0 ∷ []) tt Self, (stay_dropped Lent yes, tt)) in
         proved 𝓛 En₀ stayed c 𝓜 𝓡 (Goes-ref 𝓛 3 0 tt Self, (Goes-dropped 𝓛 3 Lent yes (λ κs x w. refl), tt)) key function closed
-        (λ κs. (mut_vals, (shr_slice_vals, tt))) (λ κs.
-        (mut_Tells (named 0) κs.0 (planes.the_row (copied 0 T)), (shr_slice_Tells (named 1) κs.1.0 (draw_row k (copied 0 T)), tt))) (λ κs qs bounds a g are.
+        (λ κs. (mut_vals, (shr_slice_vals, tt))) (λ κs. ((λ x vs is. is.0), ((λ x vs is. is.0.0), tt))) (λ κs qs bounds a g are.
         let κ = κs.0 in let q = qs.0 in let κd = κs.1.0 in let qd = qs.1.0 in let κT = κs.1.1.0 in let qT = qs.1.1.0 in
         let run = framed 𝓤 𝓛.H 𝓜 𝓣 in let W = walk_of 𝓛 En₀ stayed c in
         let Plane = planes.the_row item in let Read = draw_row k item in let plane = a.0 in let b = plane.ref_ptr.0 in let o = plane.ref_ptr.1 in
