@@ -3,7 +3,7 @@
 --     rows_back     the same, from what its rows end as
 --     lends_walk, walk_back     an iterator in a local is lent to a call, and is there again, as the call left it
 --     begins     what `rows_mut` and `pixels_mut` say of the iterator that they give
-use Rattle.v_frame_plane.proofs.lent.Steps.{Laws, NamedLft, framed, param_laws, refl, tables, ◌⊑◌, ℕ, ◌≡◌, ◌^◌, ◌<◌, List, [], ◌∷◌, length, MutBor, Lft}
+use Rattle.v_frame_plane.proofs.lent.Steps.{◌^◌, ◌<◌, Laws, NamedLft, framed, param_laws, refl, tables, ◌⊑◌, ℕ, ◌≡◌, List, [], ◌∷◌, length, MutBor, Lft}
 use Rattle.v_frame_plane.proofs.lent.Steps.{Share, Fml, fat, flent, flft, fsep, full_share, ent, sep, fact, RattleType, MutRef, mut_vals, mem, named, param}
 use Rattle.v_frame_plane.proofs.lent.Steps.{Val, vptr, Ura, Goal, Item, Seq, Soaks, Step, step, ‵, raw, ◌⊛◌, some, later, ◌$◌, ◌∵◌, !, qed, await, drop}
 use Rattle.v_frame_plane.proofs.lent.Steps.{frame, fsplit, heard, move, pick, split, use1, use2, use3, Logic, sem, Body, Array, Ty, MachineTables, Running}
@@ -23,56 +23,58 @@ use Rattle.v_frame_plane.specs.SecondRows.{SecondRows, WritesEachTable, entries_
 use Rattle.v_frame.proofs.ItemKinds.{Begins, Kept, Kind, Promise, Walk, neither, of_pixels, slice, walk_row}
 use Rattle.v_frame_plane.proofs.lent.Loans.{Back, lft_over, lft_within, share_within}
 use Rattle.v_frame_layout.specs.{Table.row_major}
-use Rattle.v_frame_plane.specs.{Cursor.PixelsAreCountable, Lends.LendsBuffer, SecondPixels.BeginsOver, contracts.plane.Plane.the_row}
+use Rattle.v_frame_plane.specs.{Lends.LendsBuffer, Cursor.PixelsAreCountable, SecondPixels.BeginsOver, contracts.plane.Plane.the_row}
 use Rattle.v_frame_plane.specs.{declared.rows_mut.RowsMut.RowsMut}
-use Rattle.v_frame.proofs.{CallSteps.told, CallSteps.asks_that, CallSteps.calls, CallSteps.spelt}
+use Rattle.v_frame.proofs.CallSteps.{told, asks_that, calls, spelt}
 use base.Share
 use Rattle.v_frame_plane.proofs.lent.Loans as loans
 
-module _ {M : Type 1} {𝓤 : Ura M} (T : RattleType) where
+module _ {M : Type 1} {𝓤 : Ura M} (𝓛 : Logic 𝓤) (T : RattleType) where
+  -- a `&mut` to a plane
+  abbrev pub Owned : Lft → MutBor (Raster T.Denot) → Item 𝓤
+  Owned κ plane = ‵ ((MutRef (named 0) κ (the_row (param 0 T))).own_val plane (mut_vals plane))
+
   -- what the plane's lender keeps
   abbrev pub Kept_by : (α δ : ℕ) (κ κT : Lft) (q : Share) → MutBor (Raster T.Denot) → Item 𝓤
   Kept_by α δ κ κT q plane = ‵ (LentAgain (the_row (param 0 T)) κ (α ∷ κT) q plane.ghost_name plane.ref_ptr.0 plane.ref_ptr.1 δ plane.now)
 
+  -- beside a plane that is lent: the tokens of its lifetime and of κT; what its lender keeps; the way back
+  abbrev pub Loaned : (α δ : ℕ) (κ κT : Lft) (q qT : Share) → MutBor (Raster T.Denot) → List (Item 𝓤) → List (Item 𝓤)
+  Loaned α δ κ κT q qT plane Γ = ‵ (flft (α ∷ κT) (share_within (Share.left qT))) ∷ ‵ (flft κT (Share.right qT)) ∷ Kept_by α δ κ κT q plane ∷
+      raw (Back 𝓛 α κT (Share.left qT)) ∷ Γ
+
 module _ {M : Type 1} {𝓤 : Ura M} {𝓛 : Logic 𝓤} {K : Type 0} {Γ : List (Item 𝓤)} {G : Goal 𝓤 𝓛.H} where
   module _ (t : K) (z : Soaks G) (T : RattleType) where
-    -- [the plane, lent; the tokens of its lifetime and of κT; what its lender keeps; the way back]
     pub lends_plane : (κ κT : Lft) (q qT : Share) (plane : MutBor (Raster T.Denot))
-        → ((α δ : ℕ) → Seq K 𝓛 (‵ ((MutRef (named 0) (α ∷ κT) (the_row (param 0 T))).own_val (record plane { ghost_name = δ }) (mut_vals plane)) ∷
-        ‵ (flft (α ∷ κT) (share_within (Share.left qT))) ∷ ‵ (flft κT (Share.right qT)) ∷ Kept_by T α δ κ κT q plane ∷ raw (Back 𝓛 α κT
-        (Share.left qT)) ∷ Γ) G)
-        → Seq K 𝓛 (‵ ((MutRef (named 0) κ (the_row (param 0 T))).own_val plane (mut_vals plane)) ∷ ‵ (flft κ q) ∷ ‵ (flft κT qT) ∷ Γ) G
-    lends_plane κ κT q qT plane k = let b = plane.ref_ptr.0 in let o = plane.ref_ptr.1 in
+        → ((α δ : ℕ) → Seq K 𝓛 (Owned 𝓛 T (α ∷ κT) (record plane { ghost_name = δ }) ∷ Loaned 𝓛 T α δ κ κT q qT plane Γ) G)
+        → Seq K 𝓛 (Owned 𝓛 T κ plane ∷ ‵ (flft κ q) ∷ ‵ (flft κT qT) ∷ Γ) G
+    lends_plane κ κT q qT plane k =
         move t (2 ∷ []) $ use1 𝓛 (‵ (flft κT (Share.left qT)) ⊛ ‵ (flft κT (Share.right qT))) (𝓛.lfts.lft_split κT qT) $ split t $
         lft_within t z κT (Share.left qT) (λ α. let κw : Lft = α ∷ κT in move t (3 ∷ 4 ∷ []) $
-        use2 𝓛 (later (some (λ (δ : ℕ). ‵ ((MutRef (named 0) κw (the_row (param 0 T))).own_val (record plane { ghost_name = δ })
-        (mut_vals plane)) ⊛ Kept_by T α δ κ κT q plane)))
-        (lends_again 𝓛 (the_row (param 0 T)) (named 0) κ κw q plane.ghost_name b o (named 0) plane.now) $ await t z $ pick t (λ δ. split t $
-        move t (0 ∷ 2 ∷ 4 ∷ 1 ∷ 3 ∷ []) $
-        k α δ))
+        use2 𝓛 (later (some (λ (δ : ℕ). Owned 𝓛 T κw (record plane { ghost_name = δ }) ⊛ Kept_by 𝓛 T α δ κ κT q plane)))
+        (lends_again 𝓛 (the_row (param 0 T)) (named 0) κ κw q plane.ghost_name plane.ref_ptr.0 plane.ref_ptr.1 (named 0) plane.now) $
+        await t z $ pick t (λ δ. split t $ move t (0 ∷ 2 ∷ 4 ∷ 1 ∷ 3 ∷ []) $ k α δ))
 
     pub plane_back : (α δ : ℕ) (κ κT : Lft) (q qT : Share) (plane : MutBor (Raster T.Denot)) (new : Raster T.Denot)
-        → Step K 𝓛 (‵ (flft κT qT) ∷ ‵ ((MutRef (named 0) κ (the_row (param 0 T))).own_val (record plane { now = new }) (mut_vals plane)) ∷ ‵ (flft κ q) ∷ Γ) G
-        (‵ (fres δ ((the_row (param 0 T)).coded.code new)) ∷ ‵ (flft (α ∷ κT) (share_within (Share.left qT))) ∷ ‵ (flft κT
-        (Share.right qT)) ∷ Kept_by T α δ κ κT q plane ∷
-        raw (Back 𝓛 α κT (Share.left qT)) ∷ Γ) G
-    plane_back α δ κ κT q qT plane new = step (λ k. let κw : Lft = α ∷ κT in move t (1 ∷ 4 ∷ []) $ lft_over t z α κT (Share.left qT) $ move t (0 ∷ 4 ∷ 2 ∷ []) $
-        use3 𝓛 (later (‵ ((MutRef (named 0) κ (the_row (param 0 T))).own_val (record plane { now = new }) (mut_vals plane)) ⊛ ‵ (flft κ q)))
-        (comes_back 𝓛 (the_row (param 0 T)) (named 0) κ κw q plane.ghost_name plane.ref_ptr.0 plane.ref_ptr.1 δ plane.now new) $ await t z $ split t $
-        move t (2 ∷ 3 ∷ []) $ use2 𝓛 (‵ (flft κT qT)) (𝓛.lfts.lft_join κT qT) $ k)
+        → Step K 𝓛 (‵ (flft κT qT) ∷ Owned 𝓛 T κ (record plane { now = new }) ∷ ‵ (flft κ q) ∷ Γ) G
+        (‵ (fres δ ((the_row (param 0 T)).coded.code new)) ∷ Loaned 𝓛 T α δ κ κT q qT plane Γ) G
+    plane_back α δ κ κT q qT plane new = step (λ k. move t (1 ∷ 4 ∷ []) $ lft_over t z α κT (Share.left qT) $ move t (0 ∷ 4 ∷ 2 ∷ []) $
+        use3 𝓛 (later (Owned 𝓛 T κ (record plane { now = new }) ⊛ ‵ (flft κ q)))
+        (comes_back 𝓛 (the_row (param 0 T)) (named 0) κ (α ∷ κT) q plane.ghost_name plane.ref_ptr.0 plane.ref_ptr.1 δ plane.now new) $ await t z $
+        split t $ move t (2 ∷ 3 ∷ []) $ use2 𝓛 (‵ (flft κT qT)) (𝓛.lfts.lft_join κT qT) $ k)
 
   -- [how the iterator ends; the tokens of its lifetime and of κT; how the plane's entries end; what the plane's lender keeps; the way back]
   pub rows_back : K → Soaks G → (T : RattleType) (α δ : ℕ) (κ κT : Lft) (q qT : Share) (plane : MutBor (Raster T.Denot)) (walk : RowsMut T.Denot) (rows :
       List (List T.Denot))
-      → let Plane = the_row (param 0 T) in let new = with_entries plane.now (entries_with walk rows) in
-      Step K 𝓛 (‵ (flft κT qT) ∷ ‵ ((MutRef (named 0) κ Plane).own_val (record plane { now = new }) (mut_vals plane)) ∷ ‵ (flft κ q) ∷ Γ) G
+      → let new = with_entries plane.now (entries_with walk rows) in
+      Step K 𝓛 (‵ (flft κT qT) ∷ Owned 𝓛 T κ (record plane { now = new }) ∷ ‵ (flft κ q) ∷ Γ) G
       (‵ (SecondRows (param 0 T) walk rows) ∷ ‵ (flft (α ∷ κT) (share_within (Share.left qT))) ∷ ‵ (flft κT (Share.right qT)) ∷
-      ‵ (follows Plane (Array (param 0 T) 0) δ walk.rest.ghost_name (with_entries plane.now)) ∷
-      ‵ (LentAgain Plane κ (α ∷ κT) q plane.ghost_name plane.ref_ptr.0 plane.ref_ptr.1 δ plane.now) ∷ raw (Back 𝓛 α κT (Share.left qT)) ∷ Γ) G
-  rows_back t z T α δ κ κT q qT plane walk rows = step (λ k. let Plane = the_row (param 0 T) in let entries = entries_with walk rows in let new =
-      with_entries plane.now entries in
-      move t (3 ∷ 0 ∷ []) $ use2 𝓛 (‵ (fres δ (Plane.coded.code new))) (followed 𝓛 Plane (Array (param 0 T) 0) (with_entries plane.now) δ walk.rest.ghost_name
-      entries) $ plane_back t z T α δ κ κT q qT plane new $ k)
+      ‵ (follows (the_row (param 0 T)) (Array (param 0 T) 0) δ walk.rest.ghost_name (with_entries plane.now)) ∷ Kept_by 𝓛 T α δ κ κT q plane ∷
+      raw (Back 𝓛 α κT (Share.left qT)) ∷ Γ) G
+  rows_back t z T α δ κ κT q qT plane walk rows = step (λ k. let Plane = the_row (param 0 T) in let entries = entries_with walk rows in
+      move t (3 ∷ 0 ∷ []) $ use2 𝓛 (‵ (fres δ (Plane.coded.code (with_entries plane.now entries))))
+      (followed 𝓛 Plane (Array (param 0 T) 0) (with_entries plane.now) δ walk.rest.ghost_name entries) $
+      plane_back t z T α δ κ κT q qT plane (with_entries plane.now entries) $ k)
 
   module _ (t : K) (z : Soaks G) (R : RattleType) (one : R.mir ≡ lone R.mir ∷ []) (τ : Ty) (same : raw_ty τ ≡ raw_ty (lone R.mir)) (κ : Lft) (q : Share) where
     -- [what is lent; the tokens of the loan and of κ; what its lender keeps; the way back]
@@ -105,7 +107,7 @@ module _ {M : Type 1} {𝓤 : Ura M} (T : RattleType) (loan : MutBor (Raster T.D
       raw (fact 𝓤 (All (λ row. length row ≡ loan.now.geometry.width) (rows_left walk))) ⊛ raw (fact 𝓤 (PixelsAreCountable [] (rows_left walk) [])) ⊛
       raw (fact 𝓤 (length (rows_left walk) < 2 ^ 63)) ⊛ raw (fact 𝓤 (LendsRowsInOrder T.Denot)) ⊛ raw (fact 𝓤 (LendsRowsInReverse T.Denot))
 
-  pub begins : (𝓛 : Logic 𝓤) (k : Kind) (walk : Walk T k) → ent 𝓤 (mean 𝓛 (Said k walk)) (sep 𝓤 (sem 𝓛 (LendsBuffer (param 0 T) loan (slice T k walk)))
+  begins : (𝓛 : Logic 𝓤) (k : Kind) (walk : Walk T k) → ent 𝓤 (mean 𝓛 (Said k walk)) (sep 𝓤 (sem 𝓛 (LendsBuffer (param 0 T) loan (slice T k walk)))
       (fact 𝓤 (Begins T k loan.now walk)))
   begins 𝓛 of_pixels walk = qed 𝓛 (Said of_pixels walk ∷ []) ∵ split ! $ frame ! $ split ! $ drop ! $ split ! $ heard ! _ (λ all. split ! $
       heard ! _ (λ tells. told ! (record { all = all; written = tells.written; tells = tells })))
@@ -137,10 +139,8 @@ module _ {M : Type 1} {𝓤 : Ura M} (𝓛 : Logic 𝓤) (𝓜 : Model 𝓤 𝓛
       ((α δ : ℕ) (walk : Walk T k) → let ℓ : NamedLft = record { mir = m; lft = α ∷ κT } in let R = walk_row k ℓ (param 0 T) in
       let u = (lowers k ℓ).lowered walk in Begins T k plane.now walk → Typed R.mir (u ∷ []) →
       Seq K 𝓛 (‵ (R.own_val walk (u ∷ [])) ∷ ‵ (LendsBuffer (param 0 T) (record plane { ghost_name = δ }) (slice T k walk)) ∷
-      ‵ (flft (α ∷ κT) (share_within (Share.left qT))) ∷ ‵ (flft κT (Share.right qT)) ∷ Kept_by T α δ κ κT q plane ∷ raw (Back 𝓛 α κT (Share.left qT)) ∷ Γ)
-      (lands 𝓣.C 𝓣.Λ E d u rest p))
-      → Seq K 𝓛 (‵ ((MutRef (named 0) κ (the_row (param 0 T))).own_val plane (mut_vals plane)) ∷ ‵ (flft κ q) ∷ ‵ (flft κT qT) ∷ Γ)
-      (runs 𝓣.C 𝓣.Λ E (seq (call f xs d) rest) p)
+      Loaned 𝓛 T α δ κ κT q qT plane Γ) (lands 𝓣.C 𝓣.Λ E d u rest p))
+      → Seq K 𝓛 (Owned 𝓛 T κ plane ∷ ‵ (flft κ q) ∷ ‵ (flft κT qT) ∷ Γ) (runs 𝓣.C 𝓣.Λ E (seq (call f xs d) rest) p)
 
   -- the plane is lent to the iterator that a call gives
   pub begins_walk : (k : Kind) → Begun k
