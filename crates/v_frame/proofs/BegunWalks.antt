@@ -1,12 +1,12 @@
 -- An iterator over lent pixels whose items are all left: how its rows end, by what its pixels end as. Assumes `Logic`.
-use Rattle.v_frame_plane.proofs.lent.Steps.{◌≡◌, List, [], ◌∷◌, ◌++◌, length, refl, sym, ap, ◌∙◌, emp, ent, sep, fact, fact_i, RattleType, Ura, ‵, raw, ◌$◌}
-use Rattle.v_frame_plane.proofs.lent.Steps.{◌∵◌, !, qed, done, drop, fpick, fsplit, join, move, rewrite, use0, Logic, sem, append-nil, nil_from_length}
+use Rattle.v_frame_plane.proofs.lent.Steps.{◌≡◌, List, [], ◌∷◌, ◌++◌, length, refl, sym, ap, ◌∙◌, ent, sep, fact, RattleType, Ura, ‵, ◌$◌, ◌∵◌, !, qed, done}
+use Rattle.v_frame_plane.proofs.lent.Steps.{drop, fpick, fsplit, move, rewrite, Logic, sem, append-nil, nil_from_length}
 use Rattle.v_frame_layout.specs.Table.{Table, width_of, height_of, row_major, cut_rows}
 use Rattle.v_frame_plane.specs.SecondPixels.{Parts, ArePartsOf, BeginsOver, SecondPixels}
 use Rattle.std.specs.{Prelude.All, Prelude.map}
 use Rattle.v_frame_plane.specs.{Plane.Raster, Plane.table_of, SecondRows.SecondRows, declared.pixels_mut.PixelsMut.PixelsMut}
 use Rattle.v_frame_plane.proofs.{iterators.Cursors.rows_are_long}
-use Rattle.v_frame.proofs.{CutRows.cut_again}
+use Rattle.v_frame.proofs.{CutRows.cut_again, CallSteps.tells}
 
 module _ {T : Type 0} (plane : Raster T) (walk : PixelsMut T) (begins : BeginsOver plane walk) (second : List T) where
   abbrev table : Table T
@@ -36,7 +36,6 @@ pub rows_end : {M : Type 1} {𝓤 : Ura M} (𝓛 : Logic 𝓤) (T : RattleType) 
     ent 𝓤 (sem 𝓛 (SecondPixels T walk second)) (sep 𝓤 (fact 𝓤 (map length last ≡ map length (table_of plane))) (sem 𝓛 (SecondRows T walk.rows last)))
 rows_end {M} {𝓤} 𝓛 T plane walk begins second =
     let last : Table T.Denot = cut_rows (width_of (table_of plane)) (height_of (table_of plane)) second in
-    qed 𝓛 (‵ (SecondPixels T walk second) ∷ []) ∵ fpick ! (λ parts. fpick ! (λ are. fsplit ! $ drop ! $ fsplit ! $ move ! (1 ∷ []) $ drop ! $ let told =
+    qed 𝓛 (‵ (SecondPixels T walk second) ∷ []) ∵ fpick ! (λ parts. fpick ! (λ are. fsplit ! $ drop ! $ fsplit ! $ move ! (1 ∷ []) $ drop ! $ let same =
     rows_of_parts plane walk begins second parts are in
-    rewrite ! 0 (λ (rows : Table T.Denot). ‵ (SecondRows T walk.rows rows)) told.0 refl $
-    use0 𝓛 (raw (fact 𝓤 (map length last ≡ map length (table_of plane)))) (fact_i 𝓤 _ (emp 𝓤) told.1) $ join ! $ done !))
+    rewrite ! 0 (λ (rows : Table T.Denot). ‵ (SecondRows T walk.rows rows)) same.0 refl $ tells ! same.1 $ done !))

@@ -1,12 +1,11 @@
 -- Rows of one width are what their pixels are cut into.
-use Rattle.std.proofs.Common.{ℕ, ◌≡◌, List, [], ◌∷◌, ◌++◌, length, map, drop, All, get_or, refl, ◌∙◌, ap, arith}
+use Rattle.std.proofs.Common.{ℕ, ◌≡◌, List, [], ◌∷◌, length, map, drop, All, get_or, refl, ◌∙◌, ap, arith}
 use Rattle.std.proofs.lemmas.List.{take_at, drop_at}
 use Rattle.std.proofs.lemmas.List.Elements.{All-head, All-tail}
 use Rattle.v_frame_layout.specs.Table.{Table, width_of, height_of, row_major, cut_rows}
 
 module _ {T : Type 0} (width : ℕ) where
-  -- so are rows that are as long as the rows of a table of one width
-  pub cut-row_major : (table rows : Table T) → map length rows ≡ map length table → All (λ row. length row ≡ width) table →
+  cut-row_major : (table rows : Table T) → map length rows ≡ map length table → All (λ row. length row ≡ width) table →
       cut_rows width (length table) (row_major rows) ≡ rows
   cut-row_major [] [] same wide = refl
   cut-row_major [] (row ∷ rows) same wide = absurd (omega (arith, ap length same))
@@ -14,14 +13,14 @@ module _ {T : Type 0} (width : ℕ) where
   cut-row_major (first ∷ table) (row ∷ rows) same wide =
       let long : length row ≡ width = ap (λ ns. get_or ns 0 0) same ∙ All-head (λ r. length r ≡ width) first table wide in
       let rest = cut-row_major table rows (ap (drop 1) same) (All-tail (λ r. length r ≡ width) first table wide) in
-      ap (λ top. top ∷ cut_rows width (length table) (drop width (row ++ row_major rows))) (take_at row (row_major rows) width long) ∙
-      ap (λ others. row ∷ cut_rows width (length table) others) (drop_at row (row_major rows) width long) ∙ ap (λ others. row ∷ others) rest
+      rw (take_at row (row_major rows) width long, drop_at row (row_major rows) width long, rest)
 
-  pub width_is : (rows : Table T) → All (λ row. length row ≡ width) rows → (pixels : List T) →
+  width_is : (rows : Table T) → All (λ row. length row ≡ width) rows → (pixels : List T) →
       cut_rows (width_of rows) (length rows) pixels ≡ cut_rows width (length rows) pixels
   width_is [] wide pixels = refl
   width_is (row ∷ rows) wide pixels = ap (λ w. cut_rows w (length (row ∷ rows)) pixels) (All-head (λ r. length r ≡ width) row rows wide)
 
+  -- so are rows that are as long as the rows of a table of one width
   pub cut_again : (table rows : Table T) → map length rows ≡ map length table → All (λ row. length row ≡ width) table →
       cut_rows (width_of table) (height_of table) (row_major rows) ≡ rows
   cut_again table rows same wide = width_is table wide (row_major rows) ∙ cut-row_major table rows same wide

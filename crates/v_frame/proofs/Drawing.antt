@@ -1,11 +1,10 @@
 -- A call from a side, in a proof by hand: which side it is, and what `next` or `next_back` says then. Assumes `Logic`.
-use Rattle.v_frame_plane.proofs.lent.Steps.{◌≡◌, List, [], ◌∷◌, Option, MutBor, refl, sym, ap, Fml, SProp, ent, sep, fact, fact_i, shows, ⊤, MakesProgress}
-use Rattle.v_frame_plane.proofs.lent.Steps.{item_count, YieldsFirstMut, YieldsLastMut, only, peeks, Val, Ura, Goal, Item, Seq, ‵, raw, ◌$◌, drop, Logic, sem}
-use Rattle.v_frame_plane.proofs.lent.Steps.{fst∗, mono_r, fact_use, ⋆}
-use Rattle.std.proofs.{Common.subst}
+use Rattle.v_frame_plane.proofs.lent.Steps.{subst, sym, ◌≡◌, List, [], ◌∷◌, Option, MutBor, refl, ap, Fml, SProp, ent, sep, fact, fact_i, shows, ⊤}
+use Rattle.v_frame_plane.proofs.lent.Steps.{MakesProgress, item_count, YieldsFirstMut, YieldsLastMut, only, peeks, Val, Ura, Goal, Item, Seq, ‵, raw, ◌$◌}
+use Rattle.v_frame_plane.proofs.lent.Steps.{drop, Logic, sem, fst∗, mono_r, fact_use, ⋆}
 use Rattle.std.specs.{Option.option_copied_mut}
-use Rattle.v_frame.specs.{Walk.item_from, Walk.left_by, contracts.replay.draw.Side.the_row, declared.replay.draw.Side.Side}
-use Rattle.v_frame.specs.{declared.replay.draw.Side.TheVariants.Front, declared.replay.draw.Side.TheVariants.Back}
+use Rattle.v_frame.specs.{Walk.item_from, Walk.left_by, contracts.replay.draw.Side.the_row}
+use Rattle.v_frame.specs.declared.replay.draw.Side.{Side, TheVariants.Front, TheVariants.Back}
 use Rattle.v_frame.proofs.{DrawnItems.first_drawn, DrawnItems.last_drawn, replay.draw.Side.TheLaws.lowers}
 
 module _ {M : Type 1} {𝓤 : Ura M} {𝓛 : Logic 𝓤} {K : Type 0} {Γ : List (Item 𝓤)} {G : Goal 𝓤 𝓛.H} where
@@ -23,9 +22,11 @@ module _ {M : Type 1} {𝓤 : Ura M} (𝓛 : Logic 𝓤) {W X : Type 0} (items :
     abbrev pub Draws : List (Item 𝓤)
     Draws = ‵ (Lends side old r new) ∷ raw (fact 𝓤 Gave) ∷ []
 
-  told_by : (side : Side) (r : Option (MutBor X)) (new : W) (φ : Type 0) (Q : SProp 𝓤) → (φ → Gave side r new)
-      → ent 𝓤 (sep 𝓤 (sem 𝓛 (Lends side old r new)) (sep 𝓤 (fact 𝓤 φ) Q)) (⋆ 𝓛 (Draws side r new))
-  told_by side r new φ Q gives = mono_r 𝓤 (sem 𝓛 (Lends side old r new)) (fact_use 𝓤 φ (fst∗ 𝓤 (fact 𝓤 φ) Q) (λ x. fact_i 𝓤 (Gave side r new) _ (gives x)))
+  told_by : (s side : Side) (r : Option (MutBor X)) (new : W) (φ : Type 0) (Q : SProp 𝓤) → (φ → Gave s r new) → side ≡ s
+      → ent 𝓤 (sep 𝓤 (sem 𝓛 (Lends s old r new)) (sep 𝓤 (fact 𝓤 φ) Q)) (⋆ 𝓛 (Draws side r new))
+  told_by s side r new φ Q gives is =
+      let Lent = sem 𝓛 (Lends s old r new) in let so = fact_use 𝓤 φ (fst∗ 𝓤 (fact 𝓤 φ) Q) (λ x. fact_i 𝓤 (Gave s r new) _ (gives x)) in
+      subst (λ (z : Side). ent 𝓤 (sep 𝓤 Lent (sep 𝓤 (fact 𝓤 φ) Q)) (⋆ 𝓛 (Draws z r new))) (sym is) (mono_r 𝓤 Lent so)
 
   module _ (side : Side) (r : Option (MutBor X)) (new : W) where
     abbrev Moves : SProp 𝓤
@@ -38,9 +39,7 @@ module _ {M : Type 1} {𝓤 : Ura M} (𝓛 : Logic 𝓤) {W X : Type 0} (items :
     Last = sep 𝓤 (sem 𝓛 (Lends Back old r new)) (sep 𝓤 (fact 𝓤 (YieldsLastMut items old r new)) Moves)
 
     pub from_front : side ≡ Front → ent 𝓤 First (⋆ 𝓛 (Draws side r new))
-    from_front is = subst (λ (s : Side). ent 𝓤 First (⋆ 𝓛 (Draws s r new))) (sym is)
-        (told_by Front r new (YieldsFirstMut items old r new) Moves (first_drawn items old r new))
+    from_front = told_by Front side r new (YieldsFirstMut items old r new) Moves (first_drawn items old r new)
 
     pub from_back : side ≡ Back → ent 𝓤 Last (⋆ 𝓛 (Draws side r new))
-    from_back is = subst (λ (s : Side). ent 𝓤 Last (⋆ 𝓛 (Draws s r new))) (sym is)
-        (told_by Back r new (YieldsLastMut items old r new) Moves (last_drawn items old r new))
+    from_back = told_by Back side r new (YieldsLastMut items old r new) Moves (last_drawn items old r new)

@@ -5,7 +5,7 @@ use Rattle.v_frame_layout.specs.Table.{Table, row_major, cut_rows}
 use Rattle.v_frame.specs.Walk.{left_in_turn, side_of_pixel, pixel_written, front_draw, ChangesEachPixel}
 use Rattle.v_frame.proofs.DrawnItems.{put_back_all}
 use Rattle.v_frame.specs.DrawnItems.{put_back_in_turn}
-use Rattle.v_frame.proofs.CutRows.{cut-row_major, width_is}
+use Rattle.v_frame.proofs.CutRows.{cut_again}
 
 module _ {T : Type 0} where
   cut-map : {U : Type 0} (change : T → U) (width height : ℕ) (pixels : List T) → cut_rows width height (map change pixels) ≡
@@ -22,6 +22,5 @@ module _ {T : Type 0} where
   pub changes_each_pixel : (rows : Table T) (width : ℕ) → All (λ row. length row ≡ width) rows → ChangesEachPixel rows
   changes_each_pixel rows width wide = λ change.
       let draws = map (λ pixel. front_draw (change pixel)) (row_major rows) in
-      width_is width rows wide _ ∙ ap (cut_rows width (length rows)) (sym (put_back_all side_of_pixel pixel_written (row_major rows) draws) ∙
-      all_replaced change (row_major rows)) ∙
-      cut-map change width (length rows) (row_major rows) ∙ ap (map (map change)) (cut-row_major width rows rows refl wide)
+      let leaves = sym (put_back_all side_of_pixel pixel_written (row_major rows) draws) ∙ all_replaced change (row_major rows) in
+      rw (leaves, cut-map change, cut_again width rows rows refl wide)

@@ -1,18 +1,17 @@
 -- A whole iteration of calls that write: the plane is lent to an iterator, each draw writes through it in a loop, and it is dropped. Rattle learns nothing of
 -- what the iterator says of held items, so the proof follows the code. It stands once for rows and pixels: see `ItemKinds.antt`. Assumes `Logic`.
 use Rattle.v_frame.proofs.Steps.{LentAgain, SliceRefOf, after_turn, copied, fhide, head, lt-wf_rel, mul-le-mul_right, shr_slice_vals, spot_of, tables_of, w64}
-use Rattle.v_frame_plane.proofs.lent.Steps.{Below, Fml, Goes-dropped, Goes-ref, Item, List, NamedLft, Out, SProp, Sq, Stays, Val, Wp, addr, after}
-use Rattle.v_frame_plane.proofs.lent.Steps.{after_block, after_seq, again, alloc_all, and_then, any_q, ap, arith, at_ret, at_return, bin, blocks, branches}
-use Rattle.v_frame_plane.proofs.lent.Steps.{drop, elements_shared, enter, env, exec, fact, feq_i, feq_l, first, fld, flft, forget_but, framed, free_all, from}
-use Rattle.v_frame_plane.proofs.lent.Steps.{fsplit, get, get_in, give_at, heard, holding, id⊢, jumps, lands_as, lands_last, length, lit, lit<, look_at, loops}
-use Rattle.v_frame_plane.proofs.lent.Steps.{ltb→lt, map, meet_⊑_right, mem, move, mut_vals, named, nltb→le, no_more, nothing, of_opd, only, param, pass_all}
-use Rattle.v_frame_plane.proofs.lent.Steps.{plain, proved, raw, refl, returns, runs, sets, sets_last, size_lit, skips, slice_val, split, stay_dropped}
-use Rattle.v_frame_plane.proofs.lent.Steps.{stay_ref, stop, sub, tables, take, take_at, through, unit_lit, use0, use1, use2, vint, vptr, vunit, walk_of}
-use Rattle.v_frame_plane.proofs.lent.Steps.{whole, yes, ℕ, !, [], ‵, ⊑_trans, ◌$◌, ◌*◌, ◌+◌, ◌-◌, ◌<◌, ◌^◌, ◌∷◌, ◌≡◌, ◌≤◌, ◌⊑◌, ◌⊛◌, Logic, Ura, RattleType}
-use Rattle.v_frame_plane.proofs.lent.Steps.{Laws, Ty, ent, sep, sem, emp, fact_i, erased, mut, slice_ty, ty_int, ty_ptr, ty_ref, emp∗, mono_l, via}
-use Rattle.v_frame_plane.proofs.lent.Steps.{MachineTables, Running, lone, Callee, Dict, Fn, addr_of, assign, call, cond, copy, deref, field, imm, int, local}
-use Rattle.v_frame_plane.proofs.lent.Steps.{lt, op2, opd_unit, place, return, rv_opd, seq, skip, ty_bool, ty_unit, unsigned, value_local, Fits, Model, Closed}
-use Rattle.v_frame_plane.proofs.lent.Steps.{Env, Go}
+use Rattle.v_frame_plane.proofs.lent.Steps.{qed, ◌∵◌, done, Below, Fml, Goes-dropped, Goes-ref, Item, List, NamedLft, Out, SProp, Sq, Stays, Val, Wp, addr}
+use Rattle.v_frame_plane.proofs.lent.Steps.{after, after_block, after_seq, again, alloc_all, and_then, any_q, ap, arith, at_ret, at_return, bin, blocks}
+use Rattle.v_frame_plane.proofs.lent.Steps.{branches, drop, elements_shared, enter, env, exec, fact, feq_i, feq_l, first, fld, flft, forget_but, framed}
+use Rattle.v_frame_plane.proofs.lent.Steps.{free_all, from, fsplit, get, get_in, give_at, heard, holding, id⊢, jumps, lands_as, lands_last, length, lit, lit<}
+use Rattle.v_frame_plane.proofs.lent.Steps.{look_at, loops, ltb→lt, map, meet_⊑_right, mem, move, mut_vals, named, nltb→le, no_more, nothing, of_opd, only}
+use Rattle.v_frame_plane.proofs.lent.Steps.{param, pass_all, plain, proved, raw, refl, returns, runs, sets, sets_last, size_lit, skips, slice_val, split}
+use Rattle.v_frame_plane.proofs.lent.Steps.{stay_dropped, stay_ref, stop, sub, tables, take, take_at, through, unit_lit, use0, use1, use2, vint, vptr, vunit}
+use Rattle.v_frame_plane.proofs.lent.Steps.{walk_of, whole, yes, ℕ, !, [], ‵, ⊑_trans, ◌$◌, ◌*◌, ◌+◌, ◌-◌, ◌<◌, ◌^◌, ◌∷◌, ◌≡◌, ◌≤◌, ◌⊑◌, ◌⊛◌, Logic, Ura}
+use Rattle.v_frame_plane.proofs.lent.Steps.{RattleType, Laws, Ty, ent, sep, sem, erased, mut, slice_ty, ty_int, ty_ptr, ty_ref, MachineTables, Running, lone}
+use Rattle.v_frame_plane.proofs.lent.Steps.{Callee, Dict, Fn, addr_of, assign, call, cond, copy, deref, field, imm, int, local, lt, op2, opd_unit, place}
+use Rattle.v_frame_plane.proofs.lent.Steps.{return, rv_opd, seq, skip, ty_bool, ty_unit, unsigned, value_local, Fits, Model, Closed, Env, Go}
 use mir.Syntax.{Body, Opd as Operand, add, block, exit, loop, memory_slot, mul, offset, size_of}
 use types.Run.{Opd}
 use Rattle.v_frame_plane.specs.Plane.{Raster, table_of, with_entries}
@@ -50,8 +49,8 @@ module _ (T : RattleType) where
         ent 𝓤 (sem 𝓛 (Second T k walk (walk_leaves (side_of T k) (made T k) (shown T k plane) draws)))
         (sep 𝓤 (fact 𝓤 (map length last ≡ map length table)) (sem 𝓛 (SecondRows (param 0 T) (rows_of T k walk) last)))
     rows_end_as of_pixels plane walk begun draws = rows_end 𝓛 (param 0 T) plane walk begun.tells _
-    rows_end_as k plane walk begun draws = let P = sem 𝓛 (SecondRows (param 0 T) walk (written T k (table_of plane) draws)) in
-        via 𝓤 (sep 𝓤 (emp 𝓤) P) (emp∗ 𝓤 P) (mono_l 𝓤 P (fact_i 𝓤 _ (emp 𝓤) (rows_as_long (table_of plane) draws)))
+    rows_end_as k plane walk begun draws =
+        qed 𝓛 (‵ (SecondRows (param 0 T) walk (written T k (table_of plane) draws)) ∷ []) ∵ tells ! (rows_as_long (table_of plane) draws) $ done !
 
   -- the iterator where no lifetime is named
   abbrev bare : Kind → Ty

@@ -1,11 +1,10 @@
 -- One more call: its answer, its tables, and the planes that it may write.
-use Rattle.std.proofs.Common.{◌<◌, List, [], ◌∷◌, ◌++◌, length, take, refl, ◌∙◌, ap, sym, arith}
+use Rattle.std.proofs.Common.{◌<◌, length, refl, ◌∙◌, ap, arith}
 use Rattle.std.proofs.lemmas.List.{take_all}
 use Rattle.v_frame.specs.Frame.{tables_of, plane_at}
 use Rattle.v_frame_layout.specs.Pixel.{PixelForm}
-use Rattle.v_frame.specs.Replay.{reply_to, answers_to, tables_after}
+use Rattle.v_frame.specs.Replay.{answers_to, tables_after}
 use Rattle.v_frame.specs.declared.frame.Frame.{Frame}
-use Rattle.v_frame.specs.declared.replay.answer.Answer.{Answer}
 use Rattle.v_frame.proofs.Replays.{answers_more, tables_more, keeps_border_twice, stopped_at, written_before, written_now, written_in_front}
 use Rattle.v_frame.proofs.replay.replay.Goals as goal
 
@@ -19,11 +18,9 @@ loop-call-preserved g c =
     let so_far = c.loop-call.invariant in
     let did = c.in-Ok-replay_call.ensures in
     record {
-      answers = rw c.unwrap.ensures at c.push.ensures.items ∙ ap (λ (done : List (Answer g.row.T.Denot)). done ++ c.in-Ok-replay_call.answer ∷
-          []) so_far.answers ∙ ap (λ a. answers_to form (take i calls) (tables_of c.args.frame.now) ++ a ∷ []) (did.answer ∙
-          ap (λ t. (reply_to form call t).answer) so_far.tables) ∙ sym (answers_more form calls i call within c.call-item.is (tables_of c.args.frame.now));
-      tables = did.tables ∙ ap (λ t. (reply_to form call t).tables) so_far.tables ∙
-          sym (tables_more form calls i call within c.call-item.is (tables_of c.args.frame.now));
+      answers = rw c.unwrap.ensures at c.push.ensures.items ∙
+          answers_more form calls i call within c.call-item.is _ _ _ _ so_far.tables so_far.answers did.answer;
+      tables = tables_more form calls i call within c.call-item.is _ _ _ so_far.tables did.tables;
       border = keeps_border_twice c.args.frame.now c.loop-call.frame c.replay_call.new.frame so_far.border did.border;
       unwritten = λ index none. did.unwritten index (λ h. none (written_now calls i call within c.call-item.is index h)) ∙
           so_far.unwritten index (λ h. none (written_before calls i call within c.call-item.is index h));
