@@ -5,8 +5,8 @@ use Rattle.std.specs.Prelude.{MatchOption, IsOkUnless, is_ok}
 use Rattle.std.proofs.lemmas.Bool.{ltb-true}
 use Rattle.std.proofs.lemmas.List.{length-replicate}
 use Rattle.v_frame_layout.specs.Geometry.{alloc_size_of}
-use Rattle.v_frame_plane.specs.Plane.{filled, table_of}
-use Rattle.v_frame_layout.specs.Table.{Table, width_of, height_of, row_major}
+use Rattle.v_frame_plane.specs.Plane.{Raster, filled, table_of}
+use Rattle.v_frame_layout.specs.Table.{width_of, height_of, row_major}
 use Rattle.v_frame_plane.specs.Copy.{CopyOutcome, piece_fronts, strided_table}
 use Rattle.v_frame_layout.specs.Pixel.{PixelForm, byte_list}
 use Rattle.v_frame.specs.Frame.{Tables}
@@ -18,8 +18,7 @@ use Rattle.v_frame.specs.declared.frame.error.FrameError.TheVariants.{Unsupporte
 use Rattle.v_frame.specs.declared.frame.error.FrameError.{FrameError}
 use Rattle.v_frame.specs.declared.replay.draw.Side.{Side}
 use Rattle.v_frame.specs.declared.replay.call.VisibleCall.TheVariants.{CopyFromU8SliceWithStride, ByteData}
-use Rattle.v_frame.specs.declared.replay.answer.Answer.{Answer}
-use Rattle.v_frame.specs.declared.replay.answer.Answer.TheVariants.{Copied, BytesWalked}
+use Rattle.v_frame.specs.declared.replay.answer.Answer.{Answer, TheVariants.Copied, TheVariants.BytesWalked}
 use Rattle.v_frame_plane.proofs.copies.BytesBack.{AreBytes, table_comes_back}
 use Rattle.v_frame_plane.proofs.copies.ByteLaws.{accepted_copy}
 use Rattle.v_frame_layout.proofs.ChromaLemmas.{both_true}
@@ -53,15 +52,10 @@ refusal_goes_on r s e o None was is h = let why = rw was at h in rw is why
 refusal_goes_on r s e o (Some fault) was is h = cc
 
 module _ {T : Type 0} where
-  module _ (zero : T) (asked : FrameRequest) where
-    abbrev blank : Table T
-    blank = table_of (filled zero (luma_geometry asked))
-
-    pub blank_width : 0 < asked.height → width_of blank ≡ asked.width
-    blank_width high = width_of_shown (filled zero (luma_geometry asked)) high (length-replicate (alloc_size_of (luma_geometry asked)) zero)
-
-    pub blank_height : height_of blank ≡ asked.height
-    blank_height = height_of_shown (filled zero (luma_geometry asked))
+  pub blank_size : (zero : T) (asked : FrameRequest) (plane : Raster T) → plane ≡ filled zero (luma_geometry asked) → 0 < asked.height →
+      (width_of (table_of plane) ≡ asked.width) × (height_of (table_of plane) ≡ asked.height)
+  blank_size zero asked plane is high = let blank = filled zero (luma_geometry asked) in
+      rw is (width_of_shown blank high (length-replicate (alloc_size_of (luma_geometry asked)) zero), height_of_shown blank)
 
   -- what the copy and the iteration answer
   module _ (form : PixelForm T) (back : (v : ℕ) → v < 256 ^ form.size → form.value (form.pixel_of v) ≡ v) (source : List ℕ) (bytes : AreBytes source) (stride :

@@ -11,8 +11,7 @@ use Rattle.v_frame_plane.proofs.tables.Lists.{slice_get-at}
 use Rattle.v_frame.specs.DrawnItems.{put_back, put_back_in_turn}
 use Rattle.v_frame.specs.Walk.{number_of_item, item_from, left_by, left_in_turn, changed_by, changed_after, walk_leaves, side_of_row, row_written}
 use Rattle.v_frame.specs.Walk.{rows_written}
-use Rattle.v_frame.specs.declared.replay.draw.Side.{Side}
-use Rattle.v_frame.specs.declared.replay.draw.Side.TheVariants.{Front, Back}
+use Rattle.v_frame.specs.declared.replay.draw.Side.{Side, TheVariants.Front, TheVariants.Back}
 use Rattle.v_frame.specs.declared.replay.draw.RowDraw.{RowDraw}
 use Rattle.v_frame_layout.specs.Table.{overwritten_row, with_item_by}
 use Rattle.std.proofs.lemmas.List.{map-append}

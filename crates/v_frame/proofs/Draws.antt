@@ -2,10 +2,9 @@
 use Rattle.std.proofs.Common.{ℕ, ◌≡◌, ◌+◌, ◌-◌, ◌<◌, ◌≤◌, cond, not, suc, List, [], ◌∷◌, ◌++◌, length, map, take, reverse, Option, Some, None, slice_get}
 use Rattle.std.proofs.Common.{slice_set, get_or, refl, sym, ◌∙◌, ap, arith, append-nil, append_assoc, length-append, length-take-le, length-drop}
 use Rattle.std.proofs.lemmas.Bool.{lt-ltb, le-ltb}
-use Rattle.std.proofs.lemmas.List.{get_or-map, map-id, take_all, take_more, nil_from_length, reverse-append}
+use Rattle.std.proofs.lemmas.List.{map-id, take_all, take_more, nil_from_length, reverse-append}
 use Rattle.std.proofs.lemmas.List.Sums.{sum_by-append}
-use Rattle.v_frame.specs.declared.replay.draw.Side.{Side}
-use Rattle.v_frame.specs.declared.replay.draw.Side.TheVariants.{Front, Back}
+use Rattle.v_frame.specs.declared.replay.draw.Side.{Side, TheVariants.Front, TheVariants.Back}
 use Rattle.v_frame.specs.declared.replay.draw.Drawn.{Drawn}
 use Rattle.v_frame.specs.Walk.{is_front, fronts, backs, number_of_item, item_from, left_by, drawn_in_turn, left_in_turn, item_after, drawn_after}
 use Rattle.v_frame.specs.Walk.{draws_answer, given_by, AreCounted, AreDrawnOnce, AreAllGiven}
@@ -135,11 +134,6 @@ pub are_counted : (X : Type 0) → AreCounted X
 are_counted X = λ items sides. ap (λ all. draws_answer all sides) (sym (append-nil items)) ∙
     counted_between [] items [] [] sides (record { from_front = refl; from_back = refl })
 
--- the side of a call of a list
-pub side_at : {D : Type 0} (side_of : D → Side) (draws : List D) (i : ℕ) (draw : D) (side : Side) → i < length draws → draw ≡ get_or draws i draw →
-    side ≡ side_of draw → side ≡ get_or (map side_of draws) i side
-side_at side_of draws i draw side within here is = is ∙ ap side_of here ∙ sym (get_or-map side_of draws i draw side within)
-
 module _ {X : Type 0} where
   put_again : (side : Side) (items : List X) → items ≡ put_back side (λ x. x) (item_from side items) (left_by side items)
   put_again Front [] = refl
@@ -189,15 +183,12 @@ module _ {X : Type 0} where
 
   module _ (items : List X) (sides : List Side) (i : ℕ) (side : Side) (within : i < length sides) (here : side ≡ get_or sides i side) (left more :
       List X) (so_far : left ≡ left_in_turn items (take i sides)) (less : more ≡ left_by side left) where
-    next_sides : take (i + 1) sides ≡ take i sides ++ side ∷ []
-    next_sides = let next = take_more sides i side within in cc
-
     pub left_more : more ≡ left_in_turn items (take (i + 1) sides)
-    left_more = rw (next_sides, left-push, ← so_far) less
+    left_more = rw (take_more sides i side within, ← here, left-push, ← so_far) less
 
     pub drawn_more : (answers : List (Drawn X)) (item : Option X) (count : ℕ) → answers ≡ drawn_in_turn items (take i sides) → item ≡ item_from side left →
         count ≡ length more → answers ++ answer item count ∷ [] ≡ drawn_in_turn items (take (i + 1) sides)
-    drawn_more answers item count before given counted = rw (next_sides, drawn-push, ← so_far, ← less) cc
+    drawn_more answers item count before given counted = rw (take_more sides i side within, ← here, drawn-push, ← so_far, ← less) cc
 
   -- the answers of all calls
   pub all_drawn : (items : List X) (sides : List Side) (n : ℕ) (answers : List (Drawn X)) → n ≡ length sides → answers ≡ drawn_in_turn items (take n sides) →

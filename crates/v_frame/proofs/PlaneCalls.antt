@@ -39,8 +39,7 @@ module _ {T : Type 0} (frame : Frame T) where
 
     pub tables_there : (index : ℕ) (new : Raster T) → index ≡ named_plane call → table_of new ≡ (on_table form call (table_of plane)).table
         → tables_of (with_plane frame index new) ≡ (reply_to form call (tables_of frame)).tables
-    tables_there index new named is = tables_shown index new ∙ ap (with_table (tables_of frame) index) is ∙
-        ap (λ n. with_table (tables_of frame) n (on_table form call (table_of plane)).table) named ∙ sym (ap (λ reply. reply.tables) reply_there)
+    tables_there index new named is = rw (tables_shown index new, is, named, reply_there)
 
     pub others_stay : (index : ℕ) (new : Raster T) → index ≡ named_plane call → (written_plane call ≡ None → new ≡ plane)
         → (other : ℕ) → (written_plane call ≡ Some other → ⊥) → plane_at (with_plane frame index new) other ≡ plane_at frame other

@@ -29,16 +29,13 @@ module _ {T : Type 0} (form : PixelForm T) where
 
   -- one more call of a list
   module _ (calls : List (VisibleCall T)) (i : ℕ) (call : VisibleCall T) (within : i < length calls) (here : call ≡ get_or calls i call) where
-    next_calls : take (i + 1) calls ≡ take i calls ++ call ∷ []
-    next_calls = let next = take_more calls i call within in cc
-
     pub answers_more : (old now : Tables T) (done : List (Answer T)) (answer : Answer T) → now ≡ tables_after form (take i calls) old →
         done ≡ answers_to form (take i calls) old → answer ≡ (reply_to form call now).answer → done ++ answer ∷ [] ≡ answers_to form (take (i + 1) calls) old
-    answers_more old now done answer tables answers is = rw (next_calls, answers_to-push, ← tables, ← answers, is)
+    answers_more old now done answer tables answers is = rw (take_more calls i call within, ← here, answers_to-push, ← tables, ← answers, is)
 
     pub tables_more : (old now new : Tables T) → now ≡ tables_after form (take i calls) old → new ≡ (reply_to form call now).tables →
         new ≡ tables_after form (take (i + 1) calls) old
-    tables_more old now new tables is = rw (next_calls, tables_after-push, ← tables) is
+    tables_more old now new tables is = rw (take_more calls i call within, ← here, tables_after-push, ← tables) is
 
   -- a replay that has done the first calls, and not all, stopped after them
   pub stopped_at : (calls : List (VisibleCall T)) (i : ℕ) → i < length calls → (old new : Tables T) (done : List (Answer T)) → length done ≡ i

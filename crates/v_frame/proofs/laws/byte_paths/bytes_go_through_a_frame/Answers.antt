@@ -1,14 +1,11 @@
 -- A frame that is built shows a table of its size, which the copy fills.
-use Rattle.std.proofs.Common.{ℕ, ◌≡◌, ◌<◌, length, get_or, Ok, refl, ◌∙◌, ap, rules}
+use Rattle.std.proofs.Common.{ℕ, ◌<◌, length, get_or, Ok, refl, ◌∙◌, rules}
 use Rattle.std.proofs.lemmas.Result.{IfOk-weaker}
 use Rattle.v_frame_layout.specs.Pixel.{PixelForm}
-use Rattle.v_frame_layout.specs.Table.{width_of, height_of}
 use Rattle.v_frame.specs.Frame.{tables_of}
-use Rattle.v_frame.specs.Build.{luma_geometry}
-use Rattle.v_frame_plane.specs.Plane.{Raster, filled, table_of}
 use Rattle.v_frame.specs.declared.frame.error.FrameError.TheVariants.{OutOfMemory}
 use Rattle.v_frame_plane.proofs.copies.BytesBack.{AreBytes, are_bytes}
-use Rattle.v_frame.proofs.BytePaths.{built_high, blank_width, blank_height, path_answers, refusal_goes_on}
+use Rattle.v_frame.proofs.BytePaths.{built_high, blank_size, path_answers, refusal_goes_on}
 use Rattle.v_frame.proofs.Draws.{all_given}
 use Rattle.v_frame.proofs.laws.byte_paths.bytes_go_through_a_frame.Goals as goal
 
@@ -17,17 +14,14 @@ returns-clause-answers g c =
     let form : PixelForm g.row.T.Denot = g.T.Pixel.form in
     let asked = c.args.builder in
     let source = c.args.source.items in
-    let zero = g.T.Pixel.ZERO in
     let frame = c.in_ok-frame.frame in
     let high : 0 < asked.height = built_high (Ok frame) frame refl g.T.Pixel.BYTES asked OutOfMemory c.in_ok-frame.ensures.refused in
-    let y : frame.y_plane ≡ filled zero (luma_geometry asked) = c.in_ok-frame.ensures.blank.y_plane in
-    let width : width_of (table_of frame.y_plane) ≡ asked.width = ap (λ (p : Raster g.row.T.Denot). width_of (table_of p)) y ∙ blank_width zero asked high in
-    let height : height_of (table_of frame.y_plane) ≡ asked.height = ap (λ (p : Raster g.row.T.Denot). height_of (table_of p)) y ∙ blank_height zero asked in
+    let size = blank_size g.T.Pixel.ZERO asked frame.y_plane c.in_ok-frame.ensures.blank.y_plane high in
     let fit : (i d : ℕ) → i < length source → get_or source i d < 256 = search rules in
     let bytes : AreBytes source = are_bytes source fit in
     λ fits whole.
-    let answers = path_answers form g.met.T.Pixel.value_of_pixel source bytes c.args.stride c.args.sides.items (tables_of frame) asked.width asked.height width
-    height fits whole in
+    let answers = path_answers form g.met.T.Pixel.value_of_pixel source bytes c.args.stride c.args.sides.items (tables_of frame) asked.width asked.height
+    size.0 size.1 fits whole in
     let given = IfOk-weaker c.copied_and_walked.result _ _ (λ done e. e ∙ answers) c.copied_and_walked.ensures in
     search rules
 
