@@ -1,28 +1,28 @@
 -- Steps of a proof by hand of a function that holds what a writing iterator lends, rows or pixels: see `ItemKinds.antt`. Assumes `Logic`.
 --     draws_item      a call of `next` or `next_back` on an iterator in a local, and the item that it gives, if any
 --     takes_arm       a `let else`, or an `if let` whose arm is one assignment, where the variant is the first arm's
-use Rattle.v_frame.proofs.Steps.{Is, Item, Lft, List, MakesProgress, MutBor, MutRef, MutSlice, NamedLft, Option, Val, YieldsFirstMut, YieldsLastMut}
-use Rattle.v_frame.proofs.Steps.{ap, after_seq, any_q, drop, exec, fact, first, flft, framed, heard, id⊢, item_count, live, meet_⊑_right, move, named, of_list}
-use Rattle.v_frame.proofs.Steps.{only, param, post, prop, raw, refl, rewrite, runs, subst, switches_on, tables, vint, vptr, Wp, ℕ, [], ‵, ⊑_trans, ⊤, ◌$◌, ◌∷◌, ◌≡◌, ◌⊑◌}
-use Rattle.v_frame_plane.proofs.lent.Steps.{Calls, Env, call, Laws, Logic, Loops, None, Opds, Post, RattleType, Seq, Share, Some, Step, Ty, Ura, fat, full_share}
-use Rattle.v_frame_plane.proofs.lent.Steps.{lands, lone, regoal, seq, step, switch, arm, w8, Model, Running, MachineTables}
+use Rattle.v_frame.proofs.Steps.{Bound, Is, Item, Lft, List, MakesProgress, MutBor, MutRef, MutSlice, NamedLft, Option, Val, YieldsFirstMut, YieldsLastMut, ap}
+use Rattle.v_frame.proofs.Steps.{after_seq, any_q, drop, exec, fact, first, flft, framed, heard, id⊢, item_count, live, meet_⊑_right, move, named, of_list}
+use Rattle.v_frame.proofs.Steps.{only, param, post, prop, raw, refl, rewrite, runs, subst, switches_on, tables, vint, vptr, Wp, ℕ, [], ‵, ⊑_trans, ⊤, ◌$◌, ◌∷◌}
+use Rattle.v_frame.proofs.Steps.{◌≡◌, ◌⊑◌}
+use Rattle.v_frame_plane.proofs.lent.Steps.{Calls, Env, call, Laws, Logic, Loops, None, Opds, Post, RattleType, Seq, Share, Some, Step, Ty, Ura, fat}
+use Rattle.v_frame_plane.proofs.lent.Steps.{full_share, lands, lone, regoal, seq, step, switch, arm, w8, Model, Running, MachineTables}
 use mir.Raw.{raw as raw_ty}
 use mir.Syntax.{Arms, Body as Code, Callee, Opd as Operand, Place}
 use types.Run.{Opd}
-use Rattle.v_frame.specs.{declared.replay.draw.Side.Side, declared.replay.draw.Side.TheVariants.Front, declared.replay.draw.Side.TheVariants.Back}
-use Rattle.v_frame_plane.proofs.lent.{Loans.share_within, RowMemory.slice_of}
 use Rattle.v_frame.proofs.CallSteps.{asks_that, calls}
 use Rattle.v_frame.proofs.ItemKinds.{Entry, Kept, Kind, Lends, Promise, Walk, left, neither, of_pixels, walk_row}
-use Rattle.v_frame.proofs.Lending.{lends_walk, lowers, walk_back}
-use Rattle.v_frame.proofs.{OptionCases.by_told}
+use Rattle.v_frame.specs.{declared.replay.draw.Side.Side, declared.replay.draw.Side.TheVariants.Back, declared.replay.draw.Side.TheVariants.Front}
+use Rattle.v_frame_plane.proofs.lent.{Loans.share_within, RowMemory.slice_of}
+use Rattle.v_frame.proofs.{Lending.lends_walk, Lending.lowers, Lending.walk_back, OptionCases.by_told}
 use base.Share
 use Rattle.v_frame_plane.specs.contracts.pixels_mut.PixelsMut as pixels_mut
 use Rattle.v_frame_plane.specs.contracts.rows_mut.RowsMut as rows_mut
 
-module _ {M : Type 1} {𝓤 : Ura M} {𝓛 : Logic 𝓤} {K : Type 0} {Γ Δ : List (Item 𝓤)} {E : Env 𝓤 𝓛.H} {C : Calls 𝓤 𝓛.H} {Λ : Loops 𝓤 𝓛.H} {q : Post 𝓤 𝓛.H} {tag :
-    Operand} {taken rest : Code} {others : Arms} where
-  pub takes_arm : K → Opd K 𝓛 Γ E tag (vint w8 1)
-      → Step K 𝓛 Δ (prop (Wp 𝓤 𝓛.H C Λ E rest (post 𝓤 𝓛.H q))) Γ (runs C Λ E taken (any_q (after_seq 𝓤 𝓛.H (Wp 𝓤 𝓛.H C Λ E rest (post 𝓤 𝓛.H q)) (post 𝓤 𝓛.H q))))
+module _ {M : Type 1} {𝓤 : Ura M} {𝓛 : Logic 𝓤} {K : Type 0} {Γ Δ : List (Item 𝓤)} {E : Env 𝓤 𝓛.H} {C : Calls 𝓤 𝓛.H} {Λ : Loops 𝓤 𝓛.H} {q : Post 𝓤 𝓛.H}
+    {tag : Operand} {taken rest : Code} {others : Arms} where
+  pub takes_arm : K → Opd K 𝓛 Γ E tag (vint w8 1) → let After = Wp 𝓤 𝓛.H C Λ E rest (post 𝓤 𝓛.H q) in
+      Step K 𝓛 Δ (prop After) Γ (runs C Λ E taken (any_q (after_seq 𝓤 𝓛.H After (post 𝓤 𝓛.H q))))
       → Step K 𝓛 Δ (runs C Λ E rest q) Γ (runs C Λ E (seq (switch tag (arm (1 ∷ []) taken others)) rest) q)
   takes_arm t is_some takes = step (λ k. first t $ switches_on t is_some $ exec t C Λ E taken _ $ takes $ exec t C Λ E rest q $ k)
 
@@ -77,17 +77,12 @@ module _ {M : Type 1} {𝓤 : Ura M} (𝓛 : Logic 𝓤) (𝓜 : Model 𝓤 𝓛
       let Lent = λ (new : Walk T k) (r : Option (MutBor (Entry T k))). ‵ (Lends T k side old r new) in
       let Lands = λ (u : Val). lands 𝓣.C 𝓣.Λ E d u rest p in
       lends_walk t tt R refl τ same κ q old b 0 (low.lowered old) (λ β γ. let κc : Lft = β ∷ κ in let in_c = meet_⊑_right (β ∷ []) κ in
-      calls t (1 ∷ 2 ∷ 5 ∷ 0 ∷ []) (framed 𝓤 𝓛.H 𝓜 𝓣) (draws k side).0 (draws k side).1 met (
-        (
-          (κc, (κ, (κT, tt))),
-          (share_within (Share.left q), (Share.right q, (qT, tt))),
-          (in_c, (⊑_trans κc κ κT in_c inside, (inside, tt))),
-          (record { ref_ptr = (b, 0); ghost_name = γ; now = old }, tt),
-          (vptr b 0 ∷ [], tt),
-        ),
-        tt,
-      ) (asks_that 𝓤 inT) refl (os _ _ _) (λ r ws. Lent ws.0 r ∷ raw (fact 𝓤 (Yields T k side old r ws.0)) ∷
-      raw (fact 𝓤 (MakesProgress (λ _. ⊤) (item_count (left T k)) old r ws.0)) ∷ []) (λ r ws. id⊢ 𝓤 _) (λ v r ws. let new = ws.0 in
+      let lent : MutBor (Walk T k) = record { ref_ptr = (b, 0); ghost_name = γ; now = old } in let at = vptr b 0 ∷ [] in
+      let across = ⊑_trans κc κ κT in_c inside in let its : Bound 𝓛 (draws k side).0.signature =
+      ((κc, (κ, (κT, tt))), (share_within (Share.left q), (Share.right q, (qT, tt))), (in_c, (across, (inside, tt))), (lent, tt), (at, tt)) in
+      calls t (1 ∷ 2 ∷ 5 ∷ 0 ∷ []) (framed 𝓤 𝓛.H 𝓜 𝓣) (draws k side).0 (draws k side).1 met (its, tt) (asks_that 𝓤 inT) refl (os _ _ _)
+      (λ r ws. Lent ws.0 r ∷ raw (fact 𝓤 (Yields T k side old r ws.0)) ∷ raw (fact 𝓤 (MakesProgress (λ _. ⊤) (item_count (left T k)) old r ws.0)) ∷ [])
+      (λ r ws. id⊢ 𝓤 _) (λ v r ws. let new = ws.0 in
       let yields = λ (r : Option (MutBor (Entry T k))). Yields T k side old r new in
       move t (2 ∷ 3 ∷ []) $ heard t _ (λ steps. drop t $ move t (2 ∷ 3 ∷ 5 ∷ 6 ∷ 7 ∷ []) $ walk_back t tt R refl τ same κ q β γ b 0 new (low.lowered new)
       (λ u is. ap only (low.val_is new (u ∷ []) is)) $ move t (3 ∷ []) $

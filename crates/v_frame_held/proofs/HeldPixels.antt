@@ -2,20 +2,20 @@
 --     ends_of      what three calls take of some pixels, written over
 --     as_rows      the pixels of an iterator whose items are all left end as rows
 --     writes_pixel      a held pixel is written.        gives_back      it is dropped, and ends where the call took it from
-use Rattle.v_frame_plane.proofs.lent.Steps.{◌≡◌, ◌-◌, List, [], ◌∷◌, ◌++◌, length, list_drop, take, Some, MutBor, refl, sym, ap, ◌∙◌, arith, append-nil}
-use Rattle.v_frame_plane.proofs.lent.Steps.{append_assoc, length-append, map, nil_from_length, Lft, Share, fat, flft, full_share, SProp, ent, sep, shows, RattleType}
-use Rattle.v_frame_plane.proofs.lent.Steps.{MutRef, mut_vals, peeks, opens, closes, named, param, layout, Val, Ura, Goal, Item, Seq, Step, step, ‵, ◌$◌, drop, feq_i}
-use Rattle.v_frame_plane.proofs.lent.Steps.{fjoin3, fpick, fsplit3, move, rewrite, use1, use3, Logic, sem, cell_at, Calls, Env, Loops, Post, runs, assigns, assign}
-use Rattle.v_frame_plane.proofs.lent.Steps.{seq, Place, has_ty, WT, Rv, Finds}
+use Rattle.v_frame_plane.proofs.lent.Steps.{◌≡◌, ◌-◌, List, [], ◌∷◌, ◌++◌, length, Some, MutBor, refl, sym, ap, ◌∙◌, arith, append-nil, append_assoc}
+use Rattle.v_frame_plane.proofs.lent.Steps.{length-append, map, nil_from_length, Lft, Share, fat, flft, full_share, SProp, ent, sep, shows, RattleType, MutRef}
+use Rattle.v_frame_plane.proofs.lent.Steps.{mut_vals, peeks, opens, closes, named, param, layout, Val, Ura, Goal, Item, Seq, Step, step, ‵, ◌$◌, drop, feq_i}
+use Rattle.v_frame_plane.proofs.lent.Steps.{fjoin3, fpick, fsplit3, move, rewrite, use1, use3, Logic, sem, cell_at, Calls, Env, Loops, Post, runs, assigns}
+use Rattle.v_frame_plane.proofs.lent.Steps.{assign, seq, Place, has_ty, WT, Rv, Finds}
 use lib.Dec.{T as Holds}
 use denote.Param.Laws.{IsCopy}
 use mir.Syntax.{Body as Code, Rv as RValue}
 use types.Run.{store}
-use Rattle.std.proofs.Common.{take_at}
 use Rattle.v_frame.specs.Prelude.{BeginsOver, PixelsMut, Raster, SecondPixels, SecondRows, row_major, table_of}
-use Rattle.v_frame.specs.{DrawnItems.put_back, declared.replay.draw.Side.Side, declared.replay.draw.Side.TheVariants.Front}
-use Rattle.v_frame.specs.{declared.replay.draw.Side.TheVariants.Back}
 use Rattle.v_frame.proofs.ItemKinds.{Ends, Lends, Second, of_pixels}
+use Rattle.std.proofs.{Common.take_at}
+use Rattle.v_frame.specs.{DrawnItems.put_back, declared.replay.draw.Side.Side, declared.replay.draw.Side.TheVariants.Back}
+use Rattle.v_frame.specs.{declared.replay.draw.Side.TheVariants.Front}
 use Rattle.v_frame_plane.proofs.lent.{Loans.at_one}
 use Rattle.v_frame_held.specs.{HeldPixels.with_ends}
 
@@ -23,13 +23,12 @@ use Rattle.v_frame_held.specs.{HeldPixels.with_ends}
 pub ends_of : {X : Type 0} (pixels one two three : List X) (a b c x y z : X) → pixels ≡ one ++ c ∷ [] → one ≡ a ∷ two → two ≡ three ++ b ∷ []
     → (x ∷ (three ++ y ∷ [])) ++ z ∷ [] ≡ with_ends x y z pixels
 ends_of pixels one two three a b c x y z last first before =
-    let all : pixels ≡ a ∷ (three ++ (b ∷ c ∷ [])) = last ∙ ap (λ xs. xs ++ c ∷ []) (first ∙ ap (λ xs. a ∷ xs) before) ∙
-    ap (λ xs. a ∷ xs) (append_assoc three (b ∷ []) (c ∷ [])) in
+    let all : pixels ≡ a ∷ (three ++ (b ∷ c ∷ [])) = rw (last, first, before, append_assoc three (b ∷ []) (c ∷ [])) refl in
     let long : length pixels - 3 ≡ length three = omega (arith, ap length all, length-append three (b ∷ c ∷ [])) in
-    let kept : take (length pixels - 3) (list_drop 1 pixels) ≡ three = rw (long, all) (take_at three (b ∷ c ∷ []) (length three) refl) in
-    ap (λ xs. x ∷ xs) (append_assoc three (y ∷ []) (z ∷ []) ∙ ap (λ xs. xs ++ y ∷ z ∷ []) (sym kept))
+    rw (long, all, take_at three (b ∷ c ∷ []) (length three) refl, append_assoc three (y ∷ []) (z ∷ [])) refl
 
-module _ {M : Type 1} {𝓤 : Ura M} (𝓛 : Logic 𝓤) (T : RattleType) (old new : PixelsMut T.Denot) (pixel : MutBor T.Denot) (x : T.Denot) (second : List T.Denot) where
+module _ {M : Type 1} {𝓤 : Ura M} (𝓛 : Logic 𝓤) (T : RattleType) (old new : PixelsMut T.Denot) (pixel : MutBor T.Denot) (x : T.Denot)
+    (second : List T.Denot) where
   abbrev Held : T.Denot × List T.Denot → SProp 𝓤
   Held held = sep 𝓤 (sem 𝓛 (Ends T of_pixels pixel held.0)) (sem 𝓛 (Second T of_pixels new held.1))
 

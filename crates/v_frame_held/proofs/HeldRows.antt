@@ -1,10 +1,9 @@
 -- Lists, for proofs of functions that fill rows.
 --     filled_more     a row that is filled so far        last_filled     a table of which one call from the back fills what it takes
 use Rattle.std.proofs.Common.{ℕ, ◌≡◌, ◌+◌, ◌-◌, ◌<◌, suc, zero, All, List, [], ◌∷◌, ◌++◌, length, drop, replicate, slice_set, Some, refl, ap, arith}
-use Rattle.std.proofs.lemmas.Bool.{lt-ltb}
-use Rattle.std.proofs.lemmas.List.Elements.{All-pop}
+use Rattle.std.proofs.{lemmas.Bool.lt-ltb, lemmas.List.Elements.All-pop}
 use Rattle.v_frame.specs.{Walk.walk_leaves, declared.replay.draw.Side.TheVariants.Back}
-use Rattle.v_frame.proofs.DrawnItems.{last_of}
+use Rattle.v_frame.proofs.{DrawnItems.last_of}
 
 pub filled_more : {X : Type 0} (row : List X) (i : ℕ) (x : X) → i < length row → slice_set (replicate i x ++ drop i row) i x ≡ replicate (i + 1) x ++
     drop (i + 1) row

@@ -1,25 +1,18 @@
 -- `write_ends` holds three pixels, and writes through them once the iterator is dropped. What a plane ends as, of which such pixels were lent, no generated
 -- proof follows, so this one follows the code.
-use Rattle.v_frame.proofs.Steps.{Goes-dropped, Goes-ref, Is, Lft, List, NamedLft, Stays, Val}
-use Rattle.v_frame.proofs.Steps.{a_type, addr, alloc_all, and_then, ap, arith}
-use Rattle.v_frame.proofs.Steps.{bounded, copied, dcons, dnil, enter, env, feq_i, fld, framed, free_all, from, get}
-use Rattle.v_frame.proofs.Steps.{get_in, get_tag, give_at, in_variant, inst_fn, lands_as, length, length-append, lit<, look_at}
-use Rattle.v_frame.proofs.Steps.{meet_⊑_right, move, mut_Tells, mut_vals, named, no, no_more, nothing, of_opd, param, param_laws, pass_all, plain}
-use Rattle.v_frame.proofs.Steps.{proved, refl, returns, rewrite, sets, sets_last, split, spot_of, stay_dropped, stay_ref, stop}
-use Rattle.v_frame.proofs.Steps.{sym, tables, take_at, through, unit_lit, use1, vrt, vunit, walk_of, whole, !, [], ‵}
-use Rattle.v_frame.proofs.Steps.{◌$◌, ◌++◌, ◌<◌, ◌∙◌, ◌∷◌, ◌⊑◌, ◌⊛◌}
-use Rattle.v_frame.specs.Prelude.{SecondPixels, pixels_left}
-use Rattle.v_frame.specs.Prelude.{row_major, table_of}
+use Rattle.v_frame.proofs.Steps.{Goes-dropped, Goes-ref, Is, Lft, List, NamedLft, Stays, Val, a_type, addr, alloc_all, and_then, ap, arith, bounded, copied}
+use Rattle.v_frame.proofs.Steps.{dcons, dnil, enter, env, feq_i, fld, free_all, from, get, get_in, get_tag, give_at, in_variant, inst_fn, lands_as, length}
+use Rattle.v_frame.proofs.Steps.{length-append, lit<, look_at, meet_⊑_right, move, mut_Tells, mut_vals, named, no, no_more, nothing, of_opd, param, param_laws}
+use Rattle.v_frame.proofs.Steps.{pass_all, plain, proved, refl, returns, rewrite, sets, sets_last, split, spot_of, stay_dropped, stay_ref, stop, sym, take_at}
+use Rattle.v_frame.proofs.Steps.{through, unit_lit, use1, vrt, vunit, walk_of, whole, !, [], ‵, ◌$◌, ◌++◌, ◌<◌, ◌∙◌, ◌∷◌, ◌⊑◌, ◌⊛◌}
+use Rattle.v_frame.specs.Prelude.{SecondPixels, pixels_left, row_major, table_of, entries_with, with_entries}
 use Rattle.v_frame.proofs.CallSteps.{both_facts, ends, opened_by, tells, told}
-use Rattle.v_frame.proofs.Lending.{begins_walk, rows_back}
-use Rattle.v_frame_held.proofs.HeldItems.{draws_item, takes_arm}
 use Rattle.v_frame_held.proofs.HeldPixels.{as_rows, ends_of, gives_back, writes_pixel}
-use Rattle.v_frame.specs.{declared.replay.draw.Side.TheVariants.Front, declared.replay.draw.Side.TheVariants.Back}
-use Rattle.v_frame.specs.Prelude.{entries_with, with_entries}
-use Rattle.v_frame.proofs.{ItemKinds.of_pixels}
+use Rattle.v_frame.proofs.{ItemKinds.of_pixels, Lending.begins_walk, Lending.rows_back}
+use Rattle.v_frame_held.proofs.{HeldItems.draws_item, HeldItems.takes_arm, held_pixels.write_ends.Statement.statement}
+use Rattle.v_frame.specs.{declared.replay.draw.Side.TheVariants.Back, declared.replay.draw.Side.TheVariants.Front}
 use Rattle.v_frame_plane.proofs.lent.{Loans.share_within, PixelMemory.lowered, PixelsDropped.pixels_dropped}
 use Rattle.v_frame_held.specs.{HeldPixels.with_ends}
-use Rattle.v_frame_held.proofs.{held_pixels.write_ends.Statement.statement}
 use base.Share
 use Rattle.v_frame_plane.proofs.plane.Plane.pixels_mut.Met as pixels_mut_met
 use Rattle.v_frame_held.specs.contracts.held_pixels.write_ends as f
@@ -30,27 +23,23 @@ use Rattle.v_frame_plane.proofs.pixels_mut.PixelsMut as of_walks
 pub write_ends_spec : {M : Type 1} → statement M
 write_ends_spec 𝓤 𝓛 𝓜 𝓡 wired T laws copy clone dict met =
     let item = param 0 T in let seen = copied 0 T in let args = bounded (a_type ∷ []) (T, tt) (dcons dict dnil) in let function = inst_fn args code.function in
-    let 𝓣 = tables 𝓤 𝓛.H 𝓜 𝓡 𝓡.env in let run = framed 𝓤 𝓛.H 𝓜 𝓣 in let c = f.clauses T clone dict 𝓛 𝓜.mem 𝓡.returns in
-    let ended = f.ended T clone dict in
+    let c = f.clauses T clone dict 𝓛 𝓜.mem 𝓡.returns in let ended = f.ended T clone dict in let val = λ (x : T.Denot). copy.val x ∷ [] in
     let stayed : Stays ended.signature.params ended.kept =
     (stay_ref (0 ∷ []) tt (plain (λ _. planes.the_row seen)), (stay_dropped _ no, (stay_dropped _ no, (stay_dropped _ no, tt)))) in
     let Walk = walk_of 𝓛 ended stayed c in let goes = Goes-dropped 𝓛 2 (plain (λ _. seen)) no (λ κs x w. refl) in
-    let val = λ (x : T.Denot). copy.val x ∷ [] in
     proved 𝓛 ended stayed c 𝓜 𝓡 (Goes-ref 𝓛 2 0 tt (plain (λ _. planes.the_row seen)), (goes, (goes, (goes, tt))))
     (f.Key.name args) function (code.unfolded 𝓤 𝓛.H 𝓜 𝓡 wired (T, tt) dict)
     (λ κs. (mut_vals, (val, (val, (val, tt))))) (λ κs.
     (mut_Tells (named 0) κs.0 (planes.the_row item), (copy.tells, (copy.tells, (copy.tells, tt))))) (λ κs qs bounds a g are.
-    let Plane = planes.the_row item in let κ = κs.0 in let q = qs.0 in let κT = κs.1.0 in let qT = qs.1.0 in
-    let plane = a.0 in let x = a.1.0 in let y = a.1.1.0 in let z = a.1.1.1.0 in let b = plane.ref_ptr.0 in let o = plane.ref_ptr.1 in
-    let Own = λ (w : T.Denot). item.own_val w (val w) in
+    let κ = κs.0 in let q = qs.0 in let κT = κs.1.0 in let qT = qs.1.0 in
+    let plane = a.0 in let x = a.1.0 in let y = a.1.1.0 in let z = a.1.1.1.0 in
     let wt = λ (w : T.Denot) (is : Is item w (val w)). (((param_laws 0 T laws).lawful 𝓛).typed w (val w) is).0 in
     let wx = wt x are.1.0 in let wy = wt y are.1.1.0 in let wz = wt z are.1.1.1.0 in
-    let bound : Walk.Ghost = ((κs, qs, bounds, a, (mut_vals plane, (val x, (val y, (val z, tt))))), g) in let Post = Walk.post bound in
-    let Many = 2 < length (row_major (table_of plane.now)) in
+    let bound : Walk.Ghost = ((κs, qs, bounds, a, (mut_vals plane, (val x, (val y, (val z, tt))))), g) in
+    let pixels = row_major (table_of plane.now) in let Many = 2 < length pixels in
     opened_by 𝓛 ended.signature κs qs a bound.0.4 _ ((κT ⊑ T.lives) × Many) (both_facts 𝓤 (κT ⊑ T.lives) Many) (λ known. let inT = known.0 in
     -- [the tokens of κ and κT; the plane; the three values]
     enter ! _ _ _ _ _ $ alloc_all ! (λ l. pass_all ! refl ((tt, tt), (wx, (wy, (wz, tt)))) $
-    let En = env function.locals l in
     sets ! (addr ! (through ! refl (stop !))) refl (tt, tt) $ move ! (2 ∷ 0 ∷ 1 ∷ []) $ begins_walk 𝓛 𝓜 𝓡 T laws of_pixels _ _ _ _ _ _ _ _ !
     (pixels_mut_met.met 𝓤 𝓛 𝓜 𝓡 (code.calls-v_frame_plane::plane::Plane::pixels_mut 𝓡.env wired) T laws) (named 1) κ κT q qT plane inT
     (λ i j m. and_then ! (get ! refl) (no_more !)) (λ α δ walk begun typed.
@@ -58,7 +47,7 @@ write_ends_spec 𝓤 𝓛 𝓜 𝓡 wired T laws copy clone dict met =
     let ℓ : NamedLft = record { mir = named 1; lft = κ' } in
     lands_as ! refl refl typed.0 $ sets ! (of_opd ! (get ! refl)) refl typed.0 $
     -- [what the iterator owns; how the plane ends; the tokens of κ' and κT; its lender; the way back; the three values; the locals]
-    let τ = (spot_of 𝓤 𝓛.H En 5).0 in
+    let τ = (spot_of 𝓤 𝓛.H (env function.locals l) 5).0 in
     let last_met = of_walks.next_back.Met.met 𝓤 𝓛 𝓜 𝓡 (code.calls-v_frame_plane::pixels_mut::PixelsMut::next_back 𝓡.env wired) T laws in
     let first_met = of_walks.next.Met.met 𝓤 𝓛 𝓜 𝓡 (code.calls-v_frame_plane::pixels_mut::PixelsMut::next 𝓡.env wired) T laws in
     let some₀ : 2 < length (pixels_left walk) = omega (arith, known.1, ap length begun.all) in
@@ -87,7 +76,7 @@ write_ends_spec 𝓤 𝓛 𝓜 𝓡 wired T laws copy clone dict met =
     (sets_last ! (of_opd ! (get_in ! (vrt ! refl (fld ! refl (stop !))) (in_variant ! 1 0 refl refl (whole !)))) refl (tt, tt)) $
     -- the iterator is dropped, and the value that is written twice is there twice
     move ! (1 ∷ []) $ use1 𝓛 (‵ (SecondPixels item three (pixels_left three))) (pixels_dropped 𝓛 item ℓ three (lowered three ∷ [])) $
-    move ! (14 ∷ []) $ use1 𝓛 (‵ (Own z) ⊛ ‵ (Own z)) ((copy.copies _ 𝓤 𝓛).twice z (val z)) $ split ! $
+    move ! (14 ∷ []) $ use1 𝓛 (‵ (item.own_val z (val z)) ⊛ ‵ (item.own_val z (val z))) ((copy.copies _ 𝓤 𝓛).twice z (val z)) $ split ! $
     -- [the last value, twice; what the iterator left; the last but one; the token of κ'; how it was drawn; the token of κT; the first pixel, and how it was
     -- drawn; the last one, and how; how the plane ends; its lender; the way back; the other values; the locals]
     move ! (7 ∷ 4 ∷ 0 ∷ []) $ writes_pixel ! T copy κ' s start z wz (λ i j m n v. of_opd ! (get ! refl)) (λ i j m n v. through ! refl (stop !)) $
@@ -100,10 +89,9 @@ write_ends_spec 𝓤 𝓛 𝓜 𝓡 wired T laws copy clone dict met =
     move ! (3 ∷ 5 ∷ 4 ∷ []) $ gives_back ! Back T κ' two three before y (pixels_left three) $
     move ! (3 ∷ 5 ∷ 0 ∷ []) $ gives_back ! Front T κ' one two start x (pixels_left three ++ y ∷ []) $
     move ! (1 ∷ 4 ∷ 0 ∷ []) $ gives_back ! Back T κ' walk one end z (x ∷ (pixels_left three ++ y ∷ [])) $
-    let pixels = with_ends x y z (row_major (table_of plane.now)) in
-    rewrite ! 0 (λ (xs : List T.Denot). ‵ (SecondPixels item walk xs)) (ends_of (row_major (table_of plane.now)) (pixels_left one) (pixels_left two)
-    (pixels_left three) start.now before.now end.now x y z (sym begun.all ∙ last) foremost next_to) refl $
-    as_rows ! item plane.now walk pixels begun.tells (λ rows long shows.
+    rewrite ! 0 (λ (xs : List T.Denot). ‵ (SecondPixels item walk xs)) (ends_of pixels (pixels_left one) (pixels_left two) (pixels_left three)
+    start.now before.now end.now x y z (sym begun.all ∙ last) foremost next_to) refl $
+    as_rows ! item plane.now walk (with_ends x y z pixels) begun.tells (λ rows long shows.
     -- [how its rows end; the tokens of κ' and κT; how the plane ends; what its lender keeps; the way back; the locals]
     rows_back ! tt T α δ κ κT q qT plane walk.rows rows $
     -- [the token of κT; the plane; the token of κ; the locals]

@@ -1,29 +1,21 @@
 -- `fill_last_row` lends its plane to an iterator, draws a row from its end, fills it, and drops the iterator. What a plane ends as, of which such a row was
 -- lent, no generated proof follows, so this one follows the code.
-use Rattle.v_frame.proofs.Steps.{Goes-dropped, Goes-ref, List, NamedLft, SProp, Sq, Stays, Val, Wp}
-use Rattle.v_frame.proofs.Steps.{a_type, addr, after, after_seq, agg, alloc_all, and_then, any_q, arm_body, at_ret, bounded, copied, dcons, dnil, drop}
-use Rattle.v_frame.proofs.Steps.{enter, env, exec, fact, feq_i, feq_l, finally-res, first, fld, flft, framed, free_all, from, fsplit, get, get_in, get_tag}
-use Rattle.v_frame.proofs.Steps.{give_at, head, heard, hop, id⊢, in_variant, inst_fn, lands_as, lands_last, length, length-replicate, lit<}
-use Rattle.v_frame.proofs.Steps.{look_at, look_in_at, meet_⊑_right, move, mut_Tells, mut_vals, named, no, no_more, nothing, of_opd, param}
-use Rattle.v_frame.proofs.Steps.{param_laws, pass_all, plain, post, proved, raw, refl, replicate, returns, rewrite, sets, skips, spot_of}
-use Rattle.v_frame.proofs.Steps.{stay_dropped, stay_ref, stop, sub, subst, switches_on, sym, tables, take_at, through, unit_lit, use1, use2, vrt}
-use Rattle.v_frame.proofs.Steps.{vunit, walk_of, whole, !, [], ‵, ◌$◌, ◌∙◌, ◌∷◌, ◌≡◌, ◌⊑◌}
+use Rattle.v_frame.proofs.Steps.{Goes-dropped, Goes-ref, List, NamedLft, SProp, Sq, Stays, Val, Wp, a_type, addr, after, after_seq, agg, alloc_all, and_then}
+use Rattle.v_frame.proofs.Steps.{any_q, arm_body, at_ret, bounded, copied, dcons, dnil, drop, enter, env, exec, fact, feq_i, feq_l, finally-res, first, fld}
+use Rattle.v_frame.proofs.Steps.{flft, framed, free_all, from, fsplit, get, get_in, get_tag, give_at, head, heard, hop, id⊢, in_variant, inst_fn, lands_as}
+use Rattle.v_frame.proofs.Steps.{lands_last, length, length-replicate, lit<, look_at, look_in_at, meet_⊑_right, move, mut_Tells, mut_vals, named, no, no_more}
+use Rattle.v_frame.proofs.Steps.{nothing, of_opd, param, param_laws, pass_all, plain, post, proved, raw, refl, replicate, returns, rewrite, sets, skips}
+use Rattle.v_frame.proofs.Steps.{spot_of, stay_dropped, stay_ref, stop, sub, subst, switches_on, sym, tables, take_at, through, unit_lit, use1, use2, vrt}
+use Rattle.v_frame.proofs.Steps.{vunit, walk_of, whole, !, [], ‵, ◌$◌, ◌∙◌, ◌∷◌, ◌≡◌, ◌⊑◌, Item, forget_but, holding, runs}
 use Rattle.v_frame.specs.Prelude.{EndsAs, SecondRows, entries_with, rows_left, table_of, with_entries}
 use Rattle.v_frame.proofs.CallSteps.{asks_that, calls_last, ends, opened, tells, told, unit_fits}
-use Rattle.v_frame.proofs.Steps.{Item, flft, forget_but, holding, runs}
-use Rattle.v_frame.proofs.Lending.{Kept_by, begins_walk, rows_back}
-use Rattle.v_frame.proofs.DrawnItems.{last_drawn, walk_keeps}
-use Rattle.v_frame.proofs.DrawnLoans.{each_drawn}
-use Rattle.v_frame.proofs.PutBack.{item_taken, none_taken}
+use Rattle.v_frame.proofs.{DrawnItems.last_drawn, DrawnItems.walk_keeps, DrawnLoans.each_drawn, ItemKinds.of_rows, Lending.Kept_by, Lending.begins_walk}
+use Rattle.v_frame.proofs.{Lending.rows_back, PutBack.item_taken, PutBack.none_taken}
 use Rattle.v_frame.specs.{DrawnItems.PutsBack, Walk.left_by, Walk.walk_leaves, declared.replay.draw.Side.TheVariants.Back}
-use Rattle.std.proofs.Common.{All, None, Some}
+use Rattle.std.proofs.{Common.All, Common.None, Common.Some}
 use Rattle.v_frame_plane.specs.{Lends.LendsBuffer, declared.rows_mut.RowsMut.RowsMut}
-use Rattle.v_frame_held.proofs.HeldItems.{draws_item}
-use Rattle.v_frame_held.proofs.HeldRows.{last_filled}
-use Rattle.v_frame_plane.proofs.lent.Loans.{Back as Back_to}
-use Rattle.v_frame.proofs.{ItemKinds.of_rows}
-use Rattle.v_frame_plane.proofs.lent.{Loans.share_within, RowLoans.rows_dropped, RowMemory.lowered, RowMemory.slice_of}
-use Rattle.v_frame_held.proofs.{held_rows.fill_last_row.Statement.statement}
+use Rattle.v_frame_held.proofs.{HeldItems.draws_item, HeldRows.last_filled, held_rows.fill_last_row.Statement.statement}
+use Rattle.v_frame_plane.proofs.lent.{Loans.Back as Back_to, Loans.share_within, RowLoans.rows_dropped, RowMemory.lowered, RowMemory.slice_of}
 use base.Share
 use Rattle.v_frame_plane.specs.contracts.plane.Plane as planes
 use Rattle.v_frame_plane.specs.contracts.rows_mut.RowsMut as walks
@@ -44,8 +36,7 @@ fill_last_row_spec 𝓤 𝓛 𝓜 𝓡 wired T laws copy clone dict met =
     (f.Key.name args) function (code.unfolded 𝓤 𝓛.H 𝓜 𝓡 wired (T, tt) dict)
     (λ κs. (mut_vals, (val, tt))) (λ κs. (mut_Tells (named 0) κs.0 (planes.the_row item), (copy.tells, tt))) (λ κs qs bounds a g are.
     let κ = κs.0 in let q = qs.0 in let κT = κs.1.0 in let qT = qs.1.0 in let W = walk_of 𝓛 ended stayed c in
-    let Plane = planes.the_row item in let plane = a.0 in let value = a.1.0 in let b = plane.ref_ptr.0 in let o = plane.ref_ptr.1 in
-    let table = table_of plane.now in
+    let plane = a.0 in let value = a.1.0 in let table = table_of plane.now in let width = plane.now.geometry.width in
     let y : W.Ghost = ((κs, qs, bounds, a, (mut_vals plane, (val value, tt))), g) in let Post : Val → SProp 𝓤 = W.post y in
     let fits = (((param_laws 0 T laws).lawful 𝓛).typed value (val value) are.1.0).0 in
     opened 𝓛 ended.signature κs qs a (mut_vals plane, (val value, tt)) (κT ⊑ T.lives) (λ inT.
@@ -69,10 +60,10 @@ fill_last_row_spec 𝓤 𝓛 𝓜 𝓡 wired T laws copy clone dict met =
     use2 𝓛 (‵ (SecondRows item w last)) (each_drawn 𝓛 rows_left (SecondRows item) side make once 1 refl w left table begun.all fewer) $
     rows_back ! tt T α δ κ κT q qT plane w last $ sets ! (of_opd ! (unit_lit !)) refl (tt, tt) $ returns ! (look_at ! 0 refl) $ free_all ! refl $
     let long = walk_keeps side make length (λ _ row. length-replicate (length row) value) table once in
-    let wide = subst (All (λ row. length row ≡ plane.now.geometry.width)) begun.all begun.tells in
+    let wide = subst (All (λ row. length row ≡ width)) begun.all begun.tells in
     let told_of = begun.written last long in let new = with_entries plane.now (entries_with w last) in
     nothing ! $ feq_i ! (List Val) (vunit ∷ []) (vunit ∷ []) refl $ ends ! (4 ∷ 2 ∷ 3 ∷ 1 ∷ 0 ∷ []) ended stayed c y vunit tt (new, (tt, tt))
-    (tt, (tt, tt)) refl $ tells ! (told_of.table ∙ last_filled table plane.now.geometry.width value wide) $
+    (tt, (tt, tt)) refl $ tells ! (told_of.table ∙ last_filled table width value wide) $
     told ! (λ k. (told_of.geometry k, told_of.border k)) in
     -- [the iterator; how the plane ends; the tokens of κw and κT; the plane's lender; the way back; the value; the locals]. A row is drawn
     sets ! (addr ! (from ! (stop !))) refl (tt, tt) $ take_at ! 3 $ move ! (0 ∷ 1 ∷ 3 ∷ 4 ∷ []) $
@@ -93,8 +84,7 @@ fill_last_row_spec 𝓤 𝓛 𝓜 𝓡 wired T laws copy clone dict met =
     sets ! (addr ! (from ! (fld ! refl (hop ! (look_in_at ! 4 (sub ! 0 refl (whole !))) (stop !))))) refl (tt, tt) $
     sets ! (agg ! (and_then ! (get ! refl) (and_then ! (get_in ! (fld ! refl (stop !)) (sub ! 1 refl (whole !))) (no_more !)))) refl
     (tt, (tt, (record { fits = row_fits }, tt))) $
-    -- [the row; the iterator; the token of κw; what the draw says; the token of κT; how the plane ends; the plane's lender; the way back; the value; the
-    -- locals]
+    -- [the row; the iterator; the token of κw; what the draw says; the token of κT; how the plane ends; its lender; the way back; the value; the locals]
     calls_last ! (2 ∷ 4 ∷ 0 ∷ 8 ∷ []) run (fill.ended T clone dict) (fill.clauses T clone dict 𝓛 𝓜.mem 𝓡.returns)
     (fill_met.met 𝓤 𝓛 𝓜 𝓡 (code.calls-v_frame_held::held_rows::fill 𝓡.env wired) T laws copy clone dict met)
     (((κw, (κT, tt)), (qw, (rT, tt)), (inside, tt), (row, (value, tt)), (slice_of row ∷ [], (val value, tt))), tt) (asks_that 𝓤 inT) refl
