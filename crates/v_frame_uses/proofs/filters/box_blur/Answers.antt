@@ -7,16 +7,7 @@ use Rattle.v_frame_uses.proofs.filters.box_blur.Goals as goal
 
 same_means : (f g : ℕ → ℕ → Option ℕ) (x y : ℕ) → ((i j : ℕ) → i < x + 3 → j < y + 3 → f i j ≡ g i j) → mean_of_nine f x y ≡ mean_of_nine g x y
 same_means f g x y same =
-    let a = same x y (omega arith) (omega arith) in
-    let b = same (x + 1) y (omega arith) (omega arith) in
-    let c = same (x + 2) y (omega arith) (omega arith) in
-    let d = same x (y + 1) (omega arith) (omega arith) in
-    let e = same (x + 1) (y + 1) (omega arith) (omega arith) in
-    let h = same (x + 2) (y + 1) (omega arith) (omega arith) in
-    let i = same x (y + 2) (omega arith) (omega arith) in
-    let j = same (x + 1) (y + 2) (omega arith) (omega arith) in
-    let k = same (x + 2) (y + 2) (omega arith) (omega arith) in
-    cc
+    grind (arith, same)
 
 pub returns-clause-blurred : goal.returns-clause-blurred
 returns-clause-blurred c = λ x y across down.

@@ -1,6 +1,8 @@
 -- One more pixel is an average, and at the end all are.
 use Rattle.std.proofs.Common.{ℕ, zero, suc, ◌≡◌, ◌+◌, ◌/◌, ◌<◌, ◌≤◌, List, [], ◌∷◌, ◌++◌, length, take, drop, slice_index_or, slice_set, refl, ◌∙◌, ap, arith}
-use Rattle.v_frame_uses.specs.RowPairs.{averages}
+use Rattle.std.proofs.Common.{append-nil}
+use Rattle.std.proofs.{lemmas.List.drop_all, lemmas.List.length-map, lemmas.List.take_all, lemmas.Slice.Zip.length-zip}
+use Rattle.v_frame_uses.specs.{RowPairs.averages}
 use Rattle.v_frame_uses.proofs.row_pairs.mix.Goals as goal
 
 -- the averages of the first pixels, and the pixels behind them
@@ -16,13 +18,6 @@ mixed_more (p ∷ row) (q ∷ other) (suc x) d e h same =
     let next : suc x + 1 ≡ suc (x + 1) = omega arith in
     rw next (ap (λ r. (p + q) / 2 ∷ r) (mixed_more row other x d e (omega arith) (omega (arith, same))))
 
-mixed_all : (row other : List ℕ) (x : ℕ) → length row ≤ x → length row ≡ length other → mixed row other x ≡ averages row other
-mixed_all [] other zero h same = refl
-mixed_all [] other (suc x) h same = refl
-mixed_all (p ∷ row) [] x h same = absurd (omega (arith, same))
-mixed_all (p ∷ row) (q ∷ other) zero h same = absurd (omega arith)
-mixed_all (p ∷ row) (q ∷ other) (suc x) h same = ap (λ r. (p + q) / 2 ∷ r) (mixed_all row other x (omega arith) (omega (arith, same)))
-
 pub loop-x-preserved : goal.loop-x-preserved
 loop-x-preserved c =
     let x = c.loop-x.x in let row = c.args.row.now in let other = c.args.other.now in
@@ -30,4 +25,7 @@ loop-x-preserved c =
     mixed_more row other x 0 0 c.loop-x-test.true c.requires
 
 pub returns : goal.returns
-returns c = c.loop-x.invariant ∙ mixed_all c.args.row.now c.args.other.now c.loop-x.x c.loop-x-test.false c.requires
+returns c =
+    let row = c.args.row.now in let x = c.loop-x.x in let all = averages row c.args.other.now in
+    let short : length all ≤ x = simp (length-map, length-zip) (omega (arith, c.loop-x-test.false)) in
+    rw (c.loop-x.invariant, take_all x all short, drop_all x row c.loop-x-test.false) (append-nil all)
