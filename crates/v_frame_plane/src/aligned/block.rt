@@ -84,30 +84,20 @@ pub(super) fn take_room<T, A: Allocator>(
     ensures deed { IfOk result (λ r. (r.2.at ≡ r.0.ptr) × (r.2.len ≡ len) × (r.2.alloc ≡ alloc.now)) }
     ensures no_bytes { len * type_size T.row ≡ 0 → IsOk result }
 {
-    if len * size_of::<T>() == 0 {
-        let empty: [T; 0] = [];
-        let base = Base {
-            ptr: (&raw const empty) as *mut T,
-        };
-        return Ok((
-            base,
-            Cells { mark: PhantomData },
-            Deed { mark: PhantomData },
-        ));
-    }
-    match alloc.allocate(len * size_of::<T>(), align_of::<T>()) {
-        Ok(block) => {
-            let base = Base {
-                ptr: block as *mut T,
-            };
-            Ok((
-                base,
-                Cells { mark: PhantomData },
-                Deed { mark: PhantomData },
-            ))
+    let bytes = len * size_of::<T>();
+    let empty: [T; 0] = [];
+    let mut ptr = (&raw const empty) as *mut T;
+    if bytes != 0 {
+        match alloc.allocate(bytes, align_of::<T>()) {
+            Ok(block) => ptr = block as *mut T,
+            Err(refused) => return Err(refused),
         }
-        Err(refused) => Err(refused),
     }
+    Ok((
+        Base { ptr },
+        Cells { mark: PhantomData },
+        Deed { mark: PhantomData },
+    ))
 }
 
 /// Drops the entries, each once and from the first on, and gives the memory back.
@@ -129,9 +119,10 @@ pub(super) fn give_back<T: Drop, A: Allocator>(
         let _dropped = unsafe { base.ptr.add(place).read() };
         place += 1;
     }
-    if len * size_of::<T>() != 0 {
+    let bytes = len * size_of::<T>();
+    if bytes != 0 {
         unsafe {
-            alloc.deallocate(base.ptr as *mut u8, len * size_of::<T>(), align_of::<T>());
+            alloc.deallocate(base.ptr as *mut u8, bytes, align_of::<T>());
         }
     }
 }
