@@ -1,11 +1,10 @@
 -- `entry_mut` lends an entry of the slice that `as_mut_slice` lends. Rattle follows no loan of a loan, so this proof follows the code. Assumes `Logic`.
-use Rattle.v_frame_plane.proofs.lent.Steps.{◌≡◌, ◌<◌, List, [], ◌∷◌, length, ℕ, Some, list_drop, w64, refl, sym, ap, ◌∙◌, proved, id⊢, ◌⊑◌}
-use Rattle.v_frame_plane.proofs.lent.Steps.{fact, tables, Array, usize, yes, no, shows, param, layouts, uint_vals, uint_Tells, MutRef, mut_vals}
-use Rattle.v_frame_plane.proofs.lent.Steps.{mut_Tells, plain, MutSlice, nothing, peeks, heard, framed, Stays, stay_dropped}
-use Rattle.v_frame_plane.proofs.lent.Steps.{Goes-dropped, inst_fn, a_type, named, alloc_all, pass_all, free_all, look_at, get, through, sets, lands_as}
-use Rattle.v_frame_plane.proofs.lent.Steps.{‵, raw, ◌$◌, !, done, move, use2}
-use Rattle.v_frame_plane.proofs.lent.Steps.{rewrite, enter, addr, stop, no_more, and_then, returns, slice_get, slice_set, subst}
-use Rattle.v_frame_plane.proofs.lent.Steps.{length-set, refill, follows, follows_then, mut_Lawful, mut_slice_Lawful, Goes-spent_ref, says, sep, keep}
+use Rattle.v_frame_plane.proofs.lent.Steps.{◌≡◌, ◌<◌, List, [], ◌∷◌, length, ℕ, Some, list_drop, w64, refl, sym, ap, ◌∙◌, proved, id⊢, fact, tables, Array}
+use Rattle.v_frame_plane.proofs.lent.Steps.{usize, yes, no, shows, param, layouts, uint_vals, uint_Tells, MutRef, mut_vals, Valss, types_at, mut_Tells, plain}
+use Rattle.v_frame_plane.proofs.lent.Steps.{MutSlice, nothing, peeks, heard, framed, Stays, stay_dropped, Goes-dropped, inst_fn, a_type, named, alloc_all}
+use Rattle.v_frame_plane.proofs.lent.Steps.{pass_all, free_all, look_at, get, through, sets, lands_as, ‵, raw, ◌$◌, !, done, move, use2, rewrite, enter, addr}
+use Rattle.v_frame_plane.proofs.lent.Steps.{stop, no_more, and_then, returns, slice_get, slice_set, subst, length-set, refill, follows, follows_then}
+use Rattle.v_frame_plane.proofs.lent.Steps.{mut_Lawful, mut_slice_Lawful, Goes-spent_ref, says, keep}
 use Rattle.std.proofs.lemmas.List.{take_at}
 use Rattle.v_frame_plane.proofs.lent.CallSteps.{asks_both, asks_that, both_facts, calls, ends, opened_by}
 use Rattle.v_frame_plane.specs.contracts.aligned.AlignedData.{the_row}
@@ -29,13 +28,13 @@ entry_mut_spec 𝓤 𝓛 𝓜 𝓡 wired T laws =
     let En = entry_mut.ended T in let c = entry_mut.clauses T 𝓛 𝓜.mem 𝓡.returns in let Data = the_row R in
     let stayed : Stays En.signature.params En.kept = (stay_dropped _ no, (stay_dropped _ yes, tt)) in
     proved 𝓛 En stayed c 𝓜 𝓡 (Goes-spent_ref 𝓛 2 (0 ∷ []) tt (plain (λ _. Data)), (Goes-dropped 𝓛 2 (plain (λ _. usize)) yes (λ κs x w. refl), tt))
-    (entry_mut.Key.name inst) (inst_fn inst code.function) (code.unfolded 𝓤 𝓛.H 𝓜 𝓡 wired (T, tt))
-    (λ κs. (mut_vals, (uint_vals w64, tt))) (λ κs. (mut_Tells (named 0) κs.0 Data, (uint_Tells w64, tt))) (λ κs qs bounds a _ are.
-    let self = a.0 in let k = a.1.0 in let All = MutSlice (named 0) κs.0 R in let One = MutRef (named 0) κs.0 R in let A = κs.1.0 ⊑ T.lives in
-    opened_by 𝓛 En.signature κs qs a (mut_vals self, (uint_vals w64 k, tt)) (sep 𝓤 (fact 𝓤 A) (fact 𝓤 (k < length self.now))) (A × (k < length self.now))
-    (both_facts 𝓤 A (k < length self.now)) (λ asked.
-    enter ! _ _ _ _ _ $ alloc_all ! (λ l. pass_all ! refl ((tt, tt), ((tt, record { fits = are.1.0.1 }), tt)) $
-    sets ! (addr ! (through ! refl (stop !))) refl (tt, tt) $
+    (entry_mut.Key.name inst) (inst_fn inst code.function) (code.unfolded 𝓤 𝓛.H 𝓜 𝓡 wired (T, tt)) _
+    (λ κs. (mut_Tells (named 0) κs.0 Data, (uint_Tells w64, tt))) (λ κs qs bounds a g are.
+    let self = a.0 in let k = a.1.0 in let All = MutSlice (named 0) κs.0 R in let One = MutRef (named 0) κs.0 R in
+    let words : Valss (types_at En.signature.params κs) = (mut_vals self, (uint_vals w64 k, tt)) in
+    opened_by 𝓛 En.signature κs qs a words _ _ (both_facts 𝓤 _ _) (λ asked.
+    enter ! _ _ _ _ _ $ alloc_all ! (λ l. pass_all ! refl (_, ((tt, record { fits = are.1.0.1 }), tt)) $
+    sets ! (addr ! (through ! refl (stop !))) refl _ $
     -- [the tokens of the lifetimes; self; the place; the locals]
     calls ! (0 ∷ 1 ∷ 2 ∷ []) run (as_mut_slice.ended T) (as_mut_slice.clauses T 𝓛 𝓜.mem 𝓡.returns)
     (slice_met.met 𝓤 𝓛 𝓜 𝓡 (code.calls-v_frame_plane::aligned::AlignedData::as_mut_slice 𝓡.env wired) T laws)
@@ -56,5 +55,5 @@ entry_mut_spec 𝓤 𝓛 𝓜 𝓡 wired T laws =
     move ! (6 ∷ 1 ∷ []) $ use2 𝓛 (Ends (λ x. refill (length self.now) self.now (slice_set s.now k x)))
     (follows_then 𝓛 Data (Array R 0) R (refill (length self.now) self.now) (slice_set s.now k) self.ghost_name s.ghost_name r.ghost_name) $
     rewrite ! 0 Ends (same_length s.now self.now k same) refl $ keep ! (0 ∷ 1 ∷ 2 ∷ 3 ∷ []) $ nothing ! $ nothing ! $
-    ends ! (4 ∷ 5 ∷ 0 ∷ 1 ∷ 3 ∷ []) En stayed c ((κs, qs, bounds, a, (mut_vals self, (uint_vals w64 k, tt))), tt) v' r (tt, (tt, tt)) (tt, (tt, tt)) refl $
+    ends ! (4 ∷ 5 ∷ 0 ∷ 1 ∷ 3 ∷ []) En stayed c ((κs, qs, bounds, a, words), g) v' r _ _ refl $
     says ! (ap (λ (xs : List T.Denot). slice_get xs k) (sym same) ∙ value) $ done !)))))))))

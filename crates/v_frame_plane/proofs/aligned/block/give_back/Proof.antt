@@ -48,7 +48,8 @@ unfolding tables_of after_turn
 give_back_spec 𝓤 𝓛 𝓜 𝓡 wired X W X-laws W-laws g dz dx dd met dropped _ =
     let E : El = record { row = X; laws = X-laws } in let Z : Al = record { row = W; laws = W-laws; g = g; d = dz; drops = dd } in
     let rows : Rows.El = record { row = X; laws = X-laws } in let LR = param_laws 0 X X-laws in
-    let base_tells = base.lowers (R E) LR in let cells_tell = cells.lowers (R E) LR in let deed_tells = deed.lowers (R E) (P E Z) g LR (param_laws 1 W W-laws) in
+    let base_tells = base.lowers (R E) LR in let cells_tell = cells.lowers (R E) LR in
+    let deed_tells = deed.lowers (R E) (P E Z) g LR (param_laws 1 W W-laws) in
     let 𝓣 = tables 𝓤 𝓛.H 𝓜 𝓡 𝓡.env in let run = framed 𝓤 𝓛.H 𝓜 𝓣 in
     let En = F.ended X W g dz dx dd in let c = F.clauses X W g dz dx dd 𝓛 𝓜.mem 𝓡.returns in
     let inst : Args = bounded (a_type ∷ a_type ∷ []) (X, (W, tt)) (dcons dz (dcons dx (dcons dd dnil))) in let fn = inst_fn inst code.function in
@@ -77,8 +78,7 @@ give_back_spec 𝓤 𝓛 𝓜 𝓡 wired X W X-laws W-laws g dz dx dd met droppe
     let lives : κ₁ ⊑ X.lives = asked.0 in let of_cells = asked.1.1.0 in let of_deed = asked.1.1.1 in
     let all : written + spare ≡ len = of_cells.2 in let few : written < 2 ^ 64 = are.1.1.0.1 in let fits : len < 2 ^ 64 = are.1.1.1.0.1 in
     keep ! (7 ∷ 8 ∷ 3 ∷ 0 ∷ 1 ∷ 2 ∷ []) $ fsplit ! $ drop ! $ move ! (1 ∷ []) $ fsplit ! $ drop ! $ move ! (2 ∷ []) $ fsplit ! $ drop ! $
-    enter ! _ _ _ _ _ $ alloc_all ! (λ l. pass_all ! refl
-    ((tt, tt), (word-Good [] start, ((tt, record { fits = few }), ((tt, record { fits = fits }), ((tt, (tt, tt)), ((tt, (tt, tt)), tt)))))) $
+    enter ! _ _ _ _ _ $ alloc_all ! (λ l. pass_all ! refl (_, (word-Good [] start, ((tt, record { fits = few }), ((tt, record { fits = fits }), _)))) $
     -- [the handle; what the deed owns; what the cells own; the tokens of κ, κ₁ and κ₂; the locals]
     let Ev = env fn.locals l in let turn = inside (inside (head (after 1 fn.body))) in let rest = after 2 fn.body in
     sets ! (of_opd ! (lit ! tt)) refl (tt, record { fits = lit< tt }) $
@@ -103,18 +103,18 @@ give_back_spec 𝓤 𝓛 𝓜 𝓡 wired X W X-laws W-laws g dz dx dd met droppe
     let Turned : Left → After 𝓤 𝓛.H = λ t. any_q (after_turn 𝓤 𝓛.H (Below 𝓛 Fewer Now t) (after_block 𝓤 𝓛.H (after_seq 𝓤 𝓛.H
     (Wp 𝓤 𝓛.H 𝓣.C 𝓣.Λ Ev rest (at_return 𝓤 𝓛.H Ev Post)) (at_return 𝓤 𝓛.H Ev Post)))) in
     let exits : Sq 𝓛 (‵ (flft κ q) ∷ ‵ (flft κ₁ q₁) ∷ ‵ (flft κ₂ q₂) ∷ holding 𝓛 Ev []) (runs 𝓣.C 𝓣.Λ Ev (after 3 rest) (at_ret Ev Post)) =
-    sets ! (of_opd ! (unit_lit !)) refl (tt, tt) $ returns ! (look_at ! 0 refl) $ free_all ! refl $ feq_i ! (List Val) (vunit ∷ []) (vunit ∷ []) refl $
-    nothing ! $ nothing ! $ nothing ! $ nothing ! $ nothing ! $ nothing ! $ ends ! (7 ∷ 8 ∷ 9 ∷ 0 ∷ 1 ∷ 2 ∷ 3 ∷ 4 ∷ 5 ∷ 6 ∷ []) En stayed c y vunit tt
-    (tt, (tt, (tt, (tt, (tt, (tt, tt)))))) (tt, (tt, (tt, (tt, (tt, (tt, tt)))))) refl $ done ! in
+    sets ! (of_opd ! (unit_lit !)) refl _ $ returns ! (look_at ! 0 refl) $ free_all ! refl $
+    feq_i ! (List Val) (vunit ∷ []) (vunit ∷ []) refl $ nothing ! $ nothing ! $ nothing ! $ nothing ! $ nothing ! $ nothing ! $
+    ends ! (7 ∷ 8 ∷ 9 ∷ 0 ∷ 1 ∷ 2 ∷ 3 ∷ 4 ∷ 5 ∷ 6 ∷ []) En stayed c y vunit tt _ _ refl $ done ! in
     first ! $ blocks ! $ loops ! (tables_of 𝓤 𝓛.H 𝓜 𝓣) Fewer (InvImage.wf (λ (t : Left). length t.1) lt-wf_rel.wf) Now (λ t. let i = t.0 in
-    sets ! (bin ! (get ! refl) (get ! refl) tt) refl (tt, tt) $ first ! $ branches ! (get ! refl)
+    sets ! (bin ! (get ! refl) (get ! refl) tt) refl _ $ first ! $ branches ! (get ! refl)
     -- the next entry is dropped
     (λ less. let more : i < written = ltb→lt i written less in let next = first_of t.1 (omega (arith, t.2)) in let x = next.0 in let xs = next.1 in
     let left : suc i + length xs ≡ written = omega (arith, t.2, ap length next.2) in
     let far : i * s < 2 ^ 64 = times_below i len s (2 ^ 64) (omega arith) bytes in
     skips ! $ exec ! 𝓣.C 𝓣.Λ Ev (after 2 turn) (Turned t) $ first ! $ blocks ! $
     sets ! (counted ! i far (get ! refl)) refl (tt, record { fits = far }) $
-    sets ! (bin ! (get_in ! (fld ! refl (stop !)) (sub ! 0 refl (whole !))) (get ! refl) tt) refl (tt, tt) $
+    sets ! (bin ! (get_in ! (fld ! refl (stop !)) (sub ! 0 refl (whole !))) (get ! refl) tt) refl _ $
     rewrite ! 0 (λ (ys : List X.Denot). ‵ (entries_at (R E) b (i * s + o) ys)) next.2 refl $ fsplit ! $
     use1 𝓛 (some (λ (v : Val). given (Rows.Good rows v) (‵ (fat full_share (elτ E) b (i * s + o) v) ⊛ ‵ (X.own_val x (v ∷ [])))))
     (el_out rows 𝓛 full_share x b (i * s + o)) $ pick ! (λ v. learn ! (λ good. split ! $
@@ -133,8 +133,8 @@ give_back_spec 𝓤 𝓛 𝓜 𝓡 wired X W X-laws W-laws g dz dx dd met droppe
     rewrite ! 0 (λ (k : ℕ). ‵ (froom (ty_array (elτ E) k) b o)) {x = written} (omega (arith, t.2)) refl $
     use2 𝓛 (‵ (froom (ty_array (elτ E) len) b o)) (room_joined E 𝓛 written spare len b o all) $
     sets ! (counted ! len bytes (get ! refl)) refl (tt, record { fits = bytes }) $
-    sets ! (bin ! (get ! refl) (lit ! tt) tt) refl (tt, tt) $ first ! $ branches ! (get ! refl)
-    (λ some. blocks ! $ sets ! (of_opd ! (get_in ! (fld ! refl (stop !)) (sub ! 0 refl (whole !)))) refl (tt, tt) $
+    sets ! (bin ! (get ! refl) (lit ! tt) tt) refl _ $ first ! $ branches ! (get ! refl)
+    (λ some. blocks ! $ sets ! (of_opd ! (get_in ! (fld ! refl (stop !)) (sub ! 0 refl (whole !)))) refl _ $
     as_raw ! (ty_array (elτ E) len) b o $ rewrite ! 1 Token (is_false _ some) refl $ group ! 4 $
     let al = capped (align (elτ E)) in let τ = block_ty E len in let x = at_gives Z 𝓛 𝓜.mem 𝓡.returns κ q at h b o (len * s) al τ in
     use1 𝓛 (raw ((Gives Z 𝓛 𝓜.mem 𝓡.returns).pre x)) (Gives-goes Z 𝓛 𝓜.mem 𝓡.returns κ q at h (Incl-trans bounds.0 asked.1.0) b o (len * s) al τ

@@ -83,7 +83,8 @@ take_room_spec 𝓤 𝓛 𝓜 𝓡 wired X W X-laws W-laws g d dd met _ =
     let y : (walk_of 𝓛 En stayed c).Ghost = ((κs, qs, bounds, a, words), gh) in let Post : Val → SProp 𝓤 = (walk_of 𝓛 En stayed c).post y in
     opened_by 𝓛 En.signature κs qs a words _ _ (one_more_fact 𝓤 _ (both_facts 𝓤 _ _)) (λ asked.
     let small : len * s < 2 ^ 63 = asked.1.1.0 in let bytes : len * s < 2 ^ 64 = omega arith in
-    keep ! (3 ∷ 0 ∷ 1 ∷ 2 ∷ []) $ fsplit ! $ drop ! $ enter ! _ _ _ _ _ $ alloc_all ! (λ l. pass_all ! refl ((tt, tt), ((tt, record { fits = are.1.0.1 }), tt)) $
+    keep ! (3 ∷ 0 ∷ 1 ∷ 2 ∷ []) $ fsplit ! $ drop ! $
+    enter ! _ _ _ _ _ $ alloc_all ! (λ l. pass_all ! refl (_, ((tt, record { fits = are.1.0.1 }), tt)) $
     let Ev = env fn.locals l in let rest = after 5 fn.body in let answered = after 1 (held (head (after 4 fn.body))) in
     let Then = any_q (after_seq 𝓤 𝓛.H (Wp 𝓤 𝓛.H 𝓣.C 𝓣.Λ Ev rest (at_return 𝓤 𝓛.H Ev Post)) (at_return 𝓤 𝓛.H Ev Post)) in
     -- what the deed owns, where the test whether the entries take no bytes gives `none`
@@ -93,20 +94,19 @@ take_room_spec 𝓤 𝓛 𝓜 𝓡 wired X W X-laws W-laws g d dd met _ =
     ∷ holding 𝓛 Ev ((5, vptr b o) ∷ [])) (runs 𝓣.C 𝓣.Λ Ev rest (at_ret Ev Post)) = λ b o.
     let v = live 0 (vcons (parts_val E Z b o) vnil) in
     sets ! (agg ! (and_then ! (get ! refl) (no_more !))) refl (word-Good [] (block_ptr b o)) $
-    sets ! (agg ! (no_more !)) refl (tt, tt) $ sets ! (agg ! (and_then ! (get ! refl) (no_more !))) refl (tt, (tt, tt)) $
-    sets ! (agg ! (no_more !)) refl (tt, tt) $ sets ! (agg ! (and_then ! (get ! refl) (no_more !))) refl (tt, (tt, tt)) $
-    sets ! (agg ! (and_then ! (get ! refl) (and_then ! (get ! refl) (and_then ! (get ! refl) (no_more !))))) refl
-    (tt, ((tt, tt), ((tt, tt), ((tt, tt), tt)))) $
+    sets ! (agg ! (no_more !)) refl _ $ sets ! (agg ! (and_then ! (get ! refl) (no_more !))) refl _ $
+    sets ! (agg ! (no_more !)) refl _ $ sets ! (agg ! (and_then ! (get ! refl) (no_more !))) refl _ $
+    sets ! (agg ! (and_then ! (get ! refl) (and_then ! (get ! refl) (and_then ! (get ! refl) (no_more !))))) refl _ $
     sets ! (agg ! (and_then ! (lit ! tt) (and_then ! (get ! refl) (no_more !)))) refl
-    (tt, (record { fits = lit< tt }, (((tt, tt), ((tt, tt), ((tt, tt), tt))), tt))) $
+    (tt, (record { fits = lit< tt }, _)) $
     use2 𝓛 (‵ ((Out E Z).own_val (Ok (made E Z b o len h)) (v ∷ []))) (parts_made E Z 𝓛 b o len h small) $
     returns ! (look_at ! 0 refl) $ free_all ! refl $ nothing ! $ nothing ! $
     ends ! (3 ∷ 4 ∷ 5 ∷ 0 ∷ 1 ∷ 2 ∷ []) En stayed c y v (Ok (made E Z b o len h)) (tt, (tt, tt)) (tt, (tt, tt)) refl $
     tells ! (refl, refl, refl) $ tells ! (refl, refl, refl) $ told ! (λ _. refl) in
     -- [the handle; the tokens of κ, of the entries and of the allocator; the locals]
     sets ! (counted ! len bytes (get ! refl)) refl (tt, record { fits = bytes }) $
-    sets ! (agg ! (no_more !)) refl (tt, tt) $ sets ! (addr ! (from ! (stop !))) refl (tt, tt) $
-    sets ! (bin ! (get ! refl) (lit ! tt) tt) refl (tt, tt) $ first ! $ branches ! (get ! refl)
+    sets ! (agg ! (no_more !)) refl _ $ sets ! (addr ! (from ! (stop !))) refl _ $
+    sets ! (bin ! (get ! refl) (lit ! tt) tt) refl _ $ first ! $ branches ! (get ! refl)
     (λ some. let al = capped (align (elτ E)) in let τ = block_ty E len in let x = at_takes Z 𝓛 𝓜.mem 𝓡.returns κ q at h (len * s) al τ in
     use2 𝓛 (raw ((Takes Z 𝓛 𝓜.mem 𝓡.returns).pre x)) (Takes-goes Z 𝓛 𝓜.mem 𝓡.returns κ q at h (Incl-trans bounds.0 asked.1.0) (len * s) al τ
     (block_size E len bytes) (block_align E len) bytes (capped_fits (align (elτ E)))) $
@@ -116,14 +116,14 @@ take_room_spec 𝓤 𝓛 𝓜 𝓡 wired X W X-laws W-laws g d dd met _ =
     await ! tt $ split ! $ answers Z ! 𝓜.mem 𝓡.returns h τ v
     (λ b o given. lands_as ! given refl (Answer-typed true b o) $
     switches_on ! (get_tag ! (vrt ! refl (fld ! refl (stop !))) (whole !)) $ exec ! 𝓣.C 𝓣.Λ Ev (arm_body 0 answered) Then $
-    sets ! (of_opd ! (get_in ! (vrt ! refl (fld ! refl (stop !))) (in_variant ! 0 0 refl refl (whole !)))) refl (tt, tt) $
-    sets_last ! (of_opd ! (get ! refl)) refl (tt, tt) $ exec ! 𝓣.C 𝓣.Λ Ev rest (at_ret Ev Post) $
+    sets ! (of_opd ! (get_in ! (vrt ! refl (fld ! refl (stop !))) (in_variant ! 0 0 refl refl (whole !)))) refl _ $
+    sets_last ! (of_opd ! (get ! refl)) refl _ $ exec ! 𝓣.C 𝓣.Λ Ev rest (at_ret Ev Post) $
     rewrite ! 1 (Token b o) (sym (is_false _ some)) refl $ forget_but ! Ev (5 ∷ []) refl $ tail b o)
     (λ refused. lands_as ! refused refl (Answer-typed false 0 0) $
     let Refusal : RattleType = Struct (shape AE.the_type) in let v : Val = live 1 (vcons (vstruct vnil) vnil) in
     switches_on ! (get_tag ! (vrt ! refl (fld ! refl (stop !))) (whole !)) $ exec ! 𝓣.C 𝓣.Λ Ev (arm_body 1 answered) Then $
-    sets ! (of_opd ! (get_in ! (vrt ! refl (fld ! refl (stop !))) (in_variant ! 1 0 refl refl (whole !)))) refl (tt, tt) $
-    sets ! (agg ! (and_then ! (lit ! tt) (and_then ! (get ! refl) (no_more !)))) refl (tt, (record { fits = lit< tt }, (tt, tt))) $
+    sets ! (of_opd ! (get_in ! (vrt ! refl (fld ! refl (stop !))) (in_variant ! 1 0 refl refl (whole !)))) refl _ $
+    sets ! (agg ! (and_then ! (lit ! tt) (and_then ! (get ! refl) (no_more !)))) refl (tt, (record { fits = lit< tt }, _)) $
     returns_within ! Post refl (look_at ! 0 refl) $ free_all ! refl $
     owned ! Refusal (Is Refusal) (Struct-Makes 𝓛 (shape AE.the_type) tt) tt (vstruct vnil ∷ []) (tt, (refl, tt)) $
     use1 𝓛 (‵ ((Out E Z).own_val (Err (record {})) (v ∷ []))) (err_of 𝓛 (Three E Z) AE.the_row (record {}) (vstruct vnil)) $

@@ -1,14 +1,14 @@
 -- `slice_mut` lends a part of the entries as a slice, and the cells end with what that shows last in the part's place. Assumes `Logic`.
 use Rattle.v_frame_plane.proofs.lent.Steps.{◌≡◌, refl, sym, ap, ◌∙◌, ℕ, ◌+◌, ◌-◌, ◌*◌, ◌^◌, ◌<◌, ◌≤◌, arith, List, [], ◌∷◌, length, take, list_drop as drop}
-use Rattle.v_frame_plane.proofs.lent.Steps.{length-drop, a_type, named, w64, inst_fn, vint, vptr, id⊢, fsep, fat, ftrue, flft, full_share, fact, ◌⊑◌, tables}
-use Rattle.v_frame_plane.proofs.lent.Steps.{Item, ‵, raw, ◌⊛◌, some, later, at_ret, ◌$◌, ◌∵◌, !, qed, move, keep, split, split3, join, group, pick, await, use1}
-use Rattle.v_frame_plane.proofs.lent.Steps.{fsplit, fsplit3, fjoin, rewrite, suffices, frame, done, sem, whole, sub, agg, stop, fld, of_opd, bin, and_then}
-use Rattle.v_frame_plane.proofs.lent.Steps.{no_more, first, exec, returns, enter, alloc_all, pass_all, free_all, look_at, get, get_in, sets, env, Array, usize}
-use Rattle.v_frame_plane.proofs.lent.Steps.{yes, no, mem, param, layouts, param_laws, uint_vals, uint_Tells, Valss, MutBor, mut_vals, mut_Tells, plain}
-use Rattle.v_frame_plane.proofs.lent.Steps.{MutSlice, slice_val, heard, nothing, opens, Stays, walk_of, ends_at, stay_dropped, Goes-dropped, after, proved}
-use Rattle.v_frame_plane.proofs.lent.Steps.{subst, Fits, never, GName, at_mul, flt_l, cells, size_word, blocks, sets_last, take_at, give_at, is, RefMutOf}
-use Rattle.v_frame_plane.proofs.lent.Steps.{follows, layout, owns, Ptr, in_a_block, types_at, says, Goes-spent_ref, times_below, uncapped, capped, type_size}
-use Rattle.v_frame_plane.proofs.lent.Steps.{word, word-Good}
+use Rattle.v_frame_plane.proofs.lent.Steps.{length-drop, a_type, named, w64, inst_fn, vptr, id⊢, fat, flft, full_share, tables, Item, ‵, ◌⊛◌, some, later}
+use Rattle.v_frame_plane.proofs.lent.Steps.{at_ret, ◌$◌, !, move, keep, split, split3, group, pick, await, use1, fsplit, fsplit3, rewrite, done, sem, whole}
+use Rattle.v_frame_plane.proofs.lent.Steps.{sub, agg, stop, fld, of_opd, bin, and_then, no_more, first, exec, returns, enter, alloc_all, pass_all, free_all}
+use Rattle.v_frame_plane.proofs.lent.Steps.{look_at, get, get_in, sets, env, Array, usize, yes, no, mem, param, layouts, param_laws, uint_vals, uint_Tells}
+use Rattle.v_frame_plane.proofs.lent.Steps.{Valss, MutBor, mut_vals, mut_Tells, plain, MutSlice, slice_val, nothing, opens, Stays, walk_of, stay_dropped}
+use Rattle.v_frame_plane.proofs.lent.Steps.{Goes-dropped, after, proved, never, GName, at_mul, flt_l, cells, blocks, sets_last, take_at, give_at, is, follows}
+use Rattle.v_frame_plane.proofs.lent.Steps.{layout, Ptr, in_a_block, types_at, says, Goes-spent_ref, times_below, type_size, word, word-Good}
+use Rattle.v_frame_plane.proofs.lent.CallSteps.{both_facts, ends, opened_by}
+use Rattle.v_frame_plane.proofs.block.BlockRooms.{one_more_fact, counted}
 use borrow.Table.Elements.{length-take-le}
 use denote.FollowSlice.{lends_Elements}
 use Rattle.v_frame_plane.specs.Block.{cells_own}
@@ -17,49 +17,45 @@ use Rattle.v_frame_plane.specs.contracts.aligned.block.Cells.{the_row as Cells}
 use Rattle.v_frame_plane.specs.contracts.aligned.block.Cells.slice_mut.{ended, clauses}
 use Rattle.v_frame_plane.specs.contracts.aligned.block.Cells.slice_mut.Key.{name as #self}
 use Rattle.v_frame_plane.proofs.block.BlockParts as parts
-use Rattle.v_frame_plane.proofs.aligned.block.Base.TheLaws.{lowered, lowers}
+use Rattle.v_frame_plane.proofs.aligned.block.Base.TheLaws.{lowers}
 use Rattle.v_frame_plane.proofs.aligned.block.Cells.slice_mut.Statement.{statement}
 use Rattle.v_frame_plane.proofs.aligned.block.Cells.slice_mut.Code as code
 
 pub slice_mut_spec : {M : Type 1} → statement M
 slice_mut_spec 𝓤 𝓛 𝓜 𝓡 wired T L =
-    let R = param 0 T in let LR = param_laws 0 T L in let 𝓣 = tables 𝓤 𝓛.H 𝓜 𝓡 𝓡.env in
-    let En = ended T in let c = clauses T 𝓛 𝓜.mem 𝓡.returns in
-    let inst = layouts (a_type ∷ []) (T, tt) in let fn = inst_fn inst code.function in
-    let self = RefMutOf (0 ∷ []) tt (plain (λ _. Cells R)) (λ _. tt) in let base = plain (λ _. Base R) in let number = plain (λ _. usize) in
-    let stayed : Stays En.signature.params En.kept = (stay_dropped self no, (stay_dropped base no, (stay_dropped number yes, (stay_dropped number yes, tt)))) in
-    let gone = Goes-dropped 𝓛 2 number yes (λ κs x w. refl) in
-    proved 𝓛 En stayed c 𝓜 𝓡 (Goes-spent_ref 𝓛 2 (0 ∷ []) tt (plain (λ _. Cells R)), (Goes-dropped 𝓛 2 base no (λ κs x w. refl), (gone, (gone, tt))))
-    (#self inst) fn (code.unfolded 𝓤 𝓛.H 𝓜 𝓡 wired (T, tt))
-    (λ κs. (mut_vals, ((λ d. lowered R LR d ∷ []), (uint_vals w64, (uint_vals w64, tt)))))
-    (λ κs. (mut_Tells (named 0) κs.0 (Cells R), ((lowers R LR).val_is, (uint_Tells w64, (uint_Tells w64, tt)))))
-    (λ κs qs bounds a _ are.
-    let d = a.0.now in let xs = d.items in let start = a.1.1.0 in let end = a.1.1.1.0 in let n = end - start in let s = type_size R in
+    let R = param 0 T in let base_at = lowers R (param_laws 0 T L) in let s = type_size R in let 𝓣 = tables 𝓤 𝓛.H 𝓜 𝓡 𝓡.env in
+    let En = ended T in let c = clauses T 𝓛 𝓜.mem 𝓡.returns in let inst = layouts (a_type ∷ []) (T, tt) in let fn = inst_fn inst code.function in
+    let stayed : Stays En.signature.params En.kept = (stay_dropped _ no, (stay_dropped _ no, (stay_dropped _ yes, (stay_dropped _ yes, tt)))) in
+    let gone = Goes-dropped 𝓛 2 (plain (λ _. usize)) yes (λ κs x w. refl) in
+    proved 𝓛 En stayed c 𝓜 𝓡 (
+      Goes-spent_ref 𝓛 2 (0 ∷ []) tt (plain (λ _. Cells R)),
+      (Goes-dropped 𝓛 2 (plain (λ _. Base R)) no (λ κs x w. refl), (gone, (gone, tt))),
+    )
+    (#self inst) fn (code.unfolded 𝓤 𝓛.H 𝓜 𝓡 wired (T, tt)) _
+    (λ κs. (mut_Tells (named 0) κs.0 (Cells R), (base_at.val_is, (uint_Tells w64, (uint_Tells w64, tt))))) (λ κs qs bounds a gh are.
+    let d = a.0.now in let xs = d.items in let start = a.1.1.0 in let end = a.1.1.1.0 in let n = end - start in
     let rb = a.0.ref_ptr.0 in let ro = a.0.ref_ptr.1 in let γ = a.0.ghost_name in let κ = κs.0 in let q = qs.0 in
-    let words : Valss (types_at En.signature.params κs) = (mut_vals a.0, (lowered R LR a.1.0 ∷ [], (uint_vals w64 start, (uint_vals w64 end, tt)))) in
-    let y : (walk_of 𝓛 En stayed c).Ghost = ((κs, qs, bounds, a, words), tt) in
+    let words : Valss (types_at En.signature.params κs) = (mut_vals a.0, (base_at.lowered a.1.0 ∷ [], (uint_vals w64 start, (uint_vals w64 end, tt)))) in
+    let y : (walk_of 𝓛 En stayed c).Ghost = ((κs, qs, bounds, a, words), gh) in
     let start_fits : start < 2 ^ 64 = are.1.1.0.1 in let end_fits : end < 2 ^ 64 = are.1.1.1.0.1 in
-    qed 𝓛 (((‵ (flft κ q) ⊛ ‵ (fsep (flft κs.1.0 qs.1.0) ftrue)) ⊛ ‵ (owns (types_at En.signature.params κs) a words)) ∷
-    raw (fact 𝓤 (κs.1.0 ⊑ T.lives)) ∷ (raw (fact 𝓤 (a.1.0.ptr ≡ d.at)) ⊛ raw (fact 𝓤 (start ≤ end)) ⊛ raw (fact 𝓤 (end ≤ length xs))) ∷ []) ∵
-    move ! (2 ∷ []) $ split3 ! $ heard ! _ (λ here. heard ! _ (λ ordered. heard ! _ (λ inside.
-    split ! $ split ! $ move ! (2 ∷ []) $ fsplit ! $ fsplit3 ! $ keep ! (1 ∷ 2 ∷ 4 ∷ 5 ∷ []) $
-    enter ! _ _ _ _ _ $ alloc_all ! (λ l.
-    pass_all ! refl ((tt, tt), (word-Good [] a.1.0.ptr, ((tt, record { fits = start_fits }), ((tt, record { fits = end_fits }), tt)))) $
-    -- [what the name is seen at; the borrow; the token of κ; the other tokens; the locals]
+    opened_by 𝓛 En.signature κs qs a words _ _ (one_more_fact 𝓤 _ (one_more_fact 𝓤 _ (both_facts 𝓤 _ _))) (λ asked.
+    let here : a.1.0.ptr ≡ d.at = asked.1.0 in let ordered : start ≤ end = asked.1.1.0 in let inside : end ≤ length xs = asked.1.1.1 in
+    move ! (2 ∷ []) $ fsplit3 ! $ keep ! (1 ∷ 2 ∷ 3 ∷ 4 ∷ []) $
+    enter ! _ _ _ _ _ $
+    alloc_all ! (λ l. pass_all ! refl (_, (word-Good [] a.1.0.ptr, ((tt, record { fits = start_fits }), ((tt, record { fits = end_fits }), tt)))) $
+    -- [what the name is seen at; the borrow; the tokens of κ and of the entries; the locals]
     opens ! tt (Cells R) {h = d} rb ro (λ vs. move ! (1 ∷ []) $ fsplit ! $ move ! (1 ∷ []) $
     in_a_block ! d.at (λ p. cells_own R p xs d.spare) (id⊢ 𝓤 (never 𝓤)) (λ b o e. fsplit ! $ flt_l ! (λ small. fsplit ! $
-    -- [the entries; the room; the marker; its cell; the three parts of the borrow, which is open; the other tokens; the locals]
+    -- [the entries; the room; the marker; its cell; the three parts of the borrow, which is open; the other token; the locals]
     let part = take n (drop start xs) in let at = parts.from R d start o in
     let within : start + n ≤ length xs = omega (arith, ordered, inside) in
     let count : length part ≡ n = length-take-le n (drop start xs) (omega (arith, within, length-drop start xs)) in
     let far : start * s < 2 ^ 64 = omega (arith, times_below start (length xs + d.spare) s (2 ^ 63) (omega (arith, within)) small) in
-    let scaled : Fits w64 (start * capped s) = record { fits = subst (λ k. k < 2 ^ 64) (sym (uncapped start s far)) far } in
-    let front : start ≡ length (take start xs) = sym (length-take-le start xs (omega (arith, within))) in
-    let there : start * s + o ≡ at = ap (λ k. k * s + o) front ∙ sym (at_mul o s (length (take start xs))) in
+    let there : start * s + o ≡ at =
+    ap (λ k. k * s + o) (sym (length-take-le start xs (omega (arith, within)))) ∙ sym (at_mul o s (length (take start xs))) in
     take_at ! 2 $ rewrite ! 0 (λ (p : Ptr). ‵ (fat full_share (layout (Base R)) (l 2) 0 (word p))) (here ∙ e) refl $ give_at ! 2 $
-    first ! $ blocks ! $
-    sets ! (is ! (bin ! (get ! refl) (size_word !) scaled) (ap (vint w64) (uncapped start s far))) refl (tt, record { fits = far }) $
-    sets ! (is ! (bin ! (get_in ! (fld ! refl (stop !)) (sub ! 0 refl (whole !))) (get ! refl) tt) (ap (vptr b) there)) refl (tt, tt) $
+    first ! $ blocks ! $ sets ! (counted ! start far (get ! refl)) refl (tt, record { fits = far }) $
+    sets ! (is ! (bin ! (get_in ! (fld ! refl (stop !)) (sub ! 0 refl (whole !))) (get ! refl) tt) (ap (vptr b) there)) refl _ $
     sets ! (bin ! (get ! refl) (get ! refl) ordered) refl (tt, record { fits = omega (arith, end_fits) }) $
     sets_last ! (agg ! (and_then ! (get ! refl) (and_then ! (get ! refl) (no_more !)))) refl (tt, (tt, (record { fits = omega (arith, end_fits) }, tt))) $
     exec ! 𝓣.C 𝓣.Λ (env fn.locals l) (after 1 fn.body) (at_ret _ ((walk_of 𝓛 En stayed c).post y)) $
@@ -74,8 +70,7 @@ slice_mut_spec 𝓤 𝓛 𝓜 𝓡 wired T L =
     use1 𝓛 (later (some (λ (δ : GName). Lent δ (length part))))
     (lends_Elements 𝓛 (Cells R) R F (named 0) κ q rb ro b at γ part (omega (arith, count, end_fits), bytes) around
     (λ ws same. parts.part_in R d start b o n 𝓛 vs rb ro e small within ws (same ∙ count)) code code) $ await ! tt $ pick ! (λ δ.
-    rewrite ! 0 (Lent δ) count refl $ returns ! (look_at ! 0 refl) $ free_all ! refl $ keep ! (0 ∷ 1 ∷ []) $ split3 ! $
-    -- [the slice; the token of κ; how the cells follow its last list; the other tokens]
-    suffices ! _ (ends_at 𝓛 En stayed c y (slice_val (b, at) n) (slice δ) (tt, (tt, (tt, (tt, tt)))) (tt, (tt, (tt, (tt, tt))))) $
-    move ! (1 ∷ 3 ∷ []) $ join ! $ nothing ! $ nothing ! $ fjoin ! $ nothing ! $ fjoin ! $ nothing ! $ fjoin ! $ nothing ! $ fjoin ! $
-    move ! (1 ∷ 0 ∷ 2 ∷ []) $ group ! 3 $ frame ! $ says ! refl $ done !)))))))))
+    rewrite ! 0 (Lent δ) count refl $ returns ! (look_at ! 0 refl) $ free_all ! refl $ split3 ! $
+    -- [the slice; the token of κ; how the cells follow its last list; the other token]
+    nothing ! $ nothing ! $ nothing ! $ nothing ! $
+    ends ! (5 ∷ 7 ∷ 0 ∷ 1 ∷ 2 ∷ 3 ∷ 4 ∷ 6 ∷ []) En stayed c y (slice_val (b, at) n) (slice δ) _ _ refl $ says ! refl $ done !)))))))

@@ -1,11 +1,13 @@
 -- One more entry is written, and there is room for one fewer.
-use Rattle.std.proofs.Common.{◌+◌, ◌<◌, length, sym, ◌∙◌, ap, arith}
+use Rattle.std.proofs.Common.{◌+◌, length, sym, ◌∙◌, ap, arith}
 use Rattle.std.proofs.lemmas.List.{length_push}
 use Rattle.v_frame_plane.specs.Filling.{Filled}
 use Rattle.v_frame_plane.proofs.aligned.filling.Filling.push.Goals as goal
 
 pub write_next-requires : goal.write_next-requires
-write_next-requires g c = (sym c.self.invariant.begins, c.self.invariant.items, omega (arith, c.requires, ap (λ (f : Filled g.row.T.Denot). f.spare) c.self.view_is))
+write_next-requires g c =
+    let room = ap (λ (f : Filled g.row.T.Denot). f.spare) c.self.view_is in
+    (sym c.self.invariant.begins, c.self.invariant.items, omega (arith, c.requires, room))
 
 pub invariant_of-self : goal.invariant_of-self
 invariant_of-self g c =
