@@ -1,16 +1,20 @@
 -- A call of `split_at_mut`, for a proof by hand. Assumes `Logic`.
---     cuts        the slice goes to the call.        cut     its two parts, and that it ends as they do
---     slice_fits, slices_fit     what code stores is well typed
---     dropped      a part that is not used ends as it is.        ends_joined     from what both parts end as, what the slice does
+--     splits       the slice goes to the call, and ends as its two parts do.        pointer_on, slice_on     a part is lent on
+--     slice_fits, slices_fit, word_fits     what code stores is well typed.        dropped, lets_go      a part that is not used ends as it is
+--     ends_joined, joins     from what both parts end as, what the slice does.        both_end     that it ends as both parts say
 use Rattle.v_frame_plane.proofs.lent.Steps.{ℕ, ◌≡◌, ◌+◌, ◌^◌, ◌<◌, ◌≤◌, List, [], ◌∷◌, ◌++◌, length, take, list_drop, w64, MutBor, refl, ap, ◌∙◌, Lft, Share}
-use Rattle.v_frame_plane.proofs.lent.Steps.{flft, SProp, id⊢, ◌⊑◌, Fun, fact, Array, usize, shows, param, uint_vals, uint_Makes, RattleType}
-use Rattle.v_frame_plane.proofs.lent.Steps.{MutSlice, slice_val, heard, only, owned, peeks, triple_of, Contract, named, Val, of_list}
-use Rattle.v_frame_plane.proofs.lent.Steps.{vcons, vnil, vstruct, Memory, Routine, Ura, Item, Seq, ‵, raw, ◌$◌, drop, feq_l}
-use Rattle.v_frame_plane.proofs.lent.Steps.{fpick, fsplit, move, rewrite, use1, Logic, ent, sep, fobs, ◌∵◌, !, qed, done, keep}
-use Rattle.v_frame_plane.proofs.lent.Steps.{fsplit3, sem, Fml, both_by, follows_both, vint, vptr, Ty, erased, mut, slice_ty, tcons, tnil}
-use Rattle.v_frame_plane.proofs.lent.Steps.{ty_param, ty_ref, ty_struct, SameBelow, TailFrom, Triple, T, Callee, Place, Opd as Operand, call, seq, Lifetime, WT}
-use Rattle.v_frame_plane.proofs.lent.Steps.{has_ty, Calls, Env, Loops, FmC, Post, lands, regoal, runs, Opds}
+use Rattle.v_frame_plane.proofs.lent.Steps.{flft, SProp, id⊢, ◌⊑◌, Fun, fact, Array, usize, shows, param, uint_vals, uint_Makes, RattleType, MutSlice}
+use Rattle.v_frame_plane.proofs.lent.Steps.{slice_val, heard, only, owned, peeks, triple_of, Contract, named, Val, of_list, vcons, vnil, vstruct, Memory}
+use Rattle.v_frame_plane.proofs.lent.Steps.{Routine, Ura, Item, Seq, ‵, raw, ◌$◌, drop, feq_l, fpick, fsplit, move, rewrite, use1, Logic, ent, sep, fobs, ◌∵◌}
+use Rattle.v_frame_plane.proofs.lent.Steps.{ !, qed, done, keep, fsplit3, sem, Fml, both_by, follows_both, vint, vptr, Ty, ty_int, erased, mut, slice_ty, tcons}
+use Rattle.v_frame_plane.proofs.lent.Steps.{tnil, ty_param, ty_ref, ty_struct, SameBelow, TailFrom, Triple, T, Callee, Place, Opd as Operand, call, seq}
+use Rattle.v_frame_plane.proofs.lent.Steps.{Lifetime, WT, has_ty, Calls, Env, Loops, FmC, Post, lands, regoal, runs, Opds, Part as Has, Rv, zero, addr_of}
+use Rattle.v_frame_plane.proofs.lent.Steps.{aggregate, place, field, deref, copy, addr, agg, and_then, at, fld, from, hop, fat, get, get_in, look_in_at}
+use Rattle.v_frame_plane.proofs.lent.Steps.{no_more, stop, sub, GName, Goal, Step, ◌⊛◌, prop, split, each, assume, use3, wand}
+use mathlib.Core.Option.{some}
 use mir.Syntax.{Body}
+use prog.Memory.{field_of}
+use prog.Wp.{spot_of}
 use denote.FollowSlice.{heres_id}
 use Rattle.core.specs.contracts.slice.slice+T.split_at_mut
 use Rattle.v_frame_plane.specs.SecondRows.{EndsAs}
@@ -27,6 +31,9 @@ Part = slice_ty (ty_ref erased mut (ty_param 0))
 pub slice_fits : {n : ℕ} → n < 2 ^ 64 → T (has_ty Part (At n)) × WT (At n)
 slice_fits fits = (tt, (tt, (record { fits = fits }, tt)))
 
+pub word_fits : {n : ℕ} → n < 2 ^ 64 → T (has_ty (ty_int w64) (vint w64 n)) × WT (vint w64 n)
+word_fits fits = (tt, record { fits = fits })
+
 pub slices_fit : {n k : ℕ} → n < 2 ^ 64 → k < 2 ^ 64 → let v = vstruct (vcons (At n) (vcons (At k) vnil)) in
     T (has_ty (ty_struct [] (tcons Part (tcons Part tnil))) v) × WT v
 slices_fit one two = (tt, ((tt, (record { fits = one }, tt)), ((tt, (record { fits = two }, tt)), tt)))
@@ -34,6 +41,17 @@ slices_fit one two = (tt, ((tt, (record { fits = one }, tt)), ((tt, (record { fi
 -- the whole ends as its front and its back do, joined
 abbrev pub Joins : (T : RattleType) → (whole front back : MutBor (List T.Denot)) → Fml
 Joins T whole front back = follows_both (Array T 0) (Array T 0) (Array T 0) whole.ghost_name front.ghost_name back.ghost_name ◌++◌
+
+-- the slice in part k of what local s holds is lent on: its pointer, and then the slice, of the pointer in local j
+module _ {M : Type 1} {𝓤 : Ura M} {𝓛 : Logic 𝓤} {K : Type 0} {Γ : List (Item 𝓤)} {E : Env 𝓤 𝓛.H} {s k d b o n : ℕ} {q : Share} {back : Val → Item 𝓤} (t : K)
+    (part : Has K 𝓛 (at 𝓛 s Γ) q Part (spot_of 𝓤 𝓛.H E s).1 (zero + d) (slice_val (b, o) n) back)
+    (lies : field_of (spot_of 𝓤 𝓛.H E s).0 k ≡ some (Part, d)) where
+  pub pointer_on : {τ : Ty} → Rv K 𝓛 Γ E (addr_of (place s (field k ∷ field 0 ∷ deref τ ∷ []))) (vptr b o)
+  pointer_on = addr t (from t (fld t lies (fld t refl (hop t (look_in_at t s (sub t 0 refl part)) (stop t)))))
+
+  pub slice_on : {j : ℕ} {r : Share} → at 𝓛 j Γ ≡ ‵ (fat r (spot_of 𝓤 𝓛.H E j).0 (spot_of 𝓤 𝓛.H E j).1 zero (vptr b o))
+      → Rv K 𝓛 Γ E (aggregate (copy (place j []) ∷ copy (place s (field k ∷ field 1 ∷ [])) ∷ [])) (slice_val (b, o) n)
+  slice_on pointer = agg t (and_then t (get t pointer) (and_then t (get_in t (fld t lies (fld t refl (stop t))) (sub t 1 refl part)) (no_more t)))
 
 module _ {M : Type 1} {𝓤 : Ura M} (𝓛 : Logic 𝓤) (at_mem : Memory → SProp 𝓤) (run : Routine → Fun 𝓤) (T : RattleType) where
   abbrev pub Split : Contract 𝓤
@@ -87,3 +105,23 @@ module _ {M : Type 1} {𝓤 : Ura M} (𝓛 : Logic 𝓤) (T : RattleType) where
   unfolding both_by
   ends_joined whole front back xs ys = at_one 𝓛 (λ (p : List T.Denot × List T.Denot). sep 𝓤 (Ends front p.0) (Ends back p.1)) (λ p. Ends whole (p.0 ++
       p.1)) (xs, ys)
+
+-- the same in steps, over the names of what is lent
+module _ {M : Type 1} {𝓤 : Ura M} {𝓛 : Logic 𝓤} {K : Type 0} {Γ : List (Item 𝓤)} (t : K) (T : RattleType) where
+  module _ {G : Goal 𝓤 𝓛.H} where
+    pub lets_go : (κ : Lft) (x : MutBor (List T.Denot)) {vs : List Val} →
+        Step K 𝓛 (‵ (EndsAs T x.ghost_name x.now) ∷ Γ) G (‵ ((MutSlice (named 0) κ T).own_val x vs) ∷ Γ) G
+    lets_go κ x {vs} = use1 𝓛 (‵ (EndsAs T x.ghost_name x.now)) (dropped 𝓛 T (named 0) κ x vs)
+
+    pub joins : {γ γ₁ γ₂ : GName} (xs ys : List T.Denot) → Step K 𝓛 (‵ (EndsAs T γ (xs ++ ys)) ∷ Γ) G
+        (‵ (follows_both (Array T 0) (Array T 0) (Array T 0) γ γ₁ γ₂ ◌++◌) ∷ ‵ (EndsAs T γ₁ xs) ∷ ‵ (EndsAs T γ₂ ys) ∷ Γ) G
+    unfolding both_by
+    joins {γ} {γ₁} {γ₂} xs ys = let Both = List T.Denot × List T.Denot in use3 𝓛 (‵ (EndsAs T γ (xs ++ ys)))
+        (at_one 𝓛 (λ (p : Both). sep 𝓤 (sem 𝓛 (EndsAs T γ₁ p.0)) (sem 𝓛 (EndsAs T γ₂ p.1))) (λ p. sem 𝓛 (EndsAs T γ (p.0 ++ p.1))) (xs, ys))
+
+  pub both_end : (γ : GName) {γ₁ γ₂ : GName} (F : List T.Denot → List T.Denot → List T.Denot) → ((xs ys : List T.Denot) →
+      Seq K 𝓛 (‵ (EndsAs T γ₁ xs) ∷ ‵ (EndsAs T γ₂ ys) ∷ Γ) (prop (sem 𝓛 (EndsAs T γ (F xs ys)))))
+      → Seq K 𝓛 Γ (prop (sem 𝓛 (follows_both (Array T 0) (Array T 0) (Array T 0) γ γ₁ γ₂ F)))
+  unfolding both_by
+  both_end γ {γ₁} {γ₂} F k = each t (λ (p : List T.Denot × List T.Denot). wand 𝓤 (sep 𝓤 (sem 𝓛 (EndsAs T γ₁ p.0)) (sem 𝓛 (EndsAs T γ₂ p.1)))
+      (sem 𝓛 (EndsAs T γ (F p.0 p.1)))) (λ p. assume t (‵ (EndsAs T γ₁ p.0) ⊛ ‵ (EndsAs T γ₂ p.1)) $ split t $ k p.0 p.1)

@@ -66,13 +66,13 @@ fn two_parts<T>(
 ) -> (&mut [T], &mut [T])
     requires order { start + width ≤ next }
     requires within { next + other ≤ length entries.old }
-    ensures* writes_back { sem 𝓛 (LendsTwoParts T.row entries.entry start width next other result) }
     ensures first { result.0.now ≡ take width (drop start entries.old) }
     ensures second { result.1.now ≡ take other (drop next entries.old) }
+    ensures* writes_back { sem 𝓛 (LendsTwoParts T.row entries.entry start width next other result) }
 {
-    let (front, back) = entries.split_at_mut(next);
-    let (_, rest) = front.split_at_mut(start);
-    let (first, _) = rest.split_at_mut(width);
-    let (second, _) = back.split_at_mut(other);
-    (first, second)
+    let halves = entries.split_at_mut(next);
+    let front = halves.0.split_at_mut(start);
+    let first = front.1.split_at_mut(width);
+    let second = halves.1.split_at_mut(other);
+    (first.0, second.0)
 }

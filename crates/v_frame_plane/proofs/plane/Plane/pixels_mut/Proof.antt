@@ -1,13 +1,11 @@
 -- `pixels_mut` makes the iterator over the pixels of that over the rows, whose slice is the whole buffer. That this slice
 -- lies two fields deep no generated proof follows, so this one follows the code.
-use Rattle.v_frame_plane.proofs.lent.Steps.{◌≡◌, ◌^◌, ◌<◌, [], ◌∷◌, length, refl, sym, ap, ◌∙◌, arith, proved, emp, id⊢, ◌⊑◌, fact, fact_i, tables, param}
-use Rattle.v_frame_plane.proofs.lent.Steps.{layouts, mut_vals, mut_Tells, plain, named_lft, Array, shows, heard, nothing, peeks, framed}
-use Rattle.v_frame_plane.proofs.lent.Steps.{walk_of, Stays, inst_fn, a_type, named, alloc_all, free_all, get}
-use Rattle.v_frame_plane.proofs.lent.Steps.{lands_as, look_at, pass_all, sets, through, ‵, raw, ◌$◌, !, done}
-use Rattle.v_frame_plane.proofs.lent.Steps.{join, keep, move, rewrite, use0, addr, and_then, enter, no_more}
-use Rattle.v_frame_plane.proofs.lent.Steps.{returns, stop, RattleType, no, stay_dropped, param_laws, All, append-nil, subst, follows, Goes-spent_ref}
-use denote.Follow.{follows_by}
-use Rattle.v_frame_plane.proofs.lent.CallSteps.{asks_both, asks_that, calls, ends, opened}
+use Rattle.v_frame_plane.proofs.lent.Steps.{◌≡◌, ◌^◌, ◌<◌, [], ◌∷◌, length, refl, sym, ap, ◌∙◌, arith, proved, id⊢, ◌⊑◌, fact, tables, param, layouts, mut_vals}
+use Rattle.v_frame_plane.proofs.lent.Steps.{mut_Tells, plain, named_lft, Array, shows, heard, nothing, peeks, framed, walk_of, Stays, inst_fn, a_type, named}
+use Rattle.v_frame_plane.proofs.lent.Steps.{alloc_all, free_all, get, lands_as, look_at, pass_all, sets, through, ‵, raw, ◌$◌, !, keep, move, rewrite, addr}
+use Rattle.v_frame_plane.proofs.lent.Steps.{and_then, enter, no_more, returns, stop, frame, Item, no, stay_dropped, param_laws, All, append-nil, subst, follows}
+use Rattle.v_frame_plane.proofs.lent.Steps.{Goes-spent_ref}
+use Rattle.v_frame_plane.proofs.lent.CallSteps.{asks_both, asks_that, calls, ends, opened, tells, told}
 use Rattle.v_frame_plane.specs.contracts.plane.Plane.{the_row}
 use Rattle.v_frame_plane.specs.contracts.plane.Plane.rows_mut
 use Rattle.v_frame_plane.specs.contracts.plane.Plane.pixels_mut
@@ -23,37 +21,32 @@ use Rattle.v_frame_plane.specs.Cursor.{PixelsAreCountable}
 use Rattle.v_frame_plane.specs.Plane.{table_of, with_entries}
 use Rattle.v_frame_plane.specs.SecondRows.{WritesEachTable}
 use Rattle.v_frame_layout.specs.Table.{row_major}
-use Rattle.v_frame_plane.specs.PixelsLeft.{pixels_left, pixels_slice, LendsPixelsInOrder, LendsPixelsInReverse}
-use Rattle.v_frame_plane.specs.SecondPixels.{BeginsOver}
+use Rattle.v_frame_plane.specs.PixelsLeft.{pixels_left}
 use Rattle.v_frame_plane.proofs.iterators.WalkRuns.{lends_in_order, lends_in_reverse}
 use Rattle.v_frame_plane.specs.RowsLeft.{rows_left, rows_slice, LendsRowsInOrder, LendsRowsInReverse}
 use Rattle.v_frame_plane.proofs.plane.Plane.pixels_mut.Statement.{statement}
 use Rattle.v_frame_plane.proofs.plane.Plane.pixels_mut.Code as code
 
-abbrev stayed : (T : RattleType) → Stays (pixels_mut.ended T).signature.params (pixels_mut.ended T).kept
-stayed T = (stay_dropped _ no, tt)
-
 pub pixels_mut_spec : {M : Type 1} → statement M
-unfolding follows_by
 pixels_mut_spec 𝓤 𝓛 𝓜 𝓡 wired T laws =
-    let item = param 0 T in let args = layouts (a_type ∷ []) (T, tt) in let function = inst_fn args code.function in
-    let 𝓣 = tables 𝓤 𝓛.H 𝓜 𝓡 𝓡.env in let run = framed 𝓤 𝓛.H 𝓜 𝓣 in let c = pixels_mut.clauses T 𝓛 𝓜.mem 𝓡.returns in
-    let Walk = walk_of 𝓛 (pixels_mut.ended T) (stayed T) c in
-    proved 𝓛 (pixels_mut.ended T) (stayed T) c 𝓜 𝓡 (Goes-spent_ref 𝓛 2 (0 ∷ []) tt (plain (λ _. the_row item)), tt)
-    (pixels_mut.Key.name args) function (code.unfolded 𝓤 𝓛.H 𝓜 𝓡 wired (T, tt))
-    (λ κs. (mut_vals, tt)) (λ κs. (mut_Tells (named 0) κs.0 (the_row item), tt)) (λ κs qs bounds a g are.
-    let Plane = the_row item in let κ = κs.0 in let q = qs.0 in let κT = κs.1.0 in let qT = qs.1.0 in let self = a.0 in
-    let ℓ = named_lft 2 0 tt κs in let Rows = rows.the_row ℓ item in let Pixels = pixels.the_row ℓ item in
-    let bound : Walk.Ghost = ((κs, qs, bounds, a, (mut_vals self, tt)), g) in
-    opened 𝓛 (pixels_mut.ended T).signature κs qs a (mut_vals self, tt) (κT ⊑ T.lives) (λ inT.
+    let item = param 0 T in let args = layouts (a_type ∷ []) (T, tt) in let run = framed 𝓤 𝓛.H 𝓜 (tables 𝓤 𝓛.H 𝓜 𝓡 𝓡.env) in
+    let En = pixels_mut.ended T in let c = pixels_mut.clauses T 𝓛 𝓜.mem 𝓡.returns in let Plane = the_row item in
+    let stayed : Stays En.signature.params En.kept = (stay_dropped _ no, tt) in
+    proved 𝓛 En stayed c 𝓜 𝓡 (Goes-spent_ref 𝓛 2 (0 ∷ []) tt (plain (λ _. Plane)), tt)
+    (pixels_mut.Key.name args) (inst_fn args code.function) (code.unfolded 𝓤 𝓛.H 𝓜 𝓡 wired (T, tt))
+    (λ κs. (mut_vals, tt)) (λ κs. (mut_Tells (named 0) κs.0 Plane, tt)) (λ κs qs bounds a g are.
+    let self = a.0 in let ℓ = named_lft 2 0 tt κs in let Rows = rows.the_row ℓ item in let Pixels = pixels.the_row ℓ item in
+    let bound : (walk_of 𝓛 En stayed c).Ghost = ((κs, qs, bounds, a, (mut_vals self, tt)), g) in
+    let Ends : RowsMut T.Denot → Item 𝓤 = λ x. ‵ (follows Plane (Array item 0) self.ghost_name (rows_slice x).ghost_name (with_entries self.now)) in
+    opened 𝓛 En.signature κs qs a (mut_vals self, tt) (κs.1.0 ⊑ T.lives) (λ inT.
     enter ! _ _ _ _ _ $ alloc_all ! (λ l. pass_all ! refl ((tt, tt), tt) $
     sets ! (addr ! (through ! refl (stop !))) refl (tt, tt) $
     -- [the tokens of κ and κT; self; the locals]
     calls ! (0 ∷ 1 ∷ 2 ∷ []) run (rows_mut.ended T) (rows_mut.clauses T 𝓛 𝓜.mem 𝓡.returns)
     (rows_mut_met.met 𝓤 𝓛 𝓜 𝓡 (code.calls-v_frame_plane::plane::Plane::rows_mut 𝓡.env wired) T laws) bound (asks_that 𝓤 inT) refl
     (and_then ! (get ! refl) (no_more !))
-    (λ r ws. ‵ (follows Plane (Array item 0) self.ghost_name (rows_slice r).ghost_name (with_entries self.now)) ∷
-    raw (fact 𝓤 ((rows_slice r).now ≡ self.now.buffer)) ∷ raw (fact 𝓤 (rows_left r ≡ table_of self.now)) ∷ raw (fact 𝓤 (WritesEachTable self.now r)) ∷
+    (λ r ws. Ends r ∷ raw (fact 𝓤 ((rows_slice r).now ≡ self.now.buffer)) ∷ raw (fact 𝓤 (rows_left r ≡ table_of self.now)) ∷
+    raw (fact 𝓤 (WritesEachTable self.now r)) ∷
     raw (fact 𝓤 (All (λ row. length row ≡ self.now.geometry.width) (rows_left r))) ∷ raw (fact 𝓤 (PixelsAreCountable [] (rows_left r) [])) ∷
     raw (fact 𝓤 (length (rows_left r) < 2 ^ 63)) ∷ raw (fact 𝓤 (LendsRowsInOrder T.Denot)) ∷ raw (fact 𝓤 (LendsRowsInReverse T.Denot)) ∷ [])
     (λ r ws. id⊢ 𝓤 _) (λ v r ws. peeks ! Rows _ (shows 𝓛 Rows) r (v ∷ []) (λ is.
@@ -69,21 +62,14 @@ pixels_mut_spec 𝓤 𝓛 𝓜 𝓡 wired T laws =
     move ! (1 ∷ 2 ∷ 3 ∷ []) $ heard ! _ (λ rows_are. heard ! _ (λ front. heard ! _ (λ back.
     -- [the pixels; the tokens; nothing; how the plane ends; ..; the locals]
     returns ! (look_at ! 0 refl) $ free_all ! refl $ keep ! (0 ∷ 1 ∷ 2 ∷ 4 ∷ []) $ nothing ! $
-    ends ! (2 ∷ 3 ∷ 0 ∷ 1 ∷ []) (pixels_mut.ended T) (stayed T) c bound w walk (tt, tt) (tt, tt) refl $
-    rewrite ! 0 (λ (x : RowsMut T.Denot). ‵ (follows Plane (Array item 0) self.ghost_name (rows_slice x).ghost_name (with_entries self.now))) (sym rows_are)
-    refl $
+    ends ! (2 ∷ 3 ∷ 0 ∷ 1 ∷ []) En stayed c bound w walk (tt, tt) (tt, tt) refl $
+    rewrite ! 0 Ends (sym rows_are) refl $
     let all : pixels_left walk ≡ row_major (rows_left r) = rw (front, back, rows_are) (append-nil (row_major (rows_left r))) in
-    use0 𝓛 (raw (fact 𝓤 (LendsPixelsInReverse T.Denot))) (fact_i 𝓤 _ (emp 𝓤) (lends_in_reverse pixels_left)) $
-    use0 𝓛 (raw (fact 𝓤 (LendsPixelsInOrder T.Denot))) (fact_i 𝓤 _ (emp 𝓤) (lends_in_order pixels_left)) $ join ! $
-    use0 𝓛 (raw (fact 𝓤 (length (pixels_left walk) < 2 ^ 63))) (fact_i 𝓤 _ (emp 𝓤) (omega (arith, ap length all, countable.bound))) $ join ! $
-    use0 𝓛 (raw (fact 𝓤 (BeginsOver self.now walk))) (fact_i 𝓤 _ (emp 𝓤) (record {
+    frame ! $ tells ! (ap (λ (x : RowsMut T.Denot). (rows_slice x).now) rows_are ∙ buffer) $ tells ! (all ∙ ap row_major shown) $
+    tells ! (record {
       front = front;
       rows = ap rows_left rows_are ∙ shown;
       back = back;
-      written =
-          subst (λ (x : RowsMut T.Denot). WritesEachTable self.now x) (sym rows_are) written;
-    })) $ join ! $
-    use0 𝓛 (raw (fact 𝓤 (pixels_left walk ≡ row_major (table_of self.now)))) (fact_i 𝓤 _ (emp 𝓤) (all ∙ ap row_major shown)) $ join ! $
-    use0 𝓛 (raw (fact 𝓤 ((pixels_slice walk).now ≡ self.now.buffer))) (fact_i 𝓤 _ (emp 𝓤) (ap (λ (x : RowsMut T.Denot). (rows_slice x).now) rows_are ∙
-    buffer)) $ join ! $
-    move ! (1 ∷ 0 ∷ []) $ join ! $ done !))))))))))))))
+      written = subst (λ (x : RowsMut T.Denot). WritesEachTable self.now x) (sym rows_are) written;
+    }) $
+    tells ! (omega (arith, ap length all, countable.bound)) $ tells ! (lends_in_order pixels_left) $ told ! (lends_in_reverse pixels_left)))))))))))))))

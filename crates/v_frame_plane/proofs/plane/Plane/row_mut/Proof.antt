@@ -1,27 +1,27 @@
 -- `row_mut` tests y and passes on what `visible_row_mut` lends, in a `Some`. Rattle makes no proof where a `&mut [T]` may be lent, so this one follows the
 -- code.
-use Rattle.v_frame_plane.proofs.lent.Steps.{ℕ, ◌≡◌, ◌<◌, ◌≤◌, List, [], ◌∷◌, length, Option, Some, None, lit<, w64, MutBor, refl, sym, ap, arith, after}
-use Rattle.v_frame_plane.proofs.lent.Steps.{Some-of, none_of, proved, Lft, flent, flft, full_share, ent, emp, id⊢, ◌⊑◌, ⊑_trans, fact, fact_i, tables}
-use Rattle.v_frame_plane.proofs.lent.Steps.{Array, usize, yes, no, shows, mem, param, layouts, param_laws, uint_vals, uint_Tells, RattleType}
-use Rattle.v_frame_plane.proofs.lent.Steps.{mut_vals, mut_Tells, plain, MutSlice, slice_val, nothing, only, peeks, heard}
-use Rattle.v_frame_plane.proofs.lent.Steps.{framed, Stays, stay_dropped, Goes-dropped, walk_of, inst_fn, a_type, named, Val, of_list, Ura}
-use Rattle.v_frame_plane.proofs.lent.Steps.{alloc_all, pass_all, free_all, look_at, get, through, sets, lands_as, env, ‵, raw, ◌⊛◌, later, at_ret, ◌$◌}
-use Rattle.v_frame_plane.proofs.lent.Steps.{◌∵◌, !, qed, done, keep, move, drop, use0, use1, use2, split, join, await, rewrite}
-use Rattle.v_frame_plane.proofs.lent.Steps.{fsplit, fsplit3, fjoin3, fpack, feq_i, feq_l, Logic, sem, live, agg, enter, lit, addr, bin, stop, no_more}
-use Rattle.v_frame_plane.proofs.lent.Steps.{and_then, first, branches, skips, exec, returns, returns_within, ◌↔◌, true, false, IsNone, slice_get, Bor, fres}
-use Rattle.v_frame_plane.proofs.lent.Steps.{Incl-refl, ⊑_refl, meet_⊑_right, follows, follows_if, lends_shr, part_at, ShrRef, shr_vals, Goes-spent_ref, leb→le}
-use Rattle.v_frame_plane.proofs.lent.Steps.{nleb→lt, flt_l, lent_back}
-use Rattle.std.specs.Option.{IfSome, ghost_name_of}
+use Rattle.v_frame_plane.proofs.lent.Steps.{◌≡◌, ◌<◌, ◌≤◌, List, [], ◌∷◌, length, Some, None, lit<, w64, refl, sym, ap, arith, after, Some-of, none_of, proved}
+use Rattle.v_frame_plane.proofs.lent.Steps.{Lft, flent, flft, full_share, ent, id⊢, ◌⊑◌, ⊑_trans, fact, tables, Array, usize, yes, no, shows, mem, param}
+use Rattle.v_frame_plane.proofs.lent.Steps.{layouts, param_laws, uint_vals, uint_Tells, RattleType, mut_vals, mut_Tells, plain, MutSlice, slice_val, nothing}
+use Rattle.v_frame_plane.proofs.lent.Steps.{only, peeks, heard, framed, Stays, stay_dropped, Goes-dropped, walk_of, inst_fn, a_type, named, Val, of_list, Ura}
+use Rattle.v_frame_plane.proofs.lent.Steps.{alloc_all, pass_all, free_all, look_at, get, through, sets, lands_as, env, ‵, raw, ◌⊛◌, later, at_ret, ◌$◌, ◌∵◌, ! }
+use Rattle.v_frame_plane.proofs.lent.Steps.{qed, done, keep, move, drop, use0, use1, use2, split, await, rewrite, fsplit, fsplit3, fjoin3, fpack, feq_i, feq_l}
+use Rattle.v_frame_plane.proofs.lent.Steps.{Logic, sem, live, agg, enter, lit, addr, bin, stop, no_more, and_then, first, branches, skips, exec, returns}
+use Rattle.v_frame_plane.proofs.lent.Steps.{returns_within, true, false, slice_get, fres, frame, Incl-refl, ⊑_refl, meet_⊑_right, follows, follows_if}
+use Rattle.v_frame_plane.proofs.lent.Steps.{lends_shr, part_at, ShrRef, shr_vals, Goes-spent_ref, leb→le, nleb→lt, flt_l, lent_back, GName}
 use Rattle.std.specs.contracts.option.Option as Opt
+use mathlib.Core.Option.{Option}
 use base.Share
-use denote.Follow.{follows_by, such_by}
+use denote.Ref.{as_bor}
+use denote.Follow.{follows_by, follows_so, such_by}
 use types.Mut.{open_ref, close_ref}
-use Rattle.v_frame_plane.specs.Plane.{Raster, table_of, WritesRow, WritesEachRow, with_row}
+use Rattle.v_frame_plane.specs.Plane.{table_of, WritesEachRow, with_row}
 use Rattle.v_frame_layout.specs.Table.{height_of}
 use Rattle.v_frame_plane.specs.Lends.{LendsRow}
 use Rattle.v_frame_plane.specs.contracts.plane.Plane.{the_row}
 use Rattle.v_frame_plane.proofs.plane.Plane.TheLaws.{the_row_laws, the_within}
-use Rattle.v_frame_plane.proofs.lent.CallSteps.{asks_both, asks_that, calls, ends, opened}
+use Rattle.v_frame_plane.proofs.lent.CallSteps.{asks_both, asks_that, calls, ends, opened, tells, told}
+use Rattle.v_frame_plane.proofs.lent.Cuts.{slice_fits}
 use Rattle.v_frame_plane.proofs.lent.Loans.{lft_over, lft_within, share_within}
 use Rattle.v_frame_plane.proofs.tables.Places.{no_row_below}
 use Rattle.v_frame_plane.specs.contracts.plane.Plane.height
@@ -32,52 +32,35 @@ use Rattle.v_frame_plane.specs.contracts.plane.Plane.row_mut
 use Rattle.v_frame_plane.proofs.plane.Plane.row_mut.Statement.{statement}
 use Rattle.v_frame_plane.proofs.plane.Plane.row_mut.Code as code
 
-abbrev stayed : (T : RattleType) → Stays (row_mut.ended T).signature.params (row_mut.ended T).kept
-stayed T = (stay_dropped _ no, (stay_dropped _ yes, tt))
-
-is_lent : {X : Type 0} (r : MutBor X) → IsNone (Some r) → ⊥
-is_lent r h = let no : true ≡ false = h in cc
-
--- a plane that ends as `with_row` says, or as it was where no row is lent, ends as the clause says
-told : {M : Type 1} {𝓤 : Ura M} (𝓛 : Logic 𝓤) (T : RattleType) (plane : MutBor (Raster T.Denot)) (y : ℕ) (r : Option (MutBor (List T.Denot)))
-    → ((row : List T.Denot) → IfSome r (λ lent. length row ≡ length lent.now → WritesRow plane.now y (with_row plane.now y row) row))
-    → ent 𝓤 (sem 𝓛 (follows_if (the_row T) (Array T 0) plane.ghost_name (ghost_name_of r) (with_row plane.now y) plane.now)) (sem 𝓛 (LendsRow T plane y r))
+-- what ends as a function and a value say ends as what holds of them says
+such : {M : Type 1} {𝓤 : Ura M} (𝓛 : Logic 𝓤) (R S : RattleType) (γ : GName) (m : Option GName) (F : S.Denot → R.Denot) (v : R.Denot)
+    (P : S.Denot → R.Denot → Type 0) (P₀ : R.Denot → Type 0) → ((w : S.Denot) → P w (F w)) → P₀ v
+    → ent 𝓤 (sem 𝓛 (follows_if R S γ m F v)) (sem 𝓛 (follows_so R S γ m P P₀))
 unfolding such_by
-told 𝓛 T plane y r writes =
-    let Gives : Type 0 = (functions : (List T.Denot → Raster T.Denot) × Raster T.Denot)
-    × ((row : List T.Denot) → IfSome r (λ lent. length row ≡ length lent.now → WritesRow plane.now y (functions.0 row) row)) × (functions.1 ≡ plane.now) in
-    let given : Gives = ((with_row plane.now y, plane.now), writes, refl) in
-    qed 𝓛 (‵ (follows_if (the_row T) (Array T 0) plane.ghost_name (ghost_name_of r) (with_row plane.now y) plane.now) ∷ []) ∵
-    fpack ! Gives (λ x. follows_if (the_row T) (Array T 0) plane.ghost_name (ghost_name_of r) x.0.0 x.0.1) given $ done !
+such 𝓛 R S γ m F v P P₀ holds held = qed 𝓛 (‵ (follows_if R S γ m F v) ∷ []) ∵
+    fpack ! ((s : (S.Denot → R.Denot) × R.Denot) × ((w : S.Denot) → P w (s.0 w)) × P₀ s.1) (λ x. follows_if R S γ m x.0.0 x.0.1) ((F, v), holds, held) $ done !
 
 pub row_mut_spec : {M : Type 1} → statement M
 unfolding follows_by
 row_mut_spec 𝓤 𝓛 𝓜 𝓡 wired T laws =
-    let item = param 0 T in
-    let args = layouts (a_type ∷ []) (T, tt) in
-    let c = row_mut.clauses T 𝓛 𝓜.mem 𝓡.returns in
-    let Walk = walk_of 𝓛 (row_mut.ended T) (stayed T) c in
+    let item = param 0 T in let args = layouts (a_type ∷ []) (T, tt) in let function = inst_fn args code.function in
     let 𝓣 = tables 𝓤 𝓛.H 𝓜 𝓡 𝓡.env in let run = framed 𝓤 𝓛.H 𝓜 𝓣 in
-    let function = inst_fn args code.function in
-    proved 𝓛 (row_mut.ended T) (stayed T) c 𝓜 𝓡 (
-      Goes-spent_ref 𝓛 2 (0 ∷ []) tt (plain (λ _. the_row item)),
-      (Goes-dropped 𝓛 2 (plain (λ _. usize)) yes (λ κs x w. refl), tt),
-    )
+    let En = row_mut.ended T in let c = row_mut.clauses T 𝓛 𝓜.mem 𝓡.returns in let Plane = the_row item in
+    let stayed : Stays En.signature.params En.kept = (stay_dropped _ no, (stay_dropped _ yes, tt)) in
+    proved 𝓛 En stayed c 𝓜 𝓡 (Goes-spent_ref 𝓛 2 (0 ∷ []) tt (plain (λ _. Plane)), (Goes-dropped 𝓛 2 (plain (λ _. usize)) yes (λ κs x w. refl), tt))
     (row_mut.Key.name args) function (code.unfolded 𝓤 𝓛.H 𝓜 𝓡 wired (T, tt))
-    (λ κs. (mut_vals, (uint_vals w64, tt))) (λ κs. (mut_Tells (named 0) κs.0 (the_row item), (uint_Tells w64, tt))) (λ κs qs bounds a _ are.
-    let Plane = the_row item in
-    let κ = κs.0 in let q = qs.0 in let κT = κs.1.0 in let qT = qs.1.0 in
-    let self = a.0 in let y = a.1.0 in let b = self.ref_ptr.0 in let o = self.ref_ptr.1 in
-    let Row = MutSlice (named 0) κ item in
-    let bound : Walk.Ghost = ((κs, qs, bounds, a, (mut_vals self, (uint_vals w64 y, tt))), tt) in
-    opened 𝓛 (row_mut.ended T).signature κs qs a (mut_vals self, (uint_vals w64 y, tt)) (κT ⊑ T.lives) (λ inT.
+    (λ κs. (mut_vals, (uint_vals w64, tt))) (λ κs. (mut_Tells (named 0) κs.0 Plane, (uint_Tells w64, tt))) (λ κs qs bounds a _ are.
+    let κT = κs.1.0 in let qT = qs.1.0 in let self = a.0 in let y = a.1.0 in let b = self.ref_ptr.0 in let o = self.ref_ptr.1 in
+    let Row = MutSlice (named 0) κs.0 item in
+    let bound : (walk_of 𝓛 En stayed c).Ghost = ((κs, qs, bounds, a, (mut_vals self, (uint_vals w64 y, tt))), tt) in
+    let Post = (walk_of 𝓛 En stayed c).post bound in
+    opened 𝓛 En.signature κs qs a (mut_vals self, (uint_vals w64 y, tt)) (κT ⊑ T.lives) (λ inT.
     enter ! _ _ _ _ _ $ alloc_all ! (λ l. pass_all ! refl ((tt, tt), ((tt, record { fits = are.1.0.1 }), tt)) $
     sets ! (addr ! (through ! refl (stop !))) refl (tt, tt) $
     -- the plane is shared with `height` for a lifetime κ', which is made for that call
     move ! (1 ∷ []) $ lft_within ! tt κT qT (λ α.
-    let κ' : Lft = α ∷ κT in let s = share_within qT in
+    let κ' : Lft = α ∷ κT in let s = share_within qT in let shared = as_bor self in
     let within : κ' ⊑ T.lives = ⊑_trans κ' κT T.lives (meet_⊑_right (α ∷ []) κT) inT in
-    let shared : Bor (Raster T.Denot) = record { ref_ptr = self.ref_ptr; now = self.now } in
     -- [the token of κ'; the way back to that of κT; the token of κ; self; y; the locals]
     move ! (3 ∷ 2 ∷ []) $ fsplit3 ! $ drop ! $ open_ref ! tt (mem Plane) $ move ! (0 ∷ 4 ∷ []) $
     use2 𝓛 (later ((‵ ((ShrRef (named 0) κ' Plane).own_val shared (shr_vals shared)) ⊛ ‵ (flent κ' (part_at Plane full_share self.now b o))) ⊛ ‵ (flft κ' s)))
@@ -102,21 +85,17 @@ row_mut_spec 𝓤 𝓛 𝓜 𝓡 wired T laws =
     -- below the rectangle the plane stays as it is
     (λ below.
     sets ! (agg ! (and_then ! (lit ! tt) (no_more !))) refl (tt, (record { fits = lit< tt }, tt)) $
-    returns_within ! (Walk.post bound) refl (look_at ! 0 refl) $ free_all ! refl $
+    returns_within ! Post refl (look_at ! 0 refl) $ free_all ! refl $
     fsplit3 ! $ keep ! (1 ∷ 3 ∷ 4 ∷ []) $ use1 𝓛 (‵ (fres self.ghost_name (Plane.coded.code self.now)))
     (𝓛.names.obs-res self.ghost_name (Plane.coded.code self.now)) $
-    use1 𝓛 (‵ (LendsRow item self y None)) (told 𝓛 item self y None (λ row. tt)) $
+    use1 𝓛 (‵ (LendsRow item self y None)) (such 𝓛 Plane (Array item 0) _ _ (with_row self.now y) self.now _ _ (λ row. tt) refl) $
     use0 𝓛 (‵ ((Opt.the_row Row).own_val None (live 0 (of_list []) ∷ []))) (none_of 𝓛 Row) $
-    nothing ! $ nothing ! $
-    ends ! (4 ∷ 5 ∷ 0 ∷ 1 ∷ 2 ∷ []) (row_mut.ended T) (stayed T) c bound (live 0 (of_list [])) None (tt, (tt, tt)) (tt, (tt, tt)) refl $
+    nothing ! $ nothing ! $ ends ! (4 ∷ 5 ∷ 0 ∷ 1 ∷ 2 ∷ []) En stayed c bound (live 0 (of_list [])) None (tt, (tt, tt)) (tt, (tt, tt)) refl $
     let past : self.now.geometry.height ≤ y = omega (arith, leb→le rows y below, is_height) in
-    use0 𝓛 (raw (fact 𝓤 (IfSome {T = MutBor (List T.Denot)} None (λ row. length row.now ≡ self.now.geometry.width)))) (fact_i 𝓤 _ (emp 𝓤) tt) $
-    use0 𝓛 (raw (fact 𝓤 (IsNone {T = MutBor (List T.Denot)} None ↔ (self.now.geometry.height ≤ y)))) (fact_i 𝓤 _ (emp 𝓤) (λ _. past, λ _. refl)) $ join ! $
-    use0 𝓛 (raw (fact 𝓤 (None ≡ slice_get (table_of self.now) y))) (fact_i 𝓤 _ (emp 𝓤) (sym (no_row_below self.now y past))) $ join ! $ move ! (1 ∷ 0 ∷ []) $
-    join ! $ done !)
+    frame ! $ tells ! (sym (no_row_below self.now y past)) $ tells ! (λ _. past, λ _. refl) $ told ! tt)
     -- inside it the plane ends as the row that is lent says
     (λ within_rows.
-    skips ! $ exec ! 𝓣.C 𝓣.Λ (env function.locals l) (after 4 function.body) (at_ret _ (Walk.post bound)) $
+    skips ! $ exec ! 𝓣.C 𝓣.Λ (env function.locals l) (after 4 function.body) (at_ret _ Post) $
     sets ! (addr ! (through ! refl (stop !))) refl (tt, tt) $
     -- [self; the token of κ; that of κT; y; the locals]
     let inside : y < self.now.geometry.height = omega (arith, nleb→lt rows y within_rows, is_height) in
@@ -128,21 +107,11 @@ row_mut_spec 𝓤 𝓛 𝓜 𝓡 wired T laws =
     peeks ! Row _ (shows 𝓛 Row) r (w ∷ []) (λ is. rewrite ! 0 (λ (vs : List Val). ‵ (Row.own_val r vs)) is.0.0 refl $
     move ! (2 ∷ 3 ∷ 4 ∷ []) $ heard ! _ (λ value. heard ! _ (λ written. heard ! _ (λ wide.
     -- [the row; how the plane ends; the tokens; nothing, twice; the locals]
-    let part = slice_val r.ref_ptr (length r.now) in
-    let out = live 1 (of_list (part ∷ [])) in
-    lands_as ! (ap only is.0.0) refl (tt, (tt, (record { fits = is.0.1.0 }, tt))) $
-    sets ! (agg ! (and_then ! (lit ! tt) (and_then ! (get ! refl) (no_more !)))) refl (
-      tt,
-      (record { fits = lit< tt }, ((tt, (record { fits = is.0.1.0 }, tt)), tt)),
-    ) $
+    let part = slice_val r.ref_ptr (length r.now) in let out = live 1 (of_list (part ∷ [])) in let fits = slice_fits is.0.1.0 in
+    lands_as ! (ap only is.0.0) refl fits $
+    sets ! (agg ! (and_then ! (lit ! tt) (and_then ! (get ! refl) (no_more !)))) refl (tt, (record { fits = lit< tt }, (fits.1, tt))) $
     returns ! (look_at ! 0 refl) $ free_all ! refl $ keep ! (1 ∷ 0 ∷ 2 ∷ 3 ∷ []) $
-    use1 𝓛 (‵ (LendsRow item self y (Some r))) (told 𝓛 item self y (Some r) written) $
+    use1 𝓛 (‵ (LendsRow item self y (Some r))) (such 𝓛 Plane (Array item 0) _ _ (with_row self.now y) self.now _ _ written refl) $
     move ! (1 ∷ []) $ use1 𝓛 (‵ ((Opt.the_row Row).own_val (Some r) (out ∷ []))) (Some-of 𝓛 Row r part) $
-    nothing ! $ nothing ! $ ends ! (4 ∷ 5 ∷ 0 ∷ 1 ∷ 2 ∷ []) (row_mut.ended T) (stayed T) c bound out (Some r) (tt, (tt, tt)) (tt, (tt, tt)) refl $
-    use0 𝓛 (raw (fact 𝓤 (IfSome (Some r) (λ row. length row.now ≡ self.now.geometry.width)))) (fact_i 𝓤 _ (emp 𝓤) wide) $
-    use0 𝓛 (raw (fact 𝓤 (IsNone (Some r) ↔ (self.now.geometry.height ≤ y)))) (fact_i 𝓤 _ (emp 𝓤) (
-      λ h. absurd (is_lent r h),
-      λ past. absurd (omega (arith, past, inside)),
-    )) $ join ! $
-    use0 𝓛 (raw (fact 𝓤 (Some r.now ≡ slice_get (table_of self.now) y))) (fact_i 𝓤 _ (emp 𝓤) (sym value)) $ join ! $ move ! (1 ∷ 0 ∷ []) $ join ! $
-    done !))))))))))))))
+    nothing ! $ nothing ! $ ends ! (4 ∷ 5 ∷ 0 ∷ 1 ∷ 2 ∷ []) En stayed c bound out (Some r) (tt, (tt, tt)) (tt, (tt, tt)) refl $
+    frame ! $ tells ! (sym value) $ tells ! (λ h. let no : true ≡ false = h in cc, λ past. absurd (omega (arith, past, inside))) $ told ! wide))))))))))))))
