@@ -12,7 +12,6 @@ pub mod PixelNext
 pub mod PixelParts
 pub mod PixelSides
 pub mod PixelsDropped
-pub mod RowCalls
 pub mod RowDraws
 pub mod RowLoans
 pub mod RowMemory

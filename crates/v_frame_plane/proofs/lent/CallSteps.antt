@@ -4,13 +4,13 @@
 --     ends        the return        tells, told     a clause that is a fact, and one that is the last
 use Rattle.v_frame_plane.proofs.lent.Steps.{ℕ, ◌≡◌, List, [], ◌∷◌, ◌++◌, refl, sym, ap, flft, SProp, emp, ent, sep, id⊢, fact, fact_i, RattleType, Valss}
 use Rattle.v_frame_plane.proofs.lent.Steps.{Clauses, Lasts, at_exit, lasts, triple_of, Stays, walk_of, Args, Val, Ura, Goal, Item, Seq, Soaks, Step, step, ‵}
-use Rattle.v_frame_plane.proofs.lent.Steps.{raw, ◌⊛◌, some, later, prop, ◌$◌, await, drop, feq_i, fjoin, fsplit, move, only, peeks, pick, rewrite, shows}
+use Rattle.v_frame_plane.proofs.lent.Steps.{raw, ◌⊛◌, some, later, prop, ◌$◌, await, drop, join, feq_i, fjoin, fsplit, move, only, peeks, pick, rewrite, shows}
 use Rattle.v_frame_plane.proofs.lent.Steps.{split, use1, Logic, sem, Lfts, Shares, Lft, Bor, ◌-◌, zero, suc, subst, count_by, nat_lt, leaves, assoc∗, assoc'}
-use Rattle.v_frame_plane.proofs.lent.Steps.{comm∗, emp∗, fst∗, mono_l, mono_r, snd∗, via, toks, fact_use, top, Denots, RowLaws, owns, left, Is, shr_dup}
-use Rattle.v_frame_plane.proofs.lent.Steps.{ShrRef, shr_vals, Signature, Slot, type_at, types_at, calls_at, calls_at_last, Ended, closing, Kepts, Fins}
-use Rattle.v_frame_plane.proofs.lent.Steps.{lasts_of, Res, alive, on_entry, Triple, Fit, has_of, T, Callee, Lifetime, Opd as Operand, Place, call, seq}
-use Rattle.v_frame_plane.proofs.lent.Steps.{ty_unit, WT, has_ty, vunit, Calls, Env, Loops, FmC, ++⊢, Go, Post, by, lands, mean, pop, push, runs, sel, sel⊢}
-use Rattle.v_frame_plane.proofs.lent.Steps.{settles, ⋆, Opds}
+use Rattle.v_frame_plane.proofs.lent.Steps.{comm∗, emp∗, fst∗, mono_l, mono_r, snd∗, via, toks, fact_use, top, Denots, RowLaws, owns, left, Is, shr_dup, ShrRef}
+use Rattle.v_frame_plane.proofs.lent.Steps.{shr_vals, Signature, Slot, type_at, types_at, calls_at, calls_at_last, Ended, closing, Kepts, Fins, lasts_of, Res}
+use Rattle.v_frame_plane.proofs.lent.Steps.{alive, on_entry, Triple, Fit, has_of, T, Callee, Lifetime, Opd as Operand, Place, call, seq, ty_unit, WT, has_ty}
+use Rattle.v_frame_plane.proofs.lent.Steps.{vunit, Calls, Env, Loops, FmC, ++⊢, Go, Post, by, lands, mean, pop, push, runs, sel, sel⊢, settles, ⋆, Opds}
+use contract.Monad.{Fun}
 use denote.Triple.Entry.{Vals}
 use mir.Syntax.{Body}
 
@@ -39,68 +39,60 @@ module _ {M : Type 1} {𝓤 : Ura M} where
     still_had (s ∷ ss) ks hs a ws vss Γ = ‵ (hs.0.has κs a.0 ws.0 vss.0) ∷ still_had ss ks.1 hs.1 a.1 ws.1 vss.1 Γ
 
 module _ {M : Type 1} {𝓤 : Ura M} (𝓛 : Logic 𝓤) where
-  -- one more entry in front of what is put together, or taken apart
-  one_in : (i : Item 𝓤) (Δ Γ : List (Item 𝓤)) (P : SProp 𝓤) → ent 𝓤 (⋆ 𝓛 Δ) (sep 𝓤 P (⋆ 𝓛 Γ)) → ent 𝓤 (⋆ 𝓛 (i ∷ Δ)) (sep 𝓤 (sep 𝓤 (mean 𝓛 i) P) (⋆ 𝓛 Γ))
-  one_in i Δ Γ P rest = via 𝓤 (sep 𝓤 (mean 𝓛 i) (⋆ 𝓛 Δ)) (pop 𝓛 i Δ) (via 𝓤 (sep 𝓤 (mean 𝓛 i) (sep 𝓤 P (⋆ 𝓛 Γ))) (mono_r 𝓤 (mean 𝓛 i) rest)
-      (assoc' 𝓤 (mean 𝓛 i) P (⋆ 𝓛 Γ)))
+  -- P is the entries with which Δ begins, and Γ the rest of Δ
+  record Begins (P : SProp 𝓤) (Δ Γ : List (Item 𝓤)) : Type 1 where
+    apart : ent 𝓤 (sep 𝓤 P (⋆ 𝓛 Γ)) (⋆ 𝓛 Δ)
+    joined : ent 𝓤 (⋆ 𝓛 Δ) (sep 𝓤 P (⋆ 𝓛 Γ))
 
-  one_out : (i : Item 𝓤) (Δ Γ : List (Item 𝓤)) (P : SProp 𝓤) → ent 𝓤 (sep 𝓤 P (⋆ 𝓛 Γ)) (⋆ 𝓛 Δ) → ent 𝓤 (sep 𝓤 (sep 𝓤 (mean 𝓛 i) P) (⋆ 𝓛 Γ)) (⋆ 𝓛 (i ∷ Δ))
-  one_out i Δ Γ P rest = via 𝓤 (sep 𝓤 (mean 𝓛 i) (sep 𝓤 P (⋆ 𝓛 Γ))) (assoc∗ 𝓤 (mean 𝓛 i) P (⋆ 𝓛 Γ)) (via 𝓤 (sep 𝓤 (mean 𝓛 i) (⋆ 𝓛 Δ)) (mono_r 𝓤 (mean 𝓛 i) rest)
-      (push 𝓛 i Δ))
+  none : (Γ : List (Item 𝓤)) → Begins (emp 𝓤) Γ Γ
+  none Γ = record { apart = snd∗ 𝓤 (emp 𝓤) (⋆ 𝓛 Γ); joined = emp∗ 𝓤 (⋆ 𝓛 Γ) }
 
-  tokens_in : (n : ℕ) (κs : Lfts n) (qs : Shares n) (Γ : List (Item 𝓤)) → ent 𝓤 (⋆ 𝓛 (tokens n κs qs Γ)) (sep 𝓤 (toks 𝓛 n κs qs) (⋆ 𝓛 Γ))
-  tokens_in zero κs qs Γ = emp∗ 𝓤 (⋆ 𝓛 Γ)
-  tokens_in (suc n) κs qs Γ = one_in (‵ (flft κs.0 qs.0)) (tokens n κs.1 qs.1 Γ) Γ (toks 𝓛 n κs.1 qs.1) (tokens_in n κs.1 qs.1 Γ)
+  one : (i : Item 𝓤) {Γ : List (Item 𝓤)} → Begins (mean 𝓛 i) (i ∷ Γ) Γ
+  one i {Γ} = record { apart = push 𝓛 i Γ; joined = pop 𝓛 i Γ }
 
-  tokens_out : (n : ℕ) (κs : Lfts n) (qs : Shares n) (Γ : List (Item 𝓤)) → ent 𝓤 (sep 𝓤 (toks 𝓛 n κs qs) (⋆ 𝓛 Γ)) (⋆ 𝓛 (tokens n κs qs Γ))
-  tokens_out zero κs qs Γ = snd∗ 𝓤 (emp 𝓤) (⋆ 𝓛 Γ)
-  tokens_out (suc n) κs qs Γ = one_out (‵ (flft κs.0 qs.0)) (tokens n κs.1 qs.1 Γ) Γ (toks 𝓛 n κs.1 qs.1) (tokens_out n κs.1 qs.1 Γ)
+  both : {P Q : SProp 𝓤} {Δ Ξ Γ : List (Item 𝓤)} → Begins P Δ Ξ → Begins Q Ξ Γ → Begins (sep 𝓤 P Q) Δ Γ
+  both {P} {Q} {Ξ = Ξ} {Γ = Γ} p q = record {
+    apart = via 𝓤 (sep 𝓤 P (sep 𝓤 Q (⋆ 𝓛 Γ))) (assoc∗ 𝓤 P Q (⋆ 𝓛 Γ)) (via 𝓤 (sep 𝓤 P (⋆ 𝓛 Ξ)) (mono_r 𝓤 P q.apart) p.apart);
+    joined = via 𝓤 (sep 𝓤 P (⋆ 𝓛 Ξ)) p.joined (via 𝓤 (sep 𝓤 P (sep 𝓤 Q (⋆ 𝓛 Γ))) (mono_r 𝓤 P q.joined) (assoc' 𝓤 P Q (⋆ 𝓛 Γ)));
+  }
 
-  arguments_in : (Rs : List RattleType) (a : Denots Rs) (vss : Valss Rs) (Γ : List (Item 𝓤)) → ent 𝓤 (⋆ 𝓛 (arguments Rs a vss Γ))
-      (sep 𝓤 (sem 𝓛 (owns Rs a vss)) (⋆ 𝓛 Γ))
-  arguments_in [] a vss Γ = emp∗ 𝓤 (⋆ 𝓛 Γ)
-  arguments_in (R ∷ Rs) a vss Γ = one_in (‵ (R.own_val a.0 vss.0)) (arguments Rs a.1 vss.1 Γ) Γ (sem 𝓛 (owns Rs a.1 vss.1)) (arguments_in Rs a.1 vss.1 Γ)
+  tokens_are : (n : ℕ) (κs : Lfts n) (qs : Shares n) (Γ : List (Item 𝓤)) → Begins (toks 𝓛 n κs qs) (tokens n κs qs Γ) Γ
+  tokens_are zero κs qs Γ = none Γ
+  tokens_are (suc n) κs qs Γ = both (one (‵ (flft κs.0 qs.0))) (tokens_are n κs.1 qs.1 Γ)
 
-  arguments_out : (Rs : List RattleType) (a : Denots Rs) (vss : Valss Rs) (Γ : List (Item 𝓤)) → ent 𝓤 (sep 𝓤 (sem 𝓛 (owns Rs a vss)) (⋆ 𝓛 Γ))
-      (⋆ 𝓛 (arguments Rs a vss Γ))
-  arguments_out [] a vss Γ = snd∗ 𝓤 (emp 𝓤) (⋆ 𝓛 Γ)
-  arguments_out (R ∷ Rs) a vss Γ = one_out (‵ (R.own_val a.0 vss.0)) (arguments Rs a.1 vss.1 Γ) Γ (sem 𝓛 (owns Rs a.1 vss.1)) (arguments_out Rs a.1 vss.1 Γ)
+  arguments_are : (Rs : List RattleType) (a : Denots Rs) (vss : Valss Rs) (Γ : List (Item 𝓤)) → Begins (sem 𝓛 (owns Rs a vss)) (arguments Rs a vss Γ) Γ
+  arguments_are [] a vss Γ = none Γ
+  arguments_are (R ∷ Rs) a vss Γ = both (one (‵ (R.own_val a.0 vss.0))) (arguments_are Rs a.1 vss.1 Γ)
 
   module _ {n : ℕ} (κs : Lfts n) where
-    last_values_out : (ss : List (Slot n)) (ks : Kepts ss) (a : Denots (types_at ss κs)) (ws : Fins κs ss ks a) (Γ : List (Item 𝓤)) →
-        ent 𝓤 (sep 𝓤 (sem 𝓛 (lasts_of κs ss ks a ws)) (⋆ 𝓛 Γ)) (⋆ 𝓛 (last_values κs ss ks a ws Γ))
-    last_values_out [] ks a ws Γ = snd∗ 𝓤 (emp 𝓤) (⋆ 𝓛 Γ)
-    last_values_out (s ∷ ss) ks a ws Γ = one_out (‵ (left ((s.row κs).exit ks.0) a.0 ws.0)) (last_values κs ss ks.1 a.1 ws.1 Γ) Γ
-        (sem 𝓛 (lasts_of κs ss ks.1 a.1 ws.1)) (last_values_out ss ks.1 a.1 ws.1 Γ)
+    last_values_are : (ss : List (Slot n)) (ks : Kepts ss) (a : Denots (types_at ss κs)) (ws : Fins κs ss ks a) (Γ : List (Item 𝓤)) →
+        Begins (sem 𝓛 (lasts_of κs ss ks a ws)) (last_values κs ss ks a ws Γ) Γ
+    last_values_are [] ks a ws Γ = none Γ
+    last_values_are (s ∷ ss) ks a ws Γ = both (one (‵ (left ((s.row κs).exit ks.0) a.0 ws.0))) (last_values_are ss ks.1 a.1 ws.1 Γ)
 
-    still_had_in : (ss : List (Slot n)) (ks : Kepts ss) (hs : Stays ss ks) (a : Denots (types_at ss κs)) (ws : Fins κs ss ks a) (vss : Valss (types_at ss κs))
-        (Γ : List (Item 𝓤)) → ent 𝓤 (⋆ 𝓛 (still_had κs ss ks hs a ws vss Γ)) (sep 𝓤 (sem 𝓛 (has_of κs ss ks hs a ws vss)) (⋆ 𝓛 Γ))
-    still_had_in [] ks hs a ws vss Γ = emp∗ 𝓤 (⋆ 𝓛 Γ)
-    still_had_in (s ∷ ss) ks hs a ws vss Γ = one_in (‵ (hs.0.has κs a.0 ws.0 vss.0)) (still_had κs ss ks.1 hs.1 a.1 ws.1 vss.1 Γ) Γ
-        (sem 𝓛 (has_of κs ss ks.1 hs.1 a.1 ws.1 vss.1)) (still_had_in ss ks.1 hs.1 a.1 ws.1 vss.1 Γ)
+    still_had_are : (ss : List (Slot n)) (ks : Kepts ss) (hs : Stays ss ks) (a : Denots (types_at ss κs)) (ws : Fins κs ss ks a) (vss : Valss (types_at ss κs))
+        (Γ : List (Item 𝓤)) → Begins (sem 𝓛 (has_of κs ss ks hs a ws vss)) (still_had κs ss ks hs a ws vss Γ) Γ
+    still_had_are [] ks hs a ws vss Γ = none Γ
+    still_had_are (s ∷ ss) ks hs a ws vss Γ = both (one (‵ (hs.0.has κs a.0 ws.0 vss.0))) (still_had_are ss ks.1 hs.1 a.1 ws.1 vss.1 Γ)
 
   module _ (S : Signature) (κs : Lfts S.lifetimes) (qs : Shares S.lifetimes) (a : Args S κs) (vss : Vals S κs) where
     abbrev pub Entered : List (Item 𝓤) → List (Item 𝓤)
     Entered Γ = tokens S.lifetimes κs qs (arguments (types_at S.params κs) a vss Γ)
 
-    entry_in : (Γ : List (Item 𝓤)) → ent 𝓤 (⋆ 𝓛 (Entered Γ)) (sep 𝓤 (on_entry 𝓛 S κs qs a vss) (⋆ 𝓛 Γ))
-    entry_in Γ = let Rs = types_at S.params κs in let Toks = toks 𝓛 S.lifetimes κs qs in let Owns = sem 𝓛 (owns Rs a vss) in
-        via 𝓤 (sep 𝓤 Toks (⋆ 𝓛 (arguments Rs a vss Γ))) (tokens_in S.lifetimes κs qs (arguments Rs a vss Γ))
-        (via 𝓤 (sep 𝓤 Toks (sep 𝓤 Owns (⋆ 𝓛 Γ))) (mono_r 𝓤 Toks (arguments_in Rs a vss Γ)) (assoc' 𝓤 Toks Owns (⋆ 𝓛 Γ)))
-
-    entry_out : (Γ : List (Item 𝓤)) → ent 𝓤 (sep 𝓤 (on_entry 𝓛 S κs qs a vss) (⋆ 𝓛 Γ)) (⋆ 𝓛 (Entered Γ))
-    entry_out Γ = let Rs = types_at S.params κs in let Toks = toks 𝓛 S.lifetimes κs qs in let Owns = sem 𝓛 (owns Rs a vss) in
-        via 𝓤 (sep 𝓤 Toks (sep 𝓤 Owns (⋆ 𝓛 Γ))) (assoc∗ 𝓤 Toks Owns (⋆ 𝓛 Γ))
-        (via 𝓤 (sep 𝓤 Toks (⋆ 𝓛 (arguments Rs a vss Γ))) (mono_r 𝓤 Toks (arguments_out Rs a vss Γ)) (tokens_out S.lifetimes κs qs (arguments Rs a vss Γ)))
+    entry_is : (Γ : List (Item 𝓤)) → Begins (on_entry 𝓛 S κs qs a vss) (Entered Γ) Γ
+    entry_is Γ = both (tokens_are S.lifetimes κs qs (arguments (types_at S.params κs) a vss Γ)) (arguments_are (types_at S.params κs) a vss Γ)
 
     pub opened_by : (Φ : SProp 𝓤) (φ : Type 0) {P : SProp 𝓤} → ent 𝓤 Φ (fact 𝓤 φ) → (φ → Seq (Go {0}) 𝓛 (Entered []) (prop P))
         → ent 𝓤 (sep 𝓤 (on_entry 𝓛 S κs qs a vss) Φ) P
     opened_by Φ φ {P} shows s = let E = on_entry 𝓛 S κs qs a vss in fact_use 𝓤 φ (via 𝓤 Φ (snd∗ 𝓤 E Φ) shows) (λ holds.
-        via 𝓤 (sep 𝓤 E (emp 𝓤)) (mono_r 𝓤 E (top 𝓤 Φ)) (via 𝓤 (⋆ 𝓛 (Entered [])) (entry_out []) (s holds).prf))
+        via 𝓤 (sep 𝓤 E (emp 𝓤)) (mono_r 𝓤 E (top 𝓤 Φ)) (via 𝓤 (⋆ 𝓛 (Entered [])) (entry_is []).apart (s holds).prf))
 
     -- where the `requires` is one fact
     pub opened : (φ : Type 0) {P : SProp 𝓤} → (φ → Seq (Go {0}) 𝓛 (Entered []) (prop P)) → ent 𝓤 (sep 𝓤 (on_entry 𝓛 S κs qs a vss) (sep 𝓤 (fact 𝓤 φ) (emp 𝓤))) P
     opened φ = opened_by (sep 𝓤 (fact 𝓤 φ) (emp 𝓤)) φ (fst∗ 𝓤 (fact 𝓤 φ) (emp 𝓤))
+
+  found : (Γ : List (Item 𝓤)) (π : List ℕ) (Θ : List (Item 𝓤)) → sel 𝓛 (places [] π) Γ ≡ Θ → ent 𝓤 (⋆ 𝓛 Γ) (⋆ 𝓛 Θ)
+  found Γ π Θ at = subst (λ (Δ : List (Item 𝓤)). ent 𝓤 (⋆ 𝓛 Γ) (⋆ 𝓛 Δ)) at (sel⊢ 𝓛 (places [] π) Γ)
 
   -- what a call asks and what it gives, where `says` are the entries that its clauses are
   module _ (T : Ended) (c : Clauses 𝓤 T) (x : (triple_of 𝓛 T.signature (closing 𝓛 T c)).Ghost) where
@@ -122,10 +114,11 @@ module _ {M : Type 1} {𝓤 : Ura M} (𝓛 : Logic 𝓤) where
     abbrev pub Means : (Res S κs → Lasts T κs a → List (Item 𝓤)) → Type 1
     Means says = (r : Res S κs) (ws : Lasts T κs a) → ent 𝓤 ((c κs a).ensures x.1 r (at_exit T κs a ws)) (⋆ 𝓛 (says r ws))
 
-    asked : ent 𝓤 (emp 𝓤) ((c κs a).requires x.1) → (Γ : List (Item 𝓤)) → ent 𝓤 (⋆ 𝓛 (Asks Γ)) (⋆ 𝓛 (raw ((triple_of 𝓛 S (closing 𝓛 T c)).pre x) ∷ Γ))
-    asked met Γ = let E = on_entry 𝓛 S κs x.0.1 a x.0.4 in let R = (c κs a).requires x.1 in let Pre = sep 𝓤 E R in
-        via 𝓤 (sep 𝓤 E (⋆ 𝓛 Γ)) (entry_in S κs x.0.1 a x.0.4 Γ) (via 𝓤 (sep 𝓤 Pre (⋆ 𝓛 Γ)) (mono_l 𝓤 (⋆ 𝓛 Γ) (via 𝓤 (sep 𝓤 (emp 𝓤) E) (emp∗ 𝓤 E)
-        (via 𝓤 (sep 𝓤 R E) (mono_l 𝓤 E met) (comm∗ 𝓤 R E)))) (push 𝓛 (raw Pre) Γ))
+    asked : {K : Type 0} {G : Goal 𝓤 𝓛.H} {Γ Δ : List (Item 𝓤)} → K → (π : List ℕ) → ent 𝓤 (emp 𝓤) ((c κs a).requires x.1) → sel 𝓛 (places [] π) Γ ≡ Asks Δ
+        → Step K 𝓛 (raw ((triple_of 𝓛 S (closing 𝓛 T c)).pre x) ∷ Δ) G Γ G
+    asked {Γ = Γ} {Δ = Δ} t π met at = step (λ s. let E = on_entry 𝓛 S κs x.0.1 a x.0.4 in let R = (c κs a).requires x.1 in
+        let asks = via 𝓤 _ (emp∗ 𝓤 E) (via 𝓤 _ (mono_l 𝓤 E met) (comm∗ 𝓤 R E)) in by t (via 𝓤 _ (found Γ π (Asks Δ) at)
+        (via 𝓤 _ (entry_is S κs x.0.1 a x.0.4 Δ).joined (via 𝓤 _ (mono_l 𝓤 (⋆ 𝓛 Δ) asks) (via 𝓤 _ (push 𝓛 (raw (sep 𝓤 E R)) Δ) s.prf)))))
 
     module _ {K : Type 0} {G : Goal 𝓤 𝓛.H} (t : K) (z : Soaks G) (says : Res S κs → Lasts T κs a → List (Item 𝓤)) (means : Means says) (v : Val) (Γ :
         List (Item 𝓤)) where
@@ -133,47 +126,33 @@ module _ {M : Type 1} {𝓤 : Ura M} (𝓛 : Logic 𝓤) where
       given k = let Says : Res S κs → Lasts T κs a → SProp 𝓤 = λ r ws. (c κs a).ensures x.1 r (at_exit T κs a ws) in
           use1 𝓛 (later (some (λ (r : Res S κs). (raw (alive 𝓛 S κs x.0.1) ⊛ ‵ ((type_at S.result κs).own_val r (v ∷ []))) ⊛
           some (λ (ws : Lasts T κs a). ‵ (lasts T κs a ws) ⊛ raw (Says r ws))))) (id⊢ 𝓤 _) $
-          await t z $ pick t (λ r. split t $ split t $ move t (2 ∷ []) $ pick t (λ ws. split t $ move t (3 ∷ 1 ∷ 2 ∷ 0 ∷ []) $
-          let Own = sem 𝓛 ((type_at S.result κs).own_val r (v ∷ [])) in let Toks = toks 𝓛 S.lifetimes κs x.0.1 in
+          await t z $ pick t (λ r. split t $ split t $ move t (2 ∷ []) $ pick t (λ ws. split t $ move t (2 ∷ 0 ∷ []) $ join t $ move t (2 ∷ 1 ∷ 0 ∷ []) $
+          -- [what is given; what is said; the tokens, and the last values]
           let rest = last_values κs S.params T.kept a ws Γ in let after = tokens S.lifetimes κs x.0.1 rest in
-          let Last : Item 𝓤 = ‵ (lasts T κs a ws) in
-          let lasting : ent 𝓤 (⋆ 𝓛 (Last ∷ Γ)) (⋆ 𝓛 rest) = via 𝓤 (sep 𝓤 (mean 𝓛 Last) (⋆ 𝓛 Γ)) (pop 𝓛 Last Γ) (last_values_out κs S.params T.kept a ws Γ) in
-          let alive_too : ent 𝓤 (sep 𝓤 Toks (⋆ 𝓛 (Last ∷ Γ))) (⋆ 𝓛 after) =
-          via 𝓤 (sep 𝓤 Toks (⋆ 𝓛 rest)) (mono_r 𝓤 Toks lasting) (tokens_out S.lifetimes κs x.0.1 rest) in
-          let said : ent 𝓤 (sep 𝓤 (Says r ws) (sep 𝓤 Toks (⋆ 𝓛 (Last ∷ Γ)))) (⋆ 𝓛 (says r ws ++ after)) =
-          via 𝓤 (sep 𝓤 (Says r ws) (⋆ 𝓛 after)) (mono_r 𝓤 (Says r ws) alive_too)
-          (via 𝓤 (sep 𝓤 (⋆ 𝓛 (says r ws)) (⋆ 𝓛 after)) (mono_l 𝓤 (⋆ 𝓛 after) (means r ws)) (++⊢ 𝓛 (says r ws) after)) in
-          by t (via 𝓤 (sep 𝓤 Own (⋆ 𝓛 (says r ws ++ after))) (mono_r 𝓤 Own said)
-          (via 𝓤 (⋆ 𝓛 (Gives says v r ws Γ)) (push 𝓛 (‵ ((type_at S.result κs).own_val r (v ∷ []))) (says r ws ++ after)) (k r ws).prf))))
+          let entries = via 𝓤 _ (pop 𝓛 _ Γ) (both (tokens_are S.lifetimes κs x.0.1 rest) (last_values_are κs S.params T.kept a ws Γ)).apart in
+          let said = via 𝓤 _ (mono_r 𝓤 (Says r ws) entries) (via 𝓤 _ (mono_l 𝓤 (⋆ 𝓛 after) (means r ws)) (++⊢ 𝓛 (says r ws) after)) in
+          let Own : Item 𝓤 = ‵ ((type_at S.result κs).own_val r (v ∷ [])) in
+          by t (via 𝓤 _ (mono_r 𝓤 (mean 𝓛 Own) said) (via 𝓤 _ (push 𝓛 Own (says r ws ++ after)) (k r ws).prf))))
 
-found : {M : Type 1} {𝓤 : Ura M} (𝓛 : Logic 𝓤) (Γ : List (Item 𝓤)) (π : List ℕ) (Θ : List (Item 𝓤)) → sel 𝓛 (places [] π) Γ ≡ Θ → ent 𝓤 (⋆ 𝓛 Γ) (⋆ 𝓛 Θ)
-found {𝓤 = 𝓤} 𝓛 Γ π Θ at = let Ξ = sel 𝓛 (places [] π) Γ in
-    via 𝓤 (⋆ 𝓛 Ξ) (sel⊢ 𝓛 (places [] π) Γ) (subst (λ (Δ : List (Item 𝓤)). ent 𝓤 (⋆ 𝓛 Ξ) (⋆ 𝓛 Δ)) at (id⊢ 𝓤 (⋆ 𝓛 Ξ)))
+  -- such a call of `run`, from what stands at π, after which the goal is `after`
+  abbrev Called : (T : Ended) (c : Clauses 𝓤 T) (K : Type 0) (π : List ℕ) (Γ Δ : List (Item 𝓤)) (E : Env 𝓤 𝓛.H) (run : Fun 𝓤) (xs : List Operand)
+      (after : Val → Goal 𝓤 𝓛.H) (G : Goal 𝓤 𝓛.H) → Type 2
+  Called T c K π Γ Δ E run xs after G = let D = triple_of 𝓛 T.signature (closing 𝓛 T c) in Triple 𝓤 run D → (x : D.Ghost)
+      → ent 𝓤 (emp 𝓤) ((c x.0.0 x.0.3).requires x.1) → sel 𝓛 (places [] π) Γ ≡ Asks T c x Δ → Opds K 𝓛 (raw (D.pre x) ∷ Δ) E xs (D.args x)
+      → (says : Res T.signature x.0.0 → Lasts T x.0.0 x.0.3 → List (Item 𝓤)) → Means T c x says
+      → ((v : Val) (r : Res T.signature x.0.0) (ws : Lasts T x.0.0 x.0.3) → Seq K 𝓛 (Gives T c x says v r ws Δ) (after v)) → Seq K 𝓛 Γ G
 
 module _ {M : Type 1} {𝓤 : Ura M} {𝓛 : Logic 𝓤} {K : Type 0} {Γ Δ : List (Item 𝓤)} where
   module _ {E : Env 𝓤 𝓛.H} {C : Calls 𝓤 𝓛.H} {Λ : Loops 𝓤 𝓛.H} {q : Post 𝓤 𝓛.H} {f : Callee} {xs : List Operand} {d : Place} (t : K) (π : List ℕ) (fm :
       FmC 𝓤 𝓛.H 𝓛.laws C) where
-    pub calls : {rest : Body} (T : Ended) (c : Clauses 𝓤 T) → let D = triple_of 𝓛 T.signature (closing 𝓛 T c) in Triple 𝓤 (C f) D → (x : D.Ghost)
-        → ent 𝓤 (emp 𝓤) ((c x.0.0 x.0.3).requires x.1) → sel 𝓛 (places [] π) Γ ≡ Asks 𝓛 T c x Δ → Opds K 𝓛 (raw (D.pre x) ∷ Δ) E xs (D.args x)
-        → (says : Res T.signature x.0.0 → Lasts T x.0.0 x.0.3 → List (Item 𝓤)) → Means 𝓛 T c x says
-        → ((v : Val) (r : Res T.signature x.0.0) (ws : Lasts T x.0.0 x.0.3) → Seq K 𝓛 (Gives 𝓛 T c x says v r ws Δ) (lands C Λ E d v rest q))
-        → Seq K 𝓛 Γ (runs C Λ E (seq (call f xs d) rest) q)
-    calls T c met x holds at os says means k = let D = triple_of 𝓛 T.signature (closing 𝓛 T c) in
-        record {
-          prf = via 𝓤 (⋆ 𝓛 (Asks 𝓛 T c x Δ)) (found 𝓛 Γ π (Asks 𝓛 T c x Δ) at) (via 𝓤 (⋆ 𝓛 (raw (D.pre x) ∷ Δ)) (asked 𝓛 T c x holds Δ)
-              (calls_at t fm D met x os (λ v. given 𝓛 T c x t tt says means v Δ (k v))).prf);
-        }
+    pub calls : {rest : Body} (T : Ended) (c : Clauses 𝓤 T) → Called 𝓛 T c K π Γ Δ E (C f) xs (λ v. lands C Λ E d v rest q)
+        (runs C Λ E (seq (call f xs d) rest) q)
+    calls T c met x holds at os says means k = asked 𝓛 T c x t π holds at $
+        calls_at t fm (triple_of 𝓛 T.signature (closing 𝓛 T c)) met x os (λ v. given 𝓛 T c x t tt says means v Δ (k v))
 
-    pub calls_last : (T : Ended) (c : Clauses 𝓤 T) → let D = triple_of 𝓛 T.signature (closing 𝓛 T c) in Triple 𝓤 (C f) D → (x : D.Ghost)
-        → ent 𝓤 (emp 𝓤) ((c x.0.0 x.0.3).requires x.1) → sel 𝓛 (places [] π) Γ ≡ Asks 𝓛 T c x Δ → Opds K 𝓛 (raw (D.pre x) ∷ Δ) E xs (D.args x)
-        → (says : Res T.signature x.0.0 → Lasts T x.0.0 x.0.3 → List (Item 𝓤)) → Means 𝓛 T c x says
-        → ((v : Val) (r : Res T.signature x.0.0) (ws : Lasts T x.0.0 x.0.3) → Seq K 𝓛 (Gives 𝓛 T c x says v r ws Δ) (settles E d v q))
-        → Seq K 𝓛 Γ (runs C Λ E (call f xs d) q)
-    calls_last T c met x holds at os says means k = let D = triple_of 𝓛 T.signature (closing 𝓛 T c) in
-        record {
-          prf = via 𝓤 (⋆ 𝓛 (Asks 𝓛 T c x Δ)) (found 𝓛 Γ π (Asks 𝓛 T c x Δ) at) (via 𝓤 (⋆ 𝓛 (raw (D.pre x) ∷ Δ)) (asked 𝓛 T c x holds Δ)
-              (calls_at_last {Λ = Λ} t fm D met x os (λ v. given 𝓛 T c x t tt says means v Δ (k v))).prf);
-        }
+    pub calls_last : (T : Ended) (c : Clauses 𝓤 T) → Called 𝓛 T c K π Γ Δ E (C f) xs (λ v. settles E d v q) (runs C Λ E (call f xs d) q)
+    calls_last T c met x holds at os says means k = asked 𝓛 T c x t π holds at $
+        calls_at_last {Λ = Λ} t fm (triple_of 𝓛 T.signature (closing 𝓛 T c)) met x os (λ v. given 𝓛 T c x t tt says means v Δ (k v))
 
   pub ends : K → (π : List ℕ) (T : Ended) (hs : Stays T.signature.params T.kept) (c : Clauses 𝓤 T) (y : (walk_of 𝓛 T hs c).Ghost) (v : Val) (r :
       Res T.signature y.0.0) (ws : Lasts T y.0.0 y.0.3) → Fit T hs y.0.0 y.0.3 ws
@@ -181,16 +160,11 @@ module _ {M : Type 1} {𝓤 : Ura M} {𝓛 : Logic 𝓤} {K : Type 0} {Γ Δ : L
       (‵ ((type_at T.signature.result y.0.0).own_val r (v ∷ [])) ∷ Δ))
       → Step K 𝓛 Δ (prop ((c y.0.0 y.0.3).ensures y.1 r (at_exit T y.0.0 y.0.3 ws))) Γ (prop ((walk_of 𝓛 T hs c).post y v))
   ends t π T hs c y v r ws fits at = step (λ s. let S = T.signature in let κs = y.0.0 in let Own : Item 𝓤 = ‵ ((type_at S.result κs).own_val r (v ∷ [])) in
-      let Ens = (c κs y.0.3).ensures y.1 r (at_exit T κs y.0.3 ws) in let Toks = toks 𝓛 S.lifetimes κs y.0.1 in
-      let rest = still_had κs S.params T.kept hs y.0.3 ws y.0.4 (Own ∷ Δ) in let Has = sem 𝓛 (has_of κs S.params T.kept hs y.0.3 ws y.0.4) in
-      let result : ent 𝓤 (⋆ 𝓛 (Own ∷ Δ)) (sep 𝓤 (mean 𝓛 Own) Ens) = via 𝓤 (sep 𝓤 (mean 𝓛 Own) (⋆ 𝓛 Δ)) (pop 𝓛 Own Δ) (mono_r 𝓤 (mean 𝓛 Own) s.prf) in
-      let had : ent 𝓤 (⋆ 𝓛 rest) (sep 𝓤 Has (sep 𝓤 (mean 𝓛 Own) Ens)) = via 𝓤 (sep 𝓤 Has (⋆ 𝓛 (Own ∷ Δ))) (still_had_in 𝓛 κs S.params T.kept hs y.0.3 ws y.0.4
-      (Own ∷ Δ)) (mono_r 𝓤 Has result) in
-      let all = tokens S.lifetimes κs y.0.1 rest in
-      record {
-        prf = via 𝓤 (⋆ 𝓛 all) (found 𝓛 Γ π all at) (via 𝓤 (sep 𝓤 Toks (⋆ 𝓛 rest)) (tokens_in 𝓛 S.lifetimes κs y.0.1 rest)
-            (via 𝓤 (sep 𝓤 Toks (sep 𝓤 Has (sep 𝓤 (mean 𝓛 Own) Ens))) (mono_r 𝓤 Toks had) (leaves 𝓛 T hs c y v r ws fits)));
-      })
+      let rest = still_had κs S.params T.kept hs y.0.3 ws y.0.4 (Own ∷ Δ) in let all = tokens S.lifetimes κs y.0.1 rest in
+      let had = via 𝓤 _ (still_had_are 𝓛 κs S.params T.kept hs y.0.3 ws y.0.4 (Own ∷ Δ)).joined
+      (mono_r 𝓤 (sem 𝓛 (has_of κs S.params T.kept hs y.0.3 ws y.0.4)) (via 𝓤 _ (pop 𝓛 Own Δ) (mono_r 𝓤 (mean 𝓛 Own) s.prf))) in
+      let kept = via 𝓤 _ (tokens_are 𝓛 S.lifetimes κs y.0.1 rest).joined (mono_r 𝓤 (toks 𝓛 S.lifetimes κs y.0.1) had) in
+      record { prf = via 𝓤 (⋆ 𝓛 all) (found 𝓛 Γ π all at) (via 𝓤 _ kept (leaves 𝓛 T hs c y v r ws fits)) })
 
 -- clauses that are facts
 module _ {M : Type 1} {𝓤 : Ura M} {𝓛 : Logic 𝓤} {K : Type 0} {Γ : List (Item 𝓤)} where

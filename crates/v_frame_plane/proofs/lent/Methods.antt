@@ -4,20 +4,20 @@
 --     meets_by     it meets its contract, where its code is walked from self and the tokens.        gives     how such a walk ends
 --     calls_self     it is called on a self that lies in a cell, which is lent to the call and is there again as the call left it
 use Rattle.v_frame_plane.proofs.lent.Steps.{ℕ, ◌≡◌, List, [], ◌∷◌, MutBor, refl, ap, Lft, Share, fat, flft, fobs, fbor, full_share, SProp, ent, emp, sep, ◌⊑◌}
-use Rattle.v_frame_plane.proofs.lent.Steps.{⊑_trans, meet_⊑_right, Fun, fact, tables, mem, RattleType, MutRef, mut_vals, mut_Tells, plain, named_lft}
-use Rattle.v_frame_plane.proofs.lent.Steps.{NamedLft, Slot, Stays, stay_ref, Goes-ref, walk_of, proved, yes, heard, only, closing, Clauses, Ended, Meets}
-use Rattle.v_frame_plane.proofs.lent.Steps.{lone, AllOutlive, Lfts, Shares, Ty, named, Val, vptr, Ura, Item, Seq, Sq, Step, step, mean, prop, ‵, raw, ◌⊛◌}
-use Rattle.v_frame_plane.proofs.lent.Steps.{◌$◌, ◌∵◌, !, qed, drop, feq_i, fjoin3, fsplit, keep, move, split, split3, use1, use2, Logic, Body, Go}
-use Rattle.v_frame_plane.proofs.lent.Steps.{MachineTables, Running, Model, Closed, Callee, Fn, Local, Place, Opd as Operand, assign, call, copy, local, place}
-use Rattle.v_frame_plane.proofs.lent.Steps.{seq, value_local, Calls, Env, Loops, FmC, Post, lands, runs, Opds, ftrue, id⊢}
-use base.Share
+use Rattle.v_frame_plane.proofs.lent.Steps.{⊑_trans, meet_⊑_right, Fun, fact, tables, mem, RattleType, MutRef, mut_vals, mut_Tells, plain, named_lft, NamedLft}
+use Rattle.v_frame_plane.proofs.lent.Steps.{Stays, stay_ref, Goes-ref, walk_of, proved, yes, heard, only, closing, Clauses, Ended, Meets, lone, AllOutlive}
+use Rattle.v_frame_plane.proofs.lent.Steps.{Lfts, Shares, Ty, named, Val, vptr, Ura, Item, Seq, Sq, Step, step, mean, prop, ‵, raw, ◌⊛◌, ◌$◌, ◌∵◌, !, qed, drop}
+use Rattle.v_frame_plane.proofs.lent.Steps.{feq_i, fjoin3, fsplit, keep, move, split, split3, use1, use2, Logic, Body, Go, MachineTables, Running, Model}
+use Rattle.v_frame_plane.proofs.lent.Steps.{Closed, Callee, Fn, Local, Place, Opd as Operand, assign, call, copy, local, place, seq, value_local, Calls, Env}
+use Rattle.v_frame_plane.proofs.lent.Steps.{Loops, FmC, Post, lands, runs, Opds, ftrue, id⊢}
 use denote.Lowered.{Lowered}
 use denote.Signature.{mut_ref_to}
 use mir.Raw.{raw as raw_ty}
 use mir.Syntax.{Body as Code, Rv}
 use prog.Wp.{WpFn}
-use Rattle.v_frame_plane.proofs.lent.CallSteps.{asks_also, calls, ends}
+use Rattle.v_frame_plane.proofs.lent.CallSteps.{asks_also, calls, ends, tokens}
 use Rattle.v_frame_plane.proofs.lent.Loans.{comes_back, lends, lft_over, share_within}
+use base.Share
 
 -- its code
 abbrev pub in_order : List Code → Code → Code
@@ -58,8 +58,9 @@ pub record Method {M : Type 1} (𝓤 : Ura M) : Type 2 where
   pub says : (ℓ : NamedLft) → (R ℓ).Denot → (Out ℓ).Denot → (R ℓ).Denot → Item 𝓤
 
 module _ {M : Type 1} {𝓤 : Ura M} (m : Method 𝓤) where
-  abbrev self_slot : Slot 3
-  self_slot = plain (λ κs. m.R (named_lft 3 1 tt κs))
+  -- the row of self at a caller's lifetimes: that of self, that of what is lent, and T's
+  abbrev row : Lfts 3 → RattleType
+  row κs = m.R (named_lft 3 1 tt κs)
 
   abbrev pub ended : Ended
   ended = record {
@@ -67,14 +68,17 @@ module _ {M : Type 1} {𝓤 : Ura M} (m : Method 𝓤) where
       lifetimes = 3;
       outlives = record { long = 1; long_ok = tt; short = named 0; short_ok = tt } ∷ record { long = 2; long_ok = tt; short = named 0; short_ok = tt } ∷
           record { long = 2; long_ok = tt; short = named 1; short_ok = tt } ∷ [];
-      params = mut_ref_to (0 ∷ []) tt self_slot ∷ [];
+      params = mut_ref_to (0 ∷ []) tt (plain row) ∷ [];
       result = plain (λ κs. m.Out (named_lft 3 1 tt κs));
     };
     kept = (yes, tt);
   }
 
   abbrev stayed : Stays ended.signature.params ended.kept
-  stayed = (stay_ref (0 ∷ []) tt self_slot, tt)
+  stayed = (stay_ref (0 ∷ []) tt (plain row), tt)
+
+  abbrev Bounds : Lfts 3 → Type 0
+  Bounds = AllOutlive 3 ended.signature.outlives
 
   module _ (𝓛 : Logic 𝓤) where
     abbrev pub clauses : Clauses 𝓤 ended
@@ -87,38 +91,35 @@ module _ {M : Type 1} {𝓤 : Ura M} (m : Method 𝓤) where
     abbrev pub Met : Fun 𝓤 → Type 1
     Met run = Meets 𝓛 ended.signature run (closing 𝓛 ended clauses)
 
-    module _ (κs : Lfts 3) (qs : Shares 3) (bounds : AllOutlive 3 ended.signature.outlives κs) (self : MutBor (m.R (named_lft 3 1 tt κs)).Denot) where
-      abbrev pub Ends : Val → SProp 𝓤
-      Ends = (walk_of 𝓛 ended stayed clauses).post ((κs, qs, bounds, (self, tt), (mut_vals self, tt)), tt)
+    abbrev pub Ends : (κs : Lfts 3) → Shares 3 → Bounds κs → MutBor (row κs).Denot → Val → SProp 𝓤
+    Ends κs qs bounds self = (walk_of 𝓛 ended stayed clauses).post ((κs, qs, bounds, (self, tt), (mut_vals self, tt)), tt)
 
 module _ {M : Type 1} {𝓤 : Ura M} (𝓛 : Logic 𝓤) (𝓜 : Model 𝓤 𝓛.H) (𝓡 : Running 𝓤 𝓛.H 𝓜) (m : Method 𝓤) where
   abbrev 𝓣 : MachineTables 𝓤 𝓛.H 𝓜
   𝓣 = tables 𝓤 𝓛.H 𝓜 𝓡 𝓡.env
 
   pub meets_by : (key : Callee) (function : Fn) → Closed 𝓤 𝓛.H 𝓣.C 𝓣.Λ key function
-      → ((κs : Lfts 3) (qs : Shares 3) (bounds : AllOutlive 3 (ended m).signature.outlives κs) (self : MutBor (m.R (named_lft 3 1 tt κs)).Denot) →
-      κs.1.1.0 ⊑ m.lives → let ℓ = named_lft 3 1 tt κs in
-      Sq 𝓛 (m.asks ℓ self.now ∷ ‵ ((MutRef (named 0) κs.0 (m.R ℓ)).own_val self (mut_vals self)) ∷ ‵ (flft κs.0 qs.0) ∷ ‵ (flft κs.1.0 qs.1.0) ∷
-      ‵ (flft κs.1.1.0 qs.1.1.0) ∷ []) (prop (WpFn 𝓤 𝓛.H 𝓣.C 𝓣.Λ function (mut_vals self) (Ends m 𝓛 κs qs bounds self))))
-      → Met m 𝓛 (𝓣.C key)
+      → ((κs : Lfts 3) (qs : Shares 3) (bounds : Bounds m κs) (self : MutBor (row m κs).Denot) → κs.1.1.0 ⊑ m.lives →
+      Sq 𝓛 (m.asks (named_lft 3 1 tt κs) self.now ∷ ‵ ((MutRef (named 0) κs.0 (row m κs)).own_val self (mut_vals self)) ∷ tokens 3 κs qs [])
+      (prop (WpFn 𝓤 𝓛.H 𝓣.C 𝓣.Λ function (mut_vals self) (Ends m 𝓛 κs qs bounds self)))) → Met m 𝓛 (𝓣.C key)
   meets_by key function closed walk =
-      proved 𝓛 (ended m) (stayed m) (clauses m 𝓛) 𝓜 𝓡 (Goes-ref 𝓛 3 0 tt (self_slot m), tt) key function closed (λ κs. (mut_vals, tt))
-      (λ κs. (mut_Tells (named 0) κs.0 (m.R (named_lft 3 1 tt κs)), tt)) (λ κs qs bounds a g are.
-      let Self = (MutRef (named 0) κs.0 (m.R (named_lft 3 1 tt κs))).own_val a.0 (mut_vals a.0) in let lives : Type 0 = κs.1.1.0 ⊑ m.lives in
-      qed 𝓛 (((‵ (flft κs.0 qs.0) ⊛ ‵ (flft κs.1.0 qs.1.0) ⊛ ‵ (flft κs.1.1.0 qs.1.1.0) ⊛ ‵ ftrue) ⊛ ‵ Self ⊛ ‵ ftrue) ∷ raw (fact 𝓤 lives) ∷
+      proved 𝓛 (ended m) (stayed m) (clauses m 𝓛) 𝓜 𝓡 (Goes-ref 𝓛 3 0 tt (plain (row m)), tt) key function closed (λ κs. (mut_vals, tt))
+      (λ κs. (mut_Tells (named 0) κs.0 (row m κs), tt)) (λ κs qs bounds a g are.
+      qed 𝓛 (((‵ (flft κs.0 qs.0) ⊛ ‵ (flft κs.1.0 qs.1.0) ⊛ ‵ (flft κs.1.1.0 qs.1.1.0) ⊛ ‵ ftrue) ⊛
+      ‵ ((MutRef (named 0) κs.0 (row m κs)).own_val a.0 (mut_vals a.0)) ⊛ ‵ ftrue) ∷ raw (fact 𝓤 (κs.1.1.0 ⊑ m.lives)) ∷
       m.asks (named_lft 3 1 tt κs) a.0.now ∷ []) ∵
       move ! (1 ∷ []) $ heard ! _ (λ inT. split ! $ split ! $ move ! (1 ∷ []) $ split3 ! $ move ! (4 ∷ []) $ split ! $ keep ! (6 ∷ 0 ∷ 5 ∷ 2 ∷ 3 ∷ []) $
       walk κs qs bounds a.0 inT))
 
 module _ {M : Type 1} {𝓤 : Ura M} {𝓛 : Logic 𝓤} {Γ : List (Item 𝓤)} where
   -- what is given, self in two, the tokens
-  pub gives : Go {0} → (m : Method 𝓤) (κs : Lfts 3) (qs : Shares 3) (bounds : AllOutlive 3 (ended m).signature.outlives κs) →
-      let ℓ = named_lft 3 1 tt κs in (self : MutBor (m.R ℓ).Denot) (v : Val) (r : (m.Out ℓ).Denot) (new : (m.R ℓ).Denot)
-      → Step (Go {0}) 𝓛 Γ (prop (mean 𝓛 (m.says ℓ self.now r new))) (‵ ((m.Out ℓ).own_val r (v ∷ [])) ∷ ‵ (fobs self.ghost_name ((m.R ℓ).coded.code new)) ∷
-      ‵ (fbor κs.0 (Body (mem (m.R ℓ)) self.ref_ptr.0 self.ref_ptr.1 self.ghost_name)) ∷ ‵ (flft κs.0 qs.0) ∷ ‵ (flft κs.1.0 qs.1.0) ∷
-      ‵ (flft κs.1.1.0 qs.1.1.0) ∷ Γ) (prop (Ends m 𝓛 κs qs bounds self v))
+  pub gives : Go {0} → (m : Method 𝓤) (κs : Lfts 3) (qs : Shares 3) (bounds : Bounds m κs) (self : MutBor (row m κs).Denot) (v : Val) →
+      let ℓ = named_lft 3 1 tt κs in (r : (m.Out ℓ).Denot) (new : (row m κs).Denot)
+      → Step (Go {0}) 𝓛 Γ (prop (mean 𝓛 (m.says ℓ self.now r new))) (‵ ((m.Out ℓ).own_val r (v ∷ [])) ∷ ‵ (fobs self.ghost_name ((row m κs).coded.code new)) ∷
+      ‵ (fbor κs.0 (Body (mem (row m κs)) self.ref_ptr.0 self.ref_ptr.1 self.ghost_name)) ∷ tokens 3 κs qs Γ) (prop (Ends m 𝓛 κs qs bounds self v))
   gives t m κs qs bounds self v r new = step (λ k. move ! (1 ∷ 2 ∷ []) $ feq_i ! (List Val) (mut_vals self) (mut_vals self) refl $ fjoin3 ! $
-      ends ! (2 ∷ 3 ∷ 4 ∷ 0 ∷ 1 ∷ []) (ended m) (stayed m) (clauses m 𝓛) ((κs, qs, bounds, (self, tt), (mut_vals self, tt)), tt) v r (new, tt) (tt, tt) refl $ k)
+      ends ! (2 ∷ 3 ∷ 4 ∷ 0 ∷ 1 ∷ []) (ended m) (stayed m) (clauses m 𝓛) ((κs, qs, bounds, (self, tt), (mut_vals self, tt)), tt) v r (new, tt) (tt, tt) refl $
+      k)
 
 module _ {M : Type 1} {𝓤 : Ura M} {𝓛 : Logic 𝓤} {K : Type 0} {Γ : List (Item 𝓤)} {E : Env 𝓤 𝓛.H} {C : Calls 𝓤 𝓛.H} {Λ : Loops 𝓤 𝓛.H} {p : Post 𝓤 𝓛.H} {f :
     Callee} {xs : List Operand} {d : Place} {rest : Code} where
@@ -135,17 +136,12 @@ module _ {M : Type 1} {𝓤 : Ura M} {𝓛 : Logic 𝓤} {K : Type 0} {Γ : List
       let ℓ : NamedLft = record { mir = named 1; lft = κ } in let R = m.R ℓ in
       move t (2 ∷ []) $ use1 𝓛 (‵ (flft κ (Share.left q)) ⊛ ‵ (flft κ (Share.right q))) (𝓛.lfts.lft_split κ q) $ split t $ move t (2 ∷ 3 ∷ 0 ∷ []) $
       lends t tt R one τ same κ (Share.left q) old b o (low.lowered old) (λ α γ. let κc : Lft = α ∷ κ in let in_c = meet_⊑_right (α ∷ []) κ in
+      let self : MutBor R.Denot = record { ref_ptr = (b, o); ghost_name = γ; now = old } in let κs : Lfts 3 = (κc, (κ, (κT, tt))) in
+      let qs : Shares 3 = (share_within (Share.left q), (Share.right q, (qT, tt))) in
+      let bounds : Bounds m κs = (in_c, (⊑_trans κc κ κT in_c inside, (inside, tt))) in
       -- [self, lent; what its lender keeps; the token of the loan; the way back; the tokens of κ and κT]
-      calls t (2 ∷ 4 ∷ 5 ∷ 0 ∷ []) run (ended m) (clauses m 𝓛) met (
-        (
-          (κc, (κ, (κT, tt))),
-          (share_within (Share.left q), (Share.right q, (qT, tt))),
-          (in_c, (⊑_trans κc κ κT in_c inside, (inside, tt))),
-          (record { ref_ptr = (b, o); ghost_name = γ; now = old }, tt),
-          (vptr b o ∷ [], tt),
-        ),
-        tt,
-      ) (asks_also 𝓤 inT holds) refl (os _ _ _) (λ r ws. m.says ℓ old r ws.0 ∷ []) (λ r ws. id⊢ 𝓤 _) (λ v r ws. let new = ws.0 in
+      calls t (2 ∷ 4 ∷ 5 ∷ 0 ∷ []) run (ended m) (clauses m 𝓛) met ((κs, qs, bounds, (self, tt), (vptr b o ∷ [], tt)), tt) (asks_also 𝓤 inT holds) refl
+      (os _ _ _) (λ r ws. m.says ℓ old r ws.0 ∷ []) (λ r ws. id⊢ 𝓤 _) (λ v r ws. let new = ws.0 in
       -- [what is given; what is said; the tokens of the loan, of κ and of κT; the last value; what the lender keeps; the way back]
       move t (2 ∷ 7 ∷ []) $ lft_over t tt α κ (Share.left q) $ move t (1 ∷ 4 ∷ []) $ use2 𝓛 (‵ (flft κ q)) (𝓛.lfts.lft_join κ q) $
       move t (5 ∷ []) $ fsplit t $ move t (3 ∷ 7 ∷ 0 ∷ []) $

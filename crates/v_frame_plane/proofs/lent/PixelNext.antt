@@ -27,12 +27,11 @@ use Rattle.v_frame_plane.proofs.lent.PixelSides.{pixel_draw, row_draw}
 use Rattle.v_frame_plane.proofs.lent.Sides.{Side, Steps, Takes, near, put, slot, far, offset, walk_by, LendsRow, YieldsRow, no_rows, other, row_steps}
 use Rattle.v_frame_plane.proofs.lent.PixelCuts.{Cut, cuts_one, fewer, steps, takes_near}
 use Rattle.v_frame_plane.proofs.lent.Cuts.{slice_fits, dropped}
-use Rattle.v_frame_plane.proofs.lent.Taken.{Take, calls_take, word}
+use Rattle.v_frame_plane.proofs.lent.Taken.{IsTake, by_row, calls_take, word}
 use Rattle.v_frame_plane.proofs.lent.RowDraws.{some_left}
 use Rattle.v_frame_plane.specs.SecondRows.{EndsAs}
 use Rattle.v_frame_plane.proofs.lent.PixelLoans.{begun, begun_countable, begun_full, begun_left, keeps_begun, keeps_taken, taken, taken_countable, taken_left}
 use Rattle.v_frame_plane.proofs.lent.PixelLoans.{taken_none}
-use Rattle.v_frame_plane.proofs.lent.RowCalls.{by_row}
 use Rattle.v_frame_plane.proofs.lent.CallSteps.{tells, told}
 use Rattle.v_frame_plane.proofs.lent.Methods.{Ends, Met, calls_self, gets, gives, in_order, meets_by, method, set, value}
 use Rattle.v_frame_plane.proofs.rows_mut.RowsMut.TheLaws.{lowers as rows_lowers}
@@ -86,7 +85,7 @@ module _ {M : Type 1} {𝓤 : Ura M} (𝓛 : Logic 𝓤) (𝓜 : Model 𝓤 𝓛
   𝓣 = tables 𝓤 𝓛.H 𝓜 𝓡 𝓡.env
 
   pub meets : (option self rows pair : Sym) (kept lent entry : Ty) (drawing taking cutting key : Callee) → Met (row_draw 𝓤 T s) 𝓛 (𝓣.C drawing) →
-      ((κ : Lft) → κ ⊑ T.lives → Triple 𝓤 (𝓣.C taking) (Take 𝓛 𝓜.mem 𝓡.returns T κ)) → Triple 𝓤 (𝓣.C cutting) (Cut 𝓛 T s) →
+      IsTake 𝓛 𝓜.mem 𝓡.returns T (𝓣.C taking) → Triple 𝓤 (𝓣.C cutting) (Cut 𝓛 T s) →
       Closed 𝓤 𝓛.H 𝓣.C 𝓣.Λ key (code option self rows pair kept lent entry s drawing taking cutting) → Met (pixel_draw 𝓤 T s) 𝓛 (𝓣.C key)
   meets option self' rows' pair kept lent entry drawing taking cutting key draw_meets take_meets cut_meets closed =
       let item = param 0 T in let m = pixel_draw 𝓤 T s in let run = framed 𝓤 𝓛.H 𝓜 𝓣 in

@@ -1,35 +1,28 @@
 -- The end of an iterator that lends pixels at which a function works, in code, in memory and in contracts, so that one proof follows the functions of both
--- ends.
--- Assumes `Logic`.
+-- ends. Assumes `Logic`.
 --     near_len, near_fits     the length of this end's row, as code reads it of self, and that it fits
 --     near_place, near_part, near_out, far_out     the field of this end in code, in the cell of self, and out of it
 --     whole_by, by_sides     self as a machine value, of its parts as seen from this end.        sides, joins_by     self, apart, and again together
 --     cut_clauses, row_draw, pixel_draw     the contracts of the functions of this end
-use Rattle.v_frame_plane.proofs.lent.Steps.{ℕ, ◌≡◌, ◌+◌, ◌^◌, ◌<◌, List, [], ◌∷◌, length, MutBor, ⊤, MakesProgress, item_count, Share}
-use Rattle.v_frame_plane.proofs.lent.Steps.{Step, step, !, refl, ◌$◌, move, Array, Laws, MutSlice, NamedLft, Goal, Seq, Soaks}
+use Rattle.v_frame_plane.proofs.lent.Steps.{ℕ, ◌≡◌, ◌+◌, ◌^◌, ◌<◌, List, [], ◌∷◌, length, MutBor, ⊤, MakesProgress, item_count, Share, Lft, fauth, fbor, fobor}
+use Rattle.v_frame_plane.proofs.lent.Steps.{fobs, flft, mem, Body, Step, step, !, refl, ◌$◌, move, Array, Laws, MutSlice, NamedLft, Goal, Seq, Soaks}
 use Rattle.v_frame_plane.proofs.lent.Steps.{follows_both, full_share, fat, ftrue, ent, sep, fact, ◌⊑◌, param, RattleType, Clauses, Ty, Val, vptr, vint, w64}
 use Rattle.v_frame_plane.proofs.lent.Steps.{Ura, Item, ‵, Logic, sem, sub, fld, look_in, load, of_opd, stop, through, erased, mut, slice_ty, tcons, tnil}
-use Rattle.v_frame_plane.proofs.lent.Steps.{ty_param, ty_ref, ty_struct, T, Sym, deref, field, place, copy, rv_opd, Fits, WT, has_ty, Env, at, Go, nth}
-use Rattle.v_frame_plane.proofs.lent.Steps.{Part, Finds, Rv, raw, ◌⊛◌, MutRef}
-use Rattle.std.specs.contracts.option.Option as Opt
-use Rattle.v_frame_plane.specs.PixelsLeft.{pixels_left}
-use Rattle.v_frame_plane.specs.RowsLeft.{rows_left}
-use Rattle.v_frame_plane.specs.contracts.pixels_mut.cut_first
-use Rattle.v_frame_plane.specs.contracts.pixels_mut.PixelsMut.{the_row}
-use Rattle.v_frame_plane.specs.contracts.rows_mut.RowsMut as rows_mut
-use Rattle.v_frame_plane.specs.declared.rows_mut.RowsMut.{RowsMut}
-use Rattle.v_frame_plane.specs.declared.pixels_mut.PixelsMut.{PixelsMut}
-use Rattle.v_frame_plane.proofs.lent.Methods.{Method}
+use Rattle.v_frame_plane.proofs.lent.Steps.{ty_param, ty_ref, ty_struct, Gv, T, Sym, deref, field, place, copy, rv_opd, Fits, WT, has_ty, Env, at, Go, nth}
+use Rattle.v_frame_plane.proofs.lent.Steps.{Part, Finds, Rv, raw, ◌⊛◌, unit, MutRef}
 use Rattle.v_frame_plane.proofs.lent.PixelMemory.{Around, Bare, Named, back_out, joins_pixels, front_out, lowered, parts, whole}
-use Rattle.v_frame_plane.proofs.lent.RowMemory.{Numbers, slice_of, lowered as rows_lowered}
-use Rattle.v_frame_plane.proofs.lent.Sides.{Side, at_front, at_back, slot, other, offset, near, far, put, Countable, walk_by, Yields, YieldsRow}
-use Rattle.v_frame_plane.proofs.lent.Sides.{LendsRow, Lends}
-use Rattle.v_frame_plane.proofs.lent.Taken.{Slice, word}
+use Rattle.v_frame_plane.proofs.lent.Sides.{Side, at_front, at_back, at_side, slot, other, offset, near, far, put, Countable, walk_by, Steps, Yields, YieldsRow}
+use Rattle.v_frame_plane.proofs.lent.Sides.{LendsRow, Takes, Lends}
+use Rattle.v_frame_plane.specs.{PixelsLeft.pixels_left, RowsLeft.rows_left, SecondPixels.KeepsPixels, contracts.pixels_mut.PixelsMut.the_row}
+use Rattle.v_frame_plane.specs.{declared.pixels_mut.PixelsMut.PixelsMut, declared.rows_mut.RowsMut.RowsMut}
+use Rattle.v_frame_plane.proofs.lent.{Methods.Method, RowMemory.Numbers, RowMemory.lowered as rows_lowered, RowMemory.slice_of, Taken.Slice, Taken.word}
+use Rattle.std.specs.contracts.option.Option as Opt
+use Rattle.v_frame_plane.specs.contracts.pixels_mut.cut_first
+use Rattle.v_frame_plane.specs.contracts.rows_mut.RowsMut as rows_mut
 
 -- self as a machine value, of its field at this end, its rows and its field at the other end
 abbrev pub whole_by : Side → Val → Val → Val → Val
-whole_by at_front near rows far = whole near rows far
-whole_by at_back near rows far = whole far rows near
+whole_by s near rows far = whole (at_side s near far) rows (at_side s far near)
 
 pub near_fits : (s : Side) {X : Type 0} (walk : PixelsMut X) → T (has_ty Bare (lowered walk)) × WT (lowered walk) → Fits w64 (length (near s walk).now)
 near_fits at_front walk ok = ok.1.0.1.0

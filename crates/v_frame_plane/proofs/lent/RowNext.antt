@@ -1,35 +1,32 @@
 -- `next` and `next_back` of an iterator that lends rows, of which `s` is the one end: the slice is cut where the row next to that end begins and where it ends,
 -- and what lies towards the other end is kept. A `&mut` in a field of self no generated proof follows, so this one follows the code. Assumes `Logic`.
 use Rattle.v_frame_plane.proofs.lent.Steps.{param_laws, ℕ, ◌≡◌, ◌+◌, ◌-◌, ◌*◌, ◌^◌, ◌<◌, List, [], ◌∷◌, length, Some, None, MutBor, lit<, w64, Val, fat}
-use Rattle.v_frame_plane.proofs.lent.Steps.{slice_val, vcons, vstruct, refl, ap, ◌∙◌, arith, length-drop, Some-of, none_of, full_share, id⊢, ◌⊑◌, ⊑_trans}
-use Rattle.v_frame_plane.proofs.lent.Steps.{fact, tables, param, named_lft, MutSlice, usize, uint_vals, uint_Makes, closes, owned, heard, only, framed}
-use Rattle.v_frame_plane.proofs.lent.Steps.{eqb→eq, named, mut, erased, of_list, vint, alloc_all, env, free_all, get, get_in, lands_as, look_at, look_in_at}
-use Rattle.v_frame_plane.proofs.lent.Steps.{pass_all, sets, through, ‵, raw, at_ret, ◌$◌, !, drop, feq_l, fsplit, move, use0, use1, use3, step, Step, Goal}
-use Rattle.v_frame_plane.proofs.lent.Steps.{Item, live, agg, look_in, sub, whole, addr, and_then, assigns, bin, branches, enter, exec, first, fld, from, hop}
-use Rattle.v_frame_plane.proofs.lent.Steps.{lit, load, no_more, of_opd, returns, returns_within, skips, stop, well_typed, RattleType, Laws, Logic, Ura, Ty}
-use Rattle.v_frame_plane.proofs.lent.Steps.{Lft, slice_ty, tcons, tnil, ty_int, ty_param, ty_ref, ty_struct, MachineTables, Running, Meets, Triple, Callee}
-use Rattle.v_frame_plane.proofs.lent.Steps.{Fn, Place, Opd as Operand, Sym, addr_of, aggregate, assign, cond, copy, deref, eq, field, int, op2, place, return}
-use Rattle.v_frame_plane.proofs.lent.Steps.{rv_opd, seq, skip, ttcons, ttnil, ty_bool, ty_enum, unsigned, w8, Model, Closed, Env, Spot, flt_l, Finds}
-use Rattle.v_frame_plane.proofs.lent.Steps.{store_raw, subst, sym, frame}
+use Rattle.v_frame_plane.proofs.lent.Steps.{slice_val, vcons, vstruct, refl, ap, ◌∙◌, arith, length-drop, Some-of, none_of, full_share, id⊢, ◌⊑◌, ⊑_trans, fact}
+use Rattle.v_frame_plane.proofs.lent.Steps.{tables, param, named_lft, MutSlice, usize, uint_vals, uint_Makes, closes, owned, heard, only, framed, eqb→eq, named}
+use Rattle.v_frame_plane.proofs.lent.Steps.{mut, erased, of_list, vint, alloc_all, env, free_all, get, get_in, lands_as, look_at, look_in_at, pass_all, sets}
+use Rattle.v_frame_plane.proofs.lent.Steps.{through, ‵, raw, at_ret, ◌$◌, !, drop, feq_l, fsplit, move, use0, use1, use3, step, Step, Goal, Item, live, agg}
+use Rattle.v_frame_plane.proofs.lent.Steps.{look_in, sub, whole, addr, and_then, assigns, bin, branches, enter, exec, first, fld, from, hop, lit, load, no_more}
+use Rattle.v_frame_plane.proofs.lent.Steps.{of_opd, returns, returns_within, skips, stop, well_typed, RattleType, Laws, Logic, Ura, Ty, Lft, slice_ty, tcons}
+use Rattle.v_frame_plane.proofs.lent.Steps.{tnil, ty_int, ty_param, ty_ref, ty_struct, MachineTables, Running, Meets, Triple, Callee, Fn, Place, Opd as Operand}
+use Rattle.v_frame_plane.proofs.lent.Steps.{Sym, addr_of, aggregate, assign, cond, copy, deref, eq, field, int, op2, place, return, rv_opd, seq, skip, ttcons}
+use Rattle.v_frame_plane.proofs.lent.Steps.{ttnil, ty_bool, ty_enum, unsigned, w8, Model, Closed, Env, Spot, flt_l, Finds, store_raw, subst, sym, frame, Args}
 use mir.Syntax.{Body, sub as minus}
+use denote.Triple.Entry.{Vals}
 use types.Run.{Opd}
-use Rattle.std.specs.contracts.option.Option as Opt
-use Rattle.v_frame_plane.proofs.lent.RowMemory.{Bare, Numbers, WellTyped, bare, count_at, count_fit, gap_at, gap_fit, lowered, numbers, slice_of}
-use Rattle.v_frame_plane.proofs.lent.RowMemory.{rest_fit, start_at, start_fit, takes_slice, walk_owned, width_at, width_fit}
-use Rattle.v_frame_plane.specs.SecondRows.{EndsAs}
-use Rattle.v_frame_plane.specs.contracts.rows_mut.RowsMut as rows_mut
-use Rattle.v_frame_plane.specs.contracts.rows_mut.row_place
+use Rattle.v_frame_plane.proofs.lent.RowMemory.{Bare, Numbers, WellTyped, bare, count_at, count_fit, gap_at, gap_fit, lowered, numbers, slice_of, rest_fit}
+use Rattle.v_frame_plane.proofs.lent.RowMemory.{start_at, start_fit, takes_slice, walk_owned, width_at, width_fit}
 use Rattle.v_frame_plane.proofs.lent.CallSteps.{asks_both, calls, tells, told}
 use Rattle.v_frame_plane.proofs.lent.Cuts.{Split, dropped, splits, slice_fits, slices_fit}
-use Rattle.v_frame_plane.proofs.lent.Loans.{opens_self}
 use Rattle.v_frame_plane.proofs.lent.Methods.{Ends, Met, gets, gives, in_order, meets_by, method, set, value}
-use Rattle.v_frame_plane.proofs.lent.PixelSides.{part, row_draw}
-use Rattle.v_frame_plane.proofs.lent.RowDraws.{Cut, draws, inside, is_place, left, moves_on, none_left, number, number_fits, place_of, some_left}
-use Rattle.v_frame_plane.proofs.lent.RowDraws.{start_of, stays}
-use Rattle.v_frame_plane.proofs.lent.RowLoans.{leaves_none, leaves_row}
+use Rattle.v_frame_plane.proofs.lent.RowDraws.{Cut, draws, inside, is_place, left, moves_on, none_left, number, number_fits, place_of, some_left, start_of}
+use Rattle.v_frame_plane.proofs.lent.RowDraws.{stays}
 use Rattle.v_frame_plane.proofs.lent.Sides.{Side, at_front, at_back, at_side, LendsRow}
-use Rattle.v_frame_plane.proofs.rows_mut.RowsMut.TheLaws.{lowers}
-use Rattle.v_frame_plane.proofs.lent.Taken.{Take}
+use Rattle.v_frame_plane.specs.{SecondRows.EndsAs}
+use Rattle.v_frame_plane.proofs.lent.{Loans.opens_self, PixelSides.part, PixelSides.row_draw, RowLoans.leaves_none, RowLoans.leaves_row, Taken.IsTake}
+use Rattle.v_frame_plane.proofs.{rows_mut.RowsMut.TheLaws.lowers}
+use Rattle.std.specs.contracts.option.Option as Opt
+use Rattle.v_frame_plane.specs.contracts.rows_mut.RowsMut as rows_mut
+use Rattle.v_frame_plane.specs.contracts.rows_mut.row_place
 
 -- the code, of the names that it has for what a call gives, for self and for two parts, of the types of self and of an entry, and of the functions that it
 -- calls
@@ -96,9 +93,9 @@ module _ {M : Type 1} {𝓤 : Ura M} (𝓛 : Logic 𝓤) (𝓜 : Model 𝓤 𝓛
   𝓣 = tables 𝓤 𝓛.H 𝓜 𝓡 𝓡.env
 
   pub meets : (option self pair : Sym) (kept entry : Ty) (placing taking splitting key : Callee) →
-      Meets 𝓛 row_place.signature (𝓣.C placing) (row_place.spec 𝓛 𝓜.mem 𝓡.returns) →
-      ((κ : Lft) → κ ⊑ T.lives → Triple 𝓤 (𝓣.C taking) (Take 𝓛 𝓜.mem 𝓡.returns T κ)) → Triple 𝓤 (𝓣.C splitting) (Split 𝓛 𝓜.mem 𝓡.returns T) →
-      Closed 𝓤 𝓛.H 𝓣.C 𝓣.Λ key (code option self pair kept entry s placing taking splitting) → Met (row_draw 𝓤 T s) 𝓛 (𝓣.C key)
+      Meets 𝓛 row_place.signature (𝓣.C placing) (row_place.spec 𝓛 𝓜.mem 𝓡.returns) → IsTake 𝓛 𝓜.mem 𝓡.returns T (𝓣.C taking) →
+      Triple 𝓤 (𝓣.C splitting) (Split 𝓛 𝓜.mem 𝓡.returns T) → Closed 𝓤 𝓛.H 𝓣.C 𝓣.Λ key (code option self pair kept entry s placing taking splitting) →
+      Met (row_draw 𝓤 T s) 𝓛 (𝓣.C key)
   meets option self' pair kept entry placing taking splitting key place_meets take_meets split_meets closed =
       let item = param 0 T in let m = row_draw 𝓤 T s in let run = framed 𝓤 𝓛.H 𝓜 𝓣 in
       let function = code option self' pair kept entry s placing taking splitting in
@@ -133,16 +130,9 @@ module _ {M : Type 1} {𝓤 : Ura M} (𝓛 : Logic 𝓤) (𝓜 : Model 𝓤 𝓛
       owned ! usize _ (uint_Makes 𝓛 w64) (number s h) _ (refl, number_fits h s count_fits.fits) $
       owned ! usize _ (uint_Makes 𝓛 w64) h.gap _ (refl, gap_fits.fits) $
       owned ! usize _ (uint_Makes 𝓛 w64) h.width _ (refl, width_fits.fits) $ owned ! usize _ (uint_Makes 𝓛 w64) h.start _ (refl, start_fits.fits) $
-      calls ! (0 ∷ 1 ∷ 2 ∷ 3 ∷ []) run row_place.ended (row_place.clauses 𝓛 𝓜.mem 𝓡.returns) place_meets (
-        (
-          tt,
-          tt,
-          tt,
-          (h.start, (h.width, (h.gap, (number s h, tt)))),
-          (uint_vals w64 h.start, (uint_vals w64 h.width, (uint_vals w64 h.gap, (uint_vals w64 (number s h), tt)))),
-        ),
-        tt,
-      )
+      let values : Args row_place.signature tt = (h.start, (h.width, (h.gap, (number s h, tt)))) in
+      let words : Vals row_place.signature tt = (uint_vals w64 h.start, (uint_vals w64 h.width, (uint_vals w64 h.gap, (uint_vals w64 (number s h), tt)))) in
+      calls ! (0 ∷ 1 ∷ 2 ∷ 3 ∷ []) run row_place.ended (row_place.clauses 𝓛 𝓜.mem 𝓡.returns) place_meets ((tt, tt, tt, values, words), tt)
       (asks_both 𝓤 h.within.stride sum_fits) refl
       (and_then ! (get ! refl) (and_then ! (get ! refl) (and_then ! (get ! refl) (and_then !
       (opd_by s (λ e. vint w64 (number e h)) (lit ! tt) (get ! refl)) (no_more !)))))

@@ -4,51 +4,40 @@
 --     walk_by     the iterator of its parts, as seen from this end
 --     Steps, Yields, Takes, Lends     what is said of a call of a pixel from there.        RowSteps, YieldsRow, LendsRow     the same of a call of a row
 use Rattle.v_frame_plane.proofs.lent.Steps.{ℕ, ◌≡◌, List, [], ◌∷◌, ◌++◌, Option, Some, None, MutBor, YieldsFirstMut, YieldsLastMut, Fml, RattleType}
-use Rattle.v_frame_plane.specs.Cursor.{PixelsAreCountable}
-use Rattle.v_frame_plane.specs.PixelsLeft.{pixels_left}
-use Rattle.v_frame_plane.specs.RowsLeft.{rows_left}
-use Rattle.v_frame_plane.specs.Second.{LendsBy, Takes as TakesItem}
-use Rattle.v_frame_plane.specs.SecondPixels.{KeepsPixels, PixelEndsAs, SecondPixels}
-use Rattle.v_frame_plane.specs.SecondRows.{LendsFirstRow, LendsLastRow}
-use Rattle.v_frame_plane.specs.declared.pixels_mut.PixelsMut.{PixelsMut}
-use Rattle.v_frame_plane.specs.declared.rows_mut.RowsMut.{RowsMut}
-use Rattle.v_frame_plane.proofs.lent.PixelMemory.{back_offset}
+use Rattle.v_frame_plane.specs.{Cursor.PixelsAreCountable, PixelsLeft.pixels_left, RowsLeft.rows_left, Second.LendsBy, Second.Takes as TakesItem}
+use Rattle.v_frame_plane.specs.{SecondPixels.KeepsPixels, SecondPixels.PixelEndsAs, SecondPixels.SecondPixels, SecondRows.LendsFirstRow}
+use Rattle.v_frame_plane.specs.{SecondRows.LendsLastRow, declared.pixels_mut.PixelsMut.PixelsMut, declared.rows_mut.RowsMut.RowsMut}
+use Rattle.v_frame_plane.proofs.lent.{PixelMemory.back_offset}
 
 pub data Side : Type 0 where
   at_front at_back : Side
 
-abbrev pub at_side : {X : Type 0} → Side → X → X → X
+abbrev pub at_side {ℓ} : {X : Type ℓ} → Side → X → X → X
 at_side at_front x y = x
 at_side at_back x y = y
 
 abbrev pub slot : Side → ℕ
-slot at_front = 0
-slot at_back = 2
+slot s = at_side s 0 2
 
 abbrev pub other : Side → Side
-other at_front = at_back
-other at_back = at_front
+other s = at_side s at_back at_front
 
 -- where that field begins, in bytes
 abbrev pub offset : Side → ℕ
-offset at_front = 0
-offset at_back = back_offset
+offset s = at_side s 0 back_offset
+
+abbrev pub put : {X : Type 0} → Side → X → List X → List X
+put s pixel rest = at_side s (pixel ∷ rest) (rest ++ pixel ∷ [])
 
 module _ {X : Type 0} where
   abbrev pub near : Side → PixelsMut X → MutBor (List X)
-  near at_front walk = walk.front
-  near at_back walk = walk.back
+  near s walk = at_side s walk.front walk.back
 
   abbrev pub far : Side → PixelsMut X → MutBor (List X)
   far s = near (other s)
 
-  abbrev pub put : Side → X → List X → List X
-  put at_front pixel rest = pixel ∷ rest
-  put at_back pixel rest = rest ++ pixel ∷ []
-
   abbrev pub Countable : Side → List X → List (List X) → List X → Type 0
-  Countable at_front near rows far = PixelsAreCountable near rows far
-  Countable at_back near rows far = PixelsAreCountable far rows near
+  Countable s near rows far = PixelsAreCountable (at_side s near far) rows (at_side s far near)
 
   abbrev pub walk_by : (s : Side) (near : MutBor (List X)) (rows : RowsMut X) (far : MutBor (List X)) → Countable s near.now (rows_left rows) far.now →
       PixelsMut X
@@ -59,16 +48,13 @@ module _ {X : Type 0} where
   Steps s old pixel new = pixels_left old ≡ put s pixel.now (pixels_left new)
 
   abbrev pub Yields : Side → PixelsMut X → Option (MutBor X) → PixelsMut X → Type 0
-  Yields at_front = YieldsFirstMut pixels_left
-  Yields at_back = YieldsLastMut pixels_left
+  Yields s = at_side s (YieldsFirstMut pixels_left) (YieldsLastMut pixels_left)
 
   abbrev pub RowSteps : Side → RowsMut X → List X → RowsMut X → Type 0
-  RowSteps at_front old row new = rows_left old ≡ row ∷ rows_left new
-  RowSteps at_back old row new = rows_left old ≡ rows_left new ++ row ∷ []
+  RowSteps s old row new = rows_left old ≡ put s row (rows_left new)
 
   abbrev pub YieldsRow : Side → RowsMut X → Option (MutBor (List X)) → RowsMut X → Type 0
-  YieldsRow at_front = YieldsFirstMut rows_left
-  YieldsRow at_back = YieldsLastMut rows_left
+  YieldsRow s = at_side s (YieldsFirstMut rows_left) (YieldsLastMut rows_left)
 
   pub row_steps : (s : Side) (old : RowsMut X) (row : MutBor (List X)) (new : RowsMut X) → YieldsRow s old (Some row) new → RowSteps s old row.now new
   row_steps at_front old row new steps = steps
@@ -86,5 +72,4 @@ abbrev pub Lends : Side → (T : RattleType) → PixelsMut T.Denot → Option (M
 Lends s T = LendsBy (KeepsPixels T) (λ old new pixel. Takes s T old pixel new)
 
 abbrev pub LendsRow : Side → (T : RattleType) → RowsMut T.Denot → Option (MutBor (List T.Denot)) → RowsMut T.Denot → Fml
-LendsRow at_front = LendsFirstRow
-LendsRow at_back = LendsLastRow
+LendsRow s = at_side s LendsFirstRow LendsLastRow

@@ -1,28 +1,33 @@
--- A call of `mem::take` at a place that holds a `&mut [T]` of the lifetime κ, for a proof by hand. Assumes `Logic`.
---     calls_take     the place is lent to the call, and holds an empty slice afterwards: what it held is handed back
+-- A `&mut [T]` of the lifetime κ in a proof by hand: what takes it out of its place, and what may give one. Assumes `Logic`.
+--     calls_take     a call of `mem::take`: the place is lent to the call, and holds an empty slice afterwards: what it held is handed back
+--     by_row         whether a call of `next` or `next_back` of an iterator over lent rows gave a row
 use Rattle.v_frame_plane.proofs.lent.Steps.{ℕ, ◌≡◌, List, [], ◌∷◌, length, w64, MutBor, refl, ap, ◌∙◌, Lft, Share, fat, flent, flft, full_share, SProp, id⊢}
 use Rattle.v_frame_plane.proofs.lent.Steps.{◌⊑◌, ⊑_trans, Fun, fact, shows, mem, param, Laws, param_laws, RattleType, NamedLft, MutSlice, slice_val, heard}
 use Rattle.v_frame_plane.proofs.lent.Steps.{only, peeks, triple_of, Contract, Ty, a_type, named, tcons, tnil, ty_int, ty_ptr, ty_struct, Val, vptr, Memory}
-use Rattle.v_frame_plane.proofs.lent.Steps.{Routine, Ura, Item, Seq, ‵, raw, ◌⊛◌, ◌$◌, drop, fsplit, move, rewrite, split, use1, use2, Logic, Body, no}
-use Rattle.v_frame_plane.proofs.lent.Steps.{⊑_meet, ⊑_refl, meet_⊑_right, Running, arg, bounded, layout, arg_laws, of_field, row_shared, mut_slice_shared}
-use Rattle.v_frame_plane.proofs.lent.Steps.{mut_slice_laws, Triple, Callee, Place, Opd as Operand, call, seq, dcons, dnil, Calls, Env, Loops, FmC, Post}
-use Rattle.v_frame_plane.proofs.lent.Steps.{lands, regoal, runs, Opds, Model}
-use base.Share
+use Rattle.v_frame_plane.proofs.lent.Steps.{Routine, Ura, Item, Seq, ‵, raw, ◌⊛◌, ◌$◌, drop, fsplit, move, rewrite, split, use1, use2, Logic, Body, no, ⊑_meet}
+use Rattle.v_frame_plane.proofs.lent.Steps.{⊑_refl, meet_⊑_right, Running, arg, bounded, layout, arg_laws, of_field, row_shared, mut_slice_shared}
+use Rattle.v_frame_plane.proofs.lent.Steps.{mut_slice_laws, Triple, Callee, Place, Opd as Operand, call, seq, dcons, dnil, Calls, Env, Loops, FmC, Post, lands}
+use Rattle.v_frame_plane.proofs.lent.Steps.{regoal, runs, Opds, Model, ◌^◌, ◌<◌, ◌++◌, Option, Some, None, of_list, Goal, feq_l, fpick, live}
 use denote.Struct.Field.{mut_slice_field}
 use mir.Syntax.{Body as Code}
 use prog.Wired.{Wired}
+use Rattle.core.specs.contracts.slice.empty.RefMutSliceDefault.TheImpl.{ghosts, dict}
+use Rattle.v_frame_plane.proofs.lent.CallSteps.{asks_that, calls, spelt}
+use Rattle.v_frame_plane.proofs.lent.Loans.{Back, comes_back, lends, lft_over, share_within}
+use base.Share
 use Rattle.std.specs.contracts.mem.take
+use Rattle.std.specs.contracts.option.Option as Opt
 use Rattle.core.proofs.mem.take.Met as take_met
 use Rattle.core.proofs.mem.take.Symbol as take_code
 use Rattle.core.proofs.slice.empty.RefMutSliceDefault.TheImpl.Met as default_met
 use Rattle.core.proofs.slice.empty.RefMutSliceDefault.default.Symbol as default_code
-use Rattle.core.specs.contracts.slice.empty.RefMutSliceDefault.TheImpl.{ghosts, dict}
-use Rattle.v_frame_plane.proofs.lent.CallSteps.{asks_that, calls}
-use Rattle.v_frame_plane.proofs.lent.Loans.{Back, comes_back, lends, lft_over, share_within}
 
 -- a slice as a place in memory has it
 abbrev pub word : Ty
 word = ty_struct [] (tcons ty_ptr (tcons (ty_int w64) tnil))
+
+abbrev held : {X : Type 0} → MutBor (List X) → Val
+held x = slice_val x.ref_ptr (length x.now)
 
 module _ (T : RattleType) (κ : Lft) where
   abbrev pub Slice : RattleType
@@ -31,21 +36,15 @@ module _ (T : RattleType) (κ : Lft) where
   abbrev pub Taken : RattleType
   Taken = arg word no Slice
 
-  abbrev pub element : RattleType
+  abbrev element : RattleType
   element = arg (layout T) no (param 0 T)
 
   module _ (laws : Laws T) where
-    abbrev pub element_laws : Laws element
-    element_laws = arg_laws (layout T) no (param 0 T) (param_laws 0 T laws) refl
-
-    abbrev named_lft : NamedLft
-    named_lft = record { mir = named 1; lft = κ }
-
     abbrev pub slice_laws : Laws Slice
-    slice_laws = of_field (mut_slice_field named_lft (param 0 T) tt) (mut_slice_laws named_lft (param 0 T) tt) refl
-        (mut_slice_shared named_lft (param 0 T) tt (row_shared (param 0 T) (param_laws 0 T laws)))
+    slice_laws = let ℓ : NamedLft = record { mir = named 1; lft = κ } in of_field (mut_slice_field ℓ (param 0 T) tt) (mut_slice_laws ℓ (param 0 T) tt) refl
+        (mut_slice_shared ℓ (param 0 T) tt (row_shared (param 0 T) (param_laws 0 T laws)))
 
-    abbrev pub taken_laws : Laws Taken
+    abbrev taken_laws : Laws Taken
     taken_laws = arg_laws word no Slice slice_laws refl
 
 module _ {M : Type 1} {𝓤 : Ura M} (𝓛 : Logic 𝓤) (at_mem : Memory → SProp 𝓤) (run : Routine → Fun 𝓤) (T : RattleType) (κ : Lft) where
@@ -54,42 +53,38 @@ module _ {M : Type 1} {𝓤 : Ura M} (𝓛 : Logic 𝓤) (at_mem : Memory → SP
 
   module _ (q : Share) (x : MutBor (List T.Denot)) (b o : ℕ) where
     abbrev pub asked : ℕ → ℕ → Take.Ghost
-    asked α γ = let κ' : Lft = α ∷ κ in let s = share_within q in (
-      (
-        (κ', (κ', tt)),
-        (Share.left s, (Share.right s, tt)),
-        (⊑_refl κ', tt),
-        (record { ref_ptr = (b, o); ghost_name = γ; now = x }, tt),
-        (vptr b o ∷ [], tt),
-      ),
-      tt,
-    )
+    asked α γ = let κ' : Lft = α ∷ κ in let s = share_within q in
+        let place : MutBor (MutBor (List T.Denot)) = record { ref_ptr = (b, o); ghost_name = γ; now = x } in
+        (((κ', (κ', tt)), (Share.left s, (Share.right s, tt)), (⊑_refl κ', tt), (place, tt), (vptr b o ∷ [], tt)), tt)
+
+-- this is `take`, at each lifetime
+abbrev pub IsTake : {M : Type 1} {𝓤 : Ura M} (𝓛 : Logic 𝓤) (at_mem : Memory → SProp 𝓤) (run : Routine → Fun 𝓤) (T : RattleType) → Fun 𝓤 → Type 1
+IsTake {𝓤 = 𝓤} 𝓛 at_mem run T taking = (κ : Lft) → κ ⊑ T.lives → Triple 𝓤 taking (Take 𝓛 at_mem run T κ)
 
 -- the call does what `take` promises
 pub take_meets : {M : Type 1} {𝓤 : Ura M} (𝓛 : Logic 𝓤) (𝓜 : Model 𝓤 𝓛.H) (𝓡 : Running 𝓤 𝓛.H 𝓜) → Wired 𝓡.env take_code.code → Wired 𝓡.env default_code.code →
     (T : RattleType) (laws : Laws T) (κ : Lft) → κ ⊑ T.lives
     → Triple 𝓤 (𝓡.run (𝓡.env (take_code.name (bounded (a_type ∷ []) (Taken T κ, tt) (dcons (dict (element T κ)) dnil))))) (Take 𝓛 𝓜.mem 𝓡.returns T κ)
 take_meets {M} {𝓤} 𝓛 𝓜 𝓡 takes defaults T laws κ inT =
-    take_met.met 𝓤 𝓛 𝓜 𝓡 takes (Taken T κ) (taken_laws T κ laws) (ghosts (element T κ)) (dict (element T κ)) (record {
-      default =
-          (default_met.bound 𝓡.env defaults κ (element T κ) (element_laws T κ laws) inT M 𝓤 𝓛 𝓜 𝓡).default;
-    })
+    let element_laws : Laws (element T κ) = arg_laws (layout T) no (param 0 T) (param_laws 0 T laws) refl in
+    take_met.met 𝓤 𝓛 𝓜 𝓡 takes (Taken T κ) (taken_laws T κ laws) (ghosts (element T κ)) (dict (element T κ))
+    (record { default = (default_met.bound 𝓡.env defaults κ (element T κ) element_laws inT M 𝓤 𝓛 𝓜 𝓡).default })
 
 module _ {M : Type 1} {𝓤 : Ura M} {𝓛 : Logic 𝓤} {K : Type 0} {Γ : List (Item 𝓤)} {E : Env 𝓤 𝓛.H} {C : Calls 𝓤 𝓛.H} {Λ : Loops 𝓤 𝓛.H} {f : Callee} {xs :
     List Operand} {d : Place} {rest : Code} {p : Post 𝓤 𝓛.H} where
   -- up to where what the place held is stored: the place holds an empty slice then
   pub calls_take : K → FmC 𝓤 𝓛.H 𝓛.laws C → (at_mem : Memory → SProp 𝓤) (run : Routine → Fun 𝓤) (T : RattleType) (κ : Lft) →
       Triple 𝓤 (C f) (Take 𝓛 at_mem run T κ) → (q : Share) (x : MutBor (List T.Denot)) (b o : ℕ) → κ ⊑ T.lives
-      → let One = Slice T κ in let held = slice_val x.ref_ptr (length x.now) in
+      → let One = Slice T κ in
       ((α γ : ℕ) → let y = asked 𝓛 at_mem run T κ q x b o α γ in Opds K 𝓛 (raw ((Take 𝓛 at_mem run T κ).pre y) ∷
       ‵ (flent (α ∷ κ) (Body (mem (Taken T κ)) b o γ)) ∷ raw (Back 𝓛 α κ q) ∷ Γ) E xs ((Take 𝓛 at_mem run T κ).args y)) →
       ((e : MutBor (List T.Denot)) → e.now ≡ []
-      → Seq K 𝓛 (‵ (fat full_share word b o (slice_val e.ref_ptr 0)) ∷ ‵ (One.own_val e (slice_val e.ref_ptr 0 ∷ [])) ∷ ‵ (One.own_val x (held ∷ [])) ∷
-      ‵ (flft κ q) ∷ Γ) (lands C Λ E d held rest p))
-      → Seq K 𝓛 (‵ (fat full_share word b o held) ∷ ‵ (One.own_val x (held ∷ [])) ∷ ‵ (flft κ q) ∷ Γ) (runs C Λ E (seq (call f xs d) rest) p)
+      → Seq K 𝓛 (‵ (fat full_share word b o (slice_val e.ref_ptr 0)) ∷ ‵ (One.own_val e (slice_val e.ref_ptr 0 ∷ [])) ∷ ‵ (One.own_val x (held x ∷ [])) ∷
+      ‵ (flft κ q) ∷ Γ) (lands C Λ E d (held x) rest p))
+      → Seq K 𝓛 (‵ (fat full_share word b o (held x)) ∷ ‵ (One.own_val x (held x ∷ [])) ∷ ‵ (flft κ q) ∷ Γ) (runs C Λ E (seq (call f xs d) rest) p)
   calls_take t fm at_mem run T κ met q x b o inT os k =
       let X = Taken T κ in let s = share_within q in
-      lends t tt X refl word refl κ q x b o (slice_val x.ref_ptr (length x.now)) (λ α γ. let κ' : Lft = α ∷ κ in
+      lends t tt X refl word refl κ q x b o (held x) (λ α γ. let κ' : Lft = α ∷ κ in
       let within : κ' ⊑ X.lives = ⊑_meet κ' κ T.lives (meet_⊑_right (α ∷ []) κ) (⊑_trans κ' κ T.lives (meet_⊑_right (α ∷ []) κ) inT) in
       -- [the place, lent; what its lender keeps; the token of κ'; the way back to that of κ]
       move t (2 ∷ []) $ use1 𝓛 (‵ (flft κ' (Share.left s)) ⊛ ‵ (flft κ' (Share.right s))) (𝓛.lfts.lft_split κ' s) $ split t $
@@ -105,7 +100,17 @@ module _ {M : Type 1} {𝓤 : Ura M} {𝓛 : Logic 𝓤} {K : Type 0} {Γ : List
       ap (λ (xs : List T.Denot). slice_val e.ref_ptr (length xs)) empty) $
       -- [the place; what it owns; its borrow; the token of κ; what was handed back]
       move t (4 ∷ []) $ rewrite t 0 (λ (r : MutBor (List T.Denot)). ‵ ((Slice T κ).own_val r (v ∷ []))) same refl $
-      peeks t (Slice T κ) _ (shows 𝓛 (Slice T κ)) x (v ∷ []) (λ held.
-      rewrite t 0 (λ (w : Val). ‵ ((Slice T κ).own_val x (w ∷ []))) (ap only held.0.0) refl $
-      move t (3 ∷ []) $ drop t $ move t (1 ∷ 2 ∷ 0 ∷ []) $
-      regoal t (λ (u : Val). lands C Λ E d u rest p) (ap only held.0.0) refl $ k e empty)))))
+      spelt t (Slice T κ) held (λ r vs is. is.0.0) x v (λ is _. move t (3 ∷ []) $ drop t $ move t (1 ∷ 2 ∷ 0 ∷ []) $
+      regoal t (λ (u : Val). lands C Λ E d u rest p) is refl $ k e empty)))))
+
+module _ {M : Type 1} {𝓤 : Ura M} {𝓛 : Logic 𝓤} {K : Type 0} {Γ : List (Item 𝓤)} {G : Goal 𝓤 𝓛.H} where
+  pub by_row : K → (T : RattleType) (κ : Lft) (r : Option (MutBor (List T.Denot))) (v : Val) → (r ≡ None → v ≡ live 0 (of_list []) → Seq K 𝓛 Γ G)
+      → ((row : MutBor (List T.Denot)) → r ≡ Some row → v ≡ live 1 (of_list (held row ∷ [])) → length row.now < 2 ^ 64 →
+      Seq K 𝓛 (‵ ((Slice T κ).own_val row (held row ∷ [])) ∷ Γ) G)
+      → Seq K 𝓛 (‵ ((Opt.the_row (Slice T κ)).own_val r (v ∷ [])) ∷ Γ) G
+  by_row t T κ None v without with = fpick t (λ us. fsplit t $ feq_l t (λ e. fpick t (λ vss. fsplit t $
+      feq_l t (λ none. drop t $ without refl (ap only e ∙ ap (λ ws. live 0 (of_list ws)) none)))))
+  by_row t T κ (Some row) v without with = let One = Slice T κ in
+      fpick t (λ us. fsplit t $ feq_l t (λ e. fpick t (λ vss. fsplit t $ feq_l t (λ are. fsplit t $
+      peeks t One _ (shows 𝓛 One) row vss.0 (λ is. rewrite t 0 (λ (ws : List Val). ‵ (One.own_val row ws)) is.0.0 refl $
+      move t (1 ∷ []) $ drop t $ with row refl (ap only e ∙ ap (λ ws. live 1 (of_list ws)) (are ∙ ap (λ ws. ws ++ []) is.0.0)) is.0.1.0)))))
