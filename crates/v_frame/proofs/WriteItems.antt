@@ -1,32 +1,41 @@
--- A whole iteration of calls that write: the plane is lent to an iterator, each draw writes through it in a loop, and it is dropped. Rattle learns nothing of
--- what the iterator says of held items, so the proof follows the code. It stands once for rows and pixels: see `ItemKinds.antt`. Assumes `Logic`.
-use Rattle.v_frame.proofs.Steps.{LentAgain, SliceRefOf, after_turn, copied, fhide, head, lt-wf_rel, mul-le-mul_right, shr_slice_vals, spot_of, tables_of, w64}
-use Rattle.v_frame_plane.proofs.lent.Steps.{qed, ◌∵◌, done, Below, Fml, Goes-dropped, Goes-ref, Item, List, NamedLft, Out, SProp, Sq, Stays, Val, Wp, addr}
-use Rattle.v_frame_plane.proofs.lent.Steps.{after, after_block, after_seq, again, alloc_all, and_then, any_q, ap, arith, at_ret, at_return, bin, blocks}
-use Rattle.v_frame_plane.proofs.lent.Steps.{branches, drop, elements_shared, enter, env, exec, fact, feq_i, feq_l, first, fld, flft, forget_but, framed}
-use Rattle.v_frame_plane.proofs.lent.Steps.{free_all, from, fsplit, get, get_in, give_at, heard, holding, id⊢, jumps, lands_as, lands_last, length, lit, lit<}
-use Rattle.v_frame_plane.proofs.lent.Steps.{look_at, loops, ltb→lt, map, meet_⊑_right, mem, move, mut_vals, named, nltb→le, no_more, nothing, of_opd, only}
-use Rattle.v_frame_plane.proofs.lent.Steps.{param, pass_all, plain, proved, raw, refl, returns, runs, sets, sets_last, size_lit, skips, slice_val, split}
-use Rattle.v_frame_plane.proofs.lent.Steps.{stay_dropped, stay_ref, stop, sub, tables, take, take_at, through, unit_lit, use0, use1, use2, vint, vptr, vunit}
-use Rattle.v_frame_plane.proofs.lent.Steps.{walk_of, whole, yes, ℕ, !, [], ‵, ⊑_trans, ◌$◌, ◌*◌, ◌+◌, ◌-◌, ◌<◌, ◌^◌, ◌∷◌, ◌≡◌, ◌≤◌, ◌⊑◌, ◌⊛◌, Logic, Ura}
-use Rattle.v_frame_plane.proofs.lent.Steps.{RattleType, Laws, Ty, ent, sep, sem, erased, mut, slice_ty, ty_int, ty_ptr, ty_ref, MachineTables, Running, lone}
-use Rattle.v_frame_plane.proofs.lent.Steps.{Callee, Dict, Fn, addr_of, assign, call, cond, copy, deref, field, imm, int, local, lt, op2, opd_unit, place}
-use Rattle.v_frame_plane.proofs.lent.Steps.{return, rv_opd, seq, skip, ty_bool, ty_unit, unsigned, value_local, Fits, Model, Closed, Env, Go}
+-- A whole iteration of calls that write: the plane is lent to an iterator, each draw writes into the item that it takes from it in a loop, and it is dropped.
+-- Rattle learns nothing of what the iterator says of held items, so the proof follows the code. It stands once for rows and pixels: see `ItemKinds.antt`.
+-- Assumes `Logic`.
+use Rattle.v_frame.proofs.Steps.{arm_body, copied, option_copied_mut, option_laws, option_row, LentAgain, SliceRefOf, after_turn, fhide, lt-wf_rel}
+use Rattle.v_frame.proofs.Steps.{mul-le-mul_right, shr_slice_vals, spot_of, tables_of, w64}
+use Rattle.v_frame_plane.proofs.lent.Steps.{Goes-dropped, Item, List, MutBor, Option, SProp, ShrRef, Sq, Stays, Val, Wp, addr, after, after_seq, agg, alloc_all}
+use Rattle.v_frame_plane.proofs.lent.Steps.{and_then, any_q, ap, at_ret, at_return, done, enter, env, exec, fact, feq_i, feq_l, first, fld, flft, forget_but}
+use Rattle.v_frame_plane.proofs.lent.Steps.{framed, free_all, from, fsplit, ftrue, get, get_in, get_tag, heard, holding, hop, id⊢, in_variant, is, lands_as}
+use Rattle.v_frame_plane.proofs.lent.Steps.{lands_last, lit<, look_at, look_in_at, move, mut_vals, named, no_more, nothing, of_opd, param, pass_all, peeks}
+use Rattle.v_frame_plane.proofs.lent.Steps.{plain, proved, raw, refl, returns, rewrite, runs, sets, shows, skips, stay_dropped, stop, sub, switches_on, sym}
+use Rattle.v_frame_plane.proofs.lent.Steps.{tables, through, unit_lit, use1, use2, vptr, vrt, vunit, walk_of, whole, yes, ℕ, !, [], ‵, ◌$◌, ◌∙◌, ◌∷◌, ◌≡◌, ◌⊑◌}
+use Rattle.v_frame_plane.proofs.lent.Steps.{Fml, NamedLft, Lft, live, of_list, Step, step, qed, ◌∵◌, ◌++◌, Logic, Ura, RattleType, Laws, Ty, ent, sem, tcons}
+use Rattle.v_frame_plane.proofs.lent.Steps.{tnil, ty_ref, ty_param, erased, mut, slice_ty, MachineTables, Running, Callee, Dict, Fn, Sym, addr_of, aggregate}
+use Rattle.v_frame_plane.proofs.lent.Steps.{arm, copy, deref, field, imm, local, no_default, opd_unit, place, return, rv_opd, seq, skip, switch, ttcons, ttnil}
+use Rattle.v_frame_plane.proofs.lent.Steps.{ty_enum, ty_unit, variant, WT, Model, Closed, Go, settles, Below, Goes-ref, Out, after_block, again, arith, bin}
+use Rattle.v_frame_plane.proofs.lent.Steps.{blocks, branches, drop, elements_shared, give_at, jumps, length, lit, loops, ltb→lt, map, meet_⊑_right, mem}
+use Rattle.v_frame_plane.proofs.lent.Steps.{nltb→le, only, sets_last, size_lit, slice_val, split, stay_ref, take, take_at, use0, vint, ⊑_trans, ◌*◌, ◌+◌, ◌-◌}
+use Rattle.v_frame_plane.proofs.lent.Steps.{◌<◌, ◌^◌, ◌≤◌, ◌⊛◌, sep, ty_int, ty_ptr, lone, cond, int, lt, op2, ty_bool, unsigned, Fits, Env, Bor}
 use mir.Syntax.{Body, Opd as Operand, add, block, exit, loop, memory_slot, mul, offset, size_of}
+use types.Kit.{Post as Exits}
+use Rattle.v_frame.proofs.CallSteps.{asks_that, calls, calls_last, ends, opened, read_twice, unit_fits, tells, told}
+use Rattle.v_frame.proofs.Drawing.{Draws, by_side, from_back, from_front}
+use Rattle.v_frame.proofs.ItemKinds.{Ends, Entry, Kept, Kind, Lends, Promise, Puts, Walk, draw_row, left, made, neither, of_pixels, walk_row, Begins, Draw}
+use Rattle.v_frame.proofs.ItemKinds.{Second, rows_of, shown, side_of, slice, written}
+use Rattle.std.specs.{declared.clone.Clone.Ghosts}
+use Rattle.v_frame_plane.proofs.lent.{Loans.Back as Way_back, Loans.share_within, PixelsDropped.pixels_dropped, RowLoans.rows_dropped}
+use Rattle.v_frame.specs.Walk.{left_by, left_in_turn, walk_leaves}
+use Rattle.v_frame.specs.declared.replay.draw.Side.{TheVariants.Front, TheVariants.Back}
+use Rattle.v_frame.proofs.{OptionCases.by_told, PutBack.item_taken, PutBack.none_taken, BegunWalks.rows_end, DrawnItems.nth_left, DrawnItems.rows_as_long}
+use Rattle.v_frame.proofs.{SharedItems.lends_nth, SharedItems.nth_of}
 use types.Run.{Opd}
 use Rattle.v_frame_plane.specs.Plane.{Raster, table_of, with_entries}
 use Rattle.v_frame_plane.specs.SecondRows.{SecondRows, WritesTable, entries_with}
-use Rattle.v_frame.specs.Walk.{left_by, left_in_turn, walk_leaves}
-use Rattle.v_frame.proofs.CallSteps.{asks_that, calls_last, ends, opened, tells, told, unit_fits}
 use Rattle.v_frame.proofs.DrawnLoans.{each_drawn, none_drawn, nth_drawn}
-use Rattle.v_frame.proofs.ItemKinds.{Begins, Draw, Kept, Kind, Promise, Puts, Second, Walk, draw_row, left, made, neither, of_pixels, rows_of, shown, side_of}
-use Rattle.v_frame.proofs.ItemKinds.{slice, walk_row, written}
 use Rattle.v_frame.proofs.Lending.{begins_walk, lowers, opens, lends_walk, rows_back, walk_back}
-use Rattle.std.specs.{declared.clone.Clone.Ghosts}
 use Rattle.v_frame_plane.specs.{Lends.LendsBuffer}
-use Rattle.v_frame_plane.proofs.lent.{Loans.Back, Loans.share_within, PixelsDropped.pixels_dropped, RowLoans.rows_dropped}
-use Rattle.v_frame.proofs.{BegunWalks.rows_end, DrawnItems.nth_left, DrawnItems.rows_as_long, SharedItems.lends_nth, SharedItems.nth_of, WriteItem.draws_laws}
-use Rattle.v_frame.proofs.{WriteItem.writes_item}
+use Rattle.v_frame.proofs.WriteItem.{Left, asks, changes, draws as draws_promise, draws_laws, given, given_laws, its_value, left_as, value_is}
+use Rattle.v_frame_plane.proofs.lent.Methods.{gets, in_order, locals_of, set, value}
 use base.Share
 use mathlib.Core.WellFounded.InvImage
 use Rattle.v_frame_plane.specs.contracts.plane.Plane as planes
@@ -71,51 +80,98 @@ module _ {M : Type 1} {𝓤 : Ura M} (𝓛 : Logic 𝓤) (𝓜 : Model 𝓤 𝓛
   writes_items of_pixels = (write_pixels.ended T clone dict, write_pixels.clauses T clone dict 𝓛 𝓜.mem 𝓡.returns)
   writes_items _ = (write_rows.ended T clone dict, write_rows.clauses T clone dict 𝓛 𝓜.mem 𝓡.returns)
 
-  -- the code, of the types that it has, and of the functions that it calls
-  module _ (kept drawing lent whole_plane entry : Ty) (opening writing : Callee) where
+  -- the code, of the names and types that it has, and of the functions that it calls
+  module _ (option side : Sym) (kept drawing lent whole_plane read entry : Ty) (opening asking ahead behind changing : Callee) where
+    abbrev handed : Kind → Ty
+    handed of_pixels = ty_ref erased mut (ty_param 0)
+    handed _ = slice_ty (ty_ref erased mut (ty_param 0))
+
+    abbrev further : Kind → List Ty
+    further of_pixels = []
+    further k = handed k ∷ []
+
+    -- a row is a pointer and a length, which are put together again
+    abbrev lends_on : Kind → Body
+    lends_on of_pixels = in_order (set 19 (addr_of (place 7 (deref entry ∷ []))) ∷ []) (gets 18 changing (value 19 ∷ value 5 ∷ []))
+    lends_on _ = in_order (set 19 (addr_of (place 7 (field 0 ∷ deref entry ∷ []))) ∷ set 20 (aggregate (value 19 ∷ copy (place 7 (field 1 ∷ [])) ∷ [])) ∷ [])
+        (gets 18 changing (value 20 ∷ value 5 ∷ []))
+
+    abbrev tag : ℕ → Operand
+    tag i = copy (place i (variant 0 ∷ field 0 ∷ []))
+
+    abbrev draws_by : ℕ → Callee → Body
+    draws_by i drawn = in_order (set i (addr_of (place 3 [])) ∷ []) (gets 15 drawn (value i ∷ []))
+
+    -- an item is drawn, and where there is one it is changed
+    abbrev written_by : Kind → Body
+    written_by k = switch (tag 6) (arm (1 ∷ []) (in_order (set 7 (rv_opd (copy (place 6 (variant 1 ∷ field 1 ∷ [])))) ∷ []) (lends_on k))
+        (arm (0 ∷ []) skip no_default))
+
+    abbrev drawn_by : Kind → Body
+    drawn_by k = seq (set 6 (rv_opd (value 15))) (written_by k)
+
+    abbrev draws_one : Kind → Body
+    draws_one k = in_order (gets 14 asking (value 5 ∷ []) ∷
+        switch (tag 14) (arm (0 ∷ []) (draws_by 16 ahead) (arm (1 ∷ []) (draws_by 17 behind) no_default)) ∷ []) (drawn_by k)
+
+    abbrev goes_on : Body
+    goes_on = set 4 (op2 (add unsigned) (value 4) (int w64 1))
+
     abbrev turn : Kind → Body
-    turn k =
-        seq (assign (place 9 []) (op2 (lt unsigned) (copy (place 4 [])) (copy (place 8 [])))) (seq (cond (copy (place 9 [])) skip (exit 1))
-        (seq (assign (place 10 []) (op2 (mul unsigned) (copy (place 4 [])) (size_opd T k)))
-        (seq (assign (place 11 []) (op2 offset (copy (place 2 (field 0 ∷ []))) (copy (place 10 []))))
-        (seq (assign (place 5 []) (addr_of (place 11 (deref entry ∷ []))))
-        (seq (block (seq (assign (place 13 []) (addr_of (place 3 []))) (call writing (copy (place 13 []) ∷ copy (place 5 []) ∷ []) (place 12 []))))
-        (assign (place 4 []) (op2 (add unsigned) (copy (place 4 [])) (int w64 1))))))))
+    turn k = in_order (set 11 (op2 (lt unsigned) (value 4) (value 10)) ∷ cond (value 11) skip (exit 1) ∷ set 12 (op2 (mul unsigned) (value 4) (size_opd T k)) ∷
+        set 13 (op2 offset (copy (place 2 (field 0 ∷ []))) (value 12)) ∷ set 5 (addr_of (place 13 (deref read ∷ []))) ∷ block (draws_one k) ∷ []) goes_on
+
+    abbrev ends_so : Body
+    ends_so = seq (set 0 (rv_opd opd_unit)) return
 
     abbrev code : Kind → Fn
-    code k = let number = local (ty_int w64) value_local in record {
-      lifetimes = 2;
-      outlives = (2, 0) ∷ (2, 1) ∷ [];
-      ty_params = [];
-      givens = 0;
-      params = 2;
-      body =
-          seq (assign (place 7 []) (addr_of (place 1 (deref whole_plane ∷ [])))) (seq (call opening (copy (place 7 []) ∷ []) (place 6 []))
-          (seq (assign (place 3 []) (rv_opd (copy (place 6 [])))) (seq (block (seq (assign (place 4 []) (rv_opd (int w64 0)))
-          (seq (assign (place 8 []) (rv_opd (copy (place 2 (field 1 ∷ []))))) (block (loop (turn k))))))
-          (seq (assign (place 0 []) (rv_opd opd_unit)) return))));
-      locals =
-          local ty_unit value_local ∷ local (ty_ref (named 0) mut kept) value_local ∷ local (slice_ty (ty_ref (named 1) imm drawing)) value_local ∷
-          local (bare T k) memory_slot ∷ number ∷ local (ty_ref erased imm drawing) value_local ∷ local (bare T k) value_local ∷
-          local (ty_ref erased mut kept) value_local ∷ number ∷ local ty_bool value_local ∷ number ∷ local ty_ptr value_local ∷ local ty_unit value_local ∷
-          local (ty_ref erased mut lent) value_local ∷ [];
-    }
+    code k = let number = ty_int w64 in let gives = ty_enum option (ttcons tnil (ttcons (tcons (handed k) tnil) ttnil)) in
+        let types = locals_of in record {
+          lifetimes = 2;
+          outlives = (2, 0) ∷ (2, 1) ∷ [];
+          ty_params = [];
+          givens = 0;
+          params = 2;
+          body = in_order (set 9 (addr_of (place 1 (deref whole_plane ∷ []))) ∷ gets 8 opening (value 9 ∷ []) ∷ set 3 (rv_opd (value 8)) ∷
+              block (in_order (set 4 (rv_opd (int w64 0)) ∷ set 10 (rv_opd (copy (place 2 (field 1 ∷ [])))) ∷ []) (block (loop (turn k)))) ∷ []) ends_so;
+          locals = types (ty_unit ∷ ty_ref (named 0) mut kept ∷ slice_ty (ty_ref (named 1) imm drawing) ∷ []) ++ local (bare T k) memory_slot ∷
+              types (number ∷ ty_ref erased imm drawing ∷ gives ∷ handed k ∷ bare T k ∷ ty_ref erased mut kept ∷ number ∷ ty_bool ∷ number ∷ ty_ptr ∷
+              ty_enum side (ttcons tnil (ttcons tnil ttnil)) ∷ gives ∷ ty_ref erased mut lent ∷ ty_ref erased mut lent ∷ ty_unit ∷
+              ty_ref erased mut (ty_param 0) ∷ further k);
+        }
 
     abbrev 𝓣 : MachineTables 𝓤 𝓛.H 𝓜
     𝓣 = tables 𝓤 𝓛.H 𝓜 𝓡 𝓡.env
 
-    abbrev item_writes : Kind → Promise 𝓤
-    item_writes = writes_item 𝓛 𝓜 𝓡 T laws clone dict
+    -- the locals where the item is lent on, and in which one that is
+    abbrev relent : (k : Kind) (κ : Lft) (x : (given k κ (param 0 T)).Denot) → List (ℕ × Val)
+    relent of_pixels κ x = (19, its_value T of_pixels κ x) ∷ []
+    relent k κ x = (19, vptr x.ref_ptr.0 x.ref_ptr.1) ∷ (20, its_value T k κ x) ∷ []
+
+    abbrev changes_by : Kind → Body
+    changes_by of_pixels = gets 18 changing (value 19 ∷ value 5 ∷ [])
+    changes_by _ = gets 18 changing (value 20 ∷ value 5 ∷ [])
+
+    lends_item : (k : Kind) (κ : Lft) (x : (given k κ (param 0 T)).Denot) → WT (its_value T k κ x) → (l : ℕ → ℕ) (plane draws walk i draw n v : Val) {a b c d e f
+        g h j m o p r : Item 𝓤} {q : Exits 𝓤 𝓛.H}
+        → let En = env (code k).locals l in let u = its_value T k κ x in let Γ = λ (held : List (ℕ × Val)). a ∷ b ∷ c ∷ d ∷ e ∷ f ∷ g ∷ h ∷ j ∷ m ∷ o ∷ p ∷ r ∷
+        holding 𝓛 En (held ++ (1, plane) ∷ (2, draws) ∷ (3, walk) ∷ (4, i) ∷ (5, draw) ∷ (6, live 1 (of_list (u ∷ []))) ∷ (7, u) ∷ (10, n) ∷ (15, v) ∷ []) in
+        Step (Go {0}) 𝓛 (Γ (relent k κ x)) (runs 𝓣.C 𝓣.Λ En (changes_by k) q) (Γ []) (runs 𝓣.C 𝓣.Λ En (lends_on k) q)
+    lends_item of_pixels κ x ok l plane draws walk i draw n v = sets ! (addr ! (through ! refl (stop !))) refl (tt, tt)
+    lends_item _ κ x ok l plane draws walk i draw n v = step (λ s. sets ! (addr ! (from ! (fld ! refl (hop ! (look_in_at ! 7 (sub ! 0 refl (whole !)))
+        (stop !))))) refl (tt, tt) $
+        sets ! (agg ! (and_then ! (get ! refl) (and_then ! (get_in ! (fld ! refl (stop !)) (sub ! 1 refl (whole !))) (no_more !)))) refl (tt, ok) $ s)
 
     abbrev Written : Kind → Type 2
     Written neither = Unit {2}
-    Written k = (key : Callee) → Kept 𝓛 𝓜 𝓡 (opens 𝓛 𝓜 𝓡 T laws k) opening → Kept 𝓛 𝓜 𝓡 (item_writes k) writing → Closed 𝓤 𝓛.H 𝓣.C 𝓣.Λ key (code k) →
-        Kept 𝓛 𝓜 𝓡 (writes_items k) key
+    Written k = (key : Callee) → Kept 𝓛 𝓜 𝓡 (opens 𝓛 𝓜 𝓡 T laws k) opening → Kept 𝓛 𝓜 𝓡 (asks 𝓛 𝓜 𝓡 T clone dict k) asking →
+        Kept 𝓛 𝓜 𝓡 (draws_promise 𝓛 𝓜 𝓡 T clone dict k Front) ahead → Kept 𝓛 𝓜 𝓡 (draws_promise 𝓛 𝓜 𝓡 T clone dict k Back) behind →
+        Kept 𝓛 𝓜 𝓡 (changes 𝓛 𝓜 𝓡 T clone dict k) changing → Closed 𝓤 𝓛.H 𝓣.C 𝓣.Λ key (code k) → Kept 𝓛 𝓜 𝓡 (writes_items k) key
 
     pub items_written : (k : Kind) → Written k
     unfolding after_turn tables_of
     items_written neither = tt
-    items_written k = λ key opened_by item_written closed.
+    items_written k = λ key opened_by asked first_drawn last_drawn changed closed.
         let item = param 0 T in let function = code k in
         let En₀ = (writes_items k).0 in let c = (writes_items k).1 in
         let Self = plain (λ _. planes.the_row (copied 0 T)) in let Lent = SliceRefOf (1 ∷ []) tt (plain (λ _. draw_row k (copied 0 T))) (λ κs. tt) in
@@ -142,15 +198,15 @@ module _ {M : Type 1} {𝓤 : Ura M} (𝓛 : Logic 𝓤) (𝓜 : Model 𝓤 𝓛
         lands_as ! refl refl typed.0 $ sets ! (of_opd ! (get ! refl)) refl typed.0 $
         -- [the iterator; how the plane ends; the tokens of κw and κT; the plane's lender; the way back; the draws; the token of κd; the locals]
         let Shows : Item 𝓤 = ‵ (LendsBuffer item loan (slice T k w)) in let Lender : Item 𝓤 = ‵ (LentAgain Plane κ κw q plane.ghost_name b o δ plane.now) in
-        let turning : Body = head (head (after 2 (head (head (after 3 function.body))))) in
+        let turning = turn k in let behind_loop = ends_so in
         -- so many of the draws are done, and these items are left
         let State : Type 0 = (s : ℕ × Walk T k) × (s.0 ≤ n) × (left T k s.1 ≡ left_in_turn (left T k w) (map (side_of T k) (take s.0 draws))) in
         let Nearer : State → State → Type 0 = λ t u. n - t.0.0 < n - u.0.0 in
         let Now : State → List (Item 𝓤) = λ t. ‵ (Walking.own_val t.0.1 (low t.0.1 ∷ [])) ∷ ‵ (Puts T k (take t.0.0 draws) w t.0.1) ∷ ‵ (flft κw qw) ∷
-        ‵ (flft κT rT) ∷ ‵ (flft κd qd) ∷ ‵ Each ∷ Shows ∷ Lender ∷ raw (Back 𝓛 α κT (Share.left qT))
-        ∷ holding 𝓛 En ((1, vptr b o) ∷ (2, slice_val (bd, od) n) ∷ (3, low t.0.1) ∷ (4, vint w64 t.0.0) ∷ (8, vint w64 n) ∷ []) in
+        ‵ (flft κT rT) ∷ ‵ (flft κd qd) ∷ ‵ Each ∷ Shows ∷ Lender ∷ raw (Way_back 𝓛 α κT (Share.left qT))
+        ∷ holding 𝓛 En ((1, vptr b o) ∷ (2, slice_val (bd, od) n) ∷ (3, low t.0.1) ∷ (4, vint w64 t.0.0) ∷ (10, vint w64 n) ∷ []) in
         let Turned : State → Out → SProp 𝓤 = λ t. after_turn 𝓤 𝓛.H (Below 𝓛 Nearer Now t)
-        (after_block 𝓤 𝓛.H (after_block 𝓤 𝓛.H (after_seq 𝓤 𝓛.H (Wp 𝓤 𝓛.H 𝓣.C 𝓣.Λ En (after 4 function.body) (at_return 𝓤 𝓛.H En Post))
+        (after_block 𝓤 𝓛.H (after_block 𝓤 𝓛.H (after_seq 𝓤 𝓛.H (Wp 𝓤 𝓛.H 𝓣.C 𝓣.Λ En behind_loop (at_return 𝓤 𝓛.H En Post))
         (at_return 𝓤 𝓛.H En Post)))) in
         let turns : (t : State) → Sq 𝓛 (Now t) (runs 𝓣.C 𝓣.Λ En turning (any_q (Turned t))) = λ t. let i = t.0.0 in let walk = t.0.1 in
         sets ! (bin ! (get ! refl) (get ! refl) tt) refl (tt, tt) $ first ! $ branches ! (get ! refl)
@@ -161,39 +217,107 @@ module _ {M : Type 1} {𝓤 : Ura M} (𝓛 : Logic 𝓤) (𝓜 : Model 𝓤 𝓛
         skips ! $ exec ! 𝓣.C 𝓣.Λ En (after 2 turning) (any_q (Turned t)) $
         sets ! (bin ! (get ! refl) (sized T k (record { fits = tiny })) (record { fits = fits })) refl (tt, record { fits = fits }) $
         sets ! (bin ! (get_in ! (fld ! refl (stop !)) (sub ! 0 refl (whole !))) (get ! refl) tt) refl (tt, tt) $
-        sets ! (addr ! (through ! refl (stop !))) refl (tt, tt) $ first ! $ blocks ! $ sets ! (addr ! (from ! (stop !))) refl (tt, tt) $
-        move ! (5 ∷ []) $ lends_nth ! Read (draws_laws T k laws) (named 2) κd draws bd od i h $
-        -- [the cell of the iterator; the iterator; the token of κw; the draw; the draws; what was put back; the tokens of κT and κd; the rest; the locals]
-        take_at ! 3 $ move ! (0 ∷ 3 ∷ 5 ∷ []) $ lends_walk ! tt Walking refl τ refl κw qw walk (l 3) 0 (low walk) (λ β γ.
-        let κc = β ∷ κw in let inw = meet_⊑_right (β ∷ []) κw in
-        -- [the iterator, lent; the tokens of κc and κw; its lender; the way back; the draw; the draws; what was put back; the tokens of κT and κd; the rest]
-        calls_last ! (1 ∷ 2 ∷ 9 ∷ 8 ∷ 0 ∷ 5 ∷ []) run (item_writes k).0 (item_writes k).1 item_written (
+        sets ! (addr ! (through ! refl (stop !))) refl (tt, tt) $ first ! $ blocks ! $
+        let ι : Bor (Draw T k) = record { ref_ptr = (bd, p); now = d } in
+        let inw' = bounds.1.0 in let Given = given k κw item in let Gives = option_row Given in let typing = (option_laws Given (given_laws T k κw laws)).lawful 𝓛 in
+        let draws_of = draws_promise 𝓛 𝓜 𝓡 T clone dict k in let Taken = Puts T k (d ∷ []) walk in
+        let After : Out → SProp 𝓤 = after_block 𝓤 𝓛.H (after_seq 𝓤 𝓛.H (Wp 𝓤 𝓛.H 𝓣.C 𝓣.Λ En goes_on (Turned t)) (Turned t)) in
+        let Then : Exits 𝓤 𝓛.H = any_q (after_seq 𝓤 𝓛.H (Wp 𝓤 𝓛.H 𝓣.C 𝓣.Λ En (drawn_by k) After) After) in
+        -- [what is put back; the iterator; the tokens of κw, κT and κd; the draws; what was put back; the rest; the locals]
+        let finish : (new : Walk T k) → left T k new ≡ left_by d.side (left T k walk) → Sq 𝓛 (‵ (Taken new) ∷ ‵ (Walking.own_val new (low new ∷ [])) ∷
+        ‵ (flft κw qw) ∷ ‵ (flft κT rT) ∷ ‵ (flft κd qd) ∷ ‵ Each ∷ ‵ (Puts T k (take i draws) w walk) ∷ Shows ∷ Lender ∷ raw (Way_back 𝓛 α κT (Share.left qT)) ∷
+        holding 𝓛 En ((1, vptr b o) ∷ (2, slice_val (bd, od) n) ∷ (3, low new) ∷ (4, vint w64 i) ∷ (10, vint w64 n) ∷ []))
+        (runs 𝓣.C 𝓣.Λ En goes_on (any_q (Turned t))) = λ new fewer.
+        sets_last ! (bin ! (get ! refl) (lit ! tt) (record { fits = more })) refl (tt, record { fits = more }) $
+        move ! (6 ∷ 0 ∷ []) $ use2 𝓛 (‵ (Puts T k (take (i + 1) draws) w new))
+        (nth_drawn 𝓛 (left T k) (Second T k) (side_of T k) (made T k) draws i h w walk new t.2 fewer) $ move ! (1 ∷ 0 ∷ []) $
+        again ! Nearer Now t ((i + 1, new), omega (arith, h), nth_left (side_of T k) (left T k w) draws i h (left T k walk) (left T k new) t.2 fewer)
+        (omega (arith, h)) in
+        -- what is done with the item, once it is drawn: [the iterator; the token of κw; the item; what is lent; what is said; the tokens of κT and κd; nothing;
+        -- the draw; the draws; what was put back; the rest; the locals]
+        let writes : (v : Val) (r : Option (MutBor (Entry T k))) (new : Walk T k) → Sq 𝓛 (‵ (Walking.own_val new (low new ∷ [])) ∷ ‵ (flft κw qw) ∷
+        ‵ (Gives.own_val r (v ∷ [])) ∷ (Draws 𝓛 (left T k) (Lends T k) walk d.side r new ++ ‵ (flft κT rT) ∷ ‵ (flft κd qd) ∷ ‵ ftrue ∷
+        ‵ ((ShrRef (named 2) κd Read).own_val ι (vptr bd p ∷ [])) ∷ ‵ Each ∷ ‵ (Puts T k (take i draws) w walk) ∷ Shows ∷ Lender ∷
+        raw (Way_back 𝓛 α κT (Share.left qT)) ∷ holding 𝓛 En ((1, vptr b o) ∷ (2, slice_val (bd, od) n) ∷ (3, low new) ∷ (4, vint w64 i) ∷ (5, vptr bd p) ∷
+        (10, vint w64 n) ∷ []))) (settles En (place 15 []) v Then) = λ v r new.
+        move ! (2 ∷ []) $ peeks ! Gives _ (shows 𝓛 Gives) r (v ∷ []) (λ fits. move ! (4 ∷ []) $ heard ! _ (λ gave.
+        lands_last ! refl (typing.typed r (v ∷ []) fits).0 $ exec ! 𝓣.C 𝓣.Λ En (drawn_by k) (any_q After) $
+        by_told ! Given (its_value T k κw) (value_is T k κw) r v (λ is_none e.
+        sets ! (is ! (of_opd ! (get ! refl)) e) refl (tt, (record { fits = lit< tt }, tt)) $
+        switches_on ! (get_tag ! (vrt ! refl (fld ! refl (stop !))) (whole !)) $ exec ! 𝓣.C 𝓣.Λ En (arm_body 1 (written_by k)) (any_q After) $
+        skips ! $ exec ! 𝓣.C 𝓣.Λ En goes_on (any_q (Turned t)) $
+        -- [the iterator; the token of κw; what is lent; the tokens of κT and κd; nothing; the draw; the draws; what was put back; the rest]
+        move ! (5 ∷ 6 ∷ 2 ∷ []) $ drop ! $ drop ! $
+        rewrite ! 0 (λ (z : Option (MutBor (Entry T k))). ‵ (Lends T k d.side walk z new)) is_none refl $
+        use1 𝓛 (‵ (Taken new)) (none_taken 𝓛 T d.side k (made T k d) walk new (sym (ap option_copied_mut (sym is_none) ∙ gave.0))) $
+        forget_but ! En (1 ∷ 2 ∷ 3 ∷ 4 ∷ 10 ∷ []) refl $ finish new gave.1) (λ x is_item e is_one.
+        let item_fits = (((given_laws T k κw laws).lawful 𝓛).typed x (its_value T k κw x ∷ []) is_one).0.1 in
+        sets ! (is ! (of_opd ! (get ! refl)) e) refl (tt, (record { fits = lit< tt }, (item_fits, tt))) $
+        switches_on ! (get_tag ! (vrt ! refl (fld ! refl (stop !))) (whole !)) $ exec ! 𝓣.C 𝓣.Λ En (arm_body 0 (written_by k)) (any_q After) $
+        sets ! (of_opd ! (get_in ! (vrt ! refl (fld ! refl (stop !))) (in_variant ! 1 0 refl refl (whole !)))) refl (tt, item_fits) $
+        lends_item k κw x item_fits l (vptr b o) (slice_val (bd, od) n) (low new) (vint w64 i) (vptr bd p) (vint w64 n) v $
+        -- [the item; the iterator; the token of κw; what is lent; the tokens of κT and κd; nothing; the draw; the draws; what was put back; the rest]
+        calls_last ! (2 ∷ 5 ∷ 4 ∷ 0 ∷ 7 ∷ []) run (changes 𝓛 𝓜 𝓡 T clone dict k).0 (changes 𝓛 𝓜 𝓡 T clone dict k).1 changed
+        (((κw, (κd, (κT, tt))), (qw, (qd, (rT, tt))), (inT', (inw', tt)), (x, (ι, tt)), (its_value T k κw x ∷ [], (vptr bd p ∷ [], tt))), tt)
+        (asks_that 𝓤 inT) refl
+        (and_then ! (get ! refl) (and_then ! (get ! refl) (no_more !))) (λ u last. raw (fact 𝓤 (last.0 ≡ made T k d x.now)) ∷ []) (λ u last. id⊢ 𝓤 _)
+        (λ z u last. feq_l ! (λ is_unit. heard ! _ (λ changed_so.
+        lands_last ! refl (unit_fits is_unit) $ exec ! 𝓣.C 𝓣.Λ En goes_on (any_q (Turned t)) $
+        -- [the tokens of κw, κd and κT; how the item ends; nothing; the iterator; what is lent; nothing; the draws; what was put back; the rest]
+        move ! (4 ∷ 7 ∷ 3 ∷ []) $ drop ! $ drop ! $ use1 𝓛 (‵ (Left T k κw x last.0)) (left_as T 𝓛 k κw x last.0) $
+        rewrite ! 0 (λ (z : Entry T k). ‵ (Ends T k x z)) changed_so refl $
+        rewrite ! 5 (λ (z : Option (MutBor (Entry T k))). ‵ (Lends T k d.side walk z new)) is_item refl $ move ! (0 ∷ 5 ∷ []) $
+        use2 𝓛 (‵ (Taken new)) (item_taken 𝓛 T d.side k (made T k d) walk new x (sym (ap option_copied_mut (sym is_item) ∙ gave.0))) $
+        move ! (0 ∷ 4 ∷ 1 ∷ 3 ∷ 2 ∷ []) $ forget_but ! En (1 ∷ 2 ∷ 3 ∷ 4 ∷ 10 ∷ []) refl $ finish new gave.1)))))) in
+        -- [the iterator; what was put back; the tokens of κw, κT and κd; the draws; the rest; the locals]
+        move ! (5 ∷ []) $ lends_nth ! Read (draws_laws T k laws) (named 2) κd draws bd od i h $ read_twice ! (named 2) κd Read (draws_laws T k laws) ι $
+        -- [the draw, twice; the draws; the iterator; what was put back; the tokens of κw, κT and κd; the rest]
+        calls ! (7 ∷ 6 ∷ 0 ∷ []) run (asks 𝓛 𝓜 𝓡 T clone dict k).0 (asks 𝓛 𝓜 𝓡 T clone dict k).1 asked
+        (((κd, (κT, tt)), (qd, (rT, tt)), (inw', tt), (ι, tt), (vptr bd p ∷ [], tt)), tt) (asks_that 𝓤 inT) refl
+        (and_then ! (get ! refl) (no_more !)) (λ s us. raw (fact 𝓤 (s ≡ d.side)) ∷ []) (λ s us. id⊢ 𝓤 _) (λ u s us. move ! (1 ∷ []) $ heard ! _ (λ is_side.
+        -- [the side; the tokens of κd and κT; nothing; the draw; the draws; the iterator; what was put back; the token of κw; the rest]
+        by_side ! s u (λ is_front e. lands_as ! e refl (tt, (record { fits = lit< tt }, tt)) $ first ! $
+        switches_on ! (get_tag ! (vrt ! refl (fld ! refl (stop !))) (whole !)) $ exec ! 𝓣.C 𝓣.Λ En (draws_by 16 ahead) Then $
+        sets ! (addr ! (from ! (stop !))) refl (tt, tt) $ take_at ! 3 $ move ! (0 ∷ 6 ∷ 8 ∷ []) $
+        lends_walk ! tt Walking refl τ refl κw qw walk (l 3) 0 (low walk) (λ β γ. let κc = β ∷ κw in let inw = meet_⊑_right (β ∷ []) κw in
+        -- [the iterator, lent; the tokens of κc and κw; its lender; the way back; the tokens of κd and κT; nothing; the draw; the draws; what was put back; ..]
+        calls_last ! (1 ∷ 2 ∷ 6 ∷ 0 ∷ []) run (draws_of Front).0 (draws_of Front).1 first_drawn (
           (
-            (κc, (κw, (κd, (κT, tt)))),
-            (share_within (Share.left qw), (Share.right qw, (qd, (rT, tt)))),
-            (inw, (⊑_trans κc κw κT inw inT', (inT', (bounds.1.0, tt)))),
-            (record { ref_ptr = (l 3, 0); ghost_name = γ; now = walk }, (record { ref_ptr = (bd, p); now = d }, tt)),
-            (vptr (l 3) 0 ∷ [], (vptr bd p ∷ [], tt)),
+            (κc, (κw, (κT, tt))),
+            (share_within (Share.left qw), (Share.right qw, (rT, tt))),
+            (inw, (⊑_trans κc κw κT inw inT', (inT', tt))),
+            (record { ref_ptr = (l 3, 0); ghost_name = γ; now = walk }, tt),
+            (vptr (l 3) 0 ∷ [], tt),
           ),
           tt,
         ) (asks_that 𝓤 inT) refl
-        (and_then ! (get ! refl) (and_then ! (get ! refl) (no_more !)))
-        (λ u ends. ‵ (Puts T k (d ∷ []) walk ends.0) ∷ raw (fact 𝓤 (left T k ends.0 ≡ left_by d.side (left T k walk))) ∷ []) (λ u ends. id⊢ 𝓤 _)
-        (λ v' u ends. feq_l ! (λ is_unit. move ! (1 ∷ []) $ heard ! _ (λ fewer. let new = ends.0 in
-        -- [what is put back; the tokens of κc, κw, κd and κT; how the iterator ends; nothing; its lender; the way back; the draws; what was put back; the rest]
-        move ! (1 ∷ 2 ∷ 5 ∷ 7 ∷ 8 ∷ []) $ walk_back ! tt Walking refl τ refl κw qw β γ (l 3) 0 new (low new) (λ u is. ap only (spelled new (u ∷ []) is)) $
-        give_at ! 3 $
-        lands_last ! refl (unit_fits is_unit) $
-        exec ! 𝓣.C 𝓣.Λ En (after 6 turning) (any_q (Turned t)) $
-        sets_last ! (bin ! (get ! refl) (lit ! tt) (record { fits = more })) refl (tt, record { fits = more }) $
-        -- [the iterator; the token of κw; what is put back; the tokens of κd and κT; nothing; the draws; what was put back; the rest]
-        move ! (7 ∷ 2 ∷ []) $ use2 𝓛 (‵ (Puts T k (take (i + 1) draws) w new))
-        (nth_drawn 𝓛 (left T k) (Second T k) (side_of T k) (made T k) draws i h w walk new t.2 fewer) $
-        move ! (5 ∷ []) $ drop ! $ move ! (1 ∷ 0 ∷ 2 ∷ 4 ∷ 3 ∷ []) $ forget_but ! En (1 ∷ 2 ∷ 3 ∷ 4 ∷ 8 ∷ []) refl $
-        again ! Nearer Now t ((i + 1, new), omega (arith, h), nth_left (side_of T k) (left T k w) draws i h (left T k walk) (left T k new) t.2 fewer)
-        (omega (arith, h)))))))
+        (and_then ! (get ! refl) (no_more !)) (λ r us. Draws 𝓛 (left T k) (Lends T k) walk d.side r us.0)
+        (λ r us. from_front 𝓛 (left T k) (Lends T k) walk d.side r us.0 (sym is_side ∙ is_front)) (λ v r us.
+        move ! (3 ∷ 4 ∷ 6 ∷ 7 ∷ 8 ∷ []) $ walk_back ! tt Walking refl τ refl κw qw β γ (l 3) 0 us.0 (low us.0)
+        (λ z is. ap only (spelled us.0 (z ∷ []) is)) $ give_at ! 3 $
+        -- [the iterator; the token of κw; the item; what is lent; what is said; the tokens of κT and κd; nothing; the draw; the draws; ..]
+        forget_but ! En (1 ∷ 2 ∷ 3 ∷ 4 ∷ 5 ∷ 10 ∷ []) refl $ writes v r us.0)))
+        (λ is_back e. lands_as ! e refl (tt, (record { fits = lit< tt }, tt)) $ first ! $
+        switches_on ! (get_tag ! (vrt ! refl (fld ! refl (stop !))) (whole !)) $ exec ! 𝓣.C 𝓣.Λ En (draws_by 17 behind) Then $
+        sets ! (addr ! (from ! (stop !))) refl (tt, tt) $ take_at ! 3 $ move ! (0 ∷ 6 ∷ 8 ∷ []) $
+        lends_walk ! tt Walking refl τ refl κw qw walk (l 3) 0 (low walk) (λ β γ. let κc = β ∷ κw in let inw = meet_⊑_right (β ∷ []) κw in
+        calls_last ! (1 ∷ 2 ∷ 6 ∷ 0 ∷ []) run (draws_of Back).0 (draws_of Back).1 last_drawn (
+          (
+            (κc, (κw, (κT, tt))),
+            (share_within (Share.left qw), (Share.right qw, (rT, tt))),
+            (inw, (⊑_trans κc κw κT inw inT', (inT', tt))),
+            (record { ref_ptr = (l 3, 0); ghost_name = γ; now = walk }, tt),
+            (vptr (l 3) 0 ∷ [], tt),
+          ),
+          tt,
+        ) (asks_that 𝓤 inT) refl
+        (and_then ! (get ! refl) (no_more !)) (λ r us. Draws 𝓛 (left T k) (Lends T k) walk d.side r us.0)
+        (λ r us. from_back 𝓛 (left T k) (Lends T k) walk d.side r us.0 (sym is_side ∙ is_back)) (λ v r us.
+        move ! (3 ∷ 4 ∷ 6 ∷ 7 ∷ 8 ∷ []) $ walk_back ! tt Walking refl τ refl κw qw β γ (l 3) 0 us.0 (low us.0)
+        (λ z is. ap only (spelled us.0 (z ∷ []) is)) $ give_at ! 3 $
+        forget_but ! En (1 ∷ 2 ∷ 3 ∷ 4 ∷ 5 ∷ 10 ∷ []) refl $ writes v r us.0))))))
         (λ over. let all : i ≡ n = omega (arith, nltb→le i n over, t.1) in
-        jumps ! $ exec ! 𝓣.C 𝓣.Λ En (after 4 function.body) (at_ret En Post) $
+        jumps ! $ exec ! 𝓣.C 𝓣.Λ En behind_loop (at_ret En Post) $
         -- the iterator is dropped, and the plane comes back as its items end
         use1 𝓛 (‵ (Second T k walk (left T k walk))) (dropped T 𝓛 k ℓ walk (low walk ∷ [])) $
         let table = table_of plane.now in let first_shown = shown T k plane.now in let second = walk_leaves (side_of T k) (made T k) first_shown draws in
@@ -211,5 +335,5 @@ module _ {M : Type 1} {𝓤 : Ura M} (𝓛 : Logic 𝓤) (𝓜 : Model 𝓤 𝓛
         move ! (1 ∷ 0 ∷ 3 ∷ 4 ∷ 8 ∷ 7 ∷ 2 ∷ []) $
         first ! $ blocks ! $ sets ! (of_opd ! (lit ! tt)) refl (tt, record { fits = lit< tt }) $
         sets ! (of_opd ! (get_in ! (fld ! refl (stop !)) (sub ! 1 refl (whole !)))) refl (tt, record { fits = n_fits }) $
-        forget_but ! En (1 ∷ 2 ∷ 3 ∷ 4 ∷ 8 ∷ []) refl $ blocks ! $ loops ! (tables_of 𝓤 𝓛.H 𝓜 𝓣) Nearer (InvImage.wf (λ (t :
+        forget_but ! En (1 ∷ 2 ∷ 3 ∷ 4 ∷ 10 ∷ []) refl $ blocks ! $ loops ! (tables_of 𝓤 𝓛.H 𝓜 𝓣) Nearer (InvImage.wf (λ (t :
         State). n - t.0.0) lt-wf_rel.wf) Now turns ((0, w), omega arith, refl)))))

@@ -58,21 +58,13 @@ pub(crate) fn write_pixels<T: Copy>(plane: &mut Plane<T>, draws: &[PixelDraw<T>]
 {
     let mut walk = plane.pixels_mut();
     for draw in draws {
-        write_pixel(&mut walk, draw);
-    }
-}
-
-/// One call of `next` or `next_back`, and the write where it gives a pixel.
-pub(crate) fn write_pixel<T: Copy>(walk: &mut PixelsMut<'_, T>, draw: &PixelDraw<T>)
-    ensures* leaves { sem 𝓛 (PutsPixelsBack T.row (draw.now ∷ []) walk.old walk.new) }
-    ensures left { pixels_left walk.new ≡ left_by draw.now.side (pixels_left walk.old) }
-{
-    let pixel = match draw.side() {
-        Side::Front => walk.next(),
-        Side::Back => walk.next_back(),
-    };
-    if let Some(pixel) = pixel {
-        replace_by(pixel, draw);
+        let pixel = match draw.side() {
+            Side::Front => walk.next(),
+            Side::Back => walk.next_back(),
+        };
+        if let Some(pixel) = pixel {
+            replace_by(pixel, draw);
+        }
     }
 }
 

@@ -77,21 +77,13 @@ pub(crate) fn write_rows<T: Copy>(plane: &mut Plane<T>, draws: &[RowDraw<T>])
 {
     let mut walk = plane.rows_mut();
     for draw in draws {
-        write_row(&mut walk, draw);
-    }
-}
-
-/// One call of `next` or `next_back`, and the write where it gives a row.
-pub(crate) fn write_row<T: Copy>(walk: &mut RowsMut<'_, T>, draw: &RowDraw<T>)
-    ensures* leaves { sem 𝓛 (PutsRowsBack T.row (draw.now ∷ []) walk.old walk.new) }
-    ensures left { rows_left walk.new ≡ left_by draw.now.side (rows_left walk.old) }
-{
-    let row = match draw.side() {
-        Side::Front => walk.next(),
-        Side::Back => walk.next_back(),
-    };
-    if let Some(row) = row {
-        overwrite_by(row, draw);
+        let row = match draw.side() {
+            Side::Front => walk.next(),
+            Side::Back => walk.next_back(),
+        };
+        if let Some(row) = row {
+            overwrite_by(row, draw);
+        }
     }
 }
 

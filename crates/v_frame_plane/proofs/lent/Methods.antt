@@ -33,7 +33,7 @@ value i = copy (place i [])
 abbrev pub gets : ℕ → Callee → List Operand → Code
 gets i f xs = call f xs (place i [])
 
-abbrev locals_of : List Ty → List Local
+abbrev pub locals_of : List Ty → List Local
 locals_of [] = []
 locals_of (τ ∷ τs) = local τ value_local ∷ locals_of τs
 
