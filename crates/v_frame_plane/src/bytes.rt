@@ -140,6 +140,7 @@ impl<'a, T: Pixel> DoubleEndedIterator for ByteData<'a, T> {
 
 impl<'a, T: Pixel> ExactSizeIterator for ByteData<'a, T> {
     #[inline]
+    #[tactic(auto, using(crate::proofs::iterators::BegunPixels::count_of_bytes, crate::proofs::iterators::BegunPixels::one_at_most))]
     fn len(&self) -> usize {
         usize::from(self.front.is_some())
             + self.pixels.len() * T::BYTES

@@ -74,6 +74,7 @@ impl<'a, T> PlaneRef<'a, T> {
     ///
     /// `None` exactly where the rectangle is empty or not inside the visible one. Everything around it is border, and the
     /// ratios stay. Nothing is copied: what reads a plane, as a motion search does, reads a block of one too. Our own.
+    #[tactic(auto, using(crate::proofs::tables::Regions::region_shows))]
     pub fn region(&self, x: usize, y: usize, width: usize, height: usize) -> Option<Self>
         ensures value { let geometry = self.now.geometry in
             SomeIff result (IsInside geometry x y width height)
@@ -152,6 +153,7 @@ impl<'a, T: Copy> PlaneRef<'a, T> {
     /// The entry at the index of column `x` and row `y`. `None` exactly where that index is past the end of the buffer.
     ///
     /// The visible rectangle is tested first: there the index needs no further test.
+    #[tactic(auto, using(crate::proofs::tables::Places::places_read))]
     pub fn pixel(&self, x: usize, y: usize) -> Option<T>
         ensures value { result ≡ slice_get self.now.buffer (place_of self.now.geometry x y) }
         ensures none { IsNone result
@@ -193,6 +195,7 @@ impl<'a, T: Pixel> PlaneRef<'a, T> {
     }
 
     /// How many bytes [`byte_data`](Self::byte_data) gives: those of `width * height` pixels. It reads none of them.
+    #[tactic(auto, using(crate::proofs::iterators::BegunRows::visible_bytes))]
     pub fn byte_len(&self) -> usize
         ensures value { result
             ≡ self.now.geometry.width * self.now.geometry.height * T.form.size }
