@@ -102,6 +102,7 @@ impl<'a, T: Pixel> Iterator for ByteData<'a, T> {
     ghost remaining = { λ bytes. at_most (length bytes) };
 
     #[inline]
+    #[tactic(auto, using(crate::proofs::iterators::BegunPixels::bytes_taken))]
     fn next(&mut self) -> Option<u8> {
         if let Some(pixel) = self.front.take() {
             return Some(pixel.le_byte(1));
@@ -127,6 +128,7 @@ impl<'a, T: Pixel> DoubleEndedIterator for ByteData<'a, T> {
     ghost next_back_gives = { TakesLast (λ byte. byte) };
 
     #[inline]
+    #[tactic(auto, using(crate::proofs::iterators::BegunPixels::bytes_taken))]
     fn next_back(&mut self) -> Option<u8> {
         if let Some(pixel) = self.back.take() {
             return Some(pixel.le_byte(0));

@@ -1,7 +1,8 @@
 -- An iterator over bytes as a pixel that was begun from the front, pixels, and a pixel that was begun from the back.
 use Rattle.std.proofs.Common.{ℕ, Bool, true, false, ◌≡◌, ◌+◌, ◌*◌, ◌^◌, ◌<◌, ◌≤◌, List, [], ◌∷◌, ◌++◌, length, Option, Some, None, is_some, refl}
-use Rattle.std.proofs.Common.{arith, length-append}
+use Rattle.std.proofs.Common.{arith, append_assoc, length-append}
 use Rattle.std.proofs.Math.Nat.{mul-le-mul_left, mul-le-mul_right}
+use Rattle.std.proofs.lemmas.List.Concat.{flat_map-append}
 use Rattle.std.specs.Int.{from_bool}
 use Rattle.v_frame_layout.specs.Geometry.{Geometry, Fits}
 use Rattle.v_frame_layout.specs.Pixel.{PixelForm, bytes_of, bytes_of_pixels}
@@ -46,3 +47,6 @@ module _ {T : Type 0} (size : ℕ) where
 
   pub none_left : (front back : Option T) (pixels : List T) → front ≡ None → pixels ≡ [] → back ≡ None → PixelsAreBegun size front pixels back
   none_left front back pixels f e b = rw (f, e, b) record { low_drawn = tt; high_drawn = tt; bound = omega arith }
+
+-- for calls that take a byte
+pub ruleset bytes_taken = (none_left, few_left, append_assoc, flat_map-append, length-append)
