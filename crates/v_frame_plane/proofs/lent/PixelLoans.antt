@@ -5,7 +5,7 @@
 use Rattle.v_frame_plane.proofs.lent.Steps.{◌≡◌, List, Option, None, [], ◌∷◌, ◌++◌, length, Some, MutBor, refl, sym, ap, ◌∙◌, arith, SProp, all}
 use Rattle.v_frame_plane.proofs.lent.Steps.{all_e, apply∗, ent, sep, wand, RattleType, Ura, ‵, raw, ◌$◌, ◌∵◌, !, qed, assume, done, each, fjoin3, fpick, fsplit}
 use Rattle.v_frame_plane.proofs.lent.Steps.{fsplit3, join, keep, move, rewrite, use1, use2, use3, Logic, sem, append_assoc, Fml, fsep, map, append-nil}
-use Rattle.v_frame_plane.proofs.lent.Steps.{nil_from_length, length-map, map-append}
+use Rattle.v_frame_plane.proofs.lent.Steps.{nil_from_length, map-append}
 use Rattle.v_frame_layout.specs.Table.{row_major}
 use Rattle.v_frame_plane.specs.PixelsLeft.{pixels_left}
 use Rattle.v_frame_plane.specs.RowsLeft.{rows_left}

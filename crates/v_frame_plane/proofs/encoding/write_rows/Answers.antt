@@ -1,5 +1,5 @@
 -- The front of a piece is one more row, and then the end.
-use Rattle.std.proofs.Common.{◌≡◌, ◌+◌, ◌-◌, ◌*◌, ◌<◌, length, take, drop, refl, sym, ◌∙◌, ap, arith, length-take-le, length-drop}
+use Rattle.std.proofs.Common.{◌≡◌, ◌+◌, ◌-◌, ◌*◌, ◌<◌, length, drop, refl, ◌∙◌, arith, length-take-le, length-drop}
 use Rattle.v_frame_layout.specs.Geometry.{alloc_size_of}
 use Rattle.v_frame_plane.proofs.copies.CopyLemmas.{one_more_row, border_put_row, all_rows}
 use Rattle.v_frame_plane.proofs.copies.Sources.{front_within, length-rows, row_of_piece}
@@ -51,4 +51,3 @@ write_row-requires g c =
     let part = length-take-le k.width (drop start c.loop-y.buffer) (omega (arith, length-drop start c.loop-y.buffer, c.row_start-start.ensures.within)) in
     let source = length-take-le entries (drop from c.args.src.now) (omega (arith, length-drop from c.args.src.now, within, c.requires.source)) in
     rw (row, piece, part, source) (omega arith)
-

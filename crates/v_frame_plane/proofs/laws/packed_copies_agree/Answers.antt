@@ -1,9 +1,9 @@
 -- Both copies leave the same table, border and geometry, which determine the buffer.
-use Rattle.std.proofs.Common.{ℕ, ◌≡◌, ◌*◌, ◌≤◌, length, ap, ◌∙◌, sym, subst, arith}
+use Rattle.std.proofs.Common.{ℕ, ◌≡◌, ◌*◌, ◌≤◌, length, ap, ◌∙◌, sym, arith}
 use Rattle.v_frame_layout.specs.Geometry.{alloc_size_of, usize_max}
 use Rattle.v_frame_layout.specs.Table.{width_of, height_of}
-use Rattle.v_frame_plane.specs.Plane.{Raster, table_of, border_of}
-use Rattle.v_frame_plane.specs.Copy.{CopyOutcome, Copies, packed_copy}
+use Rattle.v_frame_plane.specs.Plane.{table_of}
+use Rattle.v_frame_plane.specs.Copy.{Copies, packed_copy}
 use Rattle.v_frame_plane.proofs.copies.CopyLemmas.{pixels_within}
 use Rattle.v_frame_plane.proofs.tables.Determined.{determines_buffer}
 use Rattle.v_frame_plane.proofs.copies.ByteLaws.{one_byte_copies}

@@ -1,5 +1,5 @@
 -- A row is begun: the last one, or the one that was begun from the front.
-use Rattle.std.proofs.Common.{[], ◌∷◌, length, refl, ap, arith, append_assoc, append-nil, length-append}
+use Rattle.std.proofs.Common.{[], ◌∷◌, length, ap, arith, append_assoc, append-nil, length-append}
 use Rattle.std.proofs.lemmas.List.{nil_from_length}
 use Rattle.v_frame_plane.proofs.iterators.BegunRows.{last_drawn, drawn_countable, none_countable, row_major-append}
 use Rattle.v_frame_plane.proofs.iterators.WalkRuns.{last_taken}
@@ -32,4 +32,3 @@ returns-clause-steps g c =
 
 pub returns-clause-goes : goal.returns-clause-goes
 returns-clause-goes g c = last_taken (λ pixel. pixel) _ _ _ _ tt (returns-clause-steps g c)
-

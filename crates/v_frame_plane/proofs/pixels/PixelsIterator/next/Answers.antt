@@ -1,8 +1,6 @@
 -- A row is begun: the next one, or the one that was begun from the back.
-use Rattle.std.proofs.Common.{length, refl, ap, arith, append_assoc, append-nil}
-use Rattle.std.proofs.lemmas.List.{nil_from_length}
+use Rattle.std.proofs.Common.{length, ap, arith}
 use Rattle.v_frame_plane.proofs.iterators.BegunRows.{first_drawn, drawn_countable, none_countable}
-use Rattle.v_frame_plane.proofs.iterators.WalkRuns.{first_taken}
 use Rattle.v_frame_plane.proofs.pixels.PixelsIterator.next.Goals as goal
 use Rattle.v_frame_plane.proofs.pixels.PixelsIterator.next.Goals.{in-Some-next, in-None}
 
@@ -16,4 +14,3 @@ invariant_of-self-2 g c =
           let cut = ap length (rw (w.row-is, w.take-row.ensures.value) at c.in_ok-pixel.ensures.cases.0) in
           rw (w.self-inside-is) (none_countable c.self.invariant w.in-None.ensures.steps.1 _ _ (omega (arith, cut, ap length w.take-row.ensures.after)))
     ]
-
