@@ -6,5 +6,4 @@ pub mod PixelBytes
 pub mod Plans
 pub mod RowLanes
 pub mod RowPairs
-pub mod TableSums
 pub mod Tables

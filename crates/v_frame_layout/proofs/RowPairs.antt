@@ -1,6 +1,6 @@
--- Sums over the pairs of two lists, in pieces.
+-- Sums over the pairs of two lists, in pieces, and of two tables, one row after the other.
 use Rattle.std.proofs.Common.{ℕ, zero, suc, ◌≡◌, ◌+◌, ◌-◌, ◌*◌, ◌^◌, ◌<◌, ◌≤◌, List, [], ◌∷◌, ◌++◌, length, take, drop, get_or}
-use Rattle.std.proofs.Common.{mul-suc, refl, arith, Fits}
+use Rattle.std.proofs.Common.{mul-suc, refl, arith, Fits, Some, slice_get}
 use mir.Syntax.{Width}
 use mir.Val.{bits}
 use Rattle.std.specs.Prelude.{sum_by, zip}
@@ -9,7 +9,10 @@ use Rattle.std.proofs.Math.Nat.{mul-le-mul}
 use Rattle.v_frame_layout.specs.PixelRows.{squared_error}
 use Rattle.std.specs.Simd.Lanes.{Each1, zip2, sum_l}
 use Rattle.std.proofs.lemmas.Simd.{Each1-from_get_or}
-use Rattle.std.proofs.lemmas.List.{drop-drop, take_rest}
+use Rattle.std.proofs.lemmas.List.{drop-drop, drop_more, take_rest}
+use Rattle.std.proofs.lemmas.Option.{slice_get_within, get_or_from_slice_get}
+use Rattle.v_frame_layout.specs.Laws.{AddsUp}
+use Rattle.v_frame_layout.specs.Table.{Table, row_major}
 use Rattle.std.proofs.lemmas.List.Sums.{sum_by-cons}
 
 no_pairs : {X : Type 0} (Y : Type 0) (xs : List X) → let none : List Y = [] in zip xs none ≡ []
@@ -49,6 +52,18 @@ module _ {X Y : Type 0} (of : X × Y → ℕ) where
       let rest = sum_of_pairs-append xs xs1 ys ys1 (omega (arith, same)) in
       omega (arith, rest, sum_by-cons of (x, y) (zip (xs ++ xs1) (ys ++ ys1)), sum_by-cons of (x, y) (zip xs ys))
   sum_of_pairs-append xs xs1 ys ys1 same = absurd (omega (arith, same))
+
+module _ {T : Type 0} (of : T × T → ℕ) where
+  row_and_rest : (table : Table T) (y : ℕ) (row : List T) → slice_get table y ≡ Some row → row_major (drop y table) ≡ row ++ row_major (drop (y + 1) table)
+  row_and_rest table y row is = rw (drop_more table y row (slice_get_within table y row is), get_or_from_slice_get table y row row is)
+
+  -- sums over two tables are made of those over their rows
+  pub sum_of_pairs-adds_up : AddsUp (λ xs ys. sum_by of (zip xs ys))
+  sum_of_pairs-adds_up = record {
+    joined = λ a b a1 b1 same. sum_of_pairs-append of a a1 b b1 same;
+    by_rows = λ table other y row row1 is is1 same.
+        rw (row_and_rest table y row is, row_and_rest other y row1 is1) (sum_of_pairs-append of row _ row1 _ same);
+  }
 
 -- the sum of lanes that are made of two vectors
 pub sum_of_lanes : {X Y : Type 0} (f : X → Y → ℕ) (xs : List X) (ys : List Y) → sum_l (zip2 f xs ys) ≡ sum_by (λ p. f p.0 p.1) (zip xs ys)

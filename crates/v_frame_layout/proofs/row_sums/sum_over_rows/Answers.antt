@@ -6,17 +6,15 @@ use Rattle.v_frame_layout.proofs.row_sums.sum_over_rows.Goals as goal
 
 pub loop-block-preserved : goal.loop-block-preserved
 loop-block-preserved g c =
-    let piece = c.of_blocks in
     rw c.from-sum.ensures
-    (sums_up_to-piece_more (λ p. g.D.Difference.between p.0 p.1) 32 c.loop-block.block c.loop-block.sum piece.result c.args.a.now c.args.b.now
-    (lit< tt) piece.type_inv piece.ensures c.loop-block.invariant)
+    (sums_up_to-piece_more (λ p. g.D.Difference.between p.0 p.1) 32 _ _ _ c.args.a.now c.args.b.now (lit< tt) c.of_blocks.type_inv c.of_blocks.ensures
+    c.loop-block.invariant)
 
 pub loop-eight-preserved : goal.loop-eight-preserved
 loop-eight-preserved g c =
-    let piece = c.of_eights in
     rw c.from-sum-in-loop-eight.ensures
-    (sums_up_to-piece_more (λ p. g.D.Difference.between p.0 p.1) 8 c.loop-eight.eight c.loop-eight.sum piece.result c.args.a.now c.args.b.now
-    (lit< tt) piece.type_inv piece.ensures c.loop-eight.invariant)
+    (sums_up_to-piece_more (λ p. g.D.Difference.between p.0 p.1) 8 _ _ _ c.args.a.now c.args.b.now (lit< tt) c.of_eights.type_inv c.of_eights.ensures
+    c.loop-eight.invariant)
 
 pub loop-i-preserved : goal.loop-i-preserved
 loop-i-preserved g c = grind (arith, common_steps)
