@@ -5,7 +5,7 @@ use Rattle.v_frame_layout.proofs.HalfLanes.{halved_words}
 use Rattle.v_frame_layout.proofs.halving.half_of_words.Goals as goal
 
 pub returns : goal.returns
-returns c = halved_words 8 c.args.top.now c.args.bottom.now c.requires.first c.requires.second c.type_inv.top c.type_inv.bottom
+returns c = halved_words 8 _ _ c.requires.first c.requires.second c.type_inv.top c.type_inv.bottom
 
 pub overflow_cast-result : goal.overflow_cast-result
 overflow_cast-result c = grind (arith, common_steps)

@@ -4,9 +4,7 @@ use Rattle.v_frame_layout.proofs.RowLanes.{absolute_block}
 use Rattle.v_frame_layout.proofs.row_sums.absolute_of_bytes.Goals as goal
 
 pub overflow_add-differences : goal.overflow_add-differences
-overflow_add-differences g c =
-    (absolute_block w8 w32 g.row.N c.args.a.now c.args.b.now c.type_inv.a c.type_inv.b c.requires.first (omega (arith, c.requires.lanes))).0
+overflow_add-differences g c = (absolute_block w8 w32 _ _ _ c.type_inv.a c.type_inv.b c.requires.first (omega (arith, c.requires.lanes))).0
 
 pub returns : goal.returns
-returns g c =
-    c.from.ensures ∙ (absolute_block w8 w32 g.row.N c.args.a.now c.args.b.now c.type_inv.a c.type_inv.b c.requires.first (omega (arith, c.requires.lanes))).1
+returns g c = c.from.ensures ∙ (absolute_block w8 w32 _ _ _ c.type_inv.a c.type_inv.b c.requires.first (omega (arith, c.requires.lanes))).1

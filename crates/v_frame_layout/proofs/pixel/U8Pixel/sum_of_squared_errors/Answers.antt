@@ -4,4 +4,4 @@ use Rattle.v_frame_layout.proofs.RowPairs.{squares-at_most}
 use Rattle.v_frame_layout.proofs.pixel.U8Pixel.sum_of_squared_errors.Goals as goal
 
 pub returns-clause-fits : goal.returns-clause-fits
-returns-clause-fits c = rw c.sum_over_rows.ensures (squares-at_most w8 (omega arith) c.args.a.now c.args.b.now c.type_inv.a c.type_inv.b)
+returns-clause-fits c = rw c.sum_over_rows.ensures (squares-at_most w8 (omega arith) _ _ c.type_inv.a c.type_inv.b)
