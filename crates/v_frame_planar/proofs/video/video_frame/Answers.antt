@@ -12,8 +12,7 @@ returns-in-Ok g c =
     let blank = c.with_chroma.ensures.blank (video_request a.width a.height a.subsampling a.bit_depth a.padding) luma refl in
     let told = told_of_blank g.T.Pixel.ZERO g.T.Pixel.BYTES a.width a.height a.bit_depth a.padding a.subsampling c.with_chroma.result luma.some blank in
     record {
-      refused = value_goes_on c.luma_frame.result c.with_chroma.result OutOfMemory _ c.in-Ok.luma c.in-Ok.is c.with_chroma.ensures.refused
-          c.luma_frame.ensures.refused;
+      refused = value_goes_on _ _ OutOfMemory _ _ c.in-Ok.is c.with_chroma.ensures.refused c.luma_frame.ensures.refused;
       blank = blank;
       tables = told.0;
       sizes = told.1;
