@@ -96,7 +96,8 @@ origin_by_stride g stride e is =
     (omega (arith, origin_is g is.high, ap (λ s. s * g.pad_top) e), omega (arith, origin_within g is.high, is.wide))
 
 -- a number of entries, of rows and then of all, that was cut to what can be counted
-pub counted_size : (height top bottom stride first rows size : ℕ) → 0 < stride → first ≡ min (height + top) usize_max
-    → rows ≡ min (first + bottom) usize_max → size ≡ min (rows * stride) usize_max → size ≡ min ((height + top + bottom) * stride) usize_max
-counted_size height top bottom stride first rows size some first_is rows_is size_is =
+pub counted_size : (height top bottom stride : ℕ) → 0 < stride → let rows = min (min (height + top) usize_max + bottom) usize_max in
+    min (rows * stride) usize_max ≡ min ((height + top + bottom) * stride) usize_max
+counted_size height top bottom stride some =
+    let rows = min (min (height + top) usize_max + bottom) usize_max in
     grind (arith, mul-le-mul_left rows some, mul-le-mul_left (height + top + bottom) some)

@@ -8,6 +8,5 @@ pub returns : goal.returns
 returns c =
     let h = c.self.inside in
     let some : 0 < h.stride = omega (arith, c.self.invariant.0, c.self.invariant.1.wide) in
-    let size = counted_size h.height h.pad_top h.pad_bottom h.stride _ _ _ some c.saturating_add.ensures c.saturating_add-rows.ensures
-    c.saturating_mul-size.ensures in
+    let size = counted_size h.height h.pad_top h.pad_bottom h.stride some in
     rw (← c.self.view_is) (grind (arith, common_steps, size, c.self.invariant.0))
