@@ -21,7 +21,7 @@ no_pairs Y (x ∷ xs) = refl
 
 module _ {X Y : Type 0} (of : X × Y → ℕ) where
   -- a sum over pairs is that of the first n of them, and that of those they leave
-  pub sum_of_pairs-split : (n : ℕ) (xs : List X) (ys : List Y)
+  sum_of_pairs-split : (n : ℕ) (xs : List X) (ys : List Y)
       → sum_by of (zip xs ys) ≡ sum_by of (zip (take n xs) (take n ys)) + sum_by of (zip (drop n xs) (drop n ys))
   sum_of_pairs-split zero xs ys = omega arith
   sum_of_pairs-split (suc n) [] ys = refl
@@ -45,7 +45,7 @@ module _ {X Y : Type 0} (of : X × Y → ℕ) where
       rw next (omega (arith, split, here, invariant.0), omega (arith, some, small, invariant.1))
 
   -- a sum over pairs of lists that are joined, the first two of one length
-  pub sum_of_pairs-append : (xs xs1 : List X) (ys ys1 : List Y) → length xs ≡ length ys
+  sum_of_pairs-append : (xs xs1 : List X) (ys ys1 : List Y) → length xs ≡ length ys
       → sum_by of (zip (xs ++ xs1) (ys ++ ys1)) ≡ sum_by of (zip xs ys) + sum_by of (zip xs1 ys1)
   sum_of_pairs-append [] xs1 [] ys1 same = omega arith
   sum_of_pairs-append (x ∷ xs) xs1 (y ∷ ys) ys1 same =

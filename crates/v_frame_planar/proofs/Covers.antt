@@ -15,11 +15,11 @@ use Rattle.v_frame_planar.specs.Video.{covering_geometry}
 pub ceil_positive : (n ratio : ℕ) → 0 < n → 0 < div_ceil n ratio
 ceil_positive n ratio h = grind (arith, div-add-mod' n ratio)
 
-module _ (g : Geometry) (x y : ℕ) (some_x : 0 < x) (some_y : 0 < y) where
-  -- and no more than the number
-  ceil_le : (n ratio : ℕ) → 0 < ratio → div_ceil n ratio ≤ n
-  ceil_le n ratio h = omega (arith, mul-le-mul_left (n / ratio) h, div-add-mod' n ratio)
+-- and no more than the number
+ceil_le : (n ratio : ℕ) → 0 < ratio → div_ceil n ratio ≤ n
+ceil_le n ratio h = omega (arith, mul-le-mul_left (n / ratio) h, div-add-mod' n ratio)
 
+module _ (g : Geometry) (x y : ℕ) (some_x : 0 < x) (some_y : 0 < y) where
   stride_of_cover : stride_of (covering_geometry g (x, y)) ≤ stride_of g
   stride_of_cover = omega (arith, ceil_le g.width x some_x, div-le_self g.pad_left x, div-le_self g.pad_right x)
 
