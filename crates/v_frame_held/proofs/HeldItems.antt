@@ -1,10 +1,9 @@
 -- Steps of a proof by hand of a function that holds what a writing iterator lends, rows or pixels: see `ItemKinds.antt`. Assumes `Logic`.
 --     draws_item      a call of `next` or `next_back` on an iterator in a local, and the item that it gives, if any
---     takes_arm       a `let else`, or an `if let` whose arm is one assignment, where the variant is the first arm's
+--     takes_arm, takes_other      the first arm of a `match` is that of an item, and the second that of none
 use Rattle.v_frame.proofs.Steps.{Bound, Is, Item, Lft, List, MakesProgress, MutBor, MutRef, MutSlice, NamedLft, Option, Val, YieldsFirstMut, YieldsLastMut, ap}
-use Rattle.v_frame.proofs.Steps.{after_seq, any_q, drop, exec, fact, first, flft, framed, heard, id⊢, item_count, live, meet_⊑_right, move, named, of_list}
-use Rattle.v_frame.proofs.Steps.{only, param, post, prop, raw, refl, rewrite, runs, subst, switches_on, tables, vint, vptr, Wp, ℕ, [], ‵, ⊑_trans, ⊤, ◌$◌, ◌∷◌}
-use Rattle.v_frame.proofs.Steps.{◌≡◌, ◌⊑◌}
+use Rattle.v_frame.proofs.Steps.{drop, exec, fact, flft, framed, heard, id⊢, item_count, live, meet_⊑_right, move, named, of_list, only, param, raw, refl}
+use Rattle.v_frame.proofs.Steps.{rewrite, runs, subst, switches_on, tables, vint, vptr, ℕ, [], ‵, ⊑_trans, ⊤, ◌$◌, ◌∷◌, ◌≡◌, ◌⊑◌}
 use Rattle.v_frame_plane.proofs.lent.Steps.{Calls, Env, call, Laws, Logic, Loops, None, Opds, Post, RattleType, Seq, Share, Some, Step, Ty, Ura, fat}
 use Rattle.v_frame_plane.proofs.lent.Steps.{full_share, lands, lone, regoal, seq, step, switch, arm, w8, Model, Running, MachineTables}
 use mir.Raw.{raw as raw_ty}
@@ -19,12 +18,14 @@ use base.Share
 use Rattle.v_frame_plane.specs.contracts.pixels_mut.PixelsMut as pixels_mut
 use Rattle.v_frame_plane.specs.contracts.rows_mut.RowsMut as rows_mut
 
-module _ {M : Type 1} {𝓤 : Ura M} {𝓛 : Logic 𝓤} {K : Type 0} {Γ Δ : List (Item 𝓤)} {E : Env 𝓤 𝓛.H} {C : Calls 𝓤 𝓛.H} {Λ : Loops 𝓤 𝓛.H} {q : Post 𝓤 𝓛.H}
-    {tag : Operand} {taken rest : Code} {others : Arms} where
-  pub takes_arm : K → Opd K 𝓛 Γ E tag (vint w8 1) → let After = Wp 𝓤 𝓛.H C Λ E rest (post 𝓤 𝓛.H q) in
-      Step K 𝓛 Δ (prop After) Γ (runs C Λ E taken (any_q (after_seq 𝓤 𝓛.H After (post 𝓤 𝓛.H q))))
-      → Step K 𝓛 Δ (runs C Λ E rest q) Γ (runs C Λ E (seq (switch tag (arm (1 ∷ []) taken others)) rest) q)
-  takes_arm t is_some takes = step (λ k. first t $ switches_on t is_some $ exec t C Λ E taken _ $ takes $ exec t C Λ E rest q $ k)
+module _ {M : Type 1} {𝓤 : Ura M} {𝓛 : Logic 𝓤} {K : Type 0} {Γ : List (Item 𝓤)} {E : Env 𝓤 𝓛.H} {C : Calls 𝓤 𝓛.H} {Λ : Loops 𝓤 𝓛.H} {q : Post 𝓤 𝓛.H}
+    {tag : Operand} {taken : Code} {others : Arms} where
+  pub takes_arm : K → Opd K 𝓛 Γ E tag (vint w8 1) → Step K 𝓛 Γ (runs C Λ E taken q) Γ (runs C Λ E (switch tag (arm (1 ∷ []) taken others)) q)
+  takes_arm t is_some = step (λ k. switches_on t is_some $ exec t C Λ E taken q $ k)
+
+  pub takes_other : K → {some : Code} → Opd K 𝓛 Γ E tag (vint w8 0) →
+      Step K 𝓛 Γ (runs C Λ E taken q) Γ (runs C Λ E (switch tag (arm (1 ∷ []) some (arm (0 ∷ []) taken others))) q)
+  takes_other t is_none = step (λ k. switches_on t is_none $ exec t C Λ E taken q $ k)
 
 abbrev pub Given : Kind → Lft → RattleType → RattleType
 Given of_pixels = MutRef (named 1)

@@ -20,13 +20,11 @@ pub fn write_ends<T: Copy>(plane: &mut Plane<T>, first: T, before_last: T, last:
     ensures border { KeepsBorder plane.old plane.new }
 {
     let mut pixels = plane.pixels_mut();
-    let Some(end) = pixels.next_back() else {
-        return;
-    };
-    let Some(start) = pixels.next() else {
-        return;
-    };
-    let Some(before_end) = pixels.next_back() else {
+    let (Some(end), Some(start), Some(before_end)) = (
+        pixels.next_back(),
+        pixels.next(),
+        pixels.next_back(),
+    ) else {
         return;
     };
     *start = last;

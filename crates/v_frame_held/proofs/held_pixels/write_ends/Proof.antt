@@ -3,8 +3,9 @@
 use Rattle.v_frame.proofs.Steps.{Goes-dropped, Goes-ref, Is, Lft, List, NamedLft, Stays, Val, a_type, addr, alloc_all, and_then, ap, arith, bounded, copied}
 use Rattle.v_frame.proofs.Steps.{dcons, dnil, enter, env, feq_i, fld, free_all, from, get, get_in, get_tag, give_at, in_variant, inst_fn, lands_as, length}
 use Rattle.v_frame.proofs.Steps.{length-append, lit<, look_at, meet_⊑_right, move, mut_Tells, mut_vals, named, no, no_more, nothing, of_opd, param, param_laws}
-use Rattle.v_frame.proofs.Steps.{pass_all, plain, proved, refl, returns, rewrite, sets, sets_last, split, spot_of, stay_dropped, stay_ref, stop, sym, take_at}
-use Rattle.v_frame.proofs.Steps.{through, unit_lit, use1, vrt, vunit, walk_of, whole, !, [], ‵, ◌$◌, ◌++◌, ◌<◌, ◌∙◌, ◌∷◌, ◌⊑◌, ◌⊛◌}
+use Rattle.v_frame.proofs.Steps.{pass_all, plain, proved, first, blocks, jumps, exec, after, at_ret, tables, refl, returns, rewrite, sets, split, spot_of}
+use Rattle.v_frame.proofs.Steps.{stay_dropped, stay_ref, stop, sym, take_at, through, unit_lit, use1, vrt, vunit, walk_of, whole, !, [], ‵, ◌$◌, ◌++◌, ◌<◌, ◌∙◌}
+use Rattle.v_frame.proofs.Steps.{◌∷◌, ◌⊑◌, ◌⊛◌}
 use Rattle.v_frame.specs.Prelude.{SecondPixels, pixels_left, row_major, table_of, entries_with, with_entries}
 use Rattle.v_frame.proofs.CallSteps.{both_facts, ends, opened_by, tells, told}
 use Rattle.v_frame_held.proofs.HeldPixels.{as_rows, ends_of, gives_back, writes_pixel}
@@ -47,7 +48,7 @@ write_ends_spec 𝓤 𝓛 𝓜 𝓡 wired T laws copy clone dict met =
     let ℓ : NamedLft = record { mir = named 1; lft = κ' } in
     lands_as ! refl refl typed.0 $ sets ! (of_opd ! (get ! refl)) refl typed.0 $
     -- [what the iterator owns; how the plane ends; the tokens of κ' and κT; its lender; the way back; the three values; the locals]
-    let τ = (spot_of 𝓤 𝓛.H (env function.locals l) 5).0 in
+    let 𝓣 = tables 𝓤 𝓛.H 𝓜 𝓡 𝓡.env in let En = env function.locals l in let τ = (spot_of 𝓤 𝓛.H En 5).0 in
     let last_met = of_walks.next_back.Met.met 𝓤 𝓛 𝓜 𝓡 (code.calls-v_frame_plane::pixels_mut::PixelsMut::next_back 𝓡.env wired) T laws in
     let first_met = of_walks.next.Met.met 𝓤 𝓛 𝓜 𝓡 (code.calls-v_frame_plane::pixels_mut::PixelsMut::next 𝓡.env wired) T laws in
     let some₀ : 2 < length (pixels_left walk) = omega (arith, known.1, ap length begun.all) in
@@ -56,24 +57,25 @@ write_ends_spec 𝓤 𝓛 𝓜 𝓡 wired T laws copy clone dict met =
     draws_item 𝓛 𝓜 𝓡 T laws Back of_pixels _ _ _ _ _ _ _ _ ! last_met κ' κT s rT inside inT τ (l 5) walk refl
     (λ i j m. and_then ! (get ! refl) (no_more !)) (λ one none. absurd (omega (arith, some₀, ap length none.0))) (λ end one last is₁.
     give_at ! 5 $ lands_as ! refl refl (tt, (record { fits = lit< tt }, (tt, tt))) $
-    takes_arm ! (get_tag ! (vrt ! refl (fld ! refl (stop !))) (whole !))
-    (sets_last ! (of_opd ! (get_in ! (vrt ! refl (fld ! refl (stop !))) (in_variant ! 1 0 refl refl (whole !)))) refl (tt, tt)) $
     -- [the pixel; the iterator; the token of κ'; how it was drawn; the token of κT; ..]. The first pixel
     let some₁ : 1 < length (pixels_left one) = omega (arith, some₀, ap length last, length-append (pixels_left one) (end.now ∷ [])) in
     sets ! (addr ! (from ! (stop !))) refl (tt, tt) $ take_at ! 5 $ move ! (0 ∷ 2 ∷ 3 ∷ 5 ∷ []) $
     draws_item 𝓛 𝓜 𝓡 T laws Front of_pixels _ _ _ _ _ _ _ _ ! first_met κ' κT s rT inside inT τ (l 5) one refl
     (λ i j m. and_then ! (get ! refl) (no_more !)) (λ two none. absurd (omega (arith, some₁, ap length none.0))) (λ start two foremost is₂.
     give_at ! 5 $ lands_as ! refl refl (tt, (record { fits = lit< tt }, (tt, tt))) $
-    takes_arm ! (get_tag ! (vrt ! refl (fld ! refl (stop !))) (whole !))
-    (sets_last ! (of_opd ! (get_in ! (vrt ! refl (fld ! refl (stop !))) (in_variant ! 1 0 refl refl (whole !)))) refl (tt, tt)) $
     -- the last but one
     let some₂ : 0 < length (pixels_left two) = omega (arith, some₁, ap length foremost) in
     sets ! (addr ! (from ! (stop !))) refl (tt, tt) $ take_at ! 5 $ move ! (0 ∷ 2 ∷ 3 ∷ 5 ∷ []) $
     draws_item 𝓛 𝓜 𝓡 T laws Back of_pixels _ _ _ _ _ _ _ _ ! last_met κ' κT s rT inside inT τ (l 5) two refl
     (λ i j m. and_then ! (get ! refl) (no_more !)) (λ three none. absurd (omega (arith, some₂, ap length none.0))) (λ before three next_to is₃.
     give_at ! 5 $ lands_as ! refl refl (tt, (record { fits = lit< tt }, (tt, tt))) $
-    takes_arm ! (get_tag ! (vrt ! refl (fld ! refl (stop !))) (whole !))
-    (sets_last ! (of_opd ! (get_in ! (vrt ! refl (fld ! refl (stop !))) (in_variant ! 1 0 refl refl (whole !)))) refl (tt, tt)) $
+    -- [the pixel; the iterator; the token of κ'; how it was drawn; the token of κT; the first pixel, and how it was drawn; the last one, and how; ..]
+    first ! $ blocks ! $ first ! $ blocks ! $ takes_arm ! (get_tag ! (vrt ! refl (fld ! refl (stop !))) (whole !)) $
+    takes_arm ! (get_tag ! (vrt ! refl (fld ! refl (stop !))) (whole !)) $ takes_arm ! (get_tag ! (vrt ! refl (fld ! refl (stop !))) (whole !)) $
+    sets ! (of_opd ! (get_in ! (vrt ! refl (fld ! refl (stop !))) (in_variant ! 1 0 refl refl (whole !)))) refl (tt, tt) $
+    sets ! (of_opd ! (get_in ! (vrt ! refl (fld ! refl (stop !))) (in_variant ! 1 0 refl refl (whole !)))) refl (tt, tt) $
+    sets ! (of_opd ! (get_in ! (vrt ! refl (fld ! refl (stop !))) (in_variant ! 1 0 refl refl (whole !)))) refl (tt, tt) $
+    jumps ! $ exec ! 𝓣.C 𝓣.Λ En (after 10 function.body) (at_ret En (Walk.post bound)) $
     -- the iterator is dropped, and the value that is written twice is there twice
     move ! (1 ∷ []) $ use1 𝓛 (‵ (SecondPixels item three (pixels_left three))) (pixels_dropped 𝓛 item ℓ three (lowered three ∷ [])) $
     move ! (14 ∷ []) $ use1 𝓛 (‵ (item.own_val z (val z)) ⊛ ‵ (item.own_val z (val z))) ((copy.copies _ 𝓤 𝓛).twice z (val z)) $ split ! $

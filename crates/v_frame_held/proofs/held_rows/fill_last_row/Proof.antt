@@ -1,12 +1,12 @@
 -- `fill_last_row` lends its plane to an iterator, draws a row from its end, fills it, and drops the iterator. What a plane ends as, of which such a row was
 -- lent, no generated proof follows, so this one follows the code.
-use Rattle.v_frame.proofs.Steps.{Goes-dropped, Goes-ref, List, NamedLft, SProp, Sq, Stays, Val, Wp, a_type, addr, after, after_seq, agg, alloc_all, and_then}
-use Rattle.v_frame.proofs.Steps.{any_q, arm_body, at_ret, bounded, copied, dcons, dnil, drop, enter, env, exec, fact, feq_i, feq_l, finally-res, first, fld}
-use Rattle.v_frame.proofs.Steps.{flft, framed, free_all, from, fsplit, get, get_in, get_tag, give_at, head, heard, hop, id⊢, in_variant, inst_fn, lands_as}
-use Rattle.v_frame.proofs.Steps.{lands_last, length, length-replicate, lit<, look_at, look_in_at, meet_⊑_right, move, mut_Tells, mut_vals, named, no, no_more}
-use Rattle.v_frame.proofs.Steps.{nothing, of_opd, param, param_laws, pass_all, plain, post, proved, raw, refl, replicate, returns, rewrite, sets, skips}
-use Rattle.v_frame.proofs.Steps.{spot_of, stay_dropped, stay_ref, stop, sub, subst, switches_on, sym, tables, take_at, through, unit_lit, use1, use2, vrt}
-use Rattle.v_frame.proofs.Steps.{vunit, walk_of, whole, !, [], ‵, ◌$◌, ◌∙◌, ◌∷◌, ◌≡◌, ◌⊑◌, Item, forget_but, holding, runs}
+use Rattle.v_frame.proofs.Steps.{Goes-dropped, Goes-ref, List, NamedLft, SProp, Sq, Stays, Val, a_type, addr, after, agg, alloc_all, and_then, at_ret, bounded}
+use Rattle.v_frame.proofs.Steps.{copied, dcons, dnil, drop, enter, env, exec, fact, feq_i, feq_l, finally-res, first, fld, flft, framed, free_all, from, fsplit}
+use Rattle.v_frame.proofs.Steps.{get, get_in, get_tag, give_at, heard, hop, id⊢, in_variant, inst_fn, lands_as, lands_last, length, length-replicate, lit<}
+use Rattle.v_frame.proofs.Steps.{look_at, look_in_at, meet_⊑_right, move, mut_Tells, mut_vals, named, no, no_more, nothing, of_opd, param, param_laws, pass_all}
+use Rattle.v_frame.proofs.Steps.{plain, proved, raw, refl, replicate, returns, rewrite, sets, skips, spot_of, stay_dropped, stay_ref, stop, sub, subst, sym}
+use Rattle.v_frame.proofs.Steps.{tables, take_at, through, unit_lit, use1, use2, vrt, vunit, walk_of, whole, !, [], ‵, ◌$◌, ◌∙◌, ◌∷◌, ◌≡◌, ◌⊑◌, Item}
+use Rattle.v_frame.proofs.Steps.{forget_but, holding, runs}
 use Rattle.v_frame.specs.Prelude.{EndsAs, SecondRows, entries_with, rows_left, table_of, with_entries}
 use Rattle.v_frame.proofs.CallSteps.{asks_that, calls_last, ends, opened, tells, told, unit_fits}
 use Rattle.v_frame.proofs.{DrawnItems.last_drawn, DrawnItems.walk_keeps, DrawnLoans.each_drawn, ItemKinds.of_rows, Lending.Kept_by, Lending.begins_walk}
@@ -14,7 +14,8 @@ use Rattle.v_frame.proofs.{Lending.rows_back, PutBack.item_taken, PutBack.none_t
 use Rattle.v_frame.specs.{DrawnItems.PutsBack, Walk.left_by, Walk.walk_leaves, declared.replay.draw.Side.TheVariants.Back}
 use Rattle.std.proofs.{Common.All, Common.None, Common.Some}
 use Rattle.v_frame_plane.specs.{Lends.LendsBuffer, declared.rows_mut.RowsMut.RowsMut}
-use Rattle.v_frame_held.proofs.{HeldItems.draws_item, HeldRows.last_filled, held_rows.fill_last_row.Statement.statement}
+use Rattle.v_frame_held.proofs.{HeldItems.draws_item, HeldItems.takes_arm, HeldItems.takes_other, HeldRows.last_filled}
+use Rattle.v_frame_held.proofs.{held_rows.fill_last_row.Statement.statement}
 use Rattle.v_frame_plane.proofs.lent.{Loans.Back as Back_to, Loans.share_within, RowLoans.rows_dropped, RowMemory.lowered, RowMemory.slice_of}
 use base.Share
 use Rattle.v_frame_plane.specs.contracts.plane.Plane as planes
@@ -48,7 +49,6 @@ fill_last_row_spec 𝓤 𝓛 𝓜 𝓡 wired T laws copy clone dict met =
     let κw = α ∷ κT in let qw = share_within (Share.left qT) in let rT = Share.right qT in let inside = meet_⊑_right (α ∷ []) κT in
     let ℓ : NamedLft = record { mir = named 1; lft = κw } in let Walk = walks.the_row ℓ item in
     lands_as ! refl refl typed.0 $ sets ! (of_opd ! (get ! refl)) refl typed.0 $
-    let Then = any_q (after_seq 𝓤 𝓛.H (Wp 𝓤 𝓛.H 𝓣.C 𝓣.Λ En (after 6 function.body) (post 𝓤 𝓛.H (at_ret En Post))) (post 𝓤 𝓛.H (at_ret En Post))) in
     -- how it ends: the row that was drawn, if any, is put back as it is filled
     let change = λ (row : List T.Denot). replicate (length row) value in let make = λ (_ : Unit {0}). change in
     let once : List (Unit {0}) = tt ∷ [] in let side = λ (_ : Unit {0}). Back in let last = walk_leaves side make table once in
@@ -72,14 +72,13 @@ fill_last_row_spec 𝓤 𝓛 𝓜 𝓡 wired T laws copy clone dict met =
     (spot_of 𝓤 𝓛.H En 3).0 (l 3) w refl (λ i j m. and_then ! (get ! refl) (no_more !))
     -- where there is none, the iterator is dropped as it is
     (λ left none. let drawn = last_drawn rows_left w None left none in give_at ! 3 $ lands_as ! refl refl (tt, (record { fits = lit< tt }, tt)) $
-    first ! $ switches_on ! (get_tag ! (vrt ! refl (fld ! refl (stop !))) (whole !)) $ exec ! 𝓣.C 𝓣.Λ En (arm_body 1 (head (after 5 function.body))) Then $
-    skips ! $ exec ! 𝓣.C 𝓣.Λ En (after 6 function.body) (at_ret En Post) $
+    first ! $ takes_other ! (get_tag ! (vrt ! refl (fld ! refl (stop !))) (whole !)) $ skips ! $ exec ! 𝓣.C 𝓣.Λ En (after 6 function.body) (at_ret En Post) $
     -- [the iterator; the token of κw; what the draw says; the token of κT; how the plane ends; the plane's lender; the way back; the value; the locals]
     move ! (7 ∷ 2 ∷ []) $ drop ! $ use1 𝓛 (Puts left) (none_taken 𝓛 T Back of_rows change w left (sym drawn.0)) $ forget_but ! En [] refl $ finish left drawn.1)
     -- where there is one, it is filled
     (λ row left steps is. let drawn = last_drawn rows_left w (Some row) left steps in let row_fits = is.0.1.0 in
     give_at ! 3 $ lands_as ! refl refl (tt, (record { fits = lit< tt }, ((tt, (record { fits = row_fits }, tt)), tt))) $
-    first ! $ switches_on ! (get_tag ! (vrt ! refl (fld ! refl (stop !))) (whole !)) $ exec ! 𝓣.C 𝓣.Λ En (arm_body 0 (head (after 5 function.body))) Then $
+    first ! $ takes_arm ! (get_tag ! (vrt ! refl (fld ! refl (stop !))) (whole !)) $
     sets ! (of_opd ! (get_in ! (vrt ! refl (fld ! refl (stop !))) (in_variant ! 1 0 refl refl (whole !)))) refl (tt, (tt, (record { fits = row_fits }, tt))) $
     sets ! (addr ! (from ! (fld ! refl (hop ! (look_in_at ! 4 (sub ! 0 refl (whole !))) (stop !))))) refl (tt, tt) $
     sets ! (agg ! (and_then ! (get ! refl) (and_then ! (get_in ! (fld ! refl (stop !)) (sub ! 1 refl (whole !))) (no_more !)))) refl
