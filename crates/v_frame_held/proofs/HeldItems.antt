@@ -4,8 +4,8 @@
 use Rattle.v_frame.proofs.Steps.{Bound, Is, Item, Lft, List, MakesProgress, MutBor, MutRef, MutSlice, NamedLft, Option, Val, YieldsFirstMut, YieldsLastMut, ap}
 use Rattle.v_frame.proofs.Steps.{drop, exec, fact, flft, framed, heard, id⊢, item_count, live, meet_⊑_right, move, named, of_list, only, param, raw, refl}
 use Rattle.v_frame.proofs.Steps.{rewrite, runs, subst, switches_on, tables, vint, vptr, ℕ, [], ‵, ⊑_trans, ⊤, ◌$◌, ◌∷◌, ◌≡◌, ◌⊑◌}
-use Rattle.v_frame_plane.proofs.lent.Steps.{Calls, Env, call, Laws, Logic, Loops, None, Opds, Post, RattleType, Seq, Share, Some, Step, Ty, Ura, fat}
-use Rattle.v_frame_plane.proofs.lent.Steps.{full_share, lands, lone, regoal, seq, step, switch, arm, w8, Model, Running, MachineTables}
+use Rattle.v_frame_plane.proofs.lent.Steps.{Calls, Env, call, Laws, Logic, Loops, None, Post, and_then, no_more, RattleType, Seq, Share, Some, Step, Ty, Ura}
+use Rattle.v_frame_plane.proofs.lent.Steps.{fat, full_share, lands, lone, regoal, seq, step, switch, arm, w8, Model, Running, MachineTables}
 use mir.Raw.{raw as raw_ty}
 use mir.Syntax.{Arms, Body as Code, Callee, Opd as Operand, Place}
 use types.Run.{Opd}
@@ -58,22 +58,22 @@ module _ {M : Type 1} {𝓤 : Ura M} (𝓛 : Logic 𝓤) (𝓜 : Model 𝓤 𝓛
   -- [its cell; the iterator; its token; the token of κT], and then [its cell; the item, if any; the iterator; its token; how it was drawn; the token of κT]
   abbrev Draws : Kind → Side → Type 2
   Draws neither side = Unit {2}
-  Draws k side = (K : Type 0) (Γ : List (Item 𝓤)) (E : Env 𝓤 𝓛.H) (p : Post 𝓤 𝓛.H) (f : Callee) (xs : List Operand) (d : Place) (rest : Code) → K →
+  Draws k side = (K : Type 0) (Γ : List (Item 𝓤)) (E : Env 𝓤 𝓛.H) (p : Post 𝓤 𝓛.H) (f : Callee) (x : Operand) (d : Place) (rest : Code) → K →
       Kept 𝓛 𝓜 𝓡 (draws k side) f → (κ κT : Lft) (q qT : Share) → κ ⊑ κT → κT ⊑ T.lives → (τ : Ty) (b : ℕ) (old : Walk T k) →
       let ℓ : NamedLft = record { mir = named 1; lft = κ } in let R = walk_row k ℓ (param 0 T) in let low = (lowers 𝓛 𝓜 𝓡 T laws k ℓ).lowered in
       let X = Given k κ (param 0 T) in let Cell = λ (walk : Walk T k). ‵ (fat full_share τ b 0 (low walk)) in
       let Drawn = λ (r : Option (MutBor (Entry T k))) (new : Walk T k). ‵ (R.own_val new (low new ∷ [])) ∷ ‵ (flft κ q) ∷ ‵ (Lends T k side old r new) ∷
       ‵ (flft κT qT) ∷ Γ in
-      raw_ty τ ≡ raw_ty (lone R.mir) → ((i j l : Item 𝓤) → Opds K 𝓛 (i ∷ j ∷ l ∷ Γ) E xs (vptr b 0 ∷ [])) →
+      raw_ty τ ≡ raw_ty (lone R.mir) → ((i j l : Item 𝓤) → Opd K 𝓛 (i ∷ j ∷ l ∷ Γ) E x (vptr b 0)) →
       ((new : Walk T k) → Yields T k side old None new → Seq K 𝓛 (Cell new ∷ Drawn None new) (lands 𝓣.C 𝓣.Λ E d (live 0 (of_list [])) rest p)) →
       ((x : MutBor (Entry T k)) (new : Walk T k) → Yields T k side old (Some x) new → Is X x (value T k κ x ∷ []) →
       Seq K 𝓛 (Cell new ∷ ‵ (X.own_val x (value T k κ x ∷ [])) ∷ Drawn (Some x) new) (lands 𝓣.C 𝓣.Λ E d (live 1 (of_list (value T k κ x ∷ []))) rest p))
-      → Seq K 𝓛 (Cell old ∷ ‵ (R.own_val old (low old ∷ [])) ∷ ‵ (flft κ q) ∷ ‵ (flft κT qT) ∷ Γ) (runs 𝓣.C 𝓣.Λ E (seq (call f xs d) rest) p)
+      → Seq K 𝓛 (Cell old ∷ ‵ (R.own_val old (low old ∷ [])) ∷ ‵ (flft κ q) ∷ ‵ (flft κT qT) ∷ Γ) (runs 𝓣.C 𝓣.Λ E (seq (call f (x ∷ []) d) rest) p)
 
   pub draws_item : (side : Side) (k : Kind) → Draws k side
   draws_item Front neither = tt
   draws_item Back neither = tt
-  draws_item side k = λ K Γ E p f xs d rest t met κ κT q qT inside inT τ b old same os none some.
+  draws_item side k = λ K Γ E p f x d rest t met κ κT q qT inside inT τ b old same reads none some.
       let ℓ : NamedLft = record { mir = named 1; lft = κ } in let R = walk_row k ℓ (param 0 T) in let low = lowers 𝓛 𝓜 𝓡 T laws k ℓ in
       let Lent = λ (new : Walk T k) (r : Option (MutBor (Entry T k))). ‵ (Lends T k side old r new) in
       let Lands = λ (u : Val). lands 𝓣.C 𝓣.Λ E d u rest p in
@@ -81,9 +81,9 @@ module _ {M : Type 1} {𝓤 : Ura M} (𝓛 : Logic 𝓤) (𝓜 : Model 𝓤 𝓛
       let lent : MutBor (Walk T k) = record { ref_ptr = (b, 0); ghost_name = γ; now = old } in let at = vptr b 0 ∷ [] in
       let across = ⊑_trans κc κ κT in_c inside in let its : Bound 𝓛 (draws k side).0.signature =
       ((κc, (κ, (κT, tt))), (share_within (Share.left q), (Share.right q, (qT, tt))), (in_c, (across, (inside, tt))), (lent, tt), (at, tt)) in
-      calls t (1 ∷ 2 ∷ 5 ∷ 0 ∷ []) (framed 𝓤 𝓛.H 𝓜 𝓣) (draws k side).0 (draws k side).1 met (its, tt) (asks_that 𝓤 inT) refl (os _ _ _)
-      (λ r ws. Lent ws.0 r ∷ raw (fact 𝓤 (Yields T k side old r ws.0)) ∷ raw (fact 𝓤 (MakesProgress (λ _. ⊤) (item_count (left T k)) old r ws.0)) ∷ [])
-      (λ r ws. id⊢ 𝓤 _) (λ v r ws. let new = ws.0 in
+      calls t (1 ∷ 2 ∷ 5 ∷ 0 ∷ []) (framed 𝓤 𝓛.H 𝓜 𝓣) (draws k side).0 (draws k side).1 met (its, tt) (asks_that 𝓤 inT) refl
+      (and_then t (reads _ _ _) (no_more t)) (λ r ws. Lent ws.0 r ∷ raw (fact 𝓤 (Yields T k side old r ws.0)) ∷
+      raw (fact 𝓤 (MakesProgress (λ _. ⊤) (item_count (left T k)) old r ws.0)) ∷ []) (λ r ws. id⊢ 𝓤 _) (λ v r ws. let new = ws.0 in
       let yields = λ (r : Option (MutBor (Entry T k))). Yields T k side old r new in
       move t (2 ∷ 3 ∷ []) $ heard t _ (λ steps. drop t $ move t (2 ∷ 3 ∷ 5 ∷ 6 ∷ 7 ∷ []) $ walk_back t tt R refl τ same κ q β γ b 0 new (low.lowered new)
       (λ u is. ap only (low.val_is new (u ∷ []) is)) $ move t (3 ∷ []) $

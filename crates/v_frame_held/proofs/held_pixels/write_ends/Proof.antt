@@ -54,21 +54,18 @@ write_ends_spec 𝓤 𝓛 𝓜 𝓡 wired T laws copy clone dict met =
     let some₀ : 2 < length (pixels_left walk) = omega (arith, known.1, ap length begun.all) in
     -- the last pixel
     sets ! (addr ! (from ! (stop !))) refl (tt, tt) $ take_at ! 5 $ move ! (0 ∷ 1 ∷ 3 ∷ 4 ∷ []) $
-    draws_item 𝓛 𝓜 𝓡 T laws Back of_pixels _ _ _ _ _ _ _ _ ! last_met κ' κT s rT inside inT τ (l 5) walk refl
-    (λ i j m. and_then ! (get ! refl) (no_more !)) (λ one none. absurd (omega (arith, some₀, ap length none.0))) (λ end one last is₁.
-    give_at ! 5 $ lands_as ! refl refl (tt, (record { fits = lit< tt }, (tt, tt))) $
+    draws_item 𝓛 𝓜 𝓡 T laws Back of_pixels _ _ _ _ _ _ _ _ ! last_met κ' κT s rT inside inT τ (l 5) walk refl (λ i j m. get ! refl) (λ one none.
+    absurd (omega (arith, some₀, ap length none.0))) (λ end one last _. give_at ! 5 $ lands_as ! refl refl (tt, (record { fits = lit< tt }, (tt, tt))) $
     -- [the pixel; the iterator; the token of κ'; how it was drawn; the token of κT; ..]. The first pixel
     let some₁ : 1 < length (pixels_left one) = omega (arith, some₀, ap length last, length-append (pixels_left one) (end.now ∷ [])) in
     sets ! (addr ! (from ! (stop !))) refl (tt, tt) $ take_at ! 5 $ move ! (0 ∷ 2 ∷ 3 ∷ 5 ∷ []) $
-    draws_item 𝓛 𝓜 𝓡 T laws Front of_pixels _ _ _ _ _ _ _ _ ! first_met κ' κT s rT inside inT τ (l 5) one refl
-    (λ i j m. and_then ! (get ! refl) (no_more !)) (λ two none. absurd (omega (arith, some₁, ap length none.0))) (λ start two foremost is₂.
-    give_at ! 5 $ lands_as ! refl refl (tt, (record { fits = lit< tt }, (tt, tt))) $
+    draws_item 𝓛 𝓜 𝓡 T laws Front of_pixels _ _ _ _ _ _ _ _ ! first_met κ' κT s rT inside inT τ (l 5) one refl (λ i j m. get ! refl) (λ two none.
+    absurd (omega (arith, some₁, ap length none.0))) (λ start two foremost _. give_at ! 5 $ lands_as ! refl refl (tt, (record { fits = lit< tt }, (tt, tt))) $
     -- the last but one
     let some₂ : 0 < length (pixels_left two) = omega (arith, some₁, ap length foremost) in
     sets ! (addr ! (from ! (stop !))) refl (tt, tt) $ take_at ! 5 $ move ! (0 ∷ 2 ∷ 3 ∷ 5 ∷ []) $
-    draws_item 𝓛 𝓜 𝓡 T laws Back of_pixels _ _ _ _ _ _ _ _ ! last_met κ' κT s rT inside inT τ (l 5) two refl
-    (λ i j m. and_then ! (get ! refl) (no_more !)) (λ three none. absurd (omega (arith, some₂, ap length none.0))) (λ before three next_to is₃.
-    give_at ! 5 $ lands_as ! refl refl (tt, (record { fits = lit< tt }, (tt, tt))) $
+    draws_item 𝓛 𝓜 𝓡 T laws Back of_pixels _ _ _ _ _ _ _ _ ! last_met κ' κT s rT inside inT τ (l 5) two refl (λ i j m. get ! refl) (λ three none.
+    absurd (omega (arith, some₂, ap length none.0))) (λ before three next_to _. give_at ! 5 $ lands_as ! refl refl (tt, (record { fits = lit< tt }, (tt, tt))) $
     -- [the pixel; the iterator; the token of κ'; how it was drawn; the token of κT; the first pixel, and how it was drawn; the last one, and how; ..]
     first ! $ blocks ! $ first ! $ blocks ! $ takes_arm ! (get_tag ! (vrt ! refl (fld ! refl (stop !))) (whole !)) $
     takes_arm ! (get_tag ! (vrt ! refl (fld ! refl (stop !))) (whole !)) $ takes_arm ! (get_tag ! (vrt ! refl (fld ! refl (stop !))) (whole !)) $

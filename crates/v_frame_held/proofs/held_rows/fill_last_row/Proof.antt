@@ -9,8 +9,8 @@ use Rattle.v_frame.proofs.Steps.{tables, take_at, through, unit_lit, use1, use2,
 use Rattle.v_frame.proofs.Steps.{forget_but, holding, runs}
 use Rattle.v_frame.specs.Prelude.{EndsAs, SecondRows, entries_with, rows_left, table_of, with_entries}
 use Rattle.v_frame.proofs.CallSteps.{asks_that, calls_last, ends, opened, tells, told, unit_fits}
-use Rattle.v_frame.proofs.{DrawnItems.last_drawn, DrawnItems.walk_keeps, DrawnLoans.each_drawn, ItemKinds.of_rows, Lending.Kept_by, Lending.begins_walk}
-use Rattle.v_frame.proofs.{Lending.rows_back, PutBack.item_taken, PutBack.none_taken}
+use Rattle.v_frame.proofs.{DrawnItems.last_drawn, DrawnItems.walk_keeps, DrawnLoans.each_drawn, ItemKinds.of_rows, ItemKinds.walk_row, Lending.Kept_by}
+use Rattle.v_frame.proofs.{Lending.begins_walk, Lending.rows_back, PutBack.item_taken, PutBack.none_taken}
 use Rattle.v_frame.specs.{DrawnItems.PutsBack, Walk.left_by, Walk.walk_leaves, declared.replay.draw.Side.TheVariants.Back}
 use Rattle.std.proofs.{Common.All, Common.None, Common.Some}
 use Rattle.v_frame_plane.specs.{Lends.LendsBuffer, declared.rows_mut.RowsMut.RowsMut}
@@ -19,7 +19,6 @@ use Rattle.v_frame_held.proofs.{held_rows.fill_last_row.Statement.statement}
 use Rattle.v_frame_plane.proofs.lent.{Loans.Back as Back_to, Loans.share_within, RowLoans.rows_dropped, RowMemory.lowered, RowMemory.slice_of}
 use base.Share
 use Rattle.v_frame_plane.specs.contracts.plane.Plane as planes
-use Rattle.v_frame_plane.specs.contracts.rows_mut.RowsMut as walks
 use Rattle.v_frame_plane.proofs.plane.Plane.rows_mut.Met as rows_mut_met
 use Rattle.v_frame_held.specs.contracts.held_rows.fill
 use Rattle.v_frame_held.specs.contracts.held_rows.fill_last_row as f
@@ -47,15 +46,16 @@ fill_last_row_spec 𝓤 𝓛 𝓜 𝓡 wired T laws copy clone dict met =
     (rows_mut_met.met 𝓤 𝓛 𝓜 𝓡 (code.calls-v_frame_plane::plane::Plane::rows_mut 𝓡.env wired) T laws) (named 1) κ κT q qT plane inT
     (λ i j m. and_then ! (get ! refl) (no_more !)) (λ α δ w begun typed.
     let κw = α ∷ κT in let qw = share_within (Share.left qT) in let rT = Share.right qT in let inside = meet_⊑_right (α ∷ []) κT in
-    let ℓ : NamedLft = record { mir = named 1; lft = κw } in let Walk = walks.the_row ℓ item in
+    let ℓ : NamedLft = record { mir = named 1; lft = κw } in
     lands_as ! refl refl typed.0 $ sets ! (of_opd ! (get ! refl)) refl typed.0 $
     -- how it ends: the row that was drawn, if any, is put back as it is filled
     let change = λ (row : List T.Denot). replicate (length row) value in let make = λ (_ : Unit {0}). change in
     let once : List (Unit {0}) = tt ∷ [] in let side = λ (_ : Unit {0}). Back in let last = walk_leaves side make table once in
     let Puts : RowsMut T.Denot → Item 𝓤 = λ left. ‵ (PutsBack rows_left (SecondRows item) side make once w left) in
-    let finish : (left : RowsMut T.Denot) → rows_left left ≡ left_by Back (rows_left w) → Sq 𝓛 (Puts left ∷ ‵ (Walk.own_val left (lowered left ∷ [])) ∷
-    ‵ (flft κw qw) ∷ ‵ (flft κT rT) ∷ ‵ (LendsBuffer item (record plane { ghost_name = δ }) w.rest) ∷ Kept_by T α δ κ κT q plane ∷
-    raw (Back_to 𝓛 α κT (Share.left qT)) ∷ holding 𝓛 En []) (runs 𝓣.C 𝓣.Λ En (after 6 function.body) (at_ret En Post)) = λ left fewer.
+    let finish : (left : RowsMut T.Denot) → rows_left left ≡ left_by Back (rows_left w) → Sq 𝓛 (Puts left ∷
+    ‵ ((walk_row of_rows ℓ item).own_val left (lowered left ∷ [])) ∷ ‵ (flft κw qw) ∷ ‵ (flft κT rT) ∷
+    ‵ (LendsBuffer item (record plane { ghost_name = δ }) w.rest) ∷ Kept_by T α δ κ κT q plane ∷ raw (Back_to 𝓛 α κT (Share.left qT)) ∷
+    holding 𝓛 En []) (runs 𝓣.C 𝓣.Λ En (after 6 function.body) (at_ret En Post)) = λ left fewer.
     move ! (1 ∷ []) $ use1 𝓛 (‵ (SecondRows item left (rows_left left))) (rows_dropped 𝓛 item ℓ left (lowered left ∷ [])) $ move ! (1 ∷ 0 ∷ []) $
     use2 𝓛 (‵ (SecondRows item w last)) (each_drawn 𝓛 rows_left (SecondRows item) side make once 1 refl w left table begun.all fewer) $
     rows_back ! tt T α δ κ κT q qT plane w last $ sets ! (of_opd ! (unit_lit !)) refl (tt, tt) $ returns ! (look_at ! 0 refl) $ free_all ! refl $
@@ -69,7 +69,7 @@ fill_last_row_spec 𝓤 𝓛 𝓜 𝓡 wired T laws copy clone dict met =
     sets ! (addr ! (from ! (stop !))) refl (tt, tt) $ take_at ! 3 $ move ! (0 ∷ 1 ∷ 3 ∷ 4 ∷ []) $
     draws_item 𝓛 𝓜 𝓡 T laws Back of_rows _ _ _ _ _ _ _ _ !
     (of_walks.next_back.Met.met 𝓤 𝓛 𝓜 𝓡 (code.calls-v_frame_plane::rows_mut::RowsMut::next_back 𝓡.env wired) T laws) κw κT qw rT inside inT
-    (spot_of 𝓤 𝓛.H En 3).0 (l 3) w refl (λ i j m. and_then ! (get ! refl) (no_more !))
+    (spot_of 𝓤 𝓛.H En 3).0 (l 3) w refl (λ i j m. get ! refl)
     -- where there is none, the iterator is dropped as it is
     (λ left none. let drawn = last_drawn rows_left w None left none in give_at ! 3 $ lands_as ! refl refl (tt, (record { fits = lit< tt }, tt)) $
     first ! $ takes_other ! (get_tag ! (vrt ! refl (fld ! refl (stop !))) (whole !)) $ skips ! $ exec ! 𝓣.C 𝓣.Λ En (after 6 function.body) (at_ret En Post) $
