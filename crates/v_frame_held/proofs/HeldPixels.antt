@@ -3,10 +3,10 @@
 --     as_rows      the pixels of an iterator whose items are all left end as rows
 --     writes_pixel      a held pixel is written.        gives_back      it is dropped, and ends where the call took it from
 use Rattle.v_frame_plane.proofs.lent.Steps.{◌≡◌, ◌-◌, List, [], ◌∷◌, ◌++◌, length, Some, MutBor, refl, sym, ap, ◌∙◌, arith, append-nil, append_assoc}
-use Rattle.v_frame_plane.proofs.lent.Steps.{length-append, map, nil_from_length, Lft, Share, fat, flft, full_share, SProp, ent, sep, shows, RattleType, MutRef}
-use Rattle.v_frame_plane.proofs.lent.Steps.{mut_vals, peeks, opens, closes, named, param, layout, Val, Ura, Goal, Item, Seq, Step, step, ‵, ◌$◌, drop, feq_i}
-use Rattle.v_frame_plane.proofs.lent.Steps.{fjoin3, fpick, fsplit3, move, rewrite, use1, use3, Logic, sem, cell_at, Calls, Env, Loops, Post, runs, assigns}
-use Rattle.v_frame_plane.proofs.lent.Steps.{assign, seq, Place, has_ty, WT, Rv, Finds}
+use Rattle.v_frame_plane.proofs.lent.Steps.{length-append, map, nil_from_length, Lft, Share, fat, flft, full_share, SProp, ent, sep, RattleType, MutRef}
+use Rattle.v_frame_plane.proofs.lent.Steps.{mut_vals, closes, named, param, layout, Val, Ura, Goal, Item, Seq, Step, step, ‵, ◌$◌, drop, feq_i, fjoin3, fpick}
+use Rattle.v_frame_plane.proofs.lent.Steps.{fsplit3, move, use1, use3, Logic, sem, cell_at, Calls, Env, Loops, Post, runs, assigns, assign, seq, Place, has_ty}
+use Rattle.v_frame_plane.proofs.lent.Steps.{WT, Rv, Finds}
 use lib.Dec.{T as Holds}
 use denote.Param.Laws.{IsCopy}
 use mir.Syntax.{Body as Code, Rv as RValue}
@@ -16,7 +16,7 @@ use Rattle.v_frame.proofs.ItemKinds.{Ends, Lends, Second, of_pixels}
 use Rattle.std.proofs.{Common.take_at}
 use Rattle.v_frame.specs.{DrawnItems.put_back, declared.replay.draw.Side.Side, declared.replay.draw.Side.TheVariants.Back}
 use Rattle.v_frame.specs.{declared.replay.draw.Side.TheVariants.Front}
-use Rattle.v_frame_plane.proofs.lent.{Loans.at_one}
+use Rattle.v_frame_plane.proofs.lent.{Loans.at_one, Loans.opens_self}
 use Rattle.v_frame_held.specs.{HeldPixels.with_ends}
 
 -- three calls, from the back, the front and the back, take the last, the first and the last but one
@@ -68,10 +68,9 @@ module _ {M : Type 1} {𝓤 : Ura M} {𝓛 : Logic 𝓤} {K : Type 0} {Γ : List
       Step K 𝓛 (‵ (Pixel.own_val (record pixel { now = x }) (mut_vals pixel)) ∷ ‵ (flft κ q) ∷ Γ) (runs C Λ E rest p)
       (‵ (Pixel.own_val pixel (mut_vals pixel)) ∷ ‵ (flft κ q) ∷ ‵ (item.own_val x (copy.val x ∷ [])) ∷ Γ) (runs C Λ E (seq (assign d rv) rest) p)
   writes_pixel t T copy κ q pixel x ok reads finds = step (λ k. let item = param 0 T in let b = pixel.ref_ptr.0 in let o = pixel.ref_ptr.1 in
-      fsplit3 t $ drop t $ opens t tt item {h = pixel.now} b o (λ us. move t (1 ∷ []) $ peeks t item _ (shows 𝓛 item) pixel.now us (λ is. drop t $
-      rewrite t 0 (λ (vs : List Val). ‵ (cell_at full_share item.mir vs b o)) (copy.tells pixel.now us is) refl $
+      opens_self t tt item κ q pixel (copy.val pixel.now ∷ []) (copy.tells pixel.now) $ move t (1 ∷ []) $ drop t $
       use1 𝓛 (‵ (fat full_share (layout T) b o (copy.val pixel.now))) (𝓛.laws.raw_at full_share (layout T) b o (copy.val pixel.now)) $
       assigns t (reads _ _ _ _ _) (finds _ _ _ _ _) (store t 0 refl ok) $
       use1 𝓛 (‵ (cell_at full_share item.mir (copy.val x ∷ []) b o)) (𝓛.laws.at_raw full_share (layout T) b o (copy.val x)) $
       -- [its cell; the open borrow, in three; what it owns]
-      move t (0 ∷ 4 ∷ []) $ closes t tt item x (copy.val x ∷ []) b o $ feq_i t (List Val) (mut_vals pixel) (mut_vals pixel) refl $ fjoin3 t $ k)))
+      move t (0 ∷ 4 ∷ []) $ closes t tt item x (copy.val x ∷ []) b o $ feq_i t (List Val) (mut_vals pixel) (mut_vals pixel) refl $ fjoin3 t $ k)
