@@ -1,5 +1,5 @@
 -- Each part of the border is filled in its turn, and what is visible is passed over.
-use Rattle.std.proofs.Common.{ℕ, ◌≡◌, ◌+◌, ◌*◌, ◌<◌, ◌≤◌, length, refl, ◌∙◌, arith}
+use Rattle.std.proofs.Common.{ℕ, ◌≡◌, ◌+◌, ◌*◌, ◌<◌, ◌≤◌, refl, arith}
 use Rattle.v_frame.specs.Prelude.{Border, stride_of, alloc_height_of, alloc_size_of}
 use Rattle.v_frame_uses.proofs.FilledBorders.{nothing_filled, part_filled, marks_of_rows, marks_left, marks_visible, marks_right, row_within, rows_within}
 use Rattle.v_frame_uses.proofs.FilledBorders.{within_buffer}
@@ -32,9 +32,8 @@ overflow_mul-start g c =
 
 pub fill_part-requires-in-loop-y-clause-within : goal.fill_part-requires-in-loop-y-clause-within
 fill_part-requires-in-loop-y-clause-within g c =
-    let k = c.args.geometry in
-    let whole : length c.loop-y.buffer ≡ alloc_size_of k = c.loop-y.auto.buffer ∙ c.fill_part.auto.buffer ∙ c.requires.whole in
-    rw (whole, c.pad_top-top.ensures, c.stride-stride.ensures, c.pad_left-left.ensures) (omega (arith, c.height-y-end.ensures.value, row_within))
+    rw (c.loop-y.auto.buffer, c.fill_part.auto.buffer, c.requires.whole, c.pad_top-top.ensures, c.stride-stride.ensures, c.pad_left-left.ensures)
+    (omega (arith, c.height-y-end.ensures.value, row_within))
 
 pub overflow_add-start-in-loop-y-2 : goal.overflow_add-start-in-loop-y-2
 overflow_add-start-in-loop-y-2 g c =
@@ -47,10 +46,8 @@ overflow_add-start-in-loop-y-3 g c =
 
 pub fill_part-requires-in-loop-y-2-clause-within : goal.fill_part-requires-in-loop-y-2-clause-within
 fill_part-requires-in-loop-y-2-clause-within g c =
-    let k = c.args.geometry in
-    let whole : length c.fill_part-in-loop-y.new.buffer ≡ alloc_size_of k = c.fill_part-in-loop-y.auto.buffer ∙ c.loop-y.auto.buffer ∙ c.fill_part.auto.buffer ∙
-    c.requires.whole in
-    rw (whole, c.pad_top-top.ensures, c.stride-stride.ensures) (omega (arith, c.height-y-end.ensures.value, row_within))
+    rw (c.fill_part-in-loop-y.auto.buffer, c.loop-y.auto.buffer, c.fill_part.auto.buffer, c.requires.whole, c.pad_top-top.ensures, c.stride-stride.ensures)
+    (omega (arith, c.height-y-end.ensures.value, row_within))
 
 pub loop-y-preserved : goal.loop-y-preserved
 loop-y-preserved g c =
@@ -74,17 +71,16 @@ overflow_mul-top-2 g c =
 
 pub fill_part-requires-2-clause-order : goal.fill_part-requires-2-clause-order
 fill_part-requires-2-clause-order g c =
-    let whole : length c.loop-y.buffer ≡ alloc_size_of c.args.geometry = c.loop-y.auto.buffer ∙ c.fill_part.auto.buffer ∙ c.requires.whole in
-    rw (whole, c.pad_top-top.ensures, c.stride-stride.ensures, c.height.ensures.value) (omega (arith, rows_within))
+    rw (c.loop-y.auto.buffer, c.fill_part.auto.buffer, c.requires.whole, c.pad_top-top.ensures, c.stride-stride.ensures, c.height.ensures.value)
+    (omega (arith, rows_within))
 
 pub returns : goal.returns
 returns g c =
     let k = c.args.geometry in let top = c.pad_top-top.ensures in let stride = c.stride-stride.ensures in
     let wide : 0 < stride_of k = omega (arith, c.width.ensures.valid.wide) in let marks = c.places_have_marks.ensures k in
     let end : c.loop-y.y ≡ k.height = omega (arith, c.height-y-end.ensures.value) in
-    let size : length c.loop-y.buffer ≡ alloc_size_of k = c.loop-y.auto.buffer ∙ c.fill_part.auto.buffer ∙ c.requires.whole in
     let so_far = rw (top, stride, end) at c.loop-y.invariant in
-    let fill = rw (top, stride, c.height.ensures.value, size) at c.fill_part-2.ensures in
+    let fill = rw (top, stride, c.height.ensures.value, c.loop-y.auto.buffer, c.fill_part.auto.buffer, c.requires.whole) at c.fill_part-2.ensures in
     let start : ℕ = (k.pad_top + k.height) * stride_of k in
     let all = part_filled k c.args.value c.args.buffer.now start start (alloc_size_of k) _ _ (λ place low high. absurd (omega arith))
     (marks_of_rows k marks (k.pad_top + k.height) (alloc_height_of k) marks.below wide) so_far fill.before fill.inside fill.behind in
