@@ -65,9 +65,7 @@ module _ (R : RattleType) (d : (the_row R).Denot) (start : ℕ) where
       unfolding part_of
       part_in vs rb ro e small within ws same =
           let s = type_size R in let m = length ws in let rest = drop m (drop start xs) in let new = take start xs ++ (ws ++ rest) in
-          let whole = length-append (take start xs) (ws ++ rest) in let back = length-append ws rest in let front = length-take start xs in
-          let beyond = length-drop m (drop start xs) in let ahead = length-drop start xs in
-          let long : length new ≡ length xs = omega arith in
+          let long : length new ≡ length xs = simp (length-append, length-take, length-drop) (omega (arith, same, within)) in
           let all : new ≡ with_part xs start ws = sym (take_at new (drop (length new) xs) (length xs) long) in
           qed 𝓛 (‵ (Row ws (from o)) ∷ ‵ (Around vs rb ro) ∷ []) ∵ move ! (1 ∷ []) $ fsplit ! $ fsplit ! $
           rewrite ! 0 (λ (k : ℕ). ‵ (Row (drop k (drop start xs)) (at (from o) s k))) (sym same) refl $ move ! (3 ∷ 0 ∷ []) $
@@ -77,6 +75,6 @@ module _ (R : RattleType) (d : (the_row R).Denot) (start : ℕ) where
           -- [the room; the marker; its cell; the entries]
           rewrite ! 0 (λ (k : ℕ). ‵ (room_at R b (k * s + o) d.spare)) (sym long) refl $ move ! (3 ∷ 0 ∷ []) $ fjoin ! $
           flt_i ! ((length new + d.spare) * s) (2 ^ 63) (subst (λ k. (k + d.spare) * s < 2 ^ 63) (sym long) small) $ fjoin ! $
-          rewrite ! 0 (λ (p : Ptr). ‵ (cells_own R p new d.spare)) (sym e) refl $
-          rewrite ! 0 (λ (l : List R.Denot). ‵ (cells_own R d.at l d.spare)) all refl $ move ! (1 ∷ 0 ∷ []) $ fjoin ! $ move ! (1 ∷ 0 ∷ []) $ fjoin ! $
+          rewrite ! 0 (λ (c : Ptr × List R.Denot). ‵ (cells_own R c.0 c.1 d.spare)) (λ i. (sym e i, all i)) refl $
+          move ! (1 ∷ 0 ∷ []) $ fjoin ! $ move ! (1 ∷ 0 ∷ []) $ fjoin ! $
           fpack ! (List Val) (λ us. fsep (cell_at full_share (the_row R).mir us rb ro) ((the_row R).own_val (rewritten ws) us)) vs $ done !

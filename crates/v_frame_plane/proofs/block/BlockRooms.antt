@@ -1,4 +1,4 @@
--- What the proofs of `take_room` and `give_back` share: the parts as rows of the logic, and room for entries. Assumes `Logic`.
+-- What the proofs of `aligned/block.rt` share: facts joined, a product with a size, the parts as rows of the logic, and room for entries. Assumes `Logic`.
 use Rattle.v_frame_plane.proofs.lent.Steps.{◌≡◌, refl, sym, ◌∙◌, ℕ, ◌+◌, ◌*◌, Ura, Val, vstruct, vcons, vnil, SProp, ent, sep, emp, wand, fact, mono_r, fst∗}
 use Rattle.v_frame_plane.proofs.lent.Steps.{via, froom, Logic, sem, ‵, ◌$◌, ◌∵◌, !, qed, by, move, rewrite, RattleType, zero-mul, add_comm, ty_array, Struct}
 use Rattle.v_frame_plane.proofs.lent.Steps.{type_size, El, R, elτ, Al, P, as_written, align, List, [], ◌∷◌, Env, Opd, Ty, op2, unsigned, vint, w64, size, is}

@@ -1,12 +1,12 @@
 -- `slice_mut` lends a part of the entries as a slice, and the cells end with what that shows last in the part's place. Assumes `Logic`.
-use Rattle.v_frame_plane.proofs.lent.Steps.{◌≡◌, refl, sym, ap, ◌∙◌, ℕ, ◌+◌, ◌-◌, ◌*◌, ◌^◌, ◌<◌, ◌≤◌, arith, List, [], ◌∷◌, length, take, list_drop as drop}
-use Rattle.v_frame_plane.proofs.lent.Steps.{length-drop, a_type, named, w64, inst_fn, vptr, id⊢, fat, flft, full_share, tables, Item, ‵, ◌⊛◌, some, later}
-use Rattle.v_frame_plane.proofs.lent.Steps.{at_ret, ◌$◌, !, move, keep, split, split3, group, pick, await, use1, fsplit, fsplit3, rewrite, done, sem, whole}
-use Rattle.v_frame_plane.proofs.lent.Steps.{sub, agg, stop, fld, of_opd, bin, and_then, no_more, first, exec, returns, enter, alloc_all, pass_all, free_all}
-use Rattle.v_frame_plane.proofs.lent.Steps.{look_at, get, get_in, sets, env, Array, usize, yes, no, mem, param, layouts, param_laws, uint_vals, uint_Tells}
-use Rattle.v_frame_plane.proofs.lent.Steps.{Valss, MutBor, mut_vals, mut_Tells, plain, MutSlice, slice_val, nothing, opens, Stays, walk_of, stay_dropped}
-use Rattle.v_frame_plane.proofs.lent.Steps.{Goes-dropped, after, proved, never, GName, at_mul, flt_l, cells, blocks, sets_last, take_at, give_at, is, follows}
-use Rattle.v_frame_plane.proofs.lent.Steps.{layout, Ptr, in_a_block, types_at, says, Goes-spent_ref, times_below, type_size, word, word-Good}
+use Rattle.v_frame_plane.proofs.lent.Steps.{◌≡◌, refl, sym, ap, ◌∙◌, ◌+◌, ◌-◌, ◌*◌, ◌^◌, ◌<◌, ◌≤◌, arith, List, [], ◌∷◌, length, take, list_drop as drop, vint}
+use Rattle.v_frame_plane.proofs.lent.Steps.{length-drop, a_type, named, w64, inst_fn, vptr, id⊢, fat, flft, full_share, tables, ‵, ◌⊛◌, some, later, at_ret}
+use Rattle.v_frame_plane.proofs.lent.Steps.{◌$◌, !, move, keep, split, split3, group, pick, await, use1, fsplit, fsplit3, rewrite, done, sem, whole, sub, agg}
+use Rattle.v_frame_plane.proofs.lent.Steps.{stop, fld, of_opd, bin, and_then, no_more, first, exec, returns, enter, alloc_all, pass_all, free_all, look_at, get}
+use Rattle.v_frame_plane.proofs.lent.Steps.{get_in, sets, env, Array, usize, yes, no, mem, param, layouts, param_laws, uint_vals, uint_Tells, Valss, MutBor}
+use Rattle.v_frame_plane.proofs.lent.Steps.{mut_vals, mut_Tells, plain, MutSlice, slice_val, nothing, opens, Stays, walk_of, stay_dropped, Goes-dropped, after}
+use Rattle.v_frame_plane.proofs.lent.Steps.{proved, never, GName, at_mul, flt_l, cells, blocks, sets_last, take_at, give_at, is, follows, layout, Ptr}
+use Rattle.v_frame_plane.proofs.lent.Steps.{in_a_block, types_at, says, Goes-spent_ref, times_below, type_size, word, word-Good}
 use Rattle.v_frame_plane.proofs.lent.CallSteps.{both_facts, ends, opened_by}
 use Rattle.v_frame_plane.proofs.block.BlockRooms.{one_more_fact, counted}
 use borrow.Table.Elements.{length-take-le}
@@ -50,27 +50,26 @@ slice_mut_spec 𝓤 𝓛 𝓜 𝓡 wired T L =
     let part = take n (drop start xs) in let at = parts.from R d start o in
     let within : start + n ≤ length xs = omega (arith, ordered, inside) in
     let count : length part ≡ n = length-take-le n (drop start xs) (omega (arith, within, length-drop start xs)) in
+    let brief : length part < 2 ^ 64 = omega (arith, count, end_fits) in
     let far : start * s < 2 ^ 64 = omega (arith, times_below start (length xs + d.spare) s (2 ^ 63) (omega (arith, within)) small) in
     let there : start * s + o ≡ at =
     ap (λ k. k * s + o) (sym (length-take-le start xs (omega (arith, within)))) ∙ sym (at_mul o s (length (take start xs))) in
     take_at ! 2 $ rewrite ! 0 (λ (p : Ptr). ‵ (fat full_share (layout (Base R)) (l 2) 0 (word p))) (here ∙ e) refl $ give_at ! 2 $
     first ! $ blocks ! $ sets ! (counted ! start far (get ! refl)) refl (tt, record { fits = far }) $
     sets ! (is ! (bin ! (get_in ! (fld ! refl (stop !)) (sub ! 0 refl (whole !))) (get ! refl) tt) (ap (vptr b) there)) refl _ $
-    sets ! (bin ! (get ! refl) (get ! refl) ordered) refl (tt, record { fits = omega (arith, end_fits) }) $
-    sets_last ! (agg ! (and_then ! (get ! refl) (and_then ! (get ! refl) (no_more !)))) refl (tt, (tt, (record { fits = omega (arith, end_fits) }, tt))) $
+    sets ! (is ! (bin ! (get ! refl) (get ! refl) ordered) (ap (vint w64) (sym count))) refl (tt, record { fits = brief }) $
+    sets_last ! (agg ! (and_then ! (get ! refl) (and_then ! (get ! refl) (no_more !)))) refl (tt, (tt, (record { fits = brief }, tt))) $
     exec ! 𝓣.C 𝓣.Λ (env fn.locals l) (after 1 fn.body) (at_ret _ ((walk_of 𝓛 En stayed c).post y)) $
-    sets ! (of_opd ! (get ! refl)) refl (tt, (tt, (record { fits = omega (arith, end_fits) }, tt))) $
+    sets ! (of_opd ! (get ! refl)) refl (tt, (tt, (record { fits = brief }, tt))) $
     use1 𝓛 (‵ (cells (mem R) part b at) ⊛ ‵ (parts.Others R d start b o n)) (parts.part_out R d start b o n 𝓛 within) $
     split ! $ move ! (1 ∷ 2 ∷ 3 ∷ 4 ∷ []) $ group ! 4 $ move ! (2 ∷ 3 ∷ 4 ∷ 1 ∷ 0 ∷ []) $ group ! 5 $
     let slice : GName → MutBor (List R.Denot) = λ δ. record { ref_ptr = (b, at); ghost_name = δ; now = part } in let F = parts.rewritten R d start in
-    let Lent : GName → ℕ → Item 𝓤 = λ δ k. ‵ ((MutSlice (named 0) κ R).own_val (slice δ) (slice_val (b, at) k ∷ [])) ⊛ ‵ (flft κ q) ⊛
-    ‵ (follows (Cells R) (Array R 0) γ δ F) in
+    let v = slice_val (b, at) (length part) in let code = (Cells R).coded.code d in
     let bytes = times_below (length part) (length xs + d.spare) s (2 ^ 63) (omega (arith, count, within)) small in
-    let around = sem 𝓛 (parts.Around R d start b o n vs rb ro) in let code = (Cells R).coded.code d in
-    use1 𝓛 (later (some (λ (δ : GName). Lent δ (length part))))
-    (lends_Elements 𝓛 (Cells R) R F (named 0) κ q rb ro b at γ part (omega (arith, count, end_fits), bytes) around
+    use1 𝓛 (later (some (λ (δ : GName). ‵ ((MutSlice (named 0) κ R).own_val (slice δ) (v ∷ [])) ⊛ ‵ (flft κ q) ⊛ ‵ (follows (Cells R) (Array R 0) γ δ F))))
+    (lends_Elements 𝓛 (Cells R) R F (named 0) κ q rb ro b at γ part (brief, bytes) (sem 𝓛 (parts.Around R d start b o n vs rb ro))
     (λ ws same. parts.part_in R d start b o n 𝓛 vs rb ro e small within ws (same ∙ count)) code code) $ await ! tt $ pick ! (λ δ.
-    rewrite ! 0 (Lent δ) count refl $ returns ! (look_at ! 0 refl) $ free_all ! refl $ split3 ! $
+    returns ! (look_at ! 0 refl) $ free_all ! refl $ split3 ! $
     -- [the slice; the token of κ; how the cells follow its last list; the other token]
     nothing ! $ nothing ! $ nothing ! $ nothing ! $
-    ends ! (5 ∷ 7 ∷ 0 ∷ 1 ∷ 2 ∷ 3 ∷ 4 ∷ 6 ∷ []) En stayed c y (slice_val (b, at) n) (slice δ) _ _ refl $ says ! refl $ done !)))))))
+    ends ! (5 ∷ 7 ∷ 0 ∷ 1 ∷ 2 ∷ 3 ∷ 4 ∷ 6 ∷ []) En stayed c y v (slice δ) _ _ refl $ says ! refl $ done !)))))))

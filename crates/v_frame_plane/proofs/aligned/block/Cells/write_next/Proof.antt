@@ -43,8 +43,7 @@ write_next_spec 𝓤 𝓛 𝓜 𝓡 wired T L =
     move ! (2 ∷ []) $ fsplit3 ! $ keep ! (1 ∷ 2 ∷ 3 ∷ 7 ∷ 4 ∷ []) $
     rewrite ! 3 (λ (us : List Val). ‵ (R.own_val x us)) one.1 refl $
     regoal ! (λ (us : List Val). prop (WpFn 𝓤 𝓛.H 𝓣.C 𝓣.Λ fn us Post)) (λ i. are.0.0 i ++ (base_is i ++ (are.1.1.0.0 i ++ (one.1 i ++ [])))) refl $
-    enter ! _ _ _ _ _ $ alloc_all ! (λ l.
-    pass_all ! refl (_, (word-Good [] a.1.0.ptr, ((tt, record { fits = are.1.1.0.1 }), (good, tt)))) $
+    enter ! _ _ _ _ _ $ alloc_all ! (λ l. pass_all ! refl (_, (word-Good [] a.1.0.ptr, ((tt, record { fits = are.1.1.0.1 }), (good, tt)))) $
     -- [what the name is seen at; the borrow; the token; what x owns; the other token; the locals]
     opens ! tt (Cells R) {h = d} rb ro (λ vs. move ! (1 ∷ []) $ fsplit ! $ move ! (1 ∷ []) $
     in_a_block ! d.at (λ p. cells_own R p xs d.spare) (id⊢ 𝓤 (never 𝓤)) (λ b o e. fsplit ! $ flt_l ! (λ small. fsplit ! $ move ! (1 ∷ []) $
@@ -61,10 +60,8 @@ write_next_spec 𝓤 𝓛 𝓜 𝓡 wired T L =
     -- [the place; the room behind it; the entries; ..]
     first ! $ blocks ! $ sets ! (counted ! place far (get ! refl)) refl (tt, record { fits = far }) $
     sets ! (bin ! (get_in ! (fld ! refl (stop !)) (sub ! 0 refl (whole !))) (get ! refl) tt) refl _ $
-    sets ! (of_opd ! (get ! refl)) refl good $
-    assigns_last ! (of_opd ! (get ! refl)) (through ! refl (stop !)) (init ! 0 refl good) $
-    exec ! 𝓣.C 𝓣.Λ (env fn.locals l) (after 1 fn.body) (at_ret _ Post) $
-    sets ! (of_opd ! (unit_lit !)) refl _ $
+    sets ! (of_opd ! (get ! refl)) refl good $ assigns_last ! (of_opd ! (get ! refl)) (through ! refl (stop !)) (init ! 0 refl good) $
+    exec ! 𝓣.C 𝓣.Λ (env fn.locals l) (after 1 fn.body) (at_ret _ Post) $ sets ! (of_opd ! (unit_lit !)) refl _ $
     move ! (0 ∷ 8 ∷ []) $ use2 𝓛 (‵ (part_at R full_share x b at)) (part_in 𝓛 R refl full_share x b at v) $
     move ! (2 ∷ 0 ∷ []) $ use2 𝓛 (‵ (entries_at R b o ys)) (put_last R 𝓛 b xs x o at (ap (λ n. n * s + o) (sym asked.1))) $
     -- [the entries, x behind them; the room; the marker; its cell; the three parts of the borrow, which is open; the other token; the locals]
