@@ -1,11 +1,10 @@
 -- The parts of a block may cross threads where its entries, and its allocator, may.
 use Rattle.v_frame_plane.proofs.lent.Steps.{ℕ, ◌+◌, ◌*◌, List, [], ◌∷◌, full_share, RattleType, ◌==◌, Bool, true, false, type_size, Ptr, block_ptr, null_ptr}
-use Rattle.v_frame_plane.proofs.lent.Steps.{exits_of, fields, to, IsSend, IsSync, Common, AllSend, part_keyless, owning_send, struct_send, struct_sync}
-use Rattle.v_frame_plane.proofs.lent.Steps.{sendable}
+use Rattle.v_frame_plane.proofs.lent.Steps.{to, IsSend, IsSync, Common, part_keyless, owning_send, struct_sync, sendable}
 use base.Shift.{Keyless}
 use denote.Struct.Owning.{shape}
 use Rattle.core.specs.declared.alloc.Allocator.{Ghosts}
-use Rattle.std_alloc.proofs.SendSync.{FreesAnywhere, quiet}
+use Rattle.std_alloc.proofs.SendSync.{FreesAnywhere}
 use Rattle.v_frame_plane.specs.Block.{entries_at, lent_at, cells_own, cells_lent, token_if}
 use Rattle.v_frame_plane.specs.contracts.aligned.block.Cells as Cells
 use Rattle.v_frame_plane.specs.contracts.aligned.block.Deed as Deed
@@ -29,10 +28,7 @@ module _ (R : RattleType) where
 
   -- the entries of a block cross as one of them does
   pub cells_cross : IsSend R → IsSend (Cells.the_row R)
-  cells_cross s =
-      let O = Cells.the_type R in
-      let all : AllSend (fields O) = (search sendable, tt) in
-      owning_send O all (λ d. cells_keyless s d.at d.items d.spare) (λ k. quiet (to O) (exits_of k (fields O)) ((struct_send (shape O) all).leaving k))
+  cells_cross s = owning_send (Cells.the_type R) (search sendable, tt) (λ d. cells_keyless s d.at d.items d.spare) (λ k d w. tt)
 
   -- and are shared as one of them is
   pub cells_shared : IsSync R → IsSync (Cells.the_row R)
@@ -48,10 +44,7 @@ module _ (R : RattleType) where
     -- the right to give a block back crosses as the right to free any block does
     pub deed_crosses : FreesAnywhere A.Denot g → IsSend (Deed.the_row R A g)
     deed_crosses f =
-        let O = Deed.the_type R A g in
-        let all : AllSend (fields O) = (search sendable, tt) in
-        owning_send O all (λ d. token_keyless f d.alloc d.at d.len (d.len * type_size R == 0))
-        (λ k. quiet (to O) (exits_of k (fields O)) ((struct_send (shape O) all).leaving k))
+        owning_send (Deed.the_type R A g) (search sendable, tt) (λ d. token_keyless f d.alloc d.at d.len (d.len * type_size R == 0)) (λ k d w. tt)
 
     -- a `&` to it tells nothing
     pub deed_shared : IsSync (Deed.the_row R A g)

@@ -1,8 +1,8 @@
 -- A part of a block's entries, as a slice has them, and the `Cells` that it goes back to.
-use Rattle.v_frame_plane.proofs.lent.Steps.{◌≡◌, refl, sym, ap, ℕ, ◌+◌, ◌*◌, ◌^◌, ◌<◌, ◌≤◌, arith, List, [], ◌∷◌, ◌++◌, length, take, list_drop as drop}
+use Rattle.v_frame_plane.proofs.lent.Steps.{◌≡◌, refl, sym, ℕ, ◌+◌, ◌*◌, ◌^◌, ◌<◌, ◌≤◌, arith, List, [], ◌∷◌, ◌++◌, length, take, list_drop as drop}
 use Rattle.v_frame_plane.proofs.lent.Steps.{length-drop, Ura, full_share, ent, sep, Fml, fsep, Val, ‵, ◌⊛◌, ◌$◌, ◌∵◌, !, qed, move, use1, use2, split, rewrite}
 use Rattle.v_frame_plane.proofs.lent.Steps.{fsplit, fsplit3, fjoin, fpack, done, Logic, sem, RattleType, mem, cell_at, subst, take-append-drop, length-take}
-use Rattle.v_frame_plane.proofs.lent.Steps.{length-append, flt_i, cells, cut_app, join_app, part_at, Ptr, block_ptr, Struct, type_size}
+use Rattle.v_frame_plane.proofs.lent.Steps.{length-append, flt_i, cells, cut_app, join_app, Ptr, block_ptr, Struct, type_size}
 use lib.Seq.{take_at}
 use borrow.Table.Elements.{at, length-take-le}
 use denote.Memory.{part_of}
@@ -11,11 +11,7 @@ use Rattle.v_frame_plane.specs.Block.{entries_at, room_at, cells_own}
 use Rattle.v_frame_plane.specs.BlockLends.{with_items}
 use Rattle.v_frame_plane.specs.Plane.{with_part}
 use Rattle.v_frame_plane.specs.contracts.aligned.block.Cells.{the_row, the_type}
-
--- what the entries own is what the elements of a slice own
-entries_are_cells : (R : RattleType) (b : ℕ) (xs : List R.Denot) (o : ℕ) → entries_at R b o xs ≡ cells (mem R) xs b o
-entries_are_cells R b [] o = refl
-entries_are_cells R b (x ∷ xs) o = ap (λ (rest : Fml). fsep (part_at R full_share x b o) rest) (entries_are_cells R b xs (o + type_size R))
+use Rattle.v_frame_plane.proofs.block.BlockEntries.{entries_are_cells}
 
 module _ (R : RattleType) (d : (the_row R).Denot) (start : ℕ) where
   abbrev xs : List R.Denot

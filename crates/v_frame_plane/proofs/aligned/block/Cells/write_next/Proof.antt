@@ -8,12 +8,13 @@ use Rattle.v_frame_plane.proofs.lent.Steps.{length-append, vunit, never, froom, 
 use Rattle.v_frame_plane.proofs.lent.Steps.{take_at, give_at, part_at, layout, Ptr, in_a_block, times_below, proved_at, type_size, word, word-Good}
 use Rattle.v_frame_plane.proofs.lent.CallSteps.{both_facts, ends, opened_by, told, tells}
 use Rattle.v_frame_plane.proofs.block.BlockRooms.{counted}
+use Rattle.core.proofs.mem.Param.{one as one_of}
 use Rattle.v_frame_plane.specs.Block.{entries_at, room_at, cells_own}
 use Rattle.v_frame_plane.specs.contracts.aligned.block.Base.{the_row as Base}
 use Rattle.v_frame_plane.specs.contracts.aligned.block.Cells.{the_row as Cells}
 use Rattle.v_frame_plane.specs.contracts.aligned.block.Cells.write_next.{ended, clauses}
 use Rattle.v_frame_plane.specs.contracts.aligned.block.Cells.write_next.Key.{name as #self}
-use Rattle.v_frame_plane.proofs.block.BlockEntries.{one_machine_value, first_place, put_last}
+use Rattle.v_frame_plane.proofs.block.BlockEntries.{first_place, put_last}
 use Rattle.v_frame_plane.proofs.aligned.block.Base.TheLaws.{lowers}
 use Rattle.v_frame_plane.proofs.aligned.block.Cells.write_next.Statement.{statement}
 use Rattle.v_frame_plane.proofs.aligned.block.Cells.write_next.Code as code
@@ -37,7 +38,7 @@ write_next_spec 𝓤 𝓛 𝓜 𝓡 wired T L =
     let κs = y.0.0 in let a = y.0.3 in let vss = y.0.4 in let d = a.0.now in let xs = d.items in let place = a.1.1.0 in let x = a.1.1.1.0 in
     let rb = a.0.ref_ptr.0 in let ro = a.0.ref_ptr.1 in let Post : Val → SProp 𝓤 = (walk_of 𝓛 En stayed c).post y in
     -- x is one machine value v
-    let one = one_machine_value τ vss.1.1.1.0 ((LR.lawful 𝓛).typed x vss.1.1.1.0 are.1.1.1.0) in let v = one.0 in let good = one.2 in
+    let one = one_of (record { row = T; laws = L }) vss.1.1.1.0 ((LR.lawful 𝓛).typed x vss.1.1.1.0 are.1.1.1.0) in let v = one.0 in let good = one.2 in
     let base_is = (lowers R LR).val_is a.1.0 vss.1.0 are.1.0 in
     opened_by 𝓛 En.signature κs y.0.1 a vss _ _ (both_facts 𝓤 _ _) (λ said. let asked = said.1 in
     move ! (2 ∷ []) $ fsplit3 ! $ keep ! (1 ∷ 2 ∷ 3 ∷ 7 ∷ 4 ∷ []) $
