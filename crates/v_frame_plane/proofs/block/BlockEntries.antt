@@ -1,5 +1,5 @@
 -- The entries of a block, as a slice has them, and the `Cells` that they go back to.
-use Rattle.v_frame_plane.proofs.lent.Steps.{◌≡◌, refl, ap, ℕ, ◌+◌, ◌*◌, List, [], ◌∷◌, ◌++◌, length, Ura, full_share, ent, sep, Lft, Fml, ‵, ◌⊛◌, ◌$◌, ◌∵◌, ! }
+use Rattle.v_frame_plane.proofs.lent.Steps.{◌≡◌, refl, ap, ℕ, ◌+◌, ◌*◌, List, [], ◌∷◌, ◌++◌, length, Ura, full_share, ent, sep, Lft, Fml, ‵, ◌⊛◌, ◌$◌, !, ◌∵◌}
 use Rattle.v_frame_plane.proofs.lent.Steps.{qed, move, use1, use2, split, rewrite, fjoin, frame, done, Logic, sem, RattleType, suc, froom, ty_array, by, lone}
 use Rattle.v_frame_plane.proofs.lent.Steps.{part_at, shared_of, beside, elements_shared, type_size, cells, mem, fsep, ◌∙◌, sym, at_mul, nothing, join_app}
 use Rattle.v_frame_plane.specs.Block.{entries_at, room_at, lent_at}

@@ -53,18 +53,12 @@ give_back_spec 𝓤 𝓛 𝓜 𝓡 wired X W X-laws W-laws g dz dx dd met droppe
     let 𝓣 = tables 𝓤 𝓛.H 𝓜 𝓡 𝓡.env in let run = framed 𝓤 𝓛.H 𝓜 𝓣 in
     let En = F.ended X W g dz dx dd in let c = F.clauses X W g dz dx dd 𝓛 𝓜.mem 𝓡.returns in
     let inst : Args = bounded (a_type ∷ a_type ∷ []) (X, (W, tt)) (dcons dz (dcons dx (dcons dd dnil))) in let fn = inst_fn inst code.function in
-    let stayed : Stays En.signature.params En.kept = (
-      stay_dropped _ yes,
-      (stay_dropped _ no, (stay_dropped _ yes, (stay_dropped _ yes, (stay_dropped _ no, (stay_dropped _ no, tt))))),
-    ) in
-    let gone = Goes-dropped 𝓛 3 (plain (λ _. usize)) yes (λ κs x w. refl) in
-    proved 𝓛 En stayed c 𝓜 𝓡 (
-      Goes-dropped 𝓛 3 (RefOf (0 ∷ []) tt (plain (λ _. P E Z)) (λ _. tt)) yes (λ κs x w. refl),
-      (
-        Goes-dropped 𝓛 3 (plain (λ _. Bases E)) no (λ κs x w. refl),
-        (gone, (gone, (Goes-blank 𝓛 3 (plain (λ _. Kept E)) no (λ κs x w. tt), (Goes-blank 𝓛 3 (plain (λ _. Deeds E Z)) no (λ κs x w. tt), tt)))),
-      ),
-    )
+    let stayed : Stays En.signature.params En.kept =
+    (stay_dropped _ yes, (stay_dropped _ no, (stay_dropped _ yes, (stay_dropped _ yes, (stay_dropped _ no, (stay_dropped _ no, tt)))))) in
+    let base_goes = Goes-dropped 𝓛 3 (plain (λ _. Bases E)) no (λ κs x w. refl) in let number = Goes-dropped 𝓛 3 (plain (λ _. usize)) yes (λ κs x w. refl) in
+    let cells_go = Goes-blank 𝓛 3 (plain (λ _. Kept E)) no (λ κs x w. tt) in let deed_goes = Goes-blank 𝓛 3 (plain (λ _. Deeds E Z)) no (λ κs x w. tt) in
+    proved 𝓛 En stayed c 𝓜 𝓡
+    (Goes-dropped 𝓛 3 (RefOf (0 ∷ []) tt (plain (λ _. P E Z)) (λ _. tt)) yes (λ κs x w. refl), (base_goes, (number, (number, (cells_go, (deed_goes, tt))))))
     (#self inst) fn (code.unfolded 𝓤 𝓛.H 𝓜 𝓡 wired (X, (W, tt)) dz dx dd) _
     (λ κs. (shr_Tells (named 0) κs.0 (P E Z), (base_tells.val_is, (uint_Tells w64, (uint_Tells w64, (cells_tell.val_is, (deed_tells.val_is, tt)))))))
     (λ κs qs bounds a gh are.

@@ -72,10 +72,8 @@ take_room_spec 𝓤 𝓛 𝓜 𝓡 wired X W X-laws W-laws g d dd met _ =
     let 𝓣 = tables 𝓤 𝓛.H 𝓜 𝓡 𝓡.env in let En = F.ended X W g d dd in let c = F.clauses X W g d dd 𝓛 𝓜.mem 𝓡.returns in
     let fn = inst_fn (args E Z) code.function in
     let stayed : Stays En.signature.params En.kept = (stay_dropped _ yes, (stay_dropped _ yes, tt)) in
-    proved 𝓛 En stayed c 𝓜 𝓡 (
-      Goes-dropped 𝓛 3 (RefOf (0 ∷ []) tt (plain (λ _. P E Z)) (λ _. tt)) yes (λ κs x w. refl),
-      (Goes-dropped 𝓛 3 (plain (λ _. usize)) yes (λ κs x w. refl), tt),
-    )
+    proved 𝓛 En stayed c 𝓜 𝓡
+    (Goes-dropped 𝓛 3 (RefOf (0 ∷ []) tt (plain (λ _. P E Z)) (λ _. tt)) yes (λ κs x w. refl), (Goes-dropped 𝓛 3 (plain (λ _. usize)) yes (λ κs x w. refl), tt))
     (#self (args E Z)) fn (code.unfolded 𝓤 𝓛.H 𝓜 𝓡 wired (X, (W, tt)) d dd) _
     (λ κs. (shr_Tells (named 0) κs.0 (P E Z), (uint_Tells w64, tt))) (λ κs qs bounds a gh are.
     let κ = κs.0 in let q = qs.0 in let h = a.0.now in let at = a.0.ref_ptr in let len = a.1.0 in let s = wide E in

@@ -27,10 +27,8 @@ slice_mut_spec 𝓤 𝓛 𝓜 𝓡 wired T L =
     let En = ended T in let c = clauses T 𝓛 𝓜.mem 𝓡.returns in let inst = layouts (a_type ∷ []) (T, tt) in let fn = inst_fn inst code.function in
     let stayed : Stays En.signature.params En.kept = (stay_dropped _ no, (stay_dropped _ no, (stay_dropped _ yes, (stay_dropped _ yes, tt)))) in
     let gone = Goes-dropped 𝓛 2 (plain (λ _. usize)) yes (λ κs x w. refl) in
-    proved 𝓛 En stayed c 𝓜 𝓡 (
-      Goes-spent_ref 𝓛 2 (0 ∷ []) tt (plain (λ _. Cells R)),
-      (Goes-dropped 𝓛 2 (plain (λ _. Base R)) no (λ κs x w. refl), (gone, (gone, tt))),
-    )
+    proved 𝓛 En stayed c 𝓜 𝓡
+    (Goes-spent_ref 𝓛 2 (0 ∷ []) tt (plain (λ _. Cells R)), (Goes-dropped 𝓛 2 (plain (λ _. Base R)) no (λ κs x w. refl), (gone, (gone, tt))))
     (#self inst) fn (code.unfolded 𝓤 𝓛.H 𝓜 𝓡 wired (T, tt)) _
     (λ κs. (mut_Tells (named 0) κs.0 (Cells R), (base_at.val_is, (uint_Tells w64, (uint_Tells w64, tt))))) (λ κs qs bounds a gh are.
     let d = a.0.now in let xs = d.items in let start = a.1.1.0 in let end = a.1.1.1.0 in let n = end - start in

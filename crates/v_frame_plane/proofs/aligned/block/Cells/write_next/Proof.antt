@@ -23,17 +23,11 @@ pub write_next_spec : {M : Type 1} → statement M
 write_next_spec 𝓤 𝓛 𝓜 𝓡 wired T L =
     let R = param 0 T in let LR = param_laws 0 T L in let τ = layout R in let s = type_size R in let 𝓣 = tables 𝓤 𝓛.H 𝓜 𝓡 𝓡.env in
     let En = ended T in let c = clauses T 𝓛 𝓜.mem 𝓡.returns in let inst = layouts (a_type ∷ []) (T, tt) in let fn = inst_fn inst code.function in
-    let stayed : Stays En.signature.params En.kept = (
-      stay_ref (0 ∷ []) tt (plain (λ _. Cells R)),
-      (stay_dropped _ no, (stay_dropped _ yes, (stay_dropped _ no, tt))),
-    ) in
-    proved_at 𝓛 En stayed c 𝓜 𝓡 (
-      Goes-ref 𝓛 2 0 tt (plain (λ _. Cells R)),
-      (
-        Goes-dropped 𝓛 2 (plain (λ _. Base R)) no (λ κs x w. refl),
-        (Goes-dropped 𝓛 2 (plain (λ _. usize)) yes (λ κs x w. refl), (Goes-dropped 𝓛 2 (plain (λ _. R)) no (λ κs x w. refl), tt)),
-      ),
-    )
+    let stayed : Stays En.signature.params En.kept =
+    (stay_ref (0 ∷ []) tt (plain (λ _. Cells R)), (stay_dropped _ no, (stay_dropped _ yes, (stay_dropped _ no, tt)))) in
+    let base_goes = Goes-dropped 𝓛 2 (plain (λ _. Base R)) no (λ κs x w. refl) in let number = Goes-dropped 𝓛 2 (plain (λ _. usize)) yes (λ κs x w. refl) in
+    proved_at 𝓛 En stayed c 𝓜 𝓡
+    (Goes-ref 𝓛 2 0 tt (plain (λ _. Cells R)), (base_goes, (number, (Goes-dropped 𝓛 2 (plain (λ _. R)) no (λ κs x w. refl), tt))))
     (#self inst) fn (code.unfolded 𝓤 𝓛.H 𝓜 𝓡 wired (T, tt)) (λ y are.
     let κs = y.0.0 in let a = y.0.3 in let vss = y.0.4 in let d = a.0.now in let xs = d.items in let place = a.1.1.0 in let x = a.1.1.1.0 in
     let rb = a.0.ref_ptr.0 in let ro = a.0.ref_ptr.1 in let Post : Val → SProp 𝓤 = (walk_of 𝓛 En stayed c).post y in
