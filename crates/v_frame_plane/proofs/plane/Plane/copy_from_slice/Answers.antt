@@ -1,8 +1,8 @@
 -- The copy is decided by the sizes of the plane, which are those of its table.
 use Rattle.std.proofs.Common.{◌≡◌, ◌*◌, List, length, map, refl, ap, ◌∙◌, sym, arith}
 use Rattle.v_frame_layout.specs.Table.{row_major, cut_rows}
-use Rattle.v_frame_plane.specs.Plane.{Raster, raster, table_of, border_of}
-use Rattle.v_frame_plane.specs.Copy.{CopyOutcome, piece_fronts}
+use Rattle.v_frame_plane.specs.Plane.{Raster, raster, table_of}
+use Rattle.v_frame_plane.specs.Copy.{piece_fronts}
 use Rattle.v_frame_plane.proofs.copies.CopyLemmas.{copy_refused, copy_accepted, row_major-cut_rows}
 use Rattle.v_frame_plane.proofs.tables.Kept.{whole_refilled}
 use Rattle.v_frame_plane.proofs.tables.Lists.{refill_same}
@@ -15,8 +15,8 @@ returns-then-src-expected-clause-copied g c =
     let size = c.visible_size-expected.ensures in
     let refused = copy_refused p c.args.src.now c.visible_size-expected.result size.valid.high c.self.invariant.whole size.value c.if-src-expected.true in
     rw (← c.self.view_is) (record {
-      answer = sym (ap (λ (o : CopyOutcome g.row.T.Denot). o.answer) refused);
-      table = sym (ap (λ (o : CopyOutcome g.row.T.Denot). o.table) refused);
+      answer = rw refused refl;
+      table = rw refused refl;
       border = refl;
       geometry = refl;
       refused = refl;
@@ -30,17 +30,15 @@ returns g c =
     let size = c.visible_size-expected.ensures in
     let accepted = copy_accepted p source c.visible_size-expected.result size.valid.high c.self.invariant.whole size.value c.if-src-expected.false in
     let packed : map (λ (row : List g.row.T.Denot). row) (piece_fronts (k.width * 1) c.width.result k.height source) ≡ cut_rows k.width k.height source =
-    ap (λ stride. map (λ (row : List g.row.T.Denot). row) (piece_fronts (k.width * 1) stride k.height source)) c.width.ensures.value ∙
-    rows_of_packed k.width k.height source in
+    rw (c.width.ensures.value) (rows_of_packed k.width k.height source) in
     let entries = c.as_mut_slice-buffer.ensures.value in
     let left = refill_same c.self.inside.buffer c.write_rows.new.buffer (c.write_rows.auto.buffer ∙ ap length entries) in
     let rows = ap (λ (b : List g.row.T.Denot). table_of (raster k b)) left ∙ c.write_rows.ensures.table ∙ packed in
     rw (← c.self.view_is) (record {
       copied = record {
-        answer = sym (ap (λ (o : CopyOutcome g.row.T.Denot). o.answer) accepted);
-        table = rows ∙ sym (ap (λ (o : CopyOutcome g.row.T.Denot). o.table) accepted);
-        border = ap (λ (b : List g.row.T.Denot). border_of (raster k b)) left ∙ c.write_rows.ensures.border ∙
-            ap (λ (b : List g.row.T.Denot). border_of (raster k b)) entries;
+        answer = rw accepted refl;
+        table = rw accepted rows;
+        border = rw left (c.write_rows.ensures.border ∙ rw entries refl);
         geometry = refl;
         refused = tt;
       };

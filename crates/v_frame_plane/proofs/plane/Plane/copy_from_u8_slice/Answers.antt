@@ -1,5 +1,5 @@
 -- The stride of a row is the width of the table in bytes.
-use Rattle.std.proofs.Common.{◌≡◌, ◌*◌, ◌∙◌, ap, sym, subst}
+use Rattle.std.proofs.Common.{◌≡◌, ◌*◌, ◌∙◌, refl, sym, subst}
 use Rattle.v_frame_layout.specs.Table.{width_of}
 use Rattle.v_frame_plane.specs.Plane.{Raster, raster, table_of}
 use Rattle.v_frame_plane.specs.Copy.{Copies, strided_copy, packed_byte_copy}
@@ -21,10 +21,9 @@ returns g c =
     let p : Raster g.row.T.Denot = raster c.self.inside.geometry c.self.inside.buffer in
     let old : Raster g.row.T.Denot = c.args.self.now in
     let new : Raster g.row.T.Denot = c.copy_from_u8_slice_with_stride.new.self in
-    let shown : c.width.result ≡ width_of (table_of p) = c.width.ensures.value ∙ sym (width_of_shown p c.width.ensures.valid.high c.self.invariant.whole) in
-    let wide : c.width.result ≡ width_of (table_of old) = shown ∙ ap (λ (r : Raster g.row.T.Denot). width_of (table_of r)) c.self.view_is in
-    let row : c.width.result * c.BYTES.result ≡ width_of (table_of old) * form.size = ap (λ w. w * c.BYTES.result) wide ∙
-    ap (λ n. width_of (table_of old) * n) (c.BYTES.ensures ∙ g.met.T.Pixel.bytes_of_form) in
+    let wide : c.width.result ≡ width_of (table_of old) =
+    rw (← c.self.view_is) (c.width.ensures.value ∙ sym (width_of_shown p c.width.ensures.valid.high c.self.invariant.whole)) in
+    let row : c.width.result * c.BYTES.result ≡ width_of (table_of old) * form.size = rw (wide, c.BYTES.ensures, g.met.T.Pixel.bytes_of_form) refl in
     let copied : Copies old new c.copy_from_u8_slice_with_stride.result (packed_byte_copy form (table_of old) source) =
     subst (λ stride. Copies old new c.copy_from_u8_slice_with_stride.result (strided_copy form (table_of old) source stride)) row
     c.copy_from_u8_slice_with_stride.ensures.copied in

@@ -1,8 +1,8 @@
 -- The stride decides first, and then the length.
-use Rattle.std.proofs.Common.{◌≡◌, ◌*◌, ◌≤◌, List, length, min, Ok, Err, refl, ap, ◌∙◌, sym, arith}
+use Rattle.std.proofs.Common.{◌≡◌, ◌*◌, ◌≤◌, length, min, Ok, Err, refl, ap, ◌∙◌, sym, arith}
 use Rattle.v_frame_layout.specs.Geometry.{usize_max}
-use Rattle.v_frame_plane.specs.Plane.{Raster, raster, table_of, border_of}
-use Rattle.v_frame_plane.specs.Copy.{CopyOutcome, Copies, strided_copy}
+use Rattle.v_frame_plane.specs.Plane.{Raster, raster, table_of}
+use Rattle.v_frame_plane.specs.Copy.{Copies, strided_copy}
 use Rattle.v_frame_plane.specs.declared.error.CopyError.TheVariants.{DataLength}
 use Rattle.v_frame_plane.proofs.copies.ByteCopies.{asked_is_found, asked_is_other, asked_is_told, refused_by_stride, refused_by_length, accepted}
 use Rattle.std.specs.List.{refill}
@@ -26,8 +26,8 @@ returns-then-stride-width-clause-copied g c =
     let refused = refused_by_stride form p c.args.src.now c.args.stride c.width-width.result c.self.inside.geometry.height c.width-width.ensures.valid.high
     c.self.invariant.whole c.width-width.ensures.value refl (rw (← bytes) c.if-stride-width.true) in
     rw (← c.self.view_is) (record {
-      answer = sym (ap (λ (o : CopyOutcome g.row.T.Denot). o.answer) refused);
-      table = sym (ap (λ (o : CopyOutcome g.row.T.Denot). o.table) refused);
+      answer = rw refused refl;
+      table = rw refused refl;
       border = refl;
       geometry = refl;
       refused = refl;
@@ -47,8 +47,8 @@ returns-then-ne-clause-copied g c =
     let refused = refused_by_length form p c.args.src.now c.args.stride c.width-width.result c.height.result c.width-width.ensures.valid.high
     c.self.invariant.whole c.width-width.ensures.value c.height.ensures.value fits other in
     rw (← c.self.view_is) (record {
-      answer = ap (λ n. Err (DataLength n found)) told ∙ ap (λ (o : CopyOutcome g.row.T.Denot). o.answer) (sym refused);
-      table = ap (λ (o : CopyOutcome g.row.T.Denot). o.table) (sym refused);
+      answer = rw refused (ap (λ n. Err (DataLength n found)) told);
+      table = rw refused refl;
       border = refl;
       geometry = refl;
       refused = refl;
@@ -70,11 +70,9 @@ returns g c =
     let done = accepted form old source c.args.stride k.width k.height c.width-width.ensures.valid.high c.self.invariant.whole refl refl fits (same ∙
     ap (λ n. c.args.stride * n) c.height.ensures.value) in
     let copied : Copies old new (Ok tt) (strided_copy form (table_of old) source c.args.stride) = record {
-      answer = ap (λ (o : CopyOutcome g.row.T.Denot). o.answer) (sym done);
-      table = ap (λ (b : List g.row.T.Denot). table_of (raster k b)) left ∙ c.write_rows.ensures.table ∙
-          ap (λ (o : CopyOutcome g.row.T.Denot). o.table) (sym done);
-      border = ap (λ (b : List g.row.T.Denot). border_of (raster k b)) left ∙ c.write_rows.ensures.border ∙
-          ap (λ (b : List g.row.T.Denot). border_of (raster k b)) entries;
+      answer = rw done refl;
+      table = rw (left, done) c.write_rows.ensures.table;
+      border = rw left (c.write_rows.ensures.border ∙ rw entries refl);
       geometry = refl;
       refused = tt;
     } in

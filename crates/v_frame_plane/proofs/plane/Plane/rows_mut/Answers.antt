@@ -1,6 +1,5 @@
 -- The iterator's slice is the whole buffer, and calls from one end lend what was left, in order.
-use Rattle.std.proofs.Common.{◌≡◌, All, List, length, sym, ◌∙◌, ap, subst}
-use Rattle.std.specs.List.{refill}
+use Rattle.std.proofs.Common.{◌≡◌, refl, sym, ◌∙◌}
 use Rattle.v_frame_plane.specs.Plane.{Raster, raster, table_of}
 use Rattle.v_frame_plane.specs.RowsLeft.{rows_left}
 use Rattle.v_frame_plane.specs.SecondRows.{WritesEachTable}
@@ -11,23 +10,17 @@ use Rattle.v_frame_plane.proofs.plane.Plane.rows_mut.Goals as goal
 
 pub returns : goal.returns
 returns g c =
-    let a = c.self.inside in
-    let p : Raster g.row.T.Denot = raster a.geometry a.buffer in
+    let p : Raster g.row.T.Denot = raster c.self.inside.geometry c.self.inside.buffer in
     let written : WritesEachTable p c.new.result = rw (c.as_mut_slice.ensures.value) at c.new.ensures.written in
     let rows : rows_left c.new.result ≡ table_of p = rw (c.as_mut_slice.ensures.value) at c.new.ensures.rows in
-    let wide : All (λ (row : List g.row.T.Denot). length row ≡ a.geometry.width) (rows_left c.new.result) =
-    rw (rows) (rows_are_wide p c.self.invariant.whole) in (
-      (
-        sym {b = c.as_mut_slice.result.ghost_name} c.new.ensures.same_reference,
-        λ w. ap (λ p. raster p.geometry (refill (length p.buffer) p.buffer w)) c.self.view_is,
-      ),
+    rw (← c.self.view_is) (
+      (sym {b = c.as_mut_slice.result.ghost_name} c.new.ensures.same_reference, λ w. refl),
       record {
         writes_back = tt;
-        slice = c.new.ensures.slice ∙ c.as_mut_slice.ensures.value ∙ ap (λ (p : Raster g.row.T.Denot). p.buffer) c.self.view_is;
-        rows = rows ∙ ap table_of c.self.view_is;
-        written = subst (λ (p : Raster g.row.T.Denot). WritesEachTable p c.new.result) c.self.view_is written;
-        wide = subst (λ (p : Raster g.row.T.Denot). All (λ (row : List g.row.T.Denot). length row ≡
-            p.geometry.width) (rows_left c.new.result)) c.self.view_is wide;
+        slice = c.new.ensures.slice ∙ c.as_mut_slice.ensures.value;
+        rows = rows;
+        written = written;
+        wide = rw rows (rows_are_wide p c.self.invariant.whole);
         countable = c.new.ensures.countable;
         bound = c.new.ensures.bound;
         runs = lends_in_order rows_left;

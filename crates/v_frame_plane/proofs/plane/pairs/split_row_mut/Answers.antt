@@ -1,8 +1,7 @@
 -- The part that is lent is a row of the table, the other all that is behind it, and what is left in the row replaces it.
-use Rattle.std.proofs.Common.{◌≤◌, ◌+◌, ◌++◌, length, take, drop, refl, ap, ◌∙◌, arith, length-drop}
+use Rattle.std.proofs.Common.{◌≤◌, ◌+◌, length, drop, refl, ◌∙◌, arith, length-drop}
 use Rattle.std.proofs.lemmas.List.{take_all}
 use Rattle.v_frame_plane.specs.Plane.{Raster, raster}
-use Rattle.v_frame_layout.specs.Geometry.{place_of}
 use Rattle.v_frame_plane.proofs.tables.RowWrites.{parts_to_the_end, row_at, row_wide, writes_each_front}
 use Rattle.v_frame_plane.proofs.plane.pairs.split_row_mut.Goals as goal
 
@@ -14,9 +13,8 @@ returns g c =
     let start = c.row_start-place.ensures.place in let width = c.width-width.ensures.value in let whole = c.requires.whole.whole in
     let within : s + n ≤ length xs = omega (arith, c.row_start-place.ensures.within, width, whole) in
     let row = row_at p whole y s n lent.0.now c.requires.high start width c.two_parts.ensures.first in
-    let rest = c.two_parts.ensures.second ∙ take_all _ (drop (s + n) xs) (omega (arith, length-drop (s + n) xs)) ∙ ap (λ a. drop (a + n) xs) start ∙
-    ap (λ w. drop (place_of k 0 y + w) xs) width in (
-      ((refl, refl), λ ys zs. parts_to_the_end xs ys zs s n within ∙ ap (λ a. take a xs ++ (ys ++ zs)) start),
+    let rest = c.two_parts.ensures.second ∙ take_all _ (drop (s + n) xs) (omega (arith, length-drop (s + n) xs)) ∙ rw (start, width) refl in (
+      ((refl, refl), λ ys zs. parts_to_the_end xs ys zs s n within ∙ rw start refl),
       record {
         writes_back = tt;
         row = row;
