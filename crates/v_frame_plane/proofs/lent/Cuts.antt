@@ -49,8 +49,8 @@ module _ {M : Type 1} {𝓤 : Ura M} {𝓛 : Logic 𝓤} {K : Type 0} {Γ : List
   pub pointer_on : {τ : Ty} → Rv K 𝓛 Γ E (addr_of (place s (field k ∷ field 0 ∷ deref τ ∷ []))) (vptr b o)
   pointer_on = addr t (from t (fld t lies (fld t refl (hop t (look_in_at t s (sub t 0 refl part)) (stop t)))))
 
-  pub slice_on : {j : ℕ} {r : Share} → at 𝓛 j Γ ≡ ‵ (fat r (spot_of 𝓤 𝓛.H E j).0 (spot_of 𝓤 𝓛.H E j).1 zero (vptr b o))
-      → Rv K 𝓛 Γ E (aggregate (copy (place j []) ∷ copy (place s (field k ∷ field 1 ∷ [])) ∷ [])) (slice_val (b, o) n)
+  pub slice_on : {j b' o' : ℕ} {r : Share} → at 𝓛 j Γ ≡ ‵ (fat r (spot_of 𝓤 𝓛.H E j).0 (spot_of 𝓤 𝓛.H E j).1 zero (vptr b' o'))
+      → Rv K 𝓛 Γ E (aggregate (copy (place j []) ∷ copy (place s (field k ∷ field 1 ∷ [])) ∷ [])) (slice_val (b', o') n)
   slice_on pointer = agg t (and_then t (get t pointer) (and_then t (get_in t (fld t lies (fld t refl (stop t))) (sub t 1 refl part)) (no_more t)))
 
 module _ {M : Type 1} {𝓤 : Ura M} (𝓛 : Logic 𝓤) (at_mem : Memory → SProp 𝓤) (run : Routine → Fun 𝓤) (T : RattleType) where

@@ -1,11 +1,11 @@
 -- `row_mut` tests y and passes on what `visible_row_mut` lends, in a `Some`. Rattle makes no proof where a `&mut [T]` may be lent, so this one follows the
 -- code.
 use Rattle.v_frame_plane.proofs.lent.Steps.{◌≡◌, ◌<◌, ◌≤◌, List, [], ◌∷◌, length, Some, None, lit<, w64, refl, sym, ap, arith, after, Some-of, none_of, proved}
-use Rattle.v_frame_plane.proofs.lent.Steps.{Lft, flent, flft, full_share, ent, id⊢, ◌⊑◌, ⊑_trans, fact, tables, Array, usize, yes, no, shows, mem, param}
+use Rattle.v_frame_plane.proofs.lent.Steps.{Lft, flent, flft, full_share, ent, id⊢, ◌⊑◌, ⊑_trans, fact, tables, Array, usize, yes, no, mem, param}
 use Rattle.v_frame_plane.proofs.lent.Steps.{layouts, param_laws, uint_vals, uint_Tells, RattleType, mut_vals, mut_Tells, plain, MutSlice, slice_val, nothing}
-use Rattle.v_frame_plane.proofs.lent.Steps.{only, peeks, heard, framed, Stays, stay_dropped, Goes-dropped, walk_of, inst_fn, a_type, named, Val, of_list, Ura}
+use Rattle.v_frame_plane.proofs.lent.Steps.{only, heard, framed, Stays, stay_dropped, Goes-dropped, walk_of, inst_fn, a_type, named, Val, of_list, Ura}
 use Rattle.v_frame_plane.proofs.lent.Steps.{alloc_all, pass_all, free_all, look_at, get, through, sets, lands_as, env, ‵, raw, ◌⊛◌, later, at_ret, ◌$◌, ◌∵◌, ! }
-use Rattle.v_frame_plane.proofs.lent.Steps.{qed, done, keep, move, drop, use0, use1, use2, split, await, rewrite, fsplit, fsplit3, fjoin3, fpack, feq_i, feq_l}
+use Rattle.v_frame_plane.proofs.lent.Steps.{qed, done, keep, move, drop, use0, use1, use2, split, await, fsplit, fsplit3, fjoin3, fpack, feq_i, feq_l}
 use Rattle.v_frame_plane.proofs.lent.Steps.{Logic, sem, live, agg, enter, lit, addr, bin, stop, no_more, and_then, first, branches, skips, exec, returns}
 use Rattle.v_frame_plane.proofs.lent.Steps.{returns_within, true, false, slice_get, fres, frame, Incl-refl, ⊑_refl, meet_⊑_right, follows, follows_if}
 use Rattle.v_frame_plane.proofs.lent.Steps.{lends_shr, part_at, ShrRef, shr_vals, Goes-spent_ref, leb→le, nleb→lt, flt_l, lent_back, GName}
@@ -20,7 +20,7 @@ use Rattle.v_frame_layout.specs.Table.{height_of}
 use Rattle.v_frame_plane.specs.Lends.{LendsRow}
 use Rattle.v_frame_plane.specs.contracts.plane.Plane.{the_row}
 use Rattle.v_frame_plane.proofs.plane.Plane.TheLaws.{the_row_laws, the_within}
-use Rattle.v_frame_plane.proofs.lent.CallSteps.{asks_both, asks_that, calls, ends, opened, tells, told}
+use Rattle.v_frame_plane.proofs.lent.CallSteps.{asks_both, asks_that, calls, ends, opened, spelt, tells, told}
 use Rattle.v_frame_plane.proofs.lent.Cuts.{slice_fits}
 use Rattle.v_frame_plane.proofs.lent.Loans.{lft_over, lft_within, share_within}
 use Rattle.v_frame_plane.proofs.tables.Places.{no_row_below}
@@ -104,11 +104,11 @@ row_mut_spec 𝓤 𝓛 𝓜 𝓡 wired T laws =
     (and_then ! (get ! refl) (and_then ! (get ! refl) (no_more !)))
     (λ r ws. ‵ (follows Plane (Array item 0) self.ghost_name r.ghost_name (with_row self.now y)) ∷ raw (fact 𝓤 (slice_get (table_of self.now) y ≡ Some r.now)) ∷
     raw (fact 𝓤 (WritesEachRow self.now y r.now)) ∷ raw (fact 𝓤 (length r.now ≡ self.now.geometry.width)) ∷ []) (λ r ws. id⊢ 𝓤 _) (λ w r ws.
-    peeks ! Row _ (shows 𝓛 Row) r (w ∷ []) (λ is. rewrite ! 0 (λ (vs : List Val). ‵ (Row.own_val r vs)) is.0.0 refl $
+    spelt ! Row (λ s. slice_val s.ref_ptr (length s.now)) (λ _ _ is. is.0.0) r w (λ is_slice is.
     move ! (2 ∷ 3 ∷ 4 ∷ []) $ heard ! _ (λ value. heard ! _ (λ written. heard ! _ (λ wide.
     -- [the row; how the plane ends; the tokens; nothing, twice; the locals]
     let part = slice_val r.ref_ptr (length r.now) in let out = live 1 (of_list (part ∷ [])) in let fits = slice_fits is.0.1.0 in
-    lands_as ! (ap only is.0.0) refl fits $
+    lands_as ! is_slice refl fits $
     sets ! (agg ! (and_then ! (lit ! tt) (and_then ! (get ! refl) (no_more !)))) refl (tt, (record { fits = lit< tt }, (fits.1, tt))) $
     returns ! (look_at ! 0 refl) $ free_all ! refl $ keep ! (1 ∷ 0 ∷ 2 ∷ 3 ∷ []) $
     use1 𝓛 (‵ (LendsRow item self y (Some r))) (such 𝓛 Plane (Array item 0) _ _ (with_row self.now y) self.now _ _ written refl) $

@@ -1,6 +1,6 @@
 -- The part of the buffer that is lent is row y of the table, and a row left there replaces it.
 use Rattle.std.proofs.Common.{◌<◌, Some, refl, sym, ap, ◌∙◌, arith}
-use Rattle.v_frame_plane.specs.Plane.{Raster, raster, with_part, with_row}
+use Rattle.v_frame_plane.specs.Plane.{Raster, raster}
 use Rattle.v_frame_plane.proofs.tables.Kept.{whole_with_part}
 use Rattle.v_frame_plane.proofs.tables.Places.{shown_slice}
 use Rattle.v_frame_plane.proofs.tables.RowWrites.{row_wide, writes_each_row}
@@ -10,18 +10,17 @@ pub returns : goal.returns
 returns g c =
     let p : Raster g.row.T.Denot = raster c.self.inside.geometry c.self.inside.buffer in
     let geometry = ap (λ (r : Raster g.row.T.Denot). r.geometry) c.self.view_is in
-    let start = c.row_start-start.ensures.place in
-    let lent = c.part_mut.result.now in
-    let whole = c.self.invariant.whole in
+    let start = c.row_start-start.ensures.place in let lent = c.part_mut.result.now in let whole = c.self.invariant.whole in
     let high : c.args.y < p.geometry.height = omega (arith, c.requires, ap (λ k. k.height) geometry) in
     let value = sym (shown_slice p c.args.y c.row_start-start.result c.width.result p.buffer high start c.width.ensures.value refl) ∙
-    ap Some (sym c.part_mut.ensures.value) in (
-      (refl, λ w. ap (λ a. raster p.geometry (with_part p.buffer a w)) start ∙ ap (λ r. with_row r c.args.y w) c.self.view_is),
+    ap Some (sym c.part_mut.ensures.value) in
+    rw (← c.self.view_is) (
+      (refl, λ w. rw start refl),
       record {
         writes_back = tt;
-        value = rw (← c.self.view_is) value;
-        written = rw (← c.self.view_is) (writes_each_row p whole c.args.y lent high value);
-        wide = row_wide p whole c.args.y lent value ∙ ap (λ k. k.width) geometry;
+        value = value;
+        written = writes_each_row p whole c.args.y lent high value;
+        wide = row_wide p whole c.args.y lent value;
       },
     )
 
