@@ -2,10 +2,10 @@
 --     splits       the slice goes to the call, and ends as its two parts do.        pointer_on, slice_on     a part is lent on
 --     slice_fits, slices_fit, word_fits     what code stores is well typed.        dropped, lets_go      a part that is not used ends as it is
 --     ends_joined, joins     from what both parts end as, what the slice does.        both_end     that it ends as both parts say
-use Rattle.v_frame_plane.proofs.lent.Steps.{ℕ, ◌≡◌, ◌+◌, ◌^◌, ◌<◌, ◌≤◌, List, [], ◌∷◌, ◌++◌, length, take, list_drop, w64, MutBor, refl, ap, ◌∙◌, Lft, Share}
+use Rattle.v_frame_plane.proofs.lent.Steps.{ℕ, ◌≡◌, ◌+◌, ◌^◌, ◌<◌, ◌≤◌, List, [], ◌∷◌, ◌++◌, length, take, list_drop, w64, MutBor, refl, ap, Lft, Share}
 use Rattle.v_frame_plane.proofs.lent.Steps.{flft, SProp, id⊢, ◌⊑◌, Fun, fact, Array, usize, shows, param, uint_vals, uint_Makes, RattleType, MutSlice}
-use Rattle.v_frame_plane.proofs.lent.Steps.{slice_val, heard, only, owned, peeks, triple_of, Contract, named, Val, of_list, vcons, vnil, vstruct, Memory}
-use Rattle.v_frame_plane.proofs.lent.Steps.{Routine, Ura, Item, Seq, ‵, raw, ◌$◌, drop, feq_l, fpick, fsplit, move, rewrite, use1, Logic, ent, sep, fobs, ◌∵◌}
+use Rattle.v_frame_plane.proofs.lent.Steps.{slice_val, heard, only, owned, peeks, triple_of, Contract, named, Val, vcons, vnil, vstruct, Memory}
+use Rattle.v_frame_plane.proofs.lent.Steps.{Routine, Ura, Item, Seq, ‵, raw, ◌$◌, drop, feq_l, fpick, fsplit, move, rewrite, use1, group, Logic, ent, sep, fobs, ◌∵◌}
 use Rattle.v_frame_plane.proofs.lent.Steps.{ !, qed, done, keep, fsplit3, sem, Fml, both_by, follows_both, vint, vptr, Ty, ty_int, erased, mut, slice_ty, tcons}
 use Rattle.v_frame_plane.proofs.lent.Steps.{tnil, ty_param, ty_ref, ty_struct, SameBelow, TailFrom, Triple, T, Callee, Place, Opd as Operand, call, seq}
 use Rattle.v_frame_plane.proofs.lent.Steps.{Lifetime, WT, has_ty, Calls, Env, Loops, FmC, Post, lands, regoal, runs, Opds, Part as Has, Rv, zero, addr_of}
@@ -84,27 +84,28 @@ module _ {M : Type 1} {𝓤 : Ura M} {𝓛 : Logic 𝓤} {K : Type 0} {Γ : List
       peeks t Slice _ (shows 𝓛 Slice) r.1 vss.1.0 (λ two. rewrite t 0 (λ (us : List Val). ‵ (Slice.own_val r.1 us)) two.0.0 refl $
       move t (2 ∷ []) $ peeks t Slice _ (shows 𝓛 Slice) r.0 vss.0 (λ one. rewrite t 0 (λ (us : List Val). ‵ (Slice.own_val r.0 us)) one.0.0 refl $
       move t (6 ∷ 7 ∷ []) $ heard t _ (λ front. heard t _ (λ back.
-      move t (2 ∷ 3 ∷ 4 ∷ 5 ∷ 6 ∷ 10 ∷ 11 ∷ []) $ drop t $ drop t $ drop t $ drop t $ drop t $ drop t $ drop t $
-      regoal t (λ (u : Val). lands C Λ E d u rest p) (ap only e ∙ ap (λ (us : List Val). vstruct (of_list (us ++ (vss.1.0 ++ [])))) one.0.0 ∙
-      ap (λ (us : List Val). vstruct (of_list (held r.0 ∷ (us ++ [])))) two.0.0) refl $
+      move t (2 ∷ 3 ∷ 4 ∷ 5 ∷ 6 ∷ 10 ∷ 11 ∷ []) $ group t 7 $ drop t $
+      regoal t (λ (u : Val). lands C Λ E d u rest p) (rw (one.0.0, two.0.0) at (ap only e)) refl $
       k r.0 r.1 front back one.0.1.0 two.0.1.0)))))))
 
 module _ {M : Type 1} {𝓤 : Ura M} (𝓛 : Logic 𝓤) (T : RattleType) where
-  abbrev Ends : MutBor (List T.Denot) → List T.Denot → SProp 𝓤
-  Ends x xs = sem 𝓛 (EndsAs T x.ghost_name xs)
+  abbrev Ends : GName → List T.Denot → SProp 𝓤
+  Ends γ xs = sem 𝓛 (EndsAs T γ xs)
+
+  abbrev BothEnd : GName → GName → List T.Denot × List T.Denot → SProp 𝓤
+  BothEnd γ γ' p = sep 𝓤 (Ends γ p.0) (Ends γ' p.1)
 
   -- a slice that is dropped ends as it is
-  pub dropped : (ℓ : Lifetime) (κ : Lft) (x : MutBor (List T.Denot)) (vs : List Val) → ent 𝓤 (sem 𝓛 ((MutSlice ℓ κ T).own_val x vs)) (Ends x x.now)
+  pub dropped : (ℓ : Lifetime) (κ : Lft) (x : MutBor (List T.Denot)) (vs : List Val) → ent 𝓤 (sem 𝓛 ((MutSlice ℓ κ T).own_val x vs)) (Ends x.ghost_name x.now)
   dropped ℓ κ x vs = qed 𝓛 (‵ ((MutSlice ℓ κ T).own_val x vs) ∷ []) ∵ fsplit3 ! $ keep ! (1 ∷ []) $
       rewrite ! 0 (λ (xs : List T.Denot). ‵ (fobs x.ghost_name ((Array T 0).coded.code xs))) (heres_id T x.now) refl $
       use1 𝓛 (‵ (EndsAs T x.ghost_name x.now)) (𝓛.names.obs-res x.ghost_name ((Array T 0).coded.code x.now)) $ done !
 
   -- a slice that was cut ends as its two parts
   pub ends_joined : (whole front back : MutBor (List T.Denot)) (xs ys : List T.Denot) →
-      ent 𝓤 (sep 𝓤 (sem 𝓛 (Joins T whole front back)) (sep 𝓤 (Ends front xs) (Ends back ys))) (Ends whole (xs ++ ys))
+      ent 𝓤 (sep 𝓤 (sem 𝓛 (Joins T whole front back)) (BothEnd front.ghost_name back.ghost_name (xs, ys))) (Ends whole.ghost_name (xs ++ ys))
   unfolding both_by
-  ends_joined whole front back xs ys = at_one 𝓛 (λ (p : List T.Denot × List T.Denot). sep 𝓤 (Ends front p.0) (Ends back p.1)) (λ p. Ends whole (p.0 ++
-      p.1)) (xs, ys)
+  ends_joined whole front back xs ys = at_one 𝓛 (BothEnd front.ghost_name back.ghost_name) (λ p. Ends whole.ghost_name (p.0 ++ p.1)) (xs, ys)
 
 -- the same in steps, over the names of what is lent
 module _ {M : Type 1} {𝓤 : Ura M} {𝓛 : Logic 𝓤} {K : Type 0} {Γ : List (Item 𝓤)} (t : K) (T : RattleType) where
@@ -116,12 +117,11 @@ module _ {M : Type 1} {𝓤 : Ura M} {𝓛 : Logic 𝓤} {K : Type 0} {Γ : List
     pub joins : {γ γ₁ γ₂ : GName} (xs ys : List T.Denot) → Step K 𝓛 (‵ (EndsAs T γ (xs ++ ys)) ∷ Γ) G
         (‵ (follows_both (Array T 0) (Array T 0) (Array T 0) γ γ₁ γ₂ ◌++◌) ∷ ‵ (EndsAs T γ₁ xs) ∷ ‵ (EndsAs T γ₂ ys) ∷ Γ) G
     unfolding both_by
-    joins {γ} {γ₁} {γ₂} xs ys = let Both = List T.Denot × List T.Denot in use3 𝓛 (‵ (EndsAs T γ (xs ++ ys)))
-        (at_one 𝓛 (λ (p : Both). sep 𝓤 (sem 𝓛 (EndsAs T γ₁ p.0)) (sem 𝓛 (EndsAs T γ₂ p.1))) (λ p. sem 𝓛 (EndsAs T γ (p.0 ++ p.1))) (xs, ys))
+    joins {γ} {γ₁} {γ₂} xs ys = use3 𝓛 (‵ (EndsAs T γ (xs ++ ys))) (at_one 𝓛 (BothEnd 𝓛 T γ₁ γ₂) (λ p. Ends 𝓛 T γ (p.0 ++ p.1)) (xs, ys))
 
-  pub both_end : (γ : GName) {γ₁ γ₂ : GName} (F : List T.Denot → List T.Denot → List T.Denot) → ((xs ys : List T.Denot) →
-      Seq K 𝓛 (‵ (EndsAs T γ₁ xs) ∷ ‵ (EndsAs T γ₂ ys) ∷ Γ) (prop (sem 𝓛 (EndsAs T γ (F xs ys)))))
+  pub both_end : (γ : GName) {γ₁ γ₂ : GName} (F : List T.Denot → List T.Denot → List T.Denot)
+      → ((xs ys : List T.Denot) → Seq K 𝓛 (‵ (EndsAs T γ₁ xs) ∷ ‵ (EndsAs T γ₂ ys) ∷ Γ) (prop (Ends 𝓛 T γ (F xs ys))))
       → Seq K 𝓛 Γ (prop (sem 𝓛 (follows_both (Array T 0) (Array T 0) (Array T 0) γ γ₁ γ₂ F)))
   unfolding both_by
-  both_end γ {γ₁} {γ₂} F k = each t (λ (p : List T.Denot × List T.Denot). wand 𝓤 (sep 𝓤 (sem 𝓛 (EndsAs T γ₁ p.0)) (sem 𝓛 (EndsAs T γ₂ p.1)))
-      (sem 𝓛 (EndsAs T γ (F p.0 p.1)))) (λ p. assume t (‵ (EndsAs T γ₁ p.0) ⊛ ‵ (EndsAs T γ₂ p.1)) $ split t $ k p.0 p.1)
+  both_end γ {γ₁} {γ₂} F k = each t (λ p. wand 𝓤 (BothEnd 𝓛 T γ₁ γ₂ p) (Ends 𝓛 T γ (F p.0 p.1))) (λ p.
+      assume t (‵ (EndsAs T γ₁ p.0) ⊛ ‵ (EndsAs T γ₂ p.1)) $ split t $ k p.0 p.1)
