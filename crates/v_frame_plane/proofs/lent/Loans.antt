@@ -9,6 +9,7 @@ use Rattle.v_frame_plane.proofs.lent.Steps.{Ura, Goal, Item, Seq, Soaks, Step, s
 use Rattle.v_frame_plane.proofs.lent.Steps.{move, pick, rewrite, split, use1, use2, use3, Logic, Body, fdead, fres, part_in_at, part_out_at, meet_⊑_left, Is}
 use Rattle.v_frame_plane.proofs.lent.Steps.{lends_ref, ref_back, lone, part_at, lft-common, lft_end, lft_new}
 use base.FractionLaws.{common}
+use denote.Lowered.{Lowered}
 use mir.Raw.{raw as raw_ty}
 
 -- the share that there is of the token of α ∷ κ, for the share q of that of κ
@@ -54,17 +55,16 @@ module _ {M : Type 1} {𝓤 : Ura M} {𝓛 : Logic 𝓤} {K : Type 0} {Γ : List
         move t (1 ∷ []) $ rewrite t 0 (λ (w : Val). ‵ (fat full_share τ b o w)) (spelled u its) refl $ k)))
 
 module _ {M : Type 1} {𝓤 : Ura M} {𝓛 : Logic 𝓤} {K : Type 0} {Γ : List (Item 𝓤)} {G : Goal 𝓤 𝓛.H} where
-  -- a `&mut` to what vs spells is opened: its cell, what it owns, and the open borrow, in three
-  pub opens_self : K → Soaks G → (R : RattleType) (κ : Lft) (q : Share) (self : MutBor R.Denot) (vs : List Val) →
-      ((us : List Val) → Is R self.now us → us ≡ vs) → let b = self.ref_ptr.0 in let o = self.ref_ptr.1 in let code = R.coded.code self.now in
+  -- a `&mut` is opened: its cell, what it owns, and the open borrow, in three
+  pub opens_self : K → Soaks G → (R : RattleType) (κ : Lft) (q : Share) (self : MutBor R.Denot) (low : Lowered R) → let b = self.ref_ptr.0 in
+      let o = self.ref_ptr.1 in let code = R.coded.code self.now in let vs = low.lowered self.now ∷ [] in
       Step K 𝓛 (‵ (cell_at full_share R.mir vs b o) ∷ ‵ (R.own_val self.now vs) ∷ ‵ (fobor κ q (Body (mem R) b o self.ghost_name)) ∷
-      ‵ (fobs self.ghost_name code) ∷
-      ‵ (fauth self.ghost_name code) ∷ Γ) G (‵ ((MutRef (named 0) κ R).own_val self (mut_vals self)) ∷ ‵ (flft κ q) ∷ Γ) G
-  opens_self t z R κ q self vs spelled = step (λ k.
-      let b = self.ref_ptr.0 in let o = self.ref_ptr.1 in
+      ‵ (fobs self.ghost_name code) ∷ ‵ (fauth self.ghost_name code) ∷ Γ) G
+      (‵ ((MutRef (named 0) κ R).own_val self (mut_vals self)) ∷ ‵ (flft κ q) ∷ Γ) G
+  opens_self t z R κ q self low = step (λ k. let b = self.ref_ptr.0 in let o = self.ref_ptr.1 in
       fsplit3 t $ drop t $ opens t z R {h = self.now} b o (λ us. move t (1 ∷ []) $ peeks t R _ (shows 𝓛 R) self.now us (λ is.
-      rewrite t 0 (λ (ws : List Val). ‵ (R.own_val self.now ws)) (spelled us is) refl $
-      rewrite t 1 (λ (ws : List Val). ‵ (cell_at full_share R.mir ws b o)) (spelled us is) refl $ move t (1 ∷ []) $ k)))
+      let e = low.val_is self.now us is in rewrite t 0 (λ (ws : List Val). ‵ (R.own_val self.now ws)) e refl $
+      rewrite t 1 (λ (ws : List Val). ‵ (cell_at full_share R.mir ws b o)) e refl $ move t (1 ∷ []) $ k)))
 
 pub at_one : {M : Type 1} {𝓤 : Ura M} (𝓛 : Logic 𝓤) {H : Type 0} (A B : H → SProp 𝓤) (h : H) → ent 𝓤 (sep 𝓤 (all 𝓤 (λ (x : H). wand 𝓤 (A x) (B x))) (A h)) (B h)
 at_one {𝓤 = 𝓤} 𝓛 {H = H} A B h = let Gives : H → SProp 𝓤 = λ x. wand 𝓤 (A x) (B x) in

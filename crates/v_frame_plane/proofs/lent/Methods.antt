@@ -9,12 +9,13 @@ use Rattle.v_frame_plane.proofs.lent.Steps.{Stays, stay_ref, Goes-ref, walk_of, 
 use Rattle.v_frame_plane.proofs.lent.Steps.{Lfts, Shares, Ty, named, Val, vptr, Ura, Item, Seq, Sq, Step, step, mean, prop, ‵, raw, ◌⊛◌, ◌$◌, ◌∵◌, !, qed, drop}
 use Rattle.v_frame_plane.proofs.lent.Steps.{feq_i, fjoin3, fsplit, keep, move, split, split3, use1, use2, Logic, Body, Go, MachineTables, Running, Model}
 use Rattle.v_frame_plane.proofs.lent.Steps.{Closed, Callee, Fn, Local, Place, Opd as Operand, assign, call, copy, local, place, seq, value_local, Calls, Env}
-use Rattle.v_frame_plane.proofs.lent.Steps.{Loops, FmC, Post, lands, runs, Opds, ftrue, id⊢}
+use Rattle.v_frame_plane.proofs.lent.Steps.{Loops, FmC, Post, lands, runs, and_then, no_more, ftrue, id⊢}
 use denote.Lowered.{Lowered}
 use denote.Signature.{mut_ref_to}
 use mir.Raw.{raw as raw_ty}
 use mir.Syntax.{Body as Code, Rv}
 use prog.Wp.{WpFn}
+use types.Run.{Opd}
 use Rattle.v_frame_plane.proofs.lent.CallSteps.{asks_also, calls, ends, tokens}
 use Rattle.v_frame_plane.proofs.lent.Loans.{comes_back, lends, lft_over, share_within}
 use base.Share
@@ -51,16 +52,16 @@ method body types = record {
 -- the rows of self and of what it gives, at the lifetime of what is lent; what has to outlive that; what it asks of self, and what it says of self, of what
 -- it gives and of self afterwards
 pub record Method {M : Type 1} (𝓤 : Ura M) : Type 2 where
-  pub R : NamedLft → RattleType
-  pub Out : NamedLft → RattleType
+  pub Self : NamedLft → RattleType
+  pub Given : NamedLft → RattleType
   pub lives : Lft
-  pub asks : (ℓ : NamedLft) → (R ℓ).Denot → Item 𝓤
-  pub says : (ℓ : NamedLft) → (R ℓ).Denot → (Out ℓ).Denot → (R ℓ).Denot → Item 𝓤
+  pub asks : (ℓ : NamedLft) → (Self ℓ).Denot → Item 𝓤
+  pub says : (ℓ : NamedLft) → (Self ℓ).Denot → (Given ℓ).Denot → (Self ℓ).Denot → Item 𝓤
 
 module _ {M : Type 1} {𝓤 : Ura M} (m : Method 𝓤) where
   -- the row of self at a caller's lifetimes: that of self, that of what is lent, and T's
   abbrev row : Lfts 3 → RattleType
-  row κs = m.R (named_lft 3 1 tt κs)
+  row κs = m.Self (named_lft 3 1 tt κs)
 
   abbrev pub ended : Ended
   ended = record {
@@ -69,7 +70,7 @@ module _ {M : Type 1} {𝓤 : Ura M} (m : Method 𝓤) where
       outlives = record { long = 1; long_ok = tt; short = named 0; short_ok = tt } ∷ record { long = 2; long_ok = tt; short = named 0; short_ok = tt } ∷
           record { long = 2; long_ok = tt; short = named 1; short_ok = tt } ∷ [];
       params = mut_ref_to (0 ∷ []) tt (plain row) ∷ [];
-      result = plain (λ κs. m.Out (named_lft 3 1 tt κs));
+      result = plain (λ κs. m.Given (named_lft 3 1 tt κs));
     };
     kept = (yes, tt);
   }
@@ -114,26 +115,26 @@ module _ {M : Type 1} {𝓤 : Ura M} (𝓛 : Logic 𝓤) (𝓜 : Model 𝓤 𝓛
 module _ {M : Type 1} {𝓤 : Ura M} {𝓛 : Logic 𝓤} {Γ : List (Item 𝓤)} where
   -- what is given, self in two, the tokens
   pub gives : Go {0} → (m : Method 𝓤) (κs : Lfts 3) (qs : Shares 3) (bounds : Bounds m κs) (self : MutBor (row m κs).Denot) (v : Val) →
-      let ℓ = named_lft 3 1 tt κs in (r : (m.Out ℓ).Denot) (new : (row m κs).Denot)
-      → Step (Go {0}) 𝓛 Γ (prop (mean 𝓛 (m.says ℓ self.now r new))) (‵ ((m.Out ℓ).own_val r (v ∷ [])) ∷ ‵ (fobs self.ghost_name ((row m κs).coded.code new)) ∷
+      let ℓ = named_lft 3 1 tt κs in (r : (m.Given ℓ).Denot) (new : (row m κs).Denot)
+      → Step (Go {0}) 𝓛 Γ (prop (mean 𝓛 (m.says ℓ self.now r new))) (‵ ((m.Given ℓ).own_val r (v ∷ [])) ∷ ‵ (fobs self.ghost_name ((row m κs).coded.code new)) ∷
       ‵ (fbor κs.0 (Body (mem (row m κs)) self.ref_ptr.0 self.ref_ptr.1 self.ghost_name)) ∷ tokens 3 κs qs Γ) (prop (Ends m 𝓛 κs qs bounds self v))
   gives t m κs qs bounds self v r new = step (λ k. move ! (1 ∷ 2 ∷ []) $ feq_i ! (List Val) (mut_vals self) (mut_vals self) refl $ fjoin3 ! $
       ends ! (2 ∷ 3 ∷ 4 ∷ 0 ∷ 1 ∷ []) (ended m) (stayed m) (clauses m 𝓛) ((κs, qs, bounds, (self, tt), (mut_vals self, tt)), tt) v r (new, tt) (tt, tt) refl $
       k)
 
 module _ {M : Type 1} {𝓤 : Ura M} {𝓛 : Logic 𝓤} {K : Type 0} {Γ : List (Item 𝓤)} {E : Env 𝓤 𝓛.H} {C : Calls 𝓤 𝓛.H} {Λ : Loops 𝓤 𝓛.H} {p : Post 𝓤 𝓛.H} {f :
-    Callee} {xs : List Operand} {d : Place} {rest : Code} where
+    Callee} {x : Operand} {d : Place} {rest : Code} where
   -- τ is the type of the cell, as the machine has it
   pub calls_self : K → FmC 𝓤 𝓛.H 𝓛.laws C → (m : Method 𝓤) → Met m 𝓛 (C f) → (κ κT : Lft) (q qT : Share) → κ ⊑ κT → κT ⊑ m.lives →
-      let ℓ : NamedLft = record { mir = named 1; lft = κ } in let R = m.R ℓ in
+      let ℓ : NamedLft = record { mir = named 1; lft = κ } in let R = m.Self ℓ in
       (low : Lowered R) → R.mir ≡ lone R.mir ∷ [] → (τ : Ty) → raw_ty τ ≡ raw_ty (lone R.mir) → (old : R.Denot) (b o : ℕ) →
-      ent 𝓤 (emp 𝓤) (mean 𝓛 (m.asks ℓ old)) → ((i j l : Item 𝓤) → Opds K 𝓛 (i ∷ j ∷ l ∷ Γ) E xs (vptr b o ∷ [])) →
-      ((v : Val) (r : (m.Out ℓ).Denot) (new : R.Denot) → Seq K 𝓛 (‵ (fat full_share τ b o (low.lowered new)) ∷ ‵ (R.own_val new (low.lowered new ∷ [])) ∷
-      ‵ (flft κ q) ∷ ‵ (flft κT qT) ∷ ‵ ((m.Out ℓ).own_val r (v ∷ [])) ∷ m.says ℓ old r new ∷ Γ) (lands C Λ E d v rest p))
+      ent 𝓤 (emp 𝓤) (mean 𝓛 (m.asks ℓ old)) → ((i j l : Item 𝓤) → Opd K 𝓛 (i ∷ j ∷ l ∷ Γ) E x (vptr b o)) →
+      ((v : Val) (r : (m.Given ℓ).Denot) (new : R.Denot) → Seq K 𝓛 (‵ (fat full_share τ b o (low.lowered new)) ∷ ‵ (R.own_val new (low.lowered new ∷ [])) ∷
+      ‵ (flft κ q) ∷ ‵ (flft κT qT) ∷ ‵ ((m.Given ℓ).own_val r (v ∷ [])) ∷ m.says ℓ old r new ∷ Γ) (lands C Λ E d v rest p))
       → Seq K 𝓛 (‵ (fat full_share τ b o (low.lowered old)) ∷ ‵ (R.own_val old (low.lowered old ∷ [])) ∷ ‵ (flft κ q) ∷ ‵ (flft κT qT) ∷ Γ)
-      (runs C Λ E (seq (call f xs d) rest) p)
-  calls_self t run m met κ κT q qT inside inT low one τ same old b o holds os k =
-      let ℓ : NamedLft = record { mir = named 1; lft = κ } in let R = m.R ℓ in
+      (runs C Λ E (seq (call f (x ∷ []) d) rest) p)
+  calls_self t run m met κ κT q qT inside inT low one τ same old b o holds reads k =
+      let ℓ : NamedLft = record { mir = named 1; lft = κ } in let R = m.Self ℓ in
       move t (2 ∷ []) $ use1 𝓛 (‵ (flft κ (Share.left q)) ⊛ ‵ (flft κ (Share.right q))) (𝓛.lfts.lft_split κ q) $ split t $ move t (2 ∷ 3 ∷ 0 ∷ []) $
       lends t tt R one τ same κ (Share.left q) old b o (low.lowered old) (λ α γ. let κc : Lft = α ∷ κ in let in_c = meet_⊑_right (α ∷ []) κ in
       let self : MutBor R.Denot = record { ref_ptr = (b, o); ghost_name = γ; now = old } in let κs : Lfts 3 = (κc, (κ, (κT, tt))) in
@@ -141,7 +142,7 @@ module _ {M : Type 1} {𝓤 : Ura M} {𝓛 : Logic 𝓤} {K : Type 0} {Γ : List
       let bounds : Bounds m κs = (in_c, (⊑_trans κc κ κT in_c inside, (inside, tt))) in
       -- [self, lent; what its lender keeps; the token of the loan; the way back; the tokens of κ and κT]
       calls t (2 ∷ 4 ∷ 5 ∷ 0 ∷ []) run (ended m) (clauses m 𝓛) met ((κs, qs, bounds, (self, tt), (vptr b o ∷ [], tt)), tt) (asks_also 𝓤 inT holds) refl
-      (os _ _ _) (λ r ws. m.says ℓ old r ws.0 ∷ []) (λ r ws. id⊢ 𝓤 _) (λ v r ws. let new = ws.0 in
+      (and_then t (reads _ _ _) (no_more t)) (λ r ws. m.says ℓ old r ws.0 ∷ []) (λ r ws. id⊢ 𝓤 _) (λ v r ws. let new = ws.0 in
       -- [what is given; what is said; the tokens of the loan, of κ and of κT; the last value; what the lender keeps; the way back]
       move t (2 ∷ 7 ∷ []) $ lft_over t tt α κ (Share.left q) $ move t (1 ∷ 4 ∷ []) $ use2 𝓛 (‵ (flft κ q)) (𝓛.lfts.lft_join κ q) $
       move t (5 ∷ []) $ fsplit t $ move t (3 ∷ 7 ∷ 0 ∷ []) $

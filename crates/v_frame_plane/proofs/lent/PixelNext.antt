@@ -37,9 +37,9 @@ use Rattle.v_frame_plane.proofs.lent.Methods.{Ends, Met, calls_self, gets, gives
 use Rattle.v_frame_plane.proofs.rows_mut.RowsMut.TheLaws.{lowers as rows_lowers}
 use Rattle.std.specs.contracts.option.Option as Opt
 
--- the code, of the names that it has for what a call gives, for self, for its rows and for a pair, of the types of self, of its rows and of an entry, and of
--- the functions that it calls
-module _ (option self rows pair : Sym) (kept lent entry : Ty) (s : Side) (drawing taking cutting : Callee) where
+-- the code and its proof, over the code's names for what a call gives, self, its rows and a pair, the types of self, its rows and an entry, and what it calls
+module _ {M : Type 1} {𝓤 : Ura M} (𝓛 : Logic 𝓤) (𝓜 : Model 𝓤 𝓛.H) (𝓡 : Running 𝓤 𝓛.H 𝓜) (T : RattleType) (laws : Laws T) (s : Side)
+    (option self rows pair : Sym) (kept lent entry : Ty) (drawing taking cutting : Callee) where
   abbrev Self : Ty
   Self = Walk self rows
 
@@ -80,30 +80,27 @@ module _ (option self rows pair : Sym) (kept lent entry : Ty) (s : Side) (drawin
       given part ∷ by_ref lent ∷ pixel ∷ part ∷ part ∷ by_ref part ∷ ty_struct pair (tcons pixel (tcons part tnil)) ∷ part ∷ by_ref part ∷ pixel ∷ part ∷
       pixel ∷ [])
 
-module _ {M : Type 1} {𝓤 : Ura M} (𝓛 : Logic 𝓤) (𝓜 : Model 𝓤 𝓛.H) (𝓡 : Running 𝓤 𝓛.H 𝓜) (T : RattleType) (laws : Laws T) (s : Side) where
   abbrev 𝓣 : MachineTables 𝓤 𝓛.H 𝓜
   𝓣 = tables 𝓤 𝓛.H 𝓜 𝓡 𝓡.env
 
-  pub meets : (option self rows pair : Sym) (kept lent entry : Ty) (drawing taking cutting key : Callee) → Met (row_draw 𝓤 T s) 𝓛 (𝓣.C drawing) →
-      IsTake 𝓛 𝓜.mem 𝓡.returns T (𝓣.C taking) → Triple 𝓤 (𝓣.C cutting) (Cut 𝓛 T s) →
-      Closed 𝓤 𝓛.H 𝓣.C 𝓣.Λ key (code option self rows pair kept lent entry s drawing taking cutting) → Met (pixel_draw 𝓤 T s) 𝓛 (𝓣.C key)
-  meets option self' rows' pair kept lent entry drawing taking cutting key draw_meets take_meets cut_meets closed =
+  pub meets : (key : Callee) → Met (row_draw 𝓤 T s) 𝓛 (𝓣.C drawing) → IsTake 𝓛 𝓜.mem 𝓡.returns T (𝓣.C taking) → Triple 𝓤 (𝓣.C cutting) (Cut 𝓛 T s) →
+      Closed 𝓤 𝓛.H 𝓣.C 𝓣.Λ key code → Met (pixel_draw 𝓤 T s) 𝓛 (𝓣.C key)
+  meets key draw_meets take_meets cut_meets closed =
       let item = param 0 T in let m = pixel_draw 𝓤 T s in let run = framed 𝓤 𝓛.H 𝓜 𝓣 in
-      let function = code option self' rows' pair kept lent entry s drawing taking cutting in
-      meets_by 𝓛 𝓜 𝓡 m key function closed (λ κs qs bounds self inT.
+      meets_by 𝓛 𝓜 𝓡 m key code closed (λ κs qs bounds self inT.
       let κ = κs.0 in let q = qs.0 in let κa = κs.1.0 in let qa = qs.1.0 in let κT = κs.1.1.0 in let qT = qs.1.1.0 in let aT = bounds.1.1.0 in
       let ℓ = named_lft 3 1 tt κs in let Row = the_row ℓ item in let Pixel = MutRef (named 1) κa item in let inA = ⊑_trans κa κT T.lives aT inT in
       let b = self.ref_ptr.0 in let o = self.ref_ptr.1 in let h = self.now in let Post = Ends m 𝓛 κs qs bounds self in
       drop ! $ enter ! _ _ _ _ _ $ alloc_all ! (λ l. pass_all ! refl ((tt, tt), tt) $
-      opens_self ! tt Row κ q self (lowered h ∷ []) ((lowers ℓ item (param_laws 0 T laws)).val_is h) $
-      let En = env function.locals l in let draw = draws option self' rows' pair kept lent entry s drawing taking cutting in
+      opens_self ! tt Row κ q self (lowers ℓ item (param_laws 0 T laws)) $
+      let En = env code.locals l in
       -- self's cell; what it owns; the open borrow, in three; the tokens of κa and κT; that the pixels are kept; the locals
       let Now : PixelsMut T.Denot → List (Item 𝓤) = λ w. ‵ (fat full_share Bare b o (lowered w)) ∷ ‵ (Row.own_val w (lowered w ∷ [])) ∷
       ‵ (fobor κ q (Borrow (mem Row) b o self.ghost_name)) ∷ ‵ (fobs self.ghost_name (Row.coded.code h)) ∷ ‵ (fauth self.ghost_name (Row.coded.code h)) ∷
       ‵ (flft κa qa) ∷ ‵ (flft κT qT) ∷ ‵ (KeepsPixels item h w) ∷ holding 𝓛 En ((1, vptr b o) ∷ []) in
       -- the row that was begun is as it was, or another one
       let goes_on : (w : PixelsMut T.Denot) → pixels_left w ≡ pixels_left h → (length (near s w).now ≡ 0 → pixels_left w ≡ []) →
-      Sq 𝓛 (Now w) (runs 𝓣.C 𝓣.Λ En draw (at_ret En Post)) = λ w left begun. well_typed ! (λ ok.
+      Sq 𝓛 (Now w) (runs 𝓣.C 𝓣.Λ En draws (at_ret En Post)) = λ w left begun. well_typed ! (λ ok.
       sets ! (near_len ! s w refl (whole !)) refl (tt, near_fits s w ok) $ sets ! (bin ! (get ! refl) (lit ! tt) tt) refl (tt, tt) $
       first ! $ branches ! (get ! refl)
       -- nothing is left
@@ -117,7 +114,7 @@ module _ {M : Type 1} {𝓤 : Ura M} (𝓛 : Logic 𝓤) (𝓜 : Model 𝓤 𝓛
       frame ! $ tells ! (yields_none h w s left (begun (eqb→eq (length (near s w).now) 0 empty))) $ told ! (rests h w left))
       -- the pixel is cut off
       (λ test. let x = near s w in let rows = rows_lowered w.rows in let other = slice_of (far s w) in let some_left = some_left (length x.now) test in
-      skips ! $ exec ! 𝓣.C 𝓣.Λ En (cuts option self' rows' pair kept lent entry s drawing taking cutting) (at_ret En Post) $
+      skips ! $ exec ! 𝓣.C 𝓣.Λ En cuts (at_ret En Post) $
       move ! (1 ∷ []) $ sides ! tt s ℓ T laws w (λ fits _.
       sets ! (addr ! (near_place ! s refl)) refl (tt, tt) $
       move ! (3 ∷ []) $ rewrite ! 0 (λ u. ‵ (fat full_share Bare b o u)) (by_sides s w rows) refl $
@@ -161,7 +158,7 @@ module _ {M : Type 1} {𝓤 : Ura M} (𝓛 : Logic 𝓤) (𝓜 : Model 𝓤 𝓛
       first ! $ branches ! (get ! refl)
       -- where the row has no pixel the next one is begun
       (λ is_empty. let none = eqb→eq (length (near s h).now) 0 is_empty in let x = near s h in let y = far s h in
-      let Then = any_q (after_seq 𝓤 𝓛.H (Wp 𝓤 𝓛.H 𝓣.C 𝓣.Λ En draw (post 𝓤 𝓛.H (at_ret En Post))) (post 𝓤 𝓛.H (at_ret En Post))) in
+      let Then = any_q (after_seq 𝓤 𝓛.H (Wp 𝓤 𝓛.H 𝓣.C 𝓣.Λ En draws (post 𝓤 𝓛.H (at_ret En Post))) (post 𝓤 𝓛.H (at_ret En Post))) in
       sets ! (addr ! (through ! refl (fld ! refl (stop !)))) refl (tt, tt) $
       move ! (1 ∷ []) $ sides ! tt s ℓ T laws h (λ _ far_fits. move ! (3 ∷ []) $
       use1 𝓛 (‵ (fat full_share RowsBare b (o + rows_offset) (rows_lowered h.rows)) ⊛
@@ -169,7 +166,7 @@ module _ {M : Type 1} {𝓤 : Ura M} (𝓛 : Logic 𝓤) (𝓜 : Model 𝓤 𝓛
       (rows_out 𝓛 b o (slice_of h.front) (rows_lowered h.rows) (slice_of h.back)) $ split ! $
       -- [the rows' cell; the way back; this end; what the rows own; the other end; the open borrow; the tokens of κa and κT; the locals]
       move ! (0 ∷ 3 ∷ 8 ∷ 9 ∷ []) $ calls_self ! run (row_draw 𝓤 T s) draw_meets κa κT qa qT aT inT (rows_lowers ℓ item (param_laws 0 T laws)) refl RowsBare refl
-      h.rows b (o + rows_offset) (id⊢ 𝓤 _) (λ _ _ _. and_then ! (get ! refl) (no_more !)) (λ v r rows. let ns = rows_lowered rows in
+      h.rows b (o + rows_offset) (id⊢ 𝓤 _) (λ _ _ _. get ! refl) (λ v r rows. let ns = rows_lowered rows in
       -- [the rows' cell; what they own; the tokens of κa and κT; the row; what the call says; the way back; this end; the other end; the open borrow; the
       -- locals]
       move ! (0 ∷ 6 ∷ []) $ use2 𝓛 (‵ (fat full_share Bare b o (self_of (slice_of h.front) ns (slice_of h.back))))
@@ -184,7 +181,7 @@ module _ {M : Type 1} {𝓤 : Ura M} (𝓛 : Logic 𝓤) (𝓜 : Model 𝓤 𝓛
       rewrite ! 1 (λ (r : Option (MutBor (List T.Denot))). ‵ (LendsRow s item h.rows r rows)) gone refl $
       lands_as ! out refl (tt, (record { fits = lit< tt }, tt)) $
       switches_on ! (get_tag ! (vrt ! refl (fld ! refl (stop !))) (whole !)) $
-      exec ! 𝓣.C 𝓣.Λ En (not_drawn option self' rows' pair kept lent entry s drawing taking cutting) Then $
+      exec ! 𝓣.C 𝓣.Λ En not_drawn Then $
       sets ! (addr ! (near_place ! (other s) refl)) refl (tt, tt) $
       move ! (2 ∷ []) $ use1 𝓛 (‵ (fat full_share word b (o + offset (other s)) (slice_of y)) ⊛
       raw (Around 𝓛 b o word (offset (other s)) (λ u. whole_by s (slice_of x) ns u))) (far_out 𝓛 b o (slice_of x) ns (slice_of y) s) $ split ! $
@@ -201,7 +198,7 @@ module _ {M : Type 1} {𝓤 : Ura M} (𝓛 : Logic 𝓤) (𝓜 : Model 𝓤 𝓛
       use1 𝓛 (‵ (fat full_share (Named ℓ item) b o left)) (as_named 𝓛 b o ℓ item left) $
       assigns_last ! (of_opd ! (get ! refl)) (near_place ! s refl)
       (store_in ! 0 (near_part ! s ℓ item (slice_of x) ns (slice_val e.ref_ptr 0) (whole !)) (slice_fits far_fits)) $
-      exec ! 𝓣.C 𝓣.Λ En draw (at_ret En Post) $
+      exec ! 𝓣.C 𝓣.Λ En draws (at_ret En Post) $
       rewrite ! 0 (λ (xs : List T.Denot). ‵ (fat full_share (Named ℓ item) b o (whole_by s (slice_of y) ns (slice_val e.ref_ptr (length xs)))))
       (sym empty) refl $
       rewrite ! 1 (λ (xs : List T.Denot). ‵ ((MutSlice (named 1) κa item).own_val e (slice_val e.ref_ptr (length xs) ∷ []))) (sym empty) refl $
@@ -221,17 +218,17 @@ module _ {M : Type 1} {𝓤 : Ura M} (𝓛 : Logic 𝓤) (𝓜 : Model 𝓤 𝓛
       -- [self's cell; what the iterator keeps; the row; what the rows own; the tokens of κa and κT; the other end; the open borrow; the locals]
       lands_as ! out refl (tt, (record { fits = lit< tt }, ((tt, (record { fits = row_fits }, tt)), tt))) $
       switches_on ! (get_tag ! (vrt ! refl (fld ! refl (stop !))) (whole !)) $
-      exec ! 𝓣.C 𝓣.Λ En (drawn option self' rows' pair kept lent entry s drawing taking cutting) Then $
+      exec ! 𝓣.C 𝓣.Λ En drawn Then $
       sets ! (of_opd ! (get_in ! (vrt ! refl (fld ! refl (stop !))) (in_variant ! 1 0 refl refl (whole !)))) refl (slice_fits row_fits) $
       sets ! (addr ! (from ! (fld ! refl (hop ! (look_in_at ! 2 (sub ! 0 refl (whole !))) (stop !))))) refl (tt, tt) $
       sets ! (agg ! (and_then ! (get ! refl) (and_then ! (get_in ! (fld ! refl (stop !)) (sub ! 1 refl (whole !))) (no_more !)))) refl (slice_fits row_fits) $
       assigns_last ! (of_opd ! (get ! refl)) (near_place ! s refl)
       (store_in ! 0 (near_part ! s ℓ item (slice_of x) ns (slice_of y) (whole !)) (slice_fits row_fits)) $
-      exec ! 𝓣.C 𝓣.Λ En draw (at_ret En Post) $
+      exec ! 𝓣.C 𝓣.Λ En draws (at_ret En Post) $
       move ! (2 ∷ 3 ∷ 6 ∷ 0 ∷ []) $ joins_by ! s ℓ T b o row rows y (begun_countable h rows row s is) $
       move ! (0 ∷ 1 ∷ 5 ∷ 6 ∷ 7 ∷ 3 ∷ 4 ∷ []) $ forget_but ! En (1 ∷ []) refl $
       goes_on new (begun_left h rows row s is none) (begun_full h rows row s is))))))
       (λ test.
-      skips ! $ exec ! 𝓣.C 𝓣.Λ En draw (at_ret En Post) $ use0 𝓛 (‵ (KeepsPixels item h h)) (keeps_same 𝓛 item h) $
+      skips ! $ exec ! 𝓣.C 𝓣.Λ En draws (at_ret En Post) $ use0 𝓛 (‵ (KeepsPixels item h h)) (keeps_same 𝓛 item h) $
       move ! (1 ∷ 2 ∷ 3 ∷ 4 ∷ 5 ∷ 6 ∷ 7 ∷ []) $ forget_but ! En (1 ∷ []) refl $
       goes_on h refl (λ none. let some = some_left (length (near s h).now) test in absurd (omega (arith, some, none)))))))

@@ -12,7 +12,7 @@ use Rattle.v_frame_plane.proofs.lent.Steps.{ty_param, ty_ref, ty_struct, Gv, T, 
 use Rattle.v_frame_plane.proofs.lent.Steps.{Part, Finds, Rv, raw, ◌⊛◌, unit, MutRef}
 use Rattle.v_frame_plane.proofs.lent.PixelMemory.{Around, Bare, Named, back_out, joins_pixels, front_out, lowered, parts, whole}
 use Rattle.v_frame_plane.proofs.lent.Sides.{Side, at_front, at_back, at_side, slot, other, offset, near, far, put, Countable, walk_by, Steps, Yields, YieldsRow}
-use Rattle.v_frame_plane.proofs.lent.Sides.{LendsRow, Takes, Lends}
+use Rattle.v_frame_plane.proofs.lent.Sides.{LendsRow, Takes, Lends, by_side}
 use Rattle.v_frame_plane.specs.{PixelsLeft.pixels_left, RowsLeft.rows_left, SecondPixels.KeepsPixels, contracts.pixels_mut.PixelsMut.the_row}
 use Rattle.v_frame_plane.specs.{declared.pixels_mut.PixelsMut.PixelsMut, declared.rows_mut.RowsMut.RowsMut}
 use Rattle.v_frame_plane.proofs.lent.{Methods.Method, RowMemory.Numbers, RowMemory.lowered as rows_lowered, RowMemory.slice_of, Taken.Slice, Taken.word}
@@ -25,8 +25,7 @@ abbrev pub whole_by : Side → Val → Val → Val → Val
 whole_by s near rows far = whole (at_side s near far) rows (at_side s far near)
 
 pub near_fits : (s : Side) {X : Type 0} (walk : PixelsMut X) → T (has_ty Bare (lowered walk)) × WT (lowered walk) → Fits w64 (length (near s walk).now)
-near_fits at_front walk ok = ok.1.0.1.0
-near_fits at_back walk ok = ok.1.1.1.0.1.0
+near_fits s walk ok = by_side (λ e. Fits w64 (length (near e walk).now)) ok.1.0.1.0 ok.1.1.1.0.1.0 s
 
 module _ {M : Type 1} {𝓤 : Ura M} (𝓛 : Logic 𝓤) (T : RattleType) (s : Side) where
   abbrev pub cut_clauses : Clauses 𝓤 (cut_first.ended T)
@@ -41,8 +40,8 @@ module _ {M : Type 1} {𝓤 : Ura M} (𝓛 : Logic 𝓤) (T : RattleType) (s : S
 module _ {M : Type 1} (𝓤 : Ura M) (T : RattleType) (s : Side) where
   abbrev pub row_draw : Method 𝓤
   row_draw = record {
-    R = λ ℓ. rows_mut.the_row ℓ (param 0 T);
-    Out = λ ℓ. Opt.the_row (MutSlice ℓ.mir ℓ.lft (param 0 T));
+    Self = λ ℓ. rows_mut.the_row ℓ (param 0 T);
+    Given = λ ℓ. Opt.the_row (MutSlice ℓ.mir ℓ.lft (param 0 T));
     lives = T.lives;
     asks = λ _ _. ‵ ftrue;
     says = λ _ old row new. ‵ (LendsRow s (param 0 T) old row new) ⊛ raw (fact 𝓤 (YieldsRow s old row new)) ⊛
@@ -51,8 +50,8 @@ module _ {M : Type 1} (𝓤 : Ura M) (T : RattleType) (s : Side) where
 
   abbrev pub pixel_draw : Method 𝓤
   pixel_draw = record {
-    R = λ ℓ. the_row ℓ (param 0 T);
-    Out = λ ℓ. Opt.the_row (MutRef ℓ.mir ℓ.lft (param 0 T));
+    Self = λ ℓ. the_row ℓ (param 0 T);
+    Given = λ ℓ. Opt.the_row (MutRef ℓ.mir ℓ.lft (param 0 T));
     lives = T.lives;
     asks = λ _ _. ‵ ftrue;
     says = λ _ old pixel new. ‵ (Lends s (param 0 T) old pixel new) ⊛ raw (fact 𝓤 (Yields s old pixel new)) ⊛

@@ -1,12 +1,12 @@
 -- `next` and `next_back` of an iterator that lends rows, of which `s` is the one end: the slice is cut where the row next to that end begins and where it ends,
 -- and what lies towards the other end is kept. A `&mut` in a field of self no generated proof follows, so this one follows the code. Assumes `Logic`.
-use Rattle.v_frame_plane.proofs.lent.Steps.{param_laws, ℕ, ◌≡◌, ◌+◌, ◌-◌, ◌*◌, ◌^◌, ◌<◌, List, [], ◌∷◌, length, Some, None, MutBor, lit<, w64, Val, fat}
-use Rattle.v_frame_plane.proofs.lent.Steps.{slice_val, vcons, vstruct, refl, ap, ◌∙◌, arith, length-drop, Some-of, none_of, full_share, id⊢, ◌⊑◌, ⊑_trans, fact}
+use Rattle.v_frame_plane.proofs.lent.Steps.{param_laws, ℕ, ◌≡◌, ◌+◌, ◌-◌, ◌*◌, ◌^◌, ◌<◌, List, [], ◌∷◌, length, Some, None, lit<, w64, Val, fat}
+use Rattle.v_frame_plane.proofs.lent.Steps.{slice_val, vcons, vstruct, refl, ap, ◌∙◌, arith, length-drop, Some-of, none_of, full_share, id⊢, ⊑_trans, fact}
 use Rattle.v_frame_plane.proofs.lent.Steps.{tables, param, named_lft, MutSlice, usize, uint_vals, uint_Makes, closes, owned, heard, only, framed, eqb→eq, named}
 use Rattle.v_frame_plane.proofs.lent.Steps.{mut, erased, of_list, vint, alloc_all, env, free_all, get, get_in, lands_as, look_at, look_in_at, pass_all, sets}
 use Rattle.v_frame_plane.proofs.lent.Steps.{through, ‵, raw, at_ret, ◌$◌, !, drop, feq_l, fsplit, move, use0, use1, use3, step, Step, Goal, Item, live, agg}
 use Rattle.v_frame_plane.proofs.lent.Steps.{look_in, sub, whole, addr, and_then, assigns, bin, branches, enter, exec, first, fld, from, hop, lit, load, no_more}
-use Rattle.v_frame_plane.proofs.lent.Steps.{of_opd, returns, returns_within, skips, stop, well_typed, RattleType, Laws, Logic, Ura, Ty, Lft, slice_ty, tcons}
+use Rattle.v_frame_plane.proofs.lent.Steps.{of_opd, returns, returns_within, skips, stop, well_typed, RattleType, Laws, Logic, Ura, Ty, slice_ty, tcons}
 use Rattle.v_frame_plane.proofs.lent.Steps.{tnil, ty_int, ty_param, ty_ref, ty_struct, MachineTables, Running, Meets, Triple, Callee, Fn, Place, Opd as Operand}
 use Rattle.v_frame_plane.proofs.lent.Steps.{Sym, addr_of, aggregate, assign, cond, copy, deref, eq, field, int, op2, place, return, rv_opd, seq, skip, ttcons}
 use Rattle.v_frame_plane.proofs.lent.Steps.{ttnil, ty_bool, ty_enum, unsigned, w8, Model, Closed, Env, Spot, flt_l, Finds, store_raw, subst, sym, frame, Args}
@@ -20,7 +20,7 @@ use Rattle.v_frame_plane.proofs.lent.Cuts.{Split, dropped, splits, slice_fits, s
 use Rattle.v_frame_plane.proofs.lent.Methods.{Ends, Met, gets, gives, in_order, meets_by, method, set, value}
 use Rattle.v_frame_plane.proofs.lent.RowDraws.{Cut, draws, inside, is_place, left, moves_on, none_left, number, number_fits, place_of, some_left, start_of}
 use Rattle.v_frame_plane.proofs.lent.RowDraws.{stays}
-use Rattle.v_frame_plane.proofs.lent.Sides.{Side, at_front, at_back, at_side, LendsRow}
+use Rattle.v_frame_plane.proofs.lent.Sides.{Side, at_front, at_back, at_side, by_side, LendsRow}
 use Rattle.v_frame_plane.specs.{SecondRows.EndsAs}
 use Rattle.v_frame_plane.proofs.lent.{Loans.opens_self, PixelSides.part, PixelSides.row_draw, RowLoans.leaves_none, RowLoans.leaves_row, Taken.IsTake}
 use Rattle.v_frame_plane.proofs.{rows_mut.RowsMut.TheLaws.lowers}
@@ -28,9 +28,25 @@ use Rattle.std.specs.contracts.option.Option as Opt
 use Rattle.v_frame_plane.specs.contracts.rows_mut.RowsMut as rows_mut
 use Rattle.v_frame_plane.specs.contracts.rows_mut.row_place
 
--- the code, of the names that it has for what a call gives, for self and for two parts, of the types of self and of an entry, and of the functions that it
--- calls
-module _ (option self pair : Sym) (kept entry : Ty) (s : Side) (placing taking splitting : Callee) where
+-- what code reads by side
+module _ {M : Type 1} {𝓤 : Ura M} {𝓛 : Logic 𝓤} {K : Type 0} {Γ : List (Item 𝓤)} {E : Env 𝓤 𝓛.H} where
+  opd_by : (s : Side) (v : Side → Val) {x y : Operand} → Opd K 𝓛 Γ E x (v at_front) → Opd K 𝓛 Γ E y (v at_back) → Opd K 𝓛 Γ E (at_side s x y) (v s)
+  opd_by s v {x} {y} front back = by_side (λ e. Opd K 𝓛 Γ E (at_side e x y) (v e)) front back s
+
+  finds_by : (s : Side) (v : Side → Spot 𝓤 𝓛.H) {x y : Place} → Finds K 𝓛 Γ E x (v at_front) → Finds K 𝓛 Γ E y (v at_back)
+      → Finds K 𝓛 Γ E (at_side s x y) (v s)
+  finds_by s v {x} {y} front back = by_side (λ e. Finds K 𝓛 Γ E (at_side e x y) (v e)) front back s
+
+module _ {M : Type 1} {𝓤 : Ura M} {𝓛 : Logic 𝓤} {K : Type 0} {X : Type 0} {Γ : List (Item 𝓤)} {G : Goal 𝓤 𝓛.H} where
+  -- what is kept, and then the other one
+  kept_first : K → (s : Side) (Own : X → Item 𝓤) (behind before : X) → Step K 𝓛 (Own (at_side s behind before) ∷ Own (at_side s before behind) ∷ Γ) G
+      (Own behind ∷ Own before ∷ Γ) G
+  kept_first t at_front Own behind before = step (λ k. k)
+  kept_first t at_back Own behind before = step (λ k. move t (1 ∷ 0 ∷ []) $ k)
+
+-- the code and its proof, over the code's names for what a call gives, self and two parts, the types of self and of an entry, and the functions that it calls
+module _ {M : Type 1} {𝓤 : Ura M} (𝓛 : Logic 𝓤) (𝓜 : Model 𝓤 𝓛.H) (𝓡 : Running 𝓤 𝓛.H 𝓜) (T : RattleType) (laws : Laws T) (s : Side)
+    (option self pair : Sym) (kept entry : Ty) (placing taking splitting : Callee) where
   abbrev Self : Ty
   Self = ty_struct self (tcons part Numbers)
 
@@ -66,46 +82,21 @@ module _ (option self pair : Sym) (kept entry : Ty) (s : Side) (placing taking s
       number ∷ number ∷ number ∷ number ∷ number ∷ number ∷ parts ∷ parts ∷ ty_bool ∷ part ∷ ty_ref erased mut part ∷ pointer ∷ part ∷ pointer ∷
       part ∷ Self ∷ pointer ∷ part ∷ [])
 
-fits_by : {X : Type 0} (size : X → ℕ) (s : Side) {x y : X} → size x < 2 ^ 64 → size y < 2 ^ 64 → size (at_side s x y) < 2 ^ 64
-fits_by size at_front x y = x
-fits_by size at_back x y = y
-
--- what code reads by side
-module _ {M : Type 1} {𝓤 : Ura M} {𝓛 : Logic 𝓤} {K : Type 0} {Γ : List (Item 𝓤)} {E : Env 𝓤 𝓛.H} where
-  opd_by : (s : Side) (v : Side → Val) {x y : Operand} → Opd K 𝓛 Γ E x (v at_front) → Opd K 𝓛 Γ E y (v at_back) → Opd K 𝓛 Γ E (at_side s x y) (v s)
-  opd_by at_front v x y = x
-  opd_by at_back v x y = y
-
-  finds_by : (s : Side) (v : Side → Spot 𝓤 𝓛.H) {x y : Place} → Finds K 𝓛 Γ E x (v at_front) → Finds K 𝓛 Γ E y (v at_back)
-      → Finds K 𝓛 Γ E (at_side s x y) (v s)
-  finds_by at_front v x y = x
-  finds_by at_back v x y = y
-
-module _ {M : Type 1} {𝓤 : Ura M} {𝓛 : Logic 𝓤} {K : Type 0} {X : Type 0} {Γ : List (Item 𝓤)} {G : Goal 𝓤 𝓛.H} where
-  -- what is kept, and then the other one
-  kept_first : K → (s : Side) (Own : X → Item 𝓤) (behind before : X) → Step K 𝓛 (Own (at_side s behind before) ∷ Own (at_side s before behind) ∷ Γ) G
-      (Own behind ∷ Own before ∷ Γ) G
-  kept_first t at_front Own behind before = step (λ k. k)
-  kept_first t at_back Own behind before = step (λ k. move t (1 ∷ 0 ∷ []) $ k)
-
-module _ {M : Type 1} {𝓤 : Ura M} (𝓛 : Logic 𝓤) (𝓜 : Model 𝓤 𝓛.H) (𝓡 : Running 𝓤 𝓛.H 𝓜) (T : RattleType) (laws : Laws T) (s : Side) where
   abbrev 𝓣 : MachineTables 𝓤 𝓛.H 𝓜
   𝓣 = tables 𝓤 𝓛.H 𝓜 𝓡 𝓡.env
 
-  pub meets : (option self pair : Sym) (kept entry : Ty) (placing taking splitting key : Callee) →
-      Meets 𝓛 row_place.signature (𝓣.C placing) (row_place.spec 𝓛 𝓜.mem 𝓡.returns) → IsTake 𝓛 𝓜.mem 𝓡.returns T (𝓣.C taking) →
-      Triple 𝓤 (𝓣.C splitting) (Split 𝓛 𝓜.mem 𝓡.returns T) → Closed 𝓤 𝓛.H 𝓣.C 𝓣.Λ key (code option self pair kept entry s placing taking splitting) →
+  pub meets : (key : Callee) → Meets 𝓛 row_place.signature (𝓣.C placing) (row_place.spec 𝓛 𝓜.mem 𝓡.returns) →
+      IsTake 𝓛 𝓜.mem 𝓡.returns T (𝓣.C taking) → Triple 𝓤 (𝓣.C splitting) (Split 𝓛 𝓜.mem 𝓡.returns T) → Closed 𝓤 𝓛.H 𝓣.C 𝓣.Λ key code →
       Met (row_draw 𝓤 T s) 𝓛 (𝓣.C key)
-  meets option self' pair kept entry placing taking splitting key place_meets take_meets split_meets closed =
+  meets key place_meets take_meets split_meets closed =
       let item = param 0 T in let m = row_draw 𝓤 T s in let run = framed 𝓤 𝓛.H 𝓜 𝓣 in
-      let function = code option self' pair kept entry s placing taking splitting in
-      meets_by 𝓛 𝓜 𝓡 m key function closed (λ κs qs bounds self inT.
+      meets_by 𝓛 𝓜 𝓡 m key code closed (λ κs qs bounds self inT.
       let κ = κs.0 in let q = qs.0 in let κa = κs.1.0 in let qa = qs.1.0 in let κT = κs.1.1.0 in let qT = qs.1.1.0 in let aT = bounds.1.1.0 in
       let ℓ = named_lft 3 1 tt κs in let Row = rows_mut.the_row ℓ item in let Slice = MutSlice (named 1) κa item in
       let b = self.ref_ptr.0 in let o = self.ref_ptr.1 in let h = self.now in let rest = h.rest in
       let Post = Ends m 𝓛 κs qs bounds self in let inA = ⊑_trans κa κT T.lives aT inT in
       drop ! $ enter ! _ _ _ _ _ $ alloc_all ! (λ l. pass_all ! refl ((tt, tt), tt) $
-      opens_self ! tt Row κ q self (lowered h ∷ []) ((lowers ℓ item (param_laws 0 T laws)).val_is h) $
+      opens_self ! tt Row κ q self (lowers ℓ item (param_laws 0 T laws)) $
       -- [self's cell; what it owns; the open borrow, in three; the tokens of κa and κT; the locals]
       well_typed ! (λ ok. let start_fits = start_fit h ok in let width_fits = width_fit h ok in let gap_fits = gap_fit h ok in
       let count_fits = count_fit h ok in
@@ -125,7 +116,7 @@ module _ {M : Type 1} {𝓤 : Ura M} (𝓛 : Logic 𝓤) (𝓜 : Model 𝓤 𝓛
       (λ test. let more : 0 < h.count = some_left h.count test in let room = inside h s more in let here = place_of s h in
       let fewer : h.count - 1 < 2 ^ 64 = omega (arith, count_fits.fits) in let place_fits : here < 2 ^ 64 = omega (arith, room, (rest_fit h ok).fits) in
       let sum_fits = subst (λ n. n < 2 ^ 64) (sym (is_place h s)) place_fits in
-      skips ! $ exec ! 𝓣.C 𝓣.Λ (env function.locals l) (drawn option self' pair kept entry s placing taking splitting) (at_ret _ Post) $
+      skips ! $ exec ! 𝓣.C 𝓣.Λ (env code.locals l) drawn (at_ret _ Post) $
       sets ! (bin ! (get ! refl) (lit ! tt) more) refl (tt, record { fits = fewer }) $
       owned ! usize _ (uint_Makes 𝓛 w64) (number s h) _ (refl, number_fits h s count_fits.fits) $
       owned ! usize _ (uint_Makes 𝓛 w64) h.gap _ (refl, gap_fits.fits) $
@@ -158,8 +149,8 @@ module _ {M : Type 1} {𝓤 : Ura M} (𝓛 : Logic 𝓤) (𝓜 : Model 𝓤 𝓛
       -- [the row; what lies behind; how the second part ends; the tokens of κa and κT; what lies in front; how the slice ends; self's cell; the open borrow]
       let cut : Cut h before at row behind more s = record { before_is = before_is; at_is = at_is; row_is = row_is; behind_is = behind_is } in
       let new = left h before at row behind more s cut in let kept = at_side s behind before in let other = at_side s before behind in
-      let kept_fits : length kept.now < 2 ^ 64 = fits_by (λ (x : MutBor (List T.Denot)). length x.now) s behind_fits before_fits in
-      let start'_fits : start_of s h < 2 ^ 64 = fits_by (λ n. n) s gap_fits.fits start_fits.fits in
+      let kept_fits : length kept.now < 2 ^ 64 = by_side (λ e. length (at_side e behind before).now < 2 ^ 64) behind_fits before_fits s in
+      let start'_fits : start_of s h < 2 ^ 64 = by_side (λ e. start_of e h < 2 ^ 64) gap_fits.fits start_fits.fits s in
       sets ! (addr ! (finds_by s (λ e. let kept = at_side e behind before in (entry, kept.ref_ptr.0, kept.ref_ptr.1))
       (from ! (fld ! refl (fld ! refl (hop ! (look_in_at ! 9 (sub ! 0 refl (sub ! 1 refl (whole !)))) (stop !)))))
       (from ! (fld ! refl (fld ! refl (hop ! (look_in_at ! 8 (sub ! 0 refl (sub ! 0 refl (whole !)))) (stop !))))))) refl (tt, tt) $

@@ -1,6 +1,6 @@
 -- The two ends of an iterator that lends pixels, so that one definition and one proof serve both.
 --     near, far     the row that was begun from this end, and from the other.        slot, offset     the number of this end's field, and its place in bytes
---     at_side     the one of two things that is this end's.        put     where a pixel stands that was cut off there
+--     at_side, by_side     the one of two things, and of two proofs, that is this end's.        put     where a pixel stands that was cut off there
 --     walk_by     the iterator of its parts, as seen from this end
 --     Steps, Yields, Takes, Lends     what is said of a call of a pixel from there.        RowSteps, YieldsRow, LendsRow     the same of a call of a row
 use Rattle.v_frame_plane.proofs.lent.Steps.{ℕ, ◌≡◌, List, [], ◌∷◌, ◌++◌, Option, Some, None, MutBor, YieldsFirstMut, YieldsLastMut, Fml, RattleType}
@@ -15,6 +15,10 @@ pub data Side : Type 0 where
 abbrev pub at_side {ℓ} : {X : Type ℓ} → Side → X → X → X
 at_side at_front x y = x
 at_side at_back x y = y
+
+pub by_side {ℓ} : (P : Side → Type ℓ) → P at_front → P at_back → (s : Side) → P s
+by_side P x y at_front = x
+by_side P x y at_back = y
 
 abbrev pub slot : Side → ℕ
 slot s = at_side s 0 2
@@ -57,12 +61,10 @@ module _ {X : Type 0} where
   YieldsRow s = at_side s (YieldsFirstMut rows_left) (YieldsLastMut rows_left)
 
   pub row_steps : (s : Side) (old : RowsMut X) (row : MutBor (List X)) (new : RowsMut X) → YieldsRow s old (Some row) new → RowSteps s old row.now new
-  row_steps at_front old row new steps = steps
-  row_steps at_back old row new steps = steps
+  row_steps s old row new = by_side (λ e. YieldsRow e old (Some row) new → RowSteps e old row.now new) (λ steps. steps) (λ steps. steps) s
 
   pub no_rows : (s : Side) (old new : RowsMut X) → YieldsRow s old None new → (rows_left old ≡ []) × (rows_left new ≡ [])
-  no_rows at_front old new none = none
-  no_rows at_back old new none = none
+  no_rows s old new = by_side (λ e. YieldsRow e old None new → (rows_left old ≡ []) × (rows_left new ≡ [])) (λ none. none) (λ none. none) s
 
 -- this pixel is drawn at this end: what it and those that are left then hold, those that were left before do
 abbrev pub Takes : Side → (T : RattleType) → PixelsMut T.Denot → MutBor T.Denot → PixelsMut T.Denot → Fml
