@@ -1,41 +1,41 @@
--- An iterator over lent pixels whose items are all left: how its rows end, by what its pixels end as. Assumes `Logic`.
-use Rattle.v_frame_plane.proofs.lent.Steps.{◌≡◌, List, [], ◌∷◌, ◌++◌, length, refl, sym, ap, ◌∙◌, ent, sep, fact, RattleType, Ura, ‵, ◌$◌, ◌∵◌, !, qed, done}
+-- An iterator over lent rows or pixels whose items are all left: how its rows end, by what its items end as. Assumes `Logic`.
+use Rattle.v_frame_plane.proofs.lent.Steps.{param, ◌≡◌, List, [], ◌∷◌, length, refl, sym, ap, ◌∙◌, ent, sep, fact, RattleType, Ura, ‵, ◌$◌, ◌∵◌, !, qed, done}
 use Rattle.v_frame_plane.proofs.lent.Steps.{drop, fpick, fsplit, move, rewrite, Logic, sem, append-nil, nil_from_length}
 use Rattle.v_frame_layout.specs.Table.{Table, width_of, height_of, row_major, cut_rows}
 use Rattle.v_frame_plane.specs.SecondPixels.{Parts, ArePartsOf, BeginsOver, SecondPixels}
 use Rattle.std.specs.{Prelude.All, Prelude.map}
 use Rattle.v_frame_plane.specs.{Plane.Raster, Plane.table_of, SecondRows.SecondRows, declared.pixels_mut.PixelsMut.PixelsMut}
 use Rattle.v_frame_plane.proofs.{iterators.Cursors.rows_are_long}
-use Rattle.v_frame.proofs.{CutRows.cut_again, CallSteps.tells}
+use Rattle.v_frame.specs.Walk.{walk_leaves}
+use Rattle.v_frame.proofs.ItemKinds.{Begins, Draw, Kind, Second, Walk, made, of_pixels, rows_of, shown, side_of, written}
+use Rattle.v_frame.proofs.{CutRows.cut_again, CallSteps.tells, DrawnItems.rows_as_long}
 
-module _ {T : Type 0} (plane : Raster T) (walk : PixelsMut T) (begins : BeginsOver plane walk) (second : List T) where
-  abbrev table : Table T
-  table = table_of plane
+-- the rows of the parts are the pixels, cut into rows again, and as long as those that are shown
+rows_of_parts : {T : Type 0} (plane : Raster T) (walk : PixelsMut T) → BeginsOver plane walk → (second : List T) (parts : Parts T) →
+    ArePartsOf walk second parts
+    → let table = table_of plane in let cut = cut_rows (width_of table) (height_of table) second in (parts.rows ≡ cut) × (map length cut ≡ map length table)
+rows_of_parts plane walk begins second parts are =
+    let rows = walk.rows in
+    let table = table_of plane in
+    let wide : All (λ row. length row ≡ rows.width) table =
+    rw (sym begins.rows) (rows_are_long rows.start rows.width rows.gap rows.count rows.rest.now rows.within.within) in
+    let long : map length parts.rows ≡ map length table = are.rows ∙ ap (map length) begins.rows in
+    let no_front : parts.front ≡ [] = nil_from_length parts.front (are.front ∙ ap length begins.front) in
+    let no_back : parts.back ≡ [] = nil_from_length parts.back (are.back ∙ ap length begins.back) in
+    let is : cut_rows (width_of table) (height_of table) second ≡ parts.rows =
+    rw (are.joined, no_front, no_back, append-nil) (cut_again rows.width table parts.rows long wide) in
+    (sym is, ap (map length) is ∙ long)
 
-  -- the pixels, cut into rows again
-  abbrev cut : Table T
-  cut = cut_rows (width_of table) (height_of table) second
-
-  -- the rows of the parts are these rows, and as long as those that are shown
-  pub rows_of_parts : (parts : Parts T) → ArePartsOf walk second parts → (parts.rows ≡ cut) × (map length cut ≡ map length table)
-  rows_of_parts parts are =
-      let rows = walk.rows in
-      let wide : All (λ row. length row ≡ rows.width) table =
-      rw (sym begins.rows) (rows_are_long rows.start rows.width rows.gap rows.count rows.rest.now rows.within.within) in
-      let long : map length parts.rows ≡ map length table = are.rows ∙ ap (map length) begins.rows in
-      let no_front : parts.front ≡ [] = nil_from_length parts.front (are.front ∙ ap length begins.front) in
-      let no_back : parts.back ≡ [] = nil_from_length parts.back (are.back ∙ ap length begins.back) in
-      let joined : second ≡ row_major parts.rows = are.joined ∙ ap (λ xs. xs ++ (row_major parts.rows ++ parts.back)) no_front ∙
-      ap (λ xs. row_major parts.rows ++ xs) no_back ∙ append-nil (row_major parts.rows) in
-      let is : cut ≡ parts.rows = ap (cut_rows (width_of table) (height_of table)) joined ∙ cut_again rows.width table parts.rows long wide in
-      (sym is, ap (map length) is ∙ long)
-
-pub rows_end : {M : Type 1} {𝓤 : Ura M} (𝓛 : Logic 𝓤) (T : RattleType) (plane : Raster T.Denot) (walk : PixelsMut T.Denot) → BeginsOver plane walk →
-    (second : List T.Denot)
-    → let last : Table T.Denot = cut_rows (width_of (table_of plane)) (height_of (table_of plane)) second in
-    ent 𝓤 (sem 𝓛 (SecondPixels T walk second)) (sep 𝓤 (fact 𝓤 (map length last ≡ map length (table_of plane))) (sem 𝓛 (SecondRows T walk.rows last)))
-rows_end {M} {𝓤} 𝓛 T plane walk begins second =
-    let last : Table T.Denot = cut_rows (width_of (table_of plane)) (height_of (table_of plane)) second in
-    qed 𝓛 (‵ (SecondPixels T walk second) ∷ []) ∵ fpick ! (λ parts. fpick ! (λ are. fsplit ! $ drop ! $ fsplit ! $ move ! (1 ∷ []) $ drop ! $ let same =
-    rows_of_parts plane walk begins second parts are in
-    rewrite ! 0 (λ (rows : Table T.Denot). ‵ (SecondRows T walk.rows rows)) same.0 refl $ tells ! same.1 $ done !))
+-- what the rows end as, where the items end as the draws leave them
+module _ {M : Type 1} {𝓤 : Ura M} (𝓛 : Logic 𝓤) (T : RattleType) where
+  pub rows_end : (k : Kind) (plane : Raster T.Denot) (walk : Walk T k) → Begins T k plane walk → (draws : List (Draw T k)) →
+      let table = table_of plane in let last = written T k table draws in
+      ent 𝓤 (sem 𝓛 (Second T k walk (walk_leaves (side_of T k) (made T k) (shown T k plane) draws)))
+      (sep 𝓤 (fact 𝓤 (map length last ≡ map length table)) (sem 𝓛 (SecondRows (param 0 T) (rows_of T k walk) last)))
+  rows_end of_pixels plane walk begun draws =
+      let pixels = walk_leaves (side_of T of_pixels) (made T of_pixels) (row_major (table_of plane)) draws in
+      qed 𝓛 (‵ (SecondPixels (param 0 T) walk pixels) ∷ []) ∵ fpick ! (λ parts. fpick ! (λ are. fsplit ! $ drop ! $ fsplit ! $ move ! (1 ∷ []) $ drop ! $
+      let same = rows_of_parts plane walk begun.tells pixels parts are in
+      rewrite ! 0 (λ (rows : Table T.Denot). ‵ (SecondRows (param 0 T) walk.rows rows)) same.0 refl $ tells ! same.1 $ done !))
+  rows_end k plane walk begun draws =
+      qed 𝓛 (‵ (SecondRows (param 0 T) walk (written T k (table_of plane) draws)) ∷ []) ∵ tells ! (rows_as_long (table_of plane) draws) $ done !

@@ -1,14 +1,14 @@
 -- Bytes that go through a frame: it is built, filled by a copy with a stride, and its bytes are taken.
 use Rattle.std.proofs.Common.{ℕ, ◌≡◌, ◌*◌, ◌^◌, ◌<◌, ◌≤◌, Bool, true, false, ◌&&◌, ◌||◌, ltb, if◌then◌else◌, List, [], ◌∷◌, length, Option, Some, None}
-use Rattle.std.proofs.Common.{Result, Ok, Err, refl, ◌∙◌, ap}
+use Rattle.std.proofs.Common.{Result, Ok, Err, refl}
 use Rattle.std.specs.Prelude.{MatchOption, IsOkUnless, is_ok}
 use Rattle.std.proofs.lemmas.Bool.{ltb-true}
 use Rattle.std.proofs.lemmas.List.{length-replicate}
 use Rattle.v_frame_layout.specs.Geometry.{alloc_size_of}
 use Rattle.v_frame_plane.specs.Plane.{Raster, filled, table_of}
 use Rattle.v_frame_layout.specs.Table.{width_of, height_of, row_major}
-use Rattle.v_frame_plane.specs.Copy.{CopyOutcome, piece_fronts, strided_table}
-use Rattle.v_frame_layout.specs.Pixel.{PixelForm, byte_list}
+use Rattle.v_frame_plane.specs.Copy.{piece_fronts}
+use Rattle.v_frame_layout.specs.Pixel.{PixelForm}
 use Rattle.v_frame.specs.Frame.{Tables}
 use Rattle.v_frame.specs.Walk.{draws_answer}
 use Rattle.v_frame.specs.Replay.{answers_to}
@@ -18,7 +18,7 @@ use Rattle.v_frame.specs.declared.frame.error.FrameError.TheVariants.{Unsupporte
 use Rattle.v_frame.specs.declared.frame.error.FrameError.{FrameError}
 use Rattle.v_frame.specs.declared.replay.draw.Side.{Side}
 use Rattle.v_frame.specs.declared.replay.call.VisibleCall.TheVariants.{CopyFromU8SliceWithStride, ByteData}
-use Rattle.v_frame.specs.declared.replay.answer.Answer.{Answer, TheVariants.Copied, TheVariants.BytesWalked}
+use Rattle.v_frame.specs.declared.replay.answer.Answer.{TheVariants.Copied, TheVariants.BytesWalked}
 use Rattle.v_frame_plane.proofs.copies.BytesBack.{AreBytes, table_comes_back}
 use Rattle.v_frame_plane.proofs.copies.ByteLaws.{accepted_copy}
 use Rattle.v_frame_layout.proofs.ChromaLemmas.{both_true}
@@ -41,9 +41,7 @@ module _ {X : Type 0} (r : Result X FrameError) (built : X) (is : r ≡ Ok built
       let luma = luma_geometry asked in
       let all = passed (ltb depth 8 || ltb 16 depth) (is_mismatch bytes depth) (is_laid_out luma && is_ok (subsampled asked.subsampling luma))
       (UnsupportedBitDepth depth) DataTypeMismatch UnsupportedResolution o h in
-      let laid_out = both_true (is_laid_out luma) (is_ok (subsampled asked.subsampling luma)) all in
-      let wide = both_true (ltb 0 asked.width) _ laid_out.0 in
-      ltb-true 0 asked.height (both_true (ltb 0 asked.height) _ wide.1).0
+      ltb-true 0 asked.height (both_true _ _ (both_true (ltb 0 asked.width) _ (both_true (is_laid_out luma) _ all).0).1).0
 
 -- an error that is passed on comes for the same reason
 pub refusal_goes_on : {X Y : Type 0} (r : Result X FrameError) (s : Result Y FrameError) (e o : FrameError) (due : Option FrameError) → r ≡ Err e → s ≡ Err e
@@ -65,9 +63,5 @@ module _ {T : Type 0} where
         → answers_to form (CopyFromU8SliceWithStride 0 source stride ∷ ByteData 0 sides ∷ []) tables
         ≡ Copied (Ok tt) ∷ BytesWalked (length (row_major (piece_fronts (width * form.size) stride height source)))
         (draws_answer (row_major (piece_fronts (width * form.size) stride height source)) sides) ∷ []
-    path_answers tables width height w h fits whole =
-        let walked : List ℕ → List (Answer T) = λ list. Copied (Ok tt) ∷ BytesWalked (length list) (draws_answer list sides) ∷ [] in
-        let table = strided_table form width height stride source in
-        let copy = accepted_copy form tables.y source stride width height w h fits whole in
-        ap (λ (o : CopyOutcome T). Copied o.answer ∷ BytesWalked (length (byte_list form o.table)) (draws_answer (byte_list form o.table) sides) ∷ []) copy ∙
-        ap walked (table_comes_back form back width height stride source fits whole bytes)
+    path_answers tables width height w h fits whole = rw (accepted_copy form tables.y source stride width height w h fits whole,
+        table_comes_back form back width height stride source fits whole bytes)

@@ -89,16 +89,13 @@ module _ {X D : Type 0} (side_of : D → Side) (make : D → X → X) where
       let at = at_number side x xs front back before so_far in
       let one : changed_by side_of make all before draw ≡ front_with side item front ++ (left ++ back_with side item back) =
       rw (lt-ltb (length before) (length all) more, at.0, r.1) (at.1 item) in
-      ap (λ items. changed_after side_of make items (before ++ side ∷ []) draws) one ∙ put_back_between (front_with side item front) left
-      (back_with side item back) (before ++ side ∷ []) draws (taken_more side item front back before so_far) ∙
-      sym (put_between side (make draw) r.0 front (All_back left draws) back) ∙
-      ap (λ taken. front ++ (put_back side (make draw) taken (All_back left draws) ++ back)) (sym r.1)
+      rw (one, r.1, put_between side (make draw) r.0 front (All_back left draws) back) (put_back_between (front_with side item front) left
+      (back_with side item back) (before ++ side ∷ []) draws (taken_more side item front back before so_far))
 
   -- so with all of them put back the list is what the iterator leaves
   pub put_back_all : (items : List X) (draws : List D) → All_back items draws ≡ walk_leaves side_of make items draws
-  put_back_all items draws = sym (append-nil (All_back items draws)) ∙
-      sym (put_back_between [] items [] [] draws (record { from_front = refl; from_back = refl })) ∙
-      ap (λ xs. changed_after side_of make xs [] draws) (append-nil items)
+  put_back_all items draws =
+      sym (simp append-nil at (put_back_between [] items [] [] draws (record { from_front = refl; from_back = refl })))
 
 -- the rows of a table stay as wide
 length-overwritten : {T : Type 0} (row : List T) (writes : List (Option T)) → length (overwritten_row row writes) ≡ length row

@@ -1,61 +1,97 @@
--- What draws that write leave of an iterator's final values: one more draw, and the iterator that is dropped. `second` says that an iterator has them.
+-- What calls that write leave of an iterator's final values: a call, with an item or with none, one more of a list, and the iterator that is dropped.
 -- Assumes `Logic`.
-use Rattle.v_frame_plane.proofs.lent.Steps.{via, mono_r, apply∗, ℕ, ◌+◌, ◌<◌, take, arith, ◌≡◌, List, [], ◌∷◌, length, refl, ap, ◌∙◌, SProp, all, emp, ent}
-use Rattle.v_frame_plane.proofs.lent.Steps.{sep, wand, Ura, ‵, ◌$◌, ◌∵◌, !, qed, assume, done, each, move, rewrite, use2, Logic, sem, Fml}
+use Rattle.v_frame_plane.proofs.lent.Steps.{via, mono_r, apply∗, ℕ, ◌+◌, ◌<◌, take, arith, ◌≡◌, List, [], ◌∷◌, length, refl, sym, ap, ◌∙◌, Option, Some, None}
+use Rattle.v_frame_plane.proofs.lent.Steps.{MutBor, SProp, all, emp, ent, sep, wand, RattleType, Ura, ‵, ◌$◌, ◌∵◌, !, qed, assume, done, each, join, move}
+use Rattle.v_frame_plane.proofs.lent.Steps.{rewrite, use1, use2, Logic, sem}
 use Rattle.std.proofs.lemmas.List.{take_all}
 use Rattle.std.specs.Prelude.{map}
-use Rattle.v_frame.specs.DrawnItems.{put_back, put_back_in_turn, PutsBack}
+use base.Fml.{fwand, fsep}
+use Rattle.v_frame.specs.DrawnItems.{put_back, put_back_in_turn}
 use Rattle.v_frame.specs.Walk.{item_from, left_by, left_in_turn, walk_leaves}
-use Rattle.v_frame.specs.declared.replay.draw.Side.{Side}
+use Rattle.v_frame.specs.declared.replay.draw.Side.{Side, TheVariants.Front, TheVariants.Back}
 use Rattle.v_frame.proofs.SharedItems.{nth_of, take-nth}
 use Rattle.v_frame.proofs.DrawnItems.{put_back-append, put_back_all, length-put_back}
+use Rattle.v_frame.proofs.ItemKinds.{Draw, Ends, Entry, Kind, Lends, Puts, Second, Walk, left, made, of_pixels, side_of}
 
-module _ {M : Type 1} {𝓤 : Ura M} (𝓛 : Logic 𝓤) {W X : Type 0} (items : W → List X) (second : W → List X → Fml) where
-  abbrev Second : W → List X → SProp 𝓤
-  Second walk xs = sem 𝓛 (second walk xs)
+module _ {M : Type 1} {𝓤 : Ura M} (𝓛 : Logic 𝓤) (T : RattleType) where
+  abbrev Final : (k : Kind) → Walk T k → List (Entry T k) → SProp 𝓤
+  Final k walk xs = sem 𝓛 (Second T k walk xs)
 
   -- where `before` tells the final values before of the one after
-  abbrev pub Puts : (List X → List X) → W → W → SProp 𝓤
-  Puts before old new = all 𝓤 (λ (left : List X). all 𝓤 (λ (_ : length left ≡ length (items new)). wand 𝓤 (Second new left) (Second old (before left))))
+  abbrev Tells : (k : Kind) → (List (Entry T k) → List (Entry T k)) → (old new : Walk T k) → SProp 𝓤
+  Tells k before old new =
+      all 𝓤 (λ (xs : List (Entry T k)). all 𝓤 (λ (_ : length xs ≡ length (left T k new)). wand 𝓤 (Final k new xs) (Final k old (before xs))))
 
-  puts : (before : List X → List X) (old new : W) (left : List X) → length left ≡ length (items new) →
-      ent 𝓤 (sep 𝓤 (Second new left) (Puts before old new)) (Second old (before left))
-  puts before old new left same =
-      let New = Second new left in let Old = Second old (before left) in
-      let so : ent 𝓤 (Puts before old new) (wand 𝓤 New Old) = record { apply = λ a says. says left same } in
-      via 𝓤 (sep 𝓤 New (wand 𝓤 New Old)) (mono_r 𝓤 New so) (apply∗ 𝓤 New Old)
+  abbrev Put : (k : Kind) → Side → (Entry T k → Entry T k) → (old new : Walk T k) → SProp 𝓤
+  Put k side change old = Tells k (put_back side change (item_from side (left T k old))) old
 
-  module _ {D : Type 0} (side_of : D → Side) (make : D → X → X) where
-    abbrev Puts_back : List D → W → W → Fml
-    Puts_back = PutsBack items second side_of make
+  -- a call that gave no item
+  pub none_taken : (side : Side) (k : Kind) (change : Entry T k → Entry T k) (old new : Walk T k) → item_from side (left T k old) ≡ None →
+      ent 𝓤 (sem 𝓛 (Lends T k side old None new)) (Put k side change old new)
+  none_taken Front of_pixels change old new none = rw none (record { apply = λ a says xs same. says xs })
+  none_taken Back of_pixels change old new none = rw none (record { apply = λ a says xs same. says xs })
+  none_taken side k change old new none = rw none (record { apply = λ a says xs same. says xs })
+
+  -- one that gave an item says this of any final values, and one of the last row, of as many as the rows that are left
+  takes : (side : Side) (k : Kind) (change : Entry T k → Entry T k) (old new : Walk T k) (x : MutBor (Entry T k)) (xs : List (Entry T k)) →
+      length xs ≡ length (left T k new) → ent 𝓤 (sem 𝓛 (Lends T k side old (Some x) new))
+      (sem 𝓛 (fwand (fsep (Ends T k x (change x.now)) (Second T k new xs)) (Second T k old (put_back side change (Some x.now) xs))))
+  takes Front of_pixels change old new x xs same = record { apply = λ a says. says (change x.now, xs) }
+  takes Back of_pixels change old new x xs same = record { apply = λ a says. says (change x.now, xs) }
+  takes Front k change old new x xs same = record { apply = λ a says. says (change x.now, xs) }
+  takes Back k change old new x xs same = record { apply = λ a says. says (change x.now, xs) same }
+
+  -- it ends as it was left
+  pub item_taken : (side : Side) (k : Kind) (change : Entry T k → Entry T k) (old new : Walk T k) (x : MutBor (Entry T k)) →
+      item_from side (left T k old) ≡ Some x.now →
+      ent 𝓤 (sep 𝓤 (sem 𝓛 (Ends T k x (change x.now))) (sem 𝓛 (Lends T k side old (Some x) new))) (Put k side change old new)
+  item_taken side k change old new x is = let End = Ends T k x (change x.now) in
+      qed 𝓛 (‵ End ∷ ‵ (Lends T k side old (Some x) new) ∷ []) ∵ each ! _ (λ xs. each ! _ (λ same. assume ! (‵ (Second T k new xs)) $
+      let held = fsep End (Second T k new xs) in let past = Second T k old (put_back side change (Some x.now) xs) in
+      move ! (1 ∷ 0 ∷ []) $ join ! $ move ! (1 ∷ []) $ use1 𝓛 (‵ (fwand held past)) (takes side k change old new x xs same) $ move ! (1 ∷ []) $
+      use2 𝓛 (‵ past) (apply∗ 𝓤 (sem 𝓛 held) (sem 𝓛 past)) $
+      rewrite ! 0 (λ (it : Option (Entry T k)). ‵ (Second T k old (put_back side change it xs))) (sym is) refl $ done !))
+
+  module _ (k : Kind) where
+    tells : (before : List (Entry T k) → List (Entry T k)) (old new : Walk T k) (xs : List (Entry T k)) → length xs ≡ length (left T k new) →
+        ent 𝓤 (sep 𝓤 (Final k new xs) (Tells k before old new)) (Final k old (before xs))
+    tells before old new xs same =
+        let New = Final k new xs in let Old = Final k old (before xs) in
+        let so : ent 𝓤 (Tells k before old new) (wand 𝓤 New Old) = record { apply = λ a says. says xs same } in
+        via 𝓤 (sep 𝓤 New (wand 𝓤 New Old)) (mono_r 𝓤 New so) (apply∗ 𝓤 New Old)
+
+    -- what the calls put back
+    abbrev back : Walk T k → List (Draw T k) → List (Entry T k) → List (Entry T k)
+    back old = put_back_in_turn (side_of T k) (made T k) (left T k old)
 
     -- nothing is taken yet
-    pub none_drawn : (walk : W) → ent 𝓤 (emp 𝓤) (sem 𝓛 (Puts_back [] walk walk))
-    none_drawn walk = qed 𝓛 [] ∵ each ! _ (λ left. each ! _ (λ same. assume ! (‵ (second walk left)) $ done !))
+    pub none_drawn : (walk : Walk T k) → ent 𝓤 (emp 𝓤) (sem 𝓛 (Puts T k [] walk walk))
+    none_drawn walk = qed 𝓛 [] ∵ each ! _ (λ xs. each ! _ (λ same. assume ! (‵ (Second T k walk xs)) $ done !))
 
     -- one more of a list of calls
-    pub nth_drawn : (draws : List D) (i : ℕ) (h : i < length draws) (old walk new : W) → items walk ≡ left_in_turn (items old) (map side_of (take i draws)) →
-        items new ≡ left_by (side_of (nth_of draws i h)) (items walk)
-        → ent 𝓤 (sep 𝓤 (sem 𝓛 (Puts_back (take i draws) old walk)) (sem 𝓛 (Puts_back (nth_of draws i h ∷ []) walk new)))
-        (sem 𝓛 (Puts_back (take (i + 1) draws) old new))
+    pub nth_drawn : (draws : List (Draw T k)) (i : ℕ) (h : i < length draws) (old walk new : Walk T k) → let draw = nth_of draws i h in
+        left T k walk ≡ left_in_turn (left T k old) (map (side_of T k) (take i draws)) → left T k new ≡ left_by (side_of T k draw) (left T k walk)
+        → ent 𝓤 (sep 𝓤 (sem 𝓛 (Puts T k (take i draws) old walk)) (sem 𝓛 (Puts T k (draw ∷ []) walk new))) (sem 𝓛 (Puts T k (take (i + 1) draws) old new))
     nth_drawn draws i h old walk new so_far less =
-        let draw = nth_of draws i h in let side = side_of draw in let one = put_back side (make draw) (item_from side (items walk)) in
-        let all_of = put_back_in_turn side_of make (items old) in
-        qed 𝓛 (‵ (Puts_back (take i draws) old walk) ∷ ‵ (Puts_back (draw ∷ []) walk new) ∷ []) ∵
-        each ! _ (λ left. each ! _ (λ same. assume ! (‵ (second new left)) $ move ! (0 ∷ 2 ∷ []) $
-        use2 𝓛 (‵ (second walk (one left))) (puts one walk new left same) $
-        use2 𝓛 (‵ (second old (all_of (take i draws) (one left))))
-        (puts (all_of (take i draws)) old walk (one left) (length-put_back side (make draw) (items walk) left (same ∙ ap length less))) $
-        let back : all_of (take i draws) (one left) ≡ all_of (take (i + 1) draws) left =
-        rw (take-nth draws i h, put_back-append side_of make (items old) (take i draws) (draw ∷ []) left, ← so_far) in
-        rewrite ! 0 (λ (xs : List X). ‵ (second old xs)) back refl $ done !))
+        let draw = nth_of draws i h in
+        qed 𝓛 (‵ (Puts T k (take i draws) old walk) ∷ ‵ (Puts T k (draw ∷ []) walk new) ∷ []) ∵
+        each ! _ (λ xs. each ! _ (λ same. assume ! (‵ (Second T k new xs)) $ move ! (0 ∷ 2 ∷ []) $ let held = back walk (draw ∷ []) xs in
+        use2 𝓛 (‵ (Second T k walk held)) (tells (back walk (draw ∷ [])) walk new xs same) $
+        use2 𝓛 (‵ (Second T k old (back old (take i draws) held))) (tells (back old (take i draws)) old walk held
+        (length-put_back (side_of T k draw) (made T k draw) (left T k walk) xs (same ∙ ap length less))) $
+        let is : back old (take i draws) held ≡ back old (take (i + 1) draws) xs = rw (
+          take-nth draws i h,
+          put_back-append (side_of T k) (made T k) (left T k old) (take i draws) (draw ∷ []) xs,
+          ← so_far,
+        ) in
+        rewrite ! 0 (λ (ys : List (Entry T k)). ‵ (Second T k old ys)) is refl $ done !))
 
     -- the iterator is dropped after all calls
-    pub each_drawn : (draws : List D) (i : ℕ) → i ≡ length draws → (old new : W) (begun : List X) → items old ≡ begun
-        → items new ≡ left_in_turn (items old) (map side_of (take i draws))
-        → ent 𝓤 (sep 𝓤 (sem 𝓛 (second new (items new))) (sem 𝓛 (Puts_back (take i draws) old new))) (sem 𝓛 (second old (walk_leaves side_of make begun draws)))
-    each_drawn draws i all old new begun is left =
-        let all_of = put_back_in_turn side_of make (items old) (take i draws) in
-        let e : all_of (items new) ≡ walk_leaves side_of make begun draws =
-        rw (left, take_all i draws (omega (arith, all)), is) (put_back_all side_of make begun draws) in
-        rw e at (puts all_of old new (items new) refl)
+    pub each_drawn : (draws : List (Draw T k)) (i : ℕ) → i ≡ length draws → (old new : Walk T k) (begun : List (Entry T k)) → left T k old ≡ begun
+        → left T k new ≡ left_in_turn (left T k old) (map (side_of T k) (take i draws))
+        → ent 𝓤 (sep 𝓤 (sem 𝓛 (Second T k new (left T k new))) (sem 𝓛 (Puts T k (take i draws) old new)))
+        (sem 𝓛 (Second T k old (walk_leaves (side_of T k) (made T k) begun draws)))
+    each_drawn draws i all old new begun is so_far =
+        let e : back old (take i draws) (left T k new) ≡ walk_leaves (side_of T k) (made T k) begun draws =
+        rw (so_far, take_all i draws (omega (arith, all)), is) (put_back_all (side_of T k) (made T k) begun draws) in
+        rw e at (tells (back old (take i draws)) old new (left T k new) refl)

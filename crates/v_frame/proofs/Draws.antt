@@ -131,8 +131,7 @@ module _ {X : Type 0} where
       cc
 
 pub are_counted : (X : Type 0) → AreCounted X
-are_counted X = λ items sides. ap (λ all. draws_answer all sides) (sym (append-nil items)) ∙
-    counted_between [] items [] [] sides (record { from_front = refl; from_back = refl })
+are_counted X = λ items sides. simp append-nil at (counted_between [] items [] [] sides (record { from_front = refl; from_back = refl }))
 
 module _ {X : Type 0} where
   put_again : (side : Side) (items : List X) → items ≡ put_back side (λ x. x) (item_from side items) (left_by side items)

@@ -12,7 +12,6 @@ pub mod ItemKinds
 pub mod Lending
 pub mod OptionCases
 pub mod PlaneCalls
-pub mod PutBack
 pub mod Replays
 pub mod SharedItems
 pub mod Steps

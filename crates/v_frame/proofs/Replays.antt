@@ -3,7 +3,7 @@ use Rattle.std.proofs.Common.{ℕ, ◌≡◌, ◌+◌, ◌<◌, List, [], ◌∷
 use Rattle.std.proofs.lemmas.List.{take_more, take-take, get_or-take}
 use Rattle.v_frame.specs.Frame.{Tables, KeepsBorders}
 use Rattle.v_frame_layout.specs.Pixel.{PixelForm}
-use Rattle.v_frame.specs.Replay.{written_plane, WritesPlane, reply_to, answers_to, tables_after, StoppedAfter}
+use Rattle.v_frame.specs.Replay.{written_plane, WritesPlane, reply_to, answers_to, tables_after}
 use Rattle.v_frame.specs.declared.frame.Frame.{Frame}
 use Rattle.v_frame.specs.declared.replay.answer.Answer.{Answer}
 use Rattle.v_frame.specs.declared.replay.call.VisibleCall.{VisibleCall}
@@ -36,12 +36,6 @@ module _ {T : Type 0} (form : PixelForm T) where
     pub tables_more : (old now new : Tables T) → now ≡ tables_after form (take i calls) old → new ≡ (reply_to form call now).tables →
         new ≡ tables_after form (take (i + 1) calls) old
     tables_more old now new tables is = rw (take_more calls i call within, ← here, tables_after-push, ← tables) is
-
-  -- a replay that has done the first calls, and not all, stopped after them
-  pub stopped_at : (calls : List (VisibleCall T)) (i : ℕ) → i < length calls → (old new : Tables T) (done : List (Answer T)) → length done ≡ i
-      → done ≡ answers_to form (take i calls) old → new ≡ tables_after form (take i calls) old → StoppedAfter form calls old done new
-  stopped_at calls i within old new done count answers tables =
-      record { early = omega (arith, count, within); answers = rw count answers; tables = rw count tables }
 
 module _ {T : Type 0} where
   -- planes that the first calls may write, and that one more may

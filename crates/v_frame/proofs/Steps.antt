@@ -20,10 +20,9 @@ pub use base.Fml.{fhide}
 unfoldable pub use contract.Running.{tables_of}
 pub use denote.Builtin.{SliceRefOf}
 pub use denote.FollowSlice.{finally-res}
-pub use denote.Lend.{LentAgain}
 pub use denote.Param.{copied}
 pub use denote.Param.Shared.{mut_ref_shared}
-pub use denote.Slice.{shr_slice_Tells, shr_slice_vals}
+pub use denote.Slice.{shr_slice_vals}
 pub use denote.Struct.Field.{mut_ref_field}
 pub use denote.Struct.Laws.{mut_ref_laws}
 pub use denote.Triple.Bound.{Bound}

@@ -14,38 +14,40 @@ use Rattle.v_frame.specs.contracts.replay as replay
 use Rattle.v_frame.proofs.replay.draw.PixelDraw.TheLaws as pixel_draw_laws
 use Rattle.v_frame.proofs.replay.draw.RowDraw.TheLaws as row_draw_laws
 
-abbrev pub given : Kind → Lft → RattleType → RattleType
-given of_pixels = MutRef (named 1)
-given _ = MutSlice (named 1)
-
 module _ (T : RattleType) where
   abbrev pub draws_laws : (k : Kind) → Laws T → RowLaws (draw_row k (param 0 T))
   draws_laws of_pixels laws = (pixel_draw_laws.the_row_laws (param 0 T) (param_laws 0 T laws)).shr_laws
   draws_laws _ laws = (row_draw_laws.the_row_laws (param 0 T) (param_laws 0 T laws)).shr_laws
 
-  abbrev pub given_laws : (k : Kind) (κ : Lft) → Laws T → Laws (given k κ (param 0 T))
-  given_laws of_pixels κ laws = let ℓ : NamedLft = record { mir = named 1; lft = κ } in let item = param 0 T in
-      of_field (mut_ref_field ℓ item tt) (mut_ref_laws ℓ item tt) refl (mut_ref_shared ℓ item tt (row_shared item (param_laws 0 T laws)))
-  given_laws _ κ laws = slice_laws T κ laws
+  module _ (κ : Lft) where
+    -- the item that a call gives, its laws, and its machine value
+    abbrev pub given : Kind → RattleType
+    given of_pixels = MutRef (named 1) κ (param 0 T)
+    given _ = MutSlice (named 1) κ (param 0 T)
 
-  abbrev pub its_value : (k : Kind) (κ : Lft) → (given k κ (param 0 T)).Denot → Val
-  its_value of_pixels κ x = vptr x.ref_ptr.0 x.ref_ptr.1
-  its_value _ κ x = slice_of x
+    abbrev pub given_laws : (k : Kind) → Laws T → Laws (given k)
+    given_laws of_pixels laws = let ℓ : NamedLft = record { mir = named 1; lft = κ } in let item = param 0 T in
+        of_field (mut_ref_field ℓ item tt) (mut_ref_laws ℓ item tt) refl (mut_ref_shared ℓ item tt (row_shared item (param_laws 0 T laws)))
+    given_laws _ laws = slice_laws T κ laws
 
-  pub value_is : (k : Kind) (κ : Lft) (x : (given k κ (param 0 T)).Denot) (vs : List Val) → Is (given k κ (param 0 T)) x vs → vs ≡ its_value k κ x ∷ []
-  value_is of_pixels κ x vs is = is.0
-  value_is _ κ x vs is = is.0.0
+    abbrev pub its_value : (k : Kind) → (given k).Denot → Val
+    its_value of_pixels x = vptr x.ref_ptr.0 x.ref_ptr.1
+    its_value _ x = slice_of x
 
-  -- what it is left as
-  abbrev pub Left : (k : Kind) (κ : Lft) (x : (given k κ (param 0 T)).Denot) → Last ((given k κ (param 0 T)).exit yes) x → Fml
-  Left of_pixels κ x = Ends T of_pixels x
-  Left k κ x = Ends T k x
+    pub value_is : (k : Kind) (x : (given k).Denot) (vs : List Val) → Is (given k) x vs → vs ≡ its_value k x ∷ []
+    value_is of_pixels x vs is = is.0
+    value_is _ x vs is = is.0.0
 
-  pub left_as : {M : Type 1} {𝓤 : Ura M} (𝓛 : Logic 𝓤) (k : Kind) (κ : Lft) (x : (given k κ (param 0 T)).Denot) (w : Last ((given k κ (param 0 T)).exit yes) x)
-      → ent 𝓤 (sem 𝓛 (left_at ((given k κ (param 0 T)).exit yes) x w)) (sem 𝓛 (Left k κ x w))
-  left_as 𝓛 of_pixels κ x w = qed 𝓛 (‵ (left_at ((given of_pixels κ (param 0 T)).exit yes) x w) ∷ []) ∵ fsplit ! $ keep ! (0 ∷ []) $ done !
-  left_as 𝓛 k κ x w = qed 𝓛 (‵ (left_at ((given k κ (param 0 T)).exit yes) x w) ∷ []) ∵ fsplit ! $ fsplit ! $ keep ! (0 ∷ []) $
-      use1 𝓛 (‵ (Left k κ x w)) (finally-res 𝓛 (param 0 T) x.ghost_name w) $ done !
+    -- what it is left as
+    abbrev pub Left : (k : Kind) (x : (given k).Denot) → Last ((given k).exit yes) x → Fml
+    Left of_pixels x = Ends T of_pixels x
+    Left k x = Ends T k x
+
+    pub left_as : {M : Type 1} {𝓤 : Ura M} (𝓛 : Logic 𝓤) (k : Kind) (x : (given k).Denot) (w : Last ((given k).exit yes) x) →
+        ent 𝓤 (sem 𝓛 (left_at ((given k).exit yes) x w)) (sem 𝓛 (Left k x w))
+    left_as 𝓛 of_pixels x w = qed 𝓛 (‵ (left_at ((given of_pixels).exit yes) x w) ∷ []) ∵ fsplit ! $ keep ! (0 ∷ []) $ done !
+    left_as 𝓛 k x w = qed 𝓛 (‵ (left_at ((given k).exit yes) x w) ∷ []) ∵ fsplit ! $ fsplit ! $ keep ! (0 ∷ []) $
+        use1 𝓛 (‵ (Left k x w)) (finally-res 𝓛 (param 0 T) x.ghost_name w) $ done !
 
 module _ {M : Type 1} {𝓤 : Ura M} (𝓛 : Logic 𝓤) (𝓜 : Model 𝓤 𝓛.H) (𝓡 : Running 𝓤 𝓛.H 𝓜) (T : RattleType) (clone : Ghosts T.Denot) (dict : Dict) where
   abbrev pub asks : Kind → Promise 𝓤

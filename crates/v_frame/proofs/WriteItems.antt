@@ -1,7 +1,7 @@
 -- A whole iteration of calls that write: the plane is lent to an iterator, each draw writes into the item that it takes from it in a loop, and it is dropped.
 -- Rattle learns nothing of what the iterator says of held items, so the proof follows the code. It stands once for rows and pixels: see `ItemKinds.antt`.
 -- Assumes `Logic`.
-use Rattle.v_frame.proofs.Steps.{arm_body, copied, option_copied_mut, option_laws, option_row, LentAgain, SliceRefOf, after_turn, fhide, lt-wf_rel}
+use Rattle.v_frame.proofs.Steps.{arm_body, copied, option_copied_mut, option_laws, option_row, SliceRefOf, after_turn, fhide, lt-wf_rel}
 use Rattle.v_frame.proofs.Steps.{mul-le-mul_right, shr_slice_vals, spot_of, tables_of, w64}
 use Rattle.v_frame_plane.proofs.lent.Steps.{Goes-dropped, Item, List, MutBor, Option, SProp, ShrRef, Sq, Stays, Val, Wp, addr, after, after_seq, agg, alloc_all}
 use Rattle.v_frame_plane.proofs.lent.Steps.{and_then, any_q, ap, at_ret, at_return, done, enter, env, exec, fact, feq_i, feq_l, first, fld, flft, forget_but}
@@ -26,13 +26,13 @@ use Rattle.std.specs.{declared.clone.Clone.Ghosts}
 use Rattle.v_frame_plane.proofs.lent.{Loans.Back as Way_back, Loans.share_within, PixelsDropped.pixels_dropped, RowLoans.rows_dropped}
 use Rattle.v_frame.specs.Walk.{left_by, left_in_turn, walk_leaves}
 use Rattle.v_frame.specs.declared.replay.draw.Side.{TheVariants.Front, TheVariants.Back}
-use Rattle.v_frame.proofs.{OptionCases.by_told, PutBack.item_taken, PutBack.none_taken, BegunWalks.rows_end, DrawnItems.nth_left, DrawnItems.rows_as_long}
+use Rattle.v_frame.proofs.{OptionCases.by_told, DrawnLoans.item_taken, DrawnLoans.none_taken, BegunWalks.rows_end, DrawnItems.nth_left}
 use Rattle.v_frame.proofs.{SharedItems.lends_nth, SharedItems.nth_of}
 use types.Run.{Opd}
 use Rattle.v_frame_plane.specs.Plane.{Raster, table_of, with_entries}
 use Rattle.v_frame_plane.specs.SecondRows.{SecondRows, WritesTable, entries_with}
 use Rattle.v_frame.proofs.DrawnLoans.{each_drawn, none_drawn, nth_drawn}
-use Rattle.v_frame.proofs.Lending.{begins_walk, lowers, opens, lends_walk, rows_back, walk_back}
+use Rattle.v_frame.proofs.Lending.{Kept_by, begins_walk, lowers, opens, lends_walk, rows_back, walk_back}
 use Rattle.v_frame_plane.specs.{Lends.LendsBuffer}
 use Rattle.v_frame.proofs.WriteItem.{Left, asks, changes, draws as draws_promise, draws_laws, given, given_laws, its_value, left_as, value_is}
 use Rattle.v_frame_plane.proofs.lent.Methods.{gets, in_order, locals_of, set, value}
@@ -51,15 +51,6 @@ module _ (T : RattleType) where
     dropped : (k : Kind) (ℓ : NamedLft) (walk : Walk T k) (vs : List Val) → ent 𝓤 (sem 𝓛 (Owned k ℓ walk vs)) (sem 𝓛 (Second T k walk (left T k walk)))
     dropped of_pixels = pixels_dropped 𝓛 (param 0 T)
     dropped _ = rows_dropped 𝓛 (param 0 T)
-
-    -- what the rows end as, where the items end as the draws leave them
-    rows_end_as : (k : Kind) (plane : Raster T.Denot) (walk : Walk T k) → Begins T k plane walk → (draws : List (Draw T k)) →
-        let table = table_of plane in let last = written T k table draws in
-        ent 𝓤 (sem 𝓛 (Second T k walk (walk_leaves (side_of T k) (made T k) (shown T k plane) draws)))
-        (sep 𝓤 (fact 𝓤 (map length last ≡ map length table)) (sem 𝓛 (SecondRows (param 0 T) (rows_of T k walk) last)))
-    rows_end_as of_pixels plane walk begun draws = rows_end 𝓛 (param 0 T) plane walk begun.tells _
-    rows_end_as k plane walk begun draws =
-        qed 𝓛 (‵ (SecondRows (param 0 T) walk (written T k (table_of plane) draws)) ∷ []) ∵ tells ! (rows_as_long (table_of plane) draws) $ done !
 
   -- the iterator where no lifetime is named
   abbrev bare : Kind → Ty
@@ -144,22 +135,22 @@ module _ {M : Type 1} {𝓤 : Ura M} (𝓛 : Logic 𝓤) (𝓜 : Model 𝓤 𝓛
     𝓣 = tables 𝓤 𝓛.H 𝓜 𝓡 𝓡.env
 
     -- the locals where the item is lent on, and in which one that is
-    abbrev relent : (k : Kind) (κ : Lft) (x : (given k κ (param 0 T)).Denot) → List (ℕ × Val)
-    relent of_pixels κ x = (19, its_value T of_pixels κ x) ∷ []
-    relent k κ x = (19, vptr x.ref_ptr.0 x.ref_ptr.1) ∷ (20, its_value T k κ x) ∷ []
+    abbrev relent : (κ : Lft) (k : Kind) (x : (given T κ k).Denot) → List (ℕ × Val)
+    relent κ of_pixels x = (19, its_value T κ of_pixels x) ∷ []
+    relent κ k x = (19, vptr x.ref_ptr.0 x.ref_ptr.1) ∷ (20, its_value T κ k x) ∷ []
 
     abbrev changes_by : Kind → Body
     changes_by of_pixels = gets 18 changing (value 19 ∷ value 5 ∷ [])
     changes_by _ = gets 18 changing (value 20 ∷ value 5 ∷ [])
 
-    lends_item : (k : Kind) (κ : Lft) (x : (given k κ (param 0 T)).Denot) → WT (its_value T k κ x) → (l : ℕ → ℕ) (plane draws walk i draw n v : Val) {a b c d e f
-        g h j m o p r : Item 𝓤} {q : Exits 𝓤 𝓛.H}
-        → let En = env (code k).locals l in let u = its_value T k κ x in let Γ = λ (held : List (ℕ × Val)). a ∷ b ∷ c ∷ d ∷ e ∷ f ∷ g ∷ h ∷ j ∷ m ∷ o ∷ p ∷ r ∷
+    lends_item : (κ : Lft) (k : Kind) (x : (given T κ k).Denot) → WT (its_value T κ k x) → (l : ℕ → ℕ) (plane draws walk i draw n v : Val) {a b c d e f g h j m
+        o p r : Item 𝓤} {q : Exits 𝓤 𝓛.H}
+        → let En = env (code k).locals l in let u = its_value T κ k x in let Γ = λ (held : List (ℕ × Val)). a ∷ b ∷ c ∷ d ∷ e ∷ f ∷ g ∷ h ∷ j ∷ m ∷ o ∷ p ∷ r ∷
         holding 𝓛 En (held ++ (1, plane) ∷ (2, draws) ∷ (3, walk) ∷ (4, i) ∷ (5, draw) ∷ (6, live 1 (of_list (u ∷ []))) ∷ (7, u) ∷ (10, n) ∷ (15, v) ∷ []) in
-        Step (Go {0}) 𝓛 (Γ (relent k κ x)) (runs 𝓣.C 𝓣.Λ En (changes_by k) q) (Γ []) (runs 𝓣.C 𝓣.Λ En (lends_on k) q)
-    lends_item of_pixels κ x ok l plane draws walk i draw n v = sets ! (addr ! (through ! refl (stop !))) refl (tt, tt)
-    lends_item _ κ x ok l plane draws walk i draw n v = step (λ s. sets ! (addr ! (from ! (fld ! refl (hop ! (look_in_at ! 7 (sub ! 0 refl (whole !)))
-        (stop !))))) refl (tt, tt) $
+        Step (Go {0}) 𝓛 (Γ (relent κ k x)) (runs 𝓣.C 𝓣.Λ En (changes_by k) q) (Γ []) (runs 𝓣.C 𝓣.Λ En (lends_on k) q)
+    lends_item κ of_pixels x ok l plane draws walk i draw n v = sets ! (addr ! (through ! refl (stop !))) refl (tt, tt)
+    lends_item κ _ x ok l plane draws walk i draw n v = step (λ s.
+        sets ! (addr ! (from ! (fld ! refl (hop ! (look_in_at ! 7 (sub ! 0 refl (whole !))) (stop !))))) refl (tt, tt) $
         sets ! (agg ! (and_then ! (get ! refl) (and_then ! (get_in ! (fld ! refl (stop !)) (sub ! 1 refl (whole !))) (no_more !)))) refl (tt, ok) $ s)
 
     abbrev Written : Kind → Type 2
@@ -180,8 +171,8 @@ module _ {M : Type 1} {𝓤 : Ura M} (𝓛 : Logic 𝓤) (𝓜 : Model 𝓤 𝓛
         (λ κs. (mut_vals, (shr_slice_vals, tt))) (λ κs. ((λ x vs is. is.0), ((λ x vs is. is.0.0), tt))) (λ κs qs bounds a g are.
         let κ = κs.0 in let q = qs.0 in let κd = κs.1.0 in let qd = qs.1.0 in let κT = κs.1.1.0 in let qT = qs.1.1.0 in
         let run = framed 𝓤 𝓛.H 𝓜 𝓣 in let W = walk_of 𝓛 En₀ stayed c in
-        let Plane = planes.the_row item in let Read = draw_row k item in let plane = a.0 in let b = plane.ref_ptr.0 in let o = plane.ref_ptr.1 in
-        let draws : List (Draw T k) = a.1.0.now in let bd = a.1.0.ref_ptr.0 in let od = a.1.0.ref_ptr.1 in let n = length draws in
+        let Read = draw_row k item in let plane = a.0 in let draws : List (Draw T k) = a.1.0.now in let n = length draws in
+        let b = plane.ref_ptr.0 in let o = plane.ref_ptr.1 in let bd = a.1.0.ref_ptr.0 in let od = a.1.0.ref_ptr.1 in
         let y : W.Ghost = ((κs, qs, bounds, a, (mut_vals plane, (shr_slice_vals a.1.0, tt))), tt) in let Post : Val → SProp 𝓤 = W.post y in
         let n_fits : n < 2 ^ 64 = are.1.0.0.1.0 in let size = (mem Read).size in let room : n * size < 2 ^ 63 = are.1.0.0.1.1 in
         let Each : Fml = fhide (elements_shared Read draws bd od κd) in
@@ -197,7 +188,7 @@ module _ {M : Type 1} {𝓤 : Ura M} (𝓛 : Logic 𝓤) (𝓜 : Model 𝓤 𝓛
         let spelled = (lowers 𝓛 𝓜 𝓡 T laws k ℓ).val_is in
         lands_as ! refl refl typed.0 $ sets ! (of_opd ! (get ! refl)) refl typed.0 $
         -- [the iterator; how the plane ends; the tokens of κw and κT; the plane's lender; the way back; the draws; the token of κd; the locals]
-        let Shows : Item 𝓤 = ‵ (LendsBuffer item loan (slice T k w)) in let Lender : Item 𝓤 = ‵ (LentAgain Plane κ κw q plane.ghost_name b o δ plane.now) in
+        let Shows : Item 𝓤 = ‵ (LendsBuffer item loan (slice T k w)) in let Lender : Item 𝓤 = Kept_by 𝓛 T α δ κ κT q plane in
         let turning = turn k in let behind_loop = ends_so in
         -- so many of the draws are done, and these items are left
         let State : Type 0 = (s : ℕ × Walk T k) × (s.0 ≤ n) × (left T k s.1 ≡ left_in_turn (left T k w) (map (side_of T k) (take s.0 draws))) in
@@ -219,7 +210,7 @@ module _ {M : Type 1} {𝓤 : Ura M} (𝓛 : Logic 𝓤) (𝓜 : Model 𝓤 𝓛
         sets ! (bin ! (get_in ! (fld ! refl (stop !)) (sub ! 0 refl (whole !))) (get ! refl) tt) refl (tt, tt) $
         sets ! (addr ! (through ! refl (stop !))) refl (tt, tt) $ first ! $ blocks ! $
         let ι : Bor (Draw T k) = record { ref_ptr = (bd, p); now = d } in
-        let inw' = bounds.1.0 in let Given = given k κw item in let Gives = option_row Given in let typing = (option_laws Given (given_laws T k κw laws)).lawful 𝓛 in
+        let inw' = bounds.1.0 in let Given = given T κw k in let Gives = option_row Given in let typing = (option_laws Given (given_laws T κw k laws)).lawful 𝓛 in
         let draws_of = draws_promise 𝓛 𝓜 𝓡 T clone dict k in let Taken = Puts T k (d ∷ []) walk in
         let After : Out → SProp 𝓤 = after_block 𝓤 𝓛.H (after_seq 𝓤 𝓛.H (Wp 𝓤 𝓛.H 𝓣.C 𝓣.Λ En goes_on (Turned t)) (Turned t)) in
         let Then : Exits 𝓤 𝓛.H = any_q (after_seq 𝓤 𝓛.H (Wp 𝓤 𝓛.H 𝓣.C 𝓣.Λ En (drawn_by k) After) After) in
@@ -230,19 +221,19 @@ module _ {M : Type 1} {𝓤 : Ura M} (𝓛 : Logic 𝓤) (𝓜 : Model 𝓤 𝓛
         (runs 𝓣.C 𝓣.Λ En goes_on (any_q (Turned t))) = λ new fewer.
         sets_last ! (bin ! (get ! refl) (lit ! tt) (record { fits = more })) refl (tt, record { fits = more }) $
         move ! (6 ∷ 0 ∷ []) $ use2 𝓛 (‵ (Puts T k (take (i + 1) draws) w new))
-        (nth_drawn 𝓛 (left T k) (Second T k) (side_of T k) (made T k) draws i h w walk new t.2 fewer) $ move ! (1 ∷ 0 ∷ []) $
-        again ! Nearer Now t ((i + 1, new), omega (arith, h), nth_left (side_of T k) (left T k w) draws i h (left T k walk) (left T k new) t.2 fewer)
+        (nth_drawn 𝓛 T k draws i h w walk new t.2 fewer) $ move ! (1 ∷ 0 ∷ []) $
+        again ! Nearer Now t ((i + 1, new), omega (arith, h), nth_left (side_of T k) _ draws i h _ _ t.2 fewer)
         (omega (arith, h)) in
         -- what is done with the item, once it is drawn: [the iterator; the token of κw; the item; what is lent; what is said; the tokens of κT and κd; nothing;
         -- the draw; the draws; what was put back; the rest; the locals]
         let writes : (v : Val) (r : Option (MutBor (Entry T k))) (new : Walk T k) → Sq 𝓛 (‵ (Walking.own_val new (low new ∷ [])) ∷ ‵ (flft κw qw) ∷
-        ‵ (Gives.own_val r (v ∷ [])) ∷ (Draws 𝓛 (left T k) (Lends T k) walk d.side r new ++ ‵ (flft κT rT) ∷ ‵ (flft κd qd) ∷ ‵ ftrue ∷
+        ‵ (Gives.own_val r (v ∷ [])) ∷ (Draws 𝓛 T k walk r new d.side ++ ‵ (flft κT rT) ∷ ‵ (flft κd qd) ∷ ‵ ftrue ∷
         ‵ ((ShrRef (named 2) κd Read).own_val ι (vptr bd p ∷ [])) ∷ ‵ Each ∷ ‵ (Puts T k (take i draws) w walk) ∷ Shows ∷ Lender ∷
         raw (Way_back 𝓛 α κT (Share.left qT)) ∷ holding 𝓛 En ((1, vptr b o) ∷ (2, slice_val (bd, od) n) ∷ (3, low new) ∷ (4, vint w64 i) ∷ (5, vptr bd p) ∷
         (10, vint w64 n) ∷ []))) (settles En (place 15 []) v Then) = λ v r new.
         move ! (2 ∷ []) $ peeks ! Gives _ (shows 𝓛 Gives) r (v ∷ []) (λ fits. move ! (4 ∷ []) $ heard ! _ (λ gave.
         lands_last ! refl (typing.typed r (v ∷ []) fits).0 $ exec ! 𝓣.C 𝓣.Λ En (drawn_by k) (any_q After) $
-        by_told ! Given (its_value T k κw) (value_is T k κw) r v (λ is_none e.
+        by_told ! Given (its_value T κw k) (value_is T κw k) r v (λ is_none e.
         sets ! (is ! (of_opd ! (get ! refl)) e) refl (tt, (record { fits = lit< tt }, tt)) $
         switches_on ! (get_tag ! (vrt ! refl (fld ! refl (stop !))) (whole !)) $ exec ! 𝓣.C 𝓣.Λ En (arm_body 1 (written_by k)) (any_q After) $
         skips ! $ exec ! 𝓣.C 𝓣.Λ En goes_on (any_q (Turned t)) $
@@ -251,20 +242,20 @@ module _ {M : Type 1} {𝓤 : Ura M} (𝓛 : Logic 𝓤) (𝓜 : Model 𝓤 𝓛
         rewrite ! 0 (λ (z : Option (MutBor (Entry T k))). ‵ (Lends T k d.side walk z new)) is_none refl $
         use1 𝓛 (‵ (Taken new)) (none_taken 𝓛 T d.side k (made T k d) walk new (sym (ap option_copied_mut (sym is_none) ∙ gave.0))) $
         forget_but ! En (1 ∷ 2 ∷ 3 ∷ 4 ∷ 10 ∷ []) refl $ finish new gave.1) (λ x is_item e is_one.
-        let item_fits = (((given_laws T k κw laws).lawful 𝓛).typed x (its_value T k κw x ∷ []) is_one).0.1 in
+        let item_fits = (((given_laws T κw k laws).lawful 𝓛).typed x (its_value T κw k x ∷ []) is_one).0.1 in
         sets ! (is ! (of_opd ! (get ! refl)) e) refl (tt, (record { fits = lit< tt }, (item_fits, tt))) $
         switches_on ! (get_tag ! (vrt ! refl (fld ! refl (stop !))) (whole !)) $ exec ! 𝓣.C 𝓣.Λ En (arm_body 0 (written_by k)) (any_q After) $
         sets ! (of_opd ! (get_in ! (vrt ! refl (fld ! refl (stop !))) (in_variant ! 1 0 refl refl (whole !)))) refl (tt, item_fits) $
-        lends_item k κw x item_fits l (vptr b o) (slice_val (bd, od) n) (low new) (vint w64 i) (vptr bd p) (vint w64 n) v $
+        lends_item κw k x item_fits l (vptr b o) (slice_val (bd, od) n) (low new) (vint w64 i) (vptr bd p) (vint w64 n) v $
         -- [the item; the iterator; the token of κw; what is lent; the tokens of κT and κd; nothing; the draw; the draws; what was put back; the rest]
         calls_last ! (2 ∷ 5 ∷ 4 ∷ 0 ∷ 7 ∷ []) run (changes 𝓛 𝓜 𝓡 T clone dict k).0 (changes 𝓛 𝓜 𝓡 T clone dict k).1 changed
-        (((κw, (κd, (κT, tt))), (qw, (qd, (rT, tt))), (inT', (inw', tt)), (x, (ι, tt)), (its_value T k κw x ∷ [], (vptr bd p ∷ [], tt))), tt)
+        (((κw, (κd, (κT, tt))), (qw, (qd, (rT, tt))), (inT', (inw', tt)), (x, (ι, tt)), (its_value T κw k x ∷ [], (vptr bd p ∷ [], tt))), tt)
         (asks_that 𝓤 inT) refl
         (and_then ! (get ! refl) (and_then ! (get ! refl) (no_more !))) (λ u last. raw (fact 𝓤 (last.0 ≡ made T k d x.now)) ∷ []) (λ u last. id⊢ 𝓤 _)
         (λ z u last. feq_l ! (λ is_unit. heard ! _ (λ changed_so.
         lands_last ! refl (unit_fits is_unit) $ exec ! 𝓣.C 𝓣.Λ En goes_on (any_q (Turned t)) $
         -- [the tokens of κw, κd and κT; how the item ends; nothing; the iterator; what is lent; nothing; the draws; what was put back; the rest]
-        move ! (4 ∷ 7 ∷ 3 ∷ []) $ drop ! $ drop ! $ use1 𝓛 (‵ (Left T k κw x last.0)) (left_as T 𝓛 k κw x last.0) $
+        move ! (4 ∷ 7 ∷ 3 ∷ []) $ drop ! $ drop ! $ use1 𝓛 (‵ (Left T κw k x last.0)) (left_as T κw 𝓛 k x last.0) $
         rewrite ! 0 (λ (z : Entry T k). ‵ (Ends T k x z)) changed_so refl $
         rewrite ! 5 (λ (z : Option (MutBor (Entry T k))). ‵ (Lends T k d.side walk z new)) is_item refl $ move ! (0 ∷ 5 ∷ []) $
         use2 𝓛 (‵ (Taken new)) (item_taken 𝓛 T d.side k (made T k d) walk new x (sym (ap option_copied_mut (sym is_item) ∙ gave.0))) $
@@ -291,8 +282,8 @@ module _ {M : Type 1} {𝓤 : Ura M} (𝓛 : Logic 𝓤) (𝓜 : Model 𝓤 𝓛
           ),
           tt,
         ) (asks_that 𝓤 inT) refl
-        (and_then ! (get ! refl) (no_more !)) (λ r us. Draws 𝓛 (left T k) (Lends T k) walk d.side r us.0)
-        (λ r us. from_front 𝓛 (left T k) (Lends T k) walk d.side r us.0 (sym is_side ∙ is_front)) (λ v r us.
+        (and_then ! (get ! refl) (no_more !)) (λ r us. Draws 𝓛 T k walk r us.0 d.side)
+        (λ r us. from_front 𝓛 T k walk r us.0 d.side (sym is_side ∙ is_front)) (λ v r us.
         move ! (3 ∷ 4 ∷ 6 ∷ 7 ∷ 8 ∷ []) $ walk_back ! tt Walking refl τ refl κw qw β γ (l 3) 0 us.0 (low us.0)
         (λ z is. ap only (spelled us.0 (z ∷ []) is)) $ give_at ! 3 $
         -- [the iterator; the token of κw; the item; what is lent; what is said; the tokens of κT and κd; nothing; the draw; the draws; ..]
@@ -311,8 +302,8 @@ module _ {M : Type 1} {𝓤 : Ura M} (𝓛 : Logic 𝓤) (𝓜 : Model 𝓤 𝓛
           ),
           tt,
         ) (asks_that 𝓤 inT) refl
-        (and_then ! (get ! refl) (no_more !)) (λ r us. Draws 𝓛 (left T k) (Lends T k) walk d.side r us.0)
-        (λ r us. from_back 𝓛 (left T k) (Lends T k) walk d.side r us.0 (sym is_side ∙ is_back)) (λ v r us.
+        (and_then ! (get ! refl) (no_more !)) (λ r us. Draws 𝓛 T k walk r us.0 d.side)
+        (λ r us. from_back 𝓛 T k walk r us.0 d.side (sym is_side ∙ is_back)) (λ v r us.
         move ! (3 ∷ 4 ∷ 6 ∷ 7 ∷ 8 ∷ []) $ walk_back ! tt Walking refl τ refl κw qw β γ (l 3) 0 us.0 (low us.0)
         (λ z is. ap only (spelled us.0 (z ∷ []) is)) $ give_at ! 3 $
         forget_but ! En (1 ∷ 2 ∷ 3 ∷ 4 ∷ 5 ∷ 10 ∷ []) refl $ writes v r us.0))))))
@@ -323,15 +314,15 @@ module _ {M : Type 1} {𝓤 : Ura M} (𝓛 : Logic 𝓤) (𝓜 : Model 𝓤 𝓛
         let table = table_of plane.now in let first_shown = shown T k plane.now in let second = walk_leaves (side_of T k) (made T k) first_shown draws in
         let last = written T k table draws in let rows = rows_of T k w in let new = with_entries plane.now (entries_with rows last) in
         use2 𝓛 (‵ (Second T k w second))
-        (each_drawn 𝓛 (left T k) (Second T k) (side_of T k) (made T k) draws i all w walk first_shown begun.all t.2) $
-        use1 𝓛 (raw (fact 𝓤 (map length last ≡ map length table)) ⊛ ‵ (SecondRows item rows last)) (rows_end_as T 𝓛 k plane.now w begun draws) $
+        (each_drawn 𝓛 T k draws i all w walk first_shown begun.all t.2) $
+        use1 𝓛 (raw (fact 𝓤 (map length last ≡ map length table)) ⊛ ‵ (SecondRows item rows last)) (rows_end 𝓛 T k plane.now w begun draws) $
         split ! $ heard ! _ (λ long. move ! (0 ∷ 1 ∷ 2 ∷ 5 ∷ 6 ∷ 7 ∷ []) $ rows_back ! tt T α δ κ κT q qT plane rows last $
         sets ! (of_opd ! (unit_lit !)) refl (tt, tt) $ returns ! (look_at ! 0 refl) $ free_all ! refl $
         let told_of : WritesTable plane.now new last = begun.written last long in
         nothing ! $ feq_i ! (List Val) (vunit ∷ []) (vunit ∷ []) refl $
         ends ! (4 ∷ 5 ∷ 2 ∷ 3 ∷ 1 ∷ 0 ∷ []) En₀ stayed c y vunit tt (new, (tt, tt)) (tt, (tt, tt)) refl $ tells ! told_of.table $
         told ! (λ k. (told_of.geometry k, told_of.border k)))) in
-        use0 𝓛 (‵ (Puts T k [] w w)) (none_drawn 𝓛 (left T k) (Second T k) (side_of T k) (made T k) w) $
+        use0 𝓛 (‵ (Puts T k [] w w)) (none_drawn 𝓛 T k w) $
         move ! (1 ∷ 0 ∷ 3 ∷ 4 ∷ 8 ∷ 7 ∷ 2 ∷ []) $
         first ! $ blocks ! $ sets ! (of_opd ! (lit ! tt)) refl (tt, record { fits = lit< tt }) $
         sets ! (of_opd ! (get_in ! (fld ! refl (stop !)) (sub ! 1 refl (whole !)))) refl (tt, record { fits = n_fits }) $

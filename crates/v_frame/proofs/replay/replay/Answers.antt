@@ -1,11 +1,10 @@
 -- One more call: its answer, its tables, and the planes that it may write.
-use Rattle.std.proofs.Common.{◌<◌, length, refl, ◌∙◌, ap, arith}
+use Rattle.std.proofs.Common.{◌≡◌, ◌<◌, length, refl, ◌∙◌, ap, arith}
 use Rattle.std.proofs.lemmas.List.{take_all}
 use Rattle.v_frame.specs.Frame.{tables_of, plane_at}
 use Rattle.v_frame_layout.specs.Pixel.{PixelForm}
-use Rattle.v_frame.specs.Replay.{answers_to, tables_after}
 use Rattle.v_frame.specs.declared.frame.Frame.{Frame}
-use Rattle.v_frame.proofs.Replays.{answers_more, tables_more, keeps_border_twice, stopped_at, written_before, written_now, written_in_front}
+use Rattle.v_frame.proofs.Replays.{answers_more, tables_more, keeps_border_twice, written_before, written_now, written_in_front}
 use Rattle.v_frame.proofs.replay.replay.Goals as goal
 
 pub loop-call-preserved : goal.loop-call-preserved
@@ -39,7 +38,8 @@ returns-in-Err-replay_call-clause-stopped g c =
     let so_far = c.loop-call.invariant in
     let within : i < length c.args.calls.now = omega arith in
     let shown = ap (λ (f : Frame g.row.T.Denot). tables_of f) c.in-Err-replay_call.ensures.err ∙ so_far.tables in
-    rw c.into-in-Err-replay_call.ensures (stopped_at g.T.Pixel.form c.args.calls.now i within _ _ _ (omega (arith, so_far.done)) so_far.answers shown)
+    let count : length c.loop-call.done.items ≡ i = omega (arith, so_far.done) in
+    rw c.into-in-Err-replay_call.ensures (record { early = omega arith; answers = rw count so_far.answers; tables = rw count shown })
 
 pub loop-call-init : goal.loop-call-init
 loop-call-init g c = record {
@@ -52,12 +52,10 @@ loop-call-init g c = record {
 }
 
 pub returns-clause-answers : goal.returns-clause-answers
-returns-clause-answers g c = c.loop-call.invariant.answers ∙
-    ap (λ calls. answers_to g.T.Pixel.form calls (tables_of c.args.frame.now)) (take_all c.loop-call.call-index c.args.calls.now c.loop-call-test.false)
+returns-clause-answers g c = rw (take_all c.loop-call.call-index c.args.calls.now c.loop-call-test.false) at c.loop-call.invariant.answers
 
 pub returns-clause-tables : goal.returns-clause-tables
-returns-clause-tables g c = c.loop-call.invariant.tables ∙
-    ap (λ calls. tables_after g.T.Pixel.form calls (tables_of c.args.frame.now)) (take_all c.loop-call.call-index c.args.calls.now c.loop-call-test.false)
+returns-clause-tables g c = rw (take_all c.loop-call.call-index c.args.calls.now c.loop-call-test.false) at c.loop-call.invariant.tables
 
 pub returns-clause-unwritten : goal.returns-clause-unwritten
 returns-clause-unwritten g c = λ index none.

@@ -1,5 +1,5 @@
 -- One more entry of the list, and the end.
-use Rattle.std.proofs.Common.{◌<◌, List, length, Some, get_or, slice_set, unwrap_or, sym, ◌∙◌, ap, arith}
+use Rattle.std.proofs.Common.{◌<◌, List, length, Some, get_or, unwrap_or, sym, ◌∙◌, ap, arith}
 use Rattle.std.proofs.lemmas.Option.{slice_get-get_or}
 use Rattle.v_frame_plane.proofs.tables.Overwrites.{overwritten_by_none, written_more, written_all}
 use Rattle.v_frame.proofs.replay.row_writes.overwrite.Goals as goal
@@ -18,8 +18,7 @@ loop-i-preserved g c =
     let pixel = c.index-row-i.result in
     let listed = slice_get-get_or writes i write read ∙ ap Some (sym c.index-writes-i.is) in
     let stood = c.index-row-i.is ∙ ap (λ (r : List g.row.T.Denot). get_or r i pixel) c.loop-i.invariant in
-    ap (slice_set c.loop-i.row i) c.unwrap_or.ensures ∙ ap (λ (r : List g.row.T.Denot). slice_set r i (unwrap_or write pixel)) c.loop-i.invariant ∙
-    sym (written_more row writes i write pixel high listed stood)
+    rw (c.unwrap_or.ensures, c.loop-i.invariant) (sym (written_more row writes i write pixel high listed stood))
 
 pub returns : goal.returns
 returns g c = c.loop-i.invariant ∙ written_all c.args.row.now c.args.writes.now c.loop-i.i (omega (arith, c.min-i-end.ensures))
