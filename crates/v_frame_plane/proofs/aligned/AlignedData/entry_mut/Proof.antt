@@ -1,10 +1,10 @@
 -- `entry_mut` lends an entry of the slice that `as_mut_slice` lends. Rattle follows no loan of a loan, so this proof follows the code. Assumes `Logic`.
-use Rattle.v_frame_plane.proofs.lent.Steps.{◌≡◌, ◌<◌, List, [], ◌∷◌, length, ℕ, Some, list_drop, w64, refl, sym, ap, ◌∙◌, proved, id⊢, fact, tables, Array}
-use Rattle.v_frame_plane.proofs.lent.Steps.{usize, yes, no, shows, param, layouts, uint_vals, uint_Tells, MutRef, mut_vals, Valss, types_at, mut_Tells, plain}
-use Rattle.v_frame_plane.proofs.lent.Steps.{MutSlice, nothing, peeks, heard, framed, Stays, stay_dropped, Goes-dropped, inst_fn, a_type, named, alloc_all}
-use Rattle.v_frame_plane.proofs.lent.Steps.{pass_all, free_all, look_at, get, through, sets, lands_as, ‵, raw, ◌$◌, !, done, move, use2, rewrite, enter, addr}
-use Rattle.v_frame_plane.proofs.lent.Steps.{stop, no_more, and_then, returns, slice_get, slice_set, subst, length-set, refill, follows, follows_then}
-use Rattle.v_frame_plane.proofs.lent.Steps.{mut_Lawful, mut_slice_Lawful, Goes-spent_ref, says, keep}
+use Rattle.v_frame_plane.proofs.lent.Steps.{◌≡◌, ◌<◌, List, [], ◌∷◌, length, ℕ, Some, w64, refl, sym, ap, ◌∙◌, proved, id⊢, fact, tables, Array, usize, yes, no}
+use Rattle.v_frame_plane.proofs.lent.Steps.{shows, param, layouts, uint_vals, uint_Tells, MutRef, mut_vals, Valss, types_at, mut_Tells, plain, MutSlice}
+use Rattle.v_frame_plane.proofs.lent.Steps.{nothing, peeks, heard, framed, Stays, stay_dropped, Goes-dropped, inst_fn, a_type, named, alloc_all, pass_all}
+use Rattle.v_frame_plane.proofs.lent.Steps.{free_all, look_at, get, through, sets, lands_as, ‵, raw, ◌$◌, !, done, move, use2, rewrite, enter, addr, stop}
+use Rattle.v_frame_plane.proofs.lent.Steps.{no_more, and_then, returns, slice_get, slice_set, subst, length-set, refill, follows, follows_then, mut_Lawful}
+use Rattle.v_frame_plane.proofs.lent.Steps.{mut_slice_Lawful, Goes-spent_ref, says, keep}
 use Rattle.std.proofs.lemmas.List.{take_at}
 use Rattle.v_frame_plane.proofs.lent.CallSteps.{asks_both, asks_that, both_facts, calls, ends, opened_by}
 use Rattle.v_frame_plane.specs.contracts.aligned.AlignedData.{the_row}
@@ -19,8 +19,7 @@ use Rattle.v_frame_plane.proofs.aligned.AlignedData.entry_mut.Code as code
 -- a list with an entry set is as long as before, so nothing is cut off it or added
 same_length : {X : Type 0} (ys xs : List X) (k : ℕ) → ys ≡ xs → (λ x. refill (length xs) xs (slice_set ys k x)) ≡ slice_set xs k
 same_length ys xs k same i x =
-    let cut = take_at (slice_set ys k x) (list_drop (length (slice_set ys k x)) xs) (length xs) (length-set ys k x ∙ ap length same) in
-    (cut ∙ ap (λ zs. slice_set zs k x) same) i
+    let kept : refill (length xs) xs (slice_set ys k x) ≡ slice_set xs k x = rw same (take_at (slice_set xs k x) _ (length xs) (length-set xs k x)) in kept i
 
 pub entry_mut_spec : {M : Type 1} → statement M
 entry_mut_spec 𝓤 𝓛 𝓜 𝓡 wired T laws =

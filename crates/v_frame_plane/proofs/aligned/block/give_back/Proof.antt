@@ -94,8 +94,10 @@ give_back_spec 𝓤 𝓛 𝓜 𝓡 wired X W X-laws W-laws g dz dx dd met droppe
     let Now : Left → List (Item 𝓤) = λ t. ‵ (entries_at (R E) b (t.0 * s + o) t.1) ∷ ‵ (froom (ty_array (elτ E) t.0) b o)
     ∷ ‵ (room_at (R E) b (written * s + o) spare) ∷ Token (len * s == 0) ∷ ‵ (hidden_shr (P E Z) κ h at.0 at.1) ∷ ‵ (flft κ q) ∷ ‵ (flft κ₁ q₁) ∷ ‵ (flft κ₂ q₂)
     ∷ holding 𝓛 Ev ((1, vptr at.0 at.1) ∷ (2, word (block_ptr b o)) ∷ (3, vint w64 written) ∷ (4, vint w64 len) ∷ (7, vint w64 t.0) ∷ []) in
+    -- a turn leaves fewer entries, or the loop, behind which the rest of the code runs
     let Turned : Left → After 𝓤 𝓛.H = λ t. any_q (after_turn 𝓤 𝓛.H (Below 𝓛 Fewer Now t) (after_block 𝓤 𝓛.H (after_seq 𝓤 𝓛.H
     (Wp 𝓤 𝓛.H 𝓣.C 𝓣.Λ Ev rest (at_return 𝓤 𝓛.H Ev Post)) (at_return 𝓤 𝓛.H Ev Post)))) in
+    -- the end: the tokens
     let exits : Sq 𝓛 (‵ (flft κ q) ∷ ‵ (flft κ₁ q₁) ∷ ‵ (flft κ₂ q₂) ∷ holding 𝓛 Ev []) (runs 𝓣.C 𝓣.Λ Ev (after 3 rest) (at_ret Ev Post)) =
     sets ! (of_opd ! (unit_lit !)) refl _ $ returns ! (look_at ! 0 refl) $ free_all ! refl $
     feq_i ! (List Val) (vunit ∷ []) (vunit ∷ []) refl $ nothing ! $ nothing ! $ nothing ! $ nothing ! $ nothing ! $ nothing ! $

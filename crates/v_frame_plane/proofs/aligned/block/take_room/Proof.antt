@@ -9,7 +9,7 @@ use Rattle.v_frame_plane.proofs.lent.Steps.{true, false, Bool, ty_array, Incl-tr
 use Rattle.v_frame_plane.proofs.lent.Steps.{vrt, in_variant, align_word, get_tag, sets_last, framed, forget_but, holding, Is, block_ptr, Struct, Struct-Makes}
 use Rattle.v_frame_plane.proofs.lent.Steps.{proved, shr_vals, shr_Tells, uint_vals, uint_Tells, shape, ◌==◌, Fml, types_at, Ok, Err, El, R, elτ, Al, token}
 use Rattle.v_frame_plane.proofs.lent.Steps.{Answer-typed, Takes, at_takes, Answered, Takes-goes, Takes-gives, answers, block_ty, block_size, block_align, args}
-use Rattle.v_frame_plane.proofs.lent.Steps.{P, as_raw, word, word-Good, any_q, after_seq, at_return, Wp, cond, skip, switches_on, arm_body, head}
+use Rattle.v_frame_plane.proofs.lent.Steps.{P, as_raw, word, any_q, after_seq, at_return, Wp, cond, skip, switches_on, arm_body, head}
 use mir.Syntax.{Body}
 use lib.Ieee.Bits.{is_false}
 use denote.Shadow.{makes_shadow, pure_i}
@@ -83,6 +83,7 @@ take_room_spec 𝓤 𝓛 𝓜 𝓡 wired X W X-laws W-laws g d dd met _ =
     let small : len * s < 2 ^ 63 = asked.1.1.0 in let bytes : len * s < 2 ^ 64 = omega arith in
     keep ! (3 ∷ 0 ∷ 1 ∷ 2 ∷ []) $ fsplit ! $ drop ! $
     enter ! _ _ _ _ _ $ alloc_all ! (λ l. pass_all ! refl (_, ((tt, record { fits = are.1.0.1 }), tt)) $
+    -- what follows the test whether the entries take any bytes; the switch on the allocator's answer; how its arms end
     let Ev = env fn.locals l in let rest = after 5 fn.body in let answered = after 1 (held (head (after 4 fn.body))) in
     let Then = any_q (after_seq 𝓤 𝓛.H (Wp 𝓤 𝓛.H 𝓣.C 𝓣.Λ Ev rest (at_return 𝓤 𝓛.H Ev Post)) (at_return 𝓤 𝓛.H Ev Post)) in
     -- what the deed owns, where the test whether the entries take no bytes gives `none`
@@ -91,12 +92,11 @@ take_room_spec 𝓤 𝓛 𝓜 𝓡 wired X W X-laws W-laws g d dd met _ =
     let tail : (b o : ℕ) → Sq 𝓛 (‵ (room_at (R E) b o len) ∷ Token b o (len * s == 0) ∷ ‵ (flft κ q) ∷ ‵ (flft κs.1.0 qs.1.0) ∷ ‵ (flft κs.1.1.0 qs.1.1.0)
     ∷ holding 𝓛 Ev ((5, vptr b o) ∷ [])) (runs 𝓣.C 𝓣.Λ Ev rest (at_ret Ev Post)) = λ b o.
     let v = live 0 (vcons (parts_val E Z b o) vnil) in
-    sets ! (agg ! (and_then ! (get ! refl) (no_more !))) refl (word-Good [] (block_ptr b o)) $
+    sets ! (agg ! (and_then ! (get ! refl) (no_more !))) refl _ $
     sets ! (agg ! (no_more !)) refl _ $ sets ! (agg ! (and_then ! (get ! refl) (no_more !))) refl _ $
     sets ! (agg ! (no_more !)) refl _ $ sets ! (agg ! (and_then ! (get ! refl) (no_more !))) refl _ $
     sets ! (agg ! (and_then ! (get ! refl) (and_then ! (get ! refl) (and_then ! (get ! refl) (no_more !))))) refl _ $
-    sets ! (agg ! (and_then ! (lit ! tt) (and_then ! (get ! refl) (no_more !)))) refl
-    (tt, (record { fits = lit< tt }, _)) $
+    sets ! (agg ! (and_then ! (lit ! tt) (and_then ! (get ! refl) (no_more !)))) refl (tt, (record { fits = lit< tt }, _)) $
     use2 𝓛 (‵ ((Out E Z).own_val (Ok (made E Z b o len h)) (v ∷ []))) (parts_made E Z 𝓛 b o len h small) $
     returns ! (look_at ! 0 refl) $ free_all ! refl $ nothing ! $ nothing ! $
     ends ! (3 ∷ 4 ∷ 5 ∷ 0 ∷ 1 ∷ 2 ∷ []) En stayed c y v (Ok (made E Z b o len h)) (tt, (tt, tt)) (tt, (tt, tt)) refl $
