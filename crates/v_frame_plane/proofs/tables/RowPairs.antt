@@ -33,17 +33,9 @@ module _ {T : Type 0} where
       let between : drop (start + width) (take next xs) ≡ take n rest = ap (λ k. drop (start + width) (take k xs)) to ∙ drop-take (start + width) n xs in
       let one_is : one ≡ front ++ drop n rest = simp (wide, append_assoc, take-append-drop) (rw drop-drop refl) in
       let long : length front ≡ next = simp (length-append, length-take, length-drop, wide) (omega (arith, order, inside)) in
+      let above = take_at front (drop n rest) next long in let below = drop_at front (drop n rest) next long in
       let at_once : with_two_parts xs start width next width ys zs ≡ both =
-      rw (
-        between,
-        one_is,
-        take_at front (drop n rest) next long,
-        drop_at front (drop n rest) next long,
-        other_wide,
-        drop-drop width n rest,
-        drop-drop (n + width) (start + width) xs,
-        end,
-      ) (simp append_assoc) in
+      rw (between, one_is, above, below, other_wide, drop-drop width n rest, drop-drop (n + width) (start + width) xs, end) (simp append_assoc) in
       let one_long : length one ≡ length xs = length-overwritten xs ys start (omega (arith, wide, order, inside)) in
       let both_long : length both ≡ length one = length-overwritten one zs next (omega (arith, one_long, other_wide, inside)) in
       rw (at_once, refill_same xs one one_long, refill_same xs both (both_long ∙ one_long), refill_same one both both_long) refl
