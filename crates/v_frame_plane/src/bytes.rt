@@ -41,6 +41,7 @@ impl<'a, T: Pixel> Model for ByteData<'a, T> {
 
 impl<'a, T: Pixel> ByteData<'a, T> {
     /// The bytes of the visible pixels of a plane.
+    #[tactic(auto, using(crate::proofs::iterators::BegunPixels::few_bytes))]
     pub(crate) fn new(plane: &PlaneRef<'a, T>) -> Self
         ensures bytes { result ≡ byte_list T.form (table_of plane.now) }
         ensures count { length result

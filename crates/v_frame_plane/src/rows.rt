@@ -41,6 +41,7 @@ impl<'a, T> Model for Rows<'a, T> {
 
 impl<'a, T> Rows<'a, T> {
     /// The visible rows of a plane.
+    #[tactic(auto, using(crate::proofs::iterators::Cursors::visible_rows))]
     pub(crate) fn new(plane: &PlaneRef<'a, T>) -> Self
         ensures rows { result ≡ table_of plane.now }
         ensures bound { length result < 2 ^ 63 }

@@ -3,13 +3,6 @@ use Rattle.std.proofs.Common.{◌*◌, None, ap, arith}
 use Rattle.v_frame_plane.proofs.iterators.BegunPixels.{count_of_bytes, few_bytes}
 use Rattle.v_frame_plane.proofs.bytes.ByteData.new.Goals as goal
 
-pub invariant_of-result : goal.invariant_of-result
-invariant_of-result g c = record {
-  low_drawn = tt;
-  high_drawn = tt;
-  bound = omega (arith, few_bytes g.T.Pixel.form c.new.result g.met.T.Pixel.byte_or_two.1 c.new.ensures.bound);
-}
-
 pub returns-clause-count : goal.returns-clause-count
 returns-clause-count g c =
     let form = g.T.Pixel.form in

@@ -21,21 +21,10 @@ invariant_of-result g c =
       );
     }
 
-pub returns : goal.returns
-returns g c =
+pub returns-clause-bound : goal.returns-clause-bound
+returns-clause-bound g c =
     let k = c.geometry-geometry.result in
     let valid = c.width-width.ensures.valid in
-    let own : Raster g.row.T.Denot = raster k c.data.result.now in
-    let same : own ≡ c.args.plane.now = λ i. record { geometry = c.geometry-geometry.ensures.value i; buffer = c.data.ensures.value i } in
     let rows = visible_rows k c.data.result.now c.data_origin.result c.width-width.result (c.stride.result - c.width-width.result) c.height.result
     c.data_origin.ensures.value c.width-width.ensures.value (omega arith) c.height.ensures.value in
-    record {
-      rows = rows ∙ ap table_of same;
-      bound = rw (rows) (few_rows own valid.wide c.geometry-geometry.ensures.fits);
-      plane = record {
-        fits = rw (c.geometry-geometry.ensures.value) at c.geometry-geometry.ensures.fits;
-        whole = ap length (sym c.data.ensures.value) ∙
-            c.data.ensures.whole;
-      };
-      valid = rw (c.geometry-geometry.ensures.value) at valid;
-    }
+    rw rows (few_rows (raster k c.data.result.now) valid.wide c.geometry-geometry.ensures.fits)
