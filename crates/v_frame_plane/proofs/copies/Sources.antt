@@ -15,8 +15,7 @@ front_within front stride pieces y h within =
 
 module _ {S T : Type 0} where
   pub length-rows : (make : List S → List T) (front stride pieces : ℕ) (source : List S) → length (map make (piece_fronts front stride pieces source)) ≡ pieces
-  length-rows make front stride pieces source =
-      length-map (piece_fronts front stride pieces source) make ∙ length-map (cut_rows stride pieces source) (take front) ∙ length-cut_rows stride pieces source
+  length-rows make front stride pieces source = simp (length-map, length-cut_rows)
 
   -- the row that is made of piece y, as the code reads its front
   pub row_of_piece : (make : List S → List T) (front stride pieces : ℕ) (source : List S) (y from n : ℕ) (row : List T) → y < pieces → front ≤ stride →

@@ -87,11 +87,6 @@ module _ {M : Type 1} {𝓤 : Ura M} (𝓛 : Logic 𝓤) (b o : ℕ) (ns : Vals)
   abbrev Around : SProp 𝓤
   Around = all 𝓤 (λ (u : Val). wand 𝓤 (Slot u) (Whole u))
 
-  slice_in : (a : NamedLft) (T : RattleType) (v : Val) → ent 𝓤 (sep 𝓤 (Slot v) Around) (𝓛.H.at full_share (Named a T) b o (vstruct (vcons v ns)))
-  slice_in a T v = qed 𝓛 (‵ (fat full_share word b (o + 0) v) ∷ raw Around ∷ []) ∵ move ! (1 ∷ 0 ∷ []) $
-      use2 𝓛 (‵ (fat full_share Bare b o (vstruct (vcons v ns)))) (at_one 𝓛 Slot Whole v) $
-      use1 𝓛 (‵ (fat full_share (Named a T) b o (vstruct (vcons v ns)))) (𝓛.laws.raw_at full_share (Named a T) b o (vstruct (vcons v ns))) $ done !
-
   pub bare : (a : NamedLft) (T : RattleType) (v : Val) → ent 𝓤 (𝓛.H.at full_share (Named a T) b o (vstruct (vcons v ns))) (Whole v)
   bare a T v = 𝓛.laws.at_raw full_share (Named a T) b o (vstruct (vcons v ns))
 
@@ -134,8 +129,10 @@ module _ {M : Type 1} {𝓤 : Ura M} {𝓛 : Logic 𝓤} {K : Type 0} {Γ : List
       -- [the field; the way back; the slice; the token]
       move t (0 ∷ 2 ∷ 3 ∷ []) $ calls_take t fm at_mem run T a.lft met q walk.rest b (o + 0) inT os (λ e _.
       -- [the field; what it owns now; the slice; the token; the way back]
-      move t (1 ∷ []) $ drop t $ move t (0 ∷ 3 ∷ []) $ use2 𝓛 (‵ (fat full_share (Named a (param 0 T)) b o (vstruct (vcons (slice_val e.ref_ptr 0) ns))))
-      (slice_in 𝓛 b o ns a (param 0 T) (slice_val e.ref_ptr 0)) $ k e its.0.1.0))))
+      let walk' = vstruct (vcons (slice_val e.ref_ptr 0) ns) in
+      move t (1 ∷ []) $ drop t $ move t (3 ∷ 0 ∷ []) $
+      use2 𝓛 (‵ (fat full_share Bare b o walk')) (at_one 𝓛 (Slot 𝓛 b o ns) (Whole 𝓛 b o ns) (slice_val e.ref_ptr 0)) $
+      use1 𝓛 (‵ (fat full_share (Named a (param 0 T)) b o walk')) (𝓛.laws.raw_at full_share (Named a (param 0 T)) b o walk') $ k e its.0.1.0))))
 
 -- `next` and `next_back` keep self in the same way
 abbrev pub stayed : (T : RattleType) → Stays (next.ended T).signature.params (next.ended T).kept

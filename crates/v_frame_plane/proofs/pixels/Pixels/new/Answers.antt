@@ -1,5 +1,5 @@
 -- The rows of a plane aren't empty, and its pixels are no more than its buffer holds.
-use Rattle.std.proofs.Common.{append-nil}
+use Rattle.std.proofs.Common.{append-nil, refl}
 use Rattle.v_frame_layout.specs.Table.{row_major}
 use Rattle.v_frame_plane.specs.Plane.{table_of}
 use Rattle.v_frame_plane.proofs.iterators.BegunRows.{visible_countable, visible_pixels, visible_few}
@@ -10,12 +10,12 @@ invariant_of-result g c =
     let rows = c.new.ensures in
     rw (c.default.ensures, rows.rows, c.default-2.ensures) (visible_countable c.args.plane.now rows.valid.wide rows.plane)
 
-pub returns-clause-count : goal.returns-clause-count
-returns-clause-count g c =
+pub returns : goal.returns
+returns g c =
+    let p = c.args.plane.now in
     let rows = c.new.ensures in
-    rw (c.default.ensures, c.default-2.ensures, rows.rows, append-nil (row_major (table_of c.args.plane.now))) (visible_pixels c.args.plane.now rows.plane)
-
-pub returns-clause-bound : goal.returns-clause-bound
-returns-clause-bound g c =
-    let rows = c.new.ensures in
-    rw (c.default.ensures, c.default-2.ensures, rows.rows, append-nil (row_major (table_of c.args.plane.now))) (visible_few c.args.plane.now rows.plane)
+    rw (c.default.ensures, c.default-2.ensures, rows.rows, append-nil (row_major (table_of p))) record {
+      pixels = refl;
+      count = visible_pixels p rows.plane;
+      bound = visible_few p rows.plane;
+    }
