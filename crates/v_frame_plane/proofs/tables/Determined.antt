@@ -22,7 +22,7 @@ module _ {T : Type 0} where
   same_cut (piece ∷ plan) xs ys v b =
       let n = piece.entries in
       let first = same_piece piece.mark (take n xs) (take n ys) _ _ _ _ v b in
-      rw (take-add, take-add, first.0, same_cut plan (drop n xs) (drop n ys) first.1 first.2) refl
+      rw (take-add n (total plan) xs, take-add n (total plan) ys, first.0, same_cut plan (drop n xs) (drop n ys) first.1 first.2) refl
 
   same_buffer : (g : Geometry) (xs ys : List T) → length xs ≡ alloc_size_of g → length ys ≡ alloc_size_of g → table_of (raster g xs) ≡ table_of (raster g ys) →
       border_of (raster g xs) ≡ border_of (raster g ys) → xs ≡ ys

@@ -2,7 +2,7 @@
 use Rattle.std.proofs.Common.{ℕ, zero, suc, ◌≡◌, ◌+◌, ◌<◌, ◌≤◌, List, [], ◌∷◌, ◌++◌, length, take, drop, Some, slice_get, slice_set, refl, sym, ◌∙◌, ap, arith}
 use Rattle.std.proofs.Common.{append_assoc, length-append, length-drop, length-take-le, take-append-drop}
 use Rattle.std.proofs.lemmas.List.{drop-drop, take-append-le, drop-append-le, take_at, drop_at, set_at}
-use Rattle.v_frame_layout.specs.Geometry.{Geometry, stride_of, Mark, Visible, Piece, times, outer_row, crossing_row, cutting_plan}
+use Rattle.v_frame_layout.specs.Geometry.{Geometry, stride_of, Mark, Visible, Piece, visible_piece, times, outer_row, crossing_row, cutting_plan}
 use Rattle.v_frame_layout.proofs.Plans.{total, before_row, after_row, plan_at_row, row_start, total-before_row}
 use Rattle.v_frame_plane.specs.Plane.{Raster, cut_by, visible_pieces, border_pieces, table_of}
 use Rattle.v_frame_plane.proofs.tables.Lists.{slice_get-at}
@@ -46,7 +46,8 @@ module _ {T : Type 0} where
       → cut_by (cutting_plan g) xs ≡ cut_by (before_row g y) xs ++ (Visible, take g.width (drop (row_start g y) xs)) ∷
       cut_by (after_row g y) (drop (row_start g y + g.width) xs)
   picture_at_row g xs y h =
-      rw (plan_at_row g y h, cut_by-append, total-before_row g y, drop-drop g.width (row_start g y) xs) refl
+      let around = visible_piece g.width ∷ after_row g y in
+      rw (plan_at_row g y h, cut_by-append (before_row g y) around xs, total-before_row g y, drop-drop g.width (row_start g y) xs) refl
 
   -- the table round it
   shown_at_row : (g : Geometry) (xs : List T) (y : ℕ) → y < g.height
