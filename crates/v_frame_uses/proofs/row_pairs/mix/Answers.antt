@@ -1,5 +1,5 @@
 -- One more pixel is an average, and at the end all are.
-use Rattle.std.proofs.Common.{ℕ, zero, suc, ◌≡◌, ◌+◌, ◌/◌, ◌<◌, ◌≤◌, List, [], ◌∷◌, ◌++◌, length, take, drop, slice_index_or, slice_set, refl, ◌∙◌, ap, arith}
+use Rattle.std.proofs.Common.{ℕ, zero, suc, ◌≡◌, ◌+◌, ◌/◌, ◌<◌, ◌≤◌, List, [], ◌∷◌, ◌++◌, length, take, drop, slice_index_or, slice_set, refl, ap, arith}
 use Rattle.std.proofs.Common.{append-nil}
 use Rattle.std.proofs.{lemmas.List.drop_all, lemmas.List.length-map, lemmas.List.take_all, lemmas.Slice.Zip.length-zip}
 use Rattle.v_frame_uses.specs.{RowPairs.averages}
@@ -9,20 +9,18 @@ use Rattle.v_frame_uses.proofs.row_pairs.mix.Goals as goal
 abbrev mixed : List ℕ → List ℕ → ℕ → List ℕ
 mixed row other x = take x (averages row other) ++ drop x row
 
-mixed_more : (row other : List ℕ) (x d e : ℕ) → x < length row → length row ≡ length other
-    → slice_set (mixed row other x) x ((slice_index_or (mixed row other x) x d + slice_index_or other x e) / 2) ≡ mixed row other (x + 1)
-mixed_more [] other x d e h same = absurd (omega arith)
-mixed_more (p ∷ row) [] x d e h same = absurd (omega (arith, same))
-mixed_more (p ∷ row) (q ∷ other) zero d e h same = refl
-mixed_more (p ∷ row) (q ∷ other) (suc x) d e h same =
+mixed_more : (row other : List ℕ) (x : ℕ) → x < length row → length row ≡ length other
+    → slice_set (mixed row other x) x ((slice_index_or (mixed row other x) x 0 + slice_index_or other x 0) / 2) ≡ mixed row other (x + 1)
+mixed_more [] other x h same = absurd (omega arith)
+mixed_more (p ∷ row) [] x h same = absurd (omega (arith, same))
+mixed_more (p ∷ row) (q ∷ other) zero h same = refl
+mixed_more (p ∷ row) (q ∷ other) (suc x) h same =
     let next : suc x + 1 ≡ suc (x + 1) = omega arith in
-    rw next (ap (λ r. (p + q) / 2 ∷ r) (mixed_more row other x d e (omega arith) (omega (arith, same))))
+    rw next (ap (λ r. (p + q) / 2 ∷ r) (mixed_more row other x (omega arith) (omega (arith, same))))
 
 pub loop-x-preserved : goal.loop-x-preserved
 loop-x-preserved c =
-    let x = c.loop-x.x in let row = c.args.row.now in let other = c.args.other.now in
-    ap (slice_set c.loop-x.row x) c.midpoint.ensures ∙ ap (λ r. slice_set r x ((slice_index_or r x 0 + slice_index_or other x 0) / 2)) c.loop-x.invariant ∙
-    mixed_more row other x 0 0 c.loop-x-test.true c.requires
+    rw (c.midpoint.ensures, c.loop-x.invariant) (mixed_more c.args.row.now c.args.other.now c.loop-x.x c.loop-x-test.true c.requires)
 
 pub returns : goal.returns
 returns c =
