@@ -63,5 +63,6 @@ module _ {T : Type 0} where
         → answers_to form (CopyFromU8SliceWithStride 0 source stride ∷ ByteData 0 sides ∷ []) tables
         ≡ Copied (Ok tt) ∷ BytesWalked (length (row_major (piece_fronts (width * form.size) stride height source)))
         (draws_answer (row_major (piece_fronts (width * form.size) stride height source)) sides) ∷ []
-    path_answers tables width height w h fits whole = rw (accepted_copy form tables.y source stride width height w h fits whole,
-        table_comes_back form back width height stride source fits whole bytes)
+    path_answers tables width height w h fits whole =
+        let copied = accepted_copy form tables.y source stride width height w h fits whole in
+        rw (copied, table_comes_back form back width height stride source fits whole bytes)

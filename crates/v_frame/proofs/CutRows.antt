@@ -1,14 +1,13 @@
 -- Rows of one width are what their pixels are cut into.
-use Rattle.std.proofs.Common.{ℕ, ◌≡◌, List, [], ◌∷◌, length, map, drop, All, get_or, refl, ◌∙◌, ap, arith}
-use Rattle.std.proofs.lemmas.List.{take_at, drop_at}
+use Rattle.std.proofs.Common.{ℕ, ◌≡◌, List, [], ◌∷◌, length, map, drop, All, get_or, refl, sym, ◌∙◌, ap, arith}
+use Rattle.std.proofs.lemmas.List.{take_at, drop_at, length-map, nil_from_length}
 use Rattle.std.proofs.lemmas.List.Elements.{All-head, All-tail}
 use Rattle.v_frame_layout.specs.Table.{Table, width_of, height_of, row_major, cut_rows}
 
 module _ {T : Type 0} (width : ℕ) where
   cut-row_major : (table rows : Table T) → map length rows ≡ map length table → All (λ row. length row ≡ width) table →
       cut_rows width (length table) (row_major rows) ≡ rows
-  cut-row_major [] [] same wide = refl
-  cut-row_major [] (row ∷ rows) same wide = absurd (omega (arith, ap length same))
+  cut-row_major [] rows same wide = sym (nil_from_length rows (omega (arith, ap length same, length-map rows length)))
   cut-row_major (first ∷ table) [] same wide = absurd (omega (arith, ap length same))
   cut-row_major (first ∷ table) (row ∷ rows) same wide =
       let long : length row ≡ width = ap (λ ns. get_or ns 0 0) same ∙ All-head (λ r. length r ≡ width) first table wide in

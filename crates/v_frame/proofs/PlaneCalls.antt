@@ -31,11 +31,11 @@ module _ {T : Type 0} (frame : Frame T) where
   -- the plane that was lent is the one that the call names
   pub found : (call : VisibleCall T) (index : ℕ) (result : Option (MutBor (Raster T))) (lent : MutBor (Raster T)) → index ≡ named_plane call
       → option_copied_mut result ≡ plane_at frame index → result ≡ Some lent → plane_at frame (named_plane call) ≡ Some lent.now
-  found call index result lent named is some = ap (plane_at frame) (sym named) ∙ sym is ∙ ap option_copied_mut some
+  found call index result lent named is some = rw (← named, ← is, some)
 
   module _ (form : PixelForm T) (call : VisibleCall T) (plane : Raster T) (here : plane_at frame (named_plane call) ≡ Some plane) where
     pub reply_there : reply_to form call (tables_of frame) ≡ on_tables form call (tables_of frame) (Some (table_of plane))
-    reply_there = ap (on_tables form call (tables_of frame)) (table_shown (named_plane call) ∙ ap (option_map table_of) here)
+    reply_there = rw (table_shown (named_plane call), here)
 
     pub tables_there : (index : ℕ) (new : Raster T) → index ≡ named_plane call → table_of new ≡ (on_table form call (table_of plane)).table
         → tables_of (with_plane frame index new) ≡ (reply_to form call (tables_of frame)).tables

@@ -1,5 +1,5 @@
 -- One more entry of the list, and the end.
-use Rattle.std.proofs.Common.{◌<◌, List, length, Some, get_or, unwrap_or, sym, ◌∙◌, ap, arith}
+use Rattle.std.proofs.Common.{◌<◌, List, length, Some, get_or, sym, ◌∙◌, ap, arith}
 use Rattle.std.proofs.lemmas.Option.{slice_get-get_or}
 use Rattle.v_frame_plane.proofs.tables.Overwrites.{overwritten_by_none, written_more, written_all}
 use Rattle.v_frame.proofs.replay.row_writes.overwrite.Goals as goal
