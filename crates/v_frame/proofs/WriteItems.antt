@@ -81,11 +81,14 @@ module _ {M : Type 1} {𝓤 : Ura M} (𝓛 : Logic 𝓤) (𝓜 : Model 𝓤 𝓛
     further of_pixels = []
     further k = handed k ∷ []
 
+    abbrev changes_by : ℕ → Body
+    changes_by i = gets 18 changing (value i ∷ value 5 ∷ [])
+
     -- a row is a pointer and a length, which are put together again
     abbrev lends_on : Kind → Body
-    lends_on of_pixels = in_order (set 19 (addr_of (place 7 (deref entry ∷ []))) ∷ []) (gets 18 changing (value 19 ∷ value 5 ∷ []))
+    lends_on of_pixels = seq (set 19 (addr_of (place 7 (deref entry ∷ [])))) (changes_by 19)
     lends_on _ = in_order (set 19 (addr_of (place 7 (field 0 ∷ deref entry ∷ []))) ∷ set 20 (aggregate (value 19 ∷ copy (place 7 (field 1 ∷ [])) ∷ [])) ∷ [])
-        (gets 18 changing (value 20 ∷ value 5 ∷ []))
+        (changes_by 20)
 
     abbrev tag : ℕ → Operand
     tag i = copy (place i (variant 0 ∷ field 0 ∷ []))
@@ -134,20 +137,16 @@ module _ {M : Type 1} {𝓤 : Ura M} (𝓛 : Logic 𝓤) (𝓜 : Model 𝓤 𝓛
     abbrev 𝓣 : MachineTables 𝓤 𝓛.H 𝓜
     𝓣 = tables 𝓤 𝓛.H 𝓜 𝓡 𝓡.env
 
-    -- the locals where the item is lent on, and in which one that is
-    abbrev relent : (κ : Lft) (k : Kind) (x : (given T κ k).Denot) → List (ℕ × Val)
-    relent κ of_pixels x = (19, its_value T κ of_pixels x) ∷ []
-    relent κ k x = (19, vptr x.ref_ptr.0 x.ref_ptr.1) ∷ (20, its_value T κ k x) ∷ []
-
-    abbrev changes_by : Kind → Body
-    changes_by of_pixels = gets 18 changing (value 19 ∷ value 5 ∷ [])
-    changes_by _ = gets 18 changing (value 20 ∷ value 5 ∷ [])
+    -- the local in which the item is lent on, and what is new in the locals then
+    abbrev relent : (κ : Lft) (k : Kind) (x : (given T κ k).Denot) → ℕ × List (ℕ × Val)
+    relent κ of_pixels x = (19, (19, its_value T κ of_pixels x) ∷ [])
+    relent κ k x = (20, (19, vptr x.ref_ptr.0 x.ref_ptr.1) ∷ (20, its_value T κ k x) ∷ [])
 
     lends_item : (κ : Lft) (k : Kind) (x : (given T κ k).Denot) → WT (its_value T κ k x) → (l : ℕ → ℕ) (plane draws walk i draw n v : Val) {a b c d e f g h j m
         o p r : Item 𝓤} {q : Exits 𝓤 𝓛.H}
         → let En = env (code k).locals l in let u = its_value T κ k x in let Γ = λ (held : List (ℕ × Val)). a ∷ b ∷ c ∷ d ∷ e ∷ f ∷ g ∷ h ∷ j ∷ m ∷ o ∷ p ∷ r ∷
         holding 𝓛 En (held ++ (1, plane) ∷ (2, draws) ∷ (3, walk) ∷ (4, i) ∷ (5, draw) ∷ (6, live 1 (of_list (u ∷ []))) ∷ (7, u) ∷ (10, n) ∷ (15, v) ∷ []) in
-        Step (Go {0}) 𝓛 (Γ (relent κ k x)) (runs 𝓣.C 𝓣.Λ En (changes_by k) q) (Γ []) (runs 𝓣.C 𝓣.Λ En (lends_on k) q)
+        Step (Go {0}) 𝓛 (Γ (relent κ k x).1) (runs 𝓣.C 𝓣.Λ En (changes_by (relent κ k x).0) q) (Γ []) (runs 𝓣.C 𝓣.Λ En (lends_on k) q)
     lends_item κ of_pixels x ok l plane draws walk i draw n v = sets ! (addr ! (through ! refl (stop !))) refl (tt, tt)
     lends_item κ _ x ok l plane draws walk i draw n v = step (λ s.
         sets ! (addr ! (from ! (fld ! refl (hop ! (look_in_at ! 7 (sub ! 0 refl (whole !))) (stop !))))) refl (tt, tt) $

@@ -7,7 +7,7 @@ use Rattle.v_frame_plane.specs.SecondRows.{EndsAs, SecondRows, KeepsRows, entrie
 use Rattle.v_frame_plane.specs.contracts.rows_mut.RowsMut.{the_row}
 use Rattle.v_frame_plane.specs.declared.rows_mut.RowsMut.{RowsMut}
 use Rattle.v_frame_plane.proofs.iterators.Cursors.{count_of_rows}
-use Rattle.v_frame_plane.proofs.lent.Cuts.{Joins, ends_joined, dropped}
+use Rattle.v_frame_plane.proofs.lent.Cuts.{Joins, joins, dropped}
 use Rattle.v_frame_plane.proofs.lent.RowDraws.{Cut, behind_all, left}
 use Rattle.v_frame_plane.proofs.lent.Sides.{Side, at_front, at_back, at_side, LendsRow}
 use Rattle.v_frame_plane.proofs.lent.SecondRows.{with_rows_as_they_are, with_first_row, with_last_row}
@@ -30,14 +30,6 @@ module _ {M : Type 1} {𝓤 : Ura M} (𝓛 : Logic 𝓤) (T : RattleType) where
     abbrev Held : Type 0
     Held = List T.Denot × List (List T.Denot)
 
-    -- the slice ends as what lies in front of the row, the row, and what lies behind it
-    joins : (xs ys zs : List T.Denot) → ent 𝓤 (mean 𝓛 (‵ (Joins T old.rest before at) ⊛ ‵ (Joins T at row behind) ⊛ ‵ (EndsAs T before.ghost_name xs) ⊛
-        ‵ (EndsAs T row.ghost_name ys) ⊛ ‵ (EndsAs T behind.ghost_name zs))) (Ends old.rest (xs ++ (ys ++ zs)))
-    joins xs ys zs = qed 𝓛 (‵ (Joins T old.rest before at) ∷ ‵ (Joins T at row behind) ∷ ‵ (EndsAs T before.ghost_name xs) ∷
-        ‵ (EndsAs T row.ghost_name ys) ∷ ‵ (EndsAs T behind.ghost_name zs) ∷ []) ∵
-        move ! (1 ∷ 3 ∷ 4 ∷ []) $ use3 𝓛 (‵ (EndsAs T at.ghost_name (ys ++ zs))) (ends_joined 𝓛 T at row behind ys zs) $
-        move ! (1 ∷ 2 ∷ 0 ∷ []) $ use3 𝓛 (‵ (EndsAs T old.rest.ghost_name (xs ++ (ys ++ zs)))) (ends_joined 𝓛 T old.rest before at xs (ys ++ zs)) $ done !
-
     pub leaves_row : (s : Side) (cut : Cut old before at row behind more s) → let other = at_side s before behind in
         ent 𝓤 (sep 𝓤 (Ends other other.now) (sep 𝓤 (sem 𝓛 (Joins T old.rest before at)) (sem 𝓛 (Joins T at row behind))))
         (sem 𝓛 (LendsRow s T old (Some row) (left old before at row behind more s cut)))
@@ -52,8 +44,7 @@ module _ {M : Type 1} {𝓤 : Ura M} (𝓛 : Logic 𝓤) (T : RattleType) where
         rw (cut.before_is, behind_all old before at row behind more at_front cut)
         (with_first_row old.start old.width old.gap old.count old.rest.now held.0 held.1 more) in
         -- [the row; the rest; what lies in front; how both are cut]
-        move ! (3 ∷ 4 ∷ 2 ∷ 0 ∷ 1 ∷ []) $ group ! 5 $
-        use1 𝓛 (‵ (EndsAs T old.rest.ghost_name (before.now ++ (held.0 ++ rest)))) (joins before.now held.0 rest) $
+        move ! (4 ∷ 0 ∷ 1 ∷ []) $ joins ! T _ _ $ move ! (2 ∷ 1 ∷ 0 ∷ []) $ joins ! T _ _ $
         rewrite ! 0 (λ (xs : List T.Denot). ‵ (EndsAs T old.rest.ghost_name xs)) entries refl $ done !)
     leaves_row at_back cut =
         let new = left old before at row behind more at_back cut in
@@ -68,8 +59,7 @@ module _ {M : Type 1} {𝓤 : Ura M} (𝓛 : Logic 𝓤) (T : RattleType) where
         rw (cut.before_is, behind_all old before at row behind more at_back cut)
         (with_last_row old.start old.width old.gap old.count old.rest.now held.0 held.1 more many) in
         -- [the row; the rest; what lies behind; how both are cut]
-        move ! (3 ∷ 4 ∷ 1 ∷ 0 ∷ 2 ∷ []) $ group ! 5 $
-        use1 𝓛 (‵ (EndsAs T old.rest.ghost_name (rest ++ (held.0 ++ behind.now)))) (joins rest held.0 behind.now) $
+        move ! (4 ∷ 0 ∷ 2 ∷ []) $ joins ! T _ _ $ move ! (2 ∷ 1 ∷ 0 ∷ []) $ joins ! T _ _ $
         rewrite ! 0 (λ (xs : List T.Denot). ‵ (EndsAs T old.rest.ghost_name xs)) entries refl $ done !))
 
   -- an iterator that is dropped has as final values what it shows

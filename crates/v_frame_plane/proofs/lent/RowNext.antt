@@ -9,14 +9,14 @@ use Rattle.v_frame_plane.proofs.lent.Steps.{look_in, sub, whole, addr, and_then,
 use Rattle.v_frame_plane.proofs.lent.Steps.{of_opd, returns, returns_within, skips, stop, well_typed, RattleType, Laws, Logic, Ura, Ty, slice_ty, tcons}
 use Rattle.v_frame_plane.proofs.lent.Steps.{tnil, ty_int, ty_param, ty_ref, ty_struct, MachineTables, Running, Meets, Triple, Callee, Fn, Place, Opd as Operand}
 use Rattle.v_frame_plane.proofs.lent.Steps.{Sym, addr_of, aggregate, assign, cond, copy, deref, eq, field, int, op2, place, return, rv_opd, seq, skip, ttcons}
-use Rattle.v_frame_plane.proofs.lent.Steps.{ttnil, ty_bool, ty_enum, unsigned, w8, Model, Closed, Env, Spot, flt_l, Finds, store_raw, subst, sym, frame, Args}
-use mir.Syntax.{Body, sub as minus}
+use Rattle.v_frame_plane.proofs.lent.Steps.{ttnil, ty_bool, ty_enum, unsigned, w8, Model, Closed, Env, vptr, flt_l, store_raw, subst, sym, frame, Args}
+use mir.Syntax.{Body, Rv as Rvalue, sub as minus}
 use denote.Triple.Entry.{Vals}
-use types.Run.{Opd}
+use types.Run.{Opd, Rv}
 use Rattle.v_frame_plane.proofs.lent.RowMemory.{Bare, Numbers, WellTyped, bare, count_at, count_fit, gap_at, gap_fit, lowered, numbers, slice_of, rest_fit}
 use Rattle.v_frame_plane.proofs.lent.RowMemory.{start_at, start_fit, takes_slice, walk_owned, width_at, width_fit}
 use Rattle.v_frame_plane.proofs.lent.CallSteps.{asks_both, calls, tells, told}
-use Rattle.v_frame_plane.proofs.lent.Cuts.{Split, dropped, splits, slice_fits, slices_fit}
+use Rattle.v_frame_plane.proofs.lent.Cuts.{Split, dropped, pointer_on, slice_on, splits, slice_fits, slices_fit}
 use Rattle.v_frame_plane.proofs.lent.Methods.{Ends, Met, gets, gives, in_order, meets_by, method, set, value}
 use Rattle.v_frame_plane.proofs.lent.RowDraws.{Cut, draws, inside, is_place, left, moves_on, none_left, number, number_fits, place_of, some_left, start_of}
 use Rattle.v_frame_plane.proofs.lent.RowDraws.{stays}
@@ -33,9 +33,8 @@ module _ {M : Type 1} {𝓤 : Ura M} {𝓛 : Logic 𝓤} {K : Type 0} {Γ : List
   opd_by : (s : Side) (v : Side → Val) {x y : Operand} → Opd K 𝓛 Γ E x (v at_front) → Opd K 𝓛 Γ E y (v at_back) → Opd K 𝓛 Γ E (at_side s x y) (v s)
   opd_by s v {x} {y} front back = by_side (λ e. Opd K 𝓛 Γ E (at_side e x y) (v e)) front back s
 
-  finds_by : (s : Side) (v : Side → Spot 𝓤 𝓛.H) {x y : Place} → Finds K 𝓛 Γ E x (v at_front) → Finds K 𝓛 Γ E y (v at_back)
-      → Finds K 𝓛 Γ E (at_side s x y) (v s)
-  finds_by s v {x} {y} front back = by_side (λ e. Finds K 𝓛 Γ E (at_side e x y) (v e)) front back s
+  rv_by : (s : Side) (v : Side → Val) {x y : Rvalue} → Rv K 𝓛 Γ E x (v at_front) → Rv K 𝓛 Γ E y (v at_back) → Rv K 𝓛 Γ E (at_side s x y) (v s)
+  rv_by s v {x} {y} front back = by_side (λ e. Rv K 𝓛 Γ E (at_side e x y) (v e)) front back s
 
 module _ {M : Type 1} {𝓤 : Ura M} {𝓛 : Logic 𝓤} {K : Type 0} {X : Type 0} {Γ : List (Item 𝓤)} {G : Goal 𝓤 𝓛.H} where
   -- what is kept, and then the other one
@@ -53,21 +52,21 @@ module _ {M : Type 1} {𝓤 : Ura M} (𝓛 : Logic 𝓤) (𝓜 : Model 𝓤 𝓛
   abbrev own : ℕ → Place
   own k = place 1 (deref Self ∷ field k ∷ [])
 
-  -- part k of the two in local i: the pointer, which is lent on, and the length
-  abbrev pointer : (i k : ℕ) → Place
-  pointer i k = place i (field k ∷ field 0 ∷ deref entry ∷ [])
+  -- part k of the two in local i is lent on: its pointer, and then the slice, of the pointer in local j
+  abbrev pointer : (i k : ℕ) → Rvalue
+  pointer i k = addr_of (place i (field k ∷ field 0 ∷ deref entry ∷ []))
 
-  abbrev size : (i k : ℕ) → Operand
-  size i k = copy (place i (field k ∷ field 1 ∷ []))
+  abbrev slice : (i k j : ℕ) → Rvalue
+  slice i k j = aggregate (value j ∷ copy (place i (field k ∷ field 1 ∷ [])) ∷ [])
 
   abbrev drawn : Body
   drawn = in_order (
       set 6 (op2 (minus unsigned) (value 5) (int w64 1)) ∷ gets 7 placing (value 2 ∷ value 3 ∷ value 4 ∷ at_side s (int w64 0) (value 6) ∷ []) ∷
       set 12 (addr_of (own 0)) ∷ gets 11 taking (value 12 ∷ []) ∷ gets 8 splitting (value 11 ∷ value 7 ∷ []) ∷
-      set 13 (addr_of (pointer 8 1)) ∷ set 14 (aggregate (value 13 ∷ size 8 1 ∷ [])) ∷ gets 9 splitting (value 14 ∷ value 3 ∷ []) ∷
-      set 15 (addr_of (at_side s (pointer 9 1) (pointer 8 0))) ∷ set 16 (aggregate (value 15 ∷ at_side s (size 9 1) (size 8 0) ∷ [])) ∷
+      set 13 (pointer 8 1) ∷ set 14 (slice 8 1 13) ∷ gets 9 splitting (value 14 ∷ value 3 ∷ []) ∷
+      set 15 (at_side s (pointer 9 1) (pointer 8 0)) ∷ set 16 (at_side s (slice 9 1 15) (slice 8 0 15)) ∷
       set 17 (aggregate (value 16 ∷ at_side s (value 4) (value 2) ∷ value 3 ∷ value 4 ∷ value 6 ∷ [])) ∷
-      assign (place 1 (deref Self ∷ [])) (rv_opd (value 17)) ∷ set 18 (addr_of (pointer 9 0)) ∷ set 19 (aggregate (value 18 ∷ size 9 0 ∷ [])) ∷
+      assign (place 1 (deref Self ∷ [])) (rv_opd (value 17)) ∷ set 18 (pointer 9 0) ∷ set 19 (slice 9 0 18) ∷
       set 0 (aggregate (int w8 1 ∷ value 19 ∷ [])) ∷ []) return
 
   abbrev reads : (k i : ℕ) → Body
@@ -138,9 +137,7 @@ module _ {M : Type 1} {𝓤 : Ura M} (𝓛 : Logic 𝓤) (𝓜 : Model 𝓤 𝓛
       move ! (1 ∷ 2 ∷ 6 ∷ []) $ splits ! run 𝓜.mem 𝓡.returns T split_meets κa κT qa qT aT inT rest here place_fits (omega (arith, room))
       (and_then ! (get ! refl) (and_then ! (get ! refl) (no_more !))) (λ before at before_is at_is before_fits at_fits.
       lands_as ! refl refl (slices_fit before_fits at_fits) $
-      sets ! (addr ! (from ! (fld ! refl (fld ! refl (hop ! (look_in_at ! 8 (sub ! 0 refl (sub ! 1 refl (whole !)))) (stop !)))))) refl (tt, tt) $
-      sets ! (agg ! (and_then ! (get ! refl) (and_then ! (get_in ! (fld ! refl (fld ! refl (stop !))) (sub ! 1 refl (sub ! 1 refl (whole !)))) (no_more !))))
-      refl (slice_fits at_fits) $
+      sets ! (pointer_on ! (sub ! 1 refl (whole !)) refl) refl (tt, tt) $ sets ! (slice_on ! (sub ! 1 refl (whole !)) refl refl) refl (slice_fits at_fits) $
       -- [what lies in front; what begins with the row; how the slice ends; the tokens of κa and κT; self's cell; the open borrow]
       move ! (1 ∷ 3 ∷ 4 ∷ []) $ splits ! run 𝓜.mem 𝓡.returns T split_meets κa κT qa qT aT inT at h.width width_fits.fits
       (omega (arith, room, ap length at_is, length-drop here rest.now))
@@ -151,12 +148,10 @@ module _ {M : Type 1} {𝓤 : Ura M} (𝓛 : Logic 𝓤) (𝓜 : Model 𝓤 𝓛
       let new = left h before at row behind more s cut in let kept = at_side s behind before in let other = at_side s before behind in
       let kept_fits : length kept.now < 2 ^ 64 = by_side (λ e. length (at_side e behind before).now < 2 ^ 64) behind_fits before_fits s in
       let start'_fits : start_of s h < 2 ^ 64 = by_side (λ e. start_of e h < 2 ^ 64) gap_fits.fits start_fits.fits s in
-      sets ! (addr ! (finds_by s (λ e. let kept = at_side e behind before in (entry, kept.ref_ptr.0, kept.ref_ptr.1))
-      (from ! (fld ! refl (fld ! refl (hop ! (look_in_at ! 9 (sub ! 0 refl (sub ! 1 refl (whole !)))) (stop !)))))
-      (from ! (fld ! refl (fld ! refl (hop ! (look_in_at ! 8 (sub ! 0 refl (sub ! 0 refl (whole !)))) (stop !))))))) refl (tt, tt) $
-      sets ! (agg ! (and_then ! (get ! refl) (and_then ! (opd_by s (λ e. let kept = at_side e behind before in vint w64 (length kept.now))
-      (get_in ! (fld ! refl (fld ! refl (stop !))) (sub ! 1 refl (sub ! 1 refl (whole !))))
-      (get_in ! (fld ! refl (fld ! refl (stop !))) (sub ! 1 refl (sub ! 0 refl (whole !))))) (no_more !)))) refl (slice_fits kept_fits) $
+      sets ! (rv_by s (λ e. let kept = at_side e behind before in vptr kept.ref_ptr.0 kept.ref_ptr.1)
+      (pointer_on ! (sub ! 1 refl (whole !)) refl) (pointer_on ! (sub ! 0 refl (whole !)) refl)) refl (tt, tt) $
+      sets ! (rv_by s (λ e. slice_val kept.ref_ptr (length (at_side e behind before).now))
+      (slice_on ! (sub ! 1 refl (whole !)) refl refl) (slice_on ! (sub ! 0 refl (whole !)) refl refl)) refl (slice_fits kept_fits) $
       let typed : WellTyped new =
       (tt, ((tt, (record { fits = kept_fits }, tt)), (record { fits = start'_fits }, (width_fits, (gap_fits, (record { fits = fewer }, tt)))))) in
       sets ! (agg ! (and_then ! (get ! refl) (and_then ! (opd_by s (λ e. vint w64 (start_of e h)) (get ! refl) (get ! refl))
@@ -165,9 +160,7 @@ module _ {M : Type 1} {𝓤 : Ura M} (𝓛 : Logic 𝓤) (𝓜 : Model 𝓤 𝓛
       move ! (7 ∷ []) $ use1 𝓛 (‵ (fat full_share Bare b o (vstruct (vcons (slice_val e.ref_ptr 0) ns)))) (bare 𝓛 b o ns ℓ item (slice_val e.ref_ptr 0)) $
       assigns ! (of_opd ! (get ! refl)) (through ! refl (stop !)) (store_raw ! 0 refl typed) $
       let part = slice_of row in let out = live 1 (of_list (part ∷ [])) in
-      sets ! (addr ! (from ! (fld ! refl (fld ! refl (hop ! (look_in_at ! 9 (sub ! 0 refl (sub ! 0 refl (whole !)))) (stop !)))))) refl (tt, tt) $
-      sets ! (agg ! (and_then ! (get ! refl) (and_then ! (get_in ! (fld ! refl (fld ! refl (stop !))) (sub ! 1 refl (sub ! 0 refl (whole !)))) (no_more !))))
-      refl (slice_fits row_fits) $
+      sets ! (pointer_on ! (sub ! 0 refl (whole !)) refl) refl (tt, tt) $ sets ! (slice_on ! (sub ! 0 refl (whole !)) refl refl) refl (slice_fits row_fits) $
       sets ! (agg ! (and_then ! (lit ! tt) (and_then ! (get ! refl) (no_more !))))
       refl (tt, (record { fits = lit< tt }, ((tt, (record { fits = row_fits }, tt)), tt))) $
       move ! (2 ∷ 6 ∷ []) $ kept_first ! s (λ x. ‵ (Slice.own_val x (slice_of x ∷ []))) behind before $
