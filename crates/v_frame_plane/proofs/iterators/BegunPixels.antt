@@ -41,8 +41,12 @@ module _ {T : Type 0} (form : PixelForm T) where
       omega arith
 
 module _ {T : Type 0} (size : ℕ) where
+  -- where fewer pixels are left, their bytes can be counted as well
+  pub few_left : (pixels rest : List T) → length rest ≤ length pixels → size * length pixels < 2 ^ 63 → size * length rest < 2 ^ 63
+  few_left pixels rest less bound = omega (arith, mul-le-mul_left size less)
+
   pub none_left : (front back : Option T) (pixels : List T) → front ≡ None → pixels ≡ [] → back ≡ None → PixelsAreBegun size front pixels back
   none_left front back pixels f e b = rw (f, e, b) record { low_drawn = tt; high_drawn = tt; bound = omega arith }
 
 -- for calls that take a byte
-pub ruleset bytes_taken = (none_left, append_assoc, flat_map-append, length-append)
+pub ruleset bytes_taken = (none_left, few_left, append_assoc, flat_map-append, length-append)
