@@ -22,7 +22,7 @@ module _ {M : Type 1} {𝓤 : Ura M} (𝓛 : Logic 𝓤) (T : RattleType) where
   Tells k before old new =
       all 𝓤 (λ (xs : List (Entry T k)). all 𝓤 (λ (_ : length xs ≡ length (left T k new)). wand 𝓤 (Final k new xs) (Final k old (before xs))))
 
-  abbrev Put : (k : Kind) → Side → (Entry T k → Entry T k) → (old new : Walk T k) → SProp 𝓤
+  abbrev pub Put : (k : Kind) → Side → (Entry T k → Entry T k) → (old new : Walk T k) → SProp 𝓤
   Put k side change old = Tells k (put_back side change (item_from side (left T k old))) old
 
   -- a call that gave no item
@@ -53,7 +53,8 @@ module _ {M : Type 1} {𝓤 : Ura M} (𝓛 : Logic 𝓤) (T : RattleType) where
       rewrite ! 0 (λ (it : Option (Entry T k)). ‵ (Second T k old (put_back side change it xs))) (sym is) refl $ done !))
 
   module _ (k : Kind) where
-    tells : (before : List (Entry T k) → List (Entry T k)) (old new : Walk T k) (xs : List (Entry T k)) → length xs ≡ length (left T k new) →
+    -- where they are known of the one after
+    pub tells : (before : List (Entry T k) → List (Entry T k)) (old new : Walk T k) (xs : List (Entry T k)) → length xs ≡ length (left T k new) →
         ent 𝓤 (sep 𝓤 (Final k new xs) (Tells k before old new)) (Final k old (before xs))
     tells before old new xs same =
         let New = Final k new xs in let Old = Final k old (before xs) in

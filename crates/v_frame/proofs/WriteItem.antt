@@ -49,7 +49,7 @@ module _ (T : RattleType) where
     left_as 𝓛 k x w = qed 𝓛 (‵ (left_at ((given k).exit yes) x w) ∷ []) ∵ fsplit ! $ fsplit ! $ keep ! (0 ∷ []) $
         use1 𝓛 (‵ (Left k x w)) (finally-res 𝓛 (param 0 T) x.ghost_name w) $ done !
 
-module _ {M : Type 1} {𝓤 : Ura M} (𝓛 : Logic 𝓤) (𝓜 : Model 𝓤 𝓛.H) (𝓡 : Running 𝓤 𝓛.H 𝓜) (T : RattleType) (clone : Ghosts T.Denot) (dict : Dict) where
+module _ {M : Type 1} {𝓤 : Ura M} (𝓛 : Logic 𝓤) (𝓜 : Model 𝓤 𝓛.H) (𝓡 : Running 𝓤 𝓛.H 𝓜) (T : RattleType) where
   abbrev pub asks : Kind → Promise 𝓤
   asks of_pixels = (replay.draw.PixelDrawDraw.side.ended T, replay.draw.PixelDrawDraw.side.clauses T 𝓛 𝓜.mem 𝓡.returns)
   asks _ = (replay.draw.RowDrawDraw.side.ended T, replay.draw.RowDrawDraw.side.clauses T 𝓛 𝓜.mem 𝓡.returns)
@@ -60,6 +60,6 @@ module _ {M : Type 1} {𝓤 : Ura M} (𝓛 : Logic 𝓤) (𝓜 : Model 𝓤 𝓛
   draws _ Front = (lower.rows_mut.RowsMut.next.ended T, lower.rows_mut.RowsMut.next.clauses T 𝓛 𝓜.mem 𝓡.returns)
   draws _ Back = (lower.rows_mut.RowsMut.next_back.ended T, lower.rows_mut.RowsMut.next_back.clauses T 𝓛 𝓜.mem 𝓡.returns)
 
-  abbrev pub changes : Kind → Promise 𝓤
-  changes of_pixels = (replay.pixel_writes.replace_by.ended T clone dict, replay.pixel_writes.replace_by.clauses T clone dict 𝓛 𝓜.mem 𝓡.returns)
-  changes _ = (replay.row_writes.overwrite_by.ended T clone dict, replay.row_writes.overwrite_by.clauses T clone dict 𝓛 𝓜.mem 𝓡.returns)
+  abbrev pub changes : Ghosts T.Denot → Dict → Kind → Promise 𝓤
+  changes clone dict of_pixels = (replay.pixel_writes.replace_by.ended T clone dict, replay.pixel_writes.replace_by.clauses T clone dict 𝓛 𝓜.mem 𝓡.returns)
+  changes clone dict _ = (replay.row_writes.overwrite_by.ended T clone dict, replay.row_writes.overwrite_by.clauses T clone dict 𝓛 𝓜.mem 𝓡.returns)

@@ -154,8 +154,8 @@ module _ {M : Type 1} {𝓤 : Ura M} (𝓛 : Logic 𝓤) (𝓜 : Model 𝓤 𝓛
 
     abbrev Written : Kind → Type 2
     Written neither = Unit {2}
-    Written k = (key : Callee) → Kept 𝓛 𝓜 𝓡 (opens 𝓛 𝓜 𝓡 T laws k) opening → Kept 𝓛 𝓜 𝓡 (asks 𝓛 𝓜 𝓡 T clone dict k) asking →
-        Kept 𝓛 𝓜 𝓡 (draws_promise 𝓛 𝓜 𝓡 T clone dict k Front) ahead → Kept 𝓛 𝓜 𝓡 (draws_promise 𝓛 𝓜 𝓡 T clone dict k Back) behind →
+    Written k = (key : Callee) → Kept 𝓛 𝓜 𝓡 (opens 𝓛 𝓜 𝓡 T laws k) opening → Kept 𝓛 𝓜 𝓡 (asks 𝓛 𝓜 𝓡 T k) asking →
+        Kept 𝓛 𝓜 𝓡 (draws_promise 𝓛 𝓜 𝓡 T k Front) ahead → Kept 𝓛 𝓜 𝓡 (draws_promise 𝓛 𝓜 𝓡 T k Back) behind →
         Kept 𝓛 𝓜 𝓡 (changes 𝓛 𝓜 𝓡 T clone dict k) changing → Closed 𝓤 𝓛.H 𝓣.C 𝓣.Λ key (code k) → Kept 𝓛 𝓜 𝓡 (writes_items k) key
 
     pub items_written : (k : Kind) → Written k
@@ -210,7 +210,7 @@ module _ {M : Type 1} {𝓤 : Ura M} (𝓛 : Logic 𝓤) (𝓜 : Model 𝓤 𝓛
         sets ! (addr ! (through ! refl (stop !))) refl (tt, tt) $ first ! $ blocks ! $
         let ι : Bor (Draw T k) = record { ref_ptr = (bd, p); now = d } in
         let inw' = bounds.1.0 in let Given = given T κw k in let Gives = option_row Given in let typing = (option_laws Given (given_laws T κw k laws)).lawful 𝓛 in
-        let draws_of = draws_promise 𝓛 𝓜 𝓡 T clone dict k in let Taken = Puts T k (d ∷ []) walk in
+        let draws_of = draws_promise 𝓛 𝓜 𝓡 T k in let Taken = Puts T k (d ∷ []) walk in
         let After : Out → SProp 𝓤 = after_block 𝓤 𝓛.H (after_seq 𝓤 𝓛.H (Wp 𝓤 𝓛.H 𝓣.C 𝓣.Λ En goes_on (Turned t)) (Turned t)) in
         let Then : Exits 𝓤 𝓛.H = any_q (after_seq 𝓤 𝓛.H (Wp 𝓤 𝓛.H 𝓣.C 𝓣.Λ En (drawn_by k) After) After) in
         -- [what is put back; the iterator; the tokens of κw, κT and κd; the draws; what was put back; the rest; the locals]
@@ -262,7 +262,7 @@ module _ {M : Type 1} {𝓤 : Ura M} (𝓛 : Logic 𝓤) (𝓜 : Model 𝓤 𝓛
         -- [the iterator; what was put back; the tokens of κw, κT and κd; the draws; the rest; the locals]
         move ! (5 ∷ []) $ lends_nth ! Read (draws_laws T k laws) (named 2) κd draws bd od i h $ read_twice ! (named 2) κd Read (draws_laws T k laws) ι $
         -- [the draw, twice; the draws; the iterator; what was put back; the tokens of κw, κT and κd; the rest]
-        calls ! (7 ∷ 6 ∷ 0 ∷ []) run (asks 𝓛 𝓜 𝓡 T clone dict k).0 (asks 𝓛 𝓜 𝓡 T clone dict k).1 asked
+        calls ! (7 ∷ 6 ∷ 0 ∷ []) run (asks 𝓛 𝓜 𝓡 T k).0 (asks 𝓛 𝓜 𝓡 T k).1 asked
         (((κd, (κT, tt)), (qd, (rT, tt)), (inw', tt), (ι, tt), (vptr bd p ∷ [], tt)), tt) (asks_that 𝓤 inT) refl
         (and_then ! (get ! refl) (no_more !)) (λ s us. raw (fact 𝓤 (s ≡ d.side)) ∷ []) (λ s us. id⊢ 𝓤 _) (λ u s us. move ! (1 ∷ []) $ heard ! _ (λ is_side.
         -- [the side; the tokens of κd and κT; nothing; the draw; the draws; the iterator; what was put back; the token of κw; the rest]

@@ -1,16 +1,18 @@
 -- Steps of a proof by hand of a function that holds what a writing iterator lends, rows or pixels: see `ItemKinds.antt`. Assumes `Logic`.
 --     draws_item      a call of `next` or `next_back` on an iterator in a local, and the item that it gives, if any
 --     takes_arm, takes_other      the first arm of a `match` is that of an item, and the second that of none
-use Rattle.v_frame.proofs.Steps.{Bound, Is, Item, Lft, List, MakesProgress, MutBor, MutRef, MutSlice, NamedLft, Option, Val, YieldsFirstMut, YieldsLastMut, ap}
-use Rattle.v_frame.proofs.Steps.{drop, exec, fact, flft, framed, heard, id⊢, item_count, live, meet_⊑_right, move, named, of_list, only, param, raw, refl}
-use Rattle.v_frame.proofs.Steps.{rewrite, runs, subst, switches_on, tables, vint, vptr, ℕ, [], ‵, ⊑_trans, ⊤, ◌$◌, ◌∷◌, ◌≡◌, ◌⊑◌}
-use Rattle.v_frame_plane.proofs.lent.Steps.{Calls, Env, call, Laws, Logic, Loops, None, Post, and_then, no_more, RattleType, Seq, Share, Some, Step, Ty, Ura}
-use Rattle.v_frame_plane.proofs.lent.Steps.{fat, full_share, lands, lone, regoal, seq, step, switch, arm, w8, Model, Running, MachineTables}
+use Rattle.v_frame_plane.proofs.lent.Steps.{Is, Item, Lft, List, MakesProgress, MutBor, MutRef, MutSlice, NamedLft, Option, Val, YieldsFirstMut, YieldsLastMut}
+use Rattle.v_frame_plane.proofs.lent.Steps.{ap, drop, exec, fact, flft, framed, heard, id⊢, item_count, live, meet_⊑_right, move, named, of_list, only, param}
+use Rattle.v_frame_plane.proofs.lent.Steps.{raw, refl, rewrite, runs, subst, switches_on, tables, vint, vptr, ℕ, [], ‵, ⊑_trans, ⊤, ◌$◌, ◌∷◌, ◌≡◌, ◌⊑◌, Calls}
+use Rattle.v_frame_plane.proofs.lent.Steps.{Env, call, Laws, Logic, Loops, None, Post, and_then, no_more, RattleType, Seq, Share, Some, Step, Ty, Ura, fat}
+use Rattle.v_frame_plane.proofs.lent.Steps.{full_share, lands, lone, regoal, seq, step, switch, arm, w8, Model, Running, MachineTables}
+use Rattle.v_frame.proofs.Steps.{Bound}
 use mir.Raw.{raw as raw_ty}
 use mir.Syntax.{Arms, Body as Code, Callee, Opd as Operand, Place}
 use types.Run.{Opd}
 use Rattle.v_frame.proofs.CallSteps.{asks_that, calls}
-use Rattle.v_frame.proofs.ItemKinds.{Entry, Kept, Kind, Lends, Promise, Walk, left, neither, of_pixels, walk_row}
+use Rattle.v_frame.proofs.ItemKinds.{Entry, Kept, Kind, Lends, Walk, left, neither, walk_row}
+use Rattle.v_frame.proofs.WriteItem.{draws, given, its_value, value_is}
 use Rattle.v_frame.specs.{declared.replay.draw.Side.Side, declared.replay.draw.Side.TheVariants.Back, declared.replay.draw.Side.TheVariants.Front}
 use Rattle.v_frame_plane.proofs.lent.{Loans.share_within, RowMemory.slice_of}
 use Rattle.v_frame.proofs.{Lending.lends_walk, Lending.lowers, Lending.walk_back, OptionCases.by_told}
@@ -27,19 +29,7 @@ module _ {M : Type 1} {𝓤 : Ura M} {𝓛 : Logic 𝓤} {K : Type 0} {Γ : List
       Step K 𝓛 Γ (runs C Λ E taken q) Γ (runs C Λ E (switch tag (arm (1 ∷ []) some (arm (0 ∷ []) taken others))) q)
   takes_other t is_none = step (λ k. switches_on t is_none $ exec t C Λ E taken q $ k)
 
-abbrev pub Given : Kind → Lft → RattleType → RattleType
-Given of_pixels = MutRef (named 1)
-Given _ = MutSlice (named 1)
-
 module _ (T : RattleType) where
-  abbrev pub value : (k : Kind) (κ : Lft) → (Given k κ (param 0 T)).Denot → Val
-  value of_pixels κ x = vptr x.ref_ptr.0 x.ref_ptr.1
-  value _ κ x = slice_of x
-
-  value_is : (k : Kind) (κ : Lft) (x : (Given k κ (param 0 T)).Denot) (vs : List Val) → Is (Given k κ (param 0 T)) x vs → vs ≡ value k κ x ∷ []
-  value_is of_pixels κ x vs is = is.0
-  value_is _ κ x vs is = is.0.0
-
   -- what a call from a side gives and leaves
   abbrev pub Yields : (k : Kind) → Side → Walk T k → Option (MutBor (Entry T k)) → Walk T k → Type 0
   Yields k Front = YieldsFirstMut (left T k)
@@ -49,25 +39,19 @@ module _ {M : Type 1} {𝓤 : Ura M} (𝓛 : Logic 𝓤) (𝓜 : Model 𝓤 𝓛
   abbrev 𝓣 : MachineTables 𝓤 𝓛.H 𝓜
   𝓣 = tables 𝓤 𝓛.H 𝓜 𝓡 𝓡.env
 
-  abbrev draws : Kind → Side → Promise 𝓤
-  draws of_pixels Front = (pixels_mut.next.ended T, pixels_mut.next.clauses T 𝓛 𝓜.mem 𝓡.returns)
-  draws of_pixels Back = (pixels_mut.next_back.ended T, pixels_mut.next_back.clauses T 𝓛 𝓜.mem 𝓡.returns)
-  draws _ Front = (rows_mut.next.ended T, rows_mut.next.clauses T 𝓛 𝓜.mem 𝓡.returns)
-  draws _ Back = (rows_mut.next_back.ended T, rows_mut.next_back.clauses T 𝓛 𝓜.mem 𝓡.returns)
-
   -- [its cell; the iterator; its token; the token of κT], and then [its cell; the item, if any; the iterator; its token; how it was drawn; the token of κT]
   abbrev Draws : Kind → Side → Type 2
   Draws neither side = Unit {2}
   Draws k side = (K : Type 0) (Γ : List (Item 𝓤)) (E : Env 𝓤 𝓛.H) (p : Post 𝓤 𝓛.H) (f : Callee) (x : Operand) (d : Place) (rest : Code) → K →
-      Kept 𝓛 𝓜 𝓡 (draws k side) f → (κ κT : Lft) (q qT : Share) → κ ⊑ κT → κT ⊑ T.lives → (τ : Ty) (b : ℕ) (old : Walk T k) →
+      Kept 𝓛 𝓜 𝓡 (draws 𝓛 𝓜 𝓡 T k side) f → (κ κT : Lft) (q qT : Share) → κ ⊑ κT → κT ⊑ T.lives → (τ : Ty) (b : ℕ) (old : Walk T k) →
       let ℓ : NamedLft = record { mir = named 1; lft = κ } in let R = walk_row k ℓ (param 0 T) in let low = (lowers 𝓛 𝓜 𝓡 T laws k ℓ).lowered in
-      let X = Given k κ (param 0 T) in let Cell = λ (walk : Walk T k). ‵ (fat full_share τ b 0 (low walk)) in
+      let X = given T κ k in let Cell = λ (walk : Walk T k). ‵ (fat full_share τ b 0 (low walk)) in
       let Drawn = λ (r : Option (MutBor (Entry T k))) (new : Walk T k). ‵ (R.own_val new (low new ∷ [])) ∷ ‵ (flft κ q) ∷ ‵ (Lends T k side old r new) ∷
       ‵ (flft κT qT) ∷ Γ in
       raw_ty τ ≡ raw_ty (lone R.mir) → ((i j l : Item 𝓤) → Opd K 𝓛 (i ∷ j ∷ l ∷ Γ) E x (vptr b 0)) →
       ((new : Walk T k) → Yields T k side old None new → Seq K 𝓛 (Cell new ∷ Drawn None new) (lands 𝓣.C 𝓣.Λ E d (live 0 (of_list [])) rest p)) →
-      ((x : MutBor (Entry T k)) (new : Walk T k) → Yields T k side old (Some x) new → Is X x (value T k κ x ∷ []) →
-      Seq K 𝓛 (Cell new ∷ ‵ (X.own_val x (value T k κ x ∷ [])) ∷ Drawn (Some x) new) (lands 𝓣.C 𝓣.Λ E d (live 1 (of_list (value T k κ x ∷ []))) rest p))
+      ((x : MutBor (Entry T k)) (new : Walk T k) → Yields T k side old (Some x) new → Is X x (its_value T κ k x ∷ []) →
+      Seq K 𝓛 (Cell new ∷ ‵ (X.own_val x (its_value T κ k x ∷ [])) ∷ Drawn (Some x) new) (lands 𝓣.C 𝓣.Λ E d (live 1 (of_list (its_value T κ k x ∷ []))) rest p))
       → Seq K 𝓛 (Cell old ∷ ‵ (R.own_val old (low old ∷ [])) ∷ ‵ (flft κ q) ∷ ‵ (flft κT qT) ∷ Γ) (runs 𝓣.C 𝓣.Λ E (seq (call f (x ∷ []) d) rest) p)
 
   pub draws_item : (side : Side) (k : Kind) → Draws k side
@@ -79,14 +63,14 @@ module _ {M : Type 1} {𝓤 : Ura M} (𝓛 : Logic 𝓤) (𝓜 : Model 𝓤 𝓛
       let Lands = λ (u : Val). lands 𝓣.C 𝓣.Λ E d u rest p in
       lends_walk t tt R refl τ same κ q old b 0 (low.lowered old) (λ β γ. let κc : Lft = β ∷ κ in let in_c = meet_⊑_right (β ∷ []) κ in
       let lent : MutBor (Walk T k) = record { ref_ptr = (b, 0); ghost_name = γ; now = old } in let at = vptr b 0 ∷ [] in
-      let across = ⊑_trans κc κ κT in_c inside in let its : Bound 𝓛 (draws k side).0.signature =
+      let across = ⊑_trans κc κ κT in_c inside in let its : Bound 𝓛 (draws 𝓛 𝓜 𝓡 T k side).0.signature =
       ((κc, (κ, (κT, tt))), (share_within (Share.left q), (Share.right q, (qT, tt))), (in_c, (across, (inside, tt))), (lent, tt), (at, tt)) in
-      calls t (1 ∷ 2 ∷ 5 ∷ 0 ∷ []) (framed 𝓤 𝓛.H 𝓜 𝓣) (draws k side).0 (draws k side).1 met (its, tt) (asks_that 𝓤 inT) refl
+      calls t (1 ∷ 2 ∷ 5 ∷ 0 ∷ []) (framed 𝓤 𝓛.H 𝓜 𝓣) (draws 𝓛 𝓜 𝓡 T k side).0 (draws 𝓛 𝓜 𝓡 T k side).1 met (its, tt) (asks_that 𝓤 inT) refl
       (and_then t (reads _ _ _) (no_more t)) (λ r ws. Lent ws.0 r ∷ raw (fact 𝓤 (Yields T k side old r ws.0)) ∷
       raw (fact 𝓤 (MakesProgress (λ _. ⊤) (item_count (left T k)) old r ws.0)) ∷ []) (λ r ws. id⊢ 𝓤 _) (λ v r ws. let new = ws.0 in
       let yields = λ (r : Option (MutBor (Entry T k))). Yields T k side old r new in
       move t (2 ∷ 3 ∷ []) $ heard t _ (λ steps. drop t $ move t (2 ∷ 3 ∷ 5 ∷ 6 ∷ 7 ∷ []) $ walk_back t tt R refl τ same κ q β γ b 0 new (low.lowered new)
       (λ u is. ap only (low.val_is new (u ∷ []) is)) $ move t (3 ∷ []) $
-      by_told t (Given k κ (param 0 T)) (value T k κ) (value_is T k κ) r v
+      by_told t (given T κ k) (its_value T κ k) (value_is T κ k) r v
       (λ is e. rewrite t 3 (Lent new) is refl $ regoal t Lands e refl $ none new (subst yields is steps))
       (λ x is e told. rewrite t 4 (Lent new) is refl $ regoal t Lands e refl $ move t (1 ∷ []) $ some x new (subst yields is steps) told))))

@@ -68,7 +68,7 @@ module _ {M : Type 1} {𝓤 : Ura M} {𝓛 : Logic 𝓤} {K : Type 0} {Γ : List
       Step K 𝓛 (‵ (Pixel.own_val (record pixel { now = x }) (mut_vals pixel)) ∷ ‵ (flft κ q) ∷ Γ) (runs C Λ E rest p)
       (‵ (Pixel.own_val pixel (mut_vals pixel)) ∷ ‵ (flft κ q) ∷ ‵ (item.own_val x (copy.val x ∷ [])) ∷ Γ) (runs C Λ E (seq (assign d rv) rest) p)
   writes_pixel t T copy κ q pixel x ok reads finds = step (λ k. let item = param 0 T in let b = pixel.ref_ptr.0 in let o = pixel.ref_ptr.1 in
-      opens_self t tt item κ q pixel (copy.val pixel.now ∷ []) (copy.tells pixel.now) $ move t (1 ∷ []) $ drop t $
+      opens_self t tt item κ q pixel (record { mir = layout T; lowered = copy.val; layout_is = refl; val_is = copy.tells }) $ move t (1 ∷ []) $ drop t $
       use1 𝓛 (‵ (fat full_share (layout T) b o (copy.val pixel.now))) (𝓛.laws.raw_at full_share (layout T) b o (copy.val pixel.now)) $
       assigns t (reads _ _ _ _ _) (finds _ _ _ _ _) (store t 0 refl ok) $
       use1 𝓛 (‵ (cell_at full_share item.mir (copy.val x ∷ []) b o)) (𝓛.laws.at_raw full_share (layout T) b o (copy.val x)) $

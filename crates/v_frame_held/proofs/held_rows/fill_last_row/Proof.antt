@@ -1,17 +1,18 @@
 -- `fill_last_row` lends its plane to an iterator, draws a row from its end, fills it, and drops the iterator. What a plane ends as, of which such a row was
 -- lent, no generated proof follows, so this one follows the code.
-use Rattle.v_frame.proofs.Steps.{Goes-dropped, Goes-ref, List, NamedLft, SProp, Sq, Stays, Val, a_type, addr, after, agg, alloc_all, and_then, at_ret, bounded}
-use Rattle.v_frame.proofs.Steps.{copied, dcons, dnil, drop, enter, env, exec, fact, feq_i, feq_l, finally-res, first, fld, flft, framed, free_all, from, fsplit}
-use Rattle.v_frame.proofs.Steps.{get, get_in, get_tag, give_at, heard, hop, id⊢, in_variant, inst_fn, lands_as, lands_last, length, length-replicate, lit<}
-use Rattle.v_frame.proofs.Steps.{look_at, look_in_at, meet_⊑_right, move, mut_Tells, mut_vals, named, no, no_more, nothing, of_opd, param, param_laws, pass_all}
-use Rattle.v_frame.proofs.Steps.{plain, proved, raw, refl, replicate, returns, rewrite, sets, skips, spot_of, stay_dropped, stay_ref, stop, sub, subst, sym}
-use Rattle.v_frame.proofs.Steps.{tables, take_at, through, unit_lit, use1, use2, vrt, vunit, walk_of, whole, !, [], ‵, ◌$◌, ◌∙◌, ◌∷◌, ◌≡◌, ◌⊑◌, Item}
-use Rattle.v_frame.proofs.Steps.{forget_but, holding, runs}
+use Rattle.v_frame_plane.proofs.lent.Steps.{Goes-dropped, Goes-ref, List, NamedLft, SProp, Sq, Stays, Val, a_type, addr, after, agg, alloc_all, and_then}
+use Rattle.v_frame_plane.proofs.lent.Steps.{at_ret, bounded, dcons, dnil, drop, enter, env, exec, fact, feq_i, feq_l, first, fld, flft, framed, free_all, from}
+use Rattle.v_frame_plane.proofs.lent.Steps.{fsplit, get, get_in, get_tag, give_at, heard, hop, id⊢, in_variant, inst_fn, lands_as, lands_last, length, lit<}
+use Rattle.v_frame_plane.proofs.lent.Steps.{look_at, look_in_at, meet_⊑_right, move, mut_Tells, mut_vals, named, no, no_more, nothing, of_opd, param}
+use Rattle.v_frame_plane.proofs.lent.Steps.{param_laws, pass_all, plain, proved, raw, refl, returns, rewrite, sets, skips, stay_dropped, stay_ref, stop, sub}
+use Rattle.v_frame_plane.proofs.lent.Steps.{subst, sym, tables, take_at, through, unit_lit, use1, use2, vrt, vunit, walk_of, whole, !, [], ‵, ◌$◌, ◌∙◌, ◌∷◌}
+use Rattle.v_frame_plane.proofs.lent.Steps.{◌≡◌, ◌⊑◌, Item, forget_but, holding, runs}
+use Rattle.v_frame.proofs.Steps.{copied, finally-res, length-replicate, replicate, spot_of}
 use Rattle.v_frame.specs.Prelude.{EndsAs, SecondRows, entries_with, rows_left, table_of, with_entries}
 use Rattle.v_frame.proofs.CallSteps.{asks_that, calls_last, ends, opened, tells, told, unit_fits}
-use Rattle.v_frame.proofs.{DrawnItems.last_drawn, DrawnItems.walk_keeps, DrawnLoans.each_drawn, ItemKinds.of_rows, ItemKinds.walk_row, Lending.Kept_by}
-use Rattle.v_frame.proofs.{Lending.begins_walk, Lending.rows_back, PutBack.item_taken, PutBack.none_taken}
-use Rattle.v_frame.specs.{DrawnItems.PutsBack, Walk.left_by, Walk.walk_leaves, declared.replay.draw.Side.TheVariants.Back}
+use Rattle.v_frame.proofs.{DrawnItems.last_drawn, ItemKinds.of_rows, ItemKinds.walk_row, Lending.Kept_by, Lending.begins_walk, Lending.rows_back}
+use Rattle.v_frame.proofs.DrawnLoans.{Put, item_taken, none_taken, tells as put_in}
+use Rattle.v_frame.specs.{DrawnItems.put_back, Walk.item_from, Walk.left_by, declared.replay.draw.Side.TheVariants.Back}
 use Rattle.std.proofs.{Common.All, Common.None, Common.Some}
 use Rattle.v_frame_plane.specs.{Lends.LendsBuffer, declared.rows_mut.RowsMut.RowsMut}
 use Rattle.v_frame_held.proofs.{HeldItems.draws_item, HeldItems.takes_arm, HeldItems.takes_other, HeldRows.last_filled}
@@ -49,22 +50,21 @@ fill_last_row_spec 𝓤 𝓛 𝓜 𝓡 wired T laws copy clone dict met =
     let ℓ : NamedLft = record { mir = named 1; lft = κw } in
     lands_as ! refl refl typed.0 $ sets ! (of_opd ! (get ! refl)) refl typed.0 $
     -- how it ends: the row that was drawn, if any, is put back as it is filled
-    let change = λ (row : List T.Denot). replicate (length row) value in let make = λ (_ : Unit {0}). change in
-    let once : List (Unit {0}) = tt ∷ [] in let side = λ (_ : Unit {0}). Back in let last = walk_leaves side make table once in
-    let Puts : RowsMut T.Denot → Item 𝓤 = λ left. ‵ (PutsBack rows_left (SecondRows item) side make once w left) in
+    let change = λ (row : List T.Denot). replicate (length row) value in let last = put_back Back change (item_from Back table) (left_by Back table) in
+    let Puts : RowsMut T.Denot → Item 𝓤 = λ left. raw (Put 𝓛 T of_rows Back change w left) in
     let finish : (left : RowsMut T.Denot) → rows_left left ≡ left_by Back (rows_left w) → Sq 𝓛 (Puts left ∷
     ‵ ((walk_row of_rows ℓ item).own_val left (lowered left ∷ [])) ∷ ‵ (flft κw qw) ∷ ‵ (flft κT rT) ∷
-    ‵ (LendsBuffer item (record plane { ghost_name = δ }) w.rest) ∷ Kept_by T α δ κ κT q plane ∷ raw (Back_to 𝓛 α κT (Share.left qT)) ∷
+    ‵ (LendsBuffer item (record plane { ghost_name = δ }) w.rest) ∷ Kept_by 𝓛 T α δ κ κT q plane ∷ raw (Back_to 𝓛 α κT (Share.left qT)) ∷
     holding 𝓛 En []) (runs 𝓣.C 𝓣.Λ En (after 6 function.body) (at_ret En Post)) = λ left fewer.
-    move ! (1 ∷ []) $ use1 𝓛 (‵ (SecondRows item left (rows_left left))) (rows_dropped 𝓛 item ℓ left (lowered left ∷ [])) $ move ! (1 ∷ 0 ∷ []) $
-    use2 𝓛 (‵ (SecondRows item w last)) (each_drawn 𝓛 rows_left (SecondRows item) side make once 1 refl w left table begun.all fewer) $
+    move ! (1 ∷ []) $ use1 𝓛 (‵ (SecondRows item left (rows_left left))) (rows_dropped 𝓛 item ℓ left (lowered left ∷ [])) $ move ! (0 ∷ 1 ∷ []) $
+    let before = put_back Back change (item_from Back (rows_left w)) in let is : before (rows_left left) ≡ last = rw (fewer, begun.all) refl in
+    use2 𝓛 (‵ (SecondRows item w (before (rows_left left)))) (put_in 𝓛 T of_rows before w left (rows_left left) refl) $
+    rewrite ! 0 (λ (rows : List (List T.Denot)). ‵ (SecondRows item w rows)) is refl $
     rows_back ! tt T α δ κ κT q qT plane w last $ sets ! (of_opd ! (unit_lit !)) refl (tt, tt) $ returns ! (look_at ! 0 refl) $ free_all ! refl $
-    let long = walk_keeps side make length (λ _ row. length-replicate (length row) value) table once in
-    let wide = subst (All (λ row. length row ≡ width)) begun.all begun.tells in
-    let told_of = begun.written last long in let new = with_entries plane.now (entries_with w last) in
+    let filled = last_filled table width value (subst (All (λ row. length row ≡ width)) begun.all begun.tells) in
+    let told_of = begun.written last filled.1 in let new = with_entries plane.now (entries_with w last) in
     nothing ! $ feq_i ! (List Val) (vunit ∷ []) (vunit ∷ []) refl $ ends ! (4 ∷ 2 ∷ 3 ∷ 1 ∷ 0 ∷ []) ended stayed c y vunit tt (new, (tt, tt))
-    (tt, (tt, tt)) refl $ tells ! (told_of.table ∙ last_filled table width value wide) $
-    told ! (λ k. (told_of.geometry k, told_of.border k)) in
+    (tt, (tt, tt)) refl $ tells ! (told_of.table ∙ filled.0) $ told ! (λ k. (told_of.geometry k, told_of.border k)) in
     -- [the iterator; how the plane ends; the tokens of κw and κT; the plane's lender; the way back; the value; the locals]. A row is drawn
     sets ! (addr ! (from ! (stop !))) refl (tt, tt) $ take_at ! 3 $ move ! (0 ∷ 1 ∷ 3 ∷ 4 ∷ []) $
     draws_item 𝓛 𝓜 𝓡 T laws Back of_rows _ _ _ _ _ _ _ _ !
