@@ -71,7 +71,6 @@ impl<'a, T: Copy> Iterator for Pixels<'a, T> {
     ghost remaining = { λ pixels. at_most (length pixels) };
 
     #[inline]
-    #[tactic(auto, using(crate::proofs::iterators::BegunRows::pixels_taken))]
     fn next(&mut self) -> Option<T> {
         if let Some((pixel, rest)) = self.front.split_first() {
             self.front = rest;
@@ -101,7 +100,6 @@ impl<'a, T: Copy> DoubleEndedIterator for Pixels<'a, T> {
     ghost next_back_gives = { TakesLast (λ pixel. pixel) };
 
     #[inline]
-    #[tactic(auto, using(crate::proofs::iterators::BegunRows::pixels_taken))]
     fn next_back(&mut self) -> Option<T> {
         if let Some((pixel, rest)) = self.back.split_last() {
             self.back = rest;

@@ -76,6 +76,3 @@ module _ {T : Type 0} where
 
 -- how many bytes a plane shows
 pub ruleset visible_bytes = (visible_pixels, visible_few, few_bytes, length-bytes_of_pixels, width_of_shown, height_of_shown)
-
--- for calls that take a pixel
-pub ruleset pixels_taken = (first_drawn, last_drawn, drawn_countable, none_countable, row_major-append, append_assoc, append-nil, nil_from_length, length-append)

@@ -1,7 +1,7 @@
 -- The rows ahead of the origin are the visible ones, and lie in the buffer.
 use Rattle.std.proofs.Common.{◌≡◌, ◌-◌, length, sym, ◌∙◌, ap, arith}
 use Rattle.v_frame_layout.specs.Geometry.{alloc_size_of}
-use Rattle.v_frame_plane.specs.Plane.{Raster, raster, table_of}
+use Rattle.v_frame_plane.specs.Plane.{raster}
 use Rattle.v_frame_plane.proofs.iterators.Cursors.{visible_rows, rows_within, few_rows}
 use Rattle.v_frame_plane.proofs.rows.Rows.new.Goals as goal
 
