@@ -64,7 +64,6 @@ impl<T: Pixel> Encoding<T> for AsBytes {
 /// Writes the visible rows of a whole buffer: row `y` from the entries of the source that begin at index `stride * y`.
 ///
 /// The stride is in entries.
-#[tactic(auto, using(crate::proofs::copies::Sources::front_within))]
 pub fn write_rows<T, E: Encoding<T>>(
     geometry: PlaneGeometry,
     buffer: &mut [T],

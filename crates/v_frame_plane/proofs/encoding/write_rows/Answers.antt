@@ -1,5 +1,5 @@
 -- The front of a piece is one more row, and then the end.
-use Rattle.std.proofs.Common.{◌≡◌, ◌+◌, ◌-◌, ◌*◌, ◌<◌, length, drop, refl, ◌∙◌, arith, length-take-le, length-drop}
+use Rattle.std.proofs.Common.{◌≡◌, ◌+◌, ◌-◌, ◌*◌, ◌<◌, length, take, drop, refl, sym, ◌∙◌, ap, arith, length-take-le, length-drop}
 use Rattle.v_frame_layout.specs.Geometry.{alloc_size_of}
 use Rattle.v_frame_plane.proofs.copies.CopyLemmas.{one_more_row, border_put_row, all_rows}
 use Rattle.v_frame_plane.proofs.copies.Sources.{front_within, length-rows, row_of_piece}
@@ -7,11 +7,13 @@ use Rattle.v_frame_plane.proofs.encoding.write_rows.Goals as goal
 
 pub overflow_add-from : goal.overflow_add-from
 overflow_add-from g c =
-    let within = front_within (c.args.geometry.width * g.E.Encoding.ENTRIES) c.args.stride c.args.geometry.height c.loop-y.y c.requires.stride (omega (
+    rw (c.width-width.ensures.value, c.ENTRIES.ensures) (omega (
       arith,
-      c.height-y-end.ensures.value,
-    )) in
-    rw (c.width-width.ensures.value, c.ENTRIES.ensures) (omega (arith, within))
+      front_within (c.args.geometry.width * g.E.Encoding.ENTRIES) c.args.stride c.args.geometry.height c.loop-y.y c.requires.stride (omega (
+        arith,
+        c.height-y-end.ensures.value,
+      )),
+    ))
 
 pub loop-y-preserved : goal.loop-y-preserved
 loop-y-preserved g c =
@@ -38,6 +40,27 @@ returns-clause-table g c =
     let rows = length-rows (g.E.Encoding.row_of k.width) (k.width * g.E.Encoding.ENTRIES) c.args.stride k.height c.args.src.now in
     all_rows k c.loop-y.buffer _ _ c.loop-y.y rows (omega (arith, c.height-y-end.ensures.value)) c.loop-y.invariant.table
 
+pub overflow_mul-front : goal.overflow_mul-front
+overflow_mul-front g c =
+    rw (c.width-width.ensures.value, c.ENTRIES.ensures) (omega arith)
+
+pub overflow_mul-from : goal.overflow_mul-from
+overflow_mul-from g c =
+    let within = front_within (c.args.geometry.width * g.E.Encoding.ENTRIES) c.args.stride c.args.geometry.height c.loop-y.y c.requires.stride (omega (
+      arith,
+      c.height-y-end.ensures.value,
+    )) in
+    omega (arith, within)
+
+pub loop-y-init : goal.loop-y-init
+loop-y-init g c = record { table = refl; border = refl }
+
+pub row_start-start-requires-clause-inside : goal.row_start-start-requires-clause-inside
+row_start-start-requires-clause-inside g c = omega (arith, c.height-y-end.ensures.value)
+
+pub overflow_add-start : goal.overflow_add-start
+overflow_add-start g c = omega (arith, c.row_start-start.ensures.within, c.width-width.ensures.value, c.requires.plane.fits)
+
 pub write_row-requires : goal.write_row-requires
 write_row-requires g c =
     let k = c.args.geometry in
@@ -51,3 +74,16 @@ write_row-requires g c =
     let part = length-take-le k.width (drop start c.loop-y.buffer) (omega (arith, length-drop start c.loop-y.buffer, c.row_start-start.ensures.within)) in
     let source = length-take-le entries (drop from c.args.src.now) (omega (arith, length-drop from c.args.src.now, within, c.requires.source)) in
     rw (row, piece, part, source) (omega arith)
+
+pub returns-clause-border : goal.returns-clause-border
+returns-clause-border g c = c.loop-y.invariant.border
+
+pub slice_bounds-write_row-end : goal.slice_bounds-write_row-end
+slice_bounds-write_row-end g c =
+    omega (arith, c.row_start-start.ensures.within, c.width-width.ensures.value, c.loop-y.auto.buffer, c.requires.plane.whole)
+
+pub slice_bounds-write_row-end-in-loop-y : goal.slice_bounds-write_row-end-in-loop-y
+slice_bounds-write_row-end-in-loop-y g c =
+    let entries = c.args.geometry.width * g.E.Encoding.ENTRIES in
+    let within = front_within entries c.args.stride c.args.geometry.height c.loop-y.y c.requires.stride (omega (arith, c.height-y-end.ensures.value)) in
+    rw (c.width-width.ensures.value, c.ENTRIES.ensures) (omega (arith, within, c.requires.source))
