@@ -1,7 +1,7 @@
 -- A call of `split_at_mut`, for a proof by hand. Assumes `Logic`.
 --     splits       the slice goes to the call, and ends as its two parts do.        pointer_on, slice_on     a part is lent on
 --     slice_fits, slices_fit, word_fits     what code stores is well typed.        dropped, lets_go      a part that is not used ends as it is
---     ends_joined, joins     from what both parts end as, what the slice does.        both_end     that it ends as both parts say
+--     joins     from what both parts end as, what the slice does.        both_end     that it ends as both parts say
 use Rattle.v_frame_plane.proofs.lent.Steps.{ℕ, ◌≡◌, ◌+◌, ◌^◌, ◌<◌, ◌≤◌, List, [], ◌∷◌, ◌++◌, length, take, list_drop, w64, MutBor, refl, ap, Lft, Share, flft}
 use Rattle.v_frame_plane.proofs.lent.Steps.{SProp, id⊢, ◌⊑◌, Fun, fact, Array, usize, shows, param, uint_vals, uint_Makes, RattleType, MutSlice, slice_val}
 use Rattle.v_frame_plane.proofs.lent.Steps.{heard, only, owned, peeks, triple_of, Contract, named, Val, vcons, vnil, vstruct, Memory, Routine, Ura, Item, Seq}
@@ -100,12 +100,6 @@ module _ {M : Type 1} {𝓤 : Ura M} (𝓛 : Logic 𝓤) (T : RattleType) where
   dropped ℓ κ x vs = qed 𝓛 (‵ ((MutSlice ℓ κ T).own_val x vs) ∷ []) ∵ fsplit3 ! $ keep ! (1 ∷ []) $
       rewrite ! 0 (λ (xs : List T.Denot). ‵ (fobs x.ghost_name ((Array T 0).coded.code xs))) (heres_id T x.now) refl $
       use1 𝓛 (‵ (EndsAs T x.ghost_name x.now)) (𝓛.names.obs-res x.ghost_name ((Array T 0).coded.code x.now)) $ done !
-
-  -- a slice that was cut ends as its two parts
-  pub ends_joined : (whole front back : MutBor (List T.Denot)) (xs ys : List T.Denot) →
-      ent 𝓤 (sep 𝓤 (sem 𝓛 (Joins T whole front back)) (BothEnd front.ghost_name back.ghost_name (xs, ys))) (Ends whole.ghost_name (xs ++ ys))
-  unfolding both_by
-  ends_joined whole front back xs ys = at_one 𝓛 (BothEnd front.ghost_name back.ghost_name) (λ p. Ends whole.ghost_name (p.0 ++ p.1)) (xs, ys)
 
 -- the same in steps, over the names of what is lent
 module _ {M : Type 1} {𝓤 : Ura M} {𝓛 : Logic 𝓤} {K : Type 0} {Γ : List (Item 𝓤)} (t : K) (T : RattleType) where

@@ -1,15 +1,14 @@
 -- An iterator that lends pixels, in memory, for the proofs by hand of its `next` and `next_back`. Assumes `Logic`.
 --     parts, pixels_owned     what it owns, apart and again together
 --     front_out, rows_out, back_out     a field goes out.        field_in     it is there again, with another value
---     joins_pixels     its parts are it again.        stayed     that `next` and `next_back` keep self
+--     joins_pixels     its parts are it again.
 use Rattle.v_frame_plane.proofs.lent.Steps.{ℕ, ◌+◌, ◌^◌, ◌<◌, List, [], ◌∷◌, length, refl, fat, full_share}
-use Rattle.v_frame_plane.proofs.lent.Steps.{SProp, all, ent, sep, wand, shows, param, Laws, param_laws, RattleType, Valss, NamedLft, plain}
-use Rattle.v_frame_plane.proofs.lent.Steps.{named_lft, MutSlice, slice_ty, nothing, peeks, Stays, stay_ref, Ty, Tys, erased}
+use Rattle.v_frame_plane.proofs.lent.Steps.{SProp, all, ent, sep, wand, shows, param, Laws, param_laws, RattleType, Valss, NamedLft}
+use Rattle.v_frame_plane.proofs.lent.Steps.{MutSlice, slice_ty, nothing, peeks, Ty, Tys, erased}
 use Rattle.v_frame_plane.proofs.lent.Steps.{mut, tcons, tnil, ty_param, ty_ref, ty_struct, Val, vcons, vnil, vstruct, Ura, Goal, Item, Seq, Soaks, Step, step}
 use Rattle.v_frame_plane.proofs.lent.Steps.{‵, raw, ◌⊛◌, ◌$◌, ◌∵◌, !, qed, done, drop, feq_i, feq_l, fjoin, fpack, fpick, fsplit, move, rewrite, split}
 use Rattle.v_frame_plane.proofs.lent.Steps.{use2, Logic, sem, shape, within}
 use Rattle.v_frame_plane.proofs.lent.Steps.{use1, use3, size}
-use Rattle.v_frame_plane.specs.contracts.pixels_mut.PixelsMut.next
 use Rattle.v_frame_plane.specs.contracts.pixels_mut.PixelsMut.{struct, the_row, the_type}
 use Rattle.v_frame_plane.specs.contracts.rows_mut.RowsMut as rows_mut
 use Rattle.v_frame_plane.specs.declared.pixels_mut.PixelsMut.{PixelsMut}
@@ -114,7 +113,3 @@ module _ {M : Type 1} {𝓤 : Ura M} {𝓛 : Logic 𝓤} {K : Type 0} {Γ : List
       move t (1 ∷ []) $ fsplit t $ peeks t One _ (shows 𝓛 One) walk.back vss.1.1.0 (λ back. rewrite t 0 (λ (us :
       List Val). ‵ (One.own_val walk.back us)) back.0.0 refl $
       move t (1 ∷ []) $ drop t $ move t (2 ∷ 1 ∷ 0 ∷ []) $ k front.0.1.0 back.0.1.0)))))
-
--- `next` and `next_back` keep self in the same way
-abbrev pub stayed : (T : RattleType) → Stays (next.ended T).signature.params (next.ended T).kept
-stayed T = (stay_ref (0 ∷ []) tt (plain (λ κs. the_row (named_lft 3 1 tt κs) (param 0 T))), tt)

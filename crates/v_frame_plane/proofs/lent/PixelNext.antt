@@ -8,9 +8,9 @@ use Rattle.v_frame_plane.proofs.lent.Steps.{whole, addr, and_then, bin, branches
 use Rattle.v_frame_plane.proofs.lent.Steps.{well_typed, sem, RattleType, Laws, Logic, Ura, Ty, tcons, tnil, ty_int, ty_param, ty_ref, w64, MachineTables}
 use Rattle.v_frame_plane.proofs.lent.Steps.{Running, Triple, Callee, Fn, Sym, addr_of, aggregate, assign, cond, copy, deref, field, int, op2, place}
 use Rattle.v_frame_plane.proofs.lent.Steps.{return, rv_opd, seq, skip, ttcons, ttnil, ty_bool, ty_enum, w8, Model, Closed, Sq, param_laws, ◌+◌, fat, full_share}
-use Rattle.v_frame_plane.proofs.lent.Steps.{⊑_trans, slice_val, get_in, look_in_at, drop, rewrite, use1, store_in, sub, assigns, fld, from, hop, of_opd, Lft}
+use Rattle.v_frame_plane.proofs.lent.Steps.{⊑_trans, slice_val, get_in, look_in_at, drop, rewrite, use1, store_in, sub, assigns, fld, from, hop, of_opd}
 use Rattle.v_frame_plane.proofs.lent.Steps.{ty_struct, eqb→eq, holding, forget_but, runs, fobor, fobs, fauth, mem, Item, List, Option, vptr, Some-of, eq, Place}
-use Rattle.v_frame_plane.proofs.lent.Steps.{flft, Body as Borrow, ◌⊑◌, id⊢, MutSlice, fjoin, split3, subst, arm, no_default, switch, variant, Wp, after_seq}
+use Rattle.v_frame_plane.proofs.lent.Steps.{flft, Body as Borrow, id⊢, MutSlice, fjoin, split3, subst, arm, no_default, switch, variant, Wp, after_seq}
 use Rattle.v_frame_plane.proofs.lent.Steps.{get_tag, any_q, post, in_variant, vrt, assigns_last, switches_on, frame, ! }
 use mir.Syntax.{Body}
 use Rattle.v_frame_plane.proofs.pixels_mut.PixelsMut.TheLaws.{lowers}

@@ -1,19 +1,17 @@
 -- An iterator that lends rows, in memory, for the proofs by hand of its `next` and `next_back`. Assumes `Logic`.
 --     takes_slice     `take` at its slice.        moved     it after a call
 --     bare, walk_owned     what it is made of again
---     exits     the tokens, self and what is given, in which a function of `&mut self` of an iterator ends
 use Rattle.v_frame_plane.proofs.lent.Steps.{ℕ, ◌+◌, ◌^◌, ◌<◌, List, [], ◌∷◌, length, w64, MutBor, refl, Share, fat, flent, flft, full_share, SProp, all, ent}
-use Rattle.v_frame_plane.proofs.lent.Steps.{sep, wand, ◌⊑◌, Fun, usize, shows, mem, param, uint_vals, uint_Makes, RattleType, Valss, NamedLft, plain, named_lft}
-use Rattle.v_frame_plane.proofs.lent.Steps.{MutSlice, slice_ty, slice_val, nothing, owned, peeks, Stays, stay_ref, Ty, Tys, erased, mut, tcons, tnil, ty_int}
-use Rattle.v_frame_plane.proofs.lent.Steps.{ty_param, ty_ref, ty_struct, Val, Vals, vcons, vint, vnil, vstruct, Memory, Routine, Ura, Item, Seq, Step, step, ‵}
-use Rattle.v_frame_plane.proofs.lent.Steps.{raw, ◌⊛◌, prop, ◌$◌, ◌∵◌, !, qed, done, drop, feq_i, feq_l, fjoin, fjoin3, fpack, fpick, frame, fsplit, join, move}
-use Rattle.v_frame_plane.proofs.lent.Steps.{rewrite, split, suffices, use1, use2, Logic, sem, Body, Fml, feq, fsep, ftrue, Shares, Lfts, shape, within, mean}
+use Rattle.v_frame_plane.proofs.lent.Steps.{wand, ◌⊑◌, Fun, usize, shows, mem, param, uint_vals, uint_Makes, RattleType, Valss, NamedLft}
+use Rattle.v_frame_plane.proofs.lent.Steps.{MutSlice, slice_ty, slice_val, nothing, owned, peeks, Ty, Tys, erased, mut, tcons, tnil, ty_int}
+use Rattle.v_frame_plane.proofs.lent.Steps.{ty_param, ty_ref, ty_struct, Val, Vals, vcons, vint, vnil, vstruct, Memory, Routine, Ura, Item, Seq, ‵}
+use Rattle.v_frame_plane.proofs.lent.Steps.{raw, ◌⊛◌, ◌$◌, ◌∵◌, !, qed, done, drop, feq_i, feq_l, fjoin, fpack, fpick, fsplit, move}
+use Rattle.v_frame_plane.proofs.lent.Steps.{rewrite, split, use1, use2, Logic, sem, Body, shape, within}
 use Rattle.v_frame_plane.proofs.lent.Steps.{Triple, Callee, Place, Opd as Operand, call, seq, Calls, Env, Loops, FmC, Post, lands, runs, Opds, T, Fits, WT}
 use Rattle.v_frame_plane.proofs.lent.Steps.{has_ty}
 use mir.Syntax.{Body as Code}
 use Rattle.v_frame_plane.specs.Cursor.{RowsAreWithin}
 use Rattle.v_frame_plane.specs.contracts.rows_mut.RowsMut.{struct, the_row, the_type}
-use Rattle.v_frame_plane.specs.contracts.rows_mut.RowsMut.next
 use Rattle.v_frame_plane.specs.declared.rows_mut.RowsMut.{RowsMut}
 use Rattle.v_frame_plane.proofs.lent.Loans.{Back, at_one}
 use Rattle.v_frame_plane.proofs.lent.Taken.{Slice, Take, Taken, asked, calls_take, word}
@@ -133,16 +131,3 @@ module _ {M : Type 1} {𝓤 : Ura M} {𝓛 : Logic 𝓤} {K : Type 0} {Γ : List
       move t (1 ∷ []) $ drop t $ move t (3 ∷ 0 ∷ []) $
       use2 𝓛 (‵ (fat full_share Bare b o walk')) (at_one 𝓛 (Slot 𝓛 b o ns) (Whole 𝓛 b o ns) (slice_val e.ref_ptr 0)) $
       use1 𝓛 (‵ (fat full_share (Named a (param 0 T)) b o walk')) (𝓛.laws.raw_at full_share (Named a (param 0 T)) b o walk') $ k e its.0.1.0))))
-
--- `next` and `next_back` keep self in the same way
-abbrev pub stayed : (T : RattleType) → Stays (next.ended T).signature.params (next.ended T).kept
-stayed T = (stay_ref (0 ∷ []) tt (plain (λ κs. the_row (named_lft 3 1 tt κs) (param 0 T))), tt)
-
-module _ {M : Type 1} {𝓤 : Ura M} {𝓛 : Logic 𝓤} {K : Type 0} {Γ : List (Item 𝓤)} where
-  -- `e` says what they are to show besides
-  pub exits : K → (vs : List Val) (κs : Lfts 3) (qs : Shares 3) {here borrow out : Fml} {P Q : SProp 𝓤} → ent 𝓤 (sep 𝓤 (mean 𝓛 ((‵ (flft κs.0 qs.0) ⊛
-      ‵ (flft κs.1.0 qs.1.0) ⊛ ‵ (flft κs.1.1.0 qs.1.1.0) ⊛ ‵ ftrue) ⊛ ‵ (fsep (fsep (feq (List Val) vs vs) (fsep here borrow)) ftrue) ⊛ ‵ out)) P) Q
-      → Step K 𝓛 Γ (prop P) (‵ here ∷ ‵ borrow ∷ ‵ (flft κs.0 qs.0) ∷ ‵ (flft κs.1.0 qs.1.0) ∷ ‵ (flft κs.1.1.0 qs.1.1.0) ∷ ‵ out ∷ Γ) (prop Q)
-  exits t vs κs qs e = step (λ k. suffices t _ e $
-      feq_i t (List Val) vs vs refl $ fjoin3 t $ nothing t $ move t (1 ∷ 0 ∷ []) $ fjoin t $ move t (0 ∷ 4 ∷ []) $ join t $
-      nothing t $ move t (4 ∷ 0 ∷ []) $ join t $ move t (3 ∷ 0 ∷ []) $ join t $ move t (2 ∷ 0 ∷ []) $ join t $ join t $ frame t $ k)

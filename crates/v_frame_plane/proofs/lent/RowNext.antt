@@ -3,9 +3,9 @@
 use Rattle.v_frame_plane.proofs.lent.Steps.{param_laws, ℕ, ◌≡◌, ◌+◌, ◌-◌, ◌*◌, ◌^◌, ◌<◌, List, [], ◌∷◌, length, Some, None, lit<, w64, Val, fat}
 use Rattle.v_frame_plane.proofs.lent.Steps.{slice_val, vcons, vstruct, refl, ap, ◌∙◌, arith, length-drop, Some-of, none_of, full_share, id⊢, ⊑_trans, fact}
 use Rattle.v_frame_plane.proofs.lent.Steps.{tables, param, named_lft, MutSlice, usize, uint_vals, uint_Makes, closes, owned, heard, only, framed, eqb→eq, named}
-use Rattle.v_frame_plane.proofs.lent.Steps.{mut, erased, of_list, vint, alloc_all, env, free_all, get, get_in, lands_as, look_at, look_in_at, pass_all, sets}
+use Rattle.v_frame_plane.proofs.lent.Steps.{mut, erased, of_list, vint, alloc_all, env, free_all, get, lands_as, look_at, pass_all, sets}
 use Rattle.v_frame_plane.proofs.lent.Steps.{through, ‵, raw, at_ret, ◌$◌, !, drop, feq_l, fsplit, move, use0, use1, use3, step, Step, Goal, Item, live, agg}
-use Rattle.v_frame_plane.proofs.lent.Steps.{look_in, sub, whole, addr, and_then, assigns, bin, branches, enter, exec, first, fld, from, hop, lit, load, no_more}
+use Rattle.v_frame_plane.proofs.lent.Steps.{look_in, sub, whole, addr, and_then, assigns, bin, branches, enter, exec, first, fld, lit, load, no_more}
 use Rattle.v_frame_plane.proofs.lent.Steps.{of_opd, returns, returns_within, skips, stop, well_typed, RattleType, Laws, Logic, Ura, Ty, slice_ty, tcons}
 use Rattle.v_frame_plane.proofs.lent.Steps.{tnil, ty_int, ty_param, ty_ref, ty_struct, MachineTables, Running, Meets, Triple, Callee, Fn, Place, Opd as Operand}
 use Rattle.v_frame_plane.proofs.lent.Steps.{Sym, addr_of, aggregate, assign, cond, copy, deref, eq, field, int, op2, place, return, rv_opd, seq, skip, ttcons}

@@ -1,7 +1,7 @@
 -- Facts about lists alone.
 use Rattle.std.proofs.Common.{ℕ, zero, suc, ◌≡◌, ◌≢◌, ◌+◌, ◌<◌, ◌≤◌, List, [], ◌∷◌, ◌++◌, length, take, drop, map, Some, slice_get, slice_set, refl, sym}
 use Rattle.std.proofs.Common.{◌∙◌, ap, arith, take-append-drop, length-set}
-use Rattle.std.proofs.Math.Seq.{take-add, set-append_seam, get_or-set_same, take-set-le, drop-set-add, take-set-lt, drop-set-lt}
+use Rattle.std.proofs.Math.Seq.{set-append_seam, get_or-set_same, take-set-le, drop-set-add, take-set-lt, drop-set-lt}
 use Rattle.std.proofs.lemmas.List.{length-map, take_at}
 use Rattle.std.proofs.lemmas.Option.{slice_get-map as get-map}
 use Rattle.core.proofs.iter.runs.Lists.{nth_read, nth_drop}
@@ -49,10 +49,6 @@ module _ {X : Type 0} where
   -- what is lent at its own length comes back as it was left
   pub refill_same : (xs ws : List X) → length ws ≡ length xs → refill (length xs) xs ws ≡ ws
   refill_same xs ws h = take_at ws (drop (length ws) xs) (length xs) h
-
-  -- two pieces of a list, one behind the other
-  pub taken_twice : (n m : ℕ) (xs : List X) → take n xs ++ take m (drop n xs) ≡ take (n + m) xs
-  taken_twice n m xs = sym (take-add n m xs)
 
   -- an element that is set inside a part of a list is set in that part
   pub set_in_part : (xs : List X) (start n i : ℕ) (x : X) → i < n → start + n ≤ length xs

@@ -1,5 +1,5 @@
 -- The front of a piece is one more row, and then the end.
-use Rattle.std.proofs.Common.{◌≡◌, ◌+◌, ◌-◌, ◌*◌, ◌<◌, length, take, drop, refl, sym, ◌∙◌, ap, arith, length-take-le, length-drop}
+use Rattle.std.proofs.Common.{◌≡◌, ◌+◌, ◌-◌, ◌*◌, ◌<◌, length, drop, refl, ◌∙◌, arith, length-take-le, length-drop}
 use Rattle.v_frame_layout.specs.Geometry.{alloc_size_of}
 use Rattle.v_frame_plane.proofs.copies.CopyLemmas.{one_more_row, border_put_row, all_rows}
 use Rattle.v_frame_plane.proofs.copies.Sources.{front_within, length-rows, row_of_piece}
