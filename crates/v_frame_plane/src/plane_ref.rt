@@ -153,7 +153,6 @@ impl<'a, T: Copy> PlaneRef<'a, T> {
     /// The entry at the index of column `x` and row `y`. `None` exactly where that index is past the end of the buffer.
     ///
     /// The visible rectangle is tested first: there the index needs no further test.
-    #[tactic(auto, using(crate::proofs::tables::Places::places_read))]
     pub fn pixel(&self, x: usize, y: usize) -> Option<T>
         ensures value { result ≡ slice_get self.now.buffer (place_of self.now.geometry x y) }
         ensures none { IsNone result
@@ -195,7 +194,6 @@ impl<'a, T: Pixel> PlaneRef<'a, T> {
     }
 
     /// How many bytes [`byte_data`](Self::byte_data) gives: those of `width * height` pixels. It reads none of them.
-    #[tactic(auto, using(crate::proofs::iterators::BegunRows::visible_bytes))]
     pub fn byte_len(&self) -> usize
         ensures value { result
             ≡ self.now.geometry.width * self.now.geometry.height * T.form.size }

@@ -8,8 +8,6 @@ use Rattle.v_frame_plane.specs.Cursor.{PixelsAreCountable}
 use Rattle.v_frame_layout.proofs.Plans.{visible_within}
 use Rattle.v_frame_plane.proofs.tables.Pictures.{length-shown}
 use Rattle.v_frame_plane.proofs.tables.Places.{rows_are_wide}
-use Rattle.v_frame_plane.proofs.copies.CopyLemmas.{width_of_shown, height_of_shown}
-use Rattle.v_frame_plane.proofs.iterators.BegunPixels.{few_bytes, length-bytes_of_pixels}
 use Rattle.v_frame_plane.proofs.iterators.Cursors.{pixels_of_rows}
 
 module _ {T : Type 0} where
@@ -73,6 +71,3 @@ module _ {T : Type 0} where
   -- and their bytes, of which each has two at most, can be counted
   pub visible_few : (p : Raster T) → IsWhole p.geometry p.buffer → 2 * length (row_major (table_of p)) < 2 ^ 63
   visible_few p is = omega (arith, is.fits, visible_within p.geometry, visible_pixels p is)
-
--- how many bytes a plane shows
-pub ruleset visible_bytes = (visible_pixels, visible_few, few_bytes, length-bytes_of_pixels, width_of_shown, height_of_shown)

@@ -83,6 +83,3 @@ module _ {T : Type 0} where
 
   pub no_pixel_below : (rows : List (List T)) (x y : ℕ) → length rows ≤ y → pixel_at rows x y ≡ None
   no_pixel_below rows x y h = rw (slice_get_past rows y h) refl
-
--- for a call that reads at a place
-pub ruleset places_read = (past_counting, copied_get, none_past_end)

@@ -1,9 +1,9 @@
 -- The entry at the place, which inside the rectangle is the table's pixel.
-use Rattle.std.proofs.Common.{◌<◌, length, sym, ◌∙◌, arith}
+use Rattle.std.proofs.Common.{◌<◌, length, slice_get, ap, sym, ◌∙◌, arith}
 use Rattle.std.proofs.lemmas.Option.{slice_get_past, slice_get-get_or}
 use Rattle.v_frame_plane.specs.Plane.{Raster, raster}
 use Rattle.v_frame_layout.specs.Geometry.{place_of}
-use Rattle.v_frame_plane.proofs.tables.Places.{pixel_inside, past_counting}
+use Rattle.v_frame_plane.proofs.tables.Places.{pixel_inside, past_counting, copied_get, none_past_end}
 use Rattle.v_frame_plane.proofs.plane_ref.PlaneRef.pixel.Goals as goal
 
 -- inside the rectangle
@@ -22,6 +22,22 @@ returns-then-y-height-clause-inside g c = λ wide high.
 pub returns-in_err-place-clause-value : goal.returns-in_err-place-clause-value
 returns-in_err-place-clause-value g c =
     let p : Raster g.row.T.Denot = raster c.self.inside.geometry c.self.inside.buffer.now in
-    let place = place_of p.geometry c.args.x c.args.y in
-    let past = past_counting (length p.buffer) place c.in_err-place.ensures (omega arith) in
-    rw (← c.self.view_is, slice_get_past p.buffer place (omega (arith, c.self.invariant.whole, past))) c.from_residual.ensures
+    rw (← c.self.view_is) (c.from_residual.ensures ∙ sym (slice_get_past p.buffer (place_of p.geometry c.args.x c.args.y) (omega (
+      arith,
+      c.self.invariant.whole,
+      past_counting (length p.buffer) (place_of p.geometry c.args.x c.args.y) c.in_err-place.ensures (omega arith),
+    ))))
+
+pub returns-clause-value : goal.returns-clause-value
+returns-clause-value g c =
+    let p : Raster g.row.T.Denot = raster c.self.inside.geometry c.self.inside.buffer.now in
+    rw (← c.self.view_is, c.copied.ensures, ← c.in_ok-place.ensures.1)
+    (copied_get p.buffer c.in_ok-place.place c.get.result c.get.ensures.lookup)
+
+pub bounds-self-inside-visible_place : goal.bounds-self-inside-visible_place
+bounds-self-inside-visible_place g c = omega (arith, c.visible_place.ensures.within, c.self.invariant.whole)
+
+pub returns-clause-none : goal.returns-clause-none
+returns-clause-none g c =
+    let none = none_past_end c.args.self.now.buffer _ c.copied.result (returns-clause-value g c) in
+    rw (← c.self.view_is) (rw (← c.self.view_is, c.self.invariant.whole) at none)
