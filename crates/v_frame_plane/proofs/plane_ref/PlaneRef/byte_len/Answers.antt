@@ -1,6 +1,6 @@
 -- The pixels are those of the rectangle, and each has two bytes at most.
-use Rattle.std.proofs.Common.{◌≡◌, ◌*◌, length, refl, arith}
-use Rattle.v_frame_layout.specs.Table.{width_of, row_major}
+use Rattle.std.proofs.Common.{◌≡◌, ◌*◌, refl, arith}
+use Rattle.v_frame_layout.specs.Table.{row_major}
 use Rattle.v_frame_plane.specs.Plane.{Raster, raster, table_of}
 use Rattle.v_frame_plane.proofs.iterators.BegunPixels.{length-bytes_of_pixels, few_bytes}
 use Rattle.v_frame_plane.proofs.iterators.BegunRows.{visible_pixels, visible_few}

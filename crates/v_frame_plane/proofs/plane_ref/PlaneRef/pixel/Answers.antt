@@ -1,5 +1,5 @@
 -- The entry at the place, which inside the rectangle is the table's pixel.
-use Rattle.std.proofs.Common.{◌<◌, length, slice_get, ap, sym, ◌∙◌, arith}
+use Rattle.std.proofs.Common.{◌<◌, length, sym, ◌∙◌, arith}
 use Rattle.std.proofs.lemmas.Option.{slice_get_past, slice_get-get_or}
 use Rattle.v_frame_plane.specs.Plane.{Raster, raster}
 use Rattle.v_frame_layout.specs.Geometry.{place_of}
