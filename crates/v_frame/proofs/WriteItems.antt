@@ -209,14 +209,15 @@ module _ {M : Type 1} {𝓤 : Ura M} (𝓛 : Logic 𝓤) (𝓜 : Model 𝓤 𝓛
         sets ! (bin ! (get_in ! (fld ! refl (stop !)) (sub ! 0 refl (whole !))) (get ! refl) tt) refl (tt, tt) $
         sets ! (addr ! (through ! refl (stop !))) refl (tt, tt) $ first ! $ blocks ! $
         let ι : Bor (Draw T k) = record { ref_ptr = (bd, p); now = d } in
-        let inw' = bounds.1.0 in let Given = given T κw k in let Gives = option_row Given in let typing = (option_laws Given (given_laws T κw k laws)).lawful 𝓛 in
+        let inw' = bounds.1.0 in let Given = given T κw k in let Gives = option_row Given in
+        let typing = (option_laws Given (given_laws T κw k laws)).lawful 𝓛 in
         let draws_of = draws_promise 𝓛 𝓜 𝓡 T k in let Taken = Puts T k (d ∷ []) walk in
         let After : Out → SProp 𝓤 = after_block 𝓤 𝓛.H (after_seq 𝓤 𝓛.H (Wp 𝓤 𝓛.H 𝓣.C 𝓣.Λ En goes_on (Turned t)) (Turned t)) in
         let Then : Exits 𝓤 𝓛.H = any_q (after_seq 𝓤 𝓛.H (Wp 𝓤 𝓛.H 𝓣.C 𝓣.Λ En (drawn_by k) After) After) in
         -- [what is put back; the iterator; the tokens of κw, κT and κd; the draws; what was put back; the rest; the locals]
         let finish : (new : Walk T k) → left T k new ≡ left_by d.side (left T k walk) → Sq 𝓛 (‵ (Taken new) ∷ ‵ (Walking.own_val new (low new ∷ [])) ∷
-        ‵ (flft κw qw) ∷ ‵ (flft κT rT) ∷ ‵ (flft κd qd) ∷ ‵ Each ∷ ‵ (Puts T k (take i draws) w walk) ∷ Shows ∷ Lender ∷ raw (Way_back 𝓛 α κT (Share.left qT)) ∷
-        holding 𝓛 En ((1, vptr b o) ∷ (2, slice_val (bd, od) n) ∷ (3, low new) ∷ (4, vint w64 i) ∷ (10, vint w64 n) ∷ []))
+        ‵ (flft κw qw) ∷ ‵ (flft κT rT) ∷ ‵ (flft κd qd) ∷ ‵ Each ∷ ‵ (Puts T k (take i draws) w walk) ∷ Shows ∷ Lender ∷
+        raw (Way_back 𝓛 α κT (Share.left qT)) ∷ holding 𝓛 En ((1, vptr b o) ∷ (2, slice_val (bd, od) n) ∷ (3, low new) ∷ (4, vint w64 i) ∷ (10, vint w64 n) ∷ []))
         (runs 𝓣.C 𝓣.Λ En goes_on (any_q (Turned t))) = λ new fewer.
         sets_last ! (bin ! (get ! refl) (lit ! tt) (record { fits = more })) refl (tt, record { fits = more }) $
         move ! (6 ∷ 0 ∷ []) $ use2 𝓛 (‵ (Puts T k (take (i + 1) draws) w new))

@@ -1,6 +1,7 @@
 -- Lists, for proofs of functions that fill rows.
 --     filled_more     a row that is filled so far        last_filled     a table whose last row is put back as it was filled
-use Rattle.std.proofs.Common.{ℕ, ◌≡◌, ◌+◌, ◌-◌, ◌<◌, ◌∙◌, suc, zero, All, List, [], ◌∷◌, ◌++◌, length, map, drop, replicate, slice_set, Some, refl, sym, ap, arith}
+use Rattle.std.proofs.Common.{ℕ, ◌≡◌, ◌+◌, ◌-◌, ◌<◌, ◌∙◌, suc, zero, All, List, [], ◌∷◌, ◌++◌, length, map, drop, replicate, slice_set, Some}
+use Rattle.std.proofs.Common.{refl, sym, ap, arith}
 use Rattle.std.proofs.lemmas.List.{length-replicate, map-append, set_at}
 use Rattle.std.proofs.lemmas.List.Elements.{All-pop}
 use Rattle.v_frame.specs.{DrawnItems.put_back, Walk.item_from, Walk.left_by, declared.replay.draw.Side.TheVariants.Back}

@@ -95,8 +95,8 @@ module _ {M : Type 1} {𝓤 : Ura M} {𝓛 : Logic 𝓤} {K : Type 0} {Γ : List
       Step K 𝓛 (‵ (fat full_share Bare b o (lowered new)) ∷ ‵ ((the_row a (param 0 T)).own_val new (lowered new ∷ [])) ∷ Γ) G
       (‵ (One.own_val new.front (slice_of new.front ∷ [])) ∷ ‵ ((rows_mut.the_row a (param 0 T)).own_val new.rows (rows_lowered new.rows ∷ [])) ∷
       ‵ (One.own_val new.back (slice_of new.back ∷ [])) ∷ ‵ (fat full_share (Named a (param 0 T)) b o (lowered new)) ∷ Γ) G
-  joins_pixels t a T b o new = step (λ k. use3 𝓛 (‵ ((the_row a (param 0 T)).own_val new (lowered new ∷ []))) (pixels_owned 𝓛 a (param 0 T) new) $ move t (1 ∷ []) $
-      use1 𝓛 (‵ (fat full_share Bare b o (lowered new))) (bare 𝓛 b o a (param 0 T) (lowered new)) $ k)
+  joins_pixels t a T b o new = step (λ k. use3 𝓛 (‵ ((the_row a (param 0 T)).own_val new (lowered new ∷ []))) (pixels_owned 𝓛 a (param 0 T) new) $
+      move t (1 ∷ []) $ use1 𝓛 (‵ (fat full_share Bare b o (lowered new))) (bare 𝓛 b o a (param 0 T) (lowered new)) $ k)
 
   -- what its parts own, and that their lengths fit
   pub parts : K → Soaks G → (a : NamedLft) (T : RattleType) → Laws T → (walk : PixelsMut T.Denot) → let One = Slice T a.lft in

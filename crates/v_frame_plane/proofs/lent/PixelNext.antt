@@ -1,6 +1,6 @@
--- `next` and `next_back` of an iterator that lends pixels, of which `s` is the one end: where the row that was begun there is at its end another one is begun,
--- and then the pixel next to that end is cut off it, and the rest is kept. A `&mut` in a field of self no generated proof follows, so this one follows the code.
--- Assumes `Logic`.
+-- `next` and `next_back` of an iterator that lends pixels, of which `s` is the one end: where the row that was begun there is at its end another one is
+-- begun, and then the pixel next to that end is cut off it, and the rest is kept. A `&mut` in a field of self no generated proof follows, so this one
+-- follows the code. Assumes `Logic`.
 use Rattle.v_frame_plane.proofs.lent.Steps.{◌≡◌, [], ◌∷◌, length, Some, None, MutBor, lit<, refl, sym, ◌∙◌, arith, none_of, sep, tables, param, MutRef}
 use Rattle.v_frame_plane.proofs.lent.Steps.{mut_vals, named_lft, closes, heard, only, framed, named, mut, erased, of_list, alloc_all, env, free_all, get}
 use Rattle.v_frame_plane.proofs.lent.Steps.{lands_as, look_at, pass_all, sets, through, ‵, raw, ◌⊛◌, at_ret, ◌$◌, !, move, split, use0, use2, live, agg}
@@ -165,8 +165,8 @@ module _ {M : Type 1} {𝓤 : Ura M} (𝓛 : Logic 𝓤) (𝓜 : Model 𝓤 𝓛
       raw (Around 𝓛 b o RowsBare rows_offset (λ u. self_of (slice_of h.front) u (slice_of h.back))))
       (rows_out 𝓛 b o (slice_of h.front) (rows_lowered h.rows) (slice_of h.back)) $ split ! $
       -- [the rows' cell; the way back; this end; what the rows own; the other end; the open borrow; the tokens of κa and κT; the locals]
-      move ! (0 ∷ 3 ∷ 8 ∷ 9 ∷ []) $ calls_self ! run (row_draw 𝓤 T s) draw_meets κa κT qa qT aT inT (rows_lowers ℓ item (param_laws 0 T laws)) refl RowsBare refl
-      h.rows b (o + rows_offset) (id⊢ 𝓤 _) (λ _ _ _. get ! refl) (λ v r rows. let ns = rows_lowered rows in
+      move ! (0 ∷ 3 ∷ 8 ∷ 9 ∷ []) $ calls_self ! run (row_draw 𝓤 T s) draw_meets κa κT qa qT aT inT (rows_lowers ℓ item (param_laws 0 T laws)) refl RowsBare
+      refl h.rows b (o + rows_offset) (id⊢ 𝓤 _) (λ _ _ _. get ! refl) (λ v r rows. let ns = rows_lowered rows in
       -- [the rows' cell; what they own; the tokens of κa and κT; the row; what the call says; the way back; this end; the other end; the open borrow; the
       -- locals]
       move ! (0 ∷ 6 ∷ []) $ use2 𝓛 (‵ (fat full_share Bare b o (self_of (slice_of h.front) ns (slice_of h.back))))
