@@ -5,5 +5,5 @@ pub mod HalfRows
 pub mod PixelBytes
 pub mod Plans
 pub mod RowLanes
-pub mod RowPairs
+pub mod SumsOfPairs
 pub mod Tables

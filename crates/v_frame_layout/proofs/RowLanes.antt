@@ -2,7 +2,7 @@
 use Rattle.std.proofs.Common.{ℕ, ◌≡◌, ◌+◌, ◌-◌, ◌*◌, ◌^◌, ◌%◌, ◌<◌, ◌≤◌, List, ◌∷◌, cond, ltb, length, take, get_or, map, refl, ◌∙◌}
 use Rattle.std.proofs.Common.{arith, zero-add, Fits}
 use Rattle.v_frame_layout.specs.PixelRows.{squared_error}
-use Rattle.v_frame_layout.proofs.RowPairs.{sum_of_lanes, sum_of_pairs-at_most}
+use Rattle.v_frame_layout.proofs.SumsOfPairs.{sum_of_lanes, sum_of_pairs-at_most}
 use mir.Syntax.{Width}
 use mir.Val.{bits, hbits}
 use Rattle.std.specs.Int.{abs_diff}

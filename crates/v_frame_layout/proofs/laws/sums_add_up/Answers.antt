@@ -1,7 +1,7 @@
 -- Sums over pairs add up over parts, and over rows.
 use Rattle.std.specs.Int.{abs_diff}
 use Rattle.v_frame_layout.specs.PixelRows.{squared_error}
-use Rattle.v_frame_layout.proofs.RowPairs.{sum_of_pairs-adds_up}
+use Rattle.v_frame_layout.proofs.SumsOfPairs.{sum_of_pairs-adds_up}
 use Rattle.v_frame_layout.proofs.laws.sums_add_up.Goals as goal
 
 pub returns-clause-absolute : goal.returns-clause-absolute

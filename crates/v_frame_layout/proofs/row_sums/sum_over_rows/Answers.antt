@@ -1,7 +1,7 @@
 -- One more block, one more pair, and all.
 use Rattle.std.proofs.Common.{lit<, arith}
 use Rattle.std.proofs.lemmas.Grind.{common_steps}
-use Rattle.v_frame_layout.proofs.RowPairs.{sums_up_to-piece_more}
+use Rattle.v_frame_layout.proofs.SumsOfPairs.{sums_up_to-piece_more}
 use Rattle.v_frame_layout.proofs.row_sums.sum_over_rows.Goals as goal
 
 pub loop-block-preserved : goal.loop-block-preserved

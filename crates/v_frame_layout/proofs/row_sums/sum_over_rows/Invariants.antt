@@ -1,6 +1,6 @@
 -- The pairs so far are summed.
 use Rattle.std.proofs.Common.{◌*◌}
-use Rattle.v_frame_layout.proofs.RowPairs.{SumsUpTo}
+use Rattle.v_frame_layout.proofs.SumsOfPairs.{SumsUpTo}
 use Rattle.v_frame_layout.proofs.row_sums.sum_over_rows.Given as goal
 
 abbrev pub invariant-loop-block : goal.invariant-loop-block
