@@ -217,7 +217,8 @@ module _ {M : Type 1} {𝓤 : Ura M} (𝓛 : Logic 𝓤) (𝓜 : Model 𝓤 𝓛
         -- [what is put back; the iterator; the tokens of κw, κT and κd; the draws; what was put back; the rest; the locals]
         let finish : (new : Walk T k) → left T k new ≡ left_by d.side (left T k walk) → Sq 𝓛 (‵ (Taken new) ∷ ‵ (Walking.own_val new (low new ∷ [])) ∷
         ‵ (flft κw qw) ∷ ‵ (flft κT rT) ∷ ‵ (flft κd qd) ∷ ‵ Each ∷ ‵ (Puts T k (take i draws) w walk) ∷ Shows ∷ Lender ∷
-        raw (Way_back 𝓛 α κT (Share.left qT)) ∷ holding 𝓛 En ((1, vptr b o) ∷ (2, slice_val (bd, od) n) ∷ (3, low new) ∷ (4, vint w64 i) ∷ (10, vint w64 n) ∷ []))
+        raw (Way_back 𝓛 α κT (Share.left qT)) ∷ holding 𝓛 En ((1, vptr b o) ∷ (2, slice_val (bd, od) n) ∷ (3, low new) ∷ (4, vint w64 i) ∷
+        (10, vint w64 n) ∷ []))
         (runs 𝓣.C 𝓣.Λ En goes_on (any_q (Turned t))) = λ new fewer.
         sets_last ! (bin ! (get ! refl) (lit ! tt) (record { fits = more })) refl (tt, record { fits = more }) $
         move ! (6 ∷ 0 ∷ []) $ use2 𝓛 (‵ (Puts T k (take (i + 1) draws) w new))

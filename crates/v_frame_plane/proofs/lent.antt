@@ -9,6 +9,7 @@ pub mod PixelDraws
 pub mod PixelLoans
 pub mod PixelMemory
 pub mod PixelNext
+pub mod PixelOfRow
 pub mod PixelParts
 pub mod PixelSides
 pub mod PixelsDropped

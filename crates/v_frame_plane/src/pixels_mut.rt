@@ -28,7 +28,7 @@ pub struct PixelsMut<'a, T> {
 
 impl<'a, T> PixelsMut<'a, T> {
     ghost use Rattle.v_frame_plane.specs.PixelsLeft.{pixels_left};
-    ghost use Rattle.v_frame_plane.specs.SecondPixels.{LendsFirstPixel, LendsLastPixel};
+    ghost use Rattle.v_frame_plane.specs.SecondPixels.{LendsFirstPixel, LendsLastPixel, TakesFirstPixel, TakesLastPixel};
 
     /// The pixels of these rows.
     pub(crate) fn new(rows: RowsMut<'a, T>) -> Self
@@ -44,6 +44,30 @@ impl<'a, T> PixelsMut<'a, T> {
         }
     }
 
+    /// The first pixel of the row that was begun from the front.
+    #[inline]
+    fn next_of_front(&mut self) -> &'a mut T
+        requires { 0 < length self.old.front.now }
+        ensures* leaves { sem 𝓛 (TakesFirstPixel T.row self.old self.new result) }
+        ensures steps { pixels_left self.old ≡ result.now ∷ pixels_left self.new }
+    {
+        let (pixel, rest) = cut_first(mem::take(&mut self.front));
+        self.front = rest;
+        pixel
+    }
+
+    /// The last pixel of the row that was begun from the back.
+    #[inline]
+    fn next_of_back(&mut self) -> &'a mut T
+        requires { 0 < length self.old.back.now }
+        ensures* leaves { sem 𝓛 (TakesLastPixel T.row self.old self.new result) }
+        ensures steps { pixels_left self.old ≡ pixels_left self.new ++ result.now ∷ [] }
+    {
+        let (pixel, rest) = cut_last(mem::take(&mut self.back));
+        self.back = rest;
+        pixel
+    }
+
     /// The next pixel, as [`Iterator::next`] gives it. The clause `leaves`, which the trait's `next` doesn't have, says what
     /// the plane shows once the borrow ends. Our own.
     #[inline]
@@ -57,13 +81,13 @@ impl<'a, T> PixelsMut<'a, T> {
                 Some(row) => self.front = row,
                 None => self.front = mem::take(&mut self.back),
             }
+            if self.front.len() == 0 {
+                return None;
+            }
+            // Also below: were it there alone, each pixel of a row that was begun would take a jump more.
+            return Some(self.next_of_front());
         }
-        if self.front.len() == 0 {
-            return None;
-        }
-        let (pixel, rest) = cut_first(mem::take(&mut self.front));
-        self.front = rest;
-        Some(pixel)
+        Some(self.next_of_front())
     }
 
     /// The last pixel, as [`DoubleEndedIterator::next_back`] gives it. Our own.
@@ -78,13 +102,13 @@ impl<'a, T> PixelsMut<'a, T> {
                 Some(row) => self.back = row,
                 None => self.back = mem::take(&mut self.front),
             }
+            if self.back.len() == 0 {
+                return None;
+            }
+            // Also below: were it there alone, each pixel of a row that was begun would take a jump more.
+            return Some(self.next_of_back());
         }
-        if self.back.len() == 0 {
-            return None;
-        }
-        let (pixel, rest) = cut_last(mem::take(&mut self.back));
-        self.back = rest;
-        Some(pixel)
+        Some(self.next_of_back())
     }
 }
 

@@ -1,17 +1,20 @@
--- `next` and `next_back` of an iterator that lends pixels, of which `s` is the one end: where the row that was begun there is at its end another one is
--- begun, and then the pixel next to that end is cut off it, and the rest is kept. A `&mut` in a field of self no generated proof follows, so this one
--- follows the code. Assumes `Logic`.
-use Rattle.v_frame_plane.proofs.lent.Steps.{◌≡◌, [], ◌∷◌, length, Some, None, MutBor, lit<, refl, sym, ◌∙◌, arith, none_of, sep, tables, param, MutRef}
+-- `next` and `next_back` of an iterator that lends pixels, of which `s` is the one end: the pixel next to that end is cut off the row that was begun there,
+-- and where that row is at its end, another one is begun before. A `&mut` in a field of self no generated proof follows, so this one follows the code.
+-- Assumes `Logic`.
+use Rattle.v_frame_plane.proofs.lent.Steps.{◌≡◌, [], ◌∷◌, length, Some, None, MutBor, lit<, refl, sym, ◌∙◌, none_of, sep, tables, param, MutRef}
 use Rattle.v_frame_plane.proofs.lent.Steps.{mut_vals, named_lft, closes, heard, only, framed, named, mut, erased, of_list, alloc_all, env, free_all, get}
 use Rattle.v_frame_plane.proofs.lent.Steps.{lands_as, look_at, pass_all, sets, through, ‵, raw, ◌⊛◌, at_ret, ◌$◌, !, move, split, use0, use2, live, agg}
-use Rattle.v_frame_plane.proofs.lent.Steps.{whole, addr, and_then, bin, branches, enter, exec, first, lit, no_more, returns, returns_within, skips, stop}
+use Rattle.v_frame_plane.proofs.lent.Steps.{whole, addr, and_then, bin, branches, enter, exec, first, lit, no_more, returns_within, skips, stop}
 use Rattle.v_frame_plane.proofs.lent.Steps.{well_typed, sem, RattleType, Laws, Logic, Ura, Ty, tcons, tnil, ty_int, ty_param, ty_ref, w64, MachineTables}
-use Rattle.v_frame_plane.proofs.lent.Steps.{Running, Triple, Callee, Fn, Sym, addr_of, aggregate, assign, cond, copy, deref, field, int, op2, place}
+use Rattle.v_frame_plane.proofs.lent.Steps.{Running, Callee, Fn, Sym, addr_of, aggregate, assign, cond, copy, deref, field, int, op2, place}
 use Rattle.v_frame_plane.proofs.lent.Steps.{return, rv_opd, seq, skip, ttcons, ttnil, ty_bool, ty_enum, w8, Model, Closed, Sq, param_laws, ◌+◌, fat, full_share}
-use Rattle.v_frame_plane.proofs.lent.Steps.{⊑_trans, slice_val, get_in, look_in_at, drop, rewrite, use1, store_in, sub, assigns, fld, from, hop, of_opd}
-use Rattle.v_frame_plane.proofs.lent.Steps.{ty_struct, eqb→eq, holding, forget_but, runs, fobor, fobs, fauth, mem, Item, List, Option, vptr, Some-of, eq, Place}
+use Rattle.v_frame_plane.proofs.lent.Steps.{⊑_trans, slice_val, get_in, look_in_at, drop, rewrite, use1, store_in, sub, fld, from, hop, of_opd}
+use Rattle.v_frame_plane.proofs.lent.Steps.{holding, forget_but, runs, fobor, fobs, fauth, mem, Item, List, Option, vptr, Some-of, Place}
 use Rattle.v_frame_plane.proofs.lent.Steps.{flft, Body as Borrow, id⊢, MutSlice, fjoin, split3, subst, arm, no_default, switch, variant, Wp, after_seq}
 use Rattle.v_frame_plane.proofs.lent.Steps.{get_tag, any_q, post, in_variant, vrt, assigns_last, switches_on, frame, ! }
+use Rattle.v_frame_plane.proofs.lent.Steps.{Env, Calls, Loops, Post as Exit, Opd as Operand, FmC, Lft, Share, ℕ, ◌⊑◌, ◌<◌, lands, call, seq, fact_i, emp}
+use Rattle.v_frame_plane.proofs.lent.Steps.{regoal, Val, eq, eqb→eq, NamedLft, fbor, prop, Seq}
+use types.Run.{Opd}
 use mir.Syntax.{Body}
 use Rattle.v_frame_plane.proofs.pixels_mut.PixelsMut.TheLaws.{lowers}
 use Rattle.v_frame_plane.proofs.lent.RowMemory.{slice_of, lowered as rows_lowered, Bare as RowsBare}
@@ -22,85 +25,115 @@ use Rattle.v_frame_plane.specs.declared.pixels_mut.PixelsMut.{PixelsMut}
 use Rattle.v_frame_plane.proofs.lent.PixelDraws.{after_keeping, moves, rests, yields_none, yields_pixel, keeps_same}
 use Rattle.v_frame_plane.proofs.lent.Loans.{opens_self}
 use Rattle.v_frame_plane.proofs.lent.PixelMemory.{lowered, Around, Bare, Named, as_named, field_in, rows_offset, rows_out, whole as self_of}
-use Rattle.v_frame_plane.proofs.lent.PixelSides.{Walk, near_fits, near_len, by_sides, near_out, near_part, near_place, part, sides, whole_by, far_out, joins_by}
-use Rattle.v_frame_plane.proofs.lent.PixelSides.{pixel_draw, row_draw}
-use Rattle.v_frame_plane.proofs.lent.Sides.{Side, Steps, Takes, near, put, slot, far, offset, walk_by, LendsRow, YieldsRow, no_rows, other, row_steps}
-use Rattle.v_frame_plane.proofs.lent.PixelCuts.{Cut, cuts_one, fewer, steps, takes_near}
+use Rattle.v_frame_plane.proofs.lent.PixelSides.{Walk, near_fits, near_len, by_sides, near_part, near_place, part, sides, whole_by, far_out, joins_by}
+use Rattle.v_frame_plane.proofs.lent.PixelSides.{pixel_draw, pixel_of_row, row_draw}
+use Rattle.v_frame_plane.proofs.lent.Sides.{Side, Steps, Takes, near, put, slot, far, offset, LendsRow, YieldsRow, no_rows, other, row_steps}
 use Rattle.v_frame_plane.proofs.lent.Cuts.{slice_fits, dropped}
 use Rattle.v_frame_plane.proofs.lent.Taken.{IsTake, by_row, calls_take, word}
 use Rattle.v_frame_plane.proofs.lent.RowDraws.{some_left}
 use Rattle.v_frame_plane.specs.SecondRows.{EndsAs}
 use Rattle.v_frame_plane.proofs.lent.PixelLoans.{begun, begun_countable, begun_full, begun_left, keeps_begun, keeps_taken, taken, taken_countable, taken_left}
 use Rattle.v_frame_plane.proofs.lent.PixelLoans.{taken_none}
-use Rattle.v_frame_plane.proofs.lent.CallSteps.{tells, told}
+use Rattle.v_frame_plane.proofs.lent.CallSteps.{spelt, tells, told}
 use Rattle.v_frame_plane.proofs.lent.Methods.{Ends, Met, calls_self, gets, gives, in_order, meets_by, method, set, value}
 use Rattle.v_frame_plane.proofs.rows_mut.RowsMut.TheLaws.{lowers as rows_lowers}
 use Rattle.std.specs.contracts.option.Option as Opt
 
--- the code and its proof, over the code's names for what a call gives, self, its rows and a pair, the types of self, its rows and an entry, and what it calls
+module _ {M : Type 1} {𝓤 : Ura M} {𝓛 : Logic 𝓤} {K : Type 0} {Γ : List (Item 𝓤)} {E : Env 𝓤 𝓛.H} {C : Calls 𝓤 𝓛.H} {Λ : Loops 𝓤 𝓛.H} {p : Exit 𝓤 𝓛.H} {f :
+    Callee} {x : Operand} {d : Place} {rest : Body} where
+  -- a pixel is cut off a row that was begun and has one, up to where it is stored
+  cuts_self : K → FmC 𝓤 𝓛.H 𝓛.laws C → (T : RattleType) → Laws T → (s : Side) → Met (pixel_of_row 𝓤 T s) 𝓛 (C f) → (κ κT : Lft) (q qT : Share) →
+      κ ⊑ κT → κT ⊑ T.lives → (walk : PixelsMut T.Denot) (b o : ℕ) → 0 < length (near s walk).now → ((i j l : Item 𝓤) → Opd K 𝓛 (i ∷ j ∷ l ∷ Γ) E x (vptr b o))
+      → let Row = the_row (record { mir = named 1; lft = κ }) (param 0 T) in
+      ((pixel : MutBor T.Denot) (new : PixelsMut T.Denot) → Steps s walk pixel new
+      → Seq K 𝓛 (‵ ((MutRef (named 1) κ (param 0 T)).own_val pixel (mut_vals pixel)) ∷ ‵ (Takes s (param 0 T) walk pixel new) ∷
+      ‵ (fat full_share Bare b o (lowered new)) ∷ ‵ (Row.own_val new (lowered new ∷ [])) ∷ ‵ (flft κ q) ∷ ‵ (flft κT qT) ∷ Γ)
+      (lands C Λ E d (only (mut_vals pixel)) rest p))
+      → Seq K 𝓛 (‵ (fat full_share Bare b o (lowered walk)) ∷ ‵ (Row.own_val walk (lowered walk ∷ [])) ∷ ‵ (flft κ q) ∷ ‵ (flft κT qT) ∷ Γ)
+      (runs C Λ E (seq (call f (x ∷ []) d) rest) p)
+  cuts_self t run T laws s met κ κT q qT inside inT walk b o some_left reads k =
+      let ℓ : NamedLft = record { mir = named 1; lft = κ } in
+      calls_self t run (pixel_of_row 𝓤 T s) met κ κT q qT inside inT (lowers ℓ (param 0 T) (param_laws 0 T laws)) refl Bare refl walk b o
+      (fact_i 𝓤 _ (emp 𝓤) some_left) reads (λ v pixel new. move t (5 ∷ []) $ split t $ move t (1 ∷ []) $ heard t _ (λ steps.
+      -- [what is taken; self's cell; what it owns; the tokens of κ and κT; the pixel]
+      move t (5 ∷ []) $ spelt t (MutRef (named 1) κ (param 0 T)) (λ r. only (mut_vals r)) (λ r vs is. is.0) pixel v (λ is _.
+      regoal t (λ (u : Val). lands C Λ E d u rest p) is refl $ k pixel new steps)))
+
+-- the code and its proof, over the code's names for what a call gives, self and its rows, the types of self, of it and its rows where they are lent on and of
+-- an entry, and what it calls
 module _ {M : Type 1} {𝓤 : Ura M} (𝓛 : Logic 𝓤) (𝓜 : Model 𝓤 𝓛.H) (𝓡 : Running 𝓤 𝓛.H 𝓜) (T : RattleType) (laws : Laws T) (s : Side)
-    (option self rows pair : Sym) (kept lent entry : Ty) (drawing taking cutting : Callee) where
+    (option self rows : Sym) (kept lent lent_rows entry : Ty) (cutting drawing taking : Callee) where
   abbrev Self : Ty
   Self = Walk self rows
 
   abbrev end_of : Side → Place
   end_of e = place 1 (deref Self ∷ field (slot e) ∷ [])
 
+  -- a pixel is cut off the row that was begun, by way of the locals i and j
+  abbrev cuts : ℕ → ℕ → Body
+  cuts i j = in_order (set i (addr_of (place 1 (deref Self ∷ []))) ∷ gets j cutting (value i ∷ []) ∷ set 0 (aggregate (int w8 1 ∷ value j ∷ [])) ∷ []) return
+
+  -- what is done where that row has no pixel, and what is done after that
+  abbrev where_empty : ℕ → ℕ → Body → Body → Body
+  where_empty i j does rest = in_order (set i (rv_opd (copy (place 1 (deref Self ∷ field (slot s) ∷ field 1 ∷ [])))) ∷
+      set j (op2 eq (value i) (int w64 0)) ∷ cond (value j) does skip ∷ []) rest
+
   -- where a row was drawn, and where there was none
   abbrev drawn : Body
-  drawn = in_order (set 2 (rv_opd (copy (place 7 (variant 1 ∷ field 1 ∷ [])))) ∷ set 9 (addr_of (place 2 (field 0 ∷ deref entry ∷ []))) ∷
-      set 10 (aggregate (value 9 ∷ copy (place 2 (field 1 ∷ [])) ∷ [])) ∷ []) (assign (end_of s) (rv_opd (value 10)))
+  drawn = in_order (set 2 (rv_opd (copy (place 5 (variant 1 ∷ field 1 ∷ [])))) ∷ set 7 (addr_of (place 2 (field 0 ∷ deref entry ∷ []))) ∷
+      set 8 (aggregate (value 7 ∷ copy (place 2 (field 1 ∷ [])) ∷ [])) ∷ []) (assign (end_of s) (rv_opd (value 8)))
 
   abbrev not_drawn : Body
-  not_drawn = in_order (set 12 (addr_of (end_of (other s))) ∷ gets 11 taking (value 12 ∷ []) ∷ []) (assign (end_of s) (rv_opd (value 11)))
+  not_drawn = in_order (set 10 (addr_of (end_of (other s))) ∷ gets 9 taking (value 10 ∷ []) ∷ []) (assign (end_of s) (rv_opd (value 9)))
+
+  abbrev refilled : Body
+  refilled = where_empty 11 12 (seq (set 0 (aggregate (int w8 0 ∷ []))) return) (cuts 14 13)
 
   abbrev refills : Body
-  refills = in_order (set 8 (addr_of (place 1 (deref Self ∷ field 1 ∷ []))) ∷ gets 7 drawing (value 8 ∷ []) ∷ [])
-      (switch (copy (place 7 (variant 0 ∷ field 0 ∷ []))) (arm (1 ∷ []) drawn (arm (0 ∷ []) not_drawn no_default)))
-
-  -- the pixel is cut off, and the rest is kept
-  abbrev cuts : Body
-  cuts = in_order (set 15 (addr_of (end_of s)) ∷ gets 14 taking (value 15 ∷ []) ∷ gets 13 cutting (value 14 ∷ []) ∷
-      set 3 (rv_opd (copy (place 13 (field 0 ∷ [])))) ∷ set 4 (rv_opd (copy (place 13 (field 1 ∷ [])))) ∷
-      set 16 (addr_of (place 4 (field 0 ∷ deref entry ∷ []))) ∷ set 17 (aggregate (value 16 ∷ copy (place 4 (field 1 ∷ [])) ∷ [])) ∷
-      assign (end_of s) (rv_opd (value 17)) ∷ set 18 (addr_of (place 3 (deref entry ∷ []))) ∷ set 0 (aggregate (int w8 1 ∷ value 18 ∷ [])) ∷ []) return
-
-  -- what is done where the row that was begun has no pixel, and what is done after that
-  abbrev where_empty : Body → Body → Body
-  where_empty does rest = in_order (set 5 (rv_opd (copy (place 1 (deref Self ∷ field (slot s) ∷ field 1 ∷ [])))) ∷
-      set 6 (op2 eq (value 5) (int w64 0)) ∷ cond (value 6) does skip ∷ []) rest
-
-  abbrev draws : Body
-  draws = where_empty (seq (set 0 (aggregate (int w8 0 ∷ []))) return) cuts
+  refills = in_order (set 6 (addr_of (place 1 (deref Self ∷ field 1 ∷ []))) ∷ gets 5 drawing (value 6 ∷ []) ∷
+      switch (copy (place 5 (variant 0 ∷ field 0 ∷ []))) (arm (1 ∷ []) drawn (arm (0 ∷ []) not_drawn no_default)) ∷ []) refilled
 
   abbrev code : Fn
   code = let by_ref : Ty → Ty = ty_ref erased mut in let pixel : Ty = by_ref (ty_param 0) in
       let given : Ty → Ty = λ τ. ty_enum option (ttcons tnil (ttcons (tcons τ tnil) ttnil)) in
-      method (where_empty refills draws) (given (ty_ref (named 1) mut (ty_param 0)) ∷ ty_ref (named 0) mut kept ∷ part ∷ pixel ∷ part ∷ ty_int w64 ∷ ty_bool ∷
-      given part ∷ by_ref lent ∷ pixel ∷ part ∷ part ∷ by_ref part ∷ ty_struct pair (tcons pixel (tcons part tnil)) ∷ part ∷ by_ref part ∷ pixel ∷ part ∷
-      pixel ∷ [])
+      method (where_empty 3 4 refills (cuts 16 15)) (given (ty_ref (named 1) mut (ty_param 0)) ∷ ty_ref (named 0) mut kept ∷ part ∷ ty_int w64 ∷ ty_bool ∷
+      given part ∷ by_ref lent_rows ∷ pixel ∷ part ∷ part ∷ by_ref part ∷ ty_int w64 ∷ ty_bool ∷ pixel ∷ by_ref lent ∷ pixel ∷ by_ref lent ∷ [])
 
   abbrev 𝓣 : MachineTables 𝓤 𝓛.H 𝓜
   𝓣 = tables 𝓤 𝓛.H 𝓜 𝓡 𝓡.env
 
-  pub meets : (key : Callee) → Met (row_draw 𝓤 T s) 𝓛 (𝓣.C drawing) → IsTake 𝓛 𝓜.mem 𝓡.returns T (𝓣.C taking) → Triple 𝓤 (𝓣.C cutting) (Cut 𝓛 T s) →
-      Closed 𝓤 𝓛.H 𝓣.C 𝓣.Λ key code → Met (pixel_draw 𝓤 T s) 𝓛 (𝓣.C key)
-  meets key draw_meets take_meets cut_meets closed =
+  pub meets : (key : Callee) → Met (pixel_of_row 𝓤 T s) 𝓛 (𝓣.C cutting) → Met (row_draw 𝓤 T s) 𝓛 (𝓣.C drawing) →
+      IsTake 𝓛 𝓜.mem 𝓡.returns T (𝓣.C taking) → Closed 𝓤 𝓛.H 𝓣.C 𝓣.Λ key code → Met (pixel_draw 𝓤 T s) 𝓛 (𝓣.C key)
+  meets key cut_meets draw_meets take_meets closed =
       let item = param 0 T in let m = pixel_draw 𝓤 T s in let run = framed 𝓤 𝓛.H 𝓜 𝓣 in
       meets_by 𝓛 𝓜 𝓡 m key code closed (λ κs qs bounds self inT.
       let κ = κs.0 in let q = qs.0 in let κa = κs.1.0 in let qa = qs.1.0 in let κT = κs.1.1.0 in let qT = qs.1.1.0 in let aT = bounds.1.1.0 in
       let ℓ = named_lft 3 1 tt κs in let Row = the_row ℓ item in let Pixel = MutRef (named 1) κa item in let inA = ⊑_trans κa κT T.lives aT inT in
       let b = self.ref_ptr.0 in let o = self.ref_ptr.1 in let h = self.now in let Post = Ends m 𝓛 κs qs bounds self in
+      let walks = lowers ℓ item (param_laws 0 T laws) in
+      -- a pixel is given, after what kept the pixels
+      let gives_one : (w new : PixelsMut T.Denot) (pixel : MutBor T.Denot) → pixels_left w ≡ pixels_left h → Steps s w pixel new →
+      Sq 𝓛 (‵ (fobs self.ghost_name (Row.coded.code new)) ∷ ‵ (fbor κ (Borrow (mem Row) b o self.ghost_name)) ∷ ‵ (flft κ q) ∷
+      ‵ (Pixel.own_val pixel (mut_vals pixel)) ∷ ‵ (Takes s item w pixel new) ∷ ‵ (flft κa qa) ∷ ‵ (flft κT qT) ∷ ‵ (KeepsPixels item h w) ∷ [])
+      (prop (Post (live 1 (of_list (mut_vals pixel))))) = λ w new pixel left steps. let all : Steps s h pixel new = sym left ∙ steps in
+      move ! (7 ∷ 4 ∷ []) $ use2 𝓛 (‵ (Takes s item h pixel new)) (after_keeping 𝓛 item (λ held. sep 𝓤 (sem 𝓛 (PixelEndsAs item pixel.ghost_name held.0))
+      (sem 𝓛 (SecondPixels item new held.1))) (λ held. put s held.0 held.1) h w) $
+      move ! (4 ∷ []) $ use1 𝓛 (‵ ((Opt.the_row Pixel).own_val (Some pixel) (live 1 (of_list (mut_vals pixel)) ∷ [])))
+      (Some-of 𝓛 Pixel pixel (only (mut_vals pixel))) $
+      move ! (0 ∷ 2 ∷ 3 ∷ 4 ∷ 5 ∷ 6 ∷ []) $ gives ! m κs qs bounds self (live 1 (of_list (mut_vals pixel))) (Some pixel) new $
+      frame ! $ tells ! (yields_pixel h new pixel s all) $ told ! (moves h new pixel s all) in
       drop ! $ enter ! _ _ _ _ _ $ alloc_all ! (λ l. pass_all ! refl ((tt, tt), tt) $
-      opens_self ! tt Row κ q self (lowers ℓ item (param_laws 0 T laws)) $
+      opens_self ! tt Row κ q self walks $
       let En = env code.locals l in
       -- self's cell; what it owns; the open borrow, in three; the tokens of κa and κT; that the pixels are kept; the locals
       let Now : PixelsMut T.Denot → List (Item 𝓤) = λ w. ‵ (fat full_share Bare b o (lowered w)) ∷ ‵ (Row.own_val w (lowered w ∷ [])) ∷
       ‵ (fobor κ q (Borrow (mem Row) b o self.ghost_name)) ∷ ‵ (fobs self.ghost_name (Row.coded.code h)) ∷ ‵ (fauth self.ghost_name (Row.coded.code h)) ∷
       ‵ (flft κa qa) ∷ ‵ (flft κT qT) ∷ ‵ (KeepsPixels item h w) ∷ holding 𝓛 En ((1, vptr b o) ∷ []) in
-      -- the row that was begun is as it was, or another one
+      let after : Body → Exit 𝓤 𝓛.H → Exit 𝓤 𝓛.H = λ body p. any_q (after_seq 𝓤 𝓛.H (Wp 𝓤 𝓛.H 𝓣.C 𝓣.Λ En body (post 𝓤 𝓛.H p)) (post 𝓤 𝓛.H p)) in
+      let Within = after (cuts 16 15) (at_ret En Post) in
+      -- another row was begun, or the other end's goes on here
       let goes_on : (w : PixelsMut T.Denot) → pixels_left w ≡ pixels_left h → (length (near s w).now ≡ 0 → pixels_left w ≡ []) →
-      Sq 𝓛 (Now w) (runs 𝓣.C 𝓣.Λ En draws (at_ret En Post)) = λ w left begun. well_typed ! (λ ok.
+      Sq 𝓛 (Now w) (runs 𝓣.C 𝓣.Λ En refilled Within) = λ w left begun. well_typed ! (λ ok.
       sets ! (near_len ! s w refl (whole !)) refl (tt, near_fits s w ok) $ sets ! (bin ! (get ! refl) (lit ! tt) tt) refl (tt, tt) $
       first ! $ branches ! (get ! refl)
       -- nothing is left
@@ -112,53 +145,20 @@ module _ {M : Type 1} {𝓤 : Ura M} (𝓛 : Logic 𝓤) (𝓜 : Model 𝓤 𝓛
       use0 𝓛 (‵ ((Opt.the_row Pixel).own_val None (live 0 (of_list []) ∷ []))) (none_of 𝓛 Pixel) $
       gives ! m κs qs bounds self (live 0 (of_list [])) None w $
       frame ! $ tells ! (yields_none h w s left (begun (eqb→eq (length (near s w).now) 0 empty))) $ told ! (rests h w left))
-      -- the pixel is cut off
-      (λ test. let x = near s w in let rows = rows_lowered w.rows in let other = slice_of (far s w) in let some_left = some_left (length x.now) test in
-      skips ! $ exec ! 𝓣.C 𝓣.Λ En cuts (at_ret En Post) $
-      move ! (1 ∷ []) $ sides ! tt s ℓ T laws w (λ fits _.
-      sets ! (addr ! (near_place ! s refl)) refl (tt, tt) $
-      move ! (3 ∷ []) $ rewrite ! 0 (λ u. ‵ (fat full_share Bare b o u)) (by_sides s w rows) refl $
-      use1 𝓛 (‵ (fat full_share word b (o + offset s) (slice_of x)) ⊛ raw (Around 𝓛 b o word (offset s) (λ u. whole_by s u rows other)))
-      (near_out 𝓛 b o (slice_of x) rows other s) $ split ! $
-      -- [the field; self's cell without it; this end; the rows; the other end; the open borrow; the tokens of κa and κT; that the pixels are kept; the locals]
-      move ! (0 ∷ 2 ∷ 8 ∷ []) $ calls_take ! run 𝓜.mem 𝓡.returns T κa (take_meets κa inA) qa x b (o + offset s) inA
-      (λ α γ. and_then ! (get ! refl) (no_more !)) (λ e empty.
-      lands_as ! refl refl (slice_fits fits) $
-      -- [the field; what it owns now; this end; the token of κa; self's cell without the field; the rows; the other end; the open borrow; the token of κT; ..]
-      let left_there = whole_by s (slice_val e.ref_ptr 0) rows other in
-      move ! (0 ∷ 4 ∷ []) $ use2 𝓛 (‵ (fat full_share Bare b o left_there)) (field_in 𝓛 b o word (offset s) (λ u. whole_by s u rows other)
-      (slice_val e.ref_ptr 0)) $
-      use1 𝓛 (‵ (fat full_share (Named ℓ item) b o left_there)) (as_named 𝓛 b o ℓ item left_there) $ move ! (1 ∷ []) $ drop ! $
-      -- [self's cell; this end; the token of κa; the rows; the other end; the open borrow; the token of κT; that the pixels are kept; the locals]
-      move ! (1 ∷ 2 ∷ 8 ∷ []) $ cuts_one ! run T s cut_meets κa κT qa qT aT inT x some_left (and_then ! (get ! refl) (no_more !)) (λ pixel rest is rest_fits.
-      lands_as ! refl refl (tt, (tt, ((tt, (record { fits = rest_fits }, tt)), tt))) $
-      -- [the pixel; the rest; how this end ends; the tokens of κa and κT; self's cell; the rows; the other end; the open borrow; that the pixels are kept; ..]
-      sets ! (of_opd ! (get_in ! (fld ! refl (stop !)) (sub ! 0 refl (whole !)))) refl (tt, tt) $
-      sets ! (of_opd ! (get_in ! (fld ! refl (stop !)) (sub ! 1 refl (whole !)))) refl (slice_fits rest_fits) $
-      sets ! (addr ! (from ! (fld ! refl (hop ! (look_in_at ! 4 (sub ! 0 refl (whole !))) (stop !))))) refl (tt, tt) $
-      sets ! (agg ! (and_then ! (get ! refl) (and_then ! (get_in ! (fld ! refl (stop !)) (sub ! 1 refl (whole !))) (no_more !)))) refl (slice_fits rest_fits) $
-      assigns ! (of_opd ! (get ! refl)) (near_place ! s refl)
-      (store_in ! 5 (near_part ! s ℓ item (slice_val e.ref_ptr 0) rows other (whole !)) (slice_fits rest_fits)) $
+      (λ test.
+      skips ! $ exec ! 𝓣.C 𝓣.Λ En (cuts 14 13) Within $
       sets ! (addr ! (through ! refl (stop !))) refl (tt, tt) $
+      move ! (0 ∷ 1 ∷ 5 ∷ 6 ∷ []) $ cuts_self ! run T laws s cut_meets κa κT qa qT aT inT w b o (some_left (length (near s w).now) test)
+      (λ _ _ _. get ! refl) (λ pixel new steps.
+      lands_as ! refl refl (tt, tt) $
       sets ! (agg ! (and_then ! (lit ! tt) (and_then ! (get ! refl) (no_more !)))) refl (tt, (record { fits = lit< tt }, (tt, tt))) $
-      let countable = fewer w s pixel.now rest.now is in let new = walk_by s rest w.rows (far s w) countable in
-      let steps : Steps s h pixel new = sym left ∙ steps w s pixel rest is countable in let out = live 1 (of_list (mut_vals pixel)) in
-      move ! (1 ∷ 6 ∷ 7 ∷ 5 ∷ []) $ joins_by ! s ℓ T b o rest w.rows (far s w) countable $
-      move ! (0 ∷ 1 ∷ 6 ∷ 7 ∷ 8 ∷ []) $ closes ! tt Row new (lowered new ∷ []) b o $
-      returns ! (look_at ! 0 refl) $ free_all ! refl $
-      -- [self, in two; the token of κ; the pixel; how this end ends; the tokens of κa and κT; that the pixels are kept]
-      move ! (4 ∷ []) $ use1 𝓛 (‵ (Takes s item w pixel new)) (takes_near 𝓛 item w pixel rest s is countable) $ move ! (7 ∷ 0 ∷ []) $
-      use2 𝓛 (‵ (Takes s item h pixel new)) (after_keeping 𝓛 item (λ held. sep 𝓤 (sem 𝓛 (PixelEndsAs item pixel.ghost_name held.0))
-      (sem 𝓛 (SecondPixels item new held.1))) (λ held. put s held.0 held.1) h w) $
-      move ! (4 ∷ []) $ use1 𝓛 (‵ ((Opt.the_row Pixel).own_val (Some pixel) (out ∷ []))) (Some-of 𝓛 Pixel pixel (only (mut_vals pixel))) $
-      move ! (0 ∷ 2 ∷ 3 ∷ 4 ∷ 5 ∷ 6 ∷ []) $ gives ! m κs qs bounds self out (Some pixel) new $
-      frame ! $ tells ! (yields_pixel h new pixel s steps) $ told ! (moves h new pixel s steps)))))) in
+      move ! (2 ∷ 3 ∷ 6 ∷ 7 ∷ 8 ∷ []) $ closes ! tt Row new (lowered new ∷ []) b o $
+      returns_within ! Post refl (look_at ! 0 refl) $ free_all ! refl $ gives_one w new pixel left steps))) in
       well_typed ! (λ ok.
       sets ! (near_len ! s h refl (whole !)) refl (tt, near_fits s h ok) $ sets ! (bin ! (get ! refl) (lit ! tt) tt) refl (tt, tt) $
       first ! $ branches ! (get ! refl)
       -- where the row has no pixel the next one is begun
       (λ is_empty. let none = eqb→eq (length (near s h).now) 0 is_empty in let x = near s h in let y = far s h in
-      let Then = any_q (after_seq 𝓤 𝓛.H (Wp 𝓤 𝓛.H 𝓣.C 𝓣.Λ En draws (post 𝓤 𝓛.H (at_ret En Post))) (post 𝓤 𝓛.H (at_ret En Post))) in
       sets ! (addr ! (through ! refl (fld ! refl (stop !)))) refl (tt, tt) $
       move ! (1 ∷ []) $ sides ! tt s ℓ T laws h (λ _ far_fits. move ! (3 ∷ []) $
       use1 𝓛 (‵ (fat full_share RowsBare b (o + rows_offset) (rows_lowered h.rows)) ⊛
@@ -180,8 +180,8 @@ module _ {M : Type 1} {𝓤 : Ura M} (𝓛 : Logic 𝓤) (𝓜 : Model 𝓤 𝓛
       (λ gone out. let few = no_rows s h.rows rows (subst (λ r. YieldsRow s h.rows r rows) gone steps) in
       rewrite ! 1 (λ (r : Option (MutBor (List T.Denot))). ‵ (LendsRow s item h.rows r rows)) gone refl $
       lands_as ! out refl (tt, (record { fits = lit< tt }, tt)) $
-      switches_on ! (get_tag ! (vrt ! refl (fld ! refl (stop !))) (whole !)) $
-      exec ! 𝓣.C 𝓣.Λ En not_drawn Then $
+      first ! $ switches_on ! (get_tag ! (vrt ! refl (fld ! refl (stop !))) (whole !)) $
+      exec ! 𝓣.C 𝓣.Λ En not_drawn (after refilled Within) $
       sets ! (addr ! (near_place ! (other s) refl)) refl (tt, tt) $
       move ! (2 ∷ []) $ use1 𝓛 (‵ (fat full_share word b (o + offset (other s)) (slice_of y)) ⊛
       raw (Around 𝓛 b o word (offset (other s)) (λ u. whole_by s (slice_of x) ns u))) (far_out 𝓛 b o (slice_of x) ns (slice_of y) s) $ split ! $
@@ -198,7 +198,7 @@ module _ {M : Type 1} {𝓤 : Ura M} (𝓛 : Logic 𝓤) (𝓜 : Model 𝓤 𝓛
       use1 𝓛 (‵ (fat full_share (Named ℓ item) b o left)) (as_named 𝓛 b o ℓ item left) $
       assigns_last ! (of_opd ! (get ! refl)) (near_place ! s refl)
       (store_in ! 0 (near_part ! s ℓ item (slice_of x) ns (slice_val e.ref_ptr 0) (whole !)) (slice_fits far_fits)) $
-      exec ! 𝓣.C 𝓣.Λ En draws (at_ret En Post) $
+      exec ! 𝓣.C 𝓣.Λ En refilled Within $
       rewrite ! 0 (λ (xs : List T.Denot). ‵ (fat full_share (Named ℓ item) b o (whole_by s (slice_of y) ns (slice_val e.ref_ptr (length xs)))))
       (sym empty) refl $
       rewrite ! 1 (λ (xs : List T.Denot). ‵ ((MutSlice (named 1) κa item).own_val e (slice_val e.ref_ptr (length xs) ∷ []))) (sym empty) refl $
@@ -217,18 +217,23 @@ module _ {M : Type 1} {𝓤 : Ura M} (𝓛 : Logic 𝓤) (𝓜 : Model 𝓤 𝓛
       move ! (2 ∷ []) $ use1 𝓛 (‵ (fat full_share (Named ℓ item) b o left)) (as_named 𝓛 b o ℓ item left) $
       -- [self's cell; what the iterator keeps; the row; what the rows own; the tokens of κa and κT; the other end; the open borrow; the locals]
       lands_as ! out refl (tt, (record { fits = lit< tt }, ((tt, (record { fits = row_fits }, tt)), tt))) $
-      switches_on ! (get_tag ! (vrt ! refl (fld ! refl (stop !))) (whole !)) $
-      exec ! 𝓣.C 𝓣.Λ En drawn Then $
+      first ! $ switches_on ! (get_tag ! (vrt ! refl (fld ! refl (stop !))) (whole !)) $
+      exec ! 𝓣.C 𝓣.Λ En drawn (after refilled Within) $
       sets ! (of_opd ! (get_in ! (vrt ! refl (fld ! refl (stop !))) (in_variant ! 1 0 refl refl (whole !)))) refl (slice_fits row_fits) $
       sets ! (addr ! (from ! (fld ! refl (hop ! (look_in_at ! 2 (sub ! 0 refl (whole !))) (stop !))))) refl (tt, tt) $
       sets ! (agg ! (and_then ! (get ! refl) (and_then ! (get_in ! (fld ! refl (stop !)) (sub ! 1 refl (whole !))) (no_more !)))) refl (slice_fits row_fits) $
       assigns_last ! (of_opd ! (get ! refl)) (near_place ! s refl)
       (store_in ! 0 (near_part ! s ℓ item (slice_of x) ns (slice_of y) (whole !)) (slice_fits row_fits)) $
-      exec ! 𝓣.C 𝓣.Λ En draws (at_ret En Post) $
+      exec ! 𝓣.C 𝓣.Λ En refilled Within $
       move ! (2 ∷ 3 ∷ 6 ∷ 0 ∷ []) $ joins_by ! s ℓ T b o row rows y (begun_countable h rows row s is) $
       move ! (0 ∷ 1 ∷ 5 ∷ 6 ∷ 7 ∷ 3 ∷ 4 ∷ []) $ forget_but ! En (1 ∷ []) refl $
       goes_on new (begun_left h rows row s is none) (begun_full h rows row s is))))))
       (λ test.
-      skips ! $ exec ! 𝓣.C 𝓣.Λ En draws (at_ret En Post) $ use0 𝓛 (‵ (KeepsPixels item h h)) (keeps_same 𝓛 item h) $
-      move ! (1 ∷ 2 ∷ 3 ∷ 4 ∷ 5 ∷ 6 ∷ 7 ∷ []) $ forget_but ! En (1 ∷ []) refl $
-      goes_on h refl (λ none. let some = some_left (length (near s h).now) test in absurd (omega (arith, some, none)))))))
+      skips ! $ exec ! 𝓣.C 𝓣.Λ En (cuts 16 15) (at_ret En Post) $
+      sets ! (addr ! (through ! refl (stop !))) refl (tt, tt) $ use0 𝓛 (‵ (KeepsPixels item h h)) (keeps_same 𝓛 item h) $
+      move ! (1 ∷ 2 ∷ 6 ∷ 7 ∷ 3 ∷ 4 ∷ 5 ∷ []) $ cuts_self ! run T laws s cut_meets κa κT qa qT aT inT h b o (some_left (length (near s h).now) test)
+      (λ _ _ _. get ! refl) (λ pixel new steps.
+      lands_as ! refl refl (tt, tt) $
+      sets ! (agg ! (and_then ! (lit ! tt) (and_then ! (get ! refl) (no_more !)))) refl (tt, (record { fits = lit< tt }, (tt, tt))) $
+      move ! (2 ∷ 3 ∷ 6 ∷ 7 ∷ 8 ∷ []) $ closes ! tt Row new (lowered new ∷ []) b o $
+      returns_within ! Post refl (look_at ! 0 refl) $ free_all ! refl $ gives_one h new pixel refl steps)))))

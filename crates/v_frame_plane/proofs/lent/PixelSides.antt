@@ -3,7 +3,7 @@
 --     near_len, near_fits     the length of this end's row, as code reads it of self, and that it fits
 --     near_place, near_part, near_out, far_out     the field of this end in code, in the cell of self, and out of it
 --     whole_by, by_sides     self as a machine value, of its parts as seen from this end.        sides, joins_by     self, apart, and again together
---     cut_clauses, row_draw, pixel_draw     the contracts of the functions of this end
+--     cut_clauses, row_draw, pixel_draw, pixel_of_row     the contracts of the functions of this end
 use Rattle.v_frame_plane.proofs.lent.Steps.{ℕ, ◌≡◌, ◌+◌, ◌^◌, ◌<◌, List, [], ◌∷◌, length, MutBor, ⊤, MakesProgress, item_count, Share}
 use Rattle.v_frame_plane.proofs.lent.Steps.{Step, step, !, refl, ◌$◌, move, Array, Laws, MutSlice, NamedLft, Goal, Seq, Soaks}
 use Rattle.v_frame_plane.proofs.lent.Steps.{follows_both, full_share, fat, ftrue, ent, sep, fact, ◌⊑◌, param, RattleType, Clauses, Ty, Val, vptr, vint, w64}
@@ -12,7 +12,7 @@ use Rattle.v_frame_plane.proofs.lent.Steps.{ty_param, ty_ref, ty_struct, T, Sym,
 use Rattle.v_frame_plane.proofs.lent.Steps.{Part, Finds, Rv, raw, ◌⊛◌, MutRef}
 use Rattle.v_frame_plane.proofs.lent.PixelMemory.{Around, Bare, Named, back_out, joins_pixels, front_out, lowered, parts, whole}
 use Rattle.v_frame_plane.proofs.lent.Sides.{Side, at_front, at_back, at_side, slot, other, offset, near, far, put, Countable, walk_by, Yields, YieldsRow}
-use Rattle.v_frame_plane.proofs.lent.Sides.{LendsRow, Lends, by_side}
+use Rattle.v_frame_plane.proofs.lent.Sides.{LendsRow, Lends, Steps, Takes, by_side}
 use Rattle.v_frame_plane.specs.{PixelsLeft.pixels_left, RowsLeft.rows_left, contracts.pixels_mut.PixelsMut.the_row}
 use Rattle.v_frame_plane.specs.{declared.pixels_mut.PixelsMut.PixelsMut, declared.rows_mut.RowsMut.RowsMut}
 use Rattle.v_frame_plane.proofs.lent.{Methods.Method, RowMemory.Numbers, RowMemory.lowered as rows_lowered, RowMemory.slice_of, Taken.Slice, Taken.word}
@@ -56,6 +56,16 @@ module _ {M : Type 1} (𝓤 : Ura M) (T : RattleType) (s : Side) where
     asks = λ _ _. ‵ ftrue;
     says = λ _ old pixel new. ‵ (Lends s (param 0 T) old pixel new) ⊛ raw (fact 𝓤 (Yields s old pixel new)) ⊛
         raw (fact 𝓤 (MakesProgress (λ _. ⊤) (item_count pixels_left) old pixel new));
+  }
+
+  -- of a row that was begun there and has a pixel
+  abbrev pub pixel_of_row : Method 𝓤
+  pixel_of_row = record {
+    Self = λ ℓ. the_row ℓ (param 0 T);
+    Given = λ ℓ. MutRef ℓ.mir ℓ.lft (param 0 T);
+    lives = T.lives;
+    asks = λ _ walk. raw (fact 𝓤 (0 < length (near s walk).now));
+    says = λ _ old pixel new. ‵ (Takes s (param 0 T) old pixel new) ⊛ raw (fact 𝓤 (Steps s old pixel new));
   }
 
 -- a slice, and self where code goes through a reference to it, of the names that it and its rows have there

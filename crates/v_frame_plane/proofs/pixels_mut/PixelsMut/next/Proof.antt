@@ -1,12 +1,12 @@
--- `next` begins another row where the one that was begun from the front is at its end, and takes its pixel there.
+-- `next` takes its pixel from the row that was begun from the front, and begins another one where that is at its end.
 use Rattle.v_frame_plane.proofs.lent.Steps.{[], ◌∷◌, a_type, layouts}
 use Rattle.v_frame_plane.specs.contracts.pixels_mut.PixelsMut.next.Key as next
-use Rattle.v_frame_plane.specs.contracts.pixels_mut.cut_first.Key as cut_first
+use Rattle.v_frame_plane.specs.contracts.pixels_mut.PixelsMut.next_of_front.Key as next_of_front
 use Rattle.v_frame_plane.specs.contracts.rows_mut.RowsMut.next.Key as rows_next
 use Rattle.v_frame_plane.proofs.lent.PixelNext.{meets}
 use Rattle.v_frame_plane.proofs.lent.Sides.{at_front}
 use Rattle.v_frame_plane.proofs.lent.Taken.{take_meets}
-use Rattle.v_frame_plane.proofs.pixels_mut.cut_first.Met as cut_first_met
+use Rattle.v_frame_plane.proofs.pixels_mut.PixelsMut.next_of_front.Met as next_of_front_met
 use Rattle.v_frame_plane.proofs.rows_mut.RowsMut.next.Met as rows_next_met
 use Rattle.v_frame_plane.proofs.pixels_mut.PixelsMut.next.Statement.{statement}
 use Rattle.v_frame_plane.proofs.pixels_mut.PixelsMut.next.Code as code
@@ -14,8 +14,8 @@ use Rattle.v_frame_plane.proofs.pixels_mut.PixelsMut.next.Code as code
 pub next_spec : {M : Type 1} → statement M
 next_spec 𝓤 𝓛 𝓜 𝓡 wired T laws =
     let args = layouts (a_type ∷ []) (T, tt) in
-    meets 𝓛 𝓜 𝓡 T laws at_front _ _ _ _ _ _ _ (rows_next.name args) _ (cut_first.name args) (next.name args)
+    meets 𝓛 𝓜 𝓡 T laws at_front _ _ _ _ _ _ _ (next_of_front.name args) (rows_next.name args) _ (next.name args)
+    (next_of_front_met.met 𝓤 𝓛 𝓜 𝓡 (code.calls-v_frame_plane::pixels_mut::PixelsMut::next_of_front 𝓡.env wired) T laws)
     (rows_next_met.met 𝓤 𝓛 𝓜 𝓡 (code.calls-v_frame_plane::rows_mut::RowsMut::next 𝓡.env wired) T laws)
     (take_meets 𝓛 𝓜 𝓡 (code.calls-core::mem::take 𝓡.env wired) (code.calls-core::slice::empty::RefMutSliceDefault::default 𝓡.env wired) T laws)
-    (cut_first_met.met 𝓤 𝓛 𝓜 𝓡 (code.calls-v_frame_plane::pixels_mut::cut_first 𝓡.env wired) T laws)
     (code.unfolded 𝓤 𝓛.H 𝓜 𝓡 wired (T, tt))
