@@ -1,6 +1,6 @@
 -- An iterator over lent rows or pixels whose items are all left: how its rows end, by what its items end as. Assumes `Logic`.
-use Rattle.v_frame_plane.proofs.lent.Steps.{param, ◌≡◌, List, [], ◌∷◌, length, refl, sym, ap, ◌∙◌, ent, sep, fact, RattleType, Ura, ‵, ◌$◌, ◌∵◌, !, qed, done}
-use Rattle.v_frame_plane.proofs.lent.Steps.{drop, fpick, fsplit, move, rewrite, Logic, sem, append-nil, nil_from_length}
+use Rattle.v_frame_buffer.proofs.Steps.{param, ◌≡◌, List, [], ◌∷◌, length, refl, sym, ap, ◌∙◌, ent, sep, fact, RattleType, Ura, ‵, ◌$◌, ◌∵◌, !, qed, done}
+use Rattle.v_frame_buffer.proofs.Steps.{drop, fpick, fsplit, move, rewrite, Logic, sem, append-nil, nil_from_length}
 use Rattle.v_frame_layout.specs.Table.{Table, width_of, height_of, row_major, cut_rows}
 use Rattle.v_frame_plane.specs.SecondPixels.{Parts, ArePartsOf, BeginsOver, SecondPixels}
 use Rattle.std.specs.{Prelude.All, Prelude.map}

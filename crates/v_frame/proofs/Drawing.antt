@@ -1,7 +1,7 @@
 -- A call from a side, in a proof by hand: which side it is, and what `next` or `next_back` says then. Assumes `Logic`.
-use Rattle.v_frame_plane.proofs.lent.Steps.{RattleType, subst, sym, ◌≡◌, List, [], ◌∷◌, Option, MutBor, refl, ap, SProp, ent, sep, fact, fact_i, shows, ⊤}
-use Rattle.v_frame_plane.proofs.lent.Steps.{MakesProgress, item_count, YieldsFirstMut, YieldsLastMut, only, peeks, Val, Ura, Goal, Item, Seq, ‵, raw, ◌$◌}
-use Rattle.v_frame_plane.proofs.lent.Steps.{drop, Logic, sem, fst∗, mono_r, fact_use, ⋆}
+use Rattle.v_frame_buffer.proofs.Steps.{RattleType, subst, sym, ◌≡◌, List, [], ◌∷◌, Option, MutBor, refl, ap, SProp, ent, sep, fact, fact_i, shows, ⊤}
+use Rattle.v_frame_buffer.proofs.Steps.{MakesProgress, item_count, YieldsFirstMut, YieldsLastMut, only, peeks, Val, Ura, Goal, Item, Seq, ‵, raw, ◌$◌}
+use Rattle.v_frame_buffer.proofs.Steps.{drop, Logic, sem, fst∗, mono_r, fact_use, ⋆}
 use Rattle.std.specs.{Option.option_copied_mut}
 use Rattle.v_frame.specs.{Walk.item_from, Walk.left_by, contracts.replay.draw.Side.the_row}
 use Rattle.v_frame.specs.declared.replay.draw.Side.{Side, TheVariants.Front, TheVariants.Back}

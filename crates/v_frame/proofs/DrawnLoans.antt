@@ -1,8 +1,8 @@
 -- What calls that write leave of an iterator's final values: a call, with an item or with none, one more of a list, and the iterator that is dropped.
 -- Assumes `Logic`.
-use Rattle.v_frame_plane.proofs.lent.Steps.{via, mono_r, apply∗, ℕ, ◌+◌, ◌<◌, take, arith, ◌≡◌, List, [], ◌∷◌, length, refl, sym, ap, ◌∙◌, Option, Some, None}
-use Rattle.v_frame_plane.proofs.lent.Steps.{MutBor, SProp, all, emp, ent, sep, wand, RattleType, Ura, ‵, ◌$◌, ◌∵◌, !, qed, assume, done, each, join, move}
-use Rattle.v_frame_plane.proofs.lent.Steps.{rewrite, use1, use2, Logic, sem}
+use Rattle.v_frame_buffer.proofs.Steps.{via, mono_r, apply∗, ℕ, ◌+◌, ◌<◌, take, arith, ◌≡◌, List, [], ◌∷◌, length, refl, sym, ap, ◌∙◌, Option, Some, None}
+use Rattle.v_frame_buffer.proofs.Steps.{MutBor, SProp, all, emp, ent, sep, wand, RattleType, Ura, ‵, ◌$◌, ◌∵◌, !, qed, assume, done, each, join, move}
+use Rattle.v_frame_buffer.proofs.Steps.{rewrite, use1, use2, Logic, sem}
 use Rattle.std.proofs.lemmas.List.{take_all}
 use Rattle.std.specs.Prelude.{map}
 use base.Fml.{fwand, fsep}

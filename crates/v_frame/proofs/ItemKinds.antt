@@ -3,8 +3,8 @@
 --     left, shown, rows_of, slice     what is left of the iterator, and of a plane's; its rows, and its slice
 --     side_of, made, written     what a draw says.        Second, Ends, Lends, Puts     how they end
 --     Begins     how the iterator of a plane begins.        Promise, Kept     what a function says, and that it is so
-use Rattle.v_frame_plane.proofs.lent.Steps.{◌≡◌, List, length, Option, MutBor, NamedLft, RattleType, Fml, Clauses, Logic, Ura, param, Running, Ended, closing}
-use Rattle.v_frame_plane.proofs.lent.Steps.{Meets, Callee, Model, All}
+use Rattle.v_frame_buffer.proofs.Steps.{◌≡◌, List, length, Option, MutBor, NamedLft, RattleType, Fml, Clauses, Logic, Ura, param, Running, Ended, closing}
+use Rattle.v_frame_buffer.proofs.Steps.{Meets, Callee, Model, All}
 use Rattle.v_frame_plane.specs.SecondPixels.{BeginsOver, LendsFirstPixel, LendsLastPixel, PixelEndsAs, SecondPixels}
 use Rattle.v_frame_plane.specs.SecondRows.{EndsAs, LendsFirstRow, LendsLastRow, SecondRows, WritesEachTable}
 use Rattle.v_frame.specs.Walk.{pixel_written, pixels_written, row_written, rows_written}

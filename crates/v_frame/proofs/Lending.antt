@@ -3,12 +3,12 @@
 --     rows_back     the same, from what its rows end as
 --     lends_walk, walk_back     an iterator in a local is lent to a call, and is there again, as the call left it
 --     begins     what `rows_mut` and `pixels_mut` say of the iterator that they give
-use Rattle.v_frame_plane.proofs.lent.Steps.{◌^◌, ◌<◌, Laws, NamedLft, framed, param_laws, refl, tables, ◌⊑◌, ℕ, ◌≡◌, List, [], ◌∷◌, length, MutBor, Lft}
-use Rattle.v_frame_plane.proofs.lent.Steps.{Share, Fml, fat, flent, flft, fsep, full_share, ent, sep, fact, RattleType, MutRef, mut_vals, mem, named, param}
-use Rattle.v_frame_plane.proofs.lent.Steps.{Val, vptr, Ura, Goal, Item, Seq, Soaks, Step, step, ‵, raw, ◌⊛◌, some, later, ◌$◌, ◌∵◌, !, qed, await, drop}
-use Rattle.v_frame_plane.proofs.lent.Steps.{frame, fsplit, heard, move, pick, split, use1, use2, use3, Logic, sem, Body, Array, Ty, MachineTables, Running}
-use Rattle.v_frame_plane.proofs.lent.Steps.{Typed, Is, Callee, Lifetime, Place, call, seq, Model, Env, Post, lands, regoal, runs, mean, Opds, meet_⊑_right}
-use Rattle.v_frame_plane.proofs.lent.Steps.{fres, follows, lone, All}
+use Rattle.v_frame_buffer.proofs.Steps.{◌^◌, ◌<◌, Laws, NamedLft, framed, param_laws, refl, tables, ◌⊑◌, ℕ, ◌≡◌, List, [], ◌∷◌, length, MutBor, Lft}
+use Rattle.v_frame_buffer.proofs.Steps.{Share, Fml, fat, flent, flft, fsep, full_share, ent, sep, fact, RattleType, MutRef, mut_vals, mem, named, param}
+use Rattle.v_frame_buffer.proofs.Steps.{Val, vptr, Ura, Goal, Item, Seq, Soaks, Step, step, ‵, raw, ◌⊛◌, some, later, ◌$◌, ◌∵◌, !, qed, await, drop}
+use Rattle.v_frame_buffer.proofs.Steps.{frame, fsplit, heard, move, pick, split, use1, use2, use3, Logic, sem, Body, Array, Ty, MachineTables, Running}
+use Rattle.v_frame_buffer.proofs.Steps.{Typed, Is, Callee, Lifetime, Place, call, seq, Model, Env, Post, lands, regoal, runs, mean, Opds, meet_⊑_right}
+use Rattle.v_frame_buffer.proofs.Steps.{fres, follows, lone, All}
 use denote.Lowered.{Lowered}
 use mir.Syntax.{Body as Code, Opd as Operand}
 use Rattle.v_frame_plane.specs.contracts.plane.Plane as planes

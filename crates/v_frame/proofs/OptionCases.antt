@@ -1,7 +1,7 @@
 -- An `Option` by value, in a proof by hand: the proof goes on for each variant. by_ref is for an `Option` of a `&mut`. Assumes `Logic`.
-use Rattle.v_frame_plane.proofs.lent.Steps.{Lft, MutBor, MutRef, mut_vals, peeks, rewrite, shows, ◌≡◌, List, [], ◌∷◌, Option, Some, None, refl, ap, ◌∙◌}
-use Rattle.v_frame_plane.proofs.lent.Steps.{RattleType, only, Val, of_list, vptr, Ura, Goal, Item, Seq, ‵, ◌$◌, drop, feq_l, fpick, fsplit, live, move, Logic}
-use Rattle.v_frame_plane.proofs.lent.Steps.{Is, Lifetime, append-nil}
+use Rattle.v_frame_buffer.proofs.Steps.{Lft, MutBor, MutRef, mut_vals, peeks, rewrite, shows, ◌≡◌, List, [], ◌∷◌, Option, Some, None, refl, ap, ◌∙◌}
+use Rattle.v_frame_buffer.proofs.Steps.{RattleType, only, Val, of_list, vptr, Ura, Goal, Item, Seq, ‵, ◌$◌, drop, feq_l, fpick, fsplit, live, move, Logic}
+use Rattle.v_frame_buffer.proofs.Steps.{Is, Lifetime, append-nil}
 use Rattle.std.proofs.{Common.subst}
 use Rattle.std.specs.contracts.option.Option as Opt
 

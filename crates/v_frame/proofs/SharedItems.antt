@@ -1,7 +1,7 @@
 -- One element of a slice for reading, by its number: what a `&` to it holds, and one element more of a list. Assumes `Logic`.
-use Rattle.v_frame_plane.proofs.lent.Steps.{RattleType, Val, vptr, mem, Goal, Item, Step, step, feq_i, fjoin, ℕ, ◌≡◌, ◌+◌, ◌*◌, ◌<◌, List, [], ◌∷◌, ◌++◌}
-use Rattle.v_frame_plane.proofs.lent.Steps.{length, take, refl, ap, arith, Lft, ent, Ura, ‵, ◌$◌, ◌∵◌, !, qed, done, fsplit, keep, rewrite, use1, Logic, sem}
-use Rattle.v_frame_plane.proofs.lent.Steps.{Fml, hidden_shr, shared_of, RowLaws, ShrRef, elements_shared, Lifetime}
+use Rattle.v_frame_buffer.proofs.Steps.{RattleType, Val, vptr, mem, Goal, Item, Step, step, feq_i, fjoin, ℕ, ◌≡◌, ◌+◌, ◌*◌, ◌<◌, List, [], ◌∷◌, ◌++◌}
+use Rattle.v_frame_buffer.proofs.Steps.{length, take, refl, ap, arith, Lft, ent, Ura, ‵, ◌$◌, ◌∵◌, !, qed, done, fsplit, keep, rewrite, use1, Logic, sem}
+use Rattle.v_frame_buffer.proofs.Steps.{Fml, hidden_shr, shared_of, RowLaws, ShrRef, elements_shared, Lifetime}
 use Rattle.std.specs.Prelude.{zero, suc}
 use base.Fml.{fhide}
 use denote.Index.{place, place_is}

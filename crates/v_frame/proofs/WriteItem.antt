@@ -1,9 +1,9 @@
 -- What is drawn from an iterator and changed: the item that a call gives, and the promises of the functions that draw and change it, by the kind that the
 -- iterator is of. Assumes `Logic`.
 use Rattle.v_frame.proofs.Steps.{finally-res, mut_ref_field, mut_ref_laws, mut_ref_shared}
-use Rattle.v_frame_plane.proofs.lent.Steps.{List, MutRef, MutSlice, Val, done, fsplit, is, keep, named, param, param_laws, refl, use1, vptr, yes, ! }
-use Rattle.v_frame_plane.proofs.lent.Steps.{[], ‵, ◌$◌, ◌∷◌, ◌≡◌, Fml, NamedLft, Lft, Is, of_field, row_shared, qed, ◌∵◌, Logic, Ura, RattleType, Laws, ent}
-use Rattle.v_frame_plane.proofs.lent.Steps.{sem, Running, RowLaws, Dict, Model}
+use Rattle.v_frame_buffer.proofs.Steps.{List, MutRef, MutSlice, Val, done, fsplit, is, keep, named, param, param_laws, refl, use1, vptr, yes, ! }
+use Rattle.v_frame_buffer.proofs.Steps.{[], ‵, ◌$◌, ◌∷◌, ◌≡◌, Fml, NamedLft, Lft, Is, of_field, row_shared, qed, ◌∵◌, Logic, Ura, RattleType, Laws, ent}
+use Rattle.v_frame_buffer.proofs.Steps.{sem, Running, RowLaws, Dict, Model}
 use denote.Exit.{Last, left as left_at}
 use Rattle.v_frame.proofs.ItemKinds.{Ends, Kind, Promise, draw_row, of_pixels}
 use Rattle.std.specs.{declared.clone.Clone.Ghosts}

@@ -3,19 +3,19 @@
 -- Assumes `Logic`.
 use Rattle.v_frame.proofs.Steps.{arm_body, copied, option_copied_mut, option_laws, option_row, SliceRefOf, after_turn, fhide, lt-wf_rel}
 use Rattle.v_frame.proofs.Steps.{mul-le-mul_right, shr_slice_vals, spot_of, tables_of, w64}
-use Rattle.v_frame_plane.proofs.lent.Steps.{Goes-dropped, Item, List, MutBor, Option, SProp, ShrRef, Sq, Stays, Val, Wp, addr, after, after_seq, agg, alloc_all}
-use Rattle.v_frame_plane.proofs.lent.Steps.{and_then, any_q, ap, at_ret, at_return, enter, env, exec, fact, feq_i, feq_l, first, fld, flft, forget_but}
-use Rattle.v_frame_plane.proofs.lent.Steps.{framed, free_all, from, fsplit, ftrue, get, get_in, get_tag, heard, holding, hop, id⊢, in_variant, is, lands_as}
-use Rattle.v_frame_plane.proofs.lent.Steps.{lands_last, lit<, look_at, look_in_at, move, mut_vals, named, no_more, nothing, of_opd, param, pass_all, peeks}
-use Rattle.v_frame_plane.proofs.lent.Steps.{plain, proved, raw, refl, returns, rewrite, runs, sets, shows, skips, stay_dropped, stop, sub, switches_on, sym}
-use Rattle.v_frame_plane.proofs.lent.Steps.{tables, through, unit_lit, use1, use2, vptr, vrt, vunit, walk_of, whole, yes, ℕ, !, [], ‵, ◌$◌, ◌∙◌, ◌∷◌, ◌≡◌, ◌⊑◌}
-use Rattle.v_frame_plane.proofs.lent.Steps.{Fml, NamedLft, Lft, live, of_list, Step, step, ◌++◌, Logic, Ura, RattleType, Laws, Ty, ent, sem, tcons}
-use Rattle.v_frame_plane.proofs.lent.Steps.{tnil, ty_ref, ty_param, erased, mut, slice_ty, MachineTables, Running, Callee, Dict, Fn, Sym, addr_of, aggregate}
-use Rattle.v_frame_plane.proofs.lent.Steps.{arm, copy, deref, field, imm, local, no_default, opd_unit, place, return, rv_opd, seq, skip, switch, ttcons, ttnil}
-use Rattle.v_frame_plane.proofs.lent.Steps.{ty_enum, ty_unit, variant, WT, Model, Closed, Go, settles, Below, Goes-ref, Out, after_block, again, arith, bin}
-use Rattle.v_frame_plane.proofs.lent.Steps.{blocks, branches, drop, elements_shared, give_at, jumps, length, lit, loops, ltb→lt, map, meet_⊑_right, mem}
-use Rattle.v_frame_plane.proofs.lent.Steps.{nltb→le, only, sets_last, size_lit, slice_val, split, stay_ref, take, take_at, use0, vint, ⊑_trans, ◌*◌, ◌+◌, ◌-◌}
-use Rattle.v_frame_plane.proofs.lent.Steps.{◌<◌, ◌^◌, ◌≤◌, ◌⊛◌, ty_int, ty_ptr, lone, cond, int, lt, op2, ty_bool, unsigned, Fits, Env, Bor}
+use Rattle.v_frame_buffer.proofs.Steps.{Goes-dropped, Item, List, MutBor, Option, SProp, ShrRef, Sq, Stays, Val, Wp, addr, after, after_seq, agg, alloc_all}
+use Rattle.v_frame_buffer.proofs.Steps.{and_then, any_q, ap, at_ret, at_return, enter, env, exec, fact, feq_i, feq_l, first, fld, flft, forget_but}
+use Rattle.v_frame_buffer.proofs.Steps.{framed, free_all, from, fsplit, ftrue, get, get_in, get_tag, heard, holding, hop, id⊢, in_variant, is, lands_as}
+use Rattle.v_frame_buffer.proofs.Steps.{lands_last, lit<, look_at, look_in_at, move, mut_vals, named, no_more, nothing, of_opd, param, pass_all, peeks}
+use Rattle.v_frame_buffer.proofs.Steps.{plain, proved, raw, refl, returns, rewrite, runs, sets, shows, skips, stay_dropped, stop, sub, switches_on, sym}
+use Rattle.v_frame_buffer.proofs.Steps.{tables, through, unit_lit, use1, use2, vptr, vrt, vunit, walk_of, whole, yes, ℕ, !, [], ‵, ◌$◌, ◌∙◌, ◌∷◌, ◌≡◌, ◌⊑◌}
+use Rattle.v_frame_buffer.proofs.Steps.{Fml, NamedLft, Lft, live, of_list, Step, step, ◌++◌, Logic, Ura, RattleType, Laws, Ty, ent, sem, tcons}
+use Rattle.v_frame_buffer.proofs.Steps.{tnil, ty_ref, ty_param, erased, mut, slice_ty, MachineTables, Running, Callee, Dict, Fn, Sym, addr_of, aggregate}
+use Rattle.v_frame_buffer.proofs.Steps.{arm, copy, deref, field, imm, local, no_default, opd_unit, place, return, rv_opd, seq, skip, switch, ttcons, ttnil}
+use Rattle.v_frame_buffer.proofs.Steps.{ty_enum, ty_unit, variant, WT, Model, Closed, Go, settles, Below, Goes-ref, Out, after_block, again, arith, bin}
+use Rattle.v_frame_buffer.proofs.Steps.{blocks, branches, drop, elements_shared, give_at, jumps, length, lit, loops, ltb→lt, map, meet_⊑_right, mem}
+use Rattle.v_frame_buffer.proofs.Steps.{nltb→le, only, sets_last, size_lit, slice_val, split, stay_ref, take, take_at, use0, vint, ⊑_trans, ◌*◌, ◌+◌, ◌-◌}
+use Rattle.v_frame_buffer.proofs.Steps.{◌<◌, ◌^◌, ◌≤◌, ◌⊛◌, ty_int, ty_ptr, lone, cond, int, lt, op2, ty_bool, unsigned, Fits, Env, Bor}
 use mir.Syntax.{Body, Opd as Operand, add, block, exit, loop, memory_slot, mul, offset, size_of}
 use types.Kit.{Post as Exits}
 use Rattle.v_frame.proofs.CallSteps.{asks_that, calls, calls_last, ends, opened, read_twice, unit_fits, tells, told}

@@ -1,11 +1,11 @@
 -- Steps of a proof by hand of a function that holds what a writing iterator lends, rows or pixels: see `ItemKinds.antt`. Assumes `Logic`.
 --     draws_item      a call of `next` or `next_back` on an iterator in a local, and the item that it gives, if any
 --     takes_arm, takes_other      the first arm of a `match` is that of an item, and the second that of none
-use Rattle.v_frame_plane.proofs.lent.Steps.{Is, Item, Lft, List, MakesProgress, MutBor, MutRef, MutSlice, NamedLft, Option, Val, YieldsFirstMut, YieldsLastMut}
-use Rattle.v_frame_plane.proofs.lent.Steps.{ap, drop, exec, fact, flft, framed, heard, id⊢, item_count, live, meet_⊑_right, move, named, of_list, only, param}
-use Rattle.v_frame_plane.proofs.lent.Steps.{raw, refl, rewrite, runs, subst, switches_on, tables, vint, vptr, ℕ, [], ‵, ⊑_trans, ⊤, ◌$◌, ◌∷◌, ◌≡◌, ◌⊑◌, Calls}
-use Rattle.v_frame_plane.proofs.lent.Steps.{Env, call, Laws, Logic, Loops, None, Post, and_then, no_more, RattleType, Seq, Share, Some, Step, Ty, Ura, fat}
-use Rattle.v_frame_plane.proofs.lent.Steps.{full_share, lands, lone, regoal, seq, step, switch, arm, w8, Model, Running, MachineTables}
+use Rattle.v_frame_buffer.proofs.Steps.{Is, Item, Lft, List, MakesProgress, MutBor, MutRef, MutSlice, NamedLft, Option, Val, YieldsFirstMut, YieldsLastMut}
+use Rattle.v_frame_buffer.proofs.Steps.{ap, drop, exec, fact, flft, framed, heard, id⊢, item_count, live, meet_⊑_right, move, named, of_list, only, param}
+use Rattle.v_frame_buffer.proofs.Steps.{raw, refl, rewrite, runs, subst, switches_on, tables, vint, vptr, ℕ, [], ‵, ⊑_trans, ⊤, ◌$◌, ◌∷◌, ◌≡◌, ◌⊑◌, Calls}
+use Rattle.v_frame_buffer.proofs.Steps.{Env, call, Laws, Logic, Loops, None, Post, and_then, no_more, RattleType, Seq, Share, Some, Step, Ty, Ura, fat}
+use Rattle.v_frame_buffer.proofs.Steps.{full_share, lands, lone, regoal, seq, step, switch, arm, w8, Model, Running, MachineTables}
 use Rattle.v_frame.proofs.Steps.{Bound}
 use mir.Raw.{raw as raw_ty}
 use mir.Syntax.{Arms, Body as Code, Callee, Opd as Operand, Place}

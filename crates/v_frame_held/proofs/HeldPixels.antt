@@ -2,11 +2,11 @@
 --     ends_of      what three calls take of some pixels, written over
 --     as_rows      the pixels of an iterator whose items are all left end as rows
 --     writes_pixel      a held pixel is written.        gives_back      it is dropped, and ends where the call took it from
-use Rattle.v_frame_plane.proofs.lent.Steps.{◌≡◌, ◌-◌, List, [], ◌∷◌, ◌++◌, length, Some, MutBor, refl, sym, ap, ◌∙◌, arith, append-nil, append_assoc}
-use Rattle.v_frame_plane.proofs.lent.Steps.{length-append, map, nil_from_length, Lft, Share, fat, flft, full_share, SProp, ent, sep, RattleType, MutRef}
-use Rattle.v_frame_plane.proofs.lent.Steps.{mut_vals, closes, named, param, layout, Val, Ura, Goal, Item, Seq, Step, step, ‵, ◌$◌, drop, feq_i, fjoin3, fpick}
-use Rattle.v_frame_plane.proofs.lent.Steps.{fsplit3, move, use1, use3, Logic, sem, cell_at, Calls, Env, Loops, Post, runs, assigns, assign, seq, Place, has_ty}
-use Rattle.v_frame_plane.proofs.lent.Steps.{WT, Rv, Finds}
+use Rattle.v_frame_buffer.proofs.Steps.{◌≡◌, ◌-◌, List, [], ◌∷◌, ◌++◌, length, Some, MutBor, refl, sym, ap, ◌∙◌, arith, append-nil, append_assoc}
+use Rattle.v_frame_buffer.proofs.Steps.{length-append, map, nil_from_length, Lft, Share, fat, flft, full_share, SProp, ent, sep, RattleType, MutRef}
+use Rattle.v_frame_buffer.proofs.Steps.{mut_vals, closes, named, param, layout, Val, Ura, Goal, Item, Seq, Step, step, ‵, ◌$◌, drop, feq_i, fjoin3, fpick}
+use Rattle.v_frame_buffer.proofs.Steps.{fsplit3, move, use1, use3, Logic, sem, cell_at, Calls, Env, Loops, Post, runs, assigns, assign, seq, Place, has_ty}
+use Rattle.v_frame_buffer.proofs.Steps.{WT, Rv, Finds}
 use lib.Dec.{T as Holds}
 use denote.Param.Laws.{IsCopy}
 use mir.Syntax.{Body as Code, Rv as RValue}

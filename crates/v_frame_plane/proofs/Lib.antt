@@ -1,4 +1,3 @@
-pub mod block
 pub mod copies
 pub mod iterators
 pub mod lent

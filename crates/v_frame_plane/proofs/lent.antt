@@ -1,5 +1,4 @@
 -- What lends rows and pixels for writing, and the steps of the proofs by hand of it.
-pub mod CallSteps
 pub mod Cuts
 pub mod Dropped
 pub mod Loans
@@ -19,5 +18,4 @@ pub mod RowMemory
 pub mod RowNext
 pub mod SecondRows
 pub mod Sides
-pub mod Steps
 pub mod Taken

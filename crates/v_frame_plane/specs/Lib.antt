@@ -1,11 +1,7 @@
-pub mod AlignedData
-pub mod Block
-pub mod BlockLends
 pub mod Copy
 pub mod Cursor
 pub mod Cut
 pub mod Dropped
-pub mod Filling
 pub mod Laws
 pub mod Lends
 pub mod PixelsLeft

@@ -3,6 +3,7 @@
 -- others.
 use Rattle.std.specs.Prelude.{ℕ, ◌≡◌, ◌≢◌, ◌+◌, All, List, [], ◌∷◌, ◌++◌, length, map, take, drop, replicate, Option, Some, IsSome, slice_get, slice_set}
 use Rattle.std.specs.List.{refill}
+use Rattle.v_frame_buffer.specs.Part.{with_part}
 use Rattle.v_frame_layout.specs.Geometry.{Geometry, Mark, Border, Visible, Piece, cutting_plan, place_of, alloc_size_of, whole_geometry, Fits}
 use Rattle.v_frame_layout.specs.Table.{with_pixel}
 
@@ -84,11 +85,6 @@ module _ {T : Type 0} where
 abbrev pub with_entries : {T : Type 0} → Raster T → List T → Raster T
 with_entries plane entries =
     raster plane.geometry (refill (length plane.buffer) plane.buffer entries)
-
--- xs with ys written over as many entries from a place on
-abbrev pub with_part : {T : Type 0} → List T → ℕ → List T → List T
-with_part xs start ys =
-    refill (length xs) xs (take start xs ++ (ys ++ drop (length ys) (drop start xs)))
 
 -- xs with ys and zs written where two parts begin, the first in front of the second, each of so
 -- many entries

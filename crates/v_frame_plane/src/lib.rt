@@ -1,11 +1,10 @@
 //! Planes: rectangles of visible pixels inside a border, each in one buffer.
 //!
 //! Users name `v_frame`, which re-exports all of this. [`plane`] has what they call, and [`laws`] what holds of it beyond a
-//! single call. All else is private. From the bottom up:
+//! single call. All else is private, and stands on the buffer of `v_frame_buffer`. From the bottom up:
 //!
 //! | module | what it promises to those above |
 //! |---|---|
-//! | `aligned` | The buffer: a list of fixed length, made, read, cloned, compared, and lent for writing whole, in part or at one entry. How it is kept is known there alone: in a block of raw memory, behind the five functions with pointers of `aligned::block`. |
 //! | `place` | Where a row begins and where a pixel is, in a geometry that fits. |
 //! | `error` | Why a copy is refused. |
 //! | `plane_ref` | A geometry and a slice that is the whole buffer, read as a plane. |
@@ -13,7 +12,6 @@
 //! | `encoding` | The loop that all copies share: each visible row, written from the front of its piece of a source. `plane` has the copies themselves. |
 #![tactic(auto)]
 
-mod aligned;
 mod bytes;
 mod encoding;
 mod error;

@@ -32,7 +32,6 @@ mod options;
 mod pairs;
 mod values;
 
-use crate::aligned::AlignedData;
 pub use crate::bytes::ByteData;
 pub use crate::error::CopyError;
 pub use crate::pixels::Pixels;
@@ -44,6 +43,7 @@ pub use crate::rows_mut::RowsMut;
 pub use pairs::{split_row_mut, visible_rows_mut};
 use std::alloc::{AllocError, Global};
 use std::marker::Model;
+use v_frame_buffer::AlignedData;
 pub use v_frame_layout::geometry::{PlaneGeometry, SubsamplingError};
 use v_frame_layout::pixel::Pixel;
 

@@ -2,15 +2,15 @@
 --     splits       the slice goes to the call, and ends as its two parts do.        pointer_on, slice_on     a part is lent on
 --     slice_fits, slices_fit, word_fits     what code stores is well typed.        dropped, lets_go      a part that is not used ends as it is
 --     joins     from what both parts end as, what the slice does.        both_end     that it ends as both parts say
-use Rattle.v_frame_plane.proofs.lent.Steps.{ℕ, ◌≡◌, ◌+◌, ◌^◌, ◌<◌, ◌≤◌, List, [], ◌∷◌, ◌++◌, length, take, list_drop, w64, MutBor, refl, ap, Lft, Share, flft}
-use Rattle.v_frame_plane.proofs.lent.Steps.{SProp, id⊢, ◌⊑◌, Fun, fact, Array, usize, shows, param, uint_vals, uint_Makes, RattleType, MutSlice, slice_val}
-use Rattle.v_frame_plane.proofs.lent.Steps.{heard, only, owned, peeks, triple_of, Contract, named, Val, vcons, vnil, vstruct, Memory, Routine, Ura, Item, Seq}
-use Rattle.v_frame_plane.proofs.lent.Steps.{‵, raw, ◌$◌, drop, feq_l, fpick, fsplit, move, rewrite, use1, group, Logic, ent, sep, fobs, ◌∵◌, qed, !, done, keep}
-use Rattle.v_frame_plane.proofs.lent.Steps.{fsplit3, sem, Fml, both_by, follows_both, vint, vptr, Ty, ty_int, erased, mut, slice_ty, tcons, tnil, ty_param}
-use Rattle.v_frame_plane.proofs.lent.Steps.{ty_ref, ty_struct, SameBelow, TailFrom, Triple, T, Callee, Place, Opd as Operand, call, seq, Lifetime, WT, has_ty}
-use Rattle.v_frame_plane.proofs.lent.Steps.{Calls, Env, Loops, FmC, Post, lands, regoal, runs, Opds, Part as Has, Rv, zero, addr_of, aggregate, place, field}
-use Rattle.v_frame_plane.proofs.lent.Steps.{deref, copy, addr, agg, and_then, at, fld, from, hop, fat, get, get_in, look_in_at, no_more, stop, sub, GName, Goal}
-use Rattle.v_frame_plane.proofs.lent.Steps.{Step, ◌⊛◌, prop, split, each, assume, use3, wand}
+use Rattle.v_frame_buffer.proofs.Steps.{ℕ, ◌≡◌, ◌+◌, ◌^◌, ◌<◌, ◌≤◌, List, [], ◌∷◌, ◌++◌, length, take, list_drop, w64, MutBor, refl, ap, Lft, Share, flft}
+use Rattle.v_frame_buffer.proofs.Steps.{SProp, id⊢, ◌⊑◌, Fun, fact, Array, usize, shows, param, uint_vals, uint_Makes, RattleType, MutSlice, slice_val}
+use Rattle.v_frame_buffer.proofs.Steps.{heard, only, owned, peeks, triple_of, Contract, named, Val, vcons, vnil, vstruct, Memory, Routine, Ura, Item, Seq}
+use Rattle.v_frame_buffer.proofs.Steps.{‵, raw, ◌$◌, drop, feq_l, fpick, fsplit, move, rewrite, use1, group, Logic, ent, sep, fobs, ◌∵◌, qed, !, done, keep}
+use Rattle.v_frame_buffer.proofs.Steps.{fsplit3, sem, Fml, both_by, follows_both, vint, vptr, Ty, ty_int, erased, mut, slice_ty, tcons, tnil, ty_param}
+use Rattle.v_frame_buffer.proofs.Steps.{ty_ref, ty_struct, SameBelow, TailFrom, Triple, T, Callee, Place, Opd as Operand, call, seq, Lifetime, WT, has_ty}
+use Rattle.v_frame_buffer.proofs.Steps.{Calls, Env, Loops, FmC, Post, lands, regoal, runs, Opds, Part as Has, Rv, zero, addr_of, aggregate, place, field}
+use Rattle.v_frame_buffer.proofs.Steps.{deref, copy, addr, agg, and_then, at, fld, from, hop, fat, get, get_in, look_in_at, no_more, stop, sub, GName, Goal}
+use Rattle.v_frame_buffer.proofs.Steps.{Step, ◌⊛◌, prop, split, each, assume, use3, wand}
 use mathlib.Core.Option.{some}
 use mir.Syntax.{Body}
 use prog.Memory.{field_of}
@@ -18,7 +18,7 @@ use prog.Wp.{spot_of}
 use denote.FollowSlice.{heres_id}
 use Rattle.core.specs.contracts.slice.slice+T.split_at_mut
 use Rattle.v_frame_plane.specs.SecondRows.{EndsAs}
-use Rattle.v_frame_plane.proofs.lent.CallSteps.{asks_both, calls}
+use Rattle.v_frame_buffer.proofs.CallSteps.{asks_both, calls}
 use Rattle.v_frame_plane.proofs.lent.Loans.{at_one}
 
 -- a slice as code has it, and two of them, are well typed where their lengths fit, wherever they lie

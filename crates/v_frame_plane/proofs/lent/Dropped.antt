@@ -1,9 +1,9 @@
 -- A function that runs nothing and says what iterators that are dropped leave, where this is so. The laws of rows and of pixels are instances. Assumes `Logic`.
-use Rattle.v_frame_plane.proofs.lent.Steps.{[], ◌∷◌, List, refl, proved, flft, ftrue, emp, ent, sep, fact, ◌⊑◌, tables, Val, Stays, Clauses, ends_at, alloc_all}
-use Rattle.v_frame_plane.proofs.lent.Steps.{free_all, look_at, pass_all, sets, ‵, raw, ◌⊛◌, ◌$◌, ◌∵◌, !, qed, done, drop, feq_i, join, move, nothing, split}
-use Rattle.v_frame_plane.proofs.lent.Steps.{suffices, use0, enter, of_opd, returns, sem, Fml, Logic, RattleType, Ura, MachineTables, Running, closing, Meets}
-use Rattle.v_frame_plane.proofs.lent.Steps.{Callee, Fn, assign, local, opd_unit, place, return, rv_opd, seq, ty_unit, value_local, vunit, Model, Closed}
-use Rattle.v_frame_plane.proofs.lent.Steps.{unit_lit}
+use Rattle.v_frame_buffer.proofs.Steps.{[], ◌∷◌, List, refl, proved, flft, ftrue, emp, ent, sep, fact, ◌⊑◌, tables, Val, Stays, Clauses, ends_at, alloc_all}
+use Rattle.v_frame_buffer.proofs.Steps.{free_all, look_at, pass_all, sets, ‵, raw, ◌⊛◌, ◌$◌, ◌∵◌, !, qed, done, drop, feq_i, join, move, nothing, split}
+use Rattle.v_frame_buffer.proofs.Steps.{suffices, use0, enter, of_opd, returns, sem, Fml, Logic, RattleType, Ura, MachineTables, Running, closing, Meets}
+use Rattle.v_frame_buffer.proofs.Steps.{Callee, Fn, assign, local, opd_unit, place, return, rv_opd, seq, ty_unit, value_local, vunit, Model, Closed}
+use Rattle.v_frame_buffer.proofs.Steps.{unit_lit}
 use Rattle.v_frame_plane.specs.contracts.laws.dropped_rows_keep_their_pixels as rows
 
 abbrev code : Fn

@@ -3,11 +3,11 @@
 --     lft_within      of the token of κ a lifetime α ∷ κ is made, which lies within κ.        lft_over     it is over, and the token of κ is there again
 --     lends           the value at a place is lent for such a lifetime.        comes_back     that is over, and the value is there again, as it was left
 --     opens_self      a `&mut` to self is opened.        at_one          what is given for each h where A h is held, at one h
-use Rattle.v_frame_plane.proofs.lent.Steps.{ℕ, ◌≡◌, List, [], ◌∷◌, refl, Lft, Share, fat, fauth, flent, flft, fobor, fobs, full_share, SProp, all, all_e, ent}
-use Rattle.v_frame_plane.proofs.lent.Steps.{sep, wand, apply∗, shows, cell_at, mem, RattleType, MutBor, MutRef, mut_vals, opens, peeks, Ty, named, Val, vptr}
-use Rattle.v_frame_plane.proofs.lent.Steps.{Ura, Goal, Item, Seq, Soaks, Step, step, ‵, raw, ◌⊛◌, some, later, ◌$◌, ◌∵◌, !, qed, await, done, drop, fsplit3}
-use Rattle.v_frame_plane.proofs.lent.Steps.{move, pick, rewrite, split, use1, use2, use3, Logic, Body, fdead, fres, part_in_at, part_out_at, meet_⊑_left, Is}
-use Rattle.v_frame_plane.proofs.lent.Steps.{lends_ref, ref_back, lone, part_at, lft-common, lft_end, lft_new}
+use Rattle.v_frame_buffer.proofs.Steps.{ℕ, ◌≡◌, List, [], ◌∷◌, refl, Lft, Share, fat, fauth, flent, flft, fobor, fobs, full_share, SProp, all, all_e, ent}
+use Rattle.v_frame_buffer.proofs.Steps.{sep, wand, apply∗, shows, cell_at, mem, RattleType, MutBor, MutRef, mut_vals, opens, peeks, Ty, named, Val, vptr}
+use Rattle.v_frame_buffer.proofs.Steps.{Ura, Goal, Item, Seq, Soaks, Step, step, ‵, raw, ◌⊛◌, some, later, ◌$◌, ◌∵◌, !, qed, await, done, drop, fsplit3}
+use Rattle.v_frame_buffer.proofs.Steps.{move, pick, rewrite, split, use1, use2, use3, Logic, Body, fdead, fres, part_in_at, part_out_at, meet_⊑_left, Is}
+use Rattle.v_frame_buffer.proofs.Steps.{lends_ref, ref_back, lone, part_at, lft-common, lft_end, lft_new}
 use base.FractionLaws.{common}
 use denote.Lowered.{Lowered}
 use mir.Raw.{raw as raw_ty}

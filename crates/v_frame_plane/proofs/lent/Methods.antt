@@ -3,20 +3,20 @@
 --     method     its compiled code, of its body and the types of its locals.        in_order, set, gets, value     statements, and what they act on
 --     meets_by     it meets its contract, where its code is walked from self and the tokens.        gives     how such a walk ends
 --     calls_self     it is called on a self that lies in a cell, which is lent to the call and is there again as the call left it
-use Rattle.v_frame_plane.proofs.lent.Steps.{ℕ, ◌≡◌, List, [], ◌∷◌, MutBor, refl, ap, Lft, Share, fat, flft, fobs, fbor, full_share, SProp, ent, emp, sep, ◌⊑◌}
-use Rattle.v_frame_plane.proofs.lent.Steps.{⊑_trans, meet_⊑_right, Fun, fact, tables, mem, RattleType, MutRef, mut_vals, mut_Tells, plain, named_lft, NamedLft}
-use Rattle.v_frame_plane.proofs.lent.Steps.{Stays, stay_ref, Goes-ref, walk_of, proved, yes, heard, only, closing, Clauses, Ended, Meets, lone, AllOutlive}
-use Rattle.v_frame_plane.proofs.lent.Steps.{Lfts, Shares, Ty, named, Val, vptr, Ura, Item, Seq, Sq, Step, step, mean, prop, ‵, raw, ◌⊛◌, ◌$◌, ◌∵◌, !, qed, drop}
-use Rattle.v_frame_plane.proofs.lent.Steps.{feq_i, fjoin3, fsplit, keep, move, split, split3, use1, use2, Logic, Body, Go, MachineTables, Running, Model}
-use Rattle.v_frame_plane.proofs.lent.Steps.{Closed, Callee, Fn, Local, Place, Opd as Operand, assign, call, copy, local, place, seq, value_local, Calls, Env}
-use Rattle.v_frame_plane.proofs.lent.Steps.{Loops, FmC, Post, lands, runs, and_then, no_more, ftrue, id⊢}
+use Rattle.v_frame_buffer.proofs.Steps.{ℕ, ◌≡◌, List, [], ◌∷◌, MutBor, refl, ap, Lft, Share, fat, flft, fobs, fbor, full_share, SProp, ent, emp, sep, ◌⊑◌}
+use Rattle.v_frame_buffer.proofs.Steps.{⊑_trans, meet_⊑_right, Fun, fact, tables, mem, RattleType, MutRef, mut_vals, mut_Tells, plain, named_lft, NamedLft}
+use Rattle.v_frame_buffer.proofs.Steps.{Stays, stay_ref, Goes-ref, walk_of, proved, yes, heard, only, closing, Clauses, Ended, Meets, lone, AllOutlive}
+use Rattle.v_frame_buffer.proofs.Steps.{Lfts, Shares, Ty, named, Val, vptr, Ura, Item, Seq, Sq, Step, step, mean, prop, ‵, raw, ◌⊛◌, ◌$◌, ◌∵◌, !, qed, drop}
+use Rattle.v_frame_buffer.proofs.Steps.{feq_i, fjoin3, fsplit, keep, move, split, split3, use1, use2, Logic, Body, Go, MachineTables, Running, Model}
+use Rattle.v_frame_buffer.proofs.Steps.{Closed, Callee, Fn, Local, Place, Opd as Operand, assign, call, copy, local, place, seq, value_local, Calls, Env}
+use Rattle.v_frame_buffer.proofs.Steps.{Loops, FmC, Post, lands, runs, and_then, no_more, ftrue, id⊢}
 use denote.Lowered.{Lowered}
 use denote.Signature.{mut_ref_to}
 use mir.Raw.{raw as raw_ty}
 use mir.Syntax.{Body as Code, Rv}
 use prog.Wp.{WpFn}
 use types.Run.{Opd}
-use Rattle.v_frame_plane.proofs.lent.CallSteps.{asks_also, calls, ends, tokens}
+use Rattle.v_frame_buffer.proofs.CallSteps.{asks_also, calls, ends, tokens}
 use Rattle.v_frame_plane.proofs.lent.Loans.{comes_back, lends, lft_over, share_within}
 use base.Share
 

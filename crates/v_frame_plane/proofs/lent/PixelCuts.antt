@@ -1,12 +1,12 @@
 -- A call of `cut_first` or `cut_last`, and what `next` or `next_back`, which makes it, leaves of the final values. Assumes `Logic`.
 --     cuts_one     the slice goes to the call, which gives its pixel and the rest: it ends as they do
 --     takes_near, fewer, steps     so the iterator ends as the pixel and what is left, which can be counted, and the pixel is the next at that end
-use Rattle.v_frame_plane.proofs.lent.Steps.{◌≡◌, ◌^◌, ◌<◌, List, [], ◌∷◌, ◌++◌, length, MutBor, refl, ap, ◌∙◌, arith, Lft, Share, flft, SProp, ent, sep, wand}
-use Rattle.v_frame_plane.proofs.lent.Steps.{id⊢, ◌⊑◌, fact, Array, shows, param, RattleType, MutRef, MutSlice, slice_val, heard, only, peeks, triple_of}
-use Rattle.v_frame_plane.proofs.lent.Steps.{Contract, named, Val, of_list, vcons, vnil, vptr, vstruct, Ura, Item, Seq, ‵, raw, ◌⊛◌, ◌$◌, ◌∵◌, !, qed, assume}
-use Rattle.v_frame_plane.proofs.lent.Steps.{done, drop, each, feq_l, fjoin3, fpick, fsplit, fsplit3, move, rewrite, split, use1, use3, Logic, sem, append_assoc}
-use Rattle.v_frame_plane.proofs.lent.Steps.{both_by, follows_both, length-append, GName, closing, Triple, Callee, Place, Opd as Operand, call, seq, Calls, Env}
-use Rattle.v_frame_plane.proofs.lent.Steps.{Loops, FmC, Post, lands, regoal, runs, Opds}
+use Rattle.v_frame_buffer.proofs.Steps.{◌≡◌, ◌^◌, ◌<◌, List, [], ◌∷◌, ◌++◌, length, MutBor, refl, ap, ◌∙◌, arith, Lft, Share, flft, SProp, ent, sep, wand}
+use Rattle.v_frame_buffer.proofs.Steps.{id⊢, ◌⊑◌, fact, Array, shows, param, RattleType, MutRef, MutSlice, slice_val, heard, only, peeks, triple_of}
+use Rattle.v_frame_buffer.proofs.Steps.{Contract, named, Val, of_list, vcons, vnil, vptr, vstruct, Ura, Item, Seq, ‵, raw, ◌⊛◌, ◌$◌, ◌∵◌, !, qed, assume}
+use Rattle.v_frame_buffer.proofs.Steps.{done, drop, each, feq_l, fjoin3, fpick, fsplit, fsplit3, move, rewrite, split, use1, use3, Logic, sem, append_assoc}
+use Rattle.v_frame_buffer.proofs.Steps.{both_by, follows_both, length-append, GName, closing, Triple, Callee, Place, Opd as Operand, call, seq, Calls, Env}
+use Rattle.v_frame_buffer.proofs.Steps.{Loops, FmC, Post, lands, regoal, runs, Opds}
 use mir.Syntax.{Body}
 use Rattle.v_frame_layout.specs.Table.{row_major}
 use Rattle.v_frame_plane.specs.RowsLeft.{rows_left}
@@ -14,7 +14,7 @@ use Rattle.v_frame_plane.specs.SecondRows.{EndsAs}
 use Rattle.v_frame_plane.specs.SecondPixels.{PixelEndsAs, SecondPixels}
 use Rattle.v_frame_plane.specs.contracts.pixels_mut.cut_first
 use Rattle.v_frame_plane.specs.declared.pixels_mut.PixelsMut.{PixelsMut}
-use Rattle.v_frame_plane.proofs.lent.CallSteps.{asks_both, calls}
+use Rattle.v_frame_buffer.proofs.CallSteps.{asks_both, calls}
 use Rattle.v_frame_plane.proofs.lent.Loans.{at_one}
 use Rattle.v_frame_plane.proofs.lent.PixelSides.{cut_clauses}
 use Rattle.v_frame_plane.proofs.lent.PixelParts.{of_parts, parts_of}

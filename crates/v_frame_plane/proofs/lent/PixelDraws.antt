@@ -1,9 +1,9 @@
 -- What a call of an iterator that lends pixels leaves, by its steps, of which one only begins a row. Assumes `Logic`.
 --     keeps_same     what stays as it was keeps the pixels.        after_keeping     a step that keeps the pixels, and then another one
 --     yields_pixel, moves, yields_none, rests     the plain clauses of a call that gives a pixel, and of one that gives none
-use Rattle.v_frame_plane.proofs.lent.Steps.{◌≡◌, List, [], ◌∷◌, length, Option, Some, None, MutBor, sym, ap, ◌∙◌, arith, ⊤, MakesProgress, item_count, SProp}
-use Rattle.v_frame_plane.proofs.lent.Steps.{all, emp, ent, sep, wand, RattleType, Ura, ‵, raw, ◌$◌, ◌∵◌, !, qed, assume, done, each, move, use2, Logic, sem}
-use Rattle.v_frame_plane.proofs.lent.Steps.{length-append}
+use Rattle.v_frame_buffer.proofs.Steps.{◌≡◌, List, [], ◌∷◌, length, Option, Some, None, MutBor, sym, ap, ◌∙◌, arith, ⊤, MakesProgress, item_count, SProp}
+use Rattle.v_frame_buffer.proofs.Steps.{all, emp, ent, sep, wand, RattleType, Ura, ‵, raw, ◌$◌, ◌∵◌, !, qed, assume, done, each, move, use2, Logic, sem}
+use Rattle.v_frame_buffer.proofs.Steps.{length-append}
 use Rattle.v_frame_plane.specs.PixelsLeft.{pixels_left}
 use Rattle.v_frame_plane.specs.SecondPixels.{SecondPixels, KeepsPixels}
 use Rattle.v_frame_plane.specs.declared.pixels_mut.PixelsMut.{PixelsMut}

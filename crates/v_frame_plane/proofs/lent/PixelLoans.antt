@@ -2,10 +2,10 @@
 -- `Logic`.
 --     begun     a row was drawn and is what was begun at this end now.        taken     no row was left, and the other end's row was taken
 --     keeps_by     how each of these keeps its pixels: what an end of the new iterator's parts is for the old one
-use Rattle.v_frame_plane.proofs.lent.Steps.{◌≡◌, List, Option, None, [], ◌∷◌, ◌++◌, length, Some, MutBor, refl, sym, ap, ◌∙◌, arith, SProp, all}
-use Rattle.v_frame_plane.proofs.lent.Steps.{all_e, apply∗, ent, sep, wand, RattleType, Ura, ‵, raw, ◌$◌, ◌∵◌, !, qed, assume, done, each, fjoin3, fpick, fsplit}
-use Rattle.v_frame_plane.proofs.lent.Steps.{fsplit3, join, keep, move, rewrite, use1, use2, use3, Logic, sem, append_assoc, Fml, fsep, map, append-nil}
-use Rattle.v_frame_plane.proofs.lent.Steps.{nil_from_length, map-append}
+use Rattle.v_frame_buffer.proofs.Steps.{◌≡◌, List, Option, None, [], ◌∷◌, ◌++◌, length, Some, MutBor, refl, sym, ap, ◌∙◌, arith, SProp, all}
+use Rattle.v_frame_buffer.proofs.Steps.{all_e, apply∗, ent, sep, wand, RattleType, Ura, ‵, raw, ◌$◌, ◌∵◌, !, qed, assume, done, each, fjoin3, fpick, fsplit}
+use Rattle.v_frame_buffer.proofs.Steps.{fsplit3, join, keep, move, rewrite, use1, use2, use3, Logic, sem, append_assoc, Fml, fsep, map, append-nil}
+use Rattle.v_frame_buffer.proofs.Steps.{nil_from_length, map-append}
 use Rattle.v_frame_layout.specs.Table.{row_major}
 use Rattle.v_frame_plane.specs.PixelsLeft.{pixels_left}
 use Rattle.v_frame_plane.specs.RowsLeft.{rows_left}

@@ -2,13 +2,13 @@
 --     parts, pixels_owned     what it owns, apart and again together
 --     front_out, rows_out, back_out     a field goes out.        field_in     it is there again, with another value
 --     joins_pixels     its parts are it again.
-use Rattle.v_frame_plane.proofs.lent.Steps.{ℕ, ◌+◌, ◌^◌, ◌<◌, List, [], ◌∷◌, length, refl, fat, full_share}
-use Rattle.v_frame_plane.proofs.lent.Steps.{SProp, all, ent, sep, wand, shows, param, Laws, param_laws, RattleType, Valss, NamedLft}
-use Rattle.v_frame_plane.proofs.lent.Steps.{MutSlice, slice_ty, nothing, peeks, Ty, Tys, erased}
-use Rattle.v_frame_plane.proofs.lent.Steps.{mut, tcons, tnil, ty_param, ty_ref, ty_struct, Val, vcons, vnil, vstruct, Ura, Goal, Item, Seq, Soaks, Step, step}
-use Rattle.v_frame_plane.proofs.lent.Steps.{‵, raw, ◌⊛◌, ◌$◌, ◌∵◌, !, qed, done, drop, feq_i, feq_l, fjoin, fpack, fpick, fsplit, move, rewrite, split}
-use Rattle.v_frame_plane.proofs.lent.Steps.{use2, Logic, sem, shape, within}
-use Rattle.v_frame_plane.proofs.lent.Steps.{use1, use3, size}
+use Rattle.v_frame_buffer.proofs.Steps.{ℕ, ◌+◌, ◌^◌, ◌<◌, List, [], ◌∷◌, length, refl, fat, full_share}
+use Rattle.v_frame_buffer.proofs.Steps.{SProp, all, ent, sep, wand, shows, param, Laws, param_laws, RattleType, Valss, NamedLft}
+use Rattle.v_frame_buffer.proofs.Steps.{MutSlice, slice_ty, nothing, peeks, Ty, Tys, erased}
+use Rattle.v_frame_buffer.proofs.Steps.{mut, tcons, tnil, ty_param, ty_ref, ty_struct, Val, vcons, vnil, vstruct, Ura, Goal, Item, Seq, Soaks, Step, step}
+use Rattle.v_frame_buffer.proofs.Steps.{‵, raw, ◌⊛◌, ◌$◌, ◌∵◌, !, qed, done, drop, feq_i, feq_l, fjoin, fpack, fpick, fsplit, move, rewrite, split}
+use Rattle.v_frame_buffer.proofs.Steps.{use2, Logic, sem, shape, within}
+use Rattle.v_frame_buffer.proofs.Steps.{use1, use3, size}
 use Rattle.v_frame_plane.specs.contracts.pixels_mut.PixelsMut.{struct, the_row, the_type}
 use Rattle.v_frame_plane.specs.contracts.rows_mut.RowsMut as rows_mut
 use Rattle.v_frame_plane.specs.declared.pixels_mut.PixelsMut.{PixelsMut}

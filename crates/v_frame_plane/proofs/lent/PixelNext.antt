@@ -1,19 +1,19 @@
 -- `next` and `next_back` of an iterator that lends pixels, of which `s` is the one end: the pixel next to that end is cut off the row that was begun there,
 -- and where that row is at its end, another one is begun before. A `&mut` in a field of self no generated proof follows, so this one follows the code.
 -- Assumes `Logic`.
-use Rattle.v_frame_plane.proofs.lent.Steps.{◌≡◌, [], ◌∷◌, length, Some, None, MutBor, lit<, refl, sym, ◌∙◌, none_of, sep, tables, param, MutRef}
-use Rattle.v_frame_plane.proofs.lent.Steps.{mut_vals, named_lft, closes, heard, only, framed, named, mut, erased, of_list, alloc_all, env, free_all, get}
-use Rattle.v_frame_plane.proofs.lent.Steps.{lands_as, look_at, pass_all, sets, through, ‵, raw, ◌⊛◌, at_ret, ◌$◌, !, move, split, use0, use2, live, agg}
-use Rattle.v_frame_plane.proofs.lent.Steps.{whole, addr, and_then, bin, branches, enter, exec, first, lit, no_more, returns_within, skips, stop}
-use Rattle.v_frame_plane.proofs.lent.Steps.{well_typed, sem, RattleType, Laws, Logic, Ura, Ty, tcons, tnil, ty_int, ty_param, ty_ref, w64, MachineTables}
-use Rattle.v_frame_plane.proofs.lent.Steps.{Running, Callee, Fn, Sym, addr_of, aggregate, assign, cond, copy, deref, field, int, op2, place}
-use Rattle.v_frame_plane.proofs.lent.Steps.{return, rv_opd, seq, skip, ttcons, ttnil, ty_bool, ty_enum, w8, Model, Closed, Sq, param_laws, ◌+◌, fat, full_share}
-use Rattle.v_frame_plane.proofs.lent.Steps.{⊑_trans, slice_val, get_in, look_in_at, drop, rewrite, use1, store_in, sub, fld, from, hop, of_opd}
-use Rattle.v_frame_plane.proofs.lent.Steps.{holding, forget_but, runs, fobor, fobs, fauth, mem, Item, List, Option, vptr, Some-of, Place}
-use Rattle.v_frame_plane.proofs.lent.Steps.{flft, Body as Borrow, id⊢, MutSlice, fjoin, split3, subst, arm, no_default, switch, variant, Wp, after_seq}
-use Rattle.v_frame_plane.proofs.lent.Steps.{get_tag, any_q, post, in_variant, vrt, assigns_last, switches_on, frame, ! }
-use Rattle.v_frame_plane.proofs.lent.Steps.{Env, Calls, Loops, Post as Exit, Opd as Operand, FmC, Lft, Share, ℕ, ◌⊑◌, ◌<◌, lands, call, seq, fact_i, emp}
-use Rattle.v_frame_plane.proofs.lent.Steps.{regoal, Val, eq, eqb→eq, NamedLft, fbor, prop, Seq}
+use Rattle.v_frame_buffer.proofs.Steps.{◌≡◌, [], ◌∷◌, length, Some, None, MutBor, lit<, refl, sym, ◌∙◌, none_of, sep, tables, param, MutRef}
+use Rattle.v_frame_buffer.proofs.Steps.{mut_vals, named_lft, closes, heard, only, framed, named, mut, erased, of_list, alloc_all, env, free_all, get}
+use Rattle.v_frame_buffer.proofs.Steps.{lands_as, look_at, pass_all, sets, through, ‵, raw, ◌⊛◌, at_ret, ◌$◌, !, move, split, use0, use2, live, agg}
+use Rattle.v_frame_buffer.proofs.Steps.{whole, addr, and_then, bin, branches, enter, exec, first, lit, no_more, returns_within, skips, stop}
+use Rattle.v_frame_buffer.proofs.Steps.{well_typed, sem, RattleType, Laws, Logic, Ura, Ty, tcons, tnil, ty_int, ty_param, ty_ref, w64, MachineTables}
+use Rattle.v_frame_buffer.proofs.Steps.{Running, Callee, Fn, Sym, addr_of, aggregate, assign, cond, copy, deref, field, int, op2, place}
+use Rattle.v_frame_buffer.proofs.Steps.{return, rv_opd, seq, skip, ttcons, ttnil, ty_bool, ty_enum, w8, Model, Closed, Sq, param_laws, ◌+◌, fat, full_share}
+use Rattle.v_frame_buffer.proofs.Steps.{⊑_trans, slice_val, get_in, look_in_at, drop, rewrite, use1, store_in, sub, fld, from, hop, of_opd}
+use Rattle.v_frame_buffer.proofs.Steps.{holding, forget_but, runs, fobor, fobs, fauth, mem, Item, List, Option, vptr, Some-of, Place}
+use Rattle.v_frame_buffer.proofs.Steps.{flft, Body as Borrow, id⊢, MutSlice, fjoin, split3, subst, arm, no_default, switch, variant, Wp, after_seq}
+use Rattle.v_frame_buffer.proofs.Steps.{get_tag, any_q, post, in_variant, vrt, assigns_last, switches_on, frame, ! }
+use Rattle.v_frame_buffer.proofs.Steps.{Env, Calls, Loops, Post as Exit, Opd as Operand, FmC, Lft, Share, ℕ, ◌⊑◌, ◌<◌, lands, call, seq, fact_i, emp}
+use Rattle.v_frame_buffer.proofs.Steps.{regoal, Val, eq, eqb→eq, NamedLft, fbor, prop, Seq}
 use types.Run.{Opd}
 use mir.Syntax.{Body}
 use Rattle.v_frame_plane.proofs.pixels_mut.PixelsMut.TheLaws.{lowers}
@@ -34,7 +34,7 @@ use Rattle.v_frame_plane.proofs.lent.RowDraws.{some_left}
 use Rattle.v_frame_plane.specs.SecondRows.{EndsAs}
 use Rattle.v_frame_plane.proofs.lent.PixelLoans.{begun, begun_countable, begun_full, begun_left, keeps_begun, keeps_taken, taken, taken_countable, taken_left}
 use Rattle.v_frame_plane.proofs.lent.PixelLoans.{taken_none}
-use Rattle.v_frame_plane.proofs.lent.CallSteps.{spelt, tells, told}
+use Rattle.v_frame_buffer.proofs.CallSteps.{spelt, tells, told}
 use Rattle.v_frame_plane.proofs.lent.Methods.{Ends, Met, calls_self, gets, gives, in_order, meets_by, method, set, value}
 use Rattle.v_frame_plane.proofs.rows_mut.RowsMut.TheLaws.{lowers as rows_lowers}
 use Rattle.std.specs.contracts.option.Option as Opt

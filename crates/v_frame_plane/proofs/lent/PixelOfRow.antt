@@ -1,11 +1,11 @@
 -- `next_of_front` and `next_of_back` of an iterator that lends pixels, of which `s` is the one end: the pixel next to that end is cut off the row that was
 -- begun there, and the rest is kept. A `&mut` in a field of self no generated proof follows, so this one follows the code. Assumes `Logic`.
-use Rattle.v_frame_plane.proofs.lent.Steps.{◌+◌, [], ◌∷◌, refl, closes, heard, framed, named, mut, erased, alloc_all, free_all, get, get_in}
-use Rattle.v_frame_plane.proofs.lent.Steps.{lands_as, look_at, pass_all, sets, through, ‵, raw, ◌⊛◌, ◌$◌, !, drop, move, split, rewrite, use1, use2, agg, whole}
-use Rattle.v_frame_plane.proofs.lent.Steps.{addr, and_then, assigns, enter, no_more, returns, stop, RattleType, Laws, Logic, Ura, Ty, tcons, tnil, ty_param}
-use Rattle.v_frame_plane.proofs.lent.Steps.{ty_ref, ty_struct, MachineTables, Running, tables, Triple, Callee, Fn, Sym, Place, addr_of, aggregate, assign, copy}
-use Rattle.v_frame_plane.proofs.lent.Steps.{deref, field, place, return, rv_opd, Model, Closed, param, param_laws, named_lft, fat, full_share, ⊑_trans}
-use Rattle.v_frame_plane.proofs.lent.Steps.{of_opd, fld, from, hop, look_in_at, sub, store_in, frame, slice_val}
+use Rattle.v_frame_buffer.proofs.Steps.{◌+◌, [], ◌∷◌, refl, closes, heard, framed, named, mut, erased, alloc_all, free_all, get, get_in}
+use Rattle.v_frame_buffer.proofs.Steps.{lands_as, look_at, pass_all, sets, through, ‵, raw, ◌⊛◌, ◌$◌, !, drop, move, split, rewrite, use1, use2, agg, whole}
+use Rattle.v_frame_buffer.proofs.Steps.{addr, and_then, assigns, enter, no_more, returns, stop, RattleType, Laws, Logic, Ura, Ty, tcons, tnil, ty_param}
+use Rattle.v_frame_buffer.proofs.Steps.{ty_ref, ty_struct, MachineTables, Running, tables, Triple, Callee, Fn, Sym, Place, addr_of, aggregate, assign, copy}
+use Rattle.v_frame_buffer.proofs.Steps.{deref, field, place, return, rv_opd, Model, Closed, param, param_laws, named_lft, fat, full_share, ⊑_trans}
+use Rattle.v_frame_buffer.proofs.Steps.{of_opd, fld, from, hop, look_in_at, sub, store_in, frame, slice_val}
 use Rattle.v_frame_plane.proofs.pixels_mut.PixelsMut.TheLaws.{lowers}
 use Rattle.v_frame_plane.proofs.lent.RowMemory.{slice_of, lowered as rows_lowered}
 use Rattle.v_frame_plane.specs.contracts.pixels_mut.PixelsMut.{the_row}
@@ -16,7 +16,7 @@ use Rattle.v_frame_plane.proofs.lent.Sides.{Side, Takes, near, slot, far, offset
 use Rattle.v_frame_plane.proofs.lent.PixelCuts.{Cut, cuts_one, fewer, steps, takes_near}
 use Rattle.v_frame_plane.proofs.lent.Cuts.{slice_fits}
 use Rattle.v_frame_plane.proofs.lent.Taken.{IsTake, calls_take, word}
-use Rattle.v_frame_plane.proofs.lent.CallSteps.{told}
+use Rattle.v_frame_buffer.proofs.CallSteps.{told}
 use Rattle.v_frame_plane.proofs.lent.Methods.{Met, gets, gives, in_order, meets_by, method, set, value}
 
 -- the code and its proof, over the code's names for self, its rows and a pair, the types of self and of an entry, and what it calls

@@ -1,5 +1,5 @@
 -- The final values of an iterator over lent pixels, of the parts that its front, its rows and its back end as. Assumes `Logic`.
-use Rattle.v_frame_plane.proofs.lent.Steps.{List, [], ◌∷◌, RattleType, ent, Ura, ‵, ◌$◌, ◌∵◌, !, qed, done, fpack, Logic, sem, Fml, fex, fsep}
+use Rattle.v_frame_buffer.proofs.Steps.{List, [], ◌∷◌, RattleType, ent, Ura, ‵, ◌$◌, ◌∵◌, !, qed, done, fpack, Logic, sem, Fml, fex, fsep}
 use Rattle.v_frame_plane.specs.SecondRows.{EndsAs, SecondRows}
 use Rattle.v_frame_plane.specs.SecondPixels.{Parts, ArePartsOf, SecondPixels}
 use Rattle.v_frame_plane.specs.declared.pixels_mut.PixelsMut.{PixelsMut}

@@ -4,12 +4,12 @@
 --     near_place, near_part, near_out, far_out     the field of this end in code, in the cell of self, and out of it
 --     whole_by, by_sides     self as a machine value, of its parts as seen from this end.        sides, joins_by     self, apart, and again together
 --     cut_clauses, row_draw, pixel_draw, pixel_of_row     the contracts of the functions of this end
-use Rattle.v_frame_plane.proofs.lent.Steps.{ℕ, ◌≡◌, ◌+◌, ◌^◌, ◌<◌, List, [], ◌∷◌, length, MutBor, ⊤, MakesProgress, item_count, Share}
-use Rattle.v_frame_plane.proofs.lent.Steps.{Step, step, !, refl, ◌$◌, move, Array, Laws, MutSlice, NamedLft, Goal, Seq, Soaks}
-use Rattle.v_frame_plane.proofs.lent.Steps.{follows_both, full_share, fat, ftrue, ent, sep, fact, ◌⊑◌, param, RattleType, Clauses, Ty, Val, vptr, vint, w64}
-use Rattle.v_frame_plane.proofs.lent.Steps.{Ura, Item, ‵, Logic, sem, sub, fld, look_in, load, of_opd, stop, through, erased, mut, slice_ty, tcons, tnil}
-use Rattle.v_frame_plane.proofs.lent.Steps.{ty_param, ty_ref, ty_struct, T, Sym, deref, field, place, copy, rv_opd, Fits, WT, has_ty, Env, at, Go, nth}
-use Rattle.v_frame_plane.proofs.lent.Steps.{Part, Finds, Rv, raw, ◌⊛◌, MutRef}
+use Rattle.v_frame_buffer.proofs.Steps.{ℕ, ◌≡◌, ◌+◌, ◌^◌, ◌<◌, List, [], ◌∷◌, length, MutBor, ⊤, MakesProgress, item_count, Share}
+use Rattle.v_frame_buffer.proofs.Steps.{Step, step, !, refl, ◌$◌, move, Array, Laws, MutSlice, NamedLft, Goal, Seq, Soaks}
+use Rattle.v_frame_buffer.proofs.Steps.{follows_both, full_share, fat, ftrue, ent, sep, fact, ◌⊑◌, param, RattleType, Clauses, Ty, Val, vptr, vint, w64}
+use Rattle.v_frame_buffer.proofs.Steps.{Ura, Item, ‵, Logic, sem, sub, fld, look_in, load, of_opd, stop, through, erased, mut, slice_ty, tcons, tnil}
+use Rattle.v_frame_buffer.proofs.Steps.{ty_param, ty_ref, ty_struct, T, Sym, deref, field, place, copy, rv_opd, Fits, WT, has_ty, Env, at, Go, nth}
+use Rattle.v_frame_buffer.proofs.Steps.{Part, Finds, Rv, raw, ◌⊛◌, MutRef}
 use Rattle.v_frame_plane.proofs.lent.PixelMemory.{Around, Bare, Named, back_out, joins_pixels, front_out, lowered, parts, whole}
 use Rattle.v_frame_plane.proofs.lent.Sides.{Side, at_front, at_back, at_side, slot, other, offset, near, far, put, Countable, walk_by, Yields, YieldsRow}
 use Rattle.v_frame_plane.proofs.lent.Sides.{LendsRow, Lends, Steps, Takes, by_side}

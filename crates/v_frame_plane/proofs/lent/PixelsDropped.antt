@@ -1,6 +1,6 @@
 -- That an iterator over lent pixels which is dropped has as final values what it shows. Assumes `Logic`.
-use Rattle.v_frame_plane.proofs.lent.Steps.{List, [], ◌∷◌, refl, ent, RattleType, NamedLft, Val, Ura, ‵, ◌$◌, ◌∵◌, !, qed, done, drop, fjoin3, fpick, fsplit}
-use Rattle.v_frame_plane.proofs.lent.Steps.{keep, move, use1, Logic, sem}
+use Rattle.v_frame_buffer.proofs.Steps.{List, [], ◌∷◌, refl, ent, RattleType, NamedLft, Val, Ura, ‵, ◌$◌, ◌∵◌, !, qed, done, drop, fjoin3, fpick, fsplit}
+use Rattle.v_frame_buffer.proofs.Steps.{keep, move, use1, Logic, sem}
 use Rattle.v_frame_plane.specs.PixelsLeft.{pixels_left}
 use Rattle.v_frame_plane.specs.RowsLeft.{rows_left}
 use Rattle.v_frame_plane.specs.SecondPixels.{Parts, ArePartsOf, SecondPixels}

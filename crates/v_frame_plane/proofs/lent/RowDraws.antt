@@ -1,8 +1,8 @@
 -- What the numbers of an iterator that lends rows are before and after `next` and `next_back`, of which `s` is the end.
 --     number, place_of, start_of     the row that is taken, where it begins, and where the next one begins then
 --     Cut     the slice is cut where the row begins, and where it ends.        left     the iterator that is left of it
-use Rattle.v_frame_plane.proofs.lent.Steps.{ℕ, zero, suc, ◌≡◌, ◌+◌, ◌-◌, ◌*◌, ◌^◌, ◌<◌, ◌≤◌, List, length, take, list_drop, Option, Some, None, MutBor, refl}
-use Rattle.v_frame_plane.proofs.lent.Steps.{ap, ◌∙◌, arith, length-take-le, length-drop, not, ⊤, T, T_not, eqb, MakesProgress, item_count}
+use Rattle.v_frame_buffer.proofs.Steps.{ℕ, zero, suc, ◌≡◌, ◌+◌, ◌-◌, ◌*◌, ◌^◌, ◌<◌, ◌≤◌, List, length, take, list_drop, Option, Some, None, MutBor, refl}
+use Rattle.v_frame_buffer.proofs.Steps.{ap, ◌∙◌, arith, length-take-le, length-drop, not, ⊤, T, T_not, eqb, MakesProgress, item_count}
 use Rattle.v_frame_plane.specs.Cursor.{RowsAreWithin}
 use Rattle.v_frame_plane.specs.RowsLeft.{rows_left}
 use Rattle.v_frame_plane.specs.declared.rows_mut.RowsMut.{RowsMut}

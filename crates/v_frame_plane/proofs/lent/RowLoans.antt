@@ -1,7 +1,7 @@
 -- How an iterator's slice ends, of which rows were lent: what a call leaves of the final values, and what an iterator that is dropped does. Assumes `Logic`.
-use Rattle.v_frame_plane.proofs.lent.Steps.{◌≡◌, ◌-◌, ◌<◌, List, [], ◌∷◌, ◌++◌, length, MutBor, refl, sym, ◌∙◌, SProp, all, emp, ent, sep, wand, RattleType}
-use Rattle.v_frame_plane.proofs.lent.Steps.{NamedLft, Val, Ura, ‵, ◌⊛◌, ◌$◌, ◌∵◌, !, qed, assume, done, drop, each, fpick, fsplit, keep, move, rewrite, split}
-use Rattle.v_frame_plane.proofs.lent.Steps.{use1, Logic, sem, Some, None}
+use Rattle.v_frame_buffer.proofs.Steps.{◌≡◌, ◌-◌, ◌<◌, List, [], ◌∷◌, ◌++◌, length, MutBor, refl, sym, ◌∙◌, SProp, all, emp, ent, sep, wand, RattleType}
+use Rattle.v_frame_buffer.proofs.Steps.{NamedLft, Val, Ura, ‵, ◌⊛◌, ◌$◌, ◌∵◌, !, qed, assume, done, drop, each, fpick, fsplit, keep, move, rewrite, split}
+use Rattle.v_frame_buffer.proofs.Steps.{use1, Logic, sem, Some, None}
 use Rattle.v_frame_plane.specs.RowsLeft.{rows_left}
 use Rattle.v_frame_plane.specs.SecondRows.{EndsAs, SecondRows, KeepsRows, entries_with}
 use Rattle.v_frame_plane.specs.contracts.rows_mut.RowsMut.{the_row}

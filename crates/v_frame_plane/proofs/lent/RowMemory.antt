@@ -1,14 +1,14 @@
 -- An iterator that lends rows, in memory, for the proofs by hand of its `next` and `next_back`. Assumes `Logic`.
 --     takes_slice     `take` at its slice.        moved     it after a call
 --     bare, walk_owned     what it is made of again
-use Rattle.v_frame_plane.proofs.lent.Steps.{ℕ, ◌+◌, ◌^◌, ◌<◌, List, [], ◌∷◌, length, w64, MutBor, refl, Share, fat, flent, flft, full_share, SProp, all, ent}
-use Rattle.v_frame_plane.proofs.lent.Steps.{wand, ◌⊑◌, Fun, usize, shows, mem, param, uint_vals, uint_Makes, RattleType, Valss, NamedLft}
-use Rattle.v_frame_plane.proofs.lent.Steps.{MutSlice, slice_ty, slice_val, nothing, owned, peeks, Ty, Tys, erased, mut, tcons, tnil, ty_int}
-use Rattle.v_frame_plane.proofs.lent.Steps.{ty_param, ty_ref, ty_struct, Val, Vals, vcons, vint, vnil, vstruct, Memory, Routine, Ura, Item, Seq, ‵}
-use Rattle.v_frame_plane.proofs.lent.Steps.{raw, ◌⊛◌, ◌$◌, ◌∵◌, !, qed, done, drop, feq_i, feq_l, fjoin, fpack, fpick, fsplit, move}
-use Rattle.v_frame_plane.proofs.lent.Steps.{rewrite, split, use1, use2, Logic, sem, Body, shape, within}
-use Rattle.v_frame_plane.proofs.lent.Steps.{Triple, Callee, Place, Opd as Operand, call, seq, Calls, Env, Loops, FmC, Post, lands, runs, Opds, T, Fits, WT}
-use Rattle.v_frame_plane.proofs.lent.Steps.{has_ty}
+use Rattle.v_frame_buffer.proofs.Steps.{ℕ, ◌+◌, ◌^◌, ◌<◌, List, [], ◌∷◌, length, w64, MutBor, refl, Share, fat, flent, flft, full_share, SProp, all, ent}
+use Rattle.v_frame_buffer.proofs.Steps.{wand, ◌⊑◌, Fun, usize, shows, mem, param, uint_vals, uint_Makes, RattleType, Valss, NamedLft}
+use Rattle.v_frame_buffer.proofs.Steps.{MutSlice, slice_ty, slice_val, nothing, owned, peeks, Ty, Tys, erased, mut, tcons, tnil, ty_int}
+use Rattle.v_frame_buffer.proofs.Steps.{ty_param, ty_ref, ty_struct, Val, Vals, vcons, vint, vnil, vstruct, Memory, Routine, Ura, Item, Seq, ‵}
+use Rattle.v_frame_buffer.proofs.Steps.{raw, ◌⊛◌, ◌$◌, ◌∵◌, !, qed, done, drop, feq_i, feq_l, fjoin, fpack, fpick, fsplit, move}
+use Rattle.v_frame_buffer.proofs.Steps.{rewrite, split, use1, use2, Logic, sem, Body, shape, within}
+use Rattle.v_frame_buffer.proofs.Steps.{Triple, Callee, Place, Opd as Operand, call, seq, Calls, Env, Loops, FmC, Post, lands, runs, Opds, T, Fits, WT}
+use Rattle.v_frame_buffer.proofs.Steps.{has_ty}
 use mir.Syntax.{Body as Code}
 use Rattle.v_frame_plane.specs.Cursor.{RowsAreWithin}
 use Rattle.v_frame_plane.specs.contracts.rows_mut.RowsMut.{struct, the_row, the_type}

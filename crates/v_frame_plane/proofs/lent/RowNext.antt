@@ -1,21 +1,21 @@
 -- `next` and `next_back` of an iterator that lends rows, of which `s` is the one end: the slice is cut where the row next to that end begins and where it ends,
 -- and what lies towards the other end is kept. A `&mut` in a field of self no generated proof follows, so this one follows the code. Assumes `Logic`.
-use Rattle.v_frame_plane.proofs.lent.Steps.{param_laws, ℕ, ◌≡◌, ◌+◌, ◌-◌, ◌*◌, ◌^◌, ◌<◌, List, [], ◌∷◌, length, Some, None, lit<, w64, Val, fat}
-use Rattle.v_frame_plane.proofs.lent.Steps.{slice_val, vcons, vstruct, refl, ap, ◌∙◌, arith, length-drop, Some-of, none_of, full_share, id⊢, ⊑_trans, fact}
-use Rattle.v_frame_plane.proofs.lent.Steps.{tables, param, named_lft, MutSlice, usize, uint_vals, uint_Makes, closes, owned, heard, only, framed, eqb→eq, named}
-use Rattle.v_frame_plane.proofs.lent.Steps.{mut, erased, of_list, vint, alloc_all, env, free_all, get, lands_as, look_at, pass_all, sets}
-use Rattle.v_frame_plane.proofs.lent.Steps.{through, ‵, raw, at_ret, ◌$◌, !, drop, feq_l, fsplit, move, use0, use1, use3, step, Step, Goal, Item, live, agg}
-use Rattle.v_frame_plane.proofs.lent.Steps.{look_in, sub, whole, addr, and_then, assigns, bin, branches, enter, exec, first, fld, lit, load, no_more}
-use Rattle.v_frame_plane.proofs.lent.Steps.{of_opd, returns, returns_within, skips, stop, well_typed, RattleType, Laws, Logic, Ura, Ty, slice_ty, tcons}
-use Rattle.v_frame_plane.proofs.lent.Steps.{tnil, ty_int, ty_param, ty_ref, ty_struct, MachineTables, Running, Meets, Triple, Callee, Fn, Place, Opd as Operand}
-use Rattle.v_frame_plane.proofs.lent.Steps.{Sym, addr_of, aggregate, assign, cond, copy, deref, eq, field, int, op2, place, return, rv_opd, seq, skip, ttcons}
-use Rattle.v_frame_plane.proofs.lent.Steps.{ttnil, ty_bool, ty_enum, unsigned, w8, Model, Closed, Env, vptr, flt_l, store_raw, subst, sym, frame, Args}
+use Rattle.v_frame_buffer.proofs.Steps.{param_laws, ℕ, ◌≡◌, ◌+◌, ◌-◌, ◌*◌, ◌^◌, ◌<◌, List, [], ◌∷◌, length, Some, None, lit<, w64, Val, fat}
+use Rattle.v_frame_buffer.proofs.Steps.{slice_val, vcons, vstruct, refl, ap, ◌∙◌, arith, length-drop, Some-of, none_of, full_share, id⊢, ⊑_trans, fact}
+use Rattle.v_frame_buffer.proofs.Steps.{tables, param, named_lft, MutSlice, usize, uint_vals, uint_Makes, closes, owned, heard, only, framed, eqb→eq, named}
+use Rattle.v_frame_buffer.proofs.Steps.{mut, erased, of_list, vint, alloc_all, env, free_all, get, lands_as, look_at, pass_all, sets}
+use Rattle.v_frame_buffer.proofs.Steps.{through, ‵, raw, at_ret, ◌$◌, !, drop, feq_l, fsplit, move, use0, use1, use3, step, Step, Goal, Item, live, agg}
+use Rattle.v_frame_buffer.proofs.Steps.{look_in, sub, whole, addr, and_then, assigns, bin, branches, enter, exec, first, fld, lit, load, no_more}
+use Rattle.v_frame_buffer.proofs.Steps.{of_opd, returns, returns_within, skips, stop, well_typed, RattleType, Laws, Logic, Ura, Ty, slice_ty, tcons}
+use Rattle.v_frame_buffer.proofs.Steps.{tnil, ty_int, ty_param, ty_ref, ty_struct, MachineTables, Running, Meets, Triple, Callee, Fn, Place, Opd as Operand}
+use Rattle.v_frame_buffer.proofs.Steps.{Sym, addr_of, aggregate, assign, cond, copy, deref, eq, field, int, op2, place, return, rv_opd, seq, skip, ttcons}
+use Rattle.v_frame_buffer.proofs.Steps.{ttnil, ty_bool, ty_enum, unsigned, w8, Model, Closed, Env, vptr, flt_l, store_raw, subst, sym, frame, Args}
 use mir.Syntax.{Body, Rv as Rvalue, sub as minus}
 use denote.Triple.Entry.{Vals}
 use types.Run.{Opd, Rv}
 use Rattle.v_frame_plane.proofs.lent.RowMemory.{Bare, Numbers, WellTyped, bare, count_at, count_fit, gap_at, gap_fit, lowered, numbers, slice_of, rest_fit}
 use Rattle.v_frame_plane.proofs.lent.RowMemory.{start_at, start_fit, takes_slice, walk_owned, width_at, width_fit}
-use Rattle.v_frame_plane.proofs.lent.CallSteps.{asks_both, calls, tells, told}
+use Rattle.v_frame_buffer.proofs.CallSteps.{asks_both, calls, tells, told}
 use Rattle.v_frame_plane.proofs.lent.Cuts.{Split, dropped, pointer_on, slice_on, splits, slice_fits, slices_fit}
 use Rattle.v_frame_plane.proofs.lent.Methods.{Ends, Met, gets, gives, in_order, meets_by, method, set, value}
 use Rattle.v_frame_plane.proofs.lent.RowDraws.{Cut, draws, inside, is_place, left, moves_on, none_left, number, number_fits, place_of, some_left, start_of}

@@ -1,7 +1,7 @@
 -- Final values of rows in the place of those that an iterator has left: what `next` and `next_back` take of them, and what a plane with them shows.
-use Rattle.v_frame_plane.proofs.lent.Steps.{ℕ, ◌≡◌, ◌+◌, ◌-◌, ◌*◌, ◌<◌, ◌≤◌, List, [], ◌∷◌, ◌++◌, length, take, list_drop as drop, refl, sym, ◌∙◌, ap, arith}
-use Rattle.v_frame_plane.proofs.lent.Steps.{append_assoc, length-take-le, zero, suc, map, All, take-append-drop, length-append}
-use Rattle.v_frame_plane.proofs.lent.Steps.{take-take, get_or-map, All-head, All-tail, append-nil}
+use Rattle.v_frame_buffer.proofs.Steps.{ℕ, ◌≡◌, ◌+◌, ◌-◌, ◌*◌, ◌<◌, ◌≤◌, List, [], ◌∷◌, ◌++◌, length, take, list_drop as drop, refl, sym, ◌∙◌, ap, arith}
+use Rattle.v_frame_buffer.proofs.Steps.{append_assoc, length-take-le, zero, suc, map, All, take-append-drop, length-append}
+use Rattle.v_frame_buffer.proofs.Steps.{take-take, get_or-map, All-head, All-tail, append-nil}
 use Rattle.std.proofs.lemmas.List.{take_all}
 use Rattle.std.proofs.Math.Seq.{take-append-add, drop-append-add, take-suc-set}
 use Rattle.v_frame_layout.specs.Geometry.{Geometry, stride_of, alloc_size_of, origin_of}

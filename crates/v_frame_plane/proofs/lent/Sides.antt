@@ -3,7 +3,7 @@
 --     at_side, by_side     the one of two things, and of two proofs, that is this end's.        put     where a pixel stands that was cut off there
 --     walk_by     the iterator of its parts, as seen from this end
 --     Steps, Yields, Takes, Lends     what is said of a call of a pixel from there.        RowSteps, YieldsRow, LendsRow     the same of a call of a row
-use Rattle.v_frame_plane.proofs.lent.Steps.{ℕ, ◌≡◌, List, [], ◌∷◌, ◌++◌, Option, Some, None, MutBor, YieldsFirstMut, YieldsLastMut, Fml, RattleType}
+use Rattle.v_frame_buffer.proofs.Steps.{ℕ, ◌≡◌, List, [], ◌∷◌, ◌++◌, Option, Some, None, MutBor, YieldsFirstMut, YieldsLastMut, Fml, RattleType}
 use Rattle.v_frame_plane.specs.{Cursor.PixelsAreCountable, PixelsLeft.pixels_left, RowsLeft.rows_left, Second.LendsBy, Second.Takes as TakesItem}
 use Rattle.v_frame_plane.specs.{SecondPixels.KeepsPixels, SecondPixels.PixelEndsAs, SecondPixels.SecondPixels, SecondRows.LendsFirstRow}
 use Rattle.v_frame_plane.specs.{SecondRows.LendsLastRow, declared.pixels_mut.PixelsMut.PixelsMut, declared.rows_mut.RowsMut.RowsMut}

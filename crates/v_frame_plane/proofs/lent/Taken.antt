@@ -1,18 +1,18 @@
 -- A `&mut [T]` of the lifetime κ in a proof by hand: what takes it out of its place, and what may give one. Assumes `Logic`.
 --     calls_take     a call of `mem::take`: the place is lent to the call, and holds an empty slice afterwards: what it held is handed back
 --     by_row         whether a call of `next` or `next_back` of an iterator over lent rows gave a row
-use Rattle.v_frame_plane.proofs.lent.Steps.{ℕ, ◌≡◌, List, [], ◌∷◌, length, w64, MutBor, refl, ap, ◌∙◌, Lft, Share, fat, flent, flft, full_share, SProp, id⊢}
-use Rattle.v_frame_plane.proofs.lent.Steps.{◌⊑◌, ⊑_trans, Fun, fact, shows, mem, param, Laws, param_laws, RattleType, NamedLft, MutSlice, slice_val, heard}
-use Rattle.v_frame_plane.proofs.lent.Steps.{only, peeks, triple_of, Contract, Ty, a_type, named, tcons, tnil, ty_int, ty_ptr, ty_struct, Val, vptr, Memory}
-use Rattle.v_frame_plane.proofs.lent.Steps.{Routine, Ura, Item, Seq, ‵, raw, ◌⊛◌, ◌$◌, drop, fsplit, move, rewrite, split, use1, use2, Logic, Body, no, ⊑_meet}
-use Rattle.v_frame_plane.proofs.lent.Steps.{⊑_refl, meet_⊑_right, Running, arg, bounded, layout, arg_laws, of_field, row_shared, mut_slice_shared}
-use Rattle.v_frame_plane.proofs.lent.Steps.{mut_slice_laws, Triple, Callee, Place, Opd as Operand, call, seq, dcons, dnil, Calls, Env, Loops, FmC, Post, lands}
-use Rattle.v_frame_plane.proofs.lent.Steps.{regoal, runs, Opds, Model, ◌^◌, ◌<◌, ◌++◌, Option, Some, None, of_list, Goal, feq_l, fpick, live}
+use Rattle.v_frame_buffer.proofs.Steps.{ℕ, ◌≡◌, List, [], ◌∷◌, length, w64, MutBor, refl, ap, ◌∙◌, Lft, Share, fat, flent, flft, full_share, SProp, id⊢}
+use Rattle.v_frame_buffer.proofs.Steps.{◌⊑◌, ⊑_trans, Fun, fact, shows, mem, param, Laws, param_laws, RattleType, NamedLft, MutSlice, slice_val, heard}
+use Rattle.v_frame_buffer.proofs.Steps.{only, peeks, triple_of, Contract, Ty, a_type, named, tcons, tnil, ty_int, ty_ptr, ty_struct, Val, vptr, Memory}
+use Rattle.v_frame_buffer.proofs.Steps.{Routine, Ura, Item, Seq, ‵, raw, ◌⊛◌, ◌$◌, drop, fsplit, move, rewrite, split, use1, use2, Logic, Body, no, ⊑_meet}
+use Rattle.v_frame_buffer.proofs.Steps.{⊑_refl, meet_⊑_right, Running, arg, bounded, layout, arg_laws, of_field, row_shared, mut_slice_shared}
+use Rattle.v_frame_buffer.proofs.Steps.{mut_slice_laws, Triple, Callee, Place, Opd as Operand, call, seq, dcons, dnil, Calls, Env, Loops, FmC, Post, lands}
+use Rattle.v_frame_buffer.proofs.Steps.{regoal, runs, Opds, Model, ◌^◌, ◌<◌, ◌++◌, Option, Some, None, of_list, Goal, feq_l, fpick, live}
 use denote.Struct.Field.{mut_slice_field}
 use mir.Syntax.{Body as Code}
 use prog.Wired.{Wired}
 use Rattle.core.specs.contracts.slice.empty.RefMutSliceDefault.TheImpl.{ghosts, dict}
-use Rattle.v_frame_plane.proofs.lent.CallSteps.{asks_that, calls, spelt}
+use Rattle.v_frame_buffer.proofs.CallSteps.{asks_that, calls, spelt}
 use Rattle.v_frame_plane.proofs.lent.Loans.{Back, comes_back, lends, lft_over, share_within}
 use base.Share
 use Rattle.std.specs.contracts.mem.take

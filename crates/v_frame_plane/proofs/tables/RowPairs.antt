@@ -4,9 +4,10 @@ use Rattle.std.proofs.Common.{append_assoc, length-append, length-drop, take-app
 use Rattle.std.proofs.lemmas.List.{drop-drop, drop-take, length-take, take_at, drop_at}
 use Rattle.std.proofs.Math.Nat.{mul-le-mul_right}
 use Rattle.std.specs.List.{refill}
+use Rattle.v_frame_buffer.specs.Part.{with_part}
+use Rattle.v_frame_buffer.proofs.Parts.{length-with_part}
 use Rattle.v_frame_layout.specs.Geometry.{Geometry, stride_of, alloc_size_of, place_of}
-use Rattle.v_frame_plane.specs.Plane.{with_part, with_row, WritesRows, Raster, raster, table_of, with_two_parts, WritesEachPair}
-use Rattle.v_frame_plane.proofs.tables.Kept.{length-with_part}
+use Rattle.v_frame_plane.specs.Plane.{with_row, WritesRows, Raster, raster, table_of, with_two_parts, WritesEachPair}
 use Rattle.v_frame_plane.proofs.tables.Lists.{refill_same}
 use Rattle.v_frame_layout.proofs.Plans.{place_of_row, row_within}
 use Rattle.v_frame_plane.proofs.tables.Pictures.{overwritten}

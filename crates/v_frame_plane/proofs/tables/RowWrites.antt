@@ -4,8 +4,9 @@ use Rattle.std.proofs.Common.{length-append, length-take, length-take-le, length
 use Rattle.std.proofs.lemmas.List.{drop-drop, drop_all}
 use Rattle.std.specs.List.{refill}
 use Rattle.std.proofs.lemmas.Option.{get_or_from_slice_get, slice_get_within}
+use Rattle.v_frame_buffer.specs.Part.{with_part}
 use Rattle.v_frame_layout.specs.Geometry.{alloc_size_of, place_of}
-use Rattle.v_frame_plane.specs.Plane.{Raster, raster, table_of, with_part, with_two_parts, WritesRow, WritesEachRow, WritesEachFront}
+use Rattle.v_frame_plane.specs.Plane.{Raster, raster, table_of, with_two_parts, WritesRow, WritesEachRow, WritesEachFront}
 use Rattle.v_frame_plane.proofs.tables.Lists.{refill_same, set_is_read, others_are_read}
 use Rattle.v_frame_layout.proofs.Plans.{row_start, place_of_row, row_within}
 use Rattle.v_frame_plane.proofs.tables.Pictures.{shown_row, length-shown, overwritten, shown_overwritten, border_overwritten}

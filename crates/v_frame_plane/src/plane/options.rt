@@ -4,8 +4,8 @@ ghost use Rattle.v_frame_layout.specs.Geometry.{Fits};
 ghost use Rattle.v_frame_plane.specs.Plane.{IsFull, options_of, filled};
 
 use super::{Plane, PlaneGeometry};
-use crate::aligned::AlignedData;
 use std::alloc::{AllocError, Global};
+use v_frame_buffer::AlignedData;
 
 impl<T> Plane<T> {
     /// A plane whose entries are all `None`, to be filled through [`data_mut`](Self::data_mut).

@@ -1,11 +1,11 @@
 -- `write_ends` holds three pixels, and writes through them once the iterator is dropped. What a plane ends as, of which such pixels were lent, no generated
 -- proof follows, so this one follows the code.
-use Rattle.v_frame_plane.proofs.lent.Steps.{Goes-dropped, Goes-ref, Is, Lft, List, NamedLft, Stays, Val, a_type, addr, alloc_all, and_then, ap, arith, bounded}
-use Rattle.v_frame_plane.proofs.lent.Steps.{dcons, dnil, enter, env, feq_i, fld, free_all, from, get, get_in, get_tag, give_at, in_variant, inst_fn, lands_as}
-use Rattle.v_frame_plane.proofs.lent.Steps.{length, length-append, lit<, look_at, meet_⊑_right, move, mut_Tells, mut_vals, named, no, no_more, nothing, of_opd}
-use Rattle.v_frame_plane.proofs.lent.Steps.{param, param_laws, pass_all, plain, proved, first, blocks, jumps, exec, after, at_ret, tables, refl, returns}
-use Rattle.v_frame_plane.proofs.lent.Steps.{rewrite, sets, split, stay_dropped, stay_ref, stop, sym, take_at, through, unit_lit, use1, vrt, vunit, walk_of}
-use Rattle.v_frame_plane.proofs.lent.Steps.{whole, !, [], ‵, ◌$◌, ◌++◌, ◌<◌, ◌∙◌, ◌∷◌, ◌⊑◌, ◌⊛◌}
+use Rattle.v_frame_buffer.proofs.Steps.{Goes-dropped, Goes-ref, Is, Lft, List, NamedLft, Stays, Val, a_type, addr, alloc_all, and_then, ap, arith, bounded}
+use Rattle.v_frame_buffer.proofs.Steps.{dcons, dnil, enter, env, feq_i, fld, free_all, from, get, get_in, get_tag, give_at, in_variant, inst_fn, lands_as}
+use Rattle.v_frame_buffer.proofs.Steps.{length, length-append, lit<, look_at, meet_⊑_right, move, mut_Tells, mut_vals, named, no, no_more, nothing, of_opd}
+use Rattle.v_frame_buffer.proofs.Steps.{param, param_laws, pass_all, plain, proved, first, blocks, jumps, exec, after, at_ret, tables, refl, returns}
+use Rattle.v_frame_buffer.proofs.Steps.{rewrite, sets, split, stay_dropped, stay_ref, stop, sym, take_at, through, unit_lit, use1, vrt, vunit, walk_of}
+use Rattle.v_frame_buffer.proofs.Steps.{whole, !, [], ‵, ◌$◌, ◌++◌, ◌<◌, ◌∙◌, ◌∷◌, ◌⊑◌, ◌⊛◌}
 use Rattle.v_frame.proofs.Steps.{copied, spot_of}
 use Rattle.v_frame.specs.Prelude.{SecondPixels, pixels_left, row_major, table_of, entries_with, with_entries}
 use Rattle.v_frame.proofs.CallSteps.{both_facts, ends, opened_by, tells, told}

@@ -1,12 +1,12 @@
 -- `fill_last_row` lends its plane to an iterator, draws a row from its end, fills it, and drops the iterator. What a plane ends as, of which such a row was
 -- lent, no generated proof follows, so this one follows the code.
-use Rattle.v_frame_plane.proofs.lent.Steps.{Goes-dropped, Goes-ref, List, NamedLft, SProp, Sq, Stays, Val, a_type, addr, after, agg, alloc_all, and_then}
-use Rattle.v_frame_plane.proofs.lent.Steps.{at_ret, bounded, dcons, dnil, drop, enter, env, exec, fact, feq_i, feq_l, first, fld, flft, framed, free_all, from}
-use Rattle.v_frame_plane.proofs.lent.Steps.{fsplit, get, get_in, get_tag, give_at, heard, hop, id⊢, in_variant, inst_fn, lands_as, lands_last, length, lit<}
-use Rattle.v_frame_plane.proofs.lent.Steps.{look_at, look_in_at, meet_⊑_right, move, mut_Tells, mut_vals, named, no, no_more, nothing, of_opd, param}
-use Rattle.v_frame_plane.proofs.lent.Steps.{param_laws, pass_all, plain, proved, raw, refl, returns, rewrite, sets, skips, stay_dropped, stay_ref, stop, sub}
-use Rattle.v_frame_plane.proofs.lent.Steps.{subst, sym, tables, take_at, through, unit_lit, use1, use2, vrt, vunit, walk_of, whole, !, [], ‵, ◌$◌, ◌∙◌, ◌∷◌}
-use Rattle.v_frame_plane.proofs.lent.Steps.{◌≡◌, ◌⊑◌, Item, forget_but, holding, runs}
+use Rattle.v_frame_buffer.proofs.Steps.{Goes-dropped, Goes-ref, List, NamedLft, SProp, Sq, Stays, Val, a_type, addr, after, agg, alloc_all, and_then}
+use Rattle.v_frame_buffer.proofs.Steps.{at_ret, bounded, dcons, dnil, drop, enter, env, exec, fact, feq_i, feq_l, first, fld, flft, framed, free_all, from}
+use Rattle.v_frame_buffer.proofs.Steps.{fsplit, get, get_in, get_tag, give_at, heard, hop, id⊢, in_variant, inst_fn, lands_as, lands_last, length, lit<}
+use Rattle.v_frame_buffer.proofs.Steps.{look_at, look_in_at, meet_⊑_right, move, mut_Tells, mut_vals, named, no, no_more, nothing, of_opd, param}
+use Rattle.v_frame_buffer.proofs.Steps.{param_laws, pass_all, plain, proved, raw, refl, returns, rewrite, sets, skips, stay_dropped, stay_ref, stop, sub}
+use Rattle.v_frame_buffer.proofs.Steps.{subst, sym, tables, take_at, through, unit_lit, use1, use2, vrt, vunit, walk_of, whole, !, [], ‵, ◌$◌, ◌∙◌, ◌∷◌}
+use Rattle.v_frame_buffer.proofs.Steps.{◌≡◌, ◌⊑◌, Item, forget_but, holding, runs}
 use Rattle.v_frame.proofs.Steps.{copied, finally-res, length-replicate, replicate, spot_of}
 use Rattle.v_frame.specs.Prelude.{EndsAs, SecondRows, entries_with, rows_left, table_of, with_entries}
 use Rattle.v_frame.proofs.CallSteps.{asks_that, calls_last, ends, opened, tells, told, unit_fits}

@@ -1,5 +1,5 @@
 -- `next` takes its pixel from the row that was begun from the front, and begins another one where that is at its end.
-use Rattle.v_frame_plane.proofs.lent.Steps.{[], ◌∷◌, a_type, layouts}
+use Rattle.v_frame_buffer.proofs.Steps.{[], ◌∷◌, a_type, layouts}
 use Rattle.v_frame_plane.specs.contracts.pixels_mut.PixelsMut.next.Key as next
 use Rattle.v_frame_plane.specs.contracts.pixels_mut.PixelsMut.next_of_front.Key as next_of_front
 use Rattle.v_frame_plane.specs.contracts.rows_mut.RowsMut.next.Key as rows_next

@@ -1,5 +1,5 @@
 -- `next_of_back` cuts the last pixel off the row that was begun from the back, and keeps the rest.
-use Rattle.v_frame_plane.proofs.lent.Steps.{[], ◌∷◌, a_type, layouts}
+use Rattle.v_frame_buffer.proofs.Steps.{[], ◌∷◌, a_type, layouts}
 use Rattle.v_frame_plane.specs.contracts.pixels_mut.PixelsMut.next_of_back.Key as next_of_back
 use Rattle.v_frame_plane.specs.contracts.pixels_mut.cut_last.Key as cut_last
 use Rattle.v_frame_plane.proofs.lent.PixelOfRow.{meets}

@@ -1,5 +1,5 @@
 -- `next_of_front` cuts the first pixel off the row that was begun from the front, and keeps the rest.
-use Rattle.v_frame_plane.proofs.lent.Steps.{[], ◌∷◌, a_type, layouts}
+use Rattle.v_frame_buffer.proofs.Steps.{[], ◌∷◌, a_type, layouts}
 use Rattle.v_frame_plane.specs.contracts.pixels_mut.PixelsMut.next_of_front.Key as next_of_front
 use Rattle.v_frame_plane.specs.contracts.pixels_mut.cut_first.Key as cut_first
 use Rattle.v_frame_plane.proofs.lent.PixelOfRow.{meets}

@@ -1,11 +1,11 @@
 -- `pixels_mut` makes the iterator over the pixels of that over the rows, whose slice is the whole buffer. That this slice
 -- lies two fields deep no generated proof follows, so this one follows the code.
-use Rattle.v_frame_plane.proofs.lent.Steps.{◌≡◌, ◌^◌, ◌<◌, [], ◌∷◌, length, refl, sym, ap, ◌∙◌, arith, proved, id⊢, ◌⊑◌, fact, tables, param, layouts, mut_vals}
-use Rattle.v_frame_plane.proofs.lent.Steps.{mut_Tells, plain, named_lft, Array, shows, heard, nothing, peeks, framed, walk_of, Stays, inst_fn, a_type, named}
-use Rattle.v_frame_plane.proofs.lent.Steps.{alloc_all, free_all, get, lands_as, look_at, pass_all, sets, through, ‵, raw, ◌$◌, !, keep, move, rewrite, addr}
-use Rattle.v_frame_plane.proofs.lent.Steps.{and_then, enter, no_more, returns, stop, frame, Item, no, stay_dropped, param_laws, All, append-nil, subst, follows}
-use Rattle.v_frame_plane.proofs.lent.Steps.{Goes-spent_ref}
-use Rattle.v_frame_plane.proofs.lent.CallSteps.{asks_both, asks_that, calls, ends, opened, tells, told}
+use Rattle.v_frame_buffer.proofs.Steps.{◌≡◌, ◌^◌, ◌<◌, [], ◌∷◌, length, refl, sym, ap, ◌∙◌, arith, proved, id⊢, ◌⊑◌, fact, tables, param, layouts, mut_vals}
+use Rattle.v_frame_buffer.proofs.Steps.{mut_Tells, plain, named_lft, Array, shows, heard, nothing, peeks, framed, walk_of, Stays, inst_fn, a_type, named}
+use Rattle.v_frame_buffer.proofs.Steps.{alloc_all, free_all, get, lands_as, look_at, pass_all, sets, through, ‵, raw, ◌$◌, !, keep, move, rewrite, addr}
+use Rattle.v_frame_buffer.proofs.Steps.{and_then, enter, no_more, returns, stop, frame, Item, no, stay_dropped, param_laws, All, append-nil, subst, follows}
+use Rattle.v_frame_buffer.proofs.Steps.{Goes-spent_ref}
+use Rattle.v_frame_buffer.proofs.CallSteps.{asks_both, asks_that, calls, ends, opened, tells, told}
 use Rattle.v_frame_plane.specs.contracts.plane.Plane.{the_row}
 use Rattle.v_frame_plane.specs.contracts.plane.Plane.rows_mut
 use Rattle.v_frame_plane.specs.contracts.plane.Plane.pixels_mut

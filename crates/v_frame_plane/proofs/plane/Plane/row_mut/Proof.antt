@@ -1,14 +1,14 @@
 -- `row_mut` tests y and passes on what `visible_row_mut` lends, in a `Some`. Rattle makes no proof where a `&mut [T]` may be lent, so this one follows the
 -- code.
-use Rattle.v_frame_plane.proofs.lent.Steps.{◌≡◌, ◌<◌, ◌≤◌, List, [], ◌∷◌, length, Some, None, lit<, w64, refl, sym, ap, arith, after, Some-of, none_of, proved}
-use Rattle.v_frame_plane.proofs.lent.Steps.{Lft, flent, flft, full_share, ent, id⊢, ◌⊑◌, ⊑_trans, fact, tables, Array, usize, yes, no, mem, param, layouts}
-use Rattle.v_frame_plane.proofs.lent.Steps.{param_laws, uint_vals, uint_Tells, RattleType, mut_vals, mut_Tells, plain, MutSlice, slice_val, nothing, only}
-use Rattle.v_frame_plane.proofs.lent.Steps.{heard, framed, Stays, stay_dropped, Goes-dropped, walk_of, inst_fn, a_type, named, Val, of_list, Ura, alloc_all}
-use Rattle.v_frame_plane.proofs.lent.Steps.{pass_all, free_all, look_at, get, through, sets, lands_as, env, ‵, raw, ◌⊛◌, later, at_ret, ◌$◌, ◌∵◌, !, qed, done}
-use Rattle.v_frame_plane.proofs.lent.Steps.{keep, move, drop, use0, use1, use2, split, await, fsplit, fsplit3, fjoin3, fpack, feq_i, feq_l, Logic, sem, live}
-use Rattle.v_frame_plane.proofs.lent.Steps.{agg, enter, lit, addr, bin, stop, no_more, and_then, first, branches, skips, exec, returns, returns_within, true}
-use Rattle.v_frame_plane.proofs.lent.Steps.{false, slice_get, fres, frame, Incl-refl, ⊑_refl, meet_⊑_right, follows, follows_if, lends_shr, part_at, ShrRef}
-use Rattle.v_frame_plane.proofs.lent.Steps.{shr_vals, Goes-spent_ref, leb→le, nleb→lt, flt_l, lent_back, GName}
+use Rattle.v_frame_buffer.proofs.Steps.{◌≡◌, ◌<◌, ◌≤◌, List, [], ◌∷◌, length, Some, None, lit<, w64, refl, sym, ap, arith, after, Some-of, none_of, proved}
+use Rattle.v_frame_buffer.proofs.Steps.{Lft, flent, flft, full_share, ent, id⊢, ◌⊑◌, ⊑_trans, fact, tables, Array, usize, yes, no, mem, param, layouts}
+use Rattle.v_frame_buffer.proofs.Steps.{param_laws, uint_vals, uint_Tells, RattleType, mut_vals, mut_Tells, plain, MutSlice, slice_val, nothing, only}
+use Rattle.v_frame_buffer.proofs.Steps.{heard, framed, Stays, stay_dropped, Goes-dropped, walk_of, inst_fn, a_type, named, Val, of_list, Ura, alloc_all}
+use Rattle.v_frame_buffer.proofs.Steps.{pass_all, free_all, look_at, get, through, sets, lands_as, env, ‵, raw, ◌⊛◌, later, at_ret, ◌$◌, ◌∵◌, !, qed, done}
+use Rattle.v_frame_buffer.proofs.Steps.{keep, move, drop, use0, use1, use2, split, await, fsplit, fsplit3, fjoin3, fpack, feq_i, feq_l, Logic, sem, live}
+use Rattle.v_frame_buffer.proofs.Steps.{agg, enter, lit, addr, bin, stop, no_more, and_then, first, branches, skips, exec, returns, returns_within, true}
+use Rattle.v_frame_buffer.proofs.Steps.{false, slice_get, fres, frame, Incl-refl, ⊑_refl, meet_⊑_right, follows, follows_if, lends_shr, part_at, ShrRef}
+use Rattle.v_frame_buffer.proofs.Steps.{shr_vals, Goes-spent_ref, leb→le, nleb→lt, flt_l, lent_back, GName}
 use Rattle.std.specs.contracts.option.Option as Opt
 use mathlib.Core.Option.{Option}
 use base.Share
@@ -20,7 +20,7 @@ use Rattle.v_frame_layout.specs.Table.{height_of}
 use Rattle.v_frame_plane.specs.Lends.{LendsRow}
 use Rattle.v_frame_plane.specs.contracts.plane.Plane.{the_row}
 use Rattle.v_frame_plane.proofs.plane.Plane.TheLaws.{the_row_laws, the_within}
-use Rattle.v_frame_plane.proofs.lent.CallSteps.{asks_both, asks_that, calls, ends, opened, spelt, tells, told}
+use Rattle.v_frame_buffer.proofs.CallSteps.{asks_both, asks_that, calls, ends, opened, spelt, tells, told}
 use Rattle.v_frame_plane.proofs.lent.Cuts.{slice_fits}
 use Rattle.v_frame_plane.proofs.lent.Loans.{lft_over, lft_within, share_within}
 use Rattle.v_frame_plane.proofs.tables.Places.{no_row_below}

@@ -1,17 +1,17 @@
 -- `two_parts` cuts a slice into its front and its back, and a part out of each, and lends both parts. Rattle follows no
 -- part of a part, so this proof follows the code.
-use Rattle.v_frame_plane.proofs.lent.Steps.{ℕ, ◌≡◌, ◌+◌, ◌-◌, ◌≤◌, List, [], ◌∷◌, ◌++◌, length, take, list_drop, w64, MutBor, refl, ap, ◌∙◌, arith, length-drop}
-use Rattle.v_frame_plane.proofs.lent.Steps.{proved, sep, ◌⊑◌, fact, tables, usize, param, layouts, plain, uint_vals, Valss, MutSlice, slice_val, nothing}
-use Rattle.v_frame_plane.proofs.lent.Steps.{framed, Stays, inst_fn, a_type, named, Val, vcons, vnil, vstruct, alloc_all, free_all, get, get_in, lands_as}
-use Rattle.v_frame_plane.proofs.lent.Steps.{look_at, look_in_at, pass_all, sets, ‵, ◌$◌, !, done, feq_i, fjoin, fpack, keep, move, rewrite, agg, sub, whole}
-use Rattle.v_frame_plane.proofs.lent.Steps.{addr, and_then, enter, fld, from, hop, no_more, returns, stop, append_assoc, length-take-le, yes, no, uint_Tells}
-use Rattle.v_frame_plane.proofs.lent.Steps.{mut_slice_vals, mut_slice_Tells, shape, within, tuple_type, stay_dropped, Goes-dropped, Goes-spent_slice, take-take}
-use Rattle.v_frame_plane.proofs.lent.Steps.{drop-drop, drop-take, walk_of, via, mono_r}
+use Rattle.v_frame_buffer.proofs.Steps.{ℕ, ◌≡◌, ◌+◌, ◌-◌, ◌≤◌, List, [], ◌∷◌, ◌++◌, length, take, list_drop, w64, MutBor, refl, ap, ◌∙◌, arith, length-drop}
+use Rattle.v_frame_buffer.proofs.Steps.{proved, sep, ◌⊑◌, fact, tables, usize, param, layouts, plain, uint_vals, Valss, MutSlice, slice_val, nothing}
+use Rattle.v_frame_buffer.proofs.Steps.{framed, Stays, inst_fn, a_type, named, Val, vcons, vnil, vstruct, alloc_all, free_all, get, get_in, lands_as}
+use Rattle.v_frame_buffer.proofs.Steps.{look_at, look_in_at, pass_all, sets, ‵, ◌$◌, !, done, feq_i, fjoin, fpack, keep, move, rewrite, agg, sub, whole}
+use Rattle.v_frame_buffer.proofs.Steps.{addr, and_then, enter, fld, from, hop, no_more, returns, stop, append_assoc, length-take-le, yes, no, uint_Tells}
+use Rattle.v_frame_buffer.proofs.Steps.{mut_slice_vals, mut_slice_Tells, shape, within, tuple_type, stay_dropped, Goes-dropped, Goes-spent_slice, take-take}
+use Rattle.v_frame_buffer.proofs.Steps.{drop-drop, drop-take, walk_of, via, mono_r}
 use Rattle.core.proofs.slice.slice+T.split_at_mut.Met as split_met
 use Rattle.v_frame_plane.specs.Plane.{with_two_parts}
 use Rattle.v_frame_plane.specs.SecondRows.{EndsAs}
 use Rattle.v_frame_plane.specs.contracts.plane.pairs.two_parts
-use Rattle.v_frame_plane.proofs.lent.CallSteps.{both_facts, ends, opened_by, tells}
+use Rattle.v_frame_buffer.proofs.CallSteps.{both_facts, ends, opened_by, tells}
 use Rattle.v_frame_plane.proofs.lent.Cuts.{both_end, joins, lets_go, pointer_on, slice_on, splits, slice_fits, slices_fit, word_fits}
 use Rattle.v_frame_plane.proofs.plane.pairs.two_parts.Statement.{statement}
 use Rattle.v_frame_plane.proofs.plane.pairs.two_parts.Code as code

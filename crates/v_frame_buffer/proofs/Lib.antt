@@ -1,0 +1,4 @@
+pub mod CallSteps
+pub mod Parts
+pub mod Steps
+pub mod block

@@ -1,0 +1,5 @@
+pub mod AlignedData
+pub mod Block
+pub mod BlockLends
+pub mod Filling
+pub mod Part

@@ -1,9 +1,0 @@
--- The entries so far are without a value, and there is room for the others.
-use Rattle.std.proofs.Common.{◌≡◌, ◌+◌, replicate, None}
-use Rattle.v_frame_plane.proofs.aligned.AlignedData+Option+T.without_values.Given as goal
-
-abbrev pub invariant-loop : goal.invariant-loop
-invariant-loop g l = record {
-  entries : l.filling.items ≡ replicate l.counter None;
-  room : l.counter + l.filling.spare ≡ l.len;
-}

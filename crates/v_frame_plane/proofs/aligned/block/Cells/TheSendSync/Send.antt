@@ -1,7 +1,0 @@
-use denote.RattleType.{RattleType}
-use denote.Param.Send.{IsSend}
-use Rattle.v_frame_plane.proofs.block.BlockCrosses.{cells_cross}
-use Rattle.v_frame_plane.specs.contracts.aligned.block.Cells.{the_row}
-
-pub send : (R : RattleType) → IsSend R → IsSend (the_row R)
-send = cells_cross

@@ -1,8 +1,0 @@
-use denote.RattleType.{RattleType}
-use denote.Param.Send.{IsSync}
-use Rattle.core.specs.declared.alloc.Allocator.{Ghosts}
-use Rattle.v_frame_plane.proofs.block.BlockCrosses.{deed_shared}
-use Rattle.v_frame_plane.specs.contracts.aligned.block.Deed.{the_row}
-
-pub sync : (R A : RattleType) (g : Ghosts A.Denot) → IsSync (the_row R A g)
-sync = deed_shared
