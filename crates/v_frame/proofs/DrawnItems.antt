@@ -1,15 +1,15 @@
 -- Items that calls of `next` and `next_back` took, put back as they were left: what a writing iterator leaves.
 use Rattle.std.proofs.Common.{Bool, true, false, ℕ, suc, ◌≡◌, ◌+◌, ◌-◌, ◌<◌, ◌≤◌, if◌then◌else◌, List, [], ◌∷◌, ◌++◌, length, map, take, Option, Some, None}
-use Rattle.std.proofs.Common.{MutBor, slice_get, refl, sym, ◌∙◌, ap, arith, append-nil, length-append}
+use Rattle.std.proofs.Common.{All, MutBor, get_or, slice_get, refl, sym, ◌∙◌, ap, arith, append-nil, length-append}
 use Rattle.std.proofs.Math.Seq.{map-set_same, take-append_seam}
+use Rattle.std.proofs.lemmas.List.Elements.{All-head, All-tail}
 use Rattle.std.proofs.lemmas.Option.{get_or_from_slice_get}
-use Rattle.std.specs.Prelude.{nat_lt}
 use Rattle.std.proofs.lemmas.Bool.{le-ltb, lt-ltb}
 use Rattle.std.specs.Iterator.{YieldsFirstMut, YieldsLastMut}
 use Rattle.std.specs.Option.{option_copied_mut}
 use Rattle.v_frame_plane.proofs.tables.Lists.{slice_get-at}
 use Rattle.v_frame.specs.DrawnItems.{put_back, put_back_in_turn}
-use Rattle.v_frame.specs.Walk.{number_of_item, item_from, left_by, left_in_turn, changed_by, changed_after, walk_leaves, side_of_row, row_written}
+use Rattle.v_frame.specs.Walk.{item_from, left_by, left_in_turn, changed_by, changed_after, walk_leaves, side_of_row, row_written}
 use Rattle.v_frame.specs.Walk.{rows_written}
 use Rattle.v_frame.specs.declared.replay.draw.Side.{Side, TheVariants.Front, TheVariants.Back}
 use Rattle.v_frame.specs.declared.replay.draw.RowDraw.{RowDraw}
@@ -97,29 +97,35 @@ module _ {X D : Type 0} (side_of : D → Side) (make : D → X → X) where
   put_back_all items draws =
       sym (simp append-nil at (put_back_between [] items [] [] draws (record { from_front = refl; from_back = refl })))
 
+  module _ {B : Type 0} (f : X → B) where
+    -- calls that change an item in no way that f shows
+    abbrev pub Keeps : D → Type 0
+    Keeps draw = (item : X) → f (make draw item) ≡ f item
+
+    kept_by : (draw : D) (items : List X) (n : ℕ) (more : Bool) (item : Option X) → Keeps draw →
+        slice_get items n ≡ item → map f (if more then with_item_by (make draw) items n item else items) ≡ map f items
+    kept_by draw items n true (Some item) keeps is =
+        map-set_same f items n (make draw item) item (keeps item ∙ ap f (sym (get_or_from_slice_get items n item item is)))
+    kept_by draw items n true None keeps is = refl
+    kept_by draw items n false item keeps is = refl
+
+    pub kept_after : (items : List X) (before : List Side) (draws : List D) → All Keeps draws →
+        map f (changed_after side_of make items before draws) ≡ map f items
+    kept_after items before [] keep = refl
+    kept_after items before (draw ∷ draws) keep =
+        kept_after (changed_by side_of make items before draw) (before ++ side_of draw ∷ []) draws
+        (All-tail Keeps draw draws keep) ∙ kept_by draw items _ _ _ (All-head Keeps draw draws keep) refl
+
 -- the rows of a table stay as wide
 length-overwritten : {T : Type 0} (row : List T) (writes : List (Option T)) → length (overwritten_row row writes) ≡ length row
 length-overwritten [] writes = refl
 length-overwritten (x ∷ row) [] = refl
 length-overwritten (x ∷ row) (write ∷ writes) = ap suc (length-overwritten row writes)
 
-module _ {T : Type 0} where
-  as_long_by : (draw : RowDraw T) (rows : List (List T)) (n : ℕ) (more : Bool) (row : Option (List T)) → slice_get rows n ≡ row →
-      map length (if more then with_item_by (row_written draw) rows n row else rows) ≡ map length rows
-  as_long_by draw rows n true (Some row) is = map-set_same length rows n (row_written draw row) [] (length-overwritten row draw.writes ∙
-      ap length (sym (get_or_from_slice_get rows n row [] is)))
-  as_long_by draw rows n true None is = refl
-  as_long_by draw rows n false row is = refl
-
-  as_long_after : (rows : List (List T)) (before : List Side) (draws : List (RowDraw T)) →
-      map length (changed_after side_of_row row_written rows before draws) ≡ map length rows
-  as_long_after rows before [] = refl
-  as_long_after rows before (draw ∷ draws) =
-      as_long_after (changed_by side_of_row row_written rows before draw) (before ++ draw.side ∷ []) draws ∙
-      as_long_by draw rows (number_of_item draw.side (length rows) before) (nat_lt (length before) (length rows)) _ refl
-
-  pub rows_as_long : (rows : List (List T)) (draws : List (RowDraw T)) → map length (rows_written rows draws) ≡ map length rows
-  rows_as_long rows draws = as_long_after rows [] draws
+pub rows_as_long : {T : Type 0} (rows : List (List T)) (draws : List (RowDraw T)) →
+    map length (rows_written rows draws) ≡ map length rows
+rows_as_long rows draws = kept_after side_of_row row_written length rows [] draws
+    (λ k d h row. length-overwritten row (get_or draws k d).writes)
 
 -- what is left after one more call of a list, by the draw's number
 pub nth_left : {X D : Type 0} (side_of : D → Side) (items : List X) (draws : List D) (i : ℕ) (h : i < length draws) (left more : List X) →

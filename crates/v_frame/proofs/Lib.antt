@@ -15,5 +15,6 @@ pub mod PlaneCalls
 pub mod Replays
 pub mod SharedItems
 pub mod Steps
+pub mod Unwritten
 pub mod WriteItem
 pub mod WriteItems

@@ -37,7 +37,10 @@ pub use v_frame_plane::laws::{
     packed_outcomes_agree, pixels_have_places, places_have_marks, places_hold_pixels,
     planes_are_equal, rows_are_parts, same_entries_same_table, tables_are_rectangles,
 };
-pub use writing_iterators::{lent_pixels_are_drawn_once, lent_rows_are_drawn_once};
+pub use writing_iterators::{
+    lent_pixels_are_drawn_once, lent_pixels_hold_what_is_written, lent_rows_are_drawn_once,
+    lent_rows_hold_what_is_written,
+};
 
 /// Two frames that show the same give the same answers to every list of calls, and show the same afterwards.
 ///

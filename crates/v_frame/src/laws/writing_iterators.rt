@@ -1,13 +1,15 @@
-//! Laws of the iterators that lend rows and pixels for writing: what `next` and `next_back` give.
-ghost use Rattle.std.specs.Prelude.{◌≡◌, IfOk};
+//! Laws of the iterators that lend rows and pixels for writing: what `next` and `next_back` give, and what is left.
+ghost use Rattle.std.specs.Prelude.{◌≡◌, All, None, IfOk};
 ghost use Rattle.v_frame_layout.specs.Table.{row_major};
-ghost use Rattle.v_frame_plane.specs.Plane.{table_of};
-ghost use Rattle.v_frame.specs.Walk.{draws_answer, AreDrawnOnce};
+ghost use Rattle.v_frame_plane.specs.Plane.{KeepsBorder, table_of};
+ghost use Rattle.v_frame.specs.Walk.{draws_answer, pixels_written, rows_written, AreDrawnOnce};
 
 use crate::pixel::Pixel;
 use crate::plane::{PixelsMut, Plane, RowsMut};
+use crate::replay::pixel_writes::write_pixels;
+use crate::replay::row_writes::write_rows;
 use crate::replay::walk::{Walk, draw_items};
-use crate::replay::{Drawn, Sequence, Side};
+use crate::replay::{Drawn, PixelDraw, RowDraw, Sequence, Side};
 use std::alloc::{AllocError, Global};
 
 /// Any calls of `next` and `next_back` lend each row of a plane once, from its end. The error is an allocation failure: rows
@@ -36,6 +38,33 @@ pub fn lent_pixels_are_drawn_once<T: Pixel>(
         AreDrawnOnce (row_major (table_of plane.old)) sides.now drawn.items) }
 {
     draw_items(alloc, &mut plane.pixels_mut(), sides)
+}
+
+/// Rows that any calls of `next` and `next_back` lend hold what is written into them, and all else is as before. Where no
+/// call writes a pixel, so is the whole plane.
+pub fn lent_rows_hold_what_is_written<T: Copy>(plane: &mut Plane<T>, draws: &[RowDraw<T>])
+    ensures written { table_of plane.new ≡ rows_written (table_of plane.old) draws.now }
+    ensures border { KeepsBorder plane.old plane.new }
+    ensures kept { All (λ draw. All (λ write. write ≡ None) draw.writes) draws.now
+        → plane.new ≡ plane.old }
+{
+    // The buffer is whole before and after, so the geometry, the table and the border determine it.
+    let _before = plane.data();
+    write_rows(plane, draws);
+    let _after = plane.data();
+}
+
+/// Pixels that any calls of `next` and `next_back` lend hold what is written into them, and all else is as before. Where no
+/// call writes its pixel, so is the whole plane.
+pub fn lent_pixels_hold_what_is_written<T: Copy>(plane: &mut Plane<T>, draws: &[PixelDraw<T>])
+    ensures written { table_of plane.new ≡ pixels_written (table_of plane.old) draws.now }
+    ensures border { KeepsBorder plane.old plane.new }
+    ensures kept { All (λ draw. draw.value ≡ None) draws.now → plane.new ≡ plane.old }
+{
+    // The buffer is whole before and after, so the geometry, the table and the border determine it.
+    let _before = plane.data();
+    write_pixels(plane, draws);
+    let _after = plane.data();
 }
 
 impl<'a, T: Copy> Walk for RowsMut<'a, T> {
