@@ -23,5 +23,5 @@ mod writing;
 pub use counted::{Counted, WriteFault};
 pub use error::PlanarError;
 pub use reading::read_frame;
-pub use video::video_frame;
+pub use video::{ratios_or_one, video_frame};
 pub use writing::write_frame;

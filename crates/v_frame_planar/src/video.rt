@@ -66,7 +66,7 @@ fn luma_frame<T: Pixel>(
     ensures blank { let request = video_request width height subsampling bit_depth padding in
         IfOk result (HasBlankLuma T.ZERO request) }
 {
-    let (columns, rows) = ratios(subsampling);
+    let (columns, rows) = ratios_or_one(subsampling);
     // A padding that is too large to be counted stays too large, and is refused with the row or the buffer.
     let across = padding.div_ceil(columns).saturating_mul(columns);
     let down = padding.div_ceil(rows).saturating_mul(rows);
@@ -99,8 +99,9 @@ fn with_chroma<T: Pixel>(
     })
 }
 
-/// The ratios of a format, 1 and 1 where it has no chroma.
-fn ratios(subsampling: ChromaSubsampling) -> (usize, usize)
+/// Returns how many luma columns and luma rows there are for one chroma column and one chroma row: 1 and 1 where the format
+/// has no chroma. Our own.
+pub fn ratios_or_one(subsampling: ChromaSubsampling) -> (usize, usize)
     ensures value { result ≡ ratio_or_one subsampling }
     ensures positive { (0 < result.0) × (0 < result.1) }
 {

@@ -1,17 +1,40 @@
 //! The program `yuv`: it tells what a stream of frames is, compares two, and copies one.
 #![tactic(auto)]
 
+use std::fs::{self, File};
+use std::io::ErrorKind;
 use std::process::ExitCode;
 use std::{env, io};
-use yuv_commands::{Status, Streams, run};
+use yuv_commands::{Status, Streams, WrongCall, refuse, run};
 
 fn main(rt: HostRuntime) -> ExitCode {
-    let status = run_with_arguments(&rt).unwrap_or(Status::Failed);
+    let status = match run_with_arguments(&rt) {
+        Ok(status) => status,
+        Err(error) if error.kind() == ErrorKind::InvalidData => {
+            refuse(&WrongCall::NotUnicode, &mut rt.stderr())
+        }
+        Err(error) => {
+            let _ = eprintln!(rt; "yuv: {error}");
+            Status::Failed
+        }
+    };
     ExitCode::from(status.code())
+}
+
+/// Opens the null device three times. A new file gets the least number that is free, so after this no file that is opened
+/// gets the number of a standard stream that was closed when the program began.
+fn take_standard_numbers(rt: &HostRuntime) -> io::Result<[File; 3]> {
+    const NULL: &str = "/dev/null";
+    Ok([
+        fs::open(rt, NULL)?,
+        fs::open(rt, NULL)?,
+        fs::open(rt, NULL)?,
+    ])
 }
 
 /// Does what the arguments ask for.
 fn run_with_arguments(rt: &HostRuntime) -> io::Result<Status> {
+    let _held = take_standard_numbers(rt)?;
     let mut given = env::args(rt)?;
     let _program = given.next();
     let mut arguments = Vec::new(rt.alloc());

@@ -14,8 +14,8 @@ use Rattle.yuv_commands.specs.Frames.{FramesDifferFirst}
 use Rattle.yuv_commands.specs.Sums.{added}
 use Rattle.yuv_commands.specs.declared.frames.PixelDifference.{PixelDifference}
 use Rattle.yuv_commands.specs.declared.sums.PlaneSums.{PlaneSums}
-use Rattle.yuv_commands.specs.Comparisons.{errors_between, no_errors, ComparesFrames, IsDifference, Pair, ReadsFrames}
-use Rattle.yuv_commands.specs.Streams.{bytes_with, HasLine, ReadsNext}
+use Rattle.yuv_commands.specs.Comparisons.{errors_between, no_errors, ComparesFrames, IsDifference, Pair}
+use Rattle.yuv_commands.specs.Streams.{bytes_with, CountsFrames, HasLine, ReadsFrames, ReadsNext}
 use Rattle.yuv_commands.specs.declared.compare.Comparison.{Comparison}
 use Rattle.yuv_commands.specs.declared.stream.Container.{Container}
 
@@ -46,6 +46,35 @@ module _ {T : Type 0} (form : PixelForm T) where
         lines = All-push (λ (f : List ℕ × Tables T). HasLine from f.0) before.shown frame before.lines next.1;
         sized = All-push (λ (f : List ℕ × Tables T). sizes_of f.1 ≡ size) before.shown frame before.sized sized;
         read = subst (Consumes left left') joined (Consumes-trans left mid left' _ _ before.read next.2);
+      }
+
+  pub none_counted : (size : Sizes) (from : Container) (left : Option (List ℕ)) → CountsFrames form size from left left 0
+  none_counted size from left = record { tables = []; counted = refl; frames = none_read size from left }
+
+  pub one_more_counted : (size : Sizes) (from : Container) (left mid left' : Option (List ℕ)) (count : ℕ)
+      → CountsFrames form size from left mid count → (tables : Tables T) → sizes_of tables ≡ size
+      → ReadsNext form from mid left' tables true → CountsFrames form size from left left' (count + 1)
+  one_more_counted size from left mid left' count before tables sized next = record {
+    tables = before.tables ++ tables ∷ [];
+    counted = length-append before.tables (tables ∷ []) ∙ ap (λ n. n + 1) before.counted;
+    frames = one_more_read size from left mid left' before.tables before.frames tables sized next;
+  }
+
+  pub no_more_counted : (size : Sizes) (from : Container) (left mid left' : Option (List ℕ)) (count : ℕ)
+      → CountsFrames form size from left mid count → Consumes mid left' [] → CountsFrames form size from left left' count
+  no_more_counted size from left mid left' count before read =
+      let frames = before.frames in
+      record {
+        tables = before.tables;
+        counted = before.counted;
+        frames = record {
+          shown = frames.shown;
+          behind_lines = frames.behind_lines;
+          lines = frames.lines;
+          sized = frames.sized;
+          read = subst (Consumes left left') (append-nil (flat_map (λ (f : List ℕ × Tables T). bytes_with form from f.0 f.1) frames.shown))
+              (Consumes-trans left mid left' _ [] frames.read read);
+        };
       }
 
   -- the first pixel that differs stays the first

@@ -8,17 +8,13 @@ use Rattle.yuv_commands.specs.Frames.{chroma_errors, plane_errors, FramesDifferF
 use Rattle.yuv_commands.specs.Sums.{added}
 use Rattle.yuv_commands.specs.declared.frames.PixelDifference.{PixelDifference}
 use Rattle.yuv_commands.specs.declared.sums.PlaneSums.{PlaneSums}
-use Rattle.yuv_commands.specs.Streams.{bytes_with, HasLine, ReadsNext}
+use Rattle.yuv_commands.specs.Streams.{most_frames, ReadsFrames, ReadsNext}
 use Rattle.yuv_commands.specs.declared.compare.Comparison.{Comparison}
 use Rattle.yuv_commands.specs.declared.compare.Side.{Side}
 use Rattle.yuv_commands.specs.declared.compare.Side.TheVariants.{First, Second}
 use Rattle.yuv_commands.specs.declared.compare.Step.{Step}
 use Rattle.yuv_commands.specs.declared.compare.Step.TheVariants.{Frames, End}
 use Rattle.yuv_commands.specs.declared.stream.Container.{Container}
-
--- the most frames that are counted
-abbrev pub most_frames : ℕ
-most_frames = 2 ^ 64 - 1
 
 -- no error in any plane of frames of this size
 abbrev pub no_errors : Sizes → PlaneSums
@@ -63,16 +59,6 @@ module _ {T : Type 0} (form : PixelForm T) where
   IsDifference pairs None = All (λ pair. pair.0 ≡ pair.1) pairs
   IsDifference pairs (Some found) = DiffersBehind pairs found.0 found.1
 
-  -- Frames of this size were read that show these tables. The bytes are those that a reader had
-  -- left before, and after.
-  pub record ReadsFrames (size : Sizes) (from : Container) (left left' : Option (List ℕ))
-      (tables : List (Tables T)) : Type 0 where
-    pub shown : List (List ℕ × Tables T)
-    pub behind_lines : map (λ frame. frame.1) shown ≡ tables
-    pub lines : All (λ frame. HasLine from frame.0) shown
-    pub sized : All (λ frame. sizes_of frame.1 ≡ size) shown
-    pub read : Consumes left left' (flat_map (λ frame. bytes_with form from frame.0 frame.1) shown)
-
   module _ (one other : Container) (left left' right right' : Option (List ℕ)) where
     -- what a step of both streams read, where their frames now show these
     abbrev pub StepReads : Pair T → Step → Type 0
@@ -89,8 +75,8 @@ module _ {T : Type 0} (form : PixelForm T) where
       pub counted : length pairs ≡ found.frames
       pub errors : found.errors ≡ errors_of_all size pairs
       pub difference : IsDifference pairs found.difference
-      pub first : ReadsFrames size one left left' (map (λ pair. pair.0) pairs)
-      pub second : ReadsFrames size other right right' (map (λ pair. pair.1) pairs)
+      pub first : ReadsFrames form size one left left' (map (λ pair. pair.0) pairs)
+      pub second : ReadsFrames form size other right right' (map (λ pair. pair.1) pairs)
 
   -- The streams were compared as far as both go: behind the frames that both have one of them was
   -- at its end, or both were, and the longer one has had one more frame read. Or there were more

@@ -17,6 +17,8 @@ pub struct Named<'a> {
 pub enum Command<'a> {
     /// To tell how it is called.
     Help,
+    /// To tell its version.
+    Version,
     /// To tell the format of a stream and how many frames it has.
     Info {
         /// The stream.
@@ -52,7 +54,7 @@ impl<'a> Command<'a> {
     /// Whether the count of frames is shown meanwhile.
     pub fn shows_progress(&self) -> bool {
         match self {
-            Command::Help => false,
+            Command::Help | Command::Version => false,
             Command::Info { progress, .. }
             | Command::Compare { progress, .. }
             | Command::Copy { progress, .. } => *progress,
@@ -92,6 +94,8 @@ pub enum WrongCall<'a> {
     NotARectangle(&'a str),
     /// A size and a format stand in front of no file that is read.
     UnusedFormat(&'a str),
+    /// An argument is not UTF-8, so that no word of it is known.
+    NotUnicode,
 }
 
 impl<'a> WrongCall<'a> {
@@ -107,6 +111,7 @@ impl<'a> WrongCall<'a> {
             WrongCall::MissingRectangle => ("--crop lacks X,Y,W,H", ""),
             WrongCall::NotARectangle(word) => ("--crop takes X,Y,W,H, not ", *word),
             WrongCall::UnusedFormat(format) => ("no file to read follows --raw ", *format),
+            WrongCall::NotUnicode => ("an argument is not UTF-8", ""),
         }
     }
 }
@@ -139,7 +144,8 @@ pub fn read_command<'a>(words: &[&'a str]) -> Result<Command<'a>, WrongCall<'a>>
         return Err(WrongCall::NoCommand);
     };
     let kind = match *name {
-        "help" => return Ok(Command::Help),
+        "help" | "--help" | "-h" => return Ok(Command::Help),
+        "--version" => return Ok(Command::Version),
         "info" => Kind::Info,
         "compare" => Kind::Compare,
         "copy" => Kind::Copy,

@@ -4,7 +4,8 @@ ghost use Rattle.v_frame.specs.Prelude.{table_of, tables_of};
 ghost use Rattle.v_frame_planar.specs.Planar.{sizes_of};
 ghost use Rattle.yuv_commands.specs.Frames.{FramesDifferFirst};
 ghost use Rattle.yuv_commands.specs.Sums.{added};
-ghost use Rattle.yuv_commands.specs.Comparisons.{most_frames, no_errors, Compares, StepReads};
+ghost use Rattle.yuv_commands.specs.Comparisons.{no_errors, Compares, StepReads};
+ghost use Rattle.yuv_commands.specs.Streams.{most_frames};
 
 use crate::fault::{Fault, Problem};
 use crate::frames::{PixelDifference, first_difference_of_frames, squared_errors_of_frames};

@@ -1,12 +1,12 @@
 //! Streams that are written once more, frame by frame, as they are or changed.
-ghost use Rattle.std.specs.Prelude.{◌≡◌, IfErr, IfOk, OnErr, OnOk};
-ghost use Rattle.std.specs.Io.KnownBytes.{Appends};
+ghost use Rattle.std.specs.Prelude.{◌≡◌, ◌⊎◌, IfErr, IfOk, OnErr, OnOk};
+ghost use Rattle.std.specs.Io.KnownBytes.{Appends, IsAtEnd};
 ghost use Rattle.v_frame.specs.Prelude.{tables_of};
 ghost use Rattle.v_frame_planar.specs.Counted.{AppendsBeginning};
 ghost use Rattle.v_frame_planar.specs.Planar.{sizes_of};
 ghost use Rattle.yuv_commands.specs.Edits.{edited, EditFits};
 ghost use Rattle.yuv_commands.specs.Copies.{IsReadFault, IsWriteFault, StopsCopy};
-ghost use Rattle.yuv_commands.specs.Streams.{frame_bytes, Carries, ReadsNext};
+ghost use Rattle.yuv_commands.specs.Streams.{frame_bytes, most_frames, Carries, ReadsNext};
 
 use crate::edit::{Edit, edit_frame};
 use crate::progress::Progress;
@@ -43,6 +43,8 @@ pub fn copy_frames<T: Pixel, R: io::Read, W: io::Write, E: io::Write>(
         input.old.container output.old.container (λ tables. tables)
         (R.remaining input.old.reader.inner) (R.remaining input.new.reader.inner)
         (W.contents output.old.writer.inner) (W.contents output.new.writer.inner)) }
+    ensures ended { IfOk result (λ count. (count ≡ most_frames)
+        ⊎ IsAtEnd (R.remaining input.new.reader.inner)) }
     ensures stopped { IfErr result (StopsCopy T.form (sizes_of (tables_of input.old.frame))
         input.old.container output.old.container (λ tables. tables)
         (R.remaining input.old.reader.inner)
@@ -79,6 +81,8 @@ pub fn edit_frames<T: Pixel, R: io::Read, W: io::Write, E: io::Write>(
         input.old.container output.old.container (edited T.form edit.now)
         (R.remaining input.old.reader.inner) (R.remaining input.new.reader.inner)
         (W.contents output.old.writer.inner) (W.contents output.new.writer.inner)) }
+    ensures ended { IfOk result (λ count. (count ≡ most_frames)
+        ⊎ IsAtEnd (R.remaining input.new.reader.inner)) }
     ensures stopped { IfErr result (StopsCopy T.form (sizes_of (tables_of input.old.frame))
         input.old.container output.old.container (edited T.form edit.now)
         (R.remaining input.old.reader.inner)

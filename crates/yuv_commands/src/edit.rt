@@ -1,7 +1,8 @@
 //! Frames made of others: a rectangle of each, as large as it is or at half the size.
-ghost use Rattle.std.specs.Prelude.{◌≡◌, ◌+◌, ◌*◌, ◌%◌, ◌<◌, ◌≤◌, ◌↔◌, IfOk, IfErr, IsTrue, option_map, unwrap_or};
-ghost use Rattle.v_frame.specs.Prelude.{KeepsBorder, KeepsBorders, ratio_of, rectangle, table_of, tables_of, unshown};
+ghost use Rattle.std.specs.Prelude.{◌≡◌, ◌+◌, ◌*◌, ◌%◌, ◌<◌, ◌≤◌, ◌↔◌, IfOk, IfErr, IsTrue, option_map};
+ghost use Rattle.v_frame.specs.Prelude.{KeepsBorder, KeepsBorders, rectangle, table_of, tables_of, unshown};
 ghost use Rattle.v_frame_planar.specs.Planar.{size_of, sizes_of};
+ghost use Rattle.v_frame_planar.specs.Video.{ratio_or_one};
 ghost use Rattle.yuv_commands.specs.Edits.{beside, edited, edited_table, halved_table, ChromaFits, EditFits, PlaneFits};
 
 use thiserror::Error;
@@ -11,6 +12,7 @@ use v_frame::pixel::Pixel;
 use v_frame::plane::{Plane, PlaneRef};
 use v_frame_ops::laws::{rectangles_hold_pixels, tables_agree_by_pixels};
 use v_frame_ops::{copy_region, downscale};
+use v_frame_planar::ratios_or_one;
 
 /// A rectangle of pixels. Our own.
 #[derive(Clone, Copy)]
@@ -69,19 +71,19 @@ impl Edit {
         subsampling: ChromaSubsampling,
         half: bool,
     ) -> Result<Self, Misaligned>
-        ensures ok { let ratio = unwrap_or (ratio_of subsampling) (1, 1) in
+        ensures ok { let ratio = ratio_or_one subsampling in
             IfOk result (λ edit. edit ≡ record {
               luma = luma;
               chroma = beside ratio luma;
               half = half;
             }) }
-        ensures aligned { let ratio = unwrap_or (ratio_of subsampling) (1, 1) in
+        ensures aligned { let ratio = ratio_or_one subsampling in
             IfOk result (λ edit. (luma.x % ratio.0 ≡ 0) × (luma.y % ratio.1 ≡ 0)) }
-        ensures misaligned { let ratio = unwrap_or (ratio_of subsampling) (1, 1) in
+        ensures misaligned { let ratio = ratio_or_one subsampling in
             IfErr result (λ refused. (refused.columns ≡ ratio.0) × (refused.rows ≡ ratio.1)
             × ¬ ((luma.x % ratio.0 ≡ 0) × (luma.y % ratio.1 ≡ 0))) }
     {
-        let (columns, rows) = ratios(subsampling);
+        let (columns, rows) = ratios_or_one(subsampling);
         if luma.x % columns != 0 || luma.y % rows != 0 {
             return Err(Misaligned { columns, rows });
         }
@@ -92,19 +94,6 @@ impl Edit {
             height: luma.height.div_ceil(rows),
         };
         Ok(Edit { luma, chroma, half })
-    }
-}
-
-/// How many luma columns and rows stand beside one chroma column and one chroma row, one where there is no chroma.
-fn ratios(subsampling: ChromaSubsampling) -> (usize, usize)
-    ensures value { result ≡ unwrap_or (ratio_of subsampling) (1, 1) }
-    ensures positive { (0 < result.0) × (0 < result.1) }
-{
-    match subsampling {
-        ChromaSubsampling::Yuv420 => (2, 2),
-        ChromaSubsampling::Yuv422 => (2, 1),
-        ChromaSubsampling::Yuv411 => (4, 1),
-        ChromaSubsampling::Yuv444 | ChromaSubsampling::Monochrome => (1, 1),
     }
 }
 

@@ -91,8 +91,8 @@ pub enum Problem {
     Create(io::ErrorKind),
     /// Standard input is read already.
     InputTwice,
-    /// The file that should be written is the one that is read.
-    OneFile,
+    /// What was written was not put in its place.
+    Replace(io::ErrorKind),
     /// What stands behind `--raw` is no size and format.
     Format(HeaderError),
     /// The header was not read or not written.
@@ -124,7 +124,7 @@ impl fmt::Display for Problem {
             Problem::Open(_) => "cannot open: ",
             Problem::Create(_) => "cannot create: ",
             Problem::InputTwice => "standard input can be read only once",
-            Problem::OneFile => "this file is read, and cannot be written at once",
+            Problem::Replace(_) => "cannot replace: ",
             Problem::Format(_) => "the size and the format behind --raw, as 1920x1080:420p10: ",
             Problem::Unwritable => "no header line can say this size or these extensions",
             Problem::TooLarge => "the frames are too large",
@@ -137,7 +137,9 @@ impl fmt::Display for Problem {
             _ => "",
         })?;
         match self {
-            Problem::Open(kind) | Problem::Create(kind) => fmt::Display::fmt(kind, f),
+            Problem::Open(kind) | Problem::Create(kind) | Problem::Replace(kind) => {
+                fmt::Display::fmt(kind, f)
+            }
             Problem::Format(error) => fmt::Display::fmt(error, f),
             Problem::Header(fault) => fmt::Display::fmt(fault, f),
             Problem::Frame(fault) => fmt::Display::fmt(fault, f),

@@ -1,4 +1,9 @@
 //! What a stream is: its format, and how many frames it has.
+ghost use Rattle.std.specs.Prelude.{ℕ, ◌≡◌, ◌⊎◌, IfErr, IfOk, List, Option};
+ghost use Rattle.std.specs.Io.KnownBytes.{IsAtEnd};
+ghost use Rattle.v_frame.specs.Prelude.{tables_of};
+ghost use Rattle.v_frame_planar.specs.Planar.{sizes_of};
+ghost use Rattle.yuv_commands.specs.Streams.{most_frames, CountsFrames};
 
 use crate::progress::Progress;
 use crate::stream::{Input, StreamFault};
@@ -19,13 +24,21 @@ pub fn count_frames<T: Pixel, R: io::Read, E: io::Write>(
     alloc: Global,
     input: &mut Input<T, R>,
     progress: &mut Progress<E>,
-) -> Result<u64, StreamFault> {
+) -> Result<u64, StreamFault>
+    ensures counted { IfOk result (CountsFrames T.form (sizes_of (tables_of input.old.frame))
+        input.old.container (R.remaining input.old.reader.inner)
+        (R.remaining input.new.reader.inner)) }
+    ensures ended { IfOk result (λ count. (count ≡ most_frames)
+        ⊎ IsAtEnd (R.remaining input.new.reader.inner)) }
+    ensures stopped { IfErr result (λ fault. (mid : Option (List ℕ))
+        × CountsFrames T.form (sizes_of (tables_of input.old.frame)) input.old.container
+        (R.remaining input.old.reader.inner) mid fault.before) }
+{
     for count in 0..u64::MAX {
-        match input.advance(alloc, count) {
-            Ok(true) => progress.show(count + 1),
-            Ok(false) => return Ok(count),
-            Err(fault) => return Err(fault),
+        if !input.advance(alloc, count)? {
+            return Ok(count);
         }
+        progress.show(count + 1);
     }
     Ok(u64::MAX)
 }

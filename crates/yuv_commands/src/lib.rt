@@ -18,6 +18,7 @@ mod report;
 mod source;
 mod stream;
 mod sums;
+mod target;
 
 pub use arguments::{Command, Named, Wanted, WrongCall, read_command};
 pub use compare::{Comparison, Side, compare_streams};
@@ -30,9 +31,10 @@ pub use frames::{
 };
 pub use header::header_of;
 pub use info::{count_frames, info_text};
-pub use program::{Status, Streams, run};
+pub use program::{Status, Streams, VERSION, refuse, run};
 pub use progress::Progress;
 pub use quality::{mean_squared_error, peak_signal_to_noise};
 pub use report::{FrameLines, Scale, comparison_text};
 pub use stream::{Container, Input, Output, StreamFault};
 pub use sums::{PlaneSums, pixel_counts};
+pub use target::TargetFile;

@@ -6,14 +6,19 @@ use crate::arguments::{Command, WrongCall, read_command};
 use crate::commands::{do_compare, do_copy, do_info};
 use crate::fault::{Fault, Place, Problem};
 use crate::progress::Progress;
+use crate::report::write_text;
 use std::io;
 use std::rt::Files;
+use v_frame_planar::Counted;
+
+/// What `yuv --version` prints.
+pub const VERSION: &str = "yuv 0.3.0\n";
 
 /// How the program is called.
 const USAGE: &str = "usage: yuv info FILE [--progress]
        yuv compare FILE FILE [--frames] [--progress]
        yuv copy FILE FILE [--crop X,Y,W,H] [--half] [--raw] [--progress]
-       yuv help
+       yuv help, yuv --help, yuv -h, yuv --version
 
 A file is a YUV4MPEG2 stream, and - is standard input or output. Headerless raw
 video is read behind --raw WIDTHxHEIGHT:FORMAT, as --raw 1920x1080:420p10 FILE,
@@ -24,7 +29,10 @@ info       tells what a stream is, and how many frames it has
 compare    tells how far two streams of one format are apart, with --frames for
            each frame. Status 0: they show the same, 1: they differ
 copy       writes the frames of the first file to the second, a part of each
-           with --crop, and at half the size with --half
+           with --crop, and at half the size with --half. The frames go to a
+           new file beside the second one, FILE.partial, which replaces it after
+           the last frame. So the second file is whole or as it was, and may be
+           the one that is read. A device or a pipe is written as it is
 
 Status 2: something failed. Frames are counted from 1, columns and rows from 0.
 ";
@@ -90,8 +98,8 @@ where
     }
 }
 
-/// Tells what is wrong with the arguments, and how the program is called.
-fn refuse<E: io::Write>(wrong: &WrongCall<'_>, error: &mut E) -> Status {
+/// Reports what is wrong with the arguments, and how the program is called. Our own.
+pub fn refuse<E: io::Write>(wrong: &WrongCall<'_>, error: &mut E) -> Status {
     let _ = write!(error, "yuv: {wrong}\n{USAGE}");
     Status::Failed
 }
@@ -142,7 +150,8 @@ where
     E: io::Write,
 {
     match command {
-        Command::Help => Ok(tell_usage(output)),
+        Command::Help => print(output, USAGE),
+        Command::Version => print(output, VERSION),
         Command::Info { file, .. } => do_info(rt, file, standard, output, progress),
         Command::Compare {
             first,
@@ -159,10 +168,12 @@ where
     }
 }
 
-/// Tells how the program is called.
-fn tell_usage<O: io::Write>(output: &mut O) -> Status {
-    let _ = output.write_all(USAGE.as_bytes());
-    Status::Failed
+/// Writes a text to standard output.
+fn print<O: io::Write>(output: &mut O, text: &str) -> Result<Status, Fault> {
+    match write_text(&mut Counted::new(output), text) {
+        Ok(()) => Ok(Status::Same),
+        Err(fault) => Err(fault),
+    }
 }
 
 /// The name of what a command was working on.

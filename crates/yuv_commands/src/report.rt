@@ -1,4 +1,7 @@
 //! What is told of streams, as text for people.
+ghost use Rattle.std.specs.Prelude.{OnErr, OnOk};
+ghost use Rattle.std.specs.Io.KnownBytes.{Appends};
+ghost use Rattle.v_frame_planar.specs.Counted.{AppendsBeginning};
 
 use crate::compare::{Comparison, Side};
 use crate::fault::{Caused, Fault, Problem};
@@ -44,7 +47,12 @@ impl<W: io::Write> FrameLines<W> {
 }
 
 /// Writes a text.
-pub fn write_text<W: io::Write>(out: &mut Counted<W>, text: &str) -> Result<(), Fault> {
+pub fn write_text<W: io::Write>(out: &mut Counted<W>, text: &str) -> Result<(), Fault>
+    ensures ok { OnOk result (Appends (W.contents out.old.inner) (W.contents out.new.inner)
+        text.now) }
+    ensures beginning { OnErr result (AppendsBeginning (W.contents out.old.inner)
+        (W.contents out.new.inner) text.now) }
+{
     match out.write_all(text.as_bytes()) {
         Ok(()) => Ok(()),
         Err(fault) => {

@@ -1,8 +1,10 @@
 //! The command `copy`.
-ghost use Rattle.std.specs.Prelude.{IfOk, IfSome};
+ghost use Rattle.std.specs.Prelude.{◌≡◌, IfOk, IfSome, OnOk};
+ghost use Rattle.std.specs.Io.KnownBytes.{Appends};
 ghost use Rattle.v_frame.specs.Prelude.{tables_of};
 ghost use Rattle.v_frame_planar.specs.Planar.{sizes_of};
 ghost use Rattle.yuv_commands.specs.Edits.{EditFits};
+ghost use Rattle.yuv_commands.specs.Streams.{header_bytes};
 
 use super::{Opened, open};
 use crate::arguments::{Named, Wanted};
@@ -12,9 +14,10 @@ use crate::fault::{Caused, Fault, Problem};
 use crate::program::Status;
 use crate::progress::Progress;
 use crate::stream::{Container, Input, Output};
+use crate::target::TargetFile;
 use std::alloc::Global;
+use std::io;
 use std::rt::Files;
-use std::{fs, io};
 use v_frame::frame::Frame;
 use v_frame::pixel::Pixel;
 use v_frame_planar::Counted;
@@ -35,9 +38,6 @@ where
     O: io::Write,
     E: io::Write,
 {
-    if from.name == to && to != "-" {
-        return Err(Fault::second(Problem::OneFile));
-    }
     let target = Target {
         rt,
         name: to,
@@ -150,9 +150,30 @@ where
     if target.name == "-" {
         return copy_to(alloc, header, input, made, output, is_raw, progress);
     }
-    match fs::create(target.rt, target.name) {
-        Ok(file) => copy_to(alloc, header, input, made, file, is_raw, progress),
+    match TargetFile::create(target.rt, target.name) {
+        Ok(mut to) => {
+            let done = copy_to(alloc, header, input, made, &mut to.file, is_raw, progress);
+            settle(target.rt, to, done)
+        }
         Err(error) => Err(Fault::second(Problem::Create(error.kind()))),
+    }
+}
+
+/// Puts a file in the place of its target where all of it was written, and else removes it.
+fn settle<H: Files>(
+    rt: &H,
+    to: TargetFile<H::File>,
+    done: Result<Status, Fault>,
+) -> Result<Status, Fault> {
+    match done {
+        Ok(status) => match to.keep(rt) {
+            Ok(()) => Ok(status),
+            Err(error) => Err(Fault::second(Problem::Replace(error.kind()))),
+        },
+        Err(fault) => {
+            to.discard(rt);
+            Err(fault)
+        }
     }
 }
 
@@ -196,7 +217,11 @@ fn put_header<W: io::Write>(
     alloc: Global,
     output: &mut Output<W>,
     header: &StreamHeader,
-) -> Result<(), Problem> {
+) -> Result<(), Problem>
+    ensures ok { OnOk result (Appends (W.contents output.old.writer.inner)
+        (W.contents output.new.writer.inner) (header_bytes output.old.container header.now)) }
+    ensures container { output.new.container ≡ output.old.container }
+{
     match output.container {
         Container::Raw => return Ok(()),
         Container::Y4m if header.is_writable() => {}

@@ -5,7 +5,8 @@ use Rattle.v_frame.specs.Prelude.{tables_of}
 use Rattle.v_frame_planar.specs.Planar.{sizes_of}
 use Rattle.yuv_commands.specs.Sums.{added}
 use Rattle.yuv_commands.specs.declared.sums.PlaneSums.{PlaneSums}
-use Rattle.yuv_commands.specs.Comparisons.{most_frames, ComparesFrames, Pair, StepReads}
+use Rattle.yuv_commands.specs.Comparisons.{ComparesFrames, Pair, StepReads}
+use Rattle.yuv_commands.specs.Streams.{most_frames}
 use Rattle.yuv_commands.specs.declared.compare.Comparison.{Comparison}
 use Rattle.yuv_commands.specs.declared.compare.Step.TheVariants.{Frames, End}
 use Rattle.yuv_commands.specs.declared.stream.Container.{Container}
