@@ -1,12 +1,12 @@
 -- A writer that gave up inside a block has a beginning of all bytes, and a reader is as it was where there was no room.
-use Rattle.std.proofs.Common.{ℕ, ◌≡◌, ◌+◌, min, ◌<◌, ◌≤◌, ◌≢◌, ◌⊎◌, ⊎_elim, Bool, true, false, List, ◌++◌, length, take, take_all, Option}
+use Rattle.std.proofs.Common.{ℕ, ◌≡◌, ◌+◌, ◌<◌, ◌≤◌, ◌≢◌, ◌⊎◌, ⊎_elim, Bool, true, false, List, ◌++◌, length, take, take_all, Option}
 use Rattle.std.proofs.Common.{Result, Ok, Err, IfErr, IsErrAnd, refl, ◌∙◌, arith, length-append, length-take-le}
 use Rattle.std.specs.Prelude.{IfOk, MatchBool}
 use Rattle.std.proofs.lemmas.List.{take-append-le}
 use Rattle.std.proofs.Math.Seq.{take-append-add}
 use Rattle.std.specs.Io.KnownBytes.{Appends, Consumes, IsAtEnd}
 use Rattle.std.proofs.KnownBytes.{Appends-trans}
-use Rattle.v_frame_planar.specs.Counted.{u64_max, Watched, HasFailed, AppendsBeginning, StopsWriting}
+use Rattle.v_frame_planar.specs.Counted.{Watched, AppendsBeginning, StopsWriting}
 use Rattle.v_frame.specs.Prelude.{isize_max}
 use Rattle.v_frame_planar.specs.Planar.{error_of, MayStopReading, MayStopWriting, Reads}
 use Rattle.v_frame_planar.specs.declared.counted.WriteFault.{WriteFault}
@@ -32,10 +32,10 @@ module _ (front part rest : List ℕ) where
 
 -- where there was no room for so many bytes, nothing was read
 pub no_room : {R : Type 0} (remaining : R → Option (List ℕ)) (reader : Watched R) (n : ℕ) (result : Result Bool PlanarError) (error : PlanarError)
-    → IsErrAnd result (λ given. given ≡ error) → (error ≡ OutOfMemory) ⊎ ((error ≡ TooLarge) × (isize_max < n))
+    → IsErrAnd result (λ given. given ≡ error) → ((error ≡ OutOfMemory) × (n ≤ isize_max)) ⊎ ((error ≡ TooLarge) × (isize_max < n))
     → IfErr result (MayStopReading remaining reader reader n)
 no_room remaining reader n (Ok more) error is why = tt
-no_room remaining reader n (Err given) error is why = rw is (⊎_elim (λ refused. rw refused) (λ large. rw large.0 (large.1, refl)) why)
+no_room remaining reader n (Err given) error is why = rw is (⊎_elim (λ refused. rw refused.0 (refused.1, refl)) (λ large. rw large.0 (large.1, refl)) why)
 
 -- a reader that gave the first bytes of a buffer, and where it gave not all, stands at its end
 module _ {R : Type 0} (remaining : R → Option (List ℕ)) (old new : Watched R) (bytes : List ℕ) (found : ℕ)
@@ -57,7 +57,3 @@ module _ {R : Type 0} (remaining : R → Option (List ℕ)) (old new : Watched R
   was_truncated n (Err error) size within kept stopped =
       let less : found < length bytes = omega (arith, stopped) in
       rw stopped.0 (size, omega (arith, stopped), omega arith, (take found bytes, got, length-take-le found bytes within), end less, kept)
-
--- one failure more is counted, or the count stays
-pub failed_once : (old new : ℕ) → new ≡ min (old + 1) u64_max → HasFailed old new
-failed_once old new is = grind arith

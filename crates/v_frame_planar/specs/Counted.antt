@@ -1,6 +1,6 @@
 -- A reader or a writer whose failures are counted, with the kind of the last one, and what is left
 -- of a writer that gave up.
-use Rattle.std.specs.Prelude.{ℕ, ◌≡◌, ◌-◌, ◌^◌, ◌<◌, ◌⊎◌, List, length, take, Option, IsSome}
+use Rattle.std.specs.Prelude.{ℕ, ◌≡◌, ◌+◌, ◌-◌, ◌^◌, ◌<◌, min, List, length, take, Option, IsSome}
 use Rattle.std.specs.Io.KnownBytes.{Appends}
 use Rattle.std.specs.declared.io.ErrorKind.{ErrorKind}
 use Rattle.v_frame_planar.specs.declared.counted.WriteFault.{WriteFault}
@@ -15,9 +15,9 @@ pub record Watched (D : Type 0) : Type 0 where
 abbrev pub u64_max : ℕ
 u64_max = 2 ^ 64 - 1
 
--- between the two counts something failed, as far as a count can tell
+-- between the two counts one call failed, which a count that is at its end can't show
 abbrev pub HasFailed : ℕ → ℕ → Type 0
-HasFailed old new = (old < new) ⊎ (new ≡ u64_max)
+HasFailed old new = new ≡ min (old + 1) u64_max
 
 -- a beginning of the bytes, and not all of them, was appended to known ones
 abbrev pub AppendsBeginning : Option (List ℕ) → Option (List ℕ) → List ℕ → Type 0

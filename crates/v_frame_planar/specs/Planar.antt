@@ -1,5 +1,5 @@
 -- The planar bytes of a frame, and what a call that reads or writes them leaves.
-use Rattle.std.specs.Prelude.{ℕ, ◌≡◌, ◌+◌, ◌*◌, ◌<◌, ◌++◌, Bool, true, false, List, [], length, Option, Some, None, IsSome, option_map}
+use Rattle.std.specs.Prelude.{ℕ, ◌≡◌, ◌+◌, ◌*◌, ◌<◌, ◌≤◌, ◌++◌, Bool, true, false, List, [], length, Option, Some, None, IsSome, option_map}
 use Rattle.std.specs.Io.KnownBytes.{Consumes, IsAtEnd}
 use Rattle.std.specs.declared.io.ErrorKind.{ErrorKind}
 use Rattle.v_frame.specs.Prelude.{PixelForm, byte_list, Table, width_of, height_of, row_major, Tables, isize_max}
@@ -67,7 +67,7 @@ module _ {R : Type 0} (remaining : R → Option (List ℕ)) (old new : Watched R
       × ConsumesSome (remaining old.inner) (remaining new.inner) found
       × IsAtEnd (remaining new.inner) × (new.failures ≡ old.failures)
   MayStopReading n TooLarge = (isize_max < n) × (new ≡ old)
-  MayStopReading n OutOfMemory = new ≡ old
+  MayStopReading n OutOfMemory = (n ≤ isize_max) × (new ≡ old)
   MayStopReading n Read =
       ((count : ℕ) × (count < n) × ConsumesSome (remaining old.inner) (remaining new.inner) count)
       × HasFailed old.failures new.failures

@@ -1,9 +1,9 @@
 //! Readers and writers whose failures are counted, with the kind of the last one.
-ghost use Rattle.std.specs.Prelude.{◌≡◌, ◌+◌, min, None, Some, IfErr, MatchResult, OnOk, OnErr};
+ghost use Rattle.std.specs.Prelude.{◌≡◌, None, Some, [], IfErr, MatchResult, OnOk, OnErr};
 ghost use Rattle.std.specs.Io.KnownBytes.{Appends, Keeps, ReadConsumes, WriteAppends};
 ghost use Rattle.std.specs.Io.{ReadsAtMost, WritesAtMost};
 ghost use Rattle.std.specs.IoError.{error_kind};
-ghost use Rattle.v_frame_planar.specs.Counted.{u64_max, StopsWriting, TellsWriteCause};
+ghost use Rattle.v_frame_planar.specs.Counted.{HasFailed, StopsWriting, TellsWriteCause};
 
 use std::io;
 use std::marker::Model;
@@ -81,7 +81,7 @@ impl<D> Counted<D> {
     fn note<T>(&mut self, answer: &io::Result<T>)
         ensures inner { self.new.inner ≡ self.old.inner }
         ensures failures { MatchResult answer.now (λ _. self.new.failures ≡ self.old.failures)
-            (λ _. self.new.failures ≡ min (self.old.failures + 1) u64_max) }
+            (λ _. HasFailed self.old.failures self.new.failures) }
         ensures told { MatchResult answer.now
             (λ _. self.new.last_failure ≡ self.old.last_failure)
             (λ error. self.new.last_failure ≡ Some (error_kind error)) }
@@ -100,7 +100,7 @@ impl<D: io::Read> Counted<D> {
         ensures bytes { ReadConsumes (D.remaining self.old.inner) (D.remaining self.new.inner)
             result buf.new }
         ensures ok { OnOk result (self.new.failures ≡ self.old.failures) }
-        ensures err { OnErr result (self.new.failures ≡ min (self.old.failures + 1) u64_max) }
+        ensures err { OnErr result (HasFailed self.old.failures self.new.failures) }
         ensures told { MatchResult result (λ _. self.new.last_failure ≡ self.old.last_failure)
             (λ error. self.new.last_failure ≡ Some (error_kind error)) }
     {
@@ -117,7 +117,7 @@ impl<D: io::Write> Counted<D> {
         ensures bytes { WriteAppends (D.contents self.old.inner) (D.contents self.new.inner)
             result buf.now }
         ensures ok { OnOk result (self.new.failures ≡ self.old.failures) }
-        ensures err { OnErr result (self.new.failures ≡ min (self.old.failures + 1) u64_max) }
+        ensures err { OnErr result (HasFailed self.old.failures self.new.failures) }
         ensures told { MatchResult result (λ _. self.new.last_failure ≡ self.old.last_failure)
             (λ error. self.new.last_failure ≡ Some (error_kind error)) }
     {
@@ -130,7 +130,7 @@ impl<D: io::Write> Counted<D> {
     pub fn flush(&mut self) -> io::Result<()>
         ensures bytes { Keeps (D.contents self.old.inner) (D.contents self.new.inner) }
         ensures ok { OnOk result (self.new.failures ≡ self.old.failures) }
-        ensures err { OnErr result (self.new.failures ≡ min (self.old.failures + 1) u64_max) }
+        ensures err { OnErr result (HasFailed self.old.failures self.new.failures) }
         ensures told { MatchResult result (λ _. self.new.last_failure ≡ self.old.last_failure)
             (λ error. self.new.last_failure ≡ Some (error_kind error)) }
     {
@@ -149,6 +149,7 @@ impl<D: io::Write> Counted<D> {
     pub fn write_all(&mut self, bytes: &[u8]) -> Result<(), WriteFault>
         ensures ok { OnOk result (Appends (D.contents self.old.inner) (D.contents self.new.inner)
             bytes.now) }
+        ensures nothing { bytes.now ≡ [] → self.new ≡ self.old }
         ensures uncounted { OnOk result (self.new.failures ≡ self.old.failures) }
         ensures fault { IfErr result (StopsWriting D.contents self.old self.new bytes.now) }
         ensures cause { MatchResult result (λ _. self.new.last_failure ≡ self.old.last_failure)

@@ -85,9 +85,9 @@ fn room_for<T: Pixel>(alloc: Global, frame: &Frame<T>) -> Result<Vec<u8>, Planar
         length bytes.items ≡ length (planar_bytes T.form (tables_of frame.now))) }
     ensures too_large { isize_max < length (planar_bytes T.form (tables_of frame.now))
         → result ≡ Err PlanarError.TooLarge }
-    ensures error { IfErr result (λ error. (error ≡ PlanarError.OutOfMemory)
-        ⊎ ((error ≡ PlanarError.TooLarge)
-        × (isize_max < length (planar_bytes T.form (tables_of frame.now))))) }
+    ensures error { let count = length (planar_bytes T.form (tables_of frame.now)) in
+        IfErr result (λ error. ((error ≡ PlanarError.OutOfMemory) × (count ≤ isize_max))
+        ⊎ ((error ≡ PlanarError.TooLarge) × (isize_max < count))) }
 {
     let count = planar_len(frame);
     if count > isize::MAX as usize {

@@ -2,9 +2,10 @@
 -- the reader or the writer.
 use Rattle.std.specs.Prelude.{ℕ, ◌≡◌, ◌≢◌, ◌+◌, ◌<◌, ◌≤◌, ◌⊎◌, All, List, [], ◌∷◌, ◌++◌, Bool, true, false, codes, length, Option}
 use Rattle.std.specs.Io.KnownBytes.{Consumes, IsAtEnd}
+use Rattle.std.specs.declared.io.ErrorKind.{ErrorKind}
 use Rattle.v_frame.specs.Prelude.{isize_max}
 use Rattle.v_frame_planar.specs.Counted.{Watched, HasFailed, StopsWriting}
-use Rattle.v_frame_planar.specs.Planar.{MayStopReading}
+use Rattle.v_frame_planar.specs.Planar.{MayStopReading, TellsCause}
 use Rattle.v_frame_planar.specs.declared.error.PlanarError.{PlanarError}
 use Rattle.v_frame_planar.specs.declared.error.PlanarError.TheVariants.{Truncated, TooLarge, Read, Write, WriteZero, OutOfMemory}
 use Rattle.v_frame_planar.specs.declared.counted.WriteFault.TheVariants.{Failed, TookNothing}
@@ -58,7 +59,8 @@ module _ {R : Type 0} (remaining : R → Option (List ℕ)) (old new : Watched R
   -- the error may come where a header is due
   abbrev pub MayStopInHeader : Y4mError → Type 0
   MayStopInHeader (Header error) =
-      (line : List ℕ) × IsRefusedFor line error × IsLine line × Took (line ++ 10 ∷ [])
+      ((line : List ℕ) × IsRefusedFor line error × IsLine line × Took (line ++ 10 ∷ []))
+      × (new.failures ≡ old.failures)
   MayStopInHeader LineTooLong = MayStopInLine longest LineTooLong
   MayStopInHeader UnfinishedLine =
       ((bytes : List ℕ) × Took bytes × IsLine bytes × (length bytes ≤ longest))
@@ -97,7 +99,8 @@ module _ {R : Type 0} (remaining : R → Option (List ℕ)) (old new : Watched R
       × IsAtEnd (remaining new.inner) × (new.failures ≡ old.failures)
   MayStopInFrame n (Planar TooLarge) =
       (isize_max < n) × TookOfFrame 0 × (new.failures ≡ old.failures)
-  MayStopInFrame n (Planar OutOfMemory) = TookOfFrame 0 × (new.failures ≡ old.failures)
+  MayStopInFrame n (Planar OutOfMemory) =
+      (n ≤ isize_max) × TookOfFrame 0 × (new.failures ≡ old.failures)
   MayStopInFrame n (Planar Read) =
       (MayStopInLine longest (Planar Read))
       ⊎ (((count : ℕ) × (count < n) × TookOfFrame count) × HasFailed old.failures new.failures)
@@ -117,3 +120,12 @@ module _ {W : Type 0} (contents : W → Option (List ℕ)) (old new : Watched W)
   MayStopWritingLine (Planar Read) = ⊥
   MayStopWritingLine (Planar Write) = StopsWriting contents old new bytes Failed
   MayStopWritingLine (Planar WriteZero) = StopsWriting contents old new bytes TookNothing
+
+-- where a read or a write failed, the kind of its error is there, and else the last failure is as
+-- before
+abbrev pub TellsStreamCause : Option ErrorKind → Option ErrorKind → Y4mError → Type 0
+TellsStreamCause old new (Header error) = new ≡ old
+TellsStreamCause old new LineTooLong = new ≡ old
+TellsStreamCause old new UnfinishedLine = new ≡ old
+TellsStreamCause old new NoFrame = new ≡ old
+TellsStreamCause old new (Planar error) = TellsCause old new error

@@ -1,7 +1,7 @@
 //! Lines of a stream, read byte by byte, so that nothing behind them is taken.
-ghost use Rattle.std.specs.Prelude.{◌≡◌, ◌≢◌, ◌≤◌, ◌++◌, ◌∷◌, [], length, take, All, IfOk, IfErr, IfSome, OnOk, MatchOption};
+ghost use Rattle.std.specs.Prelude.{◌≡◌, ◌≢◌, ◌≤◌, ◌++◌, ◌∷◌, [], length, take, All, IfOk, IfErr, IfSome, OnOk, MatchOption, MatchResult};
 ghost use Rattle.std.specs.Io.KnownBytes.{Consumes, IsAtEnd};
-ghost use Rattle.v_frame_y4m.specs.Streams.{MayStopInLine, StopsReadingByte};
+ghost use Rattle.v_frame_y4m.specs.Streams.{MayStopInLine, StopsReadingByte, TellsStreamCause};
 
 use crate::error::Y4mError;
 use std::io;
@@ -22,6 +22,8 @@ pub(crate) fn read_line<R: io::Read>(
     ensures ended { IfOk result (λ found. IfSome found (λ n. All (λ byte. byte ≢ 10) (take n line.new))) }
     ensures uncounted { OnOk result (reader.new.failures ≡ reader.old.failures) }
     ensures error { IfErr result (MayStopInLine R.remaining reader.old reader.new (length line.old)) }
+    ensures cause { MatchResult result (λ _. reader.new.last_failure ≡ reader.old.last_failure)
+        (TellsStreamCause reader.old.last_failure reader.new.last_failure) }
     ensures size { length line.new ≡ length line.old }
 {
     let mut at = 0;
@@ -45,6 +47,8 @@ fn read_byte<R: io::Read>(reader: &mut Counted<R>) -> Result<Option<u8>, Y4mErro
         (λ byte. Consumes (R.remaining reader.old.inner) (R.remaining reader.new.inner) (byte ∷ []))) }
     ensures uncounted { OnOk result (reader.new.failures ≡ reader.old.failures) }
     ensures error { IfErr result (StopsReadingByte R.remaining reader.old reader.new) }
+    ensures cause { MatchResult result (λ _. reader.new.last_failure ≡ reader.old.last_failure)
+        (TellsStreamCause reader.old.last_failure reader.new.last_failure) }
 {
     let mut byte = [0];
     match reader.read(&mut byte) {

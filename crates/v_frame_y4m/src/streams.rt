@@ -1,10 +1,10 @@
 //! Streams read and written: the header, and then frame by frame.
-ghost use Rattle.std.specs.Prelude.{ℕ, ◌≡◌, ◌≤◌, ◌↔◌, ◌++◌, ◌∷◌, [], codes, false, length, IfOk, IfErr, IsTrue, OnOk, OnErr};
+ghost use Rattle.std.specs.Prelude.{ℕ, ◌≡◌, ◌≤◌, ◌↔◌, ◌++◌, ◌∷◌, [], codes, false, length, IfOk, IfErr, IsTrue, MatchResult, OnOk, OnErr};
 ghost use Rattle.std.specs.Io.KnownBytes.{Appends, Consumes};
 ghost use Rattle.v_frame.specs.Prelude.{isize_max, KeepsBorders, tables_of};
 ghost use Rattle.v_frame_planar.specs.Planar.{planar_bytes, sizes_of};
 ghost use Rattle.v_frame_y4m.specs.Header.{header_line, IsWritable};
-ghost use Rattle.v_frame_y4m.specs.Streams.{IsFrameLine, MayStopInBytes, MayStopInFrame, MayStopInHeader, MayStopWritingLine, ReadsFrame, ReadsHeader};
+ghost use Rattle.v_frame_y4m.specs.Streams.{IsFrameLine, MayStopInBytes, MayStopInFrame, MayStopInHeader, MayStopWritingLine, ReadsFrame, ReadsHeader, TellsStreamCause};
 
 use crate::error::Y4mError;
 use crate::header::StreamHeader;
@@ -28,7 +28,7 @@ const LONGEST: usize = 1024;
 ///
 /// [`Y4mError::LineTooLong`] where no line feed stands among the first 1025 bytes, [`Y4mError::UnfinishedLine`] where the
 /// reader came to its end before one, [`Y4mError::Header`] with what is wrong with the line, and of [`PlanarError`]
-/// `Read` where a read failed, an interrupted one too, which is not tried again.
+/// `Read` where a read failed, an interrupted one too, which is not tried again; [`Counted::last_failure`] says why.
 pub fn read_header<R: io::Read>(
     alloc: Global,
     reader: &mut Counted<R>,
@@ -37,6 +37,8 @@ pub fn read_header<R: io::Read>(
     ensures writable { IfOk result IsWritable }
     ensures uncounted { OnOk result (reader.new.failures ≡ reader.old.failures) }
     ensures error { IfErr result (MayStopInHeader R.remaining reader.old reader.new) }
+    ensures cause { MatchResult result (λ _. reader.new.last_failure ≡ reader.old.last_failure)
+        (TellsStreamCause reader.old.last_failure reader.new.last_failure) }
 {
     let mut line = [0; LONGEST];
     let Some(length) = read_line(reader, &mut line)? else {
@@ -53,8 +55,8 @@ pub fn read_header<R: io::Read>(
 /// # Errors
 ///
 /// Of [`PlanarError`] `OutOfMemory` where a request for memory was refused: then nothing was written. `Write` where a write
-/// failed, an interrupted one too, which is not tried again, and `WriteZero` where a write took none of the bytes that it
-/// was offered. After these a beginning of the line was written.
+/// failed, an interrupted one too, which is not tried again; [`Counted::last_failure`] says why. `WriteZero` where a write
+/// took none of the bytes that it was offered. After these a beginning of the line was written.
 pub fn write_header<W: io::Write>(
     alloc: Global,
     writer: &mut Counted<W>,
@@ -66,6 +68,8 @@ pub fn write_header<W: io::Write>(
     ensures uncounted { OnOk result (writer.new.failures ≡ writer.old.failures) }
     ensures error { IfErr result (MayStopWritingLine W.contents writer.old writer.new
         (header_line header.now ++ 10 ∷ [])) }
+    ensures cause { MatchResult result (λ _. writer.new.last_failure ≡ writer.old.last_failure)
+        (TellsStreamCause writer.old.last_failure writer.new.last_failure) }
 {
     let line = ended_line(alloc, header)?;
     writer.write_all(line.as_slice())?;
@@ -96,6 +100,8 @@ pub fn read_frame<T: Pixel, R: io::Read>(
     ensures sizes { sizes_of (tables_of frame.new) ≡ sizes_of (tables_of frame.old) }
     ensures error { IfErr result (MayStopInFrame R.remaining reader.old reader.new
         (length (planar_bytes T.form (tables_of frame.old)))) }
+    ensures cause { MatchResult result (λ _. reader.new.last_failure ≡ reader.old.last_failure)
+        (TellsStreamCause reader.old.last_failure reader.new.last_failure) }
     ensures unread { OnErr result (frame.new ≡ frame.old) }
 {
     let more = read_frame_line(reader)?;
@@ -112,6 +118,8 @@ fn read_frame_line<R: io::Read>(reader: &mut Counted<R>) -> Result<bool, Y4mErro
     ensures uncounted { OnOk result (reader.new.failures ≡ reader.old.failures) }
     ensures error { IfErr result (λ error. (n : ℕ)
         → MayStopInFrame R.remaining reader.old reader.new n error) }
+    ensures cause { MatchResult result (λ _. reader.new.last_failure ≡ reader.old.last_failure)
+        (TellsStreamCause reader.old.last_failure reader.new.last_failure) }
 {
     let mut line = [0; LONGEST];
     match read_line(reader, &mut line)? {
@@ -144,6 +152,8 @@ fn read_planar<T: Pixel, R: io::Read>(
     ensures sizes { sizes_of (tables_of frame.new) ≡ sizes_of (tables_of frame.old) }
     ensures error { IfErr result (MayStopInBytes R.remaining reader.old reader.new
         (length (planar_bytes T.form (tables_of frame.old)))) }
+    ensures cause { MatchResult result (λ _. reader.new.last_failure ≡ reader.old.last_failure)
+        (TellsStreamCause reader.old.last_failure reader.new.last_failure) }
     ensures unread { OnErr result (frame.new ≡ frame.old) }
 {
     if v_frame_planar::read_frame(alloc, reader, frame)? {
@@ -171,8 +181,9 @@ fn nothing_found<T: Pixel>(frame: &Frame<T>) -> Y4mError
 ///
 /// # Errors
 ///
-/// Of [`PlanarError`] `Write` where a write failed, an interrupted one too, which is not tried again, and `WriteZero` where a
-/// write took none of the bytes that it was offered. After these a beginning of the line and the bytes was written.
+/// Of [`PlanarError`] `Write` where a write failed, an interrupted one too, which is not tried again;
+/// [`Counted::last_failure`] says why. `WriteZero` where a write took none of the bytes that it was offered. After these a
+/// beginning of the line and the bytes was written.
 pub fn write_frame<T: Pixel, W: io::Write>(
     writer: &mut Counted<W>,
     frame: &Frame<T>,
@@ -182,6 +193,8 @@ pub fn write_frame<T: Pixel, W: io::Write>(
     ensures uncounted { OnOk result (writer.new.failures ≡ writer.old.failures) }
     ensures error { IfErr result (MayStopWritingLine W.contents writer.old writer.new
         (codes "FRAME" ++ 10 ∷ planar_bytes T.form (tables_of frame.now))) }
+    ensures cause { MatchResult result (λ _. writer.new.last_failure ≡ writer.old.last_failure)
+        (TellsStreamCause writer.old.last_failure writer.new.last_failure) }
 {
     writer.write_all(b"FRAME\n")?;
     v_frame_planar::write_frame(writer, frame)?;

@@ -2,7 +2,6 @@
 use Rattle.std.proofs.Common.{ℕ, List, ◌≡◌, ◌≤◌, ◌++◌, ◌+◌, ◌-◌, ◌<◌, length, take, ◌∙◌, rules, arith, length-take-le}
 use Rattle.std.proofs.lemmas.Grind.{common_steps}
 use Rattle.std.proofs.KnownBytes.{Consumes-kept, Consumes-trans}
-use Rattle.v_frame_planar.proofs.Stops.{failed_once}
 use borrow.Rule.Slice.PartMut.{put_mid, post_of}
 use lib.Seq.{take-append-le, take-append-add}
 use Rattle.v_frame_planar.proofs.reading.read_until_full.Goals as goal
@@ -36,8 +35,7 @@ returns-in-Err-clause-error g c =
     let before = c.loop-found.invariant in
     let got = Consumes-kept _ _ _ _ before.got c.in-Err.ensures.bytes in
     let less = rw before.size at c.loop-found-test.true in
-    let once = failed_once _ _ (rw before.failures at c.in-Err.ensures.err) in
-    ((found, less, (take found buf, got, length-take-le found buf before.within)), once)
+    ((found, less, (take found buf, got, length-take-le found buf before.within)), rw before.failures at c.in-Err.ensures.err)
 
 pub returns-in-Ok-eq0-clause-at_end : goal.returns-in-Ok-eq0-clause-at_end
 returns-in-Ok-eq0-clause-at_end g c =

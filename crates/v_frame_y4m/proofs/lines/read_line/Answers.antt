@@ -49,6 +49,7 @@ loop-byte-preserved g c =
       got = subst (Consumes old new) (sym more) got;
       ended = subst (λ (bytes : List ℕ). All (λ b. b ≢ 10) bytes) (sym more) (All-push (λ b. b ≢ 10) (take at line) byte before.ended other);
       failures = search rules;
+      last_failure = search rules;
     }
 
 pub loop-byte-init : goal.loop-byte-init
@@ -58,6 +59,7 @@ loop-byte-init g c = record {
   got = Consumes-nil (g.R.Read.remaining c.args.reader.now.inner);
   ended = search rules;
   failures = search rules;
+  last_failure = search rules;
 }
 
 pub returns-in-Some-eq10-clause-read : goal.returns-in-Some-eq10-clause-read

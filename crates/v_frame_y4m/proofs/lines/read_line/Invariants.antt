@@ -1,4 +1,4 @@
--- What was read stands at the front of the buffer, and has no line feed.
+-- What was read stands at the front of the buffer, and has no line feed. Nothing has failed.
 use Rattle.std.proofs.Common.{◌≡◌, ◌≢◌, ◌≤◌, ◌+◌, ◌-◌, length, take}
 use Rattle.std.specs.Prelude.{All}
 use Rattle.std.specs.Io.KnownBytes.{Consumes}
@@ -11,6 +11,7 @@ invariant-loop-byte g l = record {
   got : Consumes (g.R.Read.remaining l.fn.reader.inner) (g.R.Read.remaining l.reader.inner) (take l.at l.line);
   ended : All (λ byte. byte ≢ 10) (take l.at l.line);
   failures : l.reader.failures ≡ l.fn.reader.failures;
+  last_failure : l.reader.last_failure ≡ l.fn.reader.last_failure;
 }
 
 abbrev pub decreases-loop-byte : goal.decreases-loop-byte

@@ -1,5 +1,5 @@
 -- One more write appends what it took.
-use Rattle.std.proofs.Common.{◌-◌, length, take, drop, ◌∙◌, arith, length-take, length-drop}
+use Rattle.std.proofs.Common.{◌-◌, length, take, drop, ◌∙◌, ap, arith, length-take, length-drop}
 use Rattle.std.proofs.lemmas.List.{take_rest}
 use Rattle.std.proofs.KnownBytes.{Appends-trans}
 use Rattle.std.proofs.Math.Seq.{take-add}
@@ -16,6 +16,7 @@ loop-written-preserved g c =
     record {
       within = omega (arith, did.bound, length-take (length text - at) (drop at text), length-drop at text);
       sent = rw (take-add at count text) (rw (take_rest text at) at sent);
+      nothing = λ none. absurd (omega (arith, ap length none, c.loop-written-test.true));
       failures = did.ok ∙ before.failures;
       last_failure = did.told ∙ before.last_failure;
     }

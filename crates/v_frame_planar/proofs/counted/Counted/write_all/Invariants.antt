@@ -1,5 +1,5 @@
--- What was written is the beginning of the text, and nothing has failed.
-use Rattle.std.proofs.Common.{◌≡◌, ◌≤◌, ◌-◌, length, take}
+-- What was written is the beginning of the text, and nothing has failed. Nothing is written of no bytes.
+use Rattle.std.proofs.Common.{◌≡◌, ◌≤◌, ◌-◌, [], length, take}
 use Rattle.std.specs.Io.KnownBytes.{Appends}
 use Rattle.v_frame_planar.proofs.counted.Counted.write_all.Given as goal
 
@@ -7,6 +7,7 @@ abbrev pub invariant-loop-written : goal.invariant-loop-written
 invariant-loop-written g l = record {
   within : l.written ≤ length l.bytes;
   sent : Appends (g.D.Write.contents l.fn.self.inner) (g.D.Write.contents l.self.inner) (take l.written l.bytes);
+  nothing : l.bytes ≡ [] → l.self ≡ l.fn.self;
   failures : l.self.failures ≡ l.fn.self.failures;
   last_failure : l.self.last_failure ≡ l.fn.self.last_failure;
 }
