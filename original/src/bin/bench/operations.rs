@@ -8,25 +8,31 @@ use v_frame::plane::Plane;
 pub fn absolute_differences<T: Pixel>(a: &Plane<T>, b: &Plane<T>) -> u64 {
     let mut sum = 0;
     for (row, other) in a.rows().zip(b.rows()) {
-        for (one, other) in row.iter().zip(other) {
-            let (one, other): (u16, u16) = ((*one).into(), (*other).into());
-            sum += u64::from(one.abs_diff(other));
-        }
+        // no row of the arguments is so long that its sum leaves 32 bits, and this is the fastest of the plain forms
+        sum += u64::from(row.iter().zip(other).map(|(one, other)| distance(*one, *other)).sum::<u32>());
     }
     sum
+}
+
+/// How far two pixels lie apart.
+fn distance<T: Pixel>(one: T, other: T) -> u32 {
+    let (one, other): (u16, u16) = (one.into(), other.into());
+    u32::from(one.abs_diff(other))
 }
 
 #[inline(never)]
 pub fn squared_errors<T: Pixel>(a: &Plane<T>, b: &Plane<T>) -> u64 {
     let mut sum = 0;
     for (row, other) in a.rows().zip(b.rows()) {
-        for (one, other) in row.iter().zip(other) {
-            let (one, other): (u16, u16) = ((*one).into(), (*other).into());
-            let difference = u64::from(one.abs_diff(other));
-            sum += difference * difference;
-        }
+        sum += row.iter().zip(other).map(|(one, other)| squared_error(*one, *other)).sum::<u64>();
     }
     sum
+}
+
+fn squared_error<T: Pixel>(one: T, other: T) -> u64 {
+    let (one, other): (u16, u16) = (one.into(), other.into());
+    let difference = i64::from(one) - i64::from(other);
+    (difference * difference) as u64
 }
 
 /// Writes a plane in half the size into U: the means of blocks of two by two, rounded to the nearest value.
