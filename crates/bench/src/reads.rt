@@ -9,11 +9,13 @@ fn added<T: Pixel>(sum: u64, pixel: T) -> u64 {
     sum.wrapping_add(u64::from(pixel.into_u16()))
 }
 
+/// Compares two planes, borders too.
 #[inline(never)]
 pub fn are_equal<T: Pixel>(a: &Plane<T>, b: &Plane<T>) -> bool {
     a == b
 }
 
+/// Sums the pixels of all rows, each by its number.
 #[inline(never)]
 pub fn sum_by_row<T: Pixel>(plane: &Plane<T>) -> u64 {
     let mut sum = 0;
@@ -27,6 +29,7 @@ pub fn sum_by_row<T: Pixel>(plane: &Plane<T>) -> u64 {
     sum
 }
 
+/// Sums the pixels of the rows that an iterator gives.
 #[inline(never)]
 pub fn sum_by_rows<T: Pixel>(plane: &Plane<T>) -> u64 {
     let mut sum = 0;
@@ -38,6 +41,7 @@ pub fn sum_by_rows<T: Pixel>(plane: &Plane<T>) -> u64 {
     sum
 }
 
+/// Sums all pixels, each by its column and row.
 #[inline(never)]
 pub fn sum_by_pixel<T: Pixel>(plane: &Plane<T>) -> u64 {
     let mut sum = 0;
@@ -51,6 +55,7 @@ pub fn sum_by_pixel<T: Pixel>(plane: &Plane<T>) -> u64 {
     sum
 }
 
+/// Sums the pixels that an iterator gives.
 #[inline(never)]
 pub fn sum_by_pixels<T: Pixel>(plane: &Plane<T>) -> u64 {
     let mut sum = 0;
@@ -70,6 +75,7 @@ pub fn sum_by_pixels_back<T: Pixel>(plane: &Plane<T>) -> u64 {
     sum
 }
 
+/// Sums the pixels of places.
 #[inline(never)]
 pub fn sum_of_places<T: Pixel>(plane: &Plane<T>, places: &[(usize, usize)]) -> u64 {
     let mut sum = 0;
@@ -93,6 +99,7 @@ pub fn count_differing<T: Pixel>(a: &Plane<T>, b: &Plane<T>) -> u64 {
     count
 }
 
+/// Sums the bytes of all pixels.
 #[inline(never)]
 pub fn sum_by_byte_data<T: Pixel>(plane: &Plane<T>) -> u64 {
     let mut sum = 0u64;
@@ -102,6 +109,7 @@ pub fn sum_by_byte_data<T: Pixel>(plane: &Plane<T>) -> u64 {
     sum
 }
 
+/// Sums how far the pixels of two planes lie apart.
 #[inline(never)]
 pub fn absolute_differences<T: Pixel>(a: &Plane<T>, b: &Plane<T>) -> u64 {
     if a.width() != b.width() || a.height() != b.height() {
@@ -111,6 +119,7 @@ pub fn absolute_differences<T: Pixel>(a: &Plane<T>, b: &Plane<T>) -> u64 {
     u64::try_from(sum).unwrap_or(0)
 }
 
+/// Sums the squares of how far the pixels of two planes lie apart.
 #[inline(never)]
 pub fn squared_errors<T: Pixel>(a: &Plane<T>, b: &Plane<T>) -> u64 {
     if a.width() != b.width() || a.height() != b.height() {

@@ -55,6 +55,7 @@ pub fn copy_calls<T: Pixel>(
     Ok(calls)
 }
 
+/// Replays the list of single pixels, many times.
 pub fn replay_pixels<T: Pixel>(desk: &mut Desk<T>) -> Result<u64, BenchError> {
     let mut count = 0u64;
     for _time in 0..TIMES {
@@ -64,10 +65,12 @@ pub fn replay_pixels<T: Pixel>(desk: &mut Desk<T>) -> Result<u64, BenchError> {
     Ok(count)
 }
 
+/// Replays the list of rows.
 pub fn replay_rows<T: Pixel>(desk: &mut Desk<T>) -> Result<u64, BenchError> {
     replayed(desk.alloc, &mut desk.frame, desk.row_calls.as_slice())
 }
 
+/// Replays the list of one copy.
 pub fn replay_copy<T: Pixel>(desk: &mut Desk<T>) -> Result<u64, BenchError> {
     replayed(desk.alloc, &mut desk.frame, desk.copy_calls.as_slice())
 }

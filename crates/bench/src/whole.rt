@@ -9,6 +9,7 @@ use v_frame::frame::{Frame, FrameBuilder, FrameError};
 use v_frame::pixel::Pixel;
 use v_frame::plane::Plane;
 
+/// Builds a frame of a plan.
 #[inline(never)]
 pub fn build<T: Pixel>(
     alloc: Global,

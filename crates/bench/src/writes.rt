@@ -5,6 +5,7 @@ use v_frame::pixel::{Pixel, fill_row};
 use v_frame::plane::{CopyError, Plane};
 use v_frame_ops::{downscale, fill, pad};
 
+/// Fills all rows, each by its number.
 #[inline(never)]
 pub fn fill_by_row_mut<T: Pixel>(plane: &mut Plane<T>, value: T) {
     for y in 0..plane.height() {
@@ -14,6 +15,7 @@ pub fn fill_by_row_mut<T: Pixel>(plane: &mut Plane<T>, value: T) {
     }
 }
 
+/// Fills the rows that an iterator lends.
 #[inline(never)]
 pub fn fill_by_rows_mut<T: Pixel>(plane: &mut Plane<T>, value: T) {
     for row in plane.rows_mut() {
@@ -21,6 +23,7 @@ pub fn fill_by_rows_mut<T: Pixel>(plane: &mut Plane<T>, value: T) {
     }
 }
 
+/// Writes all pixels, each by its column and row.
 #[inline(never)]
 pub fn fill_by_pixel_mut<T: Pixel>(plane: &mut Plane<T>, value: T) {
     for y in 0..plane.height() {
@@ -32,6 +35,7 @@ pub fn fill_by_pixel_mut<T: Pixel>(plane: &mut Plane<T>, value: T) {
     }
 }
 
+/// Writes the pixels that an iterator lends.
 #[inline(never)]
 pub fn fill_by_pixels_mut<T: Pixel>(plane: &mut Plane<T>, value: T) {
     for pixel in plane.pixels_mut() {
@@ -39,6 +43,7 @@ pub fn fill_by_pixels_mut<T: Pixel>(plane: &mut Plane<T>, value: T) {
     }
 }
 
+/// Writes the pixels of places.
 #[inline(never)]
 pub fn fill_places<T: Pixel>(plane: &mut Plane<T>, places: &[(usize, usize)], value: T) {
     for &(x, y) in places {
@@ -48,11 +53,13 @@ pub fn fill_places<T: Pixel>(plane: &mut Plane<T>, places: &[(usize, usize)], va
     }
 }
 
+/// Fills a plane by one call.
 #[inline(never)]
 pub fn fill_plane<T: Pixel>(plane: &mut Plane<T>, value: T) {
     fill(plane, value);
 }
 
+/// Continues a plane into its border.
 #[inline(never)]
 pub fn pad_plane<T: Pixel>(plane: &mut Plane<T>) {
     pad(plane);
@@ -71,16 +78,19 @@ pub fn halve<T: Pixel>(source: &Plane<T>, target: &mut Frame<T>) {
     }
 }
 
+/// Copies pixels.
 #[inline(never)]
 pub fn copy_pixels<T: Pixel>(plane: &mut Plane<T>, source: &[T]) -> Result<(), CopyError> {
     plane.copy_from_slice(source)
 }
 
+/// Copies bytes without tails.
 #[inline(never)]
 pub fn copy_packed<T: Pixel>(plane: &mut Plane<T>, source: &[u8]) -> Result<(), CopyError> {
     plane.copy_from_u8_slice(source)
 }
 
+/// Copies bytes with a stride.
 #[inline(never)]
 pub fn copy_strided<T: Pixel>(
     plane: &mut Plane<T>,

@@ -4,6 +4,7 @@ use v_frame::frame::Frame;
 use v_frame::pixel::Pixel;
 use v_frame::plane::Plane;
 
+/// Sums how far the pixels of two planes lie apart.
 #[inline(never)]
 pub fn absolute_differences<T: Pixel>(a: &Plane<T>, b: &Plane<T>) -> u64 {
     let mut sum = 0;
@@ -20,6 +21,7 @@ fn distance<T: Pixel>(one: T, other: T) -> u32 {
     u32::from(one.abs_diff(other))
 }
 
+/// Sums the squares of how far the pixels of two planes lie apart.
 #[inline(never)]
 pub fn squared_errors<T: Pixel>(a: &Plane<T>, b: &Plane<T>) -> u64 {
     let mut sum = 0;

@@ -8,11 +8,13 @@ fn added<T: Pixel>(sum: u64, pixel: T) -> u64 {
     sum.wrapping_add(u64::from(pixel.into()))
 }
 
+/// Compares two planes, borders too.
 #[inline(never)]
 pub fn are_equal<T: Pixel>(a: &Plane<T>, b: &Plane<T>) -> bool {
     a == b
 }
 
+/// Sums the pixels of all rows, each by its number.
 #[inline(never)]
 pub fn sum_by_row<T: Pixel>(plane: &Plane<T>) -> u64 {
     let mut sum = 0;
@@ -26,6 +28,7 @@ pub fn sum_by_row<T: Pixel>(plane: &Plane<T>) -> u64 {
     sum
 }
 
+/// Sums the pixels of the rows that an iterator gives.
 #[inline(never)]
 pub fn sum_by_rows<T: Pixel>(plane: &Plane<T>) -> u64 {
     let mut sum = 0;
@@ -37,6 +40,7 @@ pub fn sum_by_rows<T: Pixel>(plane: &Plane<T>) -> u64 {
     sum
 }
 
+/// Sums all pixels, each by its column and row.
 #[inline(never)]
 pub fn sum_by_pixel<T: Pixel>(plane: &Plane<T>) -> u64 {
     let mut sum = 0;
@@ -50,6 +54,7 @@ pub fn sum_by_pixel<T: Pixel>(plane: &Plane<T>) -> u64 {
     sum
 }
 
+/// Sums the pixels that an iterator gives.
 #[inline(never)]
 pub fn sum_by_pixels<T: Pixel>(plane: &Plane<T>) -> u64 {
     let mut sum = 0;
@@ -69,6 +74,7 @@ pub fn sum_by_pixels_back<T: Pixel>(plane: &Plane<T>) -> u64 {
     sum
 }
 
+/// Sums the pixels of places.
 #[inline(never)]
 pub fn sum_of_places<T: Pixel>(plane: &Plane<T>, places: &[(usize, usize)]) -> u64 {
     let mut sum = 0;
@@ -92,6 +98,7 @@ pub fn count_differing<T: Pixel>(a: &Plane<T>, b: &Plane<T>) -> u64 {
     count
 }
 
+/// Sums the bytes of all pixels.
 #[inline(never)]
 pub fn sum_by_byte_data<T: Pixel>(plane: &Plane<T>) -> u64 {
     let mut sum = 0u64;

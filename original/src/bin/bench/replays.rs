@@ -43,14 +43,17 @@ pub fn copy_calls<T: Pixel>(source: Vec<T>) -> Vec<Call<T>> {
     vec![Call::CopyFromSlice { plane: 0, source }]
 }
 
+/// Replays the list of single pixels, many times.
 pub fn replay_pixels<T: Pixel>(desk: &mut Desk<T>) -> u64 {
     (0..TIMES).map(|_| replayed(&mut desk.frame, &desk.pixel_calls)).sum()
 }
 
+/// Replays the list of rows.
 pub fn replay_rows<T: Pixel>(desk: &mut Desk<T>) -> u64 {
     replayed(&mut desk.frame, &desk.row_calls)
 }
 
+/// Replays the list of one copy.
 pub fn replay_copy<T: Pixel>(desk: &mut Desk<T>) -> u64 {
     replayed(&mut desk.frame, &desk.copy_calls)
 }

@@ -6,6 +6,7 @@ use v_frame::frame::{Frame, FrameBuilder};
 use v_frame::pixel::Pixel;
 use v_frame::plane::Plane;
 
+/// Fills all rows, each by its number.
 #[inline(never)]
 pub fn fill_by_row_mut<T: Pixel>(plane: &mut Plane<T>, value: T) {
     for y in 0..plane.height() {
@@ -15,6 +16,7 @@ pub fn fill_by_row_mut<T: Pixel>(plane: &mut Plane<T>, value: T) {
     }
 }
 
+/// Fills the rows that an iterator lends.
 #[inline(never)]
 pub fn fill_by_rows_mut<T: Pixel>(plane: &mut Plane<T>, value: T) {
     for row in plane.rows_mut() {
@@ -22,6 +24,7 @@ pub fn fill_by_rows_mut<T: Pixel>(plane: &mut Plane<T>, value: T) {
     }
 }
 
+/// Writes all pixels, each by its column and row.
 #[inline(never)]
 pub fn fill_by_pixel_mut<T: Pixel>(plane: &mut Plane<T>, value: T) {
     for y in 0..plane.height() {
@@ -33,6 +36,7 @@ pub fn fill_by_pixel_mut<T: Pixel>(plane: &mut Plane<T>, value: T) {
     }
 }
 
+/// Writes the pixels that an iterator lends.
 #[inline(never)]
 pub fn fill_by_pixels_mut<T: Pixel>(plane: &mut Plane<T>, value: T) {
     for pixel in plane.pixels_mut() {
@@ -40,6 +44,7 @@ pub fn fill_by_pixels_mut<T: Pixel>(plane: &mut Plane<T>, value: T) {
     }
 }
 
+/// Writes the pixels of places.
 #[inline(never)]
 pub fn fill_places<T: Pixel>(plane: &mut Plane<T>, places: &[(usize, usize)], value: T) {
     for &(x, y) in places {
@@ -49,16 +54,19 @@ pub fn fill_places<T: Pixel>(plane: &mut Plane<T>, places: &[(usize, usize)], va
     }
 }
 
+/// Copies pixels.
 #[inline(never)]
 pub fn copy_pixels<T: Pixel>(plane: &mut Plane<T>, source: &[T]) {
     plane.copy_from_slice(source).expect("as many pixels");
 }
 
+/// Copies bytes without tails.
 #[inline(never)]
 pub fn copy_packed<T: Pixel>(plane: &mut Plane<T>, source: &[u8]) {
     plane.copy_from_u8_slice(source).expect("as many bytes");
 }
 
+/// Copies bytes with a stride.
 #[inline(never)]
 pub fn copy_strided<T: Pixel>(plane: &mut Plane<T>, source: &[u8], stride: usize) {
     plane.copy_from_u8_slice_with_stride(source, stride).expect("as many bytes");
@@ -72,6 +80,7 @@ pub fn copy_to_bytes<T: Pixel>(plane: &Plane<T>, target: &mut [u8]) {
     }
 }
 
+/// Builds a frame of a plan.
 #[inline(never)]
 pub fn build<T: Pixel>(plan: Plan, format: ChromaSubsampling, depth: u8) -> Frame<T> {
     let padding = usize::from(plan.padding);
