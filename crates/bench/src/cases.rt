@@ -1,0 +1,146 @@
+//! The cases, and what each does.
+
+use crate::desk::Desk;
+use crate::error::BenchError;
+use crate::{reads, replays, whole, writes};
+use v_frame::chroma::ChromaSubsampling;
+use v_frame::pixel::Pixel;
+
+/// What is measured.
+#[derive(Clone, Copy)]
+pub enum Case {
+    BuildMono,
+    Build420,
+    ClonePlane,
+    CloneFrame,
+    CompareEqual,
+    SumByRow,
+    SumByRows,
+    SumByPixel,
+    SumByPixels,
+    SumByPixelsBack,
+    PixelScattered,
+    CountDiffering,
+    SumByByteData,
+    AbsoluteDifferences,
+    SquaredErrors,
+    FillByRowMut,
+    FillByRowsMut,
+    FillByPixelMut,
+    FillByPixelsMut,
+    PixelMutScattered,
+    Fill,
+    Pad,
+    Downscale,
+    CopyFromSlice,
+    CopyFromBytes,
+    CopyFromStrided,
+    CopyToBytes,
+    ReplayPixelMut,
+    ReplayRow,
+    ReplayCopy,
+}
+
+/// The names of the cases, in the order in which they are measured.
+pub const CASES: [(&str, Case); 30] = [
+    ("build_mono", Case::BuildMono),
+    ("build_420", Case::Build420),
+    ("clone_plane", Case::ClonePlane),
+    ("clone_frame_420", Case::CloneFrame),
+    ("compare_planes_equal", Case::CompareEqual),
+    ("sum_by_row", Case::SumByRow),
+    ("sum_by_rows", Case::SumByRows),
+    ("sum_by_pixel", Case::SumByPixel),
+    ("sum_by_pixels", Case::SumByPixels),
+    ("sum_by_pixels_back", Case::SumByPixelsBack),
+    ("pixel_scattered", Case::PixelScattered),
+    ("count_differing_by_pixels", Case::CountDiffering),
+    ("sum_by_byte_data", Case::SumByByteData),
+    ("sum_of_absolute_differences", Case::AbsoluteDifferences),
+    ("sum_of_squared_errors", Case::SquaredErrors),
+    ("fill_by_row_mut", Case::FillByRowMut),
+    ("fill_by_rows_mut", Case::FillByRowsMut),
+    ("fill_by_pixel_mut", Case::FillByPixelMut),
+    ("fill_by_pixels_mut", Case::FillByPixelsMut),
+    ("pixel_mut_scattered", Case::PixelMutScattered),
+    ("fill", Case::Fill),
+    ("pad", Case::Pad),
+    ("downscale", Case::Downscale),
+    ("copy_from_slice", Case::CopyFromSlice),
+    ("copy_from_u8_slice", Case::CopyFromBytes),
+    ("copy_from_u8_slice_with_stride", Case::CopyFromStrided),
+    ("copy_byte_data", Case::CopyToBytes),
+    ("replay_pixel_mut", Case::ReplayPixelMut),
+    ("replay_row", Case::ReplayRow),
+    ("replay_copy_from_slice", Case::ReplayCopy),
+];
+
+/// Does the work of a case once, and gives a number that depends on it.
+pub fn work<T: Pixel>(case: Case, desk: &mut Desk<T>) -> Result<u64, BenchError> {
+    match case {
+        Case::BuildMono => whole::build_one(desk, ChromaSubsampling::Monochrome),
+        Case::Build420 => whole::build_one(desk, ChromaSubsampling::Yuv420),
+        Case::ClonePlane => whole::clone_plane(desk),
+        Case::CloneFrame => whole::clone_frame(desk),
+        Case::ReplayPixelMut => replays::replay_pixels(desk),
+        Case::ReplayRow => replays::replay_rows(desk),
+        Case::ReplayCopy => replays::replay_copy(desk),
+        Case::FillByRowMut
+        | Case::FillByRowsMut
+        | Case::FillByPixelMut
+        | Case::FillByPixelsMut
+        | Case::PixelMutScattered
+        | Case::Fill
+        | Case::Pad
+        | Case::Downscale
+        | Case::CopyFromSlice
+        | Case::CopyFromBytes
+        | Case::CopyFromStrided
+        | Case::CopyToBytes => written(case, desk),
+        _ => Ok(read(case, desk)),
+    }
+}
+
+/// Does the work of a case that reads.
+fn read<T: Pixel>(case: Case, desk: &Desk<T>) -> u64 {
+    let (luma, other) = (&desk.frame.y_plane, &desk.other.y_plane);
+    match case {
+        Case::CompareEqual => u64::from(reads::are_equal(luma, &desk.twin.y_plane)),
+        Case::SumByRow => reads::sum_by_row(luma),
+        Case::SumByRows => reads::sum_by_rows(luma),
+        Case::SumByPixel => reads::sum_by_pixel(luma),
+        Case::SumByPixels => reads::sum_by_pixels(luma),
+        Case::SumByPixelsBack => reads::sum_by_pixels_back(luma),
+        Case::PixelScattered => reads::sum_of_places(luma, desk.places.as_slice()),
+        Case::CountDiffering => reads::count_differing(luma, other),
+        Case::SumByByteData => reads::sum_by_byte_data(luma),
+        Case::AbsoluteDifferences => reads::absolute_differences(luma, other),
+        Case::SquaredErrors => reads::squared_errors(luma, other),
+        _ => 0,
+    }
+}
+
+/// Does the work of a case that writes.
+fn written<T: Pixel>(case: Case, desk: &mut Desk<T>) -> Result<u64, BenchError> {
+    let (luma, value) = (&mut desk.frame.y_plane, desk.value);
+    match case {
+        Case::FillByRowMut => writes::fill_by_row_mut(luma, value),
+        Case::FillByRowsMut => writes::fill_by_rows_mut(luma, value),
+        Case::FillByPixelMut => writes::fill_by_pixel_mut(luma, value),
+        Case::FillByPixelsMut => writes::fill_by_pixels_mut(luma, value),
+        Case::PixelMutScattered => writes::fill_places(luma, desk.places.as_slice(), value),
+        Case::Fill => writes::fill_plane(luma, value),
+        Case::Pad => writes::pad_plane(luma),
+        Case::Downscale => writes::halve(&desk.other.y_plane, &mut desk.frame),
+        Case::CopyFromSlice => writes::copy_pixels(luma, desk.source.as_slice())?,
+        Case::CopyFromBytes => writes::copy_packed(luma, desk.packed.as_slice())?,
+        Case::CopyFromStrided => {
+            writes::copy_strided(luma, desk.strided.as_slice(), desk.stride)?
+        }
+        Case::CopyToBytes => {
+            writes::copy_to_bytes(&desk.frame.y_plane, desk.buffer.as_mut_slice())
+        }
+        _ => (),
+    }
+    Ok(0)
+}

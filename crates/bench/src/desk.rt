@@ -1,0 +1,160 @@
+//! What the cases of a type of pixels work on.
+
+use crate::cases::Case;
+use crate::error::BenchError;
+use crate::pictures::{PLACES, bytes, pixel_of, pixels, places};
+use crate::plan::Plan;
+use crate::replays::{CALLS, TIMES, copy_calls, pixel_calls, row_calls};
+use crate::whole::build;
+use std::alloc::Global;
+use v_frame::chroma::ChromaSubsampling;
+use v_frame::frame::Frame;
+use v_frame::pixel::Pixel;
+use v_frame::plane::Plane;
+use v_frame::replay::VisibleCall;
+
+/// Bytes after each row of the source with a stride.
+const TAIL: usize = 64;
+
+/// Frames, sources, targets and lists of calls.
+#[derive(Drop)]
+pub struct Desk<T: Pixel> {
+    pub alloc: Global,
+    pub plan: Plan,
+    pub depth: u8,
+    /// The 4:2:0 frame that is read and written.
+    pub frame: Frame<T>,
+    /// A frame with the same luma.
+    pub twin: Frame<T>,
+    /// A frame in whose luma every sixteenth pixel differs.
+    pub other: Frame<T>,
+    /// The pixels that luma has at first.
+    pub source: Vec<T>,
+    /// The same pixels for the other frame.
+    pub other_source: Vec<T>,
+    /// The bytes of a source without tails.
+    pub packed: Vec<u8>,
+    /// The bytes of a source with a stride.
+    pub strided: Vec<u8>,
+    pub stride: usize,
+    /// A target of bytes.
+    pub buffer: Vec<u8>,
+    pub places: Vec<(usize, usize)>,
+    /// The lists that are replayed.
+    pub pixel_calls: Vec<VisibleCall<T>>,
+    pub row_calls: Vec<VisibleCall<T>>,
+    pub copy_calls: Vec<VisibleCall<T>>,
+    /// The pixel that this run writes.
+    pub value: T,
+}
+
+impl<T: Pixel> Desk<T> {
+    /// All of it, for a plan.
+    pub fn new(alloc: Global, plan: Plan, depth: u8) -> Result<Self, BenchError> {
+        let (width, height) = (usize::from(plan.width), usize::from(plan.height));
+        let (count, seed) = (width.wrapping_mul(height), usize::from(plan.seed));
+        let row = width.wrapping_mul(T::BYTES);
+        let stride = row.wrapping_add(TAIL);
+        let places = places(alloc, plan)?;
+        Ok(Desk {
+            alloc,
+            plan,
+            depth,
+            frame: build(alloc, plan, ChromaSubsampling::Yuv420, depth)?,
+            twin: build(alloc, plan, ChromaSubsampling::Yuv420, depth)?,
+            other: build(alloc, plan, ChromaSubsampling::Yuv420, depth)?,
+            source: pixels(alloc, count, seed, 0)?,
+            other_source: pixels(alloc, count, seed, 16)?,
+            packed: bytes(alloc, row.wrapping_mul(height), seed)?,
+            strided: bytes(alloc, stride.wrapping_mul(height), seed)?,
+            stride,
+            buffer: bytes(alloc, row.wrapping_mul(height), 0)?,
+            pixel_calls: pixel_calls(alloc, places.as_slice())?,
+            row_calls: row_calls(alloc)?,
+            copy_calls: copy_calls(alloc, count, seed)?,
+            places,
+            value: T::ZERO,
+        })
+    }
+
+    /// How many pixels a case handles.
+    pub fn pixels_of(&self, case: Case) -> usize {
+        match case {
+            Case::PixelScattered | Case::PixelMutScattered => PLACES,
+            Case::ReplayPixelMut => CALLS * TIMES,
+            Case::ReplayRow => CALLS * usize::from(self.plan.width),
+            _ => self.source.len(),
+        }
+    }
+
+    /// Gives the frames the luma that each case begins with.
+    pub fn reset(&mut self) -> Result<(), BenchError> {
+        self.frame.y_plane.copy_from_slice(self.source.as_slice())?;
+        self.twin.y_plane.copy_from_slice(self.source.as_slice())?;
+        self.other
+            .y_plane
+            .copy_from_slice(self.other_source.as_slice())?;
+        Ok(())
+    }
+
+    /// Changes a pixel in each frame and source, and which pixel is written, so that no two runs do the same.
+    pub fn change(&mut self, run: usize) {
+        let value = pixel_of::<T>(run.wrapping_add(usize::from(self.plan.seed)));
+        self.value = value;
+        let Some(&(x, y)) = self.places.get(run) else {
+            return;
+        };
+        let place = usize::from(self.plan.width).wrapping_mul(y).wrapping_add(x);
+        set_pixel(&mut self.frame.y_plane, x, y, value);
+        set_pixel(&mut self.twin.y_plane, x, y, value);
+        set_entry(self.source.as_mut_slice(), place, value);
+        set_entry(self.packed.as_mut_slice(), place, value.le_byte(0));
+        set_entry(self.strided.as_mut_slice(), place, value.le_byte(0));
+    }
+
+    /// What stands in a few places after a run.
+    pub fn sample(&self, run: usize) -> u64 {
+        let Some(&(x, y)) = self.places.get(PLACES.wrapping_sub(run)) else {
+            return 0;
+        };
+        let luma = self.frame.y_plane.pixel(x, y).map_or(0, T::into_u16);
+        let chroma = match self.frame.plane(1) {
+            Some(plane) => plane.pixel(x / 2, y / 2).map_or(0, T::into_u16),
+            None => 0,
+        };
+        let byte = self.buffer.get(x).copied().unwrap_or(0);
+        u64::from(luma) + u64::from(chroma) + u64::from(byte)
+    }
+
+    /// A sum of all that the cases write, borders too, in which each place counts otherwise.
+    pub fn checksum(&self) -> u64 {
+        let mut sum = 0u64;
+        for index in 0..3 {
+            if let Some(plane) = self.frame.plane(index) {
+                for pixel in plane.data() {
+                    sum = sum
+                        .wrapping_mul(31)
+                        .wrapping_add(u64::from(pixel.into_u16()));
+                }
+            }
+        }
+        for byte in self.buffer.iter() {
+            sum = sum.wrapping_mul(31).wrapping_add(u64::from(*byte));
+        }
+        sum
+    }
+}
+
+/// Writes a pixel, where it is there.
+fn set_pixel<T: Pixel>(plane: &mut Plane<T>, x: usize, y: usize, value: T) {
+    if let Some(pixel) = plane.pixel_mut(x, y) {
+        *pixel = value;
+    }
+}
+
+/// Writes an entry, where it is there.
+fn set_entry<E: Copy>(entries: &mut [E], place: usize, value: E) {
+    if let Some(entry) = entries.get_mut(place) {
+        *entry = value;
+    }
+}

@@ -1,0 +1,123 @@
+//! The cases, and what each does.
+
+use crate::desk::Desk;
+use crate::{operations, reads, replays, writes};
+use v_frame::chroma::ChromaSubsampling;
+use v_frame::pixel::Pixel;
+
+/// What is measured.
+#[derive(Clone, Copy)]
+pub enum Case {
+    BuildMono,
+    Build420,
+    ClonePlane,
+    CloneFrame,
+    CompareEqual,
+    SumByRow,
+    SumByRows,
+    SumByPixel,
+    SumByPixels,
+    SumByPixelsBack,
+    PixelScattered,
+    CountDiffering,
+    SumByByteData,
+    AbsoluteDifferences,
+    SquaredErrors,
+    FillByRowMut,
+    FillByRowsMut,
+    FillByPixelMut,
+    FillByPixelsMut,
+    PixelMutScattered,
+    Fill,
+    Pad,
+    Downscale,
+    CopyFromSlice,
+    CopyFromBytes,
+    CopyFromStrided,
+    CopyToBytes,
+    ReplayPixelMut,
+    ReplayRow,
+    ReplayCopy,
+}
+
+/// The names of the cases, in the order in which they are measured.
+pub const CASES: [(&str, Case); 30] = [
+    ("build_mono", Case::BuildMono),
+    ("build_420", Case::Build420),
+    ("clone_plane", Case::ClonePlane),
+    ("clone_frame_420", Case::CloneFrame),
+    ("compare_planes_equal", Case::CompareEqual),
+    ("sum_by_row", Case::SumByRow),
+    ("sum_by_rows", Case::SumByRows),
+    ("sum_by_pixel", Case::SumByPixel),
+    ("sum_by_pixels", Case::SumByPixels),
+    ("sum_by_pixels_back", Case::SumByPixelsBack),
+    ("pixel_scattered", Case::PixelScattered),
+    ("count_differing_by_pixels", Case::CountDiffering),
+    ("sum_by_byte_data", Case::SumByByteData),
+    ("sum_of_absolute_differences", Case::AbsoluteDifferences),
+    ("sum_of_squared_errors", Case::SquaredErrors),
+    ("fill_by_row_mut", Case::FillByRowMut),
+    ("fill_by_rows_mut", Case::FillByRowsMut),
+    ("fill_by_pixel_mut", Case::FillByPixelMut),
+    ("fill_by_pixels_mut", Case::FillByPixelsMut),
+    ("pixel_mut_scattered", Case::PixelMutScattered),
+    ("fill", Case::Fill),
+    ("pad", Case::Pad),
+    ("downscale", Case::Downscale),
+    ("copy_from_slice", Case::CopyFromSlice),
+    ("copy_from_u8_slice", Case::CopyFromBytes),
+    ("copy_from_u8_slice_with_stride", Case::CopyFromStrided),
+    ("copy_byte_data", Case::CopyToBytes),
+    ("replay_pixel_mut", Case::ReplayPixelMut),
+    ("replay_row", Case::ReplayRow),
+    ("replay_copy_from_slice", Case::ReplayCopy),
+];
+
+/// Does the work of a case once, and gives a number that depends on it.
+pub fn work<T: Pixel>(case: Case, desk: &mut Desk<T>) -> u64 {
+    match case {
+        Case::BuildMono => writes::build_one(desk, ChromaSubsampling::Monochrome),
+        Case::Build420 => writes::build_one(desk, ChromaSubsampling::Yuv420),
+        Case::ClonePlane => writes::clone_plane(desk),
+        Case::CloneFrame => writes::clone_frame(desk),
+        Case::CompareEqual => u64::from(reads::are_equal(&desk.frame.y_plane, &desk.twin.y_plane)),
+        Case::SumByRow => reads::sum_by_row(&desk.frame.y_plane),
+        Case::SumByRows => reads::sum_by_rows(&desk.frame.y_plane),
+        Case::SumByPixel => reads::sum_by_pixel(&desk.frame.y_plane),
+        Case::SumByPixels => reads::sum_by_pixels(&desk.frame.y_plane),
+        Case::SumByPixelsBack => reads::sum_by_pixels_back(&desk.frame.y_plane),
+        Case::PixelScattered => reads::sum_of_places(&desk.frame.y_plane, &desk.places),
+        Case::CountDiffering => reads::count_differing(&desk.frame.y_plane, &desk.other.y_plane),
+        Case::SumByByteData => reads::sum_by_byte_data(&desk.frame.y_plane),
+        Case::AbsoluteDifferences => operations::absolute_differences(&desk.frame.y_plane, &desk.other.y_plane),
+        Case::SquaredErrors => operations::squared_errors(&desk.frame.y_plane, &desk.other.y_plane),
+        Case::ReplayPixelMut => replays::replay_pixels(desk),
+        Case::ReplayRow => replays::replay_rows(desk),
+        Case::ReplayCopy => replays::replay_copy(desk),
+        _ => {
+            write(case, desk);
+            0
+        }
+    }
+}
+
+/// Does the work of a case that writes.
+fn write<T: Pixel>(case: Case, desk: &mut Desk<T>) {
+    let (luma, value) = (&mut desk.frame.y_plane, desk.value);
+    match case {
+        Case::FillByRowMut => writes::fill_by_row_mut(luma, value),
+        Case::FillByRowsMut => writes::fill_by_rows_mut(luma, value),
+        Case::FillByPixelMut => writes::fill_by_pixel_mut(luma, value),
+        Case::FillByPixelsMut => writes::fill_by_pixels_mut(luma, value),
+        Case::PixelMutScattered => writes::fill_places(luma, &desk.places, value),
+        Case::Fill => writes::fill_by_rows_mut(luma, value),
+        Case::Pad => operations::pad(luma),
+        Case::Downscale => operations::halve(&desk.other.y_plane, &mut desk.frame),
+        Case::CopyFromSlice => writes::copy_pixels(luma, &desk.source),
+        Case::CopyFromBytes => writes::copy_packed(luma, &desk.packed),
+        Case::CopyFromStrided => writes::copy_strided(luma, &desk.strided, desk.stride),
+        Case::CopyToBytes => writes::copy_to_bytes(luma, &mut desk.buffer),
+        _ => unreachable!("this case reads"),
+    }
+}
