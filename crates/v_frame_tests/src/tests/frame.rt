@@ -1,4 +1,5 @@
-//! Frames: built and compared.
+//! Frames: built, cloned and compared.
 
 mod builds;
+mod clones;
 mod equality;

@@ -1,6 +1,8 @@
 //! The calls of `v_frame_ops`, by what is left in whole buffers.
 ghost use Rattle.std.specs.Prelude.{◌≡◌};
 
+mod wide;
+
 use crate::tests::support::buffers::{bordered_buffer, has_entries, has_in_border, write_entries};
 use crate::tests::support::checks::{same, same_length};
 use crate::tests::support::frames::{BORDERED_ALL_ROUND, Layout, bordered, luma, showing};
@@ -29,7 +31,7 @@ fn same_size<T: Pixel>(rt: &impl Abort, a: &PlaneRef<'_, T>, b: &PlaneRef<'_, T>
 }
 
 /// Stops the test where a plane has not this size.
-fn has_size(rt: &impl Abort, plane: &Plane<u8>, width: usize, height: usize)
+fn has_size<T: Pixel>(rt: &impl Abort, plane: &Plane<T>, width: usize, height: usize)
     ensures wide { plane.now.geometry.width ≡ width }
     ensures high { plane.now.geometry.height ≡ height }
 {

@@ -1,5 +1,8 @@
 //! YUV4MPEG2 streams: headers as ffmpeg writes them, the text of each refusal, and streams that are copied or cut off.
 
+mod headers;
+mod texts;
+
 use crate::tests::support::checks::same;
 use crate::tests::support::texts::text_of;
 use std::io::{self, ErrorKind, Read};

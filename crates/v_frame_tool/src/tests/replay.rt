@@ -6,5 +6,4 @@ mod debugs;
 mod iterations;
 mod laws;
 mod planes;
-mod refusals;
 mod words;

@@ -37,7 +37,9 @@ static SIZES: [((usize, usize), ChromaSubsampling, Option<(usize, usize)>); 14] 
 ];
 
 /// The format and the depth of a frame, and the sizes of its planes.
-fn described<T: Pixel>(frame: &Frame<T>) -> (ChromaSubsampling, u8, [Option<(usize, usize)>; 3]) {
+pub fn described<T: Pixel>(
+    frame: &Frame<T>,
+) -> (ChromaSubsampling, u8, [Option<(usize, usize)>; 3]) {
     let sizes = [
         size_of(frame.plane(0)),
         size_of(frame.plane(1)),
@@ -70,7 +72,7 @@ fn chroma_covers_luma_of_any_size(rt: HostRuntime) {
 }
 
 /// The paddings of a plane left, right, top and bottom, where it is there.
-fn border_of<T>(plane: Option<&Plane<T>>) -> Option<[usize; 4]> {
+pub fn border_of<T>(plane: Option<&Plane<T>>) -> Option<[usize; 4]> {
     let geometry = plane?.geometry();
     Some([
         geometry.pad_left(),

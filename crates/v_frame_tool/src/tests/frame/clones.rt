@@ -1,6 +1,4 @@
 //! Frames cloned and compared.
-//!
-//! Where a test says what a refusal leaves, `rt try --test --fail-alloc N` takes it there, as in the refusals of replays.
 
 use crate::tests::support::checks::{Test, must, same};
 use crate::tests::support::frames::{built, mark, padded, with_buffer};
@@ -17,12 +15,11 @@ fn with_chroma(rt: &impl Test) -> Frame<u8> {
 }
 
 #[test]
-fn frames_equal_their_clones_and_a_refused_one_leaves_the_frame(rt: HostRuntime) {
+fn frames_equal_their_clones(rt: HostRuntime) {
     let rt = &rt;
     let frame = with_chroma(rt);
-    if let Ok(copy) = frame.clone(rt.alloc()) {
-        same(rt, copy, with_chroma(rt));
-    }
+    let copy = frame.clone(rt.alloc()).expect(rt, "memory");
+    same(rt, copy, with_chroma(rt));
     same(rt, frame, with_chroma(rt));
     let frame = built::<u8>(rt, padded((640, 480), Yuv420, 8, [0; 4]));
     let copy = frame.clone(rt.alloc()).expect(rt, "memory");

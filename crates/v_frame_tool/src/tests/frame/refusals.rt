@@ -1,10 +1,9 @@
 //! Frames that are not built, and why.
 
-use crate::tests::support::checks::{Test, same};
-use crate::tests::support::frames::{must_have_plane, padded};
+use crate::tests::support::checks::Test;
+use crate::tests::support::frames::padded;
 use crate::tests::support::texts::must_show;
 use v_frame::chroma::ChromaSubsampling::{self, Monochrome, Yuv411, Yuv420, Yuv422, Yuv444};
-use v_frame::frame::FrameError;
 use v_frame::pixel::Pixel;
 
 /// A width, a height, a format, a depth, and paddings left, right, top and bottom.
@@ -70,19 +69,4 @@ fn check_refusals<T: Pixel>(rt: &impl Test, cases: &[(Shape, &str)]) {
 fn frames_are_refused_for_the_first_reason(rt: HostRuntime) {
     check_refusals::<u8>(&rt, &BYTES);
     check_refusals::<u16>(&rt, &WORDS);
-}
-
-/// With memory it is built; `rt try --test --fail-alloc N` refuses its request `N`, and takes the branch of the refusal.
-#[test]
-fn a_refused_build_of_three_planes_hands_out_no_frame(rt: HostRuntime) {
-    let rt = &rt;
-    match padded((4, 2), Yuv420, 8, [2, 2, 2, 0]).build::<u8>(rt.alloc()) {
-        Ok(frame) => {
-            must_have_plane(rt, &frame, 0, Some(&[0; 32]));
-            must_have_plane(rt, &frame, 1, Some(&[0; 8]));
-            must_have_plane(rt, &frame, 2, Some(&[0; 8]));
-            drop(frame);
-        }
-        Err(error) => same(rt, error, FrameError::OutOfMemory),
-    }
 }

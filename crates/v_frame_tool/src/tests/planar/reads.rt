@@ -1,9 +1,9 @@
-//! Frames that are read: whole, in pieces, not to their end, and not at all.
+//! Frames that are read: whole, in pieces, and not to their end.
 
 use crate::counted::Counted;
-use crate::planar::{PlanarError, read_frame};
+use crate::planar::read_frame;
 use crate::tests::support::buffers::{IN_200, must_show_rows};
-use crate::tests::support::checks::{Test, must_have, same, same_at};
+use crate::tests::support::checks::{Test, same, same_at};
 use crate::tests::support::frames::{BORDERED, built, luma, must_have_plane, padded, with_buffer};
 use crate::tests::support::planar::{six_bytes, without_u};
 use crate::tests::support::readers::pieces_of;
@@ -84,15 +84,6 @@ fn frames_are_read_in_pieces_whole_or_not_at_all(rt: HostRuntime) {
     }
 }
 
-/// Reads the bytes 11 to 16 into a frame. Stops the test where a byte is left then, or one is gone where that is refused.
-fn read_six(rt: &impl Test, frame: &mut Frame<u8>) -> Result<bool, PlanarError> {
-    let mut reader = Counted::new([11, 12, 13, 14, 15, 16].as_slice());
-    let read = read_frame(rt.alloc(), &mut reader, frame);
-    let left = if read.is_ok() { 0 } else { 6 };
-    same(rt, reader.inner().len(), left);
-    read
-}
-
 /// The bytes 11 to 16 in the border of `IN_200`.
 const READ_IN_200: [u8; 18] = [
     200, 200, 200, 200, 200, 200, 200, 11, 12, 13, 200, 200, 200, 14, 15, 16, 200, 200,
@@ -102,21 +93,10 @@ const READ_IN_200: [u8; 18] = [
 fn borders_are_kept(rt: HostRuntime) {
     let rt = &rt;
     let mut frame = with_buffer(rt, BORDERED, &IN_200);
-    same(rt, read_six(rt, &mut frame), Ok(true));
+    let mut reader = Counted::new([11, 12, 13, 14, 15, 16].as_slice());
+    let read = read_frame(rt.alloc(), &mut reader, &mut frame);
+    same(rt, (read, reader.inner().len()), (Ok(true), 0));
     must_show_rows(rt, &luma(frame), BORDERED, &READ_IN_200);
-}
-
-/// Where its request for memory is refused, which `rt try --test --fail-alloc N` does.
-#[test]
-fn without_memory_nothing_is_read(rt: HostRuntime) {
-    let rt = &rt;
-    let mut frame = with_buffer(rt, BORDERED, &IN_200);
-    let wanted = match read_six(rt, &mut frame) {
-        Ok(true) => READ_IN_200,
-        Err(PlanarError::OutOfMemory) => IN_200,
-        _ => panic!(rt; "another answer"),
-    };
-    must_have(rt, &luma(frame), &wanted);
 }
 
 /// Stops the test where the bytes 1 to 12 are not read so that the planes hold these pixels, and so many bytes are left.

@@ -1,8 +1,6 @@
-//! Elements whose drops are counted: each is dropped once, whatever becomes of its plane.
-//!
-//! Where `assume_init` is refused, `rt try --test --fail-alloc N` takes a test there, as in the refusals of replays.
+//! Elements whose drops are counted: each is dropped once, with its plane.
 
-use crate::tests::support::checks::{Test, must, same};
+use crate::tests::support::checks::{Test, same};
 use crate::tests::support::options::{vacant, values_of};
 use std::cell::Cell;
 use std::rc::Rc;
@@ -31,7 +29,7 @@ fn held(rt: &impl Test, drops: &Rc<Cell<u32>>, count: usize) -> Plane<Option<Cou
 }
 
 #[test]
-fn planes_of_options_of_values_and_given_back_drop_each_element_once(rt: HostRuntime) {
+fn planes_of_options_and_of_values_drop_each_element_once(rt: HostRuntime) {
     let rt = &rt;
     let drops = Rc::new(rt.alloc(), Cell::new(0)).ok().expect(rt, "memory");
     for count in [0, 3] {
@@ -45,12 +43,5 @@ fn planes_of_options_of_values_and_given_back_drop_each_element_once(rt: HostRun
     let values = values_of(rt, held(rt, &drops, 3));
     same(rt, drops.get(), 0);
     drop(values);
-    same(rt, drops.get(), 3);
-    drops.set(0);
-    let options = held(rt, &drops, 3);
-    must(rt, options.is_init());
-    let given = options.assume_init(rt.alloc());
-    same(rt, drops.get(), 0);
-    drop(given);
     same(rt, drops.get(), 3);
 }

@@ -7,16 +7,17 @@ use crate::tests::support::watched::Habit::Fails;
 use crate::tests::support::watched::{calls_of, must_have_taken, watched_writer};
 use v_frame::plane::CopyError;
 
-/// The pixels 1 to 20.
-static TWENTY: [u8; 20] = [
-    1, 2, 3, 4, 5, 6, 7, 8, 9, 10, 11, 12, 13, 14, 15, 16, 17, 18, 19, 20,
+/// The pixels 1 to 40.
+static FORTY: [u8; 40] = [
+    1, 2, 3, 4, 5, 6, 7, 8, 9, 10, 11, 12, 13, 14, 15, 16, 17, 18, 19, 20, 21, 22, 23, 24, 25, 26,
+    27, 28, 29, 30, 31, 32, 33, 34, 35, 36, 37, 38, 39, 40,
 ];
 
 /// Stops the test where so many pixels are answered otherwise, or are printed otherwise to a writer that takes so many bytes a
 /// call: eight are accepted, and any other number of them is refused for its length without a call of the writer.
 fn check_length(rt: &impl Test, length: usize, most: usize) {
     let mut out = watched_writer(rt.alloc(), most, 64, Fails);
-    let answer = run(rt.alloc(), &mut out, TWENTY.get(..length).unwrap_or(&[]));
+    let answer = run(rt.alloc(), &mut out, FORTY.get(..length).unwrap_or(&[]));
     let [writes, empty_writes, flushes] = calls_of(&out);
     same_at(rt, [empty_writes, flushes], [0; 2], length);
     same_at(rt, writes > 0, length == 8, length);
@@ -38,7 +39,7 @@ fn eight_pixels_are_printed_and_no_other_number(rt: HostRuntime) {
     for most in [1, 2, 15, 30, 31, 32, 100] {
         check_length(&rt, 8, most);
     }
-    for length in 0..=20 {
+    for length in 0..=40 {
         check_length(&rt, length, 100);
     }
 }

@@ -1,7 +1,7 @@
 //! Frames that show the same in different borders, through one list of calls that are accepted, refused, past the end and
 //! outside.
 
-use crate::tests::support::answers::{Step, calls_done};
+use crate::tests::support::answers::{Step, check_answers};
 use crate::tests::support::calls::Call::{
     Bytes, CopyStrided, PixelMut, Pixels, PixelsMut, RowsMut,
 };
@@ -64,7 +64,7 @@ fn mixed_calls_are_answered_in_each_border_and_keep_it(rt: HostRuntime) {
     let rt = &rt;
     for layout in [BARE, BORDERED] {
         let mut frame = framed(rt, layout, &BEFORE);
-        same(rt, calls_done(rt, &mut frame, &MIXED), 6);
+        check_answers(rt, &mut frame, &MIXED);
         same(rt, frame, framed(rt, layout, &AFTER));
     }
 }

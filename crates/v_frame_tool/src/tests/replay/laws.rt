@@ -2,12 +2,12 @@
 ghost use Rattle.std.specs.Prelude.{◌≡◌, [], ◌∷◌, None};
 ghost use Rattle.v_frame.specs.Prelude.{tables_of};
 
-use crate::tests::support::answers::{Step, are_told, calls_of};
+use crate::tests::support::answers::{Step, calls_of, must_answer};
 use crate::tests::support::buffers::must_hold;
 use crate::tests::support::calls::Call::{
     Bytes, CopyStrided, PixelMut, Pixels, PixelsMut, Row, RowMut, RowsMut, Width,
 };
-use crate::tests::support::checks::{Test, same};
+use crate::tests::support::checks::Test;
 use crate::tests::support::frames::{BORDERED, Layout, luma, numbered, padded};
 use crate::tests::support::texts::must_show;
 use v_frame::chroma::ChromaSubsampling::Yuv422;
@@ -87,7 +87,7 @@ static NINE: [Step<'static, u8>; 9] = [
 
 /// Stops the test where the nine calls are answered otherwise, or other pixels or another border are left.
 fn check_nine(rt: &impl Test, answers: &[Answer<u8>], plane: &Plane<u8>, layout: Layout) {
-    same(rt, are_told(rt, answers, &NINE), 9);
+    must_answer(rt, answers, &NINE);
     must_hold(rt, plane, layout, &[30, 8, 7, 6, 5, 4]);
 }
 

@@ -1,8 +1,8 @@
 //! Calls on each of three planes.
 
-use crate::tests::support::answers::{Step, calls_done};
+use crate::tests::support::answers::{Step, check_answers};
 use crate::tests::support::calls::Call::{CopyPixels, Height, Row, Width};
-use crate::tests::support::checks::{Test, must_have, same};
+use crate::tests::support::checks::{Test, must_have};
 use crate::tests::support::frames::{blank_plane, built, luma, padded};
 use v_frame::chroma::ChromaSubsampling::{Yuv420, Yuv422};
 use v_frame::frame::Frame;
@@ -11,7 +11,7 @@ use v_frame::plane::Plane;
 
 /// The luma plane of a frame behind these calls, all of which have to give their answers.
 fn answered<T: Pixel>(rt: &impl Test, mut frame: Frame<T>, steps: &[Step<'_, T>]) -> Plane<T> {
-    same(rt, calls_done(rt, &mut frame, steps), steps.len());
+    check_answers(rt, &mut frame, steps);
     luma(frame)
 }
 

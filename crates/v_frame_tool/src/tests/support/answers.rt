@@ -2,12 +2,12 @@
 
 use crate::tests::support::buffers::must_show_rows;
 use crate::tests::support::calls::{Call, visible};
-use crate::tests::support::checks::{Test, must, same, same_at};
+use crate::tests::support::checks::{Test, same};
 use crate::tests::support::frames::{Layout, luma, with_buffer};
 use crate::tests::support::texts::must_show;
 use v_frame::frame::Frame;
 use v_frame::pixel::Pixel;
-use v_frame::replay::{Answer, ReplayStopped, VisibleCall, replay};
+use v_frame::replay::{Answer, VisibleCall, replay};
 
 /// A call, and the debug text of its answer.
 pub type Step<'a, T> = (Call<'a, T>, &'a str);
@@ -33,38 +33,27 @@ pub fn calls_of<T: Copy>(rt: &impl Test, steps: &[Step<'_, T>]) -> Vec<VisibleCa
     calls
 }
 
-/// How many answers there are, which have to be those of the first calls.
-pub fn are_told<T: Pixel>(rt: &impl Test, answers: &[Answer<T>], steps: &[Step<'_, T>]) -> usize {
-    let mut left = answers.iter();
-    for (_call, text) in steps {
-        if let Some(answer) = left.next() {
-            must_show(rt, answer, *text);
-        }
+/// Stops the test where there is not one answer for each call, or one is shown otherwise.
+pub fn must_answer<T: Pixel>(rt: &impl Test, answers: &[Answer<T>], steps: &[Step<'_, T>]) {
+    same(rt, answers.len(), steps.len());
+    for (answer, (_call, text)) in answers.iter().zip(steps) {
+        must_show(rt, answer, *text);
     }
-    answers.len()
 }
 
-/// How many calls a replay did, each of which has to give its answer: all of them, or the first few where a request for
-/// memory is refused.
-pub fn calls_done<T: Pixel>(rt: &impl Test, frame: &mut Frame<T>, steps: &[Step<'_, T>]) -> usize {
+/// Replays these calls on a frame. Stops the test where one of them does not give its answer.
+pub fn check_answers<T: Pixel>(rt: &impl Test, frame: &mut Frame<T>, steps: &[Step<'_, T>]) {
     let calls = calls_of(rt, steps);
-    let replayed = replay(rt.alloc(), frame, calls.as_slice());
-    let answers = match &replayed {
-        Ok(answers) => answers.as_slice(),
-        Err(stopped) => stopped.done.as_slice(),
-    };
-    let done = are_told(rt, answers, steps);
-    must(rt, done <= steps.len());
-    same(rt, done < steps.len(), replayed.is_err());
-    done
+    let replayed = replay(rt.alloc(), frame, calls.as_slice()).ok();
+    let answers = replayed.expect(rt, "memory");
+    must_answer(rt, answers.as_slice(), steps);
 }
 
 /// Stops the test where one of these replays does not answer as it has to, or leaves another buffer.
 pub fn check_replays<T: Pixel>(rt: &impl Test, cases: &[Replay<'_, T>]) {
-    for (number, case) in cases.iter().enumerate() {
+    for case in cases {
         let mut frame = with_buffer(rt, case.layout, case.before);
-        let done = calls_done(rt, &mut frame, case.steps);
-        same_at(rt, done, case.steps.len(), number);
+        check_answers(rt, &mut frame, case.steps);
         must_show_rows(rt, &luma(frame), case.layout, case.after);
     }
 }
