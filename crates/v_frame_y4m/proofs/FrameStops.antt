@@ -1,5 +1,5 @@
 -- What a frame leaves of the reader behind the line in front of it.
-use Rattle.std.proofs.Common.{ℕ, ◌≡◌, ◌⊎◌, List, [], ◌∷◌, ◌++◌, Option, refl, sym, ◌∙◌, ap, subst, rules, append_assoc}
+use Rattle.std.proofs.Common.{ℕ, ◌≡◌, ◌≤◌, ◌⊎◌, List, [], ◌∷◌, ◌++◌, length, Option, refl, sym, ◌∙◌, ap, subst, rules, append_assoc}
 use mathlib.Core.Logic.{inl, inr}
 use Rattle.std.specs.Prelude.{Result, Ok, Err, IfErr, IsErrAnd}
 use Rattle.std.specs.Io.KnownBytes.{Consumes, IsAtEnd}
@@ -8,7 +8,7 @@ use Rattle.v_frame_planar.specs.Counted.{Watched, HasFailed}
 use Rattle.v_frame_planar.specs.Planar.{MayStopReading}
 use Rattle.v_frame_planar.specs.declared.error.PlanarError.{PlanarError}
 use Rattle.v_frame_planar.specs.declared.error.PlanarError.TheVariants.{Truncated, TooLarge, Read, Write, WriteZero, OutOfMemory}
-use Rattle.v_frame_y4m.specs.Streams.{IsFrameLine, MayStopInBytes, MayStopInFrame}
+use Rattle.v_frame_y4m.specs.Streams.{longest, IsFrameLine, IsLine, MayStopInBytes, MayStopInFrame}
 use Rattle.v_frame_y4m.specs.declared.error.Y4mError.{Y4mError}
 use Rattle.v_frame_y4m.specs.declared.error.Y4mError.TheVariants.{Planar}
 
@@ -38,25 +38,25 @@ module _ {R : Type 0} (remaining : R → Option (List ℕ)) (old mid new : Watch
   none_behind : new ≡ mid → Consumes (remaining mid.inner) (remaining new.inner) []
   none_behind same = subst (λ (w : Watched R). Consumes (remaining mid.inner) (remaining w.inner) []) (sym same) (Consumes-nil (remaining mid.inner))
 
-  module _ (n : ℕ) (is : IsFrameLine line) (same : mid.failures ≡ old.failures) where
+  module _ (n : ℕ) (is : IsFrameLine line) (ended : IsLine line) (short : length line ≤ longest) (same : mid.failures ≡ old.failures) where
     fault_stops : (fault : PlanarError)
         → MayStopReading remaining mid new n fault ⊎ ((fault ≡ Truncated n 0) × Consumes (remaining mid.inner) (remaining new.inner) [] × IsAtEnd
         (remaining new.inner) × (new.failures ≡ mid.failures))
         → MayStopInFrame remaining old new n (Planar fault)
-    fault_stops (Truncated e f) (inl s) = (s.0, inr s.2, (line, is, (s.3.0, after_line s.3.0 s.3.1, s.3.2)), s.4, s.5 ∙ same)
+    fault_stops (Truncated e f) (inl s) = (s.0, inr s.2, (line, is, ended, short, (s.3.0, after_line s.3.0 s.3.1, s.3.2)), s.4, s.5 ∙ same)
     fault_stops (Truncated e f) (inr s) = (
       ap expected_of s.0,
       inl (ap found_of s.0),
-      (line, is, ([], after_line [] s.1, sym (ap found_of s.0))),
+      (line, is, ended, short, ([], after_line [] s.1, sym (ap found_of s.0))),
       s.2,
       s.3 ∙ same,
     )
-    fault_stops TooLarge (inl s) = (s.0, (line, is, ([], after_line [] (none_behind s.1), refl)), ap (λ (w : Watched R). w.failures) s.1 ∙ same)
+    fault_stops TooLarge (inl s) = (s.0, (line, is, ended, short, ([], after_line [] (none_behind s.1), refl)), ap (λ (w : Watched R). w.failures) s.1 ∙ same)
     fault_stops TooLarge (inr s) = absurd (search (rules, s.0))
-    fault_stops OutOfMemory (inl s) = (s.0, (line, is, ([], after_line [] (none_behind s.1), refl)), ap (λ (w : Watched R). w.failures) s.1 ∙ same)
+    fault_stops OutOfMemory (inl s) = (s.0, (line, is, ended, short, ([], after_line [] (none_behind s.1), refl)), ap (λ (w : Watched R). w.failures) s.1 ∙ same)
     fault_stops OutOfMemory (inr s) = absurd (search (rules, s.0))
     fault_stops Read (inl s) = inr (
-      (s.0.0, s.0.1, (line, is, (s.0.2.0, after_line s.0.2.0 s.0.2.1, s.0.2.2))),
+      (s.0.0, s.0.1, (line, is, ended, short, (s.0.2.0, after_line s.0.2.0 s.0.2.1, s.0.2.2))),
       subst (λ (k : ℕ). HasFailed k new.failures) same s.1,
     )
     fault_stops Read (inr s) = absurd (search (rules, s.0))

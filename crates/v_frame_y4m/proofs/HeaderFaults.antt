@@ -76,7 +76,7 @@ module _ (parameters : List (List ℕ)) (h : StreamHeader) (says : Says paramete
 
   malformed : (text : List ℕ) → HasFault parameters (Malformed (record { bytes = text })) → ⊥
   malformed text (inl f) = f.1 (All-contains (λ x. Contains letters (slice_index x 0)) parameters text says.known f.0)
-  malformed text (inr (inl f)) = no_number text f
+  malformed text (inr (inl f)) = no_number text f.0
   malformed text (inr (inr (inl f))) = no_ratio 70 text h.frame_rate size.frame_rate says.frame_rate f
   malformed text (inr (inr (inr (inl f)))) = no_ratio 65 text h.pixel_aspect size.pixel_aspect says.pixel_aspect f
   malformed text (inr (inr (inr (inr f)))) = no_interlacing text h.interlacing says.interlacing f

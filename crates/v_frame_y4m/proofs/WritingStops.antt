@@ -10,7 +10,7 @@ use Rattle.v_frame_planar.specs.declared.error.PlanarError.{PlanarError}
 use Rattle.v_frame_planar.specs.declared.error.PlanarError.TheVariants.{Truncated, TooLarge, Read, Write, WriteZero, OutOfMemory}
 use Rattle.v_frame_planar.specs.declared.counted.WriteFault.{WriteFault}
 use Rattle.v_frame_planar.specs.declared.counted.WriteFault.TheVariants.{Failed, TookNothing}
-use Rattle.v_frame_y4m.specs.Streams.{MayStopWritingLine}
+use Rattle.v_frame_y4m.specs.Streams.{MayStopWritingFrame}
 use Rattle.v_frame_y4m.specs.declared.error.Y4mError.TheVariants.{Planar}
 
 module _ (front rest : List ℕ) where
@@ -36,22 +36,22 @@ module _ (front rest : List ℕ) where
   module _ {W : Type 0} (contents : W → Option (List ℕ)) (old mid new : Watched W) where
     -- the line was not written whole
     pub stops_in_line : (fault : WriteFault) → StopsWriting contents old new front fault
-        → MayStopWritingLine contents old new (front ++ rest) (Planar (error_of fault))
+        → MayStopWritingFrame contents old new (front ++ rest) (Planar (error_of fault))
     stops_in_line Failed stopped = (in_front _ _ stopped.0, stopped.1)
     stops_in_line TookNothing stopped = (in_front _ _ stopped.0, stopped.1)
 
     -- the line was, and what stands behind it was not
     pub stops_behind : Appends (contents old.inner) (contents mid.inner) front → mid.failures ≡ old.failures
-        → (fault : PlanarError) → MayStopWriting contents mid new rest fault → MayStopWritingLine contents old new (front ++ rest) (Planar fault)
+        → (fault : PlanarError) → MayStopWriting contents mid new rest fault → MayStopWritingFrame contents old new (front ++ rest) (Planar fault)
     stops_behind sent same (Truncated expected found) stopped = stopped
     stops_behind sent same TooLarge stopped = stopped
     stops_behind sent same Read stopped = stopped
-    stops_behind sent same OutOfMemory stopped = absurd stopped
+    stops_behind sent same OutOfMemory stopped = stopped
     stops_behind sent same Write stopped = (behind _ _ _ sent stopped.0, subst (λ (n : ℕ). HasFailed n new.failures) same stopped.1)
     stops_behind sent same WriteZero stopped = (behind _ _ _ sent stopped.0, stopped.1 ∙ same)
 
 -- a writer that gave up at all bytes
 pub stops_writing : {W : Type 0} (contents : W → Option (List ℕ)) (old new : Watched W) (bytes : List ℕ) (fault : WriteFault)
-    → StopsWriting contents old new bytes fault → MayStopWritingLine contents old new bytes (Planar (error_of fault))
+    → StopsWriting contents old new bytes fault → MayStopWritingFrame contents old new bytes (Planar (error_of fault))
 stops_writing contents old new bytes Failed stopped = stopped
 stops_writing contents old new bytes TookNothing stopped = stopped

@@ -53,7 +53,7 @@ module _ (parameters : List (List ℕ)) where
       (1 < length (of_letter letter parameters)) × IsOnce letter
   HasFault (Malformed text) =
       (Contains parameters text.bytes × ¬ (Contains letters (slice_index text.bytes 0)))
-      ⊎ (IsOfSize (λ letter. HasNoNumber letter text.bytes)
+      ⊎ ((IsOfSize (λ letter. HasNoNumber letter text.bytes) × ¬ (AreDigits (drop 1 text.bytes)))
       ⊎ (HasNoRatio 70 text.bytes ⊎ (HasNoRatio 65 text.bytes ⊎ HasNoInterlacing text.bytes)))
   HasFault (ZeroSize letter) =
       (of_letter letter parameters ≡ (letter ∷ decimal 0) ∷ [])

@@ -4,11 +4,10 @@ use Rattle.std.specs.Prelude.{ℕ, ◌≡◌, ◌≢◌, ◌+◌, ◌<◌, ◌�
 use Rattle.std.specs.Io.KnownBytes.{Consumes, IsAtEnd}
 use Rattle.std.specs.declared.io.ErrorKind.{ErrorKind}
 use Rattle.v_frame.specs.Prelude.{isize_max}
-use Rattle.v_frame_planar.specs.Counted.{Watched, HasFailed, StopsWriting}
-use Rattle.v_frame_planar.specs.Planar.{MayStopReading, TellsCause}
+use Rattle.v_frame_planar.specs.Counted.{Watched, HasFailed}
+use Rattle.v_frame_planar.specs.Planar.{MayStopReading, MayStopWriting, TellsCause}
 use Rattle.v_frame_planar.specs.declared.error.PlanarError.{PlanarError}
 use Rattle.v_frame_planar.specs.declared.error.PlanarError.TheVariants.{Truncated, TooLarge, Read, Write, WriteZero, OutOfMemory}
-use Rattle.v_frame_planar.specs.declared.counted.WriteFault.TheVariants.{Failed, TookNothing}
 use Rattle.v_frame_y4m.specs.Faults.{IsRefusedFor}
 use Rattle.v_frame_y4m.specs.Header.{IsHeader}
 use Rattle.v_frame_y4m.specs.declared.header.StreamHeader.{StreamHeader}
@@ -59,7 +58,7 @@ module _ {R : Type 0} (remaining : R → Option (List ℕ)) (old new : Watched R
   -- the error may come where a header is due
   abbrev pub MayStopInHeader : Y4mError → Type 0
   MayStopInHeader (Header error) =
-      ((line : List ℕ) × IsRefusedFor line error × IsLine line × Took (line ++ 10 ∷ []))
+      ((line : List ℕ) × IsRefusedFor line error × IsLine line × (length line ≤ longest) × Took (line ++ 10 ∷ []))
       × (new.failures ≡ old.failures)
   MayStopInHeader LineTooLong = MayStopInLine longest LineTooLong
   MayStopInHeader UnfinishedLine =
@@ -71,13 +70,14 @@ module _ {R : Type 0} (remaining : R → Option (List ℕ)) (old new : Watched R
   -- a frame of these planar bytes was read with the line in front, or the reader stood at its end
   abbrev pub ReadsFrame : List ℕ → Bool → Type 0
   ReadsFrame bytes true =
-      (line : List ℕ) × IsFrameLine line × IsLine line × Took (line ++ 10 ∷ bytes)
+      (line : List ℕ) × IsFrameLine line × IsLine line × Took (line ++ 10 ∷ bytes) × (length line ≤ longest)
   ReadsFrame bytes false = Took [] × IsAtEnd (remaining new.inner)
 
   -- the line in front of a frame was read, and so many bytes behind it
   abbrev pub TookOfFrame : ℕ → Type 0
   TookOfFrame count =
-      (line : List ℕ) × IsFrameLine line × ((bytes : List ℕ) × Took (line ++ 10 ∷ bytes) × (length bytes ≡ count))
+      (line : List ℕ) × IsFrameLine line × IsLine line × (length line ≤ longest)
+      × ((bytes : List ℕ) × Took (line ++ 10 ∷ bytes) × (length bytes ≡ count))
 
   -- the error may come at n planar bytes, behind the line in front of them
   abbrev pub MayStopInBytes : ℕ → Y4mError → Type 0
@@ -92,7 +92,7 @@ module _ {R : Type 0} (remaining : R → Option (List ℕ)) (old new : Watched R
   MayStopInFrame n LineTooLong = MayStopInLine longest LineTooLong
   MayStopInFrame n UnfinishedLine = MayStopInLine longest UnfinishedLine
   MayStopInFrame n NoFrame =
-      ((line : List ℕ) × ¬ (IsFrameLine line) × IsLine line × Took (line ++ 10 ∷ []))
+      ((line : List ℕ) × ¬ (IsFrameLine line) × IsLine line × (length line ≤ longest) × Took (line ++ 10 ∷ []))
       × (new.failures ≡ old.failures)
   MayStopInFrame n (Planar (Truncated expected found)) =
       (expected ≡ n) × ((found ≡ 0) ⊎ (found < n)) × TookOfFrame found
@@ -108,18 +108,18 @@ module _ {R : Type 0} (remaining : R → Option (List ℕ)) (old new : Watched R
   MayStopInFrame n (Planar WriteZero) = ⊥
 
 module _ {W : Type 0} (contents : W → Option (List ℕ)) (old new : Watched W) (bytes : List ℕ) where
-  -- the error may come at a writer that was to write these bytes
-  abbrev pub MayStopWritingLine : Y4mError → Type 0
-  MayStopWritingLine (Header error) = ⊥
-  MayStopWritingLine LineTooLong = ⊥
-  MayStopWritingLine UnfinishedLine = ⊥
-  MayStopWritingLine NoFrame = ⊥
-  MayStopWritingLine (Planar (Truncated expected found)) = ⊥
-  MayStopWritingLine (Planar TooLarge) = ⊥
-  MayStopWritingLine (Planar OutOfMemory) = new ≡ old
-  MayStopWritingLine (Planar Read) = ⊥
-  MayStopWritingLine (Planar Write) = StopsWriting contents old new bytes Failed
-  MayStopWritingLine (Planar WriteZero) = StopsWriting contents old new bytes TookNothing
+  -- the error may come at a frame of these bytes with its line, for which no memory is taken
+  abbrev pub MayStopWritingFrame : Y4mError → Type 0
+  MayStopWritingFrame (Header error) = ⊥
+  MayStopWritingFrame LineTooLong = ⊥
+  MayStopWritingFrame UnfinishedLine = ⊥
+  MayStopWritingFrame NoFrame = ⊥
+  MayStopWritingFrame (Planar error) = MayStopWriting contents old new bytes error
+
+  -- the error may come at a header line of these bytes, for which memory is taken first
+  abbrev pub MayStopWritingHeader : Y4mError → Type 0
+  MayStopWritingHeader error =
+      ((error ≡ Planar OutOfMemory) × (new ≡ old)) ⊎ MayStopWritingFrame error
 
 -- where a read or a write failed, the kind of its error is there, and else the last failure is as
 -- before

@@ -4,7 +4,7 @@ ghost use Rattle.std.specs.Io.KnownBytes.{Appends, Consumes};
 ghost use Rattle.v_frame.specs.Prelude.{isize_max, KeepsBorders, tables_of};
 ghost use Rattle.v_frame_planar.specs.Planar.{planar_bytes, sizes_of};
 ghost use Rattle.v_frame_y4m.specs.Header.{header_line, IsWritable};
-ghost use Rattle.v_frame_y4m.specs.Streams.{IsFrameLine, MayStopInBytes, MayStopInFrame, MayStopInHeader, MayStopWritingLine, ReadsFrame, ReadsHeader, TellsStreamCause};
+ghost use Rattle.v_frame_y4m.specs.Streams.{IsFrameLine, MayStopInBytes, MayStopInFrame, MayStopInHeader, MayStopWritingFrame, MayStopWritingHeader, ReadsFrame, ReadsHeader, TellsStreamCause};
 
 use crate::error::Y4mError;
 use crate::header::StreamHeader;
@@ -66,7 +66,7 @@ pub fn write_header<W: io::Write>(
     ensures ok { OnOk result (Appends (W.contents writer.old.inner)
         (W.contents writer.new.inner) (header_line header.now ++ 10 ∷ [])) }
     ensures uncounted { OnOk result (writer.new.failures ≡ writer.old.failures) }
-    ensures error { IfErr result (MayStopWritingLine W.contents writer.old writer.new
+    ensures error { IfErr result (MayStopWritingHeader W.contents writer.old writer.new
         (header_line header.now ++ 10 ∷ [])) }
     ensures cause { MatchResult result (λ _. writer.new.last_failure ≡ writer.old.last_failure)
         (TellsStreamCause writer.old.last_failure writer.new.last_failure) }
@@ -191,7 +191,7 @@ pub fn write_frame<T: Pixel, W: io::Write>(
     ensures ok { OnOk result (Appends (W.contents writer.old.inner)
         (W.contents writer.new.inner) (codes "FRAME" ++ 10 ∷ planar_bytes T.form (tables_of frame.now))) }
     ensures uncounted { OnOk result (writer.new.failures ≡ writer.old.failures) }
-    ensures error { IfErr result (MayStopWritingLine W.contents writer.old writer.new
+    ensures error { IfErr result (MayStopWritingFrame W.contents writer.old writer.new
         (codes "FRAME" ++ 10 ∷ planar_bytes T.form (tables_of frame.now))) }
     ensures cause { MatchResult result (λ _. writer.new.last_failure ≡ writer.old.last_failure)
         (TellsStreamCause writer.old.last_failure writer.new.last_failure) }
