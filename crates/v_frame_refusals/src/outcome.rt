@@ -9,6 +9,8 @@ pub enum Outcome {
     Unprepared,
     /// A request of the call was refused. It said so, and what stands is right.
     Kept,
+    /// A request of the call was refused, and what it gave is right: it was not needed.
+    Spared,
     /// The call answered `Ok`, and what it gave is right.
     Done,
     /// Something else, and what it was.
@@ -47,6 +49,7 @@ impl Outcome {
         match self {
             Outcome::Unprepared => "prepared: refused",
             Outcome::Kept => "refused: kept",
+            Outcome::Spared => "refused: not needed",
             Outcome::Done => "done",
             Outcome::Wrong(what) => what,
         }

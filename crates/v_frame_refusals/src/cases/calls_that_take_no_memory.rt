@@ -9,16 +9,20 @@ use v_frame::chroma::ChromaSubsampling::{Monochrome, Yuv420};
 use v_frame::frame::{Frame, FrameBuilder, FrameError};
 use v_frame::pixel::Pixel;
 use v_frame::plane::{PlaneGeometry, PlaneRef};
+use v_frame_buffer::AlignedData;
 use v_frame_planar::{Counted, write_frame};
 
-/// Builds that are refused before they ask for memory, reading over an array, the replay of no call, and a frame that is
-/// written.
+/// Builds that are refused before they ask for memory, reading over an array, buffers of no entries, the replay of no call,
+/// and a frame that is written.
 pub fn calls_that_take_no_memory(alloc: Global) -> Outcome {
     if !builds_are_refused(alloc) {
         return Outcome::Wrong("a build that is refused");
     }
     if !array_is_read() {
         return Outcome::Wrong("reading over an array");
+    }
+    if !empty_buffers_are_made(alloc) {
+        return Outcome::Wrong("a buffer of no entries");
     }
     match FrameBuilder::new(3, 2, Monochrome, 8).build::<u8>(alloc) {
         Ok(mut frame) => {
@@ -32,6 +36,20 @@ pub fn calls_that_take_no_memory(alloc: Global) -> Outcome {
         }
         Err(error) => Outcome::of_preparation(error),
     }
+}
+
+/// Whether a buffer of no entries is made: of zeros, of options, and of the values of options.
+fn empty_buffers_are_made(alloc: Global) -> bool {
+    let Ok(zeros) = AlignedData::new(alloc, 0_u16, 0) else {
+        return false;
+    };
+    let Ok(options) = AlignedData::<Option<u16>>::without_values(alloc, 0) else {
+        return false;
+    };
+    let Ok(values) = options.into_values(alloc) else {
+        return false;
+    };
+    zeros.as_slice().is_empty() && values.as_slice().is_empty()
 }
 
 /// Whether the replay of no call answers nothing, and leaves a blank frame as it is.

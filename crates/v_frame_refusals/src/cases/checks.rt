@@ -7,6 +7,11 @@ pub fn is<T: PartialEq + Drop>(found: T, wanted: T) -> bool {
     found == wanted
 }
 
+/// Whether bytes are those that are wanted.
+pub fn are(found: &[u8], wanted: &[u8]) -> bool {
+    found == wanted
+}
+
 /// Whether a plane has these entries, in its border too.
 pub fn has_entries<T: PartialEq>(plane: &Plane<T>, wanted: &[T]) -> bool {
     *plane.data() == *wanted

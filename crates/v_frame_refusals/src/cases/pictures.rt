@@ -1,7 +1,7 @@
 //! A frame of three planes, each with a picture in a border whose entries are numbered.
 
 use super::checks::{is, is_chroma, is_plane};
-use super::{Case, clones, planar, replays};
+use super::{Case, clones, laws, planar, replays, streams};
 use crate::outcome::Outcome;
 use std::alloc::Global;
 use v_frame::chroma::ChromaSubsampling::Yuv444;
@@ -42,7 +42,10 @@ pub fn on_a_frame(alloc: Global, case: Case) -> Outcome {
                 Case::CloneOfAPlane => clones::clone_of_a_plane(alloc, &frame),
                 Case::CloneOfAFrame => clones::clone_of_a_frame(alloc, &frame),
                 Case::ReadFrame => planar::read_a_frame(alloc, &mut frame),
-                _ => replays::replay_of_a_list(alloc, &mut frame),
+                Case::ReadFrameOfAStream => streams::read_a_frame_of_a_stream(alloc, &mut frame),
+                Case::Replay => replays::replay_of_a_list(alloc, &mut frame),
+                Case::SameTablesSameAnswers => laws::same_tables_same_answers(alloc, &mut frame),
+                _ => laws::law_on_a_frame(alloc, case, &mut frame),
             };
             drop(frame);
             outcome

@@ -1,9 +1,11 @@
-//! A frame that is read from its planar bytes.
+//! Frames that are read from their planar bytes.
 
+use super::checks::has_entries;
 use super::pictures::{Buffers, PREPARED, holds};
 use crate::outcome::Outcome;
 use std::alloc::Global;
-use v_frame::frame::Frame;
+use v_frame::chroma::ChromaSubsampling::Monochrome;
+use v_frame::frame::{Frame, FrameBuilder};
 use v_frame_planar::{Counted, PlanarError, read_frame};
 
 /// The bytes 1 to 36, low bytes first, and one behind them.
@@ -13,7 +15,7 @@ static BYTES: [u8; 37] = [
 ];
 
 /// What the three planes have behind the reading.
-static READ: Buffers = [
+pub static READ: Buffers = [
     [
         1000, 1001, 1002, 1003, 1004, 1005, 1006, 0x0201, 0x0403, 0x0605, 1010, 1011, 1012, 0x0807,
         0x0A09, 0x0C0B, 1016, 1017,
@@ -36,6 +38,54 @@ pub fn read_a_frame(alloc: Global, frame: &mut Frame<u16>) -> Outcome {
     match read {
         Ok(is_whole) => Outcome::done(is_whole && left == 1 && holds(frame, &READ)),
         Err(PlanarError::OutOfMemory) => Outcome::kept(left == 37 && holds(frame, &PREPARED)),
+        Err(_) => Outcome::Wrong("another error of the reader"),
+    }
+}
+
+/// A plane of three pixels by two in a border of 200, before and after the bytes 11 to 16 are read.
+static IN_200: [[u8; 18]; 2] = [
+    [
+        200, 200, 200, 200, 200, 200, 200, 1, 2, 3, 200, 200, 200, 4, 5, 6, 200, 200,
+    ],
+    [
+        200, 200, 200, 200, 200, 200, 200, 11, 12, 13, 200, 200, 200, 14, 15, 16, 200, 200,
+    ],
+];
+
+/// A frame of bytes in a border is read. Where memory is refused, nothing was read, and the frame is as it was.
+pub fn read_a_frame_of_bytes(alloc: Global) -> Outcome {
+    let builder = FrameBuilder::new(3, 2, Monochrome, 8)
+        .luma_padding_left(1)
+        .luma_padding_right(2)
+        .luma_padding_top(1);
+    match builder.build::<u8>(alloc) {
+        Ok(mut frame) => {
+            let [before, after] = &IN_200;
+            let data = frame.y_plane.data_mut();
+            if data.len() == before.len() {
+                data.copy_from_slice(before);
+            }
+            let outcome = seen_of_bytes(alloc, &mut frame, before, after);
+            drop(frame);
+            outcome
+        }
+        Err(error) => Outcome::of_preparation(error),
+    }
+}
+
+/// What is seen of the reading of the bytes 11 to 16.
+fn seen_of_bytes(alloc: Global, frame: &mut Frame<u8>, before: &[u8], after: &[u8]) -> Outcome {
+    if !has_entries(&frame.y_plane, before) {
+        return Outcome::Wrong("what was prepared");
+    }
+    let mut reader = Counted::new([11, 12, 13, 14, 15, 16].as_slice());
+    let read = read_frame(alloc, &mut reader, frame);
+    let left = reader.inner().len();
+    match read {
+        Ok(is_whole) => Outcome::done(is_whole && left == 0 && has_entries(&frame.y_plane, after)),
+        Err(PlanarError::OutOfMemory) => {
+            Outcome::kept(left == 6 && has_entries(&frame.y_plane, before))
+        }
         Err(_) => Outcome::Wrong("another error of the reader"),
     }
 }

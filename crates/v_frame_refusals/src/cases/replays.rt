@@ -10,12 +10,12 @@ use v_frame::plane::CopyError;
 use v_frame::replay::{Answer, Drawn, PixelDraw, RowDraw, Sequence, Side, VisibleCall, replay};
 
 /// What luma has after the first call.
-static WRITTEN_LUMA: Buffer = [
+pub static WRITTEN_LUMA: Buffer = [
     1000, 1001, 1002, 1003, 1004, 1005, 1006, 1, 2, 3, 1010, 1011, 1012, 4, 50, 6, 1016, 1017,
 ];
 
 /// What the second chroma plane has after the second call.
-static WRITTEN_CHROMA: Buffer = [
+pub static WRITTEN_CHROMA: Buffer = [
     3000, 3001, 3002, 3003, 3004, 3005, 3006, 7, 0, 0, 3010, 3011, 3012, 0, 0, 8, 3016, 3017,
 ];
 
@@ -72,7 +72,7 @@ fn seen_of(
 }
 
 /// The calls.
-fn calls(preparation: &mut Preparation) -> [VisibleCall<u16>; 6] {
+pub fn calls(preparation: &mut Preparation) -> [VisibleCall<u16>; 6] {
     [
         VisibleCall::RowsMut {
             plane: 0,
@@ -143,7 +143,7 @@ fn pixel_draws(preparation: &mut Preparation) -> Sequence<PixelDraw<u16>> {
 }
 
 /// What the calls have to answer.
-fn answers(preparation: &mut Preparation) -> [Answer<u16>; 6] {
+pub fn answers(preparation: &mut Preparation) -> [Answer<u16>; 6] {
     [
         Answer::RowsWalked {
             total: 2,
@@ -181,7 +181,7 @@ fn drawn_rows(preparation: &mut Preparation) -> Sequence<Drawn<Sequence<u16>>> {
 }
 
 /// An item that a call gives, and how many it leaves.
-fn given<I>(item: I, left: usize) -> Drawn<I> {
+pub fn given<I>(item: I, left: usize) -> Drawn<I> {
     Drawn {
         item: Some(item),
         left,
