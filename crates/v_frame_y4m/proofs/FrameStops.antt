@@ -53,8 +53,11 @@ module _ {R : Type 0} (remaining : R → Option (List ℕ)) (old mid new : Watch
     )
     fault_stops TooLarge (inl s) = (s.0, (line, is, ended, short, ([], after_line [] (none_behind s.1), refl)), ap (λ (w : Watched R). w.failures) s.1 ∙ same)
     fault_stops TooLarge (inr s) = absurd (search (rules, s.0))
-    fault_stops OutOfMemory (inl s) = (s.0, (line, is, ended, short, ([], after_line [] (none_behind s.1), refl)),
-      ap (λ (w : Watched R). w.failures) s.1 ∙ same)
+    fault_stops OutOfMemory (inl s) = (
+      s.0,
+      (line, is, ended, short, ([], after_line [] (none_behind s.1), refl)),
+      ap (λ (w : Watched R). w.failures) s.1 ∙ same,
+    )
     fault_stops OutOfMemory (inr s) = absurd (search (rules, s.0))
     fault_stops Read (inl s) = inr (
       (s.0.0, s.0.1, (line, is, ended, short, (s.0.2.0, after_line s.0.2.0 s.0.2.1, s.0.2.2))),
