@@ -77,7 +77,7 @@ impl<T: Pixel> Desk<T> {
         })
     }
 
-    /// How many pixels a case handles.
+    /// Returns how many pixels a case handles.
     pub fn pixels_of(&self, case: Case) -> usize {
         match case {
             Case::PixelScattered | Case::PixelMutScattered => PLACES,
@@ -126,7 +126,7 @@ impl<T: Pixel> Desk<T> {
         u64::from(luma) + u64::from(chroma) + u64::from(byte)
     }
 
-    /// A sum of all that the cases write, borders too, in which each place counts otherwise.
+    /// Returns a sum of all that the cases write, borders too, in which each place counts otherwise.
     pub fn checksum(&self) -> u64 {
         let mut sum = 0u64;
         for index in 0..3 {

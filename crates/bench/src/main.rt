@@ -52,7 +52,7 @@ fn run(rt: &HostRuntime) -> Result<(), BenchError> {
     measure_type::<u16>(rt, plan, "u16", 16)
 }
 
-/// The number that an argument is.
+/// Returns the number that an argument is.
 fn number(word: Option<String>) -> Result<u16, BenchError> {
     let word = word.ok_or(BenchError::Usage)?;
     word.parse::<u16>().map_err(|_| BenchError::Usage)
@@ -103,7 +103,7 @@ fn measure<T: Pixel>(
     Ok(())
 }
 
-/// A time as a number.
+/// Returns a time as a number.
 fn nanoseconds(time: Duration) -> u64 {
     u64::try_from(time.as_nanos()).unwrap_or(u64::MAX)
 }

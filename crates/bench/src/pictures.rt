@@ -7,7 +7,7 @@ use v_frame::pixel::Pixel;
 /// Places that are read or written in no order.
 pub const PLACES: usize = 100_000;
 
-/// The pixel of a number: one below 251, so that no period fits a row.
+/// Returns the pixel of a number: one below 251, so that no period fits a row.
 pub fn pixel_of<T: Pixel>(number: usize) -> T {
     T::from_u8((number % 251) as u8)
 }
@@ -58,7 +58,7 @@ pub fn places(alloc: Global, plan: Plan) -> Result<Vec<(usize, usize)>, AllocErr
     Ok(places)
 }
 
-/// The next state of the congruence.
+/// Returns the next state of the congruence.
 fn next(state: u32) -> u32 {
     state.wrapping_mul(1_664_525).wrapping_add(1_013_904_223)
 }

@@ -87,7 +87,7 @@ pub fn sum_of_places<T: Pixel>(plane: &Plane<T>, places: &[(usize, usize)]) -> u
     sum
 }
 
-/// How many pixels differ.
+/// Returns how many pixels differ.
 #[inline(never)]
 pub fn count_differing<T: Pixel>(a: &Plane<T>, b: &Plane<T>) -> u64 {
     let mut count = 0u64;

@@ -1,17 +1,22 @@
--- What an iterator that writes gives: rows, or pixels. A proof over a kind stands once: its last clause is checked for each kind, where these words compute.
---     walk_row, draw_row     the types of the iterator and of a draw.        Walk, Draw, Entry     their values, and what a draw changes
+-- What an iterator that writes gives: rows, or pixels. A proof over a kind stands once: its last clause is checked for
+-- each kind, where these words compute.
+-- walk_row, draw_row     the types of the iterator and of a draw.        Walk, Draw, Entry     their values, and what a
+-- draw changes
 --     left, shown, rows_of, slice     what is left of the iterator, and of a plane's; its rows, and its slice
---     side_of, made, written     what a draw says.        Second, Ends, Lends, Puts     how they end
+--     side_of, made, written     what a draw says.        FinalItems, Ends, Lends, Puts     how they end
 --     Begins     how the iterator of a plane begins.        Promise, Kept     what a function says, and that it is so
-use Rattle.v_frame_buffer.proofs.Steps.{◌≡◌, List, length, Option, MutBor, NamedLft, RattleType, Fml, Clauses, Logic, Ura, param, Running, Ended, closing}
-use Rattle.v_frame_buffer.proofs.Steps.{Meets, Callee, Model, All}
-use Rattle.v_frame_plane.specs.SecondPixels.{BeginsOver, LendsFirstPixel, LendsLastPixel, PixelEndsAs, SecondPixels}
-use Rattle.v_frame_plane.specs.SecondRows.{EndsAs, LendsFirstRow, LendsLastRow, SecondRows, WritesEachTable}
+use Rattle.v_frame_buffer.proofs.Steps.{◌≡◌, List, length, Option, MutBor, NamedLft, RattleType, Fml, Clauses, Logic}
+use Rattle.v_frame_buffer.proofs.Steps.{Ura, param, Running, Ended, closing, Meets, Callee, Model, All}
+use Rattle.v_frame_plane.specs.FinalPixels.{BeginsOver, LendsFirstPixel, LendsLastPixel, PixelEndsAs, FinalPixels}
+use Rattle.v_frame_plane.specs.FinalRows.{EndsAs, LendsFirstRow, LendsLastRow, FinalRows, WritesEachTable}
 use Rattle.v_frame.specs.Walk.{pixel_written, pixels_written, row_written, rows_written}
-use Rattle.v_frame_layout.specs.{Table.Table, Table.row_major}
-use Rattle.v_frame_plane.specs.{PixelsLeft.pixels_left, PixelsLeft.pixels_slice, Plane.Raster, Plane.table_of, RowsLeft.rows_left, RowsLeft.rows_slice}
+use Rattle.v_frame_raster.specs.{Table.Table, Table.row_major}
+use Rattle.v_frame_plane.specs.{PixelsLeft.pixels_left, PixelsLeft.pixels_slice, RowsLeft.rows_left}
+use Rattle.v_frame_plane.specs.{RowsLeft.rows_slice}
+use Rattle.v_frame_raster.specs.Raster.{Raster, table_of}
 use Rattle.v_frame_plane.specs.{declared.pixels_mut.PixelsMut.PixelsMut, declared.rows_mut.RowsMut.RowsMut}
-use Rattle.v_frame.specs.{DrawnItems.PutsBack, declared.replay.draw.PixelDraw.PixelDraw, declared.replay.draw.RowDraw.RowDraw, declared.replay.draw.Side.Side}
+use Rattle.v_frame.specs.{DrawnItems.PutsBack, declared.replay.draw.PixelDraw.PixelDraw}
+use Rattle.v_frame.specs.{declared.replay.draw.RowDraw.RowDraw, declared.replay.draw.Side.Side}
 use Rattle.v_frame.specs.{declared.replay.draw.Side.TheVariants.Front, declared.replay.draw.Side.TheVariants.Back}
 use Rattle.v_frame_plane.specs.contracts.pixels_mut.PixelsMut as pixels_mut
 use Rattle.v_frame_plane.specs.contracts.rows_mut.RowsMut as rows_mut
@@ -71,9 +76,9 @@ module _ (T : RattleType) where
   written of_pixels = pixels_written
   written _ = rows_written
 
-  abbrev pub Second : (k : Kind) → Walk k → List (Entry k) → Fml
-  Second of_pixels = SecondPixels (param 0 T)
-  Second _ = SecondRows (param 0 T)
+  abbrev pub FinalItems : (k : Kind) → Walk k → List (Entry k) → Fml
+  FinalItems of_pixels = FinalPixels (param 0 T)
+  FinalItems _ = FinalRows (param 0 T)
 
   abbrev pub Ends : (k : Kind) → MutBor (Entry k) → Entry k → Fml
   Ends of_pixels x = PixelEndsAs (param 0 T) x.ghost_name
@@ -87,7 +92,7 @@ module _ (T : RattleType) where
   Lends _ Back = LendsLastRow (param 0 T)
 
   abbrev pub Puts : (k : Kind) → List (Draw k) → Walk k → Walk k → Fml
-  Puts k = PutsBack (left k) (Second k) (side_of k) (made k)
+  Puts k = PutsBack (left k) (FinalItems k) (side_of k) (made k)
 
   abbrev Tells : (k : Kind) → Raster T.Denot → Walk k → Type 0
   Tells of_pixels plane walk = BeginsOver plane walk
@@ -101,5 +106,6 @@ module _ (T : RattleType) where
 abbrev pub Promise : {M : Type 1} → Ura M → Type 2
 Promise 𝓤 = (ended : Ended) × Clauses 𝓤 ended
 
-abbrev pub Kept : {M : Type 1} {𝓤 : Ura M} (𝓛 : Logic 𝓤) (𝓜 : Model 𝓤 𝓛.H) → Running 𝓤 𝓛.H 𝓜 → Promise 𝓤 → Callee → Type 1
+abbrev pub Kept : {M : Type 1} {𝓤 : Ura M} (𝓛 : Logic 𝓤) (𝓜 : Model 𝓤 𝓛.H) → Running 𝓤 𝓛.H 𝓜 → Promise 𝓤 → Callee →
+    Type 1
 Kept 𝓛 𝓜 𝓡 p f = Meets 𝓛 p.0.signature (𝓡.run (𝓡.env f)) (closing 𝓛 p.0 p.1)

@@ -3,12 +3,14 @@
 --     rows_back     the same, from what its rows end as
 --     lends_walk, walk_back     an iterator in a local is lent to a call, and is there again, as the call left it
 --     begins     what `rows_mut` and `pixels_mut` say of the iterator that they give
-use Rattle.v_frame_buffer.proofs.Steps.{◌^◌, ◌<◌, Laws, NamedLft, framed, param_laws, refl, tables, ◌⊑◌, ℕ, ◌≡◌, List, [], ◌∷◌, length, MutBor, Lft}
-use Rattle.v_frame_buffer.proofs.Steps.{Share, Fml, fat, flent, flft, fsep, full_share, ent, sep, fact, RattleType, MutRef, mut_vals, mem, named, param}
-use Rattle.v_frame_buffer.proofs.Steps.{Val, vptr, Ura, Goal, Item, Seq, Soaks, Step, step, ‵, raw, ◌⊛◌, some, later, ◌$◌, ◌∵◌, !, qed, await, drop}
-use Rattle.v_frame_buffer.proofs.Steps.{frame, fsplit, heard, move, pick, split, use1, use2, use3, Logic, sem, Body, Array, Ty, MachineTables, Running}
-use Rattle.v_frame_buffer.proofs.Steps.{Typed, Is, Callee, Lifetime, Place, call, seq, Model, Env, Post, lands, regoal, runs, mean, Opds, meet_⊑_right}
-use Rattle.v_frame_buffer.proofs.Steps.{fres, follows, lone, All}
+use Rattle.v_frame_buffer.proofs.Steps.{◌^◌, ◌<◌, Laws, NamedLft, framed, param_laws, refl, tables, ◌⊑◌, ℕ, ◌≡◌, List}
+use Rattle.v_frame_buffer.proofs.Steps.{[], ◌∷◌, length, MutBor, Lft, Share, Fml, fat, flent, flft, fsep, full_share}
+use Rattle.v_frame_buffer.proofs.Steps.{ent, sep, fact, RattleType, MutRef, mut_vals, mem, named, param, Val, vptr, Ura}
+use Rattle.v_frame_buffer.proofs.Steps.{Goal, Item, Seq, Soaks, Step, step, ‵, raw, ◌⊛◌, some, later, ◌$◌, ◌∵◌, !, qed}
+use Rattle.v_frame_buffer.proofs.Steps.{await, drop, frame, fsplit, heard, move, pick, split, use1, use2, use3, Logic}
+use Rattle.v_frame_buffer.proofs.Steps.{sem, Body, Array, Ty, MachineTables, Running, Typed, Is, Callee, Lifetime}
+use Rattle.v_frame_buffer.proofs.Steps.{Place, call, seq, Model, Env, Post, lands, regoal, runs, mean, Opds}
+use Rattle.v_frame_buffer.proofs.Steps.{meet_⊑_right, fres, follows, lone, All}
 use denote.Lowered.{Lowered}
 use mir.Syntax.{Body as Code, Opd as Operand}
 use Rattle.v_frame_plane.specs.contracts.plane.Plane as planes
@@ -17,14 +19,14 @@ use denote.Follow.{followed}
 use denote.Lend.{LentAgain, comes_back, lends_again}
 use mir.Raw.{raw as raw_ty}
 use Rattle.v_frame_plane.specs.PixelsLeft.{LendsPixelsInOrder, LendsPixelsInReverse, pixels_left, pixels_slice}
-use Rattle.v_frame_plane.specs.Plane.{Raster, table_of, with_entries}
+use Rattle.v_frame_raster.specs.Raster.{Raster, table_of, with_entries}
 use Rattle.v_frame_plane.specs.RowsLeft.{LendsRowsInOrder, LendsRowsInReverse, rows_left, rows_slice}
-use Rattle.v_frame_plane.specs.SecondRows.{SecondRows, WritesEachTable, entries_with}
+use Rattle.v_frame_plane.specs.FinalRows.{FinalRows, WritesEachTable, entries_with}
 use Rattle.v_frame.proofs.ItemKinds.{Begins, Kept, Kind, Promise, Walk, neither, of_pixels, slice, walk_row}
 use Rattle.v_frame_plane.proofs.lent.Loans.{Back, lft_over, lft_within, share_within}
-use Rattle.v_frame_layout.specs.{Table.row_major}
-use Rattle.v_frame_plane.specs.{Lends.LendsBuffer, Cursor.PixelsAreCountable, SecondPixels.BeginsOver, contracts.plane.Plane.the_row}
-use Rattle.v_frame_plane.specs.{declared.rows_mut.RowsMut.RowsMut}
+use Rattle.v_frame_raster.specs.{Table.row_major}
+use Rattle.v_frame_plane.specs.{Lends.LendsBuffer, Cursor.PixelsAreCountable, FinalPixels.BeginsOver}
+use Rattle.v_frame_plane.specs.{contracts.plane.Plane.the_row, declared.rows_mut.RowsMut.RowsMut}
 use Rattle.v_frame.proofs.CallSteps.{told, asks_that, calls, spelt}
 use base.Share
 use Rattle.v_frame_plane.proofs.lent.Loans as loans
@@ -36,85 +38,113 @@ module _ {M : Type 1} {𝓤 : Ura M} (𝓛 : Logic 𝓤) (T : RattleType) where
 
   -- what the plane's lender keeps
   abbrev pub Kept_by : (α δ : ℕ) (κ κT : Lft) (q : Share) → MutBor (Raster T.Denot) → Item 𝓤
-  Kept_by α δ κ κT q plane = ‵ (LentAgain (the_row (param 0 T)) κ (α ∷ κT) q plane.ghost_name plane.ref_ptr.0 plane.ref_ptr.1 δ plane.now)
+  Kept_by α δ κ κT q plane = ‵ (LentAgain (the_row (param 0 T)) κ (α ∷ κT) q plane.ghost_name plane.ref_ptr.0
+      plane.ref_ptr.1 δ plane.now)
 
   -- beside a plane that is lent: the tokens of its lifetime and of κT; what its lender keeps; the way back
   abbrev pub Loaned : (α δ : ℕ) (κ κT : Lft) (q qT : Share) → MutBor (Raster T.Denot) → List (Item 𝓤) → List (Item 𝓤)
-  Loaned α δ κ κT q qT plane Γ = ‵ (flft (α ∷ κT) (share_within (Share.left qT))) ∷ ‵ (flft κT (Share.right qT)) ∷ Kept_by α δ κ κT q plane ∷
+  Loaned α δ κ κT q qT plane Γ = ‵ (flft (α ∷ κT) (share_within (Share.left qT))) ∷ ‵ (flft κT (Share.right qT)) ∷
+      Kept_by α δ κ κT q plane ∷
       raw (Back 𝓛 α κT (Share.left qT)) ∷ Γ
 
 module _ {M : Type 1} {𝓤 : Ura M} {𝓛 : Logic 𝓤} {K : Type 0} {Γ : List (Item 𝓤)} {G : Goal 𝓤 𝓛.H} where
   module _ (t : K) (z : Soaks G) (T : RattleType) where
     pub lends_plane : (κ κT : Lft) (q qT : Share) (plane : MutBor (Raster T.Denot))
-        → ((α δ : ℕ) → Seq K 𝓛 (Owned 𝓛 T (α ∷ κT) (record plane { ghost_name = δ }) ∷ Loaned 𝓛 T α δ κ κT q qT plane Γ) G)
+        → ((α δ : ℕ) → Seq K 𝓛 (Owned 𝓛 T (α ∷ κT) (record plane { ghost_name = δ }) ∷ Loaned 𝓛 T α δ κ κT q qT plane
+        Γ) G)
         → Seq K 𝓛 (Owned 𝓛 T κ plane ∷ ‵ (flft κ q) ∷ ‵ (flft κT qT) ∷ Γ) G
     lends_plane κ κT q qT plane k =
-        move t (2 ∷ []) $ use1 𝓛 (‵ (flft κT (Share.left qT)) ⊛ ‵ (flft κT (Share.right qT))) (𝓛.lfts.lft_split κT qT) $ split t $
+        move t (2 ∷ []) $ use1 𝓛 (‵ (flft κT (Share.left qT)) ⊛ ‵ (flft κT (Share.right qT))) (𝓛.lfts.lft_split κT qT)
+        $ split t $
         lft_within t z κT (Share.left qT) (λ α. let κw : Lft = α ∷ κT in move t (3 ∷ 4 ∷ []) $
         use2 𝓛 (later (some (λ (δ : ℕ). Owned 𝓛 T κw (record plane { ghost_name = δ }) ⊛ Kept_by 𝓛 T α δ κ κT q plane)))
-        (lends_again 𝓛 (the_row (param 0 T)) (named 0) κ κw q plane.ghost_name plane.ref_ptr.0 plane.ref_ptr.1 (named 0) plane.now) $
+        (lends_again 𝓛 (the_row (param 0 T)) (named 0) κ κw q plane.ghost_name plane.ref_ptr.0 plane.ref_ptr.1
+        (named 0) plane.now) $
         await t z $ pick t (λ δ. split t $ move t (0 ∷ 2 ∷ 4 ∷ 1 ∷ 3 ∷ []) $ k α δ))
 
     pub plane_back : (α δ : ℕ) (κ κT : Lft) (q qT : Share) (plane : MutBor (Raster T.Denot)) (new : Raster T.Denot)
         → Step K 𝓛 (‵ (flft κT qT) ∷ Owned 𝓛 T κ (record plane { now = new }) ∷ ‵ (flft κ q) ∷ Γ) G
         (‵ (fres δ ((the_row (param 0 T)).coded.code new)) ∷ Loaned 𝓛 T α δ κ κT q qT plane Γ) G
-    plane_back α δ κ κT q qT plane new = step (λ k. move t (1 ∷ 4 ∷ []) $ lft_over t z α κT (Share.left qT) $ move t (0 ∷ 4 ∷ 2 ∷ []) $
+    plane_back α δ κ κT q qT plane new = step (λ k. move t (1 ∷ 4 ∷ []) $ lft_over t z α κT (Share.left qT) $ move t
+        (0 ∷ 4 ∷ 2 ∷ []) $
         use3 𝓛 (later (Owned 𝓛 T κ (record plane { now = new }) ⊛ ‵ (flft κ q)))
-        (comes_back 𝓛 (the_row (param 0 T)) (named 0) κ (α ∷ κT) q plane.ghost_name plane.ref_ptr.0 plane.ref_ptr.1 δ plane.now new) $ await t z $
+        (comes_back 𝓛 (the_row (param 0 T)) (named 0) κ (α ∷ κT) q plane.ghost_name plane.ref_ptr.0 plane.ref_ptr.1 δ
+        plane.now new) $ await t z $
         split t $ move t (2 ∷ 3 ∷ []) $ use2 𝓛 (‵ (flft κT qT)) (𝓛.lfts.lft_join κT qT) $ k)
 
-  -- [how the iterator ends; the tokens of its lifetime and of κT; how the plane's entries end; what the plane's lender keeps; the way back]
-  pub rows_back : K → Soaks G → (T : RattleType) (α δ : ℕ) (κ κT : Lft) (q qT : Share) (plane : MutBor (Raster T.Denot)) (walk : RowsMut T.Denot) (rows :
+  -- [how the iterator ends; the tokens of its lifetime and of κT; how the plane's entries end; what the plane's lender
+  -- keeps; the way back]
+  pub rows_back : K → Soaks G → (T : RattleType) (α δ : ℕ) (κ κT : Lft) (q qT : Share)
+      (plane : MutBor (Raster T.Denot)) (walk : RowsMut T.Denot) (rows :
       List (List T.Denot))
       → let new = with_entries plane.now (entries_with walk rows) in
       Step K 𝓛 (‵ (flft κT qT) ∷ Owned 𝓛 T κ (record plane { now = new }) ∷ ‵ (flft κ q) ∷ Γ) G
-      (‵ (SecondRows (param 0 T) walk rows) ∷ ‵ (flft (α ∷ κT) (share_within (Share.left qT))) ∷ ‵ (flft κT (Share.right qT)) ∷
-      ‵ (follows (the_row (param 0 T)) (Array (param 0 T) 0) δ walk.rest.ghost_name (with_entries plane.now)) ∷ Kept_by 𝓛 T α δ κ κT q plane ∷
+      (‵ (FinalRows (param 0 T) walk rows) ∷ ‵ (flft (α ∷ κT) (share_within (Share.left qT))) ∷ ‵
+      (flft κT (Share.right qT)) ∷
+      ‵ (follows (the_row (param 0 T)) (Array (param 0 T) 0) δ walk.rest.ghost_name (with_entries plane.now)) ∷ Kept_by
+      𝓛 T α δ κ κT q plane ∷
       raw (Back 𝓛 α κT (Share.left qT)) ∷ Γ) G
-  rows_back t z T α δ κ κT q qT plane walk rows = step (λ k. let Plane = the_row (param 0 T) in let entries = entries_with walk rows in
+  rows_back t z T α δ κ κT q qT plane walk rows = step
+      (λ k. let Plane = the_row (param 0 T) in let entries = entries_with walk rows in
       move t (3 ∷ 0 ∷ []) $ use2 𝓛 (‵ (fres δ (Plane.coded.code (with_entries plane.now entries))))
       (followed 𝓛 Plane (Array (param 0 T) 0) (with_entries plane.now) δ walk.rest.ghost_name entries) $
       plane_back t z T α δ κ κT q qT plane (with_entries plane.now entries) $ k)
 
-  module _ (t : K) (z : Soaks G) (R : RattleType) (one : R.mir ≡ lone R.mir ∷ []) (τ : Ty) (same : raw_ty τ ≡ raw_ty (lone R.mir)) (κ : Lft) (q : Share) where
+  module _ (t : K) (z : Soaks G) (R : RattleType) (one : R.mir ≡ lone R.mir ∷ []) (τ : Ty)
+      (same : raw_ty τ ≡ raw_ty (lone R.mir)) (κ : Lft) (q : Share) where
     -- [what is lent; the tokens of the loan and of κ; what its lender keeps; the way back]
     pub lends_walk : (x : R.Denot) (b o : ℕ) (v : Val)
-        → ((α γ : ℕ) → Seq K 𝓛 (‵ ((MutRef (named 0) (α ∷ κ) R).own_val (record { ref_ptr = (b, o); ghost_name = γ; now = x }) (vptr b o ∷ [])) ∷
-        ‵ (flft (α ∷ κ) (share_within (Share.left q))) ∷ ‵ (flft κ (Share.right q)) ∷ ‵ (flent (α ∷ κ) (Body (mem R) b o γ)) ∷
+        → ((α γ : ℕ) → Seq K 𝓛 (‵ ((MutRef (named 0) (α ∷ κ) R).own_val
+        (record { ref_ptr = (b, o); ghost_name = γ; now = x }) (vptr b o ∷ [])) ∷
+        ‵ (flft (α ∷ κ) (share_within (Share.left q))) ∷ ‵ (flft κ (Share.right q)) ∷ ‵
+        (flent (α ∷ κ) (Body (mem R) b o γ)) ∷
         raw (Back 𝓛 α κ (Share.left q)) ∷ Γ) G)
         → Seq K 𝓛 (‵ (fat full_share τ b o v) ∷ ‵ (R.own_val x (v ∷ [])) ∷ ‵ (flft κ q) ∷ Γ) G
     lends_walk x b o v k =
-        move t (2 ∷ []) $ use1 𝓛 (‵ (flft κ (Share.left q)) ⊛ ‵ (flft κ (Share.right q))) (𝓛.lfts.lft_split κ q) $ split t $ move t (2 ∷ 3 ∷ 0 ∷ []) $
+        move t (2 ∷ []) $ use1 𝓛 (‵ (flft κ (Share.left q)) ⊛ ‵ (flft κ (Share.right q))) (𝓛.lfts.lft_split κ q) $
+        split t $ move t (2 ∷ 3 ∷ 0 ∷ []) $
         loans.lends t z R one τ same κ (Share.left q) x b o v (λ α γ. move t (0 ∷ 2 ∷ 4 ∷ 1 ∷ 3 ∷ []) $ k α γ)
 
     pub walk_back : (α γ b o : ℕ) (new : R.Denot) (v : Val) {said : Fml} → ((u : Val) → Is R new (u ∷ []) → u ≡ v)
         → Step K 𝓛 (‵ (fat full_share τ b o v) ∷ ‵ (R.own_val new (v ∷ [])) ∷ ‵ (flft κ q) ∷ Γ) G
-        (‵ (flft (α ∷ κ) (share_within (Share.left q))) ∷ ‵ (flft κ (Share.right q)) ∷ ‵ (fsep (fres γ (R.coded.code new)) said) ∷
+        (‵ (flft (α ∷ κ) (share_within (Share.left q))) ∷ ‵ (flft κ (Share.right q)) ∷ ‵
+        (fsep (fres γ (R.coded.code new)) said) ∷
         ‵ (flent (α ∷ κ) (Body (mem R) b o γ)) ∷ raw (Back 𝓛 α κ (Share.left q)) ∷ Γ) G
     walk_back α γ b o new v spelled = step (λ k. move t (0 ∷ 4 ∷ []) $ lft_over t z α κ (Share.left q) $
         -- [the loan is over; both halves of the token of κ; the last value; what the lender keeps]
-        move t (1 ∷ 2 ∷ []) $ use2 𝓛 (‵ (flft κ q)) (𝓛.lfts.lft_join κ q) $ move t (2 ∷ []) $ fsplit t $ move t (3 ∷ 4 ∷ 0 ∷ []) $
+        move t (1 ∷ 2 ∷ []) $ use2 𝓛 (‵ (flft κ q)) (𝓛.lfts.lft_join κ q) $ move t (2 ∷ []) $ fsplit t $ move t
+        (3 ∷ 4 ∷ 0 ∷ []) $
         loans.comes_back t z R one τ same (α ∷ κ) γ b o new v spelled $ move t (2 ∷ []) $ drop t $ k)
 
 module _ {M : Type 1} {𝓤 : Ura M} (T : RattleType) (loan : MutBor (Raster T.Denot)) where
   -- what the calls say
   abbrev Said : (k : Kind) → Walk T k → Item 𝓤
-  Said of_pixels walk = ‵ (LendsBuffer (param 0 T) loan (pixels_slice walk)) ⊛ raw (fact 𝓤 ((pixels_slice walk).now ≡ loan.now.buffer)) ⊛
+  Said of_pixels walk = ‵ (LendsBuffer (param 0 T) loan (pixels_slice walk)) ⊛ raw
+      (fact 𝓤 ((pixels_slice walk).now ≡ loan.now.buffer)) ⊛
       raw (fact 𝓤 (pixels_left walk ≡ row_major (table_of loan.now))) ⊛ raw (fact 𝓤 (BeginsOver loan.now walk)) ⊛
-      raw (fact 𝓤 (length (pixels_left walk) < 2 ^ 63)) ⊛ raw (fact 𝓤 (LendsPixelsInOrder T.Denot)) ⊛ raw (fact 𝓤 (LendsPixelsInReverse T.Denot))
-  Said _ walk = ‵ (LendsBuffer (param 0 T) loan (rows_slice walk)) ⊛ raw (fact 𝓤 ((rows_slice walk).now ≡ loan.now.buffer)) ⊛
+      raw (fact 𝓤 (length (pixels_left walk) < 2 ^ 63)) ⊛ raw (fact 𝓤 (LendsPixelsInOrder T.Denot)) ⊛ raw
+      (fact 𝓤 (LendsPixelsInReverse T.Denot))
+  Said _ walk = ‵ (LendsBuffer (param 0 T) loan (rows_slice walk)) ⊛ raw
+      (fact 𝓤 ((rows_slice walk).now ≡ loan.now.buffer)) ⊛
       raw (fact 𝓤 (rows_left walk ≡ table_of loan.now)) ⊛ raw (fact 𝓤 (WritesEachTable loan.now walk)) ⊛
-      raw (fact 𝓤 (All (λ row. length row ≡ loan.now.geometry.width) (rows_left walk))) ⊛ raw (fact 𝓤 (PixelsAreCountable [] (rows_left walk) [])) ⊛
-      raw (fact 𝓤 (length (rows_left walk) < 2 ^ 63)) ⊛ raw (fact 𝓤 (LendsRowsInOrder T.Denot)) ⊛ raw (fact 𝓤 (LendsRowsInReverse T.Denot))
+      raw (fact 𝓤 (All (λ row. length row ≡ loan.now.geometry.width) (rows_left walk))) ⊛ raw
+      (fact 𝓤 (PixelsAreCountable [] (rows_left walk) [])) ⊛
+      raw (fact 𝓤 (length (rows_left walk) < 2 ^ 63)) ⊛ raw (fact 𝓤 (LendsRowsInOrder T.Denot)) ⊛ raw
+      (fact 𝓤 (LendsRowsInReverse T.Denot))
 
-  begins : (𝓛 : Logic 𝓤) (k : Kind) (walk : Walk T k) → ent 𝓤 (mean 𝓛 (Said k walk)) (sep 𝓤 (sem 𝓛 (LendsBuffer (param 0 T) loan (slice T k walk)))
+  begins : (𝓛 : Logic 𝓤) (k : Kind) (walk : Walk T k) → ent 𝓤 (mean 𝓛 (Said k walk))
+      (sep 𝓤 (sem 𝓛 (LendsBuffer (param 0 T) loan (slice T k walk)))
       (fact 𝓤 (Begins T k loan.now walk)))
-  begins 𝓛 of_pixels walk = qed 𝓛 (Said of_pixels walk ∷ []) ∵ split ! $ frame ! $ split ! $ drop ! $ split ! $ heard ! _ (λ all. split ! $
+  begins 𝓛 of_pixels walk = qed 𝓛 (Said of_pixels walk ∷ []) ∵ split ! $ frame ! $ split ! $ drop ! $ split ! $ heard !
+      _ (λ all. split ! $
       heard ! _ (λ tells. told ! (record { all = all; written = tells.written; tells = tells })))
-  begins 𝓛 k walk = qed 𝓛 (Said k walk ∷ []) ∵ split ! $ frame ! $ split ! $ drop ! $ split ! $ heard ! _ (λ all. split ! $
-      heard ! _ (λ written. split ! $ heard ! _ (λ tells. told ! (record { all = all; written = written; tells = tells }))))
+  begins 𝓛 k walk = qed 𝓛 (Said k walk ∷ []) ∵ split ! $ frame ! $ split ! $ drop ! $ split ! $ heard ! _
+      (λ all. split ! $
+      heard ! _ (λ written. split ! $ heard ! _ (λ tells. told !
+      (record { all = all; written = written; tells = tells }))))
 
-module _ {M : Type 1} {𝓤 : Ura M} (𝓛 : Logic 𝓤) (𝓜 : Model 𝓤 𝓛.H) (𝓡 : Running 𝓤 𝓛.H 𝓜) (T : RattleType) (laws : Laws T) where
+module _ {M : Type 1} {𝓤 : Ura M} (𝓛 : Logic 𝓤) (𝓜 : Model 𝓤 𝓛.H) (𝓡 : Running 𝓤 𝓛.H 𝓜) (T : RattleType)
+    (laws : Laws T) where
   abbrev 𝓣 : MachineTables 𝓤 𝓛.H 𝓜
   𝓣 = tables 𝓤 𝓛.H 𝓜 𝓡 𝓡.env
 
@@ -132,13 +162,16 @@ module _ {M : Type 1} {𝓤 : Ura M} (𝓛 : Logic 𝓤) (𝓜 : Model 𝓤 𝓛
 
   abbrev Begun : Kind → Type 2
   Begun neither = Unit {2}
-  Begun k = (K : Type 0) (Γ : List (Item 𝓤)) (E : Env 𝓤 𝓛.H) (p : Post 𝓤 𝓛.H) (f : Callee) (xs : List Operand) (d : Place) (rest : Code) → K →
+  Begun k = (K : Type 0) (Γ : List (Item 𝓤)) (E : Env 𝓤 𝓛.H) (p : Post 𝓤 𝓛.H) (f : Callee) (xs : List Operand)
+      (d : Place) (rest : Code) → K →
       Kept 𝓛 𝓜 𝓡 (opens k) f →
       (m : Lifetime) (κ κT : Lft) (q qT : Share) (plane : MutBor (Raster T.Denot)) → κT ⊑ T.lives →
       ((i j l : Item 𝓤) → Opds K 𝓛 (i ∷ j ∷ l ∷ Γ) E xs (mut_vals plane)) →
-      ((α δ : ℕ) (walk : Walk T k) → let ℓ : NamedLft = record { mir = m; lft = α ∷ κT } in let R = walk_row k ℓ (param 0 T) in
+      ((α δ : ℕ) (walk : Walk T k) → let ℓ : NamedLft = record { mir = m; lft = α ∷ κT } in let R = walk_row k ℓ
+      (param 0 T) in
       let u = (lowers k ℓ).lowered walk in Begins T k plane.now walk → Typed R.mir (u ∷ []) →
-      Seq K 𝓛 (‵ (R.own_val walk (u ∷ [])) ∷ ‵ (LendsBuffer (param 0 T) (record plane { ghost_name = δ }) (slice T k walk)) ∷
+      Seq K 𝓛 (‵ (R.own_val walk (u ∷ [])) ∷ ‵ (LendsBuffer (param 0 T) (record plane { ghost_name = δ })
+      (slice T k walk)) ∷
       Loaned 𝓛 T α δ κ κT q qT plane Γ) (lands 𝓣.C 𝓣.Λ E d u rest p))
       → Seq K 𝓛 (Owned 𝓛 T κ plane ∷ ‵ (flft κ q) ∷ ‵ (flft κT qT) ∷ Γ) (runs 𝓣.C 𝓣.Λ E (seq (call f xs d) rest) p)
 
@@ -147,9 +180,21 @@ module _ {M : Type 1} {𝓤 : Ura M} (𝓛 : Logic 𝓤) (𝓜 : Model 𝓤 𝓛
   begins_walk neither = tt
   begins_walk k = λ K Γ E p f xs d rest t opened m κ κT q qT plane inT os go. lends_plane t tt T κ κT q qT plane (λ α δ.
       let κw = α ∷ κT in let loan = record plane { ghost_name = δ } in
-      calls t (1 ∷ 2 ∷ 0 ∷ []) (framed 𝓤 𝓛.H 𝓜 𝓣) (opens k).0 (opens k).1 opened
-      (((κw, (κT, tt)), (share_within (Share.left qT), (Share.right qT, tt)), (meet_⊑_right (α ∷ []) κT, tt), (loan, tt), (mut_vals plane, tt)), tt)
-      (asks_that 𝓤 inT) refl (os _ _ _) (λ w ws. ‵ (LendsBuffer (param 0 T) loan (slice T k w)) ∷ raw (fact 𝓤 (Begins T k plane.now w)) ∷ [])
-      (λ w ws. begins T loan 𝓛 k w) (λ v w ws. let ℓ : NamedLft = record { mir = m; lft = κw } in let low = (lowers k ℓ).lowered in
-      spelt t (walk_row k ℓ (param 0 T)) low (lowers k ℓ).val_is w v (λ e is. regoal t (λ (u : Val). lands 𝓣.C 𝓣.Λ E d u rest p) e refl $
-      move t (2 ∷ 5 ∷ []) $ heard t _ (λ begun. drop t $ go α δ w begun (((walk_laws k ℓ).lawful 𝓛).typed w (low w ∷ []) is)))))
+      calls t (1 ∷ 2 ∷ 0 ∷ []) (framed 𝓤 𝓛.H 𝓜 𝓣) (opens k).0 (opens k).1 opened (
+        (
+          (κw, (κT, tt)),
+          (share_within (Share.left qT), (Share.right qT, tt)),
+          (meet_⊑_right (α ∷ []) κT, tt),
+          (loan, tt),
+          (mut_vals plane, tt),
+        ),
+        tt,
+      )
+      (asks_that 𝓤 inT) refl (os _ _ _) (λ w ws. ‵ (LendsBuffer (param 0 T) loan (slice T k w)) ∷ raw
+      (fact 𝓤 (Begins T k plane.now w)) ∷ [])
+      (λ w ws. begins T loan 𝓛 k w) (λ v w ws. let ℓ : NamedLft = record { mir = m; lft = κw } in let low =
+      (lowers k ℓ).lowered in
+      spelt t (walk_row k ℓ (param 0 T)) low (lowers k ℓ).val_is w v
+      (λ e is. regoal t (λ (u : Val). lands 𝓣.C 𝓣.Λ E d u rest p) e refl $
+      move t (2 ∷ 5 ∷ []) $ heard t _ (λ begun. drop t $ go α δ w begun
+      (((walk_laws k ℓ).lawful 𝓛).typed w (low w ∷ []) is)))))

@@ -2,7 +2,6 @@ pub mod BegunWalks
 pub mod BuiltFrames
 pub mod BytePaths
 pub mod CallSteps
-pub mod CutRows
 pub mod Drawing
 pub mod DrawnItems
 pub mod DrawnLoans
@@ -11,6 +10,7 @@ pub mod FullWalks
 pub mod ItemKinds
 pub mod Lending
 pub mod OptionCases
+pub mod OwnedItems
 pub mod PlaneCalls
 pub mod Replays
 pub mod SharedItems

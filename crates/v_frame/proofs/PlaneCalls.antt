@@ -2,8 +2,8 @@
 use Rattle.std.proofs.Common.{ℕ, ◌≡◌, Option, Some, None, option_map, sym, ◌∙◌, ap, rules}
 use Rattle.std.specs.Borrow.{MutBor}
 use Rattle.std.specs.Option.{option_copied_mut}
-use Rattle.v_frame_layout.specs.Pixel.{PixelForm}
-use Rattle.v_frame_plane.specs.Plane.{Raster, table_of}
+use Rattle.v_frame_raster.specs.Pixel.{PixelForm}
+use Rattle.v_frame_raster.specs.Raster.{Raster, table_of}
 use Rattle.v_frame.specs.Frame.{table_at, with_table, plane_at, tables_of}
 use Rattle.v_frame.specs.Lends.{with_plane}
 use Rattle.v_frame.specs.Replay.{named_plane, written_plane, on_table, on_tables, reply_to}
@@ -11,7 +11,8 @@ use Rattle.v_frame.specs.declared.frame.Frame.{Frame}
 use Rattle.v_frame.specs.declared.replay.call.VisibleCall.{VisibleCall}
 
 -- a call writes the plane that it names, or none
-idle : {T : Type 0} (call : VisibleCall T) (other : ℕ) → named_plane call ≡ other → (written_plane call ≡ Some other → ⊥) → written_plane call ≡ None
+idle : {T : Type 0} (call : VisibleCall T) (other : ℕ) → named_plane call ≡ other →
+    (written_plane call ≡ Some other → ⊥) → written_plane call ≡ None
 idle call other named unwritten = search rules
 
 module _ {T : Type 0} (frame : Frame T) where
@@ -20,7 +21,8 @@ module _ {T : Type 0} (frame : Frame T) where
   table_shown index = search rules
 
   -- a frame with another plane shows another table there
-  tables_shown : (index : ℕ) (plane : Raster T) → tables_of (with_plane frame index plane) ≡ with_table (tables_of frame) index (table_of plane)
+  tables_shown : (index : ℕ) (plane : Raster T) → tables_of (with_plane frame index plane) ≡ with_table
+      (tables_of frame) index (table_of plane)
   tables_shown index plane = search rules
 
   -- a plane beside the one that is replaced stays, and so does that one where it is replaced by itself
@@ -29,19 +31,27 @@ module _ {T : Type 0} (frame : Frame T) where
   stays index other plane new here same = search rules
 
   -- the plane that was lent is the one that the call names
-  pub found : (call : VisibleCall T) (index : ℕ) (result : Option (MutBor (Raster T))) (lent : MutBor (Raster T)) → index ≡ named_plane call
-      → option_copied_mut result ≡ plane_at frame index → result ≡ Some lent → plane_at frame (named_plane call) ≡ Some lent.now
+  pub found : (call : VisibleCall T) (index : ℕ) (result : Option (MutBor (Raster T))) (lent : MutBor (Raster T)) →
+      index ≡ named_plane call
+      → option_copied_mut result ≡ plane_at frame index → result ≡ Some lent → plane_at frame (named_plane call) ≡ Some
+      lent.now
   found call index result lent named is some = rw (← named, ← is, some)
 
-  module _ (form : PixelForm T) (call : VisibleCall T) (plane : Raster T) (here : plane_at frame (named_plane call) ≡ Some plane) where
-    pub reply_there : reply_to form call (tables_of frame) ≡ on_tables form call (tables_of frame) (Some (table_of plane))
+  module _ (form : PixelForm T) (call : VisibleCall T) (plane : Raster T)
+      (here : plane_at frame (named_plane call) ≡ Some plane) where
+    pub reply_there : reply_to form call (tables_of frame) ≡ on_tables form call (tables_of frame)
+        (Some (table_of plane))
     reply_there = rw (table_shown (named_plane call), here)
 
-    pub tables_there : (index : ℕ) (new : Raster T) → index ≡ named_plane call → table_of new ≡ (on_table form call (table_of plane)).table
+    pub tables_there : (index : ℕ) (new : Raster T) → index ≡ named_plane call → table_of new ≡
+        (on_table form call (table_of plane)).table
         → tables_of (with_plane frame index new) ≡ (reply_to form call (tables_of frame)).tables
     tables_there index new named is = rw (tables_shown index new, is, named, reply_there)
 
-    pub others_stay : (index : ℕ) (new : Raster T) → index ≡ named_plane call → (written_plane call ≡ None → new ≡ plane)
-        → (other : ℕ) → (written_plane call ≡ Some other → ⊥) → plane_at (with_plane frame index new) other ≡ plane_at frame other
+    pub others_stay : (index : ℕ) (new : Raster T) → index ≡ named_plane call →
+        (written_plane call ≡ None → new ≡ plane)
+        → (other : ℕ) → (written_plane call ≡ Some other → ⊥) → plane_at (with_plane frame index new) other ≡ plane_at
+        frame other
     others_stay index new named same other unwritten =
-        stays index other plane new (ap (plane_at frame) named ∙ here) (λ is. same (idle call other (sym named ∙ is) unwritten))
+        stays index other plane new (ap (plane_at frame) named ∙ here)
+        (λ is. same (idle call other (sym named ∙ is) unwritten))

@@ -1,8 +1,9 @@
 -- A replay, call after call: what one more call adds to the answers, the tables and the planes that may be written.
-use Rattle.std.proofs.Common.{ℕ, ◌≡◌, ◌+◌, ◌<◌, List, [], ◌∷◌, ◌++◌, length, take, get_or, Some, Any, length-take, refl, sym, ◌∙◌, ap, arith}
+use Rattle.std.proofs.Common.{ℕ, ◌≡◌, ◌+◌, ◌<◌, List, [], ◌∷◌, ◌++◌, length, take, get_or, Some, Any, length-take, refl}
+use Rattle.std.proofs.Common.{sym, ◌∙◌, ap, arith}
 use Rattle.std.proofs.lemmas.List.{take_more, take-take, get_or-take}
 use Rattle.v_frame.specs.Frame.{Tables, KeepsBorders}
-use Rattle.v_frame_layout.specs.Pixel.{PixelForm}
+use Rattle.v_frame_raster.specs.Pixel.{PixelForm}
 use Rattle.v_frame.specs.Replay.{written_plane, WritesPlane, reply_to, answers_to, tables_after}
 use Rattle.v_frame.specs.declared.frame.Frame.{Frame}
 use Rattle.v_frame.specs.declared.replay.answer.Answer.{Answer}
@@ -17,10 +18,12 @@ any_of_front P xs n h =
 
 module _ {T : Type 0} (form : PixelForm T) where
   answers_to-push : (calls : List (VisibleCall T)) (call : VisibleCall T) (tables : Tables T)
-      → answers_to form (calls ++ call ∷ []) tables ≡ answers_to form calls tables ++ (reply_to form call (tables_after form calls tables)).answer ∷ []
+      → answers_to form (calls ++ call ∷ []) tables ≡ answers_to form calls tables ++
+      (reply_to form call (tables_after form calls tables)).answer ∷ []
   answers_to-push [] call tables = refl
   answers_to-push (first ∷ calls) call tables =
-      ap (λ answers. (reply_to form first tables).answer ∷ answers) (answers_to-push calls call (reply_to form first tables).tables)
+      ap (λ answers. (reply_to form first tables).answer ∷ answers)
+      (answers_to-push calls call (reply_to form first tables).tables)
 
   tables_after-push : (calls : List (VisibleCall T)) (call : VisibleCall T) (tables : Tables T)
       → tables_after form (calls ++ call ∷ []) tables ≡ (reply_to form call (tables_after form calls tables)).tables
@@ -28,28 +31,40 @@ module _ {T : Type 0} (form : PixelForm T) where
   tables_after-push (first ∷ calls) call tables = tables_after-push calls call (reply_to form first tables).tables
 
   -- one more call of a list
-  module _ (calls : List (VisibleCall T)) (i : ℕ) (call : VisibleCall T) (within : i < length calls) (here : call ≡ get_or calls i call) where
-    pub answers_more : (old now : Tables T) (done : List (Answer T)) (answer : Answer T) → now ≡ tables_after form (take i calls) old →
-        done ≡ answers_to form (take i calls) old → answer ≡ (reply_to form call now).answer → done ++ answer ∷ [] ≡ answers_to form (take (i + 1) calls) old
-    answers_more old now done answer tables answers is = rw (take_more calls i call within, ← here, answers_to-push, ← tables, ← answers, is)
+  module _ (calls : List (VisibleCall T)) (i : ℕ) (call : VisibleCall T) (within : i < length calls)
+      (here : call ≡ get_or calls i call) where
+    pub answers_more : (old now : Tables T) (done : List (Answer T)) (answer : Answer T) → now ≡ tables_after form
+        (take i calls) old →
+        done ≡ answers_to form (take i calls) old → answer ≡ (reply_to form call now).answer → done ++ answer ∷ [] ≡
+        answers_to form (take (i + 1) calls) old
+    answers_more old now done answer tables answers is = rw
+        (take_more calls i call within, ← here, answers_to-push, ← tables, ← answers, is)
 
-    pub tables_more : (old now new : Tables T) → now ≡ tables_after form (take i calls) old → new ≡ (reply_to form call now).tables →
+    pub tables_more : (old now new : Tables T) → now ≡ tables_after form (take i calls) old → new ≡
+        (reply_to form call now).tables →
         new ≡ tables_after form (take (i + 1) calls) old
     tables_more old now new tables is = rw (take_more calls i call within, ← here, tables_after-push, ← tables) is
 
 module _ {T : Type 0} where
   -- planes that the first calls may write, and that one more may
-  module _ (calls : List (VisibleCall T)) (i : ℕ) (call : VisibleCall T) (within : i < length calls) (here : call ≡ get_or calls i call) where
+  module _ (calls : List (VisibleCall T)) (i : ℕ) (call : VisibleCall T) (within : i < length calls)
+      (here : call ≡ get_or calls i call) where
     pub written_before : (index : ℕ) → WritesPlane (take i calls) index → WritesPlane (take (i + 1) calls) index
     written_before index h =
         let again : take i (take (i + 1) calls) ≡ take i calls = take-take i (i + 1) calls (omega arith) in
         any_of_front (λ (c : VisibleCall T). written_plane c ≡ Some index) (take (i + 1) calls) i (rw again h)
 
     pub written_now : (index : ℕ) → written_plane call ≡ Some index → WritesPlane (take (i + 1) calls) index
-    written_now index h =
-        (i, call, omega (arith, length-take (i + 1) calls), get_or-take (i + 1) calls i call (omega arith) ∙ sym here, h)
+    written_now index h = (
+      i,
+      call,
+      omega (arith, length-take (i + 1) calls),
+      get_or-take (i + 1) calls i call (omega arith) ∙ sym here,
+      h,
+    )
 
-  pub written_in_front : (calls : List (VisibleCall T)) (i index : ℕ) → WritesPlane (take i calls) index → WritesPlane calls index
+  pub written_in_front : (calls : List (VisibleCall T)) (i index : ℕ) → WritesPlane (take i calls) index → WritesPlane
+      calls index
   written_in_front calls i index h = any_of_front (λ (c : VisibleCall T). written_plane c ≡ Some index) calls i h
 
   -- what is kept twice is kept

@@ -1,14 +1,16 @@
 -- Calls of a writing iterator that write nothing leave its items as before, and so the plane where its border is kept.
-use Rattle.std.proofs.Common.{◌≡◌, List, [], ◌∷◌, Option, None, All, get_or, length, refl, sym, ◌∙◌, ap}
+use Rattle.std.proofs.Common.{◌≡◌, List, [], None, All, get_or, length, refl, sym, ◌∙◌, ap}
 use Rattle.std.proofs.lemmas.List.{map-id}
-use Rattle.std.proofs.lemmas.List.Elements.{All-head, All-tail}
-use Rattle.v_frame_layout.specs.{Geometry.alloc_size_of, Table.overwritten_row, Table.row_major}
-use Rattle.v_frame_plane.specs.Plane.{KeepsBorder, Raster, table_of}
-use Rattle.v_frame_plane.proofs.tables.{Determined.determines_buffer, Places.rows_are_wide}
+use Rattle.v_frame_raster.specs.{Geometry.alloc_size_of, Table.row_major}
+use Rattle.v_frame_raster.specs.Raster.{KeepsBorder, Raster, table_of}
+use Rattle.v_frame_raster.proofs.tables.CutRows.{cut_again}
+use Rattle.v_frame_raster.proofs.tables.Determined.{determines_buffer}
+use Rattle.v_frame_raster.proofs.tables.Overwrites.{overwritten_by_gaps}
+use Rattle.v_frame_raster.proofs.tables.Places.{rows_are_wide}
 use Rattle.v_frame.specs.Walk.{pixel_written, pixels_written, row_written, rows_written, walk_leaves}
 use Rattle.v_frame.specs.Walk.{side_of_pixel, side_of_row}
 use Rattle.v_frame.specs.declared.replay.draw.{PixelDraw.PixelDraw, RowDraw.RowDraw, Side.Side}
-use Rattle.v_frame.proofs.{CutRows.cut_again, DrawnItems.Keeps, DrawnItems.kept_after}
+use Rattle.v_frame.proofs.{DrawnItems.Keeps, DrawnItems.kept_after}
 
 module _ {X D : Type 0} (side_of : D → Side) (make : D → X → X) where
   abbrev Idle : D → Type 0
@@ -20,15 +22,6 @@ module _ {X D : Type 0} (side_of : D → Side) (make : D → X → X) where
       map-id items
 
 module _ {T : Type 0} where
-  abbrev IsNone : Option T → Type 0
-  IsNone write = write ≡ None
-
-  row_kept : (row : List T) (writes : List (Option T)) → All IsNone writes → overwritten_row row writes ≡ row
-  row_kept [] writes none = refl
-  row_kept (pixel ∷ row) [] none = refl
-  row_kept (pixel ∷ row) (write ∷ writes) none =
-      rw (All-head IsNone write writes none, row_kept row writes (All-tail IsNone write writes none)) refl
-
   -- whole buffers, as `data` shows them
   module _ (old new : Raster T) (before after : List T) (is_old : before ≡ old.buffer) (is_new : after ≡ new.buffer)
       (whole_old : length before ≡ alloc_size_of old.geometry) (whole_new : length after ≡ alloc_size_of new.geometry)
@@ -41,13 +34,14 @@ module _ {T : Type 0} where
         (ap (λ kept. kept.0) border) table (ap (λ kept. kept.1) border)
 
     pub rows_kept : (draws : List (RowDraw T)) → table_of new ≡ rows_written (table_of old) draws →
-        All (λ draw. All IsNone draw.writes) draws → new ≡ old
+        All (λ draw. All (λ write. write ≡ None) draw.writes) draws → new ≡ old
     rows_kept draws is none = same_plane (is ∙ all_kept side_of_row row_written (table_of old) draws
-        (λ k d h row. row_kept row (get_or draws k d).writes (none k d h)))
+        (λ k d h row. overwritten_by_gaps row (get_or draws k d).writes (none k d h)))
 
     pub pixels_kept : (draws : List (PixelDraw T)) → table_of new ≡ pixels_written (table_of old) draws →
         All (λ draw. draw.value ≡ None) draws → new ≡ old
     pixels_kept draws is none =
         let table = table_of old in
-        let pixels = all_kept side_of_pixel pixel_written (row_major table) draws (λ k d h pixel. rw (none k d h) refl) in
+        let pixels = all_kept side_of_pixel pixel_written (row_major table) draws (λ k d h pixel. rw (none k d h) refl)
+        in
         same_plane (is ∙ rw pixels (cut_again old.geometry.width table table refl (rows_are_wide old long)))

@@ -1,9 +1,11 @@
--- What is drawn from an iterator and changed: the item that a call gives, and the promises of the functions that draw and change it, by the kind that the
+-- What is drawn from an iterator and changed: the item that a call gives, and the promises of the functions that draw
+-- and change it, by the kind that the
 -- iterator is of. Assumes `Logic`.
 use Rattle.v_frame.proofs.Steps.{finally-res, mut_ref_field, mut_ref_laws, mut_ref_shared}
-use Rattle.v_frame_buffer.proofs.Steps.{List, MutRef, MutSlice, Val, done, fsplit, is, keep, named, param, param_laws, refl, use1, vptr, yes, ! }
-use Rattle.v_frame_buffer.proofs.Steps.{[], ‵, ◌$◌, ◌∷◌, ◌≡◌, Fml, NamedLft, Lft, Is, of_field, row_shared, qed, ◌∵◌, Logic, Ura, RattleType, Laws, ent}
-use Rattle.v_frame_buffer.proofs.Steps.{sem, Running, RowLaws, Dict, Model}
+use Rattle.v_frame_buffer.proofs.Steps.{List, MutRef, MutSlice, Val, done, fsplit, is, keep, named, param, param_laws}
+use Rattle.v_frame_buffer.proofs.Steps.{refl, use1, vptr, yes, !, [], ‵, ◌$◌, ◌∷◌, ◌≡◌, Fml, NamedLft, Lft, Is}
+use Rattle.v_frame_buffer.proofs.Steps.{of_field, row_shared, qed, ◌∵◌, Logic, Ura, RattleType, Laws, ent, sem, Running}
+use Rattle.v_frame_buffer.proofs.Steps.{RowLaws, Dict, Model}
 use denote.Exit.{Last, left as left_at}
 use Rattle.v_frame.proofs.ItemKinds.{Ends, Kind, Promise, draw_row, of_pixels}
 use Rattle.std.specs.{declared.clone.Clone.Ghosts}
@@ -27,7 +29,8 @@ module _ (T : RattleType) where
 
     abbrev pub given_laws : (k : Kind) → Laws T → Laws (given k)
     given_laws of_pixels laws = let ℓ : NamedLft = record { mir = named 1; lft = κ } in let item = param 0 T in
-        of_field (mut_ref_field ℓ item tt) (mut_ref_laws ℓ item tt) refl (mut_ref_shared ℓ item tt (row_shared item (param_laws 0 T laws)))
+        of_field (mut_ref_field ℓ item tt) (mut_ref_laws ℓ item tt) refl
+        (mut_ref_shared ℓ item tt (row_shared item (param_laws 0 T laws)))
     given_laws _ laws = slice_laws T κ laws
 
     abbrev pub its_value : (k : Kind) → (given k).Denot → Val
@@ -43,9 +46,11 @@ module _ (T : RattleType) where
     Left of_pixels x = Ends T of_pixels x
     Left k x = Ends T k x
 
-    pub left_as : {M : Type 1} {𝓤 : Ura M} (𝓛 : Logic 𝓤) (k : Kind) (x : (given k).Denot) (w : Last ((given k).exit yes) x) →
+    pub left_as : {M : Type 1} {𝓤 : Ura M} (𝓛 : Logic 𝓤) (k : Kind) (x : (given k).Denot)
+        (w : Last ((given k).exit yes) x) →
         ent 𝓤 (sem 𝓛 (left_at ((given k).exit yes) x w)) (sem 𝓛 (Left k x w))
-    left_as 𝓛 of_pixels x w = qed 𝓛 (‵ (left_at ((given of_pixels).exit yes) x w) ∷ []) ∵ fsplit ! $ keep ! (0 ∷ []) $ done !
+    left_as 𝓛 of_pixels x w = qed 𝓛 (‵ (left_at ((given of_pixels).exit yes) x w) ∷ []) ∵ fsplit ! $ keep ! (0 ∷ []) $
+        done !
     left_as 𝓛 k x w = qed 𝓛 (‵ (left_at ((given k).exit yes) x w) ∷ []) ∵ fsplit ! $ fsplit ! $ keep ! (0 ∷ []) $
         use1 𝓛 (‵ (Left k x w)) (finally-res 𝓛 (param 0 T) x.ghost_name w) $ done !
 
@@ -55,11 +60,30 @@ module _ {M : Type 1} {𝓤 : Ura M} (𝓛 : Logic 𝓤) (𝓜 : Model 𝓤 𝓛
   asks _ = (replay.draw.RowDrawDraw.side.ended T, replay.draw.RowDrawDraw.side.clauses T 𝓛 𝓜.mem 𝓡.returns)
 
   abbrev pub draws : Kind → Side → Promise 𝓤
-  draws of_pixels Front = (lower.pixels_mut.PixelsMut.next.ended T, lower.pixels_mut.PixelsMut.next.clauses T 𝓛 𝓜.mem 𝓡.returns)
-  draws of_pixels Back = (lower.pixels_mut.PixelsMut.next_back.ended T, lower.pixels_mut.PixelsMut.next_back.clauses T 𝓛 𝓜.mem 𝓡.returns)
+  draws of_pixels Front = (
+    lower.pixels_mut.PixelsMut.next.ended T,
+    lower.pixels_mut.PixelsMut.next.clauses T 𝓛 𝓜.mem
+        𝓡.returns,
+  )
+  draws of_pixels Back = (
+    lower.pixels_mut.PixelsMut.next_back.ended T,
+    lower.pixels_mut.PixelsMut.next_back.clauses T
+        𝓛 𝓜.mem 𝓡.returns,
+  )
   draws _ Front = (lower.rows_mut.RowsMut.next.ended T, lower.rows_mut.RowsMut.next.clauses T 𝓛 𝓜.mem 𝓡.returns)
-  draws _ Back = (lower.rows_mut.RowsMut.next_back.ended T, lower.rows_mut.RowsMut.next_back.clauses T 𝓛 𝓜.mem 𝓡.returns)
+  draws _ Back = (
+    lower.rows_mut.RowsMut.next_back.ended T,
+    lower.rows_mut.RowsMut.next_back.clauses T 𝓛 𝓜.mem
+        𝓡.returns,
+  )
 
   abbrev pub changes : Ghosts T.Denot → Dict → Kind → Promise 𝓤
-  changes clone dict of_pixels = (replay.pixel_writes.replace_by.ended T clone dict, replay.pixel_writes.replace_by.clauses T clone dict 𝓛 𝓜.mem 𝓡.returns)
-  changes clone dict _ = (replay.row_writes.overwrite_by.ended T clone dict, replay.row_writes.overwrite_by.clauses T clone dict 𝓛 𝓜.mem 𝓡.returns)
+  changes clone dict of_pixels = (
+    replay.pixel_writes.replace_by.ended T clone dict,
+    replay.pixel_writes.replace_by.clauses T clone dict 𝓛 𝓜.mem 𝓡.returns,
+  )
+  changes clone dict _ = (
+    replay.row_writes.overwrite_by.ended T clone dict,
+    replay.row_writes.overwrite_by.clauses T
+        clone dict 𝓛 𝓜.mem 𝓡.returns,
+  )

@@ -1,14 +1,15 @@
 -- What a builder is asked for, which frames can be built, and what a built frame holds.
-use Rattle.std.specs.Prelude.{ℕ, ◌*◌, ◌≡◌, ◌==◌, ◌&&◌, ◌||◌, not, nat_lt, nat_le, if◌then◌else◌, Bool, All, Option, Some, None, IfSome, Ok, is_ok}
-use Rattle.std.specs.Prelude.{option_map}
+use Rattle.std.specs.Prelude.{ℕ, ◌*◌, ◌≡◌, ◌==◌, ◌&&◌, ◌||◌, not, nat_lt, nat_le, if◌then◌else◌, Bool, All, Option}
+use Rattle.std.specs.Prelude.{Some, None, IfSome, Ok, is_ok, option_map}
 use Rattle.std.specs.Int.NonZero.{non_zero_u8_get}
-use Rattle.v_frame_layout.specs.Geometry.{Geometry, geometry_of, stride_of, alloc_size_of, usize_max, isize_max}
-use Rattle.v_frame_layout.specs.Chroma.{chroma_size_of, subsampled, geometry_in}
-use Rattle.v_frame_layout.specs.declared.chroma.ChromaSubsampling.{ChromaSubsampling}
-use Rattle.v_frame_plane.specs.Plane.{Raster, filled}
+use Rattle.v_frame_raster.specs.Geometry.{Geometry, geometry_of, stride_of, alloc_size_of, usize_max, isize_max}
+use Rattle.v_frame_raster.specs.Chroma.{chroma_size_of, subsampled, geometry_in}
+use Rattle.v_frame_raster.specs.declared.chroma.ChromaSubsampling.{ChromaSubsampling}
+use Rattle.v_frame_raster.specs.Raster.{Raster, filled}
 use Rattle.v_frame.specs.declared.frame.Frame.{Frame}
 use Rattle.v_frame.specs.declared.frame.error.FrameError.{FrameError}
-use Rattle.v_frame.specs.declared.frame.error.FrameError.TheVariants.{UnsupportedBitDepth, DataTypeMismatch, UnsupportedResolution}
+use Rattle.v_frame.specs.declared.frame.error.FrameError.TheVariants.{UnsupportedBitDepth, DataTypeMismatch}
+use Rattle.v_frame.specs.declared.frame.error.FrameError.TheVariants.{UnsupportedResolution}
 
 pub record FrameRequest : Type 0 where
   pub width : ℕ

@@ -6,11 +6,11 @@ use Rattle.std.specs.Borrow.{Fml, RattleType}
 use base.Fml.{fwand, fall}
 use Rattle.v_frame_plane.specs.PixelsLeft.{pixels_left}
 use Rattle.v_frame_plane.specs.RowsLeft.{rows_left}
-use Rattle.v_frame_plane.specs.SecondPixels.{SecondPixels}
-use Rattle.v_frame_plane.specs.SecondRows.{SecondRows}
+use Rattle.v_frame_plane.specs.FinalPixels.{FinalPixels}
+use Rattle.v_frame_plane.specs.FinalRows.{FinalRows}
 use Rattle.v_frame_plane.specs.declared.pixels_mut.PixelsMut.{PixelsMut}
 use Rattle.v_frame_plane.specs.declared.rows_mut.RowsMut.{RowsMut}
-use Rattle.v_frame.specs.Walk.{item_from, left_by, side_of_row, row_written, side_of_pixel, pixel_written}
+use Rattle.v_frame.specs.Walk.{item_from, remaining_after, side_of_row, row_written, side_of_pixel, pixel_written}
 use Rattle.v_frame.specs.declared.replay.draw.Side.{Side}
 use Rattle.v_frame.specs.declared.replay.draw.Side.TheVariants.{Front, Back}
 use Rattle.v_frame.specs.declared.replay.draw.PixelDraw.{PixelDraw}
@@ -26,27 +26,27 @@ put_back Back change (Some item) items = items ++ change item ∷ []
 module _ {X D : Type 0} (side_of : D → Side) (make : D → X → X) where
   -- the items that each of some calls took are put back, from the last call to the first
   abbrev pub put_back_in_turn : List X → List D → List X → List X
-  put_back_in_turn items [] left = left
-  put_back_in_turn items (draw ∷ draws) left =
+  put_back_in_turn items [] remaining = remaining
+  put_back_in_turn items (draw ∷ draws) remaining =
       let side : Side = side_of draw in
       put_back side (make draw) (item_from side items)
-      (put_back_in_turn (left_by side items) draws left)
+      (put_back_in_turn (remaining_after side items) draws remaining)
 
--- so for an iterator of any kind: what the items that are left after some calls hold when the
--- borrow ends, those that were left before hold then, with the items that the calls took put back
+-- so for an iterator of any kind: what the items that remain after some calls hold when the
+-- borrow ends, those that remained before hold then, with the items that the calls took put back
 module _ {W X D : Type 0} (items : W → List X) (second : W → List X → Fml) (side_of : D → Side)
     (make : D → X → X) where
   abbrev pub PutsBack : List D → W → W → Fml
   PutsBack draws old new =
-      fall (List X) (λ left.
-      fall (length left ≡ length (items new)) (λ _.
-      fwand (second new left)
-      (second old (put_back_in_turn side_of make (items old) draws left))))
+      fall (List X) (λ remaining.
+      fall (length remaining ≡ length (items new)) (λ _.
+      fwand (second new remaining)
+      (second old (put_back_in_turn side_of make (items old) draws remaining))))
 
 module _ (T : RattleType) where
   -- the rows, and the pixels, that some calls took are put back
   abbrev pub PutsRowsBack : List (RowDraw T.Denot) → RowsMut T.Denot → RowsMut T.Denot → Fml
-  PutsRowsBack = PutsBack rows_left (SecondRows T) side_of_row row_written
+  PutsRowsBack = PutsBack rows_left (FinalRows T) side_of_row row_written
 
   abbrev pub PutsPixelsBack : List (PixelDraw T.Denot) → PixelsMut T.Denot → PixelsMut T.Denot → Fml
-  PutsPixelsBack = PutsBack pixels_left (SecondPixels T) side_of_pixel pixel_written
+  PutsPixelsBack = PutsBack pixels_left (FinalPixels T) side_of_pixel pixel_written

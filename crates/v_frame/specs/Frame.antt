@@ -1,8 +1,8 @@
 -- What a frame shows: the tables of its planes, where they are there. What a replay keeps: the
 -- border of each plane.
 use Rattle.std.specs.Prelude.{ℕ, ◌≡◌, ◌==◌, if◌then◌else◌, Option, Some, None, option_map}
-use Rattle.v_frame_layout.specs.Table.{Table}
-use Rattle.v_frame_plane.specs.Plane.{Raster, table_of, unshown}
+use Rattle.v_frame_raster.specs.Table.{Table}
+use Rattle.v_frame_raster.specs.Raster.{Raster, table_of, border_and_geometry}
 use Rattle.v_frame.specs.declared.frame.Frame.{Frame}
 
 -- one of three, by its index: 0 is Y, 1 is U and 2 is V, and no other index has one
@@ -44,6 +44,6 @@ module _ {T : Type 0} where
   pub record KeepsBorders (old new : Frame T) : Type 0 where
     pub subsampling : new.subsampling ≡ old.subsampling
     pub bit_depth : new.bit_depth ≡ old.bit_depth
-    pub y_plane : unshown new.y_plane ≡ unshown old.y_plane
-    pub u_plane : option_map unshown new.u_plane ≡ option_map unshown old.u_plane
-    pub v_plane : option_map unshown new.v_plane ≡ option_map unshown old.v_plane
+    pub y_plane : border_and_geometry new.y_plane ≡ border_and_geometry old.y_plane
+    pub u_plane : option_map border_and_geometry new.u_plane ≡ option_map border_and_geometry old.u_plane
+    pub v_plane : option_map border_and_geometry new.v_plane ≡ option_map border_and_geometry old.v_plane

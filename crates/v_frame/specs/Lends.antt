@@ -1,7 +1,7 @@
 -- What a frame ends as, where a `&mut` to one of its planes was lent.
 use Rattle.std.specs.Prelude.{ℕ, ◌==◌, if◌then◌else◌, Option, Some}
 use Rattle.std.specs.Borrow.{LendsIf, Fml, RattleType, MutBor}
-use Rattle.v_frame_plane.specs.Plane.{Raster}
+use Rattle.v_frame_raster.specs.Raster.{Raster}
 use Rattle.v_frame.specs.declared.frame.Frame.{Frame}
 use Rattle.v_frame.specs.contracts.frame.Frame.{the_row}
 use Rattle.v_frame_plane.specs.contracts.plane.Plane.{the_row as plane_row}

@@ -1,8 +1,8 @@
 -- What a call on one plane answers and leaves, as its call on the table that the plane shows does.
 use Rattle.std.specs.Prelude.{◌≡◌, None, Result, IfOk, OnOk, OnErr}
 use Rattle.std.specs.declared.alloc.AllocError.{AllocError}
-use Rattle.v_frame_layout.specs.Pixel.{PixelForm}
-use Rattle.v_frame_plane.specs.Plane.{Raster, table_of, KeepsBorder}
+use Rattle.v_frame_raster.specs.Pixel.{PixelForm}
+use Rattle.v_frame_raster.specs.Raster.{Raster, table_of, KeepsBorder}
 use Rattle.v_frame.specs.Replay.{written_plane, on_table}
 use Rattle.v_frame.specs.declared.replay.call.VisibleCall.{VisibleCall}
 use Rattle.v_frame.specs.declared.replay.answer.Answer.{Answer}

@@ -1,34 +1,44 @@
 -- The words and types that callers' clauses cite, re-exported from one place. A variant is written
--- behind its type (`Answer.Number 3`), and needs no import there.
-pub use Rattle.v_frame_layout.specs.Pixel.{PixelForm, one_byte, two_bytes, bytes_of, byte_of, value_of_bytes, bytes_of_pixels, byte_list}
-pub use Rattle.v_frame_layout.specs.PixelRows.{squared_error, rounded_mean, absolute_differences, squared_errors, halved}
-pub use Rattle.v_frame_layout.specs.Laws.{AddsUp}
-pub use Rattle.v_frame_layout.specs.Chroma.{ratio_of, chroma_size_of, subsampled}
-pub use Rattle.v_frame_layout.specs.Geometry.{Geometry, geometry_of, stride_of, alloc_height_of, alloc_size_of, IsGeometry, IsInside, Fits, place_of}
-pub use Rattle.v_frame_layout.specs.Geometry.{origin_of, region_geometry, whole_geometry, usize_max, isize_max, Mark, Border, Visible, cutting_plan, mark_at}
-pub use Rattle.v_frame_layout.specs.Table.{Table, width_of, height_of, pixel_at, rectangle, row_major, with_pixel, with_writes, with_item_by}
-pub use Rattle.v_frame_layout.specs.Table.{overwritten_row, cut_rows}
-pub use Rattle.v_frame_layout.specs.declared.chroma.ChromaSubsampling.{ChromaSubsampling}
-pub use Rattle.v_frame_layout.specs.declared.chroma.ChromaSubsampling.TheVariants.{Yuv420, Yuv422, Yuv411, Yuv444, Monochrome}
-pub use Rattle.v_frame_plane.specs.Plane.{Raster, raster, filled, table_of, border_of, whole_rows, with_entries, KeepsBorder, unshown, IsWhole, IsFull}
-pub use Rattle.v_frame_plane.specs.Plane.{options_of}
-pub use Rattle.v_frame_plane.specs.Copy.{CopyOutcome, Copies, packed_copy, strided_copy, packed_byte_copy, piece_fronts, strided_table}
-pub use Rattle.v_frame_plane.specs.Laws.{HasMarks, HasPlaces, HoldsPixels, HoldsRows, ShowsRectangle, AgreeAt, IsMadeOfEntries}
+-- after its type (`Answer.Number 3`), and needs no import there.
+pub use Rattle.v_frame_raster.specs.Pixel.{PixelForm, one_byte, two_bytes, bytes_of, byte_of, value_of_bytes}
+pub use Rattle.v_frame_raster.specs.Pixel.{bytes_of_pixels, byte_list}
+pub use Rattle.v_frame_raster.specs.PixelRows.{squared_error, rounded_mean, absolute_differences, squared_errors}
+pub use Rattle.v_frame_raster.specs.PixelRows.{halved}
+pub use Rattle.v_frame_raster.specs.Laws.{AddsUp}
+pub use Rattle.v_frame_raster.specs.Chroma.{ratio_of, chroma_size_of, subsampled}
+pub use Rattle.v_frame_raster.specs.Geometry.{Geometry, geometry_of, stride_of, alloc_height_of, alloc_size_of}
+pub use Rattle.v_frame_raster.specs.Geometry.{IsGeometry, IsInside, Fits, place_of}
+pub use Rattle.v_frame_raster.specs.Geometry.{origin_of, region_geometry, whole_geometry, usize_max, isize_max, Mark}
+pub use Rattle.v_frame_raster.specs.Geometry.{Border, Visible, cutting_plan, mark_at}
+pub use Rattle.v_frame_raster.specs.Table.{Table, width_of, height_of, pixel_at, rectangle, row_major, with_pixel}
+pub use Rattle.v_frame_raster.specs.Table.{with_writes, with_item_by, overwritten_row, cut_rows}
+pub use Rattle.v_frame_raster.specs.declared.chroma.ChromaSubsampling.{ChromaSubsampling}
+pub use Rattle.v_frame_raster.specs.declared.chroma.ChromaSubsampling.TheVariants.{Yuv420, Yuv422, Yuv411, Yuv444}
+pub use Rattle.v_frame_raster.specs.declared.chroma.ChromaSubsampling.TheVariants.{Monochrome}
+pub use Rattle.v_frame_raster.specs.Raster.{Raster, raster, filled, table_of, border_of, whole_rows, with_entries}
+pub use Rattle.v_frame_raster.specs.Raster.{KeepsBorder, border_and_geometry, IsWhole, IsFull, options_of}
+pub use Rattle.v_frame_plane.specs.Copy.{CopyOutcome, Copies, packed_copy, strided_copy, packed_byte_copy}
+pub use Rattle.v_frame_raster.specs.StridedRows.{piece_fronts, strided_table, strided_rows, KeepsRest, RowsFit}
+pub use Rattle.v_frame_raster.specs.StridedRows.{IsInsideTable}
+pub use Rattle.v_frame_raster.specs.RasterLaws.{HasMarks, HasPlaces, HoldsPixels, HoldsRows, ShowsRectangle, AgreeAt}
+pub use Rattle.v_frame_raster.specs.RasterLaws.{IsMadeOfEntries}
 pub use Rattle.v_frame_plane.specs.RowsLeft.{rows_left, rows_slice}
 pub use Rattle.v_frame_plane.specs.PixelsLeft.{pixels_left, pixels_slice}
 pub use Rattle.v_frame_plane.specs.declared.error.CopyError.{CopyError}
 pub use Rattle.v_frame_plane.specs.declared.error.CopyError.TheVariants.{DataLength, InvalidStride}
 pub use Rattle.v_frame.specs.Frame.{Tables, tables_of, table_at, with_table, plane_at, KeepsBorders}
 pub use Rattle.v_frame.specs.Build.{FrameRequest, refusal_of, IsBlank, IsZeroEverywhere}
-pub use Rattle.v_frame.specs.Walk.{draws_answer, drawn_in_turn, left_in_turn, front_draw, rows_written, pixels_written}
+pub use Rattle.v_frame.specs.Walk.{draws_answer, drawn_in_turn, remaining_in_turn, front_draw, rows_written}
+pub use Rattle.v_frame.specs.Walk.{pixels_written}
 pub use Rattle.v_frame.specs.Replay.{answers_to, tables_after, reply_to, StoppedAfter}
 -- what proofs by hand of callers cite of rows and pixels that are held: what the plane ends as,
 -- what `next` and `next_back` lend, and what an iterator that is dropped leaves
 pub use Rattle.v_frame_plane.specs.Lends.{LendsBuffer}
-pub use Rattle.v_frame_plane.specs.SecondRows.{EndsAs, SecondRows, KeepsRows, TakesFirstRow, TakesLastRow, LendsFirstRow, LendsLastRow, entries_with}
-pub use Rattle.v_frame_plane.specs.SecondRows.{WritesTable, WritesEachTable}
-pub use Rattle.v_frame_plane.specs.SecondPixels.{PixelEndsAs, SecondPixels, Parts, ArePartsOf, KeepsPixels, TakesFirstPixel, TakesLastPixel, LendsFirstPixel}
-pub use Rattle.v_frame_plane.specs.SecondPixels.{LendsLastPixel, BeginsOver}
+pub use Rattle.v_frame_plane.specs.FinalRows.{EndsAs, FinalRows, KeepsRows, TakesFirstRow, TakesLastRow, LendsFirstRow}
+pub use Rattle.v_frame_plane.specs.FinalRows.{LendsLastRow, entries_with, WritesTable, WritesEachTable}
+pub use Rattle.v_frame_plane.specs.FinalPixels.{PixelEndsAs, FinalPixels, Parts, ArePartsOf, KeepsPixels}
+pub use Rattle.v_frame_plane.specs.FinalPixels.{TakesFirstPixel, TakesLastPixel, LendsFirstPixel}
+pub use Rattle.v_frame_plane.specs.FinalPixels.{LendsLastPixel, BeginsOver}
 pub use Rattle.v_frame_plane.specs.Dropped.{DroppedRowsKeepTheirPixels, DroppedPixelsKeepTheirValues}
 pub use Rattle.v_frame_plane.specs.declared.rows_mut.RowsMut.{RowsMut}
 pub use Rattle.v_frame_plane.specs.declared.pixels_mut.PixelsMut.{PixelsMut}

@@ -1,15 +1,18 @@
 -- Visible calls on plain tables of rows. Nothing here knows a padding, a border or a buffer.
 use Rattle.std.specs.Prelude.{ℕ, ◌≡◌, ◌<◌, List, [], ◌∷◌, length, take, map, Option, Some, None, slice_get, Any}
-use Rattle.v_frame_layout.specs.Table.{Table, width_of, height_of, pixel_at, row_major, with_writes, with_pixel}
+use Rattle.v_frame_raster.specs.Table.{Table, width_of, height_of, pixel_at, row_major, with_writes, with_pixel}
 use Rattle.v_frame_plane.specs.Copy.{CopyOutcome, packed_copy, strided_copy, packed_byte_copy}
-use Rattle.v_frame_layout.specs.Pixel.{PixelForm, byte_list}
+use Rattle.v_frame_raster.specs.Pixel.{PixelForm, byte_list}
 use Rattle.v_frame.specs.Walk.{draws_answer, side_of_row, side_of_pixel, rows_written, pixels_written}
 use Rattle.v_frame.specs.Frame.{Tables, table_at, with_table}
 use Rattle.v_frame.specs.declared.replay.call.VisibleCall.{VisibleCall}
-use Rattle.v_frame.specs.declared.replay.call.VisibleCall.TheVariants.{Width, Height, Row, RowMut, Pixel, PixelMut, CopyFromSlice, CopyFromU8Slice}
-use Rattle.v_frame.specs.declared.replay.call.VisibleCall.TheVariants.{CopyFromU8SliceWithStride, Rows, Pixels, ByteData, RowsMut, PixelsMut}
+use Rattle.v_frame.specs.declared.replay.call.VisibleCall.TheVariants.{Width, Height, Row, RowMut, Pixel, PixelMut}
+use Rattle.v_frame.specs.declared.replay.call.VisibleCall.TheVariants.{CopyFromSlice, CopyFromU8Slice}
+use Rattle.v_frame.specs.declared.replay.call.VisibleCall.TheVariants.{CopyFromU8SliceWithStride, Rows, Pixels}
+use Rattle.v_frame.specs.declared.replay.call.VisibleCall.TheVariants.{ByteData, RowsMut, PixelsMut}
 use Rattle.v_frame.specs.declared.replay.answer.Answer.{Answer}
-use Rattle.v_frame.specs.declared.replay.answer.Answer.TheVariants.{NoPlane, OutsideRectangle, Number, RowShown, PixelShown, Copied, RowsWalked}
+use Rattle.v_frame.specs.declared.replay.answer.Answer.TheVariants.{NoPlane, OutsideRectangle, Number, RowShown}
+use Rattle.v_frame.specs.declared.replay.answer.Answer.TheVariants.{PixelShown, Copied, RowsWalked}
 use Rattle.v_frame.specs.declared.replay.answer.Answer.TheVariants.{PixelsWalked, BytesWalked}
 
 -- what a call answers, and the table that it leaves

@@ -1,9 +1,9 @@
 -- Double-ended iterators over a list of anything, and what an iterator that writes leaves. A call
 -- is one of `next`, from the front, or of `next_back`, from the back.
-use Rattle.std.specs.Prelude.{ℕ, ◌≡◌, ◌-◌, nat_lt, if◌then◌else◌, Bool, true, false, not, List, [], ◌∷◌, ◌++◌, length, map, take, drop, reverse, count_by}
-use Rattle.std.specs.Prelude.{Option, Some, None, unwrap_or, slice_get}
+use Rattle.std.specs.Prelude.{ℕ, ◌≡◌, ◌-◌, nat_lt, if◌then◌else◌, Bool, true, false, not, List, [], ◌∷◌, ◌++◌, length}
+use Rattle.std.specs.Prelude.{map, take, drop, reverse, count_by, Option, Some, None, unwrap_or, slice_get}
 use Rattle.std.specs.Option.{option_to_list}
-use Rattle.v_frame_layout.specs.Table.{Table, width_of, height_of, row_major, cut_rows, overwritten_row, with_item_by}
+use Rattle.v_frame_raster.specs.Table.{Table, width_of, height_of, row_major, cut_rows, overwritten_row, with_item_by}
 use Rattle.v_frame.specs.declared.replay.draw.Side.{Side}
 use Rattle.v_frame.specs.declared.replay.draw.Side.TheVariants.{Front, Back}
 use Rattle.v_frame.specs.declared.replay.draw.Drawn.{Drawn}
@@ -27,26 +27,26 @@ number_of_item Front items before = fronts before
 number_of_item Back items before = items - 1 - backs before
 
 module _ {X : Type 0} where
-  -- between two calls an iterator is the list of the items left: a call gives the first or the last
-  -- of them, where there is one, and leaves the others
+  -- between two calls an iterator is the list of the items that remain: a call gives the first or
+  -- the last of them, where there is one, and leaves the others
   abbrev pub item_from : Side → List X → Option X
   item_from Front items = slice_get items 0
   item_from Back items = slice_get items (length items - 1)
 
-  abbrev pub left_by : Side → List X → List X
-  left_by Front items = drop 1 items
-  left_by Back items = take (length items - 1) items
+  abbrev pub remaining_after : Side → List X → List X
+  remaining_after Front items = drop 1 items
+  remaining_after Back items = take (length items - 1) items
 
   -- what calls give one after another, and the items that they leave
   abbrev pub drawn_in_turn : List X → List Side → List (Drawn X)
   drawn_in_turn items [] = []
   drawn_in_turn items (side ∷ sides) =
-      record { item = item_from side items; left = length (left_by side items) }
-      ∷ drawn_in_turn (left_by side items) sides
+      record { item = item_from side items; left = length (remaining_after side items) }
+      ∷ drawn_in_turn (remaining_after side items) sides
 
-  abbrev pub left_in_turn : List X → List Side → List X
-  left_in_turn items [] = items
-  left_in_turn items (side ∷ sides) = left_in_turn (left_by side items) sides
+  abbrev pub remaining_in_turn : List X → List Side → List X
+  remaining_in_turn items [] = items
+  remaining_in_turn items (side ∷ sides) = remaining_in_turn (remaining_after side items) sides
 
   -- by counts: what a call gives after some calls, where these were fewer than the items
   abbrev pub item_after : List X → List Side → Side → Option X
@@ -84,13 +84,13 @@ AreCounted X =
     (items : List X) (sides : List Side) → draws_answer items sides ≡ drawn_in_turn items sides
 
 -- the calls from the front gave the items from the front on, those from the back gave the items
--- from the back on, and what is left is between them
+-- from the back on, and what remains is between them
 abbrev pub AreDrawnOnce : {X : Type 0} → List X → List Side → List (Drawn X) → Type 0
 AreDrawnOnce items sides answers =
     items ≡ given_from Front sides answers
-    ++ (left_in_turn items sides ++ reverse (given_from Back sides answers))
+    ++ (remaining_in_turn items sides ++ reverse (given_from Back sides answers))
 
--- and nothing is left
+-- and nothing remains
 abbrev pub AreAllGiven : {X : Type 0} → List X → List Side → List (Drawn X) → Type 0
 AreAllGiven items sides answers =
     items ≡ given_from Front sides answers ++ reverse (given_from Back sides answers)

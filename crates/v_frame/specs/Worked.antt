@@ -1,19 +1,24 @@
 -- Small cases worked out by hand. Each line computes: it is proved by `refl`.
 use Rattle.std.specs.Prelude.{ℕ, ◌≡◌, List, [], ◌∷◌, Some, None, Ok, Err, refl}
-use Rattle.v_frame_layout.specs.Pixel.{byte_of, value_of_bytes, one_byte}
-use Rattle.v_frame_layout.specs.Geometry.{Geometry, geometry_of, stride_of, alloc_height_of, alloc_size_of, origin_of, place_of}
-use Rattle.v_frame_plane.specs.Plane.{Raster, raster, table_of, border_of, options_of}
-use Rattle.v_frame_layout.specs.Chroma.{chroma_size_of, subsampled}
+use Rattle.v_frame_raster.specs.Pixel.{byte_of, value_of_bytes, one_byte}
+use Rattle.v_frame_raster.specs.Geometry.{Geometry, geometry_of, stride_of, alloc_height_of, alloc_size_of, origin_of}
+use Rattle.v_frame_raster.specs.Geometry.{place_of}
+use Rattle.v_frame_raster.specs.Raster.{Raster, raster, table_of, border_of, options_of}
+use Rattle.v_frame_raster.specs.Chroma.{chroma_size_of, subsampled}
 use Rattle.v_frame.specs.Build.{FrameRequest, refusal_of}
 use Rattle.v_frame.specs.Frame.{Tables}
 use Rattle.v_frame.specs.Replay.{answers_to, tables_after}
-use Rattle.v_frame_layout.specs.declared.chroma.ChromaSubsampling.{ChromaSubsampling}
-use Rattle.v_frame_layout.specs.declared.chroma.ChromaSubsampling.TheVariants.{Yuv420, Yuv422, Yuv411, Yuv444, Monochrome}
-use Rattle.v_frame.specs.declared.frame.error.FrameError.TheVariants.{UnsupportedBitDepth, DataTypeMismatch, UnsupportedResolution}
+use Rattle.v_frame_raster.specs.declared.chroma.ChromaSubsampling.{ChromaSubsampling}
+use Rattle.v_frame_raster.specs.declared.chroma.ChromaSubsampling.TheVariants.{Yuv420, Yuv422, Yuv411, Yuv444}
+use Rattle.v_frame_raster.specs.declared.chroma.ChromaSubsampling.TheVariants.{Monochrome}
+use Rattle.v_frame.specs.declared.frame.error.FrameError.TheVariants.{UnsupportedBitDepth, DataTypeMismatch}
+use Rattle.v_frame.specs.declared.frame.error.FrameError.TheVariants.{UnsupportedResolution}
 use Rattle.v_frame_plane.specs.declared.error.CopyError.TheVariants.{DataLength}
 use Rattle.v_frame.specs.declared.replay.call.VisibleCall.{VisibleCall}
-use Rattle.v_frame.specs.declared.replay.call.VisibleCall.TheVariants.{Width, Row, RowMut, Pixel, PixelMut, CopyFromSlice}
-use Rattle.v_frame.specs.declared.replay.answer.Answer.TheVariants.{NoPlane, OutsideRectangle, RowShown, PixelShown, Copied}
+use Rattle.v_frame.specs.declared.replay.call.VisibleCall.TheVariants.{Width, Row, RowMut, Pixel, PixelMut}
+use Rattle.v_frame.specs.declared.replay.call.VisibleCall.TheVariants.{CopyFromSlice}
+use Rattle.v_frame.specs.declared.replay.answer.Answer.TheVariants.{NoPlane, OutsideRectangle, RowShown, PixelShown}
+use Rattle.v_frame.specs.declared.replay.answer.Answer.TheVariants.{Copied}
 
 -- 0x0102 has the bytes 2 and 1, low byte first
 low_byte : byte_of 258 0 ≡ 2

@@ -1,10 +1,11 @@
 -- Small cases of bytes in and bytes out, worked out by hand. Each line computes: it is proved by
 -- `refl`.
 use Rattle.std.specs.Prelude.{ℕ, ◌≡◌, List, [], ◌∷◌, None, Ok, Err, refl}
-use Rattle.v_frame_layout.specs.Geometry.{usize_max}
-use Rattle.v_frame_layout.specs.Table.{Table}
-use Rattle.v_frame_plane.specs.Copy.{CopyOutcome, packed_copy, piece_fronts, strided_copy, packed_byte_copy}
-use Rattle.v_frame_layout.specs.Pixel.{one_byte, two_bytes, byte_list}
+use Rattle.v_frame_raster.specs.Geometry.{usize_max}
+use Rattle.v_frame_raster.specs.Table.{Table}
+use Rattle.v_frame_plane.specs.Copy.{CopyOutcome, packed_copy, strided_copy, packed_byte_copy}
+use Rattle.v_frame_raster.specs.StridedRows.{piece_fronts}
+use Rattle.v_frame_raster.specs.Pixel.{one_byte, two_bytes, byte_list}
 use Rattle.v_frame.specs.Frame.{Tables}
 use Rattle.v_frame.specs.Replay.{answers_to, tables_after}
 use Rattle.v_frame.specs.declared.replay.call.VisibleCall.{VisibleCall}

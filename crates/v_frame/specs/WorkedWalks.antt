@@ -9,9 +9,9 @@ use Rattle.v_frame.specs.declared.replay.call.VisibleCall.{VisibleCall}
 use Rattle.v_frame.specs.declared.replay.call.VisibleCall.TheVariants.{Rows, Pixels, ByteData, RowsMut, PixelsMut}
 use Rattle.v_frame.specs.declared.replay.answer.Answer.TheVariants.{NoPlane, RowsWalked, PixelsWalked, BytesWalked}
 use Rattle.v_frame.specs.Frame.{Tables}
-use Rattle.v_frame_layout.specs.Pixel.{one_byte, two_bytes}
+use Rattle.v_frame_raster.specs.Pixel.{one_byte, two_bytes}
 use Rattle.v_frame.specs.Replay.{answers_to, tables_after}
-use Rattle.v_frame.specs.Walk.{draws_answer, drawn_in_turn, left_in_turn}
+use Rattle.v_frame.specs.Walk.{draws_answer, drawn_in_turn, remaining_in_turn}
 
 abbrev drawn : {X : Type 0} → Option X → ℕ → Drawn X
 drawn item left = record { item = item; left = left }
@@ -43,7 +43,7 @@ rows_from_both_ends : draws_answer two_rows (Back ∷ Front ∷ Back ∷ [])
 rows_from_both_ends = refl
 
 -- a call from each end leaves what is between, and an iterator over nothing gives nothing
-left_between : left_in_turn six_items (Back ∷ Front ∷ []) ≡ 2 ∷ 3 ∷ 4 ∷ 5 ∷ []
+left_between : remaining_in_turn six_items (Back ∷ Front ∷ []) ≡ 2 ∷ 3 ∷ 4 ∷ 5 ∷ []
 left_between = refl
 
 no_items : draws_answer {X = ℕ} [] (Front ∷ Back ∷ []) ≡ drawn None 0 ∷ drawn None 0 ∷ []

@@ -3,8 +3,8 @@ ghost use Rattle.std.specs.Prelude.{◌≡◌, ◌<◌, ◌≤◌, ◌&&◌, Ok,
 ghost use Rattle.std.specs.Option.{ForSome, option_copied_mut};
 ghost use Rattle.std.specs.Borrow.{sem};
 ghost use Rattle.std.specs.Int.NonZero.{non_zero_u8_get};
-ghost use Rattle.v_frame_layout.specs.Geometry.{Fits};
-ghost use Rattle.v_frame_plane.specs.Plane.{filled};
+ghost use Rattle.v_frame_raster.specs.Geometry.{Fits};
+ghost use Rattle.v_frame_raster.specs.Raster.{filled};
 ghost use Rattle.v_frame.specs.Frame.{plane_at};
 ghost use Rattle.v_frame.specs.Lends.{LendsPlane};
 
@@ -37,7 +37,7 @@ pub struct Frame<T: Pixel> {
 }
 
 impl<T: Pixel> Frame<T> {
-    /// The plane of an index: 0 is Y, 1 is U and 2 is V. `None` for an absent plane, and for any other index.
+    /// Returns the plane of an index: 0 is Y, 1 is U and 2 is V. `None` for an absent plane, and for any other index.
     ///
     /// Ports `Frame::plane` of `v_frame` 0.7.0.
     pub fn plane(&self, index: usize) -> Option<&Plane<T>>
@@ -70,7 +70,7 @@ impl<T: Pixel> Frame<T> {
         })
     }
 
-    /// The plane of an index, for writing. The indexes are those of [`plane`](Self::plane).
+    /// Returns the plane of an index, for writing. The indexes are those of [`plane`](Self::plane).
     ///
     /// Ports `Frame::plane_mut` of `v_frame` 0.7.0.
     pub fn plane_mut(&mut self, index: usize) -> Option<&mut Plane<T>>
@@ -120,9 +120,9 @@ impl Model for FrameBuilder {
 
 impl FrameBuilder {
     ghost use Rattle.v_frame.specs.Build.{FrameRequest, luma_geometry, is_laid_out, refusal_of, chroma_geometry, IsBlank};
-    ghost use Rattle.v_frame_layout.specs.Chroma.{subsampled};
+    ghost use Rattle.v_frame_raster.specs.Chroma.{subsampled};
 
-    /// A frame of this luma size in pixels, this format and this bit depth, with no padding yet.
+    /// Returns a frame of this luma size in pixels, this format and this bit depth, with no padding yet.
     pub fn new(width: usize, height: usize, subsampling: ChromaSubsampling, bit_depth: u8) -> Self
         ensures size { (result.width ≡ width) × (result.height ≡ height) }
         ensures format { (result.subsampling ≡ subsampling) × (result.bit_depth ≡ bit_depth) }
@@ -203,7 +203,7 @@ impl FrameBuilder {
         })
     }
 
-    /// The bit depth and the geometries of a frame of such pixels, or the first reason to refuse it.
+    /// Returns the bit depth and the geometries of a frame of such pixels, or the first reason to refuse it.
     fn checked<T: Pixel>(
         &self,
     ) -> Result<(NonZeroU8, PlaneGeometry, Option<PlaneGeometry>), FrameError>
@@ -226,7 +226,7 @@ impl FrameBuilder {
         }
     }
 
-    /// The geometries of the luma plane and of the chroma planes, where all can be laid out.
+    /// Returns the geometries of the luma plane and of the chroma planes, where all can be laid out.
     fn geometries(&self) -> Option<(PlaneGeometry, Option<PlaneGeometry>)>
         ensures laid_out { let luma = luma_geometry self.now in SomeIff result
             (IsTrue (is_laid_out luma && is_ok (subsampled self.now.subsampling luma)))
@@ -249,7 +249,7 @@ impl FrameBuilder {
     }
 }
 
-/// A chroma plane of zeros, where there is one.
+/// Returns a chroma plane of zeros, where there is one.
 fn chroma_plane<T: Pixel>(
     alloc: Global,
     geometry: Option<PlaneGeometry>,
@@ -262,7 +262,7 @@ fn chroma_plane<T: Pixel>(
         .transpose()
 }
 
-/// The bit depth, where frames can have it.
+/// Returns the bit depth, where frames can have it.
 fn checked_depth(found: u8) -> Result<NonZeroU8, FrameError>
     ensures ok { IfOk result (λ depth.
         (8 ≤ found) × (found ≤ 16) × (non_zero_u8_get depth ≡ found)) }
@@ -275,7 +275,7 @@ fn checked_depth(found: u8) -> Result<NonZeroU8, FrameError>
     }
 }
 
-/// The clone of a plane that may be absent.
+/// Returns the clone of a plane that may be absent.
 fn clone_chroma<T: Pixel>(
     alloc: Global,
     plane: &Option<Plane<T>>,

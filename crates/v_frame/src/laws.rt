@@ -3,11 +3,11 @@
 //! Each function makes the calls that its law speaks of, and its contract is the law. A law of the definitions alone has
 //! an empty body. Our own.
 ghost use Rattle.std.specs.Prelude.{◌≡◌, List, Err, IfOk, OnOk, IsOkUnless, MatchOption};
-ghost use Rattle.v_frame_layout.specs.Pixel.{byte_list};
+ghost use Rattle.v_frame_raster.specs.Pixel.{byte_list};
 ghost use Rattle.v_frame.specs.Build.{IsZeroEverywhere, refusal_of};
 ghost use Rattle.v_frame.specs.Frame.{tables_of, KeepsBorders};
-ghost use Rattle.v_frame_plane.specs.Plane.{table_of};
-ghost use Rattle.v_frame_layout.specs.Table.{row_major};
+ghost use Rattle.v_frame_raster.specs.Raster.{table_of};
+ghost use Rattle.v_frame_raster.specs.Table.{row_major};
 ghost use Rattle.v_frame.specs.declared.replay.draw.Side.{Side};
 ghost use Rattle.v_frame.specs.Walk.{draws_answer, AreCounted, AreDrawnOnce};
 ghost use Rattle.v_frame.specs.Replay.{answers_to, tables_after};
@@ -21,21 +21,22 @@ use crate::frame::{Frame, FrameBuilder, FrameError};
 use crate::pixel::Pixel;
 use crate::plane::Plane;
 use crate::replay::walk::draw_items;
-use crate::replay::{Answer, Drawn, Sequence, Side, VisibleCall, replay};
+use crate::replay::{Answer, Drawn, Side, VisibleCall, replay};
+use crate::sequence::Sequence;
 pub use byte_paths::bytes_go_through_a_frame;
 pub use equality::frames_are_equal;
 pub use iterations::full_iterations_change_each_pixel;
 use std::alloc::{AllocError, Global};
-pub use v_frame_layout::laws::{
-    chroma_sizes_agree, geometries_are_equal, halves_join, pixel_of_bytes, pixel_of_value,
-    pixels_are_equal, pixels_compare, pixels_hash, quotients_are_exact, sums_add_up,
-    tables_agree_by_rows,
-};
 pub use v_frame_plane::laws::{
     buffer_is_determined, bytes_come_back, bytes_come_back_without_tails,
     dropped_pixels_keep_their_values, dropped_rows_keep_their_pixels, packed_copies_agree,
     packed_outcomes_agree, pixels_have_places, places_have_marks, places_hold_pixels,
     planes_are_equal, rows_are_parts, same_entries_same_table, tables_are_rectangles,
+};
+pub use v_frame_raster::laws::{
+    chroma_sizes_agree, geometries_are_equal, halves_join, pixel_of_bytes, pixel_of_value,
+    pixels_are_equal, pixels_compare, pixels_hash, quotients_are_exact, sums_add_up,
+    tables_agree_by_rows,
 };
 pub use writing_iterators::{
     lent_pixels_are_drawn_once, lent_pixels_hold_what_is_written, lent_rows_are_drawn_once,
@@ -65,7 +66,7 @@ pub fn same_tables_same_answers<T: Pixel>(
     Ok((first, second))
 }
 
-/// A replay whose answers so far are dropped where memory is refused.
+/// Returns a replay whose answers so far are dropped where memory is refused.
 fn replayed<T: Pixel>(
     alloc: Global,
     frame: &mut Frame<T>,
@@ -80,7 +81,7 @@ fn replayed<T: Pixel>(
     replay(alloc, frame, calls).map_err(|_| AllocError)
 }
 
-/// A frame that can be built is zero everywhere, and its chroma planes have the size of the format or are absent.
+/// Returns a frame that can be built is zero everywhere, and its chroma planes have the size of the format or are absent.
 pub fn built_frame_is_zero<T: Pixel>(
     alloc: Global,
     builder: FrameBuilder,

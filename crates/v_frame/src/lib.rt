@@ -15,10 +15,11 @@
 //!
 //! - [`frame`]: [`FrameBuilder`](frame::FrameBuilder) builds a [`Frame`](frame::Frame) of one to three planes.
 //! - [`plane`]: a [`Plane`](plane::Plane) is read and written by rows, by pixels and by bytes;
-//!   [`PlaneRef`](plane::PlaneRef) reads one that is kept elsewhere.
+//!   [`PlaneRef`](plane::PlaneRef) reads one that is kept elsewhere, and [`RowsRef`](plane::RowsRef) rows without a border.
 //! - [`pixel`] and [`chroma`]: what a plane holds, and how much smaller chroma is than luma.
 //! - [`replay`]: lists of calls. The contract of [`replay::replay`](replay::replay()) says what any list answers and leaves,
 //!   by plain tables of rows, whatever the paddings are and the borders hold.
+//! - [`sequence`]: a [`Sequence`](sequence::Sequence) is a `Vec` that contracts see as its list, as calls and answers hold it.
 //! - [`laws`]: what holds beyond a single call, each as the contract of a function.
 //!
 //! A contract sees a plane as its geometry beside its buffer: what it shows is a table of rows, and all else is its border.
@@ -28,6 +29,7 @@
 pub mod frame;
 pub mod laws;
 pub mod replay;
+pub mod sequence;
 
-pub use v_frame_layout::{chroma, pixel};
 pub use v_frame_plane::plane;
+pub use v_frame_raster::{chroma, pixel};

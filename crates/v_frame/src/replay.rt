@@ -17,7 +17,6 @@ mod draw;
 pub(crate) mod pixel_writes;
 mod reads;
 pub(crate) mod row_writes;
-mod sequence;
 pub(crate) mod walk;
 
 use crate::frame::Frame;
@@ -29,7 +28,6 @@ pub use draw::{Drawn, PixelDraw, RowDraw, Side};
 use pixel_writes::{replay_pixel_mut, replay_pixels_mut};
 use reads::{bytes_walked, pixel_shown, pixels_walked, row_shown, rows_walked};
 use row_writes::{replay_row_mut, replay_rows_mut};
-pub use sequence::Sequence;
 use std::alloc::{AllocError, Global};
 
 /// Does the calls in order and gives their answers.

@@ -15,7 +15,8 @@ module _ {T : Type 0} where
   pub front_part : (xs ys : List T) → with_part xs 0 ys ≡ refill (length xs) xs ys
   front_part xs ys =
       let behind = drop (length ys) xs in
-      take-append-le (length xs) (ys ++ behind) (drop (length (ys ++ behind)) xs) (simp (length-append, length-drop) (omega arith))
+      take-append-le (length xs) (ys ++ behind) (drop (length (ys ++ behind)) xs)
+      (simp (length-append, length-drop) (omega arith))
 
   pub front_range : (xs : List T) (n : ℕ) → length xs ≡ n → slice_range xs 0 n ≡ xs
   front_range xs n e =

@@ -1,15 +1,18 @@
--- The names of the logic that proofs by hand cite, here and in the crates above, re-exported from one place. Declares nothing.
+-- The names of the logic that proofs by hand cite, here and in the crates above, re-exported from one place. Declares
+-- nothing.
 pub use Prim.Native.Nat.{suc}
-pub use Rattle.core.proofs.alloc.Calls.{Al, Answer-typed, Answered, Gives, Gives-Gives, Gives-goes, Goes-blank, Takes, Takes-gives, Takes-goes, answers}
-pub use Rattle.core.proofs.alloc.Calls.{at_gives, at_takes, token}
+pub use Rattle.core.proofs.alloc.Calls.{Al, Answer-typed, Answered, Gives, Gives-Gives, Gives-goes, Goes-blank, Takes}
+pub use Rattle.core.proofs.alloc.Calls.{Takes-gives, Takes-goes, answers, at_gives, at_takes, token}
 pub use Rattle.core.proofs.mem.Param.{El, R, elτ}
 pub use Rattle.core.proofs.ptr.Rows.{el_out, one_more, times_below}
 pub use Rattle.core.proofs.slots.Leases.{P, args, block_align, block_size, block_ty, uncapped}
-pub use Rattle.std.proofs.Common.{ℕ, ◌≡◌, ◌+◌, ◌-◌, ◌*◌, ◌^◌, ◌<◌, ◌≤◌, List, [], ◌∷◌, ◌++◌, length, take, drop as list_drop, Option, Some, None, lit<, w64}
-pub use Rattle.std.proofs.Common.{MutBor, refl, sym, ap, ◌∙◌, arith, length-drop, append_assoc, length-take-le, All, append-nil, length-append}
-pub use Rattle.std.proofs.Common.{map, slice_get, slice_set, zero}
+pub use Rattle.std.proofs.Common.{ℕ, ◌≡◌, ◌+◌, ◌-◌, ◌*◌, ◌^◌, ◌<◌, ◌≤◌, List, [], ◌∷◌, ◌++◌, length, take}
+pub use Rattle.std.proofs.Common.{drop as list_drop, Option, Some, None, lit<, w64, MutBor, refl, sym, ap, ◌∙◌, arith}
+pub use Rattle.std.proofs.Common.{length-drop, append_assoc, length-take-le, All, append-nil, length-append, map}
+pub use Rattle.std.proofs.Common.{slice_get, slice_set, zero}
 pub use Rattle.std.proofs.alloc.Shapes.{after}
-pub use Rattle.std.proofs.lemmas.List.{drop-drop, drop-take, get_or-map, length-set, map-append, nil_from_length, take-take}
+pub use Rattle.std.proofs.lemmas.List.{drop-drop, drop-take, get_or-map, length-set, map-append, nil_from_length}
+pub use Rattle.std.proofs.lemmas.List.{take-take}
 pub use Rattle.std.proofs.lemmas.List.Elements.{All-head, All-tail}
 pub use Rattle.std.proofs.option.Made.{Some-of, none_of}
 pub use Rattle.std.proofs.raw_atomic.Walks.{proved, leaves, proved_at}
@@ -20,10 +23,11 @@ pub use Rattle.std.specs.Prelude.{⊤, Err, Ok, ◌==◌, count_by, nat_lt}
 pub use Rattle.std_alloc.proofs.RawLayout.{as_raw, as_written}
 pub use Rattle.std_alloc.proofs.RcSteps.{word, word-Good}
 pub use Rattle.std_alloc.proofs.VecSteps.Shapes.{arm_body, head, inside}
-pub use base.Fml.{Fml, Lft, Share, fat, fauth, fbor, fex, flent, flft, fobor, fobs, fsep, ftrue, GName, Incl, Incl-refl, Incl-trans, fdead, ffalse}
-pub use base.Fml.{fres, froom}
+pub use base.Fml.{Fml, Lft, Share, fat, fauth, fbor, fex, flent, flft, fobor, fobs, fsep, ftrue, GName, Incl, Incl-refl}
+pub use base.Fml.{Incl-trans, fdead, ffalse, fres, froom}
 pub use base.Fraction.{full_share}
-pub use base.Logic.{SProp, all, all_e, apply∗, emp, ent, id⊢, sep, wand, fst∗, never, via, assoc', assoc∗, comm∗, emp∗, mono_l, mono_r, snd∗}
+pub use base.Logic.{SProp, all, all_e, apply∗, emp, ent, id⊢, sep, wand, fst∗, never, via, assoc', assoc∗, comm∗, emp∗}
+pub use base.Logic.{mono_l, mono_r, snd∗}
 pub use borrow.Table.Elements.{at_mul, cut_app, join_app}
 pub use borrow.Table.OneValue.{part_in, part_in_at, part_out_at}
 pub use contract.BorrowLft.{◌⊑◌, ⊑_trans, meet_⊑_left, meet_⊑_right, ⊑_meet, ⊑_refl}
@@ -65,16 +69,17 @@ pub use denote.Triple.Entry.{Args, alive, on_entry, Res}
 pub use denote.Triple.Spec.{triple_of, Meets}
 pub use denote.Triple.Statement.{Contract, Triple}
 pub use denote.Triple.Table.{framed}
-pub use denote.Triple.Walked.{Stays, stay_ref, Goes-ref, walk_of, ends_at, stay_dropped, Goes-dropped, Goes-spent_slice, Goes-spent_ref, says}
-pub use denote.Triple.Walked.{Fit, has_of}
+pub use denote.Triple.Walked.{Stays, stay_ref, Goes-ref, walk_of, ends_at, stay_dropped, Goes-dropped, Goes-spent_slice}
+pub use denote.Triple.Walked.{Goes-spent_ref, says, Fit, has_of}
 pub use lib.Dec.{eqb→eq, T, T_not, eqb, leb→le, ltb→lt, nleb→lt, nltb→le}
 pub use lib.ListN.{length-take, take-append-drop}
 pub use mathlib.Core.Bool.{Bool, false, not, true}
 pub use mathlib.Core.Path.{subst}
 pub use mir.MapTy.{inst_fn}
-pub use mir.Syntax.{Ty, Tys, a_type, erased, mut, named, tcons, tnil, ty_int, ty_param, ty_ptr, ty_ref, ty_struct, Callee, Dict, Fn, Lifetime, Local, Opd}
-pub use mir.Syntax.{Place, Sym, addr_of, aggregate, arm, assign, call, cond, copy, dcons, deref, dnil, eq, field, imm, int, local, lt}
-pub use mir.Syntax.{no_default, op2, opd_unit, place, return, rv_opd, seq, skip, switch, ttcons, ttnil, ty_array, ty_bool, ty_enum, ty_unit, unsigned}
+pub use mir.Syntax.{Ty, Tys, a_type, erased, mut, named, tcons, tnil, ty_int, ty_param, ty_ptr, ty_ref, ty_struct}
+pub use mir.Syntax.{Callee, Dict, Fn, Lifetime, Local, Opd, Place, Sym, addr_of, aggregate, arm, assign, call, cond}
+pub use mir.Syntax.{copy, dcons, deref, dnil, eq, field, imm, int, local, lt, no_default, op2, opd_unit, place, return}
+pub use mir.Syntax.{rv_opd, seq, skip, switch, ttcons, ttnil, ty_array, ty_bool, ty_enum, ty_unit, unsigned}
 pub use mir.Syntax.{value_local, variant, w8}
 pub use mir.Val.{Val, Vals, of_list, vcons, vint, vnil, vptr, vstruct, Fits, WT, has_ty, vunit}
 pub use native.Mathlib.Nat.{add_comm, suc-mul, zero-add, zero-mul}
@@ -85,17 +90,19 @@ pub use prog.Routine.{Routine}
 pub use prog.Wp.{Calls, Closed, Env, Loops, Out, Wp, WpFn, after_block, after_seq, at_return}
 pub use seplogic.Ra.Ura.{Ura}
 pub use sound.WpLaws.{FmC}
-pub use types.ByLocal.{alloc_all, env, free_all, get, get_in, lands_as, look_at, look_in_at, pass_all, sets, through, at, forget_but, get_tag, give_at, holding}
-pub use types.ByLocal.{is, lands_last, sets_last, take_at}
-pub use types.Kit.{Goal, Item, Seq, Soaks, Step, step, ‵, raw, ◌⊛◌, some, later, prop, at_ret, ◌$◌, ◌∵◌, !, qed, assume, await, done, drop, each, feq_i, feq_l}
-pub use types.Kit.{fjoin, fjoin3, fpack, fpick, frame, fsplit, fsplit3, join, keep, move, pick, rewrite, split, split3, suffices, use0, use1, use2, use3, group}
-pub use types.Kit.{mean, Go, Post, Sq, any_q, by, flt_i, flt_l, given, lands, learn, nth, post, regoal, runs, ⋆, ++⊢, pop, push, sel}
+pub use types.ByLocal.{alloc_all, env, free_all, get, get_in, lands_as, look_at, look_in_at, pass_all, sets, through}
+pub use types.ByLocal.{at, forget_but, get_tag, give_at, holding, is, lands_last, sets_last, take_at}
+pub use types.Kit.{Goal, Item, Seq, Soaks, Step, step, ‵, raw, ◌⊛◌, some, later, prop, at_ret, ◌$◌, ◌∵◌, !, qed, assume}
+pub use types.Kit.{await, done, drop, each, feq_i, feq_l, fjoin, fjoin3, fpack, fpick, frame, fsplit, fsplit3, join}
+pub use types.Kit.{keep, move, pick, rewrite, split, split3, suffices, use0, use1, use2, use3, group, mean, Go, Post}
+pub use types.Kit.{Sq, any_q, by, flt_i, flt_l, given, lands, learn, nth, post, regoal, runs, ⋆, ++⊢, pop, push, sel}
 pub use types.Kit.{sel⊢, settles}
 pub use types.Logic.{Logic, sem}
 pub use types.Match.{live, in_variant, vrt}
 pub use types.Part.{agg, look_in, store_in, sub, whole, Part}
-pub use types.Run.{addr, and_then, assigns, bin, branches, enter, exec, first, fld, from, hop, lit, load, no_more, of_opd, returns, returns_within, skips, stop}
-pub use types.Run.{well_typed, Below, Finds, Opds, Rv, again, align_word, assigns_last, blocks, forget, init, jumps, look, loops, size_lit, size_word}
-pub use types.Run.{store_raw, switches_on, unit_lit}
+pub use types.Run.{addr, and_then, assigns, bin, branches, enter, exec, first, fld, from, hop, lit, load, no_more}
+pub use types.Run.{of_opd, returns, returns_within, skips, stop, well_typed, Below, Finds, Opds, Rv, again, align_word}
+pub use types.Run.{assigns_last, blocks, forget, init, jumps, look, loops, size_lit, size_word, store_raw, switches_on}
+pub use types.Run.{unit_lit}
 pub use types.SemTy.{Body, cells}
 pub use types.Tokens.{lent_back, lft-common, lft_end, lft_new}

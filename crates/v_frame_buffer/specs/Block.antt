@@ -1,5 +1,5 @@
 -- What the parts of a block of memory own and lend, at entries of the type R. The entries that were
--- written are first, and behind them is room for more.
+-- written are first, and after them is room for more.
 use Rattle.std.specs.Prelude.{ℕ, ◌+◌, ◌*◌, ◌^◌, ◌==◌, Bool, true, false, List, [], ◌∷◌, length}
 use Rattle.std.specs.Mem.{type_size}
 use base.Fraction.{full_share}

@@ -8,7 +8,7 @@ ghost use Rattle.v_frame_buffer.specs.AlignedData.{LendsEntries, LendsPart, Lend
 mod block;
 mod filling;
 
-use block::{Base, Cells, Deed, give_back};
+use block::{Base, Cells, Deed, deallocate};
 use filling::Filling;
 use std::alloc::{AllocError, Global};
 use std::fmt;
@@ -44,7 +44,7 @@ impl<T: Drop> Drop for AlignedData<T> {
             deed,
             alloc,
         } = self;
-        give_back(&alloc, base, len, len, cells, deed);
+        deallocate(&alloc, base, len, len, cells, deed);
     }
 }
 
@@ -77,14 +77,14 @@ impl<T> AlignedData<T> {
         Ok(filling.finish())
     }
 
-    /// The entries.
+    /// Returns the entries.
     pub fn as_slice(&self) -> &[T]
         ensures { result.now ≡ self.now }
     {
         self.cells.slice(self.base, self.len)
     }
 
-    /// The entries, for writing.
+    /// Returns the entries, for writing.
     pub fn as_mut_slice(&mut self) -> &mut [T]
         ensures* writes_back { sem 𝓛 (LendsEntries T.row self.entry result) }
         ensures value { result.now ≡ self.old }
@@ -92,7 +92,7 @@ impl<T> AlignedData<T> {
         self.cells.slice_mut(self.base, 0, self.len)
     }
 
-    /// The entries from `start` up to `end`, for writing.
+    /// Returns the entries from `start` up to `end`, for writing.
     pub fn part_mut(&mut self, start: usize, end: usize) -> &mut [T]
         requires order { start ≤ end }
         requires within { end ≤ length self.old }
@@ -102,7 +102,7 @@ impl<T> AlignedData<T> {
         self.cells.slice_mut(self.base, start, end)
     }
 
-    /// The entry at index `place`, for writing.
+    /// Returns the entry at index `place`, for writing.
     pub fn entry_mut(&mut self, place: usize) -> &mut T
         requires { place < length self.old }
         ensures* writes_back { sem 𝓛 (LendsEntry T.row self.entry place result) }
@@ -111,7 +111,7 @@ impl<T> AlignedData<T> {
         entry_of(self.as_mut_slice(), place)
     }
 
-    /// The entry at index `place`, for writing, where there is one.
+    /// Returns the entry at index `place`, for writing, where there is one.
     pub fn get_mut(&mut self, place: usize) -> Option<&mut T>
         ensures* writes_back { sem 𝓛 (LendsEntryIf T.row self.entry place result) }
         ensures value { option_copied_mut result ≡ slice_get self.old place }
@@ -123,7 +123,7 @@ impl<T> AlignedData<T> {
     }
 }
 
-/// The entry of a slice at index `place`, for writing.
+/// Returns the entry of a slice at index `place`, for writing.
 fn entry_of<T>(entries: &mut [T], place: usize) -> &mut T
     requires { place < length entries.old }
     ensures* writes_back { sem 𝓛 (LendsEntryOf T.row entries.entry place result) }
@@ -145,8 +145,8 @@ impl<T> AlignedData<Option<T>> {
         Ok(filling.finish())
     }
 
-    /// The values, moved in their order to a buffer of their own. Where there is no memory for it, nothing is moved. An empty
-    /// buffer takes no memory.
+    /// Returns the values, moved in their order to a buffer of their own. Where there is no memory for it, nothing is moved.
+    /// An empty buffer takes no memory.
     pub fn into_values(mut self, alloc: Global) -> Result<AlignedData<T>, Self>
     where
         T: Drop,

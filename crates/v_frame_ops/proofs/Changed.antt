@@ -1,9 +1,10 @@
 -- Loops that write the items of a list, one after the other: each is made anew, or becomes a copy of one.
-use Rattle.std.proofs.Common.{ℕ, zero, suc, ◌≡◌, ◌≢◌, ◌+◌, ◌<◌, ◌≤◌, List, [], ◌∷◌, length, drop, Some, slice_get, refl, sym, ◌∙◌, ap, subst, arith}
+use Rattle.std.proofs.Common.{ℕ, zero, suc, ◌≡◌, ◌≢◌, ◌+◌, ◌<◌, ◌≤◌, List, [], ◌∷◌, length, Some, slice_get, refl}
+use Rattle.std.proofs.Common.{sym, ◌∙◌, ap, subst, arith}
 use Rattle.std.proofs.Math.ListN.{set, length-set}
 use Rattle.std.specs.List.{refill}
-use Rattle.std.proofs.lemmas.List.{take_at, get_or-set_same}
-use Rattle.std.proofs.lemmas.Option.{same_Some, slice_get_read, slice_get_within}
+use Rattle.std.proofs.lemmas.Option.{same_Some, slice_get_within}
+use Rattle.v_frame_raster.proofs.tables.Lists.{refill_same, slice_get-set_same, others_are_read}
 use borrow.Author.Count.{below_more}
 
 -- each item in front of an index became one that is made of it, and the others are as they were
@@ -11,13 +12,6 @@ pub record ChangedBelow {X : Type 0} (made : ℕ → X → X → Type 0) (old no
   pub count : length now ≡ length old
   pub changed : (k : ℕ) → k < i → (p : X) → slice_get old k ≡ Some p → (q : X) × made k p q × (slice_get now k ≡ Some q)
   pub others : (k : ℕ) → i ≤ k → slice_get now k ≡ slice_get old k
-
-pub slice_get-set_other : {X : Type 0} (xs : List X) (i k : ℕ) (q : X) → k ≢ i → slice_get (set xs i q) k ≡ slice_get xs k
-slice_get-set_other [] i k q h = refl
-slice_get-set_other (x ∷ xs) zero zero q h = absurd (h refl)
-slice_get-set_other (x ∷ xs) zero (suc k) q h = refl
-slice_get-set_other (x ∷ xs) (suc i) zero q h = refl
-slice_get-set_other (x ∷ xs) (suc i) (suc k) q h = slice_get-set_other xs i k q (omega arith)
 
 -- what is given at an item and at the one of the same index in another list
 abbrev pub GivenWith : {X : Type 0} → (X → X → X → Type 0) → List X → ℕ → X → X → Type 0
@@ -28,12 +22,9 @@ pub same_item : {X : Type 0} (xs : List X) (i : ℕ) (x y : X) → slice_get xs 
 same_item xs i x y is becomes = same_Some x y (sym is ∙ becomes)
 
 module _ {X : Type 0} where
-  -- a list of the length that another one is filled up to
-  pub refill_same : (xs ws : List X) → length ws ≡ length xs → refill (length xs) xs ws ≡ ws
-  refill_same xs ws same = take_at ws (drop (length ws) xs) (length xs) same
-
-  -- so what holds of a list that is filled up holds of a list that needs no filling
-  pub with_length_kept : (P : List X → Type 0) (xs ws : List X) → length ws ≡ length xs → P (refill (length xs) xs ws) → P ws
+  -- what holds of a list that is filled up holds of a list that needs no filling
+  pub with_length_kept : (P : List X → Type 0) (xs ws : List X) → length ws ≡ length xs → P (refill (length xs) xs ws)
+      → P ws
   with_length_kept P xs ws same h = subst P (refill_same xs ws same) h
 
   -- an item set to what it is
@@ -42,11 +33,6 @@ module _ {X : Type 0} where
   set_same (x ∷ xs) zero p h = ap (λ q. q ∷ xs) (sym (same_Some x p h))
   set_same (x ∷ xs) (suc i) p h = ap (λ ys. x ∷ ys) (set_same xs i p h)
 
-  pub slice_get-set_same : (xs : List X) (i : ℕ) (p q r : X) → slice_get xs i ≡ Some p → q ≡ r → slice_get (set xs i q) i ≡ Some r
-  slice_get-set_same xs i p q r is same =
-      let within = slice_get_within xs i p is in
-      slice_get_read (set xs i q) _ i q refl (omega (arith, length-set xs i q)) (sym (get_or-set_same xs i q q within)) ∙ ap Some same
-
 module _ {X : Type 0} (made : ℕ → X → X → Type 0) where
   pub none_changed : (xs : List X) → ChangedBelow made xs xs 0
   none_changed xs = record { count = refl; changed = λ k h. absurd (omega arith); others = λ k h. refl }
@@ -54,7 +40,8 @@ module _ {X : Type 0} (made : ℕ → X → X → Type 0) where
   -- one more item became another, and the rest stays
   pub one_more_changed : (old now after : List X) (i : ℕ) → ChangedBelow made old now i → length after ≡ length now
       → ((k : ℕ) → k ≢ i → slice_get after k ≡ slice_get now k)
-      → ((p : X) → slice_get now i ≡ Some p → (q : X) × made i p q × (slice_get after i ≡ Some q)) → ChangedBelow made old after (i + 1)
+      → ((p : X) → slice_get now i ≡ Some p → (q : X) × made i p q × (slice_get after i ≡ Some q)) → ChangedBelow made
+      old after (i + 1)
   one_more_changed old now after i so_far same others one = record {
     count = same ∙ so_far.count;
     changed =
@@ -64,14 +51,16 @@ module _ {X : Type 0} (made : ℕ → X → X → Type 0) where
     others = λ k h. others k (omega arith) ∙ so_far.others k (omega arith);
   }
 
-  pub one_more_set : (old now : List X) (i : ℕ) (p q : X) → ChangedBelow made old now i → slice_get now i ≡ Some p → made i p q
+  pub one_more_set : (old now : List X) (i : ℕ) (p q : X) → ChangedBelow made old now i → slice_get now i ≡ Some p →
+      made i p q
       → ChangedBelow made old (set now i q) (i + 1)
   one_more_set old now i p q so_far is becomes =
-      one_more_changed old now (set now i q) i so_far (length-set now i q) (λ k h. slice_get-set_other now i k q h) (λ r h.
+      one_more_changed old now (set now i q) i so_far (length-set now i q) (λ k h. others_are_read now i k q h) (λ r h.
       (q, subst (λ s. made i s q) (same_item now i p r is h) becomes, slice_get-set_same now i p q q is refl))
 
-  -- behind the last item, all are changed
-  pub all_changed : (old now : List X) (i : ℕ) → ChangedBelow made old now i → length old ≤ i → (k : ℕ) (p : X) → slice_get old k ≡ Some p
+  -- after the last item, all are changed
+  pub all_changed : (old now : List X) (i : ℕ) → ChangedBelow made old now i → length old ≤ i → (k : ℕ) (p : X) →
+      slice_get old k ≡ Some p
       → (q : X) × made k p q × (slice_get now k ≡ Some q)
   all_changed old now i so_far end k p h = let within = slice_get_within old k p h in so_far.changed k (omega arith) p h
 
@@ -81,14 +70,16 @@ pub record CopiedBelow {X : Type 0} (start source : ℕ) (old now : List X) (i :
   pub above : (k : ℕ) → k < start → slice_get now k ≡ slice_get old k
   pub below : (k : ℕ) → i ≤ k → slice_get now k ≡ slice_get old k
 
-module _ {X : Type 0} (start source : ℕ) (old now : List X) (i : ℕ) (p q : X) (so_far : CopiedBelow start source old now i) where
-  pub one_more_copied : start ≤ i → slice_get now i ≡ Some q → slice_get now source ≡ Some p → slice_get now source ≡ slice_get old source
+module _ {X : Type 0} (start source : ℕ) (old now : List X) (i : ℕ) (p q : X)
+    (so_far : CopiedBelow start source old now i) where
+  pub one_more_copied : start ≤ i → slice_get now i ≡ Some q → slice_get now source ≡ Some p → slice_get now source ≡
+      slice_get old source
       → CopiedBelow start source old (set now i p) (i + 1)
   one_more_copied up is read same = record {
     copied =
         below_more (λ k. start ≤ k → slice_get (set now i p) k ≡ slice_get old source) i
-        (λ k h from. slice_get-set_other now i k p (omega arith) ∙ so_far.copied k h from)
+        (λ k h from. others_are_read now i k p (λ e. absurd (omega arith)) ∙ so_far.copied k h from)
         (λ from. slice_get-set_same now i q p p is refl ∙ sym read ∙ same);
-    above = λ k h. slice_get-set_other now i k p (omega arith) ∙ so_far.above k h;
-    below = λ k h. slice_get-set_other now i k p (omega arith) ∙ so_far.below k (omega arith);
+    above = λ k h. others_are_read now i k p (λ e. absurd (omega arith)) ∙ so_far.above k h;
+    below = λ k h. others_are_read now i k p (λ e. absurd (omega arith)) ∙ so_far.below k (omega arith);
   }

@@ -1,4 +1,4 @@
+pub mod LentRows
 pub mod Mapped
 mod Changed
-mod Parts
 mod Tables

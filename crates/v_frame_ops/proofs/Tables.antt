@@ -1,40 +1,20 @@
--- Lists that agree at each place are equal, and so are tables of one size that agree pixel by pixel; the pixels of a rectangle
--- are those of its table. And loops over rows: that move pixels within them, write them into a table, or compare them.
-use Rattle.std.proofs.Common.{ℕ, zero, suc, ◌≡◌, ◌≢◌, ◌+◌, ◌<◌, ◌≤◌, ◌⊎◌, All, List, [], ◌∷◌, length, take, drop, slice_get}
+-- Tables of one size that agree pixel by pixel are equal, and the pixels of a rectangle are those of its table. And
+-- loops
+-- over rows: that move pixels within them, write them into a table, or compare them.
+use Rattle.std.proofs.Common.{ℕ, zero, suc, ◌≡◌, ◌≢◌, ◌+◌, ◌<◌, ◌≤◌, ◌⊎◌, All, List, [], ◌∷◌, length, take, drop}
+use Rattle.std.proofs.Common.{slice_get}
 use Rattle.std.proofs.Common.{Option, Some, None, option_map, option_and_then, refl, sym, ◌∙◌, ap, ⊎_elim, arith}
 use Rattle.std.proofs.lemmas.List.Elements.{All-head, All-tail}
 use Rattle.std.proofs.lemmas.Option.{same_Some, slice_get-map}
 use Rattle.v_frame.specs.Prelude.{Table, pixel_at, rectangle}
 use Rattle.std.proofs.Math.ListN.{set}
-use Rattle.v_frame_ops.proofs.Changed.{slice_get-set_same}
+use Rattle.v_frame_raster.proofs.tables.Lists.{same_by_slice_get, slice_get-take, slice_get-drop, slice_get-set_same}
 use Rattle.v_frame_ops.specs.Compare.{SameBelow, DifferFirstAt, IsFirstDifference}
 use Rattle.v_frame_ops.specs.Rows.{HoldsPixelsFrom}
 use borrow.Author.Count.{below_more}
 
-module _ {X : Type 0} where
-  same_by_slice_get : (xs ys : List X) → length xs ≡ length ys → ((k : ℕ) → k < length xs → slice_get xs k ≡ slice_get ys k) → xs ≡ ys
-  same_by_slice_get [] [] same each = refl
-  same_by_slice_get [] (y ∷ ys) same each = absurd (omega arith)
-  same_by_slice_get (x ∷ xs) [] same each = absurd (omega arith)
-  same_by_slice_get (x ∷ xs) (y ∷ ys) same each =
-      let first : Some x ≡ Some y = each 0 (omega arith) in
-      let others = same_by_slice_get xs ys (omega arith) (λ k h. each (suc k) (omega arith)) in
-      cc
-
-  pub slice_get-take : (n : ℕ) (xs : List X) (i : ℕ) → i < n → slice_get (take n xs) i ≡ slice_get xs i
-  slice_get-take zero xs i h = absurd (omega arith)
-  slice_get-take (suc n) [] i h = refl
-  slice_get-take (suc n) (x ∷ xs) zero h = refl
-  slice_get-take (suc n) (x ∷ xs) (suc i) h = slice_get-take n xs i (omega arith)
-
-  pub slice_get-drop : (n : ℕ) (xs : List X) (i : ℕ) → slice_get (drop n xs) i ≡ slice_get xs (n + i)
-  slice_get-drop zero xs i = let e : 0 + i ≡ i = omega arith in rw e refl
-  slice_get-drop (suc n) [] i = refl
-  slice_get-drop (suc n) (x ∷ xs) i =
-      let e : suc n + i ≡ suc (n + i) = omega arith in
-      slice_get-drop n xs i ∙ ap (slice_get (x ∷ xs)) (sym e)
-
--- the rows of a table from one on and in front of another have the pixels that they had in other columns, and the rows behind are
+-- the rows of a table from one on and in front of another have the pixels that they had in other columns, and the rows
+-- after are
 -- as they were
 pub record MovedBelow {T : Type 0} (from : ℕ → ℕ) (width top : ℕ) (old now : Table T) (y : ℕ) : Type 0 where
   pub inside : (k : ℕ) → k < y → (x : ℕ) → x < width → top ≤ k → pixel_at now x k ≡ pixel_at old (from x) k
@@ -48,8 +28,10 @@ pub record PlacedBelow {T : Type 0} (x y width : ℕ) (shown old now : Table T) 
   pub below : (i j : ℕ) → y + k ≤ j → pixel_at now i j ≡ pixel_at old i j
 
 module _ {T : Type 0} where
-  pub one_more_placed : (x y width : ℕ) (shown old now after : Table T) (k : ℕ) (row : List T) → PlacedBelow x y width shown old now k
-      → slice_get shown k ≡ Some row → length row ≡ width → ((i : ℕ) → i < length row → pixel_at after (x + i) (y + k) ≡ slice_get row i)
+  pub one_more_placed : (x y width : ℕ) (shown old now after : Table T) (k : ℕ) (row : List T) → PlacedBelow x y width
+      shown old now k
+      → slice_get shown k ≡ Some row → length row ≡ width →
+      ((i : ℕ) → i < length row → pixel_at after (x + i) (y + k) ≡ slice_get row i)
       → ((i j : ℕ) → (i < x) ⊎ (x + length row ≤ i) → pixel_at after i j ≡ pixel_at now i j)
       → ((i j : ℕ) → j ≢ y + k → pixel_at after i j ≡ pixel_at now i j) → PlacedBelow x y width shown old after (k + 1)
   one_more_placed x y width shown old now after k row so_far is wide inside beside others = record {
@@ -62,39 +44,48 @@ module _ {T : Type 0} where
     below = λ i j h. others i j (omega arith) ∙ so_far.below i j (omega arith);
   }
 
-  pub all_beside : (x y width height : ℕ) (shown old now : Table T) (k : ℕ) → PlacedBelow x y width shown old now k → k ≤ height
+  pub all_beside : (x y width height : ℕ) (shown old now : Table T) (k : ℕ) → PlacedBelow x y width shown old now k → k
+      ≤ height
       → (i j : ℕ) → ((i < x) ⊎ (x + width ≤ i)) ⊎ ((j < y) ⊎ (y + height ≤ j)) → pixel_at now i j ≡ pixel_at old i j
   all_beside x y width height shown old now k placed end i j =
       ⊎_elim (placed.beside i j) (⊎_elim (placed.above i j) (λ h. placed.below i j (omega arith)))
 
-  pub one_more_moved : (from : ℕ → ℕ) (width top : ℕ) (old now after : Table T) (y : ℕ) → MovedBelow from width top old now y
-      → ((x : ℕ) → x < width → pixel_at after x y ≡ pixel_at now (from x) y) → ((k : ℕ) → k ≢ y → slice_get after k ≡ slice_get now k)
+  pub one_more_moved : (from : ℕ → ℕ) (width top : ℕ) (old now after : Table T) (y : ℕ) → MovedBelow from width top old
+      now y
+      → ((x : ℕ) → x < width → pixel_at after x y ≡ pixel_at now (from x) y) →
+      ((k : ℕ) → k ≢ y → slice_get after k ≡ slice_get now k)
       → MovedBelow from width top old after (y + 1)
   one_more_moved from width top old now after y so_far row others = record {
     inside =
         below_more (λ k. (x : ℕ) → x < width → top ≤ k → pixel_at after x k ≡ pixel_at old (from x) k) y
-        (λ k h x across down. ap (option_and_then (λ r. slice_get r x)) (others k (omega arith)) ∙ so_far.inside k h x across down)
-        (λ x across down. row x across ∙ ap (option_and_then (λ r. slice_get r (from x))) (so_far.others y (omega arith)));
+        (λ k h x across down. ap (option_and_then (λ r. slice_get r x)) (others k (omega arith)) ∙ so_far.inside k h x
+        across down)
+        (λ x across down. row x across ∙ ap (option_and_then (λ r. slice_get r (from x)))
+        (so_far.others y (omega arith)));
     others = λ k h. others k (omega arith) ∙ so_far.others k (omega arith);
   }
 
   -- where a row is replaced by one that moves a pixel, the table has that pixel there
-  pub pixel_is_moved : (old : Table T) (x y from : ℕ) (row new : List T) → slice_get old y ≡ Some row → slice_get new x ≡ slice_get row from
+  pub pixel_is_moved : (old : Table T) (x y from : ℕ) (row new : List T) → slice_get old y ≡ Some row → slice_get new x
+      ≡ slice_get row from
       → pixel_at (set old y new) x y ≡ pixel_at old from y
   pixel_is_moved old x y from row new is same =
       ap (option_and_then (λ r. slice_get r x)) (slice_get-set_same old y row new new is refl) ∙ same
       ∙ sym (ap (option_and_then (λ r. slice_get r from)) is)
 
   -- where a row is replaced by one that keeps its pixel of a column, the table keeps all pixels of that column
-  pub pixel_is_kept : (old : Table T) (x y : ℕ) (row new : List T) → slice_get old y ≡ Some row → slice_get new x ≡ slice_get row x
+  pub pixel_is_kept : (old : Table T) (x y : ℕ) (row new : List T) → slice_get old y ≡ Some row → slice_get new x ≡
+      slice_get row x
       → (k : ℕ) → pixel_at (set old y new) x k ≡ pixel_at old x k
   pixel_is_kept [] x y row new is same k = refl
-  pixel_is_kept (first ∷ old) x zero row new is same zero = same ∙ ap (λ r. slice_get r x) (sym (same_Some first row is))
+  pixel_is_kept (first ∷ old) x zero row new is same zero = same ∙ ap (λ r. slice_get r x)
+      (sym (same_Some first row is))
   pixel_is_kept (first ∷ old) x zero row new is same (suc k) = refl
   pixel_is_kept (first ∷ old) x (suc y) row new is same zero = refl
   pixel_is_kept (first ∷ old) x (suc y) row new is same (suc k) = pixel_is_kept old x y row new is same k
 
-  pub same_by_pixel_at : (width : ℕ) (table other : Table T) → length table ≡ length other → All (λ row. length row ≡ width) table →
+  pub same_by_pixel_at : (width : ℕ) (table other : Table T) → length table ≡ length other → All
+      (λ row. length row ≡ width) table →
       All (λ row. length row ≡ width) other
       → ((x y : ℕ) → x < width → y < length table → pixel_at table x y ≡ pixel_at other x y) → table ≡ other
   same_by_pixel_at width [] [] same wide wide1 each = refl
@@ -106,11 +97,13 @@ module _ {T : Type 0} where
       let first = same_by_slice_get row row1 (long ∙ sym long1) (λ x h. each x 0 (omega (arith, long)) (omega arith)) in
       let wide2 = All-tail (λ row. length row ≡ width) row table wide in
       let wide3 = All-tail (λ row. length row ≡ width) row1 other wide1 in
-      let others = same_by_pixel_at width table other (omega arith) wide2 wide3 (λ x y h k. each x (suc y) h (omega arith)) in
+      let others = same_by_pixel_at width table other (omega arith) wide2 wide3
+      (λ x y h k. each x (suc y) h (omega arith)) in
       cc
 
   -- the rows of one number in two tables
-  module _ (table other : Table T) (y : ℕ) (row beside : List T) (is : slice_get table y ≡ Some row) (is_beside : slice_get other y ≡ Some beside)
+  module _ (table other : Table T) (y : ℕ) (row beside : List T) (is : slice_get table y ≡ Some row)
+      (is_beside : slice_get other y ≡ Some beside)
       (above : (i j : ℕ) → j < y → pixel_at table i j ≡ pixel_at other i j) where
     pixel_here : (x : ℕ) → pixel_at table x y ≡ slice_get row x
     pixel_here x = ap (option_and_then (λ r. slice_get r x)) is
@@ -133,13 +126,15 @@ module _ {T : Type 0} where
         (pixel_here i ∙ ap (λ r. slice_get r i) rows ∙ sym (pixel_beside i))
 
   module _ (x i width : ℕ) (across : i < width) where
-    pixel_of_part : (row : Option (List T)) → option_and_then (λ r. slice_get r i) (option_map (λ r. take width (drop x r)) row) ≡
+    pixel_of_part : (row : Option (List T)) → option_and_then (λ r. slice_get r i)
+        (option_map (λ r. take width (drop x r)) row) ≡
         option_and_then (λ r. slice_get r (x + i)) row
     pixel_of_part None = refl
     pixel_of_part (Some row) = slice_get-take width (drop x row) i across ∙ slice_get-drop x row i
 
   -- the pixels of a rectangle are those of the table, counted from its corner
-  pub rectangle_holds : (rows : Table T) (x y width height : ℕ) → HoldsPixelsFrom rows x y width height (rectangle x y width height rows)
+  pub rectangle_holds : (rows : Table T) (x y width height : ℕ) → HoldsPixelsFrom rows x y width height
+      (rectangle x y width height rows)
   rectangle_holds rows x y width height = λ i j across down.
       let cut : List T → List T = λ row. take width (drop x row) in
       let below = drop y rows in

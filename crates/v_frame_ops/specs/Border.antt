@@ -2,7 +2,7 @@
 use Rattle.std.specs.Prelude.{ℕ, ◌≡◌, ◌-◌, ◌<◌, min}
 use Rattle.v_frame.specs.Prelude.{Raster, stride_of, alloc_height_of, pixel_at, table_of, whole_rows}
 
--- which of `size` columns, or rows, behind a border of `pad` is the one nearest to column, or row, k
+-- which of `size` columns, or rows, after a border of `pad` is the one nearest to column, or row, k
 -- of the buffer
 abbrev pub nearest : ℕ → ℕ → ℕ → ℕ
 nearest pad size k = min (k - pad) (size - 1)

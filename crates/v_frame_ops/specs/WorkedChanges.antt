@@ -17,7 +17,7 @@ means : combined (combined (λ p q. (p + q) / 2)) two_rows two_others
     ≡ (5 ∷ 5 ∷ 5 ∷ []) ∷ (2 ∷ 2 ∷ 4 ∷ []) ∷ []
 means = refl
 
--- behind a border of 2, three columns: those of the border before and behind, and the three
+-- after a border of 2, three columns: those of the border before and behind, and the three
 before : nearest 2 3 0 ≡ 0
 before = refl
 

@@ -3,7 +3,7 @@ ghost use Rattle.std.specs.Prelude.{◌≡◌, ◌≢◌, ◌+◌, ◌-◌, ◌<
 ghost use Rattle.v_frame.specs.Prelude.{IsWhole, pixel_at, raster, stride_of, alloc_height_of, table_of, whole_rows};
 ghost use Rattle.v_frame_ops.specs.Border.{nearest, IsPadded};
 
-use crate::laws::{tables_agree_by_pixels, whole_rows_hold_pixels};
+use crate::laws::whole_rows_hold_pixels;
 use v_frame::pixel::{Pixel, fill_row};
 use v_frame::plane::{Plane, PlaneGeometry, split_row_mut, visible_rows_mut};
 
@@ -13,27 +13,22 @@ pub fn pad<T: Pixel>(plane: &mut Plane<T>)
     ensures table { table_of plane.new ≡ table_of plane.old }
     ensures geometry { plane.new.geometry ≡ plane.old.geometry }
 {
-    tables_agree_by_pixels::<T>();
-    let _before = (plane.width(), plane.height());
-    pad_pixels(plane);
-    let _after = (plane.width(), plane.height());
-}
-
-/// Pads a plane, and leaves its visible pixels.
-fn pad_pixels<T: Copy>(plane: &mut Plane<T>)
-    ensures padded { let g = plane.old.geometry in (x y : ℕ) → x < stride_of g → y < alloc_height_of g
-        → pixel_at (whole_rows plane.new) x y ≡ pixel_at (table_of plane.old)
-        (nearest g.pad_left g.width x) (nearest g.pad_top g.height y) }
-    ensures visible { (x y : ℕ) → x < plane.old.geometry.width → y < plane.old.geometry.height
-        → pixel_at (table_of plane.new) x y ≡ pixel_at (table_of plane.old) x y }
-    ensures geometry { plane.new.geometry ≡ plane.old.geometry }
-{
     let geometry = plane.geometry();
     pad_buffer(plane.data_mut(), geometry);
 }
 
-/// Does the same to a whole buffer.
-fn pad_buffer<T: Copy>(buffer: &mut [T], geometry: PlaneGeometry)
+/// Does the same to the whole buffer of a plane of this geometry, which may be kept elsewhere.
+pub fn pad_buffer<T: Pixel>(buffer: &mut [T], geometry: PlaneGeometry)
+    requires { IsWhole geometry buffer.old }
+    ensures padded { IsPadded (raster geometry buffer.new) }
+    ensures table { table_of (raster geometry buffer.new) ≡ table_of (raster geometry buffer.old) }
+{
+    let _width = geometry.width();
+    continue_picture(buffer, geometry);
+}
+
+/// Makes each entry of a whole buffer the visible pixel nearest to it.
+fn continue_picture<T: Copy>(buffer: &mut [T], geometry: PlaneGeometry)
     requires { IsWhole geometry buffer.old }
     ensures padded { (x y : ℕ) → x < stride_of geometry → y < alloc_height_of geometry
         → pixel_at (whole_rows (raster geometry buffer.new)) x y

@@ -3,10 +3,9 @@
 ghost use Rattle.std.specs.Prelude.{◌≡◌, ◌≢◌, ◌+◌, ◌<◌, ◌≤◌, ◌⊎◌, ℕ, List, length, replicate, slice_get, Some};
 ghost use Rattle.v_frame.specs.Prelude.{KeepsBorder, pixel_at, table_of};
 ghost use Rattle.v_frame_ops.specs.Change.{mapped, combined, MapsPixels, CombinesPixels};
-ghost use Rattle.v_frame_ops.specs.Rows.{MapsItems, CombinesItems};
 
-use crate::visible::visible_row;
-use v_frame::pixel::{Pixel, fill_row};
+use crate::rows;
+use v_frame::pixel::Pixel;
 use v_frame::plane::{Plane, PlaneRef};
 
 /// Makes each visible pixel a result of `change` at it.
@@ -20,7 +19,10 @@ pub fn map_pixels<T: Pixel, F: Fn(T) -> T>(plane: &mut Plane<T>, change: F)
         → table_of plane.new ≡ mapped (mapped g) (table_of plane.old) }
     ensures border { KeepsBorder plane.old plane.new }
 {
-    map_rows(plane, &change);
+    let geometry = plane.geometry();
+    let (_, visible) = plane.data_mut().split_at_mut(geometry.data_origin());
+    let (width, height) = (geometry.width(), geometry.height());
+    rows::map_pixels(visible, width, height, geometry.stride(), change);
 }
 
 /// Makes each visible pixel a result of `combine` at it and at the pixel of the same column and row of `other`, which has the
@@ -39,7 +41,11 @@ pub fn combine_pixels<T: Pixel, F: Fn(T, T) -> T>(
         → table_of plane.new ≡ combined (combined g) (table_of plane.old) (table_of other.now) }
     ensures border { KeepsBorder plane.old plane.new }
 {
-    combine_rows(plane, other, &combine);
+    let geometry = plane.geometry();
+    let (_, visible) = plane.data_mut().split_at_mut(geometry.data_origin());
+    let other = other.as_rows_ref();
+    let (width, height) = (geometry.width(), geometry.height());
+    rows::combine_pixels(visible, width, height, geometry.stride(), &other, combine);
 }
 
 /// Sets each visible pixel to `pixel`.
@@ -50,9 +56,10 @@ pub fn fill<T: Pixel>(plane: &mut Plane<T>, pixel: T)
         → pixel_at (table_of plane.new) x y ≡ Some pixel }
     ensures border { KeepsBorder plane.old plane.new }
 {
-    for y in 0..plane.height() {
-        fill_row(plane.visible_row_mut(y), pixel);
-    }
+    let geometry = plane.geometry();
+    let (_, visible) = plane.data_mut().split_at_mut(geometry.data_origin());
+    let (width, height) = (geometry.width(), geometry.height());
+    rows::fill(visible, width, height, geometry.stride(), pixel);
 }
 
 /// Writes all that `source` shows into `target`, from column `x` of row `y` on. There has to be room for it.
@@ -69,79 +76,7 @@ pub fn copy_region<T: Pixel>(source: &PlaneRef<'_, T>, target: &mut Plane<T>, x:
     // Sizes that were read fit their type, and so do the sums that they bound.
     prove!(source.width() <= target.width() && source.height() <= target.height());
     for k in 0..source.height() {
-        write_row_part(target, x, y + k, visible_row(source, k));
-    }
-}
-
-/// Makes each visible row one of results of `change`.
-fn map_rows<T: Copy, F: Fn(T) -> T>(plane: &mut Plane<T>, change: &F)
-    requires { F.IsAlwaysCallable change.now }
-    ensures rows { MapsItems (MapsItems (F.post change.now)) (table_of plane.old) (table_of plane.new) }
-    ensures border { KeepsBorder plane.old plane.new }
-{
-    for y in 0..plane.height() {
-        map_row(plane.visible_row_mut(y), change);
-    }
-}
-
-/// Makes each pixel of a row a result of `change` at it.
-fn map_row<T: Copy, F: Fn(T) -> T>(row: &mut [T], change: &F)
-    requires { F.IsAlwaysCallable change.now }
-    ensures { MapsItems (F.post change.now) row.old row.new }
-{
-    for x in 0..row.len() {
-        row[x] = change(row[x]);
-    }
-}
-
-/// Makes each visible row one of results of `combine`.
-fn combine_rows<T: Copy, F: Fn(T, T) -> T>(
-    plane: &mut Plane<T>,
-    other: &PlaneRef<'_, T>,
-    combine: &F,
-)
-    requires callable { F.IsAlwaysCallable combine.now }
-    requires wide { other.now.geometry.width ≡ plane.old.geometry.width }
-    requires high { other.now.geometry.height ≡ plane.old.geometry.height }
-    ensures rows { CombinesItems (CombinesItems (F.post combine.now)) (table_of plane.old)
-        (table_of other.now) (table_of plane.new) }
-    ensures border { KeepsBorder plane.old plane.new }
-{
-    prove!(plane.height() == other.height());
-    for y in 0..other.height() {
-        combine_row_at(plane, y, visible_row(other, y), combine);
-    }
-}
-
-/// Makes row `y` of a plane one of results of `combine`.
-fn combine_row_at<T: Copy, F: Fn(T, T) -> T>(
-    plane: &mut Plane<T>,
-    y: usize,
-    other: &[T],
-    combine: &F,
-)
-    requires callable { F.IsAlwaysCallable combine.now }
-    requires wide { length other.now ≡ plane.old.geometry.width }
-    requires high { y < plane.old.geometry.height }
-    ensures row { (row : List T) → slice_get (table_of plane.old) y ≡ Some row
-        → (new : List T) × CombinesItems (F.post combine.now) row other.now new
-        × (slice_get (table_of plane.new) y ≡ Some new) }
-    ensures others { (k : ℕ) → k ≢ y
-        → slice_get (table_of plane.new) k ≡ slice_get (table_of plane.old) k }
-    ensures count { length (table_of plane.new) ≡ length (table_of plane.old) }
-    ensures border { KeepsBorder plane.old plane.new }
-{
-    combine_row(plane.visible_row_mut(y), other, combine);
-}
-
-/// Makes each pixel of a row a result of `combine` at it and at the pixel of the same index in the other row.
-fn combine_row<T: Copy, F: Fn(T, T) -> T>(row: &mut [T], other: &[T], combine: &F)
-    requires callable { F.IsAlwaysCallable combine.now }
-    requires wide { length other.now ≡ length row.old }
-    ensures { CombinesItems (F.post combine.now) row.old other.now row.new }
-{
-    for x in 0..row.len() {
-        row[x] = combine(row[x], other[x]);
+        write_row_part(target, x, y + k, source.visible_row(k));
     }
 }
 

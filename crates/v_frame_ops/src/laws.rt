@@ -19,7 +19,7 @@ pub fn rectangles_hold_pixels<T>()
         (rectangle x y width height rows) }
 {}
 
-/// The visible pixels of a plane are those of its whole buffer, behind the border above them and to their left.
+/// The visible pixels of a plane are those of its whole buffer, after the border above them and to their left.
 pub fn whole_rows_hold_pixels<T>()
     ensures { (p : Raster T) → let g = p.geometry in
         HoldsPixelsFrom (whole_rows p) g.pad_left g.pad_top g.width g.height (table_of p) }

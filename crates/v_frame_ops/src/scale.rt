@@ -2,7 +2,7 @@
 ghost use Rattle.std.specs.Prelude.{◌≡◌, ◌+◌, ◌*◌, ℕ, List, slice_get, Some};
 ghost use Rattle.v_frame.specs.Prelude.{halved, KeepsBorder, table_of};
 
-use crate::visible::visible_row;
+use crate::rows;
 use v_frame::pixel::Pixel;
 use v_frame::plane::{Plane, PlaneRef};
 
@@ -16,11 +16,9 @@ pub fn downscale<T: Pixel>(source: &PlaneRef<'_, T>, target: &mut Plane<T>)
         → slice_get (table_of target.new) y ≡ Some (halved T.form top bottom) }
     ensures border { KeepsBorder target.old target.new }
 {
-    // A height that was read fits its type, and so do the numbers of rows below it.
-    let _rows = source.height();
-    for y in 0..target.height() {
-        let top = visible_row(source, 2 * y);
-        let bottom = visible_row(source, 2 * y + 1);
-        T::halve_rows(target.visible_row_mut(y), top, bottom);
-    }
+    let geometry = target.geometry();
+    let (_, visible) = target.data_mut().split_at_mut(geometry.data_origin());
+    let source = source.as_rows_ref();
+    let (width, height) = (geometry.width(), geometry.height());
+    rows::downscale(&source, visible, width, height, geometry.stride());
 }

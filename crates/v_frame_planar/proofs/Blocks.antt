@@ -6,16 +6,25 @@ use Rattle.v_frame_planar.specs.Planar.{bytes_of_plane, planar_bytes, pixels_of_
 
 module _ {T : Type 0} (form : PixelForm T) where
   -- the bytes of two runs
-  pub bytes-append : (first rest : List T) → bytes_of_pixels form (first ++ rest) ≡ bytes_of_pixels form first ++ bytes_of_pixels form rest
+  pub bytes-append : (first rest : List T) → bytes_of_pixels form (first ++ rest) ≡ bytes_of_pixels form first ++
+      bytes_of_pixels form rest
   bytes-append first rest = flat_map-append (λ pixel. bytes_of form.size (form.value pixel)) first rest
 
-  bytes_of_absent : (table : Option (Table T)) → bytes_of_pixels form (pixels_of_plane table) ≡ bytes_of_plane form table
+  bytes_of_absent : (table : Option (Table T)) → bytes_of_pixels form (pixels_of_plane table) ≡ bytes_of_plane form
+      table
   bytes_of_absent None = refl
   bytes_of_absent (Some table) = refl
 
   -- the planar bytes are those of the planar pixels
-  pub bytes_of_planar_pixels : (tables : Tables T) → bytes_of_pixels form (planar_pixels tables) ≡ planar_bytes form tables
+  pub bytes_of_planar_pixels : (tables : Tables T) → bytes_of_pixels form (planar_pixels tables) ≡ planar_bytes form
+      tables
   bytes_of_planar_pixels tables =
       let u = pixels_of_plane tables.u in
       let v = pixels_of_plane tables.v in
-      rw (bytes-append (row_major tables.y) (u ++ v), bytes-append u v, bytes_of_absent tables.u, bytes_of_absent tables.v)
+      rw (
+        bytes-append (row_major tables.y) (u ++ v),
+        bytes-append u v,
+        bytes_of_absent tables.u,
+        bytes_of_absent
+            tables.v,
+      )

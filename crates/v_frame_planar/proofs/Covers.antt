@@ -6,9 +6,9 @@ use Rattle.std.proofs.Math.Nat.{div-le_self, div-one, mul-le-mul_left, mul-le-mu
 use Rattle.std.proofs.lemmas.Nat.{div-add-mod'}
 use Rattle.std.proofs.lemmas.Bool.{and_parts, eqb-true}
 use Rattle.v_frame.specs.Prelude.{Geometry, stride_of, alloc_height_of, Fits, IsGeometry}
-use Rattle.v_frame_layout.specs.Chroma.{has_quotient, is_divisible, divided_geometry, subsampled_by}
+use Rattle.v_frame_raster.specs.Chroma.{has_quotient, is_divisible, divided_geometry, subsampled_by}
 use Rattle.v_frame.specs.Build.{FrameRequest, luma_geometry}
-use Rattle.v_frame_layout.proofs.ChromaLemmas.{by_ratio}
+use Rattle.v_frame_raster.proofs.ChromaLemmas.{by_ratio}
 use Rattle.v_frame_planar.specs.Video.{covering_geometry}
 
 -- a quotient rounded up is none only of nothing
@@ -26,7 +26,8 @@ module _ (g : Geometry) (x y : ℕ) (some_x : 0 < x) (some_y : 0 < y) where
   pub cover_fits : Fits g → Fits (covering_geometry g (x, y))
   cover_fits fits =
       let c = covering_geometry g (x, y) in
-      let rows : alloc_height_of c ≤ alloc_height_of g = omega (arith, ceil_le g.height y some_y, div-le_self g.pad_top y, div-le_self g.pad_bottom y) in
+      let rows : alloc_height_of c ≤ alloc_height_of g = omega
+      (arith, ceil_le g.height y some_y, div-le_self g.pad_top y, div-le_self g.pad_bottom y) in
       omega (arith, fits, mul-le-mul_left (alloc_height_of c) stride_of_cover, mul-le-mul_right (stride_of g) rows)
 
   pub cover_is_geometry : IsGeometry g → IsGeometry (covering_geometry g (x, y))
@@ -39,7 +40,8 @@ module _ (g : Geometry) (x y : ℕ) (some_x : 0 < x) (some_y : 0 < y) where
   }
 
 -- where a geometry can be laid out, it is the one that was made
-pub laid_out : (made : Option Geometry) (given g : Geometry) → SomeIff made (IsGeometry given) given → given ≡ g → IsGeometry g → made ≡ Some g
+pub laid_out : (made : Option Geometry) (given g : Geometry) → SomeIff made (IsGeometry given) given → given ≡ g →
+    IsGeometry g → made ≡ Some g
 laid_out None given g none same is = absurd (none (rw same is))
 laid_out (Some x) given g both same is = cc
 
@@ -48,7 +50,8 @@ exact_ceil : (n ratio : ℕ) → has_quotient n ratio ≡ true → div_ceil n ra
 exact_ceil n ratio e = omega (arith, eqb-true _ n e, div-add-mod' n ratio)
 
 -- where all divides, to cover luma is to divide it
-divided_covers : (x y : ℕ) (g : Geometry) → is_divisible x y g ≡ true → covering_geometry g (x, y) ≡ divided_geometry x y g
+divided_covers : (x y : ℕ) (g : Geometry) → is_divisible x y g ≡ true → covering_geometry g (x, y) ≡ divided_geometry x
+    y g
 divided_covers x y g e =
     let sides : (has_quotient g.width x ≡ true) × (has_quotient g.height y ≡ true) = grind arith in
     rw (exact_ceil g.width x sides.0, exact_ceil g.height y sides.1)
@@ -70,5 +73,6 @@ module _ (request : FrameRequest) where
   subsampled_covers None = λ ok. refl
   subsampled_covers (Some (x, y)) =
       by_ratio x y luma (λ made. is_ok made ≡ true → made ≡ Ok (Some (covering_geometry luma (x, y))))
-      (λ full ok. let ones = and_parts (x == 1) (y == 1) full in rw (eqb-true x 1 ones.0, eqb-true y 1 ones.1, whole_covers))
+      (λ full ok. let ones = and_parts (x == 1) (y == 1) full in rw
+      (eqb-true x 1 ones.0, eqb-true y 1 ones.1, whole_covers))
       (λ is ok. rw (divided_covers x y luma is)) (λ ok. cc)

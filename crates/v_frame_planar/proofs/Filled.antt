@@ -2,8 +2,8 @@
 use Rattle.std.proofs.Common.{ℕ, zero, suc, ◌≡◌, ◌-◌, ◌*◌, ◌≤◌, List, [], ◌++◌, drop, replicate, refl, ◌∙◌, arith}
 use Rattle.std.proofs.lemmas.List.{take-replicate, drop-replicate}
 use Rattle.v_frame.specs.Prelude.{Geometry, Table, stride_of, alloc_size_of, filled, table_of}
-use Rattle.v_frame_layout.specs.Geometry.{Piece, times, outer_row, crossing_row}
-use Rattle.v_frame_plane.specs.Plane.{cut_by, visible_pieces}
+use Rattle.v_frame_raster.specs.Geometry.{Piece, times, outer_row, crossing_row}
+use Rattle.v_frame_raster.specs.Raster.{cut_by, visible_pieces}
 use Rattle.v_frame_planar.specs.Video.{plain_table}
 
 module _ {T : Type 0} (value : T) (g : Geometry) where
@@ -12,7 +12,8 @@ module _ {T : Type 0} (value : T) (g : Geometry) where
   shown plan xs = visible_pieces (cut_by plan xs)
 
   -- rows of the border show nothing
-  past_outer : (rest : List Piece) (k n : ℕ) → shown (times k (outer_row g) ++ rest) (replicate n value) ≡ shown rest (replicate (n - k * stride_of g) value)
+  past_outer : (rest : List Piece) (k n : ℕ) → shown (times k (outer_row g) ++ rest) (replicate n value) ≡ shown rest
+      (replicate (n - k * stride_of g) value)
   past_outer rest zero n = let all : n - 0 * stride_of g ≡ n = omega arith in rw all
   past_outer rest (suc k) n =
       let less : n - suc k * stride_of g ≡ n - stride_of g - k * stride_of g = omega arith in
@@ -23,7 +24,8 @@ module _ {T : Type 0} (value : T) (g : Geometry) where
   only_outer (suc k) xs = only_outer k (drop (stride_of g) xs)
 
   -- each row that crosses the rectangle shows as many as it is wide
-  crossing : (k n : ℕ) → k * stride_of g ≤ n → shown (times k (crossing_row g) ++ times g.pad_bottom (outer_row g)) (replicate n value) ≡ replicate k
+  crossing : (k n : ℕ) → k * stride_of g ≤ n → shown (times k (crossing_row g) ++ times g.pad_bottom (outer_row g))
+      (replicate n value) ≡ replicate k
       (replicate g.width value)
   crossing zero n h = only_outer g.pad_bottom (replicate n value)
   crossing (suc k) n h =
@@ -31,7 +33,14 @@ module _ {T : Type 0} (value : T) (g : Geometry) where
       let behind = inside - g.width in
       let row = take-replicate g.width inside value (omega (arith, h)) in
       let later = crossing k (behind - g.pad_right) (omega (arith, h)) in
-      rw (drop-replicate g.pad_left n value, row, drop-replicate g.width inside value, drop-replicate g.pad_right behind value, later)
+      rw (
+        drop-replicate g.pad_left n value,
+        row,
+        drop-replicate g.width inside value,
+        drop-replicate g.pad_right
+            behind value,
+        later,
+      )
 
   pub table_of_filled : table_of (filled value g) ≡ plain_table value (g.width, g.height)
   table_of_filled =

@@ -8,16 +8,18 @@ use Rattle.std.proofs.Math.Nat.{mul-le-mul_left}
 use Rattle.std.proofs.lemmas.Bool.{and_parts}
 use Rattle.std.specs.Cmp.{both_ways}
 use Rattle.std.proofs.lemmas.Bool.Decides.{nat_tests}
-use Rattle.v_frame_layout.specs.Chroma.{ratio_of, subsampled, geometry_in}
-use Rattle.v_frame_layout.specs.Geometry.{Geometry, geometry_of, stride_of, alloc_height_of, alloc_size_of, usize_max, isize_max}
-use Rattle.v_frame_layout.specs.declared.chroma.ChromaSubsampling.{ChromaSubsampling}
-use Rattle.v_frame_plane.specs.Plane.{filled, table_of}
+use Rattle.v_frame_raster.specs.Chroma.{ratio_of, subsampled, geometry_in}
+use Rattle.v_frame_raster.specs.Geometry.{Geometry, geometry_of, stride_of, alloc_height_of, alloc_size_of, usize_max}
+use Rattle.v_frame_raster.specs.Geometry.{isize_max}
+use Rattle.v_frame_raster.specs.declared.chroma.ChromaSubsampling.{ChromaSubsampling}
+use Rattle.v_frame_raster.specs.Raster.{filled, table_of}
 use Rattle.v_frame.specs.Build.{FrameRequest, refusal_of, is_laid_out, luma_geometry, chroma_geometry, IsBlank}
 use Rattle.v_frame.specs.Frame.{tables_of}
 use Rattle.v_frame.specs.declared.frame.Frame.{Frame}
 use Rattle.v_frame.specs.declared.frame.error.FrameError.{FrameError}
 use Rattle.v_frame_planar.specs.Planar.{size_of, sizes_of}
-use Rattle.v_frame_planar.specs.Video.{luma_request, video_request, chroma_sizes_of, covering_size, covering_geometry, covering_chroma, plain_table}
+use Rattle.v_frame_planar.specs.Video.{luma_request, video_request, chroma_sizes_of, covering_size, covering_geometry}
+use Rattle.v_frame_planar.specs.Video.{covering_chroma, plain_table}
 use Rattle.v_frame_planar.specs.Video.{plain_tables, video_refusal_of, HasBlankLuma, IsBlankVideo}
 use Rattle.v_frame_planar.proofs.Covers.{ceil_positive, subsampled_covers}
 use Rattle.v_frame_planar.proofs.Filled.{table_of_filled}
@@ -27,36 +29,46 @@ module _ (width height : ℕ) where
   padded across down = geometry_of width height across across down down 1 1
 
   -- what is laid out has rows, and paddings that can be counted
-  counted : (across down : ℕ) → is_laid_out (padded across down) ≡ true → (0 < height) × (across < usize_max) × (down < usize_max)
+  counted : (across down : ℕ) → is_laid_out (padded across down) ≡ true → (0 < height) × (across < usize_max) ×
+      (down < usize_max)
   counted across down e =
       let g = padded across down in
-      let fits : (0 < width) × (0 < height) × (stride_of g ≤ usize_max) × (2 * alloc_size_of g ≤ isize_max) = grind (arith, nat_tests, e) in
-      let column : alloc_height_of g * 1 ≤ alloc_size_of g = mul-le-mul_left (alloc_height_of g) (omega (arith, fits)) in
+      let fits : (0 < width) × (0 < height) × (stride_of g ≤ usize_max) × (2 * alloc_size_of g ≤ isize_max) = grind
+      (arith, nat_tests, e) in
+      let column : alloc_height_of g * 1 ≤ alloc_size_of g = mul-le-mul_left (alloc_height_of g) (omega (arith, fits))
+      in
       (fits.1, omega (arith, fits), omega (arith, fits, column))
 
   uncut : (n : ℕ) → min n usize_max < usize_max → min n usize_max ≡ n
   uncut n small = omega arith
 
   -- a padding that is cut to what can be counted decides as it would
-  cut_decides : (across down : ℕ) → is_laid_out (padded (min across usize_max) (min down usize_max)) ≡ is_laid_out (padded across down)
+  cut_decides : (across down : ℕ) → is_laid_out (padded (min across usize_max) (min down usize_max)) ≡ is_laid_out
+      (padded across down)
   cut_decides across down =
       both_ways _ _ (λ cut. let small = counted _ _ cut in rw (uncut across small.1, uncut down small.2) at cut)
-      (λ whole. let small = counted _ _ whole in rw (uncut across (omega (arith, small)), uncut down (omega (arith, small))) whole)
+      (λ whole. let small = counted _ _ whole in rw
+      (uncut across (omega (arith, small)), uncut down (omega (arith, small))) whole)
 
 -- what goes on from a value may be refused memory
-pub value_goes_on : {X Y : Type 0} (r : Result X FrameError) (s : Result Y FrameError) (o : FrameError) (due : Option FrameError) (x : X) → r ≡ Ok x
-    → IsOkUnless s o → MatchOption due (IsOkUnless r o) (λ fault. r ≡ Err fault) → MatchOption due (IsOkUnless s o) (λ fault. s ≡ Err fault)
+pub value_goes_on : {X Y : Type 0} (r : Result X FrameError) (s : Result Y FrameError) (o : FrameError)
+    (due : Option FrameError) (x : X) → r ≡ Ok x
+    → IsOkUnless s o → MatchOption due (IsOkUnless r o) (λ fault. r ≡ Err fault) → MatchOption due (IsOkUnless s o)
+    (λ fault. s ≡ Err fault)
 value_goes_on r s o due x was is h = grind arith
 
 -- where a builder accepts the whole request, it can lay out luma, and chroma
 lays_out : (bytes : ℕ) (request : FrameRequest) → refusal_of bytes request ≡ None
-    → (is_laid_out (luma_geometry request) ≡ true) × (is_ok (subsampled request.subsampling (luma_geometry request)) ≡ true)
+    → (is_laid_out (luma_geometry request) ≡ true) ×
+    (is_ok (subsampled request.subsampling (luma_geometry request)) ≡ true)
 lays_out bytes request h =
-    let both : is_laid_out (luma_geometry request) && is_ok (subsampled request.subsampling (luma_geometry request)) ≡ true = grind arith in
+    let both : is_laid_out (luma_geometry request) && is_ok (subsampled request.subsampling (luma_geometry request)) ≡
+    true = grind arith in
     and_parts _ _ both
 
 -- what was made is not refused
-accepted : {X : Type 0} (due : Option FrameError) (o : FrameError) (x : X) → MatchOption due (IsOkUnless (Ok x) o) (λ fault. Ok x ≡ Err fault) → due ≡ None
+accepted : {X : Type 0} (due : Option FrameError) (o : FrameError) (x : X) → MatchOption due (IsOkUnless (Ok x) o)
+    (λ fault. Ok x ≡ Err fault) → due ≡ None
 accepted due o x h = grind arith
 
 module _ {T : Type 0} (value : T) where
@@ -65,18 +77,22 @@ module _ {T : Type 0} (value : T) where
   plain_size (width, zero) some = absurd (omega (arith, some))
   plain_size (width, suc n) some = simp length-replicate
 
-  chroma_size : (width height : ℕ) → 0 < height → (ratio : Option (ℕ × ℕ)) → let sizes = option_map (covering_size width height) ratio in
+  chroma_size : (width height : ℕ) → 0 < height → (ratio : Option (ℕ × ℕ)) → let sizes = option_map
+      (covering_size width height) ratio in
       option_map size_of (option_map (plain_table value) sizes) ≡ sizes
   chroma_size width height some None = refl
-  chroma_size width height some (Some ratio) = rw (plain_size (covering_size width height ratio) (ceil_positive height ratio.1 some))
+  chroma_size width height some (Some ratio) = rw (plain_size (covering_size width height ratio)
+      (ceil_positive height ratio.1 some))
 
-  chroma_table : (g : Geometry) (ratio : Option (ℕ × ℕ)) → option_map table_of (option_map (filled value) (option_map (covering_geometry g) ratio))
+  chroma_table : (g : Geometry) (ratio : Option (ℕ × ℕ)) → option_map table_of
+      (option_map (filled value) (option_map (covering_geometry g) ratio))
       ≡ option_map (plain_table value) (option_map (covering_size g.width g.height) ratio)
   chroma_table g None = refl
   chroma_table g (Some ratio) = rw (table_of_filled value (covering_geometry g ratio))
 
   -- a blank frame is the one that a builder makes, where it accepts the request
-  is_as_built : (bytes : ℕ) (request : FrameRequest) (frame : Frame T) → IsBlankVideo value request frame → refusal_of bytes request ≡ None
+  is_as_built : (bytes : ℕ) (request : FrameRequest) (frame : Frame T) → IsBlankVideo value request frame → refusal_of
+      bytes request ≡ None
       → IsBlank value request frame
   is_as_built bytes request frame blank h =
       let chroma = subsampled_covers request (ratio_of request.subsampling) (lays_out bytes request h).1 in
@@ -103,28 +119,42 @@ module _ {T : Type 0} (value : T) where
 
     -- it is refused for the same reason, and made as it was asked for
     pub luma_as_asked : (built : Result (Frame T) FrameError) (o : FrameError)
-        → MatchOption (refusal_of bytes cut) (IsOkUnless built o) (λ fault. built ≡ Err fault) → IfOk built (IsBlank value cut)
-        → MatchOption (video_refusal_of bytes asked) (IsOkUnless built o) (λ fault. built ≡ Err fault) × IfOk built (HasBlankLuma value asked)
+        → MatchOption (refusal_of bytes cut) (IsOkUnless built o) (λ fault. built ≡ Err fault) → IfOk built
+        (IsBlank value cut)
+        → MatchOption (video_refusal_of bytes asked) (IsOkUnless built o) (λ fault. built ≡ Err fault) × IfOk built
+        (HasBlankLuma value asked)
     luma_as_asked (Err error) o refused blank = (rw decides at refused, tt)
     luma_as_asked (Ok frame) o refused blank =
         let small = counted width height _ _ (lays_out bytes cut (accepted (refusal_of bytes cut) o frame refused)).0 in
         let across = uncut width height asked.pad_left small.1 in
-        let down = uncut width height asked.pad_top small.2 in
-        (rw decides at refused, record { y_plane = rw (across, down) at blank.y_plane; bit_depth = blank.bit_depth; some = small.0 })
+        let down = uncut width height asked.pad_top small.2 in (
+          rw decides at refused,
+          record {
+            y_plane = rw (across, down) at blank.y_plane;
+            bit_depth = blank.bit_depth;
+            some = small.0;
+          },
+        )
 
     -- what a blank frame shows
-    tables_of_blank : (frame : Frame T) → IsBlankVideo value asked frame → tables_of frame ≡ plain_tables value width height s
+    tables_of_blank : (frame : Frame T) → IsBlankVideo value asked frame → tables_of frame ≡ plain_tables value width
+        height s
     tables_of_blank frame blank =
         let luma = luma_geometry asked in
         rw (blank.y_plane, blank.u_plane, blank.v_plane, table_of_filled value luma, chroma_table luma (ratio_of s))
 
-    -- all that is told of a blank frame, where there is one
+    -- all that is reported of a blank frame, where there is one
     pub told_of_blank : (result : Result (Frame T) FrameError) → 0 < height → IfOk result (IsBlankVideo value asked)
         → IfOk result (λ frame. tables_of frame ≡ plain_tables value width height s)
-        × IfOk result (λ frame. sizes_of (tables_of frame) ≡ ((width, height), (chroma_sizes_of s width height, chroma_sizes_of s width height)))
+        × IfOk result (λ frame. sizes_of (tables_of frame) ≡
+        ((width, height), (chroma_sizes_of s width height, chroma_sizes_of s width height)))
         × (refusal_of bytes asked ≡ None → IfOk result (IsBlank value asked))
     told_of_blank (Ok frame) some blank =
         let tables = tables_of_blank frame blank in
-        let sizes = ap sizes_of tables ∙ rw (plain_size (width, height) some, chroma_size width height some (ratio_of s)) in
+        let sizes = ap sizes_of tables ∙ rw (
+          plain_size (width, height) some,
+          chroma_size width height some
+              (ratio_of s),
+        ) in
         (tables, sizes, is_as_built bytes asked frame blank)
     told_of_blank (Err error) some blank = (tt, tt, λ accepts. tt)

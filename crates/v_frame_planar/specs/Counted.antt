@@ -34,7 +34,7 @@ module _ {W : Type 0} (contents : W → Option (List ℕ)) (old new : Watched W)
       AppendsBeginning (contents old.inner) (contents new.inner) bytes
       × (new.failures ≡ old.failures)
 
--- where a write failed, the kind of its error is told, and else the last failure is as before
+-- where a write failed, the kind of its error is reported, and else the last failure is as before
 abbrev pub TellsWriteCause : Option ErrorKind → Option ErrorKind → WriteFault → Type 0
 TellsWriteCause old new Failed = IsSome new
 TellsWriteCause old new TookNothing = new ≡ old

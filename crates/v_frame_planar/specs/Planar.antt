@@ -1,5 +1,6 @@
 -- The planar bytes of a frame, and what a call that reads or writes them leaves.
-use Rattle.std.specs.Prelude.{ℕ, ◌≡◌, ◌+◌, ◌*◌, ◌<◌, ◌≤◌, ◌++◌, Bool, true, false, List, [], length, Option, Some, None, IsSome, option_map}
+use Rattle.std.specs.Prelude.{ℕ, ◌≡◌, ◌+◌, ◌*◌, ◌<◌, ◌≤◌, ◌++◌, Bool, true, false, List, [], length, Option, Some, None}
+use Rattle.std.specs.Prelude.{IsSome, option_map}
 use Rattle.std.specs.Io.KnownBytes.{Consumes, IsAtEnd}
 use Rattle.std.specs.declared.io.ErrorKind.{ErrorKind}
 use Rattle.v_frame.specs.Prelude.{PixelForm, byte_list, Table, width_of, height_of, row_major, Tables, isize_max}
@@ -7,7 +8,8 @@ use Rattle.v_frame_planar.specs.Counted.{Watched, HasFailed, StopsWriting}
 use Rattle.v_frame_planar.specs.declared.counted.WriteFault.{WriteFault}
 use Rattle.v_frame_planar.specs.declared.counted.WriteFault.TheVariants.{Failed, TookNothing}
 use Rattle.v_frame_planar.specs.declared.error.PlanarError.{PlanarError}
-use Rattle.v_frame_planar.specs.declared.error.PlanarError.TheVariants.{Truncated, TooLarge, Read, Write, WriteZero, OutOfMemory}
+use Rattle.v_frame_planar.specs.declared.error.PlanarError.TheVariants.{Truncated, TooLarge, Read, Write, WriteZero}
+use Rattle.v_frame_planar.specs.declared.error.PlanarError.TheVariants.{OutOfMemory}
 
 module _ {T : Type 0} where
   -- the bytes of a plane, none where it is absent
@@ -89,7 +91,7 @@ module _ {W : Type 0} (contents : W → Option (List ℕ)) (old new : Watched W)
   MayStopWriting Write = StopsWriting contents old new bytes Failed
   MayStopWriting WriteZero = StopsWriting contents old new bytes TookNothing
 
--- where a read or a write failed, the kind of its error is told, and else the last failure is as
+-- where a read or a write failed, the kind of its error is reported, and else the last failure is as
 -- before
 abbrev pub TellsCause : Option ErrorKind → Option ErrorKind → PlanarError → Type 0
 TellsCause old new (Truncated expected found) = new ≡ old

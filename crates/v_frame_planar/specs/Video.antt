@@ -3,8 +3,8 @@
 use Rattle.std.specs.Prelude.{ℕ, ◌≡◌, ◌*◌, ◌/◌, ◌<◌, Option, unwrap_or, option_map, replicate}
 use Rattle.std.specs.Int.{div_ceil}
 use Rattle.std.specs.Int.NonZero.{non_zero_u8_get}
-use Rattle.v_frame.specs.Prelude.{ratio_of, ChromaSubsampling, Monochrome, Geometry, geometry_of, filled, Table, Tables, FrameRequest, refusal_of, Frame}
-use Rattle.v_frame.specs.Prelude.{FrameError}
+use Rattle.v_frame.specs.Prelude.{ratio_of, ChromaSubsampling, Monochrome, Geometry, geometry_of, filled, Table, Tables}
+use Rattle.v_frame.specs.Prelude.{FrameRequest, refusal_of, Frame, FrameError}
 use Rattle.v_frame.specs.Build.{luma_geometry}
 
 -- the ratios of a format; without chroma nothing has to divide

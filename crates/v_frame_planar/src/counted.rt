@@ -8,7 +8,7 @@ ghost use Rattle.v_frame_planar.specs.Counted.{HasFailed, StopsWriting, TellsWri
 use std::io;
 use std::marker::Model;
 
-/// Why [`Counted::write_all`] gave up. Our own.
+/// Why [`Counted::write_all`] gave up.
 #[derive(Debug, PartialEq, Eq, Drop)]
 pub enum WriteFault {
     /// A write failed.
@@ -17,7 +17,7 @@ pub enum WriteFault {
     TookNothing,
 }
 
-/// A reader or a writer, how often it failed, and why the last time. Our own.
+/// A reader or a writer, how often it failed, and why the last time.
 #[derive(Drop)]
 pub struct Counted<D> {
     inner: D,
@@ -49,28 +49,28 @@ impl<D> Counted<D> {
         }
     }
 
-    /// The reader or the writer.
+    /// Returns the reader or the writer.
     pub fn inner(&self) -> &D
         ensures { result.now ≡ self.now.inner }
     {
         &self.inner
     }
 
-    /// The reader or the writer back.
+    /// Returns the reader or the writer back.
     pub fn into_inner(self) -> D
         ensures { result ≡ self.inner }
     {
         self.inner
     }
 
-    /// How often a read, a write or a flush failed. The count stays at `u64::MAX`.
+    /// Returns how often a read, a write or a flush failed. The count stays at `u64::MAX`.
     pub fn failures(&self) -> u64
         ensures { result ≡ self.now.failures }
     {
         self.failures
     }
 
-    /// The kind of the last error that the reader or the writer answered. `None` where it has answered none yet.
+    /// Returns the kind of the last error that the reader or the writer answered. `None` where it has answered none yet.
     pub fn last_failure(&self) -> Option<io::ErrorKind>
         ensures { result ≡ self.now.last_failure }
     {
@@ -145,7 +145,7 @@ impl<D: io::Write> Counted<D> {
     ///
     /// [`WriteFault::Failed`] where a write failed, an interrupted one too, which is not tried again, and
     /// [`WriteFault::TookNothing`] where a write took none of the bytes that it was offered. Then a beginning of the bytes
-    /// was written. Why a write failed, [`last_failure`](Self::last_failure) tells.
+    /// was written. Why a write failed, [`last_failure`](Self::last_failure) says.
     pub fn write_all(&mut self, bytes: &[u8]) -> Result<(), WriteFault>
         ensures ok { OnOk result (Appends (D.contents self.old.inner) (D.contents self.new.inner)
             bytes.now) }

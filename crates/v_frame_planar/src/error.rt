@@ -4,7 +4,7 @@ use crate::counted::WriteFault;
 use std::alloc::AllocError;
 use thiserror::Error;
 
-/// Why [`read_frame`](crate::read_frame) or [`write_frame`](crate::write_frame) gave up. Our own.
+/// Why [`read_frame`](crate::read_frame) or [`write_frame`](crate::write_frame) gave up.
 #[derive(Debug, PartialEq, Eq, Drop, Error)]
 pub enum PlanarError {
     /// The reader came to its end inside a frame.

@@ -2,10 +2,10 @@
 //!
 //! The planar bytes of a frame are those of Y, then those of U and of V where it has them: the visible pixels of each
 //! plane, row after row, each with its low byte first. Decoders write video so, and encoders read it. Nothing in front of a
-//! frame tells its size, so a reader needs a frame of the right sizes to read into. [`video_frame`] makes one of any size,
+//! frame says its size, so a reader needs a frame of the right sizes to read into. [`video_frame`] makes one of any size,
 //! odd ones too, of which a builder makes none.
 //!
-//! Clauses on the bytes of a reader or a writer say something where its type tells them. Of the writers over memory, `Vec<u8>`
+//! Clauses on the bytes of a reader or a writer say something where its type says them. Of the writers over memory, `Vec<u8>`
 //! and `VecDeque<u8>` do, and what wraps them, as a `Box` or a `BufWriter`; a `Cursor` and `&mut [u8]` don't. Of the readers
 //! over memory `&[u8]`, `VecDeque<u8>` and a `Cursor` do.
 //!
@@ -22,6 +22,6 @@ mod writing;
 
 pub use counted::{Counted, WriteFault};
 pub use error::PlanarError;
-pub use reading::read_frame;
+pub use reading::{planar_len, read_frame};
 pub use video::{ratios_or_one, video_frame};
 pub use writing::write_frame;

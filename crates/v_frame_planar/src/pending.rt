@@ -5,10 +5,10 @@ ghost use Rattle.v_frame_planar.specs.Pending.{row_count};
 ghost use Rattle.v_frame_planar.specs.Planar.{pixels_of_plane, planar_pixels};
 
 use v_frame::frame::Frame;
-use v_frame::pixel::Pixel;
+use v_frame::pixel::{Pixel, encode_row};
 use v_frame::plane::{Plane, Rows};
 
-/// What is left of the row that was begun, and the rows of each plane behind it.
+/// What is left of the row that was begun, and the rows of each plane after it.
 #[derive(Drop)]
 pub(crate) struct Pending<'a, T> {
     row: &'a [T],
@@ -32,7 +32,7 @@ impl<'a, T: Pixel> Pending<'a, T> {
         }
     }
 
-    /// Encodes pixels until no other one fits the block, and tells how many bytes they have.
+    /// Encodes pixels until no other one fits the block, and returns how many bytes they have.
     pub(crate) fn fill(&mut self, block: &mut [u8]) -> usize
         requires { 2 ≤ length block.old }
         ensures bound { result ≤ length block.new }
@@ -71,7 +71,7 @@ impl<'a, T: Pixel> Pending<'a, T> {
         true
     }
 
-    /// The next row that was not begun.
+    /// Returns the next row that was not begun.
     fn next_row(&mut self) -> Option<&'a [T]>
         ensures row { self.new.row ≡ self.old.row }
         ensures rows { MatchOption result (rows_behind self.new ≡ rows_behind self.old)
@@ -90,7 +90,7 @@ impl<'a, T: Pixel> Pending<'a, T> {
     }
 }
 
-/// The rows of a plane, where it is there.
+/// Returns the rows of a plane, where it is there.
 fn rows_of<T>(plane: &Option<Plane<T>>) -> Option<Rows<'_, T>>
     ensures { result ≡ option_map table_of plane.now }
 {
@@ -100,7 +100,7 @@ fn rows_of<T>(plane: &Option<Plane<T>>) -> Option<Rows<'_, T>>
     }
 }
 
-/// The next row of a plane, where it is there.
+/// Returns the next row of a plane, where it is there.
 fn next_of<'a, T>(rows: &mut Option<Rows<'a, T>>) -> Option<&'a [T]>
     ensures count { MatchOption result (row_count rows.new ≡ row_count rows.old)
         (λ row. row_count rows.new < row_count rows.old) }
@@ -109,18 +109,4 @@ fn next_of<'a, T>(rows: &mut Option<Rows<'a, T>>) -> Option<&'a [T]>
         (λ row. pixels_of_plane rows.old ≡ row.now ++ pixels_of_plane rows.new) }
 {
     rows.as_mut()?.next()
-}
-
-/// Encodes pixels, each with its low byte first.
-fn encode_row<T: Pixel>(bytes: &mut [u8], row: &[T])
-    requires { length bytes.old ≡ T.BYTES * length row.now }
-    ensures { bytes.new ≡ bytes_of_pixels T.form row.now }
-{
-    for i in 0..row.len() {
-        let start = T::BYTES * i;
-        bytes[start] = row[i].le_byte(0);
-        if T::BYTES == 2 {
-            bytes[start + 1] = row[i].le_byte(1);
-        }
-    }
 }

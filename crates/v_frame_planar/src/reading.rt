@@ -1,7 +1,7 @@
 //! Frames from their planar bytes.
 ghost use Rattle.std.specs.Prelude.{◌≡◌, ◌≢◌, ◌-◌, ◌++◌, ◌<◌, ◌≤◌, ◌⊎◌, false, length, min, take, option_map, Err, IfOk, IfErr, MatchBool, MatchResult, OnOk, OnErr};
 ghost use Rattle.std.specs.Io.KnownBytes.{Consumes, IsAtEnd};
-ghost use Rattle.v_frame.specs.Prelude.{byte_list, isize_max, usize_max, unshown, KeepsBorders, table_of, tables_of};
+ghost use Rattle.v_frame.specs.Prelude.{byte_list, isize_max, usize_max, border_and_geometry, KeepsBorders, table_of, tables_of};
 ghost use Rattle.v_frame_planar.specs.Planar.{bytes_of_plane, plane_byte_count, planar_bytes, size_of, sizes_of, MayStopReading, Reads, TellsCause};
 
 use crate::counted::Counted;
@@ -14,15 +14,15 @@ use v_frame::plane::Plane;
 
 /// Reads the planar bytes of a frame and shows them in it. `false` where the reader stood at its end before the first byte.
 ///
-/// The sizes of the frame tell how many bytes it has, and no more are asked for: what stands behind them is left for the
+/// The sizes of the frame say how many bytes it has, and no more are asked for: what stands after them is left for the
 /// next call. The border stays. Room for all the bytes is taken before the first is read, and they are shown when the last
-/// one has come, so a frame that was not read whole is as it was. Our own.
+/// one has come, so a frame that was not read whole is as it was.
 ///
 /// # Errors
 ///
 /// [`PlanarError::TooLarge`] where the frame has more than `isize::MAX` bytes, else [`PlanarError::OutOfMemory`] where the
 /// request for memory was refused: for these nothing was read. [`PlanarError::Read`] where a read failed, an interrupted one
-/// too, which is not tried again; [`Counted::last_failure`] tells why. [`PlanarError::Truncated`] where the reader came to its end inside the frame. After each of
+/// too, which is not tried again; [`Counted::last_failure`] says why. [`PlanarError::Truncated`] where the reader came to its end inside the frame. After each of
 /// them the frame is as it was.
 pub fn read_frame<T: Pixel, R: io::Read>(
     alloc: Global,
@@ -46,13 +46,13 @@ pub fn read_frame<T: Pixel, R: io::Read>(
         (TellsCause reader.old.last_failure reader.new.last_failure) }
     ensures unread { OnErr result (frame.new ≡ frame.old) }
 {
-    let mut bytes = room_for(alloc, frame)?;
+    let mut bytes = allocate(alloc, frame)?;
     let found = read_until_full(reader, bytes.as_mut_slice())?;
-    show_whole(frame, bytes.as_slice(), found)
+    store_whole_frame(frame, bytes.as_slice(), found)
 }
 
 /// Shows the planar bytes of a frame where all of them were found. `false` where none was.
-fn show_whole<T: Pixel>(
+fn store_whole_frame<T: Pixel>(
     frame: &mut Frame<T>,
     bytes: &[u8],
     found: usize,
@@ -70,7 +70,7 @@ fn show_whole<T: Pixel>(
 {
     let expected = bytes.len();
     if found == expected {
-        show(frame, bytes);
+        store_bytes(frame, bytes);
         return Ok(true);
     }
     if found == 0 {
@@ -80,7 +80,7 @@ fn show_whole<T: Pixel>(
 }
 
 /// Room for the planar bytes of a frame.
-fn room_for<T: Pixel>(alloc: Global, frame: &Frame<T>) -> Result<Vec<u8>, PlanarError>
+fn allocate<T: Pixel>(alloc: Global, frame: &Frame<T>) -> Result<Vec<u8>, PlanarError>
     ensures room { IfOk result (λ bytes.
         length bytes.items ≡ length (planar_bytes T.form (tables_of frame.now))) }
     ensures too_large { isize_max < length (planar_bytes T.form (tables_of frame.now))
@@ -98,15 +98,16 @@ fn room_for<T: Pixel>(alloc: Global, frame: &Frame<T>) -> Result<Vec<u8>, Planar
     Ok(bytes)
 }
 
-/// How many planar bytes a frame has, as far as they can be counted.
-fn planar_len<T: Pixel>(frame: &Frame<T>) -> usize
+/// Returns how many planar bytes a frame has: as many as [`read_frame`] asks for, and [`write_frame`](crate::write_frame)
+/// writes. The count stays at `usize::MAX`.
+pub fn planar_len<T: Pixel>(frame: &Frame<T>) -> usize
     ensures { result ≡ min (length (planar_bytes T.form (tables_of frame.now))) usize_max }
 {
     let chroma = chroma_len(&frame.u_plane) + chroma_len(&frame.v_plane);
     frame.y_plane.byte_len().saturating_add(chroma)
 }
 
-/// How many bytes a chroma plane has, none where it is absent.
+/// Returns how many bytes a chroma plane has, none where it is absent.
 pub(crate) fn chroma_len<T: Pixel>(plane: &Option<Plane<T>>) -> usize
     ensures value { result ≡ length (bytes_of_plane T.form (option_map table_of plane.now)) }
     ensures size { result
@@ -119,7 +120,7 @@ pub(crate) fn chroma_len<T: Pixel>(plane: &Option<Plane<T>>) -> usize
     }
 }
 
-/// Fills a buffer from a reader, and tells how much of it was filled before the reader came to its end.
+/// Fills a buffer from a reader, and returns how much of it was filled before the reader came to its end.
 fn read_until_full<R: io::Read>(
     reader: &mut Counted<R>,
     buf: &mut [u8],
@@ -150,42 +151,42 @@ fn read_until_full<R: io::Read>(
 }
 
 /// Shows the planar bytes of a frame in it.
-fn show<T: Pixel>(frame: &mut Frame<T>, bytes: &[u8])
+fn store_bytes<T: Pixel>(frame: &mut Frame<T>, bytes: &[u8])
     requires { length bytes.now ≡ length (planar_bytes T.form (tables_of frame.old)) }
     ensures bytes { planar_bytes T.form (tables_of frame.new) ≡ bytes.now }
     ensures borders { KeepsBorders frame.old frame.new }
     ensures sizes { sizes_of (tables_of frame.new) ≡ sizes_of (tables_of frame.old) }
 {
-    let chroma = show_plane(&mut frame.y_plane, bytes);
-    let rest = show_chroma(&mut frame.u_plane, chroma);
-    show_chroma(&mut frame.v_plane, rest);
+    let chroma = store_plane_bytes(&mut frame.y_plane, bytes);
+    let rest = store_chroma_bytes(&mut frame.u_plane, chroma);
+    store_chroma_bytes(&mut frame.v_plane, rest);
 }
 
-/// Shows the first bytes in a plane, where it is there, and gives those behind them.
-fn show_chroma<'a, T: Pixel>(plane: &mut Option<Plane<T>>, bytes: &'a [u8]) -> &'a [u8]
+/// Shows the first bytes in a plane, where it is there, and gives those after them.
+fn store_chroma_bytes<'a, T: Pixel>(plane: &mut Option<Plane<T>>, bytes: &'a [u8]) -> &'a [u8]
     requires { length (bytes_of_plane T.form (option_map table_of plane.old))
         ≤ length bytes.now }
     ensures bytes { bytes.now
         ≡ bytes_of_plane T.form (option_map table_of plane.new) ++ result.now }
     ensures rest { length result.now
         ≡ length bytes.now - length (bytes_of_plane T.form (option_map table_of plane.old)) }
-    ensures border { option_map unshown plane.new ≡ option_map unshown plane.old }
+    ensures border { option_map border_and_geometry plane.new ≡ option_map border_and_geometry plane.old }
     ensures size { option_map size_of (option_map table_of plane.new)
         ≡ option_map size_of (option_map table_of plane.old) }
 {
     match plane {
-        Some(plane) => show_plane(plane, bytes),
+        Some(plane) => store_plane_bytes(plane, bytes),
         None => bytes,
     }
 }
 
-/// Shows the first bytes in a plane, and gives those behind them.
-fn show_plane<'a, T: Pixel>(plane: &mut Plane<T>, bytes: &'a [u8]) -> &'a [u8]
+/// Shows the first bytes in a plane, and gives those after them.
+fn store_plane_bytes<'a, T: Pixel>(plane: &mut Plane<T>, bytes: &'a [u8]) -> &'a [u8]
     requires { length (byte_list T.form (table_of plane.old)) ≤ length bytes.now }
     ensures bytes { bytes.now ≡ byte_list T.form (table_of plane.new) ++ result.now }
     ensures rest { length result.now
         ≡ length bytes.now - length (byte_list T.form (table_of plane.old)) }
-    ensures border { unshown plane.new ≡ unshown plane.old }
+    ensures border { border_and_geometry plane.new ≡ border_and_geometry plane.old }
     ensures size { size_of (table_of plane.new) ≡ size_of (table_of plane.old) }
 {
     let (shown, rest) = bytes.split_at(plane.byte_len());

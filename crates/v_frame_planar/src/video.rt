@@ -11,12 +11,11 @@ use v_frame::frame::{Frame, FrameBuilder, FrameError};
 use v_frame::pixel::Pixel;
 use v_frame::plane::{Plane, PlaneGeometry};
 
-/// A frame of this luma size in pixels, zero in every pixel and in the border too, whether the size divides by the ratios of
-/// the format or not: chroma has as many columns and rows as it takes to cover luma. So video files have it.
+/// Returns a frame of this luma size in pixels, zero in every pixel and in the border too, whether the size divides by the
+/// ratios of the format or not: chroma has as many columns and rows as it takes to cover luma. So video files have it.
 ///
 /// The luma border has `padding` pixels on all four sides, or so many more that it divides. Where
 /// [`FrameBuilder::build`](v_frame::frame::FrameBuilder::build) takes the size and these paddings, it builds the same frame.
-/// Our own.
 ///
 /// # Errors
 ///
@@ -78,7 +77,7 @@ fn luma_frame<T: Pixel>(
         .build(alloc)
 }
 
-/// The frame of this luma, with blank chroma planes where the format has them.
+/// Returns the frame of this luma, with blank chroma planes where the format has them.
 fn with_chroma<T: Pixel>(
     alloc: Global,
     luma: Frame<T>,
@@ -100,7 +99,7 @@ fn with_chroma<T: Pixel>(
 }
 
 /// Returns how many luma columns and luma rows there are for one chroma column and one chroma row: 1 and 1 where the format
-/// has no chroma. Our own.
+/// has no chroma.
 pub fn ratios_or_one(subsampling: ChromaSubsampling) -> (usize, usize)
     ensures value { result ≡ ratio_or_one subsampling }
     ensures positive { (0 < result.0) × (0 < result.1) }
@@ -111,7 +110,7 @@ pub fn ratios_or_one(subsampling: ChromaSubsampling) -> (usize, usize)
     }
 }
 
-/// The geometry of the chroma planes beside a luma plane, where the format has them.
+/// Returns the geometry of the chroma planes beside a luma plane, where the format has them.
 fn chroma_geometry(luma: PlaneGeometry, subsampling: ChromaSubsampling) -> Option<PlaneGeometry>
     requires { Fits luma }
     ensures value { result ≡ option_map (covering_geometry luma) (ratio_of subsampling) }

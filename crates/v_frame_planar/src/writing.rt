@@ -14,12 +14,12 @@ use v_frame::pixel::Pixel;
 /// How many bytes are encoded and offered at once.
 const BLOCK: usize = 65536;
 
-/// Writes the planar bytes of a frame. It takes no memory. Our own.
+/// Writes the planar bytes of a frame. It takes no memory.
 ///
 /// # Errors
 ///
 /// [`PlanarError::Write`] where a write failed, an interrupted one too, which is not tried again;
-/// [`Counted::last_failure`] tells why. [`PlanarError::WriteZero`] where a write took none of the bytes that it was offered. After these a beginning of the bytes
+/// [`Counted::last_failure`] says why. [`PlanarError::WriteZero`] where a write took none of the bytes that it was offered. After these a beginning of the bytes
 /// was written.
 pub fn write_frame<T: Pixel, W: io::Write>(
     writer: &mut Counted<W>,

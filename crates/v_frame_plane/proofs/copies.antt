@@ -1,6 +1,4 @@
 -- Copies of pixels and of bytes.
 pub mod ByteCopies
 pub mod ByteLaws
-pub mod BytesBack
 pub mod CopyLemmas
-pub mod Sources

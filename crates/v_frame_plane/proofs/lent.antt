@@ -16,6 +16,6 @@ pub mod RowDraws
 pub mod RowLoans
 pub mod RowMemory
 pub mod RowNext
-pub mod SecondRows
+pub mod FinalRows
 pub mod Sides
 pub mod Taken

@@ -1,15 +1,4 @@
--- Buffers, the tables of rows that they show, and their borders.
-pub mod Determined
-pub mod Entries
-pub mod Equality
+-- Rows that are written into the buffer of a plane: it stays whole, and what the table is then.
 pub mod Kept
-pub mod Lists
-pub mod Marks
-pub mod Overwrites
-pub mod OwnPlaces
-pub mod Pictures
-pub mod Places
-pub mod Regions
 pub mod RowPairs
 pub mod RowWrites
-pub mod Writes

@@ -1,9 +1,10 @@
 -- What a copy into a plane answers, and the table that it leaves.
-use Rattle.std.specs.Prelude.{ℕ, ◌≡◌, ◌*◌, nat_lt, ◌==◌, if◌then◌else◌, min, List, length, map, take, Result, Ok, Err, OnErr}
-use Rattle.v_frame_layout.specs.Geometry.{usize_max}
-use Rattle.v_frame_layout.specs.Pixel.{PixelForm, pixels_of_bytes}
-use Rattle.v_frame_layout.specs.Table.{Table, width_of, height_of, cut_rows}
-use Rattle.v_frame_plane.specs.Plane.{Raster, table_of, border_of}
+use Rattle.std.specs.Prelude.{ℕ, ◌≡◌, ◌*◌, nat_lt, ◌==◌, if◌then◌else◌, min, List, length, Result, Ok, Err, OnErr, OnOk}
+use Rattle.v_frame_raster.specs.Geometry.{usize_max}
+use Rattle.v_frame_raster.specs.Pixel.{PixelForm, byte_list}
+use Rattle.v_frame_raster.specs.Raster.{Raster, table_of, border_of}
+use Rattle.v_frame_raster.specs.StridedRows.{strided_table}
+use Rattle.v_frame_raster.specs.Table.{Table, width_of, height_of, cut_rows}
 use Rattle.v_frame_plane.specs.declared.error.CopyError.{CopyError}
 use Rattle.v_frame_plane.specs.declared.error.CopyError.TheVariants.{DataLength, InvalidStride}
 
@@ -21,17 +22,7 @@ module _ {T : Type 0} where
       then record { answer = Ok tt; table = cut_rows (width_of table) (height_of table) source }
       else record { answer = Err (DataLength pixels (length source)); table = table }
 
--- a source cut into pieces of a stride, of each piece its front: what is behind the front is the
--- tail of the piece
-abbrev pub piece_fronts : {S : Type 0} → ℕ → ℕ → ℕ → List S → List (List S)
-piece_fronts front stride pieces source = map (take front) (cut_rows stride pieces source)
-
 module _ {T : Type 0} (form : PixelForm T) where
-  -- the table of a source with a stride, which is counted in bytes
-  abbrev pub strided_table : ℕ → ℕ → ℕ → List ℕ → Table T
-  strided_table width height stride source =
-      map (pixels_of_bytes form width) (piece_fronts (width * form.size) stride height source)
-
   -- a copy of the bytes of a source with a stride into a table: a row must fit the stride, and the
   -- source must have a piece of the stride for each row, the tail of the last row too
   abbrev pub strided_copy : Table T → List ℕ → ℕ → CopyOutcome T
@@ -41,7 +32,7 @@ module _ {T : Type 0} (form : PixelForm T) where
       if nat_lt stride (width * form.size)
       then record { answer = Err (InvalidStride stride width); table = table }
       else (if length source == stride * height
-      then record { answer = Ok tt; table = strided_table width height stride source }
+      then record { answer = Ok tt; table = strided_table form width height stride source }
       else record {
         answer = Err (DataLength (min (stride * height) usize_max) (length source));
         table = table;
@@ -60,3 +51,7 @@ pub record Copies {T : Type 0} (old new : Raster T) (result : Result (Unit {0}) 
   pub border : border_of new ≡ border_of old
   pub geometry : new.geometry ≡ old.geometry
   pub refused : OnErr result (new ≡ old)
+
+-- a copy that was not refused leaves a table of these bytes
+abbrev pub ComesBack : {T : Type 0} → PixelForm T → List ℕ → CopyOutcome T → Type 0
+ComesBack form bytes copy = OnOk copy.answer (byte_list form copy.table ≡ bytes)

@@ -1,11 +1,12 @@
 -- How the iterators over a plane keep what is left: rows of one width that are ahead in a slice,
 -- and rows and pixels that were begun.
-use Rattle.std.specs.Prelude.{All, ℕ, zero, suc, ◌≡◌, ◌+◌, ◌*◌, ◌^◌, ◌<◌, ◌≤◌, List, [], ◌∷◌, ◌++◌, length, take, drop, Option, Some, None, IfSome}
-use Rattle.v_frame_layout.specs.Pixel.{PixelForm, byte_of, bytes_of_pixels}
-use Rattle.v_frame_layout.specs.Table.{row_major}
+use Rattle.std.specs.Prelude.{All, ℕ, zero, suc, ◌≡◌, ◌+◌, ◌*◌, ◌^◌, ◌<◌, ◌≤◌, List, [], ◌∷◌, ◌++◌, length, take, drop}
+use Rattle.std.specs.Prelude.{Option, Some, None, IfSome}
+use Rattle.v_frame_raster.specs.Pixel.{PixelForm, byte_of, bytes_of_pixels}
+use Rattle.v_frame_raster.specs.Table.{row_major}
 
 module _ {T : Type 0} where
-  -- so many rows: the first begins after `start` entries, and each next one `gap` entries behind
+  -- so many rows: the first begins after `start` entries, and each next one `gap` entries after
   -- the one before
   abbrev pub rows_ahead : ℕ → ℕ → ℕ → ℕ → List T → List (List T)
   rows_ahead start width gap zero entries = []

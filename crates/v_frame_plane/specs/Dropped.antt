@@ -6,8 +6,8 @@ use denote.Ref.{NamedLft}
 use mir.Val.{Val}
 use Rattle.v_frame_plane.specs.PixelsLeft.{pixels_left}
 use Rattle.v_frame_plane.specs.RowsLeft.{rows_left}
-use Rattle.v_frame_plane.specs.SecondPixels.{SecondPixels}
-use Rattle.v_frame_plane.specs.SecondRows.{SecondRows}
+use Rattle.v_frame_plane.specs.FinalPixels.{FinalPixels}
+use Rattle.v_frame_plane.specs.FinalRows.{FinalRows}
 use Rattle.v_frame_plane.specs.contracts.pixels_mut.PixelsMut.{the_row as pixels_row}
 use Rattle.v_frame_plane.specs.contracts.rows_mut.RowsMut.{the_row as rows_row}
 use Rattle.v_frame_plane.specs.declared.pixels_mut.PixelsMut.{PixelsMut}
@@ -21,7 +21,7 @@ module _ (T : RattleType) where
       fall NamedLft (λ lifetime.
       fall (RowsMut T.Denot) (λ walk.
       fall (List Val) (λ values.
-      fwand ((rows_row lifetime T).own_val walk values) (SecondRows T walk (rows_left walk)))))
+      fwand ((rows_row lifetime T).own_val walk values) (FinalRows T walk (rows_left walk)))))
 
   -- the same of pixels
   abbrev pub DroppedPixelsKeepTheirValues : Fml
@@ -30,4 +30,4 @@ module _ (T : RattleType) where
       fall (PixelsMut T.Denot) (λ walk.
       fall (List Val) (λ values.
       fwand ((pixels_row lifetime T).own_val walk values)
-      (SecondPixels T walk (pixels_left walk)))))
+      (FinalPixels T walk (pixels_left walk)))))

@@ -1,8 +1,10 @@
 -- What a plane ends as, where a `&mut` into its buffer was lent.
 use Rattle.std.specs.Prelude.{ℕ, ◌≡◌, List, length, Option, IfSome}
 use Rattle.std.specs.Borrow.{Lends, LendsBoth, LendsIf, LendsSo, Fml, RattleType, MutBor, Array}
-use Rattle.v_frame_layout.specs.Geometry.{Geometry}
-use Rattle.v_frame_plane.specs.Plane.{Raster, raster, WritesRow, with_row, with_entry, with_entries, entries_with_row, entries_with_rows}
+use Rattle.v_frame_raster.specs.Geometry.{Geometry}
+use Rattle.v_frame_raster.specs.Raster.{Raster, raster, with_entries}
+use Rattle.v_frame_raster.specs.Writes.{WritesRow, with_entry, entries_with_row, entries_with_rows}
+use Rattle.v_frame_plane.specs.Plane.{with_row}
 use Rattle.v_frame_plane.specs.contracts.plane.Plane.{the_row}
 
 module _ (T : RattleType) (plane : MutBor (Raster T.Denot)) where
@@ -31,7 +33,7 @@ module _ (T : RattleType) (plane : MutBor (Raster T.Denot)) where
   abbrev pub LendsPixel : ℕ → ℕ → Option (MutBor T.Denot) → Fml
   LendsPixel x y r = LendsIf (the_row T) T plane r (with_entry plane.now x y) plane.now
 
--- once the borrows of a row of a whole buffer and of all behind it end, the entries from the place
+-- once the borrows of a row of a whole buffer and of all after it end, the entries from the place
 -- of row y on are what they show last
 abbrev pub LendsRowAndRest : (T : RattleType) → MutBor (List T.Denot) → Geometry → ℕ
     → MutBor (List T.Denot) × MutBor (List T.Denot) → Fml

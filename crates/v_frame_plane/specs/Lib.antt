@@ -2,13 +2,11 @@ pub mod Copy
 pub mod Cursor
 pub mod Cut
 pub mod Dropped
-pub mod Laws
 pub mod Lends
 pub mod PixelsLeft
 pub mod Plane
 pub mod RowsLeft
-pub mod Second
-pub mod SecondPixels
-pub mod SecondRows
-pub mod WorkedRegions
+pub mod FinalItems
+pub mod FinalPixels
+pub mod FinalRows
 pub mod WorkedRows

@@ -3,7 +3,7 @@ use Rattle.std.specs.Prelude.{List, ◌++◌}
 use Rattle.std.specs.Borrow.{MutBor}
 use Rattle.std.specs.Iterator.{YieldsFirstMut, YieldsLastMut}
 use Rattle.std.specs.Iterator.Runs.{YieldsMutRefsInOrder, YieldsMutRefsInReverse}
-use Rattle.v_frame_layout.specs.Table.{row_major}
+use Rattle.v_frame_raster.specs.Table.{row_major}
 use Rattle.v_frame_plane.specs.RowsLeft.{rows_left, rows_slice}
 use Rattle.v_frame_plane.specs.declared.pixels_mut.PixelsMut.{PixelsMut}
 

@@ -1,9 +1,9 @@
 -- Final values of rows worked out by hand. Each line computes: it is proved by `refl`.
 use Rattle.std.specs.Prelude.{ℕ, ◌≡◌, List, [], ◌∷◌, refl}
-use Rattle.v_frame_layout.specs.Geometry.{geometry_of, stride_of, origin_of}
+use Rattle.v_frame_raster.specs.Geometry.{geometry_of, stride_of, origin_of}
 use Rattle.v_frame_plane.specs.Cursor.{rows_ahead}
-use Rattle.v_frame_plane.specs.Plane.{Raster, raster, table_of, border_of}
-use Rattle.v_frame_plane.specs.SecondRows.{with_rows_ahead}
+use Rattle.v_frame_raster.specs.Raster.{Raster, raster, table_of, border_of}
+use Rattle.v_frame_plane.specs.FinalRows.{with_rows_ahead}
 
 -- three rows of two entries, one entry in front of the first, and two between each and the next
 abbrev twelve : List ℕ

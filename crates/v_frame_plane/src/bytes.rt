@@ -3,9 +3,9 @@ ghost use Rattle.std.specs.Prelude.{◌≡◌, ◌*◌, ◌^◌, ◌<◌, [], �
 ghost use Rattle.std.specs.Iterator.{at_most, UpTo};
 ghost use Rattle.std.specs.Iterator.SizeHint.{IsWithinCount};
 ghost use Rattle.std.specs.Map.Iter.{TakesFirst, TakesLast};
-ghost use Rattle.v_frame_plane.specs.Plane.{table_of};
+ghost use Rattle.v_frame_raster.specs.Raster.{table_of};
 ghost use Rattle.v_frame_plane.specs.Cursor.{other_byte};
-ghost use Rattle.v_frame_layout.specs.Pixel.{bytes_of, byte_list};
+ghost use Rattle.v_frame_raster.specs.Pixel.{bytes_of, byte_list};
 
 use crate::pixels::Pixels;
 use crate::plane_ref::PlaneRef;
@@ -13,7 +13,7 @@ use std::alloc::AllocError;
 use std::fmt;
 use std::iter::FusedIterator;
 use std::marker::Model;
-use v_frame_layout::pixel::Pixel;
+use v_frame_raster::pixel::Pixel;
 
 /// A double-ended iterator over the bytes of the visible pixels of a plane, pixel after pixel, each with its low byte first.
 ///
@@ -40,7 +40,7 @@ impl<'a, T: Pixel> Model for ByteData<'a, T> {
 }
 
 impl<'a, T: Pixel> ByteData<'a, T> {
-    /// The bytes of the visible pixels of a plane.
+    /// Returns the bytes of the visible pixels of a plane.
     #[tactic(auto, using(crate::proofs::iterators::BegunPixels::few_bytes))]
     pub(crate) fn new(plane: &PlaneRef<'a, T>) -> Self
         ensures bytes { result ≡ byte_list T.form (table_of plane.now) }
@@ -55,19 +55,19 @@ impl<'a, T: Pixel> ByteData<'a, T> {
         }
     }
 
-    /// A copy of the iterator.
-    fn again(&self) -> Self
+    /// Returns a copy of the iterator.
+    fn duplicate(&self) -> Self
         ensures { result ≡ self.now }
     {
         ByteData {
             front: self.front,
-            pixels: self.pixels.again(),
+            pixels: self.pixels.duplicate(),
             back: self.back,
         }
     }
 }
 
-/// The low byte of a pixel, which is kept in `front` where it has another byte.
+/// Returns the low byte of a pixel, which is kept in `front` where it has another byte.
 #[inline]
 fn begin_front<T: Pixel>(pixel: T, front: &mut Option<T>) -> u8
     requires { front.old ≡ None }
@@ -81,7 +81,7 @@ fn begin_front<T: Pixel>(pixel: T, front: &mut Option<T>) -> u8
     pixel.le_byte(0)
 }
 
-/// The last byte of a pixel, which is kept in `back` where it has another byte.
+/// Returns the last byte of a pixel, which is kept in `back` where it has another byte.
 #[inline]
 fn begin_back<T: Pixel>(pixel: T, back: &mut Option<T>) -> u8
     requires { back.old ≡ None }
@@ -159,13 +159,13 @@ impl<'a, T: Pixel> Clone for ByteData<'a, T> {
     ghost is_infallible = { λ _. ⊤ };
 
     fn clone(&self) -> Result<Self, AllocError> {
-        Ok(self.again())
+        Ok(self.duplicate())
     }
 }
 
 /// The bytes that are left, as a list.
 impl<'a, T: Pixel> fmt::Debug for ByteData<'a, T> {
     fn fmt<W: fmt::Write>(&self, f: &mut fmt::Formatter<W>) -> fmt::Result {
-        f.debug_list().entries(self.again()).finish()
+        f.debug_list().entries(self.duplicate()).finish()
     }
 }

@@ -1,12 +1,11 @@
-//! The loop that all copies share: the visible rows of a whole buffer, each written from a piece of a source.
+//! The loop that all copies share: rows of a buffer, each written from a row of a source.
 ghost use Rattle.std.specs.Prelude.{◌≡◌, ℕ, ◌*◌, ◌≤◌, List, length, map};
-ghost use Rattle.v_frame_plane.specs.Plane.{IsWhole, raster, table_of, border_of};
-ghost use Rattle.v_frame_plane.specs.Copy.{piece_fronts};
-ghost use Rattle.v_frame_layout.specs.Pixel.{pixels_of_bytes};
+ghost use Rattle.v_frame_raster.specs.Table.{width_of, height_of};
+ghost use Rattle.v_frame_raster.specs.StridedRows.{strided_rows, KeepsRest, RowsFit};
+ghost use Rattle.v_frame_raster.specs.Pixel.{pixels_of_bytes};
 
-use crate::place::row_start;
-use v_frame_layout::geometry::PlaneGeometry;
-use v_frame_layout::pixel::Pixel;
+use crate::rows_ref::RowsRef;
+use v_frame_raster::pixel::Pixel;
 
 /// How a source holds a row of pixels.
 pub trait Encoding<T> {
@@ -61,29 +60,24 @@ impl<T: Pixel> Encoding<T> for AsBytes {
     }
 }
 
-/// Writes the visible rows of a whole buffer: row `y` from the entries of the source that begin at index `stride * y`.
-///
-/// The stride is in entries.
+/// Writes rows of a buffer, each from the row of the source of the same number.
+#[tactic(auto, using(v_frame_raster::proofs::tables::StridedWrites::row_ends))]
 pub fn write_rows<T, E: Encoding<T>>(
-    geometry: PlaneGeometry,
+    source: &RowsRef<'_, E::Entry>,
     buffer: &mut [T],
-    src: &[E::Entry],
+    width: usize,
+    height: usize,
     stride: usize,
 )
-    requires plane { IsWhole geometry buffer.old }
-    requires stride { geometry.width * E.ENTRIES ≤ stride }
-    requires source { length src.now ≡ stride * geometry.height }
-    ensures table { table_of (raster geometry buffer.new)
-        ≡ map (E.row_of geometry.width)
-        (piece_fronts (geometry.width * E.ENTRIES) stride geometry.height src.now) }
-    ensures border { border_of (raster geometry buffer.new)
-        ≡ border_of (raster geometry buffer.old) }
+    requires fit { RowsFit width height stride (length buffer.old) }
+    requires wide { width_of source.now ≡ width * E.ENTRIES }
+    requires high { height_of source.now ≡ height }
+    ensures table { strided_rows width height stride buffer.new
+        ≡ map (E.row_of width) source.now }
+    ensures rest { KeepsRest width height stride buffer.old buffer.new }
 {
-    let width = geometry.width();
-    let front = width * E::ENTRIES;
-    for y in 0..geometry.height() {
-        let start = row_start(geometry, y);
-        let from = stride * y;
-        E::write_row(&mut buffer[start..start + width], &src[from..from + front]);
+    for y in 0..height {
+        let start = stride * y;
+        E::write_row(&mut buffer[start..start + width], source.visible_row(y));
     }
 }

@@ -3,58 +3,60 @@
 //! Each function makes the calls that its law speaks of, and its contract is the law. A law of the definitions alone has
 //! an empty body. Our own.
 ghost use Rattle.std.specs.Prelude.{All, List, ℕ, ◌≡◌, ◌*◌, ◌<◌, ◌≤◌, ◌↔◌, IsTrue};
-ghost use Rattle.v_frame_layout.specs.Geometry.{Geometry, usize_max};
-ghost use Rattle.v_frame_layout.specs.Pixel.{one_byte};
-ghost use Rattle.v_frame_layout.specs.Table.{Table, width_of, height_of, row_major};
-ghost use Rattle.v_frame_plane.specs.Plane.{Raster, table_of};
-ghost use Rattle.v_frame_plane.specs.Copy.{Copies, packed_copy, piece_fronts, strided_copy, packed_byte_copy};
+ghost use Rattle.v_frame_raster.specs.Geometry.{Geometry, usize_max};
+ghost use Rattle.v_frame_raster.specs.Pixel.{one_byte};
+ghost use Rattle.v_frame_raster.specs.Table.{Table, width_of, height_of, row_major};
+ghost use Rattle.v_frame_raster.specs.Raster.{Raster, table_of};
+ghost use Rattle.v_frame_plane.specs.Copy.{Copies, packed_copy, strided_copy, packed_byte_copy, ComesBack};
+ghost use Rattle.v_frame_raster.specs.StridedRows.{piece_fronts};
 ghost use Rattle.v_frame_plane.specs.Dropped.{DroppedPixelsKeepTheirValues, DroppedRowsKeepTheirPixels};
 ghost use Rattle.std.specs.Borrow.{sem};
-ghost use Rattle.v_frame_plane.specs.Laws.{DeterminesBuffer, HasPlaces, HasMarks, HoldsPixels, HoldsRows, IsMadeOfEntries, ComesBack, ShowsRectangle};
+ghost use Rattle.v_frame_raster.specs.RasterLaws.{DeterminesBuffer, HasPlaces, HasMarks, HoldsPixels, HoldsRows};
+ghost use Rattle.v_frame_raster.specs.RasterLaws.{IsMadeOfEntries, ShowsRectangle};
 
 use crate::plane::{CopyError, Plane};
-use v_frame_layout::pixel::Pixel;
+use v_frame_raster::pixel::Pixel;
 
 /// The geometry, the table and the border of a plane together determine its buffer.
-#[tactic(auto, using(crate::proofs::tables::Determined::determines_buffer))]
+#[tactic(auto, using(v_frame_raster::proofs::tables::Determined::determines_buffer))]
 pub fn buffer_is_determined<T: Pixel>()
     ensures { DeterminesBuffer T }
 {}
 
 /// Each visible pixel of a plane has a place of its own, in the buffer and in no piece of the border.
-#[tactic(auto, using(crate::proofs::tables::OwnPlaces::has_places))]
+#[tactic(auto, using(v_frame_raster::proofs::tables::OwnPlaces::has_places))]
 pub fn pixels_have_places()
     ensures { (g : Geometry) → HasPlaces g }
 {}
 
 /// The entry at the place of a visible pixel is that pixel.
-#[tactic(auto, using(crate::proofs::tables::Places::pixel_inside))]
+#[tactic(auto, using(v_frame_raster::proofs::tables::Places::pixel_inside))]
 pub fn places_hold_pixels<T: Pixel>()
     ensures { (p : Raster T) → HoldsPixels p }
 {}
 
 /// Each row of a table is a part of the buffer: as many pixels as the plane is wide, from the place of its first one on.
-#[tactic(auto, using(crate::proofs::tables::Places::rows_are_parts))]
+#[tactic(auto, using(v_frame_raster::proofs::tables::Places::rows_are_parts))]
 pub fn rows_are_parts<T>()
     ensures { (p : Raster T) → HoldsRows p }
 {}
 
 /// What a plane shows is a rectangle of its whole buffer, seen as a picture without a border.
-#[tactic(auto, using(crate::proofs::tables::Regions::shows_rectangle))]
+#[tactic(auto, using(v_frame_raster::proofs::tables::Regions::shows_rectangle))]
 pub fn tables_are_rectangles<T>()
     ensures { (p : Raster T) → ShowsRectangle p }
 {}
 
 /// Each place of a buffer has a mark, by its row and column: visible inside the rectangle, and else border. Past the end of the
 /// buffer no place has one.
-#[tactic(auto, using(crate::proofs::tables::Marks::has_marks))]
+#[tactic(auto, using(v_frame_raster::proofs::tables::Marks::has_marks))]
 pub fn places_have_marks()
     ensures { (g : Geometry) → HasMarks g }
 {}
 
 /// Planes of one geometry that hold the same entries at their visible places show the same table, and planes that hold the
 /// same at their border places have the same border.
-#[tactic(auto, using(crate::proofs::tables::Entries::made_of_entries))]
+#[tactic(auto, using(v_frame_raster::proofs::tables::Entries::made_of_entries))]
 pub fn same_entries_same_table<T: Pixel>()
     ensures { (p q : Raster T) → p.geometry ≡ q.geometry → IsMadeOfEntries p q }
 {}

@@ -3,8 +3,8 @@ ghost use Rattle.std.specs.Prelude.{◌≡◌, ◌*◌, ◌^◌, ◌<◌, length
 ghost use Rattle.std.specs.Iterator.{at_most, UpTo};
 ghost use Rattle.std.specs.Iterator.SizeHint.{IsWithinCount};
 ghost use Rattle.std.specs.Map.Iter.{TakesFirst, TakesLast};
-ghost use Rattle.v_frame_plane.specs.Plane.{table_of};
-ghost use Rattle.v_frame_layout.specs.Table.{row_major};
+ghost use Rattle.v_frame_raster.specs.Raster.{table_of};
+ghost use Rattle.v_frame_raster.specs.Table.{row_major};
 
 use crate::plane_ref::PlaneRef;
 use crate::rows::Rows;
@@ -27,7 +27,7 @@ pub struct Pixels<'a, T> {
 
 impl<'a, T> Model for Pixels<'a, T> {
     ghost use Rattle.std.specs.Prelude.{List, ◌++◌};
-    ghost use Rattle.v_frame_layout.specs.Table.{row_major};
+    ghost use Rattle.v_frame_raster.specs.Table.{row_major};
     ghost use Rattle.v_frame_plane.specs.Cursor.{PixelsAreCountable};
 
     ghost Value = { List T };
@@ -38,7 +38,7 @@ impl<'a, T> Model for Pixels<'a, T> {
 }
 
 impl<'a, T> Pixels<'a, T> {
-    /// The visible pixels of a plane.
+    /// Returns the visible pixels of a plane.
     pub(crate) fn new(plane: &PlaneRef<'a, T>) -> Self
         ensures pixels { result ≡ row_major (table_of plane.now) }
         ensures count { length result ≡ plane.now.geometry.width * plane.now.geometry.height }
@@ -51,13 +51,13 @@ impl<'a, T> Pixels<'a, T> {
         }
     }
 
-    /// A copy of the iterator.
-    pub(crate) fn again(&self) -> Self
+    /// Returns a copy of the iterator.
+    pub(crate) fn duplicate(&self) -> Self
         ensures { result ≡ self.now }
     {
         Pixels {
             front: self.front,
-            rows: self.rows.again(),
+            rows: self.rows.duplicate(),
             back: self.back,
         }
     }
@@ -130,13 +130,13 @@ impl<'a, T> Clone for Pixels<'a, T> {
     ghost is_infallible = { λ _. ⊤ };
 
     fn clone(&self) -> Result<Self, AllocError> {
-        Ok(self.again())
+        Ok(self.duplicate())
     }
 }
 
 /// The pixels that are left, as a list.
 impl<'a, T: Copy + fmt::Debug> fmt::Debug for Pixels<'a, T> {
     fn fmt<W: fmt::Write>(&self, f: &mut fmt::Formatter<W>) -> fmt::Result {
-        f.debug_list().entries(self.again()).finish()
+        f.debug_list().entries(self.duplicate()).finish()
     }
 }

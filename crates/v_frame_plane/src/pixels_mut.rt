@@ -28,9 +28,9 @@ pub struct PixelsMut<'a, T> {
 
 impl<'a, T> PixelsMut<'a, T> {
     ghost use Rattle.v_frame_plane.specs.PixelsLeft.{pixels_left};
-    ghost use Rattle.v_frame_plane.specs.SecondPixels.{LendsFirstPixel, LendsLastPixel, TakesFirstPixel, TakesLastPixel};
+    ghost use Rattle.v_frame_plane.specs.FinalPixels.{LendsFirstPixel, LendsLastPixel, TakesFirstPixel, TakesLastPixel};
 
-    /// The pixels of these rows.
+    /// Returns the pixels of these rows.
     pub(crate) fn new(rows: RowsMut<'a, T>) -> Self
         requires { PixelsAreCountable [] (rows_left rows) [] }
         ensures rows { result.rows ≡ rows.entry }
@@ -44,7 +44,7 @@ impl<'a, T> PixelsMut<'a, T> {
         }
     }
 
-    /// The first pixel of the row that was begun from the front.
+    /// Returns the first pixel of the row that was begun from the front.
     #[inline]
     fn next_of_front(&mut self) -> &'a mut T
         requires { 0 < length self.old.front.now }
@@ -56,7 +56,7 @@ impl<'a, T> PixelsMut<'a, T> {
         pixel
     }
 
-    /// The last pixel of the row that was begun from the back.
+    /// Returns the last pixel of the row that was begun from the back.
     #[inline]
     fn next_of_back(&mut self) -> &'a mut T
         requires { 0 < length self.old.back.now }
@@ -68,8 +68,8 @@ impl<'a, T> PixelsMut<'a, T> {
         pixel
     }
 
-    /// The next pixel, as [`Iterator::next`] gives it. The clause `leaves`, which the trait's `next` doesn't have, says what
-    /// the plane shows once the borrow ends. Our own.
+    /// Returns the next pixel, as [`Iterator::next`] gives it. The clause `leaves`, which the trait's `next` doesn't have,
+    /// says what the plane shows once the borrow ends. Our own.
     #[inline]
     pub fn next(&mut self) -> Option<&'a mut T>
         ensures* leaves { sem 𝓛 (LendsFirstPixel T.row self.old result self.new) }
@@ -90,7 +90,7 @@ impl<'a, T> PixelsMut<'a, T> {
         Some(self.next_of_front())
     }
 
-    /// The last pixel, as [`DoubleEndedIterator::next_back`] gives it. Our own.
+    /// Returns the last pixel, as [`DoubleEndedIterator::next_back`] gives it. Our own.
     #[inline]
     pub fn next_back(&mut self) -> Option<&'a mut T>
         ensures* leaves { sem 𝓛 (LendsLastPixel T.row self.old result self.new) }
@@ -157,7 +157,7 @@ impl<'a, T> ExactSizeIterator for PixelsMut<'a, T> {
 
 impl<'a, T> FusedIterator for PixelsMut<'a, T> {}
 
-/// A slice that isn't empty, cut into its first entry and the rest.
+/// Returns a slice that isn't empty, cut into its first entry and the rest.
 #[inline]
 fn cut_first<T>(slice: &mut [T]) -> (&mut T, &mut [T])
     requires { 0 < length slice.old }
@@ -168,7 +168,7 @@ fn cut_first<T>(slice: &mut [T]) -> (&mut T, &mut [T])
     (&mut first[0], rest)
 }
 
-/// A slice that isn't empty, cut into its last entry and the rest.
+/// Returns a slice that isn't empty, cut into its last entry and the rest.
 #[inline]
 fn cut_last<T>(slice: &mut [T]) -> (&mut T, &mut [T])
     requires { 0 < length slice.old }

@@ -1,11 +1,11 @@
 //! Where the visible pixels of a geometry are in its buffer.
 ghost use Rattle.std.specs.Prelude.{◌≡◌, ◌+◌, ◌*◌, ◌<◌, ◌≤◌, SomeIff};
-ghost use Rattle.v_frame_layout.specs.Geometry.{alloc_size_of, IsGeometry, Fits, usize_max, place_of};
+ghost use Rattle.v_frame_raster.specs.Geometry.{alloc_size_of, IsGeometry, Fits, usize_max, place_of};
 
-use v_frame_layout::geometry::PlaneGeometry;
+use v_frame_raster::geometry::PlaneGeometry;
 
-/// The index of the first pixel of row `y`.
-#[tactic(auto, using(v_frame_layout::proofs::Plans::row_start_within))]
+/// Returns the index of the first pixel of row `y`.
+#[tactic(auto, using(v_frame_raster::proofs::Plans::row_start_within))]
 pub fn row_start(geometry: PlaneGeometry, y: usize) -> usize
     requires fits { Fits geometry }
     requires inside { y < geometry.height }
@@ -15,7 +15,7 @@ pub fn row_start(geometry: PlaneGeometry, y: usize) -> usize
     geometry.data_origin() + geometry.stride() * y
 }
 
-/// The index of a visible pixel.
+/// Returns the index of a visible pixel.
 pub fn visible_place(geometry: PlaneGeometry, x: usize, y: usize) -> usize
     requires fits { Fits geometry }
     requires wide { x < geometry.width }
@@ -26,8 +26,8 @@ pub fn visible_place(geometry: PlaneGeometry, x: usize, y: usize) -> usize
     row_start(geometry, y) + x
 }
 
-/// The number of visible pixels.
-#[tactic(auto, using(v_frame_layout::proofs::Plans::visible_within))]
+/// Returns the number of visible pixels.
+#[tactic(auto, using(v_frame_raster::proofs::Plans::visible_within))]
 pub fn visible_size(geometry: PlaneGeometry) -> usize
     requires { Fits geometry }
     ensures value { result ≡ geometry.width * geometry.height }
@@ -36,7 +36,7 @@ pub fn visible_size(geometry: PlaneGeometry) -> usize
     geometry.width() * geometry.height()
 }
 
-/// The index of (x, y), which may be past the end of the buffer. `None` where no `usize` holds it.
+/// Returns the index of (x, y), which may be past the end of the buffer. `None` where no `usize` holds it.
 pub fn checked_place(geometry: PlaneGeometry, x: usize, y: usize) -> Option<usize>
     requires { Fits geometry }
     ensures { let place = place_of geometry x y in SomeIff result (place ≤ usize_max) place }

@@ -19,13 +19,13 @@
 //! What a plane shows is the table of its visible rows. [`copy_from_slice`](Plane::copy_from_slice),
 //! [`row_mut`](Plane::row_mut), the iterators and the other visible calls write the table alone. [`data_mut`](Plane::data_mut)
 //! reaches the border, and so does [`pixel_mut`](Plane::pixel_mut) past the visible width. [`PlaneRef`] reads a plane whose
-//! buffer is kept elsewhere.
+//! buffer is kept elsewhere, and [`RowsRef`] rows that have no border.
 ghost use Rattle.std.specs.Prelude.{All, List, ℕ, ◌≡◌, [], ◌*◌, ◌^◌, ◌<◌, ◌≤◌, ◌↔◌, length, IsNone, IfOk, IfSome, Some, slice_get, option_copied};
 ghost use Rattle.std.specs.Map.Iter.{ShowsInOrder, ShowsInReverse, GivesInOrder, GivesInReverse, deref};
-ghost use Rattle.v_frame_layout.specs.Geometry.{alloc_size_of, Fits, place_of};
-ghost use Rattle.v_frame_layout.specs.Pixel.{byte_list};
-ghost use Rattle.v_frame_layout.specs.Table.{width_of, height_of, pixel_at, row_major};
-ghost use Rattle.v_frame_plane.specs.Plane.{filled, table_of};
+ghost use Rattle.v_frame_raster.specs.Geometry.{alloc_size_of, Fits, place_of};
+ghost use Rattle.v_frame_raster.specs.Pixel.{byte_list};
+ghost use Rattle.v_frame_raster.specs.Table.{width_of, height_of, pixel_at, row_major};
+ghost use Rattle.v_frame_raster.specs.Raster.{filled, table_of};
 
 mod copies;
 mod options;
@@ -40,12 +40,14 @@ use crate::place::{checked_place, row_start, visible_place};
 pub use crate::plane_ref::PlaneRef;
 pub use crate::rows::Rows;
 pub use crate::rows_mut::RowsMut;
+pub use crate::rows_ref::{RowsRef, rows_fit};
+pub use crate::strided::{copy_rows, decode_rows, encode_rows};
 pub use pairs::{split_row_mut, visible_rows_mut};
 use std::alloc::{AllocError, Global};
 use std::marker::Model;
 use v_frame_buffer::AlignedData;
-pub use v_frame_layout::geometry::{PlaneGeometry, SubsamplingError};
-use v_frame_layout::pixel::Pixel;
+pub use v_frame_raster::geometry::{PlaneGeometry, SubsamplingError};
+use v_frame_raster::pixel::Pixel;
 
 /// A rectangle of visible pixels inside a border, in one buffer.
 ///
@@ -58,7 +60,7 @@ pub struct Plane<T> {
 }
 
 impl<T> Model for Plane<T> {
-    ghost use Rattle.v_frame_plane.specs.Plane.{Raster, IsWhole};
+    ghost use Rattle.v_frame_raster.specs.Raster.{Raster, IsWhole};
 
     ghost Value = { Raster T };
 
@@ -70,22 +72,23 @@ impl<T> Model for Plane<T> {
 impl<T> Plane<T> {
     ghost use Rattle.std.specs.Borrow.{sem};
     ghost use Rattle.std.specs.Option.{option_copied_mut};
-    ghost use Rattle.v_frame_plane.specs.Plane.{WritesEachRow, WritesEachPixel};
+    ghost use Rattle.v_frame_plane.specs.Plane.{WritesEachRow};
+    ghost use Rattle.v_frame_raster.specs.Writes.{WritesEachPixel};
     ghost use Rattle.v_frame_plane.specs.Lends.{LendsBuffer, LendsRow, LendsVisibleRow, LendsVisiblePixel};
     ghost use Rattle.v_frame_plane.specs.Cursor.{PixelsAreCountable};
     ghost use Rattle.v_frame_plane.specs.RowsLeft.{rows_left, rows_slice, LendsRowsInOrder, LendsRowsInReverse};
-    ghost use Rattle.v_frame_plane.specs.SecondRows.{WritesEachTable};
+    ghost use Rattle.v_frame_plane.specs.FinalRows.{WritesEachTable};
     ghost use Rattle.v_frame_plane.specs.PixelsLeft.{pixels_left, pixels_slice, LendsPixelsInOrder, LendsPixelsInReverse};
-    ghost use Rattle.v_frame_plane.specs.SecondPixels.{BeginsOver};
+    ghost use Rattle.v_frame_plane.specs.FinalPixels.{BeginsOver};
 
-    /// The plane, lent for reading. Our own.
+    /// Returns the plane, lent for reading. Our own.
     pub fn as_plane_ref(&self) -> PlaneRef<'_, T>
         ensures { result ≡ self.now }
     {
         PlaneRef::of_parts(self.geometry, self.buffer.as_slice())
     }
 
-    /// The visible width in pixels, never zero.
+    /// Returns the visible width in pixels, never zero.
     ///
     /// Ports `Plane::width` of `v_frame` 0.7.0.
     pub fn width(&self) -> usize
@@ -97,7 +100,7 @@ impl<T> Plane<T> {
         self.as_plane_ref().width()
     }
 
-    /// The visible height in pixels, never zero.
+    /// Returns the visible height in pixels, never zero.
     ///
     /// Ports `Plane::height` of `v_frame` 0.7.0.
     pub fn height(&self) -> usize
@@ -108,7 +111,7 @@ impl<T> Plane<T> {
         self.as_plane_ref().height()
     }
 
-    /// The layout of the plane. Its [`checked_alloc_size`](PlaneGeometry::checked_alloc_size) is `Some`.
+    /// Returns the layout of the plane. Its [`checked_alloc_size`](PlaneGeometry::checked_alloc_size) is `Some`.
     ///
     /// Ports `Plane::geometry` of `v_frame` 0.7.0, which a feature switches there.
     pub fn geometry(&self) -> PlaneGeometry
@@ -118,7 +121,7 @@ impl<T> Plane<T> {
         self.as_plane_ref().geometry()
     }
 
-    /// The whole buffer, row after row from the top, with the border.
+    /// Returns the whole buffer, row after row from the top, with the border.
     ///
     /// Ports `Plane::data` of `v_frame` 0.7.0, which a feature switches there.
     pub fn data(&self) -> &[T]
@@ -128,7 +131,7 @@ impl<T> Plane<T> {
         self.as_plane_ref().data()
     }
 
-    /// The whole buffer for writing, the border too.
+    /// Returns the whole buffer for writing, the border too.
     ///
     /// Ports `Plane::data_mut` of `v_frame` 0.7.0, which a feature switches there.
     pub fn data_mut(&mut self) -> &mut [T]
@@ -139,7 +142,7 @@ impl<T> Plane<T> {
         self.buffer.as_mut_slice()
     }
 
-    /// The visible pixels of row `y`. `None` exactly below the visible rectangle.
+    /// Returns the visible pixels of row `y`. `None` exactly below the visible rectangle.
     ///
     /// Ports `Plane::row` of `v_frame` 0.7.0.
     pub fn row(&self, y: usize) -> Option<&[T]>
@@ -150,7 +153,18 @@ impl<T> Plane<T> {
         self.as_plane_ref().row(y)
     }
 
-    /// The visible pixels of row `y` for writing. `None` exactly below the visible rectangle.
+    /// Returns the visible pixels of row `y`, which must be below [`height`](Self::height).
+    ///
+    /// Our own, beside [`row`](Self::row).
+    pub fn visible_row(&self, y: usize) -> &[T]
+        requires { y < self.now.geometry.height }
+        ensures value { slice_get (table_of self.now) y ≡ Some result.now }
+        ensures wide { length result.now ≡ self.now.geometry.width }
+    {
+        self.as_plane_ref().visible_row(y)
+    }
+
+    /// Returns the visible pixels of row `y` for writing. `None` exactly below the visible rectangle.
     ///
     /// After writing through it, automatic proofs know nothing of the pixels, since the toolchain follows no `Option` of a
     /// slice for writing. Where the table that is left has to be proved, use [`visible_row_mut`](Self::visible_row_mut).
@@ -168,7 +182,7 @@ impl<T> Plane<T> {
         Some(self.visible_row_mut(y))
     }
 
-    /// The visible pixels of row `y` for writing. `y` must be below [`height`](Self::height).
+    /// Returns the visible pixels of row `y` for writing. `y` must be below [`height`](Self::height).
     ///
     /// Our own, beside [`row_mut`](Self::row_mut): a caller's automatic proof knows what is written through it.
     pub fn visible_row_mut(&mut self, y: usize) -> &mut [T]
@@ -183,7 +197,7 @@ impl<T> Plane<T> {
         self.buffer.part_mut(start, start + geometry.width())
     }
 
-    /// A double-ended iterator over the visible rows, from the top.
+    /// Returns a double-ended iterator over the visible rows, from the top.
     ///
     /// Ports `Plane::rows` of `v_frame` 0.7.0.
     pub fn rows(&self) -> Rows<'_, T>
@@ -196,7 +210,7 @@ impl<T> Plane<T> {
         self.as_plane_ref().rows()
     }
 
-    /// A double-ended iterator over the visible rows for writing, from the top.
+    /// Returns a double-ended iterator over the visible rows for writing, from the top.
     ///
     /// Rows may be held while the iterator gives others, and written in any order, even after the iterator is dropped. When the
     /// borrow ends, the plane shows what each row held last, and all else is as it was. The contracts of [`RowsMut::next`] and
@@ -218,8 +232,8 @@ impl<T> Plane<T> {
         RowsMut::new(geometry, self.buffer.as_mut_slice())
     }
 
-    /// The visible pixel at column `x` of row `y`, for writing. `x` must be below [`width`](Self::width), and `y` below
-    /// [`height`](Self::height).
+    /// Returns the visible pixel at column `x` of row `y`, for writing. `x` must be below [`width`](Self::width), and `y`
+    /// below [`height`](Self::height).
     ///
     /// Our own, beside [`pixel_mut`](Self::pixel_mut). To write many pixels, write by rows, which is much faster.
     pub fn visible_pixel_mut(&mut self, x: usize, y: usize) -> &mut T
@@ -236,7 +250,7 @@ impl<T> Plane<T> {
         self.buffer.entry_mut(place)
     }
 
-    /// A double-ended iterator over the visible pixels for writing, row after row from the top.
+    /// Returns a double-ended iterator over the visible pixels for writing, row after row from the top.
     ///
     /// Pixels may be held while the iterator gives others, and written in any order, even after the iterator is dropped. When
     /// the borrow ends, the plane shows what each pixel held last, and all else is as it was. The contracts of
@@ -260,10 +274,10 @@ impl<T> Plane<T> {
 impl<T: Pixel> Plane<T> {
     ghost use Rattle.std.specs.Borrow.{sem};
     ghost use Rattle.std.specs.Option.{option_copied_mut};
-    ghost use Rattle.v_frame_plane.specs.Plane.{WritesEachPixel};
+    ghost use Rattle.v_frame_raster.specs.Writes.{WritesEachPixel};
     ghost use Rattle.v_frame_plane.specs.Lends.{LendsPixel};
 
-    /// A plane of zeros, in its border too. Our own: private in `v_frame` 0.7.0.
+    /// Returns a plane of zeros, in its border too. Our own: private in `v_frame` 0.7.0.
     ///
     /// The [`checked_alloc_size`](PlaneGeometry::checked_alloc_size) of the geometry has to be `Some`.
     ///
@@ -278,7 +292,8 @@ impl<T: Pixel> Plane<T> {
         Ok(Plane { geometry, buffer })
     }
 
-    /// The entry at the index of column `x` and row `y`. `None` exactly where that index is past the end of the buffer.
+    /// Returns the entry at the index of column `x` and row `y`. `None` exactly where that index is past the end of the
+    /// buffer.
     ///
     /// Past the visible width it reaches the border, or the next row where there is no border: only the end of the buffer is
     /// tested. Ports `Plane::pixel` of `v_frame` 0.7.0, which does the same.
@@ -292,8 +307,8 @@ impl<T: Pixel> Plane<T> {
         self.as_plane_ref().pixel(x, y)
     }
 
-    /// The entry at the index of column `x` and row `y`, for writing. `None` exactly where that index is past the end of the
-    /// buffer.
+    /// Returns the entry at the index of column `x` and row `y`, for writing. `None` exactly where that index is past the
+    /// end of the buffer.
     ///
     /// Like [`pixel`](Self::pixel), it reaches past the visible width. To write many pixels, write by rows, which is much
     /// faster. Ports `Plane::pixel_mut` of `v_frame` 0.7.0.
@@ -314,7 +329,7 @@ impl<T: Pixel> Plane<T> {
         self.checked_entry_mut(x, y)
     }
 
-    /// The entry at the index of (x, y) for writing, `None` past the end of the buffer.
+    /// Returns the entry at the index of (x, y) for writing, `None` past the end of the buffer.
     fn checked_entry_mut(&mut self, x: usize, y: usize) -> Option<&mut T>
         ensures* writes_back { sem 𝓛 (LendsPixel T.row self.entry x y result) }
         ensures value { option_copied_mut result
@@ -326,7 +341,7 @@ impl<T: Pixel> Plane<T> {
         self.buffer.get_mut(place)
     }
 
-    /// A double-ended iterator over the visible pixels, row after row from the top.
+    /// Returns a double-ended iterator over the visible pixels, row after row from the top.
     ///
     /// Ports `Plane::pixels` of `v_frame` 0.7.0.
     pub fn pixels(&self) -> Pixels<'_, T>
@@ -339,8 +354,8 @@ impl<T: Pixel> Plane<T> {
         self.as_plane_ref().pixels()
     }
 
-    /// A double-ended iterator over the bytes of the visible pixels, row after row from the top, each pixel with its low byte
-    /// first.
+    /// Returns a double-ended iterator over the bytes of the visible pixels, row after row from the top, each pixel with its
+    /// low byte first.
     ///
     /// Ports `Plane::byte_data` of `v_frame` 0.7.0.
     pub fn byte_data(&self) -> ByteData<'_, T>
@@ -354,7 +369,7 @@ impl<T: Pixel> Plane<T> {
         self.as_plane_ref().byte_data()
     }
 
-    /// How many bytes [`byte_data`](Self::byte_data) gives: those of `width * height` pixels.
+    /// Returns how many bytes [`byte_data`](Self::byte_data) gives: those of `width * height` pixels.
     ///
     /// It reads none of them. Our own.
     pub fn byte_len(&self) -> usize

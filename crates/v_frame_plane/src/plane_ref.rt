@@ -1,19 +1,20 @@
 //! A plane's two parts, lent for reading: a geometry, and a slice that is the whole buffer.
-ghost use Rattle.std.specs.Prelude.{All, List, ℕ, ◌≡◌, ◌^◌, ◌<◌, ◌≤◌, ◌*◌, ◌↔◌, length, IsNone, IfSome, SomeIff, slice_get, option_copied};
+ghost use Rattle.std.specs.Prelude.{All, List, ℕ, ◌≡◌, ◌^◌, ◌<◌, ◌≤◌, ◌*◌, ◌↔◌, length, IsNone, IfSome, SomeIff, Some, slice_get, option_copied};
 ghost use Rattle.std.specs.Map.Iter.{ShowsInOrder, ShowsInReverse, GivesInOrder, GivesInReverse, deref};
-ghost use Rattle.v_frame_layout.specs.Geometry.{alloc_size_of, Fits, IsInside, place_of, region_geometry};
-ghost use Rattle.v_frame_layout.specs.Pixel.{byte_list};
-ghost use Rattle.v_frame_layout.specs.Table.{width_of, height_of, pixel_at, rectangle, row_major};
-ghost use Rattle.v_frame_plane.specs.Plane.{IsWhole, raster, table_of};
+ghost use Rattle.v_frame_raster.specs.Geometry.{alloc_size_of, Fits, IsInside, place_of, region_geometry};
+ghost use Rattle.v_frame_raster.specs.Pixel.{byte_list};
+ghost use Rattle.v_frame_raster.specs.Table.{width_of, height_of, pixel_at, rectangle, row_major};
+ghost use Rattle.v_frame_raster.specs.Raster.{IsWhole, raster, table_of};
 
 use crate::bytes::ByteData;
 use crate::pixels::Pixels;
 use crate::place::{checked_place, row_start, visible_place, visible_size};
 use crate::rows::Rows;
+use crate::rows_ref::RowsRef;
 use std::fmt;
 use std::marker::Model;
-use v_frame_layout::geometry::PlaneGeometry;
-use v_frame_layout::pixel::Pixel;
+use v_frame_raster::geometry::PlaneGeometry;
+use v_frame_raster::pixel::Pixel;
 
 /// A plane that is kept elsewhere, for reading: its geometry, and a slice that is its whole buffer.
 ///
@@ -27,7 +28,7 @@ pub struct PlaneRef<'a, T> {
 }
 
 impl<'a, T> Model for PlaneRef<'a, T> {
-    ghost use Rattle.v_frame_plane.specs.Plane.{Raster, IsWhole};
+    ghost use Rattle.v_frame_raster.specs.Raster.{Raster, IsWhole};
 
     ghost Value = { Raster T };
 
@@ -37,7 +38,7 @@ impl<'a, T> Model for PlaneRef<'a, T> {
 }
 
 impl<'a, T> PlaneRef<'a, T> {
-    /// The plane of a geometry and a buffer. `None` exactly where
+    /// Returns the plane of a geometry and a buffer. `None` exactly where
     /// [`checked_alloc_size`](PlaneGeometry::checked_alloc_size) is not `Some` of the buffer's length.
     ///
     /// Our own.
@@ -50,7 +51,7 @@ impl<'a, T> PlaneRef<'a, T> {
         Some(Self::of_parts(geometry, buffer))
     }
 
-    /// The plane of these parts, which belong together.
+    /// Returns the plane of these parts, which belong together.
     pub(crate) fn of_parts(geometry: PlaneGeometry, buffer: &'a [T]) -> Self
         requires { IsWhole geometry buffer.now }
         ensures { result ≡ raster geometry buffer.now }
@@ -58,10 +59,26 @@ impl<'a, T> PlaneRef<'a, T> {
         PlaneRef { geometry, buffer }
     }
 
-    /// A second view of the same plane.
+    /// What the plane shows, without its border. Our own.
+    pub fn as_rows_ref(&self) -> RowsRef<'a, T>
+        ensures value { result ≡ table_of self.now }
+        ensures width { width_of result ≡ self.now.geometry.width }
+        ensures height { height_of result ≡ self.now.geometry.height }
+    {
+        let geometry = self.geometry;
+        let (_, visible) = self.buffer.split_at(geometry.data_origin());
+        RowsRef::of_parts(
+            visible,
+            geometry.width(),
+            geometry.height(),
+            geometry.stride(),
+        )
+    }
+
+    /// Returns a second view of the same plane.
     ///
     /// Our own, in place of `Clone`, which may fail here, and `Copy`, which a type with a model of its own can't have.
-    pub fn again(&self) -> Self
+    pub fn duplicate(&self) -> Self
         ensures { result ≡ self.now }
     {
         PlaneRef {
@@ -70,11 +87,12 @@ impl<'a, T> PlaneRef<'a, T> {
         }
     }
 
-    /// The rectangle of `width` by `height` pixels that begins at column `x` of row `y`, as a plane over the same buffer.
+    /// Returns the rectangle of `width` by `height` pixels that begins at column `x` of row `y`, as a plane over the same
+    /// buffer.
     ///
     /// `None` exactly where the rectangle is empty or not inside the visible one. Everything around it is border, and the
     /// ratios stay. Nothing is copied: what reads a plane, as a motion search does, reads a block of one too. Our own.
-    #[tactic(auto, using(crate::proofs::tables::Regions::region_shows))]
+    #[tactic(auto, using(v_frame_raster::proofs::tables::Regions::region_shows))]
     pub fn region(&self, x: usize, y: usize, width: usize, height: usize) -> Option<Self>
         ensures value { let geometry = self.now.geometry in
             SomeIff result (IsInside geometry x y width height)
@@ -86,8 +104,23 @@ impl<'a, T> PlaneRef<'a, T> {
         Some(Self::of_parts(geometry, self.buffer))
     }
 
-    /// The visible width in pixels, never zero.
-    #[tactic(auto, using(crate::proofs::copies::CopyLemmas::width_of_shown, crate::proofs::tables::Places::rows_are_wide))]
+    /// The same of a rectangle that is not empty and inside the visible one: compare it with [`width`](Self::width) and
+    /// [`height`](Self::height). Our own.
+    #[tactic(auto, using(v_frame_raster::proofs::tables::Regions::region_shows))]
+    pub fn visible_region(&self, x: usize, y: usize, width: usize, height: usize) -> Self
+        requires { IsInside self.now.geometry x y width height }
+        ensures value { result
+            ≡ raster (region_geometry self.now.geometry x y width height) self.now.buffer }
+        ensures table { table_of result ≡ rectangle x y width height (table_of self.now) }
+        ensures width { result.geometry.width ≡ width }
+        ensures height { result.geometry.height ≡ height }
+    {
+        let geometry = self.geometry.visible_region(x, y, width, height);
+        Self::of_parts(geometry, self.buffer)
+    }
+
+    /// Returns the visible width in pixels, never zero.
+    #[tactic(auto, using(v_frame_raster::proofs::tables::Sizes::width_of_shown, v_frame_raster::proofs::tables::Places::rows_are_wide))]
     pub fn width(&self) -> usize
         ensures value { result ≡ self.now.geometry.width }
         ensures positive { 0 < result }
@@ -97,17 +130,18 @@ impl<'a, T> PlaneRef<'a, T> {
         self.geometry.width()
     }
 
-    /// The visible height in pixels, never zero.
-    #[tactic(auto, using(crate::proofs::copies::CopyLemmas::height_of_shown))]
+    /// Returns the visible height in pixels, never zero.
+    #[tactic(auto, using(v_frame_raster::proofs::tables::Sizes::height_of_shown, v_frame_raster::proofs::Plans::visible_within))]
     pub fn height(&self) -> usize
         ensures value { result ≡ self.now.geometry.height }
         ensures positive { 0 < result }
         ensures table { result ≡ height_of (table_of self.now) }
+        ensures countable { result * self.now.geometry.width < 2 ^ 63 }
     {
         self.geometry.height()
     }
 
-    /// The layout of the plane. Its [`checked_alloc_size`](PlaneGeometry::checked_alloc_size) is `Some`.
+    /// Returns the layout of the plane. Its [`checked_alloc_size`](PlaneGeometry::checked_alloc_size) is `Some`.
     pub fn geometry(&self) -> PlaneGeometry
         ensures value { result ≡ self.now.geometry }
         ensures fits { Fits result }
@@ -115,7 +149,7 @@ impl<'a, T> PlaneRef<'a, T> {
         self.geometry
     }
 
-    /// The whole buffer, row after row from the top, with the border.
+    /// Returns the whole buffer, row after row from the top, with the border.
     pub fn data(&self) -> &'a [T]
         ensures value { result.now ≡ self.now.buffer }
         ensures whole { length result.now ≡ alloc_size_of self.now.geometry }
@@ -123,8 +157,8 @@ impl<'a, T> PlaneRef<'a, T> {
         self.buffer
     }
 
-    /// The visible pixels of row `y`. `None` exactly below the visible rectangle.
-    #[tactic(auto, using(crate::proofs::tables::Places::shown_slice, crate::proofs::tables::Places::no_row_below))]
+    /// Returns the visible pixels of row `y`. `None` exactly below the visible rectangle.
+    #[tactic(auto, using(v_frame_raster::proofs::tables::Places::no_row_below))]
     pub fn row(&self, y: usize) -> Option<&'a [T]>
         ensures value { option_copied result ≡ slice_get (table_of self.now) y }
         ensures none { IsNone result ↔ (self.now.geometry.height ≤ y) }
@@ -133,11 +167,23 @@ impl<'a, T> PlaneRef<'a, T> {
         if y >= self.geometry.height() {
             return None;
         }
-        let start = row_start(self.geometry, y);
-        Some(&self.buffer[start..start + self.geometry.width()])
+        Some(self.visible_row(y))
     }
 
-    /// A double-ended iterator over the visible rows, from the top.
+    /// Returns the visible pixels of row `y`, which must be below [`height`](Self::height).
+    ///
+    /// Our own, beside [`row`](Self::row).
+    #[tactic(auto, using(v_frame_raster::proofs::tables::Places::shown_slice))]
+    pub fn visible_row(&self, y: usize) -> &'a [T]
+        requires { y < self.now.geometry.height }
+        ensures value { slice_get (table_of self.now) y ≡ Some result.now }
+        ensures wide { length result.now ≡ self.now.geometry.width }
+    {
+        let start = row_start(self.geometry, y);
+        &self.buffer[start..start + self.geometry.width()]
+    }
+
+    /// Returns a double-ended iterator over the visible rows, from the top.
     pub fn rows(&self) -> Rows<'a, T>
         ensures rows { result ≡ table_of self.now }
         ensures wide { All (λ row. length row ≡ self.now.geometry.width) result }
@@ -150,7 +196,8 @@ impl<'a, T> PlaneRef<'a, T> {
 }
 
 impl<'a, T: Copy> PlaneRef<'a, T> {
-    /// The entry at the index of column `x` and row `y`. `None` exactly where that index is past the end of the buffer.
+    /// Returns the entry at the index of column `x` and row `y`. `None` exactly where that index is past the end of the
+    /// buffer.
     ///
     /// The visible rectangle is tested first: there the index needs no further test.
     pub fn pixel(&self, x: usize, y: usize) -> Option<T>
@@ -167,7 +214,7 @@ impl<'a, T: Copy> PlaneRef<'a, T> {
         self.buffer.get(place).copied()
     }
 
-    /// A double-ended iterator over the visible pixels, row after row from the top.
+    /// Returns a double-ended iterator over the visible pixels, row after row from the top.
     pub fn pixels(&self) -> Pixels<'a, T>
         ensures pixels { result ≡ row_major (table_of self.now) }
         ensures count { length result ≡ self.now.geometry.width * self.now.geometry.height }
@@ -180,8 +227,8 @@ impl<'a, T: Copy> PlaneRef<'a, T> {
 }
 
 impl<'a, T: Pixel> PlaneRef<'a, T> {
-    /// A double-ended iterator over the bytes of the visible pixels, row after row from the top, each pixel with its low byte
-    /// first.
+    /// Returns a double-ended iterator over the bytes of the visible pixels, row after row from the top, each pixel with its
+    /// low byte first.
     pub fn byte_data(&self) -> ByteData<'a, T>
         ensures bytes { result ≡ byte_list T.form (table_of self.now) }
         ensures count { length result
@@ -193,7 +240,7 @@ impl<'a, T: Pixel> PlaneRef<'a, T> {
         ByteData::new(self)
     }
 
-    /// How many bytes [`byte_data`](Self::byte_data) gives: those of `width * height` pixels. It reads none of them.
+    /// Returns how many bytes [`byte_data`](Self::byte_data) gives: those of `width * height` pixels. It reads none of them.
     pub fn byte_len(&self) -> usize
         ensures value { result
             ≡ self.now.geometry.width * self.now.geometry.height * T.form.size }

@@ -3,9 +3,9 @@ ghost use Rattle.std.specs.Prelude.{◌≡◌, ◌^◌, ◌<◌, length, Some, I
 ghost use Rattle.std.specs.Iterator.{at_most, UpTo};
 ghost use Rattle.std.specs.Iterator.SizeHint.{IsWithinCount};
 ghost use Rattle.std.specs.Map.Iter.{TakesFirst, TakesLast, deref};
-ghost use Rattle.v_frame_layout.specs.Geometry.{IsGeometry};
-ghost use Rattle.v_frame_plane.specs.Plane.{IsWhole, table_of};
-ghost use Rattle.v_frame_layout.specs.Table.{row_major};
+ghost use Rattle.v_frame_raster.specs.Geometry.{IsGeometry};
+ghost use Rattle.v_frame_raster.specs.Raster.{IsWhole, table_of};
+ghost use Rattle.v_frame_raster.specs.Table.{row_major};
 
 use crate::plane_ref::PlaneRef;
 use std::alloc::AllocError;
@@ -40,7 +40,7 @@ impl<'a, T> Model for Rows<'a, T> {
 }
 
 impl<'a, T> Rows<'a, T> {
-    /// The visible rows of a plane.
+    /// Returns the visible rows of a plane.
     #[tactic(auto, using(crate::proofs::iterators::Cursors::visible_rows))]
     pub(crate) fn new(plane: &PlaneRef<'a, T>) -> Self
         ensures rows { result ≡ table_of plane.now }
@@ -59,7 +59,7 @@ impl<'a, T> Rows<'a, T> {
         }
     }
 
-    /// How many pixels the rows that are left have.
+    /// Returns how many pixels the rows that are left have.
     #[inline]
     pub(crate) fn pixel_count(&self) -> usize
         ensures { result ≡ length (row_major self.now) }
@@ -67,8 +67,8 @@ impl<'a, T> Rows<'a, T> {
         self.count * self.width
     }
 
-    /// A copy of the iterator.
-    pub(crate) fn again(&self) -> Self
+    /// Returns a copy of the iterator.
+    pub(crate) fn duplicate(&self) -> Self
         ensures { result ≡ self.now }
     {
         Rows {
@@ -147,13 +147,13 @@ impl<'a, T> Clone for Rows<'a, T> {
     ghost is_infallible = { λ _. ⊤ };
 
     fn clone(&self) -> Result<Self, AllocError> {
-        Ok(self.again())
+        Ok(self.duplicate())
     }
 }
 
 /// The rows that are left, as a list.
 impl<'a, T: fmt::Debug> fmt::Debug for Rows<'a, T> {
     fn fmt<W: fmt::Write>(&self, f: &mut fmt::Formatter<W>) -> fmt::Result {
-        f.debug_list().entries(self.again()).finish()
+        f.debug_list().entries(self.duplicate()).finish()
     }
 }

@@ -3,14 +3,14 @@ ghost use Rattle.std.specs.Prelude.{◌≡◌, [], ◌+◌, ◌*◌, ◌^◌, �
 ghost use Rattle.std.specs.Iterator.{UpTo, MakesProgress, YieldsFirstMut, YieldsLastMut, item_count};
 ghost use Rattle.std.specs.Iterator.SizeHint.{IsWithinCount};
 ghost use Rattle.v_frame_plane.specs.Cursor.{PixelsAreCountable, RowsAreWithin};
-ghost use Rattle.v_frame_layout.specs.Geometry.{IsGeometry};
-ghost use Rattle.v_frame_plane.specs.Plane.{IsWhole, raster, table_of};
-ghost use Rattle.v_frame_layout.specs.Table.{row_major};
+ghost use Rattle.v_frame_raster.specs.Geometry.{IsGeometry};
+ghost use Rattle.v_frame_raster.specs.Raster.{IsWhole, raster, table_of};
+ghost use Rattle.v_frame_raster.specs.Table.{row_major};
 ghost use Rattle.std.specs.Borrow.{sem};
 
 use std::iter::FusedIterator;
 use std::mem;
-use v_frame_layout::geometry::PlaneGeometry;
+use v_frame_raster::geometry::PlaneGeometry;
 
 /// A double-ended iterator over the visible rows of a plane for writing, from the top.
 ///
@@ -32,9 +32,9 @@ pub struct RowsMut<'a, T> {
 
 impl<'a, T> RowsMut<'a, T> {
     ghost use Rattle.v_frame_plane.specs.RowsLeft.{rows_left, rows_slice};
-    ghost use Rattle.v_frame_plane.specs.SecondRows.{LendsFirstRow, LendsLastRow, WritesEachTable};
+    ghost use Rattle.v_frame_plane.specs.FinalRows.{LendsFirstRow, LendsLastRow, WritesEachTable};
 
-    /// The visible rows of a whole buffer.
+    /// Returns the visible rows of a whole buffer.
     pub(crate) fn new(geometry: PlaneGeometry, buffer: &'a mut [T]) -> Self
         requires { IsWhole geometry buffer.old }
         ensures same_reference { (rows_slice result).ghost_name ≡ buffer.entry.ghost_name }
@@ -55,7 +55,7 @@ impl<'a, T> RowsMut<'a, T> {
         }
     }
 
-    /// How many pixels the rows that are left have.
+    /// Returns how many pixels the rows that are left have.
     #[inline]
     pub(crate) fn pixel_count(&self) -> usize
         ensures { result ≡ length (row_major (rows_left self.now)) }
@@ -63,8 +63,8 @@ impl<'a, T> RowsMut<'a, T> {
         self.count * self.width
     }
 
-    /// The next row, as [`Iterator::next`] gives it. The clause `leaves`, which the trait's `next` doesn't have, says what the
-    /// plane shows once the borrow ends. Our own.
+    /// Returns the next row, as [`Iterator::next`] gives it. The clause `leaves`, which the trait's `next` doesn't have,
+    /// says what the plane shows once the borrow ends. Our own.
     #[inline]
     pub fn next(&mut self) -> Option<&'a mut [T]>
         ensures* leaves { sem 𝓛 (LendsFirstRow T.row self.old result self.new) }
@@ -85,7 +85,7 @@ impl<'a, T> RowsMut<'a, T> {
         let place = row_place(start, width, gap, 0);
         let cut = mem::take(&mut self.rest).split_at_mut(place);
         let row = cut.1.split_at_mut(width);
-        // What lies behind the row is kept.
+        // What lies after the row is kept.
         *self = RowsMut {
             rest: row.1,
             start: gap,
@@ -96,7 +96,7 @@ impl<'a, T> RowsMut<'a, T> {
         Some(row.0)
     }
 
-    /// The last row, as [`DoubleEndedIterator::next_back`] gives it. Our own.
+    /// Returns the last row, as [`DoubleEndedIterator::next_back`] gives it. Our own.
     #[inline]
     pub fn next_back(&mut self) -> Option<&'a mut [T]>
         ensures* leaves { sem 𝓛 (LendsLastRow T.row self.old result self.new) }

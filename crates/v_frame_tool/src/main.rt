@@ -1,12 +1,27 @@
 //! Prints the rows of a small frame.
 #![tactic(auto)]
 
-mod counted;
-mod fault;
-mod planar;
-mod run;
 #[cfg(test)]
 mod tests;
+
+// What the program and its tests are made of stands in libraries, which others link without the program. These are the names
+// here.
+
+mod counted {
+    pub use v_frame_planar::Counted;
+}
+
+mod fault {
+    pub use v_frame_tool_run::fault::ToolFault;
+}
+
+mod planar {
+    pub use v_frame_planar::{PlanarError, read_frame, write_frame};
+}
+
+mod run {
+    pub use v_frame_tool_run::run::run;
+}
 
 use counted::Counted;
 use std::process::ExitCode;

@@ -28,7 +28,8 @@ clean_pieces : (line : List ℕ) → AllByRecursion (λ x. x ≢ 10) line → Al
 clean_pieces [] each = (tt, tt)
 clean_pieces (x ∷ xs) each = onto x each.0 (nat_eq x 32) refl (pieces xs) (clean_pieces xs each.1)
 
-kept : (b : Bool) (x : List ℕ) (xs : List (List ℕ)) → Clean x → AllByRecursion Clean xs → AllByRecursion Clean (cond b (x ∷ xs) xs)
+kept : (b : Bool) (x : List ℕ) (xs : List (List ℕ)) → Clean x → AllByRecursion Clean xs → AllByRecursion Clean
+    (cond b (x ∷ xs) xs)
 kept true x xs one rest = (one, rest)
 kept false x xs one rest = rest
 
@@ -36,16 +37,19 @@ clean_of_letter : (l : ℕ) (ps : List (List ℕ)) → AllByRecursion Clean ps �
 clean_of_letter l [] each = tt
 clean_of_letter l (p ∷ ps) each = kept _ p (of_letter l ps) each.0 (clean_of_letter l ps each.1)
 
-clean_extensions : (xs : List (List ℕ)) → AllByRecursion Clean (map (λ (text : List ℕ). 88 ∷ text) xs) → AllByRecursion IsPiece xs
+clean_extensions : (xs : List (List ℕ)) → AllByRecursion Clean (map (λ (text : List ℕ). 88 ∷ text) xs) → AllByRecursion
+    IsPiece xs
 clean_extensions [] each = tt
 clean_extensions (x ∷ xs) each = (
-  All-weaker IsClean IsPieceByte (λ b clean. (eqb-false b 32 clean.1, clean.0)) x (All-from_recursion IsClean x each.0.1),
+  All-weaker IsClean IsPieceByte (λ b clean. (eqb-false b 32 clean.1, clean.0)) x
+      (All-from_recursion IsClean x each.0.1),
   clean_extensions xs each.1,
 )
 
 pub read_is_writable : (line : List ℕ) (h : StreamHeader) → IsHeader line h → IsLine line → IsWritable h
 read_is_writable line h is ended =
-    let parts = subst (AllByRecursion Clean) is.pieces (clean_pieces line (recursion_from_All (λ x. x ≢ 10) line ended)) in
+    let parts = subst (AllByRecursion Clean) is.pieces
+    (clean_pieces line (recursion_from_All (λ x. x ≢ 10) line ended)) in
     let extensions = subst (AllByRecursion Clean) is.says.extensions (clean_of_letter 88 is.parameters parts.1) in
     record {
       width = is.size.width.0;

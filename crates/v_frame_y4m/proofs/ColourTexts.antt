@@ -1,5 +1,6 @@
 -- Where each colour stands among those that a parameter says, and that no two are spelled alike.
-use Rattle.std.proofs.Common.{ℕ, ◌≡◌, ◌≢◌, ◌+◌, ◌<◌, ◌≤◌, List, [], ◌∷◌, drop, get_or, cond, refl, sym, ◌∙◌, ap, subst, rules, arith}
+use Rattle.std.proofs.Common.{ℕ, ◌≡◌, ◌≢◌, ◌+◌, ◌<◌, ◌≤◌, List, [], ◌∷◌, drop, get_or, cond, refl, sym, ◌∙◌, ap, subst}
+use Rattle.std.proofs.Common.{rules, arith}
 use Rattle.std.specs.Prelude.{Option, Some, None, unwrap_or}
 use Rattle.std.specs.Str.{bytes_eq}
 use Rattle.std.specs.List.{AllByRecursion}
@@ -9,8 +10,9 @@ use Rattle.v_frame_y4m.specs.Header.{parameter_of}
 use Rattle.v_frame_y4m.specs.declared.colour.TheConstants.{STATED}
 use Rattle.v_frame_y4m.specs.declared.colour.Depth.TheVariants.{Nine, Ten, Twelve, Fourteen, Sixteen}
 use Rattle.v_frame_y4m.specs.declared.colour.Colour.{Colour}
-use Rattle.v_frame_y4m.specs.declared.colour.Colour.TheVariants.{Unstated, Yuv420, Yuv420Jpeg, Yuv420Mpeg2, Yuv420Paldv, Yuv411, Yuv422, Yuv444, Mono}
-use Rattle.v_frame_y4m.specs.declared.colour.Colour.TheVariants.{Yuv420Deep, Yuv422Deep, Yuv444Deep, MonoDeep}
+use Rattle.v_frame_y4m.specs.declared.colour.Colour.TheVariants.{Unstated, Yuv420, Yuv420Jpeg, Yuv420Mpeg2, Yuv420Paldv}
+use Rattle.v_frame_y4m.specs.declared.colour.Colour.TheVariants.{Yuv411, Yuv422, Yuv444, Mono, Yuv420HighDepth}
+use Rattle.v_frame_y4m.specs.declared.colour.Colour.TheVariants.{Yuv422HighDepth, Yuv444HighDepth, MonoHighDepth}
 
 abbrev pub rank : Colour → ℕ
 rank Unstated = 28
@@ -22,26 +24,26 @@ rank Yuv411 = 4
 rank Yuv422 = 5
 rank Yuv444 = 6
 rank Mono = 7
-rank (Yuv420Deep Nine) = 8
-rank (Yuv420Deep Ten) = 9
-rank (Yuv420Deep Twelve) = 10
-rank (Yuv420Deep Fourteen) = 11
-rank (Yuv420Deep Sixteen) = 12
-rank (Yuv422Deep Nine) = 13
-rank (Yuv422Deep Ten) = 14
-rank (Yuv422Deep Twelve) = 15
-rank (Yuv422Deep Fourteen) = 16
-rank (Yuv422Deep Sixteen) = 17
-rank (Yuv444Deep Nine) = 18
-rank (Yuv444Deep Ten) = 19
-rank (Yuv444Deep Twelve) = 20
-rank (Yuv444Deep Fourteen) = 21
-rank (Yuv444Deep Sixteen) = 22
-rank (MonoDeep Nine) = 23
-rank (MonoDeep Ten) = 24
-rank (MonoDeep Twelve) = 25
-rank (MonoDeep Fourteen) = 26
-rank (MonoDeep Sixteen) = 27
+rank (Yuv420HighDepth Nine) = 8
+rank (Yuv420HighDepth Ten) = 9
+rank (Yuv420HighDepth Twelve) = 10
+rank (Yuv420HighDepth Fourteen) = 11
+rank (Yuv420HighDepth Sixteen) = 12
+rank (Yuv422HighDepth Nine) = 13
+rank (Yuv422HighDepth Ten) = 14
+rank (Yuv422HighDepth Twelve) = 15
+rank (Yuv422HighDepth Fourteen) = 16
+rank (Yuv422HighDepth Sixteen) = 17
+rank (Yuv444HighDepth Nine) = 18
+rank (Yuv444HighDepth Ten) = 19
+rank (Yuv444HighDepth Twelve) = 20
+rank (Yuv444HighDepth Fourteen) = 21
+rank (Yuv444HighDepth Sixteen) = 22
+rank (MonoHighDepth Nine) = 23
+rank (MonoHighDepth Ten) = 24
+rank (MonoHighDepth Twelve) = 25
+rank (MonoHighDepth Fourteen) = 26
+rank (MonoHighDepth Sixteen) = 27
 
 none_is_not_some : (c : Colour) → None ≡ Some c → ⊥
 none_is_not_some c is = search rules
@@ -56,26 +58,26 @@ ranked Yuv411 w is = refl
 ranked Yuv422 w is = refl
 ranked Yuv444 w is = refl
 ranked Mono w is = refl
-ranked (Yuv420Deep Nine) w is = refl
-ranked (Yuv420Deep Ten) w is = refl
-ranked (Yuv420Deep Twelve) w is = refl
-ranked (Yuv420Deep Fourteen) w is = refl
-ranked (Yuv420Deep Sixteen) w is = refl
-ranked (Yuv422Deep Nine) w is = refl
-ranked (Yuv422Deep Ten) w is = refl
-ranked (Yuv422Deep Twelve) w is = refl
-ranked (Yuv422Deep Fourteen) w is = refl
-ranked (Yuv422Deep Sixteen) w is = refl
-ranked (Yuv444Deep Nine) w is = refl
-ranked (Yuv444Deep Ten) w is = refl
-ranked (Yuv444Deep Twelve) w is = refl
-ranked (Yuv444Deep Fourteen) w is = refl
-ranked (Yuv444Deep Sixteen) w is = refl
-ranked (MonoDeep Nine) w is = refl
-ranked (MonoDeep Ten) w is = refl
-ranked (MonoDeep Twelve) w is = refl
-ranked (MonoDeep Fourteen) w is = refl
-ranked (MonoDeep Sixteen) w is = refl
+ranked (Yuv420HighDepth Nine) w is = refl
+ranked (Yuv420HighDepth Ten) w is = refl
+ranked (Yuv420HighDepth Twelve) w is = refl
+ranked (Yuv420HighDepth Fourteen) w is = refl
+ranked (Yuv420HighDepth Sixteen) w is = refl
+ranked (Yuv422HighDepth Nine) w is = refl
+ranked (Yuv422HighDepth Ten) w is = refl
+ranked (Yuv422HighDepth Twelve) w is = refl
+ranked (Yuv422HighDepth Fourteen) w is = refl
+ranked (Yuv422HighDepth Sixteen) w is = refl
+ranked (Yuv444HighDepth Nine) w is = refl
+ranked (Yuv444HighDepth Ten) w is = refl
+ranked (Yuv444HighDepth Twelve) w is = refl
+ranked (Yuv444HighDepth Fourteen) w is = refl
+ranked (Yuv444HighDepth Sixteen) w is = refl
+ranked (MonoHighDepth Nine) w is = refl
+ranked (MonoHighDepth Ten) w is = refl
+ranked (MonoHighDepth Twelve) w is = refl
+ranked (MonoHighDepth Fourteen) w is = refl
+ranked (MonoHighDepth Sixteen) w is = refl
 
 -- the colour that a text spells, for the proof alone
 abbrev pub spelled_by : List ℕ → List Colour → Colour
@@ -96,51 +98,66 @@ said_again Yuv411 = refl
 said_again Yuv422 = refl
 said_again Yuv444 = refl
 said_again Mono = refl
-said_again (Yuv420Deep Nine) = refl
-said_again (Yuv420Deep Ten) = refl
-said_again (Yuv420Deep Twelve) = refl
-said_again (Yuv420Deep Fourteen) = refl
-said_again (Yuv420Deep Sixteen) = refl
-said_again (Yuv422Deep Nine) = refl
-said_again (Yuv422Deep Ten) = refl
-said_again (Yuv422Deep Twelve) = refl
-said_again (Yuv422Deep Fourteen) = refl
-said_again (Yuv422Deep Sixteen) = refl
-said_again (Yuv444Deep Nine) = refl
-said_again (Yuv444Deep Ten) = refl
-said_again (Yuv444Deep Twelve) = refl
-said_again (Yuv444Deep Fourteen) = refl
-said_again (Yuv444Deep Sixteen) = refl
-said_again (MonoDeep Nine) = refl
-said_again (MonoDeep Ten) = refl
-said_again (MonoDeep Twelve) = refl
-said_again (MonoDeep Fourteen) = refl
-said_again (MonoDeep Sixteen) = refl
+said_again (Yuv420HighDepth Nine) = refl
+said_again (Yuv420HighDepth Ten) = refl
+said_again (Yuv420HighDepth Twelve) = refl
+said_again (Yuv420HighDepth Fourteen) = refl
+said_again (Yuv420HighDepth Sixteen) = refl
+said_again (Yuv422HighDepth Nine) = refl
+said_again (Yuv422HighDepth Ten) = refl
+said_again (Yuv422HighDepth Twelve) = refl
+said_again (Yuv422HighDepth Fourteen) = refl
+said_again (Yuv422HighDepth Sixteen) = refl
+said_again (Yuv444HighDepth Nine) = refl
+said_again (Yuv444HighDepth Ten) = refl
+said_again (Yuv444HighDepth Twelve) = refl
+said_again (Yuv444HighDepth Fourteen) = refl
+said_again (Yuv444HighDepth Sixteen) = refl
+said_again (MonoHighDepth Nine) = refl
+said_again (MonoHighDepth Ten) = refl
+said_again (MonoHighDepth Twelve) = refl
+said_again (MonoHighDepth Fourteen) = refl
+said_again (MonoHighDepth Sixteen) = refl
 
-pub one_colour : (c d : Colour) → parameter_of 67 colour_text (stated c) ≡ parameter_of 67 colour_text (stated d) → c ≡ d
+pub one_colour : (c d : Colour) → parameter_of 67 colour_text (stated c) ≡ parameter_of 67 colour_text (stated d) → c ≡
+    d
 one_colour c d same = sym (said_again c) ∙ ap said_by same ∙ said_again d
 
 -- what a parameter says is said by it
 pub stated_is : (c d : Colour) → stated c ≡ Some d → stated d ≡ Some d
 stated_is Unstated d said = absurd (none_is_not_some d said)
-stated_is Yuv420 d said = subst (λ (x : Colour). stated x ≡ Some x) (ap (λ (o : Option Colour). unwrap_or o Unstated) said) refl
-stated_is Yuv420Jpeg d said = subst (λ (x : Colour). stated x ≡ Some x) (ap (λ (o : Option Colour). unwrap_or o Unstated) said) refl
-stated_is Yuv420Mpeg2 d said = subst (λ (x : Colour). stated x ≡ Some x) (ap (λ (o : Option Colour). unwrap_or o Unstated) said) refl
-stated_is Yuv420Paldv d said = subst (λ (x : Colour). stated x ≡ Some x) (ap (λ (o : Option Colour). unwrap_or o Unstated) said) refl
-stated_is Yuv411 d said = subst (λ (x : Colour). stated x ≡ Some x) (ap (λ (o : Option Colour). unwrap_or o Unstated) said) refl
-stated_is Yuv422 d said = subst (λ (x : Colour). stated x ≡ Some x) (ap (λ (o : Option Colour). unwrap_or o Unstated) said) refl
-stated_is Yuv444 d said = subst (λ (x : Colour). stated x ≡ Some x) (ap (λ (o : Option Colour). unwrap_or o Unstated) said) refl
-stated_is Mono d said = subst (λ (x : Colour). stated x ≡ Some x) (ap (λ (o : Option Colour). unwrap_or o Unstated) said) refl
-stated_is (Yuv420Deep depth) d said = subst (λ (x : Colour). stated x ≡ Some x) (ap (λ (o : Option Colour). unwrap_or o Unstated) said) refl
-stated_is (Yuv422Deep depth) d said = subst (λ (x : Colour). stated x ≡ Some x) (ap (λ (o : Option Colour). unwrap_or o Unstated) said) refl
-stated_is (Yuv444Deep depth) d said = subst (λ (x : Colour). stated x ≡ Some x) (ap (λ (o : Option Colour). unwrap_or o Unstated) said) refl
-stated_is (MonoDeep depth) d said = subst (λ (x : Colour). stated x ≡ Some x) (ap (λ (o : Option Colour). unwrap_or o Unstated) said) refl
+stated_is Yuv420 d said = subst (λ (x : Colour). stated x ≡ Some x)
+    (ap (λ (o : Option Colour). unwrap_or o Unstated) said) refl
+stated_is Yuv420Jpeg d said = subst (λ (x : Colour). stated x ≡ Some x)
+    (ap (λ (o : Option Colour). unwrap_or o Unstated) said) refl
+stated_is Yuv420Mpeg2 d said = subst (λ (x : Colour). stated x ≡ Some x)
+    (ap (λ (o : Option Colour). unwrap_or o Unstated) said) refl
+stated_is Yuv420Paldv d said = subst (λ (x : Colour). stated x ≡ Some x)
+    (ap (λ (o : Option Colour). unwrap_or o Unstated) said) refl
+stated_is Yuv411 d said = subst (λ (x : Colour). stated x ≡ Some x)
+    (ap (λ (o : Option Colour). unwrap_or o Unstated) said) refl
+stated_is Yuv422 d said = subst (λ (x : Colour). stated x ≡ Some x)
+    (ap (λ (o : Option Colour). unwrap_or o Unstated) said) refl
+stated_is Yuv444 d said = subst (λ (x : Colour). stated x ≡ Some x)
+    (ap (λ (o : Option Colour). unwrap_or o Unstated) said) refl
+stated_is Mono d said = subst (λ (x : Colour). stated x ≡ Some x)
+    (ap (λ (o : Option Colour). unwrap_or o Unstated) said) refl
+stated_is (Yuv420HighDepth depth) d said = subst (λ (x : Colour). stated x ≡ Some x)
+    (ap (λ (o : Option Colour). unwrap_or o Unstated) said) refl
+stated_is (Yuv422HighDepth depth) d said = subst (λ (x : Colour). stated x ≡ Some x)
+    (ap (λ (o : Option Colour). unwrap_or o Unstated) said) refl
+stated_is (Yuv444HighDepth depth) d said = subst (λ (x : Colour). stated x ≡ Some x)
+    (ap (λ (o : Option Colour). unwrap_or o Unstated) said) refl
+stated_is (MonoHighDepth depth) d said = subst (λ (x : Colour). stated x ≡ Some x)
+    (ap (λ (o : Option Colour). unwrap_or o Unstated) said) refl
 
--- a colour that is spelled so is not the one at hand, and stands behind it
-pub further : (text : List ℕ) (i : ℕ) (w c : Colour) → ¬ (text ≡ colour_text (get_or STATED i w)) → stated c ≡ Some c → text ≡ colour_text c → i ≤ rank c
+-- a colour that is spelled so is not the one at hand, and stands after it
+pub further : (text : List ℕ) (i : ℕ) (w c : Colour) → ¬ (text ≡ colour_text (get_or STATED i w)) → stated c ≡ Some c →
+    text ≡ colour_text c → i ≤ rank c
     → i + 1 ≤ rank c
 further text i w c miss said is low =
-    let other : i ≢ rank c = λ e. miss (is ∙ ap colour_text (sym (ap (λ (k : ℕ). get_or STATED k w) e ∙ ranked c w said))) in
+    let other : i ≢ rank c = λ e. miss (is ∙ ap colour_text
+    (sym (ap (λ (k : ℕ). get_or STATED k w) e ∙ ranked c w said))) in
     omega (arith, other, low)
 
 listed : AllByRecursion (λ c. stated c ≡ Some c) STATED

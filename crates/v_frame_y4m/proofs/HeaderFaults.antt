@@ -1,20 +1,22 @@
 -- A line that is refused says no header.
-use Rattle.std.proofs.Common.{ℕ, ◌≡◌, ◌≢◌, ◌<◌, ◌≤◌, ◌⊎◌, List, [], ◌∷◌, drop, get_or, length, decimal, refl, sym, ◌∙◌, ap, subst, rules, arith, zero, suc}
-use Rattle.std.proofs.Common.{lit<}
+use Rattle.std.proofs.Common.{ℕ, ◌≡◌, ◌≢◌, ◌<◌, ◌≤◌, ◌⊎◌, List, [], ◌∷◌, drop, get_or, length, decimal, refl, sym, ◌∙◌}
+use Rattle.std.proofs.Common.{ap, subst, rules, arith, zero, suc, lit<}
 use mathlib.Core.Logic.{inl, inr}
 use Rattle.std.specs.Prelude.{Option, Some, None, Contains, IfSome, slice_index}
 use Rattle.std.proofs.lemmas.List.Elements.{All-contains}
 use Rattle.std.proofs.lemmas.Fmt.{decimal_injective}
-use Rattle.v_frame_y4m.specs.Header.{letters, of_letter, parameter_of, ratio_text, interlacing_text, FitsRatio, HasSize, IsHeader, Says}
+use Rattle.v_frame_y4m.specs.Header.{letters, of_letter, parameter_of, ratio_text, interlacing_text, FitsRatio, HasSize}
+use Rattle.v_frame_y4m.specs.Header.{IsHeader, Says}
 use Rattle.v_frame_y4m.specs.Colour.{colour_text, stated}
-use Rattle.v_frame_y4m.specs.Faults.{HasFault, HasNoNumber, HasNoRatio, HasNoInterlacing, HasNoColour, IsOfSize, IsRefusedFor}
+use Rattle.v_frame_y4m.specs.Faults.{HasFault, HasNoNumber, HasNoRatio, HasNoInterlacing, HasNoColour, IsOfSize}
+use Rattle.v_frame_y4m.specs.Faults.{IsRefusedFor}
 use Rattle.v_frame_y4m.specs.declared.colour.Colour.{Colour}
 use Rattle.v_frame_y4m.specs.declared.header.Ratio.{Ratio}
 use Rattle.v_frame_y4m.specs.declared.header.Interlacing.{Interlacing}
 use Rattle.v_frame_y4m.specs.declared.header.StreamHeader.{StreamHeader}
 use Rattle.v_frame_y4m.specs.declared.error.HeaderError.{HeaderError}
-use Rattle.v_frame_y4m.specs.declared.error.HeaderError.TheVariants.{NotAStream, Missing, Doubled, Malformed, ZeroSize, SizeTooLarge, UnknownColour}
-use Rattle.v_frame_y4m.specs.declared.error.HeaderError.TheVariants.{OutOfMemory}
+use Rattle.v_frame_y4m.specs.declared.error.HeaderError.TheVariants.{NotAStream, Missing, Duplicate, Malformed}
+use Rattle.v_frame_y4m.specs.declared.error.HeaderError.TheVariants.{ZeroSize, SizeTooLarge, UnknownColour, OutOfMemory}
 use Rattle.v_frame_y4m.proofs.ColourTexts.{stated_is}
 use Rattle.v_frame_y4m.proofs.HeaderTexts.{first, text_of}
 
@@ -32,45 +34,57 @@ module _ (parameters : List (List ℕ)) (h : StreamHeader) (says : Says paramete
 
   zero_size : (letter : ℕ) → of_letter letter parameters ≡ (letter ∷ decimal 0) ∷ [] → (letter ≡ 87) ⊎ (letter ≡ 72) → ⊥
   zero_size letter is (inl e) =
-      let same = ap text_of (sym (subst (λ (l : ℕ). of_letter l parameters ≡ (l ∷ decimal 0) ∷ []) e is) ∙ says.width) in
+      let same = ap text_of (sym (subst (λ (l : ℕ). of_letter l parameters ≡ (l ∷ decimal 0) ∷ []) e is) ∙ says.width)
+      in
       omega (arith, size.width.0, decimal_injective 0 h.width (lit< tt) size.width.1 same)
   zero_size letter is (inr e) =
-      let same = ap text_of (sym (subst (λ (l : ℕ). of_letter l parameters ≡ (l ∷ decimal 0) ∷ []) e is) ∙ says.height) in
+      let same = ap text_of (sym (subst (λ (l : ℕ). of_letter l parameters ≡ (l ∷ decimal 0) ∷ []) e is) ∙ says.height)
+      in
       omega (arith, size.height.0, decimal_injective 0 h.height (lit< tt) size.height.1 same)
 
   no_number : (text : List ℕ) → IsOfSize parameters (λ letter. HasNoNumber parameters letter text) → ⊥
   no_number text (inl f) = f.1 h.width size.width.1 (ap first (sym f.0 ∙ says.width))
   no_number text (inr f) = f.1 h.height size.height.1 (ap first (sym f.0 ∙ says.height))
 
-  no_ratio : (letter : ℕ) (text : List ℕ) (o : Option Ratio) → IfSome o FitsRatio → of_letter letter parameters ≡ parameter_of letter ratio_text o
+  no_ratio : (letter : ℕ) (text : List ℕ) (o : Option Ratio) → IfSome o FitsRatio → of_letter letter parameters ≡
+      parameter_of letter ratio_text o
       → HasNoRatio parameters letter text → ⊥
   no_ratio letter text None fits is f = not_one text (sym is ∙ f.0)
   no_ratio letter text (Some r) fits is f = f.1 r fits (ap first (sym f.0 ∙ is))
 
-  no_interlacing : (text : List ℕ) (o : Option Interlacing) → of_letter 73 parameters ≡ parameter_of 73 interlacing_text o
+  no_interlacing : (text : List ℕ) (o : Option Interlacing) → of_letter 73 parameters ≡ parameter_of 73
+      interlacing_text o
       → HasNoInterlacing parameters text → ⊥
   no_interlacing text None is f = not_one text (sym is ∙ f.0)
   no_interlacing text (Some i) is f = f.1 i (ap first (sym f.0 ∙ is))
 
-  no_colour : (text : List ℕ) (o : Option Colour) → stated h.colour ≡ o → of_letter 67 parameters ≡ parameter_of 67 colour_text o
+  no_colour : (text : List ℕ) (o : Option Colour) → stated h.colour ≡ o → of_letter 67 parameters ≡ parameter_of 67
+      colour_text o
       → HasNoColour parameters text → ⊥
   no_colour text None said is f = not_one text (sym is ∙ f.0)
   no_colour text (Some c) said is f = f.1 c (stated_is h.colour c said) (ap first (sym f.0 ∙ is))
 
-  twice : (l letter : ℕ) → l ≡ letter → length (of_letter l parameters) ≤ 1 → 1 < length (of_letter letter parameters) → ⊥
+  twice : (l letter : ℕ) → l ≡ letter → length (of_letter l parameters) ≤ 1 → 1 < length (of_letter letter parameters)
+      → ⊥
   twice l letter e one two = omega (arith, subst (λ (m : ℕ). length (of_letter m parameters) ≤ 1) e one, two)
 
-  one : {A : Type 0} (letter : ℕ) (spell : A → List ℕ) (o : Option A) → of_letter letter parameters ≡ parameter_of letter spell o
+  one : {A : Type 0} (letter : ℕ) (spell : A → List ℕ) (o : Option A) → of_letter letter parameters ≡ parameter_of
+      letter spell o
       → length (of_letter letter parameters) ≤ 1
   one letter spell o is = omega (arith, ap length is, at_most_one letter spell o)
 
-  doubled : (letter k : ℕ) → k < 7 → get_or letters k letter ≡ letter → letter ≢ 88 → 1 < length (of_letter letter parameters) → ⊥
+  doubled : (letter k : ℕ) → k < 7 → get_or letters k letter ≡ letter → letter ≢ 88 → 1 < length
+      (of_letter letter parameters) → ⊥
   doubled letter zero within e other two = twice 87 letter e (omega (arith, ap length says.width)) two
   doubled letter (suc zero) within e other two = twice 72 letter e (omega (arith, ap length says.height)) two
-  doubled letter (suc (suc zero)) within e other two = twice 70 letter e (one 70 ratio_text h.frame_rate says.frame_rate) two
-  doubled letter (suc (suc (suc zero))) within e other two = twice 73 letter e (one 73 interlacing_text h.interlacing says.interlacing) two
-  doubled letter (suc (suc (suc (suc zero)))) within e other two = twice 65 letter e (one 65 ratio_text h.pixel_aspect says.pixel_aspect) two
-  doubled letter (suc (suc (suc (suc (suc zero))))) within e other two = twice 67 letter e (one 67 colour_text (stated h.colour) says.colour) two
+  doubled letter (suc (suc zero)) within e other two = twice 70 letter e
+      (one 70 ratio_text h.frame_rate says.frame_rate) two
+  doubled letter (suc (suc (suc zero))) within e other two = twice 73 letter e
+      (one 73 interlacing_text h.interlacing says.interlacing) two
+  doubled letter (suc (suc (suc (suc zero)))) within e other two = twice 65 letter e
+      (one 65 ratio_text h.pixel_aspect says.pixel_aspect) two
+  doubled letter (suc (suc (suc (suc (suc zero))))) within e other two = twice 67 letter e
+      (one 67 colour_text (stated h.colour) says.colour) two
   doubled letter (suc (suc (suc (suc (suc (suc zero)))))) within e other two = other (sym e)
   doubled letter (suc (suc (suc (suc (suc (suc (suc k))))))) within e other two = absurd (omega (arith, within))
 
@@ -84,14 +98,15 @@ module _ (parameters : List (List ℕ)) (h : StreamHeader) (says : Says paramete
   pub refuted : (error : HeaderError) → error ≢ OutOfMemory → HasFault parameters error → ⊥
   refuted NotAStream other fault = fault
   refuted (Missing letter) other fault = missing letter fault.0 fault.1
-  refuted (Doubled letter) other fault = doubled letter fault.1.0.0 fault.1.0.1 fault.1.0.2 fault.1.1 fault.0
+  refuted (Duplicate letter) other fault = doubled letter fault.1.0.0 fault.1.0.1 fault.1.0.2 fault.1.1 fault.0
   refuted (Malformed text) other fault = malformed text.bytes fault
   refuted (ZeroSize letter) other fault = zero_size letter fault.0 fault.1
   refuted (SizeTooLarge text) other fault = no_number text.bytes fault.0
   refuted (UnknownColour text) other fault = no_colour text.bytes (stated h.colour) refl says.colour fault
   refuted OutOfMemory other fault = other refl
 
-pub refusal_refutes : (line : List ℕ) (error : HeaderError) (h : StreamHeader) → error ≢ OutOfMemory → IsRefusedFor line error → IsHeader line h → ⊥
+pub refusal_refutes : (line : List ℕ) (error : HeaderError) (h : StreamHeader) → error ≢ OutOfMemory → IsRefusedFor
+    line error → IsHeader line h → ⊥
 refusal_refutes line error h other (inl memory) is = other memory
 refusal_refutes line error h other (inr (inl begins)) is = begins.1 is.parameters is.pieces
 refusal_refutes line error h other (inr (inr f)) is =
@@ -101,12 +116,13 @@ refusal_refutes line error h other (inr (inr f)) is =
 alone : (error : HeaderError) → (error ≢ OutOfMemory → ⊥) → error ≡ OutOfMemory
 alone NotAStream f = absurd (f (λ is. absurd (search (rules, is))))
 alone (Missing letter) f = absurd (f (λ is. absurd (search (rules, is))))
-alone (Doubled letter) f = absurd (f (λ is. absurd (search (rules, is))))
+alone (Duplicate letter) f = absurd (f (λ is. absurd (search (rules, is))))
 alone (Malformed text) f = absurd (f (λ is. absurd (search (rules, is))))
 alone (ZeroSize letter) f = absurd (f (λ is. absurd (search (rules, is))))
 alone (SizeTooLarge text) f = absurd (f (λ is. absurd (search (rules, is))))
 alone (UnknownColour text) f = absurd (f (λ is. absurd (search (rules, is))))
 alone OutOfMemory f = refl
 
-pub memory_alone : (line : List ℕ) (error : HeaderError) (h : StreamHeader) → IsHeader line h → IsRefusedFor line error → error ≡ OutOfMemory
+pub memory_alone : (line : List ℕ) (error : HeaderError) (h : StreamHeader) → IsHeader line h → IsRefusedFor line error
+    → error ≡ OutOfMemory
 memory_alone line error h is refused = alone error (λ other. refusal_refutes line error h other refused is)

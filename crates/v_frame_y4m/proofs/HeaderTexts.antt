@@ -1,5 +1,6 @@
 -- A line says one header.
-use Rattle.std.proofs.Common.{ℕ, ◌≡◌, ◌<◌, ◌^◌, List, [], ◌∷◌, false, cond, drop, get_or, length, map, decimal, refl, sym, ◌∙◌, ap, rules, arith}
+use Rattle.std.proofs.Common.{ℕ, ◌≡◌, ◌<◌, ◌^◌, List, [], ◌∷◌, false, cond, drop, get_or, length, map, decimal, refl}
+use Rattle.std.proofs.Common.{sym, ◌∙◌, ap, rules, arith}
 use Rattle.std.specs.Prelude.{Option, Some, None, All, IfSome, nat_eq}
 use Rattle.std.specs.List.{slice_split}
 use Rattle.std.specs.Int.{IsInRange}
@@ -12,27 +13,32 @@ use Rattle.v_frame_y4m.specs.Header.{parameter_of, ratio_text, interlacing_text,
 use Rattle.v_frame_y4m.specs.declared.colour.Colour.{Colour}
 use Rattle.v_frame_y4m.specs.declared.header.Ratio.{Ratio}
 use Rattle.v_frame_y4m.specs.declared.header.Interlacing.{Interlacing}
-use Rattle.v_frame_y4m.specs.declared.header.Interlacing.TheVariants.{Progressive, TopFirst, BottomFirst, Mixed, Unknown}
+use Rattle.v_frame_y4m.specs.declared.header.Interlacing.TheVariants.{Progressive, TopFirst, BottomFirst, Mixed}
+use Rattle.v_frame_y4m.specs.declared.header.Interlacing.TheVariants.{Unknown}
 use Rattle.v_frame_y4m.specs.declared.header.StreamHeader.{StreamHeader}
 use Rattle.v_frame_y4m.proofs.ColourTexts.{one_colour}
 use Rattle.v_frame_y4m.proofs.NumberTexts.{own}
 
--- the text behind the letter of the first parameter
+-- the text after the letter of the first parameter
 abbrev pub text_of : List (List ℕ) → List ℕ
 text_of parameters = drop 1 (get_or parameters 0 [])
 
 -- no digit is another byte
 pub digits_without : (n c : ℕ) → n < 2 ^ 64 → ¬ (IsInRange 48 57 c) → All (λ x. nat_eq x c ≡ false) (decimal n)
-digits_without n c small other = All-from_get_or (λ x. nat_eq x c ≡ false) (decimal n) 0 (λ i within. ne_eqb _ c (not_in_digits own (decimal n) c
+digits_without n c small other = All-from_get_or (λ x. nat_eq x c ≡ false) (decimal n) 0
+    (λ i within. ne_eqb _ c (not_in_digits own (decimal n) c
     (digits_decimal own n small) other i within))
 
 pub colon_is_no_digit : ¬ (IsInRange 48 57 58)
 colon_is_no_digit range = omega (arith, range.1)
 
-pub ratio_pieces : (r : Ratio) → FitsRatio r → slice_split (λ x. nat_eq x 58) (ratio_text r) ≡ decimal r.numerator ∷ decimal r.denominator ∷ []
+pub ratio_pieces : (r : Ratio) → FitsRatio r → slice_split (λ x. nat_eq x 58) (ratio_text r) ≡ decimal r.numerator ∷
+    decimal r.denominator ∷ []
 ratio_pieces r fits =
-    slice_split_at (λ x. nat_eq x 58) (decimal r.numerator) 58 (decimal r.denominator) (digits_without r.numerator 58 fits.0 colon_is_no_digit) refl
-    ∙ ap (λ (rest : List (List ℕ)). decimal r.numerator ∷ rest) (slice_split_none (λ x. nat_eq x 58) (decimal r.denominator)
+    slice_split_at (λ x. nat_eq x 58) (decimal r.numerator) 58 (decimal r.denominator)
+    (digits_without r.numerator 58 fits.0 colon_is_no_digit) refl
+    ∙ ap (λ (rest : List (List ℕ)). decimal r.numerator ∷ rest)
+    (slice_split_none (λ x. nat_eq x 58) (decimal r.denominator)
     (digits_without r.denominator 58 fits.1 colon_is_no_digit))
 
 abbrev pub second : List (List ℕ) → List ℕ
@@ -62,7 +68,8 @@ one_optional_ratio letter (Some r) (Some q) af bf same = ap Some (one_ratio r q 
 abbrev pub interlacing_said : List (List ℕ) → Option Interlacing
 interlacing_said parameters = by_byte (get_or (text_of parameters) 0 0) where
   by_byte : ℕ → Option Interlacing
-  by_byte byte = cond (nat_eq byte 112) (Some Progressive) (cond (nat_eq byte 116) (Some TopFirst) (cond (nat_eq byte 98) (Some BottomFirst) (cond
+  by_byte byte = cond (nat_eq byte 112) (Some Progressive)
+      (cond (nat_eq byte 116) (Some TopFirst) (cond (nat_eq byte 98) (Some BottomFirst) (cond
       (nat_eq byte 109) (Some Mixed) (cond (nat_eq byte 63) (Some Unknown) None))))
 
 pub interlacing_again : (i : Option Interlacing) → interlacing_said (parameter_of 73 interlacing_text i) ≡ i
@@ -77,20 +84,30 @@ pub without_letters : (xs : List (List ℕ)) → map (drop 1) (map (λ (text : L
 without_letters [] = refl
 without_letters (x ∷ xs) = ap (λ (rest : List (List ℕ)). x ∷ rest) (without_letters xs)
 
-module _ (parameters : List (List ℕ)) (h k : StreamHeader) (a : Says parameters h) (b : Says parameters k) (s : HasSize h) (t : HasSize k) where
+module _ (parameters : List (List ℕ)) (h k : StreamHeader) (a : Says parameters h) (b : Says parameters k)
+    (s : HasSize h) (t : HasSize k) where
   pub one_header : h ≡ k
   one_header =
       let width = decimal_injective h.width k.width s.width.1 t.width.1 (ap text_of (sym a.width ∙ b.width)) in
       let height = decimal_injective h.height k.height s.height.1 t.height.1 (ap text_of (sym a.height ∙ b.height)) in
-      let rate = one_optional_ratio 70 h.frame_rate k.frame_rate s.frame_rate t.frame_rate (sym a.frame_rate ∙ b.frame_rate) in
-      let interlacing = sym (interlacing_again h.interlacing) ∙ ap interlacing_said (sym a.interlacing ∙ b.interlacing) ∙ interlacing_again k.interlacing in
-      let aspect = one_optional_ratio 65 h.pixel_aspect k.pixel_aspect s.pixel_aspect t.pixel_aspect (sym a.pixel_aspect ∙ b.pixel_aspect) in
+      let rate = one_optional_ratio 70 h.frame_rate k.frame_rate s.frame_rate t.frame_rate
+      (sym a.frame_rate ∙ b.frame_rate) in
+      let interlacing = sym (interlacing_again h.interlacing) ∙ ap interlacing_said (sym a.interlacing ∙ b.interlacing)
+      ∙ interlacing_again k.interlacing in
+      let aspect = one_optional_ratio 65 h.pixel_aspect k.pixel_aspect s.pixel_aspect t.pixel_aspect
+      (sym a.pixel_aspect ∙ b.pixel_aspect) in
       let colour = one_colour h.colour k.colour (sym a.colour ∙ b.colour) in
-      let extensions = sym (without_letters h.extensions) ∙ ap (map (drop 1)) (sym a.extensions ∙ b.extensions) ∙ without_letters k.extensions in
+      let extensions = sym (without_letters h.extensions) ∙ ap (map (drop 1)) (sym a.extensions ∙ b.extensions) ∙
+      without_letters k.extensions in
       ap (λ (x : ℕ). record h { width = x }) width
       ∙ ap (λ (x : ℕ). record h { width = k.width; height = x }) height
       ∙ ap (λ (x : Option Ratio). record h { width = k.width; height = k.height; frame_rate = x }) rate
-      ∙ ap (λ (x : Option Interlacing). record h { width = k.width; height = k.height; frame_rate = k.frame_rate; interlacing = x }) interlacing
+      ∙ ap (λ (x : Option Interlacing). record h {
+        width = k.width;
+        height = k.height;
+        frame_rate = k.frame_rate;
+        interlacing = x;
+      }) interlacing
       ∙ ap (λ (x : Option Ratio). record k { pixel_aspect = x; colour = h.colour; extensions = h.extensions }) aspect
       ∙ ap (λ (x : Colour). record k { colour = x; extensions = h.extensions }) colour
       ∙ ap (λ (x : List (List ℕ)). record k { extensions = x }) extensions

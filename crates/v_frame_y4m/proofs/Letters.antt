@@ -1,12 +1,12 @@
 -- Letters that may stand once.
-use Rattle.std.proofs.Common.{ℕ, ◌≡◌, ◌<◌, ◌+◌, ◌⊎◌, suc, List, drop, get_or, length, map, sym, subst, arith, lit<}
+use Rattle.std.proofs.Common.{ℕ, ◌≡◌, ◌<◌, ◌+◌, ◌⊎◌, suc, List, drop, get_or, length, sym, subst, arith, lit<}
 use Rattle.std.specs.Prelude.{All, Contains, slice_index}
 use Rattle.std.proofs.Common.{drop-cons}
 use Rattle.std.proofs.lemmas.List.Elements.{All-cons}
 use denote.Ref.{Bor}
 use mathlib.Core.Logic.{inl, inr}
 use Rattle.v_frame_y4m.specs.Faults.{IsOnce}
-use Rattle.v_frame_y4m.specs.Header.{letters}
+use Rattle.v_frame_y4m.specs.Header.{letters, texts_of}
 
 pub sizes_once : (letter : ℕ) → (letter ≡ 87) ⊎ (letter ≡ 72) → IsOnce letter
 sizes_once letter (inl e) = ((0, lit< tt, sym e), λ f. omega (arith, e, f))
@@ -20,11 +20,13 @@ ratios_once letter (inr e) = ((4, lit< tt, sym e), λ f. omega (arith, e, f))
 abbrev pub HasLetter : List ℕ → Type 0
 HasLetter p = Contains letters (slice_index p 0)
 
--- what holds of one parameter and of those behind it
-pub holds_from : (P : List ℕ → Type 0) (ps : List (Bor (List ℕ))) (i : ℕ) (w : Bor (List ℕ)) → i < length ps → P (get_or ps i w).now
-    → All P (map (λ x. x.now) (drop (i + 1) ps)) → All P (map (λ x. x.now) (drop i ps))
+-- what holds of one parameter and of those after it
+pub holds_from : (P : List ℕ → Type 0) (ps : List (Bor (List ℕ))) (i : ℕ) (w : Bor (List ℕ)) → i < length ps → P
+    (get_or ps i w).now
+    → All P (texts_of (drop (i + 1) ps)) → All P (texts_of (drop i ps))
 holds_from P ps i w within one rest =
     let next : i + 1 ≡ suc i = omega arith in
-    let rest' = subst (λ (n : ℕ). All P (map (λ x. x.now) (drop n ps))) next rest in
-    subst (λ (l : List (Bor (List ℕ))). All P (map (λ x. x.now) l)) (sym (drop-cons ps i w within)) (All-cons P (get_or ps i w).now (map (λ x. x.now) (drop
-    (suc i) ps)) one rest')
+    let rest' = subst (λ (n : ℕ). All P (texts_of (drop n ps))) next rest in
+    subst (λ (l : List (Bor (List ℕ))). All P (texts_of l)) (sym (drop-cons ps i w within))
+    (All-cons P (get_or ps i w).now
+    (texts_of (drop (suc i) ps)) one rest')

@@ -1,13 +1,15 @@
 -- What a colour is, and how it is spelled.
 use Rattle.std.specs.Prelude.{ℕ, List, [], ◌++◌, codes, Option, Some, None}
-use Rattle.v_frame.specs.Prelude.{ChromaSubsampling, Yuv420 as Half, Yuv422 as Wide, Yuv411 as Quarter, Yuv444 as Full, Monochrome}
+use Rattle.v_frame.specs.Prelude.{ChromaSubsampling, Yuv420 as Half, Yuv422 as Wide, Yuv411 as Quarter, Yuv444 as Full}
+use Rattle.v_frame.specs.Prelude.{Monochrome}
 use Rattle.v_frame_y4m.specs.declared.colour.Depth.{Depth}
 use Rattle.v_frame_y4m.specs.declared.colour.Depth.TheVariants.{Nine, Ten, Twelve, Fourteen, Sixteen}
 use Rattle.v_frame_y4m.specs.declared.colour.ChromaSiting.{ChromaSiting}
 use Rattle.v_frame_y4m.specs.declared.colour.ChromaSiting.TheVariants.{Centre, Left, Alternating}
 use Rattle.v_frame_y4m.specs.declared.colour.Colour.{Colour}
-use Rattle.v_frame_y4m.specs.declared.colour.Colour.TheVariants.{Unstated, Yuv420, Yuv420Jpeg, Yuv420Mpeg2, Yuv420Paldv, Yuv411, Yuv422, Yuv444, Mono}
-use Rattle.v_frame_y4m.specs.declared.colour.Colour.TheVariants.{Yuv420Deep, Yuv422Deep, Yuv444Deep, MonoDeep}
+use Rattle.v_frame_y4m.specs.declared.colour.Colour.TheVariants.{Unstated, Yuv420, Yuv420Jpeg, Yuv420Mpeg2, Yuv420Paldv}
+use Rattle.v_frame_y4m.specs.declared.colour.Colour.TheVariants.{Yuv411, Yuv422, Yuv444, Mono, Yuv420HighDepth}
+use Rattle.v_frame_y4m.specs.declared.colour.Colour.TheVariants.{Yuv422HighDepth, Yuv444HighDepth, MonoHighDepth}
 
 abbrev pub bits_of : Depth → ℕ
 bits_of Nine = 9
@@ -24,7 +26,7 @@ depth_text Twelve = codes "12"
 depth_text Fourteen = codes "14"
 depth_text Sixteen = codes "16"
 
--- what stands behind the letter
+-- what stands after the letter
 abbrev pub colour_text : Colour → List ℕ
 colour_text Unstated = []
 colour_text Yuv420 = codes "420"
@@ -35,10 +37,10 @@ colour_text Yuv411 = codes "411"
 colour_text Yuv422 = codes "422"
 colour_text Yuv444 = codes "444"
 colour_text Mono = codes "mono"
-colour_text (Yuv420Deep depth) = codes "420p" ++ depth_text depth
-colour_text (Yuv422Deep depth) = codes "422p" ++ depth_text depth
-colour_text (Yuv444Deep depth) = codes "444p" ++ depth_text depth
-colour_text (MonoDeep depth) = codes "mono" ++ depth_text depth
+colour_text (Yuv420HighDepth depth) = codes "420p" ++ depth_text depth
+colour_text (Yuv422HighDepth depth) = codes "422p" ++ depth_text depth
+colour_text (Yuv444HighDepth depth) = codes "444p" ++ depth_text depth
+colour_text (MonoHighDepth depth) = codes "mono" ++ depth_text depth
 
 abbrev pub subsampling_of : Colour → ChromaSubsampling
 subsampling_of Unstated = Half
@@ -50,10 +52,10 @@ subsampling_of Yuv411 = Quarter
 subsampling_of Yuv422 = Wide
 subsampling_of Yuv444 = Full
 subsampling_of Mono = Monochrome
-subsampling_of (Yuv420Deep depth) = Half
-subsampling_of (Yuv422Deep depth) = Wide
-subsampling_of (Yuv444Deep depth) = Full
-subsampling_of (MonoDeep depth) = Monochrome
+subsampling_of (Yuv420HighDepth depth) = Half
+subsampling_of (Yuv422HighDepth depth) = Wide
+subsampling_of (Yuv444HighDepth depth) = Full
+subsampling_of (MonoHighDepth depth) = Monochrome
 
 abbrev pub depth_of : Colour → ℕ
 depth_of Unstated = 8
@@ -65,10 +67,10 @@ depth_of Yuv411 = 8
 depth_of Yuv422 = 8
 depth_of Yuv444 = 8
 depth_of Mono = 8
-depth_of (Yuv420Deep depth) = bits_of depth
-depth_of (Yuv422Deep depth) = bits_of depth
-depth_of (Yuv444Deep depth) = bits_of depth
-depth_of (MonoDeep depth) = bits_of depth
+depth_of (Yuv420HighDepth depth) = bits_of depth
+depth_of (Yuv422HighDepth depth) = bits_of depth
+depth_of (Yuv444HighDepth depth) = bits_of depth
+depth_of (MonoHighDepth depth) = bits_of depth
 
 abbrev pub siting_of : Colour → Option ChromaSiting
 siting_of Unstated = Some Centre
@@ -80,10 +82,10 @@ siting_of Yuv411 = None
 siting_of Yuv422 = None
 siting_of Yuv444 = None
 siting_of Mono = None
-siting_of (Yuv420Deep depth) = None
-siting_of (Yuv422Deep depth) = None
-siting_of (Yuv444Deep depth) = None
-siting_of (MonoDeep depth) = None
+siting_of (Yuv420HighDepth depth) = None
+siting_of (Yuv422HighDepth depth) = None
+siting_of (Yuv444HighDepth depth) = None
+siting_of (MonoHighDepth depth) = None
 
 -- the colour, where a parameter says it
 abbrev pub stated : Colour → Option Colour
@@ -96,7 +98,7 @@ stated Yuv411 = Some Yuv411
 stated Yuv422 = Some Yuv422
 stated Yuv444 = Some Yuv444
 stated Mono = Some Mono
-stated (Yuv420Deep depth) = Some (Yuv420Deep depth)
-stated (Yuv422Deep depth) = Some (Yuv422Deep depth)
-stated (Yuv444Deep depth) = Some (Yuv444Deep depth)
-stated (MonoDeep depth) = Some (MonoDeep depth)
+stated (Yuv420HighDepth depth) = Some (Yuv420HighDepth depth)
+stated (Yuv422HighDepth depth) = Some (Yuv422HighDepth depth)
+stated (Yuv444HighDepth depth) = Some (Yuv444HighDepth depth)
+stated (MonoHighDepth depth) = Some (MonoHighDepth depth)

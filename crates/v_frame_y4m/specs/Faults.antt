@@ -1,22 +1,27 @@
 -- What is wrong with a header line that is refused.
-use Rattle.std.specs.Prelude.{ℕ, ◌≡◌, ◌≢◌, ◌^◌, ◌<◌, ◌≤◌, ◌⊎◌, All, Contains, List, [], ◌∷◌, drop, length, slice_index, Some}
+use Rattle.std.specs.Prelude.{ℕ, ◌≡◌, ◌≢◌, ◌^◌, ◌<◌, ◌≤◌, ◌⊎◌, All, Contains, List, [], ◌∷◌, drop, length, slice_index}
+use Rattle.std.specs.Prelude.{Some}
 use Rattle.std.specs.Fmt.{decimal}
+use Rattle.v_frame_y4m.specs.Ascii.{aspect_letter, colour_letter, digit_nine, digit_zero, extension_letter}
+use Rattle.v_frame_y4m.specs.Ascii.{height_letter, interlacing_letter, rate_letter, width_letter}
 use Rattle.v_frame_y4m.specs.Colour.{colour_text, stated}
 use Rattle.v_frame_y4m.specs.Header.{of_letter, letters, interlacing_text, pieces, ratio_text, signature, FitsRatio}
 use Rattle.v_frame_y4m.specs.declared.colour.Colour.{Colour}
 use Rattle.v_frame_y4m.specs.declared.header.Ratio.{Ratio}
 use Rattle.v_frame_y4m.specs.declared.header.Interlacing.{Interlacing}
 use Rattle.v_frame_y4m.specs.declared.error.HeaderError.{HeaderError}
-use Rattle.v_frame_y4m.specs.declared.error.HeaderError.TheVariants.{NotAStream, Missing, Doubled, Malformed, ZeroSize, SizeTooLarge, UnknownColour}
-use Rattle.v_frame_y4m.specs.declared.error.HeaderError.TheVariants.{OutOfMemory}
+use Rattle.v_frame_y4m.specs.declared.error.HeaderError.TheVariants.{NotAStream, Missing, Duplicate, Malformed}
+use Rattle.v_frame_y4m.specs.declared.error.HeaderError.TheVariants.{ZeroSize, SizeTooLarge, UnknownColour, OutOfMemory}
 
 -- the bytes are ASCII digits without a leading zero
 abbrev pub AreDigits : List ℕ → Type 0
-AreDigits text = (48 < slice_index text 0) × All (λ byte. (48 ≤ byte) × (byte ≤ 57)) text
+AreDigits text =
+    (digit_zero < slice_index text 0)
+    × All (λ byte. (digit_zero ≤ byte) × (byte ≤ digit_nine)) text
 
 -- a letter that may stand once
 abbrev pub IsOnce : ℕ → Type 0
-IsOnce letter = Contains letters letter × (letter ≢ 88)
+IsOnce letter = Contains letters letter × (letter ≢ extension_letter)
 
 module _ (parameters : List (List ℕ)) where
   -- this is the one parameter of its letter, and it spells no number of the type
@@ -32,29 +37,30 @@ module _ (parameters : List (List ℕ)) where
 
   abbrev pub HasNoInterlacing : List ℕ → Type 0
   HasNoInterlacing text =
-      (of_letter 73 parameters ≡ text ∷ [])
-      × ((i : Interlacing) → text ≢ 73 ∷ interlacing_text i)
+      (of_letter interlacing_letter parameters ≡ text ∷ [])
+      × ((i : Interlacing) → text ≢ interlacing_letter ∷ interlacing_text i)
 
   abbrev pub HasNoColour : List ℕ → Type 0
   HasNoColour text =
-      (of_letter 67 parameters ≡ text ∷ [])
-      × ((c : Colour) → stated c ≡ Some c → text ≢ 67 ∷ colour_text c)
+      (of_letter colour_letter parameters ≡ text ∷ [])
+      × ((c : Colour) → stated c ≡ Some c → text ≢ colour_letter ∷ colour_text c)
 
   -- W or H
   abbrev pub IsOfSize : (ℕ → Type 0) → Type 0
-  IsOfSize P = P 87 ⊎ P 72
+  IsOfSize P = P width_letter ⊎ P height_letter
 
   -- the error may come at these parameters
   abbrev pub HasFault : HeaderError → Type 0
   HasFault NotAStream = ⊥
   HasFault (Missing letter) =
       (of_letter letter parameters ≡ []) × IsOfSize (λ required. letter ≡ required)
-  HasFault (Doubled letter) =
+  HasFault (Duplicate letter) =
       (1 < length (of_letter letter parameters)) × IsOnce letter
   HasFault (Malformed text) =
       (Contains parameters text.bytes × ¬ (Contains letters (slice_index text.bytes 0)))
       ⊎ ((IsOfSize (λ letter. HasNoNumber letter text.bytes) × ¬ (AreDigits (drop 1 text.bytes)))
-      ⊎ (HasNoRatio 70 text.bytes ⊎ (HasNoRatio 65 text.bytes ⊎ HasNoInterlacing text.bytes)))
+      ⊎ (HasNoRatio rate_letter text.bytes
+      ⊎ (HasNoRatio aspect_letter text.bytes ⊎ HasNoInterlacing text.bytes)))
   HasFault (ZeroSize letter) =
       (of_letter letter parameters ≡ (letter ∷ decimal 0) ∷ [])
       × IsOfSize (λ required. letter ≡ required)

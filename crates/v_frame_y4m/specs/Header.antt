@@ -1,13 +1,17 @@
--- The grammar of the header line, a line being bytes without a line feed: `YUV4MPEG2`, and behind it
+-- The grammar of the header line, a line being bytes without a line feed: `YUV4MPEG2`, and after it
 -- parameters, each after one space and each with its letter first.
-use Rattle.std.specs.Prelude.{ℕ, ◌≡◌, ◌≢◌, ◌^◌, ◌<◌, ◌==◌, All, Contains, List, [], ◌∷◌, ◌++◌, codes, filter, flat_map, map, slice_index, IfSome, Option, Some}
-use Rattle.std.specs.Prelude.{None}
+use Rattle.std.specs.Prelude.{ℕ, ◌≡◌, ◌≢◌, ◌^◌, ◌<◌, ◌==◌, All, Contains, List, [], ◌∷◌, ◌++◌, codes, filter, flat_map}
+use Rattle.std.specs.Prelude.{map, slice_index, IfSome, Option, Some, None}
+use Rattle.std.specs.Borrow.{Bor}
 use Rattle.std.specs.List.{slice_split}
 use Rattle.std.specs.Fmt.{decimal}
+use Rattle.v_frame_y4m.specs.Ascii.{aspect_letter, colon, colour_letter, extension_letter, height_letter}
+use Rattle.v_frame_y4m.specs.Ascii.{interlacing_letter, line_feed, rate_letter, space, width_letter}
 use Rattle.v_frame_y4m.specs.Colour.{colour_text, stated}
 use Rattle.v_frame_y4m.specs.declared.header.Ratio.{Ratio}
 use Rattle.v_frame_y4m.specs.declared.header.Interlacing.{Interlacing}
-use Rattle.v_frame_y4m.specs.declared.header.Interlacing.TheVariants.{Progressive, TopFirst, BottomFirst, Mixed, Unknown}
+use Rattle.v_frame_y4m.specs.declared.header.Interlacing.TheVariants.{Progressive, TopFirst, BottomFirst, Mixed}
+use Rattle.v_frame_y4m.specs.declared.header.Interlacing.TheVariants.{Unknown}
 use Rattle.v_frame_y4m.specs.declared.header.StreamHeader.{StreamHeader}
 
 abbrev pub signature : List ℕ
@@ -15,7 +19,11 @@ signature = codes "YUV4MPEG2"
 
 -- the pieces of a line between its spaces
 abbrev pub pieces : List ℕ → List (List ℕ)
-pieces line = slice_split (λ byte. byte == 32) line
+pieces line = slice_split (λ byte. byte == space) line
+
+-- the texts that slices lend, in their order
+abbrev pub texts_of : List (Bor (List ℕ)) → List (List ℕ)
+texts_of slices = map (λ slice. slice.now) slices
 
 -- the parameters of a letter, in their order
 abbrev pub of_letter : ℕ → List (List ℕ) → List (List ℕ)
@@ -28,7 +36,7 @@ parameter_of letter spell (Some a) = (letter ∷ spell a) ∷ []
 
 -- two decimal numbers with a colon between
 abbrev pub ratio_text : Ratio → List ℕ
-ratio_text r = decimal r.numerator ++ 58 ∷ decimal r.denominator
+ratio_text r = decimal r.numerator ++ colon ∷ decimal r.denominator
 
 abbrev pub interlacing_text : Interlacing → List ℕ
 interlacing_text Progressive = codes "p"
@@ -47,13 +55,17 @@ letters = codes "WHFIACX"
 -- The parameters say what the header says: W and H stand once, F, I, A and C as often as the header
 -- has them, and X for each of its extensions. The order of the letters is free.
 pub record Says (parameters : List (List ℕ)) (h : StreamHeader) : Type 0 where
-  pub width : of_letter 87 parameters ≡ (87 ∷ decimal h.width) ∷ []
-  pub height : of_letter 72 parameters ≡ (72 ∷ decimal h.height) ∷ []
-  pub frame_rate : of_letter 70 parameters ≡ parameter_of 70 ratio_text h.frame_rate
-  pub interlacing : of_letter 73 parameters ≡ parameter_of 73 interlacing_text h.interlacing
-  pub pixel_aspect : of_letter 65 parameters ≡ parameter_of 65 ratio_text h.pixel_aspect
-  pub colour : of_letter 67 parameters ≡ parameter_of 67 colour_text (stated h.colour)
-  pub extensions : of_letter 88 parameters ≡ map (λ text. 88 ∷ text) h.extensions
+  pub width : of_letter width_letter parameters ≡ (width_letter ∷ decimal h.width) ∷ []
+  pub height : of_letter height_letter parameters ≡ (height_letter ∷ decimal h.height) ∷ []
+  pub frame_rate : of_letter rate_letter parameters ≡ parameter_of rate_letter ratio_text h.frame_rate
+  pub interlacing : of_letter interlacing_letter parameters
+      ≡ parameter_of interlacing_letter interlacing_text h.interlacing
+  pub pixel_aspect : of_letter aspect_letter parameters
+      ≡ parameter_of aspect_letter ratio_text h.pixel_aspect
+  pub colour : of_letter colour_letter parameters
+      ≡ parameter_of colour_letter colour_text (stated h.colour)
+  pub extensions : of_letter extension_letter parameters
+      ≡ map (λ text. extension_letter ∷ text) h.extensions
   pub known : All (λ parameter. Contains letters (slice_index parameter 0)) parameters
 
 -- the numbers that a header can hold, with a picture of at least one pixel
@@ -73,13 +85,16 @@ pub record IsHeader (line : List ℕ) (h : StreamHeader) : Type 0 where
 -- the parameters in the order in which they are written
 abbrev pub parameters_of : StreamHeader → List (List ℕ)
 parameters_of h =
-    (87 ∷ decimal h.width) ∷ (72 ∷ decimal h.height) ∷ (parameter_of 70 ratio_text h.frame_rate
-    ++ (parameter_of 73 interlacing_text h.interlacing ++ (parameter_of 65 ratio_text h.pixel_aspect
-    ++ (parameter_of 67 colour_text (stated h.colour) ++ map (λ text. 88 ∷ text) h.extensions))))
+    (width_letter ∷ decimal h.width) ∷ (height_letter ∷ decimal h.height)
+    ∷ (parameter_of rate_letter ratio_text h.frame_rate
+    ++ (parameter_of interlacing_letter interlacing_text h.interlacing
+    ++ (parameter_of aspect_letter ratio_text h.pixel_aspect
+    ++ (parameter_of colour_letter colour_text (stated h.colour)
+    ++ map (λ text. extension_letter ∷ text) h.extensions))))
 
 -- each after a space
 abbrev pub spelled : List (List ℕ) → List ℕ
-spelled parameters = flat_map (λ parameter. 32 ∷ parameter) parameters
+spelled parameters = flat_map (λ parameter. space ∷ parameter) parameters
 
 -- the line that is written for a header
 abbrev pub header_line : StreamHeader → List ℕ
@@ -87,7 +102,7 @@ header_line h = signature ++ spelled (parameters_of h)
 
 -- no byte is a space or a line feed
 abbrev pub IsPiece : List ℕ → Type 0
-IsPiece text = All (λ byte. (byte ≢ 32) × (byte ≢ 10)) text
+IsPiece text = All (λ byte. (byte ≢ space) × (byte ≢ line_feed)) text
 
 -- a header that has a line
 pub record IsWritable (h : StreamHeader) : Type 0 where

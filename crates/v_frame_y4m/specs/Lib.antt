@@ -1,3 +1,4 @@
+pub mod Ascii
 pub mod Colour
 pub mod Faults
 pub mod Header

@@ -1,13 +1,16 @@
--- Streams: a header line and then frames, each behind a line of its own, and what a call leaves of
+-- Streams: a header line and then frames, each after a line of its own, and what a call leaves of
 -- the reader or the writer.
-use Rattle.std.specs.Prelude.{ℕ, ◌≡◌, ◌≢◌, ◌+◌, ◌<◌, ◌≤◌, ◌⊎◌, All, List, [], ◌∷◌, ◌++◌, Bool, true, false, codes, length, Option}
+use Rattle.std.specs.Prelude.{ℕ, ◌≡◌, ◌≢◌, ◌+◌, ◌<◌, ◌≤◌, ◌⊎◌, All, List, [], ◌∷◌, ◌++◌, Bool, true, false, codes}
+use Rattle.std.specs.Prelude.{length, Option}
 use Rattle.std.specs.Io.KnownBytes.{Consumes, IsAtEnd}
 use Rattle.std.specs.declared.io.ErrorKind.{ErrorKind}
 use Rattle.v_frame.specs.Prelude.{isize_max}
 use Rattle.v_frame_planar.specs.Counted.{Watched, HasFailed}
 use Rattle.v_frame_planar.specs.Planar.{MayStopReading, MayStopWriting, TellsCause}
 use Rattle.v_frame_planar.specs.declared.error.PlanarError.{PlanarError}
-use Rattle.v_frame_planar.specs.declared.error.PlanarError.TheVariants.{Truncated, TooLarge, Read, Write, WriteZero, OutOfMemory}
+use Rattle.v_frame_planar.specs.declared.error.PlanarError.TheVariants.{Truncated, TooLarge, Read, Write, WriteZero}
+use Rattle.v_frame_planar.specs.declared.error.PlanarError.TheVariants.{OutOfMemory}
+use Rattle.v_frame_y4m.specs.Ascii.{line_feed}
 use Rattle.v_frame_y4m.specs.Faults.{IsRefusedFor}
 use Rattle.v_frame_y4m.specs.Header.{IsHeader}
 use Rattle.v_frame_y4m.specs.declared.header.StreamHeader.{StreamHeader}
@@ -15,19 +18,19 @@ use Rattle.v_frame_y4m.specs.declared.error.Y4mError.{Y4mError}
 use Rattle.v_frame_y4m.specs.declared.error.Y4mError.TheVariants.{Header, LineTooLong, UnfinishedLine, NoFrame, Planar}
 
 -- how many bytes a line may have without its line feed
-abbrev pub longest : ℕ
-longest = 1024
+abbrev pub max_line_bytes : ℕ
+max_line_bytes = 1024
 
 -- a line without its line feed
 abbrev pub IsLine : List ℕ → Type 0
-IsLine line = All (λ byte. byte ≢ 10) line
+IsLine line = All (λ byte. byte ≢ line_feed) line
 
--- the line in front of a frame: `FRAME`, and parameters behind a space, if any
+-- the line in front of a frame: `FRAME`, and parameters after a space, if any
 abbrev pub IsFrameLine : List ℕ → Type 0
 IsFrameLine line = (line ≡ codes "FRAME") ⊎ ((rest : List ℕ) × (line ≡ codes "FRAME " ++ rest))
 
 module _ {R : Type 0} (remaining : R → Option (List ℕ)) (old new : Watched R) where
-  -- these bytes were read, and nothing behind them
+  -- these bytes were read, and nothing after them
   abbrev pub Took : List ℕ → Type 0
   Took bytes = Consumes (remaining old.inner) (remaining new.inner) bytes
 
@@ -53,33 +56,36 @@ module _ {R : Type 0} (remaining : R → Option (List ℕ)) (old new : Watched R
   -- a line that says this was read, with its line feed
   abbrev pub ReadsHeader : StreamHeader → Type 0
   ReadsHeader h =
-      (line : List ℕ) × IsHeader line h × IsLine line × (length line ≤ longest) × Took (line ++ 10 ∷ [])
+      (line : List ℕ) × IsHeader line h × IsLine line × (length line ≤ max_line_bytes)
+      × Took (line ++ line_feed ∷ [])
 
   -- the error may come where a header is due
   abbrev pub MayStopInHeader : Y4mError → Type 0
   MayStopInHeader (Header error) =
-      ((line : List ℕ) × IsRefusedFor line error × IsLine line × (length line ≤ longest) × Took (line ++ 10 ∷ []))
+      ((line : List ℕ) × IsRefusedFor line error × IsLine line × (length line ≤ max_line_bytes)
+      × Took (line ++ line_feed ∷ []))
       × (new.failures ≡ old.failures)
-  MayStopInHeader LineTooLong = MayStopInLine longest LineTooLong
+  MayStopInHeader LineTooLong = MayStopInLine max_line_bytes LineTooLong
   MayStopInHeader UnfinishedLine =
-      ((bytes : List ℕ) × Took bytes × IsLine bytes × (length bytes ≤ longest))
+      ((bytes : List ℕ) × Took bytes × IsLine bytes × (length bytes ≤ max_line_bytes))
       × IsAtEnd (remaining new.inner) × (new.failures ≡ old.failures)
   MayStopInHeader NoFrame = ⊥
-  MayStopInHeader (Planar error) = MayStopInLine longest (Planar error)
+  MayStopInHeader (Planar error) = MayStopInLine max_line_bytes (Planar error)
 
   -- a frame of these planar bytes was read with the line in front, or the reader stood at its end
   abbrev pub ReadsFrame : List ℕ → Bool → Type 0
   ReadsFrame bytes true =
-      (line : List ℕ) × IsFrameLine line × IsLine line × Took (line ++ 10 ∷ bytes) × (length line ≤ longest)
+      (line : List ℕ) × IsFrameLine line × IsLine line × Took (line ++ line_feed ∷ bytes)
+      × (length line ≤ max_line_bytes)
   ReadsFrame bytes false = Took [] × IsAtEnd (remaining new.inner)
 
-  -- the line in front of a frame was read, and so many bytes behind it
+  -- the line in front of a frame was read, and so many bytes after it
   abbrev pub TookOfFrame : ℕ → Type 0
   TookOfFrame count =
-      (line : List ℕ) × IsFrameLine line × IsLine line × (length line ≤ longest)
-      × ((bytes : List ℕ) × Took (line ++ 10 ∷ bytes) × (length bytes ≡ count))
+      (line : List ℕ) × IsFrameLine line × IsLine line × (length line ≤ max_line_bytes)
+      × ((bytes : List ℕ) × Took (line ++ line_feed ∷ bytes) × (length bytes ≡ count))
 
-  -- the error may come at n planar bytes, behind the line in front of them
+  -- the error may come at n planar bytes, after the line in front of them
   abbrev pub MayStopInBytes : ℕ → Y4mError → Type 0
   MayStopInBytes n error =
       (fault : PlanarError) × (error ≡ Planar fault)
@@ -89,10 +95,11 @@ module _ {R : Type 0} (remaining : R → Option (List ℕ)) (old new : Watched R
   -- the error may come at a frame of n planar bytes
   abbrev pub MayStopInFrame : ℕ → Y4mError → Type 0
   MayStopInFrame n (Header error) = ⊥
-  MayStopInFrame n LineTooLong = MayStopInLine longest LineTooLong
-  MayStopInFrame n UnfinishedLine = MayStopInLine longest UnfinishedLine
+  MayStopInFrame n LineTooLong = MayStopInLine max_line_bytes LineTooLong
+  MayStopInFrame n UnfinishedLine = MayStopInLine max_line_bytes UnfinishedLine
   MayStopInFrame n NoFrame =
-      ((line : List ℕ) × ¬ (IsFrameLine line) × IsLine line × (length line ≤ longest) × Took (line ++ 10 ∷ []))
+      ((line : List ℕ) × ¬ (IsFrameLine line) × IsLine line × (length line ≤ max_line_bytes)
+      × Took (line ++ line_feed ∷ []))
       × (new.failures ≡ old.failures)
   MayStopInFrame n (Planar (Truncated expected found)) =
       (expected ≡ n) × ((found ≡ 0) ⊎ (found < n)) × TookOfFrame found
@@ -102,7 +109,7 @@ module _ {R : Type 0} (remaining : R → Option (List ℕ)) (old new : Watched R
   MayStopInFrame n (Planar OutOfMemory) =
       (n ≤ isize_max) × TookOfFrame 0 × (new.failures ≡ old.failures)
   MayStopInFrame n (Planar Read) =
-      (MayStopInLine longest (Planar Read))
+      (MayStopInLine max_line_bytes (Planar Read))
       ⊎ (((count : ℕ) × (count < n) × TookOfFrame count) × HasFailed old.failures new.failures)
   MayStopInFrame n (Planar Write) = ⊥
   MayStopInFrame n (Planar WriteZero) = ⊥

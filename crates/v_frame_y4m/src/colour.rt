@@ -5,7 +5,7 @@ ghost use Rattle.v_frame_y4m.specs.declared.colour.Colour.{Colour as TheColour};
 
 use v_frame::chroma::ChromaSubsampling;
 
-/// Bits a pixel, above 8. Our own.
+/// Bits a pixel, above 8.
 #[derive(Debug, Clone, Copy, PartialEq, Eq)]
 pub enum Depth {
     /// 9 bits.
@@ -21,7 +21,7 @@ pub enum Depth {
 }
 
 impl Depth {
-    /// The number of bits.
+    /// Returns the number of bits.
     pub fn bits(self) -> u8
         ensures { result ≡ bits_of self }
     {
@@ -35,7 +35,7 @@ impl Depth {
     }
 }
 
-/// Where the chroma samples of 8-bit 4:2:0 lie beside those of luma. Our own.
+/// Where the chroma samples of 8-bit 4:2:0 lie beside those of luma.
 #[derive(Debug, Clone, Copy, PartialEq, Eq)]
 pub enum ChromaSiting {
     /// In the middle of four luma samples, as in JPEG and MPEG-1.
@@ -46,7 +46,7 @@ pub enum ChromaSiting {
     Alternating,
 }
 
-/// The colour of a stream, its parameter `C`: a format, a bit depth, and where chroma is sited. Our own.
+/// The colour of a stream, its parameter `C`: a format, a bit depth, and where chroma is sited.
 #[derive(Debug, Clone, Copy, PartialEq, Eq)]
 pub enum Colour {
     /// The header has no parameter `C`: 4:2:0 as in JPEG.
@@ -65,16 +65,16 @@ pub enum Colour {
     Yuv422,
     /// `444`: 4:4:4.
     Yuv444,
-    /// `mono`: luma alone.
+    /// `mono`: monochrome.
     Mono,
     /// `420p` and a depth: 4:2:0 above 8 bits.
-    Yuv420Deep(Depth),
+    Yuv420HighDepth(Depth),
     /// `422p` and a depth: 4:2:2 above 8 bits.
-    Yuv422Deep(Depth),
+    Yuv422HighDepth(Depth),
     /// `444p` and a depth: 4:4:4 above 8 bits.
-    Yuv444Deep(Depth),
-    /// `mono` and a depth: luma alone above 8 bits.
-    MonoDeep(Depth),
+    Yuv444HighDepth(Depth),
+    /// `mono` and a depth: monochrome, above 8 bits.
+    MonoHighDepth(Depth),
 }
 
 /// The colours that a parameter says.
@@ -87,30 +87,30 @@ const STATED: [Colour; 28] = [
     Colour::Yuv422,
     Colour::Yuv444,
     Colour::Mono,
-    Colour::Yuv420Deep(Depth::Nine),
-    Colour::Yuv420Deep(Depth::Ten),
-    Colour::Yuv420Deep(Depth::Twelve),
-    Colour::Yuv420Deep(Depth::Fourteen),
-    Colour::Yuv420Deep(Depth::Sixteen),
-    Colour::Yuv422Deep(Depth::Nine),
-    Colour::Yuv422Deep(Depth::Ten),
-    Colour::Yuv422Deep(Depth::Twelve),
-    Colour::Yuv422Deep(Depth::Fourteen),
-    Colour::Yuv422Deep(Depth::Sixteen),
-    Colour::Yuv444Deep(Depth::Nine),
-    Colour::Yuv444Deep(Depth::Ten),
-    Colour::Yuv444Deep(Depth::Twelve),
-    Colour::Yuv444Deep(Depth::Fourteen),
-    Colour::Yuv444Deep(Depth::Sixteen),
-    Colour::MonoDeep(Depth::Nine),
-    Colour::MonoDeep(Depth::Ten),
-    Colour::MonoDeep(Depth::Twelve),
-    Colour::MonoDeep(Depth::Fourteen),
-    Colour::MonoDeep(Depth::Sixteen),
+    Colour::Yuv420HighDepth(Depth::Nine),
+    Colour::Yuv420HighDepth(Depth::Ten),
+    Colour::Yuv420HighDepth(Depth::Twelve),
+    Colour::Yuv420HighDepth(Depth::Fourteen),
+    Colour::Yuv420HighDepth(Depth::Sixteen),
+    Colour::Yuv422HighDepth(Depth::Nine),
+    Colour::Yuv422HighDepth(Depth::Ten),
+    Colour::Yuv422HighDepth(Depth::Twelve),
+    Colour::Yuv422HighDepth(Depth::Fourteen),
+    Colour::Yuv422HighDepth(Depth::Sixteen),
+    Colour::Yuv444HighDepth(Depth::Nine),
+    Colour::Yuv444HighDepth(Depth::Ten),
+    Colour::Yuv444HighDepth(Depth::Twelve),
+    Colour::Yuv444HighDepth(Depth::Fourteen),
+    Colour::Yuv444HighDepth(Depth::Sixteen),
+    Colour::MonoHighDepth(Depth::Nine),
+    Colour::MonoHighDepth(Depth::Ten),
+    Colour::MonoHighDepth(Depth::Twelve),
+    Colour::MonoHighDepth(Depth::Fourteen),
+    Colour::MonoHighDepth(Depth::Sixteen),
 ];
 
 impl Colour {
-    /// What this text behind the letter `C` says.
+    /// What this text after the letter `C` says.
     pub(crate) fn parse(text: &[u8]) -> Option<Self>
         ensures unknown { IfNone result ((c : TheColour) → stated c ≡ Some c → text.now ≢ colour_text c) }
         ensures known { IfSome result (λ c. text.now ≡ colour_text c) }
@@ -124,14 +124,14 @@ impl Colour {
         None
     }
 
-    /// Whether this text spells the colour.
+    /// Returns whether this text spells the colour.
     fn is_spelled(self, text: &[u8]) -> bool
         ensures { IsTrue result ↔ (text.now ≡ colour_text self) }
     {
         text == self.text().as_bytes()
     }
 
-    /// The format of the frames.
+    /// Returns the format of the frames.
     pub fn subsampling(self) -> ChromaSubsampling
         ensures { result ≡ subsampling_of self }
     {
@@ -141,23 +141,23 @@ impl Colour {
             | Colour::Yuv420Jpeg
             | Colour::Yuv420Mpeg2
             | Colour::Yuv420Paldv
-            | Colour::Yuv420Deep(_) => ChromaSubsampling::Yuv420,
+            | Colour::Yuv420HighDepth(_) => ChromaSubsampling::Yuv420,
             Colour::Yuv411 => ChromaSubsampling::Yuv411,
-            Colour::Yuv422 | Colour::Yuv422Deep(_) => ChromaSubsampling::Yuv422,
-            Colour::Yuv444 | Colour::Yuv444Deep(_) => ChromaSubsampling::Yuv444,
-            Colour::Mono | Colour::MonoDeep(_) => ChromaSubsampling::Monochrome,
+            Colour::Yuv422 | Colour::Yuv422HighDepth(_) => ChromaSubsampling::Yuv422,
+            Colour::Yuv444 | Colour::Yuv444HighDepth(_) => ChromaSubsampling::Yuv444,
+            Colour::Mono | Colour::MonoHighDepth(_) => ChromaSubsampling::Monochrome,
         }
     }
 
-    /// How many bits a pixel has, 8 to 16. Pixels of 8 bits are `u8`, deeper ones `u16`.
+    /// Returns how many bits a pixel has, 8 to 16. Pixels of 8 bits are `u8`, deeper ones `u16`.
     pub fn bit_depth(self) -> u8
         ensures { result ≡ depth_of self }
     {
         match self {
-            Colour::Yuv420Deep(depth)
-            | Colour::Yuv422Deep(depth)
-            | Colour::Yuv444Deep(depth)
-            | Colour::MonoDeep(depth) => depth.bits(),
+            Colour::Yuv420HighDepth(depth)
+            | Colour::Yuv422HighDepth(depth)
+            | Colour::Yuv444HighDepth(depth)
+            | Colour::MonoHighDepth(depth) => depth.bits(),
             _ => 8,
         }
     }
@@ -174,7 +174,7 @@ impl Colour {
         }
     }
 
-    /// What stands behind the letter `C`, nothing for [`Unstated`](Self::Unstated).
+    /// What stands after the letter `C`, nothing for [`Unstated`](Self::Unstated).
     pub fn text(self) -> &'static str
         ensures { result.now ≡ colour_text self }
     {
@@ -188,28 +188,28 @@ impl Colour {
             Colour::Yuv422 => "422",
             Colour::Yuv444 => "444",
             Colour::Mono => "mono",
-            Colour::Yuv420Deep(depth) => match depth {
+            Colour::Yuv420HighDepth(depth) => match depth {
                 Depth::Nine => "420p9",
                 Depth::Ten => "420p10",
                 Depth::Twelve => "420p12",
                 Depth::Fourteen => "420p14",
                 Depth::Sixteen => "420p16",
             },
-            Colour::Yuv422Deep(depth) => match depth {
+            Colour::Yuv422HighDepth(depth) => match depth {
                 Depth::Nine => "422p9",
                 Depth::Ten => "422p10",
                 Depth::Twelve => "422p12",
                 Depth::Fourteen => "422p14",
                 Depth::Sixteen => "422p16",
             },
-            Colour::Yuv444Deep(depth) => match depth {
+            Colour::Yuv444HighDepth(depth) => match depth {
                 Depth::Nine => "444p9",
                 Depth::Ten => "444p10",
                 Depth::Twelve => "444p12",
                 Depth::Fourteen => "444p14",
                 Depth::Sixteen => "444p16",
             },
-            Colour::MonoDeep(depth) => match depth {
+            Colour::MonoHighDepth(depth) => match depth {
                 Depth::Nine => "mono9",
                 Depth::Ten => "mono10",
                 Depth::Twelve => "mono12",

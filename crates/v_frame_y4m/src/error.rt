@@ -5,7 +5,7 @@ use std::alloc::AllocError;
 use thiserror::Error;
 use v_frame_planar::{PlanarError, WriteFault};
 
-/// Why a header line was refused. Our own.
+/// Why a header line was refused.
 #[derive(Debug, PartialEq, Eq, Drop, Error)]
 pub enum HeaderError {
     /// The line does not begin with `YUV4MPEG2`.
@@ -14,9 +14,9 @@ pub enum HeaderError {
     /// A required parameter, `W` or `H`, is missing.
     #[error("parameter {0} is missing")]
     Missing(char),
-    /// A parameter stands twice that may stand once.
-    #[error("parameter {0} stands twice")]
-    Doubled(char),
+    /// A parameter is repeated that may stand once.
+    #[error("parameter {0} is repeated")]
+    Duplicate(char),
     /// A parameter has an unknown letter, or its letter does not go with the rest.
     #[error("malformed parameter `{0}`")]
     Malformed(Text),
@@ -45,7 +45,7 @@ impl From<AllocError> for HeaderError {
     }
 }
 
-/// Why a call on a stream gave up. Our own.
+/// Why a call on a stream gave up.
 #[derive(Debug, PartialEq, Eq, Drop, Error)]
 pub enum Y4mError {
     /// The header line was refused.

@@ -12,10 +12,11 @@ use v_frame::pixel::Pixel;
 use v_frame_planar::video_frame;
 
 impl StreamHeader {
-    /// A frame to read the frames of the stream into: of its size, its format and its bit depth, with all planes zero.
+    /// Returns a frame to read the frames of the stream into: of its size, its format and its bit depth, with all planes
+    /// zero.
     ///
     /// The pixels are `u8` where [`Colour::bit_depth`](crate::Colour::bit_depth) is 8, else `u16`. The border has `padding`
-    /// pixels on all four sides of luma, or so many more that it divides; 0 serves a reader. Our own.
+    /// pixels on all four sides of luma, or so many more that it divides; 0 serves a reader.
     ///
     /// # Errors
     ///

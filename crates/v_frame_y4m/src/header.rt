@@ -5,19 +5,19 @@ ghost use Rattle.v_frame_y4m.specs.declared.header.Interlacing.{Interlacing as T
 
 use crate::colour::Colour;
 use std::alloc::{AllocError, Global};
-use v_frame::replay::Sequence;
+use v_frame::sequence::Sequence;
 
-/// A number beside another one, as the frames per second `30000:1001`. Our own.
+/// A number beside another one, as the frames per second `30000:1001`.
 #[derive(Debug, Clone, Copy, PartialEq, Eq)]
 pub struct Ratio {
     /// The number before the colon.
     pub numerator: u64,
-    /// The number behind it. `0:0` says that the ratio is unknown.
+    /// The number after it. `0:0` says that the ratio is unknown.
     pub denominator: u64,
 }
 
 impl Ratio {
-    /// The two numbers with a colon between.
+    /// Returns the two numbers with a colon between.
     ///
     /// # Errors
     ///
@@ -33,7 +33,7 @@ impl Ratio {
     }
 }
 
-/// How the rows of a frame go with time. Our own.
+/// How the rows of a frame go with time.
 #[derive(Debug, Clone, Copy, PartialEq, Eq)]
 pub enum Interlacing {
     /// `p`: all rows at one time.
@@ -49,7 +49,7 @@ pub enum Interlacing {
 }
 
 impl Interlacing {
-    /// What stands behind the letter `I`.
+    /// What stands after the letter `I`.
     pub fn text(self) -> &'static str
         ensures { result.now ≡ interlacing_text self }
     {
@@ -62,7 +62,7 @@ impl Interlacing {
         }
     }
 
-    /// What this text behind the letter `I` says.
+    /// What this text after the letter `I` says.
     pub(crate) fn parse(text: &[u8]) -> Option<Self>
         ensures { MatchOption result ((i : TheInterlacing) → text.now ≢ interlacing_text i)
             (λ i. text.now ≡ interlacing_text i) }
@@ -78,7 +78,7 @@ impl Interlacing {
     }
 }
 
-/// What the header line of a stream says. Our own.
+/// What the header line of a stream says.
 #[derive(Debug, PartialEq, Eq, Drop)]
 pub struct StreamHeader {
     /// `W`, in pixels. At least 1 in a stream.
@@ -93,14 +93,14 @@ pub struct StreamHeader {
     pub pixel_aspect: Option<Ratio>,
     /// `C`. [`Colour::Unstated`] where it is missing.
     pub colour: Colour,
-    /// What stands behind the letter of each `X`, as it came and in this order. In a stream these have no space and no line
+    /// What stands after the letter of each `X`, as it came and in this order. In a stream these have no space and no line
     /// feed.
     pub extensions: Sequence<Sequence<u8>>,
 }
 
 impl StreamHeader {
-    /// Whether the header has a line: no size is 0, and no extension has a space or a line feed. Each header that was read
-    /// has one.
+    /// Returns whether the header has a line: no size is 0, and no extension has a space or a line feed. Each header that
+    /// was read has one.
     pub fn is_writable(&self) -> bool
         ensures { IsTrue result ↔ IsWritable self.now }
     {
@@ -108,7 +108,7 @@ impl StreamHeader {
     }
 }
 
-/// Whether no byte is a space or a line feed.
+/// Returns whether no byte is a space or a line feed.
 fn is_piece(text: &Sequence<u8>) -> bool
     ensures { IsTrue result ↔ IsPiece text.now }
 {

@@ -1,4 +1,4 @@
-//! YUV4MPEG2 streams: raw planar video behind a header line that tells its size, its rate and its colour.
+//! YUV4MPEG2 streams: raw planar video after a header line that says its size, its rate and its colour.
 //!
 //! ```text
 //! YUV4MPEG2 W176 H144 F25:1 Ip A1:1 C420jpeg XYSCSS=420JPEG    the header line
@@ -9,7 +9,7 @@
 //! ```
 //!
 //! [`read_header`] and then [`read_frame`] until it answers `false` read a stream; [`write_header`] and [`write_frame`]
-//! write one. Between the two stands a [`StreamHeader`], which tells by [`StreamHeader::frame`] what frames to read into.
+//! write one. Between the two stands a [`StreamHeader`], which says by [`StreamHeader::frame`] what frames to read into.
 //!
 //! Our own. `Rattle.v_frame_y4m.specs.Header` has the grammar of the header line, and `Rattle.v_frame_y4m.specs.Streams`
 //! what the calls leave.

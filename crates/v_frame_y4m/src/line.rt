@@ -1,5 +1,6 @@
 //! The line that is written for a header.
 ghost use Rattle.std.specs.Prelude.{◌≡◌, ◌++◌, ◌∷◌, [], decimal, map, IfOk, OnOk};
+ghost use Rattle.v_frame_y4m.specs.Ascii.{colour_letter, extension_letter, height_letter, interlacing_letter, line_feed, space, width_letter};
 ghost use Rattle.v_frame_y4m.specs.Colour.{colour_text, stated};
 ghost use Rattle.v_frame_y4m.specs.Header.{header_line, interlacing_text, parameter_of, parameters_of, ratio_text, spelled};
 
@@ -7,10 +8,10 @@ use crate::colour::Colour;
 use crate::header::{Interlacing, Ratio, StreamHeader};
 use crate::parsing::SIGNATURE;
 use std::alloc::{AllocError, Global};
-use v_frame::replay::Sequence;
+use v_frame::sequence::Sequence;
 
-/// The line of a header, without its line feed: `YUV4MPEG2`, and then W, H, F, I, A, C and each X, as ffmpeg writes them.
-/// Our own.
+/// Returns the line of a header, without its line feed: `YUV4MPEG2`, and then W, H, F, I, A, C and each X, as ffmpeg writes
+/// them.
 ///
 /// # Errors
 ///
@@ -25,7 +26,7 @@ pub fn header_line(alloc: Global, header: &StreamHeader) -> Result<Vec<u8>, Allo
 
 /// The same with its line feed.
 pub(crate) fn ended_line(alloc: Global, header: &StreamHeader) -> Result<Vec<u8>, AllocError>
-    ensures { IfOk result (λ line. line.items ≡ header_line header.now ++ 10 ∷ []) }
+    ensures { IfOk result (λ line. line.items ≡ header_line header.now ++ line_feed ∷ []) }
 {
     let mut line = header_line(alloc, header)?;
     line.push(b'\n')?;
@@ -50,7 +51,7 @@ fn push_parameters(
 
 /// Adds a space, a letter and a text.
 fn push(line: &mut Vec<u8>, letter: u8, text: &[u8]) -> Result<(), AllocError>
-    ensures { OnOk result (line.new.items ≡ line.old.items ++ 32 ∷ (letter ∷ text.now)) }
+    ensures { OnOk result (line.new.items ≡ line.old.items ++ space ∷ (letter ∷ text.now)) }
 {
     line.push(b' ')?;
     line.push(letter)?;
@@ -65,7 +66,7 @@ fn push_size(
     height: usize,
 ) -> Result<(), AllocError>
     ensures { OnOk result (line.new.items ≡ line.old.items
-        ++ spelled ((87 ∷ decimal width) ∷ (72 ∷ decimal height) ∷ [])) }
+        ++ spelled ((width_letter ∷ decimal width) ∷ (height_letter ∷ decimal height) ∷ [])) }
 {
     push(line, b'W', width.to_string(alloc)?.as_bytes())?;
     push(line, b'H', height.to_string(alloc)?.as_bytes())
@@ -90,7 +91,7 @@ fn push_ratio(
 /// Adds the interlacing, where it is there.
 fn push_interlacing(line: &mut Vec<u8>, interlacing: Option<Interlacing>) -> Result<(), AllocError>
     ensures { OnOk result (line.new.items ≡ line.old.items
-        ++ spelled (parameter_of 73 interlacing_text interlacing)) }
+        ++ spelled (parameter_of interlacing_letter interlacing_text interlacing)) }
 {
     match interlacing {
         Some(interlacing) => push(line, b'I', interlacing.text().as_bytes()),
@@ -101,7 +102,7 @@ fn push_interlacing(line: &mut Vec<u8>, interlacing: Option<Interlacing>) -> Res
 /// Adds the colour, where a parameter says it.
 fn push_colour(line: &mut Vec<u8>, colour: Colour) -> Result<(), AllocError>
     ensures { OnOk result (line.new.items ≡ line.old.items
-        ++ spelled (parameter_of 67 colour_text (stated colour))) }
+        ++ spelled (parameter_of colour_letter colour_text (stated colour))) }
 {
     if colour == Colour::Unstated {
         return Ok(());
@@ -112,7 +113,7 @@ fn push_colour(line: &mut Vec<u8>, colour: Colour) -> Result<(), AllocError>
 /// Adds the extensions.
 fn push_extensions(line: &mut Vec<u8>, extensions: &[Sequence<u8>]) -> Result<(), AllocError>
     ensures { OnOk result (line.new.items ≡ line.old.items
-        ++ spelled (map (λ text. 88 ∷ text) extensions.now)) }
+        ++ spelled (map (λ text. extension_letter ∷ text) extensions.now)) }
 {
     for extension in extensions {
         push(line, b'X', extension.as_slice())?;

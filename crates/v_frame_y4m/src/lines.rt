@@ -1,13 +1,14 @@
-//! Lines of a stream, read byte by byte, so that nothing behind them is taken.
+//! Lines of a stream, read byte by byte, so that nothing after them is taken.
 ghost use Rattle.std.specs.Prelude.{◌≡◌, ◌≢◌, ◌≤◌, ◌++◌, ◌∷◌, [], length, take, All, IfOk, IfErr, IfSome, OnOk, MatchOption, MatchResult};
 ghost use Rattle.std.specs.Io.KnownBytes.{Consumes, IsAtEnd};
+ghost use Rattle.v_frame_y4m.specs.Ascii.{line_feed};
 ghost use Rattle.v_frame_y4m.specs.Streams.{MayStopInLine, StopsReadingByte, TellsStreamCause};
 
 use crate::error::Y4mError;
 use std::io;
 use v_frame_planar::{Counted, PlanarError};
 
-/// Reads a line to the front of a buffer, which is as long as a line may be, and tells its length without its line feed.
+/// Reads a line to the front of a buffer, which is as long as a line may be, and returns its length without its line feed.
 /// `None` where the reader stood at its end before the first byte.
 pub(crate) fn read_line<R: io::Read>(
     reader: &mut Counted<R>,
@@ -18,8 +19,8 @@ pub(crate) fn read_line<R: io::Read>(
         (Consumes (R.remaining reader.old.inner) (R.remaining reader.new.inner) []
         × IsAtEnd (R.remaining reader.new.inner))
         (λ n. Consumes (R.remaining reader.old.inner) (R.remaining reader.new.inner)
-        (take n line.new ++ 10 ∷ []))) }
-    ensures ended { IfOk result (λ found. IfSome found (λ n. All (λ byte. byte ≢ 10) (take n line.new))) }
+        (take n line.new ++ line_feed ∷ []))) }
+    ensures ended { IfOk result (λ found. IfSome found (λ n. All (λ byte. byte ≢ line_feed) (take n line.new))) }
     ensures uncounted { OnOk result (reader.new.failures ≡ reader.old.failures) }
     ensures error { IfErr result (MayStopInLine R.remaining reader.old reader.new (length line.old)) }
     ensures cause { MatchResult result (λ _. reader.new.last_failure ≡ reader.old.last_failure)

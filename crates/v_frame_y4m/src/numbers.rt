@@ -1,5 +1,6 @@
 //! Numbers as they stand in a header: decimal digits without a leading zero.
 ghost use Rattle.std.specs.Prelude.{ℕ, ◌≡◌, ◌≢◌, ◌↔◌, ◌^◌, ◌<◌, decimal, length, slice_index, IsTrue, MatchOption};
+ghost use Rattle.v_frame_y4m.specs.Ascii.{digit_zero, plus_sign};
 ghost use Rattle.v_frame_y4m.specs.Faults.{AreDigits};
 ghost use Rattle.v_frame_y4m.specs.Header.{ratio_text, FitsRatio};
 ghost use Rattle.v_frame_y4m.specs.declared.header.Ratio.{Ratio as TheRatio};
@@ -7,7 +8,7 @@ ghost use Rattle.v_frame_y4m.specs.declared.header.Ratio.{Ratio as TheRatio};
 use crate::header::Ratio;
 use std::str;
 
-/// The number that these digits spell, where no other text would be written for it.
+/// Returns the number that these digits spell, where no other text would be written for it.
 pub(crate) fn number(digits: &[u8]) -> Option<u64>
     ensures { MatchOption result ((n : ℕ) → n < 2 ^ 64 → digits.now ≢ decimal n)
         (λ n. digits.now ≡ decimal n) }
@@ -23,7 +24,7 @@ fn number_of(digits: &str) -> Option<u64>
     ensures { MatchOption result ((n : ℕ) → n < 2 ^ 64 → digits.now ≢ decimal n)
         (λ n. digits.now ≡ decimal n) }
 {
-    if !is_written_so(digits.as_bytes()) {
+    if !has_canonical_start(digits.as_bytes()) {
         return None;
     }
     match digits.parse() {
@@ -32,10 +33,10 @@ fn number_of(digits: &str) -> Option<u64>
     }
 }
 
-/// Whether the digits begin as those that are written for a number.
-fn is_written_so(digits: &[u8]) -> bool
-    ensures { IsTrue result ↔ ((slice_index digits.now 0 ≢ 43)
-        × (slice_index digits.now 0 ≡ 48 → length digits.now ≡ 1)) }
+/// Returns whether the digits begin as those that are written for a number.
+fn has_canonical_start(digits: &[u8]) -> bool
+    ensures { IsTrue result ↔ ((slice_index digits.now 0 ≢ plus_sign)
+        × (slice_index digits.now 0 ≡ digit_zero → length digits.now ≡ 1)) }
 {
     match digits.first() {
         Some(b'+') => false,
@@ -44,16 +45,16 @@ fn is_written_so(digits: &[u8]) -> bool
     }
 }
 
-/// Whether the bytes are ASCII digits without a leading zero.
+/// Returns whether the bytes are ASCII digits without a leading zero.
 pub(crate) fn are_digits(text: &[u8]) -> bool
     ensures { IsTrue result ↔ AreDigits text.now }
 {
     begins_above_zero(text) && text.iter().all(|&byte| byte >= b'0' && byte <= b'9')
 }
 
-/// Whether the first byte is above that of `0`.
+/// Returns whether the first byte is above that of `0`.
 fn begins_above_zero(text: &[u8]) -> bool
-    ensures { IsTrue result ↔ (48 < slice_index text.now 0) }
+    ensures { IsTrue result ↔ (digit_zero < slice_index text.now 0) }
 {
     match text.first() {
         Some(&first) => first > b'0',
@@ -61,7 +62,7 @@ fn begins_above_zero(text: &[u8]) -> bool
     }
 }
 
-/// The two numbers with a colon between.
+/// Returns the two numbers with a colon between.
 pub(crate) fn ratio(text: &[u8]) -> Option<Ratio>
     ensures { MatchOption result ((r : TheRatio) → FitsRatio r → text.now ≢ ratio_text r)
         (λ r. text.now ≡ ratio_text r) }
@@ -83,7 +84,7 @@ fn ratio_of(text: &str) -> Option<Ratio>
     }
 }
 
-/// The ratio of two numbers.
+/// Returns the ratio of two numbers.
 fn ratio_between(numerator: &str, denominator: &str) -> Option<Ratio>
     ensures { MatchOption result ((r : TheRatio) → FitsRatio r → numerator.now ≡ decimal r.numerator
         → denominator.now ≢ decimal r.denominator)

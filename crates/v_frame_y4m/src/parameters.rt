@@ -1,28 +1,29 @@
 //! The pieces of a header line, and those among them that have a letter.
 ghost use Rattle.std.specs.Prelude.{List, ℕ, ◌≡◌, ◌↔◌, ◌∷◌, map, slice_index, All, Contains, IfOk, IfErr, IfSome, IsTrue};
+ghost use Rattle.v_frame_y4m.specs.Ascii.{extension_letter};
 ghost use Rattle.v_frame_y4m.specs.Faults.{HasFault, IsOnce};
-ghost use Rattle.v_frame_y4m.specs.Header.{letters, of_letter, parameter_of, pieces};
+ghost use Rattle.v_frame_y4m.specs.Header.{letters, of_letter, parameter_of, pieces, texts_of};
 
 use crate::error::HeaderError;
 use crate::text::Text;
 use std::alloc::{AllocError, Global};
-use v_frame::replay::Sequence;
+use v_frame::sequence::Sequence;
 
 /// The letters that a parameter may begin with.
 const LETTERS: [u8; 7] = *b"WHFIACX";
 
-/// The pieces of a line between its spaces.
+/// Returns the pieces of a line between its spaces.
 pub(crate) fn pieces_of(alloc: Global, line: &[u8]) -> Result<Vec<&[u8]>, AllocError>
-    ensures { IfOk result (λ found. map (λ piece. piece.now) found.items ≡ pieces line.now) }
+    ensures { IfOk result (λ found. texts_of found.items ≡ pieces line.now) }
 {
     line.split(|&byte| byte == b' ').collect(alloc)
 }
 
 /// Refuses parameters of unknown letters.
 pub(crate) fn check_letters(alloc: Global, parameters: &[&[u8]]) -> Result<(), HeaderError>
-    ensures ok { IfOk result (λ _. All (λ parameter. Contains letters (slice_index parameter 0))
-        (map (λ parameter. parameter.now) parameters.now)) }
-    ensures error { IfErr result (HasFault (map (λ parameter. parameter.now) parameters.now)) }
+    ensures ok { IfOk result (λ _.
+        All (λ parameter. Contains letters (slice_index parameter 0)) (texts_of parameters.now)) }
+    ensures error { IfErr result (HasFault (texts_of parameters.now)) }
 {
     for &parameter in parameters {
         if !has_known_letter(parameter) {
@@ -32,7 +33,7 @@ pub(crate) fn check_letters(alloc: Global, parameters: &[&[u8]]) -> Result<(), H
     Ok(())
 }
 
-/// The error that a parameter is malformed, if there is memory to tell it.
+/// Returns the error that a parameter is malformed, if there is memory to say it.
 pub(crate) fn malformed(alloc: Global, text: &[u8]) -> HeaderError
     ensures { (parameters : List (List ℕ))
         → HasFault parameters (HeaderError.Malformed (record { bytes = text.now }))
@@ -44,7 +45,7 @@ pub(crate) fn malformed(alloc: Global, text: &[u8]) -> HeaderError
     }
 }
 
-/// Whether the first byte is one of the letters.
+/// Returns whether the first byte is one of the letters.
 fn has_known_letter(parameter: &[u8]) -> bool
     ensures { IsTrue result ↔ Contains letters (slice_index parameter.now 0) }
 {
@@ -54,23 +55,23 @@ fn has_known_letter(parameter: &[u8]) -> bool
     }
 }
 
-/// The parameter of a letter that may stand once, and what stands in it behind the letter.
-pub(crate) fn only<'a>(
+/// Returns the parameter of a letter that may stand once, and what stands in it after the letter.
+pub(crate) fn unique_parameter<'a>(
     parameters: &[&'a [u8]],
     letter: u8,
 ) -> Result<Option<(&'a [u8], &'a [u8])>, HeaderError>
     requires { IsOnce letter }
-    ensures ok { IfOk result (λ found. of_letter letter (map (λ parameter. parameter.now) parameters.now)
+    ensures ok { IfOk result (λ found. of_letter letter (texts_of parameters.now)
         ≡ parameter_of letter (λ p. p.1.now) found) }
     ensures whole { IfOk result (λ found. IfSome found (λ p. p.0.now ≡ letter ∷ p.1.now)) }
-    ensures error { IfErr result (HasFault (map (λ parameter. parameter.now) parameters.now)) }
+    ensures error { IfErr result (HasFault (texts_of parameters.now)) }
 {
     let mut found = None;
     for &parameter in parameters {
         if let Some((&first, text)) = parameter.split_first() {
             if first == letter {
                 if found.is_some() {
-                    return Err(HeaderError::Doubled(letter as char));
+                    return Err(HeaderError::Duplicate(letter as char));
                 }
                 found = Some((parameter, text));
             }
@@ -79,13 +80,13 @@ pub(crate) fn only<'a>(
     Ok(found)
 }
 
-/// What stands behind the letter of each `X`.
+/// What stands after the letter of each `X`.
 pub(crate) fn extensions(
     alloc: Global,
     parameters: &[&[u8]],
 ) -> Result<Sequence<Sequence<u8>>, AllocError>
-    ensures { IfOk result (λ texts. of_letter 88 (map (λ parameter. parameter.now) parameters.now)
-        ≡ map (λ text. 88 ∷ text) texts) }
+    ensures { IfOk result (λ texts. of_letter extension_letter (texts_of parameters.now)
+        ≡ map (λ text. extension_letter ∷ text) texts) }
 {
     let mut texts = Vec::new(alloc);
     for &parameter in parameters {

@@ -1,21 +1,22 @@
 //! Headers from their lines.
-ghost use Rattle.std.specs.Prelude.{◌≡◌, ◌<◌, ◌⊎◌, ◌↔◌, ◌∷◌, [], map, decimal, IfOk, IfErr, IsTrue};
+ghost use Rattle.std.specs.Prelude.{◌≡◌, ◌<◌, ◌⊎◌, ◌↔◌, ◌∷◌, [], decimal, IfOk, IfErr, IsTrue};
+ghost use Rattle.v_frame_y4m.specs.Ascii.{aspect_letter, colour_letter, height_letter, interlacing_letter, rate_letter, width_letter};
 ghost use Rattle.v_frame_y4m.specs.Colour.{colour_text, stated};
 ghost use Rattle.v_frame_y4m.specs.Faults.{HasFault, IsRefusedFor};
-ghost use Rattle.v_frame_y4m.specs.Header.{of_letter, parameter_of, ratio_text, interlacing_text, signature, HasSize, IsHeader, Says};
+ghost use Rattle.v_frame_y4m.specs.Header.{interlacing_text, of_letter, parameter_of, ratio_text, signature, texts_of, HasSize, IsHeader, Says};
 
 use crate::colour::Colour;
 use crate::error::HeaderError;
 use crate::header::{Interlacing, Ratio, StreamHeader};
 use crate::numbers::{are_digits, number, ratio};
-use crate::parameters::{check_letters, extensions, malformed, only, pieces_of};
+use crate::parameters::{check_letters, extensions, malformed, pieces_of, unique_parameter};
 use crate::text::Text;
 use std::alloc::Global;
 
 /// What a header line begins with.
 pub(crate) const SIGNATURE: &[u8] = b"YUV4MPEG2";
 
-/// What a header line says, without its line feed. Our own.
+/// What a header line says, without its line feed.
 ///
 /// Numbers are read as they are written: decimal digits without a leading zero.
 ///
@@ -34,7 +35,7 @@ pub fn parse_header(alloc: Global, line: &[u8]) -> Result<StreamHeader, HeaderEr
     header_of(alloc, &pieces[1..])
 }
 
-/// Whether this is what a header line begins with.
+/// Returns whether this is what a header line begins with.
 fn is_signature(piece: &[u8]) -> bool
     ensures { IsTrue result ↔ (piece.now ≡ signature) }
 {
@@ -43,9 +44,9 @@ fn is_signature(piece: &[u8]) -> bool
 
 /// What parameters say.
 fn header_of(alloc: Global, parameters: &[&[u8]]) -> Result<StreamHeader, HeaderError>
-    ensures says { IfOk result (Says (map (λ parameter. parameter.now) parameters.now)) }
+    ensures says { IfOk result (Says (texts_of parameters.now)) }
     ensures size { IfOk result HasSize }
-    ensures error { IfErr result (HasFault (map (λ parameter. parameter.now) parameters.now)) }
+    ensures error { IfErr result (HasFault (texts_of parameters.now)) }
 {
     check_letters(alloc, parameters)?;
     let (width, height) = size(alloc, parameters)?;
@@ -64,13 +65,13 @@ fn header_of(alloc: Global, parameters: &[&[u8]]) -> Result<StreamHeader, Header
     })
 }
 
-/// The width and the height.
+/// Returns the width and the height.
 fn size(alloc: Global, parameters: &[&[u8]]) -> Result<(usize, usize), HeaderError>
-    ensures width { IfOk result (λ size. (of_letter 87 (map (λ parameter. parameter.now) parameters.now)
-        ≡ (87 ∷ decimal size.0) ∷ []) × (0 < size.0)) }
-    ensures height { IfOk result (λ size. (of_letter 72 (map (λ parameter. parameter.now) parameters.now)
-        ≡ (72 ∷ decimal size.1) ∷ []) × (0 < size.1)) }
-    ensures error { IfErr result (HasFault (map (λ parameter. parameter.now) parameters.now)) }
+    ensures width { IfOk result (λ size. (of_letter width_letter (texts_of parameters.now)
+        ≡ (width_letter ∷ decimal size.0) ∷ []) × (0 < size.0)) }
+    ensures height { IfOk result (λ size. (of_letter height_letter (texts_of parameters.now)
+        ≡ (height_letter ∷ decimal size.1) ∷ []) × (0 < size.1)) }
+    ensures error { IfErr result (HasFault (texts_of parameters.now)) }
 {
     Ok((
         length(alloc, parameters, b'W')?,
@@ -78,14 +79,14 @@ fn size(alloc: Global, parameters: &[&[u8]]) -> Result<(usize, usize), HeaderErr
     ))
 }
 
-/// The width or the height, in pixels.
+/// Returns the width or the height, in pixels.
 fn length(alloc: Global, parameters: &[&[u8]], letter: u8) -> Result<usize, HeaderError>
-    requires { (letter ≡ 87) ⊎ (letter ≡ 72) }
-    ensures ok { IfOk result (λ n. (of_letter letter (map (λ parameter. parameter.now) parameters.now)
+    requires { (letter ≡ width_letter) ⊎ (letter ≡ height_letter) }
+    ensures ok { IfOk result (λ n. (of_letter letter (texts_of parameters.now)
         ≡ (letter ∷ decimal n) ∷ []) × (0 < n)) }
-    ensures error { IfErr result (HasFault (map (λ parameter. parameter.now) parameters.now)) }
+    ensures error { IfErr result (HasFault (texts_of parameters.now)) }
 {
-    let Some((text, digits)) = only(parameters, letter)? else {
+    let Some((text, digits)) = unique_parameter(parameters, letter)? else {
         return Err(HeaderError::Missing(letter as char));
     };
     match number(digits) {
@@ -96,16 +97,16 @@ fn length(alloc: Global, parameters: &[&[u8]], letter: u8) -> Result<usize, Head
     }
 }
 
-/// The frame rate and the pixel aspect.
+/// Returns the frame rate and the pixel aspect.
 fn ratios(
     alloc: Global,
     parameters: &[&[u8]],
 ) -> Result<(Option<Ratio>, Option<Ratio>), HeaderError>
-    ensures frame_rate { IfOk result (λ r. of_letter 70 (map (λ parameter. parameter.now) parameters.now)
-        ≡ parameter_of 70 ratio_text r.0) }
-    ensures pixel_aspect { IfOk result (λ r. of_letter 65 (map (λ parameter. parameter.now) parameters.now)
-        ≡ parameter_of 65 ratio_text r.1) }
-    ensures error { IfErr result (HasFault (map (λ parameter. parameter.now) parameters.now)) }
+    ensures frame_rate { IfOk result (λ r. of_letter rate_letter (texts_of parameters.now)
+        ≡ parameter_of rate_letter ratio_text r.0) }
+    ensures pixel_aspect { IfOk result (λ r. of_letter aspect_letter (texts_of parameters.now)
+        ≡ parameter_of aspect_letter ratio_text r.1) }
+    ensures error { IfErr result (HasFault (texts_of parameters.now)) }
 {
     Ok((
         rate(alloc, parameters, b'F')?,
@@ -113,14 +114,14 @@ fn ratios(
     ))
 }
 
-/// The ratio of a letter.
+/// Returns the ratio of a letter.
 fn rate(alloc: Global, parameters: &[&[u8]], letter: u8) -> Result<Option<Ratio>, HeaderError>
-    requires { (letter ≡ 70) ⊎ (letter ≡ 65) }
-    ensures ok { IfOk result (λ r. of_letter letter (map (λ parameter. parameter.now) parameters.now)
+    requires { (letter ≡ rate_letter) ⊎ (letter ≡ aspect_letter) }
+    ensures ok { IfOk result (λ r. of_letter letter (texts_of parameters.now)
         ≡ parameter_of letter ratio_text r) }
-    ensures error { IfErr result (HasFault (map (λ parameter. parameter.now) parameters.now)) }
+    ensures error { IfErr result (HasFault (texts_of parameters.now)) }
 {
-    let Some((text, value)) = only(parameters, letter)? else {
+    let Some((text, value)) = unique_parameter(parameters, letter)? else {
         return Ok(None);
     };
     match ratio(value) {
@@ -131,11 +132,11 @@ fn rate(alloc: Global, parameters: &[&[u8]], letter: u8) -> Result<Option<Ratio>
 
 /// How the rows go with time.
 fn interlacing(alloc: Global, parameters: &[&[u8]]) -> Result<Option<Interlacing>, HeaderError>
-    ensures ok { IfOk result (λ i. of_letter 73 (map (λ parameter. parameter.now) parameters.now)
-        ≡ parameter_of 73 interlacing_text i) }
-    ensures error { IfErr result (HasFault (map (λ parameter. parameter.now) parameters.now)) }
+    ensures ok { IfOk result (λ i. of_letter interlacing_letter (texts_of parameters.now)
+        ≡ parameter_of interlacing_letter interlacing_text i) }
+    ensures error { IfErr result (HasFault (texts_of parameters.now)) }
 {
-    let Some((text, value)) = only(parameters, b'I')? else {
+    let Some((text, value)) = unique_parameter(parameters, b'I')? else {
         return Ok(None);
     };
     match Interlacing::parse(value) {
@@ -144,13 +145,13 @@ fn interlacing(alloc: Global, parameters: &[&[u8]]) -> Result<Option<Interlacing
     }
 }
 
-/// The colour.
+/// Returns the colour.
 fn colour(alloc: Global, parameters: &[&[u8]]) -> Result<Colour, HeaderError>
-    ensures ok { IfOk result (λ c. of_letter 67 (map (λ parameter. parameter.now) parameters.now)
-        ≡ parameter_of 67 colour_text (stated c)) }
-    ensures error { IfErr result (HasFault (map (λ parameter. parameter.now) parameters.now)) }
+    ensures ok { IfOk result (λ c. of_letter colour_letter (texts_of parameters.now)
+        ≡ parameter_of colour_letter colour_text (stated c)) }
+    ensures error { IfErr result (HasFault (texts_of parameters.now)) }
 {
-    let Some((text, value)) = only(parameters, b'C')? else {
+    let Some((text, value)) = unique_parameter(parameters, b'C')? else {
         return Ok(Colour::Unstated);
     };
     match Colour::parse(value) {

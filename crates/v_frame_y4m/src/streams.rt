@@ -3,6 +3,7 @@ ghost use Rattle.std.specs.Prelude.{ℕ, ◌≡◌, ◌≤◌, ◌↔◌, ◌++�
 ghost use Rattle.std.specs.Io.KnownBytes.{Appends, Consumes};
 ghost use Rattle.v_frame.specs.Prelude.{isize_max, KeepsBorders, tables_of};
 ghost use Rattle.v_frame_planar.specs.Planar.{planar_bytes, sizes_of};
+ghost use Rattle.v_frame_y4m.specs.Ascii.{line_feed};
 ghost use Rattle.v_frame_y4m.specs.Header.{header_line, IsWritable};
 ghost use Rattle.v_frame_y4m.specs.Streams.{IsFrameLine, MayStopInBytes, MayStopInFrame, MayStopInHeader, MayStopWritingFrame, MayStopWritingHeader, ReadsFrame, ReadsHeader, TellsStreamCause};
 
@@ -15,14 +16,13 @@ use std::alloc::Global;
 use std::io;
 use v_frame::frame::Frame;
 use v_frame::pixel::Pixel;
-use v_frame::plane::Plane;
-use v_frame_planar::{Counted, PlanarError};
+use v_frame_planar::{Counted, PlanarError, planar_len};
 
 /// How many bytes a line may have, without its line feed.
-const LONGEST: usize = 1024;
+const MAX_LINE_BYTES: usize = 1024;
 
-/// Reads the header line of a stream. Nothing behind its line feed is read: bytes are asked for one by one, so put a
-/// `BufReader` into the [`Counted`]. Our own.
+/// Reads the header line of a stream. Nothing after its line feed is read: bytes are asked for one by one, so put a
+/// `BufReader` into the [`Counted`].
 ///
 /// # Errors
 ///
@@ -40,14 +40,14 @@ pub fn read_header<R: io::Read>(
     ensures cause { MatchResult result (λ _. reader.new.last_failure ≡ reader.old.last_failure)
         (TellsStreamCause reader.old.last_failure reader.new.last_failure) }
 {
-    let mut line = [0; LONGEST];
+    let mut line = [0; MAX_LINE_BYTES];
     let Some(length) = read_line(reader, &mut line)? else {
         return Err(Y4mError::UnfinishedLine);
     };
     Ok(parse_header(alloc, &line[..length])?)
 }
 
-/// Writes the line of a header, with its line feed. Our own.
+/// Writes the line of a header, with its line feed.
 ///
 /// The parameters stand in ffmpeg's order: W, H, F, I, A, C and each X. So a header that was read from a line in this order
 /// is written as the same bytes. [`StreamHeader::is_writable`] is the test of what this asks.
@@ -64,10 +64,10 @@ pub fn write_header<W: io::Write>(
 ) -> Result<(), Y4mError>
     requires { IsWritable header.now }
     ensures ok { OnOk result (Appends (W.contents writer.old.inner)
-        (W.contents writer.new.inner) (header_line header.now ++ 10 ∷ [])) }
+        (W.contents writer.new.inner) (header_line header.now ++ line_feed ∷ [])) }
     ensures uncounted { OnOk result (writer.new.failures ≡ writer.old.failures) }
     ensures error { IfErr result (MayStopWritingHeader W.contents writer.old writer.new
-        (header_line header.now ++ 10 ∷ [])) }
+        (header_line header.now ++ line_feed ∷ [])) }
     ensures cause { MatchResult result (λ _. writer.new.last_failure ≡ writer.old.last_failure)
         (TellsStreamCause writer.old.last_failure writer.new.last_failure) }
 {
@@ -76,17 +76,17 @@ pub fn write_header<W: io::Write>(
     Ok(())
 }
 
-/// Reads a frame, the line `FRAME` and the planar bytes behind it, and shows it. `false` where the reader stood at its end
+/// Reads a frame, the line `FRAME` and the planar bytes after it, and shows it. `false` where the reader stood at its end
 /// before the first byte of the line.
 ///
-/// The sizes of the frame tell how many bytes it has; [`StreamHeader::frame`] gives one of the right sizes. Nothing behind
-/// the frame is read, and its border stays. Parameters behind `FRAME` are passed over. Our own.
+/// The sizes of the frame say how many bytes it has; [`StreamHeader::frame`] gives one of the right sizes. Nothing after
+/// the frame is read, and its border stays. Parameters after `FRAME` are passed over.
 ///
 /// # Errors
 ///
 /// [`Y4mError::NoFrame`] where another line stands in its place, [`Y4mError::LineTooLong`] and [`Y4mError::UnfinishedLine`]
 /// for that line, and the errors of [`v_frame_planar::read_frame`], with
-/// `Truncated` also where no byte stands behind the line. After each of them the frame is as it was.
+/// `Truncated` also where no byte stands after the line. After each of them the frame is as it was.
 pub fn read_frame<T: Pixel, R: io::Read>(
     alloc: Global,
     reader: &mut Counted<R>,
@@ -121,7 +121,7 @@ fn read_frame_line<R: io::Read>(reader: &mut Counted<R>) -> Result<bool, Y4mErro
     ensures cause { MatchResult result (λ _. reader.new.last_failure ≡ reader.old.last_failure)
         (TellsStreamCause reader.old.last_failure reader.new.last_failure) }
 {
-    let mut line = [0; LONGEST];
+    let mut line = [0; MAX_LINE_BYTES];
     match read_line(reader, &mut line)? {
         Some(length) if is_frame_line(&line[..length]) => Ok(true),
         Some(_) => Err(Y4mError::NoFrame),
@@ -129,7 +129,7 @@ fn read_frame_line<R: io::Read>(reader: &mut Counted<R>) -> Result<bool, Y4mErro
     }
 }
 
-/// Whether this is a line in front of a frame.
+/// Returns whether this is a line in front of a frame.
 fn is_frame_line(line: &[u8]) -> bool
     ensures { IsTrue result ↔ IsFrameLine line.now }
 {
@@ -162,22 +162,19 @@ fn read_planar<T: Pixel, R: io::Read>(
     Err(nothing_found(frame))
 }
 
-/// The error where the reader stands at its end behind the line of a frame.
+/// Returns the error where the reader stands at its end after the line of a frame.
 fn nothing_found<T: Pixel>(frame: &Frame<T>) -> Y4mError
     requires { length (planar_bytes T.form (tables_of frame.now)) ≤ isize_max }
     ensures { result ≡ Y4mError.Planar
         (PlanarError.Truncated (length (planar_bytes T.form (tables_of frame.now))) 0) }
 {
-    let y = frame.y_plane.byte_len();
-    let u = frame.u_plane.as_ref().map_or(0, Plane::byte_len);
-    let v = frame.v_plane.as_ref().map_or(0, Plane::byte_len);
     Y4mError::Planar(PlanarError::Truncated {
-        expected: y + u + v,
+        expected: planar_len(frame),
         found: 0,
     })
 }
 
-/// Writes a frame: the line `FRAME`, and the planar bytes. Our own.
+/// Writes a frame: the line `FRAME`, and the planar bytes.
 ///
 /// # Errors
 ///
@@ -189,10 +186,10 @@ pub fn write_frame<T: Pixel, W: io::Write>(
     frame: &Frame<T>,
 ) -> Result<(), Y4mError>
     ensures ok { OnOk result (Appends (W.contents writer.old.inner)
-        (W.contents writer.new.inner) (codes "FRAME" ++ 10 ∷ planar_bytes T.form (tables_of frame.now))) }
+        (W.contents writer.new.inner) (codes "FRAME" ++ line_feed ∷ planar_bytes T.form (tables_of frame.now))) }
     ensures uncounted { OnOk result (writer.new.failures ≡ writer.old.failures) }
     ensures error { IfErr result (MayStopWritingFrame W.contents writer.old writer.new
-        (codes "FRAME" ++ 10 ∷ planar_bytes T.form (tables_of frame.now))) }
+        (codes "FRAME" ++ line_feed ∷ planar_bytes T.form (tables_of frame.now))) }
     ensures cause { MatchResult result (λ _. writer.new.last_failure ≡ writer.old.last_failure)
         (TellsStreamCause writer.old.last_failure writer.new.last_failure) }
 {

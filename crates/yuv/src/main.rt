@@ -1,17 +1,17 @@
-//! The program `yuv`: it tells what a stream of frames is, compares two, and copies one.
+//! The program `yuv`: it says what a stream of frames is, compares two, and copies one.
 #![tactic(auto)]
 
 use std::fs::{self, File};
 use std::io::ErrorKind;
 use std::process::ExitCode;
 use std::{env, io};
-use yuv_commands::{Status, Streams, WrongCall, refuse, run};
+use yuv_commands::{Status, Streams, UsageError, refuse, run};
 
 fn main(rt: HostRuntime) -> ExitCode {
     let status = match run_with_arguments(&rt) {
         Ok(status) => status,
         Err(error) if error.kind() == ErrorKind::InvalidData => {
-            refuse(&WrongCall::NotUnicode, &mut rt.stderr())
+            refuse(&UsageError::NotUnicode, &mut rt.stderr())
         }
         Err(error) => {
             let _ = eprintln!(rt; "yuv: {error}");

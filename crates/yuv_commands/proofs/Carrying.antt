@@ -1,5 +1,6 @@
 -- One more frame of a stream, and the end of it.
-use Rattle.std.proofs.Common.{ℕ, ◌≡◌, ◌+◌, List, [], ◌∷◌, ◌++◌, flat_map, Option, refl, sym, ◌∙◌, ap, subst, arith, append-nil, length-append}
+use Rattle.std.proofs.Common.{ℕ, ◌≡◌, ◌+◌, List, [], ◌∷◌, ◌++◌, flat_map, Option, refl, sym, ◌∙◌, ap, subst, arith}
+use Rattle.std.proofs.Common.{append-nil, length-append}
 use Rattle.std.proofs.lemmas.List.Elements.{All-push}
 use Rattle.std.proofs.lemmas.Grind.{flat_map-append}
 use Rattle.std.specs.Io.KnownBytes.{Appends, Consumes}
@@ -29,9 +30,12 @@ module _ {T : Type 0} (form : PixelForm T) (size : Sizes) (from to : Container) 
     written = Appends-nil has;
   }
 
-  module _ (left mid left' has now has' : Option (List ℕ)) (count : ℕ) (before : Carries form size from to change left mid has now count) where
-    joined : (bytes : Shown → List ℕ) (frame : Shown) → flat_map bytes before.shown ++ bytes frame ≡ flat_map bytes (before.shown ++ frame ∷ [])
-    joined bytes frame = sym (flat_map-append bytes before.shown (frame ∷ []) ∙ ap (λ b. flat_map bytes before.shown ++ b) (append-nil (bytes frame)))
+  module _ (left mid left' has now has' : Option (List ℕ)) (count : ℕ)
+      (before : Carries form size from to change left mid has now count) where
+    joined : (bytes : Shown → List ℕ) (frame : Shown) → flat_map bytes before.shown ++ bytes frame ≡ flat_map bytes
+        (before.shown ++ frame ∷ [])
+    joined bytes frame = sym (flat_map-append bytes before.shown (frame ∷ []) ∙ ap
+        (λ b. flat_map bytes before.shown ++ b) (append-nil (bytes frame)))
 
     pub one_more_frame : (line : List ℕ) (tables : Tables T) → HasLine from line → sizes_of tables ≡ size
         → Consumes mid left' (bytes_with form from line tables) → Appends now has' (frame_bytes form to (change tables))
@@ -57,14 +61,16 @@ module _ {T : Type 0} (form : PixelForm T) (size : Sizes) (from to : Container) 
       counted = before.counted;
       lines = before.lines;
       sized = before.sized;
-      read = subst (Consumes left left') (append-nil (flat_map (λ (f : Shown). bytes_with form from f.0 f.1) before.shown))
+      read = subst (Consumes left left') (append-nil
+          (flat_map (λ (f : Shown). bytes_with form from f.0 f.1) before.shown))
           (Consumes-trans left mid left' _ [] before.read read);
       written = before.written;
     }
 
     -- it was not written: a beginning of its bytes was
     pub stops_writing : (tables : Tables T) (error : CopyFault) → IsWriteFault count error
-        → AppendsBeginning now has' (frame_bytes form to (change tables)) → StopsCopy form size from to change left has has' error
+        → AppendsBeginning now has' (frame_bytes form to (change tables)) → StopsCopy form size from to change left has
+        has' error
     stops_writing tables (Input fault) behind begins = absurd behind
     stops_writing tables (Output fault) behind begins = (
       mid,

@@ -1,5 +1,6 @@
 -- Two streams, compared as far as both go.
-use Rattle.std.specs.Prelude.{ℕ, ◌≡◌, ◌-◌, ◌^◌, ◌⊎◌, All, Bool, true, false, List, ◌∷◌, ◌++◌, flat_map, fold, length, map, Option, Some, None, option_map}
+use Rattle.std.specs.Prelude.{ℕ, ◌≡◌, ◌-◌, ◌^◌, ◌⊎◌, All, Bool, true, false, List, ◌∷◌, ◌++◌, flat_map, fold, length}
+use Rattle.std.specs.Prelude.{map, Option, Some, None, option_map}
 use Rattle.std.specs.Io.KnownBytes.{Consumes}
 use Rattle.v_frame.specs.Prelude.{PixelForm, Tables}
 use Rattle.v_frame_planar.specs.Planar.{sizes_of}
@@ -44,8 +45,8 @@ module _ {T : Type 0} (form : PixelForm T) where
   abbrev pub errors_of_all : Sizes → List (Pair T) → PlaneSums
   errors_of_all size pairs = fold (λ sums pair. added sums (errors_between pair)) (no_errors size) pairs
 
-  -- the frames in front of one pair show the same, as many as told, and this pair differs first so
-  pub record DiffersBehind (pairs : List (Pair T)) (before : ℕ) (found : PixelDifference) : Type 0 where
+  -- the frames in front of one pair show the same, as many as reported, and this pair differs first so
+  pub record DiffersAfter (pairs : List (Pair T)) (before : ℕ) (found : PixelDifference) : Type 0 where
     pub earlier : List (Pair T)
     pub pair : Pair T
     pub later : List (Pair T)
@@ -57,7 +58,7 @@ module _ {T : Type 0} (form : PixelForm T) where
   -- the first pixel that differs with the number of frames before its own; all show the same where there is none
   abbrev pub IsDifference : List (Pair T) → Option (ℕ × PixelDifference) → Type 0
   IsDifference pairs None = All (λ pair. pair.0 ≡ pair.1) pairs
-  IsDifference pairs (Some found) = DiffersBehind pairs found.0 found.1
+  IsDifference pairs (Some found) = DiffersAfter pairs found.0 found.1
 
   module _ (one other : Container) (left left' right right' : Option (List ℕ)) where
     -- what a step of both streams read, where their frames now show these
@@ -78,7 +79,7 @@ module _ {T : Type 0} (form : PixelForm T) where
       pub first : ReadsFrames form size one left left' (map (λ pair. pair.0) pairs)
       pub second : ReadsFrames form size other right right' (map (λ pair. pair.1) pairs)
 
-  -- The streams were compared as far as both go: behind the frames that both have one of them was
+  -- The streams were compared as far as both go: after the frames that both have one of them was
   -- at its end, or both were, and the longer one has had one more frame read. Or there were more
   -- frames than are counted.
   pub record Compares (one other : Container) (left left' right right' : Option (List ℕ))

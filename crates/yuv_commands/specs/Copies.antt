@@ -8,7 +8,7 @@ use Rattle.yuv_commands.specs.declared.stream.Container.{Container}
 use Rattle.yuv_commands.specs.declared.copy.CopyFault.{CopyFault}
 use Rattle.yuv_commands.specs.declared.copy.CopyFault.TheVariants.{Input, Output}
 
--- a frame was not read, or not written, behind so many
+-- a frame was not read, or not written, after so many
 abbrev pub IsReadFault : ℕ → CopyFault → Type 0
 IsReadFault before (Input fault) = fault.before ≡ before
 IsReadFault before (Output fault) = ⊥

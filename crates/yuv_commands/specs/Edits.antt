@@ -1,5 +1,6 @@
 -- Frames of which a rectangle is taken, as large as it is or at half the size.
-use Rattle.std.specs.Prelude.{ℕ, ◌≡◌, ◌+◌, ◌*◌, ◌/◌, ◌≤◌, if◌then◌else◌, ⊤, Bool, [], ◌∷◌, Option, Some, None, option_map}
+use Rattle.std.specs.Prelude.{ℕ, ◌≡◌, ◌+◌, ◌*◌, ◌/◌, ◌≤◌, if◌then◌else◌, ⊤, Bool, [], ◌∷◌, Option, Some, None}
+use Rattle.std.specs.Prelude.{option_map}
 use Rattle.std.specs.Int.{div_ceil}
 use Rattle.v_frame.specs.Prelude.{PixelForm, Table, Tables, halved, rectangle}
 use Rattle.yuv_commands.specs.declared.edit.Rectangle.{Rectangle}

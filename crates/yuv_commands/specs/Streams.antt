@@ -1,8 +1,10 @@
 -- Streams of frames that are read, changed and written.
-use Rattle.std.specs.Prelude.{ℕ, ◌≡◌, ◌-◌, ◌^◌, Bool, true, false, All, List, [], ◌∷◌, ◌++◌, codes, length, flat_map, map, Option}
+use Rattle.std.specs.Prelude.{ℕ, ◌≡◌, ◌-◌, ◌^◌, Bool, true, false, All, List, [], ◌∷◌, ◌++◌, codes, length, flat_map}
+use Rattle.std.specs.Prelude.{map, Option}
 use Rattle.std.specs.Io.KnownBytes.{Appends, Consumes, IsAtEnd}
 use Rattle.v_frame.specs.Prelude.{PixelForm, Tables}
 use Rattle.v_frame_planar.specs.Planar.{planar_bytes, sizes_of}
+use Rattle.v_frame_y4m.specs.Ascii.{line_feed}
 use Rattle.v_frame_y4m.specs.Header.{header_line}
 use Rattle.v_frame_y4m.specs.Streams.{IsFrameLine, IsLine}
 use Rattle.v_frame_y4m.specs.declared.header.StreamHeader.{StreamHeader}
@@ -12,7 +14,7 @@ use Rattle.yuv_commands.specs.declared.stream.Container.TheVariants.{Y4m, Raw}
 
 -- the bytes of a header that is written
 abbrev pub header_bytes : Container → StreamHeader → List ℕ
-header_bytes Y4m header = header_line header ++ 10 ∷ []
+header_bytes Y4m header = header_line header ++ line_feed ∷ []
 header_bytes Raw header = []
 
 -- a line may stand in front of a frame; without lines it is empty
@@ -27,7 +29,7 @@ most_frames = 2 ^ 64 - 1
 module _ {T : Type 0} (form : PixelForm T) where
   -- the bytes of a frame with its line, if it has one
   abbrev pub bytes_with : Container → List ℕ → Tables T → List ℕ
-  bytes_with Y4m line tables = line ++ 10 ∷ planar_bytes form tables
+  bytes_with Y4m line tables = line ++ line_feed ∷ planar_bytes form tables
   bytes_with Raw line tables = planar_bytes form tables
 
   -- the bytes of a frame that is written
@@ -46,7 +48,7 @@ module _ {T : Type 0} (form : PixelForm T) where
   pub record ReadsFrames (size : Sizes) (from : Container) (left left' : Option (List ℕ))
       (tables : List (Tables T)) : Type 0 where
     pub shown : List (List ℕ × Tables T)
-    pub behind_lines : map (λ frame. frame.1) shown ≡ tables
+    pub after_lines : map (λ frame. frame.1) shown ≡ tables
     pub lines : All (λ frame. HasLine from frame.0) shown
     pub sized : All (λ frame. sizes_of frame.1 ≡ size) shown
     pub read : Consumes left left' (flat_map (λ frame. bytes_with from frame.0 frame.1) shown)
@@ -58,7 +60,7 @@ module _ {T : Type 0} (form : PixelForm T) where
     pub counted : length tables ≡ count
     pub frames : ReadsFrames size from left left' tables
 
-  -- Frames of this size were read, as many as told, and what each shows was written changed. The
+  -- Frames of this size were read, as many as reported, and what each shows was written changed. The
   -- bytes are those that a reader had left and that a writer has, before and after.
   pub record Carries (size : Sizes) (from to : Container) (change : Tables T → Tables T)
       (left left' has has' : Option (List ℕ)) (count : ℕ) : Type 0 where

@@ -3,35 +3,35 @@
 use crate::edit::Rectangle;
 use std::fmt;
 
-/// A file that is read, or written, by its name. `-` is standard input or output. Our own.
+/// A file that is read, or written, by its name. `-` is standard input or output.
 #[derive(Clone, Copy)]
-pub struct Named<'a> {
+pub struct InputFile<'a> {
     /// The name of the file.
     pub name: &'a str,
     /// The size and the format where the file is headerless raw video, as `1920x1080:420p10`.
     pub raw: Option<&'a str>,
 }
 
-/// What the program is asked to do. Our own.
+/// What the program is asked to do.
 #[derive(Drop)]
 pub enum Command<'a> {
-    /// To tell how it is called.
+    /// To say how it is called.
     Help,
-    /// To tell its version.
+    /// To say its version.
     Version,
-    /// To tell the format of a stream and how many frames it has.
+    /// To say the format of a stream and how many frames it has.
     Info {
         /// The stream.
-        file: Named<'a>,
+        file: InputFile<'a>,
         /// Whether the count of frames is shown meanwhile.
         progress: bool,
     },
-    /// To tell how far two streams are apart.
+    /// To say how far two streams are apart.
     Compare {
         /// The first stream.
-        first: Named<'a>,
+        first: InputFile<'a>,
         /// The second stream.
-        second: Named<'a>,
+        second: InputFile<'a>,
         /// Whether each frame gets a line.
         frames: bool,
         /// Whether the count of frames is shown meanwhile.
@@ -40,18 +40,18 @@ pub enum Command<'a> {
     /// To write a stream once more.
     Copy {
         /// The stream that is read.
-        input: Named<'a>,
+        input: InputFile<'a>,
         /// The name of the file that is written.
         output: &'a str,
         /// How it is written.
-        wanted: Wanted,
+        options: CopyOptions,
         /// Whether the count of frames is shown meanwhile.
         progress: bool,
     },
 }
 
 impl<'a> Command<'a> {
-    /// Whether the count of frames is shown meanwhile.
+    /// Returns whether the count of frames is shown meanwhile.
     pub fn shows_progress(&self) -> bool {
         match self {
             Command::Help | Command::Version => false,
@@ -62,9 +62,9 @@ impl<'a> Command<'a> {
     }
 }
 
-/// How a stream is written once more. Our own.
+/// How a stream is written once more.
 #[derive(Drop)]
-pub struct Wanted {
+pub struct CopyOptions {
     /// The rectangle that is taken of each frame, in luma pixels, where not all of it is.
     pub crop: Option<Rectangle>,
     /// Whether the frames get half the size.
@@ -73,9 +73,9 @@ pub struct Wanted {
     pub raw: bool,
 }
 
-/// Why the arguments ask for nothing. Our own.
+/// Why the arguments ask for nothing.
 #[derive(Drop)]
-pub enum WrongCall<'a> {
+pub enum UsageError<'a> {
     /// There are no arguments.
     NoCommand,
     /// The first argument is no command.
@@ -98,26 +98,26 @@ pub enum WrongCall<'a> {
     NotUnicode,
 }
 
-impl<'a> WrongCall<'a> {
-    /// The message, in two parts.
+impl<'a> UsageError<'a> {
+    /// Returns the message, in two parts.
     fn parts(&self) -> (&'a str, &'a str) {
         match self {
-            WrongCall::NoCommand => ("no command is given", ""),
-            WrongCall::UnknownCommand(name) => ("unknown command ", *name),
-            WrongCall::UnknownOption(option) => ("unknown option ", *option),
-            WrongCall::NoOptionHere(option) => (*option, " is no option of this command"),
-            WrongCall::MissingFile => ("a file is missing", ""),
-            WrongCall::ExtraFile(name) => ("one file too many: ", *name),
-            WrongCall::MissingRectangle => ("--crop lacks X,Y,W,H", ""),
-            WrongCall::NotARectangle(word) => ("--crop takes X,Y,W,H, not ", *word),
-            WrongCall::UnusedFormat(format) => ("no file to read follows --raw ", *format),
-            WrongCall::NotUnicode => ("an argument is not UTF-8", ""),
+            UsageError::NoCommand => ("no command is given", ""),
+            UsageError::UnknownCommand(name) => ("unknown command ", *name),
+            UsageError::UnknownOption(option) => ("unknown option ", *option),
+            UsageError::NoOptionHere(option) => (*option, " is no option of this command"),
+            UsageError::MissingFile => ("a file is missing", ""),
+            UsageError::ExtraFile(name) => ("one file too many: ", *name),
+            UsageError::MissingRectangle => ("--crop lacks X,Y,W,H", ""),
+            UsageError::NotARectangle(word) => ("--crop takes X,Y,W,H, not ", *word),
+            UsageError::UnusedFormat(format) => ("no file to read follows --raw ", *format),
+            UsageError::NotUnicode => ("an argument is not UTF-8", ""),
         }
     }
 }
 
 // By hand: what is derived of so many variants takes longer to prove.
-impl fmt::Display for WrongCall<'_> {
+impl fmt::Display for UsageError<'_> {
     fn fmt<W: fmt::Write>(&self, f: &mut fmt::Formatter<W>) -> fmt::Result {
         let (begin, end) = self.parts();
         write!(f, "{begin}{end}")
@@ -132,16 +132,14 @@ enum Kind {
     Copy,
 }
 
-/// Reads the arguments behind the program's own name.
-///
-/// Our own.
+/// Reads the arguments after the program's own name.
 ///
 /// # Errors
 ///
-/// The first of [`WrongCall`] that is met, from the left.
-pub fn read_command<'a>(words: &[&'a str]) -> Result<Command<'a>, WrongCall<'a>> {
+/// The first of [`UsageError`] that is met, from the left.
+pub fn read_command<'a>(words: &[&'a str]) -> Result<Command<'a>, UsageError<'a>> {
     let Some((name, rest)) = words.split_first() else {
-        return Err(WrongCall::NoCommand);
+        return Err(UsageError::NoCommand);
     };
     let kind = match *name {
         "help" | "--help" | "-h" => return Ok(Command::Help),
@@ -149,13 +147,13 @@ pub fn read_command<'a>(words: &[&'a str]) -> Result<Command<'a>, WrongCall<'a>>
         "info" => Kind::Info,
         "compare" => Kind::Compare,
         "copy" => Kind::Copy,
-        other => return Err(WrongCall::UnknownCommand(other)),
+        other => return Err(UsageError::UnknownCommand(other)),
     };
     read_options(kind, rest)
 }
 
 /// Reads the files and the options of a command that has some.
-fn read_options<'a>(kind: Kind, words: &[&'a str]) -> Result<Command<'a>, WrongCall<'a>> {
+fn read_options<'a>(kind: Kind, words: &[&'a str]) -> Result<Command<'a>, UsageError<'a>> {
     let mut options = Options {
         first: None,
         second: None,
@@ -165,26 +163,26 @@ fn read_options<'a>(kind: Kind, words: &[&'a str]) -> Result<Command<'a>, WrongC
         raw: false,
         frames: false,
         progress: false,
-        awaited: Awaited::Any,
+        expected: Expected::Any,
     };
     for word in words {
         options.take(*word)?;
     }
-    match options.awaited {
-        Awaited::Rectangle => return Err(WrongCall::MissingRectangle),
-        Awaited::Format => options.raw = true,
-        Awaited::Any => {}
+    match options.expected {
+        Expected::Rectangle => return Err(UsageError::MissingRectangle),
+        Expected::Format => options.raw = true,
+        Expected::Any => {}
     }
     match (options.format, options.misplaced(kind)) {
-        (Some(format), _) => Err(WrongCall::UnusedFormat(format)),
-        (None, Some(option)) => Err(WrongCall::NoOptionHere(option)),
+        (Some(format), _) => Err(UsageError::UnusedFormat(format)),
+        (None, Some(option)) => Err(UsageError::NoOptionHere(option)),
         (None, None) => options.command(kind),
     }
 }
 
 /// What the next argument has to be.
 #[derive(Clone, Copy)]
-enum Awaited {
+enum Expected {
     /// A file or an option.
     Any,
     /// The rectangle of `--crop`.
@@ -196,36 +194,36 @@ enum Awaited {
 /// The files and the options so far.
 #[derive(Clone, Copy)]
 struct Options<'a> {
-    first: Option<Named<'a>>,
-    second: Option<Named<'a>>,
+    first: Option<InputFile<'a>>,
+    second: Option<InputFile<'a>>,
     format: Option<&'a str>,
     crop: Option<Rectangle>,
     half: bool,
     raw: bool,
     frames: bool,
     progress: bool,
-    awaited: Awaited,
+    expected: Expected,
 }
 
 impl<'a> Options<'a> {
     /// Takes one more argument.
-    fn take(&mut self, word: &'a str) -> Result<(), WrongCall<'a>> {
-        let awaited = self.awaited;
-        self.awaited = Awaited::Any;
-        match awaited {
-            Awaited::Any => self.take_any(word),
-            Awaited::Rectangle => {
+    fn take(&mut self, word: &'a str) -> Result<(), UsageError<'a>> {
+        let expected = self.expected;
+        self.expected = Expected::Any;
+        match expected {
+            Expected::Any => self.take_any(word),
+            Expected::Rectangle => {
                 self.crop = rectangle_of(word);
                 match self.crop {
                     Some(_) => Ok(()),
-                    None => Err(WrongCall::NotARectangle(word)),
+                    None => Err(UsageError::NotARectangle(word)),
                 }
             }
-            Awaited::Format if word.contains(':') => {
+            Expected::Format if word.contains(':') => {
                 self.format = Some(word);
                 Ok(())
             }
-            Awaited::Format => {
+            Expected::Format => {
                 self.raw = true;
                 self.take_any(word)
             }
@@ -233,33 +231,33 @@ impl<'a> Options<'a> {
     }
 
     /// Takes a file or an option.
-    fn take_any(&mut self, word: &'a str) -> Result<(), WrongCall<'a>> {
+    fn take_any(&mut self, word: &'a str) -> Result<(), UsageError<'a>> {
         match word {
-            "--crop" => self.awaited = Awaited::Rectangle,
-            "--raw" => self.awaited = Awaited::Format,
+            "--crop" => self.expected = Expected::Rectangle,
+            "--raw" => self.expected = Expected::Format,
             "--half" => self.half = true,
             "--frames" => self.frames = true,
             "--progress" => self.progress = true,
-            option if option.starts_with("--") => return Err(WrongCall::UnknownOption(option)),
+            option if option.starts_with("--") => return Err(UsageError::UnknownOption(option)),
             name => return self.take_file(name),
         }
         Ok(())
     }
 
     /// Takes one more file.
-    fn take_file(&mut self, name: &'a str) -> Result<(), WrongCall<'a>> {
+    fn take_file(&mut self, name: &'a str) -> Result<(), UsageError<'a>> {
         let raw = self.format;
         self.format = None;
-        let file = Some(Named { name, raw });
+        let file = Some(InputFile { name, raw });
         match (self.first, self.second) {
             (None, _) => self.first = file,
             (_, None) => self.second = file,
-            _ => return Err(WrongCall::ExtraFile(name)),
+            _ => return Err(UsageError::ExtraFile(name)),
         }
         Ok(())
     }
 
-    /// The first option that a command doesn't have.
+    /// Returns the first option that a command doesn't have.
     fn misplaced(&self, kind: Kind) -> Option<&'static str> {
         match kind {
             Kind::Copy if self.frames => Some("--frames"),
@@ -272,12 +270,12 @@ impl<'a> Options<'a> {
         }
     }
 
-    /// The command, where no file is missing.
-    fn command(&self, kind: Kind) -> Result<Command<'a>, WrongCall<'a>> {
+    /// Returns the command, where no file is missing.
+    fn command(&self, kind: Kind) -> Result<Command<'a>, UsageError<'a>> {
         let progress = self.progress;
         match (kind, self.first, self.second) {
             (Kind::Info, Some(file), None) => Ok(Command::Info { file, progress }),
-            (Kind::Info, Some(_), Some(extra)) => Err(WrongCall::ExtraFile(extra.name)),
+            (Kind::Info, Some(_), Some(extra)) => Err(UsageError::ExtraFile(extra.name)),
             (Kind::Compare, Some(first), Some(second)) => Ok(Command::Compare {
                 first,
                 second,
@@ -285,11 +283,11 @@ impl<'a> Options<'a> {
                 progress,
             }),
             (Kind::Copy, Some(input), Some(output)) => match output.raw {
-                Some(format) => Err(WrongCall::UnusedFormat(format)),
+                Some(format) => Err(UsageError::UnusedFormat(format)),
                 None => Ok(Command::Copy {
                     input,
                     output: output.name,
-                    wanted: Wanted {
+                    options: CopyOptions {
                         crop: self.crop,
                         half: self.half,
                         raw: self.raw,
@@ -297,12 +295,12 @@ impl<'a> Options<'a> {
                     progress,
                 }),
             },
-            _ => Err(WrongCall::MissingFile),
+            _ => Err(UsageError::MissingFile),
         }
     }
 }
 
-/// The rectangle that is told as `X,Y,W,H`, of at least one pixel.
+/// Returns the rectangle that is reported as `X,Y,W,H`, of at least one pixel.
 fn rectangle_of(text: &str) -> Option<Rectangle> {
     let mut numbers = [0; 4];
     let mut pieces = text.split(',');
@@ -321,7 +319,7 @@ fn rectangle_of(text: &str) -> Option<Rectangle> {
     })
 }
 
-/// The number of these decimal digits, where they are there.
+/// Returns the number of these decimal digits, where they are there.
 fn number(digits: Option<&str>) -> Option<usize> {
     match digits {
         // `parse` takes a sign as well.

@@ -4,7 +4,7 @@ mod compare;
 mod copy;
 mod info;
 
-use crate::arguments::Named;
+use crate::arguments::InputFile;
 use crate::fault::Problem;
 use crate::header::header_of;
 use crate::source::{Source, open_source};
@@ -27,7 +27,7 @@ pub struct Opened<R> {
 }
 
 impl<R> Opened<R> {
-    /// The bits of a pixel.
+    /// Returns the bits of a pixel.
     fn bit_depth(&self) -> u8 {
         self.header.colour.bit_depth()
     }
@@ -36,7 +36,7 @@ impl<R> Opened<R> {
 /// Opens a stream and learns its header.
 fn open<H: Files + AllocGlobal, I: io::Read + Drop>(
     rt: &H,
-    file: &Named<'_>,
+    file: &InputFile<'_>,
     standard: &mut Option<I>,
 ) -> Result<Opened<Source<H::File, I>>, Problem> {
     match open_source(rt, file.name, standard) {

@@ -19,7 +19,7 @@ use v_frame::frame::Frame;
 use v_frame::pixel::Pixel;
 use v_frame::plane::Plane;
 
-/// One of two streams. Our own.
+/// One of two streams.
 #[derive(Clone, Copy)]
 pub enum Side {
     /// The first one.
@@ -28,7 +28,7 @@ pub enum Side {
     Second,
 }
 
-/// How far two streams are apart. Our own.
+/// How far two streams are apart.
 #[derive(Clone, Copy)]
 pub struct Comparison {
     /// How many frames both have.
@@ -63,7 +63,7 @@ impl Comparison {
         }
     }
 
-    /// Whether the streams show the same.
+    /// Returns whether the streams show the same.
     pub fn shows_the_same(&self) -> bool
         ensures { IsTrue result ↔ (IsNone self.now.difference × IsNone self.now.longer) }
     {
@@ -119,8 +119,6 @@ enum Step {
 
 /// Compares two streams as far as both go. With `lines` each two frames get a line.
 ///
-/// Our own.
-///
 /// # Errors
 ///
 /// A [`Fault`] with the stream of which a frame was not read, or where a line was not written.
@@ -139,12 +137,12 @@ pub fn compare_streams<T: Pixel, R: io::Read, S: io::Read, W: io::Write, E: io::
 {
     let mut found = Comparison::new(&first.frame);
     for before in 0..u64::MAX {
-        match advance_both(alloc, first, second, before)? {
+        match read_both(alloc, first, second, before)? {
             Step::Frames => {}
             Step::End(longer) => return Ok(Comparison { longer, ..found }),
         }
         let errors = squared_errors_of_frames(&first.frame, &second.frame);
-        lines.tell(alloc, before, &errors)?;
+        lines.write_line(alloc, before, &errors)?;
         found = found.with_frames(&first.frame, &second.frame, &errors);
         progress.show(before + 1);
     }
@@ -152,7 +150,7 @@ pub fn compare_streams<T: Pixel, R: io::Read, S: io::Read, W: io::Write, E: io::
 }
 
 /// Reads the next frame of each stream.
-fn advance_both<T: Pixel, R: io::Read, S: io::Read>(
+fn read_both<T: Pixel, R: io::Read, S: io::Read>(
     alloc: Global,
     first: &mut Input<T, R>,
     second: &mut Input<T, S>,
@@ -169,8 +167,8 @@ fn advance_both<T: Pixel, R: io::Read, S: io::Read>(
     ensures first_container { first.new.container ≡ first.old.container }
     ensures second_container { second.new.container ≡ second.old.container }
 {
-    match first.advance(alloc, before) {
-        Ok(one) => match second.advance(alloc, before) {
+    match first.read_frame(alloc, before) {
+        Ok(one) => match second.read_frame(alloc, before) {
             Ok(other) => Ok(match (one, other) {
                 (true, true) => Step::Frames,
                 (true, false) => Step::End(Some(Side::First)),

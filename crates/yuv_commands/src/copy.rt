@@ -16,7 +16,7 @@ use std::io;
 use v_frame::frame::Frame;
 use v_frame::pixel::Pixel;
 
-/// Why a stream was not copied to its end. Our own.
+/// Why a stream was not copied to its end.
 #[derive(Drop)]
 pub enum CopyFault {
     /// The next frame was not read.
@@ -26,8 +26,6 @@ pub enum CopyFault {
 }
 
 /// Copies the frames of one stream to another, and counts them.
-///
-/// Our own.
 ///
 /// # Errors
 ///
@@ -61,8 +59,6 @@ pub fn copy_frames<T: Pixel, R: io::Read, W: io::Write, E: io::Write>(
 }
 
 /// Copies what is made of the frames of one stream to another, and counts them. `made` shows the last that was made.
-///
-/// Our own.
 ///
 /// # Errors
 ///
@@ -99,7 +95,7 @@ pub fn edit_frames<T: Pixel, R: io::Read, W: io::Write, E: io::Write>(
     Ok(u64::MAX)
 }
 
-/// Reads the next frame, behind so many.
+/// Reads the next frame, after so many.
 fn read_next<T: Pixel, R: io::Read>(
     alloc: Global,
     input: &mut Input<T, R>,
@@ -112,13 +108,13 @@ fn read_next<T: Pixel, R: io::Read>(
     ensures sizes { sizes_of (tables_of input.new.frame) ≡ sizes_of (tables_of input.old.frame) }
     ensures container { input.new.container ≡ input.old.container }
 {
-    match input.advance(alloc, before) {
+    match input.read_frame(alloc, before) {
         Ok(is_read) => Ok(is_read),
         Err(fault) => Err(CopyFault::Input(fault)),
     }
 }
 
-/// Writes the next frame, behind so many.
+/// Writes the next frame, after so many.
 fn write_next<T: Pixel, W: io::Write>(
     output: &mut Output<W>,
     frame: &Frame<T>,
@@ -133,7 +129,7 @@ fn write_next<T: Pixel, W: io::Write>(
     ensures fault { IfErr result (IsWriteFault before) }
     ensures container { output.new.container ≡ output.old.container }
 {
-    match output.put(frame, before) {
+    match output.write_frame(frame, before) {
         Ok(()) => Ok(()),
         Err(fault) => Err(CopyFault::Output(fault)),
     }

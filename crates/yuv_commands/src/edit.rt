@@ -1,6 +1,6 @@
 //! Frames made of others: a rectangle of each, as large as it is or at half the size.
 ghost use Rattle.std.specs.Prelude.{◌≡◌, ◌+◌, ◌*◌, ◌%◌, ◌<◌, ◌≤◌, ◌↔◌, IfOk, IfErr, IsTrue, option_map};
-ghost use Rattle.v_frame.specs.Prelude.{KeepsBorder, KeepsBorders, rectangle, table_of, tables_of, unshown};
+ghost use Rattle.v_frame.specs.Prelude.{KeepsBorder, KeepsBorders, rectangle, table_of, tables_of, border_and_geometry};
 ghost use Rattle.v_frame_planar.specs.Planar.{size_of, sizes_of};
 ghost use Rattle.v_frame_planar.specs.Video.{ratio_or_one};
 ghost use Rattle.yuv_commands.specs.Edits.{beside, edited, edited_table, halved_table, ChromaFits, EditFits, PlaneFits};
@@ -14,7 +14,7 @@ use v_frame_ops::laws::{rectangles_hold_pixels, tables_agree_by_pixels};
 use v_frame_ops::{copy_region, downscale};
 use v_frame_planar::ratios_or_one;
 
-/// A rectangle of pixels. Our own.
+/// A rectangle of pixels.
 #[derive(Clone, Copy)]
 pub struct Rectangle {
     /// Its first column, counted from 0.
@@ -28,7 +28,7 @@ pub struct Rectangle {
 }
 
 impl Rectangle {
-    /// Whether it lies in a picture of so many columns and rows. Our own.
+    /// Returns whether it lies in a picture of so many columns and rows.
     pub fn lies_in(&self, width: usize, height: usize) -> bool
         ensures { IsTrue result ↔ ((self.now.x + self.now.width ≤ width)
             × (self.now.y + self.now.height ≤ height)) }
@@ -37,7 +37,7 @@ impl Rectangle {
     }
 }
 
-/// What is made of each plane of a frame. Our own.
+/// What is made of each plane of a frame.
 #[derive(Clone, Copy)]
 pub struct Edit {
     /// What is taken of luma, in its pixels.
@@ -48,7 +48,7 @@ pub struct Edit {
     pub half: bool,
 }
 
-/// Why no [`Edit`] takes this rectangle: it begins inside a chroma pixel. Our own.
+/// Why no [`Edit`] takes this rectangle: it begins inside a chroma pixel.
 #[derive(Debug, Drop, Error)]
 #[error("the crop begins inside a chroma pixel, which is {columns} luma columns wide and {rows} rows high")]
 pub struct Misaligned {
@@ -60,8 +60,6 @@ pub struct Misaligned {
 
 impl Edit {
     /// Takes a rectangle, in luma pixels, of frames of this format, and the chroma that stands beside it.
-    ///
-    /// Our own.
     ///
     /// # Errors
     ///
@@ -97,8 +95,8 @@ impl Edit {
     }
 }
 
-/// Whether what is taken lies in each plane of the source, and the planes of the target have the size of what is made of it.
-/// Our own.
+/// Returns whether what is taken lies in each plane of the source, and the planes of the target have the size of what is
+/// made of it.
 pub fn can_edit<T: Pixel>(edit: &Edit, source: &Frame<T>, target: &Frame<T>) -> bool
     ensures { IsTrue result ↔ EditFits edit.now (sizes_of (tables_of source.now))
         (sizes_of (tables_of target.now)) }
@@ -108,7 +106,7 @@ pub fn can_edit<T: Pixel>(edit: &Edit, source: &Frame<T>, target: &Frame<T>) -> 
         && chroma_fits(edit.half, &edit.chroma, &source.v_plane, &target.v_plane)
 }
 
-/// Whether it does so for these planes.
+/// Returns whether it does so for these planes.
 fn plane_fits<T: Pixel>(half: bool, part: &Rectangle, source: &Plane<T>, target: &Plane<T>) -> bool
     ensures { IsTrue result
         ↔ PlaneFits half part.now (size_of (table_of source.now)) (size_of (table_of target.now)) }
@@ -119,7 +117,7 @@ fn plane_fits<T: Pixel>(half: bool, part: &Rectangle, source: &Plane<T>, target:
         && is_multiple(part.height, scale, target.height())
 }
 
-/// Whether a number is so many times another.
+/// Returns whether a number is so many times another.
 fn is_multiple(number: usize, scale: usize, other: usize) -> bool
     ensures { IsTrue result ↔ (number ≡ scale * other) }
 {
@@ -129,14 +127,14 @@ fn is_multiple(number: usize, scale: usize, other: usize) -> bool
     }
 }
 
-/// Whether so many columns or rows from a first one on are there.
+/// Returns whether so many columns or rows from a first one on are there.
 fn lies_within(first: usize, count: usize, size: usize) -> bool
     ensures { IsTrue result ↔ (first + count ≤ size) }
 {
     first <= size && count <= size - first
 }
 
-/// Whether it does so for these chroma planes, which are both there or both absent.
+/// Returns whether it does so for these chroma planes, which are both there or both absent.
 fn chroma_fits<T: Pixel>(
     half: bool,
     part: &Rectangle,
@@ -154,7 +152,7 @@ fn chroma_fits<T: Pixel>(
     }
 }
 
-/// Shows in `target` what is made of `source`, where [`can_edit`] tells that it fits. The borders stay. Our own.
+/// Shows in `target` what is made of `source`, where [`can_edit`] says that it fits. The borders stay.
 pub fn edit_frame<T: Pixel>(edit: &Edit, source: &Frame<T>, target: &mut Frame<T>)
     requires { EditFits edit.now (sizes_of (tables_of source.now))
         (sizes_of (tables_of target.old)) }
@@ -188,7 +186,7 @@ fn edit_chroma<T: Pixel>(
         (option_map size_of (option_map table_of target.old)) }
     ensures shown { option_map table_of target.new
         ≡ option_map (edited_table T.form half part.now) (option_map table_of source.now) }
-    ensures border { option_map unshown target.new ≡ option_map unshown target.old }
+    ensures border { option_map border_and_geometry target.new ≡ option_map border_and_geometry target.old }
     ensures size { option_map size_of (option_map table_of target.new)
         ≡ option_map size_of (option_map table_of target.old) }
 {
@@ -203,7 +201,7 @@ fn edit_plane<T: Pixel>(half: bool, part: &Rectangle, source: &Plane<T>, target:
         (size_of (table_of target.old)) }
     ensures shown { table_of target.new
         ≡ edited_table T.form half part.now (table_of source.now) }
-    ensures border { unshown target.new ≡ unshown target.old }
+    ensures border { border_and_geometry target.new ≡ border_and_geometry target.old }
     ensures size { size_of (table_of target.new) ≡ size_of (table_of target.old) }
 {
     let _sizes = (
@@ -221,7 +219,7 @@ fn edit_plane<T: Pixel>(half: bool, part: &Rectangle, source: &Plane<T>, target:
     let _sizes = (target.width(), target.height());
 }
 
-/// A rectangle that lies in a plane, and is not empty.
+/// Returns a rectangle that lies in a plane, and is not empty.
 fn part_of<'a, T: Pixel>(plane: &'a Plane<T>, part: &Rectangle) -> PlaneRef<'a, T>
     requires wide { 0 < part.now.width }
     requires high { 0 < part.now.height }
@@ -232,13 +230,9 @@ fn part_of<'a, T: Pixel>(plane: &'a Plane<T>, part: &Rectangle) -> PlaneRef<'a, 
     ensures width { result.geometry.width ≡ part.now.width }
     ensures height { result.geometry.height ≡ part.now.height }
 {
-    match plane
+    plane
         .as_plane_ref()
-        .region(part.x, part.y, part.width, part.height)
-    {
-        Some(region) => region,
-        None => unreachable!(),
-    }
+        .visible_region(part.x, part.y, part.width, part.height)
 }
 
 /// Shows all of one plane in another of the same size.

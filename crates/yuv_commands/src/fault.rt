@@ -7,17 +7,17 @@ use v_frame::frame::FrameError;
 use v_frame_planar::{Counted, PlanarError};
 use v_frame_y4m::{HeaderError, Y4mError};
 
-/// An error, and what the system told where a read or a write failed. Our own.
+/// An error, and what the system reported where a read or a write failed.
 #[derive(Drop)]
 pub struct Caused<E> {
     /// The error.
     pub error: E,
-    /// What the system told.
+    /// What the system reported.
     pub cause: Option<io::ErrorKind>,
 }
 
 impl<E> Caused<E> {
-    /// An error at a reader or a writer.
+    /// Returns an error at a reader or a writer.
     pub fn at<D>(error: E, stream: &Counted<D>) -> Self {
         Caused {
             error,
@@ -36,18 +36,18 @@ impl<E: fmt::Display> fmt::Display for Caused<E> {
     }
 }
 
-/// What a command works on. Our own.
+/// What a command works on.
 #[derive(Clone, Copy)]
 pub enum Place {
     /// The first file that it names.
     First,
     /// The second file that it names.
     Second,
-    /// What is told on standard output.
+    /// What is reported on standard output.
     Report,
 }
 
-/// Why a command gave up, and where. Our own.
+/// Why a command gave up, and where.
 #[derive(Drop)]
 pub struct Fault {
     /// What it was working on.
@@ -73,7 +73,7 @@ impl Fault {
         }
     }
 
-    /// This problem with what is told.
+    /// This problem with what is reported.
     pub fn report(problem: Problem) -> Self {
         Fault {
             place: Place::Report,
@@ -82,7 +82,7 @@ impl Fault {
     }
 }
 
-/// What happened to a file. Our own.
+/// What happened to a file.
 #[derive(Drop)]
 pub enum Problem {
     /// It wasn't opened.
@@ -93,7 +93,7 @@ pub enum Problem {
     InputTwice,
     /// What was written was not put in its place.
     Replace(io::ErrorKind),
-    /// What stands behind `--raw` is no size and format.
+    /// What follows `--raw` is no size and format.
     Format(HeaderError),
     /// The header was not read or not written.
     Header(Caused<Y4mError>),

@@ -11,7 +11,7 @@ use v_frame::pixel::Pixel;
 use v_frame::plane::{Plane, PlaneRef};
 use v_frame_ops::{first_difference, sum_of_squared_errors};
 
-/// Which plane of a frame. Our own.
+/// Which plane of a frame.
 #[derive(Clone, Copy)]
 pub enum Component {
     /// Luma.
@@ -32,7 +32,7 @@ impl fmt::Display for Component {
     }
 }
 
-/// A pixel that two frames show differently. Our own.
+/// A pixel that two frames show differently.
 #[derive(Clone, Copy)]
 pub struct PixelDifference {
     /// The plane that it is in.
@@ -47,7 +47,7 @@ pub struct PixelDifference {
     pub second: u16,
 }
 
-/// The sums, plane by plane, of the squares of the differences of the pixels. They are exact, and never too large. Our own.
+/// Returns the sums, plane by plane, of the squares of the differences of the pixels. They are exact, and never too large.
 pub fn squared_errors_of_frames<T: Pixel>(first: &Frame<T>, second: &Frame<T>) -> PlaneSums
     requires { sizes_of (tables_of first.now) ≡ sizes_of (tables_of second.now) }
     ensures y { result.y ≡ plane_errors T.form.value (tables_of first.now).y
@@ -64,8 +64,8 @@ pub fn squared_errors_of_frames<T: Pixel>(first: &Frame<T>, second: &Frame<T>) -
     }
 }
 
-/// The first pixel, plane after plane and in each row after row from the top, that differs. `None` exactly where the frames
-/// show the same. Our own.
+/// Returns the first pixel, plane after plane and in each row after row from the top, that differs. `None` exactly where the
+/// frames show the same.
 pub fn first_difference_of_frames<T: Pixel>(
     first: &Frame<T>,
     second: &Frame<T>,
@@ -86,7 +86,7 @@ pub fn first_difference_of_frames<T: Pixel>(
     difference_of_chroma(Component::V, &first.v_plane, &second.v_plane)
 }
 
-/// Whether both frames have the same planes, each of the same size. Our own.
+/// Returns whether both frames have the same planes, each of the same size.
 pub fn have_same_sizes<T: Pixel>(first: &Frame<T>, second: &Frame<T>) -> bool
     ensures { IsTrue result
         ↔ (sizes_of (tables_of first.now) ≡ sizes_of (tables_of second.now)) }
@@ -94,7 +94,7 @@ pub fn have_same_sizes<T: Pixel>(first: &Frame<T>, second: &Frame<T>) -> bool
     sizes_of_planes(first) == sizes_of_planes(second)
 }
 
-/// The width and the height of each plane.
+/// Returns the width and the height of each plane.
 fn sizes_of_planes<T: Pixel>(
     frame: &Frame<T>,
 ) -> (
@@ -115,24 +115,24 @@ fn sizes_of_planes<T: Pixel>(
     )
 }
 
-/// The width and the height of a plane.
+/// Returns the width and the height of a plane.
 fn size_of_plane<T: Pixel>(plane: &Plane<T>) -> (usize, usize)
     ensures { result ≡ size_of (table_of plane.now) }
 {
     (plane.width(), plane.height())
 }
 
-/// The sum for two planes of one size.
+/// Returns the sum for two planes of one size.
 fn errors_of_planes<T: Pixel>(first: &Plane<T>, second: &Plane<T>) -> u128
     requires { size_of (table_of first.now) ≡ size_of (table_of second.now) }
     ensures { result ≡ plane_errors T.form.value (table_of first.now) (table_of second.now) }
 {
     let (first, second) = (first.as_plane_ref(), second.as_plane_ref());
-    are_as_large(&first, &second);
+    same_dimensions(&first, &second);
     sum_of_squared_errors(&first, &second)
 }
 
-/// The sum for two chroma planes, where they are there.
+/// Returns the sum for two chroma planes, where they are there.
 fn errors_of_chroma<T: Pixel>(first: &Option<Plane<T>>, second: &Option<Plane<T>>) -> Option<u128>
     requires { option_map size_of (option_map table_of first.now)
         ≡ option_map size_of (option_map table_of second.now) }
@@ -145,7 +145,7 @@ fn errors_of_chroma<T: Pixel>(first: &Option<Plane<T>>, second: &Option<Plane<T>
     }
 }
 
-/// The first pixel that differs in two planes of one size.
+/// Returns the first pixel that differs in two planes of one size.
 fn difference_of_planes<T: Pixel>(
     component: Component,
     first: &Plane<T>,
@@ -158,7 +158,7 @@ fn difference_of_planes<T: Pixel>(
         (table_of second.now)) }
 {
     let (first, second) = (first.as_plane_ref(), second.as_plane_ref());
-    are_as_large(&first, &second);
+    same_dimensions(&first, &second);
     let (x, y) = first_difference(&first, &second)?;
     Some(PixelDifference {
         component,
@@ -169,7 +169,7 @@ fn difference_of_planes<T: Pixel>(
     })
 }
 
-/// The first pixel that differs in two chroma planes, where they are there.
+/// Returns the first pixel that differs in two chroma planes, where they are there.
 fn difference_of_chroma<T: Pixel>(
     component: Component,
     first: &Option<Plane<T>>,
@@ -190,7 +190,7 @@ fn difference_of_chroma<T: Pixel>(
 }
 
 /// Planes whose tables have one size have one width and one height.
-fn are_as_large<T: Pixel>(first: &PlaneRef<'_, T>, second: &PlaneRef<'_, T>)
+fn same_dimensions<T: Pixel>(first: &PlaneRef<'_, T>, second: &PlaneRef<'_, T>)
     requires { size_of (table_of first.now) ≡ size_of (table_of second.now) }
     ensures wide { first.now.geometry.width ≡ second.now.geometry.width }
     ensures high { first.now.geometry.height ≡ second.now.geometry.height }
@@ -204,14 +204,11 @@ fn are_as_large<T: Pixel>(first: &PlaneRef<'_, T>, second: &PlaneRef<'_, T>)
     );
 }
 
-/// The value of a visible pixel.
+/// Returns the value of a visible pixel.
 fn value_at<T: Pixel>(plane: &PlaneRef<'_, T>, x: usize, y: usize) -> u16
     requires wide { x < plane.now.geometry.width }
     requires high { y < plane.now.geometry.height }
     ensures { option_map T.form.value (pixel_at (table_of plane.now) x y) ≡ Some result }
 {
-    match plane.row(y) {
-        Some(row) => row[x].into_u16(),
-        None => unreachable!(),
-    }
+    plane.visible_row(y)[x].into_u16()
 }

@@ -1,4 +1,4 @@
-//! Headers: read from a stream, or told in its place for headerless raw video.
+//! Headers: read from a stream, or reported in its place for headerless raw video.
 
 use crate::fault::{Caused, Problem};
 use crate::stream::Container;
@@ -7,9 +7,8 @@ use std::io;
 use v_frame_planar::Counted;
 use v_frame_y4m::{HeaderError, StreamHeader, parse_header, read_header};
 
-/// The header of a stream: read from it, or, for headerless raw video, told by a size and a format as `1920x1080:420p10`.
-///
-/// Our own.
+/// Returns the header of a stream: read from it, or, for headerless raw video, given by a size and a format as
+/// `1920x1080:420p10`.
 ///
 /// # Errors
 ///
@@ -20,7 +19,7 @@ pub fn header_of<R: io::Read>(
     raw: Option<&str>,
 ) -> Result<(Container, StreamHeader), Problem> {
     match raw {
-        Some(format) => match told_header(alloc, format) {
+        Some(format) => match header_from_format(alloc, format) {
             Ok(header) => Ok((Container::Raw, header)),
             Err(error) => Err(Problem::Format(error)),
         },
@@ -31,8 +30,8 @@ pub fn header_of<R: io::Read>(
     }
 }
 
-/// The header that a size and a format tell.
-fn told_header(alloc: Global, format: &str) -> Result<StreamHeader, HeaderError> {
+/// Returns the header that a size and a format say.
+fn header_from_format(alloc: Global, format: &str) -> Result<StreamHeader, HeaderError> {
     // They are those of the parameters `W`, `H` and `C`, and read as these.
     let Some((width, rest)) = format.split_once('x') else {
         return Err(HeaderError::Missing('H'));

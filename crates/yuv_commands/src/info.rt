@@ -11,11 +11,9 @@ use std::alloc::{AllocError, Global};
 use std::io;
 use v_frame::chroma::ChromaSubsampling;
 use v_frame::pixel::Pixel;
-use v_frame_y4m::{ChromaSiting, Interlacing, Ratio, StreamHeader};
+use v_frame_y4m::{ChromaSiting, Interlacing, Ratio, StreamHeader, Text};
 
 /// Counts the frames of a stream, to its end.
-///
-/// Our own.
 ///
 /// # Errors
 ///
@@ -35,7 +33,7 @@ pub fn count_frames<T: Pixel, R: io::Read, E: io::Write>(
         (R.remaining input.old.reader.inner) mid fault.before) }
 {
     for count in 0..u64::MAX {
-        if !input.advance(alloc, count)? {
+        if !input.read_frame(alloc, count)? {
             return Ok(count);
         }
         progress.show(count + 1);
@@ -43,7 +41,7 @@ pub fn count_frames<T: Pixel, R: io::Read, E: io::Write>(
     Ok(u64::MAX)
 }
 
-/// What is told of a stream with so many frames, one line a fact.
+/// What is reported of a stream with so many frames, one line a fact.
 pub fn info_text(alloc: Global, header: &StreamHeader, frames: u64) -> Result<String, AllocError> {
     let mut text = String::new(alloc);
     match push_info(&mut text, header, frames) {
@@ -69,7 +67,7 @@ fn push_format(text: &mut String, header: &StreamHeader) -> Result<(), AllocErro
         ChromaSubsampling::Yuv422 => "4:2:2",
         ChromaSubsampling::Yuv411 => "4:1:1",
         ChromaSubsampling::Yuv444 => "4:4:4",
-        ChromaSubsampling::Monochrome => "luma alone",
+        ChromaSubsampling::Monochrome => "monochrome",
     };
     writeln!(
         text,
@@ -77,7 +75,7 @@ fn push_format(text: &mut String, header: &StreamHeader) -> Result<(), AllocErro
     )
 }
 
-/// Appends where chroma is sited, the rate, the interlacing and the shape of a pixel, where the header tells them.
+/// Appends where chroma is sited, the rate, the interlacing and the shape of a pixel, where the header says them.
 fn push_facts(text: &mut String, header: &StreamHeader) -> Result<(), AllocError> {
     if let Some(siting) = header.colour.siting() {
         let siting = match siting {
@@ -101,7 +99,7 @@ fn push_facts(text: &mut String, header: &StreamHeader) -> Result<(), AllocError
     push_ratio(text, "pixel aspect", &header.pixel_aspect)
 }
 
-/// Appends a ratio under this name, where the header tells it.
+/// Appends a ratio under this name, where the header says it.
 fn push_ratio(text: &mut String, name: &str, ratio: &Option<Ratio>) -> Result<(), AllocError> {
     let Some(ratio) = ratio else {
         return Ok(());
@@ -115,12 +113,7 @@ fn push_extensions(text: &mut String, header: &StreamHeader) -> Result<(), Alloc
     for extension in header.extensions.as_slice() {
         text.push_str("extension: ")?;
         for &byte in extension.as_slice() {
-            let shown = if byte.is_ascii_graphic() {
-                byte as char
-            } else {
-                '?'
-            };
-            text.push(shown)?;
+            text.push(Text::shown(byte))?;
         }
         text.push('\n')?;
     }

@@ -1,4 +1,4 @@
-//! What the program `yuv` does: it tells what a stream of frames is, compares two, and copies one. All of it is done over
+//! What the program `yuv` does: it says what a stream of frames is, compares two, and copies one. All of it is done over
 //! any reader and any writer.
 #![tactic(auto)]
 
@@ -20,7 +20,7 @@ mod stream;
 mod sums;
 mod target;
 
-pub use arguments::{Command, Named, Wanted, WrongCall, read_command};
+pub use arguments::{Command, CopyOptions, InputFile, UsageError, read_command};
 pub use compare::{Comparison, Side, compare_streams};
 pub use copy::{CopyFault, copy_frames, edit_frames};
 pub use edit::{Edit, Misaligned, Rectangle, can_edit, edit_frame};

@@ -1,8 +1,8 @@
-//! The program: its arguments are read and done, and what went wrong is told.
+//! The program: its arguments are read and done, and what went wrong is reported.
 ghost use Rattle.std.specs.Prelude.{◌≡◌};
 ghost use Rattle.yuv_commands.specs.Run.{status_code};
 
-use crate::arguments::{Command, WrongCall, read_command};
+use crate::arguments::{Command, UsageError, read_command};
 use crate::commands::{do_compare, do_copy, do_info};
 use crate::fault::{Fault, Place, Problem};
 use crate::progress::Progress;
@@ -25,8 +25,8 @@ video is read behind --raw WIDTHxHEIGHT:FORMAT, as --raw 1920x1080:420p10 FILE,
 and written by copy with --raw alone. The format is one of 420jpeg 420mpeg2
 420paldv 411 422 444 mono, or 420p 422p 444p mono with 9 10 12 14 or 16 bits.
 
-info       tells what a stream is, and how many frames it has
-compare    tells how far two streams of one format are apart, with --frames for
+info       reports what a stream is, and how many frames it has
+compare    reports how far two streams of one format are apart, with --frames for
            each frame. Status 0: they show the same, 1: they differ
 copy       writes the frames of the first file to the second, a part of each
            with --crop, and at half the size with --half. The frames go to a
@@ -37,7 +37,7 @@ copy       writes the frames of the first file to the second, a part of each
 Status 2: something failed. Frames are counted from 1, columns and rows from 0.
 ";
 
-/// How the program ended. Our own.
+/// How the program ended.
 #[derive(Clone, Copy)]
 pub enum Status {
     /// All was done, and what was compared shows the same.
@@ -49,7 +49,7 @@ pub enum Status {
 }
 
 impl Status {
-    /// The exit status of a process.
+    /// Returns the exit status of a process.
     pub fn code(self) -> u8
         ensures { result ≡ status_code self }
     {
@@ -61,7 +61,7 @@ impl Status {
     }
 }
 
-/// What a program has of its system. Our own.
+/// What a program has of its system.
 #[derive(Drop)]
 pub struct Streams<I, O, E> {
     /// Standard input.
@@ -73,8 +73,6 @@ pub struct Streams<I, O, E> {
 }
 
 /// Does what the arguments, without the program's own name, ask for.
-///
-/// Our own.
 pub fn run<H, I, O, E>(rt: &H, words: &[&str], streams: Streams<I, O, E>) -> Status
 where
     H: Files + AllocGlobal,
@@ -94,17 +92,17 @@ where
     };
     match read_command(words) {
         Ok(command) => run_command(rt, &command, &mut standard, &mut output, &mut progress),
-        Err(wrong) => refuse(&wrong, &mut progress.out),
+        Err(error) => refuse(&error, &mut progress.out),
     }
 }
 
-/// Reports what is wrong with the arguments, and how the program is called. Our own.
-pub fn refuse<E: io::Write>(wrong: &WrongCall<'_>, error: &mut E) -> Status {
-    let _ = write!(error, "yuv: {wrong}\n{USAGE}");
+/// Reports what is wrong with the arguments, and how the program is called.
+pub fn refuse<E: io::Write>(error: &UsageError<'_>, out: &mut E) -> Status {
+    let _ = write!(out, "yuv: {error}\n{USAGE}");
     Status::Failed
 }
 
-/// Does a command, and tells what went wrong.
+/// Does a command, and says what went wrong.
 fn run_command<H, I, O, E>(
     rt: &H,
     command: &Command<'_>,
@@ -127,7 +125,7 @@ where
     }
 }
 
-/// Tells what went wrong, and where.
+/// Reports what went wrong, and where.
 fn give_up<E: io::Write>(command: &Command<'_>, fault: Fault, error: &mut E) -> Status {
     let (name, problem) = (name_of(command, fault.place), &fault.problem);
     let _ = writeln!(error, "yuv: {name}: {problem}");
@@ -162,9 +160,9 @@ where
         Command::Copy {
             input,
             output: to,
-            wanted,
+            options,
             ..
-        } => do_copy(rt, (input, to), wanted, standard, output, progress),
+        } => do_copy(rt, (input, to), options, standard, output, progress),
     }
 }
 
@@ -176,7 +174,7 @@ fn print<O: io::Write>(output: &mut O, text: &str) -> Result<Status, Fault> {
     }
 }
 
-/// The name of what a command was working on.
+/// Returns the name of what a command was working on.
 fn name_of<'a>(command: &Command<'a>, place: Place) -> &'a str {
     match (place, command) {
         (Place::Report, _) => "standard output",

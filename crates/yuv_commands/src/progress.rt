@@ -2,7 +2,7 @@
 
 use std::io;
 
-/// Where the count of frames is shown, if it is to be. Our own.
+/// Where the count of frames is shown, if it is to be.
 #[derive(Drop)]
 pub struct Progress<E> {
     /// Where it is shown.

@@ -1,4 +1,4 @@
-//! What is told of streams, as text for people.
+//! What is reported of streams, as text for people.
 ghost use Rattle.std.specs.Prelude.{OnErr, OnOk};
 ghost use Rattle.std.specs.Io.KnownBytes.{Appends};
 ghost use Rattle.v_frame_planar.specs.Counted.{AppendsBeginning};
@@ -12,7 +12,7 @@ use std::alloc::{AllocError, Global};
 use std::io;
 use v_frame_planar::{Counted, PlanarError};
 
-/// What the errors of frames are measured by. Our own.
+/// What the errors of frames are measured by.
 #[derive(Drop)]
 pub struct Scale {
     /// How many pixels each plane of a frame has.
@@ -21,7 +21,7 @@ pub struct Scale {
     pub bit_depth: u8,
 }
 
-/// Where each two frames that are compared get a line, if they do. Our own.
+/// Where each two frames that are compared get a line, if they do.
 #[derive(Drop)]
 pub struct FrameLines<W> {
     /// Where the lines go.
@@ -29,13 +29,18 @@ pub struct FrameLines<W> {
     /// What the errors are measured by.
     pub scale: Scale,
     /// Whether there are lines.
-    pub is_told: bool,
+    pub enabled: bool,
 }
 
 impl<W: io::Write> FrameLines<W> {
-    /// Writes the line of two frames, behind so many.
-    pub fn tell(&mut self, alloc: Global, before: u64, errors: &PlaneSums) -> Result<(), Fault> {
-        if !self.is_told {
+    /// Writes the line of two frames, after so many.
+    pub fn write_line(
+        &mut self,
+        alloc: Global,
+        before: u64,
+        errors: &PlaneSums,
+    ) -> Result<(), Fault> {
+        if !self.enabled {
             return Ok(());
         }
         let mut line = String::new(alloc);
@@ -62,7 +67,7 @@ pub fn write_text<W: io::Write>(out: &mut Counted<W>, text: &str) -> Result<(), 
     }
 }
 
-/// The mean squared errors of so many pixels: of all together, and of those of each plane that there is.
+/// Returns the mean squared errors of so many pixels: of all together, and of those of each plane that there is.
 fn mean_errors(errors: &PlaneSums, pixels: &PlaneSums) -> [Option<f64>; 4] {
     [
         Some(mean_squared_error(errors.total(), pixels.total())),
@@ -72,7 +77,7 @@ fn mean_errors(errors: &PlaneSums, pixels: &PlaneSums) -> [Option<f64>; 4] {
     ]
 }
 
-/// The mean squared error of a chroma plane, where there is one.
+/// Returns the mean squared error of a chroma plane, where there is one.
 fn chroma_error(errors: Option<u128>, pixels: Option<u128>) -> Option<f64> {
     match (errors, pixels) {
         (Some(errors), Some(pixels)) => Some(mean_squared_error(errors, pixels)),
@@ -105,7 +110,7 @@ fn push_line(
     line.push('\n')
 }
 
-/// What is told of two streams at the end.
+/// What is reported of two streams at the end.
 pub fn comparison_text(
     alloc: Global,
     found: &Comparison,
@@ -138,7 +143,7 @@ fn push_comparison(text: &mut String, found: &Comparison, scale: &Scale) -> Resu
     })
 }
 
-/// Appends the line that tells the first pixel that differs, if one does.
+/// Appends the line that says the first pixel that differs, if one does.
 fn push_difference(
     text: &mut String,
     difference: &Option<(u64, PixelDifference)>,

@@ -4,7 +4,7 @@ use crate::fault::Problem;
 use std::rt::Files;
 use std::{fs, io};
 
-/// A file or standard input, for reading. Our own.
+/// A file or standard input, for reading.
 #[derive(Drop)]
 pub enum Source<F, I> {
     /// A file.

@@ -14,7 +14,7 @@ use v_frame::pixel::Pixel;
 use v_frame_planar::Counted;
 use v_frame_y4m::Y4mError;
 
-/// How a stream holds its frames. Our own.
+/// How a stream holds its frames.
 #[derive(Clone, Copy)]
 pub enum Container {
     /// A header line, and a line before each frame.
@@ -23,7 +23,7 @@ pub enum Container {
     Raw,
 }
 
-/// A stream that is read behind its header, and a frame that shows the last one read. Our own.
+/// A stream that is read after its header, and a frame that shows the last one read.
 #[derive(Drop)]
 pub struct Input<T: Pixel, R> {
     /// How it holds its frames.
@@ -34,7 +34,7 @@ pub struct Input<T: Pixel, R> {
     pub frame: Frame<T>,
 }
 
-/// A stream that is written behind its header. Our own.
+/// A stream that is written after its header.
 #[derive(Drop)]
 pub struct Output<W> {
     /// How it holds its frames.
@@ -43,7 +43,7 @@ pub struct Output<W> {
     pub writer: Counted<W>,
 }
 
-/// Why a stream was not read or written to its end. Our own.
+/// Why a stream was not read or written to its end.
 #[derive(Drop)]
 pub struct StreamFault {
     /// How many frames went before.
@@ -60,14 +60,12 @@ impl fmt::Display for StreamFault {
 }
 
 impl<T: Pixel, R: io::Read> Input<T, R> {
-    /// Reads the next frame, behind so many. `false` where the stream stood at its end before it.
-    ///
-    /// Our own.
+    /// Reads the next frame, after so many. `false` where the stream stood at its end before it.
     ///
     /// # Errors
     ///
     /// Those of the container's `read_frame`. The frame is then as it was.
-    pub fn advance(&mut self, alloc: Global, before: u64) -> Result<bool, StreamFault>
+    pub fn read_frame(&mut self, alloc: Global, before: u64) -> Result<bool, StreamFault>
         ensures read { IfOk result (ReadsNext T.form self.old.container
             (R.remaining self.old.reader.inner) (R.remaining self.new.reader.inner)
             (tables_of self.new.frame)) }
@@ -111,14 +109,16 @@ fn read_next<T: Pixel, R: io::Read>(
 }
 
 impl<W: io::Write> Output<W> {
-    /// Writes a frame as the next one, behind so many.
-    ///
-    /// Our own.
+    /// Writes a frame as the next one, after so many.
     ///
     /// # Errors
     ///
     /// Those of the container's `write_frame`. A beginning of the frame's bytes was then written.
-    pub fn put<T: Pixel>(&mut self, frame: &Frame<T>, before: u64) -> Result<(), StreamFault>
+    pub fn write_frame<T: Pixel>(
+        &mut self,
+        frame: &Frame<T>,
+        before: u64,
+    ) -> Result<(), StreamFault>
         ensures ok { OnOk result (Appends (W.contents self.old.writer.inner)
             (W.contents self.new.writer.inner)
             (frame_bytes T.form self.old.container (tables_of frame.now))) }

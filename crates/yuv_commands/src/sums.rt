@@ -8,7 +8,7 @@ use v_frame::frame::Frame;
 use v_frame::pixel::Pixel;
 use v_frame::plane::Plane;
 
-/// A number for each plane of a frame. Our own.
+/// A number for each plane of a frame.
 #[derive(Clone, Copy)]
 pub struct PlaneSums {
     /// That of luma.
@@ -20,7 +20,7 @@ pub struct PlaneSums {
 }
 
 impl PlaneSums {
-    /// The sums, plane by plane. One stays at `u128::MAX`. Our own.
+    /// Returns the sums, plane by plane. One stays at `u128::MAX`.
     pub fn plus(&self, more: &PlaneSums) -> Self
         ensures { result ≡ added self.now more.now }
     {
@@ -31,7 +31,7 @@ impl PlaneSums {
         }
     }
 
-    /// The numbers, each so many times. One stays at `u128::MAX`. Our own.
+    /// Returns the numbers, each so many times. One stays at `u128::MAX`.
     pub fn times(&self, count: u64) -> Self
         ensures { result ≡ multiplied self.now count }
     {
@@ -43,7 +43,7 @@ impl PlaneSums {
         }
     }
 
-    /// The sum over all planes. It stays at `u128::MAX`. Our own.
+    /// Returns the sum over all planes. It stays at `u128::MAX`.
     pub fn total(&self) -> u128
         ensures { result ≡ at_most (at_most (self.now.y + unwrap_or self.now.u 0)
             + unwrap_or self.now.v 0) }
@@ -54,7 +54,7 @@ impl PlaneSums {
     }
 }
 
-/// The sum of two numbers of chroma planes, where both are there.
+/// Returns the sum of two numbers of chroma planes, where both are there.
 fn plus_chroma(first: Option<u128>, second: Option<u128>) -> Option<u128>
     ensures { result ≡ added_chroma first second }
 {
@@ -64,7 +64,7 @@ fn plus_chroma(first: Option<u128>, second: Option<u128>) -> Option<u128>
     }
 }
 
-/// The number of a chroma plane so many times, where it is there.
+/// Returns the number of a chroma plane so many times, where it is there.
 fn times_chroma(number: Option<u128>, count: u128) -> Option<u128>
     ensures { result ≡ option_map (λ number. at_most (number * count)) number }
 {
@@ -74,7 +74,7 @@ fn times_chroma(number: Option<u128>, count: u128) -> Option<u128>
     }
 }
 
-/// How many pixels each plane shows. Our own.
+/// Returns how many pixels each plane shows.
 pub fn pixel_counts<T: Pixel>(frame: &Frame<T>) -> PlaneSums
     ensures { result ≡ pixels_of_sizes (sizes_of (tables_of frame.now)) }
 {
@@ -85,7 +85,7 @@ pub fn pixel_counts<T: Pixel>(frame: &Frame<T>) -> PlaneSums
     }
 }
 
-/// How many pixels a plane shows.
+/// Returns how many pixels a plane shows.
 fn pixels_of_plane<T: Pixel>(plane: &Plane<T>) -> u128
     ensures { result ≡ pixels_of_size (size_of (table_of plane.now)) }
 {

@@ -11,7 +11,7 @@ const MOST_LINKS: u32 = 40;
 /// How many names are tried for the file beside a target.
 const MOST_NAMES: u32 = 100;
 
-/// What a command writes in place of a target. Our own.
+/// What a command writes in place of a target.
 #[derive(Drop)]
 pub struct TargetFile<F> {
     /// The file that is open for writing.
@@ -25,7 +25,7 @@ pub struct TargetFile<F> {
 struct Replacement {
     /// The name of the new file.
     partial: String,
-    /// The name of the target, behind all links.
+    /// The name of the target, after all links.
     target: String,
     /// Whether there is a target now.
     is_there: bool,
@@ -33,7 +33,7 @@ struct Replacement {
 
 impl<F: OpenFile + Drop> TargetFile<F> {
     /// Opens a new file beside the target of this name. A target that is no regular file, as a device or a pipe, is opened
-    /// itself. Our own.
+    /// itself.
     ///
     /// # Errors
     ///
@@ -41,7 +41,7 @@ impl<F: OpenFile + Drop> TargetFile<F> {
     pub fn create<H: Files<File = F> + AllocGlobal>(rt: &H, name: &str) -> io::Result<Self> {
         match fs::metadata(rt, name) {
             Ok(found) if found.is_file() => {
-                let target = behind_links(rt, name)?;
+                let target = resolve_links(rt, name)?;
                 if target.as_str().starts_with("/proc/") {
                     // A link to what a process has open, as /dev/stdout is, whose text is no name.
                     return Self::open_directly(rt, name);
@@ -51,7 +51,7 @@ impl<F: OpenFile + Drop> TargetFile<F> {
             }
             Ok(_) => Self::open_directly(rt, name),
             Err(error) if error.kind() == ErrorKind::NotFound => {
-                let target = behind_links(rt, name)?;
+                let target = resolve_links(rt, name)?;
                 Self::create_beside(rt, target, None)
             }
             Err(error) => Err(error),
@@ -92,7 +92,7 @@ impl<F: OpenFile + Drop> TargetFile<F> {
         Ok(created)
     }
 
-    /// Puts the file in the place of the target. Our own.
+    /// Puts the file in the place of the target.
     ///
     /// # Errors
     ///
@@ -123,7 +123,7 @@ impl<F: OpenFile + Drop> TargetFile<F> {
         kept
     }
 
-    /// Removes the new file, and leaves the target as it was. Our own.
+    /// Removes the new file, and leaves the target as it was.
     pub fn discard<H: Files>(self, rt: &H) {
         let TargetFile { file, replacement } = self;
         drop(file);
@@ -141,13 +141,13 @@ fn open_for_writing<H: Files>(rt: &H, name: &str) -> io::Result<()> {
     Ok(())
 }
 
-/// The name that a name leads to through symbolic links, whether there is a file or not.
-fn behind_links<H: Files + AllocGlobal>(rt: &H, name: &str) -> io::Result<String> {
+/// Returns the name that a name leads to through symbolic links, whether there is a file or not.
+fn resolve_links<H: Files + AllocGlobal>(rt: &H, name: &str) -> io::Result<String> {
     let mut path = PathBuf::from_str(rt.alloc(), name)?;
     for _ in 0..MOST_LINKS {
         match fs::read_link(rt, path.as_path()) {
             Ok(link) => {
-                // The link is told from the folder that it is in, or from the root.
+                // The link is reported from the folder that it is in, or from the root.
                 path.pop();
                 path.push(link.as_path())?;
             }

@@ -1,15 +1,16 @@
 //! Laws of bytes that go into planes and come out again.
 ghost use Rattle.std.specs.Prelude.{◌≡◌, ◌*◌, ◌≤◌, [], ◌∷◌, length, slice_get, Some, Ok, Err, OnOk, IfOk, IsOkUnless, MatchOption};
 ghost use Rattle.v_frame.specs.Build.{luma_geometry, refusal_of};
-ghost use Rattle.v_frame_plane.specs.Plane.{filled, table_of, unshown};
+ghost use Rattle.v_frame_raster.specs.Raster.{filled, table_of, border_and_geometry};
 ghost use Rattle.v_frame.specs.Frame.{tables_of};
 ghost use Rattle.v_frame.specs.Replay.{answers_to};
 ghost use Rattle.v_frame.specs.Walk.{draws_answer, AreAllGiven};
 ghost use Rattle.v_frame.specs.declared.replay.call.VisibleCall.TheVariants.{CopyFromU8SliceWithStride, ByteData};
 ghost use Rattle.v_frame.specs.declared.replay.answer.Answer.TheVariants.{Copied, BytesWalked};
-ghost use Rattle.v_frame_layout.specs.Table.{width_of, height_of, row_major};
-ghost use Rattle.v_frame_plane.specs.Copy.{packed_copy, piece_fronts, strided_copy, packed_byte_copy};
-ghost use Rattle.v_frame_layout.specs.Pixel.{byte_list};
+ghost use Rattle.v_frame_raster.specs.Table.{width_of, height_of, row_major};
+ghost use Rattle.v_frame_plane.specs.Copy.{packed_copy, strided_copy, packed_byte_copy};
+ghost use Rattle.v_frame_raster.specs.StridedRows.{piece_fronts};
+ghost use Rattle.v_frame_raster.specs.Pixel.{byte_list};
 
 use super::replayed;
 use crate::frame::{Frame, FrameBuilder, FrameError};
@@ -21,7 +22,7 @@ use std::alloc::{AllocError, Global};
 /// Bytes with a stride go through a frame: it is built, filled from them, and its bytes are taken from these sides in turn.
 ///
 /// A source that has a row and its tail for each row of the frame is copied, and the bytes taken are its rows without their
-/// tails. With as many sides as these have bytes, all are taken: those from the front in their order, and behind them those
+/// tails. With as many sides as these have bytes, all are taken: those from the front in their order, and after them those
 /// from the back in reverse. The frame is refused as by [`FrameBuilder::build`], and an allocation failure is the only other
 /// error.
 pub fn bytes_go_through_a_frame<T: Pixel>(
@@ -50,7 +51,8 @@ pub fn bytes_go_through_a_frame<T: Pixel>(
     copied_and_walked(alloc, &mut frame, source, stride, sides).map_err(|_| FrameError::OutOfMemory)
 }
 
-/// The answers of a frame whose luma is filled from bytes with a stride, and whose luma's bytes are taken from these sides.
+/// Returns the answers of a frame whose luma is filled from bytes with a stride, and whose luma's bytes are taken from these
+/// sides.
 fn copied_and_walked<T: Pixel>(
     alloc: Global,
     frame: &mut Frame<T>,
@@ -66,7 +68,7 @@ fn copied_and_walked<T: Pixel>(
     replayed(alloc, frame, calls.as_slice())
 }
 
-/// The calls that copy bytes with a stride into luma and take luma's bytes from these sides.
+/// Returns the calls that copy bytes with a stride into luma and take luma's bytes from these sides.
 fn copy_and_walk<T: Pixel>(
     alloc: Global,
     source: Vec<u8>,

@@ -1,6 +1,6 @@
 //! Laws of iterations that write.
 ghost use Rattle.std.specs.Prelude.{◌≡◌, ℕ, All, length};
-ghost use Rattle.v_frame_layout.specs.Table.{Table};
+ghost use Rattle.v_frame_raster.specs.Table.{Table};
 ghost use Rattle.v_frame.specs.Walk.{ChangesEachPixel};
 
 /// An iteration from the front that replaces each pixel it is given changes each pixel of a table whose rows have one width.

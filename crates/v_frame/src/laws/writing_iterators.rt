@@ -1,7 +1,7 @@
 //! Laws of the iterators that lend rows and pixels for writing: what `next` and `next_back` give, and what is left.
 ghost use Rattle.std.specs.Prelude.{◌≡◌, All, None, IfOk};
-ghost use Rattle.v_frame_layout.specs.Table.{row_major};
-ghost use Rattle.v_frame_plane.specs.Plane.{KeepsBorder, table_of};
+ghost use Rattle.v_frame_raster.specs.Table.{row_major};
+ghost use Rattle.v_frame_raster.specs.Raster.{KeepsBorder, table_of};
 ghost use Rattle.v_frame.specs.Walk.{draws_answer, pixels_written, rows_written, AreDrawnOnce};
 
 use crate::pixel::Pixel;
@@ -9,7 +9,8 @@ use crate::plane::{PixelsMut, Plane, RowsMut};
 use crate::replay::pixel_writes::write_pixels;
 use crate::replay::row_writes::write_rows;
 use crate::replay::walk::{Walk, draw_items};
-use crate::replay::{Drawn, PixelDraw, RowDraw, Sequence, Side};
+use crate::replay::{Drawn, PixelDraw, RowDraw, Side};
+use crate::sequence::Sequence;
 use std::alloc::{AllocError, Global};
 
 /// Any calls of `next` and `next_back` lend each row of a plane once, from its end. The error is an allocation failure: rows
@@ -83,7 +84,7 @@ impl<'a, T: Copy> Walk for RowsMut<'a, T> {
         Sequence::from_option(alloc, row.as_deref())
     }
 
-    fn left(&self) -> usize {
+    fn remaining(&self) -> usize {
         self.len()
     }
 }
@@ -104,7 +105,7 @@ impl<'a, T: Copy> Walk for PixelsMut<'a, T> {
         Ok(pixel.copied())
     }
 
-    fn left(&self) -> usize {
+    fn remaining(&self) -> usize {
         self.len()
     }
 }

@@ -1,8 +1,8 @@
 //! What the visible calls answer.
 
 use super::draw::Drawn;
-use super::sequence::Sequence;
 use crate::plane::CopyError;
+use crate::sequence::Sequence;
 
 /// What one call answered. Our own.
 #[derive(Debug, PartialEq, Eq, Drop)]

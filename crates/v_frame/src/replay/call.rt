@@ -2,7 +2,7 @@
 ghost use Rattle.std.specs.Prelude.{◌≡◌};
 
 use super::draw::{PixelDraw, RowDraw, Side};
-use super::sequence::Sequence;
+use crate::sequence::Sequence;
 
 /// One call on one plane of a frame, as a value.
 ///
@@ -124,7 +124,7 @@ pub enum VisibleCall<T> {
 impl<T> VisibleCall<T> {
     ghost use Rattle.v_frame.specs.Replay.{named_plane};
 
-    /// The plane that the call names.
+    /// Returns the plane that the call names.
     pub(crate) fn plane(&self) -> usize
         ensures { result ≡ named_plane self.now }
     {

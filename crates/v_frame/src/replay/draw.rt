@@ -1,6 +1,6 @@
 //! Calls of `next` and `next_back` as values: from which side, what to write into the item, and what the call gave.
 
-use super::sequence::Sequence;
+use crate::sequence::Sequence;
 
 /// The side of an iterator that an item is taken from. Our own.
 #[derive(Debug, Clone, Copy, PartialEq, Eq)]
@@ -46,7 +46,7 @@ pub(crate) trait Draw {
 
     ghost side_of: { Self → Side };
 
-    /// The side that it takes an item from.
+    /// Returns the side that it takes an item from.
     fn side(&self) -> Side
         ensures { result ≡ side_of self.now };
 }

@@ -1,12 +1,12 @@
 //! The kinds of call that write pixels: one by its column and row, or those that an iterator gives.
 ghost use Rattle.std.specs.Prelude.{◌≡◌, [], ◌∷◌, length, map, IfOk, OnOk, OnErr};
-ghost use Rattle.v_frame_layout.specs.Table.{pixel_at, row_major, with_pixel};
-ghost use Rattle.v_frame_plane.specs.Plane.{KeepsBorder, table_of};
+ghost use Rattle.v_frame_raster.specs.Table.{pixel_at, row_major, with_pixel};
+ghost use Rattle.v_frame_raster.specs.Raster.{KeepsBorder, table_of};
 ghost use Rattle.std.specs.Borrow.{sem};
 ghost use Rattle.v_frame_plane.specs.PixelsLeft.{pixels_left};
 ghost use Rattle.v_frame.specs.DrawnItems.{PutsPixelsBack};
 ghost use Rattle.v_frame.specs.Replay.{answer_of_pixel};
-ghost use Rattle.v_frame.specs.Walk.{draws_answer, left_by, pixel_written, side_of_pixel, pixels_written};
+ghost use Rattle.v_frame.specs.Walk.{draws_answer, remaining_after, pixel_written, side_of_pixel, pixels_written};
 ghost use Rattle.v_frame.specs.declared.replay.answer.Answer.TheVariants.{PixelsWalked};
 
 use super::answer::Answer;

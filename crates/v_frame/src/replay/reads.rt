@@ -1,21 +1,21 @@
 //! The kinds of call that read a size, a row or a pixel.
 ghost use Rattle.std.specs.Prelude.{◌≡◌, IfOk, length, slice_get};
-ghost use Rattle.v_frame_layout.specs.Pixel.{byte_list};
-ghost use Rattle.v_frame_layout.specs.Table.{pixel_at, row_major};
-ghost use Rattle.v_frame_plane.specs.Plane.{table_of};
+ghost use Rattle.v_frame_raster.specs.Pixel.{byte_list};
+ghost use Rattle.v_frame_raster.specs.Table.{pixel_at, row_major};
+ghost use Rattle.v_frame_raster.specs.Raster.{table_of};
 ghost use Rattle.v_frame.specs.Replay.{answer_of_pixel};
 ghost use Rattle.v_frame.specs.Walk.{draws_answer};
 ghost use Rattle.v_frame.specs.declared.replay.answer.Answer.TheVariants.{RowShown, RowsWalked, PixelsWalked, BytesWalked};
 
 use super::answer::Answer;
 use super::draw::Side;
-use super::sequence::Sequence;
 use super::walk::walked;
 use crate::pixel::Pixel;
 use crate::plane::Plane;
+use crate::sequence::Sequence;
 use std::alloc::{AllocError, Global};
 
-/// The row, copied.
+/// Returns the row, copied.
 pub(crate) fn row_shown<T: Copy>(
     alloc: Global,
     plane: &Plane<T>,
@@ -27,7 +27,7 @@ pub(crate) fn row_shown<T: Copy>(
     Ok(Answer::RowShown(row))
 }
 
-/// The pixel of the visible rectangle.
+/// Returns the pixel of the visible rectangle.
 pub(crate) fn pixel_shown<T: Pixel>(plane: &Plane<T>, x: usize, y: usize) -> Answer<T>
     ensures { result ≡ answer_of_pixel (pixel_at (table_of plane.now) x y) }
 {
@@ -40,7 +40,7 @@ pub(crate) fn pixel_shown<T: Pixel>(plane: &Plane<T>, x: usize, y: usize) -> Ans
     }
 }
 
-/// The rows that are drawn, copied.
+/// Returns the rows that are drawn, copied.
 pub(crate) fn rows_walked<T: Copy>(
     alloc: Global,
     plane: &Plane<T>,
@@ -53,7 +53,7 @@ pub(crate) fn rows_walked<T: Copy>(
     Ok(Answer::RowsWalked { total, drawn })
 }
 
-/// The pixels that are drawn.
+/// Returns the pixels that are drawn.
 pub(crate) fn pixels_walked<T: Pixel>(
     alloc: Global,
     plane: &Plane<T>,
@@ -66,7 +66,7 @@ pub(crate) fn pixels_walked<T: Pixel>(
     Ok(Answer::PixelsWalked { total, drawn })
 }
 
-/// The bytes that are drawn.
+/// Returns the bytes that are drawn.
 pub(crate) fn bytes_walked<T: Pixel>(
     alloc: Global,
     plane: &Plane<T>,

@@ -1,11 +1,11 @@
 //! The kinds of call that write rows: one by its number, or those that an iterator gives.
 ghost use Rattle.std.specs.Prelude.{◌≡◌, [], ◌∷◌, length, map, slice_get, IfOk, OnOk, OnErr};
-ghost use Rattle.v_frame_layout.specs.Table.{overwritten_row, with_writes};
-ghost use Rattle.v_frame_plane.specs.Plane.{KeepsBorder, table_of};
+ghost use Rattle.v_frame_raster.specs.Table.{overwritten_row, with_writes};
+ghost use Rattle.v_frame_raster.specs.Raster.{KeepsBorder, table_of};
 ghost use Rattle.std.specs.Borrow.{sem};
 ghost use Rattle.v_frame_plane.specs.RowsLeft.{rows_left};
 ghost use Rattle.v_frame.specs.DrawnItems.{PutsRowsBack};
-ghost use Rattle.v_frame.specs.Walk.{draws_answer, left_by, row_written, side_of_row, rows_written};
+ghost use Rattle.v_frame.specs.Walk.{draws_answer, remaining_after, row_written, side_of_row, rows_written};
 ghost use Rattle.v_frame.specs.declared.replay.answer.Answer.TheVariants.{RowShown, RowsWalked};
 
 use super::answer::Answer;

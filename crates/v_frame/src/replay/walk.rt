@@ -1,31 +1,31 @@
 //! The kinds of call that take items from the iterators of a plane, from the sides of a list in turn.
 ghost use Rattle.std.specs.Prelude.{◌≡◌, List, length, map, IfOk};
-ghost use Rattle.v_frame.specs.Walk.{item_from, left_by, draws_answer};
+ghost use Rattle.v_frame.specs.Walk.{item_from, remaining_after, draws_answer};
 
 use super::draw::{Draw, Drawn, Side};
-use super::sequence::Sequence;
 use crate::pixel::Pixel;
 use crate::plane::{ByteData, Pixels, Rows};
+use crate::sequence::Sequence;
 use std::alloc::{AllocError, Global};
 
 /// A double-ended iterator over a plane. An answer holds what it gives, so what it only lends is copied.
 pub(crate) trait Walk {
     ghost use Rattle.std.specs.Prelude.{◌≡◌, List, length, IfOk};
-    ghost use Rattle.v_frame.specs.Walk.{item_from, left_by};
+    ghost use Rattle.v_frame.specs.Walk.{item_from, remaining_after};
 
     /// What an answer holds for an item.
     type Item;
 
-    // The items that are left.
+    // The items that remain.
     ghost items: { Self → List Self.Item };
 
-    /// The next item from this side, as an answer holds it.
+    /// Returns the next item from this side, as an answer holds it.
     fn draw(&mut self, alloc: Global, side: Side) -> Result<Option<Self::Item>, AllocError>
         ensures item { IfOk result (λ item. item ≡ item_from side (items self.old)) }
-        ensures left { items self.new ≡ left_by side (items self.old) };
+        ensures remaining { items self.new ≡ remaining_after side (items self.old) };
 
-    /// How many items are left.
-    fn left(&self) -> usize
+    /// Returns how many items remain.
+    fn remaining(&self) -> usize
         ensures { result ≡ length (items self.now) };
 }
 
@@ -42,7 +42,7 @@ impl<'a, T: Copy> Walk for Rows<'a, T> {
         Sequence::from_option(alloc, row)
     }
 
-    fn left(&self) -> usize {
+    fn remaining(&self) -> usize {
         self.len()
     }
 }
@@ -59,7 +59,7 @@ impl<'a, T: Copy> Walk for Pixels<'a, T> {
         })
     }
 
-    fn left(&self) -> usize {
+    fn remaining(&self) -> usize {
         self.len()
     }
 }
@@ -76,12 +76,12 @@ impl<'a, T: Pixel> Walk for ByteData<'a, T> {
         })
     }
 
-    fn left(&self) -> usize {
+    fn remaining(&self) -> usize {
         self.len()
     }
 }
 
-/// How many items an iterator begins with, and what it gives where they are taken from the sides of `draws` in turn.
+/// Returns how many items an iterator begins with, and what it gives where they are taken from the sides of `draws` in turn.
 pub(crate) fn walked<W: Walk, D: Draw>(
     alloc: Global,
     walk: &mut W,
@@ -92,7 +92,7 @@ where
     ensures { let items = W.items walk.old in IfOk result (λ walked. (walked.0 ≡ length items)
         × (walked.1 ≡ draws_answer items (map D.side_of draws.now))) }
 {
-    let total = walk.left();
+    let total = walk.remaining();
     let drawn = draw_items(alloc, walk, draws)?;
     Ok((total, drawn.into()))
 }
@@ -114,7 +114,7 @@ where
         drawn
             .push(Drawn {
                 item,
-                left: walk.left(),
+                left: walk.remaining(),
             })
             .unwrap();
     }

@@ -1,5 +1,6 @@
 -- The parts of a block may cross threads where its entries, and its allocator, may.
-use Rattle.v_frame_buffer.proofs.Steps.{ℕ, ◌+◌, ◌*◌, List, [], ◌∷◌, full_share, RattleType, ◌==◌, Bool, true, false, type_size, Ptr, block_ptr, null_ptr}
+use Rattle.v_frame_buffer.proofs.Steps.{ℕ, ◌+◌, ◌*◌, List, [], ◌∷◌, full_share, RattleType, ◌==◌, Bool, true, false}
+use Rattle.v_frame_buffer.proofs.Steps.{type_size, Ptr, block_ptr, null_ptr}
 use Rattle.v_frame_buffer.proofs.Steps.{to, IsSend, IsSync, Common, part_keyless, owning_send, struct_sync, sendable}
 use base.Shift.{Keyless}
 use denote.Struct.Owning.{shape}
@@ -28,25 +29,34 @@ module _ (R : RattleType) where
 
   -- the entries of a block cross as one of them does
   pub cells_cross : IsSend R → IsSend (Cells.the_row R)
-  cells_cross s = owning_send (Cells.the_type R) (search sendable, tt) (λ d. cells_keyless s d.at d.items d.spare) (λ k d w. tt)
+  cells_cross s = owning_send (Cells.the_type R) (search sendable, tt) (λ d. cells_keyless s d.at d.items d.spare)
+      (λ k d w. tt)
 
   -- and are shared as one of them is
   pub cells_shared : IsSync R → IsSync (Cells.the_row R)
   cells_shared y =
       let O = Cells.the_type R in
-      record { shared = λ d b o κ. ((struct_sync (shape O) (search sendable, tt)).shared (to O d) b o κ, cells_common y d.at d.items d.spare κ) }
+      record {
+        shared = λ d b o κ. (
+          (struct_sync (shape O) (search sendable, tt)).shared (to O d) b o κ,
+          cells_common y
+              d.at d.items d.spare κ,
+        );
+      }
 
   module _ (A : RattleType) (g : Ghosts A.Denot) where
-    token_keyless : FreesAnywhere A.Denot g → (alloc : A.Denot) (p : Ptr) (n : ℕ) (none : Bool) → Keyless (token_if R none (g.dealloc_token alloc) p n)
+    token_keyless : FreesAnywhere A.Denot g → (alloc : A.Denot) (p : Ptr) (n : ℕ) (none : Bool) → Keyless
+        (token_if R none (g.dealloc_token alloc) p n)
     token_keyless f alloc p n true = tt
     token_keyless f alloc p n false = f.frees alloc _ p
 
     -- the right to give a block back crosses as the right to free any block does
     pub deed_crosses : FreesAnywhere A.Denot g → IsSend (Deed.the_row R A g)
     deed_crosses f =
-        owning_send (Deed.the_type R A g) (search sendable, tt) (λ d. token_keyless f d.alloc d.at d.len (d.len * type_size R == 0)) (λ k d w. tt)
+        owning_send (Deed.the_type R A g) (search sendable, tt)
+        (λ d. token_keyless f d.alloc d.at d.len (d.len * type_size R == 0)) (λ k d w. tt)
 
-    -- a `&` to it tells nothing
+    -- a `&` to it says nothing
     pub deed_shared : IsSync (Deed.the_row R A g)
     deed_shared =
         let O = Deed.the_type R A g in

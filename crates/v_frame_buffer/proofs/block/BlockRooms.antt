@@ -1,8 +1,11 @@
--- What the proofs of `aligned/block.rt` share: facts joined, a product with a size, the parts as rows of the logic, and room for entries. Assumes `Logic`.
-use Rattle.v_frame_buffer.proofs.Steps.{◌≡◌, refl, sym, ◌∙◌, ℕ, ◌+◌, ◌*◌, Ura, Val, vstruct, vcons, vnil, SProp, ent, sep, emp, wand, fact, mono_r, fst∗}
-use Rattle.v_frame_buffer.proofs.Steps.{via, froom, Logic, sem, ‵, ◌$◌, ◌∵◌, !, qed, by, move, rewrite, RattleType, zero-mul, add_comm, ty_array, Struct}
-use Rattle.v_frame_buffer.proofs.Steps.{type_size, El, R, elτ, Al, P, as_written, align, List, [], ◌∷◌, Env, Opd, Ty, op2, unsigned, vint, w64, size, is}
-use Rattle.v_frame_buffer.proofs.Steps.{bin, size_word, subst, ap, ◌<◌, ◌^◌, uncapped, Item, Rv}
+-- What the proofs of `aligned/block.rt` share: facts joined, a product with a size, the parts as rows of the logic, and
+-- room for entries. Assumes `Logic`.
+use Rattle.v_frame_buffer.proofs.Steps.{◌≡◌, refl, sym, ◌∙◌, ℕ, ◌+◌, ◌*◌, Ura, Val, vstruct, vcons, vnil, SProp, ent}
+use Rattle.v_frame_buffer.proofs.Steps.{sep, emp, wand, fact, mono_r, fst∗, via, froom, Logic, sem, ‵, ◌$◌, ◌∵◌, !, qed}
+use Rattle.v_frame_buffer.proofs.Steps.{by, move, rewrite, RattleType, zero-mul, add_comm, ty_array, Struct, type_size}
+use Rattle.v_frame_buffer.proofs.Steps.{El, R, elτ, Al, P, as_written, align, List, [], ◌∷◌, Env, Opd, Ty, op2}
+use Rattle.v_frame_buffer.proofs.Steps.{unsigned, vint, w64, size, is, bin, size_word, subst, ap, ◌<◌, ◌^◌, uncapped}
+use Rattle.v_frame_buffer.proofs.Steps.{Item, Rv}
 use mir.Syntax.{mul, size_of}
 use types.Run.{Opd as Reads}
 use mir.Raw.{raw as bare}
@@ -20,7 +23,8 @@ abbrev pub no_bytes : Val
 no_bytes = vstruct (vcons (vstruct vnil) vnil)
 
 -- a fact besides others is one fact more
-pub one_more_fact : {M : Type 1} (𝓤 : Ura M) (φ : Type 0) {P : SProp 𝓤} {ψ : Type 0} → ent 𝓤 P (fact 𝓤 ψ) → ent 𝓤 (sep 𝓤 (fact 𝓤 φ) P) (fact 𝓤 (φ × ψ))
+pub one_more_fact : {M : Type 1} (𝓤 : Ura M) (φ : Type 0) {P : SProp 𝓤} {ψ : Type 0} → ent 𝓤 P (fact 𝓤 ψ) → ent 𝓤
+    (sep 𝓤 (fact 𝓤 φ) P) (fact 𝓤 (φ × ψ))
 one_more_fact 𝓤 φ {P} {ψ} said = via 𝓤 (sep 𝓤 (fact 𝓤 φ) (fact 𝓤 ψ)) (mono_r 𝓤 (fact 𝓤 φ) said) (both_facts 𝓤 φ ψ)
 
 -- the product of a number and the size of a type, where it fits
@@ -62,13 +66,16 @@ module _ (E : El) where
     pub no_room : (n b o : ℕ) → n * wide ≡ 0 → ent 𝓤 (emp 𝓤) (Room n b o)
     no_room n b o none =
         via 𝓤 (Room 0 b o) (𝓛.laws.room_nil (elτ E) b o)
-        (via 𝓤 _ (𝓛.laws.room_as (ty_array (elτ E) 0) (ty_array (elτ E) n) b o (none ∙ sym (zero-mul wide)) (dv_self (align (elτ E))))
+        (via 𝓤 _ (𝓛.laws.room_as (ty_array (elτ E) 0) (ty_array (elτ E) n) b o (none ∙ sym (zero-mul wide))
+        (dv_self (align (elτ E))))
         (fst∗ 𝓤 (Room n b o) (wand 𝓤 (Room n b o) (Room 0 b o))))
 
-    -- room for m entries, and for n behind them
-    pub room_joined : (m n t b o : ℕ) → m + n ≡ t → ent 𝓤 (sep 𝓤 (Room m b o) (sem 𝓛 (room_at (R E) b (m * wide + o) n))) (Room t b o)
+    -- room for m entries, and for n after them
+    pub room_joined : (m n t b o : ℕ) → m + n ≡ t → ent 𝓤
+        (sep 𝓤 (Room m b o) (sem 𝓛 (room_at (R E) b (m * wide + o) n))) (Room t b o)
     room_joined m n t b o e =
         let rows = ty_array (elτ E) n in
         qed 𝓛 (‵ (froom (ty_array (elτ E) m) b o) ∷ ‵ (froom (bare rows) b (m * wide + o)) ∷ []) ∵ move ! (1 ∷ []) $
-        as_written ! rows b (m * wide + o) $ rewrite ! 0 (λ (k : ℕ). ‵ (froom rows b k)) (add_comm (m * wide) o) refl $ move ! (1 ∷ []) $
+        as_written ! rows b (m * wide + o) $ rewrite ! 0 (λ (k : ℕ). ‵ (froom rows b k)) (add_comm (m * wide) o) refl $
+        move ! (1 ∷ []) $
         by ! (Rows.glued (record { row = E.row; laws = E.laws }) 𝓛 m n t b o e)

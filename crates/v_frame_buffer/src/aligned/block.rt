@@ -1,8 +1,8 @@
 //! The block of memory behind a buffer: five functions, the only ones that use pointers.
 //!
 //! A block is held as three parts, so that each function takes what it needs: where it begins, which may be copied and owns
-//! nothing; its entries with the room behind them; and the right to give it back. The last two take no space. In a contract
-//! they tell the address that they belong to, so no two blocks are mixed.
+//! nothing; its entries with the room after them; and the right to give it back. The last two take no space. In a contract
+//! they say the address that they belong to, so no two blocks are mixed.
 ghost use Rattle.std.specs.Prelude.{◌≡◌, ℕ, ◌+◌, ◌*◌, ◌<◌, List, [], ◌∷◌, ◌++◌, ◌≤◌, length, slice_range, IfOk, IsOk, ⊤};
 ghost use Rattle.std.specs.Borrow.{sem};
 ghost use Rattle.std.specs.Mem.{type_size};
@@ -37,7 +37,7 @@ unsafe impl<T> Send for Base<T> {}
 
 unsafe impl<T> Sync for Base<T> {}
 
-/// The entries of a block, those that were written first, and the room behind them. It takes no space.
+/// The entries of a block, those that were written first, and the room after them. It takes no space.
 pub(super) struct Cells<T> {
     mark: PhantomData<*const T>,
     pub(super) ghost at: { Ptr },
@@ -75,7 +75,7 @@ unsafe impl<T, A: Allocator + Send> Send for Deed<T, A> {}
 unsafe impl<T, A: Allocator> Sync for Deed<T, A> {}
 
 /// Room for `len` entries. Where these take no bytes, no memory is requested.
-pub(super) fn take_room<T, A: Allocator>(
+pub(super) fn allocate<T, A: Allocator>(
     alloc: &A,
     len: usize,
 ) -> Result<(Base<T>, Cells<T>, Deed<T, A>), AllocError>
@@ -101,7 +101,7 @@ pub(super) fn take_room<T, A: Allocator>(
 }
 
 /// Drops the entries, each once and from the first on, and gives the memory back.
-pub(super) fn give_back<T: Drop, A: Allocator>(
+pub(super) fn deallocate<T: Drop, A: Allocator>(
     alloc: &A,
     base: Base<T>,
     written: usize,
@@ -130,7 +130,7 @@ pub(super) fn give_back<T: Drop, A: Allocator>(
 impl<T> Cells<T> {
     ghost use Rattle.v_frame_buffer.specs.BlockLends.{LendsItems};
 
-    /// Writes the entry at index `place`, behind those that were written.
+    /// Writes the entry at index `place`, after those that were written.
     pub(super) fn write_next(&mut self, base: Base<T>, place: usize, entry: T)
         requires { (base.ptr ≡ self.old.at) × (length self.old.items ≡ place) × (0 < self.old.spare) }
         ensures items { (self.new.at ≡ self.old.at) × (self.new.items ≡ self.old.items ++ entry ∷ []) }
@@ -139,7 +139,7 @@ impl<T> Cells<T> {
         unsafe { base.ptr.add(place).write(entry) }
     }
 
-    /// The entries, which are `len` many.
+    /// Returns the entries, which are `len` many.
     pub(super) fn slice(&self, base: Base<T>, len: usize) -> &[T]
         requires { (base.ptr ≡ self.now.at) × (length self.now.items ≡ len) }
         ensures { result.now ≡ self.now.items }
@@ -147,7 +147,7 @@ impl<T> Cells<T> {
         unsafe { slice::from_raw_parts(base.ptr as *const T, len) }
     }
 
-    /// The entries from `start` up to `end`, for writing.
+    /// Returns the entries from `start` up to `end`, for writing.
     pub(super) fn slice_mut(&mut self, base: Base<T>, start: usize, end: usize) -> &mut [T]
         requires base { base.ptr ≡ self.old.at }
         requires order { start ≤ end }

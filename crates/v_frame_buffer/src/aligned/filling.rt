@@ -3,7 +3,7 @@ ghost use Rattle.std.specs.Prelude.{◌≡◌, ◌+◌, ◌<◌, [], ◌∷◌, 
 ghost use Rattle.v_frame_buffer.specs.Filling.{filled_with};
 
 use super::AlignedData;
-use super::block::{Base, Cells, Deed, give_back, take_room};
+use super::block::{Base, Cells, Deed, allocate, deallocate};
 use std::alloc::{AllocError, Global};
 use std::marker::Model;
 use std_alloc::room::may_hold;
@@ -32,7 +32,7 @@ impl<T> Model for Filling<T> {
 }
 
 impl<T> Filling<T> {
-    /// A block with room for `len` entries, none of which is written. Room for no entries is never refused.
+    /// Returns a block with room for `len` entries, none of which is written. Room for no entries is never refused.
     pub(super) fn new(alloc: Global, len: usize) -> Result<Self, AllocError>
         ensures room { IfOk result (λ f. f ≡ filled_with [] len) }
         ensures no_entries { len ≡ 0 → IsOk result }
@@ -40,7 +40,7 @@ impl<T> Filling<T> {
         if len != 0 && !may_hold::<T>(len) {
             return Err(AllocError);
         }
-        let (base, cells, deed) = take_room(&alloc, len)?;
+        let (base, cells, deed) = allocate(&alloc, len)?;
         Ok(Filling {
             base,
             written: 0,
@@ -62,7 +62,7 @@ impl<T> Filling<T> {
         self.written += 1;
     }
 
-    /// The buffer, once every entry is written.
+    /// Returns the buffer, once every entry is written.
     pub(super) fn finish(self) -> AlignedData<T>
         requires { self.spare ≡ 0 }
         ensures { result ≡ self.items }
@@ -96,6 +96,6 @@ impl<T: Drop> Drop for Filling<T> {
             deed,
             alloc,
         } = self;
-        give_back(&alloc, base, written, len, cells, deed);
+        deallocate(&alloc, base, written, len, cells, deed);
     }
 }

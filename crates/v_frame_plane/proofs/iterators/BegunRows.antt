@@ -1,13 +1,14 @@
 -- An iterator over pixels as a row that was begun from the front, rows, and a row that was begun from the back.
-use Rattle.std.proofs.Common.{All, Some, ◌≡◌, ◌+◌, ◌*◌, ◌^◌, ◌<◌, ◌≤◌, List, [], ◌∷◌, ◌++◌, length, refl, ap, arith, append-nil, append_assoc, length-append}
+use Rattle.std.proofs.Common.{All, Some, ◌≡◌, ◌+◌, ◌*◌, ◌^◌, ◌<◌, ◌≤◌, List, [], ◌∷◌, ◌++◌, length, refl, ap, arith}
+use Rattle.std.proofs.Common.{append-nil, append_assoc, length-append}
 use Rattle.std.proofs.lemmas.List.{nil_from_length}
 use Rattle.std.proofs.lemmas.List.Elements.{All-nil, All-head, All-tail, All-pop, All-weaker}
-use Rattle.v_frame_plane.specs.Plane.{Raster, IsWhole, table_of}
-use Rattle.v_frame_layout.specs.Table.{row_major}
+use Rattle.v_frame_raster.specs.Raster.{Raster, IsWhole, table_of}
+use Rattle.v_frame_raster.specs.Table.{row_major}
 use Rattle.v_frame_plane.specs.Cursor.{PixelsAreCountable}
-use Rattle.v_frame_layout.proofs.Plans.{visible_within}
-use Rattle.v_frame_plane.proofs.tables.Pictures.{length-shown}
-use Rattle.v_frame_plane.proofs.tables.Places.{rows_are_wide}
+use Rattle.v_frame_raster.proofs.Plans.{visible_within}
+use Rattle.v_frame_raster.proofs.tables.Pictures.{length-shown}
+use Rattle.v_frame_raster.proofs.tables.Places.{rows_are_wide}
 use Rattle.v_frame_plane.proofs.iterators.Cursors.{pixels_of_rows}
 
 module _ {T : Type 0} where
@@ -39,34 +40,54 @@ module _ {T : Type 0} where
   }
 
   -- then its pixels can be counted with the others, and so they can where no row is left
-  pub drawn_countable : {front back row : List T} {rows rest : List (List T)} → PixelsAreCountable front rows back → IsDrawn rows row rest →
-      (begun left : List T) → length begun + length left ≤ length front + length row + length back → PixelsAreCountable begun rest left
+  pub drawn_countable : {front back row : List T} {rows rest : List (List T)} → PixelsAreCountable front rows back →
+      IsDrawn rows row rest →
+      (begun left : List T) → length begun + length left ≤ length front + length row + length back → PixelsAreCountable
+      begun rest left
   drawn_countable before drawn begun left few =
       record { full = (drawn.full before.full).1; bound = omega (arith, before.bound, drawn.count, few) }
 
-  pub none_countable : {front back : List T} {rows rest : List (List T)} → PixelsAreCountable front rows back → rest ≡ [] → (begun left : List T) →
+  pub none_countable : {front back : List T} {rows rest : List (List T)} → PixelsAreCountable front rows back → rest ≡
+      [] → (begun left : List T) →
       length begun + length left ≤ length front + length back → PixelsAreCountable begun rest left
-  none_countable before none begun left few = rw none record { full = All-nil IsFull; bound = omega (arith, before.bound, few) }
+  none_countable before none begun left few = rw none record
+      { full = All-nil IsFull; bound = omega (arith, before.bound, few) }
 
   -- the pixels that are left are the same once the last row was begun
-  pub last_row_left : (front back row : List T) (rows rest : List (List T)) → length back ≡ 0 → rows ≡ rest ++ row ∷ [] →
+  pub last_row_left : (front back row : List T) (rows rest : List (List T)) → length back ≡ 0 → rows ≡ rest ++ row ∷ []
+      →
       front ++ (row_major rest ++ row) ≡ front ++ (row_major rows ++ back)
-  last_row_left front back row rows rest none e = rw (nil_from_length back none, e, append-nil, row_major-push rest row) refl
+  last_row_left front back row rows rest none e = rw
+      (nil_from_length back none, e, append-nil, row_major-push rest row) refl
 
   -- all rows of a plane can be iterated
-  pub visible_countable : (p : Raster T) → 0 < p.geometry.width → IsWhole p.geometry p.buffer → PixelsAreCountable [] (table_of p) []
+  pub visible_countable : (p : Raster T) → 0 < p.geometry.width → IsWhole p.geometry p.buffer → PixelsAreCountable []
+      (table_of p) []
   visible_countable p wide is =
       let g = p.geometry in
       let rows = rows_are_wide p is.whole in
       record {
         full = All-weaker (λ row. length row ≡ g.width) IsFull (λ row e. omega arith) (table_of p) rows;
-        bound = omega (arith, is.fits, visible_within g, pixels_of_rows g.width (table_of p) rows, ap (λ n. n * g.width) (length-shown p));
+        bound = omega (
+          arith,
+          is.fits,
+          visible_within g,
+          pixels_of_rows g.width (table_of p) rows,
+          ap
+              (λ n. n * g.width) (length-shown p),
+        );
       }
 
   -- a plane shows as many pixels as its rectangle has
-  pub visible_pixels : (p : Raster T) → IsWhole p.geometry p.buffer → length (row_major (table_of p)) ≡ p.geometry.width * p.geometry.height
+  pub visible_pixels : (p : Raster T) → IsWhole p.geometry p.buffer → length (row_major (table_of p)) ≡
+      p.geometry.width * p.geometry.height
   visible_pixels p is =
-      omega (arith, pixels_of_rows p.geometry.width (table_of p) (rows_are_wide p is.whole), ap (λ n. n * p.geometry.width) (length-shown p))
+      omega (
+        arith,
+        pixels_of_rows p.geometry.width (table_of p) (rows_are_wide p is.whole),
+        ap
+            (λ n. n * p.geometry.width) (length-shown p),
+      )
 
   -- and their bytes, of which each has two at most, can be counted
   pub visible_few : (p : Raster T) → IsWhole p.geometry p.buffer → 2 * length (row_major (table_of p)) < 2 ^ 63

@@ -13,12 +13,15 @@ module _ {A X : Type 0} (shows : A → X) where
   shows_in_reverse = from_back (TakesLast shows) shows (λ s. s) (λ s t h. ap length h.0) (λ s x t h. h)
 
   -- such a call makes progress: it leaves one item fewer, or there was none
-  pub first_taken : (can : List X → Type 0) (items left : List X) (r : Option A) → can left → TakesFirst shows items r left →
+  pub first_taken : (can : List X → Type 0) (items left : List X) (r : Option A) → can left → TakesFirst shows items r
+      left →
       MakesProgress can (λ rest. at_most (length rest)) items r left
   first_taken can items left None may h = record { on = λ _. tt; keeps = tt; rests = λ _. tt }
-  first_taken can items left (Some item) may h = record { on = λ _. (may, tt, omega (arith, ap length h)); keeps = may; rests = λ _. tt }
+  first_taken can items left (Some item) may h = record
+      { on = λ _. (may, tt, omega (arith, ap length h)); keeps = may; rests = λ _. tt }
 
-  pub last_taken : (can : List X → Type 0) (items left : List X) (r : Option A) → can left → TakesLast shows items r left →
+  pub last_taken : (can : List X → Type 0) (items left : List X) (r : Option A) → can left → TakesLast shows items r
+      left →
       MakesProgress can (λ rest. at_most (length rest)) items r left
   last_taken can items left None may h = record { on = λ _. tt; keeps = tt; rests = λ _. tt }
   last_taken can items left (Some item) may h = record {

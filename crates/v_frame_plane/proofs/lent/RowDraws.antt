@@ -1,8 +1,9 @@
 -- What the numbers of an iterator that lends rows are before and after `next` and `next_back`, of which `s` is the end.
 --     number, place_of, start_of     the row that is taken, where it begins, and where the next one begins then
 --     Cut     the slice is cut where the row begins, and where it ends.        left     the iterator that is left of it
-use Rattle.v_frame_buffer.proofs.Steps.{ℕ, zero, suc, ◌≡◌, ◌+◌, ◌-◌, ◌*◌, ◌^◌, ◌<◌, ◌≤◌, List, length, take, list_drop, Option, Some, None, MutBor, refl}
-use Rattle.v_frame_buffer.proofs.Steps.{ap, ◌∙◌, arith, length-take-le, length-drop, not, ⊤, T, T_not, eqb, MakesProgress, item_count}
+use Rattle.v_frame_buffer.proofs.Steps.{ℕ, zero, suc, ◌≡◌, ◌+◌, ◌-◌, ◌*◌, ◌^◌, ◌<◌, ◌≤◌, List, length, take, list_drop}
+use Rattle.v_frame_buffer.proofs.Steps.{Option, Some, None, MutBor, refl, ap, ◌∙◌, arith, length-take-le, length-drop}
+use Rattle.v_frame_buffer.proofs.Steps.{not, ⊤, T, T_not, eqb, MakesProgress, item_count}
 use Rattle.v_frame_plane.specs.Cursor.{RowsAreWithin}
 use Rattle.v_frame_plane.specs.RowsLeft.{rows_left}
 use Rattle.v_frame_plane.specs.declared.rows_mut.RowsMut.{RowsMut}
@@ -67,13 +68,21 @@ module _ {X : Type 0} (old : RowsMut X) where
     pub behind_all : (s : Side) → Its s → behind.now ≡ list_drop old.width (list_drop (place_of s old) old.rest.now)
     behind_all s cut = cut.behind_is ∙ ap (list_drop old.width) cut.at_is
 
-    pub within : (s : Side) → Its s → RowsAreWithin (start_of s old) old.width old.gap (old.count - 1) (length (at_side s behind before).now)
+    pub within : (s : Side) → Its s → RowsAreWithin (start_of s old) old.width old.gap (old.count - 1)
+        (length (at_side s behind before).now)
     within at_front cut =
-        let long : length behind.now ≡ length old.rest.now - old.start - old.width = rw (behind_all at_front cut, length-drop, length-drop) refl in
+        let long : length behind.now ≡ length old.rest.now - old.start - old.width = rw
+        (behind_all at_front cut, length-drop, length-drop) refl in
         let rows = one_more old.count (old.width + old.gap) more in
-        record { wide = old.within.wide; stride = old.within.stride; within = λ left. omega (arith, old.within.within more) }
+        record {
+          wide = old.within.wide;
+          stride = old.within.stride;
+          within = λ left. omega
+              (arith, old.within.within more);
+        }
     within at_back cut =
-        let long = ap length cut.before_is ∙ length-take-le (place_of at_back old) old.rest.now (omega (arith, inside at_back more)) in
+        let long = ap length cut.before_is ∙ length-take-le (place_of at_back old) old.rest.now
+        (omega (arith, inside at_back more)) in
         record { wide = old.within.wide; stride = old.within.stride; within = λ left. omega (arith, long) }
 
     abbrev pub left : (s : Side) → Its s → RowsMut X
@@ -96,5 +105,7 @@ module _ {X : Type 0} (old : RowsMut X) where
 
     pub draws : (s : Side) (cut : Its s) → YieldsRow s old (Some row) (left s cut)
     draws at_front cut =
-        rw (cut.row_is, cut.at_is, behind_all at_front cut) (first_row old.start old.width old.gap old.count old.rest.now more)
-    draws at_back cut = rw (cut.row_is, cut.at_is, cut.before_is) (last_row old.start old.width old.gap old.count old.rest.now more)
+        rw (cut.row_is, cut.at_is, behind_all at_front cut)
+        (first_row old.start old.width old.gap old.count old.rest.now more)
+    draws at_back cut = rw (cut.row_is, cut.at_is, cut.before_is)
+        (last_row old.start old.width old.gap old.count old.rest.now more)

@@ -1,12 +1,18 @@
 -- The two ends of an iterator that lends pixels, so that one definition and one proof serve both.
---     near, far     the row that was begun from this end, and from the other.        slot, offset     the number of this end's field, and its place in bytes
---     at_side, by_side     the one of two things, and of two proofs, that is this end's.        put     where a pixel stands that was cut off there
+-- near, far     the row that was begun from this end, and from the other.        slot, offset     the number of this
+-- end's field, and its place in bytes
+-- at_side, by_side     the one of two things, and of two proofs, that is this end's.        put     where a pixel
+-- stands that was cut off there
 --     walk_by     the iterator of its parts, as seen from this end
---     Steps, Yields, Takes, Lends     what is said of a call of a pixel from there.        RowSteps, YieldsRow, LendsRow     the same of a call of a row
-use Rattle.v_frame_buffer.proofs.Steps.{ℕ, ◌≡◌, List, [], ◌∷◌, ◌++◌, Option, Some, None, MutBor, YieldsFirstMut, YieldsLastMut, Fml, RattleType}
-use Rattle.v_frame_plane.specs.{Cursor.PixelsAreCountable, PixelsLeft.pixels_left, RowsLeft.rows_left, Second.LendsBy, Second.Takes as TakesItem}
-use Rattle.v_frame_plane.specs.{SecondPixels.KeepsPixels, SecondPixels.PixelEndsAs, SecondPixels.SecondPixels, SecondRows.LendsFirstRow}
-use Rattle.v_frame_plane.specs.{SecondRows.LendsLastRow, declared.pixels_mut.PixelsMut.PixelsMut, declared.rows_mut.RowsMut.RowsMut}
+-- Steps, Yields, Takes, Lends     what is said of a call of a pixel from there.        RowSteps, YieldsRow, LendsRow
+-- the same of a call of a row
+use Rattle.v_frame_buffer.proofs.Steps.{ℕ, ◌≡◌, List, [], ◌∷◌, ◌++◌, Option, Some, None, MutBor, YieldsFirstMut}
+use Rattle.v_frame_buffer.proofs.Steps.{YieldsLastMut, Fml, RattleType}
+use Rattle.v_frame_plane.specs.{Cursor.PixelsAreCountable, PixelsLeft.pixels_left, RowsLeft.rows_left}
+use Rattle.v_frame_plane.specs.{FinalItems.LendsBy, FinalItems.Takes as TakesItem, FinalPixels.KeepsPixels}
+use Rattle.v_frame_plane.specs.{FinalPixels.PixelEndsAs, FinalPixels.FinalPixels, FinalRows.LendsFirstRow}
+use Rattle.v_frame_plane.specs.{FinalRows.LendsLastRow, declared.pixels_mut.PixelsMut.PixelsMut}
+use Rattle.v_frame_plane.specs.{declared.rows_mut.RowsMut.RowsMut}
 use Rattle.v_frame_plane.proofs.lent.{PixelMemory.back_offset}
 
 pub data Side : Type 0 where
@@ -43,7 +49,8 @@ module _ {X : Type 0} where
   abbrev pub Countable : Side → List X → List (List X) → List X → Type 0
   Countable s near rows far = PixelsAreCountable (at_side s near far) rows (at_side s far near)
 
-  abbrev pub walk_by : (s : Side) (near : MutBor (List X)) (rows : RowsMut X) (far : MutBor (List X)) → Countable s near.now (rows_left rows) far.now →
+  abbrev pub walk_by : (s : Side) (near : MutBor (List X)) (rows : RowsMut X) (far : MutBor (List X)) → Countable s
+      near.now (rows_left rows) far.now →
       PixelsMut X
   walk_by at_front near rows far countable = record { front = near; rows = rows; back = far; countable = countable }
   walk_by at_back near rows far countable = record { front = far; rows = rows; back = near; countable = countable }
@@ -60,15 +67,19 @@ module _ {X : Type 0} where
   abbrev pub YieldsRow : Side → RowsMut X → Option (MutBor (List X)) → RowsMut X → Type 0
   YieldsRow s = at_side s (YieldsFirstMut rows_left) (YieldsLastMut rows_left)
 
-  pub row_steps : (s : Side) (old : RowsMut X) (row : MutBor (List X)) (new : RowsMut X) → YieldsRow s old (Some row) new → RowSteps s old row.now new
-  row_steps s old row new = by_side (λ e. YieldsRow e old (Some row) new → RowSteps e old row.now new) (λ steps. steps) (λ steps. steps) s
+  pub row_steps : (s : Side) (old : RowsMut X) (row : MutBor (List X)) (new : RowsMut X) → YieldsRow s old (Some row)
+      new → RowSteps s old row.now new
+  row_steps s old row new = by_side (λ e. YieldsRow e old (Some row) new → RowSteps e old row.now new) (λ steps. steps)
+      (λ steps. steps) s
 
-  pub no_rows : (s : Side) (old new : RowsMut X) → YieldsRow s old None new → (rows_left old ≡ []) × (rows_left new ≡ [])
-  no_rows s old new = by_side (λ e. YieldsRow e old None new → (rows_left old ≡ []) × (rows_left new ≡ [])) (λ none. none) (λ none. none) s
+  pub no_rows : (s : Side) (old new : RowsMut X) → YieldsRow s old None new → (rows_left old ≡ []) ×
+      (rows_left new ≡ [])
+  no_rows s old new = by_side (λ e. YieldsRow e old None new → (rows_left old ≡ []) × (rows_left new ≡ []))
+      (λ none. none) (λ none. none) s
 
 -- this pixel is drawn at this end: what it and those that are left then hold, those that were left before do
 abbrev pub Takes : Side → (T : RattleType) → PixelsMut T.Denot → MutBor T.Denot → PixelsMut T.Denot → Fml
-Takes s T old pixel new = TakesItem (PixelEndsAs T) (SecondPixels T) (put s) old new pixel
+Takes s T old pixel new = TakesItem (PixelEndsAs T) (FinalPixels T) (put s) old new pixel
 
 abbrev pub Lends : Side → (T : RattleType) → PixelsMut T.Denot → Option (MutBor T.Denot) → PixelsMut T.Denot → Fml
 Lends s T = LendsBy (KeepsPixels T) (λ old new pixel. Takes s T old pixel new)

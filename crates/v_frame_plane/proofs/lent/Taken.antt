@@ -1,13 +1,18 @@
--- A `&mut [T]` of the lifetime κ in a proof by hand: what takes it out of its place, and what may give one. Assumes `Logic`.
---     calls_take     a call of `mem::take`: the place is lent to the call, and holds an empty slice afterwards: what it held is handed back
+-- A `&mut [T]` of the lifetime κ in a proof by hand: what takes it out of its place, and what may give one. Assumes
+-- `Logic`.
+-- calls_take     a call of `mem::take`: the place is lent to the call, and holds an empty slice afterwards: what it
+-- held is handed back
 --     by_row         whether a call of `next` or `next_back` of an iterator over lent rows gave a row
-use Rattle.v_frame_buffer.proofs.Steps.{ℕ, ◌≡◌, List, [], ◌∷◌, length, w64, MutBor, refl, ap, ◌∙◌, Lft, Share, fat, flent, flft, full_share, SProp, id⊢}
-use Rattle.v_frame_buffer.proofs.Steps.{◌⊑◌, ⊑_trans, Fun, fact, shows, mem, param, Laws, param_laws, RattleType, NamedLft, MutSlice, slice_val, heard}
-use Rattle.v_frame_buffer.proofs.Steps.{only, peeks, triple_of, Contract, Ty, a_type, named, tcons, tnil, ty_int, ty_ptr, ty_struct, Val, vptr, Memory}
-use Rattle.v_frame_buffer.proofs.Steps.{Routine, Ura, Item, Seq, ‵, raw, ◌⊛◌, ◌$◌, drop, fsplit, move, rewrite, split, use1, use2, Logic, Body, no, ⊑_meet}
-use Rattle.v_frame_buffer.proofs.Steps.{⊑_refl, meet_⊑_right, Running, arg, bounded, layout, arg_laws, of_field, row_shared, mut_slice_shared}
-use Rattle.v_frame_buffer.proofs.Steps.{mut_slice_laws, Triple, Callee, Place, Opd as Operand, call, seq, dcons, dnil, Calls, Env, Loops, FmC, Post, lands}
-use Rattle.v_frame_buffer.proofs.Steps.{regoal, runs, Opds, Model, ◌^◌, ◌<◌, ◌++◌, Option, Some, None, of_list, Goal, feq_l, fpick, live}
+use Rattle.v_frame_buffer.proofs.Steps.{ℕ, ◌≡◌, List, [], ◌∷◌, length, w64, MutBor, refl, ap, ◌∙◌, Lft, Share, fat}
+use Rattle.v_frame_buffer.proofs.Steps.{flent, flft, full_share, SProp, id⊢, ◌⊑◌, ⊑_trans, Fun, fact, shows, mem, param}
+use Rattle.v_frame_buffer.proofs.Steps.{Laws, param_laws, RattleType, NamedLft, MutSlice, slice_val, heard, only, peeks}
+use Rattle.v_frame_buffer.proofs.Steps.{triple_of, Contract, Ty, a_type, named, tcons, tnil, ty_int, ty_ptr, ty_struct}
+use Rattle.v_frame_buffer.proofs.Steps.{Val, vptr, Memory, Routine, Ura, Item, Seq, ‵, raw, ◌⊛◌, ◌$◌, drop, fsplit}
+use Rattle.v_frame_buffer.proofs.Steps.{move, rewrite, split, use1, use2, Logic, Body, no, ⊑_meet, ⊑_refl, meet_⊑_right}
+use Rattle.v_frame_buffer.proofs.Steps.{Running, arg, bounded, layout, arg_laws, of_field, row_shared, mut_slice_shared}
+use Rattle.v_frame_buffer.proofs.Steps.{mut_slice_laws, Triple, Callee, Place, Opd as Operand, call, seq, dcons, dnil}
+use Rattle.v_frame_buffer.proofs.Steps.{Calls, Env, Loops, FmC, Post, lands, regoal, runs, Opds, Model, ◌^◌, ◌<◌, ◌++◌}
+use Rattle.v_frame_buffer.proofs.Steps.{Option, Some, None, of_list, Goal, feq_l, fpick, live}
 use denote.Struct.Field.{mut_slice_field}
 use mir.Syntax.{Body as Code}
 use prog.Wired.{Wired}
@@ -41,15 +46,18 @@ module _ (T : RattleType) (κ : Lft) where
 
   module _ (laws : Laws T) where
     abbrev pub slice_laws : Laws Slice
-    slice_laws = let ℓ : NamedLft = record { mir = named 1; lft = κ } in of_field (mut_slice_field ℓ (param 0 T) tt) (mut_slice_laws ℓ (param 0 T) tt) refl
+    slice_laws = let ℓ : NamedLft = record { mir = named 1; lft = κ } in of_field (mut_slice_field ℓ (param 0 T) tt)
+        (mut_slice_laws ℓ (param 0 T) tt) refl
         (mut_slice_shared ℓ (param 0 T) tt (row_shared (param 0 T) (param_laws 0 T laws)))
 
     abbrev taken_laws : Laws Taken
     taken_laws = arg_laws word no Slice slice_laws refl
 
-module _ {M : Type 1} {𝓤 : Ura M} (𝓛 : Logic 𝓤) (at_mem : Memory → SProp 𝓤) (run : Routine → Fun 𝓤) (T : RattleType) (κ : Lft) where
+module _ {M : Type 1} {𝓤 : Ura M} (𝓛 : Logic 𝓤) (at_mem : Memory → SProp 𝓤) (run : Routine → Fun 𝓤) (T : RattleType)
+    (κ : Lft) where
   abbrev pub Take : Contract 𝓤
-  Take = triple_of 𝓛 (take.signature (Taken T κ)) (take.spec (Taken T κ) (ghosts (element T κ)) (dict (element T κ)) 𝓛 at_mem run)
+  Take = triple_of 𝓛 (take.signature (Taken T κ)) (take.spec (Taken T κ) (ghosts (element T κ)) (dict (element T κ)) 𝓛
+      at_mem run)
 
   module _ (q : Share) (x : MutBor (List T.Denot)) (b o : ℕ) where
     abbrev pub asked : ℕ → ℕ → Take.Ghost
@@ -58,45 +66,58 @@ module _ {M : Type 1} {𝓤 : Ura M} (𝓛 : Logic 𝓤) (at_mem : Memory → SP
         (((κ', (κ', tt)), (Share.left s, (Share.right s, tt)), (⊑_refl κ', tt), (place, tt), (vptr b o ∷ [], tt)), tt)
 
 -- this is `take`, at each lifetime
-abbrev pub IsTake : {M : Type 1} {𝓤 : Ura M} (𝓛 : Logic 𝓤) (at_mem : Memory → SProp 𝓤) (run : Routine → Fun 𝓤) (T : RattleType) → Fun 𝓤 → Type 1
+abbrev pub IsTake : {M : Type 1} {𝓤 : Ura M} (𝓛 : Logic 𝓤) (at_mem : Memory → SProp 𝓤) (run : Routine → Fun 𝓤)
+    (T : RattleType) → Fun 𝓤 → Type 1
 IsTake {𝓤 = 𝓤} 𝓛 at_mem run T taking = (κ : Lft) → κ ⊑ T.lives → Triple 𝓤 taking (Take 𝓛 at_mem run T κ)
 
 -- the call does what `take` promises
-pub take_meets : {M : Type 1} {𝓤 : Ura M} (𝓛 : Logic 𝓤) (𝓜 : Model 𝓤 𝓛.H) (𝓡 : Running 𝓤 𝓛.H 𝓜) → Wired 𝓡.env take_code.code → Wired 𝓡.env default_code.code →
+pub take_meets : {M : Type 1} {𝓤 : Ura M} (𝓛 : Logic 𝓤) (𝓜 : Model 𝓤 𝓛.H) (𝓡 : Running 𝓤 𝓛.H 𝓜) → Wired 𝓡.env
+    take_code.code → Wired 𝓡.env default_code.code →
     (T : RattleType) (laws : Laws T) (κ : Lft) → κ ⊑ T.lives
-    → Triple 𝓤 (𝓡.run (𝓡.env (take_code.name (bounded (a_type ∷ []) (Taken T κ, tt) (dcons (dict (element T κ)) dnil))))) (Take 𝓛 𝓜.mem 𝓡.returns T κ)
+    → Triple 𝓤 (𝓡.run (𝓡.env (take_code.name (bounded (a_type ∷ []) (Taken T κ, tt)
+    (dcons (dict (element T κ)) dnil))))) (Take 𝓛 𝓜.mem 𝓡.returns T κ)
 take_meets {M} {𝓤} 𝓛 𝓜 𝓡 takes defaults T laws κ inT =
     let element_laws : Laws (element T κ) = arg_laws (layout T) no (param 0 T) (param_laws 0 T laws) refl in
     take_met.met 𝓤 𝓛 𝓜 𝓡 takes (Taken T κ) (taken_laws T κ laws) (ghosts (element T κ)) (dict (element T κ))
     (record { default = (default_met.bound 𝓡.env defaults κ (element T κ) element_laws inT M 𝓤 𝓛 𝓜 𝓡).default })
 
-module _ {M : Type 1} {𝓤 : Ura M} {𝓛 : Logic 𝓤} {K : Type 0} {Γ : List (Item 𝓤)} {E : Env 𝓤 𝓛.H} {C : Calls 𝓤 𝓛.H} {Λ : Loops 𝓤 𝓛.H} {f : Callee} {xs :
+module _ {M : Type 1} {𝓤 : Ura M} {𝓛 : Logic 𝓤} {K : Type 0} {Γ : List (Item 𝓤)} {E : Env 𝓤 𝓛.H} {C : Calls 𝓤 𝓛.H}
+    {Λ : Loops 𝓤 𝓛.H} {f : Callee} {xs :
     List Operand} {d : Place} {rest : Code} {p : Post 𝓤 𝓛.H} where
   -- up to where what the place held is stored: the place holds an empty slice then
-  pub calls_take : K → FmC 𝓤 𝓛.H 𝓛.laws C → (at_mem : Memory → SProp 𝓤) (run : Routine → Fun 𝓤) (T : RattleType) (κ : Lft) →
+  pub calls_take : K → FmC 𝓤 𝓛.H 𝓛.laws C → (at_mem : Memory → SProp 𝓤) (run : Routine → Fun 𝓤) (T : RattleType)
+      (κ : Lft) →
       Triple 𝓤 (C f) (Take 𝓛 at_mem run T κ) → (q : Share) (x : MutBor (List T.Denot)) (b o : ℕ) → κ ⊑ T.lives
       → let One = Slice T κ in
       ((α γ : ℕ) → let y = asked 𝓛 at_mem run T κ q x b o α γ in Opds K 𝓛 (raw ((Take 𝓛 at_mem run T κ).pre y) ∷
-      ‵ (flent (α ∷ κ) (Body (mem (Taken T κ)) b o γ)) ∷ raw (Back 𝓛 α κ q) ∷ Γ) E xs ((Take 𝓛 at_mem run T κ).args y)) →
+      ‵ (flent (α ∷ κ) (Body (mem (Taken T κ)) b o γ)) ∷ raw (Back 𝓛 α κ q) ∷ Γ) E xs ((Take 𝓛 at_mem run T κ).args y))
+      →
       ((e : MutBor (List T.Denot)) → e.now ≡ []
-      → Seq K 𝓛 (‵ (fat full_share word b o (slice_val e.ref_ptr 0)) ∷ ‵ (One.own_val e (slice_val e.ref_ptr 0 ∷ [])) ∷ ‵ (One.own_val x (held x ∷ [])) ∷
+      → Seq K 𝓛 (‵ (fat full_share word b o (slice_val e.ref_ptr 0)) ∷ ‵ (One.own_val e (slice_val e.ref_ptr 0 ∷ [])) ∷
+      ‵ (One.own_val x (held x ∷ [])) ∷
       ‵ (flft κ q) ∷ Γ) (lands C Λ E d (held x) rest p))
-      → Seq K 𝓛 (‵ (fat full_share word b o (held x)) ∷ ‵ (One.own_val x (held x ∷ [])) ∷ ‵ (flft κ q) ∷ Γ) (runs C Λ E (seq (call f xs d) rest) p)
+      → Seq K 𝓛 (‵ (fat full_share word b o (held x)) ∷ ‵ (One.own_val x (held x ∷ [])) ∷ ‵ (flft κ q) ∷ Γ)
+      (runs C Λ E (seq (call f xs d) rest) p)
   calls_take t fm at_mem run T κ met q x b o inT os k =
       let X = Taken T κ in let s = share_within q in
       lends t tt X refl word refl κ q x b o (held x) (λ α γ. let κ' : Lft = α ∷ κ in
-      let within : κ' ⊑ X.lives = ⊑_meet κ' κ T.lives (meet_⊑_right (α ∷ []) κ) (⊑_trans κ' κ T.lives (meet_⊑_right (α ∷ []) κ) inT) in
+      let within : κ' ⊑ X.lives = ⊑_meet κ' κ T.lives (meet_⊑_right (α ∷ []) κ)
+      (⊑_trans κ' κ T.lives (meet_⊑_right (α ∷ []) κ) inT) in
       -- [the place, lent; what its lender keeps; the token of κ'; the way back to that of κ]
-      move t (2 ∷ []) $ use1 𝓛 (‵ (flft κ' (Share.left s)) ⊛ ‵ (flft κ' (Share.right s))) (𝓛.lfts.lft_split κ' s) $ split t $
+      move t (2 ∷ []) $ use1 𝓛 (‵ (flft κ' (Share.left s)) ⊛ ‵ (flft κ' (Share.right s))) (𝓛.lfts.lft_split κ' s) $
+      split t $
       calls t (0 ∷ 1 ∷ 2 ∷ []) fm (take.ended X (ghosts (element T κ)) (dict (element T κ)))
       (take.clauses X (ghosts (element T κ)) (dict (element T κ)) 𝓛 at_mem run)
       met (asked 𝓛 at_mem run T κ q x b o α γ) (asks_that 𝓤 within) refl (os α γ)
       (λ r ws. raw (fact 𝓤 (r ≡ x)) ∷ raw (fact 𝓤 (ws.0.now ≡ [])) ∷ []) (λ r ws. id⊢ 𝓤 _) (λ v r ws.
-      move t (1 ∷ 2 ∷ []) $ heard t _ (λ same. heard t _ (λ empty. move t (1 ∷ 2 ∷ []) $ use2 𝓛 (‵ (flft κ' s)) (𝓛.lfts.lft_join κ' s) $
-      -- [the token of κ'; what was handed back; the last value lent, and its borrow; what the lender keeps; the way back to the token of κ]
+      move t (1 ∷ 2 ∷ []) $ heard t _ (λ same. heard t _
+      (λ empty. move t (1 ∷ 2 ∷ []) $ use2 𝓛 (‵ (flft κ' s)) (𝓛.lfts.lft_join κ' s) $
+      -- [the token of κ'; what was handed back; the last value lent, and its borrow; what the lender keeps; the way
+      -- back to the token of κ]
       let e = ws.0 in
       move t (0 ∷ 4 ∷ []) $ lft_over t tt α κ q $ move t (3 ∷ []) $ fsplit t $
-      move t (2 ∷ 5 ∷ 0 ∷ []) $ comes_back t tt X refl word refl κ' γ b o e (slice_val e.ref_ptr 0) (λ u holds. ap only holds.0.0 ∙
+      move t (2 ∷ 5 ∷ 0 ∷ []) $ comes_back t tt X refl word refl κ' γ b o e (slice_val e.ref_ptr 0)
+      (λ u holds. ap only holds.0.0 ∙
       ap (λ (xs : List T.Denot). slice_val e.ref_ptr (length xs)) empty) $
       -- [the place; what it owns; its borrow; the token of κ; what was handed back]
       move t (4 ∷ []) $ rewrite t 0 (λ (r : MutBor (List T.Denot)). ‵ ((Slice T κ).own_val r (v ∷ []))) same refl $
@@ -104,7 +125,8 @@ module _ {M : Type 1} {𝓤 : Ura M} {𝓛 : Logic 𝓤} {K : Type 0} {Γ : List
       regoal t (λ (u : Val). lands C Λ E d u rest p) is refl $ k e empty)))))
 
 module _ {M : Type 1} {𝓤 : Ura M} {𝓛 : Logic 𝓤} {K : Type 0} {Γ : List (Item 𝓤)} {G : Goal 𝓤 𝓛.H} where
-  pub by_row : K → (T : RattleType) (κ : Lft) (r : Option (MutBor (List T.Denot))) (v : Val) → (r ≡ None → v ≡ live 0 (of_list []) → Seq K 𝓛 Γ G)
+  pub by_row : K → (T : RattleType) (κ : Lft) (r : Option (MutBor (List T.Denot))) (v : Val) →
+      (r ≡ None → v ≡ live 0 (of_list []) → Seq K 𝓛 Γ G)
       → ((row : MutBor (List T.Denot)) → r ≡ Some row → v ≡ live 1 (of_list (held row ∷ [])) → length row.now < 2 ^ 64 →
       Seq K 𝓛 (‵ ((Slice T κ).own_val row (held row ∷ [])) ∷ Γ) G)
       → Seq K 𝓛 (‵ ((Opt.the_row (Slice T κ)).own_val r (v ∷ [])) ∷ Γ) G
@@ -113,4 +135,5 @@ module _ {M : Type 1} {𝓤 : Ura M} {𝓛 : Logic 𝓤} {K : Type 0} {Γ : List
   by_row t T κ (Some row) v without with = let One = Slice T κ in
       fpick t (λ us. fsplit t $ feq_l t (λ e. fpick t (λ vss. fsplit t $ feq_l t (λ are. fsplit t $
       peeks t One _ (shows 𝓛 One) row vss.0 (λ is. rewrite t 0 (λ (ws : List Val). ‵ (One.own_val row ws)) is.0.0 refl $
-      move t (1 ∷ []) $ drop t $ with row refl (ap only e ∙ ap (λ ws. live 1 (of_list ws)) (are ∙ ap (λ ws. ws ++ []) is.0.0)) is.0.1.0)))))
+      move t (1 ∷ []) $ drop t $ with row refl (ap only e ∙ ap (λ ws. live 1 (of_list ws))
+      (are ∙ ap (λ ws. ws ++ []) is.0.0)) is.0.1.0)))))

@@ -1,28 +1,28 @@
--- Two rows of a buffer: that they lie apart, and what the table is where both are written.
-use Rattle.std.proofs.Common.{ℕ, ◌≡◌, ◌≢◌, ◌+◌, ◌-◌, ◌<◌, ◌≤◌, List, ◌++◌, length, take, drop, Some, slice_get, slice_set, refl, sym, ◌∙◌, ap, subst, arith}
+-- Two rows of a buffer: what the table is where both are written.
+use Rattle.std.proofs.Common.{ℕ, ◌≡◌, ◌≢◌, ◌+◌, ◌-◌, ◌<◌, ◌≤◌, List, ◌++◌, length, take, drop, Some, slice_get}
+use Rattle.std.proofs.Common.{slice_set, refl, sym, ◌∙◌, ap, subst, arith}
 use Rattle.std.proofs.Common.{append_assoc, length-append, length-drop, take-append-drop}
 use Rattle.std.proofs.lemmas.List.{drop-drop, drop-take, length-take, take_at, drop_at}
-use Rattle.std.proofs.Math.Nat.{mul-le-mul_right}
 use Rattle.std.specs.List.{refill}
 use Rattle.v_frame_buffer.specs.Part.{with_part}
 use Rattle.v_frame_buffer.proofs.Parts.{length-with_part}
-use Rattle.v_frame_layout.specs.Geometry.{Geometry, stride_of, alloc_size_of, place_of}
-use Rattle.v_frame_plane.specs.Plane.{with_row, WritesRows, Raster, raster, table_of, with_two_parts, WritesEachPair}
-use Rattle.v_frame_plane.proofs.tables.Lists.{refill_same}
-use Rattle.v_frame_layout.proofs.Plans.{place_of_row, row_within}
-use Rattle.v_frame_plane.proofs.tables.Pictures.{overwritten}
-use Rattle.v_frame_plane.proofs.tables.RowWrites.{length-overwritten, row_wide, writes_each_row}
-
--- the upper row ends where the lower one begins, or before
-pub rows_apart : (g : Geometry) (y z start next width : ℕ) → y < z → start ≡ place_of g 0 y → next ≡ place_of g 0 z → width ≡ g.width → start + width ≤ next
-rows_apart g y z start next width order first second wide =
-    let below : y + 1 ≤ z = omega (arith, order) in
-    omega (arith, first, second, wide, mul-le-mul_right (stride_of g) below)
+use Rattle.v_frame_raster.specs.Geometry.{alloc_size_of, place_of}
+use Rattle.v_frame_plane.specs.Plane.{with_row}
+use Rattle.v_frame_raster.specs.Writes.{WritesRows, with_two_parts, WritesEachPair}
+use Rattle.v_frame_raster.specs.Raster.{Raster, raster, table_of}
+use Rattle.v_frame_raster.proofs.tables.Lists.{refill_same}
+use Rattle.v_frame_raster.proofs.Plans.{place_of_row, row_within}
+use Rattle.v_frame_raster.proofs.tables.OwnPlaces.{row_ends_above}
+use Rattle.v_frame_raster.proofs.tables.Pictures.{overwritten, length-overwritten}
+use Rattle.v_frame_raster.proofs.tables.Places.{row_wide}
+use Rattle.v_frame_plane.proofs.tables.RowWrites.{writes_each_row}
 
 module _ {T : Type 0} where
   -- two parts that are written at once are one that is written after the other
-  parts_in_turn : (xs ys zs : List T) (start next width : ℕ) → start + width ≤ next → next + width ≤ length xs → length ys ≡ width → length zs ≡ width
-      → refill (length xs) xs (with_two_parts xs start width next width ys zs) ≡ with_part (with_part xs start ys) next zs
+  parts_in_turn : (xs ys zs : List T) (start next width : ℕ) → start + width ≤ next → next + width ≤ length xs → length
+      ys ≡ width → length zs ≡ width
+      → refill (length xs) xs (with_two_parts xs start width next width ys zs) ≡ with_part (with_part xs start ys) next
+      zs
   parts_in_turn xs ys zs start next width order inside wide other_wide =
       let n : ℕ = next - (start + width) in
       let rest : List T = drop (start + width) xs in
@@ -31,28 +31,50 @@ module _ {T : Type 0} where
       let both : List T = overwritten one next zs in
       let to : next ≡ start + width + n = omega (arith, order) in
       let end : start + width + (n + width) ≡ next + width = omega (arith, to) in
-      let between : drop (start + width) (take next xs) ≡ take n rest = ap (λ k. drop (start + width) (take k xs)) to ∙ drop-take (start + width) n xs in
+      let between : drop (start + width) (take next xs) ≡ take n rest = ap (λ k. drop (start + width) (take k xs)) to ∙
+      drop-take (start + width) n xs in
       let one_is : one ≡ front ++ drop n rest = simp (wide, append_assoc, take-append-drop) (rw drop-drop refl) in
-      let long : length front ≡ next = simp (length-append, length-take, length-drop, wide) (omega (arith, order, inside)) in
+      let long : length front ≡ next = simp (length-append, length-take, length-drop, wide)
+      (omega (arith, order, inside)) in
       let above = take_at front (drop n rest) next long in let below = drop_at front (drop n rest) next long in
       let at_once : with_two_parts xs start width next width ys zs ≡ both =
-      rw (between, one_is, above, below, other_wide, drop-drop width n rest, drop-drop (n + width) (start + width) xs, end) (simp append_assoc) in
+      rw (
+        between,
+        one_is,
+        above,
+        below,
+        other_wide,
+        drop-drop width n rest,
+        drop-drop (n + width) (start + width) xs,
+        end,
+      ) (simp append_assoc) in
       let one_long : length one ≡ length xs = length-overwritten xs ys start (omega (arith, wide, order, inside)) in
-      let both_long : length both ≡ length one = length-overwritten one zs next (omega (arith, one_long, other_wide, inside)) in
-      rw (at_once, refill_same xs one one_long, refill_same xs both (both_long ∙ one_long), refill_same one both both_long) refl
+      let both_long : length both ≡ length one = length-overwritten one zs next
+      (omega (arith, one_long, other_wide, inside)) in
+      rw (
+        at_once,
+        refill_same xs one one_long,
+        refill_same xs both (both_long ∙ one_long),
+        refill_same one both
+            both_long,
+      ) refl
 
   module _ (p : Raster T) (whole : length p.buffer ≡ alloc_size_of p.geometry) where
     -- two rows that are written where two lie replace both in the table, and leave the border
-    pub writes_each_pair : (y z : ℕ) (old old_other : List T) → y < z → z < p.geometry.height → slice_get (table_of p) y ≡ Some old →
+    pub writes_each_pair : (y z : ℕ) (old old_other : List T) → y < z → z < p.geometry.height → slice_get (table_of p)
+        y ≡ Some old →
         slice_get (table_of p) z ≡ Some old_other → WritesEachPair p y z old old_other
     writes_each_pair y z old old_other order high is other_is = λ row other same other_same.
         let g = p.geometry in let xs = p.buffer in let start = place_of g 0 y in let next = place_of g 0 z in
         let apart : y ≢ z = λ e. absurd (omega (arith, order, e)) in
         let one = writes_each_row p whole y old (omega (arith, order, high)) is row same in
-        let two = writes_each_row (with_row p y row) (length-with_part xs start row ∙ whole) z old_other high (one.others z (λ e. apart (sym e)) ∙ other_is)
+        let two = writes_each_row (with_row p y row) (length-with_part xs start row ∙ whole) z old_other high
+        (one.others z (λ e. apart (sym e)) ∙ other_is)
         other other_same in
-        let inside : next + g.width ≤ length xs = omega (arith, whole, row_within g z high, place_of_row g z (omega (arith, high))) in
-        let in_turn = parts_in_turn xs row other start next g.width (rows_apart g y z start next g.width order refl refl refl) inside
+        let inside : next + g.width ≤ length xs = omega
+        (arith, whole, row_within g z high, place_of_row g z (omega (arith, high))) in
+        let above = row_ends_above g y z start next g.width order refl refl refl in
+        let in_turn = parts_in_turn xs row other start next g.width above inside
         (same ∙ row_wide p whole y old is) (other_same ∙ row_wide p whole z old_other other_is) in
         subst (λ entries. WritesRows p y z (raster g entries) row other) (sym in_turn) (record {
           geometry = refl;

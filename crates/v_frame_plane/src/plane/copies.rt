@@ -1,16 +1,18 @@
 //! Copies into a plane, from pixels and from bytes.
 //!
 //! Pixels and bytes share the loop of `encoding`, and bytes without tails are bytes with the stride of a row.
-ghost use Rattle.std.specs.Prelude.{◌≡◌, ◌*◌, ◌+◌, length, OnOk};
-ghost use Rattle.v_frame_layout.specs.Pixel.{byte_list};
-ghost use Rattle.v_frame_layout.specs.Table.{width_of, height_of, row_major};
-ghost use Rattle.v_frame_plane.specs.Plane.{table_of};
-ghost use Rattle.v_frame_plane.specs.Copy.{Copies, packed_copy, piece_fronts, strided_copy, packed_byte_copy};
+ghost use Rattle.std.specs.Prelude.{◌≡◌, ◌*◌, ◌+◌, length, map, OnOk};
+ghost use Rattle.v_frame_raster.specs.Pixel.{byte_list};
+ghost use Rattle.v_frame_raster.specs.Table.{width_of, height_of, row_major};
+ghost use Rattle.v_frame_raster.specs.Raster.{IsWhole, border_of, raster, table_of};
+ghost use Rattle.v_frame_plane.specs.Copy.{Copies, packed_copy, strided_copy, packed_byte_copy};
+ghost use Rattle.v_frame_raster.specs.StridedRows.{piece_fronts};
 
-use super::{CopyError, Plane};
-use crate::encoding::{AsBytes, AsPixels, write_rows};
+use super::{CopyError, Plane, PlaneGeometry};
+use crate::encoding::{AsBytes, AsPixels, Encoding, write_rows};
 use crate::place::visible_size;
-use v_frame_layout::pixel::Pixel;
+use crate::rows_ref::RowsRef;
+use v_frame_raster::pixel::Pixel;
 
 impl<T: Pixel> Plane<T> {
     /// Replaces the visible pixels by those of `src`, row after row. The border stays.
@@ -33,8 +35,10 @@ impl<T: Pixel> Plane<T> {
                 found: src.len(),
             });
         }
+        let (width, height) = (geometry.width(), geometry.height());
+        let source = RowsRef::of_parts(src, width, height, width);
         let buffer = self.buffer.as_mut_slice();
-        write_rows::<T, AsPixels>(geometry, buffer, src, geometry.width());
+        write_visible::<T, AsPixels>(&source, buffer, geometry);
         Ok(())
     }
 
@@ -88,8 +92,29 @@ impl<T: Pixel> Plane<T> {
                 found: src.len(),
             });
         }
+        let source = RowsRef::of_parts(src, width * T::BYTES, geometry.height(), stride);
         let buffer = self.buffer.as_mut_slice();
-        write_rows::<T, AsBytes>(geometry, buffer, src, stride);
+        write_visible::<T, AsBytes>(&source, buffer, geometry);
         Ok(())
     }
+}
+
+/// Writes the visible rows of a whole buffer, each from the row of the source of the same number.
+fn write_visible<T, E: Encoding<T>>(
+    source: &RowsRef<'_, E::Entry>,
+    buffer: &mut [T],
+    geometry: PlaneGeometry,
+)
+    requires whole { IsWhole geometry buffer.old }
+    requires wide { width_of source.now ≡ geometry.width * E.ENTRIES }
+    requires high { height_of source.now ≡ geometry.height }
+    ensures table { table_of (raster geometry buffer.new)
+        ≡ map (E.row_of geometry.width) source.now }
+    ensures border { border_of (raster geometry buffer.new)
+        ≡ border_of (raster geometry buffer.old) }
+    ensures count { length buffer.new ≡ length buffer.old }
+{
+    let (_, visible) = buffer.split_at_mut(geometry.data_origin());
+    let (width, height) = (geometry.width(), geometry.height());
+    write_rows::<T, E>(source, visible, width, height, geometry.stride());
 }

@@ -1,14 +1,14 @@
 //! Planes that are filled entry by entry: each entry holds a value or none.
 ghost use Rattle.std.specs.Prelude.{◌≡◌, ◌↔◌, None, IsTrue, IfOk, IfErr};
-ghost use Rattle.v_frame_layout.specs.Geometry.{Fits};
-ghost use Rattle.v_frame_plane.specs.Plane.{IsFull, options_of, filled};
+ghost use Rattle.v_frame_raster.specs.Geometry.{Fits};
+ghost use Rattle.v_frame_raster.specs.Raster.{IsFull, options_of, filled};
 
 use super::{Plane, PlaneGeometry};
 use std::alloc::{AllocError, Global};
 use v_frame_buffer::AlignedData;
 
 impl<T> Plane<T> {
-    /// A plane whose entries are all `None`, to be filled through [`data_mut`](Self::data_mut).
+    /// Returns a plane whose entries are all `None`, to be filled through [`data_mut`](Self::data_mut).
     ///
     /// The [`checked_alloc_size`](PlaneGeometry::checked_alloc_size) of the geometry has to be `Some`.
     ///
@@ -30,7 +30,7 @@ impl<T> Plane<T> {
 }
 
 impl<T> Plane<Option<T>> {
-    /// Whether every entry holds a value, in the border too. Our own.
+    /// Returns whether every entry holds a value, in the border too. Our own.
     pub fn is_init(&self) -> bool
         ensures { IsTrue result ↔ IsFull self.now }
     {
@@ -39,7 +39,7 @@ impl<T> Plane<Option<T>> {
 }
 
 impl<T: Drop> Plane<Option<T>> {
-    /// The plane of the values. [`is_init`](Self::is_init) has to be true.
+    /// Returns the plane of the values. [`is_init`](Self::is_init) has to be true.
     ///
     /// Ports `Plane::assume_init` of `v_frame` 0.7.0, which asks the same of its callers and takes no second buffer.
     ///

@@ -1,15 +1,16 @@
-//! Two parts of a whole buffer for writing at once: a row and what lies behind it, and two rows.
+//! Two parts of a whole buffer for writing at once: a row and what lies after it, and two rows.
 ghost use Rattle.std.specs.Prelude.{◌≡◌, ◌+◌, ◌<◌, ◌≤◌, Some, drop, length, slice_get, take};
 ghost use Rattle.std.specs.Borrow.{sem};
-ghost use Rattle.v_frame_layout.specs.Geometry.{place_of};
+ghost use Rattle.v_frame_raster.specs.Geometry.{place_of};
 ghost use Rattle.v_frame_plane.specs.Cut.{LendsTwoParts};
 ghost use Rattle.v_frame_plane.specs.Lends.{LendsRowAndRest, LendsVisibleRows};
-ghost use Rattle.v_frame_plane.specs.Plane.{IsWhole, WritesEachFront, WritesEachPair, raster, table_of};
+ghost use Rattle.v_frame_raster.specs.Raster.{IsWhole, raster, table_of};
+ghost use Rattle.v_frame_raster.specs.Writes.{WritesEachFront, WritesEachPair};
 
 use super::PlaneGeometry;
 use crate::place::row_start;
 
-/// The visible pixels of row `y` for writing, and the entries of the buffer behind them.
+/// Returns the visible pixels of row `y` for writing, and the entries of the buffer after them.
 ///
 /// `buffer` is the whole buffer of a plane of this geometry, as for [`visible_rows_mut`]. Where the row alone is written, a
 /// caller's proof knows all that [`Plane::visible_row_mut`](super::Plane::visible_row_mut) promises. The rest is lent beside it
@@ -30,7 +31,7 @@ pub fn split_row_mut<T>(buffer: &mut [T], geometry: PlaneGeometry, y: usize) -> 
     two_parts(buffer, place, width, end, behind)
 }
 
-/// The visible pixels of rows `y` and `z` for writing, the first above the second.
+/// Returns the visible pixels of rows `y` and `z` for writing, the first above the second.
 ///
 /// `buffer` is the whole buffer of a plane of this geometry: `visible_rows_mut(plane.data_mut(), geometry, y, z)`, where
 /// `geometry` was read before. A caller's automatic proof knows what is written through both rows. Our own.
@@ -56,7 +57,7 @@ pub fn visible_rows_mut<T>(
     two_parts(buffer, start, width, next, width)
 }
 
-/// Two parts of a slice: one of `width` entries from `start` on, and behind it one of `other` entries from `next` on.
+/// Two parts of a slice: one of `width` entries from `start` on, and after it one of `other` entries from `next` on.
 fn two_parts<T>(
     entries: &mut [T],
     start: usize,

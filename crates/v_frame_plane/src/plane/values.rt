@@ -4,7 +4,7 @@ ghost use Rattle.std.specs.Prelude.{◌≡◌, IfOk};
 use super::Plane;
 use std::alloc::{AllocError, Global};
 use std::fmt;
-use v_frame_layout::geometry::PlaneGeometry;
+use v_frame_raster::geometry::PlaneGeometry;
 
 impl<T: Copy> Plane<T> {
     /// The same plane in a buffer of its own.
@@ -28,7 +28,7 @@ impl<T: Copy> Plane<T> {
 impl<T: PartialEq> PartialEq for Plane<T> {
     ghost use Rattle.std.specs.Ordering.{on, eq_of_both};
     ghost use Rattle.std.specs.Cmp.{and_per, on_per};
-    ghost use Rattle.v_frame_layout.specs.contracts.geometry.PlaneGeometryPartialEq.TheImpl.Laws as geometries;
+    ghost use Rattle.v_frame_raster.specs.contracts.geometry.PlaneGeometryPartialEq.TheImpl.Laws as geometries;
     ghost use Rattle.std.specs.Cmp.Lexicographic.{pointwise, lists_per};
 
     ghost eq = { eq_of_both (on (λ p. p.geometry) ⟦<PlaneGeometry as PartialEq>⟧.eq)
@@ -44,7 +44,7 @@ impl<T: PartialEq> PartialEq for Plane<T> {
 
 impl<T: Eq> Eq for Plane<T> {
     ghost use Rattle.std.specs.Cmp.{and_equiv, on_equiv};
-    ghost use Rattle.v_frame_layout.specs.contracts.geometry.PlaneGeometryEq.TheImpl.Laws as geometries;
+    ghost use Rattle.v_frame_raster.specs.contracts.geometry.PlaneGeometryEq.TheImpl.Laws as geometries;
     ghost use Rattle.std.specs.Cmp.Lexicographic.{lists_equiv};
 
     ghost laws = { and_equiv (on_equiv (λ p. p.geometry) geometries.laws-law)

@@ -4,7 +4,7 @@ ghost use Rattle.v_frame.specs.Prelude.{tables_of};
 ghost use Rattle.v_frame_planar.specs.Planar.{sizes_of};
 
 use super::{Opened, open};
-use crate::arguments::Named;
+use crate::arguments::InputFile;
 use crate::compare::{Comparison, compare_streams};
 use crate::fault::{Fault, Problem};
 use crate::frames::have_same_sizes;
@@ -20,10 +20,10 @@ use v_frame::frame::Frame;
 use v_frame::pixel::Pixel;
 use v_frame_planar::Counted;
 
-/// Tells how far two streams are apart.
+/// Reports how far two streams are apart.
 pub fn do_compare<H, I, O, E>(
     rt: &H,
-    (first, second): (&Named<'_>, &Named<'_>),
+    (first, second): (&InputFile<'_>, &InputFile<'_>),
     frames: bool,
     standard: &mut Option<I>,
     output: &mut O,
@@ -45,11 +45,11 @@ where
     }
 }
 
-/// Tells how far a second stream is from one that is open.
+/// Reports how far a second stream is from one that is open.
 fn compare_opened<H, R, I, O, E>(
     rt: &H,
     first: &mut Opened<R>,
-    second: &Named<'_>,
+    second: &InputFile<'_>,
     frames: bool,
     standard: &mut Option<I>,
     output: &mut O,
@@ -72,7 +72,7 @@ where
     }
 }
 
-/// Tells how far two streams that are open are apart.
+/// Reports how far two streams that are open are apart.
 fn compare_both<R: io::Read, S: io::Read, O: io::Write, E: io::Write>(
     alloc: Global,
     first: &mut Opened<R>,
@@ -92,7 +92,7 @@ fn compare_both<R: io::Read, S: io::Read, O: io::Write, E: io::Write>(
     }
 }
 
-/// Tells how far two streams of pixels of this type are apart.
+/// Reports how far two streams of pixels of this type are apart.
 fn compare_as<T: Pixel, R: io::Read, S: io::Read, O: io::Write, E: io::Write>(
     alloc: Global,
     first: &mut Opened<R>,
@@ -116,7 +116,7 @@ fn compare_as<T: Pixel, R: io::Read, S: io::Read, O: io::Write, E: io::Write>(
     }
 }
 
-/// Tells how far a second stream is from one of pixels of this type.
+/// Reports how far a second stream is from one of pixels of this type.
 fn compare_with<T: Pixel, R: io::Read, S: io::Read, O: io::Write, E: io::Write>(
     alloc: Global,
     first: &mut Input<T, R>,
@@ -149,7 +149,7 @@ fn compare_with<T: Pixel, R: io::Read, S: io::Read, O: io::Write, E: io::Write>(
     }
 }
 
-/// Tells how far two streams are apart, if they have one format, and of each two frames if that is wanted.
+/// Reports how far two streams are apart, if they have one format, and of each two frames if that is wanted.
 fn compare_inputs<T: Pixel, R: io::Read, S: io::Read, O: io::Write, E: io::Write>(
     alloc: Global,
     bit_depth: u8,
@@ -168,16 +168,16 @@ fn compare_inputs<T: Pixel, R: io::Read, S: io::Read, O: io::Write, E: io::Write
             pixels: pixel_counts(&first.frame),
             bit_depth,
         },
-        is_told: frames,
+        enabled: frames,
     };
     match compare_streams(alloc, first, second, &mut lines, progress) {
-        Ok(found) => tell_comparison(alloc, &found, &mut lines),
+        Ok(found) => report_comparison(alloc, &found, &mut lines),
         Err(fault) => Err(fault),
     }
 }
 
-/// Tells what was found of two streams.
-fn tell_comparison<O: io::Write>(
+/// Reports what was found of two streams.
+fn report_comparison<O: io::Write>(
     alloc: Global,
     found: &Comparison,
     lines: &mut FrameLines<O>,
@@ -192,7 +192,7 @@ fn tell_comparison<O: io::Write>(
     }
 }
 
-/// Whether two frames have one format, and planes of the same sizes.
+/// Returns whether two frames have one format, and planes of the same sizes.
 fn have_one_format<T: Pixel>(first: &Frame<T>, second: &Frame<T>) -> bool
     ensures { IsTrue result → sizes_of (tables_of first.now) ≡ sizes_of (tables_of second.now) }
 {

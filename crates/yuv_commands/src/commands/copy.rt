@@ -7,7 +7,7 @@ ghost use Rattle.yuv_commands.specs.Edits.{EditFits};
 ghost use Rattle.yuv_commands.specs.Streams.{header_bytes};
 
 use super::{Opened, open};
-use crate::arguments::{Named, Wanted};
+use crate::arguments::{CopyOptions, InputFile};
 use crate::copy::{CopyFault, copy_frames, edit_frames};
 use crate::edit::{Edit, Rectangle, can_edit};
 use crate::fault::{Caused, Fault, Problem};
@@ -26,8 +26,8 @@ use v_frame_y4m::{StreamHeader, write_header};
 /// Writes a stream once more.
 pub fn do_copy<H, I, O, E>(
     rt: &H,
-    (from, to): (&Named<'_>, &str),
-    wanted: &Wanted,
+    (from, to): (&InputFile<'_>, &str),
+    options: &CopyOptions,
     standard: &mut Option<I>,
     output: &mut O,
     progress: &mut Progress<E>,
@@ -41,14 +41,14 @@ where
     let target = Target {
         rt,
         name: to,
-        is_raw: wanted.raw,
+        is_raw: options.raw,
     };
     match open(rt, from, standard) {
         Ok(mut opened) => {
             let done = if opened.bit_depth() == 8 {
-                copy_as::<u8, _, _, _, _>(&mut opened, wanted, &target, output, progress)
+                copy_as::<u8, _, _, _, _>(&mut opened, options, &target, output, progress)
             } else {
-                copy_as::<u16, _, _, _, _>(&mut opened, wanted, &target, output, progress)
+                copy_as::<u16, _, _, _, _>(&mut opened, options, &target, output, progress)
             };
             drop(opened);
             done
@@ -68,7 +68,7 @@ struct Target<'a, H> {
 /// Writes a stream of pixels of this type once more.
 fn copy_as<T, R, H, O, E>(
     opened: &mut Opened<R>,
-    wanted: &Wanted,
+    options: &CopyOptions,
     target: &Target<'_, H>,
     output: &mut O,
     progress: &mut Progress<E>,
@@ -90,7 +90,7 @@ where
             let done = copy_input(
                 &mut opened.header,
                 &mut input,
-                wanted,
+                options,
                 target,
                 output,
                 progress,
@@ -102,11 +102,11 @@ where
     }
 }
 
-/// Writes the frames of a stream once more, behind this header or that of what is made of them.
+/// Writes the frames of a stream once more, after this header or that of what is made of them.
 fn copy_input<T, R, H, O, E>(
     header: &mut StreamHeader,
     input: &mut Input<T, R>,
-    wanted: &Wanted,
+    options: &CopyOptions,
     target: &Target<'_, H>,
     output: &mut O,
     progress: &mut Progress<E>,
@@ -118,7 +118,7 @@ where
     O: io::Write,
     E: io::Write,
 {
-    match made_of(target.rt.alloc(), header, wanted, &input.frame) {
+    match made_of(target.rt.alloc(), header, options, &input.frame) {
         Ok(mut made) => {
             let done = copy_made(header, input, &mut made, target, output, progress);
             drop(made);
@@ -199,7 +199,7 @@ fn copy_to<T: Pixel, R: io::Read, W: io::Write + Drop, E: io::Write>(
         container,
         writer: Counted::new(writer),
     };
-    if let Err(problem) = put_header(alloc, &mut output, header) {
+    if let Err(problem) = write_stream_header(alloc, &mut output, header) {
         return Err(Fault::second(problem));
     }
     let copied = match made {
@@ -213,7 +213,7 @@ fn copy_to<T: Pixel, R: io::Read, W: io::Write + Drop, E: io::Write>(
 }
 
 /// Writes the header of a stream, if it has one.
-fn put_header<W: io::Write>(
+fn write_stream_header<W: io::Write>(
     alloc: Global,
     output: &mut Output<W>,
     header: &StreamHeader,
@@ -234,8 +234,8 @@ fn put_header<W: io::Write>(
 }
 
 /// What is made of each frame, where something is.
-fn edit_of(header: &StreamHeader, wanted: &Wanted) -> Result<Option<Edit>, Problem> {
-    if wanted.crop.is_none() && !wanted.half {
+fn edit_of(header: &StreamHeader, options: &CopyOptions) -> Result<Option<Edit>, Problem> {
+    if options.crop.is_none() && !options.half {
         return Ok(None);
     }
     let whole = Rectangle {
@@ -244,11 +244,11 @@ fn edit_of(header: &StreamHeader, wanted: &Wanted) -> Result<Option<Edit>, Probl
         width: header.width,
         height: header.height,
     };
-    let luma = wanted.crop.unwrap_or(whole);
+    let luma = options.crop.unwrap_or(whole);
     if !luma.lies_in(header.width, header.height) {
         return Err(Problem::Outside);
     }
-    match Edit::new(luma, header.colour.subsampling(), wanted.half) {
+    match Edit::new(luma, header.colour.subsampling(), options.half) {
         Ok(edit) => Ok(Some(edit)),
         Err(refusal) => Err(Problem::Misaligned(refusal)),
     }
@@ -258,13 +258,13 @@ fn edit_of(header: &StreamHeader, wanted: &Wanted) -> Result<Option<Edit>, Probl
 fn made_of<T: Pixel>(
     alloc: Global,
     header: &mut StreamHeader,
-    wanted: &Wanted,
+    options: &CopyOptions,
     source: &Frame<T>,
 ) -> Result<Option<(Edit, Frame<T>)>, Problem>
     ensures { IfOk result (λ made. IfSome made (λ made. EditFits made.0
         (sizes_of (tables_of source.now)) (sizes_of (tables_of made.1)))) }
 {
-    let edit = match edit_of(header, wanted) {
+    let edit = match edit_of(header, options) {
         Ok(Some(edit)) => edit,
         Ok(None) => return Ok(None),
         Err(problem) => return Err(problem),

@@ -1,7 +1,7 @@
 //! The command `info`.
 
 use super::{Opened, open};
-use crate::arguments::Named;
+use crate::arguments::InputFile;
 use crate::fault::{Fault, Problem};
 use crate::info::{count_frames, info_text};
 use crate::program::Status;
@@ -15,10 +15,10 @@ use v_frame::pixel::Pixel;
 use v_frame_planar::Counted;
 use v_frame_y4m::StreamHeader;
 
-/// Tells what a stream is.
+/// Reports what a stream is.
 pub fn do_info<H, I, O, E>(
     rt: &H,
-    file: &Named<'_>,
+    file: &InputFile<'_>,
     standard: &mut Option<I>,
     output: &mut O,
     progress: &mut Progress<E>,
@@ -32,9 +32,9 @@ where
     match open(rt, file, standard) {
         Ok(mut opened) => {
             let done = if opened.bit_depth() == 8 {
-                tell_info::<u8, _, _, _>(rt.alloc(), &mut opened, output, progress)
+                report_info::<u8, _, _, _>(rt.alloc(), &mut opened, output, progress)
             } else {
-                tell_info::<u16, _, _, _>(rt.alloc(), &mut opened, output, progress)
+                report_info::<u16, _, _, _>(rt.alloc(), &mut opened, output, progress)
             };
             drop(opened);
             done
@@ -43,8 +43,8 @@ where
     }
 }
 
-/// Tells what a stream of pixels of this type is.
-fn tell_info<T: Pixel, R: io::Read, O: io::Write, E: io::Write>(
+/// Reports what a stream of pixels of this type is.
+fn report_info<T: Pixel, R: io::Read, O: io::Write, E: io::Write>(
     alloc: Global,
     opened: &mut Opened<R>,
     output: &mut O,
@@ -59,14 +59,14 @@ fn tell_info<T: Pixel, R: io::Read, O: io::Write, E: io::Write>(
             };
             let frames = count_frames(alloc, &mut input, progress);
             drop(input);
-            tell_frames(alloc, &opened.header, frames, output)
+            report_frames(alloc, &opened.header, frames, output)
         }
         Err(error) => Err(Fault::first(Problem::from(error))),
     }
 }
 
-/// Tells what a stream is, behind its frames.
-fn tell_frames<O: io::Write>(
+/// Reports what a stream is, after its frames.
+fn report_frames<O: io::Write>(
     alloc: Global,
     header: &StreamHeader,
     frames: Result<u64, StreamFault>,

@@ -9,7 +9,8 @@ invariant-loop-call g l = record {
   answers : l.done.items ≡ answers_to g.T.Pixel.form (take l.call-index l.calls) (tables_of l.fn.frame);
   tables : tables_of l.frame ≡ tables_after g.T.Pixel.form (take l.call-index l.calls) (tables_of l.fn.frame);
   border : KeepsBorders l.fn.frame l.frame;
-  unwritten : (index : ℕ) → (WritesPlane (take l.call-index l.calls) index → ⊥) → plane_at l.frame index ≡ plane_at l.fn.frame index;
+  unwritten : (index : ℕ) → (WritesPlane (take l.call-index l.calls) index → ⊥) → plane_at l.frame index ≡ plane_at
+      l.fn.frame index;
   done : vec_len l.done ≡ l.call-index;
   room : length l.calls ≤ vec_capacity l.done;
 }

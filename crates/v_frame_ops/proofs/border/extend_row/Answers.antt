@@ -1,4 +1,4 @@
--- A pixel is in front of those that stay, among them, or behind them.
+-- A pixel is in front of those that stay, among them, or after them.
 use Rattle.std.proofs.Common.{◌≡◌, ◌+◌, ◌-◌, refl, sym, ◌∙◌, ⊎_elim, arith}
 use Rattle.std.proofs.lemmas.Bool.{cases_lt}
 use Rattle.std.proofs.lemmas.Option.{slice_get_read}
@@ -11,7 +11,8 @@ returns g c = λ x within.
     let end = left + c.args.width in
     let place = left + nearest left c.args.width x in
     let first = slice_get_read c.args.row.now _ left c.index-row-left.result refl (omega arith) c.index-row-left.is in
-    let last = slice_get_read c.args.row.now _ (end - 1) c.index-row-left-2.result refl (omega arith) c.index-row-left-2.is in
+    let last = slice_get_read c.args.row.now _ (end - 1) c.index-row-left-2.result refl (omega arith)
+    c.index-row-left-2.is in
     ⊎_elim
     (λ before.
     let e : place ≡ left = omega arith in

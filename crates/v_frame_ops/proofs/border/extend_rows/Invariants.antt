@@ -7,4 +7,5 @@ use Rattle.v_frame_ops.proofs.border.extend_rows.Given as goal
 
 abbrev pub invariant-loop-y : goal.invariant-loop-y
 invariant-loop-y g l =
-    MovedBelow (λ x. l.left + nearest l.left l.width x) l.whole.width l.top (table_of (raster l.whole l.fn.buffer)) (table_of (raster l.whole l.buffer)) l.y
+    MovedBelow (λ x. l.left + nearest l.left l.width x) l.whole.width l.top (table_of (raster l.whole l.fn.buffer))
+    (table_of (raster l.whole l.buffer)) l.y

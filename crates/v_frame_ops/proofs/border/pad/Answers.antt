@@ -1,13 +1,16 @@
--- Both tables have one size and the same pixels.
-use Rattle.std.proofs.Common.{ℕ, ◌≡◌, All, List, length, ap, subst, arith}
-use Rattle.v_frame.specs.Prelude.{Geometry, table_of}
+-- What holds of the lent buffer holds of the plane that gets it back.
+use Rattle.std.proofs.Common.{length, ap, ◌∙◌}
+use Rattle.v_frame_raster.proofs.tables.Lists.{refill_same}
 use Rattle.v_frame_ops.proofs.border.pad.Goals as goal
+
+pub returns-clause-padded : goal.returns-clause-padded
+returns-clause-padded g c =
+    rw (refill_same c.args.plane.now.buffer c.pad_buffer.new.buffer
+    (c.pad_buffer.auto.buffer ∙ ap length c.data_mut.ensures.value))
+    (rw (c.geometry-geometry.ensures.value) at c.pad_buffer.ensures.padded)
 
 pub returns-clause-table : goal.returns-clause-table
 returns-clause-table g c =
-    let across_is = ap (λ (geometry : Geometry). geometry.width) c.pad_pixels.ensures.geometry in
-    let down_is = ap (λ (geometry : Geometry). geometry.height) c.pad_pixels.ensures.geometry in
-    let same : c.width.result ≡ c.width-2.result = omega arith in
-    let wide = subst (λ (n : ℕ). All (λ (row : List g.row.T.Denot). length row ≡ n) (table_of c.args.plane.now)) same c.width.ensures.rows in
-    c.tables_agree_by_pixels.ensures c.width-2.result _ _ (omega arith) c.width-2.ensures.rows wide
-    (λ x y across down. c.pad_pixels.ensures.visible x y (omega arith) (omega arith))
+    rw (refill_same c.args.plane.now.buffer c.pad_buffer.new.buffer
+    (c.pad_buffer.auto.buffer ∙ ap length c.data_mut.ensures.value))
+    (rw (c.geometry-geometry.ensures.value, c.data_mut.ensures.value) at c.pad_buffer.ensures.table)

@@ -1,23 +1,20 @@
--- What is extended over the whole buffer continues the picture, whose own pixels are the nearest to themselves.
-use Rattle.std.proofs.Common.{◌≡◌, ◌+◌, arith}
-use Rattle.v_frame.specs.Prelude.{raster}
-use Rattle.v_frame_ops.specs.Border.{nearest}
+-- Both tables have one size and the same pixels.
+use Rattle.std.proofs.Common.{◌≡◌, length, sym, ◌∙◌, arith}
+use Rattle.v_frame.specs.Prelude.{Raster, raster, alloc_size_of, table_of}
+use Rattle.v_frame_raster.proofs.tables.Pictures.{length-shown}
+use Rattle.v_frame_raster.proofs.tables.Places.{rows_are_wide}
+use Rattle.v_frame_ops.proofs.Tables.{same_by_pixel_at}
 use Rattle.v_frame_ops.proofs.border.pad_buffer.Goals as goal
 
-pub returns-clause-padded : goal.returns-clause-padded
-returns-clause-padded g c = λ x y across down.
-    let geometry = c.args.geometry in
-    let extended = c.extend_picture.ensures x y across down in
-    let shown = c.whole_rows_hold_pixels.ensures (raster geometry c.args.buffer.now) (nearest geometry.pad_left geometry.width x)
-    (nearest geometry.pad_top geometry.height y) (omega arith) (omega arith) in
-    cc
+pub returns-clause-table : goal.returns-clause-table
+returns-clause-table g c =
+    let old : Raster g.row.T.Denot = raster c.args.geometry c.args.buffer.now in
+    let new : Raster g.row.T.Denot = raster c.args.geometry c.continue_picture.new.buffer in
+    let whole : length new.buffer ≡ alloc_size_of c.args.geometry = c.continue_picture.auto.buffer ∙ c.requires.whole in
+    same_by_pixel_at c.args.geometry.width (table_of new) (table_of old) (length-shown new ∙ sym (length-shown old))
+    (rows_are_wide new whole)
+    (rows_are_wide old c.requires.whole) (λ x y across down. c.continue_picture.ensures.visible x y across
+    (omega (arith, down, length-shown new)))
 
-pub returns-clause-visible : goal.returns-clause-visible
-returns-clause-visible g c = λ x y across down.
-    let geometry = c.args.geometry in
-    let extended = c.extend_picture.ensures (geometry.pad_left + x) (geometry.pad_top + y) (omega arith) (omega arith) in
-    let column : geometry.pad_left + nearest geometry.pad_left geometry.width (geometry.pad_left + x) ≡ geometry.pad_left + x = omega arith in
-    let row : geometry.pad_top + nearest geometry.pad_top geometry.height (geometry.pad_top + y) ≡ geometry.pad_top + y = omega arith in
-    let before = c.whole_rows_hold_pixels.ensures (raster geometry c.args.buffer.now) x y across down in
-    let after = c.whole_rows_hold_pixels.ensures (raster geometry c.extend_picture.new.buffer) x y across down in
-    cc
+pub returns-clause-padded : goal.returns-clause-padded
+returns-clause-padded g c = rw (returns-clause-table g c) c.continue_picture.ensures.padded

@@ -5,6 +5,7 @@ use Rattle.v_frame_ops.proofs.change.copy_region.Given as goal
 
 abbrev pub invariant-loop-k : goal.invariant-loop-k
 invariant-loop-k g l = record {
-  pixels : PlacedBelow l.x l.y l.source.geometry.width (table_of l.source) (table_of l.fn.target) (table_of l.target) l.k;
+  pixels : PlacedBelow l.x l.y l.source.geometry.width (table_of l.source) (table_of l.fn.target) (table_of l.target)
+      l.k;
   border : KeepsBorder l.fn.target l.target;
 }

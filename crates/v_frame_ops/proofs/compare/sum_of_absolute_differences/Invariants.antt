@@ -5,7 +5,8 @@ use Rattle.v_frame_ops.proofs.compare.sum_of_absolute_differences.Given as goal
 
 abbrev pub invariant-loop-y : goal.invariant-loop-y
 invariant-loop-y g l = record {
-  so_far : l.sum + absolute_differences g.T.Pixel.form.value (row_major (drop l.y (table_of l.a))) (row_major (drop l.y (table_of l.b)))
+  so_far : l.sum + absolute_differences g.T.Pixel.form.value (row_major (drop l.y (table_of l.a)))
+      (row_major (drop l.y (table_of l.b)))
       ≡ absolute_differences g.T.Pixel.form.value (row_major (table_of l.a)) (row_major (table_of l.b));
   bound : l.sum ≤ 2 ^ 16 * (l.y * l.a.geometry.width);
 }

@@ -5,7 +5,8 @@ use Rattle.v_frame_ops.proofs.compare.sum_of_squared_errors.Given as goal
 
 abbrev pub invariant-loop-y : goal.invariant-loop-y
 invariant-loop-y g l = record {
-  so_far : l.sum + squared_errors g.T.Pixel.form.value (row_major (drop l.y (table_of l.a))) (row_major (drop l.y (table_of l.b)))
+  so_far : l.sum + squared_errors g.T.Pixel.form.value (row_major (drop l.y (table_of l.a)))
+      (row_major (drop l.y (table_of l.b)))
       ≡ squared_errors g.T.Pixel.form.value (row_major (table_of l.a)) (row_major (table_of l.b));
   bound : l.sum ≤ 2 ^ 32 * (l.y * l.a.geometry.width);
 }

@@ -1,33 +1,66 @@
--- Each row is written with the half of the two that were read.
-use Rattle.std.proofs.Common.{◌≡◌, ◌+◌, ◌*◌, List, Some, slice_get, ◌∙◌, arith}
-use Rattle.std.proofs.Math.ListN.{set}
-use Rattle.std.proofs.lemmas.Option.{slice_get_within}
-use Rattle.v_frame.specs.Prelude.{table_of, halved}
-use Rattle.v_frame_ops.proofs.Changed.{same_item, slice_get-set_other, slice_get-set_same}
+-- The rows that are written are those of the plane.
+use Rattle.std.proofs.Common.{◌≡◌, ap, ◌∙◌, slice_get}
+use Rattle.v_frame_ops.proofs.LentRows.{LentRows, rows_fit, rows_shown, border_kept}
 use Rattle.v_frame_ops.proofs.scale.downscale.Goals as goal
-use borrow.Author.Count.{below_more}
 
-pub loop-y-preserved : goal.loop-y-preserved
-loop-y-preserved g c =
-    let shown = table_of c.args.source.now in
-    let now = table_of c.loop-y.target in
-    let half = halved g.T.Pixel.form in
-    let row = c.halve_rows.new.dst in
-    let wrote = c.visible_row_mut.ensures.written row c.halve_rows.auto.dst in
-    rw wrote.table record {
-      halves =
-          below_more (λ k. (top bottom : List g.row.T.Denot) → slice_get shown (2 * k) ≡ Some top → slice_get shown (2 * k + 1) ≡ Some bottom
-          → slice_get (set now c.loop-y.y row) k ≡ Some (half top bottom)) c.loop-y.y
-          (λ k h top bottom is under. slice_get-set_other now c.loop-y.y k row (omega arith) ∙ c.loop-y.invariant.halves k h top bottom is under)
-          (λ top bottom is under.
-          let same = same_item shown (2 * c.loop-y.y) c.visible_row-top.result.now top c.visible_row-top.ensures.row is in
-          let same_under = same_item shown (2 * c.loop-y.y + 1) c.visible_row-bottom.result.now bottom c.visible_row-bottom.ensures.row under in
-          slice_get-set_same now c.loop-y.y c.visible_row_mut.result.now row (half top bottom) c.visible_row_mut.ensures.value
-          (rw (← same, ← same_under) c.halve_rows.ensures));
-      border = cc wrote.border;
-    }
+pub downscale-requires-clause-fit : goal.downscale-requires-clause-fit
+downscale-requires-clause-fit g c κs within =
+    let lent : LentRows c.args.target.now c.geometry-geometry.result c.data_mut.result.now
+    c.split_at_mut-visible.result.0.now
+    c.split_at_mut-visible.result.1.now c.data_origin.result c.width-width.result c.height-height.result
+    c.stride.result =
+    record {
+      geometry = c.geometry-geometry.ensures.value;
+      buffer_is = c.data_mut.ensures.value;
+      whole = c.data_mut.ensures.whole;
+      valid = c.width-width.ensures.valid;
+      origin_is = c.data_origin.ensures.value;
+      stride_is = c.stride.ensures;
+      width_is = c.width-width.ensures.value;
+      height_is = c.height-height.ensures.value;
+      front_is = c.split_at_mut-visible.ensures.front;
+      back_is = c.split_at_mut-visible.ensures.back;
+    } in
+    rows_fit lent
 
 pub returns-clause-rows : goal.returns-clause-rows
 returns-clause-rows g c = λ y top bottom is under.
-    let within = slice_get_within (table_of c.args.source.now) (2 * y) top is in
-    c.loop-y.invariant.halves y (omega arith) top bottom is under
+    let lent : LentRows c.args.target.now c.geometry-geometry.result c.data_mut.result.now
+    c.split_at_mut-visible.result.0.now
+    c.split_at_mut-visible.result.1.now c.data_origin.result c.width-width.result c.height-height.result
+    c.stride.result =
+    record {
+      geometry = c.geometry-geometry.ensures.value;
+      buffer_is = c.data_mut.ensures.value;
+      whole = c.data_mut.ensures.whole;
+      valid = c.width-width.ensures.valid;
+      origin_is = c.data_origin.ensures.value;
+      stride_is = c.stride.ensures;
+      width_is = c.width-width.ensures.value;
+      height_is = c.height-height.ensures.value;
+      front_is = c.split_at_mut-visible.ensures.front;
+      back_is = c.split_at_mut-visible.ensures.back;
+    } in
+    let source = c.as_rows_ref-source.ensures.value in
+    ap (λ rows. slice_get rows y) (rows_shown lent c.downscale.new.buffer c.downscale.ensures.rest)
+    ∙ c.downscale.ensures.rows y top bottom (rw source is) (rw source under)
+
+pub returns-clause-border : goal.returns-clause-border
+returns-clause-border g c =
+    let lent : LentRows c.args.target.now c.geometry-geometry.result c.data_mut.result.now
+    c.split_at_mut-visible.result.0.now
+    c.split_at_mut-visible.result.1.now c.data_origin.result c.width-width.result c.height-height.result
+    c.stride.result =
+    record {
+      geometry = c.geometry-geometry.ensures.value;
+      buffer_is = c.data_mut.ensures.value;
+      whole = c.data_mut.ensures.whole;
+      valid = c.width-width.ensures.valid;
+      origin_is = c.data_origin.ensures.value;
+      stride_is = c.stride.ensures;
+      width_is = c.width-width.ensures.value;
+      height_is = c.height-height.ensures.value;
+      front_is = c.split_at_mut-visible.ensures.front;
+      back_is = c.split_at_mut-visible.ensures.back;
+    } in
+    border_kept lent c.downscale.new.buffer c.downscale.ensures.rest

@@ -7,17 +7,20 @@ use Rattle.v_frame_planar.proofs.reading.read_frame.Goals as goal
 
 pub returns-in_err-bytes-clause-error : goal.returns-in_err-bytes-clause-error
 returns-in_err-bytes-clause-error g c =
-    no_room g.R.Read.remaining c.args.reader.now _ c.from_residual.result _ c.from_residual.ensures.1 c.in_err-bytes.ensures.error
+    no_room g.R.Read.remaining c.args.reader.now _ c.from_residual.result _ c.from_residual.ensures.1
+    c.in_err-bytes.ensures.error
 
-pub show_whole-requires-after_bounds : goal.show_whole-requires-after_bounds
-show_whole-requires-after_bounds g c = grind (arith, common_steps)
+pub store_whole_frame-requires-after_bounds : goal.store_whole_frame-requires-after_bounds
+store_whole_frame-requires-after_bounds g c = grind (arith, common_steps)
 
 pub returns-clause-read : goal.returns-clause-read
 returns-clause-read g c =
     let done = c.in_ok-found.ensures in
-    let same = c.as_slice.ensures.value ∙ take_at c.read_until_full.new.buf _ _ (done.size ∙ c.as_mut_slice.ensures.len) in
-    was_read g.R.Read.remaining c.args.reader.now c.read_until_full.new.reader _ _ done.bytes done.at_end _ _ c.show_whole.result
-    (rw same at c.show_whole.ensures.shown)
+    let same = c.as_slice.ensures.value ∙ take_at c.read_until_full.new.buf _ _
+    (done.size ∙ c.as_mut_slice.ensures.len) in
+    was_read g.R.Read.remaining c.args.reader.now c.read_until_full.new.reader _ _ done.bytes done.at_end _ _
+    c.store_whole_frame.result
+    (rw same at c.store_whole_frame.ensures.shown)
 
 pub returns-clause-error : goal.returns-clause-error
 returns-clause-error g c =
@@ -25,5 +28,6 @@ returns-clause-error g c =
     let lent = c.as_mut_slice.ensures in
     let same = c.as_slice.ensures.value ∙ take_at c.read_until_full.new.buf _ _ (done.size ∙ lent.len) in
     let size = done.size ∙ ap length lent.value ∙ c.in_ok-bytes.ensures.room in
-    was_truncated g.R.Read.remaining c.args.reader.now c.read_until_full.new.reader _ _ done.bytes done.at_end _ _ c.show_whole.result size done.bound
-    done.uncounted (rw same at c.show_whole.ensures.truncated)
+    was_truncated g.R.Read.remaining c.args.reader.now c.read_until_full.new.reader _ _ done.bytes done.at_end _ _
+    c.store_whole_frame.result size done.bound
+    done.uncounted (rw same at c.store_whole_frame.ensures.truncated)

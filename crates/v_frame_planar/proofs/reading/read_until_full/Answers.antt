@@ -11,7 +11,8 @@ taken_from_part : (at long n : ℕ) (old part : List ℕ) → at ≤ length old 
     → take (at + n) (put_mid at long old part) ≡ take at old ++ take n part
 taken_from_part at long n old part within fits =
     let behind = post_of at long old in
-    rw (length-take-le at old within, take-append-le n part behind fits) at (take-append-add (take at old) (part ++ behind) n)
+    rw (length-take-le at old within, take-append-le n part behind fits) at
+    (take-append-add (take at old) (part ++ behind) n)
 
 pub loop-found-preserved : goal.loop-found-preserved
 loop-found-preserved g c =
@@ -34,8 +35,11 @@ returns-in-Err-clause-error g c =
     let found = c.loop-found.found in
     let before = c.loop-found.invariant in
     let got = Consumes-kept _ _ _ _ before.got c.in-Err.ensures.bytes in
-    let less = rw before.size at c.loop-found-test.true in
-    ((found, less, (take found buf, got, length-take-le found buf before.within)), rw before.failures at c.in-Err.ensures.err)
+    let less = rw before.size at c.loop-found-test.true in (
+      (found, less, (take found buf, got, length-take-le found buf before.within)),
+      rw before.failures at
+          c.in-Err.ensures.err,
+    )
 
 pub returns-in-Ok-eq0-clause-at_end : goal.returns-in-Ok-eq0-clause-at_end
 returns-in-Ok-eq0-clause-at_end g c =

@@ -15,6 +15,7 @@ returns-clause-value c =
     let luma = c.args.luma in
     let x = c.get-ratio_x in
     let y = c.get-ratio_y in
-    let known : Some (x.result, y.result) ≡ ratio_of c.args.subsampling = rw (x.ensures.value, y.ensures.value) c.in_ok-ratio_x.ensures in
+    let known : Some (x.result, y.result) ≡ ratio_of c.args.subsampling = rw (x.ensures.value, y.ensures.value)
+    c.in_ok-ratio_x.ensures in
     let cover = cover_is_geometry luma _ _ x.ensures.nonzero y.ensures.nonzero c.width.ensures.valid in
     laid_out c.new.result _ _ c.new.ensures (cc) cover ∙ ap (option_map (covering_geometry luma)) known

@@ -1,4 +1,4 @@
--- What is told of a blank frame follows from the request, which luma alone can refuse.
+-- What is reported of a blank frame follows from the request, which luma alone can refuse.
 use Rattle.std.proofs.Common.{refl}
 use Rattle.v_frame.specs.declared.frame.error.FrameError.TheVariants.{OutOfMemory}
 use Rattle.v_frame_planar.specs.Video.{video_request}
@@ -9,8 +9,10 @@ pub returns-in-Ok : goal.returns-in-Ok
 returns-in-Ok g c =
     let a = c.args in
     let luma = c.in-Ok.ensures.blank in
-    let blank = c.with_chroma.ensures.blank (video_request a.width a.height a.subsampling a.bit_depth a.padding) luma refl in
-    let told = told_of_blank g.T.Pixel.ZERO g.T.Pixel.BYTES a.width a.height a.bit_depth a.padding a.subsampling c.with_chroma.result luma.some blank in
+    let blank = c.with_chroma.ensures.blank (video_request a.width a.height a.subsampling a.bit_depth a.padding) luma
+    refl in
+    let told = told_of_blank g.T.Pixel.ZERO g.T.Pixel.BYTES a.width a.height a.bit_depth a.padding a.subsampling
+    c.with_chroma.result luma.some blank in
     record {
       refused = value_goes_on _ _ OutOfMemory _ _ c.in-Ok.is c.with_chroma.ensures.refused c.luma_frame.ensures.refused;
       blank = blank;

@@ -1,4 +1,4 @@
--- One more block goes behind what was written, or the bytes stop inside it.
+-- One more block goes after what was written, or the bytes stop inside it.
 use Rattle.std.proofs.Common.{◌++◌, [], take, sym, ◌∙◌, append_assoc, rules, arith}
 use Rattle.std.proofs.lemmas.Grind.{common_steps}
 use Rattle.std.proofs.KnownBytes.{Appends-nil, Appends-trans}
@@ -11,7 +11,12 @@ use Rattle.v_frame_planar.proofs.writing.write_frame.Goals as goal
 pub loop-pending-init : goal.loop-pending-init
 loop-pending-init g c =
     let all = sym (bytes_of_planar_pixels g.T.Pixel.form (tables_of c.args.frame.now)) in
-    record { sent = ([], Appends-nil _, rw c.new-pending.ensures all); failures = search rules; last_failure = search rules }
+    record {
+      sent = ([], Appends-nil _, rw c.new-pending.ensures all);
+      failures = search rules;
+      last_failure = search
+          rules;
+    }
 
 pub loop-pending-preserved : goal.loop-pending-preserved
 loop-pending-preserved g c =
@@ -32,7 +37,8 @@ returns-in_err-write_all-clause-error g c =
     let front = before.sent.0 in
     let part = take c.fill-filled.result c.fill-filled.new.block in
     let rest = bytes_of_pixels g.T.Pixel.form (pixels_pending c.fill-filled.new.self) in
-    let stopped = stops_later front part rest g.W.Write.contents c.args.writer.now c.loop-pending.writer c.write_all.new.self before.sent.1 before.failures
+    let stopped = stops_later front part rest g.W.Write.contents c.args.writer.now c.loop-pending.writer
+    c.write_all.new.self before.sent.1 before.failures
     c.in_err-write_all.field-0.0 (search rules) in
     rw (before.sent.2, c.fill-filled.ensures.bytes) (search rules)
 

@@ -1,8 +1,9 @@
--- `dropped_pixels_keep_their_values` runs nothing. That an iterator which is dropped has as final values what it shows is a lemma. Assumes `Logic`.
+-- `dropped_pixels_keep_their_values` runs nothing. That an iterator which is dropped has as final values what it shows
+-- is a lemma. Assumes `Logic`.
 use Rattle.v_frame_buffer.proofs.Steps.{[], ◌∷◌, param, layouts, a_type, ‵, ◌$◌, ◌∵◌, !, qed, assume, done, each, use1}
 use Rattle.v_frame_plane.specs.Dropped.{DroppedPixelsKeepTheirValues}
 use Rattle.v_frame_plane.specs.PixelsLeft.{pixels_left}
-use Rattle.v_frame_plane.specs.SecondPixels.{SecondPixels}
+use Rattle.v_frame_plane.specs.FinalPixels.{FinalPixels}
 use Rattle.v_frame_plane.specs.contracts.laws.dropped_pixels_keep_their_values
 use Rattle.v_frame_plane.specs.contracts.pixels_mut.PixelsMut.{the_row}
 use Rattle.v_frame_plane.proofs.lent.Dropped.{meets}
@@ -12,7 +13,9 @@ use Rattle.v_frame_plane.proofs.laws.dropped_pixels_keep_their_values.Code as co
 
 pub dropped_pixels_keep_their_values_spec : {M : Type 1} → statement M
 dropped_pixels_keep_their_values_spec 𝓤 𝓛 𝓜 𝓡 wired T laws = let item = param 0 T in
-    meets 𝓛 𝓜 𝓡 T (DroppedPixelsKeepTheirValues item) (dropped_pixels_keep_their_values.Key.name (layouts (a_type ∷ []) (T, tt)))
+    meets 𝓛 𝓜 𝓡 T (DroppedPixelsKeepTheirValues item)
+    (dropped_pixels_keep_their_values.Key.name (layouts (a_type ∷ []) (T, tt)))
     (code.unfolded 𝓤 𝓛.H 𝓜 𝓡 wired (T, tt))
-    (qed 𝓛 [] ∵ each ! _ (λ lifetime. each ! _ (λ walk. each ! _ (λ values. assume ! (‵ ((the_row lifetime item).own_val walk values)) $
-    use1 𝓛 (‵ (SecondPixels item walk (pixels_left walk))) (pixels_dropped 𝓛 item lifetime walk values) $ done !))))
+    (qed 𝓛 [] ∵ each ! _ (λ lifetime. each ! _ (λ walk. each ! _
+    (λ values. assume ! (‵ ((the_row lifetime item).own_val walk values)) $
+    use1 𝓛 (‵ (FinalPixels item walk (pixels_left walk))) (pixels_dropped 𝓛 item lifetime walk values) $ done !))))

@@ -43,7 +43,7 @@ static WORDS: [Built; 9] = [
     (((3840, 2160), Yuv420, 10, [0; 4]), Some((1920, 1080))),
 ];
 
-/// The size of a plane, where the plane is there.
+/// Returns the size of a plane, where the plane is there.
 fn size_of<T: Pixel>(plane: Option<&Plane<T>>) -> Option<(usize, usize)> {
     match plane {
         Some(plane) => Some((plane.width(), plane.height())),
@@ -73,7 +73,7 @@ fn chroma_planes_have_the_size_of_the_format(rt: HostRuntime) {
     check_builds::<u16>(&rt, &WORDS);
 }
 
-/// The first pixel of a plane, where the plane is there.
+/// Returns the first pixel of a plane, where the plane is there.
 fn first_of(plane: Option<&Plane<u8>>) -> Option<u8> {
     match plane {
         Some(plane) => plane.pixel(0, 0),

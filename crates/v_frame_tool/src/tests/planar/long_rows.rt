@@ -8,7 +8,7 @@ use crate::tests::support::watched::{calls_of, watched_writer};
 use v_frame::frame::Frame;
 use v_frame::pixel::Pixel;
 
-/// A row of so many pixels: each is the remainder of its place by 251 in a byte, or the place in a word.
+/// Returns a row of so many pixels: each is the remainder of its place by 251 in a byte, or the place in a word.
 fn long_row<T: Pixel>(rt: &impl Test, width: usize) -> Frame<T> {
     let most = if T::BYTES == 1 { 251 } else { 65_536 };
     let mut frame = zeros::<T>(rt, (width, 1, [1, 2, 0, 0]));
@@ -34,7 +34,7 @@ fn check_row<T: Pixel>(rt: &impl Test, width: usize) {
     same_at(rt, is_row(taken, T::BYTES == 1), true, width);
 }
 
-/// Whether bytes are those of such a row of bytes or of words, the low byte first.
+/// Returns whether bytes are those of such a row of bytes or of words, the low byte first.
 fn is_row(bytes: &[u8], has_bytes: bool) -> bool {
     let mut is_row = true;
     for (place, byte) in bytes.iter().enumerate() {

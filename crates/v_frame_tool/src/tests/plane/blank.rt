@@ -7,7 +7,7 @@ use crate::tests::support::frames::{Layout, blank_plane, write_pixel};
 /// Four pixels by three in a buffer of 40 entries.
 const PADDED: Layout = (4, 3, [2, 2, 1, 1]);
 
-/// Its buffer once the first pixel behind its first row is 7.
+/// Its buffer once the first pixel after its first row is 7.
 static WRITTEN: [u8; 40] = [
     0, 0, 0, 0, 0, 0, 0, 0, //
     0, 0, 0, 0, 0, 0, 7, 0, //

@@ -8,7 +8,7 @@ use v_frame::plane::Plane;
 /// Four pixels by three in a buffer of 40 entries.
 const PADDED: Layout = (4, 3, [2, 2, 1, 1]);
 
-/// Stops the test where an iterator over a plane does not tell and give so many bytes, has another first one, or another
+/// Stops the test where an iterator over a plane does not say and give so many bytes, has another first one, or another
 /// count of them left after it.
 fn check_counts<T: Pixel>(
     rt: &impl Test,

@@ -27,7 +27,7 @@ fn sizes_follow_from_the_paddings_and_getters_tell_what_was_given(rt: HostRuntim
 /// The stride of a geometry, and the size of its buffer where there can be one.
 type Told = (usize, Option<usize>);
 
-/// What a geometry tells, where it is one.
+/// What a geometry says, where it is one.
 fn told(geometry: Option<PlaneGeometry>) -> Option<Told> {
     match geometry {
         Some(geometry) => Some((geometry.stride(), geometry.checked_alloc_size())),
@@ -35,7 +35,7 @@ fn told(geometry: Option<PlaneGeometry>) -> Option<Told> {
     }
 }
 
-/// A width, a height, paddings left, right, top and bottom, and ratios, with what their geometry tells.
+/// A width, a height, paddings left, right, top and bottom, and ratios, with what their geometry says.
 type Padded = ([usize; 6], [u8; 2], Option<Told>);
 
 /// Geometries with a border. There is none where a size or a ratio is zero, or no `usize` holds the stride.

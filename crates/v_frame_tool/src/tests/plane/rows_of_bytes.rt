@@ -4,7 +4,7 @@ use crate::tests::support::bytes::{stepped, stepped_words};
 use crate::tests::support::checks::{Test, must, same, same_at};
 use v_frame::pixel::Pixel;
 
-/// Stops the test where a row of so many words, decoded from the bytes 48, 85 and on, has others, or what stands behind it
+/// Stops the test where a row of so many words, decoded from the bytes 48, 85 and on, has others, or what stands after it
 /// is changed.
 fn check_decoded(rt: &impl Test, bytes: &[u8], count: usize) {
     let end = count.saturating_mul(2).saturating_add(1);

@@ -7,7 +7,7 @@ use v_frame::plane::{PlaneGeometry, SubsamplingError};
 /// The width and the height, the paddings left, right, top and bottom, and the ratios.
 type Shape = ([usize; 2], [usize; 4], [u8; 2]);
 
-/// The geometry of this shape.
+/// Returns the geometry of this shape.
 fn geometry(
     rt: &impl Test,
     ([width, height], [left, right, top, bottom], [ratio_x, ratio_y]): Shape,

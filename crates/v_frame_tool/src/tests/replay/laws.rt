@@ -40,7 +40,7 @@ fn words_go_through_a_frame(rt: HostRuntime) {
     must_show(rt, &answers, WITHOUT_TAILS);
 }
 
-/// The pixels 1 to 6 in a numbered border, of a layout that has three columns and two rows.
+/// Returns the pixels 1 to 6 in a numbered border, of a layout that has three columns and two rows.
 fn one_to_six(rt: &impl Test, layout: Layout) -> Frame<u8>
     ensures { tables_of result
         ≡ record { y = (1 ∷ 2 ∷ 3 ∷ []) ∷ (4 ∷ 5 ∷ 6 ∷ []) ∷ []; u = None; v = None } }

@@ -9,7 +9,7 @@ use v_frame::frame::Frame;
 use v_frame::pixel::Pixel;
 use v_frame::plane::Plane;
 
-/// The luma plane of a frame behind these calls, all of which have to give their answers.
+/// Returns the luma plane of a frame after these calls, all of which have to give their answers.
 fn answered<T: Pixel>(rt: &impl Test, mut frame: Frame<T>, steps: &[Step<'_, T>]) -> Plane<T> {
     check_answers(rt, &mut frame, steps);
     luma(frame)

@@ -24,7 +24,7 @@ pub struct Replay<'a, T> {
     pub after: &'a [T],
 }
 
-/// The calls, as a replay takes them.
+/// Returns the calls, as a replay takes them.
 pub fn calls_of<T: Copy>(rt: &impl Test, steps: &[Step<'_, T>]) -> Vec<VisibleCall<T>> {
     let mut calls = Vec::new(rt.alloc());
     for (call, _answer) in steps {

@@ -5,14 +5,14 @@ use crate::tests::support::frames::{BORDERED, Layout};
 use v_frame::pixel::Pixel;
 use v_frame::plane::Plane;
 
-/// The number of the entry at a place: 100 and the place, or 0xA100 and the place where a pixel has two bytes.
+/// Returns the number of the entry at a place: 100 and the place, or 0xA100 and the place where a pixel has two bytes.
 pub fn number_at<T: Pixel>(rt: &impl Test, place: usize) -> T {
     let first = if T::BYTES == 1 { 100 } else { 0xA100 };
     let number = u16::try_from(place.saturating_add(first)).ok();
     T::try_from_u16(number.expect(rt, "a small buffer")).expect(rt, "a pixel")
 }
 
-/// The buffer of a plane that has these visible pixels, row after row, and this value in its border, or numbers.
+/// Returns the buffer of a plane that has these visible pixels, row after row, and this value in its border, or numbers.
 pub fn expected_buffer<T: Pixel>(
     rt: &impl Test,
     (width, height, [left, right, top, bottom]): Layout,

@@ -1,7 +1,8 @@
 //! Calls of a replay as plain data.
 
 use crate::tests::support::checks::Test;
-use v_frame::replay::{PixelDraw, RowDraw, Sequence, Side, VisibleCall};
+use v_frame::replay::{PixelDraw, RowDraw, Side, VisibleCall};
+use v_frame::sequence::Sequence;
 
 /// A call of a replay: first the plane, and then what the call of that name takes.
 pub enum Call<'a, T> {
@@ -33,12 +34,12 @@ pub enum Call<'a, T> {
     PixelsMut(usize, &'a [(Side, Option<T>)]),
 }
 
-/// A sequence of these items.
+/// Returns a sequence of these items.
 fn sequence<T: Copy>(rt: &impl Test, items: &[T]) -> Sequence<T> {
     Sequence::from_slice(rt.alloc(), items).expect(rt, "memory")
 }
 
-/// The calls on an iterator of lent rows, with what each writes.
+/// Returns the calls on an iterator of lent rows, with what each writes.
 fn row_draws<T: Copy>(rt: &impl Test, draws: &[(Side, &[Option<T>])]) -> Sequence<RowDraw<T>> {
     let mut list = Vec::new(rt.alloc());
     for (side, writes) in draws {
@@ -48,7 +49,7 @@ fn row_draws<T: Copy>(rt: &impl Test, draws: &[(Side, &[Option<T>])]) -> Sequenc
     list.into()
 }
 
-/// The calls on an iterator of lent pixels, with what each writes.
+/// Returns the calls on an iterator of lent pixels, with what each writes.
 fn pixel_draws<T: Copy>(rt: &impl Test, draws: &[(Side, Option<T>)]) -> Sequence<PixelDraw<T>> {
     let mut list = Vec::new(rt.alloc());
     for (side, value) in draws {
@@ -58,7 +59,7 @@ fn pixel_draws<T: Copy>(rt: &impl Test, draws: &[(Side, Option<T>)]) -> Sequence
     list.into()
 }
 
-/// An iteration, as a replay takes it.
+/// Returns an iteration, as a replay takes it.
 fn iteration<T: Copy>(rt: &impl Test, call: &Call<'_, T>) -> VisibleCall<T> {
     match *call {
         Call::Rows(plane, sides) => {
@@ -85,7 +86,7 @@ fn iteration<T: Copy>(rt: &impl Test, call: &Call<'_, T>) -> VisibleCall<T> {
     }
 }
 
-/// A call, as a replay takes it.
+/// Returns a call, as a replay takes it.
 pub fn visible<T: Copy>(rt: &impl Test, call: &Call<'_, T>) -> VisibleCall<T> {
     match *call {
         Call::Width(plane) => VisibleCall::Width { plane },

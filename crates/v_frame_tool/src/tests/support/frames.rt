@@ -16,7 +16,7 @@ pub const BARE: Layout = (3, 2, [0, 0, 0, 0]);
 /// Three pixels by two in a buffer of 18 entries.
 pub const BORDERED: Layout = (3, 2, [1, 2, 1, 0]);
 
-/// A size, a format and a depth with the luma paddings left, right, top and bottom.
+/// Returns a size, a format and a depth with the luma paddings left, right, top and bottom.
 pub fn padded(
     (width, height): (usize, usize),
     subsampling: ChromaSubsampling,
@@ -31,18 +31,18 @@ pub fn padded(
         .luma_padding_bottom(bottom)
 }
 
-/// The frame that is built so.
+/// Returns the frame that is built so.
 pub fn built<T: Pixel>(rt: &impl Test, builder: FrameBuilder) -> Frame<T> {
     builder.build(rt.alloc()).expect(rt, "a frame")
 }
 
-/// A luma plane of zeros alone, in the border too, of the least depth for bytes and of the greatest for words.
+/// Returns a luma plane of zeros alone, in the border too, of the least depth for bytes and of the greatest for words.
 pub fn zeros<T: Pixel>(rt: &impl Test, (width, height, padding): Layout) -> Frame<T> {
     let depth = if T::BYTES == 1 { 8 } else { 16 };
     built(rt, padded((width, height), Monochrome, depth, padding))
 }
 
-/// A luma plane in this buffer.
+/// Returns a luma plane in this buffer.
 pub fn with_buffer<T: Pixel>(rt: &impl Test, layout: Layout, buffer: &[T]) -> Frame<T> {
     let mut frame = zeros(rt, layout);
     let data = frame.y_plane.data_mut();
@@ -51,7 +51,7 @@ pub fn with_buffer<T: Pixel>(rt: &impl Test, layout: Layout, buffer: &[T]) -> Fr
     frame
 }
 
-/// A luma plane whose entries are numbered, in the border too.
+/// Returns a luma plane whose entries are numbered, in the border too.
 pub fn numbered<T: Pixel>(rt: &impl Test, layout: Layout) -> Frame<T> {
     let mut frame = zeros(rt, layout);
     for (place, entry) in frame.y_plane.data_mut().iter_mut().enumerate() {
@@ -60,22 +60,22 @@ pub fn numbered<T: Pixel>(rt: &impl Test, layout: Layout) -> Frame<T> {
     frame
 }
 
-/// The luma plane of a frame.
+/// Returns the luma plane of a frame.
 pub fn luma<T: Pixel>(frame: Frame<T>) -> Plane<T> {
     frame.y_plane
 }
 
-/// A plane of zeros, in the border too.
+/// Returns a plane of zeros, in the border too.
 pub fn blank_plane<T: Pixel>(rt: &impl Test, layout: Layout) -> Plane<T> {
     luma(zeros(rt, layout))
 }
 
-/// A plane in this buffer.
+/// Returns a plane in this buffer.
 pub fn plane_of<T: Pixel>(rt: &impl Test, layout: Layout, buffer: &[T]) -> Plane<T> {
     luma(with_buffer(rt, layout, buffer))
 }
 
-/// A plane whose entries are numbered, in the border too.
+/// Returns a plane whose entries are numbered, in the border too.
 pub fn numbered_plane<T: Pixel>(rt: &impl Test, layout: Layout) -> Plane<T> {
     luma(numbered(rt, layout))
 }

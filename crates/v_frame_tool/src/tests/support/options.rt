@@ -8,14 +8,14 @@ pub fn pair() -> Option<PlaneGeometry> {
     PlaneGeometry::unpadded(2, 1, 1, 1)
 }
 
-/// A plane without a value anywhere.
+/// Returns a plane without a value anywhere.
 pub fn vacant<T: Drop>(rt: &impl Test, geometry: Option<PlaneGeometry>) -> Plane<Option<T>> {
     let geometry = geometry.expect(rt, "no geometry");
     must(rt, geometry.checked_alloc_size().is_some());
     Plane::new_uninit(rt.alloc(), geometry).expect(rt, "memory")
 }
 
-/// A plane whose buffer has these entries.
+/// Returns a plane whose buffer has these entries.
 pub fn holding(
     rt: &impl Test,
     geometry: Option<PlaneGeometry>,
@@ -28,7 +28,7 @@ pub fn holding(
     plane
 }
 
-/// The plane of the values, where each place holds one.
+/// Returns the plane of the values, where each place holds one.
 pub fn values_of<T: Drop>(rt: &impl Test, plane: Plane<Option<T>>) -> Plane<T> {
     must(rt, plane.is_init());
     let values = plane.assume_init(rt.alloc()).ok();

@@ -15,7 +15,7 @@ pub struct Pieces<'a> {
     pub reads: usize,
 }
 
-/// A reader of these bytes that was not called: at most so many a call, and it fails after so many calls.
+/// Returns a reader of these bytes that was not called: at most so many a call, and it fails after so many calls.
 pub fn pieces_of(left: &[u8], most: usize, calls: usize) -> Pieces<'_> {
     Pieces {
         left,

@@ -1,8 +1,8 @@
-//! What geometries tell, as plain values.
+//! What geometries say, as plain values.
 
 use v_frame::plane::PlaneGeometry;
 
-/// The size, the stride, the paddings left, right, top and bottom, and the ratios.
+/// Returns the size, the stride, the paddings left, right, top and bottom, and the ratios.
 pub fn numbers_of(geometry: &PlaneGeometry) -> [usize; 9] {
     [
         geometry.width(),

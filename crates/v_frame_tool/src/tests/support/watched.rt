@@ -1,4 +1,4 @@
-//! A writer that takes little, tells how it was called, and fails or takes nothing from some call on.
+//! A writer that takes little, says how it was called, and fails or takes nothing from some call on.
 
 use crate::counted::Counted;
 use crate::tests::support::checks::{Test, same_at};
@@ -33,7 +33,7 @@ pub struct WatchedWriter {
     pub flushes: usize,
 }
 
-/// A writer that was not called, takes so many bytes at each of so many calls, and then does this.
+/// Returns a writer that was not called, takes so many bytes at each of so many calls, and then does this.
 pub fn watched_writer(
     alloc: Global,
     most: usize,
@@ -85,7 +85,7 @@ pub fn must_have_taken(
     same_at(rt, (out.failures(), taken), (failures, bytes), case);
 }
 
-/// The calls of `write`, those that offered nothing, and the calls of `flush`.
+/// Returns the calls of `write`, those that offered nothing, and the calls of `flush`.
 pub fn calls_of(out: &Counted<WatchedWriter>) -> [usize; 3] {
     let writer = out.inner();
     [writer.writes, writer.empty_writes, writer.flushes]

@@ -15,4 +15,5 @@ returns-clause-same c = λ h k size each b.
 
 pub returns-clause-unrefused : goal.returns-clause-unrefused
 returns-clause-unrefused c = λ h error size each refused.
-    memory_alone (header_line h) error h (written_is_header h size (All-weaker IsPiece NoSpace piece_has_no_space h.extensions each)) refused
+    memory_alone (header_line h) error h (written_is_header h size
+    (All-weaker IsPiece NoSpace piece_has_no_space h.extensions each)) refused

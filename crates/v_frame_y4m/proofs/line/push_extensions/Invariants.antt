@@ -1,9 +1,11 @@
--- What was added, and behind it what is to be added, is all.
+-- What was added, and after it what is to be added, is all.
 use Rattle.std.proofs.Common.{◌≡◌, ◌++◌, ◌∷◌, drop}
 use Rattle.std.specs.Prelude.{map}
+use Rattle.v_frame_y4m.specs.Ascii.{extension_letter}
 use Rattle.v_frame_y4m.specs.Header.{spelled}
 use Rattle.v_frame_y4m.proofs.line.push_extensions.Given as goal
 
 abbrev pub invariant-loop-extension : goal.invariant-loop-extension
-invariant-loop-extension l = l.fn.line.items ++ spelled (map (λ text. 88 ∷ text) l.extensions) ≡ l.line.items ++ spelled (map (λ text. 88 ∷ text)
-    (drop l.extension-index l.extensions))
+invariant-loop-extension l =
+    l.fn.line.items ++ spelled (map (λ text. extension_letter ∷ text) l.extensions)
+    ≡ l.line.items ++ spelled (map (λ text. extension_letter ∷ text) (drop l.extension-index l.extensions))

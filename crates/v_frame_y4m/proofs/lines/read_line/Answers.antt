@@ -1,5 +1,6 @@
--- One more byte stands behind those that were read.
-use Rattle.std.proofs.Common.{ℕ, ◌≡◌, ◌≢◌, ◌<◌, ◌+◌, List, [], ◌∷◌, ◌++◌, length, take, sym, subst, rules, arith, length-append, length-take}
+-- One more byte stands after those that were read.
+use Rattle.std.proofs.Common.{ℕ, ◌≡◌, ◌≢◌, ◌<◌, ◌+◌, List, [], ◌∷◌, ◌++◌, length, take, sym, subst, rules, arith}
+use Rattle.std.proofs.Common.{length-append, length-take}
 use Rattle.std.proofs.lemmas.Grind.{common_steps}
 use Rattle.std.specs.Prelude.{All}
 use Rattle.std.proofs.lemmas.List.{append-nil, take_more_set}
@@ -26,8 +27,16 @@ returns-in-Some-clause-error g c =
       before.size,
       before.within,
       c.if-at-line.true,
-    ) in
-    ((take at line ++ c.in-Some.field-0 ∷ [], got, All-push (λ b. b ≢ 10) (take at line) c.in-Some.field-0 before.ended other, long), search rules)
+    ) in (
+      (
+        take at line ++ c.in-Some.field-0 ∷ [],
+        got,
+        All-push (λ b. b ≢ 10) (take at line) c.in-Some.field-0 before.ended
+            other,
+        long,
+      ),
+      search rules,
+    )
 
 pub loop-byte-preserved : goal.loop-byte-preserved
 loop-byte-preserved g c =
@@ -47,7 +56,8 @@ loop-byte-preserved g c =
       within = search rules;
       size = search rules;
       got = subst (Consumes old new) (sym more) got;
-      ended = subst (λ (bytes : List ℕ). All (λ b. b ≢ 10) bytes) (sym more) (All-push (λ b. b ≢ 10) (take at line) byte before.ended other);
+      ended = subst (λ (bytes : List ℕ). All (λ b. b ≢ 10) bytes) (sym more)
+          (All-push (λ b. b ≢ 10) (take at line) byte before.ended other);
       failures = search rules;
       last_failure = search rules;
     }

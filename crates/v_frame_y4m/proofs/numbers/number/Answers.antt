@@ -6,4 +6,5 @@ use Rattle.std.proofs.lemmas.Str.{IsUtf8-from_ascii}
 use Rattle.v_frame_y4m.proofs.numbers.number.Goals as goal
 
 pub returns-in-Err : goal.returns-in-Err
-returns-in-Err c = λ n small is. absurd (c.in-Err.ensures.cases.0 (subst IsUtf8 (sym is) (IsUtf8-from_ascii _ (IsAscii-decimal n small))))
+returns-in-Err c = λ n small is. absurd (c.in-Err.ensures.cases.0
+    (subst IsUtf8 (sym is) (IsUtf8-from_ascii _ (IsAscii-decimal n small))))

@@ -4,10 +4,10 @@ use Rattle.std.specs.Prelude.{Ok, Err}
 use Rattle.v_frame_y4m.proofs.NumberTexts.{parsed, written_so}
 use Rattle.v_frame_y4m.proofs.numbers.number_of.Goals as goal
 
-pub returns-then-not-is_written_so : goal.returns-then-not-is_written_so
-returns-then-not-is_written_so c = λ n small is.
+pub returns-then-not-has_canonical_start : goal.returns-then-not-has_canonical_start
+returns-then-not-has_canonical_start c = λ n small is.
     let same : c.as_bytes.result.now ≡ c.args.digits.now = search rules in
-    let yes = c.is_written_so.ensures.1 (written_so n c.as_bytes.result.now small (same ∙ is)) in
+    let yes = c.has_canonical_start.ensures.1 (written_so n c.as_bytes.result.now small (same ∙ is)) in
     search rules
 
 abbrev pub BeginsSo : List ℕ → Type 0
@@ -16,11 +16,11 @@ BeginsSo bs = (get_or bs 0 0 ≢ 43) × (get_or bs 0 0 ≡ 48 → length bs ≡ 
 pub returns-in-Ok : goal.returns-in-Ok
 returns-in-Ok c =
     let same : c.as_bytes.result.now ≡ c.args.digits.now = search rules in
-    let so : BeginsSo c.args.digits.now = subst BeginsSo same (c.is_written_so.ensures.0 (search rules)) in
+    let so : BeginsSo c.args.digits.now = subst BeginsSo same (c.has_canonical_start.ensures.0 (search rules)) in
     parsed {E = Unit {0}} c.args.digits.now so.0 so.1 (Ok c.in-Ok.n) c.in-Ok.ensures.value.0
 
 pub returns-in-Err : goal.returns-in-Err
 returns-in-Err c =
     let same : c.as_bytes.result.now ≡ c.args.digits.now = search rules in
-    let so : BeginsSo c.args.digits.now = subst BeginsSo same (c.is_written_so.ensures.0 (search rules)) in
+    let so : BeginsSo c.args.digits.now = subst BeginsSo same (c.has_canonical_start.ensures.0 (search rules)) in
     parsed c.args.digits.now so.0 so.1 (Err c.in-Err.field-0) c.in-Err.ensures.value.0

@@ -5,4 +5,5 @@ use Rattle.v_frame_y4m.specs.declared.error.HeaderError.TheVariants.{Malformed}
 use Rattle.v_frame_y4m.proofs.parameters.malformed.Goals as goal
 
 pub returns-in-Ok : goal.returns-in-Ok
-returns-in-Ok c = λ parameters fault. subst (λ (b : List ℕ). HasFault parameters (Malformed (record { bytes = b }))) (sym c.in-Ok.ensures) fault
+returns-in-Ok c = λ parameters fault. subst (λ (b : List ℕ). HasFault parameters (Malformed (record { bytes = b })))
+    (sym c.in-Ok.ensures) fault

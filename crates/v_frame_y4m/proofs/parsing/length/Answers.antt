@@ -5,13 +5,16 @@ use Rattle.v_frame_y4m.specs.Faults.{AreDigits}
 use Rattle.v_frame_y4m.proofs.Letters.{sizes_once}
 use Rattle.v_frame_y4m.proofs.parsing.length.Goals as goal
 
-pub only-requires : goal.only-requires
-only-requires c = sizes_once c.args.letter c.requires
+pub unique_parameter-requires : goal.unique_parameter-requires
+unique_parameter-requires c = sizes_once c.args.letter c.requires
 
 pub returns-in_ok-new-in-None-clause-error : goal.returns-in_ok-new-in-None-clause-error
 returns-in_ok-new-in-None-clause-error c =
-    let whole : c.in_ok-new-in-None.field-0.bytes ≡ c.args.letter ∷ c.in-Some.digits.now = search rules in
-    (search rules, subst (λ (bytes : List ℕ). AreDigits (drop 1 bytes)) (sym whole) (c.are_digits.ensures.0 (search rules)))
+    let whole : c.in_ok-new-in-None.field-0.bytes ≡ c.args.letter ∷ c.in-Some.digits.now = search rules in (
+      search rules,
+      subst (λ (bytes : List ℕ). AreDigits (drop 1 bytes)) (sym whole)
+          (c.are_digits.ensures.0 (search rules)),
+    )
 
 pub returns-in_default-clause-error : goal.returns-in_default-clause-error
 returns-in_default-clause-error c = grind (arith, common_steps)

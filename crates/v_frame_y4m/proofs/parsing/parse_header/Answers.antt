@@ -7,14 +7,16 @@ use Rattle.v_frame_y4m.proofs.parsing.parse_header.Goals as goal
 pub returns-clause-found : goal.returns-clause-found
 returns-clause-found c =
     let some : 0 < length c.in_ok-pieces.pieces.items = search (rules, arith) in
-    let begins = pieces_begin_part c.args.line.now c.in_ok-pieces.pieces.items c.deref.result.now c.index.result.now (search rules) some (search rules)
+    let begins = pieces_begin_part c.args.line.now c.in_ok-pieces.pieces.items c.deref.result.now c.index.result.now
+    (search rules) some (search rules)
     (search rules) in
     header_found c.args.line.now _ begins c.header_of.result c.header_of.ensures.says c.header_of.ensures.size
 
 pub returns-clause-refused : goal.returns-clause-refused
 returns-clause-refused c =
     let some : 0 < length c.in_ok-pieces.pieces.items = search (rules, arith) in
-    let begins = pieces_begin_part c.args.line.now c.in_ok-pieces.pieces.items c.deref.result.now c.index.result.now (search rules) some (search rules)
+    let begins = pieces_begin_part c.args.line.now c.in_ok-pieces.pieces.items c.deref.result.now c.index.result.now
+    (search rules) some (search rules)
     (search rules) in
     header_refused c.args.line.now _ begins c.header_of.result c.header_of.ensures.error
 

@@ -1,4 +1,4 @@
--- What stands behind the line of a frame, and where its bytes stop.
+-- What stands after the line of a frame, and where its bytes stop.
 use Rattle.std.proofs.Common.{arith, [], length, subst}
 use Rattle.std.proofs.lemmas.Grind.{common_steps}
 use Rattle.v_frame.specs.Prelude.{tables_of}
@@ -19,7 +19,8 @@ returns-clause-read g c =
     let old = c.args.reader.now in
     let mid = c.read_frame_line.new.reader in
     let taken = subst (ReadsFrame remaining old mid []) c.if-not-more.false c.in_ok-more.ensures.read in
-    let all = after_line remaining old mid c.read_planar.new.reader taken.0 taken.3 _ c.in_ok-read_planar.ensures.read in
+    let all = after_line remaining old mid c.read_planar.new.reader taken.0 taken.3 _ c.in_ok-read_planar.ensures.read
+    in
     (taken.0, taken.1, taken.2, all, taken.4)
 
 pub returns-in_err-read_planar-clause-error : goal.returns-in_err-read_planar-clause-error
@@ -31,7 +32,8 @@ returns-in_err-read_planar-clause-error g c =
     let taken = subst (ReadsFrame remaining old mid []) c.if-not-more.false c.in_ok-more.ensures.read in
     let n = length (planar_bytes g.T.Pixel.form (tables_of c.args.frame.now)) in
     let error = c.in_err-read_planar.field-0.0 in
-    let stopped = bytes_stop remaining old mid new taken.0 taken.3 n taken.1 taken.2 taken.4 c.in_ok-more.ensures.uncounted error
+    let stopped = bytes_stop remaining old mid new taken.0 taken.3 n taken.1 taken.2 taken.4
+    c.in_ok-more.ensures.uncounted error
     c.in_err-read_planar.ensures.error in
     handed_on (MayStopInFrame remaining old new n) _ error c.from_residual-in_err-read_planar.ensures.1 stopped
 

@@ -5,7 +5,8 @@ use Rattle.v_frame_y4m.proofs.CleanPieces.{read_is_writable}
 use Rattle.v_frame_y4m.proofs.streams.read_header.Goals as goal
 
 pub returns-clause-writable : goal.returns-clause-writable
-returns-clause-writable g c = read_is_writable _ c.in_ok-parse_header.field-0 c.in_ok-parse_header.ensures.found (search rules)
+returns-clause-writable g c = read_is_writable _ c.in_ok-parse_header.field-0 c.in_ok-parse_header.ensures.found
+    (search rules)
 
 pub returns-clause-read : goal.returns-clause-read
 returns-clause-read g c = grind (arith, common_steps)

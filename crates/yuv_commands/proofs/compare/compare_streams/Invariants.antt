@@ -8,8 +8,10 @@ use Rattle.yuv_commands.proofs.compare.compare_streams.Given as goal
 
 abbrev pub invariant-loop-before : goal.invariant-loop-before
 invariant-loop-before g l = record {
-  compared : ComparesFrames g.T.Pixel.form l.fn.first.container l.fn.second.container (g.R.Read.remaining l.fn.first.reader.inner)
-      (g.R.Read.remaining l.first.reader.inner) (g.S.Read.remaining l.fn.second.reader.inner) (g.S.Read.remaining l.second.reader.inner) (sizes_of
+  compared : ComparesFrames g.T.Pixel.form l.fn.first.container l.fn.second.container
+      (g.R.Read.remaining l.fn.first.reader.inner)
+      (g.R.Read.remaining l.first.reader.inner) (g.S.Read.remaining l.fn.second.reader.inner)
+      (g.S.Read.remaining l.second.reader.inner) (sizes_of
       (tables_of l.fn.first.frame)) l.found;
   counted : l.found.frames ≡ l.before;
   unended : l.found.longer ≡ None;

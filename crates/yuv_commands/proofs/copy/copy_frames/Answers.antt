@@ -1,4 +1,4 @@
--- One more frame was carried as it is, or the copy stops behind those that were.
+-- One more frame was carried as it is, or the copy stops after those that were.
 use Rattle.std.proofs.Common.{◌∙◌, true, refl, subst, rules}
 use Rattle.std.specs.Io.KnownBytes.{Appends}
 use Rattle.v_frame.specs.Prelude.{tables_of}
@@ -24,7 +24,8 @@ loop-count-preserved g c =
     let has = g.W.Write.contents c.write_next.new.output.writer.inner in
     let one : ReadsNext form c.loop-count.input.container left rest shown true = search rules in
     let read = subst (λ (k : Container). ReadsNext form k left rest shown true) before.from one in
-    let bytes : Appends now has (frame_bytes form c.loop-count.output.container shown) = c.in_ok-write_next.ensures.ok in
+    let bytes : Appends now has (frame_bytes form c.loop-count.output.container shown) = c.in_ok-write_next.ensures.ok
+    in
     let written = subst (λ (k : Container). Appends now has (frame_bytes form k shown)) before.to bytes in
     let sized = c.in_ok-read_next.ensures.sizes ∙ before.sized in
     record {
@@ -46,7 +47,9 @@ returns-in_err-write_next-clause-stopped g c =
     let behind : IsWriteFault c.loop-count.count fault = search rules in
     let begun : AppendsBeginning now has (frame_bytes form c.loop-count.output.container shown) = search rules in
     let begins = subst (λ (k : Container). AppendsBeginning now has (frame_bytes form k shown)) before.to begun in
-    let stopped : StopsCopy form (sizes_of (tables_of c.args.input.now.frame)) c.args.input.now.container c.args.output.now.container
-    (λ tables. tables) left (g.W.Write.contents c.args.output.now.writer.inner) has fault = stops_writing _ _ _ _ _ _ _ left _ now has _ before.carried
+    let stopped : StopsCopy form (sizes_of (tables_of c.args.input.now.frame)) c.args.input.now.container
+    c.args.output.now.container
+    (λ tables. tables) left (g.W.Write.contents c.args.output.now.writer.inner) has fault = stops_writing _ _ _ _ _ _ _
+    left _ now has _ before.carried
     shown fault behind begins in
     search rules

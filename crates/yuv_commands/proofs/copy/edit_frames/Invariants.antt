@@ -8,8 +8,10 @@ use Rattle.yuv_commands.proofs.copy.edit_frames.Given as goal
 
 abbrev pub invariant-loop-count : goal.invariant-loop-count
 invariant-loop-count g l = record {
-  carried : Carries g.T.Pixel.form (sizes_of (tables_of l.fn.input.frame)) l.fn.input.container l.fn.output.container (edited g.T.Pixel.form l.edit)
-      (g.R.Read.remaining l.fn.input.reader.inner) (g.R.Read.remaining l.input.reader.inner) (g.W.Write.contents l.fn.output.writer.inner)
+  carried : Carries g.T.Pixel.form (sizes_of (tables_of l.fn.input.frame)) l.fn.input.container l.fn.output.container
+      (edited g.T.Pixel.form l.edit)
+      (g.R.Read.remaining l.fn.input.reader.inner) (g.R.Read.remaining l.input.reader.inner)
+      (g.W.Write.contents l.fn.output.writer.inner)
       (g.W.Write.contents l.output.writer.inner) l.count;
   sized : sizes_of (tables_of l.input.frame) ≡ sizes_of (tables_of l.fn.input.frame);
   from : l.input.container ≡ l.fn.input.container;

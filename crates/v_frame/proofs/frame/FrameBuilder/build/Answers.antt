@@ -1,7 +1,7 @@
 -- Each part is what was asked for.
 use Rattle.std.proofs.Common.{◌∙◌, ap}
 use Rattle.std.specs.Option.{option_map}
-use Rattle.v_frame_plane.specs.Plane.{filled}
+use Rattle.v_frame_raster.specs.Raster.{filled}
 use Rattle.v_frame.specs.Build.{FrameRequest}
 use Rattle.v_frame.proofs.frame.FrameBuilder.build.Goals as goal
 

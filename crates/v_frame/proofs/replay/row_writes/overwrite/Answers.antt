@@ -1,7 +1,7 @@
 -- One more entry of the list, and the end.
 use Rattle.std.proofs.Common.{◌<◌, List, length, Some, get_or, sym, ◌∙◌, ap, arith}
 use Rattle.std.proofs.lemmas.Option.{slice_get-get_or}
-use Rattle.v_frame_plane.proofs.tables.Overwrites.{overwritten_by_none, written_more, written_all}
+use Rattle.v_frame_raster.proofs.tables.Overwrites.{overwritten_by_none, written_more, written_all}
 use Rattle.v_frame.proofs.replay.row_writes.overwrite.Goals as goal
 
 pub loop-i-init : goal.loop-i-init
@@ -21,4 +21,5 @@ loop-i-preserved g c =
     rw (c.unwrap_or.ensures, c.loop-i.invariant) (sym (written_more row writes i write pixel high listed stood))
 
 pub returns : goal.returns
-returns g c = c.loop-i.invariant ∙ written_all c.args.row.now c.args.writes.now c.loop-i.i (omega (arith, c.min-i-end.ensures))
+returns g c = c.loop-i.invariant ∙ written_all c.args.row.now c.args.writes.now c.loop-i.i
+    (omega (arith, c.min-i-end.ensures))

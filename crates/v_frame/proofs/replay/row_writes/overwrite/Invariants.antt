@@ -1,6 +1,6 @@
 -- The row so far is overwritten by what of the list is read.
 use Rattle.std.proofs.Common.{◌≡◌, take}
-use Rattle.v_frame_layout.specs.Table.{overwritten_row}
+use Rattle.v_frame_raster.specs.Table.{overwritten_row}
 use Rattle.v_frame.proofs.replay.row_writes.overwrite.Given as goal
 
 abbrev pub invariant-loop-i : goal.invariant-loop-i

@@ -1,6 +1,6 @@
 -- The row is overwritten by what is to be written into it.
 use Rattle.std.proofs.Common.{◌∙◌, ap}
-use Rattle.v_frame_layout.specs.Table.{overwritten_row}
+use Rattle.v_frame_raster.specs.Table.{overwritten_row}
 use Rattle.v_frame.proofs.replay.row_writes.overwrite_by.Goals as goal
 
 pub returns : goal.returns

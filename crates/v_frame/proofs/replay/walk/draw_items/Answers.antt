@@ -17,8 +17,9 @@ loop-draw-preserved g c =
     let drew = c.in_ok-item.ensures in
     record {
       answers = rw c.unwrap.ensures at c.push.ensures.items ∙
-          drawn_more _ sides i _ within here _ _ so_far.left drew.left _ _ _ so_far.answers drew.item c.left.ensures;
-      left = left_more _ sides i _ within here _ _ so_far.left drew.left;
+          drawn_more _ sides i _ within here _ _ so_far.remaining drew.remaining _ _ _ so_far.answers drew.item
+          c.remaining.ensures;
+      remaining = left_more _ sides i _ within here _ _ so_far.remaining drew.remaining;
       drawn = omega (arith, rw c.unwrap.ensures at c.push.ensures.len, so_far.drawn);
       room = omega (arith, so_far.room, c.push.ensures.capacity);
     }

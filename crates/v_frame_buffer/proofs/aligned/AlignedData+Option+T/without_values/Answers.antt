@@ -5,7 +5,8 @@ use Rattle.v_frame_buffer.proofs.aligned.AlignedData+Option+T.without_values.Goa
 
 pub loop-preserved : goal.loop-preserved
 loop-preserved g c = record {
-  entries = c.push.ensures.items ∙ ap (λ items. items ++ None ∷ []) c.loop.invariant.entries ∙ replicate_more c.loop.counter None;
+  entries = c.push.ensures.items ∙ ap (λ items. items ++ None ∷ []) c.loop.invariant.entries ∙ replicate_more
+      c.loop.counter None;
   room = omega (arith, c.push.ensures.spare, c.loop.invariant.room);
 }
 
@@ -14,4 +15,5 @@ finish-requires g c = omega (arith, c.loop.invariant.room, c.loop-test.false)
 
 pub returns-clause-entries : goal.returns-clause-entries
 returns-clause-entries g c =
-    c.finish.ensures ∙ c.loop.invariant.entries ∙ ap (λ n. replicate n None) (omega (arith, c.loop-test.false, c.loop.auto.counter-end))
+    c.finish.ensures ∙ c.loop.invariant.entries ∙ ap (λ n. replicate n None)
+    (omega (arith, c.loop-test.false, c.loop.auto.counter-end))

@@ -17,5 +17,9 @@ returns g c =
     let xs = c.self.inside.cells.items in
     rw (← c.self.view_is) (
       (refl, λ w. front_part xs w),
-      record { writes_back = tt; value = c.slice_mut.ensures.value ∙ front_range xs c.self.inside.len c.self.invariant.items },
+      record {
+        writes_back = tt;
+        value = c.slice_mut.ensures.value ∙ front_range xs c.self.inside.len
+            c.self.invariant.items;
+      },
     )

@@ -5,7 +5,8 @@ use Rattle.v_frame_buffer.proofs.aligned.AlignedData.new.Goals as goal
 
 pub loop-preserved : goal.loop-preserved
 loop-preserved g c = record {
-  entries = c.push.ensures.items ∙ ap (λ items. items ++ c.args.value ∷ []) c.loop.invariant.entries ∙ replicate_more c.loop.counter c.args.value;
+  entries = c.push.ensures.items ∙ ap (λ items. items ++ c.args.value ∷ []) c.loop.invariant.entries ∙ replicate_more
+      c.loop.counter c.args.value;
   room = omega (arith, c.push.ensures.spare, c.loop.invariant.room);
 }
 
@@ -14,4 +15,5 @@ finish-requires g c = omega (arith, c.loop.invariant.room, c.loop-test.false)
 
 pub returns-clause-copies : goal.returns-clause-copies
 returns-clause-copies g c =
-    c.finish.ensures ∙ c.loop.invariant.entries ∙ ap (λ n. replicate n c.args.value) (omega (arith, c.loop-test.false, c.loop.auto.counter-end))
+    c.finish.ensures ∙ c.loop.invariant.entries ∙ ap (λ n. replicate n c.args.value)
+    (omega (arith, c.loop-test.false, c.loop.auto.counter-end))

@@ -12,7 +12,8 @@ loop-written-preserved g c =
     let count = c.in-Ok.count in
     let before = c.loop-written.invariant in
     let did = c.in-Ok.ensures in
-    let sent = Appends-trans _ _ _ (take at text) (take count (take (length text - at) (drop at text))) before.sent did.bytes in
+    let sent = Appends-trans _ _ _ (take at text) (take count (take (length text - at) (drop at text))) before.sent
+    did.bytes in
     record {
       within = omega (arith, did.bound, length-take (length text - at) (drop at text), length-drop at text);
       sent = rw (take-add at count text) (rw (take_rest text at) at sent);

@@ -1,4 +1,4 @@
--- One more run stands behind what was encoded before.
+-- One more run stands after what was encoded before.
 use Rattle.std.proofs.Common.{◌≡◌, ◌+◌, ◌-◌, ◌*◌, ◌++◌, length, take, ◌∙◌, append_assoc, rules, arith}
 use Rattle.std.proofs.lemmas.Grind.{common_steps}
 use Rattle.v_frame_planar.specs.Pending.{pixels_behind}
@@ -20,11 +20,17 @@ loop-block-preserved g c =
     let size : length part ≡ long = search rules in
     let cut : begun.row.now ≡ first ++ rest = search rules in
     let behind = pixels_behind begun in
-    let joined = take-put_mid filled (filled + long - filled) block part (filled + long) (omega (arith, size)) before.within in
+    let joined = take-put_mid filled (filled + long - filled) block part (filled + long) (omega (arith, size))
+    before.within in
     record {
       within = search rules;
       bytes = before.bytes ∙ rw (joined, ← c.begin_row.ensures.pixels, cut, append_assoc first rest behind)
-          (rw (bytes-append form first (rest ++ behind), ← c.encode_row.ensures, append_assoc (take filled block) part _));
+          (rw (
+            bytes-append form first (rest ++ behind),
+            ← c.encode_row.ensures,
+            append_assoc (take filled block) part
+                _,
+          ));
     }
 
 pub overflow_mul-end : goal.overflow_mul-end

@@ -1,4 +1,4 @@
--- What was encoded, and behind it what is still to be, are the bytes of all.
+-- What was encoded, and after it what is still to be, are the bytes of all.
 use Rattle.std.proofs.Common.{◌≡◌, ◌+◌, ◌≤◌, ◌++◌, length, take}
 use Rattle.v_frame.specs.Prelude.{bytes_of_pixels}
 use Rattle.v_frame_planar.specs.Pending.{pixels_pending, rows_behind}
@@ -7,7 +7,8 @@ use Rattle.v_frame_planar.proofs.pending.Pending.fill.Given as goal
 abbrev pub invariant-loop-block : goal.invariant-loop-block
 invariant-loop-block g l = record {
   within : l.filled ≤ length l.block;
-  bytes : bytes_of_pixels g.T.Pixel.form (pixels_pending l.fn.self) ≡ take l.filled l.block ++ bytes_of_pixels g.T.Pixel.form (pixels_pending l.self);
+  bytes : bytes_of_pixels g.T.Pixel.form (pixels_pending l.fn.self) ≡ take l.filled l.block ++ bytes_of_pixels
+      g.T.Pixel.form (pixels_pending l.self);
 }
 
 abbrev pub decreases-loop-block : goal.decreases-loop-block

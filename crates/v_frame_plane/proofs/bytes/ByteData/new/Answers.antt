@@ -11,4 +11,9 @@ returns-clause-count g c =
 pub returns-clause-bound : goal.returns-clause-bound
 returns-clause-bound g c =
     let form = g.T.Pixel.form in
-    omega (arith, count_of_bytes form None c.new.result None, few_bytes form c.new.result g.met.T.Pixel.byte_or_two.1 c.new.ensures.bound)
+    omega (
+      arith,
+      count_of_bytes form None c.new.result None,
+      few_bytes form c.new.result g.met.T.Pixel.byte_or_two.1
+          c.new.ensures.bound,
+    )

@@ -1,14 +1,15 @@
 -- The rows of a plane aren't empty, and its pixels are no more than its buffer holds.
 use Rattle.std.proofs.Common.{append-nil, refl}
-use Rattle.v_frame_layout.specs.Table.{row_major}
-use Rattle.v_frame_plane.specs.Plane.{table_of}
+use Rattle.v_frame_raster.specs.Table.{row_major}
+use Rattle.v_frame_raster.specs.Raster.{table_of}
 use Rattle.v_frame_plane.proofs.iterators.BegunRows.{visible_countable, visible_pixels, visible_few}
 use Rattle.v_frame_plane.proofs.pixels.Pixels.new.Goals as goal
 
 pub invariant_of-result : goal.invariant_of-result
 invariant_of-result g c =
     let rows = c.new.ensures in
-    rw (c.default.ensures, rows.rows, c.default-2.ensures) (visible_countable c.args.plane.now rows.valid.wide rows.plane)
+    rw (c.default.ensures, rows.rows, c.default-2.ensures)
+    (visible_countable c.args.plane.now rows.valid.wide rows.plane)
 
 pub returns : goal.returns
 returns g c =

@@ -12,22 +12,27 @@ invariant_of-self-2 g c =
     elim c.match-next_back.branch [
       | in-Some-next_back w ↦
           let cut = ap length (rw (w.row-is) at c.in_ok-pixel.ensures.cases.0) in
-          rw (w.self-inside-is) (drawn_countable c.self.invariant (last_drawn w.in-Some-next_back.ensures.steps) _ _ (omega (arith, cut, others)))
+          rw (w.self-inside-is) (drawn_countable c.self.invariant (last_drawn w.in-Some-next_back.ensures.steps) _ _
+          (omega (arith, cut, others)))
       | in-None w ↦
           let cut = ap length (rw (w.row-is, w.take-row.ensures.value) at c.in_ok-pixel.ensures.cases.0) in
           let left = ap length w.take-row.ensures.after in
-          rw (w.self-inside-is) (none_countable c.self.invariant w.in-None.ensures.steps.1 _ _ (omega (arith, cut, others, left)))
+          rw (w.self-inside-is) (none_countable c.self.invariant w.in-None.ensures.steps.1 _ _
+          (omega (arith, cut, others, left)))
     ]
 
 pub returns-clause-steps : goal.returns-clause-steps
 returns-clause-steps g c =
-    rw (← c.self.view_is, nil_from_length c.self.inside.back.now c.in_default.ensures.cases) (elim c.match-next_back.branch [
+    rw (← c.self.view_is, nil_from_length c.self.inside.back.now c.in_default.ensures.cases)
+    (elim c.match-next_back.branch [
       | in-Some-next_back w ↦
           let cut = rw (w.row-is) at c.in_ok-pixel.ensures.cases.0 in
-          rw (w.self-inside-is, w.in-Some-next_back.ensures.steps, cut) (simp (row_major-append, append_assoc, append-nil))
+          rw (w.self-inside-is, w.in-Some-next_back.ensures.steps, cut)
+          (simp (row_major-append, append_assoc, append-nil))
       | in-None w ↦
           let cut = rw (w.row-is, w.take-row.ensures.value) at c.in_ok-pixel.ensures.cases.0 in
-          rw (w.self-inside-is, w.in-None.ensures.steps.0, w.in-None.ensures.steps.1, w.take-row.ensures.after, cut) (simp append-nil)
+          rw (w.self-inside-is, w.in-None.ensures.steps.0, w.in-None.ensures.steps.1, w.take-row.ensures.after, cut)
+          (simp append-nil)
     ])
 
 pub returns-clause-goes : goal.returns-clause-goes
@@ -51,8 +56,10 @@ invariant_of-self g c =
 pub invariant_of-self-in_err-pixel : goal.invariant_of-self-in_err-pixel
 invariant_of-self-in_err-pixel g c =
     elim c.match-next_back.branch [
-      | in-Some-next_back w ↦ rw (w.self-inside-is) (drawn_countable c.self.invariant (last_drawn w.in-Some-next_back.ensures.steps) _ _ (omega arith))
-      | in-None w ↦ rw (w.self-inside-is) (none_countable c.self.invariant w.in-None.ensures.steps.1 _ _ (omega (arith, ap length w.take-row.ensures.after)))
+      | in-Some-next_back w ↦ rw (w.self-inside-is)
+          (drawn_countable c.self.invariant (last_drawn w.in-Some-next_back.ensures.steps) _ _ (omega arith))
+      | in-None w ↦ rw (w.self-inside-is) (none_countable c.self.invariant w.in-None.ensures.steps.1 _ _
+          (omega (arith, ap length w.take-row.ensures.after)))
     ]
 
 pub returns-in_err-pixel-clause-steps : goal.returns-in_err-pixel-clause-steps
@@ -63,9 +70,19 @@ returns-in_err-pixel-clause-steps g c =
           absurd (omega (arith, ((last_drawn w.in-Some-next_back.ensures.steps).full c.self.invariant.full).0, empty))
       | in-None w ↦
           let back = nil_from_length c.self.inside.back.now c.in_default.ensures.cases in
-          let front = nil_from_length c.self.inside.front.now (rw (w.row-is, w.take-row.ensures.value) at c.in_err-pixel.ensures.cases) in
+          let front = nil_from_length c.self.inside.front.now
+          (rw (w.row-is, w.take-row.ensures.value) at c.in_err-pixel.ensures.cases) in
           let rows = w.in-None.ensures.steps in
-          rw (c.from_residual.ensures, w.self-inside-is, ← c.self.view_is, back, rows.0, rows.1, w.take-row.ensures.after, front) (refl, refl)
+          rw (
+            c.from_residual.ensures,
+            w.self-inside-is,
+            ← c.self.view_is,
+            back,
+            rows.0,
+            rows.1,
+            w.take-row.ensures.after,
+            front,
+          ) (refl, refl)
     ]
 
 pub returns-in_err-pixel-clause-goes : goal.returns-in_err-pixel-clause-goes

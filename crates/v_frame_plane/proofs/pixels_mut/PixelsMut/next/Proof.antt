@@ -17,5 +17,6 @@ next_spec 𝓤 𝓛 𝓜 𝓡 wired T laws =
     meets 𝓛 𝓜 𝓡 T laws at_front _ _ _ _ _ _ _ (next_of_front.name args) (rows_next.name args) _ (next.name args)
     (next_of_front_met.met 𝓤 𝓛 𝓜 𝓡 (code.calls-v_frame_plane::pixels_mut::PixelsMut::next_of_front 𝓡.env wired) T laws)
     (rows_next_met.met 𝓤 𝓛 𝓜 𝓡 (code.calls-v_frame_plane::rows_mut::RowsMut::next 𝓡.env wired) T laws)
-    (take_meets 𝓛 𝓜 𝓡 (code.calls-core::mem::take 𝓡.env wired) (code.calls-core::slice::empty::RefMutSliceDefault::default 𝓡.env wired) T laws)
+    (take_meets 𝓛 𝓜 𝓡 (code.calls-core::mem::take 𝓡.env wired)
+    (code.calls-core::slice::empty::RefMutSliceDefault::default 𝓡.env wired) T laws)
     (code.unfolded 𝓤 𝓛.H 𝓜 𝓡 wired (T, tt))

@@ -1,4 +1,5 @@
--- `next_back` takes its pixel from the row that was begun from the back, and begins another one where that is at its end.
+-- `next_back` takes its pixel from the row that was begun from the back, and begins another one where that is at its
+-- end.
 use Rattle.v_frame_buffer.proofs.Steps.{[], ◌∷◌, a_type, layouts}
 use Rattle.v_frame_plane.specs.contracts.pixels_mut.PixelsMut.next_back.Key as next_back
 use Rattle.v_frame_plane.specs.contracts.pixels_mut.PixelsMut.next_of_back.Key as next_of_back
@@ -17,5 +18,6 @@ next_back_spec 𝓤 𝓛 𝓜 𝓡 wired T laws =
     meets 𝓛 𝓜 𝓡 T laws at_back _ _ _ _ _ _ _ (next_of_back.name args) (rows_next_back.name args) _ (next_back.name args)
     (next_of_back_met.met 𝓤 𝓛 𝓜 𝓡 (code.calls-v_frame_plane::pixels_mut::PixelsMut::next_of_back 𝓡.env wired) T laws)
     (rows_next_back_met.met 𝓤 𝓛 𝓜 𝓡 (code.calls-v_frame_plane::rows_mut::RowsMut::next_back 𝓡.env wired) T laws)
-    (take_meets 𝓛 𝓜 𝓡 (code.calls-core::mem::take 𝓡.env wired) (code.calls-core::slice::empty::RefMutSliceDefault::default 𝓡.env wired) T laws)
+    (take_meets 𝓛 𝓜 𝓡 (code.calls-core::mem::take 𝓡.env wired)
+    (code.calls-core::slice::empty::RefMutSliceDefault::default 𝓡.env wired) T laws)
     (code.unfolded 𝓤 𝓛.H 𝓜 𝓡 wired (T, tt))

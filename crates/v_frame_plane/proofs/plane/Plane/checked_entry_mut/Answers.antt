@@ -3,11 +3,11 @@ use Rattle.std.proofs.Common.{◌≡◌, ◌≤◌, None, slice_get, refl, sym, 
 use Rattle.std.proofs.lemmas.Option.{slice_get_past}
 use Rattle.std.specs.Option.{ghost_name_of}
 use borrow.Follows.Closed.{read_of}
-use Rattle.v_frame_layout.specs.Geometry.{alloc_size_of, place_of}
-use Rattle.v_frame_plane.specs.Plane.{Raster, raster}
+use Rattle.v_frame_raster.specs.Geometry.{alloc_size_of, place_of}
+use Rattle.v_frame_raster.specs.Raster.{Raster, raster}
 use Rattle.v_frame_plane.proofs.tables.Kept.{whole_with_entry}
-use Rattle.v_frame_plane.proofs.tables.Places.{past_counting}
-use Rattle.v_frame_plane.proofs.tables.Writes.{set_at, none_past}
+use Rattle.v_frame_raster.proofs.tables.Places.{past_counting}
+use Rattle.v_frame_raster.proofs.tables.Writes.{set_at, none_past}
 use Rattle.v_frame_plane.proofs.plane.Plane.checked_entry_mut.Goals as goal
 
 pub returns : goal.returns
@@ -26,7 +26,8 @@ pub returns-in_err-place : goal.returns-in_err-place
 returns-in_err-place g c =
     let p : Raster g.row.T.Denot = raster c.self.inside.geometry c.self.inside.buffer in
     let fits = c.self.invariant.fits in
-    let past : alloc_size_of p.geometry ≤ place_of p.geometry c.args.x c.args.y = past_counting _ _ c.in_err-place.ensures (omega arith) in
+    let past : alloc_size_of p.geometry ≤ place_of p.geometry c.args.x c.args.y = past_counting _ _
+    c.in_err-place.ensures (omega arith) in
     let none : slice_get p.buffer (place_of p.geometry c.args.x c.args.y) ≡ None =
     slice_get_past p.buffer (place_of p.geometry c.args.x c.args.y) (omega (arith, c.self.invariant.whole)) in
     rw (c.from_residual.ensures, ← c.self.view_is) (

@@ -1,29 +1,36 @@
 -- The stride decides first, and then the length.
-use Rattle.std.proofs.Common.{◌≡◌, ◌*◌, ◌≤◌, length, min, Ok, Err, refl, ap, ◌∙◌, sym, arith}
-use Rattle.v_frame_layout.specs.Geometry.{usize_max}
-use Rattle.v_frame_plane.specs.Plane.{Raster, raster, table_of}
+use Rattle.std.proofs.Common.{◌≡◌, ◌*◌, ◌<◌, ◌≤◌, length, min, Ok, Err, refl, ap, ◌∙◌, sym, arith}
+use Rattle.std.proofs.Math.Nat.{mul-pos}
+use Rattle.v_frame_raster.specs.Geometry.{usize_max}
+use Rattle.v_frame_raster.specs.Raster.{Raster, raster, table_of}
 use Rattle.v_frame_plane.specs.Copy.{Copies, strided_copy}
 use Rattle.v_frame_plane.specs.declared.error.CopyError.TheVariants.{DataLength}
-use Rattle.v_frame_plane.proofs.copies.ByteCopies.{asked_is_found, asked_is_other, asked_is_told, refused_by_stride, refused_by_length, accepted}
+use Rattle.v_frame_plane.proofs.copies.ByteCopies.{asked_is_found, asked_is_other, asked_is_told, refused_by_stride}
+use Rattle.v_frame_plane.proofs.copies.ByteCopies.{refused_by_length, accepted}
 use Rattle.std.specs.List.{refill}
 use Rattle.v_frame_plane.proofs.tables.Kept.{whole_refilled}
-use Rattle.v_frame_plane.proofs.tables.Lists.{refill_same}
-use Rattle.v_frame_plane.proofs.copies.BytesBack.{AreBytes}
+use Rattle.v_frame_raster.proofs.tables.Lists.{refill_same}
+use Rattle.v_frame_raster.proofs.tables.BytesBack.{AreBytes}
 use Rattle.v_frame_plane.proofs.copies.ByteLaws.{strided_bytes}
+use Rattle.v_frame_raster.proofs.tables.Sources.{fronts_fit}
 use Rattle.v_frame_plane.proofs.iterators.BegunPixels.{row_bytes}
 use Rattle.v_frame_plane.proofs.plane.Plane.copy_from_u8_slice_with_stride.Goals as goal
 
 pub overflow_mul-width : goal.overflow_mul-width
 overflow_mul-width g c =
     rw (c.width-width.ensures.value, c.BYTES.ensures, g.met.T.Pixel.bytes_of_form)
-    (record { fits = row_bytes c.self.inside.geometry _ c.width-width.ensures.valid.high c.self.invariant.fits g.met.T.Pixel.byte_or_two.1 })
+    (record {
+      fits = row_bytes c.self.inside.geometry _ c.width-width.ensures.valid.high c.self.invariant.fits
+          g.met.T.Pixel.byte_or_two.1;
+    })
 
 pub returns-then-stride-width-clause-copied : goal.returns-then-stride-width-clause-copied
 returns-then-stride-width-clause-copied g c =
     let form = g.T.Pixel.form in
     let p : Raster g.row.T.Denot = raster c.self.inside.geometry c.self.inside.buffer in
     let bytes = c.BYTES.ensures ∙ g.met.T.Pixel.bytes_of_form in
-    let refused = refused_by_stride form p c.args.src.now c.args.stride c.width-width.result c.self.inside.geometry.height c.width-width.ensures.valid.high
+    let refused = refused_by_stride form p c.args.src.now c.args.stride c.width-width.result
+    c.self.inside.geometry.height c.width-width.ensures.valid.high
     c.self.invariant.whole c.width-width.ensures.value refl (rw (← bytes) c.if-stride-width.true) in
     rw (← c.self.view_is) (record {
       answer = rw refused refl;
@@ -43,8 +50,10 @@ returns-then-ne-clause-copied g c =
     let bytes = c.BYTES.ensures ∙ g.met.T.Pixel.bytes_of_form in
     let fits : c.width-width.result * form.size ≤ c.args.stride = rw (← bytes) c.if-stride-width.false in
     let other = asked_is_other asked product found c.checked_mul-expected.ensures (omega arith) (sym c.if-ne.ensures) in
-    let told : c.unwrap_or.result ≡ min product usize_max = c.unwrap_or.ensures ∙ asked_is_told asked product c.checked_mul-expected.ensures in
-    let refused = refused_by_length form p c.args.src.now c.args.stride c.width-width.result c.height.result c.width-width.ensures.valid.high
+    let told : c.unwrap_or.result ≡ min product usize_max = c.unwrap_or.ensures ∙ asked_is_told asked product
+    c.checked_mul-expected.ensures in
+    let refused = refused_by_length form p c.args.src.now c.args.stride c.width-width.result c.height.result
+    c.width-width.ensures.valid.high
     c.self.invariant.whole c.width-width.ensures.value c.height.ensures.value fits other in
     rw (← c.self.view_is) (record {
       answer = rw refused (ap (λ n. Err (DataLength n found)) told);
@@ -61,39 +70,53 @@ returns g c =
     let source = c.args.src.now in
     let old : Raster g.row.T.Denot = raster k c.self.inside.buffer in
     let entries = c.as_mut_slice-buffer.ensures.value in
-    let left = refill_same old.buffer c.write_rows.new.buffer (c.write_rows.auto.buffer ∙ ap length entries) in
-    let new : Raster g.row.T.Denot = raster k (refill (length old.buffer) old.buffer c.write_rows.new.buffer) in
+    let left = refill_same old.buffer c.write_visible.new.buffer (c.write_visible.ensures.count ∙ ap length entries) in
+    let new : Raster g.row.T.Denot = raster k (refill (length old.buffer) old.buffer c.write_visible.new.buffer) in
     let size = c.BYTES.ensures ∙ g.met.T.Pixel.bytes_of_form in
-    let fits : k.width * form.size ≤ c.args.stride = rw (← size, ← c.width-width.ensures.value) c.if-stride-width.false in
-    let same = asked_is_found c.checked_mul-expected.result (c.args.stride * c.height.result) (length source) c.checked_mul-expected.ensures
+    let fits : k.width * form.size ≤ c.args.stride = rw (← size, ← c.width-width.ensures.value) c.if-stride-width.false
+    in
+    let same = asked_is_found c.checked_mul-expected.result (c.args.stride * c.height.result) (length source)
+    c.checked_mul-expected.ensures
     (sym c.if-ne.ensures) in
-    let done = accepted form old source c.args.stride k.width k.height c.width-width.ensures.valid.high c.self.invariant.whole refl refl fits (same ∙
+    let done = accepted form old source c.args.stride k.width k.height c.width-width.ensures.valid.high
+    c.self.invariant.whole refl refl fits (same ∙
     ap (λ n. c.args.stride * n) c.height.ensures.value) in
+    let size2 = c.BYTES-2.ensures ∙ g.met.T.Pixel.bytes_of_form in
+    let rows = rw (c.of_parts-source.ensures.value, c.width-width.ensures.value, c.height-2.ensures.value, size2) at
+    c.write_visible.ensures.table in
     let copied : Copies old new (Ok tt) (strided_copy form (table_of old) source c.args.stride) = record {
       answer = rw done refl;
-      table = rw (left, done) c.write_rows.ensures.table;
-      border = rw left (c.write_rows.ensures.border ∙ rw entries refl);
+      table = rw (left, done) rows;
+      border = rw left (c.write_visible.ensures.border ∙ rw entries refl);
       geometry = refl;
       refused = tt;
     } in
     let bytes : AreBytes source = record { below = λ i. (c.type_inv.src i).fits } in
     rw (← c.self.view_is) (record {
       copied = copied;
-      source = strided_bytes form g.met.T.Pixel.value_of_pixel (table_of old) (table_of new) source bytes c.args.stride (Ok tt) copied.answer copied.table;
+      source = strided_bytes form g.met.T.Pixel.value_of_pixel (table_of old) (table_of new) source bytes c.args.stride
+          (Ok tt) copied.answer copied.table;
     })
 
-pub write_rows-requires-clause-stride : goal.write_rows-requires-clause-stride
-write_rows-requires-clause-stride g c =
+pub write_visible-requires-clause-whole : goal.write_visible-requires-clause-whole
+write_visible-requires-clause-whole g c = rw (c.as_mut_slice-buffer.ensures.value) c.self.invariant
+
+pub of_parts-source-requires : goal.of_parts-source-requires
+of_parts-source-requires g c =
+    let valid = c.width-width.ensures.valid in
     let size = c.BYTES.ensures ∙ g.met.T.Pixel.bytes_of_form in
-    rw (← size, ← c.width-width.ensures.value) c.if-stride-width.false
-
-pub write_rows-requires-clause-source : goal.write_rows-requires-clause-source
-write_rows-requires-clause-source g c =
-    asked_is_found c.checked_mul-expected.result (c.args.stride * c.height.result) (length c.args.src.now) c.checked_mul-expected.ensures
-    (sym c.if-ne.ensures) ∙ ap (λ n. c.args.stride * n) c.height.ensures.value
-
-pub write_rows-requires-clause-plane : goal.write_rows-requires-clause-plane
-write_rows-requires-clause-plane g c = rw (c.as_mut_slice-buffer.ensures.value) c.self.invariant
+    let some : 0 < c.BYTES-2.result = rw (c.BYTES-2.ensures, g.met.T.Pixel.bytes_of_form) (g.met.T.Pixel.byte_or_two.0)
+    in
+    let wide : 0 < c.width-width.result = rw (c.width-width.ensures.value) valid.wide in
+    let high : 0 < c.height-2.result = rw (c.height-2.ensures.value) valid.high in
+    let counted = asked_is_found c.checked_mul-expected.result (c.args.stride * c.height.result)
+    (length c.args.src.now) c.checked_mul-expected.ensures
+    (sym c.if-ne.ensures) in
+    let same : c.height.result ≡ c.height-2.result = c.height.ensures.value ∙ sym c.height-2.ensures.value in
+    fronts_fit (c.width-width.result * c.BYTES-2.result) c.args.stride c.height-2.result (length c.args.src.now)
+    (mul-pos wide some) high (rw (c.BYTES-2.ensures, ← c.BYTES.ensures) c.if-stride-width.false)
+    (counted ∙ ap (λ n. c.args.stride * n) same)
 
 pub invariant_of-self : goal.invariant_of-self
-invariant_of-self g c = whole_refilled c.self.inside.geometry c.self.inside.buffer c.write_rows.new.buffer c.self.invariant
+invariant_of-self g c = whole_refilled c.self.inside.geometry c.self.inside.buffer c.write_visible.new.buffer
+    c.self.invariant

@@ -9,4 +9,8 @@ invariant_of-self-lent g c = λ w. whole_refilled c.self.inside.geometry c.self.
 pub returns : goal.returns
 returns g c =
     let value = c.as_mut_slice.ensures.value in
-    rw (← c.self.view_is) ((refl, λ w. refl), record { writes_back = tt; value = value; whole = ap length value ∙ c.self.invariant.whole })
+    rw (← c.self.view_is) (
+      (refl, λ w. refl),
+      record
+          { writes_back = tt; value = value; whole = ap length value ∙ c.self.invariant.whole },
+    )

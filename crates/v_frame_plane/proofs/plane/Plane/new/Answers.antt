@@ -6,7 +6,8 @@ use Rattle.v_frame_plane.proofs.plane.Plane.new.Goals as goal
 pub invariant_of-result : goal.invariant_of-result
 invariant_of-result g c = record {
   fits = c.requires;
-  whole = ap length c.in_ok-buffer.ensures.copies ∙ length-replicate c.alloc_size.result c.ZERO.result ∙ c.alloc_size.ensures;
+  whole = ap length c.in_ok-buffer.ensures.copies ∙ length-replicate c.alloc_size.result c.ZERO.result ∙
+      c.alloc_size.ensures;
 }
 
 pub returns : goal.returns

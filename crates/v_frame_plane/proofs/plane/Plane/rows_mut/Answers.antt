@@ -1,10 +1,10 @@
 -- The iterator's slice is the whole buffer, and calls from one end lend what was left, in order.
 use Rattle.std.proofs.Common.{◌≡◌, refl, sym, ◌∙◌}
-use Rattle.v_frame_plane.specs.Plane.{Raster, raster, table_of}
+use Rattle.v_frame_raster.specs.Raster.{Raster, raster, table_of}
 use Rattle.v_frame_plane.specs.RowsLeft.{rows_left}
-use Rattle.v_frame_plane.specs.SecondRows.{WritesEachTable}
+use Rattle.v_frame_plane.specs.FinalRows.{WritesEachTable}
 use Rattle.v_frame_plane.proofs.tables.Kept.{whole_refilled}
-use Rattle.v_frame_plane.proofs.tables.Places.{rows_are_wide}
+use Rattle.v_frame_raster.proofs.tables.Places.{rows_are_wide}
 use Rattle.v_frame_plane.proofs.iterators.WalkRuns.{lends_in_order, lends_in_reverse}
 use Rattle.v_frame_plane.proofs.plane.Plane.rows_mut.Goals as goal
 

@@ -1,9 +1,9 @@
 -- The entry that is lent is the table's pixel, and what is left there replaces it.
 use Rattle.std.proofs.Common.{◌<◌, slice_get, refl, sym, ap, ◌∙◌, arith}
-use Rattle.v_frame_plane.specs.Plane.{Raster, raster}
+use Rattle.v_frame_raster.specs.Raster.{Raster, raster}
 use Rattle.v_frame_plane.proofs.tables.Kept.{whole_with_entry}
-use Rattle.v_frame_plane.proofs.tables.Places.{pixel_inside, place_within}
-use Rattle.v_frame_plane.proofs.tables.Writes.{set_at, writes_each_pixel}
+use Rattle.v_frame_raster.proofs.tables.Places.{pixel_inside, place_within}
+use Rattle.v_frame_raster.proofs.tables.Writes.{set_at, writes_each_pixel}
 use Rattle.v_frame_plane.proofs.plane.Plane.visible_pixel_mut.Goals as goal
 
 pub returns : goal.returns
@@ -26,4 +26,5 @@ returns g c =
     )
 
 pub invariant_of-self-lent : goal.invariant_of-self-lent
-invariant_of-self-lent g c = λ w. whole_with_entry c.self.inside.geometry c.self.inside.buffer c.visible_place-place.result w c.self.invariant
+invariant_of-self-lent g c = λ w. whole_with_entry c.self.inside.geometry c.self.inside.buffer
+    c.visible_place-place.result w c.self.invariant

@@ -1,16 +1,17 @@
 -- The entry at the place, which inside the rectangle is the table's pixel.
 use Rattle.std.proofs.Common.{◌<◌, length, sym, ◌∙◌, arith}
 use Rattle.std.proofs.lemmas.Option.{slice_get_past, slice_get-get_or}
-use Rattle.v_frame_plane.specs.Plane.{Raster, raster}
-use Rattle.v_frame_layout.specs.Geometry.{place_of}
-use Rattle.v_frame_plane.proofs.tables.Places.{pixel_inside, past_counting, copied_get, none_past_end}
+use Rattle.v_frame_raster.specs.Raster.{Raster, raster}
+use Rattle.v_frame_raster.specs.Geometry.{place_of}
+use Rattle.v_frame_raster.proofs.tables.Places.{pixel_inside, past_counting, copied_get, none_past_end}
 use Rattle.v_frame_plane.proofs.plane_ref.PlaneRef.pixel.Goals as goal
 
 -- inside the rectangle
 pub returns-then-y-height-clause-value : goal.returns-then-y-height-clause-value
 returns-then-y-height-clause-value g c =
     let p : Raster g.row.T.Denot = raster c.self.inside.geometry c.self.inside.buffer.now in
-    let within : c.visible_place.result < length p.buffer = omega (arith, c.visible_place.ensures.within, c.self.invariant.whole) in
+    let within : c.visible_place.result < length p.buffer = omega
+    (arith, c.visible_place.ensures.within, c.self.invariant.whole) in
     rw (← c.self.view_is, ← c.visible_place.ensures.place)
     (sym (slice_get-get_or p.buffer c.visible_place.result c.index-self-visible_place.result within))
 
@@ -22,7 +23,8 @@ returns-then-y-height-clause-inside g c = λ wide high.
 pub returns-in_err-place-clause-value : goal.returns-in_err-place-clause-value
 returns-in_err-place-clause-value g c =
     let p : Raster g.row.T.Denot = raster c.self.inside.geometry c.self.inside.buffer.now in
-    rw (← c.self.view_is) (c.from_residual.ensures ∙ sym (slice_get_past p.buffer (place_of p.geometry c.args.x c.args.y) (omega (
+    rw (← c.self.view_is) (c.from_residual.ensures ∙ sym
+    (slice_get_past p.buffer (place_of p.geometry c.args.x c.args.y) (omega (
       arith,
       c.self.invariant.whole,
       past_counting (length p.buffer) (place_of p.geometry c.args.x c.args.y) c.in_err-place.ensures (omega arith),

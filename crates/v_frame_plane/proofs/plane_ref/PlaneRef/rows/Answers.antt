@@ -1,6 +1,6 @@
 -- Calls from one end give what was left, in order.
 use Rattle.v_frame_plane.proofs.iterators.WalkRuns.{shows_in_order, shows_in_reverse}
-use Rattle.v_frame_plane.proofs.tables.Places.{rows_are_wide}
+use Rattle.v_frame_raster.proofs.tables.Places.{rows_are_wide}
 use Rattle.std.specs.Map.Iter.{deref}
 use Rattle.v_frame_plane.proofs.plane_ref.PlaneRef.rows.Goals as goal
 

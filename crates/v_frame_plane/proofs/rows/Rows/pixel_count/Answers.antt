@@ -8,5 +8,6 @@ pub returns : goal.returns
 returns g c =
     let a = c.self.inside in
     let rows = rows_ahead a.start a.width a.gap a.count a.rest.now in
-    let pixels = pixels_of_rows a.width rows (rows_are_long a.start a.width a.gap a.count a.rest.now c.self.invariant.within) in
+    let pixels = pixels_of_rows a.width rows (rows_are_long a.start a.width a.gap a.count a.rest.now
+    c.self.invariant.within) in
     rw (← c.self.view_is, pixels, count_of_rows a.start a.width a.gap a.count a.rest.now) refl

@@ -13,6 +13,7 @@ pub next_spec : {M : Type 1} → statement M
 next_spec 𝓤 𝓛 𝓜 𝓡 wired T laws =
     meets 𝓛 𝓜 𝓡 T laws at_front _ _ _ _ _ _ _ _ (next.name (layouts (a_type ∷ []) (T, tt)))
     (row_place_met.met 𝓤 𝓛 𝓜 𝓡 (code.calls-v_frame_plane::rows_mut::row_place 𝓡.env wired))
-    (take_meets 𝓛 𝓜 𝓡 (code.calls-core::mem::take 𝓡.env wired) (code.calls-core::slice::empty::RefMutSliceDefault::default 𝓡.env wired) T laws)
+    (take_meets 𝓛 𝓜 𝓡 (code.calls-core::mem::take 𝓡.env wired)
+    (code.calls-core::slice::empty::RefMutSliceDefault::default 𝓡.env wired) T laws)
     (split_met.met 𝓤 𝓛 𝓜 𝓡 (code.calls-core::slice::slice+T::split_at_mut 𝓡.env wired) T laws)
     (code.unfolded 𝓤 𝓛.H 𝓜 𝓡 wired (T, tt))

@@ -7,5 +7,6 @@ use Rattle.v_frame_plane.proofs.rows_mut.RowsMut.pixel_count.Goals as goal
 pub returns : goal.returns
 returns g c =
     let a = c.args.self.now in
-    let pixels = pixels_of_rows a.width (rows_left a) (rows_are_long a.start a.width a.gap a.count a.rest.now a.within.within) in
+    let pixels = pixels_of_rows a.width (rows_left a)
+    (rows_are_long a.start a.width a.gap a.count a.rest.now a.within.within) in
     sym (pixels ∙ ap (λ n. n * a.width) (count_of_rows a.start a.width a.gap a.count a.rest.now))

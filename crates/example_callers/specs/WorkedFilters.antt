@@ -1,0 +1,17 @@
+-- Means of neighbours worked out by hand. Each line computes: it is proved by `refl`.
+use Rattle.std.specs.Prelude.{ℕ, ◌≡◌, [], ◌∷◌, refl}
+use Rattle.v_frame.specs.Prelude.{Table}
+use Rattle.example_callers.specs.Filters.{box_mean}
+
+abbrev three_rows : Table ℕ
+three_rows = (0 ∷ 9 ∷ 18 ∷ []) ∷ (27 ∷ 36 ∷ 45 ∷ []) ∷ (54 ∷ 63 ∷ 72 ∷ []) ∷ []
+
+-- in the middle all nine, and in a corner four times itself and twice each of its two neighbours
+in_the_middle : box_mean three_rows 1 1 ≡ 36
+in_the_middle = refl
+
+in_the_corner : box_mean three_rows 0 0 ≡ 12
+in_the_corner = refl
+
+at_the_edge : box_mean three_rows 2 1 ≡ 42
+at_the_edge = refl

@@ -1,0 +1,30 @@
+//! What users write over `v_frame`: small functions, each with a contract of what it gives and leaves. Not all of them are
+//! exact.
+//!
+//! They are there to be copied, and they show that the public contracts are enough: nothing here looks into `v_frame`.
+//! README and CALLING quote some of them. Our own.
+#![tactic(auto)]
+
+pub mod answers;
+pub mod border;
+pub mod collages;
+pub mod decoded;
+pub mod decoded_rows;
+pub mod filter;
+pub mod filters;
+pub mod frames;
+pub mod iterators;
+pub mod lent;
+pub mod motion;
+pub mod pictures;
+pub mod planes;
+pub mod raw_bytes;
+pub mod reads;
+pub mod rectangles;
+pub mod regions;
+pub mod row_pairs;
+pub mod single_pixels;
+pub mod start;
+pub mod streams;
+pub mod video;
+pub mod y4m;

@@ -1,0 +1,58 @@
+//! What motion search asks of planes: how far blocks are apart, whether planes show the same, and the next smaller picture.
+ghost use Rattle.std.specs.Prelude.{◌≡◌, ◌*◌, ◌+◌, ◌≤◌, ◌↔◌, ℕ, List, IfSome, IsTrue, Some, slice_get};
+ghost use Rattle.v_frame.specs.Prelude.{absolute_differences, halved, rectangle, row_major, squared_errors, table_of};
+ghost use Rattle.v_frame_ops.specs.Prelude.{IsPadded};
+
+use v_frame::pixel::Pixel;
+use v_frame::plane::{Plane, PlaneRef};
+use v_frame_ops::{
+    downscale, first_difference, pad, sum_of_absolute_differences, sum_of_squared_errors,
+};
+
+/// Returns how far a block is from the pixels that a plane shows from column `x` of row `y` on, where the plane has as many.
+pub fn cost_of_block<T: Pixel>(
+    plane: &PlaneRef<'_, T>,
+    block: &PlaneRef<'_, T>,
+    x: usize,
+    y: usize,
+) -> Option<u128>
+    ensures { let size = block.now.geometry in IfSome result (λ cost. cost
+        ≡ absolute_differences T.form.value
+        (row_major (rectangle x y size.width size.height (table_of plane.now)))
+        (row_major (table_of block.now))) }
+{
+    let region = plane.region(x, y, block.width(), block.height())?;
+    Some(sum_of_absolute_differences(&region, block))
+}
+
+/// Returns whether the sum of the squared errors of two planes of one size is at most `most`.
+pub fn is_close<T: Pixel>(a: &PlaneRef<'_, T>, b: &PlaneRef<'_, T>, most: u128) -> bool
+    requires wide { a.now.geometry.width ≡ b.now.geometry.width }
+    requires high { a.now.geometry.height ≡ b.now.geometry.height }
+    ensures { IsTrue result ↔ (squared_errors T.form.value (row_major (table_of a.now))
+        (row_major (table_of b.now)) ≤ most) }
+{
+    sum_of_squared_errors(a, b) <= most
+}
+
+/// Returns whether two planes of one size show the same.
+pub fn show_the_same<T: Pixel>(a: &PlaneRef<'_, T>, b: &PlaneRef<'_, T>) -> bool
+    requires wide { a.now.geometry.width ≡ b.now.geometry.width }
+    requires high { a.now.geometry.height ≡ b.now.geometry.height }
+    ensures { IsTrue result ↔ (table_of a.now ≡ table_of b.now) }
+{
+    first_difference(a, b).is_none()
+}
+
+/// Shows in `target` the picture of half the size, continued into its border.
+pub fn next_level<T: Pixel>(source: &PlaneRef<'_, T>, target: &mut Plane<T>)
+    requires wide { source.now.geometry.width ≡ 2 * target.old.geometry.width }
+    requires high { source.now.geometry.height ≡ 2 * target.old.geometry.height }
+    ensures rows { (y : ℕ) (top bottom : List T) → slice_get (table_of source.now) (2 * y) ≡ Some top
+        → slice_get (table_of source.now) (2 * y + 1) ≡ Some bottom
+        → slice_get (table_of target.new) y ≡ Some (halved T.form top bottom) }
+    ensures padded { IsPadded target.new }
+{
+    downscale(source, target);
+    pad(target);
+}

@@ -1,0 +1,44 @@
+//! Pixels of a plane that are held while the iterator gives others, and written once the iterator is dropped.
+//!
+//! What the plane holds in the end is proved by hand, in `proofs/held_pixels/write_ends`. A caller of such a function needs no
+//! proof.
+ghost use Rattle.std.specs.Prelude.{◌<◌, ◌≡◌, length};
+ghost use Rattle.v_frame.specs.Prelude.{KeepsBorder, row_major, table_of};
+ghost use Rattle.example_held_items.specs.HeldPixels.{with_ends};
+
+use v_frame::pixel::Pixel;
+use v_frame::plane::Plane;
+
+/// Writes the first visible pixel and the last two. All others stay, and so does the border.
+///
+/// The three are taken from both ends in turn, are held, and are written in another order than they were taken, the first one
+/// twice.
+pub fn write_ends<T: Copy>(plane: &mut Plane<T>, first: T, before_last: T, last: T)
+    requires { 2 < length (row_major (table_of plane.old)) }
+    ensures pixels { row_major (table_of plane.new)
+        ≡ with_ends first before_last last (row_major (table_of plane.old)) }
+    ensures border { KeepsBorder plane.old plane.new }
+{
+    let mut pixels = plane.pixels_mut();
+    let (Some(end), Some(start), Some(before_end)) = (
+        pixels.next_back(),
+        pixels.next(),
+        pixels.next_back(),
+    ) else {
+        return;
+    };
+    *start = last;
+    *before_end = before_last;
+    *start = first;
+    *end = last;
+}
+
+/// Writes `mark` over the first visible pixel and the last, and `other` over the last but one.
+pub fn mark_ends<T: Pixel>(plane: &mut Plane<T>, mark: T, other: T)
+    requires { 2 < length (row_major (table_of plane.old)) }
+    ensures pixels { row_major (table_of plane.new)
+        ≡ with_ends mark other mark (row_major (table_of plane.old)) }
+    ensures border { KeepsBorder plane.old plane.new }
+{
+    write_ends(plane, mark, other, mark);
+}

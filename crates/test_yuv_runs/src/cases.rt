@@ -1,0 +1,101 @@
+//! The runs, one after the other.
+
+use crate::pipe::Pipe;
+use std::alloc::Global;
+use std::fs;
+use std::io::{self, BufWriter, Read, Write};
+use std::rt::Files;
+use yuv_commands::{Streams, run};
+
+/// A run: its arguments, the files that stand for the standard streams, and how many bytes standard output takes.
+#[derive(Drop)]
+struct Case<'a> {
+    words: Vec<&'a str>,
+    input: Option<&'a str>,
+    room: usize,
+    output: Option<&'a str>,
+}
+
+/// Does each run that the input says, and prints it.
+pub fn run_cases<H: Files + AllocGlobal, R: Read + Drop, W: Write + Drop>(
+    rt: &H,
+    mut input: R,
+    out: W,
+) -> io::Result<()> {
+    let mut text = String::new(rt.alloc());
+    input.read_to_string(&mut text)?;
+    let mut out = BufWriter::new(rt.alloc(), out)?;
+    for line in text.as_str().lines() {
+        run_case(rt, line, &mut out)?;
+    }
+    out.flush()
+}
+
+/// Returns the run that a line says.
+fn case_of(alloc: Global, line: &str) -> io::Result<Case<'_>> {
+    let mut words = Vec::new(alloc);
+    let (line, output) = match line.split_once(" = ") {
+        Some((line, file)) => (line, Some(file)),
+        None => (line, None),
+    };
+    let (line, room) = match line.split_once(" | ") {
+        Some((line, room)) => (line, room.parse().unwrap_or(0)),
+        None => (line, usize::MAX),
+    };
+    let (line, input) = match line.split_once(" < ") {
+        Some((line, file)) => (line, Some(file)),
+        None => (line, None),
+    };
+    for word in line.split(' ') {
+        if !word.is_empty() {
+            words.push(word)?;
+        }
+    }
+    Ok(Case {
+        words,
+        input,
+        room,
+        output,
+    })
+}
+
+/// Does a run, and prints it.
+fn run_case<H: Files + AllocGlobal, W: Write>(rt: &H, line: &str, out: &mut W) -> io::Result<()> {
+    let alloc = rt.alloc();
+    let case = case_of(alloc, line)?;
+    let given = match case.input {
+        Some(file) => fs::read(rt, file)?,
+        None => Vec::new(alloc),
+    };
+    let mut output = Pipe::new(alloc, case.room);
+    let mut error = Vec::new(alloc);
+    let streams = Streams {
+        input: given.as_slice(),
+        output: &mut output,
+        error: &mut error,
+    };
+    let status = run(rt, case.words.as_slice(), streams).code();
+    writeln!(out, "$ yuv {line}")?;
+    match case.output {
+        Some(file) => print_same(rt, output.taken(), file, out)?,
+        None => out.write_all(output.taken())?,
+    }
+    out.write_all(error.as_slice())?;
+    writeln!(out, "status {status}")
+}
+
+/// Prints whether a run wrote the bytes of a file.
+fn print_same<H: Files + AllocGlobal, W: Write>(
+    rt: &H,
+    written: &[u8],
+    file: &str,
+    out: &mut W,
+) -> io::Result<()> {
+    let wanted = fs::read(rt, file)?;
+    let count = written.len();
+    if written == wanted.as_slice() {
+        writeln!(out, "{count} bytes, those of {file}")
+    } else {
+        writeln!(out, "{count} bytes, and not those of {file}")
+    }
+}

@@ -1,6 +1,0 @@
--- The borders are as they were.
-use Rattle.v_frame.specs.Prelude.{KeepsBorders}
-use Rattle.v_frame_halve.proofs.halve.halve_stream.Given as goal
-
-abbrev pub invariant-loop : goal.invariant-loop
-invariant-loop g l = KeepsBorders l.fn.frame l.frame

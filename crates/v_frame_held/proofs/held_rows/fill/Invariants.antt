@@ -1,6 +1,0 @@
--- The row so far begins with the value.
-use Rattle.std.proofs.Common.{◌≡◌, ◌++◌, drop, replicate}
-use Rattle.v_frame_held.proofs.held_rows.fill.Given as goal
-
-abbrev pub invariant-loop-i : goal.invariant-loop-i
-invariant-loop-i g l = l.row ≡ replicate l.i l.value ++ drop l.i l.initial.row

@@ -1,9 +1,0 @@
-pub mod ChromaLemmas
-pub mod Decoding
-pub mod HalfLanes
-pub mod HalfRows
-pub mod PixelBytes
-pub mod Plans
-pub mod RowLanes
-pub mod SumsOfPairs
-pub mod Tables

@@ -1,5 +1,0 @@
-use Rattle.v_frame_layout.proofs.Tables.{same_by_slice_get}
-use Rattle.v_frame_layout.proofs.laws.tables_agree_by_rows.Goals as goal
-
-pub returns : goal.returns
-returns g c = same_by_slice_get

@@ -1,9 +1,0 @@
--- The pixels so far are the one.
-use Rattle.std.proofs.Common.{◌≡◌, length, replicate, take}
-use Rattle.v_frame_layout.proofs.pixel.fill_row.Given as goal
-
-abbrev pub invariant-loop-x : goal.invariant-loop-x
-invariant-loop-x g l = record {
-  filled : take l.x l.row ≡ replicate l.x l.pixel;
-  count : length l.row ≡ length l.fn.row;
-}

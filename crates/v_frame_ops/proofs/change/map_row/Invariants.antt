@@ -1,6 +1,0 @@
--- The pixels so far are results, and the others are as they were.
-use Rattle.v_frame_ops.proofs.Changed.{ChangedBelow}
-use Rattle.v_frame_ops.proofs.change.map_row.Given as goal
-
-abbrev pub invariant-loop-x : goal.invariant-loop-x
-invariant-loop-x g l = ChangedBelow (λ k. goal.F-post g l.change) l.fn.row l.row l.x

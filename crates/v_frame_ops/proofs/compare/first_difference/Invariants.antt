@@ -1,7 +1,0 @@
--- The pixels of the rows so far are the same.
-use Rattle.std.proofs.Common.{ℕ, ◌≡◌, ◌<◌}
-use Rattle.v_frame.specs.Prelude.{pixel_at, table_of}
-use Rattle.v_frame_ops.proofs.compare.first_difference.Given as goal
-
-abbrev pub invariant-loop-y : goal.invariant-loop-y
-invariant-loop-y g l = (i j : ℕ) → j < l.y → pixel_at (table_of l.a) i j ≡ pixel_at (table_of l.b) i j

@@ -1,0 +1,13 @@
+-- The rows so far are made of results, and all else is as it was.
+use Rattle.v_frame.specs.Prelude.{strided_rows, KeepsRest}
+use Rattle.v_frame_ops.specs.Rows.{CombinesItems}
+use Rattle.v_frame_ops.proofs.Changed.{ChangedBelow, GivenWith}
+use Rattle.v_frame_ops.proofs.rows.change.combine_rows.Given as goal
+
+abbrev pub invariant-loop-y : goal.invariant-loop-y
+invariant-loop-y g l = record {
+  rows : ChangedBelow (GivenWith (CombinesItems (goal.F-post g l.combine)) l.other)
+      (strided_rows l.width l.height l.stride l.initial.buffer)
+      (strided_rows l.width l.height l.stride l.buffer) l.y;
+  rest : KeepsRest l.width l.height l.stride l.initial.buffer l.buffer;
+}

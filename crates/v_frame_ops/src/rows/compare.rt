@@ -1,0 +1,82 @@
+//! Comparisons of two pictures of one size.
+ghost use Rattle.std.specs.Prelude.{◌≡◌, ◌≢◌, ◌<◌, ◌≤◌, ◌*◌, ◌^◌, ◌↔◌, ℕ, length, slice_get, IsNone, IsTrue, IfSome};
+ghost use Rattle.v_frame.specs.Prelude.{absolute_differences, height_of, row_major, squared_errors, width_of};
+ghost use Rattle.v_frame_ops.specs.Compare.{SameBelow, DifferFirstAt, IsFirstDifference};
+
+use crate::laws::tables_agree_by_pixels;
+use v_frame::laws::sums_add_up;
+use v_frame::pixel::Pixel;
+use v_frame::plane::RowsRef;
+
+/// Returns the sum of the absolute differences of the pixels of two pictures, pixel by pixel. It is exact, and never too
+/// large.
+pub fn sum_of_absolute_differences<T: Pixel>(a: &RowsRef<'_, T>, b: &RowsRef<'_, T>) -> u128
+    requires wide { width_of a.now ≡ width_of b.now }
+    requires high { height_of a.now ≡ height_of b.now }
+    ensures { result ≡ absolute_differences T.form.value (row_major a.now) (row_major b.now) }
+{
+    sums_add_up::<T>();
+    prove!(a.height() == b.height());
+    let mut sum = 0;
+    for y in 0..a.height() {
+        sum += T::sum_of_absolute_differences(a.visible_row(y), b.visible_row(y));
+    }
+    sum
+}
+
+/// Returns the sum of the squares of the differences of the pixels of two pictures, pixel by pixel. It is exact, and never
+/// too large.
+pub fn sum_of_squared_errors<T: Pixel>(a: &RowsRef<'_, T>, b: &RowsRef<'_, T>) -> u128
+    requires wide { width_of a.now ≡ width_of b.now }
+    requires high { height_of a.now ≡ height_of b.now }
+    ensures { result ≡ squared_errors T.form.value (row_major a.now) (row_major b.now) }
+{
+    sums_add_up::<T>();
+    prove!(a.height() == b.height());
+    let mut sum = 0;
+    for y in 0..a.height() {
+        sum += T::sum_of_squared_errors(a.visible_row(y), b.visible_row(y));
+    }
+    sum
+}
+
+/// Returns the column and the row of the first pixel, row after row from the top, that differs. `None` exactly where the
+/// pictures are the same.
+pub fn first_difference<T: Pixel>(a: &RowsRef<'_, T>, b: &RowsRef<'_, T>) -> Option<(usize, usize)>
+    requires wide { width_of a.now ≡ width_of b.now }
+    requires high { height_of a.now ≡ height_of b.now }
+    ensures none { IsNone result ↔ (a.now ≡ b.now) }
+    ensures first { IfSome result (λ place. IsFirstDifference a.now b.now place.0 place.1) }
+    ensures within { IfSome result (λ place.
+        (place.0 < width_of a.now) × (place.1 < height_of a.now)) }
+{
+    tables_agree_by_pixels::<T>();
+    let _sizes = (a.width(), b.width(), b.height());
+    for y in 0..a.height() {
+        if let Some(x) = first_difference_of_rows(a.visible_row(y), b.visible_row(y)) {
+            return Some((x, y));
+        }
+    }
+    None
+}
+
+/// Returns the first index at which two rows differ.
+fn first_difference_of_rows<T: Pixel>(row: &[T], other: &[T]) -> Option<usize>
+    requires { length row.now ≡ length other.now }
+    ensures none { IsNone result → SameBelow row.now other.now (length row.now) }
+    ensures first { IfSome result (DifferFirstAt row.now other.now) }
+{
+    for x in 0..row.len() {
+        if !are_same(row[x], other[x]) {
+            return Some(x);
+        }
+    }
+    None
+}
+
+/// Returns whether two pixels are one and the same.
+fn are_same<T: Pixel>(p: T, q: T) -> bool
+    ensures { IsTrue result ↔ (p ≡ q) }
+{
+    p == q
+}

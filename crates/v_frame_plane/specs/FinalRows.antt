@@ -1,0 +1,61 @@
+-- What the rows of a writing iterator leave.
+use Rattle.std.specs.Prelude.{ℕ, zero, suc, ◌≡◌, List, [], ◌∷◌, ◌++◌, length, map, take, drop, Option}
+use Rattle.std.specs.Borrow.{Fml, GName, RattleType, MutBor, Array}
+use base.Fml.{fsep, fwand, fall, fres}
+pub use Rattle.v_frame_raster.specs.Writes.{WritesTable}
+use Rattle.v_frame_raster.specs.Raster.{Raster, table_of, with_entries}
+use Rattle.v_frame_plane.specs.FinalItems.{Keeps, LendsBy, Takes}
+use Rattle.v_frame_plane.specs.RowsLeft.{rows_left}
+use Rattle.v_frame_plane.specs.declared.rows_mut.RowsMut.{RowsMut}
+
+module _ {T : Type 0} where
+  -- the entries with these rows where the rows ahead are; where the rows end early, the other
+  -- entries stay
+  abbrev pub with_rows_ahead : ℕ → ℕ → ℕ → ℕ → List T → List (List T) → List T
+  with_rows_ahead start width gap zero entries rows = entries
+  with_rows_ahead start width gap (suc count) entries [] = entries
+  with_rows_ahead start width gap (suc count) entries (row ∷ rows) =
+      take start entries
+      ++ (row ++ with_rows_ahead gap width gap count (drop width (drop start entries)) rows)
+
+  -- what the slice of an iterator holds with these rows in the place of those that are left
+  abbrev pub entries_with : RowsMut T → List (List T) → List T
+  entries_with walk = with_rows_ahead walk.start walk.width walk.gap walk.count walk.rest.now
+
+  -- so each table whose rows are as long as those that are shown is written by the rows of the
+  -- iterator
+  abbrev pub WritesEachTable : Raster T → RowsMut T → Type 0
+  WritesEachTable plane walk =
+      (rows : List (List T)) → map length rows ≡ map length (table_of plane)
+      → WritesTable plane (with_entries plane (entries_with walk rows)) rows
+
+module _ (T : RattleType) where
+  -- the slice of this name holds these entries when its borrow ends
+  abbrev pub EndsAs : GName → List T.Denot → Fml
+  EndsAs name entries = fres name ((Array T 0).coded.code entries)
+
+  -- when the borrow ends, the rows that the iterator has left hold these
+  abbrev pub FinalRows : RowsMut T.Denot → List (List T.Denot) → Fml
+  FinalRows walk second = EndsAs walk.rest.ghost_name (entries_with walk second)
+
+  abbrev pub KeepsRows : RowsMut T.Denot → RowsMut T.Denot → Fml
+  KeepsRows = Keeps EndsAs FinalRows
+
+  abbrev pub TakesFirstRow : RowsMut T.Denot → RowsMut T.Denot → MutBor (List T.Denot) → Fml
+  TakesFirstRow = Takes EndsAs FinalRows ◌∷◌
+
+  -- with this row as the last, where the rows that are left keep their number
+  abbrev pub TakesLastRow : RowsMut T.Denot → RowsMut T.Denot → MutBor (List T.Denot) → Fml
+  TakesLastRow old new row =
+      fall (List T.Denot × List (List T.Denot)) (λ held.
+      fall (length held.1 ≡ length (rows_left new)) (λ _.
+      fwand (fsep (EndsAs row.ghost_name held.0) (FinalRows new held.1))
+      (FinalRows old (held.1 ++ held.0 ∷ []))))
+
+  -- what `next` leaves, and what `next_back` does
+  abbrev pub LendsFirstRow : RowsMut T.Denot → Option (MutBor (List T.Denot)) → RowsMut T.Denot
+      → Fml
+  LendsFirstRow = LendsBy KeepsRows TakesFirstRow
+
+  abbrev pub LendsLastRow : RowsMut T.Denot → Option (MutBor (List T.Denot)) → RowsMut T.Denot → Fml
+  LendsLastRow = LendsBy KeepsRows TakesLastRow

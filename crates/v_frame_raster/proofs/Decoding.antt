@@ -1,0 +1,76 @@
+-- Pixels decoded from bytes, one more or sixteen more at a time.
+use Rattle.std.proofs.Common.{ℕ, zero, suc, ◌≡◌, ◌+◌, ◌*◌, ◌<◌, List, [], ◌∷◌, ◌++◌, length, take, drop, get_or, set}
+use Rattle.std.proofs.Common.{refl, ap, arith, zero-add, suc-add, ◌≤◌, ◌/◌, ◌%◌}
+use Rattle.std.proofs.lemmas.Simd.{take_more_put_chunk}
+use Rattle.std.proofs.lemmas.List.{drop-drop, drop_more, map-append, take_more_set}
+use Rattle.std.specs.Simd.Lanes.{Each1, put_chunk, number_l, digits_l}
+use Rattle.v_frame_raster.specs.Pixel.{PixelForm, one_byte, two_bytes, value_of_bytes, pixels_of_bytes}
+use Rattle.v_frame_raster.specs.Table.{cut_rows}
+
+-- the pieces of a source are some, and then those of what these leave
+cut_rows-append : {X : Type 0} (width pieces more : ℕ) (source : List X)
+    → cut_rows width (pieces + more) source
+    ≡ cut_rows width pieces source ++ cut_rows width more (drop (width * pieces) source)
+cut_rows-append width zero more source = let none : width * 0 ≡ 0 = omega arith in rw (zero-add more, none)
+cut_rows-append width (suc pieces) more source =
+    let e : width + width * pieces ≡ width * suc pieces = omega arith in
+    rw (
+      suc-add pieces more,
+      cut_rows-append width pieces more (drop width source),
+      drop-drop (width * pieces) width source,
+      e,
+    )
+
+-- the pixels of a list of bytes are some, and then those of the bytes that these leave
+pixels_of_bytes-append : {T : Type 0} (form : PixelForm T) (count more : ℕ) (bytes : List ℕ)
+    → pixels_of_bytes form (count + more) bytes
+    ≡ pixels_of_bytes form count bytes ++ pixels_of_bytes form more (drop (form.size * count) bytes)
+pixels_of_bytes-append form count more bytes = rw (cut_rows-append form.size count more bytes, map-append)
+
+pub one_byte_pixels : (bytes : List ℕ) → pixels_of_bytes one_byte (length bytes) bytes ≡ bytes
+one_byte_pixels [] = refl
+one_byte_pixels (byte ∷ bytes) =
+    let value : value_of_bytes (byte ∷ []) ≡ byte = omega arith in rw (value, one_byte_pixels bytes)
+
+-- the first pixels are those of the first bytes
+abbrev pub DecodedUpTo : ℕ → List ℕ → List ℕ → Type 0
+DecodedUpTo at pixels bytes = take at pixels ≡ pixels_of_bytes two_bytes at bytes
+
+-- a loop that decodes two bytes at a time, one step on
+pub two_byte_pixels-more : (pixels bytes : List ℕ) (i pixel : ℕ) → length bytes ≡ 2 * length pixels → i < length pixels
+    → pixel ≡ value_of_bytes (get_or bytes (2 * i) 0 ∷ get_or bytes (2 * i + 1) 0 ∷ [])
+    → DecodedUpTo i pixels bytes → DecodedUpTo (i + 1) (set pixels i pixel) bytes
+two_byte_pixels-more pixels bytes i pixel whole h is so_far =
+    let low = drop_more bytes (2 * i) 0 (omega arith) in
+    let high = drop_more bytes (2 * i + 1) 0 (omega arith) in
+    rw (take_more_set pixels i pixel h, so_far, is, pixels_of_bytes-append two_bytes i 1 bytes, low, high)
+
+-- a loop that decodes a block of sixteen pixels at a time, one step on
+pub two_byte_pixels-block_more : (pixels bytes lanes : List ℕ) (block : ℕ) → 16 * (block + 1) ≤ length pixels
+    → lanes ≡ pixels_of_bytes two_bytes 16 (drop (32 * block) bytes) → DecodedUpTo (16 * block) pixels bytes
+    → DecodedUpTo (16 * (block + 1)) (put_chunk (16 * block) pixels lanes) bytes
+two_byte_pixels-block_more pixels bytes lanes block room is so_far =
+    let pixels_on : 16 * (block + 1) ≡ 16 * block + 16 = omega arith in
+    let bytes_on : 32 * block ≡ 2 * (16 * block) = omega arith in
+    let sixteen : length lanes ≡ 16 = ap length is in
+    let more = pixels_of_bytes-append two_bytes (16 * block) 16 bytes in
+    rw (
+      pixels_on,
+      take_more_put_chunk (16 * block) pixels lanes (16 * block + 16) (omega arith) (omega arith),
+      so_far,
+      is,
+      bytes_on,
+      more,
+    )
+
+-- lanes of two bytes each, low byte first, are the pixels of these bytes
+pub two_byte_pixels-lanes : (count : ℕ) (bytes : List ℕ) → 2 * count ≤ length bytes → Each1 (λ byte. byte < 256) bytes
+    → digits_l 65536 count (number_l 256 (take (2 * count) bytes)) ≡ pixels_of_bytes two_bytes count bytes
+two_byte_pixels-lanes zero bytes long small = refl
+two_byte_pixels-lanes (suc count) (low ∷ high ∷ bytes) long small =
+    let e : 2 * suc count ≡ suc (suc (2 * count)) = omega arith in
+    let rest : ℕ = number_l 256 (take (2 * count) bytes) in
+    let first : (low + 256 * (high + 256 * rest)) % 65536 ≡ value_of_bytes (low ∷ high ∷ []) = omega (arith, small) in
+    let left : (low + 256 * (high + 256 * rest)) / 65536 ≡ rest = omega (arith, small) in
+    rw (e, first, left, two_byte_pixels-lanes count bytes (omega (arith, long)) small.1.1)
+two_byte_pixels-lanes count bytes long small = absurd (omega (arith, long))

@@ -1,0 +1,11 @@
+-- The lanes are the means of blocks of four.
+use Rattle.std.proofs.Common.{arith, w8}
+use Rattle.std.proofs.lemmas.Grind.{common_steps}
+use Rattle.v_frame_raster.proofs.HalfLanes.{halved_lanes}
+use Rattle.v_frame_raster.proofs.halving.half_of_bytes.Goals as goal
+
+pub returns : goal.returns
+returns c = halved_lanes w8 (omega arith) 16 _ _ c.requires.first c.requires.second c.type_inv.top c.type_inv.bottom
+
+pub overflow_cast-result : goal.overflow_cast-result
+overflow_cast-result c = grind (arith, common_steps)

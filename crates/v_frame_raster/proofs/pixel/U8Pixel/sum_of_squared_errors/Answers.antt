@@ -1,0 +1,7 @@
+-- No pair adds more than values of 16 bits can.
+use Rattle.std.proofs.Common.{arith, w8}
+use Rattle.v_frame_raster.proofs.SumsOfPairs.{squares-at_most}
+use Rattle.v_frame_raster.proofs.pixel.U8Pixel.sum_of_squared_errors.Goals as goal
+
+pub returns-clause-fits : goal.returns-clause-fits
+returns-clause-fits c = rw c.sum_over_rows.ensures (squares-at_most w8 (omega arith) _ _ c.type_inv.a c.type_inv.b)

@@ -1,0 +1,20 @@
+-- Lists, tables of rows and their bytes, and the buffers of planes: the tables that they show, and their borders.
+pub mod BytesBack
+pub mod CutRows
+pub mod Determined
+pub mod Entries
+pub mod Equality
+pub mod Lists
+pub mod Marks
+pub mod Overwrites
+pub mod OwnPlaces
+pub mod Parts
+pub mod Pictures
+pub mod Places
+pub mod Regions
+pub mod Sizes
+pub mod Sources
+pub mod StridedWrites
+pub mod Strides
+pub mod VisiblePart
+pub mod Writes

@@ -1,0 +1,135 @@
+-- The eight numbers that lay a plane out in its buffer, the sizes that follow from them, and where
+-- each pixel is.
+use Rattle.std.specs.Prelude.{ℕ, zero, suc, ◌+◌, ◌-◌, ◌*◌, ◌^◌, ◌<◌, ◌≤◌, nat_lt, if◌then◌else◌, List, [], ◌∷◌, ◌++◌}
+use Rattle.std.specs.Prelude.{Option, Some, None}
+
+-- a visible rectangle of width by height, the border around it, and how often luma is sampled for
+-- each sample of the plane
+pub record Geometry : Type 0 where
+  pub width : ℕ
+  pub height : ℕ
+  pub pad_left : ℕ
+  pub pad_right : ℕ
+  pub pad_top : ℕ
+  pub pad_bottom : ℕ
+  pub subsampling_x : ℕ
+  pub subsampling_y : ℕ
+
+-- the largest `usize`, and the largest `isize`
+abbrev pub usize_max : ℕ
+usize_max = 2 ^ 64 - 1
+
+abbrev pub isize_max : ℕ
+isize_max = 2 ^ 63 - 1
+
+-- entries of one row of the buffer
+abbrev pub stride_of : Geometry → ℕ
+stride_of g = g.width + g.pad_left + g.pad_right
+
+-- rows of the buffer
+abbrev pub alloc_height_of : Geometry → ℕ
+alloc_height_of g = g.height + g.pad_top + g.pad_bottom
+
+-- entries of the buffer
+abbrev pub alloc_size_of : Geometry → ℕ
+alloc_size_of g = alloc_height_of g * stride_of g
+
+-- eight numbers are a geometry where something is visible and a row can be counted
+pub record IsGeometry (g : Geometry) : Type 0 where
+  pub wide : 0 < g.width
+  pub high : 0 < g.height
+  pub sampled_x : 0 < g.subsampling_x
+  pub sampled_y : 0 < g.subsampling_y
+  pub stride_fits : stride_of g ≤ usize_max
+
+-- the buffer fits where it could be addressed even at two bytes an entry
+abbrev pub Fits : Geometry → Type 0
+Fits g = 2 * alloc_size_of g ≤ isize_max
+
+-- the geometry of these numbers, in the order of `PlaneGeometry::new`
+abbrev pub geometry_of : ℕ → ℕ → ℕ → ℕ → ℕ → ℕ → ℕ → ℕ → Geometry
+geometry_of width height left right top bottom x y =
+    record {
+      width = width;
+      height = height;
+      pad_left = left;
+      pad_right = right;
+      pad_top = top;
+      pad_bottom = bottom;
+      subsampling_x = x;
+      subsampling_y = y;
+    }
+
+-- a rectangle that begins at column x of row y is inside the visible one, and is not empty
+pub record IsInside (g : Geometry) (x y width height : ℕ) : Type 0 where
+  pub wide : 0 < width
+  pub high : 0 < height
+  pub across : x + width ≤ g.width
+  pub down : y + height ≤ g.height
+
+-- the geometry that shows only this rectangle of the same buffer: everything around it is border
+abbrev pub region_geometry : Geometry → ℕ → ℕ → ℕ → ℕ → Geometry
+region_geometry g x y width height =
+    geometry_of width height (g.pad_left + x) (g.width - (x + width) + g.pad_right) (g.pad_top + y)
+    (g.height - (y + height) + g.pad_bottom) g.subsampling_x g.subsampling_y
+
+-- the geometry that shows the whole of the same buffer: there is no border
+abbrev pub whole_geometry : Geometry → Geometry
+whole_geometry g =
+    geometry_of (stride_of g) (alloc_height_of g) 0 0 0 0 g.subsampling_x g.subsampling_y
+
+pub data Mark : Type 0 where
+  Border : Mark
+  Visible : Mark
+
+-- how many entries a piece has, and whether it is visible
+pub record Piece : Type 0 where
+  pub mark : Mark
+  pub entries : ℕ
+
+abbrev pub border_piece : ℕ → Piece
+border_piece n = record { mark = Border; entries = n }
+
+abbrev pub visible_piece : ℕ → Piece
+visible_piece n = record { mark = Visible; entries = n }
+
+-- the pieces n times over, end to end
+abbrev pub times : ℕ → List Piece → List Piece
+times zero pieces = []
+times (suc n) pieces = pieces ++ times n pieces
+
+-- a row of the buffer above or below the rectangle, and one that crosses it
+abbrev pub outer_row : Geometry → List Piece
+outer_row g = border_piece (stride_of g) ∷ []
+
+abbrev pub crossing_row : Geometry → List Piece
+crossing_row g = border_piece g.pad_left ∷ visible_piece g.width ∷ border_piece g.pad_right ∷ []
+
+-- the pieces of a buffer, from its front to its end
+abbrev pub cutting_plan : Geometry → List Piece
+cutting_plan g =
+    times g.pad_top (outer_row g)
+    ++ (times g.height (crossing_row g) ++ times g.pad_bottom (outer_row g))
+
+-- the entries in front of the first visible piece
+abbrev pub before_visible : Mark → ℕ → ℕ → ℕ
+before_visible Border n rest = n + rest
+before_visible Visible n rest = 0
+
+abbrev pub entries_in_front : List Piece → ℕ
+entries_in_front [] = 0
+entries_in_front (piece ∷ plan) = before_visible piece.mark piece.entries (entries_in_front plan)
+
+-- the place of the pixel (0, 0)
+abbrev pub origin_of : Geometry → ℕ
+origin_of g = entries_in_front (cutting_plan g)
+
+-- the place of (x, y), for any two numbers
+abbrev pub place_of : Geometry → ℕ → ℕ → ℕ
+place_of g x y = origin_of g + (x + y * stride_of g)
+
+-- the mark of the piece that has this place of the buffer
+abbrev pub mark_at : List Piece → ℕ → Option Mark
+mark_at [] place = None
+mark_at (piece ∷ plan) place =
+    if nat_lt place piece.entries then Some piece.mark else mark_at plan (place - piece.entries)

@@ -1,0 +1,13 @@
+pub mod Chroma
+pub mod Geometry
+pub mod Laws
+pub mod Pixel
+pub mod PixelRows
+pub mod Raster
+pub mod RasterLaws
+pub mod StridedRows
+pub mod Table
+pub mod WorkedPixelRows
+pub mod WorkedRegions
+pub mod WorkedStrides
+pub mod Writes

@@ -1,0 +1,328 @@
+//! Pixels: what a plane holds.
+ghost use Rattle.std.specs.Prelude.{◌≡◌, ℕ, ◌+◌, ◌/◌, ◌^◌, ◌<◌, ◌≤◌, ◌*◌, ◌↔◌, length, nat_eq, replicate, IsSome, IfSome, refl};
+ghost use Rattle.std.specs.Ordering.{nat_cmp};
+ghost use Rattle.std.proofs.Common.{lit<};
+ghost use Rattle.v_frame_raster.specs.PixelRows.{absolute_differences, squared_errors, halved};
+ghost use Rattle.v_frame_raster.specs.Pixel.{PixelForm, one_byte, two_bytes, byte_of, value_of_bytes, bytes_of_pixels, pixels_of_bytes};
+
+use crate::halving::{halve_bytes, halve_words};
+use crate::row_sums::{Absolute, Squared, sum_over_rows};
+use std::fmt::{Binary, Debug, Display, LowerHex, Octal, UpperHex};
+use std::hash::Hash;
+use std::simd::{u8x32, u16x16};
+
+mod sealed {
+    /// No type outside this crate can be a pixel.
+    pub trait Sealed {}
+
+    impl Sealed for u8 {}
+
+    impl Sealed for u16 {}
+}
+
+/// A sample of one plane: `u8` for a bit depth of 8, `u16` for more.
+///
+/// Ports the trait `Pixel` of `v_frame` 0.7.0. Its functions and constants are our own: they take the place of the conversion
+/// traits that the original asks of a pixel, for its casts of bytes, and for `size_of`.
+pub trait Pixel: Copy
+    + Clone
+    + Eq
+    + Ord
+    + Hash
+    + Default
+    + Debug
+    + Display
+    + Octal
+    + LowerHex
+    + UpperHex
+    + Binary
+    + sealed::Sealed
+    + 'static {
+    // How a pixel is made of bytes: how many it has, its value, and the pixel that has a value.
+    ghost form: { PixelForm Self };
+
+    ghost BYTES: { ℕ };
+
+    ghost ZERO: { Self };
+
+    /// Bytes of one pixel.
+    const BYTES: usize;
+
+    /// The pixel with the value 0.
+    const ZERO: Self;
+
+    /// Returns the value.
+    fn into_u16(self) -> u16
+        ensures value { result ≡ form.value self }
+        ensures fits { result < 256 ^ BYTES };
+
+    /// Returns the value, where it is below 256.
+    fn try_into_u8(self) -> Option<u8>
+        ensures variant { IsSome result ↔ (form.value self < 256) }
+        ensures value { IfSome result (λ v. v ≡ form.value self) };
+
+    /// Returns the pixel with this value.
+    fn from_u8(v: u8) -> Self
+        ensures { form.value result ≡ v };
+
+    /// Returns the pixel with this value, where one of the type has it: any value for `u16`, one below 256 for `u8`.
+    fn try_from_u16(v: u16) -> Option<Self>
+        ensures variant { IsSome result ↔ (v < 256 ^ BYTES) }
+        ensures value { IfSome result (λ p. form.value p ≡ v) };
+
+    /// Returns the pixel whose bytes are `src`, low byte first. There must be [`BYTES`](Pixel::BYTES) of them.
+    fn from_le(src: &[u8]) -> Self
+        requires { length src.now ≡ BYTES }
+        ensures { form.value result ≡ value_of_bytes src.now };
+
+    /// Byte `i` of the pixel, counted from the low one. It must be below [`BYTES`](Pixel::BYTES).
+    fn le_byte(self, i: usize) -> u8
+        requires { i < BYTES }
+        ensures { result ≡ byte_of (form.value self) i };
+
+    /// Decodes a row: pixel `i` of `dst` becomes the one whose bytes begin at index `i * BYTES` of `src`, low byte first. There
+    /// must be [`BYTES`](Pixel::BYTES) bytes for each pixel.
+    fn decode_row(dst: &mut [Self], src: &[u8])
+        requires { length src.now ≡ BYTES * length dst.old }
+        ensures { dst.new ≡ pixels_of_bytes form (length dst.old) src.now };
+
+    /// Returns the sum of the absolute differences of two rows, which must be equally long. It is always exact.
+    fn sum_of_absolute_differences(a: &[Self], b: &[Self]) -> u128
+        requires { length a.now ≡ length b.now }
+        ensures value { result ≡ absolute_differences form.value a.now b.now }
+        ensures fits { result ≤ 2 ^ 16 * length a.now };
+
+    /// Returns the sum of the squares of the differences of two rows, which must be equally long. It is always exact.
+    fn sum_of_squared_errors(a: &[Self], b: &[Self]) -> u128
+        requires { length a.now ≡ length b.now }
+        ensures value { result ≡ squared_errors form.value a.now b.now }
+        ensures fits { result ≤ 2 ^ 32 * length a.now };
+
+    /// Makes one row of half the size of two: pixel `i` of `dst` becomes the mean of the pixels `2 * i` and `2 * i + 1` of
+    /// `top` and of `bottom`, rounded to the nearest value and upwards at a half. Both must be twice as long as `dst`.
+    fn halve_rows(dst: &mut [Self], top: &[Self], bottom: &[Self])
+        requires top { length top.now ≡ 2 * length dst.old }
+        requires bottom { length bottom.now ≡ 2 * length dst.old }
+        ensures { dst.new ≡ halved form top.now bottom.now };
+
+    // One value, one pixel.
+    ghost one_value: { (p q : Self) → form.value p ≡ form.value q → p ≡ q };
+
+    // The pixel of a pixel's value is that pixel.
+    ghost pixel_of_value: { (p : Self) → form.pixel_of (form.value p) ≡ p };
+
+    // A number that fits the bytes of a pixel is the value of its pixel.
+    ghost value_of_pixel: { (v : ℕ) → v < 256 ^ form.size → form.value (form.pixel_of v) ≡ v };
+
+    // A pixel has one byte or two, and the constant says how many.
+    ghost byte_or_two: { (0 < form.size) × (form.size < 3) };
+
+    ghost bytes_of_form: { BYTES ≡ form.size };
+
+    // The value of `ZERO`.
+    ghost zero_value: { form.value ZERO ≡ 0 };
+
+    // The default pixel is `ZERO`.
+    ghost default_is_zero: { (p : Self) → Self.is_default p → p ≡ ZERO };
+
+    // A clone never fails, and is the pixel itself.
+    ghost clones: { (p : Self) → Self.is_infallible p };
+
+    ghost clone_is_same: { (p q : Self) → Self.is_clone p q → q ≡ p };
+
+    // Pixels compare as their values do.
+    ghost eq_by_value: { (p q : Self) → Self.eq p q ≡ nat_eq (form.value p) (form.value q) };
+
+    ghost cmp_by_value: { (p q : Self) → Self.cmp p q ≡ nat_cmp (form.value p) (form.value q) };
+}
+
+impl Pixel for u8 {
+    ghost form = { one_byte };
+
+    ghost BYTES = { 1 };
+
+    ghost ZERO = { 0 };
+
+    const BYTES: usize = 1;
+
+    const ZERO: u8 = 0;
+
+    ghost one_value = { λ p q e. e };
+
+    ghost pixel_of_value = { λ p. refl };
+
+    ghost value_of_pixel = { λ v h. refl };
+
+    ghost byte_or_two = { (lit< tt, lit< tt) };
+
+    ghost bytes_of_form = { refl };
+
+    ghost zero_value = { refl };
+
+    ghost default_is_zero = { λ p h. h };
+
+    ghost clones = { λ p. tt };
+
+    ghost clone_is_same = { λ p q h. h };
+
+    ghost eq_by_value = { λ p q. refl };
+
+    ghost cmp_by_value = { λ p q. refl };
+
+    fn into_u16(self) -> u16 {
+        u16::from(self)
+    }
+
+    fn try_into_u8(self) -> Option<u8> {
+        Some(self)
+    }
+
+    fn from_u8(v: u8) -> u8 {
+        v
+    }
+
+    fn try_from_u16(v: u16) -> Option<u8> {
+        u8::try_from(v).ok()
+    }
+
+    fn from_le(src: &[u8]) -> u8 {
+        src[0]
+    }
+
+    fn le_byte(self, _i: usize) -> u8 {
+        self
+    }
+
+    fn decode_row(dst: &mut [u8], src: &[u8]) {
+        dst.copy_from_slice(src);
+    }
+
+    fn sum_of_absolute_differences(a: &[u8], b: &[u8]) -> u128 {
+        sum_over_rows::<u8, Absolute>(a, b)
+    }
+
+    fn sum_of_squared_errors(a: &[u8], b: &[u8]) -> u128 {
+        sum_over_rows::<u8, Squared>(a, b)
+    }
+
+    fn halve_rows(dst: &mut [u8], top: &[u8], bottom: &[u8]) {
+        halve_bytes(dst, top, bottom);
+    }
+}
+
+impl Pixel for u16 {
+    ghost form = { two_bytes };
+
+    ghost BYTES = { 2 };
+
+    ghost ZERO = { 0 };
+
+    const BYTES: usize = 2;
+
+    const ZERO: u16 = 0;
+
+    ghost one_value = { λ p q e. e };
+
+    ghost pixel_of_value = { λ p. refl };
+
+    ghost value_of_pixel = { λ v h. refl };
+
+    ghost byte_or_two = { (lit< tt, lit< tt) };
+
+    ghost bytes_of_form = { refl };
+
+    ghost zero_value = { refl };
+
+    ghost default_is_zero = { λ p h. h };
+
+    ghost clones = { λ p. tt };
+
+    ghost clone_is_same = { λ p q h. h };
+
+    ghost eq_by_value = { λ p q. refl };
+
+    ghost cmp_by_value = { λ p q. refl };
+
+    fn into_u16(self) -> u16 {
+        self
+    }
+
+    fn try_into_u8(self) -> Option<u8> {
+        u8::try_from(self).ok()
+    }
+
+    fn from_u8(v: u8) -> u16 {
+        u16::from(v)
+    }
+
+    fn try_from_u16(v: u16) -> Option<u16> {
+        Some(v)
+    }
+
+    fn from_le(src: &[u8]) -> u16 {
+        u16::from_le_bytes([src[0], src[1]])
+    }
+
+    fn le_byte(self, i: usize) -> u8 {
+        self.to_le_bytes()[i]
+    }
+
+    fn decode_row(dst: &mut [u16], src: &[u8]) {
+        let blocks = dst.len() / 16;
+        for block in 0..blocks {
+            sixteen_pixels(&src[32 * block..]).copy_to_slice(&mut dst[16 * block..]);
+        }
+        // The short rest of the row.
+        for i in 16 * blocks..dst.len() {
+            dst[i] = u16::from_le_bytes([src[2 * i], src[2 * i + 1]]);
+        }
+    }
+
+    fn sum_of_absolute_differences(a: &[u16], b: &[u16]) -> u128 {
+        sum_over_rows::<u16, Absolute>(a, b)
+    }
+
+    fn sum_of_squared_errors(a: &[u16], b: &[u16]) -> u128 {
+        sum_over_rows::<u16, Squared>(a, b)
+    }
+
+    fn halve_rows(dst: &mut [u16], top: &[u16], bottom: &[u16]) {
+        halve_words(dst, top, bottom);
+    }
+}
+
+/// Fills a row, or any slice, with one pixel.
+///
+/// A proof for any pixel type knows of `fill` that it writes clones, and not that a clone of a pixel is that pixel. Our own.
+pub fn fill_row<T: Copy>(row: &mut [T], pixel: T)
+    ensures { row.new ≡ replicate (length row.old) pixel }
+{
+    for x in 0..row.len() {
+        row[x] = pixel;
+    }
+}
+
+/// Encodes a row, or any slice: the bytes of each pixel, low byte first, one after the other.
+///
+/// There must be [`BYTES`](Pixel::BYTES) bytes for each pixel.
+pub fn encode_row<T: Pixel>(bytes: &mut [u8], row: &[T])
+    requires { length bytes.old ≡ T.BYTES * length row.now }
+    ensures { bytes.new ≡ bytes_of_pixels T.form row.now }
+{
+    for i in 0..row.len() {
+        let start = T::BYTES * i;
+        bytes[start] = row[i].le_byte(0);
+        if T::BYTES == 2 {
+            bytes[start + 1] = row[i].le_byte(1);
+        }
+    }
+}
+
+/// Returns the pixels of the first 32 bytes.
+#[inline(always)]
+fn sixteen_pixels(src: &[u8]) -> u16x16
+    requires { 32 ≤ length src.now }
+    ensures { result ≡ pixels_of_bytes two_bytes 16 src.now }
+{
+    u16x16::from_le_bytes(u8x32::from_slice(src))
+}

@@ -1,7 +1,0 @@
--- The pixels so far are averages, and the others are as they were.
-use Rattle.std.proofs.Common.{◌≡◌, ◌++◌, take, drop}
-use Rattle.v_frame_uses.specs.RowPairs.{averages}
-use Rattle.v_frame_uses.proofs.row_pairs.mix.Given as goal
-
-abbrev pub invariant-loop-x : goal.invariant-loop-x
-invariant-loop-x l = l.row ≡ take l.x (averages l.fn.row l.other) ++ drop l.x l.fn.row

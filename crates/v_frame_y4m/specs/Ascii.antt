@@ -1,0 +1,63 @@
+-- The bytes of a stream's lines that a clause names.
+use Rattle.std.specs.Prelude.{ℕ, ◌≡◌, [], ◌∷◌, codes, if◌then◌else◌, refl}
+use Rattle.std.specs.Char.{is_ascii_graphic}
+
+-- what ends a line
+abbrev pub line_feed : ℕ
+line_feed = 10
+
+-- what stands before each parameter
+abbrev pub space : ℕ
+space = 32
+
+abbrev pub plus_sign : ℕ
+plus_sign = 43
+
+abbrev pub digit_zero : ℕ
+digit_zero = 48
+
+abbrev pub digit_nine : ℕ
+digit_nine = 57
+
+-- what stands between the numbers of a ratio
+abbrev pub colon : ℕ
+colon = 58
+
+abbrev pub question_mark : ℕ
+question_mark = 63
+
+-- what a message shows for a byte: its own character where it is printed ASCII
+abbrev pub shown_byte : ℕ → ℕ
+shown_byte byte = if is_ascii_graphic byte then byte else question_mark
+
+-- the letters that parameters begin with: W, H, F, I, A, C and X
+abbrev pub width_letter : ℕ
+width_letter = 87
+
+abbrev pub height_letter : ℕ
+height_letter = 72
+
+abbrev pub rate_letter : ℕ
+rate_letter = 70
+
+abbrev pub interlacing_letter : ℕ
+interlacing_letter = 73
+
+abbrev pub aspect_letter : ℕ
+aspect_letter = 65
+
+abbrev pub colour_letter : ℕ
+colour_letter = 67
+
+abbrev pub extension_letter : ℕ
+extension_letter = 88
+
+-- the names are those of the characters
+signs_by_name : codes "\n +09:?"
+    ≡ line_feed ∷ space ∷ plus_sign ∷ digit_zero ∷ digit_nine ∷ colon ∷ question_mark ∷ []
+signs_by_name = refl
+
+letters_by_name : codes "WHFIACX"
+    ≡ width_letter ∷ height_letter ∷ rate_letter ∷ interlacing_letter ∷ aspect_letter ∷ colour_letter
+    ∷ extension_letter ∷ []
+letters_by_name = refl
