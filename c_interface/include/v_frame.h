@@ -1,0 +1,231 @@
+/*
+ * v_frame: calls on video planes whose every statement is proved, down to this boundary.
+ *
+ * What each call answers, writes and leaves alone is the contract of a function of the same name in crates/v_frame_c, which the
+ * prover has checked. A call tests all that it can test, and answers a status; where that is not V_FRAME_OK nothing was written.
+ * No call takes memory, prints, or keeps a pointer. Each may run in any number of threads at once, over buffers of their own.
+ *
+ * What no call can test, and you promise:
+ *   - a pointer is not null, also beside a length of 0; it is aligned for its type, and points to as many entries as the length
+ *     beside it says;
+ *   - what is written (a buffer, a result) overlaps nothing else that the call is given, and nobody else touches it meanwhile.
+ *
+ * Rows. A picture is rows of entries in a buffer: row y is the `width` entries from index `stride * y` on. The buffer may be
+ * longer, the last row may end at its width, and a call that writes leaves every other entry of the buffer as it was. So crops,
+ * single fields (twice the stride), and planes as libavutil and dav1d give them go in as they are. All counts are of entries,
+ * of uint8_t in calls that end in _u8, and of uint16_t, in the byte order of the machine, in calls that end in _u16.
+ */
+#ifndef V_FRAME_H
+#define V_FRAME_H
+
+#include <stddef.h>
+#include <stdint.h>
+
+#define V_FRAME_VERSION_MAJOR 0
+#define V_FRAME_VERSION_MINOR 3
+#define V_FRAME_VERSION_PATCH 0
+#define V_FRAME_VERSION "0.3.0"
+
+#ifdef __cplusplus
+extern "C" {
+#endif
+
+/* What a call answers: the first of these that holds. */
+enum v_frame_status {
+    /* All went as asked. */
+    V_FRAME_OK = 0,
+    /* The first rows do not fit the first buffer: a size is zero, the stride is below the width, or the last row ends past the
+     * buffer. */
+    V_FRAME_FIRST_ROWS = 1,
+    /* The second rows do not fit the second buffer. */
+    V_FRAME_SECOND_ROWS = 2,
+    /* The sizes do not belong together: they differ, or are not what the call says. */
+    V_FRAME_SIZES = 3,
+    /* There is no format of this number. */
+    V_FRAME_FORMAT = 4
+};
+
+/* Chroma formats. */
+enum v_frame_format {
+    V_FRAME_MONOCHROME = 0,
+    V_FRAME_420 = 1,
+    V_FRAME_422 = 2,
+    V_FRAME_444 = 3,
+    V_FRAME_411 = 4
+};
+
+/* Rows in a buffer, in entries. */
+typedef struct v_frame_rows {
+    size_t width;
+    size_t height;
+    size_t stride;
+} v_frame_rows;
+
+/* A picture in a border, which is the whole of a buffer or its beginning. The stride is pad_left + width + pad_right, and the
+ * picture begins after pad_top rows and pad_left entries. */
+typedef struct v_frame_bordered {
+    size_t width;
+    size_t height;
+    size_t pad_left;
+    size_t pad_right;
+    size_t pad_top;
+    size_t pad_bottom;
+} v_frame_bordered;
+
+/* A frame: its size in luma pixels, the padding of luma on all four sides, and a number of enum v_frame_format. */
+typedef struct v_frame_request {
+    size_t width;
+    size_t height;
+    size_t padding;
+    uint32_t format;
+} v_frame_request;
+
+/* A plane in a buffer: the index that it begins at, how many entries it has with its border, and its layout, as v_frame_pad takes
+ * it. All are 0 where there is no such plane. */
+typedef struct v_frame_part {
+    size_t offset;
+    size_t count;
+    v_frame_bordered layout;
+} v_frame_part;
+
+/* The planes of a frame, one after the other without gaps, and how many entries they have together. */
+typedef struct v_frame_parts {
+    v_frame_part y;
+    v_frame_part u;
+    v_frame_part v;
+    size_t count;
+} v_frame_parts;
+
+/* A sum: low + 2^64 * high. Below 2^32 entries of 16 bits `high` is 0. */
+typedef struct v_frame_sum {
+    uint64_t low;
+    uint64_t high;
+} v_frame_sum;
+
+/* A column and a row, where `found` is 1. Else all three are 0. */
+typedef struct v_frame_place {
+    size_t x;
+    size_t y;
+    uint32_t found;
+} v_frame_place;
+
+/* Sum the squares of the differences of two pictures of one size. */
+uint32_t v_frame_squared_errors_u8(const v_frame_rows *a_rows, const uint8_t *a, size_t a_length, const v_frame_rows *b_rows,
+                                   const uint8_t *b, size_t b_length, v_frame_sum *sum);
+uint32_t v_frame_squared_errors_u16(const v_frame_rows *a_rows, const uint16_t *a, size_t a_length, const v_frame_rows *b_rows,
+                                    const uint16_t *b, size_t b_length, v_frame_sum *sum);
+
+/* Sum the absolute differences of two pictures of one size. */
+uint32_t v_frame_absolute_differences_u8(const v_frame_rows *a_rows, const uint8_t *a, size_t a_length,
+                                         const v_frame_rows *b_rows, const uint8_t *b, size_t b_length, v_frame_sum *sum);
+uint32_t v_frame_absolute_differences_u16(const v_frame_rows *a_rows, const uint16_t *a, size_t a_length,
+                                          const v_frame_rows *b_rows, const uint16_t *b, size_t b_length, v_frame_sum *sum);
+
+/* Find the first pixel, row after row from the top, that differs in two pictures of one size. */
+uint32_t v_frame_first_difference_u8(const v_frame_rows *a_rows, const uint8_t *a, size_t a_length, const v_frame_rows *b_rows,
+                                     const uint8_t *b, size_t b_length, v_frame_place *place);
+uint32_t v_frame_first_difference_u16(const v_frame_rows *a_rows, const uint16_t *a, size_t a_length,
+                                      const v_frame_rows *b_rows, const uint16_t *b, size_t b_length, v_frame_place *place);
+
+/* Set each pixel of the rows to `pixel`. */
+uint32_t v_frame_fill_u8(const v_frame_rows *rows, uint8_t *buffer, size_t length, uint8_t pixel);
+uint32_t v_frame_fill_u16(const v_frame_rows *rows, uint16_t *buffer, size_t length, uint16_t pixel);
+
+/* Copy the picture of the source into the rows of the buffer, which have its size. A part of a picture is its rows at another
+ * pointer, so this also copies regions. */
+uint32_t v_frame_copy_u8(const v_frame_rows *rows, uint8_t *buffer, size_t length, const v_frame_rows *source_rows,
+                         const uint8_t *source, size_t source_length);
+uint32_t v_frame_copy_u16(const v_frame_rows *rows, uint16_t *buffer, size_t length, const v_frame_rows *source_rows,
+                          const uint16_t *source, size_t source_length);
+
+/* Make the rows of the buffer show the source in half the size: each pixel is the mean of a block of two by two, rounded to the
+ * nearest value and upwards at a half. The source is exactly twice as wide and as high. */
+uint32_t v_frame_downscale_u8(const v_frame_rows *rows, uint8_t *buffer, size_t length, const v_frame_rows *source_rows,
+                              const uint8_t *source, size_t source_length);
+uint32_t v_frame_downscale_u16(const v_frame_rows *rows, uint16_t *buffer, size_t length, const v_frame_rows *source_rows,
+                               const uint16_t *source, size_t source_length);
+
+/* Decode pixels of two bytes, the low byte first whatever the machine's order, as raw video files have them. The rows of the
+ * source count bytes, and are twice as wide. */
+uint32_t v_frame_decode_u16(const v_frame_rows *rows, uint16_t *buffer, size_t length, const v_frame_rows *source_rows,
+                            const uint8_t *source, size_t source_length);
+
+/* Encode pixels as two bytes each, the low byte first. The rows of the buffer count bytes, and are twice as wide. */
+uint32_t v_frame_encode_u16(const v_frame_rows *rows, uint8_t *buffer, size_t length, const v_frame_rows *source_rows,
+                            const uint16_t *source, size_t source_length);
+
+/* Make each entry of the border the pixel nearest to it, as motion search reads past the edge. The picture inside stays, and so
+ * does all after the border. V_FRAME_FIRST_ROWS where a size is zero, or picture and border have more entries than the buffer. */
+uint32_t v_frame_pad_u8(const v_frame_bordered *layout, uint8_t *buffer, size_t length);
+uint32_t v_frame_pad_u16(const v_frame_bordered *layout, uint16_t *buffer, size_t length);
+
+/* Lay out the planes of a frame in one buffer. Chroma has as many columns and rows as cover luma, and the padding divided by the
+ * ratio and rounded up; the padding of luma is that times the ratio. V_FRAME_FIRST_ROWS where a size is zero, or a plane is above
+ * 2^62 entries. */
+uint32_t v_frame_lay_out(const v_frame_request *request, v_frame_parts *parts);
+
+/* The rows of a picture in a border. The first of them begins at index v_frame_bordered_start. */
+static inline v_frame_rows v_frame_bordered_rows(const v_frame_bordered *layout) {
+    v_frame_rows rows;
+    rows.width = layout->width;
+    rows.height = layout->height;
+    rows.stride = layout->pad_left + layout->width + layout->pad_right;
+    return rows;
+}
+
+/* The index of the first pixel of a picture in a border. */
+static inline size_t v_frame_bordered_start(const v_frame_bordered *layout) {
+    return layout->pad_top * (layout->pad_left + layout->width + layout->pad_right) + layout->pad_left;
+}
+
+/* Rows of a width and a height whose stride is the width. */
+static inline v_frame_rows v_frame_rows_packed(size_t width, size_t height) {
+    v_frame_rows rows;
+    rows.width = width;
+    rows.height = height;
+    rows.stride = width;
+    return rows;
+}
+
+/* Rows as decoders give them, with a stride in bytes. A negative one, or one that holds no whole number of entries, makes rows
+ * that fit no buffer, so that each call refuses them. */
+static inline v_frame_rows v_frame_rows_of_bytes(size_t width, size_t height, ptrdiff_t stride_in_bytes, size_t entry_size) {
+    v_frame_rows rows;
+    rows.width = width;
+    rows.height = height;
+    rows.stride = stride_in_bytes > 0 && (size_t)stride_in_bytes % entry_size == 0 ? (size_t)stride_in_bytes / entry_size : 0;
+    return rows;
+}
+
+/* How many entries rows have up to the end of the last one, or 0 where they fit no buffer. It is the least length of a buffer. */
+static inline size_t v_frame_rows_length(const v_frame_rows *rows) {
+    if (rows->width == 0 || rows->height == 0 || rows->stride < rows->width ||
+        rows->height - 1 > (SIZE_MAX - rows->width) / rows->stride) {
+        return 0;
+    }
+    return rows->stride * (rows->height - 1) + rows->width;
+}
+
+/* The words for a status. */
+static inline const char *v_frame_status_text(uint32_t status) {
+    switch (status) {
+    case V_FRAME_OK:
+        return "no error";
+    case V_FRAME_FIRST_ROWS:
+        return "the first rows do not fit their buffer";
+    case V_FRAME_SECOND_ROWS:
+        return "the second rows do not fit their buffer";
+    case V_FRAME_SIZES:
+        return "the sizes do not belong together";
+    case V_FRAME_FORMAT:
+        return "there is no such format";
+    default:
+        return "unknown status";
+    }
+}
+
+#ifdef __cplusplus
+}
+#endif
+
+#endif

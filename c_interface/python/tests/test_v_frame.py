@@ -1,0 +1,174 @@
+"""Each call beside plain loops, each error, and views of arrays: test_v_frame.py [--without-numpy]"""
+
+import doctest
+import io
+import math
+import random
+import sys
+import unittest
+
+if "--without-numpy" in sys.argv:
+    sys.argv.remove("--without-numpy")
+    sys.modules["numpy"] = None
+
+import v_frame
+from v_frame import Plane, RowsError, SizesError, y4m
+
+try:
+    import numpy
+except ImportError:
+    numpy = None
+
+
+def random_plane(source, width, height, size):
+    stride = width + source.randrange(4)
+    length = (stride * (height - 1) + width) * size
+    return Plane(bytearray(source.randbytes(length)), width, height, stride, size)
+
+
+def rows_of(plane):
+    data = memoryview(plane.buffer).cast("B").cast("H" if plane.sample_size == 2 else "B")
+    return [list(data[plane.stride * y:plane.stride * y + plane.width]) for y in range(plane.height)]
+
+
+class Planes(unittest.TestCase):
+    def test_comparisons_are_those_of_plain_loops(self):
+        source = random.Random(2026)
+        for _ in range(300):
+            width, height, size = source.randrange(1, 40), source.randrange(1, 6), source.choice((1, 2))
+            a, b = random_plane(source, width, height, size), random_plane(source, width, height, size)
+            pairs = [(x, y, p, q) for y, both in enumerate(zip(rows_of(a), rows_of(b)))
+                     for x, (p, q) in enumerate(zip(*both))]
+            self.assertEqual(v_frame.sse(a, b), sum((p - q) ** 2 for _, _, p, q in pairs))
+            self.assertEqual(v_frame.sad(a, b), sum(abs(p - q) for _, _, p, q in pairs))
+            self.assertEqual(v_frame.first_difference(a, b), next(((x, y) for x, y, p, q in pairs if p != q), None))
+            self.assertIsNone(v_frame.first_difference(a, a))
+
+    def test_psnr(self):
+        a, b = Plane(bytes([1, 2, 3, 4, 5, 6]), 3, 2), Plane(bytes([1, 2, 4, 4, 5, 8]), 3, 2)
+        self.assertAlmostEqual(v_frame.psnr(a, b), 48.92261606915535)
+        self.assertEqual(v_frame.psnr(a, a), math.inf)
+        words = Plane(bytes(8), 2, 2, sample_size=2)
+        self.assertRaises(TypeError, v_frame.psnr, words, words)
+        self.assertEqual(v_frame.psnr(words, words, depth=10), math.inf)
+
+    def test_changes_leave_what_lies_between_the_rows(self):
+        target = Plane(bytearray([9] * 11), 3, 2, stride=5)
+        v_frame.fill(target, 7)
+        self.assertEqual(bytes(target.buffer), bytes([7, 7, 7, 9, 9, 7, 7, 7, 9, 9, 9]))
+        v_frame.copy(Plane(bytes(range(1, 7)), 3, 2), target)
+        self.assertEqual(bytes(target.buffer), bytes([1, 2, 3, 9, 9, 4, 5, 6, 9, 9, 9]))
+        self.assertEqual(target.tobytes(), bytes(range(1, 7)))
+
+    def test_half_the_size(self):
+        large = Plane(bytes([0, 1, 5, 5, 1, 0, 5, 6]), 4, 2)
+        self.assertEqual(bytes(v_frame.half(large).buffer), bytes([1, 5]))
+        self.assertRaises(SizesError, v_frame.half, Plane(bytes(6), 3, 2))
+
+    def test_a_border_repeats_the_samples_nearest_to_it(self):
+        padded = v_frame.pad(Plane(bytes([1, 2, 9, 3, 4]), 2, 2, stride=3), 1, 1, 1, 0)
+        self.assertEqual(bytes(padded.buffer), bytes([1, 1, 2, 2, 1, 1, 2, 2, 3, 3, 4, 4]))
+        self.assertRaises(SizesError, v_frame.pad, Plane(bytes(4), 2, 2), -1, 0, 0, 0)
+
+    def test_what_does_not_fit_is_refused(self):
+        for width, height, stride in ((0, 2, 4), (4, 0, 4), (4, 2, 3), (4, 4, 5)):
+            plane = Plane(bytes(16), width, height, stride)
+            self.assertRaises(RowsError, v_frame.sse, plane, plane)
+        self.assertRaises(SizesError, v_frame.sse, Plane(bytes(16), 4, 2), Plane(bytes(16), 4, 3))
+        self.assertRaises(TypeError, v_frame.sse, Plane(bytes(16), 4, 2), Plane(bytes(16), 4, 2, sample_size=2))
+        self.assertRaises(ValueError, Plane, bytes(16), 4, 2, sample_size=3)
+        self.assertRaises(RowsError, Plane, bytes(16), 4, 2, -4)
+        self.assertRaises(BufferError, v_frame.fill, Plane(bytes(16), 4, 2), 1)
+        self.assertRaises(ValueError, v_frame.fill, Plane(bytearray(16), 4, 2), 256)
+        self.assertRaises(TypeError, v_frame.sse, [1], [1])
+
+    def test_the_documentation(self):
+        self.assertEqual(doctest.testmod(v_frame).failed, 0)
+        self.assertEqual(doctest.testmod(y4m).failed, 0)
+
+
+class Streams(unittest.TestCase):
+    LINE = b"YUV4MPEG2 W3 H3 F30000:1001 Ip A1:1 C420p10"
+
+    def test_a_stream_is_read_and_written_back(self):
+        data = b"".join(b"FRAME\n" + bytes([n, n // 128]) * 9 + bytes([7, 1]) * 4 + bytes([8, 2]) * 4 for n in (1, 200))
+        header, frames = y4m.read_y4m(io.BytesIO(self.LINE + b"\n" + data))
+        self.assertEqual(header, y4m.Header(3, 3, "420", 10, (30000, 1001), (1, 1), "p", None))
+        self.assertEqual(header.sizes(), [(3, 3), (2, 2), (2, 2)])
+        frames = list(frames)
+        self.assertEqual(v_frame.sse(frames[0][1], frames[0][2]), 4 * (0x208 - 0x107) ** 2)
+        self.assertEqual(v_frame.sse(frames[0][0], frames[1][0]), 9 * (0x1C8 - 1) ** 2)
+        written = io.BytesIO()
+        y4m.write_y4m(written, header, frames)
+        self.assertEqual(written.getvalue(), self.LINE + b"\n" + data)
+
+    def test_lines_of_every_colour_are_read_back(self):
+        for text in ("420", "420jpeg", "420mpeg2", "420paldv", "411", "422", "444", "mono", "420p9", "422p12", "444p16", "mono10"):
+            header = y4m.parse_header(b"YUV4MPEG2 W4 H2 C" + text.encode())
+            again = y4m.parse_header(header.line()[:-1])
+            self.assertEqual(header, again)
+        self.assertEqual(y4m.parse_header(b"YUV4MPEG2 W4 H2").siting, "jpeg")
+
+    def test_what_is_refused(self):
+        for line, text in ((b"", "not a YUV4MPEG2 stream"), (b"YUV4MPEG2 W4", "parameter H is missing"),
+                           (b"YUV4MPEG2 W4 H2 H2", "parameter H is repeated"), (b"YUV4MPEG2 W0 H2", "parameter W is 0"),
+                           (b"YUV4MPEG2 W4 H2 C4", "unknown colour"), (b"YUV4MPEG2 W4 H2 Z", "malformed parameter")):
+            with self.assertRaisesRegex(y4m.Y4mError, text):
+                y4m.parse_header(line)
+        start = b"YUV4MPEG2 W2 H1 Cmono\n"
+        for data, text in ((b"", None), (b"FRAME\n\1", "expected 2 bytes of a frame, found 1"), (b"FRAM\n", "no FRAME"),
+                           (b"FRAME", "inside a line"), (b"FRAME X\n\1\2", None), (b"F" * 2000, "longer than 1024")):
+            header, frames = y4m.read_y4m(io.BytesIO(start + data))
+            if text is None:
+                self.assertEqual(len(list(frames)), len(data) > 0)
+            else:
+                with self.assertRaisesRegex(y4m.Y4mError, text):
+                    list(frames)
+        self.assertRaises(y4m.Y4mError, y4m.read_y4m, io.BytesIO(b""))
+        self.assertRaises(y4m.Y4mError, y4m.write_y4m, io.BytesIO(), y4m.Header(2, 1, "mono"), [[Plane(b"1", 1, 1)]])
+
+
+@unittest.skipIf(numpy is None, "numpy is not there")
+class Arrays(unittest.TestCase):
+    def test_views_go_in_as_they_are(self):
+        source = numpy.random.default_rng(2026)
+        for kind in ("uint8", "uint16"):
+            whole = source.integers(0, 256, (2, 20, 30), dtype=kind)
+            for a, b in ((whole[0], whole[1]), (whole[0, 3:9, 5:21], whole[1, 2:8, 1:17]), (whole[0, ::2], whole[1, 1::2])):
+                apart = a.astype(int) - b.astype(int)
+                self.assertEqual(v_frame.sse(a, b), int((apart ** 2).sum()))
+                self.assertEqual(v_frame.sad(a, b), int(abs(apart).sum()))
+                first = numpy.argwhere(apart)[0]
+                self.assertEqual(v_frame.first_difference(a, b), (first[1], first[0]))
+
+    def test_changes(self):
+        array = numpy.arange(48, dtype="uint16").reshape(6, 8)
+        before = array.copy()
+        v_frame.fill(array[1:3, 2:5], 7)
+        before[1:3, 2:5] = 7
+        self.assertTrue((array == before).all())
+        mean = (array.astype(int).reshape(3, 2, 4, 2).sum(axis=(1, 3)) + 2) // 4
+        self.assertTrue((v_frame.half(array) == mean).all())
+        target = numpy.zeros((6, 9), dtype="uint16")
+        v_frame.copy(array, target[:, :8])
+        self.assertTrue((target[:, :8] == array).all() and not target[:, 8].any())
+
+    def test_borders(self):
+        array = numpy.random.default_rng(7).integers(0, 65536, (9, 31), dtype="uint16")[1:8, 2:29]
+        self.assertTrue((v_frame.pad(array, 3, 18, 2, 1) == numpy.pad(array, ((2, 1), (3, 18)), mode="edge")).all())
+
+    def test_what_does_not_go_in(self):
+        array = numpy.zeros((4, 6), dtype="uint8")
+        for other in (array.astype("int16"), array.reshape(2, 2, 6)):
+            self.assertRaises(TypeError, v_frame.sse, other, other)
+        for view in (array[::-1], array[:, ::2], array.T):
+            self.assertRaises(BufferError, v_frame.sse, view, view)
+        array.flags.writeable = False
+        self.assertRaises(BufferError, v_frame.fill, array, 1)
+        self.assertRaises(RowsError, v_frame.sse, array[:0], array[:0])
+
+
+if __name__ == "__main__":
+    result = unittest.main(exit=False, verbosity=0).result
+    print(f"{result.testsRun} tests, {len(result.skipped)} skipped")
+    sys.exit(not result.wasSuccessful())

@@ -1,0 +1,18 @@
+"""Proved calls on video planes, over numpy arrays or any buffer.
+
+A plane is a two-dimensional numpy array of uint8 or uint16, rows from the top; views whose rows lie apart go in without a copy.
+Without numpy, :class:`Plane` makes one of any buffer. Behind each call is an export of ``libv_frame``, whose contract the prover
+has checked: what it answers, what it writes, and that all else of a buffer stays. Sums are exact integers.
+
+>>> a = Plane(bytes([1, 2, 3, 0, 4, 5, 6]), 3, 2, stride=4)
+>>> b = Plane(bytes([1, 2, 4, 4, 5, 8]), 3, 2)
+>>> sse(a, b), sad(a, b), first_difference(a, b)
+(5, 3, (2, 0))
+"""
+
+from ._calls import copy, fill, first_difference, half, pad, psnr, sad, sse
+from ._library import VERSION, SizesError, RowsError
+from ._planes import Plane
+
+__all__ = ["Plane", "RowsError", "SizesError", "VERSION", "copy", "fill", "first_difference", "half", "pad", "psnr", "sad",
+           "sse"]

@@ -1,0 +1,76 @@
+"""The shared library: where it is, what it exports, and what its statuses say."""
+
+import ctypes
+import ctypes.util
+import os
+from pathlib import Path
+
+VERSION = "0.3.0"
+
+
+class RowsError(ValueError):
+    """The rows do not fit their buffer: a size is zero, the stride is below the width, or the last row ends past it."""
+
+
+class SizesError(ValueError):
+    """The sizes do not belong together."""
+
+
+class Rows(ctypes.Structure):
+    _fields_ = [("width", ctypes.c_size_t), ("height", ctypes.c_size_t), ("stride", ctypes.c_size_t)]
+
+
+class Bordered(ctypes.Structure):
+    _fields_ = [(name, ctypes.c_size_t) for name in ("width", "height", "pad_left", "pad_right", "pad_top", "pad_bottom")]
+
+
+class Sum(ctypes.Structure):
+    _fields_ = [("low", ctypes.c_uint64), ("high", ctypes.c_uint64)]
+
+
+class Place(ctypes.Structure):
+    _fields_ = [("x", ctypes.c_size_t), ("y", ctypes.c_size_t), ("found", ctypes.c_uint32)]
+
+
+def _opened():
+    """The library that V_FRAME_LIBRARY names, or the one beside this module's prefix, or the system's."""
+    named = os.environ.get("V_FRAME_LIBRARY")
+    beside = Path(__file__).resolve().parent.parent.parent / "libv_frame.so"
+    name = named or (str(beside) if beside.exists() else ctypes.util.find_library("v_frame"))
+    if not name:
+        raise ImportError("libv_frame.so is not found: install it, or name it by V_FRAME_LIBRARY")
+    return ctypes.CDLL(name)
+
+
+_library = _opened()
+_rows, _size, _data = ctypes.POINTER(Rows), ctypes.c_size_t, ctypes.c_void_p
+
+
+def _export(name, *more):
+    found = getattr(_library, name)
+    found.restype = ctypes.c_uint32
+    found.argtypes = [_rows, _data, _size, *more]
+    return found
+
+
+def _both(name, *more):
+    return {size: _export(f"v_frame_{name}_{kind}", *more) for size, kind in ((1, "u8"), (2, "u16"))}
+
+
+SQUARED_ERRORS = _both("squared_errors", _rows, _data, _size, ctypes.POINTER(Sum))
+ABSOLUTE_DIFFERENCES = _both("absolute_differences", _rows, _data, _size, ctypes.POINTER(Sum))
+FIRST_DIFFERENCE = _both("first_difference", _rows, _data, _size, ctypes.POINTER(Place))
+COPY = _both("copy", _rows, _data, _size)
+DOWNSCALE = _both("downscale", _rows, _data, _size)
+FILL = {1: _export("v_frame_fill_u8", ctypes.c_uint8), 2: _export("v_frame_fill_u16", ctypes.c_uint16)}
+PAD = {size: getattr(_library, f"v_frame_pad_{kind}") for size, kind in ((1, "u8"), (2, "u16"))}
+for _pad in PAD.values():
+    _pad.restype, _pad.argtypes = ctypes.c_uint32, [ctypes.POINTER(Bordered), _data, _size]
+
+
+def answered(status):
+    """Raises the exception of a status."""
+    if status in (1, 2):
+        raise RowsError(("the first" if status == 1 else "the second") + " rows do not fit their buffer")
+    if status == 3:
+        raise SizesError("the sizes do not belong together")

@@ -1,0 +1,30 @@
+//! Proved calls on video planes, over slices with a stride.
+//!
+//! Behind each call is an export of `libv_frame`, whose contract the prover has checked: what it answers, what it writes, and
+//! that all else of a buffer stays. This crate is a thin, safe layer over it; `unsafe` stands in one file. It has no
+//! dependencies but the library, which `tools/install` of the repository builds; `V_FRAME_LIB` names the folder that it is in.
+//!
+//! ```
+//! use v_frame_proved::{Picture, squared_errors};
+//!
+//! let a = [1u8, 2, 3, 0, 4, 5, 6];
+//! let b = [1u8, 2, 4, 4, 5, 8];
+//! // Three by two pixels: rows of `a` lie four apart, and those of `b` three.
+//! let a = Picture::new(&a, 3, 2, 4)?;
+//! let b = Picture::new(&b, 3, 2, 3)?;
+//! assert_eq!(squared_errors(&a, &b)?, 1 + 4);
+//! # Ok::<(), v_frame_proved::Error>(())
+//! ```
+
+mod calls;
+mod error;
+mod picture;
+mod sample;
+
+pub use calls::{
+    absolute_differences, copy, decode, downscale, encode, fill, first_difference, pad, psnr,
+    squared_errors,
+};
+pub use error::Error;
+pub use picture::{Picture, PictureMut};
+pub use sample::Sample;

@@ -1,0 +1,165 @@
+/*
+ * Each status of each call, and a thousand layouts of each type, compared with plain loops. Built with all warnings as errors,
+ * under the sanitizers of addresses and of undefined behaviour; buffers end where the last row may end, so that a read or a write
+ * past it is seen.
+ */
+#include "v_frame.h"
+
+#include <stdio.h>
+#include <stdlib.h>
+#include <string.h>
+
+static uint64_t state = 2026;
+static unsigned long checks;
+
+static uint32_t next_random(void) {
+    state = state * 6364136223846793005u + 1442695040888963407u;
+    return (uint32_t)(state >> 33);
+}
+
+static size_t below(size_t n) {
+    return next_random() % n;
+}
+
+static void check(int holds, const char *what, const char *file, int line) {
+    checks++;
+    if (!holds) {
+        fprintf(stderr, "%s:%d: %s\n", file, line, what);
+        exit(1);
+    }
+}
+
+#define CHECK(condition) check((condition), #condition, __FILE__, __LINE__)
+
+static uint64_t distance(uint32_t p, uint32_t q) {
+    return p < q ? q - p : p - q;
+}
+
+#define SAMPLE uint8_t
+#define NAME(call) v_frame_##call##_u8
+#define TEST(name) name##_u8
+
+#include "samples.inc"
+#undef SAMPLE
+#undef NAME
+#undef TEST
+
+#define SAMPLE uint16_t
+#define NAME(call) v_frame_##call##_u16
+#define TEST(name) name##_u16
+
+#include "samples.inc"
+
+static void bytes_and_words(void) {
+    for (int round = 0; round < 1000; round++) {
+        size_t width = 1 + below(40), height = 1 + below(5);
+        v_frame_rows words = {width, height, width + below(4)};
+        v_frame_rows bytes = {2 * width, height, 2 * width + below(4)};
+        size_t words_length = v_frame_rows_length(&words), bytes_length = v_frame_rows_length(&bytes);
+        uint16_t *pixels = malloc(2 * words_length), *back = malloc(2 * words_length);
+        uint8_t *file = malloc(bytes_length), *before = malloc(bytes_length);
+        CHECK(pixels != NULL && back != NULL && file != NULL && before != NULL);
+        for (size_t i = 0; i < words_length; i++) {
+            pixels[i] = (uint16_t)next_random();
+            back[i] = 7;
+        }
+        for (size_t i = 0; i < bytes_length; i++) {
+            file[i] = before[i] = (uint8_t)next_random();
+        }
+        CHECK(v_frame_encode_u16(&bytes, file, bytes_length, &words, pixels, words_length) == V_FRAME_OK);
+        for (size_t y = 0; y < height; y++) {
+            for (size_t x = 0; x < bytes.stride && bytes.stride * y + x < bytes_length; x++) {
+                uint8_t found = file[bytes.stride * y + x];
+                uint16_t pixel = x < 2 * width ? pixels[words.stride * y + x / 2] : 0;
+                CHECK(found == (x >= 2 * width ? before[bytes.stride * y + x] : (uint8_t)(x % 2 ? pixel >> 8 : pixel & 255)));
+            }
+        }
+        CHECK(v_frame_decode_u16(&words, back, words_length, &bytes, file, bytes_length) == V_FRAME_OK);
+        for (size_t i = 0; i < words_length; i++) {
+            CHECK(back[i] == (i % words.stride < width ? pixels[i] : 7));
+        }
+        CHECK(v_frame_encode_u16(&bytes, file, bytes_length - 1, &words, pixels, words_length) == V_FRAME_FIRST_ROWS);
+        CHECK(v_frame_encode_u16(&bytes, file, bytes_length, &words, pixels, words_length - 1) == V_FRAME_SECOND_ROWS);
+        v_frame_rows narrow = v_frame_rows_packed(width, height);
+        CHECK(v_frame_encode_u16(&narrow, file, bytes_length, &words, pixels, words_length) == V_FRAME_SIZES);
+        CHECK(v_frame_decode_u16(&words, back, words_length - 1, &bytes, file, bytes_length) == V_FRAME_FIRST_ROWS);
+        CHECK(v_frame_decode_u16(&words, back, words_length, &bytes, file, bytes_length - 1) == V_FRAME_SECOND_ROWS);
+        free(pixels);
+        free(back);
+        free(file);
+        free(before);
+    }
+}
+
+static int is_part(const v_frame_part *part, size_t offset, size_t width, size_t height, size_t across, size_t down) {
+    const v_frame_bordered *l = &part->layout;
+    return part->offset == offset && part->count == (width + 2 * across) * (height + 2 * down) && l->width == width &&
+           l->height == height && l->pad_left == across && l->pad_right == across && l->pad_top == down && l->pad_bottom == down;
+}
+
+static void frames(void) {
+    static const size_t ratios[5][2] = {{1, 1}, {2, 2}, {2, 1}, {1, 1}, {4, 1}};
+    for (int round = 0; round < 1000; round++) {
+        v_frame_request request = {1 + below(99), 1 + below(99), below(40), (uint32_t)below(5)};
+        v_frame_parts parts;
+        memset(&parts, 9, sizeof parts);
+        CHECK(v_frame_lay_out(&request, &parts) == V_FRAME_OK);
+        size_t x = ratios[request.format][0], y = ratios[request.format][1];
+        size_t across = (request.padding + x - 1) / x, down = (request.padding + y - 1) / y;
+        size_t width = (request.width + x - 1) / x, height = (request.height + y - 1) / y;
+        CHECK(is_part(&parts.y, 0, request.width, request.height, across * x, down * y));
+        if (request.format == V_FRAME_MONOCHROME) {
+            CHECK(is_part(&parts.u, 0, 0, 0, 0, 0) && is_part(&parts.v, 0, 0, 0, 0, 0) && parts.count == parts.y.count);
+        } else {
+            CHECK(is_part(&parts.u, parts.y.count, width, height, across, down));
+            CHECK(is_part(&parts.v, parts.y.count + parts.u.count, width, height, across, down));
+            CHECK(parts.count == parts.y.count + parts.u.count + parts.v.count);
+        }
+        uint8_t *buffer = calloc(parts.count, 1);
+        v_frame_rows rows = v_frame_bordered_rows(&parts.v.layout);
+        size_t start = parts.v.offset + v_frame_bordered_start(&parts.v.layout);
+        CHECK(buffer != NULL);
+        if (request.format != V_FRAME_MONOCHROME) {
+            CHECK(v_frame_fill_u8(&rows, buffer + start, parts.count - start, 5) == V_FRAME_OK);
+            CHECK(v_frame_pad_u8(&parts.v.layout, buffer + parts.v.offset, parts.v.count) == V_FRAME_OK);
+            for (size_t i = 0; i < parts.count; i++) {
+                CHECK(buffer[i] == (i < parts.v.offset ? 0 : 5));
+            }
+        }
+        free(buffer);
+    }
+    v_frame_request refused[5] = {{0, 1, 0, 1}, {1, 0, 0, 1}, {1, 1, SIZE_MAX, 1}, {SIZE_MAX, 1, 0, 0}, {1, 1, 0, 5}};
+    for (int i = 0; i < 5; i++) {
+        v_frame_parts parts, untouched;
+        memset(&parts, 9, sizeof parts);
+        memset(&untouched, 9, sizeof untouched);
+        CHECK(v_frame_lay_out(&refused[i], &parts) == (i == 4 ? V_FRAME_FORMAT : V_FRAME_FIRST_ROWS));
+        CHECK(memcmp(&parts, &untouched, sizeof parts) == 0);
+    }
+}
+
+static void helpers(void) {
+    v_frame_rows rows = v_frame_rows_of_bytes(5, 4, 16, 2);
+    CHECK(rows.stride == 8 && v_frame_rows_length(&rows) == 29);
+    rows = v_frame_rows_of_bytes(5, 4, -16, 2);
+    CHECK(rows.stride == 0 && v_frame_rows_length(&rows) == 0);
+    rows = v_frame_rows_of_bytes(5, 4, 17, 2);
+    CHECK(rows.stride == 0 && v_frame_rows_length(&rows) == 0);
+    rows = v_frame_rows_packed(SIZE_MAX, 2);
+    CHECK(v_frame_rows_length(&rows) == 0);
+    rows = v_frame_rows_packed(3, 0);
+    CHECK(v_frame_rows_length(&rows) == 0);
+    for (uint32_t status = 0; status < 6; status++) {
+        CHECK(strlen(v_frame_status_text(status)) > 0);
+    }
+}
+
+int main(void) {
+    all_u8();
+    all_u16();
+    bytes_and_words();
+    frames();
+    helpers();
+    printf("%lu checks\n", checks);
+    return 0;
+}

@@ -1,0 +1,5 @@
+pub mod FrameParts
+pub mod Layout
+pub mod Status
+pub mod WorkedParts
+pub mod WorkedStatus

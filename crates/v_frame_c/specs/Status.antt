@@ -1,0 +1,27 @@
+-- What an export answers: the first that fails of what it tests.
+use Rattle.std.specs.Prelude.{ℕ, ◌*◌, Bool, true, false, ◌&&◌, nat_eq}
+use Rattle.v_frame_c.specs.declared.layout.Rows.{Rows}
+
+-- of one buffer: whether its rows fit it
+abbrev pub status_of_one : Bool → ℕ
+status_of_one false = 1
+status_of_one true = 0
+
+-- of two: whether the rows of each fit it, and whether their sizes belong together
+abbrev pub status_of_two : Bool → Bool → Bool → ℕ
+status_of_two false second sizes = 1
+status_of_two true false sizes = 2
+status_of_two true true false = 3
+status_of_two true true true = 0
+
+-- the sizes are the same
+abbrev pub same_size : Rows → Rows → Bool
+same_size a b = nat_eq a.width b.width && nat_eq a.height b.height
+
+-- those of the second are so many times those of the first
+abbrev pub times_size : ℕ → Rows → Rows → Bool
+times_size n a b = nat_eq b.width (n * a.width) && nat_eq b.height (n * a.height)
+
+-- the second are as many rows, each of so many entries for one of the first
+abbrev pub encoded_size : ℕ → Rows → Rows → Bool
+encoded_size n a b = nat_eq b.width (n * a.width) && nat_eq b.height a.height

@@ -1,0 +1,14 @@
+//! The calls of the library for C: what is proved of each is its contract, down to this boundary.
+//!
+//! Each export takes slices, which C gives as a pointer and a length, and the layout of the rows in each; it tests everything
+//! that it can, and answers a status. None asks for anything by a contract. The header `c_interface/include/v_frame.h` declares
+//! them all, and says what C still has to promise.
+#![tactic(auto)]
+
+mod change;
+mod compare;
+mod exports_u16;
+mod exports_u8;
+mod frame_parts;
+mod layout;
+mod status;

@@ -1,0 +1,16 @@
+//! What an export answers.
+
+/// All went as asked.
+pub const OK: u32 = 0;
+
+/// The first rows don't fit their buffer: a size is zero, the stride is below the width, or the last row ends past the buffer.
+pub const FIRST: u32 = 1;
+
+/// The second rows don't fit theirs.
+pub const SECOND: u32 = 2;
+
+/// The sizes don't belong together.
+pub const SIZES: u32 = 3;
+
+/// There is no format of this number.
+pub const FORMAT: u32 = 4;

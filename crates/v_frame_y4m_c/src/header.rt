@@ -1,0 +1,104 @@
+//! A header in numbers. Any bytes in these structs are a value.
+ghost use Rattle.std.specs.Prelude.{◌≡◌};
+ghost use Rattle.v_frame_y4m_c.specs.Header.{format_number, interlacing_number, numbers_of, ratio_numbers, siting_number};
+
+use v_frame::chroma::ChromaSubsampling;
+use v_frame_y4m::{ChromaSiting, Interlacing, Ratio as TheRatio, StreamHeader};
+
+/// Two numbers, where `stated` is 1. Else all three are 0.
+#[derive(Drop)]
+#[repr(C)]
+pub struct Ratio {
+    pub numerator: u64,
+    pub denominator: u64,
+    pub stated: u32,
+}
+
+/// What a header line says.
+#[derive(Drop)]
+#[repr(C)]
+pub struct Header {
+    pub width: usize,
+    pub height: usize,
+    pub frame_rate: Ratio,
+    pub pixel_aspect: Ratio,
+    pub format: u32,
+    pub bit_depth: u32,
+    pub siting: u32,
+    pub interlacing: u32,
+}
+
+impl Header {
+    /// Returns what a header says, in numbers.
+    pub fn of(header: &StreamHeader) -> Header
+        ensures { result ≡ numbers_of header.now }
+    {
+        Header {
+            width: header.width,
+            height: header.height,
+            frame_rate: ratio_of(header.frame_rate),
+            pixel_aspect: ratio_of(header.pixel_aspect),
+            format: format_of(header.colour.subsampling()),
+            bit_depth: u32::from(header.colour.bit_depth()),
+            siting: siting_of(header.colour.siting()),
+            interlacing: interlacing_of(header.interlacing),
+        }
+    }
+}
+
+/// Returns a ratio in numbers.
+fn ratio_of(ratio: Option<TheRatio>) -> Ratio
+    ensures { result ≡ ratio_numbers ratio }
+{
+    match ratio {
+        Some(ratio) => Ratio {
+            numerator: ratio.numerator,
+            denominator: ratio.denominator,
+            stated: 1,
+        },
+        None => Ratio {
+            numerator: 0,
+            denominator: 0,
+            stated: 0,
+        },
+    }
+}
+
+/// Returns the number of a format.
+fn format_of(format: ChromaSubsampling) -> u32
+    ensures { result ≡ format_number format }
+{
+    match format {
+        ChromaSubsampling::Monochrome => 0,
+        ChromaSubsampling::Yuv420 => 1,
+        ChromaSubsampling::Yuv422 => 2,
+        ChromaSubsampling::Yuv444 => 3,
+        ChromaSubsampling::Yuv411 => 4,
+    }
+}
+
+/// Returns the number of a siting.
+fn siting_of(siting: Option<ChromaSiting>) -> u32
+    ensures { result ≡ siting_number siting }
+{
+    match siting {
+        None => 0,
+        Some(ChromaSiting::Centre) => 1,
+        Some(ChromaSiting::Left) => 2,
+        Some(ChromaSiting::Alternating) => 3,
+    }
+}
+
+/// Returns the number of a way of interlacing.
+fn interlacing_of(interlacing: Option<Interlacing>) -> u32
+    ensures { result ≡ interlacing_number interlacing }
+{
+    match interlacing {
+        None => 0,
+        Some(Interlacing::Progressive) => 1,
+        Some(Interlacing::TopFirst) => 2,
+        Some(Interlacing::BottomFirst) => 3,
+        Some(Interlacing::Mixed) => 4,
+        Some(Interlacing::Unknown) => 5,
+    }
+}
