@@ -1,11 +1,11 @@
 //! Tests with expected values that were worked out by hand.
 
-mod frame;
+mod fixtures;
 mod laws;
+mod lent_planes;
 mod operations;
-mod planar;
-mod plane;
+mod raw_video;
 mod sequences;
-mod support;
 mod uses;
+mod whole_frames;
 mod y4m;

@@ -5,7 +5,7 @@ mod calls;
 mod draws;
 mod pixels;
 
-use crate::tests::support::checks::same;
+use crate::tests::fixtures::checks::same;
 use std::process::Abort;
 use v_frame::replay::Side;
 

@@ -3,9 +3,9 @@ ghost use Rattle.std.specs.Prelude.{◌≡◌};
 
 mod wide;
 
-use crate::tests::support::buffers::{bordered_buffer, has_entries, has_in_border, write_entries};
-use crate::tests::support::checks::{same, same_length};
-use crate::tests::support::frames::{BORDERED_ALL_ROUND, Layout, bordered, luma, showing};
+use crate::tests::fixtures::buffers::{bordered_buffer, has_entries, has_in_border, write_entries};
+use crate::tests::fixtures::checks::{same, same_length};
+use crate::tests::fixtures::frames::{BORDERED_ALL_ROUND, Layout, bordered, luma, showing};
 use example_callers::filters::{halve_pixels, mix_with, soften};
 use example_callers::motion::cost_of_block;
 use std::process::Abort;

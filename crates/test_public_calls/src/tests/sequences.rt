@@ -1,7 +1,7 @@
 //! Lists of calls and answers, made of slices of any length.
 
-use crate::tests::support::checks::same;
-use crate::tests::support::samples::sample;
+use crate::tests::fixtures::checks::same;
+use crate::tests::fixtures::samples::sample;
 use std::process::Abort;
 use v_frame::pixel::Pixel;
 use v_frame::sequence::Sequence;

@@ -1,10 +1,10 @@
 //! The callers in `example_callers`: that those which take memory succeed with it, which no clause says, and what is left in a
 //! whole buffer.
 
-use crate::tests::support::buffers::{has_entries, has_in_border};
-use crate::tests::support::checks::{same, same_length};
-use crate::tests::support::frames::{bordered, bordered_frame, luma};
-use crate::tests::support::texts::shows;
+use crate::tests::fixtures::buffers::{has_entries, has_in_border};
+use crate::tests::fixtures::checks::{same, same_length};
+use crate::tests::fixtures::frames::{bordered, bordered_frame, luma};
+use crate::tests::fixtures::texts::shows;
 use example_callers::answers::first_answers;
 use example_callers::frames::{built_chroma_size, reason_not_to_build};
 use example_callers::planes::{copy_with_plane, plane_of_places};

@@ -3,8 +3,8 @@
 mod headers;
 mod texts;
 
-use crate::tests::support::checks::same;
-use crate::tests::support::texts::text_of;
+use crate::tests::fixtures::checks::same;
+use crate::tests::fixtures::texts::text_of;
 use example_callers::y4m::{copy_frame, copy_header};
 use std::io::{self, ErrorKind, Read};
 use std::process::Abort;

@@ -1,7 +1,7 @@
 //! The law of bytes that go through a frame.
 
 use super::{places, sides};
-use crate::tests::support::checks::same;
+use crate::tests::fixtures::checks::same;
 use std::process::Abort;
 use v_frame::chroma::ChromaSubsampling::Yuv422;
 use v_frame::frame::FrameBuilder;

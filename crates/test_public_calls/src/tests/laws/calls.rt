@@ -1,7 +1,7 @@
 //! The law of frames that show the same, with a long list of calls.
 
-use crate::tests::support::checks::same;
-use crate::tests::support::samples::sample;
+use crate::tests::fixtures::checks::same;
+use crate::tests::fixtures::samples::sample;
 use std::process::Abort;
 use v_frame::chroma::ChromaSubsampling::Yuv420;
 use v_frame::frame::Frame;

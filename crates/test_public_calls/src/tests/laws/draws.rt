@@ -1,9 +1,9 @@
 //! The laws of iterators whose items are drawn from both ends.
 
 use super::{places, sides};
-use crate::tests::support::checks::same;
-use crate::tests::support::frames::luma;
-use crate::tests::support::samples::{paint, sample};
+use crate::tests::fixtures::checks::same;
+use crate::tests::fixtures::frames::luma;
+use crate::tests::fixtures::samples::{paint, sample};
 use std::process::Abort;
 use v_frame::chroma::ChromaSubsampling::Monochrome;
 use v_frame::frame::FrameBuilder;

@@ -1,8 +1,8 @@
 //! The laws of single pixels, planes and frames that answer a value.
 
-use crate::tests::support::checks::same;
-use crate::tests::support::frames::luma;
-use crate::tests::support::samples::sample;
+use crate::tests::fixtures::checks::same;
+use crate::tests::fixtures::frames::luma;
+use crate::tests::fixtures::samples::sample;
 use std::process::Abort;
 use v_frame::chroma::ChromaSubsampling::Yuv420;
 use v_frame::frame::{Frame, FrameBuilder};

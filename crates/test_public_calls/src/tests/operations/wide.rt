@@ -2,9 +2,9 @@
 ghost use Rattle.std.specs.Prelude.{◌≡◌};
 
 use super::{Differences, differ, has_size};
-use crate::tests::support::checks::{same, same_length};
-use crate::tests::support::frames::luma;
-use crate::tests::support::samples::{paint, sample};
+use crate::tests::fixtures::checks::{same, same_length};
+use crate::tests::fixtures::frames::luma;
+use crate::tests::fixtures::samples::{paint, sample};
 use std::process::Abort;
 use v_frame::chroma::ChromaSubsampling;
 use v_frame::frame::FrameBuilder;

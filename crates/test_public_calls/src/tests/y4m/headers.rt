@@ -1,8 +1,8 @@
 //! Header lines that are long or hold large numbers, and what is read of a stream whose header is refused.
 
-use crate::tests::support::checks::{must, same};
-use crate::tests::support::texts::text_of;
-use crate::tests::support::watched::{WatchedReader, watched_reader};
+use crate::tests::fixtures::checks::{must, same};
+use crate::tests::fixtures::texts::text_of;
+use crate::tests::fixtures::watched::{WatchedReader, watched_reader};
 use std::process::Abort;
 use v_frame_planar::Counted;
 use v_frame_y4m::{StreamHeader, read_header, write_header};

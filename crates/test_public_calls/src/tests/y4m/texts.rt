@@ -1,6 +1,6 @@
 //! The texts of all errors of streams.
 
-use crate::tests::support::checks::same;
+use crate::tests::fixtures::checks::same;
 use std::fmt::Display;
 use std::process::Abort;
 use v_frame_planar::PlanarError;

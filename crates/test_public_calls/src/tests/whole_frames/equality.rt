@@ -1,6 +1,6 @@
 //! What frames are equal.
 
-use crate::tests::support::checks::{compared, same};
+use crate::tests::fixtures::checks::{compared, same};
 use std::num::NonZeroU8;
 use std::process::Abort;
 use v_frame::chroma::ChromaSubsampling::{self, Yuv420, Yuv444};

@@ -1,8 +1,8 @@
 //! Iterators over planes that are cloned with what is left.
 
-use crate::tests::support::checks::same;
-use crate::tests::support::frames::bordered;
-use crate::tests::support::texts::shows;
+use crate::tests::fixtures::checks::same;
+use crate::tests::fixtures::frames::bordered;
+use crate::tests::fixtures::texts::shows;
 
 #[test]
 fn iterators_are_cloned_with_what_is_left(rt: HostRuntime) {

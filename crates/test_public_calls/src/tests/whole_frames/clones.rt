@@ -1,7 +1,7 @@
 //! Frames of each format and depth, cloned.
 
-use crate::tests::support::checks::same;
-use crate::tests::support::samples::{paint, sample};
+use crate::tests::fixtures::checks::same;
+use crate::tests::fixtures::samples::{paint, sample};
 use ChromaSubsampling::{Monochrome, Yuv411, Yuv420, Yuv422, Yuv444};
 use std::process::Abort;
 use v_frame::chroma::ChromaSubsampling;

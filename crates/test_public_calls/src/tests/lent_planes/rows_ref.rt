@@ -1,7 +1,7 @@
 //! Rows that are kept elsewhere: which are read, and which of a slice they are.
 
-use crate::tests::support::checks::same;
-use crate::tests::support::frames::{BORDERED_ALL_ROUND, showing};
+use crate::tests::fixtures::checks::same;
+use crate::tests::fixtures::frames::{BORDERED_ALL_ROUND, showing};
 use example_callers::decoded_rows::error_against_rows;
 use v_frame::plane::RowsRef;
 

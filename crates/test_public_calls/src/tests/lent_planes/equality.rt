@@ -1,7 +1,7 @@
 //! What planes are equal.
 
-use crate::tests::support::buffers::write_entries;
-use crate::tests::support::checks::{compared, same};
+use crate::tests::fixtures::buffers::write_entries;
+use crate::tests::fixtures::checks::{compared, same};
 use std::process::Abort;
 use v_frame::plane::{Plane, PlaneGeometry};
 

@@ -1,8 +1,8 @@
 //! Planes that are made without a frame, and planes whose buffer is kept elsewhere.
 
-use crate::tests::support::buffers::{bordered_buffer, has_entries};
-use crate::tests::support::checks::{same, same_length};
-use crate::tests::support::texts::shows;
+use crate::tests::fixtures::buffers::{bordered_buffer, has_entries};
+use crate::tests::fixtures::checks::{same, same_length};
+use crate::tests::fixtures::texts::shows;
 use std::process::Abort;
 use v_frame::plane::{Plane, PlaneGeometry, PlaneRef};
 

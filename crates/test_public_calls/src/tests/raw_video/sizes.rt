@@ -1,7 +1,7 @@
 //! Frames of any size in every format: the sizes of chroma, the border, and what is refused.
 
-use crate::tests::support::checks::same;
-use crate::tests::support::texts::text_of;
+use crate::tests::fixtures::checks::same;
+use crate::tests::fixtures::texts::text_of;
 use ChromaSubsampling::{Monochrome, Yuv411, Yuv420, Yuv422, Yuv444};
 use std::process::Abort;
 use v_frame::chroma::ChromaSubsampling;

@@ -1,7 +1,7 @@
 //! Frames of each small width and padding, in every format.
 
 use super::sizes::{border_of, described};
-use crate::tests::support::checks::same;
+use crate::tests::fixtures::checks::same;
 use ChromaSubsampling::{Monochrome, Yuv411, Yuv420, Yuv422, Yuv444};
 use std::process::Abort;
 use v_frame::chroma::ChromaSubsampling;

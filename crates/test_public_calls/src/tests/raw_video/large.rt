@@ -1,7 +1,7 @@
 //! Frames of 1920 by 1080 pixels, written and read back.
 
-use crate::tests::support::checks::{must, same};
-use crate::tests::support::samples::sample;
+use crate::tests::fixtures::checks::{must, same};
+use crate::tests::fixtures::samples::sample;
 use std::process::Abort;
 use v_frame::chroma::ChromaSubsampling::Yuv420;
 use v_frame::frame::Frame;

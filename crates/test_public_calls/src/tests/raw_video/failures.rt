@@ -1,7 +1,7 @@
 //! Why a read, a write or a flush failed.
 
-use crate::tests::support::checks::same;
-use crate::tests::support::texts::shows;
+use crate::tests::fixtures::checks::same;
+use crate::tests::fixtures::texts::shows;
 use example_callers::video::{first_picture, write_and_flush, write_or_cause};
 use std::io::{self, ErrorKind, Read, Write};
 use v_frame::chroma::ChromaSubsampling;

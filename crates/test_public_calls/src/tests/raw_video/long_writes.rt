@@ -1,7 +1,7 @@
 //! More than a million bytes are written: all go out to a writer that takes some of them at each call, and `WriteZero` comes
 //! of one that takes none.
 
-use crate::tests::support::checks::same;
+use crate::tests::fixtures::checks::same;
 use ChromaSubsampling::Yuv420;
 use std::io::{self, Write};
 use std::process::Abort;

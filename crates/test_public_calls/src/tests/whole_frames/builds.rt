@@ -1,6 +1,6 @@
 //! Frames that are built by a law.
 
-use crate::tests::support::checks::same;
+use crate::tests::fixtures::checks::same;
 use v_frame::chroma::ChromaSubsampling::Yuv422;
 use v_frame::frame::{Frame, FrameBuilder};
 use v_frame::laws;

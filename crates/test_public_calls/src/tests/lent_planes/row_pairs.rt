@@ -1,7 +1,7 @@
 //! Two rows that are lent at once.
 
-use crate::tests::support::buffers::bordered_buffer;
-use crate::tests::support::checks::{same, same_length};
+use crate::tests::fixtures::buffers::bordered_buffer;
+use crate::tests::fixtures::checks::{same, same_length};
 use v_frame::plane::{PlaneGeometry, visible_rows_mut};
 
 #[test]

@@ -1,6 +1,6 @@
 //! A flush is one call of the writer's.
 
-use crate::tests::support::checks::same;
+use crate::tests::fixtures::checks::same;
 use std::io::{self, ErrorKind, Write};
 use v_frame_planar::Counted;
 
