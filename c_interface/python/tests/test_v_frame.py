@@ -70,6 +70,14 @@ class Planes(unittest.TestCase):
         self.assertEqual(bytes(padded.buffer), bytes([1, 1, 2, 2, 1, 1, 2, 2, 3, 3, 4, 4]))
         self.assertRaises(SizesError, v_frame.pad, Plane(bytes(4), 2, 2), -1, 0, 0, 0)
 
+    def test_the_planes_of_a_frame_lie_one_after_the_other(self):
+        parts = v_frame.lay_out(5, 3, "420", 1)
+        self.assertEqual(parts, [(0, 63, 20, 5, 3, 9), (63, 20, 69, 3, 2, 5), (83, 20, 89, 3, 2, 5)])
+        self.assertEqual(len(v_frame.lay_out(5, 3, "mono")), 1)
+        self.assertRaises(RowsError, v_frame.lay_out, 0, 3)
+        self.assertRaises(ValueError, v_frame.lay_out, 5, 3, "410")
+        self.assertRaises(ValueError, v_frame.lay_out, 5, 3, "420", -1)
+
     def test_what_does_not_fit_is_refused(self):
         for width, height, stride in ((0, 2, 4), (4, 0, 4), (4, 2, 3), (4, 4, 5)):
             plane = Plane(bytes(16), width, height, stride)

@@ -10,9 +10,9 @@ has checked: what it answers, what it writes, and that all else of a buffer stay
 (5, 3, (2, 0))
 """
 
-from ._calls import copy, fill, first_difference, half, pad, psnr, sad, sse
+from ._calls import Part, copy, fill, first_difference, half, lay_out, pad, psnr, sad, sse
 from ._library import VERSION, SizesError, RowsError
 from ._planes import Plane
 
-__all__ = ["Plane", "RowsError", "SizesError", "VERSION", "copy", "fill", "first_difference", "half", "pad", "psnr", "sad",
-           "sse"]
+__all__ = ["Part", "Plane", "RowsError", "SizesError", "VERSION", "copy", "fill", "first_difference", "half", "lay_out", "pad",
+           "psnr", "sad", "sse"]

@@ -2,6 +2,7 @@
 
 import ctypes
 import math
+from typing import NamedTuple
 
 from . import _library as library
 from ._planes import Held, Plane, numpy
@@ -113,3 +114,38 @@ def pad(plane, left: int, right: int, top: int, bottom: int):
     with Held(target, writes=True) as written:
         library.answered(library.PAD[size](ctypes.byref(layout), written.address, written.length))
     return target
+
+
+#: The names of chroma formats, in the order of their numbers.
+FORMATS = ("mono", "420", "422", "444", "411")
+
+
+class Part(NamedTuple):
+    """A plane in the buffer of a frame: the index that it begins at, how many samples it has with its border, the index of its
+    first visible sample, and its size and stride."""
+
+    offset: int
+    count: int
+    origin: int
+    width: int
+    height: int
+    stride: int
+
+
+def lay_out(width: int, height: int, format: str = "420", padding: int = 0) -> list[Part]:
+    """Where the planes of a frame lie in one buffer, one after the other without gaps: luma, and chroma where there is some.
+
+    Chroma has as many columns and rows as cover luma, and the padding divided by the ratio and rounded up; the padding of luma
+    is that times the ratio.
+    """
+    if format not in FORMATS or min(width, height, padding) < 0:
+        raise ValueError("there is no such format" if format not in FORMATS else "a size is negative")
+    found = library.Parts()
+    library.answered(library.LAY_OUT(ctypes.byref(library.Request(width, height, padding, FORMATS.index(format))),
+                                     ctypes.byref(found)))
+    parts = []
+    for part in found.planes:
+        layout, stride = part.layout, part.layout.pad_left + part.layout.width + part.layout.pad_right
+        origin = part.offset + layout.pad_top * stride + layout.pad_left
+        parts.append(Part(part.offset, part.count, origin, layout.width, layout.height, stride))
+    return [part for part in parts if part.count]

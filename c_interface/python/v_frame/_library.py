@@ -24,6 +24,19 @@ class Bordered(ctypes.Structure):
     _fields_ = [(name, ctypes.c_size_t) for name in ("width", "height", "pad_left", "pad_right", "pad_top", "pad_bottom")]
 
 
+class Request(ctypes.Structure):
+    _fields_ = [("width", ctypes.c_size_t), ("height", ctypes.c_size_t), ("padding", ctypes.c_size_t),
+                ("format", ctypes.c_uint32)]
+
+
+class Part(ctypes.Structure):
+    _fields_ = [("offset", ctypes.c_size_t), ("count", ctypes.c_size_t), ("layout", Bordered)]
+
+
+class Parts(ctypes.Structure):
+    _fields_ = [("planes", Part * 3), ("count", ctypes.c_size_t)]
+
+
 class Sum(ctypes.Structure):
     _fields_ = [("low", ctypes.c_uint64), ("high", ctypes.c_uint64)]
 
@@ -66,6 +79,8 @@ FILL = {1: _export("v_frame_fill_u8", ctypes.c_uint8), 2: _export("v_frame_fill_
 PAD = {size: getattr(_library, f"v_frame_pad_{kind}") for size, kind in ((1, "u8"), (2, "u16"))}
 for _pad in PAD.values():
     _pad.restype, _pad.argtypes = ctypes.c_uint32, [ctypes.POINTER(Bordered), _data, _size]
+LAY_OUT = _library.v_frame_lay_out
+LAY_OUT.restype, LAY_OUT.argtypes = ctypes.c_uint32, [ctypes.POINTER(Request), ctypes.POINTER(Parts)]
 
 
 def answered(status):

@@ -18,6 +18,7 @@
 
 mod calls;
 mod error;
+mod layout;
 mod picture;
 mod sample;
 
@@ -26,5 +27,6 @@ pub use calls::{
     squared_errors,
 };
 pub use error::Error;
+pub use layout::{Format, Part, lay_out};
 pub use picture::{Picture, PictureMut};
 pub use sample::Sample;

@@ -28,6 +28,30 @@ pub struct PlaceOfC {
 }
 
 #[repr(C)]
+pub struct RequestOfC {
+    pub width: usize,
+    pub height: usize,
+    pub padding: usize,
+    pub format: u32,
+}
+
+#[repr(C)]
+#[derive(Default)]
+pub struct PartOfC {
+    pub offset: usize,
+    pub count: usize,
+    pub layout: BorderedOfC,
+}
+
+#[repr(C)]
+#[derive(Default)]
+pub struct PartsOfC {
+    pub planes: [PartOfC; 3],
+    pub count: usize,
+}
+
+#[repr(C)]
+#[derive(Default)]
 pub struct BorderedOfC {
     pub width: usize,
     pub height: usize,
@@ -47,6 +71,7 @@ macro_rules! declared {
             $(fn $change(rows: *const RowsOfC, buffer: *mut c_void, length: usize, source_rows: *const RowsOfC, source: *const c_void, source_length: usize) -> c_uint;)*
             fn v_frame_fill_u8(rows: *const RowsOfC, buffer: *mut u8, length: usize, pixel: u8) -> c_uint;
             fn v_frame_fill_u16(rows: *const RowsOfC, buffer: *mut u16, length: usize, pixel: u16) -> c_uint;
+            fn v_frame_lay_out(request: *const RequestOfC, parts: *mut PartsOfC) -> c_uint;
             fn v_frame_pad_u8(layout: *const BorderedOfC, buffer: *mut u8, length: usize) -> c_uint;
             fn v_frame_pad_u16(layout: *const BorderedOfC, buffer: *mut u16, length: usize) -> c_uint;
         }
@@ -143,6 +168,13 @@ pub fn change<S, T>(call: Change, target: (&RowsOfC, &mut [T]), source: (&RowsOf
 /// Calls a fill.
 pub fn fill<T: Sample>(target: (&RowsOfC, &mut [T]), sample: T) -> c_uint {
     unsafe { (T::CALLS.fill)(target.0, target.1.as_mut_ptr(), target.1.len(), sample) }
+}
+
+/// Lays out the planes of a frame.
+pub fn lay_out(request: &RequestOfC) -> (c_uint, PartsOfC) {
+    let mut parts = PartsOfC::default();
+    let status = unsafe { v_frame_lay_out(request, &mut parts) };
+    (status, parts)
 }
 
 /// Calls a padding.

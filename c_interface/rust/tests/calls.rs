@@ -1,6 +1,6 @@
 //! Each call beside a plain loop, and each error.
 use v_frame_proved::{
-    Error, Picture, PictureMut, absolute_differences, copy, decode, downscale, encode, fill, first_difference, pad,
+    Error, Format, Part, Picture, PictureMut, lay_out, absolute_differences, copy, decode, downscale, encode, fill, first_difference, pad,
     psnr, squared_errors,
 };
 
@@ -101,4 +101,15 @@ fn rows_that_do_not_fit_and_other_sizes_are_refused() {
     let mut target = PictureMut::new(&mut other, 2, 2, 2).unwrap();
     assert_eq!(downscale(&a, &mut target), Err(Error::Sizes));
     assert_eq!(Error::Sizes.to_string(), "the sizes do not belong together");
+}
+
+#[test]
+fn the_planes_of_a_frame_lie_one_after_the_other() {
+    let parts = lay_out(5, 3, Format::Yuv420, 1).unwrap();
+    let luma = Part { offset: 0, count: 63, origin: 20, width: 5, height: 3, stride: 9, paddings: [2; 4] };
+    let chroma = Part { offset: 63, count: 20, origin: 69, width: 3, height: 2, stride: 5, paddings: [1; 4] };
+    assert_eq!(parts, [luma, chroma, Part { offset: 83, origin: 89, ..chroma }]);
+    assert_eq!(lay_out(5, 3, Format::Monochrome, 0).unwrap().len(), 1);
+    assert_eq!(lay_out(0, 3, Format::Yuv444, 0), Err(Error::Rows));
+    assert_eq!(lay_out(1, 1, Format::Yuv411, usize::MAX), Err(Error::Rows));
 }
