@@ -160,8 +160,8 @@ uint32_t v_frame_pad_u8(const v_frame_bordered *layout, uint8_t *buffer, size_t 
 uint32_t v_frame_pad_u16(const v_frame_bordered *layout, uint16_t *buffer, size_t length);
 
 /* Lay out the planes of a frame in one buffer. Chroma has as many columns and rows as cover luma, and the padding divided by the
- * ratio and rounded up; the padding of luma is that times the ratio. V_FRAME_FIRST_ROWS where a size is zero, or a plane is above
- * 2^62 entries. */
+ * ratio and rounded up; the padding of luma is that times the ratio. V_FRAME_FIRST_ROWS where a size is zero, or a plane has 2^62
+ * entries or more. */
 uint32_t v_frame_lay_out(const v_frame_request *request, v_frame_parts *parts);
 
 /* The rows of a picture in a border. The first of them begins at index v_frame_bordered_start. */
@@ -193,7 +193,9 @@ static inline v_frame_rows v_frame_rows_of_bytes(size_t width, size_t height, pt
     v_frame_rows rows;
     rows.width = width;
     rows.height = height;
-    rows.stride = stride_in_bytes > 0 && (size_t)stride_in_bytes % entry_size == 0 ? (size_t)stride_in_bytes / entry_size : 0;
+    rows.stride = stride_in_bytes > 0 && entry_size > 0 && (size_t)stride_in_bytes % entry_size == 0
+                      ? (size_t)stride_in_bytes / entry_size
+                      : 0;
     return rows;
 }
 

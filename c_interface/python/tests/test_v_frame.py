@@ -3,8 +3,10 @@
 import doctest
 import io
 import math
+import os
 import random
 import sys
+import tempfile
 import unittest
 
 if "--without-numpy" in sys.argv:
@@ -60,6 +62,26 @@ class Planes(unittest.TestCase):
         self.assertEqual(bytes(target.buffer), bytes([1, 2, 3, 9, 9, 4, 5, 6, 9, 9, 9]))
         self.assertEqual(target.tobytes(), bytes(range(1, 7)))
 
+    def test_a_copy_may_overlap_its_source(self):
+        for start, target in ((0, 3), (3, 0), (0, 0), (1, 6)):
+            data = bytearray(range(24))
+            expected = bytearray(range(24))
+            expected[target:target + 9] = expected[start:start + 9]
+            v_frame.copy(Plane(memoryview(data)[start:], 3, 3), Plane(memoryview(data)[target:], 3, 3))
+            self.assertEqual(data, expected)
+
+    def test_sizes_are_not_cut_off(self):
+        for sizes in ((2 ** 64 + 4, 2, 4), (4, 2 ** 64 + 2, 4), (4, 2, 2 ** 64 + 4)):
+            self.assertRaises(RowsError, Plane, bytes(16), *sizes)
+        self.assertRaises(RowsError, v_frame.lay_out, 2 ** 64 + 4, 2)
+        self.assertRaises(SizesError, v_frame.pad, Plane(bytes(4), 2, 2), 2 ** 64, 0, 0, 0)
+
+    def test_words_at_odd_addresses_are_refused(self):
+        plane = Plane(memoryview(bytearray(33))[1:], 4, 4, sample_size=2)
+        even = Plane(bytearray(32), 4, 4, sample_size=2)
+        with self.assertRaises(BufferError):
+            v_frame.sse(plane, even)
+
     def test_half_the_size(self):
         large = Plane(bytes([0, 1, 5, 5, 1, 0, 5, 6]), 4, 2)
         self.assertEqual(bytes(v_frame.half(large).buffer), bytes([1, 5]))
@@ -109,6 +131,32 @@ class Streams(unittest.TestCase):
         written = io.BytesIO()
         y4m.write_y4m(written, header, frames)
         self.assertEqual(written.getvalue(), self.LINE + b"\n" + data)
+
+    def test_a_stream_is_written_onto_itself(self):
+        data = self.LINE.replace(b"C420p10", b"Cmono") + b"\n" + b"".join(b"FRAME\n" + bytes([n] * 9) for n in range(3))
+        with tempfile.TemporaryDirectory() as folder:
+            path, link = os.path.join(folder, "a.y4m"), os.path.join(folder, "link.y4m")
+            with open(path, "wb") as file:
+                file.write(data)
+            os.chmod(path, 0o640)
+            os.symlink(path, link)
+            for target in (path, link):
+                header, frames = y4m.read_y4m(path)
+                y4m.write_y4m(target, header, frames)
+                with open(path, "rb") as file:
+                    self.assertEqual(file.read(), data)
+                self.assertTrue(os.path.islink(link))
+                self.assertEqual(os.stat(path).st_mode & 0o777, 0o640)
+
+            def broken():
+                yield [Plane(bytes(9), 3, 3)]
+                raise RuntimeError("no frame")
+
+            self.assertRaises(RuntimeError, y4m.write_y4m, path, header, broken())
+            self.assertRaises(y4m.Y4mError, y4m.write_y4m, path, header, [[Plane(bytes(4), 2, 2)]])
+            with open(path, "rb") as file:
+                self.assertEqual(file.read(), data)
+            self.assertEqual(sorted(os.listdir(folder)), ["a.y4m", "link.y4m"])
 
     def test_lines_of_every_colour_are_read_back(self):
         for text in ("420", "420jpeg", "420mpeg2", "420paldv", "411", "422", "444", "mono", "420p9", "422p12", "444p16", "mono10"):
@@ -160,6 +208,15 @@ class Arrays(unittest.TestCase):
         target = numpy.zeros((6, 9), dtype="uint16")
         v_frame.copy(array, target[:, :8])
         self.assertTrue((target[:, :8] == array).all() and not target[:, 8].any())
+
+    def test_views_of_one_array_may_overlap(self):
+        array = numpy.arange(60, dtype="uint16").reshape(6, 10)
+        expected = array.copy()
+        expected[1:5, 1:9] = array[:4, :8]
+        v_frame.copy(array[:4, :8], array[1:5, 1:9])
+        self.assertTrue((array == expected).all())
+        odd = numpy.frombuffer(bytearray(33), dtype="uint8")[1:].view("uint16").reshape(4, 4)
+        self.assertRaises(BufferError, v_frame.sse, odd, odd)
 
     def test_borders(self):
         array = numpy.random.default_rng(7).integers(0, 65536, (9, 31), dtype="uint16")[1:8, 2:29]

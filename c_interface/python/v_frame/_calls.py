@@ -5,7 +5,7 @@ import math
 from typing import NamedTuple
 
 from . import _library as library
-from ._planes import Held, Plane, numpy
+from ._planes import LIMIT, Held, Plane, numpy
 
 
 def _same_size(a, b):
@@ -25,8 +25,14 @@ def _compared(exports, a, b, out):
 def _changed(exports, target, source):
     with Held(target, writes=True) as written, Held(source) as read:
         call = exports[_same_size(written, read)]
-        library.answered(call(ctypes.byref(written.rows), written.address, written.length, ctypes.byref(read.rows),
-                              read.address, read.length))
+        address, kept = read.address, None
+        if written.overlaps(read):
+            # The library is promised that what it writes overlaps nothing else.
+            kept = ctypes.create_string_buffer(ctypes.string_at(read.address, read.length * read.size), read.length * read.size)
+            address = ctypes.addressof(kept)
+        library.answered(call(ctypes.byref(written.rows), written.address, written.length, ctypes.byref(read.rows), address,
+                              read.length))
+        del kept
 
 
 def sse(a, b) -> int:
@@ -68,7 +74,7 @@ def psnr(a, b, depth: int | None = None) -> float:
 
 
 def copy(source, target) -> None:
-    """Copies a plane into another one of its size. What lies between the rows of the target stays."""
+    """Copies a plane into another one of its size, which may overlap it. What lies between the rows of the target stays."""
     _changed(library.COPY, target, source)
 
 
@@ -98,8 +104,8 @@ def half(source):
 
 def pad(plane, left: int, right: int, top: int, bottom: int):
     """A new plane with a border of so many samples on each side, each the sample of the plane nearest to it."""
-    if min(left, right, top, bottom) < 0:
-        raise library.SizesError("a padding is negative")
+    if not all(0 <= padding < LIMIT for padding in (left, right, top, bottom)):
+        raise library.SizesError("a padding is negative, or has more than 64 bits")
     with Held(plane) as read:
         width, height, size = read.rows.width, read.rows.height, read.size
     across, down = left + width + right, top + height + bottom
@@ -138,8 +144,10 @@ def lay_out(width: int, height: int, format: str = "420", padding: int = 0) -> l
     Chroma has as many columns and rows as cover luma, and the padding divided by the ratio and rounded up; the padding of luma
     is that times the ratio.
     """
-    if format not in FORMATS or min(width, height, padding) < 0:
-        raise ValueError("there is no such format" if format not in FORMATS else "a size is negative")
+    if format not in FORMATS:
+        raise ValueError("there is no such format")
+    if not all(0 <= size < LIMIT for size in (width, height, padding)):
+        raise library.RowsError("a size is negative, or has more than 64 bits")
     found = library.Parts()
     library.answered(library.LAY_OUT(ctypes.byref(library.Request(width, height, padding, FORMATS.index(format))),
                                      ctypes.byref(found)))

@@ -26,6 +26,12 @@ _release.argtypes = [ctypes.POINTER(_Buffer)]
 _WRITABLE = 1
 
 
+#: What a size has to be below: a larger one would be cut off on its way into the library.
+LIMIT = 1 << 64
+
+_EMPTY = ctypes.create_string_buffer(2)
+
+
 class Plane:
     """A plane of `width` by `height` samples: row y is the `width` samples from number `stride * y` of the buffer on.
 
@@ -38,8 +44,8 @@ class Plane:
             raise ValueError("a sample has 1 byte or 2")
         self.buffer, self.sample_size = buffer, sample_size
         self.width, self.height, self.stride = width, height, width if stride is None else stride
-        if min(self.width, self.height, self.stride) < 0:
-            raise RowsError("a size is negative")
+        if not all(0 <= size < LIMIT for size in (self.width, self.height, self.stride)):
+            raise RowsError("a size is negative, or has more than 64 bits")
 
     def __repr__(self):
         return f"Plane(width={self.width}, height={self.height}, stride={self.stride}, sample_size={self.sample_size})"
@@ -70,8 +76,11 @@ class Held:
         self.size = plane.sample_size
         self.rows = Rows(plane.width, plane.height, plane.stride)
         self.address, self.length = self._view.buf, self._view.len // self.size
-        if self.address is not None and self.address % self.size:
-            raise BufferError("samples of 2 bytes lie at odd addresses")
+        try:
+            self._settle()
+        except BufferError:
+            self.__exit__()
+            raise
 
     def _of_array(self, array, writes):
         if array.ndim != 2 or array.dtype not in (numpy.dtype("uint8"), numpy.dtype("uint16")):
@@ -85,6 +94,19 @@ class Held:
         self.size, self.rows = size, Rows(width, height, stride)
         self.address = array.ctypes.data
         self.length = stride * (height - 1) + width if height and width else 0
+        self._settle()
+
+    def _settle(self):
+        """Sees that samples lie where the library may read them. Of nothing it takes an address that is not null."""
+        if not self.length:
+            self.address = ctypes.addressof(_EMPTY)
+        if self.address % self.size:
+            raise BufferError("samples of 2 bytes lie at odd addresses")
+
+    def overlaps(self, other):
+        """Whether two planes have an address in common, between their rows too."""
+        return (self.address < other.address + other.length * other.size
+                and other.address < self.address + self.length * self.size)
 
     def __enter__(self):
         return self
@@ -92,3 +114,4 @@ class Held:
     def __exit__(self, *_):
         if self._view is not None:
             _release(ctypes.byref(self._view))
+            self._view = None

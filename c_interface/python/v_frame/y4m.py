@@ -16,11 +16,11 @@ import sys
 from dataclasses import dataclass
 from pathlib import Path
 
+from ._calls import FORMATS as _FORMATS
 from ._planes import Plane, numpy
 
 #: How many columns and rows of luma there are for one of chroma.
 RATIOS = {"mono": None, "420": (2, 2), "422": (2, 1), "444": (1, 1), "411": (4, 1)}
-_FORMATS = tuple(RATIOS)
 _SITINGS = (None, "jpeg", "mpeg2", "paldv")
 _INTERLACINGS = (None, "p", "t", "b", "m", "?")
 _DEPTHS = {8, 9, 10, 12, 14, 16}
@@ -109,12 +109,18 @@ def read_y4m(file):
     `file` is a path, or an object that reads bytes. Planes are arrays where numpy is there, and else of :class:`Plane`; deeper
     ones than 8 bits have samples of two bytes. A frame that is cut off raises :class:`Y4mError`.
     """
-    stream = open(file, "rb") if isinstance(file, (str, os.PathLike)) else file
-    line = _line(stream)
-    if line is None:
-        raise Y4mError("the stream ends inside a line")
-    header = parse_header(line)
-    return header, _frames(stream, header)
+    is_path = isinstance(file, (str, os.PathLike))
+    stream = open(file, "rb") if is_path else file
+    try:
+        line = _line(stream)
+        if line is None:
+            raise Y4mError("the stream ends inside a line")
+        header = parse_header(line)
+    except BaseException:
+        if is_path:
+            stream.close()
+        raise
+    return header, _frames(stream, header, is_path)
 
 
 def _line(stream):
@@ -127,19 +133,23 @@ def _line(stream):
     return line[:-1]
 
 
-def _frames(stream, header):
+def _frames(stream, header, closes):
     size = 1 if header.bit_depth == 8 else 2
     sizes = header.sizes()
     total = sum(width * height for width, height in sizes) * size
-    while (line := _line(stream)) is not None:
-        if line != b"FRAME" and not line.startswith(b"FRAME "):
-            raise Y4mError("no FRAME where a frame is due")
-        data = stream.read(total)
-        while len(data) < total and (more := stream.read(total - len(data))):
-            data += more
-        if len(data) < total:
-            raise Y4mError(f"expected {total} bytes of a frame, found {len(data)}")
-        yield _planes(data, sizes, size)
+    try:
+        while (line := _line(stream)) is not None:
+            if line != b"FRAME" and not line.startswith(b"FRAME "):
+                raise Y4mError("no FRAME where a frame is due")
+            data = stream.read(total)
+            while len(data) < total and (more := stream.read(total - len(data))):
+                data += more
+            if len(data) < total:
+                raise Y4mError(f"expected {total} bytes of a frame, found {len(data)}")
+            yield _planes(data, sizes, size)
+    finally:
+        if closes:
+            stream.close()
 
 
 def _planes(data, sizes, size):
@@ -162,20 +172,51 @@ def _planes(data, sizes, size):
 def write_y4m(file, header: Header, frames) -> None:
     """Writes a stream: the header, and for each frame its planes, which have the sizes that the header says.
 
-    `file` is a path, or an object that writes bytes.
+    `file` is a path, or an object that writes bytes. A path gets a new file `NAME.partial` beside the target, which replaces the
+    target after the last frame; so the frames may come from the same path, and where something fails the target is as it was.
     """
     if header.format not in RATIOS or header.bit_depth not in _DEPTHS or min(header.width, header.height) < 1:
         raise Y4mError("the header has no line")
-    stream = open(file, "wb") if isinstance(file, (str, os.PathLike)) else file
-    stream.write(header.line())
+    if not isinstance(file, (str, os.PathLike)):
+        _write(file, header, frames)
+        return
+    target = Path(os.path.realpath(file))
+    if target.exists() and not target.is_file():
+        with open(target, "wb") as stream:
+            _write(stream, header, frames)
+        return
+    partial = target.with_name(target.name + ".partial")
+    stream = open(partial, "xb")
+    try:
+        with stream:
+            _write(stream, header, frames)
+            stream.flush()
+            os.fsync(stream.fileno())
+        if target.exists():
+            os.chmod(partial, target.stat().st_mode & 0o7777)
+        os.replace(partial, target)
+    except BaseException:
+        partial.unlink(missing_ok=True)
+        raise
+
+
+def _write(stream, header, frames):
+    size = 1 if header.bit_depth == 8 else 2
+    wanted = [width * height * size for width, height in header.sizes()]
+    _write_all(stream, header.line())
     for planes in frames:
-        data = [_bytes_of(plane, 1 if header.bit_depth == 8 else 2) for plane in planes]
-        wanted = [width * height * (1 if header.bit_depth == 8 else 2) for width, height in header.sizes()]
+        data = [_bytes_of(plane, size) for plane in planes]
         if [len(part) for part in data] != wanted:
             raise Y4mError("the planes of a frame have other sizes than the header says")
-        stream.write(b"FRAME\n" + b"".join(data))
-    if stream is not file:
-        stream.close()
+        _write_all(stream, b"FRAME\n" + b"".join(data))
+
+
+def _write_all(stream, data):
+    """Writes all bytes, also to an unbuffered stream, which may take fewer at once."""
+    rest = memoryview(data)
+    while rest:
+        taken = stream.write(rest)
+        rest = rest[len(rest) if taken is None else taken:]
 
 
 def _bytes_of(plane, size):

@@ -58,7 +58,7 @@ impl Part {
 ///
 /// # Errors
 ///
-/// [`Error::Rows`] where a size is zero, or a plane has more than 2^62 samples.
+/// [`Error::Rows`] where a size is zero, or a plane has 2^62 samples or more.
 pub fn lay_out(width: usize, height: usize, format: Format, padding: usize) -> Result<Vec<Part>, Error> {
     let (status, parts) = sample::lay_out(&RequestOfC { width, height, padding, format: format as u32 });
     answered(status)?;
