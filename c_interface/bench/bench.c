@@ -1,6 +1,6 @@
 /*
  * Times each call beside a plain loop of the same work, in one run: least times of many rounds, one after the other in turn.
- * The loops are compiled with -O3; they test nothing. Prints nanoseconds of the call, of the loop, and their ratio.
+ * The loops are compiled with -O3, sum a row in the narrowest type that holds it, and test nothing. Prints nanoseconds of the call, of the loop, and their ratio.
  */
 #define _POSIX_C_SOURCE 199309L
 #include "v_frame.h"
@@ -21,18 +21,21 @@ static double now(void) {
 }
 
 #define SAMPLE uint8_t
+#define SIGNED int32_t
 #define WIDE uint32_t
 #define NAME(call) v_frame_##call##_u8
 #define BENCH(name) name##_u8
 #define TYPE "u8"
 #include "samples.inc"
 #undef SAMPLE
+#undef SIGNED
 #undef WIDE
 #undef NAME
 #undef BENCH
 #undef TYPE
 
 #define SAMPLE uint16_t
+#define SIGNED int64_t
 #define WIDE uint64_t
 #define NAME(call) v_frame_##call##_u16
 #define BENCH(name) name##_u16

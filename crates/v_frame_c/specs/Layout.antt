@@ -2,6 +2,7 @@
 use Rattle.std.specs.Prelude.{ℕ, ◌+◌, ◌-◌, ◌*◌, ◌^◌, List, Bool, ◌&&◌, nat_lt, nat_le}
 use Rattle.v_frame.specs.Prelude.{Geometry, Table, alloc_size_of, geometry_of, isize_max, strided_rows}
 use Rattle.v_frame_c.specs.declared.layout.Bordered.{Bordered}
+use Rattle.v_frame_c.specs.declared.layout.Place.{Place}
 use Rattle.v_frame_c.specs.declared.layout.Rows.{Rows}
 use Rattle.v_frame_c.specs.declared.layout.Sum.{Sum}
 
@@ -18,6 +19,10 @@ picture rows buffer = strided_rows rows.width rows.height rows.stride buffer
 -- a number of 128 bits in two halves
 abbrev pub number_of : Sum → ℕ
 number_of sum = sum.low + 2 ^ 64 * sum.high
+
+-- the place that is none
+abbrev pub nowhere : Place
+nowhere = record { x = 0; y = 0; found = 0 }
 
 -- the geometry of a picture in a border
 abbrev pub geometry_in : Bordered → Geometry

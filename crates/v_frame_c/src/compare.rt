@@ -1,7 +1,7 @@
 //! Comparisons of two pictures, for any type of pixel.
-ghost use Rattle.std.specs.Prelude.{◌≡◌, ◌≢◌, length};
+ghost use Rattle.std.specs.Prelude.{◌≡◌, ◌≢◌, ◌↔◌, length};
 ghost use Rattle.v_frame.specs.Prelude.{absolute_differences, row_major, squared_errors};
-ghost use Rattle.v_frame_c.specs.Layout.{fits, number_of, picture};
+ghost use Rattle.v_frame_c.specs.Layout.{fits, nowhere, number_of, picture};
 ghost use Rattle.v_frame_c.specs.Status.{same_size, status_of_two};
 ghost use Rattle.v_frame_ops.specs.Prelude.{IsFirstDifference};
 
@@ -74,9 +74,10 @@ pub fn first_difference<T: Pixel>(
 ) -> u32
     ensures status { result ≡ status_of_two (fits a_rows.now (length a.now))
         (fits b_rows.now (length b.now)) (same_size a_rows.now b_rows.now) }
-    ensures same { result ≡ 0 → place.new.found ≡ 0
-        → picture a_rows.now a.now ≡ picture b_rows.now b.now }
-    ensures differs { result ≡ 0 → place.new.found ≢ 0
+    ensures none { result ≡ 0 → (place.new ≡ nowhere)
+        ↔ (picture a_rows.now a.now ≡ picture b_rows.now b.now) }
+    ensures found { result ≡ 0 → place.new ≢ nowhere → place.new.found ≡ 1 }
+    ensures first { result ≡ 0 → place.new ≢ nowhere
         → IsFirstDifference (picture a_rows.now a.now) (picture b_rows.now b.now)
         place.new.x place.new.y }
     ensures refused { result ≢ 0 → place.new ≡ place.old }

@@ -1,7 +1,7 @@
 //! The exports for pixels of type `u8`.
-ghost use Rattle.std.specs.Prelude.{◌≡◌, ◌≢◌, ◌+◌, ◌*◌, ℕ, List, drop, length, replicate, slice_get, take, Some};
+ghost use Rattle.std.specs.Prelude.{◌≡◌, ◌≢◌, ◌↔◌, ◌+◌, ◌*◌, ℕ, List, drop, length, replicate, slice_get, take, Some};
 ghost use Rattle.v_frame.specs.Prelude.{absolute_differences, alloc_size_of, halved, one_byte, raster, row_major, squared_errors, table_of, KeepsRest};
-ghost use Rattle.v_frame_c.specs.Layout.{fits, geometry_in, is_bordered, number_of, picture};
+ghost use Rattle.v_frame_c.specs.Layout.{fits, geometry_in, is_bordered, nowhere, number_of, picture};
 ghost use Rattle.v_frame_c.specs.Status.{same_size, status_of_one, status_of_two, times_size};
 ghost use Rattle.v_frame_ops.specs.Prelude.{IsFirstDifference, IsPadded};
 
@@ -55,9 +55,10 @@ pub extern "C" fn v_frame_first_difference_u8(
 ) -> u32
     ensures status { result ≡ status_of_two (fits a_rows.now (length a.now))
         (fits b_rows.now (length b.now)) (same_size a_rows.now b_rows.now) }
-    ensures same { result ≡ 0 → place.new.found ≡ 0
-        → picture a_rows.now a.now ≡ picture b_rows.now b.now }
-    ensures differs { result ≡ 0 → place.new.found ≢ 0
+    ensures none { result ≡ 0 → (place.new ≡ nowhere)
+        ↔ (picture a_rows.now a.now ≡ picture b_rows.now b.now) }
+    ensures found { result ≡ 0 → place.new ≢ nowhere → place.new.found ≡ 1 }
+    ensures first { result ≡ 0 → place.new ≢ nowhere
         → IsFirstDifference (picture a_rows.now a.now) (picture b_rows.now b.now)
         place.new.x place.new.y }
     ensures refused { result ≢ 0 → place.new ≡ place.old }

@@ -24,6 +24,7 @@ pub extern "C" fn v_frame_y4m_parse_header(
     ensures refused { result ≢ 0 → (error : TheError) × IsRefusedFor line.now error
         × (result ≡ status_in error) × (letter.new ≡ letter_in error) }
     ensures kept { result ≢ 0 → header.new ≡ header.old }
+    ensures letter { result ≡ 0 → letter.new ≡ letter.old }
 {
     match parse_header(alloc, line) {
         Ok(found) => {
