@@ -1,5 +1,6 @@
 //! The cases, and what each does.
 
+use crate::blocks::{Measure, compare_blocks};
 use crate::desk::Desk;
 use crate::error::BenchError;
 use crate::{reads, replays, whole, writes};
@@ -24,6 +25,8 @@ pub enum Case {
     SumByByteData,
     AbsoluteDifferences,
     SquaredErrors,
+    AbsoluteOfBlocks(usize),
+    SquaredOfBlocks(usize),
     FillByRowMut,
     FillByRowsMut,
     FillByPixelMut,
@@ -42,7 +45,7 @@ pub enum Case {
 }
 
 /// The names of the cases, in the order in which they are measured.
-pub const CASES: [(&str, Case); 30] = [
+pub const CASES: [(&str, Case); 38] = [
     ("build_mono", Case::BuildMono),
     ("build_420", Case::Build420),
     ("clone_plane", Case::ClonePlane),
@@ -58,6 +61,14 @@ pub const CASES: [(&str, Case); 30] = [
     ("sum_by_byte_data", Case::SumByByteData),
     ("sum_of_absolute_differences", Case::AbsoluteDifferences),
     ("sum_of_squared_errors", Case::SquaredErrors),
+    ("absolute_of_blocks_8", Case::AbsoluteOfBlocks(8)),
+    ("absolute_of_blocks_16", Case::AbsoluteOfBlocks(16)),
+    ("absolute_of_blocks_32", Case::AbsoluteOfBlocks(32)),
+    ("absolute_of_blocks_64", Case::AbsoluteOfBlocks(64)),
+    ("squared_of_blocks_8", Case::SquaredOfBlocks(8)),
+    ("squared_of_blocks_16", Case::SquaredOfBlocks(16)),
+    ("squared_of_blocks_32", Case::SquaredOfBlocks(32)),
+    ("squared_of_blocks_64", Case::SquaredOfBlocks(64)),
     ("fill_by_row_mut", Case::FillByRowMut),
     ("fill_by_rows_mut", Case::FillByRowsMut),
     ("fill_by_pixel_mut", Case::FillByPixelMut),
@@ -116,6 +127,8 @@ fn read<T: Pixel>(case: Case, desk: &Desk<T>) -> u64 {
         Case::SumByByteData => reads::sum_by_byte_data(luma),
         Case::AbsoluteDifferences => reads::absolute_differences(luma, other),
         Case::SquaredErrors => reads::squared_errors(luma, other),
+        Case::AbsoluteOfBlocks(size) => compare_blocks(luma, other, size, Measure::Absolute),
+        Case::SquaredOfBlocks(size) => compare_blocks(luma, other, size, Measure::Squared),
         _ => 0,
     }
 }

@@ -6,6 +6,7 @@
 //! is done by the compiler or left out.
 #![tactic(auto)]
 
+mod blocks;
 mod cases;
 mod desk;
 mod error;

@@ -1,10 +1,10 @@
 -- The words and types that callers' clauses cite, re-exported from one place. A variant is written
 -- after its type (`Answer.Number 3`), and needs no import there.
 pub use Rattle.v_frame_raster.specs.Pixel.{PixelForm, one_byte, two_bytes, bytes_of, byte_of, value_of_bytes}
-pub use Rattle.v_frame_raster.specs.Pixel.{bytes_of_pixels, byte_list}
+pub use Rattle.v_frame_raster.specs.Pixel.{bytes_of_pixels, byte_list, pixels_of_bytes}
 pub use Rattle.v_frame_raster.specs.PixelRows.{squared_error, rounded_mean, absolute_differences, squared_errors}
 pub use Rattle.v_frame_raster.specs.PixelRows.{halved}
-pub use Rattle.v_frame_raster.specs.Laws.{AddsUp}
+pub use Rattle.v_frame_raster.specs.Laws.{AddsUp, AgreesBelow, WrittenBelow}
 pub use Rattle.v_frame_raster.specs.Chroma.{ratio_of, chroma_size_of, subsampled}
 pub use Rattle.v_frame_raster.specs.Geometry.{Geometry, geometry_of, stride_of, alloc_height_of, alloc_size_of}
 pub use Rattle.v_frame_raster.specs.Geometry.{IsGeometry, IsInside, Fits, place_of}

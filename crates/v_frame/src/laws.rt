@@ -34,9 +34,10 @@ pub use v_frame_plane::laws::{
     planes_are_equal, rows_are_parts, same_entries_same_table, tables_are_rectangles,
 };
 pub use v_frame_raster::laws::{
-    chroma_sizes_agree, geometries_are_equal, halves_join, pixel_of_bytes, pixel_of_value,
-    pixels_are_equal, pixels_compare, pixels_hash, quotients_are_exact, sums_add_up,
-    tables_agree_by_rows,
+    chroma_sizes_agree, depths_fit, geometries_are_equal, halves_join, lists_agree_by_items,
+    lists_are_written, lists_are_written_in_place, pixel_of_bytes, pixel_of_value,
+    pixels_are_equal, pixels_compare, pixels_hash, quotients_are_exact, rows_follow, sums_add_up,
+    sums_of_pairs_add_up, tables_agree_by_rows,
 };
 pub use writing_iterators::{
     lent_pixels_are_drawn_once, lent_pixels_hold_what_is_written, lent_rows_are_drawn_once,

@@ -11,6 +11,7 @@ use crate::pixels::Pixels;
 use crate::place::{checked_place, row_start, visible_place, visible_size};
 use crate::rows::Rows;
 use crate::rows_ref::RowsRef;
+use crate::strided::encode_rows;
 use std::fmt;
 use std::marker::Model;
 use v_frame_raster::geometry::PlaneGeometry;
@@ -208,10 +209,20 @@ impl<'a, T: Copy> PlaneRef<'a, T> {
             → result ≡ pixel_at (table_of self.now) x y }
     {
         if x < self.geometry.width() && y < self.geometry.height() {
-            return Some(self.buffer[visible_place(self.geometry, x, y)]);
+            return Some(self.visible_pixel(x, y));
         }
         let place = checked_place(self.geometry, x, y)?;
         self.buffer.get(place).copied()
+    }
+
+    /// Returns the visible pixel of column `x` in row `y`, which must be below [`width`](Self::width) and
+    /// [`height`](Self::height).
+    pub fn visible_pixel(&self, x: usize, y: usize) -> T
+        requires wide { x < self.now.geometry.width }
+        requires high { y < self.now.geometry.height }
+        ensures { pixel_at (table_of self.now) x y ≡ Some result }
+    {
+        self.buffer[visible_place(self.geometry, x, y)]
     }
 
     /// Returns a double-ended iterator over the visible pixels, row after row from the top.
@@ -238,6 +249,24 @@ impl<'a, T: Pixel> PlaneRef<'a, T> {
         ensures runs_back { GivesInReverse ℕ }
     {
         ByteData::new(self)
+    }
+
+    /// Writes the bytes of the visible pixels, row after row from the top, each pixel with its low byte first.
+    ///
+    /// There must be as many as [`byte_len`](Self::byte_len) says.
+    pub fn write_bytes(&self, bytes: &mut [u8])
+        requires { length bytes.old ≡ length (byte_list T.form (table_of self.now)) }
+        ensures { bytes.new ≡ byte_list T.form (table_of self.now) }
+    {
+        let _fits = self.byte_len();
+        let row_bytes = T::BYTES * self.geometry.width();
+        encode_rows(
+            &self.as_rows_ref(),
+            bytes,
+            row_bytes,
+            self.geometry.height(),
+            row_bytes,
+        );
     }
 
     /// Returns how many bytes [`byte_data`](Self::byte_data) gives: those of `width * height` pixels. It reads none of them.

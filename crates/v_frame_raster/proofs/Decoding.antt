@@ -1,4 +1,4 @@
--- Pixels decoded from bytes, one more or sixteen more at a time.
+-- Pixels decoded from bytes, one more or eight more at a time.
 use Rattle.std.proofs.Common.{ℕ, zero, suc, ◌≡◌, ◌+◌, ◌*◌, ◌<◌, List, [], ◌∷◌, ◌++◌, length, take, drop, get_or, set}
 use Rattle.std.proofs.Common.{refl, ap, arith, zero-add, suc-add, ◌≤◌, ◌/◌, ◌%◌}
 use Rattle.std.proofs.lemmas.Simd.{take_more_put_chunk}
@@ -45,22 +45,17 @@ two_byte_pixels-more pixels bytes i pixel whole h is so_far =
     let high = drop_more bytes (2 * i + 1) 0 (omega arith) in
     rw (take_more_set pixels i pixel h, so_far, is, pixels_of_bytes-append two_bytes i 1 bytes, low, high)
 
--- a loop that decodes a block of sixteen pixels at a time, one step on
-pub two_byte_pixels-block_more : (pixels bytes lanes : List ℕ) (block : ℕ) → 16 * (block + 1) ≤ length pixels
-    → lanes ≡ pixels_of_bytes two_bytes 16 (drop (32 * block) bytes) → DecodedUpTo (16 * block) pixels bytes
-    → DecodedUpTo (16 * (block + 1)) (put_chunk (16 * block) pixels lanes) bytes
-two_byte_pixels-block_more pixels bytes lanes block room is so_far =
-    let pixels_on : 16 * (block + 1) ≡ 16 * block + 16 = omega arith in
-    let bytes_on : 32 * block ≡ 2 * (16 * block) = omega arith in
-    let sixteen : length lanes ≡ 16 = ap length is in
-    let more = pixels_of_bytes-append two_bytes (16 * block) 16 bytes in
+-- eight more pixels are decoded from the sixteen bytes at their place
+pub two_byte_pixels-eight_more : (pixels bytes lanes : List ℕ) (at : ℕ) → at + 8 ≤ length pixels
+    → lanes ≡ pixels_of_bytes two_bytes 8 (drop (2 * at) bytes) → DecodedUpTo at pixels bytes
+    → DecodedUpTo (at + 8) (put_chunk at pixels lanes) bytes
+two_byte_pixels-eight_more pixels bytes lanes at room is so_far =
+    let eight : length lanes ≡ 8 = ap length is in
     rw (
-      pixels_on,
-      take_more_put_chunk (16 * block) pixels lanes (16 * block + 16) (omega arith) (omega arith),
+      take_more_put_chunk at pixels lanes (at + 8) (omega arith) (omega arith),
       so_far,
       is,
-      bytes_on,
-      more,
+      pixels_of_bytes-append two_bytes at 8 bytes,
     )
 
 -- lanes of two bytes each, low byte first, are the pixels of these bytes

@@ -61,12 +61,12 @@ module _ {X Y : Type 0} (of : X × Y → ℕ) where
       omega (arith, rest, sum_by-cons of (x, y) (zip (xs ++ xs1) (ys ++ ys1)), sum_by-cons of (x, y) (zip xs ys))
   sum_of_pairs-append xs xs1 ys ys1 same = absurd (omega (arith, same))
 
-module _ {T : Type 0} (of : T × T → ℕ) where
-  row_and_rest : (table : Table T) (y : ℕ) (row : List T) → slice_get table y ≡ Some row
-      → row_major (drop y table) ≡ row ++ row_major (drop (y + 1) table)
-  row_and_rest table y row is =
-      rw (drop_more table y row (slice_get_within table y row is), get_or_from_slice_get table y row row is)
+pub row_and_rest : {T : Type 0} (table : Table T) (y : ℕ) (row : List T) → slice_get table y ≡ Some row
+    → row_major (drop y table) ≡ row ++ row_major (drop (y + 1) table)
+row_and_rest table y row is =
+    rw (drop_more table y row (slice_get_within table y row is), get_or_from_slice_get table y row row is)
 
+module _ {T : Type 0} (of : T × T → ℕ) where
   -- sums over two tables are made of those over their rows
   pub sum_of_pairs-adds_up : AddsUp (λ xs ys. sum_by of (zip xs ys))
   sum_of_pairs-adds_up = record {

@@ -4,10 +4,12 @@ pub mod CutRows
 pub mod Determined
 pub mod Entries
 pub mod Equality
+pub mod ListItems
 pub mod Lists
 pub mod Marks
 pub mod Overwrites
 pub mod OwnPlaces
+pub mod PackedRows
 pub mod Parts
 pub mod Pictures
 pub mod Places
@@ -18,3 +20,4 @@ pub mod StridedWrites
 pub mod Strides
 pub mod VisiblePart
 pub mod Writes
+pub mod WrittenLists

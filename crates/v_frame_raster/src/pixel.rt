@@ -9,7 +9,7 @@ use crate::halving::{halve_bytes, halve_words};
 use crate::row_sums::{Absolute, Squared, sum_over_rows};
 use std::fmt::{Binary, Debug, Display, LowerHex, Octal, UpperHex};
 use std::hash::Hash;
-use std::simd::{u8x32, u16x16};
+use std::simd::{u8x16, u16x8};
 
 mod sealed {
     /// No type outside this crate can be a pixel.
@@ -69,6 +69,11 @@ pub trait Pixel: Copy
     fn try_from_u16(v: u16) -> Option<Self>
         ensures variant { IsSome result ↔ (v < 256 ^ BYTES) }
         ensures value { IfSome result (λ p. form.value p ≡ v) };
+
+    /// Returns the pixel with this value, which a pixel of the type must have: any value for `u16`, one below 256 for `u8`.
+    fn from_value(v: u16) -> Self
+        requires { v < 256 ^ BYTES }
+        ensures { result ≡ form.pixel_of v };
 
     /// Returns the pixel whose bytes are `src`, low byte first. There must be [`BYTES`](Pixel::BYTES) of them.
     fn from_le(src: &[u8]) -> Self
@@ -185,6 +190,11 @@ impl Pixel for u8 {
         u8::try_from(v).ok()
     }
 
+    #[inline(always)]
+    fn from_value(v: u16) -> u8 {
+        v as u8
+    }
+
     fn from_le(src: &[u8]) -> u8 {
         src[0]
     }
@@ -197,10 +207,12 @@ impl Pixel for u8 {
         dst.copy_from_slice(src);
     }
 
+    #[inline(always)]
     fn sum_of_absolute_differences(a: &[u8], b: &[u8]) -> u128 {
         sum_over_rows::<u8, Absolute>(a, b)
     }
 
+    #[inline(always)]
     fn sum_of_squared_errors(a: &[u8], b: &[u8]) -> u128 {
         sum_over_rows::<u8, Squared>(a, b)
     }
@@ -259,6 +271,11 @@ impl Pixel for u16 {
         Some(v)
     }
 
+    #[inline(always)]
+    fn from_value(v: u16) -> u16 {
+        v
+    }
+
     fn from_le(src: &[u8]) -> u16 {
         u16::from_le_bytes([src[0], src[1]])
     }
@@ -270,7 +287,10 @@ impl Pixel for u16 {
     fn decode_row(dst: &mut [u16], src: &[u8]) {
         let blocks = dst.len() / 16;
         for block in 0..blocks {
-            sixteen_pixels(&src[32 * block..]).copy_to_slice(&mut dst[16 * block..]);
+            // Two stores of eight pixels, the lower first: one of sixteen is stored upper half first, which is slower where
+            // rows begin in the middle of a cache line.
+            eight_pixels(&src[32 * block..]).copy_to_slice(&mut dst[16 * block..]);
+            eight_pixels(&src[32 * block + 16..]).copy_to_slice(&mut dst[16 * block + 8..]);
         }
         // The short rest of the row.
         for i in 16 * blocks..dst.len() {
@@ -278,10 +298,12 @@ impl Pixel for u16 {
         }
     }
 
+    #[inline(always)]
     fn sum_of_absolute_differences(a: &[u16], b: &[u16]) -> u128 {
         sum_over_rows::<u16, Absolute>(a, b)
     }
 
+    #[inline(always)]
     fn sum_of_squared_errors(a: &[u16], b: &[u16]) -> u128 {
         sum_over_rows::<u16, Squared>(a, b)
     }
@@ -318,11 +340,11 @@ pub fn encode_row<T: Pixel>(bytes: &mut [u8], row: &[T])
     }
 }
 
-/// Returns the pixels of the first 32 bytes.
+/// Returns the pixels of the first 16 bytes.
 #[inline(always)]
-fn sixteen_pixels(src: &[u8]) -> u16x16
-    requires { 32 ≤ length src.now }
-    ensures { result ≡ pixels_of_bytes two_bytes 16 src.now }
+fn eight_pixels(src: &[u8]) -> u16x8
+    requires { 16 ≤ length src.now }
+    ensures { result ≡ pixels_of_bytes two_bytes 8 src.now }
 {
-    u16x16::from_le_bytes(u8x32::from_slice(src))
+    u16x8::from_le_bytes(u8x16::from_slice(src))
 }

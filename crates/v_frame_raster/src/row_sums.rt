@@ -20,11 +20,23 @@ pub trait Difference<T> {
         requires second { 8 ≤ length b.now }
         ensures { result ≡ sum_by (λ p. between p.0 p.1) (zip (take 8 a.now) (take 8 b.now)) };
 
+    /// What the first 16 pixels of each row add.
+    fn of_sixteens(a: &[T], b: &[T]) -> u64
+        requires first { 16 ≤ length a.now }
+        requires second { 16 ≤ length b.now }
+        ensures { result ≡ sum_by (λ p. between p.0 p.1) (zip (take 16 a.now) (take 16 b.now)) };
+
     /// What the first 32 pixels of each row add.
     fn of_blocks(a: &[T], b: &[T]) -> u64
         requires first { 32 ≤ length a.now }
         requires second { 32 ≤ length b.now }
         ensures { result ≡ sum_by (λ p. between p.0 p.1) (zip (take 32 a.now) (take 32 b.now)) };
+
+    /// What the first 64 pixels of each row add.
+    fn of_sixty_fours(a: &[T], b: &[T]) -> u64
+        requires first { 64 ≤ length a.now }
+        requires second { 64 ≤ length b.now }
+        ensures { result ≡ sum_by (λ p. between p.0 p.1) (zip (take 64 a.now) (take 64 b.now)) };
 }
 
 /// The absolute difference.
@@ -44,8 +56,18 @@ impl Difference<u8> for Absolute {
     }
 
     #[inline(always)]
+    fn of_sixteens(a: &[u8], b: &[u8]) -> u64 {
+        absolute_of_bytes::<16>(a, b)
+    }
+
+    #[inline(always)]
     fn of_blocks(a: &[u8], b: &[u8]) -> u64 {
         absolute_of_bytes::<32>(a, b)
+    }
+
+    #[inline(always)]
+    fn of_sixty_fours(a: &[u8], b: &[u8]) -> u64 {
+        absolute_of_bytes::<64>(a, b)
     }
 }
 
@@ -63,8 +85,18 @@ impl Difference<u16> for Absolute {
     }
 
     #[inline(always)]
+    fn of_sixteens(a: &[u16], b: &[u16]) -> u64 {
+        absolute_of_words::<16>(a, b)
+    }
+
+    #[inline(always)]
     fn of_blocks(a: &[u16], b: &[u16]) -> u64 {
         absolute_of_words::<32>(a, b)
+    }
+
+    #[inline(always)]
+    fn of_sixty_fours(a: &[u16], b: &[u16]) -> u64 {
+        absolute_of_words::<64>(a, b)
     }
 }
 
@@ -86,8 +118,18 @@ impl Difference<u8> for Squared {
     }
 
     #[inline(always)]
+    fn of_sixteens(a: &[u8], b: &[u8]) -> u64 {
+        squared_of_bytes::<16>(a, b)
+    }
+
+    #[inline(always)]
     fn of_blocks(a: &[u8], b: &[u8]) -> u64 {
         squared_of_bytes::<32>(a, b)
+    }
+
+    #[inline(always)]
+    fn of_sixty_fours(a: &[u8], b: &[u8]) -> u64 {
+        squared_of_bytes::<64>(a, b)
     }
 }
 
@@ -106,8 +148,18 @@ impl Difference<u16> for Squared {
     }
 
     #[inline(always)]
+    fn of_sixteens(a: &[u16], b: &[u16]) -> u64 {
+        squared_of_words::<16>(a, b)
+    }
+
+    #[inline(always)]
     fn of_blocks(a: &[u16], b: &[u16]) -> u64 {
         squared_of_words::<32>(a, b)
+    }
+
+    #[inline(always)]
+    fn of_sixty_fours(a: &[u16], b: &[u16]) -> u64 {
+        squared_of_words::<64>(a, b)
     }
 }
 
@@ -165,8 +217,23 @@ fn squared_of_words<const N: usize>(a: &[u16], b: &[u16]) -> u64
         .strict_reduce_sum()
 }
 
-/// Returns the sum over two rows of equal length.
+/// Returns the sum over two rows of equal length: of the widths that blocks have at once, and else by pieces.
+#[inline(always)]
 pub fn sum_over_rows<T: Copy, D: Difference<T>>(a: &[T], b: &[T]) -> u128
+    requires { length a.now ≡ length b.now }
+    ensures { result ≡ sum_by (λ p. D.between p.0 p.1) (zip a.now b.now) }
+{
+    match a.len() {
+        8 => u128::from(D::of_eights(a, b)),
+        16 => u128::from(D::of_sixteens(a, b)),
+        32 => u128::from(D::of_blocks(a, b)),
+        64 => u128::from(D::of_sixty_fours(a, b)),
+        _ => sum_by_pieces::<T, D>(a, b),
+    }
+}
+
+/// Returns the sum over two rows of equal length, of any length.
+fn sum_by_pieces<T: Copy, D: Difference<T>>(a: &[T], b: &[T]) -> u128
     requires { length a.now ≡ length b.now }
     ensures { result ≡ sum_by (λ p. D.between p.0 p.1) (zip a.now b.now) }
 {

@@ -1,7 +1,7 @@
 -- A list cut into rows: how many there are, where each begins, and that they are the list. Rows of one width are what
 -- their joined pixels are cut into.
 use Rattle.std.proofs.Common.{ℕ, zero, suc, ◌≡◌, ◌+◌, ◌*◌, ◌<◌, List, [], ◌∷◌, length, map, take, drop, All, Some}
-use Rattle.std.proofs.Common.{get_or, slice_get, refl, sym, ◌∙◌, ap, arith, take-append-drop, length-drop}
+use Rattle.std.proofs.Common.{◌++◌, get_or, slice_get, refl, sym, ◌∙◌, ap, arith, take-append-drop, length-drop, suc-add}
 use Rattle.std.proofs.lemmas.List.{drop-drop, take_at, drop_at, length-map, nil_from_length}
 use Rattle.std.proofs.lemmas.List.Elements.{All-head, All-tail}
 use Rattle.v_frame_raster.specs.Table.{Table, width_of, height_of, row_major, cut_rows}
@@ -32,6 +32,21 @@ module _ {T : Type 0} where
         drop-drop (width * y) width source,
         e,
       ) refl
+
+module _ {T : Type 0} where
+  -- one piece more of a source is the one after those that there were
+  pub cut_rows-one_more : (width pieces : ℕ) (source : List T)
+      → cut_rows width (pieces + 1) source
+      ≡ cut_rows width pieces source ++ take width (drop (width * pieces) source) ∷ []
+  cut_rows-one_more width zero source = let none : width * 0 ≡ 0 = omega arith in rw none refl
+  cut_rows-one_more width (suc pieces) source =
+      let e : width + width * pieces ≡ width * suc pieces = omega arith in
+      rw (
+        suc-add pieces 1,
+        cut_rows-one_more width pieces (drop width source),
+        drop-drop (width * pieces) width source,
+        e,
+      )
 
 module _ {T : Type 0} (width : ℕ) where
   cut-row_major : (table rows : Table T) → map length rows ≡ map length table → All (λ row. length row ≡ width) table

@@ -1,7 +1,7 @@
 //! The cases, and what each does.
 
 use crate::desk::Desk;
-use crate::{operations, reads, replays, writes};
+use crate::{blocks, operations, reads, replays, writes};
 use v_frame::chroma::ChromaSubsampling;
 use v_frame::pixel::Pixel;
 
@@ -23,6 +23,8 @@ pub enum Case {
     SumByByteData,
     AbsoluteDifferences,
     SquaredErrors,
+    AbsoluteOfBlocks(usize),
+    SquaredOfBlocks(usize),
     FillByRowMut,
     FillByRowsMut,
     FillByPixelMut,
@@ -41,7 +43,7 @@ pub enum Case {
 }
 
 /// The names of the cases, in the order in which they are measured.
-pub const CASES: [(&str, Case); 30] = [
+pub const CASES: [(&str, Case); 38] = [
     ("build_mono", Case::BuildMono),
     ("build_420", Case::Build420),
     ("clone_plane", Case::ClonePlane),
@@ -57,6 +59,14 @@ pub const CASES: [(&str, Case); 30] = [
     ("sum_by_byte_data", Case::SumByByteData),
     ("sum_of_absolute_differences", Case::AbsoluteDifferences),
     ("sum_of_squared_errors", Case::SquaredErrors),
+    ("absolute_of_blocks_8", Case::AbsoluteOfBlocks(8)),
+    ("absolute_of_blocks_16", Case::AbsoluteOfBlocks(16)),
+    ("absolute_of_blocks_32", Case::AbsoluteOfBlocks(32)),
+    ("absolute_of_blocks_64", Case::AbsoluteOfBlocks(64)),
+    ("squared_of_blocks_8", Case::SquaredOfBlocks(8)),
+    ("squared_of_blocks_16", Case::SquaredOfBlocks(16)),
+    ("squared_of_blocks_32", Case::SquaredOfBlocks(32)),
+    ("squared_of_blocks_64", Case::SquaredOfBlocks(64)),
     ("fill_by_row_mut", Case::FillByRowMut),
     ("fill_by_rows_mut", Case::FillByRowsMut),
     ("fill_by_pixel_mut", Case::FillByPixelMut),
@@ -92,6 +102,8 @@ pub fn work<T: Pixel>(case: Case, desk: &mut Desk<T>) -> u64 {
         Case::SumByByteData => reads::sum_by_byte_data(&desk.frame.y_plane),
         Case::AbsoluteDifferences => operations::absolute_differences(&desk.frame.y_plane, &desk.other.y_plane),
         Case::SquaredErrors => operations::squared_errors(&desk.frame.y_plane, &desk.other.y_plane),
+        Case::AbsoluteOfBlocks(size) => blocks::compare(&desk.frame.y_plane, &desk.other.y_plane, size, blocks::absolute_of_rows),
+        Case::SquaredOfBlocks(size) => blocks::compare(&desk.frame.y_plane, &desk.other.y_plane, size, blocks::squared_of_rows),
         Case::ReplayPixelMut => replays::replay_pixels(desk),
         Case::ReplayRow => replays::replay_rows(desk),
         Case::ReplayCopy => replays::replay_copy(desk),

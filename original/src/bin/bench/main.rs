@@ -3,6 +3,7 @@
 //! The cases, their data and what is printed are those of `crates/bench`. Operations that 0.7.0 lacks, as `pad`, are loops over
 //! its rows, as a user writes them.
 
+mod blocks;
 mod cases;
 mod desk;
 mod operations;

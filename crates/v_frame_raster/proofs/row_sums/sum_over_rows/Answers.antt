@@ -1,23 +1,29 @@
--- One more block, one more pair, and all.
-use Rattle.std.proofs.Common.{lit<, arith}
-use Rattle.std.proofs.lemmas.Grind.{common_steps}
-use Rattle.v_frame_raster.proofs.SumsOfPairs.{sums_up_to-piece_more}
+-- Rows of these widths are all of themselves.
+use Rattle.std.proofs.Common.{ℕ, ◌≡◌, List, length, take, ◌∙◌, arith}
+use Rattle.std.specs.Prelude.{sum_by, zip}
+use Rattle.std.proofs.lemmas.List.{take_all}
 use Rattle.v_frame_raster.proofs.row_sums.sum_over_rows.Goals as goal
 
-pub loop-block-preserved : goal.loop-block-preserved
-loop-block-preserved g c =
-    rw c.from-sum.ensures
-    (sums_up_to-piece_more (λ p. g.D.Difference.between p.0 p.1) 32 _ _ _ c.args.a.now c.args.b.now (lit< tt)
-    c.of_blocks.type_inv c.of_blocks.ensures c.loop-block.invariant)
+-- what the first pixels add, where there are no more
+of_all : {T : Type 0} (of : T × T → ℕ) (n sum : ℕ) (xs ys : List T) → length xs ≡ n → length xs ≡ length ys
+    → sum ≡ sum_by of (zip (take n xs) (take n ys)) → sum ≡ sum_by of (zip xs ys)
+of_all of n sum xs ys long same is =
+    is ∙ rw (take_all n xs (omega (arith, long)), take_all n ys (omega (arith, long, same)))
 
-pub loop-eight-preserved : goal.loop-eight-preserved
-loop-eight-preserved g c =
-    rw c.from-sum-in-loop-eight.ensures
-    (sums_up_to-piece_more (λ p. g.D.Difference.between p.0 p.1) 8 _ _ _ c.args.a.now c.args.b.now (lit< tt)
-    c.of_eights.type_inv c.of_eights.ensures c.loop-eight.invariant)
+pub returns-in-16 : goal.returns-in-16
+returns-in-16 g c =
+    c.from-in-16.ensures
+    ∙ of_all (λ p. g.D.Difference.between p.0 p.1) 16 _ c.args.a.now c.args.b.now c.in-16.is c.requires
+    c.of_sixteens.ensures
 
-pub loop-i-preserved : goal.loop-i-preserved
-loop-i-preserved g c = grind (arith, common_steps)
+pub returns-in-32 : goal.returns-in-32
+returns-in-32 g c =
+    c.from-in-32.ensures
+    ∙ of_all (λ p. g.D.Difference.between p.0 p.1) 32 _ c.args.a.now c.args.b.now c.in-32.is c.requires
+    c.of_blocks.ensures
 
-pub returns : goal.returns
-returns g c = grind (arith, common_steps)
+pub returns-in-64 : goal.returns-in-64
+returns-in-64 g c =
+    c.from-in-64.ensures
+    ∙ of_all (λ p. g.D.Difference.between p.0 p.1) 64 _ c.args.a.now c.args.b.now c.in-64.is c.requires
+    c.of_sixty_fours.ensures

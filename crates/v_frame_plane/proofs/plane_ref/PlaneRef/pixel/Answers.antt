@@ -1,6 +1,6 @@
 -- The entry at the place, which inside the rectangle is the table's pixel.
-use Rattle.std.proofs.Common.{◌<◌, length, sym, ◌∙◌, arith}
-use Rattle.std.proofs.lemmas.Option.{slice_get_past, slice_get-get_or}
+use Rattle.std.proofs.Common.{length, Some, sym, ◌∙◌, arith}
+use Rattle.std.proofs.lemmas.Option.{slice_get_past}
 use Rattle.v_frame_raster.specs.Raster.{Raster, raster}
 use Rattle.v_frame_raster.specs.Geometry.{place_of}
 use Rattle.v_frame_raster.proofs.tables.Places.{pixel_inside, past_counting, copied_get, none_past_end}
@@ -10,14 +10,14 @@ use Rattle.v_frame_plane.proofs.plane_ref.PlaneRef.pixel.Goals as goal
 pub returns-then-y-height-clause-value : goal.returns-then-y-height-clause-value
 returns-then-y-height-clause-value g c =
     let p : Raster g.row.T.Denot = raster c.self.inside.geometry c.self.inside.buffer.now in
-    let within : c.visible_place.result < length p.buffer = omega
-    (arith, c.visible_place.ensures.within, c.self.invariant.whole) in
-    rw (← c.self.view_is, ← c.visible_place.ensures.place)
-    (sym (slice_get-get_or p.buffer c.visible_place.result c.index-self-visible_place.result within))
+    let inside = rw (← c.self.view_is) at c.visible_pixel.ensures in
+    rw (← c.self.view_is) (sym (pixel_inside p c.args.x c.args.y (omega arith) (omega arith) ∙ inside))
 
-pub returns-then-y-height-clause-inside : goal.returns-then-y-height-clause-inside
-returns-then-y-height-clause-inside g c = λ wide high.
-    returns-then-y-height-clause-value g c ∙ pixel_inside c.args.self.now c.args.x c.args.y wide high
+pub returns-then-y-height-clause-none : goal.returns-then-y-height-clause-none
+returns-then-y-height-clause-none g c =
+    let none = none_past_end c.args.self.now.buffer _ (Some c.visible_pixel.result)
+    (returns-then-y-height-clause-value g c) in
+    rw (← c.self.view_is) (rw (← c.self.view_is, c.self.invariant.whole) at none)
 
 -- a place that can't be counted lies past the buffer
 pub returns-in_err-place-clause-value : goal.returns-in_err-place-clause-value
@@ -35,9 +35,6 @@ returns-clause-value g c =
     let p : Raster g.row.T.Denot = raster c.self.inside.geometry c.self.inside.buffer.now in
     rw (← c.self.view_is, c.copied.ensures, ← c.in_ok-place.ensures.1)
     (copied_get p.buffer c.in_ok-place.place c.get.result c.get.ensures.lookup)
-
-pub bounds-self-inside-visible_place : goal.bounds-self-inside-visible_place
-bounds-self-inside-visible_place g c = omega (arith, c.visible_place.ensures.within, c.self.invariant.whole)
 
 pub returns-clause-none : goal.returns-clause-none
 returns-clause-none g c =

@@ -1,7 +1,7 @@
 -- The pairs so far are summed.
 use Rattle.std.proofs.Common.{◌*◌}
 use Rattle.v_frame_raster.proofs.SumsOfPairs.{SumsUpTo}
-use Rattle.v_frame_raster.proofs.row_sums.sum_over_rows.Given as goal
+use Rattle.v_frame_raster.proofs.row_sums.sum_by_pieces.Given as goal
 
 abbrev pub invariant-loop-block : goal.invariant-loop-block
 invariant-loop-block g l = SumsUpTo (λ p. g.D.Difference.between p.0 p.1) (32 * l.block) l.a l.b l.sum
