@@ -1,6 +1,6 @@
 -- The visible rows of a plane, lent from its whole buffer as rows of a stride, and what the plane is when they alone
 -- were written.
-use Rattle.std.proofs.Common.{ℕ, ◌≡◌, List, ◌++◌, length, take, drop, refl, sym, ◌∙◌, ap, subst}
+use Rattle.std.proofs.Common.{ℕ, ◌≡◌, List, ◌++◌, length, take, drop, refl, ◌∙◌, ap}
 use Rattle.v_frame.specs.Prelude.{Raster, Geometry, IsGeometry, alloc_size_of, origin_of, stride_of, raster, table_of}
 use Rattle.v_frame.specs.Prelude.{border_of, with_entries, KeepsBorder, strided_rows, KeepsRest, RowsFit}
 use Rattle.v_frame_raster.proofs.tables.Strides.{visible_fit, visible_are}

@@ -1,3 +1,4 @@
+pub mod LentRegions
 pub mod LentRows
 pub mod Mapped
 mod Changed

@@ -1,17 +1,41 @@
 -- A list whose items became results of a function is the function over the list, and a table whose
 -- rows became such rows is one whose pixels became results.
 use Rattle.std.proofs.Common.{ℕ, suc, ◌≡◌, List, [], ◌∷◌, map, Option, Some, None, option_and_then, slice_get, refl, ap}
-use Rattle.std.proofs.Common.{◌∙◌, arith}
+use Rattle.std.proofs.Common.{◌∙◌, ◌<◌, All, length, arith}
+use Rattle.std.proofs.lemmas.Option.{slice_get_within, get_or_from_slice_get}
+use Rattle.v_frame_raster.proofs.tables.Lists.{slice_get-map}
+use Rattle.v_frame_raster.proofs.tables.ListItems.{slice_get-zip}
 use Rattle.std.specs.List.{zip}
-use Rattle.v_frame.specs.Prelude.{Table}
-use Rattle.v_frame_ops.specs.Change.{MapsPixels, CombinesPixels}
+use Rattle.v_frame.specs.Prelude.{Table, pixel_at}
+use Rattle.v_frame_ops.specs.Change.{combined, MapsPixels, CombinesPixels}
 use Rattle.v_frame_ops.specs.Rows.{MapsItems, CombinesItems}
 
 -- the row that has a pixel
-found_row : {T : Type 0} (x : ℕ) (p : T) (o : Option (List T)) → option_and_then (λ row. slice_get row x) o ≡ Some p
+pub found_row : {T : Type 0} (x : ℕ) (p : T) (o : Option (List T)) → option_and_then (λ row. slice_get row x) o ≡ Some p
     → (row : List T) × (o ≡ Some row) × (slice_get row x ≡ Some p)
 found_row x p None h = absurd (let no : None ≡ Some p = h in cc)
 found_row x p (Some row) h = (row, refl, h)
+
+-- a pixel that is there lies in a row and a column
+pub pixel_within : {T : Type 0} (rows : Table T) (width x y : ℕ) (p : T) → All (λ row. length row ≡ width) rows
+    → pixel_at rows x y ≡ Some p → (x < width) × (y < length rows)
+pixel_within rows width x y p wide h =
+    let row = found_row x p (slice_get rows y) h in
+    let here = slice_get_within row.0 x p row.2 in
+    let long = wide y row.0 (slice_get_within rows y row.0 row.1) in
+    (omega (arith, ap length (get_or_from_slice_get rows y row.0 row.0 row.1)), slice_get_within rows y row.0 row.1)
+
+-- a pixel of two tables combined
+pub combined_pixel : {T : Type 0} (g : T → T → T) (old other : Table T) (x y : ℕ) (p q : T) → pixel_at old x y ≡ Some p
+    → pixel_at other x y ≡ Some q → pixel_at (combined (combined g) old other) x y ≡ Some (g p q)
+combined_pixel g old other x y p q h i =
+    let row = found_row x p (slice_get old y) h in
+    let beside = found_row x q (slice_get other y) i in
+    ap (option_and_then (λ r. slice_get r x))
+    (slice_get-map (λ pair. combined g pair.0 pair.1) (zip old other) y (row.0, beside.0)
+    (slice_get-zip old other y row.0 beside.0 row.1 beside.1))
+    ∙ slice_get-map (λ pair. g pair.0 pair.1) (zip row.0 beside.0) x (p, q)
+    (slice_get-zip row.0 beside.0 x p q row.2 beside.2)
 
 module _ {T : Type 0} (gives : T → T → Type 0) where
   pub maps_whole : (g : T → T) → ((p q : T) → gives p q → q ≡ g p) → (old new : List T) → MapsItems gives old new → new

@@ -84,23 +84,6 @@ module _ {T : Type 0} where
   pixel_is_kept (first ∷ old) x (suc y) row new is same zero = refl
   pixel_is_kept (first ∷ old) x (suc y) row new is same (suc k) = pixel_is_kept old x y row new is same k
 
-  pub same_by_pixel_at : (width : ℕ) (table other : Table T) → length table ≡ length other → All
-      (λ row. length row ≡ width) table →
-      All (λ row. length row ≡ width) other
-      → ((x y : ℕ) → x < width → y < length table → pixel_at table x y ≡ pixel_at other x y) → table ≡ other
-  same_by_pixel_at width [] [] same wide wide1 each = refl
-  same_by_pixel_at width [] (row1 ∷ other) same wide wide1 each = absurd (omega arith)
-  same_by_pixel_at width (row ∷ table) [] same wide wide1 each = absurd (omega arith)
-  same_by_pixel_at width (row ∷ table) (row1 ∷ other) same wide wide1 each =
-      let long = All-head (λ row. length row ≡ width) row table wide in
-      let long1 = All-head (λ row. length row ≡ width) row1 other wide1 in
-      let first = same_by_slice_get row row1 (long ∙ sym long1) (λ x h. each x 0 (omega (arith, long)) (omega arith)) in
-      let wide2 = All-tail (λ row. length row ≡ width) row table wide in
-      let wide3 = All-tail (λ row. length row ≡ width) row1 other wide1 in
-      let others = same_by_pixel_at width table other (omega arith) wide2 wide3
-      (λ x y h k. each x (suc y) h (omega arith)) in
-      cc
-
   -- the rows of one number in two tables
   module _ (table other : Table T) (y : ℕ) (row beside : List T) (is : slice_get table y ≡ Some row)
       (is_beside : slice_get other y ≡ Some beside)

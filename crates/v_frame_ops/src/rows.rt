@@ -6,6 +6,9 @@
 
 mod change;
 mod compare;
+mod compose;
 
 pub use change::{combine_pixels, downscale, fill, map_pixels};
 pub use compare::{first_difference, sum_of_absolute_differences, sum_of_squared_errors};
+pub use compose::{blend, blend_with_mask, difference};
+pub(crate) use compose::{largest_value, pixel_difference};

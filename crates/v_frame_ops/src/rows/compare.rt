@@ -15,13 +15,13 @@ pub fn sum_of_absolute_differences<T: Pixel>(a: &RowsRef<'_, T>, b: &RowsRef<'_,
     requires high { height_of a.now ≡ height_of b.now }
     ensures { result ≡ absolute_differences T.form.value (row_major a.now) (row_major b.now) }
 {
-    sums_add_up::<T>();
-    prove!(a.height() == b.height());
-    let mut sum = 0;
-    for y in 0..a.height() {
-        sum += T::sum_of_absolute_differences(a.visible_row(y), b.visible_row(y));
+    match a.width() {
+        8 => absolute_of_width::<T, 8>(a, b),
+        16 => absolute_of_width::<T, 16>(a, b),
+        32 => absolute_of_width::<T, 32>(a, b),
+        64 => absolute_of_width::<T, 64>(a, b),
+        _ => absolute_of_any_width(a, b),
     }
-    sum
 }
 
 /// Returns the sum of the squares of the differences of the pixels of two pictures, pixel by pixel. It is exact, and never
@@ -31,13 +31,13 @@ pub fn sum_of_squared_errors<T: Pixel>(a: &RowsRef<'_, T>, b: &RowsRef<'_, T>) -
     requires high { height_of a.now ≡ height_of b.now }
     ensures { result ≡ squared_errors T.form.value (row_major a.now) (row_major b.now) }
 {
-    sums_add_up::<T>();
-    prove!(a.height() == b.height());
-    let mut sum = 0;
-    for y in 0..a.height() {
-        sum += T::sum_of_squared_errors(a.visible_row(y), b.visible_row(y));
+    match a.width() {
+        8 => squared_of_width::<T, 8>(a, b),
+        16 => squared_of_width::<T, 16>(a, b),
+        32 => squared_of_width::<T, 32>(a, b),
+        64 => squared_of_width::<T, 64>(a, b),
+        _ => squared_of_any_width(a, b),
     }
-    sum
 }
 
 /// Returns the column and the row of the first pixel, row after row from the top, that differs. `None` exactly where the
@@ -79,4 +79,68 @@ fn are_same<T: Pixel>(p: T, q: T) -> bool
     ensures { IsTrue result ↔ (p ≡ q) }
 {
     p == q
+}
+
+/// Returns the same sum of two pictures of this width. The width of the usual blocks is a constant here, so that a row takes no
+/// test of its length.
+fn absolute_of_width<T: Pixel, const N: usize>(a: &RowsRef<'_, T>, b: &RowsRef<'_, T>) -> u128
+    requires wide { width_of a.now ≡ N }
+    requires same { width_of b.now ≡ N }
+    requires high { height_of a.now ≡ height_of b.now }
+    ensures { result ≡ absolute_differences T.form.value (row_major a.now) (row_major b.now) }
+{
+    sums_add_up::<T>();
+    prove!(a.height() == b.height());
+    let mut sum = 0;
+    for y in 0..a.height() {
+        sum += T::sum_of_absolute_differences(&a.visible_row(y)[..N], &b.visible_row(y)[..N]);
+    }
+    sum
+}
+
+/// Returns the same sum of two pictures of any width.
+fn absolute_of_any_width<T: Pixel>(a: &RowsRef<'_, T>, b: &RowsRef<'_, T>) -> u128
+    requires wide { width_of a.now ≡ width_of b.now }
+    requires high { height_of a.now ≡ height_of b.now }
+    ensures { result ≡ absolute_differences T.form.value (row_major a.now) (row_major b.now) }
+{
+    sums_add_up::<T>();
+    prove!(a.height() == b.height());
+    let mut sum = 0;
+    for y in 0..a.height() {
+        sum += T::sum_of_absolute_differences(a.visible_row(y), b.visible_row(y));
+    }
+    sum
+}
+
+/// Returns the same sum of two pictures of this width. The width of the usual blocks is a constant here, so that a row takes no
+/// test of its length.
+fn squared_of_width<T: Pixel, const N: usize>(a: &RowsRef<'_, T>, b: &RowsRef<'_, T>) -> u128
+    requires wide { width_of a.now ≡ N }
+    requires same { width_of b.now ≡ N }
+    requires high { height_of a.now ≡ height_of b.now }
+    ensures { result ≡ squared_errors T.form.value (row_major a.now) (row_major b.now) }
+{
+    sums_add_up::<T>();
+    prove!(a.height() == b.height());
+    let mut sum = 0;
+    for y in 0..a.height() {
+        sum += T::sum_of_squared_errors(&a.visible_row(y)[..N], &b.visible_row(y)[..N]);
+    }
+    sum
+}
+
+/// Returns the same sum of two pictures of any width.
+fn squared_of_any_width<T: Pixel>(a: &RowsRef<'_, T>, b: &RowsRef<'_, T>) -> u128
+    requires wide { width_of a.now ≡ width_of b.now }
+    requires high { height_of a.now ≡ height_of b.now }
+    ensures { result ≡ squared_errors T.form.value (row_major a.now) (row_major b.now) }
+{
+    sums_add_up::<T>();
+    prove!(a.height() == b.height());
+    let mut sum = 0;
+    for y in 0..a.height() {
+        sum += T::sum_of_squared_errors(a.visible_row(y), b.visible_row(y));
+    }
+    sum
 }

@@ -3,7 +3,7 @@ use Rattle.std.proofs.Common.{◌≡◌, length, sym, ◌∙◌, arith}
 use Rattle.v_frame.specs.Prelude.{Raster, raster, alloc_size_of, table_of}
 use Rattle.v_frame_raster.proofs.tables.Pictures.{length-shown}
 use Rattle.v_frame_raster.proofs.tables.Places.{rows_are_wide}
-use Rattle.v_frame_ops.proofs.Tables.{same_by_pixel_at}
+use Rattle.v_frame_raster.proofs.tables.ListItems.{same_by_pixel_at}
 use Rattle.v_frame_ops.proofs.border.pad_buffer.Goals as goal
 
 pub returns-clause-table : goal.returns-clause-table

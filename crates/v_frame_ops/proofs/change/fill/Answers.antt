@@ -1,5 +1,5 @@
 -- The rows that are filled are those of the plane.
-use Rattle.std.proofs.Common.{◌≡◌, List, replicate, Some, option_and_then, slice_get, ap, ◌∙◌, arith}
+use Rattle.std.proofs.Common.{replicate, option_and_then, slice_get, ap, ◌∙◌}
 use Rattle.v_frame_raster.proofs.tables.Parts.{slice_get-replicate}
 use Rattle.v_frame_ops.proofs.LentRows.{LentRows, rows_fit, rows_shown, border_kept}
 use Rattle.v_frame_ops.proofs.change.fill.Goals as goal

@@ -1,7 +1,4 @@
 -- The rows that are changed are those of the plane.
-use Rattle.std.proofs.Common.{◌≡◌, subst, sym}
-use Rattle.v_frame.specs.Prelude.{Table}
-use Rattle.v_frame_ops.specs.Change.{mapped, MapsPixels}
 use Rattle.v_frame_ops.proofs.LentRows.{LentRows, rows_fit, rows_are, rows_shown, border_kept}
 use Rattle.v_frame_ops.proofs.change.map_pixels.Goals as goal
 

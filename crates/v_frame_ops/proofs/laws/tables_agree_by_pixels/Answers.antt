@@ -1,5 +1,5 @@
 -- Row after row, and in each pixel after pixel.
-use Rattle.v_frame_ops.proofs.Tables.{same_by_pixel_at}
+use Rattle.v_frame_raster.proofs.tables.ListItems.{same_by_pixel_at}
 use Rattle.v_frame_ops.proofs.laws.tables_agree_by_pixels.Goals as goal
 
 pub returns : goal.returns

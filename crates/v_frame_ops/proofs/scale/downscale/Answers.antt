@@ -1,5 +1,5 @@
 -- The rows that are written are those of the plane.
-use Rattle.std.proofs.Common.{◌≡◌, ap, ◌∙◌, slice_get}
+use Rattle.std.proofs.Common.{ap, ◌∙◌, slice_get}
 use Rattle.v_frame_ops.proofs.LentRows.{LentRows, rows_fit, rows_shown, border_kept}
 use Rattle.v_frame_ops.proofs.scale.downscale.Goals as goal
 

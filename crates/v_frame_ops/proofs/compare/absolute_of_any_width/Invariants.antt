@@ -1,7 +1,7 @@
 -- The sum so far and that over the rows that are left are the whole, and no row adds more than its pixels can.
 use Rattle.std.proofs.Common.{◌≡◌, ◌+◌, ◌*◌, ◌^◌, ◌≤◌, drop}
 use Rattle.v_frame.specs.Prelude.{absolute_differences, row_major, table_of}
-use Rattle.v_frame_ops.proofs.compare.sum_of_absolute_differences.Given as goal
+use Rattle.v_frame_ops.proofs.compare.absolute_of_any_width.Given as goal
 
 abbrev pub invariant-loop-y : goal.invariant-loop-y
 invariant-loop-y g l = record {

@@ -1,7 +1,7 @@
 -- The sum so far and that over the rows that are left are the whole, and no row adds more than its pixels can.
 use Rattle.std.proofs.Common.{◌≡◌, ◌+◌, ◌*◌, ◌^◌, ◌≤◌, drop}
 use Rattle.v_frame.specs.Prelude.{squared_errors, row_major, width_of}
-use Rattle.v_frame_ops.proofs.rows.compare.sum_of_squared_errors.Given as goal
+use Rattle.v_frame_ops.proofs.rows.compare.squared_of_width.Given as goal
 
 abbrev pub invariant-loop-y : goal.invariant-loop-y
 invariant-loop-y g l = record {

@@ -1,0 +1,192 @@
+//! Rows of a buffer composed with another picture: blended, evenly or by a mask, or made to show how far the two are apart.
+ghost use Rattle.std.specs.Prelude.{◌≡◌, ◌+◌, ◌-◌, ◌*◌, ◌/◌, ◌^◌, ◌<◌, ◌≤◌, ℕ, length, min, slice_get, Some};
+ghost use Rattle.std.specs.Int.{abs_diff};
+ghost use Rattle.v_frame.specs.Prelude.{height_of, pixel_at, strided_rows, width_of, KeepsRest, RowsFit};
+ghost use Rattle.v_frame_ops.specs.Change.{combined};
+ghost use Rattle.v_frame_ops.specs.Compose.{blended, difference_of, BlendsByMask};
+
+use crate::rows::combine_pixels;
+use v_frame::laws::depths_fit;
+use v_frame::pixel::Pixel;
+use v_frame::plane::RowsRef;
+
+/// Blends `source`, which has the same size, over the rows: of 256 parts of each pixel it has `weight`, and what was there the
+/// rest.
+///
+/// A pixel of value `p` becomes `(p * (256 - weight) + q * weight + 128) / 256`, where `q` is the value of the source's pixel.
+/// So a weight of 0 keeps the rows, and one of 256 copies the source.
+pub fn blend<T: Pixel>(
+    buffer: &mut [T],
+    width: usize,
+    height: usize,
+    stride: usize,
+    source: &RowsRef<'_, T>,
+    weight: u16,
+)
+    requires fit { RowsFit width height stride (length buffer.old) }
+    requires wide { width_of source.now ≡ width }
+    requires high { height_of source.now ≡ height }
+    requires weight { weight ≤ 256 }
+    ensures table { strided_rows width height stride buffer.new
+        ≡ combined (combined (blended T.form 256 weight)) (strided_rows width height stride buffer.old)
+        source.now }
+    ensures rest { KeepsRest width height stride buffer.old buffer.new }
+{
+    combine_pixels(
+        buffer,
+        width,
+        height,
+        stride,
+        source,
+        |p: T, q: T|
+            requires { weight ≤ 256 }
+            ensures { result ≡ blended T.form 256 weight p q }
+        { blend_pixel(p, q, weight) },
+    );
+}
+
+/// Blends `source` over the rows by `mask`, both of the same size: of 255 parts of each pixel the source has as many as the
+/// mask holds there, and what was there the rest.
+///
+/// A pixel of value `p` becomes `(p * (255 - m) + q * m) / 255`, rounded to the nearest value, where `q` is the value of the
+/// source's pixel and `m` that of the mask's. So 0 keeps a pixel, and 255 copies the source's.
+#[tactic(auto, using(v_frame_raster::proofs::tables::StridedWrites::row_ends))]
+pub fn blend_with_mask<T: Pixel>(
+    buffer: &mut [T],
+    width: usize,
+    height: usize,
+    stride: usize,
+    source: &RowsRef<'_, T>,
+    mask: &RowsRef<'_, u8>,
+)
+    requires fit { RowsFit width height stride (length buffer.old) }
+    requires wide { width_of source.now ≡ width }
+    requires high { height_of source.now ≡ height }
+    requires mask_wide { width_of mask.now ≡ width }
+    requires mask_high { height_of mask.now ≡ height }
+    ensures pixels { (x y : ℕ) (p q : T) (weight : ℕ)
+        → pixel_at (strided_rows width height stride buffer.old) x y ≡ Some p
+        → pixel_at source.now x y ≡ Some q → pixel_at mask.now x y ≡ Some weight
+        → pixel_at (strided_rows width height stride buffer.new) x y
+        ≡ Some (blended T.form 255 weight p q) }
+    ensures rest { KeepsRest width height stride buffer.old buffer.new }
+{
+    for y in 0..height {
+        let start = stride * y;
+        blend_row_with_mask(
+            &mut buffer[start..start + width],
+            source.visible_row(y),
+            mask.visible_row(y),
+        );
+    }
+}
+
+/// Makes each pixel of the rows the difference from the pixel of the same column and row of `other`, which has the same size,
+/// times `gain`, and at most the largest value of a bit depth.
+///
+/// A pixel of value `p` becomes `min(|p - q| * gain, 2^depth - 1)`, where `q` is the value of the other's pixel. With a gain of 1
+/// it is what ffmpeg's filter `blend=difference` shows. The depth has to fit the type: at most 8 bits for `u8`, and 16 for `u16`.
+pub fn difference<T: Pixel>(
+    buffer: &mut [T],
+    width: usize,
+    height: usize,
+    stride: usize,
+    other: &RowsRef<'_, T>,
+    gain: u16,
+    depth: u8,
+)
+    requires fit { RowsFit width height stride (length buffer.old) }
+    requires wide { width_of other.now ≡ width }
+    requires high { height_of other.now ≡ height }
+    requires depth { depth ≤ 8 * T.BYTES }
+    ensures table { strided_rows width height stride buffer.new
+        ≡ combined (combined (difference_of T.form gain depth)) (strided_rows width height stride buffer.old)
+        other.now }
+    ensures rest { KeepsRest width height stride buffer.old buffer.new }
+{
+    let largest = largest_value::<T>(depth);
+    combine_pixels(
+        buffer,
+        width,
+        height,
+        stride,
+        other,
+        |p: T, q: T|
+            requires { largest < 256 ^ T.BYTES }
+            ensures { result ≡ T.form.pixel_of (min (abs_diff (T.form.value p) (T.form.value q) * gain) largest) }
+        { pixel_difference(p, q, gain, largest) },
+    );
+}
+
+/// Blends pixels over a row by a mask, both as long as the row.
+fn blend_row_with_mask<T: Pixel>(row: &mut [T], source: &[T], mask: &[u8])
+    requires wide { length source.now ≡ length row.old }
+    requires mask { length mask.now ≡ length row.old }
+    ensures { BlendsByMask T.form row.old source.now mask.now row.new }
+{
+    for x in 0..row.len() {
+        row[x] = blend_pixel_by_mask(row[x], source[x], mask[x]);
+    }
+}
+
+/// Returns the mean of two pixels, of which the second has `weight` of 256 parts.
+#[inline(always)]
+pub(crate) fn blend_pixel<T: Pixel>(p: T, q: T, weight: u16) -> T
+    requires { weight ≤ 256 }
+    ensures { result ≡ blended T.form 256 weight p q }
+{
+    let (p, q) = (p.into_u16(), q.into_u16());
+    if T::BYTES == 1 {
+        // Sums of bytes fit 16 bits, so that twice as many are made at once.
+        return T::from_value((p * (256 - weight) + q * weight + 128) / 256);
+    }
+    let sum = u32::from(p) * u32::from(256 - weight) + u32::from(q) * u32::from(weight);
+    T::from_value(((sum + 128) / 256) as u16)
+}
+
+/// Returns the mean of two pixels, of which the second has `weight` of 255 parts.
+#[inline(always)]
+pub(crate) fn blend_pixel_by_mask<T: Pixel>(p: T, q: T, weight: u8) -> T
+    ensures { result ≡ blended T.form 255 weight p q }
+{
+    let (p, q, weight) = (p.into_u16(), q.into_u16(), u16::from(weight));
+    if T::BYTES == 1 {
+        return T::from_value((p * (255 - weight) + q * weight + 127) / 255);
+    }
+    let sum = u32::from(p) * u32::from(255 - weight) + u32::from(q) * u32::from(weight);
+    T::from_value(quotient_by_255(sum + 127) as u16)
+}
+
+/// Returns a number below 65,535 times 256 divided by 255, by shifts: of a division the compiler would make long products.
+#[inline(always)]
+fn quotient_by_255(number: u32) -> u32
+    requires { number < 65535 * 256 }
+    ensures { result ≡ number / 255 }
+{
+    let next = number + 1;
+    (next + (next + next / 256) / 256) / 256
+}
+
+/// Returns the largest value of a bit depth.
+pub(crate) fn largest_value<T: Pixel>(depth: u8) -> u16
+    requires { depth ≤ 8 * T.BYTES }
+    ensures value { result ≡ 2 ^ depth - 1 }
+    ensures fits { result < 256 ^ T.BYTES }
+{
+    depths_fit::<T>();
+    ((1u32 << depth) - 1) as u16
+}
+
+/// Returns how far two pixels are apart, times `gain`, and at most `largest`.
+#[inline(always)]
+pub(crate) fn pixel_difference<T: Pixel>(p: T, q: T, gain: u16, largest: u16) -> T
+    requires { largest < 256 ^ T.BYTES }
+    ensures { result ≡ T.form.pixel_of (min (abs_diff (T.form.value p) (T.form.value q) * gain) largest) }
+{
+    let apart = p.into_u16().abs_diff(q.into_u16());
+    if T::BYTES == 1 {
+        // A gain of 255 is as much as any larger one, and its products fit 16 bits.
+        return T::from_value((apart * gain.min(255)).min(largest));
+    }
+    T::from_value((u32::from(apart) * u32::from(gain)).min(u32::from(largest)) as u16)
+}
