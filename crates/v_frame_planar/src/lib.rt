@@ -22,6 +22,6 @@ mod writing;
 
 pub use counted::{Counted, WriteFault};
 pub use error::PlanarError;
-pub use reading::{planar_len, read_frame};
+pub use reading::{planar_len, read_frame, read_until_full};
 pub use video::{ratios_or_one, video_frame};
 pub use writing::write_frame;

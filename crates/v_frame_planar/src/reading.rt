@@ -121,7 +121,12 @@ pub(crate) fn chroma_len<T: Pixel>(plane: &Option<Plane<T>>) -> usize
 }
 
 /// Fills a buffer from a reader, and returns how much of it was filled before the reader came to its end.
-fn read_until_full<R: io::Read>(
+///
+/// # Errors
+///
+/// [`PlanarError::Read`] where a read failed, an interrupted one too, which is not tried again; [`Counted::last_failure`] says
+/// why.
+pub fn read_until_full<R: io::Read>(
     reader: &mut Counted<R>,
     buf: &mut [u8],
 ) -> Result<usize, PlanarError>

@@ -1,0 +1,30 @@
+-- Where in a picture a block is found: the first position, row after row from the top, at which the
+-- sum of absolute differences is least.
+use Rattle.std.specs.Prelude.{ℕ, ◌≡◌, ◌+◌, ◌<◌, ◌≤◌}
+use Rattle.v_frame.specs.Prelude.{Table, absolute_differences, height_of, rectangle, row_major}
+use Rattle.v_frame.specs.Prelude.{width_of}
+use Rattle.example_conversions.specs.declared.motion_search.SearchArea.{SearchArea}
+use Rattle.example_conversions.specs.declared.motion_search.BlockMatch.{BlockMatch}
+
+-- how far a block is from the pixels of a picture from column x of row y on
+unfoldable pub cost_at : {T : Type 0} → (T → ℕ) → Table T → Table T → ℕ → ℕ → ℕ
+cost_at value picture block x y =
+    absolute_differences value
+    (row_major (rectangle x y (width_of block) (height_of block) picture)) (row_major block)
+
+-- a position is one of an area
+pub record IsPosition (area : SearchArea) (x y : ℕ) : Type 0 where
+  pub left : area.x ≤ x
+  pub right : x < area.x + area.columns
+  pub top : area.y ≤ y
+  pub bottom : y < area.y + area.rows
+
+-- a match is at one of these positions, at no other is the cost less, and at each one above it, or
+-- before it in its row, the cost is greater
+pub record IsFirstLeast (cost_of : ℕ → ℕ → ℕ) (area : SearchArea) (found : BlockMatch)
+    : Type 0 where
+  pub position : IsPosition area found.x found.y
+  pub cost : found.cost ≡ cost_of found.x found.y
+  pub least : (x y : ℕ) → IsPosition area x y → found.cost ≤ cost_of x y
+  pub above : (x y : ℕ) → IsPosition area x y → y < found.y → found.cost < cost_of x y
+  pub before : (x : ℕ) → IsPosition area x found.y → x < found.x → found.cost < cost_of x found.y

@@ -1,0 +1,11 @@
+//! What users write over the crates that convert pictures: small functions with exact contracts, most without a proof file.
+#![tactic(auto)]
+
+pub mod colours;
+pub mod composition;
+pub mod convert;
+pub mod motion_search;
+pub mod semi_planar;
+pub mod sizes;
+pub mod statistics;
+pub mod turns;

@@ -1,0 +1,101 @@
+//! What users ask of pictures: how many pixels changed, how bright one is, and what SSIM needs of a block.
+ghost use Rattle.std.specs.Prelude.{◌≡◌, ◌/◌, IfOk, count_by, length, nat_eq, nat_lt, not};
+ghost use Rattle.v_frame.specs.Prelude.{IsInside, rectangle, row_major, table_of};
+ghost use Rattle.v_frame_statistics.specs.Prelude.{ArePairSums, IsGreatest, IsLeast, occurrences, passing_pairs, sum_of_values};
+
+use std::alloc::{AllocError, Global};
+use v_frame::pixel::Pixel;
+use v_frame::plane::{PlaneRef, RowsRef};
+use v_frame_statistics::rows::{self, PairSums};
+use v_frame_statistics::{
+    count_pairs, count_pixels, histogram, histogram_of_depth, maximum, mean, minimum, pair_sums,
+};
+
+/// Returns how many pixels of two planes of one size are not the same.
+pub fn changed_pixels(a: &PlaneRef<'_, u8>, b: &PlaneRef<'_, u8>) -> usize
+    requires wide { a.now.geometry.width ≡ b.now.geometry.width }
+    requires high { a.now.geometry.height ≡ b.now.geometry.height }
+    ensures { result ≡ passing_pairs (λ p q. not (nat_eq p q)) (row_major (table_of a.now))
+        (row_major (table_of b.now)) }
+{
+    count_pairs(a, b, |p, q| p != q)
+}
+
+/// Returns how many pixels are darker than in another plane of one size.
+pub fn darker_pixels(a: &PlaneRef<'_, u16>, b: &PlaneRef<'_, u16>) -> usize
+    requires wide { a.now.geometry.width ≡ b.now.geometry.width }
+    requires high { a.now.geometry.height ≡ b.now.geometry.height }
+    ensures { result ≡ passing_pairs nat_lt (row_major (table_of a.now))
+        (row_major (table_of b.now)) }
+{
+    count_pairs(a, b, |p, q| p < q)
+}
+
+/// Returns how many pixels are brighter than a limit.
+pub fn bright_pixels(plane: &PlaneRef<'_, u16>, limit: u16) -> usize
+    ensures { result ≡ count_by (λ p. nat_lt limit p) (row_major (table_of plane.now)) }
+{
+    count_pixels(plane, |p| p > limit)
+}
+
+/// The same of rows that are kept elsewhere.
+pub fn bright_pixels_of_rows(rows: &RowsRef<'_, u8>, limit: u8) -> usize
+    ensures { result ≡ count_by (λ p. nat_lt limit p) (row_major rows.now) }
+{
+    rows::count_pixels(rows, |p| p > limit)
+}
+
+/// Returns how many pixels of a plane have a value.
+pub fn pixels_of_value(plane: &PlaneRef<'_, u8>, value: u8) -> u64
+    ensures { result ≡ occurrences value (row_major (table_of plane.now)) }
+{
+    histogram(plane)[usize::from(value)]
+}
+
+/// Returns how many pixels of a plane of 10 bits are white: 940.
+///
+/// # Errors
+///
+/// [`AllocError`] where a request for memory was refused.
+pub fn white_pixels(alloc: Global, plane: &PlaneRef<'_, u16>) -> Result<u64, AllocError>
+    ensures { IfOk result (λ count. count ≡ occurrences 940 (row_major (table_of plane.now))) }
+{
+    let table = histogram_of_depth(alloc, plane, 10)?;
+    Ok(table[940])
+}
+
+/// Returns the least and the greatest pixel.
+pub fn range_of<T: Pixel>(plane: &PlaneRef<'_, T>) -> (T, T)
+    ensures least { IsLeast T.form.value (row_major (table_of plane.now)) result.0 }
+    ensures greatest { IsGreatest T.form.value (row_major (table_of plane.now)) result.1 }
+{
+    (minimum(plane), maximum(plane))
+}
+
+/// Returns the mean of a plane, rounded down.
+pub fn brightness<T: Pixel>(plane: &PlaneRef<'_, T>) -> u128
+    ensures { let pixels = row_major (table_of plane.now) in
+        result ≡ sum_of_values T.form.value pixels / length pixels }
+{
+    let parts = mean(plane);
+    parts.sum / parts.count as u128
+}
+
+/// Returns the sums that SSIM needs of a block of two planes, where the block lies inside both.
+pub fn sums_of_block<T: Pixel>(
+    a: &PlaneRef<'_, T>,
+    b: &PlaneRef<'_, T>,
+    x: usize,
+    y: usize,
+    width: usize,
+    height: usize,
+) -> PairSums
+    requires first { IsInside a.now.geometry x y width height }
+    requires second { IsInside b.now.geometry x y width height }
+    ensures { ArePairSums T.form.value (row_major (rectangle x y width height (table_of a.now)))
+        (row_major (rectangle x y width height (table_of b.now))) result }
+{
+    let first = a.visible_region(x, y, width, height);
+    let second = b.visible_region(x, y, width, height);
+    pair_sums(&first, &second)
+}

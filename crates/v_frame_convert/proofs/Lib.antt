@@ -1,0 +1,7 @@
+pub mod Repeated
+pub mod Depths
+pub mod Halves
+pub mod Made
+pub mod Ranges
+pub mod Scaled
+pub mod ScaledTables

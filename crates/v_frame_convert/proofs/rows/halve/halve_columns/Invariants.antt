@@ -1,0 +1,10 @@
+-- The rows so far are those of the table, and all else is as it was.
+use Rattle.v_frame_raster.proofs.tables.StridedWrites.{WrittenBelow}
+use Rattle.v_frame_convert.specs.Scale.{scaled}
+use Rattle.v_frame_convert.specs.declared.scale.Scale.TheVariants.{Half, Same}
+use Rattle.v_frame_convert.proofs.rows.halve.halve_columns.Given as goal
+
+abbrev pub invariant-loop-y : goal.invariant-loop-y
+invariant-loop-y g l =
+    WrittenBelow l.width l.height l.stride
+    (scaled g.T.Pixel.form g.T.Pixel.form.pixel_of Half Same l.width l.height l.source) l.initial.buffer l.buffer l.y

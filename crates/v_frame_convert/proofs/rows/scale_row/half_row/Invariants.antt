@@ -1,0 +1,12 @@
+-- The pixels so far are means.
+use Rattle.v_frame_convert.specs.ScaledRows.{HoldsMeans}
+use Rattle.v_frame_convert.specs.declared.scale.Scale.TheVariants.{Half}
+use Rattle.v_frame_convert.proofs.rows.scale_row.half_row.Given as goal
+
+abbrev pub invariant-loop-x : goal.invariant-loop-x
+invariant-loop-x g l =
+    HoldsMeans g.S.Pixel.form g.T.Pixel.form l.change.from l.change.to Half l.top l.bottom l.x l.row
+
+abbrev pub invariant-loop-x-2 : goal.invariant-loop-x-2
+invariant-loop-x-2 g l =
+    HoldsMeans g.S.Pixel.form g.T.Pixel.form l.change.from l.change.to Half l.top l.bottom l.x l.row

@@ -1,0 +1,10 @@
+pub mod Chroma
+pub mod Convert
+pub mod Depth
+pub mod Frame
+pub mod Prelude
+pub mod Range
+pub mod Rows
+pub mod Scale
+pub mod ScaledRows
+pub mod WorkedConversions

@@ -1,0 +1,32 @@
+//! Planes whose pixels are made of those of another plane, which may have pixels of another type.
+ghost use Rattle.std.specs.Prelude.{◌≡◌, ℕ, List};
+ghost use Rattle.v_frame.specs.Prelude.{KeepsBorder, table_of};
+ghost use Rattle.v_frame_convert.specs.Convert.{converted, GivesPixels};
+
+use crate::rows;
+use v_frame::pixel::Pixel;
+use v_frame::plane::{Plane, PlaneRef};
+
+/// Makes each visible pixel of `target` a result of `change` at the pixel of the same column and row of `source`, which has the
+/// same size. The border of the target stays.
+///
+/// `change` has to accept any pixel. With a shift, a comparison or the like the compiler makes packed code of it.
+pub fn map_into<S: Pixel, T: Pixel, F: Fn(S) -> T>(
+    source: &PlaneRef<'_, S>,
+    target: &mut Plane<T>,
+    change: F,
+)
+    requires callable { F.IsAlwaysCallable change }
+    requires wide { source.now.geometry.width ≡ target.old.geometry.width }
+    requires high { source.now.geometry.height ≡ target.old.geometry.height }
+    ensures pixels { GivesPixels (F.post change) (table_of source.now) (table_of target.new) }
+    ensures converted { (g : S → T) → ((p : S) (q : T) → F.post change p q → q ≡ g p)
+        → table_of target.new ≡ converted (converted g) (table_of source.now) }
+    ensures border { KeepsBorder target.old target.new }
+{
+    let geometry = target.geometry();
+    let (_, visible) = target.data_mut().split_at_mut(geometry.data_origin());
+    let source = source.as_rows_ref();
+    let (width, height) = (geometry.width(), geometry.height());
+    rows::map_into(&source, visible, width, height, geometry.stride(), change);
+}

@@ -1,0 +1,104 @@
+//! Rows in another size, as chroma has beside luma.
+ghost use Rattle.std.specs.Prelude.{◌≡◌, ◌+◌, ◌-◌, ◌*◌, ◌/◌, ◌<◌, ◌≤◌, ℕ, length, slice_get};
+ghost use Rattle.v_frame.specs.Prelude.{height_of, pixel_at, strided_rows, width_of, KeepsRest, RowsFit};
+ghost use Rattle.v_frame_convert.specs.Chroma.{upscaled, IsSubsampledSize};
+
+use v_frame::plane::RowsRef;
+
+/// Makes the rows show what `source` shows, with each pixel `ratio_x` times across and `ratio_y` times down: the pixel of
+/// column `x` in row `y` is that of column `x / ratio_x` in row `y / ratio_y`.
+///
+/// The source has a pixel for each block that is begun, as [`subsampled_size`](crate::subsampled_size) counts them: where the
+/// ratio doesn't divide a size, the last column or row is repeated fewer times. Ratios of 1, 2 and 4 are the fast ones.
+#[tactic(auto, using(v_frame_raster::proofs::tables::StridedWrites::row_ends))]
+pub fn upscale<T: Copy>(
+    source: &RowsRef<'_, T>,
+    buffer: &mut [T],
+    width: usize,
+    height: usize,
+    stride: usize,
+    ratio_x: usize,
+    ratio_y: usize,
+)
+    requires fit { RowsFit width height stride (length buffer.old) }
+    requires wide { IsSubsampledSize width ratio_x (width_of source.now) }
+    requires high { IsSubsampledSize height ratio_y (height_of source.now) }
+    ensures table { strided_rows width height stride buffer.new
+        ≡ upscaled ratio_x ratio_y width height source.now }
+    ensures pixels { (x y : ℕ) → x < width → y < height
+        → pixel_at (strided_rows width height stride buffer.new) x y
+        ≡ pixel_at source.now (x / ratio_x) (y / ratio_y) }
+    ensures rest { KeepsRest width height stride buffer.old buffer.new }
+{
+    for y in 0..height {
+        let start = stride * y;
+        repeat_across(
+            source.visible_row(y / ratio_y),
+            &mut buffer[start..start + width],
+            ratio_x,
+        );
+    }
+}
+
+/// Writes each pixel of one row `ratio` times into another.
+fn repeat_across<T: Copy>(source: &[T], row: &mut [T], ratio: usize)
+    requires { IsSubsampledSize (length row.old) ratio (length source.now) }
+    ensures { (k : ℕ) → k < length row.new
+        → slice_get row.new k ≡ slice_get source.now (k / ratio) }
+{
+    match ratio {
+        1 => row.copy_from_slice(source),
+        2 => repeat_twice(source, row),
+        4 => repeat_four_times(source, row),
+        _ => repeat_pixels(source, row, ratio),
+    }
+}
+
+/// The same for any ratio.
+fn repeat_pixels<T: Copy>(source: &[T], row: &mut [T], ratio: usize)
+    requires { IsSubsampledSize (length row.old) ratio (length source.now) }
+    ensures { (k : ℕ) → k < length row.new
+        → slice_get row.new k ≡ slice_get source.now (k / ratio) }
+{
+    for x in 0..row.len() {
+        row[x] = source[x / ratio];
+    }
+}
+
+/// Writes each pixel of one row twice into another.
+fn repeat_twice<T: Copy>(source: &[T], row: &mut [T])
+    requires { length source.now ≡ (length row.old + 1) / 2 }
+    ensures { (k : ℕ) → k < length row.new
+        → slice_get row.new k ≡ slice_get source.now (k / 2) }
+{
+    let pairs = row.len() / 2;
+    for i in 0..pairs {
+        let pixel = source[i];
+        row[2 * i] = pixel;
+        row[2 * i + 1] = pixel;
+    }
+    // The last column of an odd width.
+    for x in 2 * pairs..row.len() {
+        row[x] = source[pairs];
+    }
+}
+
+/// Writes each pixel of one row four times into another.
+fn repeat_four_times<T: Copy>(source: &[T], row: &mut [T])
+    requires { length source.now ≡ (length row.old + 3) / 4 }
+    ensures { (k : ℕ) → k < length row.new
+        → slice_get row.new k ≡ slice_get source.now (k / 4) }
+{
+    let groups = row.len() / 4;
+    for i in 0..groups {
+        let pixel = source[i];
+        row[4 * i] = pixel;
+        row[4 * i + 1] = pixel;
+        row[4 * i + 2] = pixel;
+        row[4 * i + 3] = pixel;
+    }
+    // The last columns of a width that doesn't divide by four.
+    for x in 4 * groups..row.len() {
+        row[x] = source[groups];
+    }
+}

@@ -1,0 +1,49 @@
+//! Rows in another bit depth.
+ghost use Rattle.std.specs.Prelude.{◌≡◌, ◌^◌, ◌≤◌, length};
+ghost use Rattle.v_frame.specs.Prelude.{height_of, strided_rows, width_of, KeepsRest, RowsFit};
+ghost use Rattle.v_frame_convert.specs.Convert.{converted};
+ghost use Rattle.v_frame_convert.specs.Depth.{at_depth, pixel_at_depth, DepthFits};
+
+use super::map_into;
+use crate::depth_change::DepthChange;
+use v_frame::pixel::Pixel;
+use v_frame::plane::RowsRef;
+
+/// Makes the rows show what `source` shows, with its values of bit depth `from` in bit depth `to`.
+///
+/// To a greater depth a value is shifted, so 255 of 8 bits becomes 1020 of 10. To a smaller depth it is rounded to the nearest
+/// value, upwards at a half, and at most to the largest one. A value above the largest of depth `from` counts as that one.
+///
+/// Each depth has to fit its type of pixels: ask [`depth_fits`](crate::depth_fits).
+pub fn convert_depth<S: Pixel, T: Pixel>(
+    source: &RowsRef<'_, S>,
+    buffer: &mut [T],
+    width: usize,
+    height: usize,
+    stride: usize,
+    from: u8,
+    to: u8,
+)
+    requires fit { RowsFit width height stride (length buffer.old) }
+    requires wide { width_of source.now ≡ width }
+    requires high { height_of source.now ≡ height }
+    requires from { DepthFits S.BYTES from }
+    requires to { DepthFits T.BYTES to }
+    ensures table { strided_rows width height stride buffer.new
+        ≡ converted (converted (pixel_at_depth S.form T.form from to)) source.now }
+    ensures rest { KeepsRest width height stride buffer.old buffer.new }
+{
+    let change = DepthChange::new(from, to);
+    map_into(
+        source,
+        buffer,
+        width,
+        height,
+        stride,
+        |p: S|
+            requires { 2 ^ change.to ≤ 256 ^ T.BYTES }
+            ensures { result
+                ≡ T.form.pixel_of (at_depth change.from change.to (S.form.value p)) }
+        { T::from_value(change.apply(p.into_u16())) },
+    );
+}

@@ -1,0 +1,89 @@
+//! Rows in half the size, whatever their sizes are.
+ghost use Rattle.std.specs.Prelude.{◌≡◌, ◌+◌, ◌*◌, ◌/◌, ◌^◌, ◌<◌, ◌≤◌, ℕ, Some, length, slice_get};
+ghost use Rattle.v_frame.specs.Prelude.{height_of, strided_rows, width_of, KeepsRest, RowsFit};
+ghost use Rattle.v_frame_convert.specs.Scale.{nearest_value, scaled, SizesFit};
+ghost use Rattle.v_frame_convert.specs.ScaledRows.{mean_in_two_rows};
+ghost use Rattle.v_frame_convert.specs.declared.scale.Scale.TheVariants.{Half, Same};
+
+use v_frame::pixel::Pixel;
+use v_frame::plane::RowsRef;
+
+/// Makes the rows show what `source` shows, in half the size, rounded up: each pixel is the mean of a block of two by two,
+/// rounded to the nearest value and upwards at a half. At an odd width the last column counts twice, and at an odd height the
+/// last row.
+///
+/// It is [`resize`](super::resize) by two halves at one depth, and faster.
+#[tactic(auto, using(v_frame_raster::proofs::tables::StridedWrites::row_ends))]
+pub fn downscale_to_edge<T: Pixel>(
+    source: &RowsRef<'_, T>,
+    buffer: &mut [T],
+    width: usize,
+    height: usize,
+    stride: usize,
+)
+    requires fit { RowsFit width height stride (length buffer.old) }
+    requires wide { width ≡ (width_of source.now + 1) / 2 }
+    requires high { height ≡ (height_of source.now + 1) / 2 }
+    ensures table { strided_rows width height stride buffer.new
+        ≡ scaled T.form T.form.pixel_of Half Half width height source.now }
+    ensures rest { KeepsRest width height stride buffer.old buffer.new }
+{
+    let last = source.height() - 1;
+    for y in 0..height {
+        let top = source.visible_row(2 * y);
+        let bottom = source.visible_row((2 * y + 1).min(last));
+        let start = stride * y;
+        halve_to_edge(top, bottom, &mut buffer[start..start + width]);
+    }
+}
+
+/// Makes the rows show what `source` shows, with half as many columns, rounded up: each pixel is the mean of two, rounded
+/// upwards at a half. At an odd width the last column is by itself.
+///
+/// It is [`resize`](super::resize) by a half of the columns at one depth, and faster.
+#[tactic(auto, using(v_frame_raster::proofs::tables::StridedWrites::row_ends))]
+pub fn halve_columns<T: Pixel>(
+    source: &RowsRef<'_, T>,
+    buffer: &mut [T],
+    width: usize,
+    height: usize,
+    stride: usize,
+)
+    requires fit { RowsFit width height stride (length buffer.old) }
+    requires wide { width ≡ (width_of source.now + 1) / 2 }
+    requires high { height ≡ height_of source.now }
+    ensures table { strided_rows width height stride buffer.new
+        ≡ scaled T.form T.form.pixel_of Half Same width height source.now }
+    ensures rest { KeepsRest width height stride buffer.old buffer.new }
+{
+    for y in 0..height {
+        let row = source.visible_row(y);
+        let start = stride * y;
+        halve_to_edge(row, row, &mut buffer[start..start + width]);
+    }
+}
+
+/// Halves two rows of one length into one, rounded up.
+fn halve_to_edge<T: Pixel>(top: &[T], bottom: &[T], row: &mut [T])
+    requires top { length row.old ≡ (length top.now + 1) / 2 }
+    requires bottom { length bottom.now ≡ length top.now }
+    ensures { (x : ℕ) → x < length row.new → slice_get row.new x
+        ≡ Some (T.form.pixel_of (mean_in_two_rows T.form Half top.now bottom.now x)) }
+{
+    let pairs = top.len() / 2;
+    let (upper, upper_last) = top.split_at(2 * pairs);
+    let (lower, lower_last) = bottom.split_at(2 * pairs);
+    let (front, last) = row.split_at_mut(pairs);
+    T::halve_rows(front, upper, lower);
+    if last.len() == 1 {
+        last[0] = mean_of_two(upper_last[0], lower_last[0]);
+    }
+}
+
+/// Returns the mean of two pixels, rounded upwards at a half.
+fn mean_of_two<T: Pixel>(a: T, b: T) -> T
+    ensures { result ≡ T.form.pixel_of ((T.form.value a + T.form.value b + 1) / 2) }
+{
+    let sum = u32::from(a.into_u16()) + u32::from(b.into_u16());
+    T::from_value(((sum + 1) / 2) as u16)
+}

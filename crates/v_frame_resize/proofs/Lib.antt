@@ -1,0 +1,4 @@
+pub mod CenterLemmas
+pub mod PixelsWritten
+pub mod Sums
+pub mod Weights

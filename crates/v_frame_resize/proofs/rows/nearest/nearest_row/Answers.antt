@@ -1,0 +1,25 @@
+-- The pixel at the center is written.
+use Rattle.std.proofs.Common.{◌≡◌, length, Some, slice_get, slice_set, refl, sym, ◌∙◌, arith}
+use Rattle.std.proofs.lemmas.Option.{slice_get_read}
+use Rattle.v_frame_raster.proofs.tables.Lists.{others_are_read, set_is_read}
+use Rattle.v_frame_resize.specs.Resize.{nearest}
+use Rattle.v_frame_resize.proofs.CenterLemmas.{nearest_is, center_inside}
+use Rattle.v_frame_resize.proofs.rows.nearest.nearest_row.Goals as goal
+use borrow.Author.Count.{below_more}
+
+pub loop-x-preserved : goal.loop-x-preserved
+loop-x-preserved g c =
+    let row = c.args.row.now in let out = c.loop-x.out in let x = c.loop-x.x in let item = c.index-row-center.result in
+    let source = length row in let target = length c.args.out.now in
+    let center = c.loop-x.invariant.center in
+    let inside = center_inside source target x c.loop-x.center center c.requires.row_some c.loop-x-test.true in
+    let read : slice_get row c.loop-x.center.index ≡ Some item =
+    slice_get_read row source c.loop-x.center.index item refl inside c.index-row-center.is in
+    let found : slice_get row (nearest source target x) ≡ Some item =
+    rw (nearest_is source target x c.loop-x.center center) read in record {
+      center = c.next_center-center.ensures source target x center;
+      pixels =
+          below_more (λ k. slice_get (slice_set out x item) k ≡ slice_get row (nearest source target k)) x
+          (λ k h. others_are_read out x k item (λ e. absurd (omega (arith, e))) ∙ c.loop-x.invariant.pixels k h)
+          (set_is_read out x item (omega arith) ∙ sym found);
+    }

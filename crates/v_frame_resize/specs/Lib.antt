@@ -1,0 +1,5 @@
+pub mod Centers
+pub mod Prelude
+pub mod Resize
+pub mod Spans
+pub mod WorkedSizes

@@ -1,0 +1,56 @@
+//! Resizing by the nearest pixel.
+ghost use Rattle.std.specs.Prelude.{◌≡◌, ◌^◌, ◌<◌, ℕ, length, slice_get};
+ghost use Rattle.v_frame.specs.Prelude.{pixel_at, strided_rows, width_of, height_of, KeepsRest, RowsFit};
+ghost use Rattle.v_frame_resize.specs.Resize.{nearest};
+
+use crate::center::{first_center, next_center};
+use v_frame::plane::RowsRef;
+
+/// Makes the rows show what `source` shows, in their size: each pixel is the one of the source that holds its center.
+///
+/// Where the center is between two pixels, it is the one to the right, or below.
+#[tactic(auto, using(v_frame_raster::proofs::tables::StridedWrites::row_ends))]
+pub fn resize_nearest<T: Copy>(
+    source: &RowsRef<'_, T>,
+    buffer: &mut [T],
+    width: usize,
+    height: usize,
+    stride: usize,
+)
+    requires fit { RowsFit width height stride (length buffer.old) }
+    requires wide { width < 2 ^ 62 }
+    requires high { height < 2 ^ 62 }
+    requires source_wide { width_of source.now < 2 ^ 62 }
+    requires source_high { height_of source.now < 2 ^ 62 }
+    ensures pixels { (x y : ℕ) → x < width → y < height
+        → pixel_at (strided_rows width height stride buffer.new) x y ≡ pixel_at source.now
+        (nearest (width_of source.now) width x) (nearest (height_of source.now) height y) }
+    ensures rest { KeepsRest width height stride buffer.old buffer.new }
+{
+    let _width = source.width();
+    let mut center = first_center(source.height(), height);
+    for y in 0..height {
+        let start = stride * y;
+        nearest_row(
+            &mut buffer[start..start + width],
+            source.visible_row(center.index),
+        );
+        center = next_center(center);
+    }
+}
+
+/// Makes each pixel of a row the one of another row that holds its center.
+fn nearest_row<T: Copy>(out: &mut [T], row: &[T])
+    requires some { 0 < length out.old }
+    requires row_some { 0 < length row.now }
+    requires wide { length out.old < 2 ^ 62 }
+    requires row_wide { length row.now < 2 ^ 62 }
+    ensures { (x : ℕ) → x < length out.old
+        → slice_get out.new x ≡ slice_get row.now (nearest (length row.now) (length out.old) x) }
+{
+    let mut center = first_center(row.len(), out.len());
+    for x in 0..out.len() {
+        out[x] = row[center.index];
+        center = next_center(center);
+    }
+}

@@ -1,0 +1,133 @@
+-- What colour a sample of luma and two of chroma make, and what samples a colour makes, by whole
+-- coefficients.
+use Rattle.std.specs.Prelude.{ℕ, ◌+◌, ◌-◌, ◌*◌, ◌/◌, List, [], ◌∷◌, flat_map, map, min}
+use Rattle.v_frame_raster.specs.Table.{Table, cut_rows}
+use Rattle.v_frame_rgb.specs.Standards.{Levels, Fraction, ColourSteps, SampleSteps}
+use Rattle.v_frame_rgb.specs.Standards.{weights_of, levels_of, colour_steps, sample_steps, nearest}
+use Rattle.v_frame_rgb.specs.Standards.{gray}
+use Rattle.v_frame_rgb.specs.declared.standard.Standard.{Standard}
+use Rattle.v_frame_rgb.specs.declared.standard.ColourRange.{ColourRange}
+use Rattle.v_frame_rgb.specs.declared.colour.Colour.{Colour}
+use Rattle.v_frame_rgb.specs.declared.matrix.RgbMatrix.{RgbMatrix}
+use Rattle.v_frame_rgb.specs.declared.matrix.YuvMatrix.{YuvMatrix}
+
+-- the whole number nearest to (bright - dark) / scale, as a sample: 0 where it is below 0, and 255
+-- where it is above
+abbrev pub sample_of : ℕ → ℕ → ℕ → ℕ
+sample_of scale bright dark = min ((bright + scale / 2 - dark) / scale) 255
+
+-- coefficients towards colours are counted in parts of 2 ^ 14, and towards samples in parts of
+-- 2 ^ 16: so each fits 16 bits
+abbrev pub colour_scale : ℕ
+colour_scale = 16384
+
+abbrev pub sample_scale : ℕ
+sample_scale = 65536
+
+-- the coefficients of a standard
+abbrev pub rgb_matrix_of : Standard → ColourRange → RgbMatrix
+rgb_matrix_of standard range =
+    let levels : Levels = levels_of range in
+    let steps : ColourSteps = colour_steps (weights_of standard) levels in
+    let whole : Fraction → ℕ = nearest colour_scale in record {
+      black = levels.black;
+      luma = whole steps.luma;
+      red_v = whole steps.red_v;
+      green_u = whole steps.green_u;
+      green_v = whole steps.green_v;
+      blue_u = whole steps.blue_u;
+    }
+
+abbrev pub yuv_matrix_of : Standard → ColourRange → YuvMatrix
+yuv_matrix_of standard range =
+    let levels : Levels = levels_of range in
+    let steps : SampleSteps = sample_steps (weights_of standard) levels in
+    let whole : Fraction → ℕ = nearest sample_scale in record {
+      black = levels.black;
+      y_red = whole steps.y_red;
+      y_green = whole steps.y_green;
+      y_blue = whole steps.y_blue;
+      u_red = whole steps.u_red;
+      u_green = whole steps.u_green;
+      u_blue = whole steps.u_blue;
+      v_red = whole steps.v_red;
+      v_green = whole steps.v_green;
+      v_blue = whole steps.v_blue;
+    }
+
+-- what is added and what is taken away for each channel of a colour. A sample of luma counts from
+-- black, and one of chroma from gray
+module _ (m : RgbMatrix) (y u v : ℕ) where
+  abbrev pub red_bright : ℕ
+  red_bright = m.luma * y + m.red_v * v
+
+  abbrev pub red_dark : ℕ
+  red_dark = m.luma * m.black + m.red_v * gray
+
+  abbrev pub green_bright : ℕ
+  green_bright = m.luma * y + (m.green_u * gray + m.green_v * gray)
+
+  abbrev pub green_dark : ℕ
+  green_dark = m.luma * m.black + (m.green_u * u + m.green_v * v)
+
+  abbrev pub blue_bright : ℕ
+  blue_bright = m.luma * y + m.blue_u * u
+
+  abbrev pub blue_dark : ℕ
+  blue_dark = m.luma * m.black + m.blue_u * gray
+
+  abbrev pub colour_of : Colour
+  colour_of = record {
+    red = sample_of colour_scale red_bright red_dark;
+    green = sample_of colour_scale green_bright green_dark;
+    blue = sample_of colour_scale blue_bright blue_dark;
+  }
+
+-- the samples of a colour
+module _ (m : YuvMatrix) (colour : Colour) where
+  abbrev pub y_bright : ℕ
+  y_bright =
+      m.black * sample_scale
+      + (m.y_red * colour.red + m.y_green * colour.green + m.y_blue * colour.blue)
+
+  abbrev pub u_bright : ℕ
+  u_bright = gray * sample_scale + m.u_blue * colour.blue
+
+  abbrev pub u_dark : ℕ
+  u_dark = m.u_red * colour.red + m.u_green * colour.green
+
+  abbrev pub v_bright : ℕ
+  v_bright = gray * sample_scale + m.v_red * colour.red
+
+  abbrev pub v_dark : ℕ
+  v_dark = m.v_green * colour.green + m.v_blue * colour.blue
+
+  abbrev pub y_of : ℕ
+  y_of = sample_of sample_scale y_bright 0
+
+  abbrev pub u_of : ℕ
+  u_of = sample_of sample_scale u_bright u_dark
+
+  abbrev pub v_of : ℕ
+  v_of = sample_of sample_scale v_bright v_dark
+
+-- the colours of a row of luma and two of chroma, and of a picture
+module _ (m : RgbMatrix) where
+  abbrev pub colours_of : List ℕ → List ℕ → List ℕ → List Colour
+  colours_of (y ∷ ys) (u ∷ us) (v ∷ vs) = colour_of m y u v ∷ colours_of ys us vs
+  colours_of ys us vs = []
+
+  -- the bytes of these colours, row by row, where a colour has those that are given
+  abbrev pub colour_rows : (Colour → List ℕ) → Table ℕ → Table ℕ → Table ℕ → Table ℕ
+  colour_rows bytes_of (ys ∷ y_rows) (us ∷ u_rows) (vs ∷ v_rows) =
+      flat_map bytes_of (colours_of ys us vs) ∷ colour_rows bytes_of y_rows u_rows v_rows
+  colour_rows bytes_of y_rows u_rows v_rows = []
+
+-- the colours of the first pixels of a row of bytes, of which so many hold one colour
+abbrev pub colours_in : (List ℕ → Colour) → ℕ → ℕ → List ℕ → List Colour
+colours_in colour_at size count bytes = map colour_at (cut_rows size count bytes)
+
+-- what each colour of a picture makes, row by row
+abbrev pub sample_rows : (Colour → ℕ) → (List ℕ → Colour) → ℕ → ℕ → Table ℕ → Table ℕ
+sample_rows sample colour_at size width rows =
+    map (λ row. map sample (colours_in colour_at size width row)) rows

@@ -1,0 +1,101 @@
+//! Conversions of planes.
+ghost use Rattle.std.specs.Prelude.{◌≡◌, ◌*◌, length};
+ghost use Rattle.v_frame.specs.Prelude.{strided_rows, table_of, width_of, height_of, KeepsBorder, KeepsRest, RowsFit};
+ghost use Rattle.v_frame_rgb.specs.Colours.{colour_rows, sample_rows, y_of, u_of, v_of};
+
+use crate::colour::ColourOrder;
+use crate::matrix::{RgbMatrix, YuvMatrix};
+use crate::rows;
+use crate::sample::Channel;
+use v_frame::plane::{Plane, PlaneRef, RowsRef};
+
+/// Makes the rows of a buffer the colours of three planes of one size, in the order `O`.
+///
+/// `width` and `stride` count bytes. A row of the buffer has [`BYTES`](ColourOrder::BYTES) bytes for each pixel.
+pub fn yuv444_to_rgb<O: ColourOrder>(
+    y: &PlaneRef<'_, u8>,
+    u: &PlaneRef<'_, u8>,
+    v: &PlaneRef<'_, u8>,
+    matrix: RgbMatrix,
+    buffer: &mut [u8],
+    width: usize,
+    height: usize,
+    stride: usize,
+)
+    requires fit { RowsFit width height stride (length buffer.old) }
+    requires wide { width ≡ O.BYTES * y.now.geometry.width }
+    requires high { y.now.geometry.height ≡ height }
+    requires u_wide { u.now.geometry.width ≡ y.now.geometry.width }
+    requires u_high { u.now.geometry.height ≡ height }
+    requires v_wide { v.now.geometry.width ≡ y.now.geometry.width }
+    requires v_high { v.now.geometry.height ≡ height }
+    ensures table { strided_rows width height stride buffer.new
+        ≡ colour_rows matrix O.bytes_of (table_of y.now) (table_of u.now) (table_of v.now) }
+    ensures rest { KeepsRest width height stride buffer.old buffer.new }
+{
+    let (y, u, v) = (y.as_rows_ref(), u.as_rows_ref(), v.as_rows_ref());
+    rows::yuv444_to_rgb::<O>(&y, &u, &v, matrix, buffer, width, height, stride);
+}
+
+/// Makes what a plane shows the samples of a picture of colours, in the order `O`, for the channel `C`. Its border stays.
+///
+/// A row of the picture has [`BYTES`](ColourOrder::BYTES) bytes for each visible pixel of the plane.
+pub fn rgb_to_channel<O: ColourOrder, C: Channel>(
+    source: &RowsRef<'_, u8>,
+    matrix: YuvMatrix,
+    plane: &mut Plane<u8>,
+)
+    requires wide { width_of source.now ≡ O.BYTES * plane.old.geometry.width }
+    requires high { height_of source.now ≡ plane.old.geometry.height }
+    ensures table { table_of plane.new
+        ≡ sample_rows (C.sample matrix) O.colour_at O.BYTES plane.old.geometry.width source.now }
+    ensures border { KeepsBorder plane.old plane.new }
+{
+    let geometry = plane.geometry();
+    let (_, visible) = plane.data_mut().split_at_mut(geometry.data_origin());
+    let (width, height) = (geometry.width(), geometry.height());
+    rows::rgb_to_channel::<O, C>(source, matrix, visible, width, height, geometry.stride());
+}
+
+/// Makes what three planes show the luma and the chroma of a picture of colours, in the order `O`. Their borders stay.
+///
+/// The planes have one size, and a row of the picture has [`BYTES`](ColourOrder::BYTES) bytes for each of their pixels.
+pub fn rgb_to_yuv444<O: ColourOrder>(
+    source: &RowsRef<'_, u8>,
+    matrix: YuvMatrix,
+    y: &mut Plane<u8>,
+    u: &mut Plane<u8>,
+    v: &mut Plane<u8>,
+)
+    requires wide { width_of source.now ≡ O.BYTES * y.old.geometry.width }
+    requires high { height_of source.now ≡ y.old.geometry.height }
+    requires u_wide { u.old.geometry.width ≡ y.old.geometry.width }
+    requires u_high { u.old.geometry.height ≡ y.old.geometry.height }
+    requires v_wide { v.old.geometry.width ≡ y.old.geometry.width }
+    requires v_high { v.old.geometry.height ≡ y.old.geometry.height }
+    ensures luma { table_of y.new
+        ≡ sample_rows (y_of matrix) O.colour_at O.BYTES y.old.geometry.width source.now }
+    ensures chroma_u { table_of u.new
+        ≡ sample_rows (u_of matrix) O.colour_at O.BYTES y.old.geometry.width source.now }
+    ensures chroma_v { table_of v.new
+        ≡ sample_rows (v_of matrix) O.colour_at O.BYTES y.old.geometry.width source.now }
+    ensures y_border { KeepsBorder y.old y.new }
+    ensures u_border { KeepsBorder u.old u.new }
+    ensures v_border { KeepsBorder v.old v.new }
+{
+    let (y_geometry, u_geometry, v_geometry) = (y.geometry(), u.geometry(), v.geometry());
+    let (width, height) = (y_geometry.width(), y_geometry.height());
+    // The geometries whose sizes are read are valid.
+    let _widths = (u_geometry.width(), v_geometry.width());
+    let strides = (
+        y_geometry.stride(),
+        u_geometry.stride(),
+        v_geometry.stride(),
+    );
+    let (_, y_rows) = y.data_mut().split_at_mut(y_geometry.data_origin());
+    let (_, u_rows) = u.data_mut().split_at_mut(u_geometry.data_origin());
+    let (_, v_rows) = v.data_mut().split_at_mut(v_geometry.data_origin());
+    rows::rgb_to_yuv444::<O>(
+        source, matrix, y_rows, u_rows, v_rows, width, height, strides,
+    );
+}

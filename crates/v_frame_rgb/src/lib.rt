@@ -1,0 +1,16 @@
+//! Conversions between Y'CbCr and R'G'B'.
+#![tactic(auto)]
+
+mod colour;
+mod convert;
+pub mod laws;
+mod matrix;
+pub mod rows;
+mod sample;
+mod standard;
+
+pub use colour::{Bgr, Bgra, Colour, ColourOrder, Rgb, Rgba};
+pub use convert::{rgb_to_channel, rgb_to_yuv444, yuv444_to_rgb};
+pub use matrix::{RgbMatrix, YuvMatrix};
+pub use sample::{Channel, ChromaU, ChromaV, Luma};
+pub use standard::{ColourRange, Standard};

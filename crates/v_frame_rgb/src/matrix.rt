@@ -1,0 +1,165 @@
+//! The coefficients of conversions: those of the standards, or a caller's.
+ghost use Rattle.std.specs.Prelude.{◌≡◌, ◌<◌, ◌^◌};
+ghost use Rattle.v_frame_rgb.specs.Colours.{sample_of, colour_of, rgb_matrix_of, yuv_matrix_of, colour_scale};
+
+use crate::colour::Colour;
+use crate::standard::{ColourRange, Standard};
+
+/// Coefficients from Y'CbCr to R'G'B', in parts of 16384.
+///
+/// One step of luma makes `luma` of each channel. One step of Cb makes `blue_u` of blue and takes `green_u` from green, and one
+/// step of Cr makes `red_v` of red and takes `green_v` from green.
+#[derive(Debug, Clone, Copy, PartialEq, Eq)]
+pub struct RgbMatrix {
+    /// The sample of luma that stands for black.
+    pub black: u8,
+    pub luma: u16,
+    pub red_v: u16,
+    pub green_u: u16,
+    pub green_v: u16,
+    pub blue_u: u16,
+}
+
+/// Coefficients from R'G'B' to Y'CbCr, in parts of 65536.
+///
+/// One step of a colour makes `y_red`, `y_green` or `y_blue` of luma. To Cb blue adds `u_blue`, and red and green take away
+/// `u_red` and `u_green`. To Cr red adds `v_red`, and green and blue take away `v_green` and `v_blue`.
+#[derive(Debug, Clone, Copy, PartialEq, Eq)]
+pub struct YuvMatrix {
+    /// The sample of luma that stands for black.
+    pub black: u8,
+    pub y_red: u16,
+    pub y_green: u16,
+    pub y_blue: u16,
+    pub u_red: u16,
+    pub u_green: u16,
+    pub u_blue: u16,
+    pub v_red: u16,
+    pub v_green: u16,
+    pub v_blue: u16,
+}
+
+impl RgbMatrix {
+    /// Returns the coefficients of a standard, each the whole number nearest to the standard's.
+    pub fn new(standard: Standard, range: ColourRange) -> Self
+        ensures { result ≡ rgb_matrix_of standard range }
+    {
+        let (black, luma) = match range {
+            ColourRange::Limited => (16, 19077),
+            ColourRange::Full => (0, 16384),
+        };
+        let (red_v, green_u, green_v, blue_u) = match (standard, range) {
+            (Standard::Bt601, ColourRange::Limited) => (26149, 6419, 13320, 33050),
+            (Standard::Bt601, ColourRange::Full) => (22970, 5638, 11700, 29032),
+            (Standard::Bt709, ColourRange::Limited) => (29372, 3494, 8731, 34610),
+            (Standard::Bt709, ColourRange::Full) => (25802, 3069, 7670, 30402),
+            (Standard::Bt2020, ColourRange::Limited) => (27503, 3069, 10657, 35091),
+            (Standard::Bt2020, ColourRange::Full) => (24160, 2696, 9361, 30825),
+        };
+        RgbMatrix {
+            black,
+            luma,
+            red_v,
+            green_u,
+            green_v,
+            blue_u,
+        }
+    }
+
+    /// Returns the colour of a sample of luma, one of Cb and one of Cr.
+    #[inline(always)]
+    pub fn colour(self, y: u8, u: u8, v: u8) -> Colour
+        ensures { result ≡ colour_of self y u v }
+    {
+        let luma = u32::from(self.luma);
+        let (red_v, blue_u) = (u32::from(self.red_v), u32::from(self.blue_u));
+        let (green_u, green_v) = (u32::from(self.green_u), u32::from(self.green_v));
+        let black = luma * u32::from(self.black);
+        let (y, u, v) = (luma * u32::from(y), u32::from(u), u32::from(v));
+        Colour {
+            red: colour_sample(y + red_v * v, black + red_v * 128),
+            green: colour_sample(
+                y + (green_u * 128 + green_v * 128),
+                black + (green_u * u + green_v * v),
+            ),
+            blue: colour_sample(y + blue_u * u, black + blue_u * 128),
+        }
+    }
+}
+
+impl YuvMatrix {
+    /// Returns the coefficients of a standard, each the whole number nearest to the standard's.
+    pub fn new(standard: Standard, range: ColourRange) -> Self
+        ensures { result ≡ yuv_matrix_of standard range }
+    {
+        match range {
+            ColourRange::Limited => Self::limited(standard),
+            ColourRange::Full => Self::full(standard),
+        }
+    }
+
+    /// Returns the coefficients of a standard for samples of limited range.
+    fn limited(standard: Standard) -> Self
+        ensures { result ≡ yuv_matrix_of standard ColourRange.Limited }
+    {
+        let (y_red, y_green, y_blue) = match standard {
+            Standard::Bt601 => (16829, 33039, 6416),
+            Standard::Bt709 => (11966, 40254, 4064),
+            Standard::Bt2020 => (14786, 38160, 3338),
+        };
+        let (u_red, u_green, v_green, v_blue) = match standard {
+            Standard::Bt601 => (9714, 19071, 24103, 4681),
+            Standard::Bt709 => (6596, 22189, 26145, 2639),
+            Standard::Bt2020 => (8038, 20746, 26469, 2315),
+        };
+        YuvMatrix {
+            black: 16,
+            y_red,
+            y_green,
+            y_blue,
+            u_red,
+            u_green,
+            u_blue: 28784,
+            v_red: 28784,
+            v_green,
+            v_blue,
+        }
+    }
+
+    /// Returns the coefficients of a standard for samples of full range.
+    fn full(standard: Standard) -> Self
+        ensures { result ≡ yuv_matrix_of standard ColourRange.Full }
+    {
+        let (y_red, y_green, y_blue) = match standard {
+            Standard::Bt601 => (19595, 38470, 7471),
+            Standard::Bt709 => (13933, 46871, 4732),
+            Standard::Bt2020 => (17216, 44433, 3886),
+        };
+        let (u_red, u_green, v_green, v_blue) = match standard {
+            Standard::Bt601 => (11058, 21710, 27439, 5329),
+            Standard::Bt709 => (7509, 25259, 29763, 3005),
+            Standard::Bt2020 => (9151, 23617, 30133, 2635),
+        };
+        YuvMatrix {
+            black: 0,
+            y_red,
+            y_green,
+            y_blue,
+            u_red,
+            u_green,
+            u_blue: 32768,
+            v_red: 32768,
+            v_green,
+            v_blue,
+        }
+    }
+}
+
+/// Returns the whole number nearest to a difference over 16384, as a sample.
+#[inline(always)]
+fn colour_sample(bright: u32, dark: u32) -> u8
+    requires { bright < 2 ^ 31 }
+    ensures { result ≡ sample_of colour_scale bright dark }
+{
+    ((bright + 8192).saturating_sub(dark) / 16384).min(255) as u8
+}

@@ -1,0 +1,56 @@
+//! From Y'CbCr to R'G'B': rows of luma and chroma of one size become rows of colours.
+ghost use Rattle.std.specs.Prelude.{◌≡◌, ◌*◌, length, flat_map};
+ghost use Rattle.v_frame.specs.Prelude.{strided_rows, width_of, height_of, KeepsRest, RowsFit};
+ghost use Rattle.v_frame_rgb.specs.Colours.{colours_of, colour_rows};
+
+use crate::colour::ColourOrder;
+use crate::matrix::RgbMatrix;
+use v_frame::plane::RowsRef;
+
+/// Makes the rows of a buffer the colours of luma and chroma of one size, in the order `O`.
+///
+/// `width` and `stride` count bytes. A row of the buffer has [`BYTES`](ColourOrder::BYTES) bytes for each pixel.
+#[tactic(auto, using(v_frame_raster::proofs::tables::StridedWrites::row_ends))]
+pub fn yuv444_to_rgb<O: ColourOrder>(
+    y: &RowsRef<'_, u8>,
+    u: &RowsRef<'_, u8>,
+    v: &RowsRef<'_, u8>,
+    matrix: RgbMatrix,
+    buffer: &mut [u8],
+    width: usize,
+    height: usize,
+    stride: usize,
+)
+    requires fit { RowsFit width height stride (length buffer.old) }
+    requires wide { width ≡ O.BYTES * width_of y.now }
+    requires high { height_of y.now ≡ height }
+    requires u_wide { width_of u.now ≡ width_of y.now }
+    requires u_high { height_of u.now ≡ height }
+    requires v_wide { width_of v.now ≡ width_of y.now }
+    requires v_high { height_of v.now ≡ height }
+    ensures table { strided_rows width height stride buffer.new
+        ≡ colour_rows matrix O.bytes_of y.now u.now v.now }
+    ensures rest { KeepsRest width height stride buffer.old buffer.new }
+{
+    for k in 0..height {
+        let start = stride * k;
+        let (luma, cb, cr) = (y.visible_row(k), u.visible_row(k), v.visible_row(k));
+        decode_row::<O>(&mut buffer[start..start + width], luma, cb, cr, matrix);
+    }
+}
+
+/// Makes colours of a row of luma and two of chroma, which have its length.
+fn decode_row<O: ColourOrder>(out: &mut [u8], y: &[u8], u: &[u8], v: &[u8], matrix: RgbMatrix)
+    requires out { length out.old ≡ O.BYTES * length y.now }
+    requires u { length u.now ≡ length y.now }
+    requires v { length v.now ≡ length y.now }
+    ensures { out.new ≡ flat_map O.bytes_of (colours_of matrix y.now u.now v.now) }
+{
+    for x in 0..y.len() {
+        let start = O::BYTES * x;
+        O::write(
+            &mut out[start..start + O::BYTES],
+            matrix.colour(y[x], u[x], v[x]),
+        );
+    }
+}

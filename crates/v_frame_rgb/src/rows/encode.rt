@@ -1,0 +1,116 @@
+//! From R'G'B' to Y'CbCr: rows of colours become rows of samples of three channels, or of one.
+ghost use Rattle.std.specs.Prelude.{◌≡◌, ◌*◌, length, map};
+ghost use Rattle.v_frame.specs.Prelude.{strided_rows, width_of, height_of, KeepsRest, RowsFit};
+ghost use Rattle.v_frame_rgb.specs.Colours.{colours_in, sample_rows, y_of, u_of, v_of};
+
+use crate::colour::ColourOrder;
+use crate::matrix::YuvMatrix;
+use crate::sample::{Channel, ChromaU, ChromaV, Luma};
+use v_frame::plane::RowsRef;
+
+/// Makes the rows of three buffers the luma and the chroma of a picture of colours, in the order `O`.
+///
+/// A row of the picture has [`BYTES`](ColourOrder::BYTES) bytes for each sample. `strides` are those of `y`, `u` and `v`.
+#[tactic(auto, using(v_frame_raster::proofs::tables::StridedWrites::row_ends))]
+pub fn rgb_to_yuv444<O: ColourOrder>(
+    source: &RowsRef<'_, u8>,
+    matrix: YuvMatrix,
+    y: &mut [u8],
+    u: &mut [u8],
+    v: &mut [u8],
+    width: usize,
+    height: usize,
+    strides: (usize, usize, usize),
+)
+    requires y_fit { RowsFit width height strides.0 (length y.old) }
+    requires u_fit { RowsFit width height strides.1 (length u.old) }
+    requires v_fit { RowsFit width height strides.2 (length v.old) }
+    requires wide { width_of source.now ≡ O.BYTES * width }
+    requires high { height_of source.now ≡ height }
+    ensures luma { strided_rows width height strides.0 y.new
+        ≡ sample_rows (y_of matrix) O.colour_at O.BYTES width source.now }
+    ensures chroma_u { strided_rows width height strides.1 u.new
+        ≡ sample_rows (u_of matrix) O.colour_at O.BYTES width source.now }
+    ensures chroma_v { strided_rows width height strides.2 v.new
+        ≡ sample_rows (v_of matrix) O.colour_at O.BYTES width source.now }
+    ensures y_rest { KeepsRest width height strides.0 y.old y.new }
+    ensures u_rest { KeepsRest width height strides.1 u.old u.new }
+    ensures v_rest { KeepsRest width height strides.2 v.old v.new }
+{
+    let (y_stride, u_stride, v_stride) = strides;
+    for k in 0..height {
+        let (y_start, u_start, v_start) = (y_stride * k, u_stride * k, v_stride * k);
+        encode_channels::<O>(
+            &mut y[y_start..y_start + width],
+            &mut u[u_start..u_start + width],
+            &mut v[v_start..v_start + width],
+            source.visible_row(k),
+            matrix,
+        );
+    }
+}
+
+/// Makes the rows of a buffer the samples of a picture of colours, in the order `O`, for the channel `C`.
+///
+/// A row of the picture has [`BYTES`](ColourOrder::BYTES) bytes for each sample.
+#[tactic(auto, using(v_frame_raster::proofs::tables::StridedWrites::row_ends))]
+pub fn rgb_to_channel<O: ColourOrder, C: Channel>(
+    source: &RowsRef<'_, u8>,
+    matrix: YuvMatrix,
+    buffer: &mut [u8],
+    width: usize,
+    height: usize,
+    stride: usize,
+)
+    requires fit { RowsFit width height stride (length buffer.old) }
+    requires wide { width_of source.now ≡ O.BYTES * width }
+    requires high { height_of source.now ≡ height }
+    ensures table { strided_rows width height stride buffer.new
+        ≡ sample_rows (C.sample matrix) O.colour_at O.BYTES width source.now }
+    ensures rest { KeepsRest width height stride buffer.old buffer.new }
+{
+    for k in 0..height {
+        let start = stride * k;
+        encode_row::<O, C>(
+            &mut buffer[start..start + width],
+            source.visible_row(k),
+            matrix,
+        );
+    }
+}
+
+/// Makes samples of a row of colours, one for each.
+fn encode_row<O: ColourOrder, C: Channel>(out: &mut [u8], colours: &[u8], matrix: YuvMatrix)
+    requires { length colours.now ≡ O.BYTES * length out.old }
+    ensures { out.new
+        ≡ map (C.sample matrix) (colours_in O.colour_at O.BYTES (length out.old) colours.now) }
+{
+    for x in 0..out.len() {
+        let start = O::BYTES * x;
+        out[x] = C::sample(matrix, O::read(&colours[start..start + O::BYTES]));
+    }
+}
+
+/// Makes luma and chroma of a row of colours, one sample of each for each colour.
+fn encode_channels<O: ColourOrder>(
+    y: &mut [u8],
+    u: &mut [u8],
+    v: &mut [u8],
+    colours: &[u8],
+    matrix: YuvMatrix,
+)
+    requires colours { length colours.now ≡ O.BYTES * length y.old }
+    requires u_long { length u.old ≡ length y.old }
+    requires v_long { length v.old ≡ length y.old }
+    ensures y { y.new ≡ map (y_of matrix) (colours_in O.colour_at O.BYTES (length y.old) colours.now) }
+    ensures u { u.new ≡ map (u_of matrix) (colours_in O.colour_at O.BYTES (length u.old) colours.now) }
+    ensures v { v.new ≡ map (v_of matrix) (colours_in O.colour_at O.BYTES (length v.old) colours.now) }
+{
+    for x in 0..y.len() {
+        let start = O::BYTES * x;
+        let colour = O::read(&colours[start..start + O::BYTES]);
+        y[x] = Luma::sample(matrix, colour);
+        u[x] = ChromaU::sample(matrix, colour);
+        v[x] = ChromaV::sample(matrix, colour);
+    }
+}

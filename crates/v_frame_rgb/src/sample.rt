@@ -1,0 +1,93 @@
+//! The three samples that a colour becomes.
+ghost use Rattle.std.specs.Prelude.{◌≡◌, ℕ, ◌*◌, ◌<◌, ◌^◌};
+ghost use Rattle.v_frame_rgb.specs.Colours.{sample_of, y_of, u_of, v_of, sample_scale};
+
+use crate::colour::Colour;
+use crate::matrix::YuvMatrix;
+
+mod sealed {
+    /// No type outside this crate can be a channel.
+    pub trait Sealed {}
+
+    impl Sealed for super::Luma {}
+
+    impl Sealed for super::ChromaU {}
+
+    impl Sealed for super::ChromaV {}
+}
+
+/// A channel of Y'CbCr.
+pub trait Channel: sealed::Sealed {
+    ghost use Rattle.v_frame_rgb.specs.declared.colour.Colour.{Colour};
+    ghost use Rattle.v_frame_rgb.specs.declared.matrix.YuvMatrix.{YuvMatrix};
+
+    // The sample of a colour.
+    ghost sample: { YuvMatrix → Colour → ℕ };
+
+    /// Returns the sample of a colour.
+    fn sample(matrix: YuvMatrix, colour: Colour) -> u8
+        ensures { result ≡ sample matrix colour };
+}
+
+/// Luma.
+pub struct Luma;
+
+/// Cb, the blue difference.
+pub struct ChromaU;
+
+/// Cr, the red difference.
+pub struct ChromaV;
+
+impl Channel for Luma {
+    ghost sample = { y_of };
+
+    #[inline(always)]
+    fn sample(matrix: YuvMatrix, colour: Colour) -> u8 {
+        let red = weighed(matrix.y_red, colour.red);
+        let green = weighed(matrix.y_green, colour.green);
+        let blue = weighed(matrix.y_blue, colour.blue);
+        nearest_sample(u32::from(matrix.black) * 65536 + (red + green + blue), 0)
+    }
+}
+
+impl Channel for ChromaU {
+    ghost sample = { u_of };
+
+    #[inline(always)]
+    fn sample(matrix: YuvMatrix, colour: Colour) -> u8 {
+        let red = weighed(matrix.u_red, colour.red);
+        let green = weighed(matrix.u_green, colour.green);
+        let blue = weighed(matrix.u_blue, colour.blue);
+        nearest_sample(128 * 65536 + blue, red + green)
+    }
+}
+
+impl Channel for ChromaV {
+    ghost sample = { v_of };
+
+    #[inline(always)]
+    fn sample(matrix: YuvMatrix, colour: Colour) -> u8 {
+        let red = weighed(matrix.v_red, colour.red);
+        let green = weighed(matrix.v_green, colour.green);
+        let blue = weighed(matrix.v_blue, colour.blue);
+        nearest_sample(128 * 65536 + red, green + blue)
+    }
+}
+
+/// Returns what a channel counts for.
+#[inline(always)]
+fn weighed(coefficient: u16, channel: u8) -> u32
+    ensures value { result ≡ coefficient * channel }
+    ensures small { result < 2 ^ 24 }
+{
+    u32::from(coefficient) * u32::from(channel)
+}
+
+/// Returns the whole number nearest to a difference over 65536, as a sample.
+#[inline(always)]
+fn nearest_sample(bright: u32, dark: u32) -> u8
+    requires { bright < 2 ^ 31 }
+    ensures { result ≡ sample_of sample_scale bright dark }
+{
+    ((bright + 32768).saturating_sub(dark) / 65536).min(255) as u8
+}

@@ -1,0 +1,5 @@
+pub mod CombinedLists
+pub mod ComesBack
+pub mod Encoded
+pub mod Interleaving
+pub mod Stored

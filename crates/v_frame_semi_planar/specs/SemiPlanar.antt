@@ -1,0 +1,96 @@
+-- The bytes of a frame in a semi-planar layout, the pixels that bytes show, and what a call that
+-- reads or writes them leaves.
+use Rattle.std.specs.Prelude.{ℕ, ◌≡◌, ◌*◌, ◌/◌, ◌^◌, ◌++◌, Bool, true, false, if◌then◌else◌, List}
+use Rattle.std.specs.Prelude.{[], length}
+use Rattle.std.specs.Prelude.{map, flat_map, Option, Some, None}
+use Rattle.std.specs.Io.KnownBytes.{Consumes, IsAtEnd}
+use Rattle.std.specs.declared.io.ErrorKind.{ErrorKind}
+use Rattle.v_frame.specs.Prelude.{PixelForm, Table, Tables, Frame, bytes_of, value_of_bytes}
+use Rattle.v_frame.specs.Prelude.{row_major}
+use Rattle.v_frame.specs.Prelude.{cut_rows, tables_of}
+use Rattle.v_frame_ops.specs.Change.{combined}
+use Rattle.v_frame_planar.specs.Counted.{Watched}
+use Rattle.v_frame_planar.specs.Planar.{MayStopReading, MayStopWriting, TellsCause}
+use Rattle.v_frame_semi_planar.specs.Interleaved.{interleaved}
+use Rattle.v_frame_semi_planar.specs.Format.{begins_with_v, unused_bits, RefusedFor, HasLayout}
+use Rattle.v_frame_semi_planar.specs.declared.format.SemiPlanarFormat.{SemiPlanarFormat}
+use Rattle.v_frame_semi_planar.specs.declared.error.SemiPlanarError.{SemiPlanarError}
+use Rattle.v_frame_semi_planar.specs.declared.error.SemiPlanarError.TheVariants.{BitDepth}
+use Rattle.v_frame_semi_planar.specs.declared.error.SemiPlanarError.TheVariants.{Subsampling}
+use Rattle.v_frame_semi_planar.specs.declared.error.SemiPlanarError.TheVariants.{ChromaSize}
+use Rattle.v_frame_semi_planar.specs.declared.error.SemiPlanarError.TheVariants.{Planar}
+
+module _ {T : Type 0} where
+  -- the table in which the pixels of U and V are by turns, or those of V and U
+  abbrev pub chroma_table : SemiPlanarFormat → Table T → Table T → Table T
+  chroma_table format u v =
+      if begins_with_v format then combined interleaved v u else combined interleaved u v
+
+  abbrev pub chroma_pixels : SemiPlanarFormat → Option (Table T) → Option (Table T) → List T
+  chroma_pixels format None v = []
+  chroma_pixels format (Some u) None = []
+  chroma_pixels format (Some u) (Some v) = row_major (chroma_table format u v)
+
+  -- the pixels in the order of their bytes: luma, then chroma by turns
+  abbrev pub semi_planar_pixels : SemiPlanarFormat → Tables T → List T
+  semi_planar_pixels format tables =
+      row_major tables.y ++ chroma_pixels format tables.u tables.v
+
+module _ {T : Type 0} (form : PixelForm T) where
+  -- the bytes of samples above so many bits that aren't used, each with its low byte first
+  abbrev pub stored_bytes : ℕ → List T → List ℕ
+  stored_bytes unused pixels =
+      flat_map (λ pixel. bytes_of form.size (form.value pixel * 2 ^ unused)) pixels
+
+  -- the bytes of a frame in a layout
+  abbrev pub semi_planar_bytes : SemiPlanarFormat → Tables T → List ℕ
+  semi_planar_bytes format tables =
+      stored_bytes (unused_bits format) (semi_planar_pixels format tables)
+
+  -- the first pixels of bytes, without the bits that aren't used
+  abbrev pub shown_pixels : ℕ → ℕ → List ℕ → List T
+  shown_pixels unused count bytes =
+      map (λ group. form.pixel_of (value_of_bytes group / 2 ^ unused))
+      (cut_rows form.size count bytes)
+
+module _ {T W : Type 0} (form : PixelForm T) (contents : W → Option (List ℕ)) (old new : Watched W)
+    (format : SemiPlanarFormat) (frame : Frame T) where
+  -- the error may come where this frame is written, and what it leaves of the writer
+  abbrev pub MayFailWriting : SemiPlanarError → Type 0
+  MayFailWriting (Planar error) =
+      HasLayout form.size format frame
+      × MayStopWriting contents old new (semi_planar_bytes form format (tables_of frame)) error
+  MayFailWriting BitDepth = RefusedFor form.size format frame BitDepth × (new ≡ old)
+  MayFailWriting Subsampling = RefusedFor form.size format frame Subsampling × (new ≡ old)
+  MayFailWriting ChromaSize = RefusedFor form.size format frame ChromaSize × (new ≡ old)
+
+-- where a read or a write failed, the kind of its error is reported, and else the last failure is
+-- as before
+abbrev pub TellsFailure : Option ErrorKind → Option ErrorKind → SemiPlanarError → Type 0
+TellsFailure old new (Planar error) = TellsCause old new error
+TellsFailure old new BitDepth = new ≡ old
+TellsFailure old new Subsampling = new ≡ old
+TellsFailure old new ChromaSize = new ≡ old
+
+module _ {T R : Type 0} (form : PixelForm T) (remaining : R → Option (List ℕ)) (old new : Watched R)
+    (format : SemiPlanarFormat) where
+  -- the bytes of a frame that shows these tables were read, or the reader stood at its end before
+  -- the first one
+  abbrev pub ReadsLayout : Tables T → Bool → Type 0
+  ReadsLayout tables true =
+      (bytes : List ℕ) × Consumes (remaining old.inner) (remaining new.inner) bytes
+      × (length bytes ≡ length (semi_planar_bytes form format tables))
+      × (semi_planar_pixels format tables
+      ≡ shown_pixels form (unused_bits format) (length bytes / form.size) bytes)
+  ReadsLayout tables false =
+      Consumes (remaining old.inner) (remaining new.inner) [] × IsAtEnd (remaining new.inner)
+
+  -- the error may come where a frame is read into this one, and what it leaves of the reader
+  abbrev pub MayFailReading : Frame T → SemiPlanarError → Type 0
+  MayFailReading frame (Planar error) =
+      HasLayout form.size format frame
+      × MayStopReading remaining old new
+      (length (semi_planar_bytes form format (tables_of frame))) error
+  MayFailReading frame BitDepth = RefusedFor form.size format frame BitDepth × (new ≡ old)
+  MayFailReading frame Subsampling = RefusedFor form.size format frame Subsampling × (new ≡ old)
+  MayFailReading frame ChromaSize = RefusedFor form.size format frame ChromaSize × (new ≡ old)

@@ -1,0 +1,135 @@
+//! The semi-planar layouts, and which frames they are for.
+ghost use Rattle.std.specs.Prelude.{◌≡◌, ◌*◌, ◌<◌, ◌≤◌, ◌↔◌, option_map, IfErr, IsTrue, OnOk, Some};
+ghost use Rattle.v_frame.specs.Prelude.{table_of};
+ghost use Rattle.v_frame_planar.specs.Planar.{size_of};
+ghost use Rattle.v_frame_planar.specs.Video.{chroma_sizes_of};
+ghost use Rattle.v_frame_semi_planar.specs.Format.{begins_with_v, depth_of, sample_size_of, subsampling_of, unused_bits, HasLayout, RefusedFor};
+
+use crate::error::SemiPlanarError;
+use v_frame::chroma::ChromaSubsampling;
+use v_frame::frame::Frame;
+use v_frame::pixel::Pixel;
+use v_frame::plane::Plane;
+use v_frame_planar::ratios_or_one;
+
+/// A semi-planar layout, by the name that ffmpeg's pixel formats have: the rows of luma come first, then rows in which the
+/// pixels of U and V are by turns. Chroma has as many columns and rows as it takes to cover luma.
+#[derive(Debug, Clone, Copy, PartialEq, Eq)]
+pub enum SemiPlanarFormat {
+    /// Samples of 8 bits, chroma at half the width and half the height.
+    Nv12,
+    /// The same with V before U.
+    Nv21,
+    /// Samples of 8 bits, chroma at half the width.
+    Nv16,
+    /// Samples of 8 bits, chroma at the size of luma.
+    Nv24,
+    /// Samples of 10 bits in the top bits of little-endian words, chroma at half the width and half the height.
+    P010,
+    /// The same with samples of 12 bits.
+    P012,
+    /// The same with samples of 16 bits.
+    P016,
+}
+
+impl SemiPlanarFormat {
+    /// Returns the chroma subsampling of frames in this layout.
+    pub fn subsampling(self) -> ChromaSubsampling
+        ensures { result ≡ subsampling_of self }
+    {
+        match self {
+            SemiPlanarFormat::Nv16 => ChromaSubsampling::Yuv422,
+            SemiPlanarFormat::Nv24 => ChromaSubsampling::Yuv444,
+            _ => ChromaSubsampling::Yuv420,
+        }
+    }
+
+    /// Returns the bits of a sample.
+    pub fn bit_depth(self) -> u8
+        ensures value { result ≡ depth_of self }
+        ensures fits { result ≤ 8 * sample_size_of self }
+    {
+        match self {
+            SemiPlanarFormat::P010 => 10,
+            SemiPlanarFormat::P012 => 12,
+            SemiPlanarFormat::P016 => 16,
+            _ => 8,
+        }
+    }
+
+    /// Returns the bytes of a sample: 1 for 8 bits, else 2.
+    pub fn sample_size(self) -> usize
+        ensures { result ≡ sample_size_of self }
+    {
+        match self {
+            SemiPlanarFormat::P010 | SemiPlanarFormat::P012 | SemiPlanarFormat::P016 => 2,
+            _ => 1,
+        }
+    }
+
+    /// Returns how many low bits of its bytes a sample doesn't use.
+    pub fn unused_bits(self) -> u32
+        ensures value { result ≡ unused_bits self }
+        ensures few { result < 8 }
+    {
+        match self {
+            SemiPlanarFormat::P010 => 6,
+            SemiPlanarFormat::P012 => 4,
+            _ => 0,
+        }
+    }
+
+    /// Returns whether V comes before U.
+    pub fn begins_with_v(self) -> bool
+        ensures { result ≡ begins_with_v self }
+    {
+        self == SemiPlanarFormat::Nv21
+    }
+
+    /// Returns the width and the height in pixels of each chroma plane beside luma of this size, rounded up.
+    pub fn chroma_size(self, width: usize, height: usize) -> (usize, usize)
+        ensures { Some result ≡ chroma_sizes_of (subsampling_of self) width height }
+    {
+        let (columns, rows) = ratios_or_one(self.subsampling());
+        (width.div_ceil(columns), height.div_ceil(rows))
+    }
+}
+
+/// Tests whether a frame is one for a layout: [`write_frame`](crate::write_frame) writes it in that layout, and
+/// [`read_frame`](crate::read_frame) reads one from it into the frame.
+///
+/// # Errors
+///
+/// The first of these that holds. [`SemiPlanarError::BitDepth`] where the depth is another, or the pixels are not `u8` for a
+/// depth of 8 and `u16` for more; [`SemiPlanarError::Subsampling`] where the chroma subsampling is another;
+/// [`SemiPlanarError::ChromaSize`] where a chroma plane is missing, or has another size than
+/// [`chroma_size`](SemiPlanarFormat::chroma_size) of luma's.
+pub fn check_layout<T: Pixel>(
+    frame: &Frame<T>,
+    format: SemiPlanarFormat,
+) -> Result<(), SemiPlanarError>
+    ensures ok { OnOk result (HasLayout T.form.size format frame.now) }
+    ensures error { IfErr result (RefusedFor T.form.size format frame.now) }
+{
+    if T::BYTES != format.sample_size() || frame.bit_depth.get() != format.bit_depth() {
+        return Err(SemiPlanarError::BitDepth);
+    }
+    if frame.subsampling != format.subsampling() {
+        return Err(SemiPlanarError::Subsampling);
+    }
+    let size = format.chroma_size(frame.y_plane.width(), frame.y_plane.height());
+    if !has_size(&frame.u_plane, size) || !has_size(&frame.v_plane, size) {
+        return Err(SemiPlanarError::ChromaSize);
+    }
+    Ok(())
+}
+
+/// Returns whether a plane is there and has this width and height.
+fn has_size<T: Pixel>(plane: &Option<Plane<T>>, size: (usize, usize)) -> bool
+    ensures { IsTrue result ↔ (option_map size_of (option_map table_of plane.now) ≡ Some size) }
+{
+    match plane {
+        Some(plane) => plane.width() == size.0 && plane.height() == size.1,
+        None => false,
+    }
+}

@@ -1,0 +1,19 @@
+//! Laws of semi-planar layouts. Each is the contract of a function, for callers that have frames at hand.
+ghost use Rattle.std.specs.Prelude.{All, ◌≡◌, ◌/◌, ◌^◌, ◌<◌, length};
+ghost use Rattle.v_frame.specs.Prelude.{tables_of};
+ghost use Rattle.v_frame_semi_planar.specs.Format.{depth_of, sample_size_of, unused_bits};
+ghost use Rattle.v_frame_semi_planar.specs.SemiPlanar.{semi_planar_bytes, semi_planar_pixels, shown_pixels};
+
+use crate::format::SemiPlanarFormat;
+use v_frame::frame::Frame;
+use v_frame::pixel::Pixel;
+
+/// The bytes of a frame in a layout show its samples again, where all of them are below 2 to the power of the layout's bit
+/// depth. So what was written of it and is read comes back.
+pub fn samples_come_back<T: Pixel>(frame: &Frame<T>, format: SemiPlanarFormat)
+    ensures { let bytes = semi_planar_bytes T.form format (tables_of frame.now) in
+        let pixels = semi_planar_pixels format (tables_of frame.now) in
+        T.form.size ≡ sample_size_of format
+        → All (λ pixel. T.form.value pixel < 2 ^ depth_of format) pixels
+        → shown_pixels T.form (unused_bits format) (length bytes / T.form.size) bytes ≡ pixels }
+{}

@@ -1,0 +1,94 @@
+//! Rows of two chroma components, by turns in one row or each in its own.
+ghost use Rattle.std.specs.Prelude.{◌≡◌, ◌*◌, length};
+ghost use Rattle.v_frame.specs.Prelude.{height_of, strided_rows, width_of, KeepsRest, RowsFit};
+ghost use Rattle.v_frame_ops.specs.Change.{combined};
+ghost use Rattle.v_frame_semi_planar.specs.Interleaved.{interleaved};
+
+use v_frame::plane::RowsRef;
+
+/// Makes a row of two: a pixel of `first`, one of `second`, and so on by turns. It must be as long as both together, which are
+/// equally long.
+pub fn interleave_row<T: Copy>(row: &mut [T], first: &[T], second: &[T])
+    requires long { length row.old ≡ 2 * length first.now }
+    requires equal { length second.now ≡ length first.now }
+    ensures { row.new ≡ interleaved first.now second.now }
+{
+    for x in 0..first.len() {
+        let (p, q) = (first[x], second[x]);
+        row[2 * x] = p;
+        row[2 * x + 1] = q;
+    }
+}
+
+/// Makes two rows of one, whose pixels go to `first` and to `second` by turns. Both are half as long.
+pub fn deinterleave_row<T: Copy>(row: &[T], first: &mut [T], second: &mut [T])
+    requires long { length row.now ≡ 2 * length first.old }
+    requires equal { length second.old ≡ length first.old }
+    ensures { row.now ≡ interleaved first.new second.new }
+{
+    for x in 0..first.len() {
+        // Both are read before one is written, which the compiler makes one wide load of.
+        let (p, q) = (row[2 * x], row[2 * x + 1]);
+        first[x] = p;
+        second[x] = q;
+    }
+}
+
+/// Makes each of the rows of two, one of `first` and one of `second`, by turns as [`interleave_row`] does. They are twice as
+/// wide as those two, which have the same size.
+#[tactic(auto, using(v_frame_raster::proofs::tables::StridedWrites::row_ends))]
+pub fn interleave<T: Copy>(
+    first: &RowsRef<'_, T>,
+    second: &RowsRef<'_, T>,
+    buffer: &mut [T],
+    width: usize,
+    height: usize,
+    stride: usize,
+)
+    requires fit { RowsFit width height stride (length buffer.old) }
+    requires wide { width ≡ 2 * width_of first.now }
+    requires high { height ≡ height_of first.now }
+    requires second_wide { width_of second.now ≡ width_of first.now }
+    requires second_high { height_of second.now ≡ height_of first.now }
+    ensures table { strided_rows width height stride buffer.new
+        ≡ combined interleaved first.now second.now }
+    ensures rest { KeepsRest width height stride buffer.old buffer.new }
+{
+    for y in 0..height {
+        let start = stride * y;
+        let row = &mut buffer[start..start + width];
+        interleave_row(row, first.visible_row(y), second.visible_row(y));
+    }
+}
+
+/// Makes the rows of two buffers, which have the same size, of those of one, which are twice as wide: its pixels go to the
+/// first and to the second by turns.
+#[tactic(auto, using(v_frame_raster::proofs::tables::StridedWrites::row_ends))]
+pub fn deinterleave<T: Copy>(
+    source: &RowsRef<'_, T>,
+    width: usize,
+    height: usize,
+    first: &mut [T],
+    first_stride: usize,
+    second: &mut [T],
+    second_stride: usize,
+)
+    requires wide { width_of source.now ≡ 2 * width }
+    requires high { height_of source.now ≡ height }
+    requires first_fit { RowsFit width height first_stride (length first.old) }
+    requires second_fit { RowsFit width height second_stride (length second.old) }
+    ensures table { source.now
+        ≡ combined interleaved (strided_rows width height first_stride first.new)
+        (strided_rows width height second_stride second.new) }
+    ensures first_rest { KeepsRest width height first_stride first.old first.new }
+    ensures second_rest { KeepsRest width height second_stride second.old second.new }
+{
+    for y in 0..height {
+        let (start, second_start) = (first_stride * y, second_stride * y);
+        deinterleave_row(
+            source.visible_row(y),
+            &mut first[start..start + width],
+            &mut second[second_start..second_start + width],
+        );
+    }
+}

@@ -1,0 +1,78 @@
+-- Sums, one more block of a list on, and one more row of a table.
+use Rattle.std.proofs.Common.{ℕ, ◌≡◌, ◌+◌, ◌-◌, ◌*◌, ◌≤◌, List, [], ◌∷◌, length, take, drop, Some, slice_get, All}
+use Rattle.std.proofs.Common.{arith, mul-suc, suc, length-append}
+use Rattle.std.proofs.Common.{◌<◌, get_or}
+use Rattle.std.specs.Prelude.{sum_by}
+use Rattle.std.proofs.lemmas.List.{take_all, drop_all}
+use Rattle.std.proofs.lemmas.List.Sums.{sum_by_more}
+use Rattle.v_frame.specs.Prelude.{Table, row_major, width_of, height_of}
+use Rattle.v_frame_statistics.proofs.ListSums.{sum_by-piece, sum_by-rest, sum_by-row}
+
+-- the pixels of a table whose rows are of one width
+pub pixels_of_rows : {T : Type 0} (width : ℕ) (table : Table T) → All (λ row. length row ≡ width) table
+    → length (row_major table) ≡ height_of table * width
+pixels_of_rows width [] wide = omega arith
+pixels_of_rows width (row ∷ table) wide =
+    let next : suc (length table) * width ≡ length table * width + width = omega arith in
+    omega (
+      arith,
+      next,
+      length-append row (row_major table),
+      wide 0 row (omega arith),
+      pixels_of_rows width table (λ k d h. wide (suc k) d (omega arith)),
+    )
+
+module _ {X : Type 0} (f : X → ℕ) (most : ℕ) where
+  -- the first n items are summed, of which none adds more than so much
+  pub record SummedBefore (xs : List X) (n sum : ℕ) : Type 0 where
+    pub so_far : sum ≡ sum_by f (take n xs)
+    pub bound : sum ≤ most * n
+
+  -- one more block of n items
+  pub block_summed : (xs : List X) (n k sum block : ℕ) → SummedBefore xs (n * k) sum
+      → block ≡ sum_by f (take n (drop (n * k) xs)) → block ≤ most * n → SummedBefore xs (n * (k + 1)) (sum + block)
+  block_summed xs n k sum block before is few = record {
+    so_far = omega (arith, before.so_far, is, sum_by-piece f xs n k);
+    bound =
+        let next : n * (k + 1) ≡ n * k + n = omega (arith, mul-suc n k) in
+        let both : most * (n * k + n) ≡ most * (n * k) + most * n = omega arith in
+        rw next (omega (arith, both, before.bound, few));
+  }
+
+  -- the rest
+  pub rest_summed : (xs : List X) (n sum rest : ℕ) → SummedBefore xs n sum
+      → rest ≡ sum_by f (take (length xs - n) (drop n xs)) → sum + rest ≡ sum_by f xs
+  rest_summed xs n sum rest before is = omega (arith, before.so_far, is, sum_by-rest f xs n)
+
+  -- the rows above row y are summed: with those that are left this is all
+  pub record SummedAbove (table : Table X) (y sum : ℕ) : Type 0 where
+    pub so_far : sum + sum_by f (row_major (drop y table)) ≡ sum_by f (row_major table)
+    pub bound : sum ≤ most * (y * width_of table)
+
+  -- one more row
+  pub row_summed : (table : Table X) (y sum : ℕ) (row : List X) (here : ℕ) → SummedAbove table y sum
+      → slice_get table y ≡ Some row → length row ≡ width_of table → here ≡ sum_by f row → here ≤ most * length row
+      → SummedAbove table (y + 1) (sum + here)
+  row_summed table y sum row here above is wide value few = record {
+    so_far = omega (arith, above.so_far, value, sum_by-row f table y row is);
+    bound =
+        let width = width_of table in
+        let next : most * ((y + 1) * width) ≡ most * (y * width) + most * width = omega arith in
+        omega (arith, next, above.bound, rw wide at few);
+  }
+
+  -- one more item
+  pub item_summed : (xs : List X) (i sum : ℕ) (x : X) (here : ℕ) → SummedBefore xs i sum → i < length xs
+      → x ≡ get_or xs i x → here ≡ f x → here ≤ most → SummedBefore xs (i + 1) (sum + here)
+  item_summed xs i sum x here before h read is few = record {
+    so_far = omega (arith, before.so_far, is, rw (← read) at (sum_by_more f xs i x h));
+    bound = let next : most * (i + 1) ≡ most * i + most = omega arith in omega (arith, next, before.bound, few);
+  }
+
+  -- a list that is summed to its end
+  pub all_summed : (xs : List X) (n sum : ℕ) → SummedBefore xs n sum → length xs ≤ n → sum ≡ sum_by f xs
+  all_summed xs n sum before h = rw (take_all n xs h) at before.so_far
+
+  pub all_rows_summed : (table : Table X) (y sum : ℕ) → SummedAbove table y sum → height_of table ≤ y
+      → sum ≡ sum_by f (row_major table)
+  all_rows_summed table y sum above h = omega (arith, rw (drop_all y table h) at above.so_far)

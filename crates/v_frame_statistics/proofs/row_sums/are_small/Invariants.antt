@@ -1,0 +1,10 @@
+-- The number is the least one that no value so far is above.
+use Rattle.std.proofs.Common.{ℕ, ◌<◌, ◌≤◌, get_or}
+use Rattle.v_frame_statistics.proofs.row_sums.are_small.Given as goal
+
+abbrev pub invariant-loop-x : goal.invariant-loop-x
+invariant-loop-x g l = record {
+  bound : (k : ℕ) (d : g.row.T.Denot) → k < l.x → g.T.Pixel.form.value (get_or l.block k d) ≤ l.greatest;
+  least : (m : ℕ) → ((k : ℕ) (d : g.row.T.Denot) → k < l.x → g.T.Pixel.form.value (get_or l.block k d) ≤ m)
+      → l.greatest ≤ m;
+}

@@ -1,0 +1,7 @@
+-- The pixels of the blocks so far are summed.
+use Rattle.std.proofs.Common.{◌*◌}
+use Rattle.v_frame_statistics.proofs.SumSteps.{SummedBefore}
+use Rattle.v_frame_statistics.proofs.row_sums.values_of_row.Given as goal
+
+abbrev pub invariant-loop-block : goal.invariant-loop-block
+invariant-loop-block g l = SummedBefore g.T.Pixel.form.value 65536 l.row (4096 * l.block) l.sum

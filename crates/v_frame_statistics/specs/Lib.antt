@@ -1,0 +1,7 @@
+pub mod Count
+pub mod Extremes
+pub mod Histogram
+pub mod PairSums
+pub mod Prelude
+pub mod Sums
+pub mod WorkedStatistics

@@ -1,0 +1,6 @@
+-- The words that callers' clauses cite, re-exported from one place.
+pub use Rattle.v_frame_statistics.specs.Count.{passing_pairs}
+pub use Rattle.v_frame_statistics.specs.Extremes.{IsGreatest, IsLeast}
+pub use Rattle.v_frame_statistics.specs.Histogram.{Counts, occurrences}
+pub use Rattle.v_frame_statistics.specs.PairSums.{ArePairSums}
+pub use Rattle.v_frame_statistics.specs.Sums.{sum_of_products, sum_of_squares, sum_of_values}

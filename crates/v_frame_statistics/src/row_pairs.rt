@@ -1,0 +1,104 @@
+//! Sums over two rows, in blocks for which narrow sums suffice: of these the compiler makes packed code.
+ghost use Rattle.std.specs.Prelude.{◌≡◌, ◌*◌, ◌<◌, ◌≤◌, All, length};
+ghost use Rattle.v_frame_statistics.specs.PairSums.{ArePairSums, PairSumsAtMost};
+
+use crate::row_sums::{are_small, product_of, product_of_small};
+use crate::rows::PairSums;
+use v_frame::pixel::Pixel;
+
+/// Returns the sums over two rows.
+pub(crate) fn sums_of_two_rows<T: Pixel>(a: &[T], b: &[T]) -> PairSums
+    requires { length b.now ≡ length a.now }
+    ensures value { ArePairSums T.form.value a.now b.now result }
+    ensures bound { PairSumsAtMost (4294967296 * length a.now) result }
+{
+    let (mut first, mut second) = (0, 0);
+    let (mut first_squares, mut second_squares, mut products) = (0, 0, 0);
+    let blocks = a.len() / 4096;
+    for block in 0..blocks {
+        let start = 4096 * block;
+        let here = sums_of_two_blocks(&a[start..start + 4096], &b[start..start + 4096]);
+        first += here.first;
+        second += here.second;
+        first_squares += here.first_squares;
+        second_squares += here.second_squares;
+        products += here.products;
+    }
+    let start = 4096 * blocks;
+    let rest = sums_of_two_blocks(&a[start..], &b[start..]);
+    PairSums {
+        first: first + rest.first,
+        second: second + rest.second,
+        first_squares: first_squares + rest.first_squares,
+        second_squares: second_squares + rest.second_squares,
+        products: products + rest.products,
+    }
+}
+
+/// Returns the sums over two blocks.
+fn sums_of_two_blocks<T: Pixel>(a: &[T], b: &[T]) -> PairSums
+    requires same { length b.now ≡ length a.now }
+    requires short { length a.now ≤ 4096 }
+    ensures value { ArePairSums T.form.value a.now b.now result }
+    ensures bound { PairSumsAtMost (4294967296 * length a.now) result }
+{
+    if are_small(a) && are_small(b) {
+        sums_of_two_small_blocks(a, b)
+    } else {
+        sums_of_two_wide_blocks(a, b)
+    }
+}
+
+/// The same of small values.
+fn sums_of_two_small_blocks<T: Pixel>(a: &[T], b: &[T]) -> PairSums
+    requires first { All (λ p. T.form.value p < 1024) a.now }
+    requires second { All (λ p. T.form.value p < 1024) b.now }
+    requires same { length b.now ≡ length a.now }
+    requires short { length a.now ≤ 4096 }
+    ensures value { ArePairSums T.form.value a.now b.now result }
+    ensures bound { PairSumsAtMost (1046529 * length a.now) result }
+{
+    let (mut first, mut second): (u32, u32) = (0, 0);
+    let (mut first_squares, mut second_squares, mut products): (u32, u32, u32) = (0, 0, 0);
+    for x in 0..a.len() {
+        let (p, q) = (a[x], b[x]);
+        first += u32::from(p.into_u16());
+        second += u32::from(q.into_u16());
+        first_squares += product_of_small(p, p);
+        second_squares += product_of_small(q, q);
+        products += product_of_small(p, q);
+    }
+    PairSums {
+        first: u128::from(first),
+        second: u128::from(second),
+        first_squares: u128::from(first_squares),
+        second_squares: u128::from(second_squares),
+        products: u128::from(products),
+    }
+}
+
+/// The same of any values.
+fn sums_of_two_wide_blocks<T: Pixel>(a: &[T], b: &[T]) -> PairSums
+    requires same { length b.now ≡ length a.now }
+    requires short { length a.now ≤ 4096 }
+    ensures value { ArePairSums T.form.value a.now b.now result }
+    ensures bound { PairSumsAtMost (4294967296 * length a.now) result }
+{
+    let (mut first, mut second): (u32, u32) = (0, 0);
+    let (mut first_squares, mut second_squares, mut products): (u64, u64, u64) = (0, 0, 0);
+    for x in 0..a.len() {
+        let (p, q) = (a[x], b[x]);
+        first += u32::from(p.into_u16());
+        second += u32::from(q.into_u16());
+        first_squares += u64::from(product_of(p, p));
+        second_squares += u64::from(product_of(q, q));
+        products += u64::from(product_of(p, q));
+    }
+    PairSums {
+        first: u128::from(first),
+        second: u128::from(second),
+        first_squares: u128::from(first_squares),
+        second_squares: u128::from(second_squares),
+        products: u128::from(products),
+    }
+}

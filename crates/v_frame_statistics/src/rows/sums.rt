@@ -1,0 +1,83 @@
+//! Sums of values and of their squares, of which means and variances are made.
+ghost use Rattle.std.specs.Prelude.{◌≡◌, ◌*◌, ◌<◌, ◌≤◌, length};
+ghost use Rattle.v_frame.specs.Prelude.{height_of, row_major, width_of};
+ghost use Rattle.v_frame_statistics.specs.Sums.{sum_of_squares, sum_of_values};
+
+use crate::row_sums::{squares_of_row, values_of_row};
+use v_frame::pixel::Pixel;
+use v_frame::plane::RowsRef;
+
+/// The sum of the values of a picture, and how many it has. The mean is `sum / count`.
+#[derive(Clone, Copy, Debug, PartialEq, Eq)]
+pub struct SumAndCount {
+    /// The sum of all values.
+    pub sum: u128,
+    /// How many pixels there are, never zero.
+    pub count: usize,
+}
+
+/// The sums of which the variance of a picture is made: it is `sum_of_squares / count` less the square of `sum / count`.
+#[derive(Clone, Copy, Debug, PartialEq, Eq)]
+pub struct VarianceSums {
+    /// The sum of all values.
+    pub sum: u128,
+    /// The sum of the squares of all values.
+    pub sum_of_squares: u128,
+    /// How many pixels there are, never zero.
+    pub count: usize,
+}
+
+/// Returns the sum of all values. It is exact, and never too large.
+pub fn sum<T: Pixel>(rows: &RowsRef<'_, T>) -> u128
+    ensures value { result ≡ sum_of_values T.form.value (row_major rows.now) }
+    ensures bound { result ≤ 65536 * (height_of rows.now * width_of rows.now) }
+{
+    let mut sum = 0;
+    for y in 0..rows.height() {
+        sum += values_of_row(rows.visible_row(y));
+    }
+    sum
+}
+
+/// Returns the two numbers whose quotient is the mean.
+pub fn mean<T: Pixel>(rows: &RowsRef<'_, T>) -> SumAndCount
+    ensures sum { result.sum ≡ sum_of_values T.form.value (row_major rows.now) }
+    ensures count { result.count ≡ length (row_major rows.now) }
+    ensures size { result.count ≡ height_of rows.now * width_of rows.now }
+    ensures positive { 0 < result.count }
+{
+    SumAndCount {
+        sum: sum(rows),
+        count: pixel_count(rows),
+    }
+}
+
+/// Returns the sums of which the variance is made.
+pub fn variance<T: Pixel>(rows: &RowsRef<'_, T>) -> VarianceSums
+    ensures sum { result.sum ≡ sum_of_values T.form.value (row_major rows.now) }
+    ensures squares { result.sum_of_squares ≡ sum_of_squares T.form.value (row_major rows.now) }
+    ensures count { result.count ≡ length (row_major rows.now) }
+    ensures size { result.count ≡ height_of rows.now * width_of rows.now }
+    ensures positive { 0 < result.count }
+{
+    let (mut sum, mut sum_of_squares) = (0, 0);
+    for y in 0..rows.height() {
+        let row = rows.visible_row(y);
+        sum += values_of_row(row);
+        sum_of_squares += squares_of_row(row);
+    }
+    VarianceSums {
+        sum,
+        sum_of_squares,
+        count: pixel_count(rows),
+    }
+}
+
+/// Returns how many pixels there are.
+fn pixel_count<T>(rows: &RowsRef<'_, T>) -> usize
+    ensures value { result ≡ length (row_major rows.now) }
+    ensures sizes { result ≡ height_of rows.now * width_of rows.now }
+    ensures positive { 0 < result }
+{
+    rows.height() * rows.width()
+}

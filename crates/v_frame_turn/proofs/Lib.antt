@@ -1,0 +1,5 @@
+pub mod Entries
+pub mod Exchanged
+pub mod Quarters
+pub mod RowPairs
+pub mod Transposed

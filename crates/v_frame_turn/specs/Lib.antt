@@ -1,0 +1,4 @@
+pub mod Frames
+pub mod Turn
+pub mod Turning
+pub mod WorkedTurns

@@ -1,0 +1,74 @@
+//! Rows written upside down, from their right ends, or both.
+ghost use Rattle.std.specs.Prelude.{◌≡◌, length, map, reverse};
+ghost use Rattle.v_frame.specs.Prelude.{height_of, strided_rows, width_of, KeepsRest, RowsFit};
+ghost use Rattle.v_frame_turn.specs.Turn.{rotated_180};
+
+use crate::rows::row::write_reversed;
+use v_frame::pixel::Pixel;
+use v_frame::plane::RowsRef;
+
+/// Writes what `source` shows upside down, as `np.flipud` does.
+#[tactic(auto, using(v_frame_raster::proofs::tables::StridedWrites::row_ends))]
+pub fn flip_vertical<T: Pixel>(
+    source: &RowsRef<'_, T>,
+    buffer: &mut [T],
+    width: usize,
+    height: usize,
+    stride: usize,
+)
+    requires fit { RowsFit width height stride (length buffer.old) }
+    requires wide { width_of source.now ≡ width }
+    requires high { height_of source.now ≡ height }
+    ensures table { strided_rows width height stride buffer.new ≡ reverse source.now }
+    ensures rest { KeepsRest width height stride buffer.old buffer.new }
+{
+    for y in 0..height {
+        let start = stride * y;
+        buffer[start..start + width].copy_from_slice(source.visible_row(height - 1 - y));
+    }
+}
+
+/// Writes what `source` shows mirrored: each row from its right end, as `np.fliplr` does.
+#[tactic(auto, using(v_frame_raster::proofs::tables::StridedWrites::row_ends))]
+pub fn flip_horizontal<T: Pixel>(
+    source: &RowsRef<'_, T>,
+    buffer: &mut [T],
+    width: usize,
+    height: usize,
+    stride: usize,
+)
+    requires fit { RowsFit width height stride (length buffer.old) }
+    requires wide { width_of source.now ≡ width }
+    requires high { height_of source.now ≡ height }
+    ensures table { strided_rows width height stride buffer.new ≡ map reverse source.now }
+    ensures rest { KeepsRest width height stride buffer.old buffer.new }
+{
+    for y in 0..height {
+        let start = stride * y;
+        write_reversed(&mut buffer[start..start + width], source.visible_row(y));
+    }
+}
+
+/// Writes what `source` shows turned by 180 degrees.
+#[tactic(auto, using(v_frame_raster::proofs::tables::StridedWrites::row_ends))]
+pub fn rotate_180<T: Pixel>(
+    source: &RowsRef<'_, T>,
+    buffer: &mut [T],
+    width: usize,
+    height: usize,
+    stride: usize,
+)
+    requires fit { RowsFit width height stride (length buffer.old) }
+    requires wide { width_of source.now ≡ width }
+    requires high { height_of source.now ≡ height }
+    ensures table { strided_rows width height stride buffer.new ≡ rotated_180 source.now }
+    ensures rest { KeepsRest width height stride buffer.old buffer.new }
+{
+    for y in 0..height {
+        let start = stride * y;
+        write_reversed(
+            &mut buffer[start..start + width],
+            source.visible_row(height - 1 - y),
+        );
+    }
+}

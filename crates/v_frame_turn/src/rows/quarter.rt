@@ -1,0 +1,201 @@
+//! Rows that become columns: transposed, or turned by a quarter.
+ghost use Rattle.std.specs.Prelude.{All, ◌≡◌, ◌-◌, ◌<◌, ◌≤◌, ℕ, false, length, true};
+ghost use Rattle.v_frame.specs.Prelude.{height_of, pixel_at, strided_rows, width_of, KeepsRest, RowsFit};
+ghost use Rattle.v_frame_turn.specs.Turn.{rotated_270, rotated_90, transposed};
+ghost use Rattle.v_frame_turn.specs.Turning.{index_from, turned_pixel, ColumnIsRight, KeepsRight};
+
+use v_frame::pixel::Pixel;
+use v_frame::plane::RowsRef;
+
+/// How many rows are written together: so many lines of memory stay in the first cache.
+const BLOCK: usize = 64;
+
+/// Which pixel of the source comes first: its row, and its column.
+#[derive(Clone, Copy)]
+struct Corner {
+    from_right: bool,
+    from_bottom: bool,
+}
+
+/// Writes what `source` shows transposed: its columns become the rows, from the left, as NumPy's `.T` does. So the width
+/// that is written is the source's height, and the height its width.
+pub fn transpose<T: Pixel>(
+    source: &RowsRef<'_, T>,
+    buffer: &mut [T],
+    width: usize,
+    height: usize,
+    stride: usize,
+)
+    requires fit { RowsFit width height stride (length buffer.old) }
+    requires wide { height_of source.now ≡ width }
+    requires high { width_of source.now ≡ height }
+    ensures table { strided_rows width height stride buffer.new ≡ transposed source.now }
+    ensures pixels { (x y : ℕ) → x < width → y < height
+        → pixel_at (strided_rows width height stride buffer.new) x y ≡ pixel_at source.now y x }
+    ensures rest { KeepsRest width height stride buffer.old buffer.new }
+{
+    let corner = Corner {
+        from_right: false,
+        from_bottom: false,
+    };
+    turn(source, buffer, width, height, stride, corner);
+}
+
+/// Writes what `source` shows turned by 90 degrees clockwise: its columns become the rows, from the left, each from the
+/// bottom, as `np.rot90(_, -1)` does. So the width that is written is the source's height, and the height its width.
+pub fn rotate_90<T: Pixel>(
+    source: &RowsRef<'_, T>,
+    buffer: &mut [T],
+    width: usize,
+    height: usize,
+    stride: usize,
+)
+    requires fit { RowsFit width height stride (length buffer.old) }
+    requires wide { height_of source.now ≡ width }
+    requires high { width_of source.now ≡ height }
+    ensures table { strided_rows width height stride buffer.new ≡ rotated_90 source.now }
+    ensures pixels { (x y : ℕ) → x < width → y < height
+        → pixel_at (strided_rows width height stride buffer.new) x y
+        ≡ pixel_at source.now y (width - 1 - x) }
+    ensures rest { KeepsRest width height stride buffer.old buffer.new }
+{
+    let corner = Corner {
+        from_right: false,
+        from_bottom: true,
+    };
+    turn(source, buffer, width, height, stride, corner);
+}
+
+/// Writes what `source` shows turned by 270 degrees clockwise, which is 90 degrees counterclockwise: its columns become the
+/// rows, from the right, as `np.rot90` does. So the width that is written is the source's height, and the height its width.
+pub fn rotate_270<T: Pixel>(
+    source: &RowsRef<'_, T>,
+    buffer: &mut [T],
+    width: usize,
+    height: usize,
+    stride: usize,
+)
+    requires fit { RowsFit width height stride (length buffer.old) }
+    requires wide { height_of source.now ≡ width }
+    requires high { width_of source.now ≡ height }
+    ensures table { strided_rows width height stride buffer.new ≡ rotated_270 source.now }
+    ensures pixels { (x y : ℕ) → x < width → y < height
+        → pixel_at (strided_rows width height stride buffer.new) x y
+        ≡ pixel_at source.now (height - 1 - y) x }
+    ensures rest { KeepsRest width height stride buffer.old buffer.new }
+{
+    let corner = Corner {
+        from_right: true,
+        from_bottom: false,
+    };
+    turn(source, buffer, width, height, stride, corner);
+}
+
+/// Writes the columns of `source` as rows, block after block.
+fn turn<T: Pixel>(
+    source: &RowsRef<'_, T>,
+    buffer: &mut [T],
+    width: usize,
+    height: usize,
+    stride: usize,
+    corner: Corner,
+)
+    requires fit { RowsFit width height stride (length buffer.old) }
+    requires wide { height_of source.now ≡ width }
+    requires high { width_of source.now ≡ height }
+    ensures pixels { (x y : ℕ) → x < width → y < height
+        → pixel_at (strided_rows width height stride buffer.new) x y
+        ≡ turned_pixel corner.from_right corner.from_bottom source.now x y }
+    ensures source { All (λ row. length row ≡ height) source.now }
+    ensures rest { KeepsRest width height stride buffer.old buffer.new }
+{
+    let _width = source.width();
+    for block in 0..height / BLOCK + 1 {
+        let from = BLOCK * block;
+        let to = from + BLOCK.min(height - from);
+        turn_block(source, buffer, width, height, stride, corner, from, to);
+    }
+}
+
+/// Writes the rows from one on and above another, two columns at a time.
+fn turn_block<T: Pixel>(
+    source: &RowsRef<'_, T>,
+    buffer: &mut [T],
+    width: usize,
+    height: usize,
+    stride: usize,
+    corner: Corner,
+    from: usize,
+    to: usize,
+)
+    requires fit { RowsFit width height stride (length buffer.old) }
+    requires wide { height_of source.now ≡ width }
+    requires high { width_of source.now ≡ height }
+    requires within { to ≤ height }
+    ensures columns { (x : ℕ) → x < width → ColumnIsRight
+        (turned_pixel corner.from_right corner.from_bottom source.now)
+        (strided_rows width height stride buffer.new) x from to }
+    ensures kept { KeepsRight (turned_pixel corner.from_right corner.from_bottom source.now)
+        (strided_rows width height stride buffer.old) (strided_rows width height stride buffer.new) }
+    ensures rest { KeepsRest width height stride buffer.old buffer.new }
+{
+    for pair in 0..(width - 1) / 2 + 1 {
+        // The last column of an odd width is written twice.
+        let x = 2 * pair;
+        let next = (x + 1).min(width - 1);
+        turn_pair(
+            source, buffer, width, height, stride, corner, x, next, from, to,
+        );
+    }
+}
+
+/// Writes two columns, in the rows from one on and above another: a pixel of each is read and written before the next, so
+/// that both rows of the source and the lines that are written stay in the first cache.
+#[tactic(auto, using(crate::proofs::Entries::entry_within))]
+fn turn_pair<T: Pixel>(
+    source: &RowsRef<'_, T>,
+    buffer: &mut [T],
+    width: usize,
+    height: usize,
+    stride: usize,
+    corner: Corner,
+    x: usize,
+    next: usize,
+    from: usize,
+    to: usize,
+)
+    requires fit { RowsFit width height stride (length buffer.old) }
+    requires wide { height_of source.now ≡ width }
+    requires high { width_of source.now ≡ height }
+    requires across { x < width }
+    requires next_across { next < width }
+    requires within { to ≤ height }
+    ensures column { ColumnIsRight
+        (turned_pixel corner.from_right corner.from_bottom source.now)
+        (strided_rows width height stride buffer.new) x from to }
+    ensures next_column { ColumnIsRight
+        (turned_pixel corner.from_right corner.from_bottom source.now)
+        (strided_rows width height stride buffer.new) next from to }
+    ensures kept { KeepsRight (turned_pixel corner.from_right corner.from_bottom source.now)
+        (strided_rows width height stride buffer.old) (strided_rows width height stride buffer.new) }
+    ensures rest { KeepsRest width height stride buffer.old buffer.new }
+{
+    let row = source.visible_row(counted(corner.from_bottom, width, x));
+    let next_row = source.visible_row(counted(corner.from_bottom, width, next));
+    for y in from..to {
+        let column = counted(corner.from_right, height, y);
+        let start = stride * y;
+        buffer[start + x] = row[column];
+        buffer[start + next] = next_row[column];
+    }
+}
+
+/// Returns an index, counted from the end where `from_end` says so.
+#[inline(always)]
+fn counted(from_end: bool, count: usize, index: usize) -> usize
+    requires { index < count }
+    ensures value { result ≡ index_from from_end count index }
+    ensures within { result < count }
+{
+    if from_end { count - 1 - index } else { index }
+}
