@@ -27,6 +27,7 @@ static double now(void) {
 #define BENCH(name) name##_u8
 #define TYPE "u8"
 #include "samples.inc"
+#include "pictures.inc"
 #undef SAMPLE
 #undef SIGNED
 #undef WIDE
@@ -41,6 +42,41 @@ static double now(void) {
 #define BENCH(name) name##_u16
 #define TYPE "u16"
 #include "samples.inc"
+#include "pictures.inc"
+
+APART static void loop_widen(uint16_t *restrict a, const uint8_t *restrict b, size_t w, size_t h, size_t s) {
+    for (size_t y = 0; y < h; y++) {
+        for (size_t x = 0; x < w; x++) {
+            a[s * y + x] = (uint16_t)(b[s * y + x] << 2);
+        }
+    }
+}
+
+APART static void loop_narrow(uint8_t *restrict a, const uint16_t *restrict b, size_t w, size_t h, size_t s) {
+    for (size_t y = 0; y < h; y++) {
+        for (size_t x = 0; x < w; x++) {
+            uint32_t value = ((uint32_t)b[s * y + x] + 2) >> 2;
+            a[s * y + x] = (uint8_t)(value < 255 ? value : 255);
+        }
+    }
+}
+
+/* 8 bits in 10, and back. */
+static void depths(size_t w, size_t h) {
+    size_t s = w + 32, length = s * h, times = 2000000 / (w * h) + 1;
+    v_frame_rows rows = {w, h, s};
+    uint8_t *bytes = calloc(length, 1);
+    uint16_t *words = calloc(length, 2);
+    if (bytes == NULL || words == NULL) {
+        exit(1);
+    }
+    TIME("8 bits in 10,", sink += v_frame_convert_depth_u8_u16(&rows, words, length, &rows, bytes, length, 8, 10),
+         loop_widen(words, bytes, w, h, s));
+    TIME("10 bits in 8,", sink += v_frame_convert_depth_u16_u8(&rows, bytes, length, &rows, words, length, 10, 8),
+         loop_narrow(bytes, words, w, h, s));
+    free(bytes);
+    free(words);
+}
 
 int main(void) {
     size_t sizes[4][2] = {{8, 8}, {16, 16}, {64, 64}, {1920, 1080}};
@@ -48,6 +84,9 @@ int main(void) {
     for (int i = 0; i < 4; i++) {
         all_u8(sizes[i][0], sizes[i][1]);
         all_u16(sizes[i][0], sizes[i][1]);
+        pictures_u8(sizes[i][0], sizes[i][1]);
+        pictures_u16(sizes[i][0], sizes[i][1]);
+        depths(sizes[i][0], sizes[i][1]);
     }
     return 0;
 }

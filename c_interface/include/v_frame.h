@@ -42,7 +42,11 @@ enum v_frame_status {
     /* The sizes do not belong together: they differ, or are not what the call says. */
     V_FRAME_SIZES = 3,
     /* There is no format of this number. */
-    V_FRAME_FORMAT = 4
+    V_FRAME_FORMAT = 4,
+    /* A number that stands for a choice, a bit depth or a ratio is none that the call knows. */
+    V_FRAME_NUMBER = 5,
+    /* The third rows do not fit the third buffer. */
+    V_FRAME_THIRD_ROWS = 6
 };
 
 /* Chroma formats. */
@@ -52,6 +56,16 @@ enum v_frame_format {
     V_FRAME_422 = 2,
     V_FRAME_444 = 3,
     V_FRAME_411 = 4
+};
+
+/* Ways to turn a picture. From V_FRAME_TRANSPOSE on width and height are exchanged. Turns by 90 and 270 degrees are clockwise. */
+enum v_frame_turn {
+    V_FRAME_FLIP_VERTICAL = 0,
+    V_FRAME_FLIP_HORIZONTAL = 1,
+    V_FRAME_ROTATE_180 = 2,
+    V_FRAME_TRANSPOSE = 3,
+    V_FRAME_ROTATE_90 = 4,
+    V_FRAME_ROTATE_270 = 5
 };
 
 /* Rows in a buffer, in entries. */
@@ -109,6 +123,25 @@ typedef struct v_frame_place {
     uint32_t found;
 } v_frame_place;
 
+/* Numbers of a picture: mean and variance are sum / count and sum_of_squares / count - mean * mean. */
+typedef struct v_frame_statistics {
+    uint64_t count;
+    v_frame_sum sum;
+    v_frame_sum sum_of_squares;
+    uint32_t minimum;
+    uint32_t maximum;
+} v_frame_statistics;
+
+/* Sums over two pictures, of their pixels, their squares and the products at the same place: what SSIM and correlations are made
+ * of. */
+typedef struct v_frame_pair_statistics {
+    v_frame_sum first;
+    v_frame_sum second;
+    v_frame_sum first_squares;
+    v_frame_sum second_squares;
+    v_frame_sum products;
+} v_frame_pair_statistics;
+
 /* Sum the squares of the differences of two pictures of one size. */
 uint32_t v_frame_squared_errors_u8(const v_frame_rows *a_rows, const uint8_t *a, size_t a_length, const v_frame_rows *b_rows,
                                    const uint8_t *b, size_t b_length, v_frame_sum *sum);
@@ -154,6 +187,54 @@ uint32_t v_frame_decode_u16(const v_frame_rows *rows, uint16_t *buffer, size_t l
 uint32_t v_frame_encode_u16(const v_frame_rows *rows, uint8_t *buffer, size_t length, const v_frame_rows *source_rows,
                             const uint16_t *source, size_t source_length);
 
+/* Make the rows of the buffer show the source turned in a way of enum v_frame_turn. V_FRAME_NUMBER where there is no such way. */
+uint32_t v_frame_turn_u8(const v_frame_rows *rows, uint8_t *buffer, size_t length, const v_frame_rows *source_rows,
+                         const uint8_t *source, size_t source_length, uint32_t turn);
+uint32_t v_frame_turn_u16(const v_frame_rows *rows, uint16_t *buffer, size_t length, const v_frame_rows *source_rows,
+                          const uint16_t *source, size_t source_length, uint32_t turn);
+
+/* Make the rows of the buffer show the source, which has values of `from` bits, in `to` bits. To more bits a value is shifted; to
+ * fewer it is rounded to the nearest value, upwards at a half, and at most to the largest. A value above the largest of `from` bits
+ * counts as that one. V_FRAME_NUMBER where a bit depth is below 8, or above what the type holds. */
+uint32_t v_frame_convert_depth_u8_u16(const v_frame_rows *rows, uint16_t *buffer, size_t length, const v_frame_rows *source_rows,
+                                      const uint8_t *source, size_t source_length, uint32_t from, uint32_t to);
+uint32_t v_frame_convert_depth_u16_u8(const v_frame_rows *rows, uint8_t *buffer, size_t length, const v_frame_rows *source_rows,
+                                      const uint16_t *source, size_t source_length, uint32_t from, uint32_t to);
+uint32_t v_frame_convert_depth_u16_u16(const v_frame_rows *rows, uint16_t *buffer, size_t length, const v_frame_rows *source_rows,
+                                       const uint16_t *source, size_t source_length, uint32_t from, uint32_t to);
+
+/* Make the rows of the buffer show the source with each pixel `ratio_x` times across and `ratio_y` times down, as chroma is shown
+ * beside luma. The source has a column for each `ratio_x` columns that are begun, and a row for each `ratio_y` rows.
+ * V_FRAME_NUMBER where a ratio is 0. */
+uint32_t v_frame_upscale_u8(const v_frame_rows *rows, uint8_t *buffer, size_t length, const v_frame_rows *source_rows,
+                            const uint8_t *source, size_t source_length, size_t ratio_x, size_t ratio_y);
+uint32_t v_frame_upscale_u16(const v_frame_rows *rows, uint16_t *buffer, size_t length, const v_frame_rows *source_rows,
+                             const uint16_t *source, size_t source_length, size_t ratio_x, size_t ratio_y);
+
+/* Make the rows of the buffer show the pixels of two pictures of one size by turns, as chroma is kept in NV12 and P010. The rows of
+ * the buffer are as many, and twice as wide. */
+uint32_t v_frame_interleave_u8(const v_frame_rows *rows, uint8_t *buffer, size_t length, const v_frame_rows *u_rows,
+                               const uint8_t *u, size_t u_length, const v_frame_rows *v_rows, const uint8_t *v, size_t v_length);
+uint32_t v_frame_interleave_u16(const v_frame_rows *rows, uint16_t *buffer, size_t length, const v_frame_rows *u_rows,
+                                const uint16_t *u, size_t u_length, const v_frame_rows *v_rows, const uint16_t *v,
+                                size_t v_length);
+
+/* The other way: the pixels of the buffer go to u and to v by turns. */
+uint32_t v_frame_deinterleave_u8(const v_frame_rows *rows, const uint8_t *buffer, size_t length, const v_frame_rows *u_rows,
+                                 uint8_t *u, size_t u_length, const v_frame_rows *v_rows, uint8_t *v, size_t v_length);
+uint32_t v_frame_deinterleave_u16(const v_frame_rows *rows, const uint16_t *buffer, size_t length, const v_frame_rows *u_rows,
+                                  uint16_t *u, size_t u_length, const v_frame_rows *v_rows, uint16_t *v, size_t v_length);
+
+/* Count and sum the pixels of a picture, sum their squares, and find the least and the greatest value. */
+uint32_t v_frame_statistics_u8(const v_frame_rows *rows, const uint8_t *buffer, size_t length, v_frame_statistics *found);
+uint32_t v_frame_statistics_u16(const v_frame_rows *rows, const uint16_t *buffer, size_t length, v_frame_statistics *found);
+
+/* Sum the pixels of two pictures of one size, their squares and their products. */
+uint32_t v_frame_pair_statistics_u8(const v_frame_rows *a_rows, const uint8_t *a, size_t a_length, const v_frame_rows *b_rows,
+                                    const uint8_t *b, size_t b_length, v_frame_pair_statistics *found);
+uint32_t v_frame_pair_statistics_u16(const v_frame_rows *a_rows, const uint16_t *a, size_t a_length, const v_frame_rows *b_rows,
+                                     const uint16_t *b, size_t b_length, v_frame_pair_statistics *found);
+
 /* Make each entry of the border the pixel nearest to it, as motion search reads past the edge. The picture inside stays, and so
  * does all after the border. V_FRAME_FIRST_ROWS where a size is zero, or picture and border have more entries than the buffer. */
 uint32_t v_frame_pad_u8(const v_frame_bordered *layout, uint8_t *buffer, size_t length);
@@ -161,7 +242,7 @@ uint32_t v_frame_pad_u16(const v_frame_bordered *layout, uint16_t *buffer, size_
 
 /* Lay out the planes of a frame in one buffer. Chroma has as many columns and rows as cover luma, and the padding divided by the
  * ratio and rounded up; the padding of luma is that times the ratio. V_FRAME_FIRST_ROWS where a size is zero, or a plane has 2^62
- * entries or more. */
+ * entries or more. No two planes overlap. */
 uint32_t v_frame_lay_out(const v_frame_request *request, v_frame_parts *parts);
 
 /* The rows of a picture in a border. The first of them begins at index v_frame_bordered_start. */
@@ -221,6 +302,10 @@ static inline const char *v_frame_status_text(uint32_t status) {
         return "the sizes do not belong together";
     case V_FRAME_FORMAT:
         return "there is no such format";
+    case V_FRAME_NUMBER:
+        return "a number is none that the call knows";
+    case V_FRAME_THIRD_ROWS:
+        return "the third rows do not fit their buffer";
     default:
         return "unknown status";
     }

@@ -1,15 +1,20 @@
 /*
- * v_frame_y4m: the header line of a YUV4MPEG2 stream, parsed by proved code.
+ * v_frame_y4m: a YUV4MPEG2 stream that is held or mapped in memory, read and written by proved code.
  *
- * The contract of the call says: where it answers V_FRAME_Y4M_OK, the line is a header line by the grammar of the format, and
- * the struct holds what it says; else the line is refused for a reason that it has, and the struct is as it was. It takes memory
- * by malloc while it works, and gives it back.
+ * A stream is a header line, and then for each frame a line that is FRAME, or FRAME and a space and anything, and the planes
+ * Y, U, V without gaps, of one byte a sample at a depth of 8, and else of two, the low byte first. Chroma of an odd size is
+ * rounded up. So it is read:
+ *
+ *     v_frame_y4m_first_line(bytes, size, &line);                  the header line, with its line feed
+ *     v_frame_y4m_parse_header(bytes, line - 1, &header, &letter);
+ *     v_frame_y4m_frame_bytes(&header, &frame);                    how many bytes each frame has after its line
+ *     v_frame_y4m_frame_line(bytes + line, size - line, &line);    and then so many bytes, while some are left
+ *
+ * The contract of each call, a function of the same name in crates/v_frame_y4m_c, says which status it answers, and what it
+ * writes; where that is not V_FRAME_Y4M_OK, the results are as they were, unless it says otherwise below. Calls that take a
+ * header or a header line take memory by malloc while they work, and give it back.
  *
  * You promise that pointers are not null, aligned, and as long as said, and that the results overlap nothing else.
- *
- * A stream is this line with a line feed, and then for each frame a line that is FRAME, or FRAME and a space and anything, and the
- * planes Y, U, V without gaps, of one byte a sample at a depth of 8, and else of two, the low byte first. Chroma of an odd size is
- * rounded up.
  */
 #ifndef V_FRAME_Y4M_H
 #define V_FRAME_Y4M_H
@@ -33,12 +38,22 @@ enum v_frame_y4m_status {
     V_FRAME_Y4M_MALFORMED = 4,
     /* The width or the height is 0. */
     V_FRAME_Y4M_ZERO_SIZE = 5,
-    /* The width or the height is above 2^64 - 1. */
+    /* The width or the height is above 2^64 - 1; at v_frame_y4m_frame_bytes, the bytes of a frame are above SIZE_MAX. */
     V_FRAME_Y4M_SIZE_TOO_LARGE = 6,
-    /* The colour is none of those that are read. */
+    /* The colour is none of those that are read; or no colour has the format, the bit depth and the siting. */
     V_FRAME_Y4M_UNKNOWN_COLOUR = 7,
     /* malloc gave no memory. */
-    V_FRAME_Y4M_OUT_OF_MEMORY = 8
+    V_FRAME_Y4M_OUT_OF_MEMORY = 8,
+    /* A number of the struct is none of its enum, or a ratio that is not stated has numbers. */
+    V_FRAME_Y4M_NO_SUCH_NUMBER = 9,
+    /* The buffer is shorter than the line. */
+    V_FRAME_Y4M_SHORT_BUFFER = 10,
+    /* There is no line feed among the bytes. */
+    V_FRAME_Y4M_UNFINISHED_LINE = 11,
+    /* There is no line feed among the first 1025 bytes. */
+    V_FRAME_Y4M_LINE_TOO_LONG = 12,
+    /* Another line stands where that of a frame is due. */
+    V_FRAME_Y4M_NO_FRAME = 13
 };
 
 enum v_frame_y4m_format {
@@ -86,9 +101,35 @@ typedef struct v_frame_y4m_header {
     uint32_t interlacing;
 } v_frame_y4m_header;
 
+/* Find where the first line of the bytes ends: its length, with its line feed. V_FRAME_Y4M_UNFINISHED_LINE, _LINE_TOO_LONG. */
+uint32_t v_frame_y4m_first_line(const uint8_t *bytes, size_t size, size_t *length);
+
+/* The same where the bytes begin with the line in front of a frame. V_FRAME_Y4M_NO_FRAME where another line stands there. */
+uint32_t v_frame_y4m_frame_line(const uint8_t *bytes, size_t size, size_t *length);
+
 /* Parse a header line, without its line feed. Where a status is about one parameter, `letter` becomes its letter for
  * V_FRAME_Y4M_MISSING, _DUPLICATE and _ZERO_SIZE, and 0 for others; on success it is as it was. */
 uint32_t v_frame_y4m_parse_header(const uint8_t *line, size_t length, v_frame_y4m_header *header, uint32_t *letter);
+
+/* Write the line of a header with its line feed to the front of a buffer; `needed` becomes its length. All else of the buffer
+ * is as it was. The status is the first of these: V_FRAME_Y4M_ZERO_SIZE, _NO_SUCH_NUMBER, _UNKNOWN_COLOUR, _OUT_OF_MEMORY,
+ * _SHORT_BUFFER; at the last of them `needed` becomes the length as well. 256 bytes are always enough. A header that was parsed
+ * has a line. Centred chroma of 8-bit 4:2:0 is written as 420jpeg, as ffmpeg writes it. */
+uint32_t v_frame_y4m_write_header(const v_frame_y4m_header *header, uint8_t *buffer, size_t size, size_t *needed);
+
+/* Count the bytes that a frame has after its line. The status is the first of these: V_FRAME_Y4M_ZERO_SIZE, _NO_SUCH_NUMBER,
+ * _UNKNOWN_COLOUR, _SIZE_TOO_LARGE. */
+uint32_t v_frame_y4m_frame_bytes(const v_frame_y4m_header *header, size_t *count);
+
+/* The words for a status. */
+static inline const char *v_frame_y4m_status_text(uint32_t status) {
+    static const char *const texts[] = {
+        "no error", "not a YUV4MPEG2 stream", "a parameter is missing", "a parameter is repeated", "malformed parameter",
+        "a size is 0", "size too large", "unknown colour", "out of memory", "no such number", "the buffer is too short",
+        "the stream ends inside a line", "line longer than 1024 bytes", "no FRAME where a frame is due",
+    };
+    return status < sizeof texts / sizeof texts[0] ? texts[status] : "unknown status";
+}
 
 #ifdef __cplusplus
 }

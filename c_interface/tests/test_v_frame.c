@@ -40,6 +40,7 @@ static uint64_t distance(uint32_t p, uint32_t q) {
 #define TEST(name) name##_u8
 
 #include "samples.inc"
+#include "pictures.inc"
 #undef SAMPLE
 #undef NAME
 #undef TEST
@@ -49,6 +50,55 @@ static uint64_t distance(uint32_t p, uint32_t q) {
 #define TEST(name) name##_u16
 
 #include "samples.inc"
+#include "pictures.inc"
+
+/* A value of `from` bits in `to` bits, by the words of the header. */
+static uint32_t at_depth(uint32_t value, uint32_t from, uint32_t to) {
+    uint32_t largest = (1u << from) - 1, limit = (1u << to) - 1;
+    if (from <= to) {
+        return (value < largest ? value : largest) << (to - from);
+    }
+    uint32_t rounded = (value + (1u << (from - to - 1))) >> (from - to);
+    return rounded < limit ? rounded : limit;
+}
+
+static void depths(void) {
+    for (uint32_t round = 0; round < 2000; round++) {
+        uint32_t from = 8 + (uint32_t)below(9), to = 8 + (uint32_t)below(9);
+        size_t width = 1 + below(50), height = 1 + below(4);
+        v_frame_rows rows = {width, height, width + below(9)}, source_rows = {width, height, width + below(9)};
+        size_t length = v_frame_rows_length(&rows), source_length = v_frame_rows_length(&source_rows);
+        uint16_t *words = filled_u16(&source_rows), *wide = filled_u16(&rows), *before = cloned_u16(wide, length);
+        uint8_t *bytes = filled_u8(&source_rows), *narrow = filled_u8(&rows);
+        CHECK(v_frame_convert_depth_u16_u16(&rows, wide, length, &source_rows, words, source_length, 7, to) == V_FRAME_NUMBER);
+        CHECK(v_frame_convert_depth_u16_u16(&rows, wide, length, &source_rows, words, source_length, from, 17) == V_FRAME_NUMBER);
+        CHECK(v_frame_convert_depth_u8_u16(&rows, wide, length, &source_rows, bytes, source_length, 9, to) == V_FRAME_NUMBER);
+        CHECK(v_frame_convert_depth_u16_u8(&rows, narrow, length, &source_rows, words, source_length, from, 9) == V_FRAME_NUMBER);
+        CHECK(v_frame_convert_depth_u16_u16(&rows, wide, length - 1, &source_rows, words, source_length, from, to) ==
+              V_FRAME_FIRST_ROWS);
+        CHECK(v_frame_convert_depth_u16_u16(&rows, wide, length, &source_rows, words, source_length - 1, from, to) ==
+              V_FRAME_SECOND_ROWS);
+        CHECK(memcmp(wide, before, 2 * length) == 0);
+        CHECK(v_frame_convert_depth_u16_u16(&rows, wide, length, &source_rows, words, source_length, from, to) == V_FRAME_OK);
+        check_rest_u16(&rows, wide, before, length);
+        for (size_t i = 0; i < width * height; i++) {
+            uint32_t value = words[source_rows.stride * (i / width) + i % width];
+            CHECK(wide[rows.stride * (i / width) + i % width] == at_depth(value, from, to));
+        }
+        CHECK(v_frame_convert_depth_u8_u16(&rows, wide, length, &source_rows, bytes, source_length, 8, to) == V_FRAME_OK);
+        CHECK(v_frame_convert_depth_u16_u8(&rows, narrow, length, &source_rows, words, source_length, from, 8) == V_FRAME_OK);
+        for (size_t i = 0; i < width * height; i++) {
+            size_t place = rows.stride * (i / width) + i % width, source_place = source_rows.stride * (i / width) + i % width;
+            CHECK(wide[place] == at_depth(bytes[source_place], 8, to));
+            CHECK(narrow[place] == at_depth(words[source_place], from, 8));
+        }
+        free(words);
+        free(wide);
+        free(before);
+        free(bytes);
+        free(narrow);
+    }
+}
 
 static void bytes_and_words(void) {
     for (int round = 0; round < 1000; round++) {
@@ -149,7 +199,7 @@ static void helpers(void) {
     CHECK(v_frame_rows_length(&rows) == 0);
     rows = v_frame_rows_packed(3, 0);
     CHECK(v_frame_rows_length(&rows) == 0);
-    for (uint32_t status = 0; status < 6; status++) {
+    for (uint32_t status = 0; status < 8; status++) {
         CHECK(strlen(v_frame_status_text(status)) > 0);
     }
 }
@@ -157,6 +207,9 @@ static void helpers(void) {
 int main(void) {
     all_u8();
     all_u16();
+    pictures_u8();
+    pictures_u16();
+    depths();
     bytes_and_words();
     frames();
     helpers();

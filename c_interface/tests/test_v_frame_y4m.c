@@ -1,6 +1,7 @@
 /*
- * Header lines in C, each status once. With -DREFUSING and -Wl,--wrap=malloc also each request for memory refused in turn: then the
- * status says so, and the header is as it was.
+ * Streams in memory in C, each status of each call once; random headers written and parsed back; lines cut off at each byte.
+ * With -DREFUSING and -Wl,--wrap=malloc also each request for memory refused in turn: then the status says so, and the results
+ * are as they were.
  */
 #include "v_frame_y4m.h"
 
@@ -62,16 +63,213 @@ static void refuse_each(void) {
         refused += status != V_FRAME_Y4M_OK;
     }
     CHECK(refused > 0);
-    printf("%zu requests for memory refused in turn\n", refused);
+    size_t of_parsing = refused, needed = 9;
+    uint8_t buffer[128];
+    memset(buffer, 9, sizeof buffer);
+    for (refused = 0, status = V_FRAME_Y4M_OUT_OF_MEMORY; status != V_FRAME_Y4M_OK; refused++) {
+        granted = refused;
+        status = v_frame_y4m_write_header(&header, buffer, sizeof buffer, &needed);
+        granted = SIZE_MAX;
+        CHECK(status == V_FRAME_Y4M_OK || (status == V_FRAME_Y4M_OUT_OF_MEMORY && needed == 9 && buffer[0] == 9));
+    }
+    CHECK(refused > 1);
+    printf("%zu requests for memory refused in turn\n", of_parsing + refused - 1);
 }
 #else
 static void refuse_each(void) {}
 #endif
 
+/* The bytes have a block of their own, so that a read after the last one is found. */
+static uint32_t find(uint32_t (*call)(const uint8_t *, size_t, size_t *), const void *bytes, size_t size, size_t *length) {
+    uint8_t *block = malloc(size + (size == 0));
+    CHECK(block != NULL);
+    memcpy(block, bytes, size);
+    *length = 9999;
+    uint32_t status = call(block, size, length);
+    free(block);
+    CHECK(status == V_FRAME_Y4M_OK || *length == 9999);
+    return status;
+}
+
+static void find_lines(void) {
+    static const char stream[] = "FRAME Ip\nFRAME\n";
+    size_t length;
+    for (size_t size = 0; size < sizeof stream; size++) {
+        uint32_t wanted = size < 9 ? V_FRAME_Y4M_UNFINISHED_LINE : V_FRAME_Y4M_OK;
+        CHECK(find(v_frame_y4m_first_line, stream, size, &length) == wanted && (size < 9 || length == 9));
+        CHECK(find(v_frame_y4m_frame_line, stream, size, &length) == wanted && (size < 9 || length == 9));
+    }
+    CHECK(find(v_frame_y4m_frame_line, "FRAME\n\n", 7, &length) == V_FRAME_Y4M_OK && length == 6);
+    static const char *const others[] = {"\n", "FRAM\n", "FRAMES\n", "frame\n", " FRAME\n", "FRAME\r\n"};
+    for (size_t i = 0; i < sizeof others / sizeof others[0]; i++) {
+        CHECK(find(v_frame_y4m_frame_line, others[i], strlen(others[i]), &length) == V_FRAME_Y4M_NO_FRAME);
+        CHECK(find(v_frame_y4m_first_line, others[i], strlen(others[i]), &length) == V_FRAME_Y4M_OK);
+        CHECK(length == strlen(others[i]));
+    }
+    /* A line may have 1024 bytes; a line feed further on is not looked for. */
+    char line[2048];
+    memset(line, ' ', sizeof line);
+    memcpy(line, "FRAME", 5);
+    for (size_t feed = 1020; feed < 1030; feed++) {
+        line[feed] = '\n';
+        for (size_t size = feed - 3; size < feed + 3; size++) {
+            uint32_t wanted = feed < size && feed <= 1024 ? V_FRAME_Y4M_OK
+                              : size > 1024               ? V_FRAME_Y4M_LINE_TOO_LONG
+                                                          : V_FRAME_Y4M_UNFINISHED_LINE;
+            CHECK(find(v_frame_y4m_frame_line, line, size, &length) == wanted);
+            CHECK(wanted != V_FRAME_Y4M_OK || length == feed + 1);
+            CHECK(find(v_frame_y4m_first_line, line, size, &length) == wanted);
+        }
+        line[feed] = ' ';
+    }
+}
+
+static uint64_t state = 2026;
+
+static uint64_t random_below(uint64_t bound) {
+    state = state * 6364136223846793005u + 1442695040888963407u;
+    return (state >> 33) % bound;
+}
+
+static uint64_t random_number(void) {
+    uint64_t high = random_below(1u << 31);
+    return (high << 33 | random_below(1u << 31) << 2 | 1) >> random_below(64);
+}
+
+static v_frame_y4m_ratio random_ratio(void) {
+    v_frame_y4m_ratio ratio = {0, 0, 0};
+    if (random_below(2) == 1) {
+        ratio.numerator = random_number();
+        ratio.denominator = random_number();
+        ratio.stated = 1;
+    }
+    return ratio;
+}
+
+static v_frame_y4m_header random_header(void) {
+    static const uint32_t depths[] = {8, 9, 10, 12, 14, 16};
+    v_frame_y4m_header header;
+    memset(&header, 0, sizeof header);
+    header.width = random_number() | 1;
+    header.height = random_number() | 1;
+    header.frame_rate = random_ratio();
+    header.pixel_aspect = random_ratio();
+    header.format = (uint32_t)random_below(5);
+    header.bit_depth = header.format == V_FRAME_Y4M_411 ? 8 : depths[random_below(6)];
+    header.siting = header.format == V_FRAME_Y4M_420 && header.bit_depth == 8 ? 1 + (uint32_t)random_below(3) : 0;
+    header.interlacing = (uint32_t)random_below(6);
+    return header;
+}
+
+static int same_ratio(const v_frame_y4m_ratio *a, const v_frame_y4m_ratio *b) {
+    return a->numerator == b->numerator && a->denominator == b->denominator && a->stated == b->stated;
+}
+
+static int same_header(const v_frame_y4m_header *a, const v_frame_y4m_header *b) {
+    return a->width == b->width && a->height == b->height && same_ratio(&a->frame_rate, &b->frame_rate) &&
+           same_ratio(&a->pixel_aspect, &b->pixel_aspect) && a->format == b->format && a->bit_depth == b->bit_depth &&
+           a->siting == b->siting && a->interlacing == b->interlacing;
+}
+
+/* Writes a header into a block of this size, and sees that all after its line, and all where it is refused, is as it was. */
+static uint32_t write_into(const v_frame_y4m_header *header, size_t size, uint8_t *line, size_t *needed) {
+    uint8_t *block = malloc(size + (size == 0));
+    CHECK(block != NULL);
+    memset(block, 9, size);
+    *needed = 9999;
+    uint32_t status = v_frame_y4m_write_header(header, block, size, needed);
+    for (size_t i = status == V_FRAME_Y4M_OK ? *needed : 0; i < size; i++) {
+        CHECK(block[i] == 9);
+    }
+    CHECK(status == V_FRAME_Y4M_OK || status == V_FRAME_Y4M_SHORT_BUFFER || *needed == 9999);
+    if (status == V_FRAME_Y4M_OK) {
+        memcpy(line, block, *needed);
+    }
+    free(block);
+    return status;
+}
+
+static void write_and_parse_back(void) {
+    for (int n = 0; n < 3000; n++) {
+        v_frame_y4m_header header = random_header(), found;
+        uint8_t line[256];
+        size_t needed, length;
+        uint32_t letter;
+        CHECK(write_into(&header, 0, line, &needed) == V_FRAME_Y4M_SHORT_BUFFER && needed < 256);
+        CHECK(write_into(&header, needed - 1, line, &length) == V_FRAME_Y4M_SHORT_BUFFER && length == needed);
+        CHECK(write_into(&header, needed + (size_t)random_below(3), line, &length) == V_FRAME_Y4M_OK && length == needed);
+        CHECK(find(v_frame_y4m_first_line, line, needed, &length) == V_FRAME_Y4M_OK && length == needed);
+        CHECK(v_frame_y4m_parse_header(line, needed - 1, &found, &letter) == V_FRAME_Y4M_OK);
+        CHECK(same_header(&header, &found));
+        for (size_t size = 0; n < 30 && size < needed; size++) {
+            CHECK(find(v_frame_y4m_first_line, line, size, &length) == V_FRAME_Y4M_UNFINISHED_LINE);
+        }
+    }
+}
+
+/* The header with one number changed. */
+#define WITH(field, value) (header = plain, header.field = (value), &header)
+
+static void refuse_numbers(void) {
+    static const v_frame_y4m_header plain = {5, 3, {25, 1, 1}, {0, 0, 0}, V_FRAME_Y4M_420, 8, V_FRAME_Y4M_CENTRE, 0};
+    v_frame_y4m_header header;
+    uint8_t line[256];
+    size_t needed, count = 9999;
+    CHECK(write_into(&plain, 256, line, &needed) == V_FRAME_Y4M_OK);
+    CHECK(needed == 31 && memcmp(line, "YUV4MPEG2 W5 H3 F25:1 C420jpeg\n", 31) == 0);
+#define REFUSED(field, value, why)                                                                                              \
+    CHECK(write_into(WITH(field, value), 256, line, &needed) == (why));                                                        \
+    CHECK(v_frame_y4m_frame_bytes(&header, &count) == (why) && count == 9999)
+    REFUSED(width, 0, V_FRAME_Y4M_ZERO_SIZE);
+    REFUSED(height, 0, V_FRAME_Y4M_ZERO_SIZE);
+    REFUSED(format, 5, V_FRAME_Y4M_NO_SUCH_NUMBER);
+    REFUSED(siting, 4, V_FRAME_Y4M_NO_SUCH_NUMBER);
+    REFUSED(interlacing, 6, V_FRAME_Y4M_NO_SUCH_NUMBER);
+    REFUSED(frame_rate.stated, 0, V_FRAME_Y4M_NO_SUCH_NUMBER);
+    REFUSED(frame_rate.stated, 2, V_FRAME_Y4M_NO_SUCH_NUMBER);
+    REFUSED(pixel_aspect.denominator, 1, V_FRAME_Y4M_NO_SUCH_NUMBER);
+    REFUSED(siting, V_FRAME_Y4M_NO_SITING, V_FRAME_Y4M_UNKNOWN_COLOUR);
+    REFUSED(format, V_FRAME_Y4M_422, V_FRAME_Y4M_UNKNOWN_COLOUR);
+    REFUSED(bit_depth, 10, V_FRAME_Y4M_UNKNOWN_COLOUR);
+    REFUSED(bit_depth, 264, V_FRAME_Y4M_UNKNOWN_COLOUR);
+    REFUSED(bit_depth, 0, V_FRAME_Y4M_UNKNOWN_COLOUR);
+}
+
+static void count_bytes(void) {
+    static const struct {
+        uint32_t format;
+        size_t columns, rows;
+    } formats[] = {{0, 0, 0}, {1, 2, 2}, {2, 2, 1}, {3, 1, 1}, {4, 4, 1}};
+    v_frame_y4m_header header;
+    size_t count;
+    for (int n = 0; n < 2000; n++) {
+        header = random_header();
+        header.width = 1 + (size_t)random_below(9);
+        header.height = 1 + (size_t)random_below(9);
+        size_t columns = formats[header.format].columns, rows = formats[header.format].rows;
+        size_t chroma = columns == 0 ? 0 : (header.width + columns - 1) / columns * ((header.height + rows - 1) / rows);
+        size_t wanted = (header.width * header.height + 2 * chroma) * (header.bit_depth == 8 ? 1 : 2);
+        CHECK(v_frame_y4m_frame_bytes(&header, &count) == V_FRAME_Y4M_OK && count == wanted);
+    }
+    header = (v_frame_y4m_header){SIZE_MAX, 1, {0, 0, 0}, {0, 0, 0}, V_FRAME_Y4M_MONOCHROME, 8, 0, 0};
+    CHECK(v_frame_y4m_frame_bytes(&header, &count) == V_FRAME_Y4M_OK && count == SIZE_MAX);
+    count = 9999;
+    CHECK(v_frame_y4m_frame_bytes((header.bit_depth = 9, &header), &count) == V_FRAME_Y4M_SIZE_TOO_LARGE && count == 9999);
+    header.bit_depth = 8;
+    CHECK(v_frame_y4m_frame_bytes((header.height = 2, &header), &count) == V_FRAME_Y4M_SIZE_TOO_LARGE && count == 9999);
+    header.height = 1;
+    CHECK(v_frame_y4m_frame_bytes((header.format = V_FRAME_Y4M_444, &header), &count) == V_FRAME_Y4M_SIZE_TOO_LARGE);
+    CHECK(count == 9999);
+}
+
 int main(void) {
     v_frame_y4m_header header, untouched;
     uint32_t letter;
     refuse_each();
+    find_lines();
+    write_and_parse_back();
+    refuse_numbers();
+    count_bytes();
     CHECK(parse("YUV4MPEG2 W1920 H1080 F30000:1001 It A1:1 C422p10 XCOLORRANGE=LIMITED", &header, &letter) == V_FRAME_Y4M_OK);
     CHECK(header.width == 1920 && header.height == 1080 && header.format == V_FRAME_Y4M_422 && header.bit_depth == 10);
     CHECK(header.frame_rate.stated == 1 && header.frame_rate.numerator == 30000 && header.frame_rate.denominator == 1001);

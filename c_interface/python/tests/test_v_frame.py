@@ -33,6 +33,84 @@ def rows_of(plane):
     return [list(data[plane.stride * y:plane.stride * y + plane.width]) for y in range(plane.height)]
 
 
+class Pictures(unittest.TestCase):
+    """Planes made of others beside plain loops, and the numbers that planes give."""
+
+    def setUp(self):
+        source = random.Random(314)
+        self.planes = [random_plane(source, source.randrange(1, 30), source.randrange(1, 9), size) for size in (1, 2) * 60]
+
+    def test_turns(self):
+        by_hand = {
+            "flip_vertical": lambda rows: rows[::-1],
+            "flip_horizontal": lambda rows: [row[::-1] for row in rows],
+            "rotate_180": lambda rows: [row[::-1] for row in rows[::-1]],
+            "transpose": lambda rows: [list(column) for column in zip(*rows)],
+            "rotate_90": lambda rows: [list(column) for column in zip(*rows[::-1])],
+            "rotate_270": lambda rows: [list(column) for column in zip(*rows)][::-1],
+        }
+        self.assertEqual(tuple(by_hand), v_frame.TURNS)
+        for plane in self.planes:
+            for how, turned in by_hand.items():
+                self.assertEqual(rows_of(v_frame.turn(plane, how)), turned(rows_of(plane)))
+        self.assertRaises(ValueError, v_frame.turn, self.planes[0], "rotate_45")
+
+    def test_depths(self):
+        for plane in self.planes:
+            depth = 8 if plane.sample_size == 1 else 10
+            for to in (8, 10, 16):
+                found, largest = v_frame.convert_depth(plane, depth, to), 2 ** depth - 1
+                if to >= depth:
+                    wanted = [[min(it, largest) << (to - depth) for it in row] for row in rows_of(plane)]
+                else:
+                    wanted = [[min((it + 2) // 4, 255) for it in row] for row in rows_of(plane)]
+                self.assertEqual(found.sample_size, 1 if to == 8 else 2)
+                self.assertEqual(rows_of(found), wanted)
+        for depth, to in ((7, 8), (9, 8), (8, 7), (8, 17), (-1, 10), (8, 2 ** 40)):
+            self.assertRaises(ValueError, v_frame.convert_depth, Plane(bytes(4), 2, 2), depth, to)
+
+    def test_upscale(self):
+        for plane in self.planes:
+            for across, down in ((1, 1), (2, 2), (4, 1), (3, 2)):
+                width, height = across * plane.width - (across > 1), down * plane.height - (down > 1)
+                found = rows_of(v_frame.upscale(plane, width, height, across, down))
+                rows = rows_of(plane)
+                self.assertEqual(found, [[rows[y // down][x // across] for x in range(width)] for y in range(height)])
+        self.assertRaises(SizesError, v_frame.upscale, Plane(bytes(4), 2, 2), 5, 4)
+        self.assertRaises(SizesError, v_frame.upscale, Plane(bytes(4), 2, 2), 4, 4, 0, 2)
+
+    def test_interleave(self):
+        source = random.Random(5)
+        for plane in self.planes:
+            other = random_plane(source, plane.width, plane.height, plane.sample_size)
+            both = v_frame.interleave(plane, other)
+            self.assertEqual(rows_of(both), [[it for pair in zip(p, q) for it in pair] for p, q in zip(rows_of(plane), rows_of(other))])
+            u, v = v_frame.deinterleave(both)
+            self.assertEqual((rows_of(u), rows_of(v)), (rows_of(plane), rows_of(other)))
+        self.assertRaises(SizesError, v_frame.deinterleave, Plane(bytes(3), 3, 1))
+        self.assertRaises(SizesError, v_frame.interleave, Plane(bytes(4), 2, 2), Plane(bytes(2), 2, 1))
+        self.assertRaises(TypeError, v_frame.interleave, Plane(bytes(4), 2, 2), Plane(bytes(8), 2, 2, sample_size=2))
+
+    def test_statistics(self):
+        source = random.Random(6)
+        for plane in self.planes:
+            other = random_plane(source, plane.width, plane.height, plane.sample_size)
+            a, b = ([it for row in rows_of(each) for it in row] for each in (plane, other))
+            self.assertEqual(v_frame.statistics(plane), (len(a), sum(a), sum(it * it for it in a), min(a), max(a)))
+            self.assertEqual(v_frame.pair_statistics(plane, other), (
+                sum(a), sum(b), sum(it * it for it in a), sum(it * it for it in b), sum(p * q for p, q in zip(a, b))))
+        self.assertRaises(SizesError, v_frame.pair_statistics, Plane(bytes(4), 2, 2), Plane(bytes(2), 2, 1))
+
+    @unittest.skipUnless(numpy, "there is no numpy")
+    def test_arrays(self):
+        array = numpy.arange(3 * 8, dtype="uint16").reshape(3, 8)[:, 1:6]
+        self.assertEqual(v_frame.turn(array, "rotate_90").tolist(), numpy.rot90(array, -1).tolist())
+        self.assertEqual(v_frame.convert_depth(array, 10, 8).dtype, numpy.uint8)
+        self.assertEqual(v_frame.upscale(array, 9, 6).tolist(), numpy.repeat(numpy.repeat(array, 2, 0), 2, 1)[:, :9].tolist())
+        self.assertEqual(v_frame.interleave(array, array).shape, (3, 10))
+        self.assertEqual(v_frame.statistics(array).sum, int(array.sum()))
+
+
 class Planes(unittest.TestCase):
     def test_comparisons_are_those_of_plain_loops(self):
         source = random.Random(2026)

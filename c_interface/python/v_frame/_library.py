@@ -45,6 +45,15 @@ class Place(ctypes.Structure):
     _fields_ = [("x", ctypes.c_size_t), ("y", ctypes.c_size_t), ("found", ctypes.c_uint32)]
 
 
+class Statistics(ctypes.Structure):
+    _fields_ = [("count", ctypes.c_uint64), ("sum", Sum), ("sum_of_squares", Sum), ("minimum", ctypes.c_uint32),
+                ("maximum", ctypes.c_uint32)]
+
+
+class PairStatistics(ctypes.Structure):
+    _fields_ = [(name, Sum) for name in ("first", "second", "first_squares", "second_squares", "products")]
+
+
 def _opened():
     """The library that V_FRAME_LIBRARY names, or the one beside this module's prefix, or the system's."""
     named = os.environ.get("V_FRAME_LIBRARY")
@@ -79,13 +88,24 @@ FILL = {1: _export("v_frame_fill_u8", ctypes.c_uint8), 2: _export("v_frame_fill_
 PAD = {size: getattr(_library, f"v_frame_pad_{kind}") for size, kind in ((1, "u8"), (2, "u16"))}
 for _pad in PAD.values():
     _pad.restype, _pad.argtypes = ctypes.c_uint32, [ctypes.POINTER(Bordered), _data, _size]
+TURN = _both("turn", _rows, _data, _size, ctypes.c_uint32)
+UPSCALE = _both("upscale", _rows, _data, _size, _size, _size)
+INTERLEAVE = _both("interleave", _rows, _data, _size, _rows, _data, _size)
+DEINTERLEAVE = _both("deinterleave", _rows, _data, _size, _rows, _data, _size)
+STATISTICS = _both("statistics", ctypes.POINTER(Statistics))
+PAIR_STATISTICS = _both("pair_statistics", _rows, _data, _size, ctypes.POINTER(PairStatistics))
+CONVERT_DEPTH = {(1, 2): "u8_u16", (2, 1): "u16_u8", (2, 2): "u16_u16"}
+CONVERT_DEPTH = {sizes: _export(f"v_frame_convert_depth_{kinds}", _rows, _data, _size, ctypes.c_uint32, ctypes.c_uint32)
+                 for sizes, kinds in CONVERT_DEPTH.items()}
 LAY_OUT = _library.v_frame_lay_out
 LAY_OUT.restype, LAY_OUT.argtypes = ctypes.c_uint32, [ctypes.POINTER(Request), ctypes.POINTER(Parts)]
 
 
 def answered(status):
     """Raises the exception of a status."""
-    if status in (1, 2):
-        raise RowsError(("the first" if status == 1 else "the second") + " rows do not fit their buffer")
+    if status in (1, 2, 6):
+        raise RowsError({1: "the first", 2: "the second", 6: "the third"}[status] + " rows do not fit their buffer")
     if status == 3:
         raise SizesError("the sizes do not belong together")
+    if status == 5:
+        raise ValueError("a bit depth is below 8, or above what the samples hold")

@@ -1,8 +1,9 @@
 //! Proved calls on video planes, over slices with a stride.
 //!
 //! Behind each call is an export of `libv_frame`, whose contract the prover has checked: what it answers, what it writes, and
-//! that all else of a buffer stays. This crate is a thin, safe layer over it; `unsafe` stands in one file. It has no
-//! dependencies but the library, which `tools/install` of the repository builds; `V_FRAME_LIB` names the folder that it is in.
+//! that all else of a buffer stays. This crate is a thin, safe layer over it; `unsafe` stands in the two files that declare
+//! exports. It has no dependencies but the library, which `tools/install` of the repository builds; `V_FRAME_LIB` names the
+//! folder that it is in. The feature `y4m` adds YUV4MPEG2 streams in memory, over `libv_frame_y4m` of the same folder.
 //!
 //! ```
 //! use v_frame_proved::{Picture, squared_errors};
@@ -21,6 +22,8 @@ mod error;
 mod layout;
 mod picture;
 mod sample;
+#[cfg(feature = "y4m")]
+pub mod y4m;
 
 pub use calls::{
     absolute_differences, copy, decode, downscale, encode, fill, first_difference, pad, psnr,

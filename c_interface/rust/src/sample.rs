@@ -1,4 +1,4 @@
-//! The exports of the library, and the one place with `unsafe`.
+//! The exports of the library, and what is `unsafe` about them.
 
 use std::ffi::c_void;
 use std::os::raw::c_uint;

@@ -14,6 +14,19 @@ status_of_two true false sizes = 2
 status_of_two true true false = 3
 status_of_two true true true = 0
 
+-- of a number that stands for a choice, tested before all else
+abbrev pub status_of_number : Bool → ℕ → ℕ
+status_of_number false others = 5
+status_of_number true others = others
+
+-- of three buffers
+abbrev pub status_of_three : Bool → Bool → Bool → Bool → ℕ
+status_of_three false second third sizes = 1
+status_of_three true false third sizes = 2
+status_of_three true true false sizes = 6
+status_of_three true true true false = 3
+status_of_three true true true true = 0
+
 -- the sizes are the same
 abbrev pub same_size : Rows → Rows → Bool
 same_size a b = nat_eq a.width b.width && nat_eq a.height b.height

@@ -1,5 +1,5 @@
 //! Where the planes of a frame lie in one buffer, one after the other.
-ghost use Rattle.std.specs.Prelude.{◌≡◌, ◌≢◌, ◌*◌, ◌<◌, IsTrue, IfSome, SomeIff};
+ghost use Rattle.std.specs.Prelude.{◌≡◌, ◌≢◌, ◌+◌, ◌*◌, ◌<◌, ◌≤◌, IsTrue, IfSome, SomeIff};
 ghost use Rattle.std.specs.Int.{div_ceil};
 ghost use Rattle.v_frame.specs.Prelude.{usize_max};
 ghost use Rattle.v_frame_c.specs.FrameParts.{all_parts, chroma_in, evenly_bordered, frame_parts, frame_status, luma_in, luma_parts, no_part, size_of};
@@ -44,6 +44,10 @@ pub extern "C" fn v_frame_lay_out(request: &FrameRequest, parts: &mut FrameParts
     ensures luma { result ≡ 0 → IsTrue (is_bordered parts.new.y.layout parts.new.y.count) }
     ensures chroma { result ≡ 0 → 0 < parts.new.u.count
         → IsTrue (is_bordered parts.new.u.layout parts.new.u.count) }
+    ensures apart { result ≡ 0 → (parts.new.y.offset + parts.new.y.count ≤ parts.new.count)
+        × (0 < parts.new.u.count → (parts.new.y.offset + parts.new.y.count ≤ parts.new.u.offset)
+        × (parts.new.u.offset + parts.new.u.count ≤ parts.new.v.offset)
+        × (parts.new.v.offset + parts.new.v.count ≤ parts.new.count)) }
     ensures refused { result ≢ 0 → parts.new ≡ parts.old }
 {
     let laid_out = match request.format {

@@ -1,10 +1,12 @@
 //! What C and the exports give each other beside slices. Any bytes in these are a value.
-ghost use Rattle.std.specs.Prelude.{◌≡◌, ◌*◌, ◌↔◌, nat_eq, IsTrue, IfSome, SomeIff, length};
+ghost use Rattle.std.specs.Prelude.{◌≡◌, ◌*◌, ◌<◌, ◌↔◌, nat_eq, IsTrue, IfSome, SomeIff, length};
 ghost use Rattle.v_frame.specs.Prelude.{alloc_size_of, height_of, width_of, RowsFit};
 ghost use Rattle.v_frame_c.specs.Layout.{fits, geometry_in, is_bordered, number_of, picture};
+ghost use Rattle.v_frame_c.specs.Numbers.{subsampled_size, turned_size};
 ghost use Rattle.v_frame_c.specs.Status.{encoded_size, same_size, times_size};
 
 use v_frame::plane::{PlaneGeometry, RowsRef, rows_fit};
+use v_frame_convert::subsampled_size;
 
 /// Rows in a buffer: row `y` is the `width` entries from index `stride * y` on. All counts are of entries.
 #[repr(C)]
@@ -81,6 +83,28 @@ impl Rows {
         ensures { result ≡ encoded_size 2 self.now other.now }
     {
         is_twice(other.width, self.width) && other.height == self.height
+    }
+}
+
+impl Rows {
+    /// Returns whether this has the size of another picture that is turned in the way of this number.
+    pub fn has_turned_size_of(&self, other: &Rows, number: u32) -> bool
+        ensures { result ≡ turned_size number self.now other.now }
+    {
+        if number < 3 {
+            return self.same_size(other);
+        }
+        self.width == other.height && self.height == other.width
+    }
+
+    /// Returns whether another picture has a column for each `ratio_x` of these that are begun, and a row for each `ratio_y`.
+    pub fn is_subsampled_by(&self, other: &Rows, ratio_x: usize, ratio_y: usize) -> bool
+        requires columns { 0 < ratio_x }
+        requires rows { 0 < ratio_y }
+        ensures { result ≡ subsampled_size ratio_x ratio_y self.now other.now }
+    {
+        other.width == subsampled_size(self.width, ratio_x)
+            && other.height == subsampled_size(self.height, ratio_y)
     }
 }
 

@@ -7,8 +7,16 @@
 
 mod change;
 mod compare;
+mod convert;
+mod exports_convert;
+mod exports_semi_planar;
+mod exports_statistics;
+mod exports_turn;
 mod exports_u16;
 mod exports_u8;
 mod frame_parts;
 mod layout;
+mod semi_planar;
+mod statistics;
 mod status;
+mod turn;

@@ -14,3 +14,9 @@ pub const SIZES: u32 = 3;
 
 /// There is no format of this number.
 pub const FORMAT: u32 = 4;
+
+/// A number is none of those that stand for a choice, or is out of its range.
+pub const NUMBER: u32 = 5;
+
+/// The third rows don't fit their buffer.
+pub const THIRD: u32 = 6;

@@ -1,5 +1,6 @@
 pub mod CleanPieces
 pub mod ColourTexts
+pub mod ColoursFound
 pub mod FrameStops
 pub mod HeaderFaults
 pub mod HeaderLines

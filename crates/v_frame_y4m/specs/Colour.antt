@@ -1,5 +1,5 @@
 -- What a colour is, and how it is spelled.
-use Rattle.std.specs.Prelude.{ℕ, List, [], ◌++◌, codes, Option, Some, None}
+use Rattle.std.specs.Prelude.{ℕ, List, [], ◌++◌, ◌==◌, codes, if◌then◌else◌, Option, Some, None}
 use Rattle.v_frame.specs.Prelude.{ChromaSubsampling, Yuv420 as Half, Yuv422 as Wide, Yuv411 as Quarter, Yuv444 as Full}
 use Rattle.v_frame.specs.Prelude.{Monochrome}
 use Rattle.v_frame_y4m.specs.declared.colour.Depth.{Depth}
@@ -102,3 +102,45 @@ stated (Yuv420HighDepth depth) = Some (Yuv420HighDepth depth)
 stated (Yuv422HighDepth depth) = Some (Yuv422HighDepth depth)
 stated (Yuv444HighDepth depth) = Some (Yuv444HighDepth depth)
 stated (MonoHighDepth depth) = Some (MonoHighDepth depth)
+
+-- the depth of so many bits, above 8
+abbrev pub depth_of_bits : ℕ → Option Depth
+depth_of_bits bits =
+    if bits == 9 then Some Nine
+    else (if bits == 10 then Some Ten
+    else (if bits == 12 then Some Twelve
+    else (if bits == 14 then Some Fourteen
+    else (if bits == 16 then Some Sixteen else None))))
+
+-- the colour of 8 bits that has a format and a siting; of the three whose chroma is centred that of
+-- JPEG, as ffmpeg writes it
+abbrev pub eight_bit_colour : ChromaSubsampling → Option ChromaSiting → Option Colour
+eight_bit_colour Half (Some Centre) = Some Yuv420Jpeg
+eight_bit_colour Half (Some Left) = Some Yuv420Mpeg2
+eight_bit_colour Half (Some Alternating) = Some Yuv420Paldv
+eight_bit_colour Half None = None
+eight_bit_colour Wide None = Some Yuv422
+eight_bit_colour Wide (Some siting) = None
+eight_bit_colour Quarter None = Some Yuv411
+eight_bit_colour Quarter (Some siting) = None
+eight_bit_colour Full None = Some Yuv444
+eight_bit_colour Full (Some siting) = None
+eight_bit_colour Monochrome None = Some Mono
+eight_bit_colour Monochrome (Some siting) = None
+
+-- the one above 8 bits
+abbrev pub high_depth_colour :
+    ChromaSubsampling → Option Depth → Option ChromaSiting → Option Colour
+high_depth_colour Half (Some depth) None = Some (Yuv420HighDepth depth)
+high_depth_colour Wide (Some depth) None = Some (Yuv422HighDepth depth)
+high_depth_colour Quarter (Some depth) None = None
+high_depth_colour Full (Some depth) None = Some (Yuv444HighDepth depth)
+high_depth_colour Monochrome (Some depth) None = Some (MonoHighDepth depth)
+high_depth_colour subsampling (Some depth) (Some siting) = None
+high_depth_colour subsampling None siting = None
+
+-- the colour of a format, so many bits and a siting, where one has these three
+abbrev pub colour_with : ChromaSubsampling → ℕ → Option ChromaSiting → Option Colour
+colour_with subsampling bits siting =
+    if bits == 8 then eight_bit_colour subsampling siting
+    else high_depth_colour subsampling (depth_of_bits bits) siting

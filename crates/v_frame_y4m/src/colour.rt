@@ -1,6 +1,6 @@
 //! The colours of a stream: format, bit depth, and where chroma is sited.
 ghost use Rattle.std.specs.Prelude.{◌≡◌, ◌≢◌, ◌↔◌, IfNone, IfSome, IsTrue};
-ghost use Rattle.v_frame_y4m.specs.Colour.{bits_of, colour_text, depth_of, siting_of, stated, subsampling_of};
+ghost use Rattle.v_frame_y4m.specs.Colour.{bits_of, colour_text, colour_with, depth_of, depth_of_bits, eight_bit_colour, high_depth_colour, siting_of, stated, subsampling_of};
 ghost use Rattle.v_frame_y4m.specs.declared.colour.Colour.{Colour as TheColour};
 
 use v_frame::chroma::ChromaSubsampling;
@@ -31,6 +31,20 @@ impl Depth {
             Depth::Twelve => 12,
             Depth::Fourteen => 14,
             Depth::Sixteen => 16,
+        }
+    }
+
+    /// Returns the depth of so many bits. `None` where it is none of these.
+    pub fn from_bits(bits: u8) -> Option<Self>
+        ensures { result ≡ depth_of_bits bits }
+    {
+        match bits {
+            9 => Some(Depth::Nine),
+            10 => Some(Depth::Ten),
+            12 => Some(Depth::Twelve),
+            14 => Some(Depth::Fourteen),
+            16 => Some(Depth::Sixteen),
+            _ => None,
         }
     }
 }
@@ -110,6 +124,67 @@ const STATED: [Colour; 28] = [
 ];
 
 impl Colour {
+    /// Returns the colour of a format, a bit depth and a siting. `None` where no colour has these three.
+    ///
+    /// Three colours are 4:2:0 of 8 bits with centred chroma: of them it is [`Yuv420Jpeg`](Self::Yuv420Jpeg), as ffmpeg
+    /// writes it.
+    pub fn new(
+        subsampling: ChromaSubsampling,
+        bit_depth: u8,
+        siting: Option<ChromaSiting>,
+    ) -> Option<Self>
+        ensures value { result ≡ colour_with subsampling bit_depth siting }
+        ensures found { IfSome result (λ c. (subsampling_of c ≡ subsampling)
+            × ((depth_of c ≡ bit_depth) × (siting_of c ≡ siting))) }
+        ensures none { IfNone result ((c : TheColour) → subsampling_of c ≡ subsampling
+            → depth_of c ≡ bit_depth → siting_of c ≢ siting) }
+    {
+        if bit_depth == 8 {
+            Colour::of_eight_bits(subsampling, siting)
+        } else {
+            Colour::of_high_depth(subsampling, Depth::from_bits(bit_depth), siting)
+        }
+    }
+
+    /// Returns the colour of 8 bits that has these two.
+    fn of_eight_bits(subsampling: ChromaSubsampling, siting: Option<ChromaSiting>) -> Option<Self>
+        ensures { result ≡ eight_bit_colour subsampling siting }
+    {
+        match (subsampling, siting) {
+            (ChromaSubsampling::Yuv420, Some(ChromaSiting::Centre)) => Some(Colour::Yuv420Jpeg),
+            (ChromaSubsampling::Yuv420, Some(ChromaSiting::Left)) => Some(Colour::Yuv420Mpeg2),
+            (ChromaSubsampling::Yuv420, Some(ChromaSiting::Alternating)) => Some(
+                Colour::Yuv420Paldv,
+            ),
+            (ChromaSubsampling::Yuv422, None) => Some(Colour::Yuv422),
+            (ChromaSubsampling::Yuv411, None) => Some(Colour::Yuv411),
+            (ChromaSubsampling::Yuv444, None) => Some(Colour::Yuv444),
+            (ChromaSubsampling::Monochrome, None) => Some(Colour::Mono),
+            _ => None,
+        }
+    }
+
+    /// Returns the colour above 8 bits that has these three.
+    fn of_high_depth(
+        subsampling: ChromaSubsampling,
+        depth: Option<Depth>,
+        siting: Option<ChromaSiting>,
+    ) -> Option<Self>
+        ensures { result ≡ high_depth_colour subsampling depth siting }
+    {
+        let depth = depth?;
+        if siting.is_some() {
+            return None;
+        }
+        match subsampling {
+            ChromaSubsampling::Yuv420 => Some(Colour::Yuv420HighDepth(depth)),
+            ChromaSubsampling::Yuv422 => Some(Colour::Yuv422HighDepth(depth)),
+            ChromaSubsampling::Yuv411 => None,
+            ChromaSubsampling::Yuv444 => Some(Colour::Yuv444HighDepth(depth)),
+            ChromaSubsampling::Monochrome => Some(Colour::MonoHighDepth(depth)),
+        }
+    }
+
     /// What this text after the letter `C` says.
     pub(crate) fn parse(text: &[u8]) -> Option<Self>
         ensures unknown { IfNone result ((c : TheColour) → stated c ≡ Some c → text.now ≢ colour_text c) }

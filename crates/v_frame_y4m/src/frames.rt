@@ -1,12 +1,14 @@
 //! Frames of the size that a header says.
-ghost use Rattle.std.specs.Prelude.{◌≡◌, IfOk, MatchOption, IsOkUnless};
-ghost use Rattle.v_frame.specs.Prelude.{tables_of};
-ghost use Rattle.v_frame_planar.specs.Planar.{sizes_of};
+ghost use Rattle.std.specs.Prelude.{◌≡◌, ◌*◌, ◌<◌, ◌≤◌, IfOk, MatchOption, IsOkUnless, SomeIff};
+ghost use Rattle.v_frame.specs.Prelude.{tables_of, usize_max};
+ghost use Rattle.v_frame_planar.specs.Planar.{plane_byte_count, sizes_of};
 ghost use Rattle.v_frame_planar.specs.Video.{chroma_sizes_of, plain_tables, video_refusal_of, video_request, IsBlankVideo};
 ghost use Rattle.v_frame_y4m.specs.Colour.{depth_of, subsampling_of};
+ghost use Rattle.v_frame_y4m.specs.Frames.{frame_byte_count};
 
 use crate::header::StreamHeader;
 use std::alloc::Global;
+use v_frame::chroma::ChromaSubsampling;
 use v_frame::frame::{Frame, FrameError};
 use v_frame::pixel::Pixel;
 use v_frame_planar::video_frame;
@@ -45,4 +47,45 @@ impl StreamHeader {
             padding,
         )
     }
+
+    /// Returns how many bytes a frame of the stream has after its line: those of Y, and of U and V where there is chroma,
+    /// one a pixel at a bit depth of 8 and else two. Chroma has as many columns and rows as cover luma. `None` where they
+    /// are more than `usize::MAX`.
+    pub fn frame_len(&self) -> Option<usize>
+        ensures { let count = frame_byte_count self.now in SomeIff result (count ≤ usize_max) count }
+    {
+        let pixel = if self.colour.bit_depth() == 8 { 1 } else { 2 };
+        let luma = plane_len(self.width, self.height, pixel)?;
+        let chroma = chroma_len(self.width, self.height, self.colour.subsampling(), pixel)?;
+        luma.checked_add(chroma.checked_mul(2)?)
+    }
+}
+
+/// Returns how many bytes a plane of chroma has beside luma of this size, none where there is no chroma.
+fn chroma_len(
+    width: usize,
+    height: usize,
+    subsampling: ChromaSubsampling,
+    pixel: usize,
+) -> Option<usize>
+    requires { 0 < pixel }
+    ensures { let count = plane_byte_count pixel (chroma_sizes_of subsampling width height) in
+        SomeIff result (count ≤ usize_max) count }
+{
+    match subsampling.subsample_ratio() {
+        Some((columns, rows)) => plane_len(
+            width.div_ceil(usize::from(columns.get())),
+            height.div_ceil(usize::from(rows.get())),
+            pixel,
+        ),
+        None => Some(0),
+    }
+}
+
+/// Returns how many bytes a plane has, at so many bytes a pixel.
+fn plane_len(width: usize, height: usize, pixel: usize) -> Option<usize>
+    requires { 0 < pixel }
+    ensures { let count = width * height * pixel in SomeIff result (count ≤ usize_max) count }
+{
+    width.checked_mul(height)?.checked_mul(pixel)
 }

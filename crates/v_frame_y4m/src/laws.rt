@@ -1,7 +1,11 @@
 //! Laws of headers and their lines. Each is the contract of a function.
-ghost use Rattle.std.specs.Prelude.{ℕ, ◌≡◌, ◌≢◌, List, All, drop};
+ghost use Rattle.std.specs.Prelude.{ℕ, ◌≡◌, ◌≢◌, List, All, drop, None, Option, Some};
+ghost use Rattle.v_frame.specs.Prelude.{ChromaSubsampling as TheFormat};
+ghost use Rattle.v_frame_y4m.specs.Colour.{colour_with, depth_of, siting_of, subsampling_of};
 ghost use Rattle.v_frame_y4m.specs.Faults.{IsRefusedFor};
 ghost use Rattle.v_frame_y4m.specs.Header.{header_line as line_of, pieces, HasSize, IsHeader, IsInOrder, IsPiece};
+ghost use Rattle.v_frame_y4m.specs.declared.colour.ChromaSiting.{ChromaSiting as TheSiting};
+ghost use Rattle.v_frame_y4m.specs.declared.colour.Colour.{Colour as TheColour};
 ghost use Rattle.v_frame_y4m.specs.declared.error.HeaderError.{HeaderError as TheError};
 ghost use Rattle.v_frame_y4m.specs.declared.header.StreamHeader.{StreamHeader as TheHeader};
 
@@ -35,4 +39,14 @@ pub fn written_headers_are_read_back()
         → IsHeader (line_of h) k → k ≡ h }
     ensures unrefused { (h : TheHeader) (error : TheError) → HasSize h → All IsPiece h.extensions
         → IsRefusedFor (line_of h) error → error ≡ HeaderError.OutOfMemory }
+{}
+
+/// A colour that is found for a format, a bit depth and a siting has these three, and where none is found, none has them.
+pub fn found_colours_have_the_three()
+    ensures has { (s : TheFormat) (bits : ℕ) (siting : Option TheSiting) (c : TheColour)
+        → colour_with s bits siting ≡ Some c
+        → (subsampling_of c ≡ s) × ((depth_of c ≡ bits) × (siting_of c ≡ siting)) }
+    ensures none { (s : TheFormat) (bits : ℕ) (siting : Option TheSiting) (c : TheColour)
+        → colour_with s bits siting ≡ None
+        → subsampling_of c ≡ s → depth_of c ≡ bits → siting_of c ≢ siting }
 {}

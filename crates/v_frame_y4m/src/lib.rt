@@ -31,7 +31,9 @@ mod text;
 pub use colour::{ChromaSiting, Colour, Depth};
 pub use error::{HeaderError, Y4mError};
 pub use header::{Interlacing, Ratio, StreamHeader};
-pub use line::header_line;
+pub use line::{ended_line, header_line};
 pub use parsing::parse_header;
-pub use streams::{read_frame, read_header, write_frame, write_header};
+pub use streams::{
+    MAX_LINE_BYTES, is_frame_line, read_frame, read_header, write_frame, write_header,
+};
 pub use text::Text;

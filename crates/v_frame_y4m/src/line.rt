@@ -24,8 +24,12 @@ pub fn header_line(alloc: Global, header: &StreamHeader) -> Result<Vec<u8>, Allo
     Ok(line)
 }
 
-/// The same with its line feed.
-pub(crate) fn ended_line(alloc: Global, header: &StreamHeader) -> Result<Vec<u8>, AllocError>
+/// Returns the line of a header with its line feed.
+///
+/// # Errors
+///
+/// [`AllocError`] where a request for memory was refused.
+pub fn ended_line(alloc: Global, header: &StreamHeader) -> Result<Vec<u8>, AllocError>
     ensures { IfOk result (λ line. line.items ≡ header_line header.now ++ line_feed ∷ []) }
 {
     let mut line = header_line(alloc, header)?;

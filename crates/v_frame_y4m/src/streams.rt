@@ -18,8 +18,8 @@ use v_frame::frame::Frame;
 use v_frame::pixel::Pixel;
 use v_frame_planar::{Counted, PlanarError, planar_len};
 
-/// How many bytes a line may have, without its line feed.
-const MAX_LINE_BYTES: usize = 1024;
+/// How many bytes a line of a stream may have, without its line feed.
+pub const MAX_LINE_BYTES: usize = 1024;
 
 /// Reads the header line of a stream. Nothing after its line feed is read: bytes are asked for one by one, so put a
 /// `BufReader` into the [`Counted`].
@@ -129,8 +129,9 @@ fn read_frame_line<R: io::Read>(reader: &mut Counted<R>) -> Result<bool, Y4mErro
     }
 }
 
-/// Returns whether this is a line in front of a frame.
-fn is_frame_line(line: &[u8]) -> bool
+/// Returns whether this line, without its line feed, is one in front of a frame: `FRAME`, and parameters after a space, if
+/// any.
+pub fn is_frame_line(line: &[u8]) -> bool
     ensures { IsTrue result ↔ IsFrameLine line.now }
 {
     match line.strip_prefix(b"FRAME") {

@@ -1,4 +1,5 @@
-//! The header line of YUV4MPEG2 for C: bytes parsed into a struct.
+//! YUV4MPEG2 streams that C holds in memory: where their lines end, the header line in numbers and back, and how many bytes
+//! stand after the line of a frame.
 //!
 //! It takes memory while it works, which C provides by `malloc`, so it is a library of its own beside `v_frame_c`. The header
 //! `c_interface/include/v_frame_y4m.h` declares what it exports.
@@ -6,4 +7,6 @@
 
 mod exports;
 mod header;
+mod lines;
+mod numbers;
 mod status;

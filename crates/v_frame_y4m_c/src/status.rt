@@ -1,8 +1,22 @@
 //! What is answered, and which parameter is at fault.
 ghost use Rattle.std.specs.Prelude.{◌≡◌};
 ghost use Rattle.v_frame_y4m_c.specs.Header.{letter_of, status_of};
+ghost use Rattle.v_frame_y4m_c.specs.Status.{status_of_line, status_of_numbers};
 
+use crate::lines::LineFault;
+use crate::numbers::NumberFault;
 use v_frame_y4m::HeaderError;
+
+/// All went as asked.
+pub const OK: u32 = 0;
+/// The bytes of a frame are too many to be counted.
+pub const SIZE_TOO_LARGE: u32 = 6;
+/// A request for memory was refused.
+pub const OUT_OF_MEMORY: u32 = 8;
+/// The buffer is too short for the line.
+pub const SHORT_BUFFER: u32 = 10;
+/// Another line stands where that of a frame is due.
+pub const NO_FRAME: u32 = 13;
 
 /// Returns the status of an error.
 pub fn status_of(error: &HeaderError) -> u32
@@ -29,5 +43,26 @@ pub fn letter_of(error: &HeaderError) -> u32
         | HeaderError::Duplicate(letter)
         | HeaderError::ZeroSize(letter) => u32::from(*letter),
         _ => 0,
+    }
+}
+
+/// Returns the status of numbers that are of no header.
+pub fn status_of_numbers(fault: &NumberFault) -> u32
+    ensures { result ≡ status_of_numbers fault.now }
+{
+    match fault {
+        NumberFault::ZeroSize => 5,
+        NumberFault::NoSuchColour => 7,
+        NumberFault::NoSuchNumber => 9,
+    }
+}
+
+/// Returns the status of bytes with no line at their front.
+pub fn status_of_line(fault: &LineFault) -> u32
+    ensures { result ≡ status_of_line fault.now }
+{
+    match fault {
+        LineFault::Unfinished => 11,
+        LineFault::TooLong => 12,
     }
 }

@@ -1,0 +1,59 @@
+/* Prints the PSNR of each frame, all planes together, of two YUV4MPEG2 files of 8 bits: psnr_of_frames FILE FILE */
+#include <fcntl.h>
+#include <math.h>
+#include <stdio.h>
+#include <stdlib.h>
+#include <sys/mman.h>
+#include <sys/stat.h>
+#include <v_frame.h>
+#include <v_frame_y4m.h>
+
+typedef struct stream {
+    const uint8_t *at;
+    size_t left, frame_bytes;
+    v_frame_y4m_header said;
+} stream;
+
+static void need(int holds, const char *why) {
+    if (holds) return;
+    fprintf(stderr, "%s\n", why);
+    exit(2);
+}
+
+static stream mapped(const char *name) {
+    struct stat about;
+    int file = open(name, O_RDONLY);
+    need(file >= 0 && fstat(file, &about) == 0 && about.st_size > 0, "a file cannot be read");
+    stream it = {mmap(NULL, (size_t)about.st_size, PROT_READ, MAP_PRIVATE, file, 0), (size_t)about.st_size, 0, {0}};
+    need(it.at != MAP_FAILED, "a file cannot be mapped");
+    size_t line;
+    uint32_t letter, status = v_frame_y4m_first_line(it.at, it.left, &line);
+    if (status == V_FRAME_Y4M_OK) status = v_frame_y4m_parse_header(it.at, line - 1, &it.said, &letter);
+    if (status == V_FRAME_Y4M_OK) status = v_frame_y4m_frame_bytes(&it.said, &it.frame_bytes);
+    need(status == V_FRAME_Y4M_OK, v_frame_y4m_status_text(status));
+    need(it.said.bit_depth == 8, "more than 8 bits");
+    return (stream){it.at + line, it.left - line, it.frame_bytes, it.said};
+}
+
+/* Returns the planes of the next frame, and NULL at the end of the stream. */
+static const uint8_t *next_frame(stream *it) {
+    if (it->left == 0) return NULL;
+    size_t line;
+    need(v_frame_y4m_frame_line(it->at, it->left, &line) == V_FRAME_Y4M_OK, "no FRAME where a frame is due");
+    need(it->left - line >= it->frame_bytes, "a stream ends inside a frame");
+    const uint8_t *planes = it->at + line;
+    *it = (stream){planes + it->frame_bytes, it->left - line - it->frame_bytes, it->frame_bytes, it->said};
+    return planes;
+}
+
+int main(int argc, char **argv) {
+    need(argc == 3, "usage: psnr_of_frames FILE FILE");
+    stream a = mapped(argv[1]), b = mapped(argv[2]);
+    need(a.said.width == b.said.width && a.said.height == b.said.height && a.said.format == b.said.format, "two formats");
+    const v_frame_rows rows = v_frame_rows_packed(a.frame_bytes, 1);
+    for (const uint8_t *p, *q; (p = next_frame(&a)) != NULL && (q = next_frame(&b)) != NULL;) {
+        v_frame_sum sum;
+        need(v_frame_squared_errors_u8(&rows, p, a.frame_bytes, &rows, q, b.frame_bytes, &sum) == V_FRAME_OK, "too large");
+        printf("%.4f\n", 10 * log10(255.0 * 255.0 * (double)a.frame_bytes / (double)sum.low));
+    }
+}

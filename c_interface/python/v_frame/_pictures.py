@@ -1,0 +1,134 @@
+"""The calls that make new planes of others, and the numbers that planes give."""
+
+import ctypes
+from typing import NamedTuple
+
+from . import _library as library
+from ._calls import _compared, _same_size, copy
+from ._planes import LIMIT, Held, Plane, numpy
+
+#: The ways to turn a plane, in the order of their numbers. Turns by 90 and 270 degrees are clockwise.
+TURNS = ("flip_vertical", "flip_horizontal", "rotate_180", "transpose", "rotate_90", "rotate_270")
+
+
+class Statistics(NamedTuple):
+    """What the samples of a plane add up to, exactly, and between which values they lie."""
+
+    count: int
+    sum: int
+    sum_of_squares: int
+    minimum: int
+    maximum: int
+
+
+class PairStatistics(NamedTuple):
+    """The sums over two planes of which SSIM and correlations are made, exactly."""
+
+    first: int
+    second: int
+    first_squares: int
+    second_squares: int
+    products: int
+
+
+def _new(like, width, height, size):
+    """A plane of the kind of another one: an array, or a Plane over bytes of its own."""
+    if width >= LIMIT or height >= LIMIT:
+        raise library.SizesError("a size has more than 64 bits")
+    if isinstance(like, Plane):
+        return Plane(bytearray(width * height * size), width, height, sample_size=size)
+    return numpy.empty((height, width), dtype="uint8" if size == 1 else "uint16")
+
+
+def _made(export, target, source, *more):
+    """The target, which nothing else knows yet, written by an export from the source."""
+    with Held(target, writes=True) as written, Held(source) as read:
+        library.answered(export(ctypes.byref(written.rows), written.address, written.length, ctypes.byref(read.rows), read.address,
+                                read.length, *more))
+    return target
+
+
+def _shape(plane):
+    with Held(plane) as held:
+        return held.rows.width, held.rows.height, held.size
+
+
+def turn(source, how: str):
+    """A new plane that shows another one turned: `how` is one of TURNS."""
+    if how not in TURNS:
+        raise ValueError(f"{how!r} is none of {', '.join(TURNS)}")
+    width, height, size = _shape(source)
+    number = TURNS.index(how)
+    if number >= TURNS.index("transpose"):
+        width, height = height, width
+    return _made(library.TURN[size], _new(source, width, height, size), source, number)
+
+
+def convert_depth(source, depth: int, to: int):
+    """A new plane with the samples of another one, of `depth` bits, in `to` bits, both 8 to 16; above 8 it has two bytes a sample.
+
+    To more bits a value is shifted; to fewer it is rounded to the nearest, upwards at a half, and at most to the largest. A value
+    above the largest of `depth` bits counts as that one.
+    """
+    width, height, size = _shape(source)
+    target = _new(source, width, height, 1 if to == 8 else 2)
+    if (size, depth, to) == (1, 8, 8):
+        copy(source, target)
+        return target
+    if size == 1 and to == 8 or not 0 <= depth < 256 or not 0 <= to < 256:
+        raise ValueError("a bit depth is below 8, or above what the samples hold")
+    return _made(library.CONVERT_DEPTH[size, 1 if to == 8 else 2], target, source, depth, to)
+
+
+def upscale(source, width: int, height: int, ratio_x: int = 2, ratio_y: int = 2):
+    """A new plane of this size that shows each sample of another one `ratio_x` times across and `ratio_y` times down, as chroma is
+    shown beside luma. The source has a column for each `ratio_x` that are begun, and a row for each `ratio_y`."""
+    if not all(0 < number < LIMIT for number in (width, height, ratio_x, ratio_y)):
+        raise library.SizesError("a size or a ratio is not positive, or has more than 64 bits")
+    size = _shape(source)[2]
+    return _made(library.UPSCALE[size], _new(source, width, height, size), source, ratio_x, ratio_y)
+
+
+def interleave(u, v):
+    """A new plane of the samples of two planes of one size by turns, as NV12 and P010 keep chroma."""
+    width, height, size = _shape(u)
+    with Held(u) as first, Held(v) as second:
+        _same_size(first, second)
+    target = _new(u, 2 * width, height, size)
+    with Held(target, writes=True) as written, Held(u) as first, Held(v) as second:
+        library.answered(library.INTERLEAVE[size](
+            ctypes.byref(written.rows), written.address, written.length, ctypes.byref(first.rows), first.address, first.length,
+            ctypes.byref(second.rows), second.address, second.length))
+    return target
+
+
+def deinterleave(plane):
+    """Two new planes, of the samples of one by turns. It has an even width."""
+    width, height, size = _shape(plane)
+    if width % 2:
+        raise library.SizesError("the sizes do not belong together: an odd width")
+    u, v = _new(plane, width // 2, height, size), _new(plane, width // 2, height, size)
+    with Held(plane) as read, Held(u, writes=True) as first, Held(v, writes=True) as second:
+        library.answered(library.DEINTERLEAVE[size](
+            ctypes.byref(read.rows), read.address, read.length, ctypes.byref(first.rows), first.address, first.length,
+            ctypes.byref(second.rows), second.address, second.length))
+    return u, v
+
+
+def _number(part):
+    return part.high << 64 | part.low
+
+
+def statistics(plane) -> Statistics:
+    """The count, the sum, the sum of the squares, the least and the greatest of the samples of a plane."""
+    out = library.Statistics()
+    with Held(plane) as read:
+        library.answered(library.STATISTICS[read.size](ctypes.byref(read.rows), read.address, read.length, ctypes.byref(out)))
+    return Statistics(out.count, _number(out.sum), _number(out.sum_of_squares), out.minimum, out.maximum)
+
+
+def pair_statistics(a, b) -> PairStatistics:
+    """The sums of the samples of two planes of one size, of their squares, and of the products at the same place."""
+    out = library.PairStatistics()
+    _compared(library.PAIR_STATISTICS, a, b, out)
+    return PairStatistics(*(_number(getattr(out, name)) for name in PairStatistics._fields))

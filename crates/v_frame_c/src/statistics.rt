@@ -1,0 +1,88 @@
+//! Numbers that pictures give, for any type of pixel.
+ghost use Rattle.std.specs.Prelude.{◌≡◌, ◌≢◌, length};
+ghost use Rattle.v_frame.specs.Prelude.{row_major};
+ghost use Rattle.v_frame_c.specs.Layout.{fits, number_of, picture};
+ghost use Rattle.v_frame_c.specs.Statistics.{AreStatistics, ArePairStatistics};
+ghost use Rattle.v_frame_c.specs.Status.{same_size, status_of_one, status_of_two};
+
+use crate::layout::{Rows, Sum};
+use crate::status::{FIRST, OK, SECOND, SIZES};
+use v_frame::pixel::Pixel;
+use v_frame_statistics::rows as statistics;
+
+/// What the pixels of a picture add up to, and between which values they lie.
+#[derive(Drop)]
+#[repr(C)]
+pub struct Statistics {
+    pub count: u64,
+    pub sum: Sum,
+    pub sum_of_squares: Sum,
+    pub minimum: u32,
+    pub maximum: u32,
+}
+
+/// The sums over two pictures of which SSIM and correlations are made.
+#[derive(Drop)]
+#[repr(C)]
+pub struct PairStatistics {
+    pub first: Sum,
+    pub second: Sum,
+    pub first_squares: Sum,
+    pub second_squares: Sum,
+    pub products: Sum,
+}
+
+/// Sums the pixels of a picture and their squares, and finds the least and the greatest value.
+pub fn of_picture<T: Pixel>(rows: &Rows, buffer: &[T], found: &mut Statistics) -> u32
+    ensures status { result ≡ status_of_one (fits rows.now (length buffer.now)) }
+    ensures found { result ≡ 0
+        → AreStatistics T.form.value (row_major (picture rows.now buffer.now)) found.new }
+    ensures refused { result ≢ 0 → found.new ≡ found.old }
+{
+    let Some(rows) = rows.of(buffer) else {
+        return FIRST;
+    };
+    let sums = statistics::variance(&rows);
+    *found = Statistics {
+        count: sums.count as u64,
+        sum: Sum::of(sums.sum),
+        sum_of_squares: Sum::of(sums.sum_of_squares),
+        minimum: u32::from(statistics::minimum(&rows).into_u16()),
+        maximum: u32::from(statistics::maximum(&rows).into_u16()),
+    };
+    OK
+}
+
+/// Sums the pixels of two pictures of one size, their squares and their products.
+pub fn of_pair<T: Pixel>(
+    a_rows: &Rows,
+    a: &[T],
+    b_rows: &Rows,
+    b: &[T],
+    found: &mut PairStatistics,
+) -> u32
+    ensures status { result ≡ status_of_two (fits a_rows.now (length a.now))
+        (fits b_rows.now (length b.now)) (same_size a_rows.now b_rows.now) }
+    ensures found { result ≡ 0 → ArePairStatistics T.form.value (row_major (picture a_rows.now a.now))
+        (row_major (picture b_rows.now b.now)) found.new }
+    ensures refused { result ≢ 0 → found.new ≡ found.old }
+{
+    let Some(first) = a_rows.of(a) else {
+        return FIRST;
+    };
+    let Some(second) = b_rows.of(b) else {
+        return SECOND;
+    };
+    if !a_rows.same_size(b_rows) {
+        return SIZES;
+    }
+    let sums = statistics::pair_sums(&first, &second);
+    *found = PairStatistics {
+        first: Sum::of(sums.first),
+        second: Sum::of(sums.second),
+        first_squares: Sum::of(sums.first_squares),
+        second_squares: Sum::of(sums.second_squares),
+        products: Sum::of(sums.products),
+    };
+    OK
+}

@@ -1,0 +1,51 @@
+-- The header that is written for numbers, and why there is none.
+use Rattle.std.specs.Prelude.{ℕ, ◌≡◌, ◌++◌, ◌≤◌, ◌⊎◌, List, [], Option, Some, drop, length}
+use Rattle.v_frame.specs.Prelude.{ChromaSubsampling}
+use Rattle.v_frame_y4m.specs.Colour.{colour_with, depth_of, siting_of, subsampling_of}
+use Rattle.v_frame_y4m.specs.Header.{IsWritable}
+use Rattle.v_frame_y4m.specs.declared.colour.ChromaSiting.{ChromaSiting}
+use Rattle.v_frame_y4m.specs.declared.colour.Colour.{Colour}
+use Rattle.v_frame_y4m.specs.declared.header.Interlacing.{Interlacing}
+use Rattle.v_frame_y4m.specs.declared.header.Ratio.{Ratio as TheRatio}
+use Rattle.v_frame_y4m.specs.declared.header.StreamHeader.{StreamHeader}
+use Rattle.v_frame_y4m_c.specs.Header.{format_number, interlacing_number, numbers_of, ratio_numbers, siting_number}
+use Rattle.v_frame_y4m_c.specs.declared.header.Header.{Header}
+use Rattle.v_frame_y4m_c.specs.declared.numbers.NumberFault.{NumberFault}
+use Rattle.v_frame_y4m_c.specs.declared.numbers.NumberFault.TheVariants.{ZeroSize, NoSuchNumber, NoSuchColour}
+
+-- The header with these numbers that is written: it has no extensions, and of the colours that have
+-- the same format, depth and siting the one of the table.
+pub record IsHeaderOf (n : Header) (h : StreamHeader) : Type 0 where
+  pub numbers : numbers_of h ≡ n
+  pub writable : IsWritable h
+  pub colour : colour_with (subsampling_of h.colour) (depth_of h.colour) (siting_of h.colour)
+      ≡ Some h.colour
+  pub extensions : h.extensions ≡ []
+
+abbrev pub IsEmpty : Header → Type 0
+IsEmpty n = (n.width ≡ 0) ⊎ (n.height ≡ 0)
+
+-- each number of an enum is one of it, and a ratio that is not stated has no numbers
+pub record IsNumbered (n : Header) : Type 0 where
+  pub format : (f : ChromaSubsampling) × (format_number f ≡ n.format)
+  pub siting : (s : Option ChromaSiting) × (siting_number s ≡ n.siting)
+  pub interlacing : (i : Option Interlacing) × (interlacing_number i ≡ n.interlacing)
+  pub frame_rate : (r : Option TheRatio) × (ratio_numbers r ≡ n.frame_rate)
+  pub pixel_aspect : (r : Option TheRatio) × (ratio_numbers r ≡ n.pixel_aspect)
+
+-- the colour has this format, this depth and this siting
+pub record IsColourOf (n : Header) (c : Colour) : Type 0 where
+  pub format : format_number (subsampling_of c) ≡ n.format
+  pub depth : depth_of c ≡ n.bit_depth
+  pub siting : siting_number (siting_of c) ≡ n.siting
+
+-- why numbers are of no header that has a line
+abbrev pub HasNoHeader : Header → NumberFault → Type 0
+HasNoHeader n ZeroSize = IsEmpty n
+HasNoHeader n NoSuchNumber = ¬ (IsEmpty n) × ¬ (IsNumbered n)
+HasNoHeader n NoSuchColour = ¬ (IsEmpty n) × (IsNumbered n × ((c : Colour) → ¬ (IsColourOf n c)))
+
+-- these bytes stand at the front of a buffer, and all after them is as before
+pub record IsWrittenInFront (bytes old new : List ℕ) : Type 0 where
+  pub room : length bytes ≤ length old
+  pub written : new ≡ bytes ++ drop (length bytes) old

@@ -1,0 +1,151 @@
+//! The stream header that numbers are of.
+ghost use Rattle.std.specs.Prelude.{◌≡◌, ◌≢◌, IfErr, IfNone, IfOk, IfSome, MatchOption, Option};
+ghost use Rattle.v_frame.specs.Prelude.{ChromaSubsampling as TheFormat};
+ghost use Rattle.v_frame_y4m.specs.Colour.{colour_with, depth_of, siting_of, subsampling_of};
+ghost use Rattle.v_frame_y4m.specs.declared.colour.Colour.{Colour as TheColour};
+ghost use Rattle.v_frame_y4m.specs.Header.{IsWritable};
+ghost use Rattle.v_frame_y4m.specs.declared.colour.ChromaSiting.{ChromaSiting as TheSiting};
+ghost use Rattle.v_frame_y4m.specs.declared.header.Interlacing.{Interlacing as TheInterlacing};
+ghost use Rattle.v_frame_y4m.specs.declared.header.Ratio.{Ratio as ARatio};
+ghost use Rattle.v_frame_y4m.specs.declared.header.StreamHeader.{StreamHeader as TheHeader};
+ghost use Rattle.v_frame_y4m_c.specs.Header.{format_number, interlacing_number, numbers_of, ratio_numbers, siting_number};
+ghost use Rattle.v_frame_y4m_c.specs.Numbers.{HasNoHeader, IsHeaderOf};
+
+use crate::header::{Header, Ratio};
+use std::alloc::Global;
+use v_frame::chroma::ChromaSubsampling;
+use v_frame_y4m::{ChromaSiting, Colour, Interlacing, Ratio as TheRatio, StreamHeader};
+
+/// Why numbers are of no header that has a line.
+#[derive(Drop)]
+pub enum NumberFault {
+    /// The width or the height is 0.
+    ZeroSize,
+    /// A number is none of its enum, or a ratio that is not stated has numbers.
+    NoSuchNumber,
+    /// No colour has the format, the bit depth and the siting.
+    NoSuchColour,
+}
+
+impl Header {
+    /// Returns the stream header that these numbers are of, without extensions.
+    ///
+    /// # Errors
+    ///
+    /// The first of the faults that holds.
+    pub fn stream_header(&self, alloc: Global) -> Result<StreamHeader, NumberFault>
+        ensures found { IfOk result (IsHeaderOf self.now) }
+        ensures refused { IfErr result (HasNoHeader self.now) }
+        ensures none { IfErr result (λ _. (h : TheHeader) → IsWritable h
+            → numbers_of h ≢ self.now) }
+    {
+        if self.width == 0 || self.height == 0 {
+            return Err(NumberFault::ZeroSize);
+        }
+        let Some(frame_rate) = ratio_numbered(&self.frame_rate) else {
+            return Err(NumberFault::NoSuchNumber);
+        };
+        let Some(pixel_aspect) = ratio_numbered(&self.pixel_aspect) else {
+            return Err(NumberFault::NoSuchNumber);
+        };
+        let Some(interlacing) = interlacing_numbered(self.interlacing) else {
+            return Err(NumberFault::NoSuchNumber);
+        };
+        let Some(format) = format_numbered(self.format) else {
+            return Err(NumberFault::NoSuchNumber);
+        };
+        let Some(siting) = siting_numbered(self.siting) else {
+            return Err(NumberFault::NoSuchNumber);
+        };
+        let Some(colour) = colour_of(format, self.bit_depth, siting) else {
+            return Err(NumberFault::NoSuchColour);
+        };
+        Ok(StreamHeader {
+            width: self.width,
+            height: self.height,
+            frame_rate,
+            interlacing,
+            pixel_aspect,
+            colour,
+            extensions: Vec::new(alloc).into(),
+        })
+    }
+}
+
+/// Returns the colour of a format, so many bits and a siting.
+fn colour_of(
+    format: ChromaSubsampling,
+    bit_depth: u32,
+    siting: Option<ChromaSiting>,
+) -> Option<Colour>
+    ensures value { result ≡ colour_with format bit_depth siting }
+    ensures found { IfSome result (λ c. (subsampling_of c ≡ format)
+        × ((depth_of c ≡ bit_depth) × (siting_of c ≡ siting))) }
+    ensures none { IfNone result ((c : TheColour) → subsampling_of c ≡ format
+        → depth_of c ≡ bit_depth → siting_of c ≢ siting) }
+{
+    match u8::try_from(bit_depth) {
+        Ok(bit_depth) => Colour::new(format, bit_depth, siting),
+        Err(_) => None,
+    }
+}
+
+/// Returns the ratio of these numbers.
+fn ratio_numbered(ratio: &Ratio) -> Option<Option<TheRatio>>
+    ensures { MatchOption result ((r : Option ARatio) → ratio_numbers r ≢ ratio.now)
+        (λ r. ratio_numbers r ≡ ratio.now) }
+{
+    match ratio.stated {
+        0 if ratio.numerator == 0 && ratio.denominator == 0 => Some(None),
+        1 => Some(Some(TheRatio {
+            numerator: ratio.numerator,
+            denominator: ratio.denominator,
+        })),
+        _ => None,
+    }
+}
+
+/// Returns the format of a number.
+fn format_numbered(number: u32) -> Option<ChromaSubsampling>
+    ensures { MatchOption result ((f : TheFormat) → format_number f ≢ number)
+        (λ f. format_number f ≡ number) }
+{
+    match number {
+        0 => Some(ChromaSubsampling::Monochrome),
+        1 => Some(ChromaSubsampling::Yuv420),
+        2 => Some(ChromaSubsampling::Yuv422),
+        3 => Some(ChromaSubsampling::Yuv444),
+        4 => Some(ChromaSubsampling::Yuv411),
+        _ => None,
+    }
+}
+
+/// Returns the siting of a number.
+fn siting_numbered(number: u32) -> Option<Option<ChromaSiting>>
+    ensures { MatchOption result ((s : Option TheSiting) → siting_number s ≢ number)
+        (λ s. siting_number s ≡ number) }
+{
+    match number {
+        0 => Some(None),
+        1 => Some(Some(ChromaSiting::Centre)),
+        2 => Some(Some(ChromaSiting::Left)),
+        3 => Some(Some(ChromaSiting::Alternating)),
+        _ => None,
+    }
+}
+
+/// Returns the way of interlacing of a number.
+fn interlacing_numbered(number: u32) -> Option<Option<Interlacing>>
+    ensures { MatchOption result ((i : Option TheInterlacing) → interlacing_number i ≢ number)
+        (λ i. interlacing_number i ≡ number) }
+{
+    match number {
+        0 => Some(None),
+        1 => Some(Some(Interlacing::Progressive)),
+        2 => Some(Some(Interlacing::TopFirst)),
+        3 => Some(Some(Interlacing::BottomFirst)),
+        4 => Some(Some(Interlacing::Mixed)),
+        5 => Some(Some(Interlacing::Unknown)),
+        _ => None,
+    }
+}
