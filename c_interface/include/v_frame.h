@@ -46,7 +46,9 @@ enum v_frame_status {
     /* A number that stands for a choice, a bit depth or a ratio is none that the call knows. */
     V_FRAME_NUMBER = 5,
     /* The third rows do not fit the third buffer. */
-    V_FRAME_THIRD_ROWS = 6
+    V_FRAME_THIRD_ROWS = 6,
+    /* The fourth rows do not fit the fourth buffer. */
+    V_FRAME_FOURTH_ROWS = 7
 };
 
 /* Chroma formats. */
@@ -67,6 +69,34 @@ enum v_frame_turn {
     V_FRAME_ROTATE_90 = 4,
     V_FRAME_ROTATE_270 = 5
 };
+
+/* Standards of colour: ITU-R BT.601-7, BT.709-6, BT.2020-2 with non-constant luminance. */
+enum v_frame_standard {
+    V_FRAME_BT601 = 0,
+    V_FRAME_BT709 = 1,
+    V_FRAME_BT2020 = 2
+};
+
+/* Ranges of luma and chroma: 16 to 235 and 16 to 240, or all. */
+enum v_frame_range {
+    V_FRAME_LIMITED = 0,
+    V_FRAME_FULL = 1
+};
+
+/* Orders of the bytes of a colour. A fourth byte is 255. */
+enum v_frame_order {
+    V_FRAME_RGB = 0,
+    V_FRAME_BGR = 1,
+    V_FRAME_RGBA = 2,
+    V_FRAME_BGRA = 3
+};
+
+/* Numbers of the three enums above. */
+typedef struct v_frame_colours {
+    uint32_t standard;
+    uint32_t range;
+    uint32_t order;
+} v_frame_colours;
 
 /* Rows in a buffer, in entries. */
 typedef struct v_frame_rows {
@@ -225,6 +255,13 @@ uint32_t v_frame_deinterleave_u8(const v_frame_rows *rows, const uint8_t *buffer
 uint32_t v_frame_deinterleave_u16(const v_frame_rows *rows, const uint16_t *buffer, size_t length, const v_frame_rows *u_rows,
                                   uint16_t *u, size_t u_length, const v_frame_rows *v_rows, uint16_t *v, size_t v_length);
 
+/* Make the rows of the buffer the colours of three pictures of one size, Y', Cb and Cr of 8 bits, by a standard: each byte is the
+ * nearest to what whole coefficients give, which lie within 1/100 of the standard's before that is rounded. The rows of the buffer
+ * count bytes, three or four for each pixel. V_FRAME_NUMBER where a number of `colours` is none of its enum. */
+uint32_t v_frame_yuv444_to_rgb_u8(const v_frame_rows *rows, uint8_t *buffer, size_t length, const v_frame_rows *y_rows,
+                                  const uint8_t *y, size_t y_length, const v_frame_rows *u_rows, const uint8_t *u, size_t u_length,
+                                  const v_frame_rows *v_rows, const uint8_t *v, size_t v_length, const v_frame_colours *colours);
+
 /* Count and sum the pixels of a picture, sum their squares, and find the least and the greatest value. */
 uint32_t v_frame_statistics_u8(const v_frame_rows *rows, const uint8_t *buffer, size_t length, v_frame_statistics *found);
 uint32_t v_frame_statistics_u16(const v_frame_rows *rows, const uint16_t *buffer, size_t length, v_frame_statistics *found);
@@ -306,6 +343,8 @@ static inline const char *v_frame_status_text(uint32_t status) {
         return "a number is none that the call knows";
     case V_FRAME_THIRD_ROWS:
         return "the third rows do not fit their buffer";
+    case V_FRAME_FOURTH_ROWS:
+        return "the fourth rows do not fit their buffer";
     default:
         return "unknown status";
     }

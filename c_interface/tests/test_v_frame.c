@@ -100,6 +100,61 @@ static void depths(void) {
     }
 }
 
+/* A sample by the coefficients of BT.601 in limited range, in parts of 16384. */
+static uint8_t sample_of(int64_t parts) {
+    int64_t value = parts + 8192 < 0 ? 0 : (parts + 8192) / 16384;
+    return (uint8_t)(value < 255 ? value : 255);
+}
+
+static void colours(void) {
+    for (uint32_t round = 0; round < 1000; round++) {
+        v_frame_colours choice = {V_FRAME_BT601, V_FRAME_LIMITED, round % 4};
+        size_t bytes = choice.order < V_FRAME_RGBA ? 3 : 4, width = 1 + below(40), height = 1 + below(5);
+        v_frame_rows y_rows = {width, height, width + below(4)}, u_rows = {width, height, width + below(4)};
+        v_frame_rows v_rows = {width, height, width + below(4)}, rows = {bytes * width, height, bytes * width + below(4)};
+        size_t yl = v_frame_rows_length(&y_rows), ul = v_frame_rows_length(&u_rows), vl = v_frame_rows_length(&v_rows);
+        size_t length = v_frame_rows_length(&rows);
+        uint8_t *y = filled_u8(&y_rows), *u = filled_u8(&u_rows), *v = filled_u8(&v_rows), *buffer = filled_u8(&rows);
+        uint8_t *before = cloned_u8(buffer, length);
+        v_frame_colours wrong[3] = {{3, 0, 0}, {0, 2, 0}, {0, 0, 4}};
+        for (int i = 0; i < 3; i++) {
+            CHECK(v_frame_yuv444_to_rgb_u8(&rows, buffer, length, &y_rows, y, yl, &u_rows, u, ul, &v_rows, v, vl, &wrong[i]) ==
+                  V_FRAME_NUMBER);
+        }
+        size_t lengths[4] = {length, yl, ul, vl};
+        uint32_t statuses[4] = {V_FRAME_FIRST_ROWS, V_FRAME_SECOND_ROWS, V_FRAME_THIRD_ROWS, V_FRAME_FOURTH_ROWS};
+        for (int i = 0; i < 4; i++) {
+            lengths[i]--;
+            CHECK(v_frame_yuv444_to_rgb_u8(&rows, buffer, lengths[0], &y_rows, y, lengths[1], &u_rows, u, lengths[2], &v_rows, v,
+                                           lengths[3], &choice) == statuses[i]);
+            lengths[i]++;
+        }
+        v_frame_rows narrow = {width, height, rows.stride};
+        CHECK(v_frame_yuv444_to_rgb_u8(&narrow, buffer, length, &y_rows, y, yl, &u_rows, u, ul, &v_rows, v, vl, &choice) ==
+              V_FRAME_SIZES);
+        CHECK(memcmp(buffer, before, length) == 0);
+        CHECK(v_frame_yuv444_to_rgb_u8(&rows, buffer, length, &y_rows, y, yl, &u_rows, u, ul, &v_rows, v, vl, &choice) ==
+              V_FRAME_OK);
+        check_rest_u8(&rows, buffer, before, length);
+        for (size_t i = 0; i < width * height; i++) {
+            size_t row = i / width, x = i % width;
+            int64_t luma = 19077 * ((int64_t)y[y_rows.stride * row + x] - 16);
+            int64_t cb = (int64_t)u[u_rows.stride * row + x] - 128, cr = (int64_t)v[v_rows.stride * row + x] - 128;
+            const uint8_t *pixel = buffer + rows.stride * row + bytes * x;
+            int swapped = choice.order == V_FRAME_BGR || choice.order == V_FRAME_BGRA;
+            CHECK(pixel[swapped ? 2 : 0] == sample_of(luma + 26149 * cr));
+            CHECK(pixel[1] == sample_of(luma - 6419 * cb - 13320 * cr));
+            CHECK(pixel[swapped ? 0 : 2] == sample_of(luma + 33050 * cb));
+            CHECK(bytes == 3 || pixel[3] == 255);
+        }
+        free(y);
+        free(u);
+        free(v);
+        free(buffer);
+        free(before);
+    }
+}
+
 static void bytes_and_words(void) {
     for (int round = 0; round < 1000; round++) {
         size_t width = 1 + below(40), height = 1 + below(5);
@@ -199,7 +254,7 @@ static void helpers(void) {
     CHECK(v_frame_rows_length(&rows) == 0);
     rows = v_frame_rows_packed(3, 0);
     CHECK(v_frame_rows_length(&rows) == 0);
-    for (uint32_t status = 0; status < 8; status++) {
+    for (uint32_t status = 0; status < 9; status++) {
         CHECK(strlen(v_frame_status_text(status)) > 0);
     }
 }
@@ -210,6 +265,7 @@ int main(void) {
     pictures_u8();
     pictures_u16();
     depths();
+    colours();
     bytes_and_words();
     frames();
     helpers();

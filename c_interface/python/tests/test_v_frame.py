@@ -101,6 +101,18 @@ class Pictures(unittest.TestCase):
                 sum(a), sum(b), sum(it * it for it in a), sum(it * it for it in b), sum(p * q for p, q in zip(a, b))))
         self.assertRaises(SizesError, v_frame.pair_statistics, Plane(bytes(4), 2, 2), Plane(bytes(2), 2, 1))
 
+    def test_rgb(self):
+        # By the standards' own fractions, rounded to the nearest: red 255, grey, black and white of BT.709 in limited range.
+        planes = [Plane(bytes(row), 4, 1) for row in ((63, 126, 16, 235), (102, 128, 128, 128), (240, 128, 128, 128))]
+        self.assertEqual(bytes(v_frame.rgb(*planes).buffer), bytes([255, 1, 0, 128, 128, 128, 0, 0, 0, 255, 255, 255]))
+        self.assertEqual(bytes(v_frame.rgb(*planes, order="bgra").buffer)[:8], bytes([0, 1, 255, 255, 128, 128, 128, 255]))
+        self.assertNotEqual(bytes(v_frame.rgb(*planes, standard="bt601").buffer)[:3], bytes([255, 1, 0]))
+        for wrong in ({"standard": "bt470"}, {"range": "wide"}, {"order": "grb"}):
+            self.assertRaises(ValueError, v_frame.rgb, *planes, **wrong)
+        self.assertRaises(SizesError, v_frame.rgb, planes[0], planes[1], Plane(bytes(3), 3, 1))
+        words = Plane(bytes(8), 4, 1, sample_size=2)
+        self.assertRaises(TypeError, v_frame.rgb, words, words, words)
+
     @unittest.skipUnless(numpy, "there is no numpy")
     def test_arrays(self):
         array = numpy.arange(3 * 8, dtype="uint16").reshape(3, 8)[:, 1:6]
@@ -109,6 +121,8 @@ class Pictures(unittest.TestCase):
         self.assertEqual(v_frame.upscale(array, 9, 6).tolist(), numpy.repeat(numpy.repeat(array, 2, 0), 2, 1)[:, :9].tolist())
         self.assertEqual(v_frame.interleave(array, array).shape, (3, 10))
         self.assertEqual(v_frame.statistics(array).sum, int(array.sum()))
+        flat = numpy.full((2, 3), 128, dtype="uint8")
+        self.assertEqual(v_frame.rgb(flat, flat, flat, range="full").tolist(), [[[128] * 3] * 3] * 2)
 
 
 class Planes(unittest.TestCase):

@@ -12,10 +12,10 @@ has checked: what it answers, what it writes, and that all else of a buffer stay
 
 from ._calls import Part, copy, fill, first_difference, half, lay_out, pad, psnr, sad, sse
 from ._library import VERSION, SizesError, RowsError
-from ._pictures import (TURNS, PairStatistics, Statistics, convert_depth, deinterleave, interleave, pair_statistics, statistics,
-                        turn, upscale)
+from ._pictures import (ORDERS, RANGES, STANDARDS, TURNS, PairStatistics, Statistics, convert_depth, deinterleave, interleave,
+                        pair_statistics, rgb, statistics, turn, upscale)
 from ._planes import Plane
 
-__all__ = ["TURNS", "PairStatistics", "Part", "Plane", "RowsError", "SizesError", "Statistics", "VERSION", "convert_depth", "copy",
-           "deinterleave", "fill", "first_difference", "half", "interleave", "lay_out", "pad", "pair_statistics", "psnr", "sad",
-           "sse", "statistics", "turn", "upscale"]
+__all__ = ["ORDERS", "PairStatistics", "Part", "Plane", "RANGES", "RowsError", "STANDARDS", "SizesError", "Statistics", "TURNS",
+           "VERSION", "convert_depth", "copy", "deinterleave", "fill", "first_difference", "half", "interleave", "lay_out", "pad",
+           "pair_statistics", "psnr", "rgb", "sad", "sse", "statistics", "turn", "upscale"]

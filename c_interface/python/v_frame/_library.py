@@ -50,6 +50,10 @@ class Statistics(ctypes.Structure):
                 ("maximum", ctypes.c_uint32)]
 
 
+class Colours(ctypes.Structure):
+    _fields_ = [("standard", ctypes.c_uint32), ("range", ctypes.c_uint32), ("order", ctypes.c_uint32)]
+
+
 class PairStatistics(ctypes.Structure):
     _fields_ = [(name, Sum) for name in ("first", "second", "first_squares", "second_squares", "products")]
 
@@ -92,6 +96,8 @@ TURN = _both("turn", _rows, _data, _size, ctypes.c_uint32)
 UPSCALE = _both("upscale", _rows, _data, _size, _size, _size)
 INTERLEAVE = _both("interleave", _rows, _data, _size, _rows, _data, _size)
 DEINTERLEAVE = _both("deinterleave", _rows, _data, _size, _rows, _data, _size)
+TO_RGB = _export("v_frame_yuv444_to_rgb_u8", _rows, _data, _size, _rows, _data, _size, _rows, _data, _size,
+                 ctypes.POINTER(Colours))
 STATISTICS = _both("statistics", ctypes.POINTER(Statistics))
 PAIR_STATISTICS = _both("pair_statistics", _rows, _data, _size, ctypes.POINTER(PairStatistics))
 CONVERT_DEPTH = {(1, 2): "u8_u16", (2, 1): "u16_u8", (2, 2): "u16_u16"}
@@ -103,9 +109,9 @@ LAY_OUT.restype, LAY_OUT.argtypes = ctypes.c_uint32, [ctypes.POINTER(Request), c
 
 def answered(status):
     """Raises the exception of a status."""
-    if status in (1, 2, 6):
-        raise RowsError({1: "the first", 2: "the second", 6: "the third"}[status] + " rows do not fit their buffer")
+    if status in (1, 2, 6, 7):
+        raise RowsError({1: "the first", 2: "the second", 6: "the third", 7: "the fourth"}[status] + " rows do not fit their buffer")
     if status == 3:
         raise SizesError("the sizes do not belong together")
     if status == 5:
-        raise ValueError("a bit depth is below 8, or above what the samples hold")
+        raise ValueError("a bit depth, a turn or a kind of colours is none that the library knows")

@@ -11,6 +11,10 @@ from ._planes import LIMIT, Held, Plane, numpy
 TURNS = ("flip_vertical", "flip_horizontal", "rotate_180", "transpose", "rotate_90", "rotate_270")
 
 
+#: Standards of colour, ranges of luma and chroma, and orders of bytes, each in the order of its numbers.
+STANDARDS, RANGES, ORDERS = ("bt601", "bt709", "bt2020"), ("limited", "full"), ("rgb", "bgr", "rgba", "bgra")
+
+
 class Statistics(NamedTuple):
     """What the samples of a plane add up to, exactly, and between which values they lie."""
 
@@ -113,6 +117,24 @@ def deinterleave(plane):
             ctypes.byref(read.rows), read.address, read.length, ctypes.byref(first.rows), first.address, first.length,
             ctypes.byref(second.rows), second.address, second.length))
     return u, v
+
+
+def rgb(y, u, v, standard: str = "bt709", range: str = "limited", order: str = "rgb"):
+    """The colours of three planes of one size and of bytes, as a new plane with three or four bytes for each pixel: an array of three
+    dimensions where they are arrays."""
+    for name, known in ((standard, STANDARDS), (range, RANGES), (order, ORDERS)):
+        if name not in known:
+            raise ValueError(f"{name!r} is none of {', '.join(known)}")
+    choice = library.Colours(STANDARDS.index(standard), RANGES.index(range), ORDERS.index(order))
+    width, height, size = _shape(y)
+    with Held(y) as luma, Held(u) as first, Held(v) as second:
+        if (_same_size(luma, first), _same_size(luma, second)) != (1, 1):
+            raise TypeError("colours are made of samples of one byte")
+    target = _new(y, len(order) * width, height, size)
+    with Held(target, writes=True) as written, Held(y) as luma, Held(u) as first, Held(v) as second:
+        planes = [it for held in (written, luma, first, second) for it in (ctypes.byref(held.rows), held.address, held.length)]
+        library.answered(library.TO_RGB(*planes, ctypes.byref(choice)))
+    return target if isinstance(target, Plane) else target.reshape(height, width, len(order))
 
 
 def _number(part):

@@ -1,3 +1,4 @@
+pub mod ColourChoice
 pub mod FrameParts
 pub mod Layout
 pub mod Numbers

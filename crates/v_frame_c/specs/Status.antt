@@ -27,6 +27,15 @@ status_of_three true true false sizes = 6
 status_of_three true true true false = 3
 status_of_three true true true true = 0
 
+-- of four
+abbrev pub status_of_four : Bool → Bool → Bool → Bool → Bool → ℕ
+status_of_four false second third fourth sizes = 1
+status_of_four true false third fourth sizes = 2
+status_of_four true true false fourth sizes = 6
+status_of_four true true true false sizes = 7
+status_of_four true true true true false = 3
+status_of_four true true true true true = 0
+
 -- the sizes are the same
 abbrev pub same_size : Rows → Rows → Bool
 same_size a b = nat_eq a.width b.width && nat_eq a.height b.height

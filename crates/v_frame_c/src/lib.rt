@@ -6,8 +6,10 @@
 #![tactic(auto)]
 
 mod change;
+mod colours;
 mod compare;
 mod convert;
+mod exports_colours;
 mod exports_convert;
 mod exports_semi_planar;
 mod exports_statistics;

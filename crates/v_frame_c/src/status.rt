@@ -20,3 +20,6 @@ pub const NUMBER: u32 = 5;
 
 /// The third rows don't fit their buffer.
 pub const THIRD: u32 = 6;
+
+/// The fourth rows don't fit theirs.
+pub const FOURTH: u32 = 7;
