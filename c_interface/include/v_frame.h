@@ -217,6 +217,29 @@ uint32_t v_frame_decode_u16(const v_frame_rows *rows, uint16_t *buffer, size_t l
 uint32_t v_frame_encode_u16(const v_frame_rows *rows, uint8_t *buffer, size_t length, const v_frame_rows *source_rows,
                             const uint16_t *source, size_t source_length);
 
+/* Blend the source over the picture of the buffer, which has its size: a pixel p becomes
+ * (p * (256 - weight) + q * weight + 128) / 256, q being the source's. A part of a picture is its rows at another pointer, so this
+ * also blends a region. V_FRAME_NUMBER where the weight is above 256. */
+uint32_t v_frame_blend_u8(const v_frame_rows *rows, uint8_t *buffer, size_t length, const v_frame_rows *source_rows,
+                          const uint8_t *source, size_t source_length, uint16_t weight);
+uint32_t v_frame_blend_u16(const v_frame_rows *rows, uint16_t *buffer, size_t length, const v_frame_rows *source_rows,
+                           const uint16_t *source, size_t source_length, uint16_t weight);
+
+/* The same with a weight of 0 to 255 for each pixel: (p * (255 - weight) + q * weight + 127) / 255. */
+uint32_t v_frame_blend_with_mask_u8(const v_frame_rows *rows, uint8_t *buffer, size_t length, const v_frame_rows *source_rows,
+                                    const uint8_t *source, size_t source_length, const v_frame_rows *mask_rows,
+                                    const uint8_t *mask, size_t mask_length);
+uint32_t v_frame_blend_with_mask_u16(const v_frame_rows *rows, uint16_t *buffer, size_t length, const v_frame_rows *source_rows,
+                                     const uint16_t *source, size_t source_length, const v_frame_rows *mask_rows,
+                                     const uint8_t *mask, size_t mask_length);
+
+/* Make each pixel of the buffer how far it lies from that of the source, times `gain`, and at most 2^depth - 1. V_FRAME_NUMBER where
+ * the bit depth is below 8, or above what the type holds. */
+uint32_t v_frame_difference_u8(const v_frame_rows *rows, uint8_t *buffer, size_t length, const v_frame_rows *source_rows,
+                               const uint8_t *source, size_t source_length, uint16_t gain, uint32_t depth);
+uint32_t v_frame_difference_u16(const v_frame_rows *rows, uint16_t *buffer, size_t length, const v_frame_rows *source_rows,
+                                const uint16_t *source, size_t source_length, uint16_t gain, uint32_t depth);
+
 /* Make the rows of the buffer show the source turned in a way of enum v_frame_turn. V_FRAME_NUMBER where there is no such way. */
 uint32_t v_frame_turn_u8(const v_frame_rows *rows, uint8_t *buffer, size_t length, const v_frame_rows *source_rows,
                          const uint8_t *source, size_t source_length, uint32_t turn);

@@ -63,7 +63,7 @@ fn depths<S: Pixel, T: Pixel>(from: u32, to: u32) -> Option<(u8, u8)>
 }
 
 /// Returns whether pixels of a type can have values of this bit depth.
-fn is_depth<T: Pixel>(depth: u32) -> bool
+pub fn is_depth<T: Pixel>(depth: u32) -> bool
     ensures { result ≡ is_depth T.BYTES depth }
 {
     8 <= depth && depth <= 8 * (T::BYTES as u32)

@@ -8,8 +8,10 @@
 mod change;
 mod colours;
 mod compare;
+mod compose;
 mod convert;
 mod exports_colours;
+mod exports_compose;
 mod exports_convert;
 mod exports_semi_planar;
 mod exports_statistics;
