@@ -30,7 +30,8 @@
 extern "C" {
 #endif
 
-/* What a call answers: the first of these that holds. */
+/* What a call answers: V_FRAME_OK, or the first that fails of what it tests: its numbers and formats, then the rows of each
+ * buffer in turn, then the sizes. */
 enum v_frame_status {
     /* All went as asked. */
     V_FRAME_OK = 0,
@@ -233,8 +234,8 @@ uint32_t v_frame_blend_with_mask_u16(const v_frame_rows *rows, uint16_t *buffer,
                                      const uint16_t *source, size_t source_length, const v_frame_rows *mask_rows,
                                      const uint8_t *mask, size_t mask_length);
 
-/* Make each pixel of the buffer how far it lies from that of the source, times `gain`, and at most 2^depth - 1. V_FRAME_NUMBER where
- * the bit depth is below 8, or above what the type holds. */
+/* Make each pixel of the buffer how far it lies from that of the source, times `gain`, and at most 2^depth - 1. V_FRAME_NUMBER
+ * where the bit depth is below 8, or above what the type holds. */
 uint32_t v_frame_difference_u8(const v_frame_rows *rows, uint8_t *buffer, size_t length, const v_frame_rows *source_rows,
                                const uint8_t *source, size_t source_length, uint16_t gain, uint32_t depth);
 uint32_t v_frame_difference_u16(const v_frame_rows *rows, uint16_t *buffer, size_t length, const v_frame_rows *source_rows,
