@@ -2,8 +2,7 @@
 ghost use Rattle.std.specs.Prelude.{◌≡◌, length, map, reverse, Err, OnErr, OnOk};
 ghost use Rattle.v_frame.specs.Prelude.{height_of, strided_rows, table_of, tables_of, width_of, ChromaSubsampling};
 ghost use Rattle.v_frame.specs.Prelude.{KeepsBorder, KeepsBorders, KeepsRest, RowsFit};
-ghost use Rattle.v_frame_turn.specs.Frames.{turned_tables};
-ghost use Rattle.v_frame_turn.specs.Turn.{rotated_90};
+ghost use Rattle.v_frame_turn.specs.Prelude.{rotated_90, turned_tables};
 ghost use Rattle.v_frame_turn.specs.declared.error.TurnError.{TurnError};
 
 use v_frame::frame::Frame;

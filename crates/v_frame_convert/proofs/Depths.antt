@@ -73,6 +73,26 @@ module _ (v half D lt lf : ℕ) (some : 0 < D) (whole : lf + 1 ≡ (lt + 1) * D)
             ])
       ])
 
+-- a value that is shifted up is one of the greater depth
+raised_below : (from to value : ℕ) → from ≤ to → min value (largest_value from) * 2 ^ (to - from) < 2 ^ to
+raised_below from to value greater =
+    let two : 0 < 2 = omega arith in
+    let sum : from + (to - from) ≡ to = omega arith in
+    let parts : 2 ^ to ≡ 2 ^ from * 2 ^ (to - from) = rw (← pow-add 2 from (to - from), sum) refl in
+    let all : 1 ≤ 2 ^ from = one-le-pow from 2 two in
+    let low : min value (largest_value from) + 1 ≤ 2 ^ from = omega arith in
+    let up : 1 ≤ 2 ^ (to - from) = one-le-pow (to - from) 2 two in
+    omega (arith, mul-le-mul_right (2 ^ (to - from)) low, parts, up)
+
+-- so no bit of it is lost
+pub raised_depth : (from to value : ℕ) → from ≤ to → to ≤ 16
+    → (min value (largest_value from) * 2 ^ (to - from) % 65536 ≡ at_depth from to value)
+    × (at_depth from to value < 2 ^ to)
+raised_depth from to value greater high =
+    let test : nat_le from to ≡ true = grind (arith, common_steps) in
+    let below = raised_below from to value greater in
+    rw test (mod-eq_of_lt (omega (arith, below, pow_within to high)), below)
+
 -- what the shifts of a change of depth give
 pub changed_depth : (from to value : ℕ) → from ≤ 16 → to ≤ 16
     → min (min (min value (largest_value from) * 2 ^ (to - from) % 65536 + 2 ^ (from - to) / 2) 65535 / 2 ^ (from - to))
@@ -100,13 +120,7 @@ changed_depth from to value from_high to_high =
       | inr not_smaller ↦
           let test : nat_le from to ≡ true = grind (arith, common_steps) in
           let none : from - to ≡ 0 = omega arith in
-          let sum : from + (to - from) ≡ to = omega arith in
-          let parts : 2 ^ to ≡ 2 ^ from * 2 ^ (to - from) = rw (← pow-add 2 from (to - from), sum) refl in
-          let all : 1 ≤ 2 ^ from = one-le-pow from 2 two in
-          let low : min value lf + 1 ≤ 2 ^ from = omega arith in
-          let up : 1 ≤ 2 ^ (to - from) = one-le-pow (to - from) 2 two in
-          let below : min value lf * 2 ^ (to - from) < 2 ^ to =
-          omega (arith, mul-le-mul_right (2 ^ (to - from)) low, parts, up) in
+          let below = raised_below from to value (omega arith) in
           rw (test, none) (fits_above (min value lf * 2 ^ (to - from)) (2 ^ to) below (pow_within to to_high))
     ]
 

@@ -43,6 +43,16 @@ impl DepthChange {
         }
     }
 
+    /// Returns a value at the other depth, which is no smaller one.
+    #[inline(always)]
+    pub(crate) fn raise(&self, value: u16) -> u16
+        requires { self.now.from ≤ self.now.to }
+        ensures value { result ≡ at_depth self.now.from self.now.to value }
+        ensures fits { result < 2 ^ self.now.to }
+    {
+        value.min(self.largest_source) << self.up
+    }
+
     /// Returns a value at the other depth.
     ///
     /// One of the two shifts is by no bit. A sum that is cut off at 65535 is of a value that becomes the largest.

@@ -1,7 +1,10 @@
 -- A list in which the items of two others are by turns is those two interleaved, and of two tables each row is.
 use Rattle.std.proofs.Common.{ℕ, suc, ◌≡◌, ◌+◌, ◌*◌, ◌<◌, ◌≤◌, List, [], ◌∷◌, length, Some, slice_get, slice_set}
-use Rattle.std.proofs.Common.{refl, sym, ◌∙◌, arith}
+use Rattle.std.proofs.Common.{refl, sym, ◌∙◌, ap, arith, mul-suc, take, drop, ◌++◌, length-take-le}
 use Rattle.std.proofs.Common.{All, length-append}
+use Rattle.std.proofs.Math.Seq.{take-add}
+use Rattle.std.proofs.lemmas.Slice.{take-put_mid}
+use borrow.Rule.Slice.PartMut.{put_mid}
 use Rattle.std.proofs.lemmas.List.Elements.{All-head, All-tail}
 use Rattle.v_frame.specs.Prelude.{Table, row_major}
 use Rattle.v_frame_ops.specs.Change.{combined}
@@ -76,3 +79,30 @@ module _ {T : Type 0} where
       (All-tail (λ row. length row ≡ width) v vs wide_second) (omega arith) in
       simp length-append (omega (arith, length-interleaved u v (long ∙ sym long_second), rest))
   pixels_by_turns width us vs wide wide_second equal = absurd (omega arith)
+
+module _ {X : Type 0} where
+  -- lists by turns that are made of two parts
+  pub interleaved-append : (ps qs us vs : List X) → length qs ≡ length ps → interleaved (ps ++ us) (qs ++ vs) ≡ interleaved ps qs
+      ++ interleaved us vs
+  interleaved-append [] [] us vs same = refl
+  interleaved-append (p ∷ ps) (q ∷ qs) us vs same =
+      ap (λ rest. p ∷ q ∷ rest) (interleaved-append ps qs us vs (omega (arith, same)))
+  interleaved-append ps qs us vs same = absurd (omega (arith, same))
+
+  -- the first items of a list are by turns the first ones of two others
+  abbrev pub FirstApart : List X → List X → List X → ℕ → Type 0
+  FirstApart items us vs n = take (2 * n) items ≡ interleaved (take n us) (take n vs)
+
+  -- one more block of so many of each
+  pub block_apart : (n k : ℕ) (items us vs p q : List X) → n * k + n ≤ length us → n * k + n ≤ length vs → length p ≡ n
+      → length q ≡ n → take (2 * n) (drop (2 * (n * k)) items) ≡ interleaved p q → FirstApart items us vs (n * k)
+      → FirstApart items (put_mid (n * k) n us p) (put_mid (n * k) n vs q) (n * (k + 1))
+  block_apart n k items us vs p q room room_second long long_second is so_far =
+      let next : n * (k + 1) ≡ n * k + n = omega (arith, mul-suc n k) in
+      let both : 2 * (n * k + n) ≡ 2 * (n * k) + 2 * n = omega arith in
+      let front = take-put_mid (n * k) n us p (n * k + n) (omega (arith, long)) (omega (arith, room)) in
+      let front_second = take-put_mid (n * k) n vs q (n * k + n) (omega (arith, long_second)) (omega (arith, room_second)) in
+      let same : length (take (n * k) vs) ≡ length (take (n * k) us) =
+      length-take-le (n * k) vs (omega (arith, room_second)) ∙ sym (length-take-le (n * k) us (omega (arith, room))) in
+      rw (next, front, front_second, both, take-add (2 * (n * k)) (2 * n) items, so_far, is)
+      (sym (interleaved-append (take (n * k) us) (take (n * k) vs) p q same))

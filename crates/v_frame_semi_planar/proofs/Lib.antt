@@ -1,3 +1,4 @@
+pub mod BytePairs
 pub mod CombinedLists
 pub mod ComesBack
 pub mod Encoded

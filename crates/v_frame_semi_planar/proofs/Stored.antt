@@ -105,7 +105,7 @@ module _ {T : Type 0} (form : PixelForm T) (unused : ℕ) where
 
 -- bytes that are shown part by part: as many rows of pixels, each of a piece of the bytes
 module _ {T : Type 0} (form : PixelForm T) (unused : ℕ) where
-  shown-append : (a b : ℕ) (bytes : List ℕ) → shown_pixels form unused (a + b) bytes
+  pub shown-append : (a b : ℕ) (bytes : List ℕ) → shown_pixels form unused (a + b) bytes
       ≡ shown_pixels form unused a bytes ++ shown_pixels form unused b (drop (form.size * a) bytes)
   shown-append zero b bytes =
       let none : form.size * 0 ≡ 0 = omega arith in
@@ -116,7 +116,7 @@ module _ {T : Type 0} (form : PixelForm T) (unused : ℕ) where
       let past : form.size * suc a ≡ form.size + form.size * a = omega arith in
       rw (more, shown-append a b (drop form.size bytes), drop-drop (form.size * a) form.size bytes, past) refl
 
-  shown-take : (count n : ℕ) (bytes : List ℕ) → form.size * count ≤ n
+  pub shown-take : (count n : ℕ) (bytes : List ℕ) → form.size * count ≤ n
       → shown_pixels form unused count (take n bytes) ≡ shown_pixels form unused count bytes
   shown-take count n bytes fits =
       let part = shown_pixels form unused count (take n bytes) in

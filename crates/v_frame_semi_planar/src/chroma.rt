@@ -5,6 +5,7 @@ ghost use Rattle.v_frame_ops.specs.Change.{combined};
 ghost use Rattle.v_frame_semi_planar.specs.Interleaved.{interleaved};
 
 use crate::rows;
+use v_frame::pixel::Pixel;
 use v_frame::plane::{Plane, PlaneRef};
 
 /// Shows in `target` the pixels of two planes by turns, in each row one of `first`, one of `second`, and so on, as semi-planar
@@ -27,7 +28,7 @@ pub fn interleave<T: Copy>(first: &PlaneRef<'_, T>, second: &PlaneRef<'_, T>, ta
 
 /// Shows the pixels of `source` in two planes by turns, those of even columns in `first` and those of odd ones in `second`.
 /// Both have half its width.
-pub fn deinterleave<T: Copy>(source: &PlaneRef<'_, T>, first: &mut Plane<T>, second: &mut Plane<T>)
+pub fn deinterleave<T: Pixel>(source: &PlaneRef<'_, T>, first: &mut Plane<T>, second: &mut Plane<T>)
     requires wide { source.now.geometry.width ≡ 2 * first.old.geometry.width }
     requires high { source.now.geometry.height ≡ first.old.geometry.height }
     requires second_wide { second.old.geometry.width ≡ first.old.geometry.width }

@@ -9,6 +9,7 @@
 //! Our own. `Rattle.v_frame_semi_planar.specs.Prelude` has the words for clauses.
 #![tactic(auto)]
 
+mod byte_pairs;
 mod chroma;
 mod error;
 mod format;

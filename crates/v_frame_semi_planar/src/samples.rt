@@ -4,6 +4,7 @@ ghost use Rattle.v_frame.specs.Prelude.{bytes_of, value_of_bytes};
 ghost use Rattle.v_frame_semi_planar.specs.Interleaved.{interleaved};
 ghost use Rattle.v_frame_semi_planar.specs.SemiPlanar.{shown_pixels, stored_bytes};
 
+use crate::byte_pairs::{decode_blocks, pairs_in_blocks};
 use v_frame::pixel::{Pixel, encode_row};
 
 /// Encodes a row: the bytes of each sample, which is moved up by the bits that aren't used, low byte first.
@@ -87,6 +88,26 @@ fn decode_moved<T: Pixel>(row: &mut [T], bytes: &[u8], unused: u32)
 
 /// Decodes two rows from one in which their samples are by turns.
 pub(crate) fn decode_pairs<T: Pixel>(first: &mut [T], second: &mut [T], bytes: &[u8], unused: u32)
+    requires long { length bytes.now ≡ 2 * T.BYTES * length first.old }
+    requires equal { length second.old ≡ length first.old }
+    requires few { unused < 8 }
+    ensures { interleaved first.new second.new
+        ≡ shown_pixels T.form unused (2 * length first.old) bytes.now }
+{
+    let whole = if unused == 0 {
+        pairs_in_blocks::<T>(first.len())
+    } else {
+        0
+    };
+    let (front, rest) = bytes.split_at(2 * whole);
+    let (first_front, first_rest) = first.split_at_mut(whole);
+    let (second_front, second_rest) = second.split_at_mut(whole);
+    decode_blocks(first_front, second_front, front);
+    decode_pairs_of_samples(first_rest, second_rest, rest, unused);
+}
+
+/// The same, sample by sample.
+fn decode_pairs_of_samples<T: Pixel>(first: &mut [T], second: &mut [T], bytes: &[u8], unused: u32)
     requires long { length bytes.now ≡ 2 * T.BYTES * length first.old }
     requires equal { length second.old ≡ length first.old }
     requires few { unused < 8 }

@@ -1,12 +1,13 @@
 -- Sums over pairs, one more pair or one more block of two lists on, and one more row of two tables.
-use Rattle.std.proofs.Common.{ℕ, ◌≡◌, ◌+◌, ◌-◌, ◌*◌, ◌<◌, ◌≤◌, List, length, take, drop, get_or, Some, slice_get}
-use Rattle.std.proofs.Common.{arith}
+use Rattle.std.proofs.Common.{ℕ, ◌≡◌, ◌+◌, ◌-◌, ◌*◌, ◌/◌, ◌%◌, ◌<◌, ◌≤◌, List, length, take, drop, get_or, Some}
+use Rattle.std.proofs.Common.{slice_get, arith}
 use Rattle.std.specs.Prelude.{sum_by, zip}
 use Rattle.std.proofs.lemmas.List.{drop_all}
 use Rattle.v_frame.specs.Prelude.{Table, row_major, width_of, height_of}
 use Rattle.v_frame_raster.proofs.SumsOfPairs.{sum_of_pairs-adds_up}
 use Rattle.v_frame_statistics.proofs.ListSums.{sum_by-pair_more, zip-length, zip-piece}
 use Rattle.v_frame_statistics.proofs.SumSteps.{SummedBefore, block_summed, rest_summed, all_summed}
+use Rattle.v_frame_statistics.proofs.SumSteps.{HalvesSummedBefore, all_halves_summed}
 
 module _ {X : Type 0} (f : X × X → ℕ) (most : ℕ) where
   module _ (xs ys : List X) (same : length ys ≡ length xs) where
@@ -23,6 +24,25 @@ module _ {X : Type 0} (f : X × X → ℕ) (most : ℕ) where
         → sum ≡ sum_by f (zip xs ys)
     all_pairs_summed n sum before h =
         all_summed f most (zip xs ys) n sum before (omega (arith, zip-length xs ys same))
+
+    -- the same of low and high halves
+    pub pair_halves_summed : (i low high : ℕ) (p q : X) (here low_here high_here : ℕ)
+        → HalvesSummedBefore f (zip xs ys) i low high → i < length xs → p ≡ get_or xs i p → q ≡ get_or ys i q
+        → here ≡ f (p, q) → here < 4294967296 → low_here ≡ here % 65536 → high_here ≡ here / 65536
+        → HalvesSummedBefore f (zip xs ys) (i + 1) (low + low_here) (high + high_here)
+    pair_halves_summed i low high p q here low_here high_here before h first second is few low_is high_is =
+        let next : 65535 * (i + 1) ≡ 65535 * i + 65535 = omega arith in
+        let both : low_here + 65536 * high_here ≡ here = omega (arith, low_is, high_is) in
+        record {
+          so_far = omega (arith, before.so_far, both, is, sum_by-pair_more f xs ys i p q same h first second);
+          low_bound = omega (arith, next, before.low_bound, low_is);
+          high_bound = omega (arith, next, before.high_bound, high_is, few);
+        }
+
+    pub all_pair_halves_summed : (n low high : ℕ) → HalvesSummedBefore f (zip xs ys) n low high → length xs ≤ n
+        → low + 65536 * high ≡ sum_by f (zip xs ys)
+    all_pair_halves_summed n low high before h =
+        all_halves_summed f (zip xs ys) n low high before (omega (arith, zip-length xs ys same))
 
     -- one more block
     pub pair_block_summed : (n k sum block : ℕ) → SummedBefore f most (zip xs ys) (n * k) sum

@@ -1,5 +1,6 @@
 -- Sums, one more block of a list on, and one more row of a table.
-use Rattle.std.proofs.Common.{ℕ, ◌≡◌, ◌+◌, ◌-◌, ◌*◌, ◌≤◌, List, [], ◌∷◌, length, take, drop, Some, slice_get, All}
+use Rattle.std.proofs.Common.{ℕ, ◌≡◌, ◌+◌, ◌-◌, ◌*◌, ◌/◌, ◌%◌, ◌≤◌, List, [], ◌∷◌, length, take, drop, Some}
+use Rattle.std.proofs.Common.{slice_get, All}
 use Rattle.std.proofs.Common.{arith, mul-suc, suc, length-append}
 use Rattle.std.proofs.Common.{◌<◌, get_or}
 use Rattle.std.specs.Prelude.{sum_by}
@@ -61,6 +62,14 @@ module _ {X : Type 0} (f : X → ℕ) (most : ℕ) where
         omega (arith, next, above.bound, rw wide at few);
   }
 
+  -- the first row
+  pub first_row_summed : (table : Table X) (row : List X) (here : ℕ) → slice_get table 0 ≡ Some row
+      → length row ≡ width_of table → here ≡ sum_by f row → here ≤ most * length row → SummedAbove table 1 here
+  first_row_summed table row here is wide value few = record {
+    so_far = omega (arith, value, sum_by-row f table 0 row is);
+    bound = omega (arith, rw wide at few);
+  }
+
   -- one more item
   pub item_summed : (xs : List X) (i sum : ℕ) (x : X) (here : ℕ) → SummedBefore xs i sum → i < length xs
       → x ≡ get_or xs i x → here ≡ f x → here ≤ most → SummedBefore xs (i + 1) (sum + here)
@@ -76,3 +85,28 @@ module _ {X : Type 0} (f : X → ℕ) (most : ℕ) where
   pub all_rows_summed : (table : Table X) (y sum : ℕ) → SummedAbove table y sum → height_of table ≤ y
       → sum ≡ sum_by f (row_major table)
   all_rows_summed table y sum above h = omega (arith, rw (drop_all y table h) at above.so_far)
+
+module _ {X : Type 0} (f : X → ℕ) where
+  -- the first n items are summed, the low and the high halves of what each adds apart
+  pub record HalvesSummedBefore (xs : List X) (n low high : ℕ) : Type 0 where
+    pub so_far : low + 65536 * high ≡ sum_by f (take n xs)
+    pub low_bound : low ≤ 65535 * n
+    pub high_bound : high ≤ 65535 * n
+
+  -- one more item
+  pub item_halves_summed : (xs : List X) (i low high : ℕ) (x : X) (here low_here high_here : ℕ)
+      → HalvesSummedBefore xs i low high → i < length xs → x ≡ get_or xs i x → here ≡ f x → here < 4294967296
+      → low_here ≡ here % 65536 → high_here ≡ here / 65536
+      → HalvesSummedBefore xs (i + 1) (low + low_here) (high + high_here)
+  item_halves_summed xs i low high x here low_here high_here before h read is few low_is high_is =
+      let next : 65535 * (i + 1) ≡ 65535 * i + 65535 = omega arith in
+      let both : low_here + 65536 * high_here ≡ here = omega (arith, low_is, high_is) in
+      record {
+        so_far = omega (arith, before.so_far, both, is, rw (← read) at (sum_by_more f xs i x h));
+        low_bound = omega (arith, next, before.low_bound, low_is);
+        high_bound = omega (arith, next, before.high_bound, high_is, few);
+      }
+
+  pub all_halves_summed : (xs : List X) (n low high : ℕ) → HalvesSummedBefore xs n low high → length xs ≤ n
+      → low + 65536 * high ≡ sum_by f xs
+  all_halves_summed xs n low high before h = rw (take_all n xs h) at before.so_far

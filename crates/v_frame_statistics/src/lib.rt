@@ -12,10 +12,12 @@ mod pairs;
 mod row_pairs;
 mod row_sums;
 pub mod rows;
+mod summary;
 mod sums;
 
 pub use counts::{count_pairs, count_pixels};
 pub use extremes::{maximum, minimum};
 pub use histograms::{histogram, histogram_of_depth};
 pub use pairs::pair_sums;
+pub use summary::statistics;
 pub use sums::{mean, sum, variance};

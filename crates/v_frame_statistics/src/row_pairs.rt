@@ -2,7 +2,9 @@
 ghost use Rattle.std.specs.Prelude.{◌≡◌, ◌*◌, ◌<◌, ◌≤◌, All, length};
 ghost use Rattle.v_frame_statistics.specs.PairSums.{ArePairSums, PairSumsAtMost};
 
-use crate::row_sums::{are_small, product_of, product_of_small};
+use crate::row_sums::{
+    are_small, high_half, joined_halves, low_half, product_of, product_of_small,
+};
 use crate::rows::PairSums;
 use v_frame::pixel::Pixel;
 
@@ -77,7 +79,7 @@ fn sums_of_two_small_blocks<T: Pixel>(a: &[T], b: &[T]) -> PairSums
     }
 }
 
-/// The same of any values.
+/// The same of any values. The low and the high halves of the products are summed apart: for each 32 bits suffice.
 fn sums_of_two_wide_blocks<T: Pixel>(a: &[T], b: &[T]) -> PairSums
     requires same { length b.now ≡ length a.now }
     requires short { length a.now ≤ 4096 }
@@ -85,20 +87,26 @@ fn sums_of_two_wide_blocks<T: Pixel>(a: &[T], b: &[T]) -> PairSums
     ensures bound { PairSumsAtMost (4294967296 * length a.now) result }
 {
     let (mut first, mut second): (u32, u32) = (0, 0);
-    let (mut first_squares, mut second_squares, mut products): (u64, u64, u64) = (0, 0, 0);
+    let (mut first_low, mut second_low, mut low): (u32, u32, u32) = (0, 0, 0);
+    let (mut first_high, mut second_high, mut high): (u32, u32, u32) = (0, 0, 0);
     for x in 0..a.len() {
         let (p, q) = (a[x], b[x]);
         first += u32::from(p.into_u16());
         second += u32::from(q.into_u16());
-        first_squares += u64::from(product_of(p, p));
-        second_squares += u64::from(product_of(q, q));
-        products += u64::from(product_of(p, q));
+        let (first_square, second_square) = (product_of(p, p), product_of(q, q));
+        let product = product_of(p, q);
+        first_low += low_half(first_square);
+        second_low += low_half(second_square);
+        low += low_half(product);
+        first_high += high_half(first_square);
+        second_high += high_half(second_square);
+        high += high_half(product);
     }
     PairSums {
         first: u128::from(first),
         second: u128::from(second),
-        first_squares: u128::from(first_squares),
-        second_squares: u128::from(second_squares),
-        products: u128::from(products),
+        first_squares: joined_halves(first_low, first_high),
+        second_squares: joined_halves(second_low, second_high),
+        products: joined_halves(low, high),
     }
 }

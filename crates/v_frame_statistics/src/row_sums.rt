@@ -1,8 +1,16 @@
 //! Sums over rows, in blocks for which narrow sums suffice: of these the compiler makes packed code.
-ghost use Rattle.std.specs.Prelude.{◌≡◌, ◌*◌, ◌<◌, ◌≤◌, ◌↔◌, All, IsTrue, length};
-ghost use Rattle.v_frame_statistics.specs.Sums.{sum_of_squares, sum_of_values};
+ghost use Rattle.std.specs.Prelude.{◌≡◌, ◌+◌, ◌*◌, ◌/◌, ◌%◌, ◌<◌, ◌≤◌, ◌↔◌, All, IsTrue, length};
+ghost use Rattle.v_frame_statistics.specs.RowSums.{AreValueSums, ValueSumsAtMost};
+ghost use Rattle.v_frame_statistics.specs.Sums.{sum_of_values};
 
 use v_frame::pixel::Pixel;
+
+/// What the values of some pixels add up to.
+#[derive(Clone, Copy)]
+pub(crate) struct ValueSums {
+    pub(crate) values: u128,
+    pub(crate) squares: u128,
+}
 
 /// Returns the sum of the values of a row.
 pub(crate) fn values_of_row<T: Pixel>(row: &[T]) -> u128
@@ -18,18 +26,24 @@ pub(crate) fn values_of_row<T: Pixel>(row: &[T]) -> u128
     sum + u128::from(values_of_block(&row[4096 * blocks..]))
 }
 
-/// Returns the sum of the squares of the values of a row.
-pub(crate) fn squares_of_row<T: Pixel>(row: &[T]) -> u128
-    ensures value { result ≡ sum_of_squares T.form.value row.now }
-    ensures bound { result ≤ 4294967296 * length row.now }
+/// Returns the sum of the values of a row and the sum of their squares.
+pub(crate) fn sums_of_row<T: Pixel>(row: &[T]) -> ValueSums
+    ensures value { AreValueSums T.form.value row.now result }
+    ensures bound { ValueSumsAtMost (length row.now) result }
 {
-    let mut sum: u128 = 0;
+    let (mut values, mut squares) = (0, 0);
     let blocks = row.len() / 4096;
     for block in 0..blocks {
         let start = 4096 * block;
-        sum += u128::from(squares_of_block(&row[start..start + 4096]));
+        let here = sums_of_block(&row[start..start + 4096]);
+        values += here.values;
+        squares += here.squares;
     }
-    sum + u128::from(squares_of_block(&row[4096 * blocks..]))
+    let rest = sums_of_block(&row[4096 * blocks..]);
+    ValueSums {
+        values: values + rest.values,
+        squares: squares + rest.squares,
+    }
 }
 
 /// Returns the sum of the values of a block.
@@ -45,49 +59,61 @@ fn values_of_block<T: Pixel>(block: &[T]) -> u32
     sum
 }
 
-/// Returns the sum of the squares of the values of a block.
-fn squares_of_block<T: Pixel>(block: &[T]) -> u64
+/// Returns both sums of a block. The low and the high halves of the squares are summed apart: for each 32 bits suffice.
+fn sums_of_block<T: Pixel>(block: &[T]) -> ValueSums
     requires { length block.now ≤ 4096 }
-    ensures value { result ≡ sum_of_squares T.form.value block.now }
-    ensures bound { result ≤ 4294967296 * length block.now }
+    ensures value { AreValueSums T.form.value block.now result }
+    ensures bound { ValueSumsAtMost (length block.now) result }
 {
-    if are_small(block) {
-        u64::from(squares_of_small_block(block))
-    } else {
-        squares_of_wide_block(block)
+    let (mut values, mut low, mut high): (u32, u32, u32) = (0, 0, 0);
+    for x in 0..block.len() {
+        let pixel = block[x];
+        let square = product_of(pixel, pixel);
+        values += u32::from(pixel.into_u16());
+        low += low_half(square);
+        high += high_half(square);
+    }
+    ValueSums {
+        values: u128::from(values),
+        squares: joined_halves(low, high),
     }
 }
 
-/// The same of small values.
-fn squares_of_small_block<T: Pixel>(block: &[T]) -> u32
-    requires small { All (λ p. T.form.value p < 1024) block.now }
-    requires short { length block.now ≤ 4096 }
-    ensures value { result ≡ sum_of_squares T.form.value block.now }
-    ensures bound { result ≤ 1046529 * length block.now }
+/// Returns the low 16 bits.
+#[inline(always)]
+pub(crate) fn low_half(product: u32) -> u32
+    ensures { result ≡ product % 65536 }
 {
-    let mut sum: u32 = 0;
-    for x in 0..block.len() {
-        sum += product_of_small(block[x], block[x]);
-    }
-    sum
+    product & 65535
 }
 
-/// The same of any values.
-fn squares_of_wide_block<T: Pixel>(block: &[T]) -> u64
-    requires { length block.now ≤ 4096 }
-    ensures value { result ≡ sum_of_squares T.form.value block.now }
-    ensures bound { result ≤ 4294967296 * length block.now }
+/// Returns the high 16 bits.
+#[inline(always)]
+pub(crate) fn high_half(product: u32) -> u32
+    ensures { result ≡ product / 65536 }
 {
-    let mut sum: u64 = 0;
-    for x in 0..block.len() {
-        sum += u64::from(product_of(block[x], block[x]));
-    }
-    sum
+    product >> 16
+}
+
+/// Returns the sum of products of which the low and the high halves were summed.
+#[inline(always)]
+pub(crate) fn joined_halves(low: u32, high: u32) -> u128
+    ensures { result ≡ low + 65536 * high }
+{
+    u128::from(low) + (u128::from(high) << 16)
 }
 
 /// Returns whether all values of a block are below 1024, as those of up to 10 bits are: sums of 4096 products of such values
-/// fit 32 bits. Of bytes the compiler knows it.
+/// fit 32 bits. Of bytes the compiler knows it, and most blocks of wider values have a larger one among their first.
 pub(crate) fn are_small<T: Pixel>(block: &[T]) -> bool
+    ensures { IsTrue result ↔ All (λ p. T.form.value p < 1024) block.now }
+{
+    let (first, rest) = block.split_at(block.len().min(64));
+    have_small_values(first) && have_small_values(rest)
+}
+
+/// Returns whether all values are below 1024.
+fn have_small_values<T: Pixel>(block: &[T]) -> bool
     ensures { IsTrue result ↔ All (λ p. T.form.value p < 1024) block.now }
 {
     let mut greatest = 0;

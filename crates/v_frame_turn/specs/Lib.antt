@@ -1,4 +1,5 @@
 pub mod Frames
+pub mod Prelude
 pub mod Turn
 pub mod Turning
 pub mod WorkedTurns

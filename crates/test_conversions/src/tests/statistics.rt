@@ -17,7 +17,8 @@ use v_frame::pixel::Pixel;
 use v_frame::plane::{PlaneGeometry, PlaneRef};
 use v_frame_statistics::rows::{PairSums, SumAndCount, VarianceSums};
 use v_frame_statistics::{
-    count_pairs, count_pixels, histogram, histogram_of_depth, mean, pair_sums, sum, variance,
+    count_pairs, count_pixels, histogram, histogram_of_depth, maximum, mean, minimum, pair_sums,
+    statistics, sum, variance,
 };
 
 /// The width and the height of a plane, and its paddings left, right, top and bottom.
@@ -278,6 +279,13 @@ fn have_sums<T: Pixel>(
         count,
     };
     same(rt, variance(b), spread);
+    let found = statistics(b);
+    same(
+        rt,
+        (found.sum, found.sum_of_squares, found.count),
+        (second, second_squares, count),
+    );
+    same(rt, (found.minimum, found.maximum), (minimum(b), maximum(b)));
 }
 
 #[test]

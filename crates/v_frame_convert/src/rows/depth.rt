@@ -33,7 +33,41 @@ pub fn convert_depth<S: Pixel, T: Pixel>(
         ≡ converted (converted (pixel_at_depth S.form T.form from to)) source.now }
     ensures rest { KeepsRest width height stride buffer.old buffer.new }
 {
-    let change = DepthChange::new(from, to);
+    let change = DepthChange::new(source_depth::<S>(from), to);
+    if from <= to {
+        raise_rows(source, buffer, width, height, stride, change);
+    } else {
+        change_rows(source, buffer, width, height, stride, change);
+    }
+}
+
+/// Returns the depth. Of bytes it is a constant, which saves a comparison at each pixel.
+#[inline(always)]
+fn source_depth<S: Pixel>(from: u8) -> u8
+    requires { DepthFits S.BYTES from }
+    ensures { result ≡ from }
+{
+    if S::BYTES == 1 { 8 } else { from }
+}
+
+/// The same to no smaller depth.
+fn raise_rows<S: Pixel, T: Pixel>(
+    source: &RowsRef<'_, S>,
+    buffer: &mut [T],
+    width: usize,
+    height: usize,
+    stride: usize,
+    change: DepthChange,
+)
+    requires fit { RowsFit width height stride (length buffer.old) }
+    requires wide { width_of source.now ≡ width }
+    requires high { height_of source.now ≡ height }
+    requires depth { 2 ^ change.to ≤ 256 ^ T.BYTES }
+    requires up { change.from ≤ change.to }
+    ensures table { strided_rows width height stride buffer.new
+        ≡ converted (converted (pixel_at_depth S.form T.form change.from change.to)) source.now }
+    ensures rest { KeepsRest width height stride buffer.old buffer.new }
+{
     map_into(
         source,
         buffer,
@@ -41,9 +75,41 @@ pub fn convert_depth<S: Pixel, T: Pixel>(
         height,
         stride,
         |p: S|
-            requires { 2 ^ change.to ≤ 256 ^ T.BYTES }
-            ensures { result
-                ≡ T.form.pixel_of (at_depth change.from change.to (S.form.value p)) }
+            requires up { change.from ≤ change.to }
+            requires fits { 2 ^ change.to ≤ 256 ^ T.BYTES }
+            ensures { result ≡ T.form.pixel_of
+                (at_depth change.from change.to (S.form.value p)) }
+        { T::from_value(change.raise(p.into_u16())) },
+    );
+}
+
+/// The same to any depth.
+fn change_rows<S: Pixel, T: Pixel>(
+    source: &RowsRef<'_, S>,
+    buffer: &mut [T],
+    width: usize,
+    height: usize,
+    stride: usize,
+    change: DepthChange,
+)
+    requires fit { RowsFit width height stride (length buffer.old) }
+    requires wide { width_of source.now ≡ width }
+    requires high { height_of source.now ≡ height }
+    requires depth { 2 ^ change.to ≤ 256 ^ T.BYTES }
+    ensures table { strided_rows width height stride buffer.new
+        ≡ converted (converted (pixel_at_depth S.form T.form change.from change.to)) source.now }
+    ensures rest { KeepsRest width height stride buffer.old buffer.new }
+{
+    map_into(
+        source,
+        buffer,
+        width,
+        height,
+        stride,
+        |p: S|
+            requires fits { 2 ^ change.to ≤ 256 ^ T.BYTES }
+            ensures { result ≡ T.form.pixel_of
+                (at_depth change.from change.to (S.form.value p)) }
         { T::from_value(change.apply(p.into_u16())) },
     );
 }

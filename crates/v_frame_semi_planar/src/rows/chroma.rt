@@ -4,6 +4,8 @@ ghost use Rattle.v_frame.specs.Prelude.{height_of, strided_rows, width_of, Keeps
 ghost use Rattle.v_frame_ops.specs.Change.{combined};
 ghost use Rattle.v_frame_semi_planar.specs.Interleaved.{interleaved};
 
+use crate::byte_pairs::{deinterleave_blocks, pairs_in_blocks};
+use v_frame::pixel::Pixel;
 use v_frame::plane::RowsRef;
 
 /// Makes a row of two: a pixel of `first`, one of `second`, and so on by turns. It must be as long as both together, which are
@@ -21,7 +23,22 @@ pub fn interleave_row<T: Copy>(row: &mut [T], first: &[T], second: &[T])
 }
 
 /// Makes two rows of one, whose pixels go to `first` and to `second` by turns. Both are half as long.
-pub fn deinterleave_row<T: Copy>(row: &[T], first: &mut [T], second: &mut [T])
+pub fn deinterleave_row<T: Pixel>(row: &[T], first: &mut [T], second: &mut [T])
+    requires long { length row.now ≡ 2 * length first.old }
+    requires equal { length second.old ≡ length first.old }
+    ensures { row.now ≡ interleaved first.new second.new }
+{
+    let whole = pairs_in_blocks::<T>(first.len());
+    let (front, rest) = row.split_at(2 * whole);
+    let (first_front, first_rest) = first.split_at_mut(whole);
+    let (second_front, second_rest) = second.split_at_mut(whole);
+    deinterleave_blocks(front, first_front, second_front);
+    deinterleave_pixels(rest, first_rest, second_rest);
+}
+
+/// The same, pixel by pixel.
+#[inline(always)]
+fn deinterleave_pixels<T: Copy>(row: &[T], first: &mut [T], second: &mut [T])
     requires long { length row.now ≡ 2 * length first.old }
     requires equal { length second.old ≡ length first.old }
     ensures { row.now ≡ interleaved first.new second.new }
@@ -64,7 +81,7 @@ pub fn interleave<T: Copy>(
 /// Makes the rows of two buffers, which have the same size, of those of one, which are twice as wide: its pixels go to the
 /// first and to the second by turns.
 #[tactic(auto, using(v_frame_raster::proofs::tables::StridedWrites::row_ends))]
-pub fn deinterleave<T: Copy>(
+pub fn deinterleave<T: Pixel>(
     source: &RowsRef<'_, T>,
     width: usize,
     height: usize,

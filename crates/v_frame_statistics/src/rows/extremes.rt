@@ -1,10 +1,17 @@
 //! The least and the greatest pixel.
-ghost use Rattle.std.specs.Prelude.{◌<◌, length};
+ghost use Rattle.std.specs.Prelude.{◌≡◌, ◌<◌, ◌≤◌, ◌⊎◌, length};
 ghost use Rattle.v_frame.specs.Prelude.{row_major};
 ghost use Rattle.v_frame_statistics.specs.Extremes.{IsGreatest, IsLeast};
 
 use v_frame::pixel::Pixel;
 use v_frame::plane::RowsRef;
+
+/// The pixels with the least and with the greatest value.
+#[derive(Clone, Copy)]
+pub(crate) struct Extremes<T> {
+    pub(crate) least: T,
+    pub(crate) greatest: T,
+}
 
 /// Returns the pixel with the least value.
 pub fn minimum<T: Pixel>(rows: &RowsRef<'_, T>) -> T
@@ -13,10 +20,7 @@ pub fn minimum<T: Pixel>(rows: &RowsRef<'_, T>) -> T
     let _positive = rows.width();
     let mut least = least_of_row(rows.visible_row(0));
     for y in 1..rows.height() {
-        let pixel = least_of_row(rows.visible_row(y));
-        if pixel.into_u16() < least.into_u16() {
-            least = pixel;
-        }
+        least = lesser(least, least_of_row(rows.visible_row(y)));
     }
     least
 }
@@ -28,10 +32,7 @@ pub fn maximum<T: Pixel>(rows: &RowsRef<'_, T>) -> T
     let _positive = rows.width();
     let mut greatest = greatest_of_row(rows.visible_row(0));
     for y in 1..rows.height() {
-        let pixel = greatest_of_row(rows.visible_row(y));
-        if greatest.into_u16() < pixel.into_u16() {
-            greatest = pixel;
-        }
+        greatest = greater(greatest, greatest_of_row(rows.visible_row(y)));
     }
     greatest
 }
@@ -64,4 +65,45 @@ fn greatest_of_row<T: Pixel>(row: &[T]) -> T
         }
     }
     greatest
+}
+
+/// Returns both pixels of a row.
+pub(crate) fn extremes_of_row<T: Pixel>(row: &[T]) -> Extremes<T>
+    requires { 0 < length row.now }
+    ensures least { IsLeast T.form.value row.now result.least }
+    ensures greatest { IsGreatest T.form.value row.now result.greatest }
+{
+    let (mut least, mut greatest) = (row[0], row[0]);
+    for x in 1..row.len() {
+        let pixel = row[x];
+        least = lesser(least, pixel);
+        greatest = greater(greatest, pixel);
+    }
+    Extremes { least, greatest }
+}
+
+/// Returns the pixel with the lesser value, the first of equal ones.
+#[inline(always)]
+pub(crate) fn lesser<T: Pixel>(first: T, second: T) -> T
+    ensures { ((result ≡ first) × (T.form.value first ≤ T.form.value second))
+        ⊎ ((result ≡ second) × (T.form.value second ≤ T.form.value first)) }
+{
+    if second.into_u16() < first.into_u16() {
+        second
+    } else {
+        first
+    }
+}
+
+/// Returns the pixel with the greater value, the first of equal ones.
+#[inline(always)]
+pub(crate) fn greater<T: Pixel>(first: T, second: T) -> T
+    ensures { ((result ≡ first) × (T.form.value second ≤ T.form.value first))
+        ⊎ ((result ≡ second) × (T.form.value first ≤ T.form.value second)) }
+{
+    if first.into_u16() < second.into_u16() {
+        second
+    } else {
+        first
+    }
 }

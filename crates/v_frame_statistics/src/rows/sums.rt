@@ -3,7 +3,7 @@ ghost use Rattle.std.specs.Prelude.{◌≡◌, ◌*◌, ◌<◌, ◌≤◌, leng
 ghost use Rattle.v_frame.specs.Prelude.{height_of, row_major, width_of};
 ghost use Rattle.v_frame_statistics.specs.Sums.{sum_of_squares, sum_of_values};
 
-use crate::row_sums::{squares_of_row, values_of_row};
+use crate::row_sums::{sums_of_row, values_of_row};
 use v_frame::pixel::Pixel;
 use v_frame::plane::RowsRef;
 
@@ -62,9 +62,9 @@ pub fn variance<T: Pixel>(rows: &RowsRef<'_, T>) -> VarianceSums
 {
     let (mut sum, mut sum_of_squares) = (0, 0);
     for y in 0..rows.height() {
-        let row = rows.visible_row(y);
-        sum += values_of_row(row);
-        sum_of_squares += squares_of_row(row);
+        let here = sums_of_row(rows.visible_row(y));
+        sum += here.values;
+        sum_of_squares += here.squares;
     }
     VarianceSums {
         sum,
@@ -74,7 +74,7 @@ pub fn variance<T: Pixel>(rows: &RowsRef<'_, T>) -> VarianceSums
 }
 
 /// Returns how many pixels there are.
-fn pixel_count<T>(rows: &RowsRef<'_, T>) -> usize
+pub(crate) fn pixel_count<T>(rows: &RowsRef<'_, T>) -> usize
     ensures value { result ≡ length (row_major rows.now) }
     ensures sizes { result ≡ height_of rows.now * width_of rows.now }
     ensures positive { 0 < result }

@@ -1,7 +1,7 @@
 -- Both turns, one after the other, by the law.
 use Rattle.std.proofs.Common.{◌∙◌, ap}
 use Rattle.v_frame.specs.Prelude.{table_of}
-use Rattle.v_frame_turn.specs.Turn.{rotated_90}
+use Rattle.v_frame_turn.specs.Prelude.{rotated_90}
 use Rattle.example_conversions.proofs.turns.turn_there_and_back.Goals as goal
 
 pub returns-clause-table : goal.returns-clause-table

@@ -1,6 +1,6 @@
 //! Numbered planes, and checks of what they hold.
 ghost use Rattle.std.specs.Prelude.{◌≡◌};
-ghost use Rattle.v_frame_turn.specs.Frames.{PlaneFits};
+ghost use Rattle.v_frame_turn.specs.Prelude.{PlaneFits};
 
 use std::fmt::Debug;
 use std::process::Abort;

@@ -4,7 +4,7 @@ use Rattle.v_frame_ops.proofs.LentRows.{LentRows, rows_fit, rows_shown, border_k
 use Rattle.v_frame_semi_planar.proofs.chroma.deinterleave.Goals as goal
 
 pub deinterleave-requires-clause-first_fit : goal.deinterleave-requires-clause-first_fit
-deinterleave-requires-clause-first_fit g c =
+deinterleave-requires-clause-first_fit g c κs within =
     let lent : LentRows c.args.first.now c.geometry-geometry.result c.data_mut.result.now
     c.split_at_mut-visible.result.0.now c.split_at_mut-visible.result.1.now c.data_origin.result c.width.result
     c.height.result c.stride.result =
@@ -23,7 +23,7 @@ deinterleave-requires-clause-first_fit g c =
     rows_fit lent
 
 pub deinterleave-requires-clause-second_fit : goal.deinterleave-requires-clause-second_fit
-deinterleave-requires-clause-second_fit g c =
+deinterleave-requires-clause-second_fit g c κs within =
     let lent : LentRows c.args.second.now c.geometry-second_geometry.result c.data_mut-2.result.now
     c.split_at_mut-second_visible.result.0.now c.split_at_mut-second_visible.result.1.now c.data_origin-2.result c.width.result
     c.height.result c.stride-2.result =

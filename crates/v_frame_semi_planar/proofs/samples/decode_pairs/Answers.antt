@@ -1,45 +1,45 @@
--- One more sample of each row is that of its bytes.
-use Rattle.std.proofs.Common.{◌≡◌, ◌+◌, ◌*◌, length, slice_get, slice_set, sym, ◌∙◌, ap, arith}
-use Rattle.v_frame_raster.proofs.tables.Lists.{set_is_read, others_are_read}
+-- The blocks and the rest are what the bytes show.
+use Rattle.std.proofs.Common.{◌≡◌, ◌+◌, ◌*◌, ◌<◌, ◌++◌, length, take, drop, refl, sym, ◌∙◌, ap, arith}
+use Rattle.v_frame_semi_planar.specs.Interleaved.{interleaved}
 use Rattle.v_frame_semi_planar.specs.SemiPlanar.{shown_pixels}
-use Rattle.v_frame_semi_planar.proofs.Interleaving.{by_turns}
-use Rattle.v_frame_semi_planar.proofs.Stored.{decoded_at, length-shown}
+use Rattle.v_frame_semi_planar.proofs.BytePairs.{parts_shown}
+use Rattle.v_frame_semi_planar.proofs.Interleaving.{interleaved-append}
 use Rattle.v_frame_semi_planar.proofs.samples.decode_pairs.Goals as goal
-use borrow.Author.Count.{below_more}
-
-pub loop-i-preserved : goal.loop-i-preserved
-loop-i-preserved g c =
-    let form = g.T.Pixel.form in let i = c.loop-i.i in let count = 2 * length c.args.first.now in
-    let us = c.loop-i.first in let vs = c.loop-i.second in
-    let u = c.decode_sample-p.result in let v = c.decode_sample-q.result in
-    let shown = shown_pixels form c.args.unused count c.args.bytes.now in
-    let size = c.BYTES-in-loop-i.ensures ∙ g.met.T.Pixel.bytes_of_form in
-    let size_second = c.BYTES-in-loop-i-2.ensures ∙ g.met.T.Pixel.bytes_of_form in
-    let start : 2 * c.BYTES.result * i ≡ c.BYTES-in-loop-i.result * (2 * i) =
-    rw (c.BYTES.ensures, c.BYTES-in-loop-i.ensures) (omega arith) in
-    let middle : 2 * c.BYTES.result * i + c.BYTES-in-loop-i.result ≡ c.BYTES-in-loop-i-2.result * (2 * i + 1) =
-    rw (c.BYTES.ensures, c.BYTES-in-loop-i.ensures, c.BYTES-in-loop-i-2.ensures) (omega arith) in
-    let first = decoded_at form c.args.unused count c.args.bytes.now (2 * i) _ _ u (omega arith) size start
-    c.decode_sample-p.ensures in
-    let second = decoded_at form c.args.unused count c.args.bytes.now (2 * i + 1) _ _ v (omega arith) size_second middle
-    c.decode_sample-q.ensures in
-    record {
-      first =
-          below_more (λ k. slice_get shown (2 * k) ≡ slice_get (slice_set us i u) k) i
-          (λ k h. c.loop-i.invariant.first k h ∙ sym (others_are_read us i k u (omega arith)))
-          (first ∙ sym (set_is_read us i u (omega arith)));
-      second =
-          below_more (λ k. slice_get shown (2 * k + 1) ≡ slice_get (slice_set vs i v) k) i
-          (λ k h. c.loop-i.invariant.second k h ∙ sym (others_are_read vs i k v (omega arith)))
-          (second ∙ sym (set_is_read vs i v (omega (arith, c.requires.equal))));
-    }
+use Rattle.v_frame_semi_planar.proofs.samples.decode_pairs.Goals.{then-unused-eq0, else-unused-eq0}
 
 pub returns : goal.returns
 returns g c =
-    let form = g.T.Pixel.form in let count = 2 * length c.args.first.now in
-    let all = c.loop-i.invariant in
-    let first = c.loop-i.auto.first in
-    sym (by_turns c.loop-i.first c.loop-i.second (shown_pixels form c.args.unused count c.args.bytes.now)
-    (length-shown form c.args.unused count c.args.bytes.now ∙ sym (ap (λ n. 2 * n) first))
-    (c.loop-i.auto.second ∙ c.requires.equal ∙ sym first)
-    (record { first = λ k h. all.first k (omega arith); second = λ k h. all.second k (omega arith) }))
+    let form = g.T.Pixel.form in let bytes = c.args.bytes.now in let unused = c.args.unused in
+    let whole = c.if-unused-eq0.whole in let n = 2 * whole in
+    let a = c.decode_blocks.new.first in let b = c.decode_blocks.new.second in
+    let u = c.decode_pairs_of_samples.new.first in let v = c.decode_pairs_of_samples.new.second in
+    let left = length c.split_at_mut-first_front.result.1.now in
+    let same : length b ≡ length a = omega (
+      arith,
+      c.decode_blocks.auto.first,
+      c.decode_blocks.auto.second,
+      c.split_at_mut-first_front.ensures.front_len,
+      c.split_at_mut-second_front.ensures.front_len,
+    ) in
+    let front : interleaved a b ≡ shown_pixels form 0 n (take n bytes) =
+    rw (c.split_at_mut-first_front.ensures.front_len, c.split_at.ensures.front) at c.decode_blocks.ensures in
+    let back : interleaved u v ≡ shown_pixels form unused (2 * left) (drop n bytes) =
+    rw (c.split_at.ensures.back) at c.decode_pairs_of_samples.ensures in
+    let joined : interleaved a b ++ interleaved u v
+    ≡ shown_pixels form 0 n (take n bytes) ++ shown_pixels form unused (2 * left) (drop n bytes) =
+    rw (front, back) refl in
+    let facts : 0 < whole → (unused ≡ 0) × (form.size ≡ 1) = λ some. elim c.if-unused-eq0.branch [
+      | then-unused-eq0 w ↦ (
+        omega (arith, w.if-unused-eq0),
+        sym g.met.T.Pixel.bytes_of_form
+            ∙ w.pairs_in_blocks-whole.ensures.bytes (omega (arith, some, w.whole-is)),
+      )
+      | else-unused-eq0 w ↦ absurd (omega (arith, some, w.whole-is))
+    ] in
+    let all : n + 2 * left ≡ 2 * length c.args.first.now = omega (
+      arith,
+      c.split_at_mut-first_front.ensures.front_len,
+      c.split_at_mut-first_front.ensures.back_len,
+    ) in
+    interleaved-append a b u v same ∙ joined ∙ parts_shown form unused whole left bytes facts
+    ∙ ap (λ count. shown_pixels form unused count bytes) all

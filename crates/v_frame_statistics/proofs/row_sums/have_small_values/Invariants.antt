@@ -1,6 +1,6 @@
 -- The number is the least one that no value so far is above.
 use Rattle.std.proofs.Common.{ℕ, ◌<◌, ◌≤◌, get_or}
-use Rattle.v_frame_statistics.proofs.row_sums.are_small.Given as goal
+use Rattle.v_frame_statistics.proofs.row_sums.have_small_values.Given as goal
 
 abbrev pub invariant-loop-x : goal.invariant-loop-x
 invariant-loop-x g l = record {

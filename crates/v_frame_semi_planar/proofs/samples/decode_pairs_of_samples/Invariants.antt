@@ -2,7 +2,7 @@
 use Rattle.std.proofs.Common.{◌*◌, length}
 use Rattle.v_frame_semi_planar.specs.SemiPlanar.{shown_pixels}
 use Rattle.v_frame_semi_planar.proofs.Interleaving.{ByTurnsBelow}
-use Rattle.v_frame_semi_planar.proofs.samples.decode_pairs.Given as goal
+use Rattle.v_frame_semi_planar.proofs.samples.decode_pairs_of_samples.Given as goal
 
 abbrev pub invariant-loop-i : goal.invariant-loop-i
 invariant-loop-i g l =

@@ -1,0 +1,79 @@
+//! Pixels of one byte by turns, sixteen pairs at a time. Of a loop over them the compiler makes a load for each byte.
+ghost use Rattle.std.specs.Prelude.{◌≡◌, ◌*◌, ◌%◌, ◌<◌, ◌≤◌, length, map};
+ghost use Rattle.v_frame_semi_planar.specs.Interleaved.{interleaved};
+ghost use Rattle.v_frame_semi_planar.specs.SemiPlanar.{shown_pixels};
+
+use std::simd::{u8x32, u16x16};
+use v_frame::pixel::Pixel;
+
+/// Returns how many of so many pairs are taken in blocks of sixteen: none where a pixel has two bytes.
+#[inline(always)]
+pub(crate) fn pairs_in_blocks<T: Pixel>(pairs: usize) -> usize
+    ensures within { result ≤ pairs }
+    ensures whole { result % 16 ≡ 0 }
+    ensures bytes { 0 < result → T.BYTES ≡ 1 }
+{
+    if T::BYTES == 1 { pairs - pairs % 16 } else { 0 }
+}
+
+/// Makes two rows of the pixels of one, by turns.
+pub(crate) fn deinterleave_blocks<T: Pixel>(row: &[T], first: &mut [T], second: &mut [T])
+    requires byte { 0 < length first.old → T.BYTES ≡ 1 }
+    requires whole { length first.old % 16 ≡ 0 }
+    requires long { length row.now ≡ 2 * length first.old }
+    requires equal { length second.old ≡ length first.old }
+    ensures { row.now ≡ interleaved first.new second.new }
+{
+    for block in 0..first.len() / 16 {
+        let at = 16 * block;
+        let mut bytes = [0; 32];
+        write_values(&mut bytes, &row[2 * at..2 * at + 32]);
+        decode_block(&mut first[at..at + 16], &mut second[at..at + 16], &bytes);
+    }
+}
+
+/// Writes the values of pixels that have one byte.
+#[inline(always)]
+fn write_values<T: Pixel>(bytes: &mut [u8], row: &[T])
+    requires byte { T.BYTES ≡ 1 }
+    requires long { length bytes.old ≡ length row.now }
+    ensures { bytes.new ≡ map T.form.value row.now }
+{
+    for i in 0..row.len() {
+        bytes[i] = row[i].into_u16() as u8;
+    }
+}
+
+/// Makes two rows of pixels of bytes, by turns.
+pub(crate) fn decode_blocks<T: Pixel>(first: &mut [T], second: &mut [T], bytes: &[u8])
+    requires byte { 0 < length first.old → T.BYTES ≡ 1 }
+    requires whole { length first.old % 16 ≡ 0 }
+    requires long { length bytes.now ≡ 2 * length first.old }
+    requires equal { length second.old ≡ length first.old }
+    ensures { interleaved first.new second.new ≡ shown_pixels T.form 0 (2 * length first.old) bytes.now }
+{
+    for block in 0..first.len() / 16 {
+        let at = 16 * block;
+        decode_block(
+            &mut first[at..at + 16],
+            &mut second[at..at + 16],
+            &bytes[2 * at..2 * at + 32],
+        );
+    }
+}
+
+/// Makes sixteen pixels of each row. A lane holds a pair.
+#[inline(always)]
+fn decode_block<T: Pixel>(first: &mut [T], second: &mut [T], bytes: &[u8])
+    requires byte { T.BYTES ≡ 1 }
+    requires first { length first.old ≡ 16 }
+    requires second { length second.old ≡ 16 }
+    requires long { length bytes.now ≡ 32 }
+    ensures { interleaved first.new second.new ≡ shown_pixels T.form 0 32 bytes.now }
+{
+    let pairs = u16x16::from_le_bytes(u8x32::from_slice(bytes));
+    let low = (pairs & u16x16::splat(255)).cast::<u8>().to_array();
+    let high = (pairs >> 8).cast::<u8>().to_array();
+    T::decode_row(first, &low);
+    T::decode_row(second, &high);
+}
