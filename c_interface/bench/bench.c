@@ -28,6 +28,7 @@ static double now(void) {
 #define TYPE "u8"
 #include "samples.inc"
 #include "pictures.inc"
+#include "conversions.inc"
 #undef SAMPLE
 #undef SIGNED
 #undef WIDE
@@ -43,6 +44,7 @@ static double now(void) {
 #define TYPE "u16"
 #include "samples.inc"
 #include "pictures.inc"
+#include "conversions.inc"
 
 APART static void loop_widen(uint16_t *restrict a, const uint8_t *restrict b, size_t w, size_t h, size_t s) {
     for (size_t y = 0; y < h; y++) {
@@ -78,6 +80,62 @@ static void depths(size_t w, size_t h) {
     free(words);
 }
 
+/* By BT.709 in limited range, in parts of 16384 and of 65536. */
+APART static void loop_to_rgb(uint8_t *restrict a, const uint8_t *restrict y, const uint8_t *restrict u, const uint8_t *restrict v,
+                              size_t w, size_t h, size_t s) {
+    for (size_t k = 0; k < h; k++) {
+        for (size_t x = 0; x < w; x++) {
+            int32_t luma = 19077 * (y[s * k + x] - 16) + 8192, cb = u[s * k + x] - 128, cr = v[s * k + x] - 128;
+            int32_t colour[3] = {(luma + 29372 * cr) >> 14, (luma - 3494 * cb - 8731 * cr) >> 14, (luma + 34610 * cb) >> 14};
+            for (int i = 0; i < 3; i++) {
+                a[3 * s * k + 3 * x + (size_t)i] = (uint8_t)(colour[i] < 0 ? 0 : colour[i] < 255 ? colour[i] : 255);
+            }
+        }
+    }
+}
+
+APART static void loop_to_yuv(const uint8_t *restrict a, uint8_t *restrict y, uint8_t *restrict u, uint8_t *restrict v, size_t w,
+                              size_t h, size_t s) {
+    for (size_t k = 0; k < h; k++) {
+        for (size_t x = 0; x < w; x++) {
+            const uint8_t *p = a + 3 * s * k + 3 * x;
+            y[s * k + x] = (uint8_t)((16 * 65536 + 11966 * p[0] + 40254 * p[1] + 4064 * p[2] + 32768) >> 16);
+            u[s * k + x] = (uint8_t)((128 * 65536 - 6596 * p[0] - 22189 * p[1] + 28784 * p[2] + 32768) >> 16);
+            v[s * k + x] = (uint8_t)((128 * 65536 + 28784 * p[0] - 26145 * p[1] - 2639 * p[2] + 32768) >> 16);
+        }
+    }
+}
+
+#undef TYPE
+#define TYPE "u8"
+
+static void colours(size_t w, size_t h) {
+    size_t s = w + 32, length = s * h, times = 2000000 / (w * h) + 1;
+    v_frame_rows rows = {w, h, s}, wide = {3 * w, h, 3 * s};
+    v_frame_colours choice = {V_FRAME_BT709, V_FRAME_LIMITED, V_FRAME_RGB};
+    uint8_t *planes[3], *bytes = malloc(3 * length);
+    for (size_t i = 0; i < 3; i++) {
+        planes[i] = malloc(length);
+        if (planes[i] == NULL || bytes == NULL) {
+            exit(1);
+        }
+        memset(planes[i], 100 + (int)i, length);
+    }
+    for (size_t i = 0; i < 3 * length; i++) {
+        bytes[i] = (uint8_t)(i * 2654435761u >> 13);
+    }
+    TIME("RGB in planes", sink += v_frame_rgb_to_yuv444_u8(&wide, bytes, 3 * length, &rows, planes[0], length, &rows, planes[1], length,
+                                                           &rows, planes[2], length, &choice),
+         loop_to_yuv(bytes, planes[0], planes[1], planes[2], w, h, s));
+    TIME("planes in RGB", sink += v_frame_yuv444_to_rgb_u8(&wide, bytes, 3 * length, &rows, planes[0], length, &rows, planes[1], length,
+                                                           &rows, planes[2], length, &choice),
+         loop_to_rgb(bytes, planes[0], planes[1], planes[2], w, h, s));
+    for (size_t i = 0; i < 3; i++) {
+        free(planes[i]);
+    }
+    free(bytes);
+}
+
 int main(void) {
     size_t sizes[4][2] = {{8, 8}, {16, 16}, {64, 64}, {1920, 1080}};
     printf("| call | size | ns | loop | ratio |\n|---|---|---|---|---|\n");
@@ -86,7 +144,10 @@ int main(void) {
         all_u16(sizes[i][0], sizes[i][1]);
         pictures_u8(sizes[i][0], sizes[i][1]);
         pictures_u16(sizes[i][0], sizes[i][1]);
+        conversions_u8(sizes[i][0], sizes[i][1]);
+        conversions_u16(sizes[i][0], sizes[i][1]);
         depths(sizes[i][0], sizes[i][1]);
+        colours(sizes[i][0], sizes[i][1]);
     }
     return 0;
 }

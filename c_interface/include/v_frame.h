@@ -92,7 +92,13 @@ enum v_frame_order {
     V_FRAME_BGRA = 3
 };
 
-/* Numbers of the three enums above. */
+/* What a plane holds whose range of values is changed. */
+enum v_frame_component {
+    V_FRAME_LUMA = 0,
+    V_FRAME_CHROMA = 1
+};
+
+/* Numbers of enum v_frame_standard, enum v_frame_range and enum v_frame_order. */
 typedef struct v_frame_colours {
     uint32_t standard;
     uint32_t range;
@@ -265,6 +271,51 @@ uint32_t v_frame_upscale_u8(const v_frame_rows *rows, uint8_t *buffer, size_t le
 uint32_t v_frame_upscale_u16(const v_frame_rows *rows, uint16_t *buffer, size_t length, const v_frame_rows *source_rows,
                              const uint16_t *source, size_t source_length, size_t ratio_x, size_t ratio_y);
 
+/* Make the rows of the buffer show the source in half the size, rounded up, as 4:2:0 has chroma of 4:4:4: each pixel is the mean of
+ * a block of two by two, rounded to the nearest value and upwards at a half, where past an edge the last column and the last row
+ * are repeated. Of even sizes it is v_frame_downscale. */
+uint32_t v_frame_downscale_to_edge_u8(const v_frame_rows *rows, uint8_t *buffer, size_t length, const v_frame_rows *source_rows,
+                                      const uint8_t *source, size_t source_length);
+uint32_t v_frame_downscale_to_edge_u16(const v_frame_rows *rows, uint16_t *buffer, size_t length, const v_frame_rows *source_rows,
+                                       const uint16_t *source, size_t source_length);
+
+/* The same of the columns alone, as 4:2:2 has chroma: there are as many rows, and half as many columns, rounded up. */
+uint32_t v_frame_halve_columns_u8(const v_frame_rows *rows, uint8_t *buffer, size_t length, const v_frame_rows *source_rows,
+                                  const uint8_t *source, size_t source_length);
+uint32_t v_frame_halve_columns_u16(const v_frame_rows *rows, uint16_t *buffer, size_t length, const v_frame_rows *source_rows,
+                                   const uint16_t *source, size_t source_length);
+
+/* Make the rows of the buffer show the source in their size, which may be any: each pixel is the mean of the area that it covers,
+ * exactly, rounded to the nearest value and upwards at a half. V_FRAME_SIZES where the source has more than 2^48 pixels, or the
+ * product of both widths, or of both heights, has more than 64 bits. */
+uint32_t v_frame_resize_area_u8(const v_frame_rows *rows, uint8_t *buffer, size_t length, const v_frame_rows *source_rows,
+                                const uint8_t *source, size_t source_length);
+uint32_t v_frame_resize_area_u16(const v_frame_rows *rows, uint16_t *buffer, size_t length, const v_frame_rows *source_rows,
+                                 const uint16_t *source, size_t source_length);
+
+/* The same where each pixel is the one of the source that holds its centre, or, where the centre lies between two, the one to the
+ * right or below. V_FRAME_SIZES where a width or a height is 2^62 or more. */
+uint32_t v_frame_resize_nearest_u8(const v_frame_rows *rows, uint8_t *buffer, size_t length, const v_frame_rows *source_rows,
+                                   const uint8_t *source, size_t source_length);
+uint32_t v_frame_resize_nearest_u16(const v_frame_rows *rows, uint16_t *buffer, size_t length, const v_frame_rows *source_rows,
+                                    const uint16_t *source, size_t source_length);
+
+/* Make the rows of the buffer show the source, which has values of the limited range of `depth` bits, with those of the full
+ * range. Luma from 16 to 235, in units of 2^(depth - 8), becomes 0 to 2^depth - 1; chroma keeps its middle, 128 of these units,
+ * and the 112 on each side become half of 2^depth - 1. A value is rounded to the nearest one, upwards at a half, and what is
+ * outside becomes the least or the greatest. `component` is of enum v_frame_component. V_FRAME_NUMBER where it is not, or the
+ * bit depth is below 8, or above what the type holds. */
+uint32_t v_frame_to_full_range_u8(const v_frame_rows *rows, uint8_t *buffer, size_t length, const v_frame_rows *source_rows,
+                                  const uint8_t *source, size_t source_length, uint32_t component, uint32_t depth);
+uint32_t v_frame_to_full_range_u16(const v_frame_rows *rows, uint16_t *buffer, size_t length, const v_frame_rows *source_rows,
+                                   const uint16_t *source, size_t source_length, uint32_t component, uint32_t depth);
+
+/* The way back: values of the full range become those of the limited one. One above 2^depth - 1 counts as that one. */
+uint32_t v_frame_to_limited_range_u8(const v_frame_rows *rows, uint8_t *buffer, size_t length, const v_frame_rows *source_rows,
+                                     const uint8_t *source, size_t source_length, uint32_t component, uint32_t depth);
+uint32_t v_frame_to_limited_range_u16(const v_frame_rows *rows, uint16_t *buffer, size_t length, const v_frame_rows *source_rows,
+                                      const uint16_t *source, size_t source_length, uint32_t component, uint32_t depth);
+
 /* Make the rows of the buffer show the pixels of two pictures of one size by turns, as chroma is kept in NV12 and P010. The rows of
  * the buffer are as many, and twice as wide. */
 uint32_t v_frame_interleave_u8(const v_frame_rows *rows, uint8_t *buffer, size_t length, const v_frame_rows *u_rows,
@@ -286,6 +337,12 @@ uint32_t v_frame_yuv444_to_rgb_u8(const v_frame_rows *rows, uint8_t *buffer, siz
                                   const uint8_t *y, size_t y_length, const v_frame_rows *u_rows, const uint8_t *u, size_t u_length,
                                   const v_frame_rows *v_rows, const uint8_t *v, size_t v_length, const v_frame_colours *colours);
 
+/* The way back: make three pictures of one size the luma and the chroma of the colours of the buffer, whose rows count bytes,
+ * three or four for each pixel. A fourth byte is not read. V_FRAME_NUMBER where a number of `colours` is none of its enum. */
+uint32_t v_frame_rgb_to_yuv444_u8(const v_frame_rows *rows, const uint8_t *buffer, size_t length, const v_frame_rows *y_rows,
+                                  uint8_t *y, size_t y_length, const v_frame_rows *u_rows, uint8_t *u, size_t u_length,
+                                  const v_frame_rows *v_rows, uint8_t *v, size_t v_length, const v_frame_colours *colours);
+
 /* Count and sum the pixels of a picture, sum their squares, and find the least and the greatest value. */
 uint32_t v_frame_statistics_u8(const v_frame_rows *rows, const uint8_t *buffer, size_t length, v_frame_statistics *found);
 uint32_t v_frame_statistics_u16(const v_frame_rows *rows, const uint16_t *buffer, size_t length, v_frame_statistics *found);
@@ -295,6 +352,21 @@ uint32_t v_frame_pair_statistics_u8(const v_frame_rows *a_rows, const uint8_t *a
                                     const uint8_t *b, size_t b_length, v_frame_pair_statistics *found);
 uint32_t v_frame_pair_statistics_u16(const v_frame_rows *a_rows, const uint16_t *a, size_t a_length, const v_frame_rows *b_rows,
                                      const uint16_t *b, size_t b_length, v_frame_pair_statistics *found);
+
+/* Count the pixels of a picture with a value from `least` to `greatest`: of one value where both are the same, and of none where
+ * `least` is the greater. */
+uint32_t v_frame_count_between_u8(const v_frame_rows *rows, const uint8_t *buffer, size_t length, uint8_t least, uint8_t greatest,
+                                  uint64_t *count);
+uint32_t v_frame_count_between_u16(const v_frame_rows *rows, const uint16_t *buffer, size_t length, uint16_t least,
+                                   uint16_t greatest, uint64_t *count);
+
+/* Make entry v of `counts` how many pixels of a picture have the value v. Pixels of 8 bits want exactly 256 entries:
+ * V_FRAME_SIZES where there are fewer or more. Of 16 bits there may be any number, as 2^depth, and a pixel whose value has no
+ * entry is not counted. */
+uint32_t v_frame_histogram_u8(const v_frame_rows *rows, const uint8_t *buffer, size_t length, uint64_t *counts,
+                              size_t counts_length);
+uint32_t v_frame_histogram_u16(const v_frame_rows *rows, const uint16_t *buffer, size_t length, uint64_t *counts,
+                               size_t counts_length);
 
 /* Make each entry of the border the pixel nearest to it, as motion search reads past the edge. The picture inside stays, and so
  * does all after the border. V_FRAME_FIRST_ROWS where a size is zero, or picture and border have more entries than the buffer. */

@@ -41,6 +41,7 @@ static uint64_t distance(uint32_t p, uint32_t q) {
 
 #include "samples.inc"
 #include "pictures.inc"
+#include "conversions.inc"
 #undef SAMPLE
 #undef NAME
 #undef TEST
@@ -51,6 +52,7 @@ static uint64_t distance(uint32_t p, uint32_t q) {
 
 #include "samples.inc"
 #include "pictures.inc"
+#include "conversions.inc"
 
 /* A value of `from` bits in `to` bits, by the words of the header. */
 static uint32_t at_depth(uint32_t value, uint32_t from, uint32_t to) {
@@ -154,6 +156,80 @@ static void colours(void) {
         free(before);
     }
 }
+
+/* Whether a sample is the whole number nearest to one by the standards' own fractions, give or take a hundredth. */
+static int is_near(uint8_t found, double exact) {
+    double within = exact < 0 ? 0 : exact > 255 ? 255 : exact;
+    return found - within <= 0.51 && within - found <= 0.51;
+}
+
+static void check_samples(const uint8_t *pixel, const uint8_t samples[3], const v_frame_colours *choice) {
+    static const double weights[3][2] = {{0.299, 0.114}, {0.2126, 0.0722}, {0.2627, 0.0593}};
+    int swapped = choice->order == V_FRAME_BGR || choice->order == V_FRAME_BGRA, full = choice->range == V_FRAME_FULL;
+    double red = pixel[swapped ? 2 : 0], green = pixel[1], blue = pixel[swapped ? 0 : 2];
+    double of_red = weights[choice->standard][0], of_blue = weights[choice->standard][1];
+    double luma = of_red * red + (1 - of_red - of_blue) * green + of_blue * blue;
+    CHECK(is_near(samples[0], full ? luma : 16 + luma * 219 / 255));
+    CHECK(is_near(samples[1], 128 + (blue - luma) / (2 - 2 * of_blue) * (full ? 1 : 224.0 / 255)));
+    CHECK(is_near(samples[2], 128 + (red - luma) / (2 - 2 * of_red) * (full ? 1 : 224.0 / 255)));
+}
+
+static void samples_of_colours(void) {
+    static const uint32_t statuses[4] = {V_FRAME_FIRST_ROWS, V_FRAME_SECOND_ROWS, V_FRAME_THIRD_ROWS, V_FRAME_FOURTH_ROWS};
+    for (uint32_t round = 0; round < 1200; round++) {
+        v_frame_colours choice = {round % 3, round / 3 % 2, round / 6 % 4}, wrong[3] = {{3, 0, 0}, {0, 2, 0}, {0, 0, 4}};
+        size_t bytes = choice.order < V_FRAME_RGBA ? 3 : 4, width = 1 + below(40), height = 1 + below(5), lengths[4];
+        v_frame_rows rows[4] = {{bytes * width, height, bytes * width + below(4)}};
+        uint8_t *it[4], *before[4];
+        for (int i = 0; i < 4; i++) {
+            if (i > 0) {
+                rows[i] = (v_frame_rows){width, height, width + below(4)};
+            }
+            lengths[i] = v_frame_rows_length(&rows[i]);
+            it[i] = filled_u8(&rows[i]);
+            before[i] = cloned_u8(it[i], lengths[i]);
+        }
+#define BACK(chosen)                                                                                                              \
+    v_frame_rgb_to_yuv444_u8(&rows[0], it[0], lengths[0], &rows[1], it[1], lengths[1], &rows[2], it[2], lengths[2], &rows[3], it[3], \
+                             lengths[3], chosen)
+        for (int i = 0; i < 3; i++) {
+            CHECK(BACK(&wrong[i]) == V_FRAME_NUMBER);
+        }
+        for (int i = 0; i < 4; i++) {
+            lengths[i]--;
+            CHECK(BACK(&choice) == statuses[i]);
+            lengths[i]++;
+            if (width > 1) {
+                rows[i].width--;
+                CHECK(BACK(&choice) == V_FRAME_SIZES);
+                rows[i].width++;
+            }
+            if (height > 1) {
+                rows[i].height--;
+                CHECK(BACK(&choice) == V_FRAME_SIZES);
+                rows[i].height++;
+            }
+        }
+        for (int i = 0; i < 4; i++) {
+            CHECK(memcmp(it[i], before[i], lengths[i]) == 0);
+        }
+        CHECK(BACK(&choice) == V_FRAME_OK);
+        CHECK(memcmp(it[0], before[0], lengths[0]) == 0);
+        for (int i = 1; i < 4; i++) {
+            check_rest_u8(&rows[i], it[i], before[i], lengths[i]);
+        }
+        for (size_t i = 0; i < width * height; i++) {
+            size_t x = i % width, y = i / width;
+            uint8_t samples[3] = {at_u8(&rows[1], it[1], x, y), at_u8(&rows[2], it[2], x, y), at_u8(&rows[3], it[3], x, y)};
+            check_samples(it[0] + rows[0].stride * y + bytes * x, samples, &choice);
+        }
+        for (int i = 0; i < 4; i++) {
+            free(it[i]);
+            free(before[i]);
+        }
+    }
+}
+#undef BACK
 
 static void bytes_and_words(void) {
     for (int round = 0; round < 1000; round++) {
@@ -264,8 +340,11 @@ int main(void) {
     all_u16();
     pictures_u8();
     pictures_u16();
+    conversions_u8();
+    conversions_u16();
     depths();
     colours();
+    samples_of_colours();
     bytes_and_words();
     frames();
     helpers();

@@ -113,6 +113,112 @@ class Pictures(unittest.TestCase):
         words = Plane(bytes(8), 4, 1, sample_size=2)
         self.assertRaises(TypeError, v_frame.rgb, words, words, words)
 
+    def test_halves(self):
+        for plane in self.planes:
+            rows = rows_of(plane)
+            for down, halve in ((1, v_frame.halve_columns), (2, v_frame.downscale_to_edge)):
+                wanted = [[(sum(rows[min(down * y + j, plane.height - 1)][min(2 * x + i, plane.width - 1)]
+                                for j in range(down) for i in range(2)) + down) // (2 * down)
+                           for x in range(-(-plane.width // 2))] for y in range(-(-plane.height // down))]
+                self.assertEqual(rows_of(halve(plane)), wanted)
+
+    def test_resize(self):
+        # A numbered picture, and what numpy makes of it by blocks of the common multiple of both sizes.
+        plane = Plane(bytes([11, 34, 103, 218, 123, 74, 48, 71, 140, 255, 160, 111, 85, 108, 177, 36, 197, 148, 122, 145, 214, 73, 234,
+                             185]), 6, 4)
+        self.assertEqual(rows_of(v_frame.resize_area(plane, 4, 3)), [[28, 89, 196, 100], [74, 136, 157, 146], [120, 182, 117, 192]])
+        self.assertEqual(rows_of(v_frame.resize_nearest(plane, 4, 3)), [[11, 103, 218, 74], [85, 177, 36, 148], [122, 214, 73, 185]])
+        self.assertEqual(rows_of(v_frame.resize_area(plane, 1, 1)), [[128]])
+        for plane in self.planes:
+            self.assertEqual(rows_of(v_frame.resize_area(plane, plane.width, plane.height)), rows_of(plane))
+            self.assertEqual(rows_of(v_frame.resize_nearest(plane, 2 * plane.width, plane.height)),
+                             [[it for it in row for _ in range(2)] for row in rows_of(plane)])
+        for size in ((0, 4), (4, -1), (4, 2 ** 64)):
+            self.assertRaises(SizesError, v_frame.resize_area, plane, *size)
+
+    def test_ranges(self):
+        luma = Plane(bytes([0, 16, 17, 126, 235, 255]), 3, 2)
+        self.assertEqual(rows_of(v_frame.to_full_range(luma)), [[0, 0, 1], [128, 255, 255]])
+        self.assertEqual(rows_of(v_frame.to_limited_range(luma)), [[16, 30, 31], [124, 218, 235]])
+        chroma = Plane(bytes([3, 16, 128, 240]), 4, 1)
+        self.assertEqual(rows_of(v_frame.to_full_range(chroma, "chroma")), [[0, 1, 128, 255]])
+        self.assertEqual(rows_of(v_frame.to_limited_range(chroma, "chroma")), [[18, 30, 128, 226]])
+        words = Plane(memoryview(bytearray(b"".join(it.to_bytes(2, sys.byteorder) for it in (64, 940)))), 2, 1, sample_size=2)
+        self.assertEqual(rows_of(v_frame.to_full_range(words, depth=10)), [[0, 1023]])
+        self.assertRaises(TypeError, v_frame.to_full_range, words)
+        for wrong in ({"component": "alpha"}, {"depth": 7}, {"depth": 9}, {"depth": 2 ** 40}):
+            self.assertRaises(ValueError, v_frame.to_limited_range, luma, **wrong)
+
+    def test_yuv(self):
+        # By the standards' own fractions, rounded to the nearest: red and grey.
+        colours = Plane(bytes([255, 0, 0, 128, 128, 128]), 6, 1)
+        self.assertEqual([rows_of(it) for it in v_frame.yuv(colours)], [[[63, 126]], [[102, 128]], [[240, 128]]])
+        swapped = Plane(bytes([0, 0, 255, 7, 128, 128, 128, 9]), 8, 1)
+        self.assertEqual([rows_of(it) for it in v_frame.yuv(swapped, "bt601", "full", "bgra")], [[[76, 128]], [[85, 128]], [[255, 128]]])
+        self.assertRaises(SizesError, v_frame.yuv, colours, order="rgba")
+        self.assertRaises(TypeError, v_frame.yuv, Plane(bytes(12), 6, 1, sample_size=2))
+        self.assertRaises(ValueError, v_frame.yuv, colours, "bt470")
+
+    def test_blends(self):
+        source = random.Random(7)
+        for plane in self.planes:
+            over = random_plane(source, plane.width, plane.height, plane.sample_size)
+            mask = random_plane(source, plane.width, plane.height, 1)
+            largest = 256 ** plane.sample_size - 1
+            for call, by_hand in (
+                (lambda under: v_frame.blend(over, under, 100), lambda p, q, m: (p * 156 + q * 100 + 128) // 256),
+                (lambda under: v_frame.blend_with_mask(over, mask, under), lambda p, q, m: (p * (255 - m) + q * m + 127) // 255),
+                (lambda under: v_frame.difference(over, under, 3, 8 * under.sample_size), lambda p, q, m: min(3 * abs(p - q), largest)),
+            ):
+                under = Plane(bytearray(plane.buffer), plane.width, plane.height, plane.stride, plane.sample_size)
+                call(under)
+                wanted = [[by_hand(*pixels) for pixels in zip(*rows)] for rows in zip(rows_of(plane), rows_of(over), rows_of(mask))]
+                self.assertEqual(rows_of(under), wanted)
+        for weight in (-1, 257):
+            self.assertRaises(ValueError, v_frame.blend, Plane(bytes(4), 2, 2), Plane(bytearray(4), 2, 2), weight)
+        words = Plane(bytearray(8), 2, 2, sample_size=2)
+        self.assertRaises(TypeError, v_frame.blend, Plane(bytes(4), 2, 2), words, 1)
+        self.assertRaises(TypeError, v_frame.blend_with_mask, words, words, words)
+        self.assertRaises(TypeError, v_frame.difference, words, words)
+        self.assertRaises(ValueError, v_frame.difference, words, words, 2 ** 16, 10)
+        self.assertRaises(SizesError, v_frame.blend_with_mask, words, Plane(bytes(2), 2, 1), words)
+
+    def test_a_blend_may_overlap_its_source(self):
+        data = bytearray(range(0, 240, 10))
+        before = bytes(data)
+        v_frame.blend(Plane(memoryview(data)[3:], 3, 3), Plane(memoryview(data)[:9], 3, 3), 128)
+        self.assertEqual(bytes(data), bytes((before[i] + before[i + 3] + 1) // 2 for i in range(9)) + before[9:])
+        v_frame.blend_with_mask(Plane(data, 3, 3), Plane(data, 3, 3), Plane(data, 3, 3))
+        v_frame.difference(Plane(data, 3, 3), Plane(data, 3, 3))
+        self.assertEqual(bytes(data), bytes(9) + before[9:])
+
+    def test_counts(self):
+        for plane in self.planes:
+            samples = [it for row in rows_of(plane) for it in row]
+            self.assertEqual(len(v_frame.histogram(plane)), 256 ** plane.sample_size)
+            self.assertEqual(v_frame.histogram(plane, 4), [samples.count(v) for v in range(16)])
+            self.assertEqual({v: n for v, n in enumerate(v_frame.histogram(plane)) if n}, {v: samples.count(v) for v in samples})
+            for least, greatest in ((0, 100), (100, 50), (-5, 10 ** 6), (samples[0], samples[0])):
+                self.assertEqual(v_frame.count_between(plane, least, greatest), sum(least <= it <= greatest for it in samples))
+        self.assertRaises(ValueError, v_frame.histogram, Plane(bytes(4), 2, 2), 9)
+
+    @unittest.skipUnless(numpy, "there is no numpy")
+    def test_converted_arrays(self):
+        array = numpy.arange(6 * 10, dtype="uint8").reshape(6, 10)[:, 1:9]
+        blocks = numpy.kron(array.astype(int), numpy.ones((4, 3), dtype=int)).reshape(4, 6, 3, 8).sum((1, 3))
+        self.assertEqual(v_frame.resize_area(array, 3, 4).tolist(), ((2 * blocks + 48) // 96).tolist())
+        columns, lines = (2 * numpy.arange(3) + 1) * 8 // 6, (2 * numpy.arange(4) + 1) * 6 // 8
+        self.assertEqual(v_frame.resize_nearest(array, 3, 4).tolist(), array[numpy.ix_(lines, columns)].tolist())
+        self.assertEqual(v_frame.histogram(array).tolist(), numpy.bincount(array.ravel(), minlength=256).tolist())
+        self.assertEqual(v_frame.count_between(array, 10, 20), int(((array >= 10) & (array <= 20)).sum()))
+        self.assertEqual(v_frame.downscale_to_edge(array[:5, :7]).shape, (3, 4))
+        colours = numpy.dstack([array] * 3)
+        self.assertEqual([it.tolist() for it in v_frame.yuv(colours, range="full")], [array.tolist(), *[[[128] * 8] * 6] * 2])
+        self.assertRaises(SizesError, v_frame.yuv, colours, order="bgra")
+        under = numpy.full((3, 4), 10, dtype="uint16")
+        v_frame.blend(numpy.full((3, 4), 30, dtype="uint16"), under[:, :], 128)
+        self.assertEqual(under.tolist(), [[20] * 4] * 3)
+
     @unittest.skipUnless(numpy, "there is no numpy")
     def test_arrays(self):
         array = numpy.arange(3 * 8, dtype="uint16").reshape(3, 8)[:, 1:6]

@@ -17,22 +17,14 @@ def _same_size(a, b):
 def _compared(exports, a, b, out):
     with Held(a) as first, Held(b) as second:
         call = exports[_same_size(first, second)]
-        library.answered(call(ctypes.byref(first.rows), first.address, first.length, ctypes.byref(second.rows), second.address,
-                              second.length, ctypes.byref(out)))
+        library.answered(call(*first.told(), *second.told(), ctypes.byref(out)))
         return first
 
 
-def _changed(exports, target, source):
+def _changed(exports, target, source, *more):
     with Held(target, writes=True) as written, Held(source) as read:
         call = exports[_same_size(written, read)]
-        address, kept = read.address, None
-        if written.overlaps(read):
-            # The library is promised that what it writes overlaps nothing else.
-            kept = ctypes.create_string_buffer(ctypes.string_at(read.address, read.length * read.size), read.length * read.size)
-            address = ctypes.addressof(kept)
-        library.answered(call(ctypes.byref(written.rows), written.address, written.length, ctypes.byref(read.rows), address,
-                              read.length))
-        del kept
+        library.answered(call(*written.told(), *read.told_beside(written), *more))
 
 
 def sse(a, b) -> int:
@@ -83,7 +75,7 @@ def fill(target, sample: int) -> None:
     with Held(target, writes=True) as written:
         if not 0 <= sample < 256 ** written.size:
             raise ValueError("the sample is out of range")
-        library.answered(library.FILL[written.size](ctypes.byref(written.rows), written.address, written.length, sample))
+        library.answered(library.FILL[written.size](*written.told(), sample))
 
 
 def half(source):

@@ -103,6 +103,20 @@ PAIR_STATISTICS = _both("pair_statistics", _rows, _data, _size, ctypes.POINTER(P
 CONVERT_DEPTH = {(1, 2): "u8_u16", (2, 1): "u16_u8", (2, 2): "u16_u16"}
 CONVERT_DEPTH = {sizes: _export(f"v_frame_convert_depth_{kinds}", _rows, _data, _size, ctypes.c_uint32, ctypes.c_uint32)
                  for sizes, kinds in CONVERT_DEPTH.items()}
+DOWNSCALE_TO_EDGE = _both("downscale_to_edge", _rows, _data, _size)
+HALVE_COLUMNS = _both("halve_columns", _rows, _data, _size)
+RESIZE_AREA = _both("resize_area", _rows, _data, _size)
+RESIZE_NEAREST = _both("resize_nearest", _rows, _data, _size)
+TO_FULL_RANGE = _both("to_full_range", _rows, _data, _size, ctypes.c_uint32, ctypes.c_uint32)
+TO_LIMITED_RANGE = _both("to_limited_range", _rows, _data, _size, ctypes.c_uint32, ctypes.c_uint32)
+TO_YUV = _export("v_frame_rgb_to_yuv444_u8", _rows, _data, _size, _rows, _data, _size, _rows, _data, _size,
+                 ctypes.POINTER(Colours))
+BLEND = _both("blend", _rows, _data, _size, ctypes.c_uint16)
+BLEND_WITH_MASK = _both("blend_with_mask", _rows, _data, _size, _rows, _data, _size)
+DIFFERENCE = _both("difference", _rows, _data, _size, ctypes.c_uint16, ctypes.c_uint32)
+HISTOGRAM = _both("histogram", ctypes.POINTER(ctypes.c_uint64), _size)
+COUNT_BETWEEN = {size: _export(f"v_frame_count_between_{kind}", value, value, ctypes.POINTER(ctypes.c_uint64))
+                 for size, kind, value in ((1, "u8", ctypes.c_uint8), (2, "u16", ctypes.c_uint16))}
 LAY_OUT = _library.v_frame_lay_out
 LAY_OUT.restype, LAY_OUT.argtypes = ctypes.c_uint32, [ctypes.POINTER(Request), ctypes.POINTER(Parts)]
 
@@ -114,4 +128,4 @@ def answered(status):
     if status == 3:
         raise SizesError("the sizes do not belong together")
     if status == 5:
-        raise ValueError("a bit depth, a turn or a kind of colours is none that the library knows")
+        raise ValueError("a number is none that the library knows: a bit depth, a ratio, a weight or one of a choice")

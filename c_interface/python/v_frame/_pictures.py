@@ -47,8 +47,7 @@ def _new(like, width, height, size):
 def _made(export, target, source, *more):
     """The target, which nothing else knows yet, written by an export from the source."""
     with Held(target, writes=True) as written, Held(source) as read:
-        library.answered(export(ctypes.byref(written.rows), written.address, written.length, ctypes.byref(read.rows), read.address,
-                                read.length, *more))
+        library.answered(export(*written.told(), *read.told(), *more))
     return target
 
 
@@ -100,9 +99,7 @@ def interleave(u, v):
         _same_size(first, second)
     target = _new(u, 2 * width, height, size)
     with Held(target, writes=True) as written, Held(u) as first, Held(v) as second:
-        library.answered(library.INTERLEAVE[size](
-            ctypes.byref(written.rows), written.address, written.length, ctypes.byref(first.rows), first.address, first.length,
-            ctypes.byref(second.rows), second.address, second.length))
+        library.answered(library.INTERLEAVE[size](*written.told(), *first.told(), *second.told()))
     return target
 
 
@@ -113,27 +110,29 @@ def deinterleave(plane):
         raise library.SizesError("the sizes do not belong together: an odd width")
     u, v = _new(plane, width // 2, height, size), _new(plane, width // 2, height, size)
     with Held(plane) as read, Held(u, writes=True) as first, Held(v, writes=True) as second:
-        library.answered(library.DEINTERLEAVE[size](
-            ctypes.byref(read.rows), read.address, read.length, ctypes.byref(first.rows), first.address, first.length,
-            ctypes.byref(second.rows), second.address, second.length))
+        library.answered(library.DEINTERLEAVE[size](*read.told(), *first.told(), *second.told()))
     return u, v
+
+
+def _choice(standard, range, order):
+    """The numbers of a kind of colours."""
+    for name, known in ((standard, STANDARDS), (range, RANGES), (order, ORDERS)):
+        if name not in known:
+            raise ValueError(f"{name!r} is none of {', '.join(known)}")
+    return library.Colours(STANDARDS.index(standard), RANGES.index(range), ORDERS.index(order))
 
 
 def rgb(y, u, v, standard: str = "bt709", range: str = "limited", order: str = "rgb"):
     """The colours of three planes of one size and of bytes, as a new plane with three or four bytes for each pixel: an array of three
     dimensions where they are arrays."""
-    for name, known in ((standard, STANDARDS), (range, RANGES), (order, ORDERS)):
-        if name not in known:
-            raise ValueError(f"{name!r} is none of {', '.join(known)}")
-    choice = library.Colours(STANDARDS.index(standard), RANGES.index(range), ORDERS.index(order))
+    choice = _choice(standard, range, order)
     width, height, size = _shape(y)
     with Held(y) as luma, Held(u) as first, Held(v) as second:
         if (_same_size(luma, first), _same_size(luma, second)) != (1, 1):
             raise TypeError("colours are made of samples of one byte")
     target = _new(y, len(order) * width, height, size)
     with Held(target, writes=True) as written, Held(y) as luma, Held(u) as first, Held(v) as second:
-        planes = [it for held in (written, luma, first, second) for it in (ctypes.byref(held.rows), held.address, held.length)]
-        library.answered(library.TO_RGB(*planes, ctypes.byref(choice)))
+        library.answered(library.TO_RGB(*written.told(), *luma.told(), *first.told(), *second.told(), ctypes.byref(choice)))
     return target if isinstance(target, Plane) else target.reshape(height, width, len(order))
 
 
@@ -145,7 +144,7 @@ def statistics(plane) -> Statistics:
     """The count, the sum, the sum of the squares, the least and the greatest of the samples of a plane."""
     out = library.Statistics()
     with Held(plane) as read:
-        library.answered(library.STATISTICS[read.size](ctypes.byref(read.rows), read.address, read.length, ctypes.byref(out)))
+        library.answered(library.STATISTICS[read.size](*read.told(), ctypes.byref(out)))
     return Statistics(out.count, _number(out.sum), _number(out.sum_of_squares), out.minimum, out.maximum)
 
 

@@ -108,6 +108,17 @@ class Held:
         return (self.address < other.address + other.length * other.size
                 and other.address < self.address + self.length * self.size)
 
+    def told(self):
+        """What an export is given of the plane: its rows, its samples and how many they are."""
+        return ctypes.byref(self.rows), self.address, self.length
+
+    def told_beside(self, written):
+        """The same with a copy of the samples where they overlap a plane that is written: the library is promised that none do."""
+        if not written.overlaps(self):
+            return self.told()
+        count = self.length * self.size
+        return ctypes.byref(self.rows), ctypes.create_string_buffer(ctypes.string_at(self.address, count), count), self.length
+
     def __enter__(self):
         return self
 

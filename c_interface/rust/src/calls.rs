@@ -1,10 +1,6 @@
 use crate::error::{Error, answered};
 use crate::picture::{Picture, PictureMut};
-use crate::sample::{self, BorderedOfC, Sample, SumOfC};
-
-fn number(sum: &SumOfC) -> u128 {
-    u128::from(sum.high) << 64 | u128::from(sum.low)
-}
+use crate::sample::{self, BorderedOfC, Sample};
 
 /// Sums the squares of the differences of two pictures, sample by sample. It is exact.
 ///
@@ -12,9 +8,9 @@ fn number(sum: &SumOfC) -> u128 {
 ///
 /// [`Error::Sizes`] where the sizes differ.
 pub fn squared_errors<T: Sample>(a: &Picture<'_, T>, b: &Picture<'_, T>) -> Result<u128, Error> {
-    let (status, sum) = sample::compare(T::CALLS.squared_errors, (&a.rows, a.data), (&b.rows, b.data));
+    let (status, sum) = sample::compare(T::CALLS.squared_errors, a.read(), b.read());
     answered(status)?;
-    Ok(number(&sum))
+    Ok(sum.number())
 }
 
 /// Sums the absolute differences of two pictures, sample by sample. It is exact.
@@ -23,9 +19,9 @@ pub fn squared_errors<T: Sample>(a: &Picture<'_, T>, b: &Picture<'_, T>) -> Resu
 ///
 /// [`Error::Sizes`] where the sizes differ.
 pub fn absolute_differences<T: Sample>(a: &Picture<'_, T>, b: &Picture<'_, T>) -> Result<u128, Error> {
-    let (status, sum) = sample::compare(T::CALLS.absolute_differences, (&a.rows, a.data), (&b.rows, b.data));
+    let (status, sum) = sample::compare(T::CALLS.absolute_differences, a.read(), b.read());
     answered(status)?;
-    Ok(number(&sum))
+    Ok(sum.number())
 }
 
 /// Finds the column and the row of the first sample, row after row from the top, that differs.
@@ -34,7 +30,7 @@ pub fn absolute_differences<T: Sample>(a: &Picture<'_, T>, b: &Picture<'_, T>) -
 ///
 /// [`Error::Sizes`] where the sizes differ.
 pub fn first_difference<T: Sample>(a: &Picture<'_, T>, b: &Picture<'_, T>) -> Result<Option<(usize, usize)>, Error> {
-    let (status, place) = sample::compare(T::CALLS.first_difference, (&a.rows, a.data), (&b.rows, b.data));
+    let (status, place) = sample::compare(T::CALLS.first_difference, a.read(), b.read());
     answered(status)?;
     Ok((place.found == 1).then_some((place.x, place.y)))
 }
@@ -55,7 +51,7 @@ pub fn psnr<T: Sample>(a: &Picture<'_, T>, b: &Picture<'_, T>, bit_depth: u32) -
 
 /// Sets each sample of a picture to one.
 pub fn fill<T: Sample>(target: &mut PictureMut<'_, T>, sample: T) {
-    let status = sample::fill((&target.rows, target.data), sample);
+    let status = sample::fill(target.written(), sample);
     assert_eq!(status, 0, "the rows of a picture fit its slice");
 }
 
@@ -65,7 +61,7 @@ pub fn fill<T: Sample>(target: &mut PictureMut<'_, T>, sample: T) {
 ///
 /// [`Error::Sizes`] where the sizes differ. Then nothing is written.
 pub fn copy<T: Sample>(source: &Picture<'_, T>, target: &mut PictureMut<'_, T>) -> Result<(), Error> {
-    answered(sample::change(T::CALLS.copy, (&target.rows, target.data), (&source.rows, source.data)))
+    answered(sample::change(T::CALLS.copy, target.written(), source.read()))
 }
 
 /// Makes a picture of half the size: each sample is the mean of a block of two by two, rounded to the nearest value and upwards
@@ -75,7 +71,7 @@ pub fn copy<T: Sample>(source: &Picture<'_, T>, target: &mut PictureMut<'_, T>) 
 ///
 /// [`Error::Sizes`] where the source is not exactly twice as wide and as high. Then nothing is written.
 pub fn downscale<T: Sample>(source: &Picture<'_, T>, target: &mut PictureMut<'_, T>) -> Result<(), Error> {
-    answered(sample::change(T::CALLS.downscale, (&target.rows, target.data), (&source.rows, source.data)))
+    answered(sample::change(T::CALLS.downscale, target.written(), source.read()))
 }
 
 /// Decodes samples of two bytes, the low byte first. The source counts bytes.
@@ -84,7 +80,7 @@ pub fn downscale<T: Sample>(source: &Picture<'_, T>, target: &mut PictureMut<'_,
 ///
 /// [`Error::Sizes`] where the source is not as high and twice as wide. Then nothing is written.
 pub fn decode(source: &Picture<'_, u8>, target: &mut PictureMut<'_, u16>) -> Result<(), Error> {
-    answered(sample::decode((&target.rows, target.data), (&source.rows, source.data)))
+    answered(sample::decode(target.written(), source.read()))
 }
 
 /// Encodes samples as two bytes each, the low byte first. The target counts bytes.
@@ -93,7 +89,7 @@ pub fn decode(source: &Picture<'_, u8>, target: &mut PictureMut<'_, u16>) -> Res
 ///
 /// [`Error::Sizes`] where the target is not as high and twice as wide. Then nothing is written.
 pub fn encode(source: &Picture<'_, u16>, target: &mut PictureMut<'_, u8>) -> Result<(), Error> {
-    answered(sample::encode((&target.rows, target.data), (&source.rows, source.data)))
+    answered(sample::encode(target.written(), source.read()))
 }
 
 /// Makes each sample of a border the visible one nearest to it; what is visible stays, and so does all after the border.

@@ -7,6 +7,8 @@ pub enum Error {
     Rows,
     /// The sizes do not belong together.
     Sizes,
+    /// A number is out of its range: a bit depth, a ratio or a weight.
+    Number,
 }
 
 impl fmt::Display for Error {
@@ -14,6 +16,7 @@ impl fmt::Display for Error {
         f.write_str(match self {
             Error::Rows => "the rows do not fit their buffer",
             Error::Sizes => "the sizes do not belong together",
+            Error::Number => "a number is out of its range",
         })
     }
 }
@@ -25,6 +28,7 @@ pub(crate) fn answered(status: u32) -> Result<(), Error> {
     match status {
         0 => Ok(()),
         3 => Err(Error::Sizes),
+        5 => Err(Error::Number),
         _ => Err(Error::Rows),
     }
 }

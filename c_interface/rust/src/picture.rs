@@ -6,15 +6,15 @@ use crate::sample::RowsOfC;
 /// The slice may be longer, and the last row may end at its width.
 #[derive(Clone, Copy, Debug)]
 pub struct Picture<'a, T> {
-    pub(crate) data: &'a [T],
-    pub(crate) rows: RowsOfC,
+    data: &'a [T],
+    rows: RowsOfC,
 }
 
 /// A picture to write. A call that writes one leaves all else of its slice as it was.
 #[derive(Debug)]
 pub struct PictureMut<'a, T> {
-    pub(crate) data: &'a mut [T],
-    pub(crate) rows: RowsOfC,
+    data: &'a mut [T],
+    rows: RowsOfC,
 }
 
 /// Whether rows aren't empty, don't overlap and end within so many samples.
@@ -49,6 +49,11 @@ impl<'a, T> Picture<'a, T> {
         self.rows.height
     }
 
+    /// What a call is given of it.
+    pub(crate) fn read(&self) -> (&RowsOfC, &[T]) {
+        (&self.rows, self.data)
+    }
+
     /// The rectangle of `width` by `height` samples from column `x` of row `y` on, of the same slice.
     ///
     /// # Errors
@@ -81,6 +86,11 @@ impl<'a, T> PictureMut<'a, T> {
     pub fn new(data: &'a mut [T], width: usize, height: usize, stride: usize) -> Result<Self, Error> {
         let rows = checked(width, height, stride, data.len())?;
         Ok(PictureMut { data, rows })
+    }
+
+    /// What a call is given of it.
+    pub(crate) fn written(&mut self) -> (&RowsOfC, &mut [T]) {
+        (&self.rows, self.data)
     }
 
     /// The same picture, to read.

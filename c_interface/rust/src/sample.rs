@@ -1,5 +1,6 @@
-//! The exports of the library, and what is `unsafe` about them.
+//! The exports that compare, fill, copy and lay out, and what is `unsafe` about them.
 
+use crate::exports::Exported;
 use std::ffi::c_void;
 use std::os::raw::c_uint;
 
@@ -17,6 +18,22 @@ pub struct RowsOfC {
 pub struct SumOfC {
     pub low: u64,
     pub high: u64,
+}
+
+impl SumOfC {
+    pub fn number(&self) -> u128 {
+        u128::from(self.high) << 64 | u128::from(self.low)
+    }
+}
+
+#[repr(C)]
+#[derive(Default)]
+pub struct PairStatisticsOfC {
+    pub first: SumOfC,
+    pub second: SumOfC,
+    pub first_squares: SumOfC,
+    pub second_squares: SumOfC,
+    pub products: SumOfC,
 }
 
 #[repr(C)]
@@ -85,6 +102,8 @@ declared! {
     v_frame_absolute_differences_u16 => SumOfC,
     v_frame_first_difference_u8 => PlaceOfC,
     v_frame_first_difference_u16 => PlaceOfC,
+    v_frame_pair_statistics_u8 => PairStatisticsOfC,
+    v_frame_pair_statistics_u16 => PairStatisticsOfC,
     ;
     v_frame_copy_u8,
     v_frame_copy_u16,
@@ -101,7 +120,7 @@ mod sealed {
 }
 
 /// A sample of a plane: `u8`, or `u16` for more than eight bits.
-pub trait Sample: Copy + sealed::Sealed + 'static {
+pub trait Sample: Copy + sealed::Sealed + Exported + 'static {
     #[doc(hidden)]
     const CALLS: Calls<Self>;
 }
@@ -112,6 +131,7 @@ pub struct Calls<T> {
     pub squared_errors: Compare<SumOfC>,
     pub absolute_differences: Compare<SumOfC>,
     pub first_difference: Compare<PlaceOfC>,
+    pub pair_statistics: Compare<PairStatisticsOfC>,
     pub fill: unsafe extern "C" fn(*const RowsOfC, *mut T, usize, T) -> c_uint,
     pub pad: unsafe extern "C" fn(*const BorderedOfC, *mut T, usize) -> c_uint,
     pub copy: Change,
@@ -123,6 +143,7 @@ impl Sample for u8 {
         squared_errors: v_frame_squared_errors_u8,
         absolute_differences: v_frame_absolute_differences_u8,
         first_difference: v_frame_first_difference_u8,
+        pair_statistics: v_frame_pair_statistics_u8,
         fill: v_frame_fill_u8,
         pad: v_frame_pad_u8,
         copy: v_frame_copy_u8,
@@ -135,6 +156,7 @@ impl Sample for u16 {
         squared_errors: v_frame_squared_errors_u16,
         absolute_differences: v_frame_absolute_differences_u16,
         first_difference: v_frame_first_difference_u16,
+        pair_statistics: v_frame_pair_statistics_u16,
         fill: v_frame_fill_u16,
         pad: v_frame_pad_u16,
         copy: v_frame_copy_u16,

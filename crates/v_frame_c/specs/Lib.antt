@@ -1,7 +1,9 @@
 pub mod ColourChoice
+pub mod Counts
 pub mod FrameParts
 pub mod Layout
 pub mod Numbers
+pub mod Sizes
 pub mod Statistics
 pub mod Status
 pub mod WorkedNumbers

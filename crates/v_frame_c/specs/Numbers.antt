@@ -1,8 +1,10 @@
 -- Numbers that C gives in place of a choice, and whether they are one.
 use Rattle.std.specs.Prelude.{ℕ, ◌+◌, ◌-◌, ◌*◌, ◌/◌, ◌==◌, Bool, ◌&&◌, if◌then◌else◌, nat_eq, nat_le, nat_lt, map, reverse}
-use Rattle.v_frame.specs.Prelude.{PixelForm, Table}
+use Rattle.v_frame.specs.Prelude.{Table}
 use Rattle.v_frame_c.specs.declared.layout.Rows.{Rows}
 use Rattle.v_frame_c.specs.Status.{same_size}
+use Rattle.v_frame_convert.specs.declared.range.Component.{Component}
+use Rattle.v_frame_convert.specs.declared.range.Component.TheVariants.{Luma, Chroma}
 use Rattle.v_frame_turn.specs.Turn.{rotated_180, rotated_270, rotated_90, transposed}
 
 -- upside down, mirrored, by 180 degrees, transposed, by 90 and by 270 degrees clockwise
@@ -34,3 +36,10 @@ is_begun size ratio items = nat_eq items ((size + (ratio - 1)) / ratio)
 abbrev pub subsampled_size : ℕ → ℕ → Rows → Rows → Bool
 subsampled_size ratio_x ratio_y a b =
     is_begun a.width ratio_x b.width && is_begun a.height ratio_y b.height
+
+-- luma, and a component of chroma
+abbrev pub is_component : ℕ → Bool
+is_component number = nat_lt number 2
+
+abbrev pub component_by : ℕ → Component
+component_by number = if number == 0 then Luma else Chroma

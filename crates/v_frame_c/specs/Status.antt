@@ -7,6 +7,12 @@ abbrev pub status_of_one : Bool → ℕ
 status_of_one false = 1
 status_of_one true = 0
 
+-- of one, and whether its size belongs to what is asked for
+abbrev pub status_of_sized : Bool → Bool → ℕ
+status_of_sized false sizes = 1
+status_of_sized true false = 3
+status_of_sized true true = 0
+
 -- of two: whether the rows of each fit it, and whether their sizes belong together
 abbrev pub status_of_two : Bool → Bool → Bool → ℕ
 status_of_two false second sizes = 1

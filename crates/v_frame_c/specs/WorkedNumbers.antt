@@ -1,7 +1,10 @@
 -- Numbers of choices worked out by hand. Each line computes: it is proved by `refl`.
 use Rattle.std.specs.Prelude.{ℕ, ◌≡◌, [], ◌∷◌, true, false, refl}
-use Rattle.v_frame.specs.Prelude.{Table}
-use Rattle.v_frame_c.specs.Numbers.{is_begun, is_depth, is_turn, turned_by}
+use Rattle.v_frame.specs.Prelude.{Table, one_byte}
+use Rattle.v_frame_convert.specs.declared.range.Component.TheVariants.{Chroma}
+use Rattle.v_frame_c.specs.ColourChoice.{bytes_by, colour_by}
+use Rattle.v_frame_c.specs.Counts.{count_between}
+use Rattle.v_frame_c.specs.Numbers.{component_by, is_begun, is_component, is_depth, is_turn, turned_by}
 
 abbrev one_row : Table ℕ
 one_row = (1 ∷ 2 ∷ 3 ∷ []) ∷ []
@@ -23,3 +26,20 @@ nine_bits_of_one_byte = refl
 
 three_for_five : is_begun 5 2 3 ≡ true
 three_for_five = refl
+
+second_component : component_by 1 ≡ Chroma
+second_component = refl
+
+no_third_component : is_component 2 ≡ false
+no_third_component = refl
+
+-- blue first, and a fourth byte
+blue_first : bytes_by 1 (colour_by 3 (7 ∷ 8 ∷ 9 ∷ 1 ∷ [])) ≡ 7 ∷ 8 ∷ 9 ∷ []
+blue_first = refl
+
+-- both ends count
+two_of_four : count_between one_byte.value 2 3 (1 ∷ 2 ∷ 3 ∷ 4 ∷ []) ≡ 2
+two_of_four = refl
+
+none_between : count_between one_byte.value 3 2 (1 ∷ 2 ∷ 3 ∷ 4 ∷ []) ≡ 0
+none_between = refl

@@ -1,7 +1,8 @@
 -- Statuses worked out by hand. Each line computes: it is proved by `refl`.
 use Rattle.std.specs.Prelude.{◌≡◌, true, false, refl}
 use Rattle.v_frame_c.specs.Layout.{fits}
-use Rattle.v_frame_c.specs.Status.{status_of_two, same_size, times_size}
+use Rattle.v_frame_c.specs.Sizes.{have_areas, is_counted}
+use Rattle.v_frame_c.specs.Status.{status_of_sized, status_of_two, same_size, times_size}
 use Rattle.v_frame_c.specs.declared.layout.Rows.{Rows}
 
 abbrev four_by_two : Rows
@@ -22,3 +23,17 @@ other_sizes = refl
 
 half : times_size 2 two_by_one four_by_two ≡ true
 half = refl
+
+unsized : status_of_sized (fits four_by_two 10) false ≡ 3
+unsized = refl
+
+small_areas : have_areas two_by_one four_by_two ≡ true
+small_areas = refl
+
+-- lines of 2 ^ 33 pixels beside lines of 2 ^ 31
+long_lines : have_areas (record two_by_one { width = 8589934592 })
+    (record four_by_two { width = 2147483648 }) ≡ false
+long_lines = refl
+
+beyond_the_count : is_counted (record two_by_one { height = 4611686018427387904 }) ≡ false
+beyond_the_count = refl

@@ -100,35 +100,42 @@ fn write_colours(
 }
 
 impl ColourChoice {
-    /// Returns the coefficients, where the numbers stand for a choice.
+    /// Returns whether the numbers stand for a choice.
+    pub fn is_known(&self) -> bool
+        ensures { result ≡ is_choice self.now }
+    {
+        self.standard < 3 && self.range < 2 && self.order < 4
+    }
+
+    /// Returns the coefficients towards colours, where the numbers stand for a choice.
     pub fn matrix(&self) -> Option<RgbMatrix>
         ensures { SomeIff result (IsTrue (is_choice self.now)) (matrix_by self.now) }
     {
-        if self.standard >= 3 || self.range >= 2 || self.order >= 4 {
+        if !self.is_known() {
             return None;
         }
-        Some(RgbMatrix::new(standard_of(self.standard), range_of(self.range)))
+        Some(RgbMatrix::new(self.standard(), self.range()))
     }
-}
 
-/// Returns the standard of a number.
-fn standard_of(number: u32) -> Standard
-    ensures { result ≡ standard_by number }
-{
-    match number {
-        0 => Standard::Bt601,
-        1 => Standard::Bt709,
-        _ => Standard::Bt2020,
+    /// Returns the standard.
+    pub fn standard(&self) -> Standard
+        ensures { result ≡ standard_by self.now.standard }
+    {
+        match self.standard {
+            0 => Standard::Bt601,
+            1 => Standard::Bt709,
+            _ => Standard::Bt2020,
+        }
     }
-}
 
-/// Returns the range of a number.
-fn range_of(number: u32) -> ColourRange
-    ensures { result ≡ range_by number }
-{
-    match number {
-        0 => ColourRange::Limited,
-        _ => ColourRange::Full,
+    /// Returns the range.
+    pub fn range(&self) -> ColourRange
+        ensures { result ≡ range_by self.now.range }
+    {
+        match self.range {
+            0 => ColourRange::Limited,
+            _ => ColourRange::Full,
+        }
     }
 }
 

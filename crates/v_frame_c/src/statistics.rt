@@ -42,13 +42,13 @@ pub fn of_picture<T: Pixel>(rows: &Rows, buffer: &[T], found: &mut Statistics) -
     let Some(rows) = rows.of(buffer) else {
         return FIRST;
     };
-    let sums = statistics::variance(&rows);
+    let of_rows = statistics::statistics(&rows);
     *found = Statistics {
-        count: sums.count as u64,
-        sum: Sum::of(sums.sum),
-        sum_of_squares: Sum::of(sums.sum_of_squares),
-        minimum: u32::from(statistics::minimum(&rows).into_u16()),
-        maximum: u32::from(statistics::maximum(&rows).into_u16()),
+        count: of_rows.count as u64,
+        sum: Sum::of(of_rows.sum),
+        sum_of_squares: Sum::of(of_rows.sum_of_squares),
+        minimum: u32::from(of_rows.minimum.into_u16()),
+        maximum: u32::from(of_rows.maximum.into_u16()),
     };
     OK
 }

@@ -1,0 +1,129 @@
+//! Three planes of one size of colours.
+ghost use Rattle.std.specs.Prelude.{◌≡◌, ◌≢◌, ◌*◌, ◌<◌, ◌&&◌, IsTrue, SomeIff, length};
+ghost use Rattle.v_frame.specs.Prelude.{height_of, strided_rows, width_of, KeepsRest, RowsFit};
+ghost use Rattle.v_frame_c.specs.ColourChoice.{colour_by, is_choice, size_by, yuv_matrix_by};
+ghost use Rattle.v_frame_c.specs.Layout.{fits, picture};
+ghost use Rattle.v_frame_c.specs.Status.{encoded_size, same_size, status_of_four, status_of_number};
+ghost use Rattle.v_frame_rgb.specs.Prelude.{sample_rows, u_of, v_of, y_of};
+
+use crate::colours::ColourChoice;
+use crate::layout::Rows;
+use crate::status::{FIRST, FOURTH, NUMBER, OK, SECOND, SIZES, THIRD};
+use v_frame::plane::RowsRef;
+use v_frame_rgb::{Bgr, Bgra, Rgb, Rgba, YuvMatrix, rows as colours};
+
+/// Makes the second, the third and the fourth rows the luma and the chroma of the colours of the first ones.
+pub fn of_rgb(
+    rows: &Rows,
+    buffer: &[u8],
+    y_rows: &Rows,
+    y: &mut [u8],
+    u_rows: &Rows,
+    u: &mut [u8],
+    v_rows: &Rows,
+    v: &mut [u8],
+    choice: &ColourChoice,
+) -> u32
+    ensures status { result ≡ status_of_number (is_choice choice.now)
+        (status_of_four (fits rows.now (length buffer.now)) (fits y_rows.now (length y.old))
+        (fits u_rows.now (length u.old)) (fits v_rows.now (length v.old))
+        (encoded_size (size_by choice.now.order) y_rows.now rows.now
+        && (same_size y_rows.now u_rows.now && same_size y_rows.now v_rows.now))) }
+    ensures luma { result ≡ 0 → picture y_rows.now y.new
+        ≡ sample_rows (y_of (yuv_matrix_by choice.now)) (colour_by choice.now.order)
+        (size_by choice.now.order) y_rows.now.width (picture rows.now buffer.now) }
+    ensures chroma_u { result ≡ 0 → picture u_rows.now u.new
+        ≡ sample_rows (u_of (yuv_matrix_by choice.now)) (colour_by choice.now.order)
+        (size_by choice.now.order) y_rows.now.width (picture rows.now buffer.now) }
+    ensures chroma_v { result ≡ 0 → picture v_rows.now v.new
+        ≡ sample_rows (v_of (yuv_matrix_by choice.now)) (colour_by choice.now.order)
+        (size_by choice.now.order) y_rows.now.width (picture rows.now buffer.now) }
+    ensures y_rest { KeepsRest y_rows.now.width y_rows.now.height y_rows.now.stride y.old y.new }
+    ensures u_rest { KeepsRest u_rows.now.width u_rows.now.height u_rows.now.stride u.old u.new }
+    ensures v_rest { KeepsRest v_rows.now.width v_rows.now.height v_rows.now.stride v.old v.new }
+    ensures y_refused { result ≢ 0 → y.new ≡ y.old }
+    ensures u_refused { result ≢ 0 → u.new ≡ u.old }
+    ensures v_refused { result ≢ 0 → v.new ≡ v.old }
+{
+    let Some(matrix) = choice.yuv_matrix() else {
+        return NUMBER;
+    };
+    let Some(source) = rows.of(buffer) else {
+        return FIRST;
+    };
+    if !y_rows.fit(y.len()) {
+        return SECOND;
+    }
+    if !u_rows.fit(u.len()) {
+        return THIRD;
+    }
+    if !v_rows.fit(v.len()) {
+        return FOURTH;
+    }
+    if !rows.have_colours_of(y_rows, choice.order)
+        || !y_rows.same_size(u_rows)
+        || !y_rows.same_size(v_rows)
+    {
+        return SIZES;
+    }
+    let strides = (y_rows.stride, u_rows.stride, v_rows.stride);
+    write_samples(
+        &source,
+        matrix,
+        y,
+        u,
+        v,
+        (y_rows.width, y_rows.height),
+        strides,
+        choice.order,
+    );
+    OK
+}
+
+/// Writes the samples of colours in one of these orders.
+fn write_samples(
+    source: &RowsRef<'_, u8>,
+    matrix: YuvMatrix,
+    y: &mut [u8],
+    u: &mut [u8],
+    v: &mut [u8],
+    size: (usize, usize),
+    strides: (usize, usize, usize),
+    order: u32,
+)
+    requires known { order < 4 }
+    requires y_fit { RowsFit size.0 size.1 strides.0 (length y.old) }
+    requires u_fit { RowsFit size.0 size.1 strides.1 (length u.old) }
+    requires v_fit { RowsFit size.0 size.1 strides.2 (length v.old) }
+    requires wide { width_of source.now ≡ size_by order * size.0 }
+    requires high { height_of source.now ≡ size.1 }
+    ensures luma { strided_rows size.0 size.1 strides.0 y.new
+        ≡ sample_rows (y_of matrix) (colour_by order) (size_by order) size.0 source.now }
+    ensures chroma_u { strided_rows size.0 size.1 strides.1 u.new
+        ≡ sample_rows (u_of matrix) (colour_by order) (size_by order) size.0 source.now }
+    ensures chroma_v { strided_rows size.0 size.1 strides.2 v.new
+        ≡ sample_rows (v_of matrix) (colour_by order) (size_by order) size.0 source.now }
+    ensures y_rest { KeepsRest size.0 size.1 strides.0 y.old y.new }
+    ensures u_rest { KeepsRest size.0 size.1 strides.1 u.old u.new }
+    ensures v_rest { KeepsRest size.0 size.1 strides.2 v.old v.new }
+{
+    let (width, height) = size;
+    match order {
+        0 => colours::rgb_to_yuv444::<Rgb>(source, matrix, y, u, v, width, height, strides),
+        1 => colours::rgb_to_yuv444::<Bgr>(source, matrix, y, u, v, width, height, strides),
+        2 => colours::rgb_to_yuv444::<Rgba>(source, matrix, y, u, v, width, height, strides),
+        _ => colours::rgb_to_yuv444::<Bgra>(source, matrix, y, u, v, width, height, strides),
+    }
+}
+
+impl ColourChoice {
+    /// Returns the coefficients towards samples, where the numbers stand for a choice.
+    pub fn yuv_matrix(&self) -> Option<YuvMatrix>
+        ensures { SomeIff result (IsTrue (is_choice self.now)) (yuv_matrix_by self.now) }
+    {
+        if !self.is_known() {
+            return None;
+        }
+        Some(YuvMatrix::new(self.standard(), self.range()))
+    }
+}
