@@ -1,0 +1,4 @@
+pub mod Columns
+pub mod Labels
+pub mod Marks
+pub mod WorkedCharts

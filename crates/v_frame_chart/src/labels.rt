@@ -1,0 +1,51 @@
+//! Texts of a chart: words with XML's escapes, and numbers.
+ghost use Rattle.std.specs.Prelude.{◌≡◌, ◌++◌, OnOk, string_bytes};
+ghost use Rattle.v_frame_chart.specs.Labels.{allowed, escaped, escaped_words};
+
+use std::alloc::AllocError;
+
+/// Appends words, with XML's escapes for what would end a text or an attribute, and `?` for characters that XML does
+/// not allow.
+pub(crate) fn push_escaped(text: &mut String, words: &str) -> Result<(), AllocError>
+    ensures { OnOk result (string_bytes text.new ≡ string_bytes text.old ++ escaped_words words.now) }
+{
+    for letter in words.chars() {
+        push_letter(text, letter)?;
+    }
+    Ok(())
+}
+
+/// Appends a character.
+fn push_letter(text: &mut String, letter: char) -> Result<(), AllocError>
+    ensures { OnOk result (string_bytes text.new ≡ string_bytes text.old ++ escaped letter) }
+{
+    match letter {
+        '&' => text.push_str("&amp;"),
+        '<' => text.push_str("&lt;"),
+        '>' => text.push_str("&gt;"),
+        '"' => text.push_str("&quot;"),
+        '\'' => text.push_str("&#39;"),
+        letter => text.push(if is_allowed(letter) { letter } else { '?' }),
+    }
+}
+
+/// Returns whether XML 1.0 allows a character.
+fn is_allowed(letter: char) -> bool
+    ensures { result ≡ allowed letter }
+{
+    let code = u32::from(letter);
+    code >= 32 && code != 0xfffe && code != 0xffff || code == 9 || code == 10 || code == 13
+}
+
+/// Appends a number with so many digits after the point, at most 6.
+pub(crate) fn push_number(text: &mut String, number: f64, digits: i32) -> Result<(), AllocError> {
+    match digits {
+        0 => write!(text, "{number:.0}"),
+        1 => write!(text, "{number:.1}"),
+        2 => write!(text, "{number:.2}"),
+        3 => write!(text, "{number:.3}"),
+        4 => write!(text, "{number:.4}"),
+        5 => write!(text, "{number:.5}"),
+        _ => write!(text, "{number:.6}"),
+    }
+}

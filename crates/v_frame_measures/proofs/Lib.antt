@@ -1,0 +1,4 @@
+pub mod Differing
+pub mod Halves
+pub mod Joined
+pub mod Lines

@@ -1,0 +1,9 @@
+-- No difference so far is greater, and it is one of them.
+use Rattle.v_frame_measures.specs.Differences.{DifferNoMore, DifferSomewhere}
+use Rattle.v_frame_measures.proofs.differences.greatest_of_rows.Given as goal
+
+abbrev pub invariant-loop-x : goal.invariant-loop-x
+invariant-loop-x g l = record {
+  bound : DifferNoMore g.T.Pixel.form.value l.row l.other l.x l.greatest;
+  there : DifferSomewhere g.T.Pixel.form.value l.row l.other l.greatest;
+}

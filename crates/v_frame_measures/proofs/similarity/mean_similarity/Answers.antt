@@ -1,0 +1,13 @@
+-- One more line.
+use Rattle.std.proofs.Common.{ap, ◌∙◌}
+use Rattle.std.specs.Float.Ieee.{binary64}
+use Rattle.v_frame_measures.specs.Ssim.{constants_of, line_format, line_of, peak_of}
+use Rattle.v_frame_measures.proofs.Lines.{one_more}
+use Rattle.v_frame_measures.proofs.similarity.mean_similarity.Goals as goal
+
+pub loop-y-preserved : goal.loop-y-preserved
+loop-y-preserved g c =
+    let form = g.T.Pixel.form in let a = c.args.a.now in let b = c.args.b.now in let y = c.loop-y.y in
+    let format = line_format form.size in
+    one_more binary64 (line_of form (constants_of (peak_of c.args.bit_depth)) a b format) y _ _ c.loop-y.invariant
+    (c.line-sum.ensures ∙ ap (λ constants. line_of form constants a b format y) c.of_depth-constants.ensures.value)

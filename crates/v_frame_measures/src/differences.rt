@@ -1,0 +1,109 @@
+//! Differences of the values of two planes, place by place.
+ghost use Rattle.std.specs.Prelude.{◌≡◌, ◌<◌, length, nat_lt};
+ghost use Rattle.std.specs.Int.{abs_diff};
+ghost use Rattle.v_frame.specs.Prelude.{height_of, row_major, table_of, width_of};
+ghost use Rattle.v_frame_statistics.specs.Prelude.{passing_pairs};
+ghost use Rattle.v_frame_measures.specs.Differences.{DifferFirstBy, DifferNoMore, DifferSomewhere, IsGreatestDifference};
+
+use v_frame::pixel::Pixel;
+use v_frame::plane::{PlaneRef, RowsRef};
+use v_frame_statistics::count_pairs;
+
+/// The greatest difference of two planes, and the first place that has it.
+#[derive(Clone, Copy, Debug, PartialEq, Eq)]
+pub struct GreatestDifference {
+    /// How far the values there are apart.
+    pub difference: u16,
+    /// The column, counted from 0.
+    pub x: usize,
+    /// The row, counted from 0.
+    pub y: usize,
+}
+
+/// Returns at how many places the values of two planes of one size are further apart than a threshold.
+pub fn count_above<T: Pixel>(a: &PlaneRef<'_, T>, b: &PlaneRef<'_, T>, threshold: u16) -> usize
+    requires wide { a.now.geometry.width ≡ b.now.geometry.width }
+    requires high { a.now.geometry.height ≡ b.now.geometry.height }
+    ensures { result ≡ passing_pairs
+        (λ p q. nat_lt threshold (abs_diff (T.form.value p) (T.form.value q)))
+        (row_major (table_of a.now)) (row_major (table_of b.now)) }
+{
+    count_pairs(a, b, |p, q| difference_of(p, q) > threshold)
+}
+
+/// Returns the greatest difference of the values of two planes of one size, and the first place that has it, row after
+/// row from the top.
+pub fn greatest_difference<T: Pixel>(a: &PlaneRef<'_, T>, b: &PlaneRef<'_, T>) -> GreatestDifference
+    requires wide { a.now.geometry.width ≡ b.now.geometry.width }
+    requires high { a.now.geometry.height ≡ b.now.geometry.height }
+    ensures { IsGreatestDifference T.form.value (table_of a.now) (table_of b.now) result }
+{
+    greatest_difference_of_rows(&a.as_rows_ref(), &b.as_rows_ref())
+}
+
+/// Returns the greatest difference of two pictures of one size.
+fn greatest_difference_of_rows<T: Pixel>(
+    a: &RowsRef<'_, T>,
+    b: &RowsRef<'_, T>,
+) -> GreatestDifference
+    requires wide { width_of a.now ≡ width_of b.now }
+    requires high { height_of a.now ≡ height_of b.now }
+    ensures { IsGreatestDifference T.form.value a.now b.now result }
+{
+    let _sizes = (b.height(), b.width());
+    let (row, other) = (a.visible_row(0), b.visible_row(0));
+    let difference = greatest_of_rows(row, other);
+    let mut found = GreatestDifference {
+        difference,
+        x: first_place(row, other, difference),
+        y: 0,
+    };
+    for y in 1..a.height() {
+        let (row, other) = (a.visible_row(y), b.visible_row(y));
+        let difference = greatest_of_rows(row, other);
+        if difference > found.difference {
+            let x = first_place(row, other, difference);
+            found = GreatestDifference { difference, x, y };
+        }
+    }
+    found
+}
+
+/// Returns the greatest difference of two rows.
+fn greatest_of_rows<T: Pixel>(row: &[T], other: &[T]) -> u16
+    requires some { 0 < length row.now }
+    requires same { length other.now ≡ length row.now }
+    ensures bound { DifferNoMore T.form.value row.now other.now (length row.now) result }
+    ensures there { DifferSomewhere T.form.value row.now other.now result }
+{
+    let mut greatest = difference_of(row[0], other[0]);
+    for x in 1..row.len() {
+        let difference = difference_of(row[x], other[x]);
+        if difference > greatest {
+            greatest = difference;
+        }
+    }
+    greatest
+}
+
+/// Returns the first index at which two rows have a difference.
+fn first_place<T: Pixel>(row: &[T], other: &[T], difference: u16) -> usize
+    requires same { length other.now ≡ length row.now }
+    requires there { DifferSomewhere T.form.value row.now other.now difference }
+    ensures { DifferFirstBy T.form.value row.now other.now difference result }
+{
+    for x in 0..row.len() {
+        if difference_of(row[x], other[x]) == difference {
+            return x;
+        }
+    }
+    0
+}
+
+/// Returns how far the values of two pixels are apart.
+#[inline(always)]
+fn difference_of<T: Pixel>(p: T, q: T) -> u16
+    ensures { result ≡ abs_diff (T.form.value p) (T.form.value q) }
+{
+    p.into_u16().abs_diff(q.into_u16())
+}

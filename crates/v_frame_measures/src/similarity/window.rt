@@ -1,0 +1,51 @@
+//! The similarity of two windows, of the sums over them.
+ghost use Rattle.std.specs.Prelude.{◌≡◌, ◌*◌, ◌<◌, ◌≤◌, ◌^◌};
+ghost use Rattle.v_frame_measures.specs.PixelSums.{AreSumsOver};
+ghost use Rattle.v_frame_measures.specs.Ssim.{constants_of, peak_of, similarity_of};
+
+use crate::casts::{nearest_f32, nearest_f32_to_difference};
+use crate::similarity::sums::PixelSums;
+
+/// What keeps the quotients of SSIM from having a divisor near zero.
+#[derive(Clone, Copy)]
+pub struct SsimConstants {
+    /// That of the means.
+    pub means: u64,
+    /// That of the variances and the covariance.
+    pub variances: u64,
+}
+
+impl SsimConstants {
+    /// Returns those for so many bits of a sample, at most 16.
+    pub(crate) fn of_depth(bit_depth: u8) -> Self
+        ensures value { result ≡ constants_of (peak_of bit_depth) }
+        ensures means { result.means < 2 ^ 40 }
+        ensures variances { result.variances < 2 ^ 40 }
+    {
+        let peak: u64 = (1 << bit_depth.min(16)) - 1;
+        SsimConstants {
+            means: (64 * (peak * peak) + 5000) / 10000,
+            variances: (36288 * (peak * peak) + 5000) / 10000,
+        }
+    }
+}
+
+/// Returns the similarity of two windows of 8 by 8 pixels that have these sums.
+#[inline(always)]
+pub(crate) fn similarity(constants: &SsimConstants, sums: &PixelSums) -> f32
+    requires sums { AreSumsOver 64 sums.now }
+    requires means { constants.now.means < 2 ^ 40 }
+    requires variances { constants.now.variances < 2 ^ 40 }
+    ensures { result ≡ similarity_of constants.now sums.now }
+{
+    let product = sums.first * sums.second;
+    let squares = sums.first * sums.first + sums.second * sums.second;
+    let means = nearest_f32(2 * product + constants.means);
+    let covariance = nearest_f32_to_difference(
+        128 * sums.products + constants.variances,
+        2 * product,
+    );
+    let mean_squares = nearest_f32(squares + constants.means);
+    let variances = nearest_f32_to_difference(64 * sums.squares + constants.variances, squares);
+    means * covariance / (mean_squares * variances)
+}
