@@ -1,0 +1,9 @@
+pub mod AdlerSteps
+pub mod BlockParts
+pub mod ChunkSizes
+pub mod CrcSteps
+pub mod DecodingSteps
+pub mod Files
+pub mod MadeSteps
+pub mod Outcomes
+pub mod RowLists

@@ -1,0 +1,14 @@
+pub mod Adler
+pub mod Chunks
+pub mod Crc
+pub mod Decoding
+pub mod Header
+pub mod Made
+pub mod MadeInside
+pub mod Prelude
+pub mod Refusals
+pub mod Samples
+pub mod Sending
+pub mod WorkedPictures
+pub mod Writing
+pub mod Zlib
