@@ -1,0 +1,166 @@
+-- The first word of a token tells the token, so words are read into tokens in one way.
+use Rattle.std.proofs.Common.{ℕ, ◌≡◌, ◌≢◌, ◌<◌, true, false, List, [], ◌∷◌, ◌++◌, length, get_or, drop}
+use Rattle.std.proofs.Common.{refl, sym, ◌∙◌, ap, subst, append_assoc, rules, inl, inr}
+use Rattle.std.specs.Prelude.{All}
+use Rattle.std.proofs.lemmas.List.Elements.{All-head, All-tail}
+use Rattle.yuv_words.specs.Faults.{Names}
+use Rattle.yuv_words.specs.Names.{option_text, takes_value}
+use Rattle.yuv_words.specs.Words.{joined_text, spelled, token_words, Apart, File, Flag, IsFileWord, IsToken, Joined}
+use Rattle.yuv_words.specs.Words.{Token}
+use Rattle.yuv_words.specs.declared.option_name.OptionName.{OptionName}
+use Rattle.yuv_words.specs.declared.option_name.OptionName.TheVariants as option
+use Rattle.yuv_words.proofs.Cuts.{cut_same, inside, lacks_from, marked, plain, tails, Lacks}
+use Rattle.yuv_words.proofs.Places.{one_option}
+
+text_plain : (n : OptionName) → plain 61 (option_text n) ≡ true
+text_plain option.Header = refl
+text_plain option.Ssim = refl
+text_plain option.Frames = refl
+text_plain option.Exact = refl
+text_plain option.Csv = refl
+text_plain option.Json = refl
+text_plain option.Half = refl
+text_plain option.Planes = refl
+text_plain option.Histogram = refl
+text_plain option.RawOutput = refl
+text_plain option.Progress = refl
+text_plain option.Raw = refl
+text_plain option.RawSecond = refl
+text_plain option.MaxPixels = refl
+text_plain option.Skip = refl
+text_plain option.SkipSecond = refl
+text_plain option.Count = refl
+text_plain option.Crop = refl
+text_plain option.Format = refl
+text_plain option.Rate = refl
+text_plain option.Aspect = refl
+text_plain option.Frame = refl
+text_plain option.Matrix = refl
+text_plain option.Range = refl
+text_plain option.Plane = refl
+text_plain option.Gain = refl
+
+pub text_dashed : (n : OptionName) → option_text n ≡ 45 ∷ 45 ∷ drop 2 (option_text n)
+text_dashed option.Header = refl
+text_dashed option.Ssim = refl
+text_dashed option.Frames = refl
+text_dashed option.Exact = refl
+text_dashed option.Csv = refl
+text_dashed option.Json = refl
+text_dashed option.Half = refl
+text_dashed option.Planes = refl
+text_dashed option.Histogram = refl
+text_dashed option.RawOutput = refl
+text_dashed option.Progress = refl
+text_dashed option.Raw = refl
+text_dashed option.RawSecond = refl
+text_dashed option.MaxPixels = refl
+text_dashed option.Skip = refl
+text_dashed option.SkipSecond = refl
+text_dashed option.Count = refl
+text_dashed option.Crop = refl
+text_dashed option.Format = refl
+text_dashed option.Rate = refl
+text_dashed option.Aspect = refl
+text_dashed option.Frame = refl
+text_dashed option.Matrix = refl
+text_dashed option.Range = refl
+text_dashed option.Plane = refl
+text_dashed option.Gain = refl
+
+pub text_lacks : (n : OptionName) → Lacks 61 (option_text n)
+text_lacks n = lacks_from 61 (option_text n) (text_plain n)
+
+pub alone_or_joined : (n m : OptionName) (value : List ℕ) → option_text n ≢ joined_text m value
+alone_or_joined n m value is = text_lacks n (length (option_text m))
+    (subst (λ (w : List ℕ). length (option_text m) < length w) (sym is) (inside (option_text m) value 61))
+    (ap (λ (w : List ℕ). get_or w (length (option_text m)) 0) is ∙ marked (option_text m) value 61)
+
+pub joined_once : (n m : OptionName) (value other : List ℕ) → joined_text n value ≡ joined_text m other
+    → (n ≡ m) × (value ≡ other)
+joined_once n m value other is =
+    let cut = cut_same 61 (option_text n) (option_text m) value other (text_lacks n) (text_lacks m) is in
+    (one_option n m cut.0, cut.1)
+
+dashed_no_file : (word rest : List ℕ) → word ≡ 45 ∷ 45 ∷ rest → IsFileWord word → ⊥
+dashed_no_file word rest is (inl other) = other (ap (λ (w : List ℕ). get_or w 0 0) is)
+dashed_no_file word rest is (inr lone) = search (rules, ap (λ (w : List ℕ). length w) (sym is ∙ lone))
+
+pub option_no_file : (n : OptionName) (word : List ℕ) → Names word n → IsFileWord word → ⊥
+option_no_file n word (inl is) file = dashed_no_file word _ (is ∙ text_dashed n) file
+option_no_file n word (inr joined) file =
+    dashed_no_file word _ (joined.1 ∙ ap (λ (t : List ℕ). t ++ 61 ∷ joined.0) (text_dashed n)) file
+
+-- a word names one option at most
+pub names_once : (n m : OptionName) (word : List ℕ) → Names word n → Names word m → n ≡ m
+names_once n m word (inl one) (inl other) = one_option n m (sym one ∙ other)
+names_once n m word (inl one) (inr other) = absurd (alone_or_joined n m other.0 (sym one ∙ other.1))
+names_once n m word (inr one) (inl other) = absurd (alone_or_joined m n one.0 (sym other ∙ one.1))
+names_once n m word (inr one) (inr other) = (joined_once n m one.0 other.0 (sym one.1 ∙ other.1)).0
+
+pub head_of : {A : Type 0} (x y : A) (xs ys : List A) → x ∷ xs ≡ y ∷ ys → x ≡ y
+head_of x y xs ys is = ap (λ zs. get_or zs 0 x) is
+
+clash : (n m : OptionName) → n ≡ m → takes_value n ≡ false → takes_value m ≡ true → ⊥
+clash n m is lacks takes = search (rules, sym lacks ∙ ap takes_value is ∙ takes)
+
+-- two tokens that begin the same words are one
+pub one_head : (t u : Token) (xs ys : List (List ℕ)) → IsToken t → IsToken u
+    → token_words t ++ xs ≡ token_words u ++ ys → (t ≡ u) × (xs ≡ ys)
+one_head (File a) (File b) xs ys one other is = (ap File (head_of a b xs ys is), tails a b xs ys is)
+one_head (File a) (Flag m) xs ys one other is = absurd (option_no_file m a (inl (head_of a _ xs ys is)) one)
+one_head (File a) (Apart m v) xs ys one other is = absurd (option_no_file m a (inl (head_of a _ xs (v ∷ ys) is)) one)
+one_head (File a) (Joined m v) xs ys one other is = absurd (option_no_file m a (inr (v, head_of a _ xs ys is)) one)
+one_head (Flag n) (File b) xs ys one other is = absurd (option_no_file n b (inl (sym (head_of _ b xs ys is))) other)
+one_head (Flag n) (Flag m) xs ys one other is =
+    (ap Flag (one_option n m (head_of _ _ xs ys is)), tails _ _ xs ys is)
+one_head (Flag n) (Apart m v) xs ys one other is =
+    absurd (clash n m (one_option n m (head_of _ _ xs (v ∷ ys) is)) one other)
+one_head (Flag n) (Joined m v) xs ys one other is = absurd (alone_or_joined n m v (head_of _ _ xs ys is))
+one_head (Apart n v) (File b) xs ys one other is =
+    absurd (option_no_file n b (inl (sym (head_of _ b (v ∷ xs) ys is))) other)
+one_head (Apart n v) (Flag m) xs ys one other is =
+    absurd (clash m n (one_option m n (sym (head_of _ _ (v ∷ xs) ys is))) other one)
+one_head (Apart n v) (Apart m u) xs ys one other is =
+    let option = one_option n m (head_of _ _ (v ∷ xs) (u ∷ ys) is) in
+    let rest : v ∷ xs ≡ u ∷ ys = tails _ _ (v ∷ xs) (u ∷ ys) is in
+    (ap (λ k. Apart k v) option ∙ ap (Apart m) (head_of v u xs ys rest), tails v u xs ys rest)
+one_head (Apart n v) (Joined m u) xs ys one other is = absurd (alone_or_joined n m u (head_of _ _ (v ∷ xs) ys is))
+one_head (Joined n v) (File b) xs ys one other is = absurd (option_no_file n b (inr (v, sym (head_of _ b xs ys is))) other)
+one_head (Joined n v) (Flag m) xs ys one other is = absurd (alone_or_joined m n v (sym (head_of _ _ xs ys is)))
+one_head (Joined n v) (Apart m u) xs ys one other is = absurd (alone_or_joined m n v (sym (head_of _ _ xs (u ∷ ys) is)))
+one_head (Joined n v) (Joined m u) xs ys one other is =
+    let both = joined_once n m v u (head_of _ _ xs ys is) in
+    (ap (λ k. Joined k v) both.0 ∙ ap (Joined m) both.1, tails _ _ xs ys is)
+
+nothing : {A : Type 0} (x : A) (xs : List A) → [] ≡ x ∷ xs → ⊥
+nothing x xs is = search rules
+
+pub no_first : (t : Token) (xs : List (List ℕ)) → [] ≡ token_words t ++ xs → ⊥
+no_first (File a) xs is = nothing a xs is
+no_first (Flag n) xs is = nothing _ xs is
+no_first (Apart n v) xs is = nothing _ (v ∷ xs) is
+no_first (Joined n v) xs is = nothing _ xs is
+
+-- the tokens behind those that the words begin with
+pub record Behind (tokens begun : List Token) (rest : List (List ℕ)) : Type 0 where
+  pub more : List Token
+  pub joined : tokens ≡ begun ++ more
+  pub are : All IsToken more
+  pub front : spelled more ≡ rest
+
+pub go_on : (tokens begun : List Token) (rest : List (List ℕ)) → All IsToken tokens → All IsToken begun
+    → spelled tokens ≡ spelled begun ++ rest → Behind tokens begun rest
+go_on tokens [] rest are begin is = record { more = tokens; joined = refl; are = are; front = is }
+go_on [] (t ∷ begun) rest are begin is =
+    absurd (no_first t (spelled begun ++ rest) (is ∙ append_assoc (token_words t) (spelled begun) rest))
+go_on (u ∷ tokens) (t ∷ begun) rest are begin is =
+    let both = one_head u t (spelled tokens) (spelled begun ++ rest) (All-head IsToken u tokens are)
+    (All-head IsToken t begun begin) (is ∙ append_assoc (token_words t) (spelled begun) rest) in
+    let more = go_on tokens begun rest (All-tail IsToken u tokens are) (All-tail IsToken t begun begin) both.1 in
+    record {
+      more = more.more;
+      joined = ap (λ x. x ∷ tokens) both.0 ∙ ap (λ xs. t ∷ xs) more.joined;
+      are = more.are;
+      front = more.front;
+    }

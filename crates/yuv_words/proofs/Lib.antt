@@ -1,0 +1,10 @@
+pub mod Callings
+pub mod CanonicalCalls
+pub mod Cuts
+pub mod Heads
+pub mod OneCommand
+pub mod Places
+pub mod Refusals
+pub mod Said
+pub mod Texts
+pub mod TokenSteps

@@ -1,0 +1,147 @@
+-- What is given says no value.
+use Rattle.std.proofs.Common.{ℕ, ◌≡◌, ◌<◌, List, [], ◌∷◌, ◌++◌, length, get_or, sym, ◌∙◌, ap, subst, arith, rules, inl, inr}
+use Rattle.std.proofs.Common.{true, refl, append-nil}
+use Rattle.std.specs.Prelude.{None, Option, Some, ◌⊎◌}
+use Rattle.v_frame_y4m.specs.Header.{ratio_text, FitsRatio}
+use Rattle.v_frame_y4m.specs.declared.colour.Colour.TheVariants as colour
+use Rattle.v_frame_y4m.specs.declared.colour.Depth.TheVariants as depth
+use Rattle.v_frame_y4m.specs.declared.header.Ratio.{Ratio}
+use Rattle.v_frame_semi_planar.specs.declared.format.SemiPlanarFormat.TheVariants as layout
+use Rattle.yuv_words.specs.Commands.{SaysValue}
+use Rattle.yuv_words.specs.Formats.{ffmpeg_name, short_name, IsFormat}
+use Rattle.yuv_words.specs.Values.{IsRaw, IsRectangle, SpellsFormat, SpellsRaw, SpellsRectangle}
+use Rattle.yuv_words.specs.declared.command.RawVideo.{RawVideo}
+use Rattle.yuv_words.specs.declared.command.Rectangle.{Rectangle}
+use Rattle.yuv_words.specs.declared.format.VideoFormat.{VideoFormat}
+use Rattle.yuv_words.specs.declared.format.VideoFormat.TheVariants.{Planar, SemiPlanar}
+use Rattle.yuv_words.proofs.Cuts.{cut_same, inside, lacks_from, marked, one_rectangle, one_size, plain, Lacks}
+
+nothing : {A : Type 0} (x : A) (xs : List A) → [] ≡ x ∷ xs → ⊥
+nothing x xs is = search rules
+
+head : (x y : List ℕ) (xs ys : List (List ℕ)) → x ∷ xs ≡ y ∷ ys → x ≡ y
+head x y xs ys is = ap (λ zs. get_or zs 0 x) is
+
+pub says_none : {A : Type 0} (Spells : A → List ℕ → Type 0) (given : List (List ℕ)) (word : List ℕ)
+    → given ≡ word ∷ [] → ((a : A) → ¬ (Spells a word)) → (v : Option A) → ¬ (SaysValue Spells v given)
+says_none Spells given word is none None says = nothing word [] (sym says ∙ is)
+says_none Spells given word is none (Some a) says =
+    none a (subst (Spells a) (head says.0 word [] [] (sym says.1 ∙ is)) says.2)
+
+pub no_rectangle : (given : List (List ℕ)) (word : List ℕ) (value : Rectangle) → given ≡ word ∷ []
+    → SpellsRectangle value word → (value.width ≡ 0) ⊎ (value.height ≡ 0)
+    → (v : Option Rectangle) → ¬ (SaysValue IsRectangle v given)
+no_rectangle given word value is spelled (inl zero_wide) = says_none IsRectangle given word is (λ r spells.
+    let same = one_rectangle r value word spells.0 spelled in
+    omega (arith, spells.1, ap (λ (q : Rectangle). q.width) same, zero_wide))
+no_rectangle given word value is spelled (inr zero_high) = says_none IsRectangle given word is (λ r spells.
+    let same = one_rectangle r value word spells.0 spelled in
+    omega (arith, spells.2, ap (λ (q : Rectangle). q.height) same, zero_high))
+
+pub no_raw : (given : List (List ℕ)) (word : List ℕ) (value : RawVideo) → given ≡ word ∷ []
+    → SpellsRaw value word → (value.width ≡ 0) ⊎ (value.height ≡ 0)
+    → (v : Option RawVideo) → ¬ (SaysValue IsRaw v given)
+no_raw given word value is spelled (inl zero_wide) = says_none IsRaw given word is (λ raw spells.
+    let same = one_size raw value word spells.0 spelled in omega (arith, spells.1, same.0, zero_wide))
+no_raw given word value is spelled (inr zero_high) = says_none IsRaw given word is (λ raw spells.
+    let same = one_size raw value word spells.0 spelled in omega (arith, spells.2, same.1, zero_high))
+
+-- no name of a format has an at sign
+short_plain : (f : VideoFormat) → plain 64 (short_name f) ≡ true
+short_plain (Planar colour.Unstated) = refl
+short_plain (Planar colour.Yuv420) = refl
+short_plain (Planar colour.Yuv420Jpeg) = refl
+short_plain (Planar colour.Yuv420Mpeg2) = refl
+short_plain (Planar colour.Yuv420Paldv) = refl
+short_plain (Planar colour.Yuv411) = refl
+short_plain (Planar colour.Yuv422) = refl
+short_plain (Planar colour.Yuv444) = refl
+short_plain (Planar colour.Mono) = refl
+short_plain (Planar (colour.Yuv420HighDepth depth.Nine)) = refl
+short_plain (Planar (colour.Yuv420HighDepth depth.Ten)) = refl
+short_plain (Planar (colour.Yuv420HighDepth depth.Twelve)) = refl
+short_plain (Planar (colour.Yuv420HighDepth depth.Fourteen)) = refl
+short_plain (Planar (colour.Yuv420HighDepth depth.Sixteen)) = refl
+short_plain (Planar (colour.Yuv422HighDepth depth.Nine)) = refl
+short_plain (Planar (colour.Yuv422HighDepth depth.Ten)) = refl
+short_plain (Planar (colour.Yuv422HighDepth depth.Twelve)) = refl
+short_plain (Planar (colour.Yuv422HighDepth depth.Fourteen)) = refl
+short_plain (Planar (colour.Yuv422HighDepth depth.Sixteen)) = refl
+short_plain (Planar (colour.Yuv444HighDepth depth.Nine)) = refl
+short_plain (Planar (colour.Yuv444HighDepth depth.Ten)) = refl
+short_plain (Planar (colour.Yuv444HighDepth depth.Twelve)) = refl
+short_plain (Planar (colour.Yuv444HighDepth depth.Fourteen)) = refl
+short_plain (Planar (colour.Yuv444HighDepth depth.Sixteen)) = refl
+short_plain (Planar (colour.MonoHighDepth depth.Nine)) = refl
+short_plain (Planar (colour.MonoHighDepth depth.Ten)) = refl
+short_plain (Planar (colour.MonoHighDepth depth.Twelve)) = refl
+short_plain (Planar (colour.MonoHighDepth depth.Fourteen)) = refl
+short_plain (Planar (colour.MonoHighDepth depth.Sixteen)) = refl
+short_plain (SemiPlanar layout.Nv12) = refl
+short_plain (SemiPlanar layout.Nv21) = refl
+short_plain (SemiPlanar layout.Nv16) = refl
+short_plain (SemiPlanar layout.Nv24) = refl
+short_plain (SemiPlanar layout.P010) = refl
+short_plain (SemiPlanar layout.P012) = refl
+short_plain (SemiPlanar layout.P016) = refl
+
+ffmpeg_plain : (f : VideoFormat) → plain 64 (ffmpeg_name f) ≡ true
+ffmpeg_plain (Planar colour.Unstated) = refl
+ffmpeg_plain (Planar colour.Yuv420) = refl
+ffmpeg_plain (Planar colour.Yuv420Jpeg) = refl
+ffmpeg_plain (Planar colour.Yuv420Mpeg2) = refl
+ffmpeg_plain (Planar colour.Yuv420Paldv) = refl
+ffmpeg_plain (Planar colour.Yuv411) = refl
+ffmpeg_plain (Planar colour.Yuv422) = refl
+ffmpeg_plain (Planar colour.Yuv444) = refl
+ffmpeg_plain (Planar colour.Mono) = refl
+ffmpeg_plain (Planar (colour.Yuv420HighDepth depth.Nine)) = refl
+ffmpeg_plain (Planar (colour.Yuv420HighDepth depth.Ten)) = refl
+ffmpeg_plain (Planar (colour.Yuv420HighDepth depth.Twelve)) = refl
+ffmpeg_plain (Planar (colour.Yuv420HighDepth depth.Fourteen)) = refl
+ffmpeg_plain (Planar (colour.Yuv420HighDepth depth.Sixteen)) = refl
+ffmpeg_plain (Planar (colour.Yuv422HighDepth depth.Nine)) = refl
+ffmpeg_plain (Planar (colour.Yuv422HighDepth depth.Ten)) = refl
+ffmpeg_plain (Planar (colour.Yuv422HighDepth depth.Twelve)) = refl
+ffmpeg_plain (Planar (colour.Yuv422HighDepth depth.Fourteen)) = refl
+ffmpeg_plain (Planar (colour.Yuv422HighDepth depth.Sixteen)) = refl
+ffmpeg_plain (Planar (colour.Yuv444HighDepth depth.Nine)) = refl
+ffmpeg_plain (Planar (colour.Yuv444HighDepth depth.Ten)) = refl
+ffmpeg_plain (Planar (colour.Yuv444HighDepth depth.Twelve)) = refl
+ffmpeg_plain (Planar (colour.Yuv444HighDepth depth.Fourteen)) = refl
+ffmpeg_plain (Planar (colour.Yuv444HighDepth depth.Sixteen)) = refl
+ffmpeg_plain (Planar (colour.MonoHighDepth depth.Nine)) = refl
+ffmpeg_plain (Planar (colour.MonoHighDepth depth.Ten)) = refl
+ffmpeg_plain (Planar (colour.MonoHighDepth depth.Twelve)) = refl
+ffmpeg_plain (Planar (colour.MonoHighDepth depth.Fourteen)) = refl
+ffmpeg_plain (Planar (colour.MonoHighDepth depth.Sixteen)) = refl
+ffmpeg_plain (SemiPlanar layout.Nv12) = refl
+ffmpeg_plain (SemiPlanar layout.Nv21) = refl
+ffmpeg_plain (SemiPlanar layout.Nv16) = refl
+ffmpeg_plain (SemiPlanar layout.Nv24) = refl
+ffmpeg_plain (SemiPlanar layout.P010) = refl
+ffmpeg_plain (SemiPlanar layout.P012) = refl
+ffmpeg_plain (SemiPlanar layout.P016) = refl
+
+pub name_lacks : (f : VideoFormat) (name : List ℕ) → IsFormat f name → Lacks 64 name
+name_lacks f name (named, inl is) = subst (Lacks 64) (sym is) (lacks_from 64 (short_name f) (short_plain f))
+name_lacks f name (named, inr is) = subst (Lacks 64) (sym is) (lacks_from 64 (ffmpeg_name f) (ffmpeg_plain f))
+
+-- what stands in front of the at sign is the format, and what is behind it the rate
+pub record HasRate (f : VideoFormat) (name rest : List ℕ) : Type 0 where
+  pub format : IsFormat f name
+  pub rate : Ratio
+  pub spelled : rest ≡ ratio_text rate
+  pub fits : FitsRatio rate
+
+pub format_cut : (f : VideoFormat) (r : Option Ratio) (text name rest : List ℕ) → Lacks 64 name
+    → text ≡ name ++ 64 ∷ rest → SpellsFormat f r text → HasRate f name rest
+format_cut f None text name rest lacks is spells =
+    let free = name_lacks f spells.name spells.named in
+    let same : spells.name ≡ name ++ 64 ∷ rest = sym (append-nil spells.name) ∙ sym spells.spelled ∙ is in
+    absurd (free (length name) (subst (λ (t : List ℕ). length name < length t) (sym same) (inside name rest 64))
+    (ap (λ (t : List ℕ). get_or t (length name) 0) same ∙ marked name rest 64))
+format_cut f (Some q) text name rest lacks is spells =
+    let cut = cut_same 64 name spells.name rest (ratio_text q) lacks (name_lacks f spells.name spells.named)
+    (sym is ∙ spells.spelled) in
+    record { format = subst (IsFormat f) (sym cut.0) spells.named; rate = q; spelled = cut.1; fits = spells.fits }

@@ -1,0 +1,150 @@
+-- What is wrong with words that ask for nothing.
+use Rattle.std.specs.Prelude.{ℕ, ◌≡◌, ◌≢◌, ◌≤◌, ◌<◌, ◌⊎◌, ◌++◌, ⊤, All, Contains, List, [], ◌∷◌, false, true, length}
+use Rattle.yuv_words.specs.Calls.{version_word, IsHelpWord}
+use Rattle.yuv_words.specs.Formats.{IsFormat}
+use Rattle.yuv_words.specs.Names.{command_text, file_count, option_text, options_of, takes_value}
+use Rattle.yuv_words.specs.Values.{IsColourRange, IsGain, IsMatrix, IsNumber, IsPlane, IsRatio, SpellsRaw}
+use Rattle.yuv_words.specs.Values.{SpellsRectangle}
+use Rattle.yuv_words.specs.Words.{after_end, before_end, files_of, joined_text, spelled, values_of, IsFileWord}
+use Rattle.yuv_words.specs.Words.{IsToken, Token}
+use Rattle.yuv_words.specs.declared.command.CommandName.{CommandName}
+use Rattle.yuv_words.specs.declared.command.RawVideo.{RawVideo}
+use Rattle.yuv_words.specs.declared.command.Rectangle.{Rectangle}
+use Rattle.yuv_words.specs.declared.error.UsageError.{UsageError}
+use Rattle.yuv_words.specs.declared.error.UsageError.TheVariants as fault
+use Rattle.yuv_words.specs.declared.option_name.OptionName.{OptionName}
+use Rattle.yuv_words.specs.declared.option_name.OptionName.TheVariants as option
+
+-- the text spells no value
+abbrev pub SpellsNone : {A : Type 0} → (A → List ℕ → Type 0) → List ℕ → Type 0
+SpellsNone {A} Spells text = (a : A) → ¬ (Spells a text)
+
+-- the text spells no value of the option, with pixels or without
+abbrev pub IsNoValue : OptionName → List ℕ → Type 0
+IsNoValue option.Raw text = SpellsNone SpellsRaw text
+IsNoValue option.MaxPixels text = SpellsNone IsNumber text
+IsNoValue option.Skip text = SpellsNone IsNumber text
+IsNoValue option.SkipSecond text = SpellsNone IsNumber text
+IsNoValue option.Count text = SpellsNone IsNumber text
+IsNoValue option.RawSecond text = SpellsNone SpellsRaw text
+IsNoValue option.Crop text = SpellsNone SpellsRectangle text
+IsNoValue option.Format text = SpellsNone IsFormat text
+IsNoValue option.Rate text = SpellsNone IsRatio text
+IsNoValue option.Aspect text = SpellsNone IsRatio text
+IsNoValue option.Frame text = SpellsNone IsNumber text
+IsNoValue option.Matrix text = SpellsNone IsMatrix text
+IsNoValue option.Range text = SpellsNone IsColourRange text
+IsNoValue option.Plane text = SpellsNone IsPlane text
+IsNoValue option.Gain text = SpellsNone IsGain text
+IsNoValue _ text = ⊥
+
+-- the text spells a size of 0
+abbrev pub HasNoPixels : OptionName → List ℕ → Type 0
+HasNoPixels option.Crop text =
+    (r : Rectangle) × SpellsRectangle r text × ((r.width ≡ 0) ⊎ (r.height ≡ 0))
+HasNoPixels option.Raw text =
+    (raw : RawVideo) × SpellsRaw raw text × ((raw.width ≡ 0) ⊎ (raw.height ≡ 0))
+HasNoPixels option.RawSecond text =
+    (raw : RawVideo) × SpellsRaw raw text × ((raw.width ≡ 0) ⊎ (raw.height ≡ 0))
+HasNoPixels _ text = ⊥
+
+-- what is given to an option says no value, or both forms of a report are asked for
+abbrev pub HasValueFault : (OptionName → List (List ℕ)) → UsageError → Type 0
+HasValueFault given (fault.NotAValue option text) =
+    (given option ≡ text.now ∷ []) × IsNoValue option text.now
+HasValueFault given (fault.NoPixels option text) =
+    (given option ≡ text.now ∷ []) × HasNoPixels option text.now
+HasValueFault given fault.TwoForms =
+    (length (given option.Csv) ≡ 1) × (length (given option.Json) ≡ 1)
+HasValueFault given _ = ⊥
+
+-- there are not so many files
+abbrev pub HasFileFault : ℕ → List (List ℕ) → UsageError → Type 0
+HasFileFault count files fault.MissingFile = length files < count
+HasFileFault count files (fault.ExtraFile name) =
+    (front back : List (List ℕ)) × (files ≡ front ++ name.now ∷ back) × (count ≤ length front)
+HasFileFault count files _ = ⊥
+
+-- the words begin with these tokens
+pub record Begin (words : List (List ℕ)) (tokens : List Token) (rest : List (List ℕ)) : Type 0 where
+  pub are : All IsToken tokens
+  pub front : words ≡ spelled tokens ++ rest
+
+-- the word is the option, alone or with a value
+abbrev pub Names : List ℕ → OptionName → Type 0
+Names word option =
+    (word ≡ option_text option) ⊎ ((value : List ℕ) × (word ≡ joined_text option value))
+
+-- a word in front of `--` that is neither a file nor an option
+pub record IsUnknown (word : List ℕ) : Type 0 where
+  pub no_file : ¬ (IsFileWord word)
+  pub no_option : (option : OptionName) → ¬ (Names word option)
+
+-- tokens, and then a word that does not go on
+module _ (name : CommandName) (words : List (List ℕ)) where
+  abbrev pub StopsAt : List ℕ → (List Token → Type 0) → Type 0
+  StopsAt word After =
+      (tokens : List Token) × (rest : List (List ℕ)) × Begin words tokens (word ∷ rest) × After tokens
+
+  abbrev pub HasWordFault : UsageError → Type 0
+  HasWordFault (fault.UnknownOption word) = StopsAt word.now (λ _. IsUnknown word.now)
+  HasWordFault (fault.NeedlessValue option value) =
+      StopsAt (joined_text option value.now) (λ _. takes_value option ≡ false)
+  HasWordFault (fault.MissingValue option) =
+      (takes_value option ≡ true) × ((tokens : List Token) × Begin words tokens (option_text option ∷ []))
+  HasWordFault (fault.NotOfCommand option other) =
+      (other ≡ name) × ¬ (Contains (options_of name) option)
+      × ((word : List ℕ) × Names word option × StopsAt word (λ _. ⊤))
+  HasWordFault (fault.Repeated option) =
+      (word : List ℕ) × Names word option × StopsAt word (λ tokens. values_of tokens option ≢ [])
+  HasWordFault (fault.ExtraFile file) =
+      IsFileWord file.now × StopsAt file.now (λ tokens. file_count name ≤ length (files_of tokens))
+  HasWordFault _ = ⊥
+
+-- a file behind `--` is one too many
+abbrev pub HasLateFile : ℕ → List (List ℕ) → List (List ℕ) → UsageError → Type 0
+HasLateFile count early late (fault.ExtraFile file) =
+    (front back : List (List ℕ)) × (late ≡ front ++ file.now ∷ back)
+    × (count ≤ length (early ++ front))
+HasLateFile count early late _ = ⊥
+
+-- what is wrong after the name of a command
+abbrev pub HasFault : CommandName → List (List ℕ) → UsageError → Type 0
+HasFault name words error =
+    HasWordFault name (before_end words) error
+    ⊎ ((tokens : List Token) × Begin (before_end words) tokens []
+    × (HasLateFile (file_count name) (files_of tokens) (after_end words) error
+    ⊎ (HasFileFault (file_count name) (files_of tokens ++ after_end words) error
+    ⊎ HasValueFault (values_of tokens) error)))
+
+-- the word is no name of a command, and asks neither for help nor for the version
+pub record IsNoCommand (word : List ℕ) : Type 0 where
+  pub no_name : (name : CommandName) → word ≢ command_text name
+  pub no_help : ¬ (IsHelpWord word)
+  pub no_version : word ≢ version_word
+
+-- what is wrong with the words behind one that asks for help
+abbrev pub HasTopicFault : List (List ℕ) → UsageError → Type 0
+HasTopicFault words (fault.UnknownCommand word) =
+    (words ≡ word.now ∷ []) × ((name : CommandName) → word.now ≢ command_text name)
+HasTopicFault words (fault.ExtraWord word) =
+    (topic : List ℕ) × (rest : List (List ℕ)) × (words ≡ topic ∷ word.now ∷ rest)
+HasTopicFault words _ = ⊥
+
+abbrev pub IsUnknownCommand : List ℕ → UsageError → Type 0
+IsUnknownCommand first (fault.UnknownCommand word) = (word.now ≡ first) × IsNoCommand first
+IsUnknownCommand first _ = ⊥
+
+abbrev pub HasExtraWord : List (List ℕ) → UsageError → Type 0
+HasExtraWord words (fault.ExtraWord word) = (rest : List (List ℕ)) × (words ≡ word.now ∷ rest)
+HasExtraWord words _ = ⊥
+
+-- what is wrong with the words of a call
+abbrev pub IsRefusedFor : List (List ℕ) → UsageError → Type 0
+IsRefusedFor words error =
+    ((words ≡ []) × (error ≡ fault.NoCommand))
+    ⊎ ((first : List ℕ) × (rest : List (List ℕ)) × (words ≡ first ∷ rest)
+    × (IsUnknownCommand first error
+    ⊎ ((IsHelpWord first × HasTopicFault rest error)
+    ⊎ (((first ≡ version_word) × HasExtraWord rest error)
+    ⊎ ((name : CommandName) × (first ≡ command_text name) × HasFault name rest error)))))

@@ -1,0 +1,11 @@
+pub mod Calls
+pub mod Canonical
+pub mod Commands
+pub mod Faults
+pub mod Formats
+pub mod Names
+pub mod Prelude
+pub mod Reading
+pub mod Values
+pub mod Words
+pub mod WorkedWords

@@ -1,0 +1,99 @@
+-- How commands and options are written, and which command has which options.
+use Rattle.std.specs.Prelude.{ℕ, Bool, true, false, List, [], ◌∷◌, codes}
+use Rattle.yuv_words.specs.declared.command.CommandName.{CommandName}
+use Rattle.yuv_words.specs.declared.command.CommandName.TheVariants.{Info, Compare, Copy, Sum, Stats, Show, Diff, Plot}
+use Rattle.yuv_words.specs.declared.option_name.OptionName.{OptionName}
+use Rattle.yuv_words.specs.declared.option_name.OptionName.TheVariants.{Header, Ssim, Frames, Exact, Csv, Json}
+use Rattle.yuv_words.specs.declared.option_name.OptionName.TheVariants.{Half, Planes, Histogram, RawOutput}
+use Rattle.yuv_words.specs.declared.option_name.OptionName.TheVariants.{Progress, Raw, RawSecond, MaxPixels}
+use Rattle.yuv_words.specs.declared.option_name.OptionName.TheVariants.{Skip, SkipSecond, Count, Crop, Format}
+use Rattle.yuv_words.specs.declared.option_name.OptionName.TheVariants.{Rate, Aspect, Frame, Matrix, Range}
+use Rattle.yuv_words.specs.declared.option_name.OptionName.TheVariants.{Plane, Gain}
+
+abbrev pub command_text : CommandName → List ℕ
+command_text Info = codes "info"
+command_text Compare = codes "compare"
+command_text Copy = codes "copy"
+command_text Sum = codes "sum"
+command_text Stats = codes "stats"
+command_text Show = codes "show"
+command_text Diff = codes "diff"
+command_text Plot = codes "plot"
+
+abbrev pub option_text : OptionName → List ℕ
+option_text Header = codes "--header"
+option_text Ssim = codes "--ssim"
+option_text Frames = codes "--frames"
+option_text Exact = codes "--exact"
+option_text Csv = codes "--csv"
+option_text Json = codes "--json"
+option_text Half = codes "--half"
+option_text Planes = codes "--planes"
+option_text Histogram = codes "--histogram"
+option_text RawOutput = codes "--raw-output"
+option_text Progress = codes "--progress"
+option_text Raw = codes "--raw"
+option_text RawSecond = codes "--raw-second"
+option_text MaxPixels = codes "--max-pixels"
+option_text Skip = codes "--skip"
+option_text SkipSecond = codes "--skip-second"
+option_text Count = codes "--count"
+option_text Crop = codes "--crop"
+option_text Format = codes "--format"
+option_text Rate = codes "--rate"
+option_text Aspect = codes "--aspect"
+option_text Frame = codes "--frame"
+option_text Matrix = codes "--matrix"
+option_text Range = codes "--range"
+option_text Plane = codes "--plane"
+option_text Gain = codes "--gain"
+
+-- a value belongs to the option
+abbrev pub takes_value : OptionName → Bool
+takes_value Header = false
+takes_value Ssim = false
+takes_value Frames = false
+takes_value Exact = false
+takes_value Csv = false
+takes_value Json = false
+takes_value Half = false
+takes_value Planes = false
+takes_value Histogram = false
+takes_value RawOutput = false
+takes_value Progress = false
+takes_value Raw = true
+takes_value RawSecond = true
+takes_value MaxPixels = true
+takes_value Skip = true
+takes_value SkipSecond = true
+takes_value Count = true
+takes_value Crop = true
+takes_value Format = true
+takes_value Rate = true
+takes_value Aspect = true
+takes_value Frame = true
+takes_value Matrix = true
+takes_value Range = true
+takes_value Plane = true
+takes_value Gain = true
+
+abbrev pub options_of : CommandName → List OptionName
+options_of Info = Header ∷ Raw ∷ MaxPixels ∷ Progress ∷ []
+options_of Compare = Ssim ∷ Frames ∷ Exact ∷ Csv ∷ Json ∷ Skip ∷ SkipSecond ∷ Count ∷ Raw ∷ RawSecond ∷ MaxPixels ∷ Progress ∷ []
+options_of Copy = Skip ∷ Count ∷ Crop ∷ Half ∷ Format ∷ Rate ∷ Aspect ∷ Raw ∷ RawOutput ∷ MaxPixels ∷ Progress ∷ []
+options_of Sum = Planes ∷ Raw ∷ MaxPixels ∷ []
+options_of Stats = Histogram ∷ Raw ∷ MaxPixels ∷ []
+options_of Show = Frame ∷ Matrix ∷ Range ∷ Plane ∷ Crop ∷ Raw ∷ MaxPixels ∷ []
+options_of Diff = Frame ∷ Gain ∷ Raw ∷ RawSecond ∷ MaxPixels ∷ []
+options_of Plot = Skip ∷ SkipSecond ∷ Count ∷ Raw ∷ RawSecond ∷ MaxPixels ∷ []
+
+-- how many files the command takes
+abbrev pub file_count : CommandName → ℕ
+file_count Info = 1
+file_count Compare = 2
+file_count Copy = 2
+file_count Sum = 1
+file_count Stats = 1
+file_count Show = 2
+file_count Diff = 3
+file_count Plot = 3

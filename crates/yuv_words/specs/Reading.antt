@@ -1,0 +1,86 @@
+-- What words say while they are read.
+use Rattle.std.specs.Prelude.{ℕ, ◌≡◌, ◌++◌, All, Contains, IfSome, List, [], ◌∷◌, true, slice_index_or, Option, Some, None}
+use Rattle.std.specs.Borrow.{Bor}
+use Rattle.yuv_words.specs.Faults.{IsUnknown}
+use Rattle.yuv_words.specs.Names.{option_text, options_of, takes_value}
+use Rattle.yuv_words.specs.Words.{files_of, joined_text, spelled, values_of, IsFileWord, IsToken, Token}
+use Rattle.yuv_words.specs.declared.command.CommandName.{CommandName}
+use Rattle.yuv_words.specs.declared.files.Files.{Files}
+use Rattle.yuv_words.specs.declared.files.Files.TheVariants.{Zero, One, Two, Three}
+use Rattle.yuv_words.specs.declared.given.Given.{Given}
+use Rattle.yuv_words.specs.declared.option_name.OptionName.{OptionName}
+use Rattle.yuv_words.specs.declared.option_name.OptionName.TheVariants as option
+use Rattle.yuv_words.specs.declared.reading.Reading.{Reading}
+use Rattle.yuv_words.specs.declared.word.Word.{Word}
+use Rattle.yuv_words.specs.declared.word.Word.TheVariants as word
+
+-- the place of an option among all
+abbrev pub option_place : OptionName → ℕ
+option_place option.Header = 0
+option_place option.Ssim = 1
+option_place option.Frames = 2
+option_place option.Exact = 3
+option_place option.Csv = 4
+option_place option.Json = 5
+option_place option.Half = 6
+option_place option.Planes = 7
+option_place option.Histogram = 8
+option_place option.RawOutput = 9
+option_place option.Progress = 10
+option_place option.Raw = 11
+option_place option.RawSecond = 12
+option_place option.MaxPixels = 13
+option_place option.Skip = 14
+option_place option.SkipSecond = 15
+option_place option.Count = 16
+option_place option.Crop = 17
+option_place option.Format = 18
+option_place option.Rate = 19
+option_place option.Aspect = 20
+option_place option.Frame = 21
+option_place option.Matrix = 22
+option_place option.Range = 23
+option_place option.Plane = 24
+option_place option.Gain = 25
+
+-- the text of a word that may be missing
+abbrev pub text_in : Option (Bor (List ℕ)) → List (List ℕ)
+text_in None = []
+text_in (Some word) = word.now ∷ []
+
+abbrev pub given_to : Given → OptionName → List (List ℕ)
+given_to given option = text_in (slice_index_or given.texts (option_place option) None)
+
+abbrev pub file_names : Files → List (List ℕ)
+file_names Zero = []
+file_names (One first) = first.now ∷ []
+file_names (Two first second) = first.now ∷ second.now ∷ []
+file_names (Three first second third) = first.now ∷ second.now ∷ third.now ∷ []
+
+-- the option whose value is the next word
+abbrev pub awaited : Option OptionName → List (List ℕ)
+awaited None = []
+awaited (Some option) = option_text option ∷ []
+
+-- what a word is
+abbrev pub IsWord : List ℕ → Word → Type 0
+IsWord text word.File = IsFileWord text
+IsWord text (word.Option option) = text ≡ option_text option
+IsWord text (word.Joined option value) = text ≡ joined_text option value.now
+IsWord text word.Unknown = IsUnknown text
+
+-- an option of the command may have its value
+pub record MayAwait (name : CommandName) (tokens : List Token) (option : OptionName) : Type 0 where
+  pub takes : takes_value option ≡ true
+  pub own : Contains (options_of name) option
+  pub first : values_of tokens option ≡ []
+
+-- the words so far are spelled by tokens, and this is what the tokens say
+pub record IsRead (name : CommandName) (words : List (List ℕ)) (reading : Reading) : Type 0 where
+  pub tokens : List Token
+  pub are : All IsToken tokens
+  pub front : words ≡ spelled tokens ++ awaited reading.awaiting
+  pub files : file_names reading.files ≡ files_of tokens
+  pub given : (option : OptionName) → given_to reading.given option ≡ values_of tokens option
+  pub own : (option : OptionName) → ¬ (Contains (options_of name) option) → values_of tokens option ≡ []
+  pub may : IfSome reading.awaiting (MayAwait name tokens)

@@ -1,0 +1,46 @@
+-- Calls worked out by hand. Each line computes: it is proved by `refl`.
+use Rattle.std.specs.Prelude.{◌≡◌, List, [], ◌∷◌, codes, refl}
+use Rattle.v_frame_y4m.specs.declared.colour.Colour.TheVariants.{Yuv420HighDepth}
+use Rattle.v_frame_y4m.specs.declared.colour.Depth.TheVariants.{Ten}
+use Rattle.yuv_words.specs.Formats.{ffmpeg_name, short_name}
+use Rattle.yuv_words.specs.Words.{after_end, before_end, files_of, spelled, values_of, Apart, File, Flag, Joined, Token}
+use Rattle.yuv_words.specs.declared.format.VideoFormat.TheVariants.{Planar}
+use Rattle.yuv_words.specs.declared.option_name.OptionName.TheVariants as option
+
+-- a.y4m --skip 5 --count=9 b.y4m --half
+abbrev tokens : List Token
+tokens =
+    File (codes "a.y4m") ∷ Apart option.Skip (codes "5") ∷ Joined option.Count (codes "9")
+    ∷ File (codes "b.y4m") ∷ Flag option.Half ∷ []
+
+words_are : spelled tokens
+    ≡ codes "a.y4m" ∷ codes "--skip" ∷ codes "5" ∷ codes "--count=9" ∷ codes "b.y4m" ∷ codes "--half" ∷ []
+words_are = refl
+
+files_are : files_of tokens ≡ codes "a.y4m" ∷ codes "b.y4m" ∷ []
+files_are = refl
+
+skip_is : values_of tokens option.Skip ≡ codes "5" ∷ []
+skip_is = refl
+
+count_is : values_of tokens option.Count ≡ codes "9" ∷ []
+count_is = refl
+
+half_is : values_of tokens option.Half ≡ [] ∷ []
+half_is = refl
+
+crop_is : values_of tokens option.Crop ≡ []
+crop_is = refl
+
+-- behind the first `--` even `--` is a file
+front_is : before_end (codes "--half" ∷ codes "--" ∷ codes "-x" ∷ codes "--" ∷ []) ≡ codes "--half" ∷ []
+front_is = refl
+
+behind_is : after_end (codes "--half" ∷ codes "--" ∷ codes "-x" ∷ codes "--" ∷ []) ≡ codes "-x" ∷ codes "--" ∷ []
+behind_is = refl
+
+short_is : short_name (Planar (Yuv420HighDepth Ten)) ≡ codes "420p10"
+short_is = refl
+
+ffmpeg_is : ffmpeg_name (Planar (Yuv420HighDepth Ten)) ≡ codes "yuv420p10le"
+ffmpeg_is = refl

@@ -1,0 +1,253 @@
+//! Commands from the words of a call.
+ghost use Rattle.std.specs.Prelude.{◌≡◌, ◌≢◌, ◌↔◌, ◌⊎◌, ◌∷◌, IfErr, IfOk, IsTrue, Option};
+ghost use Rattle.yuv_words.specs.Calls.{topic_words, version_word, IsCall, IsHelpWord, IsWrittenAs};
+ghost use Rattle.yuv_words.specs.Commands.{Says};
+ghost use Rattle.yuv_words.specs.Faults.{HasFault, HasFileFault, HasTopicFault, HasValueFault, IsRefusedFor};
+ghost use Rattle.yuv_words.specs.Names.{command_text, file_count};
+ghost use Rattle.yuv_words.specs.Reading.{file_names, given_to};
+ghost use Rattle.yuv_words.specs.Words.{texts_of};
+ghost use Rattle.yuv_words.specs.declared.command.Command.{Command as TheCommand};
+ghost use Rattle.yuv_words.specs.declared.command.CommandName.{CommandName as TheName};
+
+use crate::command::{Command, CommandName};
+use crate::error::UsageError;
+use crate::files::Files;
+use crate::given::Given;
+use crate::options::{
+    compare_options, copy_options, diff_options, info_options, plot_options, show_options,
+    stats_options, sum_options,
+};
+use crate::reading::{cut_at_end, read_words};
+
+/// Reads the words of a call, without the program's own name.
+///
+/// # Errors
+///
+/// The first of [`UsageError`] that is met: what is wrong with the command, with a word from the left, with the files, and
+/// with the values of options.
+pub fn read_command<'a>(words: &[&'a str]) -> Result<Command<'a>, UsageError<'a>>
+    ensures said { IfOk result (IsWrittenAs (texts_of words.now)) }
+    ensures refused { IfErr result (λ _. (command : TheCommand) → ¬ (IsWrittenAs (texts_of words.now) command)) }
+    ensures fault { IfErr result (IsRefusedFor (texts_of words.now)) }
+{
+    let Some((&first, rest)) = words.split_first() else {
+        return Err(UsageError::NoCommand);
+    };
+    match CommandName::named(first) {
+        Some(name) => read_call(name, rest),
+        None => read_help(first, rest),
+    }
+}
+
+/// Reads the words of a call whose first word is no command with files.
+fn read_help<'a>(first: &'a str, rest: &[&'a str]) -> Result<Command<'a>, UsageError<'a>>
+    requires { (name : TheName) → first.now ≢ command_text name }
+    ensures said { IfOk result (IsWrittenAs (first.now ∷ texts_of rest.now)) }
+    ensures refused { IfErr result (λ _. (command : TheCommand)
+        → ¬ (IsWrittenAs (first.now ∷ texts_of rest.now) command)) }
+    ensures fault { IfErr result (IsRefusedFor (first.now ∷ texts_of rest.now)) }
+{
+    if is_help(first) {
+        let topic = read_topic(rest)?;
+        return Ok(Command::Help(topic));
+    }
+    if !is_version(first) {
+        return Err(UsageError::UnknownCommand(first));
+    }
+    match rest {
+        [] => Ok(Command::Version),
+        [extra, ..] => Err(UsageError::ExtraWord(*extra)),
+    }
+}
+
+/// Returns whether a word asks for help.
+fn is_help(word: &str) -> bool
+    ensures { IsTrue result ↔ IsHelpWord word.now }
+{
+    word == "help" || word == "--help" || word == "-h"
+}
+
+/// Returns whether a word asks for the version.
+fn is_version(word: &str) -> bool
+    ensures { IsTrue result ↔ (word.now ≡ version_word) }
+{
+    word == "--version"
+}
+
+/// Returns the command that help is asked about.
+fn read_topic<'a>(words: &[&'a str]) -> Result<Option<CommandName>, UsageError<'a>>
+    ensures said { IfOk result (λ topic. texts_of words.now ≡ topic_words topic) }
+    ensures refused { IfErr result (λ _. (topic : Option TheName) → texts_of words.now ≢ topic_words topic) }
+    ensures fault { IfErr result (HasTopicFault (texts_of words.now)) }
+{
+    match words {
+        [] => Ok(None),
+        [topic] => match CommandName::named(*topic) {
+            Some(name) => Ok(Some(name)),
+            None => Err(UsageError::UnknownCommand(*topic)),
+        },
+        [_, extra, ..] => Err(UsageError::ExtraWord(*extra)),
+    }
+}
+
+/// Reads the words behind the name of a command.
+fn read_call<'a>(name: CommandName, words: &[&'a str]) -> Result<Command<'a>, UsageError<'a>>
+    ensures said { IfOk result (λ command. IsCall name command (texts_of words.now)) }
+    ensures refused { IfErr result (λ _. (command : TheCommand) → ¬ (IsCall name command (texts_of words.now))) }
+    ensures fault { IfErr result (HasFault name (texts_of words.now)) }
+{
+    let (front, behind) = cut_at_end(words);
+    let reading = read_words(name, front)?;
+    let files = reading.files.with_all(name, behind)?;
+    command_of(name, &files, &reading.given)
+}
+
+/// Returns the command that the files and what is given to the options say.
+fn command_of<'a>(
+    name: CommandName,
+    files: &Files<'a>,
+    given: &Given<'a>,
+) -> Result<Command<'a>, UsageError<'a>>
+    ensures said { IfOk result (λ command. Says (given_to given.now) name command (file_names files.now)) }
+    ensures refused { IfErr result (λ _. (command : TheCommand)
+        → ¬ (Says (given_to given.now) name command (file_names files.now))) }
+    ensures fault { IfErr result (λ error. HasFileFault (file_count name) (file_names files.now) error
+        ⊎ HasValueFault (given_to given.now) error) }
+{
+    match name {
+        CommandName::Info => info(files, given),
+        CommandName::Compare => compare(files, given),
+        CommandName::Copy => copy(files, given),
+        CommandName::Sum => sum(files, given),
+        CommandName::Stats => stats(files, given),
+        CommandName::Show => show(files, given),
+        CommandName::Diff => diff(files, given),
+        CommandName::Plot => plot(files, given),
+    }
+}
+
+/// Returns the call of `info`.
+fn info<'a>(files: &Files<'a>, given: &Given<'a>) -> Result<Command<'a>, UsageError<'a>>
+    ensures said { IfOk result (λ command. Says (given_to given.now) CommandName.Info command (file_names files.now)) }
+    ensures refused { IfErr result (λ _. (command : TheCommand)
+        → ¬ (Says (given_to given.now) CommandName.Info command (file_names files.now))) }
+    ensures fault { IfErr result (λ error. HasFileFault 1 (file_names files.now) error
+        ⊎ HasValueFault (given_to given.now) error) }
+{
+    let file = files.one()?;
+    let options = info_options(given)?;
+    Ok(Command::Info { file, options })
+}
+
+/// Returns the call of `compare`.
+fn compare<'a>(files: &Files<'a>, given: &Given<'a>) -> Result<Command<'a>, UsageError<'a>>
+    ensures said { IfOk result (λ command. Says (given_to given.now) CommandName.Compare command (file_names files.now)) }
+    ensures refused { IfErr result (λ _. (command : TheCommand)
+        → ¬ (Says (given_to given.now) CommandName.Compare command (file_names files.now))) }
+    ensures fault { IfErr result (λ error. HasFileFault 2 (file_names files.now) error
+        ⊎ HasValueFault (given_to given.now) error) }
+{
+    let (first, second) = files.two()?;
+    let options = compare_options(given)?;
+    Ok(Command::Compare {
+        first,
+        second,
+        options,
+    })
+}
+
+/// Returns the call of `copy`.
+fn copy<'a>(files: &Files<'a>, given: &Given<'a>) -> Result<Command<'a>, UsageError<'a>>
+    ensures said { IfOk result (λ command. Says (given_to given.now) CommandName.Copy command (file_names files.now)) }
+    ensures refused { IfErr result (λ _. (command : TheCommand)
+        → ¬ (Says (given_to given.now) CommandName.Copy command (file_names files.now))) }
+    ensures fault { IfErr result (λ error. HasFileFault 2 (file_names files.now) error
+        ⊎ HasValueFault (given_to given.now) error) }
+{
+    let (input, output) = files.two()?;
+    let options = copy_options(given)?;
+    Ok(Command::Copy {
+        input,
+        output,
+        options,
+    })
+}
+
+/// Returns the call of `sum`.
+fn sum<'a>(files: &Files<'a>, given: &Given<'a>) -> Result<Command<'a>, UsageError<'a>>
+    ensures said { IfOk result (λ command. Says (given_to given.now) CommandName.Sum command (file_names files.now)) }
+    ensures refused { IfErr result (λ _. (command : TheCommand)
+        → ¬ (Says (given_to given.now) CommandName.Sum command (file_names files.now))) }
+    ensures fault { IfErr result (λ error. HasFileFault 1 (file_names files.now) error
+        ⊎ HasValueFault (given_to given.now) error) }
+{
+    let file = files.one()?;
+    let options = sum_options(given)?;
+    Ok(Command::Sum { file, options })
+}
+
+/// Returns the call of `stats`.
+fn stats<'a>(files: &Files<'a>, given: &Given<'a>) -> Result<Command<'a>, UsageError<'a>>
+    ensures said { IfOk result (λ command. Says (given_to given.now) CommandName.Stats command (file_names files.now)) }
+    ensures refused { IfErr result (λ _. (command : TheCommand)
+        → ¬ (Says (given_to given.now) CommandName.Stats command (file_names files.now))) }
+    ensures fault { IfErr result (λ error. HasFileFault 1 (file_names files.now) error
+        ⊎ HasValueFault (given_to given.now) error) }
+{
+    let file = files.one()?;
+    let options = stats_options(given)?;
+    Ok(Command::Stats { file, options })
+}
+
+/// Returns the call of `show`.
+fn show<'a>(files: &Files<'a>, given: &Given<'a>) -> Result<Command<'a>, UsageError<'a>>
+    ensures said { IfOk result (λ command. Says (given_to given.now) CommandName.Show command (file_names files.now)) }
+    ensures refused { IfErr result (λ _. (command : TheCommand)
+        → ¬ (Says (given_to given.now) CommandName.Show command (file_names files.now))) }
+    ensures fault { IfErr result (λ error. HasFileFault 2 (file_names files.now) error
+        ⊎ HasValueFault (given_to given.now) error) }
+{
+    let (input, output) = files.two()?;
+    let options = show_options(given)?;
+    Ok(Command::Show {
+        input,
+        output,
+        options,
+    })
+}
+
+/// Returns the call of `diff`.
+fn diff<'a>(files: &Files<'a>, given: &Given<'a>) -> Result<Command<'a>, UsageError<'a>>
+    ensures said { IfOk result (λ command. Says (given_to given.now) CommandName.Diff command (file_names files.now)) }
+    ensures refused { IfErr result (λ _. (command : TheCommand)
+        → ¬ (Says (given_to given.now) CommandName.Diff command (file_names files.now))) }
+    ensures fault { IfErr result (λ error. HasFileFault 3 (file_names files.now) error
+        ⊎ HasValueFault (given_to given.now) error) }
+{
+    let (first, second, output) = files.three()?;
+    let options = diff_options(given)?;
+    Ok(Command::Diff {
+        first,
+        second,
+        output,
+        options,
+    })
+}
+
+/// Returns the call of `plot`.
+fn plot<'a>(files: &Files<'a>, given: &Given<'a>) -> Result<Command<'a>, UsageError<'a>>
+    ensures said { IfOk result (λ command. Says (given_to given.now) CommandName.Plot command (file_names files.now)) }
+    ensures refused { IfErr result (λ _. (command : TheCommand)
+        → ¬ (Says (given_to given.now) CommandName.Plot command (file_names files.now))) }
+    ensures fault { IfErr result (λ error. HasFileFault 3 (file_names files.now) error
+        ⊎ HasValueFault (given_to given.now) error) }
+{
+    let (first, second, output) = files.three()?;
+    let options = plot_options(given)?;
+    Ok(Command::Plot {
+        first,
+        second,
+        output,
+        options,
+    })
+}

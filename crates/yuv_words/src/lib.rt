@@ -1,0 +1,26 @@
+//! The words that the program `yuv` is called with, read into a [`Command`].
+#![tactic(auto)]
+
+mod call;
+mod command;
+mod error;
+mod files;
+mod format;
+mod given;
+pub mod laws;
+mod option_name;
+mod options;
+mod reading;
+mod usage;
+mod values;
+mod word;
+
+pub use call::read_command;
+pub use command::{
+    Command, CommandName, CompareOptions, CopyOptions, DiffOptions, InfoOptions, PlaneName,
+    PlotOptions, RawVideo, Rectangle, ReportForm, ShowOptions, StatsOptions, SumOptions,
+};
+pub use error::UsageError;
+pub use format::VideoFormat;
+pub use option_name::OptionName;
+pub use usage::usage_text;
