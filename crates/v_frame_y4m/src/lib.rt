@@ -34,6 +34,7 @@ pub use header::{Interlacing, Ratio, StreamHeader};
 pub use line::{ended_line, header_line};
 pub use parsing::parse_header;
 pub use streams::{
-    MAX_LINE_BYTES, is_frame_line, read_frame, read_header, write_frame, write_header,
+    MAX_LINE_BYTES, is_frame_line, read_frame, read_frame_line, read_header, write_frame,
+    write_header,
 };
 pub use text::Text;

@@ -112,8 +112,17 @@ pub fn read_frame<T: Pixel, R: io::Read>(
     Ok(true)
 }
 
-/// Reads the line in front of a frame. `false` where the reader stood at its end before it.
-fn read_frame_line<R: io::Read>(reader: &mut Counted<R>) -> Result<bool, Y4mError>
+/// Reads the line in front of a frame, `FRAME` with its parameters. `false` where the reader stood at its end before it.
+///
+/// [`read_frame`] reads it with the planar bytes after it. By itself it serves those who pass over a frame, or take its bytes
+/// as they are: [`StreamHeader::frame_len`] says how many follow.
+///
+/// # Errors
+///
+/// [`Y4mError::NoFrame`] where another line stands in its place, [`Y4mError::LineTooLong`] and [`Y4mError::UnfinishedLine`],
+/// and of [`PlanarError`] `Read` where a read failed, an interrupted one too, which is not tried again;
+/// [`Counted::last_failure`] says why.
+pub fn read_frame_line<R: io::Read>(reader: &mut Counted<R>) -> Result<bool, Y4mError>
     ensures read { IfOk result (ReadsFrame R.remaining reader.old reader.new []) }
     ensures uncounted { OnOk result (reader.new.failures ≡ reader.old.failures) }
     ensures error { IfErr result (λ error. (n : ℕ)

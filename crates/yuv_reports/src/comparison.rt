@@ -1,0 +1,173 @@
+//! What is reported of two streams that are compared.
+
+use crate::planes::{PlaneSums, PlaneValues};
+use crate::pool::Pool;
+use crate::{csv, json, lines};
+use std::alloc::{AllocError, Global};
+
+/// The form of a report.
+#[derive(Clone, Copy, PartialEq, Eq)]
+pub enum ReportForm {
+    /// Lines for people.
+    Lines,
+    /// Comma-separated values: a row for each frame, and rows for all of them.
+    Csv,
+    /// One JSON object.
+    Json,
+}
+
+/// How far two frames are apart, or all frames of two streams.
+#[derive(Clone, Copy)]
+pub struct FrameMeasures {
+    /// The mean squared errors.
+    pub mse: PlaneValues,
+    /// The peak signal-to-noise ratios, in decibels. Infinite where nothing differs.
+    pub psnr: PlaneValues,
+    /// The structural similarities, where they are measured.
+    pub ssim: Option<PlaneValues>,
+    /// The sums of squared errors, where they are reported.
+    pub sums: Option<PlaneSums>,
+}
+
+/// Which plane of a frame.
+#[derive(Clone, Copy)]
+pub enum PlaneName {
+    /// Luma.
+    Y,
+    /// The first chroma component.
+    U,
+    /// The second chroma component.
+    V,
+}
+
+impl PlaneName {
+    /// Returns the letter of the plane.
+    pub fn text(self) -> &'static str {
+        match self {
+            PlaneName::Y => "Y",
+            PlaneName::U => "U",
+            PlaneName::V => "V",
+        }
+    }
+}
+
+/// A sample that two streams show differently.
+#[derive(Clone, Copy)]
+pub struct SampleDifference {
+    /// The number of its frame, from 1.
+    pub frame: u64,
+    /// The plane that it is in.
+    pub plane: PlaneName,
+    /// The column of that plane, from 0.
+    pub x: usize,
+    /// The row of that plane, from 0.
+    pub y: usize,
+    /// The value in the first stream.
+    pub first: u16,
+    /// The value in the second stream.
+    pub second: u16,
+}
+
+/// Which of two streams has more frames.
+#[derive(Clone, Copy)]
+pub enum Longer {
+    /// The first one.
+    First,
+    /// The second one.
+    Second,
+}
+
+/// What is reported of all frames.
+#[derive(Clone, Copy)]
+pub struct Comparison {
+    /// How many frames were compared.
+    pub frames: u64,
+    /// The measures of all of them together: the mean of the errors, and its ratio.
+    pub measures: FrameMeasures,
+    /// The first sample that differs.
+    pub difference: Option<SampleDifference>,
+    /// The stream that has more frames, where one has.
+    pub longer: Option<Longer>,
+}
+
+/// A report that grows frame by frame.
+#[derive(Drop)]
+pub struct Report {
+    form: ReportForm,
+    lists_frames: bool,
+    frames: u64,
+    psnr: Pool,
+    ssim: Pool,
+}
+
+impl Report {
+    /// Returns a report of no frame. With `lists_frames` each frame is reported by itself.
+    pub fn new(form: ReportForm, lists_frames: bool) -> Self {
+        Report {
+            form,
+            lists_frames,
+            frames: 0,
+            psnr: Pool::new(),
+            ssim: Pool::new(),
+        }
+    }
+
+    /// Appends what stands before the first frame. `measures` says by its planes and its parts which columns there are.
+    ///
+    /// # Errors
+    ///
+    /// [`AllocError`] where there is no memory for the text.
+    pub fn begin(&self, text: &mut String, measures: &FrameMeasures) -> Result<(), AllocError> {
+        match self.form {
+            ReportForm::Lines => Ok(()),
+            ReportForm::Csv => csv::push_head(text, measures),
+            ReportForm::Json => text.push_str("{\n  \"frames\": ["),
+        }
+    }
+
+    /// Appends a frame, whose number is from 1, where frames are listed, and counts it.
+    ///
+    /// # Errors
+    ///
+    /// [`AllocError`] where there is no memory for the text.
+    pub fn frame(
+        &mut self,
+        text: &mut String,
+        number: u64,
+        measures: &FrameMeasures,
+    ) -> Result<(), AllocError> {
+        self.psnr.add(number, measures.psnr.all);
+        if let Some(ssim) = &measures.ssim {
+            self.ssim.add(number, ssim.all);
+        }
+        if self.lists_frames {
+            match self.form {
+                ReportForm::Lines => lines::push_frame(text, number, measures)?,
+                ReportForm::Csv => csv::push_frame(text, number, measures)?,
+                ReportForm::Json => {
+                    text.push_str(if self.frames == 0 { "\n" } else { ",\n" })?;
+                    json::push_frame(text, number, measures)?;
+                }
+            }
+        }
+        self.frames = self.frames.saturating_add(1);
+        Ok(())
+    }
+
+    /// Appends what is said of all frames.
+    ///
+    /// # Errors
+    ///
+    /// [`AllocError`] where there is no memory for the text.
+    pub fn end(&self, text: &mut String, found: &Comparison) -> Result<(), AllocError> {
+        match self.form {
+            ReportForm::Lines => lines::push_comparison(text, found),
+            ReportForm::Csv => csv::push_summary(text, found, &self.psnr, &self.ssim),
+            ReportForm::Json => {
+                let lists = self.lists_frames && self.frames > 0;
+                text.push_str(if lists { "\n  ],\n" } else { "],\n" })?;
+                json::push_summary(text, found, &self.psnr, &self.ssim)
+            }
+        }
+    }
+}

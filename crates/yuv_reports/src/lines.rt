@@ -1,0 +1,137 @@
+//! Lines for people.
+
+use crate::comparison::{Comparison, FrameMeasures, Longer, SampleDifference};
+use crate::planes::{PlaneSums, PlaneValues, push_number};
+use std::alloc::AllocError;
+
+/// What all planes and each of them are called in the line of a frame, and in a line of all frames.
+const SHORT_NAMES: [&str; 4] = ["avg", "y", "u", "v"];
+
+const LONG_NAMES: [&str; 4] = ["all planes", "Y", "U", "V"];
+
+/// Appends the line of a frame: its errors and ratios in the form of ffmpeg's filter `psnr`, then what else is measured.
+pub fn push_frame(
+    text: &mut String,
+    number: u64,
+    measures: &FrameMeasures,
+) -> Result<(), AllocError> {
+    write!(text, "n:{number}")?;
+    push_hundredths(text, "mse", &measures.mse)?;
+    push_hundredths(text, "psnr", &measures.psnr)?;
+    if let Some(ssim) = &measures.ssim {
+        push_similarities(text, ssim)?;
+    }
+    if let Some(sums) = &measures.sums {
+        push_sums(text, [" sse_y:", " sse_u:", " sse_v:"], sums)?;
+    }
+    text.push('\n')
+}
+
+/// Appends the values of a measure with two decimals, each with its plane.
+fn push_hundredths(
+    text: &mut String,
+    measure: &str,
+    values: &PlaneValues,
+) -> Result<(), AllocError> {
+    let values = values.in_order();
+    for place in 0..4 {
+        if let Some(value) = values[place] {
+            let name = SHORT_NAMES[place];
+            write!(text, " {measure}_{name}:{value:.2}")?;
+        }
+    }
+    Ok(())
+}
+
+/// Appends structural similarities with six decimals, each with its plane.
+fn push_similarities(text: &mut String, ssim: &PlaneValues) -> Result<(), AllocError> {
+    let values = ssim.in_order();
+    for place in 0..4 {
+        if let Some(value) = values[place] {
+            let name = SHORT_NAMES[place];
+            write!(text, " ssim_{name}:{value:.6}")?;
+        }
+    }
+    Ok(())
+}
+
+/// Appends sums, each after its text.
+fn push_sums(text: &mut String, before: [&str; 3], sums: &PlaneSums) -> Result<(), AllocError> {
+    let sums = sums.in_order();
+    for place in 0..3 {
+        if let Some(sum) = sums[place] {
+            push_number(text, before[place], sum, "")?;
+        }
+    }
+    Ok(())
+}
+
+/// Appends what is said of all frames: a line for all planes and one for each, and what else was found.
+pub fn push_comparison(text: &mut String, found: &Comparison) -> Result<(), AllocError> {
+    let frames = found.frames;
+    writeln!(text, "frames: {frames}")?;
+    push_planes(text, &found.measures.mse, &found.measures.psnr)?;
+    if let Some(ssim) = &found.measures.ssim {
+        push_ssim(text, ssim)?;
+    }
+    if let Some(sums) = &found.measures.sums {
+        text.push_str("squared errors:")?;
+        push_sums(text, [" Y ", ", U ", ", V "], sums)?;
+        text.push('\n')?;
+    }
+    push_difference(text, &found.difference)?;
+    text.push_str(match found.longer {
+        Some(Longer::First) => "length: the first stream has more frames\n",
+        Some(Longer::Second) => "length: the second stream has more frames\n",
+        None => "",
+    })
+}
+
+/// Appends the error and the ratio of all planes and of each.
+fn push_planes(text: &mut String, mse: &PlaneValues, psnr: &PlaneValues) -> Result<(), AllocError> {
+    let (errors, ratios) = (mse.in_order(), psnr.in_order());
+    for place in 0..4 {
+        if let (Some(error), Some(ratio)) = (errors[place], ratios[place]) {
+            let name = LONG_NAMES[place];
+            writeln!(text, "{name}: mse {error:.2}, psnr {ratio:.2}")?;
+        }
+    }
+    Ok(())
+}
+
+/// Appends the line of the structural similarities.
+fn push_ssim(text: &mut String, ssim: &PlaneValues) -> Result<(), AllocError> {
+    let values = ssim.in_order();
+    text.push_str("ssim:")?;
+    for place in 0..4 {
+        if let Some(value) = values[place] {
+            let name = LONG_NAMES[place];
+            let comma = if place == 0 { "" } else { "," };
+            write!(text, "{comma} {name} {value:.6}")?;
+        }
+    }
+    text.push('\n')
+}
+
+/// Appends the line that says where the streams first differ, if they do.
+fn push_difference(
+    text: &mut String,
+    difference: &Option<SampleDifference>,
+) -> Result<(), AllocError> {
+    let Some(found) = difference else {
+        return text.push_str("first difference: none\n");
+    };
+    let SampleDifference {
+        frame,
+        plane,
+        x,
+        y,
+        first,
+        second,
+    } = *found;
+    let plane = plane.text();
+    writeln!(
+        text,
+        "first difference: frame {frame}, plane {plane}, column {x}, row {y}, {first} and {second}"
+    )
+}

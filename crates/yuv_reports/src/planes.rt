@@ -1,0 +1,61 @@
+//! Numbers that belong to the planes of a frame.
+
+use std::alloc::AllocError;
+
+/// A whole number for each plane of a frame.
+#[derive(Clone, Copy)]
+pub struct PlaneSums {
+    /// That of luma.
+    pub y: u128,
+    /// That of the first chroma plane, where there is one.
+    pub u: Option<u128>,
+    /// That of the second chroma plane, where there is one.
+    pub v: Option<u128>,
+}
+
+/// A measure of all planes of a frame together, and of each.
+#[derive(Clone, Copy)]
+pub struct PlaneValues {
+    /// That of all planes together.
+    pub all: f64,
+    /// That of luma.
+    pub y: f64,
+    /// That of the first chroma plane, where there is one.
+    pub u: Option<f64>,
+    /// That of the second chroma plane, where there is one.
+    pub v: Option<f64>,
+}
+
+impl PlaneValues {
+    /// Returns the values in the order in which they are reported: all planes, Y, U, V.
+    pub fn in_order(&self) -> [Option<f64>; 4] {
+        [Some(self.all), Some(self.y), self.u, self.v]
+    }
+}
+
+impl PlaneSums {
+    /// Returns the numbers in the order of the planes: Y, U, V.
+    pub fn in_order(&self) -> [Option<u128>; 3] {
+        [Some(self.y), self.u, self.v]
+    }
+}
+
+/// Appends a number between two texts.
+pub(crate) fn push_number(
+    text: &mut String,
+    before: &str,
+    number: u128,
+    after: &str,
+) -> Result<(), AllocError> {
+    write!(text, "{before}{number}{after}")
+}
+
+/// Appends a measure between two texts, with all its digits.
+pub(crate) fn push_value(
+    text: &mut String,
+    before: &str,
+    value: f64,
+    after: &str,
+) -> Result<(), AllocError> {
+    write!(text, "{before}{value}{after}")
+}

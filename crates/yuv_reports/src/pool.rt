@@ -1,0 +1,53 @@
+//! A measure over many frames: its mean, its least value, and its harmonic mean.
+
+use std::num::nearest_u64_to_f64;
+
+/// What is kept of the values that a measure has from frame to frame.
+#[derive(Clone, Copy)]
+pub struct Pool {
+    frames: u64,
+    sum: f64,
+    sum_of_reciprocals: f64,
+    least: f64,
+    frame_of_least: u64,
+}
+
+impl Pool {
+    /// Returns the pool of no frames.
+    pub fn new() -> Self {
+        Pool {
+            frames: 0,
+            sum: 0.0,
+            sum_of_reciprocals: 0.0,
+            least: f64::INFINITY,
+            frame_of_least: 0,
+        }
+    }
+
+    /// Adds the value of a frame, which has this number. The first of equal least values keeps its number.
+    pub fn add(&mut self, frame: u64, value: f64) {
+        self.sum += value;
+        self.sum_of_reciprocals += 1.0 / value.max(0.0);
+        if self.frames == 0 || value < self.least {
+            self.least = value;
+            self.frame_of_least = frame;
+        }
+        self.frames = self.frames.saturating_add(1);
+    }
+
+    /// Returns the arithmetic mean, where there was a frame.
+    pub fn mean(&self) -> Option<f64> {
+        (self.frames > 0).then_some(self.sum / nearest_u64_to_f64(self.frames))
+    }
+
+    /// Returns the least value and the number of its frame, where there was a frame.
+    pub fn least(&self) -> Option<(f64, u64)> {
+        (self.frames > 0).then_some((self.least, self.frame_of_least))
+    }
+
+    /// Returns the number of frames over the sum of the reciprocals, where there was a frame: the harmonic mean, which is 0 where
+    /// a value is 0 or below.
+    pub fn harmonic_mean(&self) -> Option<f64> {
+        (self.frames > 0).then_some(nearest_u64_to_f64(self.frames) / self.sum_of_reciprocals)
+    }
+}

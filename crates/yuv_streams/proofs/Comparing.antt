@@ -1,0 +1,109 @@
+-- One more pair of frames of two streams.
+use Rattle.std.proofs.Common.{ℕ, ◌≡◌, ◌+◌, List, [], ◌∷◌, ◌++◌, length, map, Option, refl, sym, ◌∙◌, ap, subst}
+use Rattle.std.proofs.Common.{arith, length-append}
+use Rattle.std.specs.Prelude.{◌↔◌, Some, None, IfSome, IsNone}
+use Rattle.std.proofs.lemmas.List.{append_assoc, length-map, map-append}
+use Rattle.std.proofs.lemmas.List.Elements.{All-push}
+use Rattle.std.proofs.lemmas.List.Sums.{fold_push}
+use Rattle.std.specs.Io.KnownBytes.{Consumes}
+use Rattle.v_frame.specs.Prelude.{PixelForm, Tables}
+use Rattle.yuv_streams.specs.Comparisons.{errors_between, errors_of_all, shown, Adds, ComparesFrames, IsDifference, Pair}
+use Rattle.yuv_streams.specs.Frames.{FramesDifferFirst}
+use Rattle.yuv_streams.specs.Pictures.{tables_in, Sizes}
+use Rattle.yuv_streams.specs.Sources.{Stream}
+use Rattle.yuv_streams.specs.Streams.{framed_bytes, Framed, IsFrame, ReadsFrames}
+use Rattle.yuv_streams.specs.Sums.{added, no_errors}
+use Rattle.yuv_streams.specs.declared.comparison.Comparison.{Comparison}
+use Rattle.yuv_streams.specs.declared.frames.PixelDifference.{PixelDifference}
+use Rattle.yuv_streams.specs.declared.sums.PlaneSums.{PlaneSums}
+use Rattle.yuv_streams.proofs.Reading.{none_read, one_more_read}
+
+module _ {T : Type 0} (form : PixelForm T) where
+  -- the first pixel that differs stays the first
+  one_more_difference : (pairs : List (Pair T)) (pair : Pair T) (earlier now : Option (ℕ × PixelDifference)) →
+      IsDifference form pairs earlier
+      → IfSome earlier (λ found. now ≡ Some found) → IsNone now ↔ (IsNone earlier × (pair.0 ≡ pair.1))
+      → IfSome now (λ found. IsNone earlier → (found.0 ≡ length pairs) × FramesDifferFirst form.value pair.0 pair.1
+      found.1)
+      → IsDifference form (pairs ++ pair ∷ []) now
+  one_more_difference pairs pair (Some found) now before stays same first =
+      subst (λ (d : Option (ℕ × PixelDifference)). IsDifference form (pairs ++ pair ∷ []) d) (sym stays)
+      (record {
+        earlier = before.earlier;
+        pair = before.pair;
+        later = before.later ++ pair ∷ [];
+        parts = ap (λ (l : List (Pair T)). l ++ pair ∷ []) before.parts ∙ append_assoc before.earlier
+            (before.pair ∷ before.later) (pair ∷ []);
+        counted = before.counted;
+        same = before.same;
+        differs = before.differs;
+      })
+  one_more_difference pairs pair None None before stays same first = All-push (λ (p : Pair T). p.0 ≡ p.1) pairs pair
+      before ((same.0 refl).1)
+  one_more_difference pairs pair None (Some found) before stays same first =
+      let told = first refl in
+      record {
+        earlier = pairs;
+        pair = pair;
+        later = [];
+        parts = refl;
+        counted = sym told.0;
+        same = before;
+        differs =
+            told.1;
+      }
+
+  -- the sums of two frames, plane by plane
+  abbrev planes : ℕ → Option ℕ → Option ℕ → PlaneSums
+  planes y u v = record { y = y; u = u; v = v }
+
+  pub errors_by_planes : (pair : Pair T) (sums : PlaneSums) → sums.y ≡ (errors_between form pair).y → sums.u ≡
+      (errors_between form pair).u
+      → sums.v ≡ (errors_between form pair).v → sums ≡ errors_between form pair
+  errors_by_planes pair sums same_y same_u same_v =
+      let all = errors_between form pair in
+      ap (λ (y : ℕ). planes y sums.u sums.v) same_y ∙ ap (λ (u : Option ℕ). planes all.y u sums.v) same_u ∙ ap
+      (λ (v : Option ℕ). planes all.y all.u v) same_v
+
+  module _ (size : Sizes) (one other : Stream) where
+    pub none_compared : (left right : Option (List ℕ)) → ComparesFrames form size one other left left right right
+        (record { frames = 0; errors = no_errors size; difference = None; longer = None })
+    none_compared left right = record {
+      frames = [];
+      counted = refl;
+      errors = refl;
+      difference = λ k d within. absurd (omega arith);
+      first = none_read one.container one.frame_len left;
+      second = none_read other.container other.frame_len right;
+    }
+
+    module _ (left mid left' right far right' : Option (List ℕ)) (found now : Comparison)
+        (before : ComparesFrames form size one other left mid right far found) where
+      pub one_more_compared : (first second : Framed) → IsFrame one.container one.frame_len first
+          → Consumes mid left' (framed_bytes one.container first) → IsFrame other.container other.frame_len second
+          → Consumes far right' (framed_bytes other.container second) → Adds form found now (shown form size (first, second))
+          → ComparesFrames form size one other left left' right right' now
+      one_more_compared first second whole read also_whole also_read adds =
+          let frames : Framed × Framed = (first, second) in
+          let pair = shown form size frames in
+          let pairs = map (shown form size) before.frames in
+          let grown : map (shown form size) (before.frames ++ frames ∷ []) ≡ pairs ++ pair ∷ [] =
+          map-append (shown form size) before.frames (frames ∷ []) in
+          let many : length pairs ≡ found.frames = length-map before.frames (shown form size) ∙ before.counted in
+          record {
+            frames = before.frames ++ frames ∷ [];
+            counted = length-append before.frames (frames ∷ []) ∙ ap (λ (n : ℕ). n + 1) before.counted ∙ sym adds.frames;
+            errors = adds.errors ∙ ap (λ (e : PlaneSums). added e (errors_between form pair)) before.errors ∙ sym
+                (fold_push (λ (e : PlaneSums) (p : Pair T). added e (errors_between form p)) (no_errors size) pairs pair)
+                ∙ ap (errors_of_all form size) (sym grown);
+            difference = subst (λ (l : List (Pair T)). IsDifference form l now.difference) (sym grown)
+                (one_more_difference pairs pair found.difference now.difference before.difference adds.stays adds.same
+                (subst (λ (n : ℕ). IfSome now.difference (λ f. IsNone found.difference
+                → (f.0 ≡ n) × FramesDifferFirst form.value pair.0 pair.1 f.1)) (sym many) adds.first));
+            first = subst (ReadsFrames left left' one.container one.frame_len)
+                (sym (map-append (λ (f : Framed × Framed). f.0) before.frames (frames ∷ [])))
+                (one_more_read one.container one.frame_len left mid left' _ before.first first whole read);
+            second = subst (ReadsFrames right right' other.container other.frame_len)
+                (sym (map-append (λ (f : Framed × Framed). f.1) before.frames (frames ∷ [])))
+                (one_more_read other.container other.frame_len right far right' _ before.second second also_whole also_read);
+          }

@@ -1,0 +1,5 @@
+pub mod Comparing
+pub mod Copied
+pub mod Copying
+pub mod Fitting
+pub mod Reading

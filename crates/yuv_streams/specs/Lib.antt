@@ -1,0 +1,11 @@
+pub mod Comparisons
+pub mod Copies
+pub mod Edits
+pub mod Formats
+pub mod Frames
+pub mod Pictures
+pub mod Prelude
+pub mod Sources
+pub mod Streams
+pub mod Sums
+pub mod WorkedStreams

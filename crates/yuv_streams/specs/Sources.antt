@@ -1,0 +1,41 @@
+-- A stream that is read: what stays of it, and which bytes are left.
+use Rattle.std.specs.Prelude.{ℕ, ◌≡◌, List, Option}
+use Rattle.std.specs.Io.Buffered.{reader_remaining}
+use Rattle.v_frame_y4m.specs.declared.header.StreamHeader.{StreamHeader}
+use Rattle.yuv_streams.specs.declared.error.StreamError.{StreamError}
+use Rattle.yuv_streams.specs.declared.source.Source.{Source}
+use Rattle.yuv_streams.specs.declared.stream.Container.{Container}
+use Rattle.yuv_streams.specs.declared.stream.Place.{Place}
+
+-- what no call changes of a stream: which one it is, its container, its header, and how many planar
+-- bytes a frame has
+pub record Stream : Type 0 where
+  pub place : Place
+  pub container : Container
+  pub header : StreamHeader
+  pub frame_len : ℕ
+
+module _ {R : Type 0} where
+  abbrev pub stream_of : Source R → Stream
+  stream_of source =
+      record {
+        place = source.place;
+        container = source.container;
+        header = source.header;
+        frame_len = source.frame_len;
+      }
+
+  -- the bytes that are left to be read, where those of the reader are known
+  abbrev pub bytes_left : (R → Option (List ℕ)) → Source R → Option (List ℕ)
+  bytes_left remaining source = reader_remaining remaining source.reader.inner
+
+  -- a stream of which no frame was read yet
+  pub record IsOpened (which : Place) (holding : Container) (source : Source R) : Type 0 where
+    pub place : source.place ≡ which
+    pub container : source.container ≡ holding
+    pub frames : source.frames ≡ 0
+
+  -- the error comes at the next frame of this stream
+  pub record IsAtNextFrame (source : Source R) (error : StreamError) : Type 0 where
+    pub place : error.place ≡ source.place
+    pub frames : error.frames ≡ source.frames

@@ -1,0 +1,38 @@
+//! Streams of frames, from the bytes that are read to the bytes that are written: copied, compared and counted, over any reader
+//! and any writer.
+//!
+//! Our own. `Rattle.yuv_streams.specs.Prelude` has the words for clauses.
+#![tactic(auto)]
+
+mod compare;
+mod comparison;
+mod copy;
+mod edit;
+mod editing;
+mod error;
+mod formats;
+mod frames;
+mod moving;
+mod options;
+mod passing;
+mod picture;
+mod plan;
+mod sink;
+mod source;
+mod stream;
+mod sums;
+
+pub use compare::compare_streams;
+pub use comparison::{CompareOptions, Comparison};
+pub use copy::copy_stream;
+pub use edit::{Edit, Rectangle, edit_frame};
+pub use error::{Problem, StreamError};
+pub use frames::{
+    Component, PixelDifference, first_difference_of_frames, squared_errors_of_frames,
+};
+pub use options::{CopyOptions, MAX_PIXELS};
+pub use passing::skip_frames;
+pub use sink::Sink;
+pub use source::Source;
+pub use stream::{Container, Place};
+pub use sums::{PlaneSums, pixel_counts};
