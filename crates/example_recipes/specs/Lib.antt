@@ -1,0 +1,2 @@
+pub mod Letterbox
+pub mod Negative

@@ -1,0 +1,76 @@
+//! A filter that changes luma and chroma, at any bit depth: the negative of a picture.
+ghost use Rattle.std.specs.Prelude.{◌≡◌, ◌-◌, ◌^◌, option_map};
+ghost use Rattle.v_frame.specs.Prelude.{border_and_geometry, table_of, tables_of, KeepsBorder, KeepsBorders};
+ghost use Rattle.example_recipes.specs.Negative.{negative_table, negative_tables};
+
+use std::alloc::Global;
+use std::io;
+use thiserror::Error;
+use v_frame::frame::{Frame, FrameError};
+use v_frame::pixel::Pixel;
+use v_frame::plane::Plane;
+use v_frame_ops::map_pixels;
+use v_frame_planar::Counted;
+use v_frame_y4m::{StreamHeader, Y4mError, read_frame, write_frame};
+
+/// Makes each sample of a frame the largest value less itself, in luma and in chroma.
+pub fn negate<T: Pixel>(frame: &mut Frame<T>, peak: T)
+    ensures tables { tables_of frame.new ≡ negative_tables T.form peak (tables_of frame.old) }
+    ensures borders { KeepsBorders frame.old frame.new }
+{
+    negate_plane(&mut frame.y_plane, peak);
+    negate_chroma(&mut frame.u_plane, peak);
+    negate_chroma(&mut frame.v_plane, peak);
+}
+
+/// The same of one plane.
+fn negate_plane<T: Pixel>(plane: &mut Plane<T>, peak: T)
+    ensures table { table_of plane.new ≡ negative_table T.form peak (table_of plane.old) }
+    ensures border { KeepsBorder plane.old plane.new }
+{
+    map_pixels(plane, |pixel: T| {
+        T::from_value(peak.into_u16().saturating_sub(pixel.into_u16()))
+    });
+}
+
+/// The same of a chroma plane, where it is there.
+fn negate_chroma<T: Pixel>(plane: &mut Option<Plane<T>>, peak: T)
+    ensures table { option_map table_of plane.new
+        ≡ option_map (negative_table T.form peak) (option_map table_of plane.old) }
+    ensures border { option_map border_and_geometry plane.new
+        ≡ option_map border_and_geometry plane.old }
+{
+    if let Some(plane) = plane {
+        negate_plane(plane, peak);
+    }
+}
+
+/// Why a stream was not filtered to its end.
+#[derive(Debug, Drop, Error)]
+pub enum FilterError {
+    /// There is no frame of the stream's size.
+    #[error("no frame of this size: {0}")]
+    Frame(#[from] FrameError),
+    /// A frame was not read or not written.
+    #[error(transparent)]
+    Stream(#[from] Y4mError),
+}
+
+/// Writes the negative of each frame of a YUV4MPEG2 stream, whose header was read, and written, before.
+pub fn negate_frames<T: Pixel, R: io::Read, W: io::Write>(
+    alloc: Global,
+    header: &StreamHeader,
+    peak: T,
+    reader: &mut Counted<R>,
+    writer: &mut Counted<W>,
+) -> Result<(), FilterError> {
+    let mut frame = header.frame::<T>(alloc, 0)?;
+    for _ in 0..u64::MAX {
+        if !read_frame(alloc, reader, &mut frame)? {
+            break;
+        }
+        negate(&mut frame, peak);
+        write_frame(writer, &frame)?;
+    }
+    Ok(())
+}
