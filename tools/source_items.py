@@ -78,14 +78,14 @@ def name_in(head):
 
 
 def definition(item, kind):
-    """The definition of a type with its doc comments, for what is public of it."""
+    """The definition of a type with its doc comments, for what is public of it, and the texts of errors."""
     start = body_start(item)
     if start == len(item):
         return item
     if kind == "trait":
         return trait_members(item, start)
     if kind == "enum":
-        return [line for line in item if not line.strip().startswith("#[")]
+        return [line for line in item if not re.match(r"\s*#\[(?!error\()", line)]
     fields = [(doc, it) for doc, it in items_of(field_lines(item[start + 1:-1]), 4)]
     kept = [line for doc, it in fields if it[0].startswith("    pub ")
             for line in [*(f"    /// {text}".rstrip() for text in doc), *it]]

@@ -2,7 +2,7 @@
 #![tactic(auto)]
 
 use example_recipes::negative::{FilterError, negate_frames};
-use std::io::{self, BufReader, BufWriter, Write};
+use std::io::{self, BufReader};
 use std::process::ExitCode;
 use thiserror::Error;
 use v_frame_planar::Counted;

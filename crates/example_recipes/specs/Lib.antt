@@ -1,2 +1,4 @@
+pub mod Deepen
 pub mod Letterbox
 pub mod Negative
+pub mod TurnedHeader

@@ -4,6 +4,8 @@
 #![tactic(auto)]
 
 pub mod crop;
+pub mod deepen;
 pub mod letterbox;
 pub mod negative;
 pub mod places;
+pub mod turned;

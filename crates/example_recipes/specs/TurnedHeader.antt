@@ -1,0 +1,29 @@
+-- The header of a stream whose pictures are turned by 90 degrees, in another colour.
+use Rattle.std.specs.Prelude.{ℕ, Bool, List, codes, filter, nat_eq, not, option_map}
+use Rattle.std.specs.List.{starts_with}
+use Rattle.v_frame_y4m.specs.declared.colour.Colour.{Colour}
+use Rattle.v_frame_y4m.specs.declared.header.Ratio.{Ratio}
+use Rattle.v_frame_y4m.specs.declared.header.StreamHeader.{StreamHeader}
+
+-- says the chroma format again, as ffmpeg's `XYSCSS=420JPEG` does
+abbrev pub repeats_format : List ℕ → Bool
+repeats_format extension = starts_with nat_eq extension (codes "YSCSS=")
+
+-- the extensions that hold of every format
+abbrev pub without_format : List (List ℕ) → List (List ℕ)
+without_format extensions = filter (λ extension. not (repeats_format extension)) extensions
+
+abbrev pub turned_ratio : Ratio → Ratio
+turned_ratio ratio = record { numerator = ratio.denominator; denominator = ratio.numerator }
+
+abbrev pub turned_header : StreamHeader → Colour → StreamHeader
+turned_header header colour =
+    record {
+      width = header.height;
+      height = header.width;
+      frame_rate = header.frame_rate;
+      interlacing = header.interlacing;
+      pixel_aspect = option_map turned_ratio header.pixel_aspect;
+      colour = colour;
+      extensions = without_format header.extensions;
+    }
