@@ -1,5 +1,5 @@
 -- Frames of 8 bits, turned by 90 degrees clockwise and shown in 10.
-use Rattle.std.specs.Prelude.{ℕ, ◌*◌, false}
+use Rattle.std.specs.Prelude.{ℕ, ◌≡◌, ◌*◌, [], ◌∷◌, false, refl}
 use Rattle.v_frame.specs.Prelude.{Frame, Table, Tables}
 use Rattle.v_frame_convert.specs.Prelude.{converted}
 use Rattle.v_frame_turn.specs.Frames.{BothFit}
@@ -11,6 +11,9 @@ use Rattle.example_recipes.specs.declared.deepen.DeepenError.TheVariants.{Turn, 
 -- a picture of 8 bits in 10: each value times 4
 abbrev pub deepened : Table ℕ → Table ℕ
 deepened rows = converted (converted (λ value. value * 4)) rows
+
+white_is_shifted : deepened ((16 ∷ 235 ∷ []) ∷ []) ≡ (64 ∷ 940 ∷ []) ∷ []
+white_is_shifted = refl
 
 -- each picture of a frame turned, and then in 10 bits
 abbrev pub turned_and_deepened : Tables ℕ → Tables ℕ

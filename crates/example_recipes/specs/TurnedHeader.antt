@@ -1,5 +1,5 @@
 -- The header of a stream whose pictures are turned by 90 degrees, in another colour.
-use Rattle.std.specs.Prelude.{ℕ, Bool, List, codes, filter, nat_eq, not, option_map}
+use Rattle.std.specs.Prelude.{ℕ, ◌≡◌, Bool, List, [], ◌∷◌, codes, filter, nat_eq, not, option_map, refl}
 use Rattle.std.specs.List.{starts_with}
 use Rattle.v_frame_y4m.specs.declared.colour.Colour.{Colour}
 use Rattle.v_frame_y4m.specs.declared.header.Ratio.{Ratio}
@@ -12,6 +12,10 @@ repeats_format extension = starts_with nat_eq extension (codes "YSCSS=")
 -- the extensions that hold of every format
 abbrev pub without_format : List (List ℕ) → List (List ℕ)
 without_format extensions = filter (λ extension. not (repeats_format extension)) extensions
+
+range_stays : without_format (codes "YSCSS=420JPEG" ∷ codes "COLORRANGE=FULL" ∷ [])
+    ≡ codes "COLORRANGE=FULL" ∷ []
+range_stays = refl
 
 abbrev pub turned_ratio : Ratio → Ratio
 turned_ratio ratio = record { numerator = ratio.denominator; denominator = ratio.numerator }
