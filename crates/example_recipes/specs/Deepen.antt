@@ -25,8 +25,8 @@ pub record HaveOneSize (source target : Frame ℕ) : Type 0 where
   pub u_plane : BothFit false source.u_plane target.u_plane
   pub v_plane : BothFit false source.v_plane target.v_plane
 
--- the reason holds: the frame can't be turned into the one between, or that one, turned, has not the
--- sizes of the deeper one
+-- the reason holds: the frame can't be turned into the one between, or that one, turned, has not
+-- the sizes of the deeper one
 abbrev pub IsRefusal : Frame ℕ → Frame ℕ → Frame ℕ → Frame ℕ → DeepenError → Type 0
 IsRefusal source between turned target (Turn error) = IsReason Rotate90 source between error
 IsRefusal source between turned target DifferentSize = ¬ HaveOneSize turned target
