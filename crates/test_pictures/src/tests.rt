@@ -2,6 +2,8 @@
 
 ghost use Rattle.std.specs.Prelude.{◌≡◌, true};
 
+mod checksums;
+mod compressed;
 mod failures;
 mod files;
 mod refusals;

@@ -93,7 +93,7 @@ step-xor : (a c byte : ℕ) → crc_step (bit_xor a c) byte ≡ bit_xor (divided
 unfolding crc_step
 step-xor a c byte = ap (divided 8) (xor_assoc a c byte) ∙ divided-xor 8 a (bit_xor c byte)
 
-fold-xor : (bytes : List ℕ) (a c : ℕ)
+pub fold-xor : (bytes : List ℕ) (a c : ℕ)
     → fold crc_step (bit_xor a c) bytes ≡ bit_xor (divided (8 * length bytes) a) (fold crc_step c bytes)
 unfolding divided
 fold-xor [] a c = refl
@@ -140,3 +140,28 @@ eight rest a b c d e f g h word p q r s t u v w =
     ∙ ap (bit_xor (divided 32 e)) (peel 0 f (g ∷ h ∷ []) u
     ∙ ap (bit_xor (divided 24 f)) (peel 0 g (h ∷ []) v
     ∙ ap (bit_xor (divided 16 g)) (peel 0 h [] w ∙ xor_zero_r (divided 8 h))))))))
+
+-- one part more is divided by more steps
+moved : (n k x y : ℕ) → divided n (bit_xor (divided k x) y) ≡ bit_xor (divided (k + n) x) (divided n y)
+moved n k x y = divided-xor n (divided k x) y ∙ ap (λ z. bit_xor z (divided n y)) (divided-add k n x)
+
+-- the same with zeros after them
+pub eight_after : (n rest a b c d e f g h : ℕ) → rest < 2 ^ 32 → a < 256 → b < 256 → c < 256 → d < 256 → e < 256
+    → f < 256 → g < 256 → h < 256
+    → divided n (fold crc_step rest (a ∷ b ∷ c ∷ d ∷ e ∷ f ∷ g ∷ h ∷ []))
+    ≡ bit_xor (divided (64 + n) (bit_xor (rest % 256) a))
+    (bit_xor (divided (56 + n) (bit_xor (rest / 256 % 256) b))
+    (bit_xor (divided (48 + n) (bit_xor (rest / 65536 % 256) c))
+    (bit_xor (divided (40 + n) (bit_xor (rest / 16777216 % 256) d))
+    (bit_xor (divided (32 + n) e) (bit_xor (divided (24 + n) f) (bit_xor (divided (16 + n) g) (divided (8 + n) h)))))))
+eight_after n rest a b c d e f g h word p q r s t u v w =
+    let last : divided n (bit_xor (divided 16 g) (divided 8 h)) ≡ bit_xor (divided (16 + n) g) (divided (8 + n) h) =
+    moved n 16 g (divided 8 h) ∙ ap (bit_xor (divided (16 + n) g)) (divided-add 8 n h) in
+    ap (divided n) (eight rest a b c d e f g h word p q r s t u v w)
+    ∙ moved n 64 (bit_xor (rest % 256) a) _
+    ∙ ap (bit_xor (divided (64 + n) (bit_xor (rest % 256) a))) (moved n 56 (bit_xor (rest / 256 % 256) b) _
+    ∙ ap (bit_xor (divided (56 + n) (bit_xor (rest / 256 % 256) b))) (moved n 48 (bit_xor (rest / 65536 % 256) c) _
+    ∙ ap (bit_xor (divided (48 + n) (bit_xor (rest / 65536 % 256) c))) (moved n 40 (bit_xor (rest / 16777216 % 256) d) _
+    ∙ ap (bit_xor (divided (40 + n) (bit_xor (rest / 16777216 % 256) d))) (moved n 32 e _
+    ∙ ap (bit_xor (divided (32 + n) e)) (moved n 24 f _
+    ∙ ap (bit_xor (divided (24 + n) f)) last)))))

@@ -7,3 +7,10 @@ pub mod Files
 pub mod MadeSteps
 pub mod Outcomes
 pub mod RowLists
+pub mod StreamSteps
+pub mod BitSteps
+pub mod ReadSteps
+pub mod ExpandSteps
+pub mod BlockSteps
+pub mod FilterSteps
+pub mod CoderSteps

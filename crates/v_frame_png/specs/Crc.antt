@@ -23,6 +23,10 @@ divided (suc steps) rest = divided steps (divided_once rest)
 unfoldable pub crc_step : ℕ → ℕ → ℕ
 crc_step rest byte = divided 8 (bit_xor rest byte)
 
--- the division begins with all ones, and what it leaves is turned over
+-- the division begins with all ones
+abbrev pub crc_rest : List ℕ → ℕ
+crc_rest bytes = fold crc_step ones bytes
+
+-- and what it leaves is turned over
 unfoldable pub crc32 : List ℕ → ℕ
-crc32 bytes = bit_xor (fold crc_step ones bytes) ones
+crc32 bytes = bit_xor (crc_rest bytes) ones

@@ -1,106 +1,62 @@
-//! The CRC of chunks, by tables, eight bytes at a time.
-ghost use Rattle.std.specs.Prelude.{◌≡◌, ℕ, ◌+◌, ◌*◌, ◌/◌, ◌%◌, ◌^◌, ◌<◌, length, slice_index, fold};
-ghost use Rattle.v_frame_png.specs.Crc.{crc32, crc_step, divided, divided_once};
+//! The CRC-32 of bytes.
+ghost use Rattle.std.specs.Prelude.{◌≡◌, ◌++◌, [], List, ℕ, bit_xor, fold};
+ghost use Rattle.v_frame_png.specs.Crc.{crc32, crc_rest, crc_step, ones};
 
-/// The polynomial of the CRC without its highest power, its lowest power in the highest bit.
-const POLYNOMIAL: u32 = 0xEDB8_8320;
+use crate::crc_tables::CrcTables;
+use std::marker::Model;
 
-/// How many bytes are divided at once.
-const PLACES: usize = 8;
+/// Returns the CRC-32 of bytes, with the polynomial 0xEDB88320, as chunks of PNG, zlib's `crc32` and gzip have it.
+///
+/// For bytes that come in parts there is [`Crc32Digest`].
+pub fn crc32(bytes: &[u8]) -> u32
+    ensures { result ≡ crc32 bytes.now }
+{
+    CrcTables::new().of(bytes)
+}
 
-/// How many entries the tables have: one for each byte in each place.
-const ENTRIES: usize = 2048;
-
-/// Divides bytes by the polynomial of the CRC.
+/// The CRC-32 of bytes that come one part after the other, as [`crc32`] computes it of all of them.
+///
+/// Contracts see what the division has left of the bytes so far, `crc_rest bytes`.
 #[derive(Drop)]
-pub(crate) struct Crc32 {
-    // Entry `256 * place + byte` is what is left of a byte that `8 * (place + 1)` steps have divided.
-    entries: [u32; ENTRIES],
-    ghost divided_bytes: { (k : ℕ) → k < 2048
-        → slice_index entries k ≡ divided (8 * (k / 256 + 1)) (k % 256) },
+pub struct Crc32Digest {
+    tables: CrcTables,
+    rest: u32,
 }
 
-/// Returns what one step of the division leaves.
-fn step(rest: u32) -> u32
-    ensures { result ≡ divided_once rest }
-{
-    if rest % 2 == 1 {
-        (rest / 2) ^ POLYNOMIAL
-    } else {
-        rest / 2
-    }
+impl Model for Crc32Digest {
+    ghost use Rattle.std.specs.Prelude.{ℕ};
+
+    ghost Value = { ℕ };
+
+    ghost view = { λ digest. digest.rest };
 }
 
-/// Returns what eight steps leave.
-fn eight_steps(rest: u32) -> u32
-    ensures { result ≡ divided 8 rest }
-{
-    let mut left = rest;
-    for _ in 0..8u32 {
-        left = step(left);
-    }
-    left
-}
-
-impl Crc32 {
-    /// Makes the tables.
-    pub(crate) fn new() -> Self {
-        let mut entries = [0; ENTRIES];
-        for k in 0..256 {
-            entries[k] = eight_steps(k as u32);
-        }
-        for k in 256..ENTRIES {
-            let before = entries[k - 256];
-            entries[k] = (before / 256) ^ entries[before as usize % 256];
-        }
-        Crc32 { entries }
-    }
-
-    /// Returns what is left of a byte that stands so many bytes before the last one.
-    fn entry(&self, place: usize, byte: u8) -> u32
-        requires { place < 8 }
-        ensures { result ≡ divided (8 * (place + 1)) byte }
+impl Crc32Digest {
+    /// Begins with no byte.
+    pub fn new() -> Self
+        ensures { result ≡ crc_rest [] }
     {
-        self.entries[256 * place + byte as usize]
-    }
-
-    /// Divides one byte.
-    fn divide_byte(&self, rest: u32, byte: u8) -> u32
-        ensures { result ≡ crc_step rest byte }
-    {
-        (rest / 256) ^ self.entry(0, (rest % 256) as u8 ^ byte)
-    }
-
-    /// Divides eight bytes. The first four meet the bytes that are left of those before.
-    fn divide_eight(&self, rest: u32, bytes: &[u8]) -> u32
-        requires { length bytes.now ≡ 8 }
-        ensures { result ≡ fold crc_step rest bytes.now }
-    {
-        let [a, b, c, d] = rest.to_le_bytes();
-        self.entry(7, a ^ bytes[0])
-            ^ self.entry(6, b ^ bytes[1])
-            ^ self.entry(5, c ^ bytes[2])
-            ^ self.entry(4, d ^ bytes[3])
-            ^ self.entry(3, bytes[4])
-            ^ self.entry(2, bytes[5])
-            ^ self.entry(1, bytes[6])
-            ^ self.entry(0, bytes[7])
-    }
-
-    /// Returns the CRC of bytes.
-    pub(crate) fn of(&self, bytes: &[u8]) -> u32
-        ensures { result ≡ crc32 bytes.now }
-    {
-        let mut rest = u32::MAX;
-        let mut ahead = bytes;
-        while ahead.len() >= PLACES {
-            let (first, others) = ahead.split_at(PLACES);
-            rest = self.divide_eight(rest, first);
-            ahead = others;
+        Crc32Digest {
+            tables: CrcTables::new(),
+            rest: u32::MAX,
         }
-        for byte in ahead {
-            rest = self.divide_byte(rest, *byte);
-        }
-        rest ^ u32::MAX
+    }
+
+    /// Adds bytes behind those before.
+    pub fn update(&mut self, bytes: &[u8])
+        ensures fold { self.new ≡ fold crc_step self.old bytes.now }
+        ensures bytes { (before : List ℕ) → self.old ≡ crc_rest before
+            → self.new ≡ crc_rest (before ++ bytes.now) }
+    {
+        self.rest = self.tables.divide(self.rest, bytes);
+    }
+
+    /// Returns the CRC-32 of the bytes so far.
+    #[tactic(auto, unfolding(crate::specs::Crc::crc32))]
+    pub fn value(&self) -> u32
+        ensures turned { result ≡ bit_xor self.now ones }
+        ensures bytes { (before : List ℕ) → self.now ≡ crc_rest before → result ≡ crc32 before }
+    {
+        self.rest ^ u32::MAX
     }
 }

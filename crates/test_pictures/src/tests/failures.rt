@@ -4,7 +4,7 @@ use super::{header, must, noise};
 use std::io::{self, ErrorKind, Write};
 use std::process::Abort;
 use v_frame::plane::RowsRef;
-use v_frame_png::{ColourSpace, PngError, PngWriter, Samples, write_png};
+use v_frame_png::{ColourSpace, Compression, PngError, PngWriter, Samples, write_png_with};
 
 /// Takes so many bytes, at most five at once, and then fails or takes none.
 #[derive(Drop)]
@@ -44,6 +44,7 @@ fn is_of(error: &PngError, fails: bool) -> bool {
 /// Writes a picture to a writer that fails after so many bytes: it has just these, and the picture is closed.
 fn stops(
     rt: &(impl Abort + AllocGlobal),
+    compression: Compression,
     rows: &RowsRef<'_, u8>,
     file: &[u8],
     count: usize,
@@ -55,7 +56,8 @@ fn stops(
         left: count,
         fails,
     };
-    let mut png = PngWriter::new(rt.alloc(), failing, picture).expect(rt, "begun");
+    let begun = PngWriter::with_compression(rt.alloc(), failing, picture, compression);
+    let mut png = begun.expect(rt, "begun");
     let answer = png.write_rows(rows).and_then(|_| png.finish());
     match answer {
         Ok(()) => must(rt, false),
@@ -75,10 +77,13 @@ fn each_write_fails_in_turn(rt: HostRuntime) {
     let picture = header(5, 3, Samples::Rgb8, ColourSpace::Srgb);
     let bytes = noise(&rt, 45);
     let rows = RowsRef::new(bytes.as_slice(), 15, 3, 15).expect(&rt, "rows");
-    let file = write_png(rt.alloc(), Vec::new(rt.alloc()), picture, &rows).expect(&rt, "written");
-    for count in 0..file.len() {
-        stops(&rt, &rows, file.as_slice(), count, true);
-        stops(&rt, &rows, file.as_slice(), count, false);
+    for kind in [Compression::Stored, Compression::Fixed] {
+        let written = write_png_with(rt.alloc(), Vec::new(rt.alloc()), picture, kind, &rows);
+        let file = written.expect(&rt, "written");
+        for count in 0..file.len() {
+            stops(&rt, kind, &rows, file.as_slice(), count, true);
+            stops(&rt, kind, &rows, file.as_slice(), count, false);
+        }
     }
 }
 

@@ -7,7 +7,7 @@ use std::process::Abort;
 use v_frame::chroma::ChromaSubsampling;
 use v_frame::frame::FrameBuilder;
 use v_frame::plane::{PlaneGeometry, PlaneRef, RowsRef};
-use v_frame_png::{ColourSpace, Header, PngWriter, Samples, write_png};
+use v_frame_png::{ColourSpace, Compression, Header, PngWriter, Samples, write_png};
 use v_frame_rgb::{ColourRange, RgbMatrix, Standard};
 
 const BT2020_PQ: ColourSpace = ColourSpace::Cicp {
@@ -31,6 +31,7 @@ fn four_pixels(rt: HostRuntime) {
     png.write_row(&[7, 0]).expect(&rt, "first row");
     must(&rt, png.rows_left() == 1);
     must(&rt, png.header() == picture);
+    must(&rt, png.compression() == Compression::Stored);
     png.write_row(&[255, 128]).expect(&rt, "second row");
     png.finish().expect(&rt, "finished");
     must(&rt, png.rows_left() == 0);
