@@ -4,18 +4,18 @@ use Rattle.std.proofs.Common.{append-nil, length-append, arith, inl, inr, take_a
 use Rattle.std.proofs.lemmas.Grind.{flat_map-append}
 use Rattle.std.proofs.lemmas.List.{drop_all}
 use Rattle.std.proofs.lemmas.List.Elements.{All-append}
-use Rattle.std.specs.Io.KnownBytes.{Appends, Consumes, IsAtEnd}
+use Rattle.std.specs.Io.KnownBytes.{Appends, Consumes}
 use Rattle.std.proofs.KnownBytes.{Appends-trans, Consumes-trans}
 use lib.Seq.{drop-append_seam}
+use Rattle.v_frame_semi_planar.specs.declared.format.SemiPlanarFormat.{SemiPlanarFormat}
 use Rattle.v_frame_y4m.specs.declared.header.StreamHeader.{StreamHeader}
 use Rattle.std.proofs.Common.{Bool, true, false}
-use Rattle.std.specs.Prelude.{◌==◌, if◌then◌else◌}
+use Rattle.std.specs.Prelude.{if◌then◌else◌}
 use Rattle.std.proofs.lemmas.Bool.{ne_eqb}
-use Rattle.v_frame.specs.Prelude.{one_byte, two_bytes}
+use Rattle.v_frame.specs.Prelude.{one_byte, two_bytes, PixelForm}
 use Rattle.v_frame_y4m.specs.Colour.{depth_of}
-use Rattle.yuv_streams.specs.Edits.{edited_bytes}
-use Rattle.yuv_streams.specs.Pictures.{sizes_in}
-use Rattle.yuv_streams.specs.Copies.{copied_header, edit_of, is_plain, kept, limit_of, made_stream, same_bytes, Carries}
+use Rattle.yuv_streams.specs.Conversions.{form_of}
+use Rattle.yuv_streams.specs.Copies.{copied_header, is_plain, kept, limit_of, made_bytes, made_stream, same_bytes, Carries}
 use Rattle.yuv_streams.specs.Copies.{Copies, CopiesBy}
 use Rattle.yuv_streams.specs.Streams.{framed_bytes, header_bytes, CountsFrames, Framed, IsFrame, ReadsFrames}
 use Rattle.yuv_streams.specs.declared.options.CopyOptions.{CopyOptions}
@@ -84,45 +84,37 @@ module _ (from : Container) (count : ℕ) where
               (sym none) (subst (Appends has now) (sym (append-nil (header_bytes to header))) line);
         }
 
-  -- which bytes are written of a frame, by the options and the depth
-  module _ (to : Container) (options : CopyOptions) (header made : StreamHeader) (left left' has has' : Option (List ℕ))
+  -- which bytes are written of a frame, by the options and the depths
+  module _ (to : Container) (options : CopyOptions) (header made : StreamHeader)
+      (layout : Option SemiPlanarFormat) (left left' has has' : Option (List ℕ))
       (found : ℕ) (says : made ≡ copied_header options header) where
     abbrev By : (List ℕ → List ℕ) → StreamHeader → Type 0
     By bytes h = CopiesBy from count left left' has has' to options h bytes found
 
-    abbrev of_one : List ℕ → List ℕ
-    of_one bytes = edited_bytes one_byte (edit_of options header) (sizes_in header) bytes
+    abbrev edited_bytes : PixelForm ℕ → StreamHeader → List ℕ → List ℕ
+    edited_bytes form h bytes = made_bytes form (form_of (depth_of h.colour)) to options header layout bytes
 
-    abbrev of_two : List ℕ → List ℕ
-    of_two bytes = edited_bytes two_bytes (edit_of options header) (sizes_in header) bytes
+    abbrev all_edited : List ℕ → List ℕ
+    all_edited bytes = edited_bytes (form_of (depth_of header.colour)) (copied_header options header) bytes
 
-    abbrev eight : Bool
-    eight = depth_of header.colour == 8
-
-    pub plain_copy : is_plain options ≡ true → By same_bytes made → Copies from count left left' has has' to options
-        header found
+    pub plain_copy : is_plain to options header layout ≡ true → By same_bytes made → Copies from count left left' has has' to
+        options header layout found
     plain_copy plain copied =
-        subst (λ (b : Bool). By (λ (bytes : List ℕ). if b then bytes else (if eight then of_one bytes else of_two bytes))
+        subst (λ (b : Bool). By (λ (bytes : List ℕ). if b then bytes else all_edited bytes)
         (copied_header options header)) (sym plain) (subst (By same_bytes) says copied)
 
-    edited_copy : (d : Bool) → eight ≡ d → is_plain options ≡ false
-        → By (λ (bytes : List ℕ). if d then of_one bytes else of_two bytes) made
-        → Copies from count left left' has has' to options header found
-    edited_copy d depth edits copied =
-        let first : List ℕ → List ℕ = λ bytes. if d then of_one bytes else of_two bytes in
-        let second = subst (λ (e : Bool). By (λ (bytes : List ℕ). if e then of_one bytes else of_two bytes)
-        (copied_header options header)) (sym depth) (subst (By first) says copied) in
-        subst (λ (b : Bool). By (λ (bytes : List ℕ). if b then bytes else (if eight then of_one bytes else of_two bytes))
-        (copied_header options header)) (sym edits) second
+    pub edited_copy : (form : PixelForm ℕ) → form ≡ form_of (depth_of header.colour) → is_plain to options header layout ≡ false
+        → By (edited_bytes form made) made → Copies from count left left' has has' to options header layout found
+    edited_copy form is edits copied =
+        let by_header = subst (λ (h : StreamHeader). By (edited_bytes form h) h) says copied in
+        let by_form = subst (λ (f : PixelForm ℕ). By (edited_bytes f (copied_header options header))
+        (copied_header options header)) is by_header in
+        subst (λ (b : Bool). By (λ (bytes : List ℕ). if b then bytes else all_edited bytes)
+        (copied_header options header)) (sym edits) by_form
 
-    pub copy_of_bytes : is_plain options ≡ false → depth_of made.colour ≡ 8 → By of_one made
-        → Copies from count left left' has has' to options header found
-    copy_of_bytes edits depth copied =
-        let same : depth_of header.colour ≡ 8 = subst (λ (h : StreamHeader). depth_of h.colour ≡ 8) says depth in
-        edited_copy true (ap (λ (n : ℕ). n == 8) same) edits copied
+-- how pixels are made of bytes, by the depth
+pub form_of_eight : (depth : ℕ) → depth ≡ 8 → one_byte ≡ form_of depth
+form_of_eight depth is = sym (ap form_of is)
 
-    pub copy_of_words : is_plain options ≡ false → (depth_of made.colour ≡ 8 → ⊥) → By of_two made
-        → Copies from count left left' has has' to options header found
-    copy_of_words edits depth copied =
-        let other : depth_of header.colour ≡ 8 → ⊥ = subst (λ (h : StreamHeader). depth_of h.colour ≡ 8 → ⊥) says depth in
-        edited_copy false (ne_eqb (depth_of header.colour) 8 other) edits copied
+pub form_of_more : (depth : ℕ) → (depth ≡ 8 → ⊥) → two_bytes ≡ form_of depth
+form_of_more depth other = sym (ap (λ (b : Bool). if b then one_byte else two_bytes) (ne_eqb depth 8 other))

@@ -2,4 +2,9 @@ pub mod Comparing
 pub mod Copied
 pub mod Copying
 pub mod Fitting
+pub mod Formatting
+pub mod LaidOut
+pub mod MoreTold
+pub mod NoErrors
 pub mod Reading
+pub mod Scaling

@@ -5,11 +5,14 @@ use Rattle.std.proofs.lemmas.List.Elements.{All-push}
 use Rattle.std.proofs.lemmas.Grind.{flat_map-append}
 use Rattle.std.specs.Io.KnownBytes.{Appends, Consumes, IsAtEnd}
 use Rattle.std.proofs.KnownBytes.{Appends-nil, Appends-trans, Consumes-nil, Consumes-trans}
-use Rattle.yuv_streams.specs.Copies.{made_stream, Carries, MovesNext}
+use Rattle.yuv_streams.specs.Copies.{Carries, MovesNext}
 use Rattle.yuv_streams.specs.Streams.{framed_bytes, written_bytes, frame_line, CountsFrames, Framed, IsFrame, ReadsFrames}
 use Rattle.yuv_streams.specs.Streams.{ReadsNext, ReadsWhole}
 use Rattle.v_frame_y4m.specs.Ascii.{line_feed}
-use Rattle.std.proofs.Common.{append_assoc, true}
+use Rattle.std.proofs.Common.{append_assoc, Bool, true, false}
+use Rattle.v_frame.specs.Prelude.{PixelForm, Tables}
+use Rattle.v_frame_semi_planar.specs.declared.format.SemiPlanarFormat.{SemiPlanarFormat}
+use Rattle.yuv_streams.specs.Pictures.{ReadsTables, Sizes}
 use Rattle.yuv_streams.specs.declared.stream.Container.TheVariants.{Y4m, Raw}
 use Rattle.yuv_streams.specs.declared.stream.Container.{Container}
 
@@ -50,6 +53,13 @@ module _ (count : ℕ) (left mid left' : Option (List ℕ)) (front rest : List �
         subst (Appends has has') (append_assoc (frame_line to) front rest)
             (Appends-trans has now has' _ _ (Appends-trans has began now _ _ line sent) also),
       )
+
+-- a frame that shows tables was read whole
+pub whole_of_tables : {T : Type 0} (form : PixelForm T) (from : Container) (count : ℕ) (layout : Option SemiPlanarFormat) (sizes : Sizes)
+    (left left' : Option (List ℕ)) (bytes : List ℕ) (tables : Tables T) (more : Bool)
+    → ReadsTables form from count layout sizes left left' bytes tables more → ReadsWhole left left' from count more
+whole_of_tables form from count layout sizes left left' bytes tables true read = ((read.0, bytes), read.1, read.2)
+whole_of_tables form from count layout sizes left left' bytes tables false read = read
 
 module _ (from : Container) (count : ℕ) where
   pub none_read : (left : Option (List ℕ)) → ReadsFrames left left from count []

@@ -1,11 +1,10 @@
 -- Frames of which a rectangle is taken, as large as it is or at half the size.
-use Rattle.std.specs.Prelude.{ℕ, ◌≡◌, ◌+◌, ◌/◌, ◌<◌, ◌≤◌, if◌then◌else◌, ⊤, Bool, List, Option, Some, None, option_map}
+use Rattle.std.specs.Prelude.{ℕ, ◌≡◌, ◌+◌, ◌/◌, ◌<◌, ◌≤◌, if◌then◌else◌, ⊤, Bool, Option, Some, None, option_map}
 use Rattle.std.specs.Int.{div_ceil}
 use Rattle.v_frame.specs.Prelude.{PixelForm, Table, Tables, rectangle}
 use Rattle.v_frame_convert.specs.Prelude.{scaled}
 use Rattle.v_frame_convert.specs.declared.scale.Scale.TheVariants.{Half}
-use Rattle.v_frame_planar.specs.Planar.{planar_bytes}
-use Rattle.yuv_streams.specs.Pictures.{tables_in, Sizes}
+use Rattle.yuv_streams.specs.Pictures.{Sizes}
 use Rattle.yuv_streams.specs.declared.edit.Rectangle.{Rectangle}
 use Rattle.yuv_streams.specs.declared.edit.Edit.{Edit}
 
@@ -64,7 +63,3 @@ module _ {T : Type 0} (form : PixelForm T) where
         u = option_map (edited_table edit.half edit.chroma) tables.u;
         v = option_map (edited_table edit.half edit.chroma) tables.v;
       }
-
-  -- the planar bytes of what is made of a frame, of which these are the planar bytes
-  abbrev pub edited_bytes : Edit → Sizes → List ℕ → List ℕ
-  edited_bytes edit sizes bytes = planar_bytes form (edited edit (tables_in form sizes bytes))

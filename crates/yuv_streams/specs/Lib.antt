@@ -1,11 +1,15 @@
 pub mod Comparisons
+pub mod Conversions
 pub mod Copies
 pub mod Edits
 pub mod Formats
 pub mod Frames
+pub mod Layouts
 pub mod Pictures
+pub mod Plans
 pub mod Prelude
 pub mod Sources
 pub mod Streams
 pub mod Sums
+pub mod Telling
 pub mod WorkedStreams

@@ -1,18 +1,22 @@
 -- A stream that is read: what stays of it, and which bytes are left.
-use Rattle.std.specs.Prelude.{ℕ, ◌≡◌, List, Option}
+use Rattle.std.specs.Prelude.{ℕ, ◌≡◌, ◌⊎◌, List, Option}
 use Rattle.std.specs.Io.Buffered.{reader_remaining}
+use Rattle.v_frame_semi_planar.specs.declared.format.SemiPlanarFormat.{SemiPlanarFormat}
 use Rattle.v_frame_y4m.specs.declared.header.StreamHeader.{StreamHeader}
 use Rattle.yuv_streams.specs.declared.error.StreamError.{StreamError}
+use Rattle.yuv_streams.specs.declared.sink.Sink.{Sink}
 use Rattle.yuv_streams.specs.declared.source.Source.{Source}
 use Rattle.yuv_streams.specs.declared.stream.Container.{Container}
 use Rattle.yuv_streams.specs.declared.stream.Place.{Place}
+use Rattle.yuv_streams.specs.declared.stream.Place.TheVariants.{Output}
 
--- what no call changes of a stream: which one it is, its container, its header, and how many planar
--- bytes a frame has
+-- what no call changes of a stream: which one it is, its container, its header, the semi-planar
+-- layout of its frames where they have one, and how many bytes a frame has
 pub record Stream : Type 0 where
   pub place : Place
   pub container : Container
   pub header : StreamHeader
+  pub layout : Option SemiPlanarFormat
   pub frame_len : ℕ
 
 module _ {R : Type 0} where
@@ -22,6 +26,7 @@ module _ {R : Type 0} where
         place = source.place;
         container = source.container;
         header = source.header;
+        layout = source.layout;
         frame_len = source.frame_len;
       }
 
@@ -39,3 +44,16 @@ module _ {R : Type 0} where
   pub record IsAtNextFrame (source : Source R) (error : StreamError) : Type 0 where
     pub place : error.place ≡ source.place
     pub frames : error.frames ≡ source.frames
+
+-- the error comes at the next frame that is written
+pub record IsAtNextWritten {W : Type 0} (sink : Sink W) (error : StreamError) : Type 0 where
+  pub place : error.place ≡ Output
+  pub frames : error.frames ≡ sink.frames
+
+-- a copy stops at the next frame that it reads, or at the next one that it writes
+abbrev pub StopsCopy : {R W : Type 0} → Source R → Sink W → StreamError → Type 0
+StopsCopy source sink error = IsAtNextFrame source error ⊎ IsAtNextWritten sink error
+
+-- a comparison stops at the next frame of the first stream, or at that of the second
+abbrev pub StopsComparison : {R S : Type 0} → Source R → Source S → StreamError → Type 0
+StopsComparison first second error = IsAtNextFrame first error ⊎ IsAtNextFrame second error

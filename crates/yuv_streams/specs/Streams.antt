@@ -1,7 +1,7 @@
 -- Streams of frames, as bytes: a header line, where the container has one, and the frames.
 use Rattle.std.specs.Prelude.{ℕ, ◌≡◌, ◌+◌, ◌-◌, ◌^◌, ◌≤◌, ◌⊎◌, All, Bool, true, false, List, [], ◌∷◌, ◌++◌, codes, flat_map, length}
 use Rattle.std.specs.Prelude.{min, Option, Some, None}
-use Rattle.std.specs.Io.KnownBytes.{Appends, Consumes, IsAtEnd}
+use Rattle.std.specs.Io.KnownBytes.{Consumes, IsAtEnd}
 use Rattle.v_frame_y4m.specs.Ascii.{line_feed}
 use Rattle.v_frame_y4m.specs.Header.{header_line, IsHeader}
 use Rattle.v_frame_y4m.specs.Streams.{IsFrameLine, IsLine}
@@ -72,7 +72,8 @@ module _ (left left' : Option (List ℕ)) where
   -- the line in front of a frame was read, or the stream stood at its end before it
   abbrev pub ReadsLine : Bool → Type 0
   ReadsLine true =
-      (line : List ℕ) × IsFrameLine line × IsLine line × Consumes left left' (line ++ line_feed ∷ [])
+      (line : List ℕ) × IsFrameLine line × IsLine line
+      × Consumes left left' (line ++ line_feed ∷ [])
   ReadsLine false = Consumes left left' [] × IsAtEnd left'
 
   -- the line of a frame was read and these bytes after it, or the stream stood at its end before it

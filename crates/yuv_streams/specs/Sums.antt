@@ -37,4 +37,6 @@ pixels_of_sizes sizes =
 
 -- no error in any plane of frames of this size
 abbrev pub no_errors : Sizes → PlaneSums
-no_errors size = record { y = 0; u = option_map (λ _. 0) size.1.0; v = option_map (λ _. 0) size.1.1 }
+no_errors size =
+    let none : Option (ℕ × ℕ) → Option ℕ = option_map (λ _. 0) in
+    record { y = 0; u = none size.1.0; v = none size.1.1 }

@@ -2,11 +2,12 @@
 ghost use Rattle.std.specs.Prelude.{◌≡◌, ◌+◌, ◌↔◌, IfSome, IsNone, IsTrue, None, Some, min, option_map};
 ghost use Rattle.v_frame.specs.Prelude.{table_of, tables_of};
 ghost use Rattle.v_frame_planar.specs.Planar.{sizes_of};
-ghost use Rattle.yuv_streams.specs.Frames.{FramesDifferFirst};
+ghost use Rattle.yuv_streams.specs.Frames.{chroma_errors, plane_errors, FramesDifferFirst};
 ghost use Rattle.yuv_streams.specs.Streams.{longer_of as longer, most_frames};
 ghost use Rattle.yuv_streams.specs.Sums.{added, no_errors};
 
-use crate::frames::{PixelDifference, first_difference_of_frames};
+use crate::alike::difference_by_errors;
+use crate::frames::PixelDifference;
 use crate::stream::Place;
 use crate::sums::PlaneSums;
 use v_frame::frame::Frame;
@@ -75,7 +76,13 @@ impl Comparison {
         second: &Frame<T>,
         errors: &PlaneSums,
     ) -> Self
-        requires { sizes_of (tables_of first.now) ≡ sizes_of (tables_of second.now) }
+        requires sizes { sizes_of (tables_of first.now) ≡ sizes_of (tables_of second.now) }
+        requires y { errors.now.y ≡ plane_errors T.form.value (tables_of first.now).y
+            (tables_of second.now).y }
+        requires u { errors.now.u ≡ chroma_errors T.form.value (tables_of first.now).u
+            (tables_of second.now).u }
+        requires v { errors.now.v ≡ chroma_errors T.form.value (tables_of first.now).v
+            (tables_of second.now).v }
         ensures frames { result.frames ≡ min (self.now.frames + 1) most_frames }
         ensures errors { result.errors ≡ added self.now.errors errors.now }
         ensures earlier { IfSome self.now.difference (λ found. result.difference ≡ Some found) }
@@ -88,7 +95,7 @@ impl Comparison {
     {
         let difference = match self.difference {
             Some(found) => Some(found),
-            None => match first_difference_of_frames(first, second) {
+            None => match difference_by_errors(first, second, errors) {
                 Some(found) => Some((self.frames, found)),
                 None => None,
             },

@@ -1,22 +1,24 @@
 //! Streams that are written once more, as they are or with other frames.
-ghost use Rattle.std.specs.Prelude.{◌≡◌, IfOk, OnOk};
+ghost use Rattle.std.specs.Prelude.{◌≡◌, IfErr, IfOk, None, OnOk};
 ghost use Rattle.std.specs.Io.KnownBytes.{Appends};
 ghost use Rattle.v_frame_y4m.specs.Colour.{depth_of};
 ghost use Rattle.v_frame_y4m.specs.Frames.{pixel_bytes};
 ghost use Rattle.v_frame_y4m.specs.Header.{IsWritable};
-ghost use Rattle.yuv_streams.specs.Copies.{copied_header, edit_of as made_by, same_bytes, taken, Begins, Copies, CopiesBy, IsTakable};
-ghost use Rattle.yuv_streams.specs.Edits.{edited_bytes};
-ghost use Rattle.yuv_streams.specs.Pictures.{sizes_in};
-ghost use Rattle.yuv_streams.specs.Sources.{bytes_left, stream_of};
+ghost use Rattle.yuv_streams.specs.Conversions.{form_of, layout_in};
+ghost use Rattle.yuv_streams.specs.Copies.{copied_header, made_bytes, same_bytes, taken, Begins, Copies, CopiesBy, IsTakable};
+ghost use Rattle.yuv_streams.specs.Sources.{bytes_left, stream_of, IsAtNextFrame, StopsCopy};
 ghost use Rattle.yuv_streams.specs.Streams.{header_bytes};
+ghost use Rattle.yuv_streams.specs.Telling.{TellsUpTo};
 
 use crate::editing::edit_frames;
 use crate::error::{Problem, StreamError};
+use crate::maker::Maker;
 use crate::moving::move_frames;
 use crate::options::CopyOptions;
 use crate::passing::skip_frames;
-use crate::picture::{Picture, blank_frame};
-use crate::plan::{edit_of, header_of, rectangle_of, test_crop};
+use crate::picture::Picture;
+use crate::plan::{header_of, rectangle_of, test_crop};
+use crate::progress::{Progress, Silent};
 use crate::sink::Sink;
 use crate::source::Source;
 use crate::stream::Container;
@@ -27,34 +29,43 @@ use v_frame_y4m::StreamHeader;
 
 /// Writes a stream once more, and counts the frames that are written.
 ///
-/// Frames are passed over and taken as the options say. Those without a crop and a half size are moved as bytes, through a
-/// block of fixed size. The others are read one by one into one picture. Nothing is written before all tests.
+/// Frames are passed over and taken as the options say. Where none is cropped, halved or written in another format or layout,
+/// they are moved as bytes, through a block of fixed size. Else they are read one by one into one picture: the crop is taken,
+/// then halved, and what is made so is written in the format. Without a format the layout of the source is written to raw video,
+/// and planar frames to a YUV4MPEG2 stream. Nothing is written before all tests. After each frame that was written `progress` is
+/// told how many they are.
 ///
 /// # Errors
 ///
-/// Of [`Problem`] `EmptyCrop`, `CropOutside` and `CropMisaligned` where the crop can't be taken; `Unwritable` where no header
-/// line says what should be written; `TooManyPixels`, where a picture is to be made that has more than the options allow;
-/// `OutOfMemory`. Then nothing was read or written. `Stream` where a frame was not read or not written.
-pub fn copy_stream<R: io::Read, W: io::Write>(
+/// Of [`Problem`] `EmptyCrop`, `CropOutside` and `CropMisaligned` where the crop can't be taken; `SemiPlanar` where a YUV4MPEG2
+/// stream is asked for in a semi-planar layout; `Unwritable` where no header line says what should be written; `TooManyPixels`,
+/// where a picture is to be made that has more than the options allow; `OutOfMemory`. Then nothing was read or written. `Stream`
+/// where a frame was not read or not written, and `OutOfMemory` where there was no room to show a semi-planar one.
+pub fn copy_stream<R: io::Read, W: io::Write, P: Progress>(
     alloc: Global,
     source: &mut Source<R>,
     sink: &mut Sink<W>,
     options: &CopyOptions,
+    progress: &mut P,
 ) -> Result<u64, StreamError>
     ensures copied { IfOk result (Copies source.old.container source.old.frame_len
         (bytes_left R.remaining source.old) (bytes_left R.remaining source.new)
         (W.contents sink.old.writer.inner) (W.contents sink.new.writer.inner)
-        sink.old.container options.now source.old.header) }
+        sink.old.container options.now source.old.header source.old.layout) }
+    ensures planar { OnOk result (sink.old.container ≡ Container.Y4m
+        → layout_in options.now.format ≡ None) }
+    ensures told { IfOk result (λ found. TellsUpTo P.shows found progress.old progress.new) }
+    ensures stopped { IfErr result (StopsCopy source.new sink.new) }
     ensures same { stream_of source.new ≡ stream_of source.old }
 {
     let header = planned_header(alloc, source, sink, options)?;
-    if options.is_plain() {
-        return Ok(move_stream(alloc, source, &header, sink, options)?);
+    if options.is_plain(sink.container, source.header(), source.layout()) {
+        return Ok(move_stream(alloc, source, &header, sink, options, progress)?);
     }
-    if header.colour.bit_depth() == 8 {
-        return Ok(edit_stream::<u8, _, _>(alloc, source, &header, sink, options)?);
+    if source.header().colour.bit_depth() == 8 {
+        return Ok(edit_as::<u8, _, _, _>(alloc, source, &header, sink, options, progress)?);
     }
-    Ok(edit_stream::<u16, _, _>(alloc, source, &header, sink, options)?)
+    Ok(edit_as::<u16, _, _, _>(alloc, source, &header, sink, options, progress)?)
 }
 
 /// Returns the header that is written, where all that can be tested before allows the copy.
@@ -67,7 +78,10 @@ fn planned_header<R: io::Read, W: io::Write>(
     ensures header { IfOk result (λ header. header
         ≡ copied_header options.now source.now.header) }
     ensures takable { IfOk result (λ _. IsTakable (taken options.now source.now.header) source.now.header) }
+    ensures planar { OnOk result (sink.now.container ≡ Container.Y4m
+        → layout_in options.now.format ≡ None) }
     ensures writable { IfOk result (λ header. sink.now.container ≡ Container.Y4m → IsWritable header) }
+    ensures stopped { IfErr result (IsAtNextFrame source.now) }
 {
     if let Err(problem) = test_crop(&rectangle_of(options, source.header()), source.header()) {
         return Err(source.refused(problem));
@@ -75,6 +89,10 @@ fn planned_header<R: io::Read, W: io::Write>(
     let Ok(header) = header_of(alloc, options, source.header()) else {
         return Err(source.refused(Problem::OutOfMemory));
     };
+    if sink.container == Container::Y4m && options.layout().is_some() {
+        drop(header);
+        return Err(source.refused(Problem::SemiPlanar));
+    }
     if sink.container == Container::Y4m && !header.is_writable() {
         drop(header);
         return Err(source.refused(Problem::Unwritable));
@@ -83,36 +101,40 @@ fn planned_header<R: io::Read, W: io::Write>(
 }
 
 /// Copies a stream whose frames are written as they are.
-fn move_stream<R: io::Read, W: io::Write>(
+fn move_stream<R: io::Read, W: io::Write, P: Progress>(
     alloc: Global,
     source: &mut Source<R>,
     header: &StreamHeader,
     sink: &mut Sink<W>,
     options: &CopyOptions,
+    progress: &mut P,
 ) -> Result<u64, StreamError>
     requires { sink.old.container ≡ Container.Y4m → IsWritable header.now }
     ensures copied { IfOk result (CopiesBy source.old.container source.old.frame_len
         (bytes_left R.remaining source.old) (bytes_left R.remaining source.new)
         (W.contents sink.old.writer.inner) (W.contents sink.new.writer.inner)
         sink.old.container options.now header.now same_bytes) }
+    ensures told { IfOk result (λ found. TellsUpTo P.shows found progress.old progress.new) }
+    ensures stopped { IfErr result (StopsCopy source.new sink.new) }
     ensures same { stream_of source.new ≡ stream_of source.old }
 {
     if !begin_copy(alloc, source, header, sink, options)? {
         return Ok(0);
     }
     let most = options.count.unwrap_or(u64::MAX);
-    Ok(move_frames(source, sink, most)?)
+    Ok(move_frames(source, sink, most, progress)?)
 }
 
 /// Copies a stream of pixels of this type, of whose frames others are made.
-fn edit_stream<T: Pixel, R: io::Read, W: io::Write>(
+fn edit_as<S: Pixel, R: io::Read, W: io::Write, P: Progress>(
     alloc: Global,
     source: &mut Source<R>,
     header: &StreamHeader,
     sink: &mut Sink<W>,
     options: &CopyOptions,
+    progress: &mut P,
 ) -> Result<u64, StreamError>
-    requires pixels { T.form.size ≡ pixel_bytes (depth_of source.old.header.colour) }
+    requires pixels { S.form.size ≡ pixel_bytes (depth_of source.old.header.colour) }
     requires takable { IsTakable (taken options.now source.old.header) source.old.header }
     requires header { header.now ≡ copied_header options.now source.old.header }
     requires writable { sink.old.container ≡ Container.Y4m → IsWritable header.now }
@@ -120,20 +142,53 @@ fn edit_stream<T: Pixel, R: io::Read, W: io::Write>(
         (bytes_left R.remaining source.old) (bytes_left R.remaining source.new)
         (W.contents sink.old.writer.inner) (W.contents sink.new.writer.inner)
         sink.old.container options.now header.now
-        (edited_bytes T.form (made_by options.now source.old.header) (sizes_in source.old.header))) }
+        (made_bytes S.form (form_of (depth_of header.now.colour)) sink.old.container options.now
+        source.old.header source.old.layout)) }
+    ensures told { IfOk result (λ found. TellsUpTo P.shows found progress.old progress.new) }
+    ensures stopped { IfErr result (StopsCopy source.new sink.new) }
     ensures same { stream_of source.new ≡ stream_of source.old }
 {
-    let edit = edit_of(options, source.header());
-    let mut picture = Picture::<T>::new(alloc, source, options.max_pixels)?;
-    let mut made = match blank_frame(alloc, header, options.max_pixels) {
-        Ok(frame) => frame,
+    if header.colour.bit_depth() == 8 {
+        return Ok(edit_stream::<S, u8, _, _, _>(alloc, source, header, sink, options, progress)?);
+    }
+    Ok(edit_stream::<S, u16, _, _, _>(alloc, source, header, sink, options, progress)?)
+}
+
+/// Copies a stream of pixels of one type, and writes pixels of another.
+fn edit_stream<S: Pixel, T: Pixel, R: io::Read, W: io::Write, P: Progress>(
+    alloc: Global,
+    source: &mut Source<R>,
+    header: &StreamHeader,
+    sink: &mut Sink<W>,
+    options: &CopyOptions,
+    progress: &mut P,
+) -> Result<u64, StreamError>
+    requires pixels { S.form.size ≡ pixel_bytes (depth_of source.old.header.colour) }
+    requires written { T.form.size ≡ pixel_bytes (depth_of header.now.colour) }
+    requires takable { IsTakable (taken options.now source.old.header) source.old.header }
+    requires header { header.now ≡ copied_header options.now source.old.header }
+    requires writable { sink.old.container ≡ Container.Y4m → IsWritable header.now }
+    ensures copied { IfOk result (CopiesBy source.old.container source.old.frame_len
+        (bytes_left R.remaining source.old) (bytes_left R.remaining source.new)
+        (W.contents sink.old.writer.inner) (W.contents sink.new.writer.inner)
+        sink.old.container options.now header.now
+        (made_bytes S.form T.form sink.old.container options.now source.old.header
+        source.old.layout)) }
+    ensures told { IfOk result (λ found. TellsUpTo P.shows found progress.old progress.new) }
+    ensures stopped { IfErr result (StopsCopy source.new sink.new) }
+    ensures same { stream_of source.new ≡ stream_of source.old }
+{
+    let mut picture = Picture::<S>::new(alloc, source, options.max_pixels)?;
+    let layout = options.layout_to(sink.container, source.layout());
+    let mut maker = match Maker::<S, T>::new(alloc, options, source.header(), header, layout) {
+        Ok(maker) => maker,
         Err(problem) => return Err(source.refused(problem)),
     };
     if !begin_copy(alloc, source, header, sink, options)? {
         return Ok(0);
     }
     let most = options.count.unwrap_or(u64::MAX);
-    Ok(edit_frames(&edit, source, &mut picture, &mut made, sink, most)?)
+    Ok(edit_frames(source, &mut picture, &mut maker, sink, most, progress)?)
 }
 
 /// Writes the header and passes over frames. Returns whether as many were passed over as the options say.
@@ -149,11 +204,12 @@ fn begin_copy<R: io::Read, W: io::Write>(
         (bytes_left R.remaining source.old) (bytes_left R.remaining source.new) options.now.skip) }
     ensures written { OnOk result (Appends (W.contents sink.old.writer.inner)
         (W.contents sink.new.writer.inner) (header_bytes sink.old.container header.now)) }
+    ensures stopped { IfErr result (StopsCopy source.new sink.new) }
     ensures same { stream_of source.new ≡ stream_of source.old }
     ensures container { sink.new.container ≡ sink.old.container }
 {
     sink.write_header(alloc, header)?;
-    let skipped = skip_frames(source, options.skip)?;
+    let skipped = skip_frames(source, options.skip, &mut Silent)?;
     if skipped < options.skip {
         return Ok(false);
     }

@@ -63,6 +63,12 @@ pub enum Problem {
     /// They have different bit depths.
     #[error("the streams have different bit depths")]
     OtherDepth,
+    /// A YUV4MPEG2 stream has no frames in a semi-planar layout.
+    #[error("a YUV4MPEG2 stream has no semi-planar frames")]
+    SemiPlanar,
+    /// A semi-planar layout is for another chroma format or bit depth.
+    #[error("the layout is for another chroma format or bit depth")]
+    OtherLayout,
     /// No header line says what should be written.
     #[error("no header line can say this size or these extensions")]
     Unwritable,

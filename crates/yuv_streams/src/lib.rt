@@ -1,22 +1,28 @@
-//! Streams of frames, from the bytes that are read to the bytes that are written: copied, compared and counted, over any reader
-//! and any writer.
+//! Streams of frames, from the bytes that are read to the bytes that are written: copied, in another format too, compared and
+//! counted, over any reader and any writer.
 //!
 //! Our own. `Rattle.yuv_streams.specs.Prelude` has the words for clauses.
 #![tactic(auto)]
 
+mod alike;
+mod colours;
 mod compare;
 mod comparison;
+mod converting;
 mod copy;
 mod edit;
 mod editing;
 mod error;
 mod formats;
 mod frames;
+mod maker;
 mod moving;
+mod observer;
 mod options;
 mod passing;
 mod picture;
 mod plan;
+mod progress;
 mod sink;
 mod source;
 mod stream;
@@ -30,8 +36,11 @@ pub use error::{Problem, StreamError};
 pub use frames::{
     Component, PixelDifference, first_difference_of_frames, squared_errors_of_frames,
 };
+pub use observer::{FrameObserver, NoObserver};
 pub use options::{CopyOptions, MAX_PIXELS};
 pub use passing::skip_frames;
+pub use picture::Picture;
+pub use progress::{Progress, Silent};
 pub use sink::Sink;
 pub use source::Source;
 pub use stream::{Container, Place};

@@ -1,24 +1,29 @@
 //! Frames that are written as they were read: their bytes move through a block, and no frame is made.
-ghost use Rattle.std.specs.Prelude.{◌≡◌, ◌+◌, ◌-◌, ◌≤◌, ◌<◌, length, IfOk, OnOk};
+ghost use Rattle.std.specs.Prelude.{◌≡◌, ◌+◌, ◌-◌, ◌≤◌, ◌<◌, length, IfErr, IfOk, OnOk};
 ghost use Rattle.yuv_streams.specs.Copies.{same_bytes, Carries, MovesNext, MovesSome};
-ghost use Rattle.yuv_streams.specs.Sources.{bytes_left, stream_of};
+ghost use Rattle.yuv_streams.specs.Sources.{bytes_left, stream_of, StopsCopy};
+ghost use Rattle.yuv_streams.specs.Telling.{TellsUpTo};
 
 use crate::error::StreamError;
+use crate::progress::{Progress, show_one_more};
 use crate::sink::Sink;
 use crate::source::Source;
 use crate::stream::BLOCK;
 use std::io;
 
 /// Writes so many frames as they are, or all that are left where they are fewer, and counts them.
-pub(crate) fn move_frames<R: io::Read, W: io::Write>(
+pub(crate) fn move_frames<R: io::Read, W: io::Write, P: Progress>(
     source: &mut Source<R>,
     sink: &mut Sink<W>,
     most: u64,
+    progress: &mut P,
 ) -> Result<u64, StreamError>
     ensures carried { IfOk result (Carries source.old.container source.old.frame_len
         (bytes_left R.remaining source.old) (bytes_left R.remaining source.new)
         (W.contents sink.old.writer.inner) (W.contents sink.new.writer.inner) sink.old.container
         same_bytes most) }
+    ensures told { IfOk result (λ found. TellsUpTo P.shows found progress.old progress.new) }
+    ensures stopped { IfErr result (StopsCopy source.new sink.new) }
     ensures same { stream_of source.new ≡ stream_of source.old }
 {
     let mut block = [0; BLOCK];
@@ -26,6 +31,7 @@ pub(crate) fn move_frames<R: io::Read, W: io::Write>(
         if !move_frame(source, sink, &mut block)? {
             return Ok(count);
         }
+        show_one_more(progress, count);
     }
     Ok(most)
 }
@@ -40,6 +46,7 @@ fn move_frame<R: io::Read, W: io::Write>(
     ensures moved { IfOk result (MovesNext source.old.container source.old.frame_len
         (bytes_left R.remaining source.old) (bytes_left R.remaining source.new)
         (W.contents sink.old.writer.inner) (W.contents sink.new.writer.inner) sink.old.container) }
+    ensures stopped { IfErr result (StopsCopy source.new sink.new) }
     ensures same { stream_of source.new ≡ stream_of source.old }
     ensures container { sink.new.container ≡ sink.old.container }
     ensures size { length block.new ≡ length block.old }
@@ -68,6 +75,7 @@ fn move_rest<R: io::Read, W: io::Write>(
     ensures moved { OnOk result (MovesSome (bytes_left R.remaining source.old)
         (bytes_left R.remaining source.new) (W.contents sink.old.writer.inner)
         (W.contents sink.new.writer.inner) (source.old.frame_len - before)) }
+    ensures stopped { IfErr result (StopsCopy source.new sink.new) }
     ensures same { stream_of source.new ≡ stream_of source.old }
     ensures container { sink.new.container ≡ sink.old.container }
     ensures size { length block.new ≡ length block.old }

@@ -1,7 +1,11 @@
 //! What a copy takes of a stream, and what it makes of its frames.
 
+use crate::colours::{is_same_format, is_same_layout, planar_colour};
 use crate::edit::Rectangle;
-use v_frame_y4m::Ratio;
+use crate::stream::Container;
+use v_frame_semi_planar::SemiPlanarFormat;
+use v_frame_y4m::{Colour, Ratio, StreamHeader};
+use yuv_words::VideoFormat;
 
 /// How many pixels a picture may have where nobody says: those of 15360x8640, and a little more.
 pub const MAX_PIXELS: usize = 1 << 27;
@@ -17,6 +21,9 @@ pub struct CopyOptions {
     pub crop: Option<Rectangle>,
     /// Whether what is taken is written at half the size, rounded up.
     pub half: bool,
+    /// The chroma subsampling, the bit depth and the layout of the frames that are written. Where it is missing, those of the
+    /// source.
+    pub format: Option<VideoFormat>,
     /// The frame rate that the header says. That of the source, where it is missing.
     pub frame_rate: Option<Ratio>,
     /// The shape of a pixel that the header says. That of the source, where it is missing.
@@ -26,26 +33,84 @@ pub struct CopyOptions {
 }
 
 impl CopyOptions {
-    ghost use Rattle.std.specs.Prelude.{◌≡◌};
+    ghost use Rattle.std.specs.Prelude.{◌≡◌, false, None};
+    ghost use Rattle.yuv_streams.specs.Conversions.{colour_in, layout_in, layout_to};
     ghost use Rattle.yuv_streams.specs.Copies.{is_plain};
 
     /// Writes all frames as they are.
-    pub fn new() -> Self {
+    pub fn new() -> Self
+        ensures { result ≡ record {
+          skip = 0;
+          count = None;
+          crop = None;
+          half = false;
+          format = None;
+          frame_rate = None;
+          pixel_aspect = None;
+          max_pixels = MAX_PIXELS;
+        } }
+    {
         CopyOptions {
             skip: 0,
             count: None,
             crop: None,
             half: false,
+            format: None,
             frame_rate: None,
             pixel_aspect: None,
             max_pixels: MAX_PIXELS,
         }
     }
 
-    /// Returns whether each frame is written as it is.
-    pub fn is_plain(&self) -> bool
-        ensures { result ≡ is_plain self.now }
+    /// Returns whether each frame of a stream of this header and layout is written as it is, where `None` is planar.
+    pub fn is_plain(
+        &self,
+        to: Container,
+        header: &StreamHeader,
+        layout: Option<SemiPlanarFormat>,
+    ) -> bool
+        ensures { result ≡ is_plain to self.now header.now layout }
     {
-        self.crop.is_none() && !self.half
+        self.crop.is_none()
+            && !self.half
+            && is_same_layout(self.layout_to(to, layout), layout)
+            && is_same_format(header.colour, self.colour(header.colour))
+    }
+
+    /// Returns the semi-planar layout that frames are written in, where one is asked for.
+    pub fn layout(&self) -> Option<SemiPlanarFormat>
+        ensures { result ≡ layout_in self.now.format }
+    {
+        match self.format {
+            Some(VideoFormat::SemiPlanar(layout)) => Some(layout),
+            _ => None,
+        }
+    }
+
+    /// Returns the semi-planar layout of what is written of frames that have this one, where `None` is planar. Without a format
+    /// it is planar in a YUV4MPEG2 stream, and the same layout in raw video.
+    pub fn layout_to(
+        &self,
+        to: Container,
+        there: Option<SemiPlanarFormat>,
+    ) -> Option<SemiPlanarFormat>
+        ensures { result ≡ layout_to to self.now.format there }
+    {
+        match (self.format, to) {
+            (None, Container::Y4m) => None,
+            (None, Container::Raw) => there,
+            (Some(_), _) => self.layout(),
+        }
+    }
+
+    /// Returns the colour of what is written of a stream of this colour.
+    pub fn colour(&self, there: Colour) -> Colour
+        ensures { result ≡ colour_in self.now.format there }
+    {
+        match self.format {
+            None => there,
+            Some(VideoFormat::Planar(colour)) => colour,
+            Some(VideoFormat::SemiPlanar(layout)) => planar_colour(layout),
+        }
     }
 }

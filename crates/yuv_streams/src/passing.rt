@@ -1,22 +1,31 @@
 //! Frames that are passed over: their bytes are read, and no frame is made.
-ghost use Rattle.std.specs.Prelude.{◌≡◌, ◌+◌, ◌-◌, ◌≤◌, ◌<◌, length, IfOk, OnOk};
+ghost use Rattle.std.specs.Prelude.{◌≡◌, ◌+◌, ◌-◌, ◌≤◌, ◌<◌, length, IfErr, IfOk, OnOk};
 ghost use Rattle.v_frame_planar.specs.Planar.{ConsumesSome};
-ghost use Rattle.yuv_streams.specs.Sources.{bytes_left, stream_of};
+ghost use Rattle.yuv_streams.specs.Sources.{bytes_left, stream_of, IsAtNextFrame};
 ghost use Rattle.yuv_streams.specs.Streams.{frames_after, CountsFrames, ReadsWhole};
+ghost use Rattle.yuv_streams.specs.Telling.{TellsUpTo};
 
 use crate::error::StreamError;
+use crate::progress::{Progress, show_one_more};
 use crate::source::Source;
 use crate::stream::BLOCK;
 use std::io;
 
-/// Passes over so many frames, or over all that are left where they are fewer, and counts them.
+/// Passes over so many frames, or over all that are left where they are fewer, and counts them. After each one `progress` is
+/// told how many they are.
 ///
 /// # Errors
 ///
 /// A [`StreamError`] with [`Problem::Stream`](crate::Problem::Stream) where a frame was not read whole.
-pub fn skip_frames<R: io::Read>(source: &mut Source<R>, most: u64) -> Result<u64, StreamError>
+pub fn skip_frames<R: io::Read, P: Progress>(
+    source: &mut Source<R>,
+    most: u64,
+    progress: &mut P,
+) -> Result<u64, StreamError>
     ensures counted { IfOk result (CountsFrames (bytes_left R.remaining source.old)
         (bytes_left R.remaining source.new) source.old.container source.old.frame_len most) }
+    ensures told { IfOk result (λ found. TellsUpTo P.shows found progress.old progress.new) }
+    ensures stopped { IfErr result (IsAtNextFrame source.new) }
     ensures same { stream_of source.new ≡ stream_of source.old }
 {
     let mut block = [0; BLOCK];
@@ -24,6 +33,7 @@ pub fn skip_frames<R: io::Read>(source: &mut Source<R>, most: u64) -> Result<u64
         if !skip_frame(source, &mut block)? {
             return Ok(count);
         }
+        show_one_more(progress, count);
     }
     Ok(most)
 }
@@ -33,6 +43,7 @@ fn skip_frame<R: io::Read>(source: &mut Source<R>, block: &mut [u8]) -> Result<b
     requires { 0 < length block.old }
     ensures read { IfOk result (ReadsWhole (bytes_left R.remaining source.old)
         (bytes_left R.remaining source.new) source.old.container source.old.frame_len) }
+    ensures stopped { IfErr result (IsAtNextFrame source.new) }
     ensures same { stream_of source.new ≡ stream_of source.old }
     ensures frames { IfOk result (λ more. source.new.frames ≡ frames_after source.old.frames more) }
     ensures size { length block.new ≡ length block.old }
@@ -56,6 +67,7 @@ fn skip_rest<R: io::Read>(
     requires within { before ≤ source.old.frame_len }
     ensures read { OnOk result (ConsumesSome (bytes_left R.remaining source.old)
         (bytes_left R.remaining source.new) (source.old.frame_len - before)) }
+    ensures stopped { IfErr result (IsAtNextFrame source.new) }
     ensures same { stream_of source.new ≡ stream_of source.old }
     ensures frames { source.new.frames ≡ source.old.frames }
     ensures size { length block.new ≡ length block.old }

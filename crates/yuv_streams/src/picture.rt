@@ -1,9 +1,13 @@
 //! A frame that each frame of a stream is read into, one after the other.
-ghost use Rattle.std.specs.Prelude.{◌≡◌, ◌≤◌, ◌<◌, ◌*◌, drop, length, option_map, ◌++◌, Some, ℕ, IfErr, IfOk};
-ghost use Rattle.v_frame.specs.Prelude.{byte_list, table_of, tables_of, usize_max};
+ghost use Rattle.std.specs.Prelude.{◌≡◌, ◌≤◌, ◌<◌, ◌*◌, drop, length, option_map, Some, ℕ, IfErr, IfOk, IfSome, OnOk};
+ghost use Rattle.v_frame.specs.Prelude.{table_of, tables_of};
 ghost use Rattle.v_frame_planar.specs.Planar.{byte_count, plane_byte_count, size_of, sizes_of};
-ghost use Rattle.yuv_streams.specs.Pictures.{sizes_in, table_in, tables_in, ReadsTables};
-ghost use Rattle.yuv_streams.specs.Sources.{bytes_left, stream_of};
+ghost use Rattle.v_frame_planar.specs.Video.{chroma_sizes_of};
+ghost use Rattle.v_frame_y4m.specs.Colour.{depth_of, subsampling_of};
+ghost use Rattle.v_frame_y4m.specs.Frames.{pixel_bytes};
+ghost use Rattle.yuv_streams.specs.Conversions.{format_in, format_of};
+ghost use Rattle.yuv_streams.specs.Pictures.{sizes_in, table_in, tables_in, tables_in_layout, tables_of_bytes, AreEven, IsEven, IsMadeFor, ReadsTables};
+ghost use Rattle.yuv_streams.specs.Sources.{bytes_left, stream_of, IsAtNextFrame};
 ghost use Rattle.yuv_streams.specs.Streams.{frames_after};
 
 use crate::error::{Problem, StreamError};
@@ -13,13 +17,16 @@ use std::io;
 use v_frame::frame::{Frame, FrameError};
 use v_frame::pixel::Pixel;
 use v_frame::plane::Plane;
-use v_frame_y4m::StreamHeader;
+use v_frame_planar::{Counted, PlanarError, video_frame};
+use v_frame_semi_planar::{SemiPlanarError, SemiPlanarFormat, read_frame};
+use v_frame_y4m::{Colour, Y4mError};
 
 /// A frame that is read again and again, and room for its bytes.
 #[derive(Drop)]
-pub(crate) struct Picture<T: Pixel> {
+pub struct Picture<T: Pixel> {
     pub(crate) frame: Frame<T>,
     bytes: Vec<u8>,
+    alloc: Global,
 }
 
 impl<T: Pixel> Picture<T> {
@@ -27,23 +34,38 @@ impl<T: Pixel> Picture<T> {
     ///
     /// # Errors
     ///
-    /// [`Problem::TooManyPixels`] where it has more, [`Problem::TooLarge`] where a plane can't be addressed, and
-    /// [`Problem::OutOfMemory`] where a request for memory was refused.
-    pub(crate) fn new<R: io::Read>(
+    /// [`Problem::TooManyPixels`] where it has more, [`Problem::TooLarge`] where a plane can't be addressed or the pixels have
+    /// not the size of `T`, and [`Problem::OutOfMemory`] where a request for memory was refused.
+    pub fn new<R: io::Read>(
         alloc: Global,
         source: &Source<R>,
         max_pixels: usize,
     ) -> Result<Self, StreamError>
-        ensures room { IfOk result (λ picture. length picture.bytes.items ≡ source.now.frame_len) }
+        ensures made { IfOk result (IsMadeFor T.form source.now) }
         ensures sizes { IfOk result (λ picture. sizes_of (tables_of picture.frame) ≡ sizes_in source.now.header) }
+        ensures small { IfOk result (λ _. source.now.header.width * source.now.header.height ≤ max_pixels) }
+        ensures many { IfErr result (λ error. (limit : ℕ) → error.problem ≡ Problem.TooManyPixels limit
+            → (limit ≡ max_pixels) × (max_pixels < source.now.header.width * source.now.header.height)) }
+        ensures stopped { IfErr result (IsAtNextFrame source.now) }
     {
-        let frame = match blank_frame(alloc, source.header(), max_pixels) {
+        let header = source.header();
+        let frame = match blank_frame(
+            alloc,
+            header.width,
+            header.height,
+            header.colour,
+            max_pixels,
+        ) {
             Ok(frame) => frame,
             Err(problem) => return Err(source.refused(problem)),
         };
         let mut bytes = Vec::new(alloc);
         match bytes.resize(source.frame_len(), 0) {
-            Ok(()) => Ok(Picture { frame, bytes }),
+            Ok(()) => Ok(Picture {
+                frame,
+                bytes,
+                alloc,
+            }),
             Err(_) => {
                 drop(frame);
                 Err(source.refused(Problem::OutOfMemory))
@@ -51,47 +73,158 @@ impl<T: Pixel> Picture<T> {
         }
     }
 
+    /// Returns the frame that was read last.
+    pub fn frame(&self) -> &Frame<T>
+        ensures { result.now ≡ self.now.frame }
+    {
+        &self.frame
+    }
+
+    /// Returns the bytes of the frame that was read last, as they were read.
+    pub fn bytes(&self) -> &[u8]
+        ensures { result.now ≡ self.now.bytes.items }
+    {
+        self.bytes.as_slice()
+    }
+
     /// Reads the next frame of a stream and shows it. `false` where the stream stood at its end before it.
-    pub(crate) fn read<R: io::Read>(&mut self, source: &mut Source<R>) -> Result<bool, StreamError>
-        requires room { length self.old.bytes.items ≡ source.old.frame_len }
-        requires count { byte_count T.form.size (sizes_of (tables_of self.old.frame)) ≡ source.old.frame_len }
+    ///
+    /// The picture has to be made for this stream.
+    ///
+    /// # Errors
+    ///
+    /// [`Problem::Stream`] where a frame was not read whole. In a semi-planar stream also [`Problem::OutOfMemory`] where a request
+    /// for memory was refused, and the frame was then read but is not shown.
+    pub fn read<R: io::Read>(&mut self, source: &mut Source<R>) -> Result<bool, StreamError>
+        requires { IsMadeFor T.form source.old self.old }
         ensures read { IfOk result (ReadsTables T.form source.old.container source.old.frame_len
-            (sizes_of (tables_of self.old.frame)) (bytes_left R.remaining source.old)
-            (bytes_left R.remaining source.new) (tables_of self.new.frame)) }
+            source.old.layout (sizes_of (tables_of self.old.frame)) (bytes_left R.remaining source.old)
+            (bytes_left R.remaining source.new) self.new.bytes.items (tables_of self.new.frame)) }
+        ensures stopped { IfErr result (IsAtNextFrame source.new) }
         ensures same { stream_of source.new ≡ stream_of source.old }
-        ensures room { length self.new.bytes.items ≡ length self.old.bytes.items }
+        ensures made { IsMadeFor T.form source.new self.new }
         ensures sizes { sizes_of (tables_of self.new.frame) ≡ sizes_of (tables_of self.old.frame) }
         ensures frames { IfOk result (λ more. source.new.frames ≡ frames_after source.old.frames more) }
     {
         if !source.begin_frame(self.bytes.as_mut_slice())? {
             return Ok(false);
         }
-        show_bytes(&mut self.frame, self.bytes.as_slice());
+        let (layout, bytes) = (source.layout(), self.bytes.as_slice());
+        if let Err(problem) = show_frame(self.alloc, &mut self.frame, bytes, layout) {
+            return Err(source.refused(problem));
+        }
         source.end_frame();
         Ok(true)
     }
 }
 
-/// Returns a blank frame of a header, of which no more than so many pixels of luma are made in memory.
+/// Returns a blank frame of a size and a colour, of which no more than so many pixels are made in memory.
 pub(crate) fn blank_frame<T: Pixel>(
     alloc: Global,
-    header: &StreamHeader,
+    width: usize,
+    height: usize,
+    colour: Colour,
     max_pixels: usize,
 ) -> Result<Frame<T>, Problem>
-    ensures sizes { IfOk result (λ frame. sizes_of (tables_of frame) ≡ sizes_in header.now) }
-    ensures small { IfOk result (λ _. header.now.width * header.now.height ≤ max_pixels) }
+    ensures sizes { let chroma = chroma_sizes_of (subsampling_of colour) width height in
+        IfOk result (λ frame. sizes_of (tables_of frame) ≡ ((width, height), (chroma, chroma))) }
+    ensures format { IfOk result (λ frame. format_of frame ≡ format_in colour) }
+    ensures pixels { IfOk result (λ _. T.form.size ≡ pixel_bytes (depth_of colour)) }
+    ensures small { IfOk result (λ _. width * height ≤ max_pixels) }
     ensures many { IfErr result (λ problem. (limit : ℕ) → problem ≡ Problem.TooManyPixels limit
-        → (limit ≡ max_pixels) × (max_pixels < header.now.width * header.now.height)) }
+        → (limit ≡ max_pixels) × (max_pixels < width * height)) }
 {
-    match header.width.checked_mul(header.height) {
+    match width.checked_mul(height) {
         Some(pixels) if pixels <= max_pixels => {}
         _ => return Err(Problem::TooManyPixels(max_pixels)),
     }
-    match header.frame(alloc, 0) {
+    match video_frame(
+        alloc,
+        width,
+        height,
+        colour.subsampling(),
+        colour.bit_depth(),
+        0,
+    ) {
         Ok(frame) => Ok(frame),
         Err(FrameError::OutOfMemory) => Err(Problem::OutOfMemory),
         Err(_) => Err(Problem::TooLarge),
     }
+}
+
+/// Shows bytes in a frame, those of a layout or else planar ones. There must be as many as the frame has.
+fn show_frame<T: Pixel>(
+    alloc: Global,
+    frame: &mut Frame<T>,
+    bytes: &[u8],
+    layout: Option<SemiPlanarFormat>,
+) -> Result<(), Problem>
+    requires { length bytes.now ≡ byte_count T.form.size (sizes_of (tables_of frame.old)) }
+    ensures shown { OnOk result (tables_of frame.new
+        ≡ tables_of_bytes T.form layout (sizes_of (tables_of frame.old)) bytes.now) }
+    ensures sizes { sizes_of (tables_of frame.new) ≡ sizes_of (tables_of frame.old) }
+{
+    match layout {
+        Some(layout) => show_layout(alloc, frame, bytes, layout),
+        None => {
+            show_bytes(frame, bytes);
+            Ok(())
+        }
+    }
+}
+
+/// Shows the bytes of a layout in a frame, of which there must be as many as the frame has.
+fn show_layout<T: Pixel>(
+    alloc: Global,
+    frame: &mut Frame<T>,
+    bytes: &[u8],
+    layout: SemiPlanarFormat,
+) -> Result<(), Problem>
+    requires { length bytes.now ≡ byte_count T.form.size (sizes_of (tables_of frame.old)) }
+    ensures shown { OnOk result (tables_of frame.new
+        ≡ tables_in_layout T.form layout (sizes_of (tables_of frame.old)) bytes.now) }
+    ensures sizes { sizes_of (tables_of frame.new) ≡ sizes_of (tables_of frame.old) }
+{
+    let mut reader = Counted::new(bytes);
+    match read_frame(alloc, &mut reader, frame, layout) {
+        Ok(true) => {
+            planes_are_even(frame);
+            Ok(())
+        }
+        Ok(false) => Err(Problem::Stream(Y4mError::Planar(PlanarError::Truncated {
+            expected: bytes.len(),
+            found: 0,
+        }))),
+        Err(SemiPlanarError::Planar(PlanarError::OutOfMemory)) => Err(Problem::OutOfMemory),
+        Err(SemiPlanarError::Planar(error)) => Err(Problem::Stream(Y4mError::Planar(error))),
+        Err(_) => Err(Problem::OtherLayout),
+    }
+}
+
+/// All rows of each plane of a frame are of one length.
+fn planes_are_even<T: Pixel>(frame: &Frame<T>)
+    ensures { AreEven (tables_of frame.now) }
+{
+    plane_is_even(&frame.y_plane);
+    chroma_is_even(&frame.u_plane);
+    chroma_is_even(&frame.v_plane);
+}
+
+/// The same of a chroma plane, where it is there.
+fn chroma_is_even<T: Pixel>(plane: &Option<Plane<T>>)
+    ensures { IfSome (option_map table_of plane.now) IsEven }
+{
+    if let Some(plane) = plane {
+        plane_is_even(plane);
+    }
+}
+
+/// The same of a plane.
+fn plane_is_even<T: Pixel>(plane: &Plane<T>)
+    ensures { IsEven (table_of plane.now) }
+{
+    // What the clauses of this call say is the proof.
+    let _width = plane.width();
 }
 
 /// Shows planar bytes in a frame. There must be as many as the frame has.

@@ -3,9 +3,10 @@ ghost use Rattle.std.specs.Prelude.{◌≡◌, ◌+◌, ◌*◌, ◌%◌, ◌<�
 ghost use Rattle.v_frame_planar.specs.Video.{ratio_or_one};
 ghost use Rattle.v_frame_y4m.specs.Colour.{subsampling_of};
 ghost use Rattle.v_frame_y4m.specs.Header.{IsWritable};
-ghost use Rattle.yuv_streams.specs.Copies.{copied_header, edit_of as made_by, or_else as or_else_of, taken, IsTakable, RefusesCrop};
+ghost use Rattle.yuv_streams.specs.Copies.{copied_extensions, copied_header, edit_of as made_by, or_else as or_else_of, taken, without_format, IsTakable, RefusesCrop};
 ghost use Rattle.yuv_streams.specs.Edits.{halved_size};
 
+use crate::colours::is_same_colour;
 use crate::edit::{Edit, Rectangle};
 use crate::error::Problem;
 use crate::options::CopyOptions;
@@ -71,8 +72,8 @@ pub(crate) fn header_of(
         frame_rate: or_else(options.frame_rate, header.frame_rate),
         interlacing: header.interlacing,
         pixel_aspect: or_else(options.pixel_aspect, header.pixel_aspect),
-        colour: header.colour,
-        extensions: copy_of(alloc, header.extensions.as_slice())?,
+        colour: options.colour(header.colour),
+        extensions: extensions_of(alloc, options, header)?,
     })
 }
 
@@ -91,6 +92,31 @@ fn or_else(asked: Option<Ratio>, there: Option<Ratio>) -> Option<Ratio>
         Some(ratio) => Some(ratio),
         None => there,
     }
+}
+
+/// Returns the extensions of a header that a copy writes: those that state the chroma format are left out where the copy has
+/// another colour.
+fn extensions_of(
+    alloc: Global,
+    options: &CopyOptions,
+    header: &StreamHeader,
+) -> Result<Sequence<Sequence<u8>>, AllocError>
+    ensures { IfOk result (λ made. made ≡ copied_extensions options.now header.now) }
+{
+    let extensions = copy_of(alloc, header.extensions.as_slice())?;
+    if is_same_colour(options.colour(header.colour), header.colour) {
+        return Ok(extensions);
+    }
+    Ok(leave_out_format(extensions))
+}
+
+/// Leaves out extensions that state the chroma format once more, as ffmpeg's `XYSCSS=420JPEG` does.
+fn leave_out_format(extensions: Sequence<Sequence<u8>>) -> Sequence<Sequence<u8>>
+    ensures { result ≡ without_format extensions }
+{
+    let mut kept = extensions.into_vec();
+    kept.retain(|extension| !extension.as_slice().starts_with(b"YSCSS="));
+    Sequence::from(kept)
 }
 
 /// Returns the texts once more.

@@ -5,6 +5,9 @@ ghost use Rattle.v_frame.specs.Prelude.{tables_of};
 ghost use Rattle.v_frame_planar.specs.Counted.{AppendsBeginning};
 ghost use Rattle.v_frame_planar.specs.Planar.{planar_bytes};
 ghost use Rattle.v_frame_y4m.specs.Header.{IsWritable};
+ghost use Rattle.v_frame_semi_planar.specs.Format.{HasLayout};
+ghost use Rattle.v_frame_semi_planar.specs.SemiPlanar.{semi_planar_bytes};
+ghost use Rattle.yuv_streams.specs.Sources.{IsAtNextWritten};
 ghost use Rattle.yuv_streams.specs.Streams.{frame_line, header_bytes, written_bytes};
 
 use crate::error::{Problem, StreamError};
@@ -14,6 +17,7 @@ use std::io;
 use v_frame::frame::Frame;
 use v_frame::pixel::Pixel;
 use v_frame_planar::{Counted, PlanarError, WriteFault};
+use v_frame_semi_planar::{SemiPlanarError, SemiPlanarFormat, write_frame};
 use v_frame_y4m::{StreamHeader, Y4mError, write_header};
 
 /// A stream that is written.
@@ -52,6 +56,7 @@ impl<W: io::Write> Sink<W> {
         requires { self.old.container ≡ Container.Y4m → IsWritable header.now }
         ensures ok { OnOk result (Appends (W.contents self.old.writer.inner)
             (W.contents self.new.writer.inner) (header_bytes self.old.container header.now)) }
+        ensures stopped { IfErr result (IsAtNextWritten self.new) }
         ensures container { self.new.container ≡ self.old.container }
         ensures frames { self.new.frames ≡ self.old.frames }
     {
@@ -76,6 +81,7 @@ impl<W: io::Write> Sink<W> {
         ensures beginning { OnErr result (AppendsBeginning (W.contents self.old.writer.inner)
             (W.contents self.new.writer.inner)
             (written_bytes self.old.container (planar_bytes T.form (tables_of frame.now)))) }
+        ensures stopped { IfErr result (IsAtNextWritten self.new) }
         ensures container { self.new.container ≡ self.old.container }
     {
         let written = match self.container {
@@ -94,10 +100,39 @@ impl<W: io::Write> Sink<W> {
         }
     }
 
+    /// Writes a frame in a semi-planar layout. [`check_layout`](v_frame_semi_planar::check_layout) is the test of what this asks.
+    ///
+    /// # Errors
+    ///
+    /// [`Problem::Stream`] with the errors of [`v_frame_semi_planar::write_frame`]. A beginning of the frame was then written.
+    pub(crate) fn write_layout<T: Pixel>(
+        &mut self,
+        frame: &Frame<T>,
+        layout: SemiPlanarFormat,
+    ) -> Result<(), StreamError>
+        requires { HasLayout T.form.size layout frame.now }
+        ensures ok { OnOk result (Appends (W.contents self.old.writer.inner)
+            (W.contents self.new.writer.inner) (written_bytes self.old.container
+            (semi_planar_bytes T.form layout (tables_of frame.now)))) }
+        ensures stopped { IfErr result (IsAtNextWritten self.new) }
+        ensures container { self.new.container ≡ self.old.container }
+    {
+        self.begin_frame()?;
+        match write_frame(&mut self.writer, frame, layout) {
+            Ok(()) => {
+                self.end_frame();
+                Ok(())
+            }
+            Err(SemiPlanarError::Planar(error)) => Err(self.stopped(Y4mError::Planar(error))),
+            Err(_) => unreachable!(),
+        }
+    }
+
     /// Writes what stands in front of the bytes of a frame.
     pub(crate) fn begin_frame(&mut self) -> Result<(), StreamError>
         ensures ok { OnOk result (Appends (W.contents self.old.writer.inner)
             (W.contents self.new.writer.inner) (frame_line self.old.container)) }
+        ensures stopped { IfErr result (IsAtNextWritten self.new) }
         ensures container { self.new.container ≡ self.old.container }
     {
         match self.container {
@@ -110,6 +145,7 @@ impl<W: io::Write> Sink<W> {
     pub(crate) fn write_part(&mut self, bytes: &[u8]) -> Result<(), StreamError>
         ensures ok { OnOk result (Appends (W.contents self.old.writer.inner)
             (W.contents self.new.writer.inner) bytes.now) }
+        ensures stopped { IfErr result (IsAtNextWritten self.new) }
         ensures container { self.new.container ≡ self.old.container }
     {
         match self.writer.write_all(bytes) {
@@ -128,8 +164,7 @@ impl<W: io::Write> Sink<W> {
 
     /// Returns the error at the next frame.
     fn stopped(&self, error: Y4mError) -> StreamError
-        ensures place { result.place ≡ Place.Output }
-        ensures frames { result.frames ≡ self.now.frames }
+        ensures place { IsAtNextWritten self.now result }
         ensures problem { result.problem ≡ Problem.Stream error }
         ensures cause { result.cause ≡ self.now.writer.last_failure }
     {

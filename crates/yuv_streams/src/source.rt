@@ -2,13 +2,17 @@
 ghost use Rattle.std.specs.Prelude.{◌≡◌, ◌<◌, IfOk};
 ghost use Rattle.std.specs.Io.Buffered.{reader_remaining};
 ghost use Rattle.v_frame_y4m.specs.Frames.{frame_byte_count};
+ghost use Rattle.std.proofs.Props.{props};
+ghost use Rattle.yuv_streams.specs.Layouts.{HoldsColour};
 
+use crate::colours::holds_colour;
 use crate::error::{Problem, StreamError};
 use crate::stream::{Container, Place};
 use std::alloc::Global;
 use std::io;
 use std::io::BufReader;
 use v_frame_planar::{Counted, PlanarError, read_until_full};
+use v_frame_semi_planar::SemiPlanarFormat;
 use v_frame_y4m::{StreamHeader, Y4mError, read_frame_line, read_header};
 
 /// A stream that is read, of which the header is known.
@@ -17,11 +21,13 @@ pub struct Source<R> {
     place: Place,
     container: Container,
     header: StreamHeader,
+    layout: Option<SemiPlanarFormat>,
     frame_len: usize,
     frames: u64,
     reader: Counted<BufReader<R>>,
     ghost sized: { frame_len ≡ frame_byte_count header },
     ghost some: { 0 < frame_len },
+    ghost holds: { HoldsColour layout header.colour } by { Prim.hlevel props },
 }
 
 impl<R: io::Read> Source<R> {
@@ -47,7 +53,7 @@ impl<R: io::Read> Source<R> {
     {
         let mut reader = buffered(alloc, place, reader)?;
         match read_header(alloc, &mut reader) {
-            Ok(header) => Source::new(place, Container::Y4m, header, reader),
+            Ok(header) => Source::new(place, Container::Y4m, header, None, reader),
             Err(error) => Err(StreamError {
                 place,
                 frames: 0,
@@ -57,26 +63,40 @@ impl<R: io::Read> Source<R> {
         }
     }
 
-    /// Takes headerless raw video, whose frames are as this header says. Nothing is read.
+    /// Takes headerless raw video, whose frames are as this header says, in a semi-planar layout or else planar. Nothing is read.
     ///
     /// # Errors
     ///
+    /// [`Problem::OtherLayout`] where the layout is for another chroma subsampling or bit depth than the header says,
     /// [`Problem::TooLarge`] where a frame has no byte, or more than `usize::MAX`, and [`Problem::OutOfMemory`] where a request
     /// for memory was refused.
     pub fn raw(
         alloc: Global,
         place: Place,
         header: StreamHeader,
+        layout: Option<SemiPlanarFormat>,
         reader: R,
     ) -> Result<Self, StreamError>
     where
         R: Drop,
         ensures opened { IfOk result (IsOpened place Container.Raw) }
         ensures header { IfOk result (λ source. source.header ≡ header) }
+        ensures layout { IfOk result (λ source. source.layout ≡ layout) }
+        ensures holds { OnOk result (HoldsColour layout header.colour) }
+        ensures other_layout { ¬ (HoldsColour layout header.colour)
+            → IfErr result (λ error. error.problem ≡ Problem.OtherLayout) }
         ensures unread { IfOk result (λ source. bytes_left R.remaining source ≡ R.remaining reader) }
     {
+        if !holds_colour(layout, header.colour) {
+            return Err(StreamError {
+                place,
+                frames: 0,
+                problem: Problem::OtherLayout,
+                cause: None,
+            });
+        }
         let reader = buffered(alloc, place, reader)?;
-        Source::new(place, Container::Raw, header, reader)
+        Source::new(place, Container::Raw, header, layout, reader)
     }
 
     /// Returns the stream of a reader that stands in front of its first frame.
@@ -84,10 +104,13 @@ impl<R: io::Read> Source<R> {
         place: Place,
         container: Container,
         header: StreamHeader,
+        layout: Option<SemiPlanarFormat>,
         reader: Counted<BufReader<R>>,
     ) -> Result<Self, StreamError>
     where
         R: Drop,
+        requires { HoldsColour layout header.colour }
+        ensures layout { IfOk result (λ source. source.layout ≡ layout) }
         ensures opened { IfOk result (IsOpened place container) }
         ensures header { IfOk result (λ source. source.header ≡ header) }
         ensures reader { IfOk result (λ source. source.reader ≡ reader) }
@@ -97,6 +120,7 @@ impl<R: io::Read> Source<R> {
                 place,
                 container,
                 header,
+                layout,
                 frame_len,
                 frames: 0,
                 reader,
@@ -117,7 +141,15 @@ impl<R: io::Read> Source<R> {
         &self.header
     }
 
-    /// Returns how many planar bytes a frame has.
+    /// Returns the semi-planar layout of the frames. `None` where they are planar.
+    pub fn layout(&self) -> Option<SemiPlanarFormat>
+        ensures value { result ≡ self.now.layout }
+        ensures holds { HoldsColour result self.now.header.colour }
+    {
+        self.layout
+    }
+
+    /// Returns how many bytes a frame has.
     pub fn frame_len(&self) -> usize
         ensures value { result ≡ self.now.frame_len }
         ensures some { 0 < result }

@@ -8,7 +8,7 @@ pub(crate) const BLOCK: usize = 131072;
 pub enum Container {
     /// A header line, and a line before each frame.
     Y4m,
-    /// The planar bytes alone.
+    /// The bytes of the frames alone.
     Raw,
 }
 

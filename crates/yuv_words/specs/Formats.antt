@@ -7,6 +7,7 @@ use Rattle.v_frame_y4m.specs.declared.colour.Colour.TheVariants.{Unstated, Yuv42
 use Rattle.v_frame_y4m.specs.declared.colour.Colour.TheVariants.{Yuv420Paldv, Yuv411, Yuv422, Yuv444, Mono}
 use Rattle.v_frame_y4m.specs.declared.colour.Colour.TheVariants.{Yuv420HighDepth, Yuv422HighDepth}
 use Rattle.v_frame_y4m.specs.declared.colour.Colour.TheVariants.{Yuv444HighDepth, MonoHighDepth}
+use Rattle.v_frame_y4m.specs.declared.colour.Depth.TheVariants.{Ten, Twelve, Sixteen}
 use Rattle.v_frame_semi_planar.specs.Format.{depth_of as sample_depth_of, subsampling_of as chroma_of}
 use Rattle.v_frame_semi_planar.specs.declared.format.SemiPlanarFormat.{SemiPlanarFormat}
 use Rattle.v_frame_semi_planar.specs.declared.format.SemiPlanarFormat.TheVariants.{Nv12, Nv21, Nv16, Nv24}
@@ -21,6 +22,20 @@ format_subsampling (SemiPlanar layout) = chroma_of layout
 abbrev pub format_depth : VideoFormat → ℕ
 format_depth (Planar colour) = depth_of colour
 format_depth (SemiPlanar layout) = sample_depth_of layout
+
+-- what the header of a stream has for the subsampling and the bit depth of a layout
+abbrev pub colour_of_layout : SemiPlanarFormat → Colour
+colour_of_layout Nv12 = Yuv420
+colour_of_layout Nv21 = Yuv420
+colour_of_layout Nv16 = Yuv422
+colour_of_layout Nv24 = Yuv444
+colour_of_layout P010 = Yuv420HighDepth Ten
+colour_of_layout P012 = Yuv420HighDepth Twelve
+colour_of_layout P016 = Yuv420HighDepth Sixteen
+
+abbrev pub format_colour : VideoFormat → Colour
+format_colour (Planar colour) = colour
+format_colour (SemiPlanar layout) = colour_of_layout layout
 
 -- the short name: of planes one after the other, what YUV4MPEG2 has for them
 abbrev pub layout_text : SemiPlanarFormat → List ℕ

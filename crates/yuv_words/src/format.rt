@@ -1,6 +1,7 @@
 //! The formats of raw video, by the names that ffmpeg has for them and by short ones.
 ghost use Rattle.std.specs.Prelude.{◌≡◌, ◌↔◌, ◌⊎◌, IfNone, IfSome, IsTrue};
-ghost use Rattle.yuv_words.specs.Formats.{ffmpeg_colour, ffmpeg_layout, ffmpeg_name as name_in_ffmpeg, format_depth, format_subsampling, layout_text, short_name as name_in_short, IsFormat};
+ghost use Rattle.v_frame_y4m.specs.Colour.{depth_of, subsampling_of};
+ghost use Rattle.yuv_words.specs.Formats.{colour_of_layout, ffmpeg_colour, ffmpeg_layout, ffmpeg_name as name_in_ffmpeg, format_colour, format_depth, format_subsampling, layout_text, short_name as name_in_short, IsFormat};
 ghost use Rattle.yuv_words.specs.declared.format.VideoFormat.{VideoFormat as TheFormat};
 
 use v_frame::chroma::ChromaSubsampling;
@@ -76,6 +77,18 @@ impl VideoFormat {
         }
     }
 
+    /// Returns the colour that the header of a stream has for frames of this format.
+    pub fn colour(self) -> Colour
+        ensures value { result ≡ format_colour self }
+        ensures subsampling { subsampling_of result ≡ format_subsampling self }
+        ensures depth { depth_of result ≡ format_depth self }
+    {
+        match self {
+            VideoFormat::Planar(colour) => colour,
+            VideoFormat::SemiPlanar(layout) => layout_colour(layout),
+        }
+    }
+
     /// Returns the short name: what YUV4MPEG2 has for planes one after the other, and `nv12`, `p010` and the like.
     pub fn short_name(self) -> &'static str
         ensures { result.now ≡ name_in_short self }
@@ -114,6 +127,20 @@ impl VideoFormat {
         ensures { IsTrue result ↔ ((name.now ≡ name_in_short self) ⊎ (name.now ≡ name_in_ffmpeg self)) }
     {
         name == self.short_name() || name == self.ffmpeg_name()
+    }
+}
+
+/// Returns the colour whose subsampling and bit depth a layout has.
+fn layout_colour(layout: SemiPlanarFormat) -> Colour
+    ensures { result ≡ colour_of_layout layout }
+{
+    match layout {
+        SemiPlanarFormat::Nv12 | SemiPlanarFormat::Nv21 => Colour::Yuv420,
+        SemiPlanarFormat::Nv16 => Colour::Yuv422,
+        SemiPlanarFormat::Nv24 => Colour::Yuv444,
+        SemiPlanarFormat::P010 => Colour::Yuv420HighDepth(Depth::Ten),
+        SemiPlanarFormat::P012 => Colour::Yuv420HighDepth(Depth::Twelve),
+        SemiPlanarFormat::P016 => Colour::Yuv420HighDepth(Depth::Sixteen),
     }
 }
 

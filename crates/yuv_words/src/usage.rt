@@ -19,13 +19,14 @@ compare    reports how far two streams are apart. Status 0: they show the same,
 copy       writes the frames of the first file to the second, in part or changed
 sum        reports a checksum of each frame
 stats      reports what values the samples have
-show       writes a frame as a picture
+show       writes a frame as a picture, a PNG
 diff       writes the difference of two frames as a picture
-plot       draws how far two streams are apart, frame by frame
+plot       draws how far two streams are apart, frame by frame, as SVG
 
 A file is a YUV4MPEG2 stream, and - is standard input or output. Options stand
 anywhere behind the command, as --skip 5 or --skip=5, and all words behind -- are
-files. yuv help COMMAND has the options of a command.
+files. yuv help COMMAND has the options of a command, and in brackets what holds
+where one is not given.
 
 Status 2: something failed. Frames are counted from 1, columns and rows from 0.
 ";
@@ -33,25 +34,28 @@ Status 2: something failed. Frames are counted from 1, columns and rows from 0.
 /// How `info` is called.
 const INFO: &str = "usage: yuv info FILE [OPTIONS]
 
-Reports what a stream is, and how many frames it has.
+Reports what a stream is, and how many frames it has. Of a stream that breaks off
+it reports the whole frames, and then the fault, with status 2.
 
 --header          reads the header alone, and counts no frames
 --raw R           the file is headerless raw video: R is WIDTHxHEIGHT:FORMAT or
                   WIDTHxHEIGHT:FORMAT@N:D, as 1920x1080:yuv420p10le@25:1
 --max-pixels N    refuses frames of more than N luma pixels
---progress        shows the count of frames meanwhile
+--progress        shows the count of frames meanwhile, on a terminal
 ";
 
 /// How `compare` is called.
 const COMPARE: &str = "usage: yuv compare FILE FILE [OPTIONS]
 
-Reports how far two streams are apart. Status 0: they show the same, 1: they
-differ.
+Reports how far two streams are apart: the mean squared error and the peak
+signal-to-noise ratio of all planes and of each, the first sample that differs,
+and which stream has more frames. Status 0: they show the same, 1: they differ.
 
---ssim            reports structural similarity too
---frames          reports each frame in a line
---exact           reports the whole numbers that the others are made of
---csv, --json     the form of the report, in place of lines
+--ssim            reports structural similarity too, as ffmpeg's filter ssim
+                  computes it; planes have at least 8 by 8 samples
+--frames          reports each frame in a line, as ffmpeg's filter psnr does
+--exact           reports the sums of squared errors too
+--csv, --json     reports each frame with all digits, as a table or an object
 --skip N          passes over the first N frames of both streams
 --skip-second N   passes over N frames of the second stream, and --skip of the
                   first alone
@@ -59,8 +63,8 @@ differ.
 --raw R           the first file is headerless raw video: R is
                   WIDTHxHEIGHT:FORMAT, as 1920x1080:yuv420p10le
 --raw-second R    so is the second file
---max-pixels N    refuses frames of more than N luma pixels
---progress        shows the count of frames meanwhile
+--max-pixels N    refuses frames of more than N luma pixels (134217728)
+--progress        shows the count of frames meanwhile, on a terminal
 ";
 
 /// How `copy` is called.
@@ -68,13 +72,14 @@ const COPY: &str = "usage: yuv copy FILE FILE [OPTIONS]
 
 Writes the frames of the first file to the second. They go to a new file beside
 the second one, FILE.partial, which replaces it after the last frame. A device or
-a pipe is written as it is.
+a pipe is written as it is. Parameters of FRAME lines are not kept.
 
 --skip N          passes over the first N frames
 --count N         writes N frames at most
 --crop X,Y,WIDTH,HEIGHT
                   takes a rectangle of each frame, in luma pixels
---half            writes frames of half the size
+--half            writes frames of half the size, rounded up: the mean of two by
+                  two samples, where an odd last column or row counts twice
 --format F        writes another chroma subsampling, depth or layout, as
                   yuv420p10le, 420p10, gray, mono, nv12 or p010le
 --rate N:D        the frames per second in the header
@@ -82,62 +87,68 @@ a pipe is written as it is.
 --raw R           the first file is headerless raw video: R is
                   WIDTHxHEIGHT:FORMAT or WIDTHxHEIGHT:FORMAT@N:D
 --raw-output      writes headerless raw video
---max-pixels N    refuses frames of more than N luma pixels
---progress        shows the count of frames meanwhile
+--max-pixels N    refuses frames of more than N luma pixels (134217728)
+--progress        shows the count of frames meanwhile, on a terminal
 ";
 
 /// How `sum` is called.
 const SUM: &str = "usage: yuv sum FILE [OPTIONS]
 
-Reports a checksum of each frame.
+Reports the CRC-32 of the samples of each frame as zlib and ffmpeg's framehash
+compute it, samples of more than 8 bits as two bytes, the low one first.
 
---planes          reports a checksum of each plane
+--planes          reports one of each plane in place of the frame
 --raw R           the file is headerless raw video: R is WIDTHxHEIGHT:FORMAT
---max-pixels N    refuses frames of more than N luma pixels
+--max-pixels N    refuses frames of more than N luma pixels (134217728)
 ";
 
 /// How `stats` is called.
 const STATS: &str = "usage: yuv stats FILE [OPTIONS]
 
-Reports what values the samples of each plane have.
+Reports the least and the greatest value of each plane over all frames, the mean,
+and how many samples are outside the nominal range: 16 to 235 for luma and 16 to
+240 for chroma at 8 bits, and in proportion at others.
 
---histogram       reports how often each value occurs
+--histogram       reports how often each value occurs, as a table with commas
 --raw R           the file is headerless raw video: R is WIDTHxHEIGHT:FORMAT
---max-pixels N    refuses frames of more than N luma pixels
+--max-pixels N    refuses frames of more than N luma pixels (134217728)
 ";
 
 /// How `show` is called.
 const SHOW: &str = "usage: yuv show FILE PICTURE [OPTIONS]
 
-Writes a frame as a picture.
+Writes a frame as a PNG: in colour with 8 bits, or in grey.
 
---frame N         which frame
---matrix M        the standard of the colours: bt601, bt709 or bt2020
---range R         the range of the samples: limited or full
+--frame N         which frame, counted from 1 (1)
+--matrix M        the standard of the colours: bt601, bt709 or bt2020 (bt709)
+--range R         the range of the samples: limited or full (limited)
 --plane P         shows one plane in grey: y, u or v
 --crop X,Y,WIDTH,HEIGHT
                   shows a rectangle, in luma pixels
 --raw R           the file is headerless raw video: R is WIDTHxHEIGHT:FORMAT
---max-pixels N    refuses frames of more than N luma pixels
+--max-pixels N    refuses frames of more than N luma pixels (134217728)
 ";
 
 /// How `diff` is called.
 const DIFF: &str = "usage: yuv diff FILE FILE PICTURE [OPTIONS]
 
-Writes the difference of two frames as a picture.
+Writes the difference of the luma of two frames as a PNG in grey, black where
+they show the same, and reports where planes differ. Status 0: they show the same,
+1: they differ.
 
---frame N         which frame
---gain N          multiplies each difference by N
+--frame N         which frame, counted from 1 (1)
+--gain N          multiplies each difference by N (8)
 --raw R           the first file is headerless raw video: R is
                   WIDTHxHEIGHT:FORMAT
 --raw-second R    so is the second file
---max-pixels N    refuses frames of more than N luma pixels
+--max-pixels N    refuses frames of more than N luma pixels (134217728)
 ";
 
 /// How `plot` is called.
 const PLOT: &str = "usage: yuv plot FILE FILE PICTURE [OPTIONS]
 
-Draws how far two streams are apart, frame by frame.
+Draws the peak signal-to-noise ratio and the structural similarity of each frame,
+plane by plane, as SVG.
 
 --skip N          passes over the first N frames of both streams
 --skip-second N   passes over N frames of the second stream, and --skip of the
@@ -146,7 +157,7 @@ Draws how far two streams are apart, frame by frame.
 --raw R           the first file is headerless raw video: R is
                   WIDTHxHEIGHT:FORMAT
 --raw-second R    so is the second file
---max-pixels N    refuses frames of more than N luma pixels
+--max-pixels N    refuses frames of more than N luma pixels (134217728)
 ";
 
 /// Returns how the program is called, or one of its commands.

@@ -1,5 +1,5 @@
 -- What was passed over, and then what was moved.
-use Rattle.std.proofs.Common.{◌≡◌, Bool, true, ℕ, rules, subst}
+use Rattle.std.proofs.Common.{◌≡◌, Bool, ℕ, rules, subst}
 use Rattle.yuv_streams.specs.Copies.{limit_of, same_bytes, Begins, Carries}
 use Rattle.yuv_streams.specs.Sources.{bytes_left, Stream}
 use Rattle.yuv_streams.specs.declared.stream.Container.{Container}

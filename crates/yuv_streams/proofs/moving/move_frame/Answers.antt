@@ -4,7 +4,7 @@ use Rattle.std.specs.Io.KnownBytes.{Appends}
 use lib.Seq.{take-append_seam}
 use Rattle.yuv_streams.specs.Copies.{MovesNext}
 use Rattle.yuv_streams.specs.Sources.{bytes_left, Stream}
-use Rattle.yuv_streams.specs.Streams.{frame_line, ReadsNext}
+use Rattle.yuv_streams.specs.Streams.{ReadsNext}
 use Rattle.yuv_streams.proofs.Reading.{moved_of_parts}
 use Rattle.yuv_streams.proofs.moving.move_frame.Goals as goal
 

@@ -3,7 +3,8 @@ use Rattle.std.proofs.Common.{◌∙◌, Bool, true, arith, subst}
 use Rattle.yuv_streams.specs.Copies.{MovesNext}
 use Rattle.yuv_streams.specs.Sources.{bytes_left, Stream}
 use Rattle.yuv_streams.specs.declared.stream.Container.{Container}
-use Rattle.yuv_streams.proofs.Reading.{none_carried, one_more_carried}
+use Rattle.yuv_streams.proofs.Reading.{one_more_carried}
+use Rattle.yuv_streams.proofs.MoreTold.{one_more_told}
 use Rattle.yuv_streams.proofs.moving.move_frames.Goals as goal
 
 pub loop-count-preserved : goal.loop-count-preserved
@@ -25,4 +26,5 @@ loop-count-preserved g c =
       same = done.same ∙ before.same;
       to = done.container ∙ before.to;
       some = omega (arith, done.size, before.some);
+      told = one_more_told g.P.Progress.shows _ _ _ _ before.told c.show_one_more.ensures;
     }

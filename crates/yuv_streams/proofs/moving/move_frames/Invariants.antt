@@ -2,6 +2,7 @@
 use Rattle.std.proofs.Common.{◌≡◌, length, ◌<◌}
 use Rattle.yuv_streams.specs.Copies.{same_bytes, Carries}
 use Rattle.yuv_streams.specs.Sources.{bytes_left, stream_of}
+use Rattle.yuv_streams.specs.Telling.{TellsUpTo}
 use Rattle.yuv_streams.proofs.moving.move_frames.Given as goal
 
 abbrev pub invariant-loop-count : goal.invariant-loop-count
@@ -12,4 +13,5 @@ invariant-loop-count g l = record {
   same : stream_of l.source ≡ stream_of l.fn.source;
   to : l.sink.container ≡ l.fn.sink.container;
   some : 0 < length l.block;
+  told : TellsUpTo g.P.Progress.shows l.count l.fn.progress l.progress;
 }

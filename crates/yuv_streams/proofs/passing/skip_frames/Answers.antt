@@ -3,6 +3,7 @@ use Rattle.std.proofs.Common.{◌∙◌, Bool, true, arith, subst}
 use Rattle.yuv_streams.specs.Sources.{bytes_left, Stream}
 use Rattle.yuv_streams.specs.Streams.{ReadsWhole}
 use Rattle.yuv_streams.proofs.Reading.{one_more_counted}
+use Rattle.yuv_streams.proofs.MoreTold.{one_more_told}
 use Rattle.yuv_streams.proofs.passing.skip_frames.Goals as goal
 
 pub loop-count-preserved : goal.loop-count-preserved
@@ -18,4 +19,5 @@ loop-count-preserved g c =
       counted = one_more_counted _ _ _ mid left _ before.counted next.0 next.1 next.2;
       same = done.same ∙ before.same;
       some = omega (arith, done.size, before.some);
+      told = one_more_told g.P.Progress.shows _ _ _ _ before.told c.show_one_more.ensures;
     }

@@ -2,6 +2,7 @@
 use Rattle.std.proofs.Common.{◌≡◌, length, ◌<◌}
 use Rattle.yuv_streams.specs.Sources.{bytes_left, stream_of}
 use Rattle.yuv_streams.specs.Streams.{CountsFrames}
+use Rattle.yuv_streams.specs.Telling.{TellsUpTo}
 use Rattle.yuv_streams.proofs.passing.skip_frames.Given as goal
 
 abbrev pub invariant-loop-count : goal.invariant-loop-count
@@ -10,4 +11,5 @@ invariant-loop-count g l = record {
       l.fn.source.container l.fn.source.frame_len l.count l.count;
   same : stream_of l.source ≡ stream_of l.fn.source;
   some : 0 < length l.block;
+  told : TellsUpTo g.P.Progress.shows l.count l.fn.progress l.progress;
 }

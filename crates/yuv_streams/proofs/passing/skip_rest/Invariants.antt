@@ -1,5 +1,5 @@
 -- So many bytes of the frame were read.
-use Rattle.std.proofs.Common.{◌≡◌, ◌≤◌, ◌-◌, length, ◌<◌}
+use Rattle.std.proofs.Common.{◌≡◌, ◌≤◌, ◌-◌, length}
 use Rattle.v_frame_planar.specs.Planar.{ConsumesSome}
 use Rattle.yuv_streams.specs.Sources.{bytes_left, stream_of}
 use Rattle.yuv_streams.proofs.passing.skip_rest.Given as goal

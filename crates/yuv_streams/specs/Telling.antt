@@ -1,0 +1,8 @@
+-- What somebody is told while a command works.
+use Rattle.std.specs.Prelude.{ℕ, zero, suc, ◌≡◌}
+
+-- 1 was told, then 2, and so on up to a number
+abbrev pub TellsUpTo : {A : Type 0} → (A → A → ℕ → Type 0) → ℕ → A → A → Type 0
+TellsUpTo shows zero old new = new ≡ old
+TellsUpTo {A} shows (suc n) old new =
+    (mid : A) × TellsUpTo shows n old mid × shows mid new (suc n)
