@@ -1,0 +1,28 @@
+-- The planes of a frame by their names, and the size of a picture of one.
+use Rattle.std.specs.Prelude.{ℕ, ◌<◌, ◌^◌, Option}
+use Rattle.v_frame.specs.Prelude.{Frame, Raster, plane_at}
+use Rattle.v_frame_png.specs.declared.header.ColourSpace.TheVariants.{Unnamed}
+use Rattle.v_frame_png.specs.declared.header.Header.{Header}
+use Rattle.v_frame_png.specs.declared.header.Samples.{Samples}
+use Rattle.yuv_pictures.specs.declared.plane_name.PlaneName.{PlaneName}
+use Rattle.yuv_pictures.specs.declared.plane_name.PlaneName.TheVariants.{Y, U, V}
+
+-- the index of a plane
+abbrev pub index_of : PlaneName → ℕ
+index_of Y = 0
+index_of U = 1
+index_of V = 2
+
+-- the plane of a name, where the frame has it
+abbrev pub plane_named : {T : Type 0} → Frame T → PlaneName → Option (Raster T)
+plane_named frame name = plane_at frame (index_of name)
+
+-- the sides that a PNG can have
+pub record IsPictureSize (width height : ℕ) : Type 0 where
+  pub wide : width < 2 ^ 31
+  pub high : height < 2 ^ 31
+
+-- the header of a file, which names no colour space
+abbrev pub picture_header : ℕ → ℕ → Samples → Header
+picture_header width height samples =
+    record { width = width; height = height; samples = samples; colour_space = Unnamed }

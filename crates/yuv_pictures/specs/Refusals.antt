@@ -1,0 +1,146 @@
+-- When a picture is not written.
+use Rattle.std.specs.Prelude.{ℕ, ◌≡◌, ⊤, Bool, true, false, IfSome}
+use Rattle.std.specs.Int.NonZero.{non_zero_u8_get}
+use Rattle.v_frame.specs.Prelude.{ChromaSubsampling, Frame, Raster, Yuv444}
+use Rattle.v_frame_convert.specs.Prelude.{DepthFits, SizesFit, scales_between}
+use Rattle.v_frame_png.specs.Refusals.{IsFault}
+use Rattle.v_frame_png.specs.declared.error.PngError.{PngError}
+use Rattle.v_frame_png.specs.declared.error.PngError.TheVariants.{OutOfMemory as NoMemory}
+use Rattle.yuv_pictures.specs.Colours.{has_chroma}
+use Rattle.yuv_pictures.specs.Planes.{IsPictureSize}
+use Rattle.yuv_pictures.specs.declared.error.PictureError.{PictureError}
+use Rattle.yuv_pictures.specs.declared.error.PictureError.TheVariants.{TooLarge, NoPlane, Layout, Unlike}
+use Rattle.yuv_pictures.specs.declared.error.PictureError.TheVariants.{Png, OutOfMemory}
+
+-- the writer failed or took nothing, or there was no memory
+abbrev pub IsTrouble : PictureError → Type 0
+IsTrouble (Png cause) = IsFault cause
+IsTrouble OutOfMemory = ⊤
+IsTrouble (TooLarge width height) = ⊥
+IsTrouble NoPlane = ⊥
+IsTrouble Layout = ⊥
+IsTrouble Unlike = ⊥
+
+-- what an error of the writer becomes
+abbrev pub trouble_of : PngError → PictureError
+trouble_of NoMemory = OutOfMemory
+trouble_of cause = Png cause
+
+-- why there is no header of a size
+abbrev pub RefusesSize : ℕ → ℕ → PictureError → Type 0
+RefusesSize width height (TooLarge columns rows) =
+    ¬ IsPictureSize width height × (columns ≡ width) × (rows ≡ height)
+RefusesSize width height (Png cause) = ⊥
+RefusesSize width height OutOfMemory = ⊥
+RefusesSize width height NoPlane = ⊥
+RefusesSize width height Layout = ⊥
+RefusesSize width height Unlike = ⊥
+
+-- the fact that a test chooses
+abbrev pub OneOf : Bool → Type 0 → Type 0 → Type 0
+OneOf true P Q = P
+OneOf false P Q = Q
+
+-- ---- grey
+
+-- samples of so many bytes and a depth can be grey, in a picture of a size
+pub record AcceptsGrey (bytes depth width height : ℕ) : Type 0 where
+  pub size : IsPictureSize width height
+  pub depth_fits : DepthFits bytes depth
+
+-- why grey is not written
+abbrev pub StopsGrey : ℕ → ℕ → ℕ → ℕ → PictureError → Type 0
+StopsGrey bytes depth width height (TooLarge columns rows) =
+    RefusesSize width height (TooLarge columns rows)
+StopsGrey bytes depth width height Layout =
+    IsPictureSize width height × ¬ DepthFits bytes depth
+StopsGrey bytes depth width height (Png cause) =
+    AcceptsGrey bytes depth width height × IsFault cause
+StopsGrey bytes depth width height OutOfMemory = AcceptsGrey bytes depth width height
+StopsGrey bytes depth width height NoPlane = ⊥
+StopsGrey bytes depth width height Unlike = ⊥
+
+module _ {T : Type 0} where
+  -- ---- colours
+
+  -- a chroma plane has the size that its format has beside luma of a size, rounded up
+  pub record IsChromaSize (format : ChromaSubsampling) (width height : ℕ) (plane : Raster T)
+      : Type 0 where
+    pub across : SizesFit (scales_between format Yuv444).0 plane.geometry.width width
+    pub down : SizesFit (scales_between format Yuv444).1 plane.geometry.height height
+
+  -- the planes of a frame are as its format and its bit depth say
+  pub record IsSound (bytes : ℕ) (frame : Frame T) : Type 0 where
+    pub depth_fits : DepthFits bytes (non_zero_u8_get frame.bit_depth)
+    pub u : IfSome frame.u_plane (IsChromaSize frame.subsampling frame.y_plane.geometry.width
+        frame.y_plane.geometry.height)
+    pub v : IfSome frame.v_plane (IsChromaSize frame.subsampling frame.y_plane.geometry.width
+        frame.y_plane.geometry.height)
+
+  pub record AcceptsColours (bytes : ℕ) (frame : Frame T) : Type 0 where
+    pub size : IsPictureSize frame.y_plane.geometry.width frame.y_plane.geometry.height
+    pub sound : IsSound bytes frame
+
+  -- why colours are not written
+  abbrev pub StopsColours : ℕ → Frame T → PictureError → Type 0
+  StopsColours bytes frame (TooLarge columns rows) =
+      RefusesSize frame.y_plane.geometry.width frame.y_plane.geometry.height
+      (TooLarge columns rows)
+  StopsColours bytes frame OutOfMemory =
+      IsPictureSize frame.y_plane.geometry.width frame.y_plane.geometry.height
+  StopsColours bytes frame Layout =
+      IsPictureSize frame.y_plane.geometry.width frame.y_plane.geometry.height
+      × ¬ IsSound bytes frame
+  StopsColours bytes frame (Png cause) = AcceptsColours bytes frame × IsFault cause
+  StopsColours bytes frame NoPlane = ⊥
+  StopsColours bytes frame Unlike = ⊥
+
+  -- why a frame is not brought to 8 bits and full chroma
+  abbrev pub StopsFullChroma : ℕ → Frame T → PictureError → Type 0
+  StopsFullChroma bytes frame Layout = ¬ IsSound bytes frame
+  StopsFullChroma bytes frame OutOfMemory = ⊤
+  StopsFullChroma bytes frame (TooLarge columns rows) = ⊥
+  StopsFullChroma bytes frame (Png cause) = ⊥
+  StopsFullChroma bytes frame NoPlane = ⊥
+  StopsFullChroma bytes frame Unlike = ⊥
+
+  -- ---- frames: colours, or grey where there is no chroma
+
+  abbrev pub AcceptsFrame : ℕ → Frame T → Type 0
+  AcceptsFrame bytes frame =
+      OneOf (has_chroma frame) (AcceptsColours bytes frame)
+      (AcceptsGrey bytes (non_zero_u8_get frame.bit_depth) frame.y_plane.geometry.width
+      frame.y_plane.geometry.height)
+
+  abbrev pub StopsFrame : ℕ → Frame T → PictureError → Type 0
+  StopsFrame bytes frame error =
+      OneOf (has_chroma frame) (StopsColours bytes frame error)
+      (StopsGrey bytes (non_zero_u8_get frame.bit_depth) frame.y_plane.geometry.width
+      frame.y_plane.geometry.height error)
+
+  -- ---- differences
+
+  -- luma of one size, and one bit depth
+  pub record AreAlike (first second : Frame T) : Type 0 where
+    pub wide : second.y_plane.geometry.width ≡ first.y_plane.geometry.width
+    pub high : second.y_plane.geometry.height ≡ first.y_plane.geometry.height
+    pub depth : non_zero_u8_get second.bit_depth ≡ non_zero_u8_get first.bit_depth
+
+  pub record AcceptsDifference (bytes : ℕ) (first second : Frame T) : Type 0 where
+    pub alike : AreAlike first second
+    pub grey : AcceptsGrey bytes (non_zero_u8_get first.bit_depth) first.y_plane.geometry.width
+        first.y_plane.geometry.height
+
+  -- why differences are not written
+  abbrev pub StopsDifference : ℕ → Frame T → Frame T → PictureError → Type 0
+  StopsDifference bytes first second Unlike = ¬ AreAlike first second
+  StopsDifference bytes first second (TooLarge columns rows) =
+      AreAlike first second
+      × RefusesSize first.y_plane.geometry.width first.y_plane.geometry.height
+      (TooLarge columns rows)
+  StopsDifference bytes first second Layout =
+      AreAlike first second × ¬ DepthFits bytes (non_zero_u8_get first.bit_depth)
+  StopsDifference bytes first second (Png cause) =
+      AcceptsDifference bytes first second × IsFault cause
+  StopsDifference bytes first second OutOfMemory = AreAlike first second
+  StopsDifference bytes first second NoPlane = ⊥

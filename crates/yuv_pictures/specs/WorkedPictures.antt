@@ -1,0 +1,64 @@
+-- Small cases, whose numbers Python worked out of the standards' weights. Each line computes: it is
+-- proved by `refl`.
+use Rattle.std.specs.Prelude.{ℕ, ◌≡◌, [], ◌∷◌, refl}
+use Rattle.v_frame.specs.Prelude.{Table, one_byte, two_bytes, Yuv420, Yuv444}
+use Rattle.v_frame_convert.specs.Prelude.{scaled, scales_between, pixel_of_depth}
+use Rattle.v_frame_ops.specs.Prelude.{combined, difference_of}
+use Rattle.v_frame_rgb.specs.Prelude.{colour_rows, rgb_matrix_of}
+use Rattle.v_frame_rgb.specs.declared.standard.ColourRange.TheVariants.{Limited, Full}
+use Rattle.v_frame_rgb.specs.declared.standard.Standard.TheVariants.{Bt601, Bt709}
+use Rattle.yuv_pictures.specs.Colours.{rgb_bytes}
+use Rattle.yuv_pictures.specs.Grey.{grey_rows, samples_at}
+
+-- ---- grey
+
+-- 8 bits stay
+grey_of_bytes : grey_rows one_byte 8 ((0 ∷ 16 ∷ 255 ∷ []) ∷ []) ≡ (0 ∷ 16 ∷ 255 ∷ []) ∷ []
+grey_of_bytes = refl
+
+-- 10 bits are shifted up: 64 to 4096, 1023 to 65472, high byte first
+grey_of_ten_bits : grey_rows two_bytes 10 ((64 ∷ 1023 ∷ []) ∷ []) ≡ (16 ∷ 0 ∷ 255 ∷ 192 ∷ []) ∷ []
+grey_of_ten_bits = refl
+
+grey_of_sixteen_bits : grey_rows two_bytes 16 ((513 ∷ []) ∷ []) ≡ (2 ∷ 1 ∷ []) ∷ []
+grey_of_sixteen_bits = refl
+
+-- ---- colours
+
+-- two by two of 4:2:0, whose one chroma pixel is that of red
+abbrev red_luma : Table ℕ
+red_luma = (16 ∷ 81 ∷ []) ∷ (145 ∷ 235 ∷ []) ∷ []
+
+abbrev repeated_four : ℕ → Table ℕ
+repeated_four sample =
+    scaled one_byte (pixel_of_depth one_byte 8 8) (scales_between Yuv420 Yuv444).0
+    (scales_between Yuv420 Yuv444).1 2 2 ((sample ∷ []) ∷ [])
+
+chroma_of_four : repeated_four 90 ≡ (90 ∷ 90 ∷ []) ∷ (90 ∷ 90 ∷ []) ∷ []
+chroma_of_four = refl
+
+red_by_bt601 : colour_rows (rgb_matrix_of Bt601 Limited) rgb_bytes
+    (samples_at one_byte 8 8 red_luma) (repeated_four 90) (repeated_four 240)
+    ≡ (179 ∷ 0 ∷ 0 ∷ 254 ∷ 0 ∷ 0 ∷ []) ∷ (255 ∷ 74 ∷ 74 ∷ 255 ∷ 179 ∷ 178 ∷ []) ∷ []
+red_by_bt601 = refl
+
+-- another standard or another range makes another red
+red_by_bt709 : colour_rows (rgb_matrix_of Bt709 Limited) rgb_bytes ((81 ∷ []) ∷ []) ((90 ∷ []) ∷ [])
+    ((240 ∷ []) ∷ []) ≡ (255 ∷ 24 ∷ 0 ∷ []) ∷ []
+red_by_bt709 = refl
+
+red_of_full_range : colour_rows (rgb_matrix_of Bt601 Full) rgb_bytes ((81 ∷ []) ∷ [])
+    ((90 ∷ []) ∷ []) ((240 ∷ []) ∷ []) ≡ (238 ∷ 14 ∷ 14 ∷ []) ∷ []
+red_of_full_range = refl
+
+-- ---- differences
+
+-- 3 times 20 is 60, 3 times 100 is above 255, and nothing is black
+difference_of_bytes : grey_rows one_byte 8 (combined (combined (difference_of one_byte 3 8))
+    ((120 ∷ 200 ∷ 7 ∷ []) ∷ []) ((100 ∷ 100 ∷ 7 ∷ []) ∷ [])) ≡ (60 ∷ 255 ∷ 0 ∷ []) ∷ []
+difference_of_bytes = refl
+
+-- of 10 bits 3 becomes 12, which is 768 of 16 bits
+difference_of_ten_bits : grey_rows two_bytes 10 (combined (combined (difference_of two_bytes 4 10))
+    ((500 ∷ []) ∷ []) ((503 ∷ []) ∷ [])) ≡ (3 ∷ 0 ∷ []) ∷ []
+difference_of_ten_bits = refl

@@ -1,0 +1,217 @@
+//! The colours of a frame as a picture.
+ghost use Rattle.std.specs.Prelude.{◌≡◌, ◌*◌, ◌<◌, Some, length, slice_get, IfErr, IfOk, OnOk};
+ghost use Rattle.v_frame.specs.Prelude.{height_of, table_of, width_of};
+ghost use Rattle.v_frame_png.specs.Prelude.{HasFile};
+ghost use Rattle.v_frame_rgb.specs.Prelude.{colour_rows};
+ghost use Rattle.yuv_pictures.specs.Colours.{frame_colours, frame_rows, frame_samples, has_chroma, rgb_bytes};
+ghost use Rattle.yuv_pictures.specs.FullChroma.{IsFullFrame, ShowsFullChroma};
+ghost use Rattle.yuv_pictures.specs.Planes.{picture_header, IsPictureSize};
+ghost use Rattle.yuv_pictures.specs.Refusals.{AcceptsColours, AcceptsFrame, IsSound, IsTrouble, StopsColours, StopsFrame, StopsFullChroma};
+
+use crate::error::PictureError;
+use crate::file::{begin, end, header_of, trouble};
+use crate::grey::write_grey;
+use std::alloc::Global;
+use std::io;
+use v_frame::chroma::ChromaSubsampling;
+use v_frame::frame::{Frame, FrameBuilder};
+use v_frame::pixel::Pixel;
+use v_frame::plane::{Plane, RowsRef};
+use v_frame_convert::{convert_frame, frames_fit};
+use v_frame_png::{Header, Samples};
+use v_frame_rgb::{ColourRange, Rgb, RgbMatrix, Standard, rows};
+
+/// How the colours of a frame are made.
+#[derive(Debug, Clone, Copy, PartialEq, Eq)]
+pub struct Colours {
+    /// The standard by which R'G'B' is made.
+    pub standard: Standard,
+    /// Which samples stand for black and white.
+    pub range: ColourRange,
+}
+
+/// Writes the colours of a frame as RGB of 8 bits, and returns the writer.
+///
+/// Samples are brought to 8 bits, and chroma pixels are repeated for each luma pixel beside them, as by `convert_frame` of
+/// `v_frame_convert`. Where one chroma plane is missing it counts as no colour. A frame without chroma is written in grey, as
+/// [`write_plane_picture`](crate::write_plane_picture) writes its luma: its samples as they are, whatever `colours` says.
+///
+/// # Errors
+///
+/// [`PictureError::TooLarge`] where a side is above 2^31 - 1, [`PictureError::Layout`] where a chroma plane has another size
+/// than the format of the frame says or its bit depth is none of its type of pixels, [`PictureError::Png`] where a write
+/// failed or took nothing, and [`PictureError::OutOfMemory`]. Then the writer is dropped.
+pub fn write_frame_picture<T: Pixel, W: io::Write + Drop>(
+    alloc: Global,
+    out: W,
+    frame: &Frame<T>,
+    colours: Colours,
+) -> Result<W, PictureError>
+    ensures file { IfOk result (λ new. HasFile W.contents (W.contents out) new
+        (picture_header frame.now.y_plane.geometry.width frame.now.y_plane.geometry.height
+        (frame_samples frame.now))
+        (frame_rows T.form frame.now colours)) }
+    ensures accepted { OnOk result (AcceptsFrame T.BYTES frame.now) }
+    ensures error { IfErr result (StopsFrame T.BYTES frame.now) }
+{
+    if has_chroma(frame) {
+        write_colours(alloc, out, frame, colours)
+    } else {
+        let depth = frame.bit_depth.get();
+        write_grey(alloc, out, &frame.y_plane.as_plane_ref(), depth)
+    }
+}
+
+/// Returns whether one of the chroma planes is there.
+fn has_chroma<T: Pixel>(frame: &Frame<T>) -> bool
+    ensures { result ≡ has_chroma frame.now }
+{
+    frame.u_plane.is_some() || frame.v_plane.is_some()
+}
+
+/// Writes the colours of a frame. A chroma plane that is not there counts as no colour.
+fn write_colours<T: Pixel, W: io::Write + Drop>(
+    alloc: Global,
+    out: W,
+    frame: &Frame<T>,
+    colours: Colours,
+) -> Result<W, PictureError>
+    ensures file { IfOk result (λ new. HasFile W.contents (W.contents out) new
+        (picture_header frame.now.y_plane.geometry.width frame.now.y_plane.geometry.height
+        Samples.Rgb8)
+        (frame_colours T.form frame.now colours)) }
+    ensures accepted { OnOk result (AcceptsColours T.BYTES frame.now) }
+    ensures error { IfErr result (StopsColours T.BYTES frame.now) }
+{
+    let (width, height) = (frame.y_plane.width(), frame.y_plane.height());
+    let header = header_of(width, height, Samples::Rgb8)?;
+    let shown = with_full_chroma(alloc, frame)?;
+    let matrix = RgbMatrix::new(colours.standard, colours.range);
+    match (&shown.u_plane, &shown.v_plane) {
+        (Some(u), Some(v)) => { write_planes(alloc, out, header, &shown.y_plane, u, v, matrix) }
+        _ => unreachable!(),
+    }
+}
+
+/// Returns what a frame shows in 8 bits a sample, with a chroma pixel for each luma pixel.
+///
+/// # Errors
+///
+/// [`PictureError::Layout`] where the frame is not as its format and its bit depth say, and [`PictureError::OutOfMemory`].
+fn with_full_chroma<T: Pixel>(alloc: Global, frame: &Frame<T>) -> Result<Frame<u8>, PictureError>
+    ensures shown { IfOk result (ShowsFullChroma T.form frame.now) }
+    ensures accepted { OnOk result (IsSound T.BYTES frame.now) }
+    ensures error { IfErr result (StopsFullChroma T.BYTES frame.now) }
+{
+    let mut shown = full_frame(alloc, frame.y_plane.width(), frame.y_plane.height())?;
+    if !frames_fit(frame, &shown) {
+        return Err(PictureError::Layout);
+    }
+    convert_frame(frame, &mut shown);
+    Ok(shown)
+}
+
+/// Returns a frame of 8 bits with chroma of the size of luma.
+fn full_frame(alloc: Global, width: usize, height: usize) -> Result<Frame<u8>, PictureError>
+    ensures full { IfOk result (IsFullFrame width height) }
+    ensures error { IfErr result (λ e. e ≡ PictureError.OutOfMemory) }
+{
+    // A frame of this size is in memory already, so no size is refused but for want of memory.
+    match FrameBuilder::new(width, height, ChromaSubsampling::Yuv444, 8).build(alloc) {
+        Ok(frame) => Ok(frame),
+        Err(_) => Err(PictureError::OutOfMemory),
+    }
+}
+
+/// Writes the colours of three planes of one size, and returns the writer.
+fn write_planes<W: io::Write + Drop>(
+    alloc: Global,
+    out: W,
+    header: Header,
+    y: &Plane<u8>,
+    u: &Plane<u8>,
+    v: &Plane<u8>,
+    matrix: RgbMatrix,
+) -> Result<W, PictureError>
+    requires header { header
+        ≡ picture_header y.now.geometry.width y.now.geometry.height Samples.Rgb8 }
+    requires size { IsPictureSize y.now.geometry.width y.now.geometry.height }
+    requires u_wide { u.now.geometry.width ≡ y.now.geometry.width }
+    requires u_high { u.now.geometry.height ≡ y.now.geometry.height }
+    requires v_wide { v.now.geometry.width ≡ y.now.geometry.width }
+    requires v_high { v.now.geometry.height ≡ y.now.geometry.height }
+    ensures file { IfOk result (λ new. HasFile W.contents (W.contents out) new header
+        (colour_rows matrix rgb_bytes (table_of y.now) (table_of u.now) (table_of v.now))) }
+    ensures error { IfErr result IsTrouble }
+{
+    let y = y.as_plane_ref().as_rows_ref();
+    let (u, v) = (
+        u.as_plane_ref().as_rows_ref(),
+        v.as_plane_ref().as_rows_ref(),
+    );
+    write_colour_rows(alloc, out, header, &y, &u, &v, matrix)
+}
+
+/// Writes the colours of luma and chroma of one size, row by row, and returns the writer.
+fn write_colour_rows<W: io::Write + Drop>(
+    alloc: Global,
+    out: W,
+    header: Header,
+    y: &RowsRef<'_, u8>,
+    u: &RowsRef<'_, u8>,
+    v: &RowsRef<'_, u8>,
+    matrix: RgbMatrix,
+) -> Result<W, PictureError>
+    requires header { header ≡ picture_header (width_of y.now) (height_of y.now) Samples.Rgb8 }
+    requires size { IsPictureSize (width_of y.now) (height_of y.now) }
+    requires u_wide { width_of u.now ≡ width_of y.now }
+    requires u_high { height_of u.now ≡ height_of y.now }
+    requires v_wide { width_of v.now ≡ width_of y.now }
+    requires v_high { height_of v.now ≡ height_of y.now }
+    ensures file { IfOk result (λ new. HasFile W.contents (W.contents out) new header
+        (colour_rows matrix rgb_bytes y.now u.now v.now)) }
+    ensures error { IfErr result IsTrouble }
+{
+    let height = y.height();
+    // The width is positive, since a row is never empty.
+    let _width = y.width();
+    let mut line = vec![in alloc; 0; header.row_size()]?;
+    let mut png = begin(alloc, out, header)?;
+    for k in 0..height {
+        make_colour_row(&mut line, y, u, v, k, matrix);
+        if let Err(error) = png.write_row(&line) {
+            return Err(trouble(error));
+        }
+    }
+    end(png)
+}
+
+/// Makes a line the colours of row `k` of luma and chroma of one size.
+fn make_colour_row(
+    line: &mut [u8],
+    y: &RowsRef<'_, u8>,
+    u: &RowsRef<'_, u8>,
+    v: &RowsRef<'_, u8>,
+    k: usize,
+    matrix: RgbMatrix,
+)
+    requires size { length line.old ≡ 3 * width_of y.now }
+    requires there { k < height_of y.now }
+    requires u_wide { width_of u.now ≡ width_of y.now }
+    requires u_high { height_of u.now ≡ height_of y.now }
+    requires v_wide { width_of v.now ≡ width_of y.now }
+    requires v_high { height_of v.now ≡ height_of y.now }
+    ensures { slice_get (colour_rows matrix rgb_bytes y.now u.now v.now) k ≡ Some line.new }
+{
+    let (width, size) = (y.width(), line.len());
+    // The rows that are read are there, and as wide as the picture.
+    let _y_row = y.visible_row(k);
+    let _u_row = u.visible_row(k);
+    let _v_row = v.visible_row(k);
+    let luma = y.visible_region(0, k, width, 1);
+    let (blue, red) = (
+        u.visible_region(0, k, width, 1),
+        v.visible_region(0, k, width, 1),
+    );
+    rows::yuv444_to_rgb::<Rgb>(&luma, &blue, &red, matrix, line, size, 1, size);
+}

@@ -1,0 +1,78 @@
+//! The beginning and the end of a file.
+ghost use Rattle.std.specs.Prelude.{◌≡◌, [], ℕ, List, Option, true, IfErr, IfOk, OnOk};
+ghost use Rattle.v_frame_png.specs.Prelude.{row_size, AcceptsRows, HasDrawn, HasFile, IsSize};
+ghost use Rattle.yuv_pictures.specs.Planes.{IsPictureSize, picture_header};
+ghost use Rattle.yuv_pictures.specs.Refusals.{trouble_of, IsTrouble, RefusesSize};
+
+use crate::error::PictureError;
+use std::alloc::Global;
+use std::io;
+use v_frame_png::{ColourSpace, Compression, Header, PngError, PngWriter, Samples};
+
+/// Returns the header of a picture, which names no colour space.
+///
+/// # Errors
+///
+/// [`PictureError::TooLarge`] where a side is above 2^31 - 1.
+pub(crate) fn header_of(
+    width: usize,
+    height: usize,
+    samples: Samples,
+) -> Result<Header, PictureError>
+    ensures header { IfOk result (λ header. header ≡ picture_header width height samples) }
+    ensures accepted { OnOk result (IsPictureSize width height) }
+    ensures error { IfErr result (RefusesSize width height) }
+{
+    if width >= 0x8000_0000 || height >= 0x8000_0000 {
+        return Err(PictureError::TooLarge { width, height });
+    }
+    Ok(Header {
+        width: width as u32,
+        height: height as u32,
+        samples,
+        colour_space: ColourSpace::Unnamed,
+    })
+}
+
+/// Begins a file.
+pub(crate) fn begin<W: io::Write + Drop>(
+    alloc: Global,
+    out: W,
+    header: Header,
+) -> Result<PngWriter<W>, PictureError>
+    requires { IsSize header }
+    ensures drawn { IfOk result (λ png. HasDrawn W.contents (W.contents out) png []) }
+    ensures header { IfOk result (λ png. png.header ≡ header) }
+    ensures ready { IfOk result (λ png. AcceptsRows png (row_size header) header.height) }
+    ensures error { IfErr result (λ e. e ≡ PictureError.OutOfMemory) }
+{
+    match PngWriter::with_compression(alloc, out, header, Compression::Fixed) {
+        Ok(png) => Ok(png),
+        Err(_) => Err(PictureError::OutOfMemory),
+    }
+}
+
+/// Ends a file whose rows are all drawn, and returns the writer.
+pub(crate) fn end<W: io::Write + Drop>(mut png: PngWriter<W>) -> Result<W, PictureError>
+    requires is_open { png.is_open ≡ true }
+    requires left { png.rows_left ≡ 0 }
+    ensures file { (start : Option (List ℕ)) (rows : List (List ℕ))
+        → HasDrawn W.contents start png rows
+        → IfOk result (λ out. HasFile W.contents start out png.header rows) }
+    ensures error { IfErr result IsTrouble }
+{
+    match png.finish() {
+        Ok(()) => Ok(png.into_inner()),
+        Err(error) => Err(trouble(error)),
+    }
+}
+
+/// Returns the error of a write that failed, or of refused memory.
+pub(crate) fn trouble(error: PngError) -> PictureError
+    ensures { result ≡ trouble_of error }
+{
+    match error {
+        PngError::OutOfMemory => PictureError::OutOfMemory,
+        error => PictureError::Png(error),
+    }
+}

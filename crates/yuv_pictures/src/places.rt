@@ -1,0 +1,78 @@
+//! Where two frames differ, in numbers.
+ghost use Rattle.std.specs.Prelude.{◌≡◌, None, Option, IfSome, MatchOption, option_map};
+ghost use Rattle.v_frame.specs.Prelude.{table_of, tables_of};
+ghost use Rattle.v_frame_measures.specs.Frames.{size_of};
+ghost use Rattle.v_frame_measures.specs.Prelude.{HaveOneSize};
+ghost use Rattle.yuv_pictures.specs.Differences.{AreDifferences, IsChromaDifference, IsPlaneDifference};
+
+use v_frame::frame::Frame;
+use v_frame::pixel::Pixel;
+use v_frame::plane::Plane;
+use v_frame_measures::{GreatestDifference, count_above, greatest_difference};
+
+/// What differs in two planes of one size.
+#[derive(Debug, Clone, Copy, PartialEq, Eq)]
+pub struct PlaneDifference {
+    /// How many samples differ.
+    pub count: usize,
+    /// The greatest difference, 0 where none differs, and the first place that has it, row after row from the top.
+    pub greatest: GreatestDifference,
+}
+
+/// What differs in two frames, plane by plane.
+#[derive(Debug, Clone, Copy, PartialEq, Eq)]
+pub struct Found {
+    /// In luma.
+    pub y: PlaneDifference,
+    /// In the first chroma plane, where the frames have it.
+    pub u: Option<PlaneDifference>,
+    /// In the second chroma plane, where the frames have it.
+    pub v: Option<PlaneDifference>,
+}
+
+/// Returns what differs in two frames whose planes have one size: ask `frames_have_one_size` of `v_frame_measures`.
+pub fn differences<T: Pixel>(first: &Frame<T>, second: &Frame<T>) -> Found
+    requires { HaveOneSize (tables_of first.now) (tables_of second.now) }
+    ensures { AreDifferences T.form (tables_of first.now) (tables_of second.now) result }
+{
+    Found {
+        y: of_planes(&first.y_plane, &second.y_plane),
+        u: of_chroma(&first.u_plane, &second.u_plane),
+        v: of_chroma(&first.v_plane, &second.v_plane),
+    }
+}
+
+/// Returns what differs in two planes of one size.
+fn of_planes<T: Pixel>(first: &Plane<T>, second: &Plane<T>) -> PlaneDifference
+    requires { size_of (table_of first.now) ≡ size_of (table_of second.now) }
+    ensures { IsPlaneDifference T.form (table_of first.now) (table_of second.now) result }
+{
+    let (first, second) = (first.as_plane_ref(), second.as_plane_ref());
+    // The planes whose sizes are read are whole.
+    let _sizes = (
+        first.width(),
+        first.height(),
+        second.width(),
+        second.height(),
+    );
+    PlaneDifference {
+        count: count_above(&first, &second, 0),
+        greatest: greatest_difference(&first, &second),
+    }
+}
+
+/// Returns the same of chroma planes, where they are there.
+fn of_chroma<T: Pixel>(
+    first: &Option<Plane<T>>,
+    second: &Option<Plane<T>>,
+) -> Option<PlaneDifference>
+    requires { option_map size_of (option_map table_of first.now)
+        ≡ option_map size_of (option_map table_of second.now) }
+    ensures { IsChromaDifference T.form (option_map table_of first.now)
+        (option_map table_of second.now) result }
+{
+    match (first, second) {
+        (Some(first), Some(second)) => Some(of_planes(first, second)),
+        _ => None,
+    }
+}
