@@ -23,6 +23,7 @@ mod videos;
 use crate::outcome::Outcome;
 use std::alloc::Global;
 use std::rt::Files;
+use std::time::Clock;
 
 /// A case.
 #[derive(Clone, Copy)]
@@ -58,11 +59,13 @@ pub enum Case {
     YuvCompareFrames,
     YuvCopy,
     YuvCopyPart,
+    YuvSum,
+    YuvStats,
     CallsThatTakeNoMemory,
 }
 
 /// The cases by their names.
-static CASES: [(&str, Case); 32] = [
+static CASES: [(&str, Case); 34] = [
     ("build", Case::Build),
     ("new_uninit", Case::NewUninit),
     ("assume_init", Case::AssumeInit),
@@ -97,11 +100,13 @@ static CASES: [(&str, Case); 32] = [
     ("yuv_compare_frames", Case::YuvCompareFrames),
     ("yuv_copy", Case::YuvCopy),
     ("yuv_copy_part", Case::YuvCopyPart),
+    ("yuv_sum", Case::YuvSum),
+    ("yuv_stats", Case::YuvStats),
     ("calls_that_take_no_memory", Case::CallsThatTakeNoMemory),
 ];
 
 /// What is seen in the case of this name.
-pub fn seen<H: Files + AllocGlobal>(rt: &H, name: &str) -> Outcome {
+pub fn seen<H: Files + AllocGlobal + Clock>(rt: &H, name: &str) -> Outcome {
     for (known, case) in &CASES {
         if *known == name {
             return seen_in(rt, *case);
@@ -111,13 +116,15 @@ pub fn seen<H: Files + AllocGlobal>(rt: &H, name: &str) -> Outcome {
 }
 
 /// What is seen in a case.
-fn seen_in<H: Files + AllocGlobal>(rt: &H, case: Case) -> Outcome {
+fn seen_in<H: Files + AllocGlobal + Clock>(rt: &H, case: Case) -> Outcome {
     match case {
         Case::YuvInfo
         | Case::YuvCompare
         | Case::YuvCompareFrames
         | Case::YuvCopy
-        | Case::YuvCopyPart => commands::run_of_yuv(rt, case),
+        | Case::YuvCopyPart
+        | Case::YuvSum
+        | Case::YuvStats => commands::run_of_yuv(rt, case),
         _ => seen_of_a_call(rt.alloc(), case),
     }
 }

@@ -5,6 +5,7 @@ use std::alloc::Global;
 use std::fs;
 use std::io::{self, BufWriter, Read, Write};
 use std::rt::Files;
+use std::time::Clock;
 use yuv_commands::{Streams, run};
 
 /// A run: its arguments, the files that stand for the standard streams, and how many bytes standard output takes.
@@ -17,7 +18,7 @@ struct Case<'a> {
 }
 
 /// Does each run that the input says, and prints it.
-pub fn run_cases<H: Files + AllocGlobal, R: Read + Drop, W: Write + Drop>(
+pub fn run_cases<H: Files + AllocGlobal + Clock, R: Read + Drop, W: Write + Drop>(
     rt: &H,
     mut input: R,
     out: W,
@@ -60,7 +61,11 @@ fn case_of(alloc: Global, line: &str) -> io::Result<Case<'_>> {
 }
 
 /// Does a run, and prints it.
-fn run_case<H: Files + AllocGlobal, W: Write>(rt: &H, line: &str, out: &mut W) -> io::Result<()> {
+fn run_case<H: Files + AllocGlobal + Clock, W: Write>(
+    rt: &H,
+    line: &str,
+    out: &mut W,
+) -> io::Result<()> {
     let alloc = rt.alloc();
     let case = case_of(alloc, line)?;
     let given = match case.input {
@@ -73,6 +78,7 @@ fn run_case<H: Files + AllocGlobal, W: Write>(rt: &H, line: &str, out: &mut W) -
         input: given.as_slice(),
         output: &mut output,
         error: &mut error,
+        is_terminal: false,
     };
     let status = run(rt, case.words.as_slice(), streams).code();
     writeln!(out, "$ yuv {line}")?;
@@ -85,7 +91,7 @@ fn run_case<H: Files + AllocGlobal, W: Write>(rt: &H, line: &str, out: &mut W) -
 }
 
 /// Prints whether a run wrote the bytes of a file.
-fn print_same<H: Files + AllocGlobal, W: Write>(
+fn print_same<H: Files + AllocGlobal + Clock, W: Write>(
     rt: &H,
     written: &[u8],
     file: &str,

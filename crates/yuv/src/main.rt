@@ -1,11 +1,12 @@
-//! The program `yuv`: it says what a stream of frames is, compares two, and copies one.
+//! The program `yuv`: raw video in streams of frames, told, compared, copied, summed, and shown as pictures.
 #![tactic(auto)]
 
 use std::fs::{self, File};
 use std::io::ErrorKind;
 use std::process::ExitCode;
 use std::{env, io};
-use yuv_commands::{Status, Streams, UsageError, refuse, run};
+use yuv_commands::{Status, Streams, refuse, run};
+use yuv_words::UsageError;
 
 fn main(rt: HostRuntime) -> ExitCode {
     let status = match run_with_arguments(&rt) {
@@ -32,6 +33,17 @@ fn take_standard_numbers(rt: &HostRuntime) -> io::Result<[File; 3]> {
     ])
 }
 
+/// Returns whether standard error is a terminal, by the name that Linux gives to what is open there.
+fn is_terminal(rt: &HostRuntime) -> bool {
+    match fs::read_link(rt, "/proc/self/fd/2") {
+        Ok(path) => {
+            let name = path.into_string();
+            name.as_str().starts_with("/dev/pts/") || name.as_str().starts_with("/dev/tty")
+        }
+        Err(_) => false,
+    }
+}
+
 /// Does what the arguments ask for.
 fn run_with_arguments(rt: &HostRuntime) -> io::Result<Status> {
     let _held = take_standard_numbers(rt)?;
@@ -49,6 +61,7 @@ fn run_with_arguments(rt: &HostRuntime) -> io::Result<Status> {
         input: rt.stdin(),
         output: rt.stdout(),
         error: rt.stderr(),
+        is_terminal: is_terminal(rt),
     };
     Ok(run(rt, words.as_slice(), streams))
 }

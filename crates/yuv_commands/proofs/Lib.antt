@@ -1,4 +1,0 @@
-pub mod Carrying
-pub mod Comparing
-pub mod Copied
-pub mod Halves

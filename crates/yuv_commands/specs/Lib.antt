@@ -1,7 +1,4 @@
-pub mod Comparisons
-pub mod Copies
-pub mod Edits
-pub mod Frames
+pub mod Checksums
+pub mod Messages
+pub mod Options
 pub mod Run
-pub mod Streams
-pub mod Sums

@@ -1,182 +1,158 @@
-//! Two streams, compared frame by frame.
-ghost use Rattle.std.specs.Prelude.{◌≡◌, ◌+◌, ◌↔◌, IfOk, IfSome, IsNone, IsTrue, None, Some, min, option_map};
-ghost use Rattle.v_frame.specs.Prelude.{table_of, tables_of};
-ghost use Rattle.v_frame_planar.specs.Planar.{sizes_of};
-ghost use Rattle.yuv_commands.specs.Frames.{FramesDifferFirst};
-ghost use Rattle.yuv_commands.specs.Sums.{added};
-ghost use Rattle.yuv_commands.specs.Comparisons.{no_errors, Compares, StepReads};
-ghost use Rattle.yuv_commands.specs.Streams.{most_frames};
+//! The command `compare`: how far two streams are apart.
+ghost use Rattle.std.specs.Prelude.{◌≡◌, ◌≢◌, ◌↔◌, ◌⊎◌, IfOk, IsNone, IsTrue, OnOk};
+ghost use Rattle.v_frame.specs.Prelude.{one_byte, two_bytes};
+ghost use Rattle.v_frame_y4m.specs.Colour.{depth_of};
+ghost use Rattle.yuv_commands.specs.Options.{comparison_of};
+ghost use Rattle.yuv_streams.specs.Prelude.{bytes_left, sizes_in, stream_of, ComparesFrom, HaveOneFormat};
+ghost use Rattle.yuv_streams.specs.Sums.{pixels_of_sizes};
 
-use crate::fault::{Fault, Problem};
-use crate::frames::{PixelDifference, first_difference_of_frames, squared_errors_of_frames};
-use crate::progress::Progress;
-use crate::report::FrameLines;
-use crate::stream::Input;
-use crate::sums::PlaneSums;
+use crate::fault::Fault;
+use crate::frame_report::FrameReport;
+use crate::input::{begin, expected_frames, open_file};
+use crate::measures::{Means, Scale};
+use crate::options::stream_comparison;
+use crate::program::Status;
+use crate::system::System;
 use std::alloc::Global;
 use std::io;
-use v_frame::frame::Frame;
-use v_frame::pixel::Pixel;
-use v_frame::plane::Plane;
+use std::rt::Files;
+use std::time::Clock;
+use v_frame::chroma::ChromaSubsampling;
+use v_frame_planar::ratios_or_one;
+use v_frame_y4m::StreamHeader;
+use yuv_reports::Report;
+use yuv_streams::{
+    Comparison, FrameObserver, Place, PlaneSums, Progress, Source, StreamError, compare_streams,
+};
+use yuv_words::{CompareOptions, ReportForm};
 
-/// One of two streams.
-#[derive(Clone, Copy)]
-pub enum Side {
-    /// The first one.
-    First,
-    /// The second one.
-    Second,
-}
-
-/// How far two streams are apart.
-#[derive(Clone, Copy)]
-pub struct Comparison {
-    /// How many frames both have.
-    pub frames: u64,
-    /// The sums of the squared errors of these, plane by plane. A sum stays at `u128::MAX`.
-    pub errors: PlaneSums,
-    /// The first pixel that differs, and how many frames stand before its own.
-    pub difference: Option<(u64, PixelDifference)>,
-    /// The stream that has more frames, where one has.
-    pub longer: Option<Side>,
-}
-
-impl Comparison {
-    /// That of no frames, of which each would have the planes of this one.
-    pub fn new<T: Pixel>(frame: &Frame<T>) -> Self
-        ensures { result ≡ record {
-          frames = 0;
-          errors = no_errors (sizes_of (tables_of frame.now));
-          difference = None;
-          longer = None;
-        } }
-    {
-        Comparison {
-            frames: 0,
-            errors: PlaneSums {
-                y: 0,
-                u: no_error(&frame.u_plane),
-                v: no_error(&frame.v_plane),
-            },
-            difference: None,
-            longer: None,
-        }
-    }
-
-    /// Returns whether the streams show the same.
-    pub fn shows_the_same(&self) -> bool
-        ensures { IsTrue result ↔ (IsNone self.now.difference × IsNone self.now.longer) }
-    {
-        self.difference.is_none() && self.longer.is_none()
-    }
-
-    /// This with one more frame of each stream, of which the errors are these.
-    fn with_frames<T: Pixel>(&self, first: &Frame<T>, second: &Frame<T>, errors: &PlaneSums) -> Self
-        requires { sizes_of (tables_of first.now) ≡ sizes_of (tables_of second.now) }
-        ensures frames { result.frames ≡ min (self.now.frames + 1) most_frames }
-        ensures errors { result.errors ≡ added self.now.errors errors.now }
-        ensures earlier { IfSome self.now.difference (λ found. result.difference ≡ Some found) }
-        ensures same { IsNone result.difference ↔ (IsNone self.now.difference
-            × (tables_of first.now ≡ tables_of second.now)) }
-        ensures first { IfSome result.difference (λ found. IsNone self.now.difference
-            → (found.0 ≡ self.now.frames)
-            × FramesDifferFirst T.form.value (tables_of first.now) (tables_of second.now) found.1) }
-        ensures longer { result.longer ≡ None }
-    {
-        let difference = match self.difference {
-            Some(found) => Some(found),
-            None => match first_difference_of_frames(first, second) {
-                Some(found) => Some((self.frames, found)),
-                None => None,
-            },
-        };
-        Comparison {
-            frames: self.frames.saturating_add(1),
-            errors: self.errors.plus(errors),
-            difference,
-            longer: None,
-        }
-    }
-}
-
-/// No error in a chroma plane, where it is there.
-fn no_error<T: Pixel>(plane: &Option<Plane<T>>) -> Option<u128>
-    ensures { result ≡ option_map (λ _. 0) (option_map table_of plane.now) }
+/// Reports how far two streams are apart.
+pub(crate) fn do_compare<H, I, O, E>(
+    system: &mut System<'_, H, I, O, E>,
+    (first, second): (&str, &str),
+    options: &CompareOptions,
+) -> Result<Status, Fault>
+where
+    H: Files + AllocGlobal + Clock,
+    I: io::Read + Drop,
+    O: io::Write,
+    E: io::Write,
 {
-    match plane {
-        Some(_) => Some(0),
-        None => None,
+    let alloc = system.rt.alloc();
+    let mut file = open_file(system.rt, first, Place::First, &mut system.input)?;
+    let len = file.len();
+    let mut one = begin(alloc, &mut file, options.raw)?;
+    let mut other_file = open_file(system.rt, second, Place::Second, &mut system.input)?;
+    let mut other = begin(alloc, &mut other_file, options.raw_second)?;
+    let scale = Scale {
+        pixels: samples_of(one.header()),
+        bit_depth: one.header().colour.bit_depth(),
+        exact: options.exact,
+    };
+    if options.ssim {
+        test_windows(one.header())?;
     }
+    system.progress.expect(expected_frames(&one, len));
+    let mut report = FrameReport::new(
+        alloc,
+        &mut system.output,
+        Report::new(report_form(options), lists_frames(options)),
+        scale,
+        options.ssim.then_some(Means::new()),
+    );
+    let progress = &mut system.progress;
+    let found = compare_sources(alloc, &mut one, &mut other, options, &mut report, progress)?;
+    report.end(&found)?;
+    Ok(comparison_status(&found))
 }
 
-/// What the next step of two streams found.
-enum Step {
-    /// Each has a frame.
-    Frames,
-    /// One of them is at its end, or both are; the one that is not.
-    End(Option<Side>),
-}
-
-/// Compares two streams as far as both go. With `lines` each two frames get a line.
+/// Compares two streams as the options say.
 ///
 /// # Errors
 ///
-/// A [`Fault`] with the stream of which a frame was not read, or where a line was not written.
-pub fn compare_streams<T: Pixel, R: io::Read, S: io::Read, W: io::Write, E: io::Write>(
+/// Those of [`compare_streams`].
+pub fn compare_sources<
+    R: io::Read,
+    S: io::Read,
+    O: FrameObserver<u8> + FrameObserver<u16>,
+    P: Progress,
+>(
     alloc: Global,
-    first: &mut Input<T, R>,
-    second: &mut Input<T, S>,
-    lines: &mut FrameLines<W>,
-    progress: &mut Progress<E>,
-) -> Result<Comparison, Fault>
-    requires { sizes_of (tables_of first.old.frame) ≡ sizes_of (tables_of second.old.frame) }
-    ensures { IfOk result (Compares T.form first.old.container second.old.container
-        (R.remaining first.old.reader.inner) (R.remaining first.new.reader.inner)
-        (S.remaining second.old.reader.inner) (S.remaining second.new.reader.inner)
-        (sizes_of (tables_of first.old.frame))) }
+    first: &mut Source<R>,
+    second: &mut Source<S>,
+    options: &CompareOptions,
+    observer: &mut O,
+    progress: &mut P,
+) -> Result<Comparison, StreamError>
+    ensures formats { OnOk result (HaveOneFormat first.old.header second.old.header) }
+    ensures bytes { depth_of first.old.header.colour ≡ 8 → IfOk result (ComparesFrom one_byte
+        (sizes_in first.old.header) (stream_of first.old) (stream_of second.old)
+        (bytes_left R.remaining first.old) (bytes_left R.remaining first.new)
+        (bytes_left S.remaining second.old) (bytes_left S.remaining second.new)
+        (comparison_of options.now)) }
+    ensures words { depth_of first.old.header.colour ≢ 8 → IfOk result (ComparesFrom two_bytes
+        (sizes_in first.old.header) (stream_of first.old) (stream_of second.old)
+        (bytes_left R.remaining first.old) (bytes_left R.remaining first.new)
+        (bytes_left S.remaining second.old) (bytes_left S.remaining second.new)
+        (comparison_of options.now)) }
 {
-    let mut found = Comparison::new(&first.frame);
-    for before in 0..u64::MAX {
-        match read_both(alloc, first, second, before)? {
-            Step::Frames => {}
-            Step::End(longer) => return Ok(Comparison { longer, ..found }),
-        }
-        let errors = squared_errors_of_frames(&first.frame, &second.frame);
-        lines.write_line(alloc, before, &errors)?;
-        found = found.with_frames(&first.frame, &second.frame, &errors);
-        progress.show(before + 1);
-    }
-    Ok(found)
+    let taken = stream_comparison(options);
+    compare_streams(alloc, first, second, &taken, observer, progress)
 }
 
-/// Reads the next frame of each stream.
-fn read_both<T: Pixel, R: io::Read, S: io::Read>(
-    alloc: Global,
-    first: &mut Input<T, R>,
-    second: &mut Input<T, S>,
-    before: u64,
-) -> Result<Step, Fault>
-    ensures read { IfOk result (StepReads T.form first.old.container second.old.container
-        (R.remaining first.old.reader.inner) (R.remaining first.new.reader.inner)
-        (S.remaining second.old.reader.inner) (S.remaining second.new.reader.inner)
-        (tables_of first.new.frame, tables_of second.new.frame)) }
-    ensures first { sizes_of (tables_of first.new.frame)
-        ≡ sizes_of (tables_of first.old.frame) }
-    ensures second { sizes_of (tables_of second.new.frame)
-        ≡ sizes_of (tables_of second.old.frame) }
-    ensures first_container { first.new.container ≡ first.old.container }
-    ensures second_container { second.new.container ≡ second.old.container }
+/// Returns how a comparison ends.
+fn comparison_status(found: &Comparison) -> Status
+    ensures same { (result ≡ Status.Same)
+        ↔ (IsNone found.now.difference × IsNone found.now.longer) }
+    ensures never { result ≢ Status.Failed }
 {
-    match first.read_frame(alloc, before) {
-        Ok(one) => match second.read_frame(alloc, before) {
-            Ok(other) => Ok(match (one, other) {
-                (true, true) => Step::Frames,
-                (true, false) => Step::End(Some(Side::First)),
-                (false, true) => Step::End(Some(Side::Second)),
-                (false, false) => Step::End(None),
-            }),
-            Err(fault) => Err(Fault::second(Problem::Frame(fault))),
-        },
-        Err(fault) => Err(Fault::first(Problem::Frame(fault))),
+    if found.shows_the_same() {
+        Status::Same
+    } else {
+        Status::Different
     }
+}
+
+/// Returns the form of the report.
+pub(crate) fn report_form(options: &CompareOptions) -> yuv_reports::ReportForm {
+    match options.form {
+        ReportForm::Lines => yuv_reports::ReportForm::Lines,
+        ReportForm::Csv => yuv_reports::ReportForm::Csv,
+        ReportForm::Json => yuv_reports::ReportForm::Json,
+    }
+}
+
+/// Returns whether each frame is reported: always in a table or an object, and in lines with `--frames`.
+fn lists_frames(options: &CompareOptions) -> bool
+    ensures { IsTrue result ↔ (IsTrue options.now.frames ⊎ (options.now.form ≢ ReportForm.Lines)) }
+{
+    options.frames || options.form != ReportForm::Lines
+}
+
+/// Returns how many samples each plane of a frame has.
+pub(crate) fn samples_of(header: &StreamHeader) -> PlaneSums
+    ensures { result ≡ pixels_of_sizes (sizes_in header.now) }
+{
+    let luma = header.width as u128 * header.height as u128;
+    let chroma = match header.colour.subsampling() {
+        ChromaSubsampling::Monochrome => None,
+        subsampling => {
+            let (columns, rows) = ratios_or_one(subsampling);
+            Some(header.width.div_ceil(columns) as u128 * header.height.div_ceil(rows) as u128)
+        }
+    };
+    PlaneSums {
+        y: luma,
+        u: chroma,
+        v: chroma,
+    }
+}
+
+/// Tests whether each plane of a frame has a window of structural similarity, which is 8 samples wide and high.
+pub(crate) fn test_windows(header: &StreamHeader) -> Result<(), Fault> {
+    let (columns, rows) = ratios_or_one(header.colour.subsampling());
+    if header.width.div_ceil(columns) < 8 || header.height.div_ceil(rows) < 8 {
+        return Err(Fault::NoWindow(Place::First));
+    }
+    Ok(())
 }

@@ -1,161 +1,122 @@
-//! Why a command gave up, in words for people.
+//! Why a command gave up.
 
-use crate::edit::Misaligned;
-use crate::stream::StreamFault;
 use std::{fmt, io};
-use v_frame::frame::FrameError;
-use v_frame_planar::{Counted, PlanarError};
+use v_frame_png::PngError;
 use v_frame_y4m::{HeaderError, Y4mError};
+use yuv_pictures::PictureError;
+use yuv_streams::{Place, Problem, StreamError};
 
-/// An error, and what the system reported where a read or a write failed.
+/// Why a command gave up.
 #[derive(Drop)]
-pub struct Caused<E> {
-    /// The error.
-    pub error: E,
-    /// What the system reported.
-    pub cause: Option<io::ErrorKind>,
-}
-
-impl<E> Caused<E> {
-    /// Returns an error at a reader or a writer.
-    pub fn at<D>(error: E, stream: &Counted<D>) -> Self {
-        Caused {
-            error,
-            cause: stream.last_failure(),
-        }
-    }
-}
-
-impl<E: fmt::Display> fmt::Display for Caused<E> {
-    fn fmt<W: fmt::Write>(&self, f: &mut fmt::Formatter<W>) -> fmt::Result {
-        let error = &self.error;
-        match &self.cause {
-            Some(cause) => write!(f, "{error}: {cause}"),
-            None => write!(f, "{error}"),
-        }
-    }
-}
-
-/// What a command works on.
-#[derive(Clone, Copy)]
-pub enum Place {
-    /// The first file that it names.
-    First,
-    /// The second file that it names.
-    Second,
-    /// What is reported on standard output.
-    Report,
-}
-
-/// Why a command gave up, and where.
-#[derive(Drop)]
-pub struct Fault {
-    /// What it was working on.
-    pub place: Place,
-    /// What happened there.
-    pub problem: Problem,
+pub enum Fault {
+    /// The file of that place can't be opened for reading.
+    Open(Place, io::ErrorKind),
+    /// Standard input is read already.
+    InputTwice(Place),
+    /// The file of that place does not begin as a stream does.
+    NotAStream(Place),
+    /// The samples of U and V of that place are by turns, so that no plane has bytes of its own.
+    NoPlanes(Place),
+    /// The header of a stream was not read.
+    Header(StreamError),
+    /// A stream, or what is reported, was not read or not written.
+    Stream(StreamError),
+    /// The file that is written can't be created.
+    Create(io::ErrorKind),
+    /// What was written can't be put in its place.
+    Replace(io::ErrorKind),
+    /// The picture was not written.
+    Picture(PictureError),
+    /// The stream of that place has only so many frames, and a later one is asked for.
+    NoFrame(Place, u64),
+    /// Frames are counted from 1.
+    FrameZero,
+    /// A plane of the stream of that place is smaller than a window of structural similarity.
+    NoWindow(Place),
 }
 
 impl Fault {
-    /// This problem with the first file.
-    pub fn first(problem: Problem) -> Self {
-        Fault {
-            place: Place::First,
-            problem,
-        }
-    }
-
-    /// This problem with the second file.
-    pub fn second(problem: Problem) -> Self {
-        Fault {
-            place: Place::Second,
-            problem,
-        }
-    }
-
-    /// This problem with what is reported.
-    pub fn report(problem: Problem) -> Self {
-        Fault {
-            place: Place::Report,
-            problem,
+    /// Returns which file the fault is about. `None` where it is about none.
+    pub(crate) fn place(&self) -> Option<Place> {
+        match self {
+            Fault::Open(place, _)
+            | Fault::InputTwice(place)
+            | Fault::NotAStream(place)
+            | Fault::NoPlanes(place)
+            | Fault::NoFrame(place, _)
+            | Fault::NoWindow(place) => Some(*place),
+            Fault::Header(error) | Fault::Stream(error) => match &error.problem {
+                Problem::OutOfMemory => None,
+                _ => Some(error.place),
+            },
+            Fault::Create(_) | Fault::Replace(_) | Fault::Picture(_) => Some(Place::Output),
+            Fault::FrameZero => None,
         }
     }
 }
 
-/// What happened to a file.
-#[derive(Drop)]
-pub enum Problem {
-    /// It wasn't opened.
-    Open(io::ErrorKind),
-    /// It wasn't created.
-    Create(io::ErrorKind),
-    /// Standard input is read already.
-    InputTwice,
-    /// What was written was not put in its place.
-    Replace(io::ErrorKind),
-    /// What follows `--raw` is no size and format.
-    Format(HeaderError),
-    /// The header was not read or not written.
-    Header(Caused<Y4mError>),
-    /// No header line says what should be written.
-    Unwritable,
-    /// The next frame was not read or not written.
-    Frame(StreamFault),
-    /// A frame of this size is larger than what can be addressed.
-    TooLarge,
-    /// The crop begins inside a chroma pixel.
-    Misaligned(Misaligned),
-    /// The crop doesn't lie inside the picture.
-    Outside,
-    /// There is no half size of this picture.
-    Odd,
-    /// The second stream has another format than the first.
-    OtherFormat,
-    /// What was found was not written.
-    Report(Caused<PlanarError>),
-    /// A request for memory was refused.
-    OutOfMemory,
+impl From<StreamError> for Fault {
+    fn from(error: StreamError) -> Self {
+        Fault::Stream(error)
+    }
+}
+
+impl From<PictureError> for Fault {
+    fn from(error: PictureError) -> Self {
+        Fault::Picture(error)
+    }
 }
 
 // By hand: what is derived of so many variants takes longer to prove than a command.
-impl fmt::Display for Problem {
+impl fmt::Display for Fault {
     fn fmt<W: fmt::Write>(&self, f: &mut fmt::Formatter<W>) -> fmt::Result {
-        f.write_str(match self {
-            Problem::Open(_) => "cannot open: ",
-            Problem::Create(_) => "cannot create: ",
-            Problem::InputTwice => "standard input can be read only once",
-            Problem::Replace(_) => "cannot replace: ",
-            Problem::Format(_) => "the size and the format behind --raw, as 1920x1080:420p10: ",
-            Problem::Unwritable => "no header line can say this size or these extensions",
-            Problem::TooLarge => "the frames are too large",
-            Problem::Outside => "the crop is not inside the picture",
-            Problem::Odd => {
-                "half size takes a picture with an even width and height in each plane"
-            }
-            Problem::OtherFormat => "the streams have different sizes or formats",
-            Problem::OutOfMemory => "out of memory",
-            _ => "",
-        })?;
         match self {
-            Problem::Open(kind) | Problem::Create(kind) | Problem::Replace(kind) => {
-                fmt::Display::fmt(kind, f)
+            Fault::Open(_, cause) => write!(f, "cannot open: {cause}"),
+            Fault::InputTwice(_) => f.write_str("standard input can be read only once"),
+            Fault::NotAStream(_) => fmt::Display::fmt(&HeaderError::NotAStream, f),
+            Fault::NoPlanes(_) => f.write_str("--planes needs video in planes"),
+            Fault::Header(error) => write_caused(f, error),
+            Fault::Stream(error) => write_stream_error(f, error),
+            Fault::Create(cause) => write!(f, "cannot create: {cause}"),
+            Fault::Replace(cause) => write!(f, "cannot replace: {cause}"),
+            Fault::Picture(PictureError::Png(PngError::Write(error))) => {
+                let cause = error.kind();
+                write!(f, "write failed: {cause}")
             }
-            Problem::Format(error) => fmt::Display::fmt(error, f),
-            Problem::Header(fault) => fmt::Display::fmt(fault, f),
-            Problem::Frame(fault) => fmt::Display::fmt(fault, f),
-            Problem::Misaligned(refusal) => fmt::Display::fmt(refusal, f),
-            Problem::Report(fault) => fmt::Display::fmt(fault, f),
-            _ => Ok(()),
+            Fault::Picture(error) => fmt::Display::fmt(error, f),
+            Fault::NoFrame(_, frames) => write!(f, "the stream has only {frames} frames"),
+            Fault::FrameZero => f.write_str("frames are counted from 1"),
+            Fault::NoWindow(_) => { f.write_str("--ssim needs planes of at least 8 by 8 samples") }
         }
     }
 }
 
-/// For frames whose depth fits the type of their pixels.
-impl From<FrameError> for Problem {
-    fn from(error: FrameError) -> Self {
-        match error {
-            FrameError::OutOfMemory => Problem::OutOfMemory,
-            _ => Problem::TooLarge,
-        }
+/// Writes what happened to a stream, with the number of the frame where it happened to one.
+fn write_stream_error<W: fmt::Write>(
+    f: &mut fmt::Formatter<W>,
+    error: &StreamError,
+) -> fmt::Result {
+    if is_of_a_frame(error) {
+        let frame = error.frames.saturating_add(1);
+        write!(f, "frame {frame}: ")?;
+    }
+    write_caused(f, error)
+}
+
+/// Returns whether a frame was not read, or not written after others.
+fn is_of_a_frame(error: &StreamError) -> bool {
+    match &error.problem {
+        Problem::Stream(Y4mError::Header(_)) => false,
+        Problem::Stream(_) => error.place != Place::Output || error.frames > 0,
+        _ => false,
+    }
+}
+
+/// Writes what happened, and what the system reported.
+fn write_caused<W: fmt::Write>(f: &mut fmt::Formatter<W>, error: &StreamError) -> fmt::Result {
+    fmt::Display::fmt(&error.problem, f)?;
+    match &error.cause {
+        Some(cause) => write!(f, ": {cause}"),
+        None => Ok(()),
     }
 }

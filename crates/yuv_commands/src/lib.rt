@@ -1,40 +1,35 @@
-//! What the program `yuv` does: it says what a stream of frames is, compares two, and copies one. All of it is done over
-//! any reader and any writer.
+//! What the program `yuv` does, over any reader and any writer: each command from the words that it is called with to the
+//! bytes that it writes.
+//!
+//! `yuv_words` reads the words, `yuv_streams` moves and compares frames, `yuv_reports` and `yuv_pictures` say and show what was
+//! found. Here stand the files, the messages, and what each option asks of the layers below.
 #![tactic(auto)]
 
-mod arguments;
-mod commands;
 mod compare;
 mod copy;
-mod edit;
+mod diff;
 mod fault;
-mod frames;
-mod header;
+mod frame_report;
 mod info;
+mod input;
+mod measures;
+mod message;
+mod options;
+mod output;
+mod plot;
 mod program;
 mod progress;
-mod quality;
 mod report;
-mod source;
-mod stream;
-mod sums;
+mod show;
+mod stats;
+mod sum;
+mod system;
 mod target;
+mod values;
 
-pub use arguments::{Command, CopyOptions, InputFile, UsageError, read_command};
-pub use compare::{Comparison, Side, compare_streams};
-pub use copy::{CopyFault, copy_frames, edit_frames};
-pub use edit::{Edit, Misaligned, Rectangle, can_edit, edit_frame};
-pub use fault::{Caused, Fault, Place, Problem};
-pub use frames::{
-    Component, PixelDifference, first_difference_of_frames, have_same_sizes,
-    squared_errors_of_frames,
-};
-pub use header::header_of;
-pub use info::{count_frames, info_text};
+pub use copy::copy_source;
+pub use fault::Fault;
+pub use input::InputFile;
 pub use program::{Status, Streams, VERSION, refuse, run};
-pub use progress::Progress;
-pub use quality::{mean_squared_error, peak_signal_to_noise};
-pub use report::{FrameLines, Scale, comparison_text};
-pub use stream::{Container, Input, Output, StreamFault};
-pub use sums::{PlaneSums, pixel_counts};
+pub use progress::ProgressLine;
 pub use target::TargetFile;

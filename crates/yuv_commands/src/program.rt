@@ -1,41 +1,29 @@
-//! The program: its arguments are read and done, and what went wrong is reported.
+//! The program: its words are read and done, and what went wrong is reported.
 ghost use Rattle.std.specs.Prelude.{◌≡◌};
 ghost use Rattle.yuv_commands.specs.Run.{status_code};
 
-use crate::arguments::{Command, UsageError, read_command};
-use crate::commands::{do_compare, do_copy, do_info};
-use crate::fault::{Fault, Place, Problem};
-use crate::progress::Progress;
+use crate::compare::do_compare;
+use crate::copy::do_copy;
+use crate::diff::do_diff;
+use crate::fault::Fault;
+use crate::info::do_info;
+use crate::message::write_message;
+use crate::plot::do_plot;
+use crate::progress::ProgressLine;
 use crate::report::write_text;
+use crate::show::do_show;
+use crate::stats::do_stats;
+use crate::sum::do_sum;
+use crate::system::System;
 use std::io;
 use std::rt::Files;
+use std::time::Clock;
 use v_frame_planar::Counted;
+use yuv_streams::Place;
+use yuv_words::{Command, UsageError, read_command, usage_text};
 
 /// What `yuv --version` prints.
 pub const VERSION: &str = "yuv 0.3.0\n";
-
-/// How the program is called.
-const USAGE: &str = "usage: yuv info FILE [--progress]
-       yuv compare FILE FILE [--frames] [--progress]
-       yuv copy FILE FILE [--crop X,Y,W,H] [--half] [--raw] [--progress]
-       yuv help, yuv --help, yuv -h, yuv --version
-
-A file is a YUV4MPEG2 stream, and - is standard input or output. Headerless raw
-video is read behind --raw WIDTHxHEIGHT:FORMAT, as --raw 1920x1080:420p10 FILE,
-and written by copy with --raw alone. The format is one of 420jpeg 420mpeg2
-420paldv 411 422 444 mono, or 420p 422p 444p mono with 9 10 12 14 or 16 bits.
-
-info       reports what a stream is, and how many frames it has
-compare    reports how far two streams of one format are apart, with --frames for
-           each frame. Status 0: they show the same, 1: they differ
-copy       writes the frames of the first file to the second, a part of each
-           with --crop, and at half the size with --half. The frames go to a
-           new file beside the second one, FILE.partial, which replaces it after
-           the last frame. So the second file is whole or as it was, and may be
-           the one that is read. A device or a pipe is written as it is
-
-Status 2: something failed. Frames are counted from 1, columns and rows from 0.
-";
 
 /// How the program ended.
 #[derive(Clone, Copy)]
@@ -70,119 +58,174 @@ pub struct Streams<I, O, E> {
     pub output: O,
     /// Standard error.
     pub error: E,
+    /// Whether standard error is a terminal, where `--progress` shows something.
+    pub is_terminal: bool,
 }
 
-/// Does what the arguments, without the program's own name, ask for.
+/// Does what the words of a call, without the program's own name, ask for.
 pub fn run<H, I, O, E>(rt: &H, words: &[&str], streams: Streams<I, O, E>) -> Status
 where
-    H: Files + AllocGlobal,
+    H: Files + AllocGlobal + Clock,
     I: io::Read + Drop,
     O: io::Write + Drop,
     E: io::Write + Drop,
 {
     let Streams {
         input,
-        mut output,
-        error,
+        output,
+        mut error,
+        is_terminal,
     } = streams;
-    let mut standard = Some(input);
-    let mut progress = Progress {
-        out: error,
-        is_shown: false,
+    let command = match read_command(words) {
+        Ok(command) => command,
+        Err(refusal) => return refuse(&refusal, &mut error),
     };
-    match read_command(words) {
-        Ok(command) => run_command(rt, &command, &mut standard, &mut output, &mut progress),
-        Err(error) => refuse(&error, &mut progress.out),
+    let mut system = System {
+        rt,
+        input: Some(input),
+        output,
+        progress: ProgressLine::new(rt, error),
+    };
+    if is_terminal && shows_progress(&command) {
+        system.progress.begin();
+    }
+    let done = do_command(&mut system, &command);
+    system.progress.end();
+    match done {
+        Ok(status) => status,
+        Err(fault) => give_up(&mut system, &command, fault),
     }
 }
 
-/// Reports what is wrong with the arguments, and how the program is called.
-pub fn refuse<E: io::Write>(error: &UsageError<'_>, out: &mut E) -> Status {
-    let _ = write!(out, "yuv: {error}\n{USAGE}");
+/// Reports what is wrong with the words of a call, and where help is.
+pub fn refuse<E: io::Write>(refusal: &UsageError<'_>, out: &mut E) -> Status {
+    write_message(out, None, refusal);
+    let _ = out.write_all(b"yuv help says how it is called\n");
     Status::Failed
 }
 
-/// Does a command, and says what went wrong.
-fn run_command<H, I, O, E>(
-    rt: &H,
-    command: &Command<'_>,
-    standard: &mut Option<I>,
-    output: &mut O,
-    progress: &mut Progress<E>,
-) -> Status
-where
-    H: Files + AllocGlobal,
-    I: io::Read + Drop,
-    O: io::Write,
-    E: io::Write,
-{
-    progress.is_shown = command.shows_progress();
-    let done = do_command(rt, command, standard, output, progress);
-    progress.end();
-    match done {
-        Ok(status) => status,
-        Err(fault) => give_up(command, fault, &mut progress.out),
+/// Returns whether the count of frames is shown meanwhile.
+fn shows_progress(command: &Command<'_>) -> bool {
+    match command {
+        Command::Info { options, .. } => options.progress,
+        Command::Compare { options, .. } => options.progress,
+        Command::Copy { options, .. } => options.progress,
+        _ => false,
     }
 }
 
 /// Reports what went wrong, and where.
-fn give_up<E: io::Write>(command: &Command<'_>, fault: Fault, error: &mut E) -> Status {
-    let (name, problem) = (name_of(command, fault.place), &fault.problem);
-    let _ = writeln!(error, "yuv: {name}: {problem}");
+fn give_up<H: Clock, I, O, E: io::Write>(
+    system: &mut System<'_, H, I, O, E>,
+    command: &Command<'_>,
+    fault: Fault,
+) -> Status {
+    let name = match fault.place() {
+        Some(place) => Some(name_of(command, place)),
+        None => None,
+    };
+    write_message(system.progress.out(), name, &fault);
     drop(fault);
     Status::Failed
 }
 
 /// Does a command.
 fn do_command<H, I, O, E>(
-    rt: &H,
+    system: &mut System<'_, H, I, O, E>,
     command: &Command<'_>,
-    standard: &mut Option<I>,
-    output: &mut O,
-    progress: &mut Progress<E>,
 ) -> Result<Status, Fault>
 where
-    H: Files + AllocGlobal,
+    H: Files + AllocGlobal + Clock,
     I: io::Read + Drop,
     O: io::Write,
     E: io::Write,
 {
-    match command {
-        Command::Help => print(output, USAGE),
-        Command::Version => print(output, VERSION),
-        Command::Info { file, .. } => do_info(rt, file, standard, output, progress),
+    match *command {
+        Command::Help(topic) => print(&mut system.output, usage_text(topic)),
+        Command::Version => print(&mut system.output, VERSION),
+        Command::Info { file, options } => do_info(system, file, &options),
         Command::Compare {
             first,
             second,
-            frames,
-            ..
-        } => do_compare(rt, (first, second), *frames, standard, output, progress),
+            options,
+        } => do_compare(system, (first, second), &options),
         Command::Copy {
             input,
-            output: to,
+            output,
             options,
-            ..
-        } => do_copy(rt, (input, to), options, standard, output, progress),
+        } => do_copy(system, (input, output), &options),
+        Command::Sum { file, options } => do_sum(system, file, &options),
+        Command::Stats { file, options } => do_stats(system, file, &options),
+        Command::Show {
+            input,
+            output,
+            options,
+        } => do_show(system, (input, output), &options),
+        Command::Diff {
+            first,
+            second,
+            output,
+            options,
+        } => do_diff(system, (first, second, output), &options),
+        Command::Plot {
+            first,
+            second,
+            output,
+            options,
+        } => do_plot(system, (first, second, output), &options),
     }
 }
 
 /// Writes a text to standard output.
 fn print<O: io::Write>(output: &mut O, text: &str) -> Result<Status, Fault> {
-    match write_text(&mut Counted::new(output), text) {
-        Ok(()) => Ok(Status::Same),
-        Err(fault) => Err(fault),
+    write_text(&mut Counted::new(output), text)?;
+    Ok(Status::Same)
+}
+
+/// Returns the name of a file that a command works on. The name `-` becomes that of the stream.
+fn name_of<'a>(command: &Command<'a>, place: Place) -> &'a str {
+    let name = match place {
+        Place::First => first_name(command),
+        Place::Second => second_name(command),
+        Place::Output => output_name(command),
+    };
+    match (name, place) {
+        ("-", Place::Output) => "standard output",
+        ("-", _) => "standard input",
+        _ => name,
     }
 }
 
-/// Returns the name of what a command was working on.
-fn name_of<'a>(command: &Command<'a>, place: Place) -> &'a str {
-    match (place, command) {
-        (Place::Report, _) => "standard output",
-        (Place::First, Command::Info { file, .. }) => file.name,
-        (Place::First, Command::Compare { first, .. }) => first.name,
-        (Place::First, Command::Copy { input, .. }) => input.name,
-        (Place::Second, Command::Compare { second, .. }) => second.name,
-        (Place::Second, Command::Copy { output, .. }) => *output,
+/// Returns the name of the first file that is read.
+fn first_name<'a>(command: &Command<'a>) -> &'a str {
+    match *command {
+        Command::Info { file, .. } | Command::Sum { file, .. } | Command::Stats { file, .. } =>
+            file,
+        Command::Copy { input, .. } | Command::Show { input, .. } => input,
+        Command::Compare { first, .. }
+        | Command::Diff { first, .. }
+        | Command::Plot { first, .. } => first,
+        _ => "-",
+    }
+}
+
+/// Returns the name of the second file that is read.
+fn second_name<'a>(command: &Command<'a>) -> &'a str {
+    match *command {
+        Command::Compare { second, .. }
+        | Command::Diff { second, .. }
+        | Command::Plot { second, .. } => second,
+        _ => "-",
+    }
+}
+
+/// Returns the name of the file that is written, or `-` where all goes to standard output.
+fn output_name<'a>(command: &Command<'a>) -> &'a str {
+    match *command {
+        Command::Copy { output, .. }
+        | Command::Show { output, .. }
+        | Command::Diff { output, .. }
+        | Command::Plot { output, .. } => output,
         _ => "-",
     }
 }

@@ -1,28 +1,108 @@
 //! The count of frames, shown while a stream is read.
 
 use std::io;
+use std::time::{Clock, Instant};
+use yuv_streams::Progress;
 
-/// Where the count of frames is shown, if it is to be.
+/// How many milliseconds pass at least from one count that is shown to the next.
+const PAUSE: u128 = 100;
+
+/// A line for people that says how many frames are done.
 #[derive(Drop)]
-pub struct Progress<E> {
-    /// Where it is shown.
-    pub out: E,
-    /// Whether it is.
-    pub is_shown: bool,
+pub struct ProgressLine<'a, H, E> {
+    clock: &'a H,
+    out: E,
+    is_shown: bool,
+    expected: Option<u64>,
+    begin: Option<Instant>,
+    frames: u64,
+    last_shown: u128,
 }
 
-impl<E: io::Write> Progress<E> {
-    /// Shows how many frames are done, in the place of the last count. Where it can't be written, the work goes on.
-    pub fn show(&mut self, frames: u64) {
-        if self.is_shown {
-            let _ = write!(self.out, "\r{frames} frames");
+impl<'a, H: Clock, E: io::Write> ProgressLine<'a, H, E> {
+    /// Returns a line that is not shown yet.
+    pub fn new(clock: &'a H, out: E) -> Self {
+        ProgressLine {
+            clock,
+            out,
+            is_shown: false,
+            expected: None,
+            begin: None,
+            frames: 0,
+            last_shown: 0,
         }
     }
 
-    /// Ends the line.
+    /// Shows the line from now on.
+    pub fn begin(&mut self) {
+        self.is_shown = true;
+        self.begin = Instant::now(self.clock).ok();
+    }
+
+    /// Takes how many frames there will be, where that is known.
+    pub fn expect(&mut self, frames: Option<u64>) {
+        self.expected = frames;
+    }
+
+    /// Returns where the line is shown.
+    pub fn out(&mut self) -> &mut E {
+        &mut self.out
+    }
+
+    /// Shows the last count, and ends the line.
     pub fn end(&mut self) {
         if self.is_shown {
-            let _ = writeln!(self.out, "");
+            let passed = self.passed();
+            self.write_line(passed);
+            let _ = self.out.write_all(b"\n");
+        }
+    }
+
+    /// Returns how many milliseconds have passed. 0 where the clock can't be read.
+    fn passed(&self) -> u128 {
+        match self.begin {
+            Some(begin) => match begin.elapsed(self.clock) {
+                Ok(passed) => passed.as_millis(),
+                Err(_) => 0,
+            },
+            None => 0,
+        }
+    }
+
+    /// Shows the count in the place of the last one. Where it can't be written, the work goes on.
+    fn write_line(&mut self, passed: u128) {
+        let frames = self.frames;
+        let _ = write!(self.out, "\r{frames} frames");
+        if let Some(percent) = self.percent() {
+            let _ = write!(self.out, ", {percent} %");
+        }
+        if passed > 0 {
+            let rate = u128::from(frames) * 1000 / passed;
+            let _ = write!(self.out, ", {rate} frames/s");
+        }
+    }
+
+    /// Returns how many of a hundred parts are done, where it is known how many frames there are.
+    fn percent(&self) -> Option<u128> {
+        match self.expected {
+            Some(expected) if expected > 0 => {
+                Some((u128::from(self.frames) * 100 / u128::from(expected)).min(100))
+            }
+            _ => None,
+        }
+    }
+}
+
+impl<H: Clock, E: io::Write> Progress for ProgressLine<'_, H, E> {
+    fn show(&mut self, frames: u64) {
+        if !self.is_shown {
+            return;
+        }
+        self.frames = frames;
+        let passed = self.passed();
+        if passed.saturating_sub(self.last_shown) >= PAUSE {
+            self.last_shown = passed;
+            self.write_line(passed);
         }
     }
 }

@@ -3,6 +3,7 @@
 use super::Case;
 use crate::outcome::Outcome;
 use std::rt::Files;
+use std::time::Clock;
 use yuv_commands::{Streams, run};
 
 /// A run: its arguments, how it ends, and what it writes. The stream is its standard input.
@@ -26,8 +27,9 @@ static INFO: Run = Run {
     words: &["info", "-"],
     status: 0,
     text: b"size: 28x2\nformat: 4:2:0\nbit depth: 8\nchroma siting: centre\nframe rate: 25:1\n\
-interlacing: progressive\npixel aspect: 1:1\nextension: AB\nextension: CD\nframes: 2\n",
-    may_begin: false,
+interlacing: progressive\npixel aspect: 1:1\nextension: AB\nextension: CD\n\
+frame size: 84 bytes\nframes: 2\nduration: 0.080 s\n",
+    may_begin: true,
 };
 
 /// How far it is from the stream of a file.
@@ -72,8 +74,26 @@ mlkjihgfedcba4zyxwvutsrqpo",
     may_begin: true,
 };
 
+/// The checksums of its planes.
+static SUM: Run = Run {
+    words: &["sum", "-", "--planes"],
+    status: 0,
+    text: b"1 5ef75a37 400d9578 0ed36da1\n2 452ec8db e6411a24 9fd96728\n",
+    may_begin: true,
+};
+
+/// What values its samples have.
+static STATS: Run = Run {
+    words: &["stats", "-"],
+    status: 0,
+    text: b"Y: minimum 48, maximum 122, mean 90.36, outside the nominal range 0\n\
+U: minimum 97, maximum 110, mean 103.50, outside the nominal range 0\n\
+V: minimum 52, maximum 122, mean 107.36, outside the nominal range 0\n",
+    may_begin: false,
+};
+
 /// A run of `yuv`. Where memory is refused, it says so on standard error and ends with status 2.
-pub fn run_of_yuv<H: Files + AllocGlobal>(rt: &H, case: Case) -> Outcome {
+pub fn run_of_yuv<H: Files + AllocGlobal + Clock>(rt: &H, case: Case) -> Outcome {
     seen_of(
         rt,
         match case {
@@ -81,19 +101,22 @@ pub fn run_of_yuv<H: Files + AllocGlobal>(rt: &H, case: Case) -> Outcome {
             Case::YuvCompare => &COMPARE,
             Case::YuvCompareFrames => &COMPARE_FRAMES,
             Case::YuvCopy => &COPY,
+            Case::YuvSum => &SUM,
+            Case::YuvStats => &STATS,
             _ => &COPY_PART,
         },
     )
 }
 
 /// What is seen of a run.
-fn seen_of<H: Files + AllocGlobal>(rt: &H, wanted: &Run) -> Outcome {
+fn seen_of<H: Files + AllocGlobal + Clock>(rt: &H, wanted: &Run) -> Outcome {
     let mut room = [0; 500];
     let mut error = [0; 200];
     let streams = Streams {
         input: STREAM,
         output: room.as_mut_slice(),
         error: error.as_mut_slice(),
+        is_terminal: false,
     };
     let status = run(rt, wanted.words, streams).code();
     let (written, said) = (begun(&room), begun(&error));

@@ -1,0 +1,85 @@
+-- What the options of a command ask of the streams.
+use Rattle.std.specs.Prelude.{ℕ, if◌then◌else◌, false, min, Option, Some, None, option_map, unwrap_or}
+use Rattle.v_frame.specs.Prelude.{usize_max}
+use Rattle.yuv_streams.specs.declared.comparison.CompareOptions.{CompareOptions}
+use Rattle.yuv_streams.specs.declared.edit.Rectangle.{Rectangle}
+use Rattle.yuv_streams.specs.declared.options.CopyOptions.{CopyOptions}
+use Rattle.yuv_streams.specs.declared.stream.Container.{Container}
+use Rattle.yuv_pictures.specs.declared.plane_name.PlaneName.{PlaneName}
+use Rattle.yuv_words.specs.declared.command.CompareOptions.{CompareOptions as CompareWords}
+use Rattle.yuv_words.specs.declared.command.CopyOptions.{CopyOptions as CopyWords}
+use Rattle.yuv_words.specs.declared.command.DiffOptions.{DiffOptions as DiffWords}
+use Rattle.yuv_words.specs.declared.command.PlotOptions.{PlotOptions as PlotWords}
+use Rattle.yuv_words.specs.declared.command.PlaneName.{PlaneName as PlaneWords}
+use Rattle.yuv_words.specs.declared.command.PlaneName.TheVariants.{Y, U, V}
+use Rattle.yuv_words.specs.declared.command.Rectangle.{Rectangle as RectangleWords}
+use Rattle.yuv_words.specs.declared.command.ShowOptions.{ShowOptions as ShowWords}
+
+-- the most pixels of luma that a picture may have: those of 15360x8640 and a little more, where
+-- nobody says, and never more than can be counted
+abbrev pub most_pixels : Option ℕ → ℕ
+most_pixels asked = min (unwrap_or asked 134217728) usize_max
+
+abbrev pub rectangle_of : RectangleWords → Rectangle
+rectangle_of part = record { x = part.x; y = part.y; width = part.width; height = part.height }
+
+-- `copy`: each option is handed on
+abbrev pub copy_of : CopyWords → CopyOptions
+copy_of options =
+    record {
+      skip = unwrap_or options.skip 0;
+      count = options.count;
+      crop = option_map rectangle_of options.crop;
+      half = options.half;
+      format = options.format;
+      frame_rate = options.rate;
+      pixel_aspect = options.aspect;
+      max_pixels = most_pixels options.max_pixels;
+    }
+
+-- `copy`: raw video is written with `--raw-output` alone
+abbrev pub sink_container : CopyWords → Container
+sink_container options = if options.raw_output then Container.Raw else Container.Y4m
+
+-- both streams are passed over by `--skip`, but the second by `--skip-second` where this is given
+abbrev pub taken_of : Option ℕ → Option ℕ → Option ℕ → Option ℕ → CompareOptions
+taken_of skip skip_second count max_pixels =
+    record {
+      skip_first = unwrap_or skip 0;
+      skip_second = unwrap_or skip_second (unwrap_or skip 0);
+      count = count;
+      max_pixels = most_pixels max_pixels;
+    }
+
+-- `compare`
+abbrev pub comparison_of : CompareWords → CompareOptions
+comparison_of options = taken_of options.skip options.skip_second options.count options.max_pixels
+
+-- `show`: one frame after so many, and the part of it that is asked for
+abbrev pub shown_frame : ShowWords → ℕ → CopyOptions
+shown_frame options before =
+    record {
+      skip = before;
+      count = Some 1;
+      crop = option_map rectangle_of options.crop;
+      half = false;
+      format = None;
+      frame_rate = None;
+      pixel_aspect = None;
+      max_pixels = most_pixels options.max_pixels;
+    }
+
+-- `show --plane`
+abbrev pub plane_of : PlaneWords → PlaneName
+plane_of Y = PlaneName.Y
+plane_of U = PlaneName.U
+plane_of V = PlaneName.V
+
+-- `diff`: one frame of both streams, after so many
+abbrev pub frame_pair : DiffWords → ℕ → CompareOptions
+frame_pair options before =
+    taken_of (Some before) None (Some 1) options.max_pixels
+
+-- `plot`
+abbrev pub plot_of : PlotWords → CompareOptions
+plot_of options = taken_of options.skip options.skip_second options.count options.max_pixels

@@ -1,0 +1,166 @@
+//! The command `diff`: the difference of two frames as a picture, and where it is.
+ghost use Rattle.std.specs.Prelude.{◌≡◌, unwrap_or};
+ghost use Rattle.yuv_commands.specs.Options.{frame_pair};
+
+use crate::fault::Fault;
+use crate::input::{begin, open_file};
+use crate::options::{frames_before, taken_of_both};
+use crate::output::Output;
+use crate::program::Status;
+use crate::report::write_made;
+use crate::system::System;
+use std::alloc::{AllocError, Global};
+use std::io;
+use std::rt::Files;
+use std::time::Clock;
+use v_frame::frame::Frame;
+use v_frame::pixel::Pixel;
+use v_frame_measures::{GreatestDifference, frames_have_one_size};
+use v_frame_planar::Counted;
+use yuv_pictures::{Found, PictureError, PlaneDifference, differences, write_difference_picture};
+use yuv_streams::{
+    CompareOptions, FrameObserver, Place, PlaneSums, Silent, Source, StreamError, compare_streams,
+};
+use yuv_words::DiffOptions;
+
+/// What each difference is multiplied by, where nobody says.
+const GAIN: u16 = 8;
+
+/// Writes the difference of two frames as a picture, and reports where it is.
+pub(crate) fn do_diff<H, I, O, E>(
+    system: &mut System<'_, H, I, O, E>,
+    (first, second, to): (&str, &str, &str),
+    options: &DiffOptions,
+) -> Result<Status, Fault>
+where
+    H: Files + AllocGlobal + Clock,
+    I: io::Read + Drop,
+    O: io::Write,
+    E: io::Write,
+{
+    let rt = system.rt;
+    let mut file = open_file(rt, first, Place::First, &mut system.input)?;
+    let mut one = begin(rt.alloc(), &mut file, options.raw)?;
+    let mut other_file = open_file(rt, second, Place::Second, &mut system.input)?;
+    let mut other = begin(rt.alloc(), &mut other_file, options.raw_second)?;
+    let mut output = Output::open(rt, to, &mut system.output)?;
+    let done = write_difference(rt.alloc(), &mut one, &mut other, options, &mut output);
+    let found = output.settle(rt, done)?;
+    if to != "-" {
+        let text = found_text(rt.alloc(), &found);
+        write_made(&mut Counted::new(&mut system.output), text)?;
+    }
+    Ok(status_of(&found))
+}
+
+/// Writes the difference of the two frames that the options name.
+fn write_difference<R: io::Read, S: io::Read, W: io::Write + Drop>(
+    alloc: Global,
+    first: &mut Source<R>,
+    second: &mut Source<S>,
+    options: &DiffOptions,
+    out: W,
+) -> Result<Found, Fault> {
+    let before = frames_before(options.frame)?;
+    let taken = frames_taken(options, before);
+    let mut picture = DifferencePicture {
+        alloc,
+        out: Some(out),
+        gain: gain_of(options),
+        found: None,
+    };
+    compare_streams(alloc, first, second, &taken, &mut picture, &mut Silent)?;
+    match picture.found {
+        Some(Ok(found)) => Ok(found),
+        Some(Err(error)) => Err(Fault::Picture(error)),
+        None if first.frames() <= before => Err(Fault::NoFrame(Place::First, first.frames())),
+        None => Err(Fault::NoFrame(Place::Second, second.frames())),
+    }
+}
+
+/// Returns what each difference is multiplied by.
+fn gain_of(options: &DiffOptions) -> u16
+    ensures { result ≡ unwrap_or options.now.gain 8 }
+{
+    options.gain.unwrap_or(GAIN)
+}
+
+/// Returns what is taken of both streams: one frame after so many.
+fn frames_taken(options: &DiffOptions, before: u64) -> CompareOptions
+    ensures { result ≡ frame_pair options.now before }
+{
+    taken_of_both(Some(before), None, Some(1), options.max_pixels)
+}
+
+/// Writes the difference of the two frames that are compared.
+#[derive(Drop)]
+struct DifferencePicture<W> {
+    alloc: Global,
+    out: Option<W>,
+    gain: u16,
+    found: Option<Result<Found, PictureError>>,
+}
+
+impl<T: Pixel, W: io::Write + Drop> FrameObserver<T> for DifferencePicture<W> {
+    fn take(
+        &mut self,
+        first: &Frame<T>,
+        second: &Frame<T>,
+        _errors: &PlaneSums,
+    ) -> Result<(), StreamError> {
+        if !frames_have_one_size(first, second) {
+            return Ok(());
+        }
+        if let Some(out) = self.out.take() {
+            let written = write_difference_picture(self.alloc, out, first, second, self.gain);
+            self.found = Some(match written {
+                Ok(_out) => Ok(differences(first, second)),
+                Err(error) => Err(error),
+            });
+        }
+        Ok(())
+    }
+}
+
+/// Returns a line for each plane.
+fn found_text(alloc: Global, found: &Found) -> Result<String, AllocError> {
+    let mut text = String::new(alloc);
+    push_plane(&mut text, "Y", &found.y)?;
+    if let Some(u) = &found.u {
+        push_plane(&mut text, "U", u)?;
+    }
+    if let Some(v) = &found.v {
+        push_plane(&mut text, "V", v)?;
+    }
+    Ok(text)
+}
+
+/// Appends the line of a plane.
+fn push_plane(text: &mut String, name: &str, found: &PlaneDifference) -> Result<(), AllocError> {
+    let samples = found.count;
+    if samples == 0 {
+        return writeln!(text, "{name}: no difference");
+    }
+    let GreatestDifference { difference, x, y } = found.greatest;
+    writeln!(
+        text,
+        "{name}: {samples} samples differ, by {difference} at most, first in column {x}, row {y}"
+    )
+}
+
+/// Returns whether a chroma plane is there and differs.
+fn chroma_differs(found: &Option<PlaneDifference>) -> bool {
+    match found {
+        Some(found) => found.count > 0,
+        None => false,
+    }
+}
+
+/// Returns how the command ends: as `compare` does.
+fn status_of(found: &Found) -> Status {
+    if found.y.count > 0 || chroma_differs(&found.u) || chroma_differs(&found.v) {
+        Status::Different
+    } else {
+        Status::Same
+    }
+}

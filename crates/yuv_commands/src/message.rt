@@ -1,0 +1,67 @@
+//! Messages on standard error, in which no character of a name controls a terminal.
+ghost use Rattle.std.specs.Prelude.{◌↔◌, IsTrue};
+ghost use Rattle.yuv_commands.specs.Messages.{IsControl};
+
+use std::fmt::{self, Write};
+use std::io;
+
+/// Writes a line that begins with the program's name. Nobody is told where it can't be written. It takes no memory.
+pub(crate) fn write_message<E: io::Write, D: fmt::Display>(
+    out: &mut E,
+    name: Option<&str>,
+    what: &D,
+) {
+    let mut escaping = Escaping { out };
+    let _ = match name {
+        Some(name) => write!(escaping, "yuv: {name}: {what}"),
+        None => write!(escaping, "yuv: {what}"),
+    };
+    let _ = escaping.out.write_all(b"\n");
+}
+
+/// A writer of texts with a number in place of each control character.
+#[derive(Drop)]
+struct Escaping<'a, E> {
+    out: &'a mut E,
+}
+
+impl<E: io::Write> Write for Escaping<'_, E> {
+    fn write_str(&mut self, text: &str) -> fmt::Result {
+        if !text.chars().any(is_control) {
+            return done(self.out.write_all(text.as_bytes()));
+        }
+        for letter in text.chars() {
+            self.write_letter(letter)?;
+        }
+        Ok(())
+    }
+}
+
+impl<E: io::Write> Escaping<'_, E> {
+    /// Writes a character, or its number.
+    fn write_letter(&mut self, letter: char) -> fmt::Result {
+        let code = u32::from(letter);
+        if is_control(letter) {
+            return done(write!(self.out, "\\x{code:02x}"));
+        }
+        let mut bytes = [0; 4];
+        let text = letter.encode_utf8(&mut bytes);
+        done(self.out.write_all(text.as_bytes()))
+    }
+}
+
+/// Returns whether a write was done.
+fn done(written: io::Result<()>) -> fmt::Result {
+    match written {
+        Ok(()) => Ok(()),
+        Err(_) => Err(fmt::Error),
+    }
+}
+
+/// Returns whether a character is one of C0, DEL or C1 of ISO/IEC 6429.
+fn is_control(letter: char) -> bool
+    ensures { IsTrue result ↔ IsControl letter }
+{
+    let code = u32::from(letter);
+    code < 32 || code >= 127 && code < 160
+}

@@ -1,0 +1,68 @@
+//! What a command writes to: a file that replaces its target, or standard output.
+
+use crate::fault::Fault;
+use crate::target::TargetFile;
+use std::fs::OpenFile;
+use std::io::{self, Write};
+use std::rt::Files;
+
+/// A file, or standard output.
+#[derive(Drop)]
+pub(crate) enum Output<'a, F, O> {
+    File(TargetFile<F>),
+    Standard(&'a mut O),
+}
+
+impl<F: Write, O: Write> Write for Output<'_, F, O> {
+    fn write(&mut self, buf: &[u8]) -> io::Result<usize> {
+        match self {
+            Output::File(to) => to.file.write(buf),
+            Output::Standard(out) => out.write(buf),
+        }
+    }
+
+    fn flush(&mut self) -> io::Result<()> {
+        match self {
+            Output::File(to) => to.file.flush(),
+            Output::Standard(out) => out.flush(),
+        }
+    }
+}
+
+impl<'a, F: OpenFile + Drop, O> Output<'a, F, O> {
+    /// Opens a file that is written, or takes standard output for `-`.
+    pub(crate) fn open<H: Files<File = F> + AllocGlobal>(
+        rt: &H,
+        name: &str,
+        standard: &'a mut O,
+    ) -> Result<Self, Fault> {
+        if name == "-" {
+            return Ok(Output::Standard(standard));
+        }
+        match TargetFile::create(rt, name) {
+            Ok(file) => Ok(Output::File(file)),
+            Err(error) => Err(Fault::Create(error.kind())),
+        }
+    }
+
+    /// Puts a file in the place of its target where all of it was written, and else removes it.
+    pub(crate) fn settle<H: Files, T: Drop>(
+        self,
+        rt: &H,
+        done: Result<T, Fault>,
+    ) -> Result<T, Fault> {
+        let Output::File(to) = self else {
+            return done;
+        };
+        match done {
+            Ok(value) => match to.keep(rt) {
+                Ok(()) => Ok(value),
+                Err(error) => Err(Fault::Replace(error.kind())),
+            },
+            Err(fault) => {
+                to.discard(rt);
+                Err(fault)
+            }
+        }
+    }
+}

@@ -1,0 +1,234 @@
+//! The command `plot`: how far two streams are apart, frame by frame, as a chart.
+ghost use Rattle.std.specs.Prelude.{◌≡◌};
+ghost use Rattle.yuv_commands.specs.Options.{plot_of};
+
+use crate::compare::samples_of;
+use crate::fault::Fault;
+use crate::input::{begin, open_file};
+use crate::measures::{Scale, reported};
+use crate::options::taken_of_both;
+use crate::output::Output;
+use crate::program::Status;
+use crate::report::{no_memory, write_text};
+use crate::system::System;
+use std::alloc::{AllocError, Global};
+use std::io::{self, Write};
+use std::rt::Files;
+use std::time::Clock;
+use v_frame::frame::Frame;
+use v_frame::pixel::Pixel;
+use v_frame_chart::{Chart, Series, svg};
+use v_frame_measures::{frame_ssim, frames_have_one_size};
+use v_frame_planar::Counted;
+use yuv_reports::PlaneValues;
+use yuv_streams::{
+    CompareOptions, FrameObserver, Place, PlaneSums, Silent, Source, StreamError, compare_streams,
+};
+use yuv_words::PlotOptions;
+
+/// Draws how far two streams are apart.
+pub(crate) fn do_plot<H, I, O, E>(
+    system: &mut System<'_, H, I, O, E>,
+    (first, second, to): (&str, &str, &str),
+    options: &PlotOptions,
+) -> Result<Status, Fault>
+where
+    H: Files + AllocGlobal + Clock,
+    I: io::Read + Drop,
+    O: io::Write,
+    E: io::Write,
+{
+    let rt = system.rt;
+    let mut file = open_file(rt, first, Place::First, &mut system.input)?;
+    let mut one = begin(rt.alloc(), &mut file, options.raw)?;
+    let mut other_file = open_file(rt, second, Place::Second, &mut system.input)?;
+    let mut other = begin(rt.alloc(), &mut other_file, options.raw_second)?;
+    let text = drawn(rt.alloc(), &mut one, &mut other, options, (first, second))?;
+    let mut output = Output::open(rt, to, &mut system.output)?;
+    let done = write_drawn(&mut output, text.as_str());
+    drop(text);
+    output.settle(rt, done)
+}
+
+/// Writes the chart.
+fn write_drawn<W: Write + Drop>(out: W, text: &str) -> Result<Status, Fault> {
+    let mut out = Counted::new(out);
+    match write_text(&mut out, text) {
+        Ok(()) => Ok(Status::Same),
+        Err(error) => Err(Fault::Stream(error)),
+    }
+}
+
+/// Returns the chart of what is taken of both streams.
+fn drawn<R: io::Read, S: io::Read>(
+    alloc: Global,
+    first: &mut Source<R>,
+    second: &mut Source<S>,
+    options: &PlotOptions,
+    names: (&str, &str),
+) -> Result<String, Fault> {
+    let mut curves = Curves::new(
+        alloc,
+        Scale {
+            pixels: samples_of(first.header()),
+            bit_depth: first.header().colour.bit_depth(),
+            exact: false,
+        },
+    );
+    compare_streams(
+        alloc,
+        first,
+        second,
+        &frames_taken(options),
+        &mut curves,
+        &mut Silent,
+    )?;
+    match curves.chart(alloc, names) {
+        Ok(text) => Ok(text),
+        Err(_) => Err(Fault::Stream(no_memory())),
+    }
+}
+
+/// Returns what is taken of both streams.
+fn frames_taken(options: &PlotOptions) -> CompareOptions
+    ensures { result ≡ plot_of options.now }
+{
+    taken_of_both(
+        options.skip,
+        options.skip_second,
+        options.count,
+        options.max_pixels,
+    )
+}
+
+/// The numbers of each frame, plane by plane.
+#[derive(Drop)]
+struct PlaneCurves {
+    y: Vec<f64>,
+    u: Vec<f64>,
+    v: Vec<f64>,
+}
+
+impl PlaneCurves {
+    /// Has no frame yet.
+    fn new(alloc: Global) -> Self {
+        PlaneCurves {
+            y: Vec::new(alloc),
+            u: Vec::new(alloc),
+            v: Vec::new(alloc),
+        }
+    }
+
+    /// Adds a frame.
+    fn add(&mut self, values: &PlaneValues) -> Result<(), AllocError> {
+        self.y.push(values.y)?;
+        if let Some(u) = values.u {
+            self.u.push(u)?;
+        }
+        if let Some(v) = values.v {
+            self.v.push(v)?;
+        }
+        Ok(())
+    }
+
+    /// Returns the chart of the planes that there are.
+    fn chart<'a>(
+        &'a self,
+        alloc: Global,
+        title: &'a str,
+        unit: &'a str,
+    ) -> Result<String, AllocError> {
+        let (y, u, v) = (self.y.as_slice(), self.u.as_slice(), self.v.as_slice());
+        let luma = Series {
+            name: "Y",
+            values: y,
+        };
+        let series = [
+            luma,
+            Series {
+                name: "U",
+                values: u,
+            },
+            Series {
+                name: "V",
+                values: v,
+            },
+        ];
+        let planes = if u.is_empty() { 1 } else { 3 };
+        let chart = Chart {
+            title,
+            unit,
+            series: &series[..planes],
+        };
+        svg(alloc, &chart)
+    }
+}
+
+/// What is drawn: ratios, and similarities where frames are large enough.
+#[derive(Drop)]
+struct Curves {
+    scale: Scale,
+    psnr: PlaneCurves,
+    ssim: PlaneCurves,
+}
+
+impl Curves {
+    /// Has no frame yet.
+    fn new(alloc: Global, scale: Scale) -> Self {
+        Curves {
+            scale,
+            psnr: PlaneCurves::new(alloc),
+            ssim: PlaneCurves::new(alloc),
+        }
+    }
+
+    /// Adds two frames.
+    fn add<T: Pixel>(
+        &mut self,
+        first: &Frame<T>,
+        second: &Frame<T>,
+        errors: &PlaneSums,
+    ) -> Result<(), AllocError> {
+        let measures = self.scale.measures(errors, 1, None);
+        self.psnr.add(&measures.psnr)?;
+        if !frames_have_one_size(first, second) {
+            return Ok(());
+        }
+        match frame_ssim(first, second) {
+            Some(ssim) => self.ssim.add(&reported(ssim)),
+            None => Ok(()),
+        }
+    }
+
+    /// Returns the charts, one above the other.
+    fn chart(&self, alloc: Global, (first, second): (&str, &str)) -> Result<String, AllocError> {
+        let title = format!(in alloc; "{first} and {second}")?;
+        let psnr = self.psnr.chart(alloc, title.as_str(), "PSNR (dB)")?;
+        if self.ssim.y.is_empty() {
+            return Ok(psnr);
+        }
+        let ssim = self.ssim.chart(alloc, title.as_str(), "SSIM")?;
+        let mut text = String::new(alloc);
+        text.push_str("<svg xmlns=\"http://www.w3.org/2000/svg\" width=\"960\" height=\"840\" ")?;
+        text.push_str("viewBox=\"0 0 960 840\">\n")?;
+        text.push_str(psnr.as_str())?;
+        text.push_str("<g transform=\"translate(0 420)\">\n")?;
+        text.push_str(ssim.as_str())?;
+        text.push_str("</g>\n</svg>\n")?;
+        Ok(text)
+    }
+}
+
+impl<T: Pixel> FrameObserver<T> for Curves {
+    fn take(
+        &mut self,
+        first: &Frame<T>,
+        second: &Frame<T>,
+        errors: &PlaneSums,
+    ) -> Result<(), StreamError> {
+        match self.add(first, second, errors) {
+            Ok(()) => Ok(()),
+            Err(_) => Err(no_memory()),
+        }
+    }
+}

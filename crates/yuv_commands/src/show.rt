@@ -1,0 +1,152 @@
+//! The command `show`: a frame as a picture.
+ghost use Rattle.std.specs.Prelude.{◌≡◌, unwrap_or};
+ghost use Rattle.v_frame_rgb.specs.declared.standard.Standard.{Standard};
+ghost use Rattle.yuv_commands.specs.Options.{plane_of, shown_frame};
+
+use crate::fault::Fault;
+use crate::input::{begin, open_file};
+use crate::options::{frames_before, most_pixels, stream_rectangle};
+use crate::output::Output;
+use crate::program::Status;
+use crate::system::System;
+use std::alloc::Global;
+use std::io;
+use std::rt::Files;
+use std::time::Clock;
+use v_frame::frame::Frame;
+use v_frame::pixel::Pixel;
+use v_frame_rgb::{ColourRange, Standard};
+use v_frame_y4m::StreamHeader;
+use yuv_pictures::{Colours, write_frame_picture, write_plane_picture};
+use yuv_streams::{Container, CopyOptions, Picture, Place, Silent, Sink, Source, copy_stream};
+use yuv_words::{PlaneName, ShowOptions};
+
+/// Writes a frame of a stream as a picture.
+pub(crate) fn do_show<H, I, O, E>(
+    system: &mut System<'_, H, I, O, E>,
+    (from, to): (&str, &str),
+    options: &ShowOptions,
+) -> Result<Status, Fault>
+where
+    H: Files + AllocGlobal + Clock,
+    I: io::Read + Drop,
+    O: io::Write,
+    E: io::Write,
+{
+    let rt = system.rt;
+    let mut file = open_file(rt, from, Place::First, &mut system.input)?;
+    let mut source = begin(rt.alloc(), &mut file, options.raw)?;
+    let mut output = Output::open(rt, to, &mut system.output)?;
+    let done = if source.header().colour.bit_depth() == 8 {
+        show_frame::<u8, _, _>(rt.alloc(), &mut source, options, &mut output)
+    } else {
+        show_frame::<u16, _, _>(rt.alloc(), &mut source, options, &mut output)
+    };
+    output.settle(rt, done)
+}
+
+/// Writes the frame that the options name.
+fn show_frame<T: Pixel, R: io::Read, W: io::Write + Drop>(
+    alloc: Global,
+    source: &mut Source<R>,
+    options: &ShowOptions,
+    out: W,
+) -> Result<Status, Fault> {
+    let bytes = frame_bytes(alloc, source, options)?;
+    let header = shown_header(alloc, source.header(), options);
+    let most = most_pixels(options.max_pixels);
+    let layout = source.layout();
+    let mut shown = Source::raw(alloc, Place::First, header, layout, bytes.as_slice())?;
+    let mut picture = Picture::<T>::new(alloc, &shown, most)?;
+    picture.read(&mut shown)?;
+    write_picture(alloc, out, picture.frame(), options)?;
+    Ok(Status::Same)
+}
+
+/// Writes a frame as the options say.
+fn write_picture<T: Pixel, W: io::Write + Drop>(
+    alloc: Global,
+    out: W,
+    frame: &Frame<T>,
+    options: &ShowOptions,
+) -> Result<W, Fault> {
+    let written = match options.plane {
+        Some(plane) => write_plane_picture(alloc, out, frame, shown_plane(plane)),
+        None => write_frame_picture(alloc, out, frame, colours_of(options)),
+    };
+    match written {
+        Ok(out) => Ok(out),
+        Err(error) => Err(Fault::Picture(error)),
+    }
+}
+
+/// Returns the plane of pictures that has this name.
+fn shown_plane(plane: PlaneName) -> yuv_pictures::PlaneName
+    ensures { result ≡ plane_of plane }
+{
+    match plane {
+        PlaneName::Y => yuv_pictures::PlaneName::Y,
+        PlaneName::U => yuv_pictures::PlaneName::U,
+        PlaneName::V => yuv_pictures::PlaneName::V,
+    }
+}
+
+/// Returns how colours are made: as BT.709 of limited range has it, where the options are silent.
+fn colours_of(options: &ShowOptions) -> Colours
+    ensures standard { result.standard ≡ unwrap_or options.now.matrix Standard.Bt709 }
+    ensures range { result.range ≡ unwrap_or options.now.range ColourRange.Limited }
+{
+    Colours {
+        standard: options.matrix.unwrap_or(Standard::Bt709),
+        range: options.range.unwrap_or(ColourRange::Limited),
+    }
+}
+
+/// Returns the planar bytes of the frame that the options name, or of the part of it that they name.
+fn frame_bytes<R: io::Read>(
+    alloc: Global,
+    source: &mut Source<R>,
+    options: &ShowOptions,
+) -> Result<Vec<u8>, Fault> {
+    let before = frames_before(options.frame)?;
+    let mut sink = Sink::new(Container::Raw, Vec::new(alloc));
+    let taken = one_frame(options, before);
+    let found = copy_stream(alloc, source, &mut sink, &taken, &mut Silent)?;
+    if found == 0 {
+        return Err(Fault::NoFrame(Place::First, source.frames()));
+    }
+    Ok(sink.writer.into_inner())
+}
+
+/// Returns what is taken of the stream: one frame after so many, or a part of it.
+fn one_frame(options: &ShowOptions, before: u64) -> CopyOptions
+    ensures { result ≡ shown_frame options.now before }
+{
+    CopyOptions {
+        skip: before,
+        count: Some(1),
+        crop: options.crop.map(stream_rectangle),
+        half: false,
+        format: None,
+        frame_rate: None,
+        pixel_aspect: None,
+        max_pixels: most_pixels(options.max_pixels),
+    }
+}
+
+/// Returns the header of what is shown.
+fn shown_header(alloc: Global, header: &StreamHeader, options: &ShowOptions) -> StreamHeader {
+    let (width, height) = match options.crop {
+        Some(part) => (part.width, part.height),
+        None => (header.width, header.height),
+    };
+    StreamHeader {
+        width,
+        height,
+        frame_rate: None,
+        interlacing: None,
+        pixel_aspect: None,
+        colour: header.colour,
+        extensions: Vec::new(alloc).into(),
+    }
+}
