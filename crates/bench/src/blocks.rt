@@ -37,7 +37,8 @@ pub fn compare_blocks<T: Pixel>(a: &Plane<T>, b: &Plane<T>, size: usize, measure
     sum
 }
 
-/// Returns how far two blocks lie apart.
+/// Returns how far two blocks lie apart. It is inline, as a block of 8 by 8 takes less time than to pass it.
+#[inline(always)]
 fn compared<T: Pixel>(block: &RowsRef<'_, T>, other: &RowsRef<'_, T>, measure: Measure) -> u64 {
     if block.width() != other.width() || block.height() != other.height() {
         return 0;
