@@ -1,4 +1,5 @@
 pub mod CenterLemmas
+pub mod PartLemmas
 pub mod PixelsWritten
 pub mod Sums
 pub mod Weights

@@ -1,5 +1,5 @@
 //! The pixels of the source that hold the centers of pixels of another size, one after the other.
-ghost use Rattle.std.specs.Prelude.{◌≡◌, ◌+◌, ◌*◌, ◌^◌, ◌<◌, ◌≤◌, ℕ};
+ghost use Rattle.std.specs.Prelude.{◌≡◌, ◌+◌, ◌*◌, ◌/◌, ◌^◌, ◌<◌, ◌≤◌, ℕ};
 ghost use Rattle.v_frame_resize.specs.Centers.{IsCenter, CanAdvance};
 
 /// The pixel of the source that holds the center of a pixel of the target.
@@ -56,4 +56,17 @@ pub fn next_center(center: Center) -> Center
         rest,
         ..center
     }
+}
+
+/// The parts of a pixel of the source in which centers are counted.
+pub const PARTS: usize = 1099511627776;
+
+/// Returns half the parts from one center to the next, rounded up, or one more.
+pub fn half_step(source: usize, target: usize) -> usize
+    requires some { 0 < target }
+    requires wide { target ≤ 65536 }
+    requires source_wide { source ≤ 65536 }
+    ensures { result ≡ source * 1099511627776 / (2 * target) + 1 }
+{
+    source * PARTS / (2 * target) + 1
 }

@@ -1,9 +1,9 @@
 //! Resizing by the nearest pixel.
-ghost use Rattle.std.specs.Prelude.{◌≡◌, ◌^◌, ◌<◌, ℕ, length, slice_get};
+ghost use Rattle.std.specs.Prelude.{◌≡◌, ◌^◌, ◌<◌, ◌≤◌, ℕ, length, slice_get};
 ghost use Rattle.v_frame.specs.Prelude.{pixel_at, strided_rows, width_of, height_of, KeepsRest, RowsFit};
 ghost use Rattle.v_frame_resize.specs.Resize.{nearest};
 
-use crate::center::{first_center, next_center};
+use crate::center::{PARTS, first_center, half_step, next_center};
 use v_frame::plane::RowsRef;
 
 /// Makes the rows show what `source` shows, in their size: each pixel is the one of the source that holds its center.
@@ -41,6 +41,41 @@ pub fn resize_nearest<T: Copy>(
 
 /// Makes each pixel of a row the one of another row that holds its center.
 fn nearest_row<T: Copy>(out: &mut [T], row: &[T])
+    requires some { 0 < length out.old }
+    requires row_some { 0 < length row.now }
+    requires wide { length out.old < 2 ^ 62 }
+    requires row_wide { length row.now < 2 ^ 62 }
+    ensures { (x : ℕ) → x < length out.old
+        → slice_get out.new x ≡ slice_get row.now (nearest (length row.now) (length out.old) x) }
+{
+    if out.len() <= 65536 && row.len() <= 65536 {
+        nearest_by_parts(out, row);
+    } else {
+        nearest_by_centers(out, row);
+    }
+}
+
+/// The same of rows that are not too long: from one center to the next it is a whole number of parts of a pixel, rounded up, of
+/// which there are so many that no center comes to lie in the next pixel.
+fn nearest_by_parts<T: Copy>(out: &mut [T], row: &[T])
+    requires some { 0 < length out.old }
+    requires row_some { 0 < length row.now }
+    requires wide { length out.old ≤ 65536 }
+    requires row_wide { length row.now ≤ 65536 }
+    ensures { (x : ℕ) → x < length out.old
+        → slice_get out.new x ≡ slice_get row.now (nearest (length row.now) (length out.old) x) }
+{
+    let half = half_step(row.len(), out.len());
+    let mut place = half;
+    for x in 0..out.len() {
+        let at = place / PARTS;
+        out[x] = row[at];
+        place += 2 * half;
+    }
+}
+
+/// The same of any rows.
+fn nearest_by_centers<T: Copy>(out: &mut [T], row: &[T])
     requires some { 0 < length out.old }
     requires row_some { 0 < length row.now }
     requires wide { length out.old < 2 ^ 62 }

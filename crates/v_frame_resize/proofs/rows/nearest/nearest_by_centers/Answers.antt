@@ -4,7 +4,7 @@ use Rattle.std.proofs.lemmas.Option.{slice_get_read}
 use Rattle.v_frame_raster.proofs.tables.Lists.{others_are_read, set_is_read}
 use Rattle.v_frame_resize.specs.Resize.{nearest}
 use Rattle.v_frame_resize.proofs.CenterLemmas.{nearest_is, center_inside}
-use Rattle.v_frame_resize.proofs.rows.nearest.nearest_row.Goals as goal
+use Rattle.v_frame_resize.proofs.rows.nearest.nearest_by_centers.Goals as goal
 use borrow.Author.Count.{below_more}
 
 pub loop-x-preserved : goal.loop-x-preserved

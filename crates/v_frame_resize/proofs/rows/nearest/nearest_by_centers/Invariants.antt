@@ -2,7 +2,7 @@
 use Rattle.std.proofs.Common.{ℕ, ◌≡◌, ◌<◌, length, slice_get}
 use Rattle.v_frame_resize.specs.Resize.{nearest}
 use Rattle.v_frame_resize.specs.Centers.{IsCenter}
-use Rattle.v_frame_resize.proofs.rows.nearest.nearest_row.Given as goal
+use Rattle.v_frame_resize.proofs.rows.nearest.nearest_by_centers.Given as goal
 
 abbrev pub invariant-loop-x : goal.invariant-loop-x
 invariant-loop-x g l = record {
