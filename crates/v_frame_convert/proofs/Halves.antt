@@ -1,10 +1,11 @@
 -- Rows of half the size, pixel by pixel.
-use Rattle.std.proofs.Common.{ℕ, zero, suc, ◌≡◌, ◌+◌, ◌-◌, ◌*◌, ◌/◌, ◌<◌, ◌≤◌, List, ◌∷◌, length, take, min, Some}
-use Rattle.std.proofs.Common.{◌++◌, inl, inr, slice_get, refl, sym, ◌∙◌, ap, arith, length-append}
+use Rattle.std.proofs.Common.{ℕ, zero, suc, ◌≡◌, ◌+◌, ◌-◌, ◌*◌, ◌/◌, ◌<◌, ◌≤◌, List, ◌∷◌, length, take, drop, min, Some}
+use Rattle.std.proofs.Common.{◌++◌, inl, inr, slice_get, refl, sym, ◌∙◌, ap, arith, length-append, length-drop}
 use Rattle.std.proofs.lemmas.Bool.{cases_lt}
 use Rattle.std.specs.Option.{option_map_or}
 use Rattle.std.proofs.Math.Nat.{min-eq_left}
 use Rattle.v_frame.specs.Prelude.{PixelForm, halved, rounded_mean}
+use Rattle.v_frame_raster.proofs.tables.Lists.{slice_get-drop}
 use Rattle.v_frame_raster.proofs.tables.ListItems.{slice_get-append_left, slice_get-append_right}
 use Rattle.v_frame_convert.specs.Scale.{nearest_value}
 use Rattle.v_frame_convert.specs.ScaledRows.{mean_in_two_rows}
@@ -78,3 +79,19 @@ module _ {T : Type 0} (form : PixelForm T) where
             ap (slice_get (front ++ rest)) at ∙ slice_get-append_right front rest (x - n) ∙ each (x - n) low
             ∙ ap (λ k. Some (form.pixel_of (mean_in_two_rows form Half top bottom k))) back
       ]
+
+  -- past so many pairs of a row the means are those of the rest
+  nearest_past : (m k : ℕ) (row : List T) → m < length row
+      → nearest_value form (drop m row) k ≡ nearest_value form row (m + k)
+  nearest_past m k row some =
+      let here : m + min k (length (drop m row) - 1) ≡ min (m + k) (length row - 1) =
+      omega (arith, length-drop m row) in
+      ap (λ item. option_map_or form.value item 0)
+      (slice_get-drop m row (min k (length (drop m row) - 1)) ∙ ap (slice_get row) here)
+
+  pub mean_past : (n x : ℕ) (row : List T) → 2 * n < length row
+      → mean_in_two_rows form Half (drop (2 * n) row) (drop (2 * n) row) x ≡ mean_in_two_rows form Half row row (n + x)
+  mean_past n x row some =
+      let even : 2 * (n + x) ≡ 2 * n + 2 * x = omega arith in
+      let odd : 2 * (n + x) + 1 ≡ 2 * n + (2 * x + 1) = omega arith in
+      rw (odd, even, nearest_past (2 * n) (2 * x) row some, nearest_past (2 * n) (2 * x + 1) row some)

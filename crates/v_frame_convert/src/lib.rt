@@ -1,6 +1,7 @@
 //! Pictures in another bit depth, another range of values, another chroma format or another type of pixels.
 #![tactic(auto)]
 
+mod byte_pairs;
 mod chroma;
 mod depth;
 mod depth_change;

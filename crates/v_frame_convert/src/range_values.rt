@@ -85,3 +85,21 @@ pub(crate) fn chroma_to_limited(value: u16, depth: u8) -> u16
     let sum = u32::from(value).min(largest) * (224 * unit) + above;
     by_largest(sum, depth) as u16
 }
+
+/// Returns a luma value of 8 bits of the full range in the limited range. The compiler packs these 16 bits.
+#[inline(always)]
+pub(crate) fn luma_byte_to_limited(value: u16) -> u16
+    ensures value { result ≡ luma_in_limited_range 8 value }
+    ensures fits { result < 256 }
+{
+    16 + (value.min(255) * 219 + 127) / 255
+}
+
+/// Returns a chroma value of 8 bits of the full range in the limited range.
+#[inline(always)]
+pub(crate) fn chroma_byte_to_limited(value: u16) -> u16
+    ensures value { result ≡ chroma_in_limited_range 8 value }
+    ensures fits { result < 256 }
+{
+    (value.min(255) * 224 + 4095) / 255
+}

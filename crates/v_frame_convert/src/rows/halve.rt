@@ -5,6 +5,7 @@ ghost use Rattle.v_frame_convert.specs.Scale.{nearest_value, scaled, SizesFit};
 ghost use Rattle.v_frame_convert.specs.ScaledRows.{mean_in_two_rows};
 ghost use Rattle.v_frame_convert.specs.declared.scale.Scale.TheVariants.{Half, Same};
 
+use crate::byte_pairs::{halve_blocks, pairs_in_blocks};
 use v_frame::pixel::Pixel;
 use v_frame::plane::RowsRef;
 
@@ -57,9 +58,8 @@ pub fn halve_columns<T: Pixel>(
     ensures rest { KeepsRest width height stride buffer.old buffer.new }
 {
     for y in 0..height {
-        let row = source.visible_row(y);
         let start = stride * y;
-        halve_to_edge(row, row, &mut buffer[start..start + width]);
+        halve_row_to_edge(source.visible_row(y), &mut buffer[start..start + width]);
     }
 }
 
@@ -78,6 +78,19 @@ fn halve_to_edge<T: Pixel>(top: &[T], bottom: &[T], row: &mut [T])
     if last.len() == 1 {
         last[0] = mean_of_two(upper_last[0], lower_last[0]);
     }
+}
+
+/// Halves the columns of a row, rounded up: those of bytes in blocks.
+fn halve_row_to_edge<T: Pixel>(source: &[T], row: &mut [T])
+    requires { length row.old ≡ (length source.now + 1) / 2 }
+    ensures { (x : ℕ) → x < length row.new → slice_get row.new x
+        ≡ Some (T.form.pixel_of (mean_in_two_rows T.form Half source.now source.now x)) }
+{
+    let whole = pairs_in_blocks::<T>(source.len() / 2);
+    let (blocks, rest) = source.split_at(2 * whole);
+    let (front, back) = row.split_at_mut(whole);
+    halve_blocks(blocks, front);
+    halve_to_edge(rest, rest, back);
 }
 
 /// Returns the mean of two pixels, rounded upwards at a half.

@@ -7,7 +7,10 @@ ghost use Rattle.v_frame_convert.specs.Range.{pixel_by, in_full_range, in_limite
 
 use super::map_into;
 use crate::range::Component;
-use crate::range_values::{chroma_to_full, chroma_to_limited, luma_to_full, luma_to_limited};
+use crate::range_values::{
+    chroma_byte_to_limited, chroma_to_full, chroma_to_limited, luma_byte_to_limited, luma_to_full,
+    luma_to_limited,
+};
 use v_frame::pixel::Pixel;
 use v_frame::plane::RowsRef;
 
@@ -84,6 +87,10 @@ pub fn to_limited_range<T: Pixel>(
         ≡ converted (converted (pixel_by T.form (in_limited_range component depth))) source.now }
     ensures rest { KeepsRest width height stride buffer.old buffer.new }
 {
+    if T::BYTES == 1 {
+        bytes_to_limited_range(source, buffer, width, height, stride, component);
+        return;
+    }
     match component {
         Component::Luma => map_into(
             source,
@@ -106,6 +113,49 @@ pub fn to_limited_range<T: Pixel>(
                 requires { (8 ≤ depth) × (depth ≤ 16) × (2 ^ depth ≤ 256 ^ T.BYTES) }
                 ensures { result ≡ pixel_by T.form (chroma_in_limited_range depth) p }
             { T::from_value(chroma_to_limited(p.into_u16(), depth)) },
+        ),
+    }
+}
+
+/// The same of pixels of one byte, whose values are computed in 16 bits.
+fn bytes_to_limited_range<T: Pixel>(
+    source: &RowsRef<'_, T>,
+    buffer: &mut [T],
+    width: usize,
+    height: usize,
+    stride: usize,
+    component: Component,
+)
+    requires fit { RowsFit width height stride (length buffer.old) }
+    requires wide { width_of source.now ≡ width }
+    requires high { height_of source.now ≡ height }
+    requires byte { T.BYTES ≡ 1 }
+    ensures table { strided_rows width height stride buffer.new
+        ≡ converted (converted (pixel_by T.form (in_limited_range component 8))) source.now }
+    ensures rest { KeepsRest width height stride buffer.old buffer.new }
+{
+    match component {
+        Component::Luma => map_into(
+            source,
+            buffer,
+            width,
+            height,
+            stride,
+            |p: T|
+                requires { 256 ≤ 256 ^ T.BYTES }
+                ensures { result ≡ pixel_by T.form (luma_in_limited_range 8) p }
+            { T::from_value(luma_byte_to_limited(p.into_u16())) },
+        ),
+        Component::Chroma => map_into(
+            source,
+            buffer,
+            width,
+            height,
+            stride,
+            |p: T|
+                requires { 256 ≤ 256 ^ T.BYTES }
+                ensures { result ≡ pixel_by T.form (chroma_in_limited_range 8) p }
+            { T::from_value(chroma_byte_to_limited(p.into_u16())) },
         ),
     }
 }

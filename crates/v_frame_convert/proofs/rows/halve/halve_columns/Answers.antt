@@ -16,23 +16,23 @@ loop-y-init g c = none_written c.args.width c.args.height c.args.stride _ c.args
 pub loop-y-preserved : goal.loop-y-preserved
 loop-y-preserved g c =
     let w = c.args.width in let h = c.args.height in let s = c.args.stride in let y = c.loop-y.y in
-    let rows = c.args.source.now in let xs = c.loop-y.buffer in let row = c.halve_to_edge.new.row in
+    let rows = c.args.source.now in let xs = c.loop-y.buffer in let row = c.halve_row_to_edge.new.row in
     let form = g.T.Pixel.form in let start = s * y in
-    let row_read = c.visible_row-row.result.now in
+    let row_read = c.visible_row.result.now in
     let fit : RowsFit w h s (length xs) = rw (c.loop-y.auto.buffer) c.requires.fit in
     let high : y < h = omega arith in
     let ends = row_ends w h s (length xs) y fit high in
     let cut : start + w - start ≡ w = omega arith in
     let part = length-take-le w (drop start xs) (omega (arith, length-drop start xs, ends)) in
-    let long : length row ≡ w = rw (cut, part) at c.halve_to_edge.auto.row in
+    let long : length row ≡ w = rw (cut, part) at c.halve_row_to_edge.auto.row in
     let pairs : Same ≢ Quarter = λ same. cc in
     let line : ℕ → List g.row.T.Denot = λ k.
     map (λ x. form.pixel_of (block_mean form (places Half x) (places Same k) rows)) (range_with_len 0 w) in
     let made : row ≡ line y =
     is_from_function (λ x. form.pixel_of (block_mean form (places Half x) (places Same y) rows)) w row long
-    (λ x x_low. c.halve_to_edge.ensures x (omega (arith, x_low, long)) ∙ ap (λ m. Some (form.pixel_of m))
+    (λ x x_low. c.halve_row_to_edge.ensures x (omega (arith, x_low, long)) ∙ ap (λ m. Some (form.pixel_of m))
     (sym (lines_mean form (places Half x) rows Same y h row_read row_read pairs c.requires.high high
-    c.visible_row-row.ensures.value c.visible_row-row.ensures.value))) in
+    c.visible_row.ensures.value c.visible_row.ensures.value))) in
     let read = slice_get-from_function line h y high in
     rw cut (one_more_written w h s (scaled form form.pixel_of Half Same w h rows) c.args.buffer.now xs row y
     c.requires.fit high c.loop-y.auto.buffer (rw made read) long c.loop-y.invariant)
