@@ -38,6 +38,13 @@ module _ {T : Type 0} (form : PixelForm T) where
   of_one : (b : ℕ) → pixel_of_group (b ∷ []) ≡ form.pixel_of b
   of_one b = ap form.pixel_of (let e : value_of_bytes (b ∷ []) / 2 ^ 0 ≡ b = omega arith in e)
 
+  groups_of_bytes : (bytes : List ℕ) → map form.pixel_of bytes ≡ map pixel_of_bytes (cut_rows 1 (length bytes) bytes)
+  groups_of_bytes [] = refl
+  groups_of_bytes (b ∷ bytes) =
+      let one : pixel_of_bytes (b ∷ []) ≡ form.pixel_of b =
+      ap form.pixel_of (let e : value_of_bytes (b ∷ []) ≡ b = omega arith in e) in
+      rw one (ap (λ rest. form.pixel_of b ∷ rest) (groups_of_bytes bytes))
+
   groups_by_turns : (us vs : List ℕ) → length vs ≡ length us
       → interleaved (map pixel_of_bytes (cut_rows 1 (length us) us)) (map pixel_of_bytes (cut_rows 1 (length us) vs))
       ≡ map pixel_of_group (cut_rows 1 (2 * length us) (interleaved us vs))
@@ -59,6 +66,10 @@ module _ {T : Type 0} (form : PixelForm T) (byte : form.size ≡ 1) where
       → interleaved (pixels_of_bytes form (length us) us) (pixels_of_bytes form (length us) vs)
       ≡ shown_pixels form 0 (2 * length us) (interleaved us vs)
   pixels_by_turns_of_bytes us vs same = rw byte (groups_by_turns form us vs same)
+
+  -- pixels of one byte each
+  pub pixels_of_each : (bytes : List ℕ) → map form.pixel_of bytes ≡ pixels_of_bytes form (length bytes) bytes
+  pixels_of_each bytes = rw byte (groups_of_bytes form bytes)
 
   -- the pixels of values are those that have them
   pub values_come_back : ((p : T) → form.pixel_of (form.value p) ≡ p) → (xs : List T)

@@ -74,6 +74,18 @@ fn decode_block<T: Pixel>(first: &mut [T], second: &mut [T], bytes: &[u8])
     let pairs = u16x16::from_le_bytes(u8x32::from_slice(bytes));
     let low = (pairs & u16x16::splat(255)).cast::<u8>().to_array();
     let high = (pairs >> 8).cast::<u8>().to_array();
-    T::decode_row(first, &low);
-    T::decode_row(second, &high);
+    write_pixels(&low, first);
+    write_pixels(&high, second);
+}
+
+/// Writes the pixels of bytes. A copy of these bytes would test first whether the two overlap.
+#[inline(always)]
+fn write_pixels<T: Pixel>(bytes: &[u8], row: &mut [T])
+    requires byte { T.BYTES ≡ 1 }
+    requires long { length bytes.now ≡ length row.old }
+    ensures { row.new ≡ map T.form.pixel_of bytes.now }
+{
+    for i in 0..row.len() {
+        row[i] = T::from_value(u16::from(bytes[i]));
+    }
 }
