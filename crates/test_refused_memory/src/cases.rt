@@ -40,6 +40,7 @@ pub enum Case {
     ReadFrameOfBytes,
     ReadHeader,
     ReadHeaderThatIsRefused,
+    ReadLaxHeader,
     WriteHeader,
     ReadFrameOfAStream,
     Replay,
@@ -65,7 +66,7 @@ pub enum Case {
 }
 
 /// The cases by their names.
-static CASES: [(&str, Case); 34] = [
+static CASES: [(&str, Case); 35] = [
     ("build", Case::Build),
     ("new_uninit", Case::NewUninit),
     ("assume_init", Case::AssumeInit),
@@ -81,6 +82,7 @@ static CASES: [(&str, Case); 34] = [
     ("read_frame_of_bytes", Case::ReadFrameOfBytes),
     ("read_header", Case::ReadHeader),
     ("read_header_that_is_refused", Case::ReadHeaderThatIsRefused),
+    ("read_lax_header", Case::ReadLaxHeader),
     ("write_header", Case::WriteHeader),
     ("read_frame_of_a_stream", Case::ReadFrameOfAStream),
     ("replay", Case::Replay),
@@ -141,6 +143,7 @@ fn seen_of_a_call(alloc: Global, case: Case) -> Outcome {
         Case::ReadFrameOfBytes => planar::read_a_frame_of_bytes(alloc),
         Case::ReadHeader => streams::read_a_header(alloc),
         Case::ReadHeaderThatIsRefused => streams::read_a_header_that_is_refused(alloc),
+        Case::ReadLaxHeader => streams::read_a_lax_header(alloc),
         Case::WriteHeader => streams::write_a_header(alloc),
         Case::ReplayOfTwoRowWrites => row_writes::replay_of_two_row_writes(alloc),
         Case::ReplayOfReadsAndACopy => reads::replay_of_reads_and_a_copy(alloc),

@@ -8,25 +8,33 @@ use Rattle.v_frame_y4m.specs.Header.{of_letter, pieces, IsHeader, IsPiece, IsWri
 use Rattle.v_frame_y4m.specs.Streams.{IsLine}
 use Rattle.v_frame_y4m.specs.declared.header.StreamHeader.{StreamHeader}
 
--- a byte of a piece of a line
-abbrev pub IsClean : ℕ → Type 0
-IsClean x = (x ≢ 10) × (nat_eq x 32 ≡ false)
+-- a byte of a piece of a line that has such bytes
+abbrev pub InPiece : (ℕ → Type 0) → ℕ → Type 0
+InPiece P x = P x × (nat_eq x 32 ≡ false)
+
+module _ (P : ℕ → Type 0) where
+  onto : (x : ℕ) → P x → (b : Bool) → nat_eq x 32 ≡ b → (parts : List (List ℕ))
+      → AllByRecursion (AllByRecursion (InPiece P)) parts
+      → AllByRecursion (AllByRecursion (InPiece P)) (cond b ([] ∷ parts) (onto_first x parts))
+  onto x line true is parts rest = (tt, rest)
+  onto x line false is [] rest = (((line, is), tt), tt)
+  onto x line false is (part ∷ parts) rest = (((line, is), rest.0), rest.1)
+
+  pub clean_pieces : (line : List ℕ) → AllByRecursion P line → AllByRecursion (AllByRecursion (InPiece P)) (pieces line)
+  clean_pieces [] each = (tt, tt)
+  clean_pieces (x ∷ xs) each = onto x each.0 (nat_eq x 32) refl (pieces xs) (clean_pieces xs each.1)
+
+abbrev IsNoFeed : ℕ → Type 0
+IsNoFeed x = x ≢ 10
+
+abbrev IsClean : ℕ → Type 0
+IsClean x = InPiece IsNoFeed x
 
 abbrev pub IsPieceByte : ℕ → Type 0
 IsPieceByte byte = (byte ≢ 32) × (byte ≢ 10)
 
 abbrev pub Clean : List ℕ → Type 0
 Clean text = AllByRecursion IsClean text
-
-onto : (x : ℕ) → x ≢ 10 → (b : Bool) → nat_eq x 32 ≡ b → (parts : List (List ℕ)) → AllByRecursion Clean parts
-    → AllByRecursion Clean (cond b ([] ∷ parts) (onto_first x parts))
-onto x line true is parts rest = (tt, rest)
-onto x line false is [] rest = (((line, is), tt), tt)
-onto x line false is (part ∷ parts) rest = (((line, is), rest.0), rest.1)
-
-clean_pieces : (line : List ℕ) → AllByRecursion (λ x. x ≢ 10) line → AllByRecursion Clean (pieces line)
-clean_pieces [] each = (tt, tt)
-clean_pieces (x ∷ xs) each = onto x each.0 (nat_eq x 32) refl (pieces xs) (clean_pieces xs each.1)
 
 kept : (b : Bool) (x : List ℕ) (xs : List (List ℕ)) → Clean x → AllByRecursion Clean xs → AllByRecursion Clean
     (cond b (x ∷ xs) xs)
@@ -49,7 +57,7 @@ clean_extensions (x ∷ xs) each = (
 pub read_is_writable : (line : List ℕ) (h : StreamHeader) → IsHeader line h → IsLine line → IsWritable h
 read_is_writable line h is ended =
     let parts = subst (AllByRecursion Clean) is.pieces
-    (clean_pieces line (recursion_from_All (λ x. x ≢ 10) line ended)) in
+    (clean_pieces IsNoFeed line (recursion_from_All IsNoFeed line ended)) in
     let extensions = subst (AllByRecursion Clean) is.says.extensions (clean_of_letter 88 is.parameters parts.1) in
     record {
       width = is.size.width.0;

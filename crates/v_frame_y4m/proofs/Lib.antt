@@ -6,6 +6,7 @@ pub mod HeaderFaults
 pub mod HeaderLines
 pub mod HeaderParts
 pub mod HeaderTexts
+pub mod LaxLines
 pub mod Letters
 pub mod NumberTexts
 pub mod WritingStops

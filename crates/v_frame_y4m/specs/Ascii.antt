@@ -6,6 +6,10 @@ use Rattle.std.specs.Char.{is_ascii_graphic}
 abbrev pub line_feed : ℕ
 line_feed = 10
 
+-- what stands before it where a line ends as in CRLF
+abbrev pub carriage_return : ℕ
+carriage_return = 13
+
 -- what stands before each parameter
 abbrev pub space : ℕ
 space = 32
@@ -53,11 +57,12 @@ abbrev pub extension_letter : ℕ
 extension_letter = 88
 
 -- the names are those of the characters
-signs_by_name : codes "\n +09:?"
-    ≡ line_feed ∷ space ∷ plus_sign ∷ digit_zero ∷ digit_nine ∷ colon ∷ question_mark ∷ []
+signs_by_name : codes "\n\r +09:?"
+    ≡ line_feed ∷ carriage_return ∷ space ∷ plus_sign ∷ digit_zero ∷ digit_nine ∷ colon
+    ∷ question_mark ∷ []
 signs_by_name = refl
 
 letters_by_name : codes "WHFIACX"
-    ≡ width_letter ∷ height_letter ∷ rate_letter ∷ interlacing_letter ∷ aspect_letter ∷ colour_letter
-    ∷ extension_letter ∷ []
+    ≡ width_letter ∷ height_letter ∷ rate_letter ∷ interlacing_letter ∷ aspect_letter
+    ∷ colour_letter ∷ extension_letter ∷ []
 letters_by_name = refl

@@ -74,5 +74,7 @@ module _ (parameters : List (List ℕ)) where
 abbrev pub IsRefusedFor : List ℕ → HeaderError → Type 0
 IsRefusedFor line error =
     (error ≡ OutOfMemory)
-    ⊎ (((error ≡ NotAStream) × ((parameters : List (List ℕ)) → pieces line ≢ signature ∷ parameters))
-    ⊎ ((parameters : List (List ℕ)) × (pieces line ≡ signature ∷ parameters) × HasFault parameters error))
+    ⊎ (((error ≡ NotAStream)
+    × ((parameters : List (List ℕ)) → pieces line ≢ signature ∷ parameters))
+    ⊎ ((parameters : List (List ℕ)) × (pieces line ≡ signature ∷ parameters)
+    × HasFault parameters error))

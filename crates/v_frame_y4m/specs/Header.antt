@@ -57,7 +57,8 @@ letters = codes "WHFIACX"
 pub record Says (parameters : List (List ℕ)) (h : StreamHeader) : Type 0 where
   pub width : of_letter width_letter parameters ≡ (width_letter ∷ decimal h.width) ∷ []
   pub height : of_letter height_letter parameters ≡ (height_letter ∷ decimal h.height) ∷ []
-  pub frame_rate : of_letter rate_letter parameters ≡ parameter_of rate_letter ratio_text h.frame_rate
+  pub frame_rate : of_letter rate_letter parameters
+      ≡ parameter_of rate_letter ratio_text h.frame_rate
   pub interlacing : of_letter interlacing_letter parameters
       ≡ parameter_of interlacing_letter interlacing_text h.interlacing
   pub pixel_aspect : of_letter aspect_letter parameters

@@ -3,5 +3,7 @@ pub mod Colour
 pub mod Faults
 pub mod Frames
 pub mod Header
+pub mod Lax
 pub mod Streams
 pub mod WorkedFrames
+pub mod WorkedLines

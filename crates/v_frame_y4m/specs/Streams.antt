@@ -90,7 +90,8 @@ module _ {R : Type 0} (remaining : R → Option (List ℕ)) (old new : Watched R
   MayStopInBytes n error =
       (fault : PlanarError) × (error ≡ Planar fault)
       × (MayStopReading remaining old new n fault
-      ⊎ ((fault ≡ Truncated n 0) × Took [] × IsAtEnd (remaining new.inner) × (new.failures ≡ old.failures)))
+      ⊎ ((fault ≡ Truncated n 0) × Took [] × IsAtEnd (remaining new.inner)
+      × (new.failures ≡ old.failures)))
 
   -- the error may come at a frame of n planar bytes
   abbrev pub MayStopInFrame : ℕ → Y4mError → Type 0

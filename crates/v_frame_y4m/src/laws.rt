@@ -1,9 +1,12 @@
 //! Laws of headers and their lines. Each is the contract of a function.
-ghost use Rattle.std.specs.Prelude.{ℕ, ◌≡◌, ◌≢◌, List, All, drop, None, Option, Some};
+ghost use Rattle.std.specs.Prelude.{ℕ, ◌≡◌, ◌≢◌, ◌<◌, List, All, drop, None, Option, Some};
 ghost use Rattle.v_frame.specs.Prelude.{ChromaSubsampling as TheFormat};
+ghost use Rattle.v_frame_y4m.specs.Ascii.{carriage_return};
 ghost use Rattle.v_frame_y4m.specs.Colour.{colour_with, depth_of, siting_of, subsampling_of};
 ghost use Rattle.v_frame_y4m.specs.Faults.{IsRefusedFor};
-ghost use Rattle.v_frame_y4m.specs.Header.{header_line as line_of, pieces, HasSize, IsHeader, IsInOrder, IsPiece};
+ghost use Rattle.v_frame_y4m.specs.Header.{header_line as line_of, pieces, HasSize, IsHeader, IsInOrder, IsPiece, IsWritable};
+ghost use Rattle.v_frame_y4m.specs.Lax.{last_byte, strict_line, IsLaxFrameLine};
+ghost use Rattle.v_frame_y4m.specs.Streams.{IsFrameLine};
 ghost use Rattle.v_frame_y4m.specs.declared.colour.ChromaSiting.{ChromaSiting as TheSiting};
 ghost use Rattle.v_frame_y4m.specs.declared.colour.Colour.{Colour as TheColour};
 ghost use Rattle.v_frame_y4m.specs.declared.error.HeaderError.{HeaderError as TheError};
@@ -39,6 +42,36 @@ pub fn written_headers_are_read_back()
         → IsHeader (line_of h) k → k ≡ h }
     ensures unrefused { (h : TheHeader) (error : TheError) → HasSize h → All IsPiece h.extensions
         → IsRefusedFor (line_of h) error → error ≡ HeaderError.OutOfMemory }
+{}
+
+/// A header that has a line still has one where its numbers, its interlacing and its colour are others and no size is 0.
+pub fn changed_headers_are_writable()
+    ensures { (h k : TheHeader) → IsWritable h → k.extensions ≡ h.extensions
+        → 0 < k.width → 0 < k.height → IsWritable k }
+{}
+
+/// A header line that does not end in a carriage return is its own strict line, so each says what it said.
+pub fn header_lines_are_strict()
+    ensures { (line : List ℕ) (h : TheHeader) → IsHeader line h
+        → last_byte line ≢ carriage_return → strict_line line ≡ line }
+{}
+
+/// A strict line is its own strict line, unless it still ends in a carriage return, as where a line ends in two.
+pub fn strict_lines_stay()
+    ensures { (line : List ℕ) → last_byte (strict_line line) ≢ carriage_return
+        → strict_line (strict_line line) ≡ strict_line line }
+{}
+
+/// The line that is written for a header is its own strict line, unless it ends in a carriage return, as its last extension
+/// may.
+pub fn written_lines_are_strict()
+    ensures { (h : TheHeader) → HasSize h → All IsPiece h.extensions
+        → last_byte (line_of h) ≢ carriage_return → strict_line (line_of h) ≡ line_of h }
+{}
+
+/// A line in front of a frame is read as one where lax ones are.
+pub fn frame_lines_are_read_as_lax_ones()
+    ensures { (line : List ℕ) → IsFrameLine line → IsLaxFrameLine line }
 {}
 
 /// A colour that is found for a format, a bit depth and a siting has these three, and where none is found, none has them.

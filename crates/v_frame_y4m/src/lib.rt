@@ -11,6 +11,9 @@
 //! [`read_header`] and then [`read_frame`] until it answers `false` read a stream; [`write_header`] and [`write_frame`]
 //! write one. Between the two stands a [`StreamHeader`], which says by [`StreamHeader::frame`] what frames to read into.
 //!
+//! Lines that lax producers write are read by [`read_lax_header`] and [`read_lax_frame_line`], each as the strict line that
+//! it stands for; `Rattle.v_frame_y4m.specs.Lax` says which. What is written is strict.
+//!
 //! Our own. `Rattle.v_frame_y4m.specs.Header` has the grammar of the header line, and `Rattle.v_frame_y4m.specs.Streams`
 //! what the calls leave.
 #![tactic(auto)]
@@ -20,6 +23,7 @@ mod error;
 mod frames;
 mod header;
 pub mod laws;
+mod lax;
 mod line;
 mod lines;
 mod numbers;
@@ -31,6 +35,9 @@ mod text;
 pub use colour::{ChromaSiting, Colour, Depth};
 pub use error::{HeaderError, Y4mError};
 pub use header::{Interlacing, Ratio, StreamHeader};
+pub use lax::{
+    is_lax_frame_line, parse_lax_header, read_lax_frame_line, read_lax_header, strict_line,
+};
 pub use line::{ended_line, header_line};
 pub use parsing::parse_header;
 pub use streams::{

@@ -10,7 +10,7 @@ use v_frame::frame::Frame;
 use v_frame_planar::{Counted, PlanarError};
 use v_frame_y4m::{
     Colour, Depth, HeaderError, Interlacing, Ratio, StreamHeader, Y4mError, read_frame,
-    read_header, write_header,
+    read_header, read_lax_header, write_header,
 };
 
 /// A header line with all its parameters, in front of a frame's line.
@@ -26,6 +26,25 @@ pub fn read_a_header(alloc: Global) -> Outcome {
             let is_right = says_the_line(&header);
             drop(header);
             Outcome::done(is_after && is_right)
+        }
+        Err(Y4mError::Header(HeaderError::OutOfMemory)) => Outcome::kept(is_after),
+        Err(_) => Outcome::Wrong("another error of the header"),
+    }
+}
+
+/// The same line as a lax producer writes it.
+static LAX: [u8; 57] = *b"YUV4MPEG2 W30  H2 F25 Ip A4:3   C444p16 XAB XC=D \r\nFRAME\n";
+
+/// A header is read that stands for a strict one. Where memory is refused, its line is read and no more, as ever.
+pub fn read_a_lax_header(alloc: Global) -> Outcome {
+    let mut reader = Counted::new(LAX.as_slice());
+    let read = read_lax_header(alloc, &mut reader);
+    let is_after = are(reader.inner(), b"FRAME\n");
+    match read {
+        Ok((header, is_strict)) => {
+            let is_right = says_the_line(&header);
+            drop(header);
+            Outcome::done(is_after && is_right && !is_strict)
         }
         Err(Y4mError::Header(HeaderError::OutOfMemory)) => Outcome::kept(is_after),
         Err(_) => Outcome::Wrong("another error of the header"),
