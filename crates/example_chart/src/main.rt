@@ -47,6 +47,7 @@ fn main(rt: HostRuntime) -> io::Result<()> {
     let chart = Chart {
         title: "Two encodes of one clip",
         unit: "PSNR (dB)",
+        first: 1,
         series: &series,
     };
     write_svg(rt.alloc(), &mut io::writer(&rt), &chart)

@@ -2,6 +2,7 @@
 
 ghost use Rattle.std.specs.Prelude.{◌≡◌, true};
 
+mod charts;
 mod checksums;
 mod compressed;
 mod failures;

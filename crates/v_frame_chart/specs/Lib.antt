@@ -1,4 +1,13 @@
+pub mod Charts
 pub mod Columns
+pub mod Frames
 pub mod Labels
+pub mod Lines
 pub mod Marks
+pub mod Places
+pub mod Room
+pub mod Scales
+pub mod Sending
+pub mod Words
 pub mod WorkedCharts
+pub mod WorkedTexts

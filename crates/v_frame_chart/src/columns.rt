@@ -76,21 +76,21 @@ fn summarized(values: &[f64]) -> Option<Summary>
 }
 
 /// Returns the lesser of two numbers.
-fn lesser_of(x: f64, y: f64) -> f64
+pub(crate) fn lesser_of(x: f64, y: f64) -> f64
     ensures { result ≡ lesser x y }
 {
     if y < x { y } else { x }
 }
 
 /// Returns the greater of two numbers.
-fn greater_of(x: f64, y: f64) -> f64
+pub(crate) fn greater_of(x: f64, y: f64) -> f64
     ensures { result ≡ greater x y }
 {
     if x < y { y } else { x }
 }
 
 /// Returns infinity.
-fn infinity() -> f64
+pub(crate) fn infinity() -> f64
     ensures { result ≡ inf false }
 {
     f64::INFINITY

@@ -1,4 +1,4 @@
-//! Texts of a chart: words with XML's escapes, and numbers.
+//! Words with XML's escapes.
 ghost use Rattle.std.specs.Prelude.{◌≡◌, ◌++◌, OnOk, string_bytes};
 ghost use Rattle.v_frame_chart.specs.Labels.{allowed, escaped, escaped_words};
 
@@ -35,17 +35,4 @@ fn is_allowed(letter: char) -> bool
 {
     let code = u32::from(letter);
     code >= 32 && code != 0xfffe && code != 0xffff || code == 9 || code == 10 || code == 13
-}
-
-/// Appends a number with so many digits after the point, at most 6.
-pub(crate) fn push_number(text: &mut String, number: f64, digits: i32) -> Result<(), AllocError> {
-    match digits {
-        0 => write!(text, "{number:.0}"),
-        1 => write!(text, "{number:.1}"),
-        2 => write!(text, "{number:.2}"),
-        3 => write!(text, "{number:.3}"),
-        4 => write!(text, "{number:.4}"),
-        5 => write!(text, "{number:.5}"),
-        _ => write!(text, "{number:.6}"),
-    }
 }

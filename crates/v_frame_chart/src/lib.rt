@@ -7,9 +7,20 @@
 
 mod axes;
 mod columns;
+mod decimals;
 mod drawing;
+mod fitting;
+mod frames;
+mod grid;
 mod labels;
+mod lines;
 mod marks;
+mod places;
+mod room;
+mod scale;
+mod sending;
+mod ticks;
+mod words;
 
 pub use columns::{Summary, summaries};
 pub use drawing::{Chart, Series, svg, write_svg};

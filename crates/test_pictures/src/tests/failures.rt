@@ -8,10 +8,10 @@ use v_frame_png::{ColourSpace, Compression, PngError, PngWriter, Samples, write_
 
 /// Takes so many bytes, at most five at once, and then fails or takes none.
 #[derive(Drop)]
-struct Failing {
-    taken: Vec<u8>,
-    left: usize,
-    fails: bool,
+pub(super) struct Failing {
+    pub(super) taken: Vec<u8>,
+    pub(super) left: usize,
+    pub(super) fails: bool,
 }
 
 impl Write for Failing {

@@ -1,0 +1,10 @@
+-- The series so far.
+use Rattle.std.proofs.Common.{◌≡◌, ◌++◌, flat_map, take}
+use Rattle.std.specs.List.{enumerate_from}
+use Rattle.std.specs.String.{string_bytes}
+use Rattle.v_frame_chart.specs.Charts.{series_text}
+use Rattle.v_frame_chart.proofs.drawing.push_all_series.Given as goal
+
+abbrev pub invariant-loop-k : goal.invariant-loop-k
+invariant-loop-k l = string_bytes l.text ≡ string_bytes l.fn.text
+    ++ flat_map (series_text l.scale l.span) (enumerate_from 0 (take l.k l.series))

@@ -1,0 +1,9 @@
+-- The lines so far.
+use Rattle.std.proofs.Common.{◌≡◌, ◌++◌, flat_map}
+use Rattle.std.specs.List.{range_with_len}
+use Rattle.std.specs.String.{string_bytes}
+use Rattle.v_frame_chart.specs.Scales.{grid_line}
+use Rattle.v_frame_chart.proofs.grid.push_grid.Given as goal
+
+abbrev pub invariant-loop-k : goal.invariant-loop-k
+invariant-loop-k l = string_bytes l.text ≡ string_bytes l.fn.text ++ flat_map (grid_line l.scale) (range_with_len 0 l.k)

@@ -1,0 +1,8 @@
+-- One more mean.
+use Rattle.std.proofs.Common.{rules}
+use Rattle.v_frame_chart.proofs.Appended.{appended}
+use Rattle.v_frame_chart.specs.Lines.{mean_at}
+use Rattle.v_frame_chart.proofs.lines.push_each_mean.Goals as goal
+
+pub loop-k-preserved : goal.loop-k-preserved
+loop-k-preserved c = appended (mean_at c.args.drawn.now) c.loop-k.k _ _ _ (search rules) c.loop-k.invariant

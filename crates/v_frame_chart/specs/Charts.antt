@@ -1,0 +1,64 @@
+-- The text of a chart.
+use Rattle.std.specs.Prelude.{ℕ, ◌-◌, ◌≡◌, ◌++◌, nat_lt, List, fold, flat_map, length, max, Option}
+use Rattle.std.specs.List.{enumerate_from}
+use Rattle.std.specs.Io.KnownBytes.{Appends}
+use Rattle.v_frame_chart.specs.Columns.{columns_of}
+use Rattle.v_frame_chart.specs.Frames.{across_of, frames_text, IsFrameStep}
+use Rattle.v_frame_chart.specs.Lines.{drawn_text}
+use Rattle.v_frame_chart.specs.Marks.{marks_of}
+use Rattle.v_frame_chart.specs.Room.{HasRoom}
+use Rattle.v_frame_chart.specs.Scales.{down_of, grid_text}
+use Rattle.v_frame_chart.specs.Sending.{AppendsBeginning}
+use Rattle.v_frame_chart.specs.Words.{closing, colour_of, head_text, legend_of}
+use Rattle.v_frame_chart.specs.declared.drawing.Chart.{Chart}
+use Rattle.v_frame_chart.specs.declared.drawing.Series.{Series}
+use Rattle.v_frame_chart.specs.declared.scale.Scale.{Scale}
+
+-- columns of pixels between the sides
+abbrev pub room : ℕ
+room = 848
+
+-- the frames of the longest series
+unfoldable pub frames_of : List Series → ℕ
+frames_of series = fold (λ frames one. max (length one.values.now) frames) 0 series
+
+-- how many frames the axis has behind the first: one at least
+unfoldable pub span_of : List Series → ℕ
+span_of series = max (frames_of series - 1) 1
+
+-- a series in its colour: a mark for each column, with a band where columns have several values
+unfoldable pub series_text : Scale → ℕ → ℕ × Series → List ℕ
+series_text scale span (k, series) =
+    let values = series.values.now in
+    drawn_text (marks_of (across_of span) (down_of scale) (length values) (columns_of values room))
+    (nat_lt room (length values)) (colour_of k)
+
+-- the series in their order, and then their names
+unfoldable pub all_series : Scale → ℕ → List Series → List ℕ
+all_series scale span series =
+    flat_map (series_text scale span) (enumerate_from 0 series)
+
+-- the picture, over these axes
+unfoldable pub chart_text : Chart → Scale → ℕ → List ℕ
+chart_text chart scale step =
+    let series = chart.series.now in
+    let span = span_of series in
+    head_text chart.title.now chart.unit.now
+    ++ (grid_text scale ++ (frames_text chart.first span step
+    ++ (all_series scale span series ++ (legend_of series ++ closing))))
+
+-- a text is the picture of a chart over some axes that have room for it
+pub record IsChart (chart : Chart) (text : List ℕ) : Type 0 where
+  pub scale : Scale
+  pub step : ℕ
+  pub room : HasRoom scale chart.series.now
+  pub steps : IsFrameStep (span_of chart.series.now) step
+  pub drawn : text ≡ chart_text chart scale step
+
+-- the picture of a chart was appended to known bytes, or a beginning of it and not all
+abbrev pub AppendsChart : Option (List ℕ) → Option (List ℕ) → Chart → Type 0
+AppendsChart old new chart = (text : List ℕ) × IsChart chart text × Appends old new text
+
+abbrev pub AppendsPartOfChart : Option (List ℕ) → Option (List ℕ) → Chart → Type 0
+AppendsPartOfChart old new chart =
+    (text : List ℕ) × IsChart chart text × AppendsBeginning old new text

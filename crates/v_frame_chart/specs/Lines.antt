@@ -1,0 +1,80 @@
+-- What is written of a series: a band, a line through the means, and dots.
+use Rattle.std.specs.Prelude.{ℕ, zero, suc, ◌+◌, ◌||◌, if◌then◌else◌, Bool, List, [], ◌++◌, codes, flat_map, is_some, length}
+use Rattle.std.specs.Prelude.{slice_index_or, Option, Some, None}
+use Rattle.std.specs.List.{range_with_len}
+use Rattle.v_frame_chart.specs.Places.{place_text}
+use Rattle.v_frame_chart.specs.declared.marks.Mark.{Mark}
+
+-- the marks beside that of column k: none where it is the first, or the last
+abbrev pub mark_before : List (Option Mark) → ℕ → Option Mark
+mark_before drawn zero = None
+mark_before drawn (suc k) = slice_index_or drawn k None
+
+abbrev pub mark_after : List (Option Mark) → ℕ → Option Mark
+mark_after drawn k = slice_index_or drawn (k + 1) None
+
+abbrev pub path_end : List ℕ
+path_end = codes "\"/>\n"
+
+-- a stroke from the least to the greatest value of a column
+abbrev pub stroke_of : Option Mark → List ℕ
+stroke_of None = []
+stroke_of (Some mark) =
+    codes "M" ++ (place_text mark.x ++ (codes " " ++ (place_text mark.least
+    ++ (codes "V" ++ place_text mark.most))))
+
+-- the band: a stroke for each column
+unfoldable pub band_head : List ℕ → List ℕ
+band_head colour =
+    codes "<path fill=\"none\" stroke=\"" ++ (colour ++ codes "\" stroke-opacity=\"0.3\" d=\"")
+
+unfoldable pub band_text : List (Option Mark) → List ℕ → List ℕ
+band_text drawn colour = band_head colour ++ (flat_map stroke_of drawn ++ path_end)
+
+-- the mean of a column: a line to it from the one before, where that has a value, and else a new
+-- beginning
+abbrev pub mean_part : Option Mark → Bool → List ℕ
+mean_part None joined = []
+mean_part (Some mark) joined =
+    (if joined then codes "L" else codes "M")
+    ++ (place_text mark.x ++ (codes " " ++ place_text mark.mean))
+
+abbrev pub mean_at : List (Option Mark) → ℕ → List ℕ
+mean_at drawn k = mean_part (slice_index_or drawn k None) (is_some (mark_before drawn k))
+
+-- the line through the means
+unfoldable pub means_head : List ℕ → List ℕ
+means_head colour =
+    codes "<path fill=\"none\" stroke=\"" ++ (colour
+    ++ codes "\" stroke-width=\"1.5\" stroke-linecap=\"round\" stroke-linejoin=\"round\" d=\"")
+
+unfoldable pub means_text : List (Option Mark) → List ℕ → List ℕ
+means_text drawn colour =
+    means_head colour ++ (flat_map (mean_at drawn) (range_with_len 0 (length drawn)) ++ path_end)
+
+-- a dot at a mean
+unfoldable pub circle_of : Mark → List ℕ → List ℕ
+circle_of mark colour =
+    codes "<circle cx=\"" ++ (place_text mark.x ++ (codes "\" cy=\"" ++ (place_text mark.mean
+    ++ (codes "\" r=\"2\" fill=\"" ++ (colour ++ path_end)))))
+
+-- a dot for a column with a value, whose neighbours have none
+abbrev pub dot_part : Option Mark → Bool → List ℕ → List ℕ
+dot_part None joined colour = []
+dot_part (Some mark) joined colour =
+    if joined then [] else circle_of mark colour
+
+abbrev pub is_joined : List (Option Mark) → ℕ → Bool
+is_joined drawn k = is_some (mark_before drawn k) || is_some (mark_after drawn k)
+
+abbrev pub dot_at : List (Option Mark) → List ℕ → ℕ → List ℕ
+dot_at drawn colour k = dot_part (slice_index_or drawn k None) (is_joined drawn k) colour
+
+unfoldable pub dots_text : List (Option Mark) → List ℕ → List ℕ
+dots_text drawn colour = flat_map (dot_at drawn colour) (range_with_len 0 (length drawn))
+
+-- all of a series, with a band where its columns have more than one value
+unfoldable pub drawn_text : List (Option Mark) → Bool → List ℕ → List ℕ
+drawn_text drawn banded colour =
+    (if banded then band_text drawn colour else [])
+    ++ (means_text drawn colour ++ dots_text drawn colour)

@@ -1,0 +1,68 @@
+-- What is written besides the lines: the head, the title, the names of the axes, and the legend.
+use Rattle.std.specs.Prelude.{ℕ, ◌%◌, List, [], ◌∷◌, ◌++◌, codes, flat_map, slice_index_or}
+use Rattle.std.specs.List.{enumerate_from}
+use Rattle.v_frame_chart.specs.Labels.{escaped_words}
+use Rattle.v_frame_chart.specs.declared.drawing.Series.{Series}
+
+-- colours that people tell apart who see few: those of Okabe and Ito, without the yellow, which is
+-- pale on white
+abbrev pub colours : List (List ℕ)
+colours =
+    codes "#0072b2" ∷ codes "#d55e00" ∷ codes "#009e73" ∷ codes "#cc79a7" ∷ codes "#e69f00"
+    ∷ codes "#56b4e9" ∷ codes "#000000" ∷ []
+
+-- the colour of series k
+unfoldable pub colour_of : ℕ → List ℕ
+colour_of k = slice_index_or colours (k % 7) []
+
+-- a text with these attributes
+unfoldable pub text_head : List ℕ → List ℕ
+text_head attributes = codes "<text " ++ (attributes ++ codes ">")
+
+unfoldable pub text_end : List ℕ
+text_end = codes "</text>\n"
+
+unfoldable pub text_of : List ℕ → List ℕ → List ℕ
+text_of attributes words = text_head attributes ++ (escaped_words words ++ text_end)
+
+-- the head of the file: 960 by 420 pixels, white
+unfoldable pub opening : List ℕ
+opening =
+    codes "<svg xmlns=\"http://www.w3.org/2000/svg\" width=\"960\" height=\"420\" "
+    ++ (codes "viewBox=\"0 0 960 420\" font-family=\"sans-serif\" font-size=\"12\" "
+    ++ codes "fill=\"#333333\">\n<rect width=\"960\" height=\"420\" fill=\"#ffffff\"/>\n")
+
+unfoldable pub closing : List ℕ
+closing = codes "</svg>\n"
+
+-- the title above, the unit beside the axis of numbers, and a word below that of frames
+unfoldable pub title_of : List ℕ → List ℕ
+title_of title = text_of (codes "x=\"76\" y=\"24\" font-size=\"16\" font-weight=\"bold\"") title
+
+unfoldable pub unit_of : List ℕ → List ℕ
+unit_of unit =
+    text_of (codes "transform=\"translate(22 216) rotate(-90)\" text-anchor=\"middle\"") unit
+
+unfoldable pub frame_word : List ℕ
+frame_word = text_of (codes "x=\"500\" y=\"408\" text-anchor=\"middle\"") (codes "frame")
+
+unfoldable pub head_text : List ℕ → List ℕ → List ℕ
+head_text title unit = opening ++ (title_of title ++ (unit_of unit ++ frame_word))
+
+-- the legend: a sample of the colour of each series, and its name
+unfoldable pub sample_of : List ℕ → List ℕ
+sample_of colour =
+    codes "<tspan dx=\"20\" font-size=\"18\" font-weight=\"bold\" fill=\""
+    ++ (colour ++ codes "\">&#8212;</tspan> <tspan>")
+
+unfoldable pub name_end : List ℕ
+name_end = codes "</tspan>"
+
+unfoldable pub entry_of : ℕ × Series → List ℕ
+entry_of (k, series) =
+    sample_of (colour_of k) ++ (escaped_words series.name.now ++ name_end)
+
+unfoldable pub legend_of : List Series → List ℕ
+legend_of series =
+    text_head (codes "x=\"56\" y=\"50\"")
+    ++ (flat_map entry_of (enumerate_from 0 series) ++ text_end)
