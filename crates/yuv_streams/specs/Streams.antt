@@ -1,10 +1,11 @@
 -- Streams of frames, as bytes: a header line, where the container has one, and the frames.
-use Rattle.std.specs.Prelude.{ℕ, ◌≡◌, ◌+◌, ◌-◌, ◌^◌, ◌≤◌, ◌⊎◌, All, Bool, true, false, List, [], ◌∷◌, ◌++◌, codes, flat_map, length}
+use Rattle.std.specs.Prelude.{ℕ, ◌≡◌, ◌+◌, ◌-◌, ◌^◌, ◌≤◌, ◌⊎◌, ◌↔◌, All, Bool, true, false, List, [], ◌∷◌, ◌++◌, codes, flat_map, length}
 use Rattle.std.specs.Prelude.{min, Option, Some, None}
 use Rattle.std.specs.Io.KnownBytes.{Consumes, IsAtEnd}
 use Rattle.v_frame_y4m.specs.Ascii.{line_feed}
 use Rattle.v_frame_y4m.specs.Header.{header_line, IsHeader}
-use Rattle.v_frame_y4m.specs.Streams.{IsFrameLine, IsLine}
+use Rattle.v_frame_y4m.specs.Lax.{strict_line, IsLaxFrameLine}
+use Rattle.v_frame_y4m.specs.Streams.{IsLine}
 use Rattle.v_frame_y4m.specs.declared.header.StreamHeader.{StreamHeader}
 use Rattle.yuv_streams.specs.declared.stream.Container.{Container}
 use Rattle.yuv_streams.specs.declared.stream.Container.TheVariants.{Y4m, Raw}
@@ -19,9 +20,9 @@ most_frames = 2 ^ 64 - 1
 abbrev pub Framed : Type 0
 Framed = List ℕ × List ℕ
 
--- a line may stand in front of a frame
+-- a line may stand in front of a frame, also a lax one
 abbrev pub HasLine : Container → List ℕ → Type 0
-HasLine Y4m line = IsFrameLine line × IsLine line
+HasLine Y4m line = IsLaxFrameLine line × IsLine line
 HasLine Raw line = line ≡ []
 
 -- the bytes of a frame with its line
@@ -64,15 +65,18 @@ longer_of false true = Some Second
 longer_of _ _ = None
 
 module _ (left left' : Option (List ℕ)) where
-  -- a line that says this header was read, with its line feed
-  abbrev pub ReadsHeaderLine : StreamHeader → Type 0
-  ReadsHeaderLine header =
-      (line : List ℕ) × IsHeader line header × Consumes left left' (line ++ line_feed ∷ [])
+  -- a line was read, with its line feed, that stands for one that says this header, and whether it
+  -- is another one than that
+  abbrev pub ReadsHeaderLine : StreamHeader → Bool → Type 0
+  ReadsHeaderLine header lax =
+      (line : List ℕ) × IsHeader (strict_line line) header
+      × ((lax ≡ false) ↔ (strict_line line ≡ line))
+      × Consumes left left' (line ++ line_feed ∷ [])
 
   -- the line in front of a frame was read, or the stream stood at its end before it
   abbrev pub ReadsLine : Bool → Type 0
   ReadsLine true =
-      (line : List ℕ) × IsFrameLine line × IsLine line
+      (line : List ℕ) × IsLaxFrameLine line × IsLine line
       × Consumes left left' (line ++ line_feed ∷ [])
   ReadsLine false = Consumes left left' [] × IsAtEnd left'
 

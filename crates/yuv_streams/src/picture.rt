@@ -5,11 +5,12 @@ ghost use Rattle.v_frame_planar.specs.Planar.{byte_count, plane_byte_count, size
 ghost use Rattle.v_frame_planar.specs.Video.{chroma_sizes_of};
 ghost use Rattle.v_frame_y4m.specs.Colour.{depth_of, subsampling_of};
 ghost use Rattle.v_frame_y4m.specs.Frames.{pixel_bytes};
-ghost use Rattle.yuv_streams.specs.Conversions.{format_in, format_of};
+ghost use Rattle.yuv_streams.specs.Conversions.{format_in, format_of, sizes_laid_out};
 ghost use Rattle.yuv_streams.specs.Pictures.{sizes_in, table_in, tables_in, tables_in_layout, tables_of_bytes, AreEven, IsEven, IsMadeFor, ReadsTables};
 ghost use Rattle.yuv_streams.specs.Sources.{bytes_left, stream_of, IsAtNextFrame};
 ghost use Rattle.yuv_streams.specs.Streams.{frames_after};
 
+use crate::converting::sizes_are_laid_out;
 use crate::error::{Problem, StreamError};
 use crate::source::Source;
 use std::alloc::Global;
@@ -43,6 +44,7 @@ impl<T: Pixel> Picture<T> {
     ) -> Result<Self, StreamError>
         ensures made { IfOk result (IsMadeFor T.form source.now) }
         ensures sizes { IfOk result (λ picture. sizes_of (tables_of picture.frame) ≡ sizes_in source.now.header) }
+        ensures format { IfOk result (λ picture. format_of picture.frame ≡ format_in source.now.header.colour) }
         ensures small { IfOk result (λ _. source.now.header.width * source.now.header.height ≤ max_pixels) }
         ensures many { IfErr result (λ error. (limit : ℕ) → error.problem ≡ Problem.TooManyPixels limit
             → (limit ≡ max_pixels) × (max_pixels < source.now.header.width * source.now.header.height)) }
@@ -75,8 +77,10 @@ impl<T: Pixel> Picture<T> {
 
     /// Returns the frame that was read last.
     pub fn frame(&self) -> &Frame<T>
-        ensures { result.now ≡ self.now.frame }
+        ensures value { result.now ≡ self.now.frame }
+        ensures laid_out { sizes_of (tables_of self.now.frame) ≡ sizes_laid_out self.now.frame }
     {
+        sizes_are_laid_out(&self.frame);
         &self.frame
     }
 
@@ -104,6 +108,7 @@ impl<T: Pixel> Picture<T> {
         ensures same { stream_of source.new ≡ stream_of source.old }
         ensures made { IsMadeFor T.form source.new self.new }
         ensures sizes { sizes_of (tables_of self.new.frame) ≡ sizes_of (tables_of self.old.frame) }
+        ensures format { format_of self.new.frame ≡ format_of self.old.frame }
         ensures frames { IfOk result (λ more. source.new.frames ≡ frames_after source.old.frames more) }
     {
         if !source.begin_frame(self.bytes.as_mut_slice())? {
@@ -163,6 +168,7 @@ fn show_frame<T: Pixel>(
     ensures shown { OnOk result (tables_of frame.new
         ≡ tables_of_bytes T.form layout (sizes_of (tables_of frame.old)) bytes.now) }
     ensures sizes { sizes_of (tables_of frame.new) ≡ sizes_of (tables_of frame.old) }
+    ensures format { format_of frame.new ≡ format_of frame.old }
 {
     match layout {
         Some(layout) => show_layout(alloc, frame, bytes, layout),
@@ -184,6 +190,7 @@ fn show_layout<T: Pixel>(
     ensures shown { OnOk result (tables_of frame.new
         ≡ tables_in_layout T.form layout (sizes_of (tables_of frame.old)) bytes.now) }
     ensures sizes { sizes_of (tables_of frame.new) ≡ sizes_of (tables_of frame.old) }
+    ensures format { format_of frame.new ≡ format_of frame.old }
 {
     let mut reader = Counted::new(bytes);
     match read_frame(alloc, &mut reader, frame, layout) {
@@ -233,6 +240,7 @@ pub(crate) fn show_bytes<T: Pixel>(frame: &mut Frame<T>, bytes: &[u8])
     ensures shown { tables_of frame.new
         ≡ tables_in T.form (sizes_of (tables_of frame.old)) bytes.now }
     ensures sizes { sizes_of (tables_of frame.new) ≡ sizes_of (tables_of frame.old) }
+    ensures format { format_of frame.new ≡ format_of frame.old }
 {
     let behind_y = show_plane(&mut frame.y_plane, bytes);
     let behind_u = show_chroma(&mut frame.u_plane, behind_y);

@@ -13,7 +13,7 @@ use std::io;
 use std::io::BufReader;
 use v_frame_planar::{Counted, PlanarError, read_until_full};
 use v_frame_semi_planar::SemiPlanarFormat;
-use v_frame_y4m::{StreamHeader, Y4mError, read_frame_line, read_header};
+use v_frame_y4m::{StreamHeader, Y4mError, read_lax_frame_line, read_lax_header};
 
 /// A stream that is read, of which the header is known.
 #[derive(Drop)]
@@ -24,6 +24,7 @@ pub struct Source<R> {
     layout: Option<SemiPlanarFormat>,
     frame_len: usize,
     frames: u64,
+    is_lax: bool,
     reader: Counted<BufReader<R>>,
     ghost sized: { frame_len ≡ frame_byte_count header },
     ghost some: { 0 < frame_len },
@@ -31,29 +32,31 @@ pub struct Source<R> {
 }
 
 impl<R: io::Read> Source<R> {
-    ghost use Rattle.std.specs.Prelude.{◌≡◌, ◌+◌, ◌≤◌, ◌<◌, [], true, length, take, IfErr, IfOk, MatchBool, OnOk};
+    ghost use Rattle.std.specs.Prelude.{◌≡◌, ◌+◌, ◌≤◌, ◌<◌, [], false, true, length, take, IfErr, IfOk, MatchBool, OnOk};
     ghost use Rattle.std.specs.Io.KnownBytes.{Consumes, IsAtEnd};
     ghost use Rattle.v_frame_planar.specs.declared.error.PlanarError.TheVariants.{Truncated};
     ghost use Rattle.v_frame_y4m.specs.declared.error.Y4mError.TheVariants.{Planar};
     ghost use Rattle.yuv_streams.specs.Sources.{bytes_left, stream_of, IsAtNextFrame, IsOpened};
     ghost use Rattle.yuv_streams.specs.Streams.{frames_after, ReadsHeaderLine, ReadsLine, ReadsNext};
 
-    /// Reads the header line of a YUV4MPEG2 stream. Its frames are left to be read.
+    /// Reads the header line of a YUV4MPEG2 stream, or one that stands for it. Its frames are left to be read.
     ///
     /// # Errors
     ///
-    /// [`Problem::Stream`] with the errors of [`read_header`], [`Problem::TooLarge`] where a frame has more than `usize::MAX`
+    /// [`Problem::Stream`] with the errors of [`read_lax_header`], [`Problem::TooLarge`] where a frame has more than `usize::MAX`
     /// bytes, and [`Problem::OutOfMemory`] where a request for memory was refused.
     pub fn y4m(alloc: Global, place: Place, reader: R) -> Result<Self, StreamError>
     where
         R: Drop,
         ensures opened { IfOk result (IsOpened place Container.Y4m) }
         ensures read { IfOk result (λ source. ReadsHeaderLine (R.remaining reader) (bytes_left R.remaining source)
-            source.header) }
+            source.header source.is_lax) }
     {
         let mut reader = buffered(alloc, place, reader)?;
-        match read_header(alloc, &mut reader) {
-            Ok(header) => Source::new(place, Container::Y4m, header, None, reader),
+        match read_lax_header(alloc, &mut reader) {
+            Ok((header, is_strict)) => {
+                Source::new(place, Container::Y4m, header, !is_strict, None, reader)
+            }
             Err(error) => Err(StreamError {
                 place,
                 frames: 0,
@@ -81,6 +84,7 @@ impl<R: io::Read> Source<R> {
         R: Drop,
         ensures opened { IfOk result (IsOpened place Container.Raw) }
         ensures header { IfOk result (λ source. source.header ≡ header) }
+        ensures strict { IfOk result (λ source. source.is_lax ≡ false) }
         ensures layout { IfOk result (λ source. source.layout ≡ layout) }
         ensures holds { OnOk result (HoldsColour layout header.colour) }
         ensures other_layout { ¬ (HoldsColour layout header.colour)
@@ -96,7 +100,7 @@ impl<R: io::Read> Source<R> {
             });
         }
         let reader = buffered(alloc, place, reader)?;
-        Source::new(place, Container::Raw, header, layout, reader)
+        Source::new(place, Container::Raw, header, false, layout, reader)
     }
 
     /// Returns the stream of a reader that stands in front of its first frame.
@@ -104,6 +108,7 @@ impl<R: io::Read> Source<R> {
         place: Place,
         container: Container,
         header: StreamHeader,
+        is_lax: bool,
         layout: Option<SemiPlanarFormat>,
         reader: Counted<BufReader<R>>,
     ) -> Result<Self, StreamError>
@@ -113,6 +118,7 @@ impl<R: io::Read> Source<R> {
         ensures layout { IfOk result (λ source. source.layout ≡ layout) }
         ensures opened { IfOk result (IsOpened place container) }
         ensures header { IfOk result (λ source. source.header ≡ header) }
+        ensures lax { IfOk result (λ source. source.is_lax ≡ is_lax) }
         ensures reader { IfOk result (λ source. source.reader ≡ reader) }
     {
         match header.frame_len() {
@@ -123,6 +129,7 @@ impl<R: io::Read> Source<R> {
                 layout,
                 frame_len,
                 frames: 0,
+                is_lax,
                 reader,
             }),
             _ => Err(StreamError {
@@ -139,6 +146,13 @@ impl<R: io::Read> Source<R> {
         ensures { result.now ≡ self.now.header }
     {
         &self.header
+    }
+
+    /// Returns whether the header line was not strict, but stood for one that is. The lines in front of frames are not told of.
+    pub fn is_lax(&self) -> bool
+        ensures { result ≡ self.now.is_lax }
+    {
+        self.is_lax
     }
 
     /// Returns the semi-planar layout of the frames. `None` where they are planar.
@@ -230,7 +244,7 @@ impl<R: io::Read> Source<R> {
         Ok(())
     }
 
-    /// Reads the line in front of a frame. `false` where the stream stood at its end before it.
+    /// Reads the line in front of a frame, or one that stands for it. `false` where the stream stood at its end before it.
     fn read_line(&mut self) -> Result<bool, StreamError>
         ensures read { IfOk result (ReadsLine (bytes_left R.remaining self.old)
             (bytes_left R.remaining self.new)) }
@@ -238,7 +252,7 @@ impl<R: io::Read> Source<R> {
         ensures same { stream_of self.new ≡ stream_of self.old }
         ensures frames { self.new.frames ≡ self.old.frames }
     {
-        match read_frame_line(&mut self.reader) {
+        match read_lax_frame_line(&mut self.reader) {
             Ok(more) => Ok(more),
             Err(error) => Err(self.stopped(error)),
         }
