@@ -1,4 +1,7 @@
 //! What is reported of two streams that are compared.
+ghost use Rattle.std.specs.Prelude.{◌≡◌, ◌++◌, is_some, string_bytes, MatchBool, OnOk};
+ghost use Rattle.yuv_reports.specs.Sums.{begin_of, comparison_end, end_of_frame, letter_of};
+ghost use Rattle.yuv_reports.specs.Texts.{EndsWith};
 
 use crate::planes::{PlaneSums, PlaneValues};
 use crate::pool::Pool;
@@ -42,7 +45,9 @@ pub enum PlaneName {
 
 impl PlaneName {
     /// Returns the letter of the plane.
-    pub fn text(self) -> &'static str {
+    pub fn text(self) -> &'static str
+        ensures { result.now ≡ letter_of self }
+    {
         match self {
             PlaneName::Y => "Y",
             PlaneName::U => "U",
@@ -102,7 +107,10 @@ pub struct Report {
 
 impl Report {
     /// Returns a report of no frame. With `lists_frames` each frame is reported by itself.
-    pub fn new(form: ReportForm, lists_frames: bool) -> Self {
+    pub fn new(form: ReportForm, lists_frames: bool) -> Self
+        ensures form { result.form ≡ form }
+        ensures lists_frames { result.lists_frames ≡ lists_frames }
+    {
         Report {
             form,
             lists_frames,
@@ -117,7 +125,10 @@ impl Report {
     /// # Errors
     ///
     /// [`AllocError`] where there is no memory for the text.
-    pub fn begin(&self, text: &mut String, measures: &FrameMeasures) -> Result<(), AllocError> {
+    pub fn begin(&self, text: &mut String, measures: &FrameMeasures) -> Result<(), AllocError>
+        ensures { OnOk result (string_bytes text.new ≡ string_bytes text.old
+            ++ begin_of self.now.form (is_some measures.now.ssim) (is_some measures.now.sums)) }
+    {
         match self.form {
             ReportForm::Lines => Ok(()),
             ReportForm::Csv => csv::push_head(text, measures),
@@ -135,23 +146,42 @@ impl Report {
         text: &mut String,
         number: u64,
         measures: &FrameMeasures,
-    ) -> Result<(), AllocError> {
+    ) -> Result<(), AllocError>
+        ensures form { self.new.form ≡ self.old.form }
+        ensures lists_frames { self.new.lists_frames ≡ self.old.lists_frames }
+        ensures said { OnOk result (MatchBool self.old.lists_frames
+            (EndsWith (end_of_frame self.old.form measures.now.sums) (string_bytes text.new))
+            (string_bytes text.new ≡ string_bytes text.old)) }
+    {
         self.psnr.add(number, measures.psnr.all);
         if let Some(ssim) = &measures.ssim {
             self.ssim.add(number, ssim.all);
         }
         if self.lists_frames {
-            match self.form {
-                ReportForm::Lines => lines::push_frame(text, number, measures)?,
-                ReportForm::Csv => csv::push_frame(text, number, measures)?,
-                ReportForm::Json => {
-                    text.push_str(if self.frames == 0 { "\n" } else { ",\n" })?;
-                    json::push_frame(text, number, measures)?;
-                }
-            }
+            self.push_frame(text, number, measures)?;
         }
         self.frames = self.frames.saturating_add(1);
         Ok(())
+    }
+
+    /// Appends a frame.
+    fn push_frame(
+        &self,
+        text: &mut String,
+        number: u64,
+        measures: &FrameMeasures,
+    ) -> Result<(), AllocError>
+        ensures { OnOk result (EndsWith (end_of_frame self.now.form measures.now.sums)
+            (string_bytes text.new)) }
+    {
+        match self.form {
+            ReportForm::Lines => lines::push_frame(text, number, measures),
+            ReportForm::Csv => csv::push_frame(text, number, measures),
+            ReportForm::Json => {
+                text.push_str(if self.frames == 0 { "\n" } else { ",\n" })?;
+                json::push_frame(text, number, measures)
+            }
+        }
     }
 
     /// Appends what is said of all frames.
@@ -159,7 +189,10 @@ impl Report {
     /// # Errors
     ///
     /// [`AllocError`] where there is no memory for the text.
-    pub fn end(&self, text: &mut String, found: &Comparison) -> Result<(), AllocError> {
+    pub fn end(&self, text: &mut String, found: &Comparison) -> Result<(), AllocError>
+        ensures { self.now.form ≡ ReportForm.Lines
+            → OnOk result (EndsWith (comparison_end found.now) (string_bytes text.new)) }
+    {
         match self.form {
             ReportForm::Lines => lines::push_comparison(text, found),
             ReportForm::Csv => csv::push_summary(text, found, &self.psnr, &self.ssim),

@@ -1,20 +1,30 @@
 //! Comma-separated values: a head, a row for each frame, and rows for all of them. What a plane is missing is empty.
+ghost use Rattle.std.specs.Prelude.{◌≡◌, ◌++◌, [], if◌then◌else◌, is_some, string_bytes, OnOk};
+ghost use Rattle.yuv_reports.specs.Sums.{head_row, row_end, sum_cell};
+ghost use Rattle.yuv_reports.specs.Texts.{EndsWith};
 
 use crate::comparison::{Comparison, FrameMeasures};
-use crate::planes::{PlaneValues, push_number, push_value};
+use crate::planes::{PlaneSums, PlaneValues, push_number, push_value};
 use crate::pool::Pool;
 use std::alloc::AllocError;
 
 /// Appends the names of the columns.
-pub fn push_head(text: &mut String, measures: &FrameMeasures) -> Result<(), AllocError> {
+pub fn push_head(text: &mut String, measures: &FrameMeasures) -> Result<(), AllocError>
+    ensures { OnOk result (string_bytes text.new ≡ string_bytes text.old
+        ++ head_row (is_some measures.now.ssim) (is_some measures.now.sums)) }
+{
     text.push_str("frame,mse,mse_y,mse_u,mse_v,psnr,psnr_y,psnr_u,psnr_v")?;
-    if measures.ssim.is_some() {
-        text.push_str(",ssim,ssim_y,ssim_u,ssim_v")?;
-    }
-    if measures.sums.is_some() {
-        text.push_str(",sse_y,sse_u,sse_v")?;
-    }
+    push_where(text, measures.ssim.is_some(), ",ssim,ssim_y,ssim_u,ssim_v")?;
+    push_where(text, measures.sums.is_some(), ",sse_y,sse_u,sse_v")?;
     text.push('\n')
+}
+
+/// Appends a text where a condition holds.
+fn push_where(text: &mut String, holds: bool, part: &str) -> Result<(), AllocError>
+    ensures { OnOk result (string_bytes text.new
+        ≡ string_bytes text.old ++ (if holds then part.now else [])) }
+{
+    if holds { text.push_str(part) } else { Ok(()) }
 }
 
 /// Appends the row of a frame.
@@ -22,27 +32,46 @@ pub fn push_frame(
     text: &mut String,
     number: u64,
     measures: &FrameMeasures,
-) -> Result<(), AllocError> {
+) -> Result<(), AllocError>
+    ensures { OnOk result (EndsWith (row_end measures.now.sums) (string_bytes text.new)) }
+{
     write!(text, "{number}")?;
     push_measures(text, measures)
 }
 
 /// Appends the measures of a row, each after a comma.
-fn push_measures(text: &mut String, measures: &FrameMeasures) -> Result<(), AllocError> {
+fn push_measures(text: &mut String, measures: &FrameMeasures) -> Result<(), AllocError>
+    ensures { OnOk result (EndsWith (row_end measures.now.sums) (string_bytes text.new)) }
+{
     push_values(text, &measures.mse)?;
     push_values(text, &measures.psnr)?;
     if let Some(ssim) = &measures.ssim {
         push_values(text, ssim)?;
     }
-    if let Some(sums) = &measures.sums {
-        for sum in sums.in_order() {
-            match sum {
-                Some(sum) => push_number(text, ",", sum, "")?,
-                None => text.push(',')?,
-            }
-        }
-    }
+    end_row(text, &measures.sums)
+}
+
+/// Appends the sums of a row, where they are reported, and ends it.
+fn end_row(text: &mut String, sums: &Option<PlaneSums>) -> Result<(), AllocError>
+    ensures { OnOk result (string_bytes text.new ≡ string_bytes text.old ++ row_end sums.now) }
+{
+    let Some(sums) = sums else {
+        return text.push('\n');
+    };
+    push_sum_cell(text, Some(sums.y))?;
+    push_sum_cell(text, sums.u)?;
+    push_sum_cell(text, sums.v)?;
     text.push('\n')
+}
+
+/// Appends a comma, and a sum where there is one.
+fn push_sum_cell(text: &mut String, sum: Option<u128>) -> Result<(), AllocError>
+    ensures { OnOk result (string_bytes text.new ≡ string_bytes text.old ++ sum_cell sum) }
+{
+    match sum {
+        Some(sum) => push_number(text, ",", sum, ""),
+        None => text.push(','),
+    }
 }
 
 /// Appends the four values of a measure, each after a comma.

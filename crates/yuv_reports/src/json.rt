@@ -1,21 +1,25 @@
 //! One JSON object: a list of frames, and a summary. JSON has no infinity: a ratio that is infinite is `null`.
+ghost use Rattle.std.specs.Prelude.{◌≡◌, ◌++◌, codes, string_bytes, OnOk};
+ghost use Rattle.yuv_reports.specs.Sums.{members_end};
+ghost use Rattle.yuv_reports.specs.Texts.{EndsWith};
 
 use crate::comparison::{Comparison, FrameMeasures, Longer, SampleDifference};
-use crate::planes::{PlaneSums, PlaneValues, push_number, push_value};
+use crate::planes::{PlaneSums, PlaneValues, push_number, push_sum, push_value};
 use crate::pool::Pool;
 use std::alloc::AllocError;
 
 /// The keys of the values of a measure, with what stands before them.
 const KEYS: [&str; 4] = ["{\"all\": ", ", \"y\": ", ", \"u\": ", ", \"v\": "];
 
-const SUM_KEYS: [&str; 3] = ["{\"y\": ", ", \"u\": ", ", \"v\": "];
-
 /// Appends the object of a frame, without the comma or the line feed after it.
 pub fn push_frame(
     text: &mut String,
     number: u64,
     measures: &FrameMeasures,
-) -> Result<(), AllocError> {
+) -> Result<(), AllocError>
+    ensures { OnOk result (EndsWith (members_end measures.now.sums ++ codes "}")
+        (string_bytes text.new)) }
+{
     write!(text, "    {{\"frame\": {number}, ")?;
     push_measures(text, ", ", measures)?;
     text.push('}')
@@ -26,7 +30,9 @@ fn push_measures(
     text: &mut String,
     between: &str,
     measures: &FrameMeasures,
-) -> Result<(), AllocError> {
+) -> Result<(), AllocError>
+    ensures { OnOk result (EndsWith (members_end measures.now.sums) (string_bytes text.new)) }
+{
     text.push_str("\"mse\": ")?;
     push_values(text, &measures.mse)?;
     text.push_str(between)?;
@@ -37,12 +43,7 @@ fn push_measures(
         text.push_str("\"ssim\": ")?;
         push_values(text, ssim)?;
     }
-    if let Some(sums) = &measures.sums {
-        text.push_str(between)?;
-        text.push_str("\"squared_errors\": ")?;
-        push_sums(text, sums)?;
-    }
-    Ok(())
+    push_sums(text, between, &measures.sums)
 }
 
 /// Appends the object of a measure.
@@ -66,14 +67,17 @@ fn push_finite(text: &mut String, value: f64) -> Result<(), AllocError> {
     }
 }
 
-/// Appends the object of the sums.
-fn push_sums(text: &mut String, sums: &PlaneSums) -> Result<(), AllocError> {
-    let sums = sums.in_order();
-    for place in 0..3 {
-        if let Some(sum) = sums[place] {
-            push_number(text, SUM_KEYS[place], sum, "")?;
-        }
-    }
+/// Appends the object of the sums after a text, where they are reported.
+fn push_sums(text: &mut String, between: &str, sums: &Option<PlaneSums>) -> Result<(), AllocError>
+    ensures { OnOk result (EndsWith (members_end sums.now) (string_bytes text.new)) }
+{
+    let Some(sums) = sums else {
+        return Ok(());
+    };
+    text.push_str(between)?;
+    push_number(text, "\"squared_errors\": {\"y\": ", sums.y, "")?;
+    push_sum(text, ", \"u\": ", sums.u)?;
+    push_sum(text, ", \"v\": ", sums.v)?;
     text.push('}')
 }
 

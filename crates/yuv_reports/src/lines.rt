@@ -1,7 +1,10 @@
 //! Lines for people.
+ghost use Rattle.std.specs.Prelude.{◌≡◌, ◌++◌, codes, string_bytes, OnOk};
+ghost use Rattle.yuv_reports.specs.Sums.{comparison_end, difference_line, frame_end, longer_line, sums_after, sums_line};
+ghost use Rattle.yuv_reports.specs.Texts.{EndsWith};
 
 use crate::comparison::{Comparison, FrameMeasures, Longer, SampleDifference};
-use crate::planes::{PlaneSums, PlaneValues, push_number};
+use crate::planes::{PlaneSums, PlaneValues, push_sum};
 use std::alloc::AllocError;
 
 /// What all planes and each of them are called in the line of a frame, and in a line of all frames.
@@ -14,16 +17,27 @@ pub fn push_frame(
     text: &mut String,
     number: u64,
     measures: &FrameMeasures,
-) -> Result<(), AllocError> {
+) -> Result<(), AllocError>
+    ensures { OnOk result (EndsWith (frame_end measures.now.sums) (string_bytes text.new)) }
+{
     write!(text, "n:{number}")?;
     push_hundredths(text, "mse", &measures.mse)?;
     push_hundredths(text, "psnr", &measures.psnr)?;
     if let Some(ssim) = &measures.ssim {
         push_similarities(text, ssim)?;
     }
-    if let Some(sums) = &measures.sums {
-        push_sums(text, [" sse_y:", " sse_u:", " sse_v:"], sums)?;
-    }
+    end_frame(text, &measures.sums)
+}
+
+/// Appends the end of the line of a frame.
+fn end_frame(text: &mut String, sums: &Option<PlaneSums>) -> Result<(), AllocError>
+    ensures { OnOk result (string_bytes text.new
+        ≡ string_bytes text.old ++ frame_end sums.now) }
+{
+    let Some(sums) = sums else {
+        return text.push('\n');
+    };
+    push_sums(text, " sse_y:", " sse_u:", " sse_v:", sums)?;
     text.push('\n')
 }
 
@@ -56,31 +70,54 @@ fn push_similarities(text: &mut String, ssim: &PlaneValues) -> Result<(), AllocE
 }
 
 /// Appends sums, each after its text.
-fn push_sums(text: &mut String, before: [&str; 3], sums: &PlaneSums) -> Result<(), AllocError> {
-    let sums = sums.in_order();
-    for place in 0..3 {
-        if let Some(sum) = sums[place] {
-            push_number(text, before[place], sum, "")?;
-        }
-    }
-    Ok(())
+fn push_sums(
+    text: &mut String,
+    y: &str,
+    u: &str,
+    v: &str,
+    sums: &PlaneSums,
+) -> Result<(), AllocError>
+    ensures { OnOk result (string_bytes text.new
+        ≡ string_bytes text.old ++ sums_after y.now u.now v.now sums.now) }
+{
+    push_sum(text, y, Some(sums.y))?;
+    push_sum(text, u, sums.u)?;
+    push_sum(text, v, sums.v)
 }
 
 /// Appends what is said of all frames: a line for all planes and one for each, and what else was found.
-pub fn push_comparison(text: &mut String, found: &Comparison) -> Result<(), AllocError> {
+pub fn push_comparison(text: &mut String, found: &Comparison) -> Result<(), AllocError>
+    ensures { OnOk result (EndsWith (comparison_end found.now) (string_bytes text.new)) }
+{
     let frames = found.frames;
     writeln!(text, "frames: {frames}")?;
     push_planes(text, &found.measures.mse, &found.measures.psnr)?;
     if let Some(ssim) = &found.measures.ssim {
         push_ssim(text, ssim)?;
     }
-    if let Some(sums) = &found.measures.sums {
-        text.push_str("squared errors:")?;
-        push_sums(text, [" Y ", ", U ", ", V "], sums)?;
-        text.push('\n')?;
-    }
+    push_sums_line(text, &found.measures.sums)?;
     push_difference(text, &found.difference)?;
-    text.push_str(match found.longer {
+    push_longer(text, found.longer)
+}
+
+/// Appends the line of the sums, where they are reported.
+fn push_sums_line(text: &mut String, sums: &Option<PlaneSums>) -> Result<(), AllocError>
+    ensures { OnOk result (string_bytes text.new
+        ≡ string_bytes text.old ++ sums_line sums.now) }
+{
+    let Some(sums) = sums else {
+        return Ok(());
+    };
+    text.push_str("squared errors:")?;
+    push_sums(text, " Y ", ", U ", ", V ", sums)?;
+    text.push('\n')
+}
+
+/// Appends the line that says which stream has more frames, where one has.
+fn push_longer(text: &mut String, longer: Option<Longer>) -> Result<(), AllocError>
+    ensures { OnOk result (string_bytes text.new ≡ string_bytes text.old ++ longer_line longer) }
+{
+    text.push_str(match longer {
         Some(Longer::First) => "length: the first stream has more frames\n",
         Some(Longer::Second) => "length: the second stream has more frames\n",
         None => "",
@@ -117,7 +154,10 @@ fn push_ssim(text: &mut String, ssim: &PlaneValues) -> Result<(), AllocError> {
 fn push_difference(
     text: &mut String,
     difference: &Option<SampleDifference>,
-) -> Result<(), AllocError> {
+) -> Result<(), AllocError>
+    ensures { OnOk result (string_bytes text.new
+        ≡ string_bytes text.old ++ difference_line difference.now) }
+{
     let Some(found) = difference else {
         return text.push_str("first difference: none\n");
     };

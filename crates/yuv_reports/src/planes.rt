@@ -1,4 +1,6 @@
 //! Numbers that belong to the planes of a frame.
+ghost use Rattle.std.specs.Prelude.{◌≡◌, ◌++◌, decimal, string_bytes, OnOk};
+ghost use Rattle.yuv_reports.specs.Sums.{number_after};
 
 use std::alloc::AllocError;
 
@@ -33,21 +35,28 @@ impl PlaneValues {
     }
 }
 
-impl PlaneSums {
-    /// Returns the numbers in the order of the planes: Y, U, V.
-    pub fn in_order(&self) -> [Option<u128>; 3] {
-        [Some(self.y), self.u, self.v]
-    }
-}
-
 /// Appends a number between two texts.
 pub(crate) fn push_number(
     text: &mut String,
     before: &str,
     number: u128,
     after: &str,
-) -> Result<(), AllocError> {
+) -> Result<(), AllocError>
+    ensures { OnOk result (string_bytes text.new
+        ≡ string_bytes text.old ++ (before.now ++ (decimal number ++ after.now))) }
+{
     write!(text, "{before}{number}{after}")
+}
+
+/// Appends a sum after a text, where there is one.
+pub(crate) fn push_sum(text: &mut String, before: &str, sum: Option<u128>) -> Result<(), AllocError>
+    ensures { OnOk result (string_bytes text.new
+        ≡ string_bytes text.old ++ number_after before.now sum) }
+{
+    match sum {
+        Some(sum) => write!(text, "{before}{sum}"),
+        None => Ok(()),
+    }
 }
 
 /// Appends a measure between two texts, with all its digits.

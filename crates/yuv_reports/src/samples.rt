@@ -1,4 +1,6 @@
 //! What is reported of the samples of one stream: statistics, histograms and checksums.
+ghost use Rattle.std.specs.Prelude.{◌≡◌, ◌++◌, string_bytes, OnOk};
+ghost use Rattle.yuv_reports.specs.Histograms.{histogram_row, histogram_rows};
 
 use crate::comparison::PlaneName;
 use crate::planes::push_number;
@@ -44,19 +46,26 @@ pub fn push_statistics(text: &mut String, found: &SampleStatistics) -> Result<()
 /// # Errors
 ///
 /// [`AllocError`] where there is no memory for the text.
-pub fn push_histogram(
-    text: &mut String,
-    plane: PlaneName,
-    counts: &[u64],
-) -> Result<(), AllocError> {
-    let plane = plane.text();
+pub fn push_histogram(text: &mut String, plane: PlaneName, counts: &[u64]) -> Result<(), AllocError>
+    ensures { OnOk result (string_bytes text.new
+        ≡ string_bytes text.old ++ histogram_rows plane 0 counts.now) }
+{
     for value in 0..counts.len() {
-        let count = counts[value];
-        if count > 0 {
-            writeln!(text, "{plane},{value},{count}")?;
-        }
+        push_row(text, plane, value, counts[value])?;
     }
     Ok(())
+}
+
+/// Appends the row of a value, where it occurs.
+fn push_row(text: &mut String, plane: PlaneName, value: usize, count: u64) -> Result<(), AllocError>
+    ensures { OnOk result (string_bytes text.new
+        ≡ string_bytes text.old ++ histogram_row plane value count) }
+{
+    if count == 0 {
+        return Ok(());
+    }
+    let plane = plane.text();
+    writeln!(text, "{plane},{value},{count}")
 }
 
 /// The CRC-32 of a frame's bytes, or of those of each plane.

@@ -1,0 +1,3 @@
+pub mod Histograms
+pub mod Sums
+pub mod Texts
