@@ -1,0 +1,3 @@
+mod Differing
+mod Reporting
+mod Showing

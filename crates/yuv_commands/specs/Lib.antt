@@ -1,4 +1,11 @@
 pub mod Checksums
+pub mod Differences
+pub mod FrameReports
+pub mod Info
 pub mod Messages
 pub mod Options
+pub mod ProgressLines
+pub mod Reports
 pub mod Run
+pub mod Shows
+pub mod Values

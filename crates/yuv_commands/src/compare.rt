@@ -1,9 +1,10 @@
 //! The command `compare`: how far two streams are apart.
-ghost use Rattle.std.specs.Prelude.{◌≡◌, ◌≢◌, ◌↔◌, ◌⊎◌, IfOk, IsNone, IsTrue, OnOk};
+ghost use Rattle.std.specs.Prelude.{◌≡◌, ◌≢◌, ◌↔◌, ◌⊎◌, is_some, IfOk, IsNone, IsTrue, OnOk};
 ghost use Rattle.v_frame.specs.Prelude.{one_byte, two_bytes};
 ghost use Rattle.v_frame_y4m.specs.Colour.{depth_of};
 ghost use Rattle.yuv_commands.specs.Options.{comparison_of};
-ghost use Rattle.yuv_streams.specs.Prelude.{bytes_left, sizes_in, stream_of, ComparesFrom, HaveOneFormat};
+ghost use Rattle.yuv_commands.specs.Reports.{form_of_words, report_end, EndsKnown};
+ghost use Rattle.yuv_streams.specs.Prelude.{bytes_left, sizes_in, stream_of, ComparesFrom, HaveOneFormat, WatchesFrom};
 ghost use Rattle.yuv_streams.specs.Sums.{pixels_of_sizes};
 
 use crate::fault::Fault;
@@ -41,29 +42,69 @@ where
     let alloc = system.rt.alloc();
     let mut file = open_file(system.rt, first, Place::First, &mut system.input)?;
     let len = file.len();
-    let mut one = begin(alloc, &mut file, options.raw)?;
+    let mut one = begin(system, first, &mut file, options.raw)?;
     let mut other_file = open_file(system.rt, second, Place::Second, &mut system.input)?;
-    let mut other = begin(alloc, &mut other_file, options.raw_second)?;
-    let scale = Scale {
-        pixels: samples_of(one.header()),
-        bit_depth: one.header().colour.bit_depth(),
-        exact: options.exact,
-    };
+    let mut other = begin(system, second, &mut other_file, options.raw_second)?;
     if options.ssim {
         test_windows(one.header())?;
     }
     system.progress.expect(expected_frames(&one, len));
-    let mut report = FrameReport::new(
-        alloc,
-        &mut system.output,
-        Report::new(report_form(options), lists_frames(options)),
-        scale,
-        options.ssim.then_some(Means::new()),
-    );
+    let out = &mut system.output;
     let progress = &mut system.progress;
-    let found = compare_sources(alloc, &mut one, &mut other, options, &mut report, progress)?;
-    report.end(&found)?;
+    let (_out, found) = report_comparison(alloc, &mut one, &mut other, options, out, progress)?;
     Ok(comparison_status(&found))
+}
+
+/// Reports how far two streams are apart, and returns the writer and what was found.
+fn report_comparison<R: io::Read, S: io::Read, W: io::Write + Drop, P: Progress>(
+    alloc: Global,
+    first: &mut Source<R>,
+    second: &mut Source<S>,
+    options: &CompareOptions,
+    out: W,
+    progress: &mut P,
+) -> Result<(W, Comparison), Fault>
+    ensures bytes { depth_of first.old.header.colour ≡ 8 → IfOk result (λ done.
+        ComparesFrom one_byte (sizes_in first.old.header)
+        (stream_of first.old) (stream_of second.old)
+        (bytes_left R.remaining first.old) (bytes_left R.remaining first.new)
+        (bytes_left S.remaining second.old) (bytes_left S.remaining second.new)
+        (comparison_of options.now) done.1) }
+    ensures words { depth_of first.old.header.colour ≢ 8 → IfOk result (λ done.
+        ComparesFrom two_bytes (sizes_in first.old.header)
+        (stream_of first.old) (stream_of second.old)
+        (bytes_left R.remaining first.old) (bytes_left R.remaining first.new)
+        (bytes_left S.remaining second.old) (bytes_left S.remaining second.new)
+        (comparison_of options.now) done.1) }
+    ensures ended { options.now.form ≡ ReportForm.Lines → IfOk result (λ done.
+        EndsKnown (W.contents out) (W.contents done.0) (report_end options.now.exact done.1)) }
+{
+    let report = Report::new(report_form(options), lists_frames(options));
+    let scale = scale_of(first.header(), options);
+    let mut observer = FrameReport::new(alloc, out, report, scale, means_of(options));
+    let found = compare_sources(alloc, first, second, options, &mut observer, progress)?;
+    observer.end(&found)?;
+    Ok((observer.into_out(), found))
+}
+
+/// Returns what the measures of a report are made of besides the errors.
+fn scale_of(header: &StreamHeader, options: &CompareOptions) -> Scale
+    ensures pixels { result.pixels ≡ pixels_of_sizes (sizes_in header.now) }
+    ensures bit_depth { result.bit_depth ≡ depth_of header.now.colour }
+    ensures exact { result.exact ≡ options.now.exact }
+{
+    Scale {
+        pixels: samples_of(header),
+        bit_depth: header.colour.bit_depth(),
+        exact: options.exact,
+    }
+}
+
+/// Returns means of structural similarities, where these are asked for.
+fn means_of(options: &CompareOptions) -> Option<Means>
+    ensures { is_some result ≡ options.now.ssim }
+{
+    options.ssim.then_some(Means::new())
 }
 
 /// Compares two streams as the options say.
@@ -95,6 +136,18 @@ pub fn compare_sources<
         (bytes_left R.remaining first.old) (bytes_left R.remaining first.new)
         (bytes_left S.remaining second.old) (bytes_left S.remaining second.new)
         (comparison_of options.now)) }
+    ensures bytes_taken { depth_of first.old.header.colour ≡ 8 → IfOk result (WatchesFrom one_byte
+        (sizes_in first.old.header) ⟦<O as FrameObserver<u8>>⟧.takes observer.old observer.new
+        (stream_of first.old) (stream_of second.old)
+        (bytes_left R.remaining first.old) (bytes_left R.remaining first.new)
+        (bytes_left S.remaining second.old) (bytes_left S.remaining second.new)
+        (comparison_of options.now)) }
+    ensures words_taken { depth_of first.old.header.colour ≢ 8 → IfOk result (WatchesFrom two_bytes
+        (sizes_in first.old.header) ⟦<O as FrameObserver<u16>>⟧.takes observer.old observer.new
+        (stream_of first.old) (stream_of second.old)
+        (bytes_left R.remaining first.old) (bytes_left R.remaining first.new)
+        (bytes_left S.remaining second.old) (bytes_left S.remaining second.new)
+        (comparison_of options.now)) }
 {
     let taken = stream_comparison(options);
     compare_streams(alloc, first, second, &taken, observer, progress)
@@ -114,7 +167,9 @@ fn comparison_status(found: &Comparison) -> Status
 }
 
 /// Returns the form of the report.
-pub(crate) fn report_form(options: &CompareOptions) -> yuv_reports::ReportForm {
+pub(crate) fn report_form(options: &CompareOptions) -> yuv_reports::ReportForm
+    ensures { result ≡ form_of_words options.now.form }
+{
     match options.form {
         ReportForm::Lines => yuv_reports::ReportForm::Lines,
         ReportForm::Csv => yuv_reports::ReportForm::Csv,

@@ -31,7 +31,7 @@ where
     let rt = system.rt;
     let mut file = open_file(rt, from, Place::First, &mut system.input)?;
     let len = file.len();
-    let mut source = begin(rt.alloc(), &mut file, options.raw)?;
+    let mut source = begin(system, from, &mut file, options.raw)?;
     system.progress.expect(expected_frames(&source, len));
     let mut output = Output::open(rt, to, &mut system.output)?;
     let mut sink = copy_sink(options, &mut output);

@@ -1,6 +1,10 @@
 //! The command `diff`: the difference of two frames as a picture, and where it is.
-ghost use Rattle.std.specs.Prelude.{◌≡◌, unwrap_or};
+ghost use Rattle.std.specs.Prelude.{◌≡◌, ◌≢◌, unwrap_or, IfOk};
+ghost use Rattle.v_frame.specs.Prelude.{one_byte, tables_of, two_bytes};
+ghost use Rattle.v_frame_y4m.specs.Colour.{depth_of};
+ghost use Rattle.yuv_commands.specs.Differences.{DrawsDifference, DrawsFrames, TakesPair};
 ghost use Rattle.yuv_commands.specs.Options.{frame_pair};
+ghost use Rattle.yuv_streams.specs.Prelude.{bytes_left, sizes_in, stream_of};
 
 use crate::fault::Fault;
 use crate::input::{begin, open_file};
@@ -40,11 +44,17 @@ where
 {
     let rt = system.rt;
     let mut file = open_file(rt, first, Place::First, &mut system.input)?;
-    let mut one = begin(rt.alloc(), &mut file, options.raw)?;
+    let mut one = begin(system, first, &mut file, options.raw)?;
     let mut other_file = open_file(rt, second, Place::Second, &mut system.input)?;
-    let mut other = begin(rt.alloc(), &mut other_file, options.raw_second)?;
+    let mut other = begin(system, second, &mut other_file, options.raw_second)?;
     let mut output = Output::open(rt, to, &mut system.output)?;
-    let done = write_difference(rt.alloc(), &mut one, &mut other, options, &mut output);
+    let done = match write_difference(rt.alloc(), &mut one, &mut other, options, &mut output) {
+        Ok(drawn) => {
+            let (_written, found) = drawn;
+            Ok(found)
+        }
+        Err(fault) => Err(fault),
+    };
     let found = output.settle(rt, done)?;
     if to != "-" {
         let text = found_text(rt.alloc(), &found);
@@ -53,25 +63,36 @@ where
     Ok(status_of(&found))
 }
 
-/// Writes the difference of the two frames that the options name.
+/// Writes the difference of the two frames that the options name, and returns the writer and what differs.
 fn write_difference<R: io::Read, S: io::Read, W: io::Write + Drop>(
     alloc: Global,
     first: &mut Source<R>,
     second: &mut Source<S>,
     options: &DiffOptions,
     out: W,
-) -> Result<Found, Fault> {
+) -> Result<(W, Found), Fault>
+    ensures bytes { depth_of first.old.header.colour ≡ 8 → IfOk result (λ drawn.
+        DrawsFrames one_byte W.contents (W.contents out) options.now (sizes_in first.old.header)
+        (stream_of first.old) (stream_of second.old)
+        (bytes_left R.remaining first.old) (bytes_left R.remaining first.new)
+        (bytes_left S.remaining second.old) (bytes_left S.remaining second.new) drawn.0 drawn.1) }
+    ensures words { depth_of first.old.header.colour ≢ 8 → IfOk result (λ drawn.
+        DrawsFrames two_bytes W.contents (W.contents out) options.now (sizes_in first.old.header)
+        (stream_of first.old) (stream_of second.old)
+        (bytes_left R.remaining first.old) (bytes_left R.remaining first.new)
+        (bytes_left S.remaining second.old) (bytes_left S.remaining second.new) drawn.0 drawn.1) }
+{
     let before = frames_before(options.frame)?;
     let taken = frames_taken(options, before);
     let mut picture = DifferencePicture {
         alloc,
         out: Some(out),
         gain: gain_of(options),
-        found: None,
+        drawn: None,
     };
     compare_streams(alloc, first, second, &taken, &mut picture, &mut Silent)?;
-    match picture.found {
-        Some(Ok(found)) => Ok(found),
+    match picture.into_drawn() {
+        Some(Ok(drawn)) => Ok(drawn),
         Some(Err(error)) => Err(Fault::Picture(error)),
         None if first.frames() <= before => Err(Fault::NoFrame(Place::First, first.frames())),
         None => Err(Fault::NoFrame(Place::Second, second.frames())),
@@ -98,27 +119,51 @@ struct DifferencePicture<W> {
     alloc: Global,
     out: Option<W>,
     gain: u16,
-    found: Option<Result<Found, PictureError>>,
+    drawn: Option<Result<(W, Found), PictureError>>,
+}
+
+impl<W: Drop> DifferencePicture<W> {
+    /// Returns what was written, if anything was.
+    fn into_drawn(self) -> Option<Result<(W, Found), PictureError>>
+        ensures { result ≡ self.drawn }
+    {
+        self.drawn
+    }
 }
 
 impl<T: Pixel, W: io::Write + Drop> FrameObserver<T> for DifferencePicture<W> {
+    ghost takes = { λ old new a b _. TakesPair T.form W.contents old.out old new a b };
+
     fn take(
         &mut self,
         first: &Frame<T>,
         second: &Frame<T>,
         _errors: &PlaneSums,
     ) -> Result<(), StreamError> {
-        if !frames_have_one_size(first, second) {
-            return Ok(());
-        }
         if let Some(out) = self.out.take() {
-            let written = write_difference_picture(self.alloc, out, first, second, self.gain);
-            self.found = Some(match written {
-                Ok(_out) => Ok(differences(first, second)),
-                Err(error) => Err(error),
-            });
+            self.drawn = Some(draw_difference(self.alloc, out, first, second, self.gain));
         }
         Ok(())
+    }
+}
+
+/// Writes the difference of two frames, and returns the writer and what differs.
+fn draw_difference<T: Pixel, W: io::Write + Drop>(
+    alloc: Global,
+    out: W,
+    first: &Frame<T>,
+    second: &Frame<T>,
+    gain: u16,
+) -> Result<(W, Found), PictureError>
+    ensures { IfOk result (λ drawn. DrawsDifference T.form W.contents (W.contents out) gain
+        (tables_of first.now) (tables_of second.now) drawn.0 drawn.1) }
+{
+    if !frames_have_one_size(first, second) {
+        return Err(PictureError::Unlike);
+    }
+    match write_difference_picture(alloc, out, first, second, gain) {
+        Ok(out) => Ok((out, differences(first, second))),
+        Err(error) => Err(error),
     }
 }
 

@@ -1,4 +1,13 @@
 //! What is reported of each two frames, while streams are compared.
+ghost use Rattle.std.specs.Prelude.{◌≡◌, None, option_map, string_bytes, IfSome, IsNone, IsSome, IsTrue, OnOk, is_some};
+ghost use Rattle.std.specs.Int.NonZero.{non_zero_u8_get};
+ghost use Rattle.std.specs.Io.KnownBytes.{Appends};
+ghost use Rattle.v_frame.specs.Prelude.{tables_of};
+ghost use Rattle.v_frame_measures.specs.Prelude.{HaveOneSize, HaveWindows};
+ghost use Rattle.yuv_commands.specs.FrameReports.{ReportsFrame, StaysAsked};
+ghost use Rattle.yuv_commands.specs.Reports.{difference_said, longer_said, plane_said, report_end, similarities_of, sums_asked, EndsKnown};
+ghost use Rattle.yuv_reports.specs.Sums.{end_of_frame};
+ghost use Rattle.yuv_reports.specs.Texts.{EndsWith};
 
 use crate::measures::{Means, Scale, reported};
 use crate::report::{no_memory, write_text};
@@ -8,13 +17,13 @@ use v_frame::frame::Frame;
 use v_frame::pixel::Pixel;
 use v_frame_measures::{frame_ssim, frames_have_one_size};
 use v_frame_planar::Counted;
-use yuv_reports::{FrameMeasures, Longer, PlaneName, PlaneValues, Report};
+use yuv_reports::{FrameMeasures, Longer, PlaneName, PlaneValues, Report, ReportForm};
 use yuv_streams::{Comparison, Component, FrameObserver, Place, PlaneSums, StreamError};
 
 /// Reports each two frames that are compared, and all of them at the end.
 #[derive(Drop)]
-pub(crate) struct FrameReport<'a, W> {
-    out: Counted<&'a mut W>,
+pub(crate) struct FrameReport<W> {
+    out: Counted<W>,
     report: Report,
     text: String,
     scale: Scale,
@@ -23,15 +32,20 @@ pub(crate) struct FrameReport<'a, W> {
     is_begun: bool,
 }
 
-impl<'a, W: io::Write> FrameReport<'a, W> {
+impl<W: io::Write> FrameReport<W> {
     /// Returns a report of no frame. Structural similarities are measured where there are means for them.
     pub(crate) fn new(
         alloc: Global,
-        out: &'a mut W,
+        out: W,
         report: Report,
         scale: Scale,
         ssim: Option<Means>,
-    ) -> Self {
+    ) -> Self
+        ensures out { result.out.inner ≡ out }
+        ensures report { result.report ≡ report }
+        ensures scale { result.scale ≡ scale }
+        ensures ssim { result.ssim ≡ ssim }
+    {
         FrameReport {
             out: Counted::new(out),
             report,
@@ -43,8 +57,20 @@ impl<'a, W: io::Write> FrameReport<'a, W> {
         }
     }
 
+    /// Returns the writer back.
+    pub(crate) fn into_out(self) -> W
+        ensures { result ≡ self.out.inner }
+    {
+        self.out.into_inner()
+    }
+
     /// Appends what stands before the first frame, once.
-    fn begin(&mut self) -> Result<(), AllocError> {
+    fn begin(&mut self) -> Result<(), AllocError>
+        ensures out { self.new.out ≡ self.old.out }
+        ensures report { self.new.report ≡ self.old.report }
+        ensures scale { self.new.scale ≡ self.old.scale }
+        ensures ssim { self.new.ssim ≡ self.old.ssim }
+    {
         if self.is_begun {
             return Ok(());
         }
@@ -56,7 +82,12 @@ impl<'a, W: io::Write> FrameReport<'a, W> {
     }
 
     /// Writes what is said of all frames.
-    pub(crate) fn end(&mut self, found: &Comparison) -> Result<(), StreamError> {
+    #[tactic(auto, using(crate::proofs::Reporting::ends_known))]
+    pub(crate) fn end(&mut self, found: &Comparison) -> Result<(), StreamError>
+        ensures { self.old.report.form ≡ ReportForm.Lines
+            → OnOk result (EndsKnown (W.contents self.old.out.inner)
+            (W.contents self.new.out.inner) (report_end self.old.scale.exact found.now)) }
+    {
         match self.push_end(found) {
             Ok(()) => self.write(),
             Err(_) => Err(no_memory()),
@@ -64,7 +95,12 @@ impl<'a, W: io::Write> FrameReport<'a, W> {
     }
 
     /// Appends what is said of all frames.
-    fn push_end(&mut self, found: &Comparison) -> Result<(), AllocError> {
+    fn push_end(&mut self, found: &Comparison) -> Result<(), AllocError>
+        ensures ended { self.old.report.form ≡ ReportForm.Lines
+            → OnOk result (EndsWith (report_end self.old.scale.exact found.now)
+            (string_bytes self.new.text)) }
+        ensures out { self.new.out ≡ self.old.out }
+    {
         self.begin()?;
         let ssim = match &self.ssim {
             Some(means) => means.values(),
@@ -76,25 +112,53 @@ impl<'a, W: io::Write> FrameReport<'a, W> {
     }
 
     /// Appends the next frame.
-    fn push_frame(&mut self, measures: &FrameMeasures) -> Result<(), AllocError> {
+    fn push_frame(&mut self, measures: &FrameMeasures) -> Result<(), AllocError>
+        ensures said { OnOk result (IsTrue self.old.report.lists_frames
+            → EndsWith (end_of_frame self.old.report.form measures.now.sums)
+            (string_bytes self.new.text)) }
+        ensures out { self.new.out ≡ self.old.out }
+        ensures form { self.new.report.form ≡ self.old.report.form }
+        ensures lists_frames { self.new.report.lists_frames ≡ self.old.report.lists_frames }
+        ensures scale { self.new.scale ≡ self.old.scale }
+        ensures ssim { self.new.ssim ≡ self.old.ssim }
+    {
         self.begin()?;
         self.report.frame(&mut self.text, self.frames, measures)
     }
 
     /// Writes the text, and begins a new one.
-    fn write(&mut self) -> Result<(), StreamError> {
+    #[tactic(auto, using(crate::proofs::Reporting::nothing_appended))]
+    fn write(&mut self) -> Result<(), StreamError>
+        ensures written { OnOk result (Appends (W.contents self.old.out.inner)
+            (W.contents self.new.out.inner) (string_bytes self.old.text)) }
+        ensures report { self.new.report ≡ self.old.report }
+        ensures scale { self.new.scale ≡ self.old.scale }
+        ensures ssim { self.new.ssim ≡ self.old.ssim }
+    {
+        if self.text.is_empty() {
+            return Ok(());
+        }
         let written = write_text(&mut self.out, self.text.as_str());
         self.text.clear();
         written
     }
 
     /// Returns the structural similarities of two frames, where they are measured.
-    fn similarities<T: Pixel>(
-        &mut self,
-        first: &Frame<T>,
-        second: &Frame<T>,
-    ) -> Option<PlaneValues> {
-        let means = self.ssim.as_mut()?;
+    fn similarities<T: Pixel>(&mut self, first: &Frame<T>, second: &Frame<T>) -> Option<PlaneValues>
+        ensures unasked { IsNone self.old.ssim → result ≡ None }
+        ensures measured { IfSome result (λ values. values ≡ similarities_of T.form
+            (non_zero_u8_get first.now.bit_depth) (tables_of first.now) (tables_of second.now)) }
+        ensures asked { IsSome self.old.ssim
+            → HaveOneSize (tables_of first.now) (tables_of second.now)
+            → HaveWindows (tables_of first.now) → IsSome result }
+        ensures stays { is_some self.new.ssim ≡ is_some self.old.ssim }
+        ensures out { self.new.out ≡ self.old.out }
+        ensures report { self.new.report ≡ self.old.report }
+        ensures scale { self.new.scale ≡ self.old.scale }
+    {
+        let Some(means) = &mut self.ssim else {
+            return None;
+        };
         if !frames_have_one_size(first, second) {
             return None;
         }
@@ -104,7 +168,9 @@ impl<'a, W: io::Write> FrameReport<'a, W> {
     }
 }
 
-impl<T: Pixel, W: io::Write> FrameObserver<T> for FrameReport<'_, W> {
+impl<T: Pixel, W: io::Write> FrameObserver<T> for FrameReport<W> {
+    ghost takes = { λ old new _ _ errors. ReportsFrame W.contents old new errors };
+
     fn take(
         &mut self,
         first: &Frame<T>,
@@ -115,7 +181,6 @@ impl<T: Pixel, W: io::Write> FrameObserver<T> for FrameReport<'_, W> {
         let ssim = self.similarities(first, second);
         let measures: FrameMeasures = self.scale.measures(errors, 1, ssim);
         match self.push_frame(&measures) {
-            Ok(()) if self.text.is_empty() => Ok(()),
             Ok(()) => self.write(),
             Err(_) => Err(no_memory()),
         }
@@ -133,7 +198,11 @@ fn blank(planes: &PlaneSums) -> PlaneValues {
 }
 
 /// Returns what was found as a report has it.
-fn reported_comparison(found: &Comparison, measures: FrameMeasures) -> yuv_reports::Comparison {
+fn reported_comparison(found: &Comparison, measures: FrameMeasures) -> yuv_reports::Comparison
+    ensures measures { result.measures ≡ measures }
+    ensures difference { result.difference ≡ option_map difference_said found.now.difference }
+    ensures longer { result.longer ≡ option_map longer_said found.now.longer }
+{
     yuv_reports::Comparison {
         frames: found.frames,
         measures,
@@ -157,7 +226,9 @@ fn reported_comparison(found: &Comparison, measures: FrameMeasures) -> yuv_repor
 }
 
 /// Returns the name of a plane.
-fn plane_name(component: Component) -> PlaneName {
+fn plane_name(component: Component) -> PlaneName
+    ensures { result ≡ plane_said component }
+{
     match component {
         Component::Y => PlaneName::Y,
         Component::U => PlaneName::U,

@@ -1,4 +1,7 @@
 //! The command `info`: what a stream is, and how many frames it has.
+ghost use Rattle.std.specs.Prelude.{◌≡◌, false, true, IfOk, IsOk, OnOk};
+ghost use Rattle.yuv_commands.specs.Info.{ReportsFrames};
+ghost use Rattle.yuv_streams.specs.Prelude.{bytes_left};
 
 mod text;
 
@@ -6,14 +9,16 @@ use crate::fault::Fault;
 use crate::input::{begin, expected_frames, open_file};
 use crate::options::{most_pixels, test_pixels};
 use crate::program::Status;
+use crate::progress::ProgressLine;
 use crate::report::write_made;
 use crate::system::System;
+use std::alloc::Global;
 use std::io;
 use std::rt::Files;
 use std::time::Clock;
 use text::{format_text, frames_text};
 use v_frame_planar::Counted;
-use yuv_streams::{Place, skip_frames};
+use yuv_streams::{Place, Source, StreamError, skip_frames};
 use yuv_words::InfoOptions;
 
 /// Reports what a stream is. Where a frame can't be read, what is known so far is reported before the fault.
@@ -31,7 +36,7 @@ where
     let alloc = system.rt.alloc();
     let mut file = open_file(system.rt, name, Place::First, &mut system.input)?;
     let len = file.len();
-    let mut source = begin(alloc, &mut file, options.raw)?;
+    let mut source = begin(system, name, &mut file, options.raw)?;
     if options.max_pixels.is_some() {
         test_pixels(
             source.header(),
@@ -41,13 +46,53 @@ where
     }
     let text = format_text(alloc, source.header(), source.frame_len(), len);
     write_made(&mut Counted::new(&mut system.output), text)?;
-    if options.header {
-        return Ok(Status::Same);
-    }
-    system.progress.expect(expected_frames(&source, len));
-    let counted = skip_frames(&mut source, u64::MAX, &mut system.progress);
-    let text = frames_text(alloc, source.header(), source.frames());
-    write_made(&mut Counted::new(&mut system.output), text)?;
-    counted?;
+    let mut out = Counted::new(&mut system.output);
+    report_frames(
+        alloc,
+        &mut source,
+        options,
+        &mut out,
+        &mut system.progress,
+        len,
+    )?;
     Ok(Status::Same)
+}
+
+/// Counts the frames of a stream in a file of this length, where that is known, and reports the count. With `--header` nothing
+/// is read or reported.
+fn report_frames<R: io::Read, W: io::Write, H: Clock, E: io::Write>(
+    alloc: Global,
+    source: &mut Source<R>,
+    options: &InfoOptions,
+    out: &mut Counted<W>,
+    progress: &mut ProgressLine<'_, H, E>,
+    len: Option<u64>,
+) -> Result<(), StreamError>
+    ensures done { options.now.header ≡ true → IsOk result }
+    ensures unread { options.now.header ≡ true → source.new ≡ source.old }
+    ensures unsaid { options.now.header ≡ true → out.new ≡ out.old }
+    ensures counted { options.now.header ≡ false → OnOk result (ReportsFrames
+        source.old.container source.old.frame_len (bytes_left R.remaining source.old)
+        (bytes_left R.remaining source.new) (W.contents out.old.inner)
+        (W.contents out.new.inner)) }
+{
+    if options.header {
+        return Ok(());
+    }
+    progress.expect(expected_frames(source, len));
+    let counted = skip_frames(source, u64::MAX, progress);
+    let frames = frames_counted(&counted, source);
+    write_made(out, frames_text(alloc, source.header(), frames))?;
+    counted?;
+    Ok(())
+}
+
+/// Returns how many frames were counted: those in front of the one that can't be read, where there is one.
+fn frames_counted<R: io::Read>(counted: &Result<u64, StreamError>, source: &Source<R>) -> u64
+    ensures { IfOk counted.now (λ found. result ≡ found) }
+{
+    match counted {
+        Ok(found) => *found,
+        Err(_) => source.frames(),
+    }
 }

@@ -3,13 +3,16 @@ ghost use Rattle.std.specs.Prelude.{◌≡◌, ◌≤◌, Some};
 ghost use Rattle.yuv_streams.specs.Conversions.{layout_in};
 
 use crate::fault::Fault;
+use crate::message::{LaxHeader, shown_name, write_message};
+use crate::system::System;
 use std::alloc::Global;
 use std::fs::{self, OpenFile};
 use std::io::{self, Read};
 use std::rt::Files;
+use std::time::Clock;
 use v_frame_planar::{Counted, read_until_full};
 use v_frame_semi_planar::SemiPlanarFormat;
-use v_frame_y4m::{StreamHeader, Y4mError};
+use v_frame_y4m::{StreamHeader, Y4mError, header_line};
 use yuv_streams::{Container, Place, Problem, Source, StreamError};
 use yuv_words::{RawVideo, VideoFormat};
 
@@ -122,8 +125,38 @@ pub(crate) fn open_file<H: Files, I: Read>(
     })
 }
 
+/// Reads the header of a file that is open, or takes that of headerless raw video. Where the header line is not strict, a
+/// message says what it is read as.
+pub(crate) fn begin<'f, H: AllocGlobal + Clock, F: Read, I: Read, O, E: io::Write>(
+    system: &mut System<'_, H, I, O, E>,
+    name: &str,
+    file: &'f mut InputFile<F, I>,
+    raw: Option<RawVideo>,
+) -> Result<Source<&'f mut InputFile<F, I>>, Fault> {
+    let alloc = system.rt.alloc();
+    let place = file.place;
+    let source = begin_stream(alloc, file, raw)?;
+    if source.is_lax() {
+        let Ok(line) = header_line(alloc, source.header()) else {
+            return Err(Fault::Header(StreamError {
+                place,
+                frames: 0,
+                problem: Problem::OutOfMemory,
+                cause: None,
+            }));
+        };
+        let line = line.as_slice();
+        write_message(
+            system.progress.out(),
+            Some(shown_name(name)),
+            &LaxHeader { line },
+        );
+    }
+    Ok(source)
+}
+
 /// Reads the header of a file that is open, or takes that of headerless raw video.
-pub(crate) fn begin<F: Read, I: Read>(
+fn begin_stream<F: Read, I: Read>(
     alloc: Global,
     file: &mut InputFile<F, I>,
     raw: Option<RawVideo>,

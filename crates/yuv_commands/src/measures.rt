@@ -1,4 +1,6 @@
 //! The measures of a report, from the sums of squared errors and the structural similarities of frames.
+ghost use Rattle.std.specs.Prelude.{◌≡◌};
+ghost use Rattle.yuv_commands.specs.Reports.{sums_asked, values_of};
 
 use std::num::nearest_u64_to_f64;
 use v_frame_measures::{FrameMeasure, Mean, psnr};
@@ -23,7 +25,10 @@ impl Scale {
         errors: &PlaneSums,
         frames: u64,
         ssim: Option<PlaneValues>,
-    ) -> FrameMeasures {
+    ) -> FrameMeasures
+        ensures ssim { result.ssim ≡ ssim }
+        ensures sums { result.sums ≡ sums_asked self.now.exact errors.now }
+    {
         let mse = mean_errors(errors, &self.pixels.times(frames));
         FrameMeasures {
             psnr: ratios(&mse, self.bit_depth),
@@ -35,7 +40,9 @@ impl Scale {
 }
 
 /// Returns the sums as a report has them.
-fn reported_sums(errors: &PlaneSums) -> yuv_reports::PlaneSums {
+fn reported_sums(errors: &PlaneSums) -> yuv_reports::PlaneSums
+    ensures { result ≡ record { y = errors.now.y; u = errors.now.u; v = errors.now.v } }
+{
     yuv_reports::PlaneSums {
         y: errors.y,
         u: errors.u,
@@ -97,7 +104,9 @@ fn chroma_ratio(mse: Option<f64>, bit_depth: u8) -> Option<f64> {
 }
 
 /// Returns a measure of a frame as a report has it.
-pub(crate) fn reported(measure: FrameMeasure) -> PlaneValues {
+pub(crate) fn reported(measure: FrameMeasure) -> PlaneValues
+    ensures { result ≡ values_of measure }
+{
     PlaneValues {
         all: measure.all,
         y: measure.y,

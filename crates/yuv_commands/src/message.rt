@@ -19,6 +19,31 @@ pub(crate) fn write_message<E: io::Write, D: fmt::Display>(
     let _ = escaping.out.write_all(b"\n");
 }
 
+/// Returns the name that a message shows for that of a file that is read.
+pub(crate) fn shown_name(name: &str) -> &str {
+    match name {
+        "-" => "standard input",
+        _ => name,
+    }
+}
+
+/// Says that a header line is not strict, and which strict one it is read as.
+#[derive(Drop)]
+pub(crate) struct LaxHeader<'a> {
+    /// The strict line.
+    pub(crate) line: &'a [u8],
+}
+
+impl fmt::Display for LaxHeader<'_> {
+    fn fmt<W: fmt::Write>(&self, f: &mut fmt::Formatter<W>) -> fmt::Result {
+        f.write_str("the header line is not strict YUV4MPEG2; it is read as '")?;
+        for &byte in self.line {
+            f.write_char(if byte.is_ascii() { byte as char } else { '?' })?;
+        }
+        f.write_str("'")
+    }
+}
+
 /// A writer of texts with a number in place of each control character.
 #[derive(Drop)]
 struct Escaping<'a, E> {

@@ -40,9 +40,9 @@ where
 {
     let rt = system.rt;
     let mut file = open_file(rt, first, Place::First, &mut system.input)?;
-    let mut one = begin(rt.alloc(), &mut file, options.raw)?;
+    let mut one = begin(system, first, &mut file, options.raw)?;
     let mut other_file = open_file(rt, second, Place::Second, &mut system.input)?;
-    let mut other = begin(rt.alloc(), &mut other_file, options.raw_second)?;
+    let mut other = begin(system, second, &mut other_file, options.raw_second)?;
     let text = drawn(rt.alloc(), &mut one, &mut other, options, (first, second))?;
     let mut output = Output::open(rt, to, &mut system.output)?;
     let done = write_drawn(&mut output, text.as_str());
@@ -69,6 +69,7 @@ fn drawn<R: io::Read, S: io::Read>(
 ) -> Result<String, Fault> {
     let mut curves = Curves::new(
         alloc,
+        first_frame(options),
         Scale {
             pixels: samples_of(first.header()),
             bit_depth: first.header().colour.bit_depth(),
@@ -99,6 +100,11 @@ fn frames_taken(options: &PlotOptions) -> CompareOptions
         options.count,
         options.max_pixels,
     )
+}
+
+/// Returns the number of the first frame that is taken of the first stream, whose own first is frame 1.
+fn first_frame(options: &PlotOptions) -> u64 {
+    options.skip.unwrap_or(0).saturating_add(1)
 }
 
 /// The numbers of each frame, plane by plane.
@@ -137,6 +143,7 @@ impl PlaneCurves {
         alloc: Global,
         title: &'a str,
         unit: &'a str,
+        first: u64,
     ) -> Result<String, AllocError> {
         let (y, u, v) = (self.y.as_slice(), self.u.as_slice(), self.v.as_slice());
         let luma = Series {
@@ -158,6 +165,7 @@ impl PlaneCurves {
         let chart = Chart {
             title,
             unit,
+            first,
             series: &series[..planes],
         };
         svg(alloc, &chart)
@@ -167,6 +175,7 @@ impl PlaneCurves {
 /// What is drawn: ratios, and similarities where frames are large enough.
 #[derive(Drop)]
 struct Curves {
+    first: u64,
     scale: Scale,
     psnr: PlaneCurves,
     ssim: PlaneCurves,
@@ -174,8 +183,9 @@ struct Curves {
 
 impl Curves {
     /// Has no frame yet.
-    fn new(alloc: Global, scale: Scale) -> Self {
+    fn new(alloc: Global, first: u64, scale: Scale) -> Self {
         Curves {
+            first,
             scale,
             psnr: PlaneCurves::new(alloc),
             ssim: PlaneCurves::new(alloc),
@@ -203,11 +213,13 @@ impl Curves {
     /// Returns the charts, one above the other.
     fn chart(&self, alloc: Global, (first, second): (&str, &str)) -> Result<String, AllocError> {
         let title = format!(in alloc; "{first} and {second}")?;
-        let psnr = self.psnr.chart(alloc, title.as_str(), "PSNR (dB)")?;
+        let psnr = self
+            .psnr
+            .chart(alloc, title.as_str(), "PSNR (dB)", self.first)?;
         if self.ssim.y.is_empty() {
             return Ok(psnr);
         }
-        let ssim = self.ssim.chart(alloc, title.as_str(), "SSIM")?;
+        let ssim = self.ssim.chart(alloc, title.as_str(), "SSIM", self.first)?;
         let mut text = String::new(alloc);
         text.push_str("<svg xmlns=\"http://www.w3.org/2000/svg\" width=\"960\" height=\"840\" ")?;
         text.push_str("viewBox=\"0 0 960 840\">\n")?;

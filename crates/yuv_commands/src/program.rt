@@ -1,5 +1,6 @@
 //! The program: its words are read and done, and what went wrong is reported.
-ghost use Rattle.std.specs.Prelude.{◌≡◌};
+ghost use Rattle.std.specs.Prelude.{◌≡◌, ◌&&◌};
+ghost use Rattle.yuv_commands.specs.ProgressLines.{asks_progress};
 ghost use Rattle.yuv_commands.specs.Run.{status_code};
 
 use crate::compare::do_compare;
@@ -7,7 +8,7 @@ use crate::copy::do_copy;
 use crate::diff::do_diff;
 use crate::fault::Fault;
 use crate::info::do_info;
-use crate::message::write_message;
+use crate::message::{shown_name, write_message};
 use crate::plot::do_plot;
 use crate::progress::ProgressLine;
 use crate::report::write_text;
@@ -80,15 +81,13 @@ where
         Ok(command) => command,
         Err(refusal) => return refuse(&refusal, &mut error),
     };
+    let progress = progress_line(rt, error, is_terminal, &command);
     let mut system = System {
         rt,
         input: Some(input),
         output,
-        progress: ProgressLine::new(rt, error),
+        progress,
     };
-    if is_terminal && shows_progress(&command) {
-        system.progress.begin();
-    }
     let done = do_command(&mut system, &command);
     system.progress.end();
     match done {
@@ -104,8 +103,27 @@ pub fn refuse<E: io::Write>(refusal: &UsageError<'_>, out: &mut E) -> Status {
     Status::Failed
 }
 
-/// Returns whether the count of frames is shown meanwhile.
-fn shows_progress(command: &Command<'_>) -> bool {
+/// Returns the line of the count of frames. It is shown where the command asks for it and standard error is a terminal.
+fn progress_line<'a, H: Clock, E: io::Write>(
+    rt: &'a H,
+    error: E,
+    is_terminal: bool,
+    command: &Command<'_>,
+) -> ProgressLine<'a, H, E>
+    ensures shown { result.is_shown ≡ (is_terminal && asks_progress command.now) }
+    ensures out { result.out ≡ error }
+{
+    let mut progress = ProgressLine::new(rt, error);
+    if is_terminal && asks_for_progress(command) {
+        progress.begin();
+    }
+    progress
+}
+
+/// Returns whether a command asks that the count of frames is shown meanwhile.
+fn asks_for_progress(command: &Command<'_>) -> bool
+    ensures { result ≡ asks_progress command.now }
+{
     match command {
         Command::Info { options, .. } => options.progress,
         Command::Compare { options, .. } => options.progress,
@@ -191,8 +209,7 @@ fn name_of<'a>(command: &Command<'a>, place: Place) -> &'a str {
     };
     match (name, place) {
         ("-", Place::Output) => "standard output",
-        ("-", _) => "standard input",
-        _ => name,
+        _ => shown_name(name),
     }
 }
 

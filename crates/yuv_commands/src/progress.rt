@@ -1,4 +1,6 @@
 //! The count of frames, shown while a stream is read.
+ghost use Rattle.std.specs.Prelude.{◌≡◌, false, true};
+ghost use Rattle.yuv_commands.specs.ProgressLines.{TakesCount};
 
 use std::io;
 use std::time::{Clock, Instant};
@@ -21,7 +23,10 @@ pub struct ProgressLine<'a, H, E> {
 
 impl<'a, H: Clock, E: io::Write> ProgressLine<'a, H, E> {
     /// Returns a line that is not shown yet.
-    pub fn new(clock: &'a H, out: E) -> Self {
+    pub fn new(clock: &'a H, out: E) -> Self
+        ensures shown { result.is_shown ≡ false }
+        ensures out { result.out ≡ out }
+    {
         ProgressLine {
             clock,
             out,
@@ -34,13 +39,18 @@ impl<'a, H: Clock, E: io::Write> ProgressLine<'a, H, E> {
     }
 
     /// Shows the line from now on.
-    pub fn begin(&mut self) {
+    pub fn begin(&mut self)
+        ensures shown { self.new.is_shown ≡ true }
+        ensures out { self.new.out ≡ self.old.out }
+    {
         self.is_shown = true;
         self.begin = Instant::now(self.clock).ok();
     }
 
     /// Takes how many frames there will be, where that is known.
-    pub fn expect(&mut self, frames: Option<u64>) {
+    pub fn expect(&mut self, frames: Option<u64>)
+        ensures { self.new ≡ record self.old { expected = frames } }
+    {
         self.expected = frames;
     }
 
@@ -49,13 +59,16 @@ impl<'a, H: Clock, E: io::Write> ProgressLine<'a, H, E> {
         &mut self.out
     }
 
-    /// Shows the last count, and ends the line.
-    pub fn end(&mut self) {
-        if self.is_shown {
-            let passed = self.passed();
-            self.write_line(passed);
-            let _ = self.out.write_all(b"\n");
+    /// Shows the last count, and ends the line. One that is not shown stays as it is.
+    pub fn end(&mut self)
+        ensures { self.old.is_shown ≡ false → self.new ≡ self.old }
+    {
+        if !self.is_shown {
+            return;
         }
+        let passed = self.passed();
+        self.write_line(passed);
+        let _ = self.out.write_all(b"\n");
     }
 
     /// Returns how many milliseconds have passed. 0 where the clock can't be read.
@@ -70,7 +83,10 @@ impl<'a, H: Clock, E: io::Write> ProgressLine<'a, H, E> {
     }
 
     /// Shows the count in the place of the last one. Where it can't be written, the work goes on.
-    fn write_line(&mut self, passed: u128) {
+    fn write_line(&mut self, passed: u128)
+        ensures shown { self.new.is_shown ≡ self.old.is_shown }
+        ensures frames { self.new.frames ≡ self.old.frames }
+    {
         let frames = self.frames;
         let _ = write!(self.out, "\r{frames} frames");
         if let Some(percent) = self.percent() {
@@ -94,15 +110,18 @@ impl<'a, H: Clock, E: io::Write> ProgressLine<'a, H, E> {
 }
 
 impl<H: Clock, E: io::Write> Progress for ProgressLine<'_, H, E> {
+    ghost shows = { λ old new frames. TakesCount old.is_shown old new frames };
+
     fn show(&mut self, frames: u64) {
         if !self.is_shown {
             return;
         }
         self.frames = frames;
         let passed = self.passed();
-        if passed.saturating_sub(self.last_shown) >= PAUSE {
-            self.last_shown = passed;
-            self.write_line(passed);
+        if passed.saturating_sub(self.last_shown) < PAUSE {
+            return;
         }
+        self.last_shown = passed;
+        self.write_line(passed);
     }
 }

@@ -1,5 +1,5 @@
 //! Texts on standard output.
-ghost use Rattle.std.specs.Prelude.{OnErr, OnOk};
+ghost use Rattle.std.specs.Prelude.{string_bytes, IsOkAnd, OnErr, OnOk};
 ghost use Rattle.std.specs.Io.KnownBytes.{Appends};
 ghost use Rattle.v_frame_planar.specs.Counted.{AppendsBeginning};
 
@@ -31,7 +31,10 @@ pub(crate) fn write_text<W: io::Write>(out: &mut Counted<W>, text: &str) -> Resu
 pub(crate) fn write_made<W: io::Write>(
     out: &mut Counted<W>,
     text: Result<String, AllocError>,
-) -> Result<(), StreamError> {
+) -> Result<(), StreamError>
+    ensures { OnOk result (IsOkAnd text (λ made. Appends (W.contents out.old.inner)
+        (W.contents out.new.inner) (string_bytes made))) }
+{
     match text {
         Ok(text) => {
             let written = write_text(out, text.as_str());

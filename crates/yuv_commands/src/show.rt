@@ -1,7 +1,10 @@
 //! The command `show`: a frame as a picture.
-ghost use Rattle.std.specs.Prelude.{◌≡◌, unwrap_or};
-ghost use Rattle.v_frame_rgb.specs.declared.standard.Standard.{Standard};
+ghost use Rattle.std.specs.Prelude.{◌≡◌, IfErr, IfOk, IfSome, IsSomeAnd};
+ghost use Rattle.v_frame_png.specs.Prelude.{HasFile};
 ghost use Rattle.yuv_commands.specs.Options.{plane_of, shown_frame};
+ghost use Rattle.yuv_commands.specs.Shows.{colours_asked, drawing_asked, header_shown, ShowsBytes, ShowsFrame, StopsDrawing, TakesFrame};
+ghost use Rattle.yuv_pictures.specs.declared.error.PictureError.{PictureError as TheError};
+ghost use Rattle.yuv_streams.specs.Prelude.{bytes_left, stream_of};
 
 use crate::fault::Fault;
 use crate::input::{begin, open_file};
@@ -16,9 +19,12 @@ use std::time::Clock;
 use v_frame::frame::Frame;
 use v_frame::pixel::Pixel;
 use v_frame_rgb::{ColourRange, Standard};
+use v_frame_semi_planar::SemiPlanarFormat;
 use v_frame_y4m::StreamHeader;
-use yuv_pictures::{Colours, write_frame_picture, write_plane_picture};
-use yuv_streams::{Container, CopyOptions, Picture, Place, Silent, Sink, Source, copy_stream};
+use yuv_pictures::{Colours, PictureError, write_frame_picture, write_plane_picture};
+use yuv_streams::{
+    Container, CopyOptions, Picture, Place, Silent, Sink, Source, StreamError, copy_stream,
+};
 use yuv_words::{PlaneName, ShowOptions};
 
 /// Writes a frame of a stream as a picture.
@@ -35,48 +41,94 @@ where
 {
     let rt = system.rt;
     let mut file = open_file(rt, from, Place::First, &mut system.input)?;
-    let mut source = begin(rt.alloc(), &mut file, options.raw)?;
+    let mut source = begin(system, from, &mut file, options.raw)?;
     let mut output = Output::open(rt, to, &mut system.output)?;
-    let done = if source.header().colour.bit_depth() == 8 {
+    let shown = if source.header().colour.bit_depth() == 8 {
         show_frame::<u8, _, _>(rt.alloc(), &mut source, options, &mut output)
     } else {
         show_frame::<u16, _, _>(rt.alloc(), &mut source, options, &mut output)
     };
+    let done = match shown {
+        Ok(_written) => Ok(Status::Same),
+        Err(fault) => Err(fault),
+    };
     output.settle(rt, done)
 }
 
-/// Writes the frame that the options name.
+/// Writes the frame that the options name, and returns the writer.
 fn show_frame<T: Pixel, R: io::Read, W: io::Write + Drop>(
     alloc: Global,
     source: &mut Source<R>,
     options: &ShowOptions,
     out: W,
-) -> Result<Status, Fault> {
+) -> Result<W, Fault>
+    ensures { IfOk result (ShowsFrame source.old.container source.old.frame_len
+        (bytes_left R.remaining source.old) (bytes_left R.remaining source.new) options.now
+        source.old.header source.old.layout T.form W.contents (W.contents out)) }
+{
     let bytes = frame_bytes(alloc, source, options)?;
     let header = shown_header(alloc, source.header(), options);
     let most = most_pixels(options.max_pixels);
-    let layout = source.layout();
-    let mut shown = Source::raw(alloc, Place::First, header, layout, bytes.as_slice())?;
-    let mut picture = Picture::<T>::new(alloc, &shown, most)?;
-    picture.read(&mut shown)?;
-    write_picture(alloc, out, picture.frame(), options)?;
-    Ok(Status::Same)
+    let Some(picture) = read_picture::<T>(alloc, header, source.layout(), bytes.as_slice(), most)?
+    else {
+        return Err(Fault::NoFrame(Place::First, source.frames()));
+    };
+    write_picture(alloc, out, picture.frame(), options)
 }
 
-/// Writes a frame as the options say.
+/// Reads the first frame of raw video with this header. `None` where there is none.
+fn read_picture<T: Pixel>(
+    alloc: Global,
+    header: StreamHeader,
+    layout: Option<SemiPlanarFormat>,
+    bytes: &[u8],
+    most: usize,
+) -> Result<Option<Picture<T>>, StreamError>
+    ensures { IfOk result (λ read. IfSome read (λ picture.
+        ShowsBytes T.form header layout bytes.now picture.frame)) }
+{
+    let mut video = Source::raw(alloc, Place::First, header, layout, bytes)?;
+    let mut picture = Picture::<T>::new(alloc, &video, most)?;
+    if !picture.read(&mut video)? {
+        return Ok(None);
+    }
+    // The planes are laid out in the sizes that they show.
+    let _frame = picture.frame();
+    Ok(Some(picture))
+}
+
+/// Writes a frame as the options say, and returns the writer.
 fn write_picture<T: Pixel, W: io::Write + Drop>(
     alloc: Global,
     out: W,
     frame: &Frame<T>,
     options: &ShowOptions,
-) -> Result<W, Fault> {
-    let written = match options.plane {
-        Some(plane) => write_plane_picture(alloc, out, frame, shown_plane(plane)),
-        None => write_frame_picture(alloc, out, frame, colours_of(options)),
-    };
-    match written {
+) -> Result<W, Fault>
+    ensures file { IfOk result (λ new. IsSomeAnd (drawing_asked T.form frame.now options.now)
+        (λ drawing. HasFile W.contents (W.contents out) new drawing.0 drawing.1)) }
+    ensures error { IfErr result (λ fault. (error : TheError)
+        × (fault ≡ Fault.Picture error) × StopsDrawing T.BYTES frame.now options.now.plane error) }
+{
+    match draw_picture(alloc, out, frame, options) {
         Ok(out) => Ok(out),
         Err(error) => Err(Fault::Picture(error)),
+    }
+}
+
+/// Writes one plane of a frame, or its colours.
+fn draw_picture<T: Pixel, W: io::Write + Drop>(
+    alloc: Global,
+    out: W,
+    frame: &Frame<T>,
+    options: &ShowOptions,
+) -> Result<W, PictureError>
+    ensures file { IfOk result (λ new. IsSomeAnd (drawing_asked T.form frame.now options.now)
+        (λ drawing. HasFile W.contents (W.contents out) new drawing.0 drawing.1)) }
+    ensures error { IfErr result (StopsDrawing T.BYTES frame.now options.now.plane) }
+{
+    match options.plane {
+        Some(plane) => write_plane_picture(alloc, out, frame, shown_plane(plane)),
+        None => write_frame_picture(alloc, out, frame, colours_of(options)),
     }
 }
 
@@ -93,8 +145,7 @@ fn shown_plane(plane: PlaneName) -> yuv_pictures::PlaneName
 
 /// Returns how colours are made: as BT.709 of limited range has it, where the options are silent.
 fn colours_of(options: &ShowOptions) -> Colours
-    ensures standard { result.standard ≡ unwrap_or options.now.matrix Standard.Bt709 }
-    ensures range { result.range ≡ unwrap_or options.now.range ColourRange.Limited }
+    ensures { result ≡ colours_asked options.now }
 {
     Colours {
         standard: options.matrix.unwrap_or(Standard::Bt709),
@@ -107,7 +158,12 @@ fn frame_bytes<R: io::Read>(
     alloc: Global,
     source: &mut Source<R>,
     options: &ShowOptions,
-) -> Result<Vec<u8>, Fault> {
+) -> Result<Vec<u8>, Fault>
+    ensures taken { IfOk result (λ bytes. TakesFrame source.old.container source.old.frame_len
+        (bytes_left R.remaining source.old) (bytes_left R.remaining source.new) options.now
+        source.old.header source.old.layout bytes.items) }
+    ensures same { stream_of source.new ≡ stream_of source.old }
+{
     let before = frames_before(options.frame)?;
     let mut sink = Sink::new(Container::Raw, Vec::new(alloc));
     let taken = one_frame(options, before);
@@ -135,7 +191,9 @@ fn one_frame(options: &ShowOptions, before: u64) -> CopyOptions
 }
 
 /// Returns the header of what is shown.
-fn shown_header(alloc: Global, header: &StreamHeader, options: &ShowOptions) -> StreamHeader {
+fn shown_header(alloc: Global, header: &StreamHeader, options: &ShowOptions) -> StreamHeader
+    ensures { result ≡ header_shown options.now header.now }
+{
     let (width, height) = match options.crop {
         Some(part) => (part.width, part.height),
         None => (header.width, header.height),

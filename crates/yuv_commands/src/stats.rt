@@ -1,4 +1,7 @@
 //! The command `stats`: what values the samples of a stream have.
+ghost use Rattle.std.specs.Prelude.{◌≡◌, ◌^◌, ◌++◌, true, option_map, string_bytes, IfOk, OnOk};
+ghost use Rattle.v_frame.specs.Prelude.{table_of, tables_of};
+ghost use Rattle.yuv_commands.specs.Values.{histogram_said, rows_of_chroma, CountsChroma, CountsFrame, CountsNothing};
 
 use crate::fault::Fault;
 use crate::input::{begin, open_file};
@@ -32,18 +35,14 @@ where
 {
     let alloc = system.rt.alloc();
     let mut file = open_file(system.rt, name, Place::First, &mut system.input)?;
-    let mut source = begin(alloc, &mut file, options.raw)?;
+    let mut source = begin(system, name, &mut file, options.raw)?;
     let most = most_pixels(options.max_pixels);
     let counts = if source.header().colour.bit_depth() == 8 {
         count_values::<u8, _>(alloc, &mut source, most)?
     } else {
         count_values::<u16, _>(alloc, &mut source, most)?
     };
-    let text = if options.histogram {
-        histogram_text(alloc, &counts)
-    } else {
-        statistics_text(alloc, &counts, source.header().colour.bit_depth())
-    };
+    let text = report_text(alloc, &counts, options, source.header().colour.bit_depth());
     drop(counts);
     write_made(&mut Counted::new(&mut system.output), text)?;
     Ok(Status::Same)
@@ -70,7 +69,7 @@ fn count_values<T: CountedPixel, R: io::Read>(
     };
     for _ in 0..u64::MAX {
         if !picture.read(source)? {
-            break;
+            return Ok(counts);
         }
         if counts.add(alloc, picture.frame()).is_err() {
             return Err(no_memory());
@@ -81,7 +80,9 @@ fn count_values<T: CountedPixel, R: io::Read>(
 
 impl Counts {
     /// Counts nothing yet.
-    fn new(alloc: Global, has_chroma: bool) -> Result<Self, AllocError> {
+    fn new(alloc: Global, has_chroma: bool) -> Result<Self, AllocError>
+        ensures { IfOk result (CountsNothing has_chroma) }
+    {
         let y = ValueCounts::new(alloc)?;
         if !has_chroma {
             return Ok(Counts {
@@ -100,7 +101,10 @@ impl Counts {
     }
 
     /// Adds the values of a frame.
-    fn add<T: CountedPixel>(&mut self, alloc: Global, frame: &Frame<T>) -> Result<(), AllocError> {
+    fn add<T: CountedPixel>(&mut self, alloc: Global, frame: &Frame<T>) -> Result<(), AllocError>
+        ensures { OnOk result (CountsFrame T.form (256 ^ T.BYTES) (tables_of frame.now) self.old
+            self.new) }
+    {
         T::add_counts(alloc, &frame.y_plane.as_plane_ref(), &mut self.y)?;
         add_chroma(alloc, &frame.u_plane, &mut self.u)?;
         add_chroma(alloc, &frame.v_plane, &mut self.v)
@@ -112,25 +116,57 @@ fn add_chroma<T: CountedPixel>(
     alloc: Global,
     plane: &Option<Plane<T>>,
     counts: &mut Option<ValueCounts>,
-) -> Result<(), AllocError> {
+) -> Result<(), AllocError>
+    ensures { OnOk result (CountsChroma T.form (256 ^ T.BYTES) (option_map table_of plane.now)
+        counts.old counts.new) }
+{
     match (plane, counts) {
         (Some(plane), Some(counts)) => T::add_counts(alloc, &plane.as_plane_ref(), counts),
         _ => Ok(()),
     }
 }
 
+/// Returns what the options ask for: a histogram, or a line for each plane.
+fn report_text(
+    alloc: Global,
+    counts: &Counts,
+    options: &StatsOptions,
+    depth: u8,
+) -> Result<String, AllocError>
+    ensures { options.now.histogram ≡ true
+        → IfOk result (λ text. string_bytes text ≡ histogram_said counts.now) }
+{
+    if options.histogram {
+        return histogram_text(alloc, counts);
+    }
+    statistics_text(alloc, counts, depth)
+}
+
 /// Returns a row for each value that occurs.
-fn histogram_text(alloc: Global, counts: &Counts) -> Result<String, AllocError> {
+fn histogram_text(alloc: Global, counts: &Counts) -> Result<String, AllocError>
+    ensures { IfOk result (λ text. string_bytes text ≡ histogram_said counts.now) }
+{
     let mut text = String::new(alloc);
     text.push_str("plane,value,count\n")?;
     push_histogram(&mut text, PlaneName::Y, counts.y.counts())?;
-    if let Some(u) = &counts.u {
-        push_histogram(&mut text, PlaneName::U, u.counts())?;
-    }
-    if let Some(v) = &counts.v {
-        push_histogram(&mut text, PlaneName::V, v.counts())?;
-    }
+    push_chroma(&mut text, PlaneName::U, &counts.u)?;
+    push_chroma(&mut text, PlaneName::V, &counts.v)?;
     Ok(text)
+}
+
+/// Appends the rows of a chroma plane, where it is there.
+fn push_chroma(
+    text: &mut String,
+    plane: PlaneName,
+    counts: &Option<ValueCounts>,
+) -> Result<(), AllocError>
+    ensures { OnOk result (string_bytes text.new
+        ≡ string_bytes text.old ++ rows_of_chroma plane counts.now) }
+{
+    match counts {
+        Some(counts) => push_histogram(text, plane, counts.counts()),
+        None => Ok(()),
+    }
 }
 
 /// Returns a line for each plane.

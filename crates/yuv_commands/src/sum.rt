@@ -36,7 +36,7 @@ where
 {
     let alloc = system.rt.alloc();
     let mut file = open_file(system.rt, name, Place::First, &mut system.input)?;
-    let mut source = begin(alloc, &mut file, options.raw)?;
+    let mut source = begin(system, name, &mut file, options.raw)?;
     if options.planes && source.layout().is_some() {
         return Err(Fault::NoPlanes(Place::First));
     }

@@ -1,6 +1,7 @@
 //! How often each value occurs in a plane, over the frames of a stream.
-
-ghost use Rattle.std.specs.Prelude.{◌<◌};
+ghost use Rattle.std.specs.Prelude.{◌≡◌, ◌^◌, ◌<◌, IfOk, OnOk};
+ghost use Rattle.v_frame.specs.Prelude.{table_of};
+ghost use Rattle.yuv_commands.specs.Values.{AddsTable, AreZero, CountsTable};
 
 use std::alloc::{AllocError, Global};
 use std::num::nearest_u64_to_f64;
@@ -15,7 +16,9 @@ pub(crate) trait CountedPixel: Pixel {
         alloc: Global,
         plane: &PlaneRef<'_, Self>,
         counts: &mut ValueCounts,
-    ) -> Result<(), AllocError>;
+    ) -> Result<(), AllocError>
+        ensures { OnOk result (CountsTable Self.form (256 ^ Self.BYTES) (table_of plane.now)
+            counts.old.counts.items counts.new.counts.items) };
 }
 
 impl CountedPixel for u8 {
@@ -51,21 +54,25 @@ pub(crate) struct ValueCounts {
 
 impl ValueCounts {
     /// Counts nothing yet.
-    pub(crate) fn new(alloc: Global) -> Result<Self, AllocError> {
+    pub(crate) fn new(alloc: Global) -> Result<Self, AllocError>
+        ensures { IfOk result (λ found. AreZero found.counts.items) }
+    {
         let mut counts = Vec::new(alloc);
         counts.resize(1 << 16, 0)?;
         Ok(ValueCounts { counts })
     }
 
     /// Adds the counts of the first values.
-    fn add(&mut self, table: &[u64]) {
-        for (count, &more) in self.counts.iter_mut().zip(table) {
-            *count = count.saturating_add(more);
-        }
+    fn add(&mut self, table: &[u64])
+        ensures { AddsTable table.now self.old.counts.items self.new.counts.items }
+    {
+        add_counts(self.counts.as_mut_slice(), table);
     }
 
     /// Returns how often each value occurs, from 0.
-    pub(crate) fn counts(&self) -> &[u64] {
+    pub(crate) fn counts(&self) -> &[u64]
+        ensures { result.now ≡ self.now.counts.items }
+    {
         self.counts.as_slice()
     }
 
@@ -120,6 +127,16 @@ impl ValueCounts {
             }
         }
         outside
+    }
+}
+
+/// Adds the counts of the first values. A count stays at `u64::MAX`.
+fn add_counts(counts: &mut [u64], table: &[u64])
+    ensures { AddsTable table.now counts.old counts.new }
+{
+    let shared = counts.len().min(table.len());
+    for value in 0..shared {
+        counts[value] = counts[value].saturating_add(table[value]);
     }
 }
 

@@ -1,5 +1,7 @@
 //! What is said of a stream, one line a fact.
-ghost use Rattle.std.specs.Prelude.{◌≡◌, ◌*◌, ◌/◌, IfSome};
+ghost use Rattle.std.specs.Prelude.{◌≡◌, ◌*◌, ◌/◌, string_bytes, IfOk, IfSome, OnOk};
+ghost use Rattle.yuv_commands.specs.Info.{count_line};
+ghost use Rattle.yuv_reports.specs.Texts.{BeginsWith};
 
 use std::alloc::{AllocError, Global};
 use v_frame::chroma::ChromaSubsampling;
@@ -28,14 +30,24 @@ pub(crate) fn frames_text(
     alloc: Global,
     header: &StreamHeader,
     frames: u64,
-) -> Result<String, AllocError> {
+) -> Result<String, AllocError>
+    ensures { IfOk result (λ text. BeginsWith (count_line frames) (string_bytes text)) }
+{
     let mut text = String::new(alloc);
     writeln!(text, "frames: {frames}")?;
-    if let Some(milliseconds) = duration(frames, header.frame_rate) {
-        let (seconds, rest) = (milliseconds / 1000, milliseconds % 1000);
-        writeln!(text, "duration: {seconds}.{rest:03} s")?;
-    }
+    push_duration(&mut text, header, frames)?;
     Ok(text)
+}
+
+/// Appends how long the frames take, where the header says their rate.
+fn push_duration(text: &mut String, header: &StreamHeader, frames: u64) -> Result<(), AllocError>
+    ensures { OnOk result (BeginsWith (string_bytes text.old) (string_bytes text.new)) }
+{
+    let Some(milliseconds) = duration(frames, header.frame_rate) else {
+        return Ok(());
+    };
+    let (seconds, rest) = (milliseconds / 1000, milliseconds % 1000);
+    writeln!(text, "duration: {seconds}.{rest:03} s")
 }
 
 /// Returns how many milliseconds so many frames take, rounded down. `None` where the rate is unknown.

@@ -1,0 +1,76 @@
+-- What `compare` reports, where whole numbers are printed.
+use Rattle.std.specs.Prelude.{ℕ, ◌≡◌, ◌+◌, ◌++◌, min, if◌then◌else◌, Bool, List, Option, Some, None, option_map, IfSome}
+use Rattle.std.specs.Prelude.{IsSomeAnd}
+use Rattle.v_frame.specs.Prelude.{PixelForm, Tables}
+use Rattle.v_frame_measures.specs.Prelude.{measured, peak_of, ssim_of}
+use Rattle.v_frame_measures.specs.declared.frames.FrameMeasure.{FrameMeasure}
+use Rattle.yuv_reports.specs.Sums.{difference_line, longer_line, sums_line}
+use Rattle.yuv_reports.specs.Texts.{EndsWith}
+use Rattle.yuv_reports.specs.declared.comparison.Longer.{Longer}
+use Rattle.yuv_reports.specs.declared.comparison.PlaneName.{PlaneName}
+use Rattle.yuv_reports.specs.declared.comparison.ReportForm.{ReportForm}
+use Rattle.yuv_reports.specs.declared.comparison.SampleDifference.{SampleDifference}
+use Rattle.yuv_reports.specs.declared.planes.PlaneSums.{PlaneSums as ReportedSums}
+use Rattle.yuv_reports.specs.declared.planes.PlaneValues.{PlaneValues}
+use Rattle.yuv_streams.specs.Prelude.{most_frames}
+use Rattle.yuv_streams.specs.declared.comparison.Comparison.{Comparison}
+use Rattle.yuv_streams.specs.declared.frames.Component.{Component}
+use Rattle.yuv_streams.specs.declared.frames.Component.TheVariants.{Y, U, V}
+use Rattle.yuv_streams.specs.declared.frames.PixelDifference.{PixelDifference}
+use Rattle.yuv_streams.specs.declared.stream.Place.{Place}
+use Rattle.yuv_streams.specs.declared.stream.Place.TheVariants.{First}
+use Rattle.yuv_streams.specs.declared.sums.PlaneSums.{PlaneSums}
+use Rattle.yuv_words.specs.declared.command.ReportForm.{ReportForm as FormWords}
+use Rattle.yuv_words.specs.declared.command.ReportForm.TheVariants.{Lines, Csv, Json}
+
+-- the form of a report
+abbrev pub form_of_words : FormWords → ReportForm
+form_of_words Lines = ReportForm.Lines
+form_of_words Csv = ReportForm.Csv
+form_of_words Json = ReportForm.Json
+
+-- the sums of squared errors, with `--exact` alone
+abbrev pub sums_asked : Bool → PlaneSums → Option ReportedSums
+sums_asked exact sums =
+    if exact then Some (record { y = sums.y; u = sums.u; v = sums.v }) else None
+
+-- a measure of a frame as a report has it
+abbrev pub values_of : FrameMeasure → PlaneValues
+values_of measure = record { all = measure.all; y = measure.y; u = measure.u; v = measure.v }
+
+-- the structural similarities of two frames of a bit depth
+abbrev pub similarities_of : {T : Type 0} → PixelForm T → ℕ → Tables T → Tables T → PlaneValues
+similarities_of form depth a b = values_of (measured (ssim_of form (peak_of depth)) a b)
+
+abbrev pub plane_said : Component → PlaneName
+plane_said Y = PlaneName.Y
+plane_said U = PlaneName.U
+plane_said V = PlaneName.V
+
+-- the first difference, in a frame that is counted from 1
+abbrev pub difference_said : ℕ × PixelDifference → SampleDifference
+difference_said found =
+    record {
+      frame = min (found.0 + 1) most_frames;
+      plane = plane_said found.1.component;
+      x = found.1.x;
+      y = found.1.y;
+      first = found.1.first;
+      second = found.1.second;
+    }
+
+abbrev pub longer_said : Place → Longer
+longer_said First = Longer.First
+longer_said _ = Longer.Second
+
+-- the end of a report in lines: the sums where they are asked for, the first difference and the
+-- longer stream
+abbrev pub report_end : Bool → Comparison → List ℕ
+report_end exact found =
+    sums_line (sums_asked exact found.errors)
+    ++ (difference_line (option_map difference_said found.difference)
+    ++ longer_line (option_map longer_said found.longer))
+
+-- what a writer got ends so, where that is known
+abbrev pub EndsKnown : Option (List ℕ) → Option (List ℕ) → List ℕ → Type 0
+EndsKnown has has' end = IfSome has (λ _. IsSomeAnd has' (EndsWith end))

@@ -1,0 +1,69 @@
+-- How often values occur in the planes of frames, and how that is reported.
+use Rattle.std.specs.Prelude.{ℕ, ◌≡◌, ◌+◌, ◌-◌, ◌^◌, ◌<◌, ◌≤◌, ◌∷◌, ◌++◌, [], Bool, List, Option, Some, None}
+use Rattle.std.specs.Prelude.{codes, count_by, is_some, length, min, nat_eq, slice_index, IfSome}
+use Rattle.v_frame.specs.Prelude.{PixelForm, Table, Tables, row_major}
+use Rattle.yuv_commands.specs.declared.stats.Counts.{Counts}
+use Rattle.yuv_commands.specs.declared.values.ValueCounts.{ValueCounts}
+use Rattle.yuv_reports.specs.Histograms.{histogram_rows}
+use Rattle.yuv_reports.specs.declared.comparison.PlaneName.{PlaneName}
+use Rattle.yuv_reports.specs.declared.comparison.PlaneName.TheVariants.{Y, U, V}
+
+-- the rows of a chroma plane, where it is there
+abbrev pub rows_of_chroma : PlaneName → Option ValueCounts → List ℕ
+rows_of_chroma plane None = []
+rows_of_chroma plane (Some found) = histogram_rows plane 0 found.counts.items
+
+-- a histogram: its head, and then the rows of each plane
+abbrev pub histogram_said : Counts → List ℕ
+histogram_said found =
+    codes "plane,value,count"
+    ++ (10
+    ∷ (histogram_rows Y 0 found.y.counts.items
+    ++ (rows_of_chroma U found.u ++ rows_of_chroma V found.v)))
+
+-- how often a value occurs in a table
+abbrev pub times_in : {T : Type 0} → PixelForm T → Table T → ℕ → ℕ
+times_in form table value = count_by (λ p. nat_eq (form.value p) value) (row_major table)
+
+-- counts of values grew by those of a table of the first values, and stay at the most that 64 bits
+-- hold
+pub record AddsTable (table old new : List ℕ) : Type 0 where
+  pub size : length new ≡ length old
+  pub more : (value : ℕ) → value < length old → value < length table → slice_index new value
+      ≡ min (slice_index old value + slice_index table value) (2 ^ 64 - 1)
+  pub same : (value : ℕ) → length table ≤ value → slice_index new value ≡ slice_index old value
+
+-- they grew by how often the values occur in a plane, whose values are below a bound
+pub record CountsTable {T : Type 0} (form : PixelForm T) (bound : ℕ) (plane : Table T)
+    (old new : List ℕ) : Type 0 where
+  pub size : length new ≡ length old
+  pub more : (value : ℕ) → value < length old → value < bound → slice_index new value
+      ≡ min (slice_index old value + times_in form plane value) (2 ^ 64 - 1)
+  pub same : (value : ℕ) → bound ≤ value → slice_index new value ≡ slice_index old value
+
+-- the same of a chroma plane, where it is there and counted
+abbrev pub CountsChroma : {T : Type 0} → PixelForm T → ℕ → Option (Table T) → Option ValueCounts
+    → Option ValueCounts → Type 0
+CountsChroma form bound (Some plane) (Some old) (Some new) =
+    CountsTable form bound plane old.counts.items new.counts.items
+CountsChroma form bound (Some plane) (Some old) None = ⊥
+CountsChroma form bound (Some plane) None new = new ≡ None
+CountsChroma form bound None old new = new ≡ old
+
+-- the values of a frame were counted, plane by plane
+pub record CountsFrame {T : Type 0} (form : PixelForm T) (bound : ℕ) (tables : Tables T)
+    (old new : Counts) : Type 0 where
+  pub y : CountsTable form bound tables.y old.y.counts.items new.y.counts.items
+  pub u : CountsChroma form bound tables.u old.u new.u
+  pub v : CountsChroma form bound tables.v old.v new.v
+
+-- nothing was counted yet
+pub record AreZero (counts : List ℕ) : Type 0 where
+  pub size : length counts ≡ 2 ^ 16
+  pub zero_each : (value : ℕ) → value < 2 ^ 16 → slice_index counts value ≡ 0
+
+pub record CountsNothing (chroma : Bool) (found : Counts) : Type 0 where
+  pub y : AreZero found.y.counts.items
+  pub u : IfSome found.u (λ counts. AreZero counts.counts.items)
+  pub v : IfSome found.v (λ counts. AreZero counts.counts.items)
+  pub has_chroma : (is_some found.u ≡ chroma) × (is_some found.v ≡ chroma)
