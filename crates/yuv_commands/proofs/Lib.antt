@@ -1,3 +1,6 @@
+mod Counting
 mod Differing
+mod Outside
 mod Reporting
 mod Showing
+mod Summing

@@ -1,5 +1,5 @@
 -- What is reported of two frames.
-use Rattle.std.specs.Prelude.{ℕ, ◌≡◌, Bool, List, Option, IsSome, IsTrue, is_some}
+use Rattle.std.specs.Prelude.{ℕ, ◌≡◌, List, Option, IsSome, IsTrue, is_some}
 use Rattle.yuv_commands.specs.Reports.{sums_asked, EndsKnown}
 use Rattle.yuv_commands.specs.declared.frame_report.FrameReport.{FrameReport}
 use Rattle.yuv_reports.specs.Sums.{end_of_frame}

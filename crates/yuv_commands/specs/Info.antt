@@ -1,6 +1,8 @@
 -- What `info` reports of the frames.
-use Rattle.std.specs.Prelude.{ℕ, ◌≡◌, ◌-◌, ◌^◌, ◌∷◌, ◌++◌, [], List, Option, codes, decimal}
+use Rattle.std.specs.Prelude.{ℕ, ◌-◌, ◌^◌, ◌∷◌, ◌++◌, [], List, Option, codes, decimal}
 use Rattle.std.specs.Io.KnownBytes.{Appends}
+use Rattle.v_frame_y4m.specs.declared.header.StreamHeader.{StreamHeader}
+use Rattle.yuv_commands.specs.Facts.{stream_facts}
 use Rattle.yuv_reports.specs.Texts.{BeginsWith}
 use Rattle.yuv_streams.specs.Prelude.{CountsFrames}
 use Rattle.yuv_streams.specs.declared.stream.Container.{Container}
@@ -17,3 +19,10 @@ pub record ReportsFrames (from : Container) (count : ℕ) (left left' has has' :
   pub text : List ℕ
   pub says : BeginsWith (count_line found) text
   pub written : Appends has has' text
+
+-- the facts of the stream were reported first
+pub record ReportsStream (from : Container) (header : StreamHeader) (count : ℕ) (len : Option ℕ)
+    (left left' has has' : Option (List ℕ)) : Type 0 where
+  pub mid : Option (List ℕ)
+  pub facts : Appends has mid (stream_facts header count len)
+  pub frames : ReportsFrames from count left left' mid has'

@@ -1,11 +1,16 @@
 pub mod Checksums
 pub mod Differences
+pub mod Facts
 pub mod FrameReports
 pub mod Info
+pub mod Inputs
 pub mod Messages
 pub mod Options
+pub mod Places
 pub mod ProgressLines
 pub mod Reports
 pub mod Run
 pub mod Shows
+pub mod Statistics
 pub mod Values
+pub mod WorkedReports

@@ -1,5 +1,5 @@
 -- What `compare` reports, where whole numbers are printed.
-use Rattle.std.specs.Prelude.{ℕ, ◌≡◌, ◌+◌, ◌++◌, min, if◌then◌else◌, Bool, List, Option, Some, None, option_map, IfSome}
+use Rattle.std.specs.Prelude.{ℕ, ◌+◌, ◌++◌, min, if◌then◌else◌, Bool, List, Option, Some, None, option_map, IfSome}
 use Rattle.std.specs.Prelude.{IsSomeAnd}
 use Rattle.v_frame.specs.Prelude.{PixelForm, Tables}
 use Rattle.v_frame_measures.specs.Prelude.{measured, peak_of, ssim_of}

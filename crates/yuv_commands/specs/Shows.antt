@@ -12,7 +12,7 @@ use Rattle.v_frame_y4m.specs.Frames.{frame_byte_count}
 use Rattle.v_frame_y4m.specs.declared.header.StreamHeader.{StreamHeader}
 use Rattle.yuv_commands.specs.Options.{plane_of, shown_frame}
 use Rattle.yuv_pictures.specs.Prelude.{frame_rows, frame_samples, grey_rows, grey_samples}
-use Rattle.yuv_pictures.specs.Prelude.{picture_header, plane_named, AcceptsGrey, StopsFrame, StopsGrey}
+use Rattle.yuv_pictures.specs.Prelude.{picture_header, plane_named, StopsFrame, StopsGrey}
 use Rattle.yuv_pictures.specs.declared.colours.Colours.{Colours}
 use Rattle.yuv_pictures.specs.declared.error.PictureError.{PictureError}
 use Rattle.yuv_pictures.specs.declared.error.PictureError.TheVariants.{NoPlane}

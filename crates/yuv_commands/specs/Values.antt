@@ -1,12 +1,16 @@
 -- How often values occur in the planes of frames, and how that is reported.
-use Rattle.std.specs.Prelude.{ℕ, ◌≡◌, ◌+◌, ◌-◌, ◌^◌, ◌<◌, ◌≤◌, ◌∷◌, ◌++◌, [], Bool, List, Option, Some, None}
-use Rattle.std.specs.Prelude.{codes, count_by, is_some, length, min, nat_eq, slice_index, IfSome}
+use Rattle.std.specs.Prelude.{ℕ, ◌≡◌, ◌+◌, ◌-◌, ◌^◌, ◌<◌, ◌≤◌, ◌⊎◌, ◌∷◌, ◌++◌, [], Bool, List, Option, Some, None}
+use Rattle.std.specs.Prelude.{codes, count_by, flat_map, is_some, length, map, min, nat_eq, option_to_list, slice_index, sum_by, IfSome}
+use Rattle.std.specs.Io.KnownBytes.{IsAtEnd}
+use Rattle.v_frame_semi_planar.specs.declared.format.SemiPlanarFormat.{SemiPlanarFormat}
 use Rattle.v_frame.specs.Prelude.{PixelForm, Table, Tables, row_major}
 use Rattle.yuv_commands.specs.declared.stats.Counts.{Counts}
-use Rattle.yuv_commands.specs.declared.values.ValueCounts.{ValueCounts}
+use Rattle.yuv_commands.specs.declared.value_counts.ValueCounts.{ValueCounts}
 use Rattle.yuv_reports.specs.Histograms.{histogram_rows}
 use Rattle.yuv_reports.specs.declared.comparison.PlaneName.{PlaneName}
 use Rattle.yuv_reports.specs.declared.comparison.PlaneName.TheVariants.{Y, U, V}
+use Rattle.yuv_streams.specs.Prelude.{most_frames, tables_of_bytes, Framed, ReadsFrames, Sizes}
+use Rattle.yuv_streams.specs.declared.stream.Container.{Container}
 
 -- the rows of a chroma plane, where it is there
 abbrev pub rows_of_chroma : PlaneName → Option ValueCounts → List ℕ
@@ -67,3 +71,32 @@ pub record CountsNothing (chroma : Bool) (found : Counts) : Type 0 where
   pub u : IfSome found.u (λ counts. AreZero counts.counts.items)
   pub v : IfSome found.v (λ counts. AreZero counts.counts.items)
   pub has_chroma : (is_some found.u ≡ chroma) × (is_some found.v ≡ chroma)
+
+-- ---- all frames of a stream
+
+module _ {T : Type 0} (form : PixelForm T) (bound : ℕ) where
+  -- counts say how often each value occurs in some planes, whose values are below a bound: all of
+  -- them together, or the most that 64 bits hold
+  pub record CountsPlanes (planes : List (Table T)) (counts : List ℕ) : Type 0 where
+    pub size : length counts ≡ 2 ^ 16
+    pub each : (value : ℕ) → value < 2 ^ 16 → value < bound → slice_index counts value
+        ≡ min (sum_by (λ plane. times_in form plane value) planes) (2 ^ 64 - 1)
+    pub others : (value : ℕ) → value < 2 ^ 16 → bound ≤ value → slice_index counts value ≡ 0
+
+  -- the values of frames were counted, plane by plane, with chroma or without
+  pub record CountsFrames (chroma : Bool) (frames : List (Tables T)) (found : Counts) : Type 0 where
+    pub y : CountsPlanes (map (λ tables. tables.y) frames) found.y.counts.items
+    pub u : IfSome found.u (λ counts.
+        CountsPlanes (flat_map (λ tables. option_to_list tables.u) frames) counts.counts.items)
+    pub v : IfSome found.v (λ counts.
+        CountsPlanes (flat_map (λ tables. option_to_list tables.v) frames) counts.counts.items)
+    pub has_chroma : (is_some found.u ≡ chroma) × (is_some found.v ≡ chroma)
+
+  -- all frames of a stream were read, and their values were counted
+  pub record CountsStream (from : Container) (frame_len : ℕ) (layout : Option SemiPlanarFormat)
+      (sizes : Sizes) (left left' : Option (List ℕ)) (found : Counts) : Type 0 where
+    pub frames : List Framed
+    pub read : ReadsFrames left left' from frame_len frames
+    pub ends : (length frames ≡ most_frames) ⊎ IsAtEnd left'
+    pub counted : CountsFrames (is_some sizes.1.0)
+        (map (λ frame. tables_of_bytes form layout sizes frame.1) frames) found

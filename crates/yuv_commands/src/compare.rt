@@ -9,7 +9,8 @@ ghost use Rattle.yuv_streams.specs.Sums.{pixels_of_sizes};
 
 use crate::fault::Fault;
 use crate::frame_report::FrameReport;
-use crate::input::{begin, expected_frames, open_file};
+use crate::input::{begin, expected_frames};
+use crate::input_file::open_file;
 use crate::measures::{Means, Scale};
 use crate::options::stream_comparison;
 use crate::program::Status;

@@ -4,7 +4,8 @@ ghost use Rattle.yuv_commands.specs.Options.{copy_of};
 ghost use Rattle.yuv_streams.specs.Prelude.{bytes_left, Copies};
 
 use crate::fault::Fault;
-use crate::input::{begin, expected_frames, open_file};
+use crate::input::{begin, expected_frames};
+use crate::input_file::open_file;
 use crate::options::{copy_sink, stream_copy};
 use crate::output::Output;
 use crate::program::Status;

@@ -1,13 +1,15 @@
 //! The command `diff`: the difference of two frames as a picture, and where it is.
-ghost use Rattle.std.specs.Prelude.{◌≡◌, ◌≢◌, unwrap_or, IfOk};
+ghost use Rattle.std.specs.Prelude.{◌≡◌, ◌≢◌, ◌↔◌, ◌++◌, false, string_bytes, unwrap_or, IfOk, IfSome, OnOk};
 ghost use Rattle.v_frame.specs.Prelude.{one_byte, tables_of, two_bytes};
 ghost use Rattle.v_frame_y4m.specs.Colour.{depth_of};
 ghost use Rattle.yuv_commands.specs.Differences.{DrawsDifference, DrawsFrames, TakesPair};
 ghost use Rattle.yuv_commands.specs.Options.{frame_pair};
+ghost use Rattle.yuv_commands.specs.Places.{chroma_said, found_said, plane_said, ShowNoDifference};
 ghost use Rattle.yuv_streams.specs.Prelude.{bytes_left, sizes_in, stream_of};
 
 use crate::fault::Fault;
-use crate::input::{begin, open_file};
+use crate::input::begin;
+use crate::input_file::open_file;
 use crate::options::{frames_before, taken_of_both};
 use crate::output::Output;
 use crate::program::Status;
@@ -168,20 +170,36 @@ fn draw_difference<T: Pixel, W: io::Write + Drop>(
 }
 
 /// Returns a line for each plane.
-fn found_text(alloc: Global, found: &Found) -> Result<String, AllocError> {
+fn found_text(alloc: Global, found: &Found) -> Result<String, AllocError>
+    ensures { IfOk result (λ text. string_bytes text ≡ found_said found.now) }
+{
     let mut text = String::new(alloc);
     push_plane(&mut text, "Y", &found.y)?;
-    if let Some(u) = &found.u {
-        push_plane(&mut text, "U", u)?;
-    }
-    if let Some(v) = &found.v {
-        push_plane(&mut text, "V", v)?;
-    }
+    push_chroma(&mut text, "U", &found.u)?;
+    push_chroma(&mut text, "V", &found.v)?;
     Ok(text)
 }
 
+/// Appends the line of a chroma plane, where it is there.
+fn push_chroma(
+    text: &mut String,
+    name: &str,
+    found: &Option<PlaneDifference>,
+) -> Result<(), AllocError>
+    ensures { OnOk result (string_bytes text.new
+        ≡ string_bytes text.old ++ chroma_said name.now found.now) }
+{
+    match found {
+        Some(found) => push_plane(text, name, found),
+        None => Ok(()),
+    }
+}
+
 /// Appends the line of a plane.
-fn push_plane(text: &mut String, name: &str, found: &PlaneDifference) -> Result<(), AllocError> {
+fn push_plane(text: &mut String, name: &str, found: &PlaneDifference) -> Result<(), AllocError>
+    ensures { OnOk result (string_bytes text.new
+        ≡ string_bytes text.old ++ plane_said name.now found.now) }
+{
     let samples = found.count;
     if samples == 0 {
         return writeln!(text, "{name}: no difference");
@@ -194,7 +212,9 @@ fn push_plane(text: &mut String, name: &str, found: &PlaneDifference) -> Result<
 }
 
 /// Returns whether a chroma plane is there and differs.
-fn chroma_differs(found: &Option<PlaneDifference>) -> bool {
+fn chroma_differs(found: &Option<PlaneDifference>) -> bool
+    ensures { (result ≡ false) ↔ IfSome found.now (λ plane. plane.count ≡ 0) }
+{
     match found {
         Some(found) => found.count > 0,
         None => false,
@@ -202,7 +222,10 @@ fn chroma_differs(found: &Option<PlaneDifference>) -> bool {
 }
 
 /// Returns how the command ends: as `compare` does.
-fn status_of(found: &Found) -> Status {
+fn status_of(found: &Found) -> Status
+    ensures same { (result ≡ Status.Same) ↔ ShowNoDifference found.now }
+    ensures never { result ≢ Status.Failed }
+{
     if found.y.count > 0 || chroma_differs(&found.u) || chroma_differs(&found.v) {
         Status::Different
     } else {

@@ -1,12 +1,15 @@
 //! The command `info`: what a stream is, and how many frames it has.
 ghost use Rattle.std.specs.Prelude.{◌≡◌, false, true, IfOk, IsOk, OnOk};
-ghost use Rattle.yuv_commands.specs.Info.{ReportsFrames};
+ghost use Rattle.std.specs.Io.KnownBytes.{Appends};
+ghost use Rattle.yuv_commands.specs.Facts.{stream_facts};
+ghost use Rattle.yuv_commands.specs.Info.{ReportsFrames, ReportsStream};
 ghost use Rattle.yuv_streams.specs.Prelude.{bytes_left};
 
 mod text;
 
 use crate::fault::Fault;
-use crate::input::{begin, expected_frames, open_file};
+use crate::input::{begin, expected_frames};
+use crate::input_file::open_file;
 use crate::options::{most_pixels, test_pixels};
 use crate::program::Status;
 use crate::progress::ProgressLine;
@@ -44,10 +47,8 @@ where
             most_pixels(options.max_pixels),
         )?;
     }
-    let text = format_text(alloc, source.header(), source.frame_len(), len);
-    write_made(&mut Counted::new(&mut system.output), text)?;
     let mut out = Counted::new(&mut system.output);
-    report_frames(
+    report_stream(
         alloc,
         &mut source,
         options,
@@ -56,6 +57,29 @@ where
         len,
     )?;
     Ok(Status::Same)
+}
+
+/// Reports what is known of a stream in a file of this length, where that is known, and then how many frames it has.
+fn report_stream<R: io::Read, W: io::Write, H: Clock, E: io::Write>(
+    alloc: Global,
+    source: &mut Source<R>,
+    options: &InfoOptions,
+    out: &mut Counted<W>,
+    progress: &mut ProgressLine<'_, H, E>,
+    len: Option<u64>,
+) -> Result<(), StreamError>
+    ensures unread { options.now.header ≡ true → source.new ≡ source.old }
+    ensures header { options.now.header ≡ true → OnOk result (Appends
+        (W.contents out.old.inner) (W.contents out.new.inner)
+        (stream_facts source.old.header source.old.frame_len len)) }
+    ensures counted { options.now.header ≡ false → OnOk result (ReportsStream source.old.container
+        source.old.header source.old.frame_len len (bytes_left R.remaining source.old)
+        (bytes_left R.remaining source.new) (W.contents out.old.inner)
+        (W.contents out.new.inner)) }
+{
+    let text = format_text(alloc, source.header(), source.frame_len(), len);
+    write_made(out, text)?;
+    report_frames(alloc, source, options, out, progress, len)
 }
 
 /// Counts the frames of a stream in a file of this length, where that is known, and reports the count. With `--header` nothing

@@ -1,10 +1,11 @@
 //! The command `plot`: how far two streams are apart, frame by frame, as a chart.
-ghost use Rattle.std.specs.Prelude.{◌≡◌};
+ghost use Rattle.std.specs.Prelude.{◌≡◌, ◌+◌, ◌-◌, ◌^◌, min, unwrap_or};
 ghost use Rattle.yuv_commands.specs.Options.{plot_of};
 
 use crate::compare::samples_of;
 use crate::fault::Fault;
-use crate::input::{begin, open_file};
+use crate::input::begin;
+use crate::input_file::open_file;
 use crate::measures::{Scale, reported};
 use crate::options::taken_of_both;
 use crate::output::Output;
@@ -103,7 +104,9 @@ fn frames_taken(options: &PlotOptions) -> CompareOptions
 }
 
 /// Returns the number of the first frame that is taken of the first stream, whose own first is frame 1.
-fn first_frame(options: &PlotOptions) -> u64 {
+fn first_frame(options: &PlotOptions) -> u64
+    ensures { result ≡ min (unwrap_or options.now.skip 0 + 1) (2 ^ 64 - 1) }
+{
     options.skip.unwrap_or(0).saturating_add(1)
 }
 

@@ -7,7 +7,8 @@ ghost use Rattle.yuv_pictures.specs.declared.error.PictureError.{PictureError as
 ghost use Rattle.yuv_streams.specs.Prelude.{bytes_left, stream_of};
 
 use crate::fault::Fault;
-use crate::input::{begin, open_file};
+use crate::input::begin;
+use crate::input_file::open_file;
 use crate::options::{frames_before, most_pixels, stream_rectangle};
 use crate::output::Output;
 use crate::program::Status;

@@ -1,15 +1,21 @@
 //! The command `stats`: what values the samples of a stream have.
-ghost use Rattle.std.specs.Prelude.{◌≡◌, ◌^◌, ◌++◌, true, option_map, string_bytes, IfOk, OnOk};
-ghost use Rattle.v_frame.specs.Prelude.{table_of, tables_of};
-ghost use Rattle.yuv_commands.specs.Values.{histogram_said, rows_of_chroma, CountsChroma, CountsFrame, CountsNothing};
+ghost use Rattle.std.specs.Prelude.{◌≡◌, ◌≢◌, ◌<◌, ◌^◌, ◌++◌, option_map, string_bytes, IfOk, OnOk};
+ghost use Rattle.v_frame.specs.Prelude.{one_byte, table_of, tables_of, two_bytes};
+ghost use Rattle.v_frame_y4m.specs.Colour.{depth_of};
+ghost use Rattle.yuv_commands.specs.Statistics.{ReportsValues, SaysCounts, SaysPlanes};
+ghost use Rattle.yuv_commands.specs.Values.{histogram_said, rows_of_chroma, CountsChroma, CountsFrame, CountsNothing, CountsStream};
+ghost use Rattle.yuv_streams.specs.Prelude.{bytes_left, sizes_in};
 
 use crate::fault::Fault;
-use crate::input::{begin, open_file};
+use crate::input::begin;
+use crate::input_file::open_file;
 use crate::options::most_pixels;
 use crate::program::Status;
 use crate::report::{no_memory, write_made};
+use crate::statistics::{NominalRange, push_chroma_plane, push_plane};
 use crate::system::System;
-use crate::values::{CountedPixel, ValueCounts};
+use crate::value_counts::ValueCounts;
+use crate::values::CountedPixel;
 use std::alloc::{AllocError, Global};
 use std::io;
 use std::rt::Files;
@@ -17,7 +23,7 @@ use std::time::Clock;
 use v_frame::frame::Frame;
 use v_frame::plane::Plane;
 use v_frame_planar::Counted;
-use yuv_reports::{PlaneName, SampleStatistics, push_histogram, push_statistics};
+use yuv_reports::{PlaneName, push_histogram};
 use yuv_streams::{Picture, Place, Source, StreamError};
 use yuv_words::StatsOptions;
 
@@ -36,16 +42,54 @@ where
     let alloc = system.rt.alloc();
     let mut file = open_file(system.rt, name, Place::First, &mut system.input)?;
     let mut source = begin(system, name, &mut file, options.raw)?;
-    let most = most_pixels(options.max_pixels);
-    let counts = if source.header().colour.bit_depth() == 8 {
-        count_values::<u8, _>(alloc, &mut source, most)?
-    } else {
-        count_values::<u16, _>(alloc, &mut source, most)?
-    };
-    let text = report_text(alloc, &counts, options, source.header().colour.bit_depth());
-    drop(counts);
-    write_made(&mut Counted::new(&mut system.output), text)?;
+    let mut out = Counted::new(&mut system.output);
+    report_values(alloc, &mut source, options, &mut out)?;
     Ok(Status::Same)
+}
+
+/// Writes what values the samples of a stream have.
+fn report_values<R: io::Read, W: io::Write>(
+    alloc: Global,
+    source: &mut Source<R>,
+    options: &StatsOptions,
+    out: &mut Counted<W>,
+) -> Result<(), StreamError>
+    ensures bytes { depth_of source.old.header.colour ≡ 8 → OnOk result (ReportsValues one_byte
+        (256 ^ 1) source.old.container source.old.frame_len source.old.layout
+        (sizes_in source.old.header) (bytes_left R.remaining source.old)
+        (bytes_left R.remaining source.new) (W.contents out.old.inner) (W.contents out.new.inner)
+        options.now.histogram (depth_of source.old.header.colour)) }
+    ensures words { depth_of source.old.header.colour ≢ 8 → OnOk result (ReportsValues two_bytes
+        (256 ^ 2) source.old.container source.old.frame_len source.old.layout
+        (sizes_in source.old.header) (bytes_left R.remaining source.old)
+        (bytes_left R.remaining source.new) (W.contents out.old.inner) (W.contents out.new.inner)
+        options.now.histogram (depth_of source.old.header.colour)) }
+{
+    if source.header().colour.bit_depth() == 8 {
+        report_pixels::<u8, _, _>(alloc, source, options, out)
+    } else {
+        report_pixels::<u16, _, _>(alloc, source, options, out)
+    }
+}
+
+/// The same of pixels of a type.
+fn report_pixels<T: CountedPixel, R: io::Read, W: io::Write>(
+    alloc: Global,
+    source: &mut Source<R>,
+    options: &StatsOptions,
+    out: &mut Counted<W>,
+) -> Result<(), StreamError>
+    ensures { OnOk result (ReportsValues T.form (256 ^ T.BYTES) source.old.container
+        source.old.frame_len source.old.layout (sizes_in source.old.header)
+        (bytes_left R.remaining source.old) (bytes_left R.remaining source.new)
+        (W.contents out.old.inner) (W.contents out.new.inner) options.now.histogram
+        (depth_of source.old.header.colour)) }
+{
+    let depth = source.header().colour.bit_depth();
+    let counts = count_values::<T, _>(alloc, source, most_pixels(options.max_pixels))?;
+    let text = report_text(alloc, &counts, options.histogram, depth);
+    drop(counts);
+    write_made(out, text)
 }
 
 /// How often each value occurs in each plane.
@@ -61,13 +105,17 @@ fn count_values<T: CountedPixel, R: io::Read>(
     alloc: Global,
     source: &mut Source<R>,
     most: usize,
-) -> Result<Counts, StreamError> {
+) -> Result<Counts, StreamError>
+    ensures { IfOk result (CountsStream T.form (256 ^ T.BYTES) source.old.container
+        source.old.frame_len source.old.layout (sizes_in source.old.header)
+        (bytes_left R.remaining source.old) (bytes_left R.remaining source.new)) }
+{
     let mut picture = Picture::<T>::new(alloc, source, most)?;
     let has_chroma = picture.frame().u_plane.is_some();
     let Ok(mut counts) = Counts::new(alloc, has_chroma) else {
         return Err(no_memory());
     };
-    for _ in 0..u64::MAX {
+    for _count in 0..u64::MAX {
         if !picture.read(source)? {
             return Ok(counts);
         }
@@ -126,17 +174,16 @@ fn add_chroma<T: CountedPixel>(
     }
 }
 
-/// Returns what the options ask for: a histogram, or a line for each plane.
+/// Returns what is asked for: a histogram, or a line for each plane.
 fn report_text(
     alloc: Global,
     counts: &Counts,
-    options: &StatsOptions,
+    histogram: bool,
     depth: u8,
 ) -> Result<String, AllocError>
-    ensures { options.now.histogram ≡ true
-        → IfOk result (λ text. string_bytes text ≡ histogram_said counts.now) }
+    ensures { IfOk result (λ text. SaysCounts histogram depth counts.now (string_bytes text)) }
 {
-    if options.histogram {
+    if histogram {
         return histogram_text(alloc, counts);
     }
     statistics_text(alloc, counts, depth)
@@ -170,61 +217,14 @@ fn push_chroma(
 }
 
 /// Returns a line for each plane.
-fn statistics_text(alloc: Global, counts: &Counts, depth: u8) -> Result<String, AllocError> {
+fn statistics_text(alloc: Global, counts: &Counts, depth: u8) -> Result<String, AllocError>
+    ensures { IfOk result (λ text. SaysPlanes depth counts.now (string_bytes text)) }
+{
     let mut text = String::new(alloc);
-    push_plane(
-        &mut text,
-        PlaneName::Y,
-        &counts.y,
-        nominal(16, depth),
-        nominal(235, depth),
-    )?;
-    if let Some(u) = &counts.u {
-        push_plane(
-            &mut text,
-            PlaneName::U,
-            u,
-            nominal(16, depth),
-            nominal(240, depth),
-        )?;
-    }
-    if let Some(v) = &counts.v {
-        push_plane(
-            &mut text,
-            PlaneName::V,
-            v,
-            nominal(16, depth),
-            nominal(240, depth),
-        )?;
-    }
+    let luma = NominalRange::new(16, 235, depth);
+    let chroma = NominalRange::new(16, 240, depth);
+    push_plane(alloc, &mut text, PlaneName::Y, &counts.y, luma)?;
+    push_chroma_plane(alloc, &mut text, PlaneName::U, &counts.u, chroma)?;
+    push_chroma_plane(alloc, &mut text, PlaneName::V, &counts.v, chroma)?;
     Ok(text)
-}
-
-/// Returns the value that stands at a depth for one of 8 bits, as ITU-R BT.601 and BT.709 have it.
-fn nominal(value: u8, depth: u8) -> u16 {
-    u16::from(value) << depth.saturating_sub(8).min(8)
-}
-
-/// Appends the line of a plane, where it has samples.
-fn push_plane(
-    text: &mut String,
-    plane: PlaneName,
-    counts: &ValueCounts,
-    least: u16,
-    greatest: u16,
-) -> Result<(), AllocError> {
-    let found = (counts.minimum(), counts.maximum(), counts.mean());
-    let (Some(minimum), Some(maximum), Some(mean)) = found else {
-        return Ok(());
-    };
-    push_statistics(
-        text,
-        &SampleStatistics {
-            plane,
-            minimum,
-            maximum,
-            mean,
-            outside: counts.outside(least, greatest),
-        },
-    )
 }

@@ -1,11 +1,17 @@
 //! The command `sum`: a checksum of each frame, or of each plane.
-ghost use Rattle.std.specs.Prelude.{◌≡◌, length};
+ghost use Rattle.std.specs.Prelude.{◌≡◌, ◌<◌, length, OnOk};
+ghost use Rattle.std.specs.Io.KnownBytes.{Appends};
 ghost use Rattle.v_frame.specs.Prelude.{tables_of};
 ghost use Rattle.v_frame_planar.specs.Planar.{byte_count, sizes_of};
-ghost use Rattle.yuv_commands.specs.Checksums.{checksums_of};
+ghost use Rattle.v_frame_y4m.specs.Colour.{depth_of};
+ghost use Rattle.v_frame_y4m.specs.Frames.{pixel_bytes};
+ghost use Rattle.yuv_commands.specs.Checksums.{checksums_of, SumsFrames};
+ghost use Rattle.yuv_reports.specs.Samples.{checksums_line};
+ghost use Rattle.yuv_streams.specs.Prelude.{bytes_left, sizes_in};
 
 use crate::fault::Fault;
-use crate::input::{begin, open_file};
+use crate::input::begin;
+use crate::input_file::open_file;
 use crate::options::most_pixels;
 use crate::program::Status;
 use crate::report::{no_memory, write_text};
@@ -41,35 +47,72 @@ where
         return Err(Fault::NoPlanes(Place::First));
     }
     let mut out = Counted::new(&mut system.output);
-    if source.header().colour.bit_depth() == 8 {
-        sum_frames::<u8, _, _>(alloc, &mut source, options, &mut out)?;
-    } else {
-        sum_frames::<u16, _, _>(alloc, &mut source, options, &mut out)?;
-    }
+    sum_stream(alloc, &mut source, options, &mut out)?;
     Ok(Status::Same)
 }
 
-/// Reports the checksums of all frames.
+/// Writes a line for each frame of a stream.
+fn sum_stream<R: io::Read, W: io::Write>(
+    alloc: Global,
+    source: &mut Source<R>,
+    options: &SumOptions,
+    out: &mut Counted<W>,
+) -> Result<(), StreamError>
+    ensures { OnOk result (SumsFrames source.old.container source.old.frame_len
+        (bytes_left R.remaining source.old) (bytes_left R.remaining source.new)
+        (W.contents out.old.inner) (W.contents out.new.inner) options.now.planes
+        (pixel_bytes (depth_of source.old.header.colour)) (sizes_in source.old.header)) }
+{
+    if source.header().colour.bit_depth() == 8 {
+        sum_frames::<u8, _, _>(alloc, source, options, out)
+    } else {
+        sum_frames::<u16, _, _>(alloc, source, options, out)
+    }
+}
+
+/// The same of pixels of a type.
 fn sum_frames<T: Pixel, R: io::Read, W: io::Write>(
     alloc: Global,
     source: &mut Source<R>,
     options: &SumOptions,
     out: &mut Counted<W>,
-) -> Result<(), StreamError> {
+) -> Result<(), StreamError>
+    ensures { OnOk result (SumsFrames source.old.container source.old.frame_len
+        (bytes_left R.remaining source.old) (bytes_left R.remaining source.new)
+        (W.contents out.old.inner) (W.contents out.new.inner) options.now.planes
+        T.form.size (sizes_in source.old.header)) }
+{
     let mut picture = Picture::<T>::new(alloc, source, most_pixels(options.max_pixels))?;
     let mut text = String::new(alloc);
-    for _ in 0..u64::MAX {
+    for before in 0..u64::MAX {
         if !picture.read(source)? {
             return Ok(());
         }
-        let sums = checksums(picture.frame(), picture.bytes(), options.planes);
-        text.clear();
-        match push_checksums(&mut text, source.frames(), sums) {
-            Ok(()) => write_text(out, text.as_str())?,
-            Err(_) => return Err(no_memory()),
-        }
+        let (frame, bytes) = (picture.frame(), picture.bytes());
+        write_sums(&mut text, before + 1, frame, bytes, options.planes, out)?;
     }
     Ok(())
+}
+
+/// Writes the line of a frame of this number, whose planar bytes are these. It is put together in `text`.
+fn write_sums<T: Pixel, W: io::Write>(
+    text: &mut String,
+    number: u64,
+    frame: &Frame<T>,
+    bytes: &[u8],
+    planes: bool,
+    out: &mut Counted<W>,
+) -> Result<(), StreamError>
+    requires { length bytes.now ≡ byte_count T.form.size (sizes_of (tables_of frame.now)) }
+    ensures { OnOk result (Appends (W.contents out.old.inner) (W.contents out.new.inner)
+        (checksums_line number
+        (checksums_of planes T.form.size (sizes_of (tables_of frame.now)) bytes.now))) }
+{
+    text.clear();
+    match push_checksums(text, number, checksums(frame, bytes, planes)) {
+        Ok(()) => write_text(out, text.as_str()),
+        Err(_) => Err(no_memory()),
+    }
 }
 
 /// Returns the checksums of a frame, whose planar bytes are these.

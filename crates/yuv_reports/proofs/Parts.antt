@@ -1,6 +1,8 @@
 -- Texts that are put together, one part after the other.
-use Rattle.std.proofs.Common.{◌≡◌, ◌∙◌, ◌++◌, ℕ, List, Result, Ok, Err, ap, append_assoc, is_ok, if◌then◌else◌, refl}
-use Rattle.std.specs.Prelude.{OnOk}
+use Rattle.std.proofs.Common.{◌≡◌, ◌∙◌, ◌++◌, ◌∷◌, ◌+◌, ◌<◌, ℕ, [], List, Result, Ok, Err, ap, append_assoc, is_ok, if◌then◌else◌, length, refl, take}
+use Rattle.std.proofs.Math.ListN.{get_or}
+use Rattle.std.proofs.lemmas.List.{map-append, take_more}
+use Rattle.std.specs.Prelude.{OnOk, map}
 use Rattle.yuv_reports.specs.Texts.{EndsWith}
 
 -- a last part, where there was memory for it
@@ -29,3 +31,31 @@ ends_with_four (Ok done) start a b c d e one two three new first second third la
   last ∙ ap (λ t. t ++ e) (third ∙ ap (λ t. t ++ d) (second ∙ ap (λ t. t ++ c) first))
       ∙ simp append_assoc,
 )
+
+pub two_parts : {A E : Type 0} (result : Result A E) (start a b one new : List ℕ) → one ≡ start ++ a
+    → OnOk result (new ≡ one ++ b) → OnOk result (new ≡ start ++ (a ++ b))
+two_parts (Err error) start a b one new first last = tt
+two_parts (Ok done) start a b one new first last = last ∙ ap (λ t. t ++ b) first ∙ append_assoc start a b
+
+pub three_parts : {A E : Type 0} (result : Result A E) (start a b c one two new : List ℕ) → one ≡ start ++ a
+    → two ≡ one ++ b → new ≡ (if is_ok result then two ++ c else two)
+    → OnOk result (new ≡ start ++ (a ++ (b ++ c)))
+three_parts (Err error) start a b c one two new first second last = tt
+three_parts (Ok done) start a b c one two new first second last =
+    last ∙ ap (λ t. t ++ c) (second ∙ ap (λ t. t ++ b) first) ∙ simp append_assoc
+
+-- three parts around one that is not known
+pub around : {A E : Type 0} (result : Result A E) (start front mid end one two new : List ℕ)
+    → one ≡ start ++ front → two ≡ one ++ mid → OnOk result (new ≡ two ++ end)
+    → OnOk result ((some : List ℕ) × (new ≡ start ++ (front ++ (some ++ end))))
+around (Err error) start front mid end one two new first second last = tt
+around (Ok done) start front mid end one two new first second last = (
+  mid,
+  last ∙ ap (λ t. t ++ end) (second ∙ ap (λ t. t ++ mid) first) ∙ simp append_assoc,
+)
+
+-- what is made of one more item
+pub mapped_more : (f : ℕ → ℕ) (xs : List ℕ) (i d : ℕ) → i < length xs
+    → map f (take (i + 1) xs) ≡ map f (take i xs) ++ f (get_or xs i d) ∷ []
+mapped_more f xs i d within =
+    ap (map f) (take_more xs i d within) ∙ map-append f (take i xs) (get_or xs i d ∷ [])

@@ -1,3 +1,5 @@
 pub mod Histograms
+pub mod Samples
 pub mod Sums
 pub mod Texts
+pub mod Worked

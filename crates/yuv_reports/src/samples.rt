@@ -1,10 +1,12 @@
 //! What is reported of the samples of one stream: statistics, histograms and checksums.
-ghost use Rattle.std.specs.Prelude.{◌≡◌, ◌++◌, string_bytes, OnOk};
+ghost use Rattle.std.specs.Prelude.{◌≡◌, ◌++◌, ◌∷◌, ◌<◌, [], string_bytes, OnOk};
+ghost use Rattle.std.specs.Char.{digit_char};
 ghost use Rattle.yuv_reports.specs.Histograms.{histogram_row, histogram_rows};
+ghost use Rattle.yuv_reports.specs.Samples.{checksum_word, checksums_line, chroma_words, statistics_end, statistics_front, sum_words, AppendsStatistics};
 
 use crate::comparison::PlaneName;
 use crate::planes::push_number;
-use std::alloc::AllocError;
+use std::alloc::{AllocError, Global};
 
 /// The values that samples of a plane have, over all frames.
 #[derive(Clone, Copy)]
@@ -21,24 +23,44 @@ pub struct SampleStatistics {
     pub outside: u64,
 }
 
-/// Appends the line of a plane.
+/// Appends the line of a plane, with its mean in two decimals.
 ///
 /// # Errors
 ///
 /// [`AllocError`] where there is no memory for the text.
-pub fn push_statistics(text: &mut String, found: &SampleStatistics) -> Result<(), AllocError> {
-    let SampleStatistics {
-        plane,
-        minimum,
-        maximum,
-        mean,
-        outside,
-    } = *found;
-    let plane = plane.text();
-    writeln!(
-        text,
-        "{plane}: minimum {minimum}, maximum {maximum}, mean {mean:.2}, outside the nominal range {outside}"
-    )
+pub fn push_statistics(
+    alloc: Global,
+    text: &mut String,
+    found: &SampleStatistics,
+) -> Result<(), AllocError>
+    ensures { OnOk result (AppendsStatistics (string_bytes text.old) (string_bytes text.new)
+        found.now) }
+{
+    // A text of its own, since nothing is known of one that a float was written to.
+    let mean = found.mean;
+    let mean = format!(in alloc; "{mean:.2}")?;
+    push_extremes(text, found)?;
+    text.push_str(mean.as_str())?;
+    push_outside(text, found)
+}
+
+/// Appends what stands in front of the mean.
+fn push_extremes(text: &mut String, found: &SampleStatistics) -> Result<(), AllocError>
+    ensures { OnOk result (string_bytes text.new
+        ≡ string_bytes text.old ++ statistics_front found.now) }
+{
+    let plane = found.plane.text();
+    let (minimum, maximum) = (found.minimum, found.maximum);
+    write!(text, "{plane}: minimum {minimum}, maximum {maximum}, mean ")
+}
+
+/// Appends what stands after the mean.
+fn push_outside(text: &mut String, found: &SampleStatistics) -> Result<(), AllocError>
+    ensures { OnOk result (string_bytes text.new
+        ≡ string_bytes text.old ++ statistics_end found.now) }
+{
+    let outside = found.outside;
+    writeln!(text, ", outside the nominal range {outside}")
 }
 
 /// Appends a row `plane,value,count` for each value that occurs.
@@ -82,16 +104,73 @@ pub enum Checksums {
 /// # Errors
 ///
 /// [`AllocError`] where there is no memory for the text.
-pub fn push_checksums(text: &mut String, frame: u64, sums: Checksums) -> Result<(), AllocError> {
+pub fn push_checksums(text: &mut String, frame: u64, sums: Checksums) -> Result<(), AllocError>
+    ensures { OnOk result (string_bytes text.new
+        ≡ string_bytes text.old ++ checksums_line frame sums) }
+{
     push_number(text, "", u128::from(frame), "")?;
+    push_sums(text, sums)?;
+    text.push('\n')
+}
+
+/// Appends checksums, each after a space.
+fn push_sums(text: &mut String, sums: Checksums) -> Result<(), AllocError>
+    ensures { OnOk result (string_bytes text.new ≡ string_bytes text.old ++ sum_words sums) }
+{
     match sums {
-        Checksums::Frame(sum) => write!(text, " {sum:08x}")?,
+        Checksums::Frame(sum) => push_checksum(text, sum),
         Checksums::Planes(y, chroma) => {
-            write!(text, " {y:08x}")?;
-            if let Some((u, v)) = chroma {
-                write!(text, " {u:08x} {v:08x}")?;
-            }
+            push_checksum(text, y)?;
+            push_chroma(text, chroma)
         }
     }
-    text.push('\n')
+}
+
+/// Appends those of U and V, where they are there.
+fn push_chroma(text: &mut String, sums: Option<(u32, u32)>) -> Result<(), AllocError>
+    ensures { OnOk result (string_bytes text.new
+        ≡ string_bytes text.old ++ chroma_words sums) }
+{
+    match sums {
+        Some(sums) => {
+            push_checksum(text, sums.0)?;
+            push_checksum(text, sums.1)
+        }
+        None => Ok(()),
+    }
+}
+
+/// What the hexadecimal digits of 32 bits are worth, the first digit first.
+const PLACES: [u32; 8] = [
+    0x1000_0000,
+    0x100_0000,
+    0x10_0000,
+    0x1_0000,
+    0x1000,
+    0x100,
+    0x10,
+    1,
+];
+
+/// Appends a space and a checksum.
+fn push_checksum(text: &mut String, sum: u32) -> Result<(), AllocError>
+    ensures { OnOk result (string_bytes text.new ≡ string_bytes text.old ++ checksum_word sum) }
+{
+    text.push(' ')?;
+    for place in 0..8 {
+        push_digit(text, sum / PLACES[place] % 16)?;
+    }
+    Ok(())
+}
+
+/// Appends a hexadecimal digit.
+fn push_digit(text: &mut String, digit: u32) -> Result<(), AllocError>
+    requires { digit < 16 }
+    ensures { OnOk result (string_bytes text.new
+        ≡ string_bytes text.old ++ (digit_char digit ∷ [])) }
+{
+    match char::from_digit(digit, 16) {
+        Some(letter) => text.push(letter),
+        None => unreachable!(),
+    }
 }

@@ -1,5 +1,5 @@
 -- The report ends as the last text that was written.
-use Rattle.std.proofs.Common.{◌≡◌, ◌∙◌, ap, inl, inr, refl, sym}
+use Rattle.std.proofs.Common.{◌∙◌, ap, inl, inr, refl, sym}
 use Rattle.std.proofs.lemmas.Bool.{cases_eq}
 use Rattle.v_frame.specs.Prelude.{one_byte, two_bytes}
 use Rattle.v_frame_y4m.specs.Colour.{depth_of}

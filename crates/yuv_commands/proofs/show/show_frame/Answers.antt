@@ -1,5 +1,5 @@
 -- The bytes of one frame, what they show, and its picture.
-use Rattle.std.proofs.Common.{◌∙◌, Option, ap, subst, sym}
+use Rattle.std.proofs.Common.{◌∙◌, ap, subst, sym}
 use Rattle.std.specs.Prelude.{IfSome, IsSomeAnd}
 use Rattle.v_frame_png.specs.Prelude.{HasFile}
 use Rattle.v_frame_y4m.specs.declared.header.StreamHeader.{StreamHeader}

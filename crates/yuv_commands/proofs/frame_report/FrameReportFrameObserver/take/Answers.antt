@@ -1,5 +1,5 @@
 -- What was said of the frame was written.
-use Rattle.std.proofs.Common.{◌∙◌, ◌≡◌, List, Option, ℕ, ap, is_some, subst}
+use Rattle.std.proofs.Common.{◌∙◌, List, Option, ℕ, ap, is_some, subst}
 use Rattle.std.specs.Prelude.{IsTrue}
 use Rattle.std.specs.String.{string_bytes}
 use Rattle.std.specs.Io.KnownBytes.{Appends}
