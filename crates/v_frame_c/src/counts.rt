@@ -5,12 +5,10 @@ ghost use Rattle.v_frame_c.specs.Counts.{count_between, is_between};
 ghost use Rattle.v_frame_c.specs.Layout.{fits, picture};
 ghost use Rattle.v_frame_c.specs.Status.{status_of_one, status_of_sized};
 ghost use Rattle.v_frame_statistics.specs.Prelude.{Counts};
-ghost use Rattle.v_frame_statistics.specs.Histogram.{CountsMore, HasRoom};
 
 use crate::layout::Rows;
 use crate::status::{FIRST, OK, SIZES};
 use v_frame::pixel::Pixel;
-use v_frame::plane::RowsRef;
 use v_frame_statistics::rows as statistics;
 
 /// Counts the pixels with a value from `least` to `greatest`.
@@ -58,29 +56,6 @@ pub fn histogram_of_words(rows: &Rows, buffer: &[u16], counts: &mut [u64]) -> u3
     let Some(source) = rows.of(buffer) else {
         return FIRST;
     };
-    count_values(&source, counts);
+    statistics::histogram_into(&source, counts);
     OK
-}
-
-/// Makes entry `v` of `counts` how many pixels have the value `v`.
-fn count_values(source: &RowsRef<'_, u16>, counts: &mut [u64])
-    ensures { Counts (length counts.old) (row_major source.now) counts.new }
-{
-    counts.fill(0);
-    for y in 0..source.height() {
-        count_words(counts, source.visible_row(y));
-    }
-}
-
-/// Counts the pixels of a row that have an entry.
-fn count_words(counts: &mut [u64], row: &[u16])
-    requires { HasRoom (length counts.old) counts.old (length row.now) }
-    ensures { CountsMore (length counts.old) row.now counts.old counts.new }
-{
-    for x in 0..row.len() {
-        let value = usize::from(row[x]);
-        if value < counts.len() {
-            counts[value] += 1;
-        }
-    }
 }

@@ -52,17 +52,30 @@ nearest_inside source target x some inside =
     let low : (2 * x + 1 + 1) * source ≤ 2 * target * source = mul-le-mul_right source (omega arith) in
     (div-lt_iff_lt-mul d).1 (omega (arith, low))
 
--- the pixel that holds the center that is reached after x steps of rows that are not too long
-module _ (source target x place half : ℕ) (inside : x < target) (wide : target ≤ 65536) (few : source ≤ 65536)
-    (step : half ≡ source * 1099511627776 / (2 * target) + 1) (so_far : place ≡ (2 * x + 1) * half) where
-  pub center_is : place / 1099511627776 ≡ nearest source target x
-  center_is =
-      let low : 2 * target ≤ 131072 = omega arith in
-      let square : 2 * target * (2 * target) ≤ 131072 * (2 * target) = mul-le-mul_right (2 * target) low in
-      rw (so_far, step) (parts_are_exact source (2 * target) 1099511627776 (2 * x + 1) (omega arith) (omega arith)
-      (omega (arith, square)))
+-- the place of the center that is reached after x steps of rows that are not too long
+pub record IsPlace (source target half x place : ℕ) : Type 0 where
+  pub wide : target ≤ 65536
+  pub few : source ≤ 65536
+  pub step : half ≡ source * 1099511627776 / (2 * target) + 1
+  pub so_far : place ≡ (2 * x + 1) * half
 
-  pub next_fits : place + 2 * half < 2 ^ 64
-  next_fits =
-      rw (so_far, step) (places_fit source (2 * target) 1099511627776 (2 * x + 1) (omega arith) (omega arith)
-      (omega arith) (omega arith))
+module _ {source target half x place : ℕ} (is : IsPlace source target half x place) where
+  pub next_place : IsPlace source target half (x + 1) (place + 2 * half)
+  next_place = record { wide = is.wide; few = is.few; step = is.step; so_far = omega (arith, is.so_far) }
+
+  module _ (inside : x < target) where
+    -- the pixel that holds it
+    pub center_is : place / 1099511627776 ≡ nearest source target x
+    center_is =
+        let low : 2 * target ≤ 131072 = omega (arith, is.wide) in
+        let square : 2 * target * (2 * target) ≤ 131072 * (2 * target) = mul-le-mul_right (2 * target) low in
+        rw (is.so_far, is.step) (parts_are_exact source (2 * target) 1099511627776 (2 * x + 1) (omega arith) (omega arith)
+        (omega (arith, square)))
+
+    pub place_inside : 0 < source → place / 1099511627776 < source
+    place_inside some = rw center_is (nearest_inside source target x some inside)
+
+    pub next_fits : place + 2 * half < 2 ^ 64
+    next_fits =
+        rw (is.so_far, is.step) (places_fit source (2 * target) 1099511627776 (2 * x + 1) (omega arith) (omega arith)
+        (omega (arith, is.wide)) (omega (arith, is.few)))

@@ -29,6 +29,22 @@ module _ {X : Type 0} (f : X → ℕ) where
       → sum_by f (take at xs) + sum_by f (take (length xs - at) (drop at xs)) ≡ sum_by f xs
   sum_by-rest xs at = rw (take_rest xs at) (sum_by-take-drop f xs at)
 
+  -- four more items
+  pub sum_by-four_more : (xs : List X) (k : ℕ) (d : X) → 4 * k + 3 < length xs
+      → sum_by f (take (4 * (k + 1)) xs) ≡ sum_by f (take (4 * k) xs) + f (get_or xs (4 * k) d)
+      + f (get_or xs (4 * k + 1) d) + f (get_or xs (4 * k + 2) d) + f (get_or xs (4 * k + 3) d)
+  sum_by-four_more xs k d h =
+      let two : 4 * k + 1 + 1 ≡ 4 * k + 2 = omega arith in
+      let three : 4 * k + 2 + 1 ≡ 4 * k + 3 = omega arith in
+      let four : 4 * k + 3 + 1 ≡ 4 * (k + 1) = omega arith in
+      omega (
+        arith,
+        sum_by_more f xs (4 * k) d (omega arith),
+        rw two at (sum_by_more f xs (4 * k + 1) d (omega arith)),
+        rw three at (sum_by_more f xs (4 * k + 2) d (omega arith)),
+        rw four at (sum_by_more f xs (4 * k + 3) d (omega arith)),
+      )
+
 module _ {X Y : Type 0} where
   -- the pairs of the first items are the first pairs, and those of the others the other pairs
   pub zip-take : (n : ℕ) (xs : List X) (ys : List Y) → zip (take n xs) (take n ys) ≡ take n (zip xs ys)

@@ -11,7 +11,7 @@ mod sums;
 
 pub use counts::{count_pairs, count_pixels};
 pub use extremes::{maximum, minimum};
-pub use histograms::{histogram, histogram_of_depth};
+pub use histograms::{histogram, histogram_into, histogram_of_depth};
 pub use pairs::{PairSums, pair_sums};
 pub use summary::{PictureStatistics, statistics};
 pub use sums::{SumAndCount, VarianceSums, mean, sum, variance};

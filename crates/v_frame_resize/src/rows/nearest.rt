@@ -1,5 +1,5 @@
 //! Resizing by the nearest pixel.
-ghost use Rattle.std.specs.Prelude.{◌≡◌, ◌^◌, ◌<◌, ◌≤◌, ℕ, length, slice_get};
+ghost use Rattle.std.specs.Prelude.{◌≡◌, ◌/◌, ◌^◌, ◌<◌, ◌≤◌, ℕ, Some, length, slice_get};
 ghost use Rattle.v_frame.specs.Prelude.{pixel_at, strided_rows, width_of, height_of, KeepsRest, RowsFit};
 ghost use Rattle.v_frame_resize.specs.Resize.{nearest};
 
@@ -67,11 +67,28 @@ fn nearest_by_parts<T: Copy>(out: &mut [T], row: &[T])
 {
     let half = half_step(row.len(), out.len());
     let mut place = half;
-    for x in 0..out.len() {
-        let at = place / PARTS;
-        out[x] = row[at];
-        place += 2 * half;
+    let pairs = out.len() / 2;
+    for pair in 0..pairs {
+        let x = 2 * pair;
+        let next = place + 2 * half;
+        let (first, second) = (pixel_at_place(row, place), pixel_at_place(row, next));
+        out[x] = first;
+        out[x + 1] = second;
+        place = next + 2 * half;
     }
+    let last = 2 * pairs;
+    if last < out.len() {
+        out[last] = pixel_at_place(row, place);
+    }
+}
+
+/// Returns the pixel of a row at so many parts of a pixel.
+#[inline(always)]
+fn pixel_at_place<T: Copy>(row: &[T], place: usize) -> T
+    requires { place / 1099511627776 < length row.now }
+    ensures { slice_get row.now (place / 1099511627776) ≡ Some result }
+{
+    row[place / PARTS]
 }
 
 /// The same of any rows.

@@ -1,5 +1,5 @@
 //! How often each value occurs.
-ghost use Rattle.std.specs.Prelude.{◌≡◌, ◌+◌, ◌^◌, ◌<◌, ◌≤◌, ℕ, IfOk, length, slice_index, slice_set, vec_len};
+ghost use Rattle.std.specs.Prelude.{◌≡◌, ◌+◌, ◌^◌, ◌<◌, ◌≤◌, ◌∷◌, ℕ, [], IfOk, length, slice_index, slice_set, vec_len};
 ghost use Rattle.v_frame.specs.Prelude.{row_major};
 ghost use Rattle.v_frame_statistics.specs.Histogram.{Counts, CountsMore, HasRoom};
 
@@ -52,10 +52,18 @@ pub fn histogram_of_depth(
     let entries = 1usize << bit_depth;
     let mut table = Vec::with_capacity(alloc, entries)?;
     table.resize(entries, 0u64)?;
-    for y in 0..rows.height() {
-        count_words(&mut table, rows.visible_row(y));
-    }
+    histogram_into(rows, &mut table);
     Ok(table)
+}
+
+/// Makes entry `v` of `counts` how many pixels have the value `v`. A pixel of a value that has no entry is not counted.
+pub fn histogram_into(rows: &RowsRef<'_, u16>, counts: &mut [u64])
+    ensures { Counts (length counts.old) (row_major rows.now) counts.new }
+{
+    counts.fill(0);
+    for y in 0..rows.height() {
+        count_words(counts, rows.visible_row(y));
+    }
 }
 
 /// Returns a table with no counts.
@@ -127,15 +135,33 @@ fn add_tables(table: &mut Table, other: &Table)
     }
 }
 
-/// Counts the pixels of a row that have an entry.
-fn count_words(table: &mut [u64], row: &[u16])
-    requires { HasRoom (length table.old) table.old (length row.now) }
-    ensures { CountsMore (length table.old) row.now table.old table.new }
+/// Counts the pixels of a row that have an entry. Four are read before the first of them is counted.
+fn count_words(counts: &mut [u64], row: &[u16])
+    requires { HasRoom (length counts.old) counts.old (length row.now) }
+    ensures { CountsMore (length counts.old) row.now counts.old counts.new }
 {
-    for x in 0..row.len() {
-        let value = usize::from(row[x]);
-        if value < table.len() {
-            table[value] += 1;
-        }
+    let fours = row.len() / 4;
+    for four in 0..fours {
+        let x = 4 * four;
+        let (a, b, c, d) = (row[x], row[x + 1], row[x + 2], row[x + 3]);
+        count_word(counts, a);
+        count_word(counts, b);
+        count_word(counts, c);
+        count_word(counts, d);
+    }
+    for x in 4 * fours..row.len() {
+        count_word(counts, row[x]);
+    }
+}
+
+/// Counts one more pixel, if its value has an entry.
+#[inline(always)]
+fn count_word(counts: &mut [u64], pixel: u16)
+    requires { HasRoom (length counts.old) counts.old 1 }
+    ensures { CountsMore (length counts.old) (pixel ∷ []) counts.old counts.new }
+{
+    let value = usize::from(pixel);
+    if value < counts.len() {
+        counts[value] += 1;
     }
 }

@@ -1,11 +1,10 @@
 -- The pixel at the center is written.
-use Rattle.std.proofs.Common.{◌≡◌, length, Some, slice_get, slice_set, refl, sym, ◌∙◌, arith}
+use Rattle.std.proofs.Common.{◌≡◌, length, Some, slice_get, refl, arith}
 use Rattle.std.proofs.lemmas.Option.{slice_get_read}
-use Rattle.v_frame_raster.proofs.tables.Lists.{others_are_read, set_is_read}
 use Rattle.v_frame_resize.specs.Resize.{nearest}
 use Rattle.v_frame_resize.proofs.CenterLemmas.{nearest_is, center_inside}
+use Rattle.v_frame_resize.proofs.RowWritten.{one_written}
 use Rattle.v_frame_resize.proofs.rows.nearest.nearest_by_centers.Goals as goal
-use borrow.Author.Count.{below_more}
 
 pub loop-x-preserved : goal.loop-x-preserved
 loop-x-preserved g c =
@@ -19,7 +18,6 @@ loop-x-preserved g c =
     rw (nearest_is source target x c.loop-x.center center) read in record {
       center = c.next_center-center.ensures source target x center;
       pixels =
-          below_more (λ k. slice_get (slice_set out x item) k ≡ slice_get row (nearest source target k)) x
-          (λ k h. others_are_read out x k item (λ e. absurd (omega (arith, e))) ∙ c.loop-x.invariant.pixels k h)
-          (set_is_read out x item (omega arith) ∙ sym found);
+          one_written (λ k. slice_get row (nearest source target k)) out x item c.loop-x.invariant.pixels (omega arith)
+          found;
     }

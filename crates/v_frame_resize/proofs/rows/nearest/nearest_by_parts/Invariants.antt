@@ -1,11 +1,12 @@
--- The pixels so far are the nearest, and the next center is at so many steps.
-use Rattle.std.proofs.Common.{ℕ, ◌≡◌, ◌+◌, ◌*◌, ◌<◌, length, slice_get}
+-- The pixels so far are the nearest, and the place of the next center is found.
+use Rattle.std.proofs.Common.{◌*◌, length, slice_get}
 use Rattle.v_frame_resize.specs.Resize.{nearest}
+use Rattle.v_frame_resize.proofs.PartLemmas.{IsPlace}
+use Rattle.v_frame_resize.proofs.RowWritten.{WrittenBefore}
 use Rattle.v_frame_resize.proofs.rows.nearest.nearest_by_parts.Given as goal
 
-abbrev pub invariant-loop-x : goal.invariant-loop-x
-invariant-loop-x g l = record {
-  place : l.place ≡ (2 * l.x + 1) * l.half;
-  pixels : (k : ℕ) → k < l.x
-      → slice_get l.out k ≡ slice_get l.row (nearest (length l.row) (length l.fn.out) k);
+abbrev pub invariant-loop-pair : goal.invariant-loop-pair
+invariant-loop-pair g l = record {
+  place : IsPlace (length l.row) (length l.fn.out) l.half (2 * l.pair) l.place;
+  pixels : WrittenBefore (λ k. slice_get l.row (nearest (length l.row) (length l.fn.out) k)) l.out (2 * l.pair);
 }
