@@ -11,7 +11,7 @@ use crate::fault::Fault;
 use crate::input::begin;
 use crate::input_file::open_file;
 use crate::options::{frames_before, taken_of_both};
-use crate::output::Output;
+use crate::output::{Output, is_standard_output};
 use crate::program::Status;
 use crate::report::write_made;
 use crate::system::System;
@@ -58,9 +58,11 @@ where
         Err(fault) => Err(fault),
     };
     let found = output.settle(rt, done)?;
-    if to != "-" {
+    if !is_standard_output(to) {
         let text = found_text(rt.alloc(), &found);
-        write_made(&mut Counted::new(&mut system.output), text)?;
+        if let Err(error) = write_made(&mut Counted::new(&mut system.output), text) {
+            return Err(Fault::Report(error));
+        }
     }
     Ok(status_of(&found))
 }

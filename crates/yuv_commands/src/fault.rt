@@ -21,6 +21,8 @@ pub enum Fault {
     Header(StreamError),
     /// A stream, or what is reported, was not read or not written.
     Stream(StreamError),
+    /// What is reported of a file that was written was not written to standard output.
+    Report(StreamError),
     /// The file that is written can't be created.
     Create(io::ErrorKind),
     /// What was written can't be put in its place.
@@ -45,10 +47,11 @@ impl Fault {
             | Fault::NoPlanes(place)
             | Fault::NoFrame(place, _)
             | Fault::NoWindow(place) => Some(*place),
-            Fault::Header(error) | Fault::Stream(error) => match &error.problem {
-                Problem::OutOfMemory => None,
-                _ => Some(error.place),
-            },
+            Fault::Header(error) | Fault::Stream(error) | Fault::Report(error) =>
+                match &error.problem {
+                    Problem::OutOfMemory => None,
+                    _ => Some(error.place),
+                },
             Fault::Create(_) | Fault::Replace(_) | Fault::Picture(_) => Some(Place::Output),
             Fault::FrameZero => None,
         }
@@ -76,7 +79,7 @@ impl fmt::Display for Fault {
             Fault::NotAStream(_) => fmt::Display::fmt(&HeaderError::NotAStream, f),
             Fault::NoPlanes(_) => f.write_str("--planes needs video in planes"),
             Fault::Header(error) => write_caused(f, error),
-            Fault::Stream(error) => write_stream_error(f, error),
+            Fault::Stream(error) | Fault::Report(error) => write_stream_error(f, error),
             Fault::Create(cause) => write!(f, "cannot create: {cause}"),
             Fault::Replace(cause) => write!(f, "cannot replace: {cause}"),
             Fault::Picture(PictureError::Png(PngError::Write(error))) => {

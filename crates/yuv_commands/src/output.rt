@@ -29,14 +29,20 @@ impl<F: Write, O: Write> Write for Output<'_, F, O> {
     }
 }
 
+/// Returns whether a name is that of standard output, `-` or one that the system has for it. What stands behind the latter may be
+/// a file that others write too, so it is not opened anew.
+pub(crate) fn is_standard_output(name: &str) -> bool {
+    matches!(name, "-" | "/dev/stdout" | "/dev/fd/1" | "/proc/self/fd/1")
+}
+
 impl<'a, F: OpenFile + Drop, O> Output<'a, F, O> {
-    /// Opens a file that is written, or takes standard output for `-`.
+    /// Opens a file that is written, or takes standard output for a name of it.
     pub(crate) fn open<H: Files<File = F> + AllocGlobal>(
         rt: &H,
         name: &str,
         standard: &'a mut O,
     ) -> Result<Self, Fault> {
-        if name == "-" {
+        if is_standard_output(name) {
             return Ok(Output::Standard(standard));
         }
         match TargetFile::create(rt, name) {

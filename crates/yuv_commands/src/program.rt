@@ -26,6 +26,9 @@ use yuv_words::{Command, UsageError, read_command, usage_text};
 /// What `yuv --version` prints.
 pub const VERSION: &str = "yuv 0.3.0\n";
 
+/// What a message calls standard output.
+const STANDARD_OUTPUT: &str = "standard output";
+
 /// How the program ended.
 #[derive(Clone, Copy)]
 pub enum Status {
@@ -138,9 +141,10 @@ fn give_up<H: Clock, I, O, E: io::Write>(
     command: &Command<'_>,
     fault: Fault,
 ) -> Status {
-    let name = match fault.place() {
-        Some(place) => Some(name_of(command, place)),
-        None => None,
+    let name = match (fault.place(), &fault) {
+        (Some(_), Fault::Report(_)) => Some(STANDARD_OUTPUT),
+        (Some(place), _) => Some(name_of(command, place)),
+        (None, _) => None,
     };
     write_message(system.progress.out(), name, &fault);
     drop(fault);
@@ -208,7 +212,7 @@ fn name_of<'a>(command: &Command<'a>, place: Place) -> &'a str {
         Place::Output => output_name(command),
     };
     match (name, place) {
-        ("-", Place::Output) => "standard output",
+        ("-", Place::Output) => STANDARD_OUTPUT,
         _ => shown_name(name),
     }
 }

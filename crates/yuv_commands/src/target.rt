@@ -41,10 +41,12 @@ impl<F: OpenFile + Drop> TargetFile<F> {
     pub fn create<H: Files<File = F> + AllocGlobal>(rt: &H, name: &str) -> io::Result<Self> {
         match fs::metadata(rt, name) {
             Ok(found) if found.is_file() => {
+                if is_open_already(name) {
+                    return Self::open_at_end(rt, name);
+                }
                 let target = resolve_links(rt, name)?;
-                if target.as_str().starts_with("/proc/") {
-                    // A link to what a process has open, as /dev/stdout is, whose text is no name.
-                    return Self::open_directly(rt, name);
+                if is_open_already(target.as_str()) {
+                    return Self::open_at_end(rt, name);
                 }
                 open_for_writing(rt, target.as_str())?;
                 Self::create_beside(rt, target, Some(found.permissions()))
@@ -56,6 +58,16 @@ impl<F: OpenFile + Drop> TargetFile<F> {
             }
             Err(error) => Err(error),
         }
+    }
+
+    /// Opens the target itself at its end.
+    fn open_at_end<H: Files<File = F>>(rt: &H, name: &str) -> io::Result<Self> {
+        let mut options = OpenOptions::new();
+        options.append(true);
+        Ok(TargetFile {
+            file: options.open(rt, name)?,
+            replacement: None,
+        })
     }
 
     /// Opens the target itself.
@@ -133,6 +145,12 @@ impl<F: OpenFile + Drop> TargetFile<F> {
     }
 }
 
+/// Returns whether a name is one that the system has for what a process has open, as `/dev/fd/3`. A file behind it has other
+/// names, but who has it open goes on with that very file.
+fn is_open_already(name: &str) -> bool {
+    name.starts_with("/proc/") || name.starts_with("/dev/fd/")
+}
+
 /// Sees that a file may be written, and changes nothing.
 fn open_for_writing<H: Files>(rt: &H, name: &str) -> io::Result<()> {
     let mut options = OpenOptions::new();
@@ -145,6 +163,9 @@ fn open_for_writing<H: Files>(rt: &H, name: &str) -> io::Result<()> {
 fn resolve_links<H: Files + AllocGlobal>(rt: &H, name: &str) -> io::Result<String> {
     let mut path = PathBuf::from_str(rt.alloc(), name)?;
     for _ in 0..MOST_LINKS {
+        if is_open_already(path.as_path().as_str()) {
+            return Ok(path.into_string());
+        }
         match fs::read_link(rt, path.as_path()) {
             Ok(link) => {
                 // The link is reported from the folder that it is in, or from the root.
