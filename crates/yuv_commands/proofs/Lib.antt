@@ -1,5 +1,6 @@
 mod Counting
 mod Differing
+mod LookedAt
 mod Outside
 mod Reporting
 mod Showing

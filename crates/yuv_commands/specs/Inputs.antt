@@ -1,11 +1,14 @@
 -- What is read: a stream with a header line, or raw video as the options say.
-use Rattle.std.specs.Prelude.{◌≡◌, [], Option, Some, None}
+use Rattle.std.specs.Prelude.{ℕ, ◌≡◌, List, [], Option, Some, None, IfSome}
+use Rattle.std.specs.Borrow.{MutBor}
 use Rattle.v_frame_y4m.specs.declared.header.StreamHeader.{StreamHeader}
 use Rattle.yuv_streams.specs.Conversions.{layout_in}
-use Rattle.yuv_streams.specs.Sources.{IsOpened}
+use Rattle.yuv_streams.specs.Sources.{bytes_left, IsOpened}
+use Rattle.yuv_streams.specs.Streams.{ReadsHeaderLine}
 use Rattle.yuv_streams.specs.declared.source.Source.{Source}
 use Rattle.yuv_streams.specs.declared.stream.Container.TheVariants.{Raw, Y4m}
-use Rattle.yuv_streams.specs.declared.stream.Place.{Place}
+use Rattle.yuv_commands.specs.InputFiles.{BeginsAsAStream}
+use Rattle.yuv_commands.specs.declared.input_file.InputFile.{InputFile}
 use Rattle.yuv_words.specs.Formats.{format_colour}
 use Rattle.yuv_words.specs.declared.command.RawVideo.{RawVideo}
 
@@ -22,10 +25,25 @@ header_of_raw video =
       extensions = [];
     }
 
--- a stream of this place was opened, of which no frame was read yet: with `--raw` headerless video
--- of the size and the format that the option says, and else one with a header line
-abbrev pub OpensAs : {R : Type 0} → Option RawVideo → Place → Source R → Type 0
-OpensAs None place source = IsOpened place Y4m source
-OpensAs (Some video) place source =
-    IsOpened place Raw source
-    × (source.header ≡ header_of_raw video) × (source.layout ≡ layout_in (Some video.format))
+-- a stream of this file was opened, of which no frame was read yet
+module _ {F I : Type 0} (remaining : InputFile F I → Option (List ℕ)) (file : InputFile F I) where
+  -- it begins as a stream does, and its header line was read and says the header
+  abbrev pub OpensAsY4m : Source (MutBor (InputFile F I)) → Type 0
+  OpensAsY4m source =
+      IsOpened file.place Y4m source
+      × IfSome (remaining file) BeginsAsAStream
+      × ReadsHeaderLine (remaining file) (bytes_left (λ lent. remaining lent.now) source) source.header
+      source.is_lax
+
+  -- it is headerless video of this size and format, all of whose bytes are left
+  abbrev pub OpensAsRaw : RawVideo → Source (MutBor (InputFile F I)) → Type 0
+  OpensAsRaw video source =
+      IsOpened file.place Raw source
+      × (source.header ≡ header_of_raw video) × (source.layout ≡ layout_in (Some video.format))
+      × (bytes_left (λ lent. remaining lent.now) source ≡ remaining file)
+
+-- a stream was opened as the option `--raw` says
+abbrev pub OpensAs : {F I : Type 0} → (InputFile F I → Option (List ℕ)) → Option RawVideo
+    → InputFile F I → Source (MutBor (InputFile F I)) → Type 0
+OpensAs remaining None file source = OpensAsY4m remaining file source
+OpensAs remaining (Some video) file source = OpensAsRaw remaining file video source

@@ -3,9 +3,11 @@ pub mod Differences
 pub mod Facts
 pub mod FrameReports
 pub mod Info
+pub mod InputFiles
 pub mod Inputs
 pub mod Messages
 pub mod Options
+pub mod Outputs
 pub mod Places
 pub mod ProgressLines
 pub mod Reports

@@ -34,7 +34,7 @@ where
     let len = file.len();
     let mut source = begin(system, from, &mut file, options.raw)?;
     system.progress.expect(expected_frames(&source, len));
-    let mut output = Output::open(rt, to, &mut system.output)?;
+    let mut output = Output::open(rt, to, &[from], &mut system.output)?;
     let mut sink = copy_sink(options, &mut output);
     let done = copy_source(
         rt.alloc(),

@@ -49,7 +49,7 @@ where
     let mut one = begin(system, first, &mut file, options.raw)?;
     let mut other_file = open_file(rt, second, Place::Second, &mut system.input)?;
     let mut other = begin(system, second, &mut other_file, options.raw_second)?;
-    let mut output = Output::open(rt, to, &mut system.output)?;
+    let mut output = Output::open(rt, to, &[first, second], &mut system.output)?;
     let done = match write_difference(rt.alloc(), &mut one, &mut other, options, &mut output) {
         Ok(drawn) => {
             let (_written, found) = drawn;

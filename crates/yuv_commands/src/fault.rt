@@ -13,6 +13,8 @@ pub enum Fault {
     Open(Place, io::ErrorKind),
     /// Standard input is read already.
     InputTwice(Place),
+    /// The file of that place is read, and written to while it is.
+    ReadAndWritten(Place),
     /// The file of that place does not begin as a stream does.
     NotAStream(Place),
     /// The samples of U and V of that place are by turns, so that no plane has bytes of its own.
@@ -43,6 +45,7 @@ impl Fault {
         match self {
             Fault::Open(place, _)
             | Fault::InputTwice(place)
+            | Fault::ReadAndWritten(place)
             | Fault::NotAStream(place)
             | Fault::NoPlanes(place)
             | Fault::NoFrame(place, _)
@@ -76,6 +79,7 @@ impl fmt::Display for Fault {
         match self {
             Fault::Open(_, cause) => write!(f, "cannot open: {cause}"),
             Fault::InputTwice(_) => f.write_str("standard input can be read only once"),
+            Fault::ReadAndWritten(_) => f.write_str("cannot be read and written at once"),
             Fault::NotAStream(_) => fmt::Display::fmt(&HeaderError::NotAStream, f),
             Fault::NoPlanes(_) => f.write_str("--planes needs video in planes"),
             Fault::Header(error) => write_caused(f, error),

@@ -1,6 +1,7 @@
 //! What a command reads of a file: its header, or none of headerless raw video.
-ghost use Rattle.std.specs.Prelude.{◌≡◌, ◌≤◌, Some, IfOk};
-ghost use Rattle.yuv_commands.specs.Inputs.{header_of_raw, OpensAs};
+ghost use Rattle.std.specs.Prelude.{◌≡◌, ◌≤◌, Some, IfErr, IfOk, IfSome};
+ghost use Rattle.yuv_commands.specs.InputFiles.{bytes_of_input, BeginsAsAStream, IsReadOn};
+ghost use Rattle.yuv_commands.specs.Inputs.{header_of_raw, OpensAs, OpensAsRaw, OpensAsY4m};
 ghost use Rattle.yuv_streams.specs.Conversions.{layout_in};
 
 use crate::fault::Fault;
@@ -23,7 +24,8 @@ pub(crate) fn begin<'f, H: AllocGlobal + Clock, F: Read, I: Read, O, E: io::Writ
     file: &'f mut InputFile<F, I>,
     raw: Option<RawVideo>,
 ) -> Result<Source<&'f mut InputFile<F, I>>, Fault>
-    ensures { IfOk result (OpensAs raw file.entry.now.place) }
+    requires { IsReadOn file.now }
+    ensures { IfOk result (OpensAs (bytes_of_input F.remaining I.remaining) raw file.entry.now) }
 {
     let alloc = system.rt.alloc();
     let place = file.place;
@@ -53,21 +55,49 @@ fn begin_stream<F: Read, I: Read>(
     file: &mut InputFile<F, I>,
     raw: Option<RawVideo>,
 ) -> Result<Source<&mut InputFile<F, I>>, Fault>
-    ensures { IfOk result (OpensAs raw file.entry.now.place) }
+    requires { IsReadOn file.now }
+    ensures { IfOk result (OpensAs (bytes_of_input F.remaining I.remaining) raw file.entry.now) }
+{
+    match raw {
+        Some(raw) => begin_raw(alloc, file, raw),
+        None => begin_y4m(alloc, file),
+    }
+}
+
+/// Takes a file that is open as headerless raw video.
+fn begin_raw<F: Read, I: Read>(
+    alloc: Global,
+    file: &mut InputFile<F, I>,
+    raw: RawVideo,
+) -> Result<Source<&mut InputFile<F, I>>, Fault>
+    ensures { IfOk result (OpensAsRaw (bytes_of_input F.remaining I.remaining) file.entry.now raw) }
 {
     let place = file.place;
-    let begun = match raw {
-        Some(raw) => {
-            let layout = layout_of(raw.format);
-            Source::raw(alloc, place, raw_header(alloc, &raw), layout, file)
-        }
-        None => match file.begins_as_a_stream() {
-            Ok(true) => Source::y4m(alloc, place, file),
-            Ok(false) => return Err(Fault::NotAStream(place)),
-            Err(error) => return Err(Fault::Header(error)),
-        },
-    };
-    match begun {
+    let header = raw_header(alloc, &raw);
+    match Source::raw(alloc, place, header, layout_of(raw.format), file) {
+        Ok(source) => Ok(source),
+        Err(error) => Err(Fault::Header(error)),
+    }
+}
+
+/// Reads the header line of a file that is open.
+fn begin_y4m<F: Read, I: Read>(
+    alloc: Global,
+    file: &mut InputFile<F, I>,
+) -> Result<Source<&mut InputFile<F, I>>, Fault>
+    requires { IsReadOn file.now }
+    ensures opened { IfOk result (OpensAsY4m (bytes_of_input F.remaining I.remaining) file.entry.now) }
+    ensures refused { IfErr result (λ fault. fault ≡ Fault.NotAStream file.entry.now.place
+        → IfSome (bytes_of_input F.remaining I.remaining file.entry.now) (λ bytes.
+        ¬ (BeginsAsAStream bytes))) }
+{
+    let place = file.place;
+    match file.begins_as_a_stream() {
+        Ok(true) => {}
+        Ok(false) => return Err(Fault::NotAStream(place)),
+        Err(error) => return Err(Fault::Header(error)),
+    }
+    match Source::y4m(alloc, place, file) {
         Ok(source) => Ok(source),
         Err(error) => Err(Fault::Header(error)),
     }

@@ -1,7 +1,9 @@
 //! Files by their names, and standard input.
-ghost use Rattle.std.specs.Prelude.{◌≡◌, ◌≤◌};
+ghost use Rattle.std.specs.Prelude.{◌≡◌, ◌≤◌, ◌↔◌, IfOk, IsTrue};
+ghost use Rattle.v_frame_y4m.specs.Header.{signature};
 
 use crate::fault::Fault;
+use crate::same_file::{STANDARD_OUTPUT, is_read};
 use std::fs::{self, OpenFile};
 use std::io::{self, Read};
 use std::rt::Files;
@@ -23,6 +25,10 @@ enum Reader<F, I> {
 }
 
 impl<F: Read, I: Read> Read for Reader<F, I> {
+    ghost use Rattle.yuv_commands.specs.InputFiles.{bytes_of_reader};
+
+    ghost remaining = { bytes_of_reader F.remaining I.remaining };
+
     fn read(&mut self, buf: &mut [u8]) -> io::Result<usize> {
         match self {
             Reader::File(file) => file.read(buf),
@@ -36,7 +42,7 @@ impl<F: Read, I: Read> Read for Reader<F, I> {
 pub struct InputFile<F, I> {
     /// Which file of the command it is.
     pub(crate) place: Place,
-    reader: Reader<F, I>,
+    reader: Counted<Reader<F, I>>,
     first: [u8; FIRST],
     /// How many bytes of `first` were read, and how many of these were given on.
     known: usize,
@@ -46,6 +52,10 @@ pub struct InputFile<F, I> {
 }
 
 impl<F: Read, I: Read> Read for InputFile<F, I> {
+    ghost use Rattle.yuv_commands.specs.InputFiles.{bytes_of_input};
+
+    ghost remaining = { bytes_of_input F.remaining I.remaining };
+
     fn read(&mut self, buf: &mut [u8]) -> io::Result<usize> {
         if self.given == self.known {
             return self.reader.read(buf);
@@ -58,33 +68,50 @@ impl<F: Read, I: Read> Read for InputFile<F, I> {
 }
 
 impl<F: Read, I: Read> InputFile<F, I> {
+    ghost use Rattle.std.specs.Prelude.{IfSome};
+    ghost use Rattle.std.specs.Io.KnownBytes.{Keeps};
+    ghost use Rattle.yuv_commands.specs.InputFiles.{bytes_of_input, BeginsAsAStream, IsReadOn};
+
     /// Looks at the first bytes, and returns whether a stream begins so. They are still to be read then.
+    #[tactic(auto, using(crate::proofs::LookedAt::begins_as, crate::proofs::LookedAt::looked_at))]
     pub(crate) fn begins_as_a_stream(&mut self) -> Result<bool, StreamError>
-        ensures { self.new.place ≡ self.old.place }
+        requires { IsReadOn self.old }
+        ensures place { self.new.place ≡ self.old.place }
+        ensures unread { IfOk result (λ _. Keeps (bytes_of_input F.remaining I.remaining self.old)
+            (bytes_of_input F.remaining I.remaining self.new)) }
+        ensures found { IfOk result (λ is_a_stream.
+            IfSome (bytes_of_input F.remaining I.remaining self.old) (λ bytes.
+            IsTrue is_a_stream ↔ BeginsAsAStream bytes)) }
     {
-        let mut reader = Counted::new(&mut self.reader);
         let mut first = [0; FIRST];
-        match read_until_full(&mut reader, &mut first) {
+        match read_until_full(&mut self.reader, &mut first) {
             Ok(found) => {
                 self.first = first;
                 self.known = found;
                 self.given = 0;
-                Ok(&first[..found] == MAGIC)
+                Ok(is_magic(&first[..found]))
             }
             Err(error) => Err(StreamError {
                 place: self.place,
                 frames: 0,
                 problem: Problem::Stream(Y4mError::Planar(error)),
-                cause: reader.last_failure(),
+                cause: self.reader.last_failure(),
             }),
         }
     }
 }
 
+/// Returns whether these are the bytes that a stream begins with.
+fn is_magic(bytes: &[u8]) -> bool
+    ensures { IsTrue result ↔ bytes.now ≡ signature }
+{
+    bytes == MAGIC
+}
+
 impl<F: OpenFile, I> InputFile<F, I> {
     /// Returns how many bytes the file has. `None` where it is no regular file.
     pub(crate) fn len(&self) -> Option<u64> {
-        match &self.reader {
+        match self.reader.inner() {
             Reader::File(file) => match file.metadata() {
                 Ok(found) if found.is_file() => Some(found.len()),
                 _ => None,
@@ -94,13 +121,19 @@ impl<F: OpenFile, I> InputFile<F, I> {
     }
 }
 
-/// Opens a file for reading, or takes standard input for `-`.
+/// Opens a file for reading, or takes standard input for `-`. The file behind standard output is refused: it would grow by what
+/// is written of it.
 pub(crate) fn open_file<H: Files, I: Read>(
     rt: &H,
     name: &str,
     place: Place,
     standard: &mut Option<I>,
-) -> Result<InputFile<H::File, I>, Fault> {
+) -> Result<InputFile<H::File, I>, Fault>
+    ensures { IfOk result (λ file. file.given ≡ file.known) }
+{
+    if is_read(rt, name, STANDARD_OUTPUT) {
+        return Err(Fault::ReadAndWritten(place));
+    }
     let reader = if name == "-" {
         match standard.take() {
             Some(input) => Reader::Standard(input),
@@ -114,7 +147,7 @@ pub(crate) fn open_file<H: Files, I: Read>(
     };
     Ok(InputFile {
         place,
-        reader,
+        reader: Counted::new(reader),
         first: [0; FIRST],
         known: 0,
         given: 0,

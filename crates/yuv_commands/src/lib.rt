@@ -21,6 +21,7 @@ mod plot;
 mod program;
 mod progress;
 mod report;
+mod same_file;
 mod show;
 mod statistics;
 mod stats;

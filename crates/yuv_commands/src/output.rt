@@ -1,10 +1,12 @@
 //! What a command writes to: a file that replaces its target, or standard output.
 
 use crate::fault::Fault;
+use crate::same_file::is_read;
 use crate::target::TargetFile;
 use std::fs::OpenFile;
 use std::io::{self, Write};
 use std::rt::Files;
+use yuv_streams::Place;
 
 /// A file, or standard output.
 #[derive(Drop)]
@@ -14,6 +16,10 @@ pub(crate) enum Output<'a, F, O> {
 }
 
 impl<F: Write, O: Write> Write for Output<'_, F, O> {
+    ghost use Rattle.yuv_commands.specs.Outputs.{bytes_of_output};
+
+    ghost contents = { bytes_of_output F.contents O.contents };
+
     fn write(&mut self, buf: &[u8]) -> io::Result<usize> {
         match self {
             Output::File(to) => to.file.write(buf),
@@ -36,19 +42,29 @@ pub(crate) fn is_standard_output(name: &str) -> bool {
 }
 
 impl<'a, F: OpenFile + Drop, O> Output<'a, F, O> {
-    /// Opens a file that is written, or takes standard output for a name of it.
+    /// Opens a file that is written, or takes standard output for a name of it. One that is written where it stands must not be
+    /// one of those that are read.
     pub(crate) fn open<H: Files<File = F> + AllocGlobal>(
         rt: &H,
         name: &str,
+        inputs: &[&str],
         standard: &'a mut O,
     ) -> Result<Self, Fault> {
         if is_standard_output(name) {
             return Ok(Output::Standard(standard));
         }
-        match TargetFile::create(rt, name) {
-            Ok(file) => Ok(Output::File(file)),
-            Err(error) => Err(Fault::Create(error.kind())),
+        let file = match TargetFile::create(rt, name) {
+            Ok(file) => file,
+            Err(error) => return Err(Fault::Create(error.kind())),
+        };
+        if file.is_written_in_place() {
+            for input in inputs {
+                if is_read(rt, input, name) {
+                    return Err(Fault::ReadAndWritten(Place::Output));
+                }
+            }
         }
+        Ok(Output::File(file))
     }
 
     /// Puts a file in the place of its target where all of it was written, and else removes it.

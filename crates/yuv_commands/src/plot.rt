@@ -45,7 +45,7 @@ where
     let mut other_file = open_file(rt, second, Place::Second, &mut system.input)?;
     let mut other = begin(system, second, &mut other_file, options.raw_second)?;
     let text = drawn(rt.alloc(), &mut one, &mut other, options, (first, second))?;
-    let mut output = Output::open(rt, to, &mut system.output)?;
+    let mut output = Output::open(rt, to, &[first, second], &mut system.output)?;
     let done = write_drawn(&mut output, text.as_str());
     drop(text);
     output.settle(rt, done)

@@ -43,7 +43,7 @@ where
     let rt = system.rt;
     let mut file = open_file(rt, from, Place::First, &mut system.input)?;
     let mut source = begin(system, from, &mut file, options.raw)?;
-    let mut output = Output::open(rt, to, &mut system.output)?;
+    let mut output = Output::open(rt, to, &[from], &mut system.output)?;
     let shown = if source.header().colour.bit_depth() == 8 {
         show_frame::<u8, _, _>(rt.alloc(), &mut source, options, &mut output)
     } else {

@@ -104,6 +104,11 @@ impl<F: OpenFile + Drop> TargetFile<F> {
         Ok(created)
     }
 
+    /// Returns whether the file is the target itself.
+    pub(crate) fn is_written_in_place(&self) -> bool {
+        self.replacement.is_none()
+    }
+
     /// Puts the file in the place of the target.
     ///
     /// # Errors

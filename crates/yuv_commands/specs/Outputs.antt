@@ -1,0 +1,10 @@
+-- What a command has written.
+use Rattle.std.specs.Prelude.{ℕ, List, Option}
+use Rattle.yuv_commands.specs.declared.output.Output.{Output}
+use Rattle.yuv_commands.specs.declared.output.Output.TheVariants.{File, Standard}
+
+-- the bytes that a file or standard output holds, where they are known
+abbrev pub bytes_of_output : {F O : Type 0} → (F → Option (List ℕ)) → (O → Option (List ℕ))
+    → Output F O → Option (List ℕ)
+bytes_of_output file standard (File to) = file to.file
+bytes_of_output file standard (Standard out) = standard out.now
