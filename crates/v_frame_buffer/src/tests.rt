@@ -30,7 +30,7 @@ fn each_of_512_words_is_zero(rt: HostRuntime) {
 
 #[test]
 fn eight_entries_equal_their_clone_until_one_is_changed(rt: HostRuntime) {
-    let mut entries = AlignedData::new(rt.alloc(), 0_u8, 8).expect(&rt, "memory");
+    let mut entries = AlignedData::new(rt.alloc(), 0_u16, 8).expect(&rt, "memory");
     entries
         .as_mut_slice()
         .copy_from_slice(&[1, 2, 3, 4, 5, 6, 7, 8]);

@@ -1,6 +1,6 @@
 //! Where the visible pixels of a geometry are in its buffer.
-ghost use Rattle.std.specs.Prelude.{◌≡◌, ◌+◌, ◌*◌, ◌<◌, ◌≤◌, SomeIff};
-ghost use Rattle.v_frame_raster.specs.Geometry.{alloc_size_of, IsGeometry, Fits, usize_max, place_of};
+ghost use Rattle.std.specs.Prelude.{ℕ, ◌≡◌, ◌+◌, ◌*◌, ◌<◌, ◌≤◌, IfSome, IsNone};
+ghost use Rattle.v_frame_raster.specs.Geometry.{alloc_size_of, IsGeometry, Fits, place_of};
 
 use v_frame_raster::geometry::PlaneGeometry;
 
@@ -36,11 +36,26 @@ pub fn visible_size(geometry: PlaneGeometry) -> usize
     geometry.width() * geometry.height()
 }
 
-/// Returns the index of (x, y), which may be past the end of the buffer. `None` where no `usize` holds it.
+/// Returns the index of column 0 of row `y`, of the rows below the visible ones too. `None` below the last row of the buffer.
+#[tactic(auto, using(v_frame_raster::proofs::Plans::row_of_buffer, v_frame_raster::proofs::Plans::no_place_below))]
+pub fn checked_row_start(geometry: PlaneGeometry, y: usize) -> Option<usize>
+    requires { Fits geometry }
+    ensures place { IfSome result (λ start. start ≡ place_of geometry 0 y) }
+    ensures within { IfSome result (λ start. start ≤ alloc_size_of geometry) }
+    ensures none { IsNone result → (x : ℕ) → alloc_size_of geometry ≤ place_of geometry x y }
+{
+    if y >= geometry.height() + geometry.pad_bottom() {
+        return None;
+    }
+    Some(geometry.stride() * (geometry.pad_top() + y) + geometry.pad_left())
+}
+
+/// Returns the index of (x, y), which may be past the end of the buffer. `None` below the last row of the buffer, and where no
+/// `usize` holds the index.
 pub fn checked_place(geometry: PlaneGeometry, x: usize, y: usize) -> Option<usize>
     requires { Fits geometry }
-    ensures { let place = place_of geometry x y in SomeIff result (place ≤ usize_max) place }
+    ensures value { IfSome result (λ place. place ≡ place_of geometry x y) }
+    ensures none { IsNone result → alloc_size_of geometry ≤ place_of geometry x y }
 {
-    let row = geometry.stride().checked_mul(y)?;
-    row.checked_add(x)?.checked_add(geometry.data_origin())
+    checked_row_start(geometry, y)?.checked_add(x)
 }

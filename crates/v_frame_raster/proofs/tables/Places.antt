@@ -2,11 +2,10 @@
 use Rattle.std.proofs.Common.{ℕ, ◌≡◌, ◌+◌, ◌-◌, ◌*◌, ◌<◌, ◌≤◌, ◌↔◌, IsNone, List, length, take, drop, Option, Some}
 use Rattle.std.proofs.Common.{None, slice_get, option_copied, Bor, All, inl, inr, length-take-le, length-drop, refl}
 use Rattle.std.proofs.Common.{sym, ◌∙◌, ap, arith}
-use Rattle.std.proofs.lemmas.Bool.{cases_lt}
 use Rattle.std.proofs.lemmas.Option.{slice_get_past, slice_get_read, slice_get_cases, slice_get_within}
 use Rattle.std.proofs.lemmas.Option.{get_or_from_slice_get}
 use Rattle.std.specs.Slice.{IsGetResult}
-use Rattle.v_frame_raster.specs.Geometry.{Geometry, stride_of, alloc_size_of, usize_max, place_of}
+use Rattle.v_frame_raster.specs.Geometry.{Geometry, stride_of, alloc_size_of, place_of}
 use Rattle.v_frame_raster.specs.Raster.{Raster, table_of}
 use Rattle.v_frame_raster.specs.RasterLaws.{HoldsRows}
 use Rattle.v_frame_raster.specs.Table.{pixel_at}
@@ -19,11 +18,6 @@ pub place_within : (g : Geometry) (x y : ℕ) → x < g.width → y < g.height �
 place_within g x y hx hy =
     let high : 0 < g.height = omega arith in
     omega (arith, place_of_row g y high, row_within g y hy)
-
--- a place that can't be counted lies past a buffer whose size can
-pub past_counting : (size place : ℕ) → (place ≤ usize_max → ⊥) → size ≤ usize_max → size ≤ place
-past_counting size place above fits =
-    elim (cases_lt usize_max place) [ inl past ↦ omega arith | inr within ↦ absurd (above within) ]
 
 -- what `get` reads, copied
 pub copied_get : {X : Type 0} (xs : List X) (i : ℕ) (r : Option (Bor X)) → IsGetResult xs i i r
