@@ -1,0 +1,35 @@
+//! What frames tell of themselves.
+
+use crate::frame::Frame;
+use crate::pixel::Pixel;
+use crate::plane::Plane;
+use core::iter::{FusedIterator, once};
+
+/// These calls are written by hand, and not made from proved sources.
+impl<T: Pixel> Frame<T> {
+    /// Returns the visible width of luma in pixels, never zero.
+    #[inline]
+    #[must_use]
+    pub fn width(&self) -> usize {
+        self.y_plane.width()
+    }
+
+    /// Returns the visible height of luma in pixels, never zero.
+    #[inline]
+    #[must_use]
+    pub fn height(&self) -> usize {
+        self.y_plane.height()
+    }
+
+    /// Returns an iterator over the planes that exist: Y, then U and V.
+    #[inline]
+    pub fn planes(&self) -> impl DoubleEndedIterator<Item = &Plane<T>> + FusedIterator + Clone {
+        once(&self.y_plane).chain(&self.u_plane).chain(&self.v_plane)
+    }
+
+    /// Returns an iterator over the planes that exist, for writing: Y, then U and V.
+    #[inline]
+    pub fn planes_mut(&mut self) -> impl DoubleEndedIterator<Item = &mut Plane<T>> + FusedIterator {
+        once(&mut self.y_plane).chain(&mut self.u_plane).chain(&mut self.v_plane)
+    }
+}

@@ -1,0 +1,12 @@
+//! What Rust programs want beside the proved sources.
+//!
+//! All in this directory is written by hand, and not made from proved sources. It calls what is for all that reads, copies or
+//! measures pixels.
+
+pub mod crop;
+mod frames;
+#[cfg(feature = "std")]
+pub mod quality;
+pub mod views;
+#[cfg(feature = "std")]
+pub mod y4m;

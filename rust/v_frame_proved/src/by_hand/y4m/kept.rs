@@ -1,0 +1,58 @@
+//! Readers and writers that try again where they are interrupted, and keep the cause where they fail.
+
+use super::{StreamError, Y4mError};
+use std::io;
+
+/// A reader or a writer, and the failure of its last call.
+pub(super) struct Kept<D> {
+    pub(super) inner: D,
+    failure: Option<io::Error>,
+}
+
+impl<D> Kept<D> {
+    pub(super) fn new(inner: D) -> Self {
+        Kept { inner, failure: None }
+    }
+
+    /// Makes a proved call, which knows kinds of failures alone, and returns its answer with the cause.
+    pub(super) fn call<A, E: Into<Y4mError>>(
+        &mut self,
+        call: impl FnOnce(&mut Self) -> Result<A, E>,
+    ) -> Result<A, StreamError> {
+        call(self).map_err(|fault| match self.failure.take() {
+            Some(failure) => StreamError::Io(failure),
+            None => fault.into().into(),
+        })
+    }
+
+    /// Returns what a call answers, tried again while it is interrupted. A failure is kept, and its kind goes on.
+    fn tried<A>(&mut self, mut call: impl FnMut(&mut D) -> io::Result<A>) -> io::Result<A> {
+        loop {
+            match call(&mut self.inner) {
+                Err(error) if error.kind() == io::ErrorKind::Interrupted => {}
+                Err(error) => {
+                    let kind = error.kind();
+                    self.failure = Some(error);
+                    return Err(kind.into());
+                }
+                answer => return answer,
+            }
+        }
+    }
+}
+
+impl<D: io::Read> io::Read for Kept<D> {
+    fn read(&mut self, buf: &mut [u8]) -> io::Result<usize> {
+        self.tried(|reader| reader.read(buf))
+    }
+}
+
+impl<D: io::Write> io::Write for Kept<D> {
+    fn write(&mut self, buf: &[u8]) -> io::Result<usize> {
+        self.tried(|writer| writer.write(buf))
+    }
+
+    fn flush(&mut self) -> io::Result<()> {
+        self.tried(|writer| writer.flush())
+    }
+}

@@ -1,0 +1,39 @@
+//! YUV4MPEG2 streams: raw planar video after a header line that says its size, its rate and its colour.
+//!
+//! ```text
+//! YUV4MPEG2 W176 H144 F25:1 Ip A1:1 C420jpeg XYSCSS=420JPEG    the header line
+//! FRAME                                                        a line before each frame
+//! ...                                                          the planar bytes: Y, then U, then V
+//! ```
+//!
+//! A [`Decoder`] reads the frames of any reader, and an [`Encoder`] writes frames to any writer. Both, [`VideoFrame`],
+//! [`StreamError`] and the calls that make and change a [`StreamHeader`] are written by hand, and not made from proved sources.
+//! Lines and pixels they read and write by what is: all else here.
+//!
+//! ```
+//! use v_frame_proved::y4m::{Decoder, Encoder};
+//!
+//! let input = &b"YUV4MPEG2 W2 H2 F25:1 Cmono\nFRAME\nabcd"[..];
+//! let decoder = Decoder::new(input)?;
+//! let mut header = decoder.header().clone();
+//! header.width = 1;
+//! let mut encoder = Encoder::new(Vec::new(), header)?;
+//! for frame in decoder {
+//!     encoder.write_frame(&frame?.crop(0, 0, 1, 2)?)?;
+//! }
+//! assert_eq!(encoder.finish()?, b"YUV4MPEG2 W1 H2 F25:1 Cmono\nFRAME\nac");
+//! # Ok::<(), Box<dyn std::error::Error>>(())
+//! ```
+
+mod decoder;
+mod encoder;
+mod error;
+mod frame;
+mod header;
+mod kept;
+
+pub use crate::generated::v_frame_y4m::*;
+pub use decoder::Decoder;
+pub use encoder::Encoder;
+pub use error::StreamError;
+pub use frame::VideoFrame;

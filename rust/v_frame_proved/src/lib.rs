@@ -1,0 +1,79 @@
+//! Raw YUV video frames.
+#![forbid(unsafe_code)]
+#![warn(missing_docs)]
+#![no_std]
+// The sources are translated as they are written, for a prover too: loops count where clauses speak of indices, and a comparison or
+// a match says what a proof follows. These hints would have them otherwise.
+#![allow(
+    clippy::extra_unused_type_parameters,
+    clippy::len_zero,
+    clippy::manual_div_ceil,
+    clippy::manual_find,
+    clippy::manual_map,
+    clippy::manual_ok_err,
+    clippy::manual_range_contains,
+    clippy::manual_swap,
+    clippy::needless_range_loop,
+    clippy::new_without_default,
+    clippy::should_implement_trait,
+    clippy::too_many_arguments,
+    clippy::type_complexity,
+    clippy::write_with_newline
+)]
+
+#[cfg(not(target_pointer_width = "64"))]
+compile_error!("the proofs of this crate say what holds where `usize` has 64 bits, and nothing of other targets");
+
+extern crate alloc;
+#[cfg(feature = "std")]
+extern crate std;
+
+mod buffer;
+mod by_hand;
+mod clones;
+#[doc(hidden)]
+pub mod support;
+
+mod generated {
+    pub mod v_frame;
+    #[cfg(feature = "std")]
+    pub mod v_frame_chart;
+    pub mod v_frame_convert;
+    #[cfg(feature = "std")]
+    pub mod v_frame_measures;
+    pub mod v_frame_ops;
+    #[cfg(feature = "std")]
+    pub mod v_frame_planar;
+    pub mod v_frame_plane;
+    #[cfg(feature = "std")]
+    pub mod v_frame_png;
+    pub mod v_frame_raster;
+    pub mod v_frame_resize;
+    pub mod v_frame_rgb;
+    #[cfg(feature = "std")]
+    pub mod v_frame_semi_planar;
+    pub mod v_frame_statistics;
+    pub mod v_frame_turn;
+    #[cfg(feature = "std")]
+    pub mod v_frame_y4m;
+}
+
+pub use generated::v_frame::{chroma, frame, pixel, plane, replay, sequence};
+pub use generated::{
+    v_frame_convert as convert, v_frame_ops as ops, v_frame_resize as resize, v_frame_rgb as rgb,
+    v_frame_statistics as statistics, v_frame_turn as turn,
+};
+#[cfg(feature = "std")]
+pub use generated::{
+    v_frame_chart as chart, v_frame_measures as measures, v_frame_planar as planar,
+    v_frame_png as png, v_frame_semi_planar as semi_planar,
+};
+pub use support::AllocError;
+
+// Written by hand, and not made from proved sources.
+pub use by_hand::{crop, views};
+#[cfg(feature = "std")]
+pub use by_hand::{quality, y4m};
+
+#[doc(hidden)]
+pub use generated::v_frame::laws;

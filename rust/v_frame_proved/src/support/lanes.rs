@@ -1,0 +1,220 @@
+//! Lanes: several numbers side by side, on which an operation works at once.
+//!
+//! They are arrays, and each operation is a plain loop, of which the compiler makes packed instructions. Sums and products
+//! wrap nowhere, by proof: with overflow checks they would stop the program.
+
+#![allow(non_camel_case_types)]
+
+use core::ops::{Add, BitAnd, Mul, Shr};
+use core::sync::atomic::{Ordering, compiler_fence};
+
+/// `N` numbers.
+///
+/// They are aligned, as otherwise a call passes a few of them as one number, of which the compiler makes no lanes again.
+#[derive(Clone, Copy)]
+#[repr(align(32))]
+pub struct Simd<T, const N: usize>([T; N]);
+
+pub type u8x16 = Simd<u8, 16>;
+pub type u8x32 = Simd<u8, 32>;
+pub type u16x8 = Simd<u16, 8>;
+pub type u16x16 = Simd<u16, 16>;
+pub type u32x8 = Simd<u32, 8>;
+
+/// Keeps the compiler from packing the loop around the lanes, from block to block, in place of them. It is no instruction.
+#[inline(always)]
+fn end_loads() {
+    compiler_fence(Ordering::AcqRel);
+}
+
+/// A number that fits lanes.
+pub trait Lane: Copy + Default {
+    /// Returns the distance of two numbers.
+    fn distance(self, other: Self) -> Self;
+}
+
+/// A number that another one is made of.
+pub trait CastFrom<T>: Lane {
+    /// Returns the number, which fits by proof.
+    fn cast_from(number: T) -> Self;
+}
+
+macro_rules! lanes_of {
+    ($number:ty: $($from:ty),*) => {
+        impl Lane for $number {
+            #[inline(always)]
+            fn distance(self, other: Self) -> Self {
+                self.abs_diff(other)
+            }
+        }
+        $(
+            impl CastFrom<$from> for $number {
+                #[inline(always)]
+                fn cast_from(number: $from) -> Self {
+                    number as Self
+                }
+            }
+        )*
+    };
+}
+
+lanes_of!(u8: u8, u16, u32);
+lanes_of!(u16: u8, u16, u32);
+lanes_of!(u32: u8, u16, u32);
+lanes_of!(u64: u8, u16, u32);
+
+macro_rules! operation {
+    ($operation:ident, $name:ident, $symbol:tt) => {
+        impl<T: Lane + $operation<Output = T>, const N: usize> $operation for Simd<T, N> {
+            type Output = Self;
+
+            #[inline(always)]
+            fn $name(mut self, other: Self) -> Self {
+                for lane in 0..N {
+                    self.0[lane] = self.0[lane] $symbol other.0[lane];
+                }
+                self
+            }
+        }
+    };
+}
+
+operation!(Add, add, +);
+operation!(Mul, mul, *);
+operation!(BitAnd, bitand, &);
+
+impl<T: Lane + Shr<u32, Output = T>, const N: usize> Shr<u32> for Simd<T, N> {
+    type Output = Self;
+
+    #[inline(always)]
+    fn shr(mut self, bits: u32) -> Self {
+        for lane in 0..N {
+            self.0[lane] = self.0[lane] >> bits;
+        }
+        self
+    }
+}
+
+impl<T: Lane, const N: usize> Simd<T, N> {
+    /// Returns the first `N` numbers of a slice.
+    #[inline(always)]
+    pub fn from_slice(numbers: &[T]) -> Self {
+        let numbers = &numbers[..N];
+        let mut lanes = [T::default(); N];
+        if N == 8 {
+            // One by one: eight bytes that are copied at once are one number, too.
+            lanes[0] = numbers[0];
+            lanes[1] = numbers[1];
+            lanes[2] = numbers[2];
+            lanes[3] = numbers[3];
+            lanes[4] = numbers[4];
+            lanes[5] = numbers[5];
+            lanes[6] = numbers[6];
+            lanes[7] = numbers[7];
+        } else {
+            lanes.copy_from_slice(numbers);
+        }
+        Simd(lanes)
+    }
+
+    /// Returns the same number in each lane.
+    #[inline(always)]
+    pub fn splat(number: T) -> Self {
+        Simd([number; N])
+    }
+
+    /// Returns the numbers.
+    #[inline(always)]
+    pub fn to_array(self) -> [T; N] {
+        self.0
+    }
+
+    /// Makes the first `N` numbers of a slice those of the lanes.
+    #[inline(always)]
+    pub fn copy_to_slice(self, numbers: &mut [T]) {
+        numbers[..N].copy_from_slice(&self.0);
+    }
+
+    /// Returns the distances lane by lane.
+    #[inline(always)]
+    pub fn abs_diff(mut self, other: Self) -> Self {
+        for lane in 0..N {
+            self.0[lane] = self.0[lane].distance(other.0[lane]);
+        }
+        self
+    }
+
+    /// Returns the same numbers in lanes of another width.
+    #[inline(always)]
+    pub fn cast<U: CastFrom<T>>(self) -> Simd<U, N> {
+        let mut lanes = [U::default(); N];
+        for lane in 0..N {
+            lanes[lane] = U::cast_from(self.0[lane]);
+        }
+        Simd(lanes)
+    }
+}
+
+impl<T: Lane + Add<Output = T>, const N: usize> Simd<T, N> {
+    /// Returns the sum of the lanes, which is not too large, by proof.
+    #[inline(always)]
+    pub fn strict_reduce_sum(self) -> T {
+        let mut sum = T::default();
+        for lane in 0..N {
+            sum = sum + self.0[lane];
+        }
+        sum
+    }
+}
+
+impl Simd<u16, 8> {
+    /// Returns the numbers whose bytes these are, low byte first.
+    #[inline(always)]
+    pub fn from_le_bytes(bytes: u8x16) -> Self {
+        let mut lanes = [0; 8];
+        for lane in 0..8 {
+            lanes[lane] = u16::from_le_bytes([bytes.0[2 * lane], bytes.0[2 * lane + 1]]);
+        }
+        Simd(lanes)
+    }
+}
+
+impl Simd<u16, 16> {
+    /// Returns the numbers whose bytes these are, low byte first.
+    #[inline(always)]
+    pub fn from_le_bytes(bytes: u8x32) -> Self {
+        let mut lanes = [0; 16];
+        for lane in 0..16 {
+            lanes[lane] = u16::from_le_bytes([bytes.0[2 * lane], bytes.0[2 * lane + 1]]);
+        }
+        end_loads();
+        Simd(lanes)
+    }
+
+    /// Returns the bytes of the numbers, low byte first.
+    #[inline(always)]
+    pub fn to_le_bytes(self) -> u8x32 {
+        let mut lanes = [0; 32];
+        for lane in 0..16 {
+            let bytes = self.0[lane].to_le_bytes();
+            lanes[2 * lane] = bytes[0];
+            lanes[2 * lane + 1] = bytes[1];
+        }
+        Simd(lanes)
+    }
+}
+
+impl Simd<u32, 8> {
+    /// Returns the numbers whose bytes these are, low byte first.
+    #[inline(always)]
+    pub fn from_le_bytes(bytes: u8x32) -> Self {
+        let mut lanes = [0; 8];
+        for lane in 0..8 {
+            let at = 4 * lane;
+            let four = [bytes.0[at], bytes.0[at + 1], bytes.0[at + 2], bytes.0[at + 3]];
+            lanes[lane] = u32::from_le_bytes(four);
+        }
+        end_loads();
+        Simd(lanes)
+    }
+}

@@ -1,0 +1,140 @@
+//! PSNR and SSIM by `quality`, which refuses what has no number. Expected values are ffmpeg's, or exact fractions.
+#![cfg(feature = "std")]
+
+use v_frame_proved::chroma::ChromaSubsampling::{Monochrome, Yuv420, Yuv444};
+use v_frame_proved::frame::{Frame, FrameBuilder};
+use v_frame_proved::plane::{Plane, PlaneGeometry};
+use v_frame_proved::quality::{MeasureError, frame_psnr, frame_ssim, psnr, ssim};
+use v_frame_proved::y4m::{Decoder, VideoFrame};
+
+/// Returns a plane of these pixels.
+fn plane<T: v_frame_proved::pixel::Pixel>(width: usize, height: usize, pixel: impl Fn(usize, usize) -> T) -> Plane<T> {
+    let mut plane = Plane::new(PlaneGeometry::unpadded(width, height, 1, 1).unwrap()).unwrap();
+    for (y, row) in plane.rows_mut().enumerate() {
+        for (x, entry) in row.iter_mut().enumerate() {
+            *entry = pixel(x, y);
+        }
+    }
+    plane
+}
+
+/// Returns the number after `name` in a line of `psnr.txt`.
+fn number(line: &str, name: &str) -> f64 {
+    let (_, rest) = line.split_once(name).unwrap();
+    rest.split_whitespace().next().unwrap().parse().unwrap()
+}
+
+#[test]
+fn psnr_of_two_files_is_as_ffmpeg_says() {
+    let clean = Decoder::new(&include_bytes!("data/420_35x27.y4m")[..]).unwrap();
+    let noisy = Decoder::new(&include_bytes!("data/420_35x27_noisy.y4m")[..]).unwrap();
+    let lines: Vec<&str> = include_str!("data/psnr.txt").lines().collect();
+    let frames: Vec<_> = clean.zip(noisy).map(|(a, b)| (a.unwrap(), b.unwrap())).collect();
+    assert_eq!((frames.len(), lines.len()), (3, 3));
+    for ((clean, noisy), line) in frames.iter().zip(lines) {
+        let found = clean.psnr(noisy).unwrap();
+        let planes = [
+            (found.all, "psnr_avg:"),
+            (found.y, "psnr_y:"),
+            (found.u.unwrap(), "psnr_u:"),
+            (found.v.unwrap(), "psnr_v:"),
+        ];
+        for (found, name) in planes {
+            assert!((found - number(line, name)).abs() <= 0.005, "{name}{found} in {line}");
+        }
+        let ssim = clean.ssim(noisy).unwrap();
+        assert!(ssim.all > 0.0 && ssim.all < 1.0);
+        assert_eq!(clean.ssim(clean).unwrap().all, 1.0);
+    }
+}
+
+#[test]
+fn numbers_of_planes_are_those_of_the_formulas() {
+    let (a, b) = (plane(8, 8, |x, y| (7 * x + 5 * y) as u8), plane(8, 8, |x, y| (7 * x + 5 * y + x * y % 3) as u8));
+    assert!((psnr(&a, &b, 8).unwrap() - 48.339304998410306).abs() < 1e-12);
+    assert!((ssim(&a, &b, 8).unwrap() - 0.9991691155391733).abs() < 1e-6);
+    let deep = |plane: &Plane<u8>| self::plane(8, 8, |x, y| 4 * u16::from(plane[y][x]));
+    let (a, b) = (deep(&a), deep(&b));
+    assert!((psnr(a.as_plane_ref(), &b, 10).unwrap() - 48.36481423741516).abs() < 1e-12);
+    assert!((ssim(&a, b.as_plane_ref(), 10).unwrap() - 0.9991694136674228).abs() < 1e-6);
+    assert_eq!(psnr(&a, &a, 16), Ok(f64::INFINITY));
+    assert_eq!(ssim(&a, &a, 9), Ok(1.0));
+}
+
+#[test]
+fn depths_that_the_pixels_cannot_have_are_refused() {
+    let (bytes, words) = (plane(8, 8, |_, _| 1u8), plane(8, 8, |_, _| 1u16));
+    for found in 0..=u8::MAX {
+        let refused = Err(MeasureError::UnsupportedBitDepth { found });
+        if found != 8 {
+            assert_eq!((psnr(&bytes, &bytes, found), ssim(&bytes, &bytes, found)), (refused, refused));
+        }
+        if !(9..=16).contains(&found) {
+            assert_eq!((psnr(&words, &words, found), ssim(&words, &words, found)), (refused, refused));
+        } else {
+            assert_eq!(ssim(&words, &words, found), Ok(1.0));
+        }
+    }
+}
+
+#[test]
+fn sizes_that_differ_or_hold_no_window_are_refused() {
+    let whole = plane(8, 8, |_, _| 1u8);
+    for (width, height) in [(7, 8), (8, 7), (4, 16), (16, 4), (1, 1)] {
+        let other = plane(width, height, |_, _| 1u8);
+        assert_eq!(psnr(&whole, &other, 8), Err(MeasureError::SizesDiffer));
+        assert_eq!(ssim(&other, &whole, 8), Err(MeasureError::SizesDiffer));
+        assert_eq!(ssim(&other, &other, 8), Err(MeasureError::TooSmall));
+        assert_eq!(psnr(&other, &other, 8), Ok(f64::INFINITY));
+    }
+    // The depth is the first reason.
+    let other = plane(7, 8, |_, _| 1u8);
+    assert_eq!(ssim(&whole, &other, 9), Err(MeasureError::UnsupportedBitDepth { found: 9 }));
+}
+
+/// Returns a blank frame of `u16`.
+fn frame(width: usize, format: v_frame_proved::chroma::ChromaSubsampling, depth: u8) -> Frame<u16> {
+    FrameBuilder::new(width, 16, format, depth).build().unwrap()
+}
+
+#[test]
+fn frames_that_differ_in_kind_are_refused() {
+    let first = frame(16, Yuv420, 10);
+    let cases = [
+        (frame(16, Yuv420, 12), MeasureError::DepthsDiffer { first: 10, second: 12 }),
+        (frame(18, Yuv420, 10), MeasureError::SizesDiffer),
+        (frame(16, Yuv444, 10), MeasureError::SizesDiffer),
+        (frame(16, Monochrome, 10), MeasureError::SizesDiffer),
+    ];
+    for (second, error) in cases {
+        assert_eq!(frame_psnr(&first, &second), Err(error));
+        assert_eq!(frame_ssim(&first, &second), Err(error));
+    }
+    let mut third = frame(16, Yuv420, 10);
+    third.y_plane[15][3] = 512;
+    // One error of 2^18 among 384 pixels: 10 log10(1023^2 * 384 / 2^18).
+    assert!((frame_psnr(&first, &third).unwrap().all - 31.855425698401895).abs() < 1e-9);
+    assert_eq!(frame_psnr(&first, &third).unwrap().u, Some(f64::INFINITY));
+    let narrow = frame(14, Yuv420, 10);
+    assert_eq!(frame_ssim(&narrow, &narrow), Err(MeasureError::TooSmall));
+    let mut shallow = (first.clone(), third);
+    (shallow.0.bit_depth, shallow.1.bit_depth) = (8.try_into().unwrap(), 8.try_into().unwrap());
+    assert_eq!(frame_psnr(&shallow.0, &shallow.1), Err(MeasureError::UnsupportedBitDepth { found: 8 }));
+    let bytes = FrameBuilder::new(16, 16, Yuv420, 8).build::<u8>().unwrap();
+    let error = MeasureError::DepthsDiffer { first: 10, second: 8 };
+    assert_eq!(VideoFrame::from(first.clone()).psnr(&bytes.clone().into()), Err(error));
+    assert_eq!(VideoFrame::from(first).ssim(&bytes.into()), Err(error));
+}
+
+#[test]
+fn errors_say_what_differs() {
+    let texts = [
+        (MeasureError::UnsupportedBitDepth { found: 17 }, "the pixels can't have a bit depth of 17"),
+        (MeasureError::DepthsDiffer { first: 8, second: 10 }, "bit depths of 8 and 10 differ"),
+        (MeasureError::SizesDiffer, "the sizes or the formats differ"),
+        (MeasureError::TooSmall, "a plane is smaller than 8 by 8"),
+    ];
+    for (error, text) in texts {
+        assert_eq!(error.to_string(), text);
+    }
+}

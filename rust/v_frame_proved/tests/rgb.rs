@@ -1,0 +1,115 @@
+//! Luma and chroma as colours, and colours as luma and chroma: five pixels by three, in planes and in rows.
+
+mod support;
+
+use support::cases::{Case, cases, values};
+use support::planes::{BORDER, bordered, must_hold, must_show, plane_of};
+use v_frame_proved::plane::RowsRef;
+use v_frame_proved::rgb::{
+    Bgr, Bgra, Channel, ChromaU, ChromaV, Colour, ColourOrder, ColourRange, Luma, Rgb, RgbMatrix, Rgba, Standard,
+    YuvMatrix, rgb_to_channel, rgb_to_yuv444, rows, yuv444_to_rgb,
+};
+
+const CASES: &str = include_str!("data/colours.txt");
+
+/// Returns the standard and the range that a case names.
+fn standard(case: &mut Case<'_>) -> (Standard, ColourRange) {
+    let standard = match case.word() {
+        "Bt601" => Standard::Bt601,
+        "Bt709" => Standard::Bt709,
+        _ => Standard::Bt2020,
+    };
+    (standard, if case.word() == "Full" { ColourRange::Full } else { ColourRange::Limited })
+}
+
+/// Returns the samples of luma, of Cb and of Cr.
+fn samples() -> [Vec<u8>; 3] {
+    ["y", "u", "v"].map(|name| values(CASES, name))
+}
+
+fn decodes<O: ColourOrder>(case: &Case<'_>, matrix: RgbMatrix) {
+    let wanted: Vec<u8> = case.wanted();
+    let (width, stride) = (5 * O::BYTES, 5 * O::BYTES + 2);
+    let holds = |buffer: &[u8]| must_hold(buffer, stride, (0, 0), (width, 3), |x, y| wanted[y * width + x]);
+    let samples = samples();
+    let mut buffer = [BORDER; 80];
+    let [y, u, v] = [0, 1, 2].map(|index| RowsRef::new(&samples[index], 5, 3, 5).expect("rows"));
+    rows::yuv444_to_rgb::<O>(&y, &u, &v, matrix, &mut buffer, width, 3, stride);
+    holds(&buffer);
+    buffer.fill(BORDER);
+    let [y, u, v] = samples.map(|samples| plane_of([5, 3, 0, 0, 0, 0], &samples));
+    let (y, u, v) = (y.as_plane_ref(), u.as_plane_ref(), v.as_plane_ref());
+    yuv444_to_rgb::<O>(&y, &u, &v, matrix, &mut buffer, width, 3, stride);
+    holds(&buffer);
+}
+
+#[test]
+fn samples_become_colours() {
+    for mut case in cases(CASES, "decode") {
+        let (standard, range) = standard(&mut case);
+        let matrix = RgbMatrix::new(standard, range);
+        match case.word() {
+            "Rgb" => decodes::<Rgb>(&case, matrix),
+            "Bgr" => decodes::<Bgr>(&case, matrix),
+            "Rgba" => decodes::<Rgba>(&case, matrix),
+            _ => decodes::<Bgra>(&case, matrix),
+        }
+    }
+}
+
+/// Fails where a channel of a picture is another one, in rows or in a plane.
+fn encodes_channel<O: ColourOrder, C: Channel>(source: &RowsRef<'_, u8>, matrix: YuvMatrix, wanted: &[u8]) {
+    let mut buffer = [BORDER; 25];
+    rows::rgb_to_channel::<O, C>(source, matrix, &mut buffer, 5, 3, 5);
+    must_hold(&buffer, 5, (0, 0), (5, 3), |x, y| wanted[5 * y + x]);
+    let mut plane = bordered([5, 3, 2, 1, 1, 2]);
+    rgb_to_channel::<O, C>(source, matrix, &mut plane);
+    must_show(&plane, |x, y| wanted[5 * y + x]);
+}
+
+fn encodes<O: ColourOrder>(case: &Case<'_>, matrix: YuvMatrix) {
+    let wanted: Vec<u8> = case.wanted();
+    let [luma, cb, cr] = [0, 15, 30].map(|start| &wanted[start..start + 15]);
+    let colours: Vec<u8> = values(CASES, "colours");
+    let source = RowsRef::new(&colours, 5 * O::BYTES, 3, 5 * O::BYTES).expect("rows");
+    let [mut y, mut u, mut v] = [(); 3].map(|()| bordered([5, 3, 2, 1, 1, 2]));
+    rgb_to_yuv444::<O>(&source, matrix, &mut y, &mut u, &mut v);
+    for (plane, wanted) in [(&y, luma), (&u, cb), (&v, cr)] {
+        must_show(plane, |x, y| wanted[5 * y + x]);
+    }
+    let (mut y, mut u, mut v) = ([BORDER; 21], [BORDER; 23], [BORDER; 25]);
+    rows::rgb_to_yuv444::<O>(&source, matrix, &mut y, &mut u, &mut v, 5, 3, (6, 7, 5));
+    for (buffer, stride, wanted) in [(&y[..], 6, luma), (&u, 7, cb), (&v, 5, cr)] {
+        must_hold(buffer, stride, (0, 0), (5, 3), |x, y| wanted[5 * y + x]);
+    }
+    encodes_channel::<O, Luma>(&source, matrix, luma);
+    encodes_channel::<O, ChromaU>(&source, matrix, cb);
+    encodes_channel::<O, ChromaV>(&source, matrix, cr);
+}
+
+#[test]
+fn colours_become_samples() {
+    for mut case in cases(CASES, "encode") {
+        let (standard, range) = standard(&mut case);
+        let matrix = YuvMatrix::new(standard, range);
+        match case.word() {
+            "Rgb" => encodes::<Rgb>(&case, matrix),
+            "Bgr" => encodes::<Bgr>(&case, matrix),
+            "Rgba" => encodes::<Rgba>(&case, matrix),
+            _ => encodes::<Bgra>(&case, matrix),
+        }
+    }
+}
+
+#[test]
+fn colours_come_back_nearly() {
+    for mut case in cases(CASES, "stored") {
+        let (standard, range) = standard(&mut case);
+        let colour = Colour { red: case.number(), green: case.number(), blue: case.number() };
+        let matrix = YuvMatrix::new(standard, range);
+        let (y, u, v) =
+            (Luma::sample(matrix, colour), ChromaU::sample(matrix, colour), ChromaV::sample(matrix, colour));
+        let Colour { red, green, blue } = RgbMatrix::new(standard, range).colour(y, u, v);
+        case.expect(&[red, green, blue]);
+    }
+}

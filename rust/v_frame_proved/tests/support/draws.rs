@@ -1,0 +1,18 @@
+//! Items that are drawn from both ends of an iterator, as texts.
+
+use std::fmt::Debug;
+
+/// Returns an item and how many are left after it: `5/2`, or `-/0` past the last one.
+pub fn drawn<I: Debug>(item: &Option<I>, left: usize) -> String {
+    item.as_ref().map_or(format!("-/{left}"), |item| format!("{item:?}/{left}"))
+}
+
+/// Draws items from the front (`f`) and from the back (`b`), and returns each so.
+pub fn draw<I: DoubleEndedIterator<Item: Debug> + ExactSizeIterator>(mut items: I, sides: &str) -> String {
+    let one = |side| {
+        let item = if side == 'f' { items.next() } else { items.next_back() };
+        assert_eq!(items.size_hint(), (items.len(), Some(items.len())));
+        drawn(&item, items.len())
+    };
+    sides.chars().map(one).collect::<Vec<_>>().join(" ")
+}

@@ -1,0 +1,13 @@
+//! Prints the rows of a small frame.
+#![forbid(unsafe_code)]
+
+mod generated {
+    // Its modules name what its tests call, too.
+    #[allow(unused_imports)]
+    pub mod v_frame_tool;
+    pub mod v_frame_tool_run;
+}
+
+fn main() -> std::process::ExitCode {
+    generated::v_frame_tool::main()
+}

@@ -1,0 +1,153 @@
+"""Documentation: paths lead to where items are in Rust, and sentences for those who write proofs are left out.
+
+A paragraph in which a sentence was left out is filled anew. All others keep their lines.
+"""
+
+import re
+import textwrap
+
+from . import paths, tables
+
+WIDTH = 110
+PROOF_WORDS = re.compile("|".join(tables.PROOF_WORDS))
+SENTENCE_END = re.compile(r"(?<=[.:!?])\s+(?=[A-Z`\[(])")
+LINK = re.compile(r"\]\(([A-Za-z_][A-Za-z0-9_:]*)(\(\))?\)")
+BARE = re.compile(r"\[`([a-z_0-9]+(?:::\w+)+)`\](?!\()")
+CRATE = re.compile(r"`(v_frame_[a-z0-9_]+)`")
+
+
+def without_proofs(text):
+    """Returns a text without its sentences for those who write proofs, and these. After a semicolon a part may go alone."""
+    kept, left_out = [], []
+    for sentence in SENTENCE_END.split(text):
+        front, _, back = sentence.partition("; ")
+        if not PROOF_WORDS.search(sentence):
+            kept.append(sentence)
+        elif back and not PROOF_WORDS.search(front):
+            kept.append(front + ".")
+            left_out.append(back)
+        else:
+            left_out.append(sentence)
+    return " ".join(kept), left_out
+
+
+def filled(text, first="", rest=""):
+    words = {"break_long_words": False, "break_on_hyphens": False}
+    return textwrap.wrap(text, WIDTH, initial_indent=first, subsequent_indent=rest, **words)
+
+
+def stays(line):
+    """Returns whether a line of a text is a paragraph of its own: it is blank, or it is no prose."""
+    return not line.strip() or line.lstrip().startswith(("#", "|", "```"))
+
+
+def shortened(lines):
+    """Returns the lines of a text without sentences for those who write proofs, and these sentences."""
+    new, left_out, fenced, at = [], [], False, 0
+    while at < len(lines):
+        end = at + 1
+        fenced = fenced != lines[at].strip().startswith("```")
+        while end < len(lines) and not (fenced or stays(lines[at]) or stays(lines[end]) or lines[end].startswith("- ")):
+            end += 1
+        item = "- " if lines[at].startswith("- ") else ""
+        words = "" if fenced or stays(lines[at]) else " ".join(line.strip() for line in lines[at:end])
+        text, sentences = without_proofs(words.removeprefix(item))
+        new += filled(text, item, "  " if item else "") if sentences else lines[at:end]
+        left_out += sentences
+        at = end
+    kept = [line for k, line in enumerate(new) if line.strip() or k and new[k - 1].strip()]
+    return kept[:-1] if kept and not kept[-1].strip() else kept, left_out
+
+
+class Links:
+    """Where the links of one source lead."""
+
+    def __init__(self, source, reach):
+        self.source, self.reach, self.imports = source, reach, source.left_imports
+
+    def path(self, path):
+        """Returns a path as Rust has it."""
+        parts = path.split("::")
+        crate = self.source.crate if parts[0] == "crate" else parts[0]
+        if (crate, ()) in self.reach.sources:
+            return self.public(crate, parts[1:])
+        return self.path("::".join([self.imports[parts[0]], *parts[1:]])) if parts[0] in self.imports else path
+
+    def public(self, crate, parts):
+        """Returns the shortest public path to an item of a crate."""
+        if paths.home_of(crate) == paths.home_of(self.source.crate):
+            for length in range(len(parts), -1, -1):
+                name = self.reach.modules.get((crate, tuple(parts[:length])))
+                if name is None and length:
+                    name = self.reach.places.get((crate, tuple(parts[:length - 1]), parts[length - 1]))
+                if name is not None:
+                    return "::".join([name, *parts[length:]])
+        return "::".join([paths.module_of(self.source, crate), *parts])
+
+    def line(self, line):
+        """Returns a line with its paths as Rust has them, and with the words of the table."""
+        line = LINK.sub(lambda found: f"]({self.path(found[1])}{found[2] or ''})", line)
+        for name, path in self.imports.items():
+            line = re.sub(rf"\[`{name}`\](?!\()", f"[`{name}`]({self.path(path)})", line)
+        line = CRATE.sub(self.crate_name, BARE.sub(self.bare, line))
+        for old, new in tables.DOC_WORDS.items():
+            line = line.replace(old, new)
+        return line
+
+    def bare(self, found):
+        """Returns a link that is its own text, with both as Rust has them."""
+        path = self.path(found[1])
+        return f"[`{path.removeprefix('crate::')}`]({path})" if path != found[1] else found[0]
+
+    def crate_name(self, found):
+        name = tables.PUBLIC_NAMES.get(found[1])
+        return f"`{name.rpartition('::')[2]}`" if name else found[0]
+
+
+def rewrite(source, links):
+    """Rewrites each text of a source, and adds what the table says more of a module."""
+    at = 0
+    while at < len(source):
+        end = at
+        while source.kind(end) == "doc" and source[end][:3] == source[at][:3]:
+            end += 1
+        if at == 0 and (source.crate, source.module) in tables.DOC_ADDED:
+            lines = filled(tables.DOC_ADDED[source.crate, source.module], "//! ", "//! ")
+            source.insert(end, "doc-added", "\n".join(["//!", *lines]), "\n")
+        at = rewrite_text(source, at, end, links) if end > at else at + 1
+
+
+def rewrite_text(source, start, end, links):
+    """Rewrites the text of one item, and returns where it ends. Lines that stay the same stay the source's tokens."""
+    mark, old = source[start][:3], [source[k][3:].removeprefix(" ") for k in range(start, end)]
+    new, left_out = shortened(old)
+    for sentence in left_out:
+        source.note("doc-proofs", start, sentence)
+    new = [links.line(line) for line in (new if left_out else old)]
+    front = back = 0
+    while front < min(len(old), len(new)) and old[front] == new[front]:
+        front += 1
+    while back < min(len(old), len(new)) - front and old[-1 - back] == new[-1 - back]:
+        back += 1
+    first, last = start + front, end - back
+    rule, lead = "doc-filled" if left_out else "doc-path", source.tokens[first].lead
+    lines = [f"{mark} {line}".rstrip() for line in new[front:len(new) - back]]
+    if lines:
+        source.replace(first, last, rule, ("\n" + lead.rpartition("\n")[2]).join(lines), lead)
+    elif first < last:
+        source.erase(first, last, rule, lead if first == start else None)
+    return start + len(new)
+
+
+def rewrite_comments(source):
+    """Leaves out sentences of comments that speak to those who write proofs."""
+    for at, token in enumerate(source.tokens):
+        if "//" in token.lead and PROOF_WORDS.search(token.lead):
+            parts = re.split(r"((?:[ \t]*//[^\n]*\n)+)", token.lead)
+            for k in range(1, len(parts), 2):
+                text, left_out = without_proofs(" ".join(line.strip(" /") for line in parts[k].splitlines()))
+                for sentence in left_out:
+                    source.note("comment-proofs", at, sentence)
+                indent = re.match(r"[ \t]*", parts[k])[0] + "// "
+                parts[k] = "".join(line + "\n" for line in filled(text, indent, indent)) if left_out else parts[k]
+            token.lead = "".join(parts)

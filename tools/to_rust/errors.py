@@ -1,0 +1,107 @@
+"""Errors: what `thiserror` derives is written out, so that the Rust crates depend on nothing."""
+
+from .items import Item, items_of, skip_attributes
+
+
+class Variant:
+    """A variant of an error: its name, the names of its fields, its message, and the field that is its cause."""
+
+    def __init__(self, source, at, kind):
+        noted = Item(at, None)
+        at = skip_attributes(source, at, noted)
+        self.name, self.form, self.fields, self.cause, self.message = f"{kind}::{source[at]}", source[at + 1], [], None, None
+        for start, end in noted.attributes:
+            if source[start + 2] != "error":
+                source.refuse(start, f"an attribute of a variant that is not known: {source[start + 2]}")
+            self.message = source.words(start + 4, end - 2)
+        if self.message is None:
+            source.refuse(at, "a variant of an error without a message")
+        if self.form in ("(", "{"):
+            for start, _ in source.elements(at + 1, types=True):
+                self.read_field(source, start)
+
+    def read_field(self, source, at):
+        noted = Item(at, None)
+        at = skip_attributes(source, at, noted)
+        name = source[at] if self.form == "{" else "value" if not self.fields else f"value_{len(self.fields)}"
+        for start, _ in noted.attributes:
+            if source[start + 2] != "source":
+                source.refuse(start, f"an attribute of a field that is not known: {source[start + 2]}")
+            self.cause = name
+        self.fields.append(name)
+
+    def pattern(self, used):
+        """Returns the pattern that names the fields that are used."""
+        if self.form == "{":
+            kept = [field for field in self.fields if field in used]
+            return f"{self.name} {{ {', '.join(kept + ['..'] * (len(kept) < len(self.fields)))} }}"
+        if self.form == "(":
+            return f"{self.name}({', '.join(field if field in used else '_' for field in self.fields)})"
+        return self.name
+
+    def display(self):
+        """Returns the arm that shows the error."""
+        if self.message == "transparent":
+            return f"{self.pattern(self.fields)} => core::fmt::Display::fmt(value, f),"
+        message, used = self.message, set()
+        for number, field in enumerate(self.fields):
+            shown = "{" + (field if self.form == "{" else str(number)) + "}"
+            if shown in message:
+                used.add(field)
+                message = message.replace(shown, "{" + field + "}")
+        call = f"write!(f, {message})" if used else f"f.write_str({message})"
+        return f"{self.pattern(used)} => {call},"
+
+    def source(self):
+        """Returns the arm that gives the cause, where there is one."""
+        if self.message == "transparent":
+            return f"{self.pattern(self.fields)} => core::error::Error::source(value),"
+        return f"{self.pattern([self.cause])} => Some({self.cause})," if self.cause else None
+
+
+def write_errors(source):
+    """Writes `Display` and `Error` for each type that derives them. Each `From` is written in the sources."""
+    for item in reversed(items_of(source)):
+        for start, end in item.attributes:
+            derived = [at for at in range(start, end) if source[start + 2] == "derive" and source[at] == "Error"]
+            if derived:
+                if item.kind != "enum":
+                    source.refuse(item.keyword, "an error that is no enum")
+                variants = [Variant(source, at, item.name) for at, _ in source.elements(item.body[0], types=True)]
+                source.insert(item.end, "error-derive", impls_text(item.name, variants), "\n\n")
+                erase_attributes(source, *item.body)
+                source.erase_listed(derived[0], derived[0] + 1, "error-derive")
+
+
+def impls_text(name, variants):
+    """Returns the two implementations."""
+    shown = "\n            ".join(variant.display() for variant in variants)
+    causes = [arm for arm in (variant.source() for variant in variants) if arm]
+    text = f"""impl core::fmt::Display for {name} {{
+    fn fmt(&self, f: &mut core::fmt::Formatter<'_>) -> core::fmt::Result {{
+        match self {{
+            {shown}
+        }}
+    }}
+}}
+
+impl core::error::Error for {name} """
+    if not causes:
+        return text + "{}"
+    arms = "\n            ".join([*causes, "_ => None,"])
+    return text + f"""{{
+    fn source(&self) -> Option<&(dyn core::error::Error + 'static)> {{
+        match self {{
+            {arms}
+        }}
+    }}
+}}"""
+
+
+def erase_attributes(source, start, end):
+    """Erases the attributes that `thiserror` reads."""
+    for at in reversed(range(start, end)):
+        if source.matches(at, "# [") and source[at + 2] in ("error", "source"):
+            closing = source.closing(at + 1) + 1
+            lead = source.tokens[at].lead if "\n" not in source.tokens[closing].lead else None
+            source.erase(at, closing, "error-derive", lead)

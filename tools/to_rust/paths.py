@@ -1,0 +1,117 @@
+"""Paths: where the items of other crates, and of Rattle's `std`, are in Rust.
+
+A crate becomes a module, so `crate::` and the name of a crate at the front of a path get the way to it. An import of `std`
+is looked up name by name.
+"""
+
+from . import tables
+from .items import items_of
+
+STD = ("std", "std_alloc", "thiserror", "core")
+
+
+def home_of(crate):
+    """Returns the Rust crate that a source crate becomes a part of."""
+    return next((home for home, group in tables.HOMES.items() if crate in group), None)
+
+
+def module_of(source, crate):
+    """Returns the path of a source crate, as this source names it in Rust, or nothing."""
+    if crate in tables.BY_HAND:
+        return tables.BY_HAND[crate]
+    if home_of(crate) is not None and home_of(crate) == home_of(source.crate):
+        return f"crate::generated::{crate}"
+    return tables.PUBLIC_NAMES.get(crate)
+
+
+def from_here(source, path):
+    """Returns the path of something of the library, as a source of another Rust crate names it."""
+    return path if home_of(source.crate) == tables.LIBRARY else path.replace("crate::", tables.LIBRARY + "::", 1)
+
+
+def leaves_of(source, start, end):
+    """Returns the paths that a tree of imports has, each with the name it is given, or nothing."""
+    prefix, at = [], start
+    while at < end and source[at] not in ("{", "as"):
+        if source[at] != "::":
+            prefix.append(source[at])
+        at += 1
+    if at >= end or source[at] == "as":
+        return [("::".join(prefix), source[at + 1] if at < end else None)]
+    leaves = [leaf for part in source.elements(at) for leaf in leaves_of(source, *part)]
+    return [("::".join(prefix if path == "self" else [*prefix, path]), name) for path, name in leaves]
+
+
+def rewrite_imports(source):
+    """Rewrites the imports of Rattle's `std`. Those that have no place in Rust are left out."""
+    for item in reversed(items_of(source)):
+        start = item.keyword + 1
+        if item.kind != "use" or source[start] not in STD:
+            continue
+        paths = []
+        for path, name in leaves_of(source, start, item.end - 1):
+            if path not in tables.STD_NAMES:
+                source.refuse(item.keyword, f"a path of `std` that is not known: {path}")
+            if tables.STD_NAMES[path] is not None:
+                paths.append(from_here(source, tables.STD_NAMES[path]) + (f" as {name}" if name else ""))
+        text = import_text(paths)
+        if not text:
+            source.erase(item.keyword, item.end, "import-left-out")
+        elif text != source.words(item.keyword, item.end):
+            source.replace(item.keyword, item.end, "std-import", text)
+
+
+def import_text(paths):
+    """Returns the imports of these paths, those of one module together."""
+    groups = {}
+    for path in paths:
+        module, _, name = path.rpartition("::")
+        groups.setdefault(module, []).append(name)
+    return "\n".join(f"use {module}::{names[0] if len(names) == 1 else '{' + ', '.join(names) + '}'};"
+                     for module, names in groups.items())
+
+
+def rewrite_roots(source):
+    """Puts the way to a crate in front of paths that begin with `crate` or with the name of a crate."""
+    at = 0
+    while at < len(source):
+        root, made = source[at], source.tokens[at].edit
+        if source.kind(at) == "word" and source[at + 1] == "::" and source[at - 1] != "::" and made is None:
+            crate = source.crate if root == "crate" else root
+            if root in STD and source[at - 1] != "use":
+                source.refuse(at, "a path of `std` in the middle of code")
+            if home_of(crate) or crate in tables.PUBLIC_NAMES or crate in tables.BY_HAND:
+                path = module_of(source, crate)
+                if path is None:
+                    source.refuse(at, f"the crate {crate} has no public name in Rust")
+                at = source.replace(at, at + 1, "crate-root", path)
+        at += 1
+
+
+def add_imports(source):
+    """Imports what Rattle has without an import, and what calls were renamed to."""
+    wanted = set()
+    for at in range(len(source)):
+        word, made = source[at], source.tokens[at].edit
+        if source.kind(at) != "word":
+            continue
+        if word in tables.PRELUDE and source[at - 1] != "::" and home_of(source.crate) == tables.LIBRARY:
+            wanted.add(tables.PRELUDE[word])
+        if word in tables.SUPPORT and made is not None:
+            wanted.add(tables.SUPPORT[word])
+        # The target of `write!` is a stream, a `String`, or a formatter, which is `f` everywhere.
+        if word in ("write", "writeln") and source[at + 1] == "!" and source[at + 3] != "f":
+            wanted.add("std::io::Write as _" if source[at + 3] == "std" else "crate::support::memory::TryString")
+        if word == "write_char" and source[at - 1] == ".":
+            wanted.add("core::fmt::Write as _")
+    if wanted:
+        uses = [item.keyword for item in items_of(source) if item.kind == "use" and not item.visible]
+        place = uses[0] if uses else items_of(source)[0].start
+        lead = source.tokens[place].lead
+        end = source.insert(place, "import-added", import_text(sorted(from_here(source, path) for path in wanted)), lead)
+        source.tokens[end].lead = "\n" if uses else lead
+
+
+def rewrite(source):
+    rewrite_imports(source)
+    rewrite_roots(source)

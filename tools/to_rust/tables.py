@@ -1,0 +1,150 @@
+"""What the translation is told: where each crate goes, and what the words of Rattle's `std` are in Rust.
+
+Whatever is not in these tables is refused.
+"""
+
+# The Rust crate that each source crate becomes a part of. There it is the module `generated::NAME`.
+HOMES = {
+    "v_frame_proved": [
+        "v_frame_raster", "v_frame_plane", "v_frame", "v_frame_ops", "v_frame_planar", "v_frame_y4m",
+        "v_frame_convert", "v_frame_turn", "v_frame_statistics", "v_frame_measures", "v_frame_rgb", "v_frame_resize",
+        "v_frame_semi_planar", "v_frame_png", "v_frame_chart",
+    ],
+    "v_frame_tool": ["v_frame_tool_run", "v_frame_tool"],
+    "v_frame_c": ["v_frame_c"],
+    "v_frame_y4m_c": ["v_frame_y4m_c"],
+}
+
+LIBRARY = "v_frame_proved"
+
+# The modules of the library by their public names, as programs and other crates name them.
+PUBLIC_NAMES = {"v_frame": LIBRARY, **{f"v_frame_{name}": f"{LIBRARY}::{name}" for name in """
+    ops planar y4m convert turn statistics measures rgb resize semi_planar png chart
+""".split()}}
+
+# Crates that C calls, which alone may have exports.
+FOR_C = {"v_frame_c", "v_frame_y4m_c"}
+
+# Crates that are written by hand in Rust, for they hold raw memory in Rattle, and the modules that take their place.
+BY_HAND = {"v_frame_buffer": "crate::buffer"}
+
+
+def moved(to, names, root="std"):
+    """Returns the names of a module of Rattle's `std`, each with its path in a module of Rust."""
+    return {f"{root}::{name}": f"{to}::{name}" for name in names.split()}
+
+
+# Names of Rattle's `std` that imports may have, and Rust's names for them. None: nothing takes its place.
+STD_NAMES = {
+    **moved("core", """cmp::Ordering fmt fmt::Binary fmt::Debug fmt::Display fmt::LowerHex fmt::Octal fmt::UpperHex hash::Hash
+        iter::FusedIterator mem num::NonZeroU8 slice str"""),
+    **moved("std", "io io::ErrorKind io::Read io::Write process::ExitCode"),
+    **moved("crate::support::lanes", "Simd u8x16 u8x32 u16x8 u16x16 u32x8", "std::simd"),
+    **moved("crate::support::numbers", """f32_to_f64_with_nan nearest_i64_to_f64 nearest_u64_to_f64 nearest_usize_to_f64
+        saturating_f64_to_i64 saturating_f64_to_u64""", "std::num"),
+    "std::alloc::AllocError": "crate::support::AllocError",
+    "std::ops::DerefSlice": "core::ops::Deref",
+    **dict.fromkeys(("std::alloc::Global", "std::convert::AsSlice", "std::marker::Model", "thiserror::Error")),
+}
+
+# Traits of Rust that are imported for their methods.
+STD_TRAITS = {"Read", "Write", "BufRead", "DerefSlice"}
+
+# What files may use without an import in Rattle, and need one for where there is no `std`: the word, and its path.
+PRELUDE = {"Vec": "alloc::vec::Vec", "String": "alloc::string::String"}
+
+# The traits and functions of the support module by the names whose use asks for them.
+SUPPORT = {name: f"crate::support::memory::{trait}" for trait, names in {
+    "TryPush": "try_push",
+    "TryVec": "try_extend_from_slice try_resize with_room_for try_from_slice try_from_array",
+    "TryString": "try_push_str try_from_str",
+    "TryToString": "try_to_string",
+    "TryCollect": "try_collect_vec",
+    "try_format": "try_format",
+    "repeated": "repeated",
+}.items() for name in names.split()}
+
+# Functions that the library calls so often that its own calls go to one without tests.
+HOT = {
+    ("v_frame_plane", "visible_row"), ("v_frame_plane", "visible_row_mut"), ("v_frame_plane", "visible_pixel"),
+    ("v_frame_plane", "visible_pixel_mut"), ("v_frame_plane", "visible_region"), ("v_frame_raster", "visible_region"),
+    ("v_frame_raster", "data_origin"), ("v_frame_raster", "alloc_height"), ("v_frame_raster", "alloc_size"),
+    ("v_frame_raster", "encode_row"),
+}
+# Those among them that are no methods.
+HOT_FUNCTIONS = {"encode_row"}
+
+# The original's bounds of `Pixel` beyond those of the source, and the head of the hidden trait that has what it lacks.
+PIXEL_BOUNDS = """+ core::fmt::LowerExp
+    + core::fmt::UpperExp
+    + TryInto<u8, Error: core::error::Error>
+    + Into<u16>
+    + From<u8>
+    + TryFrom<u16, Error: core::error::Error>
+    + Send
+    + Sync
+    + PixelCalls {
+}
+
+/// What the library calls of a pixel. It is no part of what users may rely on.
+#[doc(hidden)]
+pub trait PixelCalls: Copy + sealed::Sealed + 'static"""
+# What stands for a type of pixels in front of `::`, and what it offers in the source.
+PIXEL_TYPES = {"T", "S", "u8", "u16", "Pixel"}
+PIXEL_CALLS = {
+    "BYTES", "ZERO", "into_u16", "try_into_u8", "from_u8", "try_from_u16", "from_value", "from_le", "le_byte", "decode_row",
+    "sum_of_absolute_differences", "sum_of_squared_errors", "halve_rows",
+}
+
+# What contracts alone read, and what is kept although no code reads it.
+KEPT_FOR_CONTRACTS = {"DepthChange", "SAMPLES_AT_ONCE", "ENTRIES"}
+
+# Errors that may get more variants: those that the original does not have.
+OWN_ERRORS = {"PlanarError", "PngError", "SemiPlanarError", "TurnError", "HeaderError", "Y4mError"}
+
+# Derives that types can have beside those of their sources.
+DERIVES = {name: derives for derives, names in {
+    "Clone, Copy": "FrameError CopyError PlanarError WriteFault SemiPlanarError TurnError PixelDraw Drawn",
+    "Clone": "HeaderError Y4mError Text StreamHeader Sequence VisibleCall Answer ReplayStopped RowDraw",
+    "Debug, Clone, Copy, PartialEq, Eq": "FrameBuilder Rgb Bgr Rgba Bgra",
+    "Debug": "PngWriter Coder Lines Chunks CrcTables Bits Deflate Symbols Adler32 Crc32Digest RowsMut PixelsMut RowsRef",
+    "Debug, PartialEq": "Series Chart Summary FrameMeasure Mean StreamQuality",
+    "Debug, PartialEq, Eq": "Center Span PixelSums SsimConstants",
+    "Debug, Clone": "Counted",
+}.items() for name in names.split()}
+
+# Texts of fields whose meaning the text of their type has in one piece.
+FIELD_TEXTS = {
+    **{("Colour", name): f"The part of {name}." for name in ("red", "green", "blue")},
+    ("RgbMatrix", "luma"): "What a step of luma makes of each channel.",
+    ("RgbMatrix", "red_v"): "What a step of Cr makes of red.",
+    ("RgbMatrix", "green_u"): "What a step of Cb takes from green.",
+    ("RgbMatrix", "green_v"): "What a step of Cr takes from green.",
+    ("RgbMatrix", "blue_u"): "What a step of Cb makes of blue.",
+    **{("YuvMatrix", f"y_{name}"): f"What a step of {name} makes of luma." for name in ("red", "green", "blue")},
+    **{("YuvMatrix", f"u_{name}"): f"What a step of {name} takes from Cb." for name in ("red", "green")},
+    ("YuvMatrix", "u_blue"): "What a step of blue adds to Cb.",
+    ("YuvMatrix", "v_red"): "What a step of red adds to Cr.",
+    **{("YuvMatrix", f"v_{name}"): f"What a step of {name} takes from Cr." for name in ("green", "blue")},
+}
+
+# Words that tell that a sentence speaks to someone who writes proofs.
+PROOF_WORDS = (
+    r"\bcontracts?\b", r"\bclauses?\b", r"\bproofs?\b", r"\bprovers?\b", r"\bproved\b", r"\bproves?\b", r"\blaws?\b",
+    r"\btoolchain\b", r"\bRattle\b", r"\bghosts?\b", r"\brequires`", r"\bensures`", r"^Our own\b", r"\bspecs\b",
+    r"^The module is our own\b", r"^Its functions and constants are our own\b",
+)
+
+# What the text of a module says more in Rust.
+DOC_ADDED = {
+    ("v_frame", ("replay",)): "It is for those who test and compare: a list of calls is data, which a generator makes and which another"
+    " program can answer as well. To work on pictures, call planes and frames.",
+}
+
+# What texts say of Rattle's way, and what they say of Rust's.
+DOC_WORDS = {
+    "[`BYTES`](Pixel::BYTES)": "`size_of::<T>()`",
+    "[`Pixel::BYTES`]": "`size_of::<T>()`",
+    "`T::BYTES`": "`size_of::<T>()`",
+    "`S::BYTES`": "`size_of::<S>()`",
+}
