@@ -97,7 +97,8 @@ class Links:
     def bare(self, found):
         """Returns a link that is its own text, with both as Rust has them."""
         path = self.path(found[1])
-        return f"[`{path.removeprefix('crate::')}`]({path})" if path != found[1] else found[0]
+        shown = path.removeprefix("crate::")
+        return f"[`{shown}`]({path})" if path != shown else f"[`{path}`]"
 
     def crate_name(self, found):
         name = tables.PUBLIC_NAMES.get(found[1])

@@ -9,7 +9,8 @@ class Variant:
     def __init__(self, source, at, kind):
         noted = Item(at, None)
         at = skip_attributes(source, at, noted)
-        self.name, self.form, self.fields, self.cause, self.message = f"{kind}::{source[at]}", source[at + 1], [], None, None
+        self.name, self.form, self.fields = f"{kind}::{source[at]}", source[at + 1], []
+        self.cause = self.made_from = self.message = None
         for start, end in noted.attributes:
             if source[start + 2] != "error":
                 source.refuse(start, f"an attribute of a variant that is not known: {source[start + 2]}")
@@ -17,17 +18,18 @@ class Variant:
         if self.message is None:
             source.refuse(at, "a variant of an error without a message")
         if self.form in ("(", "{"):
-            for start, _ in source.elements(at + 1, types=True):
-                self.read_field(source, start)
+            for start, end in source.elements(at + 1, types=True):
+                self.read_field(source, start, end)
 
-    def read_field(self, source, at):
+    def read_field(self, source, at, end):
         noted = Item(at, None)
         at = skip_attributes(source, at, noted)
         name = source[at] if self.form == "{" else "value" if not self.fields else f"value_{len(self.fields)}"
         for start, _ in noted.attributes:
-            if source[start + 2] != "source":
+            if source[start + 2] not in ("source", "from") or source[start + 2] == "from" and self.form != "(":
                 source.refuse(start, f"an attribute of a field that is not known: {source[start + 2]}")
             self.cause = name
+            self.made_from = source.words(at, end) if source[start + 2] == "from" else None
         self.fields.append(name)
 
     def pattern(self, used):
@@ -58,9 +60,14 @@ class Variant:
             return f"{self.pattern(self.fields)} => core::error::Error::source(value),"
         return f"{self.pattern([self.cause])} => Some({self.cause})," if self.cause else None
 
+    def conversion(self, name):
+        """Returns how the error is made from its cause."""
+        text = f"fn from(value: {self.made_from}) -> Self {{\n        {self.name}(value)\n    }}"
+        return f"impl From<{self.made_from}> for {name} {{\n    {text}\n}}\n\n"
+
 
 def write_errors(source):
-    """Writes `Display` and `Error` for each type that derives them. Each `From` is written in the sources."""
+    """Writes `Display`, `Error` and `From` for each type that derives them."""
     for item in reversed(items_of(source)):
         for start, end in item.attributes:
             derived = [at for at in range(start, end) if source[start + 2] == "derive" and source[at] == "Error"]
@@ -74,7 +81,7 @@ def write_errors(source):
 
 
 def impls_text(name, variants):
-    """Returns the two implementations."""
+    """Returns the implementations."""
     shown = "\n            ".join(variant.display() for variant in variants)
     causes = [arm for arm in (variant.source() for variant in variants) if arm]
     text = f"""impl core::fmt::Display for {name} {{
@@ -85,7 +92,9 @@ def impls_text(name, variants):
     }}
 }}
 
-impl core::error::Error for {name} """
+"""
+    text += "".join(variant.conversion(name) for variant in variants if variant.made_from)
+    text += f"impl core::error::Error for {name} "
     if not causes:
         return text + "{}"
     arms = "\n            ".join([*causes, "_ => None,"])
@@ -101,7 +110,7 @@ impl core::error::Error for {name} """
 def erase_attributes(source, start, end):
     """Erases the attributes that `thiserror` reads."""
     for at in reversed(range(start, end)):
-        if source.matches(at, "# [") and source[at + 2] in ("error", "source"):
+        if source.matches(at, "# [") and source[at + 2] in ("error", "source", "from"):
             closing = source.closing(at + 1) + 1
             lead = source.tokens[at].lead if "\n" not in source.tokens[closing].lead else None
             source.erase(at, closing, "error-derive", lead)

@@ -4,13 +4,13 @@ from .items import functions_of, items_of
 
 
 def rewrite_formatters(source):
-    """Makes `fmt<W: fmt::Write>(.., f: &mut fmt::Formatter<W>)` what Rust has."""
+    """Makes `fmt<W: fmt::Write>(.., f: &mut fmt::Formatter<W>)`, and what is called with its formatter, what Rust has."""
     for item in reversed(functions_of(source)):
-        if item.name != "fmt":
+        places = [at for at in range(*item.params) if source.matches(at, "Formatter < W >")]
+        if item.name != "fmt" and not places:
             continue
-        for at in range(*item.params):
-            if source.matches(at, "Formatter < W >"):
-                source.replace(at + 2, at + 3, "formatter", "'_")
+        for at in places:
+            source.replace(at + 2, at + 3, "formatter", "'_")
         if item.generics is None or not source.matches(item.generics[0], "< W : fmt :: Write >"):
             source.refuse(item.keyword, "a `fmt` of a form that is not known")
         source.erase(item.generics[0], item.generics[1] + 1, "formatter")
@@ -32,7 +32,9 @@ def rewrite_tokens(source):
             at = source.replace(start, at + 5, "debug-of-field", f"fmt::Debug::fmt(&{field}, f)")
         elif source.matches(at, "prove !"):
             source.replace(at, at + 1, "prove", "debug_assert")
-        elif source.matches(at, "rt . stdout ( )"):
+        elif source.matches(at, "io :: Error :: from ( ErrorKind :: FilesystemLoop )"):
+            at = source.replace(at, at + 10, "unstable-kind", "fs::too_many_links()")
+        elif source.matches(at, "rt . stdout ( )") and not passes_handle(source):
             at = source.replace(at, at + 5, "handle", "std::io::stdout()")
         elif source[at] in ("eprintln", "println") and source.matches(at + 1, "! ( rt ;"):
             stream = "stderr" if source[at] == "eprintln" else "stdout"
@@ -56,11 +58,17 @@ def rewrite_slices(source):
             source.replace(at, at + 1, "slice-trait", "Deref")
 
 
+def passes_handle(source):
+    """Returns whether a program passes its handle on: then it keeps it, and the file that is written by hand makes it."""
+    return any(source.matches(at, "& rt") for at in range(len(source)))
+
+
 def rewrite_main(source):
-    """A program's `main` gets no handle, and is called by the file that is written by hand."""
+    """A program's `main` is called by the file that is written by hand, and gets no handle where it only prints by it."""
     for item in reversed(functions_of(source)):
         if item.name == "main" and source.words(item.params[0] + 1, item.params[1]) == "rt: HostRuntime":
-            source.erase(item.params[0] + 1, item.params[1], "handle", "")
+            if not passes_handle(source):
+                source.erase(item.params[0] + 1, item.params[1], "handle", "")
             source.insert(item.keyword, "handle", "pub", source.tokens[item.keyword].lead)
             source.tokens[item.keyword + 1].lead = " "
 

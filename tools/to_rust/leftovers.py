@@ -7,7 +7,9 @@ from .items import functions_of, items_of
 from .paths import leaves_of
 
 # Calls that only read, which may stand in a statement whose value nobody reads.
-READING = {"width", "height", "byte_len", "data", "chroma_len"}
+READING = {"width", "height", "byte_len", "data", "chroma_len", "frame", "visible_row"}
+# Variables that nobody reads, whose statements do something.
+KEPT = {"_held", "_program"}
 
 
 def erase_laws(sources):
@@ -51,8 +53,17 @@ def erase_calls(source, laws):
             end = source.closing(end + 1) + 1
             if source[end] == ";":
                 source.erase(at, end + 1, "law-call")
+                at = erase_empty_if(source, at)
                 continue
         at += 1
+
+
+def erase_empty_if(source, at):
+    """Erases `if let Some(name) = name {}` around a call that was erased, and returns what is next."""
+    if source[at] == "}" and source[at - 1] == "{" and source.matches(at - 9, "if let Some (") and source[at - 3] == "=":
+        source.erase(at - 9, at + 1, "law-call")
+        return at - 9
+    return at
 
 
 def with_items(sources):
@@ -75,9 +86,12 @@ def erase_unread(source):
         if source[at] == "let" and source[at + 1].startswith("_") and source[at + 1] != "_" and source[at + 2] == "=":
             end = source.following(at, ";")
             called = {source[k] for k in range(at + 3, end) if source[k + 1] in ("(", "!") and source.kind(k) == "word"}
-            if not called <= READING:
+            if source[at + 1] in KEPT:
+                at = end
+            elif not called <= READING:
                 source.refuse(at, "a statement whose value nobody reads, and which may do something")
-            source.erase(at, end + 1, "unread-value")
+            else:
+                source.erase(at, end + 1, "unread-value")
         else:
             at += 1
 

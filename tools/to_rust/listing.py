@@ -18,6 +18,8 @@ stands there in the source. Blanks and line ends are not listed.
 """
 # Rules whose left-out tokens are listed one by one, for they are no contracts.
 SHOWN = {"law-call", "law-module", "unread-value", "allocator-argument", "doc-proofs", "comment-proofs"}
+# Rules whose tokens are counted alone, for they stand in files of their own.
+COUNTED = {"doc-example"}
 
 
 def listing_of(sources):
@@ -58,7 +60,7 @@ def section_lines(rules):
     """Returns a line for each form, the frequent ones first: how often, what stood there, and what stands there."""
     lines = []
     for rule in RULES:
-        if rule in rules:
+        if rule in rules and rule not in COUNTED:
             lines += ["", f"### `{rule}`", "", RULES[rule], ""]
             for (old, new), count in sorted(rules[rule].items(), key=lambda form: (-form[1], form[0])):
                 times = f"{count} × " if count > 1 else ""

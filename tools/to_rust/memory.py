@@ -7,7 +7,7 @@ left out. A request for memory still can be refused with an error: what grows a 
 
 from .items import functions_of
 
-ALLOCATORS = ("alloc", "_alloc", "rt . alloc ( )", "self . alloc")
+ALLOCATORS = ("alloc", "_alloc", "rt . alloc ( )", "self . alloc", "system . rt . alloc ( )")
 GROWING = {name: f"try_{name}" for name in ("push", "push_str", "extend_from_slice", "resize", "reserve")}
 MAKING = {name: f"try_{name}" for name in ("from_slice", "from_array", "from_str")}
 MAKING["with_capacity"] = "with_room_for"
@@ -29,11 +29,25 @@ def erase_parameters(source):
             at += 1
 
 
+def erase_bounds(source):
+    """Leaves out the bound of a handle that gives an allocator, and variables that are one."""
+    at = 0
+    while at < len(source):
+        if source[at] == "AllocGlobal" and source[at - 1] == "+":
+            source.erase(at - 1, at + 1, "allocator-bound")
+        elif source.matches(at, "AllocGlobal +"):
+            source.erase_here(at, at + 2, "allocator-bound")
+        elif source.matches(at, "let alloc = system . rt . alloc ( ) ;"):
+            source.erase(at, at + 11, "allocator-variable")
+        else:
+            at += 1
+
+
 def argument_end(source, at):
     """Returns where an argument that is an allocator ends, or nothing."""
     for words in ALLOCATORS:
         end = at + len(words.split())
-        if source.matches(at, words) and is_element(source, at, end) and source[at - 1] != "{":
+        if source.matches(at, words) and is_element(source, at, end) and (source[at - 1] != "{" or source[end] == ","):
             return end
     return None
 
@@ -58,6 +72,8 @@ def rename_call(source, at):
     name = source[at]
     if source[at - 1] == "::" and source[at - 2] in ("Vec", "String") and name in MAKING:
         source.replace(at, at + 1, "memory-call", MAKING[name])
+    elif source.matches(at - 2, "BufReader :: new"):
+        source.replace(at, at + 1, "memory-call", "try_new")
     elif source[at - 1] == "." and name in TURNING:
         source.replace(at, at + 1, "memory-call", TURNING[name])
     elif source[at - 1] == "." and name == "clone":
@@ -114,6 +130,7 @@ def unwrap_clone(source, item):
 def rewrite(source):
     """Makes all of these changes."""
     rewrite_macros(source)
+    erase_bounds(source)
     erase_parameters(source)
     rewrite_clones(source)
     erase_arguments(source)

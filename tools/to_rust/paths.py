@@ -25,8 +25,11 @@ def module_of(source, crate):
 
 
 def from_here(source, path):
-    """Returns the path of something of the library, as a source of another Rust crate names it."""
-    return path if home_of(source.crate) == tables.LIBRARY else path.replace("crate::", tables.LIBRARY + "::", 1)
+    """Returns the path of something of the library, or of a program's own support, as a source of a Rust crate names it."""
+    home = home_of(source.crate)
+    if path.startswith(home + "::"):
+        return path.replace(home, "crate", 1)
+    return path if home == tables.LIBRARY else path.replace("crate::", tables.LIBRARY + "::", 1)
 
 
 def leaves_of(source, start, end):
@@ -97,7 +100,7 @@ def add_imports(source):
             continue
         if word in tables.PRELUDE and source[at - 1] != "::" and home_of(source.crate) == tables.LIBRARY:
             wanted.add(tables.PRELUDE[word])
-        if word in tables.SUPPORT and made is not None:
+        if word in tables.SUPPORT and made is not None or word == "HostRuntime":
             wanted.add(tables.SUPPORT[word])
         # The target of `write!` is a stream, a `String`, or a formatter, which is `f` everywhere.
         if word in ("write", "writeln") and source[at + 1] == "!" and source[at + 3] != "f":

@@ -6,10 +6,10 @@ an error. What is listed does the same in both.
 
 from . import exports, tables
 from .items import functions_of, items_of
-from .paths import STD, leaves_of
+from .paths import STD, home_of, leaves_of
 
-MACROS = {"write", "writeln", "eprintln", "prove", "unreachable", "vec", "format"}
-ATTRIBUTES = {"inline", "derive", "error", "must_use", "source"}
+MACROS = {"write", "writeln", "eprintln", "prove", "unreachable", "vec", "format", "matches"}
+ATTRIBUTES = {"inline", "derive", "error", "must_use", "source", "from"}
 DERIVES = {"Debug", "Clone", "Copy", "PartialEq", "Eq", "PartialOrd", "Ord", "Hash", "Default", "Error"}
 KEYWORDS = set("""
     as break const continue crate else enum false fn for if impl in let loop match mod move mut pub ref return self Self static struct
@@ -20,6 +20,7 @@ TYPES = set("""
     ExactSizeIterator ExitCode Fn FnMut FnOnce Formatter From FusedIterator Global Hash HostRuntime Into IntoIter IntoIterator Item
     Iter Iterator LowerHex None NonZeroU8 Octal Ok Option Ord Ordering PartialEq PartialOrd Read Result Simd Some String UpperHex Vec
     Write Default Sized Output Drop Model
+    AllocGlobal BufReader Clock File Files Instant MetadataExt OpenFile OpenOptions PathBuf Permissions
 """.split())
 METHODS = set("""
     abs abs_diff alloc all as_bytes part_mut entry_mut into_values as_deref as_mut as_mut_slice as_ref as_slice cast ceil chars
@@ -30,6 +31,8 @@ METHODS = set("""
     split_at split_at_mut split_first split_last split_once stdout strict_reduce_sum strip_prefix take then_some to_array to_be_bytes
     to_le_bytes to_string transpose unsigned_abs unwrap unwrap_or wrapping_add wrapping_mul wrapping_neg wrapping_sub write write_char
     flush
+    any append as_millis as_path as_str checked_sub dev elapsed encode_utf8 ino into_string is_ascii metadata permissions pop retain
+    rev set_permissions starts_with stderr stdin sync_all create_new is_file is_some_and
 """.split())
 MEMBERS = set("""
     AlignedData::new AlignedData::without_values ErrorKind::Interrupted ErrorKind::WriteZero ExitCode::FAILURE ExitCode::SUCCESS
@@ -38,6 +41,9 @@ MEMBERS = set("""
     io::Write isize::MAX mem::replace mem::take slice::Iter str::from_utf8 u128::from u16::MAX u16::from u16::from_le_bytes
     u16x16::from_le_bytes u16x16::from_slice u16x16::splat u16x8::from_le_bytes u32::MAX u32::from u32::from_le_bytes
     u32x8::from_le_bytes u32x8::splat u64::MAX u64::from u8::from u8::try_from u8x16::from_slice u8x32::from_slice usize::MAX
+    BufReader::new ExitCode::from Instant::now OpenOptions::new PathBuf::from_str env::args fs::create fs::metadata fs::open
+    fs::read_link fs::remove_file fs::rename fs::File char::from_digit usize::try_from u64::try_from ErrorKind::AlreadyExists ErrorKind::FilesystemLoop ErrorKind::InvalidData
+    ErrorKind::NotFound
     usize::from Simd::from_slice Ordering::Less Ordering::Equal Ordering::Greater
 """.split())
 LEFT_OVER = {"ghost", "requires", "ensures", "Drop", "Model", "Global", "alloc", "_alloc", "rt", "HostRuntime", "prove", "thiserror",
@@ -119,8 +125,9 @@ def check_path(source, at, names):
 
 
 def check_output(source):
-    """Refuses what must not be left of Rattle."""
+    """Refuses what must not be left of Rattle. A program that opens files keeps the handle by which it does."""
+    left_over = LEFT_OVER - tables.HANDLES if home_of(source.crate) in tables.WITH_HANDLES else LEFT_OVER
     for at, token in enumerate(source.tokens):
         made_path = source.matches(at, "alloc ::") and token.edit is not None
-        if token.kind == "strange" or token.kind == "word" and token.text in LEFT_OVER and not made_path:
+        if token.kind == "strange" or token.kind == "word" and token.text in left_over and not made_path:
             source.refuse(at, f"`{token.text}` is left over")

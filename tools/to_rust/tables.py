@@ -11,11 +11,15 @@ HOMES = {
         "v_frame_semi_planar", "v_frame_png", "v_frame_chart",
     ],
     "v_frame_tool": ["v_frame_tool_run", "v_frame_tool"],
-    "v_frame_c": ["v_frame_c"],
-    "v_frame_y4m_c": ["v_frame_y4m_c"],
+    "yuv": ["yuv_words", "yuv_streams", "yuv_pictures", "yuv_reports", "yuv_commands", "yuv"],
+    "v_frame_c": ["v_frame_c", "v_frame_y4m_c"],
 }
 
 LIBRARY = "v_frame_proved"
+
+# The Rust crates that pass a handle of the system on, and what these are named.
+WITH_HANDLES = {"yuv"}
+HANDLES = {"rt", "HostRuntime"}
 
 # The modules of the library by their public names, as programs and other crates name them.
 PUBLIC_NAMES = {"v_frame": LIBRARY, **{f"v_frame_{name}": f"{LIBRARY}::{name}" for name in """
@@ -42,13 +46,17 @@ STD_NAMES = {
     **moved("crate::support::lanes", "Simd u8x16 u8x32 u16x8 u16x16 u32x8", "std::simd"),
     **moved("crate::support::numbers", """f32_to_f64_with_nan nearest_i64_to_f64 nearest_u64_to_f64 nearest_usize_to_f64
         saturating_f64_to_i64 saturating_f64_to_u64""", "std::num"),
+    **moved("std", "fs::File fs::Permissions io::BufReader os::unix::fs::MetadataExt"),
+    **moved("yuv::support", "env fs fs::OpenFile fs::OpenOptions path::PathBuf time::Clock time::Instant"),
+    "std::fmt::Write": "core::fmt::Write",
+    "std::rt::Files": "yuv::support::fs::Files",
     "std::alloc::AllocError": "crate::support::AllocError",
     "std::ops::DerefSlice": "core::ops::Deref",
     **dict.fromkeys(("std::alloc::Global", "std::convert::AsSlice", "std::marker::Model", "thiserror::Error")),
 }
 
 # Traits of Rust that are imported for their methods.
-STD_TRAITS = {"Read", "Write", "BufRead", "DerefSlice"}
+STD_TRAITS = {"Read", "Write", "BufRead", "DerefSlice", "MetadataExt", "OpenFile"}
 
 # What files may use without an import in Rattle, and need one for where there is no `std`: the word, and its path.
 PRELUDE = {"Vec": "alloc::vec::Vec", "String": "alloc::string::String"}
@@ -62,7 +70,8 @@ SUPPORT = {name: f"crate::support::memory::{trait}" for trait, names in {
     "TryCollect": "try_collect_vec",
     "try_format": "try_format",
     "repeated": "repeated",
-}.items() for name in names.split()}
+}.items() for name in names.split()} | {"HostRuntime": "yuv::support::HostRuntime", "try_new": "yuv::support::TryBuffered"} | {
+    name: f"crate::views::{name}" for name in ("AsPlaneRef", "AsRowsRef")}
 
 # Functions that the library calls so often that its own calls go to one without tests.
 HOT = {
@@ -73,6 +82,9 @@ HOT = {
 }
 # Those among them that are no methods.
 HOT_FUNCTIONS = {"encode_row"}
+
+# Private functions whose loops are faster where the compiler is told what they require.
+FACTS = {("v_frame_turn", "write_reversed"), ("v_frame_semi_planar", "deinterleave_pixels")}
 
 # The original's bounds of `Pixel` beyond those of the source, and the head of the hidden trait that has what it lacks.
 PIXEL_BOUNDS = """+ core::fmt::LowerExp

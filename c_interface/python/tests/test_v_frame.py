@@ -298,6 +298,12 @@ class Planes(unittest.TestCase):
         self.assertRaises(ValueError, v_frame.lay_out, 5, 3, "410")
         self.assertRaises(ValueError, v_frame.lay_out, 5, 3, "420", -1)
 
+    def test_no_status_but_0_is_a_success(self):
+        from v_frame import _library
+        self.assertIsNone(_library.answered(0))
+        for status, error in ((1, RowsError), (3, SizesError), (4, ValueError), (5, ValueError), (8, RuntimeError)):
+            self.assertRaises(error, _library.answered, status)
+
     def test_what_does_not_fit_is_refused(self):
         for width, height, stride in ((0, 2, 4), (4, 0, 4), (4, 2, 3), (4, 4, 5)):
             plane = Plane(bytes(16), width, height, stride)

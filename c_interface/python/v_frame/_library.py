@@ -127,5 +127,9 @@ def answered(status):
         raise RowsError({1: "the first", 2: "the second", 6: "the third", 7: "the fourth"}[status] + " rows do not fit their buffer")
     if status == 3:
         raise SizesError("the sizes do not belong together")
+    if status == 4:
+        raise ValueError("there is no such format")
     if status == 5:
         raise ValueError("a number is none that the library knows: a bit depth, a ratio, a weight or one of a choice")
+    if status != 0:
+        raise RuntimeError(f"the library returned the status {status}, which this module does not know")

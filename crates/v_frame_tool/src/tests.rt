@@ -4,5 +4,4 @@ mod frame;
 mod planar;
 mod plane;
 mod program;
-mod replay;
 mod support;

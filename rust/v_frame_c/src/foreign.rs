@@ -1,8 +1,8 @@
-//! What C points to, as Rust has it. This is the one file written by hand whose code is unsafe, and both libraries for C have it.
+//! What C points to, as Rust has it. This is the one file written by hand whose code is unsafe.
 //!
 //! C promises what its header says: a pointer is aligned, and points to a value, or to as many entries as the length beside it
 //! counts; nothing that is written overlaps anything else, and nobody else touches it during the call.
-#![allow(unsafe_code, dead_code)]
+#![allow(unsafe_code)]
 
 use core::slice;
 

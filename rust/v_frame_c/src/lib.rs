@@ -1,13 +1,16 @@
-//! The calls of the library for C, as `c_interface/include/v_frame.h` declares them.
+//! The calls of the libraries for C, as the headers in `c_interface/include` declare them: `v_frame.h` and `v_frame_y4m.h`.
+//!
+//! They are one library here, for a program cannot link two that each hold Rust's own: `tools/install` gives it both names.
 //!
 //! The exports are generated, and unsafe: each takes what C points to, by the functions of `foreign`, and calls what is safe.
 //! Nothing else here may be unsafe. Bodies don't panic, by proof; a panic nevertheless would stop the program, for it can't leave
 //! an `extern "C"` function.
 #![deny(unsafe_code, improper_ctypes_definitions)]
 // The sources are translated as they are written, for a prover too.
-#![allow(clippy::manual_range_contains, clippy::too_many_arguments)]
+#![allow(clippy::manual_range_contains, clippy::needless_borrows_for_generic_args, clippy::too_many_arguments)]
 
 mod foreign;
 mod generated {
     pub mod v_frame_c;
+    pub mod v_frame_y4m_c;
 }

@@ -1,4 +1,5 @@
-//! Raw YUV video frames.
+#![cfg_attr(feature = "std", doc = include_str!("../README.md"))]
+#![cfg_attr(not(feature = "std"), doc = "Raw YUV video frames, made from proved sources.")]
 #![forbid(unsafe_code)]
 #![warn(missing_docs)]
 #![no_std]
@@ -13,6 +14,7 @@
     clippy::manual_ok_err,
     clippy::manual_range_contains,
     clippy::manual_swap,
+    clippy::needless_borrows_for_generic_args,
     clippy::needless_range_loop,
     clippy::new_without_default,
     clippy::should_implement_trait,

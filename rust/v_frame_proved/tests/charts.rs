@@ -1,5 +1,7 @@
 //! Charts whose writes fail after so many bytes, take nothing there, or are interrupted.
 
+#![cfg(feature = "std")]
+
 mod support;
 
 use std::io::{self, ErrorKind, Write};

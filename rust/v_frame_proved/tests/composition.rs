@@ -66,8 +66,9 @@ fn what_lies_outside_is_left_out() {
 
 fn differs<T: Pixel>(mut case: Case<'_>) {
     let [factor, target_factor, _] = factors();
-    let (size, gain, depth, layout) = (case.number(), case.number(), case.number(), case.layout());
-    let other = numbered::<T>(layout, factor, size);
+    let (size, gain, depth, step) = (case.number(), case.number(), case.number(), case.number::<usize>());
+    let layout = case.layout();
+    let other = numbered::<T>(layout, factor + step, size);
     let mut plane = numbered::<T>(layout, target_factor, size);
     difference(&mut plane, &other.as_plane_ref(), gain, depth);
     case.expect(&[weighted(plane.data())]);

@@ -85,7 +85,7 @@ fn changes_range<T: Pixel>(mut case: Case<'_>) {
     let source = numbered::<T>(layout, factor, size);
     let sums = [to_full_range, to_limited_range].map(|change| {
         let mut target = numbered::<T>(layout, target_factor, 0);
-        change(&source.as_plane_ref(), &mut target, component, depth);
+        change(&source, &mut target, component, depth);
         weighted(target.data())
     });
     case.expect(&sums);

@@ -1,5 +1,7 @@
 //! Streams that count their failures and keep the cause of the last one: how often they are called, and what goes out.
 
+#![cfg(feature = "std")]
+
 mod support;
 
 use std::io::{self, ErrorKind, Read, Write};

@@ -254,7 +254,8 @@ fn frames_that_differ_in_one_border_entry_are_unequal() {
 
 #[test]
 fn frames_show_their_planes() {
-    let nine = "Frame { y_plane: Plane { data: [0, 1, 2, 3, 4, ..], geometry: PlaneGeometry { width: 3, height: 3, stride: 3, \
+    let nine = "Frame { y_plane: Plane { data: [0, 1, 2, 3, 4, ..], geometry: PlaneGeometry { width: 3, height: 3, \
+                stride: 3, \
                 pad_left: 0, pad_right: 0, pad_top: 0, pad_bottom: 0, subsampling_x: 1, subsampling_y: 1 } }, \
                 u_plane: None, v_plane: None, subsampling: Monochrome, bit_depth: 8 }";
     let mut frame = built::<u8>(((3, 3), Monochrome, 8, [0; 4]));

@@ -1,5 +1,7 @@
 //! Similarity, mean squared errors, ratios in decibels and differences, to the last digit.
 
+#![cfg(feature = "std")]
+
 mod support;
 
 use support::cases::{Case, cases, values};
@@ -115,7 +117,7 @@ fn means_of_a_stream() {
     quality.add(100.0, 8);
     assert_eq!(quality.mean_of_errors(), Some(50.5));
     // The mean of 48.1308036... and 28.1308036..., where the ratio of the mean error is 31.0978898...
-    assert!(are_near(quality.mean_of_psnr().expect("frames"), 38.130_803_608_679_106));
+    assert!(are_near(quality.mean_of_psnr().expect("frames"), 38.130_803_608_679_11));
     assert!(are_near(psnr(50.5, 8), 31.097_889_827_492_49));
     assert_eq!(peak_ratio(2.0, 8), 32512.5);
 }

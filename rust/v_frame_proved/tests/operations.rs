@@ -226,9 +226,9 @@ fn a_wide_border_continues_the_picture() {
     check_pad::<u16>();
 }
 
-fn check_downscale<T: Pixel>() {
-    let mut target = picture::<T>(40, 3, 1);
-    downscale(&picture(80, 6, 0).as_plane_ref(), &mut target);
+fn check_downscale<T: Pixel>(width: usize) {
+    let mut target = picture::<T>(width, 3, 1);
+    downscale(&picture(2 * width, 6, 0).as_plane_ref(), &mut target);
     must_show(&target, |x, y| {
         let places = [(0, 0), (1, 0), (0, 1), (1, 1)];
         let sum: u32 = places.iter().map(|(i, j)| u32::from(sample::<T>(0, 2 * x + i, 2 * y + j).into())).sum();
@@ -237,7 +237,9 @@ fn check_downscale<T: Pixel>() {
 }
 
 #[test]
-fn wide_planes_are_halved() {
-    check_downscale::<u8>();
-    check_downscale::<u16>();
+fn planes_of_each_width_are_halved() {
+    for width in 1..=40 {
+        check_downscale::<u8>(width);
+        check_downscale::<u16>(width);
+    }
 }

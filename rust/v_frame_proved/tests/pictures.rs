@@ -1,6 +1,8 @@
 //! PNG files. Python's `struct`, `zlib.crc32` and `zlib.adler32` made the same ones, and its `zlib` read the compressed
 //! ones back.
 
+#![cfg(feature = "std")]
+
 mod support;
 
 use std::io::ErrorKind;

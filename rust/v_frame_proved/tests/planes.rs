@@ -219,8 +219,8 @@ fn a_clone_is_a_plane_of_its_own() {
 /// The debug text of a geometry without a border.
 fn shown_geometry(width: usize, height: usize) -> String {
     format!(
-        "geometry: PlaneGeometry {{ width: {width}, height: {height}, stride: {width}, pad_left: 0, pad_right: 0, pad_top: 0, \
-         pad_bottom: 0, subsampling_x: 1, subsampling_y: 1 }}"
+        "geometry: PlaneGeometry {{ width: {width}, height: {height}, stride: {width}, pad_left: 0, pad_right: 0, \
+         pad_top: 0, pad_bottom: 0, subsampling_x: 1, subsampling_y: 1 }}"
     )
 }
 

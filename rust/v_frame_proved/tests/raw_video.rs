@@ -1,5 +1,7 @@
 //! Frames of any size as planar bytes: how large they are, and how they are read and written.
 
+#![cfg(feature = "std")]
+
 mod support;
 
 use std::io::ErrorKind;

@@ -1,5 +1,7 @@
 //! Lists of calls that are replayed on frames: what each answers, and what is left.
 
+#![cfg(feature = "std")]
+
 mod support;
 
 use std::fmt::Debug;

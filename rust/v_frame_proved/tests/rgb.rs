@@ -3,7 +3,7 @@
 mod support;
 
 use support::cases::{Case, cases, values};
-use support::planes::{BORDER, bordered, must_hold, must_show, plane_of};
+use support::planes::{BORDER, blank, bordered, must_hold, must_show, numbered, plane_of, weighted};
 use v_frame_proved::plane::RowsRef;
 use v_frame_proved::rgb::{
     Bgr, Bgra, Channel, ChromaU, ChromaV, Colour, ColourOrder, ColourRange, Luma, Rgb, RgbMatrix, Rgba, Standard,
@@ -98,6 +98,39 @@ fn colours_become_samples() {
             "Rgba" => encodes::<Rgba>(&case, matrix),
             _ => encodes::<Bgra>(&case, matrix),
         }
+    }
+}
+
+#[test]
+fn coefficients_are_those_of_the_standards() {
+    for mut case in cases(CASES, "rgb_matrix") {
+        let (standard, range) = standard(&mut case);
+        let RgbMatrix { black, luma, red_v, green_u, green_v, blue_u } = RgbMatrix::new(standard, range);
+        case.expect(&[black.into(), luma, red_v, green_u, green_v, blue_u]);
+    }
+    for mut case in cases(CASES, "yuv_matrix") {
+        let (standard, range) = standard(&mut case);
+        let YuvMatrix { black, y_red, y_green, y_blue, u_red, u_green, u_blue, v_red, v_green, v_blue } =
+            YuvMatrix::new(standard, range);
+        case.expect(&[black.into(), y_red, y_green, y_blue, u_red, u_green, u_blue, v_red, v_green, v_blue]);
+    }
+}
+
+#[test]
+fn wide_pictures_become_colours_and_samples() {
+    let layout = [67, 9, 0, 0, 0, 0];
+    let factors: Vec<usize> = values(CASES, "factors");
+    let samples = [0, 1, 2].map(|index| numbered::<u8>(layout, factors[index], 0));
+    let [y, u, v] = [0, 1, 2].map(|index| samples[index].as_plane_ref());
+    let colours: Vec<u8> = (0..67 * 9).flat_map(|i| [0, 1, 2].map(|index| samples[index].data()[i])).collect();
+    let source = RowsRef::new(&colours, 3 * 67, 9, 3 * 67).expect("rows");
+    for mut case in cases(CASES, "wide") {
+        let (standard, range) = standard(&mut case);
+        let mut buffer = vec![0; 3 * 67 * 9];
+        yuv444_to_rgb::<Rgb>(&y, &u, &v, RgbMatrix::new(standard, range), &mut buffer, 3 * 67, 9, 3 * 67);
+        let [mut luma, mut cb, mut cr] = [(); 3].map(|()| blank::<u8>(layout));
+        rgb_to_yuv444::<Rgb>(&source, YuvMatrix::new(standard, range), &mut luma, &mut cb, &mut cr);
+        case.expect(&[weighted(&buffer), weighted(luma.data()), weighted(cb.data()), weighted(cr.data())]);
     }
 }
 

@@ -1,5 +1,7 @@
 //! Semi-planar layouts: frames written and read, chroma by turns, and samples in the top bits of words.
 
+#![cfg(feature = "std")]
+
 mod support;
 
 use std::io::ErrorKind;

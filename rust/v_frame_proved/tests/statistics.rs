@@ -18,8 +18,13 @@ const CASES: &str = include_str!("data/statistics.txt");
 
 /// Returns two planes of a layout.
 fn planes<T: Pixel>(layout: Layout) -> [Plane<T>; 2] {
+    planes_of_size(layout, 0)
+}
+
+/// Returns two planes of a layout whose entries are cut to so many values.
+fn planes_of_size<T: Pixel>(layout: Layout, size: u16) -> [Plane<T>; 2] {
     let factors: Vec<usize> = values(CASES, "factors");
-    [factors[0], factors[1]].map(|factor| numbered(layout, factor, 0))
+    [factors[0], factors[1]].map(|factor| numbered(layout, factor, size))
 }
 
 fn counts<T: Pixel>(mut case: Case<'_>) {
@@ -77,8 +82,8 @@ fn fields(sums: PairSums) -> [u128; 5] {
 }
 
 fn sums<T: Pixel>(mut case: Case<'_>) {
-    let layout = case.layout();
-    let [a, b] = planes::<T>(layout);
+    let (size, layout) = (case.number(), case.layout());
+    let [a, b] = planes_of_size::<T>(layout, size);
     let (a, b) = (a.as_plane_ref(), b.as_plane_ref());
     let count = layout[0] * layout[1];
     let pairs = pair_sums(&a, &b);

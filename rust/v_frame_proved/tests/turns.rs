@@ -2,8 +2,9 @@
 
 mod support;
 
-use support::cases::{Case, cases};
-use support::planes::{count, counted, values};
+use support::cases::{self, Case, cases};
+use support::for_type;
+use support::planes::{count, counted, numbered, values, weighted};
 use v_frame_proved::chroma::ChromaSubsampling::{self, Monochrome, Yuv411, Yuv420, Yuv422, Yuv444};
 use v_frame_proved::frame::{Frame, FrameBuilder};
 use v_frame_proved::pixel::Pixel;
@@ -35,6 +36,20 @@ fn turns_plane<T: Pixel>(mut case: Case<'_>) {
 fn planes_are_turned() {
     cases(CASES, "plane").into_iter().for_each(turns_plane::<u8>);
     cases(CASES, "plane").into_iter().for_each(turns_plane::<u16>);
+}
+
+fn turns_large_plane<T: Pixel>(mut case: Case<'_>) {
+    let factors: Vec<usize> = cases::values(CASES, "factors");
+    let turn = turn(&mut case);
+    let source = numbered::<T>(case.layout(), factors[0], 0);
+    let mut target = numbered::<T>(case.layout(), factors[1], 0);
+    turn_plane(&source.as_plane_ref(), &mut target, turn);
+    case.expect(&[weighted(target.data())]);
+}
+
+#[test]
+fn large_planes_are_turned() {
+    cases(CASES, "large").into_iter().for_each(|case| for_type!(turns_large_plane, case));
 }
 
 fn turns_plane_in_place<T: Pixel>(mut case: Case<'_>) {

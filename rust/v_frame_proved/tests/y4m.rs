@@ -1,5 +1,7 @@
 //! YUV4MPEG2 streams: header lines, why they are refused, and streams that are copied or cut off.
 
+#![cfg(feature = "std")]
+
 mod support;
 
 use std::io::{ErrorKind, Read};

@@ -1,6 +1,5 @@
 //! Planar bytes: frames that are read and written, from and to streams of all habits.
 
 mod calls;
-mod long_rows;
 mod reads;
 mod writes;

@@ -1,9 +1,7 @@
 //! What tests of more than one file stand on: fixtures, calls and answers as values, comparisons, readers and writers.
 
-pub mod answers;
 pub mod buffers;
 pub mod bytes;
-pub mod calls;
 pub mod checks;
 pub mod frames;
 pub mod options;

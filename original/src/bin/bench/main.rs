@@ -1,13 +1,17 @@
 //! Times of `v_frame` 0.7.0: `bench WIDTH HEIGHT PADDING SEED REPETITIONS`.
 //!
-//! The cases, their data and what is printed are those of `crates/bench`. Operations that 0.7.0 lacks, as `pad`, are loops over
-//! its rows, as a user writes them.
+//! The cases, their data and what is printed are those of `crates/bench`, and two more kinds of blocks. Operations that 0.7.0
+//! lacks, as `pad`, are loops over its rows, as a user writes them. Built over `v_frame_proved`, with the feature `proved`, they
+//! are its own.
 
+#[cfg_attr(feature = "proved", path = "proved/blocks.rs")]
 mod blocks;
 mod cases;
 mod desk;
+#[cfg_attr(feature = "proved", path = "proved/operations.rs")]
 mod operations;
 mod reads;
+#[cfg_attr(feature = "proved", path = "proved/replays.rs")]
 mod replays;
 mod writes;
 

@@ -61,6 +61,14 @@ fn narrowed<T: Pixel>(value: u32) -> T {
     if size_of::<T>() == 1 { T::from(value as u8) } else { T::try_from(value as u16).unwrap_or_default() }
 }
 
+/// Fills the visible pixels.
+#[inline(never)]
+pub fn fill<T: Pixel>(plane: &mut Plane<T>, value: T) {
+    for row in plane.rows_mut() {
+        row.fill(value);
+    }
+}
+
 /// Makes each pixel of the border the visible pixel nearest to it.
 #[inline(never)]
 pub fn pad<T: Pixel>(plane: &mut Plane<T>) {

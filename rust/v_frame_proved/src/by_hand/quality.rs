@@ -101,6 +101,24 @@ pub fn ssim<T: Pixel>(
 
 /// Returns the peak signal-to-noise ratios of two frames of one size, format and depth.
 ///
+/// ```
+/// use v_frame_proved::chroma::ChromaSubsampling;
+/// use v_frame_proved::frame::FrameBuilder;
+/// use v_frame_proved::quality::{FramePsnr, MeasureError, frame_psnr, frame_ssim};
+///
+/// let gray = FrameBuilder::new(16, 16, ChromaSubsampling::Monochrome, 8).build::<u8>()?;
+/// let mut other = gray.clone();
+/// other.y_plane[0][0] = 255;
+/// let ratio = FramePsnr { y: f64::INFINITY, u: None, v: None, all: f64::INFINITY };
+/// assert_eq!(frame_psnr(&gray, &gray)?, ratio);
+/// assert!((frame_psnr(&gray, &other)?.all - 24.082_400).abs() < 1e-6);
+/// assert_eq!(frame_ssim(&gray, &gray)?.all, 1.0);
+///
+/// let wide = FrameBuilder::new(32, 16, ChromaSubsampling::Monochrome, 8).build::<u8>()?;
+/// assert_eq!(frame_psnr(&gray, &wide), Err(MeasureError::SizesDiffer));
+/// # Ok::<(), Box<dyn std::error::Error>>(())
+/// ```
+///
 /// # Errors
 ///
 /// The first of these that holds: [`MeasureError::DepthsDiffer`], [`MeasureError::UnsupportedBitDepth`] where `T` has no
@@ -112,7 +130,8 @@ pub fn frame_psnr<T: Pixel>(a: &Frame<T>, b: &Frame<T>) -> Result<FramePsnr, Mea
     Ok(FramePsnr { y: ratio(errors.y), u: errors.u.map(ratio), v: errors.v.map(ratio), all: ratio(errors.all) })
 }
 
-/// Returns the structural similarities of two frames of one size, format and depth: of each plane, and their mean.
+/// Returns the structural similarities of two frames of one size, format and depth: of each plane, and their mean, each weighed
+/// by the pixels of its plane. See the example of [`frame_psnr`].
 ///
 /// # Errors
 ///

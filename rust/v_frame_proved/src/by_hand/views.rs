@@ -26,6 +26,26 @@ use core::iter::FusedIterator;
 use core::ops::{Index, IndexMut};
 
 /// What can be read as a plane: a [`Plane`], a [`PlaneRef`] and references to them, and types of one's own that hold a picture.
+///
+/// ```
+/// use v_frame_proved::plane::{PlaneGeometry, PlaneRef};
+/// use v_frame_proved::statistics::maximum;
+/// use v_frame_proved::views::AsPlaneRef;
+///
+/// /// A picture of 4 by 4 pixels of 10 bits, as another library has it.
+/// struct Thumbnail([u16; 16]);
+///
+/// impl AsPlaneRef for Thumbnail {
+///     type Pixel = u16;
+///
+///     fn as_plane_ref(&self) -> PlaneRef<'_, u16> {
+///         let geometry = PlaneGeometry::unpadded(4, 4, 1, 1).expect("it has pixels");
+///         PlaneRef::new(geometry, &self.0).expect("it has as many as the geometry")
+///     }
+/// }
+///
+/// assert_eq!(maximum(Thumbnail([1023; 16])), 1023);
+/// ```
 pub trait AsPlaneRef {
     /// What the plane holds.
     type Pixel;

@@ -28,7 +28,7 @@ fn end_loads() {
 }
 
 /// A number that fits lanes.
-pub trait Lane: Copy + Default {
+pub trait Lane: Copy + Default + Ord {
     /// Returns the distance of two numbers.
     fn distance(self, other: Self) -> Self;
 }
@@ -44,7 +44,8 @@ macro_rules! lanes_of {
         impl Lane for $number {
             #[inline(always)]
             fn distance(self, other: Self) -> Self {
-                self.abs_diff(other)
+                // Of `abs_diff` squares are made in lanes of the wide type: of bytes that takes more than twice as long.
+                self.max(other) - self.min(other)
             }
         }
         $(

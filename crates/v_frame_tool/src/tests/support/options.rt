@@ -3,29 +3,11 @@
 use crate::tests::support::checks::{Test, must};
 use v_frame::plane::{Plane, PlaneGeometry};
 
-/// Two pixels in one row, without a border.
-pub fn pair() -> Option<PlaneGeometry> {
-    PlaneGeometry::unpadded(2, 1, 1, 1)
-}
-
 /// Returns a plane without a value anywhere.
 pub fn vacant<T: Drop>(rt: &impl Test, geometry: Option<PlaneGeometry>) -> Plane<Option<T>> {
     let geometry = geometry.expect(rt, "no geometry");
     must(rt, geometry.checked_alloc_size().is_some());
     Plane::new_uninit(rt.alloc(), geometry).expect(rt, "memory")
-}
-
-/// Returns a plane whose buffer has these entries.
-pub fn holding(
-    rt: &impl Test,
-    geometry: Option<PlaneGeometry>,
-    entries: &[Option<u8>],
-) -> Plane<Option<u8>> {
-    let mut plane = vacant(rt, geometry);
-    let data = plane.data_mut();
-    must(rt, data.len() == entries.len());
-    data.copy_from_slice(entries);
-    plane
 }
 
 /// Returns the plane of the values, where each place holds one.

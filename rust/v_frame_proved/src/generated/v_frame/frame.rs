@@ -14,6 +14,36 @@ use core::num::NonZeroU8;
 ///
 /// The fields are public: a plane may be replaced by one of another size, and each answers by its own geometry. Ports
 /// `Frame` of `v_frame` 0.7.0.
+///
+/// # Examples
+///
+/// ```
+/// use v_frame_proved::chroma::ChromaSubsampling;
+/// use v_frame_proved::frame::FrameBuilder;
+///
+/// let mut frame = FrameBuilder::new(4, 2, ChromaSubsampling::Yuv420, 8).build::<u8>()?;
+/// assert_eq!((frame.width(), frame.height(), frame.bit_depth.get()), (4, 2, 8));
+///
+/// // Planes by their names, by number, or all that there are.
+/// frame.y_plane[1].copy_from_slice(&[1, 2, 3, 4]);
+/// if let Some(u_plane) = frame.plane_mut(1) {
+///     u_plane[0][1] = 128;
+/// }
+/// assert_eq!(frame.plane(1).map(|plane| plane.width()), Some(2));
+/// assert!(frame.plane(3).is_none());
+/// let sums: Vec<u32> = frame.planes().map(|plane| plane.pixels().map(u32::from).sum()).collect();
+/// assert_eq!(sums, [10, 128, 0]);
+///
+/// // A copy, where refused memory is an error; `clone` stops the program, as every clone of Rust does.
+/// let copy = frame.try_clone()?;
+/// assert_eq!(copy, frame.clone());
+/// for plane in frame.planes_mut() {
+///     plane.pixels_mut().for_each(|pixel| *pixel /= 2);
+/// }
+/// assert_eq!(frame.y_plane[1], [0, 1, 1, 2]);
+/// assert_eq!(copy.y_plane[1], [1, 2, 3, 4]);
+/// # Ok::<(), Box<dyn std::error::Error>>(())
+/// ```
 #[derive(Debug, PartialEq, Eq)]
 pub struct Frame<T: Pixel> {
     /// Luma.
@@ -78,6 +108,30 @@ impl<T: Pixel> Frame<T> {
 /// What a frame should be, before it is built.
 ///
 /// Ports `FrameBuilder` of `v_frame` 0.7.0. The setters are chained.
+///
+/// # Examples
+///
+/// ```
+/// use v_frame_proved::chroma::ChromaSubsampling;
+/// use v_frame_proved::frame::{Frame, FrameBuilder, FrameError};
+///
+/// let frame: Frame<u16> = FrameBuilder::new(64, 32, ChromaSubsampling::Yuv422, 10)
+///     .luma_padding_left(16)
+///     .luma_padding_right(8)
+///     .luma_padding_top(4)
+///     .luma_padding_bottom(2)
+///     .build()?;
+/// assert_eq!(frame.y_plane.geometry().stride(), 88);
+/// assert_eq!(frame.u_plane.as_ref().map(|plane| plane.geometry().pad_left()), Some(8));
+///
+/// let odd = FrameBuilder::new(3, 2, ChromaSubsampling::Yuv420, 8).build::<u8>();
+/// assert_eq!(odd, Err(FrameError::UnsupportedResolution));
+/// let deep = FrameBuilder::new(4, 2, ChromaSubsampling::Yuv420, 10).build::<u8>();
+/// assert_eq!(deep, Err(FrameError::DataTypeMismatch));
+/// let none = FrameBuilder::new(4, 2, ChromaSubsampling::Yuv420, 17).build::<u16>();
+/// assert_eq!(none, Err(FrameError::UnsupportedBitDepth { found: 17 }));
+/// # Ok::<(), FrameError>(())
+/// ```
 #[derive(Debug, Clone, Copy, PartialEq, Eq)]
 pub struct FrameBuilder {
     width: usize,

@@ -6,6 +6,35 @@
 //!
 //! It is for those who test and compare: a list of calls is data, which a generator makes and which another
 //! program can answer as well. To work on pictures, call planes and frames.
+//!
+//! # Examples
+//!
+//! ```
+//! use v_frame_proved::chroma::ChromaSubsampling;
+//! use v_frame_proved::frame::FrameBuilder;
+//! use v_frame_proved::replay::{Answer, Drawn, PixelDraw, ReplayStopped, RowDraw, Side, VisibleCall, replay};
+//!
+//! let mut frame = FrameBuilder::new(2, 1, ChromaSubsampling::Monochrome, 8).build::<u8>()?;
+//! let first = PixelDraw { side: Side::Front, value: Some(3) };
+//! let last = RowDraw { side: Side::Back, writes: vec![None, Some(9)].into() };
+//! let calls = [
+//!     VisibleCall::PixelsMut { plane: 0, draws: vec![first].into() },
+//!     VisibleCall::RowsMut { plane: 0, draws: vec![last].into() },
+//!     VisibleCall::Row { plane: 0, y: 0 },
+//!     VisibleCall::Pixels { plane: 0, draws: vec![Side::Back].into() },
+//!     VisibleCall::Width { plane: 1 },
+//! ];
+//! match replay(&mut frame, &calls) {
+//!     Ok(answers) => {
+//!         assert_eq!(answers[2], Answer::RowShown(Some(vec![3, 9].into())));
+//!         let drawn = vec![Drawn { item: Some(9), left: 1 }].into();
+//!         assert_eq!(answers[3], Answer::PixelsWalked { total: 2, drawn });
+//!         assert_eq!(answers[4], Answer::NoPlane);
+//!     }
+//!     Err(ReplayStopped { done }) => println!("out of memory after {} calls", done.len()),
+//! }
+//! # Ok::<(), v_frame_proved::frame::FrameError>(())
+//! ```
 
 mod answer;
 mod call;

@@ -10,6 +10,20 @@ use core::{fmt, slice};
 /// A list in a [`VisibleCall`](crate::replay::VisibleCall), an [`Answer`](crate::replay::Answer) or another value.
 ///
 /// Neither conversion takes memory.
+///
+/// # Examples
+///
+/// ```
+/// use v_frame_proved::sequence::Sequence;
+///
+/// let list = Sequence::from_slice(&[1, 2, 3])?;
+/// assert_eq!((list.len(), list.is_empty()), (3, false));
+/// assert_eq!(list.iter().sum::<i32>(), 6);
+/// assert_eq!(list.as_slice(), &list[..]);
+/// assert_eq!(list, vec![1, 2, 3].into());
+/// assert_eq!(list.into_vec(), [1, 2, 3]);
+/// # Ok::<(), v_frame_proved::AllocError>(())
+/// ```
 #[derive(Clone)]
 pub struct Sequence<T> {
     items: Vec<T>,

@@ -4,6 +4,25 @@
 //! [`write_svg`] draws one or several [`Series`], with axes, a light grid and a legend. Where there are more values
 //! than columns of pixels, each column shows a band from the least value to the greatest and their mean as a line, so
 //! 30, 3,000 and 100,000 frames are readable. A value that is infinite or not a number leaves a gap.
+//!
+//! # Examples
+//!
+//! ```
+//! use v_frame_proved::chart::{Chart, Series, Summary, summaries, svg, write_svg};
+//!
+//! let series = [Series { name: "luma", values: &[38.5, 40.25, f64::INFINITY, 39.0] }];
+//! let chart = Chart { title: "clip", unit: "PSNR (dB)", first: 0, series: &series };
+//! let text = svg(&chart)?;
+//! assert!(text.contains("<svg") && text.contains("PSNR (dB)"));
+//! let mut file = Vec::new();
+//! write_svg(&mut file, &chart)?;
+//! assert_eq!(file, text.into_bytes());
+//!
+//! // Long series are drawn by columns: here two, of two values each.
+//! let columns = summaries(&[1.0, 3.0, f64::NAN, f64::INFINITY], 2)?;
+//! assert_eq!(columns, [Some(Summary { least: 1.0, mean: 2.0, most: 3.0 }), None]);
+//! # Ok::<(), Box<dyn std::error::Error>>(())
+//! ```
 
 mod axes;
 mod columns;

@@ -22,6 +22,23 @@ use crate::generated::v_frame_ops::fill;
 /// # Panics
 ///
 /// Panics where `source` cannot be converted into `target`: see `frames_fit`.
+///
+/// # Examples
+///
+/// ```
+/// use v_frame_proved::chroma::ChromaSubsampling;
+/// use v_frame_proved::convert::{convert_frame, frames_fit};
+/// use v_frame_proved::frame::FrameBuilder;
+///
+/// let mut gray = FrameBuilder::new(4, 2, ChromaSubsampling::Monochrome, 8).build::<u8>()?;
+/// gray.y_plane[0][3] = 255;
+/// let mut target = FrameBuilder::new(4, 2, ChromaSubsampling::Yuv420, 10).build::<u16>()?;
+/// assert!(frames_fit(&gray, &target));
+/// convert_frame(&gray, &mut target);
+/// assert_eq!(target.y_plane[0], [0, 0, 0, 1020]);
+/// assert_eq!(target.v_plane.map(|plane| plane[0].to_vec()), Some(vec![512, 512]));
+/// # Ok::<(), v_frame_proved::frame::FrameError>(())
+/// ```
 #[track_caller]
 #[inline]
 pub fn convert_frame<S: Pixel, T: Pixel>(source: &Frame<S>, target: &mut Frame<T>) {

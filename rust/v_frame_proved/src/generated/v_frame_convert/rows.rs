@@ -4,6 +4,37 @@
 //! What is read is a [`RowsRef`](crate::plane::RowsRef). What is written is a buffer beside its width, height and stride in
 //! pixels, for which [`rows_fit`](crate::plane::rows_fit) holds; all of the buffer but these rows stays as it was. The calls
 //! of planes are made of these.
+//!
+//! # Examples
+//!
+//! ```
+//! use v_frame_proved::convert::{Component, Scale, rows};
+//! use v_frame_proved::plane::RowsRef;
+//!
+//! let source = RowsRef::new(&[10_u8, 20, 31], 3, 1, 3).unwrap();
+//! let (mut bytes, mut words) = ([0_u8; 3], [0_u16; 3]);
+//! rows::convert_depth(&source, &mut words, 3, 1, 3, 8, 10);
+//! assert_eq!(words, [40, 80, 124]);
+//! rows::map_into(&source, &mut bytes, 3, 1, 3, |pixel: u8| 255 - pixel);
+//! assert_eq!(bytes, [245, 235, 224]);
+//!
+//! let limited = RowsRef::new(&[16, 126, 235], 3, 1, 3).unwrap();
+//! rows::to_full_range(&limited, &mut bytes, 3, 1, 3, Component::Luma, 8);
+//! assert_eq!(bytes, [0, 128, 255]);
+//! let full = RowsRef::new(&[0, 128, 255], 3, 1, 3).unwrap();
+//! rows::to_limited_range(&full, &mut bytes, 3, 1, 3, Component::Luma, 8);
+//! assert_eq!(bytes, [16, 126, 235]);
+//!
+//! let mut half = [0; 2];
+//! rows::halve_columns(&source, &mut half, 2, 1, 2);
+//! assert_eq!(half, [15, 31]);
+//! rows::downscale_to_edge(&source, &mut half, 2, 1, 2);
+//! assert_eq!(half, [15, 31]);
+//! rows::upscale(&RowsRef::new(&half, 2, 1, 2).unwrap(), &mut bytes, 3, 1, 3, 2, 1);
+//! assert_eq!(bytes, [15, 15, 31]);
+//! rows::resize(&source, &mut words, 2, 1, 2, Scale::Half, Scale::Same, 8, 10);
+//! assert_eq!(words[..2], [60, 124]);
+//! ```
 
 mod chroma;
 mod depth;

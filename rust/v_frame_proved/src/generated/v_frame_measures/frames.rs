@@ -9,6 +9,23 @@ use crate::generated::v_frame::pixel::Pixel;
 use crate::generated::v_frame::plane::Plane;
 
 /// A measure of two frames: of each plane, and of all planes together.
+///
+/// # Examples
+///
+/// ```
+/// use v_frame_proved::chroma::ChromaSubsampling;
+/// use v_frame_proved::frame::FrameBuilder;
+/// use v_frame_proved::measures::{FrameMeasure, frame_mean_squared_error, frame_ssim, frames_have_one_size};
+///
+/// let a = FrameBuilder::new(16, 16, ChromaSubsampling::Yuv420, 8).build::<u8>()?;
+/// let mut b = a.clone();
+/// b.y_plane[0][0] = 16;
+/// assert!(frames_have_one_size(&a, &b));
+/// let errors = FrameMeasure { y: 1.0, u: Some(0.0), v: Some(0.0), all: 256.0 / 384.0 };
+/// assert_eq!(frame_mean_squared_error(&a, &b), errors);
+/// assert!(frame_ssim(&a, &b).is_some_and(|similarity| similarity.y < 1.0 && similarity.u == Some(1.0)));
+/// # Ok::<(), v_frame_proved::frame::FrameError>(())
+/// ```
 #[derive(Clone, Copy, Debug, PartialEq)]
 pub struct FrameMeasure {
     /// That of luma.

@@ -5,6 +5,18 @@ use crate::generated::v_frame_measures::errors::psnr;
 use crate::support::numbers::nearest_u64_to_f64;
 
 /// The sum of numbers, each added in its turn, and how many there are.
+///
+/// # Examples
+///
+/// ```
+/// use v_frame_proved::measures::Mean;
+///
+/// let mut mean = Mean::new();
+/// assert_eq!(mean.value(), None);
+/// mean.add(1.0);
+/// mean.add(4.0);
+/// assert_eq!(mean.value(), Some(2.5));
+/// ```
 #[derive(Clone, Copy, Debug, PartialEq)]
 pub struct Mean {
     /// The sum.
@@ -43,6 +55,20 @@ impl Mean {
 /// their peak signal-to-noise ratios.
 ///
 /// The second is infinite as soon as one frame shows no error. FFmpeg's summary has the ratio of the first.
+///
+/// # Examples
+///
+/// ```
+/// use v_frame_proved::measures::{StreamQuality, psnr};
+///
+/// // The mean squared errors of two frames of 8 bits.
+/// let mut quality = StreamQuality::new();
+/// quality.add(1.0, 8);
+/// quality.add(4.0, 8);
+/// assert_eq!(quality.mean_of_errors(), Some(2.5));
+/// assert!(quality.mean_of_psnr().is_some_and(|mean| (mean - (48.1308 + 42.1102) / 2.0).abs() < 1e-3));
+/// assert!(quality.mean_of_errors().is_some_and(|error| (psnr(error, 8) - 44.1514).abs() < 1e-3));
+/// ```
 #[derive(Clone, Copy, Debug, PartialEq)]
 pub struct StreamQuality {
     /// The mean squared errors.

@@ -7,6 +7,30 @@
 //! thread: [`psnr`] gives those of its filter `psnr`.
 //!
 //! MS-SSIM, PSNR-HVS and CIEDE2000 are left out, since there was nothing to compare their digits with.
+//!
+//! # Examples
+//!
+//! ```
+//! use v_frame_proved::measures::{self, GreatestDifference};
+//! use v_frame_proved::plane::{Plane, PlaneGeometry, PlaneRef};
+//!
+//! let geometry = PlaneGeometry::unpadded(2, 2, 1, 1).unwrap();
+//! let a = PlaneRef::new(geometry, &[1_u8, 2, 3, 6]).unwrap();
+//! let b = PlaneRef::new(geometry, &[1_u8, 1, 4, 8]).unwrap();
+//! assert_eq!(measures::greatest_difference(&a, &b), GreatestDifference { difference: 2, x: 1, y: 1 });
+//! assert_eq!(measures::count_above(&a, &b, 1), 1);
+//!
+//! let error = measures::mean_squared_error(&a, &b);
+//! assert_eq!(error, 1.5);
+//! assert_eq!(measures::peak_ratio(error, 8), 43350.0);
+//! assert!((measures::psnr(error, 8) - 46.37).abs() < 0.001);
+//!
+//! // No window of SSIM stands in a plane below 8 by 8.
+//! assert_eq!(measures::ssim(&a, &b, 8), None);
+//! let gray = Plane::<u8>::new(PlaneGeometry::unpadded(8, 8, 1, 1).unwrap())?;
+//! assert_eq!(measures::ssim(&gray.as_plane_ref(), &gray.as_plane_ref(), 8), Some(1.0));
+//! # Ok::<(), v_frame_proved::AllocError>(())
+//! ```
 
 mod casts;
 mod differences;

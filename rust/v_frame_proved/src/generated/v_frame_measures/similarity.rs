@@ -4,10 +4,11 @@
 mod sums;
 mod window;
 
+use crate::views::AsPlaneRef;
 use crate::support::numbers::{f32_to_f64_with_nan, nearest_u64_to_f64};
 use sums::sums_of_columns;
 use crate::generated::v_frame::pixel::Pixel;
-use crate::generated::v_frame::plane::{PlaneRef, RowsRef};
+use crate::generated::v_frame::plane::RowsRef;
 use window::{SsimConstants, similarity};
 
 /// Returns the structural similarity (SSIM) of two planes of one size, at so many bits of a sample, at most 16.
@@ -24,7 +25,9 @@ use window::{SsimConstants, similarity};
 #[track_caller]
 #[inline]
 #[must_use]
-pub fn ssim<T: Pixel>(a: &PlaneRef<'_, T>, b: &PlaneRef<'_, T>, bit_depth: u8) -> Option<f64> {
+pub fn ssim<T: Pixel>(a: impl AsPlaneRef<Pixel = T>, b: impl AsPlaneRef<Pixel = T>, bit_depth: u8) -> Option<f64> {
+    let a = &a.as_plane_ref();
+    let b = &b.as_plane_ref();
     assert!(
         a.width() == b.width(),
         "the widths of a ({}) and b ({}) are not equal", a.width(), b.width()

@@ -2,9 +2,10 @@
 //! Changes of planes: each pixel by a function, alone or with that of another plane, all to one pixel, or a rectangle to what
 //! another plane shows. Borders stay.
 
+use crate::views::AsPlaneRef;
 use crate::generated::v_frame_ops::rows;
 use crate::generated::v_frame::pixel::Pixel;
-use crate::generated::v_frame::plane::{Plane, PlaneRef};
+use crate::generated::v_frame::plane::Plane;
 
 /// Makes each visible pixel a result of `change` at it.
 ///
@@ -31,9 +32,10 @@ pub fn map_pixels<T: Pixel, F: Fn(T) -> T>(plane: &mut Plane<T>, change: F) {
 #[inline]
 pub fn combine_pixels<T: Pixel, F: Fn(T, T) -> T>(
     plane: &mut Plane<T>,
-    other: &PlaneRef<'_, T>,
+    other: impl AsPlaneRef<Pixel = T>,
     combine: F,
 ) {
+    let other = &other.as_plane_ref();
     assert!(
         other.width() == plane.width(),
         "the widths of other ({}) and plane ({}) are not equal", other.width(), plane.width()
@@ -68,7 +70,8 @@ pub fn fill<T: Pixel>(plane: &mut Plane<T>, pixel: T) {
 /// - where `y` plus the height of `source` is above the height of `target`.
 #[track_caller]
 #[inline]
-pub fn copy_region<T: Pixel>(source: &PlaneRef<'_, T>, target: &mut Plane<T>, x: usize, y: usize) {
+pub fn copy_region<T: Pixel>(source: impl AsPlaneRef<Pixel = T>, target: &mut Plane<T>, x: usize, y: usize) {
+    let source = &source.as_plane_ref();
     assert!(
         x as u128 + source.width() as u128 <= target.width() as u128,
         "x ({x}) plus the width of source ({}) is above the width of target ({})", source.width(), target.width()

@@ -3,6 +3,7 @@
 //!
 //! The sums have loops of their own, since a block of 8 by 8 pixels is summed faster than through [`rows`].
 
+use crate::views::AsPlaneRef;
 use crate::generated::v_frame_ops::rows;
 use crate::generated::v_frame::pixel::Pixel;
 use crate::generated::v_frame::plane::PlaneRef;
@@ -19,7 +20,9 @@ use crate::generated::v_frame::plane::PlaneRef;
 #[track_caller]
 #[inline]
 #[must_use]
-pub fn sum_of_absolute_differences<T: Pixel>(a: &PlaneRef<'_, T>, b: &PlaneRef<'_, T>) -> u128 {
+pub fn sum_of_absolute_differences<T: Pixel>(a: impl AsPlaneRef<Pixel = T>, b: impl AsPlaneRef<Pixel = T>) -> u128 {
+    let a = &a.as_plane_ref();
+    let b = &b.as_plane_ref();
     assert!(
         a.width() == b.width(),
         "the widths of a ({}) and b ({}) are not equal", a.width(), b.width()
@@ -49,7 +52,9 @@ pub fn sum_of_absolute_differences<T: Pixel>(a: &PlaneRef<'_, T>, b: &PlaneRef<'
 #[track_caller]
 #[inline]
 #[must_use]
-pub fn sum_of_squared_errors<T: Pixel>(a: &PlaneRef<'_, T>, b: &PlaneRef<'_, T>) -> u128 {
+pub fn sum_of_squared_errors<T: Pixel>(a: impl AsPlaneRef<Pixel = T>, b: impl AsPlaneRef<Pixel = T>) -> u128 {
+    let a = &a.as_plane_ref();
+    let b = &b.as_plane_ref();
     assert!(
         a.width() == b.width(),
         "the widths of a ({}) and b ({}) are not equal", a.width(), b.width()
@@ -80,9 +85,11 @@ pub fn sum_of_squared_errors<T: Pixel>(a: &PlaneRef<'_, T>, b: &PlaneRef<'_, T>)
 #[inline]
 #[must_use]
 pub fn first_difference<T: Pixel>(
-    a: &PlaneRef<'_, T>,
-    b: &PlaneRef<'_, T>,
+    a: impl AsPlaneRef<Pixel = T>,
+    b: impl AsPlaneRef<Pixel = T>,
 ) -> Option<(usize, usize)> {
+    let a = &a.as_plane_ref();
+    let b = &b.as_plane_ref();
     assert!(
         a.width() == b.width(),
         "the widths of a ({}) and b ({}) are not equal", a.width(), b.width()

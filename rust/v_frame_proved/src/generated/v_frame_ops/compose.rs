@@ -2,11 +2,12 @@
 //! Planes composed of two: one blended over a part of another, evenly or by a mask, one copied as far as it lies inside
 //! another, or how far two are apart. Borders stay.
 
+use crate::views::AsPlaneRef;
 use crate::generated::v_frame_ops::change::{combine_pixels, copy_region};
 use crate::generated::v_frame_ops::rows;
 use crate::generated::v_frame_ops::rows::{largest_value, pixel_difference};
 use crate::generated::v_frame::pixel::Pixel;
-use crate::generated::v_frame::plane::{Plane, PlaneRef};
+use crate::generated::v_frame::plane::Plane;
 
 /// Blends all that `source` shows over `target`, from column `x` of row `y` on: of 256 parts of each pixel it has `weight`, and
 /// the target the rest. There has to be room for it.
@@ -24,12 +25,13 @@ use crate::generated::v_frame::plane::{Plane, PlaneRef};
 #[track_caller]
 #[inline]
 pub fn blend_region<T: Pixel>(
-    source: &PlaneRef<'_, T>,
+    source: impl AsPlaneRef<Pixel = T>,
     target: &mut Plane<T>,
     x: usize,
     y: usize,
     weight: u16,
 ) {
+    let source = &source.as_plane_ref();
     assert!(weight <= 256, "weight ({weight}) is above 256");
     assert!(
         x as u128 + source.width() as u128 <= target.width() as u128,
@@ -71,12 +73,14 @@ pub fn blend_region<T: Pixel>(
 #[track_caller]
 #[inline]
 pub fn blend_region_with_mask<T: Pixel>(
-    source: &PlaneRef<'_, T>,
-    mask: &PlaneRef<'_, u8>,
+    source: impl AsPlaneRef<Pixel = T>,
+    mask: impl AsPlaneRef<Pixel = u8>,
     target: &mut Plane<T>,
     x: usize,
     y: usize,
 ) {
+    let source = &source.as_plane_ref();
+    let mask = &mask.as_plane_ref();
     assert!(
         x as u128 + source.width() as u128 <= target.width() as u128,
         "x ({x}) plus the width of source ({}) is above the width of target ({})", source.width(), target.width()
@@ -112,11 +116,12 @@ pub fn blend_region_with_mask<T: Pixel>(
 /// or past the edge: what lies outside the target is left out.
 #[inline]
 pub fn copy_region_clipped<T: Pixel>(
-    source: &PlaneRef<'_, T>,
+    source: impl AsPlaneRef<Pixel = T>,
     target: &mut Plane<T>,
     x: isize,
     y: isize,
 ) {
+    let source = &source.as_plane_ref();
     let across = Overlap::new(x, source.width(), target.width());
     let down = Overlap::new(y, source.height(), target.height());
     if across.count == 0 || down.count == 0 {
@@ -141,7 +146,8 @@ pub fn copy_region_clipped<T: Pixel>(
 /// - where `depth` is above 8 times `size_of::<T>()`.
 #[track_caller]
 #[inline]
-pub fn difference<T: Pixel>(plane: &mut Plane<T>, other: &PlaneRef<'_, T>, gain: u16, depth: u8) {
+pub fn difference<T: Pixel>(plane: &mut Plane<T>, other: impl AsPlaneRef<Pixel = T>, gain: u16, depth: u8) {
+    let other = &other.as_plane_ref();
     assert!(
         other.width() == plane.width(),
         "the widths of other ({}) and plane ({}) are not equal", other.width(), plane.width()

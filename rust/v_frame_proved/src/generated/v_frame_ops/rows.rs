@@ -4,6 +4,38 @@
 //! What is read is a [`RowsRef`](crate::plane::RowsRef). What is written is a buffer beside its width, height and stride in
 //! pixels, for which [`rows_fit`](crate::plane::rows_fit) holds; all of the buffer but these rows stays as it was. The calls of
 //! planes are made of these. [`plane::copy_rows`](crate::plane::copy_rows) copies one picture into another.
+//!
+//! # Examples
+//!
+//! ```
+//! use v_frame_proved::ops::rows;
+//! use v_frame_proved::plane::RowsRef;
+//!
+//! // Two rows of two pixels, the second three entries after the first. What is between them stays.
+//! let (mut buffer, width, height, stride) = ([0_u8; 5], 2, 2, 3);
+//! rows::fill(&mut buffer, width, height, stride, 10);
+//! rows::map_pixels(&mut buffer, width, height, stride, |pixel| pixel + 5);
+//! assert_eq!(buffer, [15, 15, 0, 15, 15]);
+//!
+//! let other = RowsRef::new(&[95; 4], 2, 2, 2).unwrap();
+//! let mask = RowsRef::new(&[0, 255, 51, 0], 2, 2, 2).unwrap();
+//! rows::blend(&mut buffer, width, height, stride, &other, 128);
+//! rows::blend_with_mask(&mut buffer, width, height, stride, &other, &mask);
+//! assert_eq!(buffer, [55, 95, 0, 63, 55]);
+//!
+//! let picture = RowsRef::new(&buffer, width, height, stride).unwrap();
+//! assert_eq!(rows::sum_of_absolute_differences(&picture, &other), 40 + 32 + 40);
+//! assert_eq!(rows::sum_of_squared_errors(&picture, &other), 1600 + 1024 + 1600);
+//! assert_eq!(rows::first_difference(&picture, &other), Some((0, 0)));
+//! let mut half = [0];
+//! rows::downscale(&picture, &mut half, 1, 1, 1);
+//! assert_eq!(half, [67]);
+//!
+//! rows::combine_pixels(&mut buffer, width, height, stride, &other, |a, b| b - a);
+//! assert_eq!(buffer, [40, 0, 0, 32, 40]);
+//! rows::difference(&mut buffer, width, height, stride, &other, 1, 8);
+//! assert_eq!(buffer, [55, 95, 0, 63, 55]);
+//! ```
 
 mod change;
 mod compare;

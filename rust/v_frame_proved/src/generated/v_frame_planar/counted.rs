@@ -13,6 +13,42 @@ pub enum WriteFault {
 }
 
 /// A reader or a writer, how often it failed, and why the last time.
+///
+/// # Examples
+///
+/// ```
+/// use std::io::{self, ErrorKind};
+/// use v_frame_proved::planar::{Counted, WriteFault};
+///
+/// let mut writer = Counted::new(Vec::new());
+/// assert_eq!(writer.write(b"a")?, 1);
+/// assert_eq!(writer.write_all(b"bc"), Ok(()));
+/// writer.flush()?;
+/// assert_eq!(writer.inner(), b"abc");
+/// let bytes = writer.into_inner();
+///
+/// let mut reader = Counted::new(&bytes[..]);
+/// assert_eq!(reader.read(&mut [0; 2])?, 2);
+/// assert_eq!((reader.failures(), reader.last_failure()), (0, None));
+///
+/// /// A writer whose disk is full.
+/// struct Full;
+///
+/// impl io::Write for Full {
+///     fn write(&mut self, _: &[u8]) -> io::Result<usize> {
+///         Err(ErrorKind::StorageFull.into())
+///     }
+///
+///     fn flush(&mut self) -> io::Result<()> {
+///         Ok(())
+///     }
+/// }
+///
+/// let mut full = Counted::new(Full);
+/// assert_eq!(full.write_all(b"a"), Err(WriteFault::Failed));
+/// assert_eq!((full.failures(), full.last_failure()), (1, Some(ErrorKind::StorageFull)));
+/// # Ok::<(), io::Error>(())
+/// ```
 #[derive(Debug, Clone)]
 pub struct Counted<D> {
     inner: D,

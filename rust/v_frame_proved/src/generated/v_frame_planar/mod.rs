@@ -9,6 +9,32 @@
 //! Clauses on the bytes of a reader or a writer say something where its type says them. Of the writers over memory, `Vec<u8>`
 //! and `VecDeque<u8>` do, and what wraps them, as a `Box` or a `BufWriter`; a `Cursor` and `&mut [u8]` don't. Of the readers
 //! over memory `&[u8]`, `VecDeque<u8>` and a `Cursor` do.
+//!
+//! # Examples
+//!
+//! ```
+//! use v_frame_proved::chroma::ChromaSubsampling;
+//! use v_frame_proved::planar::{self, Counted, PlanarError};
+//!
+//! // An odd size: chroma is rounded up. Y has six bytes, U and V two each.
+//! assert_eq!(planar::ratios_or_one(ChromaSubsampling::Yuv420), (2, 2));
+//! let mut frame = planar::video_frame::<u8>(3, 2, ChromaSubsampling::Yuv420, 8, 0)?;
+//! assert_eq!(planar::planar_len(&frame), 10);
+//!
+//! let mut reader = Counted::new(&b"abcdefUUVV!"[..]);
+//! assert!(planar::read_frame(&mut reader, &mut frame)?);
+//! assert_eq!(frame.y_plane[1], *b"def");
+//! let cut = planar::read_frame(&mut reader, &mut frame);
+//! assert_eq!(cut, Err(PlanarError::Truncated { expected: 10, found: 1 }));
+//!
+//! let mut writer = Counted::new(Vec::new());
+//! planar::write_frame(&mut writer, &frame)?;
+//! assert_eq!(writer.into_inner(), b"abcdefUUVV");
+//!
+//! let mut bytes = [0; 4];
+//! assert_eq!(planar::read_until_full(&mut Counted::new(&b"xyz"[..]), &mut bytes), Ok(3));
+//! # Ok::<(), Box<dyn std::error::Error>>(())
+//! ```
 
 mod counted;
 mod error;

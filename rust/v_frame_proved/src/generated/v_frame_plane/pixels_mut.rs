@@ -9,6 +9,21 @@ use core::mem;
 ///
 /// A pixel may be held while the iterator gives others, and outlives the iterator. It takes the place of the
 /// iterator of `Plane::pixels_mut` of `v_frame` 0.7.0.
+///
+/// # Examples
+///
+/// ```
+/// use v_frame_proved::plane::{PixelsMut, Plane, PlaneGeometry};
+///
+/// let mut plane = Plane::<u8>::new(PlaneGeometry::unpadded(3, 1, 1, 1).unwrap())?;
+/// let mut pixels: PixelsMut<'_, u8> = plane.pixels_mut();
+/// if let (Some(first), Some(last)) = (pixels.next(), pixels.next_back()) {
+///     (*first, *last) = (1, 3);
+/// }
+/// assert_eq!(pixels.len(), 1);
+/// assert_eq!(plane[0], [1, 0, 3]);
+/// # Ok::<(), v_frame_proved::AllocError>(())
+/// ```
 #[derive(Debug)]
 pub struct PixelsMut<'a, T> {
     // The row that was begun from the front, the rows that were not begun, and the one that was begun from the back.

@@ -21,6 +21,37 @@
 //! [`row_mut`](Plane::row_mut), the iterators and the other visible calls write the table alone. [`data_mut`](Plane::data_mut)
 //! reaches the border, and so does [`pixel_mut`](Plane::pixel_mut) past the visible width. [`PlaneRef`] reads a plane whose
 //! buffer is kept elsewhere, and [`RowsRef`] rows that have no border.
+//!
+//! # Examples
+//!
+//! ```
+//! use v_frame_proved::plane::{self, PlaneGeometry, PlaneRef, RowsRef, rows_fit};
+//!
+//! // Two rows of three pixels, each five entries after the one before, as a decoder hands them out.
+//! let lent = [1, 2, 3, 0, 0, 4, 5, 6];
+//! assert!(rows_fit(3, 2, 5, lent.len()));
+//! let rows = RowsRef::new(&lent, 3, 2, 5).unwrap();
+//! let mut packed = [0_u8; 6];
+//! plane::copy_rows(&rows, &mut packed, 3, 2, 3);
+//! assert_eq!(packed, [1, 2, 3, 4, 5, 6]);
+//!
+//! // Samples of two bytes, the low one first, into pixels and back.
+//! let rows = RowsRef::new(&[1, 2, 3, 0], 4, 1, 4).unwrap();
+//! let mut pixels = [0_u16; 2];
+//! plane::decode_rows(&rows, &mut pixels, 2, 1, 2);
+//! assert_eq!(pixels, [513, 3]);
+//! let mut bytes = [0; 4];
+//! plane::encode_rows(&RowsRef::new(&pixels, 2, 1, 2).unwrap(), &mut bytes, 4, 1, 4);
+//! assert_eq!(bytes, [1, 2, 3, 0]);
+//!
+//! // Rows of a buffer that is laid out as that of a plane, for writing.
+//! let geometry = PlaneGeometry::unpadded(3, 2, 1, 1).unwrap();
+//! let (first, second) = plane::visible_rows_mut(&mut packed, geometry, 0, 1);
+//! first.swap_with_slice(second);
+//! let (first, rest) = plane::split_row_mut(&mut packed, geometry, 0);
+//! assert_eq!((&*first, &*rest), (&[4, 5, 6][..], &[1, 2, 3][..]));
+//! assert_eq!(PlaneRef::new(geometry, &packed).unwrap()[1], [1, 2, 3]);
+//! ```
 
 mod copies;
 mod options;
@@ -47,6 +78,52 @@ use crate::generated::v_frame_raster::pixel::Pixel;
 ///
 /// Rows are counted from the top and columns from the left, both from 0. Planes are equal where their geometries and their
 /// whole buffers are, the borders too. Ports `Plane` of `v_frame` 0.7.0.
+///
+/// # Examples
+///
+/// ```
+/// use v_frame_proved::plane::{Plane, PlaneGeometry};
+///
+/// // 3 by 2 pixels with a border of one column to the left.
+/// let mut plane = Plane::<u8>::new(PlaneGeometry::new(3, 2, 1, 0, 0, 0, 1, 1).unwrap())?;
+/// assert_eq!((plane.width(), plane.height(), plane.geometry().stride()), (3, 2, 4));
+///
+/// // Write by rows, which is fast, or by pixels.
+/// plane[0].copy_from_slice(&[1, 2, 3]);
+/// for row in &mut plane {
+///     row[0] = 9;
+/// }
+/// plane.rows_mut().for_each(|row| row[1] += 1);
+/// plane.visible_row_mut(1)[1] = 5;
+/// if let Some(row) = plane.row_mut(1) {
+///     row[2] = 6;
+/// }
+/// if let Some(pixel) = plane.pixel_mut(0, 1) {
+///     *pixel = 4;
+/// }
+/// *plane.visible_pixel_mut(0, 0) = 1;
+/// plane.pixels_mut().for_each(|pixel| *pixel *= 10);
+///
+/// // Read in the same ways. Below the last row there is `None`.
+/// assert_eq!(plane.row(0), Some(&[10, 30, 30][..]));
+/// assert_eq!(plane.row(2), None);
+/// assert_eq!(plane.visible_row(1), [40, 50, 60]);
+/// assert_eq!(plane.pixel(2, 1), Some(60));
+/// assert_eq!(plane.rows().map(|row| row[0]).collect::<Vec<_>>(), [10, 40]);
+/// assert_eq!(plane.pixels().rev().next(), Some(60));
+///
+/// // The bytes of what is visible, and the whole buffer with the border.
+/// assert_eq!(plane.byte_data().collect::<Vec<_>>(), [10, 30, 30, 40, 50, 60]);
+/// assert_eq!(plane.byte_len(), 6);
+/// plane.data_mut()[4] = 255;
+/// assert_eq!(plane.data(), [0, 10, 30, 30, 255, 40, 50, 60]);
+///
+/// // Copies, and a view of a part.
+/// let copy = plane.try_clone()?;
+/// assert_eq!(plane.as_plane_ref().region(1, 1, 2, 1).map(|part| part[0].to_vec()), Some(vec![50, 60]));
+/// assert_eq!(plane, copy);
+/// # Ok::<(), v_frame_proved::AllocError>(())
+/// ```
 pub struct Plane<T> {
     geometry: PlaneGeometry,
     buffer: AlignedData<T>,

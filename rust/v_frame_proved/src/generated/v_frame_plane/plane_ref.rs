@@ -16,6 +16,37 @@ use crate::generated::v_frame_raster::pixel::Pixel;
 /// The slice may belong to a decoder's picture, to a file in memory or to an array of one's own; a
 /// [`Plane`](crate::plane::Plane) lends itself by [`as_plane_ref`](crate::plane::Plane::as_plane_ref). Contracts
 /// see a `PlaneRef` as a plane.
+///
+/// # Examples
+///
+/// ```
+/// use v_frame_proved::plane::{PlaneGeometry, PlaneRef};
+///
+/// // Two rows of three pixels with a column of border to the right of each, in an array.
+/// let geometry = PlaneGeometry::new(3, 2, 0, 1, 0, 0, 1, 1).unwrap();
+/// let pixels = [1_u16, 2, 3, 0, 4, 5, 6, 0];
+/// let picture = PlaneRef::new(geometry, &pixels).unwrap();
+/// assert_eq!((picture.width(), picture.height(), picture.geometry().stride()), (3, 2, 4));
+/// assert!(PlaneRef::new(geometry, &pixels[1..]).is_none());
+///
+/// assert_eq!(picture.row(1), Some(&[4, 5, 6][..]));
+/// assert_eq!(picture.visible_row(0), [1, 2, 3]);
+/// assert_eq!(picture.pixel(2, 1), Some(6));
+/// assert_eq!(picture.visible_pixel(1, 0), 2);
+/// assert_eq!(picture.rows().map(|row| row.len()).sum::<usize>(), picture.pixels().count());
+///
+/// let mut bytes = [0; 12];
+/// assert_eq!(picture.byte_len(), bytes.len());
+/// picture.write_bytes(&mut bytes);
+/// assert!(picture.byte_data().eq(bytes));
+///
+/// // Parts of the same buffer. A view is `Copy`; `duplicate` is that by a name.
+/// let column = picture.region(2, 0, 1, 2).unwrap();
+/// assert_eq!(column, picture.duplicate().visible_region(2, 0, 1, 2));
+/// assert_eq!(column.pixels().collect::<Vec<_>>(), [3, 6]);
+/// assert_eq!(column.data(), pixels);
+/// assert_eq!(column.as_rows_ref().visible_row(1), [6]);
+/// ```
 pub struct PlaneRef<'a, T> {
     geometry: PlaneGeometry,
     buffer: &'a [T],

@@ -8,6 +8,23 @@ use core::iter::FusedIterator;
 /// A double-ended iterator over the visible rows of a plane, from the top.
 ///
 /// It takes the place of the iterator of `Plane::rows` of `v_frame` 0.7.0.
+///
+/// # Examples
+///
+/// ```
+/// use v_frame_proved::plane::{ByteData, Pixels, Plane, PlaneGeometry, PlaneRef, Rows};
+///
+/// let geometry = PlaneGeometry::unpadded(2, 2, 1, 1).unwrap();
+/// let picture = PlaneRef::new(geometry, &[1_u16, 2, 3, 4]).unwrap();
+///
+/// let mut rows: Rows<'_, u16> = picture.rows();
+/// assert_eq!(rows.next_back(), Some(&[3, 4][..]));
+/// assert_eq!(rows.len(), 1);
+/// let pixels: Pixels<'_, u16> = picture.pixels();
+/// assert_eq!(pixels.rev().next(), Some(4));
+/// let bytes: ByteData<'_, u16> = picture.byte_data();
+/// assert_eq!(bytes.take(3).collect::<Vec<_>>(), [1, 0, 2]);
+/// ```
 pub struct Rows<'a, T> {
     // The next row begins at index `start` of `rest`.
     rest: &'a [T],

@@ -9,6 +9,21 @@ use crate::generated::v_frame_raster::geometry::PlaneGeometry;
 ///
 /// A row may be held while the iterator gives others, and outlives the iterator. It takes the place of the
 /// iterator of `Plane::rows_mut` of `v_frame` 0.7.0.
+///
+/// # Examples
+///
+/// ```
+/// use v_frame_proved::plane::{Plane, PlaneGeometry, RowsMut};
+///
+/// let mut plane = Plane::<u8>::new(PlaneGeometry::unpadded(1, 3, 1, 1).unwrap())?;
+/// let mut rows: RowsMut<'_, u8> = plane.rows_mut();
+/// if let (Some(first), Some(last)) = (rows.next(), rows.next_back()) {
+///     (first[0], last[0]) = (1, 3);
+/// }
+/// assert_eq!(rows.len(), 1);
+/// assert_eq!(plane.pixels().collect::<Vec<_>>(), [1, 0, 3]);
+/// # Ok::<(), v_frame_proved::AllocError>(())
+/// ```
 #[derive(Debug)]
 pub struct RowsMut<'a, T> {
     // The next row begins at index `start` of `rest`.

@@ -5,6 +5,23 @@
 ///
 /// It asks for less than a [`PlaneRef`](crate::plane::PlaneRef): the last row may end at its width, as in a
 /// part of a decoder's picture, and the slice may be longer.
+///
+/// # Examples
+///
+/// ```
+/// use v_frame_proved::plane::RowsRef;
+///
+/// // Three rows of two pixels, each three entries after the one before. Less than a row may stand behind the last.
+/// let entries = [1, 2, 0, 3, 4, 0, 5, 6];
+/// let picture = RowsRef::new(&entries, 2, 3, 3).unwrap();
+/// assert_eq!((picture.width(), picture.height()), (2, 3));
+/// assert_eq!(picture.row(3), None);
+/// assert_eq!(picture.visible_row(2), [5, 6]);
+///
+/// let column = picture.region(1, 0, 1, 3).unwrap();
+/// assert_eq!(column.rows().map(|row| row[0]).collect::<Vec<_>>(), [2, 4, 6]);
+/// assert_eq!(column, picture.visible_region(1, 0, 1, 3));
+/// ```
 #[derive(Debug)]
 pub struct RowsRef<'a, T> {
     buffer: &'a [T],

@@ -4,8 +4,8 @@
 //! What is asked of such a buffer is what [`rows_fit`](crate::plane::rows_fit) tests. It may be longer, its
 //! last row may end at its width, and all of it but the rows stays as it was.
 
+use crate::views::AsRowsRef;
 use crate::generated::v_frame_plane::encoding::{AsBytes, AsPixels, write_rows};
-use crate::generated::v_frame_plane::rows_ref::RowsRef;
 use crate::generated::v_frame_raster::pixel::{Pixel, encode_row_proved};
 
 /// Copies a picture into the rows of a buffer, which are as wide and as many.
@@ -20,12 +20,13 @@ use crate::generated::v_frame_raster::pixel::{Pixel, encode_row_proved};
 #[track_caller]
 #[inline]
 pub fn copy_rows<T: Copy>(
-    source: &RowsRef<'_, T>,
+    source: impl AsRowsRef<Pixel = T>,
     buffer: &mut [T],
     width: usize,
     height: usize,
     stride: usize,
 ) {
+    let source = &source.as_rows_ref();
     assert!(
         crate::generated::v_frame_plane::plane::rows_fit(width, height, stride, buffer.len()),
         "{height} rows of {width} entries, {stride} apart, do not fit {} entries", buffer.len()
@@ -55,12 +56,13 @@ pub fn copy_rows<T: Copy>(
 #[track_caller]
 #[inline]
 pub fn decode_rows<T: Pixel>(
-    source: &RowsRef<'_, u8>,
+    source: impl AsRowsRef<Pixel = u8>,
     buffer: &mut [T],
     width: usize,
     height: usize,
     stride: usize,
 ) {
+    let source = &source.as_rows_ref();
     assert!(
         crate::generated::v_frame_plane::plane::rows_fit(width, height, stride, buffer.len()),
         "{height} rows of {width} entries, {stride} apart, do not fit {} entries", buffer.len()
@@ -90,12 +92,13 @@ pub fn decode_rows<T: Pixel>(
 #[track_caller]
 #[inline]
 pub fn encode_rows<T: Pixel>(
-    source: &RowsRef<'_, T>,
+    source: impl AsRowsRef<Pixel = T>,
     buffer: &mut [u8],
     width: usize,
     height: usize,
     stride: usize,
 ) {
+    let source = &source.as_rows_ref();
     assert!(
         crate::generated::v_frame_plane::plane::rows_fit(width, height, stride, buffer.len()),
         "{height} rows of {width} entries, {stride} apart, do not fit {} entries", buffer.len()

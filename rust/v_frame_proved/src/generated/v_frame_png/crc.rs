@@ -15,6 +15,18 @@ pub fn crc32(bytes: &[u8]) -> u32 {
 /// The CRC-32 of bytes that come one part after the other, as [`crc32`] computes it of all of them.
 ///
 /// Contracts see what the division has left of the bytes so far, `crc_rest bytes`.
+///
+/// # Examples
+///
+/// ```
+/// use v_frame_proved::png::{Crc32Digest, crc32};
+///
+/// let mut digest = Crc32Digest::new();
+/// digest.update(b"1234");
+/// digest.update(b"56789");
+/// assert_eq!(digest.value(), 0xcbf4_3926);
+/// assert_eq!(crc32(b"123456789"), digest.value());
+/// ```
 #[derive(Debug)]
 pub struct Crc32Digest {
     tables: CrcTables,

@@ -8,6 +8,27 @@
 //! format (RFC 1951).
 //!
 //! [`crc32`] is the CRC-32 of zlib, gzip and PNG.
+//!
+//! # Examples
+//!
+//! ```
+//! use v_frame_proved::plane::RowsRef;
+//! use v_frame_proved::png::{ColourSpace, Compression, Header, Samples, write_png, write_png_with};
+//!
+//! let header = Header { width: 2, height: 1, samples: Samples::Rgb8, colour_space: ColourSpace::Srgb };
+//! assert!(header.is_size());
+//! assert_eq!(header.row_size(), 6);
+//! assert_eq!((header.samples.pixel_size(), header.samples.bit_depth()), (3, 8));
+//! assert_eq!(header.samples.colour_type(), 2);
+//!
+//! let row = [255, 0, 0, 0, 0, 255];
+//! let rows = RowsRef::new(&row, 6, 1, 6).unwrap();
+//! let stored = write_png(Vec::new(), header, &rows)?;
+//! let compressed = write_png_with(Vec::new(), header, Compression::Fixed, &rows)?;
+//! assert_eq!(stored[..8], *b"\x89PNG\r\n\x1a\n");
+//! assert_eq!(compressed[12..16], *b"IHDR");
+//! # Ok::<(), v_frame_proved::png::PngError>(())
+//! ```
 
 mod adler;
 mod bits;

@@ -6,6 +6,18 @@ use core::num::NonZeroU8;
 /// The format of a frame: how much smaller its chroma planes are than its luma plane.
 ///
 /// Ports `ChromaSubsampling` of `v_frame` 0.7.0, which has no [`Yuv411`](Self::Yuv411).
+///
+/// # Examples
+///
+/// ```
+/// use v_frame_proved::chroma::ChromaSubsampling;
+///
+/// let format = ChromaSubsampling::Yuv420;
+/// assert_eq!(format.chroma_dimensions(1920, 1080), Some((960, 540)));
+/// assert_eq!(format.subsample_ratio().map(|(x, y)| (x.get(), y.get())), Some((2, 2)));
+/// assert!(format.has_chroma());
+/// assert!(!ChromaSubsampling::Monochrome.has_chroma());
+/// ```
 #[derive(Debug, Clone, Copy, PartialEq, Eq)]
 pub enum ChromaSubsampling {
     /// Chroma at half the width and half the height of luma.

@@ -6,12 +6,50 @@ use crate::generated::v_frame_raster::chroma::ChromaSubsampling;
 /// A size or a padding doesn't divide by the ratio of a format.
 ///
 /// Ports `SubsamplingError` of `v_frame` 0.7.0.
+///
+/// # Examples
+///
+/// ```
+/// use v_frame_proved::chroma::ChromaSubsampling;
+/// use v_frame_proved::plane::{PlaneGeometry, SubsamplingError};
+///
+/// let odd = PlaneGeometry::unpadded(3, 2, 1, 1).unwrap();
+/// assert_eq!(odd.for_subsampling(ChromaSubsampling::Yuv420), Err(SubsamplingError));
+/// ```
 #[derive(Debug, Clone, Copy, PartialEq, Eq)]
 pub struct SubsamplingError;
 
 /// The layout of a plane: its visible size, the paddings around it, and how often it is sampled beside luma.
 ///
 /// Sizes, paddings and the stride are in pixels. Ports `PlaneGeometry` of `v_frame` 0.7.0.
+///
+/// # Examples
+///
+/// ```
+/// use v_frame_proved::chroma::ChromaSubsampling;
+/// use v_frame_proved::plane::PlaneGeometry;
+///
+/// // 4 by 2 visible pixels; paddings left, right, above and below; the ratios beside luma.
+/// let geometry = PlaneGeometry::new(4, 2, 2, 0, 4, 6, 1, 1).unwrap();
+/// assert_eq!((geometry.width(), geometry.height(), geometry.stride()), (4, 2, 6));
+/// assert_eq!((geometry.pad_left(), geometry.pad_right()), (2, 0));
+/// assert_eq!((geometry.pad_top(), geometry.pad_bottom()), (4, 6));
+///
+/// // The buffer has 12 rows of 6 pixels, and the first visible one is the third of row 4.
+/// assert_eq!(geometry.checked_alloc_size(), Some(72));
+/// assert_eq!((geometry.alloc_size(), geometry.alloc_height(), geometry.data_origin()), (72, 12, 26));
+///
+/// let chroma = geometry.for_subsampling(ChromaSubsampling::Yuv420).unwrap().unwrap();
+/// assert_eq!((chroma.width(), chroma.pad_bottom()), (2, 3));
+/// assert_eq!((chroma.subsampling_x(), chroma.subsampling_y()), (2, 2));
+///
+/// // The same buffer with other visible pixels: the right half, and all of it.
+/// let half = geometry.region(2, 0, 2, 2).unwrap();
+/// assert_eq!((half.pad_left(), half.stride()), (4, 6));
+/// assert_eq!(half, geometry.visible_region(2, 0, 2, 2));
+/// assert_eq!(geometry.region(2, 0, 3, 2), None);
+/// assert_eq!(geometry.whole_buffer(), PlaneGeometry::unpadded(6, 12, 1, 1).unwrap());
+/// ```
 #[derive(Debug, Clone, Copy, PartialEq, Eq)]
 pub struct PlaneGeometry {
     width: usize,

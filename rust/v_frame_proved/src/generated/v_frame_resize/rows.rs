@@ -3,6 +3,21 @@
 //!
 //! What is read is a [`RowsRef`](crate::plane::RowsRef). What is written is a buffer beside its width, height and stride in
 //! pixels, for which [`rows_fit`](crate::plane::rows_fit) holds; all of the buffer but these rows stays as it was.
+//!
+//! # Examples
+//!
+//! ```
+//! use v_frame_proved::plane::RowsRef;
+//! use v_frame_proved::resize::rows::{can_resize, resize_area, resize_nearest};
+//!
+//! let source = RowsRef::new(&[0_u8, 30, 90], 3, 1, 3).unwrap();
+//! let mut target = [0; 2];
+//! assert!(can_resize(3, 1, 2, 1));
+//! resize_area(&source, &mut target, 2, 1, 2);
+//! assert_eq!(target, [10, 70]);
+//! resize_nearest(&source, &mut target, 2, 1, 2);
+//! assert_eq!(target, [0, 90]);
+//! ```
 
 mod area;
 mod nearest;

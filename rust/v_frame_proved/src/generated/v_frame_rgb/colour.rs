@@ -26,6 +26,18 @@ mod sealed {
 }
 
 /// How the bytes of a pixel hold its colour.
+///
+/// # Examples
+///
+/// ```
+/// use v_frame_proved::rgb::{Bgr, Colour, ColourOrder, Rgba};
+///
+/// let colour = Colour { red: 1, green: 2, blue: 3 };
+/// let mut pixel = [0; Rgba::BYTES];
+/// Rgba::write(&mut pixel, colour);
+/// assert_eq!(pixel, [1, 2, 3, 255]);
+/// assert_eq!(Bgr::read(&[3, 2, 1]), colour);
+/// ```
 pub trait ColourOrder: sealed::Sealed {
     /// Bytes of one pixel.
     const BYTES: usize;

@@ -8,6 +8,15 @@ use crate::generated::v_frame_rgb::standard::{ColourRange, Standard};
 ///
 /// One step of luma makes `luma` of each channel. One step of Cb makes `blue_u` of blue and takes `green_u` from green, and one
 /// step of Cr makes `red_v` of red and takes `green_v` from green.
+///
+/// # Examples
+///
+/// ```
+/// use v_frame_proved::rgb::{Colour, ColourRange, RgbMatrix, Standard};
+///
+/// let matrix = RgbMatrix::new(Standard::Bt2020, ColourRange::Limited);
+/// assert_eq!(matrix.colour(16, 128, 128), Colour { red: 0, green: 0, blue: 0 });
+/// ```
 #[derive(Debug, Clone, Copy, PartialEq, Eq)]
 pub struct RgbMatrix {
     /// The sample of luma that stands for black.
@@ -28,6 +37,16 @@ pub struct RgbMatrix {
 ///
 /// One step of a colour makes `y_red`, `y_green` or `y_blue` of luma. To Cb blue adds `u_blue`, and red and green take away
 /// `u_red` and `u_green`. To Cr red adds `v_red`, and green and blue take away `v_green` and `v_blue`.
+///
+/// # Examples
+///
+/// ```
+/// use v_frame_proved::rgb::{Channel, Colour, ColourRange, Luma, Standard, YuvMatrix};
+///
+/// let matrix = YuvMatrix::new(Standard::Bt601, ColourRange::Limited);
+/// let white = Colour { red: 255, green: 255, blue: 255 };
+/// assert_eq!(Luma::sample(matrix, white), 235);
+/// ```
 #[derive(Debug, Clone, Copy, PartialEq, Eq)]
 pub struct YuvMatrix {
     /// The sample of luma that stands for black.

@@ -3,6 +3,27 @@
 //!
 //! What is read is a [`RowsRef`](crate::plane::RowsRef). What is written is a buffer beside its width, height and stride, for
 //! which [`rows_fit`](crate::plane::rows_fit) holds; all of the buffer but these rows stays as it was.
+//!
+//! # Examples
+//!
+//! ```
+//! use v_frame_proved::plane::RowsRef;
+//! use v_frame_proved::rgb::{ChromaV, ColourRange, Rgb, RgbMatrix, Rgba, Standard, YuvMatrix, rows};
+//!
+//! let picture = RowsRef::new(&[255, 255, 255, 0, 0, 0], 6, 1, 6).unwrap();
+//! let matrix = YuvMatrix::new(Standard::Bt601, ColourRange::Limited);
+//! let (mut y, mut u, mut v) = ([0; 2], [0; 2], [0; 2]);
+//! rows::rgb_to_yuv444::<Rgb>(&picture, matrix, &mut y, &mut u, &mut v, 2, 1, (2, 2, 2));
+//! assert_eq!((y, u, v), ([235, 16], [128, 128], [128, 128]));
+//! rows::rgb_to_channel::<Rgb, ChromaV>(&picture, matrix, &mut u, 2, 1, 2);
+//! assert_eq!(u, v);
+//!
+//! let plane_of = |pixels| RowsRef::new(pixels, 2, 1, 2).unwrap();
+//! let matrix = RgbMatrix::new(Standard::Bt601, ColourRange::Limited);
+//! let mut bytes = [0; 8];
+//! rows::yuv444_to_rgb::<Rgba>(&plane_of(&y), &plane_of(&u), &plane_of(&v), matrix, &mut bytes, 8, 1, 8);
+//! assert_eq!(bytes, [255, 255, 255, 255, 0, 0, 0, 255]);
+//! ```
 
 mod decode;
 mod encode;

@@ -10,6 +10,39 @@ use crate::generated::v_frame_planar::ratios_or_one;
 
 /// A semi-planar layout, by the name that ffmpeg's pixel formats have: the rows of luma come first, then rows in which the
 /// pixels of U and V are by turns. Chroma has as many columns and rows as it takes to cover luma.
+///
+/// # Examples
+///
+/// ```
+/// use v_frame_proved::chroma::ChromaSubsampling;
+/// use v_frame_proved::frame::FrameBuilder;
+/// use v_frame_proved::planar::Counted;
+/// use v_frame_proved::semi_planar::{self, SemiPlanarError, SemiPlanarFormat};
+///
+/// let format = SemiPlanarFormat::Nv21;
+/// assert_eq!((format.subsampling(), format.bit_depth()), (ChromaSubsampling::Yuv420, 8));
+/// assert_eq!((format.sample_size(), format.unused_bits()), (1, 0));
+/// assert_eq!((format.begins_with_v(), format.chroma_size(5, 3)), (true, (3, 2)));
+///
+/// let mut frame = FrameBuilder::new(2, 2, ChromaSubsampling::Yuv420, 8).build::<u8>()?;
+/// for (plane, value) in frame.planes_mut().zip(1..) {
+///     plane.pixels_mut().for_each(|pixel| *pixel = value);
+/// }
+/// semi_planar::check_layout(&frame, format)?;
+/// assert_eq!(semi_planar::semi_planar_len(&frame, format)?, 6);
+/// let mut writer = Counted::new(Vec::new());
+/// semi_planar::write_frame(&mut writer, &frame, format)?;
+/// assert_eq!(writer.inner()[..], [1, 1, 1, 1, 3, 2]);
+///
+/// let mut read = FrameBuilder::new(2, 2, ChromaSubsampling::Yuv420, 8).build::<u8>()?;
+/// let mut reader = Counted::new(&writer.inner()[..]);
+/// assert!(semi_planar::read_frame(&mut reader, &mut read, format)?);
+/// assert_eq!(read, frame);
+/// assert!(!semi_planar::read_frame(&mut reader, &mut read, format)?);
+/// let refused = semi_planar::check_layout(&frame, SemiPlanarFormat::P010);
+/// assert_eq!(refused, Err(SemiPlanarError::BitDepth));
+/// # Ok::<(), Box<dyn std::error::Error>>(())
+/// ```
 #[derive(Debug, Clone, Copy, PartialEq, Eq)]
 pub enum SemiPlanarFormat {
     /// Samples of 8 bits, chroma at half the width and half the height.

@@ -6,6 +6,31 @@
 //! move samples within their words. [`rows`] has the same over rows that are kept elsewhere. [`write_frame`] and [`read_frame`]
 //! write a frame in one of the layouts of [`SemiPlanarFormat`] and read it back, with what `planar` promises of planar
 //! video.
+//!
+//! # Examples
+//!
+//! ```
+//! use v_frame_proved::plane::{Plane, PlaneGeometry, PlaneRef};
+//! use v_frame_proved::semi_planar::{deinterleave, from_top_bits, interleave, to_top_bits};
+//!
+//! let row_of = |width| PlaneGeometry::unpadded(width, 1, 1, 1).unwrap();
+//! let u = PlaneRef::new(row_of(2), &[1_u16, 2]).unwrap();
+//! let v = PlaneRef::new(row_of(2), &[8, 9]).unwrap();
+//! let mut both = Plane::<u16>::new(row_of(4))?;
+//! interleave(&u, &v, &mut both);
+//! assert_eq!(both[0], [1, 8, 2, 9]);
+//!
+//! let (mut first, mut second) = (Plane::<u16>::new(row_of(2))?, Plane::<u16>::new(row_of(2))?);
+//! deinterleave(&both.as_plane_ref(), &mut first, &mut second);
+//! assert_eq!((&first[0], &second[0]), (&u[0], &v[0]));
+//!
+//! // Samples of 10 bits in the top bits of their words, as P010 has them.
+//! to_top_bits(&mut first, 10);
+//! assert_eq!(first[0], [64, 128]);
+//! from_top_bits(&mut first, 10);
+//! assert_eq!(first[0], [1, 2]);
+//! # Ok::<(), v_frame_proved::AllocError>(())
+//! ```
 
 mod byte_pairs;
 mod chroma;

@@ -4,6 +4,34 @@
 //! What is read is a [`RowsRef`](crate::plane::RowsRef). What is written is a buffer beside its width, height and stride in
 //! pixels, for which [`rows_fit`](crate::plane::rows_fit) holds; all of the buffer but these rows stays as it was. The calls
 //! of planes are made of these.
+//!
+//! # Examples
+//!
+//! ```
+//! use v_frame_proved::plane::RowsRef;
+//! use v_frame_proved::semi_planar::rows;
+//!
+//! let mut row = [0_u8; 4];
+//! rows::interleave_row(&mut row, &[1, 2], &[8, 9]);
+//! assert_eq!(row, [1, 8, 2, 9]);
+//! let (mut first, mut second) = ([0; 2], [0; 2]);
+//! rows::deinterleave_row(&row, &mut first, &mut second);
+//! assert_eq!((first, second), ([1, 2], [8, 9]));
+//!
+//! // The same over rows that begin a stride after each other.
+//! let plane_of = |pixels| RowsRef::new(pixels, 1, 2, 1).unwrap();
+//! rows::interleave(&plane_of(&first), &plane_of(&second), &mut row, 2, 2, 2);
+//! assert_eq!(row, [1, 8, 2, 9]);
+//! let both = RowsRef::new(&row, 2, 2, 2).unwrap();
+//! rows::deinterleave(&both, 1, 2, &mut first, 1, &mut second, 1);
+//! assert_eq!((first, second), ([1, 2], [8, 9]));
+//!
+//! let mut words = [1023, 1];
+//! rows::to_top_bits(&mut words, 2, 1, 2, 10);
+//! assert_eq!(words, [65472, 64]);
+//! rows::from_top_bits(&mut words, 2, 1, 2, 10);
+//! assert_eq!(words, [1023, 1]);
+//! ```
 
 mod chroma;
 mod top_bits;

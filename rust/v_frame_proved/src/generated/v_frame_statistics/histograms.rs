@@ -2,14 +2,15 @@
 //! How often each value occurs in a plane.
 
 use alloc::vec::Vec;
+use crate::views::AsPlaneRef;
 use crate::generated::v_frame_statistics::rows;
 use crate::support::AllocError;
-use crate::generated::v_frame::plane::PlaneRef;
 
 /// Returns how often each value occurs among the visible pixels of a plane of 8 bits: entry `v` counts those of the value `v`.
 #[inline]
 #[must_use]
-pub fn histogram(plane: &PlaneRef<'_, u8>) -> [u64; 256] {
+pub fn histogram(plane: impl AsPlaneRef<Pixel = u8>) -> [u64; 256] {
+    let plane = &plane.as_plane_ref();
     rows::histogram(&plane.as_rows_ref())
 }
 
@@ -26,9 +27,10 @@ pub fn histogram(plane: &PlaneRef<'_, u8>) -> [u64; 256] {
 #[track_caller]
 #[inline]
 pub fn histogram_of_depth(
-    plane: &PlaneRef<'_, u16>,
+    plane: impl AsPlaneRef<Pixel = u16>,
     bit_depth: u8,
 ) -> Result<Vec<u64>, AllocError> {
+    let plane = &plane.as_plane_ref();
     assert!(bit_depth <= 16, "bit_depth ({bit_depth}) is above 16");
     rows::histogram_of_depth(&plane.as_rows_ref(), bit_depth)
 }

@@ -4,6 +4,39 @@
 //!
 //! Each is of what a plane shows, without its border, and is exact: integers that are wide enough for any picture. The module
 //! [`rows`] has the same of rows that are kept elsewhere.
+//!
+//! # Examples
+//!
+//! ```
+//! use v_frame_proved::plane::{PlaneGeometry, PlaneRef};
+//! use v_frame_proved::statistics;
+//!
+//! let geometry = PlaneGeometry::unpadded(2, 2, 1, 1).unwrap();
+//! let a = PlaneRef::new(geometry, &[1_u8, 2, 3, 6]).unwrap();
+//! let b = PlaneRef::new(geometry, &[1_u8, 1, 4, 6]).unwrap();
+//! assert_eq!(statistics::count_pixels(&a, |pixel| pixel > 2), 2);
+//! assert_eq!(statistics::count_pairs(&a, &b, |p, q| p == q), 2);
+//! assert_eq!((statistics::minimum(&a), statistics::maximum(&a)), (1, 6));
+//! assert_eq!(statistics::histogram(&b)[1], 2);
+//!
+//! // Sums, of which a mean and a variance are quotients.
+//! assert_eq!(statistics::sum(&a), 12);
+//! let mean = statistics::mean(&a);
+//! assert_eq!(mean.sum as f64 / mean.count as f64, 3.0);
+//! let sums = statistics::variance(&a);
+//! assert_eq!((sums.sum, sums.sum_of_squares, sums.count), (12, 50, 4));
+//! let all = statistics::statistics(&a);
+//! assert_eq!((all.sum, all.sum_of_squares, all.count, all.minimum, all.maximum), (12, 50, 4, 1, 6));
+//! let pairs = statistics::pair_sums(&a, &b);
+//! assert_eq!((pairs.first, pairs.second, pairs.products), (12, 12, 51));
+//! assert_eq!((pairs.first_squares, pairs.second_squares), (50, 54));
+//!
+//! // Depths above 8 bits have a counter for each value of theirs.
+//! let deep = PlaneRef::new(geometry, &[0_u16, 1023, 1023, 4]).unwrap();
+//! let counts = statistics::histogram_of_depth(&deep, 10)?;
+//! assert_eq!((counts.len(), counts[1023]), (1024, 2));
+//! # Ok::<(), v_frame_proved::AllocError>(())
+//! ```
 
 mod counts;
 mod extremes;

@@ -2,6 +2,36 @@
 //! The same of rows that are kept elsewhere, each a stride after the one before, as decoders lay pictures out.
 //!
 //! What is read is a [`RowsRef`](crate::plane::RowsRef). The calls of planes are made of these.
+//!
+//! # Examples
+//!
+//! ```
+//! use v_frame_proved::plane::RowsRef;
+//! use v_frame_proved::statistics::rows::{self, PairSums, PictureStatistics, SumAndCount, VarianceSums};
+//!
+//! // Two rows of two pixels, the second three entries after the first.
+//! let a = RowsRef::new(&[1_u8, 2, 255, 3, 6], 2, 2, 3).unwrap();
+//! let b = RowsRef::new(&[1_u8, 1, 4, 6], 2, 2, 2).unwrap();
+//! assert_eq!(rows::count_pixels(&a, |pixel| pixel > 2), 2);
+//! assert_eq!(rows::count_pairs(&a, &b, |p, q| p == q), 2);
+//! assert_eq!((rows::minimum(&a), rows::maximum(&a)), (1, 6));
+//! assert_eq!(rows::histogram(&b)[1], 2);
+//!
+//! assert_eq!(rows::sum(&a), 12);
+//! assert_eq!(rows::mean(&a), SumAndCount { sum: 12, count: 4 });
+//! assert_eq!(rows::variance(&a), VarianceSums { sum: 12, sum_of_squares: 50, count: 4 });
+//! let all = PictureStatistics { sum: 12, sum_of_squares: 50, count: 4, minimum: 1, maximum: 6 };
+//! assert_eq!(rows::statistics(&a), all);
+//! let pairs = PairSums { first: 12, second: 12, first_squares: 50, second_squares: 54, products: 51 };
+//! assert_eq!(rows::pair_sums(&a, &b), pairs);
+//!
+//! let deep = RowsRef::new(&[0_u16, 1023, 1023, 4], 2, 2, 2).unwrap();
+//! assert_eq!(rows::histogram_of_depth(&deep, 10)?[1023], 2);
+//! let mut counts = [0; 1024];
+//! rows::histogram_into(&deep, &mut counts);
+//! assert_eq!(counts[4], 1);
+//! # Ok::<(), v_frame_proved::AllocError>(())
+//! ```
 
 mod counts;
 mod extremes;

@@ -2,6 +2,19 @@
 //! Why a frame was not turned.
 
 /// Why a call of [`frames`](crate::turn::frames) turned no frame.
+///
+/// # Examples
+///
+/// ```
+/// use v_frame_proved::chroma::ChromaSubsampling;
+/// use v_frame_proved::frame::FrameBuilder;
+/// use v_frame_proved::turn::{Turn, TurnError, frames};
+///
+/// let frame = FrameBuilder::new(4, 2, ChromaSubsampling::Yuv422, 8).build::<u8>()?;
+/// // Chroma at half the width would be chroma at half the height.
+/// assert_eq!(frames::check_turn(&frame, &frame, Turn::Rotate90), Err(TurnError::UnevenSubsampling));
+/// # Ok::<(), v_frame_proved::frame::FrameError>(())
+/// ```
 #[derive(Debug, PartialEq, Eq, Clone, Copy)]
 #[non_exhaustive]
 pub enum TurnError {

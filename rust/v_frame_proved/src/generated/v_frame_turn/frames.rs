@@ -3,6 +3,39 @@
 //!
 //! Turned by a quarter or transposed, chroma exchanges its two ratios. So 4:2:0, 4:4:4 and monochrome frames can be turned
 //! so, and 4:2:2 and 4:1:1 can't: [`TurnError::UnevenSubsampling`].
+//!
+//! # Examples
+//!
+//! ```
+//! use v_frame_proved::chroma::ChromaSubsampling;
+//! use v_frame_proved::frame::FrameBuilder;
+//! use v_frame_proved::turn::{Turn, frames};
+//!
+//! let mut source = FrameBuilder::new(4, 2, ChromaSubsampling::Yuv420, 8).build::<u8>()?;
+//! source.y_plane.copy_from_slice(&[1, 2, 3, 4, 5, 6, 7, 8])?;
+//! let mut upright = FrameBuilder::new(2, 4, ChromaSubsampling::Yuv420, 8).build::<u8>()?;
+//! frames::check_turn(&source, &upright, Turn::Rotate90)?;
+//! frames::rotate_90(&source, &mut upright)?;
+//! assert_eq!(upright.y_plane.data(), [5, 1, 6, 2, 7, 3, 8, 4]);
+//! frames::rotate_270(&source, &mut upright)?;
+//! assert_eq!(upright.y_plane.data(), [4, 8, 3, 7, 2, 6, 1, 5]);
+//! frames::transpose(&source, &mut upright)?;
+//! assert_eq!(upright.y_plane.data(), [1, 5, 2, 6, 3, 7, 4, 8]);
+//!
+//! let mut turned = source.clone();
+//! frames::flip_vertical(&source, &mut turned)?;
+//! frames::flip_vertical_in_place(&mut turned);
+//! assert_eq!(turned, source);
+//! frames::flip_horizontal(&source, &mut turned)?;
+//! frames::flip_horizontal_in_place(&mut turned);
+//! assert_eq!(turned, source);
+//! frames::rotate_180(&source, &mut turned)?;
+//! frames::rotate_180_in_place(&mut turned);
+//! assert_eq!(turned, source);
+//! frames::turn_frame(&source, &mut turned, Turn::FlipHorizontal)?;
+//! assert_eq!(turned.y_plane[0], [4, 3, 2, 1]);
+//! # Ok::<(), Box<dyn std::error::Error>>(())
+//! ```
 
 mod in_place;
 

@@ -4,6 +4,34 @@
 //! What is read is a [`RowsRef`](crate::plane::RowsRef). What is written is a buffer beside its width, height and stride in
 //! pixels, for which [`rows_fit`](crate::plane::rows_fit) holds; all of the buffer but these rows stays as it was. The
 //! calls of planes are made of these.
+//!
+//! # Examples
+//!
+//! ```
+//! use v_frame_proved::plane::RowsRef;
+//! use v_frame_proved::turn::rows;
+//!
+//! let source = RowsRef::new(&[1, 2, 3, 4, 5, 6_u8], 3, 2, 3).unwrap();
+//! let mut target = [0; 6];
+//! rows::flip_vertical(&source, &mut target, 3, 2, 3);
+//! assert_eq!(target, [4, 5, 6, 1, 2, 3]);
+//! rows::flip_horizontal(&source, &mut target, 3, 2, 3);
+//! assert_eq!(target, [3, 2, 1, 6, 5, 4]);
+//! rows::rotate_180(&source, &mut target, 3, 2, 3);
+//! assert_eq!(target, [6, 5, 4, 3, 2, 1]);
+//! rows::rotate_180_in_place(&mut target, 3, 2, 3);
+//! rows::flip_vertical_in_place(&mut target, 3, 2, 3);
+//! rows::flip_horizontal_in_place(&mut target, 3, 2, 3);
+//! assert_eq!(target, [6, 5, 4, 3, 2, 1]);
+//!
+//! // Those that exchange width and height.
+//! rows::transpose(&source, &mut target, 2, 3, 2);
+//! assert_eq!(target, [1, 4, 2, 5, 3, 6]);
+//! rows::rotate_90(&source, &mut target, 2, 3, 2);
+//! assert_eq!(target, [4, 1, 5, 2, 6, 3]);
+//! rows::rotate_270(&source, &mut target, 2, 3, 2);
+//! assert_eq!(target, [3, 6, 2, 5, 1, 4]);
+//! ```
 
 mod flip;
 mod flip_in_place;

@@ -59,6 +59,26 @@ pub enum ChromaSiting {
 }
 
 /// The colour of a stream, its parameter `C`: a format, a bit depth, and where chroma is sited.
+///
+/// # Examples
+///
+/// ```
+/// use v_frame_proved::chroma::ChromaSubsampling;
+/// use v_frame_proved::y4m::{ChromaSiting, Colour, Depth, Interlacing, Ratio};
+///
+/// let colour = Colour::new(ChromaSubsampling::Yuv422, 10, None).unwrap();
+/// assert_eq!(colour, Colour::Yuv422HighDepth(Depth::Ten));
+/// assert_eq!((colour.subsampling(), colour.bit_depth()), (ChromaSubsampling::Yuv422, 10));
+/// assert_eq!(colour.text(), "422p10");
+/// assert_eq!(Colour::Yuv420Mpeg2.siting(), Some(ChromaSiting::Left));
+/// assert_eq!(Colour::new(ChromaSubsampling::Yuv422, 11, None), None);
+///
+/// // The texts of the other parameters, and depths.
+/// assert_eq!((Depth::from_bits(12), Depth::Twelve.bits()), (Some(Depth::Twelve), 12));
+/// assert_eq!(Interlacing::TopFirst.text(), "t");
+/// assert_eq!(Ratio { numerator: 25, denominator: 1 }.text()?, "25:1");
+/// # Ok::<(), v_frame_proved::AllocError>(())
+/// ```
 #[derive(Debug, Clone, Copy, PartialEq, Eq)]
 pub enum Colour {
     /// The header has no parameter `C`: 4:2:0 as in JPEG.

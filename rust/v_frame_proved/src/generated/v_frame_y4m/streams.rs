@@ -22,6 +22,30 @@ pub const MAX_LINE_BYTES: usize = 1024;
 /// [`Y4mError::LineTooLong`] where no line feed stands among the first 1025 bytes, [`Y4mError::UnfinishedLine`] where the
 /// reader came to its end before one, [`Y4mError::Header`] with what is wrong with the line, and of [`PlanarError`]
 /// `Read` where a read failed, an interrupted one too, which is not tried again; [`Counted::last_failure`] says why.
+///
+/// # Examples
+///
+/// ```
+/// use v_frame_proved::planar::Counted;
+/// use v_frame_proved::y4m;
+///
+/// // A stream by single calls, as `Decoder` and `Encoder` make them.
+/// let mut reader = Counted::new(&b"YUV4MPEG2 W2 H1 Cmono\nFRAME\nabFRAME\ncd"[..]);
+/// let header = y4m::read_header(&mut reader)?;
+/// let mut frame = header.frame::<u8>(0)?;
+/// let mut writer = Counted::new(Vec::new());
+/// y4m::write_header(&mut writer, &header)?;
+/// assert_eq!(writer.inner()[..], y4m::ended_line(&header)?);
+/// while y4m::read_frame(&mut reader, &mut frame)? {
+///     y4m::write_frame(&mut writer, &frame)?;
+/// }
+/// assert_eq!(writer.into_inner(), b"YUV4MPEG2 W2 H1 Cmono\nFRAME\nabFRAME\ncd");
+///
+/// // The line in front of a frame alone.
+/// assert!(y4m::is_frame_line(b"FRAME Ip") && !y4m::is_frame_line(b"FRAMES"));
+/// assert!(y4m::read_frame_line(&mut Counted::new(&b"FRAME\nab"[..]))?);
+/// # Ok::<(), Box<dyn std::error::Error>>(())
+/// ```
 #[inline]
 pub fn read_header<R: io::Read>(
     reader: &mut Counted<R>,

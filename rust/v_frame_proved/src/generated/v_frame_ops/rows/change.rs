@@ -2,6 +2,7 @@
 //! Changes of the rows of a buffer: each pixel by a function, alone or with that of another picture, all to one pixel, or all to
 //! another picture in half the size.
 
+use crate::views::AsRowsRef;
 use crate::generated::v_frame::pixel::{Pixel, fill_row};
 use crate::generated::v_frame::plane::RowsRef;
 
@@ -61,9 +62,10 @@ pub fn combine_pixels<T: Pixel, F: Fn(T, T) -> T>(
     width: usize,
     height: usize,
     stride: usize,
-    other: &RowsRef<'_, T>,
+    other: impl AsRowsRef<Pixel = T>,
     combine: F,
 ) {
+    let other = &other.as_rows_ref();
     assert!(
         crate::generated::v_frame_plane::plane::rows_fit(width, height, stride, buffer.len()),
         "{height} rows of {width} entries, {stride} apart, do not fit {} entries", buffer.len()
@@ -92,12 +94,13 @@ pub fn combine_pixels<T: Pixel, F: Fn(T, T) -> T>(
 #[track_caller]
 #[inline]
 pub fn downscale<T: Pixel>(
-    source: &RowsRef<'_, T>,
+    source: impl AsRowsRef<Pixel = T>,
     buffer: &mut [T],
     width: usize,
     height: usize,
     stride: usize,
 ) {
+    let source = &source.as_rows_ref();
     assert!(
         crate::generated::v_frame_plane::plane::rows_fit(width, height, stride, buffer.len()),
         "{height} rows of {width} entries, {stride} apart, do not fit {} entries", buffer.len()

@@ -17,6 +17,23 @@ impl<T: Pixel> Plane<T> {
     /// # Errors
     ///
     /// [`CopyError::DataLength`] where `src` has another length than `width * height` pixels. Then nothing is written.
+    ///
+    /// # Examples
+    ///
+    /// ```
+    /// use v_frame_proved::plane::{CopyError, Plane, PlaneGeometry};
+    ///
+    /// let mut plane = Plane::<u16>::new(PlaneGeometry::unpadded(2, 2, 1, 1).unwrap())?;
+    /// plane.copy_from_slice(&[1, 2, 3, 4])?;
+    /// assert_eq!(plane.copy_from_slice(&[1, 2]), Err(CopyError::DataLength { expected: 4, found: 2 }));
+    ///
+    /// // Bytes, the low one of a pixel first: packed, and in rows that begin every five bytes.
+    /// plane.copy_from_u8_slice(&[1, 0, 2, 0, 3, 0, 0, 1])?;
+    /// assert_eq!(plane[1], [3, 256]);
+    /// plane.copy_from_u8_slice_with_stride(&[5, 0, 6, 0, 0, 7, 0, 8, 0, 0], 5)?;
+    /// assert_eq!(plane.pixels().collect::<Vec<_>>(), [5, 6, 7, 8]);
+    /// # Ok::<(), Box<dyn std::error::Error>>(())
+    /// ```
     #[inline]
     pub fn copy_from_slice(&mut self, src: &[T]) -> Result<(), CopyError> {
         let geometry = self.geometry;

@@ -19,6 +19,22 @@ impl<T> Plane<T> {
     /// # Panics
     ///
     /// Panics where `checked_alloc_size` of `geometry` is `None`: no buffer is that large.
+    ///
+    /// # Examples
+    ///
+    /// ```
+    /// use v_frame_proved::plane::{Plane, PlaneGeometry};
+    ///
+    /// let mut plane = Plane::<u8>::new_uninit(PlaneGeometry::unpadded(2, 1, 1, 1).unwrap())?;
+    /// assert!(!plane.is_init());
+    /// for (entry, value) in plane.data_mut().iter_mut().zip(7..) {
+    ///     *entry = Some(value);
+    /// }
+    /// assert!(plane.is_init());
+    /// let plane = plane.assume_init().expect("there is memory");
+    /// assert_eq!(plane[0], [7, 8]);
+    /// # Ok::<(), v_frame_proved::AllocError>(())
+    /// ```
     #[track_caller]
     #[inline]
     pub fn new_uninit(

@@ -3,8 +3,8 @@
 
 use alloc::vec::Vec;
 use crate::support::memory::TryVec;
+use crate::views::AsRowsRef;
 use crate::support::AllocError;
-use crate::generated::v_frame::plane::RowsRef;
 
 /// A count of each value of a byte.
 type Table = [u64; 256];
@@ -12,7 +12,8 @@ type Table = [u64; 256];
 /// Returns how often each value occurs: entry `v` counts the pixels of the value `v`.
 #[inline]
 #[must_use]
-pub fn histogram(rows: &RowsRef<'_, u8>) -> [u64; 256] {
+pub fn histogram(rows: impl AsRowsRef<Pixel = u8>) -> [u64; 256] {
+    let rows = &rows.as_rows_ref();
     // Rows take turns in four tables: the next pixel need not wait for a count of the same value that was just written.
     let (mut first, mut second) = (empty_table(), empty_table());
     let (mut third, mut fourth) = (empty_table(), empty_table());
@@ -46,9 +47,10 @@ pub fn histogram(rows: &RowsRef<'_, u8>) -> [u64; 256] {
 #[track_caller]
 #[inline]
 pub fn histogram_of_depth(
-    rows: &RowsRef<'_, u16>,
+    rows: impl AsRowsRef<Pixel = u16>,
     bit_depth: u8,
 ) -> Result<Vec<u64>, AllocError> {
+    let rows = &rows.as_rows_ref();
     assert!(bit_depth <= 16, "bit_depth ({bit_depth}) is above 16");
     let entries = 1usize << bit_depth;
     let mut table = Vec::with_room_for(entries)?;
@@ -59,7 +61,8 @@ pub fn histogram_of_depth(
 
 /// Makes entry `v` of `counts` how many pixels have the value `v`. A pixel of a value that has no entry is not counted.
 #[inline]
-pub fn histogram_into(rows: &RowsRef<'_, u16>, counts: &mut [u64]) {
+pub fn histogram_into(rows: impl AsRowsRef<Pixel = u16>, counts: &mut [u64]) {
+    let rows = &rows.as_rows_ref();
     counts.fill(0);
     for y in 0..rows.height() {
         count_words(counts, rows.visible_row_proved(y));

@@ -6,6 +6,7 @@
 /// Writes a row from its right end.
 #[inline(never)]
 pub(super) fn write_reversed<T: Copy>(target: &mut [T], source: &[T]) {
+    assert!(source.len() == target.len());
     let width = target.len();
     for x in 0..width {
         target[x] = source[width - 1 - x];

@@ -1,5 +1,0 @@
-//! Frames: built, cloned and compared.
-
-mod builds;
-mod clones;
-mod equality;

@@ -1,0 +1,20 @@
+//! The arguments of the program.
+
+use super::HostRuntime;
+use std::io::{self, ErrorKind};
+
+/// Returns the arguments, the program's name first.
+///
+/// # Errors
+///
+/// [`ErrorKind::InvalidData`] where one of them is not UTF-8.
+pub fn args(_rt: &HostRuntime) -> io::Result<impl Iterator<Item = String> + use<>> {
+    let mut all = Vec::new();
+    for argument in std::env::args_os() {
+        match argument.into_string() {
+            Ok(text) => all.push(text),
+            Err(_) => return Err(io::Error::from(ErrorKind::InvalidData)),
+        }
+    }
+    Ok(all.into_iter())
+}

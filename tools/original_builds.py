@@ -1,0 +1,42 @@
+"""Builds programs of `original` by cargo: over the crate `v_frame` 0.7.0, and over rust/v_frame_proved, made from proved sources.
+
+The second build is the first with one line of its Cargo.toml changed: the line of the dependency. It is made in a folder below
+out/over_proved, with that Cargo.toml and a link to the same sources. Cargo takes the original from the registry, or, where
+V_FRAME_SOURCE names a folder with its source, from there and without the network.
+"""
+import os
+import re
+import subprocess
+from pathlib import Path
+
+TOP = Path(__file__).resolve().parent.parent
+PROVED = 'v_frame = {{ package = "v_frame_proved", path = "{path}", features = ["padding_api"] }}'
+
+
+def build(folder, target, words):
+    command = ["cargo", "build", "--release", "--quiet", "--target-dir", str(target), *words]
+    subprocess.run(command, cwd=folder, check=True)
+    return target / "release"
+
+
+def over_original(project):
+    """The folder of the programs of a project, built over the original crate."""
+    source = os.environ.get("V_FRAME_SOURCE")
+    words = ["--offline", "--config", f'patch.crates-io.v_frame.path="{Path(source).resolve()}"'] if source else []
+    return build(TOP / project, TOP / "out/original", words)
+
+
+def over_proved(project, features=()):
+    """The same, built over the crate that is made from proved sources."""
+    folder = TOP / "out/over_proved" / Path(project).name
+    folder.mkdir(parents=True, exist_ok=True)
+    line = PROVED.format(path=TOP / "rust/v_frame_proved")
+    text, changed = re.subn(r"^v_frame = .*$", line, (TOP / project / "Cargo.toml").read_text(), flags=re.MULTILINE)
+    if changed != 1:
+        raise SystemExit(f"{project}/Cargo.toml has {changed} lines of the dependency on v_frame")
+    (folder / "Cargo.toml").write_text(text)
+    sources = folder / "src"
+    if not sources.is_symlink():
+        sources.symlink_to(TOP / project / "src")
+    words = ["--offline"] + [f"--features={','.join(features)}"] * bool(features)
+    return build(folder, TOP / "out/over_proved/target", words)
