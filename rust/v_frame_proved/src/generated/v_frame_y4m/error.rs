@@ -13,9 +13,9 @@ use crate::generated::v_frame_planar::{PlanarError, WriteFault};
 /// use v_frame_proved::y4m::{HeaderError, Text, Y4mError, parse_header};
 ///
 /// assert_eq!(parse_header(b"RIFF"), Err(HeaderError::NotAStream));
-/// assert_eq!(parse_header(b"YUV4MPEG2 W4"), Err(HeaderError::Missing('H')));
+/// assert_eq!(parse_header(b"YUV4MPEG2 W40"), Err(HeaderError::Missing('H')));
 /// let unknown = HeaderError::UnknownColour(Text::new(b"C\xff")?);
-/// assert_eq!(parse_header(b"YUV4MPEG2 W4 H2 C\xff"), Err(unknown.clone()));
+/// assert_eq!(parse_header(b"YUV4MPEG2 W40 H27 C\xff"), Err(unknown.clone()));
 /// assert_eq!((Text::shown(b'C'), Text::shown(255)), ('C', '?'));
 /// assert_eq!(Y4mError::from(unknown.clone()), Y4mError::Header(unknown));
 /// # Ok::<(), v_frame_proved::AllocError>(())

@@ -82,22 +82,22 @@ impl Interlacing {
 /// use v_frame_proved::chroma::ChromaSubsampling;
 /// use v_frame_proved::y4m::{Colour, Interlacing, Ratio, StreamHeader, header_line, parse_header};
 ///
-/// let line = b"YUV4MPEG2 W5 H3 F30000:1001 Ip A1:1 C420jpeg XYSCSS=420JPEG";
+/// let line = b"YUV4MPEG2 W35 H27 F30000:1001 Ip A1:1 C420jpeg XYSCSS=420JPEG";
 /// let mut header = parse_header(line)?;
-/// assert_eq!((header.width, header.height, header.colour), (5, 3, Colour::Yuv420Jpeg));
+/// assert_eq!((header.width, header.height, header.colour), (35, 27, Colour::Yuv420Jpeg));
 /// assert_eq!(header.frame_rate, Some(Ratio { numerator: 30000, denominator: 1001 }));
 /// assert_eq!(header.interlacing, Some(Interlacing::Progressive));
 /// assert_eq!(header_line(&header)?, line);
 ///
-/// // A frame of the stream, and how many bytes it has in it: 15, and twice 6 for chroma.
-/// assert_eq!(header.frame_len(), Some(27));
+/// // A frame of the stream, and how many bytes it has in it: 945, and twice 18 times 14 for chroma.
+/// assert_eq!(header.frame_len(), Some(1449));
 /// assert_eq!(header.frame::<u8>(0)?.subsampling, ChromaSubsampling::Yuv420);
 ///
 /// header.set_colour(Colour::Mono);
-/// header.width = 4;
+/// header.width = 40;
 /// assert!(header.is_writable());
-/// assert_eq!(header_line(&header)?, b"YUV4MPEG2 W4 H3 F30000:1001 Ip A1:1 Cmono");
-/// assert_eq!(header_line(&StreamHeader::new(2, 1, Colour::Unstated))?, b"YUV4MPEG2 W2 H1");
+/// assert_eq!(header_line(&header)?, b"YUV4MPEG2 W40 H27 F30000:1001 Ip A1:1 Cmono");
+/// assert_eq!(header_line(&StreamHeader::new(640, 360, Colour::Unstated))?, b"YUV4MPEG2 W640 H360");
 /// # Ok::<(), Box<dyn std::error::Error>>(())
 /// ```
 #[derive(Debug, PartialEq, Eq, Clone)]

@@ -31,12 +31,12 @@ use crate::generated::v_frame_planar::Counted;
 /// use v_frame_proved::y4m;
 ///
 /// // Two spaces, a rate of one number and a carriage return.
-/// let line = b"YUV4MPEG2  W2 H1 F25 Cmono\r";
-/// assert_eq!(y4m::strict_line(line)?, b"YUV4MPEG2 W2 H1 F25:1 Cmono");
+/// let line = b"YUV4MPEG2  W26 H1 F25 Cmono\r";
+/// assert_eq!(y4m::strict_line(line)?, b"YUV4MPEG2 W26 H1 F25:1 Cmono");
 /// let (header, is_strict) = y4m::parse_lax_header(line)?;
 /// assert!(!is_strict);
 ///
-/// let mut reader = Counted::new(&b"YUV4MPEG2  W2 H1 F25 Cmono\r\nFRAME\r\nab"[..]);
+/// let mut reader = Counted::new(&b"YUV4MPEG2  W26 H1 F25 Cmono\r\nFRAME\r\nabcdefghijklmnopqrstuvwxyz"[..]);
 /// assert_eq!(y4m::read_lax_header(&mut reader)?, (header, false));
 /// assert!(y4m::read_lax_frame_line(&mut reader)?);
 /// assert!(y4m::is_lax_frame_line(b"FRAME\r"));

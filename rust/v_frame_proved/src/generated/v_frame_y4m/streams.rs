@@ -30,7 +30,7 @@ pub const MAX_LINE_BYTES: usize = 1024;
 /// use v_frame_proved::y4m;
 ///
 /// // A stream by single calls, as `Decoder` and `Encoder` make them.
-/// let mut reader = Counted::new(&b"YUV4MPEG2 W2 H1 Cmono\nFRAME\nabFRAME\ncd"[..]);
+/// let mut reader = Counted::new(&b"YUV4MPEG2 W26 H1 Cmono\nFRAME\nabcdefghijklmnopqrstuvwxyzFRAME\nABCDEFGHIJKLMNOPQRSTUVWXYZ"[..]);
 /// let header = y4m::read_header(&mut reader)?;
 /// let mut frame = header.frame::<u8>(0)?;
 /// let mut writer = Counted::new(Vec::new());
@@ -39,7 +39,7 @@ pub const MAX_LINE_BYTES: usize = 1024;
 /// while y4m::read_frame(&mut reader, &mut frame)? {
 ///     y4m::write_frame(&mut writer, &frame)?;
 /// }
-/// assert_eq!(writer.into_inner(), b"YUV4MPEG2 W2 H1 Cmono\nFRAME\nabFRAME\ncd");
+/// assert_eq!(writer.into_inner(), b"YUV4MPEG2 W26 H1 Cmono\nFRAME\nabcdefghijklmnopqrstuvwxyzFRAME\nABCDEFGHIJKLMNOPQRSTUVWXYZ");
 ///
 /// // The line in front of a frame alone.
 /// assert!(y4m::is_frame_line(b"FRAME Ip") && !y4m::is_frame_line(b"FRAMES"));

@@ -1,0 +1,74 @@
+//! Small pictures, and what else functions are given.
+
+use v_frame_proved::chroma::ChromaSubsampling::{self, Yuv420};
+use v_frame_proved::frame::{Frame, FrameBuilder};
+use v_frame_proved::plane::{Plane, PlaneGeometry, RowsRef};
+use v_frame_proved::rgb::{ColourRange, RgbMatrix, Standard, YuvMatrix};
+use v_frame_proved::sequence::Sequence;
+use v_frame_proved::y4m::{StreamHeader, parse_header};
+
+/// A size that a picture of something has not.
+pub const LONG: usize = 1 << 62;
+
+/// Returns a geometry without a border.
+pub fn geometry(width: usize, height: usize) -> PlaneGeometry {
+    PlaneGeometry::unpadded(width, height, 1, 1).expect("a geometry")
+}
+
+/// Returns a geometry that no buffer can have: of 2^64 pixels.
+pub fn too_large() -> PlaneGeometry {
+    geometry(1 << 32, 1 << 32)
+}
+
+pub fn plane(width: usize, height: usize) -> Plane<u8> {
+    Plane::new(geometry(width, height)).expect("memory")
+}
+
+/// Returns a plane of pixels of two bytes.
+pub fn words(width: usize, height: usize) -> Plane<u16> {
+    Plane::new(geometry(width, height)).expect("memory")
+}
+
+pub fn plane_without_values(width: usize, height: usize) -> Plane<Option<u8>> {
+    Plane::new_uninit(geometry(width, height)).expect("memory")
+}
+
+pub fn rows(width: usize, height: usize) -> RowsRef<'static, u8> {
+    RowsRef::new(&[0; 100], width, height, width).expect("rows")
+}
+
+/// Returns rows of pixels of two bytes.
+pub fn rows_of_words(width: usize, height: usize) -> RowsRef<'static, u16> {
+    RowsRef::new(&[0; 100], width, height, width).expect("rows")
+}
+
+/// Returns rows of pixels without bytes, as long or as many as `LONG`.
+pub fn rows_of_nothing(width: usize, height: usize) -> RowsRef<'static, ()> {
+    RowsRef::new(&[(); LONG], width, height, width).expect("rows")
+}
+
+pub fn frame(width: usize, height: usize, format: ChromaSubsampling) -> Frame<u8> {
+    FrameBuilder::new(width, height, format, 8).build().expect("a frame")
+}
+
+/// Returns a frame of 4 by 4 in `Yuv420`, a plane of which has another size than the format says.
+pub fn frame_of_small_chroma() -> Frame<u8> {
+    Frame { v_plane: Some(plane(2, 1)), ..frame(4, 4, Yuv420) }
+}
+
+pub fn to_rgb() -> RgbMatrix {
+    RgbMatrix::new(Standard::Bt709, ColourRange::Limited)
+}
+
+pub fn to_yuv() -> YuvMatrix {
+    YuvMatrix::new(Standard::Bt709, ColourRange::Limited)
+}
+
+pub fn header_of_no_columns() -> StreamHeader {
+    StreamHeader { width: 0, ..parse_header(b"YUV4MPEG2 W4 H3").expect("a header") }
+}
+
+pub fn header_with_a_space() -> StreamHeader {
+    let extension = Sequence::from(b"an extension".to_vec());
+    StreamHeader { extensions: vec![extension].into(), ..parse_header(b"YUV4MPEG2 W4 H3").expect("a header") }
+}

@@ -1,0 +1,100 @@
+//! The assertions of public functions, as the sources of the crate have them.
+
+use std::fs;
+use std::path::{Path, PathBuf};
+
+/// A public function that asserts.
+pub struct Asserting {
+    /// Its public path.
+    pub function: String,
+    /// The texts of its assertions, with names in braces.
+    pub messages: Vec<String>,
+}
+
+/// Returns the functions of all generated sources.
+pub fn asserting_functions() -> Vec<Asserting> {
+    let root = Path::new(env!("CARGO_MANIFEST_DIR")).join("src/generated");
+    let mut files = Vec::new();
+    collect_files(&root, &mut files);
+    files.iter().flat_map(|file| functions_of(&module_of(file.strip_prefix(&root).expect("below")), file)).collect()
+}
+
+fn collect_files(folder: &Path, files: &mut Vec<PathBuf>) {
+    for entry in fs::read_dir(folder).expect("a folder") {
+        let path = entry.expect("an entry").path();
+        if path.is_dir() {
+            collect_files(&path, files);
+        } else {
+            files.push(path);
+        }
+    }
+}
+
+/// Returns the public module of a file: `ops::rows` of `v_frame_ops/rows/change.rs`.
+fn module_of(file: &Path) -> String {
+    let parts: Vec<_> = file.iter().map(|part| part.to_str().expect("text")).collect();
+    let module = match (parts[0], parts[1]) {
+        ("v_frame_raster", "geometry.rs") => "plane",
+        ("v_frame_raster", _) => "pixel",
+        (name, _) => name.strip_prefix("v_frame_").unwrap_or(name),
+    };
+    if parts[1] == "rows" { format!("{module}::rows") } else { module.to_string() }
+}
+
+/// Returns the functions of a file whose panics are reported at the caller's line. They are public, and each asserts.
+fn functions_of(module: &str, file: &Path) -> Vec<Asserting> {
+    let text = fs::read_to_string(file).expect("a source");
+    let lines: Vec<&str> = text.lines().collect();
+    let mut found = Vec::new();
+    let mut of_type = String::new();
+    for (number, line) in lines.iter().enumerate() {
+        if line.starts_with("impl") {
+            of_type = format!("::{}", type_of(line));
+        } else if *line == "}" {
+            of_type.clear();
+        } else if line.trim() == "#[track_caller]" {
+            let (name, body) = function_from(&lines[number..]);
+            let messages: Vec<_> = body.split(" assert!(").skip(1).map(message_of).collect();
+            assert!(!messages.is_empty(), "{name} of {} asserts nothing", file.display());
+            found.push(Asserting { function: format!("{module}{of_type}::{name}"), messages });
+        }
+    }
+    found
+}
+
+/// Returns the type of the first line of an `impl`, without its parameters.
+fn type_of(line: &str) -> &str {
+    let line = line.trim_start_matches("impl").trim_end_matches('{').trim();
+    let own = line.rsplit_once("> ").map_or(line, |(_, own)| own);
+    own.split('<').next().unwrap_or(own)
+}
+
+/// Returns the name and the text of the function below an attribute.
+fn function_from(lines: &[&str]) -> (String, String) {
+    let head = lines.iter().position(|line| line.trim_start().starts_with("pub fn ")).expect("a public function");
+    let margin = lines[head].len() - lines[head].trim_start().len();
+    let end = format!("{}}}", " ".repeat(margin));
+    let length = lines[head..].iter().position(|line| *line == end).expect("an end");
+    let name = lines[head].trim_start().trim_start_matches("pub fn ").split(['<', '(']).next().expect("a name");
+    (name.to_string(), lines[head..head + length].join("\n"))
+}
+
+/// Returns the text of an assertion.
+fn message_of(assertion: &str) -> String {
+    assertion.split('"').nth(1).expect("each assertion has a text").to_string()
+}
+
+/// Returns whether a message is made from such a text: what stands between the braces may be anything.
+pub fn is_made_from(message: &str, text: &str) -> bool {
+    let mut pieces = text.split('{').map(|piece| piece.split_once('}').map_or(piece, |(_, behind)| behind));
+    let Some(mut rest) = pieces.next().and_then(|first| message.strip_prefix(first)) else {
+        return false;
+    };
+    pieces.all(|piece| match rest.split_once(piece) {
+        Some((_, behind)) => {
+            rest = behind;
+            true
+        }
+        None => piece.is_empty(),
+    })
+}
