@@ -1,7 +1,8 @@
-//! Cases of the original crate and what it answers to them, kept for the program that `rt` builds: answered by this crate.
+//! Cases of the original crate and what it answers to them, kept for the program that `rt` builds: answered here by the
+//! crate that cargo builds.
 //!
-//! What reads a line, and what makes a call and prints its answer, are modules of a program over `v_frame` 0.7.0, unchanged.
-//! What stands here puts them together as that program does, for one more format: the one that 0.7.0 lacks.
+//! What reads a line, and what makes a call and prints its answer, are modules of a program over `v_frame` 0.7.0,
+//! unchanged. What stands here puts them together as that program does, for one more format: the one that 0.7.0 lacks.
 
 extern crate v_frame_proved as v_frame;
 

@@ -41,7 +41,7 @@ fn module_of(file: &Path) -> String {
     if parts[1] == "rows" { format!("{module}::rows") } else { module.to_string() }
 }
 
-/// Returns the functions of a file whose panics are reported at the caller's line. They are public, and each asserts.
+/// Returns the public functions of a file that assert. Their panics are reported at the caller's line.
 fn functions_of(module: &str, file: &Path) -> Vec<Asserting> {
     let text = fs::read_to_string(file).expect("a source");
     let lines: Vec<&str> = text.lines().collect();
@@ -52,11 +52,15 @@ fn functions_of(module: &str, file: &Path) -> Vec<Asserting> {
             of_type = format!("::{}", type_of(line));
         } else if *line == "}" {
             of_type.clear();
-        } else if line.trim() == "#[track_caller]" {
-            let (name, body) = function_from(&lines[number..]);
-            let messages: Vec<_> = body.split(" assert!(").skip(1).map(message_of).collect();
-            assert!(!messages.is_empty(), "{name} of {} asserts nothing", file.display());
-            found.push(Asserting { function: format!("{module}{of_type}::{name}"), messages });
+        } else if let Some(function) = line.trim_start().strip_prefix("pub fn ") {
+            let name = function.split(['<', '(']).next().expect("a name");
+            let messages = messages_of(&lines[number..]);
+            let mut attributes = lines[..number].iter().rev().map_while(|line| line.trim_start().strip_prefix("#["));
+            let is_reported_there = attributes.any(|attribute| attribute == "track_caller]");
+            assert_eq!(is_reported_there, !messages.is_empty(), "{name} of {}", file.display());
+            if is_reported_there {
+                found.push(Asserting { function: format!("{module}{of_type}::{name}"), messages });
+            }
         }
     }
     found
@@ -69,14 +73,12 @@ fn type_of(line: &str) -> &str {
     own.split('<').next().unwrap_or(own)
 }
 
-/// Returns the name and the text of the function below an attribute.
-fn function_from(lines: &[&str]) -> (String, String) {
-    let head = lines.iter().position(|line| line.trim_start().starts_with("pub fn ")).expect("a public function");
-    let margin = lines[head].len() - lines[head].trim_start().len();
+/// Returns the texts of the assertions of the function that begins here.
+fn messages_of(lines: &[&str]) -> Vec<String> {
+    let margin = lines[0].len() - lines[0].trim_start().len();
     let end = format!("{}}}", " ".repeat(margin));
-    let length = lines[head..].iter().position(|line| *line == end).expect("an end");
-    let name = lines[head].trim_start().trim_start_matches("pub fn ").split(['<', '(']).next().expect("a name");
-    (name.to_string(), lines[head..head + length].join("\n"))
+    let length = lines.iter().position(|line| *line == end).expect("an end");
+    lines[..length].join("\n").split(" assert!(").skip(1).map(message_of).collect()
 }
 
 /// Returns the text of an assertion.
