@@ -116,4 +116,12 @@ fn rows_and_pixels_are_filled_from_both_ends(rt: HostRuntime) {
     drop(pixels);
     same(rt, [first, last, second, third], [Some(0); 4]);
     must_have(rt, &plane, &[10, 20, 30, 40]);
+    let mut row = blank_plane::<u8>(rt, (2, 1, [0, 0, 0, 0]));
+    let mut pixels = row.pixels_mut();
+    let begun = replace(pixels.next(), 10);
+    let finished = replace(pixels.next_back(), 20);
+    let past = replace(pixels.next(), 30);
+    drop(pixels);
+    same(rt, [begun, finished, past], [Some(0), Some(0), None]);
+    must_have(rt, &row, &[10, 20]);
 }
