@@ -478,6 +478,8 @@ static inline const char *v_frame_status_text(uint32_t status) {
         return "the third rows do not fit their buffer";
     case V_FRAME_FOURTH_ROWS:
         return "the fourth rows do not fit their buffer";
+    case V_FRAME_WINDOWS:
+        return "a side is below 8, and SSIM has no window";
     default:
         return "unknown status";
     }
