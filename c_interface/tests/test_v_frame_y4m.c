@@ -73,6 +73,11 @@ static void refuse_each(void) {
         CHECK(status == V_FRAME_Y4M_OK || (status == V_FRAME_Y4M_OUT_OF_MEMORY && needed == 9 && buffer[0] == 9));
     }
     CHECK(refused > 1);
+    size_t bytes = 9;
+    granted = 0;
+    status = v_frame_y4m_frame_bytes(&header, &bytes);
+    granted = SIZE_MAX;
+    CHECK(status == V_FRAME_Y4M_OK && bytes == (size_t)1920 * 1080 * 4);
     printf("%zu requests for memory refused in turn\n", of_parsing + refused - 1);
 }
 #else
