@@ -1,6 +1,7 @@
 """Each call beside plain loops, each error, and views of arrays: test_v_frame.py [--without-numpy]"""
 
-import doctest
+import set_up
+
 import io
 import math
 import os
@@ -9,17 +10,10 @@ import sys
 import tempfile
 import unittest
 
-if "--without-numpy" in sys.argv:
-    sys.argv.remove("--without-numpy")
-    sys.modules["numpy"] = None
-
 import v_frame
 from v_frame import Plane, RowsError, SizesError, y4m
 
-try:
-    import numpy
-except ImportError:
-    numpy = None
+numpy = set_up.numpy
 
 
 def random_plane(source, width, height, size):
@@ -316,10 +310,6 @@ class Planes(unittest.TestCase):
         self.assertRaises(ValueError, v_frame.fill, Plane(bytearray(16), 4, 2), 256)
         self.assertRaises(TypeError, v_frame.sse, [1], [1])
 
-    def test_the_documentation(self):
-        self.assertEqual(doctest.testmod(v_frame).failed, 0)
-        self.assertEqual(doctest.testmod(y4m).failed, 0)
-
 
 class Streams(unittest.TestCase):
     LINE = b"YUV4MPEG2 W3 H3 F30000:1001 Ip A1:1 C420p10"
@@ -438,6 +428,4 @@ class Arrays(unittest.TestCase):
 
 
 if __name__ == "__main__":
-    result = unittest.main(exit=False, verbosity=0).result
-    print(f"{result.testsRun} tests, {len(result.skipped)} skipped")
-    sys.exit(not result.wasSuccessful())
+    set_up.main()

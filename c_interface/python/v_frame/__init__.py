@@ -10,16 +10,20 @@ has checked: what it answers, what it writes, and that all else of a buffer stay
 (5, 3, (2, 0))
 """
 
-from ._calls import Part, copy, fill, first_difference, half, lay_out, pad, psnr, sad, sse
+from ._calls import Part, copy, fill, first_difference, half, lay_out, mse, pad, psnr, sad, sse
 from ._conversions import (COMPONENTS, blend, blend_with_mask, count_between, difference, downscale_to_edge, halve_columns,
                            histogram, resize_area, resize_nearest, to_full_range, to_limited_range, yuv)
-from ._library import VERSION, SizesError, RowsError
+from ._errors import AccessError, Error, KindError, NumberError, RowsError, SizesError, StatusError, Y4mError
+from ._frames import FORMATS, Frame
+from ._library import VERSION
 from ._pictures import (ORDERS, RANGES, STANDARDS, TURNS, PairStatistics, Statistics, convert_depth, deinterleave, interleave,
                         pair_statistics, rgb, statistics, turn, upscale)
 from ._planes import Plane
 
-__all__ = ["COMPONENTS", "ORDERS", "PairStatistics", "Part", "Plane", "RANGES", "RowsError", "STANDARDS", "SizesError",
-           "Statistics", "TURNS", "VERSION", "blend", "blend_with_mask", "convert_depth", "copy", "count_between",
-           "deinterleave", "difference", "downscale_to_edge", "fill", "first_difference", "half", "halve_columns", "histogram",
-           "interleave", "lay_out", "pad", "pair_statistics", "psnr", "resize_area", "resize_nearest", "rgb", "sad", "sse",
-           "statistics", "to_full_range", "to_limited_range", "turn", "upscale", "yuv"]
+__version__ = VERSION
+__all__ = ["AccessError", "COMPONENTS", "Error", "FORMATS", "Frame", "KindError", "NumberError", "ORDERS", "PairStatistics", "Part",
+           "Plane", "RANGES", "RowsError", "STANDARDS", "SizesError", "Statistics", "StatusError", "TURNS", "VERSION", "Y4mError",
+           "blend", "blend_with_mask", "convert_depth", "copy", "count_between", "deinterleave", "difference", "downscale_to_edge",
+           "fill", "first_difference", "half", "halve_columns", "histogram", "interleave", "lay_out", "mse", "pad",
+           "pair_statistics", "psnr", "resize_area", "resize_nearest", "rgb", "sad", "sse", "statistics", "to_full_range",
+           "to_limited_range", "turn", "upscale", "yuv"]

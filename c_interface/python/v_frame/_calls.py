@@ -5,13 +5,32 @@ import math
 from typing import NamedTuple
 
 from . import _library as library
-from ._planes import LIMIT, Held, Plane, numpy
+from ._errors import KindError, NumberError, SizesError, chosen, sizes, within
+from ._frames import FORMATS, Frame
+from ._planes import Held, Plane, numpy
 
 
 def _same_size(a, b):
     if a.size != b.size:
-        raise TypeError("the planes have samples of different sizes")
+        raise KindError("the planes have samples of different sizes")
     return a.size
+
+
+def _new(like, width, height, size):
+    """A plane of the kind of another one: an array, or a Plane over bytes of its own."""
+    try:
+        if isinstance(like, Plane):
+            return Plane(bytearray(width * height * size), width, height, sample_size=size)
+        return numpy.empty((height, width), dtype="uint8" if size == 1 else "uint16")
+    except (MemoryError, OverflowError, ValueError) as error:
+        raise SizesError(f"there is no memory for a plane of {width} by {height}") from error
+
+
+def depth_of(depth, size):
+    """A bit depth that samples of this size have: 8 for one byte where none is given, 8 to 16 for two."""
+    if depth is None and size == 2:
+        raise KindError("the depth of samples of two bytes has to be given")
+    return 8 if depth is None else within(depth, "a bit depth", 8, 8 * size)
 
 
 def _compared(exports, a, b, out):
@@ -48,21 +67,52 @@ def first_difference(a, b) -> tuple[int, int] | None:
     return (out.x, out.y) if out.found else None
 
 
-def psnr(a, b, depth: int | None = None) -> float:
-    """The peak signal-to-noise ratio in decibels: infinite where the planes are equal.
+def _errors_of(a, b):
+    """The sum of the squared errors of two planes, or of all planes of two frames, and how many samples they have."""
+    if not isinstance(a, Frame) and not isinstance(b, Frame):
+        out = library.Sum()
+        held = _compared(library.SQUARED_ERRORS, a, b, out)
+        return out.high << 64 | out.low, held.rows.width * held.rows.height
+    if not isinstance(a, Frame) or not isinstance(b, Frame):
+        raise KindError("a plane is not compared with a frame")
+    if (a.format, a.depth) != (b.format, b.depth):
+        raise SizesError("the frames have different formats or bit depths")
+    return tuple(map(sum, zip(*map(_errors_of, a, b))))
 
-    The depth in bits is 8 for samples of one byte, and has to be given for others. The sum under it is exact and proved; the
-    division and the logarithm are those of floating point.
+
+def _depth_of_either(a, depth):
+    """The depth that is given for planes, or that of a frame."""
+    if not isinstance(a, Frame):
+        with Held(a) as held:
+            return depth_of(depth, held.size)
+    if depth is not None and depth != a.depth:
+        raise NumberError("the frames have another bit depth")
+    return a.depth
+
+
+def mse(a, b) -> float:
+    """The mean of the squares of the differences of two planes of one size; of two frames, of all samples of all planes, as ffmpeg
+    weighs them. The sum under it is exact and proved, the division is that of floating point.
+
+    >>> mse(Plane(bytes([1, 2]), 2, 1), Plane(bytes([1, 5]), 2, 1))
+    4.5
     """
-    out = library.Sum()
-    held = _compared(library.SQUARED_ERRORS, a, b, out)
-    if depth is None:
-        if held.size == 2:
-            raise TypeError("the depth of samples of two bytes has to be given")
-        depth = 8
-    total = out.high << 64 | out.low
-    peak = (1 << depth) - 1
-    return 10 * math.log10(peak * peak * held.rows.width * held.rows.height / total) if total else math.inf
+    total, count = _errors_of(a, b)
+    return total / count
+
+
+def psnr(a, b, depth: int | None = None) -> float:
+    """The peak signal-to-noise ratio in decibels: infinite where the planes, or all planes of two frames, are equal.
+
+    The depth in bits is 8 for samples of one byte, and has to be given for others, 8 to 16; frames have theirs. The sum under it
+    is exact and proved; the division and the logarithm are those of floating point.
+
+    >>> round(psnr(Plane(bytes([1, 2]), 2, 1), Plane(bytes([1, 5]), 2, 1)), 4)
+    41.5987
+    """
+    peak = (1 << _depth_of_either(a, depth)) - 1
+    total, count = _errors_of(a, b)
+    return 10 * math.log10(peak * peak * count / total) if total else math.inf
 
 
 def copy(source, target) -> None:
@@ -73,8 +123,7 @@ def copy(source, target) -> None:
 def fill(target, sample: int) -> None:
     """Sets each sample of a plane to one."""
     with Held(target, writes=True) as written:
-        if not 0 <= sample < 256 ** written.size:
-            raise ValueError("the sample is out of range")
+        sample = within(sample, "a sample", 0, 256 ** written.size - 1)
         library.answered(library.FILL[written.size](*written.told(), sample))
 
 
@@ -85,37 +134,28 @@ def half(source):
         (width, odd_column), (height, odd_row) = divmod(read.rows.width, 2), divmod(read.rows.height, 2)
         size = read.size
     if odd_column or odd_row:
-        raise library.SizesError("the sizes do not belong together: half of an odd size")
-    if isinstance(source, Plane):
-        target = Plane(bytearray(width * height * size), width, height, sample_size=size)
-    else:
-        target = numpy.empty((height, width), dtype=source.dtype)
+        raise SizesError("the sizes do not belong together: half of an odd size")
+    target = _new(source, width, height, size)
     _changed(library.DOWNSCALE, target, source)
     return target
 
 
 def pad(plane, left: int, right: int, top: int, bottom: int):
     """A new plane with a border of so many samples on each side, each the sample of the plane nearest to it."""
-    if not all(0 <= padding < LIMIT for padding in (left, right, top, bottom)):
-        raise library.SizesError("a padding is negative, or has more than 64 bits")
+    left, right, top, bottom = sizes((left, right, top, bottom), SizesError)
     with Held(plane) as read:
         width, height, size = read.rows.width, read.rows.height, read.size
     across, down = left + width + right, top + height + bottom
+    target = _new(plane, across, down, size)
     if isinstance(plane, Plane):
-        target = Plane(bytearray(across * down * size), across, down, sample_size=size)
         inside = Plane(memoryview(target.buffer)[(across * top + left) * size:], width, height, across, size)
     else:
-        target = numpy.empty((down, across), dtype=plane.dtype)
         inside = target[top:top + height, left:left + width]
     copy(plane, inside)
     layout = library.Bordered(width, height, left, right, top, bottom)
     with Held(target, writes=True) as written:
         library.answered(library.PAD[size](ctypes.byref(layout), written.address, written.length))
     return target
-
-
-#: The names of chroma formats, in the order of their numbers.
-FORMATS = ("mono", "420", "422", "444", "411")
 
 
 class Part(NamedTuple):
@@ -136,13 +176,9 @@ def lay_out(width: int, height: int, format: str = "420", padding: int = 0) -> l
     Chroma has as many columns and rows as cover luma, and the padding divided by the ratio and rounded up; the padding of luma
     is that times the ratio.
     """
-    if format not in FORMATS:
-        raise ValueError("there is no such format")
-    if not all(0 <= size < LIMIT for size in (width, height, padding)):
-        raise library.RowsError("a size is negative, or has more than 64 bits")
-    found = library.Parts()
-    library.answered(library.LAY_OUT(ctypes.byref(library.Request(width, height, padding, FORMATS.index(format))),
-                                     ctypes.byref(found)))
+    number, found = chosen(format, FORMATS, "a format"), library.Parts()
+    request = library.Request(*sizes((width, height, padding)), number)
+    library.answered(library.LAY_OUT(ctypes.byref(request), ctypes.byref(found)))
     parts = []
     for part in found.planes:
         layout, stride = part.layout, part.layout.pad_left + part.layout.width + part.layout.pad_right

@@ -3,9 +3,10 @@
 import ctypes
 
 from . import _library as library
-from ._calls import _changed
-from ._pictures import _choice, _made, _new, _shape
-from ._planes import LIMIT, Held, Plane, numpy
+from ._calls import _changed, _new, depth_of
+from ._errors import KindError, SizesError, chosen, sizes, whole, within
+from ._pictures import _choice, _made, _shape
+from ._planes import Held, Plane, numpy
 
 #: What a plane holds, in the order of the numbers.
 COMPONENTS = ("luma", "chroma")
@@ -26,8 +27,7 @@ def halve_columns(source):
 
 
 def _resized(exports, source, width, height):
-    if not (0 < width < LIMIT and 0 < height < LIMIT):
-        raise library.SizesError("a size is not positive, or has more than 64 bits")
+    width, height = sizes((width, height), SizesError, 1)
     size = _shape(source)[2]
     return _made(exports[size], _new(source, width, height, size), source)
 
@@ -44,21 +44,11 @@ def resize_nearest(source, width: int, height: int):
     return _resized(library.RESIZE_NEAREST, source, width, height)
 
 
-def _of_depth(depth, size):
-    """The bit depth, which is 8 for samples of one byte where none is given."""
-    if depth is None and size == 2:
-        raise TypeError("the depth of samples of two bytes has to be given")
-    if depth is not None and not 0 <= depth < 256:
-        raise ValueError("a bit depth is below 8, or above what the samples hold")
-    return 8 if depth is None else depth
-
-
 def _ranged(exports, source, component, depth):
-    if component not in COMPONENTS:
-        raise ValueError(f"{component!r} is none of {', '.join(COMPONENTS)}")
+    number = chosen(component, COMPONENTS, "a component")
     width, height, size = _shape(source)
-    depth = _of_depth(depth, size)
-    return _made(exports[size], _new(source, width, height, size), source, COMPONENTS.index(component), depth)
+    depth = depth_of(depth, size)
+    return _made(exports[size], _new(source, width, height, size), source, number, depth)
 
 
 def to_full_range(source, component: str = "luma", depth: int | None = None):
@@ -78,13 +68,13 @@ def yuv(colours, standard: str = "bt709", range: str = "limited", order: str = "
     choice = _choice(standard, range, order)
     if not isinstance(colours, Plane) and getattr(colours, "ndim", 0) == 3:
         if colours.shape[2] != len(order):
-            raise library.SizesError(f"colours in the order {order} have {len(order)} bytes each")
-        colours = numpy.ascontiguousarray(colours).reshape(colours.shape[0], -1)
+            raise SizesError(f"colours in the order {order} have {len(order)} bytes each")
+        colours = numpy.ascontiguousarray(colours).reshape(colours.shape[0], colours.shape[1] * colours.shape[2])
     width, height, size = _shape(colours)
     if size != 1:
-        raise TypeError("colours are made of samples of one byte")
+        raise KindError("colours are made of samples of one byte")
     if width % len(order):
-        raise library.SizesError(f"colours in the order {order} have {len(order)} bytes each")
+        raise SizesError(f"colours in the order {order} have {len(order)} bytes each")
     y, u, v = (_new(colours, width // len(order), height, 1) for _ in "yuv")
     with Held(colours) as read, Held(y, True) as luma, Held(u, True) as first, Held(v, True) as second:
         library.answered(library.TO_YUV(*read.told(), *luma.told(), *first.told(), *second.told(), ctypes.byref(choice)))
@@ -94,9 +84,7 @@ def yuv(colours, standard: str = "bt709", range: str = "limited", order: str = "
 def blend(source, target, weight: int) -> None:
     """Blends a plane over another one of its size, which may overlap it: a sample p of the target becomes
     (p * (256 - weight) + q * weight + 128) // 256, where q is that of the source. The weight is at most 256."""
-    if not 0 <= weight <= 256:
-        raise ValueError("a weight is from 0 to 256")
-    _changed(library.BLEND, target, source, weight)
+    _changed(library.BLEND, target, source, within(weight, "a weight", 0, 256))
 
 
 def blend_with_mask(source, mask, target) -> None:
@@ -104,7 +92,7 @@ def blend_with_mask(source, mask, target) -> None:
     (p * (255 - weight) + q * weight + 127) // 255."""
     with Held(target, writes=True) as written, Held(source) as over, Held(mask) as weights:
         if over.size != written.size or weights.size != 1:
-            raise TypeError("the planes have samples of different sizes, or the mask has none of one byte")
+            raise KindError("the planes have samples of different sizes, or the mask has none of one byte")
         library.answered(library.BLEND_WITH_MASK[written.size](*written.told(), *over.told_beside(written),
                                                                *weights.told_beside(written)))
 
@@ -112,16 +100,15 @@ def blend_with_mask(source, mask, target) -> None:
 def difference(source, target, gain: int = 1, depth: int | None = None) -> None:
     """Makes each sample of the target how far it lies from that of the source, which may overlap it, times the gain, and at most
     the largest of the bit depth."""
-    if not 0 <= gain < 1 << 16:
-        raise ValueError("a gain has at most 16 bits")
-    _changed(library.DIFFERENCE, target, source, gain, _of_depth(depth, _shape(target)[2]))
+    gain = within(gain, "a gain", 0, (1 << 16) - 1)
+    _changed(library.DIFFERENCE, target, source, gain, depth_of(depth, _shape(target)[2]))
 
 
 def count_between(plane, least: int, greatest: int) -> int:
     """How many samples have a value from the least to the greatest."""
     out = ctypes.c_uint64()
     with Held(plane) as read:
-        least, greatest = max(least, 0), min(greatest, 256 ** read.size - 1)
+        least, greatest = max(whole(least, "a value"), 0), min(whole(greatest, "a value"), 256 ** read.size - 1)
         if least > greatest:
             return 0
         library.answered(library.COUNT_BETWEEN[read.size](*read.told(), least, greatest, ctypes.byref(out)))
@@ -132,9 +119,7 @@ def histogram(plane, depth: int | None = None):
     """How often each value of a bit depth occurs, which is that of the samples where none is given: a list, or an array where the
     plane is one, whose entry v counts the samples of the value v. A sample of a greater value is in no entry."""
     with Held(plane) as read:
-        depth = 8 * read.size if depth is None else depth
-        if not 0 <= depth <= 8 * read.size:
-            raise ValueError("a bit depth is negative, or above what the samples hold")
+        depth = 8 * read.size if depth is None else within(depth, "a bit depth", 0, 8 * read.size)
         # Samples of one byte want an entry for each of their values.
         counts = (ctypes.c_uint64 * (1 << max(depth, 8)))()
         library.answered(library.HISTOGRAM[read.size](*read.told(), counts, len(counts)))
