@@ -5,6 +5,7 @@
  */
 #include "v_frame.h"
 
+#include <stddef.h>
 #include <stdio.h>
 #include <stdlib.h>
 #include <string.h>
@@ -42,6 +43,7 @@ static uint64_t distance(uint32_t p, uint32_t q) {
 #include "samples.inc"
 #include "pictures.inc"
 #include "conversions.inc"
+#include "choices.inc"
 #undef SAMPLE
 #undef NAME
 #undef TEST
@@ -53,6 +55,9 @@ static uint64_t distance(uint32_t p, uint32_t q) {
 #include "samples.inc"
 #include "pictures.inc"
 #include "conversions.inc"
+#include "choices.inc"
+
+#include "boundary.inc"
 
 /* A value of `from` bits in `to` bits, by the words of the header. */
 static uint32_t at_depth(uint32_t value, uint32_t from, uint32_t to) {
@@ -336,6 +341,8 @@ static void helpers(void) {
 }
 
 int main(void) {
+    layouts();
+    choices();
     all_u8();
     all_u16();
     pictures_u8();

@@ -5,6 +5,7 @@
  */
 #include "v_frame_y4m.h"
 
+#include <stddef.h>
 #include <stdio.h>
 #include <stdlib.h>
 #include <string.h>
@@ -233,6 +234,36 @@ static void refuse_numbers(void) {
     REFUSED(bit_depth, 10, V_FRAME_Y4M_UNKNOWN_COLOUR);
     REFUSED(bit_depth, 264, V_FRAME_Y4M_UNKNOWN_COLOUR);
     REFUSED(bit_depth, 0, V_FRAME_Y4M_UNKNOWN_COLOUR);
+    /* What a smaller type would take for a choice. */
+    static const uint32_t more[2] = {256, 65536};
+    for (uint32_t number = 0, i = 0; i < 2; number = (number + 1) % 6, i += number == 0) {
+        REFUSED(format, number % 5 + more[i], V_FRAME_Y4M_NO_SUCH_NUMBER);
+        REFUSED(siting, number % 4 + more[i], V_FRAME_Y4M_NO_SUCH_NUMBER);
+        REFUSED(interlacing, number + more[i], V_FRAME_Y4M_NO_SUCH_NUMBER);
+        REFUSED(frame_rate.stated, 1 + more[i], V_FRAME_Y4M_NO_SUCH_NUMBER);
+        REFUSED(pixel_aspect.stated, number % 2 + more[i], V_FRAME_Y4M_NO_SUCH_NUMBER);
+        REFUSED(bit_depth, 8 + more[i], V_FRAME_Y4M_UNKNOWN_COLOUR);
+    }
+}
+
+/* The fields of a struct lie one after the other, each at a multiple of its size, and the whole has a multiple of the largest. */
+static void layouts(void) {
+    const size_t n = sizeof(size_t), numbers = 2 * n + 2 * sizeof(v_frame_y4m_ratio);
+#define FIELD(type, field, offset) CHECK(offsetof(type, field) == (offset))
+    CHECK(sizeof(v_frame_y4m_ratio) == 24);
+    FIELD(v_frame_y4m_ratio, numerator, 0);
+    FIELD(v_frame_y4m_ratio, denominator, 8);
+    FIELD(v_frame_y4m_ratio, stated, 16);
+    CHECK(sizeof(v_frame_y4m_header) == numbers + 16);
+    FIELD(v_frame_y4m_header, width, 0);
+    FIELD(v_frame_y4m_header, height, n);
+    FIELD(v_frame_y4m_header, frame_rate, 2 * n);
+    FIELD(v_frame_y4m_header, pixel_aspect, 2 * n + 24);
+    FIELD(v_frame_y4m_header, format, numbers);
+    FIELD(v_frame_y4m_header, bit_depth, numbers + 4);
+    FIELD(v_frame_y4m_header, siting, numbers + 8);
+    FIELD(v_frame_y4m_header, interlacing, numbers + 12);
+#undef FIELD
 }
 
 static void count_bytes(void) {
@@ -265,6 +296,7 @@ static void count_bytes(void) {
 int main(void) {
     v_frame_y4m_header header, untouched;
     uint32_t letter;
+    layouts();
     refuse_each();
     find_lines();
     write_and_parse_back();
