@@ -266,6 +266,35 @@ static void layouts(void) {
 #undef FIELD
 }
 
+static int has_line(const v_frame_y4m_header *header, const char *wanted) {
+    uint8_t line[256];
+    size_t needed;
+    return write_into(header, sizeof line, line, &needed) == V_FRAME_Y4M_OK && needed == strlen(wanted) && memcmp(line, wanted, needed) == 0;
+}
+
+/* A header that was parsed becomes one of another format, and back. */
+static void change_formats(void) {
+    v_frame_y4m_header header;
+    uint8_t line[256];
+    size_t needed;
+    uint32_t letter;
+    CHECK(parse("YUV4MPEG2 W4 H2 F25:1 C420mpeg2", &header, &letter) == V_FRAME_Y4M_OK);
+    header.bit_depth = 10;
+    CHECK(write_into(&header, sizeof line, line, &needed) == V_FRAME_Y4M_UNKNOWN_COLOUR);
+    v_frame_y4m_set_format(&header, V_FRAME_Y4M_420, 8);
+    CHECK(has_line(&header, "YUV4MPEG2 W4 H2 F25:1 C420mpeg2\n"));
+    v_frame_y4m_set_format(&header, V_FRAME_Y4M_420, 10);
+    CHECK(has_line(&header, "YUV4MPEG2 W4 H2 F25:1 C420p10\n"));
+    v_frame_y4m_set_format(&header, V_FRAME_Y4M_420, 8);
+    CHECK(has_line(&header, "YUV4MPEG2 W4 H2 F25:1 C420jpeg\n"));
+    v_frame_y4m_set_format(&header, V_FRAME_Y4M_422, 8);
+    CHECK(has_line(&header, "YUV4MPEG2 W4 H2 F25:1 C422\n"));
+    v_frame_y4m_set_format(&header, V_FRAME_Y4M_MONOCHROME, 16);
+    CHECK(has_line(&header, "YUV4MPEG2 W4 H2 F25:1 Cmono16\n"));
+    v_frame_y4m_set_format(&header, V_FRAME_Y4M_411, 10);
+    CHECK(write_into(&header, sizeof line, line, &needed) == V_FRAME_Y4M_UNKNOWN_COLOUR);
+}
+
 static void count_bytes(void) {
     static const struct {
         uint32_t format;
@@ -301,6 +330,7 @@ int main(void) {
     find_lines();
     write_and_parse_back();
     refuse_numbers();
+    change_formats();
     count_bytes();
     CHECK(parse("YUV4MPEG2 W1920 H1080 F30000:1001 It A1:1 C422p10 XCOLORRANGE=LIMITED", &header, &letter) == V_FRAME_Y4M_OK);
     CHECK(header.width == 1920 && header.height == 1080 && header.format == V_FRAME_Y4M_422 && header.bit_depth == 10);

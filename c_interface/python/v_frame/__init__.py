@@ -1,8 +1,15 @@
 """Proved calls on video planes, over numpy arrays or any buffer.
 
-A plane is a two-dimensional numpy array of uint8 or uint16, rows from the top; views whose rows lie apart go in without a copy.
-Without numpy, :class:`Plane` makes one of any buffer. Behind each call is an export of ``libv_frame``, whose contract the prover
-has checked: what it answers, what it writes, and that all else of a buffer stays. Sums are exact integers.
+A plane is a two-dimensional numpy array of uint8 or uint16 in the order of the machine, of the shape (height, width), rows from the
+top; views whose rows lie apart go in without a copy. Without numpy, `Plane` makes one of any buffer. Behind each call is an export
+of `libv_frame`, whose contract the prover has checked: what it answers, what it writes, and that all else of a buffer stays. Sums
+are exact integers. This module is tested.
+
+What a call makes is new: an array where the first source is one, of the same type, and else a `Plane` over a bytearray whose stride
+is its width. `copy`, `fill`, `blend`, `blend_with_mask` and `difference` write their target in place; what lies between its rows
+stays, and it may overlap the other planes.
+
+Each error is an `Error`, and one of Python's own too. A call on planes that raises one has written nothing.
 
 >>> a = Plane(bytes([1, 2, 3, 0, 4, 5, 6]), 3, 2, stride=4)
 >>> b = Plane(bytes([1, 2, 4, 4, 5, 8]), 3, 2)

@@ -47,21 +47,33 @@ def _changed(exports, target, source, *more):
 
 
 def sse(a, b) -> int:
-    """The sum of the squares of the differences of two planes of one size, exactly."""
+    """The sum of the squares of the differences of two planes of one size, exactly.
+
+    >>> sse(Plane(bytes([1, 2]), 2, 1), Plane(bytes([1, 5]), 2, 1))
+    9
+    """
     out = library.Sum()
     _compared(library.SQUARED_ERRORS, a, b, out)
     return out.high << 64 | out.low
 
 
 def sad(a, b) -> int:
-    """The sum of the absolute differences of two planes of one size, exactly."""
+    """The sum of the absolute differences of two planes of one size, exactly.
+
+    >>> sad(Plane(bytes([1, 2]), 2, 1), Plane(bytes([1, 5]), 2, 1))
+    3
+    """
     out = library.Sum()
     _compared(library.ABSOLUTE_DIFFERENCES, a, b, out)
     return out.high << 64 | out.low
 
 
 def first_difference(a, b) -> tuple[int, int] | None:
-    """The column and the row of the first sample, row after row from the top, that differs; None where the planes are equal."""
+    """The column and the row of the first sample, row after row from the top, that differs; None where the planes are equal.
+
+    >>> first_difference(Plane(bytes([1, 2, 3, 4]), 2, 2), Plane(bytes([1, 2, 9, 4]), 2, 2))
+    (0, 1)
+    """
     out = library.Place()
     _compared(library.FIRST_DIFFERENCE, a, b, out)
     return (out.x, out.y) if out.found else None
@@ -116,12 +128,24 @@ def psnr(a, b, depth: int | None = None) -> float:
 
 
 def copy(source, target) -> None:
-    """Copies a plane into another one of its size, which may overlap it. What lies between the rows of the target stays."""
+    """Copies a plane into another one of its size.
+
+    >>> target = Plane(bytearray(5), 2, 2, stride=3)
+    >>> copy(Plane(bytes([1, 2, 3, 4]), 2, 2), target)
+    >>> list(target.buffer)
+    [1, 2, 0, 3, 4]
+    """
     _changed(library.COPY, target, source)
 
 
 def fill(target, sample: int) -> None:
-    """Sets each sample of a plane to one."""
+    """Sets each sample of a plane to one.
+
+    >>> target = Plane(bytearray(3), 3, 1)
+    >>> fill(target, 7)
+    >>> list(target.buffer)
+    [7, 7, 7]
+    """
     with Held(target, writes=True) as written:
         sample = within(sample, "a sample", 0, 256 ** written.size - 1)
         library.answered(library.FILL[written.size](*written.told(), sample))
@@ -129,7 +153,11 @@ def fill(target, sample: int) -> None:
 
 def half(source):
     """A new plane of half the size: each sample is the mean of a block of two by two, rounded to the nearest value and upwards
-    at a half. The source has an even width and height."""
+    at a half. The source has an even width and height: else `downscale_to_edge`.
+
+    >>> list(half(Plane(bytes([1, 2, 3, 4]), 2, 2)).buffer)
+    [3]
+    """
     with Held(source) as read:
         (width, odd_column), (height, odd_row) = divmod(read.rows.width, 2), divmod(read.rows.height, 2)
         size = read.size
@@ -141,7 +169,11 @@ def half(source):
 
 
 def pad(plane, left: int, right: int, top: int, bottom: int):
-    """A new plane with a border of so many samples on each side, each the sample of the plane nearest to it."""
+    """A new plane with a border of so many samples on each side, each the sample of the plane nearest to it.
+
+    >>> list(pad(Plane(bytes([1, 2]), 2, 1), left=2, right=1, top=0, bottom=0).buffer)
+    [1, 1, 1, 2, 2]
+    """
     left, right, top, bottom = sizes((left, right, top, bottom), SizesError)
     with Held(plane) as read:
         width, height, size = read.rows.width, read.rows.height, read.size
@@ -175,6 +207,9 @@ def lay_out(width: int, height: int, format: str = "420", padding: int = 0) -> l
 
     Chroma has as many columns and rows as cover luma, and the padding divided by the ratio and rounded up; the padding of luma
     is that times the ratio.
+
+    >>> [(part.offset, part.width, part.height) for part in lay_out(5, 3, "420")]
+    [(0, 5, 3), (15, 3, 2), (21, 3, 2)]
     """
     number, found = chosen(format, FORMATS, "a format"), library.Parts()
     request = library.Request(*sizes((width, height, padding)), number)

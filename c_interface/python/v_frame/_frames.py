@@ -25,7 +25,6 @@ class Frame(Sequence):
     It is a sequence of its planes. The sizes of chroma, and the samples of all, are what the format and the bit depth say: one
     byte at a depth of 8, and else two.
 
-    >>> from v_frame import Plane
     >>> frame = Frame([Plane(bytes(6), 3, 2), Plane(bytes(2), 2, 1), Plane(bytes(2), 2, 1)], "420")
     >>> frame.width, frame.height, frame.depth, len(frame), frame.v.width
     (3, 2, 8, 3, 2)

@@ -1,4 +1,4 @@
-"""Header lines of YUV4MPEG2 streams, parsed and written by the library."""
+"""Header lines of YUV4MPEG2 streams, parsed and written by `libv_frame_y4m`."""
 
 import ctypes
 from dataclasses import dataclass, replace
@@ -73,6 +73,9 @@ class Header:
     The siting says where the chroma samples of 4:2:0 of 8 bits lie: "jpeg", "mpeg2", "paldv"; None counts as "jpeg" there, as it
     does in a line that states none. No other format has a siting: a header that states one has no line, and is refused.
     `with_format` makes a header of another format or bit depth.
+
+    >>> Header(4, 2, frame_rate=(25, 1)).line()
+    b'YUV4MPEG2 W4 H2 F25:1 C420jpeg\\n'
     """
 
     width: int

@@ -49,7 +49,11 @@ def _shape(plane):
 
 
 def turn(source, how: str):
-    """A new plane that shows another one turned: `how` is one of TURNS."""
+    """A new plane that shows another one turned: `how` is one of `TURNS`; turns by 90 and 270 degrees are clockwise.
+
+    >>> list(turn(Plane(bytes([1, 2, 3, 4]), 2, 2), "rotate_90").buffer)
+    [3, 1, 4, 2]
+    """
     number = chosen(how, TURNS, "a turn")
     width, height, size = _shape(source)
     if number >= TURNS.index("transpose"):
@@ -58,10 +62,14 @@ def turn(source, how: str):
 
 
 def convert_depth(source, depth: int, to: int):
-    """A new plane with the samples of another one, of `depth` bits, in `to` bits, both 8 to 16; above 8 it has two bytes a sample.
+    """A new plane with the samples of another one, of `depth` bits, in `to` bits, both 8 to 16: of one byte a sample where `to` is
+    8, and else of two.
 
     To more bits a value is shifted; to fewer it is rounded to the nearest, upwards at a half, and at most to the largest. A value
     above the largest of `depth` bits counts as that one.
+
+    >>> memoryview(convert_depth(Plane(bytes([1, 255]), 2, 1), 8, 10).buffer).cast("H").tolist()
+    [4, 1020]
     """
     width, height, size = _shape(source)
     depth, to = within(depth, "a bit depth", 8, 8 * size), within(to, "a bit depth", 8, 16)
@@ -74,14 +82,22 @@ def convert_depth(source, depth: int, to: int):
 
 def upscale(source, width: int, height: int, ratio_x: int = 2, ratio_y: int = 2):
     """A new plane of this size that shows each sample of another one `ratio_x` times across and `ratio_y` times down, as chroma is
-    shown beside luma. The source has a column for each `ratio_x` that are begun, and a row for each `ratio_y`."""
+    shown beside luma. The source has a column for each `ratio_x` that are begun, and a row for each `ratio_y`.
+
+    >>> list(upscale(Plane(bytes([1, 2]), 2, 1), 3, 1, 2, 1).buffer)
+    [1, 1, 2]
+    """
     width, height, ratio_x, ratio_y = sizes((width, height, ratio_x, ratio_y), SizesError, 1)
     size = _shape(source)[2]
     return _made(library.UPSCALE[size], _new(source, width, height, size), source, ratio_x, ratio_y)
 
 
 def interleave(u, v):
-    """A new plane of the samples of two planes of one size by turns, as NV12 and P010 keep chroma."""
+    """A new plane of the samples of two planes of one size by turns, as NV12 and P010 keep chroma.
+
+    >>> list(interleave(Plane(bytes([1, 2]), 2, 1), Plane(bytes([3, 4]), 2, 1)).buffer)
+    [1, 3, 2, 4]
+    """
     width, height, size = _shape(u)
     with Held(u) as first, Held(v) as second:
         _same_size(first, second)
@@ -92,7 +108,11 @@ def interleave(u, v):
 
 
 def deinterleave(plane):
-    """Two new planes, of the samples of one by turns. It has an even width."""
+    """Two new planes, of the samples of one by turns. It has an even width.
+
+    >>> [list(plane.buffer) for plane in deinterleave(Plane(bytes([1, 3, 2, 4]), 4, 1))]
+    [[1, 2], [3, 4]]
+    """
     width, height, size = _shape(plane)
     if width % 2:
         raise SizesError("the sizes do not belong together: an odd width")
@@ -109,8 +129,13 @@ def _choice(standard, range, order):
 
 
 def rgb(y, u, v, standard: str = "bt709", range: str = "limited", order: str = "rgb"):
-    """The colours of three planes of one size and of bytes, as a new plane with three or four bytes for each pixel: an array of three
-    dimensions where they are arrays."""
+    """The colours of three planes of one size and of bytes, as a new plane with three or four bytes for each pixel: where they are
+    arrays, one of the shape (height, width, 3), or 4. The standard, the range and the order are of `STANDARDS`, `RANGES`, `ORDERS`.
+
+    >>> grey = Plane(bytes([128]), 1, 1)
+    >>> list(rgb(grey, grey, grey, range="full", order="bgra").buffer)
+    [128, 128, 128, 255]
+    """
     choice = _choice(standard, range, order)
     width, height, size = _shape(y)
     with Held(y) as luma, Held(u) as first, Held(v) as second:
@@ -127,7 +152,11 @@ def _number(part):
 
 
 def statistics(plane) -> Statistics:
-    """The count, the sum, the sum of the squares, the least and the greatest of the samples of a plane."""
+    """The count, the sum, the sum of the squares, the least and the greatest of the samples of a plane.
+
+    >>> statistics(Plane(bytes([1, 2, 4]), 3, 1))
+    Statistics(count=3, sum=7, sum_of_squares=21, minimum=1, maximum=4)
+    """
     out = library.Statistics()
     with Held(plane) as read:
         library.answered(library.STATISTICS[read.size](*read.told(), ctypes.byref(out)))
@@ -135,7 +164,11 @@ def statistics(plane) -> Statistics:
 
 
 def pair_statistics(a, b) -> PairStatistics:
-    """The sums of the samples of two planes of one size, of their squares, and of the products at the same place."""
+    """The sums of the samples of two planes of one size, of their squares, and of the products at the same place.
+
+    >>> pair_statistics(Plane(bytes([1, 2]), 2, 1), Plane(bytes([3, 5]), 2, 1))
+    PairStatistics(first=3, second=8, first_squares=5, second_squares=34, products=13)
+    """
     out = library.PairStatistics()
     _compared(library.PAIR_STATISTICS, a, b, out)
     return PairStatistics(*(_number(getattr(out, name)) for name in PairStatistics._fields))

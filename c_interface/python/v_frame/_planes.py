@@ -45,12 +45,12 @@ class Plane:
     def __init__(self, buffer, width: int, height: int, stride: int | None = None, sample_size: int = 1):
         self.buffer, self.sample_size = buffer, sample_size
         self.width, self.height, self.stride = width, height, width if stride is None else stride
-        self.width, self.height, self.stride, self.sample_size = self.numbers()
+        self.width, self.height, self.stride, self.sample_size = self._numbers()
 
     def __repr__(self):
         return f"Plane(width={self.width}, height={self.height}, stride={self.stride}, sample_size={self.sample_size})"
 
-    def numbers(self) -> tuple[int, int, int, int]:
+    def _numbers(self) -> tuple[int, int, int, int]:
         """The width, the height, the stride and the sample size, which anyone may have set meanwhile."""
         size = whole(self.sample_size, "a sample size")
         if size not in (1, 2):
@@ -60,7 +60,7 @@ class Plane:
 
     def tobytes(self) -> bytes:
         """The samples of the rows, without what lies between them."""
-        width, height, stride, size = self.numbers()
+        width, height, stride, size = self._numbers()
         with Held(self) as held:
             if stride < width or stride * (height - 1) + width > held.length:
                 raise RowsError("the rows do not fit their buffer")
@@ -82,7 +82,7 @@ class Held:
 
     def _of_buffer(self, plane, writes):
         # All that may be refused of the numbers is refused before the buffer is held.
-        width, height, stride, self.size = plane.numbers()
+        width, height, stride, self.size = plane._numbers()
         self.rows = _filled(width, height, stride)
         view = _Buffer()
         try:

@@ -1,4 +1,4 @@
-"""YUV4MPEG2 streams: the header as a :class:`Header`, and frames as planes.
+"""YUV4MPEG2 streams: the header as a `Header`, and frames as planes.
 
 >>> import io
 >>> stream = io.BytesIO(b"YUV4MPEG2 W2 H2 F25:1 Cmono\\nFRAME\\n" + bytes([1, 2, 3, 4]))
@@ -32,11 +32,16 @@ _READ = weakref.WeakSet()
 
 
 def read_y4m(file):
-    """The header of a stream, and the :class:`Frames` of it, each a :class:`v_frame.Frame` of the planes Y, U, V.
+    """The header of a stream, and the `Frames` of it, each a `Frame` of the planes Y, U, V.
 
-    `file` is a path, or an object that reads bytes. Planes are arrays where numpy is there, and else of :class:`v_frame.Plane`;
+    `file` is a path, or an object that reads bytes. Planes are arrays where numpy is there, and else of `Plane`;
     deeper ones than 8 bits have samples of two bytes. Each has memory of its own. A stream that is malformed, a frame that is cut
-    off, and a reader that gives no bytes raise :class:`Y4mError`; what the system refuses raises OSError.
+    off, and a reader that gives no bytes raise `Y4mError`; what the system refuses raises OSError.
+
+    >>> import io
+    >>> header, frames = read_y4m(io.BytesIO(b"YUV4MPEG2 W2 H1 Cmono\\nFRAME\\nab"))
+    >>> [(frame.width, frame.height, frame.depth) for frame in frames]
+    [(2, 1, 8)]
     """
     is_path = isinstance(file, (str, bytes, os.PathLike))
     stream = open(file, "rb") if is_path else file
@@ -157,7 +162,7 @@ def write_y4m(file, header: Header, frames) -> None:
     something fails the target is as it was. Devices, pipes and what is open already, as `/dev/stdout`, are written as they are.
 
     A header that has no line is refused before anything is opened, and a frame that does not fit it before any of it is written,
-    with :class:`Y4mError`; so is a writer that takes no bytes. What the system refuses raises OSError.
+    with `Y4mError`; so is a writer that takes no bytes. What the system refuses raises OSError.
 
     >>> import io
     >>> stream = io.BytesIO()
@@ -210,7 +215,7 @@ class Y4mWriter:
         return self
 
     def write(self, planes) -> None:
-        """Writes a frame: a :class:`v_frame.Frame`, or its planes. One that does not fit the header is refused, and the next may
+        """Writes a frame: a `Frame`, or its planes. One that does not fit the header is refused, and the next may
         be written; after any other failure the stream is lost, and the target stays as it was."""
         if self._stream is None:
             raise Y4mError("the writer is not open: use it as a context manager")
