@@ -388,9 +388,11 @@ class Writers(Room):
             def read(self, count):
                 return self.data
 
-        for stream in (Reader(None, b""), Reader("YUV4MPEG2 W4 H2\n", b""), Reader(5, b"")):
+        closed = io.BytesIO(GOOD)
+        closed.close()
+        for stream in (Reader(None, b""), Reader("YUV4MPEG2 W4 H2\n", b""), Reader(5, b""), closed, io.StringIO("YUV4MPEG2 W4 H2\n"), 5, None):
             self.assertRaises(y4m.Y4mError, y4m.read_y4m, stream)
-        for data in (None, "text", b"x" * 9999):
+        for data in (None, "text", b"x" * 9999, 5):
             header, frames = y4m.read_y4m(stream := Reader(LINE, data))
             stream.line = b"FRAME\n"
             self.assertRaises(y4m.Y4mError, list, frames)

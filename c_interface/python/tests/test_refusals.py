@@ -2,12 +2,15 @@
 
 import set_up
 
+import ctypes.util
 import inspect
 import io
 import itertools
 import math
 import mmap
 import os
+import subprocess
+import sys
 import tempfile
 import unittest
 from unittest import mock
@@ -36,6 +39,8 @@ class Headers(unittest.TestCase):
             for value in values:
                 yield y4m.Header(**{**vars(self.GOOD), name: value})
         yield y4m.Header(4, 4, "411", 10)
+        for depth in self.WRONG["bit_depth"]:
+            yield y4m.Header(4, 4, "444", depth)
         # A siting stands in 4:2:0 of 8 bits alone, and is dropped nowhere.
         for format, depth in (("420", 10), ("422", 8), ("444", 8), ("mono", 8), ("411", 8), ("444", 16)):
             yield y4m.Header(4, 4, format, depth, siting="jpeg")
@@ -115,6 +120,15 @@ class Headers(unittest.TestCase):
                 self.assertRaisesRegex(y4m.Y4mError, str(status), self.GOOD.frame_bytes)
         for status in (8, 9, 99, 2 ** 32 - 1):
             self.assertRaisesRegex(v_frame.StatusError, str(status), _library.answered, status)
+
+
+class Libraries(unittest.TestCase):
+    def test_a_library_that_is_not_there(self):
+        for variable in ("V_FRAME_LIBRARY", "V_FRAME_Y4M_LIBRARY"):
+            for name, words in (("/none/libother.so", f"/none/libother.so.*{variable}"), (ctypes.util.find_library("c"), "of another version")):
+                run = subprocess.run([sys.executable, "-c", "from v_frame import y4m"], env={**os.environ, variable: name}, capture_output=True,
+                                     text=True)
+                self.assertRegex(run.stderr.splitlines()[-1], f"^ImportError: .*{words}")
 
 
 class Shapes(unittest.TestCase):
@@ -198,6 +212,15 @@ class Planes(unittest.TestCase):
         apart = memoryview(bytes(16))[::2]
         self.assertRaises(v_frame.AccessError, v_frame.statistics, Plane(apart, 2, 2))
         self.assertRaises(v_frame.AccessError, v_frame.fill, Plane(bytes(4), 2, 2), 1)
+        released = memoryview(bytes(4))
+        released.release()
+        self.assertRaises(v_frame.AccessError, v_frame.statistics, Plane(released, 2, 2))
+        if numpy is not None:
+            self.assertRaises(v_frame.AccessError, v_frame.statistics, Plane(numpy.zeros((4, 4), "uint8")[:, ::2], 2, 2))
+            read_only = numpy.zeros((2, 2), "uint8")
+            read_only.flags.writeable = False
+            for plane in (read_only, Plane(read_only, 2, 2)):
+                self.assertRaises(v_frame.AccessError, v_frame.fill, plane, 1)
 
     def test_numbers_that_are_not_whole(self):
         a, words, colours = Plane(bytearray(16), 4, 4), Plane(bytearray(32), 4, 4, sample_size=2), Plane(bytearray(24), 6, 4)

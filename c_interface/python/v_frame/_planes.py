@@ -87,7 +87,7 @@ class Held:
         view = _Buffer()
         try:
             _get(plane.buffer, ctypes.byref(view), _WRITABLE if writes else 0)
-        except BufferError as error:
+        except (BufferError, ValueError) as error:
             raise AccessError(f"the buffer cannot be used: {error}") from error
         except TypeError as error:
             raise KindError(f"the buffer of a plane is none: {error}") from error

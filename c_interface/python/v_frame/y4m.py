@@ -45,6 +45,8 @@ def read_y4m(file):
     """
     is_path = isinstance(file, (str, bytes, os.PathLike))
     stream = open(file, "rb") if is_path else file
+    if getattr(stream, "closed", False) or not (hasattr(stream, "readline") and hasattr(stream, "read")):
+        raise Y4mError("the stream is closed, or does not read bytes")
     try:
         line = _line(stream)
         if line is None:
