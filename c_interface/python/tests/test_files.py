@@ -1,77 +1,20 @@
 """Files that write_y4m is given: each is whole or as it was, whatever fails: test_files.py [--without-numpy]"""
 
-import set_up  # noqa: F401, first
+import set_up
 
 import contextlib
 import errno
-import io
 import os
 import resource
 import signal
 import subprocess
 import sys
-import tempfile
 import threading
 import unittest
 from unittest import mock
 
-from v_frame import Frame, Plane, y4m
-
-HEADER = y4m.Header(4, 2, "420", siting="mpeg2")
-LINE = b"YUV4MPEG2 W4 H2 C420mpeg2\n"
-NOBODY = 65534
-
-
-def stream_of(numbers):
-    """A stream whose frames have these numbers as their samples."""
-    return LINE + b"".join(b"FRAME\n" + bytes([it] * 12) for it in numbers)
-
-
-def frames_of(numbers):
-    return [[Plane(bytes([it] * 8), 4, 2), Plane(bytes([it] * 2), 2, 1), Plane(bytes([it] * 2), 2, 1)] for it in numbers]
-
-
-GOOD, OTHER = stream_of((1, 2, 3)), stream_of((7, 8))
-
-
-class Room(unittest.TestCase):
-    """A folder with a stream. A fault could replace a device, so nobody's rights have to do where the test itself writes to one."""
-
-    as_nobody = True
-
-    def setUp(self):
-        folder = tempfile.TemporaryDirectory()
-        self.addCleanup(folder.cleanup)
-        before, umask = os.getcwd(), os.umask(0o022)
-        self.addCleanup(os.umask, umask)
-        self.addCleanup(os.chdir, before)
-        os.chmod(folder.name, 0o777)
-        os.chdir(folder.name)
-        if self.as_nobody and os.geteuid() == 0:
-            os.seteuid(NOBODY)
-            self.addCleanup(os.seteuid, 0)
-        os.mkdir("work")
-        self.put("work/a.y4m", GOOD)
-
-    def put(self, name, data):
-        with open(name, "wb") as file:
-            file.write(data)
-
-    def assertHas(self, name, data):
-        with open(name, "rb") as file:
-            self.assertEqual(file.read(), data)
-
-    def assertNothingBeside(self):
-        self.assertEqual([it for it in os.listdir("work") if "partial" in it], [])
-
-    def fails(self, error, write, words=""):
-        """What fails leaves the target as it was, and no file where there was none."""
-        before = sorted(os.listdir("work"))
-        for name in ("work/a.y4m", "work/new.y4m"):
-            with self.assertRaisesRegex(error, words):
-                write(name)
-            self.assertHas("work/a.y4m", GOOD)
-            self.assertEqual(sorted(os.listdir("work")), before)
+from rooms import GOOD, HEADER, LINE, OTHER, Room, frames_of, stream_of
+from v_frame import Frame, y4m
 
 
 class Names(Room):
@@ -334,98 +277,6 @@ for name in ("disk/a.y4m", "disk/new.y4m"):
                            stderr=subprocess.DEVNULL, stdin=subprocess.DEVNULL)
             self.assertHas("work/b.y4m", OTHER)
             self.assertNothingBeside()
-
-
-class Writers(Room):
-    """Objects that write and read bytes, or do not."""
-
-    def test_writers_that_take_less(self):
-        class Slow(io.BytesIO):
-            def write(self, data):
-                return super().write(bytes(data)[:5])
-
-        class Silent:
-            def __init__(self):
-                self.data = b""
-
-            def write(self, data):
-                self.data += data
-
-        for stream, found in ((Slow(), io.BytesIO.getvalue), (Silent(), lambda it: it.data)):
-            y4m.write_y4m(stream, HEADER, frames_of((7, 8)))
-            self.assertEqual(found(stream), OTHER)
-
-    def test_writers_that_take_nothing(self):
-        class Stuck(io.BytesIO):
-            answer = 0
-
-            def write(self, data):
-                return self.answer
-
-        class Waits(io.RawIOBase):
-            def writable(self):
-                return True
-
-            def write(self, data):
-                return None
-
-        closed = open("work/b.y4m", "wb")
-        closed.close()
-        for answer in (0, -1, 1000, "5", 2.0):
-            Stuck.answer = answer
-            self.assertRaisesRegex(y4m.Y4mError, "took", y4m.write_y4m, Stuck(), HEADER, frames_of((7, 8)))
-        for stream in (Waits(), closed, io.StringIO(), 5, None):
-            self.assertRaises(y4m.Y4mError, y4m.write_y4m, stream, HEADER, frames_of((7, 8)))
-
-    def test_readers(self):
-        class Reader:
-            def __init__(self, line, data):
-                self.line, self.data = line, data
-
-            def readline(self, limit):
-                return self.line
-
-            def read(self, count):
-                return self.data
-
-        closed = io.BytesIO(GOOD)
-        closed.close()
-        for stream in (Reader(None, b""), Reader("YUV4MPEG2 W4 H2\n", b""), Reader(5, b""), closed, io.StringIO("YUV4MPEG2 W4 H2\n"), 5, None):
-            self.assertRaises(y4m.Y4mError, y4m.read_y4m, stream)
-        for data in (None, "text", b"x" * 9999, 5):
-            header, frames = y4m.read_y4m(stream := Reader(LINE, data))
-            stream.line = b"FRAME\n"
-            self.assertRaises(y4m.Y4mError, list, frames)
-
-    def test_a_writer_frame_by_frame(self):
-        with y4m.Y4mWriter("work/a.y4m", HEADER) as writer:
-            writer.write(frames_of((7,))[0])
-            self.assertHas("work/a.y4m", GOOD)
-            # A frame that is refused is not there, and the next one is.
-            self.assertRaises(y4m.Y4mError, writer.write, frames_of((7,))[0][:2])
-            writer.write(Frame(frames_of((8,))[0]))
-        self.assertHas("work/a.y4m", OTHER)
-        self.assertRaises(y4m.Y4mError, writer.write, frames_of((7,))[0])
-        self.assertRaises(y4m.Y4mError, writer.__enter__)
-        self.assertRaises(y4m.Y4mError, y4m.Y4mWriter("work/a.y4m", HEADER).write, frames_of((7,))[0])
-        self.assertHas("work/a.y4m", OTHER)
-
-    def test_a_writer_whose_stream_is_lost(self):
-        def goes_on(name):
-            with y4m.Y4mWriter(name, HEADER) as writer:
-                with mock.patch.object(writer, "_write_all", side_effect=OSError(28, "full")):
-                    self.assertRaises(OSError, writer.write, frames_of((7,))[0])
-                self.assertRaises(y4m.Y4mError, writer.write, frames_of((7,))[0])
-
-        self.fails(y4m.Y4mError, goes_on, "could not be written")
-
-    def test_a_header_is_taken_as_it_is_at_first(self):
-        header = y4m.Header(4, 2, "420", siting="mpeg2")
-        with y4m.Y4mWriter("work/a.y4m", header) as writer:
-            header.width, header.format = 8, "mono"
-            writer.write(frames_of((7,))[0])
-            writer.write(frames_of((8,))[0])
-        self.assertHas("work/a.y4m", OTHER)
 
 
 if __name__ == "__main__":

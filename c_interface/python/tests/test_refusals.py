@@ -286,7 +286,7 @@ class Planes(unittest.TestCase):
 
     def test_all_errors_are_of_the_module(self):
         found = [it for _, it in inspect.getmembers(_errors, inspect.isclass) if issubclass(it, BaseException)]
-        self.assertEqual(len(found), 8)
+        self.assertEqual(len(found), 9)
         for it in found:
             self.assertTrue(issubclass(it, Error) and getattr(v_frame, it.__name__) is it)
         self.assertTrue(all(hasattr(v_frame, it) for it in v_frame.__all__) and all(hasattr(y4m, it) for it in y4m.__all__))

@@ -17,20 +17,22 @@ Each error is an `Error`, and one of Python's own too. A call on planes that rai
 (5, 3, (2, 0))
 """
 
-from ._calls import Part, copy, fill, first_difference, half, lay_out, mse, pad, psnr, sad, sse
+from ._calls import FORMATS, Part, copy, fill, first_difference, half, lay_out, pad, sad, sse
 from ._conversions import (COMPONENTS, blend, blend_with_mask, count_between, difference, downscale_to_edge, halve_columns,
                            histogram, resize_area, resize_nearest, to_full_range, to_limited_range, yuv)
-from ._errors import AccessError, Error, KindError, NumberError, RowsError, SizesError, StatusError, Y4mError
-from ._frames import FORMATS, Frame
+from ._errors import AccessError, Error, KindError, NumberError, RowsError, SizesError, StatusError, StreamError, Y4mError
+from ._frames import Frame
 from ._library import VERSION
+from ._measures import mse, psnr
 from ._pictures import (ORDERS, RANGES, STANDARDS, TURNS, PairStatistics, Statistics, convert_depth, deinterleave, interleave,
                         pair_statistics, rgb, statistics, turn, upscale)
 from ._planes import Plane
+from ._png import write_png
 
 __version__ = VERSION
 __all__ = ["AccessError", "COMPONENTS", "Error", "FORMATS", "Frame", "KindError", "NumberError", "ORDERS", "PairStatistics", "Part",
-           "Plane", "RANGES", "RowsError", "STANDARDS", "SizesError", "Statistics", "StatusError", "TURNS", "VERSION", "Y4mError",
+           "Plane", "RANGES", "RowsError", "STANDARDS", "SizesError", "Statistics", "StatusError", "StreamError", "TURNS", "VERSION", "Y4mError",
            "blend", "blend_with_mask", "convert_depth", "copy", "count_between", "deinterleave", "difference", "downscale_to_edge",
            "fill", "first_difference", "half", "halve_columns", "histogram", "interleave", "lay_out", "mse", "pad",
            "pair_statistics", "psnr", "resize_area", "resize_nearest", "rgb", "sad", "sse", "statistics", "to_full_range",
-           "to_limited_range", "turn", "upscale", "yuv"]
+           "to_limited_range", "turn", "upscale", "write_png", "yuv"]

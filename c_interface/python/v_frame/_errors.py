@@ -36,7 +36,12 @@ class StatusError(Error, RuntimeError):
 
 
 class Y4mError(Error, ValueError):
-    """A stream is malformed, ends inside a frame, or cannot be written: its header has no line, or a frame does not fit it."""
+    """A YUV4MPEG2 stream is malformed, ends inside a frame, or cannot be written: its header has no line, or a frame does not fit
+    it."""
+
+
+class StreamError(Y4mError):
+    """An object that is to write bytes is closed, writes none, or took none."""
 
 
 def whole(value, what) -> int:

@@ -3,8 +3,9 @@
 import ctypes
 from dataclasses import dataclass, replace
 
+from ._calls import FORMATS
 from ._errors import LIMIT, Error, Y4mError, whole
-from ._frames import FORMATS, plane_sizes
+from ._frames import plane_sizes
 from ._library import export, opened
 
 #: Where chroma lies, and how fields are interlaced, in the order of their numbers.

@@ -5,6 +5,9 @@ import os
 import re
 import stat
 import sys
+from io import RawIOBase, TextIOBase
+
+from ._errors import StreamError
 
 #: How many symbolic links may lead from a name to its file, and how many names are tried for the file beside a target.
 MOST_LINKS, MOST_NAMES = 40, 100
@@ -122,3 +125,23 @@ def _new_file(target, mode):
         except FileExistsError:
             pass
     raise FileExistsError(errno.EEXIST, os.strerror(errno.EEXIST), partial)
+
+
+def writes_bytes(stream):
+    """A stream that writes bytes."""
+    if getattr(stream, "closed", False) or isinstance(stream, TextIOBase) or not hasattr(stream, "write"):
+        raise StreamError("the stream is closed, or does not write bytes")
+    return stream
+
+
+def write_all(stream, data):
+    """Writes all bytes, also to an unbuffered stream, which may take fewer at once."""
+    rest = memoryview(data)
+    while rest:
+        taken = stream.write(rest)
+        # A stream of the system that does not wait says None where it took nothing; others may say it where they took all.
+        if taken is None and not isinstance(stream, RawIOBase):
+            return
+        if not isinstance(taken, int) or not 0 < taken <= len(rest):
+            raise StreamError("the stream took no bytes" if taken in (0, None) else "the stream took a number of bytes that is none")
+        rest = rest[taken:]

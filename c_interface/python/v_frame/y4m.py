@@ -14,13 +14,12 @@ import stat
 import sys
 import weakref
 from dataclasses import replace
-from io import RawIOBase, TextIOBase
 
 from ._errors import Error, Y4mError
 from ._frames import RATIOS, Frame
 from ._headers import Header, parse_header
 from ._planes import Held, Plane, numpy
-from ._targets import Target
+from ._targets import Target, write_all, writes_bytes
 
 __all__ = ["Frames", "Header", "RATIOS", "Y4mError", "Y4mWriter", "parse_header", "read_y4m", "write_y4m"]
 
@@ -203,14 +202,12 @@ class Y4mWriter:
         if isinstance(file, (str, bytes, os.PathLike)):
             self._target = Target(file)
             self._stream = self._target.stream
-        elif getattr(file, "closed", False) or isinstance(file, TextIOBase) or not hasattr(file, "write"):
-            raise Y4mError("the stream is closed, or does not write bytes")
         else:
-            self._stream = file
+            self._stream = writes_bytes(file)
         try:
             if self._target is None or not self._target.is_beside:
                 _refuse_what_is_read(self._stream)
-            self._write_all(self._line)
+            write_all(self._stream, self._line)
         except BaseException:
             self._discard()
             raise
@@ -225,7 +222,7 @@ class Y4mWriter:
             raise Y4mError("an earlier frame could not be written")
         data = self._frame_data(planes)
         self._is_broken = True
-        self._write_all(b"FRAME\n" + data)
+        write_all(self._stream, b"FRAME\n" + data)
         self._is_broken = False
 
     def __exit__(self, kind, error, traceback):
@@ -255,18 +252,6 @@ class Y4mWriter:
         if len(planes) != len(self._sizes):
             raise Y4mError("a frame has more or fewer planes than the header says")
         return b"".join(_bytes_of(*it, size) for it in zip(planes, self._sizes))
-
-    def _write_all(self, data):
-        """Writes all bytes, also to an unbuffered stream, which may take fewer at once."""
-        rest = memoryview(data)
-        while rest:
-            taken = self._stream.write(rest)
-            # A stream of the system that does not wait says None where it took nothing; others may say it where they took all.
-            if taken is None and not isinstance(self._stream, RawIOBase):
-                return
-            if not isinstance(taken, int) or not 0 < taken <= len(rest):
-                raise Y4mError("the stream took no bytes" if taken in (0, None) else "the stream took a number of bytes that is none")
-            rest = rest[taken:]
 
 
 def _file_of(stream):
