@@ -75,8 +75,8 @@ class Header:
     does in a line that states none. No other format has a siting: a header that states one has no line, and is refused.
     `with_format` makes a header of another format or bit depth.
 
-    >>> Header(4, 2, frame_rate=(25, 1)).line()
-    b'YUV4MPEG2 W4 H2 F25:1 C420jpeg\\n'
+    >>> Header(64, 48, frame_rate=(25, 1)).line()
+    b'YUV4MPEG2 W64 H48 F25:1 C420jpeg\\n'
     """
 
     width: int
@@ -100,8 +100,8 @@ class Header:
     def line(self) -> bytes:
         """The header line, with its line feed, as the library writes it.
 
-        >>> Header(4, 2, "422", 10, frame_rate=(25, 1)).line()
-        b'YUV4MPEG2 W4 H2 F25:1 C422p10\\n'
+        >>> Header(64, 48, "422", 10, frame_rate=(25, 1)).line()
+        b'YUV4MPEG2 W64 H48 F25:1 C422p10\\n'
         """
         numbers, line, needed = self._numbers(), ctypes.create_string_buffer(256), ctypes.c_size_t()
         _written(_WRITE(ctypes.byref(numbers), line, len(line), ctypes.byref(needed)))
@@ -121,8 +121,8 @@ class Header:
         """The header of a stream whose frames have another format or bit depth. 4:2:0 of 8 bits keeps its siting, and has "jpeg"
         where there was none; all else has none.
 
-        >>> parse_header(b"YUV4MPEG2 W4 H2 C420mpeg2").with_format(bit_depth=10).line()
-        b'YUV4MPEG2 W4 H2 C420p10\\n'
+        >>> parse_header(b"YUV4MPEG2 W64 H48 C420mpeg2").with_format(bit_depth=10).line()
+        b'YUV4MPEG2 W64 H48 C420p10\\n'
         """
         format, bit_depth = self.format if format is None else format, self.bit_depth if bit_depth is None else bit_depth
         siting = (self.siting or "jpeg") if (format, bit_depth) == ("420", 8) else None
@@ -150,8 +150,8 @@ def _written(status):
 def parse_header(line: bytes) -> Header:
     """The header of a line, which has no line feed.
 
-    >>> parse_header(b"YUV4MPEG2 W4 H2 F25:1 Cmono")
-    Header(width=4, height=2, format='mono', bit_depth=8, frame_rate=(25, 1), pixel_aspect=None, interlacing=None, siting=None)
+    >>> parse_header(b"YUV4MPEG2 W64 H48 F25:1 Cmono")
+    Header(width=64, height=48, format='mono', bit_depth=8, frame_rate=(25, 1), pixel_aspect=None, interlacing=None, siting=None)
     """
     if not isinstance(line, bytes):
         raise Y4mError("a header line is bytes")

@@ -38,9 +38,9 @@ def read_y4m(file):
     off, and a reader that gives no bytes raise `Y4mError`; what the system refuses raises OSError.
 
     >>> import io
-    >>> header, frames = read_y4m(io.BytesIO(b"YUV4MPEG2 W2 H1 Cmono\\nFRAME\\nab"))
+    >>> header, frames = read_y4m(io.BytesIO(b"YUV4MPEG2 W120 H1 Cmono\\nFRAME\\n" + bytes(120)))
     >>> [(frame.width, frame.height, frame.depth) for frame in frames]
-    [(2, 1, 8)]
+    [(120, 1, 8)]
     """
     is_path = isinstance(file, (str, bytes, os.PathLike))
     stream = open(file, "rb") if is_path else file
@@ -167,9 +167,9 @@ def write_y4m(file, header: Header, frames) -> None:
 
     >>> import io
     >>> stream = io.BytesIO()
-    >>> write_y4m(stream, Header(2, 1, "mono"), [[Plane(b"ab", 2, 1)]])
-    >>> stream.getvalue()
-    b'YUV4MPEG2 W2 H1 Cmono\\nFRAME\\nab'
+    >>> write_y4m(stream, Header(120, 1, "mono"), [[Plane(bytes(120), 120, 1)]])
+    >>> stream.getvalue() == b"YUV4MPEG2 W120 H1 Cmono\\nFRAME\\n" + bytes(120)
+    True
     """
     with Y4mWriter(file, header) as writer:
         for planes in frames:
@@ -182,10 +182,10 @@ class Y4mWriter:
 
     >>> import io
     >>> stream = io.BytesIO()
-    >>> with Y4mWriter(stream, Header(2, 1, "mono")) as writer:
-    ...     writer.write([Plane(b"ab", 2, 1)])
-    >>> stream.getvalue()
-    b'YUV4MPEG2 W2 H1 Cmono\\nFRAME\\nab'
+    >>> with Y4mWriter(stream, Header(120, 1, "mono")) as writer:
+    ...     writer.write([Plane(bytes(120), 120, 1)])
+    >>> len(stream.getvalue())
+    150
     """
 
     def __init__(self, file, header: Header):
