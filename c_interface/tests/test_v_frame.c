@@ -43,6 +43,7 @@ static uint64_t distance(uint32_t p, uint32_t q) {
 #include "samples.inc"
 #include "pictures.inc"
 #include "conversions.inc"
+#include "measures.inc"
 #include "choices.inc"
 #undef SAMPLE
 #undef NAME
@@ -51,10 +52,12 @@ static uint64_t distance(uint32_t p, uint32_t q) {
 #define SAMPLE uint16_t
 #define NAME(call) v_frame_##call##_u16
 #define TEST(name) name##_u16
+#define OF_DEPTH
 
 #include "samples.inc"
 #include "pictures.inc"
 #include "conversions.inc"
+#include "measures.inc"
 #include "choices.inc"
 
 #include "boundary.inc"
@@ -349,6 +352,10 @@ int main(void) {
     pictures_u16();
     conversions_u8();
     conversions_u16();
+    measures_u8();
+    measures_u16();
+    refused_measures_u8();
+    refused_measures_u16();
     depths();
     colours();
     samples_of_colours();
