@@ -136,6 +136,9 @@ fn asks_for_progress(command: &Command<'_>) -> bool
         Command::Info { options, .. } => options.progress,
         Command::Compare { options, .. } => options.progress,
         Command::Copy { options, .. } => options.progress,
+        Command::Sum { options, .. } => options.progress,
+        Command::Stats { options, .. } => options.progress,
+        Command::Plot { options, .. } => options.progress,
         _ => false,
     }
 }
