@@ -105,18 +105,16 @@ fn sum_as<T: Pixel, R: io::Read, W: io::Write, P: Progress>(
     let skip = options.skip.unwrap_or(0);
     skip_frames(source, skip, &mut Silent)?;
     let lines = Lines {
-        alloc,
         planes: options.planes,
         before: skip,
     };
     let most = options.count.unwrap_or(u64::MAX);
-    sum_frames(source, &mut picture, lines, most, out, progress)
+    sum_frames(alloc, source, &mut picture, lines, most, out, progress)
 }
 
 /// How the lines of frames are made.
 #[derive(Clone, Copy)]
 struct Lines {
-    alloc: Global,
     /// Whether each plane has a checksum.
     planes: bool,
     /// How many frames stand before the first one.
@@ -125,6 +123,7 @@ struct Lines {
 
 /// Writes a line for each of so many frames, or of all that are left where they are fewer.
 fn sum_frames<T: Pixel, R: io::Read, W: io::Write, P: Progress>(
+    alloc: Global,
     source: &mut Source<R>,
     picture: &mut Picture<T>,
     lines: Lines,
@@ -138,7 +137,7 @@ fn sum_frames<T: Pixel, R: io::Read, W: io::Write, P: Progress>(
         (W.contents out.old.inner) (W.contents out.new.inner) lines.planes
         T.form.size (sizes_of (tables_of picture.old.frame)) lines.before most) }
 {
-    let mut text = String::new(lines.alloc);
+    let mut text = String::new(alloc);
     for count in 0..most {
         if !picture.read(source)? {
             return Ok(count);
