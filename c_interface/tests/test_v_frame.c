@@ -5,6 +5,7 @@
  */
 #include "v_frame.h"
 
+#include <stddef.h>
 #include <stdio.h>
 #include <stdlib.h>
 #include <string.h>
@@ -42,6 +43,8 @@ static uint64_t distance(uint32_t p, uint32_t q) {
 #include "samples.inc"
 #include "pictures.inc"
 #include "conversions.inc"
+#include "measures.inc"
+#include "choices.inc"
 #undef SAMPLE
 #undef NAME
 #undef TEST
@@ -49,10 +52,15 @@ static uint64_t distance(uint32_t p, uint32_t q) {
 #define SAMPLE uint16_t
 #define NAME(call) v_frame_##call##_u16
 #define TEST(name) name##_u16
+#define OF_DEPTH
 
 #include "samples.inc"
 #include "pictures.inc"
 #include "conversions.inc"
+#include "measures.inc"
+#include "choices.inc"
+
+#include "boundary.inc"
 
 /* A value of `from` bits in `to` bits, by the words of the header. */
 static uint32_t at_depth(uint32_t value, uint32_t from, uint32_t to) {
@@ -336,12 +344,18 @@ static void helpers(void) {
 }
 
 int main(void) {
+    layouts();
+    choices();
     all_u8();
     all_u16();
     pictures_u8();
     pictures_u16();
     conversions_u8();
     conversions_u16();
+    measures_u8();
+    measures_u16();
+    refused_measures_u8();
+    refused_measures_u16();
     depths();
     colours();
     samples_of_colours();
