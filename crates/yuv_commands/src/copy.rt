@@ -1,15 +1,16 @@
 //! The command `copy`: a stream is written once more.
-ghost use Rattle.std.specs.Prelude.{◌≡◌, IfOk};
-ghost use Rattle.yuv_commands.specs.Options.{copy_of};
+ghost use Rattle.std.specs.Prelude.{◌≡◌, IfOk, OnOk};
+ghost use Rattle.yuv_commands.specs.Options.{copy_of, KeepsLimit};
 ghost use Rattle.yuv_streams.specs.Prelude.{bytes_left, Copies};
 
 use crate::fault::Fault;
 use crate::input::{begin, expected_frames};
 use crate::input_file::open_file;
-use crate::options::{copy_sink, stream_copy};
+use crate::options::{copy_sink, stream_copy, test_limit};
 use crate::output::Output;
 use crate::program::Status;
 use crate::system::System;
+use crate::system_file::SystemFile;
 use std::alloc::Global;
 use std::io;
 use std::rt::Files;
@@ -25,6 +26,7 @@ pub(crate) fn do_copy<H, I, O, E>(
 ) -> Result<Status, Fault>
 where
     H: Files + AllocGlobal + Clock,
+    H::File: SystemFile,
     I: io::Read + Drop,
     O: io::Write,
     E: io::Write,
@@ -34,7 +36,7 @@ where
     let len = file.len();
     let mut source = begin(system, from, &mut file, options.raw)?;
     system.progress.expect(expected_frames(&source, len));
-    let mut output = Output::open(rt, to, &[from], &mut system.output)?;
+    let mut output = Output::open(rt, to, &[from], &mut system.output, system.progress.out())?;
     let mut sink = copy_sink(options, &mut output);
     let done = copy_source(
         rt.alloc(),
@@ -55,7 +57,7 @@ where
 ///
 /// # Errors
 ///
-/// Those of [`copy_stream`].
+/// Those of [`copy_stream`], and that of a picture that has more pixels than the options allow, also where none is made in memory.
 pub fn copy_source<R: io::Read, W: io::Write, P: Progress>(
     alloc: Global,
     source: &mut Source<R>,
@@ -67,7 +69,9 @@ pub fn copy_source<R: io::Read, W: io::Write, P: Progress>(
         (bytes_left R.remaining source.old) (bytes_left R.remaining source.new)
         (W.contents sink.old.writer.inner) (W.contents sink.new.writer.inner)
         sink.old.container (copy_of options.now) source.old.header source.old.layout) }
+    ensures small { OnOk result (KeepsLimit options.now.max_pixels source.old.header) }
 {
+    test_limit(source.header(), Place::First, options.max_pixels)?;
     let taken = stream_copy(options);
     copy_stream(alloc, source, sink, &taken, progress)
 }

@@ -12,6 +12,7 @@ use crate::output::Output;
 use crate::program::Status;
 use crate::report::{no_memory, write_text};
 use crate::system::System;
+use crate::system_file::SystemFile;
 use std::alloc::{AllocError, Global};
 use std::io::{self, Write};
 use std::rt::Files;
@@ -35,6 +36,7 @@ pub(crate) fn do_plot<H, I, O, E>(
 ) -> Result<Status, Fault>
 where
     H: Files + AllocGlobal + Clock,
+    H::File: SystemFile,
     I: io::Read + Drop,
     O: io::Write,
     E: io::Write,
@@ -45,7 +47,13 @@ where
     let mut other_file = open_file(rt, second, Place::Second, &mut system.input)?;
     let mut other = begin(system, second, &mut other_file, options.raw_second)?;
     let text = drawn(rt.alloc(), &mut one, &mut other, options, (first, second))?;
-    let mut output = Output::open(rt, to, &[first, second], &mut system.output)?;
+    let mut output = Output::open(
+        rt,
+        to,
+        &[first, second],
+        &mut system.output,
+        system.progress.out(),
+    )?;
     let done = write_drawn(&mut output, text.as_str());
     drop(text);
     output.settle(rt, done)
