@@ -8,7 +8,5 @@
 #![tactic(auto)]
 
 mod aligned;
-#[cfg(test)]
-mod tests;
 
 pub use aligned::AlignedData;

@@ -2,6 +2,7 @@ pub mod ColourChoice
 pub mod Counts
 pub mod FrameParts
 pub mod Layout
+pub mod Measures
 pub mod Numbers
 pub mod Sizes
 pub mod Statistics

@@ -1,6 +1,7 @@
 -- Statuses worked out by hand. Each line computes: it is proved by `refl`.
 use Rattle.std.specs.Prelude.{◌≡◌, true, false, refl}
 use Rattle.v_frame_c.specs.Layout.{fits}
+use Rattle.v_frame_c.specs.Measures.{has_window, status_of_windows}
 use Rattle.v_frame_c.specs.Sizes.{have_areas, is_counted}
 use Rattle.v_frame_c.specs.Status.{status_of_sized, status_of_two, same_size, times_size}
 use Rattle.v_frame_c.specs.declared.layout.Rows.{Rows}
@@ -37,3 +38,10 @@ long_lines = refl
 
 beyond_the_count : is_counted (record two_by_one { height = 4611686018427387904 }) ≡ false
 beyond_the_count = refl
+
+-- a picture of 4 by 2 has no window, and what is tested before is told first
+no_window : status_of_windows 0 (has_window four_by_two) ≡ 8
+no_window = refl
+
+other_sizes_first : status_of_windows 3 (has_window four_by_two) ≡ 3
+other_sizes_first = refl

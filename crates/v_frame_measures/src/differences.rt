@@ -5,9 +5,9 @@ ghost use Rattle.v_frame.specs.Prelude.{height_of, row_major, table_of, width_of
 ghost use Rattle.v_frame_statistics.specs.Prelude.{passing_pairs};
 ghost use Rattle.v_frame_measures.specs.Differences.{DifferFirstBy, DifferNoMore, DifferSomewhere, IsGreatestDifference};
 
+use crate::rows;
 use v_frame::pixel::Pixel;
 use v_frame::plane::{PlaneRef, RowsRef};
-use v_frame_statistics::count_pairs;
 
 /// The greatest difference of two planes, and the first place that has it.
 #[derive(Clone, Copy, Debug, PartialEq, Eq)]
@@ -28,7 +28,7 @@ pub fn count_above<T: Pixel>(a: &PlaneRef<'_, T>, b: &PlaneRef<'_, T>, threshold
         (λ p q. nat_lt threshold (abs_diff (T.form.value p) (T.form.value q)))
         (row_major (table_of a.now)) (row_major (table_of b.now)) }
 {
-    count_pairs(a, b, |p, q| difference_of(p, q) > threshold)
+    rows::count_above(&a.as_rows_ref(), &b.as_rows_ref(), threshold)
 }
 
 /// Returns the greatest difference of the values of two planes of one size, and the first place that has it, row after
@@ -42,7 +42,7 @@ pub fn greatest_difference<T: Pixel>(a: &PlaneRef<'_, T>, b: &PlaneRef<'_, T>) -
 }
 
 /// Returns the greatest difference of two pictures of one size.
-fn greatest_difference_of_rows<T: Pixel>(
+pub(crate) fn greatest_difference_of_rows<T: Pixel>(
     a: &RowsRef<'_, T>,
     b: &RowsRef<'_, T>,
 ) -> GreatestDifference
@@ -102,7 +102,7 @@ fn first_place<T: Pixel>(row: &[T], other: &[T], difference: u16) -> usize
 
 /// Returns how far the values of two pixels are apart.
 #[inline(always)]
-fn difference_of<T: Pixel>(p: T, q: T) -> u16
+pub(crate) fn difference_of<T: Pixel>(p: T, q: T) -> u16
     ensures { result ≡ abs_diff (T.form.value p) (T.form.value q) }
 {
     p.into_u16().abs_diff(q.into_u16())

@@ -7,6 +7,7 @@ ghost use Rattle.v_frame_measures.specs.Ssim.{line_format, line_of, peak_of, ssi
 mod sums;
 mod window;
 
+use crate::rows;
 use std::num::{f32_to_f64_with_nan, nearest_u64_to_f64};
 use sums::sums_of_columns;
 use v_frame::pixel::Pixel;
@@ -25,10 +26,7 @@ pub fn ssim<T: Pixel>(a: &PlaneRef<'_, T>, b: &PlaneRef<'_, T>, bit_depth: u8) -
     ensures value { IfSome result (λ ssim.
         ssim ≡ ssim_of T.form (peak_of bit_depth) (table_of a.now) (table_of b.now)) }
 {
-    if a.width() < 8 || a.height() < 8 {
-        return None;
-    }
-    Some(mean_similarity(&a.as_rows_ref(), &b.as_rows_ref(), bit_depth))
+    rows::ssim(&a.as_rows_ref(), &b.as_rows_ref(), bit_depth)
 }
 
 /// Returns the mean over the windows of two pictures of one size.

@@ -122,6 +122,7 @@ fn extend_row<T: Copy>(row: &mut [T], left: usize, width: usize)
 }
 
 /// Fills the pixels of a row from one column up to another.
+#[inline(always)]
 fn fill_part<T: Copy>(row: &mut [T], start: usize, end: usize, pixel: T)
     requires order { start ≤ end }
     requires within { end ≤ length row.old }
@@ -138,6 +139,7 @@ fn fill_part<T: Copy>(row: &mut [T], start: usize, end: usize, pixel: T)
 
 /// Does the same by blocks of 16 pixels. A border is a block or two wide, and a loop that may end at each pixel takes longer
 /// to begin and to end than to write. The last block may reach back into the one before it.
+#[inline(always)]
 fn fill_blocks<T: Copy>(row: &mut [T], start: usize, end: usize, pixel: T)
     requires order { start + 16 ≤ end }
     requires within { end ≤ length row.old }
@@ -152,6 +154,7 @@ fn fill_blocks<T: Copy>(row: &mut [T], start: usize, end: usize, pixel: T)
 }
 
 /// Fills the 16 pixels of a row from a column on.
+#[inline(always)]
 fn fill_block<T: Copy>(row: &mut [T], start: usize, pixel: T)
     requires { start + 16 ≤ length row.old }
     ensures before { (x : ℕ) → x < start → slice_get row.new x ≡ slice_get row.old x }
@@ -163,6 +166,7 @@ fn fill_block<T: Copy>(row: &mut [T], start: usize, pixel: T)
 }
 
 /// Fills 16 pixels.
+#[inline(always)]
 fn fill_sixteen<T: Copy>(pixels: &mut [T], pixel: T)
     requires { length pixels.old ≡ 16 }
     ensures { pixels.new ≡ replicate (length pixels.old) pixel }

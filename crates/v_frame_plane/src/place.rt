@@ -1,6 +1,6 @@
 //! Where the visible pixels of a geometry are in its buffer.
-ghost use Rattle.std.specs.Prelude.{ℕ, ◌≡◌, ◌+◌, ◌*◌, ◌<◌, ◌≤◌, IfSome, IsNone};
-ghost use Rattle.v_frame_raster.specs.Geometry.{alloc_size_of, IsGeometry, Fits, place_of};
+ghost use Rattle.std.specs.Prelude.{◌≡◌, ◌+◌, ◌*◌, ◌<◌, ◌≤◌, min};
+ghost use Rattle.v_frame_raster.specs.Geometry.{alloc_size_of, IsGeometry, Fits, usize_max, place_of};
 
 use v_frame_raster::geometry::PlaneGeometry;
 
@@ -36,26 +36,15 @@ pub fn visible_size(geometry: PlaneGeometry) -> usize
     geometry.width() * geometry.height()
 }
 
-/// Returns the index of column 0 of row `y`, of the rows below the visible ones too. `None` below the last row of the buffer.
-#[tactic(auto, using(v_frame_raster::proofs::Plans::row_of_buffer, v_frame_raster::proofs::Plans::no_place_below))]
-pub fn checked_row_start(geometry: PlaneGeometry, y: usize) -> Option<usize>
+/// Returns the index of (x, y), which may be past the end of the buffer; `usize::MAX`, which is past the end of any, where no
+/// `usize` holds it.
+pub fn saturated_place(geometry: PlaneGeometry, x: usize, y: usize) -> usize
     requires { Fits geometry }
-    ensures place { IfSome result (λ start. start ≡ place_of geometry 0 y) }
-    ensures within { IfSome result (λ start. start ≤ alloc_size_of geometry) }
-    ensures none { IsNone result → (x : ℕ) → alloc_size_of geometry ≤ place_of geometry x y }
+    ensures { result ≡ min (place_of geometry x y) usize_max }
 {
-    if y >= geometry.height() + geometry.pad_bottom() {
-        return None;
-    }
-    Some(geometry.stride() * (geometry.pad_top() + y) + geometry.pad_left())
-}
-
-/// Returns the index of (x, y), which may be past the end of the buffer. `None` below the last row of the buffer, and where no
-/// `usize` holds the index.
-pub fn checked_place(geometry: PlaneGeometry, x: usize, y: usize) -> Option<usize>
-    requires { Fits geometry }
-    ensures value { IfSome result (λ place. place ≡ place_of geometry x y) }
-    ensures none { IsNone result → alloc_size_of geometry ≤ place_of geometry x y }
-{
-    checked_row_start(geometry, y)?.checked_add(x)
+    geometry
+        .stride()
+        .saturating_mul(y)
+        .saturating_add(x)
+        .saturating_add(geometry.data_origin())
 }

@@ -8,7 +8,7 @@ ghost use Rattle.v_frame_raster.specs.Raster.{IsWhole, raster, table_of};
 
 use crate::bytes::ByteData;
 use crate::pixels::Pixels;
-use crate::place::{checked_row_start, row_start, visible_place, visible_size};
+use crate::place::{row_start, saturated_place, visible_place, visible_size};
 use crate::rows::Rows;
 use crate::rows_ref::RowsRef;
 use crate::strided::encode_rows;
@@ -200,7 +200,7 @@ impl<'a, T: Copy> PlaneRef<'a, T> {
     /// Returns the entry at the index of column `x` and row `y`. `None` exactly where that index is past the end of the
     /// buffer.
     ///
-    /// The row is tested first, and then one index in what is left of the buffer: along a row nothing else is left to test.
+    /// The visible rectangle is tested first: there the index needs no further test.
     pub fn pixel(&self, x: usize, y: usize) -> Option<T>
         ensures value { result ≡ slice_get self.now.buffer (place_of self.now.geometry x y) }
         ensures none { IsNone result
@@ -208,9 +208,12 @@ impl<'a, T: Copy> PlaneRef<'a, T> {
         ensures inside { x < self.now.geometry.width → y < self.now.geometry.height
             → result ≡ pixel_at (table_of self.now) x y }
     {
-        let start = checked_row_start(self.geometry, y)?;
-        let (_, rest) = self.buffer.split_at(start);
-        rest.get(x).copied()
+        if x < self.geometry.width() && y < self.geometry.height() {
+            return Some(self.visible_pixel(x, y));
+        }
+        self.buffer
+            .get(saturated_place(self.geometry, x, y))
+            .copied()
     }
 
     /// Returns the visible pixel of column `x` in row `y`, which must be below [`width`](Self::width) and

@@ -1,8 +1,10 @@
 -- Pixels decoded from bytes, one more or eight more at a time.
 use Rattle.std.proofs.Common.{ℕ, zero, suc, ◌≡◌, ◌+◌, ◌*◌, ◌<◌, List, [], ◌∷◌, ◌++◌, length, take, drop, get_or, set}
-use Rattle.std.proofs.Common.{refl, ap, arith, zero-add, suc-add, ◌≤◌, ◌/◌, ◌%◌}
+use Rattle.std.proofs.Common.{refl, ap, arith, zero-add, suc-add, ◌≤◌, ◌/◌, ◌%◌, ◌∙◌, map}
 use Rattle.std.proofs.lemmas.Simd.{take_more_put_chunk}
-use Rattle.std.proofs.lemmas.List.{drop-drop, drop_more, map-append, take_more_set}
+use Rattle.std.proofs.lemmas.List.{drop-drop, drop-take, drop_more, map-append, take-take, take_more_set}
+use Rattle.std.proofs.lemmas.Slice.{take-put_mid}
+use borrow.Rule.Slice.PartMut.{put_mid}
 use Rattle.std.specs.Simd.Lanes.{Each1, put_chunk, number_l, digits_l}
 use Rattle.v_frame_raster.specs.Pixel.{PixelForm, one_byte, two_bytes, value_of_bytes, pixels_of_bytes}
 use Rattle.v_frame_raster.specs.Table.{cut_rows}
@@ -19,6 +21,19 @@ cut_rows-append width (suc pieces) more source =
       cut_rows-append width pieces more (drop width source),
       drop-drop (width * pieces) width source,
       e,
+    )
+
+-- the pieces of a source are those of as much of it as they take
+cut_rows-take : {X : Type 0} (width pieces : ℕ) (source : List X)
+    → cut_rows width pieces (take (width * pieces) source) ≡ cut_rows width pieces source
+cut_rows-take width zero source = refl
+cut_rows-take width (suc pieces) source =
+    let e : width * suc pieces ≡ width + width * pieces = omega arith in
+    rw (
+      e,
+      take-take width (width + width * pieces) source (omega arith),
+      drop-take width (width * pieces) source,
+      cut_rows-take width pieces (drop width source),
     )
 
 -- the pixels of a list of bytes are some, and then those of the bytes that these leave
@@ -57,6 +72,16 @@ two_byte_pixels-eight_more pixels bytes lanes at room is so_far =
       is,
       pixels_of_bytes-append two_bytes at 8 bytes,
     )
+
+-- sixteen more pixels are decoded from the 32 bytes at their place
+pub two_byte_pixels-sixteen_more : (pixels bytes part : List ℕ) (at : ℕ) → at ≤ length pixels
+    → part ≡ pixels_of_bytes two_bytes 16 (take 32 (drop (2 * at) bytes)) → DecodedUpTo at pixels bytes
+    → DecodedUpTo (at + 16) (put_mid at 16 pixels part) bytes
+two_byte_pixels-sixteen_more pixels bytes part at room is so_far =
+    let long : length part ≡ 16 = ap length is in
+    let same = ap (map (λ b. value_of_bytes b)) (cut_rows-take 2 16 (drop (2 * at) bytes)) in
+    take-put_mid at 16 pixels part (at + 16) (omega (arith, long)) room
+    ∙ rw (so_far, is, pixels_of_bytes-append two_bytes at 16 bytes, ← same)
 
 -- lanes of two bytes each, low byte first, are the pixels of these bytes
 pub two_byte_pixels-lanes : (count : ℕ) (bytes : List ℕ) → 2 * count ≤ length bytes → Each1 (λ byte. byte < 256) bytes

@@ -80,17 +80,6 @@ row_within g y h =
     let above : g.pad_top + y + 1 ≤ g.height + g.pad_top + g.pad_bottom = omega arith in
     omega (arith, mul-le-mul_right (stride_of g) above)
 
--- a row of the buffer, from the first visible one on, begins in it
-pub row_of_buffer : (g : Geometry) (y : ℕ) → 0 < g.height → y < g.height + g.pad_bottom
-    → (stride_of g * (g.pad_top + y) + g.pad_left ≡ place_of g 0 y) × (place_of g 0 y ≤ alloc_size_of g)
-row_of_buffer g y high h =
-    let above : g.pad_top + y + 1 ≤ g.height + g.pad_top + g.pad_bottom = omega arith in
-    (omega (arith, origin_is g high), omega (arith, origin_is g high, mul-le-mul_right (stride_of g) above))
-
--- below the last row of the buffer there is no place in it
-pub no_place_below : (g : Geometry) (x y : ℕ) → 0 < g.height → g.height + g.pad_bottom ≤ y → alloc_size_of g ≤ place_of g x y
-no_place_below g x y high h = omega (arith, origin_is g high, mul-le-mul_right (stride_of g) h)
-
 -- the rectangle is no larger than the buffer
 pub visible_within : (g : Geometry) → g.width * g.height ≤ alloc_size_of g
 visible_within g =

@@ -1,11 +1,12 @@
 -- Places of pixels: what is at one, and that it is the table's pixel inside the rectangle.
 use Rattle.std.proofs.Common.{ℕ, ◌≡◌, ◌+◌, ◌-◌, ◌*◌, ◌<◌, ◌≤◌, ◌↔◌, IsNone, List, length, take, drop, Option, Some}
 use Rattle.std.proofs.Common.{None, slice_get, option_copied, Bor, All, inl, inr, length-take-le, length-drop, refl}
-use Rattle.std.proofs.Common.{sym, ◌∙◌, ap, arith}
+use Rattle.std.proofs.Common.{sym, ◌∙◌, ap, min, arith}
+use Rattle.std.proofs.lemmas.Bool.{cases_lt}
 use Rattle.std.proofs.lemmas.Option.{slice_get_past, slice_get_read, slice_get_cases, slice_get_within}
 use Rattle.std.proofs.lemmas.Option.{get_or_from_slice_get}
 use Rattle.std.specs.Slice.{IsGetResult}
-use Rattle.v_frame_raster.specs.Geometry.{Geometry, stride_of, alloc_size_of, place_of}
+use Rattle.v_frame_raster.specs.Geometry.{Geometry, stride_of, alloc_size_of, usize_max, place_of}
 use Rattle.v_frame_raster.specs.Raster.{Raster, table_of}
 use Rattle.v_frame_raster.specs.RasterLaws.{HoldsRows}
 use Rattle.v_frame_raster.specs.Table.{pixel_at}
@@ -18,6 +19,15 @@ pub place_within : (g : Geometry) (x y : ℕ) → x < g.width → y < g.height �
 place_within g x y hx hy =
     let high : 0 < g.height = omega arith in
     omega (arith, place_of_row g y high, row_within g y hy)
+
+-- where a number of a place that counts no further reads an entry, the place does
+pub counted_get : {X : Type 0} (xs : List X) (place : ℕ) → length xs ≤ usize_max
+    → slice_get xs (min place usize_max) ≡ slice_get xs place
+counted_get xs place fits =
+    elim (cases_lt usize_max place) [
+      | inl past ↦ slice_get_past xs _ (omega arith) ∙ sym (slice_get_past xs place (omega arith))
+      | inr within ↦ let e : min place usize_max ≡ place = omega arith in rw e
+    ]
 
 -- what `get` reads, copied
 pub copied_get : {X : Type 0} (xs : List X) (i : ℕ) (r : Option (Bor X)) → IsGetResult xs i i r

@@ -2,10 +2,11 @@
 -- written that lie side by side.
 use Rattle.std.proofs.Common.{ℕ, ◌≡◌, ◌+◌, ◌-◌, ◌<◌, ◌≤◌, ◌↔◌, List, [], ◌++◌, length, take, drop, Option, Some, None}
 use Rattle.std.proofs.Common.{IsNone, MutBor, slice_get, slice_set, refl, ◌∙◌, ap, arith, append-nil, length-take-le}
-use Rattle.std.proofs.Common.{length-drop, length-set}
+use Rattle.std.proofs.Common.{length-drop, length-set, inl, inr, min, sym}
 use Rattle.std.specs.Option.{option_copied_mut}
-use Rattle.std.proofs.lemmas.List.{drop_all}
-use Rattle.v_frame_raster.specs.Geometry.{alloc_size_of, place_of}
+use Rattle.std.proofs.lemmas.Bool.{cases_lt}
+use Rattle.std.proofs.lemmas.List.{drop_all, set_past}
+use Rattle.v_frame_raster.specs.Geometry.{alloc_size_of, usize_max, place_of}
 use Rattle.v_frame_raster.specs.Raster.{Raster, raster}
 use Rattle.v_frame_raster.specs.Writes.{with_two_parts, with_entry, WritesPixel, WritesEachPixel}
 use Rattle.v_frame_raster.proofs.tables.Lists.{set_in_part}
@@ -56,6 +57,15 @@ pub writes_each_pixel : {T : Type 0} (p : Raster T) (x y : ℕ) → x < p.geomet
     → length p.buffer ≡ alloc_size_of p.geometry
     → WritesEachPixel p x y
 writes_each_pixel p x y wide high whole = λ pixel. writes_pixel p x y pixel wide high whole
+
+-- a write where a number of a place that counts no further says leaves what one at the place does
+pub counted_set : {X : Type 0} (xs : List X) (place : ℕ) (entry : X) → length xs ≤ usize_max
+    → slice_set xs (min place usize_max) entry ≡ slice_set xs place entry
+counted_set xs place entry fits =
+    elim (cases_lt usize_max place) [
+      | inl past ↦ set_past xs _ entry (omega arith) ∙ sym (set_past xs place entry (omega arith))
+      | inr within ↦ let e : min place usize_max ≡ place = omega arith in rw e
+    ]
 
 -- what the code's write at a place leaves
 pub set_at : {T : Type 0} (p : Raster T) (x y place : ℕ) (entry : T) → place ≡ place_of p.geometry x y →

@@ -212,10 +212,10 @@ impl PixelCalls for u16 {
     fn pixel_decode_row(dst: &mut [u16], src: &[u8]) {
         let blocks = dst.len() / 16;
         for block in 0..blocks {
-            // Two stores of eight pixels, the lower first: one of sixteen is stored upper half first, which is slower where
-            // rows begin in the middle of a cache line.
-            eight_pixels(&src[32 * block..]).copy_to_slice(&mut dst[16 * block..]);
-            eight_pixels(&src[32 * block + 16..]).copy_to_slice(&mut dst[16 * block + 8..]);
+            decode_sixteen(
+                &mut dst[16 * block..16 * block + 16],
+                &src[32 * block..32 * block + 32],
+            );
         }
         // The short rest of the row.
         for i in 16 * blocks..dst.len() {
@@ -276,6 +276,16 @@ pub(crate) fn encode_row_proved<T: Pixel>(bytes: &mut [u8], row: &[T]) {
             bytes[start + 1] = row[i].pixel_le_byte(1);
         }
     }
+}
+
+/// Decodes 16 pixels.
+///
+/// Two stores of eight, the lower first: one of sixteen is stored upper half first, which is slower where rows begin in the
+/// middle of a cache line.
+#[inline(always)]
+fn decode_sixteen(dst: &mut [u16], src: &[u8]) {
+    eight_pixels(src).copy_to_slice(dst);
+    eight_pixels(&src[16..]).copy_to_slice(&mut dst[8..]);
 }
 
 /// Returns the pixels of the first 16 bytes.

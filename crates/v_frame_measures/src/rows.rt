@@ -1,0 +1,61 @@
+//! The same measures of pictures whose rows are in a buffer.
+ghost use Rattle.std.specs.Prelude.{◌≡◌, ◌≤◌, ◌↔◌, IfSome, IsSome, nat_lt};
+ghost use Rattle.std.specs.Int.{abs_diff};
+ghost use Rattle.v_frame.specs.Prelude.{height_of, row_major, width_of};
+ghost use Rattle.v_frame_statistics.specs.Prelude.{passing_pairs};
+ghost use Rattle.v_frame_measures.specs.Differences.{IsGreatestDifference};
+ghost use Rattle.v_frame_measures.specs.Errors.{mean_error};
+ghost use Rattle.v_frame_measures.specs.Ssim.{peak_of, ssim_of};
+
+use crate::differences::{GreatestDifference, difference_of, greatest_difference_of_rows};
+use crate::errors::mean_squared_error_of_rows;
+use crate::similarity::mean_similarity;
+use v_frame::pixel::Pixel;
+use v_frame::plane::RowsRef;
+use v_frame_statistics::rows::count_pairs;
+
+/// Returns the mean squared error of two pictures of one size: the sum of the squares of the differences of their pixels
+/// over how many there are, each rounded to the nearest `f64`.
+pub fn mean_squared_error<T: Pixel>(a: &RowsRef<'_, T>, b: &RowsRef<'_, T>) -> f64
+    requires wide { width_of a.now ≡ width_of b.now }
+    requires high { height_of a.now ≡ height_of b.now }
+    ensures { result ≡ mean_error T.form.value a.now b.now }
+{
+    mean_squared_error_of_rows(a, b)
+}
+
+/// Returns the structural similarity (SSIM) of two pictures of one size, at so many bits of a sample, at most 16.
+///
+/// `None` exactly where a side is below 8: no window stands there.
+pub fn ssim<T: Pixel>(a: &RowsRef<'_, T>, b: &RowsRef<'_, T>, bit_depth: u8) -> Option<f64>
+    requires wide { width_of a.now ≡ width_of b.now }
+    requires high { height_of a.now ≡ height_of b.now }
+    ensures some { IsSome result ↔ ((8 ≤ width_of a.now) × (8 ≤ height_of a.now)) }
+    ensures value { IfSome result (λ ssim. ssim ≡ ssim_of T.form (peak_of bit_depth) a.now b.now) }
+{
+    if a.width() < 8 || a.height() < 8 {
+        return None;
+    }
+    Some(mean_similarity(a, b, bit_depth))
+}
+
+/// Returns the greatest difference of the values of two pictures of one size, and the first place that has it, row after
+/// row from the top.
+pub fn greatest_difference<T: Pixel>(a: &RowsRef<'_, T>, b: &RowsRef<'_, T>) -> GreatestDifference
+    requires wide { width_of a.now ≡ width_of b.now }
+    requires high { height_of a.now ≡ height_of b.now }
+    ensures { IsGreatestDifference T.form.value a.now b.now result }
+{
+    greatest_difference_of_rows(a, b)
+}
+
+/// Returns at how many places the values of two pictures of one size are further apart than a threshold.
+pub fn count_above<T: Pixel>(a: &RowsRef<'_, T>, b: &RowsRef<'_, T>, threshold: u16) -> usize
+    requires wide { width_of a.now ≡ width_of b.now }
+    requires high { height_of a.now ≡ height_of b.now }
+    ensures { result ≡ passing_pairs
+        (λ p q. nat_lt threshold (abs_diff (T.form.value p) (T.form.value q)))
+        (row_major a.now) (row_major b.now) }
+{
+    count_pairs(a, b, |p, q| difference_of(p, q) > threshold)
+}
