@@ -49,7 +49,9 @@ enum v_frame_status {
     /* The third rows do not fit the third buffer. */
     V_FRAME_THIRD_ROWS = 6,
     /* The fourth rows do not fit the fourth buffer. */
-    V_FRAME_FOURTH_ROWS = 7
+    V_FRAME_FOURTH_ROWS = 7,
+    /* A side of the pictures is below 8: no window of 8 by 8 pixels has room. */
+    V_FRAME_WINDOWS = 8
 };
 
 /* Chroma formats. */
@@ -178,6 +180,13 @@ typedef struct v_frame_pair_statistics {
     v_frame_sum second_squares;
     v_frame_sum products;
 } v_frame_pair_statistics;
+
+/* The greatest difference of two pictures, and the first place that has it, row after row from the top. */
+typedef struct v_frame_greatest {
+    size_t x;
+    size_t y;
+    uint32_t difference;
+} v_frame_greatest;
 
 /* Sum the squares of the differences of two pictures of one size. */
 uint32_t v_frame_squared_errors_u8(const v_frame_rows *a_rows, const uint8_t *a, size_t a_length, const v_frame_rows *b_rows,
@@ -352,6 +361,34 @@ uint32_t v_frame_pair_statistics_u8(const v_frame_rows *a_rows, const uint8_t *a
                                     const uint8_t *b, size_t b_length, v_frame_pair_statistics *found);
 uint32_t v_frame_pair_statistics_u16(const v_frame_rows *a_rows, const uint16_t *a, size_t a_length, const v_frame_rows *b_rows,
                                      const uint16_t *b, size_t b_length, v_frame_pair_statistics *found);
+
+/* Measure the mean squared error of two pictures of one size: the sum of the squares of their differences over how many pixels
+ * there are, each rounded to a double. The peak signal-to-noise ratio is 10 * log10(peak * peak / error) decibels, where peak is
+ * 2^depth - 1. */
+uint32_t v_frame_mean_squared_error_u8(const v_frame_rows *a_rows, const uint8_t *a, size_t a_length, const v_frame_rows *b_rows,
+                                       const uint8_t *b, size_t b_length, double *error);
+uint32_t v_frame_mean_squared_error_u16(const v_frame_rows *a_rows, const uint16_t *a, size_t a_length,
+                                        const v_frame_rows *b_rows, const uint16_t *b, size_t b_length, double *error);
+
+/* Measure the structural similarity (SSIM) of two pictures of one size, digit for digit as FFmpeg's filter computes it for a plane
+ * in C: the mean over windows of 8 by 8 pixels at every fourth column and row. Of 8 bits, or of `bit_depth` bits: V_FRAME_NUMBER
+ * unless it is 8 to 16. V_FRAME_WINDOWS where a side is below 8, which is tested last. */
+uint32_t v_frame_ssim_u8(const v_frame_rows *a_rows, const uint8_t *a, size_t a_length, const v_frame_rows *b_rows,
+                         const uint8_t *b, size_t b_length, double *similarity);
+uint32_t v_frame_ssim_u16(const v_frame_rows *a_rows, const uint16_t *a, size_t a_length, const v_frame_rows *b_rows,
+                          const uint16_t *b, size_t b_length, uint32_t bit_depth, double *similarity);
+
+/* Find the greatest difference of the values of two pictures of one size, and the first place that has it. */
+uint32_t v_frame_greatest_difference_u8(const v_frame_rows *a_rows, const uint8_t *a, size_t a_length, const v_frame_rows *b_rows,
+                                        const uint8_t *b, size_t b_length, v_frame_greatest *found);
+uint32_t v_frame_greatest_difference_u16(const v_frame_rows *a_rows, const uint16_t *a, size_t a_length,
+                                         const v_frame_rows *b_rows, const uint16_t *b, size_t b_length, v_frame_greatest *found);
+
+/* Count the places at which the values of two pictures of one size are more than `threshold` apart. */
+uint32_t v_frame_count_above_u8(const v_frame_rows *a_rows, const uint8_t *a, size_t a_length, const v_frame_rows *b_rows,
+                                const uint8_t *b, size_t b_length, uint16_t threshold, uint64_t *count);
+uint32_t v_frame_count_above_u16(const v_frame_rows *a_rows, const uint16_t *a, size_t a_length, const v_frame_rows *b_rows,
+                                 const uint16_t *b, size_t b_length, uint16_t threshold, uint64_t *count);
 
 /* Count the pixels of a picture with a value from `least` to `greatest`: of one value where both are the same, and of none where
  * `least` is the greater. */

@@ -42,6 +42,7 @@ static uint64_t distance(uint32_t p, uint32_t q) {
 #include "samples.inc"
 #include "pictures.inc"
 #include "conversions.inc"
+#include "measures.inc"
 #undef SAMPLE
 #undef NAME
 #undef TEST
@@ -49,10 +50,12 @@ static uint64_t distance(uint32_t p, uint32_t q) {
 #define SAMPLE uint16_t
 #define NAME(call) v_frame_##call##_u16
 #define TEST(name) name##_u16
+#define OF_DEPTH
 
 #include "samples.inc"
 #include "pictures.inc"
 #include "conversions.inc"
+#include "measures.inc"
 
 /* A value of `from` bits in `to` bits, by the words of the header. */
 static uint32_t at_depth(uint32_t value, uint32_t from, uint32_t to) {
@@ -342,6 +345,10 @@ int main(void) {
     pictures_u16();
     conversions_u8();
     conversions_u16();
+    measures_u8();
+    measures_u16();
+    refused_measures_u8();
+    refused_measures_u16();
     depths();
     colours();
     samples_of_colours();

@@ -24,3 +24,6 @@ pub const THIRD: u32 = 6;
 
 /// The fourth rows don't fit theirs.
 pub const FOURTH: u32 = 7;
+
+/// No window of 8 by 8 pixels has room in the pictures.
+pub const WINDOWS: u32 = 8;

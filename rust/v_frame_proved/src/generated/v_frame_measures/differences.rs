@@ -2,9 +2,9 @@
 //! Differences of the values of two planes, place by place.
 
 use crate::views::AsPlaneRef;
+use crate::generated::v_frame_measures::rows;
 use crate::generated::v_frame::pixel::Pixel;
 use crate::generated::v_frame::plane::RowsRef;
-use crate::generated::v_frame_statistics::count_pairs;
 
 /// The greatest difference of two planes, and the first place that has it.
 #[derive(Clone, Copy, Debug, PartialEq, Eq)]
@@ -39,7 +39,7 @@ pub fn count_above<T: Pixel>(a: impl AsPlaneRef<Pixel = T>, b: impl AsPlaneRef<P
         a.height() == b.height(),
         "the heights of a ({}) and b ({}) are not equal", a.height(), b.height()
     );
-    count_pairs(a, b, |p, q| difference_of(p, q) > threshold)
+    rows::count_above(&a.as_rows_ref(), &b.as_rows_ref(), threshold)
 }
 
 /// Returns the greatest difference of the values of two planes of one size, and the first place that has it, row after
@@ -69,7 +69,7 @@ pub fn greatest_difference<T: Pixel>(a: impl AsPlaneRef<Pixel = T>, b: impl AsPl
 }
 
 /// Returns the greatest difference of two pictures of one size.
-fn greatest_difference_of_rows<T: Pixel>(
+pub(crate) fn greatest_difference_of_rows<T: Pixel>(
     a: &RowsRef<'_, T>,
     b: &RowsRef<'_, T>,
 ) -> GreatestDifference {
@@ -115,6 +115,6 @@ fn first_place<T: Pixel>(row: &[T], other: &[T], difference: u16) -> usize {
 
 /// Returns how far the values of two pixels are apart.
 #[inline(always)]
-fn difference_of<T: Pixel>(p: T, q: T) -> u16 {
+pub(crate) fn difference_of<T: Pixel>(p: T, q: T) -> u16 {
     p.pixel_into_u16().abs_diff(q.pixel_into_u16())
 }

@@ -37,6 +37,7 @@ mod differences;
 mod errors;
 mod frames;
 mod means;
+pub mod rows;
 mod similarity;
 
 pub use differences::{GreatestDifference, count_above, greatest_difference};

@@ -5,6 +5,7 @@ mod sums;
 mod window;
 
 use crate::views::AsPlaneRef;
+use crate::generated::v_frame_measures::rows;
 use crate::support::numbers::{f32_to_f64_with_nan, nearest_u64_to_f64};
 use sums::sums_of_columns;
 use crate::generated::v_frame::pixel::Pixel;
@@ -36,10 +37,7 @@ pub fn ssim<T: Pixel>(a: impl AsPlaneRef<Pixel = T>, b: impl AsPlaneRef<Pixel = 
         a.height() == b.height(),
         "the heights of a ({}) and b ({}) are not equal", a.height(), b.height()
     );
-    if a.width() < 8 || a.height() < 8 {
-        return None;
-    }
-    Some(mean_similarity(&a.as_rows_ref(), &b.as_rows_ref(), bit_depth))
+    rows::ssim(&a.as_rows_ref(), &b.as_rows_ref(), bit_depth)
 }
 
 /// Returns the mean over the windows of two pictures of one size.

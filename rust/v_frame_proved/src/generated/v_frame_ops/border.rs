@@ -81,6 +81,7 @@ fn extend_row<T: Copy>(row: &mut [T], left: usize, width: usize) {
 }
 
 /// Fills the pixels of a row from one column up to another.
+#[inline(always)]
 fn fill_part<T: Copy>(row: &mut [T], start: usize, end: usize, pixel: T) {
     if end - start < 16 {
         fill_row(&mut row[start..end], pixel);
@@ -91,6 +92,7 @@ fn fill_part<T: Copy>(row: &mut [T], start: usize, end: usize, pixel: T) {
 
 /// Does the same by blocks of 16 pixels. A border is a block or two wide, and a loop that may end at each pixel takes longer
 /// to begin and to end than to write. The last block may reach back into the one before it.
+#[inline(always)]
 fn fill_blocks<T: Copy>(row: &mut [T], start: usize, end: usize, pixel: T) {
     for block in 0..(end - start - 1) / 16 {
         fill_block(row, start + 16 * block, pixel);
@@ -99,11 +101,13 @@ fn fill_blocks<T: Copy>(row: &mut [T], start: usize, end: usize, pixel: T) {
 }
 
 /// Fills the 16 pixels of a row from a column on.
+#[inline(always)]
 fn fill_block<T: Copy>(row: &mut [T], start: usize, pixel: T) {
     fill_sixteen(&mut row[start..start + 16], pixel);
 }
 
 /// Fills 16 pixels.
+#[inline(always)]
 fn fill_sixteen<T: Copy>(pixels: &mut [T], pixel: T) {
     pixels.copy_from_slice(&[pixel; 16]);
 }

@@ -24,20 +24,14 @@ pub fn visible_size(geometry: PlaneGeometry) -> usize {
     geometry.width() * geometry.height()
 }
 
-/// Returns the index of column 0 of row `y`, of the rows below the visible ones too. `None` below the last row of the buffer.
+/// Returns the index of (x, y), which may be past the end of the buffer; `usize::MAX`, which is past the end of any, where no
+/// `usize` holds it.
 #[inline]
 #[must_use]
-pub fn checked_row_start(geometry: PlaneGeometry, y: usize) -> Option<usize> {
-    if y >= geometry.height() + geometry.pad_bottom() {
-        return None;
-    }
-    Some(geometry.stride() * (geometry.pad_top() + y) + geometry.pad_left())
-}
-
-/// Returns the index of (x, y), which may be past the end of the buffer. `None` below the last row of the buffer, and where no
-/// `usize` holds the index.
-#[inline]
-#[must_use]
-pub fn checked_place(geometry: PlaneGeometry, x: usize, y: usize) -> Option<usize> {
-    checked_row_start(geometry, y)?.checked_add(x)
+pub fn saturated_place(geometry: PlaneGeometry, x: usize, y: usize) -> usize {
+    geometry
+        .stride()
+        .saturating_mul(y)
+        .saturating_add(x)
+        .saturating_add(geometry.data_origin_proved())
 }

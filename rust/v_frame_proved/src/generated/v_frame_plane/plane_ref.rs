@@ -3,7 +3,7 @@
 
 use crate::generated::v_frame_plane::bytes::ByteData;
 use crate::generated::v_frame_plane::pixels::Pixels;
-use crate::generated::v_frame_plane::place::{checked_row_start, row_start, visible_place, visible_size};
+use crate::generated::v_frame_plane::place::{row_start, saturated_place, visible_place, visible_size};
 use crate::generated::v_frame_plane::rows::Rows;
 use crate::generated::v_frame_plane::rows_ref::RowsRef;
 use crate::generated::v_frame_plane::strided::encode_rows;
@@ -200,13 +200,16 @@ impl<'a, T: Copy> PlaneRef<'a, T> {
     /// Returns the entry at the index of column `x` and row `y`. `None` exactly where that index is past the end of the
     /// buffer.
     ///
-    /// The row is tested first, and then one index in what is left of the buffer: along a row nothing else is left to test.
+    /// The visible rectangle is tested first: there the index needs no further test.
     #[inline]
     #[must_use]
     pub fn pixel(&self, x: usize, y: usize) -> Option<T> {
-        let start = checked_row_start(self.geometry, y)?;
-        let (_, rest) = self.buffer.split_at(start);
-        rest.get(x).copied()
+        if x < self.geometry.width() && y < self.geometry.height() {
+            return Some(self.visible_pixel_proved(x, y));
+        }
+        self.buffer
+            .get(saturated_place(self.geometry, x, y))
+            .copied()
     }
 
     /// Returns the visible pixel of column `x` in row `y`, which must be below [`width`](Self::width) and
