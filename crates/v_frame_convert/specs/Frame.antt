@@ -68,13 +68,16 @@ AreChromaSizes {S} {T} source target from to =
     → IsChromaSize source.subsampling source.y_plane.geometry.width source.y_plane.geometry.height p
     × IsChromaSize target.subsampling target.y_plane.geometry.width target.y_plane.geometry.height q
 
--- a frame can be converted into another one, and chroma planes that both have are as large as the
--- formats say
-pub record FramesMatch {S T : Type 0} (bytes other : ℕ) (source : Frame S) (target : Frame T)
-    : Type 0 where
-  pub fits : FramesFit bytes other source target
-  pub u : AreChromaSizes source target source.u_plane target.u_plane
-  pub v : AreChromaSizes source target source.v_plane target.v_plane
+-- chroma planes that both frames have are as large as their formats say
+abbrev pub HaveChromaSizes : {S T : Type 0} → Frame S → Frame T → Type 0
+HaveChromaSizes source target =
+    AreChromaSizes source target source.u_plane target.u_plane
+    × AreChromaSizes source target source.v_plane target.v_plane
+
+-- a frame can be converted into another one, and chroma is as large as the formats say
+abbrev pub FramesMatch : {S T : Type 0} → ℕ → ℕ → Frame S → Frame T → Type 0
+FramesMatch bytes other source target =
+    FramesFit bytes other source target × HaveChromaSizes source target
 
 module _ {S T : Type 0} (form : PixelForm S) (other : PixelForm T) (from to : ℕ) where
   -- a chroma plane in another size and depth, or no colour where the source has none
