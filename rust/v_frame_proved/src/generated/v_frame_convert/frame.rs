@@ -65,31 +65,64 @@ pub fn convert_frame<S: Pixel, T: Pixel>(source: &Frame<S>, target: &mut Frame<T
 #[inline]
 #[must_use]
 pub fn frames_fit<S: Pixel, T: Pixel>(source: &Frame<S>, target: &Frame<T>) -> bool {
+    planes_fit(source, target) && have_all_chroma_sizes(source, target)
+}
+
+/// Returns whether the sizes of all planes belong together, and each depth fits its type of pixels.
+fn planes_fit<S: Pixel, T: Pixel>(source: &Frame<S>, target: &Frame<T>) -> bool {
+    let (across, down) = scales_of(source.subsampling, target.subsampling);
     source.y_plane.width() == target.y_plane.width()
         && source.y_plane.height() == target.y_plane.height()
         && depth_fits::<S>(source.bit_depth.get())
         && depth_fits::<T>(target.bit_depth.get())
-        && chroma_matches(source, target, &source.u_plane, &target.u_plane)
-        && chroma_matches(source, target, &source.v_plane, &target.v_plane)
+        && chroma_fits(&source.u_plane, &target.u_plane, across, down)
+        && chroma_fits(&source.v_plane, &target.v_plane, across, down)
 }
 
-/// Returns whether two chroma planes of frames belong together and are as large as the formats say, where both are there.
-fn chroma_matches<S: Pixel, T: Pixel>(
+/// Returns whether chroma planes that both frames have are as large as the formats say.
+fn have_all_chroma_sizes<S: Pixel, T: Pixel>(source: &Frame<S>, target: &Frame<T>) -> bool {
+    have_chroma_sizes(source, target, &source.u_plane, &target.u_plane)
+        && have_chroma_sizes(source, target, &source.v_plane, &target.v_plane)
+}
+
+/// Returns whether the sizes of two chroma planes belong together, where both are there.
+fn chroma_fits<S, T>(
+    source: &Option<Plane<S>>,
+    target: &Option<Plane<T>>,
+    across: Scale,
+    down: Scale,
+) -> bool {
+    match (source, target) {
+        (Some(source), Some(target)) => {
+            sizes_fit(across, source.width(), target.width())
+                && sizes_fit(down, source.height(), target.height())
+        }
+        _ => true,
+    }
+}
+
+/// Returns whether two chroma planes are as large as the formats of their frames say, where both are there.
+fn have_chroma_sizes<S: Pixel, T: Pixel>(
     source: &Frame<S>,
     target: &Frame<T>,
     from: &Option<Plane<S>>,
     to: &Option<Plane<T>>,
 ) -> bool {
-    let (across, down) = scales_of(source.subsampling, target.subsampling);
     match (from, to) {
-        (Some(from), Some(to)) => {
-            sizes_fit(across, from.width(), to.width())
-                && sizes_fit(down, from.height(), to.height())
-                && is_chroma_size(source.subsampling, &source.y_plane, from)
-                && is_chroma_size(target.subsampling, &target.y_plane, to)
-        }
+        (Some(from), Some(to)) => are_chroma_sizes(source, target, from, to),
         _ => true,
     }
+}
+
+/// Returns whether both are.
+fn are_chroma_sizes<S: Pixel, T: Pixel>(
+    source: &Frame<S>,
+    target: &Frame<T>,
+    from: &Plane<S>,
+    to: &Plane<T>,
+) -> bool {
+    is_chroma_size(source.subsampling, &source.y_plane, from)
+        && is_chroma_size(target.subsampling, &target.y_plane, to)
 }
 
 /// Returns whether a chroma plane is as large as its format says beside luma.
