@@ -163,10 +163,10 @@ class Video:
                 pairs += [("duration", f"{spent // 1000}.{spent % 1000:03} s")]
         return "".join(f"{name}: {value}\n" for name, value in pairs)
 
-    def sums(self, planes=False):
-        """The CRC-32 of each frame, or of each plane, by zlib."""
+    def sums(self, planes=False, before=0):
+        """The CRC-32 of each frame, or of each plane, by zlib. So many frames stand before the first one in its file."""
         bytes_each, text = (1 if self.depth == 8 else 2), ""
-        for number, frame in enumerate(self.frames, 1):
+        for number, frame in enumerate(self.frames, before + 1):
             parts = [b"".join(p.to_bytes(bytes_each, "little") for row in plane for p in row) for plane in frame]
             text += f"{number} " + " ".join(f"{zlib.crc32(it):08x}" for it in (parts if planes else [b"".join(parts)])) + "\n"
         return text

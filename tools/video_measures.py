@@ -64,10 +64,10 @@ def similarities(one, other, depth):
 
 
 class Comparison:
-    """Two streams, compared as far as both go."""
+    """Two streams, compared as far as both go. A frame has the number that it has in the file of the first, of which so many are passed over."""
 
-    def __init__(self, one, other, ssim=False, exact=False):
-        self.depth, self.ssim, self.exact = one.depth, ssim, exact
+    def __init__(self, one, other, ssim=False, exact=False, before=0):
+        self.depth, self.ssim, self.exact, self.before = one.depth, ssim, exact, before
         self.pairs = list(zip(one.frames, other.frames))
         self.errors = [errors_of(a, b) for a, b in self.pairs]
         self.similarities = [similarities(a, b, one.depth) for a, b in self.pairs] if ssim else []
@@ -79,7 +79,7 @@ class Comparison:
 
     def first_in(self, number):
         one, other = self.pairs[number]
-        return next(((number + 1, c, x, y, p, q) for c, first, second in zip("YUV", one, other) for y, rows in enumerate(zip(first, second))
+        return next(((self.before + number + 1, c, x, y, p, q) for c, first, second in zip("YUV", one, other) for y, rows in enumerate(zip(first, second))
                      for x, (p, q) in enumerate(zip(*rows)) if p != q), None)
 
     def mean_similarities(self):
@@ -90,7 +90,7 @@ class Comparison:
 
     def frame_line(self, number):
         errors = self.errors[number]
-        text = f"n:{number + 1}" + "".join(f" mse_{k}:{e:.2f}" for k, e in zip(SHORT, means(errors)))
+        text = f"n:{self.before + number + 1}" + "".join(f" mse_{k}:{e:.2f}" for k, e in zip(SHORT, means(errors)))
         text += "".join(f" psnr_{k}:{psnr_of(e, self.depth):.2f}" for k, e in zip(SHORT, means(errors)))
         if self.ssim:
             text += "".join(f" ssim_{k}:{s:.6f}" for k, s in zip(SHORT, self.similarities[number]))

@@ -1,4 +1,4 @@
-/* Prints the PSNR of each frame, all planes together, of two YUV4MPEG2 files of 8 bits: psnr_of_frames FILE FILE */
+/* Prints the PSNR of each frame, all planes together, of two YUV4MPEG2 files: psnr_of_frames FILE FILE */
 #include <fcntl.h>
 #include <math.h>
 #include <stdio.h>
@@ -31,7 +31,6 @@ static stream mapped(const char *name) {
     if (status == V_FRAME_Y4M_OK) status = v_frame_y4m_parse_header(it.at, line - 1, &it.said, &letter);
     if (status == V_FRAME_Y4M_OK) status = v_frame_y4m_frame_bytes(&it.said, &it.frame_bytes);
     need(status == V_FRAME_Y4M_OK, v_frame_y4m_status_text(status));
-    need(it.said.bit_depth == 8, "more than 8 bits");
     return (stream){it.at + line, it.left - line, it.frame_bytes, it.said};
 }
 
@@ -46,14 +45,31 @@ static const uint8_t *next_frame(stream *it) {
     return planes;
 }
 
+/* Sums the squared errors of the bytes of two frames; above 8 bits a sample has two, the low one first. */
+static double squared_errors(const uint8_t *p, const uint8_t *q, size_t size, uint32_t bit_depth) {
+    v_frame_sum sum;
+    const v_frame_rows bytes = v_frame_rows_packed(size, 1), words = v_frame_rows_packed(size / 2, 1);
+    if (bit_depth == 8) {
+        need(v_frame_squared_errors_u8(&bytes, p, size, &bytes, q, size, &sum) == V_FRAME_OK, "too large");
+        return (double)sum.low;
+    }
+    uint16_t *first = malloc(size), *second = malloc(size);
+    need(first != NULL && second != NULL, "no memory");
+    need(v_frame_decode_u16(&words, first, size / 2, &bytes, p, size) == V_FRAME_OK, "too large");
+    need(v_frame_decode_u16(&words, second, size / 2, &bytes, q, size) == V_FRAME_OK, "too large");
+    need(v_frame_squared_errors_u16(&words, first, size / 2, &words, second, size / 2, &sum) == V_FRAME_OK, "too large");
+    free(first);
+    free(second);
+    return (double)sum.low;
+}
+
 int main(int argc, char **argv) {
     need(argc == 3, "usage: psnr_of_frames FILE FILE");
     stream a = mapped(argv[1]), b = mapped(argv[2]);
-    need(a.said.width == b.said.width && a.said.height == b.said.height && a.said.format == b.said.format, "two formats");
-    const v_frame_rows rows = v_frame_rows_packed(a.frame_bytes, 1);
+    need(a.said.width == b.said.width && a.said.height == b.said.height, "two sizes");
+    need(a.said.format == b.said.format && a.said.bit_depth == b.said.bit_depth, "two formats");
+    const double peak = (1u << a.said.bit_depth) - 1, count = (double)a.frame_bytes / (a.said.bit_depth == 8 ? 1 : 2);
     for (const uint8_t *p, *q; (p = next_frame(&a)) != NULL && (q = next_frame(&b)) != NULL;) {
-        v_frame_sum sum;
-        need(v_frame_squared_errors_u8(&rows, p, a.frame_bytes, &rows, q, b.frame_bytes, &sum) == V_FRAME_OK, "too large");
-        printf("%.4f\n", 10 * log10(255.0 * 255.0 * (double)a.frame_bytes / (double)sum.low));
+        printf("%.4f\n", 10 * log10(peak * peak * count / squared_errors(p, q, a.frame_bytes, a.said.bit_depth)));
     }
 }

@@ -1,4 +1,4 @@
-"""Prints the PSNR of each plane of each frame of two YUV4MPEG2 files: psnr_of_frames.py FILE FILE"""
+"""Prints the PSNR of each frame of two YUV4MPEG2 files, and of each of its planes: psnr_of_frames.py FILE FILE"""
 
 import sys
 
@@ -9,5 +9,5 @@ from v_frame import y4m
 if (header.sizes(), header.bit_depth) != (other.sizes(), other.bit_depth):
     sys.exit("the streams have different formats")
 for number, (first, second) in enumerate(zip(frames, others)):
-    values = (v_frame.psnr(a, b, header.bit_depth) for a, b in zip(first, second))
-    print(number, *(f"{value:.4f}" for value in values))
+    values = [v_frame.psnr(a, b, header.bit_depth) for a, b in zip(first, second)]
+    print(number, *(f"{value:.4f}" for value in [v_frame.psnr(first, second), *values]))

@@ -225,11 +225,12 @@ uint32_t v_frame_downscale_u16(const v_frame_rows *rows, uint16_t *buffer, size_
                                const uint16_t *source, size_t source_length);
 
 /* Decode pixels of two bytes, the low byte first whatever the machine's order, as raw video files have them. The rows of the
- * source count bytes, and are twice as wide. */
+ * source count bytes, and are as many as those of the buffer, and twice as wide. */
 uint32_t v_frame_decode_u16(const v_frame_rows *rows, uint16_t *buffer, size_t length, const v_frame_rows *source_rows,
                             const uint8_t *source, size_t source_length);
 
-/* Encode pixels as two bytes each, the low byte first. The rows of the buffer count bytes, and are twice as wide. */
+/* Encode pixels as two bytes each, the low byte first. The rows of the buffer count bytes, and are as many as those of the source,
+ * and twice as wide. */
 uint32_t v_frame_encode_u16(const v_frame_rows *rows, uint8_t *buffer, size_t length, const v_frame_rows *source_rows,
                             const uint16_t *source, size_t source_length);
 
@@ -241,7 +242,8 @@ uint32_t v_frame_blend_u8(const v_frame_rows *rows, uint8_t *buffer, size_t leng
 uint32_t v_frame_blend_u16(const v_frame_rows *rows, uint16_t *buffer, size_t length, const v_frame_rows *source_rows,
                            const uint16_t *source, size_t source_length, uint16_t weight);
 
-/* The same with a weight of 0 to 255 for each pixel: (p * (255 - weight) + q * weight + 127) / 255. */
+/* The same with a weight of 0 to 255 for each pixel: (p * (255 - weight) + q * weight + 127) / 255. The source and the mask have
+ * the size of the picture of the buffer. */
 uint32_t v_frame_blend_with_mask_u8(const v_frame_rows *rows, uint8_t *buffer, size_t length, const v_frame_rows *source_rows,
                                     const uint8_t *source, size_t source_length, const v_frame_rows *mask_rows,
                                     const uint8_t *mask, size_t mask_length);
@@ -249,22 +251,23 @@ uint32_t v_frame_blend_with_mask_u16(const v_frame_rows *rows, uint16_t *buffer,
                                      const uint16_t *source, size_t source_length, const v_frame_rows *mask_rows,
                                      const uint8_t *mask, size_t mask_length);
 
-/* Make each pixel of the buffer how far it lies from that of the source, times `gain`, and at most 2^depth - 1. V_FRAME_NUMBER
- * where the bit depth is below 8, or above what the type holds. */
+/* Make each pixel of the buffer how far it lies from that of the source, which has its size, times `gain`, and at most 2^depth - 1.
+ * V_FRAME_NUMBER where the bit depth is below 8, or above what the type holds. */
 uint32_t v_frame_difference_u8(const v_frame_rows *rows, uint8_t *buffer, size_t length, const v_frame_rows *source_rows,
                                const uint8_t *source, size_t source_length, uint16_t gain, uint32_t depth);
 uint32_t v_frame_difference_u16(const v_frame_rows *rows, uint16_t *buffer, size_t length, const v_frame_rows *source_rows,
                                 const uint16_t *source, size_t source_length, uint16_t gain, uint32_t depth);
 
-/* Make the rows of the buffer show the source turned in a way of enum v_frame_turn. V_FRAME_NUMBER where there is no such way. */
+/* Make the rows of the buffer show the source turned in a way of enum v_frame_turn: they have its size, and from V_FRAME_TRANSPOSE
+ * on its height as their width and its width as their height. V_FRAME_NUMBER where there is no such way. */
 uint32_t v_frame_turn_u8(const v_frame_rows *rows, uint8_t *buffer, size_t length, const v_frame_rows *source_rows,
                          const uint8_t *source, size_t source_length, uint32_t turn);
 uint32_t v_frame_turn_u16(const v_frame_rows *rows, uint16_t *buffer, size_t length, const v_frame_rows *source_rows,
                           const uint16_t *source, size_t source_length, uint32_t turn);
 
-/* Make the rows of the buffer show the source, which has values of `from` bits, in `to` bits. To more bits a value is shifted; to
- * fewer it is rounded to the nearest value, upwards at a half, and at most to the largest. A value above the largest of `from` bits
- * counts as that one. V_FRAME_NUMBER where a bit depth is below 8, or above what the type holds. */
+/* Make the rows of the buffer show the source, which has their size and values of `from` bits, in `to` bits. To more bits a value
+ * is shifted; to fewer it is rounded to the nearest value, upwards at a half, and at most to the largest. A value above the largest
+ * of `from` bits counts as that one. V_FRAME_NUMBER where a bit depth is below 8, or above what the type holds. */
 uint32_t v_frame_convert_depth_u8_u16(const v_frame_rows *rows, uint16_t *buffer, size_t length, const v_frame_rows *source_rows,
                                       const uint8_t *source, size_t source_length, uint32_t from, uint32_t to);
 uint32_t v_frame_convert_depth_u16_u8(const v_frame_rows *rows, uint8_t *buffer, size_t length, const v_frame_rows *source_rows,
@@ -273,14 +276,14 @@ uint32_t v_frame_convert_depth_u16_u16(const v_frame_rows *rows, uint16_t *buffe
                                        const uint16_t *source, size_t source_length, uint32_t from, uint32_t to);
 
 /* Make the rows of the buffer show the source with each pixel `ratio_x` times across and `ratio_y` times down, as chroma is shown
- * beside luma. The source has a column for each `ratio_x` columns that are begun, and a row for each `ratio_y` rows.
+ * beside luma. The source has a column for each `ratio_x` columns of the buffer that are begun, and a row for each `ratio_y` rows.
  * V_FRAME_NUMBER where a ratio is 0. */
 uint32_t v_frame_upscale_u8(const v_frame_rows *rows, uint8_t *buffer, size_t length, const v_frame_rows *source_rows,
                             const uint8_t *source, size_t source_length, size_t ratio_x, size_t ratio_y);
 uint32_t v_frame_upscale_u16(const v_frame_rows *rows, uint16_t *buffer, size_t length, const v_frame_rows *source_rows,
                              const uint16_t *source, size_t source_length, size_t ratio_x, size_t ratio_y);
 
-/* Make the rows of the buffer show the source in half the size, rounded up, as 4:2:0 has chroma of 4:4:4: each pixel is the mean of
+/* Make the rows of the buffer show the source in half its size, rounded up, as 4:2:0 has chroma of 4:4:4: each pixel is the mean of
  * a block of two by two, rounded to the nearest value and upwards at a half, where past an edge the last column and the last row
  * are repeated. Of even sizes it is v_frame_downscale. */
 uint32_t v_frame_downscale_to_edge_u8(const v_frame_rows *rows, uint8_t *buffer, size_t length, const v_frame_rows *source_rows,
@@ -288,7 +291,8 @@ uint32_t v_frame_downscale_to_edge_u8(const v_frame_rows *rows, uint8_t *buffer,
 uint32_t v_frame_downscale_to_edge_u16(const v_frame_rows *rows, uint16_t *buffer, size_t length, const v_frame_rows *source_rows,
                                        const uint16_t *source, size_t source_length);
 
-/* The same of the columns alone, as 4:2:2 has chroma: there are as many rows, and half as many columns, rounded up. */
+/* The same of the columns alone, as 4:2:2 has chroma: the buffer has as many rows as the source, and half as many columns, rounded
+ * up. */
 uint32_t v_frame_halve_columns_u8(const v_frame_rows *rows, uint8_t *buffer, size_t length, const v_frame_rows *source_rows,
                                   const uint8_t *source, size_t source_length);
 uint32_t v_frame_halve_columns_u16(const v_frame_rows *rows, uint16_t *buffer, size_t length, const v_frame_rows *source_rows,
@@ -309,31 +313,33 @@ uint32_t v_frame_resize_nearest_u8(const v_frame_rows *rows, uint8_t *buffer, si
 uint32_t v_frame_resize_nearest_u16(const v_frame_rows *rows, uint16_t *buffer, size_t length, const v_frame_rows *source_rows,
                                     const uint16_t *source, size_t source_length);
 
-/* Make the rows of the buffer show the source, which has values of the limited range of `depth` bits, with those of the full
- * range. Luma from 16 to 235, in units of 2^(depth - 8), becomes 0 to 2^depth - 1; chroma keeps its middle, 128 of these units,
- * and the 112 on each side become half of 2^depth - 1. A value is rounded to the nearest one, upwards at a half, and what is
- * outside becomes the least or the greatest. `component` is of enum v_frame_component. V_FRAME_NUMBER where it is not, or the
- * bit depth is below 8, or above what the type holds. */
+/* Make the rows of the buffer show the source, which has their size and values of the limited range of `depth` bits, with those of
+ * the full range. Luma from 16 to 235, in units of 2^(depth - 8), becomes 0 to 2^depth - 1; chroma keeps its middle, 128 of these
+ * units, and the 112 on each side become half of 2^depth - 1. A value is rounded to the nearest one, upwards at a half, and what is
+ * outside becomes the least or the greatest. `component` is of enum v_frame_component. V_FRAME_NUMBER where it is not, or the bit
+ * depth is below 8, or above what the type holds. */
 uint32_t v_frame_to_full_range_u8(const v_frame_rows *rows, uint8_t *buffer, size_t length, const v_frame_rows *source_rows,
                                   const uint8_t *source, size_t source_length, uint32_t component, uint32_t depth);
 uint32_t v_frame_to_full_range_u16(const v_frame_rows *rows, uint16_t *buffer, size_t length, const v_frame_rows *source_rows,
                                    const uint16_t *source, size_t source_length, uint32_t component, uint32_t depth);
 
-/* The way back: values of the full range become those of the limited one. One above 2^depth - 1 counts as that one. */
+/* The way back, of a source of the same size: values of the full range become those of the limited one. One above 2^depth - 1
+ * counts as that one. */
 uint32_t v_frame_to_limited_range_u8(const v_frame_rows *rows, uint8_t *buffer, size_t length, const v_frame_rows *source_rows,
                                      const uint8_t *source, size_t source_length, uint32_t component, uint32_t depth);
 uint32_t v_frame_to_limited_range_u16(const v_frame_rows *rows, uint16_t *buffer, size_t length, const v_frame_rows *source_rows,
                                       const uint16_t *source, size_t source_length, uint32_t component, uint32_t depth);
 
-/* Make the rows of the buffer show the pixels of two pictures of one size by turns, as chroma is kept in NV12 and P010. The rows of
- * the buffer are as many, and twice as wide. */
+/* Make the rows of the buffer show the pixels of u and v, two pictures of one size, by turns, as chroma is kept in NV12 and P010.
+ * The rows of the buffer are as many as theirs, and twice as wide. */
 uint32_t v_frame_interleave_u8(const v_frame_rows *rows, uint8_t *buffer, size_t length, const v_frame_rows *u_rows,
                                const uint8_t *u, size_t u_length, const v_frame_rows *v_rows, const uint8_t *v, size_t v_length);
 uint32_t v_frame_interleave_u16(const v_frame_rows *rows, uint16_t *buffer, size_t length, const v_frame_rows *u_rows,
                                 const uint16_t *u, size_t u_length, const v_frame_rows *v_rows, const uint16_t *v,
                                 size_t v_length);
 
-/* The other way: the pixels of the buffer go to u and to v by turns. */
+/* The other way: the pixels of the buffer go to u and to v by turns. The rows of the buffer are as many as theirs, and twice as
+ * wide. */
 uint32_t v_frame_deinterleave_u8(const v_frame_rows *rows, const uint8_t *buffer, size_t length, const v_frame_rows *u_rows,
                                  uint8_t *u, size_t u_length, const v_frame_rows *v_rows, uint8_t *v, size_t v_length);
 uint32_t v_frame_deinterleave_u16(const v_frame_rows *rows, const uint16_t *buffer, size_t length, const v_frame_rows *u_rows,
@@ -346,8 +352,8 @@ uint32_t v_frame_yuv444_to_rgb_u8(const v_frame_rows *rows, uint8_t *buffer, siz
                                   const uint8_t *y, size_t y_length, const v_frame_rows *u_rows, const uint8_t *u, size_t u_length,
                                   const v_frame_rows *v_rows, const uint8_t *v, size_t v_length, const v_frame_colours *colours);
 
-/* The way back: make three pictures of one size the luma and the chroma of the colours of the buffer, whose rows count bytes,
- * three or four for each pixel. A fourth byte is not read. V_FRAME_NUMBER where a number of `colours` is none of its enum. */
+/* The way back: make three pictures of one size the luma and the chroma of the colours of the buffer, whose rows count bytes, three
+ * or four for each pixel of theirs. A fourth byte is not read. V_FRAME_NUMBER where a number of `colours` is none of its enum. */
 uint32_t v_frame_rgb_to_yuv444_u8(const v_frame_rows *rows, const uint8_t *buffer, size_t length, const v_frame_rows *y_rows,
                                   uint8_t *y, size_t y_length, const v_frame_rows *u_rows, uint8_t *u, size_t u_length,
                                   const v_frame_rows *v_rows, uint8_t *v, size_t v_length, const v_frame_colours *colours);
@@ -478,6 +484,8 @@ static inline const char *v_frame_status_text(uint32_t status) {
         return "the third rows do not fit their buffer";
     case V_FRAME_FOURTH_ROWS:
         return "the fourth rows do not fit their buffer";
+    case V_FRAME_WINDOWS:
+        return "a side is below 8, and SSIM has no window";
     default:
         return "unknown status";
     }

@@ -121,6 +121,19 @@ uint32_t v_frame_y4m_write_header(const v_frame_y4m_header *header, uint8_t *buf
  * _UNKNOWN_COLOUR, _SIZE_TOO_LARGE. */
 uint32_t v_frame_y4m_frame_bytes(const v_frame_y4m_header *header, size_t *count);
 
+/* Make a header one of a stream whose frames have another format or bit depth. A siting belongs to 4:2:0 of 8 bits alone: with
+ * any other format, v_frame_y4m_write_header refuses a header that states one. So 4:2:0 of 8 bits keeps its siting, and is centred
+ * where there was none, and all else has none. */
+static inline void v_frame_y4m_set_format(v_frame_y4m_header *header, uint32_t format, uint32_t bit_depth) {
+    header->format = format;
+    header->bit_depth = bit_depth;
+    if (format != V_FRAME_Y4M_420 || bit_depth != 8) {
+        header->siting = V_FRAME_Y4M_NO_SITING;
+    } else if (header->siting == V_FRAME_Y4M_NO_SITING) {
+        header->siting = V_FRAME_Y4M_CENTRE;
+    }
+}
+
 /* The words for a status. */
 static inline const char *v_frame_y4m_status_text(uint32_t status) {
     static const char *const texts[] = {

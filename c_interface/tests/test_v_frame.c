@@ -5,6 +5,7 @@
  */
 #include "v_frame.h"
 
+#include <stddef.h>
 #include <stdio.h>
 #include <stdlib.h>
 #include <string.h>
@@ -43,6 +44,7 @@ static uint64_t distance(uint32_t p, uint32_t q) {
 #include "pictures.inc"
 #include "conversions.inc"
 #include "measures.inc"
+#include "choices.inc"
 #undef SAMPLE
 #undef NAME
 #undef TEST
@@ -56,6 +58,9 @@ static uint64_t distance(uint32_t p, uint32_t q) {
 #include "pictures.inc"
 #include "conversions.inc"
 #include "measures.inc"
+#include "choices.inc"
+
+#include "boundary.inc"
 
 /* A value of `from` bits in `to` bits, by the words of the header. */
 static uint32_t at_depth(uint32_t value, uint32_t from, uint32_t to) {
@@ -339,6 +344,8 @@ static void helpers(void) {
 }
 
 int main(void) {
+    layouts();
+    choices();
     all_u8();
     all_u16();
     pictures_u8();

@@ -5,6 +5,7 @@
  */
 #include "v_frame_y4m.h"
 
+#include <stddef.h>
 #include <stdio.h>
 #include <stdlib.h>
 #include <string.h>
@@ -73,6 +74,11 @@ static void refuse_each(void) {
         CHECK(status == V_FRAME_Y4M_OK || (status == V_FRAME_Y4M_OUT_OF_MEMORY && needed == 9 && buffer[0] == 9));
     }
     CHECK(refused > 1);
+    size_t bytes = 9;
+    granted = 0;
+    status = v_frame_y4m_frame_bytes(&header, &bytes);
+    granted = SIZE_MAX;
+    CHECK(status == V_FRAME_Y4M_OK && bytes == (size_t)1920 * 1080 * 4);
     printf("%zu requests for memory refused in turn\n", of_parsing + refused - 1);
 }
 #else
@@ -233,6 +239,65 @@ static void refuse_numbers(void) {
     REFUSED(bit_depth, 10, V_FRAME_Y4M_UNKNOWN_COLOUR);
     REFUSED(bit_depth, 264, V_FRAME_Y4M_UNKNOWN_COLOUR);
     REFUSED(bit_depth, 0, V_FRAME_Y4M_UNKNOWN_COLOUR);
+    /* What a smaller type would take for a choice. */
+    static const uint32_t more[2] = {256, 65536};
+    for (uint32_t number = 0, i = 0; i < 2; number = (number + 1) % 6, i += number == 0) {
+        REFUSED(format, number % 5 + more[i], V_FRAME_Y4M_NO_SUCH_NUMBER);
+        REFUSED(siting, number % 4 + more[i], V_FRAME_Y4M_NO_SUCH_NUMBER);
+        REFUSED(interlacing, number + more[i], V_FRAME_Y4M_NO_SUCH_NUMBER);
+        REFUSED(frame_rate.stated, 1 + more[i], V_FRAME_Y4M_NO_SUCH_NUMBER);
+        REFUSED(pixel_aspect.stated, number % 2 + more[i], V_FRAME_Y4M_NO_SUCH_NUMBER);
+        REFUSED(bit_depth, 8 + more[i], V_FRAME_Y4M_UNKNOWN_COLOUR);
+    }
+}
+
+/* The fields of a struct lie one after the other, each at a multiple of its size, and the whole has a multiple of the largest. */
+static void layouts(void) {
+    const size_t n = sizeof(size_t), numbers = 2 * n + 2 * sizeof(v_frame_y4m_ratio);
+#define FIELD(type, field, offset) CHECK(offsetof(type, field) == (offset))
+    CHECK(sizeof(v_frame_y4m_ratio) == 24);
+    FIELD(v_frame_y4m_ratio, numerator, 0);
+    FIELD(v_frame_y4m_ratio, denominator, 8);
+    FIELD(v_frame_y4m_ratio, stated, 16);
+    CHECK(sizeof(v_frame_y4m_header) == numbers + 16);
+    FIELD(v_frame_y4m_header, width, 0);
+    FIELD(v_frame_y4m_header, height, n);
+    FIELD(v_frame_y4m_header, frame_rate, 2 * n);
+    FIELD(v_frame_y4m_header, pixel_aspect, 2 * n + 24);
+    FIELD(v_frame_y4m_header, format, numbers);
+    FIELD(v_frame_y4m_header, bit_depth, numbers + 4);
+    FIELD(v_frame_y4m_header, siting, numbers + 8);
+    FIELD(v_frame_y4m_header, interlacing, numbers + 12);
+#undef FIELD
+}
+
+static int has_line(const v_frame_y4m_header *header, const char *wanted) {
+    uint8_t line[256];
+    size_t needed;
+    return write_into(header, sizeof line, line, &needed) == V_FRAME_Y4M_OK && needed == strlen(wanted) && memcmp(line, wanted, needed) == 0;
+}
+
+/* A header that was parsed becomes one of another format, and back. */
+static void change_formats(void) {
+    v_frame_y4m_header header;
+    uint8_t line[256];
+    size_t needed;
+    uint32_t letter;
+    CHECK(parse("YUV4MPEG2 W4 H2 F25:1 C420mpeg2", &header, &letter) == V_FRAME_Y4M_OK);
+    header.bit_depth = 10;
+    CHECK(write_into(&header, sizeof line, line, &needed) == V_FRAME_Y4M_UNKNOWN_COLOUR);
+    v_frame_y4m_set_format(&header, V_FRAME_Y4M_420, 8);
+    CHECK(has_line(&header, "YUV4MPEG2 W4 H2 F25:1 C420mpeg2\n"));
+    v_frame_y4m_set_format(&header, V_FRAME_Y4M_420, 10);
+    CHECK(has_line(&header, "YUV4MPEG2 W4 H2 F25:1 C420p10\n"));
+    v_frame_y4m_set_format(&header, V_FRAME_Y4M_420, 8);
+    CHECK(has_line(&header, "YUV4MPEG2 W4 H2 F25:1 C420jpeg\n"));
+    v_frame_y4m_set_format(&header, V_FRAME_Y4M_422, 8);
+    CHECK(has_line(&header, "YUV4MPEG2 W4 H2 F25:1 C422\n"));
+    v_frame_y4m_set_format(&header, V_FRAME_Y4M_MONOCHROME, 16);
+    CHECK(has_line(&header, "YUV4MPEG2 W4 H2 F25:1 Cmono16\n"));
+    v_frame_y4m_set_format(&header, V_FRAME_Y4M_411, 10);
+    CHECK(write_into(&header, sizeof line, line, &needed) == V_FRAME_Y4M_UNKNOWN_COLOUR);
 }
 
 static void count_bytes(void) {
@@ -265,10 +330,12 @@ static void count_bytes(void) {
 int main(void) {
     v_frame_y4m_header header, untouched;
     uint32_t letter;
+    layouts();
     refuse_each();
     find_lines();
     write_and_parse_back();
     refuse_numbers();
+    change_formats();
     count_bytes();
     CHECK(parse("YUV4MPEG2 W1920 H1080 F30000:1001 It A1:1 C422p10 XCOLORRANGE=LIMITED", &header, &letter) == V_FRAME_Y4M_OK);
     CHECK(header.width == 1920 && header.height == 1080 && header.format == V_FRAME_Y4M_422 && header.bit_depth == 10);

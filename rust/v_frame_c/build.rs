@@ -1,9 +1,12 @@
-//! Names the version of the interface that programs ask for when they are started: the first number of the library's version.
+//! Names the version of the interface that programs ask for when they are started, as `tools/install` does: below 1.0 the first two
+//! numbers of the library's version, for a new minor version may change calls there, and then the first.
 
 fn main() {
     println!("cargo:rerun-if-changed=build.rs");
-    let major = std::env::var("CARGO_PKG_VERSION_MAJOR").unwrap_or_default();
+    let number = |name: &str| std::env::var(name).unwrap_or_default();
+    let (major, minor) = (number("CARGO_PKG_VERSION_MAJOR"), number("CARGO_PKG_VERSION_MINOR"));
+    let version = if major == "0" { format!("0.{minor}") } else { major };
     if std::env::var("CARGO_CFG_TARGET_OS").as_deref() == Ok("linux") {
-        println!("cargo:rustc-cdylib-link-arg=-Wl,-soname,libv_frame.so.{major}");
+        println!("cargo:rustc-cdylib-link-arg=-Wl,-soname,libv_frame.so.{version}");
     }
 }

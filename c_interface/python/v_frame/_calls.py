@@ -1,17 +1,34 @@
 """The calls, over planes of one sample size."""
 
 import ctypes
-import math
 from typing import NamedTuple
 
 from . import _library as library
-from ._planes import LIMIT, Held, Plane, numpy
+from ._errors import KindError, SizesError, chosen, sizes, within
+from ._planes import Held, Plane, numpy
 
 
 def _same_size(a, b):
     if a.size != b.size:
-        raise TypeError("the planes have samples of different sizes")
+        raise KindError("the planes have samples of different sizes")
     return a.size
+
+
+def _new(like, width, height, size):
+    """A plane of the kind of another one: an array, or a Plane over bytes of its own."""
+    try:
+        if isinstance(like, Plane):
+            return Plane(bytearray(width * height * size), width, height, sample_size=size)
+        return numpy.empty((height, width), dtype="uint8" if size == 1 else "uint16")
+    except (MemoryError, OverflowError, ValueError) as error:
+        raise SizesError(f"there is no memory for a plane of {width} by {height}") from error
+
+
+def depth_of(depth, size):
+    """A bit depth that samples of this size have: 8 for one byte where none is given, 8 to 16 for two."""
+    if depth is None and size == 2:
+        raise KindError("the depth of samples of two bytes has to be given")
+    return 8 if depth is None else within(depth, "a bit depth", 8, 8 * size)
 
 
 def _compared(exports, a, b, out):
@@ -28,84 +45,93 @@ def _changed(exports, target, source, *more):
 
 
 def sse(a, b) -> int:
-    """The sum of the squares of the differences of two planes of one size, exactly."""
+    """The sum of the squares of the differences of two planes of one size, exactly.
+
+    >>> sse(Plane(bytes([1, 2]), 2, 1), Plane(bytes([1, 5]), 2, 1))
+    9
+    """
     out = library.Sum()
     _compared(library.SQUARED_ERRORS, a, b, out)
     return out.high << 64 | out.low
 
 
 def sad(a, b) -> int:
-    """The sum of the absolute differences of two planes of one size, exactly."""
+    """The sum of the absolute differences of two planes of one size, exactly.
+
+    >>> sad(Plane(bytes([1, 2]), 2, 1), Plane(bytes([1, 5]), 2, 1))
+    3
+    """
     out = library.Sum()
     _compared(library.ABSOLUTE_DIFFERENCES, a, b, out)
     return out.high << 64 | out.low
 
 
 def first_difference(a, b) -> tuple[int, int] | None:
-    """The column and the row of the first sample, row after row from the top, that differs; None where the planes are equal."""
+    """The column and the row of the first sample, row after row from the top, that differs; None where the planes are equal.
+
+    >>> first_difference(Plane(bytes([1, 2, 3, 4]), 2, 2), Plane(bytes([1, 2, 9, 4]), 2, 2))
+    (0, 1)
+    """
     out = library.Place()
     _compared(library.FIRST_DIFFERENCE, a, b, out)
     return (out.x, out.y) if out.found else None
 
 
-def psnr(a, b, depth: int | None = None) -> float:
-    """The peak signal-to-noise ratio in decibels: infinite where the planes are equal.
-
-    The depth in bits is 8 for samples of one byte, and has to be given for others. The sum under it is exact and proved; the
-    division and the logarithm are those of floating point.
-    """
-    out = library.Sum()
-    held = _compared(library.SQUARED_ERRORS, a, b, out)
-    if depth is None:
-        if held.size == 2:
-            raise TypeError("the depth of samples of two bytes has to be given")
-        depth = 8
-    total = out.high << 64 | out.low
-    peak = (1 << depth) - 1
-    return 10 * math.log10(peak * peak * held.rows.width * held.rows.height / total) if total else math.inf
-
-
 def copy(source, target) -> None:
-    """Copies a plane into another one of its size, which may overlap it. What lies between the rows of the target stays."""
+    """Copies a plane into another one of its size.
+
+    >>> target = Plane(bytearray(5), 2, 2, stride=3)
+    >>> copy(Plane(bytes([1, 2, 3, 4]), 2, 2), target)
+    >>> list(target.buffer)
+    [1, 2, 0, 3, 4]
+    """
     _changed(library.COPY, target, source)
 
 
 def fill(target, sample: int) -> None:
-    """Sets each sample of a plane to one."""
+    """Sets each sample of a plane to one.
+
+    >>> target = Plane(bytearray(3), 3, 1)
+    >>> fill(target, 7)
+    >>> list(target.buffer)
+    [7, 7, 7]
+    """
     with Held(target, writes=True) as written:
-        if not 0 <= sample < 256 ** written.size:
-            raise ValueError("the sample is out of range")
+        sample = within(sample, "a sample", 0, 256 ** written.size - 1)
         library.answered(library.FILL[written.size](*written.told(), sample))
 
 
 def half(source):
     """A new plane of half the size: each sample is the mean of a block of two by two, rounded to the nearest value and upwards
-    at a half. The source has an even width and height."""
+    at a half. The source has an even width and height: else `downscale_to_edge`.
+
+    >>> list(half(Plane(bytes([1, 2, 3, 4]), 2, 2)).buffer)
+    [3]
+    """
     with Held(source) as read:
         (width, odd_column), (height, odd_row) = divmod(read.rows.width, 2), divmod(read.rows.height, 2)
         size = read.size
     if odd_column or odd_row:
-        raise library.SizesError("the sizes do not belong together: half of an odd size")
-    if isinstance(source, Plane):
-        target = Plane(bytearray(width * height * size), width, height, sample_size=size)
-    else:
-        target = numpy.empty((height, width), dtype=source.dtype)
+        raise SizesError("the sizes do not belong together: half of an odd size")
+    target = _new(source, width, height, size)
     _changed(library.DOWNSCALE, target, source)
     return target
 
 
 def pad(plane, left: int, right: int, top: int, bottom: int):
-    """A new plane with a border of so many samples on each side, each the sample of the plane nearest to it."""
-    if not all(0 <= padding < LIMIT for padding in (left, right, top, bottom)):
-        raise library.SizesError("a padding is negative, or has more than 64 bits")
+    """A new plane with a border of so many samples on each side, each the sample of the plane nearest to it.
+
+    >>> list(pad(Plane(bytes([1, 2]), 2, 1), left=2, right=1, top=0, bottom=0).buffer)
+    [1, 1, 1, 2, 2]
+    """
+    left, right, top, bottom = sizes((left, right, top, bottom), SizesError)
     with Held(plane) as read:
         width, height, size = read.rows.width, read.rows.height, read.size
     across, down = left + width + right, top + height + bottom
+    target = _new(plane, across, down, size)
     if isinstance(plane, Plane):
-        target = Plane(bytearray(across * down * size), across, down, sample_size=size)
         inside = Plane(memoryview(target.buffer)[(across * top + left) * size:], width, height, across, size)
     else:
-        target = numpy.empty((down, across), dtype=plane.dtype)
         inside = target[top:top + height, left:left + width]
     copy(plane, inside)
     layout = library.Bordered(width, height, left, right, top, bottom)
@@ -135,14 +161,13 @@ def lay_out(width: int, height: int, format: str = "420", padding: int = 0) -> l
 
     Chroma has as many columns and rows as cover luma, and the padding divided by the ratio and rounded up; the padding of luma
     is that times the ratio.
+
+    >>> [(part.offset, part.width, part.height) for part in lay_out(5, 3, "420")]
+    [(0, 5, 3), (15, 3, 2), (21, 3, 2)]
     """
-    if format not in FORMATS:
-        raise ValueError("there is no such format")
-    if not all(0 <= size < LIMIT for size in (width, height, padding)):
-        raise library.RowsError("a size is negative, or has more than 64 bits")
-    found = library.Parts()
-    library.answered(library.LAY_OUT(ctypes.byref(library.Request(width, height, padding, FORMATS.index(format))),
-                                     ctypes.byref(found)))
+    number, found = chosen(format, FORMATS, "a format"), library.Parts()
+    request = library.Request(*sizes((width, height, padding)), number)
+    library.answered(library.LAY_OUT(ctypes.byref(request), ctypes.byref(found)))
     parts = []
     for part in found.planes:
         layout, stride = part.layout, part.layout.pad_left + part.layout.width + part.layout.pad_right

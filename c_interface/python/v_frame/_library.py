@@ -5,15 +5,9 @@ import ctypes.util
 import os
 from pathlib import Path
 
+from ._errors import NumberError, RowsError, SizesError, StatusError
+
 VERSION = "0.3.0"
-
-
-class RowsError(ValueError):
-    """The rows do not fit their buffer: a size is zero, the stride is below the width, or the last row ends past it."""
-
-
-class SizesError(ValueError):
-    """The sizes do not belong together."""
 
 
 class Rows(ctypes.Structure):
@@ -50,6 +44,10 @@ class Statistics(ctypes.Structure):
                 ("maximum", ctypes.c_uint32)]
 
 
+class Greatest(ctypes.Structure):
+    _fields_ = [("x", ctypes.c_size_t), ("y", ctypes.c_size_t), ("difference", ctypes.c_uint32)]
+
+
 class Colours(ctypes.Structure):
     _fields_ = [("standard", ctypes.c_uint32), ("range", ctypes.c_uint32), ("order", ctypes.c_uint32)]
 
@@ -58,25 +56,35 @@ class PairStatistics(ctypes.Structure):
     _fields_ = [(name, Sum) for name in ("first", "second", "first_squares", "second_squares", "products")]
 
 
-def _opened():
-    """The library that V_FRAME_LIBRARY names, or the one beside this module's prefix, or the system's."""
-    named = os.environ.get("V_FRAME_LIBRARY")
-    beside = Path(__file__).resolve().parent.parent.parent / "libv_frame.so"
-    name = named or (str(beside) if beside.exists() else ctypes.util.find_library("v_frame"))
-    if not name:
-        raise ImportError("libv_frame.so is not found: install it, or name it by V_FRAME_LIBRARY")
-    return ctypes.CDLL(name)
+def opened(name, variable):
+    """The library that an environment variable names, or the one beside this module or its prefix, or the system's."""
+    here, file = Path(__file__).resolve().parent, f"lib{name}.so"
+    looked_for = [os.environ[variable]] if os.environ.get(variable) else [str(here / file), str(here.parent.parent / file)]
+    found = looked_for[0] if os.environ.get(variable) else next((it for it in looked_for if Path(it).exists()), None)
+    found = found or ctypes.util.find_library(name)
+    try:
+        return ctypes.CDLL(found or file)
+    except OSError as error:
+        raise ImportError(f"{file} cannot be loaded ({error}): looked for {', '.join(looked_for)}; install it, "
+                          f"or name it by {variable}") from error
 
 
-_library = _opened()
+def export(library, name, *parameters):
+    """A call of a library, which answers a status."""
+    try:
+        found = getattr(library, name)
+    except AttributeError:
+        raise ImportError(f"the library has no {name}: it is of another version than this module, {VERSION}") from None
+    found.restype, found.argtypes = ctypes.c_uint32, list(parameters)
+    return found
+
+
+_library = opened("v_frame", "V_FRAME_LIBRARY")
 _rows, _size, _data = ctypes.POINTER(Rows), ctypes.c_size_t, ctypes.c_void_p
 
 
 def _export(name, *more):
-    found = getattr(_library, name)
-    found.restype = ctypes.c_uint32
-    found.argtypes = [_rows, _data, _size, *more]
-    return found
+    return export(_library, name, _rows, _data, _size, *more)
 
 
 def _both(name, *more):
@@ -89,9 +97,7 @@ FIRST_DIFFERENCE = _both("first_difference", _rows, _data, _size, ctypes.POINTER
 COPY = _both("copy", _rows, _data, _size)
 DOWNSCALE = _both("downscale", _rows, _data, _size)
 FILL = {1: _export("v_frame_fill_u8", ctypes.c_uint8), 2: _export("v_frame_fill_u16", ctypes.c_uint16)}
-PAD = {size: getattr(_library, f"v_frame_pad_{kind}") for size, kind in ((1, "u8"), (2, "u16"))}
-for _pad in PAD.values():
-    _pad.restype, _pad.argtypes = ctypes.c_uint32, [ctypes.POINTER(Bordered), _data, _size]
+PAD = {size: export(_library, f"v_frame_pad_{kind}", ctypes.POINTER(Bordered), _data, _size) for size, kind in ((1, "u8"), (2, "u16"))}
 TURN = _both("turn", _rows, _data, _size, ctypes.c_uint32)
 UPSCALE = _both("upscale", _rows, _data, _size, _size, _size)
 INTERLEAVE = _both("interleave", _rows, _data, _size, _rows, _data, _size)
@@ -117,8 +123,11 @@ DIFFERENCE = _both("difference", _rows, _data, _size, ctypes.c_uint16, ctypes.c_
 HISTOGRAM = _both("histogram", ctypes.POINTER(ctypes.c_uint64), _size)
 COUNT_BETWEEN = {size: _export(f"v_frame_count_between_{kind}", value, value, ctypes.POINTER(ctypes.c_uint64))
                  for size, kind, value in ((1, "u8", ctypes.c_uint8), (2, "u16", ctypes.c_uint16))}
-LAY_OUT = _library.v_frame_lay_out
-LAY_OUT.restype, LAY_OUT.argtypes = ctypes.c_uint32, [ctypes.POINTER(Request), ctypes.POINTER(Parts)]
+SSIM = {1: _export("v_frame_ssim_u8", _rows, _data, _size, ctypes.POINTER(ctypes.c_double)),
+        2: _export("v_frame_ssim_u16", _rows, _data, _size, ctypes.c_uint32, ctypes.POINTER(ctypes.c_double))}
+GREATEST_DIFFERENCE = _both("greatest_difference", _rows, _data, _size, ctypes.POINTER(Greatest))
+COUNT_ABOVE = _both("count_above", _rows, _data, _size, ctypes.c_uint16, ctypes.POINTER(ctypes.c_uint64))
+LAY_OUT = export(_library, "v_frame_lay_out", ctypes.POINTER(Request), ctypes.POINTER(Parts))
 
 
 def answered(status):
@@ -128,8 +137,10 @@ def answered(status):
     if status == 3:
         raise SizesError("the sizes do not belong together")
     if status == 4:
-        raise ValueError("there is no such format")
+        raise NumberError("there is no such format")
     if status == 5:
-        raise ValueError("a number is none that the library knows: a bit depth, a ratio, a weight or one of a choice")
+        raise NumberError("a number is none that the library knows: a bit depth, a ratio, a weight or one of a choice")
+    if status == 8:
+        raise SizesError("a side of the planes is below 8: no window of 8 by 8 samples has room")
     if status != 0:
-        raise RuntimeError(f"the library returned the status {status}, which this module does not know")
+        raise StatusError(f"the library returned the status {status}, which this module does not know")

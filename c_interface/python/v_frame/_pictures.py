@@ -4,8 +4,9 @@ import ctypes
 from typing import NamedTuple
 
 from . import _library as library
-from ._calls import _compared, _same_size, copy
-from ._planes import LIMIT, Held, Plane, numpy
+from ._calls import _compared, _new, _same_size, copy
+from ._errors import KindError, SizesError, chosen, sizes, within
+from ._planes import Held, Plane
 
 #: The ways to turn a plane, in the order of their numbers. Turns by 90 and 270 degrees are clockwise.
 TURNS = ("flip_vertical", "flip_horizontal", "rotate_180", "transpose", "rotate_90", "rotate_270")
@@ -35,15 +36,6 @@ class PairStatistics(NamedTuple):
     products: int
 
 
-def _new(like, width, height, size):
-    """A plane of the kind of another one: an array, or a Plane over bytes of its own."""
-    if width >= LIMIT or height >= LIMIT:
-        raise library.SizesError("a size has more than 64 bits")
-    if isinstance(like, Plane):
-        return Plane(bytearray(width * height * size), width, height, sample_size=size)
-    return numpy.empty((height, width), dtype="uint8" if size == 1 else "uint16")
-
-
 def _made(export, target, source, *more):
     """The target, which nothing else knows yet, written by an export from the source."""
     with Held(target, writes=True) as written, Held(source) as read:
@@ -57,43 +49,55 @@ def _shape(plane):
 
 
 def turn(source, how: str):
-    """A new plane that shows another one turned: `how` is one of TURNS."""
-    if how not in TURNS:
-        raise ValueError(f"{how!r} is none of {', '.join(TURNS)}")
+    """A new plane that shows another one turned: `how` is one of `TURNS`; turns by 90 and 270 degrees are clockwise.
+
+    >>> list(turn(Plane(bytes([1, 2, 3, 4]), 2, 2), "rotate_90").buffer)
+    [3, 1, 4, 2]
+    """
+    number = chosen(how, TURNS, "a turn")
     width, height, size = _shape(source)
-    number = TURNS.index(how)
     if number >= TURNS.index("transpose"):
         width, height = height, width
     return _made(library.TURN[size], _new(source, width, height, size), source, number)
 
 
 def convert_depth(source, depth: int, to: int):
-    """A new plane with the samples of another one, of `depth` bits, in `to` bits, both 8 to 16; above 8 it has two bytes a sample.
+    """A new plane with the samples of another one, of `depth` bits, in `to` bits, both 8 to 16: of one byte a sample where `to` is
+    8, and else of two.
 
     To more bits a value is shifted; to fewer it is rounded to the nearest, upwards at a half, and at most to the largest. A value
     above the largest of `depth` bits counts as that one.
+
+    >>> memoryview(convert_depth(Plane(bytes([1, 255]), 2, 1), 8, 10).buffer).cast("H").tolist()
+    [4, 1020]
     """
     width, height, size = _shape(source)
+    depth, to = within(depth, "a bit depth", 8, 8 * size), within(to, "a bit depth", 8, 16)
     target = _new(source, width, height, 1 if to == 8 else 2)
-    if (size, depth, to) == (1, 8, 8):
+    if (size, to) == (1, 8):
         copy(source, target)
         return target
-    if size == 1 and to == 8 or not 0 <= depth < 256 or not 0 <= to < 256:
-        raise ValueError("a bit depth is below 8, or above what the samples hold")
     return _made(library.CONVERT_DEPTH[size, 1 if to == 8 else 2], target, source, depth, to)
 
 
 def upscale(source, width: int, height: int, ratio_x: int = 2, ratio_y: int = 2):
     """A new plane of this size that shows each sample of another one `ratio_x` times across and `ratio_y` times down, as chroma is
-    shown beside luma. The source has a column for each `ratio_x` that are begun, and a row for each `ratio_y`."""
-    if not all(0 < number < LIMIT for number in (width, height, ratio_x, ratio_y)):
-        raise library.SizesError("a size or a ratio is not positive, or has more than 64 bits")
+    shown beside luma. The source has a column for each `ratio_x` that are begun, and a row for each `ratio_y`.
+
+    >>> list(upscale(Plane(bytes([1, 2]), 2, 1), 3, 1, 2, 1).buffer)
+    [1, 1, 2]
+    """
+    width, height, ratio_x, ratio_y = sizes((width, height, ratio_x, ratio_y), SizesError, 1)
     size = _shape(source)[2]
     return _made(library.UPSCALE[size], _new(source, width, height, size), source, ratio_x, ratio_y)
 
 
 def interleave(u, v):
-    """A new plane of the samples of two planes of one size by turns, as NV12 and P010 keep chroma."""
+    """A new plane of the samples of two planes of one size by turns, as NV12 and P010 keep chroma.
+
+    >>> list(interleave(Plane(bytes([1, 2]), 2, 1), Plane(bytes([3, 4]), 2, 1)).buffer)
+    [1, 3, 2, 4]
+    """
     width, height, size = _shape(u)
     with Held(u) as first, Held(v) as second:
         _same_size(first, second)
@@ -104,10 +108,14 @@ def interleave(u, v):
 
 
 def deinterleave(plane):
-    """Two new planes, of the samples of one by turns. It has an even width."""
+    """Two new planes, of the samples of one by turns. It has an even width.
+
+    >>> [list(plane.buffer) for plane in deinterleave(Plane(bytes([1, 3, 2, 4]), 4, 1))]
+    [[1, 2], [3, 4]]
+    """
     width, height, size = _shape(plane)
     if width % 2:
-        raise library.SizesError("the sizes do not belong together: an odd width")
+        raise SizesError("the sizes do not belong together: an odd width")
     u, v = _new(plane, width // 2, height, size), _new(plane, width // 2, height, size)
     with Held(plane) as read, Held(u, writes=True) as first, Held(v, writes=True) as second:
         library.answered(library.DEINTERLEAVE[size](*read.told(), *first.told(), *second.told()))
@@ -116,20 +124,23 @@ def deinterleave(plane):
 
 def _choice(standard, range, order):
     """The numbers of a kind of colours."""
-    for name, known in ((standard, STANDARDS), (range, RANGES), (order, ORDERS)):
-        if name not in known:
-            raise ValueError(f"{name!r} is none of {', '.join(known)}")
-    return library.Colours(STANDARDS.index(standard), RANGES.index(range), ORDERS.index(order))
+    return library.Colours(chosen(standard, STANDARDS, "a standard"), chosen(range, RANGES, "a range"),
+                           chosen(order, ORDERS, "an order"))
 
 
 def rgb(y, u, v, standard: str = "bt709", range: str = "limited", order: str = "rgb"):
-    """The colours of three planes of one size and of bytes, as a new plane with three or four bytes for each pixel: an array of three
-    dimensions where they are arrays."""
+    """The colours of three planes of one size and of bytes, as a new plane with three or four bytes for each pixel: where they are
+    arrays, one of the shape (height, width, 3), or 4. The standard, the range and the order are of `STANDARDS`, `RANGES`, `ORDERS`.
+
+    >>> grey = Plane(bytes([128]), 1, 1)
+    >>> list(rgb(grey, grey, grey, range="full", order="bgra").buffer)
+    [128, 128, 128, 255]
+    """
     choice = _choice(standard, range, order)
     width, height, size = _shape(y)
     with Held(y) as luma, Held(u) as first, Held(v) as second:
         if (_same_size(luma, first), _same_size(luma, second)) != (1, 1):
-            raise TypeError("colours are made of samples of one byte")
+            raise KindError("colours are made of samples of one byte")
     target = _new(y, len(order) * width, height, size)
     with Held(target, writes=True) as written, Held(y) as luma, Held(u) as first, Held(v) as second:
         library.answered(library.TO_RGB(*written.told(), *luma.told(), *first.told(), *second.told(), ctypes.byref(choice)))
@@ -141,7 +152,11 @@ def _number(part):
 
 
 def statistics(plane) -> Statistics:
-    """The count, the sum, the sum of the squares, the least and the greatest of the samples of a plane."""
+    """The count, the sum, the sum of the squares, the least and the greatest of the samples of a plane.
+
+    >>> statistics(Plane(bytes([1, 2, 4]), 3, 1))
+    Statistics(count=3, sum=7, sum_of_squares=21, minimum=1, maximum=4)
+    """
     out = library.Statistics()
     with Held(plane) as read:
         library.answered(library.STATISTICS[read.size](*read.told(), ctypes.byref(out)))
@@ -149,7 +164,11 @@ def statistics(plane) -> Statistics:
 
 
 def pair_statistics(a, b) -> PairStatistics:
-    """The sums of the samples of two planes of one size, of their squares, and of the products at the same place."""
+    """The sums of the samples of two planes of one size, of their squares, and of the products at the same place.
+
+    >>> pair_statistics(Plane(bytes([1, 2]), 2, 1), Plane(bytes([3, 5]), 2, 1))
+    PairStatistics(first=3, second=8, first_squares=5, second_squares=34, products=13)
+    """
     out = library.PairStatistics()
     _compared(library.PAIR_STATISTICS, a, b, out)
     return PairStatistics(*(_number(getattr(out, name)) for name in PairStatistics._fields))

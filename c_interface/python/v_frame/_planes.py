@@ -2,7 +2,8 @@
 
 import ctypes
 
-from ._library import Rows, RowsError
+from ._errors import AccessError, KindError, NumberError, RowsError, sizes, whole
+from ._library import Rows
 
 try:
     import numpy
@@ -26,35 +27,45 @@ _release.argtypes = [ctypes.POINTER(_Buffer)]
 _WRITABLE = 1
 
 
-#: What a size has to be below: a larger one would be cut off on its way into the library.
-LIMIT = 1 << 64
-
 _EMPTY = ctypes.create_string_buffer(2)
 
 
 class Plane:
     """A plane of `width` by `height` samples: row y is the `width` samples from number `stride * y` of the buffer on.
 
-    The buffer is any object with one run of bytes (bytes, bytearray, memoryview, array, mmap). The stride is the width where
-    none is given. Samples have `sample_size` bytes, 1 or 2; those of 2 are in the machine's byte order.
+    The buffer is any object with one run of bytes (bytes, bytearray, memoryview, array, mmap). It is not copied, and is held only
+    while a call runs. The stride is the width where none is given. Samples have `sample_size` bytes, 1 or 2; those of 2 are in the
+    machine's byte order.
+
+    >>> plane = Plane(bytearray([1, 2, 3, 9, 4, 5, 6]), 3, 2, stride=4)
+    >>> plane.tobytes()
+    b'\\x01\\x02\\x03\\x04\\x05\\x06'
     """
 
     def __init__(self, buffer, width: int, height: int, stride: int | None = None, sample_size: int = 1):
-        if sample_size not in (1, 2):
-            raise ValueError("a sample has 1 byte or 2")
         self.buffer, self.sample_size = buffer, sample_size
         self.width, self.height, self.stride = width, height, width if stride is None else stride
-        if not all(0 <= size < LIMIT for size in (self.width, self.height, self.stride)):
-            raise RowsError("a size is negative, or has more than 64 bits")
+        self.width, self.height, self.stride, self.sample_size = self._numbers()
 
     def __repr__(self):
         return f"Plane(width={self.width}, height={self.height}, stride={self.stride}, sample_size={self.sample_size})"
 
+    def _numbers(self) -> tuple[int, int, int, int]:
+        """The width, the height, the stride and the sample size, which anyone may have set meanwhile."""
+        size = whole(self.sample_size, "a sample size")
+        if size not in (1, 2):
+            raise NumberError("a sample has 1 byte or 2")
+        width, height, stride = sizes((self.width, self.height, self.stride))
+        return width, height, stride, size
+
     def tobytes(self) -> bytes:
         """The samples of the rows, without what lies between them."""
-        size, data = self.sample_size, memoryview(self.buffer).cast("B")
-        starts = (self.stride * y * size for y in range(self.height))
-        return b"".join(data[start:start + self.width * size] for start in starts)
+        width, height, stride, size = self._numbers()
+        with Held(self) as held:
+            if stride < width or stride * (height - 1) + width > held.length:
+                raise RowsError("the rows do not fit their buffer")
+            data = (ctypes.c_char * (held.length * size)).from_address(held.address)
+            return b"".join(data[start:start + width * size] for start in range(0, stride * height * size, stride * size))
 
 
 class Held:
@@ -67,33 +78,40 @@ class Held:
         elif numpy is not None and isinstance(plane, numpy.ndarray):
             self._of_array(plane, writes)
         else:
-            raise TypeError("a plane is a numpy array of uint8 or uint16 with two dimensions, or a Plane")
+            raise KindError("a plane is a numpy array of uint8 or uint16 with two dimensions, or a Plane")
 
     def _of_buffer(self, plane, writes):
-        self._view = _Buffer()
-        if _get(plane.buffer, ctypes.byref(self._view), _WRITABLE if writes else 0):
-            raise BufferError("the buffer cannot be used")
-        self.size = plane.sample_size
-        self.rows = Rows(plane.width, plane.height, plane.stride)
-        self.address, self.length = self._view.buf, self._view.len // self.size
+        # All that may be refused of the numbers is refused before the buffer is held.
+        width, height, stride, self.size = plane._numbers()
+        self.rows = _filled(width, height, stride)
+        view = _Buffer()
         try:
+            _get(plane.buffer, ctypes.byref(view), _WRITABLE if writes else 0)
+        except (BufferError, ValueError) as error:
+            raise AccessError(f"the buffer cannot be used: {error}") from error
+        except TypeError as error:
+            raise KindError(f"the buffer of a plane is none: {error}") from error
+        self._view = view
+        try:
+            self.address, self.length = view.buf or 0, view.len // self.size
             self._settle()
-        except BufferError:
+        except BaseException:
             self.__exit__()
             raise
 
     def _of_array(self, array, writes):
         if array.ndim != 2 or array.dtype not in (numpy.dtype("uint8"), numpy.dtype("uint16")):
-            raise TypeError("an array is of uint8 or uint16, and has two dimensions")
+            raise KindError("an array is of uint8 or uint16, and has two dimensions")
         if writes and not array.flags.writeable:
-            raise BufferError("the array is read-only")
+            raise AccessError("the array is read-only")
         size, (height, width), (down, across) = array.dtype.itemsize, array.shape, array.strides
+        rows = _filled(width, height, width)
         if width > 1 and across != size or height > 1 and (down < 0 or down % size):
-            raise BufferError("the samples of a row lie apart: copy the array first")
-        stride = down // size if height > 1 else width
-        self.size, self.rows = size, Rows(width, height, stride)
+            raise AccessError("the samples of a row lie apart: copy the array first")
+        rows.stride = stride = down // size if height > 1 else width
+        self.size, self.rows = size, rows
         self.address = array.ctypes.data
-        self.length = stride * (height - 1) + width if height and width else 0
+        self.length = stride * (height - 1) + width
         self._settle()
 
     def _settle(self):
@@ -101,7 +119,7 @@ class Held:
         if not self.length:
             self.address = ctypes.addressof(_EMPTY)
         if self.address % self.size:
-            raise BufferError("samples of 2 bytes lie at odd addresses")
+            raise AccessError("samples of 2 bytes lie at odd addresses")
 
     def overlaps(self, other):
         """Whether two planes have an address in common, between their rows too."""
@@ -126,3 +144,10 @@ class Held:
         if self._view is not None:
             _release(ctypes.byref(self._view))
             self._view = None
+
+
+def _filled(width, height, stride):
+    """The rows of a picture that has a pixel."""
+    if not (width and height):
+        raise RowsError("the rows do not fit their buffer: a size is zero")
+    return Rows(width, height, stride)

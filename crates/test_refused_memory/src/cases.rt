@@ -2,20 +2,26 @@
 //!
 //! Nothing takes memory once the call was made, so a request that is refused is one of the preparation or of the call.
 
+mod buffers;
 mod builds;
 mod calls_that_take_no_memory;
+mod charts;
 mod checks;
 mod clones;
 mod commands;
 mod drops;
+mod histograms;
 mod laws;
+mod lines;
 mod options;
 mod pictures;
 mod planar;
+mod png;
 mod preparation;
 mod reads;
 mod replays;
 mod row_writes;
+mod semi_planar;
 mod streams;
 mod texts;
 mod videos;
@@ -56,6 +62,32 @@ pub enum Case {
     LentPixelsAreDrawnOnce,
     BytesGoThroughAFrame,
     RunIntoAFixedSlice,
+    BufferOfZeros,
+    CloneOfABuffer,
+    BufferWithoutValues,
+    ValuesOfABuffer,
+    ListOfASlice,
+    BlankPlane,
+    HeaderLine,
+    EndedLine,
+    StrictLine,
+    TextOfBytes,
+    TextOfARatio,
+    ParseHeader,
+    ParseLaxHeader,
+    FrameOfAHeader,
+    HistogramOfAPlane,
+    HistogramOfRows,
+    ReadSemiPlanarFrame,
+    PngOfRows,
+    PngOfCompressedRows,
+    PngWriter,
+    PngWriterThatCompresses,
+    PngOfWords,
+    PngOfAPlaneOfWords,
+    ColumnsOfAChart,
+    TextOfAChart,
+    WriteChart,
     YuvInfo,
     YuvCompare,
     YuvCompareFrames,
@@ -67,7 +99,7 @@ pub enum Case {
 }
 
 /// The cases by their names.
-static CASES: [(&str, Case); 35] = [
+static CASES: [(&str, Case); 61] = [
     ("build", Case::Build),
     ("new_uninit", Case::NewUninit),
     ("assume_init", Case::AssumeInit),
@@ -98,6 +130,32 @@ static CASES: [(&str, Case); 35] = [
     ("lent_pixels_are_drawn_once", Case::LentPixelsAreDrawnOnce),
     ("bytes_go_through_a_frame", Case::BytesGoThroughAFrame),
     ("run_into_a_fixed_slice", Case::RunIntoAFixedSlice),
+    ("buffer_of_zeros", Case::BufferOfZeros),
+    ("clone_of_a_buffer", Case::CloneOfABuffer),
+    ("buffer_without_values", Case::BufferWithoutValues),
+    ("values_of_a_buffer", Case::ValuesOfABuffer),
+    ("list_of_a_slice", Case::ListOfASlice),
+    ("blank_plane", Case::BlankPlane),
+    ("header_line", Case::HeaderLine),
+    ("ended_line", Case::EndedLine),
+    ("strict_line", Case::StrictLine),
+    ("text_of_bytes", Case::TextOfBytes),
+    ("text_of_a_ratio", Case::TextOfARatio),
+    ("parse_header", Case::ParseHeader),
+    ("parse_lax_header", Case::ParseLaxHeader),
+    ("frame_of_a_header", Case::FrameOfAHeader),
+    ("histogram_of_a_plane", Case::HistogramOfAPlane),
+    ("histogram_of_rows", Case::HistogramOfRows),
+    ("read_semi_planar_frame", Case::ReadSemiPlanarFrame),
+    ("png_of_rows", Case::PngOfRows),
+    ("png_of_compressed_rows", Case::PngOfCompressedRows),
+    ("png_writer", Case::PngWriter),
+    ("png_writer_that_compresses", Case::PngWriterThatCompresses),
+    ("png_of_words", Case::PngOfWords),
+    ("png_of_a_plane_of_words", Case::PngOfAPlaneOfWords),
+    ("columns_of_a_chart", Case::ColumnsOfAChart),
+    ("text_of_a_chart", Case::TextOfAChart),
+    ("write_chart", Case::WriteChart),
     ("yuv_info", Case::YuvInfo),
     ("yuv_compare", Case::YuvCompare),
     ("yuv_compare_frames", Case::YuvCompareFrames),
@@ -160,6 +218,35 @@ fn seen_of_a_call(alloc: Global, case: Case) -> Outcome {
         Case::CallsThatTakeNoMemory => {
             calls_that_take_no_memory::calls_that_take_no_memory(alloc)
         }
+        _ => seen_of_a_file(alloc, case),
+    }
+}
+
+/// What is seen of a buffer, of a line of a stream, of counts, or of a picture or a chart that is written.
+fn seen_of_a_file(alloc: Global, case: Case) -> Outcome {
+    match case {
+        Case::BufferOfZeros
+        | Case::CloneOfABuffer
+        | Case::BufferWithoutValues
+        | Case::ValuesOfABuffer
+        | Case::ListOfASlice
+        | Case::BlankPlane => buffers::made(alloc, case),
+        Case::HeaderLine
+        | Case::EndedLine
+        | Case::StrictLine
+        | Case::TextOfBytes
+        | Case::TextOfARatio => lines::line(alloc, case),
+        Case::ParseHeader | Case::ParseLaxHeader => lines::header(alloc, case),
+        Case::FrameOfAHeader => lines::frame_of_a_header(alloc),
+        Case::HistogramOfAPlane | Case::HistogramOfRows => histograms::histogram(alloc, case),
+        Case::ReadSemiPlanarFrame => semi_planar::read_a_semi_planar_frame(alloc),
+        Case::PngOfRows
+        | Case::PngOfCompressedRows
+        | Case::PngWriter
+        | Case::PngWriterThatCompresses
+        | Case::PngOfWords
+        | Case::PngOfAPlaneOfWords => png::picture(alloc, case),
+        Case::ColumnsOfAChart | Case::TextOfAChart | Case::WriteChart => charts::chart(alloc, case),
         _ => pictures::on_a_frame(alloc, case),
     }
 }

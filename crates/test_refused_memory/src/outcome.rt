@@ -27,6 +27,15 @@ impl Outcome {
         }
     }
 
+    /// That of a call that answered `Ok`, and gave what is right or else this.
+    pub fn done_where(is_right: bool, what: &'static str) -> Self {
+        if is_right {
+            Outcome::Done
+        } else {
+            Outcome::Wrong(what)
+        }
+    }
+
     /// That of a call that was refused, and left what is right or not.
     pub fn kept(is_right: bool) -> Self {
         if is_right {

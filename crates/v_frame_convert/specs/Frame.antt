@@ -4,7 +4,7 @@ use Rattle.std.specs.Prelude.{option_map}
 use Rattle.std.specs.Prelude.{replicate}
 use Rattle.std.specs.Int.NonZero.{non_zero_u8_get}
 use Rattle.v_frame.specs.Prelude.{Table, Raster, PixelForm, Frame, Tables, ratio_of, table_of}
-use Rattle.v_frame.specs.Prelude.{ChromaSubsampling}
+use Rattle.v_frame.specs.Prelude.{ChromaSubsampling, Yuv444}
 use Rattle.v_frame_convert.specs.Convert.{converted}
 use Rattle.v_frame_convert.specs.Depth.{pixel_at_depth, pixel_of_depth, DepthFits}
 use Rattle.v_frame_convert.specs.Scale.{scaled, SizesFit}
@@ -53,6 +53,28 @@ pub record FramesFit {S T : Type 0} (bytes other : ℕ) (source : Frame S) (targ
       target.u_plane
   pub v : ChromaFits (scales_between source.subsampling target.subsampling) source.v_plane
       target.v_plane
+
+-- a chroma plane is as large as its format says beside luma of a size, rounded up
+pub record IsChromaSize {T : Type 0} (format : ChromaSubsampling) (width height : ℕ)
+    (plane : Raster T) : Type 0 where
+  pub across : SizesFit (scales_between format Yuv444).0 plane.geometry.width width
+  pub down : SizesFit (scales_between format Yuv444).1 plane.geometry.height height
+
+-- two chroma planes are as large as the formats of their frames say, where both are there
+abbrev pub AreChromaSizes : {S T : Type 0} → Frame S → Frame T → Option (Raster S)
+    → Option (Raster T) → Type 0
+AreChromaSizes {S} {T} source target from to =
+    (p : Raster S) (q : Raster T) → from ≡ Some p → to ≡ Some q
+    → IsChromaSize source.subsampling source.y_plane.geometry.width source.y_plane.geometry.height p
+    × IsChromaSize target.subsampling target.y_plane.geometry.width target.y_plane.geometry.height q
+
+-- a frame can be converted into another one, and chroma planes that both have are as large as the
+-- formats say
+pub record FramesMatch {S T : Type 0} (bytes other : ℕ) (source : Frame S) (target : Frame T)
+    : Type 0 where
+  pub fits : FramesFit bytes other source target
+  pub u : AreChromaSizes source target source.u_plane target.u_plane
+  pub v : AreChromaSizes source target source.v_plane target.v_plane
 
 module _ {S T : Type 0} (form : PixelForm S) (other : PixelForm T) (from to : ℕ) where
   -- a chroma plane in another size and depth, or no colour where the source has none

@@ -5,7 +5,8 @@ pub use Rattle.v_frame_convert.specs.Depth.{at_depth, largest_value, pixel_at_de
 pub use Rattle.v_frame_convert.specs.Depth.{DepthFits}
 pub use Rattle.v_frame_convert.specs.Frame.{converted_tables, chroma_of, chroma_shown}
 pub use Rattle.v_frame_convert.specs.Frame.{scales_between}
-pub use Rattle.v_frame_convert.specs.Frame.{ChromaFits, FramesFit}
+pub use Rattle.v_frame_convert.specs.Frame.{AreChromaSizes, ChromaFits, FramesFit, FramesMatch}
+pub use Rattle.v_frame_convert.specs.Frame.{IsChromaSize}
 pub use Rattle.v_frame_convert.specs.Range.{in_full_range, in_limited_range, luma_in_full_range}
 pub use Rattle.v_frame_convert.specs.Range.{pixel_by}
 pub use Rattle.v_frame_convert.specs.Range.{chroma_in_full_range, luma_in_limited_range}

@@ -3,7 +3,7 @@ ghost use Rattle.std.specs.Prelude.{◌≡◌, ◌≢◌, ◌-◌, ◌^◌, ◌�
 ghost use Rattle.std.specs.Int.NonZero.{non_zero_u8_get};
 ghost use Rattle.v_frame.specs.Prelude.{border_and_geometry, table_of, tables_of, KeepsBorders};
 ghost use Rattle.v_frame_convert.specs.Depth.{DepthFits};
-ghost use Rattle.v_frame_convert.specs.Frame.{chroma_of, column_scale, converted_tables, line_scale, scales_between, ChromaFits, FramesFit};
+ghost use Rattle.v_frame_convert.specs.Frame.{chroma_of, column_scale, converted_tables, line_scale, scales_between, AreChromaSizes, ChromaFits, FramesFit, FramesMatch, IsChromaSize};
 ghost use Rattle.v_frame_convert.specs.declared.scale.Scale.TheVariants.{Quarter};
 
 use crate::depth::convert_depth;
@@ -43,34 +43,50 @@ pub fn convert_frame<S: Pixel, T: Pixel>(source: &Frame<S>, target: &mut Frame<T
 
 /// Returns whether [`convert_frame`] can convert one frame into the other: the luma planes have one size, each depth fits its
 /// type of pixels, and chroma planes that both have are as large as the formats say, rounded up.
+///
+/// A plane that stands for chroma in a monochrome frame has the size of luma, and fits one of its own size alone.
 pub fn frames_fit<S: Pixel, T: Pixel>(source: &Frame<S>, target: &Frame<T>) -> bool
-    ensures { IsTrue result ↔ FramesFit S.BYTES T.BYTES source.now target.now }
+    ensures { IsTrue result ↔ FramesMatch S.BYTES T.BYTES source.now target.now }
 {
-    let (across, down) = scales_of(source.subsampling, target.subsampling);
     source.y_plane.width() == target.y_plane.width()
         && source.y_plane.height() == target.y_plane.height()
         && depth_fits::<S>(source.bit_depth.get())
         && depth_fits::<T>(target.bit_depth.get())
-        && chroma_fits(&source.u_plane, &target.u_plane, across, down)
-        && chroma_fits(&source.v_plane, &target.v_plane, across, down)
+        && chroma_matches(source, target, &source.u_plane, &target.u_plane)
+        && chroma_matches(source, target, &source.v_plane, &target.v_plane)
 }
 
-/// Returns whether the sizes of two chroma planes belong together, where both are there.
-fn chroma_fits<S, T>(
-    source: &Option<Plane<S>>,
-    target: &Option<Plane<T>>,
-    across: Scale,
-    down: Scale,
+/// Returns whether two chroma planes of frames belong together and are as large as the formats say, where both are there.
+fn chroma_matches<S: Pixel, T: Pixel>(
+    source: &Frame<S>,
+    target: &Frame<T>,
+    from: &Option<Plane<S>>,
+    to: &Option<Plane<T>>,
 ) -> bool
-    ensures { IsTrue result ↔ ChromaFits (across, down) source.now target.now }
+    ensures { IsTrue result
+        ↔ (ChromaFits (scales_between source.now.subsampling target.now.subsampling) from.now to.now
+        × AreChromaSizes source.now target.now from.now to.now) }
 {
-    match (source, target) {
-        (Some(source), Some(target)) => {
-            sizes_fit(across, source.width(), target.width())
-                && sizes_fit(down, source.height(), target.height())
+    let (across, down) = scales_of(source.subsampling, target.subsampling);
+    match (from, to) {
+        (Some(from), Some(to)) => {
+            sizes_fit(across, from.width(), to.width())
+                && sizes_fit(down, from.height(), to.height())
+                && is_chroma_size(source.subsampling, &source.y_plane, from)
+                && is_chroma_size(target.subsampling, &target.y_plane, to)
         }
         _ => true,
     }
+}
+
+/// Returns whether a chroma plane is as large as its format says beside luma.
+fn is_chroma_size<T: Pixel>(format: ChromaSubsampling, luma: &Plane<T>, chroma: &Plane<T>) -> bool
+    ensures { IsTrue result ↔ IsChromaSize format luma.now.geometry.width luma.now.geometry.height
+        chroma.now }
+{
+    let (across, down) = scales_of(format, ChromaSubsampling::Yuv444);
+    sizes_fit(across, chroma.width(), luma.width())
+        && sizes_fit(down, chroma.height(), luma.height())
 }
 
 /// Returns how many columns and rows chroma of one format has beside that of another.

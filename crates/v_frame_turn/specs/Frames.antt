@@ -1,5 +1,5 @@
 -- Frames turned: what each plane shows then, and when one frame can show another one turned.
-use Rattle.std.specs.Prelude.{ℕ, ◌≡◌, ◌≢◌, ◌==◌, if◌then◌else◌, ⊤, Bool, true, false, map, reverse}
+use Rattle.std.specs.Prelude.{ℕ, ◌≡◌, ◌≢◌, ◌<◌, ◌==◌, if◌then◌else◌, ⊤, Bool, true, false, map, reverse}
 use Rattle.std.specs.Prelude.{Option, Some, None, option_map}
 use Rattle.std.specs.Int.NonZero.{non_zero_u8_get}
 use Rattle.v_frame.specs.Prelude.{ratio_of, ChromaSubsampling, Frame, Raster, Table, Tables}
@@ -73,11 +73,17 @@ module _ {T : Type 0} where
     pub u_plane : BothFit (exchanges turn) source.u_plane target.u_plane
     pub v_plane : BothFit (exchanges turn) source.v_plane target.v_plane
 
-  -- why it can't
+  -- why it can't: the first reason that holds, of planes that of the least index
   abbrev pub IsReason : TheTurn → Frame T → Frame T → TurnError → Type 0
   IsReason turn source target UnevenSubsampling = is_turnable turn source.subsampling ≡ false
-  IsReason turn source target DifferentSubsampling = target.subsampling ≢ source.subsampling
+  IsReason turn source target DifferentSubsampling =
+      (is_turnable turn source.subsampling ≡ true) × (target.subsampling ≢ source.subsampling)
   IsReason turn source target DifferentBitDepth =
-      non_zero_u8_get target.bit_depth ≢ non_zero_u8_get source.bit_depth
+      (is_turnable turn source.subsampling ≡ true) × (target.subsampling ≡ source.subsampling)
+      × (non_zero_u8_get target.bit_depth ≢ non_zero_u8_get source.bit_depth)
   IsReason turn source target (DifferentSize plane) =
-      ¬ BothFit (exchanges turn) (plane_at source plane) (plane_at target plane)
+      (is_turnable turn source.subsampling ≡ true) × (target.subsampling ≡ source.subsampling)
+      × (non_zero_u8_get target.bit_depth ≡ non_zero_u8_get source.bit_depth)
+      × ((k : ℕ) → k < plane
+      → BothFit (exchanges turn) (plane_at source k) (plane_at target k))
+      × ¬ BothFit (exchanges turn) (plane_at source plane) (plane_at target plane)

@@ -1,13 +1,14 @@
 -- The checksums of frames.
-use Rattle.std.specs.Prelude.{ℕ, ◌≡◌, ◌+◌, ◌⊎◌, ◌∷◌, ◌++◌, [], Bool, true, false, List, Option, Some, None, drop, length, take}
+use Rattle.std.specs.Prelude.{ℕ, ◌≡◌, ◌+◌, ◌≤◌, ◌⊎◌, ◌∷◌, ◌++◌, [], Bool, true, false, List, Option, Some, None, drop, length, min, take, unwrap_or}
 use Rattle.std.specs.Io.KnownBytes.{Appends, IsAtEnd}
 use Rattle.v_frame_planar.specs.Planar.{plane_byte_count}
 use Rattle.v_frame_png.specs.Crc.{crc32}
 use Rattle.yuv_reports.specs.declared.samples.Checksums.{Checksums}
 use Rattle.yuv_reports.specs.declared.samples.Checksums.TheVariants.{Frame, Planes}
 use Rattle.yuv_reports.specs.Samples.{checksums_line}
-use Rattle.yuv_streams.specs.Prelude.{most_frames, Framed, ReadsFrames, Sizes}
+use Rattle.yuv_streams.specs.Prelude.{most_frames, CountsFrames, Framed, ReadsFrames, Sizes}
 use Rattle.yuv_streams.specs.declared.stream.Container.{Container}
+use Rattle.yuv_words.specs.declared.command.SumOptions.{SumOptions}
 
 -- of the bytes of a frame the CRC-32 of all of them, or of each plane: first those of Y, then those
 -- of U, and then those of V, where there is chroma
@@ -24,17 +25,29 @@ checksums_of true count sizes bytes = planes_of sizes.1.0 where
       let size = plane_byte_count count (Some u) in
       Planes (crc32 (take y bytes)) (Some (crc32 (take size chroma), crc32 (drop size chroma)))
 
--- the lines of frames, of which the first has this number
+-- the lines of frames, before the first of which so many stand in the file
 abbrev pub checksum_lines : Bool → ℕ → Sizes → ℕ → List Framed → List ℕ
-checksum_lines planes count sizes number [] = []
-checksum_lines planes count sizes number (frame ∷ frames) =
-    checksums_line number (checksums_of planes count sizes frame.1)
-    ++ checksum_lines planes count sizes (number + 1) frames
+checksum_lines planes count sizes before [] = []
+checksum_lines planes count sizes before (frame ∷ frames) =
+    checksums_line (min (before + 1) most_frames) (checksums_of planes count sizes frame.1)
+    ++ checksum_lines planes count sizes (before + 1) frames
 
--- all frames of a stream were read, and a line for each was written
+-- so many frames were read, no more than asked for and fewer only at the end of the stream, and a
+-- line for each was written
 pub record SumsFrames (from : Container) (frame_len : ℕ) (left left' has has' : Option (List ℕ))
-    (planes : Bool) (count : ℕ) (sizes : Sizes) : Type 0 where
+    (planes : Bool) (count : ℕ) (sizes : Sizes) (before most found : ℕ) : Type 0 where
   pub frames : List Framed
   pub read : ReadsFrames left left' from frame_len frames
-  pub ends : (length frames ≡ most_frames) ⊎ IsAtEnd left'
-  pub written : Appends has has' (checksum_lines planes count sizes 1 frames)
+  pub counted : length frames ≡ found
+  pub bound : found ≤ most
+  pub ends : (found ≡ most) ⊎ IsAtEnd left'
+  pub written : Appends has has' (checksum_lines planes count sizes before frames)
+
+-- the same of the frames that the options ask for, after those that are passed over
+pub record SumsFrom (from : Container) (frame_len : ℕ) (left left' has has' : Option (List ℕ))
+    (options : SumOptions) (count : ℕ) (sizes : Sizes) (found : ℕ) : Type 0 where
+  pub start : Option (List ℕ)
+  pub passed : ℕ
+  pub skipped : CountsFrames left start from frame_len (unwrap_or options.skip 0) passed
+  pub summed : SumsFrames from frame_len start left' has has' options.planes count sizes
+      (unwrap_or options.skip 0) (unwrap_or options.count most_frames) found

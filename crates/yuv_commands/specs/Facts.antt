@@ -1,5 +1,5 @@
 -- What `info` says of a stream, one line a fact.
-use Rattle.std.specs.Prelude.{ℕ, ◌∷◌, ◌++◌, [], List, Option, Some, None, codes, decimal, flat_map, map}
+use Rattle.std.specs.Prelude.{ℕ, ◌∷◌, ◌++◌, [], Bool, true, false, List, Option, Some, None, codes, decimal, flat_map, map}
 use Rattle.v_frame.specs.Prelude.{ChromaSubsampling, Yuv420, Yuv422, Yuv411, Yuv444, Monochrome}
 use Rattle.v_frame_y4m.specs.Ascii.{shown_byte}
 use Rattle.v_frame_y4m.specs.Colour.{depth_of, siting_of, subsampling_of}
@@ -35,6 +35,15 @@ interlacing_text TopFirst = codes "top field first"
 interlacing_text BottomFirst = codes "bottom field first"
 interlacing_text Mixed = codes "mixed"
 interlacing_text Unknown = codes "unknown"
+
+-- each frame is, or may be, made of two fields, which are of two moments
+abbrev pub has_fields : Option Interlacing → Bool
+has_fields None = false
+has_fields (Some Progressive) = false
+has_fields (Some TopFirst) = true
+has_fields (Some BottomFirst) = true
+has_fields (Some Mixed) = true
+has_fields (Some Unknown) = false
 
 abbrev pub interlacing_fact : Option Interlacing → List ℕ
 interlacing_fact None = []

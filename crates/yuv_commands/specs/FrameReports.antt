@@ -1,8 +1,9 @@
 -- What is reported of two frames.
-use Rattle.std.specs.Prelude.{ℕ, ◌≡◌, List, Option, IsSome, IsTrue, is_some}
-use Rattle.yuv_commands.specs.Reports.{sums_asked, EndsKnown}
+use Rattle.std.specs.Prelude.{ℕ, ◌≡◌, ◌+◌, List, Option, IfSome, IsSome, IsSomeAnd, IsTrue, is_some, min}
+use Rattle.yuv_commands.specs.Reports.{frame_number, sums_asked}
 use Rattle.yuv_commands.specs.declared.frame_report.FrameReport.{FrameReport}
-use Rattle.yuv_reports.specs.Sums.{end_of_frame}
+use Rattle.yuv_reports.specs.Frames.{EndsWithFrame}
+use Rattle.yuv_streams.specs.Prelude.{most_frames}
 use Rattle.yuv_streams.specs.declared.sums.PlaneSums.{PlaneSums}
 
 module _ {W : Type 0} (contents : W → Option (List ℕ)) (old new : FrameReport W) where
@@ -12,11 +13,15 @@ module _ {W : Type 0} (contents : W → Option (List ℕ)) (old new : FrameRepor
     pub lists_frames : new.report.lists_frames ≡ old.report.lists_frames
     pub scale : new.scale ≡ old.scale
     pub ssim : is_some new.ssim ≡ is_some old.ssim
+    pub before : new.before ≡ old.before
     pub known : IsSome (contents old.out.inner) → IsSome (contents new.out.inner)
 
-  -- two frames of these errors were reported, where frames are listed
+  -- two frames of these errors were counted, and reported under the number that the one of the first
+  -- stream has there, where frames are listed
   pub record ReportsFrame (errors : PlaneSums) : Type 0 where
     pub stays : StaysAsked
+    pub counted : new.frames ≡ min (old.frames + 1) most_frames
     pub said : IsTrue old.report.lists_frames
-        → EndsKnown (contents old.out.inner) (contents new.out.inner)
-        (end_of_frame old.report.form (sums_asked old.scale.exact errors))
+        → IfSome (contents old.out.inner) (λ _. IsSomeAnd (contents new.out.inner)
+        (EndsWithFrame old.report.form (frame_number old.before new.frames)
+        (sums_asked old.scale.exact errors)))

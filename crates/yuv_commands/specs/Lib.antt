@@ -6,6 +6,7 @@ pub mod Info
 pub mod InputFiles
 pub mod Inputs
 pub mod Messages
+pub mod Nothing
 pub mod Options
 pub mod Outputs
 pub mod Places

@@ -2,13 +2,16 @@
 use Rattle.std.specs.Prelude.{ℕ, ◌≡◌, Bool, true, false}
 use Rattle.yuv_commands.specs.declared.progress.ProgressLine.{ProgressLine}
 use Rattle.yuv_words.specs.declared.command.Command.{Command}
-use Rattle.yuv_words.specs.declared.command.Command.TheVariants.{Info, Compare, Copy}
+use Rattle.yuv_words.specs.declared.command.Command.TheVariants.{Info, Compare, Copy, Sum, Stats, Plot}
 
 -- `--progress` of the commands that have it
 abbrev pub asks_progress : Command → Bool
 asks_progress (Info file options) = options.progress
 asks_progress (Compare first second options) = options.progress
 asks_progress (Copy input output options) = options.progress
+asks_progress (Sum file options) = options.progress
+asks_progress (Stats file options) = options.progress
+asks_progress (Plot first second output options) = options.progress
 asks_progress _ = false
 
 -- a line that is not shown stays as it is, and one that is shown takes the count

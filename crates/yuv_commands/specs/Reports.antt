@@ -1,10 +1,10 @@
 -- What `compare` reports, where whole numbers are printed.
-use Rattle.std.specs.Prelude.{ℕ, ◌+◌, ◌++◌, min, if◌then◌else◌, Bool, List, Option, Some, None, option_map, IfSome}
+use Rattle.std.specs.Prelude.{ℕ, ◌+◌, min, if◌then◌else◌, Bool, List, Option, Some, None, option_map, IfSome}
 use Rattle.std.specs.Prelude.{IsSomeAnd}
 use Rattle.v_frame.specs.Prelude.{PixelForm, Tables}
 use Rattle.v_frame_measures.specs.Prelude.{measured, peak_of, ssim_of}
 use Rattle.v_frame_measures.specs.declared.frames.FrameMeasure.{FrameMeasure}
-use Rattle.yuv_reports.specs.Sums.{difference_line, longer_line, sums_line}
+use Rattle.yuv_reports.specs.Frames.{end_by_parts}
 use Rattle.yuv_reports.specs.Texts.{EndsWith}
 use Rattle.yuv_reports.specs.declared.comparison.Longer.{Longer}
 use Rattle.yuv_reports.specs.declared.comparison.PlaneName.{PlaneName}
@@ -47,11 +47,17 @@ plane_said Y = PlaneName.Y
 plane_said U = PlaneName.U
 plane_said V = PlaneName.V
 
--- the first difference, in a frame that is counted from 1
-abbrev pub difference_said : ℕ × PixelDifference → SampleDifference
-difference_said found =
+-- the number that a frame has in its file: so many stand before those that are compared, of which it
+-- is the one of this number, counted from 1
+abbrev pub frame_number : ℕ → ℕ → ℕ
+frame_number before number = min (before + number) most_frames
+
+-- the first difference, in a frame of the file, of which so many stand before the first that is
+-- compared
+abbrev pub difference_said : ℕ → ℕ × PixelDifference → SampleDifference
+difference_said before found =
     record {
-      frame = min (found.0 + 1) most_frames;
+      frame = frame_number before (found.0 + 1);
       plane = plane_said found.1.component;
       x = found.1.x;
       y = found.1.y;
@@ -63,13 +69,12 @@ abbrev pub longer_said : Place → Longer
 longer_said First = Longer.First
 longer_said _ = Longer.Second
 
--- the end of a report in lines: the sums where they are asked for, the first difference and the
--- longer stream
-abbrev pub report_end : Bool → Comparison → List ℕ
-report_end exact found =
-    sums_line (sums_asked exact found.errors)
-    ++ (difference_line (option_map difference_said found.difference)
-    ++ longer_line (option_map longer_said found.longer))
+-- the end of a report, after so many frames: in lines the sums where they are asked for, the first
+-- difference and the longer stream; in an object the last two, and in a table nothing
+abbrev pub report_end : ReportForm → Bool → ℕ → Comparison → List ℕ
+report_end form exact before found =
+    end_by_parts form (sums_asked exact found.errors)
+    (option_map (difference_said before) found.difference) (option_map longer_said found.longer)
 
 -- what a writer got ends so, where that is known
 abbrev pub EndsKnown : Option (List ℕ) → Option (List ℕ) → List ℕ → Type 0

@@ -4,7 +4,7 @@ use Rattle.std.specs.Prelude.{if◌then◌else◌, min, nat_lt, slice_index}
 use Rattle.std.specs.Io.KnownBytes.{Appends}
 use Rattle.v_frame.specs.Prelude.{PixelForm}
 use Rattle.v_frame_semi_planar.specs.declared.format.SemiPlanarFormat.{SemiPlanarFormat}
-use Rattle.yuv_commands.specs.Values.{histogram_said, CountsStream}
+use Rattle.yuv_commands.specs.Values.{histogram_said, CountsFrom}
 use Rattle.yuv_commands.specs.declared.stats.Counts.{Counts}
 use Rattle.yuv_commands.specs.declared.value_counts.ValueCounts.{ValueCounts}
 use Rattle.yuv_reports.specs.Samples.{AppendsStatistics}
@@ -13,6 +13,7 @@ use Rattle.yuv_reports.specs.declared.comparison.PlaneName.TheVariants.{Y, U, V}
 use Rattle.yuv_reports.specs.declared.samples.SampleStatistics.{SampleStatistics}
 use Rattle.yuv_streams.specs.Prelude.{Sizes}
 use Rattle.yuv_streams.specs.declared.stream.Container.{Container}
+use Rattle.yuv_words.specs.declared.command.StatsOptions.{StatsOptions}
 
 -- what stands at a depth for a value of 8 bits, as ITU-R BT.601 and BT.709 have it
 abbrev pub nominal_at : ℕ → ℕ → ℕ
@@ -67,12 +68,13 @@ abbrev pub SaysCounts : Bool → ℕ → Counts → List ℕ → Type 0
 SaysCounts true depth found text = text ≡ histogram_said found
 SaysCounts false depth found text = SaysPlanes depth found text
 
--- all frames of a stream were read, and what values their samples have was written
+-- the frames that the options ask for were read, and what values their samples have was written
 pub record ReportsValues {T : Type 0} (form : PixelForm T) (bound : ℕ) (from : Container)
     (frame_len : ℕ) (layout : Option SemiPlanarFormat) (sizes : Sizes)
-    (left left' has has' : Option (List ℕ)) (histogram : Bool) (depth : ℕ) : Type 0 where
+    (left left' has has' : Option (List ℕ)) (options : StatsOptions) (depth number : ℕ)
+    : Type 0 where
   pub found : Counts
-  pub counted : CountsStream form bound from frame_len layout sizes left left' found
+  pub counted : CountsFrom form bound from frame_len layout sizes left left' options number found
   pub text : List ℕ
-  pub says : SaysCounts histogram depth found text
+  pub says : SaysCounts options.histogram depth found text
   pub written : Appends has has' text

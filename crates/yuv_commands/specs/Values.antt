@@ -1,6 +1,6 @@
 -- How often values occur in the planes of frames, and how that is reported.
 use Rattle.std.specs.Prelude.{ℕ, ◌≡◌, ◌+◌, ◌-◌, ◌^◌, ◌<◌, ◌≤◌, ◌⊎◌, ◌∷◌, ◌++◌, [], Bool, List, Option, Some, None}
-use Rattle.std.specs.Prelude.{codes, count_by, flat_map, is_some, length, map, min, nat_eq, option_to_list, slice_index, sum_by, IfSome}
+use Rattle.std.specs.Prelude.{codes, count_by, flat_map, is_some, length, map, min, nat_eq, option_to_list, slice_index, sum_by, unwrap_or, IfSome}
 use Rattle.std.specs.Io.KnownBytes.{IsAtEnd}
 use Rattle.v_frame_semi_planar.specs.declared.format.SemiPlanarFormat.{SemiPlanarFormat}
 use Rattle.v_frame.specs.Prelude.{PixelForm, Table, Tables, row_major}
@@ -9,8 +9,9 @@ use Rattle.yuv_commands.specs.declared.value_counts.ValueCounts.{ValueCounts}
 use Rattle.yuv_reports.specs.Histograms.{histogram_rows}
 use Rattle.yuv_reports.specs.declared.comparison.PlaneName.{PlaneName}
 use Rattle.yuv_reports.specs.declared.comparison.PlaneName.TheVariants.{Y, U, V}
-use Rattle.yuv_streams.specs.Prelude.{most_frames, tables_of_bytes, Framed, ReadsFrames, Sizes}
+use Rattle.yuv_streams.specs.Prelude.{most_frames, tables_of_bytes, CountsFrames as PassesFrames, Framed, ReadsFrames, Sizes}
 use Rattle.yuv_streams.specs.declared.stream.Container.{Container}
+use Rattle.yuv_words.specs.declared.command.StatsOptions.{StatsOptions}
 
 -- the rows of a chroma plane, where it is there
 abbrev pub rows_of_chroma : PlaneName → Option ValueCounts → List ℕ
@@ -92,11 +93,25 @@ module _ {T : Type 0} (form : PixelForm T) (bound : ℕ) where
         CountsPlanes (flat_map (λ tables. option_to_list tables.v) frames) counts.counts.items)
     pub has_chroma : (is_some found.u ≡ chroma) × (is_some found.v ≡ chroma)
 
-  -- all frames of a stream were read, and their values were counted
+  -- so many frames were read, no more than asked for and fewer only at the end of the stream, and
+  -- their values were counted
   pub record CountsStream (from : Container) (frame_len : ℕ) (layout : Option SemiPlanarFormat)
-      (sizes : Sizes) (left left' : Option (List ℕ)) (found : Counts) : Type 0 where
+      (sizes : Sizes) (left left' : Option (List ℕ)) (most number : ℕ) (found : Counts)
+      : Type 0 where
     pub frames : List Framed
     pub read : ReadsFrames left left' from frame_len frames
-    pub ends : (length frames ≡ most_frames) ⊎ IsAtEnd left'
+    pub taken : length frames ≡ number
+    pub bound : number ≤ most
+    pub ends : (number ≡ most) ⊎ IsAtEnd left'
     pub counted : CountsFrames (is_some sizes.1.0)
         (map (λ frame. tables_of_bytes form layout sizes frame.1) frames) found
+
+  -- the same of the frames that the options ask for, after those that are passed over
+  pub record CountsFrom (from : Container) (frame_len : ℕ) (layout : Option SemiPlanarFormat)
+      (sizes : Sizes) (left left' : Option (List ℕ)) (options : StatsOptions) (number : ℕ)
+      (found : Counts) : Type 0 where
+    pub start : Option (List ℕ)
+    pub passed : ℕ
+    pub skipped : PassesFrames left start from frame_len (unwrap_or options.skip 0) passed
+    pub counted : CountsStream from frame_len layout sizes start left'
+        (unwrap_or options.count most_frames) number found

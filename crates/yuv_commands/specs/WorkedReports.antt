@@ -25,7 +25,7 @@ shown_extension = refl
 
 no_difference :
     plane_said (codes "U")
-    (record { count = 0; greatest = record { difference = 0; x = 0; y = 0 } })
+    (record { count = 0; first = None; greatest = record { difference = 0; x = 0; y = 0 } })
     ≡ codes "U: no difference" ++ (10 ∷ [])
 no_difference = refl
 

@@ -1,5 +1,5 @@
 //! The command `compare`: how far two streams are apart.
-ghost use Rattle.std.specs.Prelude.{◌≡◌, ◌≢◌, ◌↔◌, ◌⊎◌, is_some, IfOk, IsNone, IsTrue, OnOk};
+ghost use Rattle.std.specs.Prelude.{◌≡◌, ◌≢◌, ◌<◌, ◌↔◌, ◌⊎◌, is_some, unwrap_or, IfOk, IsNone, IsTrue, OnOk};
 ghost use Rattle.v_frame.specs.Prelude.{one_byte, two_bytes};
 ghost use Rattle.v_frame_y4m.specs.Colour.{depth_of};
 ghost use Rattle.yuv_commands.specs.Options.{comparison_of};
@@ -12,8 +12,10 @@ use crate::frame_report::FrameReport;
 use crate::input::{begin, expected_frames};
 use crate::input_file::open_file;
 use crate::measures::{Means, Scale};
+use crate::nothing::test_compared;
 use crate::options::stream_comparison;
 use crate::program::Status;
+use crate::progress::ProgressLine;
 use crate::system::System;
 use std::alloc::Global;
 use std::io;
@@ -57,13 +59,13 @@ where
 }
 
 /// Reports how far two streams are apart, and returns the writer and what was found.
-fn report_comparison<R: io::Read, S: io::Read, W: io::Write + Drop, P: Progress>(
+fn report_comparison<R: io::Read, S: io::Read, W: io::Write + Drop, H: Clock, E: io::Write>(
     alloc: Global,
     first: &mut Source<R>,
     second: &mut Source<S>,
     options: &CompareOptions,
     out: W,
-    progress: &mut P,
+    progress: &mut ProgressLine<'_, H, E>,
 ) -> Result<(W, Comparison), Fault>
     ensures bytes { depth_of first.old.header.colour ≡ 8 → IfOk result (λ done.
         ComparesFrom one_byte (sizes_in first.old.header)
@@ -77,15 +79,27 @@ fn report_comparison<R: io::Read, S: io::Read, W: io::Write + Drop, P: Progress>
         (bytes_left R.remaining first.old) (bytes_left R.remaining first.new)
         (bytes_left S.remaining second.old) (bytes_left S.remaining second.new)
         (comparison_of options.now) done.1) }
-    ensures ended { options.now.form ≡ ReportForm.Lines → IfOk result (λ done.
-        EndsKnown (W.contents out) (W.contents done.0) (report_end options.now.exact done.1)) }
+    ensures some { IfOk result (λ done. 0 < done.1.frames) }
+    ensures ended { IfOk result (λ done. EndsKnown (W.contents out) (W.contents done.0)
+        (report_end (form_of_words options.now.form) options.now.exact
+        (unwrap_or options.now.skip 0) done.1)) }
 {
     let report = Report::new(report_form(options), lists_frames(options));
     let scale = scale_of(first.header(), options);
-    let mut observer = FrameReport::new(alloc, out, report, scale, means_of(options));
+    let before = first_taken(options);
+    let mut observer = FrameReport::new(alloc, out, report, scale, means_of(options), before);
     let found = compare_sources(alloc, first, second, options, &mut observer, progress)?;
+    test_compared(&found, first, second, &stream_comparison(options))?;
+    progress.end();
     observer.end(&found)?;
     Ok((observer.into_out(), found))
+}
+
+/// Returns how many frames of the first stream stand before the first one that is compared.
+fn first_taken(options: &CompareOptions) -> u64
+    ensures { result ≡ unwrap_or options.now.skip 0 }
+{
+    options.skip.unwrap_or(0)
 }
 
 /// Returns what the measures of a report are made of besides the errors.

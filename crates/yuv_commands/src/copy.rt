@@ -1,11 +1,15 @@
 //! The command `copy`: a stream is written once more.
-ghost use Rattle.std.specs.Prelude.{◌≡◌, IfOk, OnOk};
+ghost use Rattle.std.specs.Prelude.{◌≡◌, ◌&&◌, unwrap_or, IfOk, OnOk};
+ghost use Rattle.yuv_commands.specs.Facts.{has_fields};
+ghost use Rattle.yuv_commands.specs.Nothing.{nothing_of};
 ghost use Rattle.yuv_commands.specs.Options.{copy_of, KeepsLimit};
 ghost use Rattle.yuv_streams.specs.Prelude.{bytes_left, Copies};
 
 use crate::fault::Fault;
 use crate::input::{begin, expected_frames};
 use crate::input_file::open_file;
+use crate::message::{shown_name, write_message};
+use crate::nothing::NothingTaken;
 use crate::options::{copy_sink, stream_copy, test_limit};
 use crate::output::Output;
 use crate::program::Status;
@@ -15,6 +19,7 @@ use std::alloc::Global;
 use std::io;
 use std::rt::Files;
 use std::time::Clock;
+use v_frame_y4m::{Interlacing, StreamHeader};
 use yuv_streams::{Place, Progress, Sink, Source, StreamError, copy_stream};
 use yuv_words::CopyOptions;
 
@@ -35,6 +40,13 @@ where
     let mut file = open_file(rt, from, Place::First, &mut system.input)?;
     let len = file.len();
     let mut source = begin(system, from, &mut file, options.raw)?;
+    if blends_fields(options, source.header()) {
+        write_message(
+            system.progress.out(),
+            Some(shown_name(from)),
+            &"--half blends the fields of interlaced video",
+        );
+    }
     system.progress.expect(expected_frames(&source, len));
     let mut output = Output::open(rt, to, &[from], &mut system.output, system.progress.out())?;
     let mut sink = copy_sink(options, &mut output);
@@ -47,10 +59,33 @@ where
     );
     drop(sink);
     let done = match done {
-        Ok(_frames) => Ok(Status::Same),
+        Ok(frames) => Ok(frames),
         Err(error) => Err(Fault::Stream(error)),
     };
-    output.settle(rt, done)
+    let frames = output.settle(rt, done)?;
+    if let Some(nothing) = nothing_copied(options, frames, source.frames()) {
+        system.progress.end();
+        write_message(system.progress.out(), Some(shown_name(from)), &nothing);
+    }
+    Ok(Status::Same)
+}
+
+/// Returns whether a copy makes one row of two that are of two fields, which are of two moments.
+fn blends_fields(options: &CopyOptions, header: &StreamHeader) -> bool
+    ensures { result ≡ (options.now.half && has_fields header.now.interlacing) }
+{
+    let has_fields = matches!(
+        header.interlacing,
+        Some(Interlacing::TopFirst | Interlacing::BottomFirst | Interlacing::Mixed)
+    );
+    options.half && has_fields
+}
+
+/// Returns why no frame was copied, where so many of a stream of so many are none.
+fn nothing_copied(options: &CopyOptions, copied: u64, frames: u64) -> Option<NothingTaken>
+    ensures { result ≡ nothing_of copied frames (unwrap_or options.now.skip 0) options.now.count }
+{
+    NothingTaken::of(copied, frames, options.skip.unwrap_or(0), options.count)
 }
 
 /// Writes a stream once more as the options say, and counts the frames that are written.

@@ -4,7 +4,7 @@ ghost use Rattle.v_frame.specs.Prelude.{one_byte, tables_of, two_bytes};
 ghost use Rattle.v_frame_y4m.specs.Colour.{depth_of};
 ghost use Rattle.yuv_commands.specs.Differences.{DrawsDifference, DrawsFrames, TakesPair};
 ghost use Rattle.yuv_commands.specs.Options.{frame_pair};
-ghost use Rattle.yuv_commands.specs.Places.{chroma_said, found_said, plane_said, ShowNoDifference};
+ghost use Rattle.yuv_commands.specs.Places.{chroma_said, first_said, found_said, greatest_said, plane_said, ShowNoDifference};
 ghost use Rattle.yuv_streams.specs.Prelude.{bytes_left, sizes_in, stream_of};
 
 use crate::fault::Fault;
@@ -13,7 +13,7 @@ use crate::input_file::open_file;
 use crate::options::{frames_before, taken_of_both};
 use crate::output::{Output, is_standard_output};
 use crate::program::Status;
-use crate::report::write_made;
+use crate::report::{no_memory, write_made, write_text};
 use crate::system::System;
 use crate::system_file::SystemFile;
 use std::alloc::{AllocError, Global};
@@ -66,11 +66,15 @@ where
         Err(fault) => Err(fault),
     };
     let found = output.settle(rt, done)?;
-    if !is_standard_output(to) {
-        let text = found_text(rt.alloc(), &found);
-        if let Err(error) = write_made(&mut Counted::new(&mut system.output), text) {
-            return Err(Fault::Report(error));
-        }
+    let text = found_text(rt.alloc(), &found);
+    if is_standard_output(to) {
+        let Ok(text) = text else {
+            return Err(Fault::Report(no_memory()));
+        };
+        // Where nothing can be said there, the picture is written all the same, and the status says what was found.
+        let _ = write_text(&mut Counted::new(system.progress.out()), text.as_str());
+    } else if let Err(error) = write_made(&mut Counted::new(&mut system.output), text) {
+        return Err(Fault::Report(error));
     }
     Ok(status_of(&found))
 }
@@ -210,14 +214,38 @@ fn push_plane(text: &mut String, name: &str, found: &PlaneDifference) -> Result<
     ensures { OnOk result (string_bytes text.new
         ≡ string_bytes text.old ++ plane_said name.now found.now) }
 {
-    let samples = found.count;
-    if samples == 0 {
+    let Some(place) = found.first else {
         return writeln!(text, "{name}: no difference");
-    }
-    let GreatestDifference { difference, x, y } = found.greatest;
+    };
+    push_first(text, name, found.count, place)?;
+    push_greatest(text, &found.greatest)
+}
+
+/// Appends how many samples of a plane differ, and which is the first.
+fn push_first(
+    text: &mut String,
+    name: &str,
+    samples: usize,
+    (x, y): (usize, usize),
+) -> Result<(), AllocError>
+    ensures { OnOk result (string_bytes text.new
+        ≡ string_bytes text.old ++ first_said name.now samples (x, y)) }
+{
+    write!(
+        text,
+        "{name}: {samples} samples differ; first difference: column {x}, row {y}"
+    )
+}
+
+/// Appends the greatest difference, and the first place that has it.
+fn push_greatest(text: &mut String, greatest: &GreatestDifference) -> Result<(), AllocError>
+    ensures { OnOk result (string_bytes text.new
+        ≡ string_bytes text.old ++ greatest_said greatest.now) }
+{
+    let GreatestDifference { difference, x, y } = *greatest;
     writeln!(
         text,
-        "{name}: {samples} samples differ, by {difference} at most, first in column {x}, row {y}"
+        "; greatest difference: {difference}, column {x}, row {y}"
     )
 }
 

@@ -1,5 +1,6 @@
 //! Why a command gave up.
 
+use crate::nothing::NothingTaken;
 use std::{fmt, io};
 use v_frame_png::PngError;
 use v_frame_y4m::{HeaderError, Y4mError};
@@ -17,6 +18,8 @@ pub enum Fault {
     ReadAndWritten(Place),
     /// The file of that place does not begin as a stream does.
     NotAStream(Place),
+    /// The file of that place has no byte, or is a stream that was closed.
+    NoBytes(Place),
     /// The samples of U and V of that place are by turns, so that no plane has bytes of its own.
     NoPlanes(Place),
     /// The header of a stream was not read.
@@ -31,6 +34,8 @@ pub enum Fault {
     Replace(io::ErrorKind),
     /// The picture was not written.
     Picture(PictureError),
+    /// No frame of the stream of that place was taken.
+    Nothing(Place, NothingTaken),
     /// The stream of that place has only so many frames, and a later one is asked for.
     NoFrame(Place, u64),
     /// Frames are counted from 1.
@@ -47,14 +52,14 @@ impl Fault {
             | Fault::InputTwice(place)
             | Fault::ReadAndWritten(place)
             | Fault::NotAStream(place)
+            | Fault::NoBytes(place)
             | Fault::NoPlanes(place)
+            | Fault::Nothing(place, _)
             | Fault::NoFrame(place, _)
             | Fault::NoWindow(place) => Some(*place),
-            Fault::Header(error) | Fault::Stream(error) | Fault::Report(error) =>
-                match &error.problem {
-                    Problem::OutOfMemory => None,
-                    _ => Some(error.place),
-                },
+            Fault::Header(error) | Fault::Stream(error) | Fault::Report(error) => {
+                Some(error.place)
+            }
             Fault::Create(_) | Fault::Replace(_) | Fault::Picture(_) => Some(Place::Output),
             Fault::FrameZero => None,
         }
@@ -81,6 +86,7 @@ impl fmt::Display for Fault {
             Fault::InputTwice(_) => f.write_str("standard input can be read only once"),
             Fault::ReadAndWritten(_) => f.write_str("cannot be read and written at once"),
             Fault::NotAStream(_) => fmt::Display::fmt(&HeaderError::NotAStream, f),
+            Fault::NoBytes(_) => f.write_str("nothing to read: it is empty or closed"),
             Fault::NoPlanes(_) => f.write_str("--planes needs video in planes"),
             Fault::Header(error) => write_caused(f, error),
             Fault::Stream(error) | Fault::Report(error) => write_stream_error(f, error),
@@ -91,6 +97,7 @@ impl fmt::Display for Fault {
                 write!(f, "write failed: {cause}")
             }
             Fault::Picture(error) => fmt::Display::fmt(error, f),
+            Fault::Nothing(_, nothing) => fmt::Display::fmt(nothing, f),
             Fault::NoFrame(_, frames) => write!(f, "the stream has only {frames} frames"),
             Fault::FrameZero => f.write_str("frames are counted from 1"),
             Fault::NoWindow(_) => { f.write_str("--ssim needs planes of at least 8 by 8 samples") }

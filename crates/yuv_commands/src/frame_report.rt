@@ -5,8 +5,8 @@ ghost use Rattle.std.specs.Io.KnownBytes.{Appends};
 ghost use Rattle.v_frame.specs.Prelude.{tables_of};
 ghost use Rattle.v_frame_measures.specs.Prelude.{HaveOneSize, HaveWindows};
 ghost use Rattle.yuv_commands.specs.FrameReports.{ReportsFrame, StaysAsked};
-ghost use Rattle.yuv_commands.specs.Reports.{difference_said, longer_said, plane_said, report_end, similarities_of, sums_asked, EndsKnown};
-ghost use Rattle.yuv_reports.specs.Sums.{end_of_frame};
+ghost use Rattle.yuv_commands.specs.Reports.{difference_said, frame_number, longer_said, plane_said, report_end, similarities_of, sums_asked, EndsKnown};
+ghost use Rattle.yuv_reports.specs.Frames.{EndsWithFrame};
 ghost use Rattle.yuv_reports.specs.Texts.{EndsWith};
 
 use crate::measures::{Means, Scale, reported};
@@ -17,7 +17,7 @@ use v_frame::frame::Frame;
 use v_frame::pixel::Pixel;
 use v_frame_measures::{frame_ssim, frames_have_one_size};
 use v_frame_planar::Counted;
-use yuv_reports::{FrameMeasures, Longer, PlaneName, PlaneValues, Report, ReportForm};
+use yuv_reports::{FrameMeasures, Longer, PlaneName, PlaneValues, Report};
 use yuv_streams::{Comparison, Component, FrameObserver, Place, PlaneSums, StreamError};
 
 /// Reports each two frames that are compared, and all of them at the end.
@@ -28,23 +28,30 @@ pub(crate) struct FrameReport<W> {
     text: String,
     scale: Scale,
     ssim: Option<Means>,
+    alloc: Global,
+    /// How many frames of the first stream stand before the first one that is compared.
+    before: u64,
     frames: u64,
     is_begun: bool,
 }
 
 impl<W: io::Write> FrameReport<W> {
-    /// Returns a report of no frame. Structural similarities are measured where there are means for them.
+    /// Returns a report of no frame. Structural similarities are measured where there are means for them. A frame has the number
+    /// that it has in the first stream, of which so many frames stand before it.
     pub(crate) fn new(
         alloc: Global,
         out: W,
         report: Report,
         scale: Scale,
         ssim: Option<Means>,
+        before: u64,
     ) -> Self
         ensures out { result.out.inner ≡ out }
         ensures report { result.report ≡ report }
         ensures scale { result.scale ≡ scale }
         ensures ssim { result.ssim ≡ ssim }
+        ensures before { result.before ≡ before }
+        ensures frames { result.frames ≡ 0 }
     {
         FrameReport {
             out: Counted::new(out),
@@ -52,6 +59,8 @@ impl<W: io::Write> FrameReport<W> {
             text: String::new(alloc),
             scale,
             ssim,
+            alloc,
+            before,
             frames: 0,
             is_begun: false,
         }
@@ -70,6 +79,8 @@ impl<W: io::Write> FrameReport<W> {
         ensures report { self.new.report ≡ self.old.report }
         ensures scale { self.new.scale ≡ self.old.scale }
         ensures ssim { self.new.ssim ≡ self.old.ssim }
+        ensures before { self.new.before ≡ self.old.before }
+        ensures frames { self.new.frames ≡ self.old.frames }
     {
         if self.is_begun {
             return Ok(());
@@ -84,9 +95,9 @@ impl<W: io::Write> FrameReport<W> {
     /// Writes what is said of all frames.
     #[tactic(auto, using(crate::proofs::Reporting::ends_known))]
     pub(crate) fn end(&mut self, found: &Comparison) -> Result<(), StreamError>
-        ensures { self.old.report.form ≡ ReportForm.Lines
-            → OnOk result (EndsKnown (W.contents self.old.out.inner)
-            (W.contents self.new.out.inner) (report_end self.old.scale.exact found.now)) }
+        ensures { OnOk result (EndsKnown (W.contents self.old.out.inner)
+            (W.contents self.new.out.inner)
+            (report_end self.old.report.form self.old.scale.exact self.old.before found.now)) }
     {
         match self.push_end(found) {
             Ok(()) => self.write(),
@@ -96,8 +107,8 @@ impl<W: io::Write> FrameReport<W> {
 
     /// Appends what is said of all frames.
     fn push_end(&mut self, found: &Comparison) -> Result<(), AllocError>
-        ensures ended { self.old.report.form ≡ ReportForm.Lines
-            → OnOk result (EndsWith (report_end self.old.scale.exact found.now)
+        ensures ended { OnOk result (EndsWith
+            (report_end self.old.report.form self.old.scale.exact self.old.before found.now)
             (string_bytes self.new.text)) }
         ensures out { self.new.out ≡ self.old.out }
     {
@@ -107,23 +118,27 @@ impl<W: io::Write> FrameReport<W> {
             None => None,
         };
         let measures = self.scale.measures(&found.errors, found.frames, ssim);
-        let found = reported_comparison(found, measures);
+        let found = reported_comparison(found, measures, self.before);
         self.report.end(&mut self.text, &found)
     }
 
     /// Appends the next frame.
     fn push_frame(&mut self, measures: &FrameMeasures) -> Result<(), AllocError>
         ensures said { OnOk result (IsTrue self.old.report.lists_frames
-            → EndsWith (end_of_frame self.old.report.form measures.now.sums)
-            (string_bytes self.new.text)) }
+            → EndsWithFrame self.old.report.form (frame_number self.old.before self.old.frames)
+            measures.now.sums (string_bytes self.new.text)) }
         ensures out { self.new.out ≡ self.old.out }
         ensures form { self.new.report.form ≡ self.old.report.form }
         ensures lists_frames { self.new.report.lists_frames ≡ self.old.report.lists_frames }
         ensures scale { self.new.scale ≡ self.old.scale }
         ensures ssim { self.new.ssim ≡ self.old.ssim }
+        ensures before { self.new.before ≡ self.old.before }
+        ensures frames { self.new.frames ≡ self.old.frames }
     {
         self.begin()?;
-        self.report.frame(&mut self.text, self.frames, measures)
+        let number = self.before.saturating_add(self.frames);
+        self.report
+            .frame(self.alloc, &mut self.text, number, measures)
     }
 
     /// Writes the text, and begins a new one.
@@ -134,6 +149,8 @@ impl<W: io::Write> FrameReport<W> {
         ensures report { self.new.report ≡ self.old.report }
         ensures scale { self.new.scale ≡ self.old.scale }
         ensures ssim { self.new.ssim ≡ self.old.ssim }
+        ensures before { self.new.before ≡ self.old.before }
+        ensures frames { self.new.frames ≡ self.old.frames }
     {
         if self.text.is_empty() {
             return Ok(());
@@ -155,6 +172,8 @@ impl<W: io::Write> FrameReport<W> {
         ensures out { self.new.out ≡ self.old.out }
         ensures report { self.new.report ≡ self.old.report }
         ensures scale { self.new.scale ≡ self.old.scale }
+        ensures before { self.new.before ≡ self.old.before }
+        ensures frames { self.new.frames ≡ self.old.frames }
     {
         let Some(means) = &mut self.ssim else {
             return None;
@@ -197,10 +216,15 @@ fn blank(planes: &PlaneSums) -> PlaneValues {
     }
 }
 
-/// Returns what was found as a report has it.
-fn reported_comparison(found: &Comparison, measures: FrameMeasures) -> yuv_reports::Comparison
+/// Returns what was found as a report has it, after so many frames.
+fn reported_comparison(
+    found: &Comparison,
+    measures: FrameMeasures,
+    start: u64,
+) -> yuv_reports::Comparison
     ensures measures { result.measures ≡ measures }
-    ensures difference { result.difference ≡ option_map difference_said found.now.difference }
+    ensures difference { result.difference
+        ≡ option_map (difference_said start) found.now.difference }
     ensures longer { result.longer ≡ option_map longer_said found.now.longer }
 {
     yuv_reports::Comparison {
@@ -208,7 +232,7 @@ fn reported_comparison(found: &Comparison, measures: FrameMeasures) -> yuv_repor
         measures,
         difference: match found.difference {
             Some((before, pixel)) => Some(yuv_reports::SampleDifference {
-                frame: before.saturating_add(1),
+                frame: start.saturating_add(before).saturating_add(1),
                 plane: plane_name(pixel.component),
                 x: pixel.x,
                 y: pixel.y,

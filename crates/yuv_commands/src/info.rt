@@ -100,6 +100,7 @@ fn report_frames<R: io::Read, W: io::Write, H: Clock, E: io::Write>(
     progress.expect(expected_frames(source, len));
     let counted = skip_frames(source, u64::MAX, progress);
     let frames = frames_counted(&counted, source);
+    progress.end();
     write_made(out, frames_text(alloc, source.header(), frames))?;
     counted?;
     Ok(())

@@ -1,5 +1,5 @@
 //! Files by their names, and standard input.
-ghost use Rattle.std.specs.Prelude.{◌≡◌, ◌≤◌, ◌↔◌, IfOk, IsTrue};
+ghost use Rattle.std.specs.Prelude.{◌≡◌, ◌≤◌, ◌==◌, ◌↔◌, IfOk, IsTrue};
 ghost use Rattle.v_frame_y4m.specs.Header.{signature};
 
 use crate::fault::Fault;
@@ -98,6 +98,15 @@ impl<F: Read, I: Read> InputFile<F, I> {
                 cause: self.reader.last_failure(),
             }),
         }
+    }
+}
+
+impl<F, I> InputFile<F, I> {
+    /// Returns whether none of the first bytes is there, where these were looked at.
+    pub(crate) fn has_no_bytes(&self) -> bool
+        ensures { result ≡ (self.now.known == 0) }
+    {
+        self.known == 0
     }
 }
 

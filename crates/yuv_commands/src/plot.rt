@@ -4,9 +4,10 @@ ghost use Rattle.yuv_commands.specs.Options.{plot_of};
 
 use crate::compare::samples_of;
 use crate::fault::Fault;
-use crate::input::begin;
+use crate::input::{begin, expected_frames};
 use crate::input_file::open_file;
 use crate::measures::{Scale, reported};
+use crate::nothing::test_compared;
 use crate::options::taken_of_both;
 use crate::output::Output;
 use crate::program::Status;
@@ -24,7 +25,7 @@ use v_frame_measures::{frame_ssim, frames_have_one_size};
 use v_frame_planar::Counted;
 use yuv_reports::PlaneValues;
 use yuv_streams::{
-    CompareOptions, FrameObserver, Place, PlaneSums, Silent, Source, StreamError, compare_streams,
+    CompareOptions, FrameObserver, Place, PlaneSums, Progress, Source, StreamError, compare_streams,
 };
 use yuv_words::PlotOptions;
 
@@ -43,10 +44,14 @@ where
 {
     let rt = system.rt;
     let mut file = open_file(rt, first, Place::First, &mut system.input)?;
+    let len = file.len();
     let mut one = begin(system, first, &mut file, options.raw)?;
     let mut other_file = open_file(rt, second, Place::Second, &mut system.input)?;
     let mut other = begin(system, second, &mut other_file, options.raw_second)?;
-    let text = drawn(rt.alloc(), &mut one, &mut other, options, (first, second))?;
+    system.progress.expect(expected_frames(&one, len));
+    let progress = &mut system.progress;
+    let names = (first, second);
+    let text = drawn(rt.alloc(), &mut one, &mut other, options, names, progress)?;
     let mut output = Output::open(
         rt,
         to,
@@ -69,12 +74,13 @@ fn write_drawn<W: Write + Drop>(out: W, text: &str) -> Result<Status, Fault> {
 }
 
 /// Returns the chart of what is taken of both streams.
-fn drawn<R: io::Read, S: io::Read>(
+fn drawn<R: io::Read, S: io::Read, P: Progress>(
     alloc: Global,
     first: &mut Source<R>,
     second: &mut Source<S>,
     options: &PlotOptions,
     names: (&str, &str),
+    progress: &mut P,
 ) -> Result<String, Fault> {
     let mut curves = Curves::new(
         alloc,
@@ -85,14 +91,9 @@ fn drawn<R: io::Read, S: io::Read>(
             exact: false,
         },
     );
-    compare_streams(
-        alloc,
-        first,
-        second,
-        &frames_taken(options),
-        &mut curves,
-        &mut Silent,
-    )?;
+    let taken = frames_taken(options);
+    let found = compare_streams(alloc, first, second, &taken, &mut curves, progress)?;
+    test_compared(&found, first, second, &taken)?;
     match curves.chart(alloc, names) {
         Ok(text) => Ok(text),
         Err(_) => Err(Fault::Stream(no_memory())),

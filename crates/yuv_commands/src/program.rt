@@ -22,7 +22,7 @@ use std::rt::Files;
 use std::time::Clock;
 use v_frame_planar::Counted;
 use yuv_streams::Place;
-use yuv_words::{Command, UsageError, read_command, usage_text};
+use yuv_words::{Command, UsageError, help_words, read_command, usage_text};
 
 /// What `yuv --version` prints.
 pub const VERSION: &str = "yuv 0.3.0\n";
@@ -82,6 +82,11 @@ where
         mut error,
         is_terminal,
     } = streams;
+    let asked = help_words(words);
+    let words = match &asked {
+        Some(asked) => asked.as_slice(),
+        None => words,
+    };
     let command = match read_command(words) {
         Ok(command) => command,
         Err(refusal) => return refuse(&refusal, &mut error),
@@ -133,6 +138,9 @@ fn asks_for_progress(command: &Command<'_>) -> bool
         Command::Info { options, .. } => options.progress,
         Command::Compare { options, .. } => options.progress,
         Command::Copy { options, .. } => options.progress,
+        Command::Sum { options, .. } => options.progress,
+        Command::Stats { options, .. } => options.progress,
+        Command::Plot { options, .. } => options.progress,
         _ => false,
     }
 }

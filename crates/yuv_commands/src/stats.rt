@@ -1,16 +1,21 @@
 //! The command `stats`: what values the samples of a stream have.
-ghost use Rattle.std.specs.Prelude.{◌≡◌, ◌≢◌, ◌<◌, ◌^◌, ◌++◌, option_map, string_bytes, IfOk, OnOk};
+ghost use Rattle.std.specs.Prelude.{◌≡◌, ◌≢◌, ◌<◌, ◌^◌, ◌++◌, is_some, option_map, string_bytes, unwrap_or, IfOk, OnOk};
 ghost use Rattle.v_frame.specs.Prelude.{one_byte, table_of, tables_of, two_bytes};
 ghost use Rattle.v_frame_y4m.specs.Colour.{depth_of};
+ghost use Rattle.v_frame_planar.specs.Planar.{sizes_of};
+ghost use Rattle.yuv_commands.specs.Nothing.{nothing_of};
 ghost use Rattle.yuv_commands.specs.Statistics.{ReportsValues, SaysCounts, SaysPlanes};
-ghost use Rattle.yuv_commands.specs.Values.{histogram_said, rows_of_chroma, CountsChroma, CountsFrame, CountsNothing, CountsStream};
-ghost use Rattle.yuv_streams.specs.Prelude.{bytes_left, sizes_in};
+ghost use Rattle.yuv_commands.specs.Values.{histogram_said, rows_of_chroma, CountsChroma, CountsFrame, CountsFrom, CountsNothing, CountsStream};
+ghost use Rattle.yuv_streams.specs.Prelude.{bytes_left, sizes_in, IsMadeFor};
 
 use crate::fault::Fault;
-use crate::input::begin;
+use crate::input::{begin, expected_frames};
 use crate::input_file::open_file;
+use crate::message::{shown_name, write_message};
+use crate::nothing::NothingTaken;
 use crate::options::most_pixels;
 use crate::program::Status;
+use crate::progress::ProgressLine;
 use crate::report::{no_memory, write_made};
 use crate::statistics::{NominalRange, push_chroma_plane, push_plane};
 use crate::system::System;
@@ -24,7 +29,7 @@ use v_frame::frame::Frame;
 use v_frame::plane::Plane;
 use v_frame_planar::Counted;
 use yuv_reports::{PlaneName, push_histogram};
-use yuv_streams::{Picture, Place, Source, StreamError};
+use yuv_streams::{Picture, Place, Progress, Silent, Source, StreamError, skip_frames};
 use yuv_words::StatsOptions;
 
 /// Reports what values the samples of each plane have, over all frames.
@@ -41,55 +46,72 @@ where
 {
     let alloc = system.rt.alloc();
     let mut file = open_file(system.rt, name, Place::First, &mut system.input)?;
+    let len = file.len();
     let mut source = begin(system, name, &mut file, options.raw)?;
+    system.progress.expect(expected_frames(&source, len));
     let mut out = Counted::new(&mut system.output);
-    report_values(alloc, &mut source, options, &mut out)?;
+    let progress = &mut system.progress;
+    let found = report_values(alloc, &mut source, options, &mut out, progress)?;
+    if let Some(nothing) = nothing_counted(options, found, source.frames()) {
+        write_message(system.progress.out(), Some(shown_name(name)), &nothing);
+    }
     Ok(Status::Same)
 }
 
-/// Writes what values the samples of a stream have.
-fn report_values<R: io::Read, W: io::Write>(
+/// Returns why no frame was counted, where so many of a stream of so many are none.
+fn nothing_counted(options: &StatsOptions, counted: u64, frames: u64) -> Option<NothingTaken>
+    ensures { result ≡ nothing_of counted frames (unwrap_or options.now.skip 0) options.now.count }
+{
+    NothingTaken::of(counted, frames, options.skip.unwrap_or(0), options.count)
+}
+
+/// Writes what values the samples of a stream have, and returns of how many frames.
+fn report_values<R: io::Read, W: io::Write, H: Clock, E: io::Write>(
     alloc: Global,
     source: &mut Source<R>,
     options: &StatsOptions,
     out: &mut Counted<W>,
-) -> Result<(), StreamError>
-    ensures bytes { depth_of source.old.header.colour ≡ 8 → OnOk result (ReportsValues one_byte
+    progress: &mut ProgressLine<'_, H, E>,
+) -> Result<u64, StreamError>
+    ensures bytes { depth_of source.old.header.colour ≡ 8 → IfOk result (ReportsValues one_byte
         (256 ^ 1) source.old.container source.old.frame_len source.old.layout
         (sizes_in source.old.header) (bytes_left R.remaining source.old)
         (bytes_left R.remaining source.new) (W.contents out.old.inner) (W.contents out.new.inner)
-        options.now.histogram (depth_of source.old.header.colour)) }
-    ensures words { depth_of source.old.header.colour ≢ 8 → OnOk result (ReportsValues two_bytes
+        options.now (depth_of source.old.header.colour)) }
+    ensures words { depth_of source.old.header.colour ≢ 8 → IfOk result (ReportsValues two_bytes
         (256 ^ 2) source.old.container source.old.frame_len source.old.layout
         (sizes_in source.old.header) (bytes_left R.remaining source.old)
         (bytes_left R.remaining source.new) (W.contents out.old.inner) (W.contents out.new.inner)
-        options.now.histogram (depth_of source.old.header.colour)) }
+        options.now (depth_of source.old.header.colour)) }
 {
     if source.header().colour.bit_depth() == 8 {
-        report_pixels::<u8, _, _>(alloc, source, options, out)
+        report_pixels::<u8, _, _, _, _>(alloc, source, options, out, progress)
     } else {
-        report_pixels::<u16, _, _>(alloc, source, options, out)
+        report_pixels::<u16, _, _, _, _>(alloc, source, options, out, progress)
     }
 }
 
 /// The same of pixels of a type.
-fn report_pixels<T: CountedPixel, R: io::Read, W: io::Write>(
+fn report_pixels<T: CountedPixel, R: io::Read, W: io::Write, H: Clock, E: io::Write>(
     alloc: Global,
     source: &mut Source<R>,
     options: &StatsOptions,
     out: &mut Counted<W>,
-) -> Result<(), StreamError>
-    ensures { OnOk result (ReportsValues T.form (256 ^ T.BYTES) source.old.container
+    progress: &mut ProgressLine<'_, H, E>,
+) -> Result<u64, StreamError>
+    ensures { IfOk result (ReportsValues T.form (256 ^ T.BYTES) source.old.container
         source.old.frame_len source.old.layout (sizes_in source.old.header)
         (bytes_left R.remaining source.old) (bytes_left R.remaining source.new)
-        (W.contents out.old.inner) (W.contents out.new.inner) options.now.histogram
+        (W.contents out.old.inner) (W.contents out.new.inner) options.now
         (depth_of source.old.header.colour)) }
 {
     let depth = source.header().colour.bit_depth();
-    let counts = count_values::<T, _>(alloc, source, most_pixels(options.max_pixels))?;
+    let (counts, found) = count_values::<T, _, _>(alloc, source, options, progress)?;
     let text = report_text(alloc, &counts, options.histogram, depth);
     drop(counts);
-    write_made(out, text)
+    progress.end();
+    write_made(out, text)?;
+    Ok(found)
 }
 
 /// How often each value occurs in each plane.
@@ -100,30 +122,56 @@ struct Counts {
     v: Option<ValueCounts>,
 }
 
-/// Counts the values of all frames.
-fn count_values<T: CountedPixel, R: io::Read>(
+/// Counts the values of the frames that are asked for, and these.
+fn count_values<T: CountedPixel, R: io::Read, P: Progress>(
     alloc: Global,
     source: &mut Source<R>,
-    most: usize,
-) -> Result<Counts, StreamError>
-    ensures { IfOk result (CountsStream T.form (256 ^ T.BYTES) source.old.container
+    options: &StatsOptions,
+    progress: &mut P,
+) -> Result<(Counts, u64), StreamError>
+    ensures { IfOk result (λ done. CountsFrom T.form (256 ^ T.BYTES) source.old.container
         source.old.frame_len source.old.layout (sizes_in source.old.header)
-        (bytes_left R.remaining source.old) (bytes_left R.remaining source.new)) }
+        (bytes_left R.remaining source.old) (bytes_left R.remaining source.new)
+        options.now done.1 done.0) }
 {
-    let mut picture = Picture::<T>::new(alloc, source, most)?;
+    let mut picture = Picture::<T>::new(alloc, source, most_pixels(options.max_pixels))?;
+    skip_frames(source, options.skip.unwrap_or(0), &mut Silent)?;
     let has_chroma = picture.frame().u_plane.is_some();
     let Ok(mut counts) = Counts::new(alloc, has_chroma) else {
         return Err(no_memory());
     };
-    for _count in 0..u64::MAX {
+    let most = options.count.unwrap_or(u64::MAX);
+    let found = count_frames(alloc, source, &mut picture, most, &mut counts, progress)?;
+    Ok((counts, found))
+}
+
+/// Adds the values of so many frames to counts of nothing, or those of all that are left where they are fewer.
+fn count_frames<T: CountedPixel, R: io::Read, P: Progress>(
+    alloc: Global,
+    source: &mut Source<R>,
+    picture: &mut Picture<T>,
+    most: u64,
+    counts: &mut Counts,
+    progress: &mut P,
+) -> Result<u64, StreamError>
+    requires made { IsMadeFor T.form source.old picture.old }
+    requires nothing { CountsNothing (is_some (sizes_of (tables_of picture.old.frame)).1.0)
+        counts.old }
+    ensures { IfOk result (λ found. CountsStream T.form (256 ^ T.BYTES) source.old.container
+        source.old.frame_len source.old.layout (sizes_of (tables_of picture.old.frame))
+        (bytes_left R.remaining source.old) (bytes_left R.remaining source.new) most found
+        counts.new) }
+{
+    for count in 0..most {
         if !picture.read(source)? {
-            return Ok(counts);
+            return Ok(count);
         }
         if counts.add(alloc, picture.frame()).is_err() {
             return Err(no_memory());
         }
+        progress.show(count + 1);
     }
-    Ok(counts)
+    Ok(most)
 }
 
 impl Counts {

@@ -1,10 +1,10 @@
 -- How two frames differ: as a table of amplified differences, and as numbers of each plane.
-use Rattle.std.specs.Prelude.{ℕ, ◌≡◌, nat_lt, Option, Some, None}
+use Rattle.std.specs.Prelude.{ℕ, ◌≡◌, ◌↔◌, nat_lt, IfSome, IsNone, Option, Some, None}
 use Rattle.std.specs.Int.{abs_diff}
 use Rattle.std.specs.Int.NonZero.{non_zero_u8_get}
 use Rattle.v_frame.specs.Prelude.{Frame, PixelForm, Table, Tables, row_major, table_of}
 use Rattle.v_frame_measures.specs.Prelude.{IsGreatestDifference}
-use Rattle.v_frame_ops.specs.Prelude.{combined, difference_of}
+use Rattle.v_frame_ops.specs.Prelude.{combined, difference_of, IsFirstDifference}
 use Rattle.v_frame_statistics.specs.Prelude.{passing_pairs}
 use Rattle.yuv_pictures.specs.Grey.{grey_rows}
 use Rattle.yuv_pictures.specs.declared.places.Found.{Found}
@@ -24,6 +24,8 @@ module _ {T : Type 0} (form : PixelForm T) where
     pub count : found.count
         ≡ passing_pairs (λ p q. nat_lt 0 (abs_diff (form.value p) (form.value q)))
         (row_major a) (row_major b)
+    pub same : IsNone found.first ↔ (a ≡ b)
+    pub first : IfSome found.first (λ place. IsFirstDifference a b place.0 place.1)
     pub greatest : IsGreatestDifference form.value a b found.greatest
 
   -- the same of chroma planes, where both are there

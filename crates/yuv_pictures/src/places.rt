@@ -9,12 +9,15 @@ use v_frame::frame::Frame;
 use v_frame::pixel::Pixel;
 use v_frame::plane::Plane;
 use v_frame_measures::{GreatestDifference, count_above, greatest_difference};
+use v_frame_ops::first_difference;
 
 /// What differs in two planes of one size.
 #[derive(Debug, Clone, Copy, PartialEq, Eq)]
 pub struct PlaneDifference {
     /// How many samples differ.
     pub count: usize,
+    /// The column and the row of the first that does, row after row from the top.
+    pub first: Option<(usize, usize)>,
     /// The greatest difference, 0 where none differs, and the first place that has it, row after row from the top.
     pub greatest: GreatestDifference,
 }
@@ -57,6 +60,7 @@ fn of_planes<T: Pixel>(first: &Plane<T>, second: &Plane<T>) -> PlaneDifference
     );
     PlaneDifference {
         count: count_above(&first, &second, 0),
+        first: first_difference(&first, &second),
         greatest: greatest_difference(&first, &second),
     }
 }

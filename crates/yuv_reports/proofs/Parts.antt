@@ -1,5 +1,5 @@
 -- Texts that are put together, one part after the other.
-use Rattle.std.proofs.Common.{◌≡◌, ◌∙◌, ◌++◌, ◌∷◌, ◌+◌, ◌<◌, ℕ, [], List, Result, Ok, Err, ap, append_assoc, is_ok, if◌then◌else◌, length, refl, take}
+use Rattle.std.proofs.Common.{◌≡◌, ◌∙◌, ◌++◌, ◌∷◌, ◌+◌, ◌<◌, ℕ, [], List, Result, Ok, Err, ap, append_assoc, is_ok, if◌then◌else◌, length, take}
 use Rattle.std.proofs.Math.ListN.{get_or}
 use Rattle.std.proofs.lemmas.List.{map-append, take_more}
 use Rattle.std.specs.Prelude.{OnOk, map}
@@ -44,6 +44,12 @@ three_parts (Err error) start a b c one two new first second last = tt
 three_parts (Ok done) start a b c one two new first second last =
     last ∙ ap (λ t. t ++ c) (second ∙ ap (λ t. t ++ b) first) ∙ simp append_assoc
 
+pub three_said : {A E : Type 0} (result : Result A E) (start a b c one two new : List ℕ) → one ≡ start ++ a
+    → two ≡ one ++ b → OnOk result (new ≡ two ++ c) → OnOk result (new ≡ start ++ (a ++ (b ++ c)))
+three_said (Err error) start a b c one two new first second last = tt
+three_said (Ok done) start a b c one two new first second last =
+    last ∙ ap (λ t. t ++ c) (second ∙ ap (λ t. t ++ b) first) ∙ simp append_assoc
+
 -- three parts around one that is not known
 pub around : {A E : Type 0} (result : Result A E) (start front mid end one two new : List ℕ)
     → one ≡ start ++ front → two ≡ one ++ mid → OnOk result (new ≡ two ++ end)
@@ -52,6 +58,18 @@ around (Err error) start front mid end one two new first second last = tt
 around (Ok done) start front mid end one two new first second last = (
   mid,
   last ∙ ap (λ t. t ++ end) (second ∙ ap (λ t. t ++ mid) first) ∙ simp append_assoc,
+)
+
+-- a text that is appended whole, of which the end is known, behind another one
+pub before_end : {A E : Type 0} (result : Result A E) (start front end one made rest new : List ℕ)
+    → one ≡ start ++ front → EndsWith end made → rest ≡ made
+    → new ≡ (if is_ok result then one ++ rest else one)
+    → OnOk result ((some : List ℕ) × (new ≡ start ++ (front ++ (some ++ end))))
+before_end (Err error) start front end one made rest new first ended same last = tt
+before_end (Ok done) start front end one made rest new first (some, is) same last = (
+  some,
+  last ∙ ap (λ t. t ++ rest) first ∙ ap (λ t. (start ++ front) ++ t) (same ∙ is)
+      ∙ append_assoc start front (some ++ end),
 )
 
 -- what is made of one more item

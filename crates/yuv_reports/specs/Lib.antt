@@ -1,3 +1,4 @@
+pub mod Frames
 pub mod Histograms
 pub mod Samples
 pub mod Sums

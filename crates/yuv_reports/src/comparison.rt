@@ -1,6 +1,7 @@
 //! What is reported of two streams that are compared.
-ghost use Rattle.std.specs.Prelude.{◌≡◌, ◌++◌, is_some, string_bytes, MatchBool, OnOk};
-ghost use Rattle.yuv_reports.specs.Sums.{begin_of, comparison_end, end_of_frame, letter_of};
+ghost use Rattle.std.specs.Prelude.{◌≡◌, ◌==◌, ◌+◌, ◌-◌, ◌^◌, ◌++◌, is_some, min, string_bytes, MatchBool, OnOk};
+ghost use Rattle.yuv_reports.specs.Frames.{end_of_report, AppendsNext};
+ghost use Rattle.yuv_reports.specs.Sums.{begin_of, letter_of};
 ghost use Rattle.yuv_reports.specs.Texts.{EndsWith};
 
 use crate::planes::{PlaneSums, PlaneValues};
@@ -13,7 +14,7 @@ use std::alloc::{AllocError, Global};
 pub enum ReportForm {
     /// Lines for people.
     Lines,
-    /// Comma-separated values: a row for each frame, and rows for all of them.
+    /// Comma-separated values: a row for each frame.
     Csv,
     /// One JSON object.
     Json,
@@ -59,7 +60,7 @@ impl PlaneName {
 /// A sample that two streams show differently.
 #[derive(Clone, Copy)]
 pub struct SampleDifference {
-    /// The number of its frame, from 1.
+    /// The number of its frame.
     pub frame: u64,
     /// The plane that it is in.
     pub plane: PlaneName,
@@ -110,6 +111,7 @@ impl Report {
     pub fn new(form: ReportForm, lists_frames: bool) -> Self
         ensures form { result.form ≡ form }
         ensures lists_frames { result.lists_frames ≡ lists_frames }
+        ensures frames { result.frames ≡ 0 }
     {
         Report {
             form,
@@ -136,21 +138,24 @@ impl Report {
         }
     }
 
-    /// Appends a frame, whose number is from 1, where frames are listed, and counts it.
+    /// Appends a frame of this number, where frames are listed, and counts it.
     ///
     /// # Errors
     ///
     /// [`AllocError`] where there is no memory for the text.
     pub fn frame(
         &mut self,
+        alloc: Global,
         text: &mut String,
         number: u64,
         measures: &FrameMeasures,
     ) -> Result<(), AllocError>
         ensures form { self.new.form ≡ self.old.form }
         ensures lists_frames { self.new.lists_frames ≡ self.old.lists_frames }
+        ensures counted { OnOk result (self.new.frames ≡ min (self.old.frames + 1) (2 ^ 64 - 1)) }
         ensures said { OnOk result (MatchBool self.old.lists_frames
-            (EndsWith (end_of_frame self.old.form measures.now.sums) (string_bytes text.new))
+            (AppendsNext self.old.form (self.old.frames == 0) number measures.now.sums
+            (string_bytes text.old) (string_bytes text.new))
             (string_bytes text.new ≡ string_bytes text.old)) }
     {
         self.psnr.add(number, measures.psnr.all);
@@ -158,7 +163,7 @@ impl Report {
             self.ssim.add(number, ssim.all);
         }
         if self.lists_frames {
-            self.push_frame(text, number, measures)?;
+            self.push_frame(alloc, text, number, measures)?;
         }
         self.frames = self.frames.saturating_add(1);
         Ok(())
@@ -167,35 +172,38 @@ impl Report {
     /// Appends a frame.
     fn push_frame(
         &self,
+        alloc: Global,
         text: &mut String,
         number: u64,
         measures: &FrameMeasures,
     ) -> Result<(), AllocError>
-        ensures { OnOk result (EndsWith (end_of_frame self.now.form measures.now.sums)
-            (string_bytes text.new)) }
+        ensures { OnOk result (AppendsNext self.now.form (self.now.frames == 0) number
+            measures.now.sums (string_bytes text.old) (string_bytes text.new)) }
     {
         match self.form {
-            ReportForm::Lines => lines::push_frame(text, number, measures),
-            ReportForm::Csv => csv::push_frame(text, number, measures),
+            ReportForm::Lines => lines::push_frame(alloc, text, number, measures),
+            ReportForm::Csv => csv::push_frame(alloc, text, number, measures),
             ReportForm::Json => {
                 text.push_str(if self.frames == 0 { "\n" } else { ",\n" })?;
-                json::push_frame(text, number, measures)
+                json::push_frame(alloc, text, number, measures)
             }
         }
     }
 
-    /// Appends what is said of all frames.
+    /// Appends what is said of all frames: nothing in a table, each row of which is a frame.
     ///
     /// # Errors
     ///
     /// [`AllocError`] where there is no memory for the text.
     pub fn end(&self, text: &mut String, found: &Comparison) -> Result<(), AllocError>
-        ensures { self.now.form ≡ ReportForm.Lines
-            → OnOk result (EndsWith (comparison_end found.now) (string_bytes text.new)) }
+        ensures ended { OnOk result (EndsWith (end_of_report self.now.form found.now)
+            (string_bytes text.new)) }
+        ensures csv { self.now.form ≡ ReportForm.Csv
+            → string_bytes text.new ≡ string_bytes text.old }
     {
         match self.form {
             ReportForm::Lines => lines::push_comparison(text, found),
-            ReportForm::Csv => csv::push_summary(text, found, &self.psnr, &self.ssim),
+            ReportForm::Csv => Ok(()),
             ReportForm::Json => {
                 let lists = self.lists_frames && self.frames > 0;
                 text.push_str(if lists { "\n  ],\n" } else { "],\n" })?;

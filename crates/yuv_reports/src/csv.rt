@@ -1,12 +1,14 @@
-//! Comma-separated values: a head, a row for each frame, and rows for all of them. What a plane is missing is empty.
+//! Comma-separated values: a head, and a row for each frame. What a plane is missing is empty. What is said of all frames together
+//! stands in the other forms alone, so that each row has the same columns.
 ghost use Rattle.std.specs.Prelude.{◌≡◌, ◌++◌, [], if◌then◌else◌, is_some, string_bytes, OnOk};
+ghost use Rattle.yuv_reports.specs.Frames.{AppendsFrame};
 ghost use Rattle.yuv_reports.specs.Sums.{head_row, row_end, sum_cell};
 ghost use Rattle.yuv_reports.specs.Texts.{EndsWith};
+ghost use Rattle.yuv_reports.specs.declared.comparison.ReportForm.{ReportForm};
 
-use crate::comparison::{Comparison, FrameMeasures};
+use crate::comparison::FrameMeasures;
 use crate::planes::{PlaneSums, PlaneValues, push_number, push_value};
-use crate::pool::Pool;
-use std::alloc::AllocError;
+use std::alloc::{AllocError, Global};
 
 /// Appends the names of the columns.
 pub fn push_head(text: &mut String, measures: &FrameMeasures) -> Result<(), AllocError>
@@ -27,26 +29,31 @@ fn push_where(text: &mut String, holds: bool, part: &str) -> Result<(), AllocErr
     if holds { text.push_str(part) } else { Ok(()) }
 }
 
-/// Appends the row of a frame.
+/// Appends the row of a frame. Its values are put together in a text of their own, since nothing is known of one that a float
+/// was written to.
 pub fn push_frame(
+    alloc: Global,
     text: &mut String,
     number: u64,
     measures: &FrameMeasures,
 ) -> Result<(), AllocError>
-    ensures { OnOk result (EndsWith (row_end measures.now.sums) (string_bytes text.new)) }
+    ensures { OnOk result (AppendsFrame ReportForm.Csv number measures.now.sums
+        (string_bytes text.old) (string_bytes text.new)) }
 {
-    write!(text, "{number}")?;
-    push_measures(text, measures)
+    let mut values = String::new(alloc);
+    push_measures(&mut values, measures)?;
+    push_number(text, "", u128::from(number), ",")?;
+    text.push_str(values.as_str())
 }
 
-/// Appends the measures of a row, each after a comma.
+/// Appends the measures of a row, with commas between them.
 fn push_measures(text: &mut String, measures: &FrameMeasures) -> Result<(), AllocError>
     ensures { OnOk result (EndsWith (row_end measures.now.sums) (string_bytes text.new)) }
 {
-    push_values(text, &measures.mse)?;
-    push_values(text, &measures.psnr)?;
+    push_values(text, "", &measures.mse)?;
+    push_values(text, ",", &measures.psnr)?;
     if let Some(ssim) = &measures.ssim {
-        push_values(text, ssim)?;
+        push_values(text, ",", ssim)?;
     }
     end_row(text, &measures.sums)
 }
@@ -74,88 +81,15 @@ fn push_sum_cell(text: &mut String, sum: Option<u128>) -> Result<(), AllocError>
     }
 }
 
-/// Appends the four values of a measure, each after a comma.
-fn push_values(text: &mut String, values: &PlaneValues) -> Result<(), AllocError> {
-    for value in values.in_order() {
-        push_cell(text, value)?;
+/// Appends the four values of a measure after a text, with commas between them.
+fn push_values(text: &mut String, before: &str, values: &PlaneValues) -> Result<(), AllocError> {
+    let values = values.in_order();
+    text.push_str(before)?;
+    for place in 0..4 {
+        push_where(text, place > 0, ",")?;
+        if let Some(value) = values[place] {
+            push_value(text, "", value, "")?;
+        }
     }
     Ok(())
-}
-
-/// Appends a comma, and a value where there is one.
-fn push_cell(text: &mut String, value: Option<f64>) -> Result<(), AllocError> {
-    match value {
-        Some(value) => push_value(text, ",", value, ""),
-        None => text.push(','),
-    }
-}
-
-/// Appends the rows of all frames: of all together, and the mean, the harmonic mean and the least of what frames have, with the
-/// number of the frame that has it. These three are of all planes.
-pub fn push_summary(
-    text: &mut String,
-    found: &Comparison,
-    psnr: &Pool,
-    ssim: &Pool,
-) -> Result<(), AllocError> {
-    text.push_str("all")?;
-    push_measures(text, &found.measures)?;
-    let has_ssim = found.measures.ssim.is_some();
-    push_pooled(text, "mean", psnr.mean(), ssim.mean(), has_ssim)?;
-    let harmonic = (psnr.harmonic_mean(), ssim.harmonic_mean());
-    push_pooled(text, "harmonic mean", harmonic.0, harmonic.1, has_ssim)?;
-    let (psnr, ssim) = (psnr.least(), ssim.least());
-    push_pooled(text, "minimum", value_of(psnr), value_of(ssim), has_ssim)?;
-    push_frames(text, psnr, ssim, has_ssim)
-}
-
-/// Returns the value beside the number of a frame.
-fn value_of(least: Option<(f64, u64)>) -> Option<f64> {
-    match least {
-        Some((value, _)) => Some(value),
-        None => None,
-    }
-}
-
-/// Appends a row with a ratio and a similarity of all planes.
-fn push_pooled(
-    text: &mut String,
-    name: &str,
-    psnr: Option<f64>,
-    ssim: Option<f64>,
-    has_ssim: bool,
-) -> Result<(), AllocError> {
-    write!(text, "{name},,,,")?;
-    push_cell(text, psnr)?;
-    text.push_str(",,,")?;
-    if has_ssim {
-        push_cell(text, ssim)?;
-        text.push_str(",,,")?;
-    }
-    text.push('\n')
-}
-
-/// Appends the row with the numbers of the frames that have the least values.
-fn push_frames(
-    text: &mut String,
-    psnr: Option<(f64, u64)>,
-    ssim: Option<(f64, u64)>,
-    has_ssim: bool,
-) -> Result<(), AllocError> {
-    text.push_str("frame of the minimum,,,,")?;
-    push_frame_number(text, psnr)?;
-    text.push_str(",,,")?;
-    if has_ssim {
-        push_frame_number(text, ssim)?;
-        text.push_str(",,,")?;
-    }
-    text.push('\n')
-}
-
-/// Appends a comma, and the number of a frame where there is one.
-fn push_frame_number(text: &mut String, least: Option<(f64, u64)>) -> Result<(), AllocError> {
-    match least {
-        Some((_, frame)) => push_number(text, ",", u128::from(frame), ""),
-        None => text.push(','),
-    }
 }

@@ -1,26 +1,40 @@
 //! One JSON object: a list of frames, and a summary. JSON has no infinity: a ratio that is infinite is `null`.
 ghost use Rattle.std.specs.Prelude.{◌≡◌, ◌++◌, codes, string_bytes, OnOk};
+ghost use Rattle.yuv_reports.specs.Frames.{difference_object, json_end, longer_member, place_members, AppendsFrame};
 ghost use Rattle.yuv_reports.specs.Sums.{members_end};
 ghost use Rattle.yuv_reports.specs.Texts.{EndsWith};
+ghost use Rattle.yuv_reports.specs.declared.comparison.ReportForm.{ReportForm};
 
 use crate::comparison::{Comparison, FrameMeasures, Longer, SampleDifference};
 use crate::planes::{PlaneSums, PlaneValues, push_number, push_sum, push_value};
 use crate::pool::Pool;
-use std::alloc::AllocError;
+use std::alloc::{AllocError, Global};
 
 /// The keys of the values of a measure, with what stands before them.
 const KEYS: [&str; 4] = ["{\"all\": ", ", \"y\": ", ", \"u\": ", ", \"v\": "];
 
-/// Appends the object of a frame, without the comma or the line feed after it.
+/// Appends the object of a frame, without the comma or the line feed after it. Its values are put together in a text of their own,
+/// since nothing is known of one that a float was written to.
 pub fn push_frame(
+    alloc: Global,
     text: &mut String,
     number: u64,
     measures: &FrameMeasures,
 ) -> Result<(), AllocError>
+    ensures { OnOk result (AppendsFrame ReportForm.Json number measures.now.sums
+        (string_bytes text.old) (string_bytes text.new)) }
+{
+    let mut values = String::new(alloc);
+    push_members(&mut values, measures)?;
+    push_number(text, "    {\"frame\": ", u128::from(number), ", ")?;
+    text.push_str(values.as_str())
+}
+
+/// Appends the measures of a frame, and ends its object.
+fn push_members(text: &mut String, measures: &FrameMeasures) -> Result<(), AllocError>
     ensures { OnOk result (EndsWith (members_end measures.now.sums ++ codes "}")
         (string_bytes text.new)) }
 {
-    write!(text, "    {{\"frame\": {number}, ")?;
     push_measures(text, ", ", measures)?;
     text.push('}')
 }
@@ -87,7 +101,9 @@ pub fn push_summary(
     found: &Comparison,
     psnr: &Pool,
     ssim: &Pool,
-) -> Result<(), AllocError> {
+) -> Result<(), AllocError>
+    ensures { OnOk result (EndsWith (json_end found.now.difference found.now.longer) (string_bytes text.new)) }
+{
     let frames = found.frames;
     write!(text, "  \"count\": {frames},\n  ")?;
     push_measures(text, ",\n  ", &found.measures)?;
@@ -97,9 +113,23 @@ pub fn push_summary(
         text.push_str(",\n  \"ssim_by_frame\": ")?;
         push_pool(text, ssim)?;
     }
+    push_end(text, found)
+}
+
+/// Appends the first difference and the longer stream, and the end of the object.
+fn push_end(text: &mut String, found: &Comparison) -> Result<(), AllocError>
+    ensures { OnOk result (string_bytes text.new ≡ string_bytes text.old ++ json_end found.now.difference found.now.longer) }
+{
     text.push_str(",\n  \"first_difference\": ")?;
     push_difference(text, &found.difference)?;
-    text.push_str(match found.longer {
+    push_longer(text, found.longer)
+}
+
+/// Appends which stream has more frames, and the end of the object.
+fn push_longer(text: &mut String, longer: Option<Longer>) -> Result<(), AllocError>
+    ensures { OnOk result (string_bytes text.new ≡ string_bytes text.old ++ longer_member longer) }
+{
+    text.push_str(match longer {
         Some(Longer::First) => ",\n  \"longer\": \"first\"\n}\n",
         Some(Longer::Second) => ",\n  \"longer\": \"second\"\n}\n",
         None => ",\n  \"longer\": null\n}\n",
@@ -125,7 +155,10 @@ fn push_pool(text: &mut String, pool: &Pool) -> Result<(), AllocError> {
 fn push_difference(
     text: &mut String,
     difference: &Option<SampleDifference>,
-) -> Result<(), AllocError> {
+) -> Result<(), AllocError>
+    ensures { OnOk result (string_bytes text.new
+        ≡ string_bytes text.old ++ difference_object difference.now) }
+{
     let Some(found) = difference else {
         return text.push_str("null");
     };
@@ -138,9 +171,23 @@ fn push_difference(
         second,
     } = *found;
     let plane = plane.text();
+    push_place(text, frame, plane, x, y)?;
+    write!(text, "\"first\": {first}, \"second\": {second}}}")
+}
+
+/// Appends the begin of an object: the place of a sample.
+fn push_place(
+    text: &mut String,
+    frame: u64,
+    plane: &str,
+    x: usize,
+    y: usize,
+) -> Result<(), AllocError>
+    ensures { OnOk result (string_bytes text.new
+        ≡ string_bytes text.old ++ place_members frame plane.now x y) }
+{
     write!(
         text,
         "{{\"frame\": {frame}, \"plane\": \"{plane}\", \"column\": {x}, \"row\": {y}, "
-    )?;
-    write!(text, "\"first\": {first}, \"second\": {second}}}")
+    )
 }

@@ -1,27 +1,42 @@
 //! Lines for people.
 ghost use Rattle.std.specs.Prelude.{◌≡◌, ◌++◌, codes, string_bytes, OnOk};
+ghost use Rattle.yuv_reports.specs.Frames.{AppendsFrame};
 ghost use Rattle.yuv_reports.specs.Sums.{comparison_end, difference_line, frame_end, longer_line, sums_after, sums_line};
 ghost use Rattle.yuv_reports.specs.Texts.{EndsWith};
+ghost use Rattle.yuv_reports.specs.declared.comparison.ReportForm.{ReportForm};
 
 use crate::comparison::{Comparison, FrameMeasures, Longer, SampleDifference};
-use crate::planes::{PlaneSums, PlaneValues, push_sum};
-use std::alloc::AllocError;
+use crate::planes::{PlaneSums, PlaneValues, push_number, push_sum};
+use std::alloc::{AllocError, Global};
 
 /// What all planes and each of them are called in the line of a frame, and in a line of all frames.
 const SHORT_NAMES: [&str; 4] = ["avg", "y", "u", "v"];
 
 const LONG_NAMES: [&str; 4] = ["all planes", "Y", "U", "V"];
 
-/// Appends the line of a frame: its errors and ratios in the form of ffmpeg's filter `psnr`, then what else is measured.
+/// Appends the line of a frame: its errors and ratios in the form of ffmpeg's filter `psnr`, then what else is measured. Its
+/// values are put together in a text of their own, since nothing is known of one that a float was written to.
 pub fn push_frame(
+    alloc: Global,
     text: &mut String,
     number: u64,
     measures: &FrameMeasures,
 ) -> Result<(), AllocError>
+    ensures { OnOk result (AppendsFrame ReportForm.Lines number measures.now.sums
+        (string_bytes text.old) (string_bytes text.new)) }
+{
+    let mut values = String::new(alloc);
+    push_measures(&mut values, measures)?;
+    push_number(text, "n:", u128::from(number), " ")?;
+    text.push_str(values.as_str())
+}
+
+/// Appends the measures of a frame, and ends its line.
+fn push_measures(text: &mut String, measures: &FrameMeasures) -> Result<(), AllocError>
     ensures { OnOk result (EndsWith (frame_end measures.now.sums) (string_bytes text.new)) }
 {
-    write!(text, "n:{number}")?;
     push_hundredths(text, "mse", &measures.mse)?;
+    text.push(' ')?;
     push_hundredths(text, "psnr", &measures.psnr)?;
     if let Some(ssim) = &measures.ssim {
         push_similarities(text, ssim)?;
@@ -41,7 +56,7 @@ fn end_frame(text: &mut String, sums: &Option<PlaneSums>) -> Result<(), AllocErr
     text.push('\n')
 }
 
-/// Appends the values of a measure with two decimals, each with its plane.
+/// Appends the values of a measure with two decimals, each with its plane, and spaces between them.
 fn push_hundredths(
     text: &mut String,
     measure: &str,
@@ -51,7 +66,8 @@ fn push_hundredths(
     for place in 0..4 {
         if let Some(value) = values[place] {
             let name = SHORT_NAMES[place];
-            write!(text, " {measure}_{name}:{value:.2}")?;
+            let space = if place == 0 { "" } else { " " };
+            write!(text, "{space}{measure}_{name}:{value:.2}")?;
         }
     }
     Ok(())

@@ -23,6 +23,15 @@ pub record IsCall (name : CommandName) (command : Command) (words : List (List �
 abbrev pub IsHelpWord : List ℕ → Type 0
 IsHelpWord word = (word ≡ codes "help") ⊎ ((word ≡ codes "--help") ⊎ (word ≡ codes "-h"))
 
+-- a word behind a command that asks for help
+abbrev pub IsHelpOption : List ℕ → Type 0
+IsHelpOption word = (word ≡ codes "--help") ⊎ (word ≡ codes "-h")
+
+-- the second word asks for help
+abbrev pub AsksHelp : List (List ℕ) → Type 0
+AsksHelp (first ∷ (second ∷ rest)) = IsHelpOption second
+AsksHelp _ = ⊥
+
 -- the command that help is about, where there is one
 abbrev pub topic_words : Option CommandName → List (List ℕ)
 topic_words None = []

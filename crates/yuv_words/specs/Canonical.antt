@@ -67,9 +67,15 @@ given_by (command.Copy _ _ o) option.Progress = flag_text o.progress
 given_by (command.Sum _ o) option.Planes = flag_text o.planes
 given_by (command.Sum _ o) option.Raw = option_map raw_text o.raw
 given_by (command.Sum _ o) option.MaxPixels = option_map decimal o.max_pixels
+given_by (command.Sum _ o) option.Skip = option_map decimal o.skip
+given_by (command.Sum _ o) option.Count = option_map decimal o.count
+given_by (command.Sum _ o) option.Progress = flag_text o.progress
 given_by (command.Stats _ o) option.Histogram = flag_text o.histogram
 given_by (command.Stats _ o) option.Raw = option_map raw_text o.raw
 given_by (command.Stats _ o) option.MaxPixels = option_map decimal o.max_pixels
+given_by (command.Stats _ o) option.Skip = option_map decimal o.skip
+given_by (command.Stats _ o) option.Count = option_map decimal o.count
+given_by (command.Stats _ o) option.Progress = flag_text o.progress
 given_by (command.Show _ _ o) option.Frame = option_map decimal o.frame
 given_by (command.Show _ _ o) option.Matrix = option_map matrix_text o.matrix
 given_by (command.Show _ _ o) option.Range = option_map range_text o.range
@@ -88,6 +94,7 @@ given_by (command.Plot _ _ _ o) option.Count = option_map decimal o.count
 given_by (command.Plot _ _ _ o) option.Raw = option_map raw_text o.raw
 given_by (command.Plot _ _ _ o) option.RawSecond = option_map raw_text o.raw_second
 given_by (command.Plot _ _ _ o) option.MaxPixels = option_map decimal o.max_pixels
+given_by (command.Plot _ _ _ o) option.Progress = flag_text o.progress
 given_by _ _ = None
 
 abbrev pub option_tokens : OptionName → Option (List ℕ) → List Token
@@ -154,10 +161,14 @@ pub record FitsCopy (o : CopyOptions) : Type 0 where
   pub max_pixels : IfSome o.max_pixels (λ n. n < 2 ^ 64)
 
 pub record FitsSum (o : SumOptions) : Type 0 where
+  pub skip : IfSome o.skip (λ n. n < 2 ^ 64)
+  pub count : IfSome o.count (λ n. n < 2 ^ 64)
   pub raw : IfSome o.raw FitsRaw
   pub max_pixels : IfSome o.max_pixels (λ n. n < 2 ^ 64)
 
 pub record FitsStats (o : StatsOptions) : Type 0 where
+  pub skip : IfSome o.skip (λ n. n < 2 ^ 64)
+  pub count : IfSome o.count (λ n. n < 2 ^ 64)
   pub raw : IfSome o.raw FitsRaw
   pub max_pixels : IfSome o.max_pixels (λ n. n < 2 ^ 64)
 

@@ -76,13 +76,19 @@ module _ (given : OptionName → List (List ℕ)) where
 
   pub record SaysSum (o : SumOptions) : Type 0 where
     pub planes : length (given option.Planes) ≡ times o.planes
+    pub skip : SaysValue IsNumber o.skip (given option.Skip)
+    pub count : SaysValue IsNumber o.count (given option.Count)
     pub raw : SaysValue IsRaw o.raw (given option.Raw)
     pub max_pixels : SaysValue IsNumber o.max_pixels (given option.MaxPixels)
+    pub progress : length (given option.Progress) ≡ times o.progress
 
   pub record SaysStats (o : StatsOptions) : Type 0 where
     pub histogram : length (given option.Histogram) ≡ times o.histogram
+    pub skip : SaysValue IsNumber o.skip (given option.Skip)
+    pub count : SaysValue IsNumber o.count (given option.Count)
     pub raw : SaysValue IsRaw o.raw (given option.Raw)
     pub max_pixels : SaysValue IsNumber o.max_pixels (given option.MaxPixels)
+    pub progress : length (given option.Progress) ≡ times o.progress
 
   pub record SaysShow (o : ShowOptions) : Type 0 where
     pub frame : SaysValue IsNumber o.frame (given option.Frame)
@@ -107,6 +113,7 @@ module _ (given : OptionName → List (List ℕ)) where
     pub raw : SaysValue IsRaw o.raw (given option.Raw)
     pub raw_second : SaysValue IsRaw o.raw_second (given option.RawSecond)
     pub max_pixels : SaysValue IsNumber o.max_pixels (given option.MaxPixels)
+    pub progress : length (given option.Progress) ≡ times o.progress
 
   -- the files, in their order, and the options say the command of this name
   abbrev pub Says : CommandName → Command → List (List ℕ) → Type 0

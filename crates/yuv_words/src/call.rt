@@ -1,6 +1,6 @@
 //! Commands from the words of a call.
-ghost use Rattle.std.specs.Prelude.{◌≡◌, ◌≢◌, ◌↔◌, ◌⊎◌, ◌∷◌, IfErr, IfOk, IsTrue, Option};
-ghost use Rattle.yuv_words.specs.Calls.{topic_words, version_word, IsCall, IsHelpWord, IsWrittenAs};
+ghost use Rattle.std.specs.Prelude.{◌≡◌, ◌≢◌, ◌↔◌, ◌⊎◌, ◌∷◌, IfErr, IfOk, IsSome, IsTrue, Option};
+ghost use Rattle.yuv_words.specs.Calls.{topic_words, version_word, AsksHelp, IsCall, IsHelpOption, IsHelpWord, IsWrittenAs};
 ghost use Rattle.yuv_words.specs.Commands.{Says};
 ghost use Rattle.yuv_words.specs.Faults.{HasFault, HasFileFault, HasTopicFault, HasValueFault, IsRefusedFor};
 ghost use Rattle.yuv_words.specs.Names.{command_text, file_count};
@@ -37,6 +37,24 @@ pub fn read_command<'a>(words: &[&'a str]) -> Result<Command<'a>, UsageError<'a>
         Some(name) => read_call(name, rest),
         None => read_help(first, rest),
     }
+}
+
+/// Returns the words `help COMMAND` for `COMMAND --help` and `COMMAND -h`, behind which nothing is looked at. `None` for all
+/// others.
+pub fn help_words<'a>(words: &[&'a str]) -> Option<[&'a str; 2]>
+    ensures { IsSome result ↔ AsksHelp (texts_of words.now) }
+{
+    match words {
+        [first, second, ..] if is_help_option(*second) => Some(["help", *first]),
+        _ => None,
+    }
+}
+
+/// Returns whether a word behind a command asks for help.
+fn is_help_option(word: &str) -> bool
+    ensures { IsTrue result ↔ IsHelpOption word.now }
+{
+    word == "--help" || word == "-h"
 }
 
 /// Reads the words of a call whose first word is no command with files.

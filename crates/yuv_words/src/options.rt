@@ -85,8 +85,11 @@ pub(crate) fn sum_options<'a>(given: &Given<'a>) -> Result<SumOptions, UsageErro
 {
     Ok(SumOptions {
         planes: given.has(OptionName::Planes),
+        skip: given.number(OptionName::Skip)?,
+        count: given.number(OptionName::Count)?,
         raw: given.raw_video(OptionName::Raw)?,
         max_pixels: given.number(OptionName::MaxPixels)?,
+        progress: given.has(OptionName::Progress),
     })
 }
 
@@ -98,8 +101,11 @@ pub(crate) fn stats_options<'a>(given: &Given<'a>) -> Result<StatsOptions, Usage
 {
     Ok(StatsOptions {
         histogram: given.has(OptionName::Histogram),
+        skip: given.number(OptionName::Skip)?,
+        count: given.number(OptionName::Count)?,
         raw: given.raw_video(OptionName::Raw)?,
         max_pixels: given.number(OptionName::MaxPixels)?,
+        progress: given.has(OptionName::Progress),
     })
 }
 
@@ -148,6 +154,7 @@ pub(crate) fn plot_options<'a>(given: &Given<'a>) -> Result<PlotOptions, UsageEr
         raw: given.raw_video(OptionName::Raw)?,
         raw_second: given.raw_video(OptionName::RawSecond)?,
         max_pixels: given.number(OptionName::MaxPixels)?,
+        progress: given.has(OptionName::Progress),
     })
 }
 

@@ -11,7 +11,7 @@ const ALL: &str = "usage: yuv info FILE
        yuv show FILE PICTURE
        yuv diff FILE FILE PICTURE
        yuv plot FILE FILE PICTURE
-       yuv help [COMMAND], yuv --help, yuv -h, yuv --version
+       yuv help [COMMAND], yuv COMMAND --help, yuv --help, yuv -h, yuv --version
 
 info       reports what a stream is, and how many frames it has
 compare    reports how far two streams are apart. Status 0: they show the same,
@@ -50,12 +50,14 @@ const COMPARE: &str = "usage: yuv compare FILE FILE [OPTIONS]
 Reports how far two streams are apart: the mean squared error and the peak
 signal-to-noise ratio of all planes and of each, the first sample that differs,
 and which stream has more frames. Status 0: they show the same, 1: they differ.
+Frames have the numbers that they have in the first file.
 
 --ssim            reports structural similarity too, as ffmpeg's filter ssim
                   computes it; planes have at least 8 by 8 samples
 --frames          reports each frame in a line, as ffmpeg's filter psnr does
 --exact           reports the sums of squared errors too
 --csv, --json     reports each frame with all digits, as a table or an object
+                  with the mean, the harmonic mean and the least of all
 --skip N          passes over the first N frames of both streams
 --skip-second N   passes over N frames of the second stream, and --skip of the
                   first alone
@@ -108,8 +110,11 @@ Reports the CRC-32 of the samples of each frame as zlib and ffmpeg's framehash
 compute it, samples of more than 8 bits as two bytes, the low one first.
 
 --planes          reports one of each plane in place of the frame
+--skip N          passes over the first N frames
+--count N         takes N frames at most
 --raw R           the file is headerless raw video: R is WIDTHxHEIGHT:FORMAT
 --max-pixels N    refuses frames of more than N luma pixels (33177600)
+--progress        shows the count of frames meanwhile, on a terminal
 ";
 
 /// How `stats` is called.
@@ -120,8 +125,11 @@ and how many samples are outside the nominal range: 16 to 235 for luma and 16 to
 240 for chroma at 8 bits, and in proportion at others.
 
 --histogram       reports how often each value occurs, as a table with commas
+--skip N          passes over the first N frames
+--count N         takes N frames at most
 --raw R           the file is headerless raw video: R is WIDTHxHEIGHT:FORMAT
 --max-pixels N    refuses frames of more than N luma pixels (33177600)
+--progress        shows the count of frames meanwhile, on a terminal
 ";
 
 /// How `show` is called.
@@ -143,8 +151,8 @@ Writes a frame as a PNG: in colour with 8 bits, or in grey.
 const DIFF: &str = "usage: yuv diff FILE FILE PICTURE [OPTIONS]
 
 Writes the difference of the luma of two frames as a PNG in grey, black where
-they show the same, and reports where planes differ. Status 0: they show the same,
-1: they differ.
+they show the same, and reports where planes differ, on standard error where the
+picture goes to standard output. Status 0: they show the same, 1: they differ.
 
 --frame N         which frame, counted from 1 (1)
 --gain N          multiplies each difference by N (8)
@@ -168,6 +176,7 @@ plane by plane, as SVG.
                   WIDTHxHEIGHT:FORMAT
 --raw-second R    so is the second file
 --max-pixels N    refuses frames of more than N luma pixels (33177600)
+--progress        shows the count of frames meanwhile, on a terminal
 ";
 
 /// Returns how the program is called, or one of its commands.

@@ -6,13 +6,14 @@ use std::num::NonZeroU8;
 use support::cases::{Case, cases, values};
 use support::planes::{format, number, numbered, weighted};
 use support::{for_type, for_types};
-use v_frame_proved::chroma::ChromaSubsampling::{Yuv420, Yuv422, Yuv444};
+use v_frame_proved::chroma::ChromaSubsampling::{self, Monochrome, Yuv411, Yuv420, Yuv422, Yuv444};
 use v_frame_proved::convert::{
     Component, Scale, convert_depth, convert_frame, depth_fits, downscale_to_edge, frames_fit, halve_columns, map_into,
     resize, sizes_fit, subsampled_size, to_full_range, to_limited_range, upscale,
 };
 use v_frame_proved::frame::{Frame, FrameBuilder};
 use v_frame_proved::pixel::Pixel;
+use v_frame_proved::planar::video_frame;
 
 const CASES: &str = include_str!("data/conversions.txt");
 
@@ -179,5 +180,42 @@ fn frames_of_other_sizes_or_depths_do_not_fit() {
     for format in [Yuv420, Yuv444] {
         target.subsampling = format;
         assert!(!frames_fit(&source, &target));
+    }
+}
+
+/// Returns a frame of a luma size and a format whose chroma planes have another size.
+fn with_chroma(luma: (usize, usize), format: ChromaSubsampling, chroma: (usize, usize)) -> Frame<u8> {
+    let mut frame = video_frame::<u8>(luma.0, luma.1, format, 8, 0).expect("a frame");
+    let other = video_frame::<u8>(chroma.0, chroma.1, Yuv444, 8, 0).expect("a frame");
+    (frame.u_plane, frame.v_plane) = (other.u_plane, other.v_plane);
+    frame
+}
+
+#[test]
+fn chroma_is_as_large_as_the_formats_say() {
+    // The size of chroma beside 101 by 99 of luma, rounded up.
+    let sizes = [(Yuv420, (51, 50)), (Yuv422, (51, 99)), (Yuv411, (26, 99)), (Yuv444, (101, 99))];
+    for (from, chroma) in sizes {
+        for (to, other) in sizes {
+            let (source, target) = (with_chroma((101, 99), from, chroma), with_chroma((101, 99), to, other));
+            assert!(frames_fit(&source, &target), "{from:?} into {to:?}");
+        }
+        // Both chroma planes are as small as each other says, and neither is as large as its format says.
+        for (columns, rows) in [(3, 3), (chroma.0 - 1, chroma.1), (chroma.0, chroma.1 + 1)] {
+            let wrong = with_chroma((101, 99), from, (columns, rows));
+            assert!(!frames_fit(&wrong, &wrong), "{from:?} with {columns} by {rows}");
+        }
+    }
+    let small = with_chroma((100, 100), Yuv420, (3, 3));
+    assert!(!frames_fit(&small, &with_chroma((100, 100), Yuv444, (6, 6))));
+    assert!(!frames_fit(&small, &with_chroma((100, 100), Yuv422, (3, 6))));
+    // Chroma that only one of both has is not asked for.
+    let gray = video_frame::<u8>(100, 100, Monochrome, 8, 0).expect("a frame");
+    assert!(frames_fit(&small, &gray) && frames_fit(&gray, &small));
+    // One plane alone is wrong.
+    for index in [1, 2] {
+        let mut wrong = with_chroma((100, 100), Yuv420, (50, 50));
+        *wrong.plane_mut(index).expect("a plane") = small.plane(index).expect("a plane").clone();
+        assert!(!frames_fit(&wrong, &wrong), "plane {index}");
     }
 }

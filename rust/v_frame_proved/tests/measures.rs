@@ -10,7 +10,7 @@ use v_frame_proved::chroma::ChromaSubsampling::{self, Yuv420, Yuv422};
 use v_frame_proved::frame::{Frame, FrameBuilder};
 use v_frame_proved::measures::{
     Mean, StreamQuality, count_above, frame_mean_squared_error, frame_ssim, frames_have_one_size, greatest_difference,
-    mean_squared_error, peak_ratio, psnr, ssim,
+    mean_squared_error, peak_ratio, psnr, rows, ssim,
 };
 use v_frame_proved::pixel::Pixel;
 use v_frame_proved::plane::Plane;
@@ -49,6 +49,10 @@ fn measures<T: Pixel>(case: &Case<'_>, name: &str, (columns, rows): (usize, usiz
     let found = [count_above(&a, &b, 3), greatest.difference.into(), greatest.x, greatest.y];
     assert_eq!(found.map(|number| number as f64), wanted[3..], "{case}");
     assert!(mean_squared_error(&a, &a) < error, "{case}");
+    let (a, b) = (a.as_rows_ref(), b.as_rows_ref());
+    assert_eq!((rows::ssim(&a, &b, depth), rows::mean_squared_error(&a, &b)), (Some(wanted[0]), error), "{case}");
+    assert_eq!(rows::greatest_difference(&a, &b), greatest, "{case}");
+    assert_eq!(rows::count_above(&a, &b, 3) as f64, wanted[3], "{case}");
 }
 
 #[test]

@@ -211,3 +211,19 @@ fn samples_move_to_the_top_bits_and_back() {
     from_top_bits(&mut plane, 12);
     assert_eq!(plane.data(), [201, 0, 4, 4092, 205, 2048, 4, 12, 209, 210, 211, 212]);
 }
+
+/// A frame of more than 2^28 bytes, for which room is there: what is refused by its size alone would show here.
+#[test]
+fn a_large_frame_is_read() {
+    let format = SemiPlanarFormat::Nv12;
+    let mut frame = video_frame::<u8>(16384, 10924, format.subsampling(), 8, 0).expect("a frame");
+    let count = semi_planar_len(&frame, format).expect("a length");
+    assert!(count > 1 << 28);
+    let mut reader = Counted::new(std::io::repeat(77));
+    assert_eq!(read_frame(&mut reader, &mut frame, format), Ok(true));
+    for (plane, (width, height)) in [(16384, 10924), (8192, 5462), (8192, 5462)].into_iter().enumerate() {
+        let plane = frame.plane(plane).expect("a plane");
+        let row = vec![77; width];
+        assert_eq!(plane.rows().filter(|shown| *shown == row).count(), height);
+    }
+}

@@ -183,7 +183,7 @@ fn frames_are_turned_in_place() {
 type Kind = (ChromaSubsampling, (usize, usize), u8);
 
 /// Two frames, a turn of the first into the second, and its answer.
-const ANSWERS: [(Kind, Kind, Turn, Result<(), TurnError>); 9] = [
+const ANSWERS: [(Kind, Kind, Turn, Result<(), TurnError>); 15] = [
     ((Yuv422, (4, 4), 10), (Yuv422, (4, 4), 10), Turn::Rotate90, Err(TurnError::UnevenSubsampling)),
     ((Yuv411, (4, 4), 10), (Yuv444, (4, 4), 10), Turn::Transpose, Err(TurnError::UnevenSubsampling)),
     ((Yuv422, (4, 2), 10), (Yuv422, (4, 2), 10), Turn::Rotate180, Ok(())),
@@ -193,7 +193,47 @@ const ANSWERS: [(Kind, Kind, Turn, Result<(), TurnError>); 9] = [
     ((Yuv444, (4, 4), 10), (Yuv444, (4, 4), 12), Turn::Rotate90, Err(TurnError::DifferentBitDepth)),
     ((Yuv444, (4, 2), 10), (Yuv444, (4, 2), 10), Turn::Rotate90, Err(TurnError::DifferentSize { plane: 0 })),
     ((Yuv444, (4, 2), 10), (Yuv444, (2, 4), 10), Turn::FlipVertical, Err(TurnError::DifferentSize { plane: 0 })),
+    // Of several reasons the first is told: the source's chroma, the format, the bit depth, the size.
+    ((Yuv422, (4, 4), 10), (Yuv444, (8, 4), 12), Turn::Rotate90, Err(TurnError::UnevenSubsampling)),
+    ((Yuv411, (4, 4), 10), (Yuv411, (4, 4), 12), Turn::Rotate270, Err(TurnError::UnevenSubsampling)),
+    ((Yuv422, (4, 4), 10), (Yuv422, (8, 4), 10), Turn::Transpose, Err(TurnError::UnevenSubsampling)),
+    ((Yuv420, (4, 4), 10), (Yuv444, (4, 4), 12), Turn::Rotate90, Err(TurnError::DifferentSubsampling)),
+    ((Yuv420, (4, 4), 10), (Monochrome, (8, 4), 10), Turn::FlipVertical, Err(TurnError::DifferentSubsampling)),
+    ((Yuv420, (4, 4), 10), (Yuv420, (8, 4), 12), Turn::Rotate180, Err(TurnError::DifferentBitDepth)),
 ];
+
+/// Exchanges the chroma planes of a frame for those of another one, where it is asked for.
+fn with_chroma_of(mut frame: Frame<u8>, other: &Frame<u8>, u: bool, v: bool) -> Frame<u8> {
+    if u {
+        frame.u_plane = other.u_plane.clone();
+    }
+    if v {
+        frame.v_plane = other.v_plane.clone();
+    }
+    frame
+}
+
+#[test]
+fn the_first_plane_that_does_not_fit_is_told() {
+    let source = frame::<u8>((4, 2), Yuv420, 8);
+    let (small, wide, high) =
+        (frame::<u8>((4, 2), Yuv420, 8), frame::<u8>((8, 2), Yuv420, 8), frame::<u8>((2, 4), Yuv420, 8));
+    let gray = frame::<u8>((4, 2), Monochrome, 8);
+    let told = |target: &Frame<u8>, turn| frames::check_turn(&source, target, turn);
+    let of_plane = |plane| Err(TurnError::DifferentSize { plane });
+    for turn in [Turn::FlipVertical, Turn::FlipHorizontal, Turn::Rotate180] {
+        for other in [&wide, &gray] {
+            assert_eq!(told(&with_chroma_of(small.clone(), other, true, true), turn), of_plane(1));
+            assert_eq!(told(&with_chroma_of(small.clone(), other, true, false), turn), of_plane(1));
+            assert_eq!(told(&with_chroma_of(small.clone(), other, false, true), turn), of_plane(2));
+            assert_eq!(told(&with_chroma_of(wide.clone(), other, false, true), turn), of_plane(0));
+        }
+        assert_eq!(told(&small, turn), Ok(()));
+    }
+    assert_eq!(told(&with_chroma_of(high.clone(), &wide, true, true), Turn::Rotate90), of_plane(1));
+    assert_eq!(told(&with_chroma_of(high.clone(), &wide, false, true), Turn::Rotate90), of_plane(2));
+    assert_eq!(told(&with_chroma_of(high, &small, true, true), Turn::Rotate90), of_plane(1));
+}
 
 #[test]
 fn frames_that_are_refused_stay_as_they_are() {

@@ -8,6 +8,9 @@ mod generated {
     pub mod v_frame_tool_run;
 }
 
+#[cfg(test)]
+mod tests;
+
 fn main() -> std::process::ExitCode {
     generated::v_frame_tool::main()
 }

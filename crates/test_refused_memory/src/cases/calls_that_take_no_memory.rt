@@ -38,9 +38,12 @@ pub fn calls_that_take_no_memory(alloc: Global) -> Outcome {
     }
 }
 
-/// Returns whether a buffer of no entries is made: of zeros, of options, and of the values of options.
+/// Returns whether a buffer of no entries is made: of zeros, as their clone, of options, and of the values of options.
 fn empty_buffers_are_made(alloc: Global) -> bool {
     let Ok(zeros) = AlignedData::new(alloc, 0_u16, 0) else {
+        return false;
+    };
+    let Ok(copy) = zeros.clone(alloc) else {
         return false;
     };
     let Ok(options) = AlignedData::<Option<u16>>::without_values(alloc, 0) else {
@@ -49,7 +52,7 @@ fn empty_buffers_are_made(alloc: Global) -> bool {
     let Ok(values) = options.into_values(alloc) else {
         return false;
     };
-    zeros.as_slice().is_empty() && values.as_slice().is_empty()
+    zeros.as_slice().is_empty() && copy.as_slice().is_empty() && values.as_slice().is_empty()
 }
 
 /// Returns whether the replay of no call answers nothing, and leaves a blank frame as it is.

@@ -12,6 +12,11 @@ pub fn are(found: &[u8], wanted: &[u8]) -> bool {
     found == wanted
 }
 
+/// Returns whether items are those that are wanted.
+pub fn are_items<T: PartialEq>(found: &[T], wanted: &[T]) -> bool {
+    found == wanted
+}
+
 /// Returns whether a plane has these entries, in its border too.
 pub fn has_entries<T: PartialEq>(plane: &Plane<T>, wanted: &[T]) -> bool {
     *plane.data() == *wanted

@@ -14,7 +14,7 @@ use v_frame_y4m::{
 };
 
 /// A header line with all its parameters, in front of a frame's line.
-static STREAM: [u8; 54] = *b"YUV4MPEG2 W30 H2 F25:1 Ip A4:3 C444p16 XAB XC=D\nFRAME\n";
+pub static STREAM: [u8; 54] = *b"YUV4MPEG2 W30 H2 F25:1 Ip A4:3 C444p16 XAB XC=D\nFRAME\n";
 
 /// A header is read. Where memory is refused, its line is read and no more, as ever.
 pub fn read_a_header(alloc: Global) -> Outcome {
@@ -33,7 +33,7 @@ pub fn read_a_header(alloc: Global) -> Outcome {
 }
 
 /// The same line as a lax producer writes it.
-static LAX: [u8; 57] = *b"YUV4MPEG2 W30  H2 F25 Ip A4:3   C444p16 XAB XC=D \r\nFRAME\n";
+pub static LAX: [u8; 57] = *b"YUV4MPEG2 W30  H2 F25 Ip A4:3   C444p16 XAB XC=D \r\nFRAME\n";
 
 /// A header is read that stands for a strict one. Where memory is refused, its line is read and no more, as ever.
 pub fn read_a_lax_header(alloc: Global) -> Outcome {
@@ -52,7 +52,7 @@ pub fn read_a_lax_header(alloc: Global) -> Outcome {
 }
 
 /// Returns whether a header says what stands in the line.
-fn says_the_line(header: &StreamHeader) -> bool {
+pub fn says_the_line(header: &StreamHeader) -> bool {
     let numbers = (header.width, header.height);
     let texts = match header.extensions.as_slice() {
         [a, b] => are(a.as_slice(), b"AB") && are(b.as_slice(), b"C=D"),
@@ -67,7 +67,7 @@ fn says_the_line(header: &StreamHeader) -> bool {
 }
 
 /// Returns a ratio.
-fn ratio(numerator: u64, denominator: u64) -> Option<Ratio> {
+pub fn ratio(numerator: u64, denominator: u64) -> Option<Ratio> {
     Some(Ratio {
         numerator,
         denominator,

@@ -30,6 +30,14 @@ pub const CASES: &[Case] = &[
     ),
     case!(measures::ssim, "the widths of a (5) and b (4) are not equal", plane(5, 3), plane(4, 3), 8),
     case!(measures::ssim, "the heights of a (2) and b (3) are not equal", plane(4, 2), plane(4, 3), 8),
+    case!(measures::rows::count_above, "the widths of a (5) and b (4) are not equal", rows(5, 3), rows(4, 3), 3),
+    case!(measures::rows::count_above, "the heights of a (2) and b (3) are not equal", rows(4, 2), rows(4, 3), 3),
+    case!(measures::rows::greatest_difference, "the widths of a (5) and b (4) are not equal", rows(5, 3), rows(4, 3)),
+    case!(measures::rows::greatest_difference, "the heights of a (2) and b (3) are not equal", rows(4, 2), rows(4, 3)),
+    case!(measures::rows::mean_squared_error, "the widths of a (5) and b (4) are not equal", rows(5, 3), rows(4, 3)),
+    case!(measures::rows::mean_squared_error, "the heights of a (2) and b (3) are not equal", rows(4, 2), rows(4, 3)),
+    case!(measures::rows::ssim, "the widths of a (5) and b (4) are not equal", rows(5, 3), rows(4, 3), 8),
+    case!(measures::rows::ssim, "the heights of a (2) and b (3) are not equal", rows(4, 2), rows(4, 3), 8),
     case!(
         statistics::count_pairs, "the widths of a (5) and b (4) are not equal",
         plane(5, 3), plane(4, 3), |one, other| one < other

@@ -38,7 +38,7 @@ fn module_of(file: &Path) -> String {
         ("v_frame_raster", _) => "pixel",
         (name, _) => name.strip_prefix("v_frame_").unwrap_or(name),
     };
-    if parts[1] == "rows" { format!("{module}::rows") } else { module.to_string() }
+    if matches!(parts[1], "rows" | "rows.rs") { format!("{module}::rows") } else { module.to_string() }
 }
 
 /// Returns the public functions of a file that assert. Their panics are reported at the caller's line.

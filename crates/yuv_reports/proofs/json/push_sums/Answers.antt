@@ -1,5 +1,5 @@
 -- The members one after the other.
-use Rattle.std.proofs.Common.{[], ◌∷◌, ◌++◌, ◌∙◌, ap, append-nil, codes, decimal}
+use Rattle.std.proofs.Common.{◌++◌, ◌∙◌, ap, append-nil, codes, decimal}
 use Rattle.std.specs.String.{string_bytes}
 use lib.Utf8.{encode}
 use Rattle.yuv_reports.specs.Sums.{number_after}

@@ -1,9 +1,9 @@
 -- One more digit, and all of them.
-use Rattle.std.proofs.Common.{◌++◌, ◌∷◌, ◌∙◌, [], ap, append_assoc, arith, subst, sym, take, ◌≡◌, ℕ}
+use Rattle.std.proofs.Common.{◌++◌, ◌∷◌, ◌∙◌, [], ap, append_assoc, arith, sym, take, ◌≡◌}
 use Rattle.std.proofs.Math.ListN.{get_or}
 use Rattle.std.specs.Prelude.{map}
 use Rattle.std.specs.String.{string_bytes}
-use Rattle.yuv_reports.specs.Samples.{checksum_word, digit_at, places}
+use Rattle.yuv_reports.specs.Samples.{digit_at, places}
 use Rattle.yuv_reports.proofs.Parts.{mapped_more}
 use Rattle.yuv_reports.proofs.samples.push_checksum.Goals as goal
 

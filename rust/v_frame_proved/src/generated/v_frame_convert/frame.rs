@@ -60,32 +60,43 @@ pub fn convert_frame<S: Pixel, T: Pixel>(source: &Frame<S>, target: &mut Frame<T
 
 /// Returns whether [`convert_frame`] can convert one frame into the other: the luma planes have one size, each depth fits its
 /// type of pixels, and chroma planes that both have are as large as the formats say, rounded up.
+///
+/// A plane that stands for chroma in a monochrome frame has the size of luma, and fits one of its own size alone.
 #[inline]
 #[must_use]
 pub fn frames_fit<S: Pixel, T: Pixel>(source: &Frame<S>, target: &Frame<T>) -> bool {
-    let (across, down) = scales_of(source.subsampling, target.subsampling);
     source.y_plane.width() == target.y_plane.width()
         && source.y_plane.height() == target.y_plane.height()
         && depth_fits::<S>(source.bit_depth.get())
         && depth_fits::<T>(target.bit_depth.get())
-        && chroma_fits(&source.u_plane, &target.u_plane, across, down)
-        && chroma_fits(&source.v_plane, &target.v_plane, across, down)
+        && chroma_matches(source, target, &source.u_plane, &target.u_plane)
+        && chroma_matches(source, target, &source.v_plane, &target.v_plane)
 }
 
-/// Returns whether the sizes of two chroma planes belong together, where both are there.
-fn chroma_fits<S, T>(
-    source: &Option<Plane<S>>,
-    target: &Option<Plane<T>>,
-    across: Scale,
-    down: Scale,
+/// Returns whether two chroma planes of frames belong together and are as large as the formats say, where both are there.
+fn chroma_matches<S: Pixel, T: Pixel>(
+    source: &Frame<S>,
+    target: &Frame<T>,
+    from: &Option<Plane<S>>,
+    to: &Option<Plane<T>>,
 ) -> bool {
-    match (source, target) {
-        (Some(source), Some(target)) => {
-            sizes_fit(across, source.width(), target.width())
-                && sizes_fit(down, source.height(), target.height())
+    let (across, down) = scales_of(source.subsampling, target.subsampling);
+    match (from, to) {
+        (Some(from), Some(to)) => {
+            sizes_fit(across, from.width(), to.width())
+                && sizes_fit(down, from.height(), to.height())
+                && is_chroma_size(source.subsampling, &source.y_plane, from)
+                && is_chroma_size(target.subsampling, &target.y_plane, to)
         }
         _ => true,
     }
+}
+
+/// Returns whether a chroma plane is as large as its format says beside luma.
+fn is_chroma_size<T: Pixel>(format: ChromaSubsampling, luma: &Plane<T>, chroma: &Plane<T>) -> bool {
+    let (across, down) = scales_of(format, ChromaSubsampling::Yuv444);
+    sizes_fit(across, chroma.width(), luma.width())
+        && sizes_fit(down, chroma.height(), luma.height())
 }
 
 /// Returns how many columns and rows chroma of one format has beside that of another.

@@ -47,14 +47,14 @@ use crate::generated::v_frame::frame::Frame;
 use crate::generated::v_frame::pixel::Pixel;
 use crate::generated::v_frame::plane::Plane;
 
-/// Says whether `target` can show what `source` shows, turned in this way, and else why not.
+/// Says whether `target` can show what `source` shows, turned in this way, and else why not: the first reason that holds.
 ///
 /// # Errors
 ///
-/// [`TurnError::UnevenSubsampling`] where rows become columns and the ratios of the source's chroma are not equal. Else
-/// [`TurnError::DifferentSubsampling`] or [`TurnError::DifferentBitDepth`] where the format or the bit depth is not that of
-/// the source; [`TurnError::DifferentSize`] where a plane doesn't have the size of the source's, exchanged where rows become
-/// columns, or only one of both frames has it.
+/// [`TurnError::UnevenSubsampling`] where rows become columns and the ratios of the source's chroma are not equal; else
+/// [`TurnError::DifferentSubsampling`] where the format is not that of the source; else [`TurnError::DifferentBitDepth`] where
+/// the bit depth is not; else [`TurnError::DifferentSize`] with the first plane that doesn't have the size of the source's,
+/// exchanged where rows become columns, or that only one of both frames has.
 #[inline]
 pub fn check_turn<T: Pixel>(
     source: &Frame<T>,

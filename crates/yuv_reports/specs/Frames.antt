@@ -1,0 +1,87 @@
+-- What is said of one frame and of all of them, in each form of a report.
+use Rattle.std.specs.Prelude.{ℕ, ◌≡◌, ◌∷◌, ◌++◌, [], Bool, true, false, List, Option, Some, None, codes, decimal}
+use Rattle.yuv_reports.specs.Sums.{difference_line, end_of_frame, letter_of, longer_line, sums_line}
+use Rattle.yuv_reports.specs.declared.comparison.Comparison.{Comparison}
+use Rattle.yuv_reports.specs.declared.comparison.Longer.{Longer}
+use Rattle.yuv_reports.specs.declared.comparison.Longer.TheVariants.{First, Second}
+use Rattle.yuv_reports.specs.declared.comparison.ReportForm.{ReportForm}
+use Rattle.yuv_reports.specs.declared.comparison.ReportForm.TheVariants.{Lines, Csv, Json}
+use Rattle.yuv_reports.specs.declared.comparison.SampleDifference.{SampleDifference}
+use Rattle.yuv_reports.specs.declared.planes.PlaneSums.{PlaneSums}
+
+-- ---- one frame
+
+-- what stands in front of the measures of a frame of this number
+abbrev pub frame_begin : ReportForm → ℕ → List ℕ
+frame_begin Lines number = codes "n:" ++ (decimal number ++ codes " ")
+frame_begin Csv number = decimal number ++ codes ","
+frame_begin Json number = codes "    {\"frame\": " ++ (decimal number ++ codes ", ")
+
+-- what stands between a frame and the one before it, or in front of the first one
+abbrev pub separator : ReportForm → Bool → List ℕ
+separator Lines first = []
+separator Csv first = []
+separator Json true = 10 ∷ []
+separator Json false = codes "," ++ (10 ∷ [])
+
+-- a frame of this number was appended: the number, some measures, and the sums where they are
+-- reported
+abbrev pub AppendsFrame : ReportForm → ℕ → Option PlaneSums → List ℕ → List ℕ → Type 0
+AppendsFrame form number sums old new =
+    (values : List ℕ) × (new ≡ old ++ (frame_begin form number ++ (values ++ end_of_frame form sums)))
+
+-- the same, after what stands between it and the one before it
+abbrev pub AppendsNext : ReportForm → Bool → ℕ → Option PlaneSums → List ℕ → List ℕ → Type 0
+AppendsNext form first number sums old new =
+    AppendsFrame form number sums (old ++ separator form first) new
+
+-- a text ends with a frame of this number
+abbrev pub EndsWithFrame : ReportForm → ℕ → Option PlaneSums → List ℕ → Type 0
+EndsWithFrame form number sums text =
+    (front : List ℕ) × AppendsFrame form number sums front text
+
+-- ---- all frames, as members of an object
+
+abbrev pub place_members : ℕ → List ℕ → ℕ → ℕ → List ℕ
+place_members frame plane x y =
+    codes "{\"frame\": "
+    ++ (decimal frame
+    ++ (codes ", \"plane\": \""
+    ++ (plane
+    ++ (codes "\", \"column\": " ++ (decimal x ++ (codes ", \"row\": " ++ (decimal y ++ codes ", ")))))))
+
+abbrev pub difference_object : Option SampleDifference → List ℕ
+difference_object None = codes "null"
+difference_object (Some found) =
+    place_members found.frame (letter_of found.plane) found.x found.y
+    ++ (codes "\"first\": "
+    ++ (decimal found.first ++ (codes ", \"second\": " ++ (decimal found.second ++ codes "}"))))
+
+-- the last member, of this value, and the end of the object
+abbrev pub longer_as : List ℕ → List ℕ
+longer_as value =
+    codes "," ++ (10 ∷ (codes "  \"longer\": " ++ (value ++ (10 ∷ (codes "}" ++ (10 ∷ []))))))
+
+abbrev pub longer_member : Option Longer → List ℕ
+longer_member None = longer_as (codes "null")
+longer_member (Some First) = longer_as (codes "\"first\"")
+longer_member (Some Second) = longer_as (codes "\"second\"")
+
+abbrev pub json_end : Option SampleDifference → Option Longer → List ℕ
+json_end difference longer =
+    codes ","
+    ++ (10
+    ∷ (codes "  \"first_difference\": " ++ (difference_object difference ++ longer_member longer)))
+
+-- ---- the end of a report
+
+-- what is said of all frames after the last float: of a table nothing, each row of which is a frame
+abbrev pub end_by_parts : ReportForm → Option PlaneSums → Option SampleDifference → Option Longer
+    → List ℕ
+end_by_parts Lines sums difference longer =
+    sums_line sums ++ (difference_line difference ++ longer_line longer)
+end_by_parts Csv sums difference longer = []
+end_by_parts Json sums difference longer = json_end difference longer
+
+abbrev pub end_of_report : ReportForm → Comparison → List ℕ
+end_of_report form found = end_by_parts form found.measures.sums found.difference found.longer

@@ -1,0 +1,137 @@
+//! What errors say: each row of the table is what a value of its variant prints. tools/check-error-texts sees that no variant
+//! lacks a row.
+
+use crate::generated::yuv_commands::Fault;
+use crate::generated::yuv_pictures::PictureError;
+use crate::generated::yuv_streams::{Place, Problem, StreamError};
+use crate::generated::yuv_words::{CommandName, OptionName, UsageError};
+use std::fmt::Display;
+use std::io::{self, ErrorKind};
+use v_frame_proved::planar::PlanarError;
+use v_frame_proved::png::PngError;
+use v_frame_proved::y4m::{HeaderError, Y4mError};
+
+const TABLE: &str = include_str!("../../../v_frame_proved/tests/data/error_texts.txt");
+
+/// Compares the rows of an error with its values, by the names of their variants, in the order of the table.
+fn compare<E: Display>(error: &str, values: &[(&str, E)]) {
+    let rows: Vec<&str> = TABLE.lines().filter(|row| row.starts_with(&format!("{error}::"))).collect();
+    let shown = values.iter().map(|(variant, value)| format!("{error}::{variant} | {value}"));
+    assert_eq!(shown.collect::<Vec<_>>(), rows);
+}
+
+/// Returns an error of the first stream, after two frames of it.
+fn after_two(problem: Problem, cause: Option<ErrorKind>) -> StreamError {
+    StreamError { place: Place::First, frames: 2, problem, cause }
+}
+
+/// Returns what a read that failed says, which the system did not permit.
+fn forbidden() -> StreamError {
+    after_two(Problem::Stream(Y4mError::Planar(PlanarError::Read)), Some(ErrorKind::PermissionDenied))
+}
+
+#[test]
+fn problems_of_streams() {
+    compare(
+        "yuv_streams Problem",
+        &[
+            ("Stream", Problem::Stream(Y4mError::NoFrame)),
+            ("TooLarge", Problem::TooLarge),
+            ("TooManyPixels", Problem::TooManyPixels(134_217_728)),
+            ("EmptyCrop", Problem::EmptyCrop),
+            ("CropOutside", Problem::CropOutside),
+            ("CropMisaligned", Problem::CropMisaligned { columns: 4, rows: 1 }),
+            ("OtherSize", Problem::OtherSize),
+            ("OtherChroma", Problem::OtherChroma),
+            ("OtherDepth", Problem::OtherDepth),
+            ("SemiPlanar", Problem::SemiPlanar),
+            ("OtherLayout", Problem::OtherLayout),
+            ("Unwritable", Problem::Unwritable),
+            ("OutOfMemory", Problem::OutOfMemory),
+        ],
+    );
+    let first = StreamError { place: Place::Output, frames: 0, problem: Problem::EmptyCrop, cause: None };
+    let shown = [forbidden(), first].map(|error| format!("yuv_streams StreamError | {error}"));
+    let rows = TABLE.lines().filter(|row| row.starts_with("yuv_streams StreamError "));
+    assert_eq!(rows.collect::<Vec<_>>(), shown);
+}
+
+#[test]
+fn errors_of_pictures() {
+    compare(
+        "yuv_pictures PictureError",
+        &[
+            ("TooLarge", PictureError::TooLarge { width: 1 << 31, height: 1 }),
+            ("NoPlane", PictureError::NoPlane),
+            ("Layout", PictureError::Layout),
+            ("Unlike", PictureError::Unlike),
+            ("Png", PictureError::Png(PngError::WriteZero)),
+            ("OutOfMemory", PictureError::OutOfMemory),
+        ],
+    );
+}
+
+#[test]
+fn faults_of_commands() {
+    let missing = || after_two(Problem::Stream(Y4mError::Header(HeaderError::Missing('W'))), None);
+    let unwritten = StreamError {
+        place: Place::Output,
+        frames: 0,
+        problem: Problem::Stream(Y4mError::Planar(PlanarError::WriteZero)),
+        cause: None,
+    };
+    let full = PictureError::Png(PngError::Write(io::Error::from(ErrorKind::StorageFull)));
+    compare(
+        "yuv_commands Fault",
+        &[
+            ("Open", Fault::Open(Place::First, ErrorKind::NotFound)),
+            ("InputTwice", Fault::InputTwice(Place::Second)),
+            ("ReadAndWritten", Fault::ReadAndWritten(Place::First)),
+            ("NotAStream", Fault::NotAStream(Place::First)),
+            ("NoPlanes", Fault::NoPlanes(Place::First)),
+            ("Header", Fault::Header(missing())),
+            ("Stream", Fault::Stream(forbidden())),
+            ("Report", Fault::Report(unwritten)),
+            ("Create", Fault::Create(ErrorKind::PermissionDenied)),
+            ("Replace", Fault::Replace(ErrorKind::PermissionDenied)),
+            ("Picture", Fault::Picture(full)),
+            ("Picture", Fault::Picture(PictureError::NoPlane)),
+            ("NoFrame", Fault::NoFrame(Place::First, 2)),
+            ("FrameZero", Fault::FrameZero),
+            ("NoWindow", Fault::NoWindow(Place::First)),
+        ],
+    );
+}
+
+#[test]
+fn errors_of_words() {
+    let (skip, ssim, half) = (OptionName::Skip, OptionName::Ssim, OptionName::Half);
+    let (raw, plane) = (OptionName::Raw, OptionName::Plane);
+    compare(
+        "yuv_words UsageError",
+        &[
+            ("NoCommand", UsageError::NoCommand),
+            ("UnknownCommand", UsageError::UnknownCommand("sho")),
+            ("ExtraWord", UsageError::ExtraWord("more")),
+            ("UnknownOption", UsageError::UnknownOption("--sim")),
+            ("NotOfCommand", UsageError::NotOfCommand { option: ssim, command: CommandName::Info }),
+            ("Repeated", UsageError::Repeated(skip)),
+            ("MissingValue", UsageError::MissingValue(raw)),
+            ("MissingValue", UsageError::MissingValue(OptionName::Count)),
+            ("MissingValue", UsageError::MissingValue(OptionName::Gain)),
+            ("MissingValue", UsageError::MissingValue(OptionName::Crop)),
+            ("MissingValue", UsageError::MissingValue(OptionName::Format)),
+            ("MissingValue", UsageError::MissingValue(OptionName::Rate)),
+            ("MissingValue", UsageError::MissingValue(OptionName::Matrix)),
+            ("MissingValue", UsageError::MissingValue(OptionName::Range)),
+            ("MissingValue", UsageError::MissingValue(plane)),
+            ("NeedlessValue", UsageError::NeedlessValue { option: half, value: "2" }),
+            ("NotAValue", UsageError::NotAValue { option: plane, word: "w" }),
+            ("NoPixels", UsageError::NoPixels { option: raw, word: "0x2:gray" }),
+            ("TwoForms", UsageError::TwoForms),
+            ("MissingFile", UsageError::MissingFile),
+            ("ExtraFile", UsageError::ExtraFile("c.y4m")),
+            ("NotUnicode", UsageError::NotUnicode),
+        ],
+    );
+}

@@ -1,0 +1,97 @@
+"""Which case of crates/test_refused_memory refuses the memory of which public call."""
+import re
+
+from source_items import TOP, File, methods, name_in, owner_of, signature
+
+PROGRAM_CASES = TOP / "crates/test_refused_memory/src/cases.rt"
+CALLED_FROM_C = TOP / "c_interface/tests/test_v_frame_y4m.c"  # refuses each request of what the crate v_frame_y4m_c exports
+NO_MEMORY = "calls_that_take_no_memory"
+# The cases of each public call that takes an allocator: its crate, its module where that has a folder, its type and its name.
+CASES_OF_CALLS = {
+    "v_frame::Frame::clone": ["clone_of_a_frame"],
+    "v_frame::FrameBuilder::build": ["build"],
+    "v_frame::Sequence::from_slice": ["list_of_a_slice"],
+    "v_frame::laws::bytes_go_through_a_frame": ["bytes_go_through_a_frame"],
+    "v_frame::laws::lent_pixels_are_drawn_once": ["lent_pixels_are_drawn_once"],
+    "v_frame::laws::lent_rows_are_drawn_once": ["lent_rows_are_drawn_once"],
+    "v_frame::built_frame_is_zero": ["built_frame_is_zero"],
+    "v_frame::bytes_are_drawn_once": ["bytes_are_drawn_once"],
+    "v_frame::pixels_are_drawn_once": ["pixels_are_drawn_once"],
+    "v_frame::rows_are_drawn_once": ["rows_are_drawn_once"],
+    "v_frame::same_tables_same_answers": ["same_tables_same_answers"],
+    "v_frame::replay": ["replay", "replay_of_two_row_writes", "replay_of_reads_and_a_copy"],
+    "v_frame_buffer::AlignedData::clone": ["clone_of_a_buffer"],
+    "v_frame_buffer::AlignedData::into_values": ["values_of_a_buffer"],
+    "v_frame_buffer::AlignedData::new": ["buffer_of_zeros"],
+    "v_frame_buffer::AlignedData::without_values": ["buffer_without_values"],
+    "v_frame_chart::summaries": ["columns_of_a_chart"],
+    "v_frame_chart::svg": ["text_of_a_chart"],
+    "v_frame_chart::write_svg": ["write_chart"],
+    "v_frame_planar::read_frame": ["read_frame", "read_frame_of_bytes"],
+    "v_frame_planar::video_frame": ["video_frame"],
+    "v_frame_plane::Plane::new": ["blank_plane"],
+    "v_frame_plane::plane::Plane::assume_init": ["assume_init", "assume_init_of_texts", "assume_init_of_counted_drops"],
+    "v_frame_plane::plane::Plane::clone": ["clone_of_a_plane"],
+    "v_frame_plane::plane::Plane::new_uninit": ["new_uninit"],
+    "v_frame_png::PngWriter::new": ["png_writer"],
+    "v_frame_png::PngWriter::with_compression": ["png_writer_that_compresses"],
+    "v_frame_png::PngWriter::write_plane_u16": ["png_of_a_plane_of_words"],
+    "v_frame_png::PngWriter::write_rows_u16": ["png_of_words"],
+    "v_frame_png::write_png": ["png_of_rows"],
+    "v_frame_png::write_png_with": ["png_of_compressed_rows"],
+    "v_frame_semi_planar::read_frame": ["read_semi_planar_frame"],
+    "v_frame_statistics::histogram_of_depth": ["histogram_of_a_plane"],
+    "v_frame_statistics::rows::histogram_of_depth": ["histogram_of_rows"],
+    "v_frame_tool_run::run": ["run_into_a_fixed_slice"],
+    "v_frame_y4m::Ratio::text": ["text_of_a_ratio"],
+    "v_frame_y4m::StreamHeader::frame": ["frame_of_a_header"],
+    "v_frame_y4m::Text::new": ["text_of_bytes"],
+    "v_frame_y4m::ended_line": ["ended_line"],
+    "v_frame_y4m::header_line": ["header_line"],
+    "v_frame_y4m::parse_header": ["parse_header"],
+    "v_frame_y4m::parse_lax_header": ["parse_lax_header"],
+    "v_frame_y4m::read_frame": ["read_frame_of_a_stream"],
+    "v_frame_y4m::read_header": ["read_header", "read_header_that_is_refused"],
+    "v_frame_y4m::read_lax_header": ["read_lax_header"],
+    "v_frame_y4m::strict_line": ["strict_line"],
+    "v_frame_y4m::write_header": ["write_header"],
+}
+
+
+def cases_of_the_program():
+    """The names of the cases, as the program has them."""
+    return re.findall(r'^ +\(\s*"(\w+)",\s*Case::\w+,?\s*\),$', PROGRAM_CASES.read_text(), re.M)
+
+
+def takes_memory(told):
+    """Whether a signature has an allocator among its parameters."""
+    return re.search(r"\balloc: (?:Global|&?A)\b", re.split(r"\n\s+(?:ensures|requires|where)", "\n".join(told))[0])
+
+
+def calls_in(path):
+    """The public calls of a file that take memory."""
+    crate, _, *folders = path.relative_to(TOP / "crates").parts[:-1]
+    at = "::".join([crate, *folders])
+    for _, item, head in File(path).heads():
+        if head["kind"] == "fn" and head["pub"] and takes_memory(signature(item, 0)):
+            yield f"{at}::{name_in(head)}"
+        elif head["kind"] == "impl":
+            yield from (f"{at}::{owner_of(item)[1]}::{name}" for name, _, told in methods(item) if takes_memory(told))
+
+
+def faults():
+    """What is wrong with the list: a public call that takes memory and has no case, or a row of something that is not there."""
+    sources = [it for it in sorted(TOP.glob("crates/v_frame*/src/**/*.rt")) if "tests" not in it.parts]
+    calls = [call for it in sources for call in calls_in(it)]
+    from_c = [it for it in calls if it.startswith("v_frame_y4m_c::v_frame_")]
+    refused = CALLED_FROM_C.read_text()
+    calls = [it for it in calls if not it.startswith("v_frame_y4m_c::")]
+    cases, named = cases_of_the_program(), [case for them in CASES_OF_CALLS.values() for case in them]
+    return [
+        *(f"{it} takes memory and has no case" for it in calls if it not in CASES_OF_CALLS),
+        *(f"{it} is no public call that takes memory" for it in CASES_OF_CALLS if it not in calls),
+        *(f"{it} is there more than once" for it in sorted(set(calls)) if calls.count(it) > 1),
+        *(f"{CALLED_FROM_C.name} doesn't call {it}" for it in from_c if it.split("::")[1] + "(" not in refused),
+        *(f"the program has no case {it}" for it in named if it not in cases),
+        *(f"the case {it} is of no call" for it in cases if it not in named and it != NO_MEMORY and not it.startswith("yuv_")),
+    ]
