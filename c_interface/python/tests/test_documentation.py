@@ -2,9 +2,11 @@
 
 import set_up
 
+import ast
 import doctest
 import importlib
 import inspect
+import pathlib
 import pkgutil
 import unittest
 
@@ -26,6 +28,11 @@ class Documentation(unittest.TestCase):
             ran += result.attempted
         self.assertEqual(doctest.testmod(v_frame, extraglobs=names).failed, 0)
         self.assertGreater(ran, 60)
+
+    def test_the_language_is_that_of_the_version_that_is_stated(self):
+        for folder in v_frame.__path__:
+            for name in pathlib.Path(folder).glob("*.py"):
+                ast.parse(name.read_text(), feature_version=(3, 10))
 
     def test_each_call_has_one(self):
         for module in (v_frame, y4m):

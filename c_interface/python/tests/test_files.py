@@ -14,7 +14,7 @@ import unittest
 from unittest import mock
 
 from rooms import GOOD, HEADER, LINE, OTHER, Room, frames_of, stream_of
-from v_frame import Frame, y4m
+from v_frame import Frame, Plane, write_png, y4m
 
 
 class Names(Room):
@@ -139,6 +139,7 @@ class Failures(Room):
             with self.assertRaises(OSError) as found:
                 y4m.write_y4m("/dev/full", HEADER, frames_of([7] * count))
             self.assertEqual(found.exception.errno, errno.ENOSPC)
+        self.assertRaises(OSError, write_png, "/dev/full", Plane(bytes(16), 4, 4))
         self.assertTrue(os.path.exists("/dev/full") and not os.path.isfile("/dev/full"))
 
     def test_a_target_is_replaced_by_what_is_on_the_disk(self):
@@ -190,17 +191,35 @@ class Devices(Room):
         self.assertEqual(len(list(y4m.read_y4m("work/pipe")[1])), 3)
         writer.join(20)
 
+
+# The rights of nobody, after all is loaded; /proc/self stays the program's own then (PR_SET_DUMPABLE).
+WITHOUT_RIGHTS = '''
+if os.geteuid() == 0:
+    import ctypes
+    os.setuid(65534)
+    ctypes.CDLL(None).prctl(4, 1, 0, 0, 0)
+'''
+
+
 class Runs(Room):
     """Programs of their own. What is open already is written as it is."""
 
     as_nobody = False
 
+    def setUp(self):
+        super().setUp()
+        os.chmod("work", 0o777)
+
     def run_in_shell(self, words, program):
         """A shell's line, in which $0 is Python and $1 a program over the frames."""
-        return subprocess.run(["timeout", "60", "sh", "-c", words, sys.executable, PROGRAM + program], capture_output=True, text=True)
+        # What a program prints stays in a buffer, where its user has not asked for something else.
+        environment = {name: value for name, value in os.environ.items() if name != "PYTHONUNBUFFERED"}
+        return subprocess.run(["timeout", "60", "sh", "-c", words, sys.executable, PROGRAM + WITHOUT_RIGHTS + program],
+                              capture_output=True, text=True, env=environment)
 
     def test_a_run_that_is_killed(self):
-        program = PROGRAM + '''
+        os.chmod("work/a.y4m", 0o666)
+        program = PROGRAM + WITHOUT_RIGHTS + '''
 def endless():
     yield from frames((7, 8))
     os.kill(os.getpid(), 9)
@@ -272,8 +291,9 @@ for name in ("disk/a.y4m", "disk/new.y4m"):
     def test_closed_standard_streams(self):
         for closed in ("<&-", ">&-", "2>&-", "<&- >&-", "<&- 2>&-", ">&- 2>&-", "<&- >&- 2>&-"):
             self.put("work/b.y4m", GOOD)
+            os.chmod("work/b.y4m", 0o666)
             program = 'print("words"); print("more", file=sys.stderr); y4m.write_y4m("work/b.y4m", HEADER, frames((7, 8)))'
-            subprocess.run(["sh", "-c", f'"$0" -c "$1" {closed}', sys.executable, PROGRAM + program], stdout=subprocess.DEVNULL,
+            subprocess.run(["sh", "-c", f'"$0" -c "$1" {closed}', sys.executable, PROGRAM + WITHOUT_RIGHTS + program], stdout=subprocess.DEVNULL,
                            stderr=subprocess.DEVNULL, stdin=subprocess.DEVNULL)
             self.assertHas("work/b.y4m", OTHER)
             self.assertNothingBeside()

@@ -223,7 +223,6 @@ class Pictures(unittest.TestCase):
             with open(name, "rb") as file:
                 self.assertEqual(file.read(), before)
             self.assertEqual(os.listdir(folder), ["a.png"])
-            self.assertRaises(OSError, v_frame.write_png, "/dev/full", plane)
 
 
 if __name__ == "__main__":

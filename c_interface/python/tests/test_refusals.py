@@ -197,7 +197,7 @@ class Planes(unittest.TestCase):
                 self.assertRaises(Error, v_frame.fill, plane, 1)
                 self.assertRaises(Error, plane.tobytes)
                 self.assertRaises(Error, Plane, buffer, **{"width": 4, "height": 4, name: value} if value is not None else {"width": 4.0, "height": 4})
-            for width, height, stride in ((0, 4, 4), (4, 0, 4), (5, 4, 4), (4, 5, 4), (4, 4, 5)):
+            for width, height, stride in ((0, 4, 4), (4, 0, 4), (5, 4, 4), (5, 3, 4), (4, 5, 4), (4, 4, 5)):
                 plane = Plane(buffer, width, height, stride)
                 self.assertRaises(RowsError, v_frame.statistics, plane)
                 self.assertRaises(RowsError, plane.tobytes)

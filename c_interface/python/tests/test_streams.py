@@ -171,10 +171,13 @@ class Writers(Room):
     def test_a_header_is_taken_as_it_is_at_first(self):
         header = y4m.Header(4, 2, "420", siting="mpeg2")
         with y4m.Y4mWriter("work/a.y4m", header) as writer:
-            header.width, header.format = 8, "mono"
+            header.width, header.format, header.bit_depth = 8, "mono", 10
             writer.write(frames_of((7,))[0])
-            writer.write(frames_of((8,))[0])
+            writer.write(Frame(frames_of((8,))[0]))
         self.assertHas("work/a.y4m", OTHER)
+        header, frames = y4m.read_y4m("work/a.y4m")
+        header.width, header.format, header.bit_depth = 8, "mono", 10
+        self.assertEqual([(it.width, it.format, it.depth) for it in frames], [(4, "420", 8)] * 2)
 
 
 if __name__ == "__main__":

@@ -71,7 +71,8 @@ def psnr(a, b, depth: int | None = None) -> float:
     """
     peak = (1 << _depth_of_either(a, depth)) - 1
     total, count = _errors_of(a, b)
-    return 10 * math.log10(peak * peak * count / total) if total else math.inf
+    # The mean is rounded first, as in ffmpeg.
+    return 10 * math.log10(peak * peak / (total / count)) if total else math.inf
 
 
 def _pair(export, a, b, *more):
