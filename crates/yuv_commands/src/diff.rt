@@ -226,11 +226,12 @@ fn push_first(
     text: &mut String,
     name: &str,
     samples: usize,
-    (x, y): (usize, usize),
+    place: (usize, usize),
 ) -> Result<(), AllocError>
     ensures { OnOk result (string_bytes text.new
-        ≡ string_bytes text.old ++ first_said name.now samples (x, y)) }
+        ≡ string_bytes text.old ++ first_said name.now samples place) }
 {
+    let (x, y) = place;
     write!(
         text,
         "{name}: {samples} samples differ; first difference: column {x}, row {y}"

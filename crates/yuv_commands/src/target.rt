@@ -1,5 +1,6 @@
 //! Files that a command writes. The frames go to a new file beside the target, which replaces the target when it is whole.
-ghost use Rattle.std.specs.Prelude.{◌≡◌};
+ghost use Rattle.std.specs.Prelude.{◌≡◌, ◌≢◌, None, bit_and};
+ghost use Rattle.std.specs.Fs.{metadata_mode};
 
 use crate::destination::{Destination, resolve_links};
 use crate::partial::{MODE_BITS, PartialFile, finish, open_for_writing};
@@ -10,8 +11,8 @@ use std::io::{self, ErrorKind};
 use std::os::unix::fs::MetadataExt;
 use std::rt::Files;
 
-/// Whether a file runs as its owner, and as its group.
-const SET_ID_BITS: u32 = 0o6000;
+/// What a mode may have where a file is another one's: not that it runs as its owner or its group.
+const UNOWNED_BITS: u32 = 0o1777;
 
 /// What a command writes in place of a target.
 #[derive(Drop)]
@@ -262,17 +263,21 @@ fn is_fixed(error: &io::Error) -> bool {
 }
 
 /// Returns who may do what with a file.
-fn mode_of(found: &Metadata) -> u32 {
+fn mode_of(found: &Metadata) -> u32
+    ensures { result ≡ bit_and (metadata_mode found.now) 0o7777 }
+{
     found.mode() & MODE_BITS
 }
 
 /// Gives a new file the owner and the group of one that it will replace, and returns the mode that it gets: without the set-ID
 /// bits where these are not kept.
-fn kept_of<F: OpenFile + SystemFile>(file: &F, found: &Metadata) -> (u32, Option<Loss>) {
-    let mode = mode_of(found);
+fn kept_of<F: OpenFile + SystemFile>(file: &F, found: &Metadata) -> (u32, Option<Loss>)
+    ensures kept { result.1 ≡ None → result.0 ≡ bit_and (metadata_mode found.now) 0o7777 }
+    ensures lost { result.1 ≢ None → result.0 ≡ bit_and (metadata_mode found.now) 0o1777 }
+{
     match give_owner(file, found) {
-        Ok(true) => (mode, None),
-        _ => (mode & !SET_ID_BITS, Some(Loss::Owner)),
+        Ok(true) => (mode_of(found), None),
+        _ => (found.mode() & UNOWNED_BITS, Some(Loss::Owner)),
     }
 }
 

@@ -37,7 +37,7 @@ fn problems_of_streams() {
         &[
             ("Stream", Problem::Stream(Y4mError::NoFrame)),
             ("TooLarge", Problem::TooLarge),
-            ("TooManyPixels", Problem::TooManyPixels(134_217_728)),
+            ("TooManyPixels", Problem::TooManyPixels(33_177_600)),
             ("EmptyCrop", Problem::EmptyCrop),
             ("CropOutside", Problem::CropOutside),
             ("CropMisaligned", Problem::CropMisaligned { columns: 4, rows: 1 }),
