@@ -20,7 +20,8 @@ TYPES = set("""
     ExactSizeIterator ExitCode Fn FnMut FnOnce Formatter From FusedIterator Global Hash HostRuntime Into IntoIter IntoIterator Item
     Iter Iterator LowerHex None NonZeroU8 Octal Ok Option Ord Ordering PartialEq PartialOrd Read Result Simd Some String UpperHex Vec
     Write Default Sized Output Drop Model
-    AllocGlobal BufReader Clock File Files Instant MetadataExt OpenFile OpenOptions PathBuf Permissions
+    AllocGlobal BufReader Clock File Files Instant Metadata MetadataExt OpenFile OpenOptions PathBuf Permissions PermissionsExt
+    TryLockError
 """.split())
 METHODS = set("""
     abs abs_diff alloc all as_bytes part_mut entry_mut into_values as_deref as_mut as_mut_slice as_ref as_slice cast ceil chars
@@ -32,7 +33,7 @@ METHODS = set("""
     to_le_bytes to_string transpose unsigned_abs unwrap unwrap_or wrapping_add wrapping_mul wrapping_neg wrapping_sub write write_char
     flush
     any append as_millis as_path as_str checked_sub dev elapsed encode_utf8 ino into_string is_ascii metadata permissions pop retain
-    rev set_permissions starts_with stderr stdin sync_all create_new is_file is_some_and
+    rev set_permissions set_len starts_with ends_with rsplit_once try_lock mode uid gid stderr stdin sync_all create_new is_file is_some_and
 """.split())
 MEMBERS = set("""
     AlignedData::new AlignedData::without_values ErrorKind::Interrupted ErrorKind::WriteZero ExitCode::FAILURE ExitCode::SUCCESS
@@ -43,7 +44,8 @@ MEMBERS = set("""
     u32x8::from_le_bytes u32x8::splat u64::MAX u64::from u8::from u8::try_from u8x16::from_slice u8x32::from_slice usize::MAX
     BufReader::new ExitCode::from Instant::now OpenOptions::new PathBuf::from_str env::args fs::create fs::metadata fs::open
     fs::read_link fs::remove_file fs::rename fs::File char::from_digit usize::try_from u64::try_from ErrorKind::AlreadyExists ErrorKind::FilesystemLoop ErrorKind::InvalidData
-    ErrorKind::NotFound
+    ErrorKind::NotFound ErrorKind::PermissionDenied ErrorKind::ReadOnlyFilesystem ErrorKind::ResourceBusy
+    Permissions::from_mode TryLockError::Error TryLockError::WouldBlock fs::canonicalize fs::symlink_metadata io::copy
     usize::from Simd::from_slice Ordering::Less Ordering::Equal Ordering::Greater
 """.split())
 LEFT_OVER = {"ghost", "requires", "ensures", "Drop", "Model", "Global", "alloc", "_alloc", "rt", "HostRuntime", "prove", "thiserror",

@@ -46,7 +46,8 @@ STD_NAMES = {
     **moved("crate::support::lanes", "Simd u8x16 u8x32 u16x8 u16x16 u32x8", "std::simd"),
     **moved("crate::support::numbers", """f32_to_f64_with_nan nearest_i64_to_f64 nearest_u64_to_f64 nearest_usize_to_f64
         saturating_f64_to_i64 saturating_f64_to_u64""", "std::num"),
-    **moved("std", "fs::File fs::Permissions io::BufReader os::unix::fs::MetadataExt"),
+    **moved("std", """fs::File fs::Metadata fs::Permissions fs::TryLockError io::BufReader os::unix::fs::MetadataExt
+        os::unix::fs::PermissionsExt os::unix::fs::fchown"""),
     **moved("yuv::support", "env fs fs::OpenFile fs::OpenOptions path::PathBuf time::Clock time::Instant"),
     "std::fmt::Write": "core::fmt::Write",
     "std::rt::Files": "yuv::support::fs::Files",
@@ -56,7 +57,7 @@ STD_NAMES = {
 }
 
 # Traits of Rust that are imported for their methods.
-STD_TRAITS = {"Read", "Write", "BufRead", "DerefSlice", "MetadataExt", "OpenFile"}
+STD_TRAITS = {"Read", "Write", "BufRead", "DerefSlice", "MetadataExt", "OpenFile", "PermissionsExt"}
 
 # What files may use without an import in Rattle, and need one for where there is no `std`: the word, and its path.
 PRELUDE = {"Vec": "alloc::vec::Vec", "String": "alloc::string::String"}

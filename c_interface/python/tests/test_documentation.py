@@ -12,7 +12,7 @@ import v_frame
 from v_frame import y4m
 
 #: What is neither called nor has anything to show.
-WITHOUT = {"Part", "Statistics", "PairStatistics", "Frames"}
+WITHOUT = {"Part", "Statistics", "PairStatistics", "Frames", "Greatest"}
 
 
 class Documentation(unittest.TestCase):

@@ -121,6 +121,73 @@ def parts_of(data):
     return found
 
 
+def narrow(value):
+    """A number rounded to a float of 32 bits."""
+    return struct.unpack("f", struct.pack("f", value))[0]
+
+
+def ssim_by_hand(a, b, depth):
+    """The mean over the windows with the roundings of ffmpeg's C code: above 8 bits a line is added up in floats of 32 bits."""
+    peak, total, across, down = (1 << depth) - 1, 0.0, len(a[0]) // 4 - 1, len(a) // 4 - 1
+    means, variances = ((factor * peak * peak + 5000) // 10000 for factor in (64, 36288))
+    for y in range(down):
+        line = 0.0
+        for x in range(across):
+            pairs = [(a[4 * y + j][4 * x + i], b[4 * y + j][4 * x + i]) for j in range(8) for i in range(8)]
+            s1, s2, products = sum(p for p, _ in pairs), sum(q for _, q in pairs), sum(p * q for p, q in pairs)
+            squares = sum(p * p + q * q for p, q in pairs)
+            covariance = narrow(128 * products - 2 * s1 * s2 + variances)
+            deviation = narrow(64 * squares - s1 * s1 - s2 * s2 + variances)
+            over = narrow(narrow(2 * s1 * s2 + means) * covariance)
+            line += narrow(over / narrow(narrow(s1 * s1 + s2 * s2 + means) * deviation))
+            line = line if depth == 8 else narrow(line)
+        total += line
+    return total / (across * down)
+
+
+class Measures(unittest.TestCase):
+    def test_similarity(self):
+        source = random.Random(78)
+        for depth, as_array in itertools.product((8, 9, 10, 16), {False, numpy is not None}):
+            width = source.choice((8, 13, 21))
+            rows = [[source.randrange(1 << depth) for _ in range(width)] for _ in range(11)]
+            near = [[max(it - source.randrange(9), 0) for it in row] for row in rows]
+            far = [[source.randrange(1 << depth) for _ in row] for row in rows]
+            for other in (rows, near, far):
+                a, b = (plane_of(it, depth, as_array) for it in (rows, other))
+                self.assertEqual(v_frame.ssim(a, b, depth), ssim_by_hand(rows, other, depth))
+                apart = [abs(p - q) for first, second in zip(rows, other) for p, q in zip(first, second)]
+                greatest = max(apart)
+                place = apart.index(greatest)
+                self.assertEqual(v_frame.greatest_difference(a, b), (greatest, place % len(rows[0]), place // len(rows[0])))
+                for threshold in (0, 3, greatest, 65535):
+                    self.assertEqual(v_frame.count_above(a, b, threshold), sum(it > threshold for it in apart))
+                self.assertEqual(v_frame.mse(a, b), sum(it * it for it in apart) / len(apart))
+
+    def test_similarity_of_frames(self):
+        source = random.Random(79)
+        for format, depth in (("420", 8), ("422", 10), ("444", 16), ("mono", 12)):
+            a, b = (random_frame(source, 17, 19, format, depth) for _ in "ab")
+            counts = [len(samples_of(it)) * len(samples_of(it)[0]) for it in a]
+            wanted = 0.0
+            for p, q, count in zip(a, b, counts):
+                wanted += count / sum(counts) * ssim_by_hand(samples_of(p), samples_of(q), depth)
+            self.assertEqual((v_frame.ssim(a, b), v_frame.ssim(a, b, depth), v_frame.ssim(a, a)), (wanted, wanted, 1.0))
+
+    def test_what_has_no_measure(self):
+        small, words = Plane(bytes(70), 10, 7), Plane(bytes(128), 8, 8, sample_size=2)
+        self.assertRaisesRegex(v_frame.SizesError, "window", v_frame.ssim, small, small)
+        for depth in (None, 7, 17, 8 + 256, 8.0):
+            self.assertRaises(Error, v_frame.ssim, words, words, depth)
+        for depth in (7, 10, 16):
+            self.assertRaises(Error, v_frame.ssim, Plane(bytes(64), 8, 8), Plane(bytes(64), 8, 8), depth)
+        for threshold in (-1, 65536, 1.5, None):
+            self.assertRaises(Error, v_frame.count_above, small, small, threshold)
+        for call in (v_frame.ssim, v_frame.greatest_difference, lambda a, b: v_frame.count_above(a, b, 1)):
+            for a, b in ((small, words), (small, Plane(bytes(80), 10, 8)), (Frame([small], "mono"), small), (small, None), (small, Plane(bytes(6), 10, 7))):
+                self.assertRaises(Error, call, a, b)
+
+
 class Pictures(unittest.TestCase):
     def test_png(self):
         source = random.Random(77)

@@ -23,16 +23,17 @@ from ._conversions import (COMPONENTS, blend, blend_with_mask, count_between, di
 from ._errors import AccessError, Error, KindError, NumberError, RowsError, SizesError, StatusError, StreamError, Y4mError
 from ._frames import Frame
 from ._library import VERSION
-from ._measures import mse, psnr
+from ._measures import Greatest, count_above, greatest_difference, mse, psnr, ssim
 from ._pictures import (ORDERS, RANGES, STANDARDS, TURNS, PairStatistics, Statistics, convert_depth, deinterleave, interleave,
                         pair_statistics, rgb, statistics, turn, upscale)
 from ._planes import Plane
 from ._png import write_png
 
 __version__ = VERSION
-__all__ = ["AccessError", "COMPONENTS", "Error", "FORMATS", "Frame", "KindError", "NumberError", "ORDERS", "PairStatistics", "Part",
-           "Plane", "RANGES", "RowsError", "STANDARDS", "SizesError", "Statistics", "StatusError", "StreamError", "TURNS", "VERSION", "Y4mError",
-           "blend", "blend_with_mask", "convert_depth", "copy", "count_between", "deinterleave", "difference", "downscale_to_edge",
-           "fill", "first_difference", "half", "halve_columns", "histogram", "interleave", "lay_out", "mse", "pad",
-           "pair_statistics", "psnr", "resize_area", "resize_nearest", "rgb", "sad", "sse", "statistics", "to_full_range",
-           "to_limited_range", "turn", "upscale", "write_png", "yuv"]
+__all__ = ["AccessError", "COMPONENTS", "Error", "FORMATS", "Frame", "Greatest", "KindError", "NumberError", "ORDERS",
+           "PairStatistics", "Part", "Plane", "RANGES", "RowsError", "STANDARDS", "SizesError", "Statistics", "StatusError",
+           "StreamError", "TURNS", "VERSION", "Y4mError", "blend", "blend_with_mask", "convert_depth", "copy", "count_above",
+           "count_between", "deinterleave", "difference", "downscale_to_edge", "fill", "first_difference", "greatest_difference",
+           "half", "halve_columns", "histogram", "interleave", "lay_out", "mse", "pad", "pair_statistics", "psnr", "resize_area",
+           "resize_nearest", "rgb", "sad", "sse", "ssim", "statistics", "to_full_range", "to_limited_range", "turn", "upscale",
+           "write_png", "yuv"]

@@ -44,6 +44,10 @@ class Statistics(ctypes.Structure):
                 ("maximum", ctypes.c_uint32)]
 
 
+class Greatest(ctypes.Structure):
+    _fields_ = [("x", ctypes.c_size_t), ("y", ctypes.c_size_t), ("difference", ctypes.c_uint32)]
+
+
 class Colours(ctypes.Structure):
     _fields_ = [("standard", ctypes.c_uint32), ("range", ctypes.c_uint32), ("order", ctypes.c_uint32)]
 
@@ -119,6 +123,10 @@ DIFFERENCE = _both("difference", _rows, _data, _size, ctypes.c_uint16, ctypes.c_
 HISTOGRAM = _both("histogram", ctypes.POINTER(ctypes.c_uint64), _size)
 COUNT_BETWEEN = {size: _export(f"v_frame_count_between_{kind}", value, value, ctypes.POINTER(ctypes.c_uint64))
                  for size, kind, value in ((1, "u8", ctypes.c_uint8), (2, "u16", ctypes.c_uint16))}
+SSIM = {1: _export("v_frame_ssim_u8", _rows, _data, _size, ctypes.POINTER(ctypes.c_double)),
+        2: _export("v_frame_ssim_u16", _rows, _data, _size, ctypes.c_uint32, ctypes.POINTER(ctypes.c_double))}
+GREATEST_DIFFERENCE = _both("greatest_difference", _rows, _data, _size, ctypes.POINTER(Greatest))
+COUNT_ABOVE = _both("count_above", _rows, _data, _size, ctypes.c_uint16, ctypes.POINTER(ctypes.c_uint64))
 LAY_OUT = export(_library, "v_frame_lay_out", ctypes.POINTER(Request), ctypes.POINTER(Parts))
 
 
@@ -132,5 +140,7 @@ def answered(status):
         raise NumberError("there is no such format")
     if status == 5:
         raise NumberError("a number is none that the library knows: a bit depth, a ratio, a weight or one of a choice")
+    if status == 8:
+        raise SizesError("a side of the planes is below 8: no window of 8 by 8 samples has room")
     if status != 0:
         raise StatusError(f"the library returned the status {status}, which this module does not know")

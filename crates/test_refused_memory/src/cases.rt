@@ -30,6 +30,7 @@ use crate::outcome::Outcome;
 use std::alloc::Global;
 use std::rt::Files;
 use std::time::Clock;
+use yuv_commands::SystemFile;
 
 /// A case.
 #[derive(Clone, Copy)]
@@ -166,7 +167,10 @@ static CASES: [(&str, Case); 61] = [
 ];
 
 /// What is seen in the case of this name.
-pub fn seen<H: Files + AllocGlobal + Clock>(rt: &H, name: &str) -> Outcome {
+pub fn seen<H: Files + AllocGlobal + Clock>(rt: &H, name: &str) -> Outcome
+where
+    H::File: SystemFile,
+{
     for (known, case) in &CASES {
         if *known == name {
             return seen_in(rt, *case);
@@ -176,7 +180,10 @@ pub fn seen<H: Files + AllocGlobal + Clock>(rt: &H, name: &str) -> Outcome {
 }
 
 /// What is seen in a case.
-fn seen_in<H: Files + AllocGlobal + Clock>(rt: &H, case: Case) -> Outcome {
+fn seen_in<H: Files + AllocGlobal + Clock>(rt: &H, case: Case) -> Outcome
+where
+    H::File: SystemFile,
+{
     match case {
         Case::YuvInfo
         | Case::YuvCompare

@@ -6,7 +6,7 @@ use std::fs;
 use std::io::{self, BufWriter, Read, Write};
 use std::rt::Files;
 use std::time::Clock;
-use yuv_commands::{Streams, run};
+use yuv_commands::{Streams, SystemFile, run};
 
 /// A run: its arguments, the files that stand for the standard streams, and how many bytes standard output takes.
 #[derive(Drop)]
@@ -22,7 +22,10 @@ pub fn run_cases<H: Files + AllocGlobal + Clock, R: Read + Drop, W: Write + Drop
     rt: &H,
     mut input: R,
     out: W,
-) -> io::Result<()> {
+) -> io::Result<()>
+where
+    H::File: SystemFile,
+{
     let mut text = String::new(rt.alloc());
     input.read_to_string(&mut text)?;
     let mut out = BufWriter::new(rt.alloc(), out)?;
@@ -65,7 +68,10 @@ fn run_case<H: Files + AllocGlobal + Clock, W: Write>(
     rt: &H,
     line: &str,
     out: &mut W,
-) -> io::Result<()> {
+) -> io::Result<()>
+where
+    H::File: SystemFile,
+{
     let alloc = rt.alloc();
     let case = case_of(alloc, line)?;
     let given = match case.input {

@@ -1,5 +1,6 @@
 -- What the options of a command ask of the streams.
-use Rattle.std.specs.Prelude.{ℕ, if◌then◌else◌, false, min, Option, Some, None, option_map, unwrap_or}
+use Rattle.std.specs.Prelude.{ℕ, ◌*◌, ◌≤◌, ◌<◌, if◌then◌else◌, false, min, Option, Some, None, option_map, unwrap_or, IfSome, IsSomeAnd}
+use Rattle.v_frame_y4m.specs.declared.header.StreamHeader.{StreamHeader}
 use Rattle.v_frame.specs.Prelude.{usize_max}
 use Rattle.yuv_streams.specs.declared.comparison.CompareOptions.{CompareOptions}
 use Rattle.yuv_streams.specs.declared.edit.Rectangle.{Rectangle}
@@ -15,10 +16,19 @@ use Rattle.yuv_words.specs.declared.command.PlaneName.TheVariants.{Y, U, V}
 use Rattle.yuv_words.specs.declared.command.Rectangle.{Rectangle as RectangleWords}
 use Rattle.yuv_words.specs.declared.command.ShowOptions.{ShowOptions as ShowWords}
 
--- the most pixels of luma that a picture may have: those of 15360x8640 and a little more, where
--- nobody says, and never more than can be counted
+-- the most pixels of luma that a picture may have: those of 7680x4320 where nobody says, and never
+-- more than can be counted
 abbrev pub most_pixels : Option ℕ → ℕ
-most_pixels asked = min (unwrap_or asked 134217728) usize_max
+most_pixels asked = min (unwrap_or asked 33177600) usize_max
+
+-- where a limit is asked for, pictures of this header have no more pixels of luma
+abbrev pub KeepsLimit : Option ℕ → StreamHeader → Type 0
+KeepsLimit asked header = IfSome asked (λ _. header.width * header.height ≤ most_pixels asked)
+
+-- a limit is asked for, and they have more
+abbrev pub ExceedsLimit : Option ℕ → StreamHeader → Type 0
+ExceedsLimit asked header =
+    IsSomeAnd asked (λ _. most_pixels asked < header.width * header.height)
 
 abbrev pub rectangle_of : RectangleWords → Rectangle
 rectangle_of part = record { x = part.x; y = part.y; width = part.width; height = part.height }

@@ -1,8 +1,8 @@
 //! The command `copy`: a stream is written once more.
-ghost use Rattle.std.specs.Prelude.{◌≡◌, ◌&&◌, unwrap_or, IfOk};
+ghost use Rattle.std.specs.Prelude.{◌≡◌, ◌&&◌, unwrap_or, IfOk, OnOk};
 ghost use Rattle.yuv_commands.specs.Facts.{has_fields};
 ghost use Rattle.yuv_commands.specs.Nothing.{nothing_of};
-ghost use Rattle.yuv_commands.specs.Options.{copy_of};
+ghost use Rattle.yuv_commands.specs.Options.{copy_of, KeepsLimit};
 ghost use Rattle.yuv_streams.specs.Prelude.{bytes_left, Copies};
 
 use crate::fault::Fault;
@@ -10,10 +10,11 @@ use crate::input::{begin, expected_frames};
 use crate::input_file::open_file;
 use crate::message::{shown_name, write_message};
 use crate::nothing::NothingTaken;
-use crate::options::{copy_sink, stream_copy};
+use crate::options::{copy_sink, stream_copy, test_limit};
 use crate::output::Output;
 use crate::program::Status;
 use crate::system::System;
+use crate::system_file::SystemFile;
 use std::alloc::Global;
 use std::io;
 use std::rt::Files;
@@ -30,6 +31,7 @@ pub(crate) fn do_copy<H, I, O, E>(
 ) -> Result<Status, Fault>
 where
     H: Files + AllocGlobal + Clock,
+    H::File: SystemFile,
     I: io::Read + Drop,
     O: io::Write,
     E: io::Write,
@@ -46,7 +48,7 @@ where
         );
     }
     system.progress.expect(expected_frames(&source, len));
-    let mut output = Output::open(rt, to, &[from], &mut system.output)?;
+    let mut output = Output::open(rt, to, &[from], &mut system.output, system.progress.out())?;
     let mut sink = copy_sink(options, &mut output);
     let done = copy_source(
         rt.alloc(),
@@ -90,7 +92,7 @@ fn nothing_copied(options: &CopyOptions, copied: u64, frames: u64) -> Option<Not
 ///
 /// # Errors
 ///
-/// Those of [`copy_stream`].
+/// Those of [`copy_stream`], and that of a picture that has more pixels than the options allow, also where none is made in memory.
 pub fn copy_source<R: io::Read, W: io::Write, P: Progress>(
     alloc: Global,
     source: &mut Source<R>,
@@ -102,7 +104,9 @@ pub fn copy_source<R: io::Read, W: io::Write, P: Progress>(
         (bytes_left R.remaining source.old) (bytes_left R.remaining source.new)
         (W.contents sink.old.writer.inner) (W.contents sink.new.writer.inner)
         sink.old.container (copy_of options.now) source.old.header source.old.layout) }
+    ensures small { OnOk result (KeepsLimit options.now.max_pixels source.old.header) }
 {
+    test_limit(source.header(), Place::First, options.max_pixels)?;
     let taken = stream_copy(options);
     copy_stream(alloc, source, sink, &taken, progress)
 }

@@ -15,6 +15,7 @@ use crate::output::{Output, is_standard_output};
 use crate::program::Status;
 use crate::report::{no_memory, write_made, write_text};
 use crate::system::System;
+use crate::system_file::SystemFile;
 use std::alloc::{AllocError, Global};
 use std::io;
 use std::rt::Files;
@@ -40,6 +41,7 @@ pub(crate) fn do_diff<H, I, O, E>(
 ) -> Result<Status, Fault>
 where
     H: Files + AllocGlobal + Clock,
+    H::File: SystemFile,
     I: io::Read + Drop,
     O: io::Write,
     E: io::Write,
@@ -49,7 +51,13 @@ where
     let mut one = begin(system, first, &mut file, options.raw)?;
     let mut other_file = open_file(rt, second, Place::Second, &mut system.input)?;
     let mut other = begin(system, second, &mut other_file, options.raw_second)?;
-    let mut output = Output::open(rt, to, &[first, second], &mut system.output)?;
+    let mut output = Output::open(
+        rt,
+        to,
+        &[first, second],
+        &mut system.output,
+        system.progress.out(),
+    )?;
     let done = match write_difference(rt.alloc(), &mut one, &mut other, options, &mut output) {
         Ok(drawn) => {
             let (_written, found) = drawn;

@@ -10,7 +10,7 @@ mod text;
 use crate::fault::Fault;
 use crate::input::{begin, expected_frames};
 use crate::input_file::open_file;
-use crate::options::{most_pixels, test_pixels};
+use crate::options::test_limit;
 use crate::program::Status;
 use crate::progress::ProgressLine;
 use crate::report::write_made;
@@ -40,13 +40,7 @@ where
     let mut file = open_file(system.rt, name, Place::First, &mut system.input)?;
     let len = file.len();
     let mut source = begin(system, name, &mut file, options.raw)?;
-    if options.max_pixels.is_some() {
-        test_pixels(
-            source.header(),
-            Place::First,
-            most_pixels(options.max_pixels),
-        )?;
-    }
+    test_limit(source.header(), Place::First, options.max_pixels)?;
     let mut out = Counted::new(&mut system.output);
     report_stream(
         alloc,

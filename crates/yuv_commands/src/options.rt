@@ -1,6 +1,6 @@
 //! What the options of a command ask of the streams.
 ghost use Rattle.std.specs.Prelude.{◌≡◌, ◌+◌, ◌*◌, ◌<◌, ◌≤◌, IfErr, IfOk, OnOk, Some, unwrap_or};
-ghost use Rattle.yuv_commands.specs.Options.{comparison_of, copy_of, most_pixels as most, rectangle_of, sink_container, taken_of};
+ghost use Rattle.yuv_commands.specs.Options.{comparison_of, copy_of, most_pixels as most, rectangle_of, sink_container, taken_of, ExceedsLimit, KeepsLimit};
 
 use crate::fault::Fault;
 use std::io::Write;
@@ -101,6 +101,21 @@ pub(crate) fn frames_before(number: Option<u64>) -> Result<u64, Fault>
     match number.unwrap_or(1).checked_sub(1) {
         Some(before) => Ok(before),
         None => Err(Fault::FrameZero),
+    }
+}
+
+/// Tests whether pictures of a header have no more pixels of luma than are asked for, where a limit is.
+pub(crate) fn test_limit(
+    header: &StreamHeader,
+    place: Place,
+    asked: Option<u64>,
+) -> Result<(), StreamError>
+    ensures ok { OnOk result (KeepsLimit asked header.now) }
+    ensures refused { IfErr result (λ _. ExceedsLimit asked header.now) }
+{
+    match asked {
+        Some(_) => test_pixels(header, place, most_pixels(asked)),
+        None => Ok(()),
     }
 }
 

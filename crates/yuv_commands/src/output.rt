@@ -1,7 +1,9 @@
 //! What a command writes to: a file that replaces its target, or standard output.
 
 use crate::fault::Fault;
+use crate::message::write_message;
 use crate::same_file::is_read;
+use crate::system_file::SystemFile;
 use crate::target::TargetFile;
 use std::fs::OpenFile;
 use std::io::{self, Write};
@@ -15,14 +17,17 @@ pub(crate) enum Output<'a, F, O> {
     Standard(&'a mut O),
 }
 
-impl<F: Write, O: Write> Write for Output<'_, F, O> {
+impl<F: Write + OpenFile, O: Write> Write for Output<'_, F, O> {
     ghost use Rattle.yuv_commands.specs.Outputs.{bytes_of_output};
 
     ghost contents = { bytes_of_output F.contents O.contents };
 
     fn write(&mut self, buf: &[u8]) -> io::Result<usize> {
         match self {
-            Output::File(to) => to.file.write(buf),
+            Output::File(to) => {
+                to.begin()?;
+                to.file.write(buf)
+            }
             Output::Standard(out) => out.write(buf),
         }
     }
@@ -41,14 +46,15 @@ pub(crate) fn is_standard_output(name: &str) -> bool {
     matches!(name, "-" | "/dev/stdout" | "/dev/fd/1" | "/proc/self/fd/1")
 }
 
-impl<'a, F: OpenFile + Drop, O> Output<'a, F, O> {
+impl<'a, F: OpenFile + SystemFile + Drop, O> Output<'a, F, O> {
     /// Opens a file that is written, or takes standard output for a name of it. One that is written where it stands must not be
-    /// one of those that are read.
-    pub(crate) fn open<H: Files<File = F> + AllocGlobal>(
+    /// one of those that are read. A message says what of a target can't be kept.
+    pub(crate) fn open<H: Files<File = F> + AllocGlobal, E: Write>(
         rt: &H,
         name: &str,
         inputs: &[&str],
         standard: &'a mut O,
+        messages: &mut E,
     ) -> Result<Self, Fault> {
         if is_standard_output(name) {
             return Ok(Output::Standard(standard));
@@ -64,11 +70,14 @@ impl<'a, F: OpenFile + Drop, O> Output<'a, F, O> {
                 }
             }
         }
+        if let Some(loss) = file.loss() {
+            write_message(messages, Some(name), &loss);
+        }
         Ok(Output::File(file))
     }
 
     /// Puts a file in the place of its target where all of it was written, and else removes it.
-    pub(crate) fn settle<H: Files, T: Drop>(
+    pub(crate) fn settle<H: Files<File = F>, T: Drop>(
         self,
         rt: &H,
         done: Result<T, Fault>,

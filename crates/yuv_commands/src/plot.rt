@@ -13,6 +13,7 @@ use crate::output::Output;
 use crate::program::Status;
 use crate::report::{no_memory, write_text};
 use crate::system::System;
+use crate::system_file::SystemFile;
 use std::alloc::{AllocError, Global};
 use std::io::{self, Write};
 use std::rt::Files;
@@ -36,6 +37,7 @@ pub(crate) fn do_plot<H, I, O, E>(
 ) -> Result<Status, Fault>
 where
     H: Files + AllocGlobal + Clock,
+    H::File: SystemFile,
     I: io::Read + Drop,
     O: io::Write,
     E: io::Write,
@@ -50,7 +52,13 @@ where
     let progress = &mut system.progress;
     let names = (first, second);
     let text = drawn(rt.alloc(), &mut one, &mut other, options, names, progress)?;
-    let mut output = Output::open(rt, to, &[first, second], &mut system.output)?;
+    let mut output = Output::open(
+        rt,
+        to,
+        &[first, second],
+        &mut system.output,
+        system.progress.out(),
+    )?;
     let done = write_drawn(&mut output, text.as_str());
     drop(text);
     output.settle(rt, done)

@@ -16,6 +16,7 @@ use crate::show::do_show;
 use crate::stats::do_stats;
 use crate::sum::do_sum;
 use crate::system::System;
+use crate::system_file::SystemFile;
 use std::io;
 use std::rt::Files;
 use std::time::Clock;
@@ -70,6 +71,7 @@ pub struct Streams<I, O, E> {
 pub fn run<H, I, O, E>(rt: &H, words: &[&str], streams: Streams<I, O, E>) -> Status
 where
     H: Files + AllocGlobal + Clock,
+    H::File: SystemFile,
     I: io::Read + Drop,
     O: io::Write + Drop,
     E: io::Write + Drop,
@@ -164,6 +166,7 @@ fn do_command<H, I, O, E>(
 ) -> Result<Status, Fault>
 where
     H: Files + AllocGlobal + Clock,
+    H::File: SystemFile,
     I: io::Read + Drop,
     O: io::Write,
     E: io::Write,

@@ -9,10 +9,11 @@ ghost use Rattle.yuv_streams.specs.Prelude.{bytes_left, stream_of};
 use crate::fault::Fault;
 use crate::input::begin;
 use crate::input_file::open_file;
-use crate::options::{frames_before, most_pixels, stream_rectangle};
+use crate::options::{frames_before, most_pixels, stream_rectangle, test_pixels};
 use crate::output::Output;
 use crate::program::Status;
 use crate::system::System;
+use crate::system_file::SystemFile;
 use std::alloc::Global;
 use std::io;
 use std::rt::Files;
@@ -36,6 +37,7 @@ pub(crate) fn do_show<H, I, O, E>(
 ) -> Result<Status, Fault>
 where
     H: Files + AllocGlobal + Clock,
+    H::File: SystemFile,
     I: io::Read + Drop,
     O: io::Write,
     E: io::Write,
@@ -43,7 +45,10 @@ where
     let rt = system.rt;
     let mut file = open_file(rt, from, Place::First, &mut system.input)?;
     let mut source = begin(system, from, &mut file, options.raw)?;
-    let mut output = Output::open(rt, to, &[from], &mut system.output)?;
+    // A frame that is shown whole is read before there is a picture of it, which tests its size.
+    let most = most_pixels(options.max_pixels);
+    test_pixels(source.header(), Place::First, most)?;
+    let mut output = Output::open(rt, to, &[from], &mut system.output, system.progress.out())?;
     let shown = if source.header().colour.bit_depth() == 8 {
         show_frame::<u8, _, _>(rt.alloc(), &mut source, options, &mut output)
     } else {

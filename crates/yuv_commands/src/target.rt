@@ -1,15 +1,17 @@
 //! Files that a command writes. The frames go to a new file beside the target, which replaces the target when it is whole.
+ghost use Rattle.std.specs.Prelude.{◌≡◌};
 
-use std::fs::{self, OpenFile, OpenOptions, Permissions};
+use crate::destination::{Destination, resolve_links};
+use crate::partial::{MODE_BITS, PartialFile, finish, open_for_writing};
+use crate::system_file::SystemFile;
+use std::fmt;
+use std::fs::{self, Metadata, OpenFile, OpenOptions};
 use std::io::{self, ErrorKind};
-use std::path::PathBuf;
+use std::os::unix::fs::MetadataExt;
 use std::rt::Files;
 
-/// How many symbolic links may lead from a name to its file, as for the system.
-const MOST_LINKS: u32 = 40;
-
-/// How many names are tried for the file beside a target.
-const MOST_NAMES: u32 = 100;
+/// Whether a file runs as its owner, and as its group.
+const SET_ID_BITS: u32 = 0o6000;
 
 /// What a command writes in place of a target.
 #[derive(Drop)]
@@ -18,6 +20,10 @@ pub struct TargetFile<F> {
     pub file: F,
     /// How the file replaces the target, where it is not the target itself.
     replacement: Option<Replacement>,
+    /// Whether the file is a target that is rewritten, and has its old bytes yet.
+    is_untouched: bool,
+    /// What of the target can't be kept.
+    loss: Option<Loss>,
 }
 
 /// A new file, and the one that it is to replace.
@@ -27,35 +33,72 @@ struct Replacement {
     partial: String,
     /// The name of the target, after all links.
     target: String,
+    /// Who may do what with the new file when it is whole.
+    mode: u32,
     /// Whether there is a target now.
     is_there: bool,
 }
 
-impl<F: OpenFile + Drop> TargetFile<F> {
+/// What of a target can't be kept.
+#[derive(Clone, Copy)]
+pub(crate) enum Loss {
+    /// No file can be made beside it, so it is lost should the run fail.
+    Bytes,
+    /// Its owner or its group.
+    Owner,
+}
+
+impl fmt::Display for Loss {
+    fn fmt<W: fmt::Write>(&self, f: &mut fmt::Formatter<W>) -> fmt::Result {
+        f.write_str(match self {
+            Loss::Bytes =>
+                "no file can be made beside it, so it is rewritten, and lost if that fails",
+            Loss::Owner => "its owner or group cannot be kept, so set-ID bits are dropped",
+        })
+    }
+}
+
+impl<F: OpenFile> TargetFile<F> {
+    /// Returns whether the file is the target itself.
+    pub(crate) fn is_written_in_place(&self) -> bool {
+        self.replacement.is_none()
+    }
+
+    /// Returns what of the target can't be kept.
+    pub(crate) fn loss(&self) -> Option<Loss> {
+        self.loss
+    }
+
+    /// Takes the old bytes from a target that is rewritten.
+    pub(crate) fn begin(&mut self) -> io::Result<()>
+        ensures { self.new.file ≡ self.old.file }
+    {
+        if self.is_untouched {
+            self.file.set_len(0)?;
+            self.is_untouched = false;
+        }
+        Ok(())
+    }
+}
+
+impl<F: OpenFile + SystemFile + Drop> TargetFile<F> {
     /// Opens a new file beside the target of this name. A target that is no regular file, as a device or a pipe, is opened
-    /// itself.
+    /// itself, and so is what a process has open.
     ///
     /// # Errors
     ///
     /// The system's, where the target or the new file can't be opened for writing. Nothing has changed then.
     pub fn create<H: Files<File = F> + AllocGlobal>(rt: &H, name: &str) -> io::Result<Self> {
         match fs::metadata(rt, name) {
-            Ok(found) if found.is_file() => {
-                if is_open_already(name) {
-                    return Self::open_at_end(rt, name);
-                }
-                let target = resolve_links(rt, name)?;
-                if is_open_already(target.as_str()) {
-                    return Self::open_at_end(rt, name);
-                }
-                open_for_writing(rt, target.as_str())?;
-                Self::create_beside(rt, target, Some(found.permissions()))
-            }
+            Ok(found) if found.is_file() => match resolve_links(rt, name)? {
+                Destination::OpenFile => Self::open_at_end(rt, name),
+                Destination::Name(target) => Self::replace(rt, target, &found),
+            },
             Ok(_) => Self::open_directly(rt, name),
-            Err(error) if error.kind() == ErrorKind::NotFound => {
-                let target = resolve_links(rt, name)?;
-                Self::create_beside(rt, target, None)
-            }
+            Err(error) if error.kind() == ErrorKind::NotFound => match resolve_links(rt, name)? {
+                Destination::OpenFile => Err(error),
+                Destination::Name(target) => Self::create_beside(rt, target, None),
+            },
             Err(error) => Err(error),
         }
     }
@@ -64,146 +107,185 @@ impl<F: OpenFile + Drop> TargetFile<F> {
     fn open_at_end<H: Files<File = F>>(rt: &H, name: &str) -> io::Result<Self> {
         let mut options = OpenOptions::new();
         options.append(true);
-        Ok(TargetFile {
-            file: options.open(rt, name)?,
-            replacement: None,
-        })
+        Ok(Self::of_target(options.open(rt, name)?))
     }
 
     /// Opens the target itself.
     fn open_directly<H: Files<File = F>>(rt: &H, name: &str) -> io::Result<Self> {
-        let file = fs::create(rt, name)?;
-        Ok(TargetFile {
-            file,
-            replacement: None,
-        })
+        Ok(Self::of_target(fs::create(rt, name)?))
     }
 
-    /// Opens a new file beside the target, with the permissions of one that it will replace.
+    /// Takes the target itself.
+    fn of_target(file: F) -> Self {
+        TargetFile {
+            file,
+            replacement: None,
+            is_untouched: false,
+            loss: None,
+        }
+    }
+
+    /// Opens a new file beside a target that is there, or the target where none can be made beside it.
+    fn replace<H: Files<File = F> + AllocGlobal>(
+        rt: &H,
+        target: String,
+        found: &Metadata,
+    ) -> io::Result<Self> {
+        let file = open_for_writing(rt, target.as_str())?;
+        match Self::create_beside(rt, target, Some(found)) {
+            Err(error) if takes_no_files(&error) => Ok(TargetFile {
+                file,
+                replacement: None,
+                is_untouched: true,
+                loss: Some(Loss::Bytes),
+            }),
+            created => created,
+        }
+    }
+
+    /// Opens a new file beside the target, with the mode, owner and group of one that it will replace.
     fn create_beside<H: Files<File = F> + AllocGlobal>(
         rt: &H,
         target: String,
-        permissions: Option<Permissions>,
+        found: Option<&Metadata>,
     ) -> io::Result<Self> {
-        let is_there = permissions.is_some();
-        let (file, partial) = create_partial(rt, target.as_str())?;
-        let created = TargetFile {
-            file,
-            replacement: Some(Replacement {
-                partial,
-                target,
-                is_there,
-            }),
+        let wanted = found.map(mode_of);
+        let made = PartialFile::create(rt, target.as_str(), wanted)?;
+        let (mode, loss) = match found {
+            Some(found) => kept_of(&made.file, found),
+            None => (made.mode, None),
         };
-        if let Some(permissions) = permissions {
-            if let Err(error) = created.file.set_permissions(permissions) {
-                created.discard(rt);
-                return Err(error);
-            }
-        }
-        Ok(created)
-    }
-
-    /// Returns whether the file is the target itself.
-    pub(crate) fn is_written_in_place(&self) -> bool {
-        self.replacement.is_none()
+        Ok(TargetFile {
+            file: made.file,
+            replacement: Some(Replacement {
+                partial: made.name,
+                target,
+                mode,
+                is_there: found.is_some(),
+            }),
+            is_untouched: false,
+            loss,
+        })
     }
 
     /// Puts the file in the place of the target.
     ///
     /// # Errors
     ///
-    /// The system's. The target is then as it was, and the new file is gone.
-    pub fn keep<H: Files>(self, rt: &H) -> io::Result<()> {
-        let TargetFile { file, replacement } = self;
-        let Some(replacement) = replacement else {
-            return Ok(());
-        };
-        // What stood there is lost by the renaming, so what replaces it has to be on the disk.
-        let synced = if replacement.is_there {
-            file.sync_all()
-        } else {
-            Ok(())
-        };
-        drop(file);
-        let kept = match synced {
-            Ok(()) => fs::rename(
-                rt,
-                replacement.partial.as_str(),
-                replacement.target.as_str(),
-            ),
-            Err(error) => Err(error),
-        };
-        if kept.is_err() {
-            let _ = fs::remove_file(rt, replacement.partial.as_str());
+    /// The system's. The target is then as it was, and the new file is gone; but where the target can't be replaced, only
+    /// rewritten, and that failed, the new file stays.
+    pub fn keep<H: Files<File = F>>(mut self, rt: &H) -> io::Result<()> {
+        let begun = self.begin();
+        let TargetFile {
+            file,
+            replacement,
+            is_untouched: _,
+            loss: _,
+        } = self;
+        match replacement {
+            Some(replacement) => replacement.put(rt, file),
+            None => begun,
         }
-        kept
     }
 
     /// Removes the new file, and leaves the target as it was.
     pub fn discard<H: Files>(self, rt: &H) {
-        let TargetFile { file, replacement } = self;
-        drop(file);
+        let TargetFile {
+            file,
+            replacement,
+            is_untouched: _,
+            loss: _,
+        } = self;
         if let Some(replacement) = replacement {
             let _ = fs::remove_file(rt, replacement.partial.as_str());
         }
+        // Until its name is gone no other run may take the file over.
+        drop(file);
     }
 }
 
-/// Returns whether a name is one that the system has for what a process has open, as `/dev/fd/3`. A file behind it has other
-/// names, but who has it open goes on with that very file.
-fn is_open_already(name: &str) -> bool {
-    name.starts_with("/proc/") || name.starts_with("/dev/fd/")
-}
-
-/// Sees that a file may be written, and changes nothing.
-fn open_for_writing<H: Files>(rt: &H, name: &str) -> io::Result<()> {
-    let mut options = OpenOptions::new();
-    options.write(true);
-    options.open(rt, name)?;
-    Ok(())
-}
-
-/// Returns the name that a name leads to through symbolic links, whether there is a file or not.
-fn resolve_links<H: Files + AllocGlobal>(rt: &H, name: &str) -> io::Result<String> {
-    let mut path = PathBuf::from_str(rt.alloc(), name)?;
-    for _ in 0..MOST_LINKS {
-        if is_open_already(path.as_path().as_str()) {
-            return Ok(path.into_string());
-        }
-        match fs::read_link(rt, path.as_path()) {
-            Ok(link) => {
-                // The link is reported from the folder that it is in, or from the root.
-                path.pop();
-                path.push(link.as_path())?;
-            }
-            // It is no link, or there is nothing.
-            Err(_) => return Ok(path.into_string()),
-        }
-    }
-    Err(io::Error::from(ErrorKind::FilesystemLoop))
-}
-
-/// Creates a file beside a target: with the target's name and an ending, and a number where there is such a file already.
-fn create_partial<H: Files + AllocGlobal>(rt: &H, target: &str) -> io::Result<(H::File, String)> {
-    for number in 0..MOST_NAMES {
-        let partial = if number == 0 {
-            format!(in rt.alloc(); "{target}.partial")?
-        } else {
-            format!(in rt.alloc(); "{target}.partial{number}")?
+impl Replacement {
+    /// Puts the new file in the place of the target.
+    fn put<H: Files>(self, rt: &H, file: H::File) -> io::Result<()> {
+        let (partial, target) = (self.partial.as_str(), self.target.as_str());
+        let put = match self.finish(&file) {
+            Ok(()) => fs::rename(rt, partial, target),
+            Err(error) => Err(error),
         };
-        match create_new(rt, partial.as_str()) {
-            Ok(file) => return Ok((file, partial)),
-            Err(error) if error.kind() == ErrorKind::AlreadyExists => {}
-            Err(error) => return Err(error),
+        drop(file);
+        match put {
+            Ok(()) => Ok(()),
+            // Where something is mounted, or its folder lets nobody else remove it, the target stays the file that it is.
+            Err(error) if self.is_there && is_fixed(&error) => rewrite(rt, partial, target),
+            Err(error) => {
+                let _ = fs::remove_file(rt, partial);
+                Err(error)
+            }
         }
     }
-    Err(io::Error::from(ErrorKind::AlreadyExists))
+
+    /// Says who may do what with the new file. What stands in its place is lost by the renaming, so what replaces it has to be on
+    /// the disk.
+    fn finish<F: OpenFile>(&self, file: &F) -> io::Result<()> {
+        finish(file, self.mode)?;
+        if self.is_there {
+            file.sync_all()?;
+        }
+        Ok(())
+    }
 }
 
-/// Creates a file where there is none of this name.
-fn create_new<H: Files>(rt: &H, name: &str) -> io::Result<H::File> {
-    let mut options = OpenOptions::new();
-    options.write(true).create_new(true);
-    options.open(rt, name)
+/// Writes what a file has into a target, and removes it. Where that fails, the file stays, for it is whole.
+fn rewrite<H: Files>(rt: &H, partial: &str, target: &str) -> io::Result<()> {
+    let mut from = fs::open(rt, partial)?;
+    let mut to = open_for_writing(rt, target)?;
+    to.set_len(0)?;
+    io::copy(&mut from, &mut to)?;
+    to.sync_all()?;
+    fs::remove_file(rt, partial)
+}
+
+/// Returns whether a folder takes no new file.
+fn takes_no_files(error: &io::Error) -> bool {
+    matches!(
+        error.kind(),
+        ErrorKind::PermissionDenied | ErrorKind::ReadOnlyFilesystem | ErrorKind::NotFound
+    )
+}
+
+/// Returns whether a name can't get another file.
+fn is_fixed(error: &io::Error) -> bool {
+    matches!(
+        error.kind(),
+        ErrorKind::ResourceBusy | ErrorKind::PermissionDenied
+    )
+}
+
+/// Returns who may do what with a file.
+fn mode_of(found: &Metadata) -> u32 {
+    found.mode() & MODE_BITS
+}
+
+/// Gives a new file the owner and the group of one that it will replace, and returns the mode that it gets: without the set-ID
+/// bits where these are not kept.
+fn kept_of<F: OpenFile + SystemFile>(file: &F, found: &Metadata) -> (u32, Option<Loss>) {
+    let mode = mode_of(found);
+    match give_owner(file, found) {
+        Ok(true) => (mode, None),
+        _ => (mode & !SET_ID_BITS, Some(Loss::Owner)),
+    }
+}
+
+/// Gives a new file the owner and the group of another one, or the group alone. Returns whether it has both.
+fn give_owner<F: OpenFile + SystemFile>(file: &F, found: &Metadata) -> io::Result<bool> {
+    let own = file.metadata()?;
+    if !has_owner(&own, found) && file.give_to(found.uid(), found.gid()).is_err() {
+        let _ = file.give_to(own.uid(), found.gid());
+    }
+    Ok(has_owner(&file.metadata()?, found))
+}
+
+/// Returns whether two files have one owner and one group.
+fn has_owner(one: &Metadata, other: &Metadata) -> bool {
+    one.uid() == other.uid() && one.gid() == other.gid()
 }

@@ -38,7 +38,7 @@ pub enum Problem {
     #[error("the frames are too large")]
     TooLarge,
     /// A picture has more pixels than may be made in memory.
-    #[error("the picture has more than {0} pixels")]
+    #[error("the picture has more than {0} luma pixels; --max-pixels N allows more")]
     TooManyPixels(usize),
     /// The crop has no column or no row.
     #[error("the crop is empty")]

@@ -1,7 +1,7 @@
 //! What a stream is.
 
-/// How many bytes move at once where no frame is made.
-pub(crate) const BLOCK: usize = 131072;
+/// How many bytes move at once where no frame is made. They are on the stack, of which a program may have little.
+pub(crate) const BLOCK: usize = 16384;
 
 /// How a stream holds its frames.
 #[derive(Debug, Clone, Copy, PartialEq, Eq)]

@@ -65,7 +65,7 @@ Frames have the numbers that they have in the first file.
 --raw R           the first file is headerless raw video: R is
                   WIDTHxHEIGHT:FORMAT, as 1920x1080:yuv420p10le
 --raw-second R    so is the second file
---max-pixels N    refuses frames of more than N luma pixels (134217728)
+--max-pixels N    refuses frames of more than N luma pixels (33177600)
 --progress        shows the count of frames meanwhile, on a terminal
 ";
 
@@ -73,8 +73,17 @@ Frames have the numbers that they have in the first file.
 const COPY: &str = "usage: yuv copy FILE FILE [OPTIONS]
 
 Writes the frames of the first file to the second. They go to a new file beside
-the second one, FILE.partial, which replaces it after the last frame. A device or
-a pipe is written as it is. Parameters of FRAME lines are not kept.
+the second one, FILE.partial, which replaces it after the last frame, with its
+mode, owner and group. Where owner or group cannot be kept, set-ID bits are
+dropped, and a message says so. Where a run was ended by a signal, FILE.partial
+is left, with the sticky bit as a mark, and the next run takes it over. Where
+another run holds it, or it has no mark, FILE.partial1 to 99 are tried; names
+above 255 bytes are cut. Where no file can be made beside FILE, a message says
+so, and FILE is rewritten. Where it cannot be replaced, as a file that is mounted,
+the new one is copied into it. A device, a pipe, or what is itself open, as
+/dev/fd/3, is written as it is: standard output from where it stands, other open
+files at their end, by a position of their own. Parameters of FRAME lines are not
+kept.
 
 --skip N          passes over the first N frames
 --count N         writes N frames at most
@@ -89,7 +98,8 @@ a pipe is written as it is. Parameters of FRAME lines are not kept.
 --raw R           the first file is headerless raw video: R is
                   WIDTHxHEIGHT:FORMAT or WIDTHxHEIGHT:FORMAT@N:D
 --raw-output      writes headerless raw video
---max-pixels N    refuses frames of more than N luma pixels (134217728)
+--max-pixels N    refuses frames of more than N luma pixels (33177600 where
+                  samples change, else any number)
 --progress        shows the count of frames meanwhile, on a terminal
 ";
 
@@ -103,7 +113,7 @@ compute it, samples of more than 8 bits as two bytes, the low one first.
 --skip N          passes over the first N frames
 --count N         takes N frames at most
 --raw R           the file is headerless raw video: R is WIDTHxHEIGHT:FORMAT
---max-pixels N    refuses frames of more than N luma pixels (134217728)
+--max-pixels N    refuses frames of more than N luma pixels (33177600)
 --progress        shows the count of frames meanwhile, on a terminal
 ";
 
@@ -118,7 +128,7 @@ and how many samples are outside the nominal range: 16 to 235 for luma and 16 to
 --skip N          passes over the first N frames
 --count N         takes N frames at most
 --raw R           the file is headerless raw video: R is WIDTHxHEIGHT:FORMAT
---max-pixels N    refuses frames of more than N luma pixels (134217728)
+--max-pixels N    refuses frames of more than N luma pixels (33177600)
 --progress        shows the count of frames meanwhile, on a terminal
 ";
 
@@ -134,7 +144,7 @@ Writes a frame as a PNG: in colour with 8 bits, or in grey.
 --crop X,Y,WIDTH,HEIGHT
                   shows a rectangle, in luma pixels
 --raw R           the file is headerless raw video: R is WIDTHxHEIGHT:FORMAT
---max-pixels N    refuses frames of more than N luma pixels (134217728)
+--max-pixels N    refuses frames of more than N luma pixels (33177600)
 ";
 
 /// How `diff` is called.
@@ -149,7 +159,7 @@ picture goes to standard output. Status 0: they show the same, 1: they differ.
 --raw R           the first file is headerless raw video: R is
                   WIDTHxHEIGHT:FORMAT
 --raw-second R    so is the second file
---max-pixels N    refuses frames of more than N luma pixels (134217728)
+--max-pixels N    refuses frames of more than N luma pixels (33177600)
 ";
 
 /// How `plot` is called.
@@ -165,7 +175,7 @@ plane by plane, as SVG.
 --raw R           the first file is headerless raw video: R is
                   WIDTHxHEIGHT:FORMAT
 --raw-second R    so is the second file
---max-pixels N    refuses frames of more than N luma pixels (134217728)
+--max-pixels N    refuses frames of more than N luma pixels (33177600)
 --progress        shows the count of frames meanwhile, on a terminal
 ";
 

@@ -4,7 +4,7 @@ use super::Case;
 use crate::outcome::Outcome;
 use std::rt::Files;
 use std::time::Clock;
-use yuv_commands::{Streams, run};
+use yuv_commands::{Streams, SystemFile, run};
 
 /// A run: its arguments, how it ends, and what it writes. The stream is its standard input.
 struct Run {
@@ -93,7 +93,10 @@ V: minimum 52, maximum 122, mean 107.36, outside the nominal range 0\n",
 };
 
 /// A run of `yuv`. Where memory is refused, it says so on standard error and ends with status 2.
-pub fn run_of_yuv<H: Files + AllocGlobal + Clock>(rt: &H, case: Case) -> Outcome {
+pub fn run_of_yuv<H: Files + AllocGlobal + Clock>(rt: &H, case: Case) -> Outcome
+where
+    H::File: SystemFile,
+{
     seen_of(
         rt,
         match case {
@@ -109,7 +112,10 @@ pub fn run_of_yuv<H: Files + AllocGlobal + Clock>(rt: &H, case: Case) -> Outcome
 }
 
 /// What is seen of a run.
-fn seen_of<H: Files + AllocGlobal + Clock>(rt: &H, wanted: &Run) -> Outcome {
+fn seen_of<H: Files + AllocGlobal + Clock>(rt: &H, wanted: &Run) -> Outcome
+where
+    H::File: SystemFile,
+{
     let mut room = [0; 500];
     let mut error = [0; 200];
     let streams = Streams {

@@ -4,6 +4,7 @@ use super::HostRuntime;
 use super::path::PathBuf;
 use std::fs::{self, File, Metadata, Permissions};
 use std::io::{self, ErrorKind, Read, Write};
+use std::path;
 
 /// What opens files.
 pub trait Files {
@@ -30,6 +31,9 @@ pub trait OpenFile {
     /// Says who may read and write the file.
     fn set_permissions(&self, permissions: Permissions) -> io::Result<()>;
 
+    /// Cuts the file, or fills it with zeros, to so many bytes.
+    fn set_len(&self, len: u64) -> io::Result<()>;
+
     /// Waits until what was written is on the disk.
     fn sync_all(&self) -> io::Result<()>;
 }
@@ -41,6 +45,10 @@ impl OpenFile for File {
 
     fn set_permissions(&self, permissions: Permissions) -> io::Result<()> {
         File::set_permissions(self, permissions)
+    }
+
+    fn set_len(&self, len: u64) -> io::Result<()> {
+        File::set_len(self, len)
     }
 
     fn sync_all(&self) -> io::Result<()> {
@@ -100,13 +108,32 @@ pub fn metadata<H: Files>(_rt: &H, name: &str) -> io::Result<Metadata> {
     fs::metadata(name)
 }
 
+/// Returns what the system knows of what has this name itself, be it a symbolic link.
+pub fn symlink_metadata<H: Files>(_rt: &H, name: &str) -> io::Result<Metadata> {
+    fs::symlink_metadata(name)
+}
+
+/// Returns the name from the root on of the file that a name leads to, with no link in it.
+///
+/// # Errors
+///
+/// The system's, and that of a name that is not UTF-8.
+pub fn canonicalize<H: Files>(_rt: &H, name: &str) -> io::Result<PathBuf> {
+    utf8_name(fs::canonicalize(name)?)
+}
+
 /// Returns the name that a symbolic link holds.
 ///
 /// # Errors
 ///
 /// The system's, and that of a name that is not UTF-8.
 pub fn read_link<H: Files>(_rt: &H, name: impl AsRef<str>) -> io::Result<PathBuf> {
-    match fs::read_link(name.as_ref())?.into_os_string().into_string() {
+    utf8_name(fs::read_link(name.as_ref())?)
+}
+
+/// Returns a name that is UTF-8.
+fn utf8_name(name: path::PathBuf) -> io::Result<PathBuf> {
+    match name.into_os_string().into_string() {
         Ok(text) => Ok(PathBuf::from(text)),
         Err(_) => Err(io::Error::from(ErrorKind::InvalidData)),
     }

@@ -6,8 +6,10 @@ use crate::generated::yuv_commands::frame_report::FrameReport;
 use crate::generated::yuv_commands::input::{begin, expected_frames};
 use crate::generated::yuv_commands::input_file::open_file;
 use crate::generated::yuv_commands::measures::{Means, Scale};
+use crate::generated::yuv_commands::nothing::test_compared;
 use crate::generated::yuv_commands::options::stream_comparison;
 use crate::generated::yuv_commands::program::Status;
+use crate::generated::yuv_commands::progress::ProgressLine;
 use crate::generated::yuv_commands::system::System;
 use std::io;
 use crate::support::fs::Files;
@@ -49,19 +51,27 @@ where
 }
 
 /// Reports how far two streams are apart, and returns the writer and what was found.
-fn report_comparison<R: io::Read, S: io::Read, W: io::Write, P: Progress>(
+fn report_comparison<R: io::Read, S: io::Read, W: io::Write, H: Clock, E: io::Write>(
     first: &mut Source<R>,
     second: &mut Source<S>,
     options: &CompareOptions,
     out: W,
-    progress: &mut P,
+    progress: &mut ProgressLine<'_, H, E>,
 ) -> Result<(W, Comparison), Fault> {
     let report = Report::new(report_form(options), lists_frames(options));
     let scale = scale_of(first.header(), options);
-    let mut observer = FrameReport::new(out, report, scale, means_of(options));
+    let before = first_taken(options);
+    let mut observer = FrameReport::new(out, report, scale, means_of(options), before);
     let found = compare_sources(first, second, options, &mut observer, progress)?;
+    test_compared(&found, first, second, &stream_comparison(options))?;
+    progress.end();
     observer.end(&found)?;
     Ok((observer.into_out(), found))
+}
+
+/// Returns how many frames of the first stream stand before the first one that is compared.
+fn first_taken(options: &CompareOptions) -> u64 {
+    options.skip.unwrap_or(0)
 }
 
 /// Returns what the measures of a report are made of besides the errors.

@@ -4,13 +4,17 @@
 use crate::generated::yuv_commands::fault::Fault;
 use crate::generated::yuv_commands::input::{begin, expected_frames};
 use crate::generated::yuv_commands::input_file::open_file;
-use crate::generated::yuv_commands::options::{copy_sink, stream_copy};
+use crate::generated::yuv_commands::message::{shown_name, write_message};
+use crate::generated::yuv_commands::nothing::NothingTaken;
+use crate::generated::yuv_commands::options::{copy_sink, stream_copy, test_limit};
 use crate::generated::yuv_commands::output::Output;
 use crate::generated::yuv_commands::program::Status;
 use crate::generated::yuv_commands::system::System;
+use crate::generated::yuv_commands::system_file::SystemFile;
 use std::io;
 use crate::support::fs::Files;
 use crate::support::time::Clock;
+use v_frame_proved::y4m::{Interlacing, StreamHeader};
 use crate::generated::yuv_streams::{Place, Progress, Sink, Source, StreamError, copy_stream};
 use crate::generated::yuv_words::CopyOptions;
 
@@ -22,6 +26,7 @@ pub(crate) fn do_copy<H, I, O, E>(
 ) -> Result<Status, Fault>
 where
     H: Files + Clock,
+    H::File: SystemFile,
     I: io::Read,
     O: io::Write,
     E: io::Write,
@@ -30,8 +35,15 @@ where
     let mut file = open_file(rt, from, Place::First, &mut system.input)?;
     let len = file.len();
     let mut source = begin(system, from, &mut file, options.raw)?;
+    if blends_fields(options, source.header()) {
+        write_message(
+            system.progress.out(),
+            Some(shown_name(from)),
+            &"--half blends the fields of interlaced video",
+        );
+    }
     system.progress.expect(expected_frames(&source, len));
-    let mut output = Output::open(rt, to, &[from], &mut system.output)?;
+    let mut output = Output::open(rt, to, &[from], &mut system.output, system.progress.out())?;
     let mut sink = copy_sink(options, &mut output);
     let done = copy_source(
         &mut source,
@@ -41,23 +53,43 @@ where
     );
     drop(sink);
     let done = match done {
-        Ok(_frames) => Ok(Status::Same),
+        Ok(frames) => Ok(frames),
         Err(error) => Err(Fault::Stream(error)),
     };
-    output.settle(rt, done)
+    let frames = output.settle(rt, done)?;
+    if let Some(nothing) = nothing_copied(options, frames, source.frames()) {
+        system.progress.end();
+        write_message(system.progress.out(), Some(shown_name(from)), &nothing);
+    }
+    Ok(Status::Same)
+}
+
+/// Returns whether a copy makes one row of two that are of two fields, which are of two moments.
+fn blends_fields(options: &CopyOptions, header: &StreamHeader) -> bool {
+    let has_fields = matches!(
+        header.interlacing,
+        Some(Interlacing::TopFirst | Interlacing::BottomFirst | Interlacing::Mixed)
+    );
+    options.half && has_fields
+}
+
+/// Returns why no frame was copied, where so many of a stream of so many are none.
+fn nothing_copied(options: &CopyOptions, copied: u64, frames: u64) -> Option<NothingTaken> {
+    NothingTaken::of(copied, frames, options.skip.unwrap_or(0), options.count)
 }
 
 /// Writes a stream once more as the options say, and counts the frames that are written.
 ///
 /// # Errors
 ///
-/// Those of [`copy_stream`].
+/// Those of [`copy_stream`], and that of a picture that has more pixels than the options allow, also where none is made in memory.
 pub fn copy_source<R: io::Read, W: io::Write, P: Progress>(
     source: &mut Source<R>,
     sink: &mut Sink<W>,
     options: &CopyOptions,
     progress: &mut P,
 ) -> Result<u64, StreamError> {
+    test_limit(source.header(), Place::First, options.max_pixels)?;
     let taken = stream_copy(options);
     copy_stream(source, sink, &taken, progress)
 }

@@ -8,8 +8,9 @@ use crate::generated::yuv_commands::input_file::open_file;
 use crate::generated::yuv_commands::options::{frames_before, taken_of_both};
 use crate::generated::yuv_commands::output::{Output, is_standard_output};
 use crate::generated::yuv_commands::program::Status;
-use crate::generated::yuv_commands::report::write_made;
+use crate::generated::yuv_commands::report::{no_memory, write_made, write_text};
 use crate::generated::yuv_commands::system::System;
+use crate::generated::yuv_commands::system_file::SystemFile;
 use v_frame_proved::support::AllocError;
 use std::io;
 use crate::support::fs::Files;
@@ -35,6 +36,7 @@ pub(crate) fn do_diff<H, I, O, E>(
 ) -> Result<Status, Fault>
 where
     H: Files + Clock,
+    H::File: SystemFile,
     I: io::Read,
     O: io::Write,
     E: io::Write,
@@ -44,7 +46,13 @@ where
     let mut one = begin(system, first, &mut file, options.raw)?;
     let mut other_file = open_file(rt, second, Place::Second, &mut system.input)?;
     let mut other = begin(system, second, &mut other_file, options.raw_second)?;
-    let mut output = Output::open(rt, to, &[first, second], &mut system.output)?;
+    let mut output = Output::open(
+        rt,
+        to,
+        &[first, second],
+        &mut system.output,
+        system.progress.out(),
+    )?;
     let done = match write_difference(&mut one, &mut other, options, &mut output) {
         Ok(drawn) => {
             let (_written, found) = drawn;
@@ -53,11 +61,15 @@ where
         Err(fault) => Err(fault),
     };
     let found = output.settle(rt, done)?;
-    if !is_standard_output(to) {
-        let text = found_text(&found);
-        if let Err(error) = write_made(&mut Counted::new(&mut system.output), text) {
-            return Err(Fault::Report(error));
-        }
+    let text = found_text(&found);
+    if is_standard_output(to) {
+        let Ok(text) = text else {
+            return Err(Fault::Report(no_memory()));
+        };
+        // Where nothing can be said there, the picture is written all the same, and the status says what was found.
+        let _ = write_text(&mut Counted::new(system.progress.out()), text.as_str());
+    } else if let Err(error) = write_made(&mut Counted::new(&mut system.output), text) {
+        return Err(Fault::Report(error));
     }
     Ok(status_of(&found))
 }
@@ -162,14 +174,32 @@ fn push_chroma(
 
 /// Appends the line of a plane.
 fn push_plane(text: &mut String, name: &str, found: &PlaneDifference) -> Result<(), AllocError> {
-    let samples = found.count;
-    if samples == 0 {
+    let Some(place) = found.first else {
         return writeln!(text, "{name}: no difference");
-    }
-    let GreatestDifference { difference, x, y } = found.greatest;
+    };
+    push_first(text, name, found.count, place)?;
+    push_greatest(text, &found.greatest)
+}
+
+/// Appends how many samples of a plane differ, and which is the first.
+fn push_first(
+    text: &mut String,
+    name: &str,
+    samples: usize,
+    (x, y): (usize, usize),
+) -> Result<(), AllocError> {
+    write!(
+        text,
+        "{name}: {samples} samples differ; first difference: column {x}, row {y}"
+    )
+}
+
+/// Appends the greatest difference, and the first place that has it.
+fn push_greatest(text: &mut String, greatest: &GreatestDifference) -> Result<(), AllocError> {
+    let GreatestDifference { difference, x, y } = *greatest;
     writeln!(
         text,
-        "{name}: {samples} samples differ, by {difference} at most, first in column {x}, row {y}"
+        "; greatest difference: {difference}, column {x}, row {y}"
     )
 }
 

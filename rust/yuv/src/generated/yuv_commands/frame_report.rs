@@ -19,17 +19,21 @@ pub(crate) struct FrameReport<W> {
     text: String,
     scale: Scale,
     ssim: Option<Means>,
+    /// How many frames of the first stream stand before the first one that is compared.
+    before: u64,
     frames: u64,
     is_begun: bool,
 }
 
 impl<W: io::Write> FrameReport<W> {
-    /// Returns a report of no frame. Structural similarities are measured where there are means for them.
+    /// Returns a report of no frame. Structural similarities are measured where there are means for them. A frame has the number
+    /// that it has in the first stream, of which so many frames stand before it.
     pub(crate) fn new(
         out: W,
         report: Report,
         scale: Scale,
         ssim: Option<Means>,
+        before: u64,
     ) -> Self {
         FrameReport {
             out: Counted::new(out),
@@ -37,6 +41,7 @@ impl<W: io::Write> FrameReport<W> {
             text: String::new(),
             scale,
             ssim,
+            before,
             frames: 0,
             is_begun: false,
         }
@@ -75,14 +80,16 @@ impl<W: io::Write> FrameReport<W> {
             None => None,
         };
         let measures = self.scale.measures(&found.errors, found.frames, ssim);
-        let found = reported_comparison(found, measures);
+        let found = reported_comparison(found, measures, self.before);
         self.report.end(&mut self.text, &found)
     }
 
     /// Appends the next frame.
     fn push_frame(&mut self, measures: &FrameMeasures) -> Result<(), AllocError> {
         self.begin()?;
-        self.report.frame(&mut self.text, self.frames, measures)
+        let number = self.before.saturating_add(self.frames);
+        self.report
+            .frame(&mut self.text, number, measures)
     }
 
     /// Writes the text, and begins a new one.
@@ -136,14 +143,18 @@ fn blank(planes: &PlaneSums) -> PlaneValues {
     }
 }
 
-/// Returns what was found as a report has it.
-fn reported_comparison(found: &Comparison, measures: FrameMeasures) -> crate::generated::yuv_reports::Comparison {
+/// Returns what was found as a report has it, after so many frames.
+fn reported_comparison(
+    found: &Comparison,
+    measures: FrameMeasures,
+    start: u64,
+) -> crate::generated::yuv_reports::Comparison {
     crate::generated::yuv_reports::Comparison {
         frames: found.frames,
         measures,
         difference: match found.difference {
             Some((before, pixel)) => Some(crate::generated::yuv_reports::SampleDifference {
-                frame: before.saturating_add(1),
+                frame: start.saturating_add(before).saturating_add(1),
                 plane: plane_name(pixel.component),
                 x: pixel.x,
                 y: pixel.y,

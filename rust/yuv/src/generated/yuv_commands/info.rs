@@ -6,7 +6,7 @@ mod text;
 use crate::generated::yuv_commands::fault::Fault;
 use crate::generated::yuv_commands::input::{begin, expected_frames};
 use crate::generated::yuv_commands::input_file::open_file;
-use crate::generated::yuv_commands::options::{most_pixels, test_pixels};
+use crate::generated::yuv_commands::options::test_limit;
 use crate::generated::yuv_commands::program::Status;
 use crate::generated::yuv_commands::progress::ProgressLine;
 use crate::generated::yuv_commands::report::write_made;
@@ -34,13 +34,7 @@ where
     let mut file = open_file(system.rt, name, Place::First, &mut system.input)?;
     let len = file.len();
     let mut source = begin(system, name, &mut file, options.raw)?;
-    if options.max_pixels.is_some() {
-        test_pixels(
-            source.header(),
-            Place::First,
-            most_pixels(options.max_pixels),
-        )?;
-    }
+    test_limit(source.header(), Place::First, options.max_pixels)?;
     let mut out = Counted::new(&mut system.output);
     report_stream(
         &mut source,
@@ -80,6 +74,7 @@ fn report_frames<R: io::Read, W: io::Write, H: Clock, E: io::Write>(
     progress.expect(expected_frames(source, len));
     let counted = skip_frames(source, u64::MAX, progress);
     let frames = frames_counted(&counted, source);
+    progress.end();
     write_made(out, frames_text(source.header(), frames))?;
     counted?;
     Ok(())

@@ -73,6 +73,7 @@ fn begin_y4m<F: Read, I: Read>(
     let place = file.place;
     match file.begins_as_a_stream() {
         Ok(true) => {}
+        Ok(false) if file.has_no_bytes() => return Err(Fault::NoBytes(place)),
         Ok(false) => return Err(Fault::NotAStream(place)),
         Err(error) => return Err(Fault::Header(error)),
     }

@@ -77,6 +77,13 @@ impl<F: Read, I: Read> InputFile<F, I> {
     }
 }
 
+impl<F, I> InputFile<F, I> {
+    /// Returns whether none of the first bytes is there, where these were looked at.
+    pub(crate) fn has_no_bytes(&self) -> bool {
+        self.known == 0
+    }
+}
+
 /// Returns whether these are the bytes that a stream begins with.
 fn is_magic(bytes: &[u8]) -> bool {
     bytes == MAGIC

@@ -86,6 +86,18 @@ pub(crate) fn frames_before(number: Option<u64>) -> Result<u64, Fault> {
     }
 }
 
+/// Tests whether pictures of a header have no more pixels of luma than are asked for, where a limit is.
+pub(crate) fn test_limit(
+    header: &StreamHeader,
+    place: Place,
+    asked: Option<u64>,
+) -> Result<(), StreamError> {
+    match asked {
+        Some(_) => test_pixels(header, place, most_pixels(asked)),
+        None => Ok(()),
+    }
+}
+
 /// Tests whether pictures of a header have no more than so many pixels of luma.
 pub(crate) fn test_pixels(
     header: &StreamHeader,

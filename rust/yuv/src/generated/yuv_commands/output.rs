@@ -2,7 +2,9 @@
 //! What a command writes to: a file that replaces its target, or standard output.
 
 use crate::generated::yuv_commands::fault::Fault;
+use crate::generated::yuv_commands::message::write_message;
 use crate::generated::yuv_commands::same_file::is_read;
+use crate::generated::yuv_commands::system_file::SystemFile;
 use crate::generated::yuv_commands::target::TargetFile;
 use crate::support::fs::OpenFile;
 use std::io;
@@ -16,10 +18,13 @@ pub(crate) enum Output<'a, F, O> {
     Standard(&'a mut O),
 }
 
-impl<F: Write, O: Write> Write for Output<'_, F, O> {
+impl<F: Write + OpenFile, O: Write> Write for Output<'_, F, O> {
     fn write(&mut self, buf: &[u8]) -> io::Result<usize> {
         match self {
-            Output::File(to) => to.file.write(buf),
+            Output::File(to) => {
+                to.begin()?;
+                to.file.write(buf)
+            }
             Output::Standard(out) => out.write(buf),
         }
     }
@@ -38,14 +43,15 @@ pub(crate) fn is_standard_output(name: &str) -> bool {
     matches!(name, "-" | "/dev/stdout" | "/dev/fd/1" | "/proc/self/fd/1")
 }
 
-impl<'a, F: OpenFile, O> Output<'a, F, O> {
+impl<'a, F: OpenFile + SystemFile, O> Output<'a, F, O> {
     /// Opens a file that is written, or takes standard output for a name of it. One that is written where it stands must not be
-    /// one of those that are read.
-    pub(crate) fn open<H: Files<File = F>>(
+    /// one of those that are read. A message says what of a target can't be kept.
+    pub(crate) fn open<H: Files<File = F>, E: Write>(
         rt: &H,
         name: &str,
         inputs: &[&str],
         standard: &'a mut O,
+        messages: &mut E,
     ) -> Result<Self, Fault> {
         if is_standard_output(name) {
             return Ok(Output::Standard(standard));
@@ -61,11 +67,14 @@ impl<'a, F: OpenFile, O> Output<'a, F, O> {
                 }
             }
         }
+        if let Some(loss) = file.loss() {
+            write_message(messages, Some(name), &loss);
+        }
         Ok(Output::File(file))
     }
 
     /// Puts a file in the place of its target where all of it was written, and else removes it.
-    pub(crate) fn settle<H: Files, T>(
+    pub(crate) fn settle<H: Files<File = F>, T>(
         self,
         rt: &H,
         done: Result<T, Fault>,

@@ -4,14 +4,16 @@
 use v_frame_proved::support::memory::{TryPush, TryString, try_format};
 use crate::generated::yuv_commands::compare::samples_of;
 use crate::generated::yuv_commands::fault::Fault;
-use crate::generated::yuv_commands::input::begin;
+use crate::generated::yuv_commands::input::{begin, expected_frames};
 use crate::generated::yuv_commands::input_file::open_file;
 use crate::generated::yuv_commands::measures::{Scale, reported};
+use crate::generated::yuv_commands::nothing::test_compared;
 use crate::generated::yuv_commands::options::taken_of_both;
 use crate::generated::yuv_commands::output::Output;
 use crate::generated::yuv_commands::program::Status;
 use crate::generated::yuv_commands::report::{no_memory, write_text};
 use crate::generated::yuv_commands::system::System;
+use crate::generated::yuv_commands::system_file::SystemFile;
 use v_frame_proved::support::AllocError;
 use std::io;
 use std::io::Write;
@@ -24,7 +26,7 @@ use v_frame_proved::measures::{frame_ssim, frames_have_one_size};
 use v_frame_proved::planar::Counted;
 use crate::generated::yuv_reports::PlaneValues;
 use crate::generated::yuv_streams::{
-    CompareOptions, FrameObserver, Place, PlaneSums, Silent, Source, StreamError, compare_streams,
+    CompareOptions, FrameObserver, Place, PlaneSums, Progress, Source, StreamError, compare_streams,
 };
 use crate::generated::yuv_words::PlotOptions;
 
@@ -36,17 +38,28 @@ pub(crate) fn do_plot<H, I, O, E>(
 ) -> Result<Status, Fault>
 where
     H: Files + Clock,
+    H::File: SystemFile,
     I: io::Read,
     O: io::Write,
     E: io::Write,
 {
     let rt = system.rt;
     let mut file = open_file(rt, first, Place::First, &mut system.input)?;
+    let len = file.len();
     let mut one = begin(system, first, &mut file, options.raw)?;
     let mut other_file = open_file(rt, second, Place::Second, &mut system.input)?;
     let mut other = begin(system, second, &mut other_file, options.raw_second)?;
-    let text = drawn(&mut one, &mut other, options, (first, second))?;
-    let mut output = Output::open(rt, to, &[first, second], &mut system.output)?;
+    system.progress.expect(expected_frames(&one, len));
+    let progress = &mut system.progress;
+    let names = (first, second);
+    let text = drawn(&mut one, &mut other, options, names, progress)?;
+    let mut output = Output::open(
+        rt,
+        to,
+        &[first, second],
+        &mut system.output,
+        system.progress.out(),
+    )?;
     let done = write_drawn(&mut output, text.as_str());
     drop(text);
     output.settle(rt, done)
@@ -62,11 +75,12 @@ fn write_drawn<W: Write>(out: W, text: &str) -> Result<Status, Fault> {
 }
 
 /// Returns the chart of what is taken of both streams.
-fn drawn<R: io::Read, S: io::Read>(
+fn drawn<R: io::Read, S: io::Read, P: Progress>(
     first: &mut Source<R>,
     second: &mut Source<S>,
     options: &PlotOptions,
     names: (&str, &str),
+    progress: &mut P,
 ) -> Result<String, Fault> {
     let mut curves = Curves::new(
         first_frame(options),
@@ -76,13 +90,9 @@ fn drawn<R: io::Read, S: io::Read>(
             exact: false,
         },
     );
-    compare_streams(
-        first,
-        second,
-        &frames_taken(options),
-        &mut curves,
-        &mut Silent,
-    )?;
+    let taken = frames_taken(options);
+    let found = compare_streams(first, second, &taken, &mut curves, progress)?;
+    test_compared(&found, first, second, &taken)?;
     match curves.chart(names) {
         Ok(text) => Ok(text),
         Err(_) => Err(Fault::Stream(no_memory())),

@@ -14,12 +14,13 @@ use crate::generated::yuv_commands::show::do_show;
 use crate::generated::yuv_commands::stats::do_stats;
 use crate::generated::yuv_commands::sum::do_sum;
 use crate::generated::yuv_commands::system::System;
+use crate::generated::yuv_commands::system_file::SystemFile;
 use std::io;
 use crate::support::fs::Files;
 use crate::support::time::Clock;
 use v_frame_proved::planar::Counted;
 use crate::generated::yuv_streams::Place;
-use crate::generated::yuv_words::{Command, UsageError, read_command, usage_text};
+use crate::generated::yuv_words::{Command, UsageError, help_words, read_command, usage_text};
 
 /// What `yuv --version` prints.
 pub const VERSION: &str = "yuv 0.3.0\n";
@@ -65,6 +66,7 @@ pub struct Streams<I, O, E> {
 pub fn run<H, I, O, E>(rt: &H, words: &[&str], streams: Streams<I, O, E>) -> Status
 where
     H: Files + Clock,
+    H::File: SystemFile,
     I: io::Read,
     O: io::Write,
     E: io::Write,
@@ -75,6 +77,11 @@ where
         mut error,
         is_terminal,
     } = streams;
+    let asked = help_words(words);
+    let words = match &asked {
+        Some(asked) => asked.as_slice(),
+        None => words,
+    };
     let command = match read_command(words) {
         Ok(command) => command,
         Err(refusal) => return refuse(&refusal, &mut error),
@@ -121,6 +128,9 @@ fn asks_for_progress(command: &Command<'_>) -> bool {
         Command::Info { options, .. } => options.progress,
         Command::Compare { options, .. } => options.progress,
         Command::Copy { options, .. } => options.progress,
+        Command::Sum { options, .. } => options.progress,
+        Command::Stats { options, .. } => options.progress,
+        Command::Plot { options, .. } => options.progress,
         _ => false,
     }
 }
@@ -148,6 +158,7 @@ fn do_command<H, I, O, E>(
 ) -> Result<Status, Fault>
 where
     H: Files + Clock,
+    H::File: SystemFile,
     I: io::Read,
     O: io::Write,
     E: io::Write,

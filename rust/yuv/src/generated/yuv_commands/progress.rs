@@ -2,8 +2,9 @@
 //! The count of frames, shown while a stream is read.
 
 use v_frame_proved::support::memory::TryString;
-use std::io;
 use crate::support::time::{Clock, Instant};
+use core::fmt;
+use std::io;
 use crate::generated::yuv_streams::Progress;
 
 /// How many milliseconds pass at least from one count that is shown to the next.
@@ -18,6 +19,8 @@ pub struct ProgressLine<'a, H, E> {
     begin: Option<Instant>,
     frames: u64,
     last_shown: u128,
+    /// How many characters the line has that is shown.
+    length: usize,
 }
 
 impl<'a, H: Clock, E: io::Write> ProgressLine<'a, H, E> {
@@ -31,6 +34,7 @@ impl<'a, H: Clock, E: io::Write> ProgressLine<'a, H, E> {
             begin: None,
             frames: 0,
             last_shown: 0,
+            length: 0,
         }
     }
 
@@ -50,7 +54,7 @@ impl<'a, H: Clock, E: io::Write> ProgressLine<'a, H, E> {
         &mut self.out
     }
 
-    /// Shows the last count, and ends the line. One that is not shown stays as it is.
+    /// Shows the last count, and ends the line, which is not shown from then on. One that is not shown stays as it is.
     pub fn end(&mut self) {
         if !self.is_shown {
             return;
@@ -58,6 +62,7 @@ impl<'a, H: Clock, E: io::Write> ProgressLine<'a, H, E> {
         let passed = self.passed();
         self.write_line(passed);
         let _ = self.out.write_all(b"\n");
+        self.is_shown = false;
     }
 
     /// Returns how many milliseconds have passed. 0 where the clock can't be read.
@@ -71,17 +76,19 @@ impl<'a, H: Clock, E: io::Write> ProgressLine<'a, H, E> {
         }
     }
 
-    /// Shows the count in the place of the last one. Where it can't be written, the work goes on.
+    /// Shows the count in the place of the last one, of which nothing is left. Where it can't be written, the work goes on.
     fn write_line(&mut self, passed: u128) {
-        let frames = self.frames;
-        let _ = write!(self.out, "\r{frames} frames");
-        if let Some(percent) = self.percent() {
-            let _ = write!(self.out, ", {percent} %");
+        let (frames, percent, before) = (self.frames, self.percent(), self.length);
+        let mut line = ShownText {
+            out: &mut self.out,
+            length: 0,
+        };
+        let _ = write_count(&mut line, frames, percent, passed);
+        let length = line.length;
+        for _ in length..before {
+            let _ = self.out.write_all(b" ");
         }
-        if passed > 0 {
-            let rate = u128::from(frames) * 1000 / passed;
-            let _ = write!(self.out, ", {rate} frames/s");
-        }
+        self.length = length;
     }
 
     /// Returns how many of a hundred parts are done, where it is known how many frames there are.
@@ -108,4 +115,38 @@ impl<H: Clock, E: io::Write> Progress for ProgressLine<'_, H, E> {
         self.last_shown = passed;
         self.write_line(passed);
     }
+}
+
+/// A line on a terminal, whose characters are counted. All of them are ASCII.
+struct ShownText<'a, E> {
+    out: &'a mut E,
+    length: usize,
+}
+
+impl<E: io::Write> fmt::Write for ShownText<'_, E> {
+    fn write_str(&mut self, text: &str) -> fmt::Result {
+        self.length = self.length.saturating_add(text.len());
+        match self.out.write_all(text.as_bytes()) {
+            Ok(()) => Ok(()),
+            Err(_) => Err(fmt::Error),
+        }
+    }
+}
+
+/// Writes a count in the place of what stands in the line.
+fn write_count<W: fmt::Write>(
+    line: &mut W,
+    frames: u64,
+    percent: Option<u128>,
+    passed: u128,
+) -> fmt::Result {
+    write!(line, "\r{frames} frames")?;
+    if let Some(percent) = percent {
+        write!(line, ", {percent} %")?;
+    }
+    if passed > 0 {
+        let rate = u128::from(frames) * 1000 / passed;
+        write!(line, ", {rate} frames/s")?;
+    }
+    Ok(())
 }

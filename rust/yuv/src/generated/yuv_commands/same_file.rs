@@ -2,6 +2,7 @@
 //! One file under two names.
 
 use crate::support::fs;
+use std::fs::Metadata;
 use std::os::unix::fs::MetadataExt;
 use crate::support::fs::Files;
 
@@ -23,9 +24,10 @@ fn is_one_file<H: Files>(rt: &H, one: &str, other: &str) -> bool {
     let (Ok(one), Ok(other)) = (fs::metadata(rt, one), fs::metadata(rt, other)) else {
         return false;
     };
-    one.is_file()
-        && other.is_file()
-        && one.ino() != 0
-        && one.ino() == other.ino()
-        && one.dev() == other.dev()
+    one.is_file() && other.is_file() && is_one_node(&one, &other)
+}
+
+/// Returns whether two files have one number on one device. `false` where the system tells no numbers.
+pub(crate) fn is_one_node(one: &Metadata, other: &Metadata) -> bool {
+    one.ino() != 0 && one.ino() == other.ino() && one.dev() == other.dev()
 }

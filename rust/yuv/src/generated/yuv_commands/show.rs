@@ -4,10 +4,11 @@
 use crate::generated::yuv_commands::fault::Fault;
 use crate::generated::yuv_commands::input::begin;
 use crate::generated::yuv_commands::input_file::open_file;
-use crate::generated::yuv_commands::options::{frames_before, most_pixels, stream_rectangle};
+use crate::generated::yuv_commands::options::{frames_before, most_pixels, stream_rectangle, test_pixels};
 use crate::generated::yuv_commands::output::Output;
 use crate::generated::yuv_commands::program::Status;
 use crate::generated::yuv_commands::system::System;
+use crate::generated::yuv_commands::system_file::SystemFile;
 use std::io;
 use crate::support::fs::Files;
 use crate::support::time::Clock;
@@ -30,6 +31,7 @@ pub(crate) fn do_show<H, I, O, E>(
 ) -> Result<Status, Fault>
 where
     H: Files + Clock,
+    H::File: SystemFile,
     I: io::Read,
     O: io::Write,
     E: io::Write,
@@ -37,7 +39,10 @@ where
     let rt = system.rt;
     let mut file = open_file(rt, from, Place::First, &mut system.input)?;
     let mut source = begin(system, from, &mut file, options.raw)?;
-    let mut output = Output::open(rt, to, &[from], &mut system.output)?;
+    // A frame that is shown whole is read before there is a picture of it, which tests its size.
+    let most = most_pixels(options.max_pixels);
+    test_pixels(source.header(), Place::First, most)?;
+    let mut output = Output::open(rt, to, &[from], &mut system.output, system.progress.out())?;
     let shown = if source.header().colour.bit_depth() == 8 {
         show_frame::<u8, _, _>(&mut source, options, &mut output)
     } else {

@@ -3,10 +3,13 @@
 
 use v_frame_proved::support::memory::TryString;
 use crate::generated::yuv_commands::fault::Fault;
-use crate::generated::yuv_commands::input::begin;
+use crate::generated::yuv_commands::input::{begin, expected_frames};
 use crate::generated::yuv_commands::input_file::open_file;
+use crate::generated::yuv_commands::message::{shown_name, write_message};
+use crate::generated::yuv_commands::nothing::NothingTaken;
 use crate::generated::yuv_commands::options::most_pixels;
 use crate::generated::yuv_commands::program::Status;
+use crate::generated::yuv_commands::progress::ProgressLine;
 use crate::generated::yuv_commands::report::{no_memory, write_made};
 use crate::generated::yuv_commands::statistics::{NominalRange, push_chroma_plane, push_plane};
 use crate::generated::yuv_commands::system::System;
@@ -20,7 +23,7 @@ use v_frame_proved::frame::Frame;
 use v_frame_proved::plane::Plane;
 use v_frame_proved::planar::Counted;
 use crate::generated::yuv_reports::{PlaneName, push_histogram};
-use crate::generated::yuv_streams::{Picture, Place, Source, StreamError};
+use crate::generated::yuv_streams::{Picture, Place, Progress, Silent, Source, StreamError, skip_frames};
 use crate::generated::yuv_words::StatsOptions;
 
 /// Reports what values the samples of each plane have, over all frames.
@@ -36,36 +39,51 @@ where
     E: io::Write,
 {
     let mut file = open_file(system.rt, name, Place::First, &mut system.input)?;
+    let len = file.len();
     let mut source = begin(system, name, &mut file, options.raw)?;
+    system.progress.expect(expected_frames(&source, len));
     let mut out = Counted::new(&mut system.output);
-    report_values(&mut source, options, &mut out)?;
+    let progress = &mut system.progress;
+    let found = report_values(&mut source, options, &mut out, progress)?;
+    if let Some(nothing) = nothing_counted(options, found, source.frames()) {
+        write_message(system.progress.out(), Some(shown_name(name)), &nothing);
+    }
     Ok(Status::Same)
 }
 
-/// Writes what values the samples of a stream have.
-fn report_values<R: io::Read, W: io::Write>(
+/// Returns why no frame was counted, where so many of a stream of so many are none.
+fn nothing_counted(options: &StatsOptions, counted: u64, frames: u64) -> Option<NothingTaken> {
+    NothingTaken::of(counted, frames, options.skip.unwrap_or(0), options.count)
+}
+
+/// Writes what values the samples of a stream have, and returns of how many frames.
+fn report_values<R: io::Read, W: io::Write, H: Clock, E: io::Write>(
     source: &mut Source<R>,
     options: &StatsOptions,
     out: &mut Counted<W>,
-) -> Result<(), StreamError> {
+    progress: &mut ProgressLine<'_, H, E>,
+) -> Result<u64, StreamError> {
     if source.header().colour.bit_depth() == 8 {
-        report_pixels::<u8, _, _>(source, options, out)
+        report_pixels::<u8, _, _, _, _>(source, options, out, progress)
     } else {
-        report_pixels::<u16, _, _>(source, options, out)
+        report_pixels::<u16, _, _, _, _>(source, options, out, progress)
     }
 }
 
 /// The same of pixels of a type.
-fn report_pixels<T: CountedPixel, R: io::Read, W: io::Write>(
+fn report_pixels<T: CountedPixel, R: io::Read, W: io::Write, H: Clock, E: io::Write>(
     source: &mut Source<R>,
     options: &StatsOptions,
     out: &mut Counted<W>,
-) -> Result<(), StreamError> {
+    progress: &mut ProgressLine<'_, H, E>,
+) -> Result<u64, StreamError> {
     let depth = source.header().colour.bit_depth();
-    let counts = count_values::<T, _>(source, most_pixels(options.max_pixels))?;
+    let (counts, found) = count_values::<T, _, _>(source, options, progress)?;
     let text = report_text(&counts, options.histogram, depth);
     drop(counts);
-    write_made(out, text)
+    progress.end();
+    write_made(out, text)?;
+    Ok(found)
 }
 
 /// How often each value occurs in each plane.
@@ -75,25 +93,41 @@ struct Counts {
     v: Option<ValueCounts>,
 }
 
-/// Counts the values of all frames.
-fn count_values<T: CountedPixel, R: io::Read>(
+/// Counts the values of the frames that are asked for, and these.
+fn count_values<T: CountedPixel, R: io::Read, P: Progress>(
     source: &mut Source<R>,
-    most: usize,
-) -> Result<Counts, StreamError> {
-    let mut picture = Picture::<T>::new(source, most)?;
+    options: &StatsOptions,
+    progress: &mut P,
+) -> Result<(Counts, u64), StreamError> {
+    let mut picture = Picture::<T>::new(source, most_pixels(options.max_pixels))?;
+    skip_frames(source, options.skip.unwrap_or(0), &mut Silent)?;
     let has_chroma = picture.frame().u_plane.is_some();
     let Ok(mut counts) = Counts::new(has_chroma) else {
         return Err(no_memory());
     };
-    for _count in 0..u64::MAX {
+    let most = options.count.unwrap_or(u64::MAX);
+    let found = count_frames(source, &mut picture, most, &mut counts, progress)?;
+    Ok((counts, found))
+}
+
+/// Adds the values of so many frames to counts of nothing, or those of all that are left where they are fewer.
+fn count_frames<T: CountedPixel, R: io::Read, P: Progress>(
+    source: &mut Source<R>,
+    picture: &mut Picture<T>,
+    most: u64,
+    counts: &mut Counts,
+    progress: &mut P,
+) -> Result<u64, StreamError> {
+    for count in 0..most {
         if !picture.read(source)? {
-            return Ok(counts);
+            return Ok(count);
         }
         if counts.add(picture.frame()).is_err() {
             return Err(no_memory());
         }
+        progress.show(count + 1);
     }
-    Ok(counts)
+    Ok(most)
 }
 
 impl Counts {

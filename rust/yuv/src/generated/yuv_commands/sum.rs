@@ -2,8 +2,10 @@
 //! The command `sum`: a checksum of each frame, or of each plane.
 
 use crate::generated::yuv_commands::fault::Fault;
-use crate::generated::yuv_commands::input::begin;
+use crate::generated::yuv_commands::input::{begin, expected_frames};
 use crate::generated::yuv_commands::input_file::open_file;
+use crate::generated::yuv_commands::message::{shown_name, write_message};
+use crate::generated::yuv_commands::nothing::NothingTaken;
 use crate::generated::yuv_commands::options::most_pixels;
 use crate::generated::yuv_commands::program::Status;
 use crate::generated::yuv_commands::report::{no_memory, write_text};
@@ -16,7 +18,7 @@ use v_frame_proved::pixel::Pixel;
 use v_frame_proved::planar::Counted;
 use v_frame_proved::png::crc32;
 use crate::generated::yuv_reports::{Checksums, push_checksums};
-use crate::generated::yuv_streams::{Picture, Place, Source, StreamError};
+use crate::generated::yuv_streams::{Picture, Place, Progress, Silent, Source, StreamError, skip_frames};
 use crate::generated::yuv_words::SumOptions;
 
 /// Reports a checksum of each frame.
@@ -32,44 +34,93 @@ where
     E: io::Write,
 {
     let mut file = open_file(system.rt, name, Place::First, &mut system.input)?;
+    let len = file.len();
     let mut source = begin(system, name, &mut file, options.raw)?;
     if options.planes && source.layout().is_some() {
         return Err(Fault::NoPlanes(Place::First));
     }
+    system.progress.expect(expected_frames(&source, len));
     let mut out = Counted::new(&mut system.output);
-    sum_stream(&mut source, options, &mut out)?;
+    let progress = &mut system.progress;
+    let found = sum_stream(&mut source, options, &mut out, progress)?;
+    system.progress.end();
+    if let Some(nothing) = nothing_summed(options, found, source.frames()) {
+        write_message(system.progress.out(), Some(shown_name(name)), &nothing);
+    }
     Ok(Status::Same)
 }
 
-/// Writes a line for each frame of a stream.
-fn sum_stream<R: io::Read, W: io::Write>(
+/// Returns why no frame was summed, where so many of a stream of so many are none.
+fn nothing_summed(options: &SumOptions, summed: u64, frames: u64) -> Option<NothingTaken> {
+    NothingTaken::of(summed, frames, options.skip.unwrap_or(0), options.count)
+}
+
+/// Writes a line for each frame of a stream that is asked for, and counts these.
+fn sum_stream<R: io::Read, W: io::Write, P: Progress>(
     source: &mut Source<R>,
     options: &SumOptions,
     out: &mut Counted<W>,
-) -> Result<(), StreamError> {
+    progress: &mut P,
+) -> Result<u64, StreamError> {
     if source.header().colour.bit_depth() == 8 {
-        sum_frames::<u8, _, _>(source, options, out)
+        sum_as::<u8, _, _, _>(source, options, out, progress)
     } else {
-        sum_frames::<u16, _, _>(source, options, out)
+        sum_as::<u16, _, _, _>(source, options, out, progress)
     }
 }
 
 /// The same of pixels of a type.
-fn sum_frames<T: Pixel, R: io::Read, W: io::Write>(
+fn sum_as<T: Pixel, R: io::Read, W: io::Write, P: Progress>(
     source: &mut Source<R>,
     options: &SumOptions,
     out: &mut Counted<W>,
-) -> Result<(), StreamError> {
+    progress: &mut P,
+) -> Result<u64, StreamError> {
     let mut picture = Picture::<T>::new(source, most_pixels(options.max_pixels))?;
+    let skip = options.skip.unwrap_or(0);
+    skip_frames(source, skip, &mut Silent)?;
+    let lines = Lines {
+        planes: options.planes,
+        before: skip,
+    };
+    let most = options.count.unwrap_or(u64::MAX);
+    sum_frames(source, &mut picture, lines, most, out, progress)
+}
+
+/// How the lines of frames are made.
+#[derive(Clone, Copy)]
+struct Lines {
+    /// Whether each plane has a checksum.
+    planes: bool,
+    /// How many frames stand before the first one.
+    before: u64,
+}
+
+/// Writes a line for each of so many frames, or of all that are left where they are fewer.
+fn sum_frames<T: Pixel, R: io::Read, W: io::Write, P: Progress>(
+    source: &mut Source<R>,
+    picture: &mut Picture<T>,
+    lines: Lines,
+    most: u64,
+    out: &mut Counted<W>,
+    progress: &mut P,
+) -> Result<u64, StreamError> {
     let mut text = String::new();
-    for before in 0..u64::MAX {
+    for count in 0..most {
         if !picture.read(source)? {
-            return Ok(());
+            return Ok(count);
         }
+        let number = number_of(lines.before, count);
         let (frame, bytes) = (picture.frame(), picture.bytes());
-        write_sums(&mut text, before + 1, frame, bytes, options.planes, out)?;
+        write_sums(&mut text, number, frame, bytes, lines.planes, out)?;
+        progress.show(count + 1);
     }
-    Ok(())
+    Ok(most)
+}
+
+/// Returns the number of a frame, before which so many stand and then so many of those that are taken.
+fn number_of(before: u64, count: u64) -> u64 {
+    before.saturating_add(count).saturating_add(1)
 }
 
 /// Writes the line of a frame of this number, whose planar bytes are these. It is put together in `text`.

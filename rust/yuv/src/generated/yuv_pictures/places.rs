@@ -5,12 +5,15 @@ use v_frame_proved::frame::Frame;
 use v_frame_proved::pixel::Pixel;
 use v_frame_proved::plane::Plane;
 use v_frame_proved::measures::{GreatestDifference, count_above, greatest_difference};
+use v_frame_proved::ops::first_difference;
 
 /// What differs in two planes of one size.
 #[derive(Debug, Clone, Copy, PartialEq, Eq)]
 pub struct PlaneDifference {
     /// How many samples differ.
     pub count: usize,
+    /// The column and the row of the first that does, row after row from the top.
+    pub first: Option<(usize, usize)>,
     /// The greatest difference, 0 where none differs, and the first place that has it, row after row from the top.
     pub greatest: GreatestDifference,
 }
@@ -40,6 +43,7 @@ fn of_planes<T: Pixel>(first: &Plane<T>, second: &Plane<T>) -> PlaneDifference {
     let (first, second) = (first.as_plane_ref(), second.as_plane_ref());
     PlaneDifference {
         count: count_above(&first, &second, 0),
+        first: first_difference(&first, &second),
         greatest: greatest_difference(&first, &second),
     }
 }

@@ -12,7 +12,7 @@ use v_frame_proved::support::AllocError;
 pub enum ReportForm {
     /// Lines for people.
     Lines,
-    /// Comma-separated values: a row for each frame, and rows for all of them.
+    /// Comma-separated values: a row for each frame.
     Csv,
     /// One JSON object.
     Json,
@@ -56,7 +56,7 @@ impl PlaneName {
 /// A sample that two streams show differently.
 #[derive(Clone, Copy)]
 pub struct SampleDifference {
-    /// The number of its frame, from 1.
+    /// The number of its frame.
     pub frame: u64,
     /// The plane that it is in.
     pub plane: PlaneName,
@@ -126,7 +126,7 @@ impl Report {
         }
     }
 
-    /// Appends a frame, whose number is from 1, where frames are listed, and counts it.
+    /// Appends a frame of this number, where frames are listed, and counts it.
     ///
     /// # Errors
     ///
@@ -165,7 +165,7 @@ impl Report {
         }
     }
 
-    /// Appends what is said of all frames.
+    /// Appends what is said of all frames: nothing in a table, each row of which is a frame.
     ///
     /// # Errors
     ///
@@ -173,7 +173,7 @@ impl Report {
     pub fn end(&self, text: &mut String, found: &Comparison) -> Result<(), AllocError> {
         match self.form {
             ReportForm::Lines => lines::push_comparison(text, found),
-            ReportForm::Csv => csv::push_summary(text, found, &self.psnr, &self.ssim),
+            ReportForm::Csv => Ok(()),
             ReportForm::Json => {
                 let lists = self.lists_frames && self.frames > 0;
                 text.try_push_str(if lists { "\n  ],\n" } else { "],\n" })?;

@@ -10,13 +10,21 @@ use v_frame_proved::support::AllocError;
 /// The keys of the values of a measure, with what stands before them.
 const KEYS: [&str; 4] = ["{\"all\": ", ", \"y\": ", ", \"u\": ", ", \"v\": "];
 
-/// Appends the object of a frame, without the comma or the line feed after it.
+/// Appends the object of a frame, without the comma or the line feed after it. Its values are put together in a text of their own,
+/// since nothing is known of one that a float was written to.
 pub fn push_frame(
     text: &mut String,
     number: u64,
     measures: &FrameMeasures,
 ) -> Result<(), AllocError> {
-    write!(text, "    {{\"frame\": {number}, ")?;
+    let mut values = String::new();
+    push_members(&mut values, measures)?;
+    push_number(text, "    {\"frame\": ", u128::from(number), ", ")?;
+    text.try_push_str(values.as_str())
+}
+
+/// Appends the measures of a frame, and ends its object.
+fn push_members(text: &mut String, measures: &FrameMeasures) -> Result<(), AllocError> {
     push_measures(text, ", ", measures)?;
     text.try_push('}')
 }
@@ -89,9 +97,19 @@ pub fn push_summary(
         text.try_push_str(",\n  \"ssim_by_frame\": ")?;
         push_pool(text, ssim)?;
     }
+    push_end(text, found)
+}
+
+/// Appends the first difference and the longer stream, and the end of the object.
+fn push_end(text: &mut String, found: &Comparison) -> Result<(), AllocError> {
     text.try_push_str(",\n  \"first_difference\": ")?;
     push_difference(text, &found.difference)?;
-    text.try_push_str(match found.longer {
+    push_longer(text, found.longer)
+}
+
+/// Appends which stream has more frames, and the end of the object.
+fn push_longer(text: &mut String, longer: Option<Longer>) -> Result<(), AllocError> {
+    text.try_push_str(match longer {
         Some(Longer::First) => ",\n  \"longer\": \"first\"\n}\n",
         Some(Longer::Second) => ",\n  \"longer\": \"second\"\n}\n",
         None => ",\n  \"longer\": null\n}\n",
@@ -130,9 +148,20 @@ fn push_difference(
         second,
     } = *found;
     let plane = plane.text();
+    push_place(text, frame, plane, x, y)?;
+    write!(text, "\"first\": {first}, \"second\": {second}}}")
+}
+
+/// Appends the begin of an object: the place of a sample.
+fn push_place(
+    text: &mut String,
+    frame: u64,
+    plane: &str,
+    x: usize,
+    y: usize,
+) -> Result<(), AllocError> {
     write!(
         text,
         "{{\"frame\": {frame}, \"plane\": \"{plane}\", \"column\": {x}, \"row\": {y}, "
-    )?;
-    write!(text, "\"first\": {first}, \"second\": {second}}}")
+    )
 }

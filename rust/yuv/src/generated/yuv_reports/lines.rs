@@ -3,7 +3,7 @@
 
 use v_frame_proved::support::memory::{TryPush, TryString};
 use crate::generated::yuv_reports::comparison::{Comparison, FrameMeasures, Longer, SampleDifference};
-use crate::generated::yuv_reports::planes::{PlaneSums, PlaneValues, push_sum};
+use crate::generated::yuv_reports::planes::{PlaneSums, PlaneValues, push_number, push_sum};
 use v_frame_proved::support::AllocError;
 
 /// What all planes and each of them are called in the line of a frame, and in a line of all frames.
@@ -11,14 +11,23 @@ const SHORT_NAMES: [&str; 4] = ["avg", "y", "u", "v"];
 
 const LONG_NAMES: [&str; 4] = ["all planes", "Y", "U", "V"];
 
-/// Appends the line of a frame: its errors and ratios in the form of ffmpeg's filter `psnr`, then what else is measured.
+/// Appends the line of a frame: its errors and ratios in the form of ffmpeg's filter `psnr`, then what else is measured. Its
+/// values are put together in a text of their own, since nothing is known of one that a float was written to.
 pub fn push_frame(
     text: &mut String,
     number: u64,
     measures: &FrameMeasures,
 ) -> Result<(), AllocError> {
-    write!(text, "n:{number}")?;
+    let mut values = String::new();
+    push_measures(&mut values, measures)?;
+    push_number(text, "n:", u128::from(number), " ")?;
+    text.try_push_str(values.as_str())
+}
+
+/// Appends the measures of a frame, and ends its line.
+fn push_measures(text: &mut String, measures: &FrameMeasures) -> Result<(), AllocError> {
     push_hundredths(text, "mse", &measures.mse)?;
+    text.try_push(' ')?;
     push_hundredths(text, "psnr", &measures.psnr)?;
     if let Some(ssim) = &measures.ssim {
         push_similarities(text, ssim)?;
@@ -35,7 +44,7 @@ fn end_frame(text: &mut String, sums: &Option<PlaneSums>) -> Result<(), AllocErr
     text.try_push('\n')
 }
 
-/// Appends the values of a measure with two decimals, each with its plane.
+/// Appends the values of a measure with two decimals, each with its plane, and spaces between them.
 fn push_hundredths(
     text: &mut String,
     measure: &str,
@@ -45,7 +54,8 @@ fn push_hundredths(
     for place in 0..4 {
         if let Some(value) = values[place] {
             let name = SHORT_NAMES[place];
-            write!(text, " {measure}_{name}:{value:.2}")?;
+            let space = if place == 0 { "" } else { " " };
+            write!(text, "{space}{measure}_{name}:{value:.2}")?;
         }
     }
     Ok(())

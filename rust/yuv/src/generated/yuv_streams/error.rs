@@ -70,7 +70,7 @@ impl core::fmt::Display for Problem {
         match self {
             Problem::Stream(value) => core::fmt::Display::fmt(value, f),
             Problem::TooLarge => f.write_str("the frames are too large"),
-            Problem::TooManyPixels(value) => write!(f, "the picture has more than {value} pixels"),
+            Problem::TooManyPixels(value) => write!(f, "the picture has more than {value} luma pixels; --max-pixels N allows more"),
             Problem::EmptyCrop => f.write_str("the crop is empty"),
             Problem::CropOutside => f.write_str("the crop is not inside the picture"),
             Problem::CropMisaligned { columns, rows } => write!(f, "the crop begins inside a chroma pixel, which is {columns} luma columns wide and {rows} rows high"),

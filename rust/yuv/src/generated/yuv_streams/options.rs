@@ -8,8 +8,8 @@ use v_frame_proved::semi_planar::SemiPlanarFormat;
 use v_frame_proved::y4m::{Colour, Ratio, StreamHeader};
 use crate::generated::yuv_words::VideoFormat;
 
-/// How many pixels a picture may have where nobody says: those of 15360x8640, and a little more.
-pub const MAX_PIXELS: usize = 1 << 27;
+/// How many pixels a picture may have where nobody says: those of 7680x4320.
+pub const MAX_PIXELS: usize = 33_177_600;
 
 /// What a copy takes of a stream, and what it makes of its frames.
 #[derive(Clone, Copy)]

@@ -27,6 +27,20 @@ pub fn read_command<'a>(words: &[&'a str]) -> Result<Command<'a>, UsageError<'a>
     }
 }
 
+/// Returns the words `help COMMAND` for `COMMAND --help` and `COMMAND -h`, behind which nothing is looked at. `None` for all
+/// others.
+pub fn help_words<'a>(words: &[&'a str]) -> Option<[&'a str; 2]> {
+    match words {
+        [first, second, ..] if is_help_option(*second) => Some(["help", *first]),
+        _ => None,
+    }
+}
+
+/// Returns whether a word behind a command asks for help.
+fn is_help_option(word: &str) -> bool {
+    word == "--help" || word == "-h"
+}
+
 /// Reads the words of a call whose first word is no command with files.
 fn read_help<'a>(first: &'a str, rest: &[&'a str]) -> Result<Command<'a>, UsageError<'a>> {
     if is_help(first) {

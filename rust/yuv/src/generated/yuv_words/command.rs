@@ -188,10 +188,16 @@ pub struct CopyOptions {
 pub struct SumOptions {
     /// `--planes`: each plane gets a checksum of its own.
     pub planes: bool,
+    /// `--skip`: how many frames are passed over.
+    pub skip: Option<u64>,
+    /// `--count`: the most frames that are summed.
+    pub count: Option<u64>,
     /// `--raw`: the stream is headerless raw video of this size and format.
     pub raw: Option<RawVideo>,
     /// `--max-pixels`: the most luma pixels that a frame may have.
     pub max_pixels: Option<u64>,
+    /// `--progress`: the count of frames is shown meanwhile.
+    pub progress: bool,
 }
 
 /// The options of `stats`.
@@ -199,10 +205,16 @@ pub struct SumOptions {
 pub struct StatsOptions {
     /// `--histogram`: how often each value occurs is said too.
     pub histogram: bool,
+    /// `--skip`: how many frames are passed over.
+    pub skip: Option<u64>,
+    /// `--count`: the most frames that are taken.
+    pub count: Option<u64>,
     /// `--raw`: the stream is headerless raw video of this size and format.
     pub raw: Option<RawVideo>,
     /// `--max-pixels`: the most luma pixels that a frame may have.
     pub max_pixels: Option<u64>,
+    /// `--progress`: the count of frames is shown meanwhile.
+    pub progress: bool,
 }
 
 /// The options of `show`.
@@ -265,6 +277,8 @@ pub struct PlotOptions {
     pub raw_second: Option<RawVideo>,
     /// `--max-pixels`: the most luma pixels that a frame may have.
     pub max_pixels: Option<u64>,
+    /// `--progress`: the count of frames is shown meanwhile.
+    pub progress: bool,
 }
 
 /// What headerless raw video is, spelled `WIDTHxHEIGHT:FORMAT` or `WIDTHxHEIGHT:FORMAT@N:D`, as `1920x1080:420p10@25:1`.

@@ -243,11 +243,21 @@ impl CommandName {
                 OptionName::MaxPixels,
                 OptionName::Progress,
             ],
-            CommandName::Sum => &[OptionName::Planes, OptionName::Raw, OptionName::MaxPixels],
-            CommandName::Stats => &[
-                OptionName::Histogram,
+            CommandName::Sum => &[
+                OptionName::Planes,
+                OptionName::Skip,
+                OptionName::Count,
                 OptionName::Raw,
                 OptionName::MaxPixels,
+                OptionName::Progress,
+            ],
+            CommandName::Stats => &[
+                OptionName::Histogram,
+                OptionName::Skip,
+                OptionName::Count,
+                OptionName::Raw,
+                OptionName::MaxPixels,
+                OptionName::Progress,
             ],
             CommandName::Show => &[
                 OptionName::Frame,
@@ -272,6 +282,7 @@ impl CommandName {
                 OptionName::Raw,
                 OptionName::RawSecond,
                 OptionName::MaxPixels,
+                OptionName::Progress,
             ],
         }
     }

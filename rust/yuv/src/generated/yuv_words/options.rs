@@ -57,8 +57,11 @@ pub(crate) fn copy_options<'a>(given: &Given<'a>) -> Result<CopyOptions, UsageEr
 pub(crate) fn sum_options<'a>(given: &Given<'a>) -> Result<SumOptions, UsageError<'a>> {
     Ok(SumOptions {
         planes: given.has(OptionName::Planes),
+        skip: given.number(OptionName::Skip)?,
+        count: given.number(OptionName::Count)?,
         raw: given.raw_video(OptionName::Raw)?,
         max_pixels: given.number(OptionName::MaxPixels)?,
+        progress: given.has(OptionName::Progress),
     })
 }
 
@@ -66,8 +69,11 @@ pub(crate) fn sum_options<'a>(given: &Given<'a>) -> Result<SumOptions, UsageErro
 pub(crate) fn stats_options<'a>(given: &Given<'a>) -> Result<StatsOptions, UsageError<'a>> {
     Ok(StatsOptions {
         histogram: given.has(OptionName::Histogram),
+        skip: given.number(OptionName::Skip)?,
+        count: given.number(OptionName::Count)?,
         raw: given.raw_video(OptionName::Raw)?,
         max_pixels: given.number(OptionName::MaxPixels)?,
+        progress: given.has(OptionName::Progress),
     })
 }
 
@@ -104,6 +110,7 @@ pub(crate) fn plot_options<'a>(given: &Given<'a>) -> Result<PlotOptions, UsageEr
         raw: given.raw_video(OptionName::Raw)?,
         raw_second: given.raw_video(OptionName::RawSecond)?,
         max_pixels: given.number(OptionName::MaxPixels)?,
+        progress: given.has(OptionName::Progress),
     })
 }
 

@@ -12,7 +12,7 @@ const ALL: &str = "usage: yuv info FILE
        yuv show FILE PICTURE
        yuv diff FILE FILE PICTURE
        yuv plot FILE FILE PICTURE
-       yuv help [COMMAND], yuv --help, yuv -h, yuv --version
+       yuv help [COMMAND], yuv COMMAND --help, yuv --help, yuv -h, yuv --version
 
 info       reports what a stream is, and how many frames it has
 compare    reports how far two streams are apart. Status 0: they show the same,
@@ -51,12 +51,14 @@ const COMPARE: &str = "usage: yuv compare FILE FILE [OPTIONS]
 Reports how far two streams are apart: the mean squared error and the peak
 signal-to-noise ratio of all planes and of each, the first sample that differs,
 and which stream has more frames. Status 0: they show the same, 1: they differ.
+Frames have the numbers that they have in the first file.
 
 --ssim            reports structural similarity too, as ffmpeg's filter ssim
                   computes it; planes have at least 8 by 8 samples
 --frames          reports each frame in a line, as ffmpeg's filter psnr does
 --exact           reports the sums of squared errors too
 --csv, --json     reports each frame with all digits, as a table or an object
+                  with the mean, the harmonic mean and the least of all
 --skip N          passes over the first N frames of both streams
 --skip-second N   passes over N frames of the second stream, and --skip of the
                   first alone
@@ -64,7 +66,7 @@ and which stream has more frames. Status 0: they show the same, 1: they differ.
 --raw R           the first file is headerless raw video: R is
                   WIDTHxHEIGHT:FORMAT, as 1920x1080:yuv420p10le
 --raw-second R    so is the second file
---max-pixels N    refuses frames of more than N luma pixels (134217728)
+--max-pixels N    refuses frames of more than N luma pixels (33177600)
 --progress        shows the count of frames meanwhile, on a terminal
 ";
 
@@ -72,8 +74,17 @@ and which stream has more frames. Status 0: they show the same, 1: they differ.
 const COPY: &str = "usage: yuv copy FILE FILE [OPTIONS]
 
 Writes the frames of the first file to the second. They go to a new file beside
-the second one, FILE.partial, which replaces it after the last frame. A device or
-a pipe is written as it is. Parameters of FRAME lines are not kept.
+the second one, FILE.partial, which replaces it after the last frame, with its
+mode, owner and group. Where owner or group cannot be kept, set-ID bits are
+dropped, and a message says so. Where a run was ended by a signal, FILE.partial
+is left, with the sticky bit as a mark, and the next run takes it over. Where
+another run holds it, or it has no mark, FILE.partial1 to 99 are tried; names
+above 255 bytes are cut. Where no file can be made beside FILE, a message says
+so, and FILE is rewritten. Where it cannot be replaced, as a file that is mounted,
+the new one is copied into it. A device, a pipe, or what is itself open, as
+/dev/fd/3, is written as it is: standard output from where it stands, other open
+files at their end, by a position of their own. Parameters of FRAME lines are not
+kept.
 
 --skip N          passes over the first N frames
 --count N         writes N frames at most
@@ -88,7 +99,8 @@ a pipe is written as it is. Parameters of FRAME lines are not kept.
 --raw R           the first file is headerless raw video: R is
                   WIDTHxHEIGHT:FORMAT or WIDTHxHEIGHT:FORMAT@N:D
 --raw-output      writes headerless raw video
---max-pixels N    refuses frames of more than N luma pixels (134217728)
+--max-pixels N    refuses frames of more than N luma pixels (33177600 where
+                  samples change, else any number)
 --progress        shows the count of frames meanwhile, on a terminal
 ";
 
@@ -99,8 +111,11 @@ Reports the CRC-32 of the samples of each frame as zlib and ffmpeg's framehash
 compute it, samples of more than 8 bits as two bytes, the low one first.
 
 --planes          reports one of each plane in place of the frame
+--skip N          passes over the first N frames
+--count N         takes N frames at most
 --raw R           the file is headerless raw video: R is WIDTHxHEIGHT:FORMAT
---max-pixels N    refuses frames of more than N luma pixels (134217728)
+--max-pixels N    refuses frames of more than N luma pixels (33177600)
+--progress        shows the count of frames meanwhile, on a terminal
 ";
 
 /// How `stats` is called.
@@ -111,8 +126,11 @@ and how many samples are outside the nominal range: 16 to 235 for luma and 16 to
 240 for chroma at 8 bits, and in proportion at others.
 
 --histogram       reports how often each value occurs, as a table with commas
+--skip N          passes over the first N frames
+--count N         takes N frames at most
 --raw R           the file is headerless raw video: R is WIDTHxHEIGHT:FORMAT
---max-pixels N    refuses frames of more than N luma pixels (134217728)
+--max-pixels N    refuses frames of more than N luma pixels (33177600)
+--progress        shows the count of frames meanwhile, on a terminal
 ";
 
 /// How `show` is called.
@@ -127,22 +145,22 @@ Writes a frame as a PNG: in colour with 8 bits, or in grey.
 --crop X,Y,WIDTH,HEIGHT
                   shows a rectangle, in luma pixels
 --raw R           the file is headerless raw video: R is WIDTHxHEIGHT:FORMAT
---max-pixels N    refuses frames of more than N luma pixels (134217728)
+--max-pixels N    refuses frames of more than N luma pixels (33177600)
 ";
 
 /// How `diff` is called.
 const DIFF: &str = "usage: yuv diff FILE FILE PICTURE [OPTIONS]
 
 Writes the difference of the luma of two frames as a PNG in grey, black where
-they show the same, and reports where planes differ. Status 0: they show the same,
-1: they differ.
+they show the same, and reports where planes differ, on standard error where the
+picture goes to standard output. Status 0: they show the same, 1: they differ.
 
 --frame N         which frame, counted from 1 (1)
 --gain N          multiplies each difference by N (8)
 --raw R           the first file is headerless raw video: R is
                   WIDTHxHEIGHT:FORMAT
 --raw-second R    so is the second file
---max-pixels N    refuses frames of more than N luma pixels (134217728)
+--max-pixels N    refuses frames of more than N luma pixels (33177600)
 ";
 
 /// How `plot` is called.
@@ -158,7 +176,8 @@ plane by plane, as SVG.
 --raw R           the first file is headerless raw video: R is
                   WIDTHxHEIGHT:FORMAT
 --raw-second R    so is the second file
---max-pixels N    refuses frames of more than N luma pixels (134217728)
+--max-pixels N    refuses frames of more than N luma pixels (33177600)
+--progress        shows the count of frames meanwhile, on a terminal
 ";
 
 /// Returns how the program is called, or one of its commands.
