@@ -1,5 +1,5 @@
 -- The values of one more frame, and of all of them.
-use Rattle.std.proofs.Common.{◌≡◌, ◌∙◌, ◌+◌, ◌-◌, ◌^◌, ◌++◌, ◌∷◌, [], ℕ, Bool, false, List, Ok, Err, Option, Result, Some, None, ap, arith, inl, inr, length, length-append, map, refl, subst, sym}
+use Rattle.std.proofs.Common.{◌≡◌, ◌≤◌, ◌∙◌, ◌+◌, ◌-◌, ◌^◌, ◌++◌, ◌∷◌, [], ℕ, Bool, false, List, Ok, Err, Option, Result, Some, None, ap, arith, inl, inr, length, length-append, map, refl, subst, sym}
 use Rattle.std.proofs.lemmas.List.{append-nil, map-append}
 use Rattle.std.proofs.lemmas.Grind.{flat_map-append}
 use Rattle.std.proofs.lemmas.List.Sums.{sum_by-append}
@@ -12,7 +12,7 @@ use Rattle.yuv_commands.specs.Values.{times_in, AreZero, CountsChroma, CountsFra
 use Rattle.yuv_commands.specs.declared.stats.Counts.{Counts}
 use Rattle.yuv_commands.specs.declared.value_counts.ValueCounts.{ValueCounts}
 use Rattle.yuv_streams.specs.Streams.{framed_bytes, IsFrame}
-use Rattle.yuv_streams.specs.Prelude.{most_frames, tables_of_bytes, Framed, ReadsFrames, Sizes}
+use Rattle.yuv_streams.specs.Prelude.{tables_of_bytes, Framed, ReadsFrames, Sizes}
 use Rattle.yuv_streams.specs.declared.stream.Container.{Container}
 use Rattle.yuv_streams.proofs.Reading.{no_more_read, none_read, one_more_read}
 
@@ -147,21 +147,25 @@ module _ {T : Type 0} (form : PixelForm T) (bound : ℕ) where
             (one_more_frame (is_some sizes.1.0) (map shows before.frames) (shows frame) old new before.values more);
       }
 
-      pub counted_to_end : Consumes mid left' [] → IsAtEnd left'
-          → CountsStream form bound from len layout sizes left left' old
-      counted_to_end read ended = record {
+      pub counted_to_end : (most : ℕ) → Consumes mid left' [] → IsAtEnd left' → n ≤ most
+          → CountsStream form bound from len layout sizes left left' most n old
+      counted_to_end most read ended fewer = record {
         frames = before.frames;
         read = no_more_read from len left mid left' before.frames before.read read;
+        taken = before.counted;
+        bound = fewer;
         ends = inr ended;
         counted = before.values;
       }
 
-    pub all_counted : (left left' : Option (List ℕ)) (n : ℕ) (found : Counts) → CountsSoFar left left' n found
-        → n ≡ most_frames → CountsStream form bound from len layout sizes left left' found
-    all_counted left left' n found before all = record {
+    pub all_counted : (left left' : Option (List ℕ)) (n most : ℕ) (found : Counts) → CountsSoFar left left' n found
+        → n ≡ most → CountsStream form bound from len layout sizes left left' most most found
+    all_counted left left' n most found before all = record {
       frames = before.frames;
       read = before.read;
-      ends = inl (before.counted ∙ all);
+      taken = before.counted ∙ all;
+      bound = omega arith;
+      ends = inl refl;
       counted = before.values;
     }
 

@@ -422,10 +422,15 @@ canonical_words (command.Sum file o) fits =
         refl,
         record {
           planes = counts option.Planes given (options_of name.Sum) refl refl ∙ flag_length o.planes;
+          skip = subst (SaysValue IsNumber o.skip) (sym (stands option.Skip given (options_of name.Sum) refl refl refl))
+              (said IsNumber decimal (λ n. n < 2 ^ 64) (λ n fits. (refl, fits)) o.skip fits.skip);
+          count = subst (SaysValue IsNumber o.count) (sym (stands option.Count given (options_of name.Sum) refl refl refl))
+              (said IsNumber decimal (λ n. n < 2 ^ 64) (λ n fits. (refl, fits)) o.count fits.count);
           raw = subst (SaysValue IsRaw o.raw) (sym (stands option.Raw given (options_of name.Sum) refl refl refl))
               (said IsRaw raw_text FitsRaw raw_spelled o.raw fits.raw);
           max_pixels = subst (SaysValue IsNumber o.max_pixels) (sym (stands option.MaxPixels given (options_of name.Sum) refl refl refl))
               (said IsNumber decimal (λ n. n < 2 ^ 64) (λ n fits. (refl, fits)) o.max_pixels fits.max_pixels);
+          progress = counts option.Progress given (options_of name.Sum) refl refl ∙ flag_length o.progress;
         },
       );
     }
@@ -439,10 +444,15 @@ canonical_words (command.Stats file o) fits =
         refl,
         record {
           histogram = counts option.Histogram given (options_of name.Stats) refl refl ∙ flag_length o.histogram;
+          skip = subst (SaysValue IsNumber o.skip) (sym (stands option.Skip given (options_of name.Stats) refl refl refl))
+              (said IsNumber decimal (λ n. n < 2 ^ 64) (λ n fits. (refl, fits)) o.skip fits.skip);
+          count = subst (SaysValue IsNumber o.count) (sym (stands option.Count given (options_of name.Stats) refl refl refl))
+              (said IsNumber decimal (λ n. n < 2 ^ 64) (λ n fits. (refl, fits)) o.count fits.count);
           raw = subst (SaysValue IsRaw o.raw) (sym (stands option.Raw given (options_of name.Stats) refl refl refl))
               (said IsRaw raw_text FitsRaw raw_spelled o.raw fits.raw);
           max_pixels = subst (SaysValue IsNumber o.max_pixels) (sym (stands option.MaxPixels given (options_of name.Stats) refl refl refl))
               (said IsNumber decimal (λ n. n < 2 ^ 64) (λ n fits. (refl, fits)) o.max_pixels fits.max_pixels);
+          progress = counts option.Progress given (options_of name.Stats) refl refl ∙ flag_length o.progress;
         },
       );
     }
@@ -515,6 +525,7 @@ canonical_words (command.Plot first second output o) fits =
               (said IsRaw raw_text FitsRaw raw_spelled o.raw_second fits.raw_second);
           max_pixels = subst (SaysValue IsNumber o.max_pixels) (sym (stands option.MaxPixels given (options_of name.Plot) refl refl refl))
               (said IsNumber decimal (λ n. n < 2 ^ 64) (λ n fits. (refl, fits)) o.max_pixels fits.max_pixels);
+          progress = counts option.Progress given (options_of name.Plot) refl refl ∙ flag_length o.progress;
         },
       );
     }

@@ -315,17 +315,23 @@ same_copy o p e0 e1 e2 e3 e4 e5 e6 e7 e8 e9 e10 =
     ∙ ap (λ (v : Option ℕ). let x : CopyOptions = record { skip = p.skip; count = p.count; crop = p.crop; half = p.half; format = p.format; rate = p.rate; aspect = p.aspect; raw = p.raw; raw_output = p.raw_output; max_pixels = v; progress = o.progress } in x) e9
     ∙ ap (λ (v : Bool). let x : CopyOptions = record { skip = p.skip; count = p.count; crop = p.crop; half = p.half; format = p.format; rate = p.rate; aspect = p.aspect; raw = p.raw; raw_output = p.raw_output; max_pixels = p.max_pixels; progress = v } in x) e10
 
-same_sum : (o p : SumOptions) → o.planes ≡ p.planes → o.raw ≡ p.raw → o.max_pixels ≡ p.max_pixels → o ≡ p
-same_sum o p e0 e1 e2 =
-    ap (λ (v : Bool). let x : SumOptions = record { planes = v; raw = o.raw; max_pixels = o.max_pixels } in x) e0
-    ∙ ap (λ (v : Option RawVideo). let x : SumOptions = record { planes = p.planes; raw = v; max_pixels = o.max_pixels } in x) e1
-    ∙ ap (λ (v : Option ℕ). let x : SumOptions = record { planes = p.planes; raw = p.raw; max_pixels = v } in x) e2
+same_sum : (o p : SumOptions) → o.planes ≡ p.planes → o.skip ≡ p.skip → o.count ≡ p.count → o.raw ≡ p.raw → o.max_pixels ≡ p.max_pixels → o.progress ≡ p.progress → o ≡ p
+same_sum o p e0 e1 e2 e3 e4 e5 =
+    ap (λ (v : Bool). let x : SumOptions = record { planes = v; skip = o.skip; count = o.count; raw = o.raw; max_pixels = o.max_pixels; progress = o.progress } in x) e0
+    ∙ ap (λ (v : Option ℕ). let x : SumOptions = record { planes = p.planes; skip = v; count = o.count; raw = o.raw; max_pixels = o.max_pixels; progress = o.progress } in x) e1
+    ∙ ap (λ (v : Option ℕ). let x : SumOptions = record { planes = p.planes; skip = p.skip; count = v; raw = o.raw; max_pixels = o.max_pixels; progress = o.progress } in x) e2
+    ∙ ap (λ (v : Option RawVideo). let x : SumOptions = record { planes = p.planes; skip = p.skip; count = p.count; raw = v; max_pixels = o.max_pixels; progress = o.progress } in x) e3
+    ∙ ap (λ (v : Option ℕ). let x : SumOptions = record { planes = p.planes; skip = p.skip; count = p.count; raw = p.raw; max_pixels = v; progress = o.progress } in x) e4
+    ∙ ap (λ (v : Bool). let x : SumOptions = record { planes = p.planes; skip = p.skip; count = p.count; raw = p.raw; max_pixels = p.max_pixels; progress = v } in x) e5
 
-same_stats : (o p : StatsOptions) → o.histogram ≡ p.histogram → o.raw ≡ p.raw → o.max_pixels ≡ p.max_pixels → o ≡ p
-same_stats o p e0 e1 e2 =
-    ap (λ (v : Bool). let x : StatsOptions = record { histogram = v; raw = o.raw; max_pixels = o.max_pixels } in x) e0
-    ∙ ap (λ (v : Option RawVideo). let x : StatsOptions = record { histogram = p.histogram; raw = v; max_pixels = o.max_pixels } in x) e1
-    ∙ ap (λ (v : Option ℕ). let x : StatsOptions = record { histogram = p.histogram; raw = p.raw; max_pixels = v } in x) e2
+same_stats : (o p : StatsOptions) → o.histogram ≡ p.histogram → o.skip ≡ p.skip → o.count ≡ p.count → o.raw ≡ p.raw → o.max_pixels ≡ p.max_pixels → o.progress ≡ p.progress → o ≡ p
+same_stats o p e0 e1 e2 e3 e4 e5 =
+    ap (λ (v : Bool). let x : StatsOptions = record { histogram = v; skip = o.skip; count = o.count; raw = o.raw; max_pixels = o.max_pixels; progress = o.progress } in x) e0
+    ∙ ap (λ (v : Option ℕ). let x : StatsOptions = record { histogram = p.histogram; skip = v; count = o.count; raw = o.raw; max_pixels = o.max_pixels; progress = o.progress } in x) e1
+    ∙ ap (λ (v : Option ℕ). let x : StatsOptions = record { histogram = p.histogram; skip = p.skip; count = v; raw = o.raw; max_pixels = o.max_pixels; progress = o.progress } in x) e2
+    ∙ ap (λ (v : Option RawVideo). let x : StatsOptions = record { histogram = p.histogram; skip = p.skip; count = p.count; raw = v; max_pixels = o.max_pixels; progress = o.progress } in x) e3
+    ∙ ap (λ (v : Option ℕ). let x : StatsOptions = record { histogram = p.histogram; skip = p.skip; count = p.count; raw = p.raw; max_pixels = v; progress = o.progress } in x) e4
+    ∙ ap (λ (v : Bool). let x : StatsOptions = record { histogram = p.histogram; skip = p.skip; count = p.count; raw = p.raw; max_pixels = p.max_pixels; progress = v } in x) e5
 
 same_show : (o p : ShowOptions) → o.frame ≡ p.frame → o.matrix ≡ p.matrix → o.range ≡ p.range → o.plane ≡ p.plane → o.crop ≡ p.crop → o.raw ≡ p.raw → o.max_pixels ≡ p.max_pixels → o ≡ p
 same_show o p e0 e1 e2 e3 e4 e5 e6 =
@@ -345,14 +351,15 @@ same_diff o p e0 e1 e2 e3 e4 =
     ∙ ap (λ (v : Option RawVideo). let x : DiffOptions = record { frame = p.frame; gain = p.gain; raw = p.raw; raw_second = v; max_pixels = o.max_pixels } in x) e3
     ∙ ap (λ (v : Option ℕ). let x : DiffOptions = record { frame = p.frame; gain = p.gain; raw = p.raw; raw_second = p.raw_second; max_pixels = v } in x) e4
 
-same_plot : (o p : PlotOptions) → o.skip ≡ p.skip → o.skip_second ≡ p.skip_second → o.count ≡ p.count → o.raw ≡ p.raw → o.raw_second ≡ p.raw_second → o.max_pixels ≡ p.max_pixels → o ≡ p
-same_plot o p e0 e1 e2 e3 e4 e5 =
-    ap (λ (v : Option ℕ). let x : PlotOptions = record { skip = v; skip_second = o.skip_second; count = o.count; raw = o.raw; raw_second = o.raw_second; max_pixels = o.max_pixels } in x) e0
-    ∙ ap (λ (v : Option ℕ). let x : PlotOptions = record { skip = p.skip; skip_second = v; count = o.count; raw = o.raw; raw_second = o.raw_second; max_pixels = o.max_pixels } in x) e1
-    ∙ ap (λ (v : Option ℕ). let x : PlotOptions = record { skip = p.skip; skip_second = p.skip_second; count = v; raw = o.raw; raw_second = o.raw_second; max_pixels = o.max_pixels } in x) e2
-    ∙ ap (λ (v : Option RawVideo). let x : PlotOptions = record { skip = p.skip; skip_second = p.skip_second; count = p.count; raw = v; raw_second = o.raw_second; max_pixels = o.max_pixels } in x) e3
-    ∙ ap (λ (v : Option RawVideo). let x : PlotOptions = record { skip = p.skip; skip_second = p.skip_second; count = p.count; raw = p.raw; raw_second = v; max_pixels = o.max_pixels } in x) e4
-    ∙ ap (λ (v : Option ℕ). let x : PlotOptions = record { skip = p.skip; skip_second = p.skip_second; count = p.count; raw = p.raw; raw_second = p.raw_second; max_pixels = v } in x) e5
+same_plot : (o p : PlotOptions) → o.skip ≡ p.skip → o.skip_second ≡ p.skip_second → o.count ≡ p.count → o.raw ≡ p.raw → o.raw_second ≡ p.raw_second → o.max_pixels ≡ p.max_pixels → o.progress ≡ p.progress → o ≡ p
+same_plot o p e0 e1 e2 e3 e4 e5 e6 =
+    ap (λ (v : Option ℕ). let x : PlotOptions = record { skip = v; skip_second = o.skip_second; count = o.count; raw = o.raw; raw_second = o.raw_second; max_pixels = o.max_pixels; progress = o.progress } in x) e0
+    ∙ ap (λ (v : Option ℕ). let x : PlotOptions = record { skip = p.skip; skip_second = v; count = o.count; raw = o.raw; raw_second = o.raw_second; max_pixels = o.max_pixels; progress = o.progress } in x) e1
+    ∙ ap (λ (v : Option ℕ). let x : PlotOptions = record { skip = p.skip; skip_second = p.skip_second; count = v; raw = o.raw; raw_second = o.raw_second; max_pixels = o.max_pixels; progress = o.progress } in x) e2
+    ∙ ap (λ (v : Option RawVideo). let x : PlotOptions = record { skip = p.skip; skip_second = p.skip_second; count = p.count; raw = v; raw_second = o.raw_second; max_pixels = o.max_pixels; progress = o.progress } in x) e3
+    ∙ ap (λ (v : Option RawVideo). let x : PlotOptions = record { skip = p.skip; skip_second = p.skip_second; count = p.count; raw = p.raw; raw_second = v; max_pixels = o.max_pixels; progress = o.progress } in x) e4
+    ∙ ap (λ (v : Option ℕ). let x : PlotOptions = record { skip = p.skip; skip_second = p.skip_second; count = p.count; raw = p.raw; raw_second = p.raw_second; max_pixels = v; progress = o.progress } in x) e5
+    ∙ ap (λ (v : Bool). let x : PlotOptions = record { skip = p.skip; skip_second = p.skip_second; count = p.count; raw = p.raw; raw_second = p.raw_second; max_pixels = p.max_pixels; progress = v } in x) e6
 
 -- what is given and the files say one command of a name
 one_said : (given : OptionName → List (List ℕ)) (k : CommandName) (c d : Command) (files : List (List ℕ))
@@ -419,8 +426,11 @@ one_said given name.Sum (command.Sum file o) (command.Sum file' p) files one oth
       f0,
       same_sum o p
           (one_flag o.planes p.planes (length (given option.Planes)) one.1.planes other.1.planes)
+          (one_value IsNumber one_number o.skip p.skip (given option.Skip) one.1.skip other.1.skip)
+          (one_value IsNumber one_number o.count p.count (given option.Count) one.1.count other.1.count)
           (one_value IsRaw one_raw o.raw p.raw (given option.Raw) one.1.raw other.1.raw)
-          (one_value IsNumber one_number o.max_pixels p.max_pixels (given option.MaxPixels) one.1.max_pixels other.1.max_pixels),
+          (one_value IsNumber one_number o.max_pixels p.max_pixels (given option.MaxPixels) one.1.max_pixels other.1.max_pixels)
+          (one_flag o.progress p.progress (length (given option.Progress)) one.1.progress other.1.progress),
     )
 one_said given name.Sum (command.Sum file o) _ files one other = absurd other
 one_said given name.Sum _ _ files one other = absurd one
@@ -430,8 +440,11 @@ one_said given name.Stats (command.Stats file o) (command.Stats file' p) files o
       f0,
       same_stats o p
           (one_flag o.histogram p.histogram (length (given option.Histogram)) one.1.histogram other.1.histogram)
+          (one_value IsNumber one_number o.skip p.skip (given option.Skip) one.1.skip other.1.skip)
+          (one_value IsNumber one_number o.count p.count (given option.Count) one.1.count other.1.count)
           (one_value IsRaw one_raw o.raw p.raw (given option.Raw) one.1.raw other.1.raw)
-          (one_value IsNumber one_number o.max_pixels p.max_pixels (given option.MaxPixels) one.1.max_pixels other.1.max_pixels),
+          (one_value IsNumber one_number o.max_pixels p.max_pixels (given option.MaxPixels) one.1.max_pixels other.1.max_pixels)
+          (one_flag o.progress p.progress (length (given option.Progress)) one.1.progress other.1.progress),
     )
 one_said given name.Stats (command.Stats file o) _ files one other = absurd other
 one_said given name.Stats _ _ files one other = absurd one
@@ -488,7 +501,8 @@ one_said given name.Plot (command.Plot first second output o) (command.Plot firs
           (one_value IsNumber one_number o.count p.count (given option.Count) one.1.count other.1.count)
           (one_value IsRaw one_raw o.raw p.raw (given option.Raw) one.1.raw other.1.raw)
           (one_value IsRaw one_raw o.raw_second p.raw_second (given option.RawSecond) one.1.raw_second other.1.raw_second)
-          (one_value IsNumber one_number o.max_pixels p.max_pixels (given option.MaxPixels) one.1.max_pixels other.1.max_pixels),
+          (one_value IsNumber one_number o.max_pixels p.max_pixels (given option.MaxPixels) one.1.max_pixels other.1.max_pixels)
+          (one_flag o.progress p.progress (length (given option.Progress)) one.1.progress other.1.progress),
     )
 one_said given name.Plot (command.Plot first second output o) _ files one other = absurd other
 one_said given name.Plot _ _ files one other = absurd one

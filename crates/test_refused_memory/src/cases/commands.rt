@@ -129,7 +129,8 @@ where
     if status == wanted.status && said.is_empty() {
         return Outcome::done(*written == *wanted.text);
     }
-    if status != 2 || !said.ends_with(b": out of memory\n") {
+    let names_a_file = !said.starts_with(b"yuv: out of memory");
+    if status != 2 || !said.ends_with(b": out of memory\n") || !names_a_file {
         return Outcome::Wrong("what is said of the refusal");
     }
     let has_begun = wanted.may_begin && wanted.text.starts_with(written);

@@ -8,19 +8,15 @@ use Rattle.yuv_commands.proofs.Counting.{counted_to_end, done_of, none_counted, 
 use Rattle.yuv_commands.specs.Values.{CountsFrame}
 use Rattle.yuv_streams.specs.Pictures.{ReadsTables, Sizes}
 use Rattle.yuv_streams.specs.Sources.{bytes_left, Stream}
-use Rattle.yuv_commands.proofs.stats.count_values.Goals as goal
+use Rattle.yuv_commands.proofs.stats.count_frames.Goals as goal
 
 pub loop-count-init : goal.loop-count-init
-loop-count-init g c =
-    let frame = c.frame.result.now in
-    let sized = ap (λ f. sizes_of (tables_of f)) c.frame.ensures.value ∙ c.in_ok-picture.ensures.sizes in
-    record {
-      made = c.in_ok-picture.ensures.made;
-      sized = c.in_ok-picture.ensures.sizes;
-      same = refl;
-      counted = none_counted _ _ _ _ _ _ _ c.in-Ok.counts c.is_some-has_chroma.result c.in-Ok.ensures
-          (c.is_some-has_chroma.ensures ∙ there_too table_of size_of frame.u_plane ∙ ap (λ (s : Sizes). is_some s.1.0) sized);
-    }
+loop-count-init g c = record {
+  made = c.requires.made;
+  sized = refl;
+  same = refl;
+  counted = none_counted _ _ _ _ _ _ _ c.args.counts.now _ c.requires.nothing refl;
+}
 
 pub returns-then-not-branch : goal.returns-then-not-branch
 returns-then-not-branch g c =
@@ -31,7 +27,7 @@ returns-then-not-branch g c =
     let read = subst (λ (more : Bool). ReadsTables g.T.Pixel.form source.container source.frame_len source.layout
     (sizes_of (tables_of c.loop-count.picture.frame)) mid left c.read.new.self.bytes.items
     (tables_of c.read.new.self.frame) more) c.if-not-branch.true c.in_ok-read.ensures.read in
-    counted_to_end _ _ _ _ _ _ _ mid left _ _ before.counted read.0 read.1
+    counted_to_end _ _ _ _ _ _ _ mid left _ _ before.counted c.args.most read.0 read.1 (omega arith)
 
 pub loop-count-preserved : goal.loop-count-preserved
 loop-count-preserved g c =
