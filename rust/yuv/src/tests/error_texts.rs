@@ -1,7 +1,7 @@
 //! What errors say: each row of the table is what a value of its variant prints. tools/check-error-texts sees that no variant
 //! lacks a row.
 
-use crate::generated::yuv_commands::Fault;
+use crate::generated::yuv_commands::{Fault, NothingTaken};
 use crate::generated::yuv_pictures::PictureError;
 use crate::generated::yuv_streams::{Place, Problem, StreamError};
 use crate::generated::yuv_words::{CommandName, OptionName, UsageError};
@@ -80,6 +80,7 @@ fn faults_of_commands() {
         problem: Problem::Stream(Y4mError::Planar(PlanarError::WriteZero)),
         cause: None,
     };
+    let nothing = |skip, count| NothingTaken { frames: 3, skip, count };
     let full = PictureError::Png(PngError::Write(io::Error::from(ErrorKind::StorageFull)));
     compare(
         "yuv_commands Fault",
@@ -88,6 +89,7 @@ fn faults_of_commands() {
             ("InputTwice", Fault::InputTwice(Place::Second)),
             ("ReadAndWritten", Fault::ReadAndWritten(Place::First)),
             ("NotAStream", Fault::NotAStream(Place::First)),
+            ("NoBytes", Fault::NoBytes(Place::First)),
             ("NoPlanes", Fault::NoPlanes(Place::First)),
             ("Header", Fault::Header(missing())),
             ("Stream", Fault::Stream(forbidden())),
@@ -96,6 +98,8 @@ fn faults_of_commands() {
             ("Replace", Fault::Replace(ErrorKind::PermissionDenied)),
             ("Picture", Fault::Picture(full)),
             ("Picture", Fault::Picture(PictureError::NoPlane)),
+            ("Nothing", Fault::Nothing(Place::First, nothing(9, None))),
+            ("Nothing", Fault::Nothing(Place::First, nothing(0, Some(0)))),
             ("NoFrame", Fault::NoFrame(Place::First, 2)),
             ("FrameZero", Fault::FrameZero),
             ("NoWindow", Fault::NoWindow(Place::First)),

@@ -186,8 +186,9 @@ fn push_first(
     text: &mut String,
     name: &str,
     samples: usize,
-    (x, y): (usize, usize),
+    place: (usize, usize),
 ) -> Result<(), AllocError> {
+    let (x, y) = place;
     write!(
         text,
         "{name}: {samples} samples differ; first difference: column {x}, row {y}"

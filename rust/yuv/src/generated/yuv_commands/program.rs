@@ -20,7 +20,7 @@ use crate::support::fs::Files;
 use crate::support::time::Clock;
 use v_frame_proved::planar::Counted;
 use crate::generated::yuv_streams::Place;
-use crate::generated::yuv_words::{Command, UsageError, help_words, read_command, usage_text};
+use crate::generated::yuv_words::{Command, UsageError, help_topic, read_command, usage_text};
 
 /// What `yuv --version` prints.
 pub const VERSION: &str = "yuv 0.3.0\n";
@@ -77,11 +77,9 @@ where
         mut error,
         is_terminal,
     } = streams;
-    let asked = help_words(words);
-    let words = match &asked {
-        Some(asked) => asked.as_slice(),
-        None => words,
-    };
+    let topic = help_topic(words);
+    let asked = ["help", topic.unwrap_or("")];
+    let words = if topic.is_some() { &asked } else { words };
     let command = match read_command(words) {
         Ok(command) => command,
         Err(refusal) => return refuse(&refusal, &mut error),

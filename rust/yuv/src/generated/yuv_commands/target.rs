@@ -13,8 +13,8 @@ use std::io::ErrorKind;
 use std::os::unix::fs::MetadataExt;
 use crate::support::fs::Files;
 
-/// Whether a file runs as its owner, and as its group.
-const SET_ID_BITS: u32 = 0o6000;
+/// What a mode may have where a file is another one's: not that it runs as its owner or its group.
+const UNOWNED_BITS: u32 = 0o1777;
 
 /// What a command writes in place of a target.
 pub struct TargetFile<F> {
@@ -268,10 +268,9 @@ fn mode_of(found: &Metadata) -> u32 {
 /// Gives a new file the owner and the group of one that it will replace, and returns the mode that it gets: without the set-ID
 /// bits where these are not kept.
 fn kept_of<F: OpenFile + SystemFile>(file: &F, found: &Metadata) -> (u32, Option<Loss>) {
-    let mode = mode_of(found);
     match give_owner(file, found) {
-        Ok(true) => (mode, None),
-        _ => (mode & !SET_ID_BITS, Some(Loss::Owner)),
+        Ok(true) => (mode_of(found), None),
+        _ => (found.mode() & UNOWNED_BITS, Some(Loss::Owner)),
     }
 }
 

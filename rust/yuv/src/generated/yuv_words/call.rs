@@ -27,11 +27,10 @@ pub fn read_command<'a>(words: &[&'a str]) -> Result<Command<'a>, UsageError<'a>
     }
 }
 
-/// Returns the words `help COMMAND` for `COMMAND --help` and `COMMAND -h`, behind which nothing is looked at. `None` for all
-/// others.
-pub fn help_words<'a>(words: &[&'a str]) -> Option<[&'a str; 2]> {
+/// Returns the first word where help is asked about it by the second, `--help` or `-h`, behind which nothing is looked at.
+pub fn help_topic<'a>(words: &[&'a str]) -> Option<&'a str> {
     match words {
-        [first, second, ..] if is_help_option(*second) => Some(["help", *first]),
+        [first, second, ..] if is_help_option(*second) => Some(*first),
         _ => None,
     }
 }

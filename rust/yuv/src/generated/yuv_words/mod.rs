@@ -14,7 +14,7 @@ mod usage;
 mod values;
 mod word;
 
-pub use call::{help_words, read_command};
+pub use call::{help_topic, read_command};
 pub use command::{
     Command, CommandName, CompareOptions, CopyOptions, DiffOptions, InfoOptions, PlaneName,
     PlotOptions, RawVideo, Rectangle, ReportForm, ShowOptions, StatsOptions, SumOptions,
