@@ -153,7 +153,7 @@ module _ {T : Type 0} (form : PixelForm T) (bound : ℕ) where
         frames = before.frames;
         read = no_more_read from len left mid left' before.frames before.read read;
         taken = before.counted;
-        bound = fewer;
+        within = fewer;
         ends = inr ended;
         counted = before.values;
       }
@@ -164,7 +164,7 @@ module _ {T : Type 0} (form : PixelForm T) (bound : ℕ) where
       frames = before.frames;
       read = before.read;
       taken = before.counted ∙ all;
-      bound = omega arith;
+      within = omega arith;
       ends = inl refl;
       counted = before.values;
     }

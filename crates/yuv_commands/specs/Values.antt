@@ -101,7 +101,7 @@ module _ {T : Type 0} (form : PixelForm T) (bound : ℕ) where
     pub frames : List Framed
     pub read : ReadsFrames left left' from frame_len frames
     pub taken : length frames ≡ number
-    pub bound : number ≤ most
+    pub within : number ≤ most
     pub ends : (number ≡ most) ⊎ IsAtEnd left'
     pub counted : CountsFrames (is_some sizes.1.0)
         (map (λ frame. tables_of_bytes form layout sizes frame.1) frames) found

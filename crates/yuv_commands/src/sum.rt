@@ -109,7 +109,7 @@ fn sum_as<T: Pixel, R: io::Read, W: io::Write, P: Progress>(
         before: skip,
     };
     let most = options.count.unwrap_or(u64::MAX);
-    sum_frames(alloc, source, &mut picture, lines, most, out, progress)
+    Ok(sum_frames(alloc, source, &mut picture, lines, most, out, progress)?)
 }
 
 /// How the lines of frames are made.

@@ -29,6 +29,6 @@ returns-clause-ended g c =
       | inr more ↦ λ asked. stays_asked contents two_bytes said first.scale start _ first mid
           (c.in_ok-found.ensures.words_taken more).1 asked
     ] in
-    report_ends contents (contents c.args.out) c.args.out c.into_out.result first mid c.end.new.self said options.exact
+    report_ends contents (contents c.args.out) c.args.out c.into_out.result first mid c.end-2.new.self said options.exact
     start c.in_ok-found.found refl c.new-observer.ensures.out form exact before (sym c.into_out.ensures) stays
     c.in_ok-end.ensures

@@ -1,10 +1,8 @@
 -- The values of one more frame are counted.
-use Rattle.std.proofs.Common.{◌∙◌, ◌^◌, Bool, true, ap, refl, subst}
-use Rattle.std.specs.Prelude.{is_some}
-use Rattle.v_frame.specs.Prelude.{table_of, tables_of, Tables}
+use Rattle.std.proofs.Common.{◌∙◌, ◌^◌, Bool, true, ap, arith, refl, subst}
+use Rattle.v_frame.specs.Prelude.{tables_of, Tables}
 use Rattle.v_frame_planar.specs.Planar.{sizes_of}
-use Rattle.v_frame_planar.specs.Planar.{size_of}
-use Rattle.yuv_commands.proofs.Counting.{counted_to_end, done_of, none_counted, one_more_counted, there_too}
+use Rattle.yuv_commands.proofs.Counting.{counted_to_end, done_of, none_counted, one_more_counted}
 use Rattle.yuv_commands.specs.Values.{CountsFrame}
 use Rattle.yuv_streams.specs.Pictures.{ReadsTables, Sizes}
 use Rattle.yuv_streams.specs.Sources.{bytes_left, Stream}
@@ -46,10 +44,10 @@ loop-count-preserved g c =
     before.same whole in
     let read = subst (λ (s : Sizes). ReadsTables form c.args.source.now.container c.args.source.now.frame_len
     c.args.source.now.layout s mid left bytes (tables_of c.read.new.self.frame) true) before.sized of_stream in
-    let added : CountsFrame form bound (tables_of c.frame-in-loop-count.result.now) c.loop-count.counts c.add.new.self =
+    let added : CountsFrame form bound (tables_of c.frame.result.now) c.loop-count.counts c.add.new.self =
     done_of c.add.result _ c.add.ensures c.if-is_err.ensures.value in
     let counted = subst (λ (t : Tables g.row.T.Denot). CountsFrame form bound t c.loop-count.counts c.add.new.self)
-    (ap (λ f. tables_of f) c.frame-in-loop-count.ensures.value ∙ read.3) added in
+    (ap (λ f. tables_of f) c.frame.ensures.value ∙ read.3) added in
     record {
       made = c.in_ok-read.ensures.made;
       sized = c.in_ok-read.ensures.sizes ∙ before.sized;

@@ -85,9 +85,7 @@ impl<'a, H: Clock, E: io::Write> ProgressLine<'a, H, E> {
         };
         let _ = write_count(&mut line, frames, percent, passed);
         let length = line.length;
-        for _ in length..before {
-            let _ = self.out.write_all(b" ");
-        }
+        write_blanks(&mut self.out, before.saturating_sub(length));
         self.length = length;
     }
 
@@ -114,6 +112,13 @@ impl<H: Clock, E: io::Write> Progress for ProgressLine<'_, H, E> {
         }
         self.last_shown = passed;
         self.write_line(passed);
+    }
+}
+
+/// Writes so many blanks. Where they can't be written, the work goes on.
+fn write_blanks<E: io::Write>(out: &mut E, count: usize) {
+    for _ in 0..count {
+        let _ = out.write_all(b" ");
     }
 }
 

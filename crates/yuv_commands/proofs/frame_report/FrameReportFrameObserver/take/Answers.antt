@@ -26,7 +26,7 @@ returns-in-Ok-clause-taken g c =
     let text = string_bytes asked.text in
     let same_out = ap (λ o. contents o.inner) (pushed.out ∙ measured.out) in
     let counted : new.frames ≡ min (old.frames + 1) most_frames = wrote.frames ∙ pushed.frames ∙ measured.frames
-    ∙ c.saturating_add.ensures in
+    ∙ c.saturating_add-self.ensures in
     let number = ap (λ n. frame_number old.before n) (sym (wrote.frames ∙ pushed.frames)) in
     let start = ap (λ n. frame_number n c.similarities-ssim.new.self.frames) measured.before ∙ number in
     let said = subst (λ (r : Report). IsTrue r.lists_frames → EndsWithFrame r.form
