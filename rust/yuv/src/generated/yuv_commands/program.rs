@@ -71,15 +71,27 @@ where
     O: io::Write,
     E: io::Write,
 {
+    match help_topic(words) {
+        Some(topic) => run_words(rt, &["help", topic], streams),
+        None => run_words(rt, words, streams),
+    }
+}
+
+/// Does what these words ask for, the command first.
+fn run_words<H, I, O, E>(rt: &H, words: &[&str], streams: Streams<I, O, E>) -> Status
+where
+    H: Files + Clock,
+    H::File: SystemFile,
+    I: io::Read,
+    O: io::Write,
+    E: io::Write,
+{
     let Streams {
         input,
         output,
         mut error,
         is_terminal,
     } = streams;
-    let topic = help_topic(words);
-    let asked = ["help", topic.unwrap_or("")];
-    let words = if topic.is_some() { &asked } else { words };
     let command = match read_command(words) {
         Ok(command) => command,
         Err(refusal) => return refuse(&refusal, &mut error),
