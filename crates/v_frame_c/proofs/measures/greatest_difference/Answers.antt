@@ -1,0 +1,20 @@
+-- The pictures are those of the rows, and the difference is the same in 32 bits.
+use Rattle.std.proofs.Common.{ℕ, List, subst, sym}
+use Rattle.v_frame.specs.Prelude.{Table}
+use Rattle.v_frame_measures.specs.Prelude.{IsGreatestDifference}
+use Rattle.v_frame_measures.specs.declared.differences.GreatestDifference.{GreatestDifference}
+use Rattle.v_frame_c.specs.Layout.{picture}
+use Rattle.v_frame_c.proofs.measures.greatest_difference.Goals as goal
+
+pub returns-clause-found : goal.returns-clause-found
+returns-clause-found g c = λ _.
+    let value = g.T.Pixel.form.value in
+    let greatest = c.greatest_difference-greatest.result in
+    let first = picture c.args.a_rows.now c.args.a.now in
+    let second = picture c.args.b_rows.now c.args.b.now in
+    let by_first = subst (λ (t : Table g.row.T.Denot). IsGreatestDifference value t c.in-Some-of.second greatest)
+    c.in-Some.ensures.rows.1 c.greatest_difference-greatest.ensures in
+    let by_second = subst (λ (t : Table g.row.T.Denot). IsGreatestDifference value first t greatest)
+    c.in-Some-of.ensures.rows.1 by_first in
+    subst (λ (n : ℕ). let found : GreatestDifference = record { difference = n; x = greatest.x; y = greatest.y } in
+    IsGreatestDifference value first second found) (sym c.from.ensures) by_second
