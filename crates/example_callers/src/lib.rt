@@ -15,6 +15,7 @@ pub mod filters;
 pub mod frames;
 pub mod iterators;
 pub mod lent;
+pub mod lent_for_writing;
 pub mod motion;
 pub mod pictures;
 pub mod planes;

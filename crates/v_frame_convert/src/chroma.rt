@@ -7,7 +7,7 @@ ghost use Rattle.v_frame_convert.specs.declared.scale.Scale.TheVariants.{Half, S
 
 use crate::rows;
 use v_frame::pixel::Pixel;
-use v_frame::plane::{Plane, PlaneRef};
+use v_frame::plane::{Plane, PlaneRef, VisibleMut};
 
 /// Shows in `target` what `source` shows, with each pixel `ratio_x` times across and `ratio_y` times down: the pixel of column
 /// `x` in row `y` is that of column `x / ratio_x` in row `y / ratio_y`. The border of the target stays.
@@ -30,11 +30,14 @@ pub fn upscale<T: Copy>(
         ≡ pixel_at (table_of source.now) (x / ratio_x) (y / ratio_y) }
     ensures border { KeepsBorder target.old target.new }
 {
-    let geometry = target.geometry();
-    let (_, visible) = target.data_mut().split_at_mut(geometry.data_origin());
     let source = source.as_rows_ref();
-    let (width, height, stride) = (geometry.width(), geometry.height(), geometry.stride());
-    rows::upscale(&source, visible, width, height, stride, ratio_x, ratio_y);
+    let VisibleMut {
+        entries,
+        width,
+        height,
+        stride,
+    } = target.visible_mut();
+    rows::upscale(&source, entries, width, height, stride, ratio_x, ratio_y);
 }
 
 /// Shows in `target` what `source` shows, in half the size, rounded up: each pixel is the mean of a block of two by two,
@@ -50,11 +53,14 @@ pub fn downscale_to_edge<T: Pixel>(source: &PlaneRef<'_, T>, target: &mut Plane<
         target.old.geometry.width target.old.geometry.height (table_of source.now) }
     ensures border { KeepsBorder target.old target.new }
 {
-    let geometry = target.geometry();
-    let (_, visible) = target.data_mut().split_at_mut(geometry.data_origin());
     let source = source.as_rows_ref();
-    let (width, height, stride) = (geometry.width(), geometry.height(), geometry.stride());
-    rows::downscale_to_edge(&source, visible, width, height, stride);
+    let VisibleMut {
+        entries,
+        width,
+        height,
+        stride,
+    } = target.visible_mut();
+    rows::downscale_to_edge(&source, entries, width, height, stride);
 }
 
 /// Shows in `target` what `source` shows, with half as many columns, rounded up: each pixel is the mean of two, rounded upwards
@@ -68,9 +74,12 @@ pub fn halve_columns<T: Pixel>(source: &PlaneRef<'_, T>, target: &mut Plane<T>)
         target.old.geometry.width target.old.geometry.height (table_of source.now) }
     ensures border { KeepsBorder target.old target.new }
 {
-    let geometry = target.geometry();
-    let (_, visible) = target.data_mut().split_at_mut(geometry.data_origin());
     let source = source.as_rows_ref();
-    let (width, height, stride) = (geometry.width(), geometry.height(), geometry.stride());
-    rows::halve_columns(&source, visible, width, height, stride);
+    let VisibleMut {
+        entries,
+        width,
+        height,
+        stride,
+    } = target.visible_mut();
+    rows::halve_columns(&source, entries, width, height, stride);
 }

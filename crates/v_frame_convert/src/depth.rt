@@ -6,7 +6,7 @@ ghost use Rattle.v_frame_convert.specs.Depth.{pixel_at_depth, DepthFits};
 
 use crate::rows;
 use v_frame::pixel::Pixel;
-use v_frame::plane::{Plane, PlaneRef};
+use v_frame::plane::{Plane, PlaneRef, VisibleMut};
 
 /// Shows in `target` what `source` shows, with its values of bit depth `from` in bit depth `to`. The border of the target
 /// stays.
@@ -29,9 +29,12 @@ pub fn convert_depth<S: Pixel, T: Pixel>(
         ≡ converted (converted (pixel_at_depth S.form T.form from to)) (table_of source.now) }
     ensures border { KeepsBorder target.old target.new }
 {
-    let geometry = target.geometry();
-    let (_, visible) = target.data_mut().split_at_mut(geometry.data_origin());
     let source = source.as_rows_ref();
-    let (width, height) = (geometry.width(), geometry.height());
-    rows::convert_depth(&source, visible, width, height, geometry.stride(), from, to);
+    let VisibleMut {
+        entries,
+        width,
+        height,
+        stride,
+    } = target.visible_mut();
+    rows::convert_depth(&source, entries, width, height, stride, from, to);
 }

@@ -5,7 +5,7 @@ ghost use Rattle.v_frame_convert.specs.Convert.{converted, GivesPixels};
 
 use crate::rows;
 use v_frame::pixel::Pixel;
-use v_frame::plane::{Plane, PlaneRef};
+use v_frame::plane::{Plane, PlaneRef, VisibleMut};
 
 /// Makes each visible pixel of `target` a result of `change` at the pixel of the same column and row of `source`, which has the
 /// same size. The border of the target stays.
@@ -24,9 +24,12 @@ pub fn map_into<S: Pixel, T: Pixel, F: Fn(S) -> T>(
         → table_of target.new ≡ converted (converted g) (table_of source.now) }
     ensures border { KeepsBorder target.old target.new }
 {
-    let geometry = target.geometry();
-    let (_, visible) = target.data_mut().split_at_mut(geometry.data_origin());
     let source = source.as_rows_ref();
-    let (width, height) = (geometry.width(), geometry.height());
-    rows::map_into(&source, visible, width, height, geometry.stride(), change);
+    let VisibleMut {
+        entries,
+        width,
+        height,
+        stride,
+    } = target.visible_mut();
+    rows::map_into(&source, entries, width, height, stride, change);
 }

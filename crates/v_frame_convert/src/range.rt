@@ -7,7 +7,7 @@ ghost use Rattle.v_frame_convert.specs.Range.{pixel_by, in_full_range, in_limite
 
 use crate::rows;
 use v_frame::pixel::Pixel;
-use v_frame::plane::{Plane, PlaneRef};
+use v_frame::plane::{Plane, PlaneRef, VisibleMut};
 
 /// What a plane holds: luma, or a component of chroma, whose values lie about a middle.
 #[derive(Debug, Clone, Copy, PartialEq, Eq)]
@@ -39,11 +39,14 @@ pub fn to_full_range<T: Pixel>(
         ≡ converted (converted (pixel_by T.form (in_full_range component depth))) (table_of source.now) }
     ensures border { KeepsBorder target.old target.new }
 {
-    let geometry = target.geometry();
-    let (_, visible) = target.data_mut().split_at_mut(geometry.data_origin());
     let source = source.as_rows_ref();
-    let (width, height, stride) = (geometry.width(), geometry.height(), geometry.stride());
-    rows::to_full_range(&source, visible, width, height, stride, component, depth);
+    let VisibleMut {
+        entries,
+        width,
+        height,
+        stride,
+    } = target.visible_mut();
+    rows::to_full_range(&source, entries, width, height, stride, component, depth);
 }
 
 /// Shows in `target` what `source` shows, with its values of the full range in the limited range of a bit depth. The border of
@@ -66,9 +69,12 @@ pub fn to_limited_range<T: Pixel>(
         ≡ converted (converted (pixel_by T.form (in_limited_range component depth))) (table_of source.now) }
     ensures border { KeepsBorder target.old target.new }
 {
-    let geometry = target.geometry();
-    let (_, visible) = target.data_mut().split_at_mut(geometry.data_origin());
     let source = source.as_rows_ref();
-    let (width, height, stride) = (geometry.width(), geometry.height(), geometry.stride());
-    rows::to_limited_range(&source, visible, width, height, stride, component, depth);
+    let VisibleMut {
+        entries,
+        width,
+        height,
+        stride,
+    } = target.visible_mut();
+    rows::to_limited_range(&source, entries, width, height, stride, component, depth);
 }

@@ -7,7 +7,7 @@ ghost use Rattle.v_frame_convert.specs.declared.scale.Scale.TheVariants.{Quarter
 
 use crate::rows;
 use v_frame::pixel::Pixel;
-use v_frame::plane::{Plane, PlaneRef};
+use v_frame::plane::{Plane, PlaneRef, VisibleMut};
 
 /// How many columns, or rows, a plane has beside another one.
 #[derive(Debug, Clone, Copy, PartialEq, Eq)]
@@ -63,11 +63,14 @@ pub fn resize<S: Pixel, T: Pixel>(
         target.old.geometry.width target.old.geometry.height (table_of source.now) }
     ensures border { KeepsBorder target.old target.new }
 {
-    let geometry = target.geometry();
-    let (_, visible) = target.data_mut().split_at_mut(geometry.data_origin());
     let source = source.as_rows_ref();
-    let (width, height, stride) = (geometry.width(), geometry.height(), geometry.stride());
+    let VisibleMut {
+        entries,
+        width,
+        height,
+        stride,
+    } = target.visible_mut();
     rows::resize(
-        &source, visible, width, height, stride, across, down, from, to,
+        &source, entries, width, height, stride, across, down, from, to,
     );
 }

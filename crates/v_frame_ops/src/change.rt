@@ -6,7 +6,7 @@ ghost use Rattle.v_frame_ops.specs.Change.{mapped, combined, MapsPixels, Combine
 
 use crate::rows;
 use v_frame::pixel::Pixel;
-use v_frame::plane::{Plane, PlaneRef};
+use v_frame::plane::{Plane, PlaneRef, VisibleMut};
 
 /// Makes each visible pixel a result of `change` at it.
 ///
@@ -19,10 +19,13 @@ pub fn map_pixels<T: Pixel, F: Fn(T) -> T>(plane: &mut Plane<T>, change: F)
         → table_of plane.new ≡ mapped (mapped g) (table_of plane.old) }
     ensures border { KeepsBorder plane.old plane.new }
 {
-    let geometry = plane.geometry();
-    let (_, visible) = plane.data_mut().split_at_mut(geometry.data_origin());
-    let (width, height) = (geometry.width(), geometry.height());
-    rows::map_pixels(visible, width, height, geometry.stride(), change);
+    let VisibleMut {
+        entries,
+        width,
+        height,
+        stride,
+    } = plane.visible_mut();
+    rows::map_pixels(entries, width, height, stride, change);
 }
 
 /// Makes each visible pixel a result of `combine` at it and at the pixel of the same column and row of `other`, which has the
@@ -41,11 +44,14 @@ pub fn combine_pixels<T: Pixel, F: Fn(T, T) -> T>(
         → table_of plane.new ≡ combined (combined g) (table_of plane.old) (table_of other.now) }
     ensures border { KeepsBorder plane.old plane.new }
 {
-    let geometry = plane.geometry();
-    let (_, visible) = plane.data_mut().split_at_mut(geometry.data_origin());
     let other = other.as_rows_ref();
-    let (width, height) = (geometry.width(), geometry.height());
-    rows::combine_pixels(visible, width, height, geometry.stride(), &other, combine);
+    let VisibleMut {
+        entries,
+        width,
+        height,
+        stride,
+    } = plane.visible_mut();
+    rows::combine_pixels(entries, width, height, stride, &other, combine);
 }
 
 /// Sets each visible pixel to `pixel`.
@@ -56,10 +62,13 @@ pub fn fill<T: Pixel>(plane: &mut Plane<T>, pixel: T)
         → pixel_at (table_of plane.new) x y ≡ Some pixel }
     ensures border { KeepsBorder plane.old plane.new }
 {
-    let geometry = plane.geometry();
-    let (_, visible) = plane.data_mut().split_at_mut(geometry.data_origin());
-    let (width, height) = (geometry.width(), geometry.height());
-    rows::fill(visible, width, height, geometry.stride(), pixel);
+    let VisibleMut {
+        entries,
+        width,
+        height,
+        stride,
+    } = plane.visible_mut();
+    rows::fill(entries, width, height, stride, pixel);
 }
 
 /// Writes all that `source` shows into `target`, from column `x` of row `y` on. There has to be room for it.

@@ -10,7 +10,7 @@ use crate::change::{combine_pixels, copy_region};
 use crate::rows;
 use crate::rows::{largest_value, pixel_difference};
 use v_frame::pixel::Pixel;
-use v_frame::plane::{Plane, PlaneRef};
+use v_frame::plane::{Plane, PlaneRef, VisibleMut};
 
 /// Blends all that `source` shows over `target`, from column `x` of row `y` on: of 256 parts of each pixel it has `weight`, and
 /// the target the rest. There has to be room for it.
@@ -35,19 +35,14 @@ pub fn blend_region<T: Pixel>(
         → pixel_at (table_of target.new) i j ≡ pixel_at (table_of target.old) i j }
     ensures border { KeepsBorder target.old target.new }
 {
-    let region = target
-        .geometry()
-        .visible_region(x, y, source.width(), source.height());
-    let (_, rows) = target.data_mut().split_at_mut(region.data_origin());
+    let VisibleMut {
+        entries,
+        width,
+        height,
+        stride,
+    } = target.visible_region_mut(x, y, source.width(), source.height());
     let source = source.as_rows_ref();
-    rows::blend(
-        rows,
-        region.width(),
-        region.height(),
-        region.stride(),
-        &source,
-        weight,
-    );
+    rows::blend(entries, width, height, stride, &source, weight);
 }
 
 /// Blends all that `source` shows over `target` by `mask`, from column `x` of row `y` on: of 255 parts of each pixel the source
@@ -75,19 +70,14 @@ pub fn blend_region_with_mask<T: Pixel>(
         → pixel_at (table_of target.new) i j ≡ pixel_at (table_of target.old) i j }
     ensures border { KeepsBorder target.old target.new }
 {
-    let region = target
-        .geometry()
-        .visible_region(x, y, source.width(), source.height());
-    let (_, rows) = target.data_mut().split_at_mut(region.data_origin());
+    let VisibleMut {
+        entries,
+        width,
+        height,
+        stride,
+    } = target.visible_region_mut(x, y, source.width(), source.height());
     let (source, mask) = (source.as_rows_ref(), mask.as_rows_ref());
-    rows::blend_with_mask(
-        rows,
-        region.width(),
-        region.height(),
-        region.stride(),
-        &source,
-        &mask,
-    );
+    rows::blend_with_mask(entries, width, height, stride, &source, &mask);
 }
 
 /// Writes all that `source` shows into `target`, with its first pixel at column `x` of row `y`, either of which may be negative

@@ -4,7 +4,7 @@ ghost use Rattle.v_frame.specs.Prelude.{halved, KeepsBorder, table_of};
 
 use crate::rows;
 use v_frame::pixel::Pixel;
-use v_frame::plane::{Plane, PlaneRef};
+use v_frame::plane::{Plane, PlaneRef, VisibleMut};
 
 /// Shows in `target` what `source` shows, in half the size: each pixel is the mean of a block of two by two, rounded to the
 /// nearest value and upwards at a half. The border of the target stays.
@@ -16,9 +16,12 @@ pub fn downscale<T: Pixel>(source: &PlaneRef<'_, T>, target: &mut Plane<T>)
         → slice_get (table_of target.new) y ≡ Some (halved T.form top bottom) }
     ensures border { KeepsBorder target.old target.new }
 {
-    let geometry = target.geometry();
-    let (_, visible) = target.data_mut().split_at_mut(geometry.data_origin());
     let source = source.as_rows_ref();
-    let (width, height) = (geometry.width(), geometry.height());
-    rows::downscale(&source, visible, width, height, geometry.stride());
+    let VisibleMut {
+        entries,
+        width,
+        height,
+        stride,
+    } = target.visible_mut();
+    rows::downscale(&source, entries, width, height, stride);
 }

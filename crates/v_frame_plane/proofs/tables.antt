@@ -2,3 +2,5 @@
 pub mod Kept
 pub mod RowPairs
 pub mod RowWrites
+pub mod VisibleRegions
+pub mod VisibleWrites

@@ -5,12 +5,21 @@ use Rattle.v_frame_raster.specs.Geometry.{Geometry}
 use Rattle.v_frame_raster.specs.Raster.{Raster, raster, with_entries}
 use Rattle.v_frame_raster.specs.Writes.{WritesRow, with_entry, entries_with_row, entries_with_rows}
 use Rattle.v_frame_plane.specs.Plane.{with_row}
+use Rattle.v_frame_plane.specs.Visible.{with_visible, with_visible_from}
 use Rattle.v_frame_plane.specs.contracts.plane.Plane.{the_row}
 
 module _ (T : RattleType) (plane : MutBor (Raster T.Denot)) where
   -- once the borrow r ends, the buffer is what r shows last
   abbrev pub LendsBuffer : MutBor (List T.Denot) → Fml
   LendsBuffer r = Lends (the_row T) (Array T 0) plane r (with_entries plane.now)
+
+  -- once the borrow r ends, the entries from the first visible pixel on are what r shows last
+  abbrev pub LendsVisible : MutBor (List T.Denot) → Fml
+  LendsVisible r = Lends (the_row T) (Array T 0) plane r (with_visible plane.now)
+
+  -- once the borrow r ends, the entries from the pixel of column x in row y on are what r shows last
+  abbrev pub LendsVisibleFrom : ℕ → ℕ → MutBor (List T.Denot) → Fml
+  LendsVisibleFrom x y r = Lends (the_row T) (Array T 0) plane r (with_visible_from plane.now x y)
 
   -- once the borrow r ends, the entries of row y are what r shows last
   abbrev pub LendsVisibleRow : ℕ → MutBor (List T.Denot) → Fml

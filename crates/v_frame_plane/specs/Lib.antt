@@ -6,6 +6,7 @@ pub mod Lends
 pub mod PixelsLeft
 pub mod Plane
 pub mod RowsLeft
+pub mod Visible
 pub mod FinalItems
 pub mod FinalPixels
 pub mod FinalRows

@@ -31,6 +31,7 @@ mod copies;
 mod options;
 mod pairs;
 mod values;
+mod visible;
 
 pub use crate::bytes::ByteData;
 pub use crate::error::CopyError;
@@ -48,6 +49,7 @@ use std::marker::Model;
 use v_frame_buffer::AlignedData;
 pub use v_frame_raster::geometry::{PlaneGeometry, SubsamplingError};
 use v_frame_raster::pixel::Pixel;
+pub use visible::VisibleMut;
 
 /// A rectangle of visible pixels inside a border, in one buffer.
 ///

@@ -5,7 +5,7 @@ ghost use Rattle.v_frame_resize.specs.Resize.{area_mean, nearest, CanResize};
 
 use crate::rows;
 use v_frame::pixel::Pixel;
-use v_frame::plane::{Plane, PlaneRef};
+use v_frame::plane::{Plane, PlaneRef, VisibleMut};
 
 /// Shows in `target` what `source` shows, in the target's size: each pixel is the mean of the area that it covers, rounded to
 /// the nearest value and upwards at a half. The border of the target stays.
@@ -19,11 +19,14 @@ pub fn resize_area<T: Pixel>(source: &PlaneRef<'_, T>, target: &mut Plane<T>)
         (area_mean T.form (table_of source.now) target.old.geometry.width target.old.geometry.height x y)) }
     ensures border { KeepsBorder target.old target.new }
 {
-    let geometry = target.geometry();
-    let (_, visible) = target.data_mut().split_at_mut(geometry.data_origin());
     let source = source.as_rows_ref();
-    let (width, height) = (geometry.width(), geometry.height());
-    rows::resize_area(&source, visible, width, height, geometry.stride());
+    let VisibleMut {
+        entries,
+        width,
+        height,
+        stride,
+    } = target.visible_mut();
+    rows::resize_area(&source, entries, width, height, stride);
 }
 
 /// Shows in `target` what `source` shows, in the target's size: each pixel is the one of the source that holds its center. The
@@ -41,9 +44,12 @@ pub fn resize_nearest<T: Copy>(source: &PlaneRef<'_, T>, target: &mut Plane<T>)
         (nearest source.now.geometry.height target.old.geometry.height y) }
     ensures border { KeepsBorder target.old target.new }
 {
-    let geometry = target.geometry();
-    let (_, visible) = target.data_mut().split_at_mut(geometry.data_origin());
     let source = source.as_rows_ref();
-    let (width, height) = (geometry.width(), geometry.height());
-    rows::resize_nearest(&source, visible, width, height, geometry.stride());
+    let VisibleMut {
+        entries,
+        width,
+        height,
+        stride,
+    } = target.visible_mut();
+    rows::resize_nearest(&source, entries, width, height, stride);
 }

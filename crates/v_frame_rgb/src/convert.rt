@@ -7,7 +7,7 @@ use crate::colour::ColourOrder;
 use crate::matrix::{RgbMatrix, YuvMatrix};
 use crate::rows;
 use crate::sample::Channel;
-use v_frame::plane::{Plane, PlaneRef, RowsRef};
+use v_frame::plane::{Plane, PlaneRef, RowsRef, VisibleMut};
 
 /// Makes the rows of a buffer the colours of three planes of one size, in the order `O`.
 ///
@@ -51,10 +51,13 @@ pub fn rgb_to_channel<O: ColourOrder, C: Channel>(
         ≡ sample_rows (C.sample matrix) O.colour_at O.BYTES plane.old.geometry.width source.now }
     ensures border { KeepsBorder plane.old plane.new }
 {
-    let geometry = plane.geometry();
-    let (_, visible) = plane.data_mut().split_at_mut(geometry.data_origin());
-    let (width, height) = (geometry.width(), geometry.height());
-    rows::rgb_to_channel::<O, C>(source, matrix, visible, width, height, geometry.stride());
+    let VisibleMut {
+        entries,
+        width,
+        height,
+        stride,
+    } = plane.visible_mut();
+    rows::rgb_to_channel::<O, C>(source, matrix, entries, width, height, stride);
 }
 
 /// Makes what three planes show the luma and the chroma of a picture of colours, in the order `O`. Their borders stay.
@@ -83,18 +86,25 @@ pub fn rgb_to_yuv444<O: ColourOrder>(
     ensures u_border { KeepsBorder u.old u.new }
     ensures v_border { KeepsBorder v.old v.new }
 {
-    let (y_geometry, u_geometry, v_geometry) = (y.geometry(), u.geometry(), v.geometry());
-    let (width, height) = (y_geometry.width(), y_geometry.height());
-    // The geometries whose sizes are read are valid.
-    let _widths = (u_geometry.width(), v_geometry.width());
-    let strides = (
-        y_geometry.stride(),
-        u_geometry.stride(),
-        v_geometry.stride(),
-    );
-    let (_, y_rows) = y.data_mut().split_at_mut(y_geometry.data_origin());
-    let (_, u_rows) = u.data_mut().split_at_mut(u_geometry.data_origin());
-    let (_, v_rows) = v.data_mut().split_at_mut(v_geometry.data_origin());
+    let VisibleMut {
+        entries: y_rows,
+        width,
+        height,
+        stride: y_stride,
+    } = y.visible_mut();
+    let VisibleMut {
+        entries: u_rows,
+        width: _,
+        height: _,
+        stride: u_stride,
+    } = u.visible_mut();
+    let VisibleMut {
+        entries: v_rows,
+        width: _,
+        height: _,
+        stride: v_stride,
+    } = v.visible_mut();
+    let strides = (y_stride, u_stride, v_stride);
     rows::rgb_to_yuv444::<O>(
         source, matrix, y_rows, u_rows, v_rows, width, height, strides,
     );

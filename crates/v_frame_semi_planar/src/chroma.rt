@@ -6,7 +6,7 @@ ghost use Rattle.v_frame_semi_planar.specs.Interleaved.{interleaved};
 
 use crate::rows;
 use v_frame::pixel::Pixel;
-use v_frame::plane::{Plane, PlaneRef};
+use v_frame::plane::{Plane, PlaneRef, VisibleMut};
 
 /// Shows in `target` the pixels of two planes by turns, in each row one of `first`, one of `second`, and so on, as semi-planar
 /// layouts have them. The target is twice as wide as those two, which have the same size.
@@ -19,11 +19,14 @@ pub fn interleave<T: Copy>(first: &PlaneRef<'_, T>, second: &PlaneRef<'_, T>, ta
         ≡ combined interleaved (table_of first.now) (table_of second.now) }
     ensures border { KeepsBorder target.old target.new }
 {
-    let geometry = target.geometry();
-    let (_, visible) = target.data_mut().split_at_mut(geometry.data_origin());
     let (first, second) = (first.as_rows_ref(), second.as_rows_ref());
-    let (width, height) = (geometry.width(), geometry.height());
-    rows::interleave(&first, &second, visible, width, height, geometry.stride());
+    let VisibleMut {
+        entries,
+        width,
+        height,
+        stride,
+    } = target.visible_mut();
+    rows::interleave(&first, &second, entries, width, height, stride);
 }
 
 /// Shows the pixels of `source` in two planes by turns, those of even columns in `first` and those of odd ones in `second`.
@@ -38,21 +41,26 @@ pub fn deinterleave<T: Pixel>(source: &PlaneRef<'_, T>, first: &mut Plane<T>, se
     ensures first_border { KeepsBorder first.old first.new }
     ensures second_border { KeepsBorder second.old second.new }
 {
-    let geometry = first.geometry();
-    let second_geometry = second.geometry();
-    // A width that was read is that of a valid geometry.
-    let _width = second_geometry.width();
-    let (_, visible) = first.data_mut().split_at_mut(geometry.data_origin());
-    let (_, second_visible) = second
-        .data_mut()
-        .split_at_mut(second_geometry.data_origin());
+    let source = source.as_rows_ref();
+    let VisibleMut {
+        entries,
+        width,
+        height,
+        stride,
+    } = first.visible_mut();
+    let VisibleMut {
+        entries: others,
+        width: _,
+        height: _,
+        stride: other_stride,
+    } = second.visible_mut();
     rows::deinterleave(
-        &source.as_rows_ref(),
-        geometry.width(),
-        geometry.height(),
-        visible,
-        geometry.stride(),
-        second_visible,
-        second_geometry.stride(),
+        &source,
+        width,
+        height,
+        entries,
+        stride,
+        others,
+        other_stride,
     );
 }

@@ -5,7 +5,7 @@ ghost use Rattle.v_frame_turn.specs.Turn.{rotated_180};
 
 use crate::rows;
 use v_frame::pixel::Pixel;
-use v_frame::plane::{Plane, PlaneRef};
+use v_frame::plane::{Plane, PlaneRef, VisibleMut};
 
 /// Shows in `target` what `source` shows upside down, as `np.flipud` does. Both have one size.
 pub fn flip_vertical<T: Pixel>(source: &PlaneRef<'_, T>, target: &mut Plane<T>)
@@ -14,11 +14,14 @@ pub fn flip_vertical<T: Pixel>(source: &PlaneRef<'_, T>, target: &mut Plane<T>)
     ensures table { table_of target.new ≡ reverse (table_of source.now) }
     ensures border { KeepsBorder target.old target.new }
 {
-    let geometry = target.geometry();
-    let (_, visible) = target.data_mut().split_at_mut(geometry.data_origin());
     let source = source.as_rows_ref();
-    let (width, height) = (geometry.width(), geometry.height());
-    rows::flip_vertical(&source, visible, width, height, geometry.stride());
+    let VisibleMut {
+        entries,
+        width,
+        height,
+        stride,
+    } = target.visible_mut();
+    rows::flip_vertical(&source, entries, width, height, stride);
 }
 
 /// Shows in `target` what `source` shows mirrored: each row from its right end, as `np.fliplr` does. Both have one size.
@@ -28,11 +31,14 @@ pub fn flip_horizontal<T: Pixel>(source: &PlaneRef<'_, T>, target: &mut Plane<T>
     ensures table { table_of target.new ≡ map reverse (table_of source.now) }
     ensures border { KeepsBorder target.old target.new }
 {
-    let geometry = target.geometry();
-    let (_, visible) = target.data_mut().split_at_mut(geometry.data_origin());
     let source = source.as_rows_ref();
-    let (width, height) = (geometry.width(), geometry.height());
-    rows::flip_horizontal(&source, visible, width, height, geometry.stride());
+    let VisibleMut {
+        entries,
+        width,
+        height,
+        stride,
+    } = target.visible_mut();
+    rows::flip_horizontal(&source, entries, width, height, stride);
 }
 
 /// Shows in `target` what `source` shows turned by 180 degrees. Both have one size.
@@ -42,11 +48,14 @@ pub fn rotate_180<T: Pixel>(source: &PlaneRef<'_, T>, target: &mut Plane<T>)
     ensures table { table_of target.new ≡ rotated_180 (table_of source.now) }
     ensures border { KeepsBorder target.old target.new }
 {
-    let geometry = target.geometry();
-    let (_, visible) = target.data_mut().split_at_mut(geometry.data_origin());
     let source = source.as_rows_ref();
-    let (width, height) = (geometry.width(), geometry.height());
-    rows::rotate_180(&source, visible, width, height, geometry.stride());
+    let VisibleMut {
+        entries,
+        width,
+        height,
+        stride,
+    } = target.visible_mut();
+    rows::rotate_180(&source, entries, width, height, stride);
 }
 
 /// Turns what a plane shows upside down, as `np.flipud` does.
@@ -54,10 +63,13 @@ pub fn flip_vertical_in_place<T: Pixel>(plane: &mut Plane<T>)
     ensures table { table_of plane.new ≡ reverse (table_of plane.old) }
     ensures border { KeepsBorder plane.old plane.new }
 {
-    let geometry = plane.geometry();
-    let (_, visible) = plane.data_mut().split_at_mut(geometry.data_origin());
-    let (width, height) = (geometry.width(), geometry.height());
-    rows::flip_vertical_in_place(visible, width, height, geometry.stride());
+    let VisibleMut {
+        entries,
+        width,
+        height,
+        stride,
+    } = plane.visible_mut();
+    rows::flip_vertical_in_place(entries, width, height, stride);
 }
 
 /// Mirrors what a plane shows: each row is turned to its right end, as `np.fliplr` does.
@@ -65,10 +77,13 @@ pub fn flip_horizontal_in_place<T: Pixel>(plane: &mut Plane<T>)
     ensures table { table_of plane.new ≡ map reverse (table_of plane.old) }
     ensures border { KeepsBorder plane.old plane.new }
 {
-    let geometry = plane.geometry();
-    let (_, visible) = plane.data_mut().split_at_mut(geometry.data_origin());
-    let (width, height) = (geometry.width(), geometry.height());
-    rows::flip_horizontal_in_place(visible, width, height, geometry.stride());
+    let VisibleMut {
+        entries,
+        width,
+        height,
+        stride,
+    } = plane.visible_mut();
+    rows::flip_horizontal_in_place(entries, width, height, stride);
 }
 
 /// Turns what a plane shows by 180 degrees.
@@ -76,8 +91,11 @@ pub fn rotate_180_in_place<T: Pixel>(plane: &mut Plane<T>)
     ensures table { table_of plane.new ≡ rotated_180 (table_of plane.old) }
     ensures border { KeepsBorder plane.old plane.new }
 {
-    let geometry = plane.geometry();
-    let (_, visible) = plane.data_mut().split_at_mut(geometry.data_origin());
-    let (width, height) = (geometry.width(), geometry.height());
-    rows::rotate_180_in_place(visible, width, height, geometry.stride());
+    let VisibleMut {
+        entries,
+        width,
+        height,
+        stride,
+    } = plane.visible_mut();
+    rows::rotate_180_in_place(entries, width, height, stride);
 }

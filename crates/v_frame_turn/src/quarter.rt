@@ -5,7 +5,7 @@ ghost use Rattle.v_frame_turn.specs.Turn.{rotated_270, rotated_90, transposed};
 
 use crate::rows;
 use v_frame::pixel::Pixel;
-use v_frame::plane::{Plane, PlaneRef};
+use v_frame::plane::{Plane, PlaneRef, VisibleMut};
 
 /// Shows in `target` what `source` shows transposed: its columns become the rows, from the left, as NumPy's `.T` does.
 ///
@@ -16,11 +16,14 @@ pub fn transpose<T: Pixel>(source: &PlaneRef<'_, T>, target: &mut Plane<T>)
     ensures table { table_of target.new ≡ transposed (table_of source.now) }
     ensures border { KeepsBorder target.old target.new }
 {
-    let geometry = target.geometry();
-    let (_, visible) = target.data_mut().split_at_mut(geometry.data_origin());
     let source = source.as_rows_ref();
-    let (width, height) = (geometry.width(), geometry.height());
-    rows::transpose(&source, visible, width, height, geometry.stride());
+    let VisibleMut {
+        entries,
+        width,
+        height,
+        stride,
+    } = target.visible_mut();
+    rows::transpose(&source, entries, width, height, stride);
 }
 
 /// Shows in `target` what `source` shows turned by 90 degrees clockwise: its columns become the rows, from the left, each
@@ -33,11 +36,14 @@ pub fn rotate_90<T: Pixel>(source: &PlaneRef<'_, T>, target: &mut Plane<T>)
     ensures table { table_of target.new ≡ rotated_90 (table_of source.now) }
     ensures border { KeepsBorder target.old target.new }
 {
-    let geometry = target.geometry();
-    let (_, visible) = target.data_mut().split_at_mut(geometry.data_origin());
     let source = source.as_rows_ref();
-    let (width, height) = (geometry.width(), geometry.height());
-    rows::rotate_90(&source, visible, width, height, geometry.stride());
+    let VisibleMut {
+        entries,
+        width,
+        height,
+        stride,
+    } = target.visible_mut();
+    rows::rotate_90(&source, entries, width, height, stride);
 }
 
 /// Shows in `target` what `source` shows turned by 270 degrees clockwise, which is 90 degrees counterclockwise: its columns
@@ -50,9 +56,12 @@ pub fn rotate_270<T: Pixel>(source: &PlaneRef<'_, T>, target: &mut Plane<T>)
     ensures table { table_of target.new ≡ rotated_270 (table_of source.now) }
     ensures border { KeepsBorder target.old target.new }
 {
-    let geometry = target.geometry();
-    let (_, visible) = target.data_mut().split_at_mut(geometry.data_origin());
     let source = source.as_rows_ref();
-    let (width, height) = (geometry.width(), geometry.height());
-    rows::rotate_270(&source, visible, width, height, geometry.stride());
+    let VisibleMut {
+        entries,
+        width,
+        height,
+        stride,
+    } = target.visible_mut();
+    rows::rotate_270(&source, entries, width, height, stride);
 }

@@ -22,6 +22,23 @@ fn an_array_is_read_as_a_plane() {
 }
 
 #[test]
+fn visible_rows_are_lent_for_writing() {
+    let mut plane = showing::<u8>(BORDERED, &[1, 2, 3, 4, 5, 6]);
+    let before = plane.data().to_vec();
+    let stride = plane.geometry().stride();
+    let lent = plane.visible_mut();
+    assert_eq!((lent.width, lent.height, lent.stride), (3, 2, stride));
+    assert_eq!((&lent.entries[..3], &lent.entries[stride..stride + 3]), (&[1, 2, 3][..], &[4, 5, 6][..]));
+    lent.entries[stride] = 9;
+    let lent = plane.visible_region_mut(1, 0, 2, 2);
+    assert_eq!((lent.width, lent.height, lent.stride), (2, 2, stride));
+    assert_eq!((&lent.entries[..2], &lent.entries[stride..stride + 2]), (&[2, 3][..], &[5, 6][..]));
+    lent.entries[stride + 1] = 8;
+    assert!(plane.rows().eq([[1, 2, 3], [9, 5, 8]]));
+    assert_eq!(plane.data().iter().zip(&before).filter(|(new, old)| new != old).count(), 2);
+}
+
+#[test]
 fn a_buffer_of_another_length_is_no_plane() {
     for (length, is_plane) in [(0, false), (17, false), (18, true), (19, false)] {
         assert_eq!(PlaneRef::new(geometry(BORDERED), &vec![0_u8; length]).is_some(), is_plane, "{length} entries");

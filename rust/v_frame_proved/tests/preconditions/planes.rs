@@ -13,6 +13,18 @@ pub const CASES: &[Case] = &[
     case!(plane::Plane::visible_pixel_mut, "x (4) is not below the width (4)", &mut plane(4, 3), 4, 2),
     case!(plane::Plane::visible_pixel_mut, "y (3) is not below the height (3)", &mut plane(4, 3), 3, 3),
     case!(
+        plane::Plane::visible_region_mut, "region 3x3 at (2, 0) is empty or outside of 4x3",
+        &mut plane(4, 3), 2, 0, 3, 3
+    ),
+    case!(
+        plane::Plane::visible_region_mut, "region 4x2 at (0, 2) is empty or outside of 4x3",
+        &mut plane(4, 3), 0, 2, 4, 2
+    ),
+    case!(
+        plane::Plane::visible_region_mut, "region 0x2 at (1, 1) is empty or outside of 4x3",
+        &mut plane(4, 3), 1, 1, 0, 2
+    ),
+    case!(
         plane::Plane::<u8>::new, "no buffer is as large as PlaneGeometry { width: 4294967296, height: 4294967296",
         too_large()
     ),

@@ -1,95 +1,11 @@
--- The rows that are changed are those of the plane.
-use Rattle.v_frame_ops.proofs.LentRows.{LentRows, rows_fit, rows_are, rows_shown, border_kept}
+-- The rows that are combined are those of the planes.
 use Rattle.v_frame_ops.proofs.change.combine_pixels.Goals as goal
-
-pub combine_pixels-requires-clause-fit : goal.combine_pixels-requires-clause-fit
-combine_pixels-requires-clause-fit g c κs within =
-    let lent : LentRows c.args.plane.now c.geometry-geometry.result c.data_mut.result.now
-    c.split_at_mut-visible.result.0.now
-    c.split_at_mut-visible.result.1.now c.data_origin.result c.width-width.result c.height-height.result
-    c.stride.result =
-    record {
-      geometry = c.geometry-geometry.ensures.value;
-      buffer_is = c.data_mut.ensures.value;
-      whole = c.data_mut.ensures.whole;
-      valid = c.width-width.ensures.valid;
-      origin_is = c.data_origin.ensures.value;
-      stride_is = c.stride.ensures;
-      width_is = c.width-width.ensures.value;
-      height_is = c.height-height.ensures.value;
-      front_is = c.split_at_mut-visible.ensures.front;
-      back_is = c.split_at_mut-visible.ensures.back;
-    } in
-    rows_fit lent
 
 pub returns-clause-pixels : goal.returns-clause-pixels
 returns-clause-pixels g c =
-    let lent : LentRows c.args.plane.now c.geometry-geometry.result c.data_mut.result.now
-    c.split_at_mut-visible.result.0.now
-    c.split_at_mut-visible.result.1.now c.data_origin.result c.width-width.result c.height-height.result
-    c.stride.result =
-    record {
-      geometry = c.geometry-geometry.ensures.value;
-      buffer_is = c.data_mut.ensures.value;
-      whole = c.data_mut.ensures.whole;
-      valid = c.width-width.ensures.valid;
-      origin_is = c.data_origin.ensures.value;
-      stride_is = c.stride.ensures;
-      width_is = c.width-width.ensures.value;
-      height_is = c.height-height.ensures.value;
-      front_is = c.split_at_mut-visible.ensures.front;
-      back_is = c.split_at_mut-visible.ensures.back;
-    } in
+    let lent = c.visible_mut-entries.ensures in
     rw (
-      ← rows_are lent,
+      ← lent.rows,
+      lent.written c.combine_pixels.new.buffer c.combine_pixels.ensures.rest.count,
       ← c.as_rows_ref-other.ensures.value,
-      rows_shown lent c.combine_pixels.new.buffer
-          c.combine_pixels.ensures.rest,
-    )
-    c.combine_pixels.ensures.pixels
-
-pub returns-clause-combined : goal.returns-clause-combined
-returns-clause-combined g c = λ make is.
-    let lent : LentRows c.args.plane.now c.geometry-geometry.result c.data_mut.result.now
-    c.split_at_mut-visible.result.0.now
-    c.split_at_mut-visible.result.1.now c.data_origin.result c.width-width.result c.height-height.result
-    c.stride.result =
-    record {
-      geometry = c.geometry-geometry.ensures.value;
-      buffer_is = c.data_mut.ensures.value;
-      whole = c.data_mut.ensures.whole;
-      valid = c.width-width.ensures.valid;
-      origin_is = c.data_origin.ensures.value;
-      stride_is = c.stride.ensures;
-      width_is = c.width-width.ensures.value;
-      height_is = c.height-height.ensures.value;
-      front_is = c.split_at_mut-visible.ensures.front;
-      back_is = c.split_at_mut-visible.ensures.back;
-    } in
-    rw (
-      ← rows_are lent,
-      ← c.as_rows_ref-other.ensures.value,
-      rows_shown lent c.combine_pixels.new.buffer
-          c.combine_pixels.ensures.rest,
-    )
-    (c.combine_pixels.ensures.combined make is)
-
-pub returns-clause-border : goal.returns-clause-border
-returns-clause-border g c =
-    let lent : LentRows c.args.plane.now c.geometry-geometry.result c.data_mut.result.now
-    c.split_at_mut-visible.result.0.now
-    c.split_at_mut-visible.result.1.now c.data_origin.result c.width-width.result c.height-height.result
-    c.stride.result =
-    record {
-      geometry = c.geometry-geometry.ensures.value;
-      buffer_is = c.data_mut.ensures.value;
-      whole = c.data_mut.ensures.whole;
-      valid = c.width-width.ensures.valid;
-      origin_is = c.data_origin.ensures.value;
-      stride_is = c.stride.ensures;
-      width_is = c.width-width.ensures.value;
-      height_is = c.height-height.ensures.value;
-      front_is = c.split_at_mut-visible.ensures.front;
-      back_is = c.split_at_mut-visible.ensures.back;
-    } in
-    border_kept lent c.combine_pixels.new.buffer c.combine_pixels.ensures.rest
+    ) c.combine_pixels.ensures.pixels

@@ -1,84 +1,15 @@
 -- The rows that are changed are those of the plane.
-use Rattle.v_frame_ops.proofs.LentRows.{LentRows, rows_fit, rows_are, rows_shown, border_kept}
+use Rattle.std.proofs.Common.{ap, ◌∙◌}
+use Rattle.v_frame_ops.specs.Change.{mapped}
 use Rattle.v_frame_ops.proofs.change.map_pixels.Goals as goal
-
-pub map_pixels-requires-clause-fit : goal.map_pixels-requires-clause-fit
-map_pixels-requires-clause-fit g c κs within =
-    let lent : LentRows c.args.plane.now c.geometry-geometry.result c.data_mut.result.now
-    c.split_at_mut-visible.result.0.now
-    c.split_at_mut-visible.result.1.now c.data_origin.result c.width-width.result c.height-height.result
-    c.stride.result =
-    record {
-      geometry = c.geometry-geometry.ensures.value;
-      buffer_is = c.data_mut.ensures.value;
-      whole = c.data_mut.ensures.whole;
-      valid = c.width-width.ensures.valid;
-      origin_is = c.data_origin.ensures.value;
-      stride_is = c.stride.ensures;
-      width_is = c.width-width.ensures.value;
-      height_is = c.height-height.ensures.value;
-      front_is = c.split_at_mut-visible.ensures.front;
-      back_is = c.split_at_mut-visible.ensures.back;
-    } in
-    rows_fit lent
 
 pub returns-clause-pixels : goal.returns-clause-pixels
 returns-clause-pixels g c =
-    let lent : LentRows c.args.plane.now c.geometry-geometry.result c.data_mut.result.now
-    c.split_at_mut-visible.result.0.now
-    c.split_at_mut-visible.result.1.now c.data_origin.result c.width-width.result c.height-height.result
-    c.stride.result =
-    record {
-      geometry = c.geometry-geometry.ensures.value;
-      buffer_is = c.data_mut.ensures.value;
-      whole = c.data_mut.ensures.whole;
-      valid = c.width-width.ensures.valid;
-      origin_is = c.data_origin.ensures.value;
-      stride_is = c.stride.ensures;
-      width_is = c.width-width.ensures.value;
-      height_is = c.height-height.ensures.value;
-      front_is = c.split_at_mut-visible.ensures.front;
-      back_is = c.split_at_mut-visible.ensures.back;
-    } in
-    rw (← rows_are lent, rows_shown lent c.map_pixels.new.buffer c.map_pixels.ensures.rest) c.map_pixels.ensures.pixels
+    let lent = c.visible_mut-entries.ensures in
+    rw (← lent.rows, lent.written c.map_pixels.new.buffer c.map_pixels.ensures.rest.count) c.map_pixels.ensures.pixels
 
 pub returns-clause-mapped : goal.returns-clause-mapped
 returns-clause-mapped g c = λ change is.
-    let lent : LentRows c.args.plane.now c.geometry-geometry.result c.data_mut.result.now
-    c.split_at_mut-visible.result.0.now
-    c.split_at_mut-visible.result.1.now c.data_origin.result c.width-width.result c.height-height.result
-    c.stride.result =
-    record {
-      geometry = c.geometry-geometry.ensures.value;
-      buffer_is = c.data_mut.ensures.value;
-      whole = c.data_mut.ensures.whole;
-      valid = c.width-width.ensures.valid;
-      origin_is = c.data_origin.ensures.value;
-      stride_is = c.stride.ensures;
-      width_is = c.width-width.ensures.value;
-      height_is = c.height-height.ensures.value;
-      front_is = c.split_at_mut-visible.ensures.front;
-      back_is = c.split_at_mut-visible.ensures.back;
-    } in
-    rw (← rows_are lent, rows_shown lent c.map_pixels.new.buffer c.map_pixels.ensures.rest)
-    (c.map_pixels.ensures.mapped change is)
-
-pub returns-clause-border : goal.returns-clause-border
-returns-clause-border g c =
-    let lent : LentRows c.args.plane.now c.geometry-geometry.result c.data_mut.result.now
-    c.split_at_mut-visible.result.0.now
-    c.split_at_mut-visible.result.1.now c.data_origin.result c.width-width.result c.height-height.result
-    c.stride.result =
-    record {
-      geometry = c.geometry-geometry.ensures.value;
-      buffer_is = c.data_mut.ensures.value;
-      whole = c.data_mut.ensures.whole;
-      valid = c.width-width.ensures.valid;
-      origin_is = c.data_origin.ensures.value;
-      stride_is = c.stride.ensures;
-      width_is = c.width-width.ensures.value;
-      height_is = c.height-height.ensures.value;
-      front_is = c.split_at_mut-visible.ensures.front;
-      back_is = c.split_at_mut-visible.ensures.back;
-    } in
-    border_kept lent c.map_pixels.new.buffer c.map_pixels.ensures.rest
+    let lent = c.visible_mut-entries.ensures in
+    lent.written c.map_pixels.new.buffer c.map_pixels.ensures.rest.count ∙ c.map_pixels.ensures.mapped change is
+    ∙ ap (mapped (mapped change)) lent.rows

@@ -4,7 +4,7 @@
 use crate::views::AsPlaneRef;
 use crate::generated::v_frame_convert::rows;
 use crate::generated::v_frame::pixel::Pixel;
-use crate::generated::v_frame::plane::Plane;
+use crate::generated::v_frame::plane::{Plane, VisibleMut};
 
 /// Shows in `target` what `source` shows, with each pixel `ratio_x` times across and `ratio_y` times down: the pixel of column
 /// `x` in row `y` is that of column `x / ratio_x` in row `y / ratio_y`. The border of the target stays.
@@ -35,11 +35,14 @@ pub fn upscale<T: Copy>(
         ratio_y > 0 && source.height() == target.height().div_ceil(ratio_y),
         "the height of source ({}) is not the height of target ({}) divided by ratio_y ({ratio_y}), rounded up", source.height(), target.height()
     );
-    let geometry = target.geometry();
-    let (_, visible) = target.data_mut().split_at_mut(geometry.data_origin_proved());
     let source = source.as_rows_ref();
-    let (width, height, stride) = (geometry.width(), geometry.height(), geometry.stride());
-    rows::upscale(&source, visible, width, height, stride, ratio_x, ratio_y);
+    let VisibleMut {
+        entries,
+        width,
+        height,
+        stride,
+    } = target.visible_mut();
+    rows::upscale(&source, entries, width, height, stride, ratio_x, ratio_y);
 }
 
 /// Shows in `target` what `source` shows, in half the size, rounded up: each pixel is the mean of a block of two by two,
@@ -67,11 +70,14 @@ pub fn downscale_to_edge<T: Pixel>(source: impl AsPlaneRef<Pixel = T>, target: &
         target.height() == source.height().div_ceil(2),
         "the height of target ({}) is not half the height of source ({}), rounded up", target.height(), source.height()
     );
-    let geometry = target.geometry();
-    let (_, visible) = target.data_mut().split_at_mut(geometry.data_origin_proved());
     let source = source.as_rows_ref();
-    let (width, height, stride) = (geometry.width(), geometry.height(), geometry.stride());
-    rows::downscale_to_edge(&source, visible, width, height, stride);
+    let VisibleMut {
+        entries,
+        width,
+        height,
+        stride,
+    } = target.visible_mut();
+    rows::downscale_to_edge(&source, entries, width, height, stride);
 }
 
 /// Shows in `target` what `source` shows, with half as many columns, rounded up: each pixel is the mean of two, rounded upwards
@@ -97,9 +103,12 @@ pub fn halve_columns<T: Pixel>(source: impl AsPlaneRef<Pixel = T>, target: &mut 
         target.height() == source.height(),
         "the heights of target ({}) and source ({}) are not equal", target.height(), source.height()
     );
-    let geometry = target.geometry();
-    let (_, visible) = target.data_mut().split_at_mut(geometry.data_origin_proved());
     let source = source.as_rows_ref();
-    let (width, height, stride) = (geometry.width(), geometry.height(), geometry.stride());
-    rows::halve_columns(&source, visible, width, height, stride);
+    let VisibleMut {
+        entries,
+        width,
+        height,
+        stride,
+    } = target.visible_mut();
+    rows::halve_columns(&source, entries, width, height, stride);
 }

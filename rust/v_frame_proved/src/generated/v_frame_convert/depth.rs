@@ -4,7 +4,7 @@
 use crate::views::AsPlaneRef;
 use crate::generated::v_frame_convert::rows;
 use crate::generated::v_frame::pixel::Pixel;
-use crate::generated::v_frame::plane::Plane;
+use crate::generated::v_frame::plane::{Plane, VisibleMut};
 
 /// Shows in `target` what `source` shows, with its values of bit depth `from` in bit depth `to`. The border of the target
 /// stays.
@@ -47,9 +47,12 @@ pub fn convert_depth<S: Pixel, T: Pixel>(
         crate::generated::v_frame_convert::depth_fits::<T>(to),
         "to ({to}) is below 8 or above the bits of a pixel of {} bytes", T::PIXEL_BYTES
     );
-    let geometry = target.geometry();
-    let (_, visible) = target.data_mut().split_at_mut(geometry.data_origin_proved());
     let source = source.as_rows_ref();
-    let (width, height) = (geometry.width(), geometry.height());
-    rows::convert_depth(&source, visible, width, height, geometry.stride(), from, to);
+    let VisibleMut {
+        entries,
+        width,
+        height,
+        stride,
+    } = target.visible_mut();
+    rows::convert_depth(&source, entries, width, height, stride, from, to);
 }

@@ -4,7 +4,7 @@
 use crate::views::AsPlaneRef;
 use crate::generated::v_frame_convert::rows;
 use crate::generated::v_frame::pixel::Pixel;
-use crate::generated::v_frame::plane::Plane;
+use crate::generated::v_frame::plane::{Plane, VisibleMut};
 
 /// Makes each visible pixel of `target` a result of `change` at the pixel of the same column and row of `source`, which has the
 /// same size. The border of the target stays.
@@ -33,9 +33,12 @@ pub fn map_into<S: Pixel, T: Pixel, F: Fn(S) -> T>(
         source.height() == target.height(),
         "the heights of source ({}) and target ({}) are not equal", source.height(), target.height()
     );
-    let geometry = target.geometry();
-    let (_, visible) = target.data_mut().split_at_mut(geometry.data_origin_proved());
     let source = source.as_rows_ref();
-    let (width, height) = (geometry.width(), geometry.height());
-    rows::map_into(&source, visible, width, height, geometry.stride(), change);
+    let VisibleMut {
+        entries,
+        width,
+        height,
+        stride,
+    } = target.visible_mut();
+    rows::map_into(&source, entries, width, height, stride, change);
 }

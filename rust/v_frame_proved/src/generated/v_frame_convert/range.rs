@@ -4,7 +4,7 @@
 use crate::views::AsPlaneRef;
 use crate::generated::v_frame_convert::rows;
 use crate::generated::v_frame::pixel::Pixel;
-use crate::generated::v_frame::plane::Plane;
+use crate::generated::v_frame::plane::{Plane, VisibleMut};
 
 /// What a plane holds: luma, or a component of chroma, whose values lie about a middle.
 #[derive(Debug, Clone, Copy, PartialEq, Eq)]
@@ -52,11 +52,14 @@ pub fn to_full_range<T: Pixel>(
         crate::generated::v_frame_convert::depth_fits::<T>(depth),
         "depth ({depth}) is below 8 or above the bits of a pixel of {} bytes", T::PIXEL_BYTES
     );
-    let geometry = target.geometry();
-    let (_, visible) = target.data_mut().split_at_mut(geometry.data_origin_proved());
     let source = source.as_rows_ref();
-    let (width, height, stride) = (geometry.width(), geometry.height(), geometry.stride());
-    rows::to_full_range(&source, visible, width, height, stride, component, depth);
+    let VisibleMut {
+        entries,
+        width,
+        height,
+        stride,
+    } = target.visible_mut();
+    rows::to_full_range(&source, entries, width, height, stride, component, depth);
 }
 
 /// Shows in `target` what `source` shows, with its values of the full range in the limited range of a bit depth. The border of
@@ -95,9 +98,12 @@ pub fn to_limited_range<T: Pixel>(
         crate::generated::v_frame_convert::depth_fits::<T>(depth),
         "depth ({depth}) is below 8 or above the bits of a pixel of {} bytes", T::PIXEL_BYTES
     );
-    let geometry = target.geometry();
-    let (_, visible) = target.data_mut().split_at_mut(geometry.data_origin_proved());
     let source = source.as_rows_ref();
-    let (width, height, stride) = (geometry.width(), geometry.height(), geometry.stride());
-    rows::to_limited_range(&source, visible, width, height, stride, component, depth);
+    let VisibleMut {
+        entries,
+        width,
+        height,
+        stride,
+    } = target.visible_mut();
+    rows::to_limited_range(&source, entries, width, height, stride, component, depth);
 }

@@ -4,7 +4,7 @@
 use crate::views::AsPlaneRef;
 use crate::generated::v_frame_convert::rows;
 use crate::generated::v_frame::pixel::Pixel;
-use crate::generated::v_frame::plane::Plane;
+use crate::generated::v_frame::plane::{Plane, VisibleMut};
 
 /// How many columns, or rows, a plane has beside another one.
 #[derive(Debug, Clone, Copy, PartialEq, Eq)]
@@ -81,11 +81,14 @@ pub fn resize<S: Pixel, T: Pixel>(
         crate::generated::v_frame_convert::depth_fits::<T>(to),
         "to ({to}) is below 8 or above the bits of a pixel of {} bytes", T::PIXEL_BYTES
     );
-    let geometry = target.geometry();
-    let (_, visible) = target.data_mut().split_at_mut(geometry.data_origin_proved());
     let source = source.as_rows_ref();
-    let (width, height, stride) = (geometry.width(), geometry.height(), geometry.stride());
+    let VisibleMut {
+        entries,
+        width,
+        height,
+        stride,
+    } = target.visible_mut();
     rows::resize(
-        &source, visible, width, height, stride, across, down, from, to,
+        &source, entries, width, height, stride, across, down, from, to,
     );
 }

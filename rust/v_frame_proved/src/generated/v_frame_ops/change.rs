@@ -5,7 +5,7 @@
 use crate::views::AsPlaneRef;
 use crate::generated::v_frame_ops::rows;
 use crate::generated::v_frame::pixel::Pixel;
-use crate::generated::v_frame::plane::Plane;
+use crate::generated::v_frame::plane::{Plane, VisibleMut};
 
 /// Makes each visible pixel a result of `change` at it.
 ///
@@ -13,10 +13,13 @@ use crate::generated::v_frame::plane::Plane;
 /// compiler makes packed code of it.
 #[inline]
 pub fn map_pixels<T: Pixel, F: Fn(T) -> T>(plane: &mut Plane<T>, change: F) {
-    let geometry = plane.geometry();
-    let (_, visible) = plane.data_mut().split_at_mut(geometry.data_origin_proved());
-    let (width, height) = (geometry.width(), geometry.height());
-    rows::map_pixels(visible, width, height, geometry.stride(), change);
+    let VisibleMut {
+        entries,
+        width,
+        height,
+        stride,
+    } = plane.visible_mut();
+    rows::map_pixels(entries, width, height, stride, change);
 }
 
 /// Makes each visible pixel a result of `combine` at it and at the pixel of the same column and row of `other`, which has the
@@ -44,20 +47,26 @@ pub fn combine_pixels<T: Pixel, F: Fn(T, T) -> T>(
         other.height() == plane.height(),
         "the heights of other ({}) and plane ({}) are not equal", other.height(), plane.height()
     );
-    let geometry = plane.geometry();
-    let (_, visible) = plane.data_mut().split_at_mut(geometry.data_origin_proved());
     let other = other.as_rows_ref();
-    let (width, height) = (geometry.width(), geometry.height());
-    rows::combine_pixels(visible, width, height, geometry.stride(), &other, combine);
+    let VisibleMut {
+        entries,
+        width,
+        height,
+        stride,
+    } = plane.visible_mut();
+    rows::combine_pixels(entries, width, height, stride, &other, combine);
 }
 
 /// Sets each visible pixel to `pixel`.
 #[inline]
 pub fn fill<T: Pixel>(plane: &mut Plane<T>, pixel: T) {
-    let geometry = plane.geometry();
-    let (_, visible) = plane.data_mut().split_at_mut(geometry.data_origin_proved());
-    let (width, height) = (geometry.width(), geometry.height());
-    rows::fill(visible, width, height, geometry.stride(), pixel);
+    let VisibleMut {
+        entries,
+        width,
+        height,
+        stride,
+    } = plane.visible_mut();
+    rows::fill(entries, width, height, stride, pixel);
 }
 
 /// Writes all that `source` shows into `target`, from column `x` of row `y` on. There has to be room for it.

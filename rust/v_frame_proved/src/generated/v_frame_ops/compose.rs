@@ -7,7 +7,7 @@ use crate::generated::v_frame_ops::change::{combine_pixels, copy_region};
 use crate::generated::v_frame_ops::rows;
 use crate::generated::v_frame_ops::rows::{largest_value, pixel_difference};
 use crate::generated::v_frame::pixel::Pixel;
-use crate::generated::v_frame::plane::Plane;
+use crate::generated::v_frame::plane::{Plane, VisibleMut};
 
 /// Blends all that `source` shows over `target`, from column `x` of row `y` on: of 256 parts of each pixel it has `weight`, and
 /// the target the rest. There has to be room for it.
@@ -41,19 +41,14 @@ pub fn blend_region<T: Pixel>(
         y as u128 + source.height() as u128 <= target.height() as u128,
         "y ({y}) plus the height of source ({}) is above the height of target ({})", source.height(), target.height()
     );
-    let region = target
-        .geometry()
-        .visible_region_proved(x, y, source.width(), source.height());
-    let (_, rows) = target.data_mut().split_at_mut(region.data_origin_proved());
+    let VisibleMut {
+        entries,
+        width,
+        height,
+        stride,
+    } = target.visible_region_mut(x, y, source.width(), source.height());
     let source = source.as_rows_ref();
-    rows::blend(
-        rows,
-        region.width(),
-        region.height(),
-        region.stride(),
-        &source,
-        weight,
-    );
+    rows::blend(entries, width, height, stride, &source, weight);
 }
 
 /// Blends all that `source` shows over `target` by `mask`, from column `x` of row `y` on: of 255 parts of each pixel the source
@@ -97,19 +92,14 @@ pub fn blend_region_with_mask<T: Pixel>(
         mask.height() == source.height(),
         "the heights of mask ({}) and source ({}) are not equal", mask.height(), source.height()
     );
-    let region = target
-        .geometry()
-        .visible_region_proved(x, y, source.width(), source.height());
-    let (_, rows) = target.data_mut().split_at_mut(region.data_origin_proved());
+    let VisibleMut {
+        entries,
+        width,
+        height,
+        stride,
+    } = target.visible_region_mut(x, y, source.width(), source.height());
     let (source, mask) = (source.as_rows_ref(), mask.as_rows_ref());
-    rows::blend_with_mask(
-        rows,
-        region.width(),
-        region.height(),
-        region.stride(),
-        &source,
-        &mask,
-    );
+    rows::blend_with_mask(entries, width, height, stride, &source, &mask);
 }
 
 /// Writes all that `source` shows into `target`, with its first pixel at column `x` of row `y`, either of which may be negative

@@ -4,7 +4,7 @@
 use crate::views::AsPlaneRef;
 use crate::generated::v_frame_ops::rows;
 use crate::generated::v_frame::pixel::Pixel;
-use crate::generated::v_frame::plane::Plane;
+use crate::generated::v_frame::plane::{Plane, VisibleMut};
 
 /// Shows in `target` what `source` shows, in half the size: each pixel is the mean of a block of two by two, rounded to the
 /// nearest value and upwards at a half. The border of the target stays.
@@ -27,9 +27,12 @@ pub fn downscale<T: Pixel>(source: impl AsPlaneRef<Pixel = T>, target: &mut Plan
         source.height() as u128 == 2 * target.height() as u128,
         "the height of source ({}) is not twice the height of target ({})", source.height(), target.height()
     );
-    let geometry = target.geometry();
-    let (_, visible) = target.data_mut().split_at_mut(geometry.data_origin_proved());
     let source = source.as_rows_ref();
-    let (width, height) = (geometry.width(), geometry.height());
-    rows::downscale(&source, visible, width, height, geometry.stride());
+    let VisibleMut {
+        entries,
+        width,
+        height,
+        stride,
+    } = target.visible_mut();
+    rows::downscale(&source, entries, width, height, stride);
 }

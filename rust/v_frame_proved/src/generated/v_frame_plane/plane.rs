@@ -57,6 +57,7 @@ mod copies;
 mod options;
 mod pairs;
 mod values;
+mod visible;
 
 pub use crate::generated::v_frame_plane::bytes::ByteData;
 pub use crate::generated::v_frame_plane::error::CopyError;
@@ -73,6 +74,7 @@ use crate::support::AllocError;
 use crate::buffer::AlignedData;
 pub use crate::generated::v_frame_raster::geometry::{PlaneGeometry, SubsamplingError};
 use crate::generated::v_frame_raster::pixel::Pixel;
+pub use visible::VisibleMut;
 
 /// A rectangle of visible pixels inside a border, in one buffer.
 ///

@@ -4,7 +4,7 @@
 use crate::views::AsPlaneRef;
 use crate::generated::v_frame_resize::rows;
 use crate::generated::v_frame::pixel::Pixel;
-use crate::generated::v_frame::plane::Plane;
+use crate::generated::v_frame::plane::{Plane, VisibleMut};
 
 /// Shows in `target` what `source` shows, in the target's size: each pixel is the mean of the area that it covers, rounded to
 /// the nearest value and upwards at a half. The border of the target stays.
@@ -22,11 +22,14 @@ pub fn resize_area<T: Pixel>(source: impl AsPlaneRef<Pixel = T>, target: &mut Pl
         crate::generated::v_frame_resize::rows::can_resize(source.width(), source.height(), target.width(), target.height()),
         "the sizes {}x{} and {}x{} are too large to be counted", source.width(), source.height(), target.width(), target.height()
     );
-    let geometry = target.geometry();
-    let (_, visible) = target.data_mut().split_at_mut(geometry.data_origin_proved());
     let source = source.as_rows_ref();
-    let (width, height) = (geometry.width(), geometry.height());
-    rows::resize_area(&source, visible, width, height, geometry.stride());
+    let VisibleMut {
+        entries,
+        width,
+        height,
+        stride,
+    } = target.visible_mut();
+    rows::resize_area(&source, entries, width, height, stride);
 }
 
 /// Shows in `target` what `source` shows, in the target's size: each pixel is the one of the source that holds its center. The
@@ -56,9 +59,12 @@ pub fn resize_nearest<T: Copy>(source: impl AsPlaneRef<Pixel = T>, target: &mut 
         source.height() < 1 << 62,
         "the height of source ({}) is not below 2^62", source.height()
     );
-    let geometry = target.geometry();
-    let (_, visible) = target.data_mut().split_at_mut(geometry.data_origin_proved());
     let source = source.as_rows_ref();
-    let (width, height) = (geometry.width(), geometry.height());
-    rows::resize_nearest(&source, visible, width, height, geometry.stride());
+    let VisibleMut {
+        entries,
+        width,
+        height,
+        stride,
+    } = target.visible_mut();
+    rows::resize_nearest(&source, entries, width, height, stride);
 }

@@ -6,7 +6,7 @@ use crate::generated::v_frame_rgb::colour::ColourOrder;
 use crate::generated::v_frame_rgb::matrix::{RgbMatrix, YuvMatrix};
 use crate::generated::v_frame_rgb::rows;
 use crate::generated::v_frame_rgb::sample::Channel;
-use crate::generated::v_frame::plane::Plane;
+use crate::generated::v_frame::plane::{Plane, VisibleMut};
 
 /// Makes the rows of a buffer the colours of three planes of one size, in the order `O`.
 ///
@@ -87,10 +87,13 @@ pub fn rgb_to_channel<O: ColourOrder, C: Channel>(
         source.height() == plane.height(),
         "the heights of source ({}) and plane ({}) are not equal", source.height(), plane.height()
     );
-    let geometry = plane.geometry();
-    let (_, visible) = plane.data_mut().split_at_mut(geometry.data_origin_proved());
-    let (width, height) = (geometry.width(), geometry.height());
-    rows::rgb_to_channel::<O, C>(source, matrix, visible, width, height, geometry.stride());
+    let VisibleMut {
+        entries,
+        width,
+        height,
+        stride,
+    } = plane.visible_mut();
+    rows::rgb_to_channel::<O, C>(source, matrix, entries, width, height, stride);
 }
 
 /// Makes what three planes show the luma and the chroma of a picture of colours, in the order `O`. Their borders stay.
@@ -141,16 +144,25 @@ pub fn rgb_to_yuv444<O: ColourOrder>(
         v.height() == y.height(),
         "the heights of v ({}) and y ({}) are not equal", v.height(), y.height()
     );
-    let (y_geometry, u_geometry, v_geometry) = (y.geometry(), u.geometry(), v.geometry());
-    let (width, height) = (y_geometry.width(), y_geometry.height());
-    let strides = (
-        y_geometry.stride(),
-        u_geometry.stride(),
-        v_geometry.stride(),
-    );
-    let (_, y_rows) = y.data_mut().split_at_mut(y_geometry.data_origin_proved());
-    let (_, u_rows) = u.data_mut().split_at_mut(u_geometry.data_origin_proved());
-    let (_, v_rows) = v.data_mut().split_at_mut(v_geometry.data_origin_proved());
+    let VisibleMut {
+        entries: y_rows,
+        width,
+        height,
+        stride: y_stride,
+    } = y.visible_mut();
+    let VisibleMut {
+        entries: u_rows,
+        width: _,
+        height: _,
+        stride: u_stride,
+    } = u.visible_mut();
+    let VisibleMut {
+        entries: v_rows,
+        width: _,
+        height: _,
+        stride: v_stride,
+    } = v.visible_mut();
+    let strides = (y_stride, u_stride, v_stride);
     rows::rgb_to_yuv444::<O>(
         source, matrix, y_rows, u_rows, v_rows, width, height, strides,
     );

@@ -4,7 +4,7 @@
 use crate::views::AsPlaneRef;
 use crate::generated::v_frame_semi_planar::rows;
 use crate::generated::v_frame::pixel::Pixel;
-use crate::generated::v_frame::plane::Plane;
+use crate::generated::v_frame::plane::{Plane, VisibleMut};
 
 /// Shows in `target` the pixels of two planes by turns, in each row one of `first`, one of `second`, and so on, as semi-planar
 /// layouts have them. The target is twice as wide as those two, which have the same size.
@@ -38,11 +38,14 @@ pub fn interleave<T: Copy>(first: impl AsPlaneRef<Pixel = T>, second: impl AsPla
         second.height() == first.height(),
         "the heights of second ({}) and first ({}) are not equal", second.height(), first.height()
     );
-    let geometry = target.geometry();
-    let (_, visible) = target.data_mut().split_at_mut(geometry.data_origin_proved());
     let (first, second) = (first.as_rows_ref(), second.as_rows_ref());
-    let (width, height) = (geometry.width(), geometry.height());
-    rows::interleave(&first, &second, visible, width, height, geometry.stride());
+    let VisibleMut {
+        entries,
+        width,
+        height,
+        stride,
+    } = target.visible_mut();
+    rows::interleave(&first, &second, entries, width, height, stride);
 }
 
 /// Shows the pixels of `source` in two planes by turns, those of even columns in `first` and those of odd ones in `second`.
@@ -76,19 +79,26 @@ pub fn deinterleave<T: Pixel>(source: impl AsPlaneRef<Pixel = T>, first: &mut Pl
         second.height() == first.height(),
         "the heights of second ({}) and first ({}) are not equal", second.height(), first.height()
     );
-    let geometry = first.geometry();
-    let second_geometry = second.geometry();
-    let (_, visible) = first.data_mut().split_at_mut(geometry.data_origin_proved());
-    let (_, second_visible) = second
-        .data_mut()
-        .split_at_mut(second_geometry.data_origin_proved());
+    let source = source.as_rows_ref();
+    let VisibleMut {
+        entries,
+        width,
+        height,
+        stride,
+    } = first.visible_mut();
+    let VisibleMut {
+        entries: others,
+        width: _,
+        height: _,
+        stride: other_stride,
+    } = second.visible_mut();
     rows::deinterleave(
-        &source.as_rows_ref(),
-        geometry.width(),
-        geometry.height(),
-        visible,
-        geometry.stride(),
-        second_visible,
-        second_geometry.stride(),
+        &source,
+        width,
+        height,
+        entries,
+        stride,
+        others,
+        other_stride,
     );
 }

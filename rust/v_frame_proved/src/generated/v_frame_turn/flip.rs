@@ -4,7 +4,7 @@
 use crate::views::AsPlaneRef;
 use crate::generated::v_frame_turn::rows;
 use crate::generated::v_frame::pixel::Pixel;
-use crate::generated::v_frame::plane::Plane;
+use crate::generated::v_frame::plane::{Plane, VisibleMut};
 
 /// Shows in `target` what `source` shows upside down, as `np.flipud` does. Both have one size.
 ///
@@ -26,11 +26,14 @@ pub fn flip_vertical<T: Pixel>(source: impl AsPlaneRef<Pixel = T>, target: &mut 
         source.height() == target.height(),
         "the heights of source ({}) and target ({}) are not equal", source.height(), target.height()
     );
-    let geometry = target.geometry();
-    let (_, visible) = target.data_mut().split_at_mut(geometry.data_origin_proved());
     let source = source.as_rows_ref();
-    let (width, height) = (geometry.width(), geometry.height());
-    rows::flip_vertical(&source, visible, width, height, geometry.stride());
+    let VisibleMut {
+        entries,
+        width,
+        height,
+        stride,
+    } = target.visible_mut();
+    rows::flip_vertical(&source, entries, width, height, stride);
 }
 
 /// Shows in `target` what `source` shows mirrored: each row from its right end, as `np.fliplr` does. Both have one size.
@@ -53,11 +56,14 @@ pub fn flip_horizontal<T: Pixel>(source: impl AsPlaneRef<Pixel = T>, target: &mu
         source.height() == target.height(),
         "the heights of source ({}) and target ({}) are not equal", source.height(), target.height()
     );
-    let geometry = target.geometry();
-    let (_, visible) = target.data_mut().split_at_mut(geometry.data_origin_proved());
     let source = source.as_rows_ref();
-    let (width, height) = (geometry.width(), geometry.height());
-    rows::flip_horizontal(&source, visible, width, height, geometry.stride());
+    let VisibleMut {
+        entries,
+        width,
+        height,
+        stride,
+    } = target.visible_mut();
+    rows::flip_horizontal(&source, entries, width, height, stride);
 }
 
 /// Shows in `target` what `source` shows turned by 180 degrees. Both have one size.
@@ -80,36 +86,48 @@ pub fn rotate_180<T: Pixel>(source: impl AsPlaneRef<Pixel = T>, target: &mut Pla
         source.height() == target.height(),
         "the heights of source ({}) and target ({}) are not equal", source.height(), target.height()
     );
-    let geometry = target.geometry();
-    let (_, visible) = target.data_mut().split_at_mut(geometry.data_origin_proved());
     let source = source.as_rows_ref();
-    let (width, height) = (geometry.width(), geometry.height());
-    rows::rotate_180(&source, visible, width, height, geometry.stride());
+    let VisibleMut {
+        entries,
+        width,
+        height,
+        stride,
+    } = target.visible_mut();
+    rows::rotate_180(&source, entries, width, height, stride);
 }
 
 /// Turns what a plane shows upside down, as `np.flipud` does.
 #[inline]
 pub fn flip_vertical_in_place<T: Pixel>(plane: &mut Plane<T>) {
-    let geometry = plane.geometry();
-    let (_, visible) = plane.data_mut().split_at_mut(geometry.data_origin_proved());
-    let (width, height) = (geometry.width(), geometry.height());
-    rows::flip_vertical_in_place(visible, width, height, geometry.stride());
+    let VisibleMut {
+        entries,
+        width,
+        height,
+        stride,
+    } = plane.visible_mut();
+    rows::flip_vertical_in_place(entries, width, height, stride);
 }
 
 /// Mirrors what a plane shows: each row is turned to its right end, as `np.fliplr` does.
 #[inline]
 pub fn flip_horizontal_in_place<T: Pixel>(plane: &mut Plane<T>) {
-    let geometry = plane.geometry();
-    let (_, visible) = plane.data_mut().split_at_mut(geometry.data_origin_proved());
-    let (width, height) = (geometry.width(), geometry.height());
-    rows::flip_horizontal_in_place(visible, width, height, geometry.stride());
+    let VisibleMut {
+        entries,
+        width,
+        height,
+        stride,
+    } = plane.visible_mut();
+    rows::flip_horizontal_in_place(entries, width, height, stride);
 }
 
 /// Turns what a plane shows by 180 degrees.
 #[inline]
 pub fn rotate_180_in_place<T: Pixel>(plane: &mut Plane<T>) {
-    let geometry = plane.geometry();
-    let (_, visible) = plane.data_mut().split_at_mut(geometry.data_origin_proved());
-    let (width, height) = (geometry.width(), geometry.height());
-    rows::rotate_180_in_place(visible, width, height, geometry.stride());
+    let VisibleMut {
+        entries,
+        width,
+        height,
+        stride,
+    } = plane.visible_mut();
+    rows::rotate_180_in_place(entries, width, height, stride);
 }

@@ -4,7 +4,7 @@
 use crate::views::AsPlaneRef;
 use crate::generated::v_frame_turn::rows;
 use crate::generated::v_frame::pixel::Pixel;
-use crate::generated::v_frame::plane::Plane;
+use crate::generated::v_frame::plane::{Plane, VisibleMut};
 
 /// Shows in `target` what `source` shows transposed: its columns become the rows, from the left, as NumPy's `.T` does.
 ///
@@ -28,11 +28,14 @@ pub fn transpose<T: Pixel>(source: impl AsPlaneRef<Pixel = T>, target: &mut Plan
         source.width() == target.height(),
         "the width of source ({}) is not the height of target ({})", source.width(), target.height()
     );
-    let geometry = target.geometry();
-    let (_, visible) = target.data_mut().split_at_mut(geometry.data_origin_proved());
     let source = source.as_rows_ref();
-    let (width, height) = (geometry.width(), geometry.height());
-    rows::transpose(&source, visible, width, height, geometry.stride());
+    let VisibleMut {
+        entries,
+        width,
+        height,
+        stride,
+    } = target.visible_mut();
+    rows::transpose(&source, entries, width, height, stride);
 }
 
 /// Shows in `target` what `source` shows turned by 90 degrees clockwise: its columns become the rows, from the left, each
@@ -58,11 +61,14 @@ pub fn rotate_90<T: Pixel>(source: impl AsPlaneRef<Pixel = T>, target: &mut Plan
         source.width() == target.height(),
         "the width of source ({}) is not the height of target ({})", source.width(), target.height()
     );
-    let geometry = target.geometry();
-    let (_, visible) = target.data_mut().split_at_mut(geometry.data_origin_proved());
     let source = source.as_rows_ref();
-    let (width, height) = (geometry.width(), geometry.height());
-    rows::rotate_90(&source, visible, width, height, geometry.stride());
+    let VisibleMut {
+        entries,
+        width,
+        height,
+        stride,
+    } = target.visible_mut();
+    rows::rotate_90(&source, entries, width, height, stride);
 }
 
 /// Shows in `target` what `source` shows turned by 270 degrees clockwise, which is 90 degrees counterclockwise: its columns
@@ -88,9 +94,12 @@ pub fn rotate_270<T: Pixel>(source: impl AsPlaneRef<Pixel = T>, target: &mut Pla
         source.width() == target.height(),
         "the width of source ({}) is not the height of target ({})", source.width(), target.height()
     );
-    let geometry = target.geometry();
-    let (_, visible) = target.data_mut().split_at_mut(geometry.data_origin_proved());
     let source = source.as_rows_ref();
-    let (width, height) = (geometry.width(), geometry.height());
-    rows::rotate_270(&source, visible, width, height, geometry.stride());
+    let VisibleMut {
+        entries,
+        width,
+        height,
+        stride,
+    } = target.visible_mut();
+    rows::rotate_270(&source, entries, width, height, stride);
 }
