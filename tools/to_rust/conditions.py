@@ -1,327 +1,265 @@
-"""What callers in Rust are told: each `requires` of a public function as an assertion.
+"""What callers in Rust are told: each `requires` of a public function as a test.
 
-A clause is read into a tree (`Parser`), whose numbers and facts become Rust over the parameters of the function (`Reader`); what
-a clause may name stands in `condition_table`. A test neither overflows nor stops: what is counted of more than one number is
-counted in `u128`, in which it has room, or else the clause is refused. A clause that is not known is refused, too: `Unknown`. The
-clauses that are passed over on purpose stand in `NOT_ASSERTED` and `TRAIT_METHODS`, each with the reason.
+A clause is a predicate of the table, or compares two numbers, each of which is one, half of one, or a sum or product of two;
+what is counted of two is counted in `u128`, in which it has room. The prover has read each clause, so its types are right. Any
+other clause is refused.
+
+A predicate has as its test the public function whose contract says that it tells it (`rows_fit` ensures `IsTrue result ↔ RowsFit
+..`), and else an expression, or a function of the support module `conditions`. Whoever adds a predicate reads its definition in
+`specs/`: the test is true exactly where it holds.
 """
 
 import re
 from collections import namedtuple
 
-from .condition_table import (
-    CONSTANTS, FIELDS, LARGEST, PREDICATES, SIZES, VARIANTS, Number, Thing, Unknown, atom, compared, counted, implied, inlined,
-    joined, literal, negated, of_variant,
-)
+from . import tables
+from .items import parameters_of
 
-# A Rust test that is true where the condition holds, what `assert!` takes after it, and a line for `# Panics`.
-Check = namedtuple("Check", "test message words")
+# A Rust test that is true where the condition holds, when it does not hold, and the message then, with values in brackets.
+Check = namedtuple("Check", "test words message")
 
-# Clauses that are not asserted: their form, in which functions where not in all, and why.
-PRIVATE = "of a function in a private module: callers cannot name it, and the library's own call is proved"
-NOT_ASSERTED = [
-    (r"[A-Z]\w*\.IsAlwaysCallable \w+", None, "a closure of Rust can always be called; one that panics stops its caller"),
-    (r"left\.old ≡ right\.old", [("v_frame_plane", "laws", "packed_copies_agree")],
-     "a law, which says something of equal planes alone: two other ones are copied into as well"),
-    (r"tables_of a\.old ≡ tables_of b\.old", [("v_frame", "laws", "same_tables_same_answers")],
-     "a law, which says something of equal tables alone: over two other frames the calls are replayed as well"),
-    (r"CanAdvance center", [("v_frame_resize", "center", "next_center")], PRIVATE),
-    (r"IsFirst source target x first", [("v_frame_resize", "span", "span_from")], PRIVATE),
-    (r"IsSpan source target x span", [("v_frame_resize", "span", "next_first")], PRIVATE),
+SIGNS = {"<": ("<", "is not below"), "≤": ("<=", "is above"), "≡": ("==", "is not"), "≢": ("!=", "is")}
+COMPARISON = re.compile(r"([^<≤≡≢]+) ([<≤≡≢]) ([^<≤≡≢]+)")
+APPLIED = re.compile(r"(\w+)((?: (?:[^\s()]+|\([^()]+\)))*)")
+NUMBERS = "u8|u16|u32|u64|usize"
+PICTURES = "Plane|PlaneRef|RowsRef|PlaneGeometry"
+
+# Of each predicate: its arguments with their types, a number where there is none; a Rust test that is true where it holds; a line
+# for `# Panics`; and a message, with values in brackets. `:words` and `:shown` name a number as these two do.
+PREDICATES = [
+    ("Fits geometry:PlaneGeometry",
+     "{geometry}.checked_alloc_size().is_some()",
+     "`checked_alloc_size`{geometry:of} is `None`: no buffer is that large",
+     "no buffer is as large as [{geometry}:?] says"),
+    ("IsWhole geometry:PlaneGeometry buffer:[]",
+     "{geometry}.checked_alloc_size() == Some({buffer.length})",
+     "{buffer.length:words} is not the `checked_alloc_size` of {geometry:words}",
+     "a buffer of [{buffer.length}] entries is not that of [{geometry}:?]"),
+    (f"IsInside picture:{PICTURES} x y width height",
+     "crate::support::conditions::is_inside(({x}, {y}), ({width}, {height}), ({picture.width}, {picture.height}))",
+     "the region of {width:words} by {height:words} at ({x:words}, {y:words}) is empty or outside of {picture:words}",
+     "region [{width}]x[{height}] at ([{x}], [{y}]) is empty or outside of [{picture.width}]x[{picture.height}]"),
+    ("RowsFit width height stride entries",
+     "crate::generated::v_frame_plane::plane::rows_fit({width}, {height}, {stride}, {entries})",
+     "{height:words} rows of {width:words} entries, {stride:words} apart, do not fit {entries:words}: see `rows_fit`",
+     "[{height}] rows of [{width}] entries, [{stride}] apart, do not fit [{entries}] entries"),
+    ("DepthFits pixel:bytes depth:u8",
+     "crate::generated::v_frame_convert::depth_fits::<{pixel}>({depth})",
+     "{depth:words} is below 8 or above the bits of {pixel:words}",
+     "{depth:shown} is below 8 or above the bits of a pixel of [{pixel}::BYTES] bytes"),
+    ("SizesFit scale:Scale source target",
+     "crate::generated::v_frame_convert::sizes_fit({scale}, {source}, {target})",
+     "{source:words} and {target:words} do not belong together at the scale {scale:words}: see `sizes_fit`",
+     "{source:shown} and {target:shown} do not belong together at the scale [{scale}:?]"),
+    ("IsSubsampledSize size ratio items",
+     "{ratio} > 0 && {items} == {size}.div_ceil({ratio})",
+     "{ratio:words} is 0, or {items:words} is not {size:words} divided by it, rounded up",
+     "{items:shown} is not {size:shown} divided by {ratio:shown}, rounded up"),
+    ("CanResize source_width source_height width height",
+     "crate::generated::v_frame_resize::rows::can_resize({source_width}, {source_height}, {width}, {height})",
+     "the sizes are too large to be counted: see `can_resize`",
+     "the sizes [{source_width}]x[{source_height}] and [{width}]x[{height}] are too large to be counted"),
+    ("FramesFit source_pixel:bytes target_pixel:bytes source:Frame<{source_pixel}> target:Frame<{target_pixel}>",
+     "crate::generated::v_frame_convert::frames_fit({source}, {target})",
+     "{source:words} cannot be converted into {target:words}: see `frames_fit`",
+     "a frame of [{source}.y_plane.width()]x[{source}.y_plane.height()] at [{source}.bit_depth] bits cannot be converted "
+     "into this one of [{target}.y_plane.width()]x[{target}.y_plane.height()] at [{target}.bit_depth] bits"),
+    ("HaveOneSize a:Frame b:Frame",
+     "crate::generated::v_frame_measures::frames_have_one_size({a}, {b})",
+     "the planes of {a:words} and {b:words} are not the same or not of one size: see `frames_have_one_size`",
+     "the planes of frames of [{a}.y_plane.width()]x[{a}.y_plane.height()] and [{b}.y_plane.width()]x[{b}.y_plane.height()] "
+     "are not the same or not of one size"),
+    ("PlaneFits turn:Turn source:Plane|PlaneRef target:Plane|PlaneRef",
+     "crate::support::conditions::has_turned_size({turn}.exchanges_sizes(), ({source.width}, {source.height}), "
+     "({target.width}, {target.height}))",
+     "the size of {target:words} is not that of {source:words}, exchanged where {turn:words} exchanges sizes",
+     "a plane of [{source.width}]x[{source.height}] cannot be shown in one of [{target.width}]x[{target.height}] by [{turn}:?]"),
+    ("IsFull plane:Plane",
+     "{plane}.is_init()",
+     "an entry of the buffer is `None`, in the border too: see `is_init`",
+     "an entry of the buffer of a plane of [{plane.width}]x[{plane.height}] is `None`"),
+    ("IsWritable header:StreamHeader",
+     "{header}.is_writable()",
+     "{header:words} has no line: see `is_writable`",
+     "a header of [{header}.width]x[{header}.height] has no line: a size is 0, or an extension has a space or a line feed"),
 ]
-NO_BODY = "declared without a body, where no assertion can stand, in a trait that only types of the library have"
-TRAIT_METHODS = {
-    **{("v_frame_raster", "pixel", name): NO_BODY
-       for name in ("from_value", "from_le", "le_byte", "decode_row", "sum_of_absolute_differences", "sum_of_squared_errors",
-                    "halve_rows")},
-    **{("v_frame_raster", "row_sums", name): NO_BODY for name in ("of_eights", "of_sixteens", "of_blocks", "of_sixty_fours")},
-    ("v_frame_plane", "encoding", "write_row"): NO_BODY,
-    ("v_frame_rgb", "colour", "write"): NO_BODY,
-    ("v_frame_rgb", "colour", "read"): NO_BODY,
-}
-
-TOKEN = re.compile(r"(?P<number>0x[0-9A-Fa-f_]+\b|[0-9][0-9_]*\b)|(?P<name>[A-Za-z_]\w*(?:\.\w+)*)"
-                   r"|(?P<sign>[<≤≡≢+*/^×→¬()=]|(?<=\s)-(?=\s))")
-COMPARISONS = ("<", "≤", "≡", "≢")
+PREDICATES = {row[0].split()[0]: row for row in PREDICATES}
+PREDICATES["IsInsideTable"] = PREDICATES["IsInside"]
 
 
-def checks_of(function):
-    """The checks of a function's clauses, in their order. Raises `Unknown` for a clause that cannot be translated."""
-    checks = []
-    for _, text in function.clauses:
-        if reason_to_skip(function, text) is not None:
-            continue
-        try:
-            facts = Reader(function).facts(Parser(text).whole())
-            checks += [Check(fact.test, inlined(fact.fails), f"where {fact.fails.words}") for fact in facts]
-        except Unknown as fault:
-            raise Unknown(f"{'::'.join(place_of(function))}: `{text}`: {fault}") from None
-    return checks
+class Unknown(Exception):
+    """A clause that cannot be translated."""
 
 
-def place_of(function):
-    return function.crate, function.module, function.name
+class Term(namedtuple("Term", "rust kind words shown noun")):
+    """A parameter, a part of one, or a number: in Rust, its type, and how a line and a message name it. `noun` is what it is of
+    something."""
+
+    def __format__(self, form):
+        """Returns the Rust of it; its `words`; these as they are `shown` with the value; or how something `of` it is told."""
+        return {"": self.rust, "words": self.words, "shown": self.shown,
+                "of": "" if self.rust == "self" else f" of {self.words}"}[form]
+
+    width = property(lambda self: self.size("width", "width"))
+    height = property(lambda self: self.size("height", "height"))
+    length = property(lambda self: self.size("len", "length"))
+    bytes = property(lambda self: valued(f"{self}.byte_len()", "usize", f"`byte_len`{self:of}"))
+
+    def size(self, call, noun):
+        """Returns the number that a method of it gives."""
+        return valued(f"{self}.{call}()", "usize", f"the {noun}{self:of}", noun if self.rust != "self" else "")
 
 
-def reason_to_skip(function, text):
-    """Why a clause is not asserted on purpose, or `None` where it is."""
-    place = place_of(function)
-    if function.is_trait_method:
-        if place not in TRAIT_METHODS:
-            raise Unknown(f"{'::'.join(place)}: a clause of a trait's method that is not listed")
-        return TRAIT_METHODS[place]
-    for form, places, reason in NOT_ASSERTED:
-        if re.fullmatch(form, text.strip()) and (places is None or place in places):
-            return reason
-    return None
+def valued(rust, kind, words, noun=""):
+    """Returns what a message names with its value."""
+    return Term(rust, kind, words, f"{words.replace('`', '')} ([{rust}])", noun)
 
 
-class Parser:
-    """Reads a clause into a tree: tuples of a form and its parts."""
+def constant(rust, words):
+    return Term(rust, "literal", words, words, "")
 
-    def __init__(self, text):
-        self.tokens, at = [], 0
-        for found in TOKEN.finditer(text):
-            if text[at:found.start()].strip():
-                break
-            self.tokens.append((found.lastgroup, found[0]))
-            at = found.end()
-        if text[at:].strip():
-            raise Unknown(f"`{text[at:].split()[0]}` is not known")
-        self.tokens.append(("end", ""))
-        self.at = 0
 
-    def next_is(self, *texts):
-        return self.tokens[self.at][1] in texts and self.tokens[self.at][0] != "end"
+def wide(number):
+    return number.rust if number.kind in ("literal", "u128") else f"{number} as u128"
 
-    def take(self, *texts):
-        kind, text = self.tokens[self.at]
-        if texts and text not in texts:
-            raise Unknown(f"`{text}` in the place of `{' '.join(texts)}`")
-        self.at += 1
-        return kind, text
 
-    def whole(self):
-        tree = self.fact()
-        if self.tokens[self.at][0] != "end":
-            raise Unknown(f"`{self.tokens[self.at][1]}` is not expected")
-        return tree
+def pixel_bytes(pixel):
+    """Returns the bytes of a pixel, which users know as a size where they choose the type of pixels."""
+    shown = f"size_of::<{pixel}>()" if pixel in tables.PIXEL_TYPES else f"{pixel}::BYTES"
+    return Term(f"{pixel}::BYTES", "usize", f"`{pixel}::BYTES`", f"{shown} ([{pixel}::BYTES])", "")
 
-    def fact(self):
-        if self.next_is("let"):
-            self.take("let")
-            kind, name = self.take()
-            if kind != "name" or "." in name:
-                raise Unknown(f"`let {name}`")
-            self.take("=")
-            value = self.sum()
-            self.take("in")
-            return "let", name, value, self.fact()
-        left = self.conjunction()
-        if self.next_is("→"):
-            self.take()
-            return "→", left, self.fact()
-        return left
 
-    def conjunction(self):
-        parts = [self.negation()]
-        while self.next_is("×"):
-            self.take()
-            parts.append(self.negation())
-        return ("×", *parts) if len(parts) > 1 else parts[0]
+def of_two(sign, a, b):
+    """Returns the sum or the product of two numbers."""
+    words = "twice {1}" if (sign, a.rust) == ("*", "2") else {"+": "{0} plus {1}", "*": "{0} times {1}"}[sign]
+    return Term(f"{wide(a)} {sign} {wide(b)}", "u128", words.format(a.words, b.words), words.format(a.shown, b.shown), "")
 
-    def negation(self):
-        if self.next_is("¬"):
-            self.take()
-            return "¬", self.negation()
-        left = self.sum()
-        return (self.take()[1], left, self.sum()) if self.next_is(*COMPARISONS) else left
 
-    def sum(self):
-        return self.chain(self.product, "+", "-")
+def compared(a, sign, b):
+    """Returns the test of two numbers: those of one type as they are, and others in `u128`."""
+    rust, fails = SIGNS[sign]
+    if sign == "<" and a.rust == "0":
+        return Check(f"{b} > 0", f"{b:words} is 0", f"{b:words} is 0".replace("`", ""))
+    if a.kind == "literal" or sign == "<" and "u128" in (a.kind, b.kind):
+        raise Unknown("a form of a comparison that is not known")
+    test = f"{a} {rust} {b}" if b.kind in (a.kind, "literal") else f"{wide(a)} {rust} {wide(b)}"
+    if sign == "≡" and a.noun and a.noun == b.noun:
+        names = [text.replace(f"the {a.noun} of ", "", 1) for text in (a.words, b.words, a.shown, b.shown)]
+        form = f"the {a.noun}s of {{}} and {{}} are not equal"
+        return Check(test, form.format(*names[:2]), form.format(*names[2:]))
+    return Check(test, f"{a:words} {fails} {b:words}", f"{a:shown} {fails} {b:shown}")
 
-    def product(self):
-        return self.chain(self.power, "*", "/")
 
-    def chain(self, part, *signs):
-        left = part()
-        while self.next_is(*signs):
-            left = (self.take()[1], left, part())
-        return left
+def known(found, text):
+    """Returns what was found, and refuses the text where that is nothing."""
+    if not found:
+        raise Unknown(f"`{text}` is not known")
+    return found
 
-    def power(self):
-        base = self.application()
-        if self.next_is("^"):
-            self.take()
-            return "^", base, self.power()
-        return base
 
-    def application(self):
-        parts = [self.atom()]
-        while self.tokens[self.at][0] in ("name", "number") and not self.next_is("in") or self.next_is("("):
-            parts.append(self.atom())
-        if len(parts) == 1:
-            return parts[0]
-        if parts[0][0] != "name":
-            raise Unknown("what is applied has no name")
-        return "apply", parts[0][1], parts[1:]
-
-    def atom(self):
-        kind, text = self.take()
-        if kind == "number":
-            return "number", int(text.replace("_", ""), 0)
-        if text == "(":
-            tree = self.fact()
-            self.take(")")
-            return tree
-        if kind != "name" or text in ("let", "in"):
-            raise Unknown(f"`{text}` is not expected" if text else "the clause ends early")
-        return "name", text
+# The forms of a number that is no sum and no product, each with what makes the number of its parts.
+FORMS = [
+    (r"(\d+)", lambda reader, value: constant(value, value)),
+    (r"2 \^ (\d+)", lambda reader, power: constant(f"1 << {power}", f"2^{power}")),
+    (r"([A-Z])\.(?:BYTES|form\.size)", lambda reader, pixel: pixel_bytes(pixel)),
+    (r"length \(byte_list (\w)\.form \(table_of (\S+)\)\)",
+     lambda reader, pixel, plane: reader.thing(plane, f"Plane<{pixel}>|PlaneRef<'a, {pixel}>").bytes),
+    (r"length (\S+)", lambda reader, name: reader.thing(name, "[]").length),
+    (r"(?:(\S+)\.width|width_of (\S+))", lambda reader, *names: reader.thing(names[0] or names[1], PICTURES).width),
+    (r"(?:(\S+)\.height|height_of (\S+))", lambda reader, *names: reader.thing(names[0] or names[1], PICTURES).height),
+    (r"(\w+)\.([012])", lambda reader, name, place: valued(f"{reader.thing(name, '()')}.{place}", "usize", f"`{name}.{place}`")),
+    (r"(\w+)", lambda reader, name: valued(name, reader.thing(name, NUMBERS).kind, f"`{name}`")),
+]
 
 
 class Reader:
-    """Makes Rust of a tree, over the parameters of a function and names that are bound to numbers or to what has them."""
+    """Reads the clauses of a function, whose parameters have types as texts."""
 
-    def __init__(self, function, bound=None):
-        self.function = function
-        self.bound = bound or {}
+    def __init__(self, source, item):
+        self.types = {}
+        for start, at, end in parameters_of(source, item):
+            is_self = source[at] == "self"
+            self.types[source[at]] = f"{source.words(start, at)} {item.owner.subject}" if is_self else source.words(at + 2, end)
 
-    def with_bound(self, name, tree):
-        return Reader(self.function, {**self.bound, name: self.value(tree)})
+    def check(self, text):
+        """Returns the test of a clause."""
+        applied, comparison = APPLIED.fullmatch(text), COMPARISON.fullmatch(text)
+        if applied and applied[1] in PREDICATES:
+            return self.of_predicate(PREDICATES[applied[1]], re.findall(r"[^\s()]+|\([^()]+\)", applied[2]))
+        a, sign, b = known(comparison, text).groups()
+        if sign == "≢" and re.fullmatch(r"[A-Z][a-z]+", b):
+            thing = self.thing(a)
+            words = f"{thing:words} is `{thing.kind}::{b}`"
+            return Check(f"{thing} != {thing.kind}::{b}", words, words.replace("`", ""))
+        return compared(self.number(a), sign, self.number(b))
 
-    def facts(self, tree):
-        """The facts that a tree joins, each by itself."""
-        if tree[0] == "×":
-            return [fact for part in tree[1:] for fact in self.facts(part)]
-        if tree[0] == "let":
-            return self.with_bound(tree[1], tree[2]).facts(tree[3])
-        return [self.fact(tree)]
+    def of_predicate(self, row, arguments):
+        """Returns the test that a row of the table makes of these arguments."""
+        names, terms = row[0].split(" ")[1:], {}
+        known(len(names) == len(arguments), row[0])
+        for name, argument in zip(names, arguments):
+            name, _, kind = name.partition(":")
+            terms[name] = self.argument(argument.strip("()"), kind.format(**terms) or "usize")
+        return Check(*(text.format(**terms) for text in row[1:]))
 
-    def fact(self, tree):
-        """One fact."""
-        form = tree[0]
-        if form in COMPARISONS:
-            return self.comparison(*tree)
-        if form == "let":
-            return self.with_bound(tree[1], tree[2]).fact(tree[3])
-        if form == "×":
-            return joined([self.fact(part) for part in tree[1:]])
-        if form == "¬":
-            return negated(self.fact(tree[1]))
-        if form == "→":
-            return implied(self.fact(tree[1]), self.fact(tree[2]))
-        if form == "apply" and tree[1] in PREDICATES:
-            return self.called(PREDICATES[tree[1]], tree)
-        raise Unknown(f"`{tree[1]}` is no fact that is known")
+    def argument(self, text, kind):
+        """Returns what a row of the table takes: a number of this type, a thing, or the type of pixels that has so many bytes."""
+        if kind == "bytes":
+            pixel = known(re.fullmatch(r"([A-Z])\.BYTES", text), text)[1]
+            return Term(pixel, kind, f"`{pixel}`", "", "")
+        if kind not in NUMBERS:
+            return self.thing(text, kind)
+        number = self.number(text)
+        return known(number.kind in (kind, "literal") and number, text)
 
-    def called(self, made, tree):
-        """What an entry of a table makes of its arguments, of which there are as many as it takes."""
-        if made.__code__.co_argcount != len(tree[2]) + 1:
-            raise Unknown(f"`{tree[1]}` of {len(tree[2])} arguments")
-        return made(self, *tree[2])
+    def number(self, text):
+        """Returns a number: one, half of one, rounded up, or a sum or product of two."""
+        half = re.fullmatch(r"\((.+) \+ 1\) / 2", text)
+        if half:
+            whole = self.one(half[1])
+            return Term(f"{whole}.div_ceil(2)", whole.kind, f"half {whole:words}, rounded up", f"half {whole:shown}, rounded up", "")
+        two = re.fullmatch(r"([^+]+) (\+) ([^+]+)|([^*]+) (\*) ([^*]+)", text)
+        if two:
+            a, sign, b = filter(None, two.groups())
+            return of_two(sign, self.one(a), self.one(b))
+        return self.one(text)
 
-    def comparison(self, sign, left, right):
-        """The fact of two numbers, or of a parameter and a variant of its type."""
-        if sign in "≡≢" and right[0] == "name" and right[1] in VARIANTS:
-            return of_variant(sign, self.thing(left, VARIANTS[right[1]]), right[1])
-        a, b = self.number(left), self.number(right)
-        if a.type == b.type == "literal":
-            raise Unknown("two constants are compared")
-        if a.type == "literal":
-            return compared({"<": ">", "≤": "≥"}.get(sign, sign), b, a)
-        return compared(sign, a, b)
+    def one(self, text):
+        """Returns a number that is no sum and no product."""
+        made = next((make(self, *found.groups()) for form, make in FORMS if (found := re.fullmatch(form, text))), None)
+        return known(made, text)
 
-    def value(self, tree):
-        """A number, or what has numbers."""
-        try:
-            return self.number(tree)
-        except Unknown:
-            return self.thing(tree)
-
-    def number(self, tree):
-        form = tree[0]
-        if form == "number":
-            return literal(tree[1], str(tree[1]))
-        if form == "name":
-            found = self.named(tree[1])
-            if isinstance(found, Number):
-                return found
-        if form in ("+", "-", "*", "/"):
-            return counted(form, self.number(tree[1]), self.number(tree[2]))
-        if form == "^" and tree[1][0] == tree[2][0] == "number":
-            return literal(tree[1][1] ** tree[2][1], f"{tree[1][1]}^{tree[2][1]}")
-        if form == "apply" and tree[1] in SIZES:
-            return self.called(SIZES[tree[1]], tree)
-        raise Unknown(f"`{tree[1] if form in ('apply', 'name') else form}` is no number that is known")
-
-    def thing(self, tree, *kinds):
-        """What has numbers, of one of these kinds."""
-        found = None
-        if tree[0] == "name":
-            found = self.named(tree[1])
-        elif tree[0] == "apply" and tree[1] == "table_of" and len(tree[2]) == 1:
-            found = self.thing(tree[2][0], "Plane", "PlaneRef")
-        elif tree[0] == "apply" and tree[1] == "tables_of" and len(tree[2]) == 1:
-            found = self.thing(tree[2][0], "Frame")
-        if not isinstance(found, Thing) or kinds and found.kind not in kinds:
-            raise Unknown(f"`{tree[1]}` is not of {' or '.join(kinds) or 'a kind that is known'}")
-        return found
-
-    def argument(self, tree, kind="usize"):
-        """A number that a Rust function takes."""
-        found = self.number(tree)
-        if found.type != kind and not (found.type == "literal" and found.most <= LARGEST[kind]):
-            raise Unknown(f"`{found.rust}` is no {kind}")
-        return found
-
-    def named(self, path):
-        """What a path is: a bound name, a parameter or what it points to, or a part of that."""
-        root, *parts = path.split(".")
-        if root in self.bound:
-            found = self.bound[root]
-        elif root == "self" or root in dict(self.function.parameters):
-            found, parts = self.parameter(root, parts)
-        else:
-            return self.constant(path)
-        for part in parts:
-            fields = FIELDS.get(found.kind, {}) if isinstance(found, Thing) else {}
-            if part not in fields:
-                raise Unknown(f"`{path}` is not known")
-            found = fields[part](found)
-        return found
-
-    def parameter(self, name, parts):
-        """A parameter or what it points to, and what is left of its path."""
-        text = dict(self.function.parameters).get(name)
-        if name == "self":
-            kind = re.fullmatch(r"(&\s*(?:'\w+\s+)?(?:mut\s+)?)?(?:mut\s+)?self", self.function.self_kind or "")
-            if not kind:
-                raise Unknown(f"`self` is `{self.function.self_kind}`")
-            text = f"{kind[1] or ''}{self.function.self_type}"
-        reference, unique, kind = re.fullmatch(r"(&\s*(?:'\w+\s+)?(mut\s+)?)?(.*)", text.strip(), re.S).groups()
-        if reference:
-            if parts[:1] != ["old" if unique else "now"]:
-                raise Unknown(f"`{name}` is a reference, and it is not said when")
-            parts = parts[1:]
-        if kind in LARGEST and not reference:
-            return atom(name, kind, f"`{name}`"), parts
-        return Thing(name, kind_of(kind), f"`{name}`", kind, None), parts
-
-    def constant(self, path):
-        """A constant of a type parameter, or of the trait that the function is of."""
-        owner, _, name = path.rpartition(".")
-        if not owner and name in CONSTANTS and self.function.self_type:
-            return atom(f"Self::{name}", "usize", f"`Self::{name}`")
-        if owner.endswith(".form") and name == "size":
-            owner, name = owner.removesuffix(".form"), "BYTES"  # as `Pixel` promises
-        types = f"{self.function.generics} {self.function.self_type}"
-        if name in CONSTANTS and re.fullmatch(r"[A-Z]\w*", owner) and re.search(rf"\b{owner}\b", types):
-            return atom(f"{owner}::{name}", "usize", f"`{owner}::{name}`")
-        raise Unknown(f"`{path}` is not known")
+    def thing(self, text, kinds=""):
+        """Returns a parameter, or what it points to, of one of these types. Its table, or whether a turn exchanges, is told of it."""
+        path = known(re.fullmatch(r"(?:tables?_of |exchanges )?(\w+)(?:\.(now|old))?(?:\.geometry)?", text), text)
+        reference, unique, whole = re.fullmatch(r" ?(& ?(?:'\w+ )?(mut )?)?(.*)", self.types.get(path[1], "")).groups()
+        kind = "[]" if re.fullmatch(r"\[[^;]*\]", whole) else "()" if whole.startswith("(usize, ") else re.match(r"\w*", whole)[0]
+        known(kind and path[2] == ((reference or None) and ("old" if unique else "now")), text)
+        known(not kinds or {whole, kind} & set(kinds.split("|")), text)
+        return Term(path[1], kind, f"`{path[1]}`", "", "")
 
 
-def kind_of(text):
-    """The name of a type without its arguments: that of a slice is `[]`, and that of a tuple of sizes `()`."""
-    if re.fullmatch(r"\[[^;]*\]", text):
-        return "[]"
-    return "()" if re.fullmatch(r"\((usize,\s*)+(usize)?\)", text) else re.match(r"\w*", text)[0]
+def checks_of(source, item):
+    """Returns the tests of a function's clauses, in their order. A closure of Rust can always be called."""
+    checks = []
+    for clause in source.clauses_of(item, "requires"):
+        if not re.fullmatch(r"[A-Z]\w*\.IsAlwaysCallable \w+", clause.text):
+            try:
+                checks.append(Reader(source, item).check(clause.text))
+            except Unknown as unknown:
+                source.refuse(item.keyword, f"`{clause.text}` of {item.name}: {unknown}")
+    return checks
+
+
+def message_of(check):
+    """Returns what `assert!` takes after its test: a message in which names stand themselves, and then the other values."""
+    behind = []
+
+    def place(found):
+        if re.fullmatch(r"(?!self$)[a-z_]\w*", found[1]):
+            return "{" + found[1] + (found[2] or "") + "}"
+        behind.append(found[1])
+        return "{" + (found[2] or "") + "}"
+
+    message = re.sub(r"\[([^][]*?)(:\?)?\]", place, check.message)
+    return ", ".join([f'"{message}"', *behind])

@@ -72,7 +72,7 @@ class Parameter:
 
 def check(source, item, parts):
     """Refuses what C could not call as the contract has it."""
-    if any(clause.word == "requires" for clause in source.clauses_of(item)):
+    if source.clauses_of(item, "requires"):
         source.refuse(item.keyword, "an export that requires something, which C does not prove")
     if not item.is_public() or item.owner or item.generics or not item.result or source.words(*item.result) != RESULT:
         source.refuse(item.keyword, "an export of a form that is not known")

@@ -52,6 +52,12 @@ def functions_of(source):
     return [item for item in items_of(source) if item.kind == "fn"]
 
 
+def parameters_of(source, item):
+    """Returns where each parameter of a function begins, where its name stands, which may be `self`, and where it ends."""
+    parts = source.elements(item.params[0], types=True)
+    return [(start, next(at for at in range(start, end) if source.is_word(at) and source[at] != "mut"), end) for start, end in parts]
+
+
 def item_at(source, at, owner):
     """Returns the item that begins at `at`."""
     item = Item(at, owner)

@@ -37,7 +37,7 @@ def erase_laws(sources):
 def laws_of(source):
     """Returns the functions of a source that have a contract and do nothing."""
     empty = [item for item in functions_of(source) if item.body and item.body[0] + 1 == item.body[1] and not item.result]
-    return [item for item in empty if any(clause.word == "ensures" for clause in source.clauses_of(item))]
+    return [item for item in empty if source.clauses_of(item, "ensures")]
 
 
 def erase_calls(source, laws):

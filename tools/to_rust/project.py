@@ -1,6 +1,6 @@
 """The whole translation: which files there are, and the steps that each goes through."""
 
-from . import arms, assertions, docs, errors, examples, exports, facts, forms, ghosts, interface, layout, leftovers, memory, paths, strict, tables, views
+from . import arms, assertions, docs, errors, examples, exports, forms, ghosts, interface, layout, leftovers, memory, paths, strict, tables, views
 from .items import items_of
 from .listing import listing_of
 from .reach import Reach
@@ -41,7 +41,7 @@ def translate(root, shown):
         leftovers.erase_imports(source, traits)
         errors.write_errors(source)
         assertions.add_assertions(source, reach)
-        facts.add_facts(source)
+        assertions.add_facts(source)
         leftovers.rename_unread(source)
         views.rewrite(source, reach)
         leftovers.erase_imports(source, traits)

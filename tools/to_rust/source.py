@@ -41,12 +41,12 @@ class Source:
     def kind(self, at):
         return self.tokens[at].kind if 0 <= at < len(self.tokens) else ""
 
-    def clauses_of(self, item):
-        """Returns the contract that a function had."""
-        return self.clauses.get(self.tokens[item.keyword], [])
+    def clauses_of(self, item, word):
+        """Returns what a function required, or what it ensured."""
+        return [clause for clause in self.clauses.get(self.tokens[item.keyword], ()) if clause.word == word]
 
     def is_word(self, at, *words):
-        return self.kind(at) == "word" and self[at] in words
+        return self.kind(at) == "word" and (not words or self[at] in words)
 
     def refuse(self, at, message):
         """Raises the error that names this token's place."""

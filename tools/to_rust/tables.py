@@ -84,6 +84,12 @@ HOT = {
 # Those among them that are no methods.
 HOT_FUNCTIONS = {"encode_row"}
 
+# Functions without a body that require something, by their traits, which only types of the library have: no test has a place there.
+WITHOUT_TESTS = {
+    "Pixel": "from_value from_le le_byte decode_row sum_of_absolute_differences sum_of_squared_errors halve_rows".split(),
+    "ColourOrder": ["read", "write"],
+}
+
 # Private functions whose loops are faster where the compiler is told what they require.
 FACTS = {("v_frame_turn", "write_reversed"), ("v_frame_semi_planar", "deinterleave_pixels")}
 
