@@ -39,8 +39,6 @@ def add_tests(source, item, checks):
     """Writes the tests at the beginning of the body, the text above, and the function without tests where it is called often."""
     lead = "\n" + source.tokens[item.head].lead.rpartition("\n")[2]
     inner, start = lead + "    ", item.body[0] + 1
-    if "\n" not in source.tokens[start].lead:
-        source.tokens[start].lead = inner
     if (source.crate, item.name) in tables.HOT:
         source.insert(start, "hot-call", hot_text(source, item, lead), inner)
     source.insert(start, "assertion", inner.join(assertion_text(check, inner) for check in checks), inner)
@@ -50,18 +48,18 @@ def add_tests(source, item, checks):
 
 def assertion_text(check, lead):
     """Returns the statement, on one line where that is short."""
-    test, message = check.test, message_of(check)
-    line = f"assert!({test}, {message});"
-    return line if len(lead + line) <= 101 else f"assert!({lead}    {test},{lead}    {message}{lead});"
+    message = message_of(check)
+    line = f"assert!({check.test}, {message});"
+    return line if len(lead + line) <= 101 else f"assert!({lead}    {check.test},{lead}    {message}{lead});"
 
 
 def panics_lines(checks):
     """Returns the lines of documentation that say when the function stops."""
-    words = [f"where {check.words}" for check in checks]
-    if len(words) == 1:
-        return ["///", "/// # Panics", "///", f"/// Panics {words[0]}."]
-    ends = [","] * (len(words) - 1) + ["."]
-    return ["///", "/// # Panics", "///", "/// Panics", "///", *[f"/// - {word}{end}" for word, end in zip(words, ends)]]
+    if len(checks) == 1:
+        return ["///", "/// # Panics", "///", f"/// Panics where {checks[0].words}."]
+    ends = [","] * (len(checks) - 1) + ["."]
+    lines = [f"/// - where {check.words}{end}" for check, end in zip(checks, ends)]
+    return ["///", "/// # Panics", "///", "/// Panics", "///", *lines]
 
 
 def hot_text(source, item, lead):
@@ -78,9 +76,7 @@ def rename_hot_calls(source):
     names = {name for _, name in tables.HOT}
     if source.crate not in {crate for crate, _ in tables.HOT}:
         names -= {item.name for item in functions_of(source)}
-    for at in range(len(source)):
-        if not source.is_word(at, *names) or source[at - 1] == "fn":
-            continue
+    for at in source.places(*names):
         called = source[at + 1] == "(" and source[at - 1] == "."
-        if called or source[at] in tables.HOT_FUNCTIONS and source[at + 1] in ("(", ",", "}", ";"):
+        if called or source[at] in tables.HOT_FUNCTIONS and source[at - 1] != "fn" and source[at + 1] in ("(", ",", "}", ";"):
             source.replace(at, at + 1, "hot-name", source[at] + HOT)

@@ -136,7 +136,7 @@ def rewrite_text(source, start, end, links):
     if lines:
         source.replace(first, last, rule, ("\n" + lead.rpartition("\n")[2]).join(lines), lead)
     elif first < last:
-        source.erase(first, last, rule, lead if first == start else None)
+        source.erase(first, last, rule)
     return start + len(new)
 
 

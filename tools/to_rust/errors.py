@@ -1,5 +1,6 @@
 """Errors: what `thiserror` derives is written out, so that the Rust crates depend on nothing."""
 
+from . import forms
 from .items import Item, items_of, skip_attributes
 
 
@@ -22,6 +23,7 @@ class Variant:
                 self.read_field(source, start, end)
 
     def read_field(self, source, at, end):
+        """Reads a field with its attributes."""
         noted = Item(at, None)
         at = skip_attributes(source, at, noted)
         name = source[at] if self.form == "{" else "value" if not self.fields else f"value_{len(self.fields)}"
@@ -60,11 +62,6 @@ class Variant:
             return f"{self.pattern(self.fields)} => core::error::Error::source(value),"
         return f"{self.pattern([self.cause])} => Some({self.cause})," if self.cause else None
 
-    def conversion(self, name):
-        """Returns how the error is made from its cause."""
-        text = f"fn from(value: {self.made_from}) -> Self {{\n        {self.name}(value)\n    }}"
-        return f"impl From<{self.made_from}> for {name} {{\n    {text}\n}}\n\n"
-
 
 def write_errors(source):
     """Writes `Display`, `Error` and `From` for each type that derives them."""
@@ -76,41 +73,25 @@ def write_errors(source):
                     source.refuse(item.keyword, "an error that is no enum")
                 variants = [Variant(source, at, item.name) for at, _ in source.elements(item.body[0], types=True)]
                 source.insert(item.end, "error-derive", impls_text(item.name, variants), "\n\n")
-                erase_attributes(source, *item.body)
                 source.erase_listed(derived[0], derived[0] + 1, "error-derive")
+    forms.rewrite(source, forms.ERRORS)
+
+
+def function(name, result, arms):
+    """Returns a function that matches an error."""
+    shown = "\n            ".join(arms)
+    return f"    fn {name}{result} {{\n        match self {{\n            {shown}\n        }}\n    }}\n"
 
 
 def impls_text(name, variants):
     """Returns the implementations."""
-    shown = "\n            ".join(variant.display() for variant in variants)
-    causes = [arm for arm in (variant.source() for variant in variants) if arm]
-    text = f"""impl core::fmt::Display for {name} {{
-    fn fmt(&self, f: &mut core::fmt::Formatter<'_>) -> core::fmt::Result {{
-        match self {{
-            {shown}
-        }}
-    }}
-}}
-
-"""
-    text += "".join(variant.conversion(name) for variant in variants if variant.made_from)
-    text += f"impl core::error::Error for {name} "
-    if not causes:
-        return text + "{}"
-    arms = "\n            ".join([*causes, "_ => None,"])
-    return text + f"""{{
-    fn source(&self) -> Option<&(dyn core::error::Error + 'static)> {{
-        match self {{
-            {arms}
-        }}
-    }}
-}}"""
-
-
-def erase_attributes(source, start, end):
-    """Erases the attributes that `thiserror` reads."""
-    for at in reversed(range(start, end)):
-        if source.matches(at, "# [") and source[at + 2] in ("error", "source", "from"):
-            closing = source.closing(at + 1) + 1
-            lead = source.tokens[at].lead if "\n" not in source.tokens[closing].lead else None
-            source.erase(at, closing, "error-derive", lead)
+    fmt = "(&self, f: &mut core::fmt::Formatter<'_>) -> core::fmt::Result"
+    text = f"impl core::fmt::Display for {name} {{\n{function('fmt', fmt, [variant.display() for variant in variants])}}}\n\n"
+    for variant in variants:
+        if variant.made_from:
+            text += f"impl From<{variant.made_from}> for {name} {{\n    fn from(value: {variant.made_from}) -> Self {{\n"
+            text += f"        {variant.name}(value)\n    }}\n}}\n\n"
+    arms = [arm for arm in (variant.source() for variant in variants) if arm]
+    source = "(&self) -> Option<&(dyn core::error::Error + 'static)>"
+    body = f"\n{function('source', source, [*arms, '_ => None,'])}" if arms else ""
+    return f"{text}impl core::error::Error for {name} {{{body}}}"

@@ -6,14 +6,13 @@ A line `## PATH` names an item of the library by its public path, and the block 
 
 import re
 
-from . import paths, tables
 from .items import items_of
 from .tokens import Refused
 
 FOLDER = "rust/v_frame_proved/doc_examples"
 BY_HAND = "rust/v_frame_proved/src/by_hand"
 SECTION = re.compile(r"^## (\S+)\n\n```\n(.*?)^```\n", re.M | re.S)
-TEXT_LINE = re.compile(r"^\s*//[/!] ?(.*)", re.M)
+FENCE = re.compile(r"^ *//[/!] ```(?:no_run)?\n(.*?)^ *//[/!] ```\n", re.M | re.S)
 PUBLIC = re.compile(r"^\s*pub (?:const )?(?:fn|struct|enum|trait) (\w+)", re.M)
 HIDDEN = {"Pixel", "PixelCalls", "laws"}
 
@@ -34,19 +33,15 @@ class Examples:
 
     def add(self, source, reach):
         """Puts the examples of a source's items at the ends of their texts, and notes items that stand in none."""
-        if paths.home_of(source.crate) != tables.LIBRARY:
-            return
         self.modules = {name.partition("::")[2] for name in reach.modules.values()}
         for item in reversed(items_of(source)):
             path = path_of(source, reach, item)
-            if path is None or HIDDEN & set(path.split("::")):
-                continue
-            if not self.shows(path):
-                self.missing.append(f"{source.tokens[item.head].place}: no example shows {path}")
-            self.put(source, path, item.head, "///", item.docs)
+            if path and not HIDDEN & set(path.split("::")):
+                if not self.shows(path):
+                    self.missing.append(f"{source.tokens[item.head].place}: no example shows {path}")
+                self.put(source, path, "///", item.docs)
         module = reach.modules.get((source.crate, source.module), "crate").partition("::")[2]
-        end = next(at for at in range(len(source)) if not source[at].startswith("//!"))
-        self.put(source, module, end, "//!", range(end))
+        self.put(source, module, "//!", range(next(at for at in range(len(source)) if not source[at].startswith("//!"))))
 
     def shows(self, path):
         """Returns whether an item has an example, or its name stands in one of its module: that of a method beside its type's."""
@@ -61,51 +56,32 @@ class Examples:
         front = [k for k, part in enumerate(parts) if part[0].isupper()][:1] or [len(parts) - (path not in self.modules)]
         return "::".join(parts[:front[0]])
 
-    def put(self, source, path, at, mark, docs):
+    def put(self, source, path, mark, docs):
         """Puts an example behind a text."""
-        if path not in self.code or not len(docs):
-            return
-        self.used.add(path)
-        lines = ["", "# Examples", "", "```", *self.code[path].splitlines(), "```"]
-        lead = source.tokens[docs[-1]].lead
-        end = docs[-1] + 1
-        indent = "\n" + lead.rpartition("\n")[2]
-        source.insert(end, "doc-example", indent.join(f"{mark} {line}".rstrip() for line in lines), indent)
+        if path in self.code and docs:
+            self.used.add(path)
+            lines = ["", "# Examples", "", "```", *self.code[path].splitlines(), "```"]
+            lead = "\n" + source.tokens[docs[-1]].lead.rpartition("\n")[2]
+            source.insert(docs[-1] + 1, "doc-example", lead.join(f"{mark} {line}".rstrip() for line in lines), lead)
 
     def finish(self):
         """Refuses examples of what is no public item, and notes what is written by hand and stands in no example."""
         for path in sorted(set(self.code) - self.used):
             raise Refused(self.place_of[path], f"an example of {path}, which is no public item with a text")
         files = {path: path.read_text(encoding="utf-8") for path in sorted((self.root / BY_HAND).rglob("*.rs"))}
-        texts = [line for text in files.values() for line in TEXT_LINE.findall("\n".join(fences_of(text)))]
-        shown = "\n".join([*self.code.values(), *texts])
+        shown = "\n".join([*self.code.values(), *(code for text in files.values() for code in FENCE.findall(text))])
         for path, text in files.items():
             names = [name for name in PUBLIC.findall(text) if not re.search(rf"\b{name}\b", shown)]
             self.missing += [f"{path.relative_to(self.root)}: no example shows {name}" for name in names]
 
 
-def fences_of(text):
-    """Returns the blocks of code in the documentation of a file."""
-    lines, inside = [], False
-    for line in text.splitlines():
-        content = TEXT_LINE.match(line)
-        if content and content[1].startswith("```"):
-            inside = not inside and content[1] in ("```", "```no_run")
-        elif content and inside:
-            lines.append(line)
-    return lines
-
-
 def path_of(source, reach, item):
-    """Returns the public path of a function or a type without the crate in front. None: it has none."""
-    if item.kind not in ("fn", "struct", "enum", "trait"):
-        return None
-    if item.owner is None:
-        place = reach.places.get((source.crate, source.module, item.name)) if item.is_public() else None
-    elif item.kind == "fn" and reach.is_public(source, item):
+    """Returns the public path of a function or a type without the crate in front, or nothing."""
+    place = None
+    if item.kind in ("fn", "struct", "enum", "trait") and item.owner is None and item.is_public():
+        place = reach.places.get((source.crate, source.module, item.name))
+    elif item.kind == "fn" and item.owner is not None and reach.is_public(source, item):
         owner = (item.owner.name or item.owner.subject).split("<")[0]
         place = next((path for (crate, _, name), path in reach.places.items() if (crate, name) == (source.crate, owner)), None)
         place = place and f"{place}::{item.name}"
-    else:
-        return None
     return place and place.removeprefix("crate::")

@@ -5,92 +5,68 @@ source's. What takes a pointer stands in one file by hand, `foreign`. An export 
 another form, is refused.
 """
 
+import re
+
 from . import tables
-from .items import functions_of
+from .items import functions_of, parameters_of
 
 MARK = "# [ unsafe ( no_mangle ) ]"
 HEAD = 'extern "C" fn'
-SCALARS = {"u8", "u16", "u32", "u64", "usize", "f64"}
+SCALAR = r"u8|u16|u32|u64|usize|f64"
+# A parameter: its name, the type that goes as it is, or whether it is written, and the type that it points to, or has many of.
+PARAMETER = re.compile(rf"(\w+): (?:(?P<plain>{SCALAR})|&(?P<writes>mut )?(?:(?P<one>[A-Z]\w*|{SCALAR})|\[(?P<many>{SCALAR})\]))")
 RESULT = "-> u32"
 BEFORE = "///\n/// # Safety\n///\n/// Each pointer is as the header says.\n#[allow(unsafe_code)]"
 
 
 def is_form(source, at):
     """Returns whether a token belongs to a form that crates for C alone have: an export, or a struct as C lays it out."""
-    if source.crate not in tables.FOR_C:
-        return False
-    return source.matches(at, HEAD) or source.matches(at - 2, MARK) or source.matches(at - 2, "# [ repr ( C ) ]")
+    forms = source.matches(at, HEAD) or source.matches(at - 2, MARK) or source.matches(at - 2, "# [ repr ( C ) ]")
+    return source.crate in tables.FOR_C and forms
 
 
 def rewrite(source):
     """Rewrites the exports of a source."""
     for item in reversed(functions_of(source)):
-        if source.crate in tables.FOR_C and is_export(source, item):
-            parts = [Parameter(source, *part) for part in source.elements(item.params[0], types=True)]
-            check(source, item, parts)
-            rewrite_export(source, item, parts)
+        marked = any(source.matches(start, MARK) for start, _ in item.attributes)
+        if marked != (source[item.keyword - 2] == "extern"):
+            source.refuse(item.keyword, "an export of a form that is not known")
+        if marked:
+            rewrite_export(source, item)
 
 
-def is_export(source, item):
-    """Returns whether C calls a function. One that is marked as such without being one, or the other way, is refused."""
-    marked = any(source.matches(start, MARK) for start, _ in item.attributes)
-    if marked != (source[item.keyword - 2] == "extern"):
-        source.refuse(item.keyword, "an export of a form that is not known")
-    return marked
-
-
-class Parameter:
-    """A parameter of an export: its name, where it stands, the type that it is or points to, and the function that takes it from
-    C: `reference` or `slice`, with `_mut` where it is written; none where it goes as it is."""
-
-    def __init__(self, source, start, end):
-        self.name, self.start, self.end = source[start], start, end
-        at, self.call = start + 2, ""
-        if source[at] == "&":
-            writes = source[at + 1] == "mut"
-            at += 1 + writes
-            self.call = ("slice" if source[at] == "[" else "reference") + ("_mut" if writes else "")
-        self.is_slice = self.call.startswith("slice")
-        self.kind = source[at + self.is_slice]
-        whole = f"{self.name}: {source.words(start + 2, at)}" + (f"[{self.kind}]" if self.is_slice else self.kind)
-        points = self.call and not self.is_slice and source.kind(at) == "word" and self.kind[0].isupper()
-        if source.words(start, end) != whole.replace("&mut", "&mut ") or not points and self.kind not in SCALARS:
-            source.refuse(start, "a parameter of an export of a form that is not known")
-
-    def length(self):
-        return f"{self.name}_length"
-
-    def declared(self, lead):
-        """Returns what C gives, and the parameter of its length after this lead."""
-        pointer = f"*{'mut' if self.call.endswith('mut') else 'const'} {self.kind}"
-        return pointer + (f",{lead}{self.length()}: usize" if self.is_slice else "")
-
-    def taken(self):
-        arguments = f"{self.name}, {self.length()}" if self.is_slice else self.name
-        return f"let {self.name} = unsafe {{ crate::foreign::{self.call}({arguments}) }};"
-
-
-def check(source, item, parts):
+def check(source, item, lengths):
     """Refuses what C could not call as the contract has it."""
     if source.clauses_of(item, "requires"):
         source.refuse(item.keyword, "an export that requires something, which C does not prove")
     if not item.is_public() or item.owner or item.generics or not item.result or source.words(*item.result) != RESULT:
         source.refuse(item.keyword, "an export of a form that is not known")
-    lengths = {part.length() for part in parts if part.is_slice}
     for at in range(item.keyword, item.end):
         if source[at] in lengths:
             source.refuse(at, "a name that the length of a slice has")
 
 
-def rewrite_export(source, item, parts):
+def rewrite_export(source, item):
     """Rewrites one export from its end on, so that what stands before keeps its place."""
-    taken = [part.taken() for part in parts if part.call]
+    taken, pointers, lengths = [], [], []
+    for start, at, end in parameters_of(source, item):
+        found = PARAMETER.fullmatch(source.words(start, end))
+        if not found:
+            source.refuse(start, "a parameter of an export of a form that is not known")
+        if found["plain"]:
+            continue
+        name, lead = found[1], "\n    " if "\n" in source.tokens[start].lead else " "
+        lengths += [f"{name}_length"] if found["many"] else []
+        call = ("slice" if found["many"] else "reference") + ("_mut" if found["writes"] else "")
+        length = f", {name}_length" if found["many"] else ""
+        taken.append(f"let {name} = unsafe {{ crate::foreign::{call}({name}{length}) }};")
+        pointer = f"*{'mut' if found['writes'] else 'const'} {found['many'] or found['one']}"
+        pointers.append((at + 2, end, pointer + (f",{lead}{name}_length: usize" if found["many"] else "")))
+    check(source, item, lengths)
     if taken:
         source.insert(item.body[0] + 1, "foreign-taken", "\n    ".join(taken), "\n    ")
-    for part in reversed(parts):
-        if part.call:
-            lead = "\n    " if "\n" in source.tokens[part.start].lead else " "
-            source.replace(part.start + 2, part.end, "foreign-parameter", part.declared(lead))
+    for start, end, pointer in reversed(pointers):
+        source.replace(start, end, "foreign-parameter", pointer)
     source.insert(item.keyword - 2, "foreign-unsafe", "unsafe", " ")
     start = item.attributes[0][0]
     source.insert(start, "foreign-unsafe", BEFORE, source.tokens[start].lead)

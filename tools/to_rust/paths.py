@@ -34,34 +34,25 @@ def from_here(source, path):
 
 def leaves_of(source, start, end):
     """Returns the paths that a tree of imports has, each with the name it is given, or nothing."""
-    prefix, at = [], start
-    while at < end and source[at] not in ("{", "as"):
-        if source[at] != "::":
-            prefix.append(source[at])
-        at += 1
-    if at >= end or source[at] == "as":
-        return [("::".join(prefix), source[at + 1] if at < end else None)]
+    at = next((at for at in range(start, end) if source[at] in ("{", "as")), end)
+    prefix = "::".join(source[k] for k in range(start, at) if source[k] != "::")
+    if at == end or source[at] == "as":
+        return [(prefix, source[at + 1] if at < end else None)]
     leaves = [leaf for part in source.elements(at) for leaf in leaves_of(source, *part)]
-    return [("::".join(prefix if path == "self" else [*prefix, path]), name) for path, name in leaves]
+    return [(prefix if path == "self" else f"{prefix}::{path}", name) for path, name in leaves]
 
 
 def rewrite_imports(source):
     """Rewrites the imports of Rattle's `std`. Those that have no place in Rust are left out."""
     for item in reversed(items_of(source)):
         start = item.keyword + 1
-        if item.kind != "use" or source[start] not in STD:
-            continue
-        paths = []
-        for path, name in leaves_of(source, start, item.end - 1):
-            if path not in tables.STD_NAMES:
-                source.refuse(item.keyword, f"a path of `std` that is not known: {path}")
-            if tables.STD_NAMES[path] is not None:
-                paths.append(from_here(source, tables.STD_NAMES[path]) + (f" as {name}" if name else ""))
-        text = import_text(paths)
-        if not text:
-            source.erase(item.keyword, item.end, "import-left-out")
-        elif text != source.words(item.keyword, item.end):
-            source.replace(item.keyword, item.end, "std-import", text)
+        if item.kind == "use" and source[start] in STD:
+            leaves = [(tables.STD_NAMES[path], name) for path, name in leaves_of(source, start, item.end - 1)]
+            text = import_text(from_here(source, path) + (f" as {name}" if name else "") for path, name in leaves if path)
+            if not text:
+                source.erase(item.keyword, item.end, "import-left-out")
+            elif text != source.words(item.keyword, item.end):
+                source.replace(item.keyword, item.end, "std-import", text)
 
 
 def import_text(paths):
@@ -76,45 +67,38 @@ def import_text(paths):
 
 def rewrite_roots(source):
     """Puts the way to a crate in front of paths that begin with `crate` or with the name of a crate."""
-    at = 0
-    while at < len(source):
-        root, made = source[at], source.tokens[at].edit
-        if source.kind(at) == "word" and source[at + 1] == "::" and source[at - 1] != "::" and made is None:
-            crate = source.crate if root == "crate" else root
-            if root in STD and source[at - 1] != "use":
-                source.refuse(at, "a path of `std` in the middle of code")
-            if home_of(crate) or crate in tables.PUBLIC_NAMES or crate in tables.BY_HAND:
-                path = module_of(source, crate)
-                if path is None:
-                    source.refuse(at, f"the crate {crate} has no public name in Rust")
-                at = source.replace(at, at + 1, "crate-root", path)
-        at += 1
+    for at in source.places("::"):
+        at -= 1
+        crate = source.crate if source[at] == "crate" else source[at]
+        if source[at - 1] == "::" or source.tokens[at].edit is not None:
+            continue
+        if crate in STD and source[at - 1] != "use":
+            source.refuse(at, "a path of `std` in the middle of code")
+        if home_of(crate) or crate in tables.PUBLIC_NAMES or crate in tables.BY_HAND:
+            path = module_of(source, crate)
+            if path is None:
+                source.refuse(at, f"the crate {crate} has no public name in Rust")
+            source.replace(at, at + 1, "crate-root", path)
 
 
 def add_imports(source):
     """Imports what Rattle has without an import, and what calls were renamed to."""
     wanted = set()
-    for at in range(len(source)):
-        word, made = source[at], source.tokens[at].edit
-        if source.kind(at) != "word":
-            continue
+    for at, token in enumerate(source.tokens):
+        word, behind = token.text, source[at + 3]
         if word in tables.PRELUDE and source[at - 1] != "::" and home_of(source.crate) == tables.LIBRARY:
             wanted.add(tables.PRELUDE[word])
-        if word in tables.SUPPORT and made is not None or word == "HostRuntime":
+        if word in tables.SUPPORT and (token.edit is not None or word == "HostRuntime"):
             wanted.add(tables.SUPPORT[word])
         # The target of `write!` is a stream, a `String`, or a formatter, which is `f` everywhere.
-        if word in ("write", "writeln") and source[at + 1] == "!" and source[at + 3] != "f":
-            wanted.add("std::io::Write as _" if source[at + 3] == "std" else "crate::support::memory::TryString")
+        if word in ("write", "writeln") and source[at + 1] == "!" and behind != "f":
+            wanted.add("std::io::Write as _" if behind == "std" else "crate::support::memory::TryString")
         if word == "write_char" and source[at - 1] == ".":
             wanted.add("core::fmt::Write as _")
     if wanted:
-        uses = [item.keyword for item in items_of(source) if item.kind == "use" and not item.visible]
-        place = uses[0] if uses else items_of(source)[0].start
+        items = items_of(source)
+        uses = [item.keyword for item in items if item.kind == "use" and not item.visible]
+        place = uses[0] if uses else items[0].start
         lead = source.tokens[place].lead
         end = source.insert(place, "import-added", import_text(sorted(from_here(source, path) for path in wanted)), lead)
         source.tokens[end].lead = "\n" if uses else lead
-
-
-def rewrite(source):
-    rewrite_imports(source)
-    rewrite_roots(source)

@@ -4,10 +4,11 @@ Tokens change in two functions alone, `Source.replace` and `Source.erase`, and e
 the output either is the source's own or belongs to a change.
 """
 
+from .layout import lead_after
 from .rules import RULES
 from .tokens import Refused, text_of, tokens_of, words_of
 
-OPENING = ("(", "[", "{")
+CLOSING = {"(": ")", "[": "]", "{": "}"}
 
 
 class Edit:
@@ -23,14 +24,9 @@ class Source:
     """One file of one crate. `source[k]` is the text of token `k`."""
 
     def __init__(self, crate, module, path, text):
-        self.crate = crate
-        self.module = module
-        self.path = path
-        self.original = text
-        self.tokens = tokens_of(text, path)
-        self.edits = []
-        self.clauses = {}
-        self.left_imports = {}
+        self.crate, self.module, self.path, self.original = crate, module, path, text
+        self.tokens, self.edits = tokens_of(text, path), []
+        self.clauses, self.left_imports = {}, {}
 
     def __getitem__(self, at):
         return self.tokens[at].text if 0 <= at < len(self.tokens) else ""
@@ -39,14 +35,24 @@ class Source:
         return len(self.tokens)
 
     def kind(self, at):
+        """Returns the kind of a token, and nothing where there is none."""
         return self.tokens[at].kind if 0 <= at < len(self.tokens) else ""
+
+    def is_word(self, at, *words):
+        """Returns whether a token is one of these words, or any."""
+        return self.kind(at) == "word" and (not words or self[at] in words)
+
+    def matches(self, at, words):
+        """Returns whether the tokens at `at` are these words, which blanks part."""
+        return all(self[at + k] == word for k, word in enumerate(words.split()))
+
+    def places(self, *texts):
+        """Returns where tokens are one of these texts, from the last one on: what changes behind one leaves those before it there."""
+        return [at for at in reversed(range(len(self))) if self.tokens[at].text in texts]
 
     def clauses_of(self, item, word):
         """Returns what a function required, or what it ensured."""
         return [clause for clause in self.clauses.get(self.tokens[item.keyword], ()) if clause.word == word]
-
-    def is_word(self, at, *words):
-        return self.kind(at) == "word" and (not words or self[at] in words)
 
     def refuse(self, at, message):
         """Raises the error that names this token's place."""
@@ -71,84 +77,60 @@ class Source:
         """Puts the tokens of `text` in front of the token at `at`."""
         return self.replace(at, at, rule, text, lead)
 
-    def erase(self, start, end, rule, lead=None):
-        """Takes the tokens from `start` up to `end` away. What follows has its own lead, unless one is given."""
-        self.edits.append(Edit(rule, self.tokens[start].place, words_of(self.tokens[start:end]), ""))
-        del self.tokens[start:end]
-        if lead is not None:
-            self.tokens[start].lead = lead
+    def insert_line(self, at, rule, text):
+        """Puts a line in front of the line that begins at `at`."""
+        lead = self.tokens[at].lead
+        end = self.insert(at, rule, text, lead)
+        self.tokens[end].lead = "\n" + lead.rpartition("\n")[2]
 
-    def erase_here(self, start, end, rule):
-        """The same, where what follows stands in the place of what is erased."""
-        self.erase(start, end, rule, self.tokens[start].lead)
+    def erase(self, start, end, rule):
+        """Takes the tokens from `start` up to `end` away."""
+        self.edits.append(Edit(rule, self.tokens[start].place, words_of(self.tokens[start:end]), ""))
+        lead = lead_after(self[start - 1], self.tokens[start].lead, self.tokens[end])
+        del self.tokens[start:end]
+        self.tokens[start].lead = lead
 
     def erase_listed(self, start, end, rule):
-        """Erases an element of a list, with the comma that parted it from the next or from the one before."""
-        if self[end] == ",":
-            lead, after = self.tokens[start].lead, self.tokens[end + 1]
-            closes = after.text in (")", "]", "}") and "\n" in lead
-            self.erase(start, end + 1, rule, None if closes or "\n" in after.lead else lead)
-        else:
-            self.erase(start - 1 if self[start - 1] == "," else start, end, rule)
+        """Erases an element of a list, with the comma that parts it from the next or from the one before."""
+        self.erase(start - (self[end] != "," and self[start - 1] == ","), end + (self[end] == ","), rule)
 
     def note(self, rule, at, words):
         """Notes that words of a text or comment were left out, which are part of a token."""
         self.edits.append(Edit(rule, self.tokens[at].place, words, ""))
-
-    def closing(self, at):
-        """Returns where the bracket that opens at `at` closes."""
-        depth = 0
-        for k in range(at, len(self)):
-            if self.kind(k) == "mark":
-                depth += (self[k] in OPENING) - (self[k] in (")", "]", "}"))
-                if depth == 0:
-                    return k
-        self.refuse(at, "a bracket does not close")
-
-    def closing_angle(self, at):
-        """Returns where the list of type arguments or parameters that opens at `at` closes."""
-        depth, k = 0, at
-        while k < len(self) and self[k] != ";":
-            if self[k] in OPENING and self.kind(k) == "mark":
-                k = self.closing(k)
-            depth += (self[k] == "<") - (self[k] == ">")
-            if depth == 0:
-                return k
-            k += 1
-        self.refuse(at, "a list of types does not close")
 
     def following(self, at, *texts):
         """Returns where the first of these texts stands, outside of brackets, from `at` on."""
         while self[at] not in texts:
             if at >= len(self):
                 self.refuse(at, f"no {' or '.join(texts)} follows")
-            at = self.closing(at) + 1 if self[at] in OPENING and self.kind(at) == "mark" else at + 1
+            at = self.closing(at) + 1 if self[at] in CLOSING else at + 1
         return at
+
+    def closing(self, at):
+        """Returns where the bracket that opens at `at` closes, or the list of types that `<` opens."""
+        closing = CLOSING.get(self[at], ">")
+        end = at + 1
+        while self[end] != closing:
+            if self[end] in (")", "]", "}", "") or closing == ">" and self[end] == ";":
+                self.refuse(at, "a bracket does not close")
+            opens = self[end] in CLOSING or closing == ">" and self[end] == "<"
+            end = self.closing(end) + 1 if opens else end + 1
+        return end
 
     def elements(self, opening, types=False):
         """Returns where the elements of a list in brackets begin and end. In a list of types `<` opens a list, too."""
         parts, start, at, closing = [], opening + 1, opening + 1, self.closing(opening)
         while at <= closing:
             if at == closing or self[at] == ",":
-                if start < at:
-                    parts.append((start, at))
+                parts += [(start, at)] if start < at else []
                 start = at + 1
-            elif self[at] in OPENING:
+            elif self[at] in CLOSING or types and self[at] == "<":
                 at = self.closing(at)
-            elif types and self[at] == "<":
-                at = self.closing_angle(at)
             at += 1
         return parts
 
-    def first_word(self, start, end):
-        """Returns the name of a parameter that stands here."""
-        return next(self[at] for at in range(start, end) if self.kind(at) == "word" and self[at] != "mut")
-
-    def matches(self, at, words):
-        """Returns whether the tokens at `at` are these words, which blanks part."""
-        return all(self[at + k] == word for k, word in enumerate(words.split()))
-
     def words(self, start, end):
+        """Returns the tokens from `start` up to `end` on one line."""
         return words_of(self.tokens[start:end])
 
     def text(self):

@@ -5,7 +5,7 @@ an error. What is listed does the same in both.
 """
 
 from . import exports, tables
-from .items import functions_of, items_of
+from .items import items_of
 from .paths import STD, home_of, leaves_of
 
 MACROS = {"write", "writeln", "eprintln", "prove", "unreachable", "vec", "format", "matches"}
@@ -121,7 +121,7 @@ def check_path(source, at, names):
     """Refuses a path that begins with no name of the sources and is not listed."""
     root, member = source[at], source[at + 2]
     if member == "<":
-        member = source[source.closing_angle(at + 2) + 2]
+        member = source[source.closing(at + 2) + 2]
     if root not in names.others | names.functions and not (len(root) == 1 and root.isupper()) and f"{root}::{member}" not in MEMBERS:
         source.refuse(at, f"a path that is not known: {root}::{member}")
 

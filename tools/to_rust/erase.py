@@ -1,9 +1,10 @@
-"""What proofs leave over: laws and their calls, values that nobody reads, and names that contracts alone named.
+"""What is left out beyond forms of a few tokens: ghosts, models, laws with their calls, and names and values that nobody reads.
 
 A law is a function that does nothing, whose contract says what holds.
 """
 
-from .items import functions_of, items_of
+from . import forms
+from .items import functions_of, items_of, parameters_of
 from .paths import leaves_of
 
 # Calls that only read, which may stand in a statement whose value nobody reads.
@@ -12,18 +13,53 @@ READING = {"width", "height", "byte_len", "data", "chroma_len", "frame", "visibl
 KEPT = {"_held", "_program"}
 
 
+def erase_proofs(source):
+    """Erases what is there for proofs alone. What functions require and ensure is kept for the tests that callers are to meet."""
+    for at in source.places("ghost"):
+        erase_ghost(source, at)
+    for item in reversed(items_of(source)):
+        if item.kind == "impl" and item.trait == "Model":
+            source.erase(item.start, item.end, "model")
+        elif any(source.matches(start, "# [ cfg ( test ) ]") for start, _ in item.attributes):
+            source.erase(item.start, item.end, "test-module")
+        elif item.clauses:
+            source.clauses[source.tokens[item.keyword]] = item.clauses
+    forms.rewrite(source, forms.PROOFS)
+
+
+def erase_ghost(source, at):
+    """Erases an import of words for clauses, or a member or a field that is a ghost, whose parts stand in braces."""
+    if source[at + 1] == "use":
+        source.erase(at, source.following(at, ";") + 1, "ghost-use")
+        return
+    end = at + 2
+    while source[end] in (":", "=", "by") and source[end + 1] == "{":
+        end = source.closing(end + 1) + 1
+    if not source.is_word(at + 1) or end == at + 2 or source[end] not in (";", ","):
+        source.refuse(at, f"a ghost of a form that is not known, at `{source[end]}`")
+    start = at - 4 if source.matches(at - 4, "pub (") else at - (source[at - 1] == "pub")
+    source.erase(start, end + 1, "ghost-member")
+
+
+def erase_unread(source):
+    """Erases `let _name = ..;`, whose value nobody reads, where all that is called there only reads."""
+    for at in source.places("let"):
+        if source[at + 1].startswith("_") and source[at + 1] not in {"_", *KEPT} and source[at + 2] == "=":
+            end = source.following(at, ";")
+            called = {source[k] for k in range(at + 3, end) if source[k + 1] in ("(", "!") and source.is_word(k)}
+            if not called <= READING:
+                source.refuse(at, "a statement whose value nobody reads, and which may do something")
+            source.erase(at, end + 1, "unread-value")
+
+
 def erase_laws(sources):
     """Erases laws and their calls, until none is left: a law may be one that only calls others.
 
     Returns the sources in which something is left."""
-    while True:
-        laws = {item.name for source in sources for item in laws_of(source)}
-        if not laws:
-            break
+    while laws := {item.name for source in sources for item in laws_of(source)}:
         for source in sources:
             for item in reversed(laws_of(source)):
                 source.erase(item.start, item.end, "law")
-        for source in sources:
             for item in functions_of(source):
                 if item.name in laws:
                     source.refuse(item.keyword, "a function that has the name of a law")
@@ -42,28 +78,17 @@ def laws_of(source):
 
 def erase_calls(source, laws):
     """Erases statements that call a law: `path::name::<T>(arguments);`."""
-    at = 1
-    while at < len(source):
-        end = at
-        while source.kind(end) == "word" and source[end + 1] == "::" and source[end + 2] != "<":
-            end += 2
-        name = source[end]
-        end = source.closing_angle(end + 2) if source.matches(end + 1, ":: <") else end
-        if source[at - 1] in ("{", "}", ";") and name in laws and source[end + 1] == "(":
+    for start in source.places(*laws):
+        end = start + 1
+        while source[start - 1] == "::":
+            start -= 2
+        if source.matches(end, ":: <"):
             end = source.closing(end + 1) + 1
+        if source[end] == "(" and source[start - 1] in ("{", "}", ";"):
+            end = source.closing(end) + 1
             if source[end] == ";":
-                source.erase(at, end + 1, "law-call")
-                at = erase_empty_if(source, at)
-                continue
-        at += 1
-
-
-def erase_empty_if(source, at):
-    """Erases `if let Some(name) = name {}` around a call that was erased, and returns what is next."""
-    if source[at] == "}" and source[at - 1] == "{" and source.matches(at - 9, "if let Some (") and source[at - 3] == "=":
-        source.erase(at - 9, at + 1, "law-call")
-        return at - 9
-    return at
+                source.erase(start, end + 1, "law-call")
+    forms.rewrite(source, forms.LAWS)
 
 
 def with_items(sources):
@@ -79,54 +104,35 @@ def with_items(sources):
     return kept
 
 
-def erase_unread(source):
-    """Erases `let _name = ..;`, whose value nobody reads, where all that is called there only reads."""
-    at = 0
-    while at < len(source):
-        if source[at] == "let" and source[at + 1].startswith("_") and source[at + 1] != "_" and source[at + 2] == "=":
-            end = source.following(at, ";")
-            called = {source[k] for k in range(at + 3, end) if source[k + 1] in ("(", "!") and source.kind(k) == "word"}
-            if source[at + 1] in KEPT:
-                at = end
-            elif not called <= READING:
-                source.refuse(at, "a statement whose value nobody reads, and which may do something")
-            else:
-                source.erase(at, end + 1, "unread-value")
-        else:
-            at += 1
-
-
 def erase_names(source, item, names, rule):
     """Takes names out of an import, and the import away where it has no other."""
-    at, end = item.keyword, item.keyword
+    at = item.keyword
     while source[at] != ";":
         if source[at] not in names or source[at + 1] not in (",", "}", ";"):
             at += 1
         elif source[at + 1] == ";":
-            first = source.kind(item.start - 1) in ("doc", "")
-            source.erase(item.start, at + 2, rule, source.tokens[item.start].lead if first else None)
+            source.erase(item.start, at + 2, rule)
             return
         else:
             source.erase_listed(at, at + 1, rule)
             at = item.keyword
-    end = source.following(item.keyword, "{", ";")
-    parts = source.elements(end) if source[end] == "{" else None
+    opening = source.following(item.keyword, "{", ";")
+    parts = source.elements(opening) if source[opening] == "{" else None
     if parts == []:
-        source.erase(item.start, source.following(end + 2, ";") + 1, rule)
-    elif parts == [(end + 1, end + 2)] and source[end + 1] != "self":
-        source.erase(end + 2, source.closing(end) + 1, rule)
-        source.erase(end, end + 1, rule, "")
+        source.erase(item.start, source.following(opening + 2, ";") + 1, rule)
+    elif parts == [(opening + 1, opening + 2)] and source[opening + 1] != "self":
+        source.erase(opening + 2, source.closing(opening) + 1, rule)
+        source.erase(opening, opening + 1, rule)
 
 
 def erase_imports(source, traits):
     """Erases the names of private imports that no code names. Traits stay: their methods may be called."""
     imports = [item for item in items_of(source) if item.kind == "use" and not item.visible]
     inside = {at for item in imports for at in range(item.keyword, item.end)}
-    used = {source[at] for at in range(len(source)) if at not in inside and source.kind(at) == "word"}
+    used = {token.text for at, token in enumerate(source.tokens) if token.kind == "word" and at not in inside} | traits | {"_"}
     for item in reversed(imports):
-        leaves = leaves_of(source, item.keyword + 1, item.end - 1)
-        names = {name or path.rpartition("::")[2]: path for path, name in leaves}
-        unused = {name: path for name, path in names.items() if name not in used and name not in traits and name != "_"}
+        names = {name or path.rpartition("::")[2]: path for path, name in leaves_of(source, item.keyword + 1, item.end - 1)}
+        unused = {name: path for name, path in names.items() if name not in used}
         source.left_imports.update(unused)
         if unused:
             erase_names(source, item, unused, "import-unused")
@@ -135,13 +141,11 @@ def erase_imports(source, traits):
 def rename_unread(source):
     """Puts a `_` in front of parameters, and of variables of loops, that a body does not name."""
     for item in reversed(functions_of(source)):
-        if item.body is not None:
-            for start, end in reversed(source.elements(item.params[0], types=True)):
-                at = start + (source[start] == "mut")
-                if source[at + 1] == ":":
-                    rename(source, at, item.body)
-    for at in range(len(source)):
-        if source[at] == "for" and source[at + 2] == "in":
+        for _, at, _ in reversed(parameters_of(source, item)):
+            if item.body is not None and source[at + 1] == ":":
+                rename(source, at, item.body)
+    for at in source.places("for"):
+        if source[at + 2] == "in":
             opening = source.following(at, "{")
             rename(source, at + 1, (opening, source.closing(opening)))
 
