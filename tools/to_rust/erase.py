@@ -1,4 +1,4 @@
-"""What is left out beyond forms of a few tokens: ghosts, models, laws with their calls, and names and values that nobody reads.
+"""What is left out beyond forms of a few tokens: ghosts, models, laws with their calls, and what nobody reads.
 
 A law is a function that does nothing, whose contract says what holds.
 """
@@ -14,9 +14,17 @@ KEPT = {"_held", "_program"}
 
 
 def erase_proofs(source):
-    """Erases what is there for proofs alone. What functions require and ensure is kept for the tests that callers are to meet."""
+    """Erases what is there for proofs alone. What functions require and ensure is kept for the tests of it."""
     for at in source.places("ghost"):
-        erase_ghost(source, at)
+        end, start = at + 2, at - (source[at - 1] == "pub") - 4 * source.matches(at - 4, "pub (")
+        while source[end] in (":", "=", "by") and source[end + 1] == "{":
+            end = source.closing(end + 1) + 1
+        if source[at + 1] == "use":
+            source.erase(at, source.following(at, ";") + 1, "ghost-use")
+        elif not source.is_word(at + 1) or end == at + 2 or source[end] not in (";", ","):
+            source.refuse(at, f"a ghost of a form that is not known, at `{source[end]}`")
+        else:
+            source.erase(start, end + 1, "ghost-member")
     for item in reversed(items_of(source)):
         if item.kind == "impl" and item.trait == "Model":
             source.erase(item.start, item.end, "model")
@@ -25,20 +33,6 @@ def erase_proofs(source):
         elif item.clauses:
             source.clauses[source.tokens[item.keyword]] = item.clauses
     forms.rewrite(source, forms.PROOFS)
-
-
-def erase_ghost(source, at):
-    """Erases an import of words for clauses, or a member or a field that is a ghost, whose parts stand in braces."""
-    if source[at + 1] == "use":
-        source.erase(at, source.following(at, ";") + 1, "ghost-use")
-        return
-    end = at + 2
-    while source[end] in (":", "=", "by") and source[end + 1] == "{":
-        end = source.closing(end + 1) + 1
-    if not source.is_word(at + 1) or end == at + 2 or source[end] not in (";", ","):
-        source.refuse(at, f"a ghost of a form that is not known, at `{source[end]}`")
-    start = at - 4 if source.matches(at - 4, "pub (") else at - (source[at - 1] == "pub")
-    source.erase(start, end + 1, "ghost-member")
 
 
 def erase_unread(source):
@@ -55,7 +49,7 @@ def erase_unread(source):
 def erase_laws(sources):
     """Erases laws and their calls, until none is left: a law may be one that only calls others.
 
-    Returns the sources in which something is left."""
+    Returns the sources in which something is left. Where nothing is, the module is left out, too."""
     while laws := {item.name for source in sources for item in laws_of(source)}:
         for source in sources:
             for item in reversed(laws_of(source)):
@@ -67,13 +61,21 @@ def erase_laws(sources):
             for item in reversed(items_of(source)):
                 if item.kind == "use":
                     erase_names(source, item, laws, "law-import")
-    return with_items(sources)
+    kept = []
+    for source in sources:
+        if not source.module or any(item.kind != "use" or item.visible for item in items_of(source)):
+            kept.append(source)
+            continue
+        parent = next(it for it in sources if (it.crate, it.module) == (source.crate, source.module[:-1]))
+        item = next(item for item in items_of(parent) if (item.kind, item.name) == ("mod", source.module[-1]))
+        parent.erase(item.start, item.end, "law-module")
+    return kept
 
 
 def laws_of(source):
     """Returns the functions of a source that have a contract and do nothing."""
-    empty = [item for item in functions_of(source) if item.body and item.body[0] + 1 == item.body[1] and not item.result]
-    return [item for item in empty if source.clauses_of(item, "ensures")]
+    empty = [item for item in functions_of(source) if item.body and item.body[0] + 1 == item.body[1]]
+    return [item for item in empty if not item.result and source.clauses_of(item, "ensures")]
 
 
 def erase_calls(source, laws):
@@ -89,19 +91,6 @@ def erase_calls(source, laws):
             if source[end] == ";":
                 source.erase(start, end + 1, "law-call")
     forms.rewrite(source, forms.LAWS)
-
-
-def with_items(sources):
-    """Returns the sources in which something is left. Where nothing is, the module is left out, too."""
-    kept = []
-    for source in sources:
-        if not source.module or any(item.kind != "use" or item.visible for item in items_of(source)):
-            kept.append(source)
-            continue
-        parent = next(other for other in sources if (other.crate, other.module) == (source.crate, source.module[:-1]))
-        item = next(item for item in items_of(parent) if item.kind == "mod" and item.name == source.module[-1])
-        parent.erase(item.start, item.end, "law-module")
-    return kept
 
 
 def erase_names(source, item, names, rule):
@@ -129,9 +118,10 @@ def erase_imports(source, traits):
     """Erases the names of private imports that no code names. Traits stay: their methods may be called."""
     imports = [item for item in items_of(source) if item.kind == "use" and not item.visible]
     inside = {at for item in imports for at in range(item.keyword, item.end)}
-    used = {token.text for at, token in enumerate(source.tokens) if token.kind == "word" and at not in inside} | traits | {"_"}
+    used = {token.text for at, token in enumerate(source.tokens) if at not in inside} | traits | {"_"}
     for item in reversed(imports):
-        names = {name or path.rpartition("::")[2]: path for path, name in leaves_of(source, item.keyword + 1, item.end - 1)}
+        leaves = leaves_of(source, item.keyword + 1, item.end - 1)
+        names = {name or path.rpartition("::")[2]: path for path, name in leaves}
         unused = {name: path for name, path in names.items() if name not in used}
         source.left_imports.update(unused)
         if unused:
@@ -139,20 +129,15 @@ def erase_imports(source, traits):
 
 
 def rename_unread(source):
-    """Puts a `_` in front of parameters, and of variables of loops, that a body does not name."""
-    for item in reversed(functions_of(source)):
-        for _, at, _ in reversed(parameters_of(source, item)):
-            if item.body is not None and source[at + 1] == ":":
-                rename(source, at, item.body)
+    """Puts a `_` in front of parameters, and of variables of loops, that a body and its texts do not name."""
+    variables = [(at, item.body) for item in functions_of(source) if item.body
+                 for _, at, _ in parameters_of(source, item) if source[at + 1] == ":"]
     for at in source.places("for"):
         if source[at + 2] == "in":
             opening = source.following(at, "{")
-            rename(source, at + 1, (opening, source.closing(opening)))
-
-
-def rename(source, at, body):
-    """Renames what a body does not name, in a text that it shows neither."""
-    texts = " ".join(source[k] for k in range(*body) if source.kind(k) == "string")
-    named = any(source[k] == source[at] for k in range(*body)) or f"{{{source[at]}" in texts
-    if not named and not source[at].startswith("_"):
-        source.replace(at, at + 1, "parameter-unread", "_" + source[at])
+            variables.append((at + 1, (opening, source.closing(opening))))
+    for at, body in variables:
+        name, shown = source[at], "{" + source[at]
+        named = any(source[k] == name or source.kind(k) == "string" and shown in source[k] for k in range(*body))
+        if not named and not name.startswith("_"):
+            source.replace(at, at + 1, "parameter-unread", "_" + name)

@@ -1,7 +1,7 @@
 """Examples of public items. They are written by hand, as Rust, and stand in `rust/v_frame_proved/doc_examples`.
 
-A line `## PATH` names an item of the library by its public path, and the block of code after it is put at the end of its text.
-`missing` tells which public items have none, and stand in none of their module: these can be one example for many.
+A line `## PATH` names an item of the library by its public path, and the block of code after it is put at the end of
+its text. `missing` tells which public items have none, and stand in none of their module: one can be for many.
 """
 
 import re
@@ -24,37 +24,38 @@ class Examples:
         self.root, self.code, self.place_of, self.modules, self.used, self.missing = root, {}, {}, set(), set(), []
         for path in sorted((root / FOLDER).glob("*.md")):
             text = path.read_text(encoding="utf-8")
-            for name, code in SECTION.findall(text):
+            sections = SECTION.findall(text)
+            for name, code in sections:
                 if name in self.code:
                     raise Refused(str(path), f"two examples of {name}")
                 self.code[name], self.place_of[name] = code, str(path)
-            if text.count("\n## ") + text.startswith("## ") != len(SECTION.findall(text)):
+            if text.count("\n## ") + text.startswith("## ") != len(sections):
                 raise Refused(str(path), "a heading without a block of code")
 
     def add(self, source, reach):
         """Puts the examples of a source's items at the ends of their texts, and notes items that stand in none."""
-        self.modules = {name.partition("::")[2] for name in reach.modules.values()}
+        self.modules = {name.partition("::")[2] for name in reach.modules}
         for item in reversed(items_of(source)):
             path = path_of(source, reach, item)
             if path and not HIDDEN & set(path.split("::")):
                 if not self.shows(path):
                     self.missing.append(f"{source.tokens[item.head].place}: no example shows {path}")
                 self.put(source, path, "///", item.docs)
-        module = reach.modules.get((source.crate, source.module), "crate").partition("::")[2]
-        self.put(source, module, "//!", range(next(at for at in range(len(source)) if not source[at].startswith("//!"))))
+        module = reach.names.get((source.crate, source.module), "crate").partition("::")[2]
+        self.put(source, module, "//!", [at for at in range(len(source)) if source[at].startswith("//!")])
 
     def shows(self, path):
-        """Returns whether an item has an example, or its name stands in one of its module: that of a method beside its type's."""
-        around, _, name = path.rpartition("::")
-        names = [name, around.rpartition("::")[2]] if self.module_of(path) != around else [name]
-        near = [f"{place}\n{code}" for place, code in self.code.items() if self.module_of(place) == self.module_of(path)]
+        """Returns whether an item has an example, or its name stands in one of its module, beside its type's name."""
+        module, (around, name) = self.module_of(path), path.split("::")[-2:] if "::" in path else ("", path)
+        names = [name, around] if module != path.rpartition("::")[0] else [name]
+        near = [f"{place}\n{code}" for place, code in self.code.items() if self.module_of(place) == module]
         return path in self.code or any(all(re.search(rf"\b{name}\b", text) for name in names) for text in near)
 
     def module_of(self, path):
         """Returns the module that an item is in, and of a module itself. A type has a name with a capital in front."""
         parts = path.split("::")
-        front = [k for k, part in enumerate(parts) if part[0].isupper()][:1] or [len(parts) - (path not in self.modules)]
-        return "::".join(parts[:front[0]])
+        length = len(parts) - (path not in self.modules)
+        return "::".join(parts[:next((k for k, part in enumerate(parts) if part[0].isupper()), length)])
 
     def put(self, source, path, mark, docs):
         """Puts an example behind a text."""
@@ -62,7 +63,8 @@ class Examples:
             self.used.add(path)
             lines = ["", "# Examples", "", "```", *self.code[path].splitlines(), "```"]
             lead = "\n" + source.tokens[docs[-1]].lead.rpartition("\n")[2]
-            source.insert(docs[-1] + 1, "doc-example", lead.join(f"{mark} {line}".rstrip() for line in lines), lead)
+            text = lead.join(f"{mark} {line}".rstrip() for line in lines)
+            source.insert(docs[-1] + 1, "doc-example", text, lead)
 
     def finish(self):
         """Refuses examples of what is no public item, and notes what is written by hand and stands in no example."""
@@ -79,9 +81,9 @@ def path_of(source, reach, item):
     """Returns the public path of a function or a type without the crate in front, or nothing."""
     place = None
     if item.kind in ("fn", "struct", "enum", "trait") and item.owner is None and item.is_public():
-        place = reach.places.get((source.crate, source.module, item.name))
+        place = reach.names.get((source.crate, (*source.module, item.name)))
     elif item.kind == "fn" and item.owner is not None and reach.is_public(source, item):
-        owner = (item.owner.name or item.owner.subject).split("<")[0]
-        place = next((path for (crate, _, name), path in reach.places.items() if (crate, name) == (source.crate, owner)), None)
+        owner = (source.crate, (item.owner.name or item.owner.subject).split("<")[0])
+        place = next((name for (crate, path), name in reach.names.items() if (crate, *path[-1:]) == owner), None)
         place = place and f"{place}::{item.name}"
     return place and place.removeprefix("crate::")

@@ -1,8 +1,8 @@
 """Exports: the functions that C calls, with pointers and lengths where the sources have references and slices.
 
-An export becomes an unsafe function, whose body begins by taking each pointer as what the source has; the rest of it is the
-source's. What takes a pointer stands in one file by hand, `foreign`. An export that requires something, or has a parameter of
-another form, is refused.
+An export becomes an unsafe function, whose body begins by taking each pointer as what the source has; the rest of it is
+the source's. What takes a pointer stands in one file by hand, `foreign`. An export that requires something, or has a
+parameter of another form, is refused.
 """
 
 import re
@@ -12,15 +12,15 @@ from .items import functions_of, parameters_of
 
 MARK = "# [ unsafe ( no_mangle ) ]"
 HEAD = 'extern "C" fn'
-SCALAR = r"u8|u16|u32|u64|usize|f64"
-# A parameter: its name, the type that goes as it is, or whether it is written, and the type that it points to, or has many of.
-PARAMETER = re.compile(rf"(\w+): (?:(?P<plain>{SCALAR})|&(?P<writes>mut )?(?:(?P<one>[A-Z]\w*|{SCALAR})|\[(?P<many>{SCALAR})\]))")
 RESULT = "-> u32"
 BEFORE = "///\n/// # Safety\n///\n/// Each pointer is as the header says.\n#[allow(unsafe_code)]"
+SCALAR = r"u8|u16|u32|u64|usize|f64"
+# The type of a parameter: one that goes as it is, or a reference to one or to many, which may be written.
+TYPE = re.compile(rf"{SCALAR}|&(?P<writes>mut )?(?:(?P<one>[A-Z]\w*|{SCALAR})|\[(?P<many>{SCALAR})\])")
 
 
 def is_form(source, at):
-    """Returns whether a token belongs to a form that crates for C alone have: an export, or a struct as C lays it out."""
+    """Returns whether a token is of a form that crates for C alone have: an export, or a struct as C lays it out."""
     forms = source.matches(at, HEAD) or source.matches(at - 2, MARK) or source.matches(at - 2, "# [ repr ( C ) ]")
     return source.crate in tables.FOR_C and forms
 
@@ -35,34 +35,30 @@ def rewrite(source):
             rewrite_export(source, item)
 
 
-def check(source, item, lengths):
-    """Refuses what C could not call as the contract has it."""
+def rewrite_export(source, item):
+    """Rewrites one export from its end on, and refuses what C could not call as the contract has it."""
     if source.clauses_of(item, "requires"):
         source.refuse(item.keyword, "an export that requires something, which C does not prove")
     if not item.is_public() or item.owner or item.generics or not item.result or source.words(*item.result) != RESULT:
         source.refuse(item.keyword, "an export of a form that is not known")
-    for at in range(item.keyword, item.end):
-        if source[at] in lengths:
-            source.refuse(at, "a name that the length of a slice has")
-
-
-def rewrite_export(source, item):
-    """Rewrites one export from its end on, so that what stands before keeps its place."""
-    taken, pointers, lengths = [], [], []
+    taken, pointers = [], []
     for start, at, end in parameters_of(source, item):
-        found = PARAMETER.fullmatch(source.words(start, end))
-        if not found:
+        found, name = TYPE.fullmatch(source.words(at + 2, end)), source[at]
+        if not found or start != at:
             source.refuse(start, "a parameter of an export of a form that is not known")
-        if found["plain"]:
+        if not found["one"] and not found["many"]:
             continue
-        name, lead = found[1], "\n    " if "\n" in source.tokens[start].lead else " "
-        lengths += [f"{name}_length"] if found["many"] else []
-        call = ("slice" if found["many"] else "reference") + ("_mut" if found["writes"] else "")
-        length = f", {name}_length" if found["many"] else ""
-        taken.append(f"let {name} = unsafe {{ crate::foreign::{call}({name}{length}) }};")
-        pointer = f"*{'mut' if found['writes'] else 'const'} {found['many'] or found['one']}"
-        pointers.append((at + 2, end, pointer + (f",{lead}{name}_length: usize" if found["many"] else "")))
-    check(source, item, lengths)
+        pointer = f"*{'mut' if found['writes'] else 'const'} {found['one'] or found['many']}"
+        call, arguments = "slice" if found["many"] else "reference", name
+        if found["many"]:
+            arguments += f", {name}_length"
+            pointer += ",\n    " if "\n" in source.tokens[start].lead else ", "
+            pointer += f"{name}_length: usize"
+            if f"{name}_length" in [source[k] for k in range(item.keyword, item.end)]:
+                source.refuse(start, "a slice whose length has a name that is there")
+        call += "_mut" if found["writes"] else ""
+        taken.append(f"let {name} = unsafe {{ crate::foreign::{call}({arguments}) }};")
+        pointers.append((at + 2, end, pointer))
     if taken:
         source.insert(item.body[0] + 1, "foreign-taken", "\n    ".join(taken), "\n    ")
     for start, end, pointer in reversed(pointers):

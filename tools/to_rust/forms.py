@@ -1,8 +1,8 @@
 """Forms of a few tokens: tables of what stands in a source, and what stands for it in Rust.
 
-A row has a rule, a pattern, and texts. In a pattern `_` is any word, `@` an allocator, and `..` all up to what is next in the
-pattern, outside of brackets. The texts stand in place of the parts between `«` and `»`, or of all where none is marked; without
-a text what is marked is left out, and what is nothing is put in. A row with None refuses its pattern.
+A row has a rule, a pattern, and texts. In a pattern `_` is any word, `@` an allocator, and `..` all up to what is next
+in the pattern, outside of brackets. The texts take the place of the parts between `«` and `»`, or of all where none
+is marked; without texts the parts are left out, and where a part is empty a word is put. None refuses the pattern.
 """
 
 from .source import CLOSING
@@ -12,7 +12,8 @@ ALLOCATORS = ("alloc", "_alloc", "rt . alloc ( )", "self . alloc", "system . rt 
 
 # What is there for proofs alone. In Rattle a type can be dropped where it is `Drop`; in Rust every type can.
 PROOFS = [
-    *[(f"clause-{word}", f"{word} {form} {{ .. }}") for word in ("requires", "ensures") for form in ("", "*", "_", "* _")],
+    *[("clause-requires", f"requires {form} {{ .. }}") for form in ("", "*", "_", "* _")],
+    *[("clause-ensures", f"ensures {form} {{ .. }}") for form in ("", "*", "_", "* _")],
     ("tactic", "# ! [ tactic .. ]"),
     ("tactic", "# [ tactic .. ]"),
     ("drop-bound", "+ Drop"),
@@ -32,7 +33,7 @@ ERRORS = [("error-derive", form) for form in ("# [ error ( .. ) ]", "# [ source 
 # What is left of a law's call where that is gone.
 LAWS = [("law-call", "if let Some ( _ ) = _ { }")]
 
-# Memory: `Vec` and `String` are Rust's own, and what grows or makes one reserves first, by the traits of `support::memory`.
+# Memory: `Vec` and `String` are Rust's own. What grows or makes one reserves first, by traits of `support::memory`.
 MEMORY = [
     ("memory-macro", "« vec ! [ » « in @ ; » .. « ; » .. « ] »", "repeated(", "", ",", ")"),
     ("memory-macro", "« format ! ( » « in @ ; » .. « ) »", "try_format(format_args!(", "", "))"),
@@ -54,7 +55,8 @@ MEMORY = [
     ("clone", "fn clone ( & self ) -> Result", None),
     *[("allocator-argument", f"{before} « @ , »") for before in "({,"],
     ("allocator-argument", "( « @ » )"),
-    *[("memory-call", f". « {name} » (", f"try_{name}") for name in ("push", "push_str", "extend_from_slice", "resize", "reserve")],
+    *[("memory-call", f". « {name} » (", f"try_{name}")
+      for name in ("push", "push_str", "extend_from_slice", "resize", "reserve")],
 ]
 
 # What Rattle and Rust write differently. What is proved before the program is built, Rust tests while it is debugged.
@@ -88,17 +90,11 @@ def rewrite(source, table):
             if parts and texts == [None]:
                 source.refuse(at, f"a form that is not known: {pattern}")
             for (start, end), text in zip(reversed(parts), reversed(texts or [""] * len(parts))):
-                put(source, start, end, rule, text)
-
-
-def put(source, start, end, rule, text):
-    """Puts a text in place of tokens, or in front of one; or leaves them out."""
-    if not text:
-        source.erase(start, end, rule)
-    else:
-        after = source.replace(start, end, rule, text)
-        if start == end:
-            source.tokens[after].lead = " "
+                if start < end:
+                    source.change(start, end, rule, text)
+                else:
+                    source.insert(start, rule, text, source.tokens[start].lead)
+                    source.tokens[start + 1].lead = " "
 
 
 def parts_at(source, at, pattern):
@@ -110,7 +106,9 @@ def parts_at(source, at, pattern):
         elif word == "»":
             parts.append((begin, at))
         elif word == "..":
-            at = behind(source, at, next(word for word in pattern[k + 1:] if word not in "«»"))
+            text = next(word for word in pattern[k + 1:] if word not in "«»")
+            while source[at] not in (text, ")", "]", "}", ""):
+                at = source.closing(at) + 1 if source[at] in CLOSING else at + 1
         else:
             forms = ALLOCATORS if word == "@" else [source[at] if word == "_" and source.is_word(at) else word]
             length = next((len(form.split()) for form in forms if source.matches(at, form)), 0)
@@ -118,10 +116,3 @@ def parts_at(source, at, pattern):
                 return []
             at += length
     return parts or [(start, at)]
-
-
-def behind(source, at, text):
-    """Returns where a text stands from `at` on, outside of brackets, or where the brackets around close."""
-    while source[at] not in (text, ")", "]", "}", ""):
-        at = source.closing(at) + 1 if source[at] in CLOSING else at + 1
-    return at

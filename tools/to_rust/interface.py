@@ -1,7 +1,8 @@
 """What a Rust programmer expects of a public item: attributes, derives, views in parameters, the original's `Pixel`.
 
-`#[inline]` stands on each public function, as the original has it, and on short private ones, which a program of another crate
-could not have inlined otherwise. `#[must_use]` stands where a call that only answers would be in vain.
+`#[inline]` stands on each public function, as the original has it, and on short private ones, which a program of
+another crate could not have inlined otherwise. `#[must_use]` stands where a call that only answers would be in vain: a
+`Result` says so itself.
 """
 
 from . import tables
@@ -16,42 +17,36 @@ VIEWS = {": & PlaneRef < '_ ,": ("AsPlaneRef", "as_plane_ref"), ": & RowsRef < '
 def rewrite_functions(source):
     """Adds the attributes of functions."""
     for item in reversed(functions_of(source)):
+        if item.body is None:
+            continue
         present = {source[start + 2] for start, _ in item.attributes}
-        if item.body is not None and wants_must_use(source, item) and "must_use" not in present:
+        result = source.words(item.result[0] + 1, item.result[1]) if item.result else "!"
+        writes = any(source[at] == "&" and "mut" in (source[at + 1], source[at + 2]) for at in range(*item.params))
+        if item.is_public() and not result.startswith(RESULTS) and not writes and "must_use" not in present:
             source.insert_line(item.head, "must-use", "#[must_use]")
-        if item.body is not None and wants_inline(item) and "inline" not in present:
+        short = item.body[1] - item.body[0] < SHORT
+        inlined = short and not item.generics and not (item.owner is not None and item.owner.generics)
+        if item.visible or item.owner is not None and item.owner.trait:
+            inlined = item.name != "fmt" and (item.visible is None or item.is_public() or short)
+        if inlined and "inline" not in present:
             source.insert_line(item.head, "inline", "#[inline]")
 
 
-def wants_inline(item):
-    """Returns whether other crates may want the body of a function."""
-    short = item.body[1] - item.body[0] < SHORT
-    if item.visible or (item.owner is not None and item.owner.trait):
-        return item.name != "fmt" and (item.visible is None or item.is_public() or short)
-    return short and not item.generics and not (item.owner is not None and item.owner.generics)
-
-
-def wants_must_use(source, item):
-    """Returns whether all that a public function does is to answer. A `Result` says so itself."""
-    if not item.is_public() or item.result is None or source.words(item.result[0] + 1, item.result[1]).startswith(RESULTS):
-        return False
-    return not any(source[at] == "&" and "mut" in (source[at + 1], source[at + 2]) for at in range(*item.params))
-
-
 def take_views(source, reach):
-    """Lets public calls that read take planes and views alike: what gives such a view is taken before all else in the body."""
+    """Lets public calls that read take planes and views alike: the body takes the view before it does anything else."""
     for item in reversed(functions_of(source)):
         if item.body is None or "laws" in source.module or not reach.is_public(source, item):
             continue
-        found = [(at, form) for _, at, _ in parameters_of(source, item) for form in VIEWS if source.matches(at + 1, form)]
+        names = [at for _, at, _ in parameters_of(source, item)]
+        found = [(at, *VIEWS[form]) for at in names for form in VIEWS if source.matches(at + 1, form)]
         if found:
             lead = "\n" + source.tokens[item.head].lead.rpartition("\n")[2] + "    "
-            lines = [f"let {source[at]} = &{source[at]}.{VIEWS[form][1]}();" for at, form in found]
+            lines = [f"let {source[at]} = &{source[at]}.{call}();" for at, _, call in found]
             source.insert(item.body[0] + 1, "view-taken", lead.join(lines), lead)
-        for at, form in reversed(found):
+        for at, trait, _ in reversed(found):
             closing = source.closing(at + 4)
-            pixel = source.words(at + 7, closing)
-            source.replace(at + 2, closing + 1, "view-parameter", f"impl {VIEWS[form][0]}<Pixel = {pixel}>")
+            text = f"impl {trait}<Pixel = {source.words(at + 7, closing)}>"
+            source.replace(at + 2, closing + 1, "view-parameter", text)
 
 
 def rewrite_types(source):
@@ -66,24 +61,20 @@ def rewrite_types(source):
             source.replace(item.keyword + 1, item.keyword + 2, "pixel-parts", "PixelCalls")
         if item.kind == "trait" and item.name == "Pixel":
             source.insert(item.body[0], "pixel-parts", tables.PIXEL_BOUNDS, "\n    ")
-        if item.kind in ("struct", "enum"):
-            rewrite_type(source, item)
-
-
-def rewrite_type(source, item):
-    """Adds derives, texts of fields, and that an error may get more variants."""
-    if item.name in tables.OWN_ERRORS:
-        source.insert_line(item.head, "non-exhaustive", "#[non_exhaustive]")
-    for at in reversed(range(*item.body) if item.body else ()):
-        text = tables.FIELD_TEXTS.get((item.name, source[at + 1]))
-        if text is not None and source[at] == "pub" and source.kind(at - 1) != "doc":
-            source.insert(at, "field-text", f"/// {text}\n", source.tokens[at].lead)
-    names = tables.DERIVES.get(item.name)
-    ends = [end for start, end in item.attributes if source[start + 2] == "derive"]
-    if names and ends:
-        source.insert(ends[0] - 2, "derive", ", " + names, "")
-    elif names:
-        source.insert_line(item.head, "derive", f"#[derive({names})]")
+        if item.kind not in ("struct", "enum"):
+            continue
+        if item.name in tables.OWN_ERRORS:
+            source.insert_line(item.head, "non-exhaustive", "#[non_exhaustive]")
+        for at in reversed(range(*item.body) if item.body else ()):
+            text = tables.FIELD_TEXTS.get((item.name, source[at + 1]))
+            if text is not None and source[at] == "pub" and source.kind(at - 1) != "doc":
+                source.insert(at, "field-text", f"/// {text}\n", source.tokens[at].lead)
+        names = tables.DERIVES.get(item.name)
+        ends = [end for start, end in item.attributes if source[start + 2] == "derive"]
+        if names and ends:
+            source.insert(ends[0] - 2, "derive", ", " + names, "")
+        elif names:
+            source.insert_line(item.head, "derive", f"#[derive({names})]")
 
 
 def rename_pixel_calls(source):
@@ -97,13 +88,13 @@ def rename_pixel_calls(source):
 
 
 def add_arms(source):
-    """Adds an arm to each match of another crate that names each variant of an error of the library, for the library says that it
-    may get more. It is never reached: the crates are built together, and the sources have an arm for each variant."""
+    """Adds an arm to matches of other crates that name each variant of an error that the library says may get more. It
+    is never reached: the crates are built together, and the sources have an arm for each variant."""
     for at in source.places("match"):
         opening = source.following(at, "{")
         closing = source.closing(opening)
-        rest = [k for k in range(opening, closing) if source[k + 1] == "=>" and (source[k] == "_" or source[k].islower())]
-        if source[opening + 1] in tables.OWN_ERRORS and not rest:
+        names = [source[k] for k in range(opening, closing) if source[k + 1] == "=>"]
+        if source[opening + 1] in tables.OWN_ERRORS and not any(name == "_" or name.islower() for name in names):
             if source[closing - 1] not in (",", "}"):
                 source.refuse(closing, "a last arm without a comma")
             arm = '_ => unreachable!("an error that the sources do not know"),'

@@ -14,10 +14,10 @@ Clause = namedtuple("Clause", "word text")
 
 
 class Item:
-    """An item: its kind, its name, and where its parts stand, as numbers of tokens. `head` is where it begins after its text
-    and attributes; `subject` is the type that an `impl` is for, and `trait` the trait that it is of."""
+    """An item: its kind, its name, and where its parts stand, as numbers of tokens. `head` is where it begins after its
+    text and attributes; `subject` is the type that an `impl` is for, and `trait` the trait that it is of."""
 
-    def __init__(self, start, owner):
+    def __init__(self, start, owner=None):
         self.start, self.owner = start, owner
         self.kind = self.name = self.subject = self.trait = ""
         self.docs, self.attributes, self.clauses = [], [], []
@@ -52,7 +52,7 @@ def functions_of(source):
 
 
 def parameters_of(source, item):
-    """Returns where each parameter of a function begins, where its name stands, which may be `self`, and where it ends."""
+    """Returns where each parameter of a function begins, where its name, which may be `self`, stands, and its end."""
     parts = source.elements(item.params[0], types=True)
     return [(start, next(at for at in range(start, end) if source.is_word(at) and source[at] != "mut"), end)
             for start, end in parts]
@@ -70,13 +70,17 @@ def item_at(source, at, owner):
     if source[at] not in KEYWORDS:
         source.refuse(at, f"an item that is not known, at `{source[at]}`")
     item.kind, item.keyword = source[at], at
-    if item.kind == "fn":
-        read_function(source, at + 1, item)
-    elif item.kind in ("struct", "enum", "trait", "impl") or item.kind == "mod" and source[at + 2] == "{":
-        read_block(source, at + 1, item)
-    else:
-        item.name = source[at + 1]
+    if item.kind != "impl":
+        at += 1
+        item.name = source[at]
+    if item.kind not in ("fn", "struct", "enum", "trait", "impl") and (item.kind != "mod" or source[at + 1] != "{"):
         item.end = source.following(at, ";") + 1
+        return item
+    at += 1
+    if source[at] == "<":
+        item.generics = (at, source.closing(at))
+        at = item.generics[1] + 1
+    (read_function if item.kind == "fn" else read_block)(source, at, item)
     return item
 
 
@@ -92,18 +96,8 @@ def skip_attributes(source, at, item):
     return at
 
 
-def read_generics(source, at, item):
-    """Reads the parameters of types, where there are some, and returns what follows."""
-    if source[at] == "<":
-        item.generics = (at, source.closing(at))
-        at = item.generics[1] + 1
-    return at
-
-
 def read_function(source, at, item):
-    """Reads a function from its name on."""
-    item.name = source[at]
-    at = read_generics(source, at + 1, item)
+    """Reads a function from its parameters on."""
     item.params = (at, source.closing(at))
     at = item.params[1] + 1
     if source[at] == "->":
@@ -128,12 +122,8 @@ def read_function(source, at, item):
 
 
 def read_block(source, at, item):
-    """Reads an `impl`, a trait, a struct, an enum or a module, but not its body."""
-    if item.kind != "impl":
-        item.name = source[at]
-        at += 1
-    at = head = read_generics(source, at, item)
-    where = None
+    """Reads an `impl`, a trait, a struct, an enum or a module after its types' parameters, but not its body."""
+    head, where = at, None
     while source[at] not in ("{", ";") and (source[at] != "(" or item.kind == "impl"):
         if source[at] == "<":
             at = source.closing(at)

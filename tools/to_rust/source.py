@@ -1,23 +1,24 @@
 """A source while it is being translated: its tokens, and the changes that were made to them.
 
-Tokens change in two functions alone, `Source.replace` and `Source.erase`, and each change names its rule: so each token of
-the output either is the source's own or belongs to a change.
+Tokens change in two functions alone, `Source.replace` and `Source.erase`, and each change names its rule: so each token
+of the output either is the source's own or belongs to a change.
 """
 
-from .layout import lead_after
+import re
+
 from .rules import RULES
-from .tokens import Refused, text_of, tokens_of, words_of
+from .tokens import Refused, tokens_of, words_of
 
 CLOSING = {"(": ")", "[": "]", "{": "}"}
 
 
 class Edit:
-    """One change: by what rule, where, what stood there and what stands there now."""
+    """One change: by what rule, what stood there and what stands there now."""
 
     def __init__(self, rule, place, old, new):
         if rule not in RULES:
             raise Refused(place, f"a change by a rule that is not in the table: {rule}")
-        self.rule, self.place, self.old, self.new = rule, place, old, new
+        self.rule, self.old, self.new = rule, old, new
 
 
 class Source:
@@ -47,7 +48,7 @@ class Source:
         return all(self[at + k] == word for k, word in enumerate(words.split()))
 
     def places(self, *texts):
-        """Returns where tokens are one of these texts, from the last one on: what changes behind one leaves those before it there."""
+        """Returns where these texts stand, the last one first: a change leaves those before where they are."""
         return [at for at in reversed(range(len(self))) if self.tokens[at].text in texts]
 
     def clauses_of(self, item, word):
@@ -58,14 +59,19 @@ class Source:
         """Raises the error that names this token's place."""
         raise Refused(self.tokens[min(at, len(self) - 1)].place, message)
 
-    def replace(self, start, end, rule, text, lead=None):
-        """Puts the tokens of `text` in place of those from `start` up to `end`, and returns where the new ones end.
+    def change(self, start, end, rule, text):
+        """Puts a text in place of the tokens from `start` up to `end`, or takes them away where it is empty."""
+        if text:
+            self.replace(start, end, rule, text)
+        else:
+            self.erase(start, end, rule)
 
-        The first new token stands where the first old one stood, unless a lead is given.
-        """
-        near, old = self.tokens[start], self.tokens[start:end]
-        edit = Edit(rule, near.place, words_of(old), text)
-        new = tokens_of(text, near.place, edit=edit)[:-1]
+    def replace(self, start, end, rule, text, lead=None):
+        """Puts a text in place of the tokens from `start` up to `end`, and returns where the new ones end. The first
+        stands where the first old one stood, unless a lead is given."""
+        near = self.tokens[start]
+        edit = Edit(rule, near.place, self.words(start, end), text)
+        new = tokens_of(text, near.place, edit)[:-1]
         for token in new:
             token.place = near.place
         new[0].lead = near.lead if lead is None else lead
@@ -74,7 +80,7 @@ class Source:
         return start + len(new)
 
     def insert(self, at, rule, text, lead):
-        """Puts the tokens of `text` in front of the token at `at`."""
+        """Puts a text in front of the token at `at`."""
         return self.replace(at, at, rule, text, lead)
 
     def insert_line(self, at, rule, text):
@@ -85,7 +91,7 @@ class Source:
 
     def erase(self, start, end, rule):
         """Takes the tokens from `start` up to `end` away."""
-        self.edits.append(Edit(rule, self.tokens[start].place, words_of(self.tokens[start:end]), ""))
+        self.note(rule, start, self.words(start, end))
         lead = lead_after(self[start - 1], self.tokens[start].lead, self.tokens[end])
         del self.tokens[start:end]
         self.tokens[start].lead = lead
@@ -95,7 +101,7 @@ class Source:
         self.erase(start - (self[end] != "," and self[start - 1] == ","), end + (self[end] == ","), rule)
 
     def note(self, rule, at, words):
-        """Notes that words of a text or comment were left out, which are part of a token."""
+        """Notes that words were left out, which may be part of a text or a comment."""
         self.edits.append(Edit(rule, self.tokens[at].place, words, ""))
 
     def following(self, at, *texts):
@@ -134,12 +140,10 @@ class Source:
         return words_of(self.tokens[start:end])
 
     def text(self):
-        """Returns the text of the translation, once it is sure that its tokens are what the list of changes says.
-
-        The tokens that no change made are tokens of the source, read anew, in their order; and read again, the text gives these
-        very tokens.
-        """
-        text = text_of(self.tokens)
+        """Returns the text of the translation, once it is sure that its tokens are what the list of changes says: those
+        that no change made are the source's, read anew, in their order; and the text is read as these tokens."""
+        tidy(self.tokens)
+        text = "".join(token.lead + token.text for token in self.tokens)
         if [token.text for token in tokens_of(text, self.path)] != [token.text for token in self.tokens]:
             raise Refused(self.path, "the text is not read as the tokens that it was made of")
         left = iter(token.text for token in tokens_of(self.original, self.path))
@@ -147,3 +151,29 @@ class Source:
             if token.edit is None and token.text not in left:
                 raise Refused(token.place, f"`{token.text}` is no token of the source in its order")
         return text
+
+
+def lead_after(before, lead, after):
+    """Returns what stands in front of a token once those before it, the first with this lead, are gone: the lead with
+    more lines, and on one line what rustfmt would put there."""
+    closes = after.text in (",", ";", ")", "]", ">", ":", "}", "?", ".", "")
+    if after.text == ";":
+        return ""
+    if after.text == "{" and before not in (",", "}"):
+        return " "
+    if "\n" in after.lead:
+        blank = not (lead + after.lead).strip() and not closes and lead.count("\n") > after.lead.count("\n")
+        return lead if blank else after.lead
+    return lead if before in CLOSING or not closes and ("\n" in lead or not after.lead) else after.lead
+
+
+def tidy(tokens):
+    """Closes the gaps that blocks and texts have without their tokens, as rustfmt would do."""
+    before = ""
+    for token in tokens:
+        if not token.lead.strip() and "\n" in token.lead and (before == "{" or token.text == "}"):
+            token.lead = "" if before == "{" and token.text == "}" else "\n" + token.lead.rpartition("\n")[2]
+        if not before:
+            token.lead = token.lead.lstrip("\n")
+        token.lead = re.sub(r"\n[ \t]*\n([ \t]*\n)+", "\n\n", token.lead)
+        before = token.text

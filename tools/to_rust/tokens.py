@@ -1,7 +1,7 @@
 """Tokens of a source: words, marks, numbers, texts, lifetimes and lines of documentation.
 
-What stands between two tokens, blanks and comments, is the `lead` of the second one, so that tokens written one after the
-other, each behind its lead, are the source again.
+What stands between two tokens, blanks and comments, is the `lead` of the second one, so that tokens written one after
+the other, each behind its lead, are the source again.
 """
 
 import re
@@ -32,9 +32,8 @@ FORM = re.compile("|".join([
     r"(?P<lifetime>'[A-Za-z_][A-Za-z0-9_]*)",
     r"(?P<word>[A-Za-z_][A-Za-z0-9_]*)",
     r"(?P<number>[0-9][0-9_]*(?:\.[0-9][0-9_]*)?(?:[eE][+-]?[0-9]+)?[A-Za-z0-9_]*)",
-    r"(?P<strange>/\*)",
-    rf"(?P<mark>{MARKS})",
-    r"(?P<other>.)",
+    rf"(?P<mark>(?!/\*)(?:{MARKS}))",
+    r"(?P<strange>/\*|.)",
 ]), re.DOTALL)
 
 
@@ -52,11 +51,6 @@ def tokens_of(text, path, edit=None):
         tokens.append(Token(found.lastgroup, found[0], text[at:start], place, edit))
         at = found.end()
         line += found[0].count("\n")
-
-
-def text_of(tokens):
-    """Returns the text that these tokens are."""
-    return "".join(token.lead + token.text for token in tokens)
 
 
 def words_of(tokens):
