@@ -124,20 +124,18 @@ class Reader:
         """Returns the test that a row of the table makes of these arguments."""
         names, terms = row[0].split(" ")[1:], {}
         self.known(len(names) == len(arguments))
-        for name, argument in zip(names, arguments):
+        for name, text in zip(names, arguments):
             name, _, kind = name.partition(":")
-            terms[name] = self.argument(argument.strip("()"), kind.format(**terms) or "usize")
+            kind, text = kind.format(**terms) or "usize", text.strip("()")
+            if kind == "bytes":  # The type of pixels that has so many.
+                pixel = self.known(re.fullmatch(r"([A-Z])\.BYTES", text))[1]
+                terms[name] = Term(pixel, kind, f"`{pixel}`")
+            elif kind in NUMBERS:
+                terms[name] = self.number(text)
+                self.known(terms[name].kind in (kind, "literal"))
+            else:
+                terms[name] = self.thing(text, kind)
         return Check(*(text.format(**terms) for text in row[1:]))
-
-    def argument(self, text, kind):
-        """Returns what a row of the table takes: a number of a type, a thing, or the type that has so many bytes."""
-        if kind == "bytes":
-            pixel = self.known(re.fullmatch(r"([A-Z])\.BYTES", text))[1]
-            return Term(pixel, kind, f"`{pixel}`")
-        if kind not in NUMBERS:
-            return self.thing(text, kind)
-        number = self.number(text)
-        return self.known(number.kind in (kind, "literal") and number)
 
     def compared(self, a, sign, b):
         """Returns the test of two numbers: those of one type as they are, and others in `u128`."""
@@ -186,13 +184,10 @@ def checks_of(source, item):
 
 def message_of(check):
     """Returns what `assert!` takes after its test: a message in which names stand, and then all other values."""
-    behind = []
-
-    def place(found):
-        if re.fullmatch(r"(?!self$)[a-z_]\w*", found[1]):
-            return "{" + found[1] + (found[2] or "") + "}"
-        behind.append(found[1])
-        return "{" + (found[2] or "") + "}"
-
-    message = re.sub(r"\[([^][]*?)(:\?)?\]", place, check.message)
+    parts, behind = re.split(r"\[([^][]*?)(:\?)?\]", check.message), []
+    message = parts[0]
+    for value, form, text in zip(parts[1::3], parts[2::3], parts[3::3]):
+        is_name = value != "self" and re.fullmatch(r"[a-z_]\w*", value)
+        behind += [] if is_name else [value]
+        message += "{" + (value if is_name else "") + (form or "") + "}" + text
     return ", ".join([f'"{message}"', *behind])

@@ -121,7 +121,7 @@ def rewrite_text(source, start, end, links):
     lead = source.tokens[start + front].lead
     text = ("\n" + lead.rpartition("\n")[2]).join(lines)
     if lines or front < len(old) - back:
-        source.change(start + front, end - back, "doc-filled" if left_out else "doc-path", text)
+        source.replace(start + front, end - back, "doc-filled" if left_out else "doc-path", text)
     return start + len(new)
 
 

@@ -1,4 +1,4 @@
-"""What is left out beyond forms of a few tokens: ghosts, models, laws with their calls, and what nobody reads.
+"""What is left out beyond forms of a few tokens: models, laws with their calls, and names and values that nobody reads.
 
 A law is a function that does nothing, whose contract says what holds.
 """
@@ -15,16 +15,7 @@ KEPT = {"_held", "_program"}
 
 def erase_proofs(source):
     """Erases what is there for proofs alone. What functions require and ensure is kept for the tests of it."""
-    for at in source.places("ghost"):
-        end, start = at + 2, at - (source[at - 1] == "pub") - 4 * source.matches(at - 4, "pub (")
-        while source[end] in (":", "=", "by") and source[end + 1] == "{":
-            end = source.closing(end + 1) + 1
-        if source[at + 1] == "use":
-            source.erase(at, source.following(at, ";") + 1, "ghost-use")
-        elif not source.is_word(at + 1) or end == at + 2 or source[end] not in (";", ","):
-            source.refuse(at, f"a ghost of a form that is not known, at `{source[end]}`")
-        else:
-            source.erase(start, end + 1, "ghost-member")
+    forms.rewrite(source, forms.GHOSTS)
     for item in reversed(items_of(source)):
         if item.kind == "impl" and item.trait == "Model":
             source.erase(item.start, item.end, "model")

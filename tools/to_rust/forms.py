@@ -10,7 +10,15 @@ from .source import CLOSING
 # An allocator has no content in Rattle. So it is left out wherever it is passed.
 ALLOCATORS = ("alloc", "_alloc", "rt . alloc ( )", "self . alloc", "system . rt . alloc ( )")
 
-# What is there for proofs alone. In Rattle a type can be dropped where it is `Drop`; in Rust every type can.
+# Ghosts: imports of words for clauses, and members and fields, which take no memory and have no value.
+GHOSTS = [
+    ("ghost-use", "ghost use .. ;"),
+    *[("ghost-member", f"{front} ghost _ {kind} {value} {proof} {end}") for front in ("pub ( super )", "")
+      for kind, value in ((": { .. }", "= { .. }"), (": { .. }", ""), ("", "= { .. }"))
+      for proof in ("", "by { .. }") for end in ";,"],
+]
+
+# What else is there for proofs alone. In Rattle a type can be dropped where it is `Drop`; in Rust every type can.
 PROOFS = [
     *[("clause-requires", f"requires {form} {{ .. }}") for form in ("", "*", "_", "* _")],
     *[("clause-ensures", f"ensures {form} {{ .. }}") for form in ("", "*", "_", "* _")],
@@ -91,7 +99,7 @@ def rewrite(source, table):
                 source.refuse(at, f"a form that is not known: {pattern}")
             for (start, end), text in zip(reversed(parts), reversed(texts or [""] * len(parts))):
                 if start < end:
-                    source.change(start, end, rule, text)
+                    source.replace(start, end, rule, text)
                 else:
                     source.insert(start, rule, text, source.tokens[start].lead)
                     source.tokens[start + 1].lead = " "

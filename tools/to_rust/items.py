@@ -5,7 +5,7 @@ Only what stands outside of bodies is read here. A form of item that is not know
 
 from collections import namedtuple
 
-KEYWORDS = {"fn", "struct", "enum", "trait", "impl", "mod", "use", "const", "static", "type", "ghost"}
+KEYWORDS = {"fn", "struct", "enum", "trait", "impl", "mod", "use", "const", "static", "type"}
 QUALIFIERS = {"const", "unsafe", "final", "extern"}
 CLAUSE_WORDS = ("requires", "ensures")
 

@@ -43,8 +43,7 @@ def rewrite_imports(source):
             named = [(from_here(source, path), name) for path, name in leaves if path]
             text = import_text(path + (f" as {name}" if name else "") for path, name in named)
             if text != source.words(item.keyword, item.end):
-                rule = "std-import" if text else "import-left-out"
-                source.change(item.keyword, item.end, rule, text)
+                source.replace(item.keyword, item.end, "std-import" if text else "import-left-out", text)
 
 
 def from_here(source, path):

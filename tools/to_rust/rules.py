@@ -1,7 +1,7 @@
 """The rules by which a token changes, and the list of changes: each token of the output that is no token of a source,
 with what it stands for.
 
-The list is made of the tokens that were written and of the changes that they belong to, not of what the rules mean to do.
+The list is made of the tokens that were written and of the changes that they belong to, not of what rules mean to do.
 """
 
 from collections import Counter
@@ -107,8 +107,8 @@ def listing_of(sources):
 
 
 def section_lines(title, rules, shown):
-    """Returns a table of the rules: how often each was applied, and to how many forms. Then, for those that are shown, a
-    line for each form, the frequent ones first: how often, what stood there, and what stands there."""
+    """Returns a table of the rules: how often each was applied, and to how many forms. Then, for those that are shown,
+    a line for each form, the frequent ones first: how often, what stood there, and what stands there."""
     used = {rule: rules[rule] for rule in RULES if rule in rules}
     counts = [f"| `{rule}` | {sum(forms.values())} | {len(forms)} | {RULES[rule]} |" for rule, forms in used.items()]
     lines = [f"## {title}", "", "| rule | times | forms | |", "|---|---|---|---|", *counts]

@@ -39,9 +39,9 @@ class Source:
         """Returns the kind of a token, and nothing where there is none."""
         return self.tokens[at].kind if 0 <= at < len(self.tokens) else ""
 
-    def is_word(self, at, *words):
-        """Returns whether a token is one of these words, or any."""
-        return self.kind(at) == "word" and (not words or self[at] in words)
+    def is_word(self, at):
+        """Returns whether a token is a word."""
+        return self.kind(at) == "word"
 
     def matches(self, at, words):
         """Returns whether the tokens at `at` are these words, which blanks part."""
@@ -59,16 +59,11 @@ class Source:
         """Raises the error that names this token's place."""
         raise Refused(self.tokens[min(at, len(self) - 1)].place, message)
 
-    def change(self, start, end, rule, text):
-        """Puts a text in place of the tokens from `start` up to `end`, or takes them away where it is empty."""
-        if text:
-            self.replace(start, end, rule, text)
-        else:
-            self.erase(start, end, rule)
-
     def replace(self, start, end, rule, text, lead=None):
         """Puts a text in place of the tokens from `start` up to `end`, and returns where the new ones end. The first
-        stands where the first old one stood, unless a lead is given."""
+        stands where the first old one stood, unless a lead is given. Without a text they are taken away."""
+        if not text:
+            return self.erase(start, end, rule)
         near = self.tokens[start]
         edit = Edit(rule, near.place, self.words(start, end), text)
         new = tokens_of(text, near.place, edit)[:-1]
