@@ -53,11 +53,6 @@ def valued(rust, words, kind="usize", noun=""):
     return Term(rust, kind, words, f"{words.replace('`', '')} ([{rust}])", noun)
 
 
-def constant(rust, words):
-    """Returns a number that is the same in each call."""
-    return Term(rust, "literal", words, words)
-
-
 def pixel_bytes(pixel):
     """Returns the bytes of a pixel, which users know as a size where they choose the type of pixels."""
     rust, size = f"{pixel}::BYTES", f"size_of::<{pixel}>()"
@@ -79,8 +74,8 @@ def of_two(a, sign, b):
 
 # The forms of a number, each with what makes the number of its parts.
 FORMS = [
-    (r"(\d+)", lambda reader, value: constant(value, value)),
-    (r"2 \^ (\d+)", lambda reader, power: constant(f"1 << {power}", f"2^{power}")),
+    (r"(\d+)", lambda reader, value: Term(value, "literal", value, value)),
+    (r"2 \^ (\d+)", lambda reader, power: Term(f"1 << {power}", "literal", f"2^{power}", f"2^{power}")),
     (r"([A-Z])\.(?:BYTES|form\.size)", lambda reader, pixel: pixel_bytes(pixel)),
     (r"length \(byte_list (\w)\.form \(table_of (\S+)\)\)",
      lambda reader, pixel, plane: reader.thing(plane, f"Plane<{pixel}>", f"PlaneRef<'a, {pixel}>").bytes),

@@ -72,7 +72,7 @@ class Links:
             name = self.reach.names.get((crate, tuple(parts[:length])))
             if name is not None:
                 return "::".join([name, *parts[length:]])
-        return "::".join([paths.module_of(self.source, crate), *parts])
+        return "::".join([paths.module_of(self.source, crate) or crate, *parts])
 
     def line(self, line):
         """Returns a line with its paths as Rust has them, and with the words of the table."""

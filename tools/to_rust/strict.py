@@ -104,7 +104,10 @@ def check_word(source, at, names):
         if word not in names.methods:
             source.refuse(at, f"a method that is not known: {word}")
     elif after == "::" and before != "::":
-        check_path(source, at, names)
+        member = source[source.closing(at + 2) + 2] if source[at + 2] == "<" else source[at + 2]
+        own = word in names.others or word in names.functions or len(word) == 1 and word.isupper()
+        if not own and f"{word}::{member}" not in MEMBERS:
+            source.refuse(at, f"a path that is not known: {word}::{member}")
     elif before != "::" and word[0].isupper() and not word.isupper() and word not in names.types:
         source.refuse(at, f"a type that is not known: {word}")
 
@@ -117,16 +120,6 @@ def check_attribute(source, at):
     for k in range(name + 2, source.closing(name + 1)) if source[name] == "derive" else ():
         if source.is_word(k) and source[k] not in DERIVES:
             source.refuse(k, f"a derive that is not known: {source[k]}")
-
-
-def check_path(source, at, names):
-    """Refuses a path that begins with no name of the sources and is not listed."""
-    root, member = source[at], source[at + 2]
-    if member == "<":
-        member = source[source.closing(at + 2) + 2]
-    own = root in names.others or root in names.functions or len(root) == 1 and root.isupper()
-    if not own and f"{root}::{member}" not in MEMBERS:
-        source.refuse(at, f"a path that is not known: {root}::{member}")
 
 
 def check_output(source):

@@ -30,23 +30,19 @@ FOR_C = {"v_frame_c", "v_frame_y4m_c"}
 BY_HAND = {"v_frame_buffer": "crate::buffer"}
 
 
-def moved(to, names, root="std"):
-    """Returns the names of a module of Rattle's `std`, each with its path in a module of Rust."""
-    return {f"{root}::{name}": f"{to}::{name}" for name in names.split()}
-
-
 # Names of Rattle's `std` that imports may have, and Rust's names for them. None: nothing takes its place.
-STD_NAMES = {
-    **moved("core", """cmp::Ordering fmt fmt::Binary fmt::Debug fmt::Display fmt::LowerHex fmt::Octal fmt::UpperHex
+STD_NAMES = {f"{old}::{name}": f"{new}::{name}" for old, new, names in (
+    ("std", "core", """cmp::Ordering fmt fmt::Binary fmt::Debug fmt::Display fmt::LowerHex fmt::Octal fmt::UpperHex
         fmt::Write hash::Hash iter::FusedIterator mem num::NonZeroU8 slice str"""),
-    **moved("std", """fs::File fs::Metadata fs::Permissions fs::TryLockError io io::BufReader io::ErrorKind io::Read
+    ("std", "std", """fs::File fs::Metadata fs::Permissions fs::TryLockError io io::BufReader io::ErrorKind io::Read
         io::Write os::unix::fs::MetadataExt os::unix::fs::PermissionsExt os::unix::fs::fchown process::ExitCode"""),
-    **moved("crate::support::lanes", "Simd u8x16 u8x32 u16x8 u16x16 u32x8", "std::simd"),
-    **moved("crate::support::numbers", """f32_to_f64_with_nan nearest_i64_to_f64 nearest_u64_to_f64
-        nearest_usize_to_f64 saturating_f64_to_i64 saturating_f64_to_u64""", "std::num"),
-    **moved("yuv::support", "env fs fs::OpenFile fs::OpenOptions path::PathBuf time::Clock time::Instant"),
-    "std::rt::Files": "yuv::support::fs::Files",
-    "std::alloc::AllocError": "crate::support::AllocError",
+    ("std", "yuv::support", "env fs fs::OpenFile fs::OpenOptions path::PathBuf time::Clock time::Instant"),
+    ("std::rt", "yuv::support::fs", "Files"),
+    ("std::alloc", "crate::support", "AllocError"),
+    ("std::simd", "crate::support::lanes", "Simd u8x16 u8x32 u16x8 u16x16 u32x8"),
+    ("std::num", "crate::support::numbers", """f32_to_f64_with_nan nearest_i64_to_f64 nearest_u64_to_f64
+        nearest_usize_to_f64 saturating_f64_to_i64 saturating_f64_to_u64"""),
+) for name in names.split()} | {
     "std::ops::DerefSlice": "core::ops::Deref",
     **dict.fromkeys(("std::alloc::Global", "std::convert::AsSlice", "std::marker::Model", "thiserror::Error")),
 }
