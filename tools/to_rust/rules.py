@@ -97,11 +97,12 @@ def listing_of(sources):
         for edit in source.edits:
             if not edit.new:
                 left_out.setdefault(edit.rule, Counter())[edit.old, ""] += 1
-        for edit, run in groupby(source.tokens, key=lambda token: token.edit):
+        for run in (list(run) for _, run in groupby(source.tokens, key=lambda token: id(token.edit))):
+            edit = run[0].edit
             if edit is None:
                 kept += sum(token.kind != "end" for token in run)
             else:
-                put_in.setdefault(edit.rule, Counter())[edit.old, words_of(list(run))] += 1
+                put_in.setdefault(edit.rule, Counter())[edit.old, words_of(run)] += 1
     lines = [*section_lines("Left out", left_out, SHOWN), "", *section_lines("Put in", put_in, RULES.keys() - COUNTED)]
     return "\n".join([HEAD.format(kept), *lines, ""])
 

@@ -5,20 +5,15 @@ of the output either is the source's own or belongs to a change.
 """
 
 import re
+from collections import namedtuple
 
 from .rules import RULES
 from .tokens import Refused, tokens_of, words_of
 
 CLOSING = {"(": ")", "[": "]", "{": "}"}
 
-
-class Edit:
-    """One change: by what rule, what stood there and what stands there now."""
-
-    def __init__(self, rule, place, old, new):
-        if rule not in RULES:
-            raise Refused(place, f"a change by a rule that is not in the table: {rule}")
-        self.rule, self.old, self.new = rule, old, new
+# One change: by what rule, what stood there and what stands there now.
+Edit = namedtuple("Edit", "rule old new")
 
 
 class Source:
@@ -64,14 +59,12 @@ class Source:
         stands where the first old one stood, unless a lead is given. Without a text they are taken away."""
         if not text:
             return self.erase(start, end, rule)
-        near = self.tokens[start]
-        edit = Edit(rule, near.place, self.words(start, end), text)
+        near, edit = self.tokens[start], self.note(rule, start, self.words(start, end), text)
         new = tokens_of(text, near.place, edit)[:-1]
         for token in new:
             token.place = near.place
         new[0].lead = near.lead if lead is None else lead
         self.tokens[start:end] = new
-        self.edits.append(edit)
         return start + len(new)
 
     def insert(self, at, rule, text, lead):
@@ -95,9 +88,12 @@ class Source:
         """Erases an element of a list, with the comma that parts it from the next or from the one before."""
         self.erase(start - (self[end] != "," and self[start - 1] == ","), end + (self[end] == ","), rule)
 
-    def note(self, rule, at, words):
-        """Notes that words were left out, which may be part of a text or a comment."""
-        self.edits.append(Edit(rule, self.tokens[at].place, words, ""))
+    def note(self, rule, at, old, new=""):
+        """Notes a change, and returns it. What was left out may be a part of a text or a comment."""
+        if rule not in RULES:
+            self.refuse(at, f"a change by a rule that is not in the table: {rule}")
+        self.edits.append(Edit(rule, old, new))
+        return self.edits[-1]
 
     def following(self, at, *texts):
         """Returns where the first of these texts stands, outside of brackets, from `at` on."""

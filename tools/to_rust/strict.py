@@ -62,16 +62,11 @@ class Names:
                 (self.functions if item.kind == "fn" else self.others).add(item.name)
                 if item.kind == "use":
                     self.others.update(name for _, name in leaves_of(source, item.keyword + 1, item.end - 1) if name)
-                if item.kind in ("enum", "trait", "impl") and item.body:
-                    self.others.update(source[at] for at in range(*item.body) if defines(source, item, at))
+                places = range(*item.body) if item.kind in ("enum", "trait", "impl") and item.body else ()
+                self.others.update(source[at] for at in places if source[at - 1] in ("type", "const"))
+                starts = [at for at in places if source[at - 1] in ("{", ",", "]") or source.kind(at - 1) == "doc"]
+                self.others.update(source[at] for at in starts if item.kind == "enum" and source.is_word(at))
         self.methods, self.types = METHODS | self.functions, TYPES | self.others
-
-
-def defines(source, item, at):
-    """Returns whether a variant, an associated type or a constant gets its name here."""
-    before = source[at - 1]
-    is_variant = item.kind == "enum" and (before in ("{", ",", "]") or source.kind(at - 1) == "doc")
-    return source.is_word(at) and (before in ("type", "const") or is_variant)
 
 
 def check(source, names):
