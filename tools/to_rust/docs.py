@@ -8,7 +8,7 @@ import textwrap
 
 from . import paths, tables
 
-WIDTH = 110
+WRAP = {"width": 110, "break_long_words": False, "break_on_hyphens": False}
 PROOF_WORDS = re.compile("|".join(tables.PROOF_WORDS))
 SENTENCE_END = re.compile(r"(?<=[.:!?])\s+(?=[A-Z`\[(])")
 LINK = re.compile(r"\]\(([A-Za-z_][A-Za-z0-9_:]*)(\(\))?\)")
@@ -31,12 +31,6 @@ def without_proofs(text):
     return " ".join(kept), left_out
 
 
-def filled(text, first, rest):
-    """Returns a paragraph as lines that begin with these."""
-    whole = {"break_long_words": False, "break_on_hyphens": False}
-    return textwrap.wrap(text, WIDTH, initial_indent=first, subsequent_indent=rest, **whole)
-
-
 def shortened(lines):
     """Returns the lines of a text without sentences for those who write proofs, and these sentences."""
     new, left_out, fenced, at = [], [], False, 0
@@ -49,7 +43,8 @@ def shortened(lines):
         item = "- " if lines[at].startswith("- ") else ""
         words = "" if stays else " ".join(line.strip() for line in lines[at:end])
         text, sentences = without_proofs(words.removeprefix(item))
-        new += filled(text, item, "  " if item else "") if sentences else lines[at:end]
+        filled = textwrap.wrap(text, initial_indent=item, subsequent_indent=" " * len(item), **WRAP)
+        new += filled if sentences else lines[at:end]
         left_out += sentences
         at = end
     kept = [line for k, line in enumerate(new) if line.strip() or k and new[k - 1].strip()]
@@ -99,8 +94,9 @@ def rewrite(source, links):
         end = at
         while source.kind(end) == "doc" and source[end][:3] == source[at][:3]:
             end += 1
-        if at == 0 and (source.crate, source.module) in tables.DOC_ADDED:
-            lines = filled(tables.DOC_ADDED[source.crate, source.module], "//! ", "//! ")
+        added = tables.DOC_ADDED.get((source.crate, *source.module)) if at == 0 else None
+        if added:
+            lines = textwrap.wrap(added, initial_indent="//! ", subsequent_indent="//! ", **WRAP)
             source.insert(end, "doc-added", "\n".join(["//!", *lines]), "\n")
         at = rewrite_text(source, at, end, links) if end > at else at + 1
 
@@ -126,14 +122,10 @@ def rewrite_text(source, start, end, links):
 
 
 def rewrite_comments(source):
-    """Leaves out sentences of comments that speak to those who write proofs."""
+    """Leaves out comments that speak to those who write proofs."""
     for at, token in enumerate(source.tokens):
-        if "//" in token.lead and PROOF_WORDS.search(token.lead):
-            parts = re.split(r"((?:[ \t]*//[^\n]*\n)+)", token.lead)
-            for k in range(1, len(parts), 2):
-                text, left_out = without_proofs(" ".join(line.strip(" /") for line in parts[k].splitlines()))
-                for sentence in left_out:
-                    source.note("comment-proofs", at, sentence)
-                indent = re.match(r"[ \t]*", parts[k])[0] + "// "
-                parts[k] = "".join(line + "\n" for line in filled(text, indent, indent)) if left_out else parts[k]
-            token.lead = "".join(parts)
+        for comment in re.findall(r"(?:[ \t]*//[^\n]*\n)+", token.lead):
+            text = " ".join(line.strip(" /") for line in comment.splitlines())
+            if PROOF_WORDS.search(text):
+                source.note("comment-proofs", at, text)
+                token.lead = token.lead.replace(comment, "", 1)

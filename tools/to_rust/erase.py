@@ -70,7 +70,7 @@ def laws_of(source):
 
 
 def erase_calls(source, laws):
-    """Erases statements that call a law: `path::name::<T>(arguments);`."""
+    """Erases statements that call a law, `path::name::<T>(arguments);`, and the `if let` that then is empty."""
     for start in source.places(*laws):
         end = start + 1
         while source[start - 1] == "::":
@@ -81,7 +81,7 @@ def erase_calls(source, laws):
             end = source.closing(end) + 1
             if source[end] == ";":
                 source.erase(start, end + 1, "law-call")
-    forms.rewrite(source, forms.LAWS)
+    forms.rewrite(source, [("law-call", "if let Some ( _ ) = _ { }")])
 
 
 def erase_names(source, item, names, rule):

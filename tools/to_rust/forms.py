@@ -38,9 +38,6 @@ PROOFS = [
 # What `thiserror` reads.
 ERRORS = [("error-derive", form) for form in ("# [ error ( .. ) ]", "# [ source ]", "# [ from ]")]
 
-# What is left of a law's call where that is gone.
-LAWS = [("law-call", "if let Some ( _ ) = _ { }")]
-
 # Memory: `Vec` and `String` are Rust's own. What grows or makes one reserves first, by traits of `support::memory`.
 MEMORY = [
     ("memory-macro", "« vec ! [ » « in @ ; » .. « ; » .. « ] »", "repeated(", "", ",", ")"),
@@ -51,9 +48,8 @@ MEMORY = [
     *[("allocator-parameter", f"{before} « @ : Global , »") for before in "({,"],
     ("allocator-parameter", "( « @ : Global » )"),
     ("allocator-parameter", "« , @ : Global » )"),
-    *[("memory-call", f"{owner} :: « {name} » ( @", f"try_{name}") for owner in ("Vec", "String")
-      for name in ("from_slice", "from_array", "from_str")],
-    *[("memory-call", f"{owner} :: « with_capacity » ( @", "with_room_for") for owner in ("Vec", "String")],
+    ("memory-call", "Vec :: « from_slice » ( @", "try_from_slice"),
+    ("memory-call", "Vec :: « with_capacity » ( @", "with_room_for"),
     ("memory-call", "BufReader :: « new » ( @", "try_new"),
     ("memory-call", ". « to_string » ( @", "try_to_string"),
     ("memory-call", ". « collect » ( @", "try_collect_vec"),
@@ -63,8 +59,7 @@ MEMORY = [
     ("clone", "fn clone ( & self ) -> Result", None),
     *[("allocator-argument", f"{before} « @ , »") for before in "({,"],
     ("allocator-argument", "( « @ » )"),
-    *[("memory-call", f". « {name} » (", f"try_{name}")
-      for name in ("push", "push_str", "extend_from_slice", "resize", "reserve")],
+    *[("memory-call", f". « {name} » (", f"try_{name}") for name in "push push_str extend_from_slice resize".split()],
 ]
 
 # What Rattle and Rust write differently. What is proved before the program is built, Rust tests while it is debugged.

@@ -56,8 +56,8 @@ PRELUDE = {"Vec": "alloc::vec::Vec", "String": "alloc::string::String"}
 # The traits and functions of the support module by the names whose use asks for them.
 SUPPORT = {name: path for path, names in {
     "crate::support::memory::TryPush": "try_push",
-    "crate::support::memory::TryVec": "try_extend_from_slice try_resize with_room_for try_from_slice try_from_array",
-    "crate::support::memory::TryString": "try_push_str try_from_str",
+    "crate::support::memory::TryVec": "try_extend_from_slice try_resize with_room_for try_from_slice",
+    "crate::support::memory::TryString": "try_push_str",
     "crate::support::memory::TryToString": "try_to_string",
     "crate::support::memory::TryCollect": "try_collect_vec",
     **{f"crate::support::memory::{name}": name for name in ("try_format", "repeated")},
@@ -145,7 +145,7 @@ PROOF_WORDS = (
 
 # What the text of a module says more in Rust.
 DOC_ADDED = {
-    ("v_frame", ("replay",)): "It is for those who test and compare: a list of calls is data, which a generator makes "
+    ("v_frame", "replay"): "It is for those who test and compare: a list of calls is data, which a generator makes "
     "and which another program can answer as well. To work on pictures, call planes and frames.",
 }
 
