@@ -114,9 +114,8 @@ class Reader:
             return self.of_predicate(PREDICATES[applied[1]], re.findall(r"[^\s()]+|\([^()]+\)", applied[2]))
         a, sign, b = self.known(comparison).groups()
         if sign == "≢" and re.fullmatch(r"[A-Z][a-z]+", b):
-            thing = self.thing(a)
-            words = f"{thing:words} is `{thing.kind}::{b}`"
-            return Check(f"{thing} != {thing.kind}::{b}", words, words.replace("`", ""))
+            words = f"{self.thing(a, 'Scale'):words} is `Scale::{b}`"
+            return Check(f"{a} != Scale::{b}", words, words.replace("`", ""))
         return self.compared(self.number(a), sign, self.number(b))
 
     def of_predicate(self, row, arguments):
@@ -170,7 +169,7 @@ class Reader:
         if re.fullmatch(r"\[[^;]*\]", whole) or whole.startswith("(usize, "):
             kind = whole[0] + whole[-1]
         self.known(kind and path[2] == ((reference or None) and ("old" if unique else "now")))
-        self.known(not kinds or {whole, kind} & set().union(*(KINDS.get(it, {it}) for it in kinds)))
+        self.known({whole, kind} & set().union(*(KINDS.get(it, {it}) for it in kinds)))
         return Term(path[1], kind, f"`{path[1]}`")
 
 

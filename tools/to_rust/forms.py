@@ -13,7 +13,7 @@ ALLOCATORS = ("alloc", "_alloc", "rt . alloc ( )", "self . alloc", "system . rt 
 # Ghosts: imports of words for clauses, and members and fields, which take no memory and have no value.
 GHOSTS = [
     ("ghost-use", "ghost use .. ;"),
-    *[("ghost-member", f"{front} ghost _ {kind} {value} {proof} {end}") for front in ("pub ( super )", "")
+    *[("ghost-member", f"{front} ghost _ {kind} {value} {proof} {end}") for front in ("pub ( _ )", "pub", "")
       for kind, value in ((": { .. }", "= { .. }"), (": { .. }", ""), ("", "= { .. }"))
       for proof in ("", "by { .. }") for end in ";,"],
 ]
@@ -28,8 +28,7 @@ PROOFS = [
     ("drop-bound", "« : Drop » >"),
     ("drop-bound", "« where » « _ : Drop , » {"),
     ("drop-bound", "« where » « _ :: Item : Drop , » {"),
-    ("drop-derive", "( « Drop , »"),
-    ("drop-derive", ", « Drop , »"),
+    *[("drop-derive", f"{before} « Drop , »") for before in "(,"],
     ("drop-derive", "« , Drop » ) ]"),
     ("drop-derive", "derive ( « Drop » ) ]"),
     ("drop-derive", "# [ derive ( ) ]"),
@@ -42,6 +41,7 @@ ERRORS = [("error-derive", form) for form in ("# [ error ( .. ) ]", "# [ source 
 MEMORY = [
     ("memory-macro", "« vec ! [ » « in @ ; » .. « ; » .. « ] »", "repeated(", "", ",", ")"),
     ("memory-macro", "« format ! ( » « in @ ; » .. « ) »", "try_format(format_args!(", "", "))"),
+    *[("memory-macro", f"! {opening} in", None) for opening in "[("],
     ("allocator-variable", "let alloc = @ ;"),
     ("allocator-bound", "+ AllocGlobal"),
     ("allocator-bound", "AllocGlobal +"),
