@@ -60,7 +60,7 @@ def valued(rust, words, kind="usize", noun=""):
 def pixel_bytes(pixel):
     """Returns the bytes of a pixel, which users know as a size where they choose the type of pixels."""
     rust, size = f"{pixel}::BYTES", f"size_of::<{pixel}>()"
-    return Term(rust, "usize", f"`{rust}`", f"{size if pixel in tables.PIXEL_TYPES else rust} ([{rust}])")
+    return Term(rust, "usize", f"`{rust}`", f"{size if pixel.rust in tables.PIXEL_TYPES else rust} ([{rust}])")
 
 
 def half(whole):
@@ -76,11 +76,11 @@ def of_two(a, sign, b):
     return Term(rust, "u128", form.format(a.words, b.words), form.format(a.shown, b.shown))
 
 
-# The forms of a number, each with what makes the number of its parts.
+# The forms of a number, each with what makes the number of its parts. Constants are below 2^64.
 FORMS = [
-    (r"(\d+)", lambda reader, value: Term(value, "literal", value, value)),
-    (r"2 \^ (\d+)", lambda reader, power: Term(f"1 << {power}", "literal", f"2^{power}", f"2^{power}")),
-    (r"([A-Z])\.(?:BYTES|form\.size)", lambda reader, pixel: pixel_bytes(pixel)),
+    (r"(\d{1,19})", lambda reader, value: Term(value, "literal", value, value)),
+    (r"2 \^ ([1-5]?\d|6[0-3])", lambda reader, power: Term(f"1 << {power}", "literal", f"2^{power}", f"2^{power}")),
+    (r"([A-Z])\.(?:BYTES|form\.size)", lambda reader, pixel: pixel_bytes(reader.thing(pixel, "type"))),
     (r"length \(byte_list (\w)\.form \(table_of (\S+)\)\)",
      lambda reader, pixel, plane: reader.thing(plane, f"Plane<{pixel}>", f"PlaneRef<'a, {pixel}>").bytes),
     (r"length (\S+)", lambda reader, name: reader.thing(name, "[]").length),
@@ -95,10 +95,12 @@ FORMS = [
 
 
 class Reader:
-    """Reads a clause of a function, whose parameters have types as texts."""
+    """Reads a clause of a function, whose parameters have types as texts; those of its types are of the type `type`."""
 
     def __init__(self, source, item, clause):
-        self.types, self.refuse = {}, lambda: source.refuse(item.keyword, f"a clause that is not known: `{clause}`")
+        self.refuse = lambda: source.refuse(item.keyword, f"a clause that is not known: `{clause}`")
+        lists = [it.generics for it in (item.owner, item) if it and it.generics]
+        self.types = {source[at]: "type" for start, end in lists for at in range(start, end)}
         for start, at, end in parameters_of(source, item):
             behind = source.words(at + 2, end)
             self.types[source[at]] = behind if end > at + 1 else f"{source.words(start, at)} {item.owner.subject}"
@@ -126,8 +128,7 @@ class Reader:
             name, _, kind = name.partition(":")
             kind, text = kind.format(**terms) or "usize", text.strip("()")
             if kind == "bytes":  # The type of pixels that has so many.
-                pixel = self.known(re.fullmatch(r"([A-Z])\.BYTES", text))[1]
-                terms[name] = Term(pixel, kind, f"`{pixel}`")
+                terms[name] = self.thing(self.known(re.fullmatch(r"([A-Z])\.BYTES", text))[1], "type")
             elif kind in NUMBERS:
                 terms[name] = self.number(text)
                 self.known(terms[name].kind in (kind, "literal"))
@@ -163,12 +164,13 @@ class Reader:
 
     def thing(self, text, *kinds):
         """Returns a parameter, or what it points to, of one of these types. What is said of its table is said of it."""
-        path = self.known(re.fullmatch(r"(?:tables?_of |exchanges )?(\w+)(?:\.(now|old))?(?:\.geometry)?", text))
+        path = self.known(re.fullmatch(r"(?:tables?_of |exchanges )?(\w+)(?:\.(now|old))?(\.geometry)?", text))
         reference, unique, whole = re.fullmatch(r" ?(& ?(?:'\w+ )?(mut )?)?(.*)", self.types.get(path[1], "")).groups()
         kind = re.match(r"\w*", whole)[0]
         if re.fullmatch(r"\[[^;]*\]", whole) or whole.startswith("(usize, "):
             kind = whole[0] + whole[-1]
         self.known(kind and path[2] == ((reference or None) and ("old" if unique else "now")))
+        self.known(bool(path[3]) == ("Picture" in kinds and kind in KINDS["View"]))
         self.known({whole, kind} & set().union(*(KINDS.get(it, {it}) for it in kinds)))
         return Term(path[1], kind, f"`{path[1]}`")
 

@@ -1,15 +1,14 @@
 """What a Rust programmer expects of a public item: attributes, derives, views in parameters, the original's `Pixel`.
 
 `#[inline]` stands on each public function, as the original has it, and on short private ones, which a program of
-another crate could not have inlined otherwise. `#[must_use]` stands where a call that only answers would be in vain: a
-`Result` says so itself.
+another crate could not have inlined otherwise. `#[must_use]` stands where a call that only answers would be in vain.
 """
 
 from . import tables
 from .items import functions_of, items_of, parameters_of
 
 SHORT = 40
-RESULTS = ("Result<", "io::Result<", "slice::Iter<", "!")
+RESULTS = ("Result<", "io::Result<", "slice::Iter<", "!")  # These say so themselves.
 # The words of a parameter up to the type of its pixels, and the trait and its call that take their place.
 VIEWS = {": & PlaneRef < '_ ,": ("AsPlaneRef", "as_plane_ref"), ": & RowsRef < '_ ,": ("AsRowsRef", "as_rows_ref")}
 
