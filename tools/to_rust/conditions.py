@@ -1,327 +1,257 @@
-"""What callers in Rust are told: each `requires` of a public function as an assertion.
+"""What callers in Rust are told: each `requires` of a public function as a test, with a text that says what it tests.
 
-A clause is read into a tree (`Parser`), whose numbers and facts become Rust over the parameters of the function (`Reader`); what
-a clause may name stands in `condition_table`. A test neither overflows nor stops: what is counted of more than one number is
-counted in `u128`, in which it has room, or else the clause is refused. A clause that is not known is refused, too: `Unknown`. The
-clauses that are passed over on purpose stand in `NOT_ASSERTED` and `TRAIT_METHODS`, each with the reason.
+A call that is made very often inside the library, where what it requires is proved, is two functions: the public one
+tests and calls the other.
+
+A clause is a predicate of the table in `conditions.md`, or compares two numbers, each of which is one, half of one, or
+a sum or product of two; what is counted of two is counted in `u128`, in which it has room. The prover has read each
+clause, so its types are right. Any other clause is refused.
 """
 
+import pathlib
 import re
 from collections import namedtuple
 
-from .condition_table import (
-    CONSTANTS, FIELDS, LARGEST, PREDICATES, SIZES, VARIANTS, Number, Thing, Unknown, atom, compared, counted, implied, inlined,
-    joined, literal, negated, of_variant,
-)
+from . import tables
+from .items import functions_of, parameters_of
 
-# A Rust test that is true where the condition holds, what `assert!` takes after it, and a line for `# Panics`.
-Check = namedtuple("Check", "test message words")
+# A Rust test that is true where the condition holds; when it does not hold; a message, with values in brackets.
+Check = namedtuple("Check", "test words message")
 
-# Clauses that are not asserted: their form, in which functions where not in all, and why.
-PRIVATE = "of a function in a private module: callers cannot name it, and the library's own call is proved"
-NOT_ASSERTED = [
-    (r"[A-Z]\w*\.IsAlwaysCallable \w+", None, "a closure of Rust can always be called; one that panics stops its caller"),
-    (r"left\.old ≡ right\.old", [("v_frame_plane", "laws", "packed_copies_agree")],
-     "a law, which says something of equal planes alone: two other ones are copied into as well"),
-    (r"tables_of a\.old ≡ tables_of b\.old", [("v_frame", "laws", "same_tables_same_answers")],
-     "a law, which says something of equal tables alone: over two other frames the calls are replayed as well"),
-    (r"CanAdvance center", [("v_frame_resize", "center", "next_center")], PRIVATE),
-    (r"IsFirst source target x first", [("v_frame_resize", "span", "span_from")], PRIVATE),
-    (r"IsSpan source target x span", [("v_frame_resize", "span", "next_first")], PRIVATE),
+TABLE = pathlib.Path(__file__).with_suffix(".md").read_text(encoding="utf-8")
+ROW = re.compile(r"^\| `(\w+ .*?)` \| `(.*?)` \| (.*) \| (.*) \|$", re.M)
+PREDICATES = {row[0].split()[0]: row for row in ROW.findall(TABLE)}
+PROVED = "_proved"
+SIGNS = {"<": ("<", "is not below"), "≤": ("<=", "is above"), "≡": ("==", "is not"), "≢": ("!=", "is")}
+COMPARISON = re.compile(r"([^<≤≡≢]+) ([<≤≡≢]) ([^<≤≡≢]+)")
+APPLIED = re.compile(r"(\w+)((?: (?:[^\s()]+|\([^()]+\)))*)")
+NUMBERS = {"u8", "u16", "u32", "u64", "usize"}
+KINDS = {"View": {"Plane", "PlaneRef"}, "Picture": {"Plane", "PlaneRef", "RowsRef", "PlaneGeometry"}, "number": NUMBERS}
+
+
+class Term(namedtuple("Term", "rust kind words shown noun", defaults=("", ""))):
+    """A parameter, a part of one, or a number: in Rust, its type, how a line and a message name it, what it counts."""
+
+    def __format__(self, form):
+        """Returns the Rust of it; its `words`; these as `shown` with the value; or that something is `of` it."""
+        of = "" if self.rust == "self" else f" of {self.words}"
+        return {"": self.rust, "words": self.words, "shown": self.shown, "of": of}[form]
+
+    luma = property(lambda self: Term(f"{self}.y_plane", "Plane", f"the luma{self:of}"))
+    width = property(lambda self: self.size("width", "width"))
+    height = property(lambda self: self.size("height", "height"))
+    length = property(lambda self: self.size("len", "length"))
+    bytes = property(lambda self: valued(f"{self}.byte_len()", f"`byte_len`{self:of}"))
+
+    def size(self, call, noun):
+        """Returns the number that a method of it gives."""
+        return valued(f"{self}.{call}()", f"the {noun}{self:of}", "usize", "" if self.rust == "self" else noun)
+
+    def wide(self):
+        """Returns a number in `u128`."""
+        return self.rust if self.kind in ("literal", "u128") else f"{self} as u128"
+
+
+def valued(rust, words, kind="usize", noun=""):
+    """Returns what a message names with its value."""
+    return Term(rust, kind, words, f"{words.replace('`', '')} ([{rust}])", noun)
+
+
+def pixel_bytes(pixel):
+    """Returns the bytes of a pixel, which users know as a size where they choose the type of pixels."""
+    rust, size = f"{pixel}::BYTES", f"size_of::<{pixel}>()"
+    return Term(rust, "usize", f"`{rust}`", f"{size if pixel.rust in tables.PIXEL_TYPES else rust} ([{rust}])")
+
+
+def half(whole):
+    """Returns the half of a number, rounded up."""
+    form = "half {}, rounded up"
+    return Term(f"{whole}.div_ceil(2)", whole.kind, form.format(whole.words), form.format(whole.shown))
+
+
+def of_two(a, sign, b):
+    """Returns the sum or the product of two numbers."""
+    form = "twice {1}" if (a.rust, sign) == ("2", "*") else {"+": "{0} plus {1}", "*": "{0} times {1}"}[sign]
+    rust = f"{a.wide()} {sign} {b.wide()}"
+    return Term(rust, "u128", form.format(a.words, b.words), form.format(a.shown, b.shown))
+
+
+# The forms of a number, each with what makes the number of its parts. Constants are below 2^64.
+FORMS = [
+    (r"(\d{1,19})", lambda reader, value: Term(value, "literal", value, value)),
+    (r"2 \^ ([1-5]?\d|6[0-3])", lambda reader, power: Term(f"1 << {power}", "literal", f"2^{power}", f"2^{power}")),
+    (r"([A-Z])\.(?:BYTES|form\.size)", lambda reader, pixel: pixel_bytes(reader.thing(pixel, "type"))),
+    (r"length \(byte_list (\w)\.form \(table_of (\S+)\)\)",
+     lambda reader, pixel, plane: reader.thing(plane, f"Plane<{pixel}>", f"PlaneRef<'a, {pixel}>").bytes),
+    (r"length (\S+)", lambda reader, name: reader.thing(name, "[]").length),
+    (r"(\S+)\.width|width_of (\S+)", lambda reader, name: reader.thing(name, "Picture").width),
+    (r"(\S+)\.height|height_of (\S+)", lambda reader, name: reader.thing(name, "Picture").height),
+    (r"((\w+)\.[012])", lambda reader, place, name: reader.thing(name, "()") and valued(place, f"`{place}`")),
+    (r"(\w+)", lambda reader, name: valued(name, f"`{name}`", reader.thing(name, "number").kind)),
+    (r"\((.+) \+ 1\) / 2", lambda reader, whole: half(reader.one(whole))),
+    (r"([^+]+) (\+) ([^+]+)", lambda reader, a, sign, b: of_two(reader.one(a), sign, reader.one(b))),
+    (r"([^*]+) (\*) ([^*]+)", lambda reader, a, sign, b: of_two(reader.one(a), sign, reader.one(b))),
 ]
-NO_BODY = "declared without a body, where no assertion can stand, in a trait that only types of the library have"
-TRAIT_METHODS = {
-    **{("v_frame_raster", "pixel", name): NO_BODY
-       for name in ("from_value", "from_le", "le_byte", "decode_row", "sum_of_absolute_differences", "sum_of_squared_errors",
-                    "halve_rows")},
-    **{("v_frame_raster", "row_sums", name): NO_BODY for name in ("of_eights", "of_sixteens", "of_blocks", "of_sixty_fours")},
-    ("v_frame_plane", "encoding", "write_row"): NO_BODY,
-    ("v_frame_rgb", "colour", "write"): NO_BODY,
-    ("v_frame_rgb", "colour", "read"): NO_BODY,
-}
-
-TOKEN = re.compile(r"(?P<number>0x[0-9A-Fa-f_]+\b|[0-9][0-9_]*\b)|(?P<name>[A-Za-z_]\w*(?:\.\w+)*)"
-                   r"|(?P<sign>[<≤≡≢+*/^×→¬()=]|(?<=\s)-(?=\s))")
-COMPARISONS = ("<", "≤", "≡", "≢")
-
-
-def checks_of(function):
-    """The checks of a function's clauses, in their order. Raises `Unknown` for a clause that cannot be translated."""
-    checks = []
-    for _, text in function.clauses:
-        if reason_to_skip(function, text) is not None:
-            continue
-        try:
-            facts = Reader(function).facts(Parser(text).whole())
-            checks += [Check(fact.test, inlined(fact.fails), f"where {fact.fails.words}") for fact in facts]
-        except Unknown as fault:
-            raise Unknown(f"{'::'.join(place_of(function))}: `{text}`: {fault}") from None
-    return checks
-
-
-def place_of(function):
-    return function.crate, function.module, function.name
-
-
-def reason_to_skip(function, text):
-    """Why a clause is not asserted on purpose, or `None` where it is."""
-    place = place_of(function)
-    if function.is_trait_method:
-        if place not in TRAIT_METHODS:
-            raise Unknown(f"{'::'.join(place)}: a clause of a trait's method that is not listed")
-        return TRAIT_METHODS[place]
-    for form, places, reason in NOT_ASSERTED:
-        if re.fullmatch(form, text.strip()) and (places is None or place in places):
-            return reason
-    return None
-
-
-class Parser:
-    """Reads a clause into a tree: tuples of a form and its parts."""
-
-    def __init__(self, text):
-        self.tokens, at = [], 0
-        for found in TOKEN.finditer(text):
-            if text[at:found.start()].strip():
-                break
-            self.tokens.append((found.lastgroup, found[0]))
-            at = found.end()
-        if text[at:].strip():
-            raise Unknown(f"`{text[at:].split()[0]}` is not known")
-        self.tokens.append(("end", ""))
-        self.at = 0
-
-    def next_is(self, *texts):
-        return self.tokens[self.at][1] in texts and self.tokens[self.at][0] != "end"
-
-    def take(self, *texts):
-        kind, text = self.tokens[self.at]
-        if texts and text not in texts:
-            raise Unknown(f"`{text}` in the place of `{' '.join(texts)}`")
-        self.at += 1
-        return kind, text
-
-    def whole(self):
-        tree = self.fact()
-        if self.tokens[self.at][0] != "end":
-            raise Unknown(f"`{self.tokens[self.at][1]}` is not expected")
-        return tree
-
-    def fact(self):
-        if self.next_is("let"):
-            self.take("let")
-            kind, name = self.take()
-            if kind != "name" or "." in name:
-                raise Unknown(f"`let {name}`")
-            self.take("=")
-            value = self.sum()
-            self.take("in")
-            return "let", name, value, self.fact()
-        left = self.conjunction()
-        if self.next_is("→"):
-            self.take()
-            return "→", left, self.fact()
-        return left
-
-    def conjunction(self):
-        parts = [self.negation()]
-        while self.next_is("×"):
-            self.take()
-            parts.append(self.negation())
-        return ("×", *parts) if len(parts) > 1 else parts[0]
-
-    def negation(self):
-        if self.next_is("¬"):
-            self.take()
-            return "¬", self.negation()
-        left = self.sum()
-        return (self.take()[1], left, self.sum()) if self.next_is(*COMPARISONS) else left
-
-    def sum(self):
-        return self.chain(self.product, "+", "-")
-
-    def product(self):
-        return self.chain(self.power, "*", "/")
-
-    def chain(self, part, *signs):
-        left = part()
-        while self.next_is(*signs):
-            left = (self.take()[1], left, part())
-        return left
-
-    def power(self):
-        base = self.application()
-        if self.next_is("^"):
-            self.take()
-            return "^", base, self.power()
-        return base
-
-    def application(self):
-        parts = [self.atom()]
-        while self.tokens[self.at][0] in ("name", "number") and not self.next_is("in") or self.next_is("("):
-            parts.append(self.atom())
-        if len(parts) == 1:
-            return parts[0]
-        if parts[0][0] != "name":
-            raise Unknown("what is applied has no name")
-        return "apply", parts[0][1], parts[1:]
-
-    def atom(self):
-        kind, text = self.take()
-        if kind == "number":
-            return "number", int(text.replace("_", ""), 0)
-        if text == "(":
-            tree = self.fact()
-            self.take(")")
-            return tree
-        if kind != "name" or text in ("let", "in"):
-            raise Unknown(f"`{text}` is not expected" if text else "the clause ends early")
-        return "name", text
 
 
 class Reader:
-    """Makes Rust of a tree, over the parameters of a function and names that are bound to numbers or to what has them."""
+    """Reads a clause of a function, whose parameters have types as texts; those of its types are of the type `type`."""
 
-    def __init__(self, function, bound=None):
-        self.function = function
-        self.bound = bound or {}
+    def __init__(self, source, item, clause):
+        self.refuse = lambda: source.refuse(item.keyword, f"a clause that is not known: `{clause}`")
+        lists = [it.generics for it in (item.owner, item) if it and it.generics]
+        self.types = {source[at]: "type" for start, end in lists for at in range(start, end)}
+        for start, at, end in parameters_of(source, item):
+            behind = source.words(at + 2, end)
+            self.types[source[at]] = behind if end > at + 1 else f"{source.words(start, at)} {item.owner.subject}"
 
-    def with_bound(self, name, tree):
-        return Reader(self.function, {**self.bound, name: self.value(tree)})
+    def known(self, found):
+        """Returns what was found, and refuses the clause where that is nothing."""
+        return found or self.refuse()
 
-    def facts(self, tree):
-        """The facts that a tree joins, each by itself."""
-        if tree[0] == "×":
-            return [fact for part in tree[1:] for fact in self.facts(part)]
-        if tree[0] == "let":
-            return self.with_bound(tree[1], tree[2]).facts(tree[3])
-        return [self.fact(tree)]
+    def check(self, text):
+        """Returns the test of a clause."""
+        applied, comparison = APPLIED.fullmatch(text), COMPARISON.fullmatch(text)
+        if applied and applied[1] in PREDICATES:
+            return self.of_predicate(PREDICATES[applied[1]], re.findall(r"[^\s()]+|\([^()]+\)", applied[2]))
+        a, sign, b = self.known(comparison).groups()
+        if sign == "≢" and re.fullmatch(r"[A-Z][a-z]+", b):
+            words = f"{self.thing(a, 'Scale'):words} is `Scale::{b}`"
+            return Check(f"{a} != Scale::{b}", words, words.replace("`", ""))
+        return self.compared(self.number(a), sign, self.number(b))
 
-    def fact(self, tree):
-        """One fact."""
-        form = tree[0]
-        if form in COMPARISONS:
-            return self.comparison(*tree)
-        if form == "let":
-            return self.with_bound(tree[1], tree[2]).fact(tree[3])
-        if form == "×":
-            return joined([self.fact(part) for part in tree[1:]])
-        if form == "¬":
-            return negated(self.fact(tree[1]))
-        if form == "→":
-            return implied(self.fact(tree[1]), self.fact(tree[2]))
-        if form == "apply" and tree[1] in PREDICATES:
-            return self.called(PREDICATES[tree[1]], tree)
-        raise Unknown(f"`{tree[1]}` is no fact that is known")
+    def of_predicate(self, row, arguments):
+        """Returns the test that a row of the table makes of these arguments."""
+        names, terms = row[0].split(" ")[1:], {}
+        self.known(len(names) == len(arguments))
+        for name, text in zip(names, arguments):
+            name, _, kind = name.partition(":")
+            kind, text = kind.format(**terms) or "usize", text.strip("()")
+            if kind == "bytes":  # The type of pixels that has so many.
+                terms[name] = self.thing(self.known(re.fullmatch(r"([A-Z])\.BYTES", text))[1], "type")
+            elif kind in NUMBERS:
+                terms[name] = self.number(text)
+                self.known(terms[name].kind in (kind, "literal"))
+            else:
+                terms[name] = self.thing(text, kind)
+        return Check(*(text.format(**terms) for text in row[1:]))
 
-    def called(self, made, tree):
-        """What an entry of a table makes of its arguments, of which there are as many as it takes."""
-        if made.__code__.co_argcount != len(tree[2]) + 1:
-            raise Unknown(f"`{tree[1]}` of {len(tree[2])} arguments")
-        return made(self, *tree[2])
+    def compared(self, a, sign, b):
+        """Returns the test of two numbers: those of one type as they are, and others in `u128`."""
+        rust, fails = SIGNS[sign]
+        if sign == "<" and a.rust == "0":
+            return Check(f"{b} > 0", f"{b:words} is 0", f"{b:words} is 0".replace("`", ""))
+        self.known(a.kind != "literal" and (sign != "<" or "u128" not in (a.kind, b.kind)))
+        test = f"{a} {rust} {b}" if b.kind in (a.kind, "literal") else f"{a.wide()} {rust} {b.wide()}"
+        if sign == "≡" and a.noun and a.noun == b.noun:
+            names = [text.replace(f"the {a.noun} of ", "", 1) for text in (a.words, b.words, a.shown, b.shown)]
+            form = f"the {a.noun}s of {{}} and {{}} are not equal"
+            return Check(test, form.format(*names[:2]), form.format(*names[2:]))
+        return Check(test, f"{a:words} {fails} {b:words}", f"{a:shown} {fails} {b:shown}")
 
-    def comparison(self, sign, left, right):
-        """The fact of two numbers, or of a parameter and a variant of its type."""
-        if sign in "≡≢" and right[0] == "name" and right[1] in VARIANTS:
-            return of_variant(sign, self.thing(left, VARIANTS[right[1]]), right[1])
-        a, b = self.number(left), self.number(right)
-        if a.type == b.type == "literal":
-            raise Unknown("two constants are compared")
-        if a.type == "literal":
-            return compared({"<": ">", "≤": "≥"}.get(sign, sign), b, a)
-        return compared(sign, a, b)
+    def number(self, text):
+        """Returns a number."""
+        for form, make in FORMS:
+            found = re.fullmatch(form, text)
+            if found:
+                return make(self, *filter(None, found.groups()))
+        return self.refuse()
 
-    def value(self, tree):
-        """A number, or what has numbers."""
-        try:
-            return self.number(tree)
-        except Unknown:
-            return self.thing(tree)
+    def one(self, text):
+        """Returns a number that is no sum and no product."""
+        number = self.number(text)
+        return self.known(number.kind != "u128" and number)
 
-    def number(self, tree):
-        form = tree[0]
-        if form == "number":
-            return literal(tree[1], str(tree[1]))
-        if form == "name":
-            found = self.named(tree[1])
-            if isinstance(found, Number):
-                return found
-        if form in ("+", "-", "*", "/"):
-            return counted(form, self.number(tree[1]), self.number(tree[2]))
-        if form == "^" and tree[1][0] == tree[2][0] == "number":
-            return literal(tree[1][1] ** tree[2][1], f"{tree[1][1]}^{tree[2][1]}")
-        if form == "apply" and tree[1] in SIZES:
-            return self.called(SIZES[tree[1]], tree)
-        raise Unknown(f"`{tree[1] if form in ('apply', 'name') else form}` is no number that is known")
-
-    def thing(self, tree, *kinds):
-        """What has numbers, of one of these kinds."""
-        found = None
-        if tree[0] == "name":
-            found = self.named(tree[1])
-        elif tree[0] == "apply" and tree[1] == "table_of" and len(tree[2]) == 1:
-            found = self.thing(tree[2][0], "Plane", "PlaneRef")
-        elif tree[0] == "apply" and tree[1] == "tables_of" and len(tree[2]) == 1:
-            found = self.thing(tree[2][0], "Frame")
-        if not isinstance(found, Thing) or kinds and found.kind not in kinds:
-            raise Unknown(f"`{tree[1]}` is not of {' or '.join(kinds) or 'a kind that is known'}")
-        return found
-
-    def argument(self, tree, kind="usize"):
-        """A number that a Rust function takes."""
-        found = self.number(tree)
-        if found.type != kind and not (found.type == "literal" and found.most <= LARGEST[kind]):
-            raise Unknown(f"`{found.rust}` is no {kind}")
-        return found
-
-    def named(self, path):
-        """What a path is: a bound name, a parameter or what it points to, or a part of that."""
-        root, *parts = path.split(".")
-        if root in self.bound:
-            found = self.bound[root]
-        elif root == "self" or root in dict(self.function.parameters):
-            found, parts = self.parameter(root, parts)
-        else:
-            return self.constant(path)
-        for part in parts:
-            fields = FIELDS.get(found.kind, {}) if isinstance(found, Thing) else {}
-            if part not in fields:
-                raise Unknown(f"`{path}` is not known")
-            found = fields[part](found)
-        return found
-
-    def parameter(self, name, parts):
-        """A parameter or what it points to, and what is left of its path."""
-        text = dict(self.function.parameters).get(name)
-        if name == "self":
-            kind = re.fullmatch(r"(&\s*(?:'\w+\s+)?(?:mut\s+)?)?(?:mut\s+)?self", self.function.self_kind or "")
-            if not kind:
-                raise Unknown(f"`self` is `{self.function.self_kind}`")
-            text = f"{kind[1] or ''}{self.function.self_type}"
-        reference, unique, kind = re.fullmatch(r"(&\s*(?:'\w+\s+)?(mut\s+)?)?(.*)", text.strip(), re.S).groups()
-        if reference:
-            if parts[:1] != ["old" if unique else "now"]:
-                raise Unknown(f"`{name}` is a reference, and it is not said when")
-            parts = parts[1:]
-        if kind in LARGEST and not reference:
-            return atom(name, kind, f"`{name}`"), parts
-        return Thing(name, kind_of(kind), f"`{name}`", kind, None), parts
-
-    def constant(self, path):
-        """A constant of a type parameter, or of the trait that the function is of."""
-        owner, _, name = path.rpartition(".")
-        if not owner and name in CONSTANTS and self.function.self_type:
-            return atom(f"Self::{name}", "usize", f"`Self::{name}`")
-        if owner.endswith(".form") and name == "size":
-            owner, name = owner.removesuffix(".form"), "BYTES"  # as `Pixel` promises
-        types = f"{self.function.generics} {self.function.self_type}"
-        if name in CONSTANTS and re.fullmatch(r"[A-Z]\w*", owner) and re.search(rf"\b{owner}\b", types):
-            return atom(f"{owner}::{name}", "usize", f"`{owner}::{name}`")
-        raise Unknown(f"`{path}` is not known")
+    def thing(self, text, *kinds):
+        """Returns a parameter, or what it points to, of one of these types. What is said of its table is said of it."""
+        path = self.known(re.fullmatch(r"(?:tables?_of |exchanges )?(\w+)(?:\.(now|old))?(\.geometry)?", text))
+        reference, unique, whole = re.fullmatch(r" ?(& ?(?:'\w+ )?(mut )?)?(.*)", self.types.get(path[1], "")).groups()
+        kind = re.match(r"\w*", whole)[0]
+        if re.fullmatch(r"\[[^;]*\]", whole) or whole.startswith("(usize, "):
+            kind = whole[0] + whole[-1]
+        self.known(kind and path[2] == ((reference or None) and ("old" if unique else "now")))
+        self.known(bool(path[3]) == ("Picture" in kinds and kind in KINDS["View"]))
+        self.known({whole, kind} & set().union(*(KINDS.get(it, {it}) for it in kinds)))
+        return Term(path[1], kind, f"`{path[1]}`")
 
 
-def kind_of(text):
-    """The name of a type without its arguments: that of a slice is `[]`, and that of a tuple of sizes `()`."""
-    if re.fullmatch(r"\[[^;]*\]", text):
-        return "[]"
-    return "()" if re.fullmatch(r"\((usize,\s*)+(usize)?\)", text) else re.match(r"\w*", text)[0]
+def checks_of(source, item):
+    """Returns the tests of a function's clauses, in their order. A closure of Rust can always be called."""
+    clauses = [clause.text for clause in source.clauses_of(item, "requires")]
+    clauses = [text for text in clauses if not re.fullmatch(r"[A-Z]\w*\.IsAlwaysCallable \w+", text)]
+    return [Reader(source, item, text).check(text) for text in clauses]
+
+
+def message_of(check):
+    """Returns what `assert!` takes after its test: a message in which names stand, and then all other values."""
+    parts, behind = re.split(r"\[([^][]*?)(:\?)?\]", check.message), []
+    message = parts[0]
+    for value, form, text in zip(parts[1::3], parts[2::3], parts[3::3]):
+        is_name = value != "self" and re.fullmatch(r"[a-z_]\w*", value)
+        behind += [] if is_name else [value]
+        message += "{" + (value if is_name else "") + (form or "") + "}" + text
+    return ", ".join([f'"{message}"', *behind])
+
+
+def add_assertions(source, reach):
+    """Adds the tests to each function that users can call. Laws are not for them; without a body there is no place."""
+    for item in reversed(functions_of(source)):
+        if not source.clauses_of(item, "requires") or not reach.is_public(source, item) or "laws" in source.module:
+            continue
+        if item.body is None and item.name not in tables.WITHOUT_TESTS.get(item.owner.name, ()):
+            source.refuse(item.keyword, "a clause of a function without a body that is not in the table")
+        checks = checks_of(source, item) if item.body else []
+        if checks:
+            add_tests(source, item, checks)
+
+
+def add_facts(source):
+    """Adds tests that hold by proof to private functions. From them the compiler knows how long slices are beside each
+    other, and leaves out its own tests at each place: without them a mirrored row takes three times as long."""
+    for item in reversed(functions_of(source)):
+        if (source.crate, item.name) in tables.FACTS:
+            checks = checks_of(source, item)
+            if not checks or item.is_public():
+                source.refuse(item.keyword, "a function of the table of facts that is public, or requires nothing")
+            text = "\n    ".join(f"assert!({check.test});" for check in checks)
+            source.insert(item.body[0] + 1, "known-fact", text, "\n    ")
+
+
+def add_tests(source, item, checks):
+    """Writes the tests at the beginning of the body, when the function stops in its text, and the one without tests."""
+    lead = "\n" + source.tokens[item.head].lead.rpartition("\n")[2]
+    inner, start, tests = lead + "    ", item.body[0] + 1, []
+    if (source.crate, item.name) in tables.HOT:
+        source.insert(start, "hot-call", hot_text(source, item, lead), inner)
+    for check in checks:
+        message = message_of(check)
+        line = f"assert!({check.test}, {message});"
+        fits = len(inner + line) <= 101
+        tests.append(line if fits else f"assert!({inner}    {check.test},{inner}    {message}{inner});")
+    source.insert(start, "assertion", inner.join(tests), inner)
+    source.insert(item.head, "track-caller", "#[track_caller]", lead)
+    words = [f"where {check.words}" for check in checks]
+    lines = ["/// Panics", "///", *(f"/// - {word}," for word in words[:-1]), f"/// - {words[-1]}."]
+    text = lead.join(["///", "/// # Panics", "///", *(lines if words[1:] else [f"/// Panics {words[0]}."])])
+    source.insert(item.docs[-1] + 1 if item.docs else item.start, "panics-text", text, lead)
+
+
+def hot_text(source, item, lead):
+    """Returns what parts the function: the call, and the head of a second function, whose the rest of the body is."""
+    names = [source[at] for _, at, _ in parameters_of(source, item)]
+    head = source.words(item.keyword, item.body[0]).replace(f"fn {item.name}", f"fn {item.name}{PROVED}", 1)
+    text = "/// The same without a test, for calls that are known to meet it."
+    arguments = ", ".join(name for name in names if name != "self")
+    call = f"{'self.' * ('self' in names)}{item.name}{PROVED}({arguments})"
+    return f"{call}{lead}}}\n{lead}{text}{lead}#[inline]{lead}pub(crate) {head} {{"
+
+
+def rename_hot_calls(source):
+    """Lets the library's own calls go to the functions without tests."""
+    names = {name for _, name in tables.HOT}
+    if source.crate not in {crate for crate, _ in tables.HOT}:
+        names -= {item.name for item in functions_of(source)}
+    for at in source.places(*names):
+        named = source[at] in tables.HOT_FUNCTIONS and source[at - 1] != "fn" and source[at + 1] in ("(", ",", "}", ";")
+        if named or source[at + 1] == "(" and source[at - 1] == ".":
+            source.replace(at, at + 1, "hot-name", source[at] + PROVED)

@@ -8,7 +8,7 @@ import textwrap
 
 from . import paths, tables
 
-WIDTH = 110
+WRAP = {"width": 110, "break_long_words": False, "break_on_hyphens": False}
 PROOF_WORDS = re.compile("|".join(tables.PROOF_WORDS))
 SENTENCE_END = re.compile(r"(?<=[.:!?])\s+(?=[A-Z`\[(])")
 LINK = re.compile(r"\]\(([A-Za-z_][A-Za-z0-9_:]*)(\(\))?\)")
@@ -17,7 +17,7 @@ CRATE = re.compile(r"`(v_frame_[a-z0-9_]+)`")
 
 
 def without_proofs(text):
-    """Returns a text without its sentences for those who write proofs, and these. After a semicolon a part may go alone."""
+    """Returns a text without its sentences for those who write proofs, and these. Behind `;` a part may go alone."""
     kept, left_out = [], []
     for sentence in SENTENCE_END.split(text):
         front, _, back = sentence.partition("; ")
@@ -31,28 +31,20 @@ def without_proofs(text):
     return " ".join(kept), left_out
 
 
-def filled(text, first="", rest=""):
-    words = {"break_long_words": False, "break_on_hyphens": False}
-    return textwrap.wrap(text, WIDTH, initial_indent=first, subsequent_indent=rest, **words)
-
-
-def stays(line):
-    """Returns whether a line of a text is a paragraph of its own: it is blank, or it is no prose."""
-    return not line.strip() or line.lstrip().startswith(("#", "|", "```"))
-
-
 def shortened(lines):
     """Returns the lines of a text without sentences for those who write proofs, and these sentences."""
     new, left_out, fenced, at = [], [], False, 0
     while at < len(lines):
         end = at + 1
         fenced = fenced != lines[at].strip().startswith("```")
-        while end < len(lines) and not (fenced or stays(lines[at]) or stays(lines[end]) or lines[end].startswith("- ")):
+        stays = fenced or re.match(r"\s*($|#|\||```)", lines[at])  # It is blank, or no prose.
+        while not stays and end < len(lines) and not re.match(r"\s*($|#|\||```)|- ", lines[end]):
             end += 1
         item = "- " if lines[at].startswith("- ") else ""
-        words = "" if fenced or stays(lines[at]) else " ".join(line.strip() for line in lines[at:end])
+        words = "" if stays else " ".join(line.strip() for line in lines[at:end])
         text, sentences = without_proofs(words.removeprefix(item))
-        new += filled(text, item, "  " if item else "") if sentences else lines[at:end]
+        filled = textwrap.wrap(text, initial_indent=item, subsequent_indent=" " * len(item), **WRAP)
+        new += filled if sentences else lines[at:end]
         left_out += sentences
         at = end
     kept = [line for k, line in enumerate(new) if line.strip() or k and new[k - 1].strip()]
@@ -66,30 +58,24 @@ class Links:
         self.source, self.reach, self.imports = source, reach, source.left_imports
 
     def path(self, path):
-        """Returns a path as Rust has it."""
-        parts = path.split("::")
-        crate = self.source.crate if parts[0] == "crate" else parts[0]
-        if (crate, ()) in self.reach.sources:
-            return self.public(crate, parts[1:])
-        return self.path("::".join([self.imports[parts[0]], *parts[1:]])) if parts[0] in self.imports else path
-
-    def public(self, crate, parts):
-        """Returns the shortest public path to an item of a crate."""
-        if paths.home_of(crate) == paths.home_of(self.source.crate):
-            for length in range(len(parts), -1, -1):
-                name = self.reach.modules.get((crate, tuple(parts[:length])))
-                if name is None and length:
-                    name = self.reach.places.get((crate, tuple(parts[:length - 1]), parts[length - 1]))
-                if name is not None:
-                    return "::".join([name, *parts[length:]])
-        return "::".join([paths.module_of(self.source, crate), *parts])
+        """Returns a path as Rust has it: the shortest public one of an item of the same crate."""
+        root, *parts = path.split("::")
+        crate = self.source.crate if root == "crate" else root
+        if (crate, ()) not in self.reach.sources:
+            return self.path("::".join([self.imports[root], *parts])) if root in self.imports else path
+        for length in range(len(parts), -1, -1) if paths.home_of(crate) == paths.home_of(self.source.crate) else ():
+            name = self.reach.names.get((crate, tuple(parts[:length])))
+            if name is not None:
+                return "::".join([name, *parts[length:]])
+        return "::".join([paths.module_of(self.source, crate) or crate, *parts])
 
     def line(self, line):
         """Returns a line with its paths as Rust has them, and with the words of the table."""
         line = LINK.sub(lambda found: f"]({self.path(found[1])}{found[2] or ''})", line)
         for name, path in self.imports.items():
             line = re.sub(rf"\[`{name}`\](?!\()", f"[`{name}`]({self.path(path)})", line)
-        line = CRATE.sub(self.crate_name, BARE.sub(self.bare, line))
+        line = BARE.sub(self.bare, line)
+        line = CRATE.sub(lambda found: f"`{tables.PUBLIC_NAMES.get(found[1], found[1]).rpartition('::')[2]}`", line)
         for old, new in tables.DOC_WORDS.items():
             line = line.replace(old, new)
         return line
@@ -100,10 +86,6 @@ class Links:
         shown = path.removeprefix("crate::")
         return f"[`{shown}`]({path})" if path != shown else f"[`{path}`]"
 
-    def crate_name(self, found):
-        name = tables.PUBLIC_NAMES.get(found[1])
-        return f"`{name.rpartition('::')[2]}`" if name else found[0]
-
 
 def rewrite(source, links):
     """Rewrites each text of a source, and adds what the table says more of a module."""
@@ -112,8 +94,9 @@ def rewrite(source, links):
         end = at
         while source.kind(end) == "doc" and source[end][:3] == source[at][:3]:
             end += 1
-        if at == 0 and (source.crate, source.module) in tables.DOC_ADDED:
-            lines = filled(tables.DOC_ADDED[source.crate, source.module], "//! ", "//! ")
+        added = tables.DOC_ADDED.get((source.crate, *source.module)) if at == 0 else None
+        if added:
+            lines = textwrap.wrap(added, initial_indent="//! ", subsequent_indent="//! ", **WRAP)
             source.insert(end, "doc-added", "\n".join(["//!", *lines]), "\n")
         at = rewrite_text(source, at, end, links) if end > at else at + 1
 
@@ -130,25 +113,19 @@ def rewrite_text(source, start, end, links):
         front += 1
     while back < min(len(old), len(new)) - front and old[-1 - back] == new[-1 - back]:
         back += 1
-    first, last = start + front, end - back
-    rule, lead = "doc-filled" if left_out else "doc-path", source.tokens[first].lead
     lines = [f"{mark} {line}".rstrip() for line in new[front:len(new) - back]]
-    if lines:
-        source.replace(first, last, rule, ("\n" + lead.rpartition("\n")[2]).join(lines), lead)
-    elif first < last:
-        source.erase(first, last, rule, lead if first == start else None)
+    lead = source.tokens[start + front].lead
+    text = ("\n" + lead.rpartition("\n")[2]).join(lines)
+    if lines or front < len(old) - back:
+        source.replace(start + front, end - back, "doc-filled" if left_out else "doc-path", text)
     return start + len(new)
 
 
 def rewrite_comments(source):
-    """Leaves out sentences of comments that speak to those who write proofs."""
+    """Leaves out comments that speak to those who write proofs."""
     for at, token in enumerate(source.tokens):
-        if "//" in token.lead and PROOF_WORDS.search(token.lead):
-            parts = re.split(r"((?:[ \t]*//[^\n]*\n)+)", token.lead)
-            for k in range(1, len(parts), 2):
-                text, left_out = without_proofs(" ".join(line.strip(" /") for line in parts[k].splitlines()))
-                for sentence in left_out:
-                    source.note("comment-proofs", at, sentence)
-                indent = re.match(r"[ \t]*", parts[k])[0] + "// "
-                parts[k] = "".join(line + "\n" for line in filled(text, indent, indent)) if left_out else parts[k]
-            token.lead = "".join(parts)
+        for comment in re.findall(r"(?:[ \t]*//[^\n]*\n)+", token.lead):
+            text = " ".join(line.strip(" /") for line in comment.splitlines())
+            if PROOF_WORDS.search(text):
+                source.note("comment-proofs", at, text)
+                token.lead = token.lead.replace(comment, "", 1)

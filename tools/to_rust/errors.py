@@ -1,5 +1,6 @@
 """Errors: what `thiserror` derives is written out, so that the Rust crates depend on nothing."""
 
+from . import forms
 from .items import Item, items_of, skip_attributes
 
 
@@ -7,30 +8,24 @@ class Variant:
     """A variant of an error: its name, the names of its fields, its message, and the field that is its cause."""
 
     def __init__(self, source, at, kind):
-        noted = Item(at, None)
+        noted = Item(at)
         at = skip_attributes(source, at, noted)
         self.name, self.form, self.fields = f"{kind}::{source[at]}", source[at + 1], []
-        self.cause = self.made_from = self.message = None
-        for start, end in noted.attributes:
-            if source[start + 2] != "error":
-                source.refuse(start, f"an attribute of a variant that is not known: {source[start + 2]}")
-            self.message = source.words(start + 4, end - 2)
-        if self.message is None:
-            source.refuse(at, "a variant of an error without a message")
-        if self.form in ("(", "{"):
-            for start, end in source.elements(at + 1, types=True):
-                self.read_field(source, start, end)
-
-    def read_field(self, source, at, end):
-        noted = Item(at, None)
-        at = skip_attributes(source, at, noted)
-        name = source[at] if self.form == "{" else "value" if not self.fields else f"value_{len(self.fields)}"
-        for start, _ in noted.attributes:
-            if source[start + 2] not in ("source", "from") or source[start + 2] == "from" and self.form != "(":
-                source.refuse(start, f"an attribute of a field that is not known: {source[start + 2]}")
-            self.cause = name
-            self.made_from = source.words(at, end) if source[start + 2] == "from" else None
-        self.fields.append(name)
+        self.cause = self.made_from = None
+        if [source[start + 2] for start, _ in noted.attributes] != ["error"]:
+            source.refuse(at, "a variant of an error that has not a message alone")
+        (start, end), = noted.attributes
+        self.message = source.words(start + 4, end - 2)
+        for start, end in source.elements(at + 1, types=True) if self.form in ("(", "{") else ():
+            noted = Item(start)
+            start = skip_attributes(source, start, noted)
+            number = f"_{len(self.fields)}" if self.fields else ""
+            self.fields.append(source[start] if self.form == "{" else f"value{number}")
+            for place, _ in noted.attributes:
+                word = source[place + 2]
+                if word not in ("source", "from") or word == "from" and self.form != "(":
+                    source.refuse(place, f"an attribute of a field that is not known: {word}")
+                self.cause, self.made_from = self.fields[-1], source.words(start, end) if word == "from" else None
 
     def pattern(self, used):
         """Returns the pattern that names the fields that are used."""
@@ -41,10 +36,11 @@ class Variant:
             return f"{self.name}({', '.join(field if field in used else '_' for field in self.fields)})"
         return self.name
 
-    def display(self):
-        """Returns the arm that shows the error."""
+    def arms(self):
+        """Returns the arm that shows the error, and the one that gives the cause, or nothing."""
         if self.message == "transparent":
-            return f"{self.pattern(self.fields)} => core::fmt::Display::fmt(value, f),"
+            front = f"{self.pattern(self.fields)} => core::"
+            return f"{front}fmt::Display::fmt(value, f),", f"{front}error::Error::source(value),"
         message, used = self.message, set()
         for number, field in enumerate(self.fields):
             shown = "{" + (field if self.form == "{" else str(number)) + "}"
@@ -52,18 +48,7 @@ class Variant:
                 used.add(field)
                 message = message.replace(shown, "{" + field + "}")
         call = f"write!(f, {message})" if used else f"f.write_str({message})"
-        return f"{self.pattern(used)} => {call},"
-
-    def source(self):
-        """Returns the arm that gives the cause, where there is one."""
-        if self.message == "transparent":
-            return f"{self.pattern(self.fields)} => core::error::Error::source(value),"
-        return f"{self.pattern([self.cause])} => Some({self.cause})," if self.cause else None
-
-    def conversion(self, name):
-        """Returns how the error is made from its cause."""
-        text = f"fn from(value: {self.made_from}) -> Self {{\n        {self.name}(value)\n    }}"
-        return f"impl From<{self.made_from}> for {name} {{\n    {text}\n}}\n\n"
+        return f"{self.pattern(used)} => {call},", self.cause and f"{self.pattern([self.cause])} => Some({self.cause}),"
 
 
 def write_errors(source):
@@ -76,41 +61,20 @@ def write_errors(source):
                     source.refuse(item.keyword, "an error that is no enum")
                 variants = [Variant(source, at, item.name) for at, _ in source.elements(item.body[0], types=True)]
                 source.insert(item.end, "error-derive", impls_text(item.name, variants), "\n\n")
-                erase_attributes(source, *item.body)
                 source.erase_listed(derived[0], derived[0] + 1, "error-derive")
+    forms.rewrite(source, forms.ERRORS)
 
 
 def impls_text(name, variants):
     """Returns the implementations."""
-    shown = "\n            ".join(variant.display() for variant in variants)
-    causes = [arm for arm in (variant.source() for variant in variants) if arm]
-    text = f"""impl core::fmt::Display for {name} {{
-    fn fmt(&self, f: &mut core::fmt::Formatter<'_>) -> core::fmt::Result {{
-        match self {{
-            {shown}
-        }}
-    }}
-}}
-
-"""
-    text += "".join(variant.conversion(name) for variant in variants if variant.made_from)
-    text += f"impl core::error::Error for {name} "
-    if not causes:
-        return text + "{}"
-    arms = "\n            ".join([*causes, "_ => None,"])
-    return text + f"""{{
-    fn source(&self) -> Option<&(dyn core::error::Error + 'static)> {{
-        match self {{
-            {arms}
-        }}
-    }}
-}}"""
-
-
-def erase_attributes(source, start, end):
-    """Erases the attributes that `thiserror` reads."""
-    for at in reversed(range(start, end)):
-        if source.matches(at, "# [") and source[at + 2] in ("error", "source", "from"):
-            closing = source.closing(at + 1) + 1
-            lead = source.tokens[at].lead if "\n" not in source.tokens[closing].lead else None
-            source.erase(at, closing, "error-derive", lead)
+    shown, causes = zip(*(variant.arms() for variant in variants))
+    functions = {"fmt(&self, f: &mut core::fmt::Formatter<'_>) -> core::fmt::Result": shown}
+    if any(causes):
+        arms = [*filter(None, causes), "_ => None,"]
+        functions["source(&self) -> Option<&(dyn core::error::Error + 'static)>"] = arms
+    bodies = [f"\n    fn {head} {{\n        match self {{\n            {arms}\n        }}\n    }}\n" for head, arms in
+              ((head, "\n            ".join(arms)) for head, arms in functions.items())]
+    made = [f"impl From<{it.made_from}> for {name} {{\n    fn from(value: {it.made_from}) -> Self {{\n"
+            f"        {it.name}(value)\n    }}\n}}\n\n" for it in variants if it.made_from]
+    shown, cause = f"impl core::fmt::Display for {name} {{{bodies[0]}}}", "".join(bodies[1:])
+    return f"{shown}\n\n{''.join(made)}impl core::error::Error for {name} {{{cause}}}"

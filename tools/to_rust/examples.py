@@ -1,19 +1,18 @@
 """Examples of public items. They are written by hand, as Rust, and stand in `rust/v_frame_proved/doc_examples`.
 
-A line `## PATH` names an item of the library by its public path, and the block of code after it is put at the end of its text.
-`missing` tells which public items have none, and stand in none of their module: these can be one example for many.
+A line `## PATH` names an item of the library by its public path, and the block of code after it is put at the end of
+its text. `missing` tells which public items have none, and stand in none of their module: one can be for many.
 """
 
 import re
 
-from . import paths, tables
 from .items import items_of
 from .tokens import Refused
 
 FOLDER = "rust/v_frame_proved/doc_examples"
 BY_HAND = "rust/v_frame_proved/src/by_hand"
 SECTION = re.compile(r"^## (\S+)\n\n```\n(.*?)^```\n", re.M | re.S)
-TEXT_LINE = re.compile(r"^\s*//[/!] ?(.*)", re.M)
+FENCE = re.compile(r"^ *//[/!] ```(?:no_run)?\n(.*?)^ *//[/!] ```\n", re.M | re.S)
 PUBLIC = re.compile(r"^\s*pub (?:const )?(?:fn|struct|enum|trait) (\w+)", re.M)
 HIDDEN = {"Pixel", "PixelCalls", "laws"}
 
@@ -25,87 +24,66 @@ class Examples:
         self.root, self.code, self.place_of, self.modules, self.used, self.missing = root, {}, {}, set(), set(), []
         for path in sorted((root / FOLDER).glob("*.md")):
             text = path.read_text(encoding="utf-8")
-            for name, code in SECTION.findall(text):
+            sections = SECTION.findall(text)
+            for name, code in sections:
                 if name in self.code:
                     raise Refused(str(path), f"two examples of {name}")
                 self.code[name], self.place_of[name] = code, str(path)
-            if text.count("\n## ") + text.startswith("## ") != len(SECTION.findall(text)):
+            if text.count("\n## ") + text.startswith("## ") != len(sections):
                 raise Refused(str(path), "a heading without a block of code")
 
     def add(self, source, reach):
         """Puts the examples of a source's items at the ends of their texts, and notes items that stand in none."""
-        if paths.home_of(source.crate) != tables.LIBRARY:
-            return
-        self.modules = {name.partition("::")[2] for name in reach.modules.values()}
+        self.modules = {name.partition("::")[2] for name in reach.modules}
         for item in reversed(items_of(source)):
             path = path_of(source, reach, item)
-            if path is None or HIDDEN & set(path.split("::")):
-                continue
-            if not self.shows(path):
-                self.missing.append(f"{source.tokens[item.head].place}: no example shows {path}")
-            self.put(source, path, item.head, "///", item.docs)
-        module = reach.modules.get((source.crate, source.module), "crate").partition("::")[2]
-        end = next(at for at in range(len(source)) if not source[at].startswith("//!"))
-        self.put(source, module, end, "//!", range(end))
+            if path and not HIDDEN & set(path.split("::")):
+                if not self.shows(path):
+                    self.missing.append(f"{source.tokens[item.head].place}: no example shows {path}")
+                self.put(source, path, "///", item.docs)
+        module = reach.names.get((source.crate, source.module), "crate").partition("::")[2]
+        self.put(source, module, "//!", [at for at in range(len(source)) if source[at].startswith("//!")])
 
     def shows(self, path):
-        """Returns whether an item has an example, or its name stands in one of its module: that of a method beside its type's."""
-        around, _, name = path.rpartition("::")
-        names = [name, around.rpartition("::")[2]] if self.module_of(path) != around else [name]
-        near = [f"{place}\n{code}" for place, code in self.code.items() if self.module_of(place) == self.module_of(path)]
+        """Returns whether an item has an example, or its name stands in one of its module, beside its type's name."""
+        module, (around, name) = self.module_of(path), path.split("::")[-2:] if "::" in path else ("", path)
+        names = [name, around] if module != path.rpartition("::")[0] else [name]
+        near = [f"{place}\n{code}" for place, code in self.code.items() if self.module_of(place) == module]
         return path in self.code or any(all(re.search(rf"\b{name}\b", text) for name in names) for text in near)
 
     def module_of(self, path):
         """Returns the module that an item is in, and of a module itself. A type has a name with a capital in front."""
         parts = path.split("::")
-        front = [k for k, part in enumerate(parts) if part[0].isupper()][:1] or [len(parts) - (path not in self.modules)]
-        return "::".join(parts[:front[0]])
+        length = len(parts) - (path not in self.modules)
+        return "::".join(parts[:next((k for k, part in enumerate(parts) if part[0].isupper()), length)])
 
-    def put(self, source, path, at, mark, docs):
+    def put(self, source, path, mark, docs):
         """Puts an example behind a text."""
-        if path not in self.code or not len(docs):
-            return
-        self.used.add(path)
-        lines = ["", "# Examples", "", "```", *self.code[path].splitlines(), "```"]
-        lead = source.tokens[docs[-1]].lead
-        end = docs[-1] + 1
-        indent = "\n" + lead.rpartition("\n")[2]
-        source.insert(end, "doc-example", indent.join(f"{mark} {line}".rstrip() for line in lines), indent)
+        if path in self.code and docs:
+            self.used.add(path)
+            lines = ["", "# Examples", "", "```", *self.code[path].splitlines(), "```"]
+            lead = "\n" + source.tokens[docs[-1]].lead.rpartition("\n")[2]
+            text = lead.join(f"{mark} {line}".rstrip() for line in lines)
+            source.insert(docs[-1] + 1, "doc-example", text, lead)
 
     def finish(self):
         """Refuses examples of what is no public item, and notes what is written by hand and stands in no example."""
         for path in sorted(set(self.code) - self.used):
             raise Refused(self.place_of[path], f"an example of {path}, which is no public item with a text")
         files = {path: path.read_text(encoding="utf-8") for path in sorted((self.root / BY_HAND).rglob("*.rs"))}
-        texts = [line for text in files.values() for line in TEXT_LINE.findall("\n".join(fences_of(text)))]
-        shown = "\n".join([*self.code.values(), *texts])
+        shown = "\n".join([*self.code.values(), *(code for text in files.values() for code in FENCE.findall(text))])
         for path, text in files.items():
             names = [name for name in PUBLIC.findall(text) if not re.search(rf"\b{name}\b", shown)]
             self.missing += [f"{path.relative_to(self.root)}: no example shows {name}" for name in names]
 
 
-def fences_of(text):
-    """Returns the blocks of code in the documentation of a file."""
-    lines, inside = [], False
-    for line in text.splitlines():
-        content = TEXT_LINE.match(line)
-        if content and content[1].startswith("```"):
-            inside = not inside and content[1] in ("```", "```no_run")
-        elif content and inside:
-            lines.append(line)
-    return lines
-
-
 def path_of(source, reach, item):
-    """Returns the public path of a function or a type without the crate in front. None: it has none."""
-    if item.kind not in ("fn", "struct", "enum", "trait"):
-        return None
-    if item.owner is None:
-        place = reach.places.get((source.crate, source.module, item.name)) if item.is_public() else None
-    elif item.kind == "fn" and reach.is_public(source, item):
-        owner = (item.owner.name or item.owner.subject).split("<")[0]
-        place = next((path for (crate, _, name), path in reach.places.items() if (crate, name) == (source.crate, owner)), None)
+    """Returns the public path of a function or a type without the crate in front, or nothing."""
+    place = None
+    if item.kind in ("fn", "struct", "enum", "trait") and item.owner is None and item.is_public():
+        place = reach.names.get((source.crate, (*source.module, item.name)))
+    elif item.kind == "fn" and item.owner is not None and reach.is_public(source, item):
+        owner = (source.crate, (item.owner.name or item.owner.subject).split("<")[0])
+        place = next((name for (crate, path), name in reach.names.items() if (crate, *path[-1:]) == owner), None)
         place = place and f"{place}::{item.name}"
-    else:
-        return None
     return place and place.removeprefix("crate::")

@@ -1,80 +1,121 @@
-"""Forms that Rattle and Rust write differently: formatters, `prove!`, slices behind a type, handles."""
+"""Forms of a few tokens: tables of what stands in a source, and what stands for it in Rust.
 
-from .items import functions_of, items_of
+A row has a rule, a pattern, and texts. In a pattern `_` is any word, `@` an allocator, and `..` all up to what is next
+in the pattern, outside of brackets. The texts take the place of the parts between `«` and `»`, or of all where none
+is marked; without texts the parts are left out, and where a part is empty a word is put. None refuses the pattern.
+"""
+
+from .source import CLOSING
+
+# An allocator has no content in Rattle. So it is left out wherever it is passed.
+ALLOCATORS = ("alloc", "_alloc", "rt . alloc ( )", "self . alloc", "system . rt . alloc ( )")
+
+# Ghosts: imports of words for clauses, and members and fields, which take no memory and have no value.
+GHOSTS = [
+    ("ghost-use", "ghost use .. ;"),
+    *[("ghost-member", f"{front} ghost _ {kind} {value} {proof} {end}") for front in ("pub ( _ )", "pub", "")
+      for kind, value in ((": { .. }", "= { .. }"), (": { .. }", ""), ("", "= { .. }"))
+      for proof in ("", "by { .. }") for end in ";,"],
+]
+
+# What else is there for proofs alone. In Rattle a type can be dropped where it is `Drop`; in Rust every type can.
+PROOFS = [
+    *[("clause-requires", f"requires {form} {{ .. }}") for form in ("", "*", "_", "* _")],
+    *[("clause-ensures", f"ensures {form} {{ .. }}") for form in ("", "*", "_", "* _")],
+    ("tactic", "# ! [ tactic .. ]"),
+    ("tactic", "# [ tactic .. ]"),
+    ("drop-bound", "+ Drop"),
+    ("drop-bound", "« : Drop » >"),
+    ("drop-bound", "« where » « _ : Drop , » {"),
+    ("drop-bound", "« where » « _ :: Item : Drop , » {"),
+    *[("drop-derive", f"{before} « Drop , »") for before in "(,"],
+    ("drop-derive", "« , Drop » ) ]"),
+    ("drop-derive", "derive ( « Drop » ) ]"),
+    ("drop-derive", "# [ derive ( ) ]"),
+]
+
+# What `thiserror` reads.
+ERRORS = [("error-derive", form) for form in ("# [ error ( .. ) ]", "# [ source ]", "# [ from ]")]
+
+# Memory: `Vec` and `String` are Rust's own. What grows or makes one reserves first, by traits of `support::memory`.
+MEMORY = [
+    ("memory-macro", "« vec ! [ » « in @ ; » .. « ; » .. « ] »", "repeated(", "", ",", ")"),
+    ("memory-macro", "« format ! ( » « in @ ; » .. « ) »", "try_format(format_args!(", "", "))"),
+    *[("memory-macro", f"! {opening} in", None) for opening in "[("],
+    ("allocator-variable", "let alloc = @ ;"),
+    ("allocator-bound", "+ AllocGlobal"),
+    ("allocator-bound", "AllocGlobal +"),
+    *[("allocator-parameter", f"{before} « @ : Global , »") for before in "({,"],
+    ("allocator-parameter", "( « @ : Global » )"),
+    ("allocator-parameter", "« , @ : Global » )"),
+    ("memory-call", "Vec :: « from_slice » ( @", "try_from_slice"),
+    ("memory-call", "Vec :: « with_capacity » ( @", "with_room_for"),
+    ("memory-call", "BufReader :: « new » ( @", "try_new"),
+    ("memory-call", ". « to_string » ( @", "try_to_string"),
+    ("memory-call", ". « collect » ( @", "try_collect_vec"),
+    ("clone", ". « clone » ( @", "try_clone"),
+    ("clone", "pub fn « clone » (", "try_clone"),
+    ("clone", "fn clone ( & self ) -> « Result < » _ « , AllocError > » { « Ok ( » .. « ) » }"),
+    ("clone", "fn clone ( & self ) -> Result", None),
+    *[("allocator-argument", f"{before} « @ , »") for before in "({,"],
+    ("allocator-argument", "( « @ » )"),
+    *[("memory-call", f". « {name} » (", f"try_{name}") for name in "push push_str extend_from_slice resize".split()],
+]
+
+# What Rattle and Rust write differently. What is proved before the program is built, Rust tests while it is debugged.
+OTHERS = [
+    ("formatter", "Formatter < « W » >", "'_"),
+    ("formatter", "fn _ « < W : fmt :: Write > » ( .. Formatter < '_ >"),
+    ("formatter", "Formatter < _ >", None),
+    ("formatter", "fn fmt <", None),
+    ("debug-of-field", "self . items . fmt ( f )", "fmt::Debug::fmt(&self.items, f)"),
+    ("prove", "« prove » !", "debug_assert"),
+    ("unstable-kind", "io :: Error :: from ( ErrorKind :: FilesystemLoop )", "fs::too_many_links()"),
+    ("slice-trait", "impl < T > AsSlice < T > for _ < T > { .. }"),
+    ("slice-trait", "« DerefSlice » for _ < T > { type « Elem » = « T » ;", "Deref", "Target", "[T]"),
+    ("handle", "« eprintln » ! ( « rt ; »", "writeln", "std::io::stderr(),"),
+    ("handle", "« » fn main ( rt : HostRuntime )", "pub"),
+]
+
+# What a program reaches by the handle of the system, where it passes that on to nobody.
+HANDLES = [
+    ("handle", "rt . stdout ( )", "std::io::stdout()"),
+    ("handle", "fn main ( « rt : HostRuntime » )"),
+]
 
 
-def rewrite_formatters(source):
-    """Makes `fmt<W: fmt::Write>(.., f: &mut fmt::Formatter<W>)`, and what is called with its formatter, what Rust has."""
-    for item in reversed(functions_of(source)):
-        places = [at for at in range(*item.params) if source.matches(at, "Formatter < W >")]
-        if item.name != "fmt" and not places:
-            continue
-        for at in places:
-            source.replace(at + 2, at + 3, "formatter", "'_")
-        if item.generics is None or not source.matches(item.generics[0], "< W : fmt :: Write >"):
-            source.refuse(item.keyword, "a `fmt` of a form that is not known")
-        source.erase(item.generics[0], item.generics[1] + 1, "formatter")
+def rewrite(source, table):
+    """Rewrites the forms of a table, row by row."""
+    for rule, pattern, *texts in table:
+        first = next(word for word in pattern.split() if word not in "«»")
+        for at in source.places(first):
+            parts = parts_at(source, at, pattern.split())
+            if parts and texts == [None]:
+                source.refuse(at, f"a form that is not known: {pattern}")
+            for (start, end), text in zip(reversed(parts), reversed(texts or [""] * len(parts))):
+                if start < end:
+                    source.replace(start, end, rule, text)
+                else:
+                    source.insert(start, rule, text, source.tokens[start].lead)
+                    source.tokens[start + 1].lead = " "
 
 
-def rewrite_tokens(source):
-    """Forms of a few tokens.
-
-    `x.fmt(f)` may be the method of several traits in Rust: those of this crate are of `Debug`. What is proved before the
-    program is built, Rust tests while it is debugged. What a program reaches by a handle is there for every program of Rust.
-    """
-    at = 0
-    while at < len(source):
-        if source.matches(at, ". fmt ( f )"):
-            start = at - 1
-            while source[start - 1] == ".":
-                start -= 2
-            field = source.words(start, at)
-            at = source.replace(start, at + 5, "debug-of-field", f"fmt::Debug::fmt(&{field}, f)")
-        elif source.matches(at, "prove !"):
-            source.replace(at, at + 1, "prove", "debug_assert")
-        elif source.matches(at, "io :: Error :: from ( ErrorKind :: FilesystemLoop )"):
-            at = source.replace(at, at + 10, "unstable-kind", "fs::too_many_links()")
-        elif source.matches(at, "rt . stdout ( )") and not passes_handle(source):
-            at = source.replace(at, at + 5, "handle", "std::io::stdout()")
-        elif source[at] in ("eprintln", "println") and source.matches(at + 1, "! ( rt ;"):
-            stream = "stderr" if source[at] == "eprintln" else "stdout"
-            source.replace(at + 3, at + 5, "handle", f"std::io::{stream}(),", "")
-            source.replace(at, at + 1, "handle", "writeln")
-        at += 1
-
-
-def rewrite_slices(source):
-    """`DerefSlice` is Rust's `Deref` with a slice as its target; `AsSlice` has no counterpart that is needed."""
-    for item in reversed(items_of(source)):
-        if item.kind == "impl" and item.trait.startswith("AsSlice"):
-            source.erase(item.start, item.end, "slice-trait")
-        elif item.kind == "impl" and item.trait == "DerefSlice":
-            at = item.body[0] + 1
-            if not source.matches(at, "type Elem = T"):
-                source.refuse(item.keyword, "a `DerefSlice` of a form that is not known")
-            source.replace(at + 3, at + 4, "slice-trait", "[T]")
-            source.replace(at + 1, at + 2, "slice-trait", "Target")
-            at = source.following(item.keyword, "DerefSlice")
-            source.replace(at, at + 1, "slice-trait", "Deref")
-
-
-def passes_handle(source):
-    """Returns whether a program passes its handle on: then it keeps it, and the file that is written by hand makes it."""
-    return any(source.matches(at, "& rt") for at in range(len(source)))
-
-
-def rewrite_main(source):
-    """A program's `main` is called by the file that is written by hand, and gets no handle where it only prints by it."""
-    for item in reversed(functions_of(source)):
-        if item.name == "main" and source.words(item.params[0] + 1, item.params[1]) == "rt: HostRuntime":
-            if not passes_handle(source):
-                source.erase(item.params[0] + 1, item.params[1], "handle", "")
-            source.insert(item.keyword, "handle", "pub", source.tokens[item.keyword].lead)
-            source.tokens[item.keyword + 1].lead = " "
-
-
-def rewrite(source):
-    rewrite_formatters(source)
-    rewrite_tokens(source)
-    rewrite_slices(source)
-    rewrite_main(source)
+def parts_at(source, at, pattern):
+    """Returns where the marked parts of a pattern begin and end, if it stands at `at`, and else nothing."""
+    parts, start, begin = [], at, at
+    for k, word in enumerate(pattern):
+        if word == "«":
+            begin = at
+        elif word == "»":
+            parts.append((begin, at))
+        elif word == "..":
+            text = next(word for word in pattern[k + 1:] if word not in "«»")
+            while source[at] not in (text, ")", "]", "}", ""):
+                at = source.closing(at) + 1 if source[at] in CLOSING else at + 1
+        else:
+            forms = ALLOCATORS if word == "@" else [source[at] if word == "_" and source.is_word(at) else word]
+            length = next((len(form.split()) for form in forms if source.matches(at, form)), 0)
+            if not length:
+                return []
+            at += length
+    return parts or [(start, at)]

@@ -1,100 +1,100 @@
-"""What a Rust programmer expects of a public item: attributes, derives, the original's `Pixel`.
+"""What a Rust programmer expects of a public item: attributes, derives, views in parameters, the original's `Pixel`.
 
-`#[inline]` stands on each public function, as the original has it, and on short private ones, which a program of another crate
-could not have inlined otherwise. `#[must_use]` stands where a call that only answers would be in vain.
+`#[inline]` stands on each public function, as the original has it, and on short private ones, which a program of
+another crate could not have inlined otherwise. `#[must_use]` stands where a call that only answers would be in vain.
 """
 
-from . import assertions, paths, tables
-from .items import functions_of, items_of
+from . import tables
+from .items import functions_of, items_of, parameters_of
 
 SHORT = 40
-RESULTS = ("Result<", "io::Result<", "slice::Iter<", "!")
+RESULTS = ("Result<", "io::Result<", "slice::Iter<", "!")  # These say so themselves.
+# The words of a parameter up to the type of its pixels, and the trait and its call that take their place.
+VIEWS = {": & PlaneRef < '_ ,": ("AsPlaneRef", "as_plane_ref"), ": & RowsRef < '_ ,": ("AsRowsRef", "as_rows_ref")}
 
 
-def add_line(source, item, rule, text):
-    """Puts an attribute in front of an item, after its documentation."""
-    lead = source.tokens[item.head].lead
-    end = source.insert(item.head, rule, text, lead)
-    source.tokens[end].lead = "\n" + lead.rpartition("\n")[2]
-
-
-def add_function_attributes(source):
+def rewrite_functions(source):
+    """Adds the attributes of functions."""
     for item in reversed(functions_of(source)):
+        if item.body is None:
+            continue
         present = {source[start + 2] for start, _ in item.attributes}
-        if item.body is not None and wants_must_use(source, item) and "must_use" not in present:
-            add_line(source, item, "must-use", "#[must_use]")
-        if item.body is not None and wants_inline(item) and "inline" not in present:
-            add_line(source, item, "inline", "#[inline]")
+        result = source.words(item.result[0] + 1, item.result[1]) if item.result else "!"
+        writes = any(source[at] == "&" and "mut" in (source[at + 1], source[at + 2]) for at in range(*item.params))
+        if item.is_public() and not result.startswith(RESULTS) and not writes and "must_use" not in present:
+            source.insert_line(item.head, "must-use", "#[must_use]")
+        short = item.body[1] - item.body[0] < SHORT
+        inlined = short and not item.generics and not (item.owner is not None and item.owner.generics)
+        if item.visible or item.owner is not None and item.owner.trait:
+            inlined = item.name != "fmt" and (item.visible is None or item.is_public() or short)
+        if inlined and "inline" not in present:
+            source.insert_line(item.head, "inline", "#[inline]")
 
 
-def wants_inline(item):
-    short = item.body[1] - item.body[0] < SHORT
-    if item.visible or (item.owner is not None and item.owner.trait):
-        return item.name != "fmt" and (item.visible is None or item.is_public() or short)
-    return short and not item.generics and not (item.owner is not None and item.owner.generics)
+def take_views(source, reach):
+    """Lets public calls that read take planes and views alike: the body takes the view before it does anything else."""
+    for item in reversed(functions_of(source)):
+        if item.body is None or "laws" in source.module or not reach.is_public(source, item):
+            continue
+        names = [at for _, at, _ in parameters_of(source, item)]
+        found = [(at, *VIEWS[form]) for at in names for form in VIEWS if source.matches(at + 1, form)]
+        if found:
+            lead = "\n" + source.tokens[item.head].lead.rpartition("\n")[2] + "    "
+            lines = [f"let {source[at]} = &{source[at]}.{call}();" for at, _, call in found]
+            source.insert(item.body[0] + 1, "view-taken", lead.join(lines), lead)
+        for at, trait, _ in reversed(found):
+            closing = source.closing(at + 4)
+            text = f"impl {trait}<Pixel = {source.words(at + 7, closing)}>"
+            source.replace(at + 2, closing + 1, "view-parameter", text)
 
 
-def wants_must_use(source, item):
-    """Returns whether all that a public function does is to answer. A `Result` says so itself."""
-    if not item.is_public() or item.result is None or source.words(item.result[0] + 1, item.result[1]).startswith(RESULTS):
-        return False
-    return not any(source[at] == "&" and "mut" in (source[at + 1], source[at + 2]) for at in range(*item.params))
-
-
-def add_to_types(source):
+def rewrite_types(source):
     """Adds what the tables say of types, and keeps laws out of the documentation: they are for those who prove."""
     for item in reversed(items_of(source)):
         if item.kind in ("struct", "enum", "const") and item.name in tables.KEPT_FOR_CONTRACTS:
-            add_line(source, item, "kept-for-contracts", "#[allow(dead_code)]")
+            source.insert_line(item.head, "kept-for-contracts", "#[allow(dead_code)]")
         if item.kind == "mod" and item.name == "laws":
-            add_line(source, item, "hidden", "#[doc(hidden)]")
+            source.insert_line(item.head, "hidden", "#[doc(hidden)]")
+        if item.kind == "impl" and item.trait == "Pixel":
+            source.insert(item.end, "pixel-parts", f"impl Pixel for {item.subject} {{}}", "\n\n")
+            source.replace(item.keyword + 1, item.keyword + 2, "pixel-parts", "PixelCalls")
+        if item.kind == "trait" and item.name == "Pixel":
+            source.insert(item.body[0], "pixel-parts", tables.PIXEL_BOUNDS, "\n    ")
         if item.kind not in ("struct", "enum"):
             continue
         if item.name in tables.OWN_ERRORS:
-            add_line(source, item, "non-exhaustive", "#[non_exhaustive]")
+            source.insert_line(item.head, "non-exhaustive", "#[non_exhaustive]")
         for at in reversed(range(*item.body) if item.body else ()):
             text = tables.FIELD_TEXTS.get((item.name, source[at + 1]))
             if text is not None and source[at] == "pub" and source.kind(at - 1) != "doc":
                 source.insert(at, "field-text", f"/// {text}\n", source.tokens[at].lead)
-        if item.name in tables.DERIVES:
-            add_derive(source, item, tables.DERIVES[item.name])
-
-
-def add_derive(source, item, names):
-    for start, end in item.attributes:
-        if source[start + 2] == "derive":
-            source.insert(end - 2, "derive", ", " + names, "")
-            return
-    add_line(source, item, "derive", f"#[derive({names})]")
-
-
-def split_pixel(source):
-    """Parts the trait `Pixel` into the original's and a hidden one, which has what the library calls."""
-    for item in reversed(items_of(source)):
-        if item.kind == "impl" and item.trait == "Pixel":
-            source.insert(item.end, "pixel-parts", f"impl Pixel for {item.subject} {{}}", "\n\n")
-            source.replace(item.keyword + 1, item.keyword + 2, "pixel-parts", "PixelCalls")
-        elif item.kind == "trait" and item.name == "Pixel":
-            source.insert(item.body[0], "pixel-parts", tables.PIXEL_BOUNDS, "\n    ")
+        names = tables.DERIVES.get(item.name)
+        ends = [end for start, end in item.attributes if source[start + 2] == "derive"]
+        if names and ends:
+            source.insert(ends[0] - 2, "derive", ", " + names, "")
+        elif names:
+            source.insert_line(item.head, "derive", f"#[derive({names})]")
 
 
 def rename_pixel_calls(source):
     """Gives the hidden trait's members names that no other trait has, so that a user's trait may have theirs."""
     inside = {at for item in items_of(source) if "PixelCalls" in (item.trait, item.name) for at in range(*item.body)}
-    for at in range(len(source)):
-        if not source.is_word(at, *tables.PIXEL_CALLS):
-            continue
+    for at in source.places(*tables.PIXEL_CALLS):
         owner = source[at - 2] if source[at - 1] == "::" else ""
         of_type = owner in tables.PIXEL_TYPES or owner == "Self" and source.module == ("pixel",)
         if of_type or source[at - 1] == "." or at in inside and source[at - 1] in ("fn", "const"):
             source.replace(at, at + 1, "pixel-call", ("PIXEL_" if source[at].isupper() else "pixel_") + source[at])
 
 
-def rewrite(source):
-    """Makes all of these changes. A program has no interface, but calls what has another name."""
-    if paths.home_of(source.crate) == tables.LIBRARY:
-        add_to_types(source)
-        add_function_attributes(source)
-        split_pixel(source)
-        assertions.rename_hot_calls(source)
-    rename_pixel_calls(source)
+def add_arms(source):
+    """Adds an arm to matches of other crates that name each variant of an error that the library says may get more. It
+    is never reached: the crates are built together, and the sources have an arm for each variant."""
+    for at in source.places("match"):
+        opening = source.following(at, "{")
+        closing = source.closing(opening)
+        names = [source[k] for k in range(opening, closing) if source[k + 1] == "=>"]
+        if source[opening + 1] in tables.OWN_ERRORS and not any(name == "_" or name.islower() for name in names):
+            if source[closing - 1] not in (",", "}"):
+                source.refuse(closing, "a last arm without a comma")
+            arm = '_ => unreachable!("an error that the sources do not know"),'
+            source.insert(closing, "error-arm", arm, source.tokens[closing].lead + "    ")

@@ -3,30 +3,29 @@
 Only what stands outside of bodies is read here. A form of item that is not known is refused.
 """
 
-KEYWORDS = {"fn", "struct", "enum", "trait", "impl", "mod", "use", "const", "static", "type", "ghost"}
+from collections import namedtuple
+
+KEYWORDS = {"fn", "struct", "enum", "trait", "impl", "mod", "use", "const", "static", "type"}
 QUALIFIERS = {"const", "unsafe", "final", "extern"}
 CLAUSE_WORDS = ("requires", "ensures")
 
-
-class Clause:
-    """A `requires` or an `ensures`: its label, and where it stands."""
-
-    def __init__(self, word, label, start, end, text):
-        self.word, self.label, self.start, self.end, self.text = word, label, start, end, text
+# A `requires` or an `ensures`, and what it says.
+Clause = namedtuple("Clause", "word text")
 
 
 class Item:
-    """An item: its kind, its name, and where its parts stand, as numbers of tokens. `head` is where it begins after its text
-    and attributes; `subject` is the type that an `impl` is for, and `trait` the trait that it is of."""
+    """An item: its kind, its name, and where its parts stand, as numbers of tokens. `head` is where it begins after its
+    text and attributes; `subject` is the type that an `impl` is for, and `trait` the trait that it is of."""
 
-    def __init__(self, start, owner):
+    def __init__(self, start, owner=None):
         self.start, self.owner = start, owner
         self.kind = self.name = self.subject = self.trait = ""
         self.docs, self.attributes, self.clauses = [], [], []
-        self.visible = self.generics = self.params = self.result = self.where = self.body = None
+        self.visible = self.generics = self.params = self.result = self.body = None
         self.head = self.keyword = self.end = start
 
     def is_public(self):
+        """Returns whether the item is `pub`, with nothing that limits it."""
         return self.visible is not None and self.visible[1] - self.visible[0] == 1
 
 
@@ -34,7 +33,7 @@ def items_of(source, start=0, end=None, owner=None):
     """Returns the items between two places, each before those inside it."""
     found, at = [], start
     while at < (len(source) - 1 if end is None else end):
-        if source.kind(at) == "doc" and source[at].startswith("//!"):
+        if source[at].startswith("//!"):
             at += 1
         elif source.matches(at, "# !"):
             at = source.closing(at + 2) + 1
@@ -52,62 +51,68 @@ def functions_of(source):
     return [item for item in items_of(source) if item.kind == "fn"]
 
 
+def parameters_of(source, item):
+    """Returns where each parameter of a function begins, where its name, which may be `self`, stands, and its end."""
+    parts = source.elements(item.params[0], types=True)
+    return [(start, next(at for at in range(start, end) if source.is_word(at) and source[at] != "mut"), end)
+            for start, end in parts]
+
+
 def item_at(source, at, owner):
     """Returns the item that begins at `at`."""
     item = Item(at, owner)
     at = item.head = skip_attributes(source, at, item)
     if source[at] == "pub":
-        end = source.closing(at + 1) + 1 if source[at + 1] == "(" else at + 1
-        item.visible = (at, end)
-        at = end
+        item.visible = (at, source.closing(at + 1) + 1 if source[at + 1] == "(" else at + 1)
+        at = item.visible[1]
     while source[at] in QUALIFIERS and source[at + 2] != ":":
         at += 2 if source[at] == "extern" else 1
     if source[at] not in KEYWORDS:
         source.refuse(at, f"an item that is not known, at `{source[at]}`")
     item.kind, item.keyword = source[at], at
-    if item.kind == "fn":
-        read_function(source, at + 1, item)
-    elif item.kind in ("struct", "enum", "trait", "impl") or item.kind == "mod" and source[at + 2] == "{":
-        read_block(source, at + 1, item)
-    else:
-        item.name = source[at + 1]
+    if item.kind != "impl":
+        at += 1
+        item.name = source[at]
+    if item.kind not in ("fn", "struct", "enum", "trait", "impl") and (item.kind != "mod" or source[at + 1] != "{"):
         item.end = source.following(at, ";") + 1
+        return item
+    at += 1
+    if source[at] == "<":
+        item.generics = (at, source.closing(at))
+        at = item.generics[1] + 1
+    (read_function if item.kind == "fn" else read_block)(source, at, item)
     return item
 
 
 def skip_attributes(source, at, item):
     """Passes documentation and attributes, which the item notes."""
     while source.kind(at) == "doc" or source[at] == "#":
+        end = source.closing(at + 1) + 1 if source[at] == "#" else at + 1
         if source[at] == "#":
-            end = source.closing(at + 1) + 1
             item.attributes.append((at, end))
-            at = end
         else:
             item.docs.append(at)
-            at += 1
-    return at
-
-
-def read_generics(source, at, item):
-    if source[at] == "<":
-        item.generics = (at, source.closing_angle(at))
-        at = item.generics[1] + 1
+        at = end
     return at
 
 
 def read_function(source, at, item):
-    item.name = source[at]
-    at = read_generics(source, at + 1, item)
+    """Reads a function from its parameters on."""
     item.params = (at, source.closing(at))
     at = item.params[1] + 1
     if source[at] == "->":
         item.result = (at, source.following(at, "{", ";", "where", *CLAUSE_WORDS))
         at = item.result[1]
     if source[at] == "where":
-        item.where = (at, source.following(at, "{", ";", *CLAUSE_WORDS))
-        at = item.where[1]
+        at = source.following(at, "{", ";", *CLAUSE_WORDS)
     while source[at] in CLAUSE_WORDS:
-        at = read_clause(source, at, item)
+        start = at + 1 + (source[at + 1] == "*")
+        start += source.is_word(start)
+        if source[start] != "{":
+            source.refuse(start, f"a form of `{source[at]}` that is not known")
+        end = source.closing(start)
+        item.clauses.append(Clause(source[at], source.words(start + 1, end)))
+        at = end + 1
     if source[at] == "{":
         item.body = (at, source.closing(at))
         at = item.body[1]
@@ -116,32 +121,18 @@ def read_function(source, at, item):
     item.end = at + 1
 
 
-def read_clause(source, start, item):
-    at = start + (2 if source[start + 1] == "*" else 1)
-    label = source[at] if source.kind(at) == "word" else None
-    at += label is not None
-    if source[at] != "{":
-        source.refuse(at, f"a form of `{source[start]}` that is not known")
-    end = source.closing(at) + 1
-    item.clauses.append(Clause(source[start], label, start, end, source.words(at + 1, end - 1)))
-    return end
-
-
 def read_block(source, at, item):
-    """An `impl`, a trait, a struct, an enum or a module, whose body is not read further here."""
-    if item.kind != "impl":
-        item.name = source[at]
-        at += 1
-    at = head = read_generics(source, at, item)
+    """Reads an `impl`, a trait, a struct, an enum or a module after its types' parameters, but not its body."""
+    head, where = at, None
     while source[at] not in ("{", ";") and (source[at] != "(" or item.kind == "impl"):
         if source[at] == "<":
-            at = source.closing_angle(at)
+            at = source.closing(at)
         elif source[at] == "where":
-            item.where = (at, source.following(at, "{", ";"))
+            where = at
         elif source[at] == "for":
             item.trait, head = source.words(head, at), at + 1
         at += 1
-    item.subject = source.words(head, item.where[0] if item.where else at)
+    item.subject = source.words(head, where or at)
     if source[at] != ";":
         item.body = (at, source.closing(at))
         at = item.body[1] + (source[at] == "(")

@@ -1,7 +1,7 @@
-"""Paths: where the items of other crates, and of Rattle's `std`, are in Rust.
+"""Paths: where the items of other crates, and of Rattle's `std`, are in Rust, and which of them users can name.
 
-A crate becomes a module, so `crate::` and the name of a crate at the front of a path get the way to it. An import of `std`
-is looked up name by name.
+A crate becomes a module, so `crate::` and the name of a crate at the front of a path get the way to it. An import of
+`std` is looked up name by name.
 """
 
 from . import tables
@@ -24,44 +24,34 @@ def module_of(source, crate):
     return tables.PUBLIC_NAMES.get(crate)
 
 
-def from_here(source, path):
-    """Returns the path of something of the library, or of a program's own support, as a source of a Rust crate names it."""
-    home = home_of(source.crate)
-    if path.startswith(home + "::"):
-        return path.replace(home, "crate", 1)
-    return path if home == tables.LIBRARY else path.replace("crate::", tables.LIBRARY + "::", 1)
-
-
 def leaves_of(source, start, end):
     """Returns the paths that a tree of imports has, each with the name it is given, or nothing."""
-    prefix, at = [], start
-    while at < end and source[at] not in ("{", "as"):
-        if source[at] != "::":
-            prefix.append(source[at])
-        at += 1
-    if at >= end or source[at] == "as":
-        return [("::".join(prefix), source[at + 1] if at < end else None)]
+    at = next((at for at in range(start, end) if source[at] in ("{", "as")), end)
+    prefix = "::".join(source[k] for k in range(start, at) if source[k] != "::")
+    if at == end or source[at] == "as":
+        return [(prefix, source[at + 1] if at < end else None)]
     leaves = [leaf for part in source.elements(at) for leaf in leaves_of(source, *part)]
-    return [("::".join(prefix if path == "self" else [*prefix, path]), name) for path, name in leaves]
+    return [(prefix if path == "self" else f"{prefix}::{path}", name) for path, name in leaves]
 
 
 def rewrite_imports(source):
     """Rewrites the imports of Rattle's `std`. Those that have no place in Rust are left out."""
     for item in reversed(items_of(source)):
         start = item.keyword + 1
-        if item.kind != "use" or source[start] not in STD:
-            continue
-        paths = []
-        for path, name in leaves_of(source, start, item.end - 1):
-            if path not in tables.STD_NAMES:
-                source.refuse(item.keyword, f"a path of `std` that is not known: {path}")
-            if tables.STD_NAMES[path] is not None:
-                paths.append(from_here(source, tables.STD_NAMES[path]) + (f" as {name}" if name else ""))
-        text = import_text(paths)
-        if not text:
-            source.erase(item.keyword, item.end, "import-left-out")
-        elif text != source.words(item.keyword, item.end):
-            source.replace(item.keyword, item.end, "std-import", text)
+        if item.kind == "use" and source[start] in STD:
+            leaves = [(tables.STD_NAMES[path], name) for path, name in leaves_of(source, start, item.end - 1)]
+            named = [(from_here(source, path), name) for path, name in leaves if path]
+            text = import_text(path + (f" as {name}" if name else "") for path, name in named)
+            if text != source.words(item.keyword, item.end):
+                source.replace(item.keyword, item.end, "std-import" if text else "import-left-out", text)
+
+
+def from_here(source, path):
+    """Returns the path of something of the library, or of a program's own support, as a source names it."""
+    home = home_of(source.crate)
+    if path.startswith(home + "::"):
+        return path.replace(home, "crate", 1)
+    return path if home == tables.LIBRARY else path.replace("crate::", tables.LIBRARY + "::", 1)
 
 
 def import_text(paths):
@@ -76,45 +66,90 @@ def import_text(paths):
 
 def rewrite_roots(source):
     """Puts the way to a crate in front of paths that begin with `crate` or with the name of a crate."""
-    at = 0
-    while at < len(source):
-        root, made = source[at], source.tokens[at].edit
-        if source.kind(at) == "word" and source[at + 1] == "::" and source[at - 1] != "::" and made is None:
-            crate = source.crate if root == "crate" else root
-            if root in STD and source[at - 1] != "use":
-                source.refuse(at, "a path of `std` in the middle of code")
-            if home_of(crate) or crate in tables.PUBLIC_NAMES or crate in tables.BY_HAND:
-                path = module_of(source, crate)
-                if path is None:
-                    source.refuse(at, f"the crate {crate} has no public name in Rust")
-                at = source.replace(at, at + 1, "crate-root", path)
-        at += 1
+    for at in source.places("::"):
+        at -= 1
+        crate = source.crate if source[at] == "crate" else source[at]
+        if source[at - 1] == "::" or source.tokens[at].edit is not None:
+            continue
+        if crate in STD and source[at - 1] != "use":
+            source.refuse(at, "a path of `std` in the middle of code")
+        if home_of(crate) or crate in tables.PUBLIC_NAMES or crate in tables.BY_HAND:
+            path = module_of(source, crate)
+            if path is None:
+                source.refuse(at, f"the crate {crate} has no public name in Rust")
+            source.replace(at, at + 1, "crate-root", path)
 
 
 def add_imports(source):
     """Imports what Rattle has without an import, and what calls were renamed to."""
     wanted = set()
-    for at in range(len(source)):
-        word, made = source[at], source.tokens[at].edit
-        if source.kind(at) != "word":
-            continue
+    for at, token in enumerate(source.tokens):
+        word, target = token.text, source[at + 3]
         if word in tables.PRELUDE and source[at - 1] != "::" and home_of(source.crate) == tables.LIBRARY:
             wanted.add(tables.PRELUDE[word])
-        if word in tables.SUPPORT and made is not None or word == "HostRuntime":
+        if word in tables.SUPPORT and (token.edit is not None or word == "HostRuntime"):
             wanted.add(tables.SUPPORT[word])
         # The target of `write!` is a stream, a `String`, or a formatter, which is `f` everywhere.
-        if word in ("write", "writeln") and source[at + 1] == "!" and source[at + 3] != "f":
-            wanted.add("std::io::Write as _" if source[at + 3] == "std" else "crate::support::memory::TryString")
+        if word in ("write", "writeln") and source[at + 1] == "!" and target != "f":
+            wanted.add("std::io::Write as _" if target == "std" else "crate::support::memory::TryString")
         if word == "write_char" and source[at - 1] == ".":
             wanted.add("core::fmt::Write as _")
     if wanted:
-        uses = [item.keyword for item in items_of(source) if item.kind == "use" and not item.visible]
-        place = uses[0] if uses else items_of(source)[0].start
+        items = items_of(source)
+        uses = [item.keyword for item in items if item.kind == "use" and not item.visible]
+        place = uses[0] if uses else items[0].start
         lead = source.tokens[place].lead
-        end = source.insert(place, "import-added", import_text(sorted(from_here(source, path) for path in wanted)), lead)
+        text = import_text(sorted(from_here(source, path) for path in wanted))
+        end = source.insert(place, "import-added", text, lead)
         source.tokens[end].lead = "\n" if uses else lead
 
 
-def rewrite(source):
-    rewrite_imports(source)
-    rewrite_roots(source)
+class Reach:
+    """What users of a Rust crate can name: the public names of modules and items by crate and path."""
+
+    def __init__(self, sources):
+        self.sources = {(source.crate, source.module): source for source in sources}
+        self.names, self.modules = {}, set()
+        for crate, name in tables.PUBLIC_NAMES.items():
+            if (crate, ()) in self.sources:
+                self.note(crate, (), name.replace(tables.LIBRARY, "crate", 1))
+        self.types = {(crate, path[-1]) for crate, path in self.names if path}
+
+    def note(self, crate, path, name):
+        """Notes a public item by the first name that leads to it, or a public module, and goes through that."""
+        source = self.sources.get((crate, path))
+        if (crate, path) in self.names:
+            return
+        self.names[crate, path] = name
+        self.modules.update([name] if source else [])
+        for item in items_of(source) if source else ():
+            if item.owner is not None or not item.is_public():
+                continue
+            if item.kind == "use":
+                for leaf, alias in leaves_of(source, item.keyword + 1, item.end - 1):
+                    self.follow(source, item, leaf.split("::"), f"{name}::{alias or leaf.rpartition('::')[2]}")
+            else:
+                self.note(crate, (*path, item.name), f"{name}::{item.name}")
+
+    def follow(self, source, item, parts, name):
+        """Follows a public import to a module, or to an item of one."""
+        crate, path = source.crate, (*source.module, *parts)
+        if parts[0] == "crate" or (parts[0], ()) in self.sources:
+            crate, path = crate if parts[0] == "crate" else parts[0], tuple(parts[1:])
+        home = self.sources.get((crate, path[:-1]))
+        items = [it.name for it in items_of(home) if it.kind != "use" and it.owner is None] if home else []
+        if path and path[-1] not in items and (crate, path) not in self.sources and parts[0] not in tables.BY_HAND:
+            source.refuse(item.keyword, f"a public import that leads nowhere: {'::'.join(parts)}")
+        self.note(crate, path, name)
+
+    def is_public(self, source, item):
+        """Returns whether users can call a function."""
+        if not item.is_public():
+            return item.owner is not None and item.owner.kind == "trait" and self.is_type(source, item.owner.name)
+        if item.owner is None:
+            return (source.crate, (*source.module, item.name)) in self.names
+        return item.owner.kind == "impl" and self.is_type(source, item.owner.subject)
+
+    def is_type(self, source, subject):
+        """Returns whether users can name a type of a crate."""
+        return (source.crate, subject.split("<")[0]) in self.types

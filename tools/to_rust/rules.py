@@ -1,5 +1,15 @@
-"""The rules by which a token changes: each with the sentence that the list of changes says of it."""
+"""The rules by which a token changes, and the list of changes: each token of the output that is no token of a source,
+with what it stands for.
 
+The list is made of the tokens that were written and of the changes that they belong to, not of what rules mean to do.
+"""
+
+from collections import Counter
+from itertools import groupby
+
+from .tokens import words_of
+
+# Each rule with the sentence that the list says of it.
 RULES = {
     "ghost-use": "An import of words for clauses is left out.",
     "ghost-member": "A member or a field that is a ghost is left out: it takes no memory and has no value.",
@@ -19,7 +29,8 @@ RULES = {
     "allocator-argument": "Its argument is left out.",
     "allocator-bound": "The bound of a handle that gives an allocator is left out.",
     "allocator-variable": "A variable that is an allocator is left out.",
-    "memory-call": "A call that grows or makes a `Vec` or a `String` reserves first, and returns an error where that is refused.",
+    "memory-call": "A call that grows or makes a `Vec` or a `String` reserves first, and returns an error where "
+    "that is refused.",
     "memory-macro": "`vec!` and `format!` over an allocator are calls that can fail.",
     "clone": "`Clone::clone` returns the clone, and what takes memory for it is `try_clone`.",
     "std-import": "A name of Rattle's `std` is imported from where Rust has it.",
@@ -53,13 +64,59 @@ RULES = {
     "view-taken": "The body takes the view first.",
     "track-caller": "A test that fails names the caller's line.",
     "panics-text": "The text says what is tested.",
-    "foreign-parameter": "C gives a pointer where the source has a reference, and a pointer and a length where it has a slice.",
+    "foreign-parameter": "C gives a pointer where the source has a reference, and a pointer and a length where it has "
+    "a slice.",
     "foreign-taken": "What C points to is taken as what the source has, by functions that are written by hand.",
     "foreign-unsafe": "An export is unsafe, for nobody can test a pointer of C.",
     "doc-path": "A path in a text leads to where the item is in Rust.",
     "doc-proofs": "A sentence for those who write proofs is left out.",
     "doc-filled": "Lines of a text in which a sentence was left out are filled anew.",
     "doc-added": "The text of a module says whom it is for.",
-    "doc-example": "An example that is written by hand, of a file of `rust/v_frame_proved/doc_examples`, stands at the end of a text.",
+    "doc-example": "An example that is written by hand, of a file of `rust/v_frame_proved/doc_examples`, stands at the "
+    "end of a text.",
     "comment-proofs": "A comment for those who write proofs is left out.",
 }
+
+HEAD = (
+    "# What `tools/to-rust` changed\n\n"
+    "Written by `tools/to-rust`, and compared by `tools/to-rust --check`. The generated files are the tokens of the "
+    "sources in\ntheir order. All that differs is here: first what was left out, then each token that is no token of a "
+    "source, beside what\nstands there in the source. Blanks and line ends are not listed.\n\n"
+    "{} tokens of the output are the sources' own.\n"
+)
+# Rules whose left-out tokens are listed one by one, for they are no contracts.
+SHOWN = {"law-call", "law-module", "unread-value", "allocator-argument", "doc-proofs", "comment-proofs"}
+# Rules whose tokens are counted alone, for they stand in files of their own.
+COUNTED = {"doc-example"}
+
+
+def listing_of(sources):
+    """Returns the text of the list."""
+    kept, left_out, put_in = 0, {}, {}
+    for source in sources:
+        for edit in source.edits:
+            if not edit.new:
+                left_out.setdefault(edit.rule, Counter())[edit.old, ""] += 1
+        for run in (list(run) for _, run in groupby(source.tokens, key=lambda token: id(token.edit))):
+            edit = run[0].edit
+            if edit is None:
+                kept += sum(token.kind != "end" for token in run)
+            else:
+                put_in.setdefault(edit.rule, Counter())[edit.old, words_of(run)] += 1
+    lines = [*section_lines("Left out", left_out, SHOWN), "", *section_lines("Put in", put_in, RULES.keys() - COUNTED)]
+    return "\n".join([HEAD.format(kept), *lines, ""])
+
+
+def section_lines(title, rules, shown):
+    """Returns a table of the rules: how often each was applied, and to how many forms. Then, for those that are shown,
+    a line for each form, the frequent ones first: how often, what stood there, and what stands there."""
+    used = {rule: rules[rule] for rule in RULES if rule in rules}
+    counts = [f"| `{rule}` | {sum(forms.values())} | {len(forms)} | {RULES[rule]} |" for rule, forms in used.items()]
+    lines = [f"## {title}", "", "| rule | times | forms | |", "|---|---|---|---|", *counts]
+    for rule in (rule for rule in used if rule in shown):
+        lines += ["", f"### `{rule}`", "", RULES[rule], ""]
+        for pair, count in sorted(used[rule].items(), key=lambda form: (-form[1], form[0])):
+            texts = [" ".join(text.split()) for text in pair if text]
+            words = [f"`` {text} ``" if "`" in text else f"`{text}`" for text in texts]
+            lines.append("- " + (f"{count} × " if count > 1 else "") + " → ".join(words))
+    return lines

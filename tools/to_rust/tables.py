@@ -3,19 +3,16 @@
 Whatever is not in these tables is refused.
 """
 
-# The Rust crate that each source crate becomes a part of. There it is the module `generated::NAME`.
-HOMES = {
-    "v_frame_proved": [
-        "v_frame_raster", "v_frame_plane", "v_frame", "v_frame_ops", "v_frame_planar", "v_frame_y4m",
-        "v_frame_convert", "v_frame_turn", "v_frame_statistics", "v_frame_measures", "v_frame_rgb", "v_frame_resize",
-        "v_frame_semi_planar", "v_frame_png", "v_frame_chart",
-    ],
-    "v_frame_tool": ["v_frame_tool_run", "v_frame_tool"],
-    "yuv": ["yuv_words", "yuv_streams", "yuv_pictures", "yuv_reports", "yuv_commands", "yuv"],
-    "v_frame_c": ["v_frame_c", "v_frame_y4m_c"],
-}
-
 LIBRARY = "v_frame_proved"
+
+# The Rust crate that each source crate becomes a part of. There it is the module `generated::NAME`.
+HOMES = {home: crates.split() for home, crates in {
+    LIBRARY: """v_frame_raster v_frame_plane v_frame v_frame_ops v_frame_planar v_frame_y4m v_frame_convert v_frame_turn
+        v_frame_statistics v_frame_measures v_frame_rgb v_frame_resize v_frame_semi_planar v_frame_png v_frame_chart""",
+    "v_frame_tool": "v_frame_tool_run v_frame_tool",
+    "yuv": "yuv_words yuv_streams yuv_pictures yuv_reports yuv_commands yuv",
+    "v_frame_c": "v_frame_c v_frame_y4m_c",
+}.items()}
 
 # The Rust crates that pass a handle of the system on, and what these are named.
 WITH_HANDLES = {"yuv"}
@@ -33,25 +30,19 @@ FOR_C = {"v_frame_c", "v_frame_y4m_c"}
 BY_HAND = {"v_frame_buffer": "crate::buffer"}
 
 
-def moved(to, names, root="std"):
-    """Returns the names of a module of Rattle's `std`, each with its path in a module of Rust."""
-    return {f"{root}::{name}": f"{to}::{name}" for name in names.split()}
-
-
 # Names of Rattle's `std` that imports may have, and Rust's names for them. None: nothing takes its place.
-STD_NAMES = {
-    **moved("core", """cmp::Ordering fmt fmt::Binary fmt::Debug fmt::Display fmt::LowerHex fmt::Octal fmt::UpperHex hash::Hash
-        iter::FusedIterator mem num::NonZeroU8 slice str"""),
-    **moved("std", "io io::ErrorKind io::Read io::Write process::ExitCode"),
-    **moved("crate::support::lanes", "Simd u8x16 u8x32 u16x8 u16x16 u32x8", "std::simd"),
-    **moved("crate::support::numbers", """f32_to_f64_with_nan nearest_i64_to_f64 nearest_u64_to_f64 nearest_usize_to_f64
-        saturating_f64_to_i64 saturating_f64_to_u64""", "std::num"),
-    **moved("std", """fs::File fs::Metadata fs::Permissions fs::TryLockError io::BufReader os::unix::fs::MetadataExt
-        os::unix::fs::PermissionsExt os::unix::fs::fchown"""),
-    **moved("yuv::support", "env fs fs::OpenFile fs::OpenOptions path::PathBuf time::Clock time::Instant"),
-    "std::fmt::Write": "core::fmt::Write",
-    "std::rt::Files": "yuv::support::fs::Files",
-    "std::alloc::AllocError": "crate::support::AllocError",
+STD_NAMES = {f"{old}::{name}": f"{new}::{name}" for old, new, names in (
+    ("std", "core", """cmp::Ordering fmt fmt::Binary fmt::Debug fmt::Display fmt::LowerHex fmt::Octal fmt::UpperHex
+        fmt::Write hash::Hash iter::FusedIterator mem num::NonZeroU8 slice str"""),
+    ("std", "std", """fs::File fs::Metadata fs::Permissions fs::TryLockError io io::BufReader io::ErrorKind io::Read
+        io::Write os::unix::fs::MetadataExt os::unix::fs::PermissionsExt os::unix::fs::fchown process::ExitCode"""),
+    ("std", "yuv::support", "env fs fs::OpenFile fs::OpenOptions path::PathBuf time::Clock time::Instant"),
+    ("std::rt", "yuv::support::fs", "Files"),
+    ("std::alloc", "crate::support", "AllocError"),
+    ("std::simd", "crate::support::lanes", "Simd u8x16 u8x32 u16x8 u16x16 u32x8"),
+    ("std::num", "crate::support::numbers", """f32_to_f64_with_nan nearest_i64_to_f64 nearest_u64_to_f64
+        nearest_usize_to_f64 saturating_f64_to_i64 saturating_f64_to_u64"""),
+) for name in names.split()} | {
     "std::ops::DerefSlice": "core::ops::Deref",
     **dict.fromkeys(("std::alloc::Global", "std::convert::AsSlice", "std::marker::Model", "thiserror::Error")),
 }
@@ -63,26 +54,32 @@ STD_TRAITS = {"Read", "Write", "BufRead", "DerefSlice", "MetadataExt", "OpenFile
 PRELUDE = {"Vec": "alloc::vec::Vec", "String": "alloc::string::String"}
 
 # The traits and functions of the support module by the names whose use asks for them.
-SUPPORT = {name: f"crate::support::memory::{trait}" for trait, names in {
-    "TryPush": "try_push",
-    "TryVec": "try_extend_from_slice try_resize with_room_for try_from_slice try_from_array",
-    "TryString": "try_push_str try_from_str",
-    "TryToString": "try_to_string",
-    "TryCollect": "try_collect_vec",
-    "try_format": "try_format",
-    "repeated": "repeated",
-}.items() for name in names.split()} | {"HostRuntime": "yuv::support::HostRuntime", "try_new": "yuv::support::TryBuffered"} | {
-    name: f"crate::views::{name}" for name in ("AsPlaneRef", "AsRowsRef")}
+SUPPORT = {name: path for path, names in {
+    "crate::support::memory::TryPush": "try_push",
+    "crate::support::memory::TryVec": "try_extend_from_slice try_resize with_room_for try_from_slice",
+    "crate::support::memory::TryString": "try_push_str",
+    "crate::support::memory::TryToString": "try_to_string",
+    "crate::support::memory::TryCollect": "try_collect_vec",
+    **{f"crate::support::memory::{name}": name for name in ("try_format", "repeated")},
+    **{f"crate::views::{name}": name for name in ("AsPlaneRef", "AsRowsRef")},
+    "yuv::support::HostRuntime": "HostRuntime",
+    "yuv::support::TryBuffered": "try_new",
+}.items() for name in names.split()}
 
-# Functions that the library calls so often that its own calls go to one without tests.
-HOT = {
-    ("v_frame_plane", "visible_row"), ("v_frame_plane", "visible_row_mut"), ("v_frame_plane", "visible_pixel"),
-    ("v_frame_plane", "visible_pixel_mut"), ("v_frame_plane", "visible_region"), ("v_frame_raster", "visible_region"),
-    ("v_frame_raster", "data_origin"), ("v_frame_raster", "alloc_height"), ("v_frame_raster", "alloc_size"),
-    ("v_frame_raster", "encode_row"),
-}
-# Those among them that are no methods.
+# Functions that the library calls so often that its own calls go to one without tests, and those that are no methods.
+HOT = {(crate, name) for crate, names in {
+    "v_frame_plane": "visible_row visible_row_mut visible_pixel visible_pixel_mut visible_region",
+    "v_frame_raster": "visible_region data_origin alloc_height alloc_size encode_row",
+}.items() for name in names.split()}
 HOT_FUNCTIONS = {"encode_row"}
+
+# Functions without a body that require something, by their traits, which only types of the library have: a test has no
+# place there.
+WITHOUT_TESTS = {
+    "Pixel": ["from_value", "from_le", "le_byte", "decode_row", "sum_of_absolute_differences", "sum_of_squared_errors",
+              "halve_rows"],
+    "ColourOrder": ["read", "write"],
+}
 
 # Private functions whose loops are faster where the compiler is told what they require.
 FACTS = {("v_frame_turn", "write_reversed"), ("v_frame_semi_planar", "deinterleave_pixels")}
@@ -104,10 +101,7 @@ PIXEL_BOUNDS = """+ core::fmt::LowerExp
 pub trait PixelCalls: Copy + sealed::Sealed + 'static"""
 # What stands for a type of pixels in front of `::`, and what it offers in the source.
 PIXEL_TYPES = {"T", "S", "u8", "u16", "Pixel"}
-PIXEL_CALLS = {
-    "BYTES", "ZERO", "into_u16", "try_into_u8", "from_u8", "try_from_u16", "from_value", "from_le", "le_byte", "decode_row",
-    "sum_of_absolute_differences", "sum_of_squared_errors", "halve_rows",
-}
+PIXEL_CALLS = {"BYTES", "ZERO", "into_u16", "try_into_u8", "from_u8", "try_from_u16", *WITHOUT_TESTS["Pixel"]}
 
 # What contracts alone read, and what is kept although no code reads it.
 KEPT_FOR_CONTRACTS = {"DepthChange", "SAMPLES_AT_ONCE", "ENTRIES"}
@@ -120,7 +114,8 @@ DERIVES = {name: derives for derives, names in {
     "Clone, Copy": "FrameError CopyError PlanarError WriteFault SemiPlanarError TurnError PixelDraw Drawn",
     "Clone": "HeaderError Y4mError Text StreamHeader Sequence VisibleCall Answer ReplayStopped RowDraw",
     "Debug, Clone, Copy, PartialEq, Eq": "FrameBuilder Rgb Bgr Rgba Bgra",
-    "Debug": "PngWriter Coder Lines Chunks CrcTables Bits Deflate Symbols Adler32 Crc32Digest RowsMut PixelsMut RowsRef",
+    "Debug": """PngWriter Coder Lines Chunks CrcTables Bits Deflate Symbols Adler32 Crc32Digest RowsMut PixelsMut
+        RowsRef""",
     "Debug, PartialEq": "Series Chart Summary FrameMeasure Mean StreamQuality",
     "Debug, PartialEq, Eq": "Center Span PixelSums SsimConstants",
     "Debug, Clone": "Counted",
@@ -143,15 +138,15 @@ FIELD_TEXTS = {
 
 # Words that tell that a sentence speaks to someone who writes proofs.
 PROOF_WORDS = (
-    r"\bcontracts?\b", r"\bclauses?\b", r"\bproofs?\b", r"\bprovers?\b", r"\bproved\b", r"\bproves?\b", r"\blaws?\b",
-    r"\btoolchain\b", r"\bRattle\b", r"\bghosts?\b", r"\brequires`", r"\bensures`", r"^Our own\b", r"\bspecs\b",
-    r"^The module is our own\b", r"^Its functions and constants are our own\b",
+    r"\b(contracts?|clauses?|proofs?|provers?|proves?|proved|laws?|ghosts?|toolchain|Rattle|specs)\b",
+    r"\b(requires|ensures)`",
+    r"^(Our own|The module is our own|Its functions and constants are our own)\b",
 )
 
 # What the text of a module says more in Rust.
 DOC_ADDED = {
-    ("v_frame", ("replay",)): "It is for those who test and compare: a list of calls is data, which a generator makes and which another"
-    " program can answer as well. To work on pictures, call planes and frames.",
+    ("v_frame", "replay"): "It is for those who test and compare: a list of calls is data, which a generator makes "
+    "and which another program can answer as well. To work on pictures, call planes and frames.",
 }
 
 # What texts say of Rattle's way, and what they say of Rust's.

@@ -1,6 +1,6 @@
 //! Tests of conditions that callers have to meet, for those that no public function tells.
 //!
-//! Written by hand. `tools/to_rust/condition_table.py` names each of them beside the definition that it tells.
+//! Written by hand. `tools/to_rust/conditions.md` names each of them beside the definition that it tells.
 
 /// Returns whether a rectangle of a size (width, height) that begins at a place (column, row) is inside a picture of a size, and is
 /// not empty: `IsInside` of `v_frame_raster/specs/Geometry.antt`, and `IsInsideTable` of `StridedRows.antt`.

@@ -1,0 +1,134 @@
+"""What is left out beyond forms of a few tokens: models, laws with their calls, and names and values that nobody reads.
+
+A law is a function that does nothing, whose contract says what holds.
+"""
+
+from . import forms
+from .items import functions_of, items_of, parameters_of
+from .paths import leaves_of
+
+# Calls that only read, which may stand in a statement whose value nobody reads.
+READING = {"width", "height", "byte_len", "data", "chroma_len", "frame", "visible_row"}
+# Variables that nobody reads, whose statements do something.
+KEPT = {"_held", "_program"}
+
+
+def erase_proofs(source):
+    """Erases what is there for proofs alone. What functions require and ensure is kept for the tests of it."""
+    forms.rewrite(source, forms.GHOSTS)
+    for item in reversed(items_of(source)):
+        if item.kind == "impl" and item.trait == "Model":
+            source.erase(item.start, item.end, "model")
+        elif any(source.matches(start, "# [ cfg ( test ) ]") for start, _ in item.attributes):
+            source.erase(item.start, item.end, "test-module")
+        elif item.clauses:
+            source.clauses[source.tokens[item.keyword]] = item.clauses
+    forms.rewrite(source, forms.PROOFS)
+
+
+def erase_unread(source):
+    """Erases `let _name = ..;`, whose value nobody reads, where all that is called there only reads."""
+    for at in source.places("let"):
+        if source[at + 1].startswith("_") and source[at + 1] not in {"_", *KEPT} and source[at + 2] == "=":
+            end = source.following(at, ";")
+            called = {source[k] for k in range(at + 3, end) if source[k + 1] in ("(", "!") and source.is_word(k)}
+            if not called <= READING:
+                source.refuse(at, "a statement whose value nobody reads, and which may do something")
+            source.erase(at, end + 1, "unread-value")
+
+
+def erase_laws(sources):
+    """Erases laws and their calls, until none is left: a law may be one that only calls others.
+
+    Returns the sources in which something is left. Where nothing is, the module is left out, too."""
+    while laws := {item.name for source in sources for item in laws_of(source)}:
+        for source in sources:
+            for item in reversed(laws_of(source)):
+                source.erase(item.start, item.end, "law")
+            for item in functions_of(source):
+                if item.name in laws:
+                    source.refuse(item.keyword, "a function that has the name of a law")
+            erase_calls(source, laws)
+            for item in reversed(items_of(source)):
+                if item.kind == "use":
+                    erase_names(source, item, laws, "law-import")
+    kept = []
+    for source in sources:
+        if not source.module or any(item.kind != "use" or item.visible for item in items_of(source)):
+            kept.append(source)
+            continue
+        parent = next(it for it in sources if (it.crate, it.module) == (source.crate, source.module[:-1]))
+        item = next(item for item in items_of(parent) if (item.kind, item.name) == ("mod", source.module[-1]))
+        parent.erase(item.start, item.end, "law-module")
+    return kept
+
+
+def laws_of(source):
+    """Returns the functions of a source that have a contract and do nothing."""
+    empty = [item for item in functions_of(source) if item.body and item.body[0] + 1 == item.body[1]]
+    return [item for item in empty if not item.result and source.clauses_of(item, "ensures")]
+
+
+def erase_calls(source, laws):
+    """Erases statements that call a law, `path::name::<T>(arguments);`, and the `if let` that then is empty."""
+    for start in source.places(*laws):
+        end = start + 1
+        while source[start - 1] == "::":
+            start -= 2
+        if source.matches(end, ":: <"):
+            end = source.closing(end + 1) + 1
+        if source[end] == "(" and source[start - 1] in ("{", "}", ";"):
+            end = source.closing(end) + 1
+            if source[end] == ";":
+                source.erase(start, end + 1, "law-call")
+    forms.rewrite(source, [("law-call", "if let Some ( _ ) = _ { }")])
+
+
+def erase_names(source, item, names, rule):
+    """Takes names out of an import, and the import away where it has no other."""
+    at = item.keyword
+    while source[at] != ";":
+        if source[at] not in names or source[at + 1] not in (",", "}", ";"):
+            at += 1
+        elif source[at + 1] == ";":
+            source.erase(item.start, at + 2, rule)
+            return
+        else:
+            source.erase_listed(at, at + 1, rule)
+            at = item.keyword
+    opening = source.following(item.keyword, "{", ";")
+    parts = source.elements(opening) if source[opening] == "{" else None
+    if parts == []:
+        source.erase(item.start, source.following(opening + 2, ";") + 1, rule)
+    elif parts == [(opening + 1, opening + 2)] and source[opening + 1] != "self":
+        source.erase(opening + 2, source.closing(opening) + 1, rule)
+        source.erase(opening, opening + 1, rule)
+
+
+def erase_imports(source, traits):
+    """Erases the names of private imports that no code names. Traits stay: their methods may be called."""
+    imports = [item for item in items_of(source) if item.kind == "use" and not item.visible]
+    inside = {at for item in imports for at in range(item.keyword, item.end)}
+    used = {token.text for at, token in enumerate(source.tokens) if at not in inside} | traits | {"_"}
+    for item in reversed(imports):
+        leaves = leaves_of(source, item.keyword + 1, item.end - 1)
+        names = {name or path.rpartition("::")[2]: path for path, name in leaves}
+        unused = {name: path for name, path in names.items() if name not in used}
+        source.left_imports.update(unused)
+        if unused:
+            erase_names(source, item, unused, "import-unused")
+
+
+def rename_unread(source):
+    """Puts a `_` in front of parameters, and of variables of loops, that a body and its texts do not name."""
+    variables = [(at, item.body) for item in functions_of(source) if item.body
+                 for _, at, _ in parameters_of(source, item) if source[at + 1] == ":"]
+    for at in source.places("for"):
+        if source[at + 2] == "in":
+            opening = source.following(at, "{")
+            variables.append((at + 1, (opening, source.closing(opening))))
+    for at, body in variables:
+        name, shown = source[at], "{" + source[at]
+        named = any(source[k] == name or source.kind(k) == "string" and shown in source[k] for k in range(*body))
+        if not named and not name.startswith("_"):
+            source.replace(at, at + 1, "parameter-unread", "_" + name)
