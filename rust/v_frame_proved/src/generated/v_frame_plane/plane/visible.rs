@@ -7,6 +7,23 @@ use super::Plane;
 ///
 /// The entries end with the buffer, so they have what lies between the rows and after the last, too: to keep it,
 /// write the rows alone. [`rows_fit`](super::rows_fit) is true of these numbers.
+///
+/// # Examples
+///
+/// ```
+/// use v_frame_proved::ops::rows;
+/// use v_frame_proved::plane::{Plane, PlaneGeometry, VisibleMut};
+///
+/// let geometry = PlaneGeometry::new(4, 2, 1, 1, 0, 0, 1, 1).ok_or("no geometry")?;
+/// let mut plane = Plane::<u8>::new(geometry)?;
+/// let VisibleMut { entries, width, height, stride } = plane.visible_mut();
+/// rows::fill(entries, width, height, stride, 16);
+/// let VisibleMut { entries, width, height, stride } = plane.visible_region_mut(1, 0, 2, 1);
+/// rows::fill(entries, width, height, stride, 235);
+/// assert!(plane.rows().eq([[16, 235, 235, 16], [16, 16, 16, 16]]));
+/// assert_eq!(plane.data()[0], 0);
+/// # Ok::<(), Box<dyn std::error::Error>>(())
+/// ```
 pub struct VisibleMut<'a, T> {
     /// The entries of the buffer from the first of these pixels on.
     pub entries: &'a mut [T],
