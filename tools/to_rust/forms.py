@@ -22,8 +22,7 @@ GHOSTS = [
 PROOFS = [
     *[("clause-requires", f"requires {form} {{ .. }}") for form in ("", "*", "_", "* _")],
     *[("clause-ensures", f"ensures {form} {{ .. }}") for form in ("", "*", "_", "* _")],
-    ("tactic", "# ! [ tactic .. ]"),
-    ("tactic", "# [ tactic .. ]"),
+    *[("tactic", f"{mark} [ tactic .. ]") for mark in ("# !", "#")],
     ("drop-bound", "+ Drop"),
     ("drop-bound", "« : Drop » >"),
     ("drop-bound", "« where » « _ : Drop , » {"),
@@ -43,8 +42,7 @@ MEMORY = [
     ("memory-macro", "« format ! ( » « in @ ; » .. « ) »", "try_format(format_args!(", "", "))"),
     *[("memory-macro", f"! {opening} in", None) for opening in "[("],
     ("allocator-variable", "let alloc = @ ;"),
-    ("allocator-bound", "+ AllocGlobal"),
-    ("allocator-bound", "AllocGlobal +"),
+    *[("allocator-bound", bound) for bound in ("+ AllocGlobal", "AllocGlobal +")],
     *[("allocator-parameter", f"{before} « @ : Global , »") for before in "({,"],
     ("allocator-parameter", "( « @ : Global » )"),
     ("allocator-parameter", "« , @ : Global » )"),
@@ -55,6 +53,7 @@ MEMORY = [
     ("memory-call", ". « collect » ( @", "try_collect_vec"),
     ("clone", ". « clone » ( @", "try_clone"),
     ("clone", "pub fn « clone » (", "try_clone"),
+    ("clone", "fn clone ( & self ) -> _ {", None),
     ("clone", "fn clone ( & self ) -> « Result < » _ « , AllocError > » { « Ok ( » .. « ) » }"),
     ("clone", "fn clone ( & self ) -> Result", None),
     *[("allocator-argument", f"{before} « @ , »") for before in "({,"],
@@ -65,6 +64,7 @@ MEMORY = [
 # What Rattle and Rust write differently. What is proved before the program is built, Rust tests while it is debugged.
 OTHERS = [
     ("formatter", "Formatter < « W » >", "'_"),
+    ("formatter", "fn fmt (", None),
     ("formatter", "fn _ « < W : fmt :: Write > » ( .. Formatter < '_ >"),
     ("formatter", "Formatter < _ >", None),
     ("formatter", "fn fmt <", None),
