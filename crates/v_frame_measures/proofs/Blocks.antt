@@ -169,21 +169,14 @@ module _ {T : Type 0} (value : T → ℕ) where
         (row_major (rectangle x (y + 4) 4 4 a)) (row_major (rectangle x (y + 4) 4 4 b))
         (top ∙ ap (λ n. 4 * n) (same_height y 4 a b same) ∙ sym top1))
 
-    -- the same of what was computed
-    pub columns_of_blocks : (x y : ℕ) (upper lower both : PixelSums) → x + 4 ≤ width → x + 4 ≤ width1
-        → both ≡ added upper lower → upper ≡ sums_of_rectangle value x y 4 4 a b
-        → lower ≡ sums_of_rectangle value x (y + 4) 4 4 a b
-        → both ≡ sums_of_rectangle value x y 4 8 a b
-    columns_of_blocks x y upper lower both h h1 is first second =
-        is ∙ ap (λ s. added s lower) first ∙ ap (added (sums_of_rectangle value x y 4 4 a b)) second
-        ∙ sym (blocks_joined x y h h1)
-
     -- blocks of sums over columns, below each other
-    pub eight_rows : (x y k : ℕ) (upper lower : ColumnSums) (u l both : PixelSums) → k < 8 → x + 32 ≤ width
+    pub eight_rows : (x y k : ℕ) (upper lower : ColumnSums) (both : PixelSums) → k < 8 → x + 32 ≤ width
         → x + 32 ≤ width1 → AreColumnSums value x (take 4 (drop y a)) (take 4 (drop y b)) upper
-        → AreColumnSums value x (take 4 (drop (y + 4) a)) (take 4 (drop (y + 4) b)) lower → u ≡ block_of upper k
-        → l ≡ block_of lower k → both ≡ added u l
+        → AreColumnSums value x (take 4 (drop (y + 4) a)) (take 4 (drop (y + 4) b)) lower
+        → both ≡ added (block_of upper k) (block_of lower k)
         → both ≡ sums_of_rectangle value (x + 4 * k) y 4 8 a b
-    eight_rows x y k upper lower u l both few h h1 are are1 first second is =
-        columns_of_blocks (x + 4 * k) y u l both (omega arith) (omega arith) is
-        (first ∙ block_is x y k upper few h h1 are) (second ∙ block_is x (y + 4) k lower few h h1 are1)
+    eight_rows x y k upper lower both few h h1 are are1 is =
+        is
+        ∙ ap (λ s. added s (block_of lower k)) (block_is x y k upper few h h1 are)
+        ∙ ap (added (sums_of_rectangle value (x + 4 * k) y 4 4 a b)) (block_is x (y + 4) k lower few h h1 are1)
+        ∙ sym (blocks_joined (x + 4 * k) y (omega arith) (omega arith))

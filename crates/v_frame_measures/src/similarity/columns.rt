@@ -2,7 +2,7 @@
 ghost use Rattle.std.specs.Prelude.{◌≡◌, ◌+◌, ◌*◌, ◌≤◌, ◌<◌, ◌^◌, [], ◌∷◌, drop, take};
 ghost use Rattle.v_frame.specs.Prelude.{height_of, width_of};
 ghost use Rattle.v_frame_measures.specs.ColumnSums.{AreColumnSums, AreSmall, HasNarrowValues, IsNarrowPart, block_of, four_of};
-ghost use Rattle.v_frame_measures.specs.PixelSums.{AreSumsOver};
+ghost use Rattle.v_frame_measures.specs.PixelSums.{AreSumsOver, added};
 
 use crate::similarity::sums::PixelSums;
 use v_frame::pixel::Pixel;
@@ -114,9 +114,22 @@ impl ColumnSums {
         }
     }
 
-    /// Returns the sums over four columns beside each other, of which there are eight.
+    /// Returns the sums over four columns beside each other, of which there are eight, of these rows and of the four below.
     #[inline(always)]
-    pub(crate) fn block(&self, k: usize) -> PixelSums
+    pub(crate) fn block(&self, below: &ColumnSums, k: usize) -> PixelSums
+        requires inside { k < 8 }
+        requires small { AreSmall self.now }
+        requires small_below { AreSmall below.now }
+        ensures value { result ≡ added (block_of self.now k) (block_of below.now k) }
+        ensures bound { AreSumsOver 32 result }
+    {
+        let (upper, lower) = (self.four_rows(k), below.four_rows(k));
+        upper.plus(&lower)
+    }
+
+    /// Returns the sums over four columns of these rows.
+    #[inline(always)]
+    fn four_rows(&self, k: usize) -> PixelSums
         requires inside { k < 8 }
         requires small { AreSmall self.now }
         ensures value { result ≡ block_of self.now k }

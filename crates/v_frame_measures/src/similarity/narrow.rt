@@ -34,9 +34,9 @@ fn has_narrow_values<T: Pixel>(picture: &RowsRef<'_, T>) -> bool
 fn is_narrow<T: Pixel>(row: &[T]) -> bool
     ensures { IsTrue result ↔ IsNarrow T.form.value row.now }
 {
-    let mut greatest = 0;
+    let mut bits = 0;
     for x in 0..row.len() {
-        greatest = greatest.max(row[x].into_u16());
+        bits |= row[x].into_u16();
     }
-    greatest < 8192
+    bits < 8192
 }

@@ -5,6 +5,12 @@ use Rattle.v_frame_measures.specs.Ssim.{constants_of, line_format, line_of, peak
 use Rattle.v_frame_measures.proofs.Lines.{one_more}
 use Rattle.v_frame_measures.proofs.similarity.mean_similarity.Goals as goal
 
+pub two_lines-upper-requires-clause-first : goal.two_lines-upper-requires-clause-first
+two_lines-upper-requires-clause-first g c = c.narrow_pairs-pairs.ensures.first (omega arith)
+
+pub two_lines-upper-requires-clause-second : goal.two_lines-upper-requires-clause-second
+two_lines-upper-requires-clause-second g c = c.narrow_pairs-pairs.ensures.second (omega arith)
+
 pub loop-pair-preserved : goal.loop-pair-preserved
 loop-pair-preserved g c =
     let form = g.T.Pixel.form in let a = c.args.a.now in let b = c.args.b.now in let n = 2 * c.loop-pair.pair in
@@ -16,6 +22,10 @@ loop-pair-preserved g c =
     rw next
     (one_more binary64 (line_of form constants a b format) (n + 1) _ _ one
     (lines.lower ∙ ap (λ k. line_of form k a b format (n + 1)) is))
+
+pub loop-y-init : goal.loop-y-init
+loop-y-init g c =
+    let done : c.loop-pair.pair ≡ c.narrow_pairs-pairs.result = omega arith in rw done at c.loop-pair.invariant
 
 pub loop-y-preserved : goal.loop-y-preserved
 loop-y-preserved g c =

@@ -3,37 +3,36 @@ use Rattle.std.proofs.Common.{◌≡◌, ◌<◌, inl, inr, ap, sym, arith, get_
 use Rattle.std.proofs.lemmas.Bool.{cases_lt}
 use Rattle.std.proofs.lemmas.Bool.Decides.{nat_tests}
 use Rattle.std.proofs.lemmas.List.{get_or_default}
+use Rattle.std.proofs.lemmas.Nat.{le_or_l, le_or_r, or_lt}
 use Rattle.v_frame_measures.proofs.similarity.narrow.is_narrow.Goals as goal
 
 pub loop-x-preserved : goal.loop-x-preserved
 loop-x-preserved g c =
     let value = g.T.Pixel.form.value in
     let row = c.args.row.now in let x = c.loop-x.x in let pixel = c.index-row-x.result in
-    let read : value (get_or row x pixel) ≡ c.into_u16.result =
-    sym (c.into_u16.ensures.value ∙ ap value c.index-row-x.is) in
+    let bits = c.loop-x.bits in let here = c.into_u16.result in
+    let read : value (get_or row x pixel) ≡ here = sym (c.into_u16.ensures.value ∙ ap value c.index-row-x.is) in
     record {
       bound = λ k d h.
           elim (cases_lt k x) [
-            | inl below ↦ grind (arith, nat_tests, c.max-greatest.ensures, c.loop-x.invariant.bound k d below)
+            | inl below ↦ omega (arith, c.loop-x.invariant.bound k d below, le_or_l bits here)
             | inr last ↦
                 let same : k ≡ x = omega (arith, h) in
                 let there = get_or_default row x d pixel c.loop-x-test.true in
-                rw (same, there, read) (grind (arith, nat_tests, c.max-greatest.ensures))
+                rw (same, there, read) (le_or_r bits here)
           ];
-      least = λ m each.
-          let before = c.loop-x.invariant.least m (λ k d h. each k d (omega arith)) in
-          let last = rw read at (each x pixel (omega arith)) in
-          grind (arith, nat_tests, c.max-greatest.ensures, before, last);
+      small = λ each.
+          or_lt 13 bits here (c.loop-x.invariant.small (λ k d h. each k d (omega arith)))
+          (rw read at (each x pixel (omega arith)));
     }
 
 pub returns : goal.returns
 returns g c = (
   λ small k d h.
       let most = c.loop-x.invariant.bound k d (omega arith) in
-      let below : c.loop-x.greatest < 8192 = grind (arith, nat_tests, small) in
+      let below : c.loop-x.bits < 8192 = grind (arith, nat_tests, small) in
       omega (arith, most, below),
   λ all.
-      let most = c.loop-x.invariant.least 8191 (λ k d h. omega (arith, all k d (omega arith))) in
-      let below : c.loop-x.greatest < 8192 = omega (arith, most) in
+      let below : c.loop-x.bits < 8192 = c.loop-x.invariant.small (λ k d h. all k d (omega arith)) in
       search (rules, nat_tests, below),
 )

@@ -1,11 +1,19 @@
 -- One more window of each line: in a part of the columns, and of the rest. And all.
-use Rattle.std.proofs.Common.{◌≡◌, ◌+◌, ◌*◌, ◌≤◌, ◌<◌, arith, ◌∙◌}
+use Rattle.std.proofs.Common.{◌≡◌, ◌+◌, ◌-◌, ◌*◌, ◌/◌, ◌≤◌, ◌<◌, arith, rules, ◌∙◌}
 use Rattle.std.specs.Float.Ieee.{binary64}
 use Rattle.v_frame.specs.Prelude.{width_of}
 use Rattle.v_frame_measures.specs.Ssim.{windows_along}
 use Rattle.v_frame_measures.proofs.Blocks.{eight_rows}
 use Rattle.v_frame_measures.proofs.Lines.{one_more_window}
 use Rattle.v_frame_measures.proofs.similarity.pairs.two_lines_in_f64.Goals as goal
+
+pub loop-part-init : goal.loop-part-init
+loop-part-init g c =
+    let row : 4 * c.args.y + 4 ≡ 4 * (c.args.y + 1) = omega arith in
+    let upper = c.sums_of_columns-upper_left.ensures in let lower = c.sums_of_columns-lower_left.ensures in record {
+      upper = record { so_far = search rules; left = upper.value; bound = upper.bound };
+      lower = record { so_far = search rules; left = rw row at lower.value; bound = lower.bound };
+    }
 
 pub loop-part-preserved : goal.loop-part-preserved
 loop-part-preserved g c =
@@ -17,8 +25,8 @@ loop-part-preserved g c =
 pub loop-k-preserved : goal.loop-k-preserved
 loop-k-preserved g c =
     let form = g.T.Pixel.form in let a = c.args.a.now in let b = c.args.b.now in let constants = c.args.constants.now in
-    let y = c.args.y in let k = c.loop-k.k in let x = 32 * c.loop-part.part + 4 in
-    let n = 8 * c.loop-part.part + k in let so_far = c.loop-k.invariant in
+    let y = c.args.y in let part = c.loop-part.part in let k = c.loop-k.k in let x = 32 * part + 4 in
+    let n = 8 * part + k in let so_far = c.loop-k.invariant in
     let width = c.width-columns in let width1 = c.width-other in
     let within : 4 * n + 8 ≤ width.result = omega (arith, width.ensures.value) in
     let within1 : 4 * n + 8 ≤ width1.result =
@@ -29,29 +37,33 @@ loop-k-preserved g c =
     let column : x + 4 * k ≡ 4 * n + 4 = omega arith in
     let row : 4 * y + 4 ≡ 4 * (y + 1) = omega arith in
     let bottom_row : 4 * y + 8 ≡ 4 * y + 4 + 4 = omega arith in
-    let next : 8 * c.loop-part.part + (k + 1) ≡ n + 1 = omega arith in
-    let above = c.block-above in let shared = c.block-shared in let below = c.block-below in
-    let upper = c.plus-upper_right in let lower = c.plus-lower_right in
-    let bottom = rw bottom_row at c.sum_rows-3.ensures.value in
+    let next : 8 * part + (k + 1) ≡ n + 1 = omega arith in
+    let upper = c.block-upper_right in let lower = c.block-lower_right in
+    let few : k < 8 = omega arith in
+    let top = c.sum_rows.ensures.value in let middle = c.sum_rows-in-loop-part.ensures.value in
+    let bottom = rw bottom_row at c.sum_rows-in-loop-part-2.ensures.value in
     let upper_is =
     rw column at (eight_rows form.value width.result width1.result a b width.ensures.rows width1.ensures.rows c.requires.high
-    x (4 * y) k _ _ _ _ upper.result (omega arith) reach reach1 c.sum_rows.ensures.value c.sum_rows-2.ensures.value
-    above.ensures.value shared.ensures.value upper.ensures.value) in
+    x (4 * y) k _ _ upper.result few reach reach1 top middle upper.ensures.value) in
     let lower_is =
     rw (column, row) at (eight_rows form.value width.result width1.result a b width.ensures.rows width1.ensures.rows
-    c.requires.high x (4 * y + 4) k _ _ _ _ lower.result (omega arith) reach reach1 c.sum_rows-2.ensures.value bottom
-    shared.ensures.value below.ensures.value lower.ensures.value) in
-    rw next record {
+    c.requires.high x (4 * y + 4) k _ _ lower.result few reach reach1 middle bottom lower.ensures.value) in
+    record {
       upper =
-          one_more_window binary64 form constants a b width.result width1.result width.ensures.rows width1.ensures.rows
-          c.requires.high y n _ _ _ _ _ within within1 so_far.upper upper_is
-          (upper.ensures.bound 16 16 above.ensures.bound shared.ensures.bound) c.plus.ensures.value
-          (c.f32_to_f64_with_nan-upper.ensures ∙ c.similarity.ensures);
+          rw next (one_more_window binary64 form constants a b width.result width1.result width.ensures.rows
+          width1.ensures.rows c.requires.high y n _ _ _ _ _ within within1 so_far.upper upper_is upper.ensures.bound
+          c.plus.ensures.value (c.f32_to_f64_with_nan-upper.ensures ∙ c.similarity.ensures));
       lower =
-          one_more_window binary64 form constants a b width.result width1.result width.ensures.rows width1.ensures.rows
-          c.requires.high (y + 1) n _ _ _ _ _ within within1 so_far.lower lower_is
-          (lower.ensures.bound 16 16 shared.ensures.bound below.ensures.bound) c.plus-in-loop-k.ensures.value
-          (c.f32_to_f64_with_nan-lower.ensures ∙ c.similarity-in-loop-k.ensures);
+          rw next (one_more_window binary64 form constants a b width.result width1.result width.ensures.rows
+          width1.ensures.rows c.requires.high (y + 1) n _ _ _ _ _ within within1 so_far.lower lower_is lower.ensures.bound
+          c.plus-in-loop-k.ensures.value (c.f32_to_f64_with_nan-lower.ensures ∙ c.similarity-in-loop-k.ensures));
+    }
+
+pub loop-x-init : goal.loop-x-init
+loop-x-init g c =
+    let done : c.loop-part.part ≡ (c.width-columns.result / 4 - 1) / 8 = omega arith in record {
+      upper = rw done at c.loop-part.invariant.upper;
+      lower = rw done at c.loop-part.invariant.lower;
     }
 
 pub loop-x-preserved : goal.loop-x-preserved

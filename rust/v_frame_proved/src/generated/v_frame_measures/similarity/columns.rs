@@ -87,9 +87,16 @@ impl ColumnSums {
         }
     }
 
-    /// Returns the sums over four columns beside each other, of which there are eight.
+    /// Returns the sums over four columns beside each other, of which there are eight, of these rows and of the four below.
     #[inline(always)]
-    pub(crate) fn block(&self, k: usize) -> PixelSums {
+    pub(crate) fn block(&self, below: &ColumnSums, k: usize) -> PixelSums {
+        let (upper, lower) = (self.four_rows(k), below.four_rows(k));
+        upper.plus(&lower)
+    }
+
+    /// Returns the sums over four columns of these rows.
+    #[inline(always)]
+    fn four_rows(&self, k: usize) -> PixelSums {
         PixelSums {
             first: u64::from(sum_of_lanes(&self.first, 4 * k)),
             second: u64::from(sum_of_lanes(&self.second, 4 * k)),

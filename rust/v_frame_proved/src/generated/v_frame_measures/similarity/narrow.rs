@@ -26,9 +26,9 @@ fn has_narrow_values<T: Pixel>(picture: &RowsRef<'_, T>) -> bool {
 
 /// Returns whether all values of a row are below 8192.
 fn is_narrow<T: Pixel>(row: &[T]) -> bool {
-    let mut greatest = 0;
+    let mut bits = 0;
     for x in 0..row.len() {
-        greatest = greatest.max(row[x].pixel_into_u16());
+        bits |= row[x].pixel_into_u16();
     }
-    greatest < 8192
+    bits < 8192
 }

@@ -42,8 +42,8 @@ fn two_lines_in_f64<T: Pixel>(
         middle.sum_rows(a, b, 32 * part + 4, 4 * y + 4);
         bottom.sum_rows(a, b, 32 * part + 4, 4 * y + 8);
         for k in 0..8 {
-            let (above, shared, below) = (top.block(k), middle.block(k), bottom.block(k));
-            let (upper_right, lower_right) = (above.plus(&shared), shared.plus(&below));
+            let upper_right = top.block(&middle, k);
+            let lower_right = middle.block(&bottom, k);
             upper += f32_to_f64_with_nan(similarity(constants, &upper_left.plus(&upper_right)));
             lower += f32_to_f64_with_nan(similarity(constants, &lower_left.plus(&lower_right)));
             upper_left = upper_right;
@@ -80,8 +80,8 @@ fn two_lines_in_f32<T: Pixel>(
         middle.sum_rows(a, b, 32 * part + 4, 4 * y + 4);
         bottom.sum_rows(a, b, 32 * part + 4, 4 * y + 8);
         for k in 0..8 {
-            let (above, shared, below) = (top.block(k), middle.block(k), bottom.block(k));
-            let (upper_right, lower_right) = (above.plus(&shared), shared.plus(&below));
+            let upper_right = top.block(&middle, k);
+            let lower_right = middle.block(&bottom, k);
             upper += similarity(constants, &upper_left.plus(&upper_right));
             lower += similarity(constants, &lower_left.plus(&lower_right));
             upper_left = upper_right;
