@@ -1,5 +1,5 @@
 -- Sums over columns of four rows: one more column, parts of rows, and four columns beside each other.
-use Rattle.std.proofs.Common.{ℕ, suc, ◌≡◌, ◌+◌, ◌-◌, ◌*◌, ◌≤◌, ◌<◌, All, List, [], ◌∷◌, ◌++◌, length, take, drop, get_or, set}
+use Rattle.std.proofs.Common.{ℕ, ◌≡◌, ◌+◌, ◌-◌, ◌*◌, ◌≤◌, ◌<◌, List, [], ◌∷◌, length, take, drop, get_or, set}
 use Rattle.std.proofs.Common.{refl, ap, arith, Some, slice_get, map, sym, ◌∙◌, zero-add, get_or-set_other, get_or-set_same, below_more}
 use Rattle.std.proofs.lemmas.List.{drop_more, drop-drop, drop-take, take-take, length-set, length-take-le, length-drop, get_or-take, get_or-drop}
 use Rattle.std.proofs.lemmas.Option.{slice_get_within, get_or_from_slice_get}

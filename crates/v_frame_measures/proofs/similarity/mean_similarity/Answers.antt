@@ -6,10 +6,10 @@ use Rattle.v_frame_measures.proofs.Lines.{one_more}
 use Rattle.v_frame_measures.proofs.similarity.mean_similarity.Goals as goal
 
 pub two_lines-upper-requires-clause-first : goal.two_lines-upper-requires-clause-first
-two_lines-upper-requires-clause-first g c = c.narrow_pairs-pairs.ensures.first (omega arith)
+two_lines-upper-requires-clause-first g c κs within = c.narrow_pairs-pairs.ensures.first (omega arith)
 
 pub two_lines-upper-requires-clause-second : goal.two_lines-upper-requires-clause-second
-two_lines-upper-requires-clause-second g c = c.narrow_pairs-pairs.ensures.second (omega arith)
+two_lines-upper-requires-clause-second g c κs within = c.narrow_pairs-pairs.ensures.second (omega arith)
 
 pub loop-pair-preserved : goal.loop-pair-preserved
 loop-pair-preserved g c =

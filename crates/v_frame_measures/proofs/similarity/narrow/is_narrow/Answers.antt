@@ -10,8 +10,8 @@ pub loop-x-preserved : goal.loop-x-preserved
 loop-x-preserved g c =
     let value = g.T.Pixel.form.value in
     let row = c.args.row.now in let x = c.loop-x.x in let pixel = c.index-row-x.result in
-    let bits = c.loop-x.bits in let here = c.into_u16.result in
-    let read : value (get_or row x pixel) ≡ here = sym (c.into_u16.ensures.value ∙ ap value c.index-row-x.is) in
+    let bits = c.loop-x.bits in let here = c.into_u16-bits.result in
+    let read : value (get_or row x pixel) ≡ here = sym (c.into_u16-bits.ensures.value ∙ ap value c.index-row-x.is) in
     record {
       bound = λ k d h.
           elim (cases_lt k x) [

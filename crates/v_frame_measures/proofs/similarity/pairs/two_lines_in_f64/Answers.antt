@@ -1,6 +1,6 @@
 -- One more window of each line: in a part of the columns, and of the rest. And all.
-use Rattle.std.proofs.Common.{◌≡◌, ◌+◌, ◌-◌, ◌*◌, ◌/◌, ◌≤◌, ◌<◌, arith, rules, ◌∙◌}
-use Rattle.std.specs.Float.Ieee.{binary64}
+use Rattle.std.proofs.Common.{◌≡◌, ◌+◌, ◌-◌, ◌*◌, ◌/◌, ◌≤◌, ◌<◌, arith, refl, ◌∙◌}
+use Rattle.std.specs.Float.Ieee.{binary64, of_bits}
 use Rattle.v_frame.specs.Prelude.{width_of}
 use Rattle.v_frame_measures.specs.Ssim.{windows_along}
 use Rattle.v_frame_measures.proofs.Blocks.{eight_rows}
@@ -8,11 +8,12 @@ use Rattle.v_frame_measures.proofs.Lines.{one_more_window}
 use Rattle.v_frame_measures.proofs.similarity.pairs.two_lines_in_f64.Goals as goal
 
 pub loop-part-init : goal.loop-part-init
+unfolding of_bits
 loop-part-init g c =
     let row : 4 * c.args.y + 4 ≡ 4 * (c.args.y + 1) = omega arith in
     let upper = c.sums_of_columns-upper_left.ensures in let lower = c.sums_of_columns-lower_left.ensures in record {
-      upper = record { so_far = search rules; left = upper.value; bound = upper.bound };
-      lower = record { so_far = search rules; left = rw row at lower.value; bound = lower.bound };
+      upper = record { so_far = refl; left = upper.value; bound = upper.bound };
+      lower = record { so_far = refl; left = rw row at lower.value; bound = lower.bound };
     }
 
 pub loop-part-preserved : goal.loop-part-preserved

@@ -1,5 +1,5 @@
 -- One more column.
-use Rattle.std.proofs.Common.{◌≡◌, ◌*◌, ◌+◌, [], ◌∷◌, arith, sym, ◌∙◌}
+use Rattle.std.proofs.Common.{[], ◌∷◌, arith, ◌∙◌}
 use Rattle.v_frame_measures.proofs.Columns.{ColumnPixels, column_of_pixels, one_more_column}
 use Rattle.v_frame_measures.proofs.Joined.{alike}
 use Rattle.v_frame_measures.proofs.similarity.columns.ColumnSums.sum_parts.Goals as goal
