@@ -11,10 +11,10 @@ use Rattle.v_frame_raster.proofs.SumsOfPairs.{sum_of_pairs-adds_up}
 use Rattle.v_frame_measures.specs.declared.similarity.sums.PixelSums.{PixelSums}
 use Rattle.v_frame_measures.specs.PixelSums.{added, sums_of, sums_of_rectangle, AreSumsOver}
 
-abbrev make : ℕ → ℕ → ℕ → ℕ → PixelSums
+abbrev pub make : ℕ → ℕ → ℕ → ℕ → PixelSums
 make a b c d = record { first = a; second = b; squares = c; products = d }
 
-alike : (a b c d a1 b1 c1 d1 : ℕ) → a ≡ a1 → b ≡ b1 → c ≡ c1 → d ≡ d1 → make a b c d ≡ make a1 b1 c1 d1
+pub alike : (a b c d a1 b1 c1 d1 : ℕ) → a ≡ a1 → b ≡ b1 → c ≡ c1 → d ≡ d1 → make a b c d ≡ make a1 b1 c1 d1
 alike a b c d a1 b1 c1 d1 e e1 e2 e3 = rw (e, e1, e2, e3) refl
 
 module _ {T : Type 0} (value : T → ℕ) where

@@ -1,3 +1,5 @@
+pub mod Blocks
+pub mod Columns
 pub mod Differing
 pub mod Halves
 pub mod Joined

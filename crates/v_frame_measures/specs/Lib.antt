@@ -1,3 +1,4 @@
+pub mod ColumnSums
 pub mod Differences
 pub mod Errors
 pub mod Frames

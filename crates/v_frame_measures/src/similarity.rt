@@ -4,10 +4,15 @@ ghost use Rattle.std.specs.Float.Ieee.{binary32, binary64};
 ghost use Rattle.v_frame.specs.Prelude.{height_of, table_of, width_of};
 ghost use Rattle.v_frame_measures.specs.Ssim.{line_format, line_of, peak_of, ssim_of};
 
+mod columns;
+mod narrow;
+mod pairs;
 mod sums;
 mod window;
 
 use crate::rows;
+use narrow::narrow_pairs;
+use pairs::two_lines;
 use std::num::{f32_to_f64_with_nan, nearest_u64_to_f64};
 use sums::sums_of_columns;
 use v_frame::pixel::Pixel;
@@ -44,7 +49,13 @@ pub(crate) fn mean_similarity<T: Pixel>(
     let (across, down) = (a.width() / 4 - 1, a.height() / 4 - 1);
     let constants = SsimConstants::of_depth(bit_depth);
     let mut sum = 0.0;
-    for y in 0..down {
+    let pairs = narrow_pairs(a, b, down);
+    for pair in 0..pairs {
+        let (upper, lower) = two_lines(a, b, &constants, 2 * pair);
+        sum += upper;
+        sum += lower;
+    }
+    for y in 2 * pairs..down {
         sum += line(a, b, &constants, y);
     }
     sum / nearest_u64_to_f64((across * down) as u64)
