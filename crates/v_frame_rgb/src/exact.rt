@@ -9,7 +9,7 @@ use crate::standard::{ColourRange, Standard};
 use crate::whole_steps::{WholeSteps, black, unit};
 
 /// Coefficients from Y'CbCr of a bit depth to R'G'B', which are those of a standard exactly: whole numbers over one denominator.
-#[derive(Debug, Clone, Copy)]
+#[derive(Clone, Copy)]
 pub struct ExactMatrix {
     standard: Standard,
     range: ColourRange,

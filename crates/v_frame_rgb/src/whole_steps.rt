@@ -6,7 +6,7 @@ ghost use Rattle.v_frame_rgb.specs.WholeSteps.{unit_at, whole_steps_of};
 use crate::standard::{ColourRange, Standard};
 
 /// How much one step of luma, of Cb or of Cr makes of a colour, in parts of a scale times what 1 of the levels is at a bit depth.
-#[derive(Debug, Clone, Copy)]
+#[derive(Clone, Copy)]
 pub(crate) struct WholeSteps {
     pub scale: u64,
     pub luma: u64,
