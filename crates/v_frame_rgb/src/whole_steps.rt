@@ -1,5 +1,5 @@
 //! The steps of the standards as whole numbers.
-ghost use Rattle.std.specs.Prelude.{◌≡◌, ◌^◌, ◌<◌, ◌≤◌};
+ghost use Rattle.std.specs.Prelude.{◌≡◌, ◌-◌, ◌^◌, ◌≤◌};
 ghost use Rattle.v_frame_rgb.specs.Exact.{levels_at};
 ghost use Rattle.v_frame_rgb.specs.WholeSteps.{unit_at, whole_steps_of};
 
@@ -98,7 +98,7 @@ pub(crate) fn unit(range: ColourRange, depth: u8) -> u64
     ensures { result ≡ unit_at range depth }
 {
     match range {
-        ColourRange::Limited => 1 << (depth - 8),
+        ColourRange::Limited => u64::from(step(depth)),
         ColourRange::Full => (1 << depth) - 1,
     }
 }
@@ -109,7 +109,16 @@ pub(crate) fn black(range: ColourRange, depth: u8) -> u16
     ensures { result ≡ (levels_at range depth).black }
 {
     match range {
-        ColourRange::Limited => 16 << (depth - 8),
+        ColourRange::Limited => 16 * step(depth),
         ColourRange::Full => 0,
     }
+}
+
+/// Returns what 1 of 8 bits is at a bit depth.
+fn step(depth: u8) -> u16
+    requires { (8 ≤ depth) × (depth ≤ 16) }
+    ensures value { result ≡ 2 ^ (depth - 8) }
+    ensures small { result ≤ 256 }
+{
+    1 << (depth - 8)
 }

@@ -6,6 +6,16 @@ use crate::generated::v_frame_rgb::standard::{ColourRange, Standard};
 use crate::generated::v_frame_rgb::whole_steps::{WholeSteps, black, unit};
 
 /// Coefficients from Y'CbCr of a bit depth to R'G'B', which are those of a standard exactly: whole numbers over one denominator.
+///
+/// # Examples
+///
+/// ```
+/// use v_frame_proved::rgb::{Colour, ColourRange, ExactMatrix, Standard};
+///
+/// // 42.5 of each channel.
+/// let matrix = ExactMatrix::new(Standard::Bt709, ColourRange::Limited, 9);
+/// assert_eq!(matrix.colour(105, 256, 256), Colour { red: 43, green: 43, blue: 43 });
+/// ```
 #[derive(Clone, Copy, Debug, PartialEq, Eq)]
 pub struct ExactMatrix {
     standard: Standard,

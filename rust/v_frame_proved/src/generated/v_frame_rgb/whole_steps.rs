@@ -89,7 +89,7 @@ impl WholeSteps {
 #[inline]
 pub(crate) fn unit(range: ColourRange, depth: u8) -> u64 {
     match range {
-        ColourRange::Limited => 1 << (depth - 8),
+        ColourRange::Limited => u64::from(step(depth)),
         ColourRange::Full => (1 << depth) - 1,
     }
 }
@@ -98,7 +98,13 @@ pub(crate) fn unit(range: ColourRange, depth: u8) -> u64 {
 #[inline]
 pub(crate) fn black(range: ColourRange, depth: u8) -> u16 {
     match range {
-        ColourRange::Limited => 16 << (depth - 8),
+        ColourRange::Limited => 16 * step(depth),
         ColourRange::Full => 0,
     }
+}
+
+/// Returns what 1 of 8 bits is at a bit depth.
+#[inline]
+fn step(depth: u8) -> u16 {
+    1 << (depth - 8)
 }
