@@ -6,6 +6,24 @@ use Rattle.v_frame_rgb.specs.Exact.{exact_colour_rows, exact_of_pixels}
 use Rattle.v_frame_rgb.proofs.ColourLemmas.{slice_get-colour_rows_by, length-colour_rows_by}
 use Rattle.v_frame_rgb.proofs.rows.exact.yuv444_to_rgb_exactly.Goals as goal
 
+pub overflow_mul-start : goal.overflow_mul-start
+overflow_mul-start g c =
+    let ends = row_ends c.args.width c.args.height c.args.stride (length c.args.buffer.now) c.loop-k.k c.requires.fit
+    c.loop-k-test.true in
+    omega (arith, ends, c.well_formed)
+
+pub overflow_add-start : goal.overflow_add-start
+overflow_add-start g c =
+    let ends = row_ends c.args.width c.args.height c.args.stride (length c.args.buffer.now) c.loop-k.k c.requires.fit
+    c.loop-k-test.true in
+    omega (arith, ends, c.well_formed)
+
+pub slice_bounds-decode_row-end : goal.slice_bounds-decode_row-end
+slice_bounds-decode_row-end g c =
+    let ends = row_ends c.args.width c.args.height c.args.stride (length c.args.buffer.now) c.loop-k.k c.requires.fit
+    c.loop-k-test.true in
+    omega (arith, ends, c.loop-k.auto.buffer)
+
 pub loop-k-init : goal.loop-k-init
 loop-k-init g c = none_written c.args.width c.args.height c.args.stride _ c.args.buffer.now
 
