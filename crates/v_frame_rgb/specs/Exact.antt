@@ -68,7 +68,7 @@ module _ (standard : Standard) (range : ColourRange) (depth : ℕ) where
 
   module _ {T : Type 0} (form : PixelForm T) where
     -- the same of pixels
-    abbrev pub exact_of_pixels : T → T → T → Colour
+    unfoldable pub exact_of_pixels : T → T → T → Colour
     exact_of_pixels y u v = exact_colour (form.value y) (form.value u) (form.value v)
 
     -- the colours of a row of luma and two of chroma

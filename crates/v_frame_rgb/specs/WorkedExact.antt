@@ -2,7 +2,7 @@
 -- proved by `refl`.
 use Rattle.std.specs.Prelude.{ℕ, ◌≡◌, [], ◌∷◌, refl}
 use Rattle.v_frame.specs.Prelude.{two_bytes}
-use Rattle.v_frame_rgb.specs.Exact.{exact_colour, exact_colour_rows, levels_at}
+use Rattle.v_frame_rgb.specs.Exact.{exact_colour, exact_colour_rows, exact_of_pixels, levels_at}
 use Rattle.v_frame_rgb.specs.Standards.{levels_of}
 use Rattle.v_frame_rgb.specs.declared.colour.Colour.{Colour}
 use Rattle.v_frame_rgb.specs.declared.standard.Standard.TheVariants.{Bt601, Bt709, Bt2020}
@@ -58,5 +58,5 @@ red_of_eight_bits = refl
 picture : exact_colour_rows Bt709 Limited 10 two_bytes (λ c. c.red ∷ c.green ∷ c.blue ∷ [])
     ((378 ∷ 940 ∷ []) ∷ []) ((705 ∷ 512 ∷ []) ∷ []) ((594 ∷ 512 ∷ []) ∷ [])
     ≡ (128 ∷ 70 ∷ 193 ∷ 255 ∷ 255 ∷ 255 ∷ []) ∷ []
-unfolding exact_colour
+unfolding exact_colour exact_of_pixels
 picture = refl

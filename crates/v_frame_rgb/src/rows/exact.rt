@@ -64,6 +64,7 @@ fn decode_row<T: Pixel, O: ColourOrder>(
 
 /// Returns the colour of a pixel of luma and two of chroma.
 #[inline(always)]
+#[tactic(auto, unfolding(crate::specs::Exact::exact_of_pixels))]
 fn colour_of_pixels<T: Pixel>(matrix: &ExactMatrix, y: T, u: T, v: T) -> Colour
     ensures { result ≡ exact_of_pixels matrix.now.standard matrix.now.range matrix.now.depth
         T.form y u v }
