@@ -17,12 +17,12 @@ module _ {T : Type 0} where
     pub shown : table_of plane ≡ table
 
   -- a frame has three planes of one size
-  pub record IsFullFrame (width height depth : ℕ) (frame : Frame T) : Type 0 where
+  pub record IsFullFrame (width height bits : ℕ) (frame : Frame T) : Type 0 where
     pub y : HasSize width height frame.y_plane
     pub u : MatchOption frame.u_plane ⊥ (HasSize width height)
     pub v : MatchOption frame.v_plane ⊥ (HasSize width height)
     pub subsampling : frame.subsampling ≡ Yuv444
-    pub depth : non_zero_u8_get frame.bit_depth ≡ depth
+    pub depth : non_zero_u8_get frame.bit_depth ≡ bits
 
   -- these show another frame
   pub record ShowsFullChroma (form : PixelForm T) (frame shown : Frame T) : Type 0 where
