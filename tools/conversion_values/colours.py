@@ -72,6 +72,23 @@ def wide_lines(factors):
             yield f"wide {standard} {kind} = {numbers(sums)}"
 
 
+def exact_lines(factors):
+    """The same pictures in samples of each depth, by fractions that are rounded once."""
+    for depth in (8, 9, 10, 12, 16):
+        unit, most = 2 ** (depth - 8), 2 ** depth - 1
+        planes = [[entry(i, factor) % 2 ** depth for i in range(67 * 9)] for factor in (factors.source, factors.target, factors.third)]
+        levels = {"Limited": (16 * unit, 219 * unit, 224 * unit), "Full": (0, most, most)}
+        for standard in WEIGHTS:
+            red, green, blue = map(Fraction, WEIGHTS[standard])
+            for kind, (black, luma, chroma) in levels.items():
+                shown = []
+                for y, u, v in zip(*planes):
+                    y, u, v = Fraction(y - black, luma), Fraction(u - 128 * unit, chroma), Fraction(v - 128 * unit, chroma)
+                    r, b = y + 2 * (1 - red) * v, y + 2 * (1 - blue) * u
+                    shown += [clamped(rounded(255 * value), 255) for value in (r, (y - red * r - blue * b) / green, b)]
+                yield f"exact {standard} {kind} {depth} = {weighted(shown)}"
+
+
 def stored_lines():
     """What is left of colours that were stored as luma and chroma."""
     for standard in WEIGHTS:
@@ -93,4 +110,4 @@ def lines(factors, seed):
                 stored = [dict(zip(letters, colours[size * i:size * i + size])) for i in range(15)]
                 channels = zip(*(encoded(standard, kind, *(part[c] for c in "rgb")) for part in stored))
                 found.append(f"encode {standard} {kind} {order} = {numbers(value for channel in channels for value in channel)}")
-    return [*found, *matrix_lines(), *wide_lines(factors), *stored_lines()]
+    return [*found, *matrix_lines(), *wide_lines(factors), *exact_lines(factors), *stored_lines()]

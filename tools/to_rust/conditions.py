@@ -141,6 +141,8 @@ class Reader:
         rust, fails = SIGNS[sign]
         if sign == "<" and a.rust == "0":
             return Check(f"{b} > 0", f"{b:words} is 0", f"{b:words} is 0".replace("`", ""))
+        if sign == "≤" and a.kind == "literal":
+            return Check(f"{b} >= {a}", f"{b:words} is below {a:words}", f"{b:shown} is below {a:shown}")
         self.known(a.kind != "literal" and (sign != "<" or "u128" not in (a.kind, b.kind)))
         test = f"{a} {rust} {b}" if b.kind in (a.kind, "literal") else f"{a.wide()} {rust} {b.wide()}"
         if sign == "≡" and a.noun and a.noun == b.noun:

@@ -116,8 +116,8 @@ DERIVES = {name: derives for derives, names in {
     "Debug, Clone, Copy, PartialEq, Eq": "FrameBuilder Rgb Bgr Rgba Bgra",
     "Debug": """PngWriter Coder Lines Chunks CrcTables Bits Deflate Symbols Adler32 Crc32Digest RowsMut PixelsMut
         RowsRef""",
+    "Debug, PartialEq, Eq": "Center Span PixelSums SsimConstants ExactMatrix WholeSteps VisibleMut",
     "Debug, PartialEq": "Series Chart Summary FrameMeasure Mean StreamQuality",
-    "Debug, PartialEq, Eq": "Center Span PixelSums SsimConstants",
     "Debug, Clone": "Counted",
 }.items() for name in names.split()}
 

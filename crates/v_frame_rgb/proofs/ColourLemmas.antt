@@ -6,9 +6,8 @@ use Rattle.std.proofs.lemmas.List.{take_more}
 use Rattle.std.proofs.lemmas.Option.{get_or_from_slice_get, slice_get_within, same_Some}
 use Rattle.std.proofs.lemmas.Slice.{take-put_mid}
 use Rattle.v_frame_raster.specs.Table.{Table}
-use Rattle.v_frame_rgb.specs.Colours.{colour_of, colours_of, colour_rows}
+use Rattle.v_frame_rgb.specs.Colours.{colours_by, colour_rows_by}
 use Rattle.v_frame_rgb.specs.declared.colour.Colour.{Colour}
-use Rattle.v_frame_rgb.specs.declared.matrix.RgbMatrix.{RgbMatrix}
 use borrow.Rule.Slice.PartMut.{put_mid}
 
 -- a loop that writes the bytes of one item after the other, each so many, one step on
@@ -31,37 +30,38 @@ one_more_item make size as_long items out part x c is bytes room so_far =
       bytes,
     )
 
-module _ (m : RgbMatrix) where
+module _ {T : Type 0} (colour : T → T → T → Colour) where
   -- the colour of a pixel is made of its three samples
-  pub slice_get-colours_of : (ys us vs : List ℕ) (x y u v : ℕ) → slice_get ys x ≡ Some y → slice_get us x ≡ Some u
-      → slice_get vs x ≡ Some v → slice_get (colours_of m ys us vs) x ≡ Some (colour_of m y u v)
-  slice_get-colours_of (y' ∷ ys) (u' ∷ us) (v' ∷ vs) zero y u v is is1 is2 =
+  pub slice_get-colours_by : (ys us vs : List T) (x : ℕ) (y u v : T) → slice_get ys x ≡ Some y → slice_get us x ≡ Some u
+      → slice_get vs x ≡ Some v → slice_get (colours_by colour ys us vs) x ≡ Some (colour y u v)
+  slice_get-colours_by (y' ∷ ys) (u' ∷ us) (v' ∷ vs) zero y u v is is1 is2 =
       rw (same_Some y' y is, same_Some u' u is1, same_Some v' v is2)
-  slice_get-colours_of (y' ∷ ys) (u' ∷ us) (v' ∷ vs) (suc x) y u v is is1 is2 =
-      slice_get-colours_of ys us vs x y u v is is1 is2
-  slice_get-colours_of ys us vs x y u v is is1 is2 = cc
+  slice_get-colours_by (y' ∷ ys) (u' ∷ us) (v' ∷ vs) (suc x) y u v is is1 is2 =
+      slice_get-colours_by ys us vs x y u v is is1 is2
+  slice_get-colours_by ys us vs x y u v is is1 is2 = cc
 
-  pub length-colours_of : (ys us vs : List ℕ) → length us ≡ length ys → length vs ≡ length ys
-      → length (colours_of m ys us vs) ≡ length ys
-  length-colours_of [] us vs long long1 = refl
-  length-colours_of (y ∷ ys) (u ∷ us) (v ∷ vs) long long1 =
-      ap suc (length-colours_of ys us vs (omega arith) (omega arith))
-  length-colours_of ys us vs long long1 = absurd (omega arith)
+  pub length-colours_by : (ys us vs : List T) → length us ≡ length ys → length vs ≡ length ys
+      → length (colours_by colour ys us vs) ≡ length ys
+  length-colours_by [] us vs long long1 = refl
+  length-colours_by (y ∷ ys) (u ∷ us) (v ∷ vs) long long1 =
+      ap suc (length-colours_by ys us vs (omega arith) (omega arith))
+  length-colours_by ys us vs long long1 = absurd (omega arith)
 
   module _ (bytes_of : Colour → List ℕ) where
-    pub slice_get-colour_rows : (y_rows u_rows v_rows : Table ℕ) (k : ℕ) (ys us vs : List ℕ)
+    pub slice_get-colour_rows_by : (y_rows u_rows v_rows : Table T) (k : ℕ) (ys us vs : List T)
         → slice_get y_rows k ≡ Some ys → slice_get u_rows k ≡ Some us → slice_get v_rows k ≡ Some vs
-        → slice_get (colour_rows m bytes_of y_rows u_rows v_rows) k ≡ Some (flat_map bytes_of (colours_of m ys us vs))
-    slice_get-colour_rows (ys' ∷ y_rows) (us' ∷ u_rows) (vs' ∷ v_rows) zero ys us vs is is1 is2 =
+        → slice_get (colour_rows_by colour bytes_of y_rows u_rows v_rows) k
+        ≡ Some (flat_map bytes_of (colours_by colour ys us vs))
+    slice_get-colour_rows_by (ys' ∷ y_rows) (us' ∷ u_rows) (vs' ∷ v_rows) zero ys us vs is is1 is2 =
         rw (same_Some ys' ys is, same_Some us' us is1, same_Some vs' vs is2)
-    slice_get-colour_rows (ys' ∷ y_rows) (us' ∷ u_rows) (vs' ∷ v_rows) (suc k) ys us vs is is1 is2 =
-        slice_get-colour_rows y_rows u_rows v_rows k ys us vs is is1 is2
-    slice_get-colour_rows y_rows u_rows v_rows k ys us vs is is1 is2 = cc
+    slice_get-colour_rows_by (ys' ∷ y_rows) (us' ∷ u_rows) (vs' ∷ v_rows) (suc k) ys us vs is is1 is2 =
+        slice_get-colour_rows_by y_rows u_rows v_rows k ys us vs is is1 is2
+    slice_get-colour_rows_by y_rows u_rows v_rows k ys us vs is is1 is2 = cc
 
-    pub length-colour_rows : (y_rows u_rows v_rows : Table ℕ) → length u_rows ≡ length y_rows → length v_rows ≡ length
-        y_rows
-        → length (colour_rows m bytes_of y_rows u_rows v_rows) ≡ length y_rows
-    length-colour_rows [] u_rows v_rows long long1 = refl
-    length-colour_rows (ys ∷ y_rows) (us ∷ u_rows) (vs ∷ v_rows) long long1 =
-        ap suc (length-colour_rows y_rows u_rows v_rows (omega arith) (omega arith))
-    length-colour_rows y_rows u_rows v_rows long long1 = absurd (omega arith)
+    pub length-colour_rows_by : (y_rows u_rows v_rows : Table T) → length u_rows ≡ length y_rows
+        → length v_rows ≡ length y_rows
+        → length (colour_rows_by colour bytes_of y_rows u_rows v_rows) ≡ length y_rows
+    length-colour_rows_by [] u_rows v_rows long long1 = refl
+    length-colour_rows_by (ys ∷ y_rows) (us ∷ u_rows) (vs ∷ v_rows) long long1 =
+        ap suc (length-colour_rows_by y_rows u_rows v_rows (omega arith) (omega arith))
+    length-colour_rows_by y_rows u_rows v_rows long long1 = absurd (omega arith)

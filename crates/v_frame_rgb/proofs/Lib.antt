@@ -1,5 +1,7 @@
 pub mod ColourLemmas
 pub mod Distances
+pub mod ExactLemmas
 pub mod RoundTrips
 pub mod SampleDistances
 pub mod SampleLemmas
+pub mod WholeStepLemmas

@@ -111,17 +111,24 @@ module _ (m : YuvMatrix) (colour : Colour) where
   abbrev pub v_of : ℕ
   v_of = sample_of sample_scale v_bright v_dark
 
--- the colours of a row of luma and two of chroma, and of a picture
-module _ (m : RgbMatrix) where
-  abbrev pub colours_of : List ℕ → List ℕ → List ℕ → List Colour
-  colours_of (y ∷ ys) (u ∷ us) (v ∷ vs) = colour_of m y u v ∷ colours_of ys us vs
-  colours_of ys us vs = []
+-- the colours of a row of luma and two of chroma, and of a picture, where three samples make a colour
+module _ {T : Type 0} (colour : T → T → T → Colour) where
+  abbrev pub colours_by : List T → List T → List T → List Colour
+  colours_by (y ∷ ys) (u ∷ us) (v ∷ vs) = colour y u v ∷ colours_by ys us vs
+  colours_by ys us vs = []
 
   -- the bytes of these colours, row by row, where a colour has those that are given
-  abbrev pub colour_rows : (Colour → List ℕ) → Table ℕ → Table ℕ → Table ℕ → Table ℕ
-  colour_rows bytes_of (ys ∷ y_rows) (us ∷ u_rows) (vs ∷ v_rows) =
-      flat_map bytes_of (colours_of ys us vs) ∷ colour_rows bytes_of y_rows u_rows v_rows
-  colour_rows bytes_of y_rows u_rows v_rows = []
+  abbrev pub colour_rows_by : (Colour → List ℕ) → Table T → Table T → Table T → Table ℕ
+  colour_rows_by bytes_of (ys ∷ y_rows) (us ∷ u_rows) (vs ∷ v_rows) =
+      flat_map bytes_of (colours_by ys us vs) ∷ colour_rows_by bytes_of y_rows u_rows v_rows
+  colour_rows_by bytes_of y_rows u_rows v_rows = []
+
+-- the same by coefficients
+abbrev pub colours_of : RgbMatrix → List ℕ → List ℕ → List ℕ → List Colour
+colours_of m ys us vs = colours_by (colour_of m) ys us vs
+
+abbrev pub colour_rows : RgbMatrix → (Colour → List ℕ) → Table ℕ → Table ℕ → Table ℕ → Table ℕ
+colour_rows m bytes_of y_rows u_rows v_rows = colour_rows_by (colour_of m) bytes_of y_rows u_rows v_rows
 
 -- the colours of the first pixels of a row of bytes, of which so many hold one colour
 abbrev pub colours_in : (List ℕ → Colour) → ℕ → ℕ → List ℕ → List Colour

@@ -8,6 +8,9 @@ pub use Rattle.v_frame_rgb.specs.Colours.{yuv_matrix_of}
 pub use Rattle.v_frame_rgb.specs.Colours.{colour_of, y_of, u_of, v_of, colours_of, colour_rows}
 pub use Rattle.v_frame_rgb.specs.Colours.{colours_in}
 pub use Rattle.v_frame_rgb.specs.Colours.{sample_rows}
+pub use Rattle.v_frame_rgb.specs.Colours.{colours_by, colour_rows_by}
+pub use Rattle.v_frame_rgb.specs.Exact.{exact_colour, exact_colours, exact_colour_rows, gray_at, levels_at}
+pub use Rattle.v_frame_rgb.specs.Exact.{steps_at}
 pub use Rattle.v_frame_rgb.specs.Laws.{RedIsNear, GreenIsNear, BlueIsNear, LumaIsNear}
 pub use Rattle.v_frame_rgb.specs.Laws.{ChromaUIsNear}
 pub use Rattle.v_frame_rgb.specs.Laws.{ChromaVIsNear, HasBytes, ComesBack, and_back, blue_loss}

@@ -3,14 +3,17 @@
 
 mod colour;
 mod convert;
+mod exact;
 pub mod laws;
 mod matrix;
 pub mod rows;
 mod sample;
 mod standard;
+mod whole_steps;
 
 pub use colour::{Bgr, Bgra, Colour, ColourOrder, Rgb, Rgba};
 pub use convert::{rgb_to_channel, rgb_to_yuv444, yuv444_to_rgb};
+pub use exact::ExactMatrix;
 pub use matrix::{RgbMatrix, YuvMatrix};
 pub use sample::{Channel, ChromaU, ChromaV, Luma};
 pub use standard::{ColourRange, Standard};

@@ -5,6 +5,8 @@
 
 mod decode;
 mod encode;
+mod exact;
 
 pub use decode::yuv444_to_rgb;
 pub use encode::{rgb_to_channel, rgb_to_yuv444};
+pub use exact::yuv444_to_rgb_exactly;

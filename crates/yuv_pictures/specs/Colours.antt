@@ -1,22 +1,18 @@
 -- The colours of a frame.
 use Rattle.std.specs.Prelude.{ℕ, ◌||◌, ◌∷◌, [], Bool, List, Option, is_some, if◌then◌else◌}
 use Rattle.std.specs.Int.NonZero.{non_zero_u8_get}
-use Rattle.v_frame.specs.Prelude.{Frame, PixelForm, Raster, Table, one_byte, table_of}
+use Rattle.v_frame.specs.Prelude.{Frame, PixelForm, Raster, Table, table_of}
 use Rattle.v_frame.specs.Prelude.{Yuv444}
-use Rattle.v_frame_convert.specs.Prelude.{chroma_shown, scales_between}
+use Rattle.v_frame_convert.specs.Prelude.{chroma_shown, converted, pixel_at_depth, scales_between}
 use Rattle.v_frame_png.specs.declared.header.Samples.{Samples}
 use Rattle.v_frame_png.specs.declared.header.Samples.TheVariants.{Rgb8}
-use Rattle.v_frame_rgb.specs.Prelude.{Colour, RgbMatrix, colour_rows, rgb_matrix_of}
-use Rattle.yuv_pictures.specs.Grey.{grey_rows, grey_samples, samples_at}
+use Rattle.v_frame_rgb.specs.Prelude.{Colour, exact_colour_rows}
+use Rattle.yuv_pictures.specs.Grey.{grey_rows, grey_samples}
 use Rattle.yuv_pictures.specs.declared.colours.Colours.{Colours}
 
 -- red, green and blue, each a byte
 abbrev pub rgb_bytes : Colour → List ℕ
 rgb_bytes colour = colour.red ∷ colour.green ∷ colour.blue ∷ []
-
--- the coefficients of colours
-abbrev pub matrix_of : Colours → RgbMatrix
-matrix_of colours = rgb_matrix_of colours.standard colours.range
 
 module _ {T : Type 0} (frame : Frame T) where
   -- one of the chroma planes is there
@@ -29,25 +25,27 @@ module _ {T : Type 0} (frame : Frame T) where
       if has_chroma then Rgb8 else grey_samples (non_zero_u8_get frame.bit_depth)
 
 module _ {T : Type 0} (form : PixelForm T) (frame : Frame T) where
-  -- luma of 8 bits
-  abbrev pub luma_shown : Table ℕ
-  luma_shown = samples_at form (non_zero_u8_get frame.bit_depth) 8 (table_of frame.y_plane)
+  abbrev depth : ℕ
+  depth = non_zero_u8_get frame.bit_depth
 
-  -- a chroma plane of 8 bits, with a sample for each of luma
-  abbrev pub full_chroma : Option (Raster T) → Table ℕ
+  -- luma, in which a sample above the largest of the bit depth counts as that one
+  abbrev pub luma_shown : Table T
+  luma_shown = converted (converted (pixel_at_depth form form depth depth)) (table_of frame.y_plane)
+
+  -- a chroma plane likewise, with a sample for each of luma
+  abbrev pub full_chroma : Option (Raster T) → Table T
   full_chroma plane =
-      chroma_shown form one_byte (non_zero_u8_get frame.bit_depth) 8
-      (scales_between frame.subsampling Yuv444) plane
+      chroma_shown form form depth depth (scales_between frame.subsampling Yuv444) plane
       frame.y_plane.geometry.width frame.y_plane.geometry.height
 
-  -- the bytes of the rows of its colours
+  -- the bytes of the rows of its colours, each channel of which is rounded once
   abbrev pub frame_colours : Colours → Table ℕ
   frame_colours colours =
-      colour_rows (matrix_of colours) rgb_bytes luma_shown (full_chroma frame.u_plane)
-      (full_chroma frame.v_plane)
+      exact_colour_rows colours.standard colours.range depth form rgb_bytes luma_shown
+      (full_chroma frame.u_plane) (full_chroma frame.v_plane)
 
   -- what a picture of the frame shows: colours, or grey where it has no chroma
   abbrev pub frame_rows : Colours → Table ℕ
   frame_rows colours =
       if has_chroma frame then frame_colours colours
-      else grey_rows form (non_zero_u8_get frame.bit_depth) (table_of frame.y_plane)
+      else grey_rows form depth (table_of frame.y_plane)

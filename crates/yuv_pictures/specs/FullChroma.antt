@@ -1,34 +1,34 @@
--- Frames of 8 bits in which chroma has the size of luma, and what one shows of another frame.
+-- Frames in which chroma has the size of luma, and what one shows of another frame.
 use Rattle.std.specs.Prelude.{ℕ, ◌≡◌, MatchOption}
 use Rattle.std.specs.Int.NonZero.{non_zero_u8_get}
 use Rattle.v_frame.specs.Prelude.{Frame, PixelForm, Raster, Table, Yuv444, table_of}
 use Rattle.yuv_pictures.specs.Colours.{full_chroma, luma_shown}
 
--- a plane has a size
-pub record HasSize (width height : ℕ) (plane : Raster ℕ) : Type 0 where
-  pub wide : plane.geometry.width ≡ width
-  pub high : plane.geometry.height ≡ height
+module _ {T : Type 0} where
+  -- a plane has a size
+  pub record HasSize (width height : ℕ) (plane : Raster T) : Type 0 where
+    pub wide : plane.geometry.width ≡ width
+    pub high : plane.geometry.height ≡ height
 
--- it also shows a table
-pub record IsPlaneOf (width height : ℕ) (table : Table ℕ) (plane : Raster ℕ) : Type 0 where
-  pub wide : plane.geometry.width ≡ width
-  pub high : plane.geometry.height ≡ height
-  pub shown : table_of plane ≡ table
+  -- it also shows a table
+  pub record IsPlaneOf (width height : ℕ) (table : Table T) (plane : Raster T) : Type 0 where
+    pub wide : plane.geometry.width ≡ width
+    pub high : plane.geometry.height ≡ height
+    pub shown : table_of plane ≡ table
 
--- a frame has three planes of one size
-pub record IsFullFrame (width height : ℕ) (frame : Frame ℕ) : Type 0 where
-  pub y : HasSize width height frame.y_plane
-  pub u : MatchOption frame.u_plane ⊥ (HasSize width height)
-  pub v : MatchOption frame.v_plane ⊥ (HasSize width height)
-  pub subsampling : frame.subsampling ≡ Yuv444
-  pub depth : non_zero_u8_get frame.bit_depth ≡ 8
+  -- a frame has three planes of one size
+  pub record IsFullFrame (width height bits : ℕ) (frame : Frame T) : Type 0 where
+    pub y : HasSize width height frame.y_plane
+    pub u : MatchOption frame.u_plane ⊥ (HasSize width height)
+    pub v : MatchOption frame.v_plane ⊥ (HasSize width height)
+    pub subsampling : frame.subsampling ≡ Yuv444
+    pub depth : non_zero_u8_get frame.bit_depth ≡ bits
 
--- these show another frame
-pub record ShowsFullChroma {T : Type 0} (form : PixelForm T) (frame : Frame T) (shown : Frame ℕ)
-    : Type 0 where
-  pub y : IsPlaneOf frame.y_plane.geometry.width frame.y_plane.geometry.height
-      (luma_shown form frame) shown.y_plane
-  pub u : MatchOption shown.u_plane ⊥ (IsPlaneOf frame.y_plane.geometry.width
-      frame.y_plane.geometry.height (full_chroma form frame frame.u_plane))
-  pub v : MatchOption shown.v_plane ⊥ (IsPlaneOf frame.y_plane.geometry.width
-      frame.y_plane.geometry.height (full_chroma form frame frame.v_plane))
+  -- these show another frame
+  pub record ShowsFullChroma (form : PixelForm T) (frame shown : Frame T) : Type 0 where
+    pub y : IsPlaneOf frame.y_plane.geometry.width frame.y_plane.geometry.height
+        (luma_shown form frame) shown.y_plane
+    pub u : MatchOption shown.u_plane ⊥ (IsPlaneOf frame.y_plane.geometry.width
+        frame.y_plane.geometry.height (full_chroma form frame frame.u_plane))
+    pub v : MatchOption shown.v_plane ⊥ (IsPlaneOf frame.y_plane.geometry.width
+        frame.y_plane.geometry.height (full_chroma form frame frame.v_plane))

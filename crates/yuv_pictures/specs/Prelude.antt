@@ -1,6 +1,6 @@
 -- The words that callers' clauses cite, re-exported from one place.
 pub use Rattle.yuv_pictures.specs.Colours.{frame_colours, frame_rows, frame_samples, full_chroma}
-pub use Rattle.yuv_pictures.specs.Colours.{has_chroma, luma_shown, matrix_of, rgb_bytes}
+pub use Rattle.yuv_pictures.specs.Colours.{has_chroma, luma_shown, rgb_bytes}
 pub use Rattle.yuv_pictures.specs.Differences.{AreDifferences, IsChromaDifference}
 pub use Rattle.yuv_pictures.specs.Differences.{IsPlaneDifference, difference_rows}
 pub use Rattle.yuv_pictures.specs.Grey.{grey_rows, grey_samples, samples_at}

@@ -4,11 +4,11 @@ use Rattle.std.specs.Prelude.{ℕ, ◌≡◌, [], ◌∷◌, refl}
 use Rattle.v_frame.specs.Prelude.{Table, one_byte, two_bytes, Yuv420, Yuv444}
 use Rattle.v_frame_convert.specs.Prelude.{scaled, scales_between, pixel_of_depth}
 use Rattle.v_frame_ops.specs.Prelude.{combined, difference_of}
-use Rattle.v_frame_rgb.specs.Prelude.{colour_rows, rgb_matrix_of}
+use Rattle.v_frame_rgb.specs.Exact.{exact_colour, exact_colour_rows, exact_of_pixels}
 use Rattle.v_frame_rgb.specs.declared.standard.ColourRange.TheVariants.{Limited, Full}
 use Rattle.v_frame_rgb.specs.declared.standard.Standard.TheVariants.{Bt601, Bt709}
 use Rattle.yuv_pictures.specs.Colours.{rgb_bytes}
-use Rattle.yuv_pictures.specs.Grey.{grey_rows, samples_at}
+use Rattle.yuv_pictures.specs.Grey.{grey_rows}
 
 -- ---- grey
 
@@ -37,19 +37,28 @@ repeated_four sample =
 chroma_of_four : repeated_four 90 ≡ (90 ∷ 90 ∷ []) ∷ (90 ∷ 90 ∷ []) ∷ []
 chroma_of_four = refl
 
-red_by_bt601 : colour_rows (rgb_matrix_of Bt601 Limited) rgb_bytes
-    (samples_at one_byte 8 8 red_luma) (repeated_four 90) (repeated_four 240)
+red_by_bt601 : exact_colour_rows Bt601 Limited 8 one_byte rgb_bytes red_luma (repeated_four 90)
+    (repeated_four 240)
     ≡ (179 ∷ 0 ∷ 0 ∷ 254 ∷ 0 ∷ 0 ∷ []) ∷ (255 ∷ 74 ∷ 74 ∷ 255 ∷ 179 ∷ 178 ∷ []) ∷ []
+unfolding exact_colour exact_of_pixels
 red_by_bt601 = refl
 
 -- another standard or another range makes another red
-red_by_bt709 : colour_rows (rgb_matrix_of Bt709 Limited) rgb_bytes ((81 ∷ []) ∷ []) ((90 ∷ []) ∷ [])
+red_by_bt709 : exact_colour_rows Bt709 Limited 8 one_byte rgb_bytes ((81 ∷ []) ∷ []) ((90 ∷ []) ∷ [])
     ((240 ∷ []) ∷ []) ≡ (255 ∷ 24 ∷ 0 ∷ []) ∷ []
+unfolding exact_colour exact_of_pixels
 red_by_bt709 = refl
 
-red_of_full_range : colour_rows (rgb_matrix_of Bt601 Full) rgb_bytes ((81 ∷ []) ∷ [])
+red_of_full_range : exact_colour_rows Bt601 Full 8 one_byte rgb_bytes ((81 ∷ []) ∷ [])
     ((90 ∷ []) ∷ []) ((240 ∷ []) ∷ []) ≡ (238 ∷ 14 ∷ 14 ∷ []) ∷ []
+unfolding exact_colour exact_of_pixels
 red_of_full_range = refl
+
+-- 10 bits are not brought to 8 first, by which it would be 130, 71 and 193
+deep_colour : exact_colour_rows Bt709 Limited 10 two_bytes rgb_bytes ((378 ∷ []) ∷ [])
+    ((705 ∷ []) ∷ []) ((594 ∷ []) ∷ []) ≡ (128 ∷ 70 ∷ 193 ∷ []) ∷ []
+unfolding exact_colour exact_of_pixels
+deep_colour = refl
 
 -- ---- differences
 

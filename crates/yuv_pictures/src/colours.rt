@@ -1,8 +1,9 @@
 //! The colours of a frame as a picture.
 ghost use Rattle.std.specs.Prelude.{◌≡◌, ◌*◌, ◌<◌, Some, length, slice_get, IfErr, IfOk, OnOk};
+ghost use Rattle.std.specs.Int.NonZero.{non_zero_u8_get};
 ghost use Rattle.v_frame.specs.Prelude.{height_of, table_of, width_of};
 ghost use Rattle.v_frame_png.specs.Prelude.{HasFile};
-ghost use Rattle.v_frame_rgb.specs.Prelude.{colour_rows};
+ghost use Rattle.v_frame_rgb.specs.Prelude.{exact_colour_rows};
 ghost use Rattle.yuv_pictures.specs.Colours.{frame_colours, frame_rows, frame_samples, has_chroma, rgb_bytes};
 ghost use Rattle.yuv_pictures.specs.FullChroma.{IsFullFrame, ShowsFullChroma};
 ghost use Rattle.yuv_pictures.specs.Planes.{picture_header, IsPictureSize};
@@ -14,12 +15,12 @@ use crate::grey::write_grey;
 use std::alloc::Global;
 use std::io;
 use v_frame::chroma::ChromaSubsampling;
-use v_frame::frame::{Frame, FrameBuilder};
+use v_frame::frame::Frame;
 use v_frame::pixel::Pixel;
 use v_frame::plane::{Plane, RowsRef};
 use v_frame_convert::{convert_frame, frames_fit};
 use v_frame_png::{Header, Samples};
-use v_frame_rgb::{ColourRange, Rgb, RgbMatrix, Standard, rows};
+use v_frame_rgb::{ColourRange, ExactMatrix, Rgb, Standard, rows};
 
 /// How the colours of a frame are made.
 #[derive(Debug, Clone, Copy, PartialEq, Eq)]
@@ -32,9 +33,10 @@ pub struct Colours {
 
 /// Writes the colours of a frame as RGB of 8 bits, and returns the writer.
 ///
-/// Samples are brought to 8 bits, and chroma pixels are repeated for each luma pixel beside them, as by `convert_frame` of
-/// `v_frame_convert`. Where one chroma plane is missing it counts as no colour. A frame without chroma is written in grey, as
-/// [`write_plane_picture`](crate::write_plane_picture) writes its luma: its samples as they are, whatever `colours` says.
+/// Chroma pixels are repeated for each luma pixel beside them, as by `convert_frame` of `v_frame_convert`. Colours are made of
+/// samples of the frame's bit depth, and rounded once. Where one chroma plane is missing it counts as no colour. A frame without
+/// chroma is written in grey, as [`write_plane_picture`](crate::write_plane_picture) writes its luma: its samples as they are,
+/// whatever `colours` says.
 ///
 /// # Errors
 ///
@@ -86,24 +88,24 @@ fn write_colours<T: Pixel, W: io::Write + Drop>(
     let (width, height) = (frame.y_plane.width(), frame.y_plane.height());
     let header = header_of(width, height, Samples::Rgb8)?;
     let shown = with_full_chroma(alloc, frame)?;
-    let matrix = RgbMatrix::new(colours.standard, colours.range);
+    let matrix = ExactMatrix::new(colours.standard, colours.range, frame.bit_depth.get());
     match (&shown.u_plane, &shown.v_plane) {
-        (Some(u), Some(v)) => { write_planes(alloc, out, header, &shown.y_plane, u, v, matrix) }
+        (Some(u), Some(v)) => { write_planes(alloc, out, header, &shown.y_plane, u, v, &matrix) }
         _ => unreachable!(),
     }
 }
 
-/// Returns what a frame shows in 8 bits a sample, with a chroma pixel for each luma pixel.
+/// Returns what a frame shows with a chroma pixel for each luma pixel.
 ///
 /// # Errors
 ///
 /// [`PictureError::Layout`] where the frame is not as its format and its bit depth say, and [`PictureError::OutOfMemory`].
-fn with_full_chroma<T: Pixel>(alloc: Global, frame: &Frame<T>) -> Result<Frame<u8>, PictureError>
+fn with_full_chroma<T: Pixel>(alloc: Global, frame: &Frame<T>) -> Result<Frame<T>, PictureError>
     ensures shown { IfOk result (ShowsFullChroma T.form frame.now) }
     ensures accepted { OnOk result (IsSound T.BYTES frame.now) }
     ensures error { IfErr result (StopsFullChroma T.BYTES frame.now) }
 {
-    let mut shown = full_frame(alloc, frame.y_plane.width(), frame.y_plane.height())?;
+    let mut shown = full_frame(alloc, frame)?;
     if !frames_fit(frame, &shown) {
         return Err(PictureError::Layout);
     }
@@ -111,27 +113,31 @@ fn with_full_chroma<T: Pixel>(alloc: Global, frame: &Frame<T>) -> Result<Frame<u
     Ok(shown)
 }
 
-/// Returns a frame of 8 bits with chroma of the size of luma.
-fn full_frame(alloc: Global, width: usize, height: usize) -> Result<Frame<u8>, PictureError>
-    ensures full { IfOk result (IsFullFrame width height) }
+/// Returns a blank frame of the size and the bit depth of another one, with chroma of the size of luma.
+fn full_frame<T: Pixel>(alloc: Global, like: &Frame<T>) -> Result<Frame<T>, PictureError>
+    ensures full { IfOk result (IsFullFrame like.now.y_plane.geometry.width
+        like.now.y_plane.geometry.height (non_zero_u8_get like.now.bit_depth)) }
     ensures error { IfErr result (λ e. e ≡ PictureError.OutOfMemory) }
 {
-    // A frame of this size is in memory already, so no size is refused but for want of memory.
-    match FrameBuilder::new(width, height, ChromaSubsampling::Yuv444, 8).build(alloc) {
-        Ok(frame) => Ok(frame),
-        Err(_) => Err(PictureError::OutOfMemory),
-    }
+    let geometry = like.y_plane.geometry();
+    Ok(Frame {
+        y_plane: Plane::new(alloc, geometry)?,
+        u_plane: Some(Plane::new(alloc, geometry)?),
+        v_plane: Some(Plane::new(alloc, geometry)?),
+        subsampling: ChromaSubsampling::Yuv444,
+        bit_depth: like.bit_depth,
+    })
 }
 
 /// Writes the colours of three planes of one size, and returns the writer.
-fn write_planes<W: io::Write + Drop>(
+fn write_planes<T: Pixel, W: io::Write + Drop>(
     alloc: Global,
     out: W,
     header: Header,
-    y: &Plane<u8>,
-    u: &Plane<u8>,
-    v: &Plane<u8>,
-    matrix: RgbMatrix,
+    y: &Plane<T>,
+    u: &Plane<T>,
+    v: &Plane<T>,
+    matrix: &ExactMatrix,
 ) -> Result<W, PictureError>
     requires header { header
         ≡ picture_header y.now.geometry.width y.now.geometry.height Samples.Rgb8 }
@@ -141,7 +147,8 @@ fn write_planes<W: io::Write + Drop>(
     requires v_wide { v.now.geometry.width ≡ y.now.geometry.width }
     requires v_high { v.now.geometry.height ≡ y.now.geometry.height }
     ensures file { IfOk result (λ new. HasFile W.contents (W.contents out) new header
-        (colour_rows matrix rgb_bytes (table_of y.now) (table_of u.now) (table_of v.now))) }
+        (exact_colour_rows matrix.now.standard matrix.now.range matrix.now.depth T.form rgb_bytes
+        (table_of y.now) (table_of u.now) (table_of v.now))) }
     ensures error { IfErr result IsTrouble }
 {
     let y = y.as_plane_ref().as_rows_ref();
@@ -153,14 +160,14 @@ fn write_planes<W: io::Write + Drop>(
 }
 
 /// Writes the colours of luma and chroma of one size, row by row, and returns the writer.
-fn write_colour_rows<W: io::Write + Drop>(
+fn write_colour_rows<T: Pixel, W: io::Write + Drop>(
     alloc: Global,
     out: W,
     header: Header,
-    y: &RowsRef<'_, u8>,
-    u: &RowsRef<'_, u8>,
-    v: &RowsRef<'_, u8>,
-    matrix: RgbMatrix,
+    y: &RowsRef<'_, T>,
+    u: &RowsRef<'_, T>,
+    v: &RowsRef<'_, T>,
+    matrix: &ExactMatrix,
 ) -> Result<W, PictureError>
     requires header { header ≡ picture_header (width_of y.now) (height_of y.now) Samples.Rgb8 }
     requires size { IsPictureSize (width_of y.now) (height_of y.now) }
@@ -169,7 +176,8 @@ fn write_colour_rows<W: io::Write + Drop>(
     requires v_wide { width_of v.now ≡ width_of y.now }
     requires v_high { height_of v.now ≡ height_of y.now }
     ensures file { IfOk result (λ new. HasFile W.contents (W.contents out) new header
-        (colour_rows matrix rgb_bytes y.now u.now v.now)) }
+        (exact_colour_rows matrix.now.standard matrix.now.range matrix.now.depth T.form rgb_bytes
+        y.now u.now v.now)) }
     ensures error { IfErr result IsTrouble }
 {
     let height = y.height();
@@ -187,13 +195,13 @@ fn write_colour_rows<W: io::Write + Drop>(
 }
 
 /// Makes a line the colours of row `k` of luma and chroma of one size.
-fn make_colour_row(
+fn make_colour_row<T: Pixel>(
     line: &mut [u8],
-    y: &RowsRef<'_, u8>,
-    u: &RowsRef<'_, u8>,
-    v: &RowsRef<'_, u8>,
+    y: &RowsRef<'_, T>,
+    u: &RowsRef<'_, T>,
+    v: &RowsRef<'_, T>,
     k: usize,
-    matrix: RgbMatrix,
+    matrix: &ExactMatrix,
 )
     requires size { length line.old ≡ 3 * width_of y.now }
     requires there { k < height_of y.now }
@@ -201,7 +209,8 @@ fn make_colour_row(
     requires u_high { height_of u.now ≡ height_of y.now }
     requires v_wide { width_of v.now ≡ width_of y.now }
     requires v_high { height_of v.now ≡ height_of y.now }
-    ensures { slice_get (colour_rows matrix rgb_bytes y.now u.now v.now) k ≡ Some line.new }
+    ensures { slice_get (exact_colour_rows matrix.now.standard matrix.now.range matrix.now.depth
+        T.form rgb_bytes y.now u.now v.now) k ≡ Some line.new }
 {
     let (width, size) = (y.width(), line.len());
     // The rows that are read are there, and as wide as the picture.
@@ -213,5 +222,5 @@ fn make_colour_row(
         u.visible_region(0, k, width, 1),
         v.visible_region(0, k, width, 1),
     );
-    rows::yuv444_to_rgb::<Rgb>(&luma, &blue, &red, matrix, line, size, 1, size);
+    rows::yuv444_to_rgb_exactly::<T, Rgb>(&luma, &blue, &red, matrix, line, size, 1, size);
 }

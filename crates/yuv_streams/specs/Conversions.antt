@@ -136,8 +136,10 @@ layout_to Y4m None there = None
 layout_to Raw None there = there
 layout_to to (Some format) there = layout_in (Some format)
 
--- the colour of what is written, where a format may be asked for
+-- the colour of what is written, where a format may be asked for. Frames that have it already stay as
+-- they are, and so does what says where their chroma lies
 abbrev pub colour_in : Option VideoFormat → Colour → Colour
 colour_in None there = there
-colour_in (Some (Planar colour)) there = colour
+colour_in (Some (Planar colour)) there =
+    if is_same_format (format_in there) (format_in colour) then there else colour
 colour_in (Some (SemiPlanar layout)) there = planar_colour layout

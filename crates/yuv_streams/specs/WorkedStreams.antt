@@ -1,5 +1,7 @@
 -- Small cases worked out by hand. Each line computes: it is proved by `refl`.
 use Rattle.std.specs.Prelude.{ℕ, ◌≡◌, [], ◌∷◌, Some, None, true, false, refl}
+use Rattle.v_frame_y4m.specs.declared.colour.Colour.TheVariants.{Yuv420, Yuv420Mpeg2, Yuv422}
+use Rattle.yuv_streams.specs.Conversions.{colour_in}
 use Rattle.yuv_streams.specs.Copies.{kept}
 use Rattle.yuv_streams.specs.Edits.{beside, halved_size}
 use Rattle.v_frame.specs.Prelude.{one_byte, two_bytes, Tables}
@@ -8,6 +10,7 @@ use Rattle.v_frame_semi_planar.specs.declared.format.SemiPlanarFormat.TheVariant
 use Rattle.yuv_streams.specs.Pictures.{tables_of_bytes, Sizes}
 use Rattle.yuv_streams.specs.Streams.{stream_bytes, written_bytes}
 use Rattle.yuv_streams.specs.declared.stream.Container.TheVariants.{Raw}
+use Rattle.yuv_words.specs.declared.format.VideoFormat.TheVariants.{Planar}
 
 -- 854 columns become 427, and these 214
 half_of_even : halved_size true 854 ≡ 427
@@ -36,6 +39,13 @@ taken_frames : kept
     (([], 1 ∷ []) ∷ ([], 2 ∷ []) ∷ ([], 3 ∷ []) ∷ [])
     ≡ ([], 2 ∷ []) ∷ []
 taken_frames = refl
+
+-- samples that stay lie where the stream says
+siting_stays : colour_in (Some (Planar Yuv420)) Yuv420Mpeg2 ≡ Yuv420Mpeg2
+siting_stays = refl
+
+other_chroma_is_named : colour_in (Some (Planar Yuv422)) Yuv420Mpeg2 ≡ Yuv422
+other_chroma_is_named = refl
 
 -- headerless frames are their bytes
 raw_frames : stream_bytes Raw (([], 1 ∷ 2 ∷ []) ∷ ([], 3 ∷ 4 ∷ []) ∷ []) ≡ 1 ∷ 2 ∷ 3 ∷ 4 ∷ []

@@ -103,12 +103,14 @@ impl CopyOptions {
         }
     }
 
-    /// Returns the colour of what is written of a stream of this colour.
+    /// Returns the colour of what is written of a stream of this colour: the same one, with its chroma siting, where chroma format
+    /// and bit depth stay.
     pub fn colour(&self, there: Colour) -> Colour
         ensures { result ≡ colour_in self.now.format there }
     {
         match self.format {
             None => there,
+            Some(VideoFormat::Planar(colour)) if is_same_format(there, colour) => there,
             Some(VideoFormat::Planar(colour)) => colour,
             Some(VideoFormat::SemiPlanar(layout)) => planar_colour(layout),
         }

@@ -4,10 +4,11 @@ mod support;
 
 use support::cases::{Case, cases, values};
 use support::planes::{BORDER, blank, bordered, must_hold, must_show, numbered, plane_of, weighted};
+use v_frame_proved::pixel::Pixel;
 use v_frame_proved::plane::RowsRef;
 use v_frame_proved::rgb::{
-    Bgr, Bgra, Channel, ChromaU, ChromaV, Colour, ColourOrder, ColourRange, Luma, Rgb, RgbMatrix, Rgba, Standard,
-    YuvMatrix, rgb_to_channel, rgb_to_yuv444, rows, yuv444_to_rgb,
+    Bgr, Bgra, Channel, ChromaU, ChromaV, Colour, ColourOrder, ColourRange, ExactMatrix, Luma, Rgb, RgbMatrix, Rgba,
+    Standard, YuvMatrix, rgb_to_channel, rgb_to_yuv444, rows, yuv444_to_rgb,
 };
 
 const CASES: &str = include_str!("data/colours.txt");
@@ -131,6 +132,26 @@ fn wide_pictures_become_colours_and_samples() {
         let [mut luma, mut cb, mut cr] = [(); 3].map(|()| blank::<u8>(layout));
         rgb_to_yuv444::<Rgb>(&source, YuvMatrix::new(standard, range), &mut luma, &mut cb, &mut cr);
         case.expect(&[weighted(&buffer), weighted(luma.data()), weighted(cb.data()), weighted(cr.data())]);
+    }
+}
+
+/// Returns the sum of the colours of a wide picture of a bit depth.
+fn exact<T: Pixel>(matrix: &ExactMatrix, size: u16) -> u64 {
+    let factors: Vec<usize> = values(CASES, "factors");
+    let samples = [0, 1, 2].map(|index| numbered::<T>([67, 9, 0, 0, 0, 0], factors[index], size));
+    let mut buffer = vec![0; 3 * 67 * 9];
+    rows::yuv444_to_rgb_exactly::<T, Rgb>(&samples[0], &samples[1], &samples[2], matrix, &mut buffer, 3 * 67, 9, 3 * 67);
+    weighted(&buffer)
+}
+
+#[test]
+fn samples_of_any_depth_become_colours() {
+    for mut case in cases(CASES, "exact") {
+        let (standard, range) = standard(&mut case);
+        let depth: u8 = case.number();
+        let matrix = ExactMatrix::new(standard, range, depth);
+        let size = if depth == 16 { 0 } else { 1 << depth };
+        case.expect(&[if depth == 8 { exact::<u8>(&matrix, 0) } else { exact::<u16>(&matrix, size) }]);
     }
 }
 

@@ -1,8 +1,8 @@
 //! Colours from luma and chroma, and back.
 
 use crate::case::{Case, case};
-use crate::pictures::{plane, rows, to_rgb, to_yuv};
-use v_frame_proved::rgb::{self, Bgra, ChromaU, Luma, Rgb};
+use crate::pictures::{plane, rows, to_rgb, to_rgb_exactly, to_yuv};
+use v_frame_proved::rgb::{self, Bgra, ChromaU, ColourRange, Luma, Rgb, Standard};
 
 pub const CASES: &[Case] = &[
     case!(
@@ -61,6 +61,36 @@ pub const CASES: &[Case] = &[
         rgb::rows::yuv444_to_rgb::<Rgb>, "the height of v (1) is not height (2)",
         rows(2, 2), rows(2, 2), rows(2, 1), to_rgb(), &mut [0; 12], 6, 2, 6
     ),
+    case!(
+        rgb::rows::yuv444_to_rgb_exactly::<u8, Rgb>, "2 rows of 6 entries, 6 apart, do not fit 11 entries",
+        rows(2, 2), rows(2, 2), rows(2, 2), &to_rgb_exactly(), &mut [0; 11], 6, 2, 6
+    ),
+    case!(
+        rgb::rows::yuv444_to_rgb_exactly::<u8, Rgb>, "width (5) is not O::BYTES (3) times the width of y (2)",
+        rows(2, 2), rows(2, 2), rows(2, 2), &to_rgb_exactly(), &mut [0; 12], 5, 2, 6
+    ),
+    case!(
+        rgb::rows::yuv444_to_rgb_exactly::<u8, Rgb>, "the height of y (3) is not height (2)",
+        rows(2, 3), rows(2, 2), rows(2, 2), &to_rgb_exactly(), &mut [0; 12], 6, 2, 6
+    ),
+    case!(
+        rgb::rows::yuv444_to_rgb_exactly::<u8, Rgb>, "the widths of u (3) and y (2) are not equal",
+        rows(2, 2), rows(3, 2), rows(2, 2), &to_rgb_exactly(), &mut [0; 12], 6, 2, 6
+    ),
+    case!(
+        rgb::rows::yuv444_to_rgb_exactly::<u8, Rgb>, "the height of u (3) is not height (2)",
+        rows(2, 2), rows(2, 3), rows(2, 2), &to_rgb_exactly(), &mut [0; 12], 6, 2, 6
+    ),
+    case!(
+        rgb::rows::yuv444_to_rgb_exactly::<u8, Rgb>, "the widths of v (1) and y (2) are not equal",
+        rows(2, 2), rows(2, 2), rows(1, 2), &to_rgb_exactly(), &mut [0; 12], 6, 2, 6
+    ),
+    case!(
+        rgb::rows::yuv444_to_rgb_exactly::<u8, Rgb>, "the height of v (1) is not height (2)",
+        rows(2, 2), rows(2, 2), rows(2, 1), &to_rgb_exactly(), &mut [0; 12], 6, 2, 6
+    ),
+    case!(rgb::ExactMatrix::new, "depth (7) is below 8", Standard::Bt601, ColourRange::Full, 7),
+    case!(rgb::ExactMatrix::new, "depth (17) is above 16", Standard::Bt601, ColourRange::Full, 17),
     case!(
         rgb::rgb_to_channel::<Rgb, ChromaU>, "width of source (5) is not O::BYTES (3) times the width of plane (2)",
         rows(5, 2), to_yuv(), &mut plane(2, 2)

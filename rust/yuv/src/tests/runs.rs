@@ -36,7 +36,7 @@ fn kept_runs_write_what_they_should() {
     for case in &cases {
         check(&rt, &room, case);
     }
-    assert_eq!(cases.len(), 309);
+    assert_eq!(cases.len(), 311);
 }
 
 /// Does a run, and sees that it wrote what it should.

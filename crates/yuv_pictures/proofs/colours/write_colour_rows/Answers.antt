@@ -1,8 +1,8 @@
 -- One more row is drawn, and then the file is finished.
 use Rattle.std.proofs.Common.{◌≡◌, ◌≤◌, take, length, ap, ◌∙◌, arith, take_all, length-take-le}
 use Rattle.std.proofs.lemmas.Grind.{common_steps}
-use Rattle.v_frame_rgb.specs.Colours.{colour_rows}
-use Rattle.v_frame_rgb.proofs.ColourLemmas.{length-colour_rows}
+use Rattle.v_frame_rgb.specs.Exact.{exact_colour_rows, exact_of_pixels}
+use Rattle.v_frame_rgb.proofs.ColourLemmas.{length-colour_rows_by}
 use Rattle.v_frame_png.specs.Header.{row_size}
 use Rattle.v_frame_png.specs.Refusals.{AcceptsRows}
 use Rattle.v_frame_png.proofs.RowLists.{row_more}
@@ -15,7 +15,8 @@ loop-k-preserved g c =
     let before = c.loop-k.invariant in
     let k = c.loop-k.k in
     let line = c.make_colour_row.new.line in
-    let rows = colour_rows c.args.matrix rgb_bytes c.args.y.now c.args.u.now c.args.v.now in
+    let m = c.args.matrix.now in
+    let rows = exact_colour_rows m.standard m.range m.depth g.T.Pixel.form rgb_bytes c.args.y.now c.args.u.now c.args.v.now in
     let long : length line ≡ c.loop-k.line.len = c.make_colour_row.auto.line ∙ c.deref_mut.ensures.len in
     let same : c.deref.result.now ≡ line = grind (arith, common_steps) in
     let drawn = c.in_default.ensures.drawn (g.W.Write.contents c.args.out) (take k rows) before.drawn in
@@ -29,8 +30,10 @@ pub returns-in-Err-clause-error : goal.returns-in-Err-clause-error
 returns-in-Err-clause-error g c =
     let before = c.loop-k.invariant in
     let k = c.loop-k.k in
-    let rows = colour_rows c.args.matrix rgb_bytes c.args.y.now c.args.u.now c.args.v.now in
-    let count = length-colour_rows c.args.matrix rgb_bytes c.args.y.now c.args.u.now c.args.v.now
+    let m = c.args.matrix.now in
+    let rows = exact_colour_rows m.standard m.range m.depth g.T.Pixel.form rgb_bytes c.args.y.now c.args.u.now c.args.v.now in
+    let colour = exact_of_pixels m.standard m.range m.depth g.T.Pixel.form in
+    let count = length-colour_rows_by colour rgb_bytes c.args.y.now c.args.u.now c.args.v.now
     c.requires.u_high c.requires.v_high in
     let is = before.header ∙ c.requires.header in
     let high = ap (λ h. h.height) is in
@@ -52,8 +55,10 @@ end-requires-clause-is_open g c = c.loop-k.invariant.drawn.is_open
 pub end-requires-clause-left : goal.end-requires-clause-left
 end-requires-clause-left g c =
     let before = c.loop-k.invariant in
-    let rows = colour_rows c.args.matrix rgb_bytes c.args.y.now c.args.u.now c.args.v.now in
-    let count = length-colour_rows c.args.matrix rgb_bytes c.args.y.now c.args.u.now c.args.v.now
+    let m = c.args.matrix.now in
+    let rows = exact_colour_rows m.standard m.range m.depth g.T.Pixel.form rgb_bytes c.args.y.now c.args.u.now c.args.v.now in
+    let colour = exact_of_pixels m.standard m.range m.depth g.T.Pixel.form in
+    let count = length-colour_rows_by colour rgb_bytes c.args.y.now c.args.u.now c.args.v.now
     c.requires.u_high c.requires.v_high in
     let high = ap (λ h. h.height) (before.header ∙ c.requires.header) in
     let whole : take c.loop-k.k rows ≡ rows =
@@ -64,8 +69,10 @@ end-requires-clause-left g c =
 pub returns-clause-file : goal.returns-clause-file
 returns-clause-file g c =
     let before = c.loop-k.invariant in
-    let rows = colour_rows c.args.matrix rgb_bytes c.args.y.now c.args.u.now c.args.v.now in
-    let count = length-colour_rows c.args.matrix rgb_bytes c.args.y.now c.args.u.now c.args.v.now
+    let m = c.args.matrix.now in
+    let rows = exact_colour_rows m.standard m.range m.depth g.T.Pixel.form rgb_bytes c.args.y.now c.args.u.now c.args.v.now in
+    let colour = exact_of_pixels m.standard m.range m.depth g.T.Pixel.form in
+    let count = length-colour_rows_by colour rgb_bytes c.args.y.now c.args.u.now c.args.v.now
     c.requires.u_high c.requires.v_high in
     let whole : take c.loop-k.k rows ≡ rows =
     take_all c.loop-k.k rows (omega (arith, count, c.height-height.ensures.value, c.loop-k-test.false)) in

@@ -2,14 +2,14 @@
 use Rattle.std.proofs.Common.{◌≡◌, ◌*◌, take, vec_len}
 use Rattle.v_frame.specs.Prelude.{width_of}
 use Rattle.v_frame_png.specs.Writing.{HasDrawn}
-use Rattle.v_frame_rgb.specs.Colours.{colour_rows}
+use Rattle.v_frame_rgb.specs.Exact.{exact_colour_rows}
 use Rattle.yuv_pictures.specs.Colours.{rgb_bytes}
 use Rattle.yuv_pictures.proofs.colours.write_colour_rows.Given as goal
 
 abbrev pub invariant-loop-k : goal.invariant-loop-k
 invariant-loop-k g l = record {
   drawn : HasDrawn g.W.Write.contents (g.W.Write.contents l.fn.out) l.png
-      (take l.k (colour_rows l.matrix rgb_bytes l.y l.u l.v));
+      (take l.k (exact_colour_rows l.matrix.standard l.matrix.range l.matrix.depth g.T.Pixel.form rgb_bytes l.y l.u l.v));
   header : l.png.header ≡ l.fn.header;
   size : vec_len l.line ≡ 3 * width_of l.y;
 }

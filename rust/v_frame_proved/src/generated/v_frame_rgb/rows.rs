@@ -8,7 +8,7 @@
 //!
 //! ```
 //! use v_frame_proved::plane::RowsRef;
-//! use v_frame_proved::rgb::{ChromaV, ColourRange, Rgb, RgbMatrix, Rgba, Standard, YuvMatrix, rows};
+//! use v_frame_proved::rgb::{ChromaV, ColourRange, ExactMatrix, Rgb, RgbMatrix, Rgba, Standard, YuvMatrix, rows};
 //!
 //! let picture = RowsRef::new(&[255, 255, 255, 0, 0, 0], 6, 1, 6).unwrap();
 //! let matrix = YuvMatrix::new(Standard::Bt601, ColourRange::Limited);
@@ -23,10 +23,20 @@
 //! let mut bytes = [0; 8];
 //! rows::yuv444_to_rgb::<Rgba>(&plane_of(&y), &plane_of(&u), &plane_of(&v), matrix, &mut bytes, 8, 1, 8);
 //! assert_eq!(bytes, [255, 255, 255, 255, 0, 0, 0, 255]);
+//!
+//! // White and a blue of 10 bits, rounded once.
+//! let matrix = ExactMatrix::new(Standard::Bt709, ColourRange::Limited, 10);
+//! let [y, u, v] = [[940_u16, 378], [512, 705], [512, 594]];
+//! let plane_of = |pixels| RowsRef::new(pixels, 2, 1, 2).unwrap();
+//! let mut bytes = [0; 6];
+//! rows::yuv444_to_rgb_exactly::<u16, Rgb>(&plane_of(&y), &plane_of(&u), &plane_of(&v), &matrix, &mut bytes, 6, 1, 6);
+//! assert_eq!(bytes, [255, 255, 255, 128, 70, 193]);
 //! ```
 
 mod decode;
 mod encode;
+mod exact;
 
 pub use decode::yuv444_to_rgb;
 pub use encode::{rgb_to_channel, rgb_to_yuv444};
+pub use exact::yuv444_to_rgb_exactly;

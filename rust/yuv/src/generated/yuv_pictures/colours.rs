@@ -7,12 +7,12 @@ use crate::generated::yuv_pictures::file::{begin, end, header_of, trouble};
 use crate::generated::yuv_pictures::grey::write_grey;
 use std::io;
 use v_frame_proved::chroma::ChromaSubsampling;
-use v_frame_proved::frame::{Frame, FrameBuilder};
+use v_frame_proved::frame::Frame;
 use v_frame_proved::pixel::Pixel;
 use v_frame_proved::plane::{Plane, RowsRef};
 use v_frame_proved::convert::{convert_frame, frames_fit};
 use v_frame_proved::png::{Header, Samples};
-use v_frame_proved::rgb::{ColourRange, Rgb, RgbMatrix, Standard, rows};
+use v_frame_proved::rgb::{ColourRange, ExactMatrix, Rgb, Standard, rows};
 
 /// How the colours of a frame are made.
 #[derive(Debug, Clone, Copy, PartialEq, Eq)]
@@ -25,9 +25,10 @@ pub struct Colours {
 
 /// Writes the colours of a frame as RGB of 8 bits, and returns the writer.
 ///
-/// Samples are brought to 8 bits, and chroma pixels are repeated for each luma pixel beside them, as by `convert_frame` of
-/// `convert`. Where one chroma plane is missing it counts as no colour. A frame without chroma is written in grey, as
-/// [`write_plane_picture`](crate::generated::yuv_pictures::write_plane_picture) writes its luma: its samples as they are, whatever `colours` says.
+/// Chroma pixels are repeated for each luma pixel beside them, as by `convert_frame` of `convert`. Colours are made of
+/// samples of the frame's bit depth, and rounded once. Where one chroma plane is missing it counts as no colour. A frame without
+/// chroma is written in grey, as [`write_plane_picture`](crate::generated::yuv_pictures::write_plane_picture) writes its luma: its samples as they are,
+/// whatever `colours` says.
 ///
 /// # Errors
 ///
@@ -61,20 +62,20 @@ fn write_colours<T: Pixel, W: io::Write>(
     let (width, height) = (frame.y_plane.width(), frame.y_plane.height());
     let header = header_of(width, height, Samples::Rgb8)?;
     let shown = with_full_chroma(frame)?;
-    let matrix = RgbMatrix::new(colours.standard, colours.range);
+    let matrix = ExactMatrix::new(colours.standard, colours.range, frame.bit_depth.get());
     match (&shown.u_plane, &shown.v_plane) {
-        (Some(u), Some(v)) => { write_planes(out, header, &shown.y_plane, u, v, matrix) }
+        (Some(u), Some(v)) => { write_planes(out, header, &shown.y_plane, u, v, &matrix) }
         _ => unreachable!(),
     }
 }
 
-/// Returns what a frame shows in 8 bits a sample, with a chroma pixel for each luma pixel.
+/// Returns what a frame shows with a chroma pixel for each luma pixel.
 ///
 /// # Errors
 ///
 /// [`PictureError::Layout`] where the frame is not as its format and its bit depth say, and [`PictureError::OutOfMemory`].
-fn with_full_chroma<T: Pixel>(frame: &Frame<T>) -> Result<Frame<u8>, PictureError> {
-    let mut shown = full_frame(frame.y_plane.width(), frame.y_plane.height())?;
+fn with_full_chroma<T: Pixel>(frame: &Frame<T>) -> Result<Frame<T>, PictureError> {
+    let mut shown = full_frame(frame)?;
     if !frames_fit(frame, &shown) {
         return Err(PictureError::Layout);
     }
@@ -82,23 +83,26 @@ fn with_full_chroma<T: Pixel>(frame: &Frame<T>) -> Result<Frame<u8>, PictureErro
     Ok(shown)
 }
 
-/// Returns a frame of 8 bits with chroma of the size of luma.
-fn full_frame(width: usize, height: usize) -> Result<Frame<u8>, PictureError> {
-    // A frame of this size is in memory already, so no size is refused but for want of memory.
-    match FrameBuilder::new(width, height, ChromaSubsampling::Yuv444, 8).build() {
-        Ok(frame) => Ok(frame),
-        Err(_) => Err(PictureError::OutOfMemory),
-    }
+/// Returns a blank frame of the size and the bit depth of another one, with chroma of the size of luma.
+fn full_frame<T: Pixel>(like: &Frame<T>) -> Result<Frame<T>, PictureError> {
+    let geometry = like.y_plane.geometry();
+    Ok(Frame {
+        y_plane: Plane::new(geometry)?,
+        u_plane: Some(Plane::new(geometry)?),
+        v_plane: Some(Plane::new(geometry)?),
+        subsampling: ChromaSubsampling::Yuv444,
+        bit_depth: like.bit_depth,
+    })
 }
 
 /// Writes the colours of three planes of one size, and returns the writer.
-fn write_planes<W: io::Write>(
+fn write_planes<T: Pixel, W: io::Write>(
     out: W,
     header: Header,
-    y: &Plane<u8>,
-    u: &Plane<u8>,
-    v: &Plane<u8>,
-    matrix: RgbMatrix,
+    y: &Plane<T>,
+    u: &Plane<T>,
+    v: &Plane<T>,
+    matrix: &ExactMatrix,
 ) -> Result<W, PictureError> {
     let y = y.as_plane_ref().as_rows_ref();
     let (u, v) = (
@@ -109,13 +113,13 @@ fn write_planes<W: io::Write>(
 }
 
 /// Writes the colours of luma and chroma of one size, row by row, and returns the writer.
-fn write_colour_rows<W: io::Write>(
+fn write_colour_rows<T: Pixel, W: io::Write>(
     out: W,
     header: Header,
-    y: &RowsRef<'_, u8>,
-    u: &RowsRef<'_, u8>,
-    v: &RowsRef<'_, u8>,
-    matrix: RgbMatrix,
+    y: &RowsRef<'_, T>,
+    u: &RowsRef<'_, T>,
+    v: &RowsRef<'_, T>,
+    matrix: &ExactMatrix,
 ) -> Result<W, PictureError> {
     let height = y.height();
     let mut line = repeated(0, header.row_size())?;
@@ -130,13 +134,13 @@ fn write_colour_rows<W: io::Write>(
 }
 
 /// Makes a line the colours of row `k` of luma and chroma of one size.
-fn make_colour_row(
+fn make_colour_row<T: Pixel>(
     line: &mut [u8],
-    y: &RowsRef<'_, u8>,
-    u: &RowsRef<'_, u8>,
-    v: &RowsRef<'_, u8>,
+    y: &RowsRef<'_, T>,
+    u: &RowsRef<'_, T>,
+    v: &RowsRef<'_, T>,
     k: usize,
-    matrix: RgbMatrix,
+    matrix: &ExactMatrix,
 ) {
     let (width, size) = (y.width(), line.len());
     let luma = y.visible_region(0, k, width, 1);
@@ -144,5 +148,5 @@ fn make_colour_row(
         u.visible_region(0, k, width, 1),
         v.visible_region(0, k, width, 1),
     );
-    rows::yuv444_to_rgb::<Rgb>(&luma, &blue, &red, matrix, line, size, 1, size);
+    rows::yuv444_to_rgb_exactly::<T, Rgb>(&luma, &blue, &red, matrix, line, size, 1, size);
 }

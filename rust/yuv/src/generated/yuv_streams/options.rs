@@ -83,10 +83,12 @@ impl CopyOptions {
         }
     }
 
-    /// Returns the colour of what is written of a stream of this colour.
+    /// Returns the colour of what is written of a stream of this colour: the same one, with its chroma siting, where chroma format
+    /// and bit depth stay.
     pub fn colour(&self, there: Colour) -> Colour {
         match self.format {
             None => there,
+            Some(VideoFormat::Planar(colour)) if is_same_format(there, colour) => there,
             Some(VideoFormat::Planar(colour)) => colour,
             Some(VideoFormat::SemiPlanar(layout)) => planar_colour(layout),
         }

@@ -3,8 +3,8 @@ use Rattle.std.proofs.Common.{◌≡◌, ◌+◌, ◌-◌, ◌*◌, length, ◌�
 use Rattle.std.proofs.Math.Nat.{mul-le-mul_left}
 use Rattle.std.proofs.lemmas.List.{take_all}
 use Rattle.std.proofs.lemmas.Option.{slice_get-get_or}
-use Rattle.v_frame_rgb.specs.Colours.{colours_of}
-use Rattle.v_frame_rgb.proofs.ColourLemmas.{one_more_item, slice_get-colours_of, length-colours_of}
+use Rattle.v_frame_rgb.specs.Colours.{colour_of, colours_of}
+use Rattle.v_frame_rgb.proofs.ColourLemmas.{one_more_item, slice_get-colours_by, length-colours_by}
 use Rattle.v_frame_rgb.proofs.rows.decode.decode_row.Goals as goal
 
 pub loop-x-preserved : goal.loop-x-preserved
@@ -15,7 +15,7 @@ loop-x-preserved g c =
     let first : c.BYTES.result ≡ size = c.BYTES.ensures in
     let second : c.BYTES-in-loop-x.result ≡ size = c.BYTES-in-loop-x.ensures in
     let cut : size * x + size - size * x ≡ size = omega arith in
-    let is = slice_get-colours_of m ys us vs x _ _ _ (slice_get-get_or ys x 0 c.loop-x-test.true)
+    let is = slice_get-colours_by (colour_of m) ys us vs x _ _ _ (slice_get-get_or ys x 0 c.loop-x-test.true)
     (slice_get-get_or us x 0 (omega arith)) (slice_get-get_or vs x 0 (omega arith)) in
     rw (first, second, cut)
     (one_more_item g.O.ColourOrder.bytes_of size g.met.O.ColourOrder.length_of_bytes (colours_of m ys us vs) c.loop-x.out
@@ -27,7 +27,7 @@ returns g c =
     let size = g.O.ColourOrder.BYTES in
     let end : c.loop-x.x ≡ length c.args.y.now = omega arith in
     let colours = colours_of c.args.matrix c.args.y.now c.args.u.now c.args.v.now in
-    let count = length-colours_of c.args.matrix c.args.y.now c.args.u.now c.args.v.now c.requires.u c.requires.v in
+    let count = length-colours_by (colour_of c.args.matrix) c.args.y.now c.args.u.now c.args.v.now c.requires.u c.requires.v in
     let whole = rw (
       end,
       take_all (size * length c.args.y.now) c.loop-x.out (omega (arith, c.requires.out, c.loop-x.auto.out)),

@@ -24,6 +24,7 @@ use super::Plane;
 /// assert_eq!(plane.data()[0], 0);
 /// # Ok::<(), Box<dyn std::error::Error>>(())
 /// ```
+#[derive(Debug, PartialEq, Eq)]
 pub struct VisibleMut<'a, T> {
     /// The entries of the buffer from the first of these pixels on.
     pub entries: &'a mut [T],

@@ -1,0 +1,81 @@
+-- What colour samples of any bit depth make, by the standards' own fractions: each channel is an exact
+-- sum, and is rounded once.
+use Rattle.std.specs.Prelude.{ℕ, ◌+◌, ◌-◌, ◌*◌, ◌^◌, List}
+use Rattle.v_frame.specs.Prelude.{PixelForm}
+use Rattle.v_frame_raster.specs.Table.{Table}
+use Rattle.v_frame_rgb.specs.Colours.{sample_of, colours_by, colour_rows_by}
+use Rattle.v_frame_rgb.specs.Standards.{ColourSteps, Fraction, Levels, colour_steps, fraction}
+use Rattle.v_frame_rgb.specs.Standards.{weights_of}
+use Rattle.v_frame_rgb.specs.declared.colour.Colour.{Colour}
+use Rattle.v_frame_rgb.specs.declared.standard.Standard.{Standard}
+use Rattle.v_frame_rgb.specs.declared.standard.ColourRange.{ColourRange}
+use Rattle.v_frame_rgb.specs.declared.standard.ColourRange.TheVariants.{Limited, Full}
+
+-- the levels of a bit depth: in limited range those of 8 bits times 2 ^ (depth - 8), and in full range
+-- all values
+abbrev pub levels_at : ColourRange → ℕ → Levels
+levels_at Limited depth =
+    let unit = 2 ^ (depth - 8) in
+    record { black = 16 * unit; luma = 219 * unit; chroma = 224 * unit }
+levels_at Full depth =
+    let most = 2 ^ depth - 1 in record { black = 0; luma = most; chroma = most }
+
+-- the chroma sample of gray
+abbrev pub gray_at : ℕ → ℕ
+gray_at depth = 2 ^ (depth - 1)
+
+-- a fraction so many times, and the sum of two
+abbrev pub times : Fraction → ℕ → Fraction
+times f count = fraction (f.over * count) f.under
+
+abbrev pub plus : Fraction → Fraction → Fraction
+plus f g = fraction (f.over * g.under + g.over * f.under) (f.under * g.under)
+
+-- the whole number nearest to the difference of two fractions, as a sample: 0 where it is below 0,
+-- and 255 where it is above
+abbrev pub sample_nearest : Fraction → Fraction → ℕ
+sample_nearest f g = sample_of (f.under * g.under) (f.over * g.under) (g.over * f.under)
+
+module _ (standard : Standard) (range : ColourRange) (depth : ℕ) where
+  -- how much of a colour one step of luma, of Cb or of Cr makes
+  abbrev pub steps_at : ColourSteps
+  steps_at = colour_steps (weights_of standard) (levels_at range depth)
+
+  -- a channel: luma above black, with what chroma adds and without what it takes away
+  abbrev pub exact_channel : ℕ → Fraction → Fraction → ℕ
+  exact_channel y more less =
+      sample_nearest (plus (times steps_at.luma y) more)
+      (plus (times steps_at.luma (levels_at range depth).black) less)
+
+  module _ (y u v : ℕ) where
+    abbrev pub exact_red : ℕ
+    exact_red =
+        exact_channel y (times steps_at.red_v v) (times steps_at.red_v (gray_at depth))
+
+    abbrev pub exact_green : ℕ
+    exact_green =
+        exact_channel y
+        (plus (times steps_at.green_u (gray_at depth)) (times steps_at.green_v (gray_at depth)))
+        (plus (times steps_at.green_u u) (times steps_at.green_v v))
+
+    abbrev pub exact_blue : ℕ
+    exact_blue =
+        exact_channel y (times steps_at.blue_u u) (times steps_at.blue_u (gray_at depth))
+
+    -- the colour of a sample of luma, one of Cb and one of Cr
+    unfoldable pub exact_colour : Colour
+    exact_colour = record { red = exact_red; green = exact_green; blue = exact_blue }
+
+  module _ {T : Type 0} (form : PixelForm T) where
+    -- the same of pixels
+    unfoldable pub exact_of_pixels : T → T → T → Colour
+    exact_of_pixels y u v = exact_colour (form.value y) (form.value u) (form.value v)
+
+    -- the colours of a row of luma and two of chroma
+    abbrev pub exact_colours : List T → List T → List T → List Colour
+    exact_colours ys us vs = colours_by exact_of_pixels ys us vs
+
+    -- the bytes of the colours of a picture, row by row, where a colour has those that are given
+    abbrev pub exact_colour_rows : (Colour → List ℕ) → Table T → Table T → Table T → Table ℕ
+    exact_colour_rows bytes_of y_rows u_rows v_rows =
+        colour_rows_by exact_of_pixels bytes_of y_rows u_rows v_rows

@@ -1,0 +1,57 @@
+-- The steps of the standards as whole numbers over one denominator.
+use Rattle.std.specs.Prelude.{ℕ, ◌≡◌, ◌-◌, ◌*◌, ◌^◌, ◌<◌}
+use Rattle.v_frame_rgb.specs.Standards.{ColourSteps, Fraction, Weights, green_weight, weights_of}
+use Rattle.v_frame_rgb.specs.declared.standard.Standard.{Standard}
+use Rattle.v_frame_rgb.specs.declared.standard.ColourRange.{ColourRange}
+use Rattle.v_frame_rgb.specs.declared.standard.ColourRange.TheVariants.{Limited, Full}
+use Rattle.v_frame_rgb.specs.declared.whole_steps.WholeSteps.{WholeSteps}
+
+-- in what the levels of a bit depth are counted, and how many of them luma and chroma have
+abbrev pub unit_at : ColourRange → ℕ → ℕ
+unit_at Limited depth = 2 ^ (depth - 8)
+unit_at Full depth = 2 ^ depth - 1
+
+abbrev pub luma_units : ColourRange → ℕ
+luma_units Limited = 219
+luma_units Full = 1
+
+abbrev pub chroma_units : ColourRange → ℕ
+chroma_units Limited = 224
+chroma_units Full = 1
+
+-- the steps in parts of a scale times such a unit
+abbrev pub whole_steps_of : Standard → ColourRange → WholeSteps
+whole_steps_of standard range =
+    let k : Weights = weights_of standard in
+    let green = green_weight k in
+    let luma = luma_units range in
+    let chroma = chroma_units range in record {
+      scale = 10000 * green * luma * chroma;
+      luma = 10000 * green * chroma * 255;
+      red_v = 2 * (10000 - k.red) * 255 * green * luma;
+      green_u = 2 * k.blue * (10000 - k.blue) * 255 * luma;
+      green_v = 2 * k.red * (10000 - k.red) * 255 * luma;
+      blue_u = 2 * (10000 - k.blue) * 255 * green * luma;
+    }
+
+-- so many parts of a scale are a fraction
+pub record IsPart (scale count : ℕ) (f : Fraction) : Type 0 where
+  pub some : 0 < f.under
+  pub same : scale * f.over ≡ count * f.under
+
+pub record AreSteps (steps : ColourSteps) (scale : ℕ) (whole : WholeSteps) : Type 0 where
+  pub some : 0 < scale
+  pub luma : IsPart scale whole.luma steps.luma
+  pub red_v : IsPart scale whole.red_v steps.red_v
+  pub green_u : IsPart scale whole.green_u steps.green_u
+  pub green_v : IsPart scale whole.green_v steps.green_v
+  pub blue_u : IsPart scale whole.blue_u steps.blue_u
+
+-- sums of samples that are counted in these fit 64 bits
+pub record AreSmall (scale : ℕ) (whole : WholeSteps) : Type 0 where
+  pub denominator : scale < 2 ^ 59
+  pub luma : whole.luma < 2 ^ 43
+  pub red_v : whole.red_v < 2 ^ 43
+  pub green_u : whole.green_u < 2 ^ 43
+  pub green_v : whole.green_v < 2 ^ 43
+  pub blue_u : whole.blue_u < 2 ^ 43
