@@ -12,19 +12,23 @@ use v_frame_semi_planar::SemiPlanarFormat::Nv12;
 /// Shows the case of this name, here or behind. `None` where a request of its preparation was refused.
 pub fn seen(rt: &HostRuntime, name: &str) -> Option<()> {
     let alloc = rt.alloc();
-    let small = FrameBuilder::new(4, 2, Yuv420, 8).luma_padding_left(2);
     match name {
         "build" => {
-            let padded = small.luma_padding_right(2).luma_padding_top(2);
+            let padded = small().luma_padding_right(2).luma_padding_top(2);
             show_built(rt, padded.build::<u8>(alloc));
         }
-        "built_frame_is_zero" => show_built(rt, laws::built_frame_is_zero::<u8>(alloc, small)),
+        "built_frame_is_zero" => show_built(rt, laws::built_frame_is_zero::<u8>(alloc, small())),
         "video_frame" => show_built(rt, video_frame::<u16>(alloc, 3, 1, Yuv420, 10, 1)),
         "read_frame_of_bytes" => read_frame_of_bytes(rt)?,
         "read_semi_planar_frame" => read_semi_planar_frame(rt)?,
         _ => lines::seen(rt, name)?,
     }
     Some(())
+}
+
+/// Returns a frame in 4:2:0 with a border to its left.
+fn small() -> FrameBuilder {
+    FrameBuilder::new(4, 2, Yuv420, 8).luma_padding_left(2)
 }
 
 /// A frame of bytes in a border of 200.
