@@ -96,8 +96,6 @@ fn png_of_words(rt: &HostRuntime, is_plane: bool) -> Option<()> {
         png.write_rows_u16(rt.alloc(), &plane.as_rows_ref())
     };
     show(rt, &(written, png.rows_left(), png.inner().len()));
-    drop(png);
-    show(rt, &is_blank(&room));
     Some(())
 }
 
