@@ -58,7 +58,7 @@ fn labels(values: &[f64]) -> String {
     texts.collect::<Vec<_>>().join(" ")
 }
 
-/// A step is the least of 1, 2 and 5 times a power of ten that is no less than a sixth of the way from the least number to the
+/// A step is the least of 1, 2 and 5 times a power of ten that reaches a sixth of the way from the least number to the
 /// greatest, and the ends are multiples of it: the labels are by Python's fractions.
 #[test]
 fn an_axis_has_few_and_round_steps() {
@@ -73,7 +73,7 @@ fn an_axis_has_few_and_round_steps() {
         (&[0.998, 0.9991], "0.9980 0.9982 0.9984 0.9986 0.9988 0.9990 0.9992"),
         (&[5.0, 5.0], "4 5 6"),
         (&[0.0, 30.0], "0 5 10 15 20 25 30"),
-        (&[1e12, 7e12], "1e12 2e12 3e12 4e12 5e12 6e12 7e12"),
+        (&[1e12, 6e12], "1e12 2e12 3e12 4e12 5e12 6e12"),
         (&[0.0, 3e-11], "0 5e-12 10e-12 15e-12 20e-12 25e-12 30e-12"),
         (&[f64::NAN], "0.0 0.2 0.4 0.6 0.8 1.0"),
         (&[], "0.0 0.2 0.4 0.6 0.8 1.0"),
