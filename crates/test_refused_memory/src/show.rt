@@ -16,9 +16,9 @@ pub fn show_text(rt: &HostRuntime, text: &str) {
     let _ = println!(rt; "{text}");
 }
 
-/// Prints the geometry of a plane, and its entries in the border too.
+/// Prints a plane, of which that has the geometry and the first entries, and all its entries.
 pub fn show_plane<T: Debug>(rt: &HostRuntime, plane: &Plane<T>) {
-    show(rt, &plane.geometry());
+    show(rt, plane);
     show(rt, &plane.data());
 }
 
