@@ -1,9 +1,9 @@
-"""Which case of crates/test_refused_memory refuses the memory of which public call."""
+"""Which case of crates/test_refused_memory refuses the memory of which public call, and what its cases print."""
 import re
 
 from source_items import TOP, File, methods, name_in, owner_of, signature
 
-PROGRAM_CASES = TOP / "crates/test_refused_memory/src/cases.rt"
+CALLS, COMMANDS = TOP / "crates/test_refused_memory", TOP / "crates/test_refused_commands"
 CALLED_FROM_C = TOP / "c_interface/tests/test_v_frame_y4m.c"  # refuses each request of what the crate v_frame_y4m_c exports
 NO_MEMORY = "calls_that_take_no_memory"
 # The cases of each public call that takes an allocator: its crate, its module where that has a folder, its type and its name.
@@ -58,9 +58,22 @@ CASES_OF_CALLS = {
 }
 
 
+def texts(path):
+    """The texts of a file, by the line of the case in front of each."""
+    found = {}
+    pieces = re.split(r"^case (.+)\n", path.read_text(), flags=re.M)
+    for case, text in zip(pieces[1::2], pieces[2::2]):
+        found.setdefault(case, []).append(text)
+    return found
+
+
+# The words and the text of each run of `yuv`.
+RUNS_OF_YUV = {case: (words.split(), them[0]) for it, them in texts(COMMANDS / "runs.txt").items() for case, words in [it.split(": ")]}
+
+
 def cases_of_the_program():
-    """The names of the cases, as the program has them."""
-    return re.findall(r'^ +\(\s*"(\w+)",\s*Case::\w+,?\s*\),$', PROGRAM_CASES.read_text(), re.M)
+    """The names of the cases, behind two numbers, as `rt ci` has the program make them."""
+    return (CALLS / "args").read_text().split()[2:]
 
 
 def takes_memory(told):
@@ -93,5 +106,5 @@ def faults():
         *(f"{it} is there more than once" for it in sorted(set(calls)) if calls.count(it) > 1),
         *(f"{CALLED_FROM_C.name} doesn't call {it}" for it in from_c if it.split("::")[1] + "(" not in refused),
         *(f"the program has no case {it}" for it in named if it not in cases),
-        *(f"the case {it} is of no call" for it in cases if it not in named and it != NO_MEMORY and not it.startswith("yuv_")),
+        *(f"the case {it} is of no call" for it in cases if it not in named and it != NO_MEMORY),
     ]

@@ -64,7 +64,7 @@ def decibels(error, depth):
 
 
 CASES = [("Near", 8, 8, 8), ("Far", 8, 8, 8), ("Near", 19, 13, 8), ("Far", 19, 13, 8), ("Near", 16, 12, 10), ("Far", 16, 12, 10),
-         ("Near", 9, 24, 16), ("Far", 9, 24, 16)]
+         ("Near", 9, 24, 16), ("Far", 9, 24, 16), ("Far", 9, 144, 8)]
 
 
 def plane_lines(factors):

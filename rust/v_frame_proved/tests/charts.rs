@@ -1,4 +1,4 @@
-//! Charts whose writes fail after so many bytes, take nothing there, or are interrupted.
+//! Charts whose writes fail after so many bytes, take nothing there, or are interrupted; the axis of numbers.
 
 #![cfg(feature = "std")]
 
@@ -47,4 +47,38 @@ fn each_write_of_a_chart_fails_in_turn() {
     let mut slow = Interrupted::default();
     write_svg(&mut slow, &chart).expect("written");
     assert_eq!(slow.taken, file);
+}
+
+/// What stands beside the axis of numbers of a chart of these, from below.
+fn labels(values: &[f64]) -> String {
+    let series = [Series { name: "Y", values }];
+    let text = svg(&Chart { title: "title", unit: "unit", first: 1, series: &series }).expect("drawn");
+    let labels: Vec<_> = text.lines().filter_map(|line| line.strip_prefix("<text x=\"68\"")).collect();
+    let texts = labels.iter().map(|it| it.trim_end_matches("</text>").rsplit('>').next().unwrap());
+    texts.collect::<Vec<_>>().join(" ")
+}
+
+/// A step is the least of 1, 2 and 5 times a power of ten that reaches a sixth of the way from the least number to the
+/// greatest, and the ends are multiples of it: the labels are by Python's fractions.
+#[test]
+fn an_axis_has_few_and_round_steps() {
+    let cases: [(&[f64], &str); 14] = [
+        (&[0.0, 1.0], "0.0 0.2 0.4 0.6 0.8 1.0"),
+        (&[36.5, 43.0], "36 38 40 42 44"),
+        (&[-1.0, 1.0], "-1.0 -0.5 0.0 0.5 1.0"),
+        (&[0.0, 6.0], "0 1 2 3 4 5 6"),
+        (&[6.5, 0.0], "0 2 4 6 8"),
+        (&[0.0, 13.0, f64::INFINITY], "0 5 10 15"),
+        (&[-250.0, 1250.0], "-500 0 500 1000 1500"),
+        (&[0.998, 0.9991], "0.9980 0.9982 0.9984 0.9986 0.9988 0.9990 0.9992"),
+        (&[5.0, 5.0], "4 5 6"),
+        (&[0.0, 30.0], "0 5 10 15 20 25 30"),
+        (&[1e12, 6e12], "1e12 2e12 3e12 4e12 5e12 6e12"),
+        (&[0.0, 3e-11], "0 5e-12 10e-12 15e-12 20e-12 25e-12 30e-12"),
+        (&[f64::NAN], "0.0 0.2 0.4 0.6 0.8 1.0"),
+        (&[], "0.0 0.2 0.4 0.6 0.8 1.0"),
+    ];
+    for (values, wanted) in cases {
+        assert_eq!(labels(values), wanted, "{values:?}");
+    }
 }

@@ -127,6 +127,18 @@ fn sizes_and_paddings_are_divided() {
     assert_eq!(geometry(HALF_AS_WIDE).stride(), 995);
 }
 
+#[test]
+fn what_is_around_a_region_is_its_border() {
+    let plane = geometry(([20, 12], [4, 3, 2, 1], [2, 1]));
+    let region = plane.region(5, 6, 7, 4).expect("a region");
+    assert_eq!(numbers_of(&region), [7, 4, 27, 9, 11, 8, 3, 2, 1]);
+    assert_eq!((region.data_origin(), region.checked_alloc_size()), (225, plane.checked_alloc_size()));
+    assert_eq!(plane.region(0, 0, 20, 12), Some(plane));
+    for [x, y, width, height] in [[0, 0, 0, 1], [0, 0, 1, 0], [14, 0, 7, 1], [0, 12, 1, 1], [usize::MAX, 0, 2, 1]] {
+        assert_eq!(plane.region(x, y, width, height), None, "{width} by {height} at {x}, {y}");
+    }
+}
+
 /// Planes, and whether each has a chroma in 4:2:0, in 4:2:2 and in 4:1:1.
 const HALVES: [(Shape, [bool; 3]); 7] = [
     (EVEN, [true, true, false]),

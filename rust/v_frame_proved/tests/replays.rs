@@ -157,6 +157,19 @@ fn writes_leave_gaps_and_stop_at_the_width_and_at_the_height() {
 }
 
 #[test]
+fn the_border_is_outside() {
+    let entries = [9, 9, 9, 9, 9, 1, 2, 3, 9, 4, 5, 6, 9, 9, 9, 9];
+    let steps = [
+        (pixel(0, 2, 1), "PixelShown(6)"),
+        (pixel(0, 0, 2), "OutsideRectangle"),
+        (pixel(0, 3, 0), "OutsideRectangle"),
+        (pixel_mut(0, 0, 2, 7), "OutsideRectangle"),
+        (pixel_mut(0, 3, 0, 7), "OutsideRectangle"),
+    ];
+    check::<u8>([3, 2, 1, 0, 1, 1], &entries, &steps, &entries);
+}
+
+#[test]
 fn numbers_as_large_as_they_go_are_outside() {
     let steps = [
         (pixel(0, usize::MAX, usize::MAX), "OutsideRectangle"),

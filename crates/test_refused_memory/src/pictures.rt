@@ -1,0 +1,169 @@
+//! Pictures, a chart and a frame's text that are written into room of a fixed length. Where memory is refused, nothing is.
+
+use crate::counts;
+use crate::show::show;
+use v_frame::plane::{PlaneGeometry, PlaneRef, RowsRef};
+use v_frame_chart::{Chart, Series, summaries, svg, write_svg};
+use v_frame_planar::Counted;
+use v_frame_png::{
+    ColourSpace, Compression, Header, PngWriter, Samples, write_png, write_png_with,
+};
+use v_frame_tool_run::run::run;
+
+/// Shows the case of this name, here or behind. `None` where a request of its preparation was refused.
+pub fn seen(rt: &HostRuntime, name: &str) -> Option<()> {
+    match name {
+        "png_of_rows" => png_of_rows(rt, Compression::Stored)?,
+        "png_of_compressed_rows" => png_of_rows(rt, Compression::Fixed)?,
+        "png_writer" => png_writer(rt, Compression::Stored),
+        "png_writer_that_compresses" => png_writer(rt, Compression::Fixed),
+        "png_of_words" => png_of_words(rt, false)?,
+        "png_of_a_plane_of_words" => png_of_words(rt, true)?,
+        "columns_of_a_chart" => columns_of_a_chart(rt),
+        "text_of_a_chart" => chart_into(rt, false),
+        "write_chart" => chart_into(rt, true),
+        "run_into_a_fixed_slice" => run_into_a_fixed_slice(rt),
+        _ => counts::seen(rt, name)?,
+    }
+    Some(())
+}
+
+/// Returns the header of two pixels by two.
+fn header(samples: Samples) -> Header {
+    Header {
+        width: 2,
+        height: 2,
+        samples,
+        colour_space: ColourSpace::Unnamed,
+    }
+}
+
+/// Returns whether nothing was written.
+fn is_blank(room: &[u8]) -> bool {
+    room.iter().all(|byte| *byte == 0)
+}
+
+/// A file of two rows of bytes.
+fn png_of_rows(rt: &HostRuntime, compression: Compression) -> Option<()> {
+    let rows = RowsRef::new(&[1, 2, 3, 4], 2, 2, 2)?;
+    let mut room = [0; 120];
+    let (alloc, out, grey) = (rt.alloc(), room.as_mut_slice(), header(Samples::Grey8));
+    let written = match compression {
+        Compression::Stored => write_png(alloc, out, grey, &rows),
+        Compression::Fixed => write_png_with(alloc, out, grey, compression, &rows),
+    };
+    let left = match written {
+        Ok(rest) => rest.len(),
+        Err(error) => {
+            show(rt, &error);
+            120
+        }
+    };
+    let (file, rest) = room.split_at(120_usize.saturating_sub(left));
+    show(rt, &(file, is_blank(rest)));
+    Some(())
+}
+
+/// A picture that is begun.
+fn png_writer(rt: &HostRuntime, compression: Compression) {
+    let mut room = [0; 120];
+    let (alloc, out, grey) = (rt.alloc(), room.as_mut_slice(), header(Samples::Grey8));
+    let made = match compression {
+        Compression::Stored => PngWriter::new(alloc, out, grey),
+        Compression::Fixed => PngWriter::with_compression(alloc, out, grey, compression),
+    };
+    match made {
+        Ok(png) => show(
+            rt,
+            &(png.compression(), png.rows_left(), is_blank(png.inner())),
+        ),
+        Err(error) => show(rt, &error),
+    }
+}
+
+/// Two rows of words, or a plane of them. Where memory is refused, both rows are still to be written.
+fn png_of_words(rt: &HostRuntime, is_plane: bool) -> Option<()> {
+    let plane = PlaneRef::new(
+        PlaneGeometry::unpadded(2, 2, 1, 1)?,
+        &[258, 772, 1286, 1800],
+    )?;
+    let mut room = [0; 120];
+    let grey = header(Samples::Grey16);
+    let mut png = PngWriter::new(rt.alloc(), room.as_mut_slice(), grey).ok()?;
+    let written = if is_plane {
+        png.write_plane_u16(rt.alloc(), &plane)
+    } else {
+        png.write_rows_u16(rt.alloc(), &plane.as_rows_ref())
+    };
+    show(rt, &(written, png.rows_left(), png.inner().len()));
+    Some(())
+}
+
+/// The numbers of a chart.
+static VALUES: [f64; 3] = [30.0, 29.0, 32.0];
+
+/// Two columns, of which the second has two of the numbers.
+fn columns_of_a_chart(rt: &HostRuntime) {
+    match summaries(rt.alloc(), &VALUES, 2) {
+        Ok(columns) => {
+            for column in columns.iter() {
+                if let Some(it) = column {
+                    show(rt, &(it.least, it.mean, it.most));
+                }
+            }
+        }
+        Err(error) => show(rt, &error),
+    }
+}
+
+/// A chart as text, or in a room. What is shown of it is its head, its end and its length: a clause says which bytes it has.
+fn chart_into(rt: &HostRuntime, is_written: bool) {
+    let series = [Series {
+        name: "Y",
+        values: &VALUES,
+    }];
+    let chart = Chart {
+        title: "a chart",
+        unit: "dB",
+        first: 1,
+        series: &series,
+    };
+    if is_written {
+        write_chart(rt, &chart);
+    } else {
+        match svg(rt.alloc(), &chart) {
+            Ok(text) => show_chart(rt, text.as_bytes()),
+            Err(error) => show(rt, &error),
+        }
+    }
+}
+
+/// A chart that is written.
+fn write_chart(rt: &HostRuntime, chart: &Chart<'_>) {
+    let mut room = [0; 9000];
+    let mut out = room.as_mut_slice();
+    let written = write_svg(rt.alloc(), &mut out, chart);
+    let left = out.len();
+    if let Err(error) = written {
+        show(rt, &error.kind());
+    }
+    let (file, rest) = room.split_at(9000_usize.saturating_sub(left));
+    show_chart(rt, file);
+    show(rt, &is_blank(rest));
+}
+
+/// Prints how a chart begins and ends, and its length.
+fn show_chart(rt: &HostRuntime, chart: &[u8]) {
+    let ends = (chart.starts_with(b"<svg "), chart.ends_with(b"</svg>\n"));
+    show(rt, &(ends, chart.len()));
+}
+
+/// The first program's text of eight pixels. No write fails.
+fn run_into_a_fixed_slice(rt: &HostRuntime) {
+    let mut room = [0; 40];
+    let mut out = Counted::new(room.as_mut_slice());
+    let answer = run(rt.alloc(), &mut out, &[1, 2, 3, 4, 5, 6, 7, 8]);
+    show(rt, &(answer, out.failures(), out.inner().len()));
+    drop(out);
+    show(rt, &str::from_utf8(&room));
+}
