@@ -57,16 +57,15 @@ class PairStatistics(ctypes.Structure):
 
 
 def opened(name, variable):
-    """The library that an environment variable names, or the one beside this module or its prefix, or the system's."""
+    """The library that an environment variable names; or the one beside this module, that of its prefix, or the loader's."""
     here, file = Path(__file__).resolve().parent, f"lib{name}.so"
-    looked_for = [os.environ[variable]] if os.environ.get(variable) else [str(here / file), str(here.parent.parent / file)]
-    found = looked_for[0] if os.environ.get(variable) else next((it for it in looked_for if Path(it).exists()), None)
-    found = found or ctypes.util.find_library(name)
+    named, places = os.environ.get(variable), [str(here / file), str(here.parent.parent / file)]
+    found = named or next((it for it in places if Path(it).exists()), None) or ctypes.util.find_library(name) or file
     try:
-        return ctypes.CDLL(found or file)
+        return ctypes.CDLL(found)
     except OSError as error:
-        raise ImportError(f"{file} cannot be loaded ({error}): looked for {', '.join(looked_for)}; install it, "
-                          f"or name it by {variable}") from error
+        looked_for = named or f"{', '.join(places)}, and {file} where the loader looks"
+        raise ImportError(f"{file} cannot be loaded ({error}): looked for {looked_for}; install it, or name it by {variable}") from error
 
 
 def export(library, name, *parameters):
