@@ -25,6 +25,8 @@
 #define V_FRAME_VERSION_MINOR 3
 #define V_FRAME_VERSION_PATCH 0
 #define V_FRAME_VERSION "0.3.0"
+/* The version as one number, as v_frame_version gives it. */
+#define V_FRAME_VERSION_NUMBER (V_FRAME_VERSION_MAJOR * 65536 + V_FRAME_VERSION_MINOR * 256 + V_FRAME_VERSION_PATCH)
 
 #ifdef __cplusplus
 extern "C" {
@@ -188,6 +190,10 @@ typedef struct v_frame_greatest {
     uint32_t difference;
 } v_frame_greatest;
 
+/* Return the version of the library that is loaded: V_FRAME_VERSION_NUMBER of the header that it was built with. A library whose
+ * first two numbers are those of the header keeps all that the header declares: calls, structs, and numbers of enums. */
+uint32_t v_frame_version(void);
+
 /* Sum the squares of the differences of two pictures of one size. */
 uint32_t v_frame_squared_errors_u8(const v_frame_rows *a_rows, const uint8_t *a, size_t a_length, const v_frame_rows *b_rows,
                                    const uint8_t *b, size_t b_length, v_frame_sum *sum);
@@ -216,6 +222,13 @@ uint32_t v_frame_copy_u8(const v_frame_rows *rows, uint8_t *buffer, size_t lengt
                          const uint8_t *source, size_t source_length);
 uint32_t v_frame_copy_u16(const v_frame_rows *rows, uint16_t *buffer, size_t length, const v_frame_rows *source_rows,
                           const uint16_t *source, size_t source_length);
+
+/* The same with the first pixel of the source at column `x` of row `y` of the buffer's rows, either of which may be negative or past
+ * the edge. What lies outside is left out: the sizes may be any. */
+uint32_t v_frame_copy_clipped_u8(const v_frame_rows *rows, uint8_t *buffer, size_t length, const v_frame_rows *source_rows,
+                                 const uint8_t *source, size_t source_length, ptrdiff_t x, ptrdiff_t y);
+uint32_t v_frame_copy_clipped_u16(const v_frame_rows *rows, uint16_t *buffer, size_t length, const v_frame_rows *source_rows,
+                                  const uint16_t *source, size_t source_length, ptrdiff_t x, ptrdiff_t y);
 
 /* Make the rows of the buffer show the source in half the size: each pixel is the mean of a block of two by two, rounded to the
  * nearest value and upwards at a half. The source is exactly twice as wide and as high. */

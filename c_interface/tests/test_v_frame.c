@@ -341,6 +341,7 @@ static void helpers(void) {
     for (uint32_t status = 0; status < 9; status++) {
         CHECK(strlen(v_frame_status_text(status)) > 0);
     }
+    CHECK(v_frame_version() == V_FRAME_VERSION_NUMBER);
 }
 
 int main(void) {

@@ -62,10 +62,15 @@ def opened(name, variable):
     named, places = os.environ.get(variable), [str(here / file), str(here.parent.parent / file)]
     found = named or next((it for it in places if Path(it).exists()), None) or ctypes.util.find_library(name) or file
     try:
-        return ctypes.CDLL(found)
+        library = ctypes.CDLL(found)
     except OSError as error:
         looked_for = named or f"{', '.join(places)}, and {file} where the loader looks"
         raise ImportError(f"{file} cannot be loaded ({error}): looked for {looked_for}; install it, or name it by {variable}") from error
+    version = export(library, f"{name}_version")()
+    if version >> 8 != int.from_bytes(map(int, VERSION.split(".")), "big") >> 8:
+        numbers = f"{version >> 16}.{version >> 8 & 255}.{version & 255}"
+        raise ImportError(f"{found} is of version {numbers}, and this module of {VERSION}: the first two numbers have to agree")
+    return library
 
 
 def export(library, name, *parameters):
@@ -94,6 +99,7 @@ SQUARED_ERRORS = _both("squared_errors", _rows, _data, _size, ctypes.POINTER(Sum
 ABSOLUTE_DIFFERENCES = _both("absolute_differences", _rows, _data, _size, ctypes.POINTER(Sum))
 FIRST_DIFFERENCE = _both("first_difference", _rows, _data, _size, ctypes.POINTER(Place))
 COPY = _both("copy", _rows, _data, _size)
+COPY_CLIPPED = _both("copy_clipped", _rows, _data, _size, ctypes.c_ssize_t, ctypes.c_ssize_t)
 DOWNSCALE = _both("downscale", _rows, _data, _size)
 FILL = {1: _export("v_frame_fill_u8", ctypes.c_uint8), 2: _export("v_frame_fill_u16", ctypes.c_uint16)}
 PAD = {size: export(_library, f"v_frame_pad_{kind}", ctypes.POINTER(Bordered), _data, _size) for size, kind in ((1, "u8"), (2, "u16"))}

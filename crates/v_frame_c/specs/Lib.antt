@@ -1,3 +1,4 @@
+pub mod Clipped
 pub mod ColourChoice
 pub mod Counts
 pub mod FrameParts

@@ -6,11 +6,13 @@
 #![tactic(auto)]
 
 mod change;
+mod clipped;
 mod colours;
 mod compare;
 mod compose;
 mod convert;
 mod counts;
+mod exports_clipped;
 mod exports_colours;
 mod exports_compose;
 mod exports_convert;
@@ -34,3 +36,4 @@ mod semi_planar;
 mod statistics;
 mod status;
 mod turn;
+mod version;

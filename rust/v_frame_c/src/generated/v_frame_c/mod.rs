@@ -4,11 +4,13 @@
 //! all, and says what C still has to promise.
 
 mod change;
+mod clipped;
 mod colours;
 mod compare;
 mod compose;
 mod convert;
 mod counts;
+mod exports_clipped;
 mod exports_colours;
 mod exports_compose;
 mod exports_convert;
@@ -32,3 +34,4 @@ mod semi_planar;
 mod statistics;
 mod status;
 mod turn;
+mod version;
