@@ -53,7 +53,9 @@ enum v_frame_status {
     /* The fourth rows do not fit the fourth buffer. */
     V_FRAME_FOURTH_ROWS = 7,
     /* A side of the pictures is below 8: no window of 8 by 8 pixels has room. */
-    V_FRAME_WINDOWS = 8
+    V_FRAME_WINDOWS = 8,
+    /* The fifth rows do not fit the fifth buffer. */
+    V_FRAME_FIFTH_ROWS = 9
 };
 
 /* Chroma formats. */
@@ -358,6 +360,32 @@ uint32_t v_frame_deinterleave_u8(const v_frame_rows *rows, const uint8_t *buffer
 uint32_t v_frame_deinterleave_u16(const v_frame_rows *rows, const uint16_t *buffer, size_t length, const v_frame_rows *u_rows,
                                   uint16_t *u, size_t u_length, const v_frame_rows *v_rows, uint16_t *v, size_t v_length);
 
+/* Make luma and interleaved chroma of the three planes of a frame, in V_FRAME_420, V_FRAME_422 or V_FRAME_444, as NV12, NV16 and
+ * NV24 have them; with V for U and U for V, as NV21. V_FRAME_FORMAT where the format is another. All of luma has one size, both
+ * components of chroma the one that covers it, and the rows of `uv` are twice as wide. In _u16 each sample, of `depth` bits, comes
+ * into the top bits of its word, as in P010 and P016, and bits above the depth are lost. V_FRAME_NUMBER unless it is 8 to 16. */
+uint32_t v_frame_to_semi_planar_u8(const v_frame_rows *y_rows, uint8_t *y, size_t y_length, const v_frame_rows *uv_rows, uint8_t *uv,
+                                   size_t uv_length, const v_frame_rows *source_rows, const uint8_t *source, size_t source_length,
+                                   const v_frame_rows *u_rows, const uint8_t *u, size_t u_length, const v_frame_rows *v_rows,
+                                   const uint8_t *v, size_t v_length, uint32_t format);
+uint32_t v_frame_to_semi_planar_u16(const v_frame_rows *y_rows, uint16_t *y, size_t y_length, const v_frame_rows *uv_rows,
+                                    uint16_t *uv, size_t uv_length, const v_frame_rows *source_rows, const uint16_t *source,
+                                    size_t source_length, const v_frame_rows *u_rows, const uint16_t *u, size_t u_length,
+                                    const v_frame_rows *v_rows, const uint16_t *v, size_t v_length, uint32_t format,
+                                    uint32_t depth);
+
+/* Make the three planes of a frame of luma and interleaved chroma. In _u16 each sample, in the top `depth` bits of its word, comes into
+ * the low ones, and the bits below are lost. */
+uint32_t v_frame_from_semi_planar_u8(const v_frame_rows *y_rows, uint8_t *y, size_t y_length, const v_frame_rows *u_rows, uint8_t *u,
+                                     size_t u_length, const v_frame_rows *v_rows, uint8_t *v, size_t v_length,
+                                     const v_frame_rows *source_rows, const uint8_t *source, size_t source_length,
+                                     const v_frame_rows *uv_rows, const uint8_t *uv, size_t uv_length, uint32_t format);
+uint32_t v_frame_from_semi_planar_u16(const v_frame_rows *y_rows, uint16_t *y, size_t y_length, const v_frame_rows *u_rows,
+                                      uint16_t *u, size_t u_length, const v_frame_rows *v_rows, uint16_t *v, size_t v_length,
+                                      const v_frame_rows *source_rows, const uint16_t *source, size_t source_length,
+                                      const v_frame_rows *uv_rows, const uint16_t *uv, size_t uv_length, uint32_t format,
+                                      uint32_t depth);
+
 /* Make the rows of the buffer the colours of three pictures of one size, Y', Cb and Cr of 8 bits, by a standard: each byte is the
  * nearest to what whole coefficients give, which lie within 1/100 of the standard's before that is rounded. The rows of the buffer
  * count bytes, three or four for each pixel. V_FRAME_NUMBER where a number of `colours` is none of its enum. */
@@ -499,6 +527,8 @@ static inline const char *v_frame_status_text(uint32_t status) {
         return "the fourth rows do not fit their buffer";
     case V_FRAME_WINDOWS:
         return "a side is below 8, and SSIM has no window";
+    case V_FRAME_FIFTH_ROWS:
+        return "the fifth rows do not fit their buffer";
     default:
         return "unknown status";
     }

@@ -120,7 +120,7 @@ class Headers(unittest.TestCase):
             with mock.patch.object(_headers, "_WRITE", lambda *_: status), mock.patch.object(_headers, "_FRAME_BYTES", lambda *_: status):
                 self.assertRaisesRegex(y4m.Y4mError, str(status), self.GOOD.line)
                 self.assertRaisesRegex(y4m.Y4mError, str(status), self.GOOD.frame_bytes)
-        for status in (9, 10, 99, 2 ** 32 - 1):
+        for status in (10, 11, 99, 2 ** 32 - 1):
             self.assertRaisesRegex(v_frame.StatusError, str(status), _library.answered, status)
 
 

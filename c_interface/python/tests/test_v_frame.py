@@ -308,7 +308,7 @@ class Planes(unittest.TestCase):
     def test_no_status_but_0_is_a_success(self):
         from v_frame import _library
         self.assertIsNone(_library.answered(0))
-        for status, error in ((1, RowsError), (3, SizesError), (4, ValueError), (5, ValueError), (8, SizesError), (9, RuntimeError)):
+        for status, error in ((1, RowsError), (3, SizesError), (4, ValueError), (5, ValueError), (8, SizesError), (9, RowsError), (10, RuntimeError)):
             self.assertRaises(error, _library.answered, status)
 
     def test_what_does_not_fit_is_refused(self):

@@ -107,6 +107,11 @@ TURN = _both("turn", _rows, _data, _size, ctypes.c_uint32)
 UPSCALE = _both("upscale", _rows, _data, _size, _size, _size)
 INTERLEAVE = _both("interleave", _rows, _data, _size, _rows, _data, _size)
 DEINTERLEAVE = _both("deinterleave", _rows, _data, _size, _rows, _data, _size)
+_buffer = (_rows, _data, _size)
+TO_SEMI_PLANAR = {1: _export("v_frame_to_semi_planar_u8", *4 * _buffer, ctypes.c_uint32),
+                  2: _export("v_frame_to_semi_planar_u16", *4 * _buffer, ctypes.c_uint32, ctypes.c_uint32)}
+FROM_SEMI_PLANAR = {1: _export("v_frame_from_semi_planar_u8", *4 * _buffer, ctypes.c_uint32),
+                    2: _export("v_frame_from_semi_planar_u16", *4 * _buffer, ctypes.c_uint32, ctypes.c_uint32)}
 TO_RGB = _export("v_frame_yuv444_to_rgb_u8", _rows, _data, _size, _rows, _data, _size, _rows, _data, _size,
                  ctypes.POINTER(Colours))
 STATISTICS = _both("statistics", ctypes.POINTER(Statistics))
@@ -135,10 +140,13 @@ COUNT_ABOVE = _both("count_above", _rows, _data, _size, ctypes.c_uint16, ctypes.
 LAY_OUT = export(_library, "v_frame_lay_out", ctypes.POINTER(Request), ctypes.POINTER(Parts))
 
 
+_ROWS = {1: "first", 2: "second", 6: "third", 7: "fourth", 9: "fifth"}
+
+
 def answered(status):
     """Raises the exception of a status."""
-    if status in (1, 2, 6, 7):
-        raise RowsError({1: "the first", 2: "the second", 6: "the third", 7: "the fourth"}[status] + " rows do not fit their buffer")
+    if status in _ROWS:
+        raise RowsError(f"the {_ROWS[status]} rows do not fit their buffer")
     if status == 3:
         raise SizesError("the sizes do not belong together")
     if status == 4:

@@ -5,6 +5,7 @@ pub mod FrameParts
 pub mod Layout
 pub mod Measures
 pub mod Numbers
+pub mod SemiPlanar
 pub mod Sizes
 pub mod Statistics
 pub mod Status
