@@ -1,3 +1,4 @@
 mod Bounds
 mod Parts
 mod Rectangles
+mod Whole

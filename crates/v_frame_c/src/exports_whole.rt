@@ -42,7 +42,19 @@ pub extern "C" fn v_frame_to_semi_planar_u8(
     ensures y_refused { result ≢ 0 → y.new ≡ y.old }
     ensures uv_refused { result ≢ 0 → uv.new ≡ uv.old }
 {
-    whole::to_semi_planar(y_rows, y, uv_rows, uv, source_rows, source, u_rows, u, v_rows, v, format)
+    whole::to_semi_planar(
+        y_rows,
+        y,
+        uv_rows,
+        uv,
+        source_rows,
+        source,
+        u_rows,
+        u,
+        v_rows,
+        v,
+        format,
+    )
 }
 
 /// Makes the first three rows the planes of a frame of luma and of chroma whose samples take turns.
@@ -75,7 +87,19 @@ pub extern "C" fn v_frame_from_semi_planar_u8(
     ensures u_refused { result ≢ 0 → u.new ≡ u.old }
     ensures v_refused { result ≢ 0 → v.new ≡ v.old }
 {
-    whole::from_semi_planar(y_rows, y, u_rows, u, v_rows, v, source_rows, source, uv_rows, uv, format)
+    whole::from_semi_planar(
+        y_rows,
+        y,
+        u_rows,
+        u,
+        v_rows,
+        v,
+        source_rows,
+        source,
+        uv_rows,
+        uv,
+        format,
+    )
 }
 
 /// Makes the first rows luma, and the second ones chroma, of a frame of three planes: those of luma, of U and of V.
@@ -113,13 +137,26 @@ pub extern "C" fn v_frame_to_semi_planar_u16(
     if !is_depth::<u16>(depth) {
         return NUMBER;
     }
-    let status = whole::to_semi_planar(y_rows, y, uv_rows, uv, source_rows, source, u_rows, u, v_rows, v, format);
-    if status == OK {
-        let bits = depth as u8;
-        semi_planar::to_top_bits(y, y_rows.width, y_rows.height, y_rows.stride, bits);
-        semi_planar::to_top_bits(uv, uv_rows.width, uv_rows.height, uv_rows.stride, bits);
+    let status = whole::to_semi_planar(
+        y_rows,
+        y,
+        uv_rows,
+        uv,
+        source_rows,
+        source,
+        u_rows,
+        u,
+        v_rows,
+        v,
+        format,
+    );
+    if status != OK {
+        return status;
     }
-    status
+    let bits = depth as u8;
+    semi_planar::to_top_bits(y, y_rows.width, y_rows.height, y_rows.stride, bits);
+    semi_planar::to_top_bits(uv, uv_rows.width, uv_rows.height, uv_rows.stride, bits);
+    OK
 }
 
 /// Makes the first three rows the planes of a frame of luma and of chroma whose samples take turns.
@@ -160,12 +197,25 @@ pub extern "C" fn v_frame_from_semi_planar_u16(
     if !is_depth::<u16>(depth) {
         return NUMBER;
     }
-    let status = whole::from_semi_planar(y_rows, y, u_rows, u, v_rows, v, source_rows, source, uv_rows, uv, format);
-    if status == OK {
-        let bits = depth as u8;
-        semi_planar::from_top_bits(y, y_rows.width, y_rows.height, y_rows.stride, bits);
-        semi_planar::from_top_bits(u, u_rows.width, u_rows.height, u_rows.stride, bits);
-        semi_planar::from_top_bits(v, v_rows.width, v_rows.height, v_rows.stride, bits);
+    let status = whole::from_semi_planar(
+        y_rows,
+        y,
+        u_rows,
+        u,
+        v_rows,
+        v,
+        source_rows,
+        source,
+        uv_rows,
+        uv,
+        format,
+    );
+    if status != OK {
+        return status;
     }
-    status
+    let bits = depth as u8;
+    semi_planar::from_top_bits(y, y_rows.width, y_rows.height, y_rows.stride, bits);
+    semi_planar::from_top_bits(u, u_rows.width, u_rows.height, u_rows.stride, bits);
+    semi_planar::from_top_bits(v, v_rows.width, v_rows.height, v_rows.stride, bits);
+    OK
 }

@@ -130,14 +130,7 @@ fn is_semi_planar(format: u32) -> bool
 }
 
 /// Returns whether the sizes are those of a frame in the format of this number.
-fn have_layout(
-    y: &Rows,
-    other_y: &Rows,
-    uv: &Rows,
-    u: &Rows,
-    v: &Rows,
-    format: u32,
-) -> bool
+fn have_layout(y: &Rows, other_y: &Rows, uv: &Rows, u: &Rows, v: &Rows, format: u32) -> bool
     requires known { IsTrue (is_semi_planar format) }
     ensures { result ≡ have_layout format y.now other_y.now uv.now u.now v.now }
 {

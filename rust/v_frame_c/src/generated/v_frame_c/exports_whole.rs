@@ -42,7 +42,19 @@ pub unsafe extern "C" fn v_frame_to_semi_planar_u8(
     let u = unsafe { crate::foreign::slice(u, u_length) };
     let v_rows = unsafe { crate::foreign::reference(v_rows) };
     let v = unsafe { crate::foreign::slice(v, v_length) };
-    whole::to_semi_planar(y_rows, y, uv_rows, uv, source_rows, source, u_rows, u, v_rows, v, format)
+    whole::to_semi_planar(
+        y_rows,
+        y,
+        uv_rows,
+        uv,
+        source_rows,
+        source,
+        u_rows,
+        u,
+        v_rows,
+        v,
+        format,
+    )
 }
 
 /// Makes the first three rows the planes of a frame of luma and of chroma whose samples take turns.
@@ -80,7 +92,19 @@ pub unsafe extern "C" fn v_frame_from_semi_planar_u8(
     let source = unsafe { crate::foreign::slice(source, source_length) };
     let uv_rows = unsafe { crate::foreign::reference(uv_rows) };
     let uv = unsafe { crate::foreign::slice(uv, uv_length) };
-    whole::from_semi_planar(y_rows, y, u_rows, u, v_rows, v, source_rows, source, uv_rows, uv, format)
+    whole::from_semi_planar(
+        y_rows,
+        y,
+        u_rows,
+        u,
+        v_rows,
+        v,
+        source_rows,
+        source,
+        uv_rows,
+        uv,
+        format,
+    )
 }
 
 /// Makes the first rows luma, and the second ones chroma, of a frame of three planes: those of luma, of U and of V.
@@ -122,13 +146,26 @@ pub unsafe extern "C" fn v_frame_to_semi_planar_u16(
     if !is_depth::<u16>(depth) {
         return NUMBER;
     }
-    let status = whole::to_semi_planar(y_rows, y, uv_rows, uv, source_rows, source, u_rows, u, v_rows, v, format);
-    if status == OK {
-        let bits = depth as u8;
-        semi_planar::to_top_bits(y, y_rows.width, y_rows.height, y_rows.stride, bits);
-        semi_planar::to_top_bits(uv, uv_rows.width, uv_rows.height, uv_rows.stride, bits);
+    let status = whole::to_semi_planar(
+        y_rows,
+        y,
+        uv_rows,
+        uv,
+        source_rows,
+        source,
+        u_rows,
+        u,
+        v_rows,
+        v,
+        format,
+    );
+    if status != OK {
+        return status;
     }
-    status
+    let bits = depth as u8;
+    semi_planar::to_top_bits(y, y_rows.width, y_rows.height, y_rows.stride, bits);
+    semi_planar::to_top_bits(uv, uv_rows.width, uv_rows.height, uv_rows.stride, bits);
+    OK
 }
 
 /// Makes the first three rows the planes of a frame of luma and of chroma whose samples take turns.
@@ -170,12 +207,25 @@ pub unsafe extern "C" fn v_frame_from_semi_planar_u16(
     if !is_depth::<u16>(depth) {
         return NUMBER;
     }
-    let status = whole::from_semi_planar(y_rows, y, u_rows, u, v_rows, v, source_rows, source, uv_rows, uv, format);
-    if status == OK {
-        let bits = depth as u8;
-        semi_planar::from_top_bits(y, y_rows.width, y_rows.height, y_rows.stride, bits);
-        semi_planar::from_top_bits(u, u_rows.width, u_rows.height, u_rows.stride, bits);
-        semi_planar::from_top_bits(v, v_rows.width, v_rows.height, v_rows.stride, bits);
+    let status = whole::from_semi_planar(
+        y_rows,
+        y,
+        u_rows,
+        u,
+        v_rows,
+        v,
+        source_rows,
+        source,
+        uv_rows,
+        uv,
+        format,
+    );
+    if status != OK {
+        return status;
     }
-    status
+    let bits = depth as u8;
+    semi_planar::from_top_bits(y, y_rows.width, y_rows.height, y_rows.stride, bits);
+    semi_planar::from_top_bits(u, u_rows.width, u_rows.height, u_rows.stride, bits);
+    semi_planar::from_top_bits(v, v_rows.width, v_rows.height, v_rows.stride, bits);
+    OK
 }

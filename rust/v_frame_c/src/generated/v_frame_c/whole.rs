@@ -94,14 +94,7 @@ fn is_semi_planar(format: u32) -> bool {
 }
 
 /// Returns whether the sizes are those of a frame in the format of this number.
-fn have_layout(
-    y: &Rows,
-    other_y: &Rows,
-    uv: &Rows,
-    u: &Rows,
-    v: &Rows,
-    format: u32,
-) -> bool {
+fn have_layout(y: &Rows, other_y: &Rows, uv: &Rows, u: &Rows, v: &Rows, format: u32) -> bool {
     let (columns, rows) = ratios(format);
     y.same_size(other_y)
         && y.is_subsampled_by(u, columns, rows)
