@@ -25,6 +25,8 @@
 #define V_FRAME_VERSION_MINOR 3
 #define V_FRAME_VERSION_PATCH 0
 #define V_FRAME_VERSION "0.3.0"
+/* The version as one number. */
+#define V_FRAME_VERSION_NUMBER (V_FRAME_VERSION_MAJOR * 65536 + V_FRAME_VERSION_MINOR * 256 + V_FRAME_VERSION_PATCH)
 
 #ifdef __cplusplus
 extern "C" {

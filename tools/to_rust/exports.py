@@ -10,7 +10,7 @@ from .items import functions_of
 
 MARK = "# [ unsafe ( no_mangle ) ]"
 HEAD = 'extern "C" fn'
-SCALARS = {"u8", "u16", "u32", "u64", "usize", "f64"}
+SCALARS = {"u8", "u16", "u32", "u64", "usize", "isize", "f64"}
 RESULT = "-> u32"
 BEFORE = "///\n/// # Safety\n///\n/// Each pointer is as the header says.\n#[allow(unsafe_code)]"
 

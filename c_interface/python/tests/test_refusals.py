@@ -113,7 +113,7 @@ class Headers(unittest.TestCase):
             next(y4m.read_y4m(Endless(b"YUV4MPEG2 W99 H99\nFRAME\n"))[1])
 
     def test_statuses_that_are_not_known(self):
-        for status in (9, 14, 99, 2 ** 32 - 1):
+        for status in (9, 15, 99, 2 ** 32 - 1):
             with mock.patch.object(_headers, "_PARSE", lambda *_: status):
                 self.assertRaisesRegex(y4m.Y4mError, str(status), y4m.parse_header, b"YUV4MPEG2 W4 H2")
         for status in (1, 10, 14, 99):
@@ -131,6 +131,17 @@ class Libraries(unittest.TestCase):
                 run = subprocess.run([sys.executable, "-c", "from v_frame import y4m"], env={**os.environ, variable: name}, capture_output=True,
                                      text=True)
                 self.assertRegex(run.stderr.splitlines()[-1], f"^ImportError: .*{words}")
+
+    def test_a_library_of_another_version(self):
+        """The first two numbers have to agree."""
+        major, minor, patch = map(int, v_frame.__version__.split("."))
+        for library, name in ((_headers._library, "v_frame_y4m"),):
+            for other in (f"{major}.{minor + 1}.{patch}", f"{major + 1}.{minor}.{patch}"):
+                with mock.patch.object(_library, "VERSION", other):
+                    self.assertRaisesRegex(ImportError, f"is of version {v_frame.__version__}, and this module of {other}",
+                                           _library.of_this_version, library, name)
+            with mock.patch.object(_library, "VERSION", f"{major}.{minor}.{patch + 1}"):
+                _library.of_this_version(library, name)
 
     def test_where_a_library_is_looked_for(self):
         """Beside the module, in its prefix, and by the loader; where it is nowhere the message has all three."""

@@ -68,6 +68,15 @@ def opened(name, variable):
         raise ImportError(f"{file} cannot be loaded ({error}): looked for {looked_for}; install it, or name it by {variable}") from error
 
 
+def of_this_version(library, name):
+    """A library whose first two numbers of the version are those of this module."""
+    version = export(library, f"{name}_version")()
+    if version >> 8 != int.from_bytes(map(int, VERSION.split(".")), "big") >> 8:
+        numbers = f"{version >> 16}.{version >> 8 & 255}.{version & 255}"
+        raise ImportError(f"lib{name}.so is of version {numbers}, and this module of {VERSION}: the first two numbers have to agree")
+    return library
+
+
 def export(library, name, *parameters):
     """A call of a library, which answers a status."""
     try:
