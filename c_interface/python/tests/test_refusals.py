@@ -135,12 +135,13 @@ class Libraries(unittest.TestCase):
     def test_a_library_of_another_version(self):
         """The first two numbers have to agree."""
         major, minor, patch = map(int, v_frame.__version__.split("."))
-        for variable, name in (("V_FRAME_LIBRARY", "v_frame"), ("V_FRAME_Y4M_LIBRARY", "v_frame_y4m")):
+        for library, name in ((_library._library, "v_frame"), (_headers._library, "v_frame_y4m")):
             for other in (f"{major}.{minor + 1}.{patch}", f"{major + 1}.{minor}.{patch}"):
                 with mock.patch.object(_library, "VERSION", other):
-                    self.assertRaisesRegex(ImportError, f"is of version {v_frame.__version__}, and this module of {other}", _library.opened, name, variable)
+                    self.assertRaisesRegex(ImportError, f"is of version {v_frame.__version__}, and this module of {other}",
+                                           _library.of_this_version, library, name)
             with mock.patch.object(_library, "VERSION", f"{major}.{minor}.{patch + 1}"):
-                _library.opened(name, variable)
+                _library.of_this_version(library, name)
 
     def test_where_a_library_is_looked_for(self):
         """Beside the module, in its prefix, and by the loader; where it is nowhere the message has all three."""

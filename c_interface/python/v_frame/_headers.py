@@ -6,7 +6,7 @@ from dataclasses import dataclass, replace
 from ._calls import FORMATS
 from ._errors import LIMIT, Error, Y4mError, whole
 from ._frames import plane_sizes
-from ._library import export, opened
+from ._library import export, of_this_version, opened
 
 #: Where chroma lies, and how fields are interlaced, in the order of their numbers.
 SITINGS, INTERLACINGS = (None, "jpeg", "mpeg2", "paldv"), (None, "p", "t", "b", "m", "?")
@@ -27,7 +27,7 @@ class _Header(ctypes.Structure):
     ]
 
 
-_library = opened("v_frame_y4m", "V_FRAME_Y4M_LIBRARY")
+_library = of_this_version(opened("v_frame_y4m", "V_FRAME_Y4M_LIBRARY"), "v_frame_y4m")
 _PARSE = export(_library, "v_frame_y4m_parse_header", ctypes.c_char_p, ctypes.c_size_t, ctypes.POINTER(_Header),
                  ctypes.POINTER(ctypes.c_uint32))
 _WRITE = export(_library, "v_frame_y4m_write_header", ctypes.POINTER(_Header), ctypes.c_char_p, ctypes.c_size_t,

@@ -62,14 +62,18 @@ def opened(name, variable):
     named, places = os.environ.get(variable), [str(here / file), str(here.parent.parent / file)]
     found = named or next((it for it in places if Path(it).exists()), None) or ctypes.util.find_library(name) or file
     try:
-        library = ctypes.CDLL(found)
+        return ctypes.CDLL(found)
     except OSError as error:
         looked_for = named or f"{', '.join(places)}, and {file} where the loader looks"
         raise ImportError(f"{file} cannot be loaded ({error}): looked for {looked_for}; install it, or name it by {variable}") from error
+
+
+def of_this_version(library, name):
+    """A library whose first two numbers of the version are those of this module."""
     version = export(library, f"{name}_version")()
     if version >> 8 != int.from_bytes(map(int, VERSION.split(".")), "big") >> 8:
         numbers = f"{version >> 16}.{version >> 8 & 255}.{version & 255}"
-        raise ImportError(f"{found} is of version {numbers}, and this module of {VERSION}: the first two numbers have to agree")
+        raise ImportError(f"lib{name}.so is of version {numbers}, and this module of {VERSION}: the first two numbers have to agree")
     return library
 
 
@@ -83,7 +87,7 @@ def export(library, name, *parameters):
     return found
 
 
-_library = opened("v_frame", "V_FRAME_LIBRARY")
+_library = of_this_version(opened("v_frame", "V_FRAME_LIBRARY"), "v_frame")
 _rows, _size, _data = ctypes.POINTER(Rows), ctypes.c_size_t, ctypes.c_void_p
 
 
