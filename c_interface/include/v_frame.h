@@ -362,8 +362,8 @@ uint32_t v_frame_deinterleave_u16(const v_frame_rows *rows, const uint16_t *buff
 
 /* Make luma and interleaved chroma of the three planes of a frame, in V_FRAME_420, V_FRAME_422 or V_FRAME_444, as NV12, NV16 and
  * NV24 have them; with V for U and U for V, as NV21. V_FRAME_FORMAT where the format is another. All of luma has one size, both
- * components of chroma the one that covers it, and the rows of `uv` are twice as wide. In _u16 each sample, of `depth` bits, comes
- * into the top bits of its word, as in P010 and P016, and bits above the depth are lost. V_FRAME_NUMBER unless it is 8 to 16. */
+ * components of chroma the one that covers it, and the rows of `uv` are twice as wide. P010 has its samples in the top bits:
+ * v_frame_convert_depth_u16_u16 from 10 to 16 bits puts them there, and back. */
 uint32_t v_frame_to_semi_planar_u8(const v_frame_rows *y_rows, uint8_t *y, size_t y_length, const v_frame_rows *uv_rows, uint8_t *uv,
                                    size_t uv_length, const v_frame_rows *source_rows, const uint8_t *source, size_t source_length,
                                    const v_frame_rows *u_rows, const uint8_t *u, size_t u_length, const v_frame_rows *v_rows,
@@ -371,11 +371,9 @@ uint32_t v_frame_to_semi_planar_u8(const v_frame_rows *y_rows, uint8_t *y, size_
 uint32_t v_frame_to_semi_planar_u16(const v_frame_rows *y_rows, uint16_t *y, size_t y_length, const v_frame_rows *uv_rows,
                                     uint16_t *uv, size_t uv_length, const v_frame_rows *source_rows, const uint16_t *source,
                                     size_t source_length, const v_frame_rows *u_rows, const uint16_t *u, size_t u_length,
-                                    const v_frame_rows *v_rows, const uint16_t *v, size_t v_length, uint32_t format,
-                                    uint32_t depth);
+                                    const v_frame_rows *v_rows, const uint16_t *v, size_t v_length, uint32_t format);
 
-/* Make the three planes of a frame of luma and interleaved chroma. In _u16 each sample, in the top `depth` bits of its word, comes into
- * the low ones, and the bits below are lost. */
+/* Make the three planes of a frame of luma and interleaved chroma: the way back. */
 uint32_t v_frame_from_semi_planar_u8(const v_frame_rows *y_rows, uint8_t *y, size_t y_length, const v_frame_rows *u_rows, uint8_t *u,
                                      size_t u_length, const v_frame_rows *v_rows, uint8_t *v, size_t v_length,
                                      const v_frame_rows *source_rows, const uint8_t *source, size_t source_length,
@@ -383,8 +381,7 @@ uint32_t v_frame_from_semi_planar_u8(const v_frame_rows *y_rows, uint8_t *y, siz
 uint32_t v_frame_from_semi_planar_u16(const v_frame_rows *y_rows, uint16_t *y, size_t y_length, const v_frame_rows *u_rows,
                                       uint16_t *u, size_t u_length, const v_frame_rows *v_rows, uint16_t *v, size_t v_length,
                                       const v_frame_rows *source_rows, const uint16_t *source, size_t source_length,
-                                      const v_frame_rows *uv_rows, const uint16_t *uv, size_t uv_length, uint32_t format,
-                                      uint32_t depth);
+                                      const v_frame_rows *uv_rows, const uint16_t *uv, size_t uv_length, uint32_t format);
 
 /* Make the rows of the buffer the colours of three pictures of one size, Y', Cb and Cr of 8 bits, by a standard: each byte is the
  * nearest to what whole coefficients give, which lie within 1/100 of the standard's before that is rounded. The rows of the buffer

@@ -112,10 +112,8 @@ UPSCALE = _both("upscale", _rows, _data, _size, _size, _size)
 INTERLEAVE = _both("interleave", _rows, _data, _size, _rows, _data, _size)
 DEINTERLEAVE = _both("deinterleave", _rows, _data, _size, _rows, _data, _size)
 _buffer = (_rows, _data, _size)
-TO_SEMI_PLANAR = {1: _export("v_frame_to_semi_planar_u8", *4 * _buffer, ctypes.c_uint32),
-                  2: _export("v_frame_to_semi_planar_u16", *4 * _buffer, ctypes.c_uint32, ctypes.c_uint32)}
-FROM_SEMI_PLANAR = {1: _export("v_frame_from_semi_planar_u8", *4 * _buffer, ctypes.c_uint32),
-                    2: _export("v_frame_from_semi_planar_u16", *4 * _buffer, ctypes.c_uint32, ctypes.c_uint32)}
+TO_SEMI_PLANAR = _both("to_semi_planar", *4 * _buffer, ctypes.c_uint32)
+FROM_SEMI_PLANAR = _both("from_semi_planar", *4 * _buffer, ctypes.c_uint32)
 TO_RGB = _export("v_frame_yuv444_to_rgb_u8", _rows, _data, _size, _rows, _data, _size, _rows, _data, _size,
                  ctypes.POINTER(Colours))
 STATISTICS = _both("statistics", ctypes.POINTER(Statistics))

@@ -1,4 +1,3 @@
 mod Bounds
 mod Parts
 mod Rectangles
-mod Whole

@@ -18,7 +18,7 @@ pub record IsPart (width height stride x y w h entries : ℕ) : Type 0 where
   pub across : x + w ≤ width
   pub down : y + h ≤ height
 
-module _ {T : Type 0} {width height stride x y w h : ℕ} {old : List T}
+module _ {T : Type 0} (width height stride x y w h : ℕ) (old : List T)
     (part : IsPart width height stride x y w h (length old)) where
   abbrev origin : ℕ
   origin = stride * y + x

@@ -1,5 +1,5 @@
--- Frames whose chroma takes turns in one plane, as NV12, NV16, NV24 and P010 have it.
-use Rattle.std.specs.Prelude.{ℕ, ◌-◌, ◌*◌, ◌/◌, ◌%◌, ◌^◌, ◌==◌, Bool, ◌&&◌, if◌then◌else◌, nat_le}
+-- Frames whose chroma takes turns in one plane, as NV12, NV16, NV24 and P016 have it.
+use Rattle.std.specs.Prelude.{ℕ, ◌==◌, Bool, ◌&&◌, if◌then◌else◌, nat_le}
 use Rattle.v_frame_c.specs.Numbers.{subsampled_size}
 use Rattle.v_frame_c.specs.Status.{encoded_size, same_size}
 use Rattle.v_frame_c.specs.declared.layout.Rows.{Rows}
@@ -19,10 +19,3 @@ abbrev pub have_layout : ℕ → Rows → Rows → Rows → Rows → Rows → Bo
 have_layout format y other_y uv u v =
     same_size y other_y && (subsampled_size (columns_by format) (rows_by format) y u
     && (same_size u v && encoded_size 2 u uv))
-
--- a sample of so many bits in the top bits of a word, and back
-abbrev pub at_top : ℕ → ℕ → ℕ
-at_top depth p = p * 2 ^ (16 - depth) % 2 ^ 16
-
-abbrev pub from_top : ℕ → ℕ → ℕ
-from_top depth p = p / 2 ^ (16 - depth)

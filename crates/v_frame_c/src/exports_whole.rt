@@ -1,18 +1,14 @@
 //! The exports for whole frames whose chroma takes turns in one plane.
-ghost use Rattle.std.specs.Prelude.{◌≡◌, ◌≢◌, length, ℕ};
-ghost use Rattle.v_frame.specs.Prelude.{KeepsRest, Table};
+ghost use Rattle.std.specs.Prelude.{◌≡◌, ◌≢◌, length};
+ghost use Rattle.v_frame.specs.Prelude.{KeepsRest};
 ghost use Rattle.v_frame_c.specs.Layout.{fits, picture};
-ghost use Rattle.v_frame_c.specs.Numbers.{is_depth};
-ghost use Rattle.v_frame_c.specs.SemiPlanar.{at_top, from_top, have_layout, is_semi_planar};
-ghost use Rattle.v_frame_c.specs.Status.{status_of_five, status_of_format, status_of_number};
-ghost use Rattle.v_frame_ops.specs.Prelude.{combined, mapped};
+ghost use Rattle.v_frame_c.specs.SemiPlanar.{have_layout, is_semi_planar};
+ghost use Rattle.v_frame_c.specs.Status.{status_of_five, status_of_format};
+ghost use Rattle.v_frame_ops.specs.Prelude.{combined};
 ghost use Rattle.v_frame_semi_planar.specs.Interleaved.{interleaved};
 
-use crate::convert::is_depth;
 use crate::layout::Rows;
-use crate::status::{NUMBER, OK};
 use crate::whole;
-use v_frame_semi_planar::rows as semi_planar;
 
 /// Makes the first rows luma, and the second ones chroma, of a frame of three planes: those of luma, of U and of V.
 #[unsafe(no_mangle)]
@@ -116,28 +112,21 @@ pub extern "C" fn v_frame_to_semi_planar_u16(
     v_rows: &Rows,
     v: &[u16],
     format: u32,
-    depth: u32,
 ) -> u32
-    ensures status { result ≡ status_of_number (is_depth 2 depth)
-        (status_of_format (is_semi_planar format)
+    ensures status { result ≡ status_of_format (is_semi_planar format)
         (status_of_five (fits y_rows.now (length y.old)) (fits uv_rows.now (length uv.old))
         (fits source_rows.now (length source.now)) (fits u_rows.now (length u.now))
         (fits v_rows.now (length v.now))
-        (have_layout format y_rows.now source_rows.now uv_rows.now u_rows.now v_rows.now))) }
-    ensures luma { result ≡ 0 → picture y_rows.now y.new
-        ≡ mapped (mapped (at_top depth)) (picture source_rows.now source.now) }
+        (have_layout format y_rows.now source_rows.now uv_rows.now u_rows.now v_rows.now)) }
+    ensures luma { result ≡ 0 → picture y_rows.now y.new ≡ picture source_rows.now source.now }
     ensures chroma { result ≡ 0 → picture uv_rows.now uv.new
-        ≡ mapped (mapped (at_top depth))
-        (combined interleaved (picture u_rows.now u.now) (picture v_rows.now v.now)) }
+        ≡ combined interleaved (picture u_rows.now u.now) (picture v_rows.now v.now) }
     ensures y_rest { KeepsRest y_rows.now.width y_rows.now.height y_rows.now.stride y.old y.new }
     ensures uv_rest { KeepsRest uv_rows.now.width uv_rows.now.height uv_rows.now.stride uv.old uv.new }
     ensures y_refused { result ≢ 0 → y.new ≡ y.old }
     ensures uv_refused { result ≢ 0 → uv.new ≡ uv.old }
 {
-    if !is_depth::<u16>(depth) {
-        return NUMBER;
-    }
-    let status = whole::to_semi_planar(
+    whole::to_semi_planar(
         y_rows,
         y,
         uv_rows,
@@ -149,14 +138,7 @@ pub extern "C" fn v_frame_to_semi_planar_u16(
         v_rows,
         v,
         format,
-    );
-    if status != OK {
-        return status;
-    }
-    let bits = depth as u8;
-    semi_planar::to_top_bits(y, y_rows.width, y_rows.height, y_rows.stride, bits);
-    semi_planar::to_top_bits(uv, uv_rows.width, uv_rows.height, uv_rows.stride, bits);
-    OK
+    )
 }
 
 /// Makes the first three rows the planes of a frame of luma and of chroma whose samples take turns.
@@ -173,20 +155,15 @@ pub extern "C" fn v_frame_from_semi_planar_u16(
     uv_rows: &Rows,
     uv: &[u16],
     format: u32,
-    depth: u32,
 ) -> u32
-    ensures status { result ≡ status_of_number (is_depth 2 depth)
-        (status_of_format (is_semi_planar format)
+    ensures status { result ≡ status_of_format (is_semi_planar format)
         (status_of_five (fits y_rows.now (length y.old)) (fits u_rows.now (length u.old))
         (fits v_rows.now (length v.old)) (fits source_rows.now (length source.now))
         (fits uv_rows.now (length uv.now))
-        (have_layout format y_rows.now source_rows.now uv_rows.now u_rows.now v_rows.now))) }
-    ensures luma { result ≡ 0 → picture y_rows.now y.new
-        ≡ mapped (mapped (from_top depth)) (picture source_rows.now source.now) }
-    ensures chroma { result ≡ 0 → (first second : Table ℕ)
-        × (picture uv_rows.now uv.now ≡ combined interleaved first second)
-        × (picture u_rows.now u.new ≡ mapped (mapped (from_top depth)) first)
-        × (picture v_rows.now v.new ≡ mapped (mapped (from_top depth)) second) }
+        (have_layout format y_rows.now source_rows.now uv_rows.now u_rows.now v_rows.now)) }
+    ensures luma { result ≡ 0 → picture y_rows.now y.new ≡ picture source_rows.now source.now }
+    ensures chroma { result ≡ 0 → picture uv_rows.now uv.now
+        ≡ combined interleaved (picture u_rows.now u.new) (picture v_rows.now v.new) }
     ensures y_rest { KeepsRest y_rows.now.width y_rows.now.height y_rows.now.stride y.old y.new }
     ensures u_rest { KeepsRest u_rows.now.width u_rows.now.height u_rows.now.stride u.old u.new }
     ensures v_rest { KeepsRest v_rows.now.width v_rows.now.height v_rows.now.stride v.old v.new }
@@ -194,10 +171,7 @@ pub extern "C" fn v_frame_from_semi_planar_u16(
     ensures u_refused { result ≢ 0 → u.new ≡ u.old }
     ensures v_refused { result ≢ 0 → v.new ≡ v.old }
 {
-    if !is_depth::<u16>(depth) {
-        return NUMBER;
-    }
-    let status = whole::from_semi_planar(
+    whole::from_semi_planar(
         y_rows,
         y,
         u_rows,
@@ -209,13 +183,5 @@ pub extern "C" fn v_frame_from_semi_planar_u16(
         uv_rows,
         uv,
         format,
-    );
-    if status != OK {
-        return status;
-    }
-    let bits = depth as u8;
-    semi_planar::from_top_bits(y, y_rows.width, y_rows.height, y_rows.stride, bits);
-    semi_planar::from_top_bits(u, u_rows.width, u_rows.height, u_rows.stride, bits);
-    semi_planar::from_top_bits(v, v_rows.width, v_rows.height, v_rows.stride, bits);
-    OK
+    )
 }
