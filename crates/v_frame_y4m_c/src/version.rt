@@ -2,7 +2,9 @@
 ghost use Rattle.std.specs.Prelude.{◌≡◌, ◌+◌, ◌*◌};
 
 const MAJOR: u32 = 0;
+
 const MINOR: u32 = 3;
+
 const PATCH: u32 = 0;
 
 /// Returns the version of the library, 0.3.0, as one number.

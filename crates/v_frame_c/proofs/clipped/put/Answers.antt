@@ -1,5 +1,5 @@
 -- The rows that are written are a part of the rows, from its first pixel on.
-use Rattle.std.proofs.Common.{ℕ, ◌≡◌, length, ◌∙◌, ap, arith}
+use Rattle.std.proofs.Common.{length, ◌∙◌, ap, arith}
 use Rattle.v_frame.specs.Prelude.{pixel_at}
 use Rattle.v_frame_c.proofs.Parts.{IsPart, fits_behind, shown_inside, kept_beside, kept_rest}
 use Rattle.v_frame_c.proofs.clipped.put.Goals as goal
