@@ -25,6 +25,8 @@
 #define V_FRAME_VERSION_MINOR 3
 #define V_FRAME_VERSION_PATCH 0
 #define V_FRAME_VERSION "0.3.0"
+/* The version as one number, as v_frame_version gives it. */
+#define V_FRAME_VERSION_NUMBER (V_FRAME_VERSION_MAJOR * 65536 + V_FRAME_VERSION_MINOR * 256 + V_FRAME_VERSION_PATCH)
 
 #ifdef __cplusplus
 extern "C" {
@@ -51,7 +53,9 @@ enum v_frame_status {
     /* The fourth rows do not fit the fourth buffer. */
     V_FRAME_FOURTH_ROWS = 7,
     /* A side of the pictures is below 8: no window of 8 by 8 pixels has room. */
-    V_FRAME_WINDOWS = 8
+    V_FRAME_WINDOWS = 8,
+    /* The fifth rows do not fit the fifth buffer. */
+    V_FRAME_FIFTH_ROWS = 9
 };
 
 /* Chroma formats. */
@@ -188,6 +192,10 @@ typedef struct v_frame_greatest {
     uint32_t difference;
 } v_frame_greatest;
 
+/* Return the version of the library that is loaded: V_FRAME_VERSION_NUMBER of the header that it was built with. A library whose
+ * first two numbers are those of the header keeps all that the header declares: calls, structs, and numbers of enums. */
+uint32_t v_frame_version(void);
+
 /* Sum the squares of the differences of two pictures of one size. */
 uint32_t v_frame_squared_errors_u8(const v_frame_rows *a_rows, const uint8_t *a, size_t a_length, const v_frame_rows *b_rows,
                                    const uint8_t *b, size_t b_length, v_frame_sum *sum);
@@ -216,6 +224,13 @@ uint32_t v_frame_copy_u8(const v_frame_rows *rows, uint8_t *buffer, size_t lengt
                          const uint8_t *source, size_t source_length);
 uint32_t v_frame_copy_u16(const v_frame_rows *rows, uint16_t *buffer, size_t length, const v_frame_rows *source_rows,
                           const uint16_t *source, size_t source_length);
+
+/* The same with the first pixel of the source at column `x` of row `y` of the buffer's rows, either of which may be negative or past
+ * the edge. What lies outside is left out: the sizes may be any. */
+uint32_t v_frame_copy_clipped_u8(const v_frame_rows *rows, uint8_t *buffer, size_t length, const v_frame_rows *source_rows,
+                                 const uint8_t *source, size_t source_length, ptrdiff_t x, ptrdiff_t y);
+uint32_t v_frame_copy_clipped_u16(const v_frame_rows *rows, uint16_t *buffer, size_t length, const v_frame_rows *source_rows,
+                                  const uint16_t *source, size_t source_length, ptrdiff_t x, ptrdiff_t y);
 
 /* Make the rows of the buffer show the source in half the size: each pixel is the mean of a block of two by two, rounded to the
  * nearest value and upwards at a half. The source is exactly twice as wide and as high. */
@@ -344,6 +359,29 @@ uint32_t v_frame_deinterleave_u8(const v_frame_rows *rows, const uint8_t *buffer
                                  uint8_t *u, size_t u_length, const v_frame_rows *v_rows, uint8_t *v, size_t v_length);
 uint32_t v_frame_deinterleave_u16(const v_frame_rows *rows, const uint16_t *buffer, size_t length, const v_frame_rows *u_rows,
                                   uint16_t *u, size_t u_length, const v_frame_rows *v_rows, uint16_t *v, size_t v_length);
+
+/* Make luma and interleaved chroma of the three planes of a frame, in V_FRAME_420, V_FRAME_422 or V_FRAME_444, as NV12, NV16 and
+ * NV24 have them; with V for U and U for V, as NV21. V_FRAME_FORMAT where the format is another. All of luma has one size, both
+ * components of chroma the one that covers it, and the rows of `uv` are twice as wide. P010 has its samples in the top bits:
+ * v_frame_convert_depth_u16_u16 from 10 to 16 bits puts them there, and back. */
+uint32_t v_frame_to_semi_planar_u8(const v_frame_rows *y_rows, uint8_t *y, size_t y_length, const v_frame_rows *uv_rows, uint8_t *uv,
+                                   size_t uv_length, const v_frame_rows *source_rows, const uint8_t *source, size_t source_length,
+                                   const v_frame_rows *u_rows, const uint8_t *u, size_t u_length, const v_frame_rows *v_rows,
+                                   const uint8_t *v, size_t v_length, uint32_t format);
+uint32_t v_frame_to_semi_planar_u16(const v_frame_rows *y_rows, uint16_t *y, size_t y_length, const v_frame_rows *uv_rows,
+                                    uint16_t *uv, size_t uv_length, const v_frame_rows *source_rows, const uint16_t *source,
+                                    size_t source_length, const v_frame_rows *u_rows, const uint16_t *u, size_t u_length,
+                                    const v_frame_rows *v_rows, const uint16_t *v, size_t v_length, uint32_t format);
+
+/* Make the three planes of a frame of luma and interleaved chroma: the way back. */
+uint32_t v_frame_from_semi_planar_u8(const v_frame_rows *y_rows, uint8_t *y, size_t y_length, const v_frame_rows *u_rows, uint8_t *u,
+                                     size_t u_length, const v_frame_rows *v_rows, uint8_t *v, size_t v_length,
+                                     const v_frame_rows *source_rows, const uint8_t *source, size_t source_length,
+                                     const v_frame_rows *uv_rows, const uint8_t *uv, size_t uv_length, uint32_t format);
+uint32_t v_frame_from_semi_planar_u16(const v_frame_rows *y_rows, uint16_t *y, size_t y_length, const v_frame_rows *u_rows,
+                                      uint16_t *u, size_t u_length, const v_frame_rows *v_rows, uint16_t *v, size_t v_length,
+                                      const v_frame_rows *source_rows, const uint16_t *source, size_t source_length,
+                                      const v_frame_rows *uv_rows, const uint16_t *uv, size_t uv_length, uint32_t format);
 
 /* Make the rows of the buffer the colours of three pictures of one size, Y', Cb and Cr of 8 bits, by a standard: each byte is the
  * nearest to what whole coefficients give, which lie within 1/100 of the standard's before that is rounded. The rows of the buffer
@@ -486,6 +524,8 @@ static inline const char *v_frame_status_text(uint32_t status) {
         return "the fourth rows do not fit their buffer";
     case V_FRAME_WINDOWS:
         return "a side is below 8, and SSIM has no window";
+    case V_FRAME_FIFTH_ROWS:
+        return "the fifth rows do not fit their buffer";
     default:
         return "unknown status";
     }

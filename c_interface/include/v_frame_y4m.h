@@ -11,7 +11,7 @@
  *     v_frame_y4m_frame_line(bytes + line, size - line, &line);    and then so many bytes, while some are left
  *
  * The contract of each call, a function of the same name in crates/v_frame_y4m_c, says which status it answers, and what it
- * writes; where that is not V_FRAME_Y4M_OK, the results are as they were, unless it says otherwise below. Calls that take a
+ * writes; where that is neither V_FRAME_Y4M_OK nor V_FRAME_Y4M_LAX_LINE, the results are as they were, unless it says otherwise below. Calls that take a
  * header or a header line take memory by malloc while they work, and give it back.
  *
  * You promise that pointers are not null, aligned, and as long as said, and that the results overlap nothing else.
@@ -53,7 +53,10 @@ enum v_frame_y4m_status {
     /* There is no line feed among the first 1025 bytes. */
     V_FRAME_Y4M_LINE_TOO_LONG = 12,
     /* Another line stands where that of a frame is due. */
-    V_FRAME_Y4M_NO_FRAME = 13
+    V_FRAME_Y4M_NO_FRAME = 13,
+    /* The line is as lax producers write it. It was read as the strict line that it stands for: without a carriage return at its
+     * end, with one space between two parameters and none at the end, and with F25:1 for F25. */
+    V_FRAME_Y4M_LAX_LINE = 14
 };
 
 enum v_frame_y4m_format {
@@ -101,14 +104,19 @@ typedef struct v_frame_y4m_header {
     uint32_t interlacing;
 } v_frame_y4m_header;
 
+/* Return the version of the library that is loaded, as v_frame_version of v_frame.h does. */
+uint32_t v_frame_y4m_version(void);
+
 /* Find where the first line of the bytes ends: its length, with its line feed. V_FRAME_Y4M_UNFINISHED_LINE, _LINE_TOO_LONG. */
 uint32_t v_frame_y4m_first_line(const uint8_t *bytes, size_t size, size_t *length);
 
-/* The same where the bytes begin with the line in front of a frame. V_FRAME_Y4M_NO_FRAME where another line stands there. */
+/* The same where the bytes begin with the line in front of a frame. V_FRAME_Y4M_LAX_LINE where a carriage return stands at its end,
+ * V_FRAME_Y4M_NO_FRAME where another line stands there. */
 uint32_t v_frame_y4m_frame_line(const uint8_t *bytes, size_t size, size_t *length);
 
-/* Parse a header line, without its line feed. Where a status is about one parameter, `letter` becomes its letter for
- * V_FRAME_Y4M_MISSING, _DUPLICATE and _ZERO_SIZE, and 0 for others; on success it is as it was. */
+/* Parse a header line, without its line feed. V_FRAME_Y4M_LAX_LINE where another line was read that it stands for: the header is
+ * that one's. Where a status is about one parameter, `letter` becomes its letter for V_FRAME_Y4M_MISSING, _DUPLICATE and
+ * _ZERO_SIZE, and 0 for others; where a header was read it is as it was. */
 uint32_t v_frame_y4m_parse_header(const uint8_t *line, size_t length, v_frame_y4m_header *header, uint32_t *letter);
 
 /* Write the line of a header with its line feed to the front of a buffer; `needed` becomes its length. All else of the buffer
@@ -139,7 +147,7 @@ static inline const char *v_frame_y4m_status_text(uint32_t status) {
     static const char *const texts[] = {
         "no error", "not a YUV4MPEG2 stream", "a parameter is missing", "a parameter is repeated", "malformed parameter",
         "a size is 0", "size too large", "unknown colour", "out of memory", "no such number", "the buffer is too short",
-        "the stream ends inside a line", "line longer than 1024 bytes", "no FRAME where a frame is due",
+        "the stream ends inside a line", "line longer than 1024 bytes", "no FRAME where a frame is due", "a lax line, which was read",
     };
     return status < sizeof texts / sizeof texts[0] ? texts[status] : "unknown status";
 }

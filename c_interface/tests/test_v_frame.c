@@ -45,6 +45,7 @@ static uint64_t distance(uint32_t p, uint32_t q) {
 #include "conversions.inc"
 #include "measures.inc"
 #include "choices.inc"
+#include "whole.inc"
 #undef SAMPLE
 #undef NAME
 #undef TEST
@@ -59,6 +60,7 @@ static uint64_t distance(uint32_t p, uint32_t q) {
 #include "conversions.inc"
 #include "measures.inc"
 #include "choices.inc"
+#include "whole.inc"
 
 #include "boundary.inc"
 
@@ -338,9 +340,10 @@ static void helpers(void) {
     CHECK(v_frame_rows_length(&rows) == 0);
     rows = v_frame_rows_packed(3, 0);
     CHECK(v_frame_rows_length(&rows) == 0);
-    for (uint32_t status = 0; status < 9; status++) {
-        CHECK(strlen(v_frame_status_text(status)) > 0);
+    for (uint32_t status = 0; status < 10; status++) {
+        CHECK(strcmp(v_frame_status_text(status), "unknown status") != 0);
     }
+    CHECK(v_frame_version() == V_FRAME_VERSION_NUMBER);
 }
 
 int main(void) {
@@ -356,6 +359,8 @@ int main(void) {
     measures_u16();
     refused_measures_u8();
     refused_measures_u16();
+    whole_frames_u8();
+    whole_frames_u16();
     depths();
     colours();
     samples_of_colours();

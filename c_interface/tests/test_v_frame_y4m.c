@@ -3,6 +3,7 @@
  * With -DREFUSING and -Wl,--wrap=malloc also each request for memory refused in turn: then the status says so, and the results
  * are as they were.
  */
+#include "v_frame.h"
 #include "v_frame_y4m.h"
 
 #include <stddef.h>
@@ -93,7 +94,7 @@ static uint32_t find(uint32_t (*call)(const uint8_t *, size_t, size_t *), const 
     *length = 9999;
     uint32_t status = call(block, size, length);
     free(block);
-    CHECK(status == V_FRAME_Y4M_OK || *length == 9999);
+    CHECK(status == V_FRAME_Y4M_OK || status == V_FRAME_Y4M_LAX_LINE || *length == 9999);
     return status;
 }
 
@@ -106,11 +107,16 @@ static void find_lines(void) {
         CHECK(find(v_frame_y4m_frame_line, stream, size, &length) == wanted && (size < 9 || length == 9));
     }
     CHECK(find(v_frame_y4m_frame_line, "FRAME\n\n", 7, &length) == V_FRAME_Y4M_OK && length == 6);
-    static const char *const others[] = {"\n", "FRAM\n", "FRAMES\n", "frame\n", " FRAME\n", "FRAME\r\n"};
+    static const char *const others[] = {"\n", "FRAM\n", "FRAMES\n", "frame\n", " FRAME\n", "FRAME\r\r\n", "FRAMEX\r\n"};
     for (size_t i = 0; i < sizeof others / sizeof others[0]; i++) {
         CHECK(find(v_frame_y4m_frame_line, others[i], strlen(others[i]), &length) == V_FRAME_Y4M_NO_FRAME);
         CHECK(find(v_frame_y4m_first_line, others[i], strlen(others[i]), &length) == V_FRAME_Y4M_OK);
         CHECK(length == strlen(others[i]));
+    }
+    static const char *const lax[] = {"FRAME\r\n", "FRAME Ip\r\n", "FRAME  \r\n"};
+    for (size_t i = 0; i < sizeof lax / sizeof lax[0]; i++) {
+        uint32_t wanted = i == 0 ? V_FRAME_Y4M_LAX_LINE : V_FRAME_Y4M_OK;
+        CHECK(find(v_frame_y4m_frame_line, lax[i], strlen(lax[i]), &length) == wanted && length == strlen(lax[i]));
     }
     /* A line may have 1024 bytes; a line feed further on is not looked for. */
     char line[2048];
@@ -327,6 +333,23 @@ static void count_bytes(void) {
     CHECK(count == 9999);
 }
 
+/* Lines as lax producers write them, and the strict line that each stands for. */
+static void read_lax_lines(void) {
+    static const char *const lines[][2] = {
+        {"YUV4MPEG2  W4 H2 F25 C420mpeg2 \r", "YUV4MPEG2 W4 H2 F25:1 C420mpeg2\n"},
+        {"YUV4MPEG2 W4 H2 F30 A1:1 C422p10", "YUV4MPEG2 W4 H2 F30:1 A1:1 C422p10\n"},
+        {"YUV4MPEG2 W4   H2 F25:1 It Cmono", "YUV4MPEG2 W4 H2 F25:1 It Cmono\n"},
+        {"YUV4MPEG2 W4 H2 C444\r", "YUV4MPEG2 W4 H2 C444\n"},
+        {"YUV4MPEG2 W4 H2 C444 ", "YUV4MPEG2 W4 H2 C444\n"},
+    };
+    for (size_t i = 0; i < sizeof lines / sizeof lines[0]; i++) {
+        v_frame_y4m_header header;
+        uint32_t letter;
+        CHECK(parse(lines[i][0], &header, &letter) == V_FRAME_Y4M_LAX_LINE && letter == 9);
+        CHECK(has_line(&header, lines[i][1]));
+    }
+}
+
 int main(void) {
     v_frame_y4m_header header, untouched;
     uint32_t letter;
@@ -346,6 +369,8 @@ int main(void) {
     CHECK(header.width == 3 && header.height == 2 && header.format == V_FRAME_Y4M_420 && header.bit_depth == 8);
     CHECK(header.frame_rate.stated == 0 && header.frame_rate.numerator == 0 && header.frame_rate.denominator == 0);
     CHECK(header.interlacing == V_FRAME_Y4M_NOT_STATED && header.siting == V_FRAME_Y4M_CENTRE);
+    CHECK(v_frame_y4m_version() == V_FRAME_VERSION_NUMBER);
+    read_lax_lines();
     static const struct {
         const char *line;
         uint32_t status;
@@ -356,7 +381,12 @@ int main(void) {
         {"YUV4MPEG2 H2", V_FRAME_Y4M_MISSING, 'W'},
         {"YUV4MPEG2 W2", V_FRAME_Y4M_MISSING, 'H'},
         {"YUV4MPEG2 W2 H2 W2", V_FRAME_Y4M_DUPLICATE, 'W'},
-        {"YUV4MPEG2 W2 H2 F1", V_FRAME_Y4M_MALFORMED, 0},
+        {"YUV4MPEG2 W2 H2 F1:", V_FRAME_Y4M_MALFORMED, 0},
+        {"YUV4MPEG2 W02 H2", V_FRAME_Y4M_MALFORMED, 0},
+        {"YUV4MPEG2 W2 H2 A1", V_FRAME_Y4M_MALFORMED, 0},
+        {"YUV4MPEG2  W2 \r", V_FRAME_Y4M_MISSING, 'H'},
+        {"YUV4MPEG2 W2 H2\r\r", V_FRAME_Y4M_MALFORMED, 0},
+        {"\tYUV4MPEG2 W2 H2", V_FRAME_Y4M_NOT_A_STREAM, 0},
         {"YUV4MPEG2 W2 H2 Q1", V_FRAME_Y4M_MALFORMED, 0},
         {"YUV4MPEG2 W2 H0", V_FRAME_Y4M_ZERO_SIZE, 'H'},
         {"YUV4MPEG2 W18446744073709551616 H2", V_FRAME_Y4M_SIZE_TOO_LARGE, 0},

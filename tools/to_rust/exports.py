@@ -14,7 +14,7 @@ MARK = "# [ unsafe ( no_mangle ) ]"
 HEAD = 'extern "C" fn'
 RESULT = "-> u32"
 BEFORE = "///\n/// # Safety\n///\n/// Each pointer is as the header says.\n#[allow(unsafe_code)]"
-SCALAR = r"u8|u16|u32|u64|usize|f64"
+SCALAR = r"u8|u16|u32|u64|usize|isize|f64"
 # The type of a parameter: one that goes as it is, or a reference to one or to many, which may be written.
 TYPE = re.compile(rf"{SCALAR}|&(?P<writes>mut )?(?:(?P<one>[A-Z]\w*|{SCALAR})|\[(?P<many>{SCALAR})\])")
 

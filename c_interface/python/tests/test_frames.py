@@ -81,6 +81,30 @@ class Frames(unittest.TestCase):
                 self.assertEqual([samples_of(it) for it in again], [samples_of(it) for it in frame])
                 self.assertTrue(all(p is not q for p, q in zip(again, frame)))
 
+    def test_semi_planar(self):
+        """Chroma takes turns, and above 8 bits samples are in the top bits, as ffmpeg describes nv12, nv16, nv24, p010le and the like."""
+        source = random.Random(20)
+        for format, depth, as_array in itertools.product(("420", "422", "444"), (8, 9, 10, 16), (False, True)[:2 if numpy else 1]):
+            for width, height in ((1, 1), (5, 3), (8, 4)):
+                frame = random_frame(source, width, height, format, depth, as_array)
+                y, uv = frame.to_semi_planar()
+                unused = 0 if depth == 8 else 16 - depth
+                self.assertEqual(samples_of(y), [[it << unused for it in row] for row in samples_of(frame.y)])
+                self.assertEqual(samples_of(uv), [[it << unused for pair in zip(u, v) for it in pair]
+                                                  for u, v in zip(samples_of(frame.u), samples_of(frame.v))])
+                back = Frame.from_semi_planar(y, uv, format, depth)
+                self.assertEqual([samples_of(it) for it in back], [samples_of(it) for it in frame])
+                self.assertEqual((back.format, back.depth), (format, depth))
+        for format in ("mono", "411"):
+            self.assertRaises(v_frame.NumberError, random_frame(source, 8, 8, format, 8).to_semi_planar)
+            self.assertRaises(v_frame.NumberError, Frame.from_semi_planar, Plane(bytes(64), 8, 8), Plane(bytes(64), 8, 8), format)
+        for wrong in ((Plane(bytes(8), 4, 2), Plane(bytes(8), 4, 2)), (Plane(bytes(8), 4, 2), Plane(bytes(3), 3, 1))):
+            self.assertRaises(v_frame.SizesError, Frame.from_semi_planar, *wrong)
+        for depth in (7, 17):
+            self.assertRaises(v_frame.NumberError, Frame.from_semi_planar, Plane(bytes(4), 2, 2), Plane(bytes(2), 2, 1), "420", depth)
+        self.assertRaises(v_frame.KindError, Frame.from_semi_planar, Plane(bytes(4), 2, 2), Plane(bytes(2), 2, 1), "420", 10)
+        self.assertRaises(v_frame.KindError, Frame.from_semi_planar, Plane(bytes(4), 2, 2), Plane(bytes(4), 2, 1, sample_size=2))
+
     def test_colours(self):
         source = random.Random(75)
         for format, depth, as_array in itertools.product(RATIOS, (8, 10), {False, numpy is not None}):

@@ -9,6 +9,8 @@ import itertools
 import math
 import mmap
 import os
+import pathlib
+import shutil
 import subprocess
 import sys
 import tempfile
@@ -111,14 +113,14 @@ class Headers(unittest.TestCase):
             next(y4m.read_y4m(Endless(b"YUV4MPEG2 W99 H99\nFRAME\n"))[1])
 
     def test_statuses_that_are_not_known(self):
-        for status in (9, 14, 99, 2 ** 32 - 1):
+        for status in (9, 15, 99, 2 ** 32 - 1):
             with mock.patch.object(_headers, "_PARSE", lambda *_: status):
                 self.assertRaisesRegex(y4m.Y4mError, str(status), y4m.parse_header, b"YUV4MPEG2 W4 H2")
         for status in (1, 10, 14, 99):
             with mock.patch.object(_headers, "_WRITE", lambda *_: status), mock.patch.object(_headers, "_FRAME_BYTES", lambda *_: status):
                 self.assertRaisesRegex(y4m.Y4mError, str(status), self.GOOD.line)
                 self.assertRaisesRegex(y4m.Y4mError, str(status), self.GOOD.frame_bytes)
-        for status in (9, 10, 99, 2 ** 32 - 1):
+        for status in (10, 11, 99, 2 ** 32 - 1):
             self.assertRaisesRegex(v_frame.StatusError, str(status), _library.answered, status)
 
 
@@ -129,6 +131,44 @@ class Libraries(unittest.TestCase):
                 run = subprocess.run([sys.executable, "-c", "from v_frame import y4m"], env={**os.environ, variable: name}, capture_output=True,
                                      text=True)
                 self.assertRegex(run.stderr.splitlines()[-1], f"^ImportError: .*{words}")
+
+    def test_a_library_of_another_version(self):
+        """The first two numbers have to agree."""
+        major, minor, patch = map(int, v_frame.__version__.split("."))
+        for library, name in ((_library._library, "v_frame"), (_headers._library, "v_frame_y4m")):
+            for other in (f"{major}.{minor + 1}.{patch}", f"{major + 1}.{minor}.{patch}"):
+                with mock.patch.object(_library, "VERSION", other):
+                    self.assertRaisesRegex(ImportError, f"is of version {v_frame.__version__}, and this module of {other}",
+                                           _library.of_this_version, library, name)
+            with mock.patch.object(_library, "VERSION", f"{major}.{minor}.{patch + 1}"):
+                _library.of_this_version(library, name)
+
+    def test_where_a_library_is_looked_for(self):
+        """Beside the module, in its prefix, and by the loader; where it is nowhere the message has all three."""
+        module, library = pathlib.Path(v_frame.__path__[0]), pathlib.Path(_library._library._name)
+        with tempfile.TemporaryDirectory() as folder:
+            room = pathlib.Path(folder).resolve()
+            there = room / "lib/python/v_frame"
+            shutil.copytree(module, there, ignore=shutil.ignore_patterns("*.so", "__pycache__"))
+            environment = {name: it for name, it in os.environ.items() if name not in ("V_FRAME_LIBRARY", "LD_LIBRARY_PATH")}
+            environment["PYTHONPATH"] = str(there.parent)
+
+            def tried(**more):
+                words = [sys.executable, "-c", "from v_frame import _library; print(_library._library._name)"]
+                return subprocess.run(words, env={**environment, **more}, capture_output=True, text=True)
+
+            places = [there / "libv_frame.so", room / "lib/libv_frame.so", room / "other/libv_frame.so"]
+            if not ctypes.util.find_library("v_frame"):
+                said = tried().stderr.splitlines()[-1]
+                for words in (f"looked for {places[0]}, {places[1]}, and libv_frame.so where the loader looks", "V_FRAME_LIBRARY"):
+                    self.assertIn(words, said)
+            places[2].parent.mkdir()
+            for name in library.parent.glob("libv_frame.so*"):
+                shutil.copy(name, places[2].parent)
+            self.assertEqual(tried(LD_LIBRARY_PATH=str(places[2].parent)).stderr, "")
+            for place in (places[1], places[0]):
+                shutil.copy(library, place)
+                self.assertEqual(tried(LD_LIBRARY_PATH=str(places[2].parent)).stdout, f"{place}\n")
 
 
 class Shapes(unittest.TestCase):

@@ -28,6 +28,17 @@ class Streams(unittest.TestCase):
         y4m.write_y4m(written, header, frames)
         self.assertEqual(written.getvalue(), self.LINE + b"\n" + data)
 
+    def test_lax_lines_are_read(self):
+        """As `yuv` takes them. No other fault of a line is passed over."""
+        data = b"YUV4MPEG2  W2 H1 F25 Cmono \r\nFRAME\r\n\x01\x02FRAME \r\n\x03\x04"
+        header, frames = y4m.read_y4m(io.BytesIO(data))
+        self.assertEqual(header, y4m.Header(2, 1, "mono", 8, (25, 1)))
+        self.assertEqual([frame.y.tobytes() if isinstance(frame.y, Plane) else bytes(frame.y) for frame in frames], [b"\1\2", b"\3\4"])
+        for line in (b"YUV4MPEG2 W02 H1", b"YUV4MPEG2 W2 H1\r\r", b"YUV4MPEG2 W2 H1 A1", b"YUV4MPEG2\tW2 H1"):
+            self.assertRaises(y4m.Y4mError, y4m.parse_header, line)
+        with self.assertRaisesRegex(y4m.Y4mError, "no FRAME"):
+            list(y4m.read_y4m(io.BytesIO(b"YUV4MPEG2 W2 H1 Cmono\nFRAME\r\r\n\x01\x02"))[1])
+
     def test_a_stream_is_written_onto_itself(self):
         data = self.LINE.replace(b"C420p10", b"Cmono") + b"\n" + b"".join(b"FRAME\n" + bytes([n] * 9) for n in range(3))
         with tempfile.TemporaryDirectory() as folder:

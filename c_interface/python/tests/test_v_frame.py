@@ -259,6 +259,22 @@ class Planes(unittest.TestCase):
             v_frame.copy(Plane(memoryview(data)[start:], 3, 3), Plane(memoryview(data)[target:], 3, 3))
             self.assertEqual(data, expected)
 
+    def test_a_copy_at_any_place(self):
+        source = Plane(bytes(range(1, 7)), 3, 2)
+        for x, y in [*((x, y) for x in range(-4, 6) for y in range(-3, 5)), (-2 ** 63, 0), (0, 2 ** 63 - 1)]:
+            target = Plane(bytearray([9] * 20), 4, 3, stride=7)
+            v_frame.copy_clipped(source, target, x, y)
+            for place, found in enumerate(target.buffer):
+                row, column = divmod(place, 7)
+                i, j = column - x, row - y
+                is_there = column < 4 and row < 3 and 0 <= i < 3 and 0 <= j < 2
+                self.assertEqual(found, 1 + 3 * j + i if is_there else 9)
+        for place in (2 ** 63, -2 ** 63 - 1):
+            self.assertRaises(v_frame.NumberError, v_frame.copy_clipped, source, target, place, 0)
+            self.assertRaises(v_frame.NumberError, v_frame.copy_clipped, source, target, 0, place)
+        self.assertRaises(v_frame.KindError, v_frame.copy_clipped, source, target, 1.5, 0)
+        self.assertRaises(v_frame.KindError, v_frame.copy_clipped, Plane(bytes(4), 2, 1, sample_size=2), target, 0, 0)
+
     def test_sizes_are_not_cut_off(self):
         for sizes in ((2 ** 64 + 4, 2, 4), (4, 2 ** 64 + 2, 4), (4, 2, 2 ** 64 + 4)):
             self.assertRaises(RowsError, Plane, bytes(16), *sizes)
@@ -292,7 +308,7 @@ class Planes(unittest.TestCase):
     def test_no_status_but_0_is_a_success(self):
         from v_frame import _library
         self.assertIsNone(_library.answered(0))
-        for status, error in ((1, RowsError), (3, SizesError), (4, ValueError), (5, ValueError), (8, SizesError), (9, RuntimeError)):
+        for status, error in ((1, RowsError), (3, SizesError), (4, ValueError), (5, ValueError), (8, SizesError), (9, RowsError), (10, RuntimeError)):
             self.assertRaises(error, _library.answered, status)
 
     def test_what_does_not_fit_is_refused(self):

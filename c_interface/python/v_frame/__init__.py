@@ -6,8 +6,8 @@ of `libv_frame`, whose contract the prover has checked: what it answers, what it
 are exact integers. This module is tested.
 
 What a call makes is new: an array where the first source is one, of the same type, and else a `Plane` over a bytearray whose stride
-is its width. `copy`, `fill`, `blend`, `blend_with_mask` and `difference` write their target in place; what lies between its rows
-stays, and it may overlap the other planes.
+is its width. `copy`, `copy_clipped`, `fill`, `blend`, `blend_with_mask` and `difference` write their target in place; what lies
+between its rows stays, and it may overlap the other planes.
 
 Each error is an `Error`, and one of Python's own too. A call on planes that raises one has written nothing.
 
@@ -17,7 +17,7 @@ Each error is an `Error`, and one of Python's own too. A call on planes that rai
 (5, 3, (2, 0))
 """
 
-from ._calls import FORMATS, Part, copy, fill, first_difference, half, lay_out, pad, sad, sse
+from ._calls import FORMATS, Part, copy, copy_clipped, fill, first_difference, half, lay_out, pad, sad, sse
 from ._conversions import (COMPONENTS, blend, blend_with_mask, count_between, difference, downscale_to_edge, halve_columns,
                            histogram, resize_area, resize_nearest, to_full_range, to_limited_range, yuv)
 from ._errors import AccessError, Error, KindError, NumberError, RowsError, SizesError, StatusError, StreamError, Y4mError
@@ -32,7 +32,7 @@ from ._png import write_png
 __version__ = VERSION
 __all__ = ["AccessError", "COMPONENTS", "Error", "FORMATS", "Frame", "Greatest", "KindError", "NumberError", "ORDERS",
            "PairStatistics", "Part", "Plane", "RANGES", "RowsError", "STANDARDS", "SizesError", "Statistics", "StatusError",
-           "StreamError", "TURNS", "VERSION", "Y4mError", "blend", "blend_with_mask", "convert_depth", "copy", "count_above",
+           "StreamError", "TURNS", "VERSION", "Y4mError", "blend", "blend_with_mask", "convert_depth", "copy", "copy_clipped", "count_above",
            "count_between", "deinterleave", "difference", "downscale_to_edge", "fill", "first_difference", "greatest_difference",
            "half", "halve_columns", "histogram", "interleave", "lay_out", "mse", "pad", "pair_statistics", "psnr", "resize_area",
            "resize_nearest", "rgb", "sad", "sse", "ssim", "statistics", "to_full_range", "to_limited_range", "turn", "upscale",

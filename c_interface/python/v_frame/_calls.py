@@ -4,7 +4,7 @@ import ctypes
 from typing import NamedTuple
 
 from . import _library as library
-from ._errors import KindError, SizesError, chosen, sizes, within
+from ._errors import LIMIT, KindError, SizesError, chosen, sizes, within
 from ._planes import Held, Plane, numpy
 
 
@@ -86,6 +86,19 @@ def copy(source, target) -> None:
     [1, 2, 0, 3, 4]
     """
     _changed(library.COPY, target, source)
+
+
+def copy_clipped(source, target, x: int, y: int) -> None:
+    """Copies a plane into another one, with its first sample at column `x` of row `y`, either of which may be negative or past the
+    edge. What lies outside of the target is left out.
+
+    >>> target = Plane(bytearray(6), 3, 2)
+    >>> copy_clipped(Plane(bytes([1, 2, 3, 4]), 2, 2), target, -1, 1)
+    >>> list(target.buffer)
+    [0, 0, 0, 2, 0, 0]
+    """
+    places = (within(it, "a place", -LIMIT // 2, LIMIT // 2 - 1) for it in (x, y))
+    _changed(library.COPY_CLIPPED, target, source, *places)
 
 
 def fill(target, sample: int) -> None:

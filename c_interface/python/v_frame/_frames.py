@@ -1,7 +1,9 @@
 """Frames: the planes Y, U and V of one picture, with their format and bit depth."""
 
 from collections.abc import Sequence
+from contextlib import ExitStack
 
+from . import _library as library
 from ._calls import FORMATS, _new, fill, pad
 from ._conversions import resize_area, yuv
 from ._errors import KindError, SizesError, chosen, within
@@ -98,6 +100,37 @@ class Frame(Sequence):
         """
         return cls(yuv(colours, standard, range, order), "444").convert(format, depth)
 
+    def to_semi_planar(self) -> tuple:
+        """Luma, and a plane of chroma whose two components take turns, as NV12, NV16, NV24 and P010 have them: two new planes. Above 8
+        bits samples are in the top bits of their words. The format is "420", "422" or "444".
+
+        >>> frame = Frame([Plane(bytes([1, 2]), 2, 1), Plane(bytes([3]), 1, 1), Plane(bytes([4]), 1, 1)], "420")
+        >>> [list(plane.buffer) for plane in frame.to_semi_planar()]
+        [[1, 2], [3, 4]]
+        """
+        size, (wide, high) = 1 if self.depth == 8 else 2, plane_sizes(self.width, self.height, self.format)[-1]
+        y, uv = _new(self.y, self.width, self.height, size), _new(self.y, 2 * wide, high, size)
+        planes = self if len(self) == 3 else 3 * self.planes
+        # A shift by the bits that are left is a conversion to 16 bits.
+        sources = planes if self.depth == 8 else [convert_depth(it, self.depth, 16) for it in planes]
+        _semi_planar(library.TO_SEMI_PLANAR, (y, uv), sources, self.format, size)
+        return y, uv
+
+    @classmethod
+    def from_semi_planar(cls, y, uv, format: str = "420", depth: int = 8) -> "Frame":
+        """The frame of luma and of chroma whose two components take turns: the way back of `to_semi_planar`.
+
+        >>> frame = Frame.from_semi_planar(Plane(bytes([1, 2]), 2, 1), Plane(bytes([3, 4]), 2, 1))
+        >>> [list(plane.buffer) for plane in frame]
+        [[1, 2], [3], [4]]
+        """
+        depth = within(depth, "a bit depth", 8, 16)
+        with Held(y) as held:
+            sizes, size = plane_sizes(held.rows.width, held.rows.height, format), held.size
+        planes = [_new(y, *(sizes + 2 * sizes)[number], size) for number in range(3)]
+        _semi_planar(library.FROM_SEMI_PLANAR, planes, (y, uv), format, 1 if depth == 8 else 2)
+        return cls([convert_depth(it, 16, depth) for it in planes] if depth > 8 else planes, format, depth)
+
     @property
     def y(self):
         """Luma."""
@@ -112,6 +145,17 @@ class Frame(Sequence):
     def v(self):
         """The second plane of chroma; None where there is none."""
         return self.planes[2] if len(self.planes) > 1 else None
+
+
+def _semi_planar(exports, targets, sources, format, size):
+    """Calls an export that makes planes, which nothing else knows yet, of others, with samples of this size."""
+    with ExitStack() as held:
+        planes = [held.enter_context(Held(it, writes=True)) for it in targets]
+        planes += [held.enter_context(Held(it)) for it in sources]
+        if any(it.size != size for it in planes):
+            raise KindError("a plane has one byte a sample at a bit depth of 8, and else two")
+        told = (word for it in planes for word in it.told())
+        library.answered(exports[size](*told, chosen(format, FORMATS, "a format")))
 
 
 def _at_ratio(plane, source, target, size):

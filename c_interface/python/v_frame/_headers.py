@@ -6,7 +6,7 @@ from dataclasses import dataclass, replace
 from ._calls import FORMATS
 from ._errors import LIMIT, Error, Y4mError, whole
 from ._frames import plane_sizes
-from ._library import export, opened
+from ._library import export, of_this_version, opened
 
 #: Where chroma lies, and how fields are interlaced, in the order of their numbers.
 SITINGS, INTERLACINGS = (None, "jpeg", "mpeg2", "paldv"), (None, "p", "t", "b", "m", "?")
@@ -27,12 +27,14 @@ class _Header(ctypes.Structure):
     ]
 
 
-_library = opened("v_frame_y4m", "V_FRAME_Y4M_LIBRARY")
+_library = of_this_version(opened("v_frame_y4m", "V_FRAME_Y4M_LIBRARY"), "v_frame_y4m")
 _PARSE = export(_library, "v_frame_y4m_parse_header", ctypes.c_char_p, ctypes.c_size_t, ctypes.POINTER(_Header),
                  ctypes.POINTER(ctypes.c_uint32))
 _WRITE = export(_library, "v_frame_y4m_write_header", ctypes.POINTER(_Header), ctypes.c_char_p, ctypes.c_size_t,
                  ctypes.POINTER(ctypes.c_size_t))
 _FRAME_BYTES = export(_library, "v_frame_y4m_frame_bytes", ctypes.POINTER(_Header), ctypes.POINTER(ctypes.c_size_t))
+#: The status of a line that was read as the strict one that it stands for.
+_LAX_LINE = 14
 _TEXTS = ("", "not a YUV4MPEG2 stream", "parameter {} is missing", "parameter {} is repeated", "malformed parameter",
           "parameter {} is 0", "size too large", "unknown colour", "out of memory")
 _TEXTS_OF_WRITING = {5: "a size is 0", 6: "size too large", 7: "there is no such format with this bit depth", 8: "out of memory",
@@ -148,7 +150,8 @@ def _written(status):
 
 
 def parse_header(line: bytes) -> Header:
-    """The header of a line, which has no line feed.
+    """The header of a line, which has no line feed. It may be one as lax producers write it, as `yuv` takes it: with a carriage
+    return or a space at its end, more than one space between two parameters, or F25 for F25:1.
 
     >>> parse_header(b"YUV4MPEG2 W64 H48 F25:1 Cmono")
     Header(width=64, height=48, format='mono', bit_depth=8, frame_rate=(25, 1), pixel_aspect=None, interlacing=None, siting=None)
@@ -157,9 +160,9 @@ def parse_header(line: bytes) -> Header:
         raise Y4mError("a header line is bytes")
     found, letter = _Header(), ctypes.c_uint32()
     status = _PARSE(line, len(line), ctypes.byref(found), ctypes.byref(letter))
-    if status >= len(_TEXTS):
-        raise Y4mError(f"the library returned the status {status}, which this module does not know")
-    if status:
+    if status not in (0, _LAX_LINE):
+        if status >= len(_TEXTS):
+            raise Y4mError(f"the library returned the status {status}, which this module does not know")
         raise Y4mError(_TEXTS[status].format(chr(letter.value)))
     return Header(found.width, found.height, FORMATS[found.format], found.bit_depth, found.frame_rate.pair(),
                   found.pixel_aspect.pair(), INTERLACINGS[found.interlacing], SITINGS[found.siting])

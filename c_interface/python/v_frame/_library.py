@@ -57,16 +57,24 @@ class PairStatistics(ctypes.Structure):
 
 
 def opened(name, variable):
-    """The library that an environment variable names, or the one beside this module or its prefix, or the system's."""
+    """The library that an environment variable names; or the one beside this module, that of its prefix, or the loader's."""
     here, file = Path(__file__).resolve().parent, f"lib{name}.so"
-    looked_for = [os.environ[variable]] if os.environ.get(variable) else [str(here / file), str(here.parent.parent / file)]
-    found = looked_for[0] if os.environ.get(variable) else next((it for it in looked_for if Path(it).exists()), None)
-    found = found or ctypes.util.find_library(name)
+    named, places = os.environ.get(variable), [str(here / file), str(here.parent.parent / file)]
+    found = named or next((it for it in places if Path(it).exists()), None) or ctypes.util.find_library(name) or file
     try:
-        return ctypes.CDLL(found or file)
+        return ctypes.CDLL(found)
     except OSError as error:
-        raise ImportError(f"{file} cannot be loaded ({error}): looked for {', '.join(looked_for)}; install it, "
-                          f"or name it by {variable}") from error
+        looked_for = named or f"{', '.join(places)}, and {file} where the loader looks"
+        raise ImportError(f"{file} cannot be loaded ({error}): looked for {looked_for}; install it, or name it by {variable}") from error
+
+
+def of_this_version(library, name):
+    """A library whose first two numbers of the version are those of this module."""
+    version = export(library, f"{name}_version")()
+    if version >> 8 != int.from_bytes(map(int, VERSION.split(".")), "big") >> 8:
+        numbers = f"{version >> 16}.{version >> 8 & 255}.{version & 255}"
+        raise ImportError(f"lib{name}.so is of version {numbers}, and this module of {VERSION}: the first two numbers have to agree")
+    return library
 
 
 def export(library, name, *parameters):
@@ -79,7 +87,7 @@ def export(library, name, *parameters):
     return found
 
 
-_library = opened("v_frame", "V_FRAME_LIBRARY")
+_library = of_this_version(opened("v_frame", "V_FRAME_LIBRARY"), "v_frame")
 _rows, _size, _data = ctypes.POINTER(Rows), ctypes.c_size_t, ctypes.c_void_p
 
 
@@ -95,6 +103,7 @@ SQUARED_ERRORS = _both("squared_errors", _rows, _data, _size, ctypes.POINTER(Sum
 ABSOLUTE_DIFFERENCES = _both("absolute_differences", _rows, _data, _size, ctypes.POINTER(Sum))
 FIRST_DIFFERENCE = _both("first_difference", _rows, _data, _size, ctypes.POINTER(Place))
 COPY = _both("copy", _rows, _data, _size)
+COPY_CLIPPED = _both("copy_clipped", _rows, _data, _size, ctypes.c_ssize_t, ctypes.c_ssize_t)
 DOWNSCALE = _both("downscale", _rows, _data, _size)
 FILL = {1: _export("v_frame_fill_u8", ctypes.c_uint8), 2: _export("v_frame_fill_u16", ctypes.c_uint16)}
 PAD = {size: export(_library, f"v_frame_pad_{kind}", ctypes.POINTER(Bordered), _data, _size) for size, kind in ((1, "u8"), (2, "u16"))}
@@ -102,6 +111,9 @@ TURN = _both("turn", _rows, _data, _size, ctypes.c_uint32)
 UPSCALE = _both("upscale", _rows, _data, _size, _size, _size)
 INTERLEAVE = _both("interleave", _rows, _data, _size, _rows, _data, _size)
 DEINTERLEAVE = _both("deinterleave", _rows, _data, _size, _rows, _data, _size)
+_buffer = (_rows, _data, _size)
+TO_SEMI_PLANAR = _both("to_semi_planar", *4 * _buffer, ctypes.c_uint32)
+FROM_SEMI_PLANAR = _both("from_semi_planar", *4 * _buffer, ctypes.c_uint32)
 TO_RGB = _export("v_frame_yuv444_to_rgb_u8", _rows, _data, _size, _rows, _data, _size, _rows, _data, _size,
                  ctypes.POINTER(Colours))
 STATISTICS = _both("statistics", ctypes.POINTER(Statistics))
@@ -130,10 +142,13 @@ COUNT_ABOVE = _both("count_above", _rows, _data, _size, ctypes.c_uint16, ctypes.
 LAY_OUT = export(_library, "v_frame_lay_out", ctypes.POINTER(Request), ctypes.POINTER(Parts))
 
 
+_ROWS = {1: "first", 2: "second", 6: "third", 7: "fourth", 9: "fifth"}
+
+
 def answered(status):
     """Raises the exception of a status."""
-    if status in (1, 2, 6, 7):
-        raise RowsError({1: "the first", 2: "the second", 6: "the third", 7: "the fourth"}[status] + " rows do not fit their buffer")
+    if status in _ROWS:
+        raise RowsError(f"the {_ROWS[status]} rows do not fit their buffer")
     if status == 3:
         raise SizesError("the sizes do not belong together")
     if status == 4:

@@ -105,7 +105,7 @@ class Frames:
         line, header = _line(self._stream), self._header
         if line is None:
             return None
-        if line != b"FRAME" and not line.startswith(b"FRAME "):
+        if line not in (b"FRAME", b"FRAME\r") and not line.startswith(b"FRAME "):
             raise Y4mError("no FRAME where a frame is due")
         return Frame(_planes(_frame_data(self._stream, header.frame_bytes()), header), header.format, header.bit_depth)
 

@@ -1,1 +1,3 @@
 mod Bounds
+mod Parts
+mod Rectangles

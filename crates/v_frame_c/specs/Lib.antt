@@ -1,9 +1,11 @@
+pub mod Clipped
 pub mod ColourChoice
 pub mod Counts
 pub mod FrameParts
 pub mod Layout
 pub mod Measures
 pub mod Numbers
+pub mod SemiPlanar
 pub mod Sizes
 pub mod Statistics
 pub mod Status

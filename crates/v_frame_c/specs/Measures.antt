@@ -1,5 +1,5 @@
 -- Measures of two pictures: what they answer, and the place that C reads.
-use Rattle.std.specs.Prelude.{ℕ, zero, suc, ◌≡◌, Bool, true, false, ◌&&◌, nat_le}
+use Rattle.std.specs.Prelude.{ℕ, zero, suc, Bool, true, false, ◌&&◌, nat_le}
 use Rattle.v_frame.specs.Prelude.{Table}
 use Rattle.v_frame_c.specs.declared.layout.Rows.{Rows}
 use Rattle.v_frame_c.specs.declared.measures.Greatest.{Greatest}

@@ -42,6 +42,21 @@ status_of_four true true true false sizes = 7
 status_of_four true true true true false = 3
 status_of_four true true true true true = 0
 
+-- of five
+abbrev pub status_of_five : Bool → Bool → Bool → Bool → Bool → Bool → ℕ
+status_of_five false second third fourth fifth sizes = 1
+status_of_five true false third fourth fifth sizes = 2
+status_of_five true true false fourth fifth sizes = 6
+status_of_five true true true false fifth sizes = 7
+status_of_five true true true true false sizes = 9
+status_of_five true true true true true false = 3
+status_of_five true true true true true true = 0
+
+-- of a format, tested before all rows
+abbrev pub status_of_format : Bool → ℕ → ℕ
+status_of_format false others = 4
+status_of_format true others = others
+
 -- the sizes are the same
 abbrev pub same_size : Rows → Rows → Bool
 same_size a b = nat_eq a.width b.width && nat_eq a.height b.height

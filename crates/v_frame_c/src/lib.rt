@@ -6,11 +6,13 @@
 #![tactic(auto)]
 
 mod change;
+mod clipped;
 mod colours;
 mod compare;
 mod compose;
 mod convert;
 mod counts;
+mod exports_clipped;
 mod exports_colours;
 mod exports_compose;
 mod exports_convert;
@@ -23,6 +25,7 @@ mod exports_statistics;
 mod exports_turn;
 mod exports_u16;
 mod exports_u8;
+mod exports_whole;
 mod frame_parts;
 mod halves;
 mod layout;
@@ -34,3 +37,5 @@ mod semi_planar;
 mod statistics;
 mod status;
 mod turn;
+mod version;
+mod whole;

@@ -1,4 +1,5 @@
 pub mod Header
+pub mod Lax
 pub mod Lines
 pub mod Numbers
 pub mod Status

@@ -19,6 +19,10 @@ short_buffer = 10
 abbrev pub no_frame : ℕ
 no_frame = 13
 
+-- a line that stands for a strict one, which was read
+abbrev pub lax_line : ℕ
+lax_line = 14
+
 abbrev pub status_of_numbers : NumberFault → ℕ
 status_of_numbers ZeroSize = 5
 status_of_numbers NoSuchColour = 7

@@ -4,27 +4,29 @@ ghost use Rattle.v_frame.specs.Prelude.{usize_max};
 ghost use Rattle.v_frame_y4m.specs.Ascii.{line_feed};
 ghost use Rattle.v_frame_y4m.specs.Faults.{IsRefusedFor};
 ghost use Rattle.v_frame_y4m.specs.Frames.{frame_byte_count};
-ghost use Rattle.v_frame_y4m.specs.Header.{header_line, IsHeader, IsWritable};
+ghost use Rattle.v_frame_y4m.specs.Header.{header_line, IsWritable};
+ghost use Rattle.v_frame_y4m.specs.Lax.{strict_line, IsLaxFrameLine};
 ghost use Rattle.v_frame_y4m.specs.Streams.{IsFrameLine};
 ghost use Rattle.v_frame_y4m.specs.declared.error.HeaderError.{HeaderError as TheError};
 ghost use Rattle.v_frame_y4m.specs.declared.header.StreamHeader.{StreamHeader as TheHeader};
 ghost use Rattle.v_frame_y4m_c.specs.Header.{letter_of as letter_in, numbers_of, status_of as status_in};
+ghost use Rattle.v_frame_y4m_c.specs.Lax.{Says};
 ghost use Rattle.v_frame_y4m_c.specs.Lines.{HasNoLine, IsFirstLine};
 ghost use Rattle.v_frame_y4m_c.specs.Numbers.{HasNoHeader, IsHeaderOf, IsWrittenInFront};
-ghost use Rattle.v_frame_y4m_c.specs.Status.{no_frame, out_of_memory, short_buffer, size_too_large, status_of_line as line_status, status_of_numbers as number_status};
+ghost use Rattle.v_frame_y4m_c.specs.Status.{lax_line, no_frame, out_of_memory, short_buffer, size_too_large, status_of_line as line_status, status_of_numbers as number_status};
 ghost use Rattle.v_frame_y4m_c.specs.declared.lines.LineFault.{LineFault as TheLineFault};
 ghost use Rattle.v_frame_y4m_c.specs.declared.numbers.NumberFault.{NumberFault as TheNumberFault};
 
 use crate::header::Header;
 use crate::lines::line_length;
 use crate::status::{
-    NO_FRAME, OK, OUT_OF_MEMORY, SHORT_BUFFER, SIZE_TOO_LARGE, letter_of, status_of,
+    LAX_LINE, NO_FRAME, OK, OUT_OF_MEMORY, SHORT_BUFFER, SIZE_TOO_LARGE, letter_of, status_of,
     status_of_line, status_of_numbers,
 };
 use std::alloc::Global;
-use v_frame_y4m::{ended_line, is_frame_line, parse_header};
+use v_frame_y4m::{ended_line, is_frame_line, is_lax_frame_line, parse_lax_header};
 
-/// Parses a header line, without its line feed.
+/// Parses a header line, without its line feed, or one as lax producers write it, which stands for a strict one.
 #[unsafe(no_mangle)]
 pub extern "C" fn v_frame_y4m_parse_header(
     alloc: Global,
@@ -32,17 +34,19 @@ pub extern "C" fn v_frame_y4m_parse_header(
     header: &mut Header,
     letter: &mut u32,
 ) -> u32
-    ensures parsed { result ≡ 0 → (found : TheHeader) × IsHeader line.now found
-        × (header.new ≡ numbers_of found) }
-    ensures refused { result ≢ 0 → (error : TheError) × IsRefusedFor line.now error
+    ensures parsed { result ≡ 0 → Says line.now header.new × (strict_line line.now ≡ line.now) }
+    ensures lax { result ≡ lax_line → Says line.now header.new × (strict_line line.now ≢ line.now) }
+    ensures refused { result ≢ 0 → result ≢ lax_line → (error : TheError)
+        × IsRefusedFor (strict_line line.now) error
         × (result ≡ status_in error) × (letter.new ≡ letter_in error) }
-    ensures kept { result ≢ 0 → header.new ≡ header.old }
+    ensures kept { result ≢ 0 → result ≢ lax_line → header.new ≡ header.old }
     ensures letter { result ≡ 0 → letter.new ≡ letter.old }
+    ensures lax_letter { result ≡ lax_line → letter.new ≡ letter.old }
 {
-    match parse_header(alloc, line) {
-        Ok(found) => {
+    match parse_lax_header(alloc, line) {
+        Ok((found, is_strict)) => {
             *header = Header::of(&found);
-            0
+            if is_strict { OK } else { LAX_LINE }
         }
         Err(error) => {
             *letter = letter_of(&error);
@@ -68,21 +72,28 @@ pub extern "C" fn v_frame_y4m_first_line(bytes: &[u8], length: &mut usize) -> u3
     }
 }
 
-/// Finds where the line in front of a frame ends, which the bytes begin with: its length with its line feed.
+/// Finds where the line in front of a frame ends, which the bytes begin with: its length with its line feed. A carriage return
+/// may stand before that.
 #[unsafe(no_mangle)]
 pub extern "C" fn v_frame_y4m_frame_line(bytes: &[u8], length: &mut usize) -> u32
     ensures found { result ≡ 0 → (n : ℕ) × IsFirstLine bytes.now n
         × IsFrameLine (take n bytes.now) × (length.new ≡ n + 1) }
+    ensures lax { result ≡ lax_line → (n : ℕ) × IsFirstLine bytes.now n
+        × IsLaxFrameLine (take n bytes.now) × ¬ (IsFrameLine (take n bytes.now)) × (length.new ≡ n + 1) }
     ensures other { result ≡ no_frame → (n : ℕ) × IsFirstLine bytes.now n
-        × ¬ (IsFrameLine (take n bytes.now)) }
-    ensures refused { result ≢ 0 → result ≢ no_frame → (fault : TheLineFault)
+        × ¬ (IsFrameLine (take n bytes.now)) × ¬ (IsLaxFrameLine (take n bytes.now)) }
+    ensures refused { result ≢ 0 → result ≢ lax_line → result ≢ no_frame → (fault : TheLineFault)
         × HasNoLine bytes.now fault × (result ≡ line_status fault) }
-    ensures kept { result ≢ 0 → length.new ≡ length.old }
+    ensures kept { result ≢ 0 → result ≢ lax_line → length.new ≡ length.old }
 {
     match line_length(bytes) {
         Ok(found) if is_frame_line(&bytes[..found]) => {
             *length = found + 1;
             OK
+        }
+        Ok(found) if is_lax_frame_line(&bytes[..found]) => {
+            *length = found + 1;
+            LAX_LINE
         }
         Ok(_) => NO_FRAME,
         Err(fault) => status_of_line(&fault),

@@ -1,5 +1,5 @@
 -- The pictures are those of the rows, and the difference is the same in 32 bits.
-use Rattle.std.proofs.Common.{ℕ, List, subst, sym}
+use Rattle.std.proofs.Common.{ℕ, subst, sym}
 use Rattle.v_frame.specs.Prelude.{Table}
 use Rattle.v_frame_measures.specs.Prelude.{IsGreatestDifference}
 use Rattle.v_frame_measures.specs.declared.differences.GreatestDifference.{GreatestDifference}

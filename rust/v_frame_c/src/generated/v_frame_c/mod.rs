@@ -4,11 +4,13 @@
 //! all, and says what C still has to promise.
 
 mod change;
+mod clipped;
 mod colours;
 mod compare;
 mod compose;
 mod convert;
 mod counts;
+mod exports_clipped;
 mod exports_colours;
 mod exports_compose;
 mod exports_convert;
@@ -21,6 +23,7 @@ mod exports_statistics;
 mod exports_turn;
 mod exports_u16;
 mod exports_u8;
+mod exports_whole;
 mod frame_parts;
 mod halves;
 mod layout;
@@ -32,3 +35,5 @@ mod semi_planar;
 mod statistics;
 mod status;
 mod turn;
+mod version;
+mod whole;

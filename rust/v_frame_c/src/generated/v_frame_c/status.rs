@@ -27,3 +27,6 @@ pub const FOURTH: u32 = 7;
 
 /// No window of 8 by 8 pixels has room in the pictures.
 pub const WINDOWS: u32 = 8;
+
+/// The fifth rows don't fit theirs.
+pub const FIFTH: u32 = 9;

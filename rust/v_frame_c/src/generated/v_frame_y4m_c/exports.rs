@@ -4,12 +4,12 @@
 use crate::generated::v_frame_y4m_c::header::Header;
 use crate::generated::v_frame_y4m_c::lines::line_length;
 use crate::generated::v_frame_y4m_c::status::{
-    NO_FRAME, OK, OUT_OF_MEMORY, SHORT_BUFFER, SIZE_TOO_LARGE, letter_of, status_of,
+    LAX_LINE, NO_FRAME, OK, OUT_OF_MEMORY, SHORT_BUFFER, SIZE_TOO_LARGE, letter_of, status_of,
     status_of_line, status_of_numbers,
 };
-use v_frame_proved::y4m::{ended_line, is_frame_line, parse_header};
+use v_frame_proved::y4m::{ended_line, is_frame_line, is_lax_frame_line, parse_lax_header};
 
-/// Parses a header line, without its line feed.
+/// Parses a header line, without its line feed, or one as lax producers write it, which stands for a strict one.
 ///
 /// # Safety
 ///
@@ -25,10 +25,10 @@ pub unsafe extern "C" fn v_frame_y4m_parse_header(
     let line = unsafe { crate::foreign::slice(line, line_length) };
     let header = unsafe { crate::foreign::reference_mut(header) };
     let letter = unsafe { crate::foreign::reference_mut(letter) };
-    match parse_header(line) {
-        Ok(found) => {
+    match parse_lax_header(line) {
+        Ok((found, is_strict)) => {
             *header = Header::of(&found);
-            0
+            if is_strict { OK } else { LAX_LINE }
         }
         Err(error) => {
             *letter = letter_of(&error);
@@ -56,7 +56,8 @@ pub unsafe extern "C" fn v_frame_y4m_first_line(bytes: *const u8, bytes_length: 
     }
 }
 
-/// Finds where the line in front of a frame ends, which the bytes begin with: its length with its line feed.
+/// Finds where the line in front of a frame ends, which the bytes begin with: its length with its line feed. A carriage return
+/// may stand before that.
 ///
 /// # Safety
 ///
@@ -70,6 +71,10 @@ pub unsafe extern "C" fn v_frame_y4m_frame_line(bytes: *const u8, bytes_length: 
         Ok(found) if is_frame_line(&bytes[..found]) => {
             *length = found + 1;
             OK
+        }
+        Ok(found) if is_lax_frame_line(&bytes[..found]) => {
+            *length = found + 1;
+            LAX_LINE
         }
         Ok(_) => NO_FRAME,
         Err(fault) => status_of_line(&fault),

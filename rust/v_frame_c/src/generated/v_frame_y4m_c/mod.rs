@@ -10,3 +10,4 @@ mod header;
 mod lines;
 mod numbers;
 mod status;
+mod version;

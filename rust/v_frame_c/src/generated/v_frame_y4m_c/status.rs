@@ -15,6 +15,8 @@ pub const OUT_OF_MEMORY: u32 = 8;
 pub const SHORT_BUFFER: u32 = 10;
 /// Another line stands where that of a frame is due.
 pub const NO_FRAME: u32 = 13;
+/// The line stands for a strict one, which was read.
+pub const LAX_LINE: u32 = 14;
 
 /// Returns the status of an error.
 pub fn status_of(error: &HeaderError) -> u32 {

@@ -1,0 +1,19 @@
+"""Prints PSNR and SSIM of each frame of two videos, which OpenCV decodes to colours: measure_pictures.py FILE FILE"""
+
+import sys
+
+import cv2
+import v_frame
+
+
+def frames_of(name):
+    """The blue, green and red planes of each frame of a video."""
+    video = cv2.VideoCapture(name)
+    if not video.isOpened():
+        sys.exit(f"{name}: OpenCV cannot read it")
+    while (found := video.read())[0]:
+        yield v_frame.Frame(cv2.split(found[1]), "444")
+
+
+for number, (a, b) in enumerate(zip(*map(frames_of, sys.argv[1:3])), 1):
+    print(number, f"PSNR {v_frame.psnr(a, b):.2f} SSIM {v_frame.ssim(a, b):.6f}")

@@ -1,0 +1,178 @@
+"""The examples of c_interface/examples that take frames from a decoder, over clips that ffmpeg makes here, beside what ffmpeg and
+dav1d say themselves.
+
+What a machine lacks is said in a line and left out: ffmpeg with its libraries, libdav1d with the program dav1d, PyAV and OpenCV for
+Python (Debian: ffmpeg libavcodec-dev libavformat-dev libavutil-dev, libdav1d-dev dav1d, python3-av, python3-opencv).
+"""
+import os
+import re
+import shutil
+import struct
+import subprocess
+import sys
+from pathlib import Path
+
+EXAMPLES = Path(__file__).resolve().parent.parent / "c_interface/examples"
+STRICT = ["-Wall", "-Wextra", "-Werror", "-pedantic"]
+# Formats and sizes of clips; in the second of a pair there is noise.
+CLIPS = [("yuv420p", "65x49"), ("yuv420p10le", "67x35"), ("yuv422p", "66x50"), ("yuv444p12le", "41x43"), ("gray", "64x48"), ("gray10le", "33x31")]
+AV1 = [("yuv420p", "65x49"), ("yuv420p10le", "67x71"), ("yuv444p", "64x64"), ("gray", "64x48"), ("yuv422p12le", "65x47")]
+
+
+def run(*command, status=0, **how):
+    """Runs a command, and returns what it printed. Ends with its output where its status is another one."""
+    done = subprocess.run([str(it) for it in command], capture_output=True, text=True, **how)
+    if done.returncode != status:
+        sys.exit(f"{' '.join(map(str, command))}: status {done.returncode}\n{done.stdout}{done.stderr}")
+    return done.stdout + done.stderr
+
+
+def ffmpeg(*words):
+    """Runs ffmpeg without its vector code, whose sums of SSIM are in another order, and in one thread."""
+    return run("ffmpeg", "-nostdin", "-nostats", "-hide_banner", "-y", "-cpuflags", "0", "-filter_complex_threads", "1", *words)
+
+
+def clip(path, format, size, *words):
+    ffmpeg("-f", "lavfi", "-i", f"testsrc=size={size}:rate=25", "-frames:v", "3", "-pix_fmt", format, *words, path)
+    return path
+
+
+def pairs(room):
+    """Pairs of clips: without loss and with noise; and as a codec with B-frames leaves one."""
+    for format, size in CLIPS:
+        one, other = clip(room / f"{format}.mkv", format, size, "-c:v", "ffv1"), room / f"{format}_noise.mkv"
+        ffmpeg("-i", one, "-vf", "noise=alls=20:allf=t", "-pix_fmt", format, "-c:v", "ffv1", other)
+        yield one, other
+    one, other = clip(room / "lossless.mkv", "yuv420p", "66x50", "-c:v", "ffv1"), room / "lossy.mkv"
+    ffmpeg("-i", one, "-c:v", "mpeg4", "-bf", "2", "-q:v", "20", other)
+    yield one, other
+
+
+def measured(one, other):
+    """What ffmpeg's filters say of two videos, in the words of the examples."""
+    said = ffmpeg("-i", one, "-i", other, "-lavfi", "[0][1]psnr;[0][1]ssim", "-f", "null", "-")
+    ratios = re.search(r"PSNR (.*?) min:", said)[1].replace("average", "all").split()
+    similarities = re.search(r"SSIM (.*)", said)[1].split()[::2]
+    return "".join(f"{ratio.replace(':', ' PSNR ')} SSIM {similarity.split(':')[1]}\n" for ratio, similarity in zip(ratios, similarities))
+
+
+def measured_colours(one, other):
+    """The same of each frame in colours."""
+    filters = "[0]format=gbrp,split[a][b];[1]format=gbrp,split[c][d];[a][c]psnr=stats_file=-;[b][d]ssim=stats_file=-"
+    said = ffmpeg("-i", one, "-i", other, "-lavfi", filters, "-f", "null", "-")
+    ratios, similarities = re.findall(r"psnr_avg:(\S+)", said), re.findall(r"^n:.* All:(\S+)", said, re.M)
+    return "".join(f"{number} PSNR {ratio} SSIM {similarity}\n" for number, (ratio, similarity) in enumerate(zip(ratios, similarities), 1))
+
+
+def upside_down():
+    """An AVI file of one frame whose rows ffmpeg's decoder gives from the bottom up, with negative line sizes."""
+    def chunk(name, data):
+        return name + struct.pack("<I", len(data)) + data + bytes(len(data) % 2)
+    frame = bytes(16 * 16 * 3 // 2)
+    avih = struct.pack("<10I", 40000, 0, 0, 0, 1, 0, 1, 0, 16, 16) + bytes(16)
+    strh = b"vidsI420" + struct.pack("<10I", 0, 0, 0, 1, 25, 0, 1, 0, 0, 0) + bytes(8)
+    strf = struct.pack("<IiiHH4sIiiII", 49, 16, 16, 1, 12, b"I420", len(frame), 0, 0, 0, 0) + b"BottomUp\0"
+    head = b"hdrl" + chunk(b"avih", avih) + chunk(b"LIST", b"strl" + chunk(b"strh", strh) + chunk(b"strf", strf))
+    return chunk(b"RIFF", b"AVI " + chunk(b"LIST", head) + chunk(b"LIST", b"movi" + chunk(b"00dc", frame)))
+
+
+def same(what, found, wanted):
+    if found != wanted:
+        sys.exit(f"{what}: {found!r}, not {wanted!r}")
+
+
+class Installed:
+    """What a machine has, and the environment of programs over the libraries in a folder."""
+
+    def __init__(self, prefix):
+        paths = {"PKG_CONFIG_PATH": "lib/pkgconfig", "LD_LIBRARY_PATH": "lib", "PYTHONPATH": "lib/python"}
+        self.environment = {**os.environ, **{name: str(prefix / path) for name, path in paths.items()}, "PYTHONDONTWRITEBYTECODE": "1"}
+        self.packages = [it for it in (sys.executable, "/usr/bin/python3") if Path(it).exists()]
+
+    def has(self, *libraries):
+        return not subprocess.run(["pkg-config", "--exists", *libraries]).returncode
+
+    def python(self, module):
+        """A Python that has a module, and numpy with it."""
+        return next((it for it in self.packages if not subprocess.run([it, "-c", f"import {module}, numpy"], capture_output=True).returncode), None)
+
+    def built(self, room, name, *libraries):
+        """An example in C, built as its users build it."""
+        flags = run("pkg-config", "--cflags", "--libs", "v_frame", "v_frame_y4m", *libraries, env=self.environment).split()
+        run("gcc", *STRICT, EXAMPLES / f"{name}.c", *flags, "-lm", "-o", room / name)
+        return room / name
+
+    def refused(self, command, *words):
+        """What a program says where it takes none of it."""
+        return run(*command, *words, status=2, env=self.environment)
+
+
+def test_measures(installed, room, command, couples):
+    for one, other in couples:
+        same(f"{command[-1].name} of {one.name}", run(*command, one, other, env=installed.environment), measured(one, other))
+    print(f"{command[-1].name}: as ffmpeg says of {len(couples)} pairs of videos")
+
+
+def test_refusals(installed, room, program, couples):
+    """What is not planar YUV, from the bottom up, or of two kinds, ends with a message and status 2."""
+    (room / "upside_down.avi").write_bytes(upside_down())
+    raw = {it: clip(room / f"{it}.nut", it, "64x48", "-c:v", "rawvideo") for it in ("nv12", "p010le", "yuva420p", "rgb24")}
+    longer = room / "longer.mkv"
+    ffmpeg("-f", "lavfi", "-i", "testsrc=size=66x50:rate=25", "-frames:v", "4", "-pix_fmt", "yuv422p", "-c:v", "ffv1", longer)
+    not_planar, small = "the format is not planar YUV", clip(room / "small.mkv", "yuv420p", "14x14", "-c:v", "ffv1")
+    for words, wanted in [((raw[it], raw[it]), not_planar) for it in raw] + [
+            ((room / "upside_down.avi",) * 2, "a line size is negative: the rows go from the bottom up"),
+            ((couples[0][0], couples[1][0]), "two formats or sizes"), ((couples[2][0], longer), "a video has more frames than the other"),
+            ((small, small), "a side is below 8, and SSIM has no window"), ((room / "none", small), "a file cannot be read"),
+            ((small,), "usage: measure_videos FILE FILE")]:
+        same(f"measure_videos {words}", installed.refused([program], *words), f"measure_videos: {wanted}\n")
+
+
+def test_av1(installed, room):
+    """A stream by libdav1d and libv_frame_y4m is the one that dav1d writes, byte for byte."""
+    encoders = [it for it in ("libaom-av1", "libsvtav1") if it in ffmpeg("-encoders")]
+    if not encoders:
+        return print("av1_to_y4m is left out: ffmpeg has no encoder of AV1")
+    program, count = installed.built(room, "av1_to_y4m", "dav1d"), 0
+    for format, size in AV1 if encoders[0] == "libaom-av1" else [("yuv420p", "66x66"), ("yuv420p10le", "66x66")]:
+        coded = clip(room / f"{format}.obu", format, size, "-c:v", encoders[0], "-f", "obu")
+        run("dav1d", "--quiet", "--input", coded, "--output", room / "of_dav1d.y4m")
+        with open(room / "of_example.y4m", "wb") as out:
+            subprocess.run([program, coded], stdout=out, env=installed.environment, check=True)
+        same(f"av1_to_y4m of {format}", (room / "of_example.y4m").read_bytes(), (room / "of_dav1d.y4m").read_bytes())
+        count += 1
+    (room / "no.obu").write_bytes(b"no AV1 here")
+    for words in ([room / "no.obu"], [room / "none"], []):
+        installed.refused([program], *words)
+    print(f"av1_to_y4m: as dav1d writes {count} streams of {encoders[0]}")
+
+
+def test(prefix, folder):
+    """Runs the examples for which the machine has what they need."""
+    installed, room = Installed(prefix), folder / "decoded"
+    room.mkdir()
+    if not shutil.which("ffmpeg"):
+        return print("the examples over decoders are left out: there is no ffmpeg (Debian: ffmpeg)")
+    couples = list(pairs(room))
+    if installed.has("libavformat", "libavcodec", "libavutil"):
+        program = installed.built(room, "measure_videos", "libavformat", "libavcodec", "libavutil")
+        test_measures(installed, room, [program], couples)
+        test_refusals(installed, room, program, couples)
+    else:
+        print("measure_videos.c is left out (Debian: libavcodec-dev libavformat-dev libavutil-dev)")
+    if installed.has("dav1d") and shutil.which("dav1d"):
+        test_av1(installed, room)
+    else:
+        print("av1_to_y4m is left out (Debian: libdav1d-dev dav1d)")
+    if python := installed.python("av"):
+        test_measures(installed, room, [python, EXAMPLES / "measure_videos.py"], couples)
+    else:
+        print("measure_videos.py is left out: no Python has PyAV and numpy (Debian: python3-av python3-numpy)")
+    if python := installed.python("cv2"):
+        colours = clip(room / "colours.mkv", "bgr0", "65x49", "-c:v", "ffv1"), room / "colours_noise.mkv"
+        ffmpeg("-i", colours[0], "-vf", "noise=alls=20:allf=t", "-pix_fmt", "bgr0", "-c:v", "ffv1", colours[1])
+        found = run(python, EXAMPLES / "measure_pictures.py", *colours, env=installed.environment)
+        same("measure_pictures.py", found, measured_colours(*colours))
+        print("measure_pictures.py: as ffmpeg says of frames in colours")
+    else:
+        print("measure_pictures.py is left out: no Python has OpenCV and numpy (Debian: python3-opencv python3-numpy)")
