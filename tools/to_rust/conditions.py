@@ -168,9 +168,7 @@ class Reader:
         """Returns a parameter, or what it points to, of one of these types. What is said of its table is said of it."""
         path = self.known(re.fullmatch(r"(?:tables?_of |exchanges )?(\w+)(?:\.(now|old))?(\.geometry)?", text))
         reference, unique, whole = re.fullmatch(r" ?(& ?(?:'\w+ )?(mut )?)?(.*)", self.types.get(path[1], "")).groups()
-        kind = re.match(r"\w*", whole)[0]
-        if re.fullmatch(r"\[[^;]*\]", whole) or whole.startswith("(usize, "):
-            kind = whole[0] + whole[-1]
+        kind = whole[0] + whole[-1] if re.fullmatch(r"\[[^;]*\]|\(usize, .*", whole) else re.match(r"\w*", whole)[0]
         self.known(kind and path[2] == ((reference or None) and ("old" if unique else "now")))
         self.known(bool(path[3]) == ("Picture" in kinds and kind in KINDS["View"]))
         self.known({whole, kind} & set().union(*(KINDS.get(it, {it}) for it in kinds)))
