@@ -1,14 +1,21 @@
 -- A part of the rows of a buffer written from one of its entries on: what is shown there, and what stays.
 use Rattle.std.proofs.Common.{ℕ, ◌≡◌, ◌≢◌, ◌+◌, ◌-◌, ◌*◌, ◌<◌, ◌≤◌, ◌⊎◌, List, ◌++◌, length, take, drop, slice_get}
 use Rattle.std.proofs.Common.{inl, inr, refl, sym, ◌∙◌, ap, arith, length-take-le, length-drop, length-append, ⊎_elim}
+use Rattle.std.proofs.Common.{option_and_then}
 use Rattle.std.proofs.lemmas.Bool.{cases_lt}
 use Rattle.std.proofs.lemmas.Nat.{same_from_place}
 use Rattle.v_frame.specs.Prelude.{pixel_at, strided_rows, KeepsRest, RowsFit}
 use Rattle.v_frame_raster.specs.StridedRows.{IsInsideTable}
 use Rattle.v_frame_raster.proofs.tables.Lists.{slice_get-take, slice_get-drop}
 use Rattle.v_frame_raster.proofs.tables.Parts.{slice_get-front, slice_get-back}
-use Rattle.v_frame_raster.proofs.tables.Strides.{AreRows, height_is, width_is, part_begins, part_fits}
-use Rattle.v_frame_ops.proofs.LentRegions.{entry_of}
+use Rattle.v_frame_raster.proofs.tables.Strides.{AreRows, height_is, width_is, part_begins, part_fits, strided_row}
+
+-- a pixel of rows is an entry
+entry_of : {T : Type 0} (width height stride : ℕ) (xs : List T) (x y : ℕ) → width ≤ stride → x < width → y < height
+    → pixel_at (strided_rows width height stride xs) x y ≡ slice_get xs (stride * y + x)
+entry_of width height stride xs x y apart across down =
+    ap (option_and_then (λ row. slice_get row x)) (strided_row width height stride xs y apart down)
+    ∙ slice_get-take width (drop (stride * y) xs) x across ∙ slice_get-drop (stride * y) xs x
 
 -- rows of a buffer, and a rectangle inside them
 pub record IsPart (width height stride x y w h entries : ℕ) : Type 0 where
