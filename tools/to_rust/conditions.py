@@ -26,7 +26,7 @@ SIGNS = {"<": ("<", "is not below"), "≤": ("<=", "is above"), "≡": ("==", "i
 COMPARISON = re.compile(r"([^<≤≡≢]+) ([<≤≡≢]) ([^<≤≡≢]+)")
 APPLIED = re.compile(r"(\w+)((?: (?:[^\s()]+|\([^()]+\)))*)")
 NUMBERS = {"u8", "u16", "u32", "u64", "usize"}
-KINDS = {"View": {"Plane", "PlaneRef"}, "Picture": {"Plane", "PlaneRef", "RowsRef", "PlaneGeometry"}, "number": NUMBERS}
+KINDS = {"View": {"Plane", "PlaneRef"}, "Picture": {"Plane", "PlaneRef", "RowsRef", "PlaneGeometry"}, "number": NUMBERS, "Reader": {"Picture"}}
 
 
 class Term(namedtuple("Term", "rust kind words shown noun", defaults=("", ""))):
@@ -127,8 +127,8 @@ class Reader:
         for name, text in zip(names, arguments):
             name, _, kind = name.partition(":")
             kind, text = kind.format(**terms) or "usize", text.strip("()")
-            if kind == "bytes":  # The type of pixels that has so many.
-                terms[name] = self.thing(self.known(re.fullmatch(r"([A-Z])\.BYTES", text))[1], "type")
+            if kind in ("bytes", "form"):  # The type of pixels that has so many, or that form.
+                terms[name] = self.thing(self.known(re.fullmatch(r"([A-Z])\.(?:BYTES|form)", text))[1], "type")
             elif kind in NUMBERS:
                 terms[name] = self.number(text)
                 self.known(terms[name].kind in (kind, "literal"))

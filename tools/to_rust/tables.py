@@ -8,9 +8,10 @@ LIBRARY = "v_frame_proved"
 # The Rust crate that each source crate becomes a part of. There it is the module `generated::NAME`.
 HOMES = {home: crates.split() for home, crates in {
     LIBRARY: """v_frame_raster v_frame_plane v_frame v_frame_ops v_frame_planar v_frame_y4m v_frame_convert v_frame_turn
-        v_frame_statistics v_frame_measures v_frame_rgb v_frame_resize v_frame_semi_planar v_frame_png v_frame_chart""",
+        v_frame_statistics v_frame_measures v_frame_rgb v_frame_resize v_frame_semi_planar v_frame_png v_frame_chart v_frame_formats
+        v_frame_streams""",
     "v_frame_tool": "v_frame_tool_run v_frame_tool",
-    "yuv": "yuv_words yuv_streams yuv_pictures yuv_reports yuv_commands yuv",
+    "yuv": "yuv_words yuv_pictures yuv_reports yuv_commands yuv",
     "v_frame_c": "v_frame_c v_frame_y4m_c",
 }.items()}
 
@@ -21,6 +22,7 @@ HANDLES = {"rt", "HostRuntime"}
 # The modules of the library by their public names, as programs and other crates name them.
 PUBLIC_NAMES = {"v_frame": LIBRARY, **{f"v_frame_{name}": f"{LIBRARY}::{name}" for name in """
     ops planar y4m convert turn statistics measures rgb resize semi_planar png chart
+    formats streams
 """.split()}}
 
 # Crates that C calls, which alone may have exports.
@@ -63,7 +65,7 @@ SUPPORT = {name: path for path, names in {
     **{f"crate::support::memory::{name}": name for name in ("try_format", "repeated")},
     **{f"crate::views::{name}": name for name in ("AsPlaneRef", "AsRowsRef")},
     "yuv::support::HostRuntime": "HostRuntime",
-    "yuv::support::TryBuffered": "try_new",
+    "crate::support::buffered::TryBuffered": "try_new",
 }.items() for name in names.split()}
 
 # Functions that the library calls so often that its own calls go to one without tests, and those that are no methods.

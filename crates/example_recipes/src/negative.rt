@@ -5,13 +5,11 @@ ghost use Rattle.example_recipes.specs.Negative.{negative_table, negative_tables
 
 use std::alloc::Global;
 use std::io;
-use thiserror::Error;
-use v_frame::frame::{Frame, FrameError};
+use v_frame::frame::Frame;
 use v_frame::pixel::Pixel;
 use v_frame::plane::Plane;
 use v_frame_ops::map_pixels;
-use v_frame_planar::Counted;
-use v_frame_y4m::{StreamHeader, Y4mError, read_frame, write_frame};
+use v_frame_streams::{MAX_PIXELS, Picture, Sink, Source, StreamError};
 
 /// Makes each sample of a frame the largest value less itself, in luma and in chroma.
 pub fn negate<T: Pixel>(frame: &mut Frame<T>, peak: T)
@@ -45,32 +43,20 @@ fn negate_chroma<T: Pixel>(plane: &mut Option<Plane<T>>, peak: T)
     }
 }
 
-/// Why a stream was not filtered to its end.
-#[derive(Debug, Drop, Error)]
-pub enum FilterError {
-    /// There is no frame of the stream's size.
-    #[error("no frame of this size: {0}")]
-    Frame(#[from] FrameError),
-    /// A frame was not read or not written.
-    #[error(transparent)]
-    Stream(#[from] Y4mError),
-}
-
-/// Writes the negative of each frame of a YUV4MPEG2 stream, whose header was read, and written, before.
+/// Writes the negative of each frame that is left of a stream, whose header was written before.
 pub fn negate_frames<T: Pixel, R: io::Read, W: io::Write>(
     alloc: Global,
-    header: &StreamHeader,
+    source: &mut Source<R>,
+    sink: &mut Sink<W>,
     peak: T,
-    reader: &mut Counted<R>,
-    writer: &mut Counted<W>,
-) -> Result<(), FilterError> {
-    let mut frame = header.frame::<T>(alloc, 0)?;
+) -> Result<(), StreamError> {
+    let mut picture = Picture::<T>::new(alloc, source, MAX_PIXELS)?;
     for _ in 0..u64::MAX {
-        if !read_frame(alloc, reader, &mut frame)? {
+        if !picture.is_made_for(source) || !picture.read(source)? {
             break;
         }
-        negate(&mut frame, peak);
-        write_frame(writer, &frame)?;
+        negate(&mut picture.frame, peak);
+        sink.write_frame(&picture.frame)?;
     }
     Ok(())
 }

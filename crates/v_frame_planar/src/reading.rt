@@ -2,7 +2,7 @@
 ghost use Rattle.std.specs.Prelude.{◌≡◌, ◌≢◌, ◌-◌, ◌++◌, ◌<◌, ◌≤◌, ◌⊎◌, false, length, min, take, option_map, Err, IfOk, IfErr, MatchBool, MatchResult, OnOk, OnErr};
 ghost use Rattle.std.specs.Io.KnownBytes.{Consumes, IsAtEnd};
 ghost use Rattle.v_frame.specs.Prelude.{byte_list, isize_max, usize_max, border_and_geometry, KeepsBorders, table_of, tables_of};
-ghost use Rattle.v_frame_planar.specs.Planar.{bytes_of_plane, plane_byte_count, planar_bytes, size_of, sizes_of, MayStopReading, Reads, TellsCause};
+ghost use Rattle.v_frame_planar.specs.Planar.{byte_count, bytes_of_plane, plane_byte_count, planar_bytes, size_of, sizes_of, MayStopReading, Reads, TellsCause};
 
 use crate::counted::Counted;
 use crate::error::PlanarError;
@@ -101,7 +101,8 @@ fn allocate<T: Pixel>(alloc: Global, frame: &Frame<T>) -> Result<Vec<u8>, Planar
 /// Returns how many planar bytes a frame has: as many as [`read_frame`] asks for, and [`write_frame`](crate::write_frame)
 /// writes. The count stays at `usize::MAX`.
 pub fn planar_len<T: Pixel>(frame: &Frame<T>) -> usize
-    ensures { result ≡ min (length (planar_bytes T.form (tables_of frame.now))) usize_max }
+    ensures value { result ≡ min (length (planar_bytes T.form (tables_of frame.now))) usize_max }
+    ensures sizes { result ≡ min (byte_count T.form.size (sizes_of (tables_of frame.now))) usize_max }
 {
     let chroma = chroma_len(&frame.u_plane) + chroma_len(&frame.v_plane);
     frame.y_plane.byte_len().saturating_add(chroma)

@@ -11,10 +11,10 @@ use Rattle.v_frame_semi_planar.specs.declared.format.SemiPlanarFormat.{SemiPlana
 use Rattle.yuv_commands.specs.Values.{times_in, AreZero, CountsChroma, CountsFrame, CountsFrames, CountsNothing, CountsPlanes, CountsStream, CountsTable}
 use Rattle.yuv_commands.specs.declared.stats.Counts.{Counts}
 use Rattle.yuv_commands.specs.declared.value_counts.ValueCounts.{ValueCounts}
-use Rattle.yuv_streams.specs.Streams.{framed_bytes, IsFrame}
-use Rattle.yuv_streams.specs.Prelude.{tables_of_bytes, Framed, ReadsFrames, Sizes}
-use Rattle.yuv_streams.specs.declared.stream.Container.{Container}
-use Rattle.yuv_streams.proofs.Reading.{no_more_read, none_read, one_more_read}
+use Rattle.v_frame_streams.specs.Streams.{framed_bytes, IsFrame}
+use Rattle.v_frame_streams.specs.Prelude.{tables_of_bytes, Framed, ReadsFrames, Sizes}
+use Rattle.v_frame_streams.specs.declared.stream.Container.{Container}
+use Rattle.v_frame_streams.proofs.Reading.{no_more_read, none_read, one_more_read}
 
 -- a sum that stays at a limit
 capped : (a b most : ℕ) → min (min a most + b) most ≡ min (a + b) most

@@ -6,12 +6,12 @@ use Rattle.yuv_commands.specs.Differences.{DrawsDifference, DrawsFrames, DrawsPa
 use Rattle.yuv_commands.specs.Options.{frame_pair}
 use Rattle.yuv_commands.specs.declared.diff.DifferencePicture.{DifferencePicture}
 use Rattle.yuv_pictures.specs.declared.places.Found.{Found}
-use Rattle.yuv_streams.specs.Comparisons.{Pair, TakesEach}
-use Rattle.yuv_streams.specs.Prelude.{shown, Sizes, Stream, WatchesFrom}
-use Rattle.yuv_streams.specs.declared.comparison.CompareOptions.{CompareOptions}
-use Rattle.yuv_streams.specs.declared.comparison.Comparison.{Comparison}
+use Rattle.v_frame_streams.specs.Comparisons.{Pair, TakesEach}
+use Rattle.v_frame_streams.specs.Prelude.{shown, Sizes, Stream, WatchesFrom}
+use Rattle.v_frame_streams.specs.declared.comparison.CompareOptions.{CompareOptions}
+use Rattle.v_frame_streams.specs.declared.comparison.Comparison.{Comparison}
 use Rattle.yuv_words.specs.declared.command.DiffOptions.{DiffOptions as DiffWords}
-use Rattle.yuv_streams.specs.declared.sums.PlaneSums.{PlaneSums}
+use Rattle.v_frame_streams.specs.declared.sums.PlaneSums.{PlaneSums}
 
 module _ {T W : Type 0} (form : PixelForm T) (contents : W → Option (List ℕ)) where
   abbrev pub takes : DifferencePicture W → DifferencePicture W → Tables T → Tables T → PlaneSums → Type 0

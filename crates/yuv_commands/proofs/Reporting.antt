@@ -14,9 +14,9 @@ use Rattle.yuv_reports.specs.declared.planes.PlaneSums.{PlaneSums as ReportedSum
 use Rattle.yuv_reports.specs.declared.comparison.Comparison.{Comparison as Said}
 use Rattle.yuv_reports.specs.declared.comparison.ReportForm.{ReportForm}
 use Rattle.yuv_reports.specs.Texts.{EndsWith}
-use Rattle.yuv_streams.specs.Comparisons.{errors_between, Pair, TakesEach}
-use Rattle.yuv_streams.specs.declared.comparison.Comparison.{Comparison}
-use Rattle.yuv_streams.specs.declared.sums.PlaneSums.{PlaneSums}
+use Rattle.v_frame_streams.specs.Comparisons.{errors_between, Pair, TakesEach}
+use Rattle.v_frame_streams.specs.declared.comparison.Comparison.{Comparison}
+use Rattle.v_frame_streams.specs.declared.sums.PlaneSums.{PlaneSums}
 
 pub nothing_appended : (has : Option (List ℕ)) (text : List ℕ) → text ≡ [] → Appends has has text
 nothing_appended None text none = tt

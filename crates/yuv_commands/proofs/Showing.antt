@@ -13,10 +13,10 @@ use Rattle.v_frame_y4m.specs.Frames.{frame_byte_count}
 use Rattle.v_frame_y4m.specs.declared.header.StreamHeader.{StreamHeader}
 use Rattle.yuv_commands.specs.Options.{shown_frame}
 use Rattle.yuv_commands.specs.Shows.{ShowsBytes, TakesFrame}
-use Rattle.yuv_streams.specs.Prelude.{copied_bytes, copied_header, header_bytes, kept, made_stream, Copies, Framed}
-use Rattle.yuv_streams.specs.Prelude.{sizes_in, tables_of_bytes, ReadsTables, Sizes}
-use Rattle.yuv_streams.specs.declared.stream.Container.{Container}
-use Rattle.yuv_streams.specs.declared.stream.Container.TheVariants.{Raw}
+use Rattle.v_frame_streams.specs.Prelude.{copied_bytes, copied_header, header_bytes, kept, made_stream, Copies, Framed}
+use Rattle.v_frame_streams.specs.Prelude.{sizes_in, tables_of_bytes, ReadsTables, Sizes}
+use Rattle.v_frame_streams.specs.declared.stream.Container.{Container}
+use Rattle.v_frame_streams.specs.declared.stream.Container.TheVariants.{Raw}
 use Rattle.yuv_words.specs.declared.command.ShowOptions.{ShowOptions as ShowWords}
 
 -- what is first behind so many items has this index

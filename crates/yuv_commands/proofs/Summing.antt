@@ -6,10 +6,10 @@ use Rattle.std.specs.Io.KnownBytes.{Appends, Consumes, IsAtEnd}
 use Rattle.std.proofs.KnownBytes.{Appends-nil, Appends-trans}
 use Rattle.yuv_commands.specs.Checksums.{checksum_lines, checksums_of, SumsFrames}
 use Rattle.yuv_reports.specs.Samples.{checksums_line}
-use Rattle.yuv_streams.specs.Streams.{framed_bytes, IsFrame}
-use Rattle.yuv_streams.specs.Prelude.{most_frames, Framed, ReadsFrames, Sizes}
-use Rattle.yuv_streams.specs.declared.stream.Container.{Container}
-use Rattle.yuv_streams.proofs.Reading.{no_more_read, none_read, one_more_read}
+use Rattle.v_frame_streams.specs.Streams.{framed_bytes, IsFrame}
+use Rattle.v_frame_streams.specs.Prelude.{most_frames, Framed, ReadsFrames, Sizes}
+use Rattle.v_frame_streams.specs.declared.stream.Container.{Container}
+use Rattle.v_frame_streams.proofs.Reading.{no_more_read, none_read, one_more_read}
 
 module _ (from : Container) (len : ℕ) (planes : Bool) (count : ℕ) (sizes : Sizes) (start : ℕ) where
   -- so many frames were read, and the line of each was written

@@ -6,8 +6,8 @@ use Rattle.v_frame_png.specs.Crc.{crc32}
 use Rattle.yuv_reports.specs.declared.samples.Checksums.{Checksums}
 use Rattle.yuv_reports.specs.declared.samples.Checksums.TheVariants.{Frame, Planes}
 use Rattle.yuv_reports.specs.Samples.{checksums_line}
-use Rattle.yuv_streams.specs.Prelude.{most_frames, CountsFrames, Framed, ReadsFrames, Sizes}
-use Rattle.yuv_streams.specs.declared.stream.Container.{Container}
+use Rattle.v_frame_streams.specs.Prelude.{most_frames, CountsFrames, Framed, ReadsFrames, Sizes}
+use Rattle.v_frame_streams.specs.declared.stream.Container.{Container}
 use Rattle.yuv_words.specs.declared.command.SumOptions.{SumOptions}
 
 -- of the bytes of a frame the CRC-32 of all of them, or of each plane: first those of Y, then those

@@ -7,9 +7,9 @@ use Rattle.yuv_pictures.specs.Prelude.{difference_rows, grey_samples, picture_he
 use Rattle.yuv_pictures.specs.declared.places.Found.{Found}
 use Rattle.yuv_commands.specs.Options.{frame_pair}
 use Rattle.yuv_commands.specs.declared.diff.DifferencePicture.{DifferencePicture}
-use Rattle.yuv_streams.specs.Comparisons.{Pair}
-use Rattle.yuv_streams.specs.Prelude.{shown, ComparesFrom, Sizes, Stream}
-use Rattle.yuv_streams.specs.declared.comparison.Comparison.{Comparison}
+use Rattle.v_frame_streams.specs.Comparisons.{Pair}
+use Rattle.v_frame_streams.specs.Prelude.{shown, ComparesFrom, Sizes, Stream}
+use Rattle.v_frame_streams.specs.declared.comparison.Comparison.{Comparison}
 use Rattle.yuv_words.specs.declared.command.DiffOptions.{DiffOptions as DiffWords}
 
 -- a writer got the picture of the difference of frames that show these tables, times a gain, and

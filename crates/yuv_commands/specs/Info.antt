@@ -4,8 +4,8 @@ use Rattle.std.specs.Io.KnownBytes.{Appends}
 use Rattle.v_frame_y4m.specs.declared.header.StreamHeader.{StreamHeader}
 use Rattle.yuv_commands.specs.Facts.{stream_facts}
 use Rattle.yuv_reports.specs.Texts.{BeginsWith}
-use Rattle.yuv_streams.specs.Prelude.{CountsFrames}
-use Rattle.yuv_streams.specs.declared.stream.Container.{Container}
+use Rattle.v_frame_streams.specs.Prelude.{CountsFrames}
+use Rattle.v_frame_streams.specs.declared.stream.Container.{Container}
 
 -- the line of a count
 abbrev pub count_line : ℕ → List ℕ

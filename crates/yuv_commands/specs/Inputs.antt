@@ -2,14 +2,14 @@
 use Rattle.std.specs.Prelude.{ℕ, ◌≡◌, List, [], Option, Some, None, IfSome}
 use Rattle.std.specs.Borrow.{MutBor}
 use Rattle.v_frame_y4m.specs.declared.header.StreamHeader.{StreamHeader}
-use Rattle.yuv_streams.specs.Conversions.{layout_in}
-use Rattle.yuv_streams.specs.Sources.{bytes_left, IsOpened}
-use Rattle.yuv_streams.specs.Streams.{ReadsHeaderLine}
-use Rattle.yuv_streams.specs.declared.source.Source.{Source}
-use Rattle.yuv_streams.specs.declared.stream.Container.TheVariants.{Raw, Y4m}
+use Rattle.v_frame_streams.specs.Conversions.{layout_in}
+use Rattle.v_frame_streams.specs.Sources.{bytes_left, IsOpened}
+use Rattle.v_frame_streams.specs.Streams.{ReadsHeaderLine}
+use Rattle.v_frame_streams.specs.declared.source.Source.{Source}
+use Rattle.v_frame_streams.specs.declared.stream.Container.TheVariants.{Raw, Y4m}
 use Rattle.yuv_commands.specs.InputFiles.{BeginsAsAStream}
 use Rattle.yuv_commands.specs.declared.input_file.InputFile.{InputFile}
-use Rattle.yuv_words.specs.Formats.{format_colour}
+use Rattle.v_frame_formats.specs.Formats.{format_colour}
 use Rattle.yuv_words.specs.declared.command.RawVideo.{RawVideo}
 
 -- the header that raw video of this size and format would have

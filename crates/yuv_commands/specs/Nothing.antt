@@ -1,8 +1,8 @@
 -- Commands that find no frame to work on.
 use Rattle.std.specs.Prelude.{ℕ, ◌==◌, if◌then◌else◌, Option, Some, None}
 use Rattle.yuv_commands.specs.declared.nothing.NothingTaken.{NothingTaken}
-use Rattle.yuv_streams.specs.declared.stream.Place.{Place}
-use Rattle.yuv_streams.specs.declared.stream.Place.TheVariants.{First}
+use Rattle.v_frame_streams.specs.declared.stream.Place.{Place}
+use Rattle.v_frame_streams.specs.declared.stream.Place.TheVariants.{First}
 
 -- why no frame was taken of a stream of so many, where so many are none
 abbrev pub nothing_of : ℕ → ℕ → ℕ → Option ℕ → Option NothingTaken

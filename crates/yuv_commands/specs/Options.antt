@@ -2,10 +2,10 @@
 use Rattle.std.specs.Prelude.{ℕ, ◌*◌, ◌≤◌, ◌<◌, if◌then◌else◌, false, min, Option, Some, None, option_map, unwrap_or, IfSome, IsSomeAnd}
 use Rattle.v_frame_y4m.specs.declared.header.StreamHeader.{StreamHeader}
 use Rattle.v_frame.specs.Prelude.{usize_max}
-use Rattle.yuv_streams.specs.declared.comparison.CompareOptions.{CompareOptions}
-use Rattle.yuv_streams.specs.declared.edit.Rectangle.{Rectangle}
-use Rattle.yuv_streams.specs.declared.options.CopyOptions.{CopyOptions}
-use Rattle.yuv_streams.specs.declared.stream.Container.{Container}
+use Rattle.v_frame_streams.specs.declared.comparison.CompareOptions.{CompareOptions}
+use Rattle.v_frame_streams.specs.declared.edit.Rectangle.{Rectangle}
+use Rattle.v_frame_streams.specs.declared.options.CopyOptions.{CopyOptions}
+use Rattle.v_frame_streams.specs.declared.stream.Container.{Container}
 use Rattle.yuv_pictures.specs.declared.plane_name.PlaneName.{PlaneName}
 use Rattle.yuv_words.specs.declared.command.CompareOptions.{CompareOptions as CompareWords}
 use Rattle.yuv_words.specs.declared.command.CopyOptions.{CopyOptions as CopyWords}

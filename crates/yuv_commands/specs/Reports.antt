@@ -12,14 +12,14 @@ use Rattle.yuv_reports.specs.declared.comparison.ReportForm.{ReportForm}
 use Rattle.yuv_reports.specs.declared.comparison.SampleDifference.{SampleDifference}
 use Rattle.yuv_reports.specs.declared.planes.PlaneSums.{PlaneSums as ReportedSums}
 use Rattle.yuv_reports.specs.declared.planes.PlaneValues.{PlaneValues}
-use Rattle.yuv_streams.specs.Prelude.{most_frames}
-use Rattle.yuv_streams.specs.declared.comparison.Comparison.{Comparison}
-use Rattle.yuv_streams.specs.declared.frames.Component.{Component}
-use Rattle.yuv_streams.specs.declared.frames.Component.TheVariants.{Y, U, V}
-use Rattle.yuv_streams.specs.declared.frames.PixelDifference.{PixelDifference}
-use Rattle.yuv_streams.specs.declared.stream.Place.{Place}
-use Rattle.yuv_streams.specs.declared.stream.Place.TheVariants.{First}
-use Rattle.yuv_streams.specs.declared.sums.PlaneSums.{PlaneSums}
+use Rattle.v_frame_streams.specs.Prelude.{most_frames}
+use Rattle.v_frame_streams.specs.declared.comparison.Comparison.{Comparison}
+use Rattle.v_frame_streams.specs.declared.frames.Component.{Component}
+use Rattle.v_frame_streams.specs.declared.frames.Component.TheVariants.{Y, U, V}
+use Rattle.v_frame_streams.specs.declared.frames.PixelDifference.{PixelDifference}
+use Rattle.v_frame_streams.specs.declared.stream.Place.{Place}
+use Rattle.v_frame_streams.specs.declared.stream.Place.TheVariants.{First}
+use Rattle.v_frame_streams.specs.declared.sums.PlaneSums.{PlaneSums}
 use Rattle.yuv_words.specs.declared.command.ReportForm.{ReportForm as FormWords}
 use Rattle.yuv_words.specs.declared.command.ReportForm.TheVariants.{Lines, Csv, Json}
 

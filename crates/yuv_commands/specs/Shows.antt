@@ -16,11 +16,11 @@ use Rattle.yuv_pictures.specs.Prelude.{picture_header, plane_named, StopsFrame, 
 use Rattle.yuv_pictures.specs.declared.colours.Colours.{Colours}
 use Rattle.yuv_pictures.specs.declared.error.PictureError.{PictureError}
 use Rattle.yuv_pictures.specs.declared.error.PictureError.TheVariants.{NoPlane}
-use Rattle.yuv_streams.specs.Conversions.{format_in, format_of, sizes_laid_out}
-use Rattle.yuv_streams.specs.Prelude.{copied_bytes, sizes_in, taken, tables_of_bytes, Framed}
-use Rattle.yuv_streams.specs.Prelude.{ReadsFrames}
-use Rattle.yuv_streams.specs.declared.stream.Container.{Container}
-use Rattle.yuv_streams.specs.declared.stream.Container.TheVariants.{Raw}
+use Rattle.v_frame_streams.specs.Conversions.{format_in, format_of, sizes_laid_out}
+use Rattle.v_frame_streams.specs.Prelude.{copied_bytes, sizes_in, taken, tables_of_bytes, Framed}
+use Rattle.v_frame_streams.specs.Prelude.{ReadsFrames}
+use Rattle.v_frame_streams.specs.declared.stream.Container.{Container}
+use Rattle.v_frame_streams.specs.declared.stream.Container.TheVariants.{Raw}
 use Rattle.yuv_words.specs.declared.command.PlaneName.{PlaneName as PlaneWords}
 use Rattle.yuv_words.specs.declared.command.ShowOptions.{ShowOptions as ShowWords}
 

@@ -11,8 +11,8 @@ use Rattle.yuv_reports.specs.Samples.{AppendsStatistics}
 use Rattle.yuv_reports.specs.declared.comparison.PlaneName.{PlaneName}
 use Rattle.yuv_reports.specs.declared.comparison.PlaneName.TheVariants.{Y, U, V}
 use Rattle.yuv_reports.specs.declared.samples.SampleStatistics.{SampleStatistics}
-use Rattle.yuv_streams.specs.Prelude.{Sizes}
-use Rattle.yuv_streams.specs.declared.stream.Container.{Container}
+use Rattle.v_frame_streams.specs.Prelude.{Sizes}
+use Rattle.v_frame_streams.specs.declared.stream.Container.{Container}
 use Rattle.yuv_words.specs.declared.command.StatsOptions.{StatsOptions}
 
 -- what stands at a depth for a value of 8 bits, as ITU-R BT.601 and BT.709 have it

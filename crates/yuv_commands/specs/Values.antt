@@ -9,8 +9,8 @@ use Rattle.yuv_commands.specs.declared.value_counts.ValueCounts.{ValueCounts}
 use Rattle.yuv_reports.specs.Histograms.{histogram_rows}
 use Rattle.yuv_reports.specs.declared.comparison.PlaneName.{PlaneName}
 use Rattle.yuv_reports.specs.declared.comparison.PlaneName.TheVariants.{Y, U, V}
-use Rattle.yuv_streams.specs.Prelude.{most_frames, tables_of_bytes, CountsFrames as PassesFrames, Framed, ReadsFrames, Sizes}
-use Rattle.yuv_streams.specs.declared.stream.Container.{Container}
+use Rattle.v_frame_streams.specs.Prelude.{most_frames, tables_of_bytes, CountsFrames as PassesFrames, Framed, ReadsFrames, Sizes}
+use Rattle.v_frame_streams.specs.declared.stream.Container.{Container}
 use Rattle.yuv_words.specs.declared.command.StatsOptions.{StatsOptions}
 
 -- the rows of a chroma plane, where it is there

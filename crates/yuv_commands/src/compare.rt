@@ -4,8 +4,8 @@ ghost use Rattle.v_frame.specs.Prelude.{one_byte, two_bytes};
 ghost use Rattle.v_frame_y4m.specs.Colour.{depth_of};
 ghost use Rattle.yuv_commands.specs.Options.{comparison_of};
 ghost use Rattle.yuv_commands.specs.Reports.{form_of_words, report_end, EndsKnown};
-ghost use Rattle.yuv_streams.specs.Prelude.{bytes_left, sizes_in, stream_of, ComparesFrom, HaveOneFormat, WatchesFrom};
-ghost use Rattle.yuv_streams.specs.Sums.{pixels_of_sizes};
+ghost use Rattle.v_frame_streams.specs.Prelude.{bytes_left, sizes_in, stream_of, ComparesFrom, HaveOneFormat, WatchesFrom};
+ghost use Rattle.v_frame_streams.specs.Sums.{pixels_of_sizes};
 
 use crate::fault::Fault;
 use crate::frame_report::FrameReport;
@@ -25,7 +25,7 @@ use v_frame::chroma::ChromaSubsampling;
 use v_frame_planar::ratios_or_one;
 use v_frame_y4m::StreamHeader;
 use yuv_reports::Report;
-use yuv_streams::{
+use v_frame_streams::{
     Comparison, FrameObserver, Place, PlaneSums, Progress, Source, StreamError, compare_streams,
 };
 use yuv_words::{CompareOptions, ReportForm};

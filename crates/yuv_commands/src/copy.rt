@@ -3,7 +3,7 @@ ghost use Rattle.std.specs.Prelude.{◌≡◌, ◌&&◌, unwrap_or, IfOk, OnOk};
 ghost use Rattle.yuv_commands.specs.Facts.{has_fields};
 ghost use Rattle.yuv_commands.specs.Nothing.{nothing_of};
 ghost use Rattle.yuv_commands.specs.Options.{copy_of, KeepsLimit};
-ghost use Rattle.yuv_streams.specs.Prelude.{bytes_left, Copies};
+ghost use Rattle.v_frame_streams.specs.Prelude.{bytes_left, Copies};
 
 use crate::fault::Fault;
 use crate::input::{begin, expected_frames};
@@ -20,7 +20,7 @@ use std::io;
 use std::rt::Files;
 use std::time::Clock;
 use v_frame_y4m::{Interlacing, StreamHeader};
-use yuv_streams::{Place, Progress, Sink, Source, StreamError, copy_stream};
+use v_frame_streams::{Place, Progress, Sink, Source, StreamError, copy_stream};
 use yuv_words::CopyOptions;
 
 /// Writes a stream once more.

@@ -5,7 +5,7 @@ ghost use Rattle.v_frame_y4m.specs.Colour.{depth_of};
 ghost use Rattle.yuv_commands.specs.Differences.{DrawsDifference, DrawsFrames, TakesPair};
 ghost use Rattle.yuv_commands.specs.Options.{frame_pair};
 ghost use Rattle.yuv_commands.specs.Places.{chroma_said, first_said, found_said, greatest_said, plane_said, ShowNoDifference};
-ghost use Rattle.yuv_streams.specs.Prelude.{bytes_left, sizes_in, stream_of};
+ghost use Rattle.v_frame_streams.specs.Prelude.{bytes_left, sizes_in, stream_of};
 
 use crate::fault::Fault;
 use crate::input::begin;
@@ -25,7 +25,7 @@ use v_frame::pixel::Pixel;
 use v_frame_measures::{GreatestDifference, frames_have_one_size};
 use v_frame_planar::Counted;
 use yuv_pictures::{Found, PictureError, PlaneDifference, differences, write_difference_picture};
-use yuv_streams::{
+use v_frame_streams::{
     CompareOptions, FrameObserver, Place, PlaneSums, Silent, Source, StreamError, compare_streams,
 };
 use yuv_words::DiffOptions;

@@ -5,7 +5,7 @@ use std::{fmt, io};
 use v_frame_png::PngError;
 use v_frame_y4m::{HeaderError, Y4mError};
 use yuv_pictures::PictureError;
-use yuv_streams::{Place, Problem, StreamError};
+use v_frame_streams::{Place, Problem, StreamError};
 
 /// Why a command gave up.
 #[derive(Drop)]
@@ -129,6 +129,9 @@ fn is_of_a_frame(error: &StreamError) -> bool {
 /// Writes what happened, and what the system reported.
 fn write_caused<W: fmt::Write>(f: &mut fmt::Formatter<W>, error: &StreamError) -> fmt::Result {
     fmt::Display::fmt(&error.problem, f)?;
+    if let Problem::TooManyPixels(_) = &error.problem {
+        f.write_str("; --max-pixels N allows more")?;
+    }
     match &error.cause {
         Some(cause) => write!(f, ": {cause}"),
         None => Ok(()),

@@ -3,7 +3,7 @@ ghost use Rattle.std.specs.Prelude.{◌≡◌, false, true, IfOk, IsOk, OnOk};
 ghost use Rattle.std.specs.Io.KnownBytes.{Appends};
 ghost use Rattle.yuv_commands.specs.Facts.{stream_facts};
 ghost use Rattle.yuv_commands.specs.Info.{ReportsFrames, ReportsStream};
-ghost use Rattle.yuv_streams.specs.Prelude.{bytes_left};
+ghost use Rattle.v_frame_streams.specs.Prelude.{bytes_left};
 
 mod text;
 
@@ -21,7 +21,7 @@ use std::rt::Files;
 use std::time::Clock;
 use text::{format_text, frames_text};
 use v_frame_planar::Counted;
-use yuv_streams::{Place, Source, StreamError, skip_frames};
+use v_frame_streams::{Place, Source, StreamError, skip_frames};
 use yuv_words::InfoOptions;
 
 /// Reports what a stream is. Where a frame can't be read, what is known so far is reported before the fault.

@@ -2,7 +2,7 @@
 ghost use Rattle.std.specs.Prelude.{◌≡◌, ◌≤◌, Some, IfErr, IfOk, IfSome};
 ghost use Rattle.yuv_commands.specs.InputFiles.{bytes_of_input, BeginsAsAStream, IsReadOn};
 ghost use Rattle.yuv_commands.specs.Inputs.{header_of_raw, OpensAs, OpensAsRaw, OpensAsY4m};
-ghost use Rattle.yuv_streams.specs.Conversions.{layout_in};
+ghost use Rattle.v_frame_streams.specs.Conversions.{layout_in};
 
 use crate::fault::Fault;
 use crate::input_file::InputFile;
@@ -11,10 +11,11 @@ use crate::system::System;
 use std::alloc::Global;
 use std::io::{self, Read};
 use std::time::Clock;
+use v_frame_formats::VideoFormat;
 use v_frame_semi_planar::SemiPlanarFormat;
 use v_frame_y4m::{StreamHeader, header_line};
-use yuv_streams::{Container, Problem, Source, StreamError};
-use yuv_words::{RawVideo, VideoFormat};
+use v_frame_streams::{Container, Problem, Source, StreamError};
+use yuv_words::RawVideo;
 
 /// Reads the header of a file that is open, or takes that of headerless raw video. Where the header line is not strict, a
 /// message says what it is read as.

@@ -9,7 +9,7 @@ use std::io::{self, Read};
 use std::rt::Files;
 use v_frame_planar::{Counted, read_until_full};
 use v_frame_y4m::Y4mError;
-use yuv_streams::{Place, Problem, StreamError};
+use v_frame_streams::{Place, Problem, StreamError};
 
 /// How a stream of YUV4MPEG2 begins.
 const MAGIC: &[u8] = b"YUV4MPEG2";

@@ -4,7 +4,7 @@ ghost use Rattle.yuv_commands.specs.Nothing.{nothing_of, shorter};
 
 use crate::fault::Fault;
 use std::{fmt, io};
-use yuv_streams::{CompareOptions, Comparison, Place, Source};
+use v_frame_streams::{CompareOptions, Comparison, Place, Source};
 
 /// What a stream has, and what was asked of it, where none of its frames was taken.
 #[derive(Debug, Clone, Copy, PartialEq, Eq)]

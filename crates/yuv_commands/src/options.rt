@@ -5,7 +5,7 @@ ghost use Rattle.yuv_commands.specs.Options.{comparison_of, copy_of, most_pixels
 use crate::fault::Fault;
 use std::io::Write;
 use v_frame_y4m::StreamHeader;
-use yuv_streams::{Container, MAX_PIXELS, Place, Problem, Sink, StreamError};
+use v_frame_streams::{Container, MAX_PIXELS, Place, Problem, Sink, StreamError};
 
 /// Returns the most pixels of luma that a picture may have.
 pub(crate) fn most_pixels(asked: Option<u64>) -> usize
@@ -18,10 +18,10 @@ pub(crate) fn most_pixels(asked: Option<u64>) -> usize
 }
 
 /// Returns what a copy takes of a stream, and what it makes of its frames.
-pub(crate) fn stream_copy(options: &yuv_words::CopyOptions) -> yuv_streams::CopyOptions
+pub(crate) fn stream_copy(options: &yuv_words::CopyOptions) -> v_frame_streams::CopyOptions
     ensures { result ≡ copy_of options.now }
 {
-    yuv_streams::CopyOptions {
+    v_frame_streams::CopyOptions {
         skip: options.skip.unwrap_or(0),
         count: options.count,
         crop: options.crop.map(stream_rectangle),
@@ -34,10 +34,10 @@ pub(crate) fn stream_copy(options: &yuv_words::CopyOptions) -> yuv_streams::Copy
 }
 
 /// Returns the rectangle of the streams.
-pub(crate) fn stream_rectangle(part: yuv_words::Rectangle) -> yuv_streams::Rectangle
+pub(crate) fn stream_rectangle(part: yuv_words::Rectangle) -> v_frame_streams::Rectangle
     ensures { result ≡ rectangle_of part }
 {
-    yuv_streams::Rectangle {
+    v_frame_streams::Rectangle {
         x: part.x,
         y: part.y,
         width: part.width,
@@ -60,7 +60,7 @@ pub(crate) fn copy_sink<W: Write>(options: &yuv_words::CopyOptions, writer: W) -
 }
 
 /// Returns what a comparison takes of two streams.
-pub(crate) fn stream_comparison(options: &yuv_words::CompareOptions) -> yuv_streams::CompareOptions
+pub(crate) fn stream_comparison(options: &yuv_words::CompareOptions) -> v_frame_streams::CompareOptions
     ensures { result ≡ comparison_of options.now }
 {
     taken_of_both(
@@ -77,11 +77,11 @@ pub(crate) fn taken_of_both(
     skip_second: Option<u64>,
     count: Option<u64>,
     max_pixels: Option<u64>,
-) -> yuv_streams::CompareOptions
+) -> v_frame_streams::CompareOptions
     ensures { result ≡ taken_of skip skip_second count max_pixels }
 {
     let skip_first = skip.unwrap_or(0);
-    yuv_streams::CompareOptions {
+    v_frame_streams::CompareOptions {
         skip_first,
         skip_second: skip_second.unwrap_or(skip_first),
         count,

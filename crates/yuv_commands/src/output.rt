@@ -8,7 +8,7 @@ use crate::target::TargetFile;
 use std::fs::OpenFile;
 use std::io::{self, Write};
 use std::rt::Files;
-use yuv_streams::Place;
+use v_frame_streams::Place;
 
 /// A file, or standard output.
 #[derive(Drop)]

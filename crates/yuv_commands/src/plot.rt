@@ -24,7 +24,7 @@ use v_frame_chart::{Chart, Series, svg};
 use v_frame_measures::{frame_ssim, frames_have_one_size};
 use v_frame_planar::Counted;
 use yuv_reports::PlaneValues;
-use yuv_streams::{
+use v_frame_streams::{
     CompareOptions, FrameObserver, Place, PlaneSums, Progress, Source, StreamError, compare_streams,
 };
 use yuv_words::PlotOptions;

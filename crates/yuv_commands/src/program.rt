@@ -21,7 +21,7 @@ use std::io;
 use std::rt::Files;
 use std::time::Clock;
 use v_frame_planar::Counted;
-use yuv_streams::Place;
+use v_frame_streams::Place;
 use yuv_words::{Command, UsageError, help_topic, read_command, usage_text};
 
 /// What `yuv --version` prints.

@@ -4,7 +4,7 @@ ghost use Rattle.yuv_commands.specs.ProgressLines.{TakesCount};
 
 use std::time::{Clock, Instant};
 use std::{fmt, io};
-use yuv_streams::Progress;
+use v_frame_streams::Progress;
 
 /// How many milliseconds pass at least from one count that is shown to the next.
 const PAUSE: u128 = 100;

@@ -4,7 +4,7 @@ ghost use Rattle.v_frame_png.specs.Prelude.{HasFile};
 ghost use Rattle.yuv_commands.specs.Options.{plane_of, shown_frame};
 ghost use Rattle.yuv_commands.specs.Shows.{colours_asked, drawing_asked, header_shown, ShowsBytes, ShowsFrame, StopsDrawing, TakesFrame};
 ghost use Rattle.yuv_pictures.specs.declared.error.PictureError.{PictureError as TheError};
-ghost use Rattle.yuv_streams.specs.Prelude.{bytes_left, stream_of};
+ghost use Rattle.v_frame_streams.specs.Prelude.{bytes_left, stream_of};
 
 use crate::fault::Fault;
 use crate::input::begin;
@@ -24,7 +24,7 @@ use v_frame_rgb::{ColourRange, Standard};
 use v_frame_semi_planar::SemiPlanarFormat;
 use v_frame_y4m::StreamHeader;
 use yuv_pictures::{Colours, PictureError, write_frame_picture, write_plane_picture};
-use yuv_streams::{
+use v_frame_streams::{
     Container, CopyOptions, Picture, Place, Silent, Sink, Source, StreamError, copy_stream,
 };
 use yuv_words::{PlaneName, ShowOptions};

@@ -6,7 +6,7 @@ ghost use Rattle.v_frame_planar.specs.Planar.{sizes_of};
 ghost use Rattle.yuv_commands.specs.Nothing.{nothing_of};
 ghost use Rattle.yuv_commands.specs.Statistics.{ReportsValues, SaysCounts, SaysPlanes};
 ghost use Rattle.yuv_commands.specs.Values.{histogram_said, rows_of_chroma, CountsChroma, CountsFrame, CountsFrom, CountsNothing, CountsStream};
-ghost use Rattle.yuv_streams.specs.Prelude.{bytes_left, sizes_in, IsMadeFor};
+ghost use Rattle.v_frame_streams.specs.Prelude.{bytes_left, sizes_in, IsMadeFor};
 
 use crate::fault::Fault;
 use crate::input::{begin, expected_frames};
@@ -29,7 +29,7 @@ use v_frame::frame::Frame;
 use v_frame::plane::Plane;
 use v_frame_planar::Counted;
 use yuv_reports::{PlaneName, push_histogram};
-use yuv_streams::{Picture, Place, Progress, Silent, Source, StreamError, skip_frames};
+use v_frame_streams::{Picture, Place, Progress, Silent, Source, StreamError, skip_frames};
 use yuv_words::StatsOptions;
 
 /// Reports what values the samples of each plane have, over all frames.

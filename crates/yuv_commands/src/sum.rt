@@ -8,7 +8,7 @@ ghost use Rattle.v_frame_y4m.specs.Frames.{pixel_bytes};
 ghost use Rattle.yuv_commands.specs.Checksums.{checksums_of, SumsFrames, SumsFrom};
 ghost use Rattle.yuv_commands.specs.Nothing.{nothing_of};
 ghost use Rattle.yuv_reports.specs.Samples.{checksums_line};
-ghost use Rattle.yuv_streams.specs.Prelude.{bytes_left, sizes_in, IsMadeFor};
+ghost use Rattle.v_frame_streams.specs.Prelude.{bytes_left, sizes_in, IsMadeFor};
 
 use crate::fault::Fault;
 use crate::input::{begin, expected_frames};
@@ -28,7 +28,7 @@ use v_frame::pixel::Pixel;
 use v_frame_planar::Counted;
 use v_frame_png::crc32;
 use yuv_reports::{Checksums, push_checksums};
-use yuv_streams::{Picture, Place, Progress, Silent, Source, StreamError, skip_frames};
+use v_frame_streams::{Picture, Place, Progress, Silent, Source, StreamError, skip_frames};
 use yuv_words::SumOptions;
 
 /// Reports a checksum of each frame.

@@ -14,7 +14,7 @@ use Rattle.yuv_words.specs.Canonical.{flag_text, given_by, option_tokens, raw_te
 use Rattle.yuv_words.specs.Canonical.{FitsCommand, FitsRaw, HasPixels}
 use Rattle.yuv_words.specs.Commands.{is_csv, is_json, times, Says, SaysValue}
 use Rattle.yuv_words.specs.Names.{option_text, options_of, takes_value}
-use Rattle.yuv_words.specs.Formats.{short_name, IsFormat, IsNamed}
+use Rattle.v_frame_formats.specs.Formats.{short_name, IsFormat, IsNamed}
 use Rattle.yuv_words.specs.Values.{matrix_text, plane_text, range_text, rectangle_text, IsColourRange, IsGain, IsMatrix}
 use Rattle.yuv_words.specs.Values.{IsNumber, IsPlane, IsRatio, IsRaw, IsRectangle}
 use Rattle.yuv_words.specs.Words.{after_end, before_end, file_in, files_of, is_end, is_same, joined_text, spelled, token_words}

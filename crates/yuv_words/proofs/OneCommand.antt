@@ -17,7 +17,7 @@ use Rattle.v_frame_semi_planar.specs.declared.format.SemiPlanarFormat.TheVariant
 use Rattle.yuv_words.specs.Calls.{topic_words, IsCall, IsWrittenAs}
 use Rattle.yuv_words.specs.Canonical.{IsSame}
 use Rattle.yuv_words.specs.Commands.{is_csv, is_json, times, Says, SaysValue}
-use Rattle.yuv_words.specs.Formats.{ffmpeg_name, short_name, IsFormat, IsNamed}
+use Rattle.v_frame_formats.specs.Formats.{ffmpeg_name, short_name, IsFormat, IsNamed}
 use Rattle.yuv_words.specs.Names.{command_text}
 use Rattle.yuv_words.specs.Values.{matrix_text, plane_text, range_text, IsColourRange, IsGain, IsMatrix, IsNumber}
 use Rattle.yuv_words.specs.Values.{IsPlane, IsRatio, IsRaw, IsRectangle, SpellsFormat}
@@ -40,9 +40,9 @@ use Rattle.yuv_words.specs.declared.command.RawVideo.{RawVideo}
 use Rattle.yuv_words.specs.declared.command.Rectangle.{Rectangle}
 use Rattle.yuv_words.specs.declared.command.ReportForm.{ReportForm}
 use Rattle.yuv_words.specs.declared.command.ReportForm.TheVariants.{Lines, Csv, Json}
-use Rattle.yuv_words.specs.declared.format.VideoFormat.{VideoFormat}
-use Rattle.yuv_words.specs.declared.format.VideoFormat.TheVariants.{Planar, SemiPlanar}
-use Rattle.yuv_words.specs.declared.format.TheConstants.{FORMATS}
+use Rattle.v_frame_formats.specs.declared.format.VideoFormat.{VideoFormat}
+use Rattle.v_frame_formats.specs.declared.format.VideoFormat.TheVariants.{Planar, SemiPlanar}
+use Rattle.v_frame_formats.specs.declared.format.TheConstants.{FORMATS}
 use Rattle.yuv_words.specs.declared.option_name.OptionName.{OptionName}
 use Rattle.yuv_words.specs.declared.option_name.OptionName.TheVariants as option
 use Rattle.yuv_words.proofs.Callings.{help_no_version, no_help_word, no_version_word}

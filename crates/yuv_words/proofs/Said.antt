@@ -8,12 +8,12 @@ use Rattle.v_frame_y4m.specs.declared.colour.Depth.TheVariants as depth
 use Rattle.v_frame_y4m.specs.declared.header.Ratio.{Ratio}
 use Rattle.v_frame_semi_planar.specs.declared.format.SemiPlanarFormat.TheVariants as layout
 use Rattle.yuv_words.specs.Commands.{SaysValue}
-use Rattle.yuv_words.specs.Formats.{ffmpeg_name, short_name, IsFormat}
+use Rattle.v_frame_formats.specs.Formats.{ffmpeg_name, short_name, IsFormat}
 use Rattle.yuv_words.specs.Values.{IsRaw, IsRectangle, SpellsFormat, SpellsRaw, SpellsRectangle}
 use Rattle.yuv_words.specs.declared.command.RawVideo.{RawVideo}
 use Rattle.yuv_words.specs.declared.command.Rectangle.{Rectangle}
-use Rattle.yuv_words.specs.declared.format.VideoFormat.{VideoFormat}
-use Rattle.yuv_words.specs.declared.format.VideoFormat.TheVariants.{Planar, SemiPlanar}
+use Rattle.v_frame_formats.specs.declared.format.VideoFormat.{VideoFormat}
+use Rattle.v_frame_formats.specs.declared.format.VideoFormat.TheVariants.{Planar, SemiPlanar}
 use Rattle.yuv_words.proofs.Cuts.{cut_same, inside, lacks_from, marked, one_rectangle, one_size, plain, Lacks}
 
 nothing : {A : Type 0} (x : A) (xs : List A) → [] ≡ x ∷ xs → ⊥

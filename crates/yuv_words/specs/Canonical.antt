@@ -5,7 +5,7 @@ use Rattle.std.specs.Prelude.{flat_map, option_map, IfSome, Option, Some, None}
 use Rattle.v_frame_y4m.specs.Header.{ratio_text, FitsRatio}
 use Rattle.yuv_words.specs.Calls.{topic_words, version_word}
 use Rattle.yuv_words.specs.Commands.{is_csv, is_json}
-use Rattle.yuv_words.specs.Formats.{short_name, IsNamed}
+use Rattle.v_frame_formats.specs.Formats.{short_name, IsNamed}
 use Rattle.yuv_words.specs.Names.{command_text, options_of, takes_value}
 use Rattle.yuv_words.specs.Values.{colon, letter_x, matrix_text, plane_text, range_text, rate_part, rectangle_text}
 use Rattle.yuv_words.specs.Values.{FitsRectangle}

@@ -1,7 +1,7 @@
 -- What is wrong with words that ask for nothing.
 use Rattle.std.specs.Prelude.{ℕ, ◌≡◌, ◌≢◌, ◌≤◌, ◌<◌, ◌⊎◌, ◌++◌, ⊤, All, Contains, List, [], ◌∷◌, false, true, length}
 use Rattle.yuv_words.specs.Calls.{version_word, IsHelpWord}
-use Rattle.yuv_words.specs.Formats.{IsFormat}
+use Rattle.v_frame_formats.specs.Formats.{IsFormat}
 use Rattle.yuv_words.specs.Names.{command_text, file_count, option_text, options_of, takes_value}
 use Rattle.yuv_words.specs.Values.{IsColourRange, IsGain, IsMatrix, IsNumber, IsPlane, IsRatio, SpellsRaw}
 use Rattle.yuv_words.specs.Values.{SpellsRectangle}

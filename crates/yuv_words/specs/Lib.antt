@@ -2,7 +2,6 @@ pub mod Calls
 pub mod Canonical
 pub mod Commands
 pub mod Faults
-pub mod Formats
 pub mod Names
 pub mod Prelude
 pub mod Reading

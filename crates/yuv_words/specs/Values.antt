@@ -6,12 +6,12 @@ use Rattle.v_frame_rgb.specs.declared.standard.Standard.{Standard}
 use Rattle.v_frame_rgb.specs.declared.standard.Standard.TheVariants.{Bt601, Bt709, Bt2020}
 use Rattle.v_frame_y4m.specs.Header.{ratio_text, FitsRatio}
 use Rattle.v_frame_y4m.specs.declared.header.Ratio.{Ratio}
-use Rattle.yuv_words.specs.Formats.{IsFormat}
+use Rattle.v_frame_formats.specs.Formats.{IsFormat}
 use Rattle.yuv_words.specs.declared.command.PlaneName.{PlaneName}
 use Rattle.yuv_words.specs.declared.command.PlaneName.TheVariants.{Y, U, V}
 use Rattle.yuv_words.specs.declared.command.RawVideo.{RawVideo}
 use Rattle.yuv_words.specs.declared.command.Rectangle.{Rectangle}
-use Rattle.yuv_words.specs.declared.format.VideoFormat.{VideoFormat}
+use Rattle.v_frame_formats.specs.declared.format.VideoFormat.{VideoFormat}
 
 -- what stands between numbers: a comma in a rectangle, an x in a size; a colon before a format, and
 -- an at sign before a rate

@@ -1,10 +1,6 @@
 -- Calls worked out by hand. Each line computes: it is proved by `refl`.
 use Rattle.std.specs.Prelude.{◌≡◌, List, [], ◌∷◌, codes, refl}
-use Rattle.v_frame_y4m.specs.declared.colour.Colour.TheVariants.{Yuv420HighDepth}
-use Rattle.v_frame_y4m.specs.declared.colour.Depth.TheVariants.{Ten}
-use Rattle.yuv_words.specs.Formats.{ffmpeg_name, short_name}
 use Rattle.yuv_words.specs.Words.{after_end, before_end, files_of, spelled, values_of, Apart, File, Flag, Joined, Token}
-use Rattle.yuv_words.specs.declared.format.VideoFormat.TheVariants.{Planar}
 use Rattle.yuv_words.specs.declared.option_name.OptionName.TheVariants as option
 
 -- a.y4m --skip 5 --count=9 b.y4m --half
@@ -38,9 +34,3 @@ front_is = refl
 
 behind_is : after_end (codes "--half" ∷ codes "--" ∷ codes "-x" ∷ codes "--" ∷ []) ≡ codes "-x" ∷ codes "--" ∷ []
 behind_is = refl
-
-short_is : short_name (Planar (Yuv420HighDepth Ten)) ≡ codes "420p10"
-short_is = refl
-
-ffmpeg_is : ffmpeg_name (Planar (Yuv420HighDepth Ten)) ≡ codes "yuv420p10le"
-ffmpeg_is = refl

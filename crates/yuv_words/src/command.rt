@@ -1,6 +1,6 @@
 //! What the program is asked to do.
 
-use crate::format::VideoFormat;
+use v_frame_formats::VideoFormat;
 use v_frame_rgb::{ColourRange, Standard};
 use v_frame_y4m::Ratio;
 

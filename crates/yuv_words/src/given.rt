@@ -3,9 +3,9 @@ ghost use Rattle.std.specs.Prelude.{◌≡◌, ◌↔◌, ◌⊎◌, length, IsT
 
 use crate::command::{PlaneName, RawVideo, Rectangle};
 use crate::error::UsageError;
-use crate::format::VideoFormat;
 use crate::option_name::{OPTION_COUNT, OptionName};
 use crate::values;
+use v_frame_formats::VideoFormat;
 use v_frame_rgb::{ColourRange, Standard};
 use v_frame_y4m::Ratio;
 
@@ -23,13 +23,13 @@ impl<'a> Given<'a> {
     ghost use Rattle.v_frame_y4m.specs.declared.header.Ratio.{Ratio as TheRatio};
     ghost use Rattle.yuv_words.specs.Commands.{times, SaysValue};
     ghost use Rattle.yuv_words.specs.Faults.{HasNoPixels, HasValueFault, IsNoValue, SpellsNone};
-    ghost use Rattle.yuv_words.specs.Formats.{IsFormat};
+    ghost use Rattle.v_frame_formats.specs.Formats.{IsFormat};
     ghost use Rattle.yuv_words.specs.Reading.{given_to, text_in};
     ghost use Rattle.yuv_words.specs.Values.{IsColourRange, IsGain, IsMatrix, IsNumber, IsPlane, IsRatio, IsRaw, IsRectangle, SpellsRaw, SpellsRectangle};
     ghost use Rattle.yuv_words.specs.declared.command.PlaneName.{PlaneName as ThePlane};
     ghost use Rattle.yuv_words.specs.declared.command.RawVideo.{RawVideo as TheRaw};
     ghost use Rattle.yuv_words.specs.declared.command.Rectangle.{Rectangle as TheRectangle};
-    ghost use Rattle.yuv_words.specs.declared.format.VideoFormat.{VideoFormat as TheFormat};
+    ghost use Rattle.v_frame_formats.specs.declared.format.VideoFormat.{VideoFormat as TheFormat};
     ghost use Rattle.yuv_words.specs.declared.option_name.OptionName.{OptionName as TheOption};
 
     /// Returns what is given by no words.

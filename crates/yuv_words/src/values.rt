@@ -8,10 +8,10 @@ ghost use Rattle.yuv_words.specs.Values.{matrix_text, plane_text, range_text, Is
 ghost use Rattle.yuv_words.specs.declared.command.PlaneName.{PlaneName as ThePlane};
 ghost use Rattle.yuv_words.specs.declared.command.RawVideo.{RawVideo as TheRaw};
 ghost use Rattle.yuv_words.specs.declared.command.Rectangle.{Rectangle as TheRectangle};
-ghost use Rattle.yuv_words.specs.declared.format.VideoFormat.{VideoFormat as TheFormat};
+ghost use Rattle.v_frame_formats.specs.declared.format.VideoFormat.{VideoFormat as TheFormat};
 
 use crate::command::{PlaneName, RawVideo, Rectangle};
-use crate::format::VideoFormat;
+use v_frame_formats::VideoFormat;
 use v_frame_rgb::{ColourRange, Standard};
 use v_frame_y4m::Ratio;
 

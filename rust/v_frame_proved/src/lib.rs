@@ -42,6 +42,8 @@ mod generated {
     pub mod v_frame_chart;
     pub mod v_frame_convert;
     #[cfg(feature = "std")]
+    pub mod v_frame_formats;
+    #[cfg(feature = "std")]
     pub mod v_frame_measures;
     pub mod v_frame_ops;
     #[cfg(feature = "std")]
@@ -55,6 +57,8 @@ mod generated {
     #[cfg(feature = "std")]
     pub mod v_frame_semi_planar;
     pub mod v_frame_statistics;
+    #[cfg(feature = "std")]
+    pub mod v_frame_streams;
     pub mod v_frame_turn;
     #[cfg(feature = "std")]
     pub mod v_frame_y4m;
@@ -67,8 +71,9 @@ pub use generated::{
 };
 #[cfg(feature = "std")]
 pub use generated::{
-    v_frame_chart as chart, v_frame_measures as measures, v_frame_planar as planar,
-    v_frame_png as png, v_frame_semi_planar as semi_planar,
+    v_frame_chart as chart, v_frame_formats as formats, v_frame_measures as measures,
+    v_frame_planar as planar, v_frame_png as png, v_frame_semi_planar as semi_planar,
+    v_frame_streams as streams,
 };
 pub use support::AllocError;
 

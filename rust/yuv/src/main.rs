@@ -30,7 +30,6 @@ mod generated {
     pub mod yuv_commands;
     pub mod yuv_pictures;
     pub mod yuv_reports;
-    pub mod yuv_streams;
     pub mod yuv_words;
 }
 

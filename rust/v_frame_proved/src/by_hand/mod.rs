@@ -4,6 +4,8 @@
 //! measures pixels.
 
 pub mod crop;
+#[cfg(feature = "std")]
+mod errors;
 mod frames;
 #[cfg(feature = "std")]
 pub mod quality;

@@ -5,6 +5,7 @@ use v_frame_proved::frame::{Frame, FrameBuilder};
 use v_frame_proved::plane::{Plane, PlaneGeometry, RowsRef};
 use v_frame_proved::rgb::{ColourRange, ExactMatrix, RgbMatrix, Standard, YuvMatrix};
 use v_frame_proved::sequence::Sequence;
+use v_frame_proved::streams::{Place, Source};
 use v_frame_proved::y4m::{StreamHeader, parse_header};
 
 /// A size that a picture of something has not.
@@ -75,4 +76,9 @@ pub fn header_of_no_columns() -> StreamHeader {
 pub fn header_with_a_space() -> StreamHeader {
     let extension = Sequence::from(b"an extension".to_vec());
     StreamHeader { extensions: vec![extension].into(), ..parse_header(b"YUV4MPEG2 W4 H3").expect("a header") }
+}
+
+/// Returns a stream of a header.
+pub fn stream(header: &[u8]) -> Source<&[u8]> {
+    Source::y4m(Place::First, header).expect("a header")
 }

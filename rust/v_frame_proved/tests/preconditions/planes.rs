@@ -2,10 +2,10 @@
 
 use crate::case::{Case, case};
 use crate::pictures::{geometry, header_of_no_columns, header_with_a_space, plane, plane_without_values, rows};
-use crate::pictures::{rows_of_words, too_large, words};
+use crate::pictures::{rows_of_words, stream, too_large, words};
 use std::ops::{Index, IndexMut};
 use v_frame_proved::planar::Counted;
-use v_frame_proved::{pixel, plane, png, y4m};
+use v_frame_proved::{pixel, plane, png, streams, y4m};
 
 pub const CASES: &[Case] = &[
     case!(plane::Plane::visible_row, "y (3) is not below the height (3)", &plane(4, 3), 3),
@@ -153,4 +153,13 @@ pub const CASES: &[Case] = &[
         &mut Counted::new(Vec::new()), &header_of_no_columns()
     ),
     case!(y4m::write_header, "a header of 4x3 has no line", &mut Counted::new(Vec::new()), &header_with_a_space()),
+    case!(
+        streams::Sink::write_header, "a header of 0x3 has no line: a size is 0",
+        &mut streams::Sink::new(streams::Container::Y4m, Vec::new()), &header_of_no_columns()
+    ),
+    case!(
+        streams::Picture::<u8>::read, "a picture of 6 bytes cannot take frames of 12 bytes",
+        &mut streams::Picture::new(&stream(b"YUV4MPEG2 W3 H2 F25:1 Cmono\n"), 6).expect("memory"),
+        &mut stream(b"YUV4MPEG2 W4 H3 F25:1 Cmono\n")
+    ),
 ];

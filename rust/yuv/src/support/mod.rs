@@ -8,9 +8,8 @@ pub mod path;
 pub mod time;
 
 use std::fs::File;
-use std::io::{self, BufReader, Read};
+use std::io;
 use std::os::fd::AsFd;
-use v_frame_proved::support::AllocError;
 
 /// The handle of a program that runs under a system.
 ///
@@ -54,21 +53,4 @@ impl HostRuntime {
 /// Returns the file that a stream is.
 fn file_of(stream: impl AsFd) -> io::Result<File> {
     Ok(File::from(stream.as_fd().try_clone_to_owned()?))
-}
-
-/// Readers with a buffer in front of them.
-pub trait TryBuffered<R>: Sized {
-    /// Puts a buffer of 8192 bytes in front of a reader.
-    fn try_new(reader: R) -> Result<Self, AllocError>;
-}
-
-impl<R: Read> TryBuffered<R> for BufReader<R> {
-    fn try_new(reader: R) -> Result<Self, AllocError> {
-        const CAPACITY: usize = 8192;
-        // Rust's own stops the program where it gets no memory, so it is asked for before.
-        let mut room: Vec<u8> = Vec::new();
-        room.try_reserve_exact(CAPACITY).map_err(|_| AllocError)?;
-        drop(room);
-        Ok(BufReader::with_capacity(CAPACITY, reader))
-    }
 }

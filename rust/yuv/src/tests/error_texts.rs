@@ -3,12 +3,12 @@
 
 use crate::generated::yuv_commands::{Fault, NothingTaken};
 use crate::generated::yuv_pictures::PictureError;
-use crate::generated::yuv_streams::{Place, Problem, StreamError};
 use crate::generated::yuv_words::{CommandName, OptionName, UsageError};
 use std::fmt::Display;
 use std::io::{self, ErrorKind};
 use v_frame_proved::planar::PlanarError;
 use v_frame_proved::png::PngError;
+use v_frame_proved::streams::{Place, Problem, StreamError};
 use v_frame_proved::y4m::{HeaderError, Y4mError};
 
 const TABLE: &str = include_str!("../../../v_frame_proved/tests/data/error_texts.txt");
@@ -33,7 +33,7 @@ fn forbidden() -> StreamError {
 #[test]
 fn problems_of_streams() {
     compare(
-        "yuv_streams Problem",
+        "v_frame_streams Problem",
         &[
             ("Stream", Problem::Stream(Y4mError::NoFrame)),
             ("TooLarge", Problem::TooLarge),
@@ -51,8 +51,8 @@ fn problems_of_streams() {
         ],
     );
     let first = StreamError { place: Place::Output, frames: 0, problem: Problem::EmptyCrop, cause: None };
-    let shown = [forbidden(), first].map(|error| format!("yuv_streams StreamError | {error}"));
-    let rows = TABLE.lines().filter(|row| row.starts_with("yuv_streams StreamError "));
+    let shown = [forbidden(), first].map(|error| format!("v_frame_streams StreamError | {error}"));
+    let rows = TABLE.lines().filter(|row| row.starts_with("v_frame_streams StreamError "));
     assert_eq!(rows.collect::<Vec<_>>(), shown);
 }
 
@@ -93,6 +93,7 @@ fn faults_of_commands() {
             ("NoPlanes", Fault::NoPlanes(Place::First)),
             ("Header", Fault::Header(missing())),
             ("Stream", Fault::Stream(forbidden())),
+            ("Stream", Fault::Stream(after_two(Problem::TooManyPixels(33_177_600), None))),
             ("Report", Fault::Report(unwritten)),
             ("Create", Fault::Create(ErrorKind::PermissionDenied)),
             ("Replace", Fault::Replace(ErrorKind::PermissionDenied)),

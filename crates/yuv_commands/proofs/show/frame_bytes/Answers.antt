@@ -1,9 +1,9 @@
 -- What a copy of one frame writes.
 use Rattle.std.proofs.Common.{◌∙◌, Some, ap, subst, sym}
 use Rattle.yuv_commands.proofs.Showing.{frame_taken}
-use Rattle.yuv_streams.specs.Prelude.{bytes_left, Copies}
-use Rattle.yuv_streams.specs.declared.options.CopyOptions.{CopyOptions}
-use Rattle.yuv_streams.specs.declared.stream.Container.{Container}
+use Rattle.v_frame_streams.specs.Prelude.{bytes_left, Copies}
+use Rattle.v_frame_streams.specs.declared.options.CopyOptions.{CopyOptions}
+use Rattle.v_frame_streams.specs.declared.stream.Container.{Container}
 use Rattle.yuv_commands.proofs.show.frame_bytes.Goals as goal
 
 pub returns-clause-taken : goal.returns-clause-taken

@@ -5,8 +5,8 @@ use Rattle.v_frame_planar.specs.Planar.{sizes_of}
 use Rattle.v_frame_y4m.specs.Frames.{frame_byte_count}
 use Rattle.v_frame_y4m.specs.declared.header.StreamHeader.{StreamHeader}
 use Rattle.yuv_commands.proofs.Showing.{first_shown}
-use Rattle.yuv_streams.specs.Conversions.{format_in}
-use Rattle.yuv_streams.specs.Prelude.{bytes_left, sizes_in, ReadsTables}
+use Rattle.v_frame_streams.specs.Conversions.{format_in}
+use Rattle.v_frame_streams.specs.Prelude.{bytes_left, sizes_in, ReadsTables}
 use Rattle.yuv_commands.proofs.show.read_picture.Goals as goal
 
 pub returns : goal.returns

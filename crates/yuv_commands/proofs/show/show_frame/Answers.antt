@@ -5,7 +5,7 @@ use Rattle.v_frame_png.specs.Prelude.{HasFile}
 use Rattle.v_frame_y4m.specs.declared.header.StreamHeader.{StreamHeader}
 use Rattle.yuv_commands.specs.Shows.{drawing_asked, header_shown, ShowsBytes, ShowsFrame}
 use Rattle.yuv_commands.proofs.Showing.{as_shown, if_ok_also}
-use Rattle.yuv_streams.specs.Prelude.{bytes_left, Stream}
+use Rattle.v_frame_streams.specs.Prelude.{bytes_left, Stream}
 use Rattle.yuv_commands.proofs.show.show_frame.Goals as goal
 
 pub returns : goal.returns

@@ -4,8 +4,8 @@ use Rattle.v_frame.specs.Prelude.{tables_of, Tables}
 use Rattle.v_frame_planar.specs.Planar.{sizes_of}
 use Rattle.yuv_commands.proofs.Counting.{counted_to_end, done_of, none_counted, one_more_counted}
 use Rattle.yuv_commands.specs.Values.{CountsFrame}
-use Rattle.yuv_streams.specs.Pictures.{ReadsTables, Sizes}
-use Rattle.yuv_streams.specs.Sources.{bytes_left, Stream}
+use Rattle.v_frame_streams.specs.Pictures.{ReadsTables, Sizes}
+use Rattle.v_frame_streams.specs.Sources.{bytes_left, Stream}
 use Rattle.yuv_commands.proofs.stats.count_frames.Goals as goal
 
 pub loop-count-init : goal.loop-count-init

@@ -2,9 +2,9 @@
 use Rattle.std.proofs.Common.{ℕ, ◌≡◌, ◌^◌, rules, subst}
 use Rattle.std.specs.Prelude.{unwrap_or}
 use Rattle.yuv_commands.specs.Values.{CountsStream}
-use Rattle.yuv_streams.specs.Pictures.{sizes_in, Sizes}
-use Rattle.yuv_streams.specs.Prelude.{most_frames, CountsFrames}
-use Rattle.yuv_streams.specs.Sources.{bytes_left, Stream}
+use Rattle.v_frame_streams.specs.Pictures.{sizes_in, Sizes}
+use Rattle.v_frame_streams.specs.Prelude.{most_frames, CountsFrames}
+use Rattle.v_frame_streams.specs.Sources.{bytes_left, Stream}
 use Rattle.yuv_commands.proofs.stats.count_values.Goals as goal
 
 pub returns : goal.returns

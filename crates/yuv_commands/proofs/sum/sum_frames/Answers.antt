@@ -6,8 +6,8 @@ use Rattle.v_frame_planar.specs.Planar.{sizes_of}
 use Rattle.yuv_commands.proofs.Summing.{none_summed, one_more_summed, summed_to_end}
 use Rattle.yuv_commands.specs.Checksums.{checksums_of}
 use Rattle.yuv_reports.specs.Samples.{checksums_line}
-use Rattle.yuv_streams.specs.Pictures.{ReadsTables, Sizes}
-use Rattle.yuv_streams.specs.Sources.{bytes_left, Stream}
+use Rattle.v_frame_streams.specs.Pictures.{ReadsTables, Sizes}
+use Rattle.v_frame_streams.specs.Sources.{bytes_left, Stream}
 use Rattle.yuv_commands.proofs.sum.sum_frames.Goals as goal
 
 pub loop-count-init : goal.loop-count-init

@@ -3,8 +3,8 @@ use Rattle.std.proofs.Common.{◌≡◌}
 use Rattle.v_frame.specs.Prelude.{tables_of}
 use Rattle.v_frame_planar.specs.Planar.{sizes_of}
 use Rattle.yuv_commands.proofs.Summing.{SumsSoFar}
-use Rattle.yuv_streams.specs.Pictures.{IsMadeFor}
-use Rattle.yuv_streams.specs.Sources.{bytes_left, stream_of}
+use Rattle.v_frame_streams.specs.Pictures.{IsMadeFor}
+use Rattle.v_frame_streams.specs.Sources.{bytes_left, stream_of}
 use Rattle.yuv_commands.proofs.sum.sum_frames.Given as goal
 
 abbrev pub invariant-loop-count : goal.invariant-loop-count

@@ -18,7 +18,7 @@ use v_frame_proved::chroma::ChromaSubsampling;
 use v_frame_proved::planar::ratios_or_one;
 use v_frame_proved::y4m::StreamHeader;
 use crate::generated::yuv_reports::Report;
-use crate::generated::yuv_streams::{
+use v_frame_proved::streams::{
     Comparison, FrameObserver, Place, PlaneSums, Progress, Source, StreamError, compare_streams,
 };
 use crate::generated::yuv_words::{CompareOptions, ReportForm};

@@ -15,7 +15,7 @@ use std::io;
 use crate::support::fs::Files;
 use crate::support::time::Clock;
 use v_frame_proved::y4m::{Interlacing, StreamHeader};
-use crate::generated::yuv_streams::{Place, Progress, Sink, Source, StreamError, copy_stream};
+use v_frame_proved::streams::{Place, Progress, Sink, Source, StreamError, copy_stream};
 use crate::generated::yuv_words::CopyOptions;
 
 /// Writes a stream once more.

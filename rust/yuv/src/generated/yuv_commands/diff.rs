@@ -20,7 +20,7 @@ use v_frame_proved::pixel::Pixel;
 use v_frame_proved::measures::{GreatestDifference, frames_have_one_size};
 use v_frame_proved::planar::Counted;
 use crate::generated::yuv_pictures::{Found, PictureError, PlaneDifference, differences, write_difference_picture};
-use crate::generated::yuv_streams::{
+use v_frame_proved::streams::{
     CompareOptions, FrameObserver, Place, PlaneSums, Silent, Source, StreamError, compare_streams,
 };
 use crate::generated::yuv_words::DiffOptions;

@@ -7,7 +7,7 @@ use std::io;
 use v_frame_proved::png::PngError;
 use v_frame_proved::y4m::{HeaderError, Y4mError};
 use crate::generated::yuv_pictures::PictureError;
-use crate::generated::yuv_streams::{Place, Problem, StreamError};
+use v_frame_proved::streams::{Place, Problem, StreamError};
 
 /// Why a command gave up.
 pub enum Fault {
@@ -129,6 +129,9 @@ fn is_of_a_frame(error: &StreamError) -> bool {
 /// Writes what happened, and what the system reported.
 fn write_caused(f: &mut fmt::Formatter<'_>, error: &StreamError) -> fmt::Result {
     fmt::Display::fmt(&error.problem, f)?;
+    if let Problem::TooManyPixels(_) = &error.problem {
+        f.write_str("; --max-pixels N allows more")?;
+    }
     match &error.cause {
         Some(cause) => write!(f, ": {cause}"),
         None => Ok(()),

@@ -16,7 +16,7 @@ use crate::support::fs::Files;
 use crate::support::time::Clock;
 use text::{format_text, frames_text};
 use v_frame_proved::planar::Counted;
-use crate::generated::yuv_streams::{Place, Source, StreamError, skip_frames};
+use v_frame_proved::streams::{Place, Source, StreamError, skip_frames};
 use crate::generated::yuv_words::InfoOptions;
 
 /// Reports what a stream is. Where a frame can't be read, what is known so far is reported before the fault.

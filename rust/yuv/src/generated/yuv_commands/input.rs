@@ -8,10 +8,11 @@ use crate::generated::yuv_commands::system::System;
 use std::io;
 use std::io::Read;
 use crate::support::time::Clock;
+use v_frame_proved::formats::VideoFormat;
 use v_frame_proved::semi_planar::SemiPlanarFormat;
 use v_frame_proved::y4m::{StreamHeader, header_line};
-use crate::generated::yuv_streams::{Container, Problem, Source, StreamError};
-use crate::generated::yuv_words::{RawVideo, VideoFormat};
+use v_frame_proved::streams::{Container, Problem, Source, StreamError};
+use crate::generated::yuv_words::RawVideo;
 
 /// Reads the header of a file that is open, or takes that of headerless raw video. Where the header line is not strict, a
 /// message says what it is read as.

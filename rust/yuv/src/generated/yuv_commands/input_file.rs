@@ -10,7 +10,7 @@ use std::io::Read;
 use crate::support::fs::Files;
 use v_frame_proved::planar::{Counted, read_until_full};
 use v_frame_proved::y4m::Y4mError;
-use crate::generated::yuv_streams::{Place, Problem, StreamError};
+use v_frame_proved::streams::{Place, Problem, StreamError};
 
 /// How a stream of YUV4MPEG2 begins.
 const MAGIC: &[u8] = b"YUV4MPEG2";

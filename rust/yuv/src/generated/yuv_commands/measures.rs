@@ -4,7 +4,7 @@
 use v_frame_proved::support::numbers::nearest_u64_to_f64;
 use v_frame_proved::measures::{FrameMeasure, Mean, psnr};
 use crate::generated::yuv_reports::{FrameMeasures, PlaneValues};
-use crate::generated::yuv_streams::PlaneSums;
+use v_frame_proved::streams::PlaneSums;
 
 /// What measures are made of besides the errors.
 #[derive(Clone, Copy)]

@@ -2,7 +2,7 @@
 //! What the program `yuv` does, over any reader and any writer: each command from the words that it is called with to the
 //! bytes that it writes.
 //!
-//! `yuv_words` reads the words, `yuv_streams` moves and compares frames, `yuv_reports` and `yuv_pictures` say and show what was
+//! `yuv_words` reads the words, `streams` moves and compares frames, `yuv_reports` and `yuv_pictures` say and show what was
 //! found. Here stand the files, the messages, and what each option asks of the layers below.
 
 mod compare;

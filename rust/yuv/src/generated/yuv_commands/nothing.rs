@@ -4,7 +4,7 @@
 use crate::generated::yuv_commands::fault::Fault;
 use core::fmt;
 use std::io;
-use crate::generated::yuv_streams::{CompareOptions, Comparison, Place, Source};
+use v_frame_proved::streams::{CompareOptions, Comparison, Place, Source};
 
 /// What a stream has, and what was asked of it, where none of its frames was taken.
 #[derive(Debug, Clone, Copy, PartialEq, Eq)]

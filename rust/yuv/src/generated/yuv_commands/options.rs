@@ -4,7 +4,7 @@
 use crate::generated::yuv_commands::fault::Fault;
 use std::io::Write;
 use v_frame_proved::y4m::StreamHeader;
-use crate::generated::yuv_streams::{Container, MAX_PIXELS, Place, Problem, Sink, StreamError};
+use v_frame_proved::streams::{Container, MAX_PIXELS, Place, Problem, Sink, StreamError};
 
 /// Returns the most pixels of luma that a picture may have.
 pub(crate) fn most_pixels(asked: Option<u64>) -> usize {
@@ -15,8 +15,8 @@ pub(crate) fn most_pixels(asked: Option<u64>) -> usize {
 }
 
 /// Returns what a copy takes of a stream, and what it makes of its frames.
-pub(crate) fn stream_copy(options: &crate::generated::yuv_words::CopyOptions) -> crate::generated::yuv_streams::CopyOptions {
-    crate::generated::yuv_streams::CopyOptions {
+pub(crate) fn stream_copy(options: &crate::generated::yuv_words::CopyOptions) -> v_frame_proved::streams::CopyOptions {
+    v_frame_proved::streams::CopyOptions {
         skip: options.skip.unwrap_or(0),
         count: options.count,
         crop: options.crop.map(stream_rectangle),
@@ -29,8 +29,8 @@ pub(crate) fn stream_copy(options: &crate::generated::yuv_words::CopyOptions) ->
 }
 
 /// Returns the rectangle of the streams.
-pub(crate) fn stream_rectangle(part: crate::generated::yuv_words::Rectangle) -> crate::generated::yuv_streams::Rectangle {
-    crate::generated::yuv_streams::Rectangle {
+pub(crate) fn stream_rectangle(part: crate::generated::yuv_words::Rectangle) -> v_frame_proved::streams::Rectangle {
+    v_frame_proved::streams::Rectangle {
         x: part.x,
         y: part.y,
         width: part.width,
@@ -49,7 +49,7 @@ pub(crate) fn copy_sink<W: Write>(options: &crate::generated::yuv_words::CopyOpt
 }
 
 /// Returns what a comparison takes of two streams.
-pub(crate) fn stream_comparison(options: &crate::generated::yuv_words::CompareOptions) -> crate::generated::yuv_streams::CompareOptions {
+pub(crate) fn stream_comparison(options: &crate::generated::yuv_words::CompareOptions) -> v_frame_proved::streams::CompareOptions {
     taken_of_both(
         options.skip,
         options.skip_second,
@@ -64,9 +64,9 @@ pub(crate) fn taken_of_both(
     skip_second: Option<u64>,
     count: Option<u64>,
     max_pixels: Option<u64>,
-) -> crate::generated::yuv_streams::CompareOptions {
+) -> v_frame_proved::streams::CompareOptions {
     let skip_first = skip.unwrap_or(0);
-    crate::generated::yuv_streams::CompareOptions {
+    v_frame_proved::streams::CompareOptions {
         skip_first,
         skip_second: skip_second.unwrap_or(skip_first),
         count,

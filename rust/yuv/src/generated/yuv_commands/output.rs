@@ -10,7 +10,7 @@ use crate::support::fs::OpenFile;
 use std::io;
 use std::io::Write;
 use crate::support::fs::Files;
-use crate::generated::yuv_streams::Place;
+use v_frame_proved::streams::Place;
 
 /// A file, or standard output.
 pub(crate) enum Output<'a, F, O> {

@@ -25,7 +25,7 @@ use v_frame_proved::chart::{Chart, Series, svg};
 use v_frame_proved::measures::{frame_ssim, frames_have_one_size};
 use v_frame_proved::planar::Counted;
 use crate::generated::yuv_reports::PlaneValues;
-use crate::generated::yuv_streams::{
+use v_frame_proved::streams::{
     CompareOptions, FrameObserver, Place, PlaneSums, Progress, Source, StreamError, compare_streams,
 };
 use crate::generated::yuv_words::PlotOptions;

@@ -19,7 +19,7 @@ use std::io;
 use crate::support::fs::Files;
 use crate::support::time::Clock;
 use v_frame_proved::planar::Counted;
-use crate::generated::yuv_streams::Place;
+use v_frame_proved::streams::Place;
 use crate::generated::yuv_words::{Command, UsageError, help_topic, read_command, usage_text};
 
 /// What `yuv --version` prints.

@@ -5,7 +5,7 @@ use v_frame_proved::support::memory::TryString;
 use crate::support::time::{Clock, Instant};
 use core::fmt;
 use std::io;
-use crate::generated::yuv_streams::Progress;
+use v_frame_proved::streams::Progress;
 
 /// How many milliseconds pass at least from one count that is shown to the next.
 const PAUSE: u128 = 100;

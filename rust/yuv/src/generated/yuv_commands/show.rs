@@ -18,7 +18,7 @@ use v_frame_proved::rgb::{ColourRange, Standard};
 use v_frame_proved::semi_planar::SemiPlanarFormat;
 use v_frame_proved::y4m::StreamHeader;
 use crate::generated::yuv_pictures::{Colours, PictureError, write_frame_picture, write_plane_picture};
-use crate::generated::yuv_streams::{
+use v_frame_proved::streams::{
     Container, CopyOptions, Picture, Place, Silent, Sink, Source, StreamError, copy_stream,
 };
 use crate::generated::yuv_words::{PlaneName, ShowOptions};

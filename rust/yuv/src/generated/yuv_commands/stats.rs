@@ -23,7 +23,7 @@ use v_frame_proved::frame::Frame;
 use v_frame_proved::plane::Plane;
 use v_frame_proved::planar::Counted;
 use crate::generated::yuv_reports::{PlaneName, push_histogram};
-use crate::generated::yuv_streams::{Picture, Place, Progress, Silent, Source, StreamError, skip_frames};
+use v_frame_proved::streams::{Picture, Place, Progress, Silent, Source, StreamError, skip_frames};
 use crate::generated::yuv_words::StatsOptions;
 
 /// Reports what values the samples of each plane have, over all frames.

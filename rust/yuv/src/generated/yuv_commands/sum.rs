@@ -18,7 +18,7 @@ use v_frame_proved::pixel::Pixel;
 use v_frame_proved::planar::Counted;
 use v_frame_proved::png::crc32;
 use crate::generated::yuv_reports::{Checksums, push_checksums};
-use crate::generated::yuv_streams::{Picture, Place, Progress, Silent, Source, StreamError, skip_frames};
+use v_frame_proved::streams::{Picture, Place, Progress, Silent, Source, StreamError, skip_frames};
 use crate::generated::yuv_words::SumOptions;
 
 /// Reports a checksum of each frame.

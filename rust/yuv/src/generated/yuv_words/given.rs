@@ -3,9 +3,9 @@
 
 use crate::generated::yuv_words::command::{PlaneName, RawVideo, Rectangle};
 use crate::generated::yuv_words::error::UsageError;
-use crate::generated::yuv_words::format::VideoFormat;
 use crate::generated::yuv_words::option_name::{OPTION_COUNT, OptionName};
 use crate::generated::yuv_words::values;
+use v_frame_proved::formats::VideoFormat;
 use v_frame_proved::rgb::{ColourRange, Standard};
 use v_frame_proved::y4m::Ratio;
 

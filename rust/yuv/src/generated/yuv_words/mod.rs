@@ -5,7 +5,6 @@ mod call;
 mod command;
 mod error;
 mod files;
-mod format;
 mod given;
 mod option_name;
 mod options;
@@ -20,6 +19,5 @@ pub use command::{
     PlotOptions, RawVideo, Rectangle, ReportForm, ShowOptions, StatsOptions, SumOptions,
 };
 pub use error::UsageError;
-pub use format::VideoFormat;
 pub use option_name::OptionName;
 pub use usage::usage_text;

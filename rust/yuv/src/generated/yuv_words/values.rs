@@ -2,7 +2,7 @@
 //! The values of options, each from its text.
 
 use crate::generated::yuv_words::command::{PlaneName, RawVideo, Rectangle};
-use crate::generated::yuv_words::format::VideoFormat;
+use v_frame_proved::formats::VideoFormat;
 use v_frame_proved::rgb::{ColourRange, Standard};
 use v_frame_proved::y4m::Ratio;
 

@@ -8,7 +8,7 @@ use Rattle.yuv_commands.specs.Reports.{frame_number, sums_asked}
 use Rattle.yuv_commands.specs.declared.measures.Scale.{Scale}
 use Rattle.yuv_commands.proofs.Reporting.{frame_known, on_ok_also, still_known}
 use Rattle.yuv_reports.specs.Frames.{EndsWithFrame}
-use Rattle.yuv_streams.specs.Prelude.{most_frames}
+use Rattle.v_frame_streams.specs.Prelude.{most_frames}
 use Rattle.yuv_reports.specs.declared.comparison.Report.{Report}
 use Rattle.yuv_reports.specs.declared.planes.PlaneSums.{PlaneSums as ReportedSums}
 use Rattle.yuv_commands.proofs.frame_report.FrameReportFrameObserver.take.Goals as goal

@@ -1,0 +1,30 @@
+-- One more frame was carried.
+use Rattle.std.proofs.Common.{◌∙◌, Bool, true, arith, subst}
+use Rattle.v_frame_streams.specs.Copies.{MovesNext}
+use Rattle.v_frame_streams.specs.Sources.{bytes_left, Stream}
+use Rattle.v_frame_streams.specs.declared.stream.Container.{Container}
+use Rattle.v_frame_streams.proofs.Reading.{one_more_carried}
+use Rattle.v_frame_streams.proofs.MoreTold.{one_more_told}
+use Rattle.v_frame_streams.proofs.moving.move_frames.Goals as goal
+
+pub loop-count-preserved : goal.loop-count-preserved
+loop-count-preserved g c =
+    let before = c.loop-count.invariant in
+    let done = c.in_ok-move_frame.ensures in
+    let mid = bytes_left g.R.Read.remaining c.loop-count.source in
+    let left = bytes_left g.R.Read.remaining c.move_frame.new.source in
+    let now = g.W.Write.contents c.loop-count.sink.writer.inner in
+    let has = g.W.Write.contents c.move_frame.new.sink.writer.inner in
+    let one = subst (λ (more : Bool). MovesNext c.loop-count.source.container c.loop-count.source.frame_len mid left
+    now has c.loop-count.sink.container more) c.if-not-branch.false done.moved in
+    let from = subst (λ (s : Stream). MovesNext s.container s.frame_len mid left now has c.loop-count.sink.container
+    true) before.same one in
+    let next = subst (λ (k : Container). MovesNext c.args.source.now.container c.args.source.now.frame_len mid left now
+    has k true) before.to from in
+    record {
+      carried = one_more_carried _ _ _ _ _ mid left _ now has _ before.carried next.0 next.1 next.2 next.3;
+      same = done.same ∙ before.same;
+      to = done.container ∙ before.to;
+      some = omega (arith, done.size, before.some);
+      told = one_more_told g.P.Progress.shows _ _ _ _ before.told c.show_one_more.ensures;
+    }

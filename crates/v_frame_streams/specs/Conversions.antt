@@ -1,0 +1,130 @@
+-- Frames in another chroma format and bit depth.
+use Rattle.std.specs.Prelude.{ℕ, ◌≡◌, ◌-◌, ◌^◌, ◌==◌, ◌&&◌, ⊤, if◌then◌else◌, Bool, true, false, Option, Some, None}
+use Rattle.std.specs.Prelude.{option_map}
+use Rattle.std.specs.Prelude.{replicate}
+use Rattle.std.specs.Str.{bytes_eq}
+use Rattle.std.specs.Int.NonZero.{non_zero_u8_get}
+use Rattle.v_frame.specs.Prelude.{one_byte, two_bytes, Frame, PixelForm, Raster, Table, Tables}
+use Rattle.v_frame.specs.Prelude.{ChromaSubsampling, Yuv420 as Half, Yuv422 as Wide, Yuv411 as Quarter}
+use Rattle.v_frame.specs.Prelude.{Yuv444 as Full, Monochrome}
+use Rattle.v_frame_convert.specs.Prelude.{converted, pixel_at_depth, pixel_of_depth, scaled}
+use Rattle.v_frame_convert.specs.Prelude.{scales_between, DepthFits, SizesFit}
+use Rattle.v_frame_convert.specs.declared.scale.Scale.{Scale}
+use Rattle.v_frame_y4m.specs.Colour.{colour_text, depth_of, subsampling_of}
+use Rattle.v_frame_planar.specs.Video.{chroma_sizes_of}
+use Rattle.v_frame_semi_planar.specs.Format.{sample_size_of, depth_of as layout_depth}
+use Rattle.v_frame_semi_planar.specs.Format.{subsampling_of as layout_chroma}
+use Rattle.v_frame_semi_planar.specs.declared.format.SemiPlanarFormat.{SemiPlanarFormat}
+use Rattle.v_frame_y4m.specs.declared.colour.Colour.{Colour}
+use Rattle.v_frame_streams.specs.Pictures.{Sizes}
+use Rattle.v_frame_streams.specs.declared.stream.Container.{Container}
+use Rattle.v_frame_streams.specs.declared.stream.Container.TheVariants.{Y4m, Raw}
+use Rattle.v_frame_formats.specs.Formats.{colour_of_layout}
+use Rattle.v_frame_formats.specs.declared.format.VideoFormat.{VideoFormat}
+use Rattle.v_frame_formats.specs.declared.format.VideoFormat.TheVariants.{Planar, SemiPlanar}
+
+-- a chroma subsampling and a bit depth
+abbrev pub Format : Type 0
+Format = ChromaSubsampling × ℕ
+
+-- those of a colour
+abbrev pub format_in : Colour → Format
+format_in colour = (subsampling_of colour, depth_of colour)
+
+-- those of a frame
+abbrev pub format_of : {T : Type 0} → Frame T → Format
+format_of frame = (frame.subsampling, non_zero_u8_get frame.bit_depth)
+
+-- how pixels of a bit depth are made of bytes
+abbrev pub form_of : ℕ → PixelForm ℕ
+form_of depth = if depth == 8 then one_byte else two_bytes
+
+abbrev pub is_same_chroma : ChromaSubsampling → ChromaSubsampling → Bool
+is_same_chroma Half Half = true
+is_same_chroma Wide Wide = true
+is_same_chroma Quarter Quarter = true
+is_same_chroma Full Full = true
+is_same_chroma Monochrome Monochrome = true
+is_same_chroma _ _ = false
+
+-- whether frames of one format are frames of the other as they are
+abbrev pub is_same_format : Format → Format → Bool
+is_same_format from to = is_same_chroma from.0 to.0 && (from.1 == to.1)
+
+-- whether two colours are one, which they are where a header line spells them alike
+abbrev pub is_same_colour : Colour → Colour → Bool
+is_same_colour one other = bytes_eq (colour_text one) (colour_text other)
+
+module _ {S T : Type 0} (form : PixelForm S) (other : PixelForm T) (from to : Format) where
+  -- a chroma plane of a size in the other format, or no colour where there was none
+  abbrev pub chroma_in_format : Option (Table S) → ℕ × ℕ → Table T
+  chroma_in_format None size = replicate size.1 (replicate size.0 (other.pixel_of (2 ^ (to.1 - 1))))
+  chroma_in_format (Some table) size =
+      let scales = scales_between from.0 to.0 in
+      scaled form (pixel_of_depth other from.1 to.1) scales.0 scales.1 size.0 size.1 table
+
+  -- what a frame of one format shows in the other, of which these are the sizes of the planes
+  abbrev pub in_format : Sizes → Tables S → Tables T
+  in_format sizes tables =
+      record {
+        y = converted (converted (pixel_at_depth form other from.1 to.1)) tables.y;
+        u = option_map (chroma_in_format tables.u) sizes.1.0;
+        v = option_map (chroma_in_format tables.v) sizes.1.1;
+      }
+
+module _ {T : Type 0} where
+  -- the width and the height that a plane is laid out with, and those of the planes of a frame
+  abbrev pub size_laid_out : Raster T → ℕ × ℕ
+  size_laid_out plane = (plane.geometry.width, plane.geometry.height)
+
+  abbrev pub sizes_laid_out : Frame T → Sizes
+  sizes_laid_out frame = (
+    size_laid_out frame.y_plane,
+    (option_map size_laid_out frame.u_plane, option_map size_laid_out frame.v_plane),
+  )
+
+-- two chroma planes of these sizes belong together, where both are there
+abbrev pub ChromaSizesFit : Scale × Scale → Option (ℕ × ℕ) → Option (ℕ × ℕ) → Type 0
+ChromaSizesFit scales (Some source) (Some target) =
+    SizesFit scales.0 source.0 target.0 × SizesFit scales.1 source.1 target.1
+ChromaSizesFit scales _ _ = ⊤
+
+-- frames of one format can be shown in another one, where pixels have so many bytes and the planes
+-- these sizes
+pub record FormatsFit (bytes other : ℕ) (from to : Format) (source target : Sizes) : Type 0 where
+  pub luma : source.0 ≡ target.0
+  pub depth : DepthFits bytes from.1
+  pub new_depth : DepthFits other to.1
+  pub u : ChromaSizesFit (scales_between from.0 to.0) source.1.0 target.1.0
+  pub v : ChromaSizesFit (scales_between from.0 to.0) source.1.1 target.1.1
+
+-- frames of a format and these sizes can be written in a layout, where pixels have so many bytes
+pub record LayoutFits (size : ℕ) (layout : SemiPlanarFormat) (format : Format) (sizes : Sizes)
+    : Type 0 where
+  pub bytes : size ≡ sample_size_of layout
+  pub depth : format.1 ≡ layout_depth layout
+  pub chroma : format.0 ≡ layout_chroma layout
+  pub u : sizes.1.0 ≡ chroma_sizes_of (layout_chroma layout) sizes.0.0 sizes.0.1
+  pub v : sizes.1.1 ≡ chroma_sizes_of (layout_chroma layout) sizes.0.0 sizes.0.1
+
+-- the layout of what is written, where one is asked for
+abbrev pub layout_in : Option VideoFormat → Option SemiPlanarFormat
+layout_in None = None
+layout_in (Some (Planar colour)) = None
+layout_in (Some (SemiPlanar layout)) = Some layout
+
+-- the layout of what is written of frames that have this one: without a format planar video in a
+-- YUV4MPEG2 stream, and the same layout in raw video
+abbrev pub layout_to : Container → Option VideoFormat → Option SemiPlanarFormat
+    → Option SemiPlanarFormat
+layout_to Y4m None there = None
+layout_to Raw None there = there
+layout_to to (Some format) there = layout_in (Some format)
+
+-- the colour of what is written, where a format may be asked for. Frames that have it already stay as
+-- they are, and so does what says where their chroma lies
+abbrev pub colour_in : Option VideoFormat → Colour → Colour
+colour_in None there = there
+colour_in (Some (Planar colour)) there =
+    if is_same_format (format_in there) (format_in colour) then there else colour
+colour_in (Some (SemiPlanar layout)) there = colour_of_layout layout

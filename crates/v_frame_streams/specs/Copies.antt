@@ -1,0 +1,201 @@
+-- What a copy writes.
+use Rattle.std.specs.Prelude.{ℕ, ◌≡◌, ◌+◌, ◌%◌, ◌<◌, ◌≤◌, ◌⊎◌, ◌++◌, ◌&&◌, if◌then◌else◌, Bool, true, false, List}
+use Rattle.std.specs.Prelude.{[], ◌∷◌, codes, drop, filter, flat_map, is_none, length, nat_eq, not, refl, take, Option, Some, None, unwrap_or}
+use Rattle.std.specs.List.{starts_with}
+use Rattle.std.specs.Io.KnownBytes.{Appends, Consumes, IsAtEnd}
+use Rattle.v_frame.specs.Prelude.{PixelForm}
+use Rattle.v_frame_planar.specs.Video.{ratio_or_one}
+use Rattle.v_frame_y4m.specs.Colour.{depth_of, subsampling_of}
+use Rattle.v_frame_semi_planar.specs.declared.format.SemiPlanarFormat.{SemiPlanarFormat}
+use Rattle.v_frame_y4m.specs.declared.header.StreamHeader.{StreamHeader}
+use Rattle.v_frame_streams.specs.Conversions.{colour_in, form_of, format_in, is_same_colour, is_same_format}
+use Rattle.v_frame_streams.specs.Conversions.{layout_to}
+use Rattle.v_frame_streams.specs.Layouts.{is_same_layout}
+use Rattle.v_frame_streams.specs.Edits.{beside, halved_size}
+use Rattle.v_frame_streams.specs.Pictures.{sizes_in, tables_of_bytes}
+use Rattle.v_frame_streams.specs.Plans.{planned_bytes, Plan}
+use Rattle.v_frame_streams.specs.Streams.{header_bytes, most_frames, written_bytes, Framed, ReadsFrames}
+use Rattle.v_frame_streams.specs.Streams.{framed_bytes, CountsFrames, IsFrame}
+use Rattle.v_frame_streams.specs.declared.edit.Edit.{Edit}
+use Rattle.v_frame_streams.specs.declared.edit.Rectangle.{Rectangle}
+use Rattle.v_frame_streams.specs.declared.error.Problem.{Problem}
+use Rattle.v_frame_streams.specs.declared.error.Problem.TheVariants.{EmptyCrop, CropOutside, CropMisaligned}
+use Rattle.v_frame_streams.specs.declared.options.CopyOptions.{CopyOptions}
+use Rattle.v_frame_streams.specs.declared.stream.Container.{Container}
+
+-- the most frames that a copy writes
+abbrev pub limit_of : CopyOptions → ℕ
+limit_of options = unwrap_or options.count most_frames
+
+-- the frames of a stream that a copy writes
+abbrev pub kept : CopyOptions → List Framed → List Framed
+kept options frames = take (limit_of options) (drop options.skip frames)
+
+-- the one that is asked for, or else the one that is there
+abbrev pub or_else : {A : Type 0} → Option A → Option A → Option A
+or_else None there = there
+or_else (Some asked) there = Some asked
+
+-- what is taken of each picture
+abbrev pub taken : CopyOptions → StreamHeader → Rectangle
+taken options header =
+    unwrap_or options.crop (record { x = 0; y = 0; width = header.width; height = header.height })
+
+-- a rectangle of pictures can be taken: it is not empty, lies inside, and begins where a chroma
+-- pixel does
+pub record IsTakable (part : Rectangle) (header : StreamHeader) : Type 0 where
+  pub some : (0 < part.width) × (0 < part.height)
+  pub across : part.x + part.width ≤ header.width
+  pub down : part.y + part.height ≤ header.height
+  pub aligned : let ratio = ratio_or_one (subsampling_of header.colour) in
+      (part.x % ratio.0 ≡ 0) × (part.y % ratio.1 ≡ 0)
+
+-- why such a rectangle is refused: the first reason that holds
+abbrev pub RefusesCrop : Rectangle → StreamHeader → Problem → Type 0
+RefusesCrop part header EmptyCrop = (part.width ≡ 0) ⊎ (part.height ≡ 0)
+RefusesCrop part header CropOutside =
+    ¬ ((part.x + part.width ≤ header.width) × (part.y + part.height ≤ header.height))
+RefusesCrop part header (CropMisaligned columns rows) =
+    let ratio = ratio_or_one (subsampling_of header.colour) in
+    (columns ≡ ratio.0) × (rows ≡ ratio.1)
+    × ¬ ((part.x % ratio.0 ≡ 0) × (part.y % ratio.1 ≡ 0))
+RefusesCrop part header _ = ⊥
+
+-- what is made of each frame, where something is
+abbrev pub edit_of : CopyOptions → StreamHeader → Edit
+edit_of options header =
+    record {
+      luma = taken options header;
+      chroma = beside (ratio_or_one (subsampling_of header.colour)) (taken options header);
+      half = options.half;
+    }
+
+-- states the chroma format once more, as ffmpeg's `XYSCSS=420JPEG` does
+abbrev pub states_format : List ℕ → Bool
+states_format extension = starts_with nat_eq extension (codes "YSCSS=")
+
+-- the extensions that hold of every chroma format
+abbrev pub without_format : List (List ℕ) → List (List ℕ)
+without_format extensions = filter (λ extension. not (states_format extension)) extensions
+
+range_stays : without_format (codes "YSCSS=420JPEG" ∷ codes "COLORRANGE=FULL" ∷ [])
+    ≡ codes "COLORRANGE=FULL" ∷ []
+range_stays = refl
+
+-- the extensions that hold of what is written
+abbrev pub copied_extensions : CopyOptions → StreamHeader → List (List ℕ)
+copied_extensions options header =
+    if is_same_colour (colour_in options.format header.colour) header.colour
+    then header.extensions else without_format header.extensions
+
+-- the header that is written
+abbrev pub copied_header : CopyOptions → StreamHeader → StreamHeader
+copied_header options header =
+    record {
+      width = halved_size options.half (taken options header).width;
+      height = halved_size options.half (taken options header).height;
+      frame_rate = or_else options.frame_rate header.frame_rate;
+      interlacing = header.interlacing;
+      pixel_aspect = or_else options.pixel_aspect header.pixel_aspect;
+      colour = colour_in options.format header.colour;
+      extensions = copied_extensions options header;
+    }
+
+-- whether a copy writes the frames of a stream, which have this layout, as they are
+abbrev pub is_plain : Container → CopyOptions → StreamHeader → Option SemiPlanarFormat → Bool
+is_plain to options header layout =
+    is_none options.crop && not options.half
+    && is_same_layout (layout_to to options.format layout) layout
+    && is_same_format (format_in header.colour) (format_in (copied_header options header).colour)
+
+-- what is made of each frame of a stream, where something is, and the layout that is written
+abbrev pub plan_for : CopyOptions → StreamHeader → Option SemiPlanarFormat → Plan
+plan_for options header layout =
+    let written = copied_header options header in
+    let from = format_in header.colour in
+    let to = format_in written.colour in
+    record {
+      edit = edit_of options header;
+      from = from;
+      made = sizes_in (record written { colour = header.colour });
+      to = if is_same_format from to then None else Some (to, sizes_in written);
+      layout = layout;
+    }
+
+-- the bytes that are written of what is made of a frame, of which these are the bytes in a layout
+abbrev pub made_bytes : {S T : Type 0} → PixelForm S → PixelForm T → Container → CopyOptions
+    → StreamHeader → Option SemiPlanarFormat → List ℕ → List ℕ
+made_bytes form other to options header layout bytes =
+    planned_bytes form other (plan_for options header (layout_to to options.format layout))
+    (tables_of_bytes form layout (sizes_in header) bytes)
+
+-- the bytes that are written of a frame, of which these are the bytes in a layout
+abbrev pub copied_bytes : Container → CopyOptions → StreamHeader → Option SemiPlanarFormat
+    → List ℕ → List ℕ
+copied_bytes to options header layout bytes =
+    let form = form_of (depth_of header.colour) in
+    let other = form_of (depth_of (copied_header options header).colour) in
+    if is_plain to options header layout then bytes
+    else made_bytes form other to options header layout bytes
+
+-- the bytes of a frame that is written as it is
+abbrev pub same_bytes : List ℕ → List ℕ
+same_bytes bytes = bytes
+
+-- the frames that are written, each made of one that was read
+abbrev pub made_stream : Container → (List ℕ → List ℕ) → List Framed → List ℕ
+made_stream to made frames = flat_map (λ frame. written_bytes to (made frame.1)) frames
+
+-- all that is written
+abbrev pub copied_stream : Container → CopyOptions → StreamHeader → Option SemiPlanarFormat
+    → List Framed → List ℕ
+copied_stream to options header layout frames =
+    header_bytes to (copied_header options header)
+    ++ made_stream to (copied_bytes to options header layout) (kept options frames)
+
+module _ (from : Container) (count : ℕ) (left left' has has' : Option (List ℕ)) where
+  -- So many frames were read, none more than asked for, and what is made of each was written. Fewer
+  -- were only where the stream came to its end.
+  pub record Carries (to : Container) (made : List ℕ → List ℕ) (most found : ℕ) : Type 0 where
+    pub frames : List Framed
+    pub read : ReadsFrames left left' from count frames
+    pub counted : length frames ≡ found
+    pub bound : found ≤ most
+    pub ends : (found ≡ most) ⊎ IsAtEnd left'
+    pub written : Appends has has' (made_stream to made frames)
+
+  -- a whole frame was read and written as it is, or the stream stood at its end before it
+  abbrev pub MovesNext : Container → Bool → Type 0
+  MovesNext to true =
+      (frame : Framed) × IsFrame from count frame × Consumes left left' (framed_bytes from frame)
+      × Appends has has' (written_bytes to frame.1)
+  MovesNext to false = Consumes left left' [] × IsAtEnd left' × Appends has has' []
+
+  -- The stream was copied: these are the frames that were read, and no more than asked for, and
+  -- what is made of those that are kept was written after this header.
+  pub record CopiesBy (to : Container) (options : CopyOptions) (header : StreamHeader)
+      (made : List ℕ → List ℕ) (found : ℕ) : Type 0 where
+    pub frames : List Framed
+    pub read : ReadsFrames left left' from count frames
+    pub ends : (length frames ≡ options.skip + limit_of options) ⊎ IsAtEnd left'
+    pub counted : length (kept options frames) ≡ found
+    pub written : Appends has has'
+        (header_bytes to header ++ made_stream to made (kept options frames))
+
+  -- the same with the header and the frames that the options say
+  abbrev pub Copies : Container → CopyOptions → StreamHeader → Option SemiPlanarFormat → ℕ → Type 0
+  Copies to options header layout found =
+      CopiesBy to options (copied_header options header) (copied_bytes to options header layout)
+      found
+
+-- so many bytes were read, and written as they are
+abbrev pub MovesSome : Option (List ℕ) → Option (List ℕ) → Option (List ℕ) → Option (List ℕ) → ℕ
+    → Type 0
+MovesSome left left' has has' count =
+    (bytes : List ℕ) × Consumes left left' bytes × Appends has has' bytes × (length bytes ≡ count)
+
+-- so many frames were passed over, or fewer and the stream came to its end
+abbrev pub Begins : Container → ℕ → Option (List ℕ) → Option (List ℕ) → ℕ → Bool → Type 0
+Begins from count left left' skip true = CountsFrames left left' from count skip skip
+Begins from count left left' skip false =
+    (found : ℕ) × (found < skip) × CountsFrames left left' from count skip found

@@ -1,0 +1,105 @@
+-- What the bytes of a frame show.
+use Rattle.std.specs.Prelude.{ℕ, ◌≡◌, ◌*◌, ◌/◌, if◌then◌else◌, All, Bool, true, false, List, [], ◌∷◌, drop, length, take}
+use Rattle.std.specs.Prelude.{option_map, IfSome, Option, Some, None}
+use Rattle.std.specs.Io.KnownBytes.{Consumes, IsAtEnd}
+use Rattle.v_frame.specs.Prelude.{cut_rows, width_of, PixelForm, Table, Tables, strided_table, tables_of}
+use Rattle.v_frame_planar.specs.Planar.{byte_count, plane_byte_count, sizes_of}
+use Rattle.v_frame_planar.specs.Video.{chroma_sizes_of}
+use Rattle.v_frame_semi_planar.specs.Format.{begins_with_v, unused_bits}
+use Rattle.v_frame_semi_planar.specs.SemiPlanar.{shown_pixels}
+use Rattle.v_frame_semi_planar.specs.declared.format.SemiPlanarFormat.{SemiPlanarFormat}
+use Rattle.v_frame_y4m.specs.Colour.{subsampling_of}
+use Rattle.v_frame_y4m.specs.declared.header.StreamHeader.{StreamHeader}
+use Rattle.v_frame_streams.specs.Streams.{framed_bytes, IsFrame}
+use Rattle.v_frame_streams.specs.declared.picture.Picture.{Picture}
+use Rattle.v_frame_streams.specs.declared.source.Source.{Source}
+use Rattle.v_frame_streams.specs.declared.stream.Container.{Container}
+
+-- the width and the height of each plane
+abbrev pub Sizes : Type 0
+Sizes = (ℕ × ℕ) × (Option (ℕ × ℕ) × Option (ℕ × ℕ))
+
+-- those of the frames of a stream
+abbrev pub sizes_in : StreamHeader → Sizes
+sizes_in header =
+    let chroma = chroma_sizes_of (subsampling_of header.colour) header.width header.height in
+    ((header.width, header.height), (chroma, chroma))
+
+module _ {T : Type 0} where
+  -- every other item: the first one, the third one, and so on
+  abbrev pub firsts : List T → List T
+  firsts (first ∷ second ∷ rest) = first ∷ firsts rest
+  firsts _ = []
+
+  -- the second one, the fourth one, and so on
+  abbrev pub seconds : List T → List T
+  seconds (first ∷ second ∷ rest) = second ∷ seconds rest
+  seconds _ = []
+
+  -- the tables of a frame whose pixels stand so: luma, then U and V by turns, or V and U
+  abbrev pub tables_by_turns : Bool → Sizes → List T → Tables T
+  tables_by_turns v_first sizes pixels =
+      let count = sizes.0.0 * sizes.0.1 in
+      let chroma = drop count pixels in
+      let u = if v_first then seconds chroma else firsts chroma in
+      let v = if v_first then firsts chroma else seconds chroma in
+      record {
+        y = cut_rows sizes.0.0 sizes.0.1 (take count pixels);
+        u = option_map (λ size. cut_rows size.0 size.1 u) sizes.1.0;
+        v = option_map (λ size. cut_rows size.0 size.1 v) sizes.1.1;
+      }
+
+  -- all rows are as long as the first one
+  abbrev pub IsEven : Table T → Type 0
+  IsEven table = All (λ row. length row ≡ width_of table) table
+
+  pub record AreEven (tables : Tables T) : Type 0 where
+    pub y : IsEven tables.y
+    pub u : IfSome tables.u IsEven
+    pub v : IfSome tables.v IsEven
+
+module _ {T : Type 0} (form : PixelForm T) where
+  -- the table of a size whose bytes stand in front
+  abbrev pub table_in : List ℕ → ℕ × ℕ → Table T
+  table_in bytes size =
+      let row = size.0 * form.size in
+      strided_table form size.0 size.1 row (take (size.0 * size.1 * form.size) bytes)
+
+  -- the tables of a frame: Y stands in front, then U, then V
+  abbrev pub tables_in : Sizes → List ℕ → Tables T
+  tables_in sizes bytes =
+      let behind_y = drop (plane_byte_count form.size (Some sizes.0)) bytes in
+      let behind_u = drop (plane_byte_count form.size sizes.1.0) behind_y in
+      record {
+        y = table_in bytes sizes.0;
+        u = option_map (table_in behind_y) sizes.1.0;
+        v = option_map (table_in behind_u) sizes.1.1;
+      }
+
+  -- the tables of a frame in a layout
+  abbrev pub tables_in_layout : SemiPlanarFormat → Sizes → List ℕ → Tables T
+  tables_in_layout layout sizes bytes =
+      tables_by_turns (begins_with_v layout) sizes
+      (shown_pixels form (unused_bits layout) (length bytes / form.size) bytes)
+
+  -- the tables of a frame of these bytes: in a layout, or else planar
+  abbrev pub tables_of_bytes : Option SemiPlanarFormat → Sizes → List ℕ → Tables T
+  tables_of_bytes None sizes bytes = tables_in sizes bytes
+  tables_of_bytes (Some layout) sizes bytes = tables_in_layout layout sizes bytes
+
+  module _ (from : Container) (count : ℕ) (layout : Option SemiPlanarFormat) (sizes : Sizes)
+      (left left' : Option (List ℕ)) where
+    -- a frame of these bytes was read, which shows these tables, or the stream stood at its
+    -- end before it
+    abbrev pub ReadsTables : List ℕ → Tables T → Bool → Type 0
+    ReadsTables bytes tables true =
+        (line : List ℕ) × IsFrame from count (line, bytes)
+        × Consumes left left' (framed_bytes from (line, bytes))
+        × (tables ≡ tables_of_bytes layout sizes bytes)
+    ReadsTables bytes tables false = Consumes left left' [] × IsAtEnd left'
+
+-- a picture has room for the bytes of each frame of a stream, and its planes take just these
+pub record IsMadeFor {R T : Type 0} (form : PixelForm T) (source : Source R) (picture : Picture T)
+    : Type 0 where
+  pub room : length picture.bytes.items ≡ source.frame_len
+  pub count : byte_count form.size (sizes_of (tables_of picture.frame)) ≡ source.frame_len

@@ -1,0 +1,19 @@
+-- The words that callers' clauses cite, re-exported from one place.
+pub use Rattle.v_frame_streams.specs.Comparisons.{errors_between, errors_of_all, shown, Compares, ComparesFrames, ComparesFrom}
+pub use Rattle.v_frame_streams.specs.Comparisons.{DiffersAfter, IsDifference, TakesEach, Watches, WatchesFrom}
+pub use Rattle.v_frame_streams.specs.Conversions.{colour_in, form_of, format_in, format_of, in_format, is_same_format}
+pub use Rattle.v_frame_streams.specs.Conversions.{is_same_colour, layout_to, Format}
+pub use Rattle.v_frame_streams.specs.Layouts.{is_same_layout, HoldsColour}
+pub use Rattle.v_frame_streams.specs.Copies.{copied_bytes, copied_header, edit_of, is_plain, kept, limit_of, made_stream}
+pub use Rattle.v_frame_streams.specs.Copies.{copied_extensions, plan_for, taken, without_format}
+pub use Rattle.v_frame_streams.specs.Copies.{Copies, CopiesBy, IsTakable, RefusesCrop}
+pub use Rattle.v_frame_streams.specs.Edits.{beside, edited, edited_table, halved_size, halved_table, EditFits}
+pub use Rattle.v_frame_streams.specs.Formats.{HaveOneFormat, RefusesFormats}
+pub use Rattle.v_frame_streams.specs.Pictures.{sizes_in, table_in, tables_by_turns, tables_in, tables_in_layout}
+pub use Rattle.v_frame_streams.specs.Pictures.{tables_of_bytes, IsMadeFor, ReadsTables, Sizes}
+pub use Rattle.v_frame_streams.specs.Plans.{planned_bytes, Plan}
+pub use Rattle.v_frame_streams.specs.Sources.{bytes_left, stream_of, IsAtNextFrame, IsAtNextWritten, IsOpened}
+pub use Rattle.v_frame_streams.specs.Sources.{StopsComparison, StopsCopy, Stream}
+pub use Rattle.v_frame_streams.specs.Streams.{framed_bytes, header_bytes, most_frames, stream_bytes, written_bytes, Framed}
+pub use Rattle.v_frame_streams.specs.Streams.{CountsFrames, IsFrame, ReadsFrames, ReadsHeaderLine}
+pub use Rattle.v_frame_streams.specs.Telling.{TellsUpTo}

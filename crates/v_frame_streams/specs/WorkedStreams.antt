@@ -1,0 +1,91 @@
+-- Small cases worked out by hand. Each line computes: it is proved by `refl`.
+use Rattle.std.specs.Prelude.{ℕ, ◌≡◌, [], ◌∷◌, Some, None, true, false, refl}
+use Rattle.v_frame_y4m.specs.declared.colour.Colour.TheVariants.{Yuv420, Yuv420Mpeg2, Yuv422}
+use Rattle.v_frame_streams.specs.Conversions.{colour_in}
+use Rattle.v_frame_streams.specs.Copies.{kept}
+use Rattle.v_frame_streams.specs.Edits.{beside, halved_size}
+use Rattle.v_frame.specs.Prelude.{one_byte, two_bytes, Tables}
+use Rattle.v_frame_semi_planar.specs.declared.format.SemiPlanarFormat.TheVariants.{Nv12, Nv21}
+use Rattle.v_frame_semi_planar.specs.declared.format.SemiPlanarFormat.TheVariants.{P010}
+use Rattle.v_frame_streams.specs.Pictures.{tables_of_bytes, Sizes}
+use Rattle.v_frame_streams.specs.Streams.{stream_bytes, written_bytes}
+use Rattle.v_frame_streams.specs.declared.stream.Container.TheVariants.{Raw}
+use Rattle.v_frame_formats.specs.declared.format.VideoFormat.TheVariants.{Planar}
+
+-- 854 columns become 427, and these 214
+half_of_even : halved_size true 854 ≡ 427
+half_of_even = refl
+
+half_of_odd : halved_size true 427 ≡ 214
+half_of_odd = refl
+
+-- beside 5 columns from the second one on stand 3 of chroma at half the size
+chroma_beside : beside (2, 2) (record { x = 2; y = 4; width = 5; height = 2 })
+    ≡ record { x = 1; y = 2; width = 3; height = 1 }
+chroma_beside = refl
+
+-- of three frames the first is passed over and one is taken
+taken_frames : kept
+    (record {
+      skip = 1;
+      count = Some 1;
+      crop = None;
+      half = false;
+      format = None;
+      frame_rate = None;
+      pixel_aspect = None;
+      max_pixels = 9;
+    })
+    (([], 1 ∷ []) ∷ ([], 2 ∷ []) ∷ ([], 3 ∷ []) ∷ [])
+    ≡ ([], 2 ∷ []) ∷ []
+taken_frames = refl
+
+-- samples that stay lie where the stream says
+siting_stays : colour_in (Some (Planar Yuv420)) Yuv420Mpeg2 ≡ Yuv420Mpeg2
+siting_stays = refl
+
+other_chroma_is_named : colour_in (Some (Planar Yuv422)) Yuv420Mpeg2 ≡ Yuv422
+other_chroma_is_named = refl
+
+-- headerless frames are their bytes
+raw_frames : stream_bytes Raw (([], 1 ∷ 2 ∷ []) ∷ ([], 3 ∷ 4 ∷ []) ∷ []) ≡ 1 ∷ 2 ∷ 3 ∷ 4 ∷ []
+raw_frames = refl
+
+raw_frame_written : written_bytes Raw (1 ∷ 2 ∷ []) ≡ 1 ∷ 2 ∷ []
+raw_frame_written = refl
+
+-- 3 by 2 pixels, with 2 by 1 pixels of chroma
+abbrev sizes : Sizes
+sizes = ((3, 2), (Some (2, 1), Some (2, 1)))
+
+abbrev picture : Tables ℕ
+picture = record {
+  y = (1 ∷ 2 ∷ 3 ∷ []) ∷ (4 ∷ 5 ∷ 6 ∷ []) ∷ [];
+  u = Some ((10 ∷ 11 ∷ []) ∷ []);
+  v = Some ((20 ∷ 21 ∷ []) ∷ []);
+}
+
+planar_shown : tables_of_bytes one_byte None sizes
+    (1 ∷ 2 ∷ 3 ∷ 4 ∷ 5 ∷ 6 ∷ 10 ∷ 11 ∷ 20 ∷ 21 ∷ [])
+    ≡ picture
+planar_shown = refl
+
+nv12_shown : tables_of_bytes one_byte (Some Nv12) sizes
+    (1 ∷ 2 ∷ 3 ∷ 4 ∷ 5 ∷ 6 ∷ 10 ∷ 20 ∷ 11 ∷ 21 ∷ [])
+    ≡ picture
+nv12_shown = refl
+
+nv21_shown : tables_of_bytes one_byte (Some Nv21) sizes
+    (1 ∷ 2 ∷ 3 ∷ 4 ∷ 5 ∷ 6 ∷ 20 ∷ 10 ∷ 21 ∷ 11 ∷ [])
+    ≡ picture
+nv21_shown = refl
+
+-- 1 by 1 pixels of 10 bits in the top bits of words
+p010_shown : tables_of_bytes two_bytes (Some P010) ((1, 1), (Some (1, 1), Some (1, 1)))
+    (192 ∷ 255 ∷ 64 ∷ 0 ∷ 0 ∷ 1 ∷ [])
+    ≡ record {
+      y = (1023 ∷ []) ∷ [];
+      u = Some ((1 ∷ []) ∷ []);
+      v = Some ((4 ∷ []) ∷ []);
+    }
+p010_shown = refl

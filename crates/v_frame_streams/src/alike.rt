@@ -1,0 +1,85 @@
+//! Frames that show the same, as the sums of their squared errors tell.
+ghost use Rattle.std.specs.Prelude.{◌≡◌, ◌↔◌, IfSome, IsNone, IsTrue, option_map};
+ghost use Rattle.v_frame.specs.Prelude.{table_of, tables_of};
+ghost use Rattle.v_frame_planar.specs.Planar.{size_of, sizes_of};
+ghost use Rattle.v_frame_streams.specs.Frames.{chroma_errors, plane_errors, FramesDifferFirst};
+
+use crate::frames::{PixelDifference, first_difference_of_frames};
+use crate::sums::PlaneSums;
+use v_frame::frame::Frame;
+use v_frame::pixel::Pixel;
+use v_frame::plane::Plane;
+
+/// Returns the first pixel that differs, as [`first_difference_of_frames`] does, of frames whose errors are known. None is
+/// sought where there is no error.
+pub(crate) fn difference_by_errors<T: Pixel>(
+    first: &Frame<T>,
+    second: &Frame<T>,
+    errors: &PlaneSums,
+) -> Option<PixelDifference>
+    requires sizes { sizes_of (tables_of first.now) ≡ sizes_of (tables_of second.now) }
+    requires y { errors.now.y ≡ plane_errors T.form.value (tables_of first.now).y
+        (tables_of second.now).y }
+    requires u { errors.now.u ≡ chroma_errors T.form.value (tables_of first.now).u
+        (tables_of second.now).u }
+    requires v { errors.now.v ≡ chroma_errors T.form.value (tables_of first.now).v
+        (tables_of second.now).v }
+    ensures none { IsNone result ↔ (tables_of first.now ≡ tables_of second.now) }
+    ensures first { IfSome result (FramesDifferFirst T.form.value (tables_of first.now)
+        (tables_of second.now)) }
+{
+    if are_alike(first, second, errors) {
+        return None;
+    }
+    first_difference_of_frames(first, second)
+}
+
+/// Returns whether frames of one size, whose errors are these, show the same.
+fn are_alike<T: Pixel>(first: &Frame<T>, second: &Frame<T>, errors: &PlaneSums) -> bool
+    requires sizes { sizes_of (tables_of first.now) ≡ sizes_of (tables_of second.now) }
+    requires y { errors.now.y ≡ plane_errors T.form.value (tables_of first.now).y
+        (tables_of second.now).y }
+    requires u { errors.now.u ≡ chroma_errors T.form.value (tables_of first.now).u
+        (tables_of second.now).u }
+    requires v { errors.now.v ≡ chroma_errors T.form.value (tables_of first.now).v
+        (tables_of second.now).v }
+    ensures { IsTrue result ↔ (tables_of first.now ≡ tables_of second.now) }
+{
+    are_planes_alike(&first.y_plane, &second.y_plane, errors.y)
+        && is_chroma_alike(&first.u_plane, &second.u_plane, errors.u)
+        && is_chroma_alike(&first.v_plane, &second.v_plane, errors.v)
+}
+
+/// Returns whether chroma planes, which are both there or both absent, show the same.
+fn is_chroma_alike<T: Pixel>(
+    first: &Option<Plane<T>>,
+    second: &Option<Plane<T>>,
+    errors: Option<u128>,
+) -> bool
+    requires sizes { option_map size_of (option_map table_of first.now)
+        ≡ option_map size_of (option_map table_of second.now) }
+    requires errors { errors ≡ chroma_errors T.form.value (option_map table_of first.now)
+        (option_map table_of second.now) }
+    ensures { IsTrue result ↔ (option_map table_of first.now ≡ option_map table_of second.now) }
+{
+    match (first, second, errors) {
+        (Some(first), Some(second), Some(errors)) => are_planes_alike(first, second, errors),
+        _ => true,
+    }
+}
+
+/// Returns whether planes of one size show the same.
+fn are_planes_alike<T: Pixel>(first: &Plane<T>, second: &Plane<T>, errors: u128) -> bool
+    requires sizes { size_of (table_of first.now) ≡ size_of (table_of second.now) }
+    requires errors { errors ≡ plane_errors T.form.value (table_of first.now) (table_of second.now) }
+    ensures { IsTrue result ↔ (table_of first.now ≡ table_of second.now) }
+{
+    // The rows of a table are as long as the width that is read.
+    let _sizes = (
+        first.width(),
+        first.height(),
+        second.width(),
+        second.height(),
+    );
+    errors == 0
+}

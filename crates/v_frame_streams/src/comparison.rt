@@ -1,0 +1,131 @@
+//! How far two streams are apart.
+ghost use Rattle.std.specs.Prelude.{◌≡◌, ◌+◌, ◌↔◌, IfSome, IsNone, IsTrue, None, Some, min, option_map};
+ghost use Rattle.v_frame.specs.Prelude.{table_of, tables_of};
+ghost use Rattle.v_frame_planar.specs.Planar.{sizes_of};
+ghost use Rattle.v_frame_streams.specs.Frames.{chroma_errors, plane_errors, FramesDifferFirst};
+ghost use Rattle.v_frame_streams.specs.Streams.{longer_of as longer, most_frames};
+ghost use Rattle.v_frame_streams.specs.Sums.{added, no_errors};
+
+use crate::alike::difference_by_errors;
+use crate::frames::PixelDifference;
+use crate::stream::Place;
+use crate::sums::PlaneSums;
+use v_frame::frame::Frame;
+use v_frame::pixel::Pixel;
+use v_frame::plane::Plane;
+
+/// What a comparison takes of two streams.
+#[derive(Debug, Clone, Copy, PartialEq, Eq)]
+pub struct CompareOptions {
+    /// How many frames of the first stream are passed over first.
+    pub skip_first: u64,
+    /// How many frames of the second stream are passed over first.
+    pub skip_second: u64,
+    /// How many frames are compared then. All that both have, where it is missing.
+    pub count: Option<u64>,
+    /// How many pixels of luma a picture may have that is made in memory.
+    pub max_pixels: usize,
+}
+
+/// How far two streams are apart.
+#[derive(Debug, Clone, Copy, PartialEq, Eq)]
+pub struct Comparison {
+    /// How many frames of each were compared.
+    pub frames: u64,
+    /// The sums of the squared errors of these, plane by plane. A sum stays at `u128::MAX`.
+    pub errors: PlaneSums,
+    /// The first pixel that differs, and how many of the frames stand before its own.
+    pub difference: Option<(u64, PixelDifference)>,
+    /// The stream that has more frames, where one has and the comparison came to the end of the other.
+    pub longer: Option<Place>,
+}
+
+impl Comparison {
+    /// That of no frames, of which each would have the planes of this one.
+    pub(crate) fn new<T: Pixel>(frame: &Frame<T>) -> Self
+        ensures { result ≡ record {
+          frames = 0;
+          errors = no_errors (sizes_of (tables_of frame.now));
+          difference = None;
+          longer = None;
+        } }
+    {
+        Comparison {
+            frames: 0,
+            errors: PlaneSums {
+                y: 0,
+                u: no_error(&frame.u_plane),
+                v: no_error(&frame.v_plane),
+            },
+            difference: None,
+            longer: None,
+        }
+    }
+
+    /// Returns whether the streams show the same.
+    pub fn shows_the_same(&self) -> bool
+        ensures { IsTrue result ↔ (IsNone self.now.difference × IsNone self.now.longer) }
+    {
+        self.difference.is_none() && self.longer.is_none()
+    }
+
+    /// Returns this with one more frame of each stream, of which the errors are these.
+    pub(crate) fn with_frames<T: Pixel>(
+        &self,
+        first: &Frame<T>,
+        second: &Frame<T>,
+        errors: &PlaneSums,
+    ) -> Self
+        requires sizes { sizes_of (tables_of first.now) ≡ sizes_of (tables_of second.now) }
+        requires y { errors.now.y ≡ plane_errors T.form.value (tables_of first.now).y
+            (tables_of second.now).y }
+        requires u { errors.now.u ≡ chroma_errors T.form.value (tables_of first.now).u
+            (tables_of second.now).u }
+        requires v { errors.now.v ≡ chroma_errors T.form.value (tables_of first.now).v
+            (tables_of second.now).v }
+        ensures frames { result.frames ≡ min (self.now.frames + 1) most_frames }
+        ensures errors { result.errors ≡ added self.now.errors errors.now }
+        ensures earlier { IfSome self.now.difference (λ found. result.difference ≡ Some found) }
+        ensures same { IsNone result.difference ↔ (IsNone self.now.difference
+            × (tables_of first.now ≡ tables_of second.now)) }
+        ensures first { IfSome result.difference (λ found. IsNone self.now.difference
+            → (found.0 ≡ self.now.frames)
+            × FramesDifferFirst T.form.value (tables_of first.now) (tables_of second.now) found.1) }
+        ensures longer { result.longer ≡ None }
+    {
+        let difference = match self.difference {
+            Some(found) => Some(found),
+            None => match difference_by_errors(first, second, errors) {
+                Some(found) => Some((self.frames, found)),
+                None => None,
+            },
+        };
+        Comparison {
+            frames: self.frames.saturating_add(1),
+            errors: self.errors.plus(errors),
+            difference,
+            longer: None,
+        }
+    }
+}
+
+/// Returns no error in a chroma plane, where it is there.
+fn no_error<T: Pixel>(plane: &Option<Plane<T>>) -> Option<u128>
+    ensures { result ≡ option_map (λ _. 0) (option_map table_of plane.now) }
+{
+    match plane {
+        Some(_) => Some(0),
+        None => None,
+    }
+}
+
+/// Returns the place of the stream that has one more frame, where the other has none.
+pub(crate) fn longer_of(first: bool, second: bool) -> Option<Place>
+    ensures { result ≡ longer first second }
+{
+    match (first, second) {
+        (true, false) => Some(Place::First),
+        (false, true) => Some(Place::Second),
+        _ => None,
+    }
+}

@@ -1,0 +1,217 @@
+//! Streams that are written once more, as they are or with other frames.
+ghost use Rattle.std.specs.Prelude.{◌≡◌, IfErr, IfOk, None, OnOk};
+ghost use Rattle.std.specs.Io.KnownBytes.{Appends};
+ghost use Rattle.v_frame_y4m.specs.Colour.{depth_of};
+ghost use Rattle.v_frame_y4m.specs.Frames.{pixel_bytes};
+ghost use Rattle.v_frame_y4m.specs.Header.{IsWritable};
+ghost use Rattle.v_frame_streams.specs.Conversions.{form_of, layout_in};
+ghost use Rattle.v_frame_streams.specs.Copies.{copied_header, made_bytes, same_bytes, taken, Begins, Copies, CopiesBy, IsTakable};
+ghost use Rattle.v_frame_streams.specs.Sources.{bytes_left, stream_of, IsAtNextFrame, StopsCopy};
+ghost use Rattle.v_frame_streams.specs.Streams.{header_bytes};
+ghost use Rattle.v_frame_streams.specs.Telling.{TellsUpTo};
+
+use crate::editing::edit_frames;
+use crate::error::{Problem, StreamError};
+use crate::maker::Maker;
+use crate::moving::move_frames;
+use crate::options::CopyOptions;
+use crate::passing::skip_frames;
+use crate::picture::Picture;
+use crate::plan::{header_of, rectangle_of, test_crop};
+use crate::progress::{Progress, Silent};
+use crate::sink::Sink;
+use crate::source::Source;
+use crate::stream::Container;
+use std::alloc::Global;
+use std::io;
+use v_frame::pixel::Pixel;
+use v_frame_y4m::StreamHeader;
+
+/// Writes a stream once more, and counts the frames that are written.
+///
+/// Frames are passed over and taken as the options say. Where none is cropped, halved or written in another format or layout,
+/// they are moved as bytes, through a block of fixed size. Else they are read one by one into one picture: the crop is taken,
+/// then halved, and what is made so is written in the format. Without a format the layout of the source is written to raw video,
+/// and planar frames to a YUV4MPEG2 stream. Nothing is written before all tests. After each frame that was written `progress` is
+/// told how many they are.
+///
+/// # Errors
+///
+/// Of [`Problem`] `EmptyCrop`, `CropOutside` and `CropMisaligned` where the crop can't be taken; `SemiPlanar` where a YUV4MPEG2
+/// stream is asked for in a semi-planar layout; `Unwritable` where no header line says what should be written; `TooManyPixels`,
+/// where a picture is to be made that has more than the options allow; `OutOfMemory`. Then nothing was read or written. `Stream`
+/// where a frame was not read or not written, and `OutOfMemory` where there was no room to show a semi-planar one.
+pub fn copy_stream<R: io::Read, W: io::Write, P: Progress>(
+    alloc: Global,
+    source: &mut Source<R>,
+    sink: &mut Sink<W>,
+    options: &CopyOptions,
+    progress: &mut P,
+) -> Result<u64, StreamError>
+    ensures copied { IfOk result (Copies source.old.container source.old.frame_len
+        (bytes_left R.remaining source.old) (bytes_left R.remaining source.new)
+        (W.contents sink.old.writer.inner) (W.contents sink.new.writer.inner)
+        sink.old.container options.now source.old.header source.old.layout) }
+    ensures planar { OnOk result (sink.old.container ≡ Container.Y4m
+        → layout_in options.now.format ≡ None) }
+    ensures told { IfOk result (λ found. TellsUpTo P.shows found progress.old progress.new) }
+    ensures stopped { IfErr result (StopsCopy source.new sink.new) }
+    ensures same { stream_of source.new ≡ stream_of source.old }
+{
+    let header = planned_header(alloc, source, sink, options)?;
+    if options.is_plain(sink.container, source.header(), source.layout()) {
+        return Ok(move_stream(alloc, source, &header, sink, options, progress)?);
+    }
+    if source.header().colour.bit_depth() == 8 {
+        return Ok(edit_as::<u8, _, _, _>(alloc, source, &header, sink, options, progress)?);
+    }
+    Ok(edit_as::<u16, _, _, _>(alloc, source, &header, sink, options, progress)?)
+}
+
+/// Returns the header that is written, where all that can be tested before allows the copy.
+fn planned_header<R: io::Read, W: io::Write>(
+    alloc: Global,
+    source: &Source<R>,
+    sink: &Sink<W>,
+    options: &CopyOptions,
+) -> Result<StreamHeader, StreamError>
+    ensures header { IfOk result (λ header. header
+        ≡ copied_header options.now source.now.header) }
+    ensures takable { IfOk result (λ _. IsTakable (taken options.now source.now.header) source.now.header) }
+    ensures planar { OnOk result (sink.now.container ≡ Container.Y4m
+        → layout_in options.now.format ≡ None) }
+    ensures writable { IfOk result (λ header. sink.now.container ≡ Container.Y4m → IsWritable header) }
+    ensures stopped { IfErr result (IsAtNextFrame source.now) }
+{
+    if let Err(problem) = test_crop(&rectangle_of(options, source.header()), source.header()) {
+        return Err(source.refused(problem));
+    }
+    let Ok(header) = header_of(alloc, options, source.header()) else {
+        return Err(source.refused(Problem::OutOfMemory));
+    };
+    if sink.container == Container::Y4m && options.layout().is_some() {
+        drop(header);
+        return Err(source.refused(Problem::SemiPlanar));
+    }
+    if sink.container == Container::Y4m && !header.is_writable() {
+        drop(header);
+        return Err(source.refused(Problem::Unwritable));
+    }
+    Ok(header)
+}
+
+/// Copies a stream whose frames are written as they are.
+fn move_stream<R: io::Read, W: io::Write, P: Progress>(
+    alloc: Global,
+    source: &mut Source<R>,
+    header: &StreamHeader,
+    sink: &mut Sink<W>,
+    options: &CopyOptions,
+    progress: &mut P,
+) -> Result<u64, StreamError>
+    requires { sink.old.container ≡ Container.Y4m → IsWritable header.now }
+    ensures copied { IfOk result (CopiesBy source.old.container source.old.frame_len
+        (bytes_left R.remaining source.old) (bytes_left R.remaining source.new)
+        (W.contents sink.old.writer.inner) (W.contents sink.new.writer.inner)
+        sink.old.container options.now header.now same_bytes) }
+    ensures told { IfOk result (λ found. TellsUpTo P.shows found progress.old progress.new) }
+    ensures stopped { IfErr result (StopsCopy source.new sink.new) }
+    ensures same { stream_of source.new ≡ stream_of source.old }
+{
+    if !begin_copy(alloc, source, header, sink, options)? {
+        return Ok(0);
+    }
+    let most = options.count.unwrap_or(u64::MAX);
+    Ok(move_frames(source, sink, most, progress)?)
+}
+
+/// Copies a stream of pixels of this type, of whose frames others are made.
+fn edit_as<S: Pixel, R: io::Read, W: io::Write, P: Progress>(
+    alloc: Global,
+    source: &mut Source<R>,
+    header: &StreamHeader,
+    sink: &mut Sink<W>,
+    options: &CopyOptions,
+    progress: &mut P,
+) -> Result<u64, StreamError>
+    requires pixels { S.form.size ≡ pixel_bytes (depth_of source.old.header.colour) }
+    requires takable { IsTakable (taken options.now source.old.header) source.old.header }
+    requires header { header.now ≡ copied_header options.now source.old.header }
+    requires writable { sink.old.container ≡ Container.Y4m → IsWritable header.now }
+    ensures copied { IfOk result (CopiesBy source.old.container source.old.frame_len
+        (bytes_left R.remaining source.old) (bytes_left R.remaining source.new)
+        (W.contents sink.old.writer.inner) (W.contents sink.new.writer.inner)
+        sink.old.container options.now header.now
+        (made_bytes S.form (form_of (depth_of header.now.colour)) sink.old.container options.now
+        source.old.header source.old.layout)) }
+    ensures told { IfOk result (λ found. TellsUpTo P.shows found progress.old progress.new) }
+    ensures stopped { IfErr result (StopsCopy source.new sink.new) }
+    ensures same { stream_of source.new ≡ stream_of source.old }
+{
+    if header.colour.bit_depth() == 8 {
+        return Ok(edit_stream::<S, u8, _, _, _>(alloc, source, header, sink, options, progress)?);
+    }
+    Ok(edit_stream::<S, u16, _, _, _>(alloc, source, header, sink, options, progress)?)
+}
+
+/// Copies a stream of pixels of one type, and writes pixels of another.
+fn edit_stream<S: Pixel, T: Pixel, R: io::Read, W: io::Write, P: Progress>(
+    alloc: Global,
+    source: &mut Source<R>,
+    header: &StreamHeader,
+    sink: &mut Sink<W>,
+    options: &CopyOptions,
+    progress: &mut P,
+) -> Result<u64, StreamError>
+    requires pixels { S.form.size ≡ pixel_bytes (depth_of source.old.header.colour) }
+    requires written { T.form.size ≡ pixel_bytes (depth_of header.now.colour) }
+    requires takable { IsTakable (taken options.now source.old.header) source.old.header }
+    requires header { header.now ≡ copied_header options.now source.old.header }
+    requires writable { sink.old.container ≡ Container.Y4m → IsWritable header.now }
+    ensures copied { IfOk result (CopiesBy source.old.container source.old.frame_len
+        (bytes_left R.remaining source.old) (bytes_left R.remaining source.new)
+        (W.contents sink.old.writer.inner) (W.contents sink.new.writer.inner)
+        sink.old.container options.now header.now
+        (made_bytes S.form T.form sink.old.container options.now source.old.header
+        source.old.layout)) }
+    ensures told { IfOk result (λ found. TellsUpTo P.shows found progress.old progress.new) }
+    ensures stopped { IfErr result (StopsCopy source.new sink.new) }
+    ensures same { stream_of source.new ≡ stream_of source.old }
+{
+    let mut picture = Picture::<S>::new(alloc, source, options.max_pixels)?;
+    let layout = options.layout_to(sink.container, source.layout());
+    let mut maker = match Maker::<S, T>::new(alloc, options, source.header(), header, layout) {
+        Ok(maker) => maker,
+        Err(problem) => return Err(source.refused(problem)),
+    };
+    if !begin_copy(alloc, source, header, sink, options)? {
+        return Ok(0);
+    }
+    let most = options.count.unwrap_or(u64::MAX);
+    Ok(edit_frames(source, &mut picture, &mut maker, sink, most, progress)?)
+}
+
+/// Writes the header and passes over frames. Returns whether as many were passed over as the options say.
+fn begin_copy<R: io::Read, W: io::Write>(
+    alloc: Global,
+    source: &mut Source<R>,
+    header: &StreamHeader,
+    sink: &mut Sink<W>,
+    options: &CopyOptions,
+) -> Result<bool, StreamError>
+    requires { sink.old.container ≡ Container.Y4m → IsWritable header.now }
+    ensures begun { IfOk result (Begins source.old.container source.old.frame_len
+        (bytes_left R.remaining source.old) (bytes_left R.remaining source.new) options.now.skip) }
+    ensures written { OnOk result (Appends (W.contents sink.old.writer.inner)
+        (W.contents sink.new.writer.inner) (header_bytes sink.old.container header.now)) }
+    ensures stopped { IfErr result (StopsCopy source.new sink.new) }
+    ensures same { stream_of source.new ≡ stream_of source.old }
+    ensures container { sink.new.container ≡ sink.old.container }
+{
+    sink.write_header(alloc, header)?;
+    let skipped = skip_frames(source, options.skip, &mut Silent)?;
+    if skipped < options.skip {
+        return Ok(false);
+    }
+    Ok(true)
+}

@@ -1,0 +1,190 @@
+//! Frames made of others: a rectangle of each, as large as it is or at half the size, rounded up.
+ghost use Rattle.std.specs.Prelude.{◌≡◌, ◌+◌, ◌/◌, ◌<◌, ◌≤◌, ◌↔◌, IsTrue, option_map};
+ghost use Rattle.v_frame.specs.Prelude.{KeepsBorder, KeepsBorders, rectangle, table_of, tables_of, border_and_geometry};
+ghost use Rattle.v_frame_planar.specs.Planar.{size_of, sizes_of};
+ghost use Rattle.v_frame_planar.specs.Video.{ratio_or_one};
+ghost use Rattle.v_frame_streams.specs.Edits.{beside, edited, edited_table, halved_table, ChromaFits, EditFits, PlaneFits};
+
+use v_frame::chroma::ChromaSubsampling;
+use v_frame::frame::Frame;
+use v_frame::pixel::Pixel;
+use v_frame::plane::{Plane, PlaneRef};
+use v_frame_convert::downscale_to_edge;
+use v_frame_ops::copy_region;
+use v_frame_ops::laws::tables_agree_by_pixels;
+use v_frame_planar::ratios_or_one;
+
+/// A rectangle of pixels.
+#[derive(Debug, Clone, Copy, PartialEq, Eq)]
+pub struct Rectangle {
+    /// Its first column, counted from 0.
+    pub x: usize,
+    /// Its first row, counted from 0.
+    pub y: usize,
+    /// How many columns it has.
+    pub width: usize,
+    /// How many rows it has.
+    pub height: usize,
+}
+
+impl Rectangle {
+    /// Returns whether it lies in a picture of so many columns and rows.
+    pub fn lies_in(&self, width: usize, height: usize) -> bool
+        ensures { IsTrue result ↔ ((self.now.x + self.now.width ≤ width)
+            × (self.now.y + self.now.height ≤ height)) }
+    {
+        lies_within(self.x, self.width, width) && lies_within(self.y, self.height, height)
+    }
+}
+
+/// What is made of each plane of a frame.
+#[derive(Clone, Copy)]
+pub(crate) struct Edit {
+    /// What is taken of luma, in its pixels.
+    pub(crate) luma: Rectangle,
+    /// What is taken of each chroma plane, in its pixels.
+    pub(crate) chroma: Rectangle,
+    /// Whether the frame that is made has half the size of what is taken.
+    pub(crate) half: bool,
+}
+
+impl Edit {
+    /// Takes a rectangle, in luma pixels, of frames of this format, and the chroma that stands beside it.
+    pub(crate) fn new(luma: Rectangle, subsampling: ChromaSubsampling, half: bool) -> Self
+        ensures { result ≡ record {
+          luma = luma;
+          chroma = beside (ratio_or_one subsampling) luma;
+          half = half;
+        } }
+    {
+        let (columns, rows) = ratios_or_one(subsampling);
+        Edit {
+            luma,
+            chroma: Rectangle {
+                x: luma.x / columns,
+                y: luma.y / rows,
+                width: luma.width.div_ceil(columns),
+                height: luma.height.div_ceil(rows),
+            },
+            half,
+        }
+    }
+}
+
+/// Returns whether so many columns or rows from a first one on are there.
+fn lies_within(first: usize, count: usize, size: usize) -> bool
+    ensures { IsTrue result ↔ (first + count ≤ size) }
+{
+    first <= size && count <= size - first
+}
+
+/// Shows in `target` what is made of `source`, whose planes hold what is taken. The borders stay.
+pub(crate) fn edit_frame<T: Pixel>(edit: &Edit, source: &Frame<T>, target: &mut Frame<T>)
+    requires { EditFits edit.now (sizes_of (tables_of source.now))
+        (sizes_of (tables_of target.old)) }
+    ensures shown { tables_of target.new ≡ edited T.form edit.now (tables_of source.now) }
+    ensures borders { KeepsBorders target.old target.new }
+    ensures sizes { sizes_of (tables_of target.new) ≡ sizes_of (tables_of target.old) }
+{
+    edit_plane(edit.half, &edit.luma, &source.y_plane, &mut target.y_plane);
+    edit_chroma(
+        edit.half,
+        &edit.chroma,
+        &source.u_plane,
+        &mut target.u_plane,
+    );
+    edit_chroma(
+        edit.half,
+        &edit.chroma,
+        &source.v_plane,
+        &mut target.v_plane,
+    );
+}
+
+/// Does so for chroma planes, where they are there.
+fn edit_chroma<T: Pixel>(
+    half: bool,
+    part: &Rectangle,
+    source: &Option<Plane<T>>,
+    target: &mut Option<Plane<T>>,
+)
+    requires { ChromaFits half part.now (option_map size_of (option_map table_of source.now))
+        (option_map size_of (option_map table_of target.old)) }
+    ensures shown { option_map table_of target.new
+        ≡ option_map (edited_table T.form half part.now) (option_map table_of source.now) }
+    ensures border { option_map border_and_geometry target.new ≡ option_map border_and_geometry target.old }
+    ensures size { option_map size_of (option_map table_of target.new)
+        ≡ option_map size_of (option_map table_of target.old) }
+{
+    if let (Some(source), Some(target)) = (source, target) {
+        edit_plane(half, part, source, target);
+    }
+}
+
+/// Does so for planes.
+fn edit_plane<T: Pixel>(half: bool, part: &Rectangle, source: &Plane<T>, target: &mut Plane<T>)
+    requires { PlaneFits half part.now (size_of (table_of source.now))
+        (size_of (table_of target.old)) }
+    ensures shown { table_of target.new
+        ≡ edited_table T.form half part.now (table_of source.now) }
+    ensures border { border_and_geometry target.new ≡ border_and_geometry target.old }
+    ensures size { size_of (table_of target.new) ≡ size_of (table_of target.old) }
+{
+    let _sizes = (
+        source.width(),
+        source.height(),
+        target.width(),
+        target.height(),
+    );
+    let taken = part_of(source, part);
+    if half {
+        halve_plane(&taken, target);
+    } else {
+        copy_plane(&taken, target);
+    }
+    let _sizes = (target.width(), target.height());
+}
+
+/// Returns a rectangle that lies in a plane, and is not empty.
+fn part_of<'a, T: Pixel>(plane: &'a Plane<T>, part: &Rectangle) -> PlaneRef<'a, T>
+    requires wide { 0 < part.now.width }
+    requires high { 0 < part.now.height }
+    requires across { part.now.x + part.now.width ≤ plane.now.geometry.width }
+    requires down { part.now.y + part.now.height ≤ plane.now.geometry.height }
+    ensures table { table_of result ≡ rectangle part.now.x part.now.y part.now.width
+        part.now.height (table_of plane.now) }
+    ensures width { result.geometry.width ≡ part.now.width }
+    ensures height { result.geometry.height ≡ part.now.height }
+{
+    plane
+        .as_plane_ref()
+        .visible_region(part.x, part.y, part.width, part.height)
+}
+
+/// Shows all of one plane in another of the same size.
+fn copy_plane<T: Pixel>(source: &PlaneRef<'_, T>, target: &mut Plane<T>)
+    requires wide { source.now.geometry.width ≡ target.old.geometry.width }
+    requires high { source.now.geometry.height ≡ target.old.geometry.height }
+    ensures shown { table_of target.new ≡ table_of source.now }
+    ensures border { KeepsBorder target.old target.new }
+{
+    tables_agree_by_pixels::<T>();
+    copy_region(source, target, 0, 0);
+    let _sizes = (
+        source.width(),
+        source.height(),
+        target.width(),
+        target.height(),
+    );
+}
+
+/// Shows one plane in another of half the size, rounded up.
+fn halve_plane<T: Pixel>(source: &PlaneRef<'_, T>, target: &mut Plane<T>)
+    requires wide { target.old.geometry.width ≡ (source.now.geometry.width + 1) / 2 }
+    requires high { target.old.geometry.height ≡ (source.now.geometry.height + 1) / 2 }
+    ensures shown { table_of target.new ≡ halved_table T.form source.now.geometry.width
+        source.now.geometry.height (table_of source.now) }
+    ensures border { KeepsBorder target.old target.new }
+{
+    downscale_to_edge(source, target);
+}

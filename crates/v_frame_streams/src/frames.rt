@@ -1,0 +1,178 @@
+//! Two frames of one size, compared: how far their planes are apart, and where they first differ.
+ghost use Rattle.std.specs.Prelude.{◌≡◌, ◌<◌, ◌↔◌, IfSome, IsNone, Some, option_map};
+ghost use Rattle.v_frame.specs.Prelude.{pixel_at, table_of, tables_of};
+ghost use Rattle.v_frame_planar.specs.Planar.{size_of, sizes_of};
+ghost use Rattle.v_frame_streams.specs.Frames.{chroma_errors, plane_errors, DiffersFirst, ChromaDiffersFirst, FramesDifferFirst};
+
+use crate::sums::PlaneSums;
+use std::fmt;
+use v_frame::frame::Frame;
+use v_frame::pixel::Pixel;
+use v_frame::plane::{Plane, PlaneRef};
+use v_frame_ops::{first_difference, sum_of_squared_errors};
+
+/// Which plane of a frame.
+#[derive(Debug, Clone, Copy, PartialEq, Eq)]
+pub enum Component {
+    /// Luma.
+    Y,
+    /// The first chroma component.
+    U,
+    /// The second chroma component.
+    V,
+}
+
+impl fmt::Display for Component {
+    fn fmt<W: fmt::Write>(&self, f: &mut fmt::Formatter<W>) -> fmt::Result {
+        f.write_str(match self {
+            Component::Y => "Y",
+            Component::U => "U",
+            Component::V => "V",
+        })
+    }
+}
+
+/// A pixel that two frames show differently.
+#[derive(Debug, Clone, Copy, PartialEq, Eq)]
+pub struct PixelDifference {
+    /// The plane that it is in.
+    pub component: Component,
+    /// The column of that plane, counted from 0.
+    pub x: usize,
+    /// The row of that plane, counted from 0.
+    pub y: usize,
+    /// The value in the first frame.
+    pub first: u16,
+    /// The value in the second frame.
+    pub second: u16,
+}
+
+/// Returns the sums, plane by plane, of the squares of the differences of the pixels. They are exact, and never too large.
+pub(crate) fn squared_errors_of_frames<T: Pixel>(first: &Frame<T>, second: &Frame<T>) -> PlaneSums
+    requires { sizes_of (tables_of first.now) ≡ sizes_of (tables_of second.now) }
+    ensures y { result.y ≡ plane_errors T.form.value (tables_of first.now).y
+        (tables_of second.now).y }
+    ensures u { result.u ≡ chroma_errors T.form.value (tables_of first.now).u
+        (tables_of second.now).u }
+    ensures v { result.v ≡ chroma_errors T.form.value (tables_of first.now).v
+        (tables_of second.now).v }
+{
+    PlaneSums {
+        y: errors_of_planes(&first.y_plane, &second.y_plane),
+        u: errors_of_chroma(&first.u_plane, &second.u_plane),
+        v: errors_of_chroma(&first.v_plane, &second.v_plane),
+    }
+}
+
+/// Returns the first pixel, plane after plane and in each row after row from the top, that differs. `None` exactly where the
+/// frames show the same.
+pub(crate) fn first_difference_of_frames<T: Pixel>(
+    first: &Frame<T>,
+    second: &Frame<T>,
+) -> Option<PixelDifference>
+    requires { sizes_of (tables_of first.now) ≡ sizes_of (tables_of second.now) }
+    ensures none { IsNone result ↔ (tables_of first.now ≡ tables_of second.now) }
+    ensures first { IfSome result (FramesDifferFirst T.form.value (tables_of first.now)
+        (tables_of second.now)) }
+{
+    let luma = difference_of_planes(Component::Y, &first.y_plane, &second.y_plane);
+    if luma.is_some() {
+        return luma;
+    }
+    let chroma = difference_of_chroma(Component::U, &first.u_plane, &second.u_plane);
+    if chroma.is_some() {
+        return chroma;
+    }
+    difference_of_chroma(Component::V, &first.v_plane, &second.v_plane)
+}
+
+/// Returns the sum for two planes of one size.
+fn errors_of_planes<T: Pixel>(first: &Plane<T>, second: &Plane<T>) -> u128
+    requires { size_of (table_of first.now) ≡ size_of (table_of second.now) }
+    ensures { result ≡ plane_errors T.form.value (table_of first.now) (table_of second.now) }
+{
+    let (first, second) = (first.as_plane_ref(), second.as_plane_ref());
+    same_dimensions(&first, &second);
+    sum_of_squared_errors(&first, &second)
+}
+
+/// Returns the sum for two chroma planes, where they are there.
+fn errors_of_chroma<T: Pixel>(first: &Option<Plane<T>>, second: &Option<Plane<T>>) -> Option<u128>
+    requires { option_map size_of (option_map table_of first.now)
+        ≡ option_map size_of (option_map table_of second.now) }
+    ensures { result ≡ chroma_errors T.form.value (option_map table_of first.now)
+        (option_map table_of second.now) }
+{
+    match (first, second) {
+        (Some(first), Some(second)) => Some(errors_of_planes(first, second)),
+        _ => None,
+    }
+}
+
+/// Returns the first pixel that differs in two planes of one size.
+fn difference_of_planes<T: Pixel>(
+    component: Component,
+    first: &Plane<T>,
+    second: &Plane<T>,
+) -> Option<PixelDifference>
+    requires { size_of (table_of first.now) ≡ size_of (table_of second.now) }
+    ensures none { IsNone result ↔ (table_of first.now ≡ table_of second.now) }
+    ensures component { IfSome result (λ found. found.component ≡ component) }
+    ensures first { IfSome result (DiffersFirst T.form.value (table_of first.now)
+        (table_of second.now)) }
+{
+    let (first, second) = (first.as_plane_ref(), second.as_plane_ref());
+    same_dimensions(&first, &second);
+    let (x, y) = first_difference(&first, &second)?;
+    Some(PixelDifference {
+        component,
+        x,
+        y,
+        first: value_at(&first, x, y),
+        second: value_at(&second, x, y),
+    })
+}
+
+/// Returns the first pixel that differs in two chroma planes, where they are there.
+fn difference_of_chroma<T: Pixel>(
+    component: Component,
+    first: &Option<Plane<T>>,
+    second: &Option<Plane<T>>,
+) -> Option<PixelDifference>
+    requires { option_map size_of (option_map table_of first.now)
+        ≡ option_map size_of (option_map table_of second.now) }
+    ensures none { IsNone result
+        ↔ (option_map table_of first.now ≡ option_map table_of second.now) }
+    ensures component { IfSome result (λ found. found.component ≡ component) }
+    ensures first { IfSome result (ChromaDiffersFirst T.form.value
+        (option_map table_of first.now) (option_map table_of second.now)) }
+{
+    match (first, second) {
+        (Some(first), Some(second)) => difference_of_planes(component, first, second),
+        _ => None,
+    }
+}
+
+/// Planes whose tables have one size have one width and one height.
+fn same_dimensions<T: Pixel>(first: &PlaneRef<'_, T>, second: &PlaneRef<'_, T>)
+    requires { size_of (table_of first.now) ≡ size_of (table_of second.now) }
+    ensures wide { first.now.geometry.width ≡ second.now.geometry.width }
+    ensures high { first.now.geometry.height ≡ second.now.geometry.height }
+{
+    // What the clauses of these calls say is the proof.
+    let _sizes = (
+        first.width(),
+        first.height(),
+        second.width(),
+        second.height(),
+    );
+}
+
+/// Returns the value of a visible pixel.
+fn value_at<T: Pixel>(plane: &PlaneRef<'_, T>, x: usize, y: usize) -> u16
+    requires wide { x < plane.now.geometry.width }
+    requires high { y < plane.now.geometry.height }
+    ensures { option_map T.form.value (pixel_at (table_of plane.now) x y) ≡ Some result }
+{
+    plane.visible_row(y)[x].into_u16()
+}

@@ -1,0 +1,45 @@
+//! Streams of frames, from the bytes that are read to the bytes that are written: copied, in another format too, compared and
+//! counted, over any reader and any writer.
+//!
+//! Our own. `Rattle.v_frame_streams.specs.Prelude` has the words for clauses.
+#![tactic(auto)]
+
+mod alike;
+mod colours;
+mod compare;
+mod comparison;
+mod converting;
+mod copy;
+mod edit;
+mod editing;
+mod error;
+mod formats;
+mod frames;
+mod maker;
+mod moving;
+mod observer;
+mod options;
+mod passing;
+mod picture;
+mod plan;
+mod progress;
+mod sink;
+mod source;
+mod stream;
+mod sums;
+
+pub use compare::compare_streams;
+pub use comparison::{CompareOptions, Comparison};
+pub use copy::copy_stream;
+pub use edit::Rectangle;
+pub use error::{Problem, StreamError};
+pub use frames::{Component, PixelDifference};
+pub use observer::{FrameObserver, NoObserver};
+pub use options::{CopyOptions, MAX_PIXELS};
+pub use passing::skip_frames;
+pub use picture::Picture;
+pub use progress::{Progress, Silent};
+pub use sink::Sink;
+pub use source::Source;
+pub use stream::{Container, Place};
+pub use sums::PlaneSums;

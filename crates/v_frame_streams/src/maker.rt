@@ -1,0 +1,153 @@
+//! What is made of each frame before it is written: a part of it, at full or half size, and that in another format.
+ghost use Rattle.std.specs.Prelude.{◌≡◌, if◌then◌else◌, option_map, IfErr, IfOk, None, OnOk, Some};
+ghost use Rattle.std.specs.Io.KnownBytes.{Appends};
+ghost use Rattle.v_frame.specs.Prelude.{tables_of};
+ghost use Rattle.v_frame_planar.specs.Planar.{sizes_of};
+ghost use Rattle.v_frame_streams.specs.Conversions.{format_in, is_same_format};
+ghost use Rattle.v_frame_streams.specs.Copies.{copied_header, plan_for};
+ghost use Rattle.v_frame_streams.specs.Pictures.{sizes_in};
+ghost use Rattle.v_frame_streams.specs.Plans.{bytes_in_layout, bytes_made, plan_of, planned_bytes, shape_of, CanLayOut, CanMake, FitsLayout};
+ghost use Rattle.v_frame_streams.specs.Sources.{IsAtNextWritten};
+ghost use Rattle.v_frame_streams.specs.Streams.{written_bytes};
+
+use crate::colours::is_same_format as have_one_format;
+use crate::converting::convert_to_format;
+use crate::edit::{Edit, edit_frame};
+use crate::error::{Problem, StreamError};
+use crate::options::CopyOptions;
+use crate::picture::blank_frame;
+use crate::plan::edit_of;
+use crate::sink::Sink;
+use std::alloc::Global;
+use std::io;
+use v_frame::frame::Frame;
+use v_frame::pixel::Pixel;
+use v_frame_semi_planar::SemiPlanarFormat;
+use v_frame_y4m::{Colour, StreamHeader};
+
+/// Makes what is written of frames, one after the other.
+#[derive(Drop)]
+pub(crate) struct Maker<S: Pixel, T: Pixel> {
+    /// What is taken of each frame.
+    pub(crate) edit: Edit,
+    /// Shows that, in the format in which it is read.
+    pub(crate) made: Frame<S>,
+    /// Shows it in the format in which it is written, where that is another one.
+    pub(crate) converted: Option<Frame<T>>,
+    /// The semi-planar layout in which it is written, where one is asked for.
+    pub(crate) layout: Option<SemiPlanarFormat>,
+}
+
+impl<S: Pixel, T: Pixel> Maker<S, T> {
+    /// Returns what a copy makes of the frames of a stream, and writes with another header and in this layout.
+    pub(crate) fn new(
+        alloc: Global,
+        options: &CopyOptions,
+        there: &StreamHeader,
+        written: &StreamHeader,
+        layout: Option<SemiPlanarFormat>,
+    ) -> Result<Self, Problem>
+        requires { written.now ≡ copied_header options.now there.now }
+        ensures plan { IfOk result (λ maker. plan_of maker ≡ plan_for options.now there.now layout) }
+    {
+        let (width, height) = (written.width, written.height);
+        let made = blank_frame(alloc, width, height, there.colour, options.max_pixels)?;
+        let converted = converted_frame(alloc, there.colour, written, options.max_pixels)?;
+        Ok(Maker {
+            edit: edit_of(options, there),
+            made,
+            converted,
+            layout,
+        })
+    }
+
+    /// Writes what it makes of a frame.
+    pub(crate) fn write_frame<W: io::Write>(
+        &mut self,
+        frame: &Frame<S>,
+        sink: &mut Sink<W>,
+    ) -> Result<(), StreamError>
+        requires { CanMake S.BYTES T.BYTES (plan_of self.old) (sizes_of (tables_of frame.now)) }
+        ensures ok { OnOk result (Appends (W.contents sink.old.writer.inner)
+            (W.contents sink.new.writer.inner) (written_bytes sink.old.container
+            (planned_bytes S.form T.form (plan_of self.old) (tables_of frame.now)))) }
+        ensures stopped { IfErr result (IsAtNextWritten sink.new) }
+        ensures container { sink.new.container ≡ sink.old.container }
+        ensures plan { plan_of self.new ≡ plan_of self.old }
+    {
+        self.show(frame);
+        self.write(sink)
+    }
+
+    /// Shows what it makes of a frame.
+    fn show(&mut self, frame: &Frame<S>)
+        requires { CanMake S.BYTES T.BYTES (plan_of self.old) (sizes_of (tables_of frame.now)) }
+        ensures shown { bytes_made S.form T.form self.new.layout self.new.made self.new.converted
+            ≡ planned_bytes S.form T.form (plan_of self.old) (tables_of frame.now) }
+        ensures plan { plan_of self.new ≡ plan_of self.old }
+    {
+        edit_frame(&self.edit, frame, &mut self.made);
+        if let Some(converted) = &mut self.converted {
+            convert_to_format(&self.made, converted);
+        }
+    }
+
+    /// Writes what it shows.
+    fn write<W: io::Write>(&self, sink: &mut Sink<W>) -> Result<(), StreamError>
+        requires { CanLayOut S.BYTES T.BYTES self.now.layout (shape_of self.now.made)
+            (option_map shape_of self.now.converted) }
+        ensures ok { OnOk result (Appends (W.contents sink.old.writer.inner)
+            (W.contents sink.new.writer.inner) (written_bytes sink.old.container
+            (bytes_made S.form T.form self.now.layout self.now.made self.now.converted))) }
+        ensures stopped { IfErr result (IsAtNextWritten sink.new) }
+        ensures container { sink.new.container ≡ sink.old.container }
+    {
+        match &self.converted {
+            Some(converted) => write_in_layout(sink, converted, self.layout),
+            None => write_in_layout(sink, &self.made, self.layout),
+        }
+    }
+}
+
+/// Returns a blank frame for what is written with this header, where that has another format than there is.
+fn converted_frame<T: Pixel>(
+    alloc: Global,
+    there: Colour,
+    written: &StreamHeader,
+    max_pixels: usize,
+) -> Result<Option<Frame<T>>, Problem>
+    ensures { let to = format_in written.now.colour in
+        IfOk result (λ frame. option_map shape_of frame
+        ≡ (if is_same_format (format_in there) to then None else Some (to, sizes_in written.now))) }
+{
+    if have_one_format(there, written.colour) {
+        return Ok(None);
+    }
+    let frame = blank_frame(
+        alloc,
+        written.width,
+        written.height,
+        written.colour,
+        max_pixels,
+    )?;
+    Ok(Some(frame))
+}
+
+/// Writes a frame in a layout, or else its planar bytes.
+fn write_in_layout<T: Pixel, W: io::Write>(
+    sink: &mut Sink<W>,
+    frame: &Frame<T>,
+    layout: Option<SemiPlanarFormat>,
+) -> Result<(), StreamError>
+    requires { FitsLayout T.BYTES layout (shape_of frame.now) }
+    ensures ok { OnOk result (Appends (W.contents sink.old.writer.inner)
+        (W.contents sink.new.writer.inner) (written_bytes sink.old.container
+        (bytes_in_layout T.form layout (tables_of frame.now)))) }
+    ensures stopped { IfErr result (IsAtNextWritten sink.new) }
+    ensures container { sink.new.container ≡ sink.old.container }
+{
+    match layout {
+        Some(layout) => sink.write_layout(frame, layout),
+        None => sink.write_frame(frame),
+    }
+}

@@ -1,0 +1,83 @@
+//! Frames that are passed over: their bytes are read, and no frame is made.
+ghost use Rattle.std.specs.Prelude.{◌≡◌, ◌+◌, ◌-◌, ◌≤◌, ◌<◌, length, IfErr, IfOk, OnOk};
+ghost use Rattle.v_frame_planar.specs.Planar.{ConsumesSome};
+ghost use Rattle.v_frame_streams.specs.Sources.{bytes_left, stream_of, IsAtNextFrame};
+ghost use Rattle.v_frame_streams.specs.Streams.{frames_after, CountsFrames, ReadsWhole};
+ghost use Rattle.v_frame_streams.specs.Telling.{TellsUpTo};
+
+use crate::error::StreamError;
+use crate::progress::{Progress, show_one_more};
+use crate::source::Source;
+use crate::stream::BLOCK;
+use std::io;
+
+/// Passes over so many frames, or over all that are left where they are fewer, and counts them. After each one `progress` is
+/// told how many they are.
+///
+/// # Errors
+///
+/// A [`StreamError`] with [`Problem::Stream`](crate::Problem::Stream) where a frame was not read whole.
+pub fn skip_frames<R: io::Read, P: Progress>(
+    source: &mut Source<R>,
+    most: u64,
+    progress: &mut P,
+) -> Result<u64, StreamError>
+    ensures counted { IfOk result (CountsFrames (bytes_left R.remaining source.old)
+        (bytes_left R.remaining source.new) source.old.container source.old.frame_len most) }
+    ensures told { IfOk result (λ found. TellsUpTo P.shows found progress.old progress.new) }
+    ensures stopped { IfErr result (IsAtNextFrame source.new) }
+    ensures same { stream_of source.new ≡ stream_of source.old }
+{
+    let mut block = [0; BLOCK];
+    for count in 0..most {
+        if !skip_frame(source, &mut block)? {
+            return Ok(count);
+        }
+        show_one_more(progress, count);
+    }
+    Ok(most)
+}
+
+/// Passes over the next frame by blocks. `false` where the stream stood at its end before it.
+fn skip_frame<R: io::Read>(source: &mut Source<R>, block: &mut [u8]) -> Result<bool, StreamError>
+    requires { 0 < length block.old }
+    ensures read { IfOk result (ReadsWhole (bytes_left R.remaining source.old)
+        (bytes_left R.remaining source.new) source.old.container source.old.frame_len) }
+    ensures stopped { IfErr result (IsAtNextFrame source.new) }
+    ensures same { stream_of source.new ≡ stream_of source.old }
+    ensures frames { IfOk result (λ more. source.new.frames ≡ frames_after source.old.frames more) }
+    ensures size { length block.new ≡ length block.old }
+{
+    let front = block.len().min(source.frame_len());
+    if !source.begin_frame(&mut block[..front])? {
+        return Ok(false);
+    }
+    skip_rest(source, front, block)?;
+    source.end_frame();
+    Ok(true)
+}
+
+/// Passes over what is left of a frame after so many bytes.
+fn skip_rest<R: io::Read>(
+    source: &mut Source<R>,
+    before: usize,
+    block: &mut [u8],
+) -> Result<(), StreamError>
+    requires some { 0 < length block.old }
+    requires within { before ≤ source.old.frame_len }
+    ensures read { OnOk result (ConsumesSome (bytes_left R.remaining source.old)
+        (bytes_left R.remaining source.new) (source.old.frame_len - before)) }
+    ensures stopped { IfErr result (IsAtNextFrame source.new) }
+    ensures same { stream_of source.new ≡ stream_of source.old }
+    ensures frames { source.new.frames ≡ source.old.frames }
+    ensures size { length block.new ≡ length block.old }
+{
+    let (frame_len, size) = (source.frame_len(), block.len());
+    let mut done = before;
+    while done < frame_len {
+        let count = size.min(frame_len - done);
+        source.read_part(done, &mut block[..count])?;
+        done += count;
+    }
+    Ok(())
+}

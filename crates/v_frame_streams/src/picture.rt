@@ -1,0 +1,288 @@
+//! A frame that each frame of a stream is read into, one after the other.
+ghost use Rattle.std.specs.Prelude.{◌≡◌, ◌↔◌, ◌≤◌, ◌<◌, ◌*◌, drop, length, option_map, Some, ℕ, IfErr, IfOk, IfSome, IsTrue, OnOk};
+ghost use Rattle.v_frame.specs.Prelude.{table_of, tables_of};
+ghost use Rattle.v_frame_planar.specs.Planar.{byte_count, plane_byte_count, size_of, sizes_of};
+ghost use Rattle.v_frame_planar.specs.Video.{chroma_sizes_of};
+ghost use Rattle.v_frame_y4m.specs.Colour.{depth_of, subsampling_of};
+ghost use Rattle.v_frame_y4m.specs.Frames.{pixel_bytes};
+ghost use Rattle.v_frame_streams.specs.Conversions.{format_in, format_of, sizes_laid_out};
+ghost use Rattle.v_frame_streams.specs.Pictures.{sizes_in, table_in, tables_in, tables_in_layout, tables_of_bytes, AreEven, IsEven, IsMadeFor, ReadsTables};
+ghost use Rattle.v_frame_streams.specs.Sources.{bytes_left, stream_of, IsAtNextFrame};
+ghost use Rattle.v_frame_streams.specs.Streams.{frames_after};
+
+use crate::converting::sizes_are_laid_out;
+use crate::error::{Problem, StreamError};
+use crate::source::Source;
+use std::alloc::Global;
+use std::io;
+use v_frame::frame::{Frame, FrameError};
+use v_frame::pixel::Pixel;
+use v_frame::plane::Plane;
+use v_frame_planar::{Counted, PlanarError, planar_len, video_frame};
+use v_frame_semi_planar::{SemiPlanarError, SemiPlanarFormat, read_frame};
+use v_frame_y4m::{Colour, Y4mError};
+
+/// A frame that is read again and again, and room for its bytes.
+#[derive(Drop)]
+pub struct Picture<T: Pixel> {
+    /// The frame that was read last. What is written to it is there until the next one is read.
+    pub frame: Frame<T>,
+    bytes: Vec<u8>,
+    alloc: Global,
+}
+
+impl<T: Pixel> Picture<T> {
+    /// Returns a picture for the frames of a stream, of which no more than so many pixels of luma are made in memory.
+    ///
+    /// # Errors
+    ///
+    /// [`Problem::TooManyPixels`] where it has more, [`Problem::TooLarge`] where a plane can't be addressed or the pixels have
+    /// not the size of `T`, and [`Problem::OutOfMemory`] where a request for memory was refused.
+    pub fn new<R: io::Read>(
+        alloc: Global,
+        source: &Source<R>,
+        max_pixels: usize,
+    ) -> Result<Self, StreamError>
+        ensures made { IfOk result (IsMadeFor T.form source.now) }
+        ensures sizes { IfOk result (λ picture. sizes_of (tables_of picture.frame) ≡ sizes_in source.now.header) }
+        ensures format { IfOk result (λ picture. format_of picture.frame ≡ format_in source.now.header.colour) }
+        ensures small { IfOk result (λ _. source.now.header.width * source.now.header.height ≤ max_pixels) }
+        ensures many { IfErr result (λ error. (limit : ℕ) → error.problem ≡ Problem.TooManyPixels limit
+            → (limit ≡ max_pixels) × (max_pixels < source.now.header.width * source.now.header.height)) }
+        ensures stopped { IfErr result (IsAtNextFrame source.now) }
+    {
+        let header = source.header();
+        let frame = match blank_frame(
+            alloc,
+            header.width,
+            header.height,
+            header.colour,
+            max_pixels,
+        ) {
+            Ok(frame) => frame,
+            Err(problem) => return Err(source.refused(problem)),
+        };
+        let mut bytes = Vec::new(alloc);
+        match bytes.resize(source.frame_len(), 0) {
+            Ok(()) => Ok(Picture {
+                frame,
+                bytes,
+                alloc,
+            }),
+            Err(_) => {
+                drop(frame);
+                Err(source.refused(Problem::OutOfMemory))
+            }
+        }
+    }
+
+    /// Returns the frame that was read last.
+    pub fn frame(&self) -> &Frame<T>
+        ensures value { result.now ≡ self.now.frame }
+        ensures laid_out { sizes_of (tables_of self.now.frame) ≡ sizes_laid_out self.now.frame }
+    {
+        sizes_are_laid_out(&self.frame);
+        &self.frame
+    }
+
+    /// Returns the bytes of the frame that was read last, as they were read.
+    pub fn bytes(&self) -> &[u8]
+        ensures { result.now ≡ self.now.bytes.items }
+    {
+        self.bytes.as_slice()
+    }
+
+    /// Returns whether frames of a stream can be read into it: each has as many bytes as those of the stream that it was made for.
+    pub fn is_made_for<R: io::Read>(&self, source: &Source<R>) -> bool
+        ensures { IsTrue result ↔ IsMadeFor T.form source.now self.now }
+    {
+        self.bytes.len() == source.frame_len() && planar_len(&self.frame) == self.bytes.len()
+    }
+
+    /// Reads the next frame of a stream and shows it. `false` where the stream stood at its end before it.
+    ///
+    /// The picture has to be made for this stream, or one of the same format: [`is_made_for`](Self::is_made_for) is the test.
+    ///
+    /// # Errors
+    ///
+    /// [`Problem::Stream`] where a frame was not read whole. In a semi-planar stream also [`Problem::OutOfMemory`] where a request
+    /// for memory was refused, and the frame was then read but is not shown.
+    pub fn read<R: io::Read>(&mut self, source: &mut Source<R>) -> Result<bool, StreamError>
+        requires { IsMadeFor T.form source.old self.old }
+        ensures read { IfOk result (ReadsTables T.form source.old.container source.old.frame_len
+            source.old.layout (sizes_of (tables_of self.old.frame)) (bytes_left R.remaining source.old)
+            (bytes_left R.remaining source.new) self.new.bytes.items (tables_of self.new.frame)) }
+        ensures stopped { IfErr result (IsAtNextFrame source.new) }
+        ensures same { stream_of source.new ≡ stream_of source.old }
+        ensures made { IsMadeFor T.form source.new self.new }
+        ensures sizes { sizes_of (tables_of self.new.frame) ≡ sizes_of (tables_of self.old.frame) }
+        ensures format { format_of self.new.frame ≡ format_of self.old.frame }
+        ensures frames { IfOk result (λ more. source.new.frames ≡ frames_after source.old.frames more) }
+    {
+        if !source.begin_frame(self.bytes.as_mut_slice())? {
+            return Ok(false);
+        }
+        let (layout, bytes) = (source.layout(), self.bytes.as_slice());
+        if let Err(problem) = show_frame(self.alloc, &mut self.frame, bytes, layout) {
+            return Err(source.refused(problem));
+        }
+        source.end_frame();
+        Ok(true)
+    }
+}
+
+/// Returns a blank frame of a size and a colour, of which no more than so many pixels are made in memory.
+pub(crate) fn blank_frame<T: Pixel>(
+    alloc: Global,
+    width: usize,
+    height: usize,
+    colour: Colour,
+    max_pixels: usize,
+) -> Result<Frame<T>, Problem>
+    ensures sizes { let chroma = chroma_sizes_of (subsampling_of colour) width height in
+        IfOk result (λ frame. sizes_of (tables_of frame) ≡ ((width, height), (chroma, chroma))) }
+    ensures format { IfOk result (λ frame. format_of frame ≡ format_in colour) }
+    ensures pixels { IfOk result (λ _. T.form.size ≡ pixel_bytes (depth_of colour)) }
+    ensures small { IfOk result (λ _. width * height ≤ max_pixels) }
+    ensures many { IfErr result (λ problem. (limit : ℕ) → problem ≡ Problem.TooManyPixels limit
+        → (limit ≡ max_pixels) × (max_pixels < width * height)) }
+{
+    match width.checked_mul(height) {
+        Some(pixels) if pixels <= max_pixels => {}
+        _ => return Err(Problem::TooManyPixels(max_pixels)),
+    }
+    match video_frame(
+        alloc,
+        width,
+        height,
+        colour.subsampling(),
+        colour.bit_depth(),
+        0,
+    ) {
+        Ok(frame) => Ok(frame),
+        Err(FrameError::OutOfMemory) => Err(Problem::OutOfMemory),
+        Err(_) => Err(Problem::TooLarge),
+    }
+}
+
+/// Shows bytes in a frame, those of a layout or else planar ones. There must be as many as the frame has.
+fn show_frame<T: Pixel>(
+    alloc: Global,
+    frame: &mut Frame<T>,
+    bytes: &[u8],
+    layout: Option<SemiPlanarFormat>,
+) -> Result<(), Problem>
+    requires { length bytes.now ≡ byte_count T.form.size (sizes_of (tables_of frame.old)) }
+    ensures shown { OnOk result (tables_of frame.new
+        ≡ tables_of_bytes T.form layout (sizes_of (tables_of frame.old)) bytes.now) }
+    ensures sizes { sizes_of (tables_of frame.new) ≡ sizes_of (tables_of frame.old) }
+    ensures format { format_of frame.new ≡ format_of frame.old }
+{
+    match layout {
+        Some(layout) => show_layout(alloc, frame, bytes, layout),
+        None => {
+            show_bytes(frame, bytes);
+            Ok(())
+        }
+    }
+}
+
+/// Shows the bytes of a layout in a frame, of which there must be as many as the frame has.
+fn show_layout<T: Pixel>(
+    alloc: Global,
+    frame: &mut Frame<T>,
+    bytes: &[u8],
+    layout: SemiPlanarFormat,
+) -> Result<(), Problem>
+    requires { length bytes.now ≡ byte_count T.form.size (sizes_of (tables_of frame.old)) }
+    ensures shown { OnOk result (tables_of frame.new
+        ≡ tables_in_layout T.form layout (sizes_of (tables_of frame.old)) bytes.now) }
+    ensures sizes { sizes_of (tables_of frame.new) ≡ sizes_of (tables_of frame.old) }
+    ensures format { format_of frame.new ≡ format_of frame.old }
+{
+    let mut reader = Counted::new(bytes);
+    match read_frame(alloc, &mut reader, frame, layout) {
+        Ok(true) => {
+            planes_are_even(frame);
+            Ok(())
+        }
+        Ok(false) => Err(Problem::Stream(Y4mError::Planar(PlanarError::Truncated {
+            expected: bytes.len(),
+            found: 0,
+        }))),
+        Err(SemiPlanarError::Planar(PlanarError::OutOfMemory)) => Err(Problem::OutOfMemory),
+        Err(SemiPlanarError::Planar(error)) => Err(Problem::Stream(Y4mError::Planar(error))),
+        Err(_) => Err(Problem::OtherLayout),
+    }
+}
+
+/// All rows of each plane of a frame are of one length.
+fn planes_are_even<T: Pixel>(frame: &Frame<T>)
+    ensures { AreEven (tables_of frame.now) }
+{
+    plane_is_even(&frame.y_plane);
+    chroma_is_even(&frame.u_plane);
+    chroma_is_even(&frame.v_plane);
+}
+
+/// The same of a chroma plane, where it is there.
+fn chroma_is_even<T: Pixel>(plane: &Option<Plane<T>>)
+    ensures { IfSome (option_map table_of plane.now) IsEven }
+{
+    if let Some(plane) = plane {
+        plane_is_even(plane);
+    }
+}
+
+/// The same of a plane.
+fn plane_is_even<T: Pixel>(plane: &Plane<T>)
+    ensures { IsEven (table_of plane.now) }
+{
+    // What the clauses of this call say is the proof.
+    let _width = plane.width();
+}
+
+/// Shows planar bytes in a frame. There must be as many as the frame has.
+pub(crate) fn show_bytes<T: Pixel>(frame: &mut Frame<T>, bytes: &[u8])
+    requires { length bytes.now ≡ byte_count T.form.size (sizes_of (tables_of frame.old)) }
+    ensures shown { tables_of frame.new
+        ≡ tables_in T.form (sizes_of (tables_of frame.old)) bytes.now }
+    ensures sizes { sizes_of (tables_of frame.new) ≡ sizes_of (tables_of frame.old) }
+    ensures format { format_of frame.new ≡ format_of frame.old }
+{
+    let behind_y = show_plane(&mut frame.y_plane, bytes);
+    let behind_u = show_chroma(&mut frame.u_plane, behind_y);
+    show_chroma(&mut frame.v_plane, behind_u);
+}
+
+/// Shows the first bytes in a plane, where it is there, and gives those after them.
+fn show_chroma<'a, T: Pixel>(plane: &mut Option<Plane<T>>, bytes: &'a [u8]) -> &'a [u8]
+    requires { plane_byte_count T.form.size (option_map size_of (option_map table_of plane.old))
+        ≤ length bytes.now }
+    ensures shown { option_map table_of plane.new
+        ≡ option_map (table_in T.form bytes.now) (option_map size_of (option_map table_of plane.old)) }
+    ensures rest { result.now ≡ drop (plane_byte_count T.form.size
+        (option_map size_of (option_map table_of plane.old))) bytes.now }
+    ensures size { option_map size_of (option_map table_of plane.new)
+        ≡ option_map size_of (option_map table_of plane.old) }
+{
+    match plane {
+        Some(plane) => show_plane(plane, bytes),
+        None => bytes,
+    }
+}
+
+/// Shows the first bytes in a plane, and gives those after them.
+fn show_plane<'a, T: Pixel>(plane: &mut Plane<T>, bytes: &'a [u8]) -> &'a [u8]
+    requires { plane_byte_count T.form.size (Some (size_of (table_of plane.old))) ≤ length bytes.now }
+    ensures shown { table_of plane.new ≡ table_in T.form bytes.now (size_of (table_of plane.old)) }
+    ensures rest { result.now
+        ≡ drop (plane_byte_count T.form.size (Some (size_of (table_of plane.old)))) bytes.now }
+    ensures size { size_of (table_of plane.new) ≡ size_of (table_of plane.old) }
+{
+    let (shown, rest) = bytes.split_at(plane.byte_len());
+    if plane.copy_from_u8_slice(shown).is_err() {
+        unreachable!()
+    }
+    rest
+}

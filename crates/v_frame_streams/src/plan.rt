@@ -1,0 +1,131 @@
+//! What a copy makes of a stream: its header, and the edit of each frame, tested before anything is written.
+ghost use Rattle.std.specs.Prelude.{◌≡◌, ◌+◌, ◌*◌, ◌%◌, ◌<◌, ◌≤◌, IfErr, IfOk, OnOk};
+ghost use Rattle.v_frame_planar.specs.Video.{ratio_or_one};
+ghost use Rattle.v_frame_y4m.specs.Colour.{subsampling_of};
+ghost use Rattle.v_frame_y4m.specs.Header.{IsWritable};
+ghost use Rattle.v_frame_streams.specs.Copies.{copied_extensions, copied_header, edit_of as made_by, or_else as or_else_of, taken, without_format, IsTakable, RefusesCrop};
+ghost use Rattle.v_frame_streams.specs.Edits.{halved_size};
+
+use crate::colours::is_same_colour;
+use crate::edit::{Edit, Rectangle};
+use crate::error::Problem;
+use crate::options::CopyOptions;
+use std::alloc::{AllocError, Global};
+use v_frame::sequence::Sequence;
+use v_frame_planar::ratios_or_one;
+use v_frame_y4m::{Ratio, StreamHeader};
+
+/// Returns the rectangle that a copy takes of each picture of a stream.
+pub(crate) fn rectangle_of(options: &CopyOptions, header: &StreamHeader) -> Rectangle
+    ensures { result ≡ taken options.now header.now }
+{
+    let whole = Rectangle {
+        x: 0,
+        y: 0,
+        width: header.width,
+        height: header.height,
+    };
+    options.crop.unwrap_or(whole)
+}
+
+/// Returns what a copy makes of each frame of a stream.
+pub(crate) fn edit_of(options: &CopyOptions, header: &StreamHeader) -> Edit
+    ensures { result ≡ made_by options.now header.now }
+{
+    Edit::new(
+        rectangle_of(options, header),
+        header.colour.subsampling(),
+        options.half,
+    )
+}
+
+/// Tests whether pictures of this header have that rectangle, and can be cut there.
+pub(crate) fn test_crop(crop: &Rectangle, header: &StreamHeader) -> Result<(), Problem>
+    ensures ok { OnOk result (IsTakable crop.now header.now) }
+    ensures refused { IfErr result (RefusesCrop crop.now header.now) }
+{
+    if crop.width == 0 || crop.height == 0 {
+        return Err(Problem::EmptyCrop);
+    }
+    if !crop.lies_in(header.width, header.height) {
+        return Err(Problem::CropOutside);
+    }
+    let (columns, rows) = ratios_or_one(header.colour.subsampling());
+    if crop.x % columns != 0 || crop.y % rows != 0 {
+        return Err(Problem::CropMisaligned { columns, rows });
+    }
+    Ok(())
+}
+
+/// Returns the header that a copy writes.
+pub(crate) fn header_of(
+    alloc: Global,
+    options: &CopyOptions,
+    header: &StreamHeader,
+) -> Result<StreamHeader, AllocError>
+    ensures { IfOk result (λ made. made ≡ copied_header options.now header.now) }
+{
+    let part = rectangle_of(options, header);
+    Ok(StreamHeader {
+        width: size_of(part.width, options.half),
+        height: size_of(part.height, options.half),
+        frame_rate: or_else(options.frame_rate, header.frame_rate),
+        interlacing: header.interlacing,
+        pixel_aspect: or_else(options.pixel_aspect, header.pixel_aspect),
+        colour: options.colour(header.colour),
+        extensions: extensions_of(alloc, options, header)?,
+    })
+}
+
+/// Returns how many columns or rows are made of so many.
+fn size_of(size: usize, half: bool) -> usize
+    ensures { result ≡ halved_size half size }
+{
+    if half { size.div_ceil(2) } else { size }
+}
+
+/// Returns the ratio that is asked for, or else the one that is there.
+fn or_else(asked: Option<Ratio>, there: Option<Ratio>) -> Option<Ratio>
+    ensures { result ≡ or_else_of asked there }
+{
+    match asked {
+        Some(ratio) => Some(ratio),
+        None => there,
+    }
+}
+
+/// Returns the extensions of a header that a copy writes: those that state the chroma format are left out where the copy has
+/// another colour.
+fn extensions_of(
+    alloc: Global,
+    options: &CopyOptions,
+    header: &StreamHeader,
+) -> Result<Sequence<Sequence<u8>>, AllocError>
+    ensures { IfOk result (λ made. made ≡ copied_extensions options.now header.now) }
+{
+    let extensions = copy_of(alloc, header.extensions.as_slice())?;
+    if is_same_colour(options.colour(header.colour), header.colour) {
+        return Ok(extensions);
+    }
+    Ok(leave_out_format(extensions))
+}
+
+/// Leaves out extensions that state the chroma format once more, as ffmpeg's `XYSCSS=420JPEG` does.
+fn leave_out_format(extensions: Sequence<Sequence<u8>>) -> Sequence<Sequence<u8>>
+    ensures { result ≡ without_format extensions }
+{
+    let mut kept = extensions.into_vec();
+    kept.retain(|extension| !extension.as_slice().starts_with(b"YSCSS="));
+    Sequence::from(kept)
+}
+
+/// Returns the texts once more.
+fn copy_of(alloc: Global, texts: &[Sequence<u8>]) -> Result<Sequence<Sequence<u8>>, AllocError>
+    ensures { IfOk result (λ copy. copy ≡ texts.now) }
+{
+    let mut copy = Vec::new(alloc);
+    for text in texts {
+        copy.push(Sequence::from_slice(alloc, text.as_slice())?)?;
+    }
+    Ok(copy.into())
+}

@@ -1,0 +1,184 @@
+//! Streams that are written: the header, and then frame by frame.
+ghost use Rattle.std.specs.Prelude.{◌≡◌, ◌↔◌, ◌++◌, [], length, take, IfErr, IsTrue, OnErr, OnOk};
+ghost use Rattle.std.specs.Io.KnownBytes.{Appends};
+ghost use Rattle.v_frame.specs.Prelude.{tables_of};
+ghost use Rattle.v_frame_planar.specs.Counted.{AppendsBeginning};
+ghost use Rattle.v_frame_planar.specs.Planar.{planar_bytes};
+ghost use Rattle.v_frame_semi_planar.specs.Format.{HasLayout};
+ghost use Rattle.v_frame_semi_planar.specs.SemiPlanar.{semi_planar_bytes};
+ghost use Rattle.v_frame_streams.specs.Sources.{IsAtNextWritten, TakesHeader};
+ghost use Rattle.v_frame_streams.specs.Streams.{frame_line, header_bytes, written_bytes};
+
+use crate::error::{Problem, StreamError};
+use crate::stream::{Container, Place};
+use std::alloc::Global;
+use std::io;
+use v_frame::frame::Frame;
+use v_frame::pixel::Pixel;
+use v_frame_planar::{Counted, PlanarError, WriteFault};
+use v_frame_semi_planar::{SemiPlanarError, SemiPlanarFormat, write_frame};
+use v_frame_y4m::{StreamHeader, Y4mError, write_header};
+
+/// A stream that is written.
+#[derive(Drop)]
+pub struct Sink<W> {
+    /// How it holds its frames.
+    pub container: Container,
+    /// How many frames were written whole. The count stays at `u64::MAX`.
+    pub frames: u64,
+    /// Where its bytes go.
+    pub writer: Counted<W>,
+}
+
+impl<W: io::Write> Sink<W> {
+    /// Writes nothing yet.
+    pub fn new(container: Container, writer: W) -> Self
+        ensures { result ≡ record {
+          container = container;
+          frames = 0;
+          writer = record { inner = writer; failures = 0; last_failure = None };
+        } }
+    {
+        Sink {
+            container,
+            frames: 0,
+            writer: Counted::new(writer),
+        }
+    }
+
+    /// Returns whether a header can be written to it: raw video has none, and else [`StreamHeader::is_writable`] tells.
+    pub fn takes_header(&self, header: &StreamHeader) -> bool
+        ensures { IsTrue result ↔ TakesHeader self.now header.now }
+    {
+        self.container == Container::Raw || header.is_writable()
+    }
+
+    /// Writes the header line, where the container has one. [`takes_header`](Self::takes_header) is the test of what this asks.
+    ///
+    /// # Errors
+    ///
+    /// [`Problem::Stream`] with the errors of [`write_header`]. A beginning of the line was then written.
+    pub fn write_header(&mut self, alloc: Global, header: &StreamHeader) -> Result<(), StreamError>
+        requires { TakesHeader self.old header.now }
+        ensures ok { OnOk result (Appends (W.contents self.old.writer.inner)
+            (W.contents self.new.writer.inner) (header_bytes self.old.container header.now)) }
+        ensures stopped { IfErr result (IsAtNextWritten self.new) }
+        ensures container { self.new.container ≡ self.old.container }
+        ensures frames { self.new.frames ≡ self.old.frames }
+    {
+        if self.container == Container::Raw {
+            return Ok(());
+        }
+        match write_header(alloc, &mut self.writer, header) {
+            Ok(()) => Ok(()),
+            Err(error) => Err(self.stopped(error)),
+        }
+    }
+
+    /// Writes a frame, with the line in front of it where the container has one.
+    ///
+    /// # Errors
+    ///
+    /// [`Problem::Stream`] with the errors of [`v_frame_planar::write_frame`]. A beginning of the frame was then written.
+    pub fn write_frame<T: Pixel>(&mut self, frame: &Frame<T>) -> Result<(), StreamError>
+        ensures ok { OnOk result (Appends (W.contents self.old.writer.inner)
+            (W.contents self.new.writer.inner)
+            (written_bytes self.old.container (planar_bytes T.form (tables_of frame.now)))) }
+        ensures beginning { OnErr result (AppendsBeginning (W.contents self.old.writer.inner)
+            (W.contents self.new.writer.inner)
+            (written_bytes self.old.container (planar_bytes T.form (tables_of frame.now)))) }
+        ensures stopped { IfErr result (IsAtNextWritten self.new) }
+        ensures container { self.new.container ≡ self.old.container }
+    {
+        let written = match self.container {
+            Container::Y4m => v_frame_y4m::write_frame(&mut self.writer, frame),
+            Container::Raw => match v_frame_planar::write_frame(&mut self.writer, frame) {
+                Ok(()) => Ok(()),
+                Err(error) => Err(Y4mError::Planar(error)),
+            },
+        };
+        match written {
+            Ok(()) => {
+                self.frames = self.frames.saturating_add(1);
+                Ok(())
+            }
+            Err(error) => Err(self.stopped(error)),
+        }
+    }
+
+    /// Writes a frame in a semi-planar layout. [`check_layout`](v_frame_semi_planar::check_layout) is the test of what this asks.
+    ///
+    /// # Errors
+    ///
+    /// [`Problem::Stream`] with the errors of [`v_frame_semi_planar::write_frame`]. A beginning of the frame was then written.
+    pub(crate) fn write_layout<T: Pixel>(
+        &mut self,
+        frame: &Frame<T>,
+        layout: SemiPlanarFormat,
+    ) -> Result<(), StreamError>
+        requires { HasLayout T.form.size layout frame.now }
+        ensures ok { OnOk result (Appends (W.contents self.old.writer.inner)
+            (W.contents self.new.writer.inner) (written_bytes self.old.container
+            (semi_planar_bytes T.form layout (tables_of frame.now)))) }
+        ensures stopped { IfErr result (IsAtNextWritten self.new) }
+        ensures container { self.new.container ≡ self.old.container }
+    {
+        self.begin_frame()?;
+        match write_frame(&mut self.writer, frame, layout) {
+            Ok(()) => {
+                self.end_frame();
+                Ok(())
+            }
+            Err(SemiPlanarError::Planar(error)) => Err(self.stopped(Y4mError::Planar(error))),
+            Err(_) => unreachable!(),
+        }
+    }
+
+    /// Writes what stands in front of the bytes of a frame.
+    pub(crate) fn begin_frame(&mut self) -> Result<(), StreamError>
+        ensures ok { OnOk result (Appends (W.contents self.old.writer.inner)
+            (W.contents self.new.writer.inner) (frame_line self.old.container)) }
+        ensures stopped { IfErr result (IsAtNextWritten self.new) }
+        ensures container { self.new.container ≡ self.old.container }
+    {
+        match self.container {
+            Container::Y4m => self.write_part(b"FRAME\n"),
+            Container::Raw => Ok(()),
+        }
+    }
+
+    /// Writes bytes of a frame.
+    pub(crate) fn write_part(&mut self, bytes: &[u8]) -> Result<(), StreamError>
+        ensures ok { OnOk result (Appends (W.contents self.old.writer.inner)
+            (W.contents self.new.writer.inner) bytes.now) }
+        ensures stopped { IfErr result (IsAtNextWritten self.new) }
+        ensures container { self.new.container ≡ self.old.container }
+    {
+        match self.writer.write_all(bytes) {
+            Ok(()) => Ok(()),
+            Err(fault) => Err(self.stopped(Y4mError::from(fault))),
+        }
+    }
+
+    /// Counts a frame that was written whole.
+    pub(crate) fn end_frame(&mut self)
+        ensures written { W.contents self.new.writer.inner ≡ W.contents self.old.writer.inner }
+        ensures container { self.new.container ≡ self.old.container }
+    {
+        self.frames = self.frames.saturating_add(1);
+    }
+
+    /// Returns the error at the next frame.
+    fn stopped(&self, error: Y4mError) -> StreamError
+        ensures place { IsAtNextWritten self.now result }
+        ensures problem { result.problem ≡ Problem.Stream error }
+        ensures cause { result.cause ≡ self.now.writer.last_failure }
+    {
+        StreamError {
+            place: Place::Output,
+            frames: self.frames,
+            problem: Problem::Stream(error),
+            cause: self.writer.last_failure(),
+        }
+    }
+}

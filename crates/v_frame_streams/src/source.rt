@@ -1,0 +1,338 @@
+//! Streams that are read: the header, and then frame by frame.
+ghost use Rattle.std.specs.Prelude.{◌≡◌, ◌<◌, IfOk};
+ghost use Rattle.std.specs.Io.Buffered.{reader_remaining};
+ghost use Rattle.v_frame_y4m.specs.Frames.{frame_byte_count};
+ghost use Rattle.std.proofs.Props.{props};
+ghost use Rattle.v_frame_streams.specs.Layouts.{HoldsColour};
+
+use crate::colours::holds_colour;
+use crate::error::{Problem, StreamError};
+use crate::stream::{Container, Place};
+use std::alloc::Global;
+use std::io;
+use std::io::BufReader;
+use v_frame_planar::{Counted, PlanarError, read_until_full};
+use v_frame_semi_planar::SemiPlanarFormat;
+use v_frame_y4m::{StreamHeader, Y4mError, read_lax_frame_line, read_lax_header};
+
+/// A stream that is read, of which the header is known.
+#[derive(Drop)]
+pub struct Source<R> {
+    place: Place,
+    container: Container,
+    header: StreamHeader,
+    layout: Option<SemiPlanarFormat>,
+    frame_len: usize,
+    frames: u64,
+    is_lax: bool,
+    reader: Counted<BufReader<R>>,
+    ghost sized: { frame_len ≡ frame_byte_count header },
+    ghost some: { 0 < frame_len },
+    ghost holds: { HoldsColour layout header.colour } by { Prim.hlevel props },
+}
+
+impl<R: io::Read> Source<R> {
+    ghost use Rattle.std.specs.Prelude.{◌≡◌, ◌+◌, ◌≤◌, ◌<◌, [], false, true, length, take, IfErr, IfOk, MatchBool, OnOk};
+    ghost use Rattle.std.specs.Io.KnownBytes.{Consumes, IsAtEnd};
+    ghost use Rattle.v_frame_planar.specs.declared.error.PlanarError.TheVariants.{Truncated};
+    ghost use Rattle.v_frame_y4m.specs.Header.{IsWritable};
+    ghost use Rattle.v_frame_y4m.specs.declared.error.Y4mError.TheVariants.{Planar};
+    ghost use Rattle.v_frame_streams.specs.Sources.{bytes_left, stream_of, IsAtNextFrame, IsOpened};
+    ghost use Rattle.v_frame_streams.specs.Streams.{frames_after, ReadsHeaderLine, ReadsLine, ReadsNext};
+
+    /// Reads the header line of a YUV4MPEG2 stream, or one that stands for it. Its frames are left to be read.
+    ///
+    /// # Errors
+    ///
+    /// [`Problem::Stream`] with the errors of [`read_lax_header`], [`Problem::TooLarge`] where a frame has more than `usize::MAX`
+    /// bytes, and [`Problem::OutOfMemory`] where a request for memory was refused.
+    pub fn y4m(alloc: Global, place: Place, reader: R) -> Result<Self, StreamError>
+    where
+        R: Drop,
+        ensures opened { IfOk result (IsOpened place Container.Y4m) }
+        ensures read { IfOk result (λ source. ReadsHeaderLine (R.remaining reader) (bytes_left R.remaining source)
+            source.header source.is_lax) }
+        ensures writable { IfOk result (λ source. IsWritable source.header) }
+    {
+        let mut reader = buffered(alloc, place, reader)?;
+        match read_lax_header(alloc, &mut reader) {
+            Ok((header, is_strict)) => {
+                Source::new(place, Container::Y4m, header, !is_strict, None, reader)
+            }
+            Err(error) => Err(StreamError {
+                place,
+                frames: 0,
+                problem: Problem::Stream(error),
+                cause: reader.last_failure(),
+            }),
+        }
+    }
+
+    /// Takes headerless raw video, whose frames are as this header says, in a semi-planar layout or else planar. Nothing is read.
+    ///
+    /// # Errors
+    ///
+    /// [`Problem::OtherLayout`] where the layout is for another chroma subsampling or bit depth than the header says,
+    /// [`Problem::TooLarge`] where a frame has no byte, or more than `usize::MAX`, and [`Problem::OutOfMemory`] where a request
+    /// for memory was refused.
+    pub fn raw(
+        alloc: Global,
+        place: Place,
+        header: StreamHeader,
+        layout: Option<SemiPlanarFormat>,
+        reader: R,
+    ) -> Result<Self, StreamError>
+    where
+        R: Drop,
+        ensures opened { IfOk result (IsOpened place Container.Raw) }
+        ensures header { IfOk result (λ source. source.header ≡ header) }
+        ensures strict { IfOk result (λ source. source.is_lax ≡ false) }
+        ensures layout { IfOk result (λ source. source.layout ≡ layout) }
+        ensures holds { OnOk result (HoldsColour layout header.colour) }
+        ensures other_layout { ¬ (HoldsColour layout header.colour)
+            → IfErr result (λ error. error.problem ≡ Problem.OtherLayout) }
+        ensures unread { IfOk result (λ source. bytes_left R.remaining source ≡ R.remaining reader) }
+    {
+        if !holds_colour(layout, header.colour) {
+            return Err(StreamError {
+                place,
+                frames: 0,
+                problem: Problem::OtherLayout,
+                cause: None,
+            });
+        }
+        let reader = buffered(alloc, place, reader)?;
+        Source::new(place, Container::Raw, header, false, layout, reader)
+    }
+
+    /// Returns the stream of a reader that stands in front of its first frame.
+    fn new(
+        place: Place,
+        container: Container,
+        header: StreamHeader,
+        is_lax: bool,
+        layout: Option<SemiPlanarFormat>,
+        reader: Counted<BufReader<R>>,
+    ) -> Result<Self, StreamError>
+    where
+        R: Drop,
+        requires { HoldsColour layout header.colour }
+        ensures layout { IfOk result (λ source. source.layout ≡ layout) }
+        ensures opened { IfOk result (IsOpened place container) }
+        ensures header { IfOk result (λ source. source.header ≡ header) }
+        ensures lax { IfOk result (λ source. source.is_lax ≡ is_lax) }
+        ensures reader { IfOk result (λ source. source.reader ≡ reader) }
+    {
+        match header.frame_len() {
+            Some(frame_len) if frame_len > 0 => Ok(Source {
+                place,
+                container,
+                header,
+                layout,
+                frame_len,
+                frames: 0,
+                is_lax,
+                reader,
+            }),
+            _ => Err(StreamError {
+                place,
+                frames: 0,
+                problem: Problem::TooLarge,
+                cause: None,
+            }),
+        }
+    }
+
+    /// Returns the header.
+    pub fn header(&self) -> &StreamHeader
+        ensures { result.now ≡ self.now.header }
+    {
+        &self.header
+    }
+
+    /// Returns whether the header line was not strict, but stood for one that is. The lines in front of frames are not told of.
+    pub fn is_lax(&self) -> bool
+        ensures { result ≡ self.now.is_lax }
+    {
+        self.is_lax
+    }
+
+    /// Returns the semi-planar layout of the frames. `None` where they are planar.
+    pub fn layout(&self) -> Option<SemiPlanarFormat>
+        ensures value { result ≡ self.now.layout }
+        ensures holds { HoldsColour result self.now.header.colour }
+    {
+        self.layout
+    }
+
+    /// Returns how many bytes a frame has.
+    pub fn frame_len(&self) -> usize
+        ensures value { result ≡ self.now.frame_len }
+        ensures some { 0 < result }
+    {
+        self.frame_len
+    }
+
+    /// Returns how the stream holds its frames.
+    pub fn container(&self) -> Container
+        ensures { result ≡ self.now.container }
+    {
+        self.container
+    }
+
+    /// Returns how many frames were read whole. The count stays at `u64::MAX`.
+    pub fn frames(&self) -> u64
+        ensures { result ≡ self.now.frames }
+    {
+        self.frames
+    }
+
+    /// Counts a frame that was read whole.
+    pub(crate) fn end_frame(&mut self)
+        ensures left { bytes_left R.remaining self.new ≡ bytes_left R.remaining self.old }
+        ensures same { stream_of self.new ≡ stream_of self.old }
+        ensures frames { self.new.frames ≡ frames_after self.old.frames true }
+    {
+        self.frames = self.frames.saturating_add(1);
+    }
+
+    /// Reads the line in front of the next frame, where the container has one, and then so many bytes of the frame as `front`
+    /// has, which is not empty and no longer than a frame. `false` where the stream stood at its end before it.
+    pub(crate) fn begin_frame(&mut self, front: &mut [u8]) -> Result<bool, StreamError>
+        requires some { 0 < length front.old }
+        requires within { length front.old ≤ self.old.frame_len }
+        ensures read { IfOk result (ReadsNext (bytes_left R.remaining self.old)
+            (bytes_left R.remaining self.new) self.old.container front.new) }
+        ensures stopped { IfErr result (IsAtNextFrame self.old) }
+        ensures same { stream_of self.new ≡ stream_of self.old }
+        ensures frames { self.new.frames ≡ self.old.frames }
+        ensures size { length front.new ≡ length front.old }
+    {
+        match self.container {
+            Container::Y4m => {
+                if !self.read_line()? {
+                    return Ok(false);
+                }
+                self.read_part(0, front)?;
+                Ok(true)
+            }
+            Container::Raw => {
+                let found = self.fill(front)?;
+                if found == 0 {
+                    return Ok(false);
+                }
+                if found < front.len() {
+                    return Err(self.truncated(found));
+                }
+                Ok(true)
+            }
+        }
+    }
+
+    /// Reads the next bytes of a frame, after so many.
+    pub(crate) fn read_part(&mut self, before: usize, part: &mut [u8]) -> Result<(), StreamError>
+        requires { before + length part.old ≤ self.old.frame_len }
+        ensures read { OnOk result (Consumes (bytes_left R.remaining self.old)
+            (bytes_left R.remaining self.new) part.new) }
+        ensures stopped { IfErr result (IsAtNextFrame self.old) }
+        ensures same { stream_of self.new ≡ stream_of self.old }
+        ensures frames { self.new.frames ≡ self.old.frames }
+        ensures size { length part.new ≡ length part.old }
+    {
+        let found = self.fill(part)?;
+        if found < part.len() {
+            return Err(self.truncated(before + found));
+        }
+        Ok(())
+    }
+
+    /// Reads the line in front of a frame, or one that stands for it. `false` where the stream stood at its end before it.
+    fn read_line(&mut self) -> Result<bool, StreamError>
+        ensures read { IfOk result (ReadsLine (bytes_left R.remaining self.old)
+            (bytes_left R.remaining self.new)) }
+        ensures stopped { IfErr result (IsAtNextFrame self.old) }
+        ensures same { stream_of self.new ≡ stream_of self.old }
+        ensures frames { self.new.frames ≡ self.old.frames }
+    {
+        match read_lax_frame_line(&mut self.reader) {
+            Ok(more) => Ok(more),
+            Err(error) => Err(self.stopped(error)),
+        }
+    }
+
+    /// Fills a buffer, and returns how much of it was filled before the stream came to its end.
+    fn fill(&mut self, part: &mut [u8]) -> Result<usize, StreamError>
+        ensures bound { IfOk result (λ found. found ≤ length part.new) }
+        ensures read { IfOk result (λ found. Consumes (bytes_left R.remaining self.old)
+            (bytes_left R.remaining self.new) (take found part.new)) }
+        ensures at_end { IfOk result (λ found. found < length part.new
+            → IsAtEnd (bytes_left R.remaining self.new)) }
+        ensures stopped { IfErr result (IsAtNextFrame self.old) }
+        ensures same { stream_of self.new ≡ stream_of self.old }
+        ensures frames { self.new.frames ≡ self.old.frames }
+        ensures size { length part.new ≡ length part.old }
+    {
+        match read_until_full(&mut self.reader, part) {
+            Ok(found) => Ok(found),
+            Err(error) => Err(self.stopped(Y4mError::Planar(error))),
+        }
+    }
+
+    /// Returns the error of a stream that came to its end inside a frame.
+    fn truncated(&self, found: usize) -> StreamError
+        ensures place { IsAtNextFrame self.now result }
+        ensures problem { result.problem ≡ Problem.Stream (Planar (Truncated self.now.frame_len found)) }
+    {
+        self.stopped(Y4mError::Planar(PlanarError::Truncated {
+            expected: self.frame_len,
+            found,
+        }))
+    }
+
+    /// Returns the error where the next frame can't be taken for this reason, and none of it was read.
+    pub(crate) fn refused(&self, problem: Problem) -> StreamError
+        ensures place { IsAtNextFrame self.now result }
+        ensures problem { result.problem ≡ problem }
+    {
+        StreamError {
+            place: self.place,
+            frames: self.frames,
+            problem,
+            cause: None,
+        }
+    }
+
+    /// Returns the error at the next frame.
+    fn stopped(&self, error: Y4mError) -> StreamError
+        ensures place { IsAtNextFrame self.now result }
+        ensures problem { result.problem ≡ Problem.Stream error }
+        ensures cause { result.cause ≡ self.now.reader.last_failure }
+    {
+        StreamError {
+            place: self.place,
+            frames: self.frames,
+            problem: Problem::Stream(error),
+            cause: self.reader.last_failure(),
+        }
+    }
+}
+
+/// Puts a buffer in front of a reader, so that a line takes no call of the system for each of its bytes.
+fn buffered<R: io::Read + Drop>(
+    alloc: Global,
+    place: Place,
+    reader: R,
+) -> Result<Counted<BufReader<R>>, StreamError>
+    ensures { IfOk result (λ buffered. reader_remaining R.remaining buffered.inner
+        ≡ R.remaining reader) }
+{
+    match BufReader::new(alloc, reader) {
+        Ok(reader) => Ok(Counted::new(reader)),
+        Err(_) => Err(StreamError {
+            place,
+            frames: 0,
+            problem: Problem::OutOfMemory,
+            cause: None,
+        }),
+    }
+}
