@@ -18,6 +18,22 @@ pub struct StreamError {
     pub cause: Option<io::ErrorKind>,
 }
 
+impl StreamError {
+    ghost use Rattle.std.specs.Prelude.{◌≡◌, None};
+
+    /// Returns the error in front of the first frame, which no failed read or write caused.
+    pub fn at_start(place: Place, problem: Problem) -> Self
+        ensures { result ≡ record { place = place; frames = 0; problem = problem; cause = None } }
+    {
+        StreamError {
+            place,
+            frames: 0,
+            problem,
+            cause: None,
+        }
+    }
+}
+
 impl fmt::Display for StreamError {
     fn fmt<W: fmt::Write>(&self, f: &mut fmt::Formatter<W>) -> fmt::Result {
         let (frame, problem) = (self.frames.saturating_add(1), &self.problem);

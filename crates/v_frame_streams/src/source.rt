@@ -94,12 +94,7 @@ impl<R: io::Read> Source<R> {
         ensures unread { IfOk result (λ source. bytes_left R.remaining source ≡ R.remaining reader) }
     {
         if !holds_colour(layout, header.colour) {
-            return Err(StreamError {
-                place,
-                frames: 0,
-                problem: Problem::OtherLayout,
-                cause: None,
-            });
+            return Err(StreamError::at_start(place, Problem::OtherLayout));
         }
         let reader = buffered(alloc, place, reader)?;
         Source::new(place, Container::Raw, header, false, layout, reader)
@@ -134,12 +129,7 @@ impl<R: io::Read> Source<R> {
                 is_lax,
                 reader,
             }),
-            _ => Err(StreamError {
-                place,
-                frames: 0,
-                problem: Problem::TooLarge,
-                cause: None,
-            }),
+            _ => Err(StreamError::at_start(place, Problem::TooLarge)),
         }
     }
 
@@ -328,11 +318,6 @@ fn buffered<R: io::Read + Drop>(
 {
     match BufReader::new(alloc, reader) {
         Ok(reader) => Ok(Counted::new(reader)),
-        Err(_) => Err(StreamError {
-            place,
-            frames: 0,
-            problem: Problem::OutOfMemory,
-            cause: None,
-        }),
+        Err(_) => Err(StreamError::at_start(place, Problem::OutOfMemory)),
     }
 }

@@ -33,12 +33,7 @@ pub(crate) fn begin<'f, H: AllocGlobal + Clock, F: Read, I: Read, O, E: io::Writ
     let source = begin_stream(alloc, file, raw)?;
     if source.is_lax() {
         let Ok(line) = header_line(alloc, source.header()) else {
-            return Err(Fault::Header(StreamError {
-                place,
-                frames: 0,
-                problem: Problem::OutOfMemory,
-                cause: None,
-            }));
+            return Err(Fault::Header(StreamError::at_start(place, Problem::OutOfMemory)));
         };
         let line = line.as_slice();
         write_message(

@@ -35,7 +35,6 @@ use crate::generated::v_frame_y4m::StreamHeader;
 /// # Examples
 ///
 /// ```
-/// use v_frame_proved::formats::VideoFormat;
 /// use v_frame_proved::streams::{Container, CopyOptions, Place, Progress, Rectangle, Silent, Sink, Source};
 /// use v_frame_proved::streams::{copy_stream, skip_frames};
 ///
@@ -65,7 +64,6 @@ use crate::generated::v_frame_y4m::StreamHeader;
 /// let mut source = Source::y4m(Place::First, &input[..])?;
 /// assert_eq!(skip_frames(&mut source, 9, &mut told)?, 2);
 /// assert_eq!(told.0, 2);
-/// # let _ = VideoFormat::named("420");
 /// # Ok::<(), v_frame_proved::streams::StreamError>(())
 /// ```
 #[inline]

@@ -19,6 +19,20 @@ pub struct StreamError {
     pub cause: Option<io::ErrorKind>,
 }
 
+impl StreamError {
+    /// Returns the error in front of the first frame, which no failed read or write caused.
+    #[inline]
+    #[must_use]
+    pub fn at_start(place: Place, problem: Problem) -> Self {
+        StreamError {
+            place,
+            frames: 0,
+            problem,
+            cause: None,
+        }
+    }
+}
+
 impl fmt::Display for StreamError {
     fn fmt(&self, f: &mut fmt::Formatter<'_>) -> fmt::Result {
         let (frame, problem) = (self.frames.saturating_add(1), &self.problem);

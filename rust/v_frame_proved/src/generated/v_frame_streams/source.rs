@@ -16,9 +16,8 @@ use crate::generated::v_frame_y4m::{StreamHeader, Y4mError, read_lax_frame_line,
 /// # Examples
 ///
 /// ```
-/// use v_frame_proved::formats::VideoFormat;
 /// use v_frame_proved::semi_planar::SemiPlanarFormat;
-/// use v_frame_proved::streams::{Container, Place, Problem, Source};
+/// use v_frame_proved::streams::{Container, Place, Problem, Source, StreamError};
 ///
 /// // Doubled spaces are taken, and told of.
 /// let source = Source::y4m(Place::First, &b"YUV4MPEG2  W4 H2 F25:1 C420p10\n"[..])?;
@@ -34,9 +33,8 @@ use crate::generated::v_frame_y4m::{StreamHeader, Y4mError, read_lax_frame_line,
 /// let other = Source::raw(Place::First, header, Some(SemiPlanarFormat::Nv12), &[0; 24][..]);
 /// let error = other.err().unwrap();
 /// assert_eq!(error.place, Place::First);
-/// assert!(matches!(error.problem, Problem::OtherLayout));
-/// assert_eq!(VideoFormat::SemiPlanar(SemiPlanarFormat::P010).bit_depth(), 10);
-/// # Ok::<(), v_frame_proved::streams::StreamError>(())
+/// assert_eq!(error.to_string(), StreamError::at_start(Place::First, Problem::OtherLayout).to_string());
+/// # Ok::<(), StreamError>(())
 /// ```
 pub struct Source<R> {
     place: Place,
@@ -87,12 +85,7 @@ impl<R: io::Read> Source<R> {
         reader: R,
     ) -> Result<Self, StreamError> {
         if !holds_colour(layout, header.colour) {
-            return Err(StreamError {
-                place,
-                frames: 0,
-                problem: Problem::OtherLayout,
-                cause: None,
-            });
+            return Err(StreamError::at_start(place, Problem::OtherLayout));
         }
         let reader = buffered(place, reader)?;
         Source::new(place, Container::Raw, header, false, layout, reader)
@@ -118,12 +111,7 @@ impl<R: io::Read> Source<R> {
                 is_lax,
                 reader,
             }),
-            _ => Err(StreamError {
-                place,
-                frames: 0,
-                problem: Problem::TooLarge,
-                cause: None,
-            }),
+            _ => Err(StreamError::at_start(place, Problem::TooLarge)),
         }
     }
 
@@ -261,11 +249,6 @@ fn buffered<R: io::Read>(
 ) -> Result<Counted<BufReader<R>>, StreamError> {
     match BufReader::try_new(reader) {
         Ok(reader) => Ok(Counted::new(reader)),
-        Err(_) => Err(StreamError {
-            place,
-            frames: 0,
-            problem: Problem::OutOfMemory,
-            cause: None,
-        }),
+        Err(_) => Err(StreamError::at_start(place, Problem::OutOfMemory)),
     }
 }

@@ -106,11 +106,6 @@ pub(crate) fn test_pixels(
 ) -> Result<(), StreamError> {
     match header.width.checked_mul(header.height) {
         Some(pixels) if pixels <= most => Ok(()),
-        _ => Err(StreamError {
-            place,
-            frames: 0,
-            problem: Problem::TooManyPixels(most),
-            cause: None,
-        }),
+        _ => Err(StreamError::at_start(place, Problem::TooManyPixels(most))),
     }
 }

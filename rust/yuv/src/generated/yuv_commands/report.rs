@@ -37,10 +37,5 @@ pub(crate) fn write_made<W: io::Write>(
 
 /// Returns the error where there is no memory for what is reported.
 pub(crate) fn no_memory() -> StreamError {
-    StreamError {
-        place: Place::Output,
-        frames: 0,
-        problem: Problem::OutOfMemory,
-        cause: None,
-    }
+    StreamError::at_start(Place::Output, Problem::OutOfMemory)
 }
