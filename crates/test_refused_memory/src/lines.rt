@@ -1,7 +1,7 @@
 //! Header lines of streams, their pieces, and a frame of the size that a header says.
 
-use crate::pictures;
 use crate::show::{show, show_built};
+use crate::streams;
 use std::alloc::AllocError;
 use v_frame::sequence::Sequence;
 use v_frame_planar::Counted;
@@ -47,7 +47,7 @@ fn seen_of_streams(rt: &HostRuntime, name: &str) -> Option<()> {
             show(rt, &(read, str::from_utf8(reader.inner())));
         }
         "write_header" => write_into_room(rt)?,
-        _ => pictures::seen(rt, name)?,
+        _ => streams::seen(rt, name)?,
     }
     Some(())
 }

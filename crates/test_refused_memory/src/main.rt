@@ -16,6 +16,7 @@ mod pictures;
 mod prepared;
 mod replays;
 mod show;
+mod streams;
 
 use show::show_text;
 use std::env;

@@ -1,0 +1,125 @@
+//! Streams of frames: opened, shown in a picture, written, copied and compared.
+
+use crate::pictures;
+use crate::show::show;
+use v_frame_streams::{
+    CompareOptions, Container, CopyOptions, MAX_PIXELS, NoObserver, Picture, Place, Rectangle,
+    Silent, Sink, Source, StreamError, compare_streams, copy_stream,
+};
+use v_frame_y4m::{Colour, StreamHeader};
+
+/// Two frames of two by two pixels, and their header.
+static STREAM: [u8; 42] = *b"YUV4MPEG2 W2 H2 Cmono\nFRAME\nabcdFRAME\nefgh";
+
+/// The pixels of two such frames.
+static PIXELS: [u8; 8] = *b"abcdefgh";
+
+/// Shows the case of this name, here or behind. `None` where a request of its preparation was refused.
+pub fn seen(rt: &HostRuntime, name: &str) -> Option<()> {
+    match name {
+        "stream_with_a_header" => {
+            show_opened(rt, Source::y4m(rt.alloc(), Place::First, STREAM.as_slice()));
+        }
+        "stream_without_a_header" => show_opened(rt, raw_source(rt, Place::Second)),
+        "picture_of_a_stream" => show_picture(rt)?,
+        "header_of_a_sink" => show_header_written(rt)?,
+        "copied_stream" => show_copy(rt)?,
+        "compared_streams" => show_comparison(rt)?,
+        _ => pictures::seen(rt, name)?,
+    }
+    Some(())
+}
+
+/// Prints what is known of a stream that was opened, or why it was not.
+fn show_opened(rt: &HostRuntime, opened: Result<Source<&[u8]>, StreamError>) {
+    match opened {
+        Ok(source) => show(rt, &(source.header(), source.frame_len(), source.is_lax())),
+        Err(error) => show(rt, &error),
+    }
+}
+
+/// Prints a frame that is read into a picture, or why there is no picture.
+fn show_picture(rt: &HostRuntime) -> Option<()> {
+    let mut source = raw_source(rt, Place::First).ok()?;
+    match Picture::<u8>::new(rt.alloc(), &source, MAX_PIXELS) {
+        Ok(mut picture) => {
+            let read = picture.read(&mut source);
+            show(rt, &(read, picture.bytes()));
+        }
+        Err(error) => show(rt, &error),
+    }
+    Some(())
+}
+
+/// Prints what is written of a header into room of a fixed length. Where memory is refused, that is nothing.
+fn show_header_written(rt: &HostRuntime) -> Option<()> {
+    let header = header(rt);
+    let mut room = [0; 24];
+    let mut sink = Sink::new(Container::Y4m, room.as_mut_slice());
+    if !sink.takes_header(&header) {
+        return None;
+    }
+    let written = sink.write_header(rt.alloc(), &header);
+    drop(sink);
+    show(rt, &(written, str::from_utf8(&room)));
+    Some(())
+}
+
+/// Prints how many frames are cut out of others and written into room of a fixed length, and what is there then. Where memory
+/// is refused, that is nothing.
+fn show_copy(rt: &HostRuntime) -> Option<()> {
+    let mut source = raw_source(rt, Place::First).ok()?;
+    let mut room = [0; 40];
+    let mut sink = Sink::new(Container::Y4m, room.as_mut_slice());
+    let mut options = CopyOptions::new();
+    options.crop = Some(Rectangle {
+        x: 1,
+        y: 0,
+        width: 1,
+        height: 2,
+    });
+    let copied = copy_stream(rt.alloc(), &mut source, &mut sink, &options, &mut Silent);
+    drop(sink);
+    show(rt, &(copied, source.frames(), str::from_utf8(&room)));
+    Some(())
+}
+
+/// Prints how far a stream is from itself, one frame later.
+fn show_comparison(rt: &HostRuntime) -> Option<()> {
+    let mut first = raw_source(rt, Place::First).ok()?;
+    let mut second = raw_source(rt, Place::Second).ok()?;
+    let options = CompareOptions {
+        skip_first: 0,
+        skip_second: 1,
+        count: None,
+        max_pixels: MAX_PIXELS,
+    };
+    let compared = compare_streams(
+        rt.alloc(),
+        &mut first,
+        &mut second,
+        &options,
+        &mut NoObserver,
+        &mut Silent,
+    );
+    show(rt, &(compared, first.frames(), second.frames()));
+    Some(())
+}
+
+/// Returns a stream of pixels alone.
+fn raw_source(rt: &HostRuntime, place: Place) -> Result<Source<&'static [u8]>, StreamError> {
+    Source::raw(rt.alloc(), place, header(rt), None, PIXELS.as_slice())
+}
+
+/// Returns the header of the frames. It takes no memory.
+fn header(rt: &HostRuntime) -> StreamHeader {
+    StreamHeader {
+        width: 2,
+        height: 2,
+        frame_rate: None,
+        interlacing: None,
+        pixel_aspect: None,
+        colour: Colour::Mono,
+        extensions: Vec::new(rt.alloc()).into(),
+    }
+}
