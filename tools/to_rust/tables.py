@@ -11,7 +11,7 @@ HOMES = {home: crates.split() for home, crates in {
         v_frame_statistics v_frame_measures v_frame_rgb v_frame_resize v_frame_semi_planar v_frame_png v_frame_chart v_frame_formats
         v_frame_streams""",
     "v_frame_tool": "v_frame_tool_run v_frame_tool",
-    "yuv": "yuv_words yuv_pictures yuv_reports yuv_commands yuv",
+    "yuv": "yuv_files yuv_words yuv_pictures yuv_reports yuv_commands yuv",
     "v_frame_c": "v_frame_c v_frame_y4m_c",
 }.items()}
 

@@ -6,7 +6,8 @@ use std::fs;
 use std::io::{self, BufWriter, Read, Write};
 use std::rt::Files;
 use std::time::Clock;
-use yuv_commands::{Streams, SystemFile, run};
+use yuv_commands::{Streams, run};
+use yuv_files::SystemFile;
 
 /// A run: its arguments, the files that stand for the standard streams, and how many bytes standard output takes.
 #[derive(Drop)]

@@ -5,7 +5,6 @@ pub mod FrameReports
 pub mod Info
 pub mod InputFiles
 pub mod Inputs
-pub mod Messages
 pub mod Nothing
 pub mod Options
 pub mod Outputs

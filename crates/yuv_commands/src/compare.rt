@@ -23,11 +23,11 @@ use std::rt::Files;
 use std::time::Clock;
 use v_frame::chroma::ChromaSubsampling;
 use v_frame_planar::ratios_or_one;
-use v_frame_y4m::StreamHeader;
-use yuv_reports::Report;
 use v_frame_streams::{
     Comparison, FrameObserver, Place, PlaneSums, Progress, Source, StreamError, compare_streams,
 };
+use v_frame_y4m::StreamHeader;
+use yuv_reports::Report;
 use yuv_words::{CompareOptions, ReportForm};
 
 /// Reports how far two streams are apart.

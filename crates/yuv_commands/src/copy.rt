@@ -8,19 +8,18 @@ ghost use Rattle.v_frame_streams.specs.Prelude.{bytes_left, Copies};
 use crate::fault::Fault;
 use crate::input::{begin, expected_frames};
 use crate::input_file::open_file;
-use crate::message::{shown_name, write_message};
 use crate::nothing::NothingTaken;
 use crate::options::{copy_sink, stream_copy, test_limit};
 use crate::output::Output;
 use crate::program::Status;
 use crate::system::System;
-use crate::system_file::SystemFile;
 use std::alloc::Global;
 use std::io;
 use std::rt::Files;
 use std::time::Clock;
-use v_frame_y4m::{Interlacing, StreamHeader};
 use v_frame_streams::{Place, Progress, Sink, Source, StreamError, copy_stream};
+use v_frame_y4m::{Interlacing, StreamHeader};
+use yuv_files::{SystemFile, shown_name, write_message};
 use yuv_words::CopyOptions;
 
 /// Writes a stream once more.

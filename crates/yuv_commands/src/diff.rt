@@ -15,7 +15,6 @@ use crate::output::{Output, is_standard_output};
 use crate::program::Status;
 use crate::report::{no_memory, write_made, write_text};
 use crate::system::System;
-use crate::system_file::SystemFile;
 use std::alloc::{AllocError, Global};
 use std::io;
 use std::rt::Files;
@@ -24,10 +23,11 @@ use v_frame::frame::Frame;
 use v_frame::pixel::Pixel;
 use v_frame_measures::{GreatestDifference, frames_have_one_size};
 use v_frame_planar::Counted;
-use yuv_pictures::{Found, PictureError, PlaneDifference, differences, write_difference_picture};
 use v_frame_streams::{
     CompareOptions, FrameObserver, Place, PlaneSums, Silent, Source, StreamError, compare_streams,
 };
+use yuv_files::SystemFile;
+use yuv_pictures::{Found, PictureError, PlaneDifference, differences, write_difference_picture};
 use yuv_words::DiffOptions;
 
 /// What each difference is multiplied by, where nobody says.

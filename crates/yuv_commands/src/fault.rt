@@ -3,9 +3,9 @@
 use crate::nothing::NothingTaken;
 use std::{fmt, io};
 use v_frame_png::PngError;
+use v_frame_streams::{Place, Problem, StreamError};
 use v_frame_y4m::{HeaderError, Y4mError};
 use yuv_pictures::PictureError;
-use v_frame_streams::{Place, Problem, StreamError};
 
 /// Why a command gave up.
 #[derive(Drop)]

@@ -17,8 +17,8 @@ use v_frame::frame::Frame;
 use v_frame::pixel::Pixel;
 use v_frame_measures::{frame_ssim, frames_have_one_size};
 use v_frame_planar::Counted;
-use yuv_reports::{FrameMeasures, Longer, PlaneName, PlaneValues, Report};
 use v_frame_streams::{Comparison, Component, FrameObserver, Place, PlaneSums, StreamError};
+use yuv_reports::{FrameMeasures, Longer, PlaneName, PlaneValues, Report};
 
 /// Reports each two frames that are compared, and all of them at the end.
 #[derive(Drop)]

@@ -6,15 +6,15 @@ ghost use Rattle.v_frame_streams.specs.Conversions.{layout_in};
 
 use crate::fault::Fault;
 use crate::input_file::InputFile;
-use crate::message::{LaxHeader, shown_name, write_message};
 use crate::system::System;
 use std::alloc::Global;
 use std::io::{self, Read};
 use std::time::Clock;
 use v_frame_formats::VideoFormat;
 use v_frame_semi_planar::SemiPlanarFormat;
-use v_frame_y4m::{StreamHeader, header_line};
 use v_frame_streams::{Container, Problem, Source, StreamError};
+use v_frame_y4m::{StreamHeader, header_line};
+use yuv_files::{LaxHeader, shown_name, write_message};
 use yuv_words::RawVideo;
 
 /// Reads the header of a file that is open, or takes that of headerless raw video. Where the header line is not strict, a

@@ -3,13 +3,13 @@ ghost use Rattle.std.specs.Prelude.{◌≡◌, ◌≤◌, ◌==◌, ◌↔◌, I
 ghost use Rattle.v_frame_y4m.specs.Header.{signature};
 
 use crate::fault::Fault;
-use crate::same_file::{STANDARD_OUTPUT, is_read};
 use std::fs::{self, OpenFile};
 use std::io::{self, Read};
 use std::rt::Files;
 use v_frame_planar::{Counted, read_until_full};
-use v_frame_y4m::Y4mError;
 use v_frame_streams::{Place, Problem, StreamError};
+use v_frame_y4m::Y4mError;
+use yuv_files::{STANDARD_OUTPUT, is_read};
 
 /// How a stream of YUV4MPEG2 begins.
 const MAGIC: &[u8] = b"YUV4MPEG2";

@@ -4,8 +4,8 @@ ghost use Rattle.yuv_commands.specs.Reports.{sums_asked, values_of};
 
 use std::num::nearest_u64_to_f64;
 use v_frame_measures::{FrameMeasure, Mean, psnr};
-use yuv_reports::{FrameMeasures, PlaneValues};
 use v_frame_streams::PlaneSums;
+use yuv_reports::{FrameMeasures, PlaneValues};
 
 /// What measures are made of besides the errors.
 #[derive(Clone, Copy)]

@@ -4,8 +4,8 @@ ghost use Rattle.yuv_commands.specs.Options.{comparison_of, copy_of, most_pixels
 
 use crate::fault::Fault;
 use std::io::Write;
-use v_frame_y4m::StreamHeader;
 use v_frame_streams::{Container, MAX_PIXELS, Place, Problem, Sink, StreamError};
+use v_frame_y4m::StreamHeader;
 
 /// Returns the most pixels of luma that a picture may have.
 pub(crate) fn most_pixels(asked: Option<u64>) -> usize
@@ -60,7 +60,9 @@ pub(crate) fn copy_sink<W: Write>(options: &yuv_words::CopyOptions, writer: W) -
 }
 
 /// Returns what a comparison takes of two streams.
-pub(crate) fn stream_comparison(options: &yuv_words::CompareOptions) -> v_frame_streams::CompareOptions
+pub(crate) fn stream_comparison(
+    options: &yuv_words::CompareOptions,
+) -> v_frame_streams::CompareOptions
     ensures { result ≡ comparison_of options.now }
 {
     taken_of_both(

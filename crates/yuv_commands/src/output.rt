@@ -1,14 +1,11 @@
 //! What a command writes to: a file that replaces its target, or standard output.
 
 use crate::fault::Fault;
-use crate::message::write_message;
-use crate::same_file::is_read;
-use crate::system_file::SystemFile;
-use crate::target::TargetFile;
 use std::fs::OpenFile;
 use std::io::{self, Write};
 use std::rt::Files;
 use v_frame_streams::Place;
+use yuv_files::{SystemFile, TargetFile, is_read, write_message};
 
 /// A file, or standard output.
 #[derive(Drop)]

@@ -13,7 +13,6 @@ use crate::output::Output;
 use crate::program::Status;
 use crate::report::{no_memory, write_text};
 use crate::system::System;
-use crate::system_file::SystemFile;
 use std::alloc::{AllocError, Global};
 use std::io::{self, Write};
 use std::rt::Files;
@@ -23,10 +22,11 @@ use v_frame::pixel::Pixel;
 use v_frame_chart::{Chart, Series, svg};
 use v_frame_measures::{frame_ssim, frames_have_one_size};
 use v_frame_planar::Counted;
-use yuv_reports::PlaneValues;
 use v_frame_streams::{
     CompareOptions, FrameObserver, Place, PlaneSums, Progress, Source, StreamError, compare_streams,
 };
+use yuv_files::SystemFile;
+use yuv_reports::PlaneValues;
 use yuv_words::PlotOptions;
 
 /// Draws how far two streams are apart.

@@ -8,7 +8,6 @@ use crate::copy::do_copy;
 use crate::diff::do_diff;
 use crate::fault::Fault;
 use crate::info::do_info;
-use crate::message::{shown_name, write_message};
 use crate::plot::do_plot;
 use crate::progress::ProgressLine;
 use crate::report::write_text;
@@ -16,12 +15,12 @@ use crate::show::do_show;
 use crate::stats::do_stats;
 use crate::sum::do_sum;
 use crate::system::System;
-use crate::system_file::SystemFile;
 use std::io;
 use std::rt::Files;
 use std::time::Clock;
 use v_frame_planar::Counted;
 use v_frame_streams::Place;
+use yuv_files::{SystemFile, shown_name, write_message};
 use yuv_words::{Command, UsageError, help_topic, read_command, usage_text};
 
 /// What `yuv --version` prints.

@@ -6,8 +6,8 @@ ghost use Rattle.v_frame_planar.specs.Counted.{AppendsBeginning};
 use std::alloc::AllocError;
 use std::io;
 use v_frame_planar::{Counted, PlanarError};
-use v_frame_y4m::Y4mError;
 use v_frame_streams::{Place, Problem, StreamError};
+use v_frame_y4m::Y4mError;
 
 /// Writes a text.
 pub(crate) fn write_text<W: io::Write>(out: &mut Counted<W>, text: &str) -> Result<(), StreamError>

@@ -13,7 +13,6 @@ use crate::options::{frames_before, most_pixels, stream_rectangle, test_pixels};
 use crate::output::Output;
 use crate::program::Status;
 use crate::system::System;
-use crate::system_file::SystemFile;
 use std::alloc::Global;
 use std::io;
 use std::rt::Files;
@@ -22,11 +21,12 @@ use v_frame::frame::Frame;
 use v_frame::pixel::Pixel;
 use v_frame_rgb::{ColourRange, Standard};
 use v_frame_semi_planar::SemiPlanarFormat;
-use v_frame_y4m::StreamHeader;
-use yuv_pictures::{Colours, PictureError, write_frame_picture, write_plane_picture};
 use v_frame_streams::{
     Container, CopyOptions, Picture, Place, Silent, Sink, Source, StreamError, copy_stream,
 };
+use v_frame_y4m::StreamHeader;
+use yuv_files::SystemFile;
+use yuv_pictures::{Colours, PictureError, write_frame_picture, write_plane_picture};
 use yuv_words::{PlaneName, ShowOptions};
 
 /// Writes a frame of a stream as a picture.

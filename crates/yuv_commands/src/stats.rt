@@ -11,7 +11,6 @@ ghost use Rattle.v_frame_streams.specs.Prelude.{bytes_left, sizes_in, IsMadeFor}
 use crate::fault::Fault;
 use crate::input::{begin, expected_frames};
 use crate::input_file::open_file;
-use crate::message::{shown_name, write_message};
 use crate::nothing::NothingTaken;
 use crate::options::most_pixels;
 use crate::program::Status;
@@ -28,8 +27,9 @@ use std::time::Clock;
 use v_frame::frame::Frame;
 use v_frame::plane::Plane;
 use v_frame_planar::Counted;
-use yuv_reports::{PlaneName, push_histogram};
 use v_frame_streams::{Picture, Place, Progress, Silent, Source, StreamError, skip_frames};
+use yuv_files::{shown_name, write_message};
+use yuv_reports::{PlaneName, push_histogram};
 use yuv_words::StatsOptions;
 
 /// Reports what values the samples of each plane have, over all frames.

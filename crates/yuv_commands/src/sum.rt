@@ -13,7 +13,6 @@ ghost use Rattle.v_frame_streams.specs.Prelude.{bytes_left, sizes_in, IsMadeFor}
 use crate::fault::Fault;
 use crate::input::{begin, expected_frames};
 use crate::input_file::open_file;
-use crate::message::{shown_name, write_message};
 use crate::nothing::NothingTaken;
 use crate::options::most_pixels;
 use crate::program::Status;
@@ -27,8 +26,9 @@ use v_frame::frame::Frame;
 use v_frame::pixel::Pixel;
 use v_frame_planar::Counted;
 use v_frame_png::crc32;
-use yuv_reports::{Checksums, push_checksums};
 use v_frame_streams::{Picture, Place, Progress, Silent, Source, StreamError, skip_frames};
+use yuv_files::{shown_name, write_message};
+use yuv_reports::{Checksums, push_checksums};
 use yuv_words::SumOptions;
 
 /// Reports a checksum of each frame.

@@ -28,6 +28,7 @@ mod support;
 mod generated {
     pub mod yuv;
     pub mod yuv_commands;
+    pub mod yuv_files;
     pub mod yuv_pictures;
     pub mod yuv_reports;
     pub mod yuv_words;

@@ -16,11 +16,11 @@ use crate::support::fs::Files;
 use crate::support::time::Clock;
 use v_frame_proved::chroma::ChromaSubsampling;
 use v_frame_proved::planar::ratios_or_one;
-use v_frame_proved::y4m::StreamHeader;
-use crate::generated::yuv_reports::Report;
 use v_frame_proved::streams::{
     Comparison, FrameObserver, Place, PlaneSums, Progress, Source, StreamError, compare_streams,
 };
+use v_frame_proved::y4m::StreamHeader;
+use crate::generated::yuv_reports::Report;
 use crate::generated::yuv_words::{CompareOptions, ReportForm};
 
 /// Reports how far two streams are apart.

@@ -4,18 +4,17 @@
 use crate::generated::yuv_commands::fault::Fault;
 use crate::generated::yuv_commands::input::{begin, expected_frames};
 use crate::generated::yuv_commands::input_file::open_file;
-use crate::generated::yuv_commands::message::{shown_name, write_message};
 use crate::generated::yuv_commands::nothing::NothingTaken;
 use crate::generated::yuv_commands::options::{copy_sink, stream_copy, test_limit};
 use crate::generated::yuv_commands::output::Output;
 use crate::generated::yuv_commands::program::Status;
 use crate::generated::yuv_commands::system::System;
-use crate::generated::yuv_commands::system_file::SystemFile;
 use std::io;
 use crate::support::fs::Files;
 use crate::support::time::Clock;
-use v_frame_proved::y4m::{Interlacing, StreamHeader};
 use v_frame_proved::streams::{Place, Progress, Sink, Source, StreamError, copy_stream};
+use v_frame_proved::y4m::{Interlacing, StreamHeader};
+use crate::generated::yuv_files::{SystemFile, shown_name, write_message};
 use crate::generated::yuv_words::CopyOptions;
 
 /// Writes a stream once more.

@@ -10,7 +10,6 @@ use crate::generated::yuv_commands::output::{Output, is_standard_output};
 use crate::generated::yuv_commands::program::Status;
 use crate::generated::yuv_commands::report::{no_memory, write_made, write_text};
 use crate::generated::yuv_commands::system::System;
-use crate::generated::yuv_commands::system_file::SystemFile;
 use v_frame_proved::support::AllocError;
 use std::io;
 use crate::support::fs::Files;
@@ -19,10 +18,11 @@ use v_frame_proved::frame::Frame;
 use v_frame_proved::pixel::Pixel;
 use v_frame_proved::measures::{GreatestDifference, frames_have_one_size};
 use v_frame_proved::planar::Counted;
-use crate::generated::yuv_pictures::{Found, PictureError, PlaneDifference, differences, write_difference_picture};
 use v_frame_proved::streams::{
     CompareOptions, FrameObserver, Place, PlaneSums, Silent, Source, StreamError, compare_streams,
 };
+use crate::generated::yuv_files::SystemFile;
+use crate::generated::yuv_pictures::{Found, PictureError, PlaneDifference, differences, write_difference_picture};
 use crate::generated::yuv_words::DiffOptions;
 
 /// What each difference is multiplied by, where nobody says.

@@ -5,9 +5,9 @@ use crate::generated::yuv_commands::nothing::NothingTaken;
 use core::fmt;
 use std::io;
 use v_frame_proved::png::PngError;
+use v_frame_proved::streams::{Place, Problem, StreamError};
 use v_frame_proved::y4m::{HeaderError, Y4mError};
 use crate::generated::yuv_pictures::PictureError;
-use v_frame_proved::streams::{Place, Problem, StreamError};
 
 /// Why a command gave up.
 pub enum Fault {

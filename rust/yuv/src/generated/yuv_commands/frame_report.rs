@@ -9,8 +9,8 @@ use v_frame_proved::frame::Frame;
 use v_frame_proved::pixel::Pixel;
 use v_frame_proved::measures::{frame_ssim, frames_have_one_size};
 use v_frame_proved::planar::Counted;
-use crate::generated::yuv_reports::{FrameMeasures, Longer, PlaneName, PlaneValues, Report};
 use v_frame_proved::streams::{Comparison, Component, FrameObserver, Place, PlaneSums, StreamError};
+use crate::generated::yuv_reports::{FrameMeasures, Longer, PlaneName, PlaneValues, Report};
 
 /// Reports each two frames that are compared, and all of them at the end.
 pub(crate) struct FrameReport<W> {

@@ -3,15 +3,15 @@
 
 use crate::generated::yuv_commands::fault::Fault;
 use crate::generated::yuv_commands::input_file::InputFile;
-use crate::generated::yuv_commands::message::{LaxHeader, shown_name, write_message};
 use crate::generated::yuv_commands::system::System;
 use std::io;
 use std::io::Read;
 use crate::support::time::Clock;
 use v_frame_proved::formats::VideoFormat;
 use v_frame_proved::semi_planar::SemiPlanarFormat;
-use v_frame_proved::y4m::{StreamHeader, header_line};
 use v_frame_proved::streams::{Container, Problem, Source, StreamError};
+use v_frame_proved::y4m::{StreamHeader, header_line};
+use crate::generated::yuv_files::{LaxHeader, shown_name, write_message};
 use crate::generated::yuv_words::RawVideo;
 
 /// Reads the header of a file that is open, or takes that of headerless raw video. Where the header line is not strict, a

@@ -2,15 +2,15 @@
 //! Files by their names, and standard input.
 
 use crate::generated::yuv_commands::fault::Fault;
-use crate::generated::yuv_commands::same_file::{STANDARD_OUTPUT, is_read};
 use crate::support::fs;
 use crate::support::fs::OpenFile;
 use std::io;
 use std::io::Read;
 use crate::support::fs::Files;
 use v_frame_proved::planar::{Counted, read_until_full};
-use v_frame_proved::y4m::Y4mError;
 use v_frame_proved::streams::{Place, Problem, StreamError};
+use v_frame_proved::y4m::Y4mError;
+use crate::generated::yuv_files::{STANDARD_OUTPUT, is_read};
 
 /// How a stream of YUV4MPEG2 begins.
 const MAGIC: &[u8] = b"YUV4MPEG2";

@@ -3,8 +3,8 @@
 
 use v_frame_proved::support::numbers::nearest_u64_to_f64;
 use v_frame_proved::measures::{FrameMeasure, Mean, psnr};
-use crate::generated::yuv_reports::{FrameMeasures, PlaneValues};
 use v_frame_proved::streams::PlaneSums;
+use crate::generated::yuv_reports::{FrameMeasures, PlaneValues};
 
 /// What measures are made of besides the errors.
 #[derive(Clone, Copy)]

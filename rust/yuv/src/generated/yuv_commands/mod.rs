@@ -3,11 +3,10 @@
 //! bytes that it writes.
 //!
 //! `yuv_words` reads the words, `streams` moves and compares frames, `yuv_reports` and `yuv_pictures` say and show what was
-//! found. Here stand the files, the messages, and what each option asks of the layers below.
+//! found, `yuv_files` has the files. Here stands what each option asks of the layers below.
 
 mod compare;
 mod copy;
-mod destination;
 mod diff;
 mod fault;
 mod frame_report;
@@ -15,23 +14,18 @@ mod info;
 mod input;
 mod input_file;
 mod measures;
-mod message;
 mod nothing;
 mod options;
 mod output;
-mod partial;
 mod plot;
 mod program;
 mod progress;
 mod report;
-mod same_file;
 mod show;
 mod statistics;
 mod stats;
 mod sum;
 mod system;
-mod system_file;
-mod target;
 mod value_counts;
 mod values;
 
@@ -41,5 +35,3 @@ pub use input_file::InputFile;
 pub use nothing::NothingTaken;
 pub use program::{Status, Streams, VERSION, refuse, run};
 pub use progress::ProgressLine;
-pub use system_file::{Holder, SystemFile};
-pub use target::TargetFile;

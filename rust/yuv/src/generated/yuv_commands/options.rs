@@ -3,8 +3,8 @@
 
 use crate::generated::yuv_commands::fault::Fault;
 use std::io::Write;
-use v_frame_proved::y4m::StreamHeader;
 use v_frame_proved::streams::{Container, MAX_PIXELS, Place, Problem, Sink, StreamError};
+use v_frame_proved::y4m::StreamHeader;
 
 /// Returns the most pixels of luma that a picture may have.
 pub(crate) fn most_pixels(asked: Option<u64>) -> usize {
@@ -49,7 +49,9 @@ pub(crate) fn copy_sink<W: Write>(options: &crate::generated::yuv_words::CopyOpt
 }
 
 /// Returns what a comparison takes of two streams.
-pub(crate) fn stream_comparison(options: &crate::generated::yuv_words::CompareOptions) -> v_frame_proved::streams::CompareOptions {
+pub(crate) fn stream_comparison(
+    options: &crate::generated::yuv_words::CompareOptions,
+) -> v_frame_proved::streams::CompareOptions {
     taken_of_both(
         options.skip,
         options.skip_second,

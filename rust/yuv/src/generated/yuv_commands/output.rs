@@ -2,15 +2,12 @@
 //! What a command writes to: a file that replaces its target, or standard output.
 
 use crate::generated::yuv_commands::fault::Fault;
-use crate::generated::yuv_commands::message::write_message;
-use crate::generated::yuv_commands::same_file::is_read;
-use crate::generated::yuv_commands::system_file::SystemFile;
-use crate::generated::yuv_commands::target::TargetFile;
 use crate::support::fs::OpenFile;
 use std::io;
 use std::io::Write;
 use crate::support::fs::Files;
 use v_frame_proved::streams::Place;
+use crate::generated::yuv_files::{SystemFile, TargetFile, is_read, write_message};
 
 /// A file, or standard output.
 pub(crate) enum Output<'a, F, O> {

@@ -13,7 +13,6 @@ use crate::generated::yuv_commands::output::Output;
 use crate::generated::yuv_commands::program::Status;
 use crate::generated::yuv_commands::report::{no_memory, write_text};
 use crate::generated::yuv_commands::system::System;
-use crate::generated::yuv_commands::system_file::SystemFile;
 use v_frame_proved::support::AllocError;
 use std::io;
 use std::io::Write;
@@ -24,10 +23,11 @@ use v_frame_proved::pixel::Pixel;
 use v_frame_proved::chart::{Chart, Series, svg};
 use v_frame_proved::measures::{frame_ssim, frames_have_one_size};
 use v_frame_proved::planar::Counted;
-use crate::generated::yuv_reports::PlaneValues;
 use v_frame_proved::streams::{
     CompareOptions, FrameObserver, Place, PlaneSums, Progress, Source, StreamError, compare_streams,
 };
+use crate::generated::yuv_files::SystemFile;
+use crate::generated::yuv_reports::PlaneValues;
 use crate::generated::yuv_words::PlotOptions;
 
 /// Draws how far two streams are apart.

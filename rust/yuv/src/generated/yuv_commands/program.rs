@@ -6,7 +6,6 @@ use crate::generated::yuv_commands::copy::do_copy;
 use crate::generated::yuv_commands::diff::do_diff;
 use crate::generated::yuv_commands::fault::Fault;
 use crate::generated::yuv_commands::info::do_info;
-use crate::generated::yuv_commands::message::{shown_name, write_message};
 use crate::generated::yuv_commands::plot::do_plot;
 use crate::generated::yuv_commands::progress::ProgressLine;
 use crate::generated::yuv_commands::report::write_text;
@@ -14,12 +13,12 @@ use crate::generated::yuv_commands::show::do_show;
 use crate::generated::yuv_commands::stats::do_stats;
 use crate::generated::yuv_commands::sum::do_sum;
 use crate::generated::yuv_commands::system::System;
-use crate::generated::yuv_commands::system_file::SystemFile;
 use std::io;
 use crate::support::fs::Files;
 use crate::support::time::Clock;
 use v_frame_proved::planar::Counted;
 use v_frame_proved::streams::Place;
+use crate::generated::yuv_files::{SystemFile, shown_name, write_message};
 use crate::generated::yuv_words::{Command, UsageError, help_topic, read_command, usage_text};
 
 /// What `yuv --version` prints.

@@ -4,8 +4,8 @@
 use v_frame_proved::support::AllocError;
 use std::io;
 use v_frame_proved::planar::{Counted, PlanarError};
-use v_frame_proved::y4m::Y4mError;
 use v_frame_proved::streams::{Place, Problem, StreamError};
+use v_frame_proved::y4m::Y4mError;
 
 /// Writes a text.
 pub(crate) fn write_text<W: io::Write>(out: &mut Counted<W>, text: &str) -> Result<(), StreamError> {

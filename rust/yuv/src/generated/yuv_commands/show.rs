@@ -8,7 +8,6 @@ use crate::generated::yuv_commands::options::{frames_before, most_pixels, stream
 use crate::generated::yuv_commands::output::Output;
 use crate::generated::yuv_commands::program::Status;
 use crate::generated::yuv_commands::system::System;
-use crate::generated::yuv_commands::system_file::SystemFile;
 use std::io;
 use crate::support::fs::Files;
 use crate::support::time::Clock;
@@ -16,11 +15,12 @@ use v_frame_proved::frame::Frame;
 use v_frame_proved::pixel::Pixel;
 use v_frame_proved::rgb::{ColourRange, Standard};
 use v_frame_proved::semi_planar::SemiPlanarFormat;
-use v_frame_proved::y4m::StreamHeader;
-use crate::generated::yuv_pictures::{Colours, PictureError, write_frame_picture, write_plane_picture};
 use v_frame_proved::streams::{
     Container, CopyOptions, Picture, Place, Silent, Sink, Source, StreamError, copy_stream,
 };
+use v_frame_proved::y4m::StreamHeader;
+use crate::generated::yuv_files::SystemFile;
+use crate::generated::yuv_pictures::{Colours, PictureError, write_frame_picture, write_plane_picture};
 use crate::generated::yuv_words::{PlaneName, ShowOptions};
 
 /// Writes a frame of a stream as a picture.

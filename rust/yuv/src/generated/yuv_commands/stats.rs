@@ -5,7 +5,6 @@ use v_frame_proved::support::memory::TryString;
 use crate::generated::yuv_commands::fault::Fault;
 use crate::generated::yuv_commands::input::{begin, expected_frames};
 use crate::generated::yuv_commands::input_file::open_file;
-use crate::generated::yuv_commands::message::{shown_name, write_message};
 use crate::generated::yuv_commands::nothing::NothingTaken;
 use crate::generated::yuv_commands::options::most_pixels;
 use crate::generated::yuv_commands::program::Status;
@@ -22,8 +21,9 @@ use crate::support::time::Clock;
 use v_frame_proved::frame::Frame;
 use v_frame_proved::plane::Plane;
 use v_frame_proved::planar::Counted;
-use crate::generated::yuv_reports::{PlaneName, push_histogram};
 use v_frame_proved::streams::{Picture, Place, Progress, Silent, Source, StreamError, skip_frames};
+use crate::generated::yuv_files::{shown_name, write_message};
+use crate::generated::yuv_reports::{PlaneName, push_histogram};
 use crate::generated::yuv_words::StatsOptions;
 
 /// Reports what values the samples of each plane have, over all frames.

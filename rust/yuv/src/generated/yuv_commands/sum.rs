@@ -4,7 +4,6 @@
 use crate::generated::yuv_commands::fault::Fault;
 use crate::generated::yuv_commands::input::{begin, expected_frames};
 use crate::generated::yuv_commands::input_file::open_file;
-use crate::generated::yuv_commands::message::{shown_name, write_message};
 use crate::generated::yuv_commands::nothing::NothingTaken;
 use crate::generated::yuv_commands::options::most_pixels;
 use crate::generated::yuv_commands::program::Status;
@@ -17,8 +16,9 @@ use v_frame_proved::frame::Frame;
 use v_frame_proved::pixel::Pixel;
 use v_frame_proved::planar::Counted;
 use v_frame_proved::png::crc32;
-use crate::generated::yuv_reports::{Checksums, push_checksums};
 use v_frame_proved::streams::{Picture, Place, Progress, Silent, Source, StreamError, skip_frames};
+use crate::generated::yuv_files::{shown_name, write_message};
+use crate::generated::yuv_reports::{Checksums, push_checksums};
 use crate::generated::yuv_words::SumOptions;
 
 /// Reports a checksum of each frame.

@@ -42,7 +42,7 @@ struct Replacement {
 
 /// What of a target can't be kept.
 #[derive(Clone, Copy)]
-pub(crate) enum Loss {
+pub enum Loss {
     /// No file can be made beside it, so it is lost should the run fail.
     Bytes,
     /// Its owner or its group.
@@ -61,17 +61,17 @@ impl fmt::Display for Loss {
 
 impl<F: OpenFile> TargetFile<F> {
     /// Returns whether the file is the target itself.
-    pub(crate) fn is_written_in_place(&self) -> bool {
+    pub fn is_written_in_place(&self) -> bool {
         self.replacement.is_none()
     }
 
     /// Returns what of the target can't be kept.
-    pub(crate) fn loss(&self) -> Option<Loss> {
+    pub fn loss(&self) -> Option<Loss> {
         self.loss
     }
 
     /// Takes the old bytes from a target that is rewritten.
-    pub(crate) fn begin(&mut self) -> io::Result<()>
+    pub fn begin(&mut self) -> io::Result<()>
         ensures { self.new.file ≡ self.old.file }
     {
         if self.is_untouched {
