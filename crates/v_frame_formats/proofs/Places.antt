@@ -1,5 +1,5 @@
 -- Where each format stands in the table, so that no two are written alike.
-use Rattle.std.proofs.Common.{ℕ, ◌≡◌, ◌≢◌, ◌×◌, ◌⊎◌, ◌+◌, ◌<◌, ◌≤◌, List, get_or, refl, sym, ◌∙◌, ap, arith, lit<}
+use Rattle.std.proofs.Common.{ℕ, ◌≡◌, ◌≢◌, ◌⊎◌, ◌+◌, ◌<◌, ◌≤◌, List, get_or, refl, sym, ◌∙◌, ap, arith, lit<}
 use Rattle.std.proofs.Common.{rules, subst}
 use Rattle.std.specs.Prelude.{None, Some}
 use Rattle.std.specs.List.{AllByRecursion}

@@ -1,7 +1,7 @@
 -- Numbers that belong to the planes of a frame. None is larger than what 128 bits hold.
 use Rattle.std.specs.Prelude.{ℕ, ◌+◌, ◌-◌, ◌*◌, ◌^◌, min, Option, Some, None, option_map}
-use Rattle.yuv_streams.specs.Pictures.{Sizes}
-use Rattle.yuv_streams.specs.declared.sums.PlaneSums.{PlaneSums}
+use Rattle.v_frame_streams.specs.Pictures.{Sizes}
+use Rattle.v_frame_streams.specs.declared.sums.PlaneSums.{PlaneSums}
 
 abbrev pub u128_max : ℕ
 u128_max = 2 ^ 128 - 1
