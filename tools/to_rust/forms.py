@@ -40,7 +40,7 @@ ERRORS = [("error-derive", form) for form in ("# [ error ( .. ) ]", "# [ source 
 MEMORY = [
     ("memory-macro", "« vec ! [ » « in @ ; » .. « ; » .. « ] »", "repeated(", "", ",", ")"),
     ("memory-macro", "« format ! ( » « in @ ; » .. « ) »", "try_format(format_args!(", "", "))"),
-    *[("memory-macro", f"! {opening} in", None) for opening in "[("],
+    *[("memory-macro", f"{name} !", None) for name in ("vec", "format")],
     ("allocator-variable", "let alloc = @ ;"),
     *[("allocator-bound", bound) for bound in ("+ AllocGlobal", "AllocGlobal +")],
     *[("allocator-parameter", f"{before} « @ : Global , »") for before in "({,"],
@@ -51,6 +51,8 @@ MEMORY = [
     ("memory-call", "BufReader :: « new » ( @", "try_new"),
     ("memory-call", ". « to_string » ( @", "try_to_string"),
     ("memory-call", ". « collect » ( @", "try_collect_vec"),
+    *[("memory-call", form, None) for form in ("Vec :: from_slice", "Vec :: with_capacity", "BufReader :: new",
+                                               ". to_string (", ". collect (", ". collect ::")],
     ("clone", ". « clone » ( @", "try_clone"),
     ("clone", "pub fn « clone » (", "try_clone"),
     ("clone", "fn clone ( & self ) -> _ {", None),
@@ -74,6 +76,9 @@ OTHERS = [
     ("slice-trait", "impl < T > AsSlice < T > for _ < T > { .. }"),
     ("slice-trait", "« DerefSlice » for _ < T > { type « Elem » = « T » ;", "Deref", "Target", "[T]"),
     ("handle", "« eprintln » ! ( « rt ; »", "writeln", "std::io::stderr(),"),
+    ("handle", "eprintln !", None),
+    # Rattle does not read such a base where all fields are written.
+    ("handle", ", .. _ [", None),
     ("handle", "« » fn main ( rt : HostRuntime )", "pub"),
 ]
 
