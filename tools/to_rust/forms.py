@@ -33,9 +33,6 @@ PROOFS = [
     ("drop-derive", "# [ derive ( ) ]"),
 ]
 
-# What `thiserror` reads.
-ERRORS = [("error-derive", form) for form in ("# [ error ( .. ) ]", "# [ source ]", "# [ from ]")]
-
 # Memory: `Vec` and `String` are Rust's own. What grows or makes one reserves first, by traits of `support::memory`.
 MEMORY = [
     ("memory-macro", "« vec ! [ » « in @ ; » .. « ; » .. « ] »", "repeated(", "", ",", ")"),
