@@ -9,8 +9,8 @@ KEYWORDS = {"fn", "struct", "enum", "trait", "impl", "mod", "use", "const", "sta
 QUALIFIERS = {"const", "unsafe", "final", "extern"}
 CLAUSE_WORDS = ("requires", "ensures")
 
-# A `requires` or an `ensures`, and what it says.
-Clause = namedtuple("Clause", "word text")
+# A `requires` or an `ensures`, what it says, and where it stands.
+Clause = namedtuple("Clause", "word text place")
 
 
 class Item:
@@ -113,7 +113,7 @@ def read_function(source, at, item):
         if source[start] != "{":
             source.refuse(start, f"a form of `{source[at]}` that is not known")
         end = source.closing(start)
-        item.clauses.append(Clause(source[at], source.words(start + 1, end)))
+        item.clauses.append(Clause(source[at], source.words(start + 1, end), source.tokens[at].place))
         at = end + 1
     if source[at] == "{":
         item.body = (at, source.closing(at))

@@ -135,8 +135,9 @@ class Source:
         that no change made are the source's, read anew, in their order; and the text is read as these tokens."""
         tidy(self.tokens)
         text = "".join(token.lead + token.text for token in self.tokens)
-        if [token.text for token in tokens_of(text, self.path)] != [token.text for token in self.tokens]:
-            raise Refused(self.path, "the text is not read as the tokens that it was made of")
+        for token, read in zip(self.tokens, tokens_of(text, self.path)):
+            if token.text != read.text:
+                raise Refused(token.place, f"`{token.text}` is read as `{read.text}`")
         left = iter(token.text for token in tokens_of(self.original, self.path))
         for token in self.tokens:
             if token.edit is None and token.text not in left:
