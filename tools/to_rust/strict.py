@@ -9,6 +9,8 @@ from .paths import STD, home_of, leaves_of
 
 TABLE = pathlib.Path(__file__).with_name("known.md").read_text(encoding="utf-8")
 KNOWN = {kind: set(words.split()) for kind, words in re.findall(r"^\| (\w+) \| `(.*)` \|$", TABLE, re.M)}
+WRITING = {"eprintln", "format", "unreachable", "write", "writeln"}
+FORMAT = re.compile(r"\{[^{}]*:([^{}]*)\}")
 LITERALS = ("number", "string", "char")
 LEFT_OVER = {"ghost", "requires", "ensures", "Drop", "Model", "Global", "alloc", "_alloc", "rt", "HostRuntime", "prove",
              "thiserror", "std_alloc", "Rattle", "AsSlice", "DerefSlice", "AllocFailed"}
@@ -91,6 +93,11 @@ def check_word(source, at, names, bound):
         source.refuse(at, f"a word that is not known here: {word}")
     if after == "!" and (plain or source[at + 2] in ("(", "[", "{")) and word not in KNOWN["macros"]:
         source.refuse(at, f"a macro that is not known: {word}!")
+    if after == "!" and word in WRITING:
+        for k in range(at, source.closing(at + 2)):
+            forms = FORMAT.findall(source[k]) if source.kind(k) == "string" else []
+            if set(forms) - KNOWN["formats"]:
+                source.refuse(k, f"a format that is not known: {' '.join(forms)}")
     if before == "." and after in ("(", "::"):
         if word not in names.methods:
             source.refuse(at, f"a method that is not known: {word}")
