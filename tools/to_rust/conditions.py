@@ -99,11 +99,12 @@ class Reader:
     """Reads a clause of a function, whose parameters have types as texts; those of its types are of the type `type`."""
 
     def __init__(self, source, item, clause):
-        self.clause = clause
         lists = [it.generics for it in (item.owner, item) if it and it.generics]
+        self.clause = clause
         self.types = {source[at]: "type" for start, end in lists for at in range(start, end)}
         for start, at, end in parameters_of(source, item):
             behind = source.words(at + 2, end)
+            self.known(item.owner or end > at + 1)
             self.types[source[at]] = behind if end > at + 1 else f"{source.words(start, at)} {item.owner.subject}"
 
     def known(self, found):

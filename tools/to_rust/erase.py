@@ -68,9 +68,12 @@ def erase_laws(sources):
         if not source.module or any(item.kind != "use" or item.visible for item in items_of(source)):
             kept.append(source)
             continue
-        parent = next(it for it in sources if (it.crate, it.module) == (source.crate, source.module[:-1]))
-        item = next(item for item in items_of(parent) if (item.kind, item.name) == ("mod", source.module[-1]))
-        parent.erase(item.start, item.end, "law-module")
+        parents = [it for it in sources if (it.crate, it.module) == (source.crate, source.module[:-1])]
+        named = [(parent, item) for parent in parents for item in items_of(parent)
+                 if (item.kind, item.name) == ("mod", source.module[-1])]
+        if not named:
+            source.refuse(0, "a file that no module names")
+        named[0][0].erase(named[0][1].start, named[0][1].end, "law-module")
     return kept
 
 

@@ -67,7 +67,7 @@ def write_errors(source):
         for start, end in item.attributes:
             derived = [at for at in range(start, end) if source[start + 2] == "derive" and source[at] == "Error"]
             if derived:
-                if item.kind != "enum":
+                if item.kind != "enum" or not item.body:
                     source.refuse(item.keyword, "an error that is no enum")
                 variants = [Variant(source, at, item.name) for at, _ in source.elements(item.body[0], types=True)]
                 source.insert(item.end, "error-derive", impls_text(item.name, variants), "\n\n")

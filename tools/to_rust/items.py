@@ -133,6 +133,8 @@ def read_block(source, at, item):
             where = at
         elif source[at] == "for":
             item.trait, head = source.words(head, at), at + 1
+        elif at >= len(source) - 1:
+            source.refuse(item.keyword, "an item that does not end")
         at += 1
     item.subject = source.words(head, where or at)
     if source[at] != ";":

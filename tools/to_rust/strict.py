@@ -28,7 +28,7 @@ class Names:
                     (self.functions if item.kind == "fn" else self.others).add(item.name)
                 places = range(*item.body) if item.kind in ("enum", "trait", "impl") and item.body else ()
                 self.others.update(source[at] for at in places if source[at - 1] in ("type", "const"))
-                variants = source.elements(item.body[0], types=True) if item.kind == "enum" else ()
+                variants = source.elements(item.body[0], types=True) if item.kind == "enum" and item.body else ()
                 self.others.update(source[skip_attributes(source, start, Item(start))] for start, _ in variants)
         self.methods, self.types = KNOWN["methods"] | self.functions, KNOWN["types"] | KNOWN["derives"] | self.others
         self.called |= self.functions | self.types | KNOWN["attributes"]
