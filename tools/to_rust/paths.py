@@ -39,7 +39,10 @@ def rewrite_imports(source):
     for item in reversed(items_of(source)):
         start = item.keyword + 1
         if item.kind == "use" and source[start] in STD:
-            leaves = [(tables.STD_NAMES[path], name) for path, name in leaves_of(source, start, item.end - 1)]
+            leaves = leaves_of(source, start, item.end - 1)
+            if {path for path, _ in leaves} - set(tables.STD_NAMES):
+                source.refuse(item.keyword, "an import that is not known here: its parts are not parted by commas")
+            leaves = [(tables.STD_NAMES[path], name) for path, name in leaves]
             named = [(from_here(source, path), name) for path, name in leaves if path]
             text = import_text(path + (f" as {name}" if name else "") for path, name in named)
             if text != source.words(item.keyword, item.end):
