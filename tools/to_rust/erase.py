@@ -10,7 +10,7 @@ from .paths import leaves_of
 
 # Calls and marks that only read, which may stand in a statement whose value nobody reads, and in what is proved.
 READING = {"width", "height", "byte_len", "data", "chroma_len", "frame", "visible_row"}
-READING_MARKS = {".", ",", "(", ")", "&", "+", "&&", "==", "<="}
+READING_MARKS = set(". , ( ) & + - * && || == != < <= > >=".split())
 # Variables that nobody reads, whose statements do something.
 KEPT = {"_held", "_program"}
 

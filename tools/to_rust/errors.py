@@ -17,7 +17,7 @@ class Variant:
         at = skip_attributes(source, at, noted)
         self.name, self.form, self.fields = f"{kind}::{source[at]}", source[at + 1], []
         self.cause = self.made_from = None
-        messages = [start for start, end in noted.attributes if source.matches(start, "# [ error (") and end - start == 7]
+        messages = [at for at, end in noted.attributes if source.matches(at, "# [ error (") and end - at == 7]
         if not len(messages) == len(noted.attributes) == 1:
             source.refuse(at, "a variant of an error that has not a message alone")
         self.message = source[messages[0] + 4]

@@ -75,8 +75,6 @@ OTHERS = [
     ("slice-trait", "« DerefSlice » for _ < T > { type « Elem » = « T » ;", "Deref", "Target", "[T]"),
     ("handle", "« eprintln » ! ( « rt ; »", "writeln", "std::io::stderr(),"),
     ("handle", "eprintln !", None),
-    # Rattle does not read such a base where all fields are written.
-    ("handle", ", .. _ [", None),
     ("handle", "« » fn main ( rt : HostRuntime )", "pub"),
 ]
 

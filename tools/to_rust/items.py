@@ -100,11 +100,18 @@ def skip_attributes(source, at, item):
 
 def read_function(source, at, item):
     """Reads a function from its parameters on."""
+    if source[at] != "(":
+        source.refuse(at, "a function without parameters")
     item.params = (at, source.closing(at))
     at = item.params[1] + 1
     if source[at] == "->":
         item.result = (at, source.following(at, "{", ";", "where", *CLAUSE_WORDS))
         at = item.result[1]
+        for k in range(item.result[0] + 1, at):
+            before = source[k - 1]
+            behind = source.is_word(k - 1) and before not in ("dyn", "impl", "mut") or before in (">", ")", "]")
+            if source.is_word(k) and behind:
+                source.refuse(k, f"a clause that is not known, at `{source[k]}`")
     if source[at] == "where":
         at = source.following(at, "{", ";", *CLAUSE_WORDS)
     while source[at] in CLAUSE_WORDS:

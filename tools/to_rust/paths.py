@@ -30,6 +30,8 @@ def leaves_of(source, start, end):
     prefix = "::".join(source[k] for k in range(start, at) if source[k] != "::")
     if at == end or source[at] == "as":
         return [(prefix, source[at + 1] if at < end else None)]
+    if source.closing(at) + 1 != end:
+        source.refuse(at, "an import that is not known here: something follows its names")
     leaves = [leaf for part in source.elements(at) for leaf in leaves_of(source, *part)]
     return [(prefix if path == "self" else f"{prefix}::{path}", name) for path, name in leaves]
 
@@ -39,10 +41,7 @@ def rewrite_imports(source):
     for item in reversed(items_of(source)):
         start = item.keyword + 1
         if item.kind == "use" and source[start] in STD:
-            leaves = leaves_of(source, start, item.end - 1)
-            if {path for path, _ in leaves} - set(tables.STD_NAMES):
-                source.refuse(item.keyword, "an import that is not known here: its parts are not parted by commas")
-            leaves = [(tables.STD_NAMES[path], name) for path, name in leaves]
+            leaves = [(tables.STD_NAMES[path], name) for path, name in leaves_of(source, start, item.end - 1)]
             named = [(from_here(source, path), name) for path, name in leaves if path]
             text = import_text(path + (f" as {name}" if name else "") for path, name in named)
             if text != source.words(item.keyword, item.end):

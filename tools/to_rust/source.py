@@ -97,9 +97,10 @@ class Source:
 
     def following(self, at, *texts):
         """Returns where the first of these texts stands, outside of brackets, from `at` on."""
+        start = at
         while self[at] not in texts:
             if at >= len(self):
-                self.refuse(at, f"no {' or '.join(texts)} follows")
+                self.refuse(start, f"no {' or '.join(texts)} follows")
             at = self.closing(at) + 1 if self[at] in CLOSING else at + 1
         return at
 

@@ -1,4 +1,5 @@
-"""What a source may hold: each macro, attribute, type, method and path that is not its own stands in `known.md`."""
+"""What a source may hold: each macro, attribute, type, method, call, path and format that is not its own stands in
+`known.md`."""
 
 import pathlib
 import re
@@ -11,6 +12,8 @@ TABLE = pathlib.Path(__file__).with_name("known.md").read_text(encoding="utf-8")
 KNOWN = {kind: set(words.split()) for kind, words in re.findall(r"^\| (\w+) \| `(.*)` \|$", TABLE, re.M)}
 WRITING = {"eprintln", "format", "unreachable", "write", "writeln"}
 FORMAT = re.compile(r"\{[^{}]*:([^{}]*)\}")
+# Keywords that cannot stand behind a name.
+NOT_BEHIND = KNOWN["keywords"] - {"as", "else", "for", "if", "in", "where"}
 LITERALS = ("number", "string", "char")
 LEFT_OVER = {"ghost", "requires", "ensures", "Drop", "Model", "Global", "alloc", "_alloc", "rt", "HostRuntime", "prove",
              "thiserror", "std_alloc", "Rattle", "AsSlice", "DerefSlice", "AllocFailed"}
@@ -47,19 +50,19 @@ class Names:
 def check(source, names):
     """Refuses what is not known. Ghosts and contracts are already left out."""
     imports = {item.keyword: item.end for item in items_of(source) if item.kind == "use"}
-    bound = {source[at] for at in range(len(source)) if source[at + 1] == ":" or source[at - 1] == "let"}
+    called = names.called | {source[at] for at in range(len(source)) if source[at + 1] == ":" or source[at - 1] == "let"}
     end = 0
     for at in range(len(source)):
         if source[at] == "use":
             end = imports.get(at, at)
-            if at == end or source[at + 1] not in names.others | set(STD):
+            if at == end or source[at + 1] not in (*STD, *names.others):
                 source.refuse(at, f"an import that is not known here: {source[at + 1]}")
         if at < end:
             continue
         if source[at] == "#" and source[at + 1] in ("[", "!"):
             check_attribute(source, at)
         elif source.is_word(at) and not exports.is_form(source, at):
-            check_word(source, at, names, bound)
+            check_word(source, at, names, called)
         elif source.kind(at) in ("mark", "strange"):
             check_mark(source, at)
 
@@ -79,16 +82,19 @@ def check_mark(source, at):
             source.refuse(at, f"a path that is not known: {member}")
     if mark == ".." and ends and after in (")", ",", ";", "{", "}"):
         source.refuse(at, "a range without an end, which Rattle ends below the top of its type")
-    if mark == "*" and after in ("const", "mut") or (mark, after) == ("&", "raw") and source[at + 2] in ("const", "mut"):
+    if mark == ".." and before == "," and source.is_word(at + 1) and source[at + 2] == "[":
+        source.refuse(at, "a base at an index, which Rattle does not read where all fields are written")
+    if mark == "*" and after in ("const", "mut") or (mark, after) == ("&", "raw") and source.is_word(at + 2):
         source.refuse(at, "a pointer, which Rust reads in unsafe code alone")
 
 
-def check_word(source, at, names, bound):
+def check_word(source, at, names, called):
     """Refuses a word that is not known in its place: of a path, a call, a macro, a type, or beside another word."""
     word, before, after = source[at], source[at - 1], source[at + 1]
     plain = word not in KNOWN["keywords"] and word not in ("unsafe", "async")
     beside = source.kind(at - 1) in LITERALS or source.kind(at + 1) in LITERALS \
-        or before == ")" and source[at - 4] != "pub" or source.is_word(at - 1) and before not in KNOWN["keywords"]
+        or after in NOT_BEHIND or before == ")" and source[at - 4] != "pub" \
+        or source.is_word(at - 1) and before not in KNOWN["keywords"]
     if word in ("unsafe", "async", "await", "extern") or word == "mut" and before == "static" or plain and beside:
         source.refuse(at, f"a word that is not known here: {word}")
     if after == "!" and (plain or source[at + 2] in ("(", "[", "{")) and word not in KNOWN["macros"]:
@@ -102,14 +108,15 @@ def check_word(source, at, names, bound):
         if word not in names.methods:
             source.refuse(at, f"a method that is not known: {word}")
     elif after == "::":
-        member = source[source.closing(at + 2) + 2] if source[at + 2] == "<" else source[at + 2]
+        end = source.closing(at + 2) if source[at + 2] == "<" else at
+        member = source[end + 2] if source[end + 1] == "::" else "<"
         own = word in names.others or len(word) == 1 and word.isupper()
-        called = source[at + 2] == "<" and word in names.functions
-        if not own and not called and f"{word}::{member}" not in KNOWN["members"]:
+        own = own or source[at + 2] == "<" and word in names.functions
+        if not own and f"{word}::{member}" not in KNOWN["members"]:
             source.refuse(at, f"a path that is not known: {word}::{member}")
     elif before != "::" and word[0].isupper() and not word.isupper() and word not in names.types:
         source.refuse(at, f"a type that is not known: {word}")
-    elif after == "(" and before not in ("::", "fn") and plain and word not in names.called | bound:
+    elif after == "(" and before not in ("::", "fn") and plain and word not in called:
         source.refuse(at, f"a call that is not known: {word}")
 
 
