@@ -53,6 +53,7 @@ MEMORY = [
                                                ". collect ::")],
     ("clone", ". « clone » ( @", "try_clone"),
     ("clone", "pub fn « clone » (", "try_clone"),
+    *[("clone", f"{mark} clone (", None) for mark in (".", "::")],
     ("clone", "fn clone ( & self ) -> _ {", None),
     ("clone", "fn clone ( & self ) -> « Result < » _ « , AllocError > » { « Ok ( » .. « ) » }"),
     ("clone", "fn clone ( & self ) -> Result", None),

@@ -127,7 +127,9 @@ class Reach:
         for item in items_of(source) if source else ():
             if item.owner is not None or not item.is_public():
                 continue
-            if item.kind == "use":
+            if item.kind == "type":
+                source.refuse(item.keyword, "a public name of a type, whose functions would have no tests by it")
+            elif item.kind == "use":
                 for leaf, alias in leaves_of(source, item.keyword + 1, item.end - 1):
                     self.follow(source, item, leaf.split("::"), f"{name}::{alias or leaf.rpartition('::')[2]}")
             else:
