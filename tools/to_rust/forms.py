@@ -88,9 +88,12 @@ HANDLES = [
 
 def rewrite(source, table):
     """Rewrites the forms of a table, row by row."""
+    present, changes = set(), None
     for rule, pattern, *texts in table:
+        if changes != len(source.edits):
+            present, changes = {token.text for token in source.tokens}, len(source.edits)
         first = next(word for word in pattern.split() if word not in "«»")
-        for at in source.places(first):
+        for at in source.places(first) if first in present else ():
             parts = parts_at(source, at, pattern.split())
             if parts and texts == [None]:
                 source.refuse(at, f"a form that is not known: {pattern}")
@@ -114,10 +117,13 @@ def parts_at(source, at, pattern):
             text = next(word for word in pattern[k + 1:] if word not in "«»")
             while source[at] not in (text, ")", "]", "}", ""):
                 at = source.closing(at) + 1 if source[at] in CLOSING else at + 1
-        else:
-            forms = ALLOCATORS if word == "@" else [source[at] if word == "_" and source.is_word(at) else word]
-            length = next((len(form.split()) for form in forms if source.matches(at, form)), 0)
+        elif word == "@":
+            length = next((len(form.split()) for form in ALLOCATORS if source.matches(at, form)), 0)
             if not length:
                 return []
             at += length
+        elif source[at] != word and not (word == "_" and source.is_word(at)):
+            return []
+        else:
+            at += 1
     return parts or [(start, at)]

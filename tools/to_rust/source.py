@@ -108,10 +108,10 @@ class Source:
         """Returns where the bracket that opens at `at` closes, or the list of types that `<` opens."""
         closing = CLOSING.get(self[at], ">")
         end = at + 1
-        while self[end] != closing:
-            if self[end] in (")", "]", "}", "") or closing == ">" and self[end] == ";":
+        while (text := self[end]) != closing:
+            if text in (")", "]", "}", "") or closing == ">" and text == ";":
                 self.refuse(at, "a bracket does not close")
-            opens = self[end] in CLOSING or closing == ">" and self[end] == "<"
+            opens = text in CLOSING or closing == ">" and text == "<"
             end = self.closing(end) + 1 if opens else end + 1
         return end
 
