@@ -14,6 +14,7 @@ from collections import namedtuple
 
 from . import tables
 from .items import functions_of, parameters_of
+from .tokens import Refused
 
 # A Rust test that is true where the condition holds; when it does not hold; a message, with values in brackets.
 Check = namedtuple("Check", "test words message")
@@ -98,19 +99,23 @@ class Reader:
     """Reads a clause of a function, whose parameters have types as texts; those of its types are of the type `type`."""
 
     def __init__(self, source, item, clause):
-        self.refuse = lambda: source.refuse(item.keyword, f"a clause that is not known: `{clause}`")
         lists = [it.generics for it in (item.owner, item) if it and it.generics]
+        self.clause = clause
         self.types = {source[at]: "type" for start, end in lists for at in range(start, end)}
         for start, at, end in parameters_of(source, item):
             behind = source.words(at + 2, end)
+            self.known(item.owner or end > at + 1)
             self.types[source[at]] = behind if end > at + 1 else f"{source.words(start, at)} {item.owner.subject}"
 
     def known(self, found):
         """Returns what was found, and refuses the clause where that is nothing."""
-        return found or self.refuse()
+        if not found:
+            raise Refused(self.clause.place, f"a clause that is not known: `{self.clause.text}`")
+        return found
 
-    def check(self, text):
-        """Returns the test of a clause."""
+    def check(self):
+        """Returns the test of the clause."""
+        text = self.clause.text
         applied, comparison = APPLIED.fullmatch(text), COMPARISON.fullmatch(text)
         if applied and applied[1] in PREDICATES:
             return self.of_predicate(PREDICATES[applied[1]], re.findall(r"[^\s()]+|\([^()]+\)", applied[2]))
@@ -143,7 +148,7 @@ class Reader:
             return Check(f"{b} > 0", f"{b:words} is 0", f"{b:words} is 0".replace("`", ""))
         if sign == "≤" and a.kind == "literal":
             return Check(f"{b} >= {a}", f"{b:words} is below {a:words}", f"{b:shown} is below {a:shown}")
-        self.known(a.kind != "literal" and (sign != "<" or "u128" not in (a.kind, b.kind)))
+        self.known(a.kind != "literal" and (sign != "<" or a.kind != "u128" and b.kind in (a.kind, "literal")))
         test = f"{a} {rust} {b}" if b.kind in (a.kind, "literal") else f"{a.wide()} {rust} {b.wide()}"
         if sign == "≡" and a.noun and a.noun == b.noun:
             names = [text.replace(f"the {a.noun} of ", "", 1) for text in (a.words, b.words, a.shown, b.shown)]
@@ -157,7 +162,7 @@ class Reader:
             found = re.fullmatch(form, text)
             if found:
                 return make(self, *filter(None, found.groups()))
-        return self.refuse()
+        return self.known(None)
 
     def one(self, text):
         """Returns a number that is no sum and no product."""
@@ -177,9 +182,9 @@ class Reader:
 
 def checks_of(source, item):
     """Returns the tests of a function's clauses, in their order. A closure of Rust can always be called."""
-    clauses = [clause.text for clause in source.clauses_of(item, "requires")]
-    clauses = [text for text in clauses if not re.fullmatch(r"[A-Z]\w*\.IsAlwaysCallable \w+", text)]
-    return [Reader(source, item, text).check(text) for text in clauses]
+    clauses = source.clauses_of(item, "requires")
+    clauses = [clause for clause in clauses if not re.fullmatch(r"[A-Z]\w*\.IsAlwaysCallable \w+", clause.text)]
+    return [Reader(source, item, clause).check() for clause in clauses]
 
 
 def message_of(check):

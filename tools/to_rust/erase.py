@@ -4,11 +4,13 @@ A law is a function that does nothing, whose contract says what holds.
 """
 
 from . import forms
+from .strict import KNOWN
 from .items import functions_of, items_of, parameters_of
 from .paths import leaves_of
 
-# Calls that only read, which may stand in a statement whose value nobody reads.
+# Calls and marks that only read, which may stand in a statement whose value nobody reads, and in what is proved.
 READING = {"width", "height", "byte_len", "data", "chroma_len", "frame", "visible_row"}
+READING_MARKS = set(". , ( ) & + - * && || == != < <= > >=".split())
 # Variables that nobody reads, whose statements do something.
 KEPT = {"_held", "_program"}
 
@@ -26,13 +28,22 @@ def erase_proofs(source):
     forms.rewrite(source, forms.PROOFS)
 
 
+def only_reads(source, start, end):
+    """Returns whether the tokens from `start` up to `end` are names, numbers, and calls that only read."""
+    plain = [k for k in range(start, end) if source[k] not in READING_MARKS and source.kind(k) != "number"]
+    words = all(source.is_word(k) and source[k] not in KNOWN["keywords"] - {"self"} for k in plain)
+    return words and {source[k] for k in plain if source[k + 1] == "("} <= READING \
+        and not any(source[k] == ")" and source[k + 1] == "(" for k in range(start, end))
+
+
 def erase_unread(source):
-    """Erases `let _name = ..;`, whose value nobody reads, where all that is called there only reads."""
-    for at in source.places("let"):
+    """Erases `let _name = ..;`, whose value nobody reads, where it only reads. So does what Rust may not test."""
+    for at in source.places("let", "prove"):
+        if source.matches(at, "prove !") and not only_reads(source, at + 2, source.closing(at + 2)):
+            source.refuse(at, "a condition that may do something")
         if source[at + 1].startswith("_") and source[at + 1] not in {"_", *KEPT} and source[at + 2] == "=":
             end = source.following(at, ";")
-            called = {source[k] for k in range(at + 3, end) if source[k + 1] in ("(", "!") and source.is_word(k)}
-            if not called <= READING:
+            if not only_reads(source, at + 3, end):
                 source.refuse(at, "a statement whose value nobody reads, and which may do something")
             source.erase(at, end + 1, "unread-value")
 
@@ -57,15 +68,19 @@ def erase_laws(sources):
         if not source.module or any(item.kind != "use" or item.visible for item in items_of(source)):
             kept.append(source)
             continue
-        parent = next(it for it in sources if (it.crate, it.module) == (source.crate, source.module[:-1]))
-        item = next(item for item in items_of(parent) if (item.kind, item.name) == ("mod", source.module[-1]))
-        parent.erase(item.start, item.end, "law-module")
+        parents = [it for it in sources if (it.crate, it.module) == (source.crate, source.module[:-1])]
+        named = [(parent, item) for parent in parents for item in items_of(parent)
+                 if (item.kind, item.name) == ("mod", source.module[-1])]
+        if not named:
+            source.refuse(0, "a file that no module names")
+        named[0][0].erase(named[0][1].start, named[0][1].end, "law-module")
     return kept
 
 
 def laws_of(source):
     """Returns the functions of a source that have a contract and do nothing."""
-    empty = [item for item in functions_of(source) if item.body and item.body[0] + 1 == item.body[1]]
+    empty = [item for item in functions_of(source) if item.body and item.body[0] + 1 == item.body[1]
+             and not (item.owner and item.owner.trait)]
     return [item for item in empty if not item.result and source.clauses_of(item, "ensures")]
 
 
@@ -78,8 +93,10 @@ def erase_calls(source, laws):
         if source.matches(end, ":: <"):
             end = source.closing(end + 1) + 1
         if source[end] == "(" and source[start - 1] in ("{", "}", ";"):
-            end = source.closing(end) + 1
+            opening, end = end, source.closing(end) + 1
             if source[end] == ";":
+                if not only_reads(source, opening, end):
+                    source.refuse(opening, "a call of a law that may do something")
                 source.erase(start, end + 1, "law-call")
     forms.rewrite(source, [("law-call", "if let Some ( _ ) = _ { }")])
 

@@ -1,7 +1,12 @@
 """Errors: what `thiserror` derives is written out, so that the Rust crates depend on nothing."""
 
-from . import forms
+import re
+
 from .items import Item, items_of, skip_attributes
+
+
+# What `thiserror` reads, at variants and fields of what it derives an error for.
+MARKED = ("error", "source", "from")
 
 
 class Variant:
@@ -12,20 +17,25 @@ class Variant:
         at = skip_attributes(source, at, noted)
         self.name, self.form, self.fields = f"{kind}::{source[at]}", source[at + 1], []
         self.cause = self.made_from = None
-        if [source[start + 2] for start, _ in noted.attributes] != ["error"]:
+        messages = [at for at, end in noted.attributes if source.matches(at, "# [ error (") and end - at == 7]
+        if not len(messages) == len(noted.attributes) == 1:
             source.refuse(at, "a variant of an error that has not a message alone")
-        (start, end), = noted.attributes
-        self.message = source.words(start + 4, end - 2)
+        self.message = source[messages[0] + 4]
         for start, end in source.elements(at + 1, types=True) if self.form in ("(", "{") else ():
             noted = Item(start)
             start = skip_attributes(source, start, noted)
             number = f"_{len(self.fields)}" if self.fields else ""
             self.fields.append(source[start] if self.form == "{" else f"value{number}")
-            for place, _ in noted.attributes:
-                word = source[place + 2]
-                if word not in ("source", "from") or word == "from" and self.form != "(":
+            for place, behind in noted.attributes:
+                word = source.words(place + 2, behind - 1)
+                if word not in ("source", "from") or word == "from" and self.form != "(" or self.cause:
                     source.refuse(place, f"an attribute of a field that is not known: {word}")
                 self.cause, self.made_from = self.fields[-1], source.words(start, end) if word == "from" else None
+        shown = self.fields if self.form == "{" else [str(number) for number in range(len(self.fields))]
+        text = re.sub(r"\{(\w+)\}", lambda found: "" if found[1] in shown else found[0], self.message)
+        if self.message != "transparent" and not re.fullmatch(r'"[^{}]*"', text) or \
+                self.message == "transparent" and self.fields != ["value"]:
+            source.refuse(messages[0], f"a message of an error that is not known: {self.message}")
 
     def pattern(self, used):
         """Returns the pattern that names the fields that are used."""
@@ -57,12 +67,16 @@ def write_errors(source):
         for start, end in item.attributes:
             derived = [at for at in range(start, end) if source[start + 2] == "derive" and source[at] == "Error"]
             if derived:
-                if item.kind != "enum":
+                if item.kind != "enum" or not item.body:
                     source.refuse(item.keyword, "an error that is no enum")
                 variants = [Variant(source, at, item.name) for at, _ in source.elements(item.body[0], types=True)]
                 source.insert(item.end, "error-derive", impls_text(item.name, variants), "\n\n")
+                for at in reversed([at for at in range(*item.body) if source[at + 1] in MARKED and source[at] == "["]):
+                    source.erase(at - 1, source.closing(at) + 1, "error-derive")
                 source.erase_listed(derived[0], derived[0] + 1, "error-derive")
-    forms.rewrite(source, forms.ERRORS)
+    for at in source.places(*MARKED):
+        if source[at - 1] == "[" and source[at - 2] == "#":
+            source.refuse(at, f"an attribute that is not known: {source[at]}")
 
 
 def impls_text(name, variants):

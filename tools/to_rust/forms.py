@@ -33,14 +33,11 @@ PROOFS = [
     ("drop-derive", "# [ derive ( ) ]"),
 ]
 
-# What `thiserror` reads.
-ERRORS = [("error-derive", form) for form in ("# [ error ( .. ) ]", "# [ source ]", "# [ from ]")]
-
 # Memory: `Vec` and `String` are Rust's own. What grows or makes one reserves first, by traits of `support::memory`.
 MEMORY = [
     ("memory-macro", "« vec ! [ » « in @ ; » .. « ; » .. « ] »", "repeated(", "", ",", ")"),
     ("memory-macro", "« format ! ( » « in @ ; » .. « ) »", "try_format(format_args!(", "", "))"),
-    *[("memory-macro", f"! {opening} in", None) for opening in "[("],
+    *[("memory-macro", f"{name} !", None) for name in ("vec", "format")],
     ("allocator-variable", "let alloc = @ ;"),
     *[("allocator-bound", bound) for bound in ("+ AllocGlobal", "AllocGlobal +")],
     *[("allocator-parameter", f"{before} « @ : Global , »") for before in "({,"],
@@ -51,8 +48,12 @@ MEMORY = [
     ("memory-call", "BufReader :: « new » ( @", "try_new"),
     ("memory-call", ". « to_string » ( @", "try_to_string"),
     ("memory-call", ". « collect » ( @", "try_collect_vec"),
+    *[("memory-call", form, None) for form in ("Vec :: from_slice", "Vec :: with_capacity", "BufReader :: new",
+                                               "Vec :: <", "BufReader :: <", ". to_string (", ". collect (",
+                                               ". collect ::")],
     ("clone", ". « clone » ( @", "try_clone"),
     ("clone", "pub fn « clone » (", "try_clone"),
+    *[("clone", f"{mark} clone (", None) for mark in (".", "::")],
     ("clone", "fn clone ( & self ) -> _ {", None),
     ("clone", "fn clone ( & self ) -> « Result < » _ « , AllocError > » { « Ok ( » .. « ) » }"),
     ("clone", "fn clone ( & self ) -> Result", None),
@@ -74,6 +75,7 @@ OTHERS = [
     ("slice-trait", "impl < T > AsSlice < T > for _ < T > { .. }"),
     ("slice-trait", "« DerefSlice » for _ < T > { type « Elem » = « T » ;", "Deref", "Target", "[T]"),
     ("handle", "« eprintln » ! ( « rt ; »", "writeln", "std::io::stderr(),"),
+    ("handle", "eprintln !", None),
     ("handle", "« » fn main ( rt : HostRuntime )", "pub"),
 ]
 
@@ -86,9 +88,12 @@ HANDLES = [
 
 def rewrite(source, table):
     """Rewrites the forms of a table, row by row."""
+    present, changes = set(), None
     for rule, pattern, *texts in table:
+        if changes != len(source.edits):
+            present, changes = {token.text for token in source.tokens}, len(source.edits)
         first = next(word for word in pattern.split() if word not in "«»")
-        for at in source.places(first):
+        for at in source.places(first) if first in present else ():
             parts = parts_at(source, at, pattern.split())
             if parts and texts == [None]:
                 source.refuse(at, f"a form that is not known: {pattern}")
@@ -112,10 +117,13 @@ def parts_at(source, at, pattern):
             text = next(word for word in pattern[k + 1:] if word not in "«»")
             while source[at] not in (text, ")", "]", "}", ""):
                 at = source.closing(at) + 1 if source[at] in CLOSING else at + 1
-        else:
-            forms = ALLOCATORS if word == "@" else [source[at] if word == "_" and source.is_word(at) else word]
-            length = next((len(form.split()) for form in forms if source.matches(at, form)), 0)
+        elif word == "@":
+            length = next((len(form.split()) for form in ALLOCATORS if source.matches(at, form)), 0)
             if not length:
                 return []
             at += length
+        elif source[at] != word and not (word == "_" and source.is_word(at)):
+            return []
+        else:
+            at += 1
     return parts or [(start, at)]

@@ -9,8 +9,8 @@ KEYWORDS = {"fn", "struct", "enum", "trait", "impl", "mod", "use", "const", "sta
 QUALIFIERS = {"const", "unsafe", "final", "extern"}
 CLAUSE_WORDS = ("requires", "ensures")
 
-# A `requires` or an `ensures`, and what it says.
-Clause = namedtuple("Clause", "word text")
+# A `requires` or an `ensures`, what it says, and where it stands.
+Clause = namedtuple("Clause", "word text place")
 
 
 class Item:
@@ -54,8 +54,10 @@ def functions_of(source):
 def parameters_of(source, item):
     """Returns where each parameter of a function begins, where its name, which may be `self`, stands, and its end."""
     parts = source.elements(item.params[0], types=True)
-    return [(start, next(at for at in range(start, end) if source.is_word(at) and source[at] != "mut"), end)
-            for start, end in parts]
+    names = [[at for at in range(start, end) if source.is_word(at) and source[at] != "mut"] for start, end in parts]
+    if [] in names:
+        source.refuse(parts[names.index([])][0], "a parameter that is not known")
+    return [(start, name[0], end) for (start, end), name in zip(parts, names)]
 
 
 def item_at(source, at, owner):
@@ -98,11 +100,18 @@ def skip_attributes(source, at, item):
 
 def read_function(source, at, item):
     """Reads a function from its parameters on."""
+    if source[at] != "(":
+        source.refuse(at, "a function without parameters")
     item.params = (at, source.closing(at))
     at = item.params[1] + 1
     if source[at] == "->":
         item.result = (at, source.following(at, "{", ";", "where", *CLAUSE_WORDS))
         at = item.result[1]
+        for k in range(item.result[0] + 1, at):
+            before = source[k - 1]
+            behind = source.is_word(k - 1) and before not in ("dyn", "impl", "mut") or before in (">", ")", "]")
+            if source.is_word(k) and behind:
+                source.refuse(k, f"a clause that is not known, at `{source[k]}`")
     if source[at] == "where":
         at = source.following(at, "{", ";", *CLAUSE_WORDS)
     while source[at] in CLAUSE_WORDS:
@@ -111,7 +120,7 @@ def read_function(source, at, item):
         if source[start] != "{":
             source.refuse(start, f"a form of `{source[at]}` that is not known")
         end = source.closing(start)
-        item.clauses.append(Clause(source[at], source.words(start + 1, end)))
+        item.clauses.append(Clause(source[at], source.words(start + 1, end), source.tokens[at].place))
         at = end + 1
     if source[at] == "{":
         item.body = (at, source.closing(at))
@@ -131,6 +140,8 @@ def read_block(source, at, item):
             where = at
         elif source[at] == "for":
             item.trait, head = source.words(head, at), at + 1
+        elif at >= len(source) - 1:
+            source.refuse(item.keyword, "an item that does not end")
         at += 1
     item.subject = source.words(head, where or at)
     if source[at] != ";":

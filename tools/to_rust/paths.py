@@ -30,6 +30,8 @@ def leaves_of(source, start, end):
     prefix = "::".join(source[k] for k in range(start, at) if source[k] != "::")
     if at == end or source[at] == "as":
         return [(prefix, source[at + 1] if at < end else None)]
+    if source.closing(at) + 1 != end:
+        source.refuse(at, "an import that is not known here: something follows its names")
     leaves = [leaf for part in source.elements(at) for leaf in leaves_of(source, *part)]
     return [(prefix if path == "self" else f"{prefix}::{path}", name) for path, name in leaves]
 
@@ -125,7 +127,9 @@ class Reach:
         for item in items_of(source) if source else ():
             if item.owner is not None or not item.is_public():
                 continue
-            if item.kind == "use":
+            if item.kind == "type":
+                source.refuse(item.keyword, "a public name of a type, whose functions would have no tests by it")
+            elif item.kind == "use":
                 for leaf, alias in leaves_of(source, item.keyword + 1, item.end - 1):
                     self.follow(source, item, leaf.split("::"), f"{name}::{alias or leaf.rpartition('::')[2]}")
             else:

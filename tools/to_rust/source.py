@@ -97,9 +97,10 @@ class Source:
 
     def following(self, at, *texts):
         """Returns where the first of these texts stands, outside of brackets, from `at` on."""
+        start = at
         while self[at] not in texts:
             if at >= len(self):
-                self.refuse(at, f"no {' or '.join(texts)} follows")
+                self.refuse(start, f"no {' or '.join(texts)} follows")
             at = self.closing(at) + 1 if self[at] in CLOSING else at + 1
         return at
 
@@ -107,10 +108,10 @@ class Source:
         """Returns where the bracket that opens at `at` closes, or the list of types that `<` opens."""
         closing = CLOSING.get(self[at], ">")
         end = at + 1
-        while self[end] != closing:
-            if self[end] in (")", "]", "}", "") or closing == ">" and self[end] == ";":
+        while (text := self[end]) != closing:
+            if text in (")", "]", "}", "") or closing == ">" and text == ";":
                 self.refuse(at, "a bracket does not close")
-            opens = self[end] in CLOSING or closing == ">" and self[end] == "<"
+            opens = text in CLOSING or closing == ">" and text == "<"
             end = self.closing(end) + 1 if opens else end + 1
         return end
 
@@ -135,8 +136,9 @@ class Source:
         that no change made are the source's, read anew, in their order; and the text is read as these tokens."""
         tidy(self.tokens)
         text = "".join(token.lead + token.text for token in self.tokens)
-        if [token.text for token in tokens_of(text, self.path)] != [token.text for token in self.tokens]:
-            raise Refused(self.path, "the text is not read as the tokens that it was made of")
+        for token, read in zip(self.tokens, tokens_of(text, self.path)):
+            if token.text != read.text:
+                raise Refused(token.place, f"`{token.text}` is read as `{read.text}`")
         left = iter(token.text for token in tokens_of(self.original, self.path))
         for token in self.tokens:
             if token.edit is None and token.text not in left:

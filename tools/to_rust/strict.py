@@ -1,14 +1,20 @@
-"""What a source may hold: each macro, attribute, type, method and path that is not its own stands in `known.md`."""
+"""What a source may hold: each macro, attribute, type, method, call, path and format that is not its own stands in
+`known.md`."""
 
 import pathlib
 import re
 
 from . import exports, tables
-from .items import items_of
+from .items import Item, items_of, skip_attributes
 from .paths import STD, home_of, leaves_of
 
 TABLE = pathlib.Path(__file__).with_name("known.md").read_text(encoding="utf-8")
 KNOWN = {kind: set(words.split()) for kind, words in re.findall(r"^\| (\w+) \| `(.*)` \|$", TABLE, re.M)}
+WRITING = {"eprintln", "format", "unreachable", "write", "writeln"}
+FORMAT = re.compile(r"\{[^{}]*:([^{}]*)\}")
+# Keywords that cannot stand behind a name.
+NOT_BEHIND = KNOWN["keywords"] - {"as", "else", "for", "if", "in", "where"}
+LITERALS = ("number", "string", "char")
 LEFT_OVER = {"ghost", "requires", "ensures", "Drop", "Model", "Global", "alloc", "_alloc", "rt", "HostRuntime", "prove",
              "thiserror", "std_alloc", "Rattle", "AsSlice", "DerefSlice", "AllocFailed"}
 
@@ -17,53 +23,101 @@ class Names:
     """The names that are known, those of the sources too. A path of `std` that is not is refused."""
 
     def __init__(self, sources):
-        self.functions, self.others = set(), KNOWN["keywords"] | set(STD)
+        self.functions, self.others, self.called = set(), KNOWN["keywords"] | set(tables.BY_HAND), {"drop"}
         for source in sources:
             self.others.update((source.crate, *source.module))
             for item in items_of(source):
-                (self.functions if item.kind == "fn" else self.others).add(item.name)
-                for path, name in leaves_of(source, item.keyword + 1, item.end - 1) if item.kind == "use" else ():
-                    self.others.update([name] if name else [])
-                    if path.split("::")[0] in STD and path not in tables.STD_NAMES:
-                        source.refuse(item.keyword, f"a path of `std` that is not known: {path}")
+                self.add_import(source, item) if item.kind == "use" else \
+                    (self.functions if item.kind == "fn" else self.others).add(item.name)
                 places = range(*item.body) if item.kind in ("enum", "trait", "impl") and item.body else ()
                 self.others.update(source[at] for at in places if source[at - 1] in ("type", "const"))
-                starts = [at for at in places if source[at - 1] in ("{", ",", "]") or source.kind(at - 1) == "doc"]
-                self.others.update(source[at] for at in starts if item.kind == "enum" and source.is_word(at))
+                variants = source.elements(item.body[0], types=True) if item.kind == "enum" and item.body else ()
+                self.others.update(source[skip_attributes(source, start, Item(start))] for start, _ in variants)
         self.methods, self.types = KNOWN["methods"] | self.functions, KNOWN["types"] | KNOWN["derives"] | self.others
+        self.called |= self.functions | self.types | KNOWN["attributes"]
+
+    def add_import(self, source, item):
+        """Adds the names that an import gives. A name of `std` may be called, but what it has is not known by it."""
+        for path, name in leaves_of(source, item.keyword + 1, item.end - 1):
+            if path.split("::")[0] not in STD:
+                self.others.update([name] if name else [])
+            elif path in tables.STD_NAMES:
+                self.called.add(name or path.rpartition("::")[2])
+            else:
+                source.refuse(item.keyword, f"a path of `std` that is not known: {path}")
 
 
 def check(source, names):
     """Refuses what is not known. Ghosts and contracts are already left out."""
+    imports = {item.keyword: item.end for item in items_of(source) if item.kind == "use"}
+    called = names.called | {source[at] for at in range(len(source)) if source[at + 1] == ":" or source[at - 1] == "let"}
+    end = 0
     for at in range(len(source)):
-        if source.kind(at) == "strange" or source[at] == "#" and source[at + 1] not in ("[", "!"):
-            source.refuse(at, f"`{source[at]}` is no token of Rust here")
-        if source[at] == "#":
+        if source[at] == "use":
+            end = imports.get(at, at)
+            if at == end or source[at + 1] not in (*STD, *names.others):
+                source.refuse(at, f"an import that is not known here: {source[at + 1]}")
+        if at < end:
+            continue
+        if source[at] == "#" and source[at + 1] in ("[", "!"):
             check_attribute(source, at)
         elif source.is_word(at) and not exports.is_form(source, at):
-            check_word(source, at, names)
+            check_word(source, at, names, called)
+        elif source.kind(at) in ("mark", "strange"):
+            check_mark(source, at)
 
 
-def check_word(source, at, names):
-    """Refuses a word that is not known in its place: of a path, a method, a macro, a type, or beside another word."""
+def check_mark(source, at):
+    """Refuses a mark that is not known in its place: no mark of code, or one in front of a path or behind a range."""
+    mark, before, after = source[at], source[at - 1], source[at + 1]
+    ends = source.kind(at - 1) in LITERALS or before in (")", "]", "?", ">", "self") \
+        or source.is_word(at - 1) and before not in KNOWN["keywords"]
+    if source.kind(at) == "strange" or mark in ("#", "$", "~"):
+        source.refuse(at, f"`{mark}` is no token of Rust here")
+    if mark == "::" and not ends and before not in ("Self", "crate", "super"):
+        source.refuse(at, f"a path that is not known: ::{after}")
+    if mark == "<" and not ends and before not in ("<", "::", "impl", "for", "fn"):
+        member = f"<>::{source[source.closing(at) + 2]}"
+        if member not in KNOWN["members"]:
+            source.refuse(at, f"a path that is not known: {member}")
+    if mark == ".." and ends and after in (")", ",", ";", "{", "}"):
+        source.refuse(at, "a range without an end, which Rattle ends below the top of its type")
+    if mark == ".." and before == "," and source.is_word(at + 1) and source[at + 2] == "[":
+        source.refuse(at, "a base at an index, which Rattle does not read where all fields are written")
+    if mark == "*" and after in ("const", "mut") or (mark, after) == ("&", "raw") and source.is_word(at + 2):
+        source.refuse(at, "a pointer, which Rust reads in unsafe code alone")
+
+
+def check_word(source, at, names, called):
+    """Refuses a word that is not known in its place: of a path, a call, a macro, a type, or beside another word."""
     word, before, after = source[at], source[at - 1], source[at + 1]
     plain = word not in KNOWN["keywords"] and word not in ("unsafe", "async")
-    beside = source.kind(at - 1) in ("number", "string", "char") or before == ")" and source[at - 4] != "pub" \
+    beside = source.kind(at - 1) in LITERALS or source.kind(at + 1) in LITERALS \
+        or after in NOT_BEHIND or before == ")" and source[at - 4] != "pub" \
         or source.is_word(at - 1) and before not in KNOWN["keywords"]
     if word in ("unsafe", "async", "await", "extern") or word == "mut" and before == "static" or plain and beside:
         source.refuse(at, f"a word that is not known here: {word}")
-    if after == "!" and source[at + 2] in ("(", "[", "{") and word not in KNOWN["macros"]:
+    if after == "!" and (plain or source[at + 2] in ("(", "[", "{")) and word not in KNOWN["macros"]:
         source.refuse(at, f"a macro that is not known: {word}!")
+    if after == "!" and word in WRITING:
+        for k in range(at, source.closing(at + 2)):
+            forms = FORMAT.findall(source[k]) if source.kind(k) == "string" else []
+            if set(forms) - KNOWN["formats"]:
+                source.refuse(k, f"a format that is not known: {' '.join(forms)}")
     if before == "." and after in ("(", "::"):
         if word not in names.methods:
             source.refuse(at, f"a method that is not known: {word}")
-    elif after == "::" and before != "::":
-        member = source[source.closing(at + 2) + 2] if source[at + 2] == "<" else source[at + 2]
-        own = word in names.others or word in names.functions or len(word) == 1 and word.isupper()
+    elif after == "::":
+        end = source.closing(at + 2) if source[at + 2] == "<" else at
+        member = source[end + 2] if source[end + 1] == "::" else "<"
+        own = word in names.others or len(word) == 1 and word.isupper()
+        own = own or source[at + 2] == "<" and word in names.functions
         if not own and f"{word}::{member}" not in KNOWN["members"]:
             source.refuse(at, f"a path that is not known: {word}::{member}")
     elif before != "::" and word[0].isupper() and not word.isupper() and word not in names.types:
         source.refuse(at, f"a type that is not known: {word}")
+    elif after == "(" and before not in ("::", "fn") and plain and word not in called:
+        source.refuse(at, f"a call that is not known: {word}")
 
 
 def check_attribute(source, at):
