@@ -2,5 +2,6 @@
 
 mod cases;
 mod error_texts;
+mod large_sums;
 mod runs;
 mod words;
