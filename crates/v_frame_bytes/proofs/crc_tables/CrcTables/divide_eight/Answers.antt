@@ -2,9 +2,9 @@
 use Rattle.std.proofs.Common.{ℕ, ◌≡◌, ◌+◌, ◌*◌, ◌<◌, List, [], ◌∷◌, length, get_or, refl, sym, ap, ◌∙◌, arith}
 use Rattle.std.specs.Prelude.{fold}
 use Rattle.std.specs.Int.Bits.{xor_assoc}
-use Rattle.v_frame_png.specs.Crc.{crc_step, divided}
-use Rattle.v_frame_png.proofs.CrcSteps.{eight_after}
-use Rattle.v_frame_png.proofs.crc_tables.CrcTables.divide_eight.Goals as goal
+use Rattle.v_frame_bytes.specs.Crc.{crc_step, divided}
+use Rattle.v_frame_bytes.proofs.CrcSteps.{eight_after}
+use Rattle.v_frame_bytes.proofs.crc_tables.CrcTables.divide_eight.Goals as goal
 
 listed : (xs : List ℕ) → length xs ≡ 8 → xs ≡ get_or xs 0 0 ∷ get_or xs 1 0 ∷ get_or xs 2 0 ∷ get_or xs 3 0
     ∷ get_or xs 4 0 ∷ get_or xs 5 0 ∷ get_or xs 6 0 ∷ get_or xs 7 0 ∷ []

@@ -3,9 +3,9 @@ use Rattle.std.proofs.Common.{ℕ, ◌≡◌, ◌+◌, ◌-◌, ◌*◌, ◌/◌
 use Rattle.std.proofs.Common.{get_or-set_other, get_or-set_same, below_more, ◌≢◌, length-set}
 use Rattle.std.specs.Prelude.{bit_xor}
 use Rattle.std.specs.Int.Bits.{xor_zero_r}
-use Rattle.v_frame_png.specs.Crc.{divided, crc_step}
-use Rattle.v_frame_png.proofs.CrcSteps.{byte_step, divided-add}
-use Rattle.v_frame_png.proofs.crc_tables.CrcTables.new.Goals as goal
+use Rattle.v_frame_bytes.specs.Crc.{divided, crc_step}
+use Rattle.v_frame_bytes.proofs.CrcSteps.{byte_step, divided-add}
+use Rattle.v_frame_bytes.proofs.crc_tables.CrcTables.new.Goals as goal
 
 -- eight steps more of what is left of a byte
 eight_more : (rest : ℕ) → divided 8 rest ≡ bit_xor (rest / 256) (divided 8 (rest % 256))

@@ -4,7 +4,7 @@ use Rattle.std.specs.Prelude.{bit_xor, fold}
 use Rattle.std.specs.Int.Bits.{xor_assoc, xor_zero_r}
 use Rattle.std.proofs.lemmas.Nat.{xor_comm, xor_shr, xor_mod, xor_block, xor_of_8}
 use lib.Bits.{xor_shifted}
-use Rattle.v_frame_png.specs.Crc.{polynomial, divided_once, divided, crc_step}
+use Rattle.v_frame_bytes.specs.Crc.{polynomial, divided_once, divided, crc_step}
 
 -- ---- one step
 

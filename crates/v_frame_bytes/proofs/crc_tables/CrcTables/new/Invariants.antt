@@ -1,7 +1,7 @@
 -- The entries before are made.
 use Rattle.std.proofs.Common.{ℕ, ◌≡◌, ◌+◌, ◌*◌, ◌/◌, ◌%◌, ◌<◌, get_or, length}
-use Rattle.v_frame_png.specs.Crc.{divided}
-use Rattle.v_frame_png.proofs.crc_tables.CrcTables.new.Given as goal
+use Rattle.v_frame_bytes.specs.Crc.{divided}
+use Rattle.v_frame_bytes.proofs.crc_tables.CrcTables.new.Given as goal
 
 abbrev pub invariant-loop-k : goal.invariant-loop-k
 invariant-loop-k l = record {

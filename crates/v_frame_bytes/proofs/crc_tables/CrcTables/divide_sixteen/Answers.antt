@@ -3,9 +3,9 @@ use Rattle.std.proofs.Common.{◌≡◌, ◌++◌, ◌*◌, length, sym, ap, ◌
 use Rattle.std.specs.Prelude.{bit_xor, fold}
 use Rattle.std.specs.Int.Bits.{xor_zero_r}
 use Rattle.std.proofs.lemmas.List.Sums.{fold-append}
-use Rattle.v_frame_png.specs.Crc.{crc_step, divided}
-use Rattle.v_frame_png.proofs.CrcSteps.{fold-xor}
-use Rattle.v_frame_png.proofs.crc_tables.CrcTables.divide_sixteen.Goals as goal
+use Rattle.v_frame_bytes.specs.Crc.{crc_step, divided}
+use Rattle.v_frame_bytes.proofs.CrcSteps.{fold-xor}
+use Rattle.v_frame_bytes.proofs.crc_tables.CrcTables.divide_sixteen.Goals as goal
 
 pub returns : goal.returns
 unfolding divided

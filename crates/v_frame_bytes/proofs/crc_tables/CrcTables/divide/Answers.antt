@@ -2,8 +2,8 @@
 use Rattle.std.proofs.Common.{sym, ◌∙◌, arith}
 use Rattle.std.specs.Prelude.{fold}
 use Rattle.std.proofs.lemmas.List.{at_drop_all}
-use Rattle.v_frame_png.specs.Crc.{crc_step}
-use Rattle.v_frame_png.proofs.crc_tables.CrcTables.divide.Goals as goal
+use Rattle.v_frame_bytes.specs.Crc.{crc_step}
+use Rattle.v_frame_bytes.proofs.crc_tables.CrcTables.divide.Goals as goal
 
 pub returns : goal.returns
 returns c =

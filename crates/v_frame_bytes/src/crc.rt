@@ -1,6 +1,6 @@
 //! The CRC-32 of bytes.
 ghost use Rattle.std.specs.Prelude.{◌≡◌, ◌++◌, [], List, ℕ, bit_xor, fold};
-ghost use Rattle.v_frame_png.specs.Crc.{crc32, crc_rest, crc_step, ones};
+ghost use Rattle.v_frame_bytes.specs.Crc.{crc32, crc_rest, crc_step, ones};
 
 use crate::crc_tables::CrcTables;
 use std::marker::Model;

@@ -1,8 +1,8 @@
 -- The byte meets the lowest byte of what is left.
 use Rattle.std.proofs.Common.{◌/◌, sym, ap, ◌∙◌}
 use Rattle.std.specs.Prelude.{bit_xor}
-use Rattle.v_frame_png.proofs.CrcSteps.{byte_step}
-use Rattle.v_frame_png.proofs.crc_tables.CrcTables.divide_byte.Goals as goal
+use Rattle.v_frame_bytes.proofs.CrcSteps.{byte_step}
+use Rattle.v_frame_bytes.proofs.crc_tables.CrcTables.divide_byte.Goals as goal
 
 pub returns : goal.returns
 returns c =

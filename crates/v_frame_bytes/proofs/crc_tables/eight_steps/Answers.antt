@@ -1,7 +1,7 @@
 -- One step fewer is left.
 use Rattle.std.proofs.Common.{ℕ, suc, ◌≡◌, ◌+◌, ◌-◌, ◌≤◌, ◌<◌, sym, ap, ◌∙◌, arith}
-use Rattle.v_frame_png.specs.Crc.{divided, divided_once}
-use Rattle.v_frame_png.proofs.crc_tables.eight_steps.Goals as goal
+use Rattle.v_frame_bytes.specs.Crc.{divided, divided_once}
+use Rattle.v_frame_bytes.proofs.crc_tables.eight_steps.Goals as goal
 
 one_more : (n rest : ℕ) → n < 8 → divided (8 - (n + 1)) (divided_once rest) ≡ divided (8 - n) rest
 unfolding divided
