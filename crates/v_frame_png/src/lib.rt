@@ -26,7 +26,6 @@ mod parts;
 mod planes;
 mod repeats;
 mod sample;
-mod sending;
 mod symbols;
 mod writer;
 

@@ -43,7 +43,6 @@ mod parts;
 mod planes;
 mod repeats;
 mod sample;
-mod sending;
 mod symbols;
 mod writer;
 

@@ -1,9 +1,9 @@
 -- One more write appends what it took.
-use Rattle.std.proofs.Common.{◌-◌, length, take, drop, ◌∙◌, ap, arith, length-take, length-drop}
+use Rattle.std.proofs.Common.{◌-◌, length, take, drop, ap, arith, length-take, length-drop}
 use Rattle.std.proofs.lemmas.List.{take_rest}
 use Rattle.std.proofs.KnownBytes.{Appends-trans}
 use Rattle.std.proofs.Math.Seq.{take-add}
-use Rattle.v_frame_planar.proofs.counted.Counted.write_all.Goals as goal
+use Rattle.v_frame_bytes.proofs.sending.send.Goals as goal
 
 pub loop-written-preserved : goal.loop-written-preserved
 loop-written-preserved g c =
@@ -18,6 +18,4 @@ loop-written-preserved g c =
       within = omega (arith, did.bound, length-take (length text - at) (drop at text), length-drop at text);
       sent = rw (take-add at count text) (rw (take_rest text at) at sent);
       nothing = λ none. absurd (omega (arith, ap length none, c.loop-written-test.true));
-      failures = did.ok ∙ before.failures;
-      last_failure = did.told ∙ before.last_failure;
     }
