@@ -162,7 +162,8 @@ def module_files(crate, module, path):
 
 
 def modules_of(crate):
-    """The public modules of a crate: the path that users write, the doc comment, and the files with their public names."""
+    """The public modules of a crate: the path that users write, the doc comment, and the files with their public names. Single items
+    of another crate are on the page of that one."""
     root = TOP / f"crates/{crate}/src/lib.rt"
     lib, at_root, modules = root.read_text(), {}, []
     for name in re.findall(r"^pub mod (\w+);", lib, re.M):
@@ -171,7 +172,8 @@ def modules_of(crate):
     for *words, name in reexports(lib):
         if words[0] in LISTED:
             path = TOP / f"crates/{words[0]}/src/{name}.rt"
-            modules.append((f"{crate}::{name}", File(path).doc(), module_files(words[0], [name], path)))
+            if path.is_file():
+                modules.append((f"{crate}::{name}", File(path).doc(), module_files(words[0], [name], path)))
         else:
             at_root.setdefault(file_of(crate, [], words), set()).add(name)
     first = [(crate, [], at_root)] if at_root else []

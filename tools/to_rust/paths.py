@@ -142,6 +142,11 @@ class Reach:
             crate, path = crate if parts[0] == "crate" else parts[0], tuple(parts[1:])
         home = self.sources.get((crate, path[:-1]))
         items = [it.name for it in items_of(home) if it.kind != "use" and it.owner is None] if home else []
+        for it in items_of(home) if home and path[-1] not in items else ():
+            for leaf, alias in leaves_of(home, it.keyword + 1, it.end - 1) if it.kind == "use" and it.is_public() else ():
+                if path[-1] == (alias or leaf.rpartition("::")[2]):
+                    self.follow(home, it, leaf.split("::"), name)
+                    return
         if path and path[-1] not in items and (crate, path) not in self.sources and parts[0] not in tables.BY_HAND:
             source.refuse(item.keyword, f"a public import that leads nowhere: {'::'.join(parts)}")
         self.note(crate, path, name)

@@ -8,8 +8,8 @@ LIBRARY = "v_frame_proved"
 # The Rust crate that each source crate becomes a part of. There it is the module `generated::NAME`.
 HOMES = {home: crates.split() for home, crates in {
     LIBRARY: """v_frame_raster v_frame_plane v_frame v_frame_ops v_frame_planar v_frame_y4m v_frame_convert v_frame_turn
-        v_frame_statistics v_frame_measures v_frame_rgb v_frame_resize v_frame_semi_planar v_frame_png v_frame_chart v_frame_formats
-        v_frame_streams""",
+        v_frame_statistics v_frame_measures v_frame_rgb v_frame_resize v_frame_semi_planar v_frame_bytes v_frame_png
+        v_frame_chart v_frame_formats v_frame_streams""",
     "v_frame_tool": "v_frame_tool_run v_frame_tool",
     "yuv": "yuv_files yuv_words yuv_pictures yuv_reports yuv_commands yuv",
     "v_frame_c": "v_frame_c v_frame_y4m_c",
@@ -21,8 +21,7 @@ HANDLES = {"rt", "HostRuntime"}
 
 # The modules of the library by their public names, as programs and other crates name them.
 PUBLIC_NAMES = {"v_frame": LIBRARY, **{f"v_frame_{name}": f"{LIBRARY}::{name}" for name in """
-    ops planar y4m convert turn statistics measures rgb resize semi_planar png chart
-    formats streams
+    ops planar y4m convert turn statistics measures rgb resize semi_planar bytes png chart formats streams
 """.split()}}
 
 # Crates that C calls, which alone may have exports.

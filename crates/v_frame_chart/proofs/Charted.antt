@@ -1,12 +1,9 @@
--- A chart that was written, or a beginning of it.
-use Rattle.std.proofs.Common.{ℕ, ◌≡◌, ◌<◌, List, length, Option, OnOk, OnErr, Result, refl, arith, Ok, Err}
-use Rattle.std.proofs.lemmas.Result.{on_err_weaker, on_ok_weaker}
+-- A chart, and one of which nothing was written.
+use Rattle.std.proofs.Common.{ℕ, ◌≡◌, ◌<◌, List, length, Option, OnErr, Result, refl, arith, Ok, Err}
 use Rattle.std.proofs.KnownBytes.{Appends-nil}
-use Rattle.std.specs.Io.KnownBytes.{Appends}
-use Rattle.v_frame_chart.specs.Charts.{chart_text, span_of, AppendsChart, AppendsPartOfChart, IsChart}
+use Rattle.v_frame_chart.specs.Charts.{chart_text, span_of, AppendsPartOfChart, IsChart}
 use Rattle.v_frame_chart.specs.Frames.{IsFrameStep}
 use Rattle.v_frame_chart.specs.Room.{HasRoom}
-use Rattle.v_frame_chart.specs.Sending.{AppendsBeginning}
 use Rattle.v_frame_chart.specs.Words.{head_text, opening}
 use Rattle.v_frame_chart.specs.declared.drawing.Chart.{Chart}
 use Rattle.v_frame_chart.specs.declared.scale.Scale.{Scale}
@@ -15,14 +12,6 @@ pub charted : (chart : Chart) (scale : Scale) (step : ℕ) (text : List ℕ) →
     → IsFrameStep (span_of chart.series.now) step → text ≡ chart_text chart scale step → IsChart chart text
 charted chart scale step text room steps drawn =
     record { scale = scale; step = step; room = room; steps = steps; drawn = drawn }
-
-pub written : {E : Type 0} (chart : Chart) (old new : Option (List ℕ)) (text : List ℕ) → IsChart chart text
-    → (r : Result (Unit {0}) E) → OnOk r (Appends old new text) → OnOk r (AppendsChart old new chart)
-written chart old new text is r = on_ok_weaker r (λ more. (text, is, more))
-
-pub part_written : {E : Type 0} (chart : Chart) (old new : Option (List ℕ)) (text : List ℕ) → IsChart chart text
-    → (r : Result (Unit {0}) E) → OnErr r (AppendsBeginning old new text) → OnErr r (AppendsPartOfChart old new chart)
-part_written chart old new text is r = on_err_weaker r (λ more. (text, is, more))
 
 -- a chart has bytes
 pub some_bytes : (chart : Chart) (scale : Scale) (step : ℕ) → 0 < length (chart_text chart scale step)

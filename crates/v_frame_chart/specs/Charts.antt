@@ -8,7 +8,7 @@ use Rattle.v_frame_chart.specs.Lines.{drawn_text}
 use Rattle.v_frame_chart.specs.Marks.{marks_of}
 use Rattle.v_frame_chart.specs.Room.{HasRoom}
 use Rattle.v_frame_chart.specs.Scales.{down_of, grid_text}
-use Rattle.v_frame_chart.specs.Sending.{AppendsBeginning}
+use Rattle.v_frame_bytes.specs.Sending.{AppendsBeginning}
 use Rattle.v_frame_chart.specs.Words.{closing, colour_of, head_text, legend_of}
 use Rattle.v_frame_chart.specs.declared.drawing.Chart.{Chart}
 use Rattle.v_frame_chart.specs.declared.drawing.Series.{Series}

@@ -7,7 +7,6 @@ pub mod Marks
 pub mod Places
 pub mod Room
 pub mod Scales
-pub mod Sending
 pub mod Words
 pub mod WorkedCharts
 pub mod WorkedTexts

@@ -10,10 +10,10 @@ use crate::lines::push_drawn;
 use crate::marks::marks;
 use crate::room::scale_of;
 use crate::scale::Scale;
-use crate::sending::send;
 use crate::words::{colour_of, push_closing, push_head, push_legend};
 use std::alloc::{AllocError, Global};
 use std::io;
+use v_frame_bytes::send;
 
 /// A number for each frame of a stream.
 #[derive(Clone, Copy)]
@@ -44,8 +44,8 @@ const COLUMNS: usize = 848;
 ///
 /// # Errors
 ///
-/// An error of the writer, and `WriteZero` where it took no bytes. Then a beginning of the file was written. `OutOfMemory`
-/// where a request for memory was refused. Then nothing was written.
+/// An error of the writer, an interrupted write too, which is not tried again, and `WriteZero` where it took no bytes. Then a
+/// beginning of the file was written. `OutOfMemory` where a request for memory was refused. Then nothing was written.
 pub fn write_svg<W: io::Write>(alloc: Global, out: &mut W, chart: &Chart<'_>) -> io::Result<()>
     ensures ok { OnOk result (AppendsChart (W.contents out.old) (W.contents out.new) chart.now) }
     ensures error { OnErr result
@@ -55,7 +55,8 @@ pub fn write_svg<W: io::Write>(alloc: Global, out: &mut W, chart: &Chart<'_>) ->
     let step = frame_step(span_of(chart.series));
     let mut text = String::new(alloc);
     push_chart(alloc, &mut text, chart, &scale, step)?;
-    send(out, text.as_bytes())
+    send(out, text.as_bytes())?;
+    Ok(())
 }
 
 /// Returns a chart as SVG.

@@ -1,8 +1,8 @@
 -- A reader or a writer whose failures are counted, with the kind of the last one, and what is left
 -- of a writer that gave up.
-use Rattle.std.specs.Prelude.{ℕ, ◌≡◌, ◌+◌, ◌-◌, ◌^◌, ◌<◌, min, List, length, take, Option, IsSome}
-use Rattle.std.specs.Io.KnownBytes.{Appends}
+use Rattle.std.specs.Prelude.{ℕ, ◌≡◌, ◌+◌, ◌-◌, ◌^◌, min, List, Option, IsSome}
 use Rattle.std.specs.declared.io.ErrorKind.{ErrorKind}
+pub use Rattle.v_frame_bytes.specs.Sending.{AppendsBeginning}
 use Rattle.v_frame_planar.specs.declared.counted.WriteFault.{WriteFault}
 use Rattle.v_frame_planar.specs.declared.counted.WriteFault.TheVariants.{Failed, TookNothing}
 
@@ -18,11 +18,6 @@ u64_max = 2 ^ 64 - 1
 -- between the two counts one call failed, which a count that is at its end can't show
 abbrev pub HasFailed : ℕ → ℕ → Type 0
 HasFailed old new = new ≡ min (old + 1) u64_max
-
--- a beginning of the bytes, and not all of them, was appended to known ones
-abbrev pub AppendsBeginning : Option (List ℕ) → Option (List ℕ) → List ℕ → Type 0
-AppendsBeginning old new bytes =
-    (count : ℕ) × (count < length bytes) × Appends old new (take count bytes)
 
 -- what a fault leaves of a writer that was to write these bytes
 module _ {W : Type 0} (contents : W → Option (List ℕ)) (old new : Watched W) (bytes : List ℕ) where

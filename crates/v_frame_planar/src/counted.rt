@@ -7,6 +7,7 @@ ghost use Rattle.v_frame_planar.specs.Counted.{HasFailed, StopsWriting, TellsWri
 
 use std::io;
 use std::marker::Model;
+use v_frame_bytes::{SendError, send};
 
 /// Why [`Counted::write_all`] gave up.
 #[derive(Debug, PartialEq, Eq, Drop)]
@@ -87,9 +88,18 @@ impl<D> Counted<D> {
             (λ error. self.new.last_failure ≡ Some (error_kind error)) }
     {
         if let Err(error) = answer {
-            self.failures = self.failures.saturating_add(1);
-            self.last_failure = Some(error.kind());
+            self.count(error);
         }
+    }
+
+    /// Counts a failure and keeps its kind.
+    fn count(&mut self, error: &io::Error)
+        ensures inner { self.new.inner ≡ self.old.inner }
+        ensures failures { HasFailed self.old.failures self.new.failures }
+        ensures told { self.new.last_failure ≡ Some (error_kind error.now) }
+    {
+        self.failures = self.failures.saturating_add(1);
+        self.last_failure = Some(error.kind());
     }
 }
 
@@ -155,14 +165,13 @@ impl<D: io::Write> Counted<D> {
         ensures cause { MatchResult result (λ _. self.new.last_failure ≡ self.old.last_failure)
             (TellsWriteCause self.old.last_failure self.new.last_failure) }
     {
-        let mut written = 0;
-        while written < bytes.len() {
-            match self.write(&bytes[written..]) {
-                Ok(0) => return Err(WriteFault::TookNothing),
-                Ok(count) => written += count,
-                Err(_) => return Err(WriteFault::Failed),
+        match send(&mut self.inner, bytes) {
+            Ok(()) => Ok(()),
+            Err(SendError::WriteZero) => Err(WriteFault::TookNothing),
+            Err(SendError::Write(error)) => {
+                self.count(&error);
+                Err(WriteFault::Failed)
             }
         }
-        Ok(())
     }
 }

@@ -1,7 +1,6 @@
 pub mod AdlerSteps
 pub mod BlockParts
 pub mod ChunkSizes
-pub mod CrcSteps
 pub mod DecodingSteps
 pub mod Files
 pub mod MadeSteps

@@ -4,7 +4,6 @@ pub mod BitsInside
 pub mod Chunks
 pub mod CoderFits
 pub mod Coding
-pub mod Crc
 pub mod Decoding
 pub mod Deflate
 pub mod Filtering

@@ -3,6 +3,7 @@
 use std::alloc::AllocError;
 use std::io;
 use thiserror::Error;
+use v_frame_bytes::SendError;
 
 /// Why a call of [`PngWriter`](crate::PngWriter) gave up.
 #[derive(Debug, Drop, Error)]
@@ -57,5 +58,19 @@ impl From<AllocError> for PngError {
 
     fn from(_refused: AllocError) -> Self {
         PngError::OutOfMemory
+    }
+}
+
+impl From<SendError> for PngError {
+    ghost use Rattle.std.specs.Prelude.{◌≡◌};
+    ghost use Rattle.v_frame_png.specs.Sending.{error_of};
+
+    ghost from_gives = { λ fault error. error ≡ error_of fault };
+
+    fn from(fault: SendError) -> Self {
+        match fault {
+            SendError::Write(error) => PngError::Write(error),
+            SendError::WriteZero => PngError::WriteZero,
+        }
     }
 }

@@ -2,7 +2,7 @@
 use Rattle.std.specs.Prelude.{ℕ, ◌≡◌, ◌+◌, ◌≤◌, ◌⊎◌, ◌∷◌, ◌++◌, [], Bool, true, false, List, Option, Some, None, drop, length, min, take, unwrap_or}
 use Rattle.std.specs.Io.KnownBytes.{Appends, IsAtEnd}
 use Rattle.v_frame_planar.specs.Planar.{plane_byte_count}
-use Rattle.v_frame_png.specs.Crc.{crc32}
+use Rattle.v_frame_bytes.specs.Crc.{crc32}
 use Rattle.yuv_reports.specs.declared.samples.Checksums.{Checksums}
 use Rattle.yuv_reports.specs.declared.samples.Checksums.TheVariants.{Frame, Planes}
 use Rattle.yuv_reports.specs.Samples.{checksums_line}

@@ -39,6 +39,8 @@ pub mod support;
 mod generated {
     pub mod v_frame;
     #[cfg(feature = "std")]
+    pub mod v_frame_bytes;
+    #[cfg(feature = "std")]
     pub mod v_frame_chart;
     pub mod v_frame_convert;
     #[cfg(feature = "std")]
@@ -71,9 +73,9 @@ pub use generated::{
 };
 #[cfg(feature = "std")]
 pub use generated::{
-    v_frame_chart as chart, v_frame_formats as formats, v_frame_measures as measures,
-    v_frame_planar as planar, v_frame_png as png, v_frame_semi_planar as semi_planar,
-    v_frame_streams as streams,
+    v_frame_bytes as bytes, v_frame_chart as chart, v_frame_formats as formats,
+    v_frame_measures as measures, v_frame_planar as planar, v_frame_png as png,
+    v_frame_semi_planar as semi_planar, v_frame_streams as streams,
 };
 pub use support::AllocError;
 

@@ -1,34 +1,12 @@
-//! Charts whose writes fail after so many bytes, take nothing there, or are interrupted; the axis of numbers.
+//! Charts whose writes fail after so many bytes, or take nothing there; the axis of numbers.
 
 #![cfg(feature = "std")]
 
 mod support;
 
-use std::io::{self, ErrorKind, Write};
+use std::io::ErrorKind;
 use support::streams::{Then, writer};
 use v_frame_proved::chart::{Chart, Series, svg, write_svg};
-
-/// A writer that is interrupted at every second call, and else takes at most five bytes.
-#[derive(Default)]
-struct Interrupted {
-    taken: Vec<u8>,
-    next: bool,
-}
-
-impl Write for Interrupted {
-    fn write(&mut self, buf: &[u8]) -> io::Result<usize> {
-        self.next = !self.next;
-        if self.next {
-            return Err(ErrorKind::Interrupted.into());
-        }
-        let count = buf.len().min(5);
-        self.taken.write(&buf[..count])
-    }
-
-    fn flush(&mut self) -> io::Result<()> {
-        Ok(())
-    }
-}
 
 #[test]
 fn each_write_of_a_chart_fails_in_turn() {
@@ -44,9 +22,6 @@ fn each_write_of_a_chart_fails_in_turn() {
             assert_eq!((error.kind(), out.taken.as_slice()), (kind, &file[..count]), "after {count} bytes");
         }
     }
-    let mut slow = Interrupted::default();
-    write_svg(&mut slow, &chart).expect("written");
-    assert_eq!(slow.taken, file);
 }
 
 /// What stands beside the axis of numbers of a chart of these, from below.

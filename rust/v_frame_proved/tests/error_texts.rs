@@ -5,6 +5,7 @@
 
 use std::fmt::{Debug, Display};
 use std::io;
+use v_frame_proved::bytes::SendError;
 use v_frame_proved::frame::FrameError;
 use v_frame_proved::planar::PlanarError;
 use v_frame_proved::plane::CopyError;
@@ -106,6 +107,10 @@ fn errors_of_streams() {
 
 #[test]
 fn errors_of_pictures() {
+    compare(
+        "v_frame_bytes SendError",
+        &[SendError::Write(io::Error::from(io::ErrorKind::StorageFull)), SendError::WriteZero],
+    );
     compare(
         "v_frame_png PngError",
         &[

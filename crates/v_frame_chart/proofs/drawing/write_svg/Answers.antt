@@ -1,7 +1,7 @@
 -- What was sent is the chart.
 use Rattle.std.proofs.Common.{◌≡◌, ◌∙◌, rules, string_bytes}
 use Rattle.v_frame_chart.specs.Charts.{chart_text}
-use Rattle.v_frame_chart.proofs.Charted.{charted, none_written, on_err_of, part_written, written}
+use Rattle.v_frame_chart.proofs.Charted.{charted, none_written, on_err_of}
 use Rattle.v_frame_chart.proofs.drawing.write_svg.Goals as goal
 
 pub returns-in_err-push_chart-clause-error : goal.returns-in_err-push_chart-clause-error
@@ -14,14 +14,14 @@ pub returns-clause-ok : goal.returns-clause-ok
 returns-clause-ok g c =
     let chart = c.args.chart.now in let scale = c.scale_of-scale.result in let step = c.frame_step-step.result in
     let drawn : string_bytes c.push_chart.new.text ≡ chart_text chart scale step = search rules in
-    written chart _ _ c.as_bytes.result.now (charted chart scale step _ c.scale_of-scale.ensures
-    (rw (c.span_of.ensures.value) at c.frame_step-step.ensures.step) (c.as_bytes.ensures.value ∙ drawn))
-    c.send.result c.send.ensures.ok
+    let is = charted chart scale step _ c.scale_of-scale.ensures
+    (rw (c.span_of.ensures.value) at c.frame_step-step.ensures.step) (c.as_bytes.ensures.value ∙ drawn) in
+    (c.as_bytes.result.now, is, c.in_ok-send.ensures.ok)
 
-pub returns-clause-error : goal.returns-clause-error
-returns-clause-error g c =
+pub returns-in_err-send-clause-error : goal.returns-in_err-send-clause-error
+returns-in_err-send-clause-error g c =
     let chart = c.args.chart.now in let scale = c.scale_of-scale.result in let step = c.frame_step-step.result in
     let drawn : string_bytes c.push_chart.new.text ≡ chart_text chart scale step = search rules in
-    part_written chart _ _ c.as_bytes.result.now (charted chart scale step _ c.scale_of-scale.ensures
-    (rw (c.span_of.ensures.value) at c.frame_step-step.ensures.step) (c.as_bytes.ensures.value ∙ drawn))
-    c.send.result c.send.ensures.error
+    let is = charted chart scale step _ c.scale_of-scale.ensures
+    (rw (c.span_of.ensures.value) at c.frame_step-step.ensures.step) (c.as_bytes.ensures.value ∙ drawn) in
+    on_err_of c.from_residual-in_err-send.result (c.as_bytes.result.now, is, c.in_err-send.ensures.error)

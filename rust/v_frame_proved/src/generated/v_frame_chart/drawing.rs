@@ -9,10 +9,10 @@ use crate::generated::v_frame_chart::lines::push_drawn;
 use crate::generated::v_frame_chart::marks::marks;
 use crate::generated::v_frame_chart::room::scale_of;
 use crate::generated::v_frame_chart::scale::Scale;
-use crate::generated::v_frame_chart::sending::send;
 use crate::generated::v_frame_chart::words::{colour_of, push_closing, push_head, push_legend};
 use crate::support::AllocError;
 use std::io;
+use crate::generated::v_frame_bytes::send;
 
 /// A number for each frame of a stream.
 #[derive(Clone, Copy, Debug, PartialEq)]
@@ -43,15 +43,16 @@ const COLUMNS: usize = 848;
 ///
 /// # Errors
 ///
-/// An error of the writer, and `WriteZero` where it took no bytes. Then a beginning of the file was written. `OutOfMemory`
-/// where a request for memory was refused. Then nothing was written.
+/// An error of the writer, an interrupted write too, which is not tried again, and `WriteZero` where it took no bytes. Then a
+/// beginning of the file was written. `OutOfMemory` where a request for memory was refused. Then nothing was written.
 #[inline]
 pub fn write_svg<W: io::Write>(out: &mut W, chart: &Chart<'_>) -> io::Result<()> {
     let scale = scale_of(chart.series);
     let step = frame_step(span_of(chart.series));
     let mut text = String::new();
     push_chart(&mut text, chart, &scale, step)?;
-    send(out, text.as_bytes())
+    send(out, text.as_bytes())?;
+    Ok(())
 }
 
 /// Returns a chart as SVG.

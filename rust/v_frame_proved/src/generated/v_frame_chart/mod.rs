@@ -37,7 +37,6 @@ mod marks;
 mod places;
 mod room;
 mod scale;
-mod sending;
 mod ticks;
 mod words;
 

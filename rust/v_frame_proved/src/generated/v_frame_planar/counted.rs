@@ -2,6 +2,7 @@
 //! Readers and writers whose failures are counted, with the kind of the last one.
 
 use std::io;
+use crate::generated::v_frame_bytes::{SendError, send};
 
 /// Why [`Counted::write_all`] gave up.
 #[derive(Debug, PartialEq, Eq, Clone, Copy)]
@@ -99,9 +100,14 @@ impl<D> Counted<D> {
     /// Counts a failure and keeps its kind, where it is one.
     fn note<T>(&mut self, answer: &io::Result<T>) {
         if let Err(error) = answer {
-            self.failures = self.failures.saturating_add(1);
-            self.last_failure = Some(error.kind());
+            self.count(error);
         }
+    }
+
+    /// Counts a failure and keeps its kind.
+    fn count(&mut self, error: &io::Error) {
+        self.failures = self.failures.saturating_add(1);
+        self.last_failure = Some(error.kind());
     }
 }
 
@@ -141,14 +147,13 @@ impl<D: io::Write> Counted<D> {
     /// was written. Why a write failed, [`last_failure`](Self::last_failure) says.
     #[inline]
     pub fn write_all(&mut self, bytes: &[u8]) -> Result<(), WriteFault> {
-        let mut written = 0;
-        while written < bytes.len() {
-            match self.write(&bytes[written..]) {
-                Ok(0) => return Err(WriteFault::TookNothing),
-                Ok(count) => written += count,
-                Err(_) => return Err(WriteFault::Failed),
+        match send(&mut self.inner, bytes) {
+            Ok(()) => Ok(()),
+            Err(SendError::WriteZero) => Err(WriteFault::TookNothing),
+            Err(SendError::Write(error)) => {
+                self.count(&error);
+                Err(WriteFault::Failed)
             }
         }
-        Ok(())
     }
 }

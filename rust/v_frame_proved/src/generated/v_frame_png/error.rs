@@ -3,6 +3,7 @@
 
 use crate::support::AllocError;
 use std::io;
+use crate::generated::v_frame_bytes::SendError;
 
 /// Why a call of [`PngWriter`](crate::png::PngWriter) gave up.
 #[derive(Debug)]
@@ -71,5 +72,15 @@ impl From<AllocError> for PngError {
     #[inline]
     fn from(_refused: AllocError) -> Self {
         PngError::OutOfMemory
+    }
+}
+
+impl From<SendError> for PngError {
+    #[inline]
+    fn from(fault: SendError) -> Self {
+        match fault {
+            SendError::Write(error) => PngError::Write(error),
+            SendError::WriteZero => PngError::WriteZero,
+        }
     }
 }
