@@ -5,7 +5,7 @@
 mod measures;
 
 use crate::generated::yuv_reports::FrameMeasures;
-use crate::generated::yuv_streams::PlaneSums;
+use v_frame_proved::streams::PlaneSums;
 use measures::Scale;
 
 const BILLIONS: u128 = 1 << 34;
