@@ -29,6 +29,7 @@ static double now(void) {
 #include "samples.inc"
 #include "pictures.inc"
 #include "conversions.inc"
+#include "measures.inc"
 #undef SAMPLE
 #undef SIGNED
 #undef WIDE
@@ -42,9 +43,11 @@ static double now(void) {
 #define NAME(call) v_frame_##call##_u16
 #define BENCH(name) name##_u16
 #define TYPE "u16"
+#define OF_DEPTH
 #include "samples.inc"
 #include "pictures.inc"
 #include "conversions.inc"
+#include "measures.inc"
 
 APART static void loop_widen(uint16_t *restrict a, const uint8_t *restrict b, size_t w, size_t h, size_t s) {
     for (size_t y = 0; y < h; y++) {
@@ -146,6 +149,8 @@ int main(void) {
         pictures_u16(sizes[i][0], sizes[i][1]);
         conversions_u8(sizes[i][0], sizes[i][1]);
         conversions_u16(sizes[i][0], sizes[i][1]);
+        measures_u8(sizes[i][0], sizes[i][1]);
+        measures_u16(sizes[i][0], sizes[i][1]);
         depths(sizes[i][0], sizes[i][1]);
         colours(sizes[i][0], sizes[i][1]);
     }

@@ -225,6 +225,7 @@ class Pictures(unittest.TestCase):
             for picture, told in pictures:
                 stream = io.BytesIO()
                 v_frame.write_png(stream, picture, told)
+                self.assertEqual(v_frame.png_bytes(picture, told), stream.getvalue())
                 found = parts_of(stream.getvalue())
                 self.assertEqual(list(found), [b"IHDR", b"IDAT", b"IEND"])
                 self.assertEqual(stream.getvalue()[:8], b"\x89PNG\r\n\x1a\n")
@@ -241,6 +242,7 @@ class Pictures(unittest.TestCase):
                 before = file.read()
             for picture, channels in ((plane, 2), (plane, 3), (plane, 0), (plane, 1.0), (plane, "3"), (None, 1), (Plane(bytes(3), 4, 4), 1)):
                 self.assertRaises(Error, v_frame.write_png, name, picture, channels)
+                self.assertRaises(Error, v_frame.png_bytes, picture, channels)
             if numpy is not None:
                 for shape, kind in (((4, 4), "int8"), ((4, 4, 2), "uint8"), ((4, 0, 3), "uint8"), ((0, 4), "uint8"), ((4,), "uint8"), ((1,) * 4, "uint8")):
                     self.assertRaises(Error, v_frame.write_png, name, numpy.zeros(shape, kind))

@@ -27,13 +27,13 @@ from ._measures import Greatest, count_above, greatest_difference, mse, psnr, ss
 from ._pictures import (ORDERS, RANGES, STANDARDS, TURNS, PairStatistics, Statistics, convert_depth, deinterleave, interleave,
                         pair_statistics, rgb, statistics, turn, upscale)
 from ._planes import Plane
-from ._png import write_png
+from ._png import png_bytes, write_png
 
 __version__ = VERSION
 __all__ = ["AccessError", "COMPONENTS", "Error", "FORMATS", "Frame", "Greatest", "KindError", "NumberError", "ORDERS",
            "PairStatistics", "Part", "Plane", "RANGES", "RowsError", "STANDARDS", "SizesError", "Statistics", "StatusError",
            "StreamError", "TURNS", "VERSION", "Y4mError", "blend", "blend_with_mask", "convert_depth", "copy", "copy_clipped", "count_above",
            "count_between", "deinterleave", "difference", "downscale_to_edge", "fill", "first_difference", "greatest_difference",
-           "half", "halve_columns", "histogram", "interleave", "lay_out", "mse", "pad", "pair_statistics", "psnr", "resize_area",
-           "resize_nearest", "rgb", "sad", "sse", "ssim", "statistics", "to_full_range", "to_limited_range", "turn", "upscale",
+           "half", "halve_columns", "histogram", "interleave", "lay_out", "mse", "pad", "pair_statistics", "png_bytes", "psnr",
+           "resize_area", "resize_nearest", "rgb", "sad", "sse", "ssim", "statistics", "to_full_range", "to_limited_range", "turn", "upscale",
            "write_png", "yuv"]
