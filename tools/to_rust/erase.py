@@ -37,7 +37,8 @@ def only_reads(source, start, end):
 
 
 def erase_unread(source):
-    """Erases `let _name = ..;`, whose value nobody reads, where it only reads. So does what Rust may not test."""
+    """Erases `let _name = ..;`, whose value nobody reads, and refuses it where it may do something; so what is proved,
+    which Rust tests in some builds alone."""
     for at in source.places("let", "prove"):
         if source.matches(at, "prove !") and not only_reads(source, at + 2, source.closing(at + 2)):
             source.refuse(at, "a condition that may do something")

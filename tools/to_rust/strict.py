@@ -23,7 +23,7 @@ class Names:
     """The names that are known, those of the sources too. A path of `std` that is not is refused."""
 
     def __init__(self, sources):
-        self.functions, self.others, self.called = set(), KNOWN["keywords"] | set(tables.BY_HAND), {"drop"}
+        self.functions, self.others, self.called = set(), KNOWN["keywords"] | set(tables.BY_HAND), set(KNOWN["calls"])
         for source in sources:
             self.others.update((source.crate, *source.module))
             for item in items_of(source):
@@ -34,7 +34,7 @@ class Names:
                 variants = source.elements(item.body[0], types=True) if item.kind == "enum" and item.body else ()
                 self.others.update(source[skip_attributes(source, start, Item(start))] for start, _ in variants)
         self.methods, self.types = KNOWN["methods"] | self.functions, KNOWN["types"] | KNOWN["derives"] | self.others
-        self.called |= self.functions | self.types | KNOWN["attributes"]
+        self.called |= KNOWN["attributes"] | self.functions | self.types
 
     def add_import(self, source, item):
         """Adds the names that an import gives. A name of `std` may be called, but what it has is not known by it."""
@@ -50,7 +50,7 @@ class Names:
 def check(source, names):
     """Refuses what is not known. Ghosts and contracts are already left out."""
     imports = {item.keyword: item.end for item in items_of(source) if item.kind == "use"}
-    called = names.called | {source[at] for at in range(len(source)) if source[at + 1] == ":" or source[at - 1] == "let"}
+    here = {source[at] for at in range(len(source)) if source[at + 1] == ":" or source[at - 1] == "let"}
     end = 0
     for at in range(len(source)):
         if source[at] == "use":
@@ -62,7 +62,7 @@ def check(source, names):
         if source[at] == "#" and source[at + 1] in ("[", "!"):
             check_attribute(source, at)
         elif source.is_word(at) and not exports.is_form(source, at):
-            check_word(source, at, names, called)
+            check_word(source, at, names, here)
         elif source.kind(at) in ("mark", "strange"):
             check_mark(source, at)
 
@@ -88,7 +88,7 @@ def check_mark(source, at):
         source.refuse(at, "a pointer, which Rust reads in unsafe code alone")
 
 
-def check_word(source, at, names, called):
+def check_word(source, at, names, here):
     """Refuses a word that is not known in its place: of a path, a call, a macro, a type, or beside another word."""
     word, before, after = source[at], source[at - 1], source[at + 1]
     plain = word not in KNOWN["keywords"] and word not in ("unsafe", "async")
@@ -116,7 +116,7 @@ def check_word(source, at, names, called):
             source.refuse(at, f"a path that is not known: {word}::{member}")
     elif before != "::" and word[0].isupper() and not word.isupper() and word not in names.types:
         source.refuse(at, f"a type that is not known: {word}")
-    elif after == "(" and before not in ("::", "fn") and plain and word not in called:
+    elif after == "(" and before not in ("::", "fn") and plain and word not in names.called and word not in here:
         source.refuse(at, f"a call that is not known: {word}")
 
 
