@@ -1,13 +1,14 @@
 //! The mean squared error and the peak signal-to-noise ratio.
-ghost use Rattle.std.specs.Prelude.{◌≡◌, ◌*◌, ◌≤◌, ◌<◌, ◌^◌, pos};
+ghost use Rattle.std.specs.Prelude.{◌≡◌, ◌*◌, pos};
 ghost use Rattle.std.specs.Float.Ieee.{binary64, div, of_int};
-ghost use Rattle.v_frame.specs.Prelude.{height_of, row_major, squared_errors, table_of, width_of};
+ghost use Rattle.v_frame.specs.Prelude.{height_of, table_of, width_of};
 ghost use Rattle.v_frame_measures.specs.Ssim.{peak_of};
 ghost use Rattle.v_frame_measures.specs.Errors.{mean_error};
 
 use crate::casts::nearest_f64;
 use v_frame::pixel::Pixel;
 use v_frame::plane::{PlaneRef, RowsRef};
+use v_frame_ops::rows::sum_of_squared_errors;
 
 /// Returns the mean squared error of two planes of one size: the sum of the squares of the differences of their pixels
 /// over how many there are, each rounded to the nearest `f64`.
@@ -26,23 +27,7 @@ pub(crate) fn mean_squared_error_of_rows<T: Pixel>(a: &RowsRef<'_, T>, b: &RowsR
     ensures { result ≡ mean_error T.form.value a.now b.now }
 {
     let pixels = a.width() as u128 * a.height() as u128;
-    nearest_f64(errors_of_rows(a, b)) / nearest_f64(pixels)
-}
-
-/// Returns the sum of the squares of the differences of the pixels of two pictures of one size, and that it is not too
-/// large.
-fn errors_of_rows<T: Pixel>(a: &RowsRef<'_, T>, b: &RowsRef<'_, T>) -> u128
-    requires wide { width_of a.now ≡ width_of b.now }
-    requires high { height_of a.now ≡ height_of b.now }
-    ensures value { result ≡ squared_errors T.form.value (row_major a.now) (row_major b.now) }
-    ensures bound { result < 2 ^ 106 }
-{
-    prove!(a.height() == b.height());
-    let mut sum = 0;
-    for y in 0..a.height() {
-        sum += T::sum_of_squared_errors(a.visible_row(y), b.visible_row(y));
-    }
-    sum
+    nearest_f64(sum_of_squared_errors(a, b)) / nearest_f64(pixels)
 }
 
 /// Returns the square of the largest value of so many bits over a mean squared error: the ratio whose decibels are the

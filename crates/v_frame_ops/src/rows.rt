@@ -7,6 +7,7 @@
 mod change;
 mod compare;
 mod compose;
+mod sums;
 
 pub use change::{combine_pixels, downscale, fill, map_pixels};
 pub use compare::{first_difference, sum_of_absolute_differences, sum_of_squared_errors};

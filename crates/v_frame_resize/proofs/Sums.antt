@@ -46,9 +46,11 @@ module _ {X : Type 0} (count : X → ℕ) (most source target x : ℕ) (xs : Lis
       (λ k h. none_behind source target stop x behind k (omega arith)) in
       omega (arith, nothing, so_far.so_far)
 
-  -- a sum never exceeds the most for each unit
-  pub sum_within : (i sum : ℕ) → SumSoFar count most source target x xs i sum → sum ≤ most * source
-  sum_within i sum so_far = omega (arith, so_far.bound, mul-le-mul_left most (covered_within source target i x))
+-- a sum never exceeds the most for each unit
+pub sum_within : {X : Type 0} {count : X → ℕ} {most source target x i sum : ℕ} {xs : List X}
+    → SumSoFar count most source target x xs i sum → sum ≤ most * source
+sum_within {X} {count} {most} {source} {target} {x} {i} so_far =
+    omega (arith, so_far.bound, mul-le-mul_left most (covered_within source target i x))
 
 -- a pixel of the target begins in a pixel of the source
 pub first_inside : (source target x first : ℕ) → 0 < source → x < target → IsFirst source target x first
@@ -76,41 +78,41 @@ inner_units source target x i span is past before =
       is.end,
     )
 
-module _ {X : Type 0} (count : X → ℕ) (most source target x : ℕ) (xs : List X) (span : Span)
+module _ {X : Type 0} {count : X → ℕ} {most source target x : ℕ} {xs : List X} {span : Span}
     (is : IsSpan source target x span) (long : length xs ≡ source) where
   -- the part of the first item
-  pub head_added : (part : ℕ) (d : X) → part ≡ count (get_or xs span.first d) → part ≤ most
+  pub head_added : {part : ℕ} (d : X) → part ≡ count (get_or xs span.first d) → part ≤ most
       → SumSoFar count most source target x xs (span.first + 1) (span.head * part)
-  head_added part d counts small =
+  head_added {part} d counts small =
       let begun = sum_begun count most source target x xs span.first is.first.before in
       let none : 0 + span.head * part ≡ span.head * part = omega arith in
       rw none at (sum_more count most source target x xs span.first 0 span.head part d
       (omega (arith, is.order, is.inside, long)) is.head counts small begun)
 
   -- one item that is covered whole
-  pub inner_added : (i head inner part : ℕ) (d : X) → span.first < i → i + 1 < span.stop
+  pub inner_added : {i part : ℕ} (head inner : ℕ) (d : X) → span.first < i → i + 1 < span.stop
       → part ≡ count (get_or xs i d) → part ≤ most → SumSoFar count most source target x xs i (head + target * inner)
       → SumSoFar count most source target x xs (i + 1) (head + target * (inner + part))
-  inner_added i head inner part d past before counts small so_far =
+  inner_added {i} {part} head inner d past before counts small so_far =
       let units = inner_units source target x i span is past before in
       let both : head + target * inner + target * part ≡ head + target * (inner + part) = omega arith in
       rw both at (sum_more count most source target x xs i (head + target * inner) target part d
       (omega (arith, before, is.inside, long)) (sym units) counts small so_far)
 
   -- the part of the last item, after which the sum is whole
-  pub tail_added : (i sum part : ℕ) (d : X) → i ≡ span.stop - 1
+  pub tail_added : {i sum part : ℕ} (d : X) → i ≡ span.stop - 1
       → part ≡ count (get_or xs (span.stop - 1) d) → part ≤ most → SumSoFar count most source target x xs i sum
       → SumSoFar count most source target x xs span.stop (sum + span.tail * part)
-  tail_added i sum part d last counts small so_far =
+  tail_added {i} {sum} {part} d last counts small so_far =
       let stop : i + 1 ≡ span.stop = omega (arith, last, is.order) in
       let here : part ≡ count (get_or xs i d) = rw last counts in
       let tail : span.tail ≡ overlap source target i x = rw last is.tail in
       rw stop at (sum_more count most source target x xs i sum span.tail part d
       (omega (arith, last, is.order, is.inside, long)) tail here small so_far)
 
-  pub whole_added : (i sum : ℕ) → i ≡ span.stop → SumSoFar count most source target x xs i sum
+  pub whole_added : {i sum : ℕ} → i ≡ span.stop → SumSoFar count most source target x xs i sum
       → sum ≡ weighted (λ k. overlap source target k x) count xs
-  whole_added i sum end so_far =
+  whole_added {i} {sum} end so_far =
       sum_done count most source target x xs i span.stop sum (rw (← is.end) is.behind) (omega arith) so_far
 
 -- values of pixels of one byte or two
@@ -132,14 +134,13 @@ pub values_some : (n : ℕ) → 0 < 256 ^ n
 values_some n = omega (arith, one-le-pow n 256 (omega arith))
 
 -- a sum of values of so many units fits its type
-pub sum_fits : (size bytes units sum : ℕ) → 0 < size → size < 3 → bytes ≡ size → units ≤ 2 ^ 48
+pub sum_fits : {size bytes units sum : ℕ} → (0 < size) × (size < 3) → bytes ≡ size → units ≤ 2 ^ 48
     → sum ≤ (256 ^ bytes - 1) * units → sum < 2 ^ 64
-sum_fits size bytes units sum some few same small within =
-    let values : 256 ^ bytes ≤ 65536 = rw same (values_fit size some few) in
+sum_fits {size} {bytes} byte_or_two same small within =
+    let values : 256 ^ bytes ≤ 65536 = rw same (values_fit size byte_or_two.0 byte_or_two.1) in
     let most : 256 ^ bytes - 1 ≤ 65535 = omega (arith, values) in
     omega (arith, mul-le-mul most small, within)
 
-pub area_fits : (size bytes width height sum : ℕ) → 0 < size → size < 3 → bytes ≡ size → width * height ≤ 2 ^ 48
+pub area_fits : {size bytes sum : ℕ} (width height : ℕ) → (0 < size) × (size < 3) → bytes ≡ size → width * height ≤ 2 ^ 48
     → sum ≤ (256 ^ bytes - 1) * width * height → sum < 2 ^ 64
-area_fits size bytes width height sum some few same small within =
-    sum_fits size bytes (width * height) sum some few same small (omega (arith, within))
+area_fits width height byte_or_two same small within = sum_fits byte_or_two same small (omega (arith, within))

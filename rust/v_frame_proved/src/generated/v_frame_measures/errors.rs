@@ -5,6 +5,7 @@ use crate::views::AsPlaneRef;
 use crate::generated::v_frame_measures::casts::nearest_f64;
 use crate::generated::v_frame::pixel::Pixel;
 use crate::generated::v_frame::plane::RowsRef;
+use crate::generated::v_frame_ops::rows::sum_of_squared_errors;
 
 /// Returns the mean squared error of two planes of one size: the sum of the squares of the differences of their pixels
 /// over how many there are, each rounded to the nearest `f64`.
@@ -36,18 +37,7 @@ pub fn mean_squared_error<T: Pixel>(a: impl AsPlaneRef<Pixel = T>, b: impl AsPla
 #[inline]
 pub(crate) fn mean_squared_error_of_rows<T: Pixel>(a: &RowsRef<'_, T>, b: &RowsRef<'_, T>) -> f64 {
     let pixels = a.width() as u128 * a.height() as u128;
-    nearest_f64(errors_of_rows(a, b)) / nearest_f64(pixels)
-}
-
-/// Returns the sum of the squares of the differences of the pixels of two pictures of one size, and that it is not too
-/// large.
-fn errors_of_rows<T: Pixel>(a: &RowsRef<'_, T>, b: &RowsRef<'_, T>) -> u128 {
-    debug_assert!(a.height() == b.height());
-    let mut sum = 0;
-    for y in 0..a.height() {
-        sum += T::pixel_sum_of_squared_errors(a.visible_row_proved(y), b.visible_row_proved(y));
-    }
-    sum
+    nearest_f64(sum_of_squared_errors(a, b)) / nearest_f64(pixels)
 }
 
 /// Returns the square of the largest value of so many bits over a mean squared error: the ratio whose decibels are the

@@ -1,5 +1,5 @@
 -- The first row, and one more.
-use Rattle.v_frame_statistics.proofs.Extremal.{first_rows, least_of_more_rows, greatest_of_more_rows}
+use Rattle.v_frame_statistics.proofs.Extremal.{by_least, by_greatest, first_of_more_rows, first_rows}
 use Rattle.v_frame_statistics.proofs.SumSteps.{row_summed, first_row_summed}
 use Rattle.v_frame_statistics.proofs.rows.summary.statistics.Goals as goal
 
@@ -21,7 +21,9 @@ loop-y-preserved g c =
       values = row_summed _ 65536 table y _ _ _ so_far.values row.value row.wide sums.value.values sums.bound.values;
       squares =
           row_summed _ 4294967296 table y _ _ _ so_far.squares row.value row.wide sums.value.squares sums.bound.squares;
-      least = least_of_more_rows value table y _ row.value _ _ _ so_far.least extremes.least c.lesser-minimum.ensures;
+      least =
+          first_of_more_rows (by_least value) table y _ row.value _ _ _ so_far.least extremes.least c.lesser-minimum.ensures;
       greatest =
-          greatest_of_more_rows value table y _ row.value _ _ _ so_far.greatest extremes.greatest c.greater-maximum.ensures;
+          first_of_more_rows (by_greatest value) table y _ row.value _ _ _ so_far.greatest extremes.greatest
+          c.greater-maximum.ensures;
     }

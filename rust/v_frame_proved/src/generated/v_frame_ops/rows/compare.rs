@@ -2,8 +2,8 @@
 //! Comparisons of two pictures of one size.
 
 use crate::views::AsRowsRef;
+use crate::generated::v_frame_ops::rows::sums::{AbsoluteDifferences, SquaredErrors, sum_of};
 use crate::generated::v_frame::pixel::Pixel;
-use crate::generated::v_frame::plane::RowsRef;
 
 /// Returns the sum of the absolute differences of the pixels of two pictures, pixel by pixel. It is exact, and never too
 /// large.
@@ -28,10 +28,7 @@ pub fn sum_of_absolute_differences<T: Pixel>(a: impl AsRowsRef<Pixel = T>, b: im
         a.height() == b.height(),
         "the heights of a ({}) and b ({}) are not equal", a.height(), b.height()
     );
-    if a.width() == 8 && a.height() == 8 {
-        return absolute_of_block::<T, 8>(a, b);
-    }
-    absolute_of_any_size(a, b)
+    sum_of::<T, AbsoluteDifferences>(a, b)
 }
 
 /// Returns the sum of the squares of the differences of the pixels of two pictures, pixel by pixel. It is exact, and never
@@ -57,10 +54,7 @@ pub fn sum_of_squared_errors<T: Pixel>(a: impl AsRowsRef<Pixel = T>, b: impl AsR
         a.height() == b.height(),
         "the heights of a ({}) and b ({}) are not equal", a.height(), b.height()
     );
-    if a.width() == 8 && a.height() == 8 {
-        return squared_of_block::<T, 8>(a, b);
-    }
-    squared_of_any_size(a, b)
+    sum_of::<T, SquaredErrors>(a, b)
 }
 
 /// Returns the column and the row of the first pixel, row after row from the top, that differs. `None` exactly where the
@@ -107,96 +101,4 @@ fn first_difference_of_rows<T: Pixel>(row: &[T], other: &[T]) -> Option<usize> {
 /// Returns whether two pixels are one and the same.
 fn are_same<T: Pixel>(p: T, q: T) -> bool {
     p == q
-}
-
-/// Returns the same sum of two pictures of as many columns and rows. Their number is a constant here, so that the compiler makes
-/// no loop of the rows of a small block.
-#[inline(always)]
-fn absolute_of_block<T: Pixel, const N: usize>(a: &RowsRef<'_, T>, b: &RowsRef<'_, T>) -> u128 {
-    let mut sum = 0;
-    for y in 0..N {
-        sum += T::pixel_sum_of_absolute_differences(&a.visible_row_proved(y)[..N], &b.visible_row_proved(y)[..N]);
-    }
-    sum
-}
-
-/// Returns the same sum of two pictures of any size. It stays out of line, so that a caller with small blocks has no more than
-/// these.
-#[inline(never)]
-fn absolute_of_any_size<T: Pixel>(a: &RowsRef<'_, T>, b: &RowsRef<'_, T>) -> u128 {
-    match a.width() {
-        8 => absolute_of_width::<T, 8>(a, b),
-        16 => absolute_of_width::<T, 16>(a, b),
-        32 => absolute_of_width::<T, 32>(a, b),
-        64 => absolute_of_width::<T, 64>(a, b),
-        _ => absolute_of_any_width(a, b),
-    }
-}
-
-/// Returns the same sum of two pictures of this width. The width of the usual blocks is a constant here, so that a row takes no
-/// test of its length.
-fn absolute_of_width<T: Pixel, const N: usize>(a: &RowsRef<'_, T>, b: &RowsRef<'_, T>) -> u128 {
-    debug_assert!(a.height() == b.height());
-    let mut sum = 0;
-    for y in 0..a.height() {
-        sum += T::pixel_sum_of_absolute_differences(&a.visible_row_proved(y)[..N], &b.visible_row_proved(y)[..N]);
-    }
-    sum
-}
-
-/// Returns the same sum of two pictures of any width. It stays out of line, so that a call for a block saves no registers for it.
-#[inline(never)]
-fn absolute_of_any_width<T: Pixel>(a: &RowsRef<'_, T>, b: &RowsRef<'_, T>) -> u128 {
-    debug_assert!(a.height() == b.height());
-    let mut sum = 0;
-    for y in 0..a.height() {
-        sum += T::pixel_sum_of_absolute_differences(a.visible_row_proved(y), b.visible_row_proved(y));
-    }
-    sum
-}
-
-/// Returns the same sum of two pictures of as many columns and rows. Their number is a constant here, so that the compiler makes
-/// no loop of the rows of a small block.
-#[inline(always)]
-fn squared_of_block<T: Pixel, const N: usize>(a: &RowsRef<'_, T>, b: &RowsRef<'_, T>) -> u128 {
-    let mut sum = 0;
-    for y in 0..N {
-        sum += T::pixel_sum_of_squared_errors(&a.visible_row_proved(y)[..N], &b.visible_row_proved(y)[..N]);
-    }
-    sum
-}
-
-/// Returns the same sum of two pictures of any size. It stays out of line, so that a caller with small blocks has no more than
-/// these.
-#[inline(never)]
-fn squared_of_any_size<T: Pixel>(a: &RowsRef<'_, T>, b: &RowsRef<'_, T>) -> u128 {
-    match a.width() {
-        8 => squared_of_width::<T, 8>(a, b),
-        16 => squared_of_width::<T, 16>(a, b),
-        32 => squared_of_width::<T, 32>(a, b),
-        64 => squared_of_width::<T, 64>(a, b),
-        _ => squared_of_any_width(a, b),
-    }
-}
-
-/// Returns the same sum of two pictures of this width. The width of the usual blocks is a constant here, so that a row takes no
-/// test of its length.
-fn squared_of_width<T: Pixel, const N: usize>(a: &RowsRef<'_, T>, b: &RowsRef<'_, T>) -> u128 {
-    debug_assert!(a.height() == b.height());
-    let mut sum = 0;
-    for y in 0..a.height() {
-        sum += T::pixel_sum_of_squared_errors(&a.visible_row_proved(y)[..N], &b.visible_row_proved(y)[..N]);
-    }
-    sum
-}
-
-/// Returns the same sum of two pictures of any width. It stays out of line, so that a call for a block saves no registers for it.
-#[inline(never)]
-fn squared_of_any_width<T: Pixel>(a: &RowsRef<'_, T>, b: &RowsRef<'_, T>) -> u128 {
-    debug_assert!(a.height() == b.height());
-    let mut sum = 0;
-    for y in 0..a.height() {
-        sum += T::pixel_sum_of_squared_errors(a.visible_row_proved(y), b.visible_row_proved(y));
-    }
-    sum
 }

@@ -1,0 +1,5 @@
+-- It is so of whatever each pair adds.
+use Rattle.v_frame_ops.proofs.rows.sums.differences_add_up.Goals as goal
+
+pub returns : goal.returns
+returns g c = c.sums_of_pairs_add_up.ensures (λ p. g.D.Difference.between p.0 p.1)

@@ -1,0 +1,12 @@
+-- The sum so far and that over the rows that are left are the whole, and no row adds more than its pixels can.
+use Rattle.std.proofs.Common.{◌≡◌, ◌+◌, ◌*◌, ◌^◌, ◌≤◌, drop}
+use Rattle.std.specs.Prelude.{sum_by, zip}
+use Rattle.v_frame.specs.Prelude.{row_major, width_of}
+use Rattle.v_frame_ops.proofs.rows.sums.sum_of_size.Given as goal
+
+abbrev pub invariant-loop-y : goal.invariant-loop-y
+invariant-loop-y g l = record {
+  so_far : l.sum + sum_by (λ p. g.D.Difference.between p.0 p.1) (zip (row_major (drop l.y l.a)) (row_major (drop l.y l.b)))
+      ≡ sum_by (λ p. g.D.Difference.between p.0 p.1) (zip (row_major l.a) (row_major l.b));
+  bound : l.sum ≤ 2 ^ 32 * (l.y * width_of l.a);
+}
