@@ -1,8 +1,13 @@
+pub mod Calls
+pub mod ChromaByTurns
 pub mod Clipped
+pub mod ColourCalls
 pub mod ColourChoice
 pub mod Counts
+pub mod Found
 pub mod FrameParts
 pub mod Layout
+pub mod Made
 pub mod Measures
 pub mod Numbers
 pub mod SemiPlanar

@@ -1,8 +1,9 @@
 -- Numbers that C gives in place of a choice, and whether they are one.
-use Rattle.std.specs.Prelude.{ℕ, ◌+◌, ◌-◌, ◌*◌, ◌/◌, ◌==◌, Bool, ◌&&◌, if◌then◌else◌, nat_eq, nat_le, nat_lt, map, reverse}
+use Rattle.std.specs.Prelude.{ℕ, ◌+◌, ◌-◌, ◌*◌, ◌/◌, ◌==◌, Bool, true, false, ◌&&◌, if◌then◌else◌, nat_eq, nat_le, nat_lt, map, reverse}
 use Rattle.v_frame.specs.Prelude.{Table}
 use Rattle.v_frame_c.specs.declared.layout.Rows.{Rows}
 use Rattle.v_frame_c.specs.Status.{same_size}
+use Rattle.v_frame_convert.specs.Prelude.{in_full_range, in_limited_range}
 use Rattle.v_frame_convert.specs.declared.range.Component.{Component}
 use Rattle.v_frame_convert.specs.declared.range.Component.TheVariants.{Luma, Chroma}
 use Rattle.v_frame_turn.specs.Turn.{rotated_180, rotated_270, rotated_90, transposed}
@@ -43,3 +44,8 @@ is_component number = nat_lt number 2
 
 abbrev pub component_by : ℕ → Component
 component_by number = if number == 0 then Luma else Chroma
+
+-- a value in the full range, or in the limited one
+abbrev pub change_by : Bool → Component → ℕ → ℕ → ℕ
+change_by true = in_full_range
+change_by false = in_limited_range

@@ -1,9 +1,8 @@
 //! Pictures copied as far as they lie inside others, for any type of pixel.
-ghost use Rattle.std.specs.Prelude.{◌≡◌, ◌≢◌, ◌+◌, ◌+ℤ◌, ◌<◌, ◌≤◌, ◌⊎◌, ℕ, pos, length, true};
+ghost use Rattle.std.specs.Prelude.{◌≡◌, ◌+◌, ◌+ℤ◌, ◌<◌, ◌≤◌, ◌⊎◌, ℕ, pos, length};
 ghost use Rattle.v_frame.specs.Prelude.{height_of, pixel_at, width_of, KeepsRest, RowsFit};
-ghost use Rattle.v_frame_c.specs.Clipped.{IsPutOn};
-ghost use Rattle.v_frame_c.specs.Layout.{fits, picture};
-ghost use Rattle.v_frame_c.specs.Status.{status_of_two};
+ghost use Rattle.v_frame_c.specs.Layout.{picture};
+ghost use Rattle.v_frame_c.specs.Made.{IsCopiedTo};
 
 use crate::layout::Rows;
 use crate::status::{FIRST, OK, SECOND};
@@ -20,12 +19,7 @@ pub fn copy_clipped<T: Pixel>(
     x: isize,
     y: isize,
 ) -> u32
-    ensures status { result ≡ status_of_two (fits rows.now (length buffer.old))
-        (fits source_rows.now (length source.now)) true }
-    ensures put { result ≡ 0 → IsPutOn x y rows.now source_rows.now (picture source_rows.now source.now)
-        (picture rows.now buffer.old) (picture rows.now buffer.new) }
-    ensures rest { KeepsRest rows.now.width rows.now.height rows.now.stride buffer.old buffer.new }
-    ensures refused { result ≢ 0 → buffer.new ≡ buffer.old }
+    ensures made { IsCopiedTo rows.now source_rows.now source.now buffer.old buffer.new result x y }
 {
     if !rows.fit(buffer.len()) {
         return FIRST;

@@ -1,9 +1,10 @@
 //! Colours of three planes of one size.
-ghost use Rattle.std.specs.Prelude.{◌≡◌, ◌≢◌, ◌*◌, ◌<◌, ◌&&◌, IsTrue, SomeIff, length, nat_eq};
+ghost use Rattle.std.specs.Prelude.{◌≡◌, ◌*◌, ◌<◌, IsTrue, SomeIff, length, nat_eq};
 ghost use Rattle.v_frame.specs.Prelude.{height_of, width_of, KeepsRest, RowsFit};
+ghost use Rattle.v_frame_c.specs.ColourCalls.{AreColours};
 ghost use Rattle.v_frame_c.specs.ColourChoice.{bytes_by, is_choice, matrix_by, range_by, size_by, standard_by};
-ghost use Rattle.v_frame_c.specs.Layout.{fits, picture};
-ghost use Rattle.v_frame_c.specs.Status.{encoded_size, same_size, status_of_four, status_of_number};
+ghost use Rattle.v_frame_c.specs.Layout.{picture};
+ghost use Rattle.v_frame_c.specs.Status.{encoded_size};
 ghost use Rattle.v_frame_rgb.specs.Prelude.{colour_rows};
 
 use crate::layout::Rows;
@@ -32,16 +33,8 @@ pub fn to_rgb(
     v: &[u8],
     choice: &ColourChoice,
 ) -> u32
-    ensures status { result ≡ status_of_number (is_choice choice.now)
-        (status_of_four (fits rows.now (length buffer.old)) (fits y_rows.now (length y.now))
-        (fits u_rows.now (length u.now)) (fits v_rows.now (length v.now))
-        (encoded_size (size_by choice.now.order) y_rows.now rows.now
-        && (same_size y_rows.now u_rows.now && same_size y_rows.now v_rows.now))) }
-    ensures picture { result ≡ 0 → picture rows.now buffer.new
-        ≡ colour_rows (matrix_by choice.now) (bytes_by choice.now.order) (picture y_rows.now y.now)
-        (picture u_rows.now u.now) (picture v_rows.now v.now) }
-    ensures rest { KeepsRest rows.now.width rows.now.height rows.now.stride buffer.old buffer.new }
-    ensures refused { result ≢ 0 → buffer.new ≡ buffer.old }
+    ensures made { AreColours choice.now rows.now y_rows.now u_rows.now v_rows.now y.now u.now v.now buffer.old
+        buffer.new result }
 {
     let Some(matrix) = choice.matrix() else {
         return NUMBER;

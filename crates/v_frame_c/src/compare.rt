@@ -1,9 +1,5 @@
 //! Comparisons of two pictures, for any type of pixel.
-ghost use Rattle.std.specs.Prelude.{◌≡◌, ◌≢◌, ◌↔◌, length};
-ghost use Rattle.v_frame.specs.Prelude.{absolute_differences, row_major, squared_errors};
-ghost use Rattle.v_frame_c.specs.Layout.{fits, nowhere, number_of, picture};
-ghost use Rattle.v_frame_c.specs.Status.{same_size, status_of_two};
-ghost use Rattle.v_frame_ops.specs.Prelude.{IsFirstDifference};
+ghost use Rattle.v_frame_c.specs.Found.{FindsFirst, SumsDifferences, SumsSquares};
 
 use crate::layout::{Place, Rows, Sum};
 use crate::status::{FIRST, OK, SECOND, SIZES};
@@ -18,11 +14,7 @@ pub fn squared_errors<T: Pixel>(
     b: &[T],
     sum: &mut Sum,
 ) -> u32
-    ensures status { result ≡ status_of_two (fits a_rows.now (length a.now))
-        (fits b_rows.now (length b.now)) (same_size a_rows.now b_rows.now) }
-    ensures sum { result ≡ 0 → number_of sum.new ≡ squared_errors T.form.value
-        (row_major (picture a_rows.now a.now)) (row_major (picture b_rows.now b.now)) }
-    ensures refused { result ≢ 0 → sum.new ≡ sum.old }
+    ensures sums { SumsSquares a_rows.now b_rows.now a.now b.now T.form sum.old sum.new result }
 {
     let Some(first) = a_rows.of(a) else {
         return FIRST;
@@ -45,11 +37,7 @@ pub fn absolute_differences<T: Pixel>(
     b: &[T],
     sum: &mut Sum,
 ) -> u32
-    ensures status { result ≡ status_of_two (fits a_rows.now (length a.now))
-        (fits b_rows.now (length b.now)) (same_size a_rows.now b_rows.now) }
-    ensures sum { result ≡ 0 → number_of sum.new ≡ absolute_differences T.form.value
-        (row_major (picture a_rows.now a.now)) (row_major (picture b_rows.now b.now)) }
-    ensures refused { result ≢ 0 → sum.new ≡ sum.old }
+    ensures sums { SumsDifferences a_rows.now b_rows.now a.now b.now T.form sum.old sum.new result }
 {
     let Some(first) = a_rows.of(a) else {
         return FIRST;
@@ -72,15 +60,7 @@ pub fn first_difference<T: Pixel>(
     b: &[T],
     place: &mut Place,
 ) -> u32
-    ensures status { result ≡ status_of_two (fits a_rows.now (length a.now))
-        (fits b_rows.now (length b.now)) (same_size a_rows.now b_rows.now) }
-    ensures none { result ≡ 0 → (place.new ≡ nowhere)
-        ↔ (picture a_rows.now a.now ≡ picture b_rows.now b.now) }
-    ensures found { result ≡ 0 → place.new ≢ nowhere → place.new.found ≡ 1 }
-    ensures first { result ≡ 0 → place.new ≢ nowhere
-        → IsFirstDifference (picture a_rows.now a.now) (picture b_rows.now b.now)
-        place.new.x place.new.y }
-    ensures refused { result ≢ 0 → place.new ≡ place.old }
+    ensures finds { FindsFirst a_rows.now b_rows.now a.now b.now place.old place.new result }
 {
     let Some(first) = a_rows.of(a) else {
         return FIRST;

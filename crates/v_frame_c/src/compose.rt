@@ -1,10 +1,5 @@
 //! Pictures composed with others, for any type of pixel.
-ghost use Rattle.std.specs.Prelude.{◌≡◌, ◌≢◌, ◌&&◌, ℕ, length, nat_le, Some};
-ghost use Rattle.v_frame.specs.Prelude.{pixel_at, KeepsRest};
-ghost use Rattle.v_frame_c.specs.Layout.{fits, picture};
-ghost use Rattle.v_frame_c.specs.Numbers.{is_depth};
-ghost use Rattle.v_frame_c.specs.Status.{same_size, status_of_number, status_of_three, status_of_two};
-ghost use Rattle.v_frame_ops.specs.Prelude.{blended, combined, difference_of};
+ghost use Rattle.v_frame_c.specs.Made.{IsBlended, IsBlendedByMask, IsDifference};
 
 use crate::convert::is_depth;
 use crate::layout::Rows;
@@ -20,14 +15,7 @@ pub fn blend<T: Pixel>(
     source: &[T],
     weight: u16,
 ) -> u32
-    ensures status { result ≡ status_of_number (nat_le weight 256)
-        (status_of_two (fits rows.now (length buffer.old)) (fits source_rows.now (length source.now))
-        (same_size rows.now source_rows.now)) }
-    ensures picture { result ≡ 0 → picture rows.now buffer.new
-        ≡ combined (combined (blended T.form 256 weight)) (picture rows.now buffer.old)
-        (picture source_rows.now source.now) }
-    ensures rest { KeepsRest rows.now.width rows.now.height rows.now.stride buffer.old buffer.new }
-    ensures refused { result ≢ 0 → buffer.new ≡ buffer.old }
+    ensures made { IsBlended rows.now source_rows.now source.now buffer.old buffer.new result T.form weight }
 {
     if weight > 256 {
         return NUMBER;
@@ -61,16 +49,8 @@ pub fn blend_with_mask<T: Pixel>(
     mask_rows: &Rows,
     mask: &[u8],
 ) -> u32
-    ensures status { result ≡ status_of_three (fits rows.now (length buffer.old))
-        (fits source_rows.now (length source.now)) (fits mask_rows.now (length mask.now))
-        (same_size rows.now source_rows.now && same_size rows.now mask_rows.now) }
-    ensures pixels { result ≡ 0 → (x y : ℕ) (p q : T) (weight : ℕ)
-        → pixel_at (picture rows.now buffer.old) x y ≡ Some p
-        → pixel_at (picture source_rows.now source.now) x y ≡ Some q
-        → pixel_at (picture mask_rows.now mask.now) x y ≡ Some weight
-        → pixel_at (picture rows.now buffer.new) x y ≡ Some (blended T.form 255 weight p q) }
-    ensures rest { KeepsRest rows.now.width rows.now.height rows.now.stride buffer.old buffer.new }
-    ensures refused { result ≢ 0 → buffer.new ≡ buffer.old }
+    ensures made { IsBlendedByMask rows.now source_rows.now source.now buffer.old buffer.new result T.form
+        mask_rows.now mask.now }
 {
     if !rows.fit(buffer.len()) {
         return FIRST;
@@ -97,14 +77,8 @@ pub fn difference<T: Pixel>(
     gain: u16,
     depth: u32,
 ) -> u32
-    ensures status { result ≡ status_of_number (is_depth T.BYTES depth)
-        (status_of_two (fits rows.now (length buffer.old)) (fits source_rows.now (length source.now))
-        (same_size rows.now source_rows.now)) }
-    ensures picture { result ≡ 0 → picture rows.now buffer.new
-        ≡ combined (combined (difference_of T.form gain depth)) (picture rows.now buffer.old)
-        (picture source_rows.now source.now) }
-    ensures rest { KeepsRest rows.now.width rows.now.height rows.now.stride buffer.old buffer.new }
-    ensures refused { result ≢ 0 → buffer.new ≡ buffer.old }
+    ensures made { IsDifference rows.now source_rows.now source.now buffer.old buffer.new result T.form T.BYTES
+        gain depth }
 {
     if !is_depth::<T>(depth) {
         return NUMBER;

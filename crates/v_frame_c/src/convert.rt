@@ -1,10 +1,7 @@
 //! Pictures in another bit depth or size, for any type of pixel.
-ghost use Rattle.std.specs.Prelude.{◌≡◌, ◌≢◌, ◌<◌, ◌≤◌, ◌&&◌, IsTrue, SomeIff, length, nat_lt};
-ghost use Rattle.v_frame.specs.Prelude.{height_of, strided_rows, width_of, KeepsRest, RowsFit};
-ghost use Rattle.v_frame_c.specs.Layout.{fits, picture};
-ghost use Rattle.v_frame_c.specs.Numbers.{is_begun, is_depth, subsampled_size};
-ghost use Rattle.v_frame_c.specs.Status.{same_size, status_of_number, status_of_two};
-ghost use Rattle.v_frame_convert.specs.Prelude.{converted, pixel_at_depth, upscaled, DepthFits, IsSubsampledSize};
+ghost use Rattle.std.specs.Prelude.{◌≡◌, ◌&&◌, IsTrue, SomeIff};
+ghost use Rattle.v_frame_c.specs.Made.{IsAtDepth, IsUpscaled};
+ghost use Rattle.v_frame_c.specs.Numbers.{is_depth};
 
 use crate::layout::Rows;
 use crate::status::{FIRST, NUMBER, OK, SECOND, SIZES};
@@ -20,13 +17,8 @@ pub fn convert_depth<S: Pixel, T: Pixel>(
     from: u32,
     to: u32,
 ) -> u32
-    ensures status { result ≡ status_of_number (is_depth S.BYTES from && is_depth T.BYTES to)
-        (status_of_two (fits rows.now (length buffer.old)) (fits source_rows.now (length source.now))
-        (same_size rows.now source_rows.now)) }
-    ensures picture { result ≡ 0 → picture rows.now buffer.new
-        ≡ converted (converted (pixel_at_depth S.form T.form from to)) (picture source_rows.now source.now) }
-    ensures rest { KeepsRest rows.now.width rows.now.height rows.now.stride buffer.old buffer.new }
-    ensures refused { result ≢ 0 → buffer.new ≡ buffer.old }
+    ensures made { IsAtDepth rows.now source_rows.now source.now buffer.old buffer.new result S.form T.form
+        S.BYTES T.BYTES from to }
 {
     let Some((from, to)) = depths::<S, T>(from, to) else {
         return NUMBER;
@@ -78,13 +70,7 @@ pub fn upscale<T: Pixel>(
     ratio_x: usize,
     ratio_y: usize,
 ) -> u32
-    ensures status { result ≡ status_of_number (nat_lt 0 ratio_x && nat_lt 0 ratio_y)
-        (status_of_two (fits rows.now (length buffer.old)) (fits source_rows.now (length source.now))
-        (subsampled_size ratio_x ratio_y rows.now source_rows.now)) }
-    ensures picture { result ≡ 0 → picture rows.now buffer.new
-        ≡ upscaled ratio_x ratio_y rows.now.width rows.now.height (picture source_rows.now source.now) }
-    ensures rest { KeepsRest rows.now.width rows.now.height rows.now.stride buffer.old buffer.new }
-    ensures refused { result ≢ 0 → buffer.new ≡ buffer.old }
+    ensures made { IsUpscaled rows.now source_rows.now source.now buffer.old buffer.new result ratio_x ratio_y }
 {
     if ratio_x == 0 || ratio_y == 0 {
         return NUMBER;

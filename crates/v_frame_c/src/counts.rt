@@ -1,7 +1,8 @@
 //! How many pixels have a value, or one in a range.
 ghost use Rattle.std.specs.Prelude.{◌≡◌, ◌≢◌, length, nat_eq};
 ghost use Rattle.v_frame.specs.Prelude.{row_major};
-ghost use Rattle.v_frame_c.specs.Counts.{count_between, is_between};
+ghost use Rattle.v_frame_c.specs.Found.{CountsBetween};
+ghost use Rattle.v_frame_c.specs.Counts.{is_between};
 ghost use Rattle.v_frame_c.specs.Layout.{fits, picture};
 ghost use Rattle.v_frame_c.specs.Status.{status_of_one, status_of_sized};
 ghost use Rattle.v_frame_statistics.specs.Prelude.{Counts};
@@ -13,10 +14,7 @@ use v_frame_statistics::rows as statistics;
 
 /// Counts the pixels with a value from `least` to `greatest`.
 pub fn between<T: Pixel>(rows: &Rows, buffer: &[T], least: T, greatest: T, count: &mut u64) -> u32
-    ensures status { result ≡ status_of_one (fits rows.now (length buffer.now)) }
-    ensures count { result ≡ 0 → count.new
-        ≡ count_between T.form.value least greatest (row_major (picture rows.now buffer.now)) }
-    ensures refused { result ≢ 0 → count.new ≡ count.old }
+    ensures counts { CountsBetween rows.now buffer.now T.form.value least greatest count.old count.new result }
 {
     let Some(source) = rows.of(buffer) else {
         return FIRST;

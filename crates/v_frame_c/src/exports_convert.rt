@@ -1,10 +1,6 @@
 //! The exports that change a picture's bit depth or size.
-ghost use Rattle.std.specs.Prelude.{◌≡◌, ◌≢◌, ◌&&◌, length, nat_lt};
-ghost use Rattle.v_frame.specs.Prelude.{one_byte, two_bytes, KeepsRest};
-ghost use Rattle.v_frame_c.specs.Layout.{fits, picture};
-ghost use Rattle.v_frame_c.specs.Numbers.{is_depth, subsampled_size};
-ghost use Rattle.v_frame_c.specs.Status.{same_size, status_of_number, status_of_two};
-ghost use Rattle.v_frame_convert.specs.Prelude.{converted, pixel_at_depth, upscaled};
+ghost use Rattle.v_frame.specs.Prelude.{one_byte, two_bytes};
+ghost use Rattle.v_frame_c.specs.Made.{IsAtDepth, IsUpscaled};
 
 use crate::convert;
 use crate::layout::Rows;
@@ -19,13 +15,8 @@ pub extern "C" fn v_frame_convert_depth_u8_u16(
     from: u32,
     to: u32,
 ) -> u32
-    ensures status { result ≡ status_of_number (is_depth 1 from && is_depth 2 to)
-        (status_of_two (fits rows.now (length buffer.old)) (fits source_rows.now (length source.now))
-        (same_size rows.now source_rows.now)) }
-    ensures picture { result ≡ 0 → picture rows.now buffer.new
-        ≡ converted (converted (pixel_at_depth one_byte two_bytes from to)) (picture source_rows.now source.now) }
-    ensures rest { KeepsRest rows.now.width rows.now.height rows.now.stride buffer.old buffer.new }
-    ensures refused { result ≢ 0 → buffer.new ≡ buffer.old }
+    ensures made { IsAtDepth rows.now source_rows.now source.now buffer.old buffer.new result one_byte two_bytes
+        1 2 from to }
 {
     convert::convert_depth(rows, buffer, source_rows, source, from, to)
 }
@@ -40,13 +31,8 @@ pub extern "C" fn v_frame_convert_depth_u16_u8(
     from: u32,
     to: u32,
 ) -> u32
-    ensures status { result ≡ status_of_number (is_depth 2 from && is_depth 1 to)
-        (status_of_two (fits rows.now (length buffer.old)) (fits source_rows.now (length source.now))
-        (same_size rows.now source_rows.now)) }
-    ensures picture { result ≡ 0 → picture rows.now buffer.new
-        ≡ converted (converted (pixel_at_depth two_bytes one_byte from to)) (picture source_rows.now source.now) }
-    ensures rest { KeepsRest rows.now.width rows.now.height rows.now.stride buffer.old buffer.new }
-    ensures refused { result ≢ 0 → buffer.new ≡ buffer.old }
+    ensures made { IsAtDepth rows.now source_rows.now source.now buffer.old buffer.new result two_bytes one_byte
+        2 1 from to }
 {
     convert::convert_depth(rows, buffer, source_rows, source, from, to)
 }
@@ -61,13 +47,8 @@ pub extern "C" fn v_frame_convert_depth_u16_u16(
     from: u32,
     to: u32,
 ) -> u32
-    ensures status { result ≡ status_of_number (is_depth 2 from && is_depth 2 to)
-        (status_of_two (fits rows.now (length buffer.old)) (fits source_rows.now (length source.now))
-        (same_size rows.now source_rows.now)) }
-    ensures picture { result ≡ 0 → picture rows.now buffer.new
-        ≡ converted (converted (pixel_at_depth two_bytes two_bytes from to)) (picture source_rows.now source.now) }
-    ensures rest { KeepsRest rows.now.width rows.now.height rows.now.stride buffer.old buffer.new }
-    ensures refused { result ≢ 0 → buffer.new ≡ buffer.old }
+    ensures made { IsAtDepth rows.now source_rows.now source.now buffer.old buffer.new result two_bytes
+        two_bytes 2 2 from to }
 {
     convert::convert_depth(rows, buffer, source_rows, source, from, to)
 }
@@ -82,13 +63,7 @@ pub extern "C" fn v_frame_upscale_u8(
     ratio_x: usize,
     ratio_y: usize,
 ) -> u32
-    ensures status { result ≡ status_of_number (nat_lt 0 ratio_x && nat_lt 0 ratio_y)
-        (status_of_two (fits rows.now (length buffer.old)) (fits source_rows.now (length source.now))
-        (subsampled_size ratio_x ratio_y rows.now source_rows.now)) }
-    ensures picture { result ≡ 0 → picture rows.now buffer.new
-        ≡ upscaled ratio_x ratio_y rows.now.width rows.now.height (picture source_rows.now source.now) }
-    ensures rest { KeepsRest rows.now.width rows.now.height rows.now.stride buffer.old buffer.new }
-    ensures refused { result ≢ 0 → buffer.new ≡ buffer.old }
+    ensures made { IsUpscaled rows.now source_rows.now source.now buffer.old buffer.new result ratio_x ratio_y }
 {
     convert::upscale(rows, buffer, source_rows, source, ratio_x, ratio_y)
 }
@@ -103,13 +78,7 @@ pub extern "C" fn v_frame_upscale_u16(
     ratio_x: usize,
     ratio_y: usize,
 ) -> u32
-    ensures status { result ≡ status_of_number (nat_lt 0 ratio_x && nat_lt 0 ratio_y)
-        (status_of_two (fits rows.now (length buffer.old)) (fits source_rows.now (length source.now))
-        (subsampled_size ratio_x ratio_y rows.now source_rows.now)) }
-    ensures picture { result ≡ 0 → picture rows.now buffer.new
-        ≡ upscaled ratio_x ratio_y rows.now.width rows.now.height (picture source_rows.now source.now) }
-    ensures rest { KeepsRest rows.now.width rows.now.height rows.now.stride buffer.old buffer.new }
-    ensures refused { result ≢ 0 → buffer.new ≡ buffer.old }
+    ensures made { IsUpscaled rows.now source_rows.now source.now buffer.old buffer.new result ratio_x ratio_y }
 {
     convert::upscale(rows, buffer, source_rows, source, ratio_x, ratio_y)
 }

@@ -1,7 +1,7 @@
 //! The exports that count pixels.
 ghost use Rattle.std.specs.Prelude.{◌≡◌, ◌≢◌, length, nat_eq};
 ghost use Rattle.v_frame.specs.Prelude.{one_byte, row_major, two_bytes};
-ghost use Rattle.v_frame_c.specs.Counts.{count_between};
+ghost use Rattle.v_frame_c.specs.Found.{CountsBetween};
 ghost use Rattle.v_frame_c.specs.Layout.{fits, picture};
 ghost use Rattle.v_frame_c.specs.Status.{status_of_one, status_of_sized};
 ghost use Rattle.v_frame_statistics.specs.Prelude.{Counts};
@@ -18,10 +18,21 @@ pub extern "C" fn v_frame_count_between_u8(
     greatest: u8,
     count: &mut u64,
 ) -> u32
-    ensures status { result ≡ status_of_one (fits rows.now (length buffer.now)) }
-    ensures count { result ≡ 0 → count.new
-        ≡ count_between one_byte.value least greatest (row_major (picture rows.now buffer.now)) }
-    ensures refused { result ≢ 0 → count.new ≡ count.old }
+    ensures counts { CountsBetween rows.now buffer.now one_byte.value least greatest count.old count.new result }
+{
+    counts::between(rows, buffer, least, greatest, count)
+}
+
+/// Counts the pixels with a value from `least` to `greatest`.
+#[unsafe(no_mangle)]
+pub extern "C" fn v_frame_count_between_u16(
+    rows: &Rows,
+    buffer: &[u16],
+    least: u16,
+    greatest: u16,
+    count: &mut u64,
+) -> u32
+    ensures counts { CountsBetween rows.now buffer.now two_bytes.value least greatest count.old count.new result }
 {
     counts::between(rows, buffer, least, greatest, count)
 }
@@ -34,23 +45,6 @@ pub extern "C" fn v_frame_histogram_u8(rows: &Rows, buffer: &[u8], counts: &mut 
     ensures refused { result ≢ 0 → counts.new ≡ counts.old }
 {
     counts::histogram_of_bytes(rows, buffer, counts)
-}
-
-/// Counts the pixels with a value from `least` to `greatest`.
-#[unsafe(no_mangle)]
-pub extern "C" fn v_frame_count_between_u16(
-    rows: &Rows,
-    buffer: &[u16],
-    least: u16,
-    greatest: u16,
-    count: &mut u64,
-) -> u32
-    ensures status { result ≡ status_of_one (fits rows.now (length buffer.now)) }
-    ensures count { result ≡ 0 → count.new
-        ≡ count_between two_bytes.value least greatest (row_major (picture rows.now buffer.now)) }
-    ensures refused { result ≢ 0 → count.new ≡ count.old }
-{
-    counts::between(rows, buffer, least, greatest, count)
 }
 
 /// Makes entry `v` of `counts` how many pixels have the value `v`. A pixel of a value that has no entry is not counted.

@@ -1,9 +1,5 @@
 //! The exports that turn pictures.
-ghost use Rattle.std.specs.Prelude.{◌≡◌, ◌≢◌, length};
-ghost use Rattle.v_frame.specs.Prelude.{KeepsRest};
-ghost use Rattle.v_frame_c.specs.Layout.{fits, picture};
-ghost use Rattle.v_frame_c.specs.Numbers.{is_turn, turned_by, turned_size};
-ghost use Rattle.v_frame_c.specs.Status.{status_of_number, status_of_two};
+ghost use Rattle.v_frame_c.specs.Made.{IsTurned};
 
 use crate::layout::Rows;
 use crate::turn;
@@ -18,13 +14,7 @@ pub extern "C" fn v_frame_turn_u8(
     source: &[u8],
     number: u32,
 ) -> u32
-    ensures status { result ≡ status_of_number (is_turn number)
-        (status_of_two (fits rows.now (length buffer.old)) (fits source_rows.now (length source.now))
-        (turned_size number rows.now source_rows.now)) }
-    ensures picture { result ≡ 0 → picture rows.now buffer.new
-        ≡ turned_by number (picture source_rows.now source.now) }
-    ensures rest { KeepsRest rows.now.width rows.now.height rows.now.stride buffer.old buffer.new }
-    ensures refused { result ≢ 0 → buffer.new ≡ buffer.old }
+    ensures made { IsTurned rows.now source_rows.now source.now buffer.old buffer.new result number }
 {
     turn::turn(rows, buffer, source_rows, source, number)
 }
@@ -39,13 +29,7 @@ pub extern "C" fn v_frame_turn_u16(
     source: &[u16],
     number: u32,
 ) -> u32
-    ensures status { result ≡ status_of_number (is_turn number)
-        (status_of_two (fits rows.now (length buffer.old)) (fits source_rows.now (length source.now))
-        (turned_size number rows.now source_rows.now)) }
-    ensures picture { result ≡ 0 → picture rows.now buffer.new
-        ≡ turned_by number (picture source_rows.now source.now) }
-    ensures rest { KeepsRest rows.now.width rows.now.height rows.now.stride buffer.old buffer.new }
-    ensures refused { result ≢ 0 → buffer.new ≡ buffer.old }
+    ensures made { IsTurned rows.now source_rows.now source.now buffer.old buffer.new result number }
 {
     turn::turn(rows, buffer, source_rows, source, number)
 }

@@ -1,6 +1,5 @@
 //! Where the planes of a frame lie in one buffer, one after the other.
-ghost use Rattle.std.specs.Prelude.{◌≡◌, ◌≢◌, ◌+◌, ◌*◌, ◌<◌, ◌≤◌, IsTrue, IfSome, SomeIff};
-ghost use Rattle.std.specs.Int.{div_ceil};
+ghost use Rattle.std.specs.Prelude.{◌≡◌, ◌≢◌, ◌+◌, ◌<◌, ◌≤◌, IsTrue, SomeIff};
 ghost use Rattle.v_frame.specs.Prelude.{usize_max};
 ghost use Rattle.v_frame_c.specs.FrameParts.{all_parts, chroma_in, evenly_bordered, frame_parts, frame_status, luma_in, luma_parts, no_part, size_of};
 ghost use Rattle.v_frame_c.specs.Layout.{is_bordered};

@@ -1,10 +1,5 @@
 //! Pictures in half the size, rounded up, for any type of pixel.
-ghost use Rattle.std.specs.Prelude.{◌≡◌, ◌≢◌, length};
-ghost use Rattle.v_frame.specs.Prelude.{KeepsRest};
-ghost use Rattle.v_frame_c.specs.Layout.{fits, picture};
-ghost use Rattle.v_frame_c.specs.Numbers.{subsampled_size};
-ghost use Rattle.v_frame_c.specs.Status.{status_of_two};
-ghost use Rattle.v_frame_convert.specs.Prelude.{scaled};
+ghost use Rattle.v_frame_c.specs.Made.{IsScaled};
 ghost use Rattle.v_frame_convert.specs.declared.scale.Scale.TheVariants.{Half, Same};
 
 use crate::layout::Rows;
@@ -20,12 +15,7 @@ pub fn downscale_to_edge<T: Pixel>(
     source_rows: &Rows,
     source: &[T],
 ) -> u32
-    ensures status { result ≡ status_of_two (fits rows.now (length buffer.old))
-        (fits source_rows.now (length source.now)) (subsampled_size 2 2 source_rows.now rows.now) }
-    ensures picture { result ≡ 0 → picture rows.now buffer.new ≡ scaled T.form T.form.pixel_of Half Half
-        rows.now.width rows.now.height (picture source_rows.now source.now) }
-    ensures rest { KeepsRest rows.now.width rows.now.height rows.now.stride buffer.old buffer.new }
-    ensures refused { result ≢ 0 → buffer.new ≡ buffer.old }
+    ensures made { IsScaled rows.now source_rows.now source.now buffer.old buffer.new result T.form 2 2 Half Half }
 {
     if !rows.fit(buffer.len()) {
         return FIRST;
@@ -48,12 +38,7 @@ pub fn halve_columns<T: Pixel>(
     source_rows: &Rows,
     source: &[T],
 ) -> u32
-    ensures status { result ≡ status_of_two (fits rows.now (length buffer.old))
-        (fits source_rows.now (length source.now)) (subsampled_size 2 1 source_rows.now rows.now) }
-    ensures picture { result ≡ 0 → picture rows.now buffer.new ≡ scaled T.form T.form.pixel_of Half Same
-        rows.now.width rows.now.height (picture source_rows.now source.now) }
-    ensures rest { KeepsRest rows.now.width rows.now.height rows.now.stride buffer.old buffer.new }
-    ensures refused { result ≢ 0 → buffer.new ≡ buffer.old }
+    ensures made { IsScaled rows.now source_rows.now source.now buffer.old buffer.new result T.form 2 1 Half Same }
 {
     if !rows.fit(buffer.len()) {
         return FIRST;

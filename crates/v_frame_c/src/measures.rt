@@ -1,13 +1,5 @@
 //! How far two pictures are apart, as numbers, for any type of pixel.
-ghost use Rattle.std.specs.Prelude.{◌≡◌, ◌≢◌, length, nat_lt};
-ghost use Rattle.std.specs.Int.{abs_diff};
-ghost use Rattle.v_frame.specs.Prelude.{row_major};
-ghost use Rattle.v_frame_c.specs.Layout.{fits, picture};
-ghost use Rattle.v_frame_c.specs.Measures.{has_window, status_of_windows, IsGreatest};
-ghost use Rattle.v_frame_c.specs.Numbers.{is_depth};
-ghost use Rattle.v_frame_c.specs.Status.{same_size, status_of_number, status_of_two};
-ghost use Rattle.v_frame_measures.specs.Prelude.{mean_error, peak_of, ssim_of};
-ghost use Rattle.v_frame_statistics.specs.Prelude.{passing_pairs};
+ghost use Rattle.v_frame_c.specs.Found.{CountsAbove, FindsGreatest, MeasuresError, MeasuresSimilarity};
 
 use crate::convert::is_depth;
 use crate::layout::Rows;
@@ -32,11 +24,7 @@ pub fn mean_squared_error<T: Pixel>(
     b: &[T],
     error: &mut f64,
 ) -> u32
-    ensures status { result ≡ status_of_two (fits a_rows.now (length a.now))
-        (fits b_rows.now (length b.now)) (same_size a_rows.now b_rows.now) }
-    ensures error { result ≡ 0 → error.new
-        ≡ mean_error T.form.value (picture a_rows.now a.now) (picture b_rows.now b.now) }
-    ensures refused { result ≢ 0 → error.new ≡ error.old }
+    ensures measures { MeasuresError a_rows.now b_rows.now a.now b.now T.form error.old error.new result }
 {
     let Some(first) = a_rows.of(a) else {
         return FIRST;
@@ -60,12 +48,8 @@ pub fn ssim<T: Pixel>(
     bit_depth: u32,
     similarity: &mut f64,
 ) -> u32
-    ensures status { result ≡ status_of_number (is_depth T.BYTES bit_depth) (status_of_windows
-        (status_of_two (fits a_rows.now (length a.now)) (fits b_rows.now (length b.now))
-        (same_size a_rows.now b_rows.now)) (has_window a_rows.now)) }
-    ensures similarity { result ≡ 0 → similarity.new ≡ ssim_of T.form (peak_of bit_depth)
-        (picture a_rows.now a.now) (picture b_rows.now b.now) }
-    ensures refused { result ≢ 0 → similarity.new ≡ similarity.old }
+    ensures measures { MeasuresSimilarity a_rows.now b_rows.now a.now b.now T.form T.BYTES bit_depth
+        similarity.old similarity.new result }
 {
     if !is_depth::<T>(bit_depth) {
         return NUMBER;
@@ -94,11 +78,7 @@ pub fn greatest_difference<T: Pixel>(
     b: &[T],
     found: &mut Greatest,
 ) -> u32
-    ensures status { result ≡ status_of_two (fits a_rows.now (length a.now))
-        (fits b_rows.now (length b.now)) (same_size a_rows.now b_rows.now) }
-    ensures found { result ≡ 0 → IsGreatest T.form.value (picture a_rows.now a.now)
-        (picture b_rows.now b.now) found.new }
-    ensures refused { result ≢ 0 → found.new ≡ found.old }
+    ensures finds { FindsGreatest a_rows.now b_rows.now a.now b.now T.form found.old found.new result }
 {
     let Some(first) = a_rows.of(a) else {
         return FIRST;
@@ -127,12 +107,7 @@ pub fn count_above<T: Pixel>(
     threshold: u16,
     count: &mut u64,
 ) -> u32
-    ensures status { result ≡ status_of_two (fits a_rows.now (length a.now))
-        (fits b_rows.now (length b.now)) (same_size a_rows.now b_rows.now) }
-    ensures count { result ≡ 0 → count.new ≡ passing_pairs
-        (λ p q. nat_lt threshold (abs_diff (T.form.value p) (T.form.value q)))
-        (row_major (picture a_rows.now a.now)) (row_major (picture b_rows.now b.now)) }
-    ensures refused { result ≢ 0 → count.new ≡ count.old }
+    ensures counts { CountsAbove a_rows.now b_rows.now a.now b.now T.form threshold count.old count.new result }
 {
     let Some(first) = a_rows.of(a) else {
         return FIRST;

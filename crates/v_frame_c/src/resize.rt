@@ -1,10 +1,7 @@
 //! Pictures in any other size, for any type of pixel.
-ghost use Rattle.std.specs.Prelude.{◌≡◌, ◌≢◌, ◌<◌, ◌&&◌, ℕ, length, Some};
-ghost use Rattle.v_frame.specs.Prelude.{pixel_at, KeepsRest};
-ghost use Rattle.v_frame_c.specs.Layout.{fits, picture};
+ghost use Rattle.std.specs.Prelude.{◌≡◌};
+ghost use Rattle.v_frame_c.specs.Made.{IsResizedByArea, IsResizedByNearest};
 ghost use Rattle.v_frame_c.specs.Sizes.{have_areas, is_counted};
-ghost use Rattle.v_frame_c.specs.Status.{status_of_two};
-ghost use Rattle.v_frame_resize.specs.Prelude.{area_mean, nearest};
 
 use crate::layout::Rows;
 use crate::status::{FIRST, OK, SECOND, SIZES};
@@ -13,13 +10,7 @@ use v_frame_resize::rows as sizes;
 
 /// Makes the first rows show the picture of the second ones: each pixel is the mean of the area that it covers.
 pub fn by_area<T: Pixel>(rows: &Rows, buffer: &mut [T], source_rows: &Rows, source: &[T]) -> u32
-    ensures status { result ≡ status_of_two (fits rows.now (length buffer.old))
-        (fits source_rows.now (length source.now)) (have_areas rows.now source_rows.now) }
-    ensures pixels { result ≡ 0 → (x y : ℕ) → x < rows.now.width → y < rows.now.height
-        → pixel_at (picture rows.now buffer.new) x y ≡ Some (T.form.pixel_of
-        (area_mean T.form (picture source_rows.now source.now) rows.now.width rows.now.height x y)) }
-    ensures rest { KeepsRest rows.now.width rows.now.height rows.now.stride buffer.old buffer.new }
-    ensures refused { result ≢ 0 → buffer.new ≡ buffer.old }
+    ensures made { IsResizedByArea rows.now source_rows.now source.now buffer.old buffer.new result T.form }
 {
     if !rows.fit(buffer.len()) {
         return FIRST;
@@ -36,13 +27,7 @@ pub fn by_area<T: Pixel>(rows: &Rows, buffer: &mut [T], source_rows: &Rows, sour
 
 /// Makes the first rows show the picture of the second ones: each pixel is the one that holds its centre.
 pub fn by_nearest<T: Pixel>(rows: &Rows, buffer: &mut [T], source_rows: &Rows, source: &[T]) -> u32
-    ensures status { result ≡ status_of_two (fits rows.now (length buffer.old))
-        (fits source_rows.now (length source.now)) (is_counted rows.now && is_counted source_rows.now) }
-    ensures pixels { result ≡ 0 → (x y : ℕ) → x < rows.now.width → y < rows.now.height
-        → pixel_at (picture rows.now buffer.new) x y ≡ pixel_at (picture source_rows.now source.now)
-        (nearest source_rows.now.width rows.now.width x) (nearest source_rows.now.height rows.now.height y) }
-    ensures rest { KeepsRest rows.now.width rows.now.height rows.now.stride buffer.old buffer.new }
-    ensures refused { result ≢ 0 → buffer.new ≡ buffer.old }
+    ensures made { IsResizedByNearest rows.now source_rows.now source.now buffer.old buffer.new result }
 {
     if !rows.fit(buffer.len()) {
         return FIRST;

@@ -1,9 +1,8 @@
 //! Three planes of one size of colours.
-ghost use Rattle.std.specs.Prelude.{◌≡◌, ◌≢◌, ◌*◌, ◌<◌, ◌&&◌, IsTrue, SomeIff, length};
+ghost use Rattle.std.specs.Prelude.{◌≡◌, ◌*◌, ◌<◌, IsTrue, SomeIff, length};
 ghost use Rattle.v_frame.specs.Prelude.{height_of, strided_rows, width_of, KeepsRest, RowsFit};
+ghost use Rattle.v_frame_c.specs.ColourCalls.{AreSamples};
 ghost use Rattle.v_frame_c.specs.ColourChoice.{colour_by, is_choice, size_by, yuv_matrix_by};
-ghost use Rattle.v_frame_c.specs.Layout.{fits, picture};
-ghost use Rattle.v_frame_c.specs.Status.{encoded_size, same_size, status_of_four, status_of_number};
 ghost use Rattle.v_frame_rgb.specs.Prelude.{sample_rows, u_of, v_of, y_of};
 
 use crate::colours::ColourChoice;
@@ -24,26 +23,8 @@ pub fn of_rgb(
     v: &mut [u8],
     choice: &ColourChoice,
 ) -> u32
-    ensures status { result ≡ status_of_number (is_choice choice.now)
-        (status_of_four (fits rows.now (length buffer.now)) (fits y_rows.now (length y.old))
-        (fits u_rows.now (length u.old)) (fits v_rows.now (length v.old))
-        (encoded_size (size_by choice.now.order) y_rows.now rows.now
-        && (same_size y_rows.now u_rows.now && same_size y_rows.now v_rows.now))) }
-    ensures luma { result ≡ 0 → picture y_rows.now y.new
-        ≡ sample_rows (y_of (yuv_matrix_by choice.now)) (colour_by choice.now.order)
-        (size_by choice.now.order) y_rows.now.width (picture rows.now buffer.now) }
-    ensures chroma_u { result ≡ 0 → picture u_rows.now u.new
-        ≡ sample_rows (u_of (yuv_matrix_by choice.now)) (colour_by choice.now.order)
-        (size_by choice.now.order) y_rows.now.width (picture rows.now buffer.now) }
-    ensures chroma_v { result ≡ 0 → picture v_rows.now v.new
-        ≡ sample_rows (v_of (yuv_matrix_by choice.now)) (colour_by choice.now.order)
-        (size_by choice.now.order) y_rows.now.width (picture rows.now buffer.now) }
-    ensures y_rest { KeepsRest y_rows.now.width y_rows.now.height y_rows.now.stride y.old y.new }
-    ensures u_rest { KeepsRest u_rows.now.width u_rows.now.height u_rows.now.stride u.old u.new }
-    ensures v_rest { KeepsRest v_rows.now.width v_rows.now.height v_rows.now.stride v.old v.new }
-    ensures y_refused { result ≢ 0 → y.new ≡ y.old }
-    ensures u_refused { result ≢ 0 → u.new ≡ u.old }
-    ensures v_refused { result ≢ 0 → v.new ≡ v.old }
+    ensures made { AreSamples choice.now rows.now y_rows.now u_rows.now v_rows.now buffer.now y.old y.new u.old
+        u.new v.old v.new result }
 {
     let Some(matrix) = choice.yuv_matrix() else {
         return NUMBER;

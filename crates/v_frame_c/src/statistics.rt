@@ -1,9 +1,5 @@
 //! Numbers that pictures give, for any type of pixel.
-ghost use Rattle.std.specs.Prelude.{◌≡◌, ◌≢◌, length};
-ghost use Rattle.v_frame.specs.Prelude.{row_major};
-ghost use Rattle.v_frame_c.specs.Layout.{fits, number_of, picture};
-ghost use Rattle.v_frame_c.specs.Statistics.{AreStatistics, ArePairStatistics};
-ghost use Rattle.v_frame_c.specs.Status.{same_size, status_of_one, status_of_two};
+ghost use Rattle.v_frame_c.specs.Found.{SumsPairs, SumsPixels};
 
 use crate::layout::{Rows, Sum};
 use crate::status::{FIRST, OK, SECOND, SIZES};
@@ -34,10 +30,7 @@ pub struct PairStatistics {
 
 /// Sums the pixels of a picture and their squares, and finds the least and the greatest value.
 pub fn of_picture<T: Pixel>(rows: &Rows, buffer: &[T], found: &mut Statistics) -> u32
-    ensures status { result ≡ status_of_one (fits rows.now (length buffer.now)) }
-    ensures found { result ≡ 0
-        → AreStatistics T.form.value (row_major (picture rows.now buffer.now)) found.new }
-    ensures refused { result ≢ 0 → found.new ≡ found.old }
+    ensures sums { SumsPixels rows.now buffer.now T.form.value found.old found.new result }
 {
     let Some(rows) = rows.of(buffer) else {
         return FIRST;
@@ -61,11 +54,7 @@ pub fn of_pair<T: Pixel>(
     b: &[T],
     found: &mut PairStatistics,
 ) -> u32
-    ensures status { result ≡ status_of_two (fits a_rows.now (length a.now))
-        (fits b_rows.now (length b.now)) (same_size a_rows.now b_rows.now) }
-    ensures found { result ≡ 0 → ArePairStatistics T.form.value (row_major (picture a_rows.now a.now))
-        (row_major (picture b_rows.now b.now)) found.new }
-    ensures refused { result ≢ 0 → found.new ≡ found.old }
+    ensures sums { SumsPairs a_rows.now b_rows.now a.now b.now T.form found.old found.new result }
 {
     let Some(first) = a_rows.of(a) else {
         return FIRST;

@@ -1,9 +1,9 @@
 //! Pictures turned, for any type of pixel.
-ghost use Rattle.std.specs.Prelude.{◌≡◌, ◌≢◌, ◌<◌, IsTrue, length};
-ghost use Rattle.v_frame.specs.Prelude.{height_of, strided_rows, width_of, KeepsRest, RowsFit};
-ghost use Rattle.v_frame_c.specs.Layout.{fits, picture};
-ghost use Rattle.v_frame_c.specs.Numbers.{is_turn, turned_by, turned_size};
-ghost use Rattle.v_frame_c.specs.Status.{status_of_number, status_of_two};
+ghost use Rattle.std.specs.Prelude.{◌≡◌, ◌<◌, length};
+ghost use Rattle.v_frame.specs.Prelude.{height_of, width_of, KeepsRest, RowsFit};
+ghost use Rattle.v_frame_c.specs.Layout.{picture};
+ghost use Rattle.v_frame_c.specs.Made.{IsTurned};
+ghost use Rattle.v_frame_c.specs.Numbers.{turned_by};
 
 use crate::layout::Rows;
 use crate::status::{FIRST, NUMBER, OK, SECOND, SIZES};
@@ -19,13 +19,7 @@ pub fn turn<T: Pixel>(
     source: &[T],
     number: u32,
 ) -> u32
-    ensures status { result ≡ status_of_number (is_turn number)
-        (status_of_two (fits rows.now (length buffer.old)) (fits source_rows.now (length source.now))
-        (turned_size number rows.now source_rows.now)) }
-    ensures picture { result ≡ 0 → picture rows.now buffer.new
-        ≡ turned_by number (picture source_rows.now source.now) }
-    ensures rest { KeepsRest rows.now.width rows.now.height rows.now.stride buffer.old buffer.new }
-    ensures refused { result ≢ 0 → buffer.new ≡ buffer.old }
+    ensures made { IsTurned rows.now source_rows.now source.now buffer.old buffer.new result number }
 {
     if number >= 6 {
         return NUMBER;

@@ -1,11 +1,7 @@
 //! Frames whose chroma takes turns in one plane, made of three planes and back, for any type of pixel.
-ghost use Rattle.std.specs.Prelude.{◌≡◌, ◌≢◌, IsTrue, length};
-ghost use Rattle.v_frame.specs.Prelude.{KeepsRest};
-ghost use Rattle.v_frame_c.specs.Layout.{fits, picture};
+ghost use Rattle.std.specs.Prelude.{◌≡◌, IsTrue};
 ghost use Rattle.v_frame_c.specs.SemiPlanar.{columns_by, have_layout, is_semi_planar, rows_by};
-ghost use Rattle.v_frame_c.specs.Status.{status_of_five, status_of_format};
-ghost use Rattle.v_frame_ops.specs.Prelude.{combined};
-ghost use Rattle.v_frame_semi_planar.specs.Interleaved.{interleaved};
+ghost use Rattle.v_frame_c.specs.ChromaByTurns.{ArePlanesOf, IsSemiPlanarOf};
 
 use crate::layout::Rows;
 use crate::status::{FIFTH, FIRST, FORMAT, FOURTH, OK, SECOND, SIZES, THIRD};
@@ -27,18 +23,8 @@ pub fn to_semi_planar<T: Pixel>(
     v: &[T],
     format: u32,
 ) -> u32
-    ensures status { result ≡ status_of_format (is_semi_planar format)
-        (status_of_five (fits y_rows.now (length y.old)) (fits uv_rows.now (length uv.old))
-        (fits source_rows.now (length source.now)) (fits u_rows.now (length u.now))
-        (fits v_rows.now (length v.now))
-        (have_layout format y_rows.now source_rows.now uv_rows.now u_rows.now v_rows.now)) }
-    ensures luma { result ≡ 0 → picture y_rows.now y.new ≡ picture source_rows.now source.now }
-    ensures chroma { result ≡ 0 → picture uv_rows.now uv.new
-        ≡ combined interleaved (picture u_rows.now u.now) (picture v_rows.now v.now) }
-    ensures y_rest { KeepsRest y_rows.now.width y_rows.now.height y_rows.now.stride y.old y.new }
-    ensures uv_rest { KeepsRest uv_rows.now.width uv_rows.now.height uv_rows.now.stride uv.old uv.new }
-    ensures y_refused { result ≢ 0 → y.new ≡ y.old }
-    ensures uv_refused { result ≢ 0 → uv.new ≡ uv.old }
+    ensures made { IsSemiPlanarOf format y_rows.now uv_rows.now source_rows.now u_rows.now v_rows.now
+        y.old y.new uv.old uv.new source.now u.now v.now result }
 {
     if !is_semi_planar(format) {
         return FORMAT;
@@ -80,20 +66,8 @@ pub fn from_semi_planar<T: Pixel>(
     uv: &[T],
     format: u32,
 ) -> u32
-    ensures status { result ≡ status_of_format (is_semi_planar format)
-        (status_of_five (fits y_rows.now (length y.old)) (fits u_rows.now (length u.old))
-        (fits v_rows.now (length v.old)) (fits source_rows.now (length source.now))
-        (fits uv_rows.now (length uv.now))
-        (have_layout format y_rows.now source_rows.now uv_rows.now u_rows.now v_rows.now)) }
-    ensures luma { result ≡ 0 → picture y_rows.now y.new ≡ picture source_rows.now source.now }
-    ensures chroma { result ≡ 0 → picture uv_rows.now uv.now
-        ≡ combined interleaved (picture u_rows.now u.new) (picture v_rows.now v.new) }
-    ensures y_rest { KeepsRest y_rows.now.width y_rows.now.height y_rows.now.stride y.old y.new }
-    ensures u_rest { KeepsRest u_rows.now.width u_rows.now.height u_rows.now.stride u.old u.new }
-    ensures v_rest { KeepsRest v_rows.now.width v_rows.now.height v_rows.now.stride v.old v.new }
-    ensures y_refused { result ≢ 0 → y.new ≡ y.old }
-    ensures u_refused { result ≢ 0 → u.new ≡ u.old }
-    ensures v_refused { result ≢ 0 → v.new ≡ v.old }
+    ensures made { ArePlanesOf format y_rows.now uv_rows.now source_rows.now u_rows.now v_rows.now
+        y.old y.new u.old u.new v.old v.new source.now uv.now result }
 {
     if !is_semi_planar(format) {
         return FORMAT;

@@ -27,6 +27,29 @@ pub unsafe extern "C" fn v_frame_blend_u8(
     compose::blend(rows, buffer, source_rows, source, weight)
 }
 
+/// Blends the picture of the second rows over that of the first ones: so many of 256 parts of each pixel are the second's.
+///
+/// # Safety
+///
+/// Each pointer is as the header says.
+#[allow(unsafe_code)]
+#[unsafe(no_mangle)]
+pub unsafe extern "C" fn v_frame_blend_u16(
+    rows: *const Rows,
+    buffer: *mut u16,
+    buffer_length: usize,
+    source_rows: *const Rows,
+    source: *const u16,
+    source_length: usize,
+    weight: u16,
+) -> u32 {
+    let rows = unsafe { crate::foreign::reference(rows) };
+    let buffer = unsafe { crate::foreign::slice_mut(buffer, buffer_length) };
+    let source_rows = unsafe { crate::foreign::reference(source_rows) };
+    let source = unsafe { crate::foreign::slice(source, source_length) };
+    compose::blend(rows, buffer, source_rows, source, weight)
+}
+
 /// Does the same where a third picture says of each pixel how many of 255 parts are the second's.
 ///
 /// # Safety
@@ -40,6 +63,33 @@ pub unsafe extern "C" fn v_frame_blend_with_mask_u8(
     buffer_length: usize,
     source_rows: *const Rows,
     source: *const u8,
+    source_length: usize,
+    mask_rows: *const Rows,
+    mask: *const u8,
+    mask_length: usize,
+) -> u32 {
+    let rows = unsafe { crate::foreign::reference(rows) };
+    let buffer = unsafe { crate::foreign::slice_mut(buffer, buffer_length) };
+    let source_rows = unsafe { crate::foreign::reference(source_rows) };
+    let source = unsafe { crate::foreign::slice(source, source_length) };
+    let mask_rows = unsafe { crate::foreign::reference(mask_rows) };
+    let mask = unsafe { crate::foreign::slice(mask, mask_length) };
+    compose::blend_with_mask(rows, buffer, source_rows, source, mask_rows, mask)
+}
+
+/// Does the same where a third picture says of each pixel how many of 255 parts are the second's.
+///
+/// # Safety
+///
+/// Each pointer is as the header says.
+#[allow(unsafe_code)]
+#[unsafe(no_mangle)]
+pub unsafe extern "C" fn v_frame_blend_with_mask_u16(
+    rows: *const Rows,
+    buffer: *mut u16,
+    buffer_length: usize,
+    source_rows: *const Rows,
+    source: *const u16,
     source_length: usize,
     mask_rows: *const Rows,
     mask: *const u8,
@@ -76,56 +126,6 @@ pub unsafe extern "C" fn v_frame_difference_u8(
     let source_rows = unsafe { crate::foreign::reference(source_rows) };
     let source = unsafe { crate::foreign::slice(source, source_length) };
     compose::difference(rows, buffer, source_rows, source, gain, depth)
-}
-
-/// Blends the picture of the second rows over that of the first ones: so many of 256 parts of each pixel are the second's.
-///
-/// # Safety
-///
-/// Each pointer is as the header says.
-#[allow(unsafe_code)]
-#[unsafe(no_mangle)]
-pub unsafe extern "C" fn v_frame_blend_u16(
-    rows: *const Rows,
-    buffer: *mut u16,
-    buffer_length: usize,
-    source_rows: *const Rows,
-    source: *const u16,
-    source_length: usize,
-    weight: u16,
-) -> u32 {
-    let rows = unsafe { crate::foreign::reference(rows) };
-    let buffer = unsafe { crate::foreign::slice_mut(buffer, buffer_length) };
-    let source_rows = unsafe { crate::foreign::reference(source_rows) };
-    let source = unsafe { crate::foreign::slice(source, source_length) };
-    compose::blend(rows, buffer, source_rows, source, weight)
-}
-
-/// Does the same where a third picture says of each pixel how many of 255 parts are the second's.
-///
-/// # Safety
-///
-/// Each pointer is as the header says.
-#[allow(unsafe_code)]
-#[unsafe(no_mangle)]
-pub unsafe extern "C" fn v_frame_blend_with_mask_u16(
-    rows: *const Rows,
-    buffer: *mut u16,
-    buffer_length: usize,
-    source_rows: *const Rows,
-    source: *const u16,
-    source_length: usize,
-    mask_rows: *const Rows,
-    mask: *const u8,
-    mask_length: usize,
-) -> u32 {
-    let rows = unsafe { crate::foreign::reference(rows) };
-    let buffer = unsafe { crate::foreign::slice_mut(buffer, buffer_length) };
-    let source_rows = unsafe { crate::foreign::reference(source_rows) };
-    let source = unsafe { crate::foreign::slice(source, source_length) };
-    let mask_rows = unsafe { crate::foreign::reference(mask_rows) };
-    let mask = unsafe { crate::foreign::slice(mask, mask_length) };
-    compose::blend_with_mask(rows, buffer, source_rows, source, mask_rows, mask)
 }
 
 /// Makes each pixel of the first rows how far it lies from that of the second, times a gain, and at most the largest value.

@@ -25,20 +25,6 @@ pub unsafe extern "C" fn v_frame_count_between_u8(
     counts::between(rows, buffer, least, greatest, count)
 }
 
-/// Makes entry `v` of `counts` how many pixels have the value `v`.
-///
-/// # Safety
-///
-/// Each pointer is as the header says.
-#[allow(unsafe_code)]
-#[unsafe(no_mangle)]
-pub unsafe extern "C" fn v_frame_histogram_u8(rows: *const Rows, buffer: *const u8, buffer_length: usize, counts: *mut u64, counts_length: usize) -> u32 {
-    let rows = unsafe { crate::foreign::reference(rows) };
-    let buffer = unsafe { crate::foreign::slice(buffer, buffer_length) };
-    let counts = unsafe { crate::foreign::slice_mut(counts, counts_length) };
-    counts::histogram_of_bytes(rows, buffer, counts)
-}
-
 /// Counts the pixels with a value from `least` to `greatest`.
 ///
 /// # Safety
@@ -58,6 +44,20 @@ pub unsafe extern "C" fn v_frame_count_between_u16(
     let buffer = unsafe { crate::foreign::slice(buffer, buffer_length) };
     let count = unsafe { crate::foreign::reference_mut(count) };
     counts::between(rows, buffer, least, greatest, count)
+}
+
+/// Makes entry `v` of `counts` how many pixels have the value `v`.
+///
+/// # Safety
+///
+/// Each pointer is as the header says.
+#[allow(unsafe_code)]
+#[unsafe(no_mangle)]
+pub unsafe extern "C" fn v_frame_histogram_u8(rows: *const Rows, buffer: *const u8, buffer_length: usize, counts: *mut u64, counts_length: usize) -> u32 {
+    let rows = unsafe { crate::foreign::reference(rows) };
+    let buffer = unsafe { crate::foreign::slice(buffer, buffer_length) };
+    let counts = unsafe { crate::foreign::slice_mut(counts, counts_length) };
+    counts::histogram_of_bytes(rows, buffer, counts)
 }
 
 /// Makes entry `v` of `counts` how many pixels have the value `v`. A pixel of a value that has no entry is not counted.

@@ -28,79 +28,6 @@ pub unsafe extern "C" fn v_frame_mean_squared_error_u8(
     measures::mean_squared_error(a_rows, a, b_rows, b, error)
 }
 
-/// Measures the structural similarity (SSIM) of two pictures of one size.
-///
-/// # Safety
-///
-/// Each pointer is as the header says.
-#[allow(unsafe_code)]
-#[unsafe(no_mangle)]
-pub unsafe extern "C" fn v_frame_ssim_u8(
-    a_rows: *const Rows,
-    a: *const u8,
-    a_length: usize,
-    b_rows: *const Rows,
-    b: *const u8,
-    b_length: usize,
-    similarity: *mut f64,
-) -> u32 {
-    let a_rows = unsafe { crate::foreign::reference(a_rows) };
-    let a = unsafe { crate::foreign::slice(a, a_length) };
-    let b_rows = unsafe { crate::foreign::reference(b_rows) };
-    let b = unsafe { crate::foreign::slice(b, b_length) };
-    let similarity = unsafe { crate::foreign::reference_mut(similarity) };
-    measures::ssim(a_rows, a, b_rows, b, 8, similarity)
-}
-
-/// Finds the greatest difference of the values of two pictures of one size, and the first place that has it.
-///
-/// # Safety
-///
-/// Each pointer is as the header says.
-#[allow(unsafe_code)]
-#[unsafe(no_mangle)]
-pub unsafe extern "C" fn v_frame_greatest_difference_u8(
-    a_rows: *const Rows,
-    a: *const u8,
-    a_length: usize,
-    b_rows: *const Rows,
-    b: *const u8,
-    b_length: usize,
-    found: *mut Greatest,
-) -> u32 {
-    let a_rows = unsafe { crate::foreign::reference(a_rows) };
-    let a = unsafe { crate::foreign::slice(a, a_length) };
-    let b_rows = unsafe { crate::foreign::reference(b_rows) };
-    let b = unsafe { crate::foreign::slice(b, b_length) };
-    let found = unsafe { crate::foreign::reference_mut(found) };
-    measures::greatest_difference(a_rows, a, b_rows, b, found)
-}
-
-/// Counts the places at which the values of two pictures of one size are further apart than a threshold.
-///
-/// # Safety
-///
-/// Each pointer is as the header says.
-#[allow(unsafe_code)]
-#[unsafe(no_mangle)]
-pub unsafe extern "C" fn v_frame_count_above_u8(
-    a_rows: *const Rows,
-    a: *const u8,
-    a_length: usize,
-    b_rows: *const Rows,
-    b: *const u8,
-    b_length: usize,
-    threshold: u16,
-    count: *mut u64,
-) -> u32 {
-    let a_rows = unsafe { crate::foreign::reference(a_rows) };
-    let a = unsafe { crate::foreign::slice(a, a_length) };
-    let b_rows = unsafe { crate::foreign::reference(b_rows) };
-    let b = unsafe { crate::foreign::slice(b, b_length) };
-    let count = unsafe { crate::foreign::reference_mut(count) };
-    measures::count_above(a_rows, a, b_rows, b, threshold, count)
-}
-
 /// Measures the mean squared error of two pictures of one size.
 ///
 /// # Safety
@@ -123,6 +50,30 @@ pub unsafe extern "C" fn v_frame_mean_squared_error_u16(
     let b = unsafe { crate::foreign::slice(b, b_length) };
     let error = unsafe { crate::foreign::reference_mut(error) };
     measures::mean_squared_error(a_rows, a, b_rows, b, error)
+}
+
+/// Measures the structural similarity (SSIM) of two pictures of one size.
+///
+/// # Safety
+///
+/// Each pointer is as the header says.
+#[allow(unsafe_code)]
+#[unsafe(no_mangle)]
+pub unsafe extern "C" fn v_frame_ssim_u8(
+    a_rows: *const Rows,
+    a: *const u8,
+    a_length: usize,
+    b_rows: *const Rows,
+    b: *const u8,
+    b_length: usize,
+    similarity: *mut f64,
+) -> u32 {
+    let a_rows = unsafe { crate::foreign::reference(a_rows) };
+    let a = unsafe { crate::foreign::slice(a, a_length) };
+    let b_rows = unsafe { crate::foreign::reference(b_rows) };
+    let b = unsafe { crate::foreign::slice(b, b_length) };
+    let similarity = unsafe { crate::foreign::reference_mut(similarity) };
+    measures::ssim(a_rows, a, b_rows, b, 8, similarity)
 }
 
 /// Measures the structural similarity (SSIM) of two pictures of one size, at so many bits of a sample.
@@ -157,6 +108,30 @@ pub unsafe extern "C" fn v_frame_ssim_u16(
 /// Each pointer is as the header says.
 #[allow(unsafe_code)]
 #[unsafe(no_mangle)]
+pub unsafe extern "C" fn v_frame_greatest_difference_u8(
+    a_rows: *const Rows,
+    a: *const u8,
+    a_length: usize,
+    b_rows: *const Rows,
+    b: *const u8,
+    b_length: usize,
+    found: *mut Greatest,
+) -> u32 {
+    let a_rows = unsafe { crate::foreign::reference(a_rows) };
+    let a = unsafe { crate::foreign::slice(a, a_length) };
+    let b_rows = unsafe { crate::foreign::reference(b_rows) };
+    let b = unsafe { crate::foreign::slice(b, b_length) };
+    let found = unsafe { crate::foreign::reference_mut(found) };
+    measures::greatest_difference(a_rows, a, b_rows, b, found)
+}
+
+/// Finds the greatest difference of the values of two pictures of one size, and the first place that has it.
+///
+/// # Safety
+///
+/// Each pointer is as the header says.
+#[allow(unsafe_code)]
+#[unsafe(no_mangle)]
 pub unsafe extern "C" fn v_frame_greatest_difference_u16(
     a_rows: *const Rows,
     a: *const u16,
@@ -172,6 +147,31 @@ pub unsafe extern "C" fn v_frame_greatest_difference_u16(
     let b = unsafe { crate::foreign::slice(b, b_length) };
     let found = unsafe { crate::foreign::reference_mut(found) };
     measures::greatest_difference(a_rows, a, b_rows, b, found)
+}
+
+/// Counts the places at which the values of two pictures of one size are further apart than a threshold.
+///
+/// # Safety
+///
+/// Each pointer is as the header says.
+#[allow(unsafe_code)]
+#[unsafe(no_mangle)]
+pub unsafe extern "C" fn v_frame_count_above_u8(
+    a_rows: *const Rows,
+    a: *const u8,
+    a_length: usize,
+    b_rows: *const Rows,
+    b: *const u8,
+    b_length: usize,
+    threshold: u16,
+    count: *mut u64,
+) -> u32 {
+    let a_rows = unsafe { crate::foreign::reference(a_rows) };
+    let a = unsafe { crate::foreign::slice(a, a_length) };
+    let b_rows = unsafe { crate::foreign::reference(b_rows) };
+    let b = unsafe { crate::foreign::slice(b, b_length) };
+    let count = unsafe { crate::foreign::reference_mut(count) };
+    measures::count_above(a_rows, a, b_rows, b, threshold, count)
 }
 
 /// Counts the places at which the values of two pictures of one size are further apart than a threshold.

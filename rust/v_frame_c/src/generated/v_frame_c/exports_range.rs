@@ -25,31 +25,7 @@ pub unsafe extern "C" fn v_frame_to_full_range_u8(
     let buffer = unsafe { crate::foreign::slice_mut(buffer, buffer_length) };
     let source_rows = unsafe { crate::foreign::reference(source_rows) };
     let source = unsafe { crate::foreign::slice(source, source_length) };
-    range::to_full_range(rows, buffer, source_rows, source, component, depth)
-}
-
-/// Makes the first rows show the picture of the second ones, whose values of the full range become those of the limited one.
-///
-/// # Safety
-///
-/// Each pointer is as the header says.
-#[allow(unsafe_code)]
-#[unsafe(no_mangle)]
-pub unsafe extern "C" fn v_frame_to_limited_range_u8(
-    rows: *const Rows,
-    buffer: *mut u8,
-    buffer_length: usize,
-    source_rows: *const Rows,
-    source: *const u8,
-    source_length: usize,
-    component: u32,
-    depth: u32,
-) -> u32 {
-    let rows = unsafe { crate::foreign::reference(rows) };
-    let buffer = unsafe { crate::foreign::slice_mut(buffer, buffer_length) };
-    let source_rows = unsafe { crate::foreign::reference(source_rows) };
-    let source = unsafe { crate::foreign::slice(source, source_length) };
-    range::to_limited_range(rows, buffer, source_rows, source, component, depth)
+    range::to_range(rows, buffer, source_rows, source, true, component, depth)
 }
 
 /// Makes the first rows show the picture of the second ones, whose values of the limited range become those of the full one.
@@ -73,7 +49,31 @@ pub unsafe extern "C" fn v_frame_to_full_range_u16(
     let buffer = unsafe { crate::foreign::slice_mut(buffer, buffer_length) };
     let source_rows = unsafe { crate::foreign::reference(source_rows) };
     let source = unsafe { crate::foreign::slice(source, source_length) };
-    range::to_full_range(rows, buffer, source_rows, source, component, depth)
+    range::to_range(rows, buffer, source_rows, source, true, component, depth)
+}
+
+/// Makes the first rows show the picture of the second ones, whose values of the full range become those of the limited one.
+///
+/// # Safety
+///
+/// Each pointer is as the header says.
+#[allow(unsafe_code)]
+#[unsafe(no_mangle)]
+pub unsafe extern "C" fn v_frame_to_limited_range_u8(
+    rows: *const Rows,
+    buffer: *mut u8,
+    buffer_length: usize,
+    source_rows: *const Rows,
+    source: *const u8,
+    source_length: usize,
+    component: u32,
+    depth: u32,
+) -> u32 {
+    let rows = unsafe { crate::foreign::reference(rows) };
+    let buffer = unsafe { crate::foreign::slice_mut(buffer, buffer_length) };
+    let source_rows = unsafe { crate::foreign::reference(source_rows) };
+    let source = unsafe { crate::foreign::slice(source, source_length) };
+    range::to_range(rows, buffer, source_rows, source, false, component, depth)
 }
 
 /// Makes the first rows show the picture of the second ones, whose values of the full range become those of the limited one.
@@ -97,5 +97,5 @@ pub unsafe extern "C" fn v_frame_to_limited_range_u16(
     let buffer = unsafe { crate::foreign::slice_mut(buffer, buffer_length) };
     let source_rows = unsafe { crate::foreign::reference(source_rows) };
     let source = unsafe { crate::foreign::slice(source, source_length) };
-    range::to_limited_range(rows, buffer, source_rows, source, component, depth)
+    range::to_range(rows, buffer, source_rows, source, false, component, depth)
 }

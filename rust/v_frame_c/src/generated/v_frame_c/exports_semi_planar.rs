@@ -31,33 +31,6 @@ pub unsafe extern "C" fn v_frame_interleave_u8(
     semi_planar::interleave(rows, buffer, u_rows, u, v_rows, v)
 }
 
-/// Makes the second and the third rows of the pixels of the first ones, which go to them by turns.
-///
-/// # Safety
-///
-/// Each pointer is as the header says.
-#[allow(unsafe_code)]
-#[unsafe(no_mangle)]
-pub unsafe extern "C" fn v_frame_deinterleave_u8(
-    rows: *const Rows,
-    buffer: *const u8,
-    buffer_length: usize,
-    u_rows: *const Rows,
-    u: *mut u8,
-    u_length: usize,
-    v_rows: *const Rows,
-    v: *mut u8,
-    v_length: usize,
-) -> u32 {
-    let rows = unsafe { crate::foreign::reference(rows) };
-    let buffer = unsafe { crate::foreign::slice(buffer, buffer_length) };
-    let u_rows = unsafe { crate::foreign::reference(u_rows) };
-    let u = unsafe { crate::foreign::slice_mut(u, u_length) };
-    let v_rows = unsafe { crate::foreign::reference(v_rows) };
-    let v = unsafe { crate::foreign::slice_mut(v, v_length) };
-    semi_planar::deinterleave(rows, buffer, u_rows, u, v_rows, v)
-}
-
 /// Makes the first rows show the pixels of the second and of the third ones by turns.
 ///
 /// # Safety
@@ -83,6 +56,33 @@ pub unsafe extern "C" fn v_frame_interleave_u16(
     let v_rows = unsafe { crate::foreign::reference(v_rows) };
     let v = unsafe { crate::foreign::slice(v, v_length) };
     semi_planar::interleave(rows, buffer, u_rows, u, v_rows, v)
+}
+
+/// Makes the second and the third rows of the pixels of the first ones, which go to them by turns.
+///
+/// # Safety
+///
+/// Each pointer is as the header says.
+#[allow(unsafe_code)]
+#[unsafe(no_mangle)]
+pub unsafe extern "C" fn v_frame_deinterleave_u8(
+    rows: *const Rows,
+    buffer: *const u8,
+    buffer_length: usize,
+    u_rows: *const Rows,
+    u: *mut u8,
+    u_length: usize,
+    v_rows: *const Rows,
+    v: *mut u8,
+    v_length: usize,
+) -> u32 {
+    let rows = unsafe { crate::foreign::reference(rows) };
+    let buffer = unsafe { crate::foreign::slice(buffer, buffer_length) };
+    let u_rows = unsafe { crate::foreign::reference(u_rows) };
+    let u = unsafe { crate::foreign::slice_mut(u, u_length) };
+    let v_rows = unsafe { crate::foreign::reference(v_rows) };
+    let v = unsafe { crate::foreign::slice_mut(v, v_length) };
+    semi_planar::deinterleave(rows, buffer, u_rows, u, v_rows, v)
 }
 
 /// Makes the second and the third rows of the pixels of the first ones, which go to them by turns.

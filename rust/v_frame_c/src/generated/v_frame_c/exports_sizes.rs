@@ -27,74 +27,6 @@ pub unsafe extern "C" fn v_frame_resize_area_u8(
     resize::by_area(rows, buffer, source_rows, source)
 }
 
-/// Makes the first rows show the picture of the second ones: each pixel is the one that holds its centre.
-///
-/// # Safety
-///
-/// Each pointer is as the header says.
-#[allow(unsafe_code)]
-#[unsafe(no_mangle)]
-pub unsafe extern "C" fn v_frame_resize_nearest_u8(
-    rows: *const Rows,
-    buffer: *mut u8,
-    buffer_length: usize,
-    source_rows: *const Rows,
-    source: *const u8,
-    source_length: usize,
-) -> u32 {
-    let rows = unsafe { crate::foreign::reference(rows) };
-    let buffer = unsafe { crate::foreign::slice_mut(buffer, buffer_length) };
-    let source_rows = unsafe { crate::foreign::reference(source_rows) };
-    let source = unsafe { crate::foreign::slice(source, source_length) };
-    resize::by_nearest(rows, buffer, source_rows, source)
-}
-
-/// Makes the first rows show the picture of the second ones in half the size, rounded up. Past an edge the last column and the
-/// last row are repeated.
-///
-/// # Safety
-///
-/// Each pointer is as the header says.
-#[allow(unsafe_code)]
-#[unsafe(no_mangle)]
-pub unsafe extern "C" fn v_frame_downscale_to_edge_u8(
-    rows: *const Rows,
-    buffer: *mut u8,
-    buffer_length: usize,
-    source_rows: *const Rows,
-    source: *const u8,
-    source_length: usize,
-) -> u32 {
-    let rows = unsafe { crate::foreign::reference(rows) };
-    let buffer = unsafe { crate::foreign::slice_mut(buffer, buffer_length) };
-    let source_rows = unsafe { crate::foreign::reference(source_rows) };
-    let source = unsafe { crate::foreign::slice(source, source_length) };
-    halves::downscale_to_edge(rows, buffer, source_rows, source)
-}
-
-/// Makes the first rows show the picture of the second ones with half as many columns, rounded up. Past an edge the last column
-/// is repeated.
-///
-/// # Safety
-///
-/// Each pointer is as the header says.
-#[allow(unsafe_code)]
-#[unsafe(no_mangle)]
-pub unsafe extern "C" fn v_frame_halve_columns_u8(
-    rows: *const Rows,
-    buffer: *mut u8,
-    buffer_length: usize,
-    source_rows: *const Rows,
-    source: *const u8,
-    source_length: usize,
-) -> u32 {
-    let rows = unsafe { crate::foreign::reference(rows) };
-    let buffer = unsafe { crate::foreign::slice_mut(buffer, buffer_length) };
-    let source_rows = unsafe { crate::foreign::reference(source_rows) };
-    let source = unsafe { crate::foreign::slice(source, source_length) };
-    halves::halve_columns(rows, buffer, source_rows, source)
-}
-
 /// Makes the first rows show the picture of the second ones: each pixel is the mean of the area that it covers, rounded to the
 /// nearest value and upwards at a half.
 ///
@@ -116,6 +48,28 @@ pub unsafe extern "C" fn v_frame_resize_area_u16(
     let source_rows = unsafe { crate::foreign::reference(source_rows) };
     let source = unsafe { crate::foreign::slice(source, source_length) };
     resize::by_area(rows, buffer, source_rows, source)
+}
+
+/// Makes the first rows show the picture of the second ones: each pixel is the one that holds its centre.
+///
+/// # Safety
+///
+/// Each pointer is as the header says.
+#[allow(unsafe_code)]
+#[unsafe(no_mangle)]
+pub unsafe extern "C" fn v_frame_resize_nearest_u8(
+    rows: *const Rows,
+    buffer: *mut u8,
+    buffer_length: usize,
+    source_rows: *const Rows,
+    source: *const u8,
+    source_length: usize,
+) -> u32 {
+    let rows = unsafe { crate::foreign::reference(rows) };
+    let buffer = unsafe { crate::foreign::slice_mut(buffer, buffer_length) };
+    let source_rows = unsafe { crate::foreign::reference(source_rows) };
+    let source = unsafe { crate::foreign::slice(source, source_length) };
+    resize::by_nearest(rows, buffer, source_rows, source)
 }
 
 /// Makes the first rows show the picture of the second ones: each pixel is the one that holds its centre.
@@ -148,6 +102,29 @@ pub unsafe extern "C" fn v_frame_resize_nearest_u16(
 /// Each pointer is as the header says.
 #[allow(unsafe_code)]
 #[unsafe(no_mangle)]
+pub unsafe extern "C" fn v_frame_downscale_to_edge_u8(
+    rows: *const Rows,
+    buffer: *mut u8,
+    buffer_length: usize,
+    source_rows: *const Rows,
+    source: *const u8,
+    source_length: usize,
+) -> u32 {
+    let rows = unsafe { crate::foreign::reference(rows) };
+    let buffer = unsafe { crate::foreign::slice_mut(buffer, buffer_length) };
+    let source_rows = unsafe { crate::foreign::reference(source_rows) };
+    let source = unsafe { crate::foreign::slice(source, source_length) };
+    halves::downscale_to_edge(rows, buffer, source_rows, source)
+}
+
+/// Makes the first rows show the picture of the second ones in half the size, rounded up. Past an edge the last column and the
+/// last row are repeated.
+///
+/// # Safety
+///
+/// Each pointer is as the header says.
+#[allow(unsafe_code)]
+#[unsafe(no_mangle)]
 pub unsafe extern "C" fn v_frame_downscale_to_edge_u16(
     rows: *const Rows,
     buffer: *mut u16,
@@ -161,6 +138,29 @@ pub unsafe extern "C" fn v_frame_downscale_to_edge_u16(
     let source_rows = unsafe { crate::foreign::reference(source_rows) };
     let source = unsafe { crate::foreign::slice(source, source_length) };
     halves::downscale_to_edge(rows, buffer, source_rows, source)
+}
+
+/// Makes the first rows show the picture of the second ones with half as many columns, rounded up. Past an edge the last column
+/// is repeated.
+///
+/// # Safety
+///
+/// Each pointer is as the header says.
+#[allow(unsafe_code)]
+#[unsafe(no_mangle)]
+pub unsafe extern "C" fn v_frame_halve_columns_u8(
+    rows: *const Rows,
+    buffer: *mut u8,
+    buffer_length: usize,
+    source_rows: *const Rows,
+    source: *const u8,
+    source_length: usize,
+) -> u32 {
+    let rows = unsafe { crate::foreign::reference(rows) };
+    let buffer = unsafe { crate::foreign::slice_mut(buffer, buffer_length) };
+    let source_rows = unsafe { crate::foreign::reference(source_rows) };
+    let source = unsafe { crate::foreign::slice(source, source_length) };
+    halves::halve_columns(rows, buffer, source_rows, source)
 }
 
 /// Makes the first rows show the picture of the second ones with half as many columns, rounded up. Past an edge the last column

@@ -18,6 +18,20 @@ pub unsafe extern "C" fn v_frame_statistics_u8(rows: *const Rows, buffer: *const
     statistics::of_picture(rows, buffer, found)
 }
 
+/// Sums the pixels of a picture and their squares, and finds the least and the greatest value.
+///
+/// # Safety
+///
+/// Each pointer is as the header says.
+#[allow(unsafe_code)]
+#[unsafe(no_mangle)]
+pub unsafe extern "C" fn v_frame_statistics_u16(rows: *const Rows, buffer: *const u16, buffer_length: usize, found: *mut Statistics) -> u32 {
+    let rows = unsafe { crate::foreign::reference(rows) };
+    let buffer = unsafe { crate::foreign::slice(buffer, buffer_length) };
+    let found = unsafe { crate::foreign::reference_mut(found) };
+    statistics::of_picture(rows, buffer, found)
+}
+
 /// Sums the pixels of two pictures of one size, their squares and their products.
 ///
 /// # Safety
@@ -40,20 +54,6 @@ pub unsafe extern "C" fn v_frame_pair_statistics_u8(
     let b = unsafe { crate::foreign::slice(b, b_length) };
     let found = unsafe { crate::foreign::reference_mut(found) };
     statistics::of_pair(a_rows, a, b_rows, b, found)
-}
-
-/// Sums the pixels of a picture and their squares, and finds the least and the greatest value.
-///
-/// # Safety
-///
-/// Each pointer is as the header says.
-#[allow(unsafe_code)]
-#[unsafe(no_mangle)]
-pub unsafe extern "C" fn v_frame_statistics_u16(rows: *const Rows, buffer: *const u16, buffer_length: usize, found: *mut Statistics) -> u32 {
-    let rows = unsafe { crate::foreign::reference(rows) };
-    let buffer = unsafe { crate::foreign::slice(buffer, buffer_length) };
-    let found = unsafe { crate::foreign::reference_mut(found) };
-    statistics::of_picture(rows, buffer, found)
 }
 
 /// Sums the pixels of two pictures of one size, their squares and their products.

@@ -54,56 +54,6 @@ pub unsafe extern "C" fn v_frame_to_semi_planar_u8(
     )
 }
 
-/// Makes the first three rows the planes of a frame of luma and of chroma whose samples take turns.
-///
-/// # Safety
-///
-/// Each pointer is as the header says.
-#[allow(unsafe_code)]
-#[unsafe(no_mangle)]
-pub unsafe extern "C" fn v_frame_from_semi_planar_u8(
-    y_rows: *const Rows,
-    y: *mut u8,
-    y_length: usize,
-    u_rows: *const Rows,
-    u: *mut u8,
-    u_length: usize,
-    v_rows: *const Rows,
-    v: *mut u8,
-    v_length: usize,
-    source_rows: *const Rows,
-    source: *const u8,
-    source_length: usize,
-    uv_rows: *const Rows,
-    uv: *const u8,
-    uv_length: usize,
-    format: u32,
-) -> u32 {
-    let y_rows = unsafe { crate::foreign::reference(y_rows) };
-    let y = unsafe { crate::foreign::slice_mut(y, y_length) };
-    let u_rows = unsafe { crate::foreign::reference(u_rows) };
-    let u = unsafe { crate::foreign::slice_mut(u, u_length) };
-    let v_rows = unsafe { crate::foreign::reference(v_rows) };
-    let v = unsafe { crate::foreign::slice_mut(v, v_length) };
-    let source_rows = unsafe { crate::foreign::reference(source_rows) };
-    let source = unsafe { crate::foreign::slice(source, source_length) };
-    let uv_rows = unsafe { crate::foreign::reference(uv_rows) };
-    let uv = unsafe { crate::foreign::slice(uv, uv_length) };
-    whole::from_semi_planar(
-        y_rows,
-        y,
-        u_rows,
-        u,
-        v_rows,
-        v,
-        source_rows,
-        source,
-        uv_rows,
-        uv,
-        format,
-    )
-}
-
 /// Makes the first rows luma, and the second ones chroma, of a frame of three planes: those of luma, of U and of V.
 ///
 /// # Safety
@@ -150,6 +100,56 @@ pub unsafe extern "C" fn v_frame_to_semi_planar_u16(
         u,
         v_rows,
         v,
+        format,
+    )
+}
+
+/// Makes the first three rows the planes of a frame of luma and of chroma whose samples take turns.
+///
+/// # Safety
+///
+/// Each pointer is as the header says.
+#[allow(unsafe_code)]
+#[unsafe(no_mangle)]
+pub unsafe extern "C" fn v_frame_from_semi_planar_u8(
+    y_rows: *const Rows,
+    y: *mut u8,
+    y_length: usize,
+    u_rows: *const Rows,
+    u: *mut u8,
+    u_length: usize,
+    v_rows: *const Rows,
+    v: *mut u8,
+    v_length: usize,
+    source_rows: *const Rows,
+    source: *const u8,
+    source_length: usize,
+    uv_rows: *const Rows,
+    uv: *const u8,
+    uv_length: usize,
+    format: u32,
+) -> u32 {
+    let y_rows = unsafe { crate::foreign::reference(y_rows) };
+    let y = unsafe { crate::foreign::slice_mut(y, y_length) };
+    let u_rows = unsafe { crate::foreign::reference(u_rows) };
+    let u = unsafe { crate::foreign::slice_mut(u, u_length) };
+    let v_rows = unsafe { crate::foreign::reference(v_rows) };
+    let v = unsafe { crate::foreign::slice_mut(v, v_length) };
+    let source_rows = unsafe { crate::foreign::reference(source_rows) };
+    let source = unsafe { crate::foreign::slice(source, source_length) };
+    let uv_rows = unsafe { crate::foreign::reference(uv_rows) };
+    let uv = unsafe { crate::foreign::slice(uv, uv_length) };
+    whole::from_semi_planar(
+        y_rows,
+        y,
+        u_rows,
+        u,
+        v_rows,
+        v,
+        source_rows,
+        source,
+        uv_rows,
+        uv,
         format,
     )
 }

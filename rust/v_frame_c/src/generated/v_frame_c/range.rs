@@ -7,12 +7,14 @@ use crate::generated::v_frame_c::status::{FIRST, NUMBER, OK, SECOND, SIZES};
 use v_frame_proved::pixel::Pixel;
 use v_frame_proved::convert::{Component, rows as conversions};
 
-/// Makes the first rows show the picture of the second ones, whose values of the limited range become those of the full one.
-pub fn to_full_range<T: Pixel>(
+/// Makes the first rows show the picture of the second ones with values of the full range, or else of the limited one. Those of the
+/// second are of the other range.
+pub fn to_range<T: Pixel>(
     rows: &Rows,
     buffer: &mut [T],
     source_rows: &Rows,
     source: &[T],
+    full: bool,
     component: u32,
     depth: u32,
 ) -> u32 {
@@ -31,51 +33,13 @@ pub fn to_full_range<T: Pixel>(
     if !rows.same_size(source_rows) {
         return SIZES;
     }
-    conversions::to_full_range(
-        &source,
-        buffer,
-        rows.width,
-        rows.height,
-        rows.stride,
-        component,
-        depth as u8,
-    );
-    OK
-}
-
-/// Makes the first rows show the picture of the second ones, whose values of the full range become those of the limited one.
-pub fn to_limited_range<T: Pixel>(
-    rows: &Rows,
-    buffer: &mut [T],
-    source_rows: &Rows,
-    source: &[T],
-    component: u32,
-    depth: u32,
-) -> u32 {
-    let Some(component) = component_of(component) else {
-        return NUMBER;
-    };
-    if !is_depth::<T>(depth) {
-        return NUMBER;
+    let (width, height, stride) = (rows.width, rows.height, rows.stride);
+    let depth = depth as u8;
+    if full {
+        conversions::to_full_range(&source, buffer, width, height, stride, component, depth);
+        return OK;
     }
-    if !rows.fit(buffer.len()) {
-        return FIRST;
-    }
-    let Some(source) = source_rows.of(source) else {
-        return SECOND;
-    };
-    if !rows.same_size(source_rows) {
-        return SIZES;
-    }
-    conversions::to_limited_range(
-        &source,
-        buffer,
-        rows.width,
-        rows.height,
-        rows.stride,
-        component,
-        depth as u8,
-    );
+    conversions::to_limited_range(&source, buffer, width, height, stride, component, depth);
     OK
 }
 

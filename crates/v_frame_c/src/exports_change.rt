@@ -1,0 +1,118 @@
+//! The exports that change the rows of a buffer, and copy between rows and bytes.
+ghost use Rattle.v_frame.specs.Prelude.{one_byte, two_bytes};
+ghost use Rattle.v_frame_c.specs.Made.{IsCopied, IsDecoded, IsEncoded, IsFilled, IsHalved, PadsBorder};
+
+use crate::change;
+use crate::layout::{Bordered, Rows};
+
+/// Sets each pixel of the rows to `pixel`.
+#[unsafe(no_mangle)]
+pub extern "C" fn v_frame_fill_u8(rows: &Rows, buffer: &mut [u8], pixel: u8) -> u32
+    ensures made { IsFilled rows.now pixel buffer.old buffer.new result }
+{
+    change::fill(rows, buffer, pixel)
+}
+
+/// Sets each pixel of the rows to `pixel`.
+#[unsafe(no_mangle)]
+pub extern "C" fn v_frame_fill_u16(rows: &Rows, buffer: &mut [u16], pixel: u16) -> u32
+    ensures made { IsFilled rows.now pixel buffer.old buffer.new result }
+{
+    change::fill(rows, buffer, pixel)
+}
+
+/// Copies the picture of the second rows into the first ones.
+#[unsafe(no_mangle)]
+pub extern "C" fn v_frame_copy_u8(
+    rows: &Rows,
+    buffer: &mut [u8],
+    source_rows: &Rows,
+    source: &[u8],
+) -> u32
+    ensures made { IsCopied rows.now source_rows.now source.now buffer.old buffer.new result }
+{
+    change::copy(rows, buffer, source_rows, source)
+}
+
+/// Copies the picture of the second rows into the first ones.
+#[unsafe(no_mangle)]
+pub extern "C" fn v_frame_copy_u16(
+    rows: &Rows,
+    buffer: &mut [u16],
+    source_rows: &Rows,
+    source: &[u16],
+) -> u32
+    ensures made { IsCopied rows.now source_rows.now source.now buffer.old buffer.new result }
+{
+    change::copy(rows, buffer, source_rows, source)
+}
+
+/// Makes the first rows show the picture of the second ones in half the size: each pixel is the mean of a block of two by two,
+/// rounded to the nearest value and upwards at a half.
+#[unsafe(no_mangle)]
+pub extern "C" fn v_frame_downscale_u8(
+    rows: &Rows,
+    buffer: &mut [u8],
+    source_rows: &Rows,
+    source: &[u8],
+) -> u32
+    ensures made { IsHalved rows.now source_rows.now source.now buffer.old buffer.new result one_byte }
+{
+    change::downscale(rows, buffer, source_rows, source)
+}
+
+/// Makes the first rows show the picture of the second ones in half the size: each pixel is the mean of a block of two by two,
+/// rounded to the nearest value and upwards at a half.
+#[unsafe(no_mangle)]
+pub extern "C" fn v_frame_downscale_u16(
+    rows: &Rows,
+    buffer: &mut [u16],
+    source_rows: &Rows,
+    source: &[u16],
+) -> u32
+    ensures made { IsHalved rows.now source_rows.now source.now buffer.old buffer.new result two_bytes }
+{
+    change::downscale(rows, buffer, source_rows, source)
+}
+
+/// Makes each entry of the border the pixel nearest to it. What lies inside it stays, and so does all after it.
+#[unsafe(no_mangle)]
+pub extern "C" fn v_frame_pad_u8(layout: &Bordered, buffer: &mut [u8]) -> u32
+    ensures pads { PadsBorder layout.now buffer.old buffer.new result }
+{
+    change::pad(layout, buffer)
+}
+
+/// Makes each entry of the border the pixel nearest to it. What lies inside it stays, and so does all after it.
+#[unsafe(no_mangle)]
+pub extern "C" fn v_frame_pad_u16(layout: &Bordered, buffer: &mut [u16]) -> u32
+    ensures pads { PadsBorder layout.now buffer.old buffer.new result }
+{
+    change::pad(layout, buffer)
+}
+
+/// Decodes rows of bytes, the low byte of each pixel first, into rows of pixels. The rows of the source count bytes.
+#[unsafe(no_mangle)]
+pub extern "C" fn v_frame_decode_u16(
+    rows: &Rows,
+    buffer: &mut [u16],
+    source_rows: &Rows,
+    source: &[u8],
+) -> u32
+    ensures made { IsDecoded rows.now source_rows.now source.now buffer.old buffer.new result }
+{
+    change::decode(rows, buffer, source_rows, source)
+}
+
+/// Encodes rows of pixels into rows of bytes, the low byte of each pixel first. The rows of the buffer count bytes.
+#[unsafe(no_mangle)]
+pub extern "C" fn v_frame_encode_u16(
+    rows: &Rows,
+    buffer: &mut [u8],
+    source_rows: &Rows,
+    source: &[u16],
+) -> u32
+    ensures made { IsEncoded rows.now source_rows.now source.now buffer.old buffer.new result }
+{
+    change::encode(rows, buffer, source_rows, source)
+}
