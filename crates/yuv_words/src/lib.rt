@@ -7,7 +7,6 @@ mod error;
 mod files;
 mod format;
 mod given;
-pub mod laws;
 mod option_name;
 mod options;
 mod reading;
