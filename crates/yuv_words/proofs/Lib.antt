@@ -1,8 +1,6 @@
 pub mod Callings
-pub mod CanonicalCalls
 pub mod Cuts
 pub mod Heads
-pub mod OneCommand
 pub mod Places
 pub mod Refusals
 pub mod Said

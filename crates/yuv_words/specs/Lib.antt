@@ -1,5 +1,4 @@
 pub mod Calls
-pub mod Canonical
 pub mod Commands
 pub mod Faults
 pub mod Names

@@ -6,7 +6,6 @@ mod command;
 mod error;
 mod files;
 mod given;
-pub mod laws;
 mod option_name;
 mod options;
 mod reading;
