@@ -45,7 +45,7 @@ STD_NAMES = {f"{old}::{name}": f"{new}::{name}" for old, new, names in (
         nearest_usize_to_f64 saturating_f64_to_i64 saturating_f64_to_u64"""),
 ) for name in names.split()} | {
     "std::ops::DerefSlice": "core::ops::Deref",
-    **dict.fromkeys(("std::alloc::Global", "std::convert::AsSlice", "std::marker::Model", "thiserror::Error")),
+    **dict.fromkeys(("std::alloc::Global", "std::convert::AsSlice", "std::marker::Model", "std::os::unix::fs::OpenOptionsExt", "thiserror::Error")),
 }
 
 # Traits of Rust that are imported for their methods.

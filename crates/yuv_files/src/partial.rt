@@ -5,7 +5,7 @@ use crate::system_file::{Holder, SystemFile};
 use std::alloc::{AllocError, Global};
 use std::fs::{self, Metadata, OpenFile, OpenOptions, Permissions};
 use std::io::{self, ErrorKind};
-use std::os::unix::fs::{MetadataExt, PermissionsExt};
+use std::os::unix::fs::{MetadataExt, OpenOptionsExt, PermissionsExt};
 use std::rt::Files;
 
 /// How many names are tried for the file beside a target.
@@ -122,6 +122,10 @@ where
 {
     let mut options = OpenOptions::new();
     options.write(true).create_new(true);
+    if let Some(wanted) = wanted {
+        // Who opens it before its mode is said goes on with it.
+        options.mode(wanted & ACCESS_BITS);
+    }
     let file = options.open(rt, name)?;
     let mode = file.metadata()?.mode() & MODE_BITS;
     let access = wanted.unwrap_or(mode) & ACCESS_BITS;

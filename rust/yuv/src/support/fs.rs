@@ -4,6 +4,7 @@ use super::HostRuntime;
 use super::path::PathBuf;
 use std::fs::{self, File, Metadata, Permissions};
 use std::io::{self, ErrorKind, Read, Write};
+use std::os::unix::fs::OpenOptionsExt;
 use std::path;
 
 /// What opens files.
@@ -80,6 +81,12 @@ impl OpenOptions {
     /// Asks for a file that was not there before.
     pub fn create_new(&mut self, create_new: bool) -> &mut Self {
         self.0.create_new(create_new);
+        self
+    }
+
+    /// Asks that a file that is made has no more than these bits of a mode.
+    pub fn mode(&mut self, mode: u32) -> &mut Self {
+        self.0.mode(mode);
         self
     }
 

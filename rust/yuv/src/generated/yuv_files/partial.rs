@@ -126,6 +126,10 @@ where
 {
     let mut options = OpenOptions::new();
     options.write(true).create_new(true);
+    if let Some(wanted) = wanted {
+        // Who opens it before its mode is said goes on with it.
+        options.mode(wanted & ACCESS_BITS);
+    }
     let file = options.open(rt, name)?;
     let mode = file.metadata()?.mode() & MODE_BITS;
     let access = wanted.unwrap_or(mode) & ACCESS_BITS;
