@@ -8,17 +8,13 @@ mod files;
 mod format;
 mod given;
 mod option_name;
-mod options;
 mod reading;
 mod usage;
 mod values;
 mod word;
 
 pub use call::{help_topic, read_command};
-pub use command::{
-    Command, CommandName, CompareOptions, CopyOptions, DiffOptions, InfoOptions, PlaneName,
-    PlotOptions, RawVideo, Rectangle, ReportForm, ShowOptions, StatsOptions, SumOptions,
-};
+pub use command::{Command, CommandName, Options, PlaneName, RawVideo, Rectangle, ReportForm};
 pub use error::UsageError;
 pub use format::VideoFormat;
 pub use option_name::OptionName;
