@@ -1,12 +1,9 @@
 //! Calls, read and printed.
 
-use crate::options::{
-    print_compare, print_copy, print_diff, print_info, print_plot, print_show, print_stats,
-    print_sum,
-};
+use crate::options::print_options;
 use std::alloc::Global;
 use std::io::{self, BufWriter, Read, Write};
-use yuv_words::{Command, read_command, usage_text};
+use yuv_words::{Command, CommandName, read_command, usage_text};
 
 /// Reads each call that the input says, and prints it.
 pub fn print_calls<R: Read + Drop, W: Write + Drop>(
@@ -43,59 +40,24 @@ fn print_command<W: Write>(command: &Command<'_>, out: &mut W) -> io::Result<()>
     match command {
         Command::Help(topic) => write!(out, "{}", usage_text(*topic)),
         Command::Version => writeln!(out, "version"),
-        Command::Info { file, options } => {
-            writeln!(out, "info of {file}")?;
-            print_info(options, out)
-        }
-        Command::Compare {
+        Command::Call {
+            name,
             first,
             second,
+            third,
             options,
         } => {
-            writeln!(out, "compare {first} and {second}")?;
-            print_compare(options, out)
-        }
-        Command::Copy {
-            input,
-            output,
-            options,
-        } => {
-            writeln!(out, "copy {input} to {output}")?;
-            print_copy(options, out)
-        }
-        Command::Sum { file, options } => {
-            writeln!(out, "sum of {file}")?;
-            print_sum(options, out)
-        }
-        Command::Stats { file, options } => {
-            writeln!(out, "stats of {file}")?;
-            print_stats(options, out)
-        }
-        Command::Show {
-            input,
-            output,
-            options,
-        } => {
-            writeln!(out, "show {input} as {output}")?;
-            print_show(options, out)
-        }
-        Command::Diff {
-            first,
-            second,
-            output,
-            options,
-        } => {
-            writeln!(out, "diff of {first} and {second} as {output}")?;
-            print_diff(options, out)
-        }
-        Command::Plot {
-            first,
-            second,
-            output,
-            options,
-        } => {
-            writeln!(out, "plot of {first} and {second} as {output}")?;
-            print_plot(options, out)
+            match name {
+                CommandName::Info => writeln!(out, "info of {first}")?,
+                CommandName::Compare => writeln!(out, "compare {first} and {second}")?,
+                CommandName::Copy => writeln!(out, "copy {first} to {second}")?,
+                CommandName::Sum => writeln!(out, "sum of {first}")?,
+                CommandName::Stats => writeln!(out, "stats of {first}")?,
+                CommandName::Show => writeln!(out, "show {first} as {second}")?,
+                CommandName::Diff => writeln!(out, "diff of {first} and {second} as {third}")?,
+                CommandName::Plot => writeln!(out, "plot of {first} and {second} as {third}")?,
+            }
+            print_options(options, out)
         }
     }
 }

@@ -1,9 +1,11 @@
 -- Where each format stands in the table, so that no two are written alike.
-use Rattle.std.proofs.Common.{ℕ, ◌≡◌, ◌≢◌, ◌⊎◌, ◌+◌, ◌<◌, ◌≤◌, List, get_or, refl, sym, ◌∙◌, ap, arith, lit<}
+use Rattle.std.proofs.Common.{ℕ, ◌≡◌, ◌≢◌, ◌⊎◌, ◌+◌, ◌<◌, ◌≤◌, Bool, true, List, get_or, refl, sym, ◌∙◌, ap, arith, lit<}
 use Rattle.std.proofs.Common.{rules, subst}
 use Rattle.std.specs.Prelude.{None, Some}
-use Rattle.std.specs.List.{AllByRecursion}
-use Rattle.std.proofs.lemmas.List.Elements.{All-from_recursion}
+use Rattle.std.specs.Str.{bytes_eq}
+use Rattle.std.specs.List.{list_all, position_or_len, AllByRecursion}
+use Rattle.std.proofs.lemmas.List.Elements.{All-from_recursion, All-get_or}
+use Rattle.std.proofs.lemmas.List.Sums.{AllPass-from_list_all}
 use Rattle.v_frame_y4m.specs.declared.colour.Colour.TheVariants as colour
 use Rattle.v_frame_y4m.specs.declared.colour.Depth.TheVariants as depth
 use Rattle.v_frame_semi_planar.specs.declared.format.SemiPlanarFormat.TheVariants as layout
@@ -12,84 +14,57 @@ use Rattle.v_frame_formats.specs.declared.format.VideoFormat.{VideoFormat}
 use Rattle.v_frame_formats.specs.declared.format.VideoFormat.TheVariants.{Planar, SemiPlanar}
 use Rattle.v_frame_formats.specs.declared.format.TheConstants.{FORMATS}
 
+-- the place of a format, by its short name
 abbrev pub format_place : VideoFormat → ℕ
-format_place (Planar colour.Unstated) = 35
-format_place (Planar colour.Yuv420) = 0
-format_place (Planar colour.Yuv420Jpeg) = 1
-format_place (Planar colour.Yuv420Mpeg2) = 2
-format_place (Planar colour.Yuv420Paldv) = 3
-format_place (Planar colour.Yuv411) = 4
-format_place (Planar colour.Yuv422) = 5
-format_place (Planar colour.Yuv444) = 6
-format_place (Planar colour.Mono) = 7
-format_place (Planar (colour.Yuv420HighDepth depth.Nine)) = 8
-format_place (Planar (colour.Yuv420HighDepth depth.Ten)) = 9
-format_place (Planar (colour.Yuv420HighDepth depth.Twelve)) = 10
-format_place (Planar (colour.Yuv420HighDepth depth.Fourteen)) = 11
-format_place (Planar (colour.Yuv420HighDepth depth.Sixteen)) = 12
-format_place (Planar (colour.Yuv422HighDepth depth.Nine)) = 13
-format_place (Planar (colour.Yuv422HighDepth depth.Ten)) = 14
-format_place (Planar (colour.Yuv422HighDepth depth.Twelve)) = 15
-format_place (Planar (colour.Yuv422HighDepth depth.Fourteen)) = 16
-format_place (Planar (colour.Yuv422HighDepth depth.Sixteen)) = 17
-format_place (Planar (colour.Yuv444HighDepth depth.Nine)) = 18
-format_place (Planar (colour.Yuv444HighDepth depth.Ten)) = 19
-format_place (Planar (colour.Yuv444HighDepth depth.Twelve)) = 20
-format_place (Planar (colour.Yuv444HighDepth depth.Fourteen)) = 21
-format_place (Planar (colour.Yuv444HighDepth depth.Sixteen)) = 22
-format_place (Planar (colour.MonoHighDepth depth.Nine)) = 23
-format_place (Planar (colour.MonoHighDepth depth.Ten)) = 24
-format_place (Planar (colour.MonoHighDepth depth.Twelve)) = 25
-format_place (Planar (colour.MonoHighDepth depth.Fourteen)) = 26
-format_place (Planar (colour.MonoHighDepth depth.Sixteen)) = 27
-format_place (SemiPlanar layout.Nv12) = 28
-format_place (SemiPlanar layout.Nv21) = 29
-format_place (SemiPlanar layout.Nv16) = 30
-format_place (SemiPlanar layout.Nv24) = 31
-format_place (SemiPlanar layout.P010) = 32
-format_place (SemiPlanar layout.P012) = 33
-format_place (SemiPlanar layout.P016) = 34
+format_place f = position_or_len (λ g. bytes_eq (short_name g) (short_name f)) FORMATS
 
 none_is_no_colour : {A : Type 0} (a : A) → None ≡ Some a → ⊥
 none_is_no_colour a is = search rules
 
-pub format_placed : (f w : VideoFormat) → IsNamed f → (get_or FORMATS (format_place f) w ≡ f) × (format_place f < 35)
-format_placed (Planar colour.Unstated) w is = absurd (none_is_no_colour colour.Unstated is)
-format_placed (Planar colour.Yuv420) w is = (refl, lit< tt)
-format_placed (Planar colour.Yuv420Jpeg) w is = (refl, lit< tt)
-format_placed (Planar colour.Yuv420Mpeg2) w is = (refl, lit< tt)
-format_placed (Planar colour.Yuv420Paldv) w is = (refl, lit< tt)
-format_placed (Planar colour.Yuv411) w is = (refl, lit< tt)
-format_placed (Planar colour.Yuv422) w is = (refl, lit< tt)
-format_placed (Planar colour.Yuv444) w is = (refl, lit< tt)
-format_placed (Planar colour.Mono) w is = (refl, lit< tt)
-format_placed (Planar (colour.Yuv420HighDepth depth.Nine)) w is = (refl, lit< tt)
-format_placed (Planar (colour.Yuv420HighDepth depth.Ten)) w is = (refl, lit< tt)
-format_placed (Planar (colour.Yuv420HighDepth depth.Twelve)) w is = (refl, lit< tt)
-format_placed (Planar (colour.Yuv420HighDepth depth.Fourteen)) w is = (refl, lit< tt)
-format_placed (Planar (colour.Yuv420HighDepth depth.Sixteen)) w is = (refl, lit< tt)
-format_placed (Planar (colour.Yuv422HighDepth depth.Nine)) w is = (refl, lit< tt)
-format_placed (Planar (colour.Yuv422HighDepth depth.Ten)) w is = (refl, lit< tt)
-format_placed (Planar (colour.Yuv422HighDepth depth.Twelve)) w is = (refl, lit< tt)
-format_placed (Planar (colour.Yuv422HighDepth depth.Fourteen)) w is = (refl, lit< tt)
-format_placed (Planar (colour.Yuv422HighDepth depth.Sixteen)) w is = (refl, lit< tt)
-format_placed (Planar (colour.Yuv444HighDepth depth.Nine)) w is = (refl, lit< tt)
-format_placed (Planar (colour.Yuv444HighDepth depth.Ten)) w is = (refl, lit< tt)
-format_placed (Planar (colour.Yuv444HighDepth depth.Twelve)) w is = (refl, lit< tt)
-format_placed (Planar (colour.Yuv444HighDepth depth.Fourteen)) w is = (refl, lit< tt)
-format_placed (Planar (colour.Yuv444HighDepth depth.Sixteen)) w is = (refl, lit< tt)
-format_placed (Planar (colour.MonoHighDepth depth.Nine)) w is = (refl, lit< tt)
-format_placed (Planar (colour.MonoHighDepth depth.Ten)) w is = (refl, lit< tt)
-format_placed (Planar (colour.MonoHighDepth depth.Twelve)) w is = (refl, lit< tt)
-format_placed (Planar (colour.MonoHighDepth depth.Fourteen)) w is = (refl, lit< tt)
-format_placed (Planar (colour.MonoHighDepth depth.Sixteen)) w is = (refl, lit< tt)
-format_placed (SemiPlanar layout.Nv12) w is = (refl, lit< tt)
-format_placed (SemiPlanar layout.Nv21) w is = (refl, lit< tt)
-format_placed (SemiPlanar layout.Nv16) w is = (refl, lit< tt)
-format_placed (SemiPlanar layout.Nv24) w is = (refl, lit< tt)
-format_placed (SemiPlanar layout.P010) w is = (refl, lit< tt)
-format_placed (SemiPlanar layout.P012) w is = (refl, lit< tt)
-format_placed (SemiPlanar layout.P016) w is = (refl, lit< tt)
+pub format_stands : (f w : VideoFormat) → IsNamed f → (get_or FORMATS (format_place f) w ≡ f) × (format_place f < 35)
+format_stands (Planar colour.Unstated) w is = absurd (none_is_no_colour colour.Unstated is)
+format_stands (Planar colour.Yuv420) w is = (refl, lit< tt)
+format_stands (Planar colour.Yuv420Jpeg) w is = (refl, lit< tt)
+format_stands (Planar colour.Yuv420Mpeg2) w is = (refl, lit< tt)
+format_stands (Planar colour.Yuv420Paldv) w is = (refl, lit< tt)
+format_stands (Planar colour.Yuv411) w is = (refl, lit< tt)
+format_stands (Planar colour.Yuv422) w is = (refl, lit< tt)
+format_stands (Planar colour.Yuv444) w is = (refl, lit< tt)
+format_stands (Planar colour.Mono) w is = (refl, lit< tt)
+format_stands (Planar (colour.Yuv420HighDepth depth.Nine)) w is = (refl, lit< tt)
+format_stands (Planar (colour.Yuv420HighDepth depth.Ten)) w is = (refl, lit< tt)
+format_stands (Planar (colour.Yuv420HighDepth depth.Twelve)) w is = (refl, lit< tt)
+format_stands (Planar (colour.Yuv420HighDepth depth.Fourteen)) w is = (refl, lit< tt)
+format_stands (Planar (colour.Yuv420HighDepth depth.Sixteen)) w is = (refl, lit< tt)
+format_stands (Planar (colour.Yuv422HighDepth depth.Nine)) w is = (refl, lit< tt)
+format_stands (Planar (colour.Yuv422HighDepth depth.Ten)) w is = (refl, lit< tt)
+format_stands (Planar (colour.Yuv422HighDepth depth.Twelve)) w is = (refl, lit< tt)
+format_stands (Planar (colour.Yuv422HighDepth depth.Fourteen)) w is = (refl, lit< tt)
+format_stands (Planar (colour.Yuv422HighDepth depth.Sixteen)) w is = (refl, lit< tt)
+format_stands (Planar (colour.Yuv444HighDepth depth.Nine)) w is = (refl, lit< tt)
+format_stands (Planar (colour.Yuv444HighDepth depth.Ten)) w is = (refl, lit< tt)
+format_stands (Planar (colour.Yuv444HighDepth depth.Twelve)) w is = (refl, lit< tt)
+format_stands (Planar (colour.Yuv444HighDepth depth.Fourteen)) w is = (refl, lit< tt)
+format_stands (Planar (colour.Yuv444HighDepth depth.Sixteen)) w is = (refl, lit< tt)
+format_stands (Planar (colour.MonoHighDepth depth.Nine)) w is = (refl, lit< tt)
+format_stands (Planar (colour.MonoHighDepth depth.Ten)) w is = (refl, lit< tt)
+format_stands (Planar (colour.MonoHighDepth depth.Twelve)) w is = (refl, lit< tt)
+format_stands (Planar (colour.MonoHighDepth depth.Fourteen)) w is = (refl, lit< tt)
+format_stands (Planar (colour.MonoHighDepth depth.Sixteen)) w is = (refl, lit< tt)
+format_stands (SemiPlanar layout.Nv12) w is = (refl, lit< tt)
+format_stands (SemiPlanar layout.Nv21) w is = (refl, lit< tt)
+format_stands (SemiPlanar layout.Nv16) w is = (refl, lit< tt)
+format_stands (SemiPlanar layout.Nv24) w is = (refl, lit< tt)
+format_stands (SemiPlanar layout.P010) w is = (refl, lit< tt)
+format_stands (SemiPlanar layout.P012) w is = (refl, lit< tt)
+format_stands (SemiPlanar layout.P016) w is = (refl, lit< tt)
+
+pub format_below : (f : VideoFormat) → IsNamed f → format_place f < 35
+format_below f named = (format_stands f f named).1
+
+pub each_format : (p : VideoFormat → Bool) → list_all p FORMATS ≡ true → (f : VideoFormat) → IsNamed f → p f ≡ true
+each_format p is f named = subst (λ (g : VideoFormat). p g ≡ true) (format_stands f f named).0
+    (All-get_or (λ g. p g ≡ true) FORMATS (format_place f) f (format_below f named) (AllPass-from_list_all p FORMATS is))
 
 listed : AllByRecursion IsNamed FORMATS
 listed = (refl, (refl, (refl, (refl, (refl, (refl, (refl, (refl, (refl, (refl, (refl, (refl, (refl, (refl, (refl, (refl, (refl, (refl, (refl, (refl, (refl, (refl, (refl, (refl, (refl, (refl, (refl, (refl, (tt, (tt, (tt, (tt, (tt, (tt, (tt, tt)))))))))))))))))))))))))))))))))))
@@ -102,7 +77,7 @@ pub format_further : (text : List ℕ) (i : ℕ) (w f : VideoFormat)
     → IsFormat f text → i ≤ format_place f → i + 1 ≤ format_place f
 format_further text i w f miss is low =
     let here : i ≡ format_place f → get_or FORMATS i w ≡ f = λ e.
-    ap (λ (k : ℕ). get_or FORMATS k w) e ∙ (format_placed f w is.0).0 in
+    ap (λ (k : ℕ). get_or FORMATS k w) e ∙ (format_stands f w is.0).0 in
     let other : i ≢ format_place f = λ e. miss (subst (λ (g : VideoFormat).
     (text ≡ short_name g) ⊎ (text ≡ ffmpeg_name g)) (sym (here e)) is.1) in
     omega (arith, other, low)

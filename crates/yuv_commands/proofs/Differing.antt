@@ -10,7 +10,7 @@ use Rattle.v_frame_streams.specs.Comparisons.{Pair, TakesEach}
 use Rattle.v_frame_streams.specs.Prelude.{shown, Sizes, Stream, WatchesFrom}
 use Rattle.v_frame_streams.specs.declared.comparison.CompareOptions.{CompareOptions}
 use Rattle.v_frame_streams.specs.declared.comparison.Comparison.{Comparison}
-use Rattle.yuv_words.specs.declared.command.DiffOptions.{DiffOptions as DiffWords}
+use Rattle.yuv_words.specs.declared.command.Options.{Options as OptionWords}
 use Rattle.v_frame_streams.specs.declared.sums.PlaneSums.{PlaneSums}
 
 module _ {T W : Type 0} (form : PixelForm T) (contents : W → Option (List ℕ)) where
@@ -42,7 +42,7 @@ module _ {T W : Type 0} (form : PixelForm T) (contents : W → Option (List ℕ)
             DrawsDifference form contents (contents out) old.gain pair.0 pair.1 done.0 done.1))) kept draws.drawn,
       )
 
-  pub frames_drawn : (start : Option (List ℕ)) (options : DiffWords) (size : Sizes) (one other : Stream)
+  pub frames_drawn : (start : Option (List ℕ)) (options : OptionWords) (size : Sizes) (one other : Stream)
       (left left' right right' : Option (List ℕ)) (before : ℕ) (taken : CompareOptions) (old new : DifferencePicture W)
       (out : W) (done : W × Found) (compared : Comparison)
       → before + 1 ≡ unwrap_or options.frame 1 → taken ≡ frame_pair options before → old.out ≡ Some out

@@ -17,7 +17,7 @@ use Rattle.v_frame_streams.specs.Prelude.{copied_bytes, copied_header, header_by
 use Rattle.v_frame_streams.specs.Prelude.{sizes_in, tables_of_bytes, ReadsTables, Sizes}
 use Rattle.v_frame_streams.specs.declared.stream.Container.{Container}
 use Rattle.v_frame_streams.specs.declared.stream.Container.TheVariants.{Raw}
-use Rattle.yuv_words.specs.declared.command.ShowOptions.{ShowOptions as ShowWords}
+use Rattle.yuv_words.specs.declared.command.Options.{Options as OptionWords}
 
 -- what is first behind so many items has this index
 pub dropped_front : {X : Type 0} (xs : List X) (n : ℕ) (x : X) (rest : List X) → drop n xs ≡ x ∷ rest
@@ -36,7 +36,7 @@ pub one_written : (made : List ℕ → List ℕ) (header : StreamHeader) (later 
 one_written made header [] bytes some e = absurd (some refl)
 one_written made header (frame ∷ rest) bytes some e = (frame, rest, refl, e ∙ append-nil (made frame.1))
 
-module _ (from : Container) (count : ℕ) (left left' : Option (List ℕ)) (options : ShowWords) (header : StreamHeader)
+module _ (from : Container) (count : ℕ) (left left' : Option (List ℕ)) (options : OptionWords) (header : StreamHeader)
     (layout : Option SemiPlanarFormat) where
   pub frame_taken : (before found : ℕ) (has has' : Option (List ℕ)) (bytes : List ℕ)
       → before + 1 ≡ unwrap_or options.frame 1 → has ≡ Some [] → has' ≡ Some bytes → found ≢ 0

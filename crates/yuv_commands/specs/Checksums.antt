@@ -8,7 +8,7 @@ use Rattle.yuv_reports.specs.declared.samples.Checksums.TheVariants.{Frame, Plan
 use Rattle.yuv_reports.specs.Samples.{checksums_line}
 use Rattle.v_frame_streams.specs.Prelude.{most_frames, CountsFrames, Framed, ReadsFrames, Sizes}
 use Rattle.v_frame_streams.specs.declared.stream.Container.{Container}
-use Rattle.yuv_words.specs.declared.command.SumOptions.{SumOptions}
+use Rattle.yuv_words.specs.declared.command.Options.{Options as OptionWords}
 
 -- of the bytes of a frame the CRC-32 of all of them, or of each plane: first those of Y, then those
 -- of U, and then those of V, where there is chroma
@@ -45,7 +45,7 @@ pub record SumsFrames (from : Container) (frame_len : ℕ) (left left' has has' 
 
 -- the same of the frames that the options ask for, after those that are passed over
 pub record SumsFrom (from : Container) (frame_len : ℕ) (left left' has has' : Option (List ℕ))
-    (options : SumOptions) (count : ℕ) (sizes : Sizes) (found : ℕ) : Type 0 where
+    (options : OptionWords) (count : ℕ) (sizes : Sizes) (found : ℕ) : Type 0 where
   pub start : Option (List ℕ)
   pub passed : ℕ
   pub skipped : CountsFrames left start from frame_len (unwrap_or options.skip 0) passed

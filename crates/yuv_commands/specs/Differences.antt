@@ -10,7 +10,7 @@ use Rattle.yuv_commands.specs.declared.diff.DifferencePicture.{DifferencePicture
 use Rattle.v_frame_streams.specs.Comparisons.{Pair}
 use Rattle.v_frame_streams.specs.Prelude.{shown, ComparesFrom, Sizes, Stream}
 use Rattle.v_frame_streams.specs.declared.comparison.Comparison.{Comparison}
-use Rattle.yuv_words.specs.declared.command.DiffOptions.{DiffOptions as DiffWords}
+use Rattle.yuv_words.specs.declared.command.Options.{Options as OptionWords}
 
 -- a writer got the picture of the difference of frames that show these tables, times a gain, and
 -- this is what differs
@@ -41,7 +41,7 @@ module _ {T W : Type 0} (form : PixelForm T) (contents : W → Option (List ℕ)
 
   -- Of both streams the frames in front of the one that the options name were passed over, and the
   -- difference of the next two was written.
-  pub record DrawsFrames (start : Option (List ℕ)) (options : DiffWords) (size : Sizes)
+  pub record DrawsFrames (start : Option (List ℕ)) (options : OptionWords) (size : Sizes)
       (one other : Stream) (left left' right right' : Option (List ℕ)) (new : W) (found : Found)
       : Type 0 where
     pub before : ℕ

@@ -7,14 +7,10 @@ use Rattle.v_frame_streams.specs.declared.edit.Rectangle.{Rectangle}
 use Rattle.v_frame_streams.specs.declared.options.CopyOptions.{CopyOptions}
 use Rattle.v_frame_streams.specs.declared.stream.Container.{Container}
 use Rattle.yuv_pictures.specs.declared.plane_name.PlaneName.{PlaneName}
-use Rattle.yuv_words.specs.declared.command.CompareOptions.{CompareOptions as CompareWords}
-use Rattle.yuv_words.specs.declared.command.CopyOptions.{CopyOptions as CopyWords}
-use Rattle.yuv_words.specs.declared.command.DiffOptions.{DiffOptions as DiffWords}
-use Rattle.yuv_words.specs.declared.command.PlotOptions.{PlotOptions as PlotWords}
+use Rattle.yuv_words.specs.declared.command.Options.{Options as OptionWords}
 use Rattle.yuv_words.specs.declared.command.PlaneName.{PlaneName as PlaneWords}
 use Rattle.yuv_words.specs.declared.command.PlaneName.TheVariants.{Y, U, V}
 use Rattle.yuv_words.specs.declared.command.Rectangle.{Rectangle as RectangleWords}
-use Rattle.yuv_words.specs.declared.command.ShowOptions.{ShowOptions as ShowWords}
 
 -- the most pixels of luma that a picture may have: those of 7680x4320 where nobody says, and never
 -- more than can be counted
@@ -34,7 +30,7 @@ abbrev pub rectangle_of : RectangleWords → Rectangle
 rectangle_of part = record { x = part.x; y = part.y; width = part.width; height = part.height }
 
 -- `copy`: each option is handed on
-abbrev pub copy_of : CopyWords → CopyOptions
+abbrev pub copy_of : OptionWords → CopyOptions
 copy_of options =
     record {
       skip = unwrap_or options.skip 0;
@@ -48,7 +44,7 @@ copy_of options =
     }
 
 -- `copy`: raw video is written with `--raw-output` alone
-abbrev pub sink_container : CopyWords → Container
+abbrev pub sink_container : OptionWords → Container
 sink_container options = if options.raw_output then Container.Raw else Container.Y4m
 
 -- both streams are passed over by `--skip`, but the second by `--skip-second` where this is given
@@ -62,11 +58,11 @@ taken_of skip skip_second count max_pixels =
     }
 
 -- `compare`
-abbrev pub comparison_of : CompareWords → CompareOptions
+abbrev pub comparison_of : OptionWords → CompareOptions
 comparison_of options = taken_of options.skip options.skip_second options.count options.max_pixels
 
 -- `show`: one frame after so many, and the part of it that is asked for
-abbrev pub shown_frame : ShowWords → ℕ → CopyOptions
+abbrev pub shown_frame : OptionWords → ℕ → CopyOptions
 shown_frame options before =
     record {
       skip = before;
@@ -86,10 +82,10 @@ plane_of U = PlaneName.U
 plane_of V = PlaneName.V
 
 -- `diff`: one frame of both streams, after so many
-abbrev pub frame_pair : DiffWords → ℕ → CompareOptions
+abbrev pub frame_pair : OptionWords → ℕ → CompareOptions
 frame_pair options before =
     taken_of (Some before) None (Some 1) options.max_pixels
 
 -- `plot`
-abbrev pub plot_of : PlotWords → CompareOptions
+abbrev pub plot_of : OptionWords → CompareOptions
 plot_of options = taken_of options.skip options.skip_second options.count options.max_pixels

@@ -2,16 +2,11 @@
 use Rattle.std.specs.Prelude.{ℕ, ◌≡◌, Bool, true, false}
 use Rattle.yuv_commands.specs.declared.progress.ProgressLine.{ProgressLine}
 use Rattle.yuv_words.specs.declared.command.Command.{Command}
-use Rattle.yuv_words.specs.declared.command.Command.TheVariants.{Info, Compare, Copy, Sum, Stats, Plot}
+use Rattle.yuv_words.specs.declared.command.Command.TheVariants.{Call}
 
--- `--progress` of the commands that have it
+-- `--progress`, which not all commands have
 abbrev pub asks_progress : Command → Bool
-asks_progress (Info file options) = options.progress
-asks_progress (Compare first second options) = options.progress
-asks_progress (Copy input output options) = options.progress
-asks_progress (Sum file options) = options.progress
-asks_progress (Stats file options) = options.progress
-asks_progress (Plot first second output options) = options.progress
+asks_progress (Call name first second third options) = options.progress
 asks_progress _ = false
 
 -- a line that is not shown stays as it is, and one that is shown takes the count

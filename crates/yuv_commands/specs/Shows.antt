@@ -22,15 +22,15 @@ use Rattle.v_frame_streams.specs.Prelude.{ReadsFrames}
 use Rattle.v_frame_streams.specs.declared.stream.Container.{Container}
 use Rattle.v_frame_streams.specs.declared.stream.Container.TheVariants.{Raw}
 use Rattle.yuv_words.specs.declared.command.PlaneName.{PlaneName as PlaneWords}
-use Rattle.yuv_words.specs.declared.command.ShowOptions.{ShowOptions as ShowWords}
+use Rattle.yuv_words.specs.declared.command.Options.{Options as OptionWords}
 
 -- by which standard and range colours are made: by BT.709 of limited range, where nobody says
-abbrev pub colours_asked : ShowWords → Colours
+abbrev pub colours_asked : OptionWords → Colours
 colours_asked options =
     record { standard = unwrap_or options.matrix Bt709; range = unwrap_or options.range Limited }
 
 -- the header of what is shown: the size of the part, or of the stream, and the colour of the stream
-abbrev pub header_shown : ShowWords → StreamHeader → StreamHeader
+abbrev pub header_shown : OptionWords → StreamHeader → StreamHeader
 header_shown options header =
     let part = taken (shown_frame options 0) header in
     record {
@@ -70,7 +70,7 @@ module _ {T : Type 0} (form : PixelForm T) (frame : Frame T) where
   drawing_of (Some name) colours = option_map plane_drawing (plane_named frame (plane_of name))
 
   -- what the options ask for
-  abbrev pub drawing_asked : ShowWords → Option Drawing
+  abbrev pub drawing_asked : OptionWords → Option Drawing
   drawing_asked options = drawing_of options.plane (colours_asked options)
 
 -- why that is not drawn, of pixels of so many bytes
@@ -89,7 +89,7 @@ pub record ShowsBytes {T : Type 0} (form : PixelForm T) (header : StreamHeader)
   pub sizes : sizes_laid_out frame ≡ sizes_in header
   pub format : format_of frame ≡ format_in header.colour
 
-module _ (from : Container) (count : ℕ) (left left' : Option (List ℕ)) (options : ShowWords)
+module _ (from : Container) (count : ℕ) (left left' : Option (List ℕ)) (options : OptionWords)
     (header : StreamHeader) (layout : Option SemiPlanarFormat) where
   -- the frame of the number that the options say was read after those in front of it, and these are
   -- its bytes, or those of the part of it that they say

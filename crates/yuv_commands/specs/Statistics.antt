@@ -13,7 +13,7 @@ use Rattle.yuv_reports.specs.declared.comparison.PlaneName.TheVariants.{Y, U, V}
 use Rattle.yuv_reports.specs.declared.samples.SampleStatistics.{SampleStatistics}
 use Rattle.v_frame_streams.specs.Prelude.{Sizes}
 use Rattle.v_frame_streams.specs.declared.stream.Container.{Container}
-use Rattle.yuv_words.specs.declared.command.StatsOptions.{StatsOptions}
+use Rattle.yuv_words.specs.declared.command.Options.{Options as OptionWords}
 
 -- what stands at a depth for a value of 8 bits, as ITU-R BT.601 and BT.709 have it
 abbrev pub nominal_at : ℕ → ℕ → ℕ
@@ -71,7 +71,7 @@ SaysCounts false depth found text = SaysPlanes depth found text
 -- the frames that the options ask for were read, and what values their samples have was written
 pub record ReportsValues {T : Type 0} (form : PixelForm T) (bound : ℕ) (from : Container)
     (frame_len : ℕ) (layout : Option SemiPlanarFormat) (sizes : Sizes)
-    (left left' has has' : Option (List ℕ)) (options : StatsOptions) (depth number : ℕ)
+    (left left' has has' : Option (List ℕ)) (options : OptionWords) (depth number : ℕ)
     : Type 0 where
   pub found : Counts
   pub counted : CountsFrom form bound from frame_len layout sizes left left' options number found

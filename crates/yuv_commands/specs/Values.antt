@@ -11,7 +11,7 @@ use Rattle.yuv_reports.specs.declared.comparison.PlaneName.{PlaneName}
 use Rattle.yuv_reports.specs.declared.comparison.PlaneName.TheVariants.{Y, U, V}
 use Rattle.v_frame_streams.specs.Prelude.{most_frames, tables_of_bytes, CountsFrames as PassesFrames, Framed, ReadsFrames, Sizes}
 use Rattle.v_frame_streams.specs.declared.stream.Container.{Container}
-use Rattle.yuv_words.specs.declared.command.StatsOptions.{StatsOptions}
+use Rattle.yuv_words.specs.declared.command.Options.{Options as OptionWords}
 
 -- the rows of a chroma plane, where it is there
 abbrev pub rows_of_chroma : PlaneName → Option ValueCounts → List ℕ
@@ -108,7 +108,7 @@ module _ {T : Type 0} (form : PixelForm T) (bound : ℕ) where
 
   -- the same of the frames that the options ask for, after those that are passed over
   pub record CountsFrom (from : Container) (frame_len : ℕ) (layout : Option SemiPlanarFormat)
-      (sizes : Sizes) (left left' : Option (List ℕ)) (options : StatsOptions) (number : ℕ)
+      (sizes : Sizes) (left left' : Option (List ℕ)) (options : OptionWords) (number : ℕ)
       (found : Counts) : Type 0 where
     pub start : Option (List ℕ)
     pub passed : ℕ

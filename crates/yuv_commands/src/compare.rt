@@ -28,13 +28,13 @@ use v_frame_streams::{
 };
 use v_frame_y4m::StreamHeader;
 use yuv_reports::Report;
-use yuv_words::{CompareOptions, ReportForm};
+use yuv_words::{Options, ReportForm};
 
 /// Reports how far two streams are apart.
 pub(crate) fn do_compare<H, I, O, E>(
     system: &mut System<'_, H, I, O, E>,
     (first, second): (&str, &str),
-    options: &CompareOptions,
+    options: &Options,
 ) -> Result<Status, Fault>
 where
     H: Files + AllocGlobal + Clock,
@@ -63,7 +63,7 @@ fn report_comparison<R: io::Read, S: io::Read, W: io::Write + Drop, H: Clock, E:
     alloc: Global,
     first: &mut Source<R>,
     second: &mut Source<S>,
-    options: &CompareOptions,
+    options: &Options,
     out: W,
     progress: &mut ProgressLine<'_, H, E>,
 ) -> Result<(W, Comparison), Fault>
@@ -96,14 +96,14 @@ fn report_comparison<R: io::Read, S: io::Read, W: io::Write + Drop, H: Clock, E:
 }
 
 /// Returns how many frames of the first stream stand before the first one that is compared.
-fn first_taken(options: &CompareOptions) -> u64
+fn first_taken(options: &Options) -> u64
     ensures { result ≡ unwrap_or options.now.skip 0 }
 {
     options.skip.unwrap_or(0)
 }
 
 /// Returns what the measures of a report are made of besides the errors.
-fn scale_of(header: &StreamHeader, options: &CompareOptions) -> Scale
+fn scale_of(header: &StreamHeader, options: &Options) -> Scale
     ensures pixels { result.pixels ≡ pixels_of_sizes (sizes_in header.now) }
     ensures bit_depth { result.bit_depth ≡ depth_of header.now.colour }
     ensures exact { result.exact ≡ options.now.exact }
@@ -116,7 +116,7 @@ fn scale_of(header: &StreamHeader, options: &CompareOptions) -> Scale
 }
 
 /// Returns means of structural similarities, where these are asked for.
-fn means_of(options: &CompareOptions) -> Option<Means>
+fn means_of(options: &Options) -> Option<Means>
     ensures { is_some result ≡ options.now.ssim }
 {
     options.ssim.then_some(Means::new())
@@ -136,7 +136,7 @@ pub fn compare_sources<
     alloc: Global,
     first: &mut Source<R>,
     second: &mut Source<S>,
-    options: &CompareOptions,
+    options: &Options,
     observer: &mut O,
     progress: &mut P,
 ) -> Result<Comparison, StreamError>
@@ -182,7 +182,7 @@ fn comparison_status(found: &Comparison) -> Status
 }
 
 /// Returns the form of the report.
-pub(crate) fn report_form(options: &CompareOptions) -> yuv_reports::ReportForm
+pub(crate) fn report_form(options: &Options) -> yuv_reports::ReportForm
     ensures { result ≡ form_of_words options.now.form }
 {
     match options.form {
@@ -193,7 +193,7 @@ pub(crate) fn report_form(options: &CompareOptions) -> yuv_reports::ReportForm
 }
 
 /// Returns whether each frame is reported: always in a table or an object, and in lines with `--frames`.
-fn lists_frames(options: &CompareOptions) -> bool
+fn lists_frames(options: &Options) -> bool
     ensures { IsTrue result ↔ (IsTrue options.now.frames ⊎ (options.now.form ≢ ReportForm.Lines)) }
 {
     options.frames || options.form != ReportForm::Lines

@@ -20,13 +20,13 @@ use std::time::Clock;
 use v_frame_streams::{Place, Progress, Sink, Source, StreamError, copy_stream};
 use v_frame_y4m::{Interlacing, StreamHeader};
 use yuv_files::{SystemFile, shown_name, write_message};
-use yuv_words::CopyOptions;
+use yuv_words::Options;
 
 /// Writes a stream once more.
 pub(crate) fn do_copy<H, I, O, E>(
     system: &mut System<'_, H, I, O, E>,
     (from, to): (&str, &str),
-    options: &CopyOptions,
+    options: &Options,
 ) -> Result<Status, Fault>
 where
     H: Files + AllocGlobal + Clock,
@@ -70,7 +70,7 @@ where
 }
 
 /// Returns whether a copy makes one row of two that are of two fields, which are of two moments.
-fn blends_fields(options: &CopyOptions, header: &StreamHeader) -> bool
+fn blends_fields(options: &Options, header: &StreamHeader) -> bool
     ensures { result ≡ (options.now.half && has_fields header.now.interlacing) }
 {
     let has_fields = matches!(
@@ -81,7 +81,7 @@ fn blends_fields(options: &CopyOptions, header: &StreamHeader) -> bool
 }
 
 /// Returns why no frame was copied, where so many of a stream of so many are none.
-fn nothing_copied(options: &CopyOptions, copied: u64, frames: u64) -> Option<NothingTaken>
+fn nothing_copied(options: &Options, copied: u64, frames: u64) -> Option<NothingTaken>
     ensures { result ≡ nothing_of copied frames (unwrap_or options.now.skip 0) options.now.count }
 {
     NothingTaken::of(copied, frames, options.skip.unwrap_or(0), options.count)
@@ -96,7 +96,7 @@ pub fn copy_source<R: io::Read, W: io::Write, P: Progress>(
     alloc: Global,
     source: &mut Source<R>,
     sink: &mut Sink<W>,
-    options: &CopyOptions,
+    options: &Options,
     progress: &mut P,
 ) -> Result<u64, StreamError>
     ensures copied { IfOk result (Copies source.old.container source.old.frame_len

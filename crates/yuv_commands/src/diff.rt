@@ -28,7 +28,7 @@ use v_frame_streams::{
 };
 use yuv_files::SystemFile;
 use yuv_pictures::{Found, PictureError, PlaneDifference, differences, write_difference_picture};
-use yuv_words::DiffOptions;
+use yuv_words::Options;
 
 /// What each difference is multiplied by, where nobody says.
 const GAIN: u16 = 8;
@@ -37,7 +37,7 @@ const GAIN: u16 = 8;
 pub(crate) fn do_diff<H, I, O, E>(
     system: &mut System<'_, H, I, O, E>,
     (first, second, to): (&str, &str, &str),
-    options: &DiffOptions,
+    options: &Options,
 ) -> Result<Status, Fault>
 where
     H: Files + AllocGlobal + Clock,
@@ -84,7 +84,7 @@ fn write_difference<R: io::Read, S: io::Read, W: io::Write + Drop>(
     alloc: Global,
     first: &mut Source<R>,
     second: &mut Source<S>,
-    options: &DiffOptions,
+    options: &Options,
     out: W,
 ) -> Result<(W, Found), Fault>
     ensures bytes { depth_of first.old.header.colour ≡ 8 → IfOk result (λ drawn.
@@ -116,14 +116,14 @@ fn write_difference<R: io::Read, S: io::Read, W: io::Write + Drop>(
 }
 
 /// Returns what each difference is multiplied by.
-fn gain_of(options: &DiffOptions) -> u16
+fn gain_of(options: &Options) -> u16
     ensures { result ≡ unwrap_or options.now.gain 8 }
 {
     options.gain.unwrap_or(GAIN)
 }
 
 /// Returns what is taken of both streams: one frame after so many.
-fn frames_taken(options: &DiffOptions, before: u64) -> CompareOptions
+fn frames_taken(options: &Options, before: u64) -> CompareOptions
     ensures { result ≡ frame_pair options.now before }
 {
     taken_of_both(Some(before), None, Some(1), options.max_pixels)

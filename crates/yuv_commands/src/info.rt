@@ -22,13 +22,13 @@ use std::time::Clock;
 use text::{format_text, frames_text};
 use v_frame_planar::Counted;
 use v_frame_streams::{Place, Source, StreamError, skip_frames};
-use yuv_words::InfoOptions;
+use yuv_words::Options;
 
 /// Reports what a stream is. Where a frame can't be read, what is known so far is reported before the fault.
 pub(crate) fn do_info<H, I, O, E>(
     system: &mut System<'_, H, I, O, E>,
     name: &str,
-    options: &InfoOptions,
+    options: &Options,
 ) -> Result<Status, Fault>
 where
     H: Files + AllocGlobal + Clock,
@@ -57,7 +57,7 @@ where
 fn report_stream<R: io::Read, W: io::Write, H: Clock, E: io::Write>(
     alloc: Global,
     source: &mut Source<R>,
-    options: &InfoOptions,
+    options: &Options,
     out: &mut Counted<W>,
     progress: &mut ProgressLine<'_, H, E>,
     len: Option<u64>,
@@ -81,7 +81,7 @@ fn report_stream<R: io::Read, W: io::Write, H: Clock, E: io::Write>(
 fn report_frames<R: io::Read, W: io::Write, H: Clock, E: io::Write>(
     alloc: Global,
     source: &mut Source<R>,
-    options: &InfoOptions,
+    options: &Options,
     out: &mut Counted<W>,
     progress: &mut ProgressLine<'_, H, E>,
     len: Option<u64>,

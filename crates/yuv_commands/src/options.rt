@@ -18,7 +18,7 @@ pub(crate) fn most_pixels(asked: Option<u64>) -> usize
 }
 
 /// Returns what a copy takes of a stream, and what it makes of its frames.
-pub(crate) fn stream_copy(options: &yuv_words::CopyOptions) -> v_frame_streams::CopyOptions
+pub(crate) fn stream_copy(options: &yuv_words::Options) -> v_frame_streams::CopyOptions
     ensures { result ≡ copy_of options.now }
 {
     v_frame_streams::CopyOptions {
@@ -46,7 +46,7 @@ pub(crate) fn stream_rectangle(part: yuv_words::Rectangle) -> v_frame_streams::R
 }
 
 /// Returns the stream that a copy writes.
-pub(crate) fn copy_sink<W: Write>(options: &yuv_words::CopyOptions, writer: W) -> Sink<W>
+pub(crate) fn copy_sink<W: Write>(options: &yuv_words::Options, writer: W) -> Sink<W>
     ensures container { result.container ≡ sink_container options.now }
     ensures writer { result.writer.inner ≡ writer }
     ensures frames { result.frames ≡ 0 }
@@ -60,9 +60,7 @@ pub(crate) fn copy_sink<W: Write>(options: &yuv_words::CopyOptions, writer: W) -
 }
 
 /// Returns what a comparison takes of two streams.
-pub(crate) fn stream_comparison(
-    options: &yuv_words::CompareOptions,
-) -> v_frame_streams::CompareOptions
+pub(crate) fn stream_comparison(options: &yuv_words::Options) -> v_frame_streams::CompareOptions
     ensures { result ≡ comparison_of options.now }
 {
     taken_of_both(

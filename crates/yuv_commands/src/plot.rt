@@ -27,13 +27,13 @@ use v_frame_streams::{
 };
 use yuv_files::SystemFile;
 use yuv_reports::PlaneValues;
-use yuv_words::PlotOptions;
+use yuv_words::Options;
 
 /// Draws how far two streams are apart.
 pub(crate) fn do_plot<H, I, O, E>(
     system: &mut System<'_, H, I, O, E>,
     (first, second, to): (&str, &str, &str),
-    options: &PlotOptions,
+    options: &Options,
 ) -> Result<Status, Fault>
 where
     H: Files + AllocGlobal + Clock,
@@ -78,7 +78,7 @@ fn drawn<R: io::Read, S: io::Read, P: Progress>(
     alloc: Global,
     first: &mut Source<R>,
     second: &mut Source<S>,
-    options: &PlotOptions,
+    options: &Options,
     names: (&str, &str),
     progress: &mut P,
 ) -> Result<String, Fault> {
@@ -101,7 +101,7 @@ fn drawn<R: io::Read, S: io::Read, P: Progress>(
 }
 
 /// Returns what is taken of both streams.
-fn frames_taken(options: &PlotOptions) -> CompareOptions
+fn frames_taken(options: &Options) -> CompareOptions
     ensures { result ≡ plot_of options.now }
 {
     taken_of_both(
@@ -113,7 +113,7 @@ fn frames_taken(options: &PlotOptions) -> CompareOptions
 }
 
 /// Returns the number of the first frame that is taken of the first stream, whose own first is frame 1.
-fn first_frame(options: &PlotOptions) -> u64
+fn first_frame(options: &Options) -> u64
     ensures { result ≡ min (unwrap_or options.now.skip 0 + 1) (2 ^ 64 - 1) }
 {
     options.skip.unwrap_or(0).saturating_add(1)

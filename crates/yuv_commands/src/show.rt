@@ -27,13 +27,13 @@ use v_frame_streams::{
 use v_frame_y4m::StreamHeader;
 use yuv_files::SystemFile;
 use yuv_pictures::{Colours, PictureError, write_frame_picture, write_plane_picture};
-use yuv_words::{PlaneName, ShowOptions};
+use yuv_words::{Options, PlaneName};
 
 /// Writes a frame of a stream as a picture.
 pub(crate) fn do_show<H, I, O, E>(
     system: &mut System<'_, H, I, O, E>,
     (from, to): (&str, &str),
-    options: &ShowOptions,
+    options: &Options,
 ) -> Result<Status, Fault>
 where
     H: Files + AllocGlobal + Clock,
@@ -65,7 +65,7 @@ where
 fn show_frame<T: Pixel, R: io::Read, W: io::Write + Drop>(
     alloc: Global,
     source: &mut Source<R>,
-    options: &ShowOptions,
+    options: &Options,
     out: W,
 ) -> Result<W, Fault>
     ensures { IfOk result (ShowsFrame source.old.container source.old.frame_len
@@ -108,7 +108,7 @@ fn write_picture<T: Pixel, W: io::Write + Drop>(
     alloc: Global,
     out: W,
     frame: &Frame<T>,
-    options: &ShowOptions,
+    options: &Options,
 ) -> Result<W, Fault>
     ensures file { IfOk result (λ new. IsSomeAnd (drawing_asked T.form frame.now options.now)
         (λ drawing. HasFile W.contents (W.contents out) new drawing.0 drawing.1)) }
@@ -126,7 +126,7 @@ fn draw_picture<T: Pixel, W: io::Write + Drop>(
     alloc: Global,
     out: W,
     frame: &Frame<T>,
-    options: &ShowOptions,
+    options: &Options,
 ) -> Result<W, PictureError>
     ensures file { IfOk result (λ new. IsSomeAnd (drawing_asked T.form frame.now options.now)
         (λ drawing. HasFile W.contents (W.contents out) new drawing.0 drawing.1)) }
@@ -150,7 +150,7 @@ fn shown_plane(plane: PlaneName) -> yuv_pictures::PlaneName
 }
 
 /// Returns how colours are made: as BT.709 of limited range has it, where the options are silent.
-fn colours_of(options: &ShowOptions) -> Colours
+fn colours_of(options: &Options) -> Colours
     ensures { result ≡ colours_asked options.now }
 {
     Colours {
@@ -163,7 +163,7 @@ fn colours_of(options: &ShowOptions) -> Colours
 fn frame_bytes<R: io::Read>(
     alloc: Global,
     source: &mut Source<R>,
-    options: &ShowOptions,
+    options: &Options,
 ) -> Result<Vec<u8>, Fault>
     ensures taken { IfOk result (λ bytes. TakesFrame source.old.container source.old.frame_len
         (bytes_left R.remaining source.old) (bytes_left R.remaining source.new) options.now
@@ -181,7 +181,7 @@ fn frame_bytes<R: io::Read>(
 }
 
 /// Returns what is taken of the stream: one frame after so many, or a part of it.
-fn one_frame(options: &ShowOptions, before: u64) -> CopyOptions
+fn one_frame(options: &Options, before: u64) -> CopyOptions
     ensures { result ≡ shown_frame options.now before }
 {
     CopyOptions {
@@ -197,7 +197,7 @@ fn one_frame(options: &ShowOptions, before: u64) -> CopyOptions
 }
 
 /// Returns the header of what is shown.
-fn shown_header(alloc: Global, header: &StreamHeader, options: &ShowOptions) -> StreamHeader
+fn shown_header(alloc: Global, header: &StreamHeader, options: &Options) -> StreamHeader
     ensures { result ≡ header_shown options.now header.now }
 {
     let (width, height) = match options.crop {

@@ -30,13 +30,13 @@ use v_frame_planar::Counted;
 use v_frame_streams::{Picture, Place, Progress, Silent, Source, StreamError, skip_frames};
 use yuv_files::{shown_name, write_message};
 use yuv_reports::{PlaneName, push_histogram};
-use yuv_words::StatsOptions;
+use yuv_words::Options;
 
 /// Reports what values the samples of each plane have, over all frames.
 pub(crate) fn do_stats<H, I, O, E>(
     system: &mut System<'_, H, I, O, E>,
     name: &str,
-    options: &StatsOptions,
+    options: &Options,
 ) -> Result<Status, Fault>
 where
     H: Files + AllocGlobal + Clock,
@@ -59,7 +59,7 @@ where
 }
 
 /// Returns why no frame was counted, where so many of a stream of so many are none.
-fn nothing_counted(options: &StatsOptions, counted: u64, frames: u64) -> Option<NothingTaken>
+fn nothing_counted(options: &Options, counted: u64, frames: u64) -> Option<NothingTaken>
     ensures { result ≡ nothing_of counted frames (unwrap_or options.now.skip 0) options.now.count }
 {
     NothingTaken::of(counted, frames, options.skip.unwrap_or(0), options.count)
@@ -69,7 +69,7 @@ fn nothing_counted(options: &StatsOptions, counted: u64, frames: u64) -> Option<
 fn report_values<R: io::Read, W: io::Write, H: Clock, E: io::Write>(
     alloc: Global,
     source: &mut Source<R>,
-    options: &StatsOptions,
+    options: &Options,
     out: &mut Counted<W>,
     progress: &mut ProgressLine<'_, H, E>,
 ) -> Result<u64, StreamError>
@@ -95,7 +95,7 @@ fn report_values<R: io::Read, W: io::Write, H: Clock, E: io::Write>(
 fn report_pixels<T: CountedPixel, R: io::Read, W: io::Write, H: Clock, E: io::Write>(
     alloc: Global,
     source: &mut Source<R>,
-    options: &StatsOptions,
+    options: &Options,
     out: &mut Counted<W>,
     progress: &mut ProgressLine<'_, H, E>,
 ) -> Result<u64, StreamError>
@@ -126,7 +126,7 @@ struct Counts {
 fn count_values<T: CountedPixel, R: io::Read, P: Progress>(
     alloc: Global,
     source: &mut Source<R>,
-    options: &StatsOptions,
+    options: &Options,
     progress: &mut P,
 ) -> Result<(Counts, u64), StreamError>
     ensures { IfOk result (λ done. CountsFrom T.form (256 ^ T.BYTES) source.old.container

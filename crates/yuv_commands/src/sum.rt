@@ -29,13 +29,13 @@ use v_frame_planar::Counted;
 use v_frame_streams::{Picture, Place, Progress, Silent, Source, StreamError, skip_frames};
 use yuv_files::{shown_name, write_message};
 use yuv_reports::{Checksums, push_checksums};
-use yuv_words::SumOptions;
+use yuv_words::Options;
 
 /// Reports a checksum of each frame.
 pub(crate) fn do_sum<H, I, O, E>(
     system: &mut System<'_, H, I, O, E>,
     name: &str,
-    options: &SumOptions,
+    options: &Options,
 ) -> Result<Status, Fault>
 where
     H: Files + AllocGlobal + Clock,
@@ -62,7 +62,7 @@ where
 }
 
 /// Returns why no frame was summed, where so many of a stream of so many are none.
-fn nothing_summed(options: &SumOptions, summed: u64, frames: u64) -> Option<NothingTaken>
+fn nothing_summed(options: &Options, summed: u64, frames: u64) -> Option<NothingTaken>
     ensures { result ≡ nothing_of summed frames (unwrap_or options.now.skip 0) options.now.count }
 {
     NothingTaken::of(summed, frames, options.skip.unwrap_or(0), options.count)
@@ -72,7 +72,7 @@ fn nothing_summed(options: &SumOptions, summed: u64, frames: u64) -> Option<Noth
 fn sum_stream<R: io::Read, W: io::Write, P: Progress>(
     alloc: Global,
     source: &mut Source<R>,
-    options: &SumOptions,
+    options: &Options,
     out: &mut Counted<W>,
     progress: &mut P,
 ) -> Result<u64, StreamError>
@@ -92,7 +92,7 @@ fn sum_stream<R: io::Read, W: io::Write, P: Progress>(
 fn sum_as<T: Pixel, R: io::Read, W: io::Write, P: Progress>(
     alloc: Global,
     source: &mut Source<R>,
-    options: &SumOptions,
+    options: &Options,
     out: &mut Counted<W>,
     progress: &mut P,
 ) -> Result<u64, StreamError>

@@ -1,6 +1,7 @@
 -- From what was read of the words to the call.
 use Rattle.std.proofs.Common.{ℕ, ◌≡◌, ◌≢◌, ◌≤◌, List, [], ◌∷◌, ◌++◌, length, refl, sym, ◌∙◌, ap, subst, cond, get_or, inl, inr}
-use Rattle.std.proofs.Common.{arith, lit≤, rules}
+use Rattle.std.proofs.Common.{arith, eqb, lit≤, rules}
+use Rattle.std.proofs.lemmas.Bool.{eqb-true}
 use Rattle.std.specs.Prelude.{codes, slice_index_or, IfErr, None, Option, Some, Result, Ok, Err, ◌⊎◌}
 use Rattle.std.specs.Borrow.{Bor}
 use Rattle.std.specs.Str.{bytes_eq}
@@ -15,12 +16,11 @@ use Rattle.yuv_words.specs.Words.{after_end, before_end, files_of, spelled, valu
 use Rattle.yuv_words.specs.declared.command.Command.{Command}
 use Rattle.yuv_words.specs.declared.command.Command.TheVariants as command
 use Rattle.yuv_words.specs.declared.command.CommandName.{CommandName}
-use Rattle.yuv_words.specs.declared.command.CommandName.TheVariants as name
 use Rattle.yuv_words.specs.declared.error.UsageError.{UsageError}
 use Rattle.yuv_words.specs.declared.files.Files.{Files}
 use Rattle.yuv_words.specs.declared.option_name.OptionName.{OptionName}
 use Rattle.yuv_words.specs.declared.reading.Reading.{Reading}
-use Rattle.yuv_words.proofs.Places.{one_command}
+use Rattle.yuv_words.proofs.Places.{each_command, one_command}
 use Rattle.yuv_words.proofs.Refusals.{late_refused, same_tokens}
 
 text_once : (text : Option (Bor (List ℕ))) → length (text_in text) ≤ 1
@@ -43,14 +43,6 @@ module _ (k : CommandName) (words : List (List ℕ)) (reading : Reading) (read :
       → HasLateFile (file_count k) (file_names reading.files) (after_end words) e → ¬ (IsCall k c words)
   late_file c e late call = late_refused k c words call read.tokens read.are whole e
       (subst (λ (files : List (List ℕ)). HasLateFile (file_count k) files (after_end words) e) read.files late)
-
-  pub late_fault : (e : UsageError) → HasLateFile (file_count k) (file_names reading.files) (after_end words) e
-      → HasFault k words e
-  late_fault e late = inr (
-    read.tokens,
-    record { are = read.are; front = begun },
-    inl (subst (λ (files : List (List ℕ)). HasLateFile (file_count k) files (after_end words) e) read.files late),
-  )
 
   module _ (files : Files) (all : file_names files ≡ file_names reading.files ++ after_end words) where
     files_are : file_names files ≡ files_of read.tokens ++ after_end words
@@ -97,32 +89,25 @@ module _ (k : CommandName) (words : List (List ℕ)) (reading : Reading) (read :
     )
 
 -- which of the words that are no names of commands a text is, for the proof alone
-abbrev pub rank : List ℕ → ℕ
+abbrev rank : List ℕ → ℕ
 rank text = cond (bytes_eq text (codes "help")) 1 (cond (bytes_eq text (codes "--help")) 1
     (cond (bytes_eq text (codes "-h")) 1 (cond (bytes_eq text (codes "--version")) 2 0)))
 
 command_rank : (k : CommandName) → rank (command_text k) ≡ 0
-command_rank name.Info = refl
-command_rank name.Compare = refl
-command_rank name.Copy = refl
-command_rank name.Sum = refl
-command_rank name.Stats = refl
-command_rank name.Show = refl
-command_rank name.Diff = refl
-command_rank name.Plot = refl
+command_rank k = eqb-true _ 0 (each_command (λ j. eqb (rank (command_text j)) 0) refl k)
 
 help_rank : (word : List ℕ) → IsHelpWord word → rank word ≡ 1
 help_rank word (inl is) = ap rank is
 help_rank word (inr (inl is)) = ap rank is
 help_rank word (inr (inr is)) = ap rank is
 
-pub no_help_word : (k : CommandName) (word : List ℕ) → word ≡ command_text k → IsHelpWord word → ⊥
+no_help_word : (k : CommandName) (word : List ℕ) → word ≡ command_text k → IsHelpWord word → ⊥
 no_help_word k word is help = omega (arith, sym (ap rank is ∙ command_rank k), help_rank word help)
 
-pub no_version_word : (k : CommandName) → version_word ≡ command_text k → ⊥
+no_version_word : (k : CommandName) → version_word ≡ command_text k → ⊥
 no_version_word k is = omega (arith, ap rank is ∙ command_rank k)
 
-pub help_no_version : (word : List ℕ) → IsHelpWord word → word ≡ version_word → ⊥
+help_no_version : (word : List ℕ) → IsHelpWord word → word ≡ version_word → ⊥
 help_no_version word help is = omega (arith, sym (ap rank is), help_rank word help)
 
 first_of : (x y : List ℕ) (xs ys : List (List ℕ)) → x ∷ xs ≡ y ∷ ys → x ≡ y
@@ -144,84 +129,13 @@ module _ (k : CommandName) (words rest : List (List ℕ)) (is : words ≡ comman
   only_calls none (command.Help topic) written =
       no_help_word k written.0 (first_of _ _ _ rest (sym written.2 ∙ is)) written.1
   only_calls none command.Version written = no_version_word k (first_of _ _ [] rest (sym written ∙ is))
-  only_calls none (command.Info file o) written =
-      none _ (named_call _ written.name written.rest written.named written.call)
-  only_calls none (command.Compare first second o) written =
-      none _ (named_call _ written.name written.rest written.named written.call)
-  only_calls none (command.Copy input output o) written =
-      none _ (named_call _ written.name written.rest written.named written.call)
-  only_calls none (command.Sum file o) written =
-      none _ (named_call _ written.name written.rest written.named written.call)
-  only_calls none (command.Stats file o) written =
-      none _ (named_call _ written.name written.rest written.named written.call)
-  only_calls none (command.Show input output o) written =
-      none _ (named_call _ written.name written.rest written.named written.call)
-  only_calls none (command.Diff first second output o) written =
-      none _ (named_call _ written.name written.rest written.named written.call)
-  only_calls none (command.Plot first second output o) written =
+  only_calls none (command.Call _ _ _ _ _) written =
       none _ (named_call _ written.name written.rest written.named written.call)
 
--- a word that is no name of a command begins no call
-module _ (word : List ℕ) (rest : List (List ℕ)) (no_name : (k : CommandName) → word ≢ command_text k) where
-  pub no_calls : ¬ (IsHelpWord word) → word ≢ version_word → (c : Command) → ¬ (IsWrittenAs (word ∷ rest) c)
-  no_calls no_help no_version (command.Help topic) written =
-      no_help (subst IsHelpWord (sym (first_of word _ rest _ written.2)) written.1)
-  no_calls no_help no_version command.Version written = no_version (first_of word _ rest [] written)
-  no_calls no_help no_version (command.Info file o) written =
-      no_name written.name (first_of word _ rest written.rest written.named)
-  no_calls no_help no_version (command.Compare first second o) written =
-      no_name written.name (first_of word _ rest written.rest written.named)
-  no_calls no_help no_version (command.Copy input output o) written =
-      no_name written.name (first_of word _ rest written.rest written.named)
-  no_calls no_help no_version (command.Sum file o) written =
-      no_name written.name (first_of word _ rest written.rest written.named)
-  no_calls no_help no_version (command.Stats file o) written =
-      no_name written.name (first_of word _ rest written.rest written.named)
-  no_calls no_help no_version (command.Show input output o) written =
-      no_name written.name (first_of word _ rest written.rest written.named)
-  no_calls no_help no_version (command.Diff first second output o) written =
-      no_name written.name (first_of word _ rest written.rest written.named)
-  no_calls no_help no_version (command.Plot first second output o) written =
-      no_name written.name (first_of word _ rest written.rest written.named)
-
-  pub only_help : IsHelpWord word → ((topic : Option CommandName) → rest ≢ topic_words topic)
-      → (c : Command) → ¬ (IsWrittenAs (word ∷ rest) c)
-  only_help help none (command.Help topic) written = none topic (rest_of word _ rest _ written.2)
-  only_help help none command.Version written = help_no_version word help (first_of word _ rest [] written)
-  only_help help none (command.Info file o) written =
-      no_name written.name (first_of word _ rest written.rest written.named)
-  only_help help none (command.Compare first second o) written =
-      no_name written.name (first_of word _ rest written.rest written.named)
-  only_help help none (command.Copy input output o) written =
-      no_name written.name (first_of word _ rest written.rest written.named)
-  only_help help none (command.Sum file o) written =
-      no_name written.name (first_of word _ rest written.rest written.named)
-  only_help help none (command.Stats file o) written =
-      no_name written.name (first_of word _ rest written.rest written.named)
-  only_help help none (command.Show input output o) written =
-      no_name written.name (first_of word _ rest written.rest written.named)
-  only_help help none (command.Diff first second output o) written =
-      no_name written.name (first_of word _ rest written.rest written.named)
-  only_help help none (command.Plot first second output o) written =
-      no_name written.name (first_of word _ rest written.rest written.named)
-
-  pub only_version : word ≡ version_word → rest ≢ [] → (c : Command) → ¬ (IsWrittenAs (word ∷ rest) c)
-  only_version version some (command.Help topic) written =
-      help_no_version written.0 written.1 (sym (first_of word _ rest _ written.2) ∙ version)
-  only_version version some command.Version written = some (rest_of word _ rest [] written)
-  only_version version some (command.Info file o) written =
-      no_name written.name (first_of word _ rest written.rest written.named)
-  only_version version some (command.Compare first second o) written =
-      no_name written.name (first_of word _ rest written.rest written.named)
-  only_version version some (command.Copy input output o) written =
-      no_name written.name (first_of word _ rest written.rest written.named)
-  only_version version some (command.Sum file o) written =
-      no_name written.name (first_of word _ rest written.rest written.named)
-  only_version version some (command.Stats file o) written =
-      no_name written.name (first_of word _ rest written.rest written.named)
-  only_version version some (command.Show input output o) written =
-      no_name written.name (first_of word _ rest written.rest written.named)
-  only_version version some (command.Diff first second output o) written =
-      no_name written.name (first_of word _ rest written.rest written.named)
-  only_version version some (command.Plot first second output o) written =
-      no_name written.name (first_of word _ rest written.rest written.named)
+-- a word for help begins no other call than that for help
+pub only_help : (word : List ℕ) (rest : List (List ℕ)) → ((k : CommandName) → word ≢ command_text k) → IsHelpWord word
+    → ((topic : Option CommandName) → rest ≢ topic_words topic) → (c : Command) → ¬ (IsWrittenAs (word ∷ rest) c)
+only_help word rest no_name help none (command.Help topic) written = none topic (rest_of word _ rest _ written.2)
+only_help word rest no_name help none command.Version written = help_no_version word help (first_of word _ rest [] written)
+only_help word rest no_name help none (command.Call _ _ _ _ _) written =
+    no_name written.name (first_of word _ rest written.rest written.named)

@@ -6,7 +6,7 @@ use Rattle.std.specs.Int.{IsInRange}
 use Rattle.std.specs.Str.Parse.{ParsesUnsigned}
 use Rattle.std.proofs.lemmas.Fmt.{decimal_injective, digits_decimal}
 use Rattle.std.proofs.lemmas.Str.Parse.{not_in_digits}
-use Rattle.std.proofs.lemmas.Str.Pattern.{IsSplitOnceResult, split_after, split_parts}
+use Rattle.std.proofs.lemmas.Str.Pattern.{IsSplitOnceResult, split_after}
 use denote.Ref.{Bor}
 use Rattle.v_frame_y4m.proofs.NumberTexts.{own, parsed}
 use Rattle.yuv_words.specs.Values.{IsNumber, SpellsRaw, SpellsRectangle}
@@ -88,13 +88,6 @@ module _ (mark : ℕ) (apart : ¬ (IsInRange 48 57 mark)) where
   no_number bs digits rest ascii splits none n tail small is =
       let cut = split_after mark bs (decimal n) tail (Some (digits, rest)) splits ascii is (number_lacks n small) in
       none n (cut.0, small)
-
-  pub numbers_cut : (bs : List ℕ) (digits rest : Bor (List ℕ)) (n : ℕ) → mark < 128
-      → IsSplitOnceResult mark bs (Some (digits, rest)) → IsNumber n digits.now
-      → bs ≡ decimal n ++ mark ∷ rest.now
-  numbers_cut bs digits rest n ascii splits is =
-      let parts = split_parts mark bs (Some (digits, rest)) splits ascii in
-      parts.0 ∙ ap (λ (x : List ℕ). x ++ mark ∷ rest.now) is.0
 
 module _ {E : Type 0} (bs : List ℕ) (plain : get_or bs 0 0 ≢ 43) (short : get_or bs 0 0 ≡ 48 → length bs ≡ 1) where
   pub parsed_number : (r : Result ℕ E) → ParsesUnsigned 64 10 bs r

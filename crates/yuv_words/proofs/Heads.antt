@@ -1,75 +1,24 @@
 -- The first word of a token tells the token, so words are read into tokens in one way.
 use Rattle.std.proofs.Common.{ℕ, ◌≡◌, ◌≢◌, ◌<◌, true, false, List, [], ◌∷◌, ◌++◌, length, get_or, drop}
 use Rattle.std.proofs.Common.{refl, sym, ◌∙◌, ap, subst, append_assoc, rules, inl, inr}
+use Rattle.std.specs.Cmp.Lexicographic.{bytes_decides}
 use Rattle.std.specs.Prelude.{All}
+use Rattle.std.specs.Str.{bytes_eq}
 use Rattle.std.proofs.lemmas.List.Elements.{All-head, All-tail}
 use Rattle.yuv_words.specs.Faults.{Names}
 use Rattle.yuv_words.specs.Names.{option_text, takes_value}
 use Rattle.yuv_words.specs.Words.{joined_text, spelled, token_words, Apart, File, Flag, IsFileWord, IsToken, Joined}
 use Rattle.yuv_words.specs.Words.{Token}
 use Rattle.yuv_words.specs.declared.option_name.OptionName.{OptionName}
-use Rattle.yuv_words.specs.declared.option_name.OptionName.TheVariants as option
 use Rattle.yuv_words.proofs.Cuts.{cut_same, inside, lacks_from, marked, plain, tails, Lacks}
-use Rattle.yuv_words.proofs.Places.{one_option}
-
-text_plain : (n : OptionName) → plain 61 (option_text n) ≡ true
-text_plain option.Header = refl
-text_plain option.Ssim = refl
-text_plain option.Frames = refl
-text_plain option.Exact = refl
-text_plain option.Csv = refl
-text_plain option.Json = refl
-text_plain option.Half = refl
-text_plain option.Planes = refl
-text_plain option.Histogram = refl
-text_plain option.RawOutput = refl
-text_plain option.Progress = refl
-text_plain option.Raw = refl
-text_plain option.RawSecond = refl
-text_plain option.MaxPixels = refl
-text_plain option.Skip = refl
-text_plain option.SkipSecond = refl
-text_plain option.Count = refl
-text_plain option.Crop = refl
-text_plain option.Format = refl
-text_plain option.Rate = refl
-text_plain option.Aspect = refl
-text_plain option.Frame = refl
-text_plain option.Matrix = refl
-text_plain option.Range = refl
-text_plain option.Plane = refl
-text_plain option.Gain = refl
+use Rattle.yuv_words.proofs.Places.{each_option, one_option}
 
 pub text_dashed : (n : OptionName) → option_text n ≡ 45 ∷ 45 ∷ drop 2 (option_text n)
-text_dashed option.Header = refl
-text_dashed option.Ssim = refl
-text_dashed option.Frames = refl
-text_dashed option.Exact = refl
-text_dashed option.Csv = refl
-text_dashed option.Json = refl
-text_dashed option.Half = refl
-text_dashed option.Planes = refl
-text_dashed option.Histogram = refl
-text_dashed option.RawOutput = refl
-text_dashed option.Progress = refl
-text_dashed option.Raw = refl
-text_dashed option.RawSecond = refl
-text_dashed option.MaxPixels = refl
-text_dashed option.Skip = refl
-text_dashed option.SkipSecond = refl
-text_dashed option.Count = refl
-text_dashed option.Crop = refl
-text_dashed option.Format = refl
-text_dashed option.Rate = refl
-text_dashed option.Aspect = refl
-text_dashed option.Frame = refl
-text_dashed option.Matrix = refl
-text_dashed option.Range = refl
-text_dashed option.Plane = refl
-text_dashed option.Gain = refl
+text_dashed n = (bytes_decides _ _).0
+    (each_option (λ m. bytes_eq (option_text m) (45 ∷ 45 ∷ drop 2 (option_text m))) refl n)
 
 pub text_lacks : (n : OptionName) → Lacks 61 (option_text n)
-text_lacks n = lacks_from 61 (option_text n) (text_plain n)
+text_lacks n = lacks_from 61 (option_text n) (each_option (λ m. plain 61 (option_text m)) refl n)
 
 pub alone_or_joined : (n m : OptionName) (value : List ℕ) → option_text n ≢ joined_text m value
 alone_or_joined n m value is = text_lacks n (length (option_text m))

@@ -1,6 +1,7 @@
 -- Where words have a fault, they are no call.
 use Rattle.std.proofs.Common.{ℕ, ◌≡◌, ◌≢◌, ◌<◌, true, false, List, [], ◌∷◌, ◌++◌, length, refl, sym, ◌∙◌, ap}
-use Rattle.std.proofs.Common.{subst, arith, rules, inl, inr}
+use Rattle.std.proofs.Common.{subst, arith, eqb, rules, inl, inr, take}
+use Rattle.std.proofs.lemmas.Bool.{eqb-true}
 use Rattle.std.specs.Prelude.{flat_map, if◌then◌else◌, All}
 use Rattle.std.proofs.lemmas.List.{append-nil}
 use Rattle.std.proofs.lemmas.List.Concat.{flat_map-append}
@@ -15,26 +16,19 @@ use Rattle.yuv_words.specs.Words.{value_in, values_of, Apart, File, Flag, IsFile
 use Rattle.yuv_words.specs.declared.command.Command.{Command}
 use Rattle.yuv_words.specs.declared.command.Command.TheVariants as command
 use Rattle.yuv_words.specs.declared.command.CommandName.{CommandName}
-use Rattle.yuv_words.specs.declared.command.CommandName.TheVariants as name
 use Rattle.yuv_words.specs.declared.error.UsageError.{UsageError}
 use Rattle.yuv_words.specs.declared.error.UsageError.TheVariants as fault
 use Rattle.yuv_words.specs.declared.option_name.OptionName.{OptionName}
 use Rattle.yuv_words.proofs.Heads.{alone_or_joined, go_on, head_of, joined_once, names_once, no_first, option_no_file, Behind}
 use Rattle.yuv_words.proofs.Cuts.{tails}
-use Rattle.yuv_words.proofs.Places.{one_option}
+use Rattle.yuv_words.proofs.Places.{each_command, one_option}
 
 -- a command has as many files as it takes
 pub says_count : (given : OptionName → List (List ℕ)) (k : CommandName) (c : Command) (files : List (List ℕ))
     → Says given k c files → length files ≡ file_count k
-says_count given name.Info (command.Info file o) files says = ap length says.0
-says_count given name.Compare (command.Compare first second o) files says = ap length says.0
-says_count given name.Copy (command.Copy input output o) files says = ap length says.0
-says_count given name.Sum (command.Sum file o) files says = ap length says.0
-says_count given name.Stats (command.Stats file o) files says = ap length says.0
-says_count given name.Show (command.Show input output o) files says = ap length says.0
-says_count given name.Diff (command.Diff first second output o) files says = ap length says.0
-says_count given name.Plot (command.Plot first second output o) files says = ap length says.0
-says_count given _ _ files says = absurd says
+says_count given k (command.Call j first second third o) files says = ap length says.1
+    ∙ eqb-true _ _ (each_command (λ n. eqb (length (take (file_count n) (first.now ∷ second.now ∷ third.now ∷ []))) (file_count n)) refl k)
+says_count given k _ files says = absurd says
 
 -- a token that is an option
 abbrev pub IsOf : OptionName → Token → Type 0
@@ -212,14 +206,7 @@ module _ (k : CommandName) (c : Command) (words : List (List ℕ)) (call : IsCal
       let long : length (files_of tokens) < length (files_of call.tokens ++ after_end words) = rw files
       (longer_still (files_of tokens) (files_of next.more) (after_end words) file.now) in
       omega (arith, long, count, many)
-  word_refused fault.NoCommand has = absurd has
-  word_refused (fault.UnknownCommand _) has = absurd has
-  word_refused (fault.ExtraWord _) has = absurd has
-  word_refused (fault.NotAValue _ _) has = absurd has
-  word_refused (fault.NoPixels _ _) has = absurd has
-  word_refused fault.TwoForms has = absurd has
-  word_refused fault.MissingFile has = absurd has
-  word_refused fault.NotUnicode has = absurd has
+  word_refused _ has = absurd has
 
   -- the tokens of a call are those that were read
   pub same_tokens : (tokens : List Token) → All IsToken tokens → before_end words ≡ spelled tokens → call.tokens ≡ tokens
@@ -239,16 +226,4 @@ module _ (k : CommandName) (c : Command) (words : List (List ℕ)) (call : IsCal
       rw files
       (longer_inside (files_of tokens) before behind file.now) in
       omega (arith, long, count, many)
-  late_refused tokens are front fault.NoCommand has = absurd has
-  late_refused tokens are front (fault.UnknownCommand _) has = absurd has
-  late_refused tokens are front (fault.ExtraWord _) has = absurd has
-  late_refused tokens are front (fault.UnknownOption _) has = absurd has
-  late_refused tokens are front (fault.NotOfCommand _ _) has = absurd has
-  late_refused tokens are front (fault.Repeated _) has = absurd has
-  late_refused tokens are front (fault.MissingValue _) has = absurd has
-  late_refused tokens are front (fault.NeedlessValue _ _) has = absurd has
-  late_refused tokens are front (fault.NotAValue _ _) has = absurd has
-  late_refused tokens are front (fault.NoPixels _ _) has = absurd has
-  late_refused tokens are front fault.TwoForms has = absurd has
-  late_refused tokens are front fault.MissingFile has = absurd has
-  late_refused tokens are front fault.NotUnicode has = absurd has
+  late_refused tokens are front _ has = absurd has

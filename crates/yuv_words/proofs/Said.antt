@@ -1,20 +1,17 @@
 -- What is given says no value.
 use Rattle.std.proofs.Common.{ℕ, ◌≡◌, ◌<◌, List, [], ◌∷◌, ◌++◌, length, get_or, sym, ◌∙◌, ap, subst, arith, rules, inl, inr}
-use Rattle.std.proofs.Common.{true, refl, append-nil}
+use Rattle.std.proofs.Common.{refl, append-nil}
 use Rattle.std.specs.Prelude.{None, Option, Some, ◌⊎◌}
 use Rattle.v_frame_y4m.specs.Header.{ratio_text, FitsRatio}
-use Rattle.v_frame_y4m.specs.declared.colour.Colour.TheVariants as colour
-use Rattle.v_frame_y4m.specs.declared.colour.Depth.TheVariants as depth
 use Rattle.v_frame_y4m.specs.declared.header.Ratio.{Ratio}
-use Rattle.v_frame_semi_planar.specs.declared.format.SemiPlanarFormat.TheVariants as layout
 use Rattle.yuv_words.specs.Commands.{SaysValue}
 use Rattle.v_frame_formats.specs.Formats.{ffmpeg_name, short_name, IsFormat}
 use Rattle.yuv_words.specs.Values.{IsRaw, IsRectangle, SpellsFormat, SpellsRaw, SpellsRectangle}
 use Rattle.yuv_words.specs.declared.command.RawVideo.{RawVideo}
 use Rattle.yuv_words.specs.declared.command.Rectangle.{Rectangle}
 use Rattle.v_frame_formats.specs.declared.format.VideoFormat.{VideoFormat}
-use Rattle.v_frame_formats.specs.declared.format.VideoFormat.TheVariants.{Planar, SemiPlanar}
 use Rattle.yuv_words.proofs.Cuts.{cut_same, inside, lacks_from, marked, one_rectangle, one_size, plain, Lacks}
+use Rattle.v_frame_formats.proofs.Places.{each_format}
 
 nothing : {A : Type 0} (x : A) (xs : List A) → [] ≡ x ∷ xs → ⊥
 nothing x xs is = search rules
@@ -47,85 +44,11 @@ no_raw given word value is spelled (inr zero_high) = says_none IsRaw given word 
     let same = one_size raw value word spells.0 spelled in omega (arith, spells.2, same.1, zero_high))
 
 -- no name of a format has an at sign
-short_plain : (f : VideoFormat) → plain 64 (short_name f) ≡ true
-short_plain (Planar colour.Unstated) = refl
-short_plain (Planar colour.Yuv420) = refl
-short_plain (Planar colour.Yuv420Jpeg) = refl
-short_plain (Planar colour.Yuv420Mpeg2) = refl
-short_plain (Planar colour.Yuv420Paldv) = refl
-short_plain (Planar colour.Yuv411) = refl
-short_plain (Planar colour.Yuv422) = refl
-short_plain (Planar colour.Yuv444) = refl
-short_plain (Planar colour.Mono) = refl
-short_plain (Planar (colour.Yuv420HighDepth depth.Nine)) = refl
-short_plain (Planar (colour.Yuv420HighDepth depth.Ten)) = refl
-short_plain (Planar (colour.Yuv420HighDepth depth.Twelve)) = refl
-short_plain (Planar (colour.Yuv420HighDepth depth.Fourteen)) = refl
-short_plain (Planar (colour.Yuv420HighDepth depth.Sixteen)) = refl
-short_plain (Planar (colour.Yuv422HighDepth depth.Nine)) = refl
-short_plain (Planar (colour.Yuv422HighDepth depth.Ten)) = refl
-short_plain (Planar (colour.Yuv422HighDepth depth.Twelve)) = refl
-short_plain (Planar (colour.Yuv422HighDepth depth.Fourteen)) = refl
-short_plain (Planar (colour.Yuv422HighDepth depth.Sixteen)) = refl
-short_plain (Planar (colour.Yuv444HighDepth depth.Nine)) = refl
-short_plain (Planar (colour.Yuv444HighDepth depth.Ten)) = refl
-short_plain (Planar (colour.Yuv444HighDepth depth.Twelve)) = refl
-short_plain (Planar (colour.Yuv444HighDepth depth.Fourteen)) = refl
-short_plain (Planar (colour.Yuv444HighDepth depth.Sixteen)) = refl
-short_plain (Planar (colour.MonoHighDepth depth.Nine)) = refl
-short_plain (Planar (colour.MonoHighDepth depth.Ten)) = refl
-short_plain (Planar (colour.MonoHighDepth depth.Twelve)) = refl
-short_plain (Planar (colour.MonoHighDepth depth.Fourteen)) = refl
-short_plain (Planar (colour.MonoHighDepth depth.Sixteen)) = refl
-short_plain (SemiPlanar layout.Nv12) = refl
-short_plain (SemiPlanar layout.Nv21) = refl
-short_plain (SemiPlanar layout.Nv16) = refl
-short_plain (SemiPlanar layout.Nv24) = refl
-short_plain (SemiPlanar layout.P010) = refl
-short_plain (SemiPlanar layout.P012) = refl
-short_plain (SemiPlanar layout.P016) = refl
-
-ffmpeg_plain : (f : VideoFormat) → plain 64 (ffmpeg_name f) ≡ true
-ffmpeg_plain (Planar colour.Unstated) = refl
-ffmpeg_plain (Planar colour.Yuv420) = refl
-ffmpeg_plain (Planar colour.Yuv420Jpeg) = refl
-ffmpeg_plain (Planar colour.Yuv420Mpeg2) = refl
-ffmpeg_plain (Planar colour.Yuv420Paldv) = refl
-ffmpeg_plain (Planar colour.Yuv411) = refl
-ffmpeg_plain (Planar colour.Yuv422) = refl
-ffmpeg_plain (Planar colour.Yuv444) = refl
-ffmpeg_plain (Planar colour.Mono) = refl
-ffmpeg_plain (Planar (colour.Yuv420HighDepth depth.Nine)) = refl
-ffmpeg_plain (Planar (colour.Yuv420HighDepth depth.Ten)) = refl
-ffmpeg_plain (Planar (colour.Yuv420HighDepth depth.Twelve)) = refl
-ffmpeg_plain (Planar (colour.Yuv420HighDepth depth.Fourteen)) = refl
-ffmpeg_plain (Planar (colour.Yuv420HighDepth depth.Sixteen)) = refl
-ffmpeg_plain (Planar (colour.Yuv422HighDepth depth.Nine)) = refl
-ffmpeg_plain (Planar (colour.Yuv422HighDepth depth.Ten)) = refl
-ffmpeg_plain (Planar (colour.Yuv422HighDepth depth.Twelve)) = refl
-ffmpeg_plain (Planar (colour.Yuv422HighDepth depth.Fourteen)) = refl
-ffmpeg_plain (Planar (colour.Yuv422HighDepth depth.Sixteen)) = refl
-ffmpeg_plain (Planar (colour.Yuv444HighDepth depth.Nine)) = refl
-ffmpeg_plain (Planar (colour.Yuv444HighDepth depth.Ten)) = refl
-ffmpeg_plain (Planar (colour.Yuv444HighDepth depth.Twelve)) = refl
-ffmpeg_plain (Planar (colour.Yuv444HighDepth depth.Fourteen)) = refl
-ffmpeg_plain (Planar (colour.Yuv444HighDepth depth.Sixteen)) = refl
-ffmpeg_plain (Planar (colour.MonoHighDepth depth.Nine)) = refl
-ffmpeg_plain (Planar (colour.MonoHighDepth depth.Ten)) = refl
-ffmpeg_plain (Planar (colour.MonoHighDepth depth.Twelve)) = refl
-ffmpeg_plain (Planar (colour.MonoHighDepth depth.Fourteen)) = refl
-ffmpeg_plain (Planar (colour.MonoHighDepth depth.Sixteen)) = refl
-ffmpeg_plain (SemiPlanar layout.Nv12) = refl
-ffmpeg_plain (SemiPlanar layout.Nv21) = refl
-ffmpeg_plain (SemiPlanar layout.Nv16) = refl
-ffmpeg_plain (SemiPlanar layout.Nv24) = refl
-ffmpeg_plain (SemiPlanar layout.P010) = refl
-ffmpeg_plain (SemiPlanar layout.P012) = refl
-ffmpeg_plain (SemiPlanar layout.P016) = refl
-
 pub name_lacks : (f : VideoFormat) (name : List ℕ) → IsFormat f name → Lacks 64 name
-name_lacks f name (named, inl is) = subst (Lacks 64) (sym is) (lacks_from 64 (short_name f) (short_plain f))
-name_lacks f name (named, inr is) = subst (Lacks 64) (sym is) (lacks_from 64 (ffmpeg_name f) (ffmpeg_plain f))
+name_lacks f name (named, inl is) = subst (Lacks 64) (sym is)
+    (lacks_from 64 (short_name f) (each_format (λ g. plain 64 (short_name g)) refl f named))
+name_lacks f name (named, inr is) = subst (Lacks 64) (sym is)
+    (lacks_from 64 (ffmpeg_name f) (each_format (λ g. plain 64 (ffmpeg_name g)) refl f named))
 
 -- what stands in front of the at sign is the format, and what is behind it the rate
 pub record HasRate (f : VideoFormat) (name rest : List ℕ) : Type 0 where

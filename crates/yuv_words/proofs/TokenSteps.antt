@@ -15,7 +15,7 @@ use Rattle.yuv_words.specs.declared.option_name.OptionName.{OptionName}
 use Rattle.yuv_words.specs.declared.reading.Reading.{Reading}
 use Rattle.yuv_words.proofs.Places.{one_option}
 
-pub push_flat : {A B : Type 0} (f : A → List B) (xs : List A) (x : A) → flat_map f (xs ++ x ∷ []) ≡ flat_map f xs ++ f x
+push_flat : {A B : Type 0} (f : A → List B) (xs : List A) (x : A) → flat_map f (xs ++ x ∷ []) ≡ flat_map f xs ++ f x
 push_flat f xs x = flat_map-append f xs (x ∷ []) ∙ ap (λ ys. flat_map f xs ++ ys) (append-nil (f x))
 
 bool_cases : (b : Bool) → (b ≡ true) ⊎ (b ≡ false)
@@ -23,7 +23,7 @@ bool_cases true = inl refl
 bool_cases false = inr refl
 
 -- two options are one or are not
-pub same_cases : (n option : OptionName) → ((n ≡ option) × (is_same n option ≡ true)) ⊎ ((n ≢ option) × (is_same n option ≡ false))
+same_cases : (n option : OptionName) → ((n ≡ option) × (is_same n option ≡ true)) ⊎ ((n ≢ option) × (is_same n option ≡ false))
 same_cases n option =
     let decides = bytes_decides (option_text n) (option_text option) in
     elim (bool_cases (is_same n option)) [

@@ -61,21 +61,7 @@ takes_value Planes = false
 takes_value Histogram = false
 takes_value RawOutput = false
 takes_value Progress = false
-takes_value Raw = true
-takes_value RawSecond = true
-takes_value MaxPixels = true
-takes_value Skip = true
-takes_value SkipSecond = true
-takes_value Count = true
-takes_value Crop = true
-takes_value Format = true
-takes_value Rate = true
-takes_value Aspect = true
-takes_value Frame = true
-takes_value Matrix = true
-takes_value Range = true
-takes_value Plane = true
-takes_value Gain = true
+takes_value _ = true
 
 abbrev pub options_of : CommandName → List OptionName
 options_of Info = Header ∷ Raw ∷ MaxPixels ∷ Progress ∷ []

@@ -1,47 +1,26 @@
 -- What words say while they are read.
-use Rattle.std.specs.Prelude.{ℕ, ◌≡◌, ◌++◌, All, Contains, IfSome, List, [], ◌∷◌, true, slice_index_or, Option, Some, None}
+use Rattle.std.specs.Prelude.{ℕ, ◌≡◌, ◌⊎◌, ◌++◌, All, Contains, IfSome, List, [], ◌∷◌, true, slice_index_or, Option, Some, None}
 use Rattle.std.specs.Borrow.{Bor}
-use Rattle.yuv_words.specs.Faults.{IsUnknown}
-use Rattle.yuv_words.specs.Names.{option_text, options_of, takes_value}
+use denote.Enum.Declared.{tag_of}
+use Rattle.yuv_words.specs.Commands.{Says}
+use Rattle.yuv_words.specs.Faults.{HasFileFault, HasValueFault, IsUnknown}
+use Rattle.yuv_words.specs.Names.{file_count, option_text, options_of, takes_value}
 use Rattle.yuv_words.specs.Words.{files_of, joined_text, spelled, values_of, IsFileWord, IsToken, Token}
+use Rattle.yuv_words.specs.contracts.option_name.OptionName.{the_type}
+use Rattle.yuv_words.specs.declared.command.Command.{Command}
 use Rattle.yuv_words.specs.declared.command.CommandName.{CommandName}
+use Rattle.yuv_words.specs.declared.error.UsageError.{UsageError}
 use Rattle.yuv_words.specs.declared.files.Files.{Files}
 use Rattle.yuv_words.specs.declared.files.Files.TheVariants.{Zero, One, Two, Three}
 use Rattle.yuv_words.specs.declared.given.Given.{Given}
 use Rattle.yuv_words.specs.declared.option_name.OptionName.{OptionName}
-use Rattle.yuv_words.specs.declared.option_name.OptionName.TheVariants as option
 use Rattle.yuv_words.specs.declared.reading.Reading.{Reading}
 use Rattle.yuv_words.specs.declared.word.Word.{Word}
 use Rattle.yuv_words.specs.declared.word.Word.TheVariants as word
 
 -- the place of an option among all
 abbrev pub option_place : OptionName → ℕ
-option_place option.Header = 0
-option_place option.Ssim = 1
-option_place option.Frames = 2
-option_place option.Exact = 3
-option_place option.Csv = 4
-option_place option.Json = 5
-option_place option.Half = 6
-option_place option.Planes = 7
-option_place option.Histogram = 8
-option_place option.RawOutput = 9
-option_place option.Progress = 10
-option_place option.Raw = 11
-option_place option.RawSecond = 12
-option_place option.MaxPixels = 13
-option_place option.Skip = 14
-option_place option.SkipSecond = 15
-option_place option.Count = 16
-option_place option.Crop = 17
-option_place option.Format = 18
-option_place option.Rate = 19
-option_place option.Aspect = 20
-option_place option.Frame = 21
-option_place option.Matrix = 22
-option_place option.Range = 23
-option_place option.Plane = 24
-option_place option.Gain = 25
+option_place option = tag_of the_type option
 
 -- the text of a word that may be missing
 abbrev pub text_in : Option (Bor (List ℕ)) → List (List ℕ)
@@ -56,6 +35,14 @@ file_names Zero = []
 file_names (One first) = first.now ∷ []
 file_names (Two first second) = first.now ∷ second.now ∷ []
 file_names (Three first second third) = first.now ∷ second.now ∷ third.now ∷ []
+
+-- what is given and the files say the command
+abbrev pub IsSaid : Given → Files → CommandName → Command → Type 0
+IsSaid given files name command = Says (given_to given) name command (file_names files)
+
+abbrev pub HasSaidFault : Given → Files → CommandName → UsageError → Type 0
+HasSaidFault given files name error =
+    HasFileFault (file_count name) (file_names files) error ⊎ HasValueFault (given_to given) error
 
 -- the option whose value is the next word
 abbrev pub awaited : Option OptionName → List (List ℕ)

@@ -1,10 +1,9 @@
 //! Commands from the words of a call.
-ghost use Rattle.std.specs.Prelude.{◌≡◌, ◌≢◌, ◌↔◌, ◌⊎◌, ◌∷◌, IfErr, IfOk, IsSome, IsTrue, Option};
+ghost use Rattle.std.specs.Prelude.{◌≡◌, ◌≢◌, ◌↔◌, ◌∷◌, IfErr, IfOk, IsSome, IsTrue, Option};
 ghost use Rattle.yuv_words.specs.Calls.{topic_words, version_word, AsksHelp, IsCall, IsHelpOption, IsHelpWord, IsWrittenAs};
-ghost use Rattle.yuv_words.specs.Commands.{Says};
-ghost use Rattle.yuv_words.specs.Faults.{HasFault, HasFileFault, HasTopicFault, HasValueFault, IsRefusedFor};
-ghost use Rattle.yuv_words.specs.Names.{command_text, file_count};
-ghost use Rattle.yuv_words.specs.Reading.{file_names, given_to};
+ghost use Rattle.yuv_words.specs.Faults.{HasFault, HasTopicFault, IsRefusedFor};
+ghost use Rattle.yuv_words.specs.Names.{command_text};
+ghost use Rattle.yuv_words.specs.Reading.{HasSaidFault, IsSaid};
 ghost use Rattle.yuv_words.specs.Words.{texts_of};
 ghost use Rattle.yuv_words.specs.declared.command.Command.{Command as TheCommand};
 ghost use Rattle.yuv_words.specs.declared.command.CommandName.{CommandName as TheName};
@@ -13,10 +12,6 @@ use crate::command::{Command, CommandName};
 use crate::error::UsageError;
 use crate::files::Files;
 use crate::given::Given;
-use crate::options::{
-    compare_options, copy_options, diff_options, info_options, plot_options, show_options,
-    stats_options, sum_options,
-};
 use crate::reading::{cut_at_end, read_words};
 
 /// Reads the words of a call, without the program's own name.
@@ -125,146 +120,17 @@ fn command_of<'a>(
     files: &Files<'a>,
     given: &Given<'a>,
 ) -> Result<Command<'a>, UsageError<'a>>
-    ensures said { IfOk result (λ command. Says (given_to given.now) name command (file_names files.now)) }
-    ensures refused { IfErr result (λ _. (command : TheCommand)
-        → ¬ (Says (given_to given.now) name command (file_names files.now))) }
-    ensures fault { IfErr result (λ error. HasFileFault (file_count name) (file_names files.now) error
-        ⊎ HasValueFault (given_to given.now) error) }
+    ensures said { IfOk result (IsSaid given.now files.now name) }
+    ensures refused { IfErr result (λ _. (command : TheCommand) → ¬ (IsSaid given.now files.now name command)) }
+    ensures fault { IfErr result (HasSaidFault given.now files.now name) }
 {
-    match name {
-        CommandName::Info => info(files, given),
-        CommandName::Compare => compare(files, given),
-        CommandName::Copy => copy(files, given),
-        CommandName::Sum => sum(files, given),
-        CommandName::Stats => stats(files, given),
-        CommandName::Show => show(files, given),
-        CommandName::Diff => diff(files, given),
-        CommandName::Plot => plot(files, given),
-    }
-}
-
-/// Returns the call of `info`.
-fn info<'a>(files: &Files<'a>, given: &Given<'a>) -> Result<Command<'a>, UsageError<'a>>
-    ensures said { IfOk result (λ command. Says (given_to given.now) CommandName.Info command (file_names files.now)) }
-    ensures refused { IfErr result (λ _. (command : TheCommand)
-        → ¬ (Says (given_to given.now) CommandName.Info command (file_names files.now))) }
-    ensures fault { IfErr result (λ error. HasFileFault 1 (file_names files.now) error
-        ⊎ HasValueFault (given_to given.now) error) }
-{
-    let file = files.one()?;
-    let options = info_options(given)?;
-    Ok(Command::Info { file, options })
-}
-
-/// Returns the call of `compare`.
-fn compare<'a>(files: &Files<'a>, given: &Given<'a>) -> Result<Command<'a>, UsageError<'a>>
-    ensures said { IfOk result (λ command. Says (given_to given.now) CommandName.Compare command (file_names files.now)) }
-    ensures refused { IfErr result (λ _. (command : TheCommand)
-        → ¬ (Says (given_to given.now) CommandName.Compare command (file_names files.now))) }
-    ensures fault { IfErr result (λ error. HasFileFault 2 (file_names files.now) error
-        ⊎ HasValueFault (given_to given.now) error) }
-{
-    let (first, second) = files.two()?;
-    let options = compare_options(given)?;
-    Ok(Command::Compare {
+    let (first, second, third) = files.of(name)?;
+    let options = given.options()?;
+    Ok(Command::Call {
+        name,
         first,
         second,
-        options,
-    })
-}
-
-/// Returns the call of `copy`.
-fn copy<'a>(files: &Files<'a>, given: &Given<'a>) -> Result<Command<'a>, UsageError<'a>>
-    ensures said { IfOk result (λ command. Says (given_to given.now) CommandName.Copy command (file_names files.now)) }
-    ensures refused { IfErr result (λ _. (command : TheCommand)
-        → ¬ (Says (given_to given.now) CommandName.Copy command (file_names files.now))) }
-    ensures fault { IfErr result (λ error. HasFileFault 2 (file_names files.now) error
-        ⊎ HasValueFault (given_to given.now) error) }
-{
-    let (input, output) = files.two()?;
-    let options = copy_options(given)?;
-    Ok(Command::Copy {
-        input,
-        output,
-        options,
-    })
-}
-
-/// Returns the call of `sum`.
-fn sum<'a>(files: &Files<'a>, given: &Given<'a>) -> Result<Command<'a>, UsageError<'a>>
-    ensures said { IfOk result (λ command. Says (given_to given.now) CommandName.Sum command (file_names files.now)) }
-    ensures refused { IfErr result (λ _. (command : TheCommand)
-        → ¬ (Says (given_to given.now) CommandName.Sum command (file_names files.now))) }
-    ensures fault { IfErr result (λ error. HasFileFault 1 (file_names files.now) error
-        ⊎ HasValueFault (given_to given.now) error) }
-{
-    let file = files.one()?;
-    let options = sum_options(given)?;
-    Ok(Command::Sum { file, options })
-}
-
-/// Returns the call of `stats`.
-fn stats<'a>(files: &Files<'a>, given: &Given<'a>) -> Result<Command<'a>, UsageError<'a>>
-    ensures said { IfOk result (λ command. Says (given_to given.now) CommandName.Stats command (file_names files.now)) }
-    ensures refused { IfErr result (λ _. (command : TheCommand)
-        → ¬ (Says (given_to given.now) CommandName.Stats command (file_names files.now))) }
-    ensures fault { IfErr result (λ error. HasFileFault 1 (file_names files.now) error
-        ⊎ HasValueFault (given_to given.now) error) }
-{
-    let file = files.one()?;
-    let options = stats_options(given)?;
-    Ok(Command::Stats { file, options })
-}
-
-/// Returns the call of `show`.
-fn show<'a>(files: &Files<'a>, given: &Given<'a>) -> Result<Command<'a>, UsageError<'a>>
-    ensures said { IfOk result (λ command. Says (given_to given.now) CommandName.Show command (file_names files.now)) }
-    ensures refused { IfErr result (λ _. (command : TheCommand)
-        → ¬ (Says (given_to given.now) CommandName.Show command (file_names files.now))) }
-    ensures fault { IfErr result (λ error. HasFileFault 2 (file_names files.now) error
-        ⊎ HasValueFault (given_to given.now) error) }
-{
-    let (input, output) = files.two()?;
-    let options = show_options(given)?;
-    Ok(Command::Show {
-        input,
-        output,
-        options,
-    })
-}
-
-/// Returns the call of `diff`.
-fn diff<'a>(files: &Files<'a>, given: &Given<'a>) -> Result<Command<'a>, UsageError<'a>>
-    ensures said { IfOk result (λ command. Says (given_to given.now) CommandName.Diff command (file_names files.now)) }
-    ensures refused { IfErr result (λ _. (command : TheCommand)
-        → ¬ (Says (given_to given.now) CommandName.Diff command (file_names files.now))) }
-    ensures fault { IfErr result (λ error. HasFileFault 3 (file_names files.now) error
-        ⊎ HasValueFault (given_to given.now) error) }
-{
-    let (first, second, output) = files.three()?;
-    let options = diff_options(given)?;
-    Ok(Command::Diff {
-        first,
-        second,
-        output,
-        options,
-    })
-}
-
-/// Returns the call of `plot`.
-fn plot<'a>(files: &Files<'a>, given: &Given<'a>) -> Result<Command<'a>, UsageError<'a>>
-    ensures said { IfOk result (λ command. Says (given_to given.now) CommandName.Plot command (file_names files.now)) }
-    ensures refused { IfErr result (λ _. (command : TheCommand)
-        → ¬ (Says (given_to given.now) CommandName.Plot command (file_names files.now))) }
-    ensures fault { IfErr result (λ error. HasFileFault 3 (file_names files.now) error
-        ⊎ HasValueFault (given_to given.now) error) }
-{
-    let (first, second, output) = files.three()?;
-    let options = plot_options(given)?;
-    Ok(Command::Plot {
-        first,
-        second,
-        output,
+        third,
         options,
     })
 }

@@ -1,5 +1,6 @@
 //! The files of a call.
 ghost use Rattle.std.specs.Prelude.{List, ℕ, ◌≡◌, ◌≢◌, ◌++◌, ◌∷◌, [], length, IfOk, IfErr, IfNone, IfSome};
+ghost use Rattle.yuv_words.specs.Commands.{AreFiles};
 ghost use Rattle.yuv_words.specs.Faults.{HasFileFault, HasLateFile};
 ghost use Rattle.yuv_words.specs.Names.{file_count};
 ghost use Rattle.yuv_words.specs.Reading.{file_names};
@@ -50,8 +51,31 @@ impl<'a> Files<'a> {
         Ok(files)
     }
 
+    /// Returns the files of a command, and empty names behind them.
+    pub(crate) fn of(
+        &self,
+        command: CommandName,
+    ) -> Result<(&'a str, &'a str, &'a str), UsageError<'a>>
+        ensures said { IfOk result (λ names. AreFiles command names.0.now names.1.now names.2.now (file_names self.now)) }
+        ensures refused { IfErr result (λ _. (first second third : List ℕ)
+            → ¬ (AreFiles command first second third (file_names self.now))) }
+        ensures fault { IfErr result (HasFileFault (file_count command) (file_names self.now)) }
+    {
+        match command {
+            CommandName::Info | CommandName::Sum | CommandName::Stats => {
+                let first = self.one()?;
+                Ok((first, "", ""))
+            }
+            CommandName::Compare | CommandName::Copy | CommandName::Show => {
+                let (first, second) = self.two()?;
+                Ok((first, second, ""))
+            }
+            CommandName::Diff | CommandName::Plot => self.three(),
+        }
+    }
+
     /// Returns the one file.
-    pub(crate) fn one(&self) -> Result<&'a str, UsageError<'a>>
+    fn one(&self) -> Result<&'a str, UsageError<'a>>
         ensures said { IfOk result (λ file. file_names self.now ≡ file.now ∷ []) }
         ensures refused { IfErr result (λ _. (file : List ℕ) → file_names self.now ≢ file ∷ []) }
         ensures fault { IfErr result (HasFileFault 1 (file_names self.now)) }
@@ -65,7 +89,7 @@ impl<'a> Files<'a> {
     }
 
     /// Returns the two files.
-    pub(crate) fn two(&self) -> Result<(&'a str, &'a str), UsageError<'a>>
+    fn two(&self) -> Result<(&'a str, &'a str), UsageError<'a>>
         ensures said { IfOk result (λ files. file_names self.now ≡ files.0.now ∷ files.1.now ∷ []) }
         ensures refused { IfErr result (λ _. (first second : List ℕ)
             → file_names self.now ≢ first ∷ second ∷ []) }
@@ -79,7 +103,7 @@ impl<'a> Files<'a> {
     }
 
     /// Returns the three files.
-    pub(crate) fn three(&self) -> Result<(&'a str, &'a str, &'a str), UsageError<'a>>
+    fn three(&self) -> Result<(&'a str, &'a str, &'a str), UsageError<'a>>
         ensures said { IfOk result (λ files.
             file_names self.now ≡ files.0.now ∷ files.1.now ∷ files.2.now ∷ []) }
         ensures refused { IfErr result (λ _. (first second third : List ℕ)

@@ -1,13 +1,10 @@
 //! What is given to each option.
 ghost use Rattle.std.specs.Prelude.{◌≡◌, ◌↔◌, ◌⊎◌, length, IsTrue};
 
-use crate::command::{PlaneName, RawVideo, Rectangle};
+use crate::command::{Options, RawVideo, Rectangle, ReportForm};
 use crate::error::UsageError;
 use crate::option_name::{OPTION_COUNT, OptionName};
-use crate::values;
-use v_frame_formats::VideoFormat;
-use v_frame_rgb::{ColourRange, Standard};
-use v_frame_y4m::Ratio;
+use crate::values::{self, OptionValue};
 
 /// What is given to each option that stands among the words: its value, or nothing where it takes none.
 #[derive(Clone, Copy)]
@@ -18,18 +15,14 @@ pub(crate) struct Given<'a> {
 
 impl<'a> Given<'a> {
     ghost use Rattle.std.specs.Prelude.{List, ℕ, ◌≡◌, ◌≢◌, ◌⊎◌, ◌∷◌, [], length, IfOk, IfErr, Option};
-    ghost use Rattle.v_frame_rgb.specs.declared.standard.ColourRange.{ColourRange as TheRange};
-    ghost use Rattle.v_frame_rgb.specs.declared.standard.Standard.{Standard as TheStandard};
-    ghost use Rattle.v_frame_y4m.specs.declared.header.Ratio.{Ratio as TheRatio};
-    ghost use Rattle.yuv_words.specs.Commands.{times, SaysValue};
+    ghost use Rattle.yuv_words.specs.Commands.{is_csv, is_json, times, SaysOptions, SaysValue};
     ghost use Rattle.yuv_words.specs.Faults.{HasNoPixels, HasValueFault, IsNoValue, SpellsNone};
-    ghost use Rattle.v_frame_formats.specs.Formats.{IsFormat};
     ghost use Rattle.yuv_words.specs.Reading.{given_to, text_in};
-    ghost use Rattle.yuv_words.specs.Values.{IsColourRange, IsGain, IsMatrix, IsNumber, IsPlane, IsRatio, IsRaw, IsRectangle, SpellsRaw, SpellsRectangle};
-    ghost use Rattle.yuv_words.specs.declared.command.PlaneName.{PlaneName as ThePlane};
+    ghost use Rattle.yuv_words.specs.Values.{IsRaw, IsRectangle, SpellsRaw, SpellsRectangle};
+    ghost use Rattle.yuv_words.specs.declared.command.Options.{Options as TheOptions};
     ghost use Rattle.yuv_words.specs.declared.command.RawVideo.{RawVideo as TheRaw};
     ghost use Rattle.yuv_words.specs.declared.command.Rectangle.{Rectangle as TheRectangle};
-    ghost use Rattle.v_frame_formats.specs.declared.format.VideoFormat.{VideoFormat as TheFormat};
+    ghost use Rattle.yuv_words.specs.declared.command.ReportForm.{ReportForm as TheForm};
     ghost use Rattle.yuv_words.specs.declared.option_name.OptionName.{OptionName as TheOption};
 
     /// Returns what is given by no words.
@@ -63,120 +56,21 @@ impl<'a> Given<'a> {
         self.text(option).is_some()
     }
 
-    /// Returns the value of an option that takes a number.
-    pub(crate) fn number(&self, option: OptionName) -> Result<Option<u64>, UsageError<'a>>
-        requires { (text : List ℕ) → SpellsNone IsNumber text → IsNoValue option text }
-        ensures said { IfOk result (λ v. SaysValue IsNumber v (given_to self.now option)) }
-        ensures refused { IfErr result (λ _. (v : Option ℕ)
-            → ¬ (SaysValue IsNumber v (given_to self.now option))) }
+    /// Returns the value of an option.
+    pub(crate) fn value<T: OptionValue>(
+        &self,
+        option: OptionName,
+    ) -> Result<Option<T>, UsageError<'a>>
+        requires { (text : List ℕ) → SpellsNone T.Spells text → IsNoValue option text }
+        ensures said { IfOk result (λ v. SaysValue T.Spells v (given_to self.now option)) }
+        ensures refused { IfErr result (λ _. (v : Option T)
+            → ¬ (SaysValue T.Spells v (given_to self.now option))) }
         ensures fault { IfErr result (HasValueFault (given_to self.now)) }
     {
         let Some(word) = self.text(option) else {
             return Ok(None);
         };
-        match values::number(word) {
-            Some(value) => Ok(Some(value)),
-            None => Err(UsageError::NotAValue { option, word }),
-        }
-    }
-
-    /// Returns the value of an option that takes a gain.
-    pub(crate) fn gain(&self, option: OptionName) -> Result<Option<u16>, UsageError<'a>>
-        requires { (text : List ℕ) → SpellsNone IsGain text → IsNoValue option text }
-        ensures said { IfOk result (λ v. SaysValue IsGain v (given_to self.now option)) }
-        ensures refused { IfErr result (λ _. (v : Option ℕ)
-            → ¬ (SaysValue IsGain v (given_to self.now option))) }
-        ensures fault { IfErr result (HasValueFault (given_to self.now)) }
-    {
-        let Some(word) = self.text(option) else {
-            return Ok(None);
-        };
-        match values::gain(word) {
-            Some(value) => Ok(Some(value)),
-            None => Err(UsageError::NotAValue { option, word }),
-        }
-    }
-
-    /// Returns the value of an option that takes a ratio.
-    pub(crate) fn ratio(&self, option: OptionName) -> Result<Option<Ratio>, UsageError<'a>>
-        requires { (text : List ℕ) → SpellsNone IsRatio text → IsNoValue option text }
-        ensures said { IfOk result (λ v. SaysValue IsRatio v (given_to self.now option)) }
-        ensures refused { IfErr result (λ _. (v : Option TheRatio)
-            → ¬ (SaysValue IsRatio v (given_to self.now option))) }
-        ensures fault { IfErr result (HasValueFault (given_to self.now)) }
-    {
-        let Some(word) = self.text(option) else {
-            return Ok(None);
-        };
-        match values::ratio(word) {
-            Some(value) => Ok(Some(value)),
-            None => Err(UsageError::NotAValue { option, word }),
-        }
-    }
-
-    /// Returns the value of an option that takes a format.
-    pub(crate) fn format(&self, option: OptionName) -> Result<Option<VideoFormat>, UsageError<'a>>
-        requires { (text : List ℕ) → SpellsNone IsFormat text → IsNoValue option text }
-        ensures said { IfOk result (λ v. SaysValue IsFormat v (given_to self.now option)) }
-        ensures refused { IfErr result (λ _. (v : Option TheFormat)
-            → ¬ (SaysValue IsFormat v (given_to self.now option))) }
-        ensures fault { IfErr result (HasValueFault (given_to self.now)) }
-    {
-        let Some(word) = self.text(option) else {
-            return Ok(None);
-        };
-        match VideoFormat::named(word) {
-            Some(value) => Ok(Some(value)),
-            None => Err(UsageError::NotAValue { option, word }),
-        }
-    }
-
-    /// Returns the value of an option that takes a standard.
-    pub(crate) fn matrix(&self, option: OptionName) -> Result<Option<Standard>, UsageError<'a>>
-        requires { (text : List ℕ) → SpellsNone IsMatrix text → IsNoValue option text }
-        ensures said { IfOk result (λ v. SaysValue IsMatrix v (given_to self.now option)) }
-        ensures refused { IfErr result (λ _. (v : Option TheStandard)
-            → ¬ (SaysValue IsMatrix v (given_to self.now option))) }
-        ensures fault { IfErr result (HasValueFault (given_to self.now)) }
-    {
-        let Some(word) = self.text(option) else {
-            return Ok(None);
-        };
-        match values::matrix(word) {
-            Some(value) => Ok(Some(value)),
-            None => Err(UsageError::NotAValue { option, word }),
-        }
-    }
-
-    /// Returns the value of an option that takes a range.
-    pub(crate) fn range(&self, option: OptionName) -> Result<Option<ColourRange>, UsageError<'a>>
-        requires { (text : List ℕ) → SpellsNone IsColourRange text → IsNoValue option text }
-        ensures said { IfOk result (λ v. SaysValue IsColourRange v (given_to self.now option)) }
-        ensures refused { IfErr result (λ _. (v : Option TheRange)
-            → ¬ (SaysValue IsColourRange v (given_to self.now option))) }
-        ensures fault { IfErr result (HasValueFault (given_to self.now)) }
-    {
-        let Some(word) = self.text(option) else {
-            return Ok(None);
-        };
-        match values::range(word) {
-            Some(value) => Ok(Some(value)),
-            None => Err(UsageError::NotAValue { option, word }),
-        }
-    }
-
-    /// Returns the value of an option that takes a plane.
-    pub(crate) fn plane(&self, option: OptionName) -> Result<Option<PlaneName>, UsageError<'a>>
-        requires { (text : List ℕ) → SpellsNone IsPlane text → IsNoValue option text }
-        ensures said { IfOk result (λ v. SaysValue IsPlane v (given_to self.now option)) }
-        ensures refused { IfErr result (λ _. (v : Option ThePlane)
-            → ¬ (SaysValue IsPlane v (given_to self.now option))) }
-        ensures fault { IfErr result (HasValueFault (given_to self.now)) }
-    {
-        let Some(word) = self.text(option) else {
-            return Ok(None);
-        };
-        match values::plane(word) {
+        match T::spelled(word) {
             Some(value) => Ok(Some(value)),
             None => Err(UsageError::NotAValue { option, word }),
         }
@@ -224,6 +118,58 @@ impl<'a> Given<'a> {
             return Err(UsageError::NoPixels { option, word });
         }
         Ok(Some(value))
+    }
+
+    /// Returns the options of a call.
+    pub(crate) fn options(&self) -> Result<Options, UsageError<'a>>
+        ensures said { IfOk result (SaysOptions (given_to self.now)) }
+        ensures refused { IfErr result (λ _. (o : TheOptions) → ¬ (SaysOptions (given_to self.now) o)) }
+        ensures fault { IfErr result (HasValueFault (given_to self.now)) }
+    {
+        Ok(Options {
+            form: self.report_form()?,
+            header: self.has(OptionName::Header),
+            ssim: self.has(OptionName::Ssim),
+            frames: self.has(OptionName::Frames),
+            exact: self.has(OptionName::Exact),
+            half: self.has(OptionName::Half),
+            planes: self.has(OptionName::Planes),
+            histogram: self.has(OptionName::Histogram),
+            raw_output: self.has(OptionName::RawOutput),
+            progress: self.has(OptionName::Progress),
+            skip: self.value(OptionName::Skip)?,
+            skip_second: self.value(OptionName::SkipSecond)?,
+            count: self.value(OptionName::Count)?,
+            frame: self.value(OptionName::Frame)?,
+            matrix: self.value(OptionName::Matrix)?,
+            range: self.value(OptionName::Range)?,
+            plane: self.value(OptionName::Plane)?,
+            crop: self.rectangle(OptionName::Crop)?,
+            gain: self.value(OptionName::Gain)?,
+            format: self.value(OptionName::Format)?,
+            rate: self.value(OptionName::Rate)?,
+            aspect: self.value(OptionName::Aspect)?,
+            raw: self.raw_video(OptionName::Raw)?,
+            raw_second: self.raw_video(OptionName::RawSecond)?,
+            max_pixels: self.value(OptionName::MaxPixels)?,
+        })
+    }
+
+    /// Returns the form of a report.
+    fn report_form(&self) -> Result<ReportForm, UsageError<'a>>
+        ensures csv { IfOk result (λ form. length (given_to self.now OptionName.Csv) ≡ times (is_csv form)) }
+        ensures json { IfOk result (λ form. length (given_to self.now OptionName.Json) ≡ times (is_json form)) }
+        ensures refused { IfErr result (λ _. (form : TheForm)
+            → length (given_to self.now OptionName.Csv) ≡ times (is_csv form)
+            → length (given_to self.now OptionName.Json) ≢ times (is_json form)) }
+        ensures fault { IfErr result (HasValueFault (given_to self.now)) }
+    {
+        match (self.has(OptionName::Csv), self.has(OptionName::Json)) {
+            (false, false) => Ok(ReportForm::Lines),
+            (true, false) => Ok(ReportForm::Csv),
+            (false, true) => Ok(ReportForm::Json),
+            (true, true) => Err(UsageError::TwoForms),
+        }
     }
 }
 

@@ -7,17 +7,13 @@ mod error;
 mod files;
 mod given;
 mod option_name;
-mod options;
 mod reading;
 mod usage;
 mod values;
 mod word;
 
 pub use call::{help_topic, read_command};
-pub use command::{
-    Command, CommandName, CompareOptions, CopyOptions, DiffOptions, InfoOptions, PlaneName,
-    PlotOptions, RawVideo, Rectangle, ReportForm, ShowOptions, StatsOptions, SumOptions,
-};
+pub use command::{Command, CommandName, Options, PlaneName, RawVideo, Rectangle, ReportForm};
 pub use error::UsageError;
 pub use option_name::OptionName;
 pub use usage::usage_text;

@@ -1,66 +1,45 @@
-//! The names of options, which of them take a value, and which command has which.
-ghost use Rattle.std.specs.Prelude.{◌≡◌, ◌≢◌, ◌<◌, ◌↔◌, Contains, IsTrue, MatchOption};
+//! The names of options and of commands, what an option takes, and which command has which.
+ghost use Rattle.std.specs.Prelude.{◌≡◌, ◌≢◌, ◌<◌, ◌↔◌, is_some, Contains, IsTrue, MatchOption};
 ghost use Rattle.yuv_words.specs.Names.{command_text, option_text, options_of, takes_value as has_value};
 ghost use Rattle.yuv_words.specs.Reading.{option_place};
 ghost use Rattle.yuv_words.specs.declared.command.CommandName.{CommandName as TheCommand};
 ghost use Rattle.yuv_words.specs.declared.option_name.OptionName.{OptionName as TheOption};
 
 use crate::command::CommandName;
+use crate::option_name::OptionName::{
+    Aspect, Count, Crop, Csv, Exact, Format, Frame, Frames, Gain, Half, Header, Histogram, Json,
+    Matrix, MaxPixels, Plane, Planes, Progress, Range, Rate, Raw, RawOutput, RawSecond, Skip,
+    SkipSecond, Ssim,
+};
 
-/// An option of some command.
+/// An option of some command, by its name.
 #[derive(Debug, Clone, Copy, PartialEq, Eq)]
 pub enum OptionName {
-    /// `--header`.
     Header,
-    /// `--ssim`.
     Ssim,
-    /// `--frames`.
     Frames,
-    /// `--exact`.
     Exact,
-    /// `--csv`.
     Csv,
-    /// `--json`.
     Json,
-    /// `--half`.
     Half,
-    /// `--planes`.
     Planes,
-    /// `--histogram`.
     Histogram,
-    /// `--raw-output`.
     RawOutput,
-    /// `--progress`.
     Progress,
-    /// `--raw`.
     Raw,
-    /// `--raw-second`.
     RawSecond,
-    /// `--max-pixels`.
     MaxPixels,
-    /// `--skip`.
     Skip,
-    /// `--skip-second`.
     SkipSecond,
-    /// `--count`.
     Count,
-    /// `--crop`.
     Crop,
-    /// `--format`.
     Format,
-    /// `--rate`.
     Rate,
-    /// `--aspect`.
     Aspect,
-    /// `--frame`.
     Frame,
-    /// `--matrix`.
     Matrix,
-    /// `--range`.
     Range,
-    /// `--plane`.
     Plane,
-    /// `--gain`.
     Gain,
 }
 
@@ -69,32 +48,9 @@ pub(crate) const OPTION_COUNT: usize = 26;
 
 /// All options.
 const OPTIONS: [OptionName; OPTION_COUNT] = [
-    OptionName::Header,
-    OptionName::Ssim,
-    OptionName::Frames,
-    OptionName::Exact,
-    OptionName::Csv,
-    OptionName::Json,
-    OptionName::Half,
-    OptionName::Planes,
-    OptionName::Histogram,
-    OptionName::RawOutput,
-    OptionName::Progress,
-    OptionName::Raw,
-    OptionName::RawSecond,
-    OptionName::MaxPixels,
-    OptionName::Skip,
-    OptionName::SkipSecond,
-    OptionName::Count,
-    OptionName::Crop,
-    OptionName::Format,
-    OptionName::Rate,
-    OptionName::Aspect,
-    OptionName::Frame,
-    OptionName::Matrix,
-    OptionName::Range,
-    OptionName::Plane,
-    OptionName::Gain,
+    Header, Ssim, Frames, Exact, Csv, Json, Half, Planes, Histogram, RawOutput, Progress, Raw,
+    RawSecond, MaxPixels, Skip, SkipSecond, Count, Crop, Format, Rate, Aspect, Frame, Matrix,
+    Range, Plane, Gain,
 ];
 
 /// All commands that have files.
@@ -110,58 +66,58 @@ const COMMANDS: [CommandName; 8] = [
 ];
 
 impl OptionName {
+    /// Returns the word that the option is written as, with its dashes, and what it takes, where it takes a value.
+    fn row(self) -> (&'static str, Option<&'static str>)
+        ensures text { result.0.now ≡ option_text self }
+        ensures value { is_some result.1 ≡ has_value self }
+    {
+        match self {
+            Header => ("--header", None),
+            Ssim => ("--ssim", None),
+            Frames => ("--frames", None),
+            Exact => ("--exact", None),
+            Csv => ("--csv", None),
+            Json => ("--json", None),
+            Half => ("--half", None),
+            Planes => ("--planes", None),
+            Histogram => ("--histogram", None),
+            RawOutput => ("--raw-output", None),
+            Progress => ("--progress", None),
+            Raw => ("--raw", Some("WIDTHxHEIGHT:FORMAT")),
+            RawSecond => ("--raw-second", Some("WIDTHxHEIGHT:FORMAT")),
+            MaxPixels => ("--max-pixels", Some("a number below 2^64")),
+            Skip => ("--skip", Some("a number below 2^64")),
+            SkipSecond => ("--skip-second", Some("a number below 2^64")),
+            Count => ("--count", Some("a number below 2^64")),
+            Crop => ("--crop", Some("X,Y,WIDTH,HEIGHT")),
+            Format => ("--format", Some("a format, as yuv420p10le or 420p10")),
+            Rate => ("--rate", Some("N:D")),
+            Aspect => ("--aspect", Some("N:D")),
+            Frame => ("--frame", Some("a number below 2^64")),
+            Matrix => ("--matrix", Some("bt601, bt709 or bt2020")),
+            Range => ("--range", Some("limited or full")),
+            Plane => ("--plane", Some("y, u or v")),
+            Gain => ("--gain", Some("a number below 65536")),
+        }
+    }
+
     /// Returns the word that the option is written as, with its dashes.
     pub fn text(self) -> &'static str
         ensures { result.now ≡ option_text self }
     {
-        match self {
-            OptionName::Header => "--header",
-            OptionName::Ssim => "--ssim",
-            OptionName::Frames => "--frames",
-            OptionName::Exact => "--exact",
-            OptionName::Csv => "--csv",
-            OptionName::Json => "--json",
-            OptionName::Half => "--half",
-            OptionName::Planes => "--planes",
-            OptionName::Histogram => "--histogram",
-            OptionName::RawOutput => "--raw-output",
-            OptionName::Progress => "--progress",
-            OptionName::Raw => "--raw",
-            OptionName::RawSecond => "--raw-second",
-            OptionName::MaxPixels => "--max-pixels",
-            OptionName::Skip => "--skip",
-            OptionName::SkipSecond => "--skip-second",
-            OptionName::Count => "--count",
-            OptionName::Crop => "--crop",
-            OptionName::Format => "--format",
-            OptionName::Rate => "--rate",
-            OptionName::Aspect => "--aspect",
-            OptionName::Frame => "--frame",
-            OptionName::Matrix => "--matrix",
-            OptionName::Range => "--range",
-            OptionName::Plane => "--plane",
-            OptionName::Gain => "--gain",
-        }
+        self.row().0
+    }
+
+    /// Returns what the option takes, in words. Empty where it takes no value.
+    pub(crate) fn needs(self) -> &'static str {
+        self.row().1.unwrap_or("")
     }
 
     /// Returns whether a value belongs to the option.
     pub(crate) fn takes_value(self) -> bool
         ensures { result ≡ has_value self }
     {
-        match self {
-            OptionName::Header
-            | OptionName::Ssim
-            | OptionName::Frames
-            | OptionName::Exact
-            | OptionName::Csv
-            | OptionName::Json
-            | OptionName::Half
-            | OptionName::Planes
-            | OptionName::Histogram
-            | OptionName::RawOutput
-            | OptionName::Progress => false,
-            _ => true,
-        }
+        self.row().1.is_some()
     }
 
     /// Returns the place of the option among all.
@@ -235,80 +191,19 @@ impl CommandName {
         ensures { result.now ≡ options_of self }
     {
         match self {
-            CommandName::Info => &[
-                OptionName::Header,
-                OptionName::Raw,
-                OptionName::MaxPixels,
-                OptionName::Progress,
-            ],
+            CommandName::Info => &[Header, Raw, MaxPixels, Progress],
             CommandName::Compare => &[
-                OptionName::Ssim,
-                OptionName::Frames,
-                OptionName::Exact,
-                OptionName::Csv,
-                OptionName::Json,
-                OptionName::Skip,
-                OptionName::SkipSecond,
-                OptionName::Count,
-                OptionName::Raw,
-                OptionName::RawSecond,
-                OptionName::MaxPixels,
-                OptionName::Progress,
+                Ssim, Frames, Exact, Csv, Json, Skip, SkipSecond, Count, Raw, RawSecond, MaxPixels,
+                Progress,
             ],
             CommandName::Copy => &[
-                OptionName::Skip,
-                OptionName::Count,
-                OptionName::Crop,
-                OptionName::Half,
-                OptionName::Format,
-                OptionName::Rate,
-                OptionName::Aspect,
-                OptionName::Raw,
-                OptionName::RawOutput,
-                OptionName::MaxPixels,
-                OptionName::Progress,
+                Skip, Count, Crop, Half, Format, Rate, Aspect, Raw, RawOutput, MaxPixels, Progress,
             ],
-            CommandName::Sum => &[
-                OptionName::Planes,
-                OptionName::Skip,
-                OptionName::Count,
-                OptionName::Raw,
-                OptionName::MaxPixels,
-                OptionName::Progress,
-            ],
-            CommandName::Stats => &[
-                OptionName::Histogram,
-                OptionName::Skip,
-                OptionName::Count,
-                OptionName::Raw,
-                OptionName::MaxPixels,
-                OptionName::Progress,
-            ],
-            CommandName::Show => &[
-                OptionName::Frame,
-                OptionName::Matrix,
-                OptionName::Range,
-                OptionName::Plane,
-                OptionName::Crop,
-                OptionName::Raw,
-                OptionName::MaxPixels,
-            ],
-            CommandName::Diff => &[
-                OptionName::Frame,
-                OptionName::Gain,
-                OptionName::Raw,
-                OptionName::RawSecond,
-                OptionName::MaxPixels,
-            ],
-            CommandName::Plot => &[
-                OptionName::Skip,
-                OptionName::SkipSecond,
-                OptionName::Count,
-                OptionName::Raw,
-                OptionName::RawSecond,
-                OptionName::MaxPixels,
-                OptionName::Progress,
-            ],
+            CommandName::Sum => &[Planes, Skip, Count, Raw, MaxPixels, Progress],
+            CommandName::Stats => &[Histogram, Skip, Count, Raw, MaxPixels, Progress],
+            CommandName::Show => &[Frame, Matrix, Range, Plane, Crop, Raw, MaxPixels],
+            CommandName::Diff => &[Frame, Gain, Raw, RawSecond, MaxPixels],
+            CommandName::Plot => &[Skip, SkipSecond, Count, Raw, RawSecond, MaxPixels, Progress],
         }
     }
 

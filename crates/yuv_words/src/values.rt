@@ -1,11 +1,9 @@
 //! The values of options, each from its text.
 ghost use Rattle.std.specs.Prelude.{List, ℕ, ◌≡◌, ◌≢◌, ◌↔◌, ◌^◌, ◌<◌, ◌∷◌, ◌++◌, decimal, length, slice_index, IsTrue, MatchOption, Option};
 ghost use Rattle.std.specs.Int.{IsInRange};
-ghost use Rattle.v_frame_rgb.specs.declared.standard.ColourRange.{ColourRange as TheRange};
-ghost use Rattle.v_frame_rgb.specs.declared.standard.Standard.{Standard as TheStandard};
 ghost use Rattle.v_frame_y4m.specs.declared.header.Ratio.{Ratio as TheRatio};
-ghost use Rattle.yuv_words.specs.Values.{matrix_text, plane_text, range_text, IsGain, IsNumber, IsRatio, SpellsFormat, SpellsRaw, SpellsRectangle};
-ghost use Rattle.yuv_words.specs.declared.command.PlaneName.{PlaneName as ThePlane};
+ghost use Rattle.v_frame_formats.specs.Formats.{IsFormat};
+ghost use Rattle.yuv_words.specs.Values.{IsColourRange, IsGain, IsMatrix, IsNumber, IsPlane, IsRatio, SpellsFormat, SpellsRaw, SpellsRectangle};
 ghost use Rattle.yuv_words.specs.declared.command.RawVideo.{RawVideo as TheRaw};
 ghost use Rattle.yuv_words.specs.declared.command.Rectangle.{Rectangle as TheRectangle};
 ghost use Rattle.v_frame_formats.specs.declared.format.VideoFormat.{VideoFormat as TheFormat};
@@ -14,6 +12,24 @@ use crate::command::{PlaneName, RawVideo, Rectangle};
 use v_frame_formats::VideoFormat;
 use v_frame_rgb::{ColourRange, Standard};
 use v_frame_y4m::Ratio;
+
+/// What an option may take.
+pub(crate) trait OptionValue: Copy {
+    // A text spells the value.
+    ghost Spells: { Self → List ℕ → Type 0 };
+
+    /// Returns the value that a text spells.
+    fn spelled(text: &str) -> Option<Self>
+        ensures { MatchOption result ((v : Self) → ¬ (Spells v text.now)) (λ v. Spells v text.now) };
+}
+
+impl OptionValue for u64 {
+    ghost Spells = { IsNumber };
+
+    fn spelled(text: &str) -> Option<u64> {
+        number(text)
+    }
+}
 
 /// Returns the number of these decimal digits, where no other text would be written for it.
 pub(crate) fn number(text: &str) -> Option<u64>
@@ -40,15 +56,16 @@ fn has_canonical_start(digits: &[u8]) -> bool
     }
 }
 
-/// Returns the number of these decimal digits, where it is one of 16 bits.
-pub(crate) fn gain(text: &str) -> Option<u16>
-    ensures { MatchOption result ((n : ℕ) → ¬ (IsGain n text.now)) (λ n. IsGain n text.now) }
-{
-    let n = number(text)?;
-    if n > 65535 {
-        return None;
+impl OptionValue for u16 {
+    ghost Spells = { IsGain };
+
+    fn spelled(text: &str) -> Option<u16> {
+        let n = number(text)?;
+        if n > 65535 {
+            return None;
+        }
+        Some(n as u16)
     }
-    Some(n as u16)
 }
 
 /// Cuts a text at its first mark, and returns the number before it and what is after it.
@@ -68,16 +85,17 @@ fn number_before(text: &str, mark: char) -> Option<(u64, &str)>
     }
 }
 
-/// Returns the two numbers with a colon between.
-pub(crate) fn ratio(text: &str) -> Option<Ratio>
-    ensures { MatchOption result ((r : TheRatio) → ¬ (IsRatio r text.now)) (λ r. IsRatio r text.now) }
-{
-    let (numerator, rest) = number_before(text, ':')?;
-    let denominator = number(rest)?;
-    Some(Ratio {
-        numerator,
-        denominator,
-    })
+impl OptionValue for Ratio {
+    ghost Spells = { IsRatio };
+
+    fn spelled(text: &str) -> Option<Ratio> {
+        let (numerator, rest) = number_before(text, ':')?;
+        let denominator = number(rest)?;
+        Some(Ratio {
+            numerator,
+            denominator,
+        })
+    }
 }
 
 /// Returns the rectangle of four numbers with commas between.
@@ -122,7 +140,7 @@ fn format_and_rate(text: &str) -> Option<(VideoFormat, Option<Ratio>)>
     match text.split_once('@') {
         Some((name, rate)) => {
             let format = VideoFormat::named(name)?;
-            let rate = ratio(rate)?;
+            let rate = Ratio::spelled(rate)?;
             Some((format, Some(rate)))
         }
         None => {
@@ -132,37 +150,48 @@ fn format_and_rate(text: &str) -> Option<(VideoFormat, Option<Ratio>)>
     }
 }
 
-/// Returns the standard of this name.
-pub(crate) fn matrix(text: &str) -> Option<Standard>
-    ensures { MatchOption result ((s : TheStandard) → text.now ≢ matrix_text s) (λ s. text.now ≡ matrix_text s) }
-{
-    match text {
-        "bt601" => Some(Standard::Bt601),
-        "bt709" => Some(Standard::Bt709),
-        "bt2020" => Some(Standard::Bt2020),
-        _ => None,
+impl OptionValue for Standard {
+    ghost Spells = { IsMatrix };
+
+    fn spelled(text: &str) -> Option<Standard> {
+        match text {
+            "bt601" => Some(Standard::Bt601),
+            "bt709" => Some(Standard::Bt709),
+            "bt2020" => Some(Standard::Bt2020),
+            _ => None,
+        }
     }
 }
 
-/// Returns the range of this name.
-pub(crate) fn range(text: &str) -> Option<ColourRange>
-    ensures { MatchOption result ((r : TheRange) → text.now ≢ range_text r) (λ r. text.now ≡ range_text r) }
-{
-    match text {
-        "limited" => Some(ColourRange::Limited),
-        "full" => Some(ColourRange::Full),
-        _ => None,
+impl OptionValue for ColourRange {
+    ghost Spells = { IsColourRange };
+
+    fn spelled(text: &str) -> Option<ColourRange> {
+        match text {
+            "limited" => Some(ColourRange::Limited),
+            "full" => Some(ColourRange::Full),
+            _ => None,
+        }
     }
 }
 
-/// Returns the plane of this name.
-pub(crate) fn plane(text: &str) -> Option<PlaneName>
-    ensures { MatchOption result ((p : ThePlane) → text.now ≢ plane_text p) (λ p. text.now ≡ plane_text p) }
-{
-    match text {
-        "y" => Some(PlaneName::Y),
-        "u" => Some(PlaneName::U),
-        "v" => Some(PlaneName::V),
-        _ => None,
+impl OptionValue for PlaneName {
+    ghost Spells = { IsPlane };
+
+    fn spelled(text: &str) -> Option<PlaneName> {
+        match text {
+            "y" => Some(PlaneName::Y),
+            "u" => Some(PlaneName::U),
+            "v" => Some(PlaneName::V),
+            _ => None,
+        }
+    }
+}
+
+impl OptionValue for VideoFormat {
+    ghost Spells = { IsFormat };
+
+    fn spelled(text: &str) -> Option<VideoFormat> {
+        VideoFormat::named(text)
     }
 }

@@ -1,6 +1,8 @@
 //! What calls ask for: the kept calls, and what is kept of each.
 
-use crate::generated::yuv_words::{Command, RawVideo, Rectangle, ReportForm, read_command, usage_text};
+use crate::generated::yuv_words::{
+    Command, CommandName, Options, RawVideo, Rectangle, ReportForm, UsageError, read_command, usage_text,
+};
 use v_frame_proved::y4m::Ratio;
 
 const CALLS: &str = include_str!("../../../../crates/test_yuv_words/stdin");
@@ -22,105 +24,74 @@ fn kept_calls_ask_for_what_they_should() {
     assert_eq!(left, "");
 }
 
+#[test]
+fn help_has_the_options_that_are_taken() {
+    let names = ["info", "compare", "copy", "sum", "stats", "show", "diff", "plot"];
+    let shown = names.map(|name| {
+        let Ok(Command::Help(topic)) = read_command(&["help", name]) else { panic!("{name}") };
+        let lines = usage_text(topic).lines().filter(|line| line.starts_with("--"));
+        let heads = lines.map(|line| line.split("  ").next().unwrap_or(line));
+        heads.flat_map(|head| head.split([' ', ','])).filter(|word| word.starts_with("--")).collect::<Vec<_>>()
+    });
+    for (name, own) in names.iter().zip(&shown) {
+        for option in shown.iter().flatten() {
+            let is_refused = matches!(read_command(&[*name, *option]), Err(UsageError::NotOfCommand { .. }));
+            assert_eq!(is_refused, !own.contains(option), "{name} {option}");
+        }
+    }
+}
+
 /// Returns a line for what a command is, and one for each option that is given.
 fn told_of(command: &Command<'_>) -> String {
-    let (head, options) = match command {
+    let (name, first, second, third, options) = match command {
         Command::Help(topic) => return usage_text(*topic).to_string(),
         Command::Version => return "version\n".to_string(),
-        Command::Info { file, .. } => (format!("info of {file}"), told_of_reports(command)),
-        Command::Compare { first, second, .. } => {
-            (format!("compare {first} and {second}"), told_of_reports(command))
-        }
-        Command::Sum { file, .. } => (format!("sum of {file}"), told_of_reports(command)),
-        Command::Stats { file, .. } => (format!("stats of {file}"), told_of_reports(command)),
-        Command::Copy { input, output, .. } => (format!("copy {input} to {output}"), told_of_outputs(command)),
-        Command::Show { input, output, .. } => (format!("show {input} as {output}"), told_of_outputs(command)),
-        Command::Diff { first, second, output, .. } => {
-            (format!("diff of {first} and {second} as {output}"), told_of_outputs(command))
-        }
-        Command::Plot { first, second, output, .. } => {
-            (format!("plot of {first} and {second} as {output}"), told_of_outputs(command))
-        }
+        Command::Call { name, first, second, third, options } => (name, first, second, third, options),
     };
-    format!("{head}\n{options}")
+    let head = match name {
+        CommandName::Info => format!("info of {first}"),
+        CommandName::Compare => format!("compare {first} and {second}"),
+        CommandName::Copy => format!("copy {first} to {second}"),
+        CommandName::Sum => format!("sum of {first}"),
+        CommandName::Stats => format!("stats of {first}"),
+        CommandName::Show => format!("show {first} as {second}"),
+        CommandName::Diff => format!("diff of {first} and {second} as {third}"),
+        CommandName::Plot => format!("plot of {first} and {second} as {third}"),
+    };
+    format!("{head}\n{}", told_of_options(options))
 }
 
-/// Returns the options of a command that prints.
-fn told_of_reports(command: &Command<'_>) -> String {
-    let told = match command {
-        Command::Info { options, .. } => vec![
-            flag("header", options.header),
-            raw("raw", options.raw),
-            number("max pixels", options.max_pixels),
-            flag("progress", options.progress),
-        ],
-        Command::Compare { options, .. } => vec![
-            flag("ssim", options.ssim),
-            flag("frames", options.frames),
-            flag("exact", options.exact),
-            flag("csv", options.form == ReportForm::Csv),
-            flag("json", options.form == ReportForm::Json),
-            range(options.skip, options.skip_second, options.count),
-            raw("raw", options.raw),
-            raw("raw second", options.raw_second),
-            number("max pixels", options.max_pixels),
-            flag("progress", options.progress),
-        ],
-        Command::Sum { options, .. } => vec![
-            flag("planes", options.planes),
-            raw("raw", options.raw),
-            number("max pixels", options.max_pixels),
-        ],
-        Command::Stats { options, .. } => vec![
-            flag("histogram", options.histogram),
-            raw("raw", options.raw),
-            number("max pixels", options.max_pixels),
-        ],
-        _ => vec![],
-    };
-    told.concat()
-}
-
-/// Returns the options of a command that writes a file.
-fn told_of_outputs(command: &Command<'_>) -> String {
-    let told = match command {
-        Command::Copy { options, .. } => vec![
-            range(options.skip, None, options.count),
-            crop(options.crop),
-            flag("half", options.half),
-            some(options.format, |it| format!("format {} {} bits", it.ffmpeg_name(), it.bit_depth())),
-            ratio("rate", options.rate),
-            ratio("aspect", options.aspect),
-            raw("raw", options.raw),
-            flag("raw output", options.raw_output),
-            number("max pixels", options.max_pixels),
-            flag("progress", options.progress),
-        ],
-        Command::Show { options, .. } => vec![
-            number("frame", options.frame),
-            some(options.matrix, |matrix| format!("matrix {matrix:?}")),
-            some(options.range, |range| format!("range {range:?}")),
-            some(options.plane, |plane| format!("plane {plane:?}")),
-            crop(options.crop),
-            raw("raw", options.raw),
-            number("max pixels", options.max_pixels),
-        ],
-        Command::Diff { options, .. } => vec![
-            number("frame", options.frame),
-            some(options.gain, |gain| format!("gain {gain}")),
-            raw("raw", options.raw),
-            raw("raw second", options.raw_second),
-            number("max pixels", options.max_pixels),
-        ],
-        Command::Plot { options, .. } => vec![
-            range(options.skip, options.skip_second, options.count),
-            raw("raw", options.raw),
-            raw("raw second", options.raw_second),
-            number("max pixels", options.max_pixels),
-        ],
-        _ => vec![],
-    };
-    told.concat()
+/// Returns a line for each option that is given.
+fn told_of_options(options: &Options) -> String {
+    [
+        flag("header", options.header),
+        flag("ssim", options.ssim),
+        flag("frames", options.frames),
+        flag("exact", options.exact),
+        flag("csv", options.form == ReportForm::Csv),
+        flag("json", options.form == ReportForm::Json),
+        flag("planes", options.planes),
+        flag("histogram", options.histogram),
+        number("skip", options.skip),
+        number("skip second", options.skip_second),
+        number("count", options.count),
+        number("frame", options.frame),
+        some(options.matrix, |matrix| format!("matrix {matrix:?}")),
+        some(options.range, |range| format!("range {range:?}")),
+        some(options.plane, |plane| format!("plane {plane:?}")),
+        crop(options.crop),
+        some(options.gain, |gain| format!("gain {gain}")),
+        flag("half", options.half),
+        some(options.format, |it| format!("format {} {} bits", it.ffmpeg_name(), it.bit_depth())),
+        ratio("rate", options.rate),
+        ratio("aspect", options.aspect),
+        raw("raw", options.raw),
+        raw("raw second", options.raw_second),
+        flag("raw output", options.raw_output),
+        number("max pixels", options.max_pixels),
+        flag("progress", options.progress),
+    ]
+    .concat()
 }
 
 /// Returns the line of an option that is given.
@@ -134,10 +105,6 @@ fn flag(name: &str, is_given: bool) -> String {
 
 fn number(name: &str, option: Option<u64>) -> String {
     some(option, |number| format!("{name} {number}"))
-}
-
-fn range(skip: Option<u64>, skip_second: Option<u64>, count: Option<u64>) -> String {
-    [number("skip", skip), number("skip second", skip_second), number("count", count)].concat()
 }
 
 fn ratio(name: &str, option: Option<Ratio>) -> String {

@@ -1,5 +1,6 @@
 -- Words whose first one names a command are its call, or nothing.
-use Rattle.std.proofs.Common.{◌≡◌, ◌∷◌, rules}
+use Rattle.std.proofs.Common.{ℕ, ◌≡◌, List, ◌∷◌, rules, subst, sym}
+use Rattle.std.specs.Prelude.{IfErr}
 use Rattle.yuv_words.specs.Calls.{IsCall, IsWrittenAs}
 use Rattle.yuv_words.specs.Names.{command_text}
 use Rattle.yuv_words.specs.Words.{texts_of}
@@ -15,3 +16,9 @@ returns-in-Some-named-clause-refused c =
     (λ _. (command : Command) → ¬ (IsWrittenAs (texts_of c.args.words.now) command))
     (λ _. only_calls c.in-Some-named.name (texts_of c.args.words.now) (texts_of c.in-Some.rest.now) is)
     c.read_call.ensures.refused
+
+pub returns-in-None-clause-refused : goal.returns-in-None-clause-refused
+returns-in-None-clause-refused c =
+    let is : texts_of c.args.words.now ≡ c.in-Some.field-0-0.now.now ∷ texts_of c.in-Some.rest.now = search rules in
+    subst (λ (words : List (List ℕ)). IfErr c.read_help.result (λ _. (command : Command) → ¬ (IsWrittenAs words command)))
+    (sym is) c.read_help.ensures.refused

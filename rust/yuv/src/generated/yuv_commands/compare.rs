@@ -21,13 +21,13 @@ use v_frame_proved::streams::{
 };
 use v_frame_proved::y4m::StreamHeader;
 use crate::generated::yuv_reports::Report;
-use crate::generated::yuv_words::{CompareOptions, ReportForm};
+use crate::generated::yuv_words::{Options, ReportForm};
 
 /// Reports how far two streams are apart.
 pub(crate) fn do_compare<H, I, O, E>(
     system: &mut System<'_, H, I, O, E>,
     (first, second): (&str, &str),
-    options: &CompareOptions,
+    options: &Options,
 ) -> Result<Status, Fault>
 where
     H: Files + Clock,
@@ -54,7 +54,7 @@ where
 fn report_comparison<R: io::Read, S: io::Read, W: io::Write, H: Clock, E: io::Write>(
     first: &mut Source<R>,
     second: &mut Source<S>,
-    options: &CompareOptions,
+    options: &Options,
     out: W,
     progress: &mut ProgressLine<'_, H, E>,
 ) -> Result<(W, Comparison), Fault> {
@@ -70,12 +70,12 @@ fn report_comparison<R: io::Read, S: io::Read, W: io::Write, H: Clock, E: io::Wr
 }
 
 /// Returns how many frames of the first stream stand before the first one that is compared.
-fn first_taken(options: &CompareOptions) -> u64 {
+fn first_taken(options: &Options) -> u64 {
     options.skip.unwrap_or(0)
 }
 
 /// Returns what the measures of a report are made of besides the errors.
-fn scale_of(header: &StreamHeader, options: &CompareOptions) -> Scale {
+fn scale_of(header: &StreamHeader, options: &Options) -> Scale {
     Scale {
         pixels: samples_of(header),
         bit_depth: header.colour.bit_depth(),
@@ -84,7 +84,7 @@ fn scale_of(header: &StreamHeader, options: &CompareOptions) -> Scale {
 }
 
 /// Returns means of structural similarities, where these are asked for.
-fn means_of(options: &CompareOptions) -> Option<Means> {
+fn means_of(options: &Options) -> Option<Means> {
     options.ssim.then_some(Means::new())
 }
 
@@ -101,7 +101,7 @@ pub fn compare_sources<
 >(
     first: &mut Source<R>,
     second: &mut Source<S>,
-    options: &CompareOptions,
+    options: &Options,
     observer: &mut O,
     progress: &mut P,
 ) -> Result<Comparison, StreamError> {
@@ -119,7 +119,7 @@ fn comparison_status(found: &Comparison) -> Status {
 }
 
 /// Returns the form of the report.
-pub(crate) fn report_form(options: &CompareOptions) -> crate::generated::yuv_reports::ReportForm {
+pub(crate) fn report_form(options: &Options) -> crate::generated::yuv_reports::ReportForm {
     match options.form {
         ReportForm::Lines => crate::generated::yuv_reports::ReportForm::Lines,
         ReportForm::Csv => crate::generated::yuv_reports::ReportForm::Csv,
@@ -128,7 +128,7 @@ pub(crate) fn report_form(options: &CompareOptions) -> crate::generated::yuv_rep
 }
 
 /// Returns whether each frame is reported: always in a table or an object, and in lines with `--frames`.
-fn lists_frames(options: &CompareOptions) -> bool {
+fn lists_frames(options: &Options) -> bool {
     options.frames || options.form != ReportForm::Lines
 }
 

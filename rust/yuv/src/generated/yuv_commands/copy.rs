@@ -15,13 +15,13 @@ use crate::support::time::Clock;
 use v_frame_proved::streams::{Place, Progress, Sink, Source, StreamError, copy_stream};
 use v_frame_proved::y4m::{Interlacing, StreamHeader};
 use crate::generated::yuv_files::{SystemFile, shown_name, write_message};
-use crate::generated::yuv_words::CopyOptions;
+use crate::generated::yuv_words::Options;
 
 /// Writes a stream once more.
 pub(crate) fn do_copy<H, I, O, E>(
     system: &mut System<'_, H, I, O, E>,
     (from, to): (&str, &str),
-    options: &CopyOptions,
+    options: &Options,
 ) -> Result<Status, Fault>
 where
     H: Files + Clock,
@@ -64,7 +64,7 @@ where
 }
 
 /// Returns whether a copy makes one row of two that are of two fields, which are of two moments.
-fn blends_fields(options: &CopyOptions, header: &StreamHeader) -> bool {
+fn blends_fields(options: &Options, header: &StreamHeader) -> bool {
     let has_fields = matches!(
         header.interlacing,
         Some(Interlacing::TopFirst | Interlacing::BottomFirst | Interlacing::Mixed)
@@ -73,7 +73,7 @@ fn blends_fields(options: &CopyOptions, header: &StreamHeader) -> bool {
 }
 
 /// Returns why no frame was copied, where so many of a stream of so many are none.
-fn nothing_copied(options: &CopyOptions, copied: u64, frames: u64) -> Option<NothingTaken> {
+fn nothing_copied(options: &Options, copied: u64, frames: u64) -> Option<NothingTaken> {
     NothingTaken::of(copied, frames, options.skip.unwrap_or(0), options.count)
 }
 
@@ -85,7 +85,7 @@ fn nothing_copied(options: &CopyOptions, copied: u64, frames: u64) -> Option<Not
 pub fn copy_source<R: io::Read, W: io::Write, P: Progress>(
     source: &mut Source<R>,
     sink: &mut Sink<W>,
-    options: &CopyOptions,
+    options: &Options,
     progress: &mut P,
 ) -> Result<u64, StreamError> {
     test_limit(source.header(), Place::First, options.max_pixels)?;

@@ -23,7 +23,7 @@ use v_frame_proved::streams::{
 };
 use crate::generated::yuv_files::SystemFile;
 use crate::generated::yuv_pictures::{Found, PictureError, PlaneDifference, differences, write_difference_picture};
-use crate::generated::yuv_words::DiffOptions;
+use crate::generated::yuv_words::Options;
 
 /// What each difference is multiplied by, where nobody says.
 const GAIN: u16 = 8;
@@ -32,7 +32,7 @@ const GAIN: u16 = 8;
 pub(crate) fn do_diff<H, I, O, E>(
     system: &mut System<'_, H, I, O, E>,
     (first, second, to): (&str, &str, &str),
-    options: &DiffOptions,
+    options: &Options,
 ) -> Result<Status, Fault>
 where
     H: Files + Clock,
@@ -78,7 +78,7 @@ where
 fn write_difference<R: io::Read, S: io::Read, W: io::Write>(
     first: &mut Source<R>,
     second: &mut Source<S>,
-    options: &DiffOptions,
+    options: &Options,
     out: W,
 ) -> Result<(W, Found), Fault> {
     let before = frames_before(options.frame)?;
@@ -98,12 +98,12 @@ fn write_difference<R: io::Read, S: io::Read, W: io::Write>(
 }
 
 /// Returns what each difference is multiplied by.
-fn gain_of(options: &DiffOptions) -> u16 {
+fn gain_of(options: &Options) -> u16 {
     options.gain.unwrap_or(GAIN)
 }
 
 /// Returns what is taken of both streams: one frame after so many.
-fn frames_taken(options: &DiffOptions, before: u64) -> CompareOptions {
+fn frames_taken(options: &Options, before: u64) -> CompareOptions {
     taken_of_both(Some(before), None, Some(1), options.max_pixels)
 }
 

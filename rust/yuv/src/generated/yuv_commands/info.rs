@@ -17,13 +17,13 @@ use crate::support::time::Clock;
 use text::{format_text, frames_text};
 use v_frame_proved::planar::Counted;
 use v_frame_proved::streams::{Place, Source, StreamError, skip_frames};
-use crate::generated::yuv_words::InfoOptions;
+use crate::generated::yuv_words::Options;
 
 /// Reports what a stream is. Where a frame can't be read, what is known so far is reported before the fault.
 pub(crate) fn do_info<H, I, O, E>(
     system: &mut System<'_, H, I, O, E>,
     name: &str,
-    options: &InfoOptions,
+    options: &Options,
 ) -> Result<Status, Fault>
 where
     H: Files + Clock,
@@ -49,7 +49,7 @@ where
 /// Reports what is known of a stream in a file of this length, where that is known, and then how many frames it has.
 fn report_stream<R: io::Read, W: io::Write, H: Clock, E: io::Write>(
     source: &mut Source<R>,
-    options: &InfoOptions,
+    options: &Options,
     out: &mut Counted<W>,
     progress: &mut ProgressLine<'_, H, E>,
     len: Option<u64>,
@@ -63,7 +63,7 @@ fn report_stream<R: io::Read, W: io::Write, H: Clock, E: io::Write>(
 /// is read or reported.
 fn report_frames<R: io::Read, W: io::Write, H: Clock, E: io::Write>(
     source: &mut Source<R>,
-    options: &InfoOptions,
+    options: &Options,
     out: &mut Counted<W>,
     progress: &mut ProgressLine<'_, H, E>,
     len: Option<u64>,

@@ -15,7 +15,7 @@ pub(crate) fn most_pixels(asked: Option<u64>) -> usize {
 }
 
 /// Returns what a copy takes of a stream, and what it makes of its frames.
-pub(crate) fn stream_copy(options: &crate::generated::yuv_words::CopyOptions) -> v_frame_proved::streams::CopyOptions {
+pub(crate) fn stream_copy(options: &crate::generated::yuv_words::Options) -> v_frame_proved::streams::CopyOptions {
     v_frame_proved::streams::CopyOptions {
         skip: options.skip.unwrap_or(0),
         count: options.count,
@@ -39,7 +39,7 @@ pub(crate) fn stream_rectangle(part: crate::generated::yuv_words::Rectangle) -> 
 }
 
 /// Returns the stream that a copy writes.
-pub(crate) fn copy_sink<W: Write>(options: &crate::generated::yuv_words::CopyOptions, writer: W) -> Sink<W> {
+pub(crate) fn copy_sink<W: Write>(options: &crate::generated::yuv_words::Options, writer: W) -> Sink<W> {
     let container = if options.raw_output {
         Container::Raw
     } else {
@@ -49,9 +49,7 @@ pub(crate) fn copy_sink<W: Write>(options: &crate::generated::yuv_words::CopyOpt
 }
 
 /// Returns what a comparison takes of two streams.
-pub(crate) fn stream_comparison(
-    options: &crate::generated::yuv_words::CompareOptions,
-) -> v_frame_proved::streams::CompareOptions {
+pub(crate) fn stream_comparison(options: &crate::generated::yuv_words::Options) -> v_frame_proved::streams::CompareOptions {
     taken_of_both(
         options.skip,
         options.skip_second,

@@ -28,13 +28,13 @@ use v_frame_proved::streams::{
 };
 use crate::generated::yuv_files::SystemFile;
 use crate::generated::yuv_reports::PlaneValues;
-use crate::generated::yuv_words::PlotOptions;
+use crate::generated::yuv_words::Options;
 
 /// Draws how far two streams are apart.
 pub(crate) fn do_plot<H, I, O, E>(
     system: &mut System<'_, H, I, O, E>,
     (first, second, to): (&str, &str, &str),
-    options: &PlotOptions,
+    options: &Options,
 ) -> Result<Status, Fault>
 where
     H: Files + Clock,
@@ -78,7 +78,7 @@ fn write_drawn<W: Write>(out: W, text: &str) -> Result<Status, Fault> {
 fn drawn<R: io::Read, S: io::Read, P: Progress>(
     first: &mut Source<R>,
     second: &mut Source<S>,
-    options: &PlotOptions,
+    options: &Options,
     names: (&str, &str),
     progress: &mut P,
 ) -> Result<String, Fault> {
@@ -100,7 +100,7 @@ fn drawn<R: io::Read, S: io::Read, P: Progress>(
 }
 
 /// Returns what is taken of both streams.
-fn frames_taken(options: &PlotOptions) -> CompareOptions {
+fn frames_taken(options: &Options) -> CompareOptions {
     taken_of_both(
         options.skip,
         options.skip_second,
@@ -110,7 +110,7 @@ fn frames_taken(options: &PlotOptions) -> CompareOptions {
 }
 
 /// Returns the number of the first frame that is taken of the first stream, whose own first is frame 1.
-fn first_frame(options: &PlotOptions) -> u64 {
+fn first_frame(options: &Options) -> u64 {
     options.skip.unwrap_or(0).saturating_add(1)
 }
 

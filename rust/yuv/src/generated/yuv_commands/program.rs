@@ -19,7 +19,7 @@ use crate::support::time::Clock;
 use v_frame_proved::planar::Counted;
 use v_frame_proved::streams::Place;
 use crate::generated::yuv_files::{SystemFile, shown_name, write_message};
-use crate::generated::yuv_words::{Command, UsageError, help_topic, read_command, usage_text};
+use crate::generated::yuv_words::{Command, CommandName, UsageError, help_topic, read_command, usage_text};
 
 /// What `yuv --version` prints.
 pub const VERSION: &str = "yuv 0.3.0\n";
@@ -134,12 +134,7 @@ fn progress_line<'a, H: Clock, E: io::Write>(
 /// Returns whether a command asks that the count of frames is shown meanwhile.
 fn asks_for_progress(command: &Command<'_>) -> bool {
     match command {
-        Command::Info { options, .. } => options.progress,
-        Command::Compare { options, .. } => options.progress,
-        Command::Copy { options, .. } => options.progress,
-        Command::Sum { options, .. } => options.progress,
-        Command::Stats { options, .. } => options.progress,
-        Command::Plot { options, .. } => options.progress,
+        Command::Call { options, .. } => options.progress,
         _ => false,
     }
 }
@@ -175,36 +170,22 @@ where
     match *command {
         Command::Help(topic) => print(&mut system.output, usage_text(topic)),
         Command::Version => print(&mut system.output, VERSION),
-        Command::Info { file, options } => do_info(system, file, &options),
-        Command::Compare {
+        Command::Call {
+            name,
             first,
             second,
+            third,
             options,
-        } => do_compare(system, (first, second), &options),
-        Command::Copy {
-            input,
-            output,
-            options,
-        } => do_copy(system, (input, output), &options),
-        Command::Sum { file, options } => do_sum(system, file, &options),
-        Command::Stats { file, options } => do_stats(system, file, &options),
-        Command::Show {
-            input,
-            output,
-            options,
-        } => do_show(system, (input, output), &options),
-        Command::Diff {
-            first,
-            second,
-            output,
-            options,
-        } => do_diff(system, (first, second, output), &options),
-        Command::Plot {
-            first,
-            second,
-            output,
-            options,
-        } => do_plot(system, (first, second, output), &options),
+        } => match name {
+            CommandName::Info => do_info(system, first, &options),
+            CommandName::Compare => do_compare(system, (first, second), &options),
+            CommandName::Copy => do_copy(system, (first, second), &options),
+            CommandName::Sum => do_sum(system, first, &options),
+            CommandName::Stats => do_stats(system, first, &options),
+            CommandName::Show => do_show(system, (first, second), &options),
+            CommandName::Diff => do_diff(system, (first, second, third), &options),
+            CommandName::Plot => do_plot(system, (first, second, third), &options),
+        },
     }
 }
 
@@ -216,47 +197,30 @@ fn print<O: io::Write>(output: &mut O, text: &str) -> Result<Status, Fault> {
 
 /// Returns the name of a file that a command works on. The name `-` becomes that of the stream.
 fn name_of<'a>(command: &Command<'a>, place: Place) -> &'a str {
-    let name = match place {
-        Place::First => first_name(command),
-        Place::Second => second_name(command),
-        Place::Output => output_name(command),
-    };
+    let name = file_at(command, place);
     match (name, place) {
         ("-", Place::Output) => STANDARD_OUTPUT,
         _ => shown_name(name),
     }
 }
 
-/// Returns the name of the first file that is read.
-fn first_name<'a>(command: &Command<'a>) -> &'a str {
-    match *command {
-        Command::Info { file, .. } | Command::Sum { file, .. } | Command::Stats { file, .. } =>
-            file,
-        Command::Copy { input, .. } | Command::Show { input, .. } => input,
-        Command::Compare { first, .. }
-        | Command::Diff { first, .. }
-        | Command::Plot { first, .. } => first,
-        _ => "-",
-    }
-}
-
-/// Returns the name of the second file that is read.
-fn second_name<'a>(command: &Command<'a>) -> &'a str {
-    match *command {
-        Command::Compare { second, .. }
-        | Command::Diff { second, .. }
-        | Command::Plot { second, .. } => second,
-        _ => "-",
-    }
-}
-
-/// Returns the name of the file that is written, or `-` where all goes to standard output.
-fn output_name<'a>(command: &Command<'a>) -> &'a str {
-    match *command {
-        Command::Copy { output, .. }
-        | Command::Show { output, .. }
-        | Command::Diff { output, .. }
-        | Command::Plot { output, .. } => output,
+/// Returns the name of the file at a place, or `-` where the command has none there.
+fn file_at<'a>(command: &Command<'a>, place: Place) -> &'a str {
+    let Command::Call {
+        name,
+        first,
+        second,
+        third,
+        ..
+    } = *command
+    else {
+        return "-";
+    };
+    match (place, name) {
+        (Place::First, _) => first,
+        (Place::Second, CommandName::Compare | CommandName::Diff | CommandName::Plot) => second,
+        (Place::Output, CommandName::Copy | CommandName::Show) => second,
+        (Place::Output, CommandName::Diff | CommandName::Plot) => third,
         _ => "-",
     }
 }

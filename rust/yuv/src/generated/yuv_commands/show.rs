@@ -21,13 +21,13 @@ use v_frame_proved::streams::{
 use v_frame_proved::y4m::StreamHeader;
 use crate::generated::yuv_files::SystemFile;
 use crate::generated::yuv_pictures::{Colours, PictureError, write_frame_picture, write_plane_picture};
-use crate::generated::yuv_words::{PlaneName, ShowOptions};
+use crate::generated::yuv_words::{Options, PlaneName};
 
 /// Writes a frame of a stream as a picture.
 pub(crate) fn do_show<H, I, O, E>(
     system: &mut System<'_, H, I, O, E>,
     (from, to): (&str, &str),
-    options: &ShowOptions,
+    options: &Options,
 ) -> Result<Status, Fault>
 where
     H: Files + Clock,
@@ -58,7 +58,7 @@ where
 /// Writes the frame that the options name, and returns the writer.
 fn show_frame<T: Pixel, R: io::Read, W: io::Write>(
     source: &mut Source<R>,
-    options: &ShowOptions,
+    options: &Options,
     out: W,
 ) -> Result<W, Fault> {
     let bytes = frame_bytes(source, options)?;
@@ -90,7 +90,7 @@ fn read_picture<T: Pixel>(
 fn write_picture<T: Pixel, W: io::Write>(
     out: W,
     frame: &Frame<T>,
-    options: &ShowOptions,
+    options: &Options,
 ) -> Result<W, Fault> {
     match draw_picture(out, frame, options) {
         Ok(out) => Ok(out),
@@ -102,7 +102,7 @@ fn write_picture<T: Pixel, W: io::Write>(
 fn draw_picture<T: Pixel, W: io::Write>(
     out: W,
     frame: &Frame<T>,
-    options: &ShowOptions,
+    options: &Options,
 ) -> Result<W, PictureError> {
     match options.plane {
         Some(plane) => write_plane_picture(out, frame, shown_plane(plane)),
@@ -120,7 +120,7 @@ fn shown_plane(plane: PlaneName) -> crate::generated::yuv_pictures::PlaneName {
 }
 
 /// Returns how colours are made: as BT.709 of limited range has it, where the options are silent.
-fn colours_of(options: &ShowOptions) -> Colours {
+fn colours_of(options: &Options) -> Colours {
     Colours {
         standard: options.matrix.unwrap_or(Standard::Bt709),
         range: options.range.unwrap_or(ColourRange::Limited),
@@ -130,7 +130,7 @@ fn colours_of(options: &ShowOptions) -> Colours {
 /// Returns the planar bytes of the frame that the options name, or of the part of it that they name.
 fn frame_bytes<R: io::Read>(
     source: &mut Source<R>,
-    options: &ShowOptions,
+    options: &Options,
 ) -> Result<Vec<u8>, Fault> {
     let before = frames_before(options.frame)?;
     let mut sink = Sink::new(Container::Raw, Vec::new());
@@ -143,7 +143,7 @@ fn frame_bytes<R: io::Read>(
 }
 
 /// Returns what is taken of the stream: one frame after so many, or a part of it.
-fn one_frame(options: &ShowOptions, before: u64) -> CopyOptions {
+fn one_frame(options: &Options, before: u64) -> CopyOptions {
     CopyOptions {
         skip: before,
         count: Some(1),
@@ -157,7 +157,7 @@ fn one_frame(options: &ShowOptions, before: u64) -> CopyOptions {
 }
 
 /// Returns the header of what is shown.
-fn shown_header(header: &StreamHeader, options: &ShowOptions) -> StreamHeader {
+fn shown_header(header: &StreamHeader, options: &Options) -> StreamHeader {
     let (width, height) = match options.crop {
         Some(part) => (part.width, part.height),
         None => (header.width, header.height),

@@ -24,13 +24,13 @@ use v_frame_proved::planar::Counted;
 use v_frame_proved::streams::{Picture, Place, Progress, Silent, Source, StreamError, skip_frames};
 use crate::generated::yuv_files::{shown_name, write_message};
 use crate::generated::yuv_reports::{PlaneName, push_histogram};
-use crate::generated::yuv_words::StatsOptions;
+use crate::generated::yuv_words::Options;
 
 /// Reports what values the samples of each plane have, over all frames.
 pub(crate) fn do_stats<H, I, O, E>(
     system: &mut System<'_, H, I, O, E>,
     name: &str,
-    options: &StatsOptions,
+    options: &Options,
 ) -> Result<Status, Fault>
 where
     H: Files + Clock,
@@ -52,14 +52,14 @@ where
 }
 
 /// Returns why no frame was counted, where so many of a stream of so many are none.
-fn nothing_counted(options: &StatsOptions, counted: u64, frames: u64) -> Option<NothingTaken> {
+fn nothing_counted(options: &Options, counted: u64, frames: u64) -> Option<NothingTaken> {
     NothingTaken::of(counted, frames, options.skip.unwrap_or(0), options.count)
 }
 
 /// Writes what values the samples of a stream have, and returns of how many frames.
 fn report_values<R: io::Read, W: io::Write, H: Clock, E: io::Write>(
     source: &mut Source<R>,
-    options: &StatsOptions,
+    options: &Options,
     out: &mut Counted<W>,
     progress: &mut ProgressLine<'_, H, E>,
 ) -> Result<u64, StreamError> {
@@ -73,7 +73,7 @@ fn report_values<R: io::Read, W: io::Write, H: Clock, E: io::Write>(
 /// The same of pixels of a type.
 fn report_pixels<T: CountedPixel, R: io::Read, W: io::Write, H: Clock, E: io::Write>(
     source: &mut Source<R>,
-    options: &StatsOptions,
+    options: &Options,
     out: &mut Counted<W>,
     progress: &mut ProgressLine<'_, H, E>,
 ) -> Result<u64, StreamError> {
@@ -96,7 +96,7 @@ struct Counts {
 /// Counts the values of the frames that are asked for, and these.
 fn count_values<T: CountedPixel, R: io::Read, P: Progress>(
     source: &mut Source<R>,
-    options: &StatsOptions,
+    options: &Options,
     progress: &mut P,
 ) -> Result<(Counts, u64), StreamError> {
     let mut picture = Picture::<T>::new(source, most_pixels(options.max_pixels))?;

@@ -19,13 +19,13 @@ use v_frame_proved::planar::Counted;
 use v_frame_proved::streams::{Picture, Place, Progress, Silent, Source, StreamError, skip_frames};
 use crate::generated::yuv_files::{shown_name, write_message};
 use crate::generated::yuv_reports::{Checksums, push_checksums};
-use crate::generated::yuv_words::SumOptions;
+use crate::generated::yuv_words::Options;
 
 /// Reports a checksum of each frame.
 pub(crate) fn do_sum<H, I, O, E>(
     system: &mut System<'_, H, I, O, E>,
     name: &str,
-    options: &SumOptions,
+    options: &Options,
 ) -> Result<Status, Fault>
 where
     H: Files + Clock,
@@ -51,14 +51,14 @@ where
 }
 
 /// Returns why no frame was summed, where so many of a stream of so many are none.
-fn nothing_summed(options: &SumOptions, summed: u64, frames: u64) -> Option<NothingTaken> {
+fn nothing_summed(options: &Options, summed: u64, frames: u64) -> Option<NothingTaken> {
     NothingTaken::of(summed, frames, options.skip.unwrap_or(0), options.count)
 }
 
 /// Writes a line for each frame of a stream that is asked for, and counts these.
 fn sum_stream<R: io::Read, W: io::Write, P: Progress>(
     source: &mut Source<R>,
-    options: &SumOptions,
+    options: &Options,
     out: &mut Counted<W>,
     progress: &mut P,
 ) -> Result<u64, StreamError> {
@@ -72,7 +72,7 @@ fn sum_stream<R: io::Read, W: io::Write, P: Progress>(
 /// The same of pixels of a type.
 fn sum_as<T: Pixel, R: io::Read, W: io::Write, P: Progress>(
     source: &mut Source<R>,
-    options: &SumOptions,
+    options: &Options,
     out: &mut Counted<W>,
     progress: &mut P,
 ) -> Result<u64, StreamError> {

@@ -5,10 +5,6 @@ use crate::generated::yuv_words::command::{Command, CommandName};
 use crate::generated::yuv_words::error::UsageError;
 use crate::generated::yuv_words::files::Files;
 use crate::generated::yuv_words::given::Given;
-use crate::generated::yuv_words::options::{
-    compare_options, copy_options, diff_options, info_options, plot_options, show_options,
-    stats_options, sum_options,
-};
 use crate::generated::yuv_words::reading::{cut_at_end, read_words};
 
 /// Reads the words of a call, without the program's own name.
@@ -91,92 +87,13 @@ fn command_of<'a>(
     files: &Files<'a>,
     given: &Given<'a>,
 ) -> Result<Command<'a>, UsageError<'a>> {
-    match name {
-        CommandName::Info => info(files, given),
-        CommandName::Compare => compare(files, given),
-        CommandName::Copy => copy(files, given),
-        CommandName::Sum => sum(files, given),
-        CommandName::Stats => stats(files, given),
-        CommandName::Show => show(files, given),
-        CommandName::Diff => diff(files, given),
-        CommandName::Plot => plot(files, given),
-    }
-}
-
-/// Returns the call of `info`.
-fn info<'a>(files: &Files<'a>, given: &Given<'a>) -> Result<Command<'a>, UsageError<'a>> {
-    let file = files.one()?;
-    let options = info_options(given)?;
-    Ok(Command::Info { file, options })
-}
-
-/// Returns the call of `compare`.
-fn compare<'a>(files: &Files<'a>, given: &Given<'a>) -> Result<Command<'a>, UsageError<'a>> {
-    let (first, second) = files.two()?;
-    let options = compare_options(given)?;
-    Ok(Command::Compare {
+    let (first, second, third) = files.of(name)?;
+    let options = given.options()?;
+    Ok(Command::Call {
+        name,
         first,
         second,
-        options,
-    })
-}
-
-/// Returns the call of `copy`.
-fn copy<'a>(files: &Files<'a>, given: &Given<'a>) -> Result<Command<'a>, UsageError<'a>> {
-    let (input, output) = files.two()?;
-    let options = copy_options(given)?;
-    Ok(Command::Copy {
-        input,
-        output,
-        options,
-    })
-}
-
-/// Returns the call of `sum`.
-fn sum<'a>(files: &Files<'a>, given: &Given<'a>) -> Result<Command<'a>, UsageError<'a>> {
-    let file = files.one()?;
-    let options = sum_options(given)?;
-    Ok(Command::Sum { file, options })
-}
-
-/// Returns the call of `stats`.
-fn stats<'a>(files: &Files<'a>, given: &Given<'a>) -> Result<Command<'a>, UsageError<'a>> {
-    let file = files.one()?;
-    let options = stats_options(given)?;
-    Ok(Command::Stats { file, options })
-}
-
-/// Returns the call of `show`.
-fn show<'a>(files: &Files<'a>, given: &Given<'a>) -> Result<Command<'a>, UsageError<'a>> {
-    let (input, output) = files.two()?;
-    let options = show_options(given)?;
-    Ok(Command::Show {
-        input,
-        output,
-        options,
-    })
-}
-
-/// Returns the call of `diff`.
-fn diff<'a>(files: &Files<'a>, given: &Given<'a>) -> Result<Command<'a>, UsageError<'a>> {
-    let (first, second, output) = files.three()?;
-    let options = diff_options(given)?;
-    Ok(Command::Diff {
-        first,
-        second,
-        output,
-        options,
-    })
-}
-
-/// Returns the call of `plot`.
-fn plot<'a>(files: &Files<'a>, given: &Given<'a>) -> Result<Command<'a>, UsageError<'a>> {
-    let (first, second, output) = files.three()?;
-    let options = plot_options(given)?;
-    Ok(Command::Plot {
-        first,
-        second,
-        output,
+        third,
         options,
     })
 }

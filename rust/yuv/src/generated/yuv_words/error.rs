@@ -83,43 +83,18 @@ impl UsageError<'_> {
             }
             UsageError::Repeated(option) => write!(f, "{} stands there twice", option.text()),
             UsageError::MissingValue(option) => {
-                write!(f, "{} needs {}", option.text(), needed_by(*option))
+                write!(f, "{} needs {}", option.text(), option.needs())
             }
             UsageError::NeedlessValue { option, value } => {
                 write!(f, "{} takes no value, not even {value}", option.text())
             }
             UsageError::NotAValue { option, word } => {
-                write!(
-                    f,
-                    "{} needs {}, not {word}",
-                    option.text(),
-                    needed_by(*option)
-                )
+                write!(f, "{} needs {}, not {word}", option.text(), option.needs())
             }
             UsageError::NoPixels { option, word } => {
                 write!(f, "{} {word} has a size of 0", option.text())
             }
             _ => Ok(()),
         }
-    }
-}
-
-/// Returns what an option takes, in words. Empty where it takes no value.
-fn needed_by(option: OptionName) -> &'static str {
-    match option {
-        OptionName::Raw | OptionName::RawSecond => "WIDTHxHEIGHT:FORMAT",
-        OptionName::MaxPixels
-        | OptionName::Skip
-        | OptionName::SkipSecond
-        | OptionName::Count
-        | OptionName::Frame => "a number below 2^64",
-        OptionName::Gain => "a number below 65536",
-        OptionName::Crop => "X,Y,WIDTH,HEIGHT",
-        OptionName::Format => "a format, as yuv420p10le or 420p10",
-        OptionName::Rate | OptionName::Aspect => "N:D",
-        OptionName::Matrix => "bt601, bt709 or bt2020",
-        OptionName::Range => "limited or full",
-        OptionName::Plane => "y, u or v",
-        _ => "",
     }
 }

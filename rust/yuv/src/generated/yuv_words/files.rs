@@ -40,8 +40,26 @@ impl<'a> Files<'a> {
         Ok(files)
     }
 
+    /// Returns the files of a command, and empty names behind them.
+    pub(crate) fn of(
+        &self,
+        command: CommandName,
+    ) -> Result<(&'a str, &'a str, &'a str), UsageError<'a>> {
+        match command {
+            CommandName::Info | CommandName::Sum | CommandName::Stats => {
+                let first = self.one()?;
+                Ok((first, "", ""))
+            }
+            CommandName::Compare | CommandName::Copy | CommandName::Show => {
+                let (first, second) = self.two()?;
+                Ok((first, second, ""))
+            }
+            CommandName::Diff | CommandName::Plot => self.three(),
+        }
+    }
+
     /// Returns the one file.
-    pub(crate) fn one(&self) -> Result<&'a str, UsageError<'a>> {
+    fn one(&self) -> Result<&'a str, UsageError<'a>> {
         match *self {
             Files::Zero => Err(UsageError::MissingFile),
             Files::One(file) => Ok(file),
@@ -51,7 +69,7 @@ impl<'a> Files<'a> {
     }
 
     /// Returns the two files.
-    pub(crate) fn two(&self) -> Result<(&'a str, &'a str), UsageError<'a>> {
+    fn two(&self) -> Result<(&'a str, &'a str), UsageError<'a>> {
         match *self {
             Files::Zero | Files::One(_) => Err(UsageError::MissingFile),
             Files::Two(first, second) => Ok((first, second)),
@@ -60,7 +78,7 @@ impl<'a> Files<'a> {
     }
 
     /// Returns the three files.
-    pub(crate) fn three(&self) -> Result<(&'a str, &'a str, &'a str), UsageError<'a>> {
+    fn three(&self) -> Result<(&'a str, &'a str, &'a str), UsageError<'a>> {
         match *self {
             Files::Three(first, second, third) => Ok((first, second, third)),
             _ => Err(UsageError::MissingFile),

@@ -6,6 +6,18 @@ use v_frame_proved::formats::VideoFormat;
 use v_frame_proved::rgb::{ColourRange, Standard};
 use v_frame_proved::y4m::Ratio;
 
+/// What an option may take.
+pub(crate) trait OptionValue: Copy {
+    /// Returns the value that a text spells.
+    fn spelled(text: &str) -> Option<Self>;
+}
+
+impl OptionValue for u64 {
+    fn spelled(text: &str) -> Option<u64> {
+        number(text)
+    }
+}
+
 /// Returns the number of these decimal digits, where no other text would be written for it.
 pub(crate) fn number(text: &str) -> Option<u64> {
     if !has_canonical_start(text.as_bytes()) {
@@ -26,13 +38,14 @@ fn has_canonical_start(digits: &[u8]) -> bool {
     }
 }
 
-/// Returns the number of these decimal digits, where it is one of 16 bits.
-pub(crate) fn gain(text: &str) -> Option<u16> {
-    let n = number(text)?;
-    if n > 65535 {
-        return None;
+impl OptionValue for u16 {
+    fn spelled(text: &str) -> Option<u16> {
+        let n = number(text)?;
+        if n > 65535 {
+            return None;
+        }
+        Some(n as u16)
     }
-    Some(n as u16)
 }
 
 /// Cuts a text at its first mark, and returns the number before it and what is after it.
@@ -46,14 +59,15 @@ fn number_before(text: &str, mark: char) -> Option<(u64, &str)> {
     }
 }
 
-/// Returns the two numbers with a colon between.
-pub(crate) fn ratio(text: &str) -> Option<Ratio> {
-    let (numerator, rest) = number_before(text, ':')?;
-    let denominator = number(rest)?;
-    Some(Ratio {
-        numerator,
-        denominator,
-    })
+impl OptionValue for Ratio {
+    fn spelled(text: &str) -> Option<Ratio> {
+        let (numerator, rest) = number_before(text, ':')?;
+        let denominator = number(rest)?;
+        Some(Ratio {
+            numerator,
+            denominator,
+        })
+    }
 }
 
 /// Returns the rectangle of four numbers with commas between.
@@ -88,7 +102,7 @@ fn format_and_rate(text: &str) -> Option<(VideoFormat, Option<Ratio>)> {
     match text.split_once('@') {
         Some((name, rate)) => {
             let format = VideoFormat::named(name)?;
-            let rate = ratio(rate)?;
+            let rate = Ratio::spelled(rate)?;
             Some((format, Some(rate)))
         }
         None => {
@@ -98,31 +112,40 @@ fn format_and_rate(text: &str) -> Option<(VideoFormat, Option<Ratio>)> {
     }
 }
 
-/// Returns the standard of this name.
-pub(crate) fn matrix(text: &str) -> Option<Standard> {
-    match text {
-        "bt601" => Some(Standard::Bt601),
-        "bt709" => Some(Standard::Bt709),
-        "bt2020" => Some(Standard::Bt2020),
-        _ => None,
+impl OptionValue for Standard {
+    fn spelled(text: &str) -> Option<Standard> {
+        match text {
+            "bt601" => Some(Standard::Bt601),
+            "bt709" => Some(Standard::Bt709),
+            "bt2020" => Some(Standard::Bt2020),
+            _ => None,
+        }
     }
 }
 
-/// Returns the range of this name.
-pub(crate) fn range(text: &str) -> Option<ColourRange> {
-    match text {
-        "limited" => Some(ColourRange::Limited),
-        "full" => Some(ColourRange::Full),
-        _ => None,
+impl OptionValue for ColourRange {
+    fn spelled(text: &str) -> Option<ColourRange> {
+        match text {
+            "limited" => Some(ColourRange::Limited),
+            "full" => Some(ColourRange::Full),
+            _ => None,
+        }
     }
 }
 
-/// Returns the plane of this name.
-pub(crate) fn plane(text: &str) -> Option<PlaneName> {
-    match text {
-        "y" => Some(PlaneName::Y),
-        "u" => Some(PlaneName::U),
-        "v" => Some(PlaneName::V),
-        _ => None,
+impl OptionValue for PlaneName {
+    fn spelled(text: &str) -> Option<PlaneName> {
+        match text {
+            "y" => Some(PlaneName::Y),
+            "u" => Some(PlaneName::U),
+            "v" => Some(PlaneName::V),
+            _ => None,
+        }
+    }
+}
+
+impl OptionValue for VideoFormat {
+    fn spelled(text: &str) -> Option<VideoFormat> {
+        VideoFormat::named(text)
     }
 }

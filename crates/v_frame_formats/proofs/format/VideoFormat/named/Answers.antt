@@ -1,6 +1,6 @@
 -- A format of another name is passed over.
 use Rattle.std.proofs.Common.{arith, rules}
-use Rattle.v_frame_formats.proofs.Places.{format_further, format_placed, named_at}
+use Rattle.v_frame_formats.proofs.Places.{format_below, format_further, named_at}
 use Rattle.v_frame_formats.proofs.format.VideoFormat.named.Goals as goal
 
 pub loop-format-preserved : goal.loop-format-preserved
@@ -12,4 +12,4 @@ returns-then-is_called-clause-some c =
     (named_at c.loop-format.format-index _ c.loop-format-test.true, c.is_called.ensures.0 (search rules))
 
 pub returns-clause-none : goal.returns-clause-none
-returns-clause-none c = λ f is. omega (arith, c.loop-format.invariant f is, (format_placed f f is.0).1, c.loop-format-test.false)
+returns-clause-none c = λ f is. omega (arith, c.loop-format.invariant f is, format_below f is.0, c.loop-format-test.false)

@@ -1,6 +1,6 @@
 -- What is behind the colon is no number.
 use Rattle.yuv_words.proofs.Cuts.{colon_apart, rest_is}
-use Rattle.yuv_words.proofs.values.ratio.Goals as goal
+use Rattle.yuv_words.proofs.values.RatioOptionValue.spelled.Goals as goal
 
 pub returns-in_err-denominator : goal.returns-in_err-denominator
 returns-in_err-denominator c = rw c.from_residual-in_err-denominator.ensures (λ r is.

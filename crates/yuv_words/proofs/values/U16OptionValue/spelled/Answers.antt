@@ -1,7 +1,7 @@
 -- A text spells one number at most.
 use Rattle.std.proofs.Common.{◌∙◌, sym, arith}
 use Rattle.std.proofs.lemmas.Fmt.{decimal_injective}
-use Rattle.yuv_words.proofs.values.gain.Goals as goal
+use Rattle.yuv_words.proofs.values.U16OptionValue.spelled.Goals as goal
 
 pub returns-then-n-gt65535 : goal.returns-then-n-gt65535
 returns-then-n-gt65535 c = λ n is.
