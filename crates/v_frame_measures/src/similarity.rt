@@ -1,16 +1,17 @@
 //! The structural similarity of two pictures.
 ghost use Rattle.std.specs.Prelude.{◌≡◌, ◌+◌, ◌-◌, ◌*◌, ◌/◌, ◌<◌, ◌≤◌, ◌↔◌, ◌^◌, IfSome, IsSome, min};
-ghost use Rattle.std.specs.Float.Ieee.{binary32, binary64};
 ghost use Rattle.v_frame.specs.Prelude.{height_of, table_of, width_of};
 ghost use Rattle.v_frame_measures.specs.Ssim.{line_format, line_of, peak_of, ssim_of};
 
 mod columns;
+mod line_sum;
 mod narrow;
 mod pairs;
 mod sums;
 mod window;
 
 use crate::rows;
+use line_sum::LineSum;
 use narrow::narrow_pairs;
 use pairs::two_lines;
 use std::num::{f32_to_f64_with_nan, nearest_u64_to_f64};
@@ -77,65 +78,36 @@ fn line<T: Pixel>(
     ensures { result ≡ line_of T.form constants.now a.now b.now (line_format T.form.size) y }
 {
     if T::BYTES == 1 {
-        line_in_f64(a, b, constants, y)
+        line_in::<T, f64>(a, b, constants, y)
     } else {
-        f32_to_f64_with_nan(line_in_f32(a, b, constants, y))
+        f32_to_f64_with_nan(line_in::<T, f32>(a, b, constants, y))
     }
 }
 
-/// Returns the sum over a line of windows, added in `f64`.
-fn line_in_f64<T: Pixel>(
+/// Returns the sum over a line of windows, added in these floats.
+fn line_in<T: Pixel, F: LineSum>(
     a: &RowsRef<'_, T>,
     b: &RowsRef<'_, T>,
     constants: &SsimConstants,
     y: usize,
-) -> f64
+) -> F
     requires wide { width_of a.now ≡ width_of b.now }
     requires high { height_of a.now ≡ height_of b.now }
     requires across { 8 ≤ width_of a.now }
     requires down { 4 * y + 8 ≤ height_of a.now }
     requires means { constants.now.means < 2 ^ 40 }
     requires variances { constants.now.variances < 2 ^ 40 }
-    ensures { result ≡ line_of T.form constants.now a.now b.now binary64 y }
+    ensures { F.float result ≡ line_of T.form constants.now a.now b.now F.format y }
 {
     let columns = a.width();
     // What the clauses of these calls say is the proof.
     let _other = b.width();
     let _height = a.height();
-    let mut sum = 0.0;
+    let mut sum = F::zero();
     let mut left = sums_of_columns(a, b, 0, 4 * y);
     for x in 0..columns / 4 - 1 {
         let right = sums_of_columns(a, b, 4 * x + 4, 4 * y);
-        sum += f32_to_f64_with_nan(similarity(constants, &left.plus(&right)));
-        left = right;
-    }
-    sum
-}
-
-/// Returns the sum over a line of windows, added in `f32`.
-fn line_in_f32<T: Pixel>(
-    a: &RowsRef<'_, T>,
-    b: &RowsRef<'_, T>,
-    constants: &SsimConstants,
-    y: usize,
-) -> f32
-    requires wide { width_of a.now ≡ width_of b.now }
-    requires high { height_of a.now ≡ height_of b.now }
-    requires across { 8 ≤ width_of a.now }
-    requires down { 4 * y + 8 ≤ height_of a.now }
-    requires means { constants.now.means < 2 ^ 40 }
-    requires variances { constants.now.variances < 2 ^ 40 }
-    ensures { result ≡ line_of T.form constants.now a.now b.now binary32 y }
-{
-    let columns = a.width();
-    // What the clauses of these calls say is the proof.
-    let _other = b.width();
-    let _height = a.height();
-    let mut sum = 0.0;
-    let mut left = sums_of_columns(a, b, 0, 4 * y);
-    for x in 0..columns / 4 - 1 {
-        let right = sums_of_columns(a, b, 4 * x + 4, 4 * y);
-        sum += similarity(constants, &left.plus(&right));
+        sum = sum.with_window(similarity(constants, &left.plus(&right)));
         left = right;
     }
     sum

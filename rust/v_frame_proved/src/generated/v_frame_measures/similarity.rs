@@ -2,6 +2,7 @@
 //! The structural similarity of two pictures.
 
 mod columns;
+mod line_sum;
 mod narrow;
 mod pairs;
 mod sums;
@@ -9,6 +10,7 @@ mod window;
 
 use crate::views::AsPlaneRef;
 use crate::generated::v_frame_measures::rows;
+use line_sum::LineSum;
 use narrow::narrow_pairs;
 use pairs::two_lines;
 use crate::support::numbers::{f32_to_f64_with_nan, nearest_u64_to_f64};
@@ -74,43 +76,25 @@ fn line<T: Pixel>(
     y: usize,
 ) -> f64 {
     if T::PIXEL_BYTES == 1 {
-        line_in_f64(a, b, constants, y)
+        line_in::<T, f64>(a, b, constants, y)
     } else {
-        f32_to_f64_with_nan(line_in_f32(a, b, constants, y))
+        f32_to_f64_with_nan(line_in::<T, f32>(a, b, constants, y))
     }
 }
 
-/// Returns the sum over a line of windows, added in `f64`.
-fn line_in_f64<T: Pixel>(
+/// Returns the sum over a line of windows, added in these floats.
+fn line_in<T: Pixel, F: LineSum>(
     a: &RowsRef<'_, T>,
     b: &RowsRef<'_, T>,
     constants: &SsimConstants,
     y: usize,
-) -> f64 {
+) -> F {
     let columns = a.width();
-    let mut sum = 0.0;
+    let mut sum = F::zero();
     let mut left = sums_of_columns(a, b, 0, 4 * y);
     for x in 0..columns / 4 - 1 {
         let right = sums_of_columns(a, b, 4 * x + 4, 4 * y);
-        sum += f32_to_f64_with_nan(similarity(constants, &left.plus(&right)));
-        left = right;
-    }
-    sum
-}
-
-/// Returns the sum over a line of windows, added in `f32`.
-fn line_in_f32<T: Pixel>(
-    a: &RowsRef<'_, T>,
-    b: &RowsRef<'_, T>,
-    constants: &SsimConstants,
-    y: usize,
-) -> f32 {
-    let columns = a.width();
-    let mut sum = 0.0;
-    let mut left = sums_of_columns(a, b, 0, 4 * y);
-    for x in 0..columns / 4 - 1 {
-        let right = sums_of_columns(a, b, 4 * x + 4, 4 * y);
-        sum += similarity(constants, &left.plus(&right));
+        sum = sum.with_window(similarity(constants, &left.plus(&right)));
         left = right;
     }
     sum

@@ -1,5 +1,6 @@
 -- The parts of the first and the last row are added, and those between them whole.
-use Rattle.std.proofs.Common.{ℕ, ◌≡◌, ◌+◌, ◌-◌, ◌*◌, ◌^◌, ◌<◌, ◌≤◌, List, Some, get_or, slice_get, ap, sym, ◌∙◌, refl, arith}
+use Rattle.std.proofs.Common.{ℕ, ◌≡◌, ◌+◌, ◌-◌, ◌*◌, ◌^◌, ◌<◌, ◌≤◌, List, Some, get_or, slice_get}
+use Rattle.std.proofs.Common.{ap, sym, ◌∙◌, refl, arith}
 use Rattle.std.proofs.Math.Nat.{mul-le-mul_left, mul-le-mul_right}
 use Rattle.std.proofs.lemmas.Option.{get_or_from_slice_get}
 use Rattle.v_frame.specs.Prelude.{PixelForm, Table}
@@ -14,8 +15,8 @@ narrow {pixels} {width} {height} is some few =
 
 -- a row that was read is the one at its place
 module _ {T : Type 0} (form : PixelForm T) (width x : ℕ) where
-  counted : {sum : ℕ} {row : List T} (source : Table T) (j : ℕ) → slice_get source j ≡ Some row → sum ≡ row_sum form width x row
-      → sum ≡ row_sum form width x (get_or source j row)
+  counted : {sum : ℕ} {row : List T} (source : Table T) (j : ℕ) → slice_get source j ≡ Some row
+      → sum ≡ row_sum form width x row → sum ≡ row_sum form width x (get_or source j row)
   counted {sum} {row} source j here is =
       is ∙ ap (row_sum form width x) (sym (get_or_from_slice_get source j row row here))
 
@@ -35,15 +36,18 @@ pub overflow_mul-head : goal.overflow_mul-head
 overflow_mul-head g c =
     let count = row_sum g.T.Pixel.form c.args.size.0 c.args.place.0 in let row = c.visible_row.ensures in
     let head = head_added {count = count} c.requires.down refl c.visible_row.result.now
-    (counted g.T.Pixel.form c.args.size.0 c.args.place.0 c.args.source.now c.args.down.first row.value c.sum_of_row.ensures.value)
+    (counted g.T.Pixel.form c.args.size.0 c.args.place.0 c.args.source.now c.args.down.first
+    row.value c.sum_of_row.ensures.value)
     (rw row.wide at c.sum_of_row.ensures.bound) in
-    omega (arith, area_fits _ _ g.met.T.Pixel.byte_or_two g.met.T.Pixel.bytes_of_form c.requires.countable.area (sum_within head))
+    let within = sum_within head in
+    omega (arith, area_fits _ _ g.met.T.Pixel.byte_or_two g.met.T.Pixel.bytes_of_form c.requires.countable.area within)
 
 pub returns-then-last-down-clause-value : goal.returns-then-last-down-clause-value
 returns-then-last-down-clause-value g c =
     let count = row_sum g.T.Pixel.form c.args.size.0 c.args.place.0 in let row = c.visible_row.ensures in
     let head = head_added {count = count} c.requires.down refl c.visible_row.result.now
-    (counted g.T.Pixel.form c.args.size.0 c.args.place.0 c.args.source.now c.args.down.first row.value c.sum_of_row.ensures.value)
+    (counted g.T.Pixel.form c.args.size.0 c.args.place.0 c.args.source.now c.args.down.first
+    row.value c.sum_of_row.ensures.value)
     (rw row.wide at c.sum_of_row.ensures.bound) in
     whole_added c.requires.down refl (omega (arith, c.requires.down.order)) head
 
@@ -51,7 +55,8 @@ pub returns-then-last-down-clause-bound : goal.returns-then-last-down-clause-bou
 returns-then-last-down-clause-bound g c =
     let count = row_sum g.T.Pixel.form c.args.size.0 c.args.place.0 in let row = c.visible_row.ensures in
     let head = head_added {count = count} c.requires.down refl c.visible_row.result.now
-    (counted g.T.Pixel.form c.args.size.0 c.args.place.0 c.args.source.now c.args.down.first row.value c.sum_of_row.ensures.value)
+    (counted g.T.Pixel.form c.args.size.0 c.args.place.0 c.args.source.now c.args.down.first
+    row.value c.sum_of_row.ensures.value)
     (rw row.wide at c.sum_of_row.ensures.bound) in
     omega (arith, sum_within head)
 
@@ -60,21 +65,24 @@ loop-j-init g c =
     let none : c.args.down.head * c.sum_of_row.result + c.args.size.1 * 0 ≡ c.args.down.head * c.sum_of_row.result =
     omega arith in
     rw none (head_added c.requires.down refl c.visible_row.result.now
-    (counted g.T.Pixel.form c.args.size.0 c.args.place.0 c.args.source.now c.args.down.first c.visible_row.ensures.value c.sum_of_row.ensures.value)
+    (counted g.T.Pixel.form c.args.size.0 c.args.place.0 c.args.source.now c.args.down.first
+    c.visible_row.ensures.value c.sum_of_row.ensures.value)
     (rw c.visible_row.ensures.wide at c.sum_of_row.ensures.bound))
 
 pub loop-j-preserved : goal.loop-j-preserved
 loop-j-preserved g c =
     let row = c.visible_row-in-loop-j.ensures in
     inner_added c.requires.down refl _ _ c.visible_row-in-loop-j.result.now (omega arith) (omega arith)
-    (counted g.T.Pixel.form c.args.size.0 c.args.place.0 c.args.source.now c.loop-j.j row.value c.sum_of_row-inner.ensures.value)
+    (counted g.T.Pixel.form c.args.size.0 c.args.place.0 c.args.source.now c.loop-j.j row.value
+    c.sum_of_row-inner.ensures.value)
     (rw row.wide at c.sum_of_row-inner.ensures.bound) c.loop-j.invariant
 
 pub overflow_add-inner : goal.overflow_add-inner
 overflow_add-inner g c =
     let row = c.visible_row-in-loop-j.ensures in
     let next = inner_added c.requires.down refl _ _ c.visible_row-in-loop-j.result.now (omega arith) (omega arith)
-    (counted g.T.Pixel.form c.args.size.0 c.args.place.0 c.args.source.now c.loop-j.j row.value c.sum_of_row-inner.ensures.value)
+    (counted g.T.Pixel.form c.args.size.0 c.args.place.0 c.args.source.now c.loop-j.j row.value
+    c.sum_of_row-inner.ensures.value)
     (rw row.wide at c.sum_of_row-inner.ensures.bound) c.loop-j.invariant in
     let fits = area_fits _ _ g.met.T.Pixel.byte_or_two g.met.T.Pixel.bytes_of_form c.requires.countable.area
     (sum_within next) in
@@ -85,9 +93,11 @@ pub overflow_mul-tail : goal.overflow_mul-tail
 overflow_mul-tail g c =
     let row = c.visible_row-2.ensures in
     let whole = tail_added c.requires.down refl c.visible_row-2.result.now (omega arith)
-    (counted g.T.Pixel.form c.args.size.0 c.args.place.0 c.args.source.now (c.args.down.stop - 1) row.value c.sum_of_row-2.ensures.value)
+    (counted g.T.Pixel.form c.args.size.0 c.args.place.0 c.args.source.now (c.args.down.stop - 1)
+    row.value c.sum_of_row-2.ensures.value)
     (rw row.wide at c.sum_of_row-2.ensures.bound) c.loop-j.invariant in
-    omega (arith, area_fits _ _ g.met.T.Pixel.byte_or_two g.met.T.Pixel.bytes_of_form c.requires.countable.area (sum_within whole))
+    let within = sum_within whole in
+    omega (arith, area_fits _ _ g.met.T.Pixel.byte_or_two g.met.T.Pixel.bytes_of_form c.requires.countable.area within)
 
 pub overflow_mul-result : goal.overflow_mul-result
 overflow_mul-result g c =
@@ -109,15 +119,18 @@ pub overflow_add-result-2 : goal.overflow_add-result-2
 overflow_add-result-2 g c =
     let row = c.visible_row-2.ensures in
     let whole = tail_added c.requires.down refl c.visible_row-2.result.now (omega arith)
-    (counted g.T.Pixel.form c.args.size.0 c.args.place.0 c.args.source.now (c.args.down.stop - 1) row.value c.sum_of_row-2.ensures.value)
+    (counted g.T.Pixel.form c.args.size.0 c.args.place.0 c.args.source.now (c.args.down.stop - 1)
+    row.value c.sum_of_row-2.ensures.value)
     (rw row.wide at c.sum_of_row-2.ensures.bound) c.loop-j.invariant in
-    omega (arith, area_fits _ _ g.met.T.Pixel.byte_or_two g.met.T.Pixel.bytes_of_form c.requires.countable.area (sum_within whole))
+    let within = sum_within whole in
+    omega (arith, area_fits _ _ g.met.T.Pixel.byte_or_two g.met.T.Pixel.bytes_of_form c.requires.countable.area within)
 
 pub returns-clause-value : goal.returns-clause-value
 returns-clause-value g c =
     let row = c.visible_row-2.ensures in
     let whole = tail_added c.requires.down refl c.visible_row-2.result.now (omega arith)
-    (counted g.T.Pixel.form c.args.size.0 c.args.place.0 c.args.source.now (c.args.down.stop - 1) row.value c.sum_of_row-2.ensures.value)
+    (counted g.T.Pixel.form c.args.size.0 c.args.place.0 c.args.source.now (c.args.down.stop - 1)
+    row.value c.sum_of_row-2.ensures.value)
     (rw row.wide at c.sum_of_row-2.ensures.bound) c.loop-j.invariant in
     whole_added c.requires.down refl refl whole
 
@@ -125,6 +138,7 @@ pub returns-clause-bound : goal.returns-clause-bound
 returns-clause-bound g c =
     let row = c.visible_row-2.ensures in
     let whole = tail_added c.requires.down refl c.visible_row-2.result.now (omega arith)
-    (counted g.T.Pixel.form c.args.size.0 c.args.place.0 c.args.source.now (c.args.down.stop - 1) row.value c.sum_of_row-2.ensures.value)
+    (counted g.T.Pixel.form c.args.size.0 c.args.place.0 c.args.source.now (c.args.down.stop - 1)
+    row.value c.sum_of_row-2.ensures.value)
     (rw row.wide at c.sum_of_row-2.ensures.bound) c.loop-j.invariant in
     omega (arith, sum_within whole)

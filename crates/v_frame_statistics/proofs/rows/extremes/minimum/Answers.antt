@@ -4,5 +4,6 @@ use Rattle.v_frame_statistics.proofs.rows.extremes.minimum.Goals as goal
 
 pub loop-y-preserved : goal.loop-y-preserved
 loop-y-preserved g c =
-    first_of_more_rows (by_least g.T.Pixel.form.value) c.args.rows.now c.loop-y.y _ c.visible_row-in-loop-y.ensures.value _ _ _
+    first_of_more_rows (by_least g.T.Pixel.form.value) c.args.rows.now c.loop-y.y _
+    c.visible_row-in-loop-y.ensures.value _ _ _
     c.loop-y.invariant c.least_of_row.ensures c.lesser-least.ensures

@@ -22,7 +22,8 @@ loop-y-preserved g c =
       squares =
           row_summed _ 4294967296 table y _ _ _ so_far.squares row.value row.wide sums.value.squares sums.bound.squares;
       least =
-          first_of_more_rows (by_least value) table y _ row.value _ _ _ so_far.least extremes.least c.lesser-minimum.ensures;
+          first_of_more_rows (by_least value) table y _ row.value _ _ _ so_far.least extremes.least
+          c.lesser-minimum.ensures;
       greatest =
           first_of_more_rows (by_greatest value) table y _ row.value _ _ _ so_far.greatest extremes.greatest
           c.greater-maximum.ensures;

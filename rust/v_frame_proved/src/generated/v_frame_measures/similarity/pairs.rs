@@ -2,6 +2,7 @@
 //! Two lines of windows at once, of narrow values: the rows that both have are summed once.
 
 use crate::generated::v_frame_measures::similarity::columns::ColumnSums;
+use crate::generated::v_frame_measures::similarity::line_sum::LineSum;
 use crate::generated::v_frame_measures::similarity::sums::sums_of_columns;
 use crate::generated::v_frame_measures::similarity::window::{SsimConstants, similarity};
 use crate::support::numbers::f32_to_f64_with_nan;
@@ -16,24 +17,24 @@ pub(crate) fn two_lines<T: Pixel>(
     y: usize,
 ) -> (f64, f64) {
     if T::PIXEL_BYTES == 1 {
-        two_lines_in_f64(a, b, constants, y)
+        two_lines_in::<T, f64>(a, b, constants, y)
     } else {
-        let (upper, lower) = two_lines_in_f32(a, b, constants, y);
+        let (upper, lower) = two_lines_in::<T, f32>(a, b, constants, y);
         (f32_to_f64_with_nan(upper), f32_to_f64_with_nan(lower))
     }
 }
 
-/// Returns both sums, added in `f64`.
-fn two_lines_in_f64<T: Pixel>(
+/// Returns both sums, added in these floats.
+fn two_lines_in<T: Pixel, F: LineSum>(
     a: &RowsRef<'_, T>,
     b: &RowsRef<'_, T>,
     constants: &SsimConstants,
     y: usize,
-) -> (f64, f64) {
+) -> (F, F) {
     let columns = a.width();
     let (mut top, mut middle) = (ColumnSums::none(), ColumnSums::none());
     let mut bottom = ColumnSums::none();
-    let (mut upper, mut lower) = (0.0, 0.0);
+    let (mut upper, mut lower) = (F::zero(), F::zero());
     let mut upper_left = sums_of_columns(a, b, 0, 4 * y);
     let mut lower_left = sums_of_columns(a, b, 0, 4 * y + 4);
     let parts = (columns / 4 - 1) / 8;
@@ -44,8 +45,8 @@ fn two_lines_in_f64<T: Pixel>(
         for k in 0..8 {
             let upper_right = top.block(&middle, k);
             let lower_right = middle.block(&bottom, k);
-            upper += f32_to_f64_with_nan(similarity(constants, &upper_left.plus(&upper_right)));
-            lower += f32_to_f64_with_nan(similarity(constants, &lower_left.plus(&lower_right)));
+            upper = upper.with_window(similarity(constants, &upper_left.plus(&upper_right)));
+            lower = lower.with_window(similarity(constants, &lower_left.plus(&lower_right)));
             upper_left = upper_right;
             lower_left = lower_right;
         }
@@ -53,46 +54,8 @@ fn two_lines_in_f64<T: Pixel>(
     for x in 8 * parts..columns / 4 - 1 {
         let upper_right = sums_of_columns(a, b, 4 * x + 4, 4 * y);
         let lower_right = sums_of_columns(a, b, 4 * x + 4, 4 * y + 4);
-        upper += f32_to_f64_with_nan(similarity(constants, &upper_left.plus(&upper_right)));
-        lower += f32_to_f64_with_nan(similarity(constants, &lower_left.plus(&lower_right)));
-        upper_left = upper_right;
-        lower_left = lower_right;
-    }
-    (upper, lower)
-}
-
-/// Returns both sums, added in `f32`.
-fn two_lines_in_f32<T: Pixel>(
-    a: &RowsRef<'_, T>,
-    b: &RowsRef<'_, T>,
-    constants: &SsimConstants,
-    y: usize,
-) -> (f32, f32) {
-    let columns = a.width();
-    let (mut top, mut middle) = (ColumnSums::none(), ColumnSums::none());
-    let mut bottom = ColumnSums::none();
-    let (mut upper, mut lower) = (0.0, 0.0);
-    let mut upper_left = sums_of_columns(a, b, 0, 4 * y);
-    let mut lower_left = sums_of_columns(a, b, 0, 4 * y + 4);
-    let parts = (columns / 4 - 1) / 8;
-    for part in 0..parts {
-        top.sum_rows(a, b, 32 * part + 4, 4 * y);
-        middle.sum_rows(a, b, 32 * part + 4, 4 * y + 4);
-        bottom.sum_rows(a, b, 32 * part + 4, 4 * y + 8);
-        for k in 0..8 {
-            let upper_right = top.block(&middle, k);
-            let lower_right = middle.block(&bottom, k);
-            upper += similarity(constants, &upper_left.plus(&upper_right));
-            lower += similarity(constants, &lower_left.plus(&lower_right));
-            upper_left = upper_right;
-            lower_left = lower_right;
-        }
-    }
-    for x in 8 * parts..columns / 4 - 1 {
-        let upper_right = sums_of_columns(a, b, 4 * x + 4, 4 * y);
-        let lower_right = sums_of_columns(a, b, 4 * x + 4, 4 * y + 4);
-        upper += similarity(constants, &upper_left.plus(&upper_right));
-        lower += similarity(constants, &lower_left.plus(&lower_right));
+        upper = upper.with_window(similarity(constants, &upper_left.plus(&upper_right)));
+        lower = lower.with_window(similarity(constants, &lower_left.plus(&lower_right)));
         upper_left = upper_right;
         lower_left = lower_right;
     }

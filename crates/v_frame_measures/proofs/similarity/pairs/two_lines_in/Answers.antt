@@ -1,19 +1,17 @@
 -- One more window of each line: in a part of the columns, and of the rest. And all.
-use Rattle.std.proofs.Common.{◌≡◌, ◌+◌, ◌-◌, ◌*◌, ◌/◌, ◌≤◌, ◌<◌, arith, refl, ◌∙◌}
-use Rattle.std.specs.Float.Ieee.{binary64, of_bits}
+use Rattle.std.proofs.Common.{◌≡◌, ◌+◌, ◌-◌, ◌*◌, ◌/◌, ◌≤◌, ◌<◌, arith}
 use Rattle.v_frame.specs.Prelude.{width_of}
 use Rattle.v_frame_measures.specs.Ssim.{windows_along}
 use Rattle.v_frame_measures.proofs.Blocks.{eight_rows}
 use Rattle.v_frame_measures.proofs.Lines.{one_more_window}
-use Rattle.v_frame_measures.proofs.similarity.pairs.two_lines_in_f64.Goals as goal
+use Rattle.v_frame_measures.proofs.similarity.pairs.two_lines_in.Goals as goal
 
 pub loop-part-init : goal.loop-part-init
-unfolding of_bits
 loop-part-init g c =
     let row : 4 * c.args.y + 4 ≡ 4 * (c.args.y + 1) = omega arith in
     let upper = c.sums_of_columns-upper_left.ensures in let lower = c.sums_of_columns-lower_left.ensures in record {
-      upper = record { so_far = refl; left = upper.value; bound = upper.bound };
-      lower = record { so_far = refl; left = rw row at lower.value; bound = lower.bound };
+      upper = record { so_far = c.zero-upper.ensures; left = upper.value; bound = upper.bound };
+      lower = record { so_far = c.zero-lower.ensures; left = rw row at lower.value; bound = lower.bound };
     }
 
 pub loop-part-preserved : goal.loop-part-preserved
@@ -51,13 +49,15 @@ loop-k-preserved g c =
     c.requires.high x (4 * y + 4) k _ _ lower.result few reach reach1 middle bottom lower.ensures.value) in
     record {
       upper =
-          rw next (one_more_window binary64 form constants a b width.result width1.result width.ensures.rows
+          rw (next, c.with_window-upper.ensures)
+          (one_more_window g.F.LineSum.format form constants a b width.result width1.result width.ensures.rows
           width1.ensures.rows c.requires.high y n _ _ _ _ _ within within1 so_far.upper upper_is upper.ensures.bound
-          c.plus.ensures.value (c.f32_to_f64_with_nan-upper.ensures ∙ c.similarity.ensures));
+          c.plus.ensures.value c.similarity.ensures);
       lower =
-          rw next (one_more_window binary64 form constants a b width.result width1.result width.ensures.rows
+          rw (next, c.with_window-lower.ensures)
+          (one_more_window g.F.LineSum.format form constants a b width.result width1.result width.ensures.rows
           width1.ensures.rows c.requires.high (y + 1) n _ _ _ _ _ within within1 so_far.lower lower_is lower.ensures.bound
-          c.plus-in-loop-k.ensures.value (c.f32_to_f64_with_nan-lower.ensures ∙ c.similarity-in-loop-k.ensures));
+          c.plus-in-loop-k.ensures.value c.similarity-in-loop-k.ensures);
     }
 
 pub loop-x-init : goal.loop-x-init
@@ -79,13 +79,15 @@ loop-x-preserved g c =
     let upper = c.sums_of_columns-upper_right.ensures in let lower = c.sums_of_columns-lower_right.ensures in
     record {
       upper =
-          one_more_window binary64 form constants a b width.result width1.result width.ensures.rows width1.ensures.rows
-          c.requires.high y x _ _ _ _ _ within within1 so_far.upper upper.value upper.bound
-          c.plus-in-loop-x.ensures.value (c.f32_to_f64_with_nan-upper-in-loop-x.ensures ∙ c.similarity-in-loop-x.ensures);
+          rw c.with_window-upper-in-loop-x.ensures
+          (one_more_window g.F.LineSum.format form constants a b width.result width1.result width.ensures.rows
+          width1.ensures.rows c.requires.high y x _ _ _ _ _ within within1 so_far.upper upper.value upper.bound
+          c.plus-in-loop-x.ensures.value c.similarity-in-loop-x.ensures);
       lower =
-          one_more_window binary64 form constants a b width.result width1.result width.ensures.rows width1.ensures.rows
-          c.requires.high (y + 1) x _ _ _ _ _ within within1 so_far.lower (rw row at lower.value) lower.bound
-          c.plus-in-loop-x-2.ensures.value (c.f32_to_f64_with_nan-lower-in-loop-x.ensures ∙ c.similarity-in-loop-x-2.ensures);
+          rw c.with_window-lower-in-loop-x.ensures
+          (one_more_window g.F.LineSum.format form constants a b width.result width1.result width.ensures.rows
+          width1.ensures.rows c.requires.high (y + 1) x _ _ _ _ _ within within1 so_far.lower (rw row at lower.value) lower.bound
+          c.plus-in-loop-x-2.ensures.value c.similarity-in-loop-x-2.ensures);
     }
 
 pub returns : goal.returns

@@ -1,11 +1,10 @@
 -- One more window: its left half is the right half of the window before. And all.
 use Rattle.std.proofs.Common.{◌≡◌, ◌+◌, ◌*◌, ◌≤◌, ap, ◌∙◌, arith}
-use Rattle.std.specs.Float.Ieee.{binary64}
 use Rattle.v_frame.specs.Prelude.{width_of}
 use Rattle.v_frame_measures.specs.Ssim.{similarity_of, window_at, windows_along}
 use Rattle.v_frame_measures.proofs.Joined.{window_of_halves}
 use Rattle.v_frame_measures.proofs.Lines.{one_more}
-use Rattle.v_frame_measures.proofs.similarity.line_in_f64.Goals as goal
+use Rattle.v_frame_measures.proofs.similarity.line_in.Goals as goal
 
 pub loop-x-preserved : goal.loop-x-preserved
 loop-x-preserved g c =
@@ -21,8 +20,9 @@ loop-x-preserved g c =
     so_far.left right.value width.ensures.rows width1.ensures.rows within within1 c.requires.high in
     record {
       so_far =
-          one_more binary64 (λ k. window_at form constants a b k y) x _ _ so_far.so_far
-          (c.f32_to_f64_with_nan-sum.ensures ∙ c.similarity.ensures ∙ ap (similarity_of constants) window);
+          c.with_window-sum.ensures
+          ∙ one_more g.F.LineSum.format (λ k. window_at form constants a b k y) x _ _ so_far.so_far
+          (c.similarity.ensures ∙ ap (similarity_of constants) window);
       left = rw next right.value;
       bound = right.bound;
     }

@@ -1,0 +1,54 @@
+//! The floats in which the windows of a line are added.
+ghost use Rattle.std.specs.Prelude.{◌≡◌};
+ghost use Rattle.std.specs.Float.{float_zero};
+ghost use Rattle.std.specs.Float.Ieee.{Float, Format, add, binary32, binary64};
+
+use std::num::f32_to_f64_with_nan;
+
+/// A float in which the windows of a line are added, one after the other.
+pub(crate) trait LineSum: Copy {
+    // What it is, and how its sums are rounded.
+    ghost float: { Self → Float };
+
+    ghost format: { Format };
+
+    /// Returns the sum of no window.
+    fn zero() -> Self
+        ensures { float result ≡ float_zero };
+
+    /// Returns the sum with one more window.
+    fn with_window(self, similarity: f32) -> Self
+        ensures { float result ≡ add format (float self) similarity };
+}
+
+impl LineSum for f32 {
+    ghost float = { λ sum. sum };
+
+    ghost format = { binary32 };
+
+    #[inline(always)]
+    fn zero() -> f32 {
+        0.0
+    }
+
+    #[inline(always)]
+    fn with_window(self, similarity: f32) -> f32 {
+        self + similarity
+    }
+}
+
+impl LineSum for f64 {
+    ghost float = { λ sum. sum };
+
+    ghost format = { binary64 };
+
+    #[inline(always)]
+    fn zero() -> f64 {
+        0.0
+    }
+
+    #[inline(always)]
+    fn with_window(self, similarity: f32) -> f64 {
+        self + f32_to_f64_with_nan(similarity)
+    }
+}
