@@ -7,10 +7,14 @@ import pathlib
 import re
 
 
-def rows_of(page, head):
+def page(name):
+    """Returns the text of a page beside this file."""
+    return pathlib.Path(__file__).with_name(name).read_text(encoding="utf-8")
+
+
+def rows_of(name, head):
     """Returns the rows of the table of a page that has this head, cell by cell; of a cell of code, what it quotes."""
-    text = pathlib.Path(__file__).with_name(page).read_text(encoding="utf-8")
-    table = text.split(f"\n| {head} |\n")[1].split("\n\n")[0]
+    table = page(name).split(f"\n| {head} |\n")[1].split("\n\n")[0]
     rows = [row.removeprefix("| ").removesuffix(" |").split(" | ") for row in table.splitlines()[1:]]
     return [[re.sub(r"^`([^`]*)`$", r"\1", cell) for cell in row] for row in rows]
 
@@ -64,20 +68,7 @@ WITHOUT_TESTS = {trait: names.split() for trait, names in rows_of("tables.md", "
 FACTS = {("v_frame_turn", "write_reversed"), ("v_frame_semi_planar", "deinterleave_pixels")}
 
 # The original's bounds of `Pixel` beyond those of the source, and the head of the hidden trait that has what it lacks.
-PIXEL_BOUNDS = """+ core::fmt::LowerExp
-    + core::fmt::UpperExp
-    + TryInto<u8, Error: core::error::Error>
-    + Into<u16>
-    + From<u8>
-    + TryFrom<u16, Error: core::error::Error>
-    + Send
-    + Sync
-    + PixelCalls {
-}
-
-/// What the library calls of a pixel. It is no part of what users may rely on.
-#[doc(hidden)]
-pub trait PixelCalls: Copy + sealed::Sealed + 'static"""
+PIXEL_BOUNDS = page("tables.md").split("```rust\n")[1].split("\n```")[0]
 # What stands for a type of pixels in front of `::`, and what it offers in the source.
 PIXEL_TYPES = {"T", "S", "u8", "u16", "Pixel"}
 PIXEL_CALLS = {"BYTES", "ZERO", "into_u16", "try_into_u8", "from_u8", "try_from_u16", *WITHOUT_TESTS["Pixel"]}
