@@ -19,7 +19,7 @@ def module_of(source, crate):
     """Returns the path of a source crate, as this source names it in Rust, or nothing."""
     if crate in tables.BY_HAND:
         return tables.BY_HAND[crate]
-    if home_of(crate) is not None and home_of(crate) == home_of(source.crate):
+    if home_of(crate) == home_of(source.crate):
         return f"crate::generated::{crate}"
     return tables.PUBLIC_NAMES.get(crate)
 

@@ -7,19 +7,13 @@ The list is made of the tokens that were written and of the changes that they be
 from collections import Counter
 from itertools import groupby
 
-from .tables import rows_of
+from .tables import page, rows_of
 from .tokens import words_of
 
 # Each rule with the sentence that the list says of it.
 RULES = dict(rows_of("rules.md", "rule | what the list says of it"))
-
-HEAD = (
-    "# What `tools/to-rust` changed\n\n"
-    "Written by `tools/to-rust`, and compared by `tools/to-rust --check`. The generated files are the tokens of the "
-    "sources in\ntheir order. All that differs is here: first what was left out, then each token that is no token of a "
-    "source, beside what\nstands there in the source. Blanks and line ends are not listed.\n\n"
-    "{} tokens of the output are the sources' own.\n"
-)
+# What the list begins with.
+HEAD = page("rules.md").split("```md\n")[1].split("```")[0]
 # Rules whose left-out tokens are listed one by one, for they are no contracts.
 SHOWN = {"law-call", "law-module", "unread-value", "allocator-argument", "doc-proofs", "comment-proofs"}
 # Rules whose tokens are counted alone, for they stand in files of their own.

@@ -40,7 +40,6 @@ FOR_C = {"v_frame_c", "v_frame_y4m_c"}
 # Crates that are written by hand in Rust, for they hold raw memory in Rattle, and the modules that take their place.
 BY_HAND = {"v_frame_buffer": "crate::buffer"}
 
-
 # Names of Rattle's `std` that imports may have, and Rust's names for them. None: nothing takes its place.
 STD_NAMES = {f"{old}::{name}": f"{new}::{name}" for old, new, names in rows_of("tables.md", "module | in Rust | names")
              for name in names.split()}
