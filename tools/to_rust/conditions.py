@@ -222,7 +222,7 @@ def add_facts(source):
 
 def add_tests(source, item, checks):
     """Writes the tests at the beginning of the body, when the function stops in its text, and the one without tests."""
-    lead = "\n" + source.tokens[item.head].lead.rpartition("\n")[2]
+    lead = source.line_start(item.head)
     inner, start, tests = lead + "    ", item.body[0] + 1, []
     if (source.crate, item.name) in tables.HOT:
         source.insert(start, "hot-call", hot_text(source, item, lead), inner)
