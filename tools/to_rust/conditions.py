@@ -8,26 +8,24 @@ a sum or product of two; what is counted of two is counted in `u128`, in which i
 clause, so its types are right. Any other clause is refused.
 """
 
-import pathlib
 import re
 from collections import namedtuple
 
 from . import tables
 from .items import functions_of, parameters_of
+from .tables import rows_of
 from .tokens import Refused
 
 # A Rust test that is true where the condition holds; when it does not hold; a message, with values in brackets.
 Check = namedtuple("Check", "test words message")
 
-TABLE = pathlib.Path(__file__).with_suffix(".md").read_text(encoding="utf-8")
-ROW = re.compile(r"^\| `(\w+ .*?)` \| `(.*?)` \| (.*) \| (.*) \|$", re.M)
-PREDICATES = {row[0].split()[0]: row for row in ROW.findall(TABLE)}
+PREDICATES = {row[0].split()[0]: row for row in rows_of("conditions.md", "predicate | test | panics where | message")}
 PROVED = "_proved"
 SIGNS = {"<": ("<", "is not below"), "≤": ("<=", "is above"), "≡": ("==", "is not"), "≢": ("!=", "is")}
 COMPARISON = re.compile(r"([^<≤≡≢]+) ([<≤≡≢]) ([^<≤≡≢]+)")
 APPLIED = re.compile(r"(\w+)((?: (?:[^\s()]+|\([^()]+\)))*)")
-NUMBERS = {"u8", "u16", "u32", "u64", "usize"}
-KINDS = {"View": {"Plane", "PlaneRef"}, "Picture": {"Plane", "PlaneRef", "RowsRef", "PlaneGeometry"}, "number": NUMBERS, "Reader": {"Picture"}}
+# Words for any of some types.
+KINDS = {word: set(types.split()) for word, types in rows_of("conditions.md", "word | types")}
 
 
 class Term(namedtuple("Term", "rust kind words shown noun", defaults=("", ""))):
@@ -134,7 +132,7 @@ class Reader:
             kind, text = kind.format(**terms) or "usize", text.strip("()")
             if kind in ("bytes", "form"):  # The type of pixels that has so many, or that form.
                 terms[name] = self.thing(self.known(re.fullmatch(r"([A-Z])\.(?:BYTES|form)", text))[1], "type")
-            elif kind in NUMBERS:
+            elif kind in KINDS["number"]:
                 terms[name] = self.number(text)
                 self.known(terms[name].kind in (kind, "literal"))
             else:
@@ -224,7 +222,7 @@ def add_facts(source):
 
 def add_tests(source, item, checks):
     """Writes the tests at the beginning of the body, when the function stops in its text, and the one without tests."""
-    lead = "\n" + source.tokens[item.head].lead.rpartition("\n")[2]
+    lead = source.line_start(item.head)
     inner, start, tests = lead + "    ", item.body[0] + 1, []
     if (source.crate, item.name) in tables.HOT:
         source.insert(start, "hot-call", hot_text(source, item, lead), inner)

@@ -114,8 +114,7 @@ def rewrite_text(source, start, end, links):
     while back < min(len(old), len(new)) - front and old[-1 - back] == new[-1 - back]:
         back += 1
     lines = [f"{mark} {line}".rstrip() for line in new[front:len(new) - back]]
-    lead = source.tokens[start + front].lead
-    text = ("\n" + lead.rpartition("\n")[2]).join(lines)
+    text = source.line_start(start + front).join(lines)
     if lines or front < len(old) - back:
         source.replace(start + front, end - back, "doc-filled" if left_out else "doc-path", text)
     return start + len(new)

@@ -8,11 +8,9 @@ from .strict import KNOWN
 from .items import functions_of, items_of, parameters_of
 from .paths import leaves_of
 
-# Calls and marks that only read, which may stand in a statement whose value nobody reads, and in what is proved.
-READING = {"width", "height", "byte_len", "data", "chroma_len", "frame", "visible_row"}
+# Marks that only read, as calls of the kind `reading` do: both may stand in a statement whose value nobody reads, and in
+# what is proved.
 READING_MARKS = set(". , ( ) & + - * && || == != < <= > >=".split())
-# Variables that nobody reads, whose statements do something.
-KEPT = {"_held", "_program"}
 
 
 def erase_proofs(source):
@@ -32,7 +30,7 @@ def only_reads(source, start, end):
     """Returns whether the tokens from `start` up to `end` are names, numbers, and calls that only read."""
     plain = [k for k in range(start, end) if source[k] not in READING_MARKS and source.kind(k) != "number"]
     words = all(source.is_word(k) and source[k] not in KNOWN["keywords"] - {"self"} for k in plain)
-    return words and {source[k] for k in plain if source[k + 1] == "("} <= READING \
+    return words and {source[k] for k in plain if source[k + 1] == "("} <= KNOWN["reading"] \
         and not any(source[k] == ")" and source[k + 1] == "(" for k in range(start, end))
 
 
@@ -42,7 +40,7 @@ def erase_unread(source):
     for at in source.places("let", "prove"):
         if source.matches(at, "prove !") and not only_reads(source, at + 2, source.closing(at + 2)):
             source.refuse(at, "a condition that may do something")
-        if source[at + 1].startswith("_") and source[at + 1] not in {"_", *KEPT} and source[at + 2] == "=":
+        if source[at + 1].startswith("_") and source[at + 1] not in {"_", *KNOWN["unread"]} and source[at + 2] == "=":
             end = source.following(at, ";")
             if not only_reads(source, at + 3, end):
                 source.refuse(at, "a statement whose value nobody reads, and which may do something")

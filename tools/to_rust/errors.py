@@ -4,7 +4,6 @@ import re
 
 from .items import Item, items_of, skip_attributes
 
-
 # What `thiserror` reads, at variants and fields of what it derives an error for.
 MARKED = ("error", "source", "from")
 
@@ -64,16 +63,17 @@ class Variant:
 def write_errors(source):
     """Writes `Display`, `Error` and `From` for each type that derives them."""
     for item in reversed(items_of(source)):
-        for start, end in item.attributes:
-            derived = [at for at in range(start, end) if source[start + 2] == "derive" and source[at] == "Error"]
-            if derived:
-                if item.kind != "enum" or not item.body:
-                    source.refuse(item.keyword, "an error that is no enum")
-                variants = [Variant(source, at, item.name) for at, _ in source.elements(item.body[0], types=True)]
-                source.insert(item.end, "error-derive", impls_text(item.name, variants), "\n\n")
-                for at in reversed([at for at in range(*item.body) if source[at + 1] in MARKED and source[at] == "["]):
-                    source.erase(at - 1, source.closing(at) + 1, "error-derive")
-                source.erase_listed(derived[0], derived[0] + 1, "error-derive")
+        derives = [range(start, end) for start, end in item.attributes if source[start + 2] == "derive"]
+        derived = [at for places in derives for at in places if source[at] == "Error"]
+        if not derived:
+            continue
+        if item.kind != "enum" or not item.body:
+            source.refuse(item.keyword, "an error that is no enum")
+        variants = [Variant(source, at, item.name) for at, _ in source.elements(item.body[0], types=True)]
+        source.insert(item.end, "error-derive", impls_text(item.name, variants), "\n\n")
+        for at in reversed([at for at in range(*item.body) if source[at + 1] in MARKED and source[at] == "["]):
+            source.erase(at - 1, source.closing(at) + 1, "error-derive")
+        source.erase_listed(derived[0], derived[0] + 1, "error-derive")
     for at in source.places(*MARKED):
         if source[at - 1] == "[" and source[at - 2] == "#":
             source.refuse(at, f"an attribute that is not known: {source[at]}")

@@ -62,7 +62,7 @@ class Examples:
         if path in self.code and docs:
             self.used.add(path)
             lines = ["", "# Examples", "", "```", *self.code[path].splitlines(), "```"]
-            lead = "\n" + source.tokens[docs[-1]].lead.rpartition("\n")[2]
+            lead = source.line_start(docs[-1])
             text = lead.join(f"{mark} {line}".rstrip() for line in lines)
             source.insert(docs[-1] + 1, "doc-example", text, lead)
 

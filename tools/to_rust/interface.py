@@ -39,7 +39,7 @@ def take_views(source, reach):
         names = [at for _, at, _ in parameters_of(source, item)]
         found = [(at, *VIEWS[form]) for at in names for form in VIEWS if source.matches(at + 1, form)]
         if found:
-            lead = "\n" + source.tokens[item.head].lead.rpartition("\n")[2] + "    "
+            lead = source.line_start(item.head) + "    "
             lines = [f"let {source[at]} = &{source[at]}.{call}();" for at, _, call in found]
             source.insert(item.body[0] + 1, "view-taken", lead.join(lines), lead)
         for at, trait, _ in reversed(found):

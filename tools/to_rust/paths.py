@@ -19,7 +19,7 @@ def module_of(source, crate):
     """Returns the path of a source crate, as this source names it in Rust, or nothing."""
     if crate in tables.BY_HAND:
         return tables.BY_HAND[crate]
-    if home_of(crate) is not None and home_of(crate) == home_of(source.crate):
+    if home_of(crate) == home_of(source.crate):
         return f"crate::generated::{crate}"
     return tables.PUBLIC_NAMES.get(crate)
 
@@ -135,21 +135,23 @@ class Reach:
             else:
                 self.note(crate, (*path, item.name), f"{name}::{item.name}")
 
-    def follow(self, source, item, parts, name):
-        """Follows a public import to a module, or to an item of one."""
+    def follow(self, source, item, parts, name, passed=()):
+        """Follows a public import, past those it leads through, to a module or to an item of one."""
         crate, path = source.crate, (*source.module, *parts)
         if parts[0] == "crate" or (parts[0], ()) in self.sources:
             crate, path = crate if parts[0] == "crate" else parts[0], tuple(parts[1:])
         home = self.sources.get((crate, path[:-1]))
-        items = [it.name for it in items_of(home) if it.kind != "use" and it.owner is None] if home else []
-        for it in items_of(home) if home and path[-1] not in items else ():
-            for leaf, alias in leaves_of(home, it.keyword + 1, it.end - 1) if it.kind == "use" and it.is_public() else ():
+        items = [it for it in items_of(home) if it.owner is None] if home else []
+        known = (crate, path) in self.sources or parts[0] in tables.BY_HAND
+        if known or path[-1] in [it.name for it in items if it.kind != "use"]:
+            self.note(crate, path, name)
+            return
+        for it in (it for it in items if it.kind == "use" and it.is_public() and (crate, path) not in passed):
+            for leaf, alias in leaves_of(home, it.keyword + 1, it.end - 1):
                 if path[-1] == (alias or leaf.rpartition("::")[2]):
-                    self.follow(home, it, leaf.split("::"), name)
+                    self.follow(home, it, leaf.split("::"), name, (*passed, (crate, path)))
                     return
-        if path and path[-1] not in items and (crate, path) not in self.sources and parts[0] not in tables.BY_HAND:
-            source.refuse(item.keyword, f"a public import that leads nowhere: {'::'.join(parts)}")
-        self.note(crate, path, name)
+        source.refuse(item.keyword, f"a public import that leads nowhere: {'::'.join(parts)}")
 
     def is_public(self, source, item):
         """Returns whether users can call a function."""

@@ -73,9 +73,12 @@ class Source:
 
     def insert_line(self, at, rule, text):
         """Puts a line in front of the line that begins at `at`."""
-        lead = self.tokens[at].lead
-        end = self.insert(at, rule, text, lead)
-        self.tokens[end].lead = "\n" + lead.rpartition("\n")[2]
+        end = self.insert(at, rule, text, self.tokens[at].lead)
+        self.tokens[end].lead = self.line_start(end)
+
+    def line_start(self, at):
+        """Returns the lead of one more line, in the column of the token at `at`, with which a line begins."""
+        return "\n" + self.tokens[at].lead.rpartition("\n")[2]
 
     def erase(self, start, end, rule):
         """Takes the tokens from `start` up to `end` away."""

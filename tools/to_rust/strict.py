@@ -1,15 +1,14 @@
 """What a source may hold: each macro, attribute, type, method, call, path and format that is not its own stands in
 `known.md`."""
 
-import pathlib
 import re
 
 from . import exports, tables
 from .items import Item, items_of, skip_attributes
 from .paths import STD, home_of, leaves_of
+from .tables import rows_of
 
-TABLE = pathlib.Path(__file__).with_name("known.md").read_text(encoding="utf-8")
-KNOWN = {kind: set(words.split()) for kind, words in re.findall(r"^\| (\w+) \| `(.*)` \|$", TABLE, re.M)}
+KNOWN = {kind: set(words.split()) for kind, words in rows_of("known.md", "kind | words")}
 WRITING = {"eprintln", "format", "unreachable", "write", "writeln"}
 FORMAT = re.compile(r"\{[^{}]*:([^{}]*)\}")
 # Keywords that cannot stand behind a name.
