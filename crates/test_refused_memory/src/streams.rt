@@ -8,10 +8,10 @@ use v_frame_streams::{
 };
 use v_frame_y4m::{Colour, StreamHeader};
 
-/// Two frames of two by two pixels, and their header.
-static STREAM: [u8; 42] = *b"YUV4MPEG2 W2 H2 Cmono\nFRAME\nabcdFRAME\nefgh";
+/// The header line of a stream.
+static STREAM: [u8; 23] = *b"YUV4MPEG2 W30 H2 Cmono\n";
 
-/// The pixels of two such frames.
+/// The pixels of two frames of two by two.
 static PIXELS: [u8; 8] = *b"abcdefgh";
 
 /// Shows the case of this name, here or behind. `None` where a request of its preparation was refused.

@@ -33,25 +33,33 @@ use crate::generated::v_frame::pixel::Pixel;
 /// use v_frame_proved::streams::{CompareOptions, Comparison, Component, FrameObserver, MAX_PIXELS, NoObserver};
 /// use v_frame_proved::streams::{PixelDifference, Place, PlaneSums, Silent, Source, StreamError, compare_streams};
 ///
-/// const FIRST: &[u8] = b"YUV4MPEG2 W2 H1 F25:1 Cmono\nFRAME\nabFRAME\ncd";
-/// const SECOND: &[u8] = b"YUV4MPEG2 W2 H1 F25:1 Cmono\nFRAME\nad";
+/// const FRAME: [u8; 32] = [98; 32];
 /// let all = CompareOptions { skip_first: 0, skip_second: 0, count: None, max_pixels: MAX_PIXELS };
 ///
-/// /// Returns how far the two are apart, shown to an observer frame by frame.
+/// /// Returns a stream of these frames.
+/// fn stream(frames: &[[u8; 32]]) -> Vec<u8> {
+///     let frames = frames.iter().flat_map(|frame| [&b"FRAME\n"[..], frame].concat());
+///     b"YUV4MPEG2 W32 H1 F25:1 Cmono\n".iter().copied().chain(frames).collect()
+/// }
+///
+/// /// Returns how far two streams are apart, shown to an observer frame by frame.
 /// fn compared<O>(options: &CompareOptions, observer: &mut O) -> Result<Comparison, StreamError>
 /// where
 ///     O: FrameObserver<u8> + FrameObserver<u16>,
 /// {
-///     let mut first = Source::y4m(Place::First, FIRST)?;
-///     let mut second = Source::y4m(Place::Second, SECOND)?;
+///     let mut changed = FRAME;
+///     changed[1] = 100;
+///     let (first, second) = (stream(&[FRAME, FRAME]), stream(&[changed]));
+///     let mut first = Source::y4m(Place::First, &first[..])?;
+///     let mut second = Source::y4m(Place::Second, &second[..])?;
 ///     compare_streams(&mut first, &mut second, options, observer, &mut Silent)
 /// }
 ///
 /// let found = compared(&all, &mut NoObserver)?;
 /// assert!(!found.shows_the_same());
 /// assert_eq!((found.frames, found.longer), (1, Some(Place::First)));
-/// let Some((0, PixelDifference { component: Component::Y, x: 1, y: 0, first: 98, second: 100 })) = found.difference
-/// else { panic!("b is 98, and d is 100") };
+/// let place = PixelDifference { component: Component::Y, x: 1, y: 0, first: 98, second: 100 };
+/// assert_eq!(found.difference, Some((0, place)));
 /// assert_eq!((found.errors.y, found.errors.plus(&found.errors).total()), (4, 8));
 /// assert_eq!(found.errors.times(3).total(), 12);
 ///

@@ -38,18 +38,20 @@ use crate::generated::v_frame_y4m::StreamHeader;
 /// use v_frame_proved::streams::{Container, CopyOptions, Place, Progress, Rectangle, Silent, Sink, Source};
 /// use v_frame_proved::streams::{copy_stream, skip_frames};
 ///
-/// let input = b"YUV4MPEG2 W4 H2 F25:1 Cmono\nFRAME\nabcdefghFRAME\nijklmnop";
+/// let frame: Vec<u8> = (0..64).collect();
+/// let frames = [&b"FRAME\n"[..], &frame, b"FRAME\n", &frame].concat();
+/// let input = [&b"YUV4MPEG2 W32 H2 F25:1 Cmono\n"[..], &frames].concat();
 /// let mut source = Source::y4m(Place::First, &input[..])?;
 /// let mut sink = Sink::new(Container::Raw, Vec::new());
-/// let middle = Rectangle { x: 1, y: 0, width: 2, height: 2 };
-/// assert!(middle.lies_in(4, 2));
-/// let options = CopyOptions { skip: 1, crop: Some(middle), ..CopyOptions::new() };
+/// let left = Rectangle { x: 1, y: 0, width: 2, height: 2 };
+/// assert!(left.lies_in(32, 2));
+/// let options = CopyOptions { skip: 1, crop: Some(left), ..CopyOptions::new() };
 /// let header = source.header();
 /// assert!(!options.is_plain(Container::Raw, header, None));
 /// assert_eq!((options.layout(), options.layout_to(Container::Raw, None)), (None, None));
 /// assert_eq!(options.colour(header.colour), header.colour);
 /// assert_eq!(copy_stream(&mut source, &mut sink, &options, &mut Silent)?, 1);
-/// assert_eq!(sink.writer.inner(), b"jkno");
+/// assert_eq!(sink.writer.inner(), &[1, 2, 33, 34]);
 ///
 /// /// Counts what it is told.
 /// struct Told(u64);

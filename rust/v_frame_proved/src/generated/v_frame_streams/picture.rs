@@ -20,16 +20,16 @@ use crate::generated::v_frame_y4m::{Colour, Y4mError};
 /// ```
 /// use v_frame_proved::streams::{Picture, Place, Problem, Source};
 ///
-/// let input = b"YUV4MPEG2 W2 H1 F25:1 Cmono\nFRAME\nabFRAME\nc";
+/// let input = [&b"YUV4MPEG2 W32 H1 F25:1 Cmono\nFRAME\n"[..], &[7; 32], b"FRAME\nc"].concat();
 /// let mut source = Source::y4m(Place::First, &input[..])?;
-/// let mut picture = Picture::<u8>::new(&source, 2)?;
+/// let mut picture = Picture::<u8>::new(&source, 32)?;
 /// assert!(picture.is_made_for(&source));
 /// assert!(picture.read(&mut source)?);
-/// assert_eq!((picture.bytes(), &picture.frame().y_plane[0]), (&b"ab"[..], &b"ab"[..]));
+/// assert_eq!((picture.bytes(), &picture.frame().y_plane[0]), (&[7; 32][..], &[7; 32][..]));
 ///
 /// // The second frame is cut off.
 /// let error = picture.read(&mut source).unwrap_err();
-/// assert_eq!((error.frames, error.to_string()), (1, "frame 2: truncated frame, expected 2 bytes, found 1".into()));
+/// assert_eq!((error.frames, error.to_string()), (1, "frame 2: truncated frame, expected 32 bytes, found 1".into()));
 /// assert!(matches!(Picture::<u8>::new(&source, 1).err().unwrap().problem, Problem::TooManyPixels(1)));
 /// # Ok::<(), v_frame_proved::streams::StreamError>(())
 /// ```

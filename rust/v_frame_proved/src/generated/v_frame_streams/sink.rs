@@ -15,21 +15,17 @@ use crate::generated::v_frame_y4m::{StreamHeader, Y4mError, write_header};
 /// # Examples
 ///
 /// ```
+/// use v_frame_proved::planar::video_frame;
 /// use v_frame_proved::streams::{Container, Place, Sink, Source};
 ///
-/// let mut source = Source::y4m(Place::First, &b"YUV4MPEG2 W2 H1 F25:1 Cmono\n"[..])?;
+/// let line = b"YUV4MPEG2 W32 H1 F25:1 Cmono\n";
+/// let source = Source::y4m(Place::First, &line[..])?;
 /// let mut sink = Sink::new(Container::Y4m, Vec::new());
 /// assert!(sink.takes_header(source.header()));
 /// sink.write_header(source.header())?;
-/// sink.write_frame(&v_frame_proved::planar::video_frame::<u8>(
-///     2,
-///     1,
-///     source.header().colour.subsampling(),
-///     8,
-///     0,
-/// )?)?;
+/// sink.write_frame(&video_frame::<u8>(32, 1, source.header().colour.subsampling(), 8, 0)?)?;
 /// assert_eq!((sink.frames, sink.container), (1, Container::Y4m));
-/// assert_eq!(sink.writer.inner(), b"YUV4MPEG2 W2 H1 F25:1 Cmono\nFRAME\n\0\0");
+/// assert_eq!(sink.writer.inner()[..], [&line[..], b"FRAME\n", &[0; 32]].concat());
 /// # Ok::<(), Box<dyn std::error::Error>>(())
 /// ```
 pub struct Sink<W> {

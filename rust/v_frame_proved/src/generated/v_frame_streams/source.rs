@@ -20,17 +20,17 @@ use crate::generated::v_frame_y4m::{StreamHeader, Y4mError, read_lax_frame_line,
 /// use v_frame_proved::streams::{Container, Place, Problem, Source, StreamError};
 ///
 /// // Doubled spaces are taken, and told of.
-/// let source = Source::y4m(Place::First, &b"YUV4MPEG2  W4 H2 F25:1 C420p10\n"[..])?;
+/// let source = Source::y4m(Place::First, &b"YUV4MPEG2  W32 H2 F25:1 C420p10\n"[..])?;
 /// assert!(source.is_lax());
 /// assert_eq!((source.container(), source.layout()), (Container::Y4m, None));
-/// assert_eq!((source.frame_len(), source.frames()), (24, 0));
+/// assert_eq!((source.frame_len(), source.frames()), (192, 0));
 ///
 /// // Raw video has no header, so its reader is told one.
 /// let header = source.header().clone();
-/// let raw = Source::raw(Place::Second, header.clone(), Some(SemiPlanarFormat::P010), &[0; 24][..])?;
+/// let raw = Source::raw(Place::Second, header.clone(), Some(SemiPlanarFormat::P010), &[0; 192][..])?;
 /// assert_eq!((raw.container(), raw.layout()), (Container::Raw, Some(SemiPlanarFormat::P010)));
 ///
-/// let other = Source::raw(Place::First, header, Some(SemiPlanarFormat::Nv12), &[0; 24][..]);
+/// let other = Source::raw(Place::First, header, Some(SemiPlanarFormat::Nv12), &[0; 192][..]);
 /// let error = other.err().unwrap();
 /// assert_eq!(error.place, Place::First);
 /// assert_eq!(error.to_string(), StreamError::at_start(Place::First, Problem::OtherLayout).to_string());
