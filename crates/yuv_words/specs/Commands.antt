@@ -1,5 +1,5 @@
 -- What each command says: its files, and each option by what is given to it.
-use Rattle.std.specs.Prelude.{ℕ, ◌≡◌, Bool, true, false, List, [], ◌∷◌, length, take, Option, Some, None}
+use Rattle.std.specs.Prelude.{ℕ, ◌≡◌, ◌-◌, Bool, true, false, List, [], ◌∷◌, drop, length, replicate, take, Option, Some, None}
 use Rattle.v_frame_formats.specs.Formats.{IsFormat}
 use Rattle.yuv_words.specs.Names.{file_count}
 use Rattle.yuv_words.specs.Values.{IsColourRange, IsGain, IsMatrix, IsNumber, IsPlane, IsRatio, IsRaw, IsRectangle}
@@ -32,9 +32,11 @@ is_json Lines = false
 is_json Csv = false
 is_json Json = true
 
--- the first of three names are the files of a command, as many as it takes
+-- the first of three names are the files of a command, as many as it takes, and those behind them are empty
 abbrev pub AreFiles : CommandName → List ℕ → List ℕ → List ℕ → List (List ℕ) → Type 0
-AreFiles name first second third files = files ≡ take (file_count name) (first ∷ second ∷ third ∷ [])
+AreFiles name first second third files =
+    (files ≡ take (file_count name) (first ∷ second ∷ third ∷ []))
+  × (drop (file_count name) (first ∷ second ∷ third ∷ []) ≡ replicate (3 - file_count name) [])
 
 -- what is given to each option, each time that it stands there
 module _ (given : OptionName → List (List ℕ)) where

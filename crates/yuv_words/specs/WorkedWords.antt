@@ -1,6 +1,8 @@
 -- Calls worked out by hand. Each line computes: it is proved by `refl`.
 use Rattle.std.specs.Prelude.{◌≡◌, List, [], ◌∷◌, codes, refl}
+use Rattle.yuv_words.specs.Commands.{AreFiles}
 use Rattle.yuv_words.specs.Words.{after_end, before_end, files_of, spelled, values_of, Apart, File, Flag, Joined, Token}
+use Rattle.yuv_words.specs.declared.command.CommandName.TheVariants as command
 use Rattle.yuv_words.specs.declared.option_name.OptionName.TheVariants as option
 
 -- a.y4m --skip 5 --count=9 b.y4m --half
@@ -27,6 +29,10 @@ half_is = refl
 
 crop_is : values_of tokens option.Crop ≡ []
 crop_is = refl
+
+-- a command of two files has none in the third place
+two_files_are : AreFiles command.Copy (codes "a.y4m") (codes "b.y4m") [] (codes "a.y4m" ∷ codes "b.y4m" ∷ [])
+two_files_are = (refl, refl)
 
 -- behind the first `--` even `--` is a file
 front_is : before_end (codes "--half" ∷ codes "--" ∷ codes "-x" ∷ codes "--" ∷ []) ≡ codes "--half" ∷ []
