@@ -56,8 +56,8 @@ def measured(one, other):
     return "".join(f"{ratio.replace(':', ' PSNR ')} SSIM {similarity.split(':')[1]}\n" for ratio, similarity in zip(ratios, similarities))
 
 
-def measured_colours(one, other):
-    """The same of each frame in colours."""
+def measured_colors(one, other):
+    """The same of each frame in colors."""
     filters = "[0]format=gbrp,split[a][b];[1]format=gbrp,split[c][d];[a][c]psnr=stats_file=-;[b][d]ssim=stats_file=-"
     said = ffmpeg("-i", one, "-i", other, "-lavfi", filters, "-f", "null", "-")
     ratios, similarities = re.findall(r"psnr_avg:(\S+)", said), re.findall(r"^n:.* All:(\S+)", said, re.M)
@@ -169,10 +169,10 @@ def test(prefix, folder):
     else:
         print("measure_videos.py is left out: no Python has PyAV and numpy (Debian: python3-av python3-numpy)")
     if python := installed.python("cv2"):
-        colours = clip(room / "colours.mkv", "bgr0", "65x49", "-c:v", "ffv1"), room / "colours_noise.mkv"
-        ffmpeg("-i", colours[0], "-vf", "noise=alls=20:allf=t", "-pix_fmt", "bgr0", "-c:v", "ffv1", colours[1])
-        found = run(python, EXAMPLES / "measure_pictures.py", *colours, env=installed.environment)
-        same("measure_pictures.py", found, measured_colours(*colours))
-        print("measure_pictures.py: as ffmpeg says of frames in colours")
+        colors = clip(room / "colors.mkv", "bgr0", "65x49", "-c:v", "ffv1"), room / "colors_noise.mkv"
+        ffmpeg("-i", colors[0], "-vf", "noise=alls=20:allf=t", "-pix_fmt", "bgr0", "-c:v", "ffv1", colors[1])
+        found = run(python, EXAMPLES / "measure_pictures.py", *colors, env=installed.environment)
+        same("measure_pictures.py", found, measured_colors(*colors))
+        print("measure_pictures.py: as ffmpeg says of frames in colors")
     else:
         print("measure_pictures.py is left out: no Python has OpenCV and numpy (Debian: python3-opencv python3-numpy)")

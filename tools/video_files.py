@@ -10,7 +10,7 @@ CASES = Path(__file__).resolve().parent.parent / "crates/test_yuv_runs"
 DATA = CASES / "data"
 RATIOS = {"420": (2, 2), "422": (2, 1), "411": (4, 1), "444": (1, 1), "mono": None}
 FORMATS = {"420": "4:2:0", "422": "4:2:2", "411": "4:1:1", "444": "4:4:4", "mono": "monochrome"}
-SITES = {"420jpeg": "centre", "420": "centre", "420mpeg2": "left", "420paldv": "alternating, as in PAL DV"}
+SITES = {"420jpeg": "center", "420": "center", "420mpeg2": "left", "420paldv": "alternating, as in PAL DV"}
 FIELDS = {"p": "progressive", "t": "top field first", "b": "bottom field first", "m": "mixed", "?": "unknown"}
 
 
@@ -34,13 +34,13 @@ class Video:
     def of(self, letter):
         return next((it[1:] for it in self.parameters if it[0] == letter), None)
 
-    colour = property(lambda self: self.of("C") or "420")
+    color = property(lambda self: self.of("C") or "420")
     size = property(lambda self: (int(self.of("W")), int(self.of("H"))))
-    family = property(lambda self: next(it for it in RATIOS if self.colour.startswith(it)))
+    family = property(lambda self: next(it for it in RATIOS if self.color.startswith(it)))
 
     @property
     def depth(self):
-        rest = self.colour[len(self.family):].lstrip("p")
+        rest = self.color[len(self.family):].lstrip("p")
         return int(rest) if rest.isdigit() else 8
 
     def sizes(self):
@@ -95,11 +95,11 @@ class Video:
         kept = [it for it in self.parameters if it[0] != letter] + [letter + value]
         return Video(sorted(kept, key=lambda it: order.index(it[0])), self.frames)
 
-    def converted(self, colour):
+    def converted(self, color):
         """Another chroma format and bit depth: values moved by whole bits, rounded to the nearest and clamped; chroma repeated, or the mean
         of a block, where the last column and row stand for those past them; the middle value where there was none."""
-        made = Video(self.with_parameter("C", colour).parameters, [])
-        if colour != self.colour:    # what says the old format once more
+        made = Video(self.with_parameter("C", color).parameters, [])
+        if color != self.color:    # what says the old format once more
             made.parameters = [it for it in made.parameters if not it.startswith("XYSCSS=")]
         deep, was = made.depth, self.depth
 
@@ -147,7 +147,7 @@ class Video:
 
     def info(self, file_size=None, header=False, frames=None):
         pairs = [("size", "%dx%d" % self.size), ("format", FORMATS[self.family]), ("bit depth", self.depth)]
-        pairs += [("chroma siting", SITES[self.colour])] if self.colour in SITES else []
+        pairs += [("chroma siting", SITES[self.color])] if self.color in SITES else []
         pairs += [("frame rate", self.of("F"))] if self.of("F") else []
         pairs += [("interlacing", FIELDS[self.of("I")])] if self.of("I") else []
         pairs += [("pixel aspect", self.of("A"))] if self.of("A") else []

@@ -89,9 +89,9 @@ APART static void loop_to_rgb(uint8_t *restrict a, const uint8_t *restrict y, co
     for (size_t k = 0; k < h; k++) {
         for (size_t x = 0; x < w; x++) {
             int32_t luma = 19077 * (y[s * k + x] - 16) + 8192, cb = u[s * k + x] - 128, cr = v[s * k + x] - 128;
-            int32_t colour[3] = {(luma + 29372 * cr) >> 14, (luma - 3494 * cb - 8731 * cr) >> 14, (luma + 34610 * cb) >> 14};
+            int32_t color[3] = {(luma + 29372 * cr) >> 14, (luma - 3494 * cb - 8731 * cr) >> 14, (luma + 34610 * cb) >> 14};
             for (int i = 0; i < 3; i++) {
-                a[3 * s * k + 3 * x + (size_t)i] = (uint8_t)(colour[i] < 0 ? 0 : colour[i] < 255 ? colour[i] : 255);
+                a[3 * s * k + 3 * x + (size_t)i] = (uint8_t)(color[i] < 0 ? 0 : color[i] < 255 ? color[i] : 255);
             }
         }
     }
@@ -112,10 +112,10 @@ APART static void loop_to_yuv(const uint8_t *restrict a, uint8_t *restrict y, ui
 #undef TYPE
 #define TYPE "u8"
 
-static void colours(size_t w, size_t h) {
+static void colors(size_t w, size_t h) {
     size_t s = w + 32, length = s * h, times = 2000000 / (w * h) + 1;
     v_frame_rows rows = {w, h, s}, wide = {3 * w, h, 3 * s};
-    v_frame_colours choice = {V_FRAME_BT709, V_FRAME_LIMITED, V_FRAME_RGB};
+    v_frame_colors choice = {V_FRAME_BT709, V_FRAME_LIMITED, V_FRAME_RGB};
     uint8_t *planes[3], *bytes = malloc(3 * length);
     for (size_t i = 0; i < 3; i++) {
         planes[i] = malloc(length);
@@ -152,7 +152,7 @@ int main(void) {
         measures_u8(sizes[i][0], sizes[i][1]);
         measures_u16(sizes[i][0], sizes[i][1]);
         depths(sizes[i][0], sizes[i][1]);
-        colours(sizes[i][0], sizes[i][1]);
+        colors(sizes[i][0], sizes[i][1]);
     }
     return 0;
 }

@@ -8,7 +8,7 @@
 
 /* Writes the header line. Such a file states no frame rate: dav1d writes 25:1 then. */
 static void write_header(const Dav1dPicture *it, uint32_t format) {
-    const uint32_t siting = it->seq_hdr->chr == DAV1D_CHR_VERTICAL ? V_FRAME_Y4M_LEFT : V_FRAME_Y4M_CENTRE;
+    const uint32_t siting = it->seq_hdr->chr == DAV1D_CHR_VERTICAL ? V_FRAME_Y4M_LEFT : V_FRAME_Y4M_CENTER;
     v_frame_y4m_header said = {(size_t)it->p.w, (size_t)it->p.h, {25, 1, 1}, {1, 1, 1}, 0, 0, siting, V_FRAME_Y4M_PROGRESSIVE};
     uint8_t line[256];
     size_t length;

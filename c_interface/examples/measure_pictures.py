@@ -1,4 +1,4 @@
-"""Prints PSNR and SSIM of each frame of two videos, which OpenCV decodes to colours: measure_pictures.py FILE FILE"""
+"""Prints PSNR and SSIM of each frame of two videos, which OpenCV decodes to colors: measure_pictures.py FILE FILE"""
 
 import sys
 

@@ -77,7 +77,7 @@ enum v_frame_turn {
     V_FRAME_ROTATE_270 = 5
 };
 
-/* Standards of colour: ITU-R BT.601-7, BT.709-6, BT.2020-2 with non-constant luminance. */
+/* Standards of color: ITU-R BT.601-7, BT.709-6, BT.2020-2 with non-constant luminance. */
 enum v_frame_standard {
     V_FRAME_BT601 = 0,
     V_FRAME_BT709 = 1,
@@ -90,7 +90,7 @@ enum v_frame_range {
     V_FRAME_FULL = 1
 };
 
-/* Orders of the bytes of a colour. A fourth byte is 255. */
+/* Orders of the bytes of a color. A fourth byte is 255. */
 enum v_frame_order {
     V_FRAME_RGB = 0,
     V_FRAME_BGR = 1,
@@ -105,11 +105,11 @@ enum v_frame_component {
 };
 
 /* Numbers of enum v_frame_standard, enum v_frame_range and enum v_frame_order. */
-typedef struct v_frame_colours {
+typedef struct v_frame_colors {
     uint32_t standard;
     uint32_t range;
     uint32_t order;
-} v_frame_colours;
+} v_frame_colors;
 
 /* Rows in a buffer, in entries. */
 typedef struct v_frame_rows {
@@ -321,7 +321,7 @@ uint32_t v_frame_resize_area_u8(const v_frame_rows *rows, uint8_t *buffer, size_
 uint32_t v_frame_resize_area_u16(const v_frame_rows *rows, uint16_t *buffer, size_t length, const v_frame_rows *source_rows,
                                  const uint16_t *source, size_t source_length);
 
-/* The same where each pixel is the one of the source that holds its centre, or, where the centre lies between two, the one to the
+/* The same where each pixel is the one of the source that holds its center, or, where the center lies between two, the one to the
  * right or below. V_FRAME_SIZES where a width or a height is 2^62 or more. */
 uint32_t v_frame_resize_nearest_u8(const v_frame_rows *rows, uint8_t *buffer, size_t length, const v_frame_rows *source_rows,
                                    const uint8_t *source, size_t source_length);
@@ -383,18 +383,18 @@ uint32_t v_frame_from_semi_planar_u16(const v_frame_rows *y_rows, uint16_t *y, s
                                       const v_frame_rows *source_rows, const uint16_t *source, size_t source_length,
                                       const v_frame_rows *uv_rows, const uint16_t *uv, size_t uv_length, uint32_t format);
 
-/* Make the rows of the buffer the colours of three pictures of one size, Y', Cb and Cr of 8 bits, by a standard: each byte is the
+/* Make the rows of the buffer the colors of three pictures of one size, Y', Cb and Cr of 8 bits, by a standard: each byte is the
  * nearest to what whole coefficients give, which lie within 1/100 of the standard's before that is rounded. The rows of the buffer
- * count bytes, three or four for each pixel. V_FRAME_NUMBER where a number of `colours` is none of its enum. */
+ * count bytes, three or four for each pixel. V_FRAME_NUMBER where a number of `colors` is none of its enum. */
 uint32_t v_frame_yuv444_to_rgb_u8(const v_frame_rows *rows, uint8_t *buffer, size_t length, const v_frame_rows *y_rows,
                                   const uint8_t *y, size_t y_length, const v_frame_rows *u_rows, const uint8_t *u, size_t u_length,
-                                  const v_frame_rows *v_rows, const uint8_t *v, size_t v_length, const v_frame_colours *colours);
+                                  const v_frame_rows *v_rows, const uint8_t *v, size_t v_length, const v_frame_colors *colors);
 
-/* The way back: make three pictures of one size the luma and the chroma of the colours of the buffer, whose rows count bytes, three
- * or four for each pixel of theirs. A fourth byte is not read. V_FRAME_NUMBER where a number of `colours` is none of its enum. */
+/* The way back: make three pictures of one size the luma and the chroma of the colors of the buffer, whose rows count bytes, three
+ * or four for each pixel of theirs. A fourth byte is not read. V_FRAME_NUMBER where a number of `colors` is none of its enum. */
 uint32_t v_frame_rgb_to_yuv444_u8(const v_frame_rows *rows, const uint8_t *buffer, size_t length, const v_frame_rows *y_rows,
                                   uint8_t *y, size_t y_length, const v_frame_rows *u_rows, uint8_t *u, size_t u_length,
-                                  const v_frame_rows *v_rows, uint8_t *v, size_t v_length, const v_frame_colours *colours);
+                                  const v_frame_rows *v_rows, uint8_t *v, size_t v_length, const v_frame_colors *colors);
 
 /* Count and sum the pixels of a picture, sum their squares, and find the least and the greatest value. */
 uint32_t v_frame_statistics_u8(const v_frame_rows *rows, const uint8_t *buffer, size_t length, v_frame_statistics *found);

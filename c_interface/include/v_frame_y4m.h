@@ -40,8 +40,8 @@ enum v_frame_y4m_status {
     V_FRAME_Y4M_ZERO_SIZE = 5,
     /* The width or the height is above 2^64 - 1; at v_frame_y4m_frame_bytes, the bytes of a frame are above SIZE_MAX. */
     V_FRAME_Y4M_SIZE_TOO_LARGE = 6,
-    /* The colour is none of those that are read; or no colour has the format, the bit depth and the siting. */
-    V_FRAME_Y4M_UNKNOWN_COLOUR = 7,
+    /* The color is none of those that are read; or no color has the format, the bit depth and the siting. */
+    V_FRAME_Y4M_UNKNOWN_COLOR = 7,
     /* malloc gave no memory. */
     V_FRAME_Y4M_OUT_OF_MEMORY = 8,
     /* A number of the struct is none of its enum, or a ratio that is not stated has numbers. */
@@ -70,7 +70,7 @@ enum v_frame_y4m_format {
 /* Where the chroma samples of 8-bit 4:2:0 lie: as in JPEG, in MPEG-2, in PAL DV. */
 enum v_frame_y4m_siting {
     V_FRAME_Y4M_NO_SITING = 0,
-    V_FRAME_Y4M_CENTRE = 1,
+    V_FRAME_Y4M_CENTER = 1,
     V_FRAME_Y4M_LEFT = 2,
     V_FRAME_Y4M_ALTERNATING = 3
 };
@@ -120,17 +120,17 @@ uint32_t v_frame_y4m_frame_line(const uint8_t *bytes, size_t size, size_t *lengt
 uint32_t v_frame_y4m_parse_header(const uint8_t *line, size_t length, v_frame_y4m_header *header, uint32_t *letter);
 
 /* Write the line of a header with its line feed to the front of a buffer; `needed` becomes its length. All else of the buffer
- * is as it was. The status is the first of these: V_FRAME_Y4M_ZERO_SIZE, _NO_SUCH_NUMBER, _UNKNOWN_COLOUR, _OUT_OF_MEMORY,
+ * is as it was. The status is the first of these: V_FRAME_Y4M_ZERO_SIZE, _NO_SUCH_NUMBER, _UNKNOWN_COLOR, _OUT_OF_MEMORY,
  * _SHORT_BUFFER; at the last of them `needed` becomes the length as well. 256 bytes are always enough. A header that was parsed
- * has a line. Centred chroma of 8-bit 4:2:0 is written as 420jpeg, as ffmpeg writes it. */
+ * has a line. Centered chroma of 8-bit 4:2:0 is written as 420jpeg, as ffmpeg writes it. */
 uint32_t v_frame_y4m_write_header(const v_frame_y4m_header *header, uint8_t *buffer, size_t size, size_t *needed);
 
 /* Count the bytes that a frame has after its line. The status is the first of these: V_FRAME_Y4M_ZERO_SIZE, _NO_SUCH_NUMBER,
- * _UNKNOWN_COLOUR, _SIZE_TOO_LARGE. */
+ * _UNKNOWN_COLOR, _SIZE_TOO_LARGE. */
 uint32_t v_frame_y4m_frame_bytes(const v_frame_y4m_header *header, size_t *count);
 
 /* Make a header one of a stream whose frames have another format or bit depth. A siting belongs to 4:2:0 of 8 bits alone: with
- * any other format, v_frame_y4m_write_header refuses a header that states one. So 4:2:0 of 8 bits keeps its siting, and is centred
+ * any other format, v_frame_y4m_write_header refuses a header that states one. So 4:2:0 of 8 bits keeps its siting, and is centered
  * where there was none, and all else has none. */
 static inline void v_frame_y4m_set_format(v_frame_y4m_header *header, uint32_t format, uint32_t bit_depth) {
     header->format = format;
@@ -138,7 +138,7 @@ static inline void v_frame_y4m_set_format(v_frame_y4m_header *header, uint32_t f
     if (format != V_FRAME_Y4M_420 || bit_depth != 8) {
         header->siting = V_FRAME_Y4M_NO_SITING;
     } else if (header->siting == V_FRAME_Y4M_NO_SITING) {
-        header->siting = V_FRAME_Y4M_CENTRE;
+        header->siting = V_FRAME_Y4M_CENTER;
     }
 }
 
@@ -146,7 +146,7 @@ static inline void v_frame_y4m_set_format(v_frame_y4m_header *header, uint32_t f
 static inline const char *v_frame_y4m_status_text(uint32_t status) {
     static const char *const texts[] = {
         "no error", "not a YUV4MPEG2 stream", "a parameter is missing", "a parameter is repeated", "malformed parameter",
-        "a size is 0", "size too large", "unknown colour", "out of memory", "no such number", "the buffer is too short",
+        "a size is 0", "size too large", "unknown color", "out of memory", "no such number", "the buffer is too short",
         "the stream ends inside a line", "line longer than 1024 bytes", "no FRAME where a frame is due", "a lax line, which was read",
     };
     return status < sizeof texts / sizeof texts[0] ? texts[status] : "unknown status";

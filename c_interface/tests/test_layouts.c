@@ -39,7 +39,7 @@ int main(int count, char **words) {
         frames(entry);
         borders(entry);
         if (entry == 1) {
-            colours();
+            colors();
         }
     }
     printf("%lu layouts of each call, %lu checks\n", layouts, checks);

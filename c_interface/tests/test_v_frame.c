@@ -118,9 +118,9 @@ static uint8_t sample_of(int64_t parts) {
     return (uint8_t)(value < 255 ? value : 255);
 }
 
-static void colours(void) {
+static void colors(void) {
     for (uint32_t round = 0; round < 1000; round++) {
-        v_frame_colours choice = {V_FRAME_BT601, V_FRAME_LIMITED, round % 4};
+        v_frame_colors choice = {V_FRAME_BT601, V_FRAME_LIMITED, round % 4};
         size_t bytes = choice.order < V_FRAME_RGBA ? 3 : 4, width = 1 + below(40), height = 1 + below(5);
         v_frame_rows y_rows = {width, height, width + below(4)}, u_rows = {width, height, width + below(4)};
         v_frame_rows v_rows = {width, height, width + below(4)}, rows = {bytes * width, height, bytes * width + below(4)};
@@ -128,7 +128,7 @@ static void colours(void) {
         size_t length = v_frame_rows_length(&rows);
         uint8_t *y = filled_u8(&y_rows), *u = filled_u8(&u_rows), *v = filled_u8(&v_rows), *buffer = filled_u8(&rows);
         uint8_t *before = cloned_u8(buffer, length);
-        v_frame_colours wrong[3] = {{3, 0, 0}, {0, 2, 0}, {0, 0, 4}};
+        v_frame_colors wrong[3] = {{3, 0, 0}, {0, 2, 0}, {0, 0, 4}};
         for (int i = 0; i < 3; i++) {
             CHECK(v_frame_yuv444_to_rgb_u8(&rows, buffer, length, &y_rows, y, yl, &u_rows, u, ul, &v_rows, v, vl, &wrong[i]) ==
                   V_FRAME_NUMBER);
@@ -173,7 +173,7 @@ static int is_near(uint8_t found, double exact) {
     return found - within <= 0.51 && within - found <= 0.51;
 }
 
-static void check_samples(const uint8_t *pixel, const uint8_t samples[3], const v_frame_colours *choice) {
+static void check_samples(const uint8_t *pixel, const uint8_t samples[3], const v_frame_colors *choice) {
     static const double weights[3][2] = {{0.299, 0.114}, {0.2126, 0.0722}, {0.2627, 0.0593}};
     int swapped = choice->order == V_FRAME_BGR || choice->order == V_FRAME_BGRA, full = choice->range == V_FRAME_FULL;
     double red = pixel[swapped ? 2 : 0], green = pixel[1], blue = pixel[swapped ? 0 : 2];
@@ -184,10 +184,10 @@ static void check_samples(const uint8_t *pixel, const uint8_t samples[3], const 
     CHECK(is_near(samples[2], 128 + (red - luma) / (2 - 2 * of_red) * (full ? 1 : 224.0 / 255)));
 }
 
-static void samples_of_colours(void) {
+static void samples_of_colors(void) {
     static const uint32_t statuses[4] = {V_FRAME_FIRST_ROWS, V_FRAME_SECOND_ROWS, V_FRAME_THIRD_ROWS, V_FRAME_FOURTH_ROWS};
     for (uint32_t round = 0; round < 1200; round++) {
-        v_frame_colours choice = {round % 3, round / 3 % 2, round / 6 % 4}, wrong[3] = {{3, 0, 0}, {0, 2, 0}, {0, 0, 4}};
+        v_frame_colors choice = {round % 3, round / 3 % 2, round / 6 % 4}, wrong[3] = {{3, 0, 0}, {0, 2, 0}, {0, 0, 4}};
         size_t bytes = choice.order < V_FRAME_RGBA ? 3 : 4, width = 1 + below(40), height = 1 + below(5), lengths[4];
         v_frame_rows rows[4] = {{bytes * width, height, bytes * width + below(4)}};
         uint8_t *it[4], *before[4];
@@ -362,8 +362,8 @@ int main(void) {
     whole_frames_u8();
     whole_frames_u16();
     depths();
-    colours();
-    samples_of_colours();
+    colors();
+    samples_of_colors();
     bytes_and_words();
     frames();
     helpers();

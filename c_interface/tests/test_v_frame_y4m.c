@@ -223,7 +223,7 @@ static void write_and_parse_back(void) {
 #define WITH(field, value) (header = plain, header.field = (value), &header)
 
 static void refuse_numbers(void) {
-    static const v_frame_y4m_header plain = {5, 3, {25, 1, 1}, {0, 0, 0}, V_FRAME_Y4M_420, 8, V_FRAME_Y4M_CENTRE, 0};
+    static const v_frame_y4m_header plain = {5, 3, {25, 1, 1}, {0, 0, 0}, V_FRAME_Y4M_420, 8, V_FRAME_Y4M_CENTER, 0};
     v_frame_y4m_header header;
     uint8_t line[256];
     size_t needed, count = 9999;
@@ -240,11 +240,11 @@ static void refuse_numbers(void) {
     REFUSED(frame_rate.stated, 0, V_FRAME_Y4M_NO_SUCH_NUMBER);
     REFUSED(frame_rate.stated, 2, V_FRAME_Y4M_NO_SUCH_NUMBER);
     REFUSED(pixel_aspect.denominator, 1, V_FRAME_Y4M_NO_SUCH_NUMBER);
-    REFUSED(siting, V_FRAME_Y4M_NO_SITING, V_FRAME_Y4M_UNKNOWN_COLOUR);
-    REFUSED(format, V_FRAME_Y4M_422, V_FRAME_Y4M_UNKNOWN_COLOUR);
-    REFUSED(bit_depth, 10, V_FRAME_Y4M_UNKNOWN_COLOUR);
-    REFUSED(bit_depth, 264, V_FRAME_Y4M_UNKNOWN_COLOUR);
-    REFUSED(bit_depth, 0, V_FRAME_Y4M_UNKNOWN_COLOUR);
+    REFUSED(siting, V_FRAME_Y4M_NO_SITING, V_FRAME_Y4M_UNKNOWN_COLOR);
+    REFUSED(format, V_FRAME_Y4M_422, V_FRAME_Y4M_UNKNOWN_COLOR);
+    REFUSED(bit_depth, 10, V_FRAME_Y4M_UNKNOWN_COLOR);
+    REFUSED(bit_depth, 264, V_FRAME_Y4M_UNKNOWN_COLOR);
+    REFUSED(bit_depth, 0, V_FRAME_Y4M_UNKNOWN_COLOR);
     /* What a smaller type would take for a choice. */
     static const uint32_t more[2] = {256, 65536};
     for (uint32_t number = 0, i = 0; i < 2; number = (number + 1) % 6, i += number == 0) {
@@ -253,7 +253,7 @@ static void refuse_numbers(void) {
         REFUSED(interlacing, number + more[i], V_FRAME_Y4M_NO_SUCH_NUMBER);
         REFUSED(frame_rate.stated, 1 + more[i], V_FRAME_Y4M_NO_SUCH_NUMBER);
         REFUSED(pixel_aspect.stated, number % 2 + more[i], V_FRAME_Y4M_NO_SUCH_NUMBER);
-        REFUSED(bit_depth, 8 + more[i], V_FRAME_Y4M_UNKNOWN_COLOUR);
+        REFUSED(bit_depth, 8 + more[i], V_FRAME_Y4M_UNKNOWN_COLOR);
     }
 }
 
@@ -291,7 +291,7 @@ static void change_formats(void) {
     uint32_t letter;
     CHECK(parse("YUV4MPEG2 W4 H2 F25:1 C420mpeg2", &header, &letter) == V_FRAME_Y4M_OK);
     header.bit_depth = 10;
-    CHECK(write_into(&header, sizeof line, line, &needed) == V_FRAME_Y4M_UNKNOWN_COLOUR);
+    CHECK(write_into(&header, sizeof line, line, &needed) == V_FRAME_Y4M_UNKNOWN_COLOR);
     v_frame_y4m_set_format(&header, V_FRAME_Y4M_420, 8);
     CHECK(has_line(&header, "YUV4MPEG2 W4 H2 F25:1 C420mpeg2\n"));
     v_frame_y4m_set_format(&header, V_FRAME_Y4M_420, 10);
@@ -303,7 +303,7 @@ static void change_formats(void) {
     v_frame_y4m_set_format(&header, V_FRAME_Y4M_MONOCHROME, 16);
     CHECK(has_line(&header, "YUV4MPEG2 W4 H2 F25:1 Cmono16\n"));
     v_frame_y4m_set_format(&header, V_FRAME_Y4M_411, 10);
-    CHECK(write_into(&header, sizeof line, line, &needed) == V_FRAME_Y4M_UNKNOWN_COLOUR);
+    CHECK(write_into(&header, sizeof line, line, &needed) == V_FRAME_Y4M_UNKNOWN_COLOR);
 }
 
 static void count_bytes(void) {
@@ -368,7 +368,7 @@ int main(void) {
     CHECK(parse("YUV4MPEG2 H2 W3", &header, &letter) == V_FRAME_Y4M_OK);
     CHECK(header.width == 3 && header.height == 2 && header.format == V_FRAME_Y4M_420 && header.bit_depth == 8);
     CHECK(header.frame_rate.stated == 0 && header.frame_rate.numerator == 0 && header.frame_rate.denominator == 0);
-    CHECK(header.interlacing == V_FRAME_Y4M_NOT_STATED && header.siting == V_FRAME_Y4M_CENTRE);
+    CHECK(header.interlacing == V_FRAME_Y4M_NOT_STATED && header.siting == V_FRAME_Y4M_CENTER);
     CHECK(v_frame_y4m_version() == V_FRAME_VERSION_NUMBER);
     read_lax_lines();
     static const struct {
@@ -390,7 +390,7 @@ int main(void) {
         {"YUV4MPEG2 W2 H2 Q1", V_FRAME_Y4M_MALFORMED, 0},
         {"YUV4MPEG2 W2 H0", V_FRAME_Y4M_ZERO_SIZE, 'H'},
         {"YUV4MPEG2 W18446744073709551616 H2", V_FRAME_Y4M_SIZE_TOO_LARGE, 0},
-        {"YUV4MPEG2 W2 H2 C410", V_FRAME_Y4M_UNKNOWN_COLOUR, 0},
+        {"YUV4MPEG2 W2 H2 C410", V_FRAME_Y4M_UNKNOWN_COLOR, 0},
     };
     memset(&untouched, 9, sizeof untouched);
     for (size_t i = 0; i < sizeof refused / sizeof refused[0]; i++) {

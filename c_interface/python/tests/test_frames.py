@@ -1,4 +1,4 @@
-"""Frames in other formats, bit depths and colours, beside plain loops: test_frames.py [--without-numpy]"""
+"""Frames in other formats, bit depths and colors, beside plain loops: test_frames.py [--without-numpy]"""
 
 import set_up
 
@@ -105,7 +105,7 @@ class Frames(unittest.TestCase):
         self.assertRaises(v_frame.KindError, Frame.from_semi_planar, Plane(bytes(4), 2, 2), Plane(bytes(2), 2, 1), "420", 10)
         self.assertRaises(v_frame.KindError, Frame.from_semi_planar, Plane(bytes(4), 2, 2), Plane(bytes(4), 2, 1, sample_size=2))
 
-    def test_colours(self):
+    def test_colors(self):
         source = random.Random(75)
         for format, depth, as_array in itertools.product(RATIOS, (8, 10), {False, numpy is not None}):
             frame = random_frame(source, 5, 3, format, depth, as_array)
@@ -118,10 +118,10 @@ class Frames(unittest.TestCase):
                 back, planes = Frame.from_rgb(found, format, depth, *words), v_frame.yuv(wanted, *words)
                 self.assertEqual([samples_of(it) for it in back], [samples_of(it) for it in Frame(planes, "444").convert(format, depth)])
 
-    def test_no_colour(self):
-        grey = Frame([plane_of([[0, 16, 126, 235, 255]], 8, False)], "mono")
-        self.assertEqual(samples_of(grey.to_rgb()), [[it for value in (0, 0, 128, 255, 255) for it in [value] * 3]])
-        self.assertEqual(samples_of(grey.convert("420", 10).u), [[512] * 3])
+    def test_no_color(self):
+        gray = Frame([plane_of([[0, 16, 126, 235, 255]], 8, False)], "mono")
+        self.assertEqual(samples_of(gray.to_rgb()), [[it for value in (0, 0, 128, 255, 255) for it in [value] * 3]])
+        self.assertEqual(samples_of(gray.convert("420", 10).u), [[512] * 3])
 
     def test_what_is_refused(self):
         frame = random_frame(random.Random(76), 4, 4, "420", 8)
@@ -129,9 +129,9 @@ class Frames(unittest.TestCase):
             self.assertRaises(Error, frame.convert, *words)
         for words in (("bt470",), ("bt601", "wide"), ("bt601", "full", "grb")):
             self.assertRaises(Error, frame.to_rgb, *words)
-        for colours, words in ((Plane(bytes(8), 4, 2), ()), (Plane(bytes(12), 6, 2), ("410",)), (Plane(bytes(12), 6, 2), ("420", 7)), (None, ()),
+        for colors, words in ((Plane(bytes(8), 4, 2), ()), (Plane(bytes(12), 6, 2), ("410",)), (Plane(bytes(12), 6, 2), ("420", 7)), (None, ()),
                                (Plane(bytes(24), 6, 2, sample_size=2), ()), (Plane(bytes(12), 6, 2), ("420", 8, "bt470"))):
-            self.assertRaises(Error, Frame.from_rgb, colours, *words)
+            self.assertRaises(Error, Frame.from_rgb, colors, *words)
 
 
 def parts_of(data):

@@ -263,7 +263,7 @@ class Planes(unittest.TestCase):
                 self.assertRaises(v_frame.AccessError, v_frame.fill, plane, 1)
 
     def test_numbers_that_are_not_whole(self):
-        a, words, colours = Plane(bytearray(16), 4, 4), Plane(bytearray(32), 4, 4, sample_size=2), Plane(bytearray(24), 6, 4)
+        a, words, colors = Plane(bytearray(16), 4, 4), Plane(bytearray(32), 4, 4, sample_size=2), Plane(bytearray(24), 6, 4)
         for wrong in (1.5, 8.0, "8", b"8", None, math.nan, math.inf, [8], 8j, 10 ** 5000, -1):
             calls = [
                 lambda: Plane(bytes(16), wrong, 4), lambda: Plane(bytes(16), 4, wrong), lambda: Plane(bytes(16), 4, 4, wrong or 4.0),
@@ -277,7 +277,7 @@ class Planes(unittest.TestCase):
                 lambda: v_frame.difference(a, a, wrong), lambda: v_frame.difference(words, words, 1, wrong),
                 lambda: v_frame.to_full_range(words, "luma", wrong), lambda: v_frame.to_limited_range(words, "luma", wrong),
                 lambda: v_frame.to_full_range(a, wrong), lambda: v_frame.psnr(words, words, wrong), lambda: v_frame.rgb(a, a, a, wrong),
-                lambda: v_frame.rgb(a, a, a, range=wrong), lambda: v_frame.rgb(a, a, a, order=wrong), lambda: v_frame.yuv(colours, wrong),
+                lambda: v_frame.rgb(a, a, a, range=wrong), lambda: v_frame.rgb(a, a, a, order=wrong), lambda: v_frame.yuv(colors, wrong),
             ]
             if wrong not in (-1, 10 ** 5000):
                 calls += [lambda: v_frame.count_between(a, wrong, 4), lambda: v_frame.count_between(a, 4, wrong)]

@@ -65,7 +65,7 @@ class Streams(unittest.TestCase):
                 self.assertEqual(file.read(), data)
             self.assertEqual(sorted(os.listdir(folder)), ["a.y4m", "link.y4m"])
 
-    def test_lines_of_every_colour_are_read_back(self):
+    def test_lines_of_every_color_are_read_back(self):
         for text in ("420", "420jpeg", "420mpeg2", "420paldv", "411", "422", "444", "mono", "420p9", "422p12", "444p16", "mono10"):
             header = y4m.parse_header(b"YUV4MPEG2 W4 H2 C" + text.encode())
             again = y4m.parse_header(header.line()[:-1])
@@ -75,7 +75,7 @@ class Streams(unittest.TestCase):
     def test_what_is_refused(self):
         for line, text in ((b"", "not a YUV4MPEG2 stream"), (b"YUV4MPEG2 W4", "parameter H is missing"),
                            (b"YUV4MPEG2 W4 H2 H2", "parameter H is repeated"), (b"YUV4MPEG2 W0 H2", "parameter W is 0"),
-                           (b"YUV4MPEG2 W4 H2 C4", "unknown colour"), (b"YUV4MPEG2 W4 H2 Z", "malformed parameter")):
+                           (b"YUV4MPEG2 W4 H2 C4", "unknown color"), (b"YUV4MPEG2 W4 H2 Z", "malformed parameter")):
             with self.assertRaisesRegex(y4m.Y4mError, text):
                 y4m.parse_header(line)
         start = b"YUV4MPEG2 W2 H1 Cmono\n"

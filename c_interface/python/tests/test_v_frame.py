@@ -93,7 +93,7 @@ class Pictures(unittest.TestCase):
         self.assertRaises(SizesError, v_frame.pair_statistics, Plane(bytes(4), 2, 2), Plane(bytes(2), 2, 1))
 
     def test_rgb(self):
-        # By the standards' own fractions, rounded to the nearest: red 255, grey, black and white of BT.709 in limited range.
+        # By the standards' own fractions, rounded to the nearest: red 255, gray, black and white of BT.709 in limited range.
         planes = [Plane(bytes(row), 4, 1) for row in ((63, 126, 16, 235), (102, 128, 128, 128), (240, 128, 128, 128))]
         self.assertEqual(bytes(v_frame.rgb(*planes).buffer), bytes([255, 1, 0, 128, 128, 128, 0, 0, 0, 255, 255, 255]))
         self.assertEqual(bytes(v_frame.rgb(*planes, order="bgra").buffer)[:8], bytes([0, 1, 255, 255, 128, 128, 128, 255]))
@@ -141,14 +141,14 @@ class Pictures(unittest.TestCase):
             self.assertRaises(ValueError, v_frame.to_limited_range, luma, **wrong)
 
     def test_yuv(self):
-        # By the standards' own fractions, rounded to the nearest: red and grey.
-        colours = Plane(bytes([255, 0, 0, 128, 128, 128]), 6, 1)
-        self.assertEqual([rows_of(it) for it in v_frame.yuv(colours)], [[[63, 126]], [[102, 128]], [[240, 128]]])
+        # By the standards' own fractions, rounded to the nearest: red and gray.
+        colors = Plane(bytes([255, 0, 0, 128, 128, 128]), 6, 1)
+        self.assertEqual([rows_of(it) for it in v_frame.yuv(colors)], [[[63, 126]], [[102, 128]], [[240, 128]]])
         swapped = Plane(bytes([0, 0, 255, 7, 128, 128, 128, 9]), 8, 1)
         self.assertEqual([rows_of(it) for it in v_frame.yuv(swapped, "bt601", "full", "bgra")], [[[76, 128]], [[85, 128]], [[255, 128]]])
-        self.assertRaises(SizesError, v_frame.yuv, colours, order="rgba")
+        self.assertRaises(SizesError, v_frame.yuv, colors, order="rgba")
         self.assertRaises(TypeError, v_frame.yuv, Plane(bytes(12), 6, 1, sample_size=2))
-        self.assertRaises(ValueError, v_frame.yuv, colours, "bt470")
+        self.assertRaises(ValueError, v_frame.yuv, colors, "bt470")
 
     def test_blends(self):
         source = random.Random(7)
@@ -203,9 +203,9 @@ class Pictures(unittest.TestCase):
         self.assertEqual(v_frame.histogram(array).tolist(), numpy.bincount(array.ravel(), minlength=256).tolist())
         self.assertEqual(v_frame.count_between(array, 10, 20), int(((array >= 10) & (array <= 20)).sum()))
         self.assertEqual(v_frame.downscale_to_edge(array[:5, :7]).shape, (3, 4))
-        colours = numpy.dstack([array] * 3)
-        self.assertEqual([it.tolist() for it in v_frame.yuv(colours, range="full")], [array.tolist(), *[[[128] * 8] * 6] * 2])
-        self.assertRaises(SizesError, v_frame.yuv, colours, order="bgra")
+        colors = numpy.dstack([array] * 3)
+        self.assertEqual([it.tolist() for it in v_frame.yuv(colors, range="full")], [array.tolist(), *[[[128] * 8] * 6] * 2])
+        self.assertRaises(SizesError, v_frame.yuv, colors, order="bgra")
         under = numpy.full((3, 4), 10, dtype="uint16")
         v_frame.blend(numpy.full((3, 4), 30, dtype="uint16"), under[:, :], 128)
         self.assertEqual(under.tolist(), [[20] * 4] * 3)

@@ -1,4 +1,4 @@
-"""The calls that resize, blend, change the range of values, make planes of colours, and count."""
+"""The calls that resize, blend, change the range of values, make planes of colors, and count."""
 
 import ctypes
 
@@ -51,7 +51,7 @@ def resize_area(source, width: int, height: int):
 
 
 def resize_nearest(source, width: int, height: int):
-    """A new plane of any size: each sample is the one that holds its centre, or, where the centre lies between two, the one to the
+    """A new plane of any size: each sample is the one that holds its center, or, where the center lies between two, the one to the
     right or below.
 
     >>> list(resize_nearest(Plane(bytes([0, 90, 180]), 3, 1), 2, 1).buffer)
@@ -87,25 +87,25 @@ def to_limited_range(source, component: str = "luma", depth: int | None = None):
     return _ranged(library.TO_LIMITED_RANGE, source, component, depth)
 
 
-def yuv(colours, standard: str = "bt709", range: str = "limited", order: str = "rgb"):
-    """Luma and the two components of chroma of colours, as three new planes: the way back of `rgb`. Colours are an array of three
+def yuv(colors, standard: str = "bt709", range: str = "limited", order: str = "rgb"):
+    """Luma and the two components of chroma of colors, as three new planes: the way back of `rgb`. Colors are an array of three
     dimensions, or a `Plane` with three or four bytes for each pixel; a fourth byte is not read.
 
     >>> [list(plane.buffer) for plane in yuv(Plane(bytes([255, 0, 0]), 3, 1))]
     [[63], [102], [240]]
     """
     choice = _choice(standard, range, order)
-    if not isinstance(colours, Plane) and getattr(colours, "ndim", 0) == 3:
-        if colours.shape[2] != len(order):
-            raise SizesError(f"colours in the order {order} have {len(order)} bytes each")
-        colours = numpy.ascontiguousarray(colours).reshape(colours.shape[0], colours.shape[1] * colours.shape[2])
-    width, height, size = _shape(colours)
+    if not isinstance(colors, Plane) and getattr(colors, "ndim", 0) == 3:
+        if colors.shape[2] != len(order):
+            raise SizesError(f"colors in the order {order} have {len(order)} bytes each")
+        colors = numpy.ascontiguousarray(colors).reshape(colors.shape[0], colors.shape[1] * colors.shape[2])
+    width, height, size = _shape(colors)
     if size != 1:
-        raise KindError("colours are made of samples of one byte")
+        raise KindError("colors are made of samples of one byte")
     if width % len(order):
-        raise SizesError(f"colours in the order {order} have {len(order)} bytes each")
-    y, u, v = (_new(colours, width // len(order), height, 1) for _ in "yuv")
-    with Held(colours) as read, Held(y, True) as luma, Held(u, True) as first, Held(v, True) as second:
+        raise SizesError(f"colors in the order {order} have {len(order)} bytes each")
+    y, u, v = (_new(colors, width // len(order), height, 1) for _ in "yuv")
+    with Held(colors) as read, Held(y, True) as luma, Held(u, True) as first, Held(v, True) as second:
         library.answered(library.TO_YUV(*read.told(), *luma.told(), *first.told(), *second.told(), ctypes.byref(choice)))
     return y, u, v
 

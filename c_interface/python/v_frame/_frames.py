@@ -64,7 +64,7 @@ class Frame(Sequence):
 
         Where the format has fewer samples of chroma, each is the mean of its block, rounded to the nearest value and upwards at a
         half, where past an edge the last column and row are repeated; where it has more they are repeated. Depths are converted as
-        by `convert_depth`. Chroma that a frame does not have is the middle of the depth, which is no colour.
+        by `convert_depth`. Chroma that a frame does not have is the middle of the depth, which is no color.
 
         >>> planes = [Plane(bytes(4), 2, 2), Plane(bytes([1, 2, 3, 4]), 2, 2), Plane(bytes(4), 2, 2)]
         >>> Frame(planes, "444").convert("420").u.tobytes()
@@ -83,8 +83,8 @@ class Frame(Sequence):
         return Frame(planes, format, depth)
 
     def to_rgb(self, standard: str = "bt709", range: str = "limited", order: str = "rgb"):
-        """The colours of a frame, of 8 bits, as `rgb` makes them: an array of the shape (height, width, 3), or 4, or a `Plane`. Chroma
-        is repeated; a frame without chroma has no colour.
+        """The colors of a frame, of 8 bits, as `rgb` makes them: an array of the shape (height, width, 3), or 4, or a `Plane`. Chroma
+        is repeated; a frame without chroma has no color.
 
         >>> list(Frame([Plane(bytes([235, 16]), 2, 1)], "mono").to_rgb().buffer)
         [255, 255, 255, 0, 0, 0]
@@ -92,13 +92,13 @@ class Frame(Sequence):
         return rgb(*self.convert("444", 8), standard, range, order)
 
     @classmethod
-    def from_rgb(cls, colours, format: str = "420", depth: int = 8, standard: str = "bt709", range: str = "limited", order: str = "rgb"):
-        """A frame of colours, as `yuv` takes them, in a format and a bit depth, as `convert` makes it of 4:4:4 of 8 bits.
+    def from_rgb(cls, colors, format: str = "420", depth: int = 8, standard: str = "bt709", range: str = "limited", order: str = "rgb"):
+        """A frame of colors, as `yuv` takes them, in a format and a bit depth, as `convert` makes it of 4:4:4 of 8 bits.
 
         >>> Frame.from_rgb(Plane(bytes(12), 6, 2)).y.tobytes()
         b'\\x10\\x10\\x10\\x10'
         """
-        return cls(yuv(colours, standard, range, order), "444").convert(format, depth)
+        return cls(yuv(colors, standard, range, order), "444").convert(format, depth)
 
     def to_semi_planar(self) -> tuple:
         """Luma, and a plane of chroma whose two components take turns, as NV12, NV16, NV24 and P010 have them: two new planes. Above 8

@@ -36,7 +36,7 @@ _FRAME_BYTES = export(_library, "v_frame_y4m_frame_bytes", ctypes.POINTER(_Heade
 #: The status of a line that was read as the strict one that it stands for.
 _LAX_LINE = 14
 _TEXTS = ("", "not a YUV4MPEG2 stream", "parameter {} is missing", "parameter {} is repeated", "malformed parameter",
-          "parameter {} is 0", "size too large", "unknown colour", "out of memory")
+          "parameter {} is 0", "size too large", "unknown color", "out of memory")
 _TEXTS_OF_WRITING = {5: "a size is 0", 6: "size too large", 7: "there is no such format with this bit depth", 8: "out of memory",
                      9: "a number is none that a header has"}
 

@@ -48,7 +48,7 @@ class Greatest(ctypes.Structure):
     _fields_ = [("x", ctypes.c_size_t), ("y", ctypes.c_size_t), ("difference", ctypes.c_uint32)]
 
 
-class Colours(ctypes.Structure):
+class Colors(ctypes.Structure):
     _fields_ = [("standard", ctypes.c_uint32), ("range", ctypes.c_uint32), ("order", ctypes.c_uint32)]
 
 
@@ -115,7 +115,7 @@ _buffer = (_rows, _data, _size)
 TO_SEMI_PLANAR = _both("to_semi_planar", *4 * _buffer, ctypes.c_uint32)
 FROM_SEMI_PLANAR = _both("from_semi_planar", *4 * _buffer, ctypes.c_uint32)
 TO_RGB = _export("v_frame_yuv444_to_rgb_u8", _rows, _data, _size, _rows, _data, _size, _rows, _data, _size,
-                 ctypes.POINTER(Colours))
+                 ctypes.POINTER(Colors))
 STATISTICS = _both("statistics", ctypes.POINTER(Statistics))
 PAIR_STATISTICS = _both("pair_statistics", _rows, _data, _size, ctypes.POINTER(PairStatistics))
 CONVERT_DEPTH = {(1, 2): "u8_u16", (2, 1): "u16_u8", (2, 2): "u16_u16"}
@@ -128,7 +128,7 @@ RESIZE_NEAREST = _both("resize_nearest", _rows, _data, _size)
 TO_FULL_RANGE = _both("to_full_range", _rows, _data, _size, ctypes.c_uint32, ctypes.c_uint32)
 TO_LIMITED_RANGE = _both("to_limited_range", _rows, _data, _size, ctypes.c_uint32, ctypes.c_uint32)
 TO_YUV = _export("v_frame_rgb_to_yuv444_u8", _rows, _data, _size, _rows, _data, _size, _rows, _data, _size,
-                 ctypes.POINTER(Colours))
+                 ctypes.POINTER(Colors))
 BLEND = _both("blend", _rows, _data, _size, ctypes.c_uint16)
 BLEND_WITH_MASK = _both("blend_with_mask", _rows, _data, _size, _rows, _data, _size)
 DIFFERENCE = _both("difference", _rows, _data, _size, ctypes.c_uint16, ctypes.c_uint32)

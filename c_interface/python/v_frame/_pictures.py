@@ -12,7 +12,7 @@ from ._planes import Held, Plane
 TURNS = ("flip_vertical", "flip_horizontal", "rotate_180", "transpose", "rotate_90", "rotate_270")
 
 
-#: Standards of colour, ranges of luma and chroma, and orders of bytes, each in the order of its numbers.
+#: Standards of color, ranges of luma and chroma, and orders of bytes, each in the order of its numbers.
 STANDARDS, RANGES, ORDERS = ("bt601", "bt709", "bt2020"), ("limited", "full"), ("rgb", "bgr", "rgba", "bgra")
 
 
@@ -123,24 +123,24 @@ def deinterleave(plane):
 
 
 def _choice(standard, range, order):
-    """The numbers of a kind of colours."""
-    return library.Colours(chosen(standard, STANDARDS, "a standard"), chosen(range, RANGES, "a range"),
+    """The numbers of a kind of colors."""
+    return library.Colors(chosen(standard, STANDARDS, "a standard"), chosen(range, RANGES, "a range"),
                            chosen(order, ORDERS, "an order"))
 
 
 def rgb(y, u, v, standard: str = "bt709", range: str = "limited", order: str = "rgb"):
-    """The colours of three planes of one size and of bytes, as a new plane with three or four bytes for each pixel: where they are
+    """The colors of three planes of one size and of bytes, as a new plane with three or four bytes for each pixel: where they are
     arrays, one of the shape (height, width, 3), or 4. The standard, the range and the order are of `STANDARDS`, `RANGES`, `ORDERS`.
 
-    >>> grey = Plane(bytes([128]), 1, 1)
-    >>> list(rgb(grey, grey, grey, range="full", order="bgra").buffer)
+    >>> gray = Plane(bytes([128]), 1, 1)
+    >>> list(rgb(gray, gray, gray, range="full", order="bgra").buffer)
     [128, 128, 128, 255]
     """
     choice = _choice(standard, range, order)
     width, height, size = _shape(y)
     with Held(y) as luma, Held(u) as first, Held(v) as second:
         if (_same_size(luma, first), _same_size(luma, second)) != (1, 1):
-            raise KindError("colours are made of samples of one byte")
+            raise KindError("colors are made of samples of one byte")
     target = _new(y, len(order) * width, height, size)
     with Held(target, writes=True) as written, Held(y) as luma, Held(u) as first, Held(v) as second:
         library.answered(library.TO_RGB(*written.told(), *luma.told(), *first.told(), *second.told(), ctypes.byref(choice)))

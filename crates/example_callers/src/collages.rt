@@ -1,4 +1,4 @@
-//! Pictures put together: one placed on a ground of one colour.
+//! Pictures put together: one placed on a ground of one color.
 ghost use Rattle.std.specs.Prelude.{◌≡◌, ◌+◌, ◌<◌, ◌≤◌, ◌⊎◌, ℕ, Some};
 ghost use Rattle.v_frame.specs.Prelude.{KeepsBorder, pixel_at, table_of};
 

@@ -1,7 +1,7 @@
 //! What users write over the crates that convert pictures: small functions with exact contracts, most without a proof file.
 #![tactic(auto)]
 
-pub mod colours;
+pub mod colors;
 pub mod composition;
 pub mod convert;
 pub mod motion_search;

@@ -21,7 +21,7 @@ fn run(rt: &HostRuntime) -> Result<(), StreamError> {
     let mut source = Source::y4m(alloc, Place::First, rt.stdin())?;
     let mut sink = Sink::new(Container::Y4m, rt.stdout());
     sink.write_header(alloc, source.header())?;
-    let depth = source.header().colour.bit_depth();
+    let depth = source.header().color.bit_depth();
     if depth == 8 {
         return negate_frames::<u8, _, _>(alloc, &mut source, &mut sink, 255);
     }

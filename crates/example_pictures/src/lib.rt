@@ -1,5 +1,5 @@
 //! Callers that write pictures as PNG, with exact contracts.
 #![tactic(auto)]
 
-pub mod grey;
+pub mod gray;
 pub mod rows;

@@ -1,8 +1,8 @@
-//! The colours of a frame as a picture.
+//! The colors of a frame as a picture.
 ghost use Rattle.std.specs.Prelude.{◌≡◌, [], ◌∷◌, IfOk};
 ghost use Rattle.v_frame.specs.Prelude.{height_of, width_of};
 ghost use Rattle.v_frame_png.specs.Prelude.{HasFile};
-ghost use Rattle.v_frame_rgb.specs.Prelude.{colour_rows};
+ghost use Rattle.v_frame_rgb.specs.Prelude.{color_rows};
 
 use std::alloc::Global;
 use std::io;
@@ -10,9 +10,9 @@ use v_frame::plane::{RowsRef, rows_fit};
 use v_frame_png::{Header, PngError, write_png};
 use v_frame_rgb::{Rgb, RgbMatrix, rows};
 
-/// Writes the colours of luma and chroma of one size, and returns the writer. The header says the size, and
+/// Writes the colors of luma and chroma of one size, and returns the writer. The header says the size, and
 /// [`Samples::Rgb8`](v_frame_png::Samples::Rgb8).
-pub fn write_colours<W: io::Write + Drop>(
+pub fn write_colors<W: io::Write + Drop>(
     alloc: Global,
     out: W,
     header: Header,
@@ -26,7 +26,7 @@ pub fn write_colours<W: io::Write + Drop>(
     requires v_wide { width_of v.now ≡ width_of y.now }
     requires v_high { height_of v.now ≡ height_of y.now }
     ensures file { IfOk result (λ new. HasFile W.contents (W.contents out) new header
-        (colour_rows matrix (λ colour. colour.red ∷ colour.green ∷ colour.blue ∷ [])
+        (color_rows matrix (λ color. color.red ∷ color.green ∷ color.blue ∷ [])
         y.now u.now v.now)) }
 {
     let width = y.width().checked_mul(3).ok_or(PngError::OutOfMemory)?;
@@ -37,6 +37,6 @@ pub fn write_colours<W: io::Write + Drop>(
         return Err(PngError::OutOfMemory);
     }
     rows::yuv444_to_rgb::<Rgb>(y, u, v, matrix, &mut bytes, width, height, width);
-    let colours = RowsRef::new(&bytes, width, height, width).ok_or(PngError::OutOfMemory)?;
-    write_png(alloc, out, header, &colours)
+    let colors = RowsRef::new(&bytes, width, height, width).ok_or(PngError::OutOfMemory)?;
+    write_png(alloc, out, header, &colors)
 }

@@ -1,7 +1,7 @@
--- The header of a stream whose pictures are turned by 90 degrees, in another colour.
+-- The header of a stream whose pictures are turned by 90 degrees, in another color.
 use Rattle.std.specs.Prelude.{ℕ, ◌≡◌, Bool, List, [], ◌∷◌, codes, filter, nat_eq, not, option_map, refl}
 use Rattle.std.specs.List.{starts_with}
-use Rattle.v_frame_y4m.specs.declared.colour.Colour.{Colour}
+use Rattle.v_frame_y4m.specs.declared.color.Color.{Color}
 use Rattle.v_frame_y4m.specs.declared.header.Ratio.{Ratio}
 use Rattle.v_frame_y4m.specs.declared.header.StreamHeader.{StreamHeader}
 
@@ -20,14 +20,14 @@ range_stays = refl
 abbrev pub turned_ratio : Ratio → Ratio
 turned_ratio ratio = record { numerator = ratio.denominator; denominator = ratio.numerator }
 
-abbrev pub turned_header : StreamHeader → Colour → StreamHeader
-turned_header header colour =
+abbrev pub turned_header : StreamHeader → Color → StreamHeader
+turned_header header color =
     record {
       width = header.height;
       height = header.width;
       frame_rate = header.frame_rate;
       interlacing = header.interlacing;
       pixel_aspect = option_map turned_ratio header.pixel_aspect;
-      colour = colour;
+      color = color;
       extensions = without_format header.extensions;
     }

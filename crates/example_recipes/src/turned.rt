@@ -1,6 +1,6 @@
 //! A stream of another size and another depth: turned by 90 degrees clockwise, and shown in 10 bits.
 ghost use Rattle.std.specs.Prelude.{◌≡◌, All, None, option_map, IfSome};
-ghost use Rattle.v_frame_y4m.specs.Colour.{colour_with, subsampling_of};
+ghost use Rattle.v_frame_y4m.specs.Color.{color_with, subsampling_of};
 ghost use Rattle.v_frame_y4m.specs.Header.{IsPiece, IsWritable};
 ghost use Rattle.example_recipes.specs.TurnedHeader.{turned_header, turned_ratio, without_format};
 
@@ -13,25 +13,25 @@ use v_frame::sequence::Sequence;
 use v_frame_planar::{Counted, video_frame};
 use v_frame_turn::{Turn, TurnError, frames};
 use v_frame_y4m::{
-    Colour, Ratio, StreamHeader, Y4mError, read_frame, read_header, write_frame, write_header,
+    Color, Ratio, StreamHeader, Y4mError, read_frame, read_header, write_frame, write_header,
 };
 
-/// Returns the header of a stream whose pictures are turned by 90 degrees and have 10 bits. `None` where no colour of 10 bits
+/// Returns the header of a stream whose pictures are turned by 90 degrees and have 10 bits. `None` where no color of 10 bits
 /// has the chroma format. Fields of interlaced video would be columns then, so it is for progressive video.
 pub fn turned_header(header: StreamHeader) -> Option<StreamHeader>
     requires { IsWritable header }
     ensures value { result ≡ option_map (turned_header header)
-        (colour_with (subsampling_of header.colour) 10 None) }
+        (color_with (subsampling_of header.color) 10 None) }
     ensures writable { IfSome result IsWritable }
 {
-    let colour = Colour::new(header.colour.subsampling(), 10, None)?;
+    let color = Color::new(header.color.subsampling(), 10, None)?;
     Some(StreamHeader {
         width: header.height,
         height: header.width,
         frame_rate: header.frame_rate,
         interlacing: header.interlacing,
         pixel_aspect: header.pixel_aspect.map(turned_ratio),
-        colour,
+        color,
         extensions: without_format(header.extensions),
     })
 }
@@ -84,7 +84,7 @@ pub fn turn_stream<R: io::Read, W: io::Write>(
     writer: &mut Counted<W>,
 ) -> Result<(), TurnedError> {
     let header = read_header(alloc, reader)?;
-    let subsampling = header.colour.subsampling();
+    let subsampling = header.color.subsampling();
     let mut source = header.frame::<u8>(alloc, 0)?;
     let header = turned_header(header).ok_or(TurnedError::Format)?;
     let mut between = video_frame::<u8>(alloc, header.width, header.height, subsampling, 8, 0)?;

@@ -6,7 +6,7 @@ use std::alloc::AllocError;
 use v_frame::sequence::Sequence;
 use v_frame_planar::Counted;
 use v_frame_y4m::{
-    Colour, Depth, Interlacing, Ratio, StreamHeader, Text, ended_line, header_line, parse_header,
+    Color, Depth, Interlacing, Ratio, StreamHeader, Text, ended_line, header_line, parse_header,
     parse_lax_header, read_header, read_lax_header, strict_line, write_header,
 };
 
@@ -39,7 +39,7 @@ pub fn seen(rt: &HostRuntime, name: &str) -> Option<()> {
 fn seen_of_streams(rt: &HostRuntime, name: &str) -> Option<()> {
     match name {
         "read_header" => show_read(rt, &STREAM),
-        // One whose colour is unknown: where there is no memory to name it, that is told.
+        // One whose color is unknown: where there is no memory to name it, that is told.
         "read_header_that_is_refused" => show_read(rt, b"YUV4MPEG2 W30 H2 C5\nFRAME\n"),
         "read_lax_header" => {
             let mut reader = Counted::new(LAX.as_slice());
@@ -92,7 +92,7 @@ fn header_with(extensions: Sequence<Sequence<u8>>) -> StreamHeader {
         frame_rate: Some(ratio(25, 1)),
         interlacing: Some(Interlacing::Progressive),
         pixel_aspect: Some(ratio(4, 3)),
-        colour: Colour::Yuv444HighDepth(Depth::Sixteen),
+        color: Color::Yuv444HighDepth(Depth::Sixteen),
         extensions,
     }
 }

@@ -5,9 +5,7 @@ use crate::show::show;
 use v_frame::plane::{PlaneGeometry, PlaneRef, RowsRef};
 use v_frame_chart::{Chart, Series, summaries, svg, write_svg};
 use v_frame_planar::Counted;
-use v_frame_png::{
-    ColourSpace, Compression, Header, PngWriter, Samples, write_png, write_png_with,
-};
+use v_frame_png::{ColorSpace, Compression, Header, PngWriter, Samples, write_png, write_png_with};
 use v_frame_tool_run::run::run;
 
 /// Shows the case of this name, here or behind. `None` where a request of its preparation was refused.
@@ -34,7 +32,7 @@ fn header(samples: Samples) -> Header {
         width: 2,
         height: 2,
         samples,
-        colour_space: ColourSpace::Unnamed,
+        color_space: ColorSpace::Unnamed,
     }
 }
 
@@ -47,10 +45,10 @@ fn is_blank(room: &[u8]) -> bool {
 fn png_of_rows(rt: &HostRuntime, compression: Compression) -> Option<()> {
     let rows = RowsRef::new(&[1, 2, 3, 4], 2, 2, 2)?;
     let mut room = [0; 120];
-    let (alloc, out, grey) = (rt.alloc(), room.as_mut_slice(), header(Samples::Grey8));
+    let (alloc, out, gray) = (rt.alloc(), room.as_mut_slice(), header(Samples::Gray8));
     let written = match compression {
-        Compression::Stored => write_png(alloc, out, grey, &rows),
-        Compression::Fixed => write_png_with(alloc, out, grey, compression, &rows),
+        Compression::Stored => write_png(alloc, out, gray, &rows),
+        Compression::Fixed => write_png_with(alloc, out, gray, compression, &rows),
     };
     let left = match written {
         Ok(rest) => rest.len(),
@@ -67,10 +65,10 @@ fn png_of_rows(rt: &HostRuntime, compression: Compression) -> Option<()> {
 /// A picture that is begun.
 fn png_writer(rt: &HostRuntime, compression: Compression) {
     let mut room = [0; 120];
-    let (alloc, out, grey) = (rt.alloc(), room.as_mut_slice(), header(Samples::Grey8));
+    let (alloc, out, gray) = (rt.alloc(), room.as_mut_slice(), header(Samples::Gray8));
     let made = match compression {
-        Compression::Stored => PngWriter::new(alloc, out, grey),
-        Compression::Fixed => PngWriter::with_compression(alloc, out, grey, compression),
+        Compression::Stored => PngWriter::new(alloc, out, gray),
+        Compression::Fixed => PngWriter::with_compression(alloc, out, gray, compression),
     };
     match made {
         Ok(png) => show(
@@ -88,8 +86,8 @@ fn png_of_words(rt: &HostRuntime, is_plane: bool) -> Option<()> {
         &[258, 772, 1286, 1800],
     )?;
     let mut room = [0; 120];
-    let grey = header(Samples::Grey16);
-    let mut png = PngWriter::new(rt.alloc(), room.as_mut_slice(), grey).ok()?;
+    let gray = header(Samples::Gray16);
+    let mut png = PngWriter::new(rt.alloc(), room.as_mut_slice(), gray).ok()?;
     let written = if is_plane {
         png.write_plane_u16(rt.alloc(), &plane)
     } else {

@@ -6,7 +6,7 @@ use v_frame_streams::{
     CompareOptions, Container, CopyOptions, MAX_PIXELS, NoObserver, Picture, Place, Rectangle,
     Silent, Sink, Source, StreamError, compare_streams, copy_stream,
 };
-use v_frame_y4m::{Colour, StreamHeader};
+use v_frame_y4m::{Color, StreamHeader};
 
 /// The header line of a stream.
 static STREAM: [u8; 23] = *b"YUV4MPEG2 W30 H2 Cmono\n";
@@ -119,7 +119,7 @@ fn header(rt: &HostRuntime) -> StreamHeader {
         frame_rate: None,
         interlacing: None,
         pixel_aspect: None,
-        colour: Colour::Mono,
+        color: Color::Mono,
         extensions: Vec::new(rt.alloc()).into(),
     }
 }

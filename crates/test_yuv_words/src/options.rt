@@ -18,7 +18,7 @@ pub fn print_options<W: Write>(options: &Options, out: &mut W) -> io::Result<()>
     print_number("skip second", options.skip_second, out)?;
     print_number("count", options.count, out)?;
     print_number("frame", options.frame, out)?;
-    print_colours(options, out)?;
+    print_colors(options, out)?;
     print_rectangle(options.crop, out)?;
     print_flag("half", options.half, out)?;
     print_format(options, out)?;
@@ -32,7 +32,7 @@ pub fn print_options<W: Write>(options: &Options, out: &mut W) -> io::Result<()>
 }
 
 /// Prints how a picture is made.
-fn print_colours<W: Write>(options: &Options, out: &mut W) -> io::Result<()> {
+fn print_colors<W: Write>(options: &Options, out: &mut W) -> io::Result<()> {
     if let Some(matrix) = options.matrix {
         writeln!(out, "  matrix {matrix:?}")?;
     }

@@ -1,8 +1,8 @@
 pub mod Calls
 pub mod ChromaByTurns
 pub mod Clipped
-pub mod ColourCalls
-pub mod ColourChoice
+pub mod ColorCalls
+pub mod ColorChoice
 pub mod Counts
 pub mod Found
 pub mod FrameParts

@@ -2,7 +2,7 @@
 use Rattle.std.specs.Prelude.{ℕ, ◌≡◌, [], ◌∷◌, true, false, refl}
 use Rattle.v_frame.specs.Prelude.{Table, one_byte}
 use Rattle.v_frame_convert.specs.declared.range.Component.TheVariants.{Chroma}
-use Rattle.v_frame_c.specs.ColourChoice.{bytes_by, colour_by}
+use Rattle.v_frame_c.specs.ColorChoice.{bytes_by, color_by}
 use Rattle.v_frame_c.specs.Counts.{count_between}
 use Rattle.v_frame_c.specs.Numbers.{component_by, is_begun, is_component, is_depth, is_turn, turned_by}
 
@@ -34,7 +34,7 @@ no_third_component : is_component 2 ≡ false
 no_third_component = refl
 
 -- blue first, and a fourth byte
-blue_first : bytes_by 1 (colour_by 3 (7 ∷ 8 ∷ 9 ∷ 1 ∷ [])) ≡ 7 ∷ 8 ∷ 9 ∷ []
+blue_first : bytes_by 1 (color_by 3 (7 ∷ 8 ∷ 9 ∷ 1 ∷ [])) ≡ 7 ∷ 8 ∷ 9 ∷ []
 blue_first = refl
 
 -- both ends count

@@ -34,7 +34,7 @@ pub extern "C" fn v_frame_resize_area_u16(
     resize::by_area(rows, buffer, source_rows, source)
 }
 
-/// Makes the first rows show the picture of the second ones: each pixel is the one that holds its centre.
+/// Makes the first rows show the picture of the second ones: each pixel is the one that holds its center.
 #[unsafe(no_mangle)]
 pub extern "C" fn v_frame_resize_nearest_u8(
     rows: &Rows,
@@ -47,7 +47,7 @@ pub extern "C" fn v_frame_resize_nearest_u8(
     resize::by_nearest(rows, buffer, source_rows, source)
 }
 
-/// Makes the first rows show the picture of the second ones: each pixel is the one that holds its centre.
+/// Makes the first rows show the picture of the second ones: each pixel is the one that holds its center.
 #[unsafe(no_mangle)]
 pub extern "C" fn v_frame_resize_nearest_u16(
     rows: &Rows,

@@ -25,7 +25,7 @@ pub fn by_area<T: Pixel>(rows: &Rows, buffer: &mut [T], source_rows: &Rows, sour
     OK
 }
 
-/// Makes the first rows show the picture of the second ones: each pixel is the one that holds its centre.
+/// Makes the first rows show the picture of the second ones: each pixel is the one that holds its center.
 pub fn by_nearest<T: Pixel>(rows: &Rows, buffer: &mut [T], source_rows: &Rows, source: &[T]) -> u32
     ensures made { IsResizedByNearest rows.now source_rows.now source.now buffer.old buffer.new result }
 {

@@ -1,17 +1,17 @@
-//! Three planes of one size of colours.
+//! Three planes of one size of colors.
 ghost use Rattle.std.specs.Prelude.{◌≡◌, ◌*◌, ◌<◌, IsTrue, SomeIff, length};
 ghost use Rattle.v_frame.specs.Prelude.{height_of, strided_rows, width_of, KeepsRest, RowsFit};
-ghost use Rattle.v_frame_c.specs.ColourCalls.{AreSamples};
-ghost use Rattle.v_frame_c.specs.ColourChoice.{colour_by, is_choice, size_by, yuv_matrix_by};
+ghost use Rattle.v_frame_c.specs.ColorCalls.{AreSamples};
+ghost use Rattle.v_frame_c.specs.ColorChoice.{color_by, is_choice, size_by, yuv_matrix_by};
 ghost use Rattle.v_frame_rgb.specs.Prelude.{sample_rows, u_of, v_of, y_of};
 
-use crate::colours::ColourChoice;
+use crate::colors::ColorChoice;
 use crate::layout::Rows;
 use crate::status::{FIRST, FOURTH, NUMBER, OK, SECOND, SIZES, THIRD};
 use v_frame::plane::RowsRef;
-use v_frame_rgb::{Bgr, Bgra, Rgb, Rgba, YuvMatrix, rows as colours};
+use v_frame_rgb::{Bgr, Bgra, Rgb, Rgba, YuvMatrix, rows as colors};
 
-/// Makes the second, the third and the fourth rows the luma and the chroma of the colours of the first ones.
+/// Makes the second, the third and the fourth rows the luma and the chroma of the colors of the first ones.
 pub fn of_rgb(
     rows: &Rows,
     buffer: &[u8],
@@ -21,7 +21,7 @@ pub fn of_rgb(
     u: &mut [u8],
     v_rows: &Rows,
     v: &mut [u8],
-    choice: &ColourChoice,
+    choice: &ColorChoice,
 ) -> u32
     ensures made { AreSamples choice.now rows.now y_rows.now u_rows.now v_rows.now buffer.now y.old y.new u.old
         u.new v.old v.new result }
@@ -41,7 +41,7 @@ pub fn of_rgb(
     if !v_rows.fit(v.len()) {
         return FOURTH;
     }
-    if !rows.have_colours_of(y_rows, choice.order)
+    if !rows.have_colors_of(y_rows, choice.order)
         || !y_rows.same_size(u_rows)
         || !y_rows.same_size(v_rows)
     {
@@ -61,7 +61,7 @@ pub fn of_rgb(
     OK
 }
 
-/// Writes the samples of colours in one of these orders.
+/// Writes the samples of colors in one of these orders.
 fn write_samples(
     source: &RowsRef<'_, u8>,
     matrix: YuvMatrix,
@@ -79,25 +79,25 @@ fn write_samples(
     requires wide { width_of source.now ≡ size_by order * size.0 }
     requires high { height_of source.now ≡ size.1 }
     ensures luma { strided_rows size.0 size.1 strides.0 y.new
-        ≡ sample_rows (y_of matrix) (colour_by order) (size_by order) size.0 source.now }
+        ≡ sample_rows (y_of matrix) (color_by order) (size_by order) size.0 source.now }
     ensures chroma_u { strided_rows size.0 size.1 strides.1 u.new
-        ≡ sample_rows (u_of matrix) (colour_by order) (size_by order) size.0 source.now }
+        ≡ sample_rows (u_of matrix) (color_by order) (size_by order) size.0 source.now }
     ensures chroma_v { strided_rows size.0 size.1 strides.2 v.new
-        ≡ sample_rows (v_of matrix) (colour_by order) (size_by order) size.0 source.now }
+        ≡ sample_rows (v_of matrix) (color_by order) (size_by order) size.0 source.now }
     ensures y_rest { KeepsRest size.0 size.1 strides.0 y.old y.new }
     ensures u_rest { KeepsRest size.0 size.1 strides.1 u.old u.new }
     ensures v_rest { KeepsRest size.0 size.1 strides.2 v.old v.new }
 {
     let (width, height) = size;
     match order {
-        0 => colours::rgb_to_yuv444::<Rgb>(source, matrix, y, u, v, width, height, strides),
-        1 => colours::rgb_to_yuv444::<Bgr>(source, matrix, y, u, v, width, height, strides),
-        2 => colours::rgb_to_yuv444::<Rgba>(source, matrix, y, u, v, width, height, strides),
-        _ => colours::rgb_to_yuv444::<Bgra>(source, matrix, y, u, v, width, height, strides),
+        0 => colors::rgb_to_yuv444::<Rgb>(source, matrix, y, u, v, width, height, strides),
+        1 => colors::rgb_to_yuv444::<Bgr>(source, matrix, y, u, v, width, height, strides),
+        2 => colors::rgb_to_yuv444::<Rgba>(source, matrix, y, u, v, width, height, strides),
+        _ => colors::rgb_to_yuv444::<Bgra>(source, matrix, y, u, v, width, height, strides),
     }
 }
 
-impl ColourChoice {
+impl ColorChoice {
     /// Returns the coefficients towards samples, where the numbers stand for a choice.
     pub fn yuv_matrix(&self) -> Option<YuvMatrix>
         ensures { SomeIff result (IsTrue (is_choice self.now)) (yuv_matrix_by self.now) }

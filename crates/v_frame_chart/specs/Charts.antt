@@ -9,7 +9,7 @@ use Rattle.v_frame_chart.specs.Marks.{marks_of}
 use Rattle.v_frame_chart.specs.Room.{HasRoom}
 use Rattle.v_frame_chart.specs.Scales.{down_of, grid_text}
 use Rattle.v_frame_bytes.specs.Sending.{AppendsBeginning}
-use Rattle.v_frame_chart.specs.Words.{closing, colour_of, head_text, legend_of}
+use Rattle.v_frame_chart.specs.Words.{closing, color_of, head_text, legend_of}
 use Rattle.v_frame_chart.specs.declared.drawing.Chart.{Chart}
 use Rattle.v_frame_chart.specs.declared.drawing.Series.{Series}
 use Rattle.v_frame_chart.specs.declared.scale.Scale.{Scale}
@@ -26,12 +26,12 @@ frames_of series = fold (λ frames one. max (length one.values.now) frames) 0 se
 unfoldable pub span_of : List Series → ℕ
 span_of series = max (frames_of series - 1) 1
 
--- a series in its colour: a mark for each column, with a band where columns have several values
+-- a series in its color: a mark for each column, with a band where columns have several values
 unfoldable pub series_text : Scale → ℕ → ℕ × Series → List ℕ
 series_text scale span (k, series) =
     let values = series.values.now in
     drawn_text (marks_of (across_of span) (down_of scale) (length values) (columns_of values room))
-    (nat_lt room (length values)) (colour_of k)
+    (nat_lt room (length values)) (color_of k)
 
 -- the series in their order, and then their names
 unfoldable pub all_series : Scale → ℕ → List Series → List ℕ

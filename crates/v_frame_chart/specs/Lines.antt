@@ -25,11 +25,11 @@ stroke_of (Some mark) =
 
 -- the band: a stroke for each column
 unfoldable pub band_head : List ℕ → List ℕ
-band_head colour =
-    codes "<path fill=\"none\" stroke=\"" ++ (colour ++ codes "\" stroke-opacity=\"0.3\" d=\"")
+band_head color =
+    codes "<path fill=\"none\" stroke=\"" ++ (color ++ codes "\" stroke-opacity=\"0.3\" d=\"")
 
 unfoldable pub band_text : List (Option Mark) → List ℕ → List ℕ
-band_text drawn colour = band_head colour ++ (flat_map stroke_of drawn ++ path_end)
+band_text drawn color = band_head color ++ (flat_map stroke_of drawn ++ path_end)
 
 -- the mean of a column: a line to it from the one before, where that has a value, and else a new
 -- beginning
@@ -44,37 +44,37 @@ mean_at drawn k = mean_part (slice_index_or drawn k None) (is_some (mark_before 
 
 -- the line through the means
 unfoldable pub means_head : List ℕ → List ℕ
-means_head colour =
-    codes "<path fill=\"none\" stroke=\"" ++ (colour
+means_head color =
+    codes "<path fill=\"none\" stroke=\"" ++ (color
     ++ codes "\" stroke-width=\"1.5\" stroke-linecap=\"round\" stroke-linejoin=\"round\" d=\"")
 
 unfoldable pub means_text : List (Option Mark) → List ℕ → List ℕ
-means_text drawn colour =
-    means_head colour ++ (flat_map (mean_at drawn) (range_with_len 0 (length drawn)) ++ path_end)
+means_text drawn color =
+    means_head color ++ (flat_map (mean_at drawn) (range_with_len 0 (length drawn)) ++ path_end)
 
 -- a dot at a mean
 unfoldable pub circle_of : Mark → List ℕ → List ℕ
-circle_of mark colour =
+circle_of mark color =
     codes "<circle cx=\"" ++ (place_text mark.x ++ (codes "\" cy=\"" ++ (place_text mark.mean
-    ++ (codes "\" r=\"2\" fill=\"" ++ (colour ++ path_end)))))
+    ++ (codes "\" r=\"2\" fill=\"" ++ (color ++ path_end)))))
 
 -- a dot for a column with a value, whose neighbours have none
 abbrev pub dot_part : Option Mark → Bool → List ℕ → List ℕ
-dot_part None joined colour = []
-dot_part (Some mark) joined colour =
-    if joined then [] else circle_of mark colour
+dot_part None joined color = []
+dot_part (Some mark) joined color =
+    if joined then [] else circle_of mark color
 
 abbrev pub is_joined : List (Option Mark) → ℕ → Bool
 is_joined drawn k = is_some (mark_before drawn k) || is_some (mark_after drawn k)
 
 abbrev pub dot_at : List (Option Mark) → List ℕ → ℕ → List ℕ
-dot_at drawn colour k = dot_part (slice_index_or drawn k None) (is_joined drawn k) colour
+dot_at drawn color k = dot_part (slice_index_or drawn k None) (is_joined drawn k) color
 
 unfoldable pub dots_text : List (Option Mark) → List ℕ → List ℕ
-dots_text drawn colour = flat_map (dot_at drawn colour) (range_with_len 0 (length drawn))
+dots_text drawn color = flat_map (dot_at drawn color) (range_with_len 0 (length drawn))
 
 -- all of a series, with a band where its columns have more than one value
 unfoldable pub drawn_text : List (Option Mark) → Bool → List ℕ → List ℕ
-drawn_text drawn banded colour =
-    (if banded then band_text drawn colour else [])
-    ++ (means_text drawn colour ++ dots_text drawn colour)
+drawn_text drawn banded color =
+    (if banded then band_text drawn color else [])
+    ++ (means_text drawn color ++ dots_text drawn color)

@@ -4,16 +4,16 @@ use Rattle.std.specs.List.{enumerate_from}
 use Rattle.v_frame_chart.specs.Labels.{escaped_words}
 use Rattle.v_frame_chart.specs.declared.drawing.Series.{Series}
 
--- colours that people tell apart who see few: those of Okabe and Ito, without the yellow, which is
+-- colors that people tell apart who see few: those of Okabe and Ito, without the yellow, which is
 -- pale on white
-abbrev pub colours : List (List ℕ)
-colours =
+abbrev pub colors : List (List ℕ)
+colors =
     codes "#0072b2" ∷ codes "#d55e00" ∷ codes "#009e73" ∷ codes "#cc79a7" ∷ codes "#e69f00"
     ∷ codes "#56b4e9" ∷ codes "#000000" ∷ []
 
--- the colour of series k
-unfoldable pub colour_of : ℕ → List ℕ
-colour_of k = slice_index_or colours (k % 7) []
+-- the color of series k
+unfoldable pub color_of : ℕ → List ℕ
+color_of k = slice_index_or colors (k % 7) []
 
 -- a text with these attributes
 unfoldable pub text_head : List ℕ → List ℕ
@@ -49,18 +49,18 @@ frame_word = text_of (codes "x=\"500\" y=\"408\" text-anchor=\"middle\"") (codes
 unfoldable pub head_text : List ℕ → List ℕ → List ℕ
 head_text title unit = opening ++ (title_of title ++ (unit_of unit ++ frame_word))
 
--- the legend: a sample of the colour of each series, and its name
+-- the legend: a sample of the color of each series, and its name
 unfoldable pub sample_of : List ℕ → List ℕ
-sample_of colour =
+sample_of color =
     codes "<tspan dx=\"20\" font-size=\"18\" font-weight=\"bold\" fill=\""
-    ++ (colour ++ codes "\">&#8212;</tspan> <tspan>")
+    ++ (color ++ codes "\">&#8212;</tspan> <tspan>")
 
 unfoldable pub name_end : List ℕ
 name_end = codes "</tspan>"
 
 unfoldable pub entry_of : ℕ × Series → List ℕ
 entry_of (k, series) =
-    sample_of (colour_of k) ++ (escaped_words series.name.now ++ name_end)
+    sample_of (color_of k) ++ (escaped_words series.name.now ++ name_end)
 
 unfoldable pub legend_of : List Series → List ℕ
 legend_of series =

@@ -10,7 +10,7 @@ use Rattle.v_frame_chart.specs.Frames.{first_mark, mark_count, marked_frames}
 use Rattle.v_frame_chart.specs.Lines.{circle_of, dots_text, mean_at, stroke_of}
 use Rattle.v_frame_chart.specs.Places.{place_text, tenths_of}
 use Rattle.v_frame_chart.specs.Scales.{label_of, last_digits, size_text}
-use Rattle.v_frame_chart.specs.Words.{colour_of, entry_of, legend_of, name_end, sample_of, text_end, text_head, text_of, title_of}
+use Rattle.v_frame_chart.specs.Words.{color_of, entry_of, legend_of, name_end, sample_of, text_end, text_head, text_of, title_of}
 use Rattle.v_frame_chart.specs.declared.drawing.Series.{Series}
 use Rattle.v_frame_chart.specs.declared.marks.Mark.{Mark}
 use Rattle.v_frame_chart.specs.declared.scale.Power.TheVariants.{Times, Over}
@@ -87,7 +87,7 @@ one_dot : dots_text drawn (codes "#d55e00")
 unfolding one two three tenths_of round_with mul of_int to_unsigned digits dots_text circle_of
 one_dot = refl
 
--- names are escaped, and stand behind the colours of their series
+-- names are escaped, and stand behind the colors of their series
 abbrev named : List ℕ → Series
 named words = record {
   name = record { ref_ptr = (0, 0); now = words };
@@ -95,15 +95,15 @@ named words = record {
 }
 
 abbrev sample : List ℕ → List ℕ
-sample colour =
-    codes "<tspan dx=\"20\" font-size=\"18\" font-weight=\"bold\" fill=\"" ++ colour
+sample color =
+    codes "<tspan dx=\"20\" font-size=\"18\" font-weight=\"bold\" fill=\"" ++ color
     ++ codes "\">&#8212;</tspan> "
 
 legend : legend_of (named (codes "Y") ∷ named (codes "<U>") ∷ [])
     ≡ codes "<text x=\"56\" y=\"50\">"
     ++ sample (codes "#0072b2") ++ codes "<tspan>Y</tspan>"
     ++ sample (codes "#d55e00") ++ codes "<tspan>&lt;U&gt;</tspan></text>\n"
-unfolding legend_of text_head entry_of sample_of colour_of name_end text_end chars encode
+unfolding legend_of text_head entry_of sample_of color_of name_end text_end chars encode
 legend = refl
 
 title : title_of (codes "a < b")

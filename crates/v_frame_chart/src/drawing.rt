@@ -10,7 +10,7 @@ use crate::lines::push_drawn;
 use crate::marks::marks;
 use crate::room::scale_of;
 use crate::scale::Scale;
-use crate::words::{colour_of, push_closing, push_head, push_legend};
+use crate::words::{color_of, push_closing, push_head, push_legend};
 use std::alloc::{AllocError, Global};
 use std::io;
 use v_frame_bytes::send;
@@ -33,7 +33,7 @@ pub struct Chart<'a> {
     pub unit: &'a str,
     /// The number of the first frame, as 0 or 1.
     pub first: u64,
-    /// The series, in the order of their colours.
+    /// The series, in the order of their colors.
     pub series: &'a [Series<'a>],
 }
 
@@ -137,7 +137,7 @@ fn push_all_series(
     Ok(())
 }
 
-/// Appends series `k` in its colour.
+/// Appends series `k` in its color.
 #[tactic(auto, unfolding(crate::specs::Charts::series_text))]
 fn push_series(
     alloc: Global,
@@ -153,5 +153,5 @@ fn push_series(
     let values = series.values;
     let columns = summaries(alloc, values, COLUMNS)?;
     let drawn = marks(alloc, &columns, values.len(), across_of(span), scale.axis())?;
-    push_drawn(text, &drawn, COLUMNS < values.len(), colour_of(k))
+    push_drawn(text, &drawn, COLUMNS < values.len(), color_of(k))
 }

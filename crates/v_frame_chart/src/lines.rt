@@ -13,14 +13,14 @@ pub(crate) fn push_drawn(
     text: &mut String,
     drawn: &[Option<Mark>],
     banded: bool,
-    colour: &str,
+    color: &str,
 ) -> Result<(), AllocError>
     ensures { OnOk result (string_bytes text.new
-        ≡ string_bytes text.old ++ drawn_text drawn.now banded colour.now) }
+        ≡ string_bytes text.old ++ drawn_text drawn.now banded color.now) }
 {
-    push_band_if(text, drawn, banded, colour)?;
-    push_means(text, drawn, colour)?;
-    push_dots(text, drawn, colour)?;
+    push_band_if(text, drawn, banded, color)?;
+    push_means(text, drawn, color)?;
+    push_dots(text, drawn, color)?;
     Ok(())
 }
 
@@ -29,13 +29,13 @@ fn push_band_if(
     text: &mut String,
     drawn: &[Option<Mark>],
     banded: bool,
-    colour: &str,
+    color: &str,
 ) -> Result<(), AllocError>
     ensures { OnOk result (string_bytes text.new
-        ≡ string_bytes text.old ++ (if banded then band_text drawn.now colour.now else [])) }
+        ≡ string_bytes text.old ++ (if banded then band_text drawn.now color.now else [])) }
 {
     if banded {
-        push_band(text, drawn, colour)
+        push_band(text, drawn, color)
     } else {
         Ok(())
     }
@@ -43,11 +43,11 @@ fn push_band_if(
 
 /// Appends a stroke from the least to the greatest value of each column.
 #[tactic(auto, using(crate::proofs::Appended::joins), unfolding(crate::specs::Lines::band_text))]
-fn push_band(text: &mut String, drawn: &[Option<Mark>], colour: &str) -> Result<(), AllocError>
+fn push_band(text: &mut String, drawn: &[Option<Mark>], color: &str) -> Result<(), AllocError>
     ensures { OnOk result (string_bytes text.new
-        ≡ string_bytes text.old ++ band_text drawn.now colour.now) }
+        ≡ string_bytes text.old ++ band_text drawn.now color.now) }
 {
-    push_band_head(text, colour)?;
+    push_band_head(text, color)?;
     push_strokes(text, drawn)?;
     push_path_end(text)?;
     Ok(())
@@ -55,12 +55,12 @@ fn push_band(text: &mut String, drawn: &[Option<Mark>], colour: &str) -> Result<
 
 /// Appends the head of a band.
 #[tactic(auto, unfolding(crate::specs::Lines::band_head))]
-fn push_band_head(text: &mut String, colour: &str) -> Result<(), AllocError>
-    ensures { OnOk result (string_bytes text.new ≡ string_bytes text.old ++ band_head colour.now) }
+fn push_band_head(text: &mut String, color: &str) -> Result<(), AllocError>
+    ensures { OnOk result (string_bytes text.new ≡ string_bytes text.old ++ band_head color.now) }
 {
     write!(
         text,
-        "<path fill=\"none\" stroke=\"{colour}\" stroke-opacity=\"0.3\" d=\""
+        "<path fill=\"none\" stroke=\"{color}\" stroke-opacity=\"0.3\" d=\""
     )
 }
 
@@ -101,11 +101,11 @@ fn push_path_end(text: &mut String) -> Result<(), AllocError>
 
 /// Appends the line through the means, which begins anew after a gap.
 #[tactic(auto, using(crate::proofs::Appended::joins), unfolding(crate::specs::Lines::means_text))]
-fn push_means(text: &mut String, drawn: &[Option<Mark>], colour: &str) -> Result<(), AllocError>
+fn push_means(text: &mut String, drawn: &[Option<Mark>], color: &str) -> Result<(), AllocError>
     ensures { OnOk result (string_bytes text.new
-        ≡ string_bytes text.old ++ means_text drawn.now colour.now) }
+        ≡ string_bytes text.old ++ means_text drawn.now color.now) }
 {
-    push_means_head(text, colour)?;
+    push_means_head(text, color)?;
     push_each_mean(text, drawn)?;
     push_path_end(text)?;
     Ok(())
@@ -113,12 +113,12 @@ fn push_means(text: &mut String, drawn: &[Option<Mark>], colour: &str) -> Result
 
 /// Appends the head of the line through the means.
 #[tactic(auto, unfolding(crate::specs::Lines::means_head))]
-fn push_means_head(text: &mut String, colour: &str) -> Result<(), AllocError>
-    ensures { OnOk result (string_bytes text.new ≡ string_bytes text.old ++ means_head colour.now) }
+fn push_means_head(text: &mut String, color: &str) -> Result<(), AllocError>
+    ensures { OnOk result (string_bytes text.new ≡ string_bytes text.old ++ means_head color.now) }
 {
     write!(
         text,
-        "<path fill=\"none\" stroke=\"{colour}\" stroke-width=\"1.5\" \
+        "<path fill=\"none\" stroke=\"{color}\" stroke-width=\"1.5\" \
          stroke-linecap=\"round\" stroke-linejoin=\"round\" d=\""
     )
 }
@@ -150,12 +150,12 @@ fn push_mean(text: &mut String, mark: Option<Mark>, joined: bool) -> Result<(), 
 
 /// Appends a dot for each column that stands between two gaps, where the line has no length.
 #[tactic(auto, unfolding(crate::specs::Lines::dots_text))]
-fn push_dots(text: &mut String, drawn: &[Option<Mark>], colour: &str) -> Result<(), AllocError>
+fn push_dots(text: &mut String, drawn: &[Option<Mark>], color: &str) -> Result<(), AllocError>
     ensures { OnOk result (string_bytes text.new
-        ≡ string_bytes text.old ++ dots_text drawn.now colour.now) }
+        ≡ string_bytes text.old ++ dots_text drawn.now color.now) }
 {
     for k in 0..drawn.len() {
-        push_dot(text, drawn[k], is_joined(drawn, k), colour)?;
+        push_dot(text, drawn[k], is_joined(drawn, k), color)?;
     }
     Ok(())
 }
@@ -165,17 +165,17 @@ fn push_dot(
     text: &mut String,
     mark: Option<Mark>,
     joined: bool,
-    colour: &str,
+    color: &str,
 ) -> Result<(), AllocError>
     ensures { OnOk result (string_bytes text.new
-        ≡ string_bytes text.old ++ dot_part mark joined colour.now) }
+        ≡ string_bytes text.old ++ dot_part mark joined color.now) }
 {
     match mark {
         Some(mark) => {
             if joined {
                 Ok(())
             } else {
-                push_circle(text, mark, colour)
+                push_circle(text, mark, color)
             }
         }
         None => Ok(()),
@@ -184,14 +184,14 @@ fn push_dot(
 
 /// Appends a dot.
 #[tactic(auto, unfolding(crate::specs::Lines::circle_of))]
-fn push_circle(text: &mut String, mark: Mark, colour: &str) -> Result<(), AllocError>
+fn push_circle(text: &mut String, mark: Mark, color: &str) -> Result<(), AllocError>
     ensures { OnOk result (string_bytes text.new
-        ≡ string_bytes text.old ++ circle_of mark colour.now) }
+        ≡ string_bytes text.old ++ circle_of mark color.now) }
 {
     let (x, mean) = (Place::nearest(mark.x), Place::nearest(mark.mean));
     write!(
         text,
-        "<circle cx=\"{x}\" cy=\"{mean}\" r=\"2\" fill=\"{colour}\"/>\n"
+        "<circle cx=\"{x}\" cy=\"{mean}\" r=\"2\" fill=\"{color}\"/>\n"
     )
 }
 

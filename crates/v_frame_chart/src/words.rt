@@ -1,7 +1,7 @@
 //! What is written besides the lines: the head, the title, the names of the axes, and the legend.
 ghost use Rattle.std.specs.Prelude.{◌≡◌, ◌++◌, OnOk, flat_map, string_bytes};
 ghost use Rattle.std.specs.List.{enumerate_from};
-ghost use Rattle.v_frame_chart.specs.Words.{closing, colour_of as the_colour, entry_of, frame_word, head_text, legend_of, name_end, opening, sample_of, text_end, text_head, text_of, title_of, unit_of};
+ghost use Rattle.v_frame_chart.specs.Words.{closing, color_of as the_color, entry_of, frame_word, head_text, legend_of, name_end, opening, sample_of, text_end, text_head, text_of, title_of, unit_of};
 
 use crate::drawing::Series;
 use crate::labels::push_escaped;
@@ -123,26 +123,26 @@ fn push_entries(text: &mut String, series: &[Series<'_>]) -> Result<(), AllocErr
     Ok(())
 }
 
-/// Appends a sample of a colour and the name of its series.
+/// Appends a sample of a color and the name of its series.
 #[tactic(auto, using(crate::proofs::Appended::joins), unfolding(crate::specs::Words::entry_of))]
 fn push_entry(text: &mut String, k: usize, series: Series<'_>) -> Result<(), AllocError>
     ensures { OnOk result (string_bytes text.new
         ≡ string_bytes text.old ++ entry_of (k, series.entry)) }
 {
-    push_sample(text, colour_of(k))?;
+    push_sample(text, color_of(k))?;
     push_escaped(text, series.name)?;
     push_name_end(text)?;
     Ok(())
 }
 
-/// Appends a sample of a colour.
+/// Appends a sample of a color.
 #[tactic(auto, unfolding(crate::specs::Words::sample_of))]
-fn push_sample(text: &mut String, colour: &str) -> Result<(), AllocError>
-    ensures { OnOk result (string_bytes text.new ≡ string_bytes text.old ++ sample_of colour.now) }
+fn push_sample(text: &mut String, color: &str) -> Result<(), AllocError>
+    ensures { OnOk result (string_bytes text.new ≡ string_bytes text.old ++ sample_of color.now) }
 {
     write!(
         text,
-        "<tspan dx=\"20\" font-size=\"18\" font-weight=\"bold\" fill=\"{colour}\">&#8212;</tspan> <tspan>"
+        "<tspan dx=\"20\" font-size=\"18\" font-weight=\"bold\" fill=\"{color}\">&#8212;</tspan> <tspan>"
     )
 }
 
@@ -154,10 +154,10 @@ fn push_name_end(text: &mut String) -> Result<(), AllocError>
     text.push_str("</tspan>")
 }
 
-/// Returns the colour of series `k`.
-#[tactic(auto, unfolding(crate::specs::Words::colour_of))]
-pub(crate) fn colour_of(k: usize) -> &'static str
-    ensures { result.now ≡ the_colour k }
+/// Returns the color of series `k`.
+#[tactic(auto, unfolding(crate::specs::Words::color_of))]
+pub(crate) fn color_of(k: usize) -> &'static str
+    ensures { result.now ≡ the_color k }
 {
     match k % 7 {
         0 => "#0072b2",

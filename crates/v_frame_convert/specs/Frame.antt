@@ -80,7 +80,7 @@ FramesMatch bytes other source target =
     FramesFit bytes other source target × HaveChromaSizes source target
 
 module _ {S T : Type 0} (form : PixelForm S) (other : PixelForm T) (from to : ℕ) where
-  -- a chroma plane in another size and depth, or no colour where the source has none
+  -- a chroma plane in another size and depth, or no color where the source has none
   abbrev pub chroma_shown : Scale × Scale → Option (Raster S) → ℕ → ℕ → Table T
   chroma_shown scales None width height =
       replicate height (replicate width (other.pixel_of (2 ^ (to - 1))))

@@ -49,8 +49,8 @@ black : luma_in_full_range 8 16 ≡ 0
 black = refl
 
 -- (126 - 16) * 255 / 219 is 128.08
-grey : luma_in_full_range 8 126 ≡ 128
-grey = refl
+gray : luma_in_full_range 8 126 ≡ 128
+gray = refl
 
 white : luma_in_full_range 10 940 ≡ 1023
 white = refl
@@ -58,8 +58,8 @@ white = refl
 above_white : luma_in_full_range 8 254 ≡ 255
 above_white = refl
 
-no_colour : chroma_in_full_range 8 128 ≡ 128
-no_colour = refl
+no_color : chroma_in_full_range 8 128 ≡ 128
+no_color = refl
 
 -- (16 - 128) * 255 / 224 + 128 is 0.5, and (240 - 128) * 255 / 224 + 128 is 255.5
 least_chroma : chroma_in_full_range 8 16 ≡ 1
@@ -75,8 +75,8 @@ white_back : luma_in_limited_range 8 255 ≡ 235
 white_back = refl
 
 -- 16 + 128 * 219 / 255 is 125.93
-grey_back : luma_in_limited_range 8 128 ≡ 126
-grey_back = refl
+gray_back : luma_in_limited_range 8 128 ≡ 126
+gray_back = refl
 
 no_chroma_back : chroma_in_limited_range 10 0 ≡ 64
 no_chroma_back = refl
@@ -124,5 +124,5 @@ from_a_quarter_to_full = refl
 from_half_columns_to_half : scales_between Yuv422 Yuv420 ≡ (Same, Half)
 from_half_columns_to_half = refl
 
-from_no_colour : scales_between Monochrome Yuv422 ≡ (Same, Same)
-from_no_colour = refl
+from_no_color : scales_between Monochrome Yuv422 ≡ (Same, Same)
+from_no_color = refl

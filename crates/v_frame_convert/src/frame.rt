@@ -19,7 +19,7 @@ use v_frame_ops::fill;
 ///
 /// Luma is converted as by [`convert_depth`], and each chroma plane that the target has as by [`resize`]: where its format has
 /// fewer of them, chroma pixels are means, and where it has more they are repeated. Chroma planes that the target doesn't have
-/// are left out. Those that the source doesn't have are filled with the middle of the target's depth, which is no colour.
+/// are left out. Those that the source doesn't have are filled with the middle of the target's depth, which is no color.
 ///
 /// The luma planes have one size, and the chroma planes the sizes of their formats: ask [`frames_fit`]. Two frames that
 /// `FrameBuilder` built with one luma size fit, if each format divides it.
@@ -178,7 +178,7 @@ fn lines_of(from: u8, to: u8) -> Scale
     }
 }
 
-/// Shows a chroma plane in another size and depth, or no colour where there is none, in the plane of the target that is there.
+/// Shows a chroma plane in another size and depth, or no color where there is none, in the plane of the target that is there.
 fn convert_chroma<S: Pixel, T: Pixel>(
     source: &Option<Plane<S>>,
     target: &mut Option<Plane<T>>,

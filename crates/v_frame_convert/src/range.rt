@@ -14,7 +14,7 @@ use v_frame::plane::{Plane, PlaneRef, VisibleMut};
 pub enum Component {
     /// Luma, which is from 16 to 235 in the limited range of 8 bits.
     Luma,
-    /// A chroma component, which is from 16 to 240 there, and 128 where there is no colour.
+    /// A chroma component, which is from 16 to 240 there, and 128 where there is no color.
     Chroma,
 }
 

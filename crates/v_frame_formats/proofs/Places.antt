@@ -6,8 +6,8 @@ use Rattle.std.specs.Str.{bytes_eq}
 use Rattle.std.specs.List.{list_all, position_or_len, AllByRecursion}
 use Rattle.std.proofs.lemmas.List.Elements.{All-from_recursion, All-get_or}
 use Rattle.std.proofs.lemmas.List.Sums.{AllPass-from_list_all}
-use Rattle.v_frame_y4m.specs.declared.colour.Colour.TheVariants as colour
-use Rattle.v_frame_y4m.specs.declared.colour.Depth.TheVariants as depth
+use Rattle.v_frame_y4m.specs.declared.color.Color.TheVariants as color
+use Rattle.v_frame_y4m.specs.declared.color.Depth.TheVariants as depth
 use Rattle.v_frame_semi_planar.specs.declared.format.SemiPlanarFormat.TheVariants as layout
 use Rattle.v_frame_formats.specs.Formats.{ffmpeg_name, short_name, IsFormat, IsNamed}
 use Rattle.v_frame_formats.specs.declared.format.VideoFormat.{VideoFormat}
@@ -18,39 +18,39 @@ use Rattle.v_frame_formats.specs.declared.format.TheConstants.{FORMATS}
 abbrev pub format_place : VideoFormat → ℕ
 format_place f = position_or_len (λ g. bytes_eq (short_name g) (short_name f)) FORMATS
 
-none_is_no_colour : {A : Type 0} (a : A) → None ≡ Some a → ⊥
-none_is_no_colour a is = search rules
+none_is_no_color : {A : Type 0} (a : A) → None ≡ Some a → ⊥
+none_is_no_color a is = search rules
 
 pub format_stands : (f w : VideoFormat) → IsNamed f → (get_or FORMATS (format_place f) w ≡ f) × (format_place f < 35)
-format_stands (Planar colour.Unstated) w is = absurd (none_is_no_colour colour.Unstated is)
-format_stands (Planar colour.Yuv420) w is = (refl, lit< tt)
-format_stands (Planar colour.Yuv420Jpeg) w is = (refl, lit< tt)
-format_stands (Planar colour.Yuv420Mpeg2) w is = (refl, lit< tt)
-format_stands (Planar colour.Yuv420Paldv) w is = (refl, lit< tt)
-format_stands (Planar colour.Yuv411) w is = (refl, lit< tt)
-format_stands (Planar colour.Yuv422) w is = (refl, lit< tt)
-format_stands (Planar colour.Yuv444) w is = (refl, lit< tt)
-format_stands (Planar colour.Mono) w is = (refl, lit< tt)
-format_stands (Planar (colour.Yuv420HighDepth depth.Nine)) w is = (refl, lit< tt)
-format_stands (Planar (colour.Yuv420HighDepth depth.Ten)) w is = (refl, lit< tt)
-format_stands (Planar (colour.Yuv420HighDepth depth.Twelve)) w is = (refl, lit< tt)
-format_stands (Planar (colour.Yuv420HighDepth depth.Fourteen)) w is = (refl, lit< tt)
-format_stands (Planar (colour.Yuv420HighDepth depth.Sixteen)) w is = (refl, lit< tt)
-format_stands (Planar (colour.Yuv422HighDepth depth.Nine)) w is = (refl, lit< tt)
-format_stands (Planar (colour.Yuv422HighDepth depth.Ten)) w is = (refl, lit< tt)
-format_stands (Planar (colour.Yuv422HighDepth depth.Twelve)) w is = (refl, lit< tt)
-format_stands (Planar (colour.Yuv422HighDepth depth.Fourteen)) w is = (refl, lit< tt)
-format_stands (Planar (colour.Yuv422HighDepth depth.Sixteen)) w is = (refl, lit< tt)
-format_stands (Planar (colour.Yuv444HighDepth depth.Nine)) w is = (refl, lit< tt)
-format_stands (Planar (colour.Yuv444HighDepth depth.Ten)) w is = (refl, lit< tt)
-format_stands (Planar (colour.Yuv444HighDepth depth.Twelve)) w is = (refl, lit< tt)
-format_stands (Planar (colour.Yuv444HighDepth depth.Fourteen)) w is = (refl, lit< tt)
-format_stands (Planar (colour.Yuv444HighDepth depth.Sixteen)) w is = (refl, lit< tt)
-format_stands (Planar (colour.MonoHighDepth depth.Nine)) w is = (refl, lit< tt)
-format_stands (Planar (colour.MonoHighDepth depth.Ten)) w is = (refl, lit< tt)
-format_stands (Planar (colour.MonoHighDepth depth.Twelve)) w is = (refl, lit< tt)
-format_stands (Planar (colour.MonoHighDepth depth.Fourteen)) w is = (refl, lit< tt)
-format_stands (Planar (colour.MonoHighDepth depth.Sixteen)) w is = (refl, lit< tt)
+format_stands (Planar color.Unstated) w is = absurd (none_is_no_color color.Unstated is)
+format_stands (Planar color.Yuv420) w is = (refl, lit< tt)
+format_stands (Planar color.Yuv420Jpeg) w is = (refl, lit< tt)
+format_stands (Planar color.Yuv420Mpeg2) w is = (refl, lit< tt)
+format_stands (Planar color.Yuv420Paldv) w is = (refl, lit< tt)
+format_stands (Planar color.Yuv411) w is = (refl, lit< tt)
+format_stands (Planar color.Yuv422) w is = (refl, lit< tt)
+format_stands (Planar color.Yuv444) w is = (refl, lit< tt)
+format_stands (Planar color.Mono) w is = (refl, lit< tt)
+format_stands (Planar (color.Yuv420HighDepth depth.Nine)) w is = (refl, lit< tt)
+format_stands (Planar (color.Yuv420HighDepth depth.Ten)) w is = (refl, lit< tt)
+format_stands (Planar (color.Yuv420HighDepth depth.Twelve)) w is = (refl, lit< tt)
+format_stands (Planar (color.Yuv420HighDepth depth.Fourteen)) w is = (refl, lit< tt)
+format_stands (Planar (color.Yuv420HighDepth depth.Sixteen)) w is = (refl, lit< tt)
+format_stands (Planar (color.Yuv422HighDepth depth.Nine)) w is = (refl, lit< tt)
+format_stands (Planar (color.Yuv422HighDepth depth.Ten)) w is = (refl, lit< tt)
+format_stands (Planar (color.Yuv422HighDepth depth.Twelve)) w is = (refl, lit< tt)
+format_stands (Planar (color.Yuv422HighDepth depth.Fourteen)) w is = (refl, lit< tt)
+format_stands (Planar (color.Yuv422HighDepth depth.Sixteen)) w is = (refl, lit< tt)
+format_stands (Planar (color.Yuv444HighDepth depth.Nine)) w is = (refl, lit< tt)
+format_stands (Planar (color.Yuv444HighDepth depth.Ten)) w is = (refl, lit< tt)
+format_stands (Planar (color.Yuv444HighDepth depth.Twelve)) w is = (refl, lit< tt)
+format_stands (Planar (color.Yuv444HighDepth depth.Fourteen)) w is = (refl, lit< tt)
+format_stands (Planar (color.Yuv444HighDepth depth.Sixteen)) w is = (refl, lit< tt)
+format_stands (Planar (color.MonoHighDepth depth.Nine)) w is = (refl, lit< tt)
+format_stands (Planar (color.MonoHighDepth depth.Ten)) w is = (refl, lit< tt)
+format_stands (Planar (color.MonoHighDepth depth.Twelve)) w is = (refl, lit< tt)
+format_stands (Planar (color.MonoHighDepth depth.Fourteen)) w is = (refl, lit< tt)
+format_stands (Planar (color.MonoHighDepth depth.Sixteen)) w is = (refl, lit< tt)
 format_stands (SemiPlanar layout.Nv12) w is = (refl, lit< tt)
 format_stands (SemiPlanar layout.Nv21) w is = (refl, lit< tt)
 format_stands (SemiPlanar layout.Nv16) w is = (refl, lit< tt)

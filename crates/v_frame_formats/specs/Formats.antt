@@ -1,13 +1,13 @@
 -- The formats of raw video and their names.
 use Rattle.std.specs.Prelude.{ℕ, ◌≡◌, ◌++◌, ◌⊎◌, ⊤, List, [], codes, Some}
 use Rattle.v_frame.specs.Prelude.{ChromaSubsampling}
-use Rattle.v_frame_y4m.specs.Colour.{colour_text, depth_of, depth_text, stated, subsampling_of}
-use Rattle.v_frame_y4m.specs.declared.colour.Colour.{Colour}
-use Rattle.v_frame_y4m.specs.declared.colour.Colour.TheVariants.{Unstated, Yuv420, Yuv420Jpeg, Yuv420Mpeg2}
-use Rattle.v_frame_y4m.specs.declared.colour.Colour.TheVariants.{Yuv420Paldv, Yuv411, Yuv422, Yuv444, Mono}
-use Rattle.v_frame_y4m.specs.declared.colour.Colour.TheVariants.{Yuv420HighDepth, Yuv422HighDepth}
-use Rattle.v_frame_y4m.specs.declared.colour.Colour.TheVariants.{Yuv444HighDepth, MonoHighDepth}
-use Rattle.v_frame_y4m.specs.declared.colour.Depth.TheVariants.{Ten, Twelve, Sixteen}
+use Rattle.v_frame_y4m.specs.Color.{color_text, depth_of, depth_text, stated, subsampling_of}
+use Rattle.v_frame_y4m.specs.declared.color.Color.{Color}
+use Rattle.v_frame_y4m.specs.declared.color.Color.TheVariants.{Unstated, Yuv420, Yuv420Jpeg, Yuv420Mpeg2}
+use Rattle.v_frame_y4m.specs.declared.color.Color.TheVariants.{Yuv420Paldv, Yuv411, Yuv422, Yuv444, Mono}
+use Rattle.v_frame_y4m.specs.declared.color.Color.TheVariants.{Yuv420HighDepth, Yuv422HighDepth}
+use Rattle.v_frame_y4m.specs.declared.color.Color.TheVariants.{Yuv444HighDepth, MonoHighDepth}
+use Rattle.v_frame_y4m.specs.declared.color.Depth.TheVariants.{Ten, Twelve, Sixteen}
 use Rattle.v_frame_semi_planar.specs.Format.{depth_of as sample_depth_of, subsampling_of as chroma_of}
 use Rattle.v_frame_semi_planar.specs.declared.format.SemiPlanarFormat.{SemiPlanarFormat}
 use Rattle.v_frame_semi_planar.specs.declared.format.SemiPlanarFormat.TheVariants.{Nv12, Nv21, Nv16, Nv24}
@@ -16,26 +16,26 @@ use Rattle.v_frame_formats.specs.declared.format.VideoFormat.{VideoFormat}
 use Rattle.v_frame_formats.specs.declared.format.VideoFormat.TheVariants.{Planar, SemiPlanar}
 
 abbrev pub format_subsampling : VideoFormat → ChromaSubsampling
-format_subsampling (Planar colour) = subsampling_of colour
+format_subsampling (Planar color) = subsampling_of color
 format_subsampling (SemiPlanar layout) = chroma_of layout
 
 abbrev pub format_depth : VideoFormat → ℕ
-format_depth (Planar colour) = depth_of colour
+format_depth (Planar color) = depth_of color
 format_depth (SemiPlanar layout) = sample_depth_of layout
 
 -- what the header of a stream has for the subsampling and the bit depth of a layout
-abbrev pub colour_of_layout : SemiPlanarFormat → Colour
-colour_of_layout Nv12 = Yuv420
-colour_of_layout Nv21 = Yuv420
-colour_of_layout Nv16 = Yuv422
-colour_of_layout Nv24 = Yuv444
-colour_of_layout P010 = Yuv420HighDepth Ten
-colour_of_layout P012 = Yuv420HighDepth Twelve
-colour_of_layout P016 = Yuv420HighDepth Sixteen
+abbrev pub color_of_layout : SemiPlanarFormat → Color
+color_of_layout Nv12 = Yuv420
+color_of_layout Nv21 = Yuv420
+color_of_layout Nv16 = Yuv422
+color_of_layout Nv24 = Yuv444
+color_of_layout P010 = Yuv420HighDepth Ten
+color_of_layout P012 = Yuv420HighDepth Twelve
+color_of_layout P016 = Yuv420HighDepth Sixteen
 
-abbrev pub format_colour : VideoFormat → Colour
-format_colour (Planar colour) = colour
-format_colour (SemiPlanar layout) = colour_of_layout layout
+abbrev pub format_color : VideoFormat → Color
+format_color (Planar color) = color
+format_color (SemiPlanar layout) = color_of_layout layout
 
 -- the short name: of planes one after the other, what YUV4MPEG2 has for them
 abbrev pub layout_text : SemiPlanarFormat → List ℕ
@@ -48,24 +48,24 @@ layout_text P012 = codes "p012"
 layout_text P016 = codes "p016"
 
 abbrev pub short_name : VideoFormat → List ℕ
-short_name (Planar colour) = colour_text colour
+short_name (Planar color) = color_text color
 short_name (SemiPlanar layout) = layout_text layout
 
 -- the name of ffmpeg's pixel format, or the short one where ffmpeg has no name for it alone
-abbrev pub ffmpeg_colour : Colour → List ℕ
-ffmpeg_colour Unstated = []
-ffmpeg_colour Yuv420 = codes "420"
-ffmpeg_colour Yuv420Jpeg = codes "yuv420p"
-ffmpeg_colour Yuv420Mpeg2 = codes "420mpeg2"
-ffmpeg_colour Yuv420Paldv = codes "420paldv"
-ffmpeg_colour Yuv411 = codes "yuv411p"
-ffmpeg_colour Yuv422 = codes "yuv422p"
-ffmpeg_colour Yuv444 = codes "yuv444p"
-ffmpeg_colour Mono = codes "gray"
-ffmpeg_colour (Yuv420HighDepth depth) = codes "yuv420p" ++ (depth_text depth ++ codes "le")
-ffmpeg_colour (Yuv422HighDepth depth) = codes "yuv422p" ++ (depth_text depth ++ codes "le")
-ffmpeg_colour (Yuv444HighDepth depth) = codes "yuv444p" ++ (depth_text depth ++ codes "le")
-ffmpeg_colour (MonoHighDepth depth) = codes "gray" ++ (depth_text depth ++ codes "le")
+abbrev pub ffmpeg_color : Color → List ℕ
+ffmpeg_color Unstated = []
+ffmpeg_color Yuv420 = codes "420"
+ffmpeg_color Yuv420Jpeg = codes "yuv420p"
+ffmpeg_color Yuv420Mpeg2 = codes "420mpeg2"
+ffmpeg_color Yuv420Paldv = codes "420paldv"
+ffmpeg_color Yuv411 = codes "yuv411p"
+ffmpeg_color Yuv422 = codes "yuv422p"
+ffmpeg_color Yuv444 = codes "yuv444p"
+ffmpeg_color Mono = codes "gray"
+ffmpeg_color (Yuv420HighDepth depth) = codes "yuv420p" ++ (depth_text depth ++ codes "le")
+ffmpeg_color (Yuv422HighDepth depth) = codes "yuv422p" ++ (depth_text depth ++ codes "le")
+ffmpeg_color (Yuv444HighDepth depth) = codes "yuv444p" ++ (depth_text depth ++ codes "le")
+ffmpeg_color (MonoHighDepth depth) = codes "gray" ++ (depth_text depth ++ codes "le")
 
 abbrev pub ffmpeg_layout : SemiPlanarFormat → List ℕ
 ffmpeg_layout Nv12 = codes "nv12"
@@ -77,12 +77,12 @@ ffmpeg_layout P012 = codes "p012le"
 ffmpeg_layout P016 = codes "p016le"
 
 abbrev pub ffmpeg_name : VideoFormat → List ℕ
-ffmpeg_name (Planar colour) = ffmpeg_colour colour
+ffmpeg_name (Planar color) = ffmpeg_color color
 ffmpeg_name (SemiPlanar layout) = ffmpeg_layout layout
 
--- every format has names, but for the colour of a header that says none
+-- every format has names, but for the color of a header that says none
 abbrev pub IsNamed : VideoFormat → Type 0
-IsNamed (Planar colour) = stated colour ≡ Some colour
+IsNamed (Planar color) = stated color ≡ Some color
 IsNamed (SemiPlanar layout) = ⊤
 
 abbrev pub IsFormat : VideoFormat → List ℕ → Type 0

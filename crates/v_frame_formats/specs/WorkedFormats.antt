@@ -3,8 +3,8 @@ use Rattle.std.specs.Prelude.{◌≡◌, codes, refl}
 use Rattle.v_frame_formats.specs.Formats.{ffmpeg_name, short_name}
 use Rattle.v_frame_formats.specs.declared.format.VideoFormat.TheVariants.{Planar, SemiPlanar}
 use Rattle.v_frame_semi_planar.specs.declared.format.SemiPlanarFormat.TheVariants.{P010}
-use Rattle.v_frame_y4m.specs.declared.colour.Colour.TheVariants.{Yuv420HighDepth}
-use Rattle.v_frame_y4m.specs.declared.colour.Depth.TheVariants.{Ten}
+use Rattle.v_frame_y4m.specs.declared.color.Color.TheVariants.{Yuv420HighDepth}
+use Rattle.v_frame_y4m.specs.declared.color.Depth.TheVariants.{Ten}
 
 short_is : short_name (Planar (Yuv420HighDepth Ten)) ≡ codes "420p10"
 short_is = refl

@@ -1,6 +1,6 @@
 //! Pictures written as PNG, row by row, to any writer.
 //!
-//! [`PngWriter`] writes grey or RGB of 8 or 16 bits a sample, a row at a time or all rows of a plane. [`write_png`] writes a
+//! [`PngWriter`] writes gray or RGB of 8 or 16 bits a sample, a row at a time or all rows of a plane. [`write_png`] writes a
 //! whole picture. By [`Compression`] the data is stored, so a file is as large as the picture, or compressed.
 //!
 //! What is written follows the PNG specification (third edition), the zlib format (RFC 1950) and the deflate format
@@ -31,7 +31,7 @@ mod writer;
 
 pub use compression::Compression;
 pub use error::PngError;
-pub use header::{ColourSpace, Header, Samples};
+pub use header::{ColorSpace, Header, Samples};
 pub use planes::{write_png, write_png_with};
 pub use sample::encode_samples;
 pub use v_frame_bytes::{Crc32Digest, crc32};

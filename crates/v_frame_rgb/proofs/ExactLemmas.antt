@@ -3,12 +3,12 @@ use Rattle.std.proofs.Common.{ℕ, ◌≡◌, ◌+◌, ◌-◌, ◌*◌, ◌/◌
 use Rattle.std.proofs.Math.Nat.{div-eq_of_lt-le, div-mul-le_self, lt-div-mul-add, mul-le-mul_left, mul-pos}
 use Rattle.std.proofs.lemmas.Bool.{cases_lt}
 use Rattle.std.proofs.lemmas.Nat.{mul-lt}
-use Rattle.v_frame_rgb.specs.Colours.{sample_of}
+use Rattle.v_frame_rgb.specs.Colors.{sample_of}
 use Rattle.v_frame_rgb.specs.Exact.{exact_blue, exact_green, exact_red, gray_at, levels_at, plus, sample_nearest, steps_at, times}
 use Rattle.v_frame_rgb.specs.Standards.{Fraction}
 use Rattle.v_frame_rgb.specs.WholeSteps.{AreSteps, IsPart}
 use Rattle.v_frame_rgb.specs.declared.standard.Standard.{Standard}
-use Rattle.v_frame_rgb.specs.declared.standard.ColourRange.{ColourRange}
+use Rattle.v_frame_rgb.specs.declared.standard.ColorRange.{ColorRange}
 use Rattle.v_frame_rgb.specs.declared.whole_steps.WholeSteps.{WholeSteps}
 
 pub weighed_below : (a b : ℕ) → a < 2 ^ 43 → b < 2 ^ 16 → a * b < 2 ^ 59
@@ -91,9 +91,9 @@ module _ (scale : ℕ) where
       (plus_part (luma * y) more (times f y) m (times_part luma y f is) adds)
       (plus_part (luma * black) less (times f black) l (times_part luma black f is) takes)
 
--- ---- the channels of a colour
+-- ---- the channels of a color
 
-module _ (standard : Standard) (range : ColourRange) (depth scale : ℕ) (steps : WholeSteps)
+module _ (standard : Standard) (range : ColorRange) (depth scale : ℕ) (steps : WholeSteps)
     (exact : AreSteps (steps_at standard range depth) scale steps) (y u v : ℕ) where
   pub red_is_exact : sample_of scale (steps.luma * y + steps.red_v * v)
       (steps.luma * (levels_at range depth).black + steps.red_v * gray_at depth)

@@ -1,4 +1,4 @@
-pub mod ColourLemmas
+pub mod ColorLemmas
 pub mod Distances
 pub mod ExactLemmas
 pub mod RoundTrips

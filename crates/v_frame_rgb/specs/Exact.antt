@@ -1,19 +1,19 @@
--- What colour samples of any bit depth make, by the standards' own fractions: each channel is an exact
+-- What color samples of any bit depth make, by the standards' own fractions: each channel is an exact
 -- sum, and is rounded once.
 use Rattle.std.specs.Prelude.{ℕ, ◌+◌, ◌-◌, ◌*◌, ◌^◌, List}
 use Rattle.v_frame.specs.Prelude.{PixelForm}
 use Rattle.v_frame_raster.specs.Table.{Table}
-use Rattle.v_frame_rgb.specs.Colours.{sample_of, colours_by, colour_rows_by}
-use Rattle.v_frame_rgb.specs.Standards.{ColourSteps, Fraction, Levels, colour_steps, fraction}
+use Rattle.v_frame_rgb.specs.Colors.{sample_of, colors_by, color_rows_by}
+use Rattle.v_frame_rgb.specs.Standards.{ColorSteps, Fraction, Levels, color_steps, fraction}
 use Rattle.v_frame_rgb.specs.Standards.{weights_of}
-use Rattle.v_frame_rgb.specs.declared.colour.Colour.{Colour}
+use Rattle.v_frame_rgb.specs.declared.color.Color.{Color}
 use Rattle.v_frame_rgb.specs.declared.standard.Standard.{Standard}
-use Rattle.v_frame_rgb.specs.declared.standard.ColourRange.{ColourRange}
-use Rattle.v_frame_rgb.specs.declared.standard.ColourRange.TheVariants.{Limited, Full}
+use Rattle.v_frame_rgb.specs.declared.standard.ColorRange.{ColorRange}
+use Rattle.v_frame_rgb.specs.declared.standard.ColorRange.TheVariants.{Limited, Full}
 
 -- the levels of a bit depth: in limited range those of 8 bits times 2 ^ (depth - 8), and in full range
 -- all values
-abbrev pub levels_at : ColourRange → ℕ → Levels
+abbrev pub levels_at : ColorRange → ℕ → Levels
 levels_at Limited depth =
     let unit = 2 ^ (depth - 8) in
     record { black = 16 * unit; luma = 219 * unit; chroma = 224 * unit }
@@ -36,10 +36,10 @@ plus f g = fraction (f.over * g.under + g.over * f.under) (f.under * g.under)
 abbrev pub sample_nearest : Fraction → Fraction → ℕ
 sample_nearest f g = sample_of (f.under * g.under) (f.over * g.under) (g.over * f.under)
 
-module _ (standard : Standard) (range : ColourRange) (depth : ℕ) where
-  -- how much of a colour one step of luma, of Cb or of Cr makes
-  abbrev pub steps_at : ColourSteps
-  steps_at = colour_steps (weights_of standard) (levels_at range depth)
+module _ (standard : Standard) (range : ColorRange) (depth : ℕ) where
+  -- how much of a color one step of luma, of Cb or of Cr makes
+  abbrev pub steps_at : ColorSteps
+  steps_at = color_steps (weights_of standard) (levels_at range depth)
 
   -- a channel: luma above black, with what chroma adds and without what it takes away
   abbrev pub exact_channel : ℕ → Fraction → Fraction → ℕ
@@ -62,20 +62,20 @@ module _ (standard : Standard) (range : ColourRange) (depth : ℕ) where
     exact_blue =
         exact_channel y (times steps_at.blue_u u) (times steps_at.blue_u (gray_at depth))
 
-    -- the colour of a sample of luma, one of Cb and one of Cr
-    unfoldable pub exact_colour : Colour
-    exact_colour = record { red = exact_red; green = exact_green; blue = exact_blue }
+    -- the color of a sample of luma, one of Cb and one of Cr
+    unfoldable pub exact_color : Color
+    exact_color = record { red = exact_red; green = exact_green; blue = exact_blue }
 
   module _ {T : Type 0} (form : PixelForm T) where
     -- the same of pixels
-    unfoldable pub exact_of_pixels : T → T → T → Colour
-    exact_of_pixels y u v = exact_colour (form.value y) (form.value u) (form.value v)
+    unfoldable pub exact_of_pixels : T → T → T → Color
+    exact_of_pixels y u v = exact_color (form.value y) (form.value u) (form.value v)
 
-    -- the colours of a row of luma and two of chroma
-    abbrev pub exact_colours : List T → List T → List T → List Colour
-    exact_colours ys us vs = colours_by exact_of_pixels ys us vs
+    -- the colors of a row of luma and two of chroma
+    abbrev pub exact_colors : List T → List T → List T → List Color
+    exact_colors ys us vs = colors_by exact_of_pixels ys us vs
 
-    -- the bytes of the colours of a picture, row by row, where a colour has those that are given
-    abbrev pub exact_colour_rows : (Colour → List ℕ) → Table T → Table T → Table T → Table ℕ
-    exact_colour_rows bytes_of y_rows u_rows v_rows =
-        colour_rows_by exact_of_pixels bytes_of y_rows u_rows v_rows
+    -- the bytes of the colors of a picture, row by row, where a color has those that are given
+    abbrev pub exact_color_rows : (Color → List ℕ) → Table T → Table T → Table T → Table ℕ
+    exact_color_rows bytes_of y_rows u_rows v_rows =
+        color_rows_by exact_of_pixels bytes_of y_rows u_rows v_rows

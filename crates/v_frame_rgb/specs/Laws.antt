@@ -1,26 +1,26 @@
 -- How near whole coefficients come to the standards', as differences over common denominators.
 use Rattle.std.specs.Prelude.{ℕ, ◌+◌, ◌*◌, ◌<◌, ◌≤◌}
 use Rattle.std.specs.Int.{abs_diff}
-use Rattle.v_frame_rgb.specs.Standards.{Fraction, ColourSteps, Levels, colour_steps, weights_of}
+use Rattle.v_frame_rgb.specs.Standards.{Fraction, ColorSteps, Levels, color_steps, weights_of}
 use Rattle.v_frame_rgb.specs.Standards.{SampleSteps, sample_steps, levels_of, gray}
-use Rattle.v_frame_rgb.specs.Colours.{rgb_matrix_of, colour_scale, red_bright, red_dark, green_bright}
-use Rattle.v_frame_rgb.specs.Colours.{green_dark, blue_bright, blue_dark, colour_of, yuv_matrix_of}
-use Rattle.v_frame_rgb.specs.Colours.{sample_scale, y_bright, u_bright, u_dark, v_bright, v_dark}
-use Rattle.v_frame_rgb.specs.Colours.{y_of, u_of, v_of}
-use Rattle.v_frame_rgb.specs.declared.colour.Colour.{Colour}
+use Rattle.v_frame_rgb.specs.Colors.{rgb_matrix_of, color_scale, red_bright, red_dark, green_bright}
+use Rattle.v_frame_rgb.specs.Colors.{green_dark, blue_bright, blue_dark, color_of, yuv_matrix_of}
+use Rattle.v_frame_rgb.specs.Colors.{sample_scale, y_bright, u_bright, u_dark, v_bright, v_dark}
+use Rattle.v_frame_rgb.specs.Colors.{y_of, u_of, v_of}
+use Rattle.v_frame_rgb.specs.declared.color.Color.{Color}
 use Rattle.v_frame_rgb.specs.declared.standard.Standard.{Standard}
-use Rattle.v_frame_rgb.specs.declared.standard.ColourRange.{ColourRange}
-use Rattle.v_frame_rgb.specs.declared.standard.ColourRange.TheVariants.{Limited, Full}
+use Rattle.v_frame_rgb.specs.declared.standard.ColorRange.{ColorRange}
+use Rattle.v_frame_rgb.specs.declared.standard.ColorRange.TheVariants.{Limited, Full}
 
 -- (bright - dark) / scale is no further than a hundredth from (over - less) / under
 abbrev pub IsWithinHundredth : ℕ → ℕ → ℕ → ℕ → ℕ → ℕ → Type 0
 IsWithinHundredth scale bright dark under over less =
     100 * abs_diff (under * bright + scale * less) (under * dark + scale * over) ≤ scale * under
 
--- a colour as the standard has it: f (y - black) + g (c - gray) for one sample of chroma
-module _ (standard : Standard) (range : ColourRange) where
-  abbrev steps : ColourSteps
-  steps = colour_steps (weights_of standard) (levels_of range)
+-- a color as the standard has it: f (y - black) + g (c - gray) for one sample of chroma
+module _ (standard : Standard) (range : ColorRange) where
+  abbrev steps : ColorSteps
+  steps = color_steps (weights_of standard) (levels_of range)
 
   abbrev levels : Levels
   levels = levels_of range
@@ -32,7 +32,7 @@ module _ (standard : Standard) (range : ColourRange) where
     abbrev pub RedIsNear : Type 0
     RedIsNear =
         let m = rgb_matrix_of standard range in
-        IsWithinHundredth colour_scale (red_bright m y u v) (red_dark m y u v)
+        IsWithinHundredth color_scale (red_bright m y u v) (red_dark m y u v)
         (steps.luma.under * steps.red_v.under)
         (sum_of_two steps.luma steps.red_v y v)
         (sum_of_two steps.luma steps.red_v levels.black gray)
@@ -40,7 +40,7 @@ module _ (standard : Standard) (range : ColourRange) where
     abbrev pub BlueIsNear : Type 0
     BlueIsNear =
         let m = rgb_matrix_of standard range in
-        IsWithinHundredth colour_scale (blue_bright m y u v) (blue_dark m y u v)
+        IsWithinHundredth color_scale (blue_bright m y u v) (blue_dark m y u v)
         (steps.luma.under * steps.blue_u.under)
         (sum_of_two steps.luma steps.blue_u y u)
         (sum_of_two steps.luma steps.blue_u levels.black gray)
@@ -51,20 +51,20 @@ module _ (standard : Standard) (range : ColourRange) where
         let y_part = steps.luma.over * steps.green_u.under * steps.green_v.under in
         let u_part = steps.green_u.over * steps.luma.under * steps.green_v.under in
         let v_part = steps.green_v.over * steps.luma.under * steps.green_u.under in
-        IsWithinHundredth colour_scale (green_bright m y u v) (green_dark m y u v)
+        IsWithinHundredth color_scale (green_bright m y u v) (green_dark m y u v)
         (steps.luma.under * steps.green_u.under * steps.green_v.under)
         (y_part * y + (u_part * gray + v_part * gray))
         (y_part * levels.black + (u_part * u + v_part * v))
 
--- a colour whose channels are bytes
-pub record HasBytes (colour : Colour) : Type 0 where
-  pub red : colour.red < 256
-  pub green : colour.green < 256
-  pub blue : colour.blue < 256
+-- a color whose channels are bytes
+pub record HasBytes (color : Color) : Type 0 where
+  pub red : color.red < 256
+  pub green : color.green < 256
+  pub blue : color.blue < 256
 
--- a sample as the standard has it: an offset, and what each channel of a colour adds to it or takes
+-- a sample as the standard has it: an offset, and what each channel of a color adds to it or takes
 -- away
-module _ (standard : Standard) (range : ColourRange) (colour : Colour) where
+module _ (standard : Standard) (range : ColorRange) (color : Color) where
   abbrev parts : SampleSteps
   parts = sample_steps (weights_of standard) (levels_of range)
 
@@ -79,44 +79,44 @@ module _ (standard : Standard) (range : ColourRange) (colour : Colour) where
   LumaIsNear =
       let under = common parts.y_red parts.y_green parts.y_blue in
       let levels : Levels = levels_of range in
-      IsWithinHundredth sample_scale (y_bright (yuv_matrix_of standard range) colour) 0 under
+      IsWithinHundredth sample_scale (y_bright (yuv_matrix_of standard range) color) 0 under
       (levels.black * under
-      + (part parts.y_red parts.y_green parts.y_blue colour.red
-      + part parts.y_green parts.y_red parts.y_blue colour.green
-      + part parts.y_blue parts.y_red parts.y_green colour.blue)) 0
+      + (part parts.y_red parts.y_green parts.y_blue color.red
+      + part parts.y_green parts.y_red parts.y_blue color.green
+      + part parts.y_blue parts.y_red parts.y_green color.blue)) 0
 
   abbrev pub ChromaUIsNear : Type 0
   ChromaUIsNear =
       let under = common parts.u_red parts.u_green parts.u_blue in
       let m = yuv_matrix_of standard range in
-      IsWithinHundredth sample_scale (u_bright m colour) (u_dark m colour) under
-      (gray * under + part parts.u_blue parts.u_red parts.u_green colour.blue)
-      (part parts.u_red parts.u_green parts.u_blue colour.red
-      + part parts.u_green parts.u_red parts.u_blue colour.green)
+      IsWithinHundredth sample_scale (u_bright m color) (u_dark m color) under
+      (gray * under + part parts.u_blue parts.u_red parts.u_green color.blue)
+      (part parts.u_red parts.u_green parts.u_blue color.red
+      + part parts.u_green parts.u_red parts.u_blue color.green)
 
   abbrev pub ChromaVIsNear : Type 0
   ChromaVIsNear =
       let under = common parts.v_red parts.v_green parts.v_blue in
       let m = yuv_matrix_of standard range in
-      IsWithinHundredth sample_scale (v_bright m colour) (v_dark m colour) under
-      (gray * under + part parts.v_red parts.v_green parts.v_blue colour.red)
-      (part parts.v_green parts.v_red parts.v_blue colour.green
-      + part parts.v_blue parts.v_red parts.v_green colour.blue)
+      IsWithinHundredth sample_scale (v_bright m color) (v_dark m color) under
+      (gray * under + part parts.v_red parts.v_green parts.v_blue color.red)
+      (part parts.v_green parts.v_red parts.v_blue color.green
+      + part parts.v_blue parts.v_red parts.v_green color.blue)
 
 -- how far blue comes back at most
-abbrev pub blue_loss : ColourRange → ℕ
+abbrev pub blue_loss : ColorRange → ℕ
 blue_loss Limited = 2
 blue_loss Full = 1
 
--- a colour that became samples of 8 bits, which became a colour again, is off by at most 1 in red and
+-- a color that became samples of 8 bits, which became a color again, is off by at most 1 in red and
 -- green
-pub record ComesBack (range : ColourRange) (colour back : Colour) : Type 0 where
-  pub red : abs_diff back.red colour.red ≤ 1
-  pub green : abs_diff back.green colour.green ≤ 1
-  pub blue : abs_diff back.blue colour.blue ≤ blue_loss range
+pub record ComesBack (range : ColorRange) (color back : Color) : Type 0 where
+  pub red : abs_diff back.red color.red ≤ 1
+  pub green : abs_diff back.green color.green ≤ 1
+  pub blue : abs_diff back.blue color.blue ≤ blue_loss range
 
--- the colour of the samples of a colour
-abbrev pub and_back : Standard → ColourRange → Colour → Colour
-and_back standard range colour =
+-- the color of the samples of a color
+abbrev pub and_back : Standard → ColorRange → Color → Color
+and_back standard range color =
     let m = yuv_matrix_of standard range in
-    colour_of (rgb_matrix_of standard range) (y_of m colour) (u_of m colour) (v_of m colour)
+    color_of (rgb_matrix_of standard range) (y_of m color) (u_of m color) (v_of m color)

@@ -1,8 +1,8 @@
-pub mod Colours
+pub mod Colors
 pub mod Exact
 pub mod Laws
 pub mod Prelude
 pub mod Standards
 pub mod WholeSteps
-pub mod WorkedColours
+pub mod WorkedColors
 pub mod WorkedExact

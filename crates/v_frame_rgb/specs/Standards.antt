@@ -3,8 +3,8 @@
 use Rattle.std.specs.Prelude.{ℕ, ◌+◌, ◌-◌, ◌*◌, ◌/◌}
 use Rattle.v_frame_rgb.specs.declared.standard.Standard.{Standard}
 use Rattle.v_frame_rgb.specs.declared.standard.Standard.TheVariants.{Bt601, Bt709, Bt2020}
-use Rattle.v_frame_rgb.specs.declared.standard.ColourRange.{ColourRange}
-use Rattle.v_frame_rgb.specs.declared.standard.ColourRange.TheVariants.{Limited, Full}
+use Rattle.v_frame_rgb.specs.declared.standard.ColorRange.{ColorRange}
+use Rattle.v_frame_rgb.specs.declared.standard.ColorRange.TheVariants.{Limited, Full}
 
 -- what red and blue count for in luma, in parts of 10000: Kr and Kb. Green counts for the rest
 pub record Weights : Type 0 where
@@ -21,13 +21,13 @@ abbrev pub green_weight : Weights → ℕ
 green_weight k = 10000 - k.red - k.blue
 
 -- the sample of black, and how many steps there are from black to white, and between the
--- strongest chroma samples. A colour has 255 steps from 0 to the strongest
+-- strongest chroma samples. A color has 255 steps from 0 to the strongest
 pub record Levels : Type 0 where
   pub black : ℕ
   pub luma : ℕ
   pub chroma : ℕ
 
-abbrev pub levels_of : ColourRange → Levels
+abbrev pub levels_of : ColorRange → Levels
 levels_of Limited = record { black = 16; luma = 219; chroma = 224 }
 levels_of Full = record { black = 0; luma = 255; chroma = 255 }
 
@@ -46,16 +46,16 @@ fraction over under = record { over = over; under = under }
 abbrev pub nearest : ℕ → Fraction → ℕ
 nearest scale f = (2 * (scale * f.over) + f.under) / (2 * f.under)
 
--- how much of a colour one step of luma, of Cb or of Cr makes; the two of green are taken away
-pub record ColourSteps : Type 0 where
+-- how much of a color one step of luma, of Cb or of Cr makes; the two of green are taken away
+pub record ColorSteps : Type 0 where
   pub luma : Fraction
   pub red_v : Fraction
   pub green_u : Fraction
   pub green_v : Fraction
   pub blue_u : Fraction
 
-abbrev pub colour_steps : Weights → Levels → ColourSteps
-colour_steps k levels = record {
+abbrev pub color_steps : Weights → Levels → ColorSteps
+color_steps k levels = record {
   luma = fraction 255 levels.luma;
   red_v = fraction (2 * (10000 - k.red) * 255) (10000 * levels.chroma);
   green_u =
@@ -65,7 +65,7 @@ colour_steps k levels = record {
   blue_u = fraction (2 * (10000 - k.blue) * 255) (10000 * levels.chroma);
 }
 
--- how much of luma, of Cb and of Cr one step of a colour makes: to Cb blue is added, and red and
+-- how much of luma, of Cb and of Cr one step of a color makes: to Cb blue is added, and red and
 -- green are taken away, and to Cr red is added
 pub record SampleSteps : Type 0 where
   pub y_red : Fraction

@@ -1,26 +1,26 @@
 -- The steps of the standards as whole numbers over one denominator.
 use Rattle.std.specs.Prelude.{ℕ, ◌≡◌, ◌-◌, ◌*◌, ◌^◌, ◌<◌}
-use Rattle.v_frame_rgb.specs.Standards.{ColourSteps, Fraction, Weights, green_weight, weights_of}
+use Rattle.v_frame_rgb.specs.Standards.{ColorSteps, Fraction, Weights, green_weight, weights_of}
 use Rattle.v_frame_rgb.specs.declared.standard.Standard.{Standard}
-use Rattle.v_frame_rgb.specs.declared.standard.ColourRange.{ColourRange}
-use Rattle.v_frame_rgb.specs.declared.standard.ColourRange.TheVariants.{Limited, Full}
+use Rattle.v_frame_rgb.specs.declared.standard.ColorRange.{ColorRange}
+use Rattle.v_frame_rgb.specs.declared.standard.ColorRange.TheVariants.{Limited, Full}
 use Rattle.v_frame_rgb.specs.declared.whole_steps.WholeSteps.{WholeSteps}
 
 -- in what the levels of a bit depth are counted, and how many of them luma and chroma have
-abbrev pub unit_at : ColourRange → ℕ → ℕ
+abbrev pub unit_at : ColorRange → ℕ → ℕ
 unit_at Limited depth = 2 ^ (depth - 8)
 unit_at Full depth = 2 ^ depth - 1
 
-abbrev pub luma_units : ColourRange → ℕ
+abbrev pub luma_units : ColorRange → ℕ
 luma_units Limited = 219
 luma_units Full = 1
 
-abbrev pub chroma_units : ColourRange → ℕ
+abbrev pub chroma_units : ColorRange → ℕ
 chroma_units Limited = 224
 chroma_units Full = 1
 
 -- the steps in parts of a scale times such a unit
-abbrev pub whole_steps_of : Standard → ColourRange → WholeSteps
+abbrev pub whole_steps_of : Standard → ColorRange → WholeSteps
 whole_steps_of standard range =
     let k : Weights = weights_of standard in
     let green = green_weight k in
@@ -39,7 +39,7 @@ pub record IsPart (scale count : ℕ) (f : Fraction) : Type 0 where
   pub some : 0 < f.under
   pub same : scale * f.over ≡ count * f.under
 
-pub record AreSteps (steps : ColourSteps) (scale : ℕ) (whole : WholeSteps) : Type 0 where
+pub record AreSteps (steps : ColorSteps) (scale : ℕ) (whole : WholeSteps) : Type 0 where
   pub some : 0 < scale
   pub luma : IsPart scale whole.luma steps.luma
   pub red_v : IsPart scale whole.red_v steps.red_v

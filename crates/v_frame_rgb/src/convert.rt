@@ -1,18 +1,18 @@
 //! Conversions of planes.
 ghost use Rattle.std.specs.Prelude.{◌≡◌, ◌*◌, length};
 ghost use Rattle.v_frame.specs.Prelude.{strided_rows, table_of, width_of, height_of, KeepsBorder, KeepsRest, RowsFit};
-ghost use Rattle.v_frame_rgb.specs.Colours.{colour_rows, sample_rows, y_of, u_of, v_of};
+ghost use Rattle.v_frame_rgb.specs.Colors.{color_rows, sample_rows, y_of, u_of, v_of};
 
-use crate::colour::ColourOrder;
+use crate::color::ColorOrder;
 use crate::matrix::{RgbMatrix, YuvMatrix};
 use crate::rows;
 use crate::sample::Channel;
 use v_frame::plane::{Plane, PlaneRef, RowsRef, VisibleMut};
 
-/// Makes the rows of a buffer the colours of three planes of one size, in the order `O`.
+/// Makes the rows of a buffer the colors of three planes of one size, in the order `O`.
 ///
-/// `width` and `stride` count bytes. A row of the buffer has [`BYTES`](ColourOrder::BYTES) bytes for each pixel.
-pub fn yuv444_to_rgb<O: ColourOrder>(
+/// `width` and `stride` count bytes. A row of the buffer has [`BYTES`](ColorOrder::BYTES) bytes for each pixel.
+pub fn yuv444_to_rgb<O: ColorOrder>(
     y: &PlaneRef<'_, u8>,
     u: &PlaneRef<'_, u8>,
     v: &PlaneRef<'_, u8>,
@@ -30,17 +30,17 @@ pub fn yuv444_to_rgb<O: ColourOrder>(
     requires v_wide { v.now.geometry.width ≡ y.now.geometry.width }
     requires v_high { v.now.geometry.height ≡ height }
     ensures table { strided_rows width height stride buffer.new
-        ≡ colour_rows matrix O.bytes_of (table_of y.now) (table_of u.now) (table_of v.now) }
+        ≡ color_rows matrix O.bytes_of (table_of y.now) (table_of u.now) (table_of v.now) }
     ensures rest { KeepsRest width height stride buffer.old buffer.new }
 {
     let (y, u, v) = (y.as_rows_ref(), u.as_rows_ref(), v.as_rows_ref());
     rows::yuv444_to_rgb::<O>(&y, &u, &v, matrix, buffer, width, height, stride);
 }
 
-/// Makes what a plane shows the samples of a picture of colours, in the order `O`, for the channel `C`. Its border stays.
+/// Makes what a plane shows the samples of a picture of colors, in the order `O`, for the channel `C`. Its border stays.
 ///
-/// A row of the picture has [`BYTES`](ColourOrder::BYTES) bytes for each visible pixel of the plane.
-pub fn rgb_to_channel<O: ColourOrder, C: Channel>(
+/// A row of the picture has [`BYTES`](ColorOrder::BYTES) bytes for each visible pixel of the plane.
+pub fn rgb_to_channel<O: ColorOrder, C: Channel>(
     source: &RowsRef<'_, u8>,
     matrix: YuvMatrix,
     plane: &mut Plane<u8>,
@@ -48,7 +48,7 @@ pub fn rgb_to_channel<O: ColourOrder, C: Channel>(
     requires wide { width_of source.now ≡ O.BYTES * plane.old.geometry.width }
     requires high { height_of source.now ≡ plane.old.geometry.height }
     ensures table { table_of plane.new
-        ≡ sample_rows (C.sample matrix) O.colour_at O.BYTES plane.old.geometry.width source.now }
+        ≡ sample_rows (C.sample matrix) O.color_at O.BYTES plane.old.geometry.width source.now }
     ensures border { KeepsBorder plane.old plane.new }
 {
     let VisibleMut {
@@ -60,10 +60,10 @@ pub fn rgb_to_channel<O: ColourOrder, C: Channel>(
     rows::rgb_to_channel::<O, C>(source, matrix, entries, width, height, stride);
 }
 
-/// Makes what three planes show the luma and the chroma of a picture of colours, in the order `O`. Their borders stay.
+/// Makes what three planes show the luma and the chroma of a picture of colors, in the order `O`. Their borders stay.
 ///
-/// The planes have one size, and a row of the picture has [`BYTES`](ColourOrder::BYTES) bytes for each of their pixels.
-pub fn rgb_to_yuv444<O: ColourOrder>(
+/// The planes have one size, and a row of the picture has [`BYTES`](ColorOrder::BYTES) bytes for each of their pixels.
+pub fn rgb_to_yuv444<O: ColorOrder>(
     source: &RowsRef<'_, u8>,
     matrix: YuvMatrix,
     y: &mut Plane<u8>,
@@ -77,11 +77,11 @@ pub fn rgb_to_yuv444<O: ColourOrder>(
     requires v_wide { v.old.geometry.width ≡ y.old.geometry.width }
     requires v_high { v.old.geometry.height ≡ y.old.geometry.height }
     ensures luma { table_of y.new
-        ≡ sample_rows (y_of matrix) O.colour_at O.BYTES y.old.geometry.width source.now }
+        ≡ sample_rows (y_of matrix) O.color_at O.BYTES y.old.geometry.width source.now }
     ensures chroma_u { table_of u.new
-        ≡ sample_rows (u_of matrix) O.colour_at O.BYTES y.old.geometry.width source.now }
+        ≡ sample_rows (u_of matrix) O.color_at O.BYTES y.old.geometry.width source.now }
     ensures chroma_v { table_of v.new
-        ≡ sample_rows (v_of matrix) O.colour_at O.BYTES y.old.geometry.width source.now }
+        ≡ sample_rows (v_of matrix) O.color_at O.BYTES y.old.geometry.width source.now }
     ensures y_border { KeepsBorder y.old y.new }
     ensures u_border { KeepsBorder u.old u.new }
     ensures v_border { KeepsBorder v.old v.new }

@@ -1,18 +1,18 @@
-//! Colours of samples of any bit depth, which are rounded once.
+//! Colors of samples of any bit depth, which are rounded once.
 ghost use Rattle.std.specs.Prelude.{◌≡◌, ◌+◌, ◌*◌, ◌^◌, ◌<◌, ◌≤◌};
-ghost use Rattle.v_frame_rgb.specs.Colours.{sample_of};
-ghost use Rattle.v_frame_rgb.specs.Exact.{exact_colour, gray_at, levels_at, steps_at};
+ghost use Rattle.v_frame_rgb.specs.Colors.{sample_of};
+ghost use Rattle.v_frame_rgb.specs.Exact.{exact_color, gray_at, levels_at, steps_at};
 ghost use Rattle.v_frame_rgb.specs.WholeSteps.{AreSmall, AreSteps};
 
-use crate::colour::Colour;
-use crate::standard::{ColourRange, Standard};
+use crate::color::Color;
+use crate::standard::{ColorRange, Standard};
 use crate::whole_steps::{WholeSteps, black, unit};
 
 /// Coefficients from Y'CbCr of a bit depth to R'G'B', which are those of a standard exactly: whole numbers over one denominator.
 #[derive(Clone, Copy)]
 pub struct ExactMatrix {
     standard: Standard,
-    range: ColourRange,
+    range: ColorRange,
     depth: u8,
     black: u16,
     gray: u16,
@@ -26,7 +26,7 @@ pub struct ExactMatrix {
 
 impl ExactMatrix {
     /// Returns the coefficients of a standard for samples of a range and of a bit depth from 8 to 16.
-    pub fn new(standard: Standard, range: ColourRange, depth: u8) -> Self
+    pub fn new(standard: Standard, range: ColorRange, depth: u8) -> Self
         requires low { 8 ≤ depth }
         requires high { depth ≤ 16 }
         ensures standard { result.standard ≡ standard }
@@ -47,11 +47,11 @@ impl ExactMatrix {
         }
     }
 
-    /// Returns the colour of a sample of luma, one of Cb and one of Cr. Each channel is the nearest to what the standard's own
+    /// Returns the color of a sample of luma, one of Cb and one of Cr. Each channel is the nearest to what the standard's own
     /// fractions make it, and the greater one at a half.
     #[inline(always)]
-    pub fn colour(&self, y: u16, u: u16, v: u16) -> Colour
-        ensures { result ≡ exact_colour self.now.standard self.now.range self.now.depth y u v }
+    pub fn color(&self, y: u16, u: u16, v: u16) -> Color
+        ensures { result ≡ exact_color self.now.standard self.now.range self.now.depth y u v }
     {
         let red_more = weighed(self.steps.red_v, v);
         let red_less = weighed(self.steps.red_v, self.gray);
@@ -64,7 +64,7 @@ impl ExactMatrix {
         let red = self.channel(y, red_more, red_less);
         let green = self.channel(y, u_gray + v_gray, u_less + v_less);
         let blue = self.channel(y, blue_more, blue_less);
-        Colour { red, green, blue }
+        Color { red, green, blue }
     }
 
     /// Returns a channel: luma above black, with what chroma adds and without what it takes away.

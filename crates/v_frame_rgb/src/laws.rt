@@ -1,12 +1,12 @@
-//! Laws of colours and samples: what callers may rely on beyond a single call. Each is the contract of a function.
+//! Laws of colors and samples: what callers may rely on beyond a single call. Each is the contract of a function.
 ghost use Rattle.std.specs.Prelude.{◌≡◌, ◌+◌, ◌/◌, ◌<◌, ℕ, pos, ◌-ℤ◌};
 ghost use Rattle.std.specs.Int.{int_div_euclid, int_max, int_min};
-ghost use Rattle.v_frame_rgb.specs.Colours.{sample_of};
+ghost use Rattle.v_frame_rgb.specs.Colors.{sample_of};
 ghost use Rattle.v_frame_rgb.specs.Laws.{RedIsNear, GreenIsNear, BlueIsNear, LumaIsNear, ChromaUIsNear, ChromaVIsNear};
 ghost use Rattle.v_frame_rgb.specs.Laws.{HasBytes, ComesBack, and_back};
-ghost use Rattle.v_frame_rgb.specs.declared.colour.Colour.{Colour};
+ghost use Rattle.v_frame_rgb.specs.declared.color.Color.{Color};
 ghost use Rattle.v_frame_rgb.specs.declared.standard.Standard.{Standard};
-ghost use Rattle.v_frame_rgb.specs.declared.standard.ColourRange.{ColourRange};
+ghost use Rattle.v_frame_rgb.specs.declared.standard.ColorRange.{ColorRange};
 
 /// A sample is the difference over the scale, with a half added, rounded down over the integers, and then clamped to a byte.
 pub fn samples_are_clamped_quotients()
@@ -15,28 +15,28 @@ pub fn samples_are_clamped_quotients()
 {}
 
 /// Each channel, before it is rounded, is within a hundredth of what the standard's own fractions make it.
-pub fn colours_are_near_the_standards()
-    ensures red { (standard : Standard) (range : ColourRange) (y u v : ℕ) → y < 256 → u < 256 → v < 256
+pub fn colors_are_near_the_standards()
+    ensures red { (standard : Standard) (range : ColorRange) (y u v : ℕ) → y < 256 → u < 256 → v < 256
         → RedIsNear standard range y u v }
-    ensures green { (standard : Standard) (range : ColourRange) (y u v : ℕ) → y < 256 → u < 256 → v < 256
+    ensures green { (standard : Standard) (range : ColorRange) (y u v : ℕ) → y < 256 → u < 256 → v < 256
         → GreenIsNear standard range y u v }
-    ensures blue { (standard : Standard) (range : ColourRange) (y u v : ℕ) → y < 256 → u < 256 → v < 256
+    ensures blue { (standard : Standard) (range : ColorRange) (y u v : ℕ) → y < 256 → u < 256 → v < 256
         → BlueIsNear standard range y u v }
 {}
 
 /// Each sample, before it is rounded, is within a hundredth of what the standard's own fractions make it.
 pub fn samples_are_near_the_standards()
-    ensures luma { (standard : Standard) (range : ColourRange) (colour : Colour) → HasBytes colour
-        → LumaIsNear standard range colour }
-    ensures chroma_u { (standard : Standard) (range : ColourRange) (colour : Colour) → HasBytes colour
-        → ChromaUIsNear standard range colour }
-    ensures chroma_v { (standard : Standard) (range : ColourRange) (colour : Colour) → HasBytes colour
-        → ChromaVIsNear standard range colour }
+    ensures luma { (standard : Standard) (range : ColorRange) (color : Color) → HasBytes color
+        → LumaIsNear standard range color }
+    ensures chroma_u { (standard : Standard) (range : ColorRange) (color : Color) → HasBytes color
+        → ChromaUIsNear standard range color }
+    ensures chroma_v { (standard : Standard) (range : ColorRange) (color : Color) → HasBytes color
+        → ChromaVIsNear standard range color }
 {}
 
-/// A colour that becomes samples of 8 bits, which become a colour again, comes back: red and green are off by at most 1, and blue
+/// A color that becomes samples of 8 bits, which become a color again, comes back: red and green are off by at most 1, and blue
 /// by at most 1 in full range, and 2 in limited range.
-pub fn colours_come_back()
-    ensures { (standard : Standard) (range : ColourRange) (colour : Colour) → HasBytes colour
-        → ComesBack range colour (and_back standard range colour) }
+pub fn colors_come_back()
+    ensures { (standard : Standard) (range : ColorRange) (color : Color) → HasBytes color
+        → ComesBack range color (and_back standard range color) }
 {}

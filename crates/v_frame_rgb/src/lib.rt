@@ -1,7 +1,7 @@
 //! Conversions between Y'CbCr and R'G'B'.
 #![tactic(auto)]
 
-mod colour;
+mod color;
 mod convert;
 mod exact;
 pub mod laws;
@@ -11,9 +11,9 @@ mod sample;
 mod standard;
 mod whole_steps;
 
-pub use colour::{Bgr, Bgra, Colour, ColourOrder, Rgb, Rgba};
+pub use color::{Bgr, Bgra, Color, ColorOrder, Rgb, Rgba};
 pub use convert::{rgb_to_channel, rgb_to_yuv444, yuv444_to_rgb};
 pub use exact::ExactMatrix;
 pub use matrix::{RgbMatrix, YuvMatrix};
 pub use sample::{Channel, ChromaU, ChromaV, Luma};
-pub use standard::{ColourRange, Standard};
+pub use standard::{ColorRange, Standard};

@@ -1,9 +1,9 @@
 //! The coefficients of conversions: those of the standards, or a caller's.
 ghost use Rattle.std.specs.Prelude.{◌≡◌, ◌<◌, ◌^◌};
-ghost use Rattle.v_frame_rgb.specs.Colours.{sample_of, colour_of, rgb_matrix_of, yuv_matrix_of, colour_scale};
+ghost use Rattle.v_frame_rgb.specs.Colors.{sample_of, color_of, rgb_matrix_of, yuv_matrix_of, color_scale};
 
-use crate::colour::Colour;
-use crate::standard::{ColourRange, Standard};
+use crate::color::Color;
+use crate::standard::{ColorRange, Standard};
 
 /// Coefficients from Y'CbCr to R'G'B', in parts of 16384.
 ///
@@ -22,7 +22,7 @@ pub struct RgbMatrix {
 
 /// Coefficients from R'G'B' to Y'CbCr, in parts of 65536.
 ///
-/// One step of a colour makes `y_red`, `y_green` or `y_blue` of luma. To Cb blue adds `u_blue`, and red and green take away
+/// One step of a color makes `y_red`, `y_green` or `y_blue` of luma. To Cb blue adds `u_blue`, and red and green take away
 /// `u_red` and `u_green`. To Cr red adds `v_red`, and green and blue take away `v_green` and `v_blue`.
 #[derive(Debug, Clone, Copy, PartialEq, Eq)]
 pub struct YuvMatrix {
@@ -41,20 +41,20 @@ pub struct YuvMatrix {
 
 impl RgbMatrix {
     /// Returns the coefficients of a standard, each the whole number nearest to the standard's.
-    pub fn new(standard: Standard, range: ColourRange) -> Self
+    pub fn new(standard: Standard, range: ColorRange) -> Self
         ensures { result ≡ rgb_matrix_of standard range }
     {
         let (black, luma) = match range {
-            ColourRange::Limited => (16, 19077),
-            ColourRange::Full => (0, 16384),
+            ColorRange::Limited => (16, 19077),
+            ColorRange::Full => (0, 16384),
         };
         let (red_v, green_u, green_v, blue_u) = match (standard, range) {
-            (Standard::Bt601, ColourRange::Limited) => (26149, 6419, 13320, 33050),
-            (Standard::Bt601, ColourRange::Full) => (22970, 5638, 11700, 29032),
-            (Standard::Bt709, ColourRange::Limited) => (29372, 3494, 8731, 34610),
-            (Standard::Bt709, ColourRange::Full) => (25802, 3069, 7670, 30402),
-            (Standard::Bt2020, ColourRange::Limited) => (27503, 3069, 10657, 35091),
-            (Standard::Bt2020, ColourRange::Full) => (24160, 2696, 9361, 30825),
+            (Standard::Bt601, ColorRange::Limited) => (26149, 6419, 13320, 33050),
+            (Standard::Bt601, ColorRange::Full) => (22970, 5638, 11700, 29032),
+            (Standard::Bt709, ColorRange::Limited) => (29372, 3494, 8731, 34610),
+            (Standard::Bt709, ColorRange::Full) => (25802, 3069, 7670, 30402),
+            (Standard::Bt2020, ColorRange::Limited) => (27503, 3069, 10657, 35091),
+            (Standard::Bt2020, ColorRange::Full) => (24160, 2696, 9361, 30825),
         };
         RgbMatrix {
             black,
@@ -66,41 +66,41 @@ impl RgbMatrix {
         }
     }
 
-    /// Returns the colour of a sample of luma, one of Cb and one of Cr.
+    /// Returns the color of a sample of luma, one of Cb and one of Cr.
     #[inline(always)]
-    pub fn colour(self, y: u8, u: u8, v: u8) -> Colour
-        ensures { result ≡ colour_of self y u v }
+    pub fn color(self, y: u8, u: u8, v: u8) -> Color
+        ensures { result ≡ color_of self y u v }
     {
         let luma = u32::from(self.luma);
         let (red_v, blue_u) = (u32::from(self.red_v), u32::from(self.blue_u));
         let (green_u, green_v) = (u32::from(self.green_u), u32::from(self.green_v));
         let black = luma * u32::from(self.black);
         let (y, u, v) = (luma * u32::from(y), u32::from(u), u32::from(v));
-        Colour {
-            red: colour_sample(y + red_v * v, black + red_v * 128),
-            green: colour_sample(
+        Color {
+            red: color_sample(y + red_v * v, black + red_v * 128),
+            green: color_sample(
                 y + (green_u * 128 + green_v * 128),
                 black + (green_u * u + green_v * v),
             ),
-            blue: colour_sample(y + blue_u * u, black + blue_u * 128),
+            blue: color_sample(y + blue_u * u, black + blue_u * 128),
         }
     }
 }
 
 impl YuvMatrix {
     /// Returns the coefficients of a standard, each the whole number nearest to the standard's.
-    pub fn new(standard: Standard, range: ColourRange) -> Self
+    pub fn new(standard: Standard, range: ColorRange) -> Self
         ensures { result ≡ yuv_matrix_of standard range }
     {
         match range {
-            ColourRange::Limited => Self::limited(standard),
-            ColourRange::Full => Self::full(standard),
+            ColorRange::Limited => Self::limited(standard),
+            ColorRange::Full => Self::full(standard),
         }
     }
 
     /// Returns the coefficients of a standard for samples of limited range.
     fn limited(standard: Standard) -> Self
-        ensures { result ≡ yuv_matrix_of standard ColourRange.Limited }
+        ensures { result ≡ yuv_matrix_of standard ColorRange.Limited }
     {
         let (y_red, y_green, y_blue) = match standard {
             Standard::Bt601 => (16829, 33039, 6416),
@@ -128,7 +128,7 @@ impl YuvMatrix {
 
     /// Returns the coefficients of a standard for samples of full range.
     fn full(standard: Standard) -> Self
-        ensures { result ≡ yuv_matrix_of standard ColourRange.Full }
+        ensures { result ≡ yuv_matrix_of standard ColorRange.Full }
     {
         let (y_red, y_green, y_blue) = match standard {
             Standard::Bt601 => (19595, 38470, 7471),
@@ -157,9 +157,9 @@ impl YuvMatrix {
 
 /// Returns the whole number nearest to a difference over 16384, as a sample.
 #[inline(always)]
-fn colour_sample(bright: u32, dark: u32) -> u8
+fn color_sample(bright: u32, dark: u32) -> u8
     requires { bright < 2 ^ 31 }
-    ensures { result ≡ sample_of colour_scale bright dark }
+    ensures { result ≡ sample_of color_scale bright dark }
 {
     ((bright + 8192).saturating_sub(dark) / 16384).min(255) as u8
 }

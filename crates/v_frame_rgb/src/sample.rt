@@ -1,8 +1,8 @@
-//! The three samples that a colour becomes.
+//! The three samples that a color becomes.
 ghost use Rattle.std.specs.Prelude.{◌≡◌, ℕ, ◌*◌, ◌<◌, ◌^◌};
-ghost use Rattle.v_frame_rgb.specs.Colours.{sample_of, y_of, u_of, v_of, sample_scale};
+ghost use Rattle.v_frame_rgb.specs.Colors.{sample_of, y_of, u_of, v_of, sample_scale};
 
-use crate::colour::Colour;
+use crate::color::Color;
 use crate::matrix::YuvMatrix;
 
 mod sealed {
@@ -18,15 +18,15 @@ mod sealed {
 
 /// A channel of Y'CbCr.
 pub trait Channel: sealed::Sealed {
-    ghost use Rattle.v_frame_rgb.specs.declared.colour.Colour.{Colour};
+    ghost use Rattle.v_frame_rgb.specs.declared.color.Color.{Color};
     ghost use Rattle.v_frame_rgb.specs.declared.matrix.YuvMatrix.{YuvMatrix};
 
-    // The sample of a colour.
-    ghost sample: { YuvMatrix → Colour → ℕ };
+    // The sample of a color.
+    ghost sample: { YuvMatrix → Color → ℕ };
 
-    /// Returns the sample of a colour.
-    fn sample(matrix: YuvMatrix, colour: Colour) -> u8
-        ensures { result ≡ sample matrix colour };
+    /// Returns the sample of a color.
+    fn sample(matrix: YuvMatrix, color: Color) -> u8
+        ensures { result ≡ sample matrix color };
 }
 
 /// Luma.
@@ -42,10 +42,10 @@ impl Channel for Luma {
     ghost sample = { y_of };
 
     #[inline(always)]
-    fn sample(matrix: YuvMatrix, colour: Colour) -> u8 {
-        let red = weighed(matrix.y_red, colour.red);
-        let green = weighed(matrix.y_green, colour.green);
-        let blue = weighed(matrix.y_blue, colour.blue);
+    fn sample(matrix: YuvMatrix, color: Color) -> u8 {
+        let red = weighed(matrix.y_red, color.red);
+        let green = weighed(matrix.y_green, color.green);
+        let blue = weighed(matrix.y_blue, color.blue);
         nearest_sample(u32::from(matrix.black) * 65536 + (red + green + blue), 0)
     }
 }
@@ -54,10 +54,10 @@ impl Channel for ChromaU {
     ghost sample = { u_of };
 
     #[inline(always)]
-    fn sample(matrix: YuvMatrix, colour: Colour) -> u8 {
-        let red = weighed(matrix.u_red, colour.red);
-        let green = weighed(matrix.u_green, colour.green);
-        let blue = weighed(matrix.u_blue, colour.blue);
+    fn sample(matrix: YuvMatrix, color: Color) -> u8 {
+        let red = weighed(matrix.u_red, color.red);
+        let green = weighed(matrix.u_green, color.green);
+        let blue = weighed(matrix.u_blue, color.blue);
         nearest_sample(128 * 65536 + blue, red + green)
     }
 }
@@ -66,10 +66,10 @@ impl Channel for ChromaV {
     ghost sample = { v_of };
 
     #[inline(always)]
-    fn sample(matrix: YuvMatrix, colour: Colour) -> u8 {
-        let red = weighed(matrix.v_red, colour.red);
-        let green = weighed(matrix.v_green, colour.green);
-        let blue = weighed(matrix.v_blue, colour.blue);
+    fn sample(matrix: YuvMatrix, color: Color) -> u8 {
+        let red = weighed(matrix.v_red, color.red);
+        let green = weighed(matrix.v_green, color.green);
+        let blue = weighed(matrix.v_blue, color.blue);
         nearest_sample(128 * 65536 + red, green + blue)
     }
 }

@@ -3,9 +3,9 @@ ghost use Rattle.std.specs.Prelude.{◌≡◌, ◌-◌, ◌^◌, ◌≤◌};
 ghost use Rattle.v_frame_rgb.specs.Exact.{levels_at};
 ghost use Rattle.v_frame_rgb.specs.WholeSteps.{unit_at, whole_steps_of};
 
-use crate::standard::{ColourRange, Standard};
+use crate::standard::{ColorRange, Standard};
 
-/// How much one step of luma, of Cb or of Cr makes of a colour, in parts of a scale times what 1 of the levels is at a bit depth.
+/// How much one step of luma, of Cb or of Cr makes of a color, in parts of a scale times what 1 of the levels is at a bit depth.
 #[derive(Clone, Copy)]
 pub(crate) struct WholeSteps {
     pub scale: u64,
@@ -18,18 +18,18 @@ pub(crate) struct WholeSteps {
 
 impl WholeSteps {
     /// Returns the steps of a standard.
-    pub(crate) fn new(standard: Standard, range: ColourRange) -> Self
+    pub(crate) fn new(standard: Standard, range: ColorRange) -> Self
         ensures { result ≡ whole_steps_of standard range }
     {
         match range {
-            ColourRange::Limited => Self::limited(standard),
-            ColourRange::Full => Self::full(standard),
+            ColorRange::Limited => Self::limited(standard),
+            ColorRange::Full => Self::full(standard),
         }
     }
 
     /// Returns the steps of a standard in limited range.
     fn limited(standard: Standard) -> Self
-        ensures { result ≡ whole_steps_of standard ColourRange.Limited }
+        ensures { result ≡ whole_steps_of standard ColorRange.Limited }
     {
         match standard {
             Standard::Bt601 => WholeSteps {
@@ -61,7 +61,7 @@ impl WholeSteps {
 
     /// Returns the steps of a standard in full range.
     fn full(standard: Standard) -> Self
-        ensures { result ≡ whole_steps_of standard ColourRange.Full }
+        ensures { result ≡ whole_steps_of standard ColorRange.Full }
     {
         match standard {
             Standard::Bt601 => WholeSteps {
@@ -93,24 +93,24 @@ impl WholeSteps {
 }
 
 /// Returns what 1 of the levels is at a bit depth: of limited range 1 of 8 bits, and of full range all values.
-pub(crate) fn unit(range: ColourRange, depth: u8) -> u64
+pub(crate) fn unit(range: ColorRange, depth: u8) -> u64
     requires { (8 ≤ depth) × (depth ≤ 16) }
     ensures { result ≡ unit_at range depth }
 {
     match range {
-        ColourRange::Limited => u64::from(step(depth)),
-        ColourRange::Full => (1 << depth) - 1,
+        ColorRange::Limited => u64::from(step(depth)),
+        ColorRange::Full => (1 << depth) - 1,
     }
 }
 
 /// Returns the sample of black at a bit depth.
-pub(crate) fn black(range: ColourRange, depth: u8) -> u16
+pub(crate) fn black(range: ColorRange, depth: u8) -> u16
     requires { (8 ≤ depth) × (depth ≤ 16) }
     ensures { result ≡ (levels_at range depth).black }
 {
     match range {
-        ColourRange::Limited => 16 * step(depth),
-        ColourRange::Full => 0,
+        ColorRange::Limited => 16 * step(depth),
+        ColorRange::Full => 0,
     }
 }
 

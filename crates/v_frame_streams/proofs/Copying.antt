@@ -13,7 +13,7 @@ use Rattle.std.proofs.Common.{Bool, true, false}
 use Rattle.std.specs.Prelude.{if◌then◌else◌}
 use Rattle.std.proofs.lemmas.Bool.{ne_eqb}
 use Rattle.v_frame.specs.Prelude.{one_byte, two_bytes, PixelForm}
-use Rattle.v_frame_y4m.specs.Colour.{depth_of}
+use Rattle.v_frame_y4m.specs.Color.{depth_of}
 use Rattle.v_frame_streams.specs.Conversions.{form_of}
 use Rattle.v_frame_streams.specs.Copies.{copied_header, is_plain, kept, limit_of, made_bytes, made_stream, same_bytes, Carries}
 use Rattle.v_frame_streams.specs.Copies.{Copies, CopiesBy}
@@ -92,10 +92,10 @@ module _ (from : Container) (count : ℕ) where
     By bytes h = CopiesBy from count left left' has has' to options h bytes found
 
     abbrev edited_bytes : PixelForm ℕ → StreamHeader → List ℕ → List ℕ
-    edited_bytes form h bytes = made_bytes form (form_of (depth_of h.colour)) to options header layout bytes
+    edited_bytes form h bytes = made_bytes form (form_of (depth_of h.color)) to options header layout bytes
 
     abbrev all_edited : List ℕ → List ℕ
-    all_edited bytes = edited_bytes (form_of (depth_of header.colour)) (copied_header options header) bytes
+    all_edited bytes = edited_bytes (form_of (depth_of header.color)) (copied_header options header) bytes
 
     pub plain_copy : is_plain to options header layout ≡ true → By same_bytes made → Copies from count left left' has has' to
         options header layout found
@@ -103,7 +103,7 @@ module _ (from : Container) (count : ℕ) where
         subst (λ (b : Bool). By (λ (bytes : List ℕ). if b then bytes else all_edited bytes)
         (copied_header options header)) (sym plain) (subst (By same_bytes) says copied)
 
-    pub edited_copy : (form : PixelForm ℕ) → form ≡ form_of (depth_of header.colour) → is_plain to options header layout ≡ false
+    pub edited_copy : (form : PixelForm ℕ) → form ≡ form_of (depth_of header.color) → is_plain to options header layout ≡ false
         → By (edited_bytes form made) made → Copies from count left left' has has' to options header layout found
     edited_copy form is edits copied =
         let by_header = subst (λ (h : StreamHeader). By (edited_bytes form h) h) says copied in

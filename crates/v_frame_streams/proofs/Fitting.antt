@@ -6,14 +6,14 @@ use Rattle.v_frame.specs.Prelude.{ChromaSubsampling, Yuv420, Yuv422, Yuv411, Yuv
 use Rattle.v_frame_planar.specs.Video.{chroma_sizes_of, ratio_or_one}
 use Rattle.v_frame_y4m.specs.declared.header.StreamHeader.{StreamHeader}
 use Rattle.v_frame_convert.specs.Prelude.{DepthFits}
-use Rattle.v_frame_y4m.specs.Colour.{bits_of, depth_of, subsampling_of}
+use Rattle.v_frame_y4m.specs.Color.{bits_of, depth_of, subsampling_of}
 use Rattle.v_frame_y4m.specs.Frames.{pixel_bytes}
-use Rattle.v_frame_y4m.specs.declared.colour.Colour.{Colour}
-use Rattle.v_frame_y4m.specs.declared.colour.Colour.TheVariants.{Unstated, Yuv420 as C420, Yuv420Jpeg, Yuv420Mpeg2, Yuv420Paldv, Yuv411 as C411, Yuv422 as C422, Yuv444 as C444, Mono, Yuv420HighDepth, Yuv422HighDepth, Yuv444HighDepth, MonoHighDepth}
-use Rattle.v_frame_y4m.specs.declared.colour.Depth.{Depth}
-use Rattle.v_frame_y4m.specs.declared.colour.Depth.TheVariants.{Nine, Ten, Twelve, Fourteen, Sixteen}
-use Rattle.v_frame_streams.specs.Conversions.{colour_in, format_in, is_same_chroma, is_same_format, layout_in, layout_to, Format}
-use Rattle.v_frame_streams.specs.Layouts.{HoldsColour}
+use Rattle.v_frame_y4m.specs.declared.color.Color.{Color}
+use Rattle.v_frame_y4m.specs.declared.color.Color.TheVariants.{Unstated, Yuv420 as C420, Yuv420Jpeg, Yuv420Mpeg2, Yuv420Paldv, Yuv411 as C411, Yuv422 as C422, Yuv444 as C444, Mono, Yuv420HighDepth, Yuv422HighDepth, Yuv444HighDepth, MonoHighDepth}
+use Rattle.v_frame_y4m.specs.declared.color.Depth.{Depth}
+use Rattle.v_frame_y4m.specs.declared.color.Depth.TheVariants.{Nine, Ten, Twelve, Fourteen, Sixteen}
+use Rattle.v_frame_streams.specs.Conversions.{color_in, format_in, is_same_chroma, is_same_format, layout_in, layout_to, Format}
+use Rattle.v_frame_streams.specs.Layouts.{HoldsColor}
 use Rattle.v_frame_semi_planar.specs.Format.{sample_size_of, depth_of as layout_depth}
 use Rattle.v_frame_semi_planar.specs.declared.format.SemiPlanarFormat.{SemiPlanarFormat}
 use Rattle.v_frame_streams.specs.declared.stream.Container.{Container}
@@ -105,7 +105,7 @@ pub edit_fits : (options : CopyOptions) (header : StreamHeader) → IsTakable (t
 edit_fits options header takable =
     let part = taken options header in
     let chroma = chroma_fits options.half part header.width header.height takable.some takable.across takable.down
-    (subsampling_of header.colour) takable.aligned in
+    (subsampling_of header.color) takable.aligned in
     record {
       y = record { some = takable.some; across = takable.across; down = takable.down; wide = refl; high = refl };
       u = chroma;
@@ -122,8 +122,8 @@ fits_of_bits bytes Twelve is = record { low = omega arith; high = omega (arith, 
 fits_of_bits bytes Fourteen is = record { low = omega arith; high = omega (arith, is) }
 fits_of_bits bytes Sixteen is = record { low = omega arith; high = omega (arith, is) }
 
--- the depth of a colour fits pixels of the size that it asks for
-depth_fits : (bytes : ℕ) (colour : Colour) → bytes ≡ pixel_bytes (depth_of colour) → DepthFits bytes (depth_of colour)
+-- the depth of a color fits pixels of the size that it asks for
+depth_fits : (bytes : ℕ) (color : Color) → bytes ≡ pixel_bytes (depth_of color) → DepthFits bytes (depth_of color)
 depth_fits bytes Unstated is = fits_of_eight bytes is
 depth_fits bytes C420 is = fits_of_eight bytes is
 depth_fits bytes Yuv420Jpeg is = fits_of_eight bytes is
@@ -163,11 +163,11 @@ module _ (w h : ℕ) where
       let chroma = chroma_sizes_of format.0 w h in
       (format, ((w, h), (chroma, chroma)))
 
-  fits_layout : (asked : Option VideoFormat) (there : Colour) (bytes : ℕ)
-      → bytes ≡ pixel_bytes (depth_of (colour_in asked there))
-      → FitsLayout bytes (layout_in asked) (shape_in (format_in (colour_in asked there)))
+  fits_layout : (asked : Option VideoFormat) (there : Color) (bytes : ℕ)
+      → bytes ≡ pixel_bytes (depth_of (color_in asked there))
+      → FitsLayout bytes (layout_in asked) (shape_in (format_in (color_in asked there)))
   fits_layout None there bytes is = tt
-  fits_layout (Some (Planar colour)) there bytes is = tt
+  fits_layout (Some (Planar color)) there bytes is = tt
   fits_layout (Some (SemiPlanar Nv12)) there bytes is = record { bytes = is; depth = refl; chroma = refl; u = refl; v = refl }
   fits_layout (Some (SemiPlanar Nv21)) there bytes is = record { bytes = is; depth = refl; chroma = refl; u = refl; v = refl }
   fits_layout (Some (SemiPlanar Nv16)) there bytes is = record { bytes = is; depth = refl; chroma = refl; u = refl; v = refl }
@@ -187,9 +187,9 @@ module _ (w h : ℕ) where
   bytes_of_layout P016 = refl
 
   -- so are frames of a layout that stays
-  fits_layout_to : (to : Container) (asked : Option VideoFormat) (there : Colour) (layout : Option SemiPlanarFormat)
-      → HoldsColour layout there → (bytes : ℕ) → bytes ≡ pixel_bytes (depth_of (colour_in asked there))
-      → FitsLayout bytes (layout_to to asked layout) (shape_in (format_in (colour_in asked there)))
+  fits_layout_to : (to : Container) (asked : Option VideoFormat) (there : Color) (layout : Option SemiPlanarFormat)
+      → HoldsColor layout there → (bytes : ℕ) → bytes ≡ pixel_bytes (depth_of (color_in asked there))
+      → FitsLayout bytes (layout_to to asked layout) (shape_in (format_in (color_in asked there)))
   fits_layout_to Y4m None there layout holds bytes is = tt
   fits_layout_to Raw None there None holds bytes is = tt
   fits_layout_to Raw None there (Some layout) holds bytes is =
@@ -205,9 +205,9 @@ module _ (w h : ℕ) where
   fits_layout_to Raw (Some format) there layout holds bytes is = fits_layout (Some format) there bytes is
 
 module _ (bytes other : ℕ) (options : CopyOptions) (header : StreamHeader) (to : Container)
-    (there : Option SemiPlanarFormat) (holds : HoldsColour there header.colour)
-    (is : bytes ≡ pixel_bytes (depth_of header.colour))
-    (also_is : other ≡ pixel_bytes (depth_of (copied_header options header).colour)) where
+    (there : Option SemiPlanarFormat) (holds : HoldsColor there header.color)
+    (is : bytes ≡ pixel_bytes (depth_of header.color))
+    (also_is : other ≡ pixel_bytes (depth_of (copied_header options header).color)) where
   abbrev plan : Plan
   plan = plan_for options header (layout_to to options.format there)
 
@@ -215,28 +215,28 @@ module _ (bytes other : ℕ) (options : CopyOptions) (header : StreamHeader) (to
   written = copied_header options header
 
   convertible : (same : Bool) → CanConvert bytes other plan.from plan.made
-      (if same then None else Some (format_in written.colour, sizes_in written))
+      (if same then None else Some (format_in written.color, sizes_in written))
   convertible true = tt
   convertible false =
-      let chroma = chroma_sizes_fit written.width written.height (subsampling_of header.colour)
-      (subsampling_of written.colour) in
+      let chroma = chroma_sizes_fit written.width written.height (subsampling_of header.color)
+      (subsampling_of written.color) in
       record {
         luma = refl;
-        depth = depth_fits bytes header.colour is;
-        new_depth = depth_fits other written.colour also_is;
+        depth = depth_fits bytes header.color is;
+        new_depth = depth_fits other written.color also_is;
         u = chroma;
         v = chroma;
       }
 
-  lays_out : (same : Bool) → is_same_format (format_in header.colour) (format_in written.colour) ≡ same
+  lays_out : (same : Bool) → is_same_format (format_in header.color) (format_in written.color) ≡ same
       → CanLayOut bytes other (layout_to to options.format there) (plan.from, plan.made)
-      (if same then None else Some (format_in written.colour, sizes_in written))
-  lays_out false told = fits_layout_to written.width written.height to options.format header.colour there holds other also_is
+      (if same then None else Some (format_in written.color, sizes_in written))
+  lays_out false told = fits_layout_to written.width written.height to options.format header.color there holds other also_is
   lays_out true told =
-      let from = format_in header.colour in
-      let new = format_in written.colour in
+      let from = format_in header.color in
+      let new = format_in written.color in
       let same : from ≡ new = same_format from new told in
-      let fits = fits_layout_to written.width written.height to options.format header.colour there holds bytes
+      let fits = fits_layout_to written.width written.height to options.format header.color there holds bytes
       (is ∙ ap (λ (f : Format). pixel_bytes f.1) same) in
       subst (λ (f : Format). FitsLayout bytes (layout_to to options.format there) (shape_in written.width written.height f))
       (sym same) fits
@@ -245,6 +245,6 @@ module _ (bytes other : ℕ) (options : CopyOptions) (header : StreamHeader) (to
   pub can_make : IsTakable (taken options header) header → CanMake bytes other plan (sizes_in header)
   can_make takable = record {
     edits = edit_fits options header takable;
-    converts = convertible (is_same_format (format_in header.colour) (format_in written.colour));
-    lays_out = lays_out (is_same_format (format_in header.colour) (format_in written.colour)) refl;
+    converts = convertible (is_same_format (format_in header.color) (format_in written.color));
+    lays_out = lays_out (is_same_format (format_in header.color) (format_in written.color)) refl;
   }

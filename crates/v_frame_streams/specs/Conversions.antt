@@ -10,16 +10,16 @@ use Rattle.v_frame.specs.Prelude.{Yuv444 as Full, Monochrome}
 use Rattle.v_frame_convert.specs.Prelude.{converted, pixel_at_depth, pixel_of_depth, scaled}
 use Rattle.v_frame_convert.specs.Prelude.{scales_between, DepthFits, SizesFit}
 use Rattle.v_frame_convert.specs.declared.scale.Scale.{Scale}
-use Rattle.v_frame_y4m.specs.Colour.{colour_text, depth_of, subsampling_of}
+use Rattle.v_frame_y4m.specs.Color.{color_text, depth_of, subsampling_of}
 use Rattle.v_frame_planar.specs.Video.{chroma_sizes_of}
 use Rattle.v_frame_semi_planar.specs.Format.{sample_size_of, depth_of as layout_depth}
 use Rattle.v_frame_semi_planar.specs.Format.{subsampling_of as layout_chroma}
 use Rattle.v_frame_semi_planar.specs.declared.format.SemiPlanarFormat.{SemiPlanarFormat}
-use Rattle.v_frame_y4m.specs.declared.colour.Colour.{Colour}
+use Rattle.v_frame_y4m.specs.declared.color.Color.{Color}
 use Rattle.v_frame_streams.specs.Pictures.{Sizes}
 use Rattle.v_frame_streams.specs.declared.stream.Container.{Container}
 use Rattle.v_frame_streams.specs.declared.stream.Container.TheVariants.{Y4m, Raw}
-use Rattle.v_frame_formats.specs.Formats.{colour_of_layout}
+use Rattle.v_frame_formats.specs.Formats.{color_of_layout}
 use Rattle.v_frame_formats.specs.declared.format.VideoFormat.{VideoFormat}
 use Rattle.v_frame_formats.specs.declared.format.VideoFormat.TheVariants.{Planar, SemiPlanar}
 
@@ -27,9 +27,9 @@ use Rattle.v_frame_formats.specs.declared.format.VideoFormat.TheVariants.{Planar
 abbrev pub Format : Type 0
 Format = ChromaSubsampling × ℕ
 
--- those of a colour
-abbrev pub format_in : Colour → Format
-format_in colour = (subsampling_of colour, depth_of colour)
+-- those of a color
+abbrev pub format_in : Color → Format
+format_in color = (subsampling_of color, depth_of color)
 
 -- those of a frame
 abbrev pub format_of : {T : Type 0} → Frame T → Format
@@ -51,12 +51,12 @@ is_same_chroma _ _ = false
 abbrev pub is_same_format : Format → Format → Bool
 is_same_format from to = is_same_chroma from.0 to.0 && (from.1 == to.1)
 
--- whether two colours are one, which they are where a header line spells them alike
-abbrev pub is_same_colour : Colour → Colour → Bool
-is_same_colour one other = bytes_eq (colour_text one) (colour_text other)
+-- whether two colors are one, which they are where a header line spells them alike
+abbrev pub is_same_color : Color → Color → Bool
+is_same_color one other = bytes_eq (color_text one) (color_text other)
 
 module _ {S T : Type 0} (form : PixelForm S) (other : PixelForm T) (from to : Format) where
-  -- a chroma plane of a size in the other format, or no colour where there was none
+  -- a chroma plane of a size in the other format, or no color where there was none
   abbrev pub chroma_in_format : Option (Table S) → ℕ × ℕ → Table T
   chroma_in_format None size = replicate size.1 (replicate size.0 (other.pixel_of (2 ^ (to.1 - 1))))
   chroma_in_format (Some table) size =
@@ -110,7 +110,7 @@ pub record LayoutFits (size : ℕ) (layout : SemiPlanarFormat) (format : Format)
 -- the layout of what is written, where one is asked for
 abbrev pub layout_in : Option VideoFormat → Option SemiPlanarFormat
 layout_in None = None
-layout_in (Some (Planar colour)) = None
+layout_in (Some (Planar color)) = None
 layout_in (Some (SemiPlanar layout)) = Some layout
 
 -- the layout of what is written of frames that have this one: without a format planar video in a
@@ -121,10 +121,10 @@ layout_to Y4m None there = None
 layout_to Raw None there = there
 layout_to to (Some format) there = layout_in (Some format)
 
--- the colour of what is written, where a format may be asked for. Frames that have it already stay as
+-- the color of what is written, where a format may be asked for. Frames that have it already stay as
 -- they are, and so does what says where their chroma lies
-abbrev pub colour_in : Option VideoFormat → Colour → Colour
-colour_in None there = there
-colour_in (Some (Planar colour)) there =
-    if is_same_format (format_in there) (format_in colour) then there else colour
-colour_in (Some (SemiPlanar layout)) there = colour_of_layout layout
+abbrev pub color_in : Option VideoFormat → Color → Color
+color_in None there = there
+color_in (Some (Planar color)) there =
+    if is_same_format (format_in there) (format_in color) then there else color
+color_in (Some (SemiPlanar layout)) there = color_of_layout layout

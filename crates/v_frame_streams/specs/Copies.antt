@@ -5,10 +5,10 @@ use Rattle.std.specs.List.{starts_with}
 use Rattle.std.specs.Io.KnownBytes.{Appends, Consumes, IsAtEnd}
 use Rattle.v_frame.specs.Prelude.{PixelForm}
 use Rattle.v_frame_planar.specs.Video.{ratio_or_one}
-use Rattle.v_frame_y4m.specs.Colour.{depth_of, subsampling_of}
+use Rattle.v_frame_y4m.specs.Color.{depth_of, subsampling_of}
 use Rattle.v_frame_semi_planar.specs.declared.format.SemiPlanarFormat.{SemiPlanarFormat}
 use Rattle.v_frame_y4m.specs.declared.header.StreamHeader.{StreamHeader}
-use Rattle.v_frame_streams.specs.Conversions.{colour_in, form_of, format_in, is_same_colour, is_same_format}
+use Rattle.v_frame_streams.specs.Conversions.{color_in, form_of, format_in, is_same_color, is_same_format}
 use Rattle.v_frame_streams.specs.Conversions.{layout_to}
 use Rattle.v_frame_streams.specs.Layouts.{is_same_layout}
 use Rattle.v_frame_streams.specs.Edits.{beside, halved_size}
@@ -47,7 +47,7 @@ pub record IsTakable (part : Rectangle) (header : StreamHeader) : Type 0 where
   pub some : (0 < part.width) × (0 < part.height)
   pub across : part.x + part.width ≤ header.width
   pub down : part.y + part.height ≤ header.height
-  pub aligned : let ratio = ratio_or_one (subsampling_of header.colour) in
+  pub aligned : let ratio = ratio_or_one (subsampling_of header.color) in
       (part.x % ratio.0 ≡ 0) × (part.y % ratio.1 ≡ 0)
 
 -- why such a rectangle is refused: the first reason that holds
@@ -56,7 +56,7 @@ RefusesCrop part header EmptyCrop = (part.width ≡ 0) ⊎ (part.height ≡ 0)
 RefusesCrop part header CropOutside =
     ¬ ((part.x + part.width ≤ header.width) × (part.y + part.height ≤ header.height))
 RefusesCrop part header (CropMisaligned columns rows) =
-    let ratio = ratio_or_one (subsampling_of header.colour) in
+    let ratio = ratio_or_one (subsampling_of header.color) in
     (columns ≡ ratio.0) × (rows ≡ ratio.1)
     × ¬ ((part.x % ratio.0 ≡ 0) × (part.y % ratio.1 ≡ 0))
 RefusesCrop part header _ = ⊥
@@ -66,7 +66,7 @@ abbrev pub edit_of : CopyOptions → StreamHeader → Edit
 edit_of options header =
     record {
       luma = taken options header;
-      chroma = beside (ratio_or_one (subsampling_of header.colour)) (taken options header);
+      chroma = beside (ratio_or_one (subsampling_of header.color)) (taken options header);
       half = options.half;
     }
 
@@ -85,7 +85,7 @@ range_stays = refl
 -- the extensions that hold of what is written
 abbrev pub copied_extensions : CopyOptions → StreamHeader → List (List ℕ)
 copied_extensions options header =
-    if is_same_colour (colour_in options.format header.colour) header.colour
+    if is_same_color (color_in options.format header.color) header.color
     then header.extensions else without_format header.extensions
 
 -- the header that is written
@@ -97,7 +97,7 @@ copied_header options header =
       frame_rate = or_else options.frame_rate header.frame_rate;
       interlacing = header.interlacing;
       pixel_aspect = or_else options.pixel_aspect header.pixel_aspect;
-      colour = colour_in options.format header.colour;
+      color = color_in options.format header.color;
       extensions = copied_extensions options header;
     }
 
@@ -106,18 +106,18 @@ abbrev pub is_plain : Container → CopyOptions → StreamHeader → Option Semi
 is_plain to options header layout =
     is_none options.crop && not options.half
     && is_same_layout (layout_to to options.format layout) layout
-    && is_same_format (format_in header.colour) (format_in (copied_header options header).colour)
+    && is_same_format (format_in header.color) (format_in (copied_header options header).color)
 
 -- what is made of each frame of a stream, where something is, and the layout that is written
 abbrev pub plan_for : CopyOptions → StreamHeader → Option SemiPlanarFormat → Plan
 plan_for options header layout =
     let written = copied_header options header in
-    let from = format_in header.colour in
-    let to = format_in written.colour in
+    let from = format_in header.color in
+    let to = format_in written.color in
     record {
       edit = edit_of options header;
       from = from;
-      made = sizes_in (record written { colour = header.colour });
+      made = sizes_in (record written { color = header.color });
       to = if is_same_format from to then None else Some (to, sizes_in written);
       layout = layout;
     }
@@ -133,8 +133,8 @@ made_bytes form other to options header layout bytes =
 abbrev pub copied_bytes : Container → CopyOptions → StreamHeader → Option SemiPlanarFormat
     → List ℕ → List ℕ
 copied_bytes to options header layout bytes =
-    let form = form_of (depth_of header.colour) in
-    let other = form_of (depth_of (copied_header options header).colour) in
+    let form = form_of (depth_of header.color) in
+    let other = form_of (depth_of (copied_header options header).color) in
     if is_plain to options header layout then bytes
     else made_bytes form other to options header layout bytes
 

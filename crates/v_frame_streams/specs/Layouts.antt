@@ -1,18 +1,18 @@
--- Semi-planar layouts of frames: for which colours they are, and which are one.
+-- Semi-planar layouts of frames: for which colors they are, and which are one.
 use Rattle.std.specs.Prelude.{◌≡◌, IfSome, Bool, true, false, Option, Some, None}
 use Rattle.v_frame_semi_planar.specs.Format.{depth_of as layout_depth, subsampling_of as layout_chroma}
 use Rattle.v_frame_semi_planar.specs.declared.format.SemiPlanarFormat.{SemiPlanarFormat}
 use Rattle.v_frame_semi_planar.specs.declared.format.SemiPlanarFormat.TheVariants.{Nv12, Nv21}
 use Rattle.v_frame_semi_planar.specs.declared.format.SemiPlanarFormat.TheVariants.{Nv16, Nv24}
 use Rattle.v_frame_semi_planar.specs.declared.format.SemiPlanarFormat.TheVariants.{P010, P012, P016}
-use Rattle.v_frame_y4m.specs.Colour.{depth_of, subsampling_of}
-use Rattle.v_frame_y4m.specs.declared.colour.Colour.{Colour}
+use Rattle.v_frame_y4m.specs.Color.{depth_of, subsampling_of}
+use Rattle.v_frame_y4m.specs.declared.color.Color.{Color}
 
--- frames of a colour can have a layout, where one is given
-abbrev pub HoldsColour : Option SemiPlanarFormat → Colour → Type 0
-HoldsColour layout colour =
-    IfSome layout (λ l. (subsampling_of colour ≡ layout_chroma l)
-    × (depth_of colour ≡ layout_depth l))
+-- frames of a color can have a layout, where one is given
+abbrev pub HoldsColor : Option SemiPlanarFormat → Color → Type 0
+HoldsColor layout color =
+    IfSome layout (λ l. (subsampling_of color ≡ layout_chroma l)
+    × (depth_of color ≡ layout_depth l))
 
 abbrev pub is_same_layout : Option SemiPlanarFormat → Option SemiPlanarFormat → Bool
 is_same_layout None None = true

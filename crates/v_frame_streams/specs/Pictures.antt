@@ -8,7 +8,7 @@ use Rattle.v_frame_planar.specs.Video.{chroma_sizes_of}
 use Rattle.v_frame_semi_planar.specs.Format.{begins_with_v, unused_bits}
 use Rattle.v_frame_semi_planar.specs.SemiPlanar.{shown_pixels}
 use Rattle.v_frame_semi_planar.specs.declared.format.SemiPlanarFormat.{SemiPlanarFormat}
-use Rattle.v_frame_y4m.specs.Colour.{subsampling_of}
+use Rattle.v_frame_y4m.specs.Color.{subsampling_of}
 use Rattle.v_frame_y4m.specs.declared.header.StreamHeader.{StreamHeader}
 use Rattle.v_frame_streams.specs.Streams.{framed_bytes, IsFrame}
 use Rattle.v_frame_streams.specs.declared.picture.Picture.{Picture}
@@ -22,7 +22,7 @@ Sizes = (ℕ × ℕ) × (Option (ℕ × ℕ) × Option (ℕ × ℕ))
 -- those of the frames of a stream
 abbrev pub sizes_in : StreamHeader → Sizes
 sizes_in header =
-    let chroma = chroma_sizes_of (subsampling_of header.colour) header.width header.height in
+    let chroma = chroma_sizes_of (subsampling_of header.color) header.width header.height in
     ((header.width, header.height), (chroma, chroma))
 
 module _ {T : Type 0} where

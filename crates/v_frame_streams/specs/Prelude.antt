@@ -1,9 +1,9 @@
 -- The words that callers' clauses cite, re-exported from one place.
 pub use Rattle.v_frame_streams.specs.Comparisons.{errors_between, errors_of_all, shown, Compares, ComparesFrames, ComparesFrom}
 pub use Rattle.v_frame_streams.specs.Comparisons.{DiffersAfter, IsDifference, TakesEach, Watches, WatchesFrom}
-pub use Rattle.v_frame_streams.specs.Conversions.{colour_in, form_of, format_in, format_of, in_format, is_same_format}
-pub use Rattle.v_frame_streams.specs.Conversions.{is_same_colour, layout_to, Format}
-pub use Rattle.v_frame_streams.specs.Layouts.{is_same_layout, HoldsColour}
+pub use Rattle.v_frame_streams.specs.Conversions.{color_in, form_of, format_in, format_of, in_format, is_same_format}
+pub use Rattle.v_frame_streams.specs.Conversions.{is_same_color, layout_to, Format}
+pub use Rattle.v_frame_streams.specs.Layouts.{is_same_layout, HoldsColor}
 pub use Rattle.v_frame_streams.specs.Copies.{copied_bytes, copied_header, edit_of, is_plain, kept, limit_of, made_stream}
 pub use Rattle.v_frame_streams.specs.Copies.{copied_extensions, plan_for, taken, without_format}
 pub use Rattle.v_frame_streams.specs.Copies.{Copies, CopiesBy, IsTakable, RefusesCrop}

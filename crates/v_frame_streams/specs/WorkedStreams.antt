@@ -1,7 +1,7 @@
 -- Small cases worked out by hand. Each line computes: it is proved by `refl`.
 use Rattle.std.specs.Prelude.{ℕ, ◌≡◌, [], ◌∷◌, Some, None, true, false, refl}
-use Rattle.v_frame_y4m.specs.declared.colour.Colour.TheVariants.{Yuv420, Yuv420Mpeg2, Yuv422}
-use Rattle.v_frame_streams.specs.Conversions.{colour_in}
+use Rattle.v_frame_y4m.specs.declared.color.Color.TheVariants.{Yuv420, Yuv420Mpeg2, Yuv422}
+use Rattle.v_frame_streams.specs.Conversions.{color_in}
 use Rattle.v_frame_streams.specs.Copies.{kept}
 use Rattle.v_frame_streams.specs.Edits.{beside, halved_size}
 use Rattle.v_frame.specs.Prelude.{one_byte, two_bytes, Tables}
@@ -41,10 +41,10 @@ taken_frames : kept
 taken_frames = refl
 
 -- samples that stay lie where the stream says
-siting_stays : colour_in (Some (Planar Yuv420)) Yuv420Mpeg2 ≡ Yuv420Mpeg2
+siting_stays : color_in (Some (Planar Yuv420)) Yuv420Mpeg2 ≡ Yuv420Mpeg2
 siting_stays = refl
 
-other_chroma_is_named : colour_in (Some (Planar Yuv422)) Yuv420Mpeg2 ≡ Yuv422
+other_chroma_is_named : color_in (Some (Planar Yuv422)) Yuv420Mpeg2 ≡ Yuv422
 other_chroma_is_named = refl
 
 -- headerless frames are their bytes

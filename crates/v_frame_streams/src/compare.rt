@@ -2,7 +2,7 @@
 ghost use Rattle.std.specs.Prelude.{◌≡◌, ◌≢◌, ◌⊎◌, ◌<◌, IfErr, IfOk, None, OnOk};
 ghost use Rattle.v_frame.specs.Prelude.{one_byte, tables_of, two_bytes};
 ghost use Rattle.v_frame_planar.specs.Planar.{sizes_of};
-ghost use Rattle.v_frame_y4m.specs.Colour.{depth_of};
+ghost use Rattle.v_frame_y4m.specs.Color.{depth_of};
 ghost use Rattle.v_frame_streams.specs.Comparisons.{errors_between, Adds, Compares, ComparesFrom, Watches, WatchesFrom};
 ghost use Rattle.v_frame_streams.specs.Formats.{HaveOneFormat};
 ghost use Rattle.v_frame_streams.specs.Pictures.{sizes_in, IsMadeFor};
@@ -48,11 +48,11 @@ pub fn compare_streams<
     progress: &mut P,
 ) -> Result<Comparison, StreamError>
     ensures formats { OnOk result (HaveOneFormat first.old.header second.old.header) }
-    ensures bytes { depth_of first.old.header.colour ≡ 8 → IfOk result (ComparesFrom one_byte
+    ensures bytes { depth_of first.old.header.color ≡ 8 → IfOk result (ComparesFrom one_byte
         (sizes_in first.old.header) (stream_of first.old) (stream_of second.old)
         (bytes_left R.remaining first.old) (bytes_left R.remaining first.new)
         (bytes_left S.remaining second.old) (bytes_left S.remaining second.new) options.now) }
-    ensures words { depth_of first.old.header.colour ≢ 8 → IfOk result (ComparesFrom two_bytes
+    ensures words { depth_of first.old.header.color ≢ 8 → IfOk result (ComparesFrom two_bytes
         (sizes_in first.old.header) (stream_of first.old) (stream_of second.old)
         (bytes_left R.remaining first.old) (bytes_left R.remaining first.new)
         (bytes_left S.remaining second.old) (bytes_left S.remaining second.new) options.now) }
@@ -60,12 +60,12 @@ pub fn compare_streams<
         → IfErr result (IsAtNextFrame second.new) }
     ensures told { IfOk result (λ found. TellsUpTo P.shows found.frames
         progress.old progress.new) }
-    ensures bytes_taken { depth_of first.old.header.colour ≡ 8 → IfOk result (WatchesFrom one_byte
+    ensures bytes_taken { depth_of first.old.header.color ≡ 8 → IfOk result (WatchesFrom one_byte
         (sizes_in first.old.header) ⟦<O as FrameObserver<u8>>⟧.takes observer.old observer.new
         (stream_of first.old) (stream_of second.old)
         (bytes_left R.remaining first.old) (bytes_left R.remaining first.new)
         (bytes_left S.remaining second.old) (bytes_left S.remaining second.new) options.now) }
-    ensures words_taken { depth_of first.old.header.colour ≢ 8 → IfOk result (WatchesFrom two_bytes
+    ensures words_taken { depth_of first.old.header.color ≢ 8 → IfOk result (WatchesFrom two_bytes
         (sizes_in first.old.header) ⟦<O as FrameObserver<u16>>⟧.takes observer.old observer.new
         (stream_of first.old) (stream_of second.old)
         (bytes_left R.remaining first.old) (bytes_left R.remaining first.new)
@@ -79,7 +79,7 @@ pub fn compare_streams<
     if let Err(problem) = test_formats(first.header(), second.header()) {
         return Err(second.refused(problem));
     }
-    if first.header().colour.bit_depth() == 8 {
+    if first.header().color.bit_depth() == 8 {
         return Ok(compare_as::<u8, _, _, _, _>(alloc, first, second, options, observer, progress)?);
     }
     Ok(compare_as::<u16, _, _, _, _>(alloc, first, second, options, observer, progress)?)

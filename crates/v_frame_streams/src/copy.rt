@@ -1,7 +1,7 @@
 //! Streams that are written once more, as they are or with other frames.
 ghost use Rattle.std.specs.Prelude.{◌≡◌, IfErr, IfOk, None, OnOk};
 ghost use Rattle.std.specs.Io.KnownBytes.{Appends};
-ghost use Rattle.v_frame_y4m.specs.Colour.{depth_of};
+ghost use Rattle.v_frame_y4m.specs.Color.{depth_of};
 ghost use Rattle.v_frame_y4m.specs.Frames.{pixel_bytes};
 ghost use Rattle.v_frame_y4m.specs.Header.{IsWritable};
 ghost use Rattle.v_frame_streams.specs.Conversions.{form_of, layout_in};
@@ -62,7 +62,7 @@ pub fn copy_stream<R: io::Read, W: io::Write, P: Progress>(
     if options.is_plain(sink.container, source.header(), source.layout()) {
         return Ok(move_stream(alloc, source, &header, sink, options, progress)?);
     }
-    if source.header().colour.bit_depth() == 8 {
+    if source.header().color.bit_depth() == 8 {
         return Ok(edit_as::<u8, _, _, _>(alloc, source, &header, sink, options, progress)?);
     }
     Ok(edit_as::<u16, _, _, _>(alloc, source, &header, sink, options, progress)?)
@@ -134,7 +134,7 @@ fn edit_as<S: Pixel, R: io::Read, W: io::Write, P: Progress>(
     options: &CopyOptions,
     progress: &mut P,
 ) -> Result<u64, StreamError>
-    requires pixels { S.form.size ≡ pixel_bytes (depth_of source.old.header.colour) }
+    requires pixels { S.form.size ≡ pixel_bytes (depth_of source.old.header.color) }
     requires takable { IsTakable (taken options.now source.old.header) source.old.header }
     requires header { header.now ≡ copied_header options.now source.old.header }
     requires writable { sink.old.container ≡ Container.Y4m → IsWritable header.now }
@@ -142,13 +142,13 @@ fn edit_as<S: Pixel, R: io::Read, W: io::Write, P: Progress>(
         (bytes_left R.remaining source.old) (bytes_left R.remaining source.new)
         (W.contents sink.old.writer.inner) (W.contents sink.new.writer.inner)
         sink.old.container options.now header.now
-        (made_bytes S.form (form_of (depth_of header.now.colour)) sink.old.container options.now
+        (made_bytes S.form (form_of (depth_of header.now.color)) sink.old.container options.now
         source.old.header source.old.layout)) }
     ensures told { IfOk result (λ found. TellsUpTo P.shows found progress.old progress.new) }
     ensures stopped { IfErr result (StopsCopy source.new sink.new) }
     ensures same { stream_of source.new ≡ stream_of source.old }
 {
-    if header.colour.bit_depth() == 8 {
+    if header.color.bit_depth() == 8 {
         return Ok(edit_stream::<S, u8, _, _, _>(alloc, source, header, sink, options, progress)?);
     }
     Ok(edit_stream::<S, u16, _, _, _>(alloc, source, header, sink, options, progress)?)
@@ -163,8 +163,8 @@ fn edit_stream<S: Pixel, T: Pixel, R: io::Read, W: io::Write, P: Progress>(
     options: &CopyOptions,
     progress: &mut P,
 ) -> Result<u64, StreamError>
-    requires pixels { S.form.size ≡ pixel_bytes (depth_of source.old.header.colour) }
-    requires written { T.form.size ≡ pixel_bytes (depth_of header.now.colour) }
+    requires pixels { S.form.size ≡ pixel_bytes (depth_of source.old.header.color) }
+    requires written { T.form.size ≡ pixel_bytes (depth_of header.now.color) }
     requires takable { IsTakable (taken options.now source.old.header) source.old.header }
     requires header { header.now ≡ copied_header options.now source.old.header }
     requires writable { sink.old.container ≡ Container.Y4m → IsWritable header.now }

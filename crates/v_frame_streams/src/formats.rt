@@ -17,7 +17,7 @@ pub(crate) fn test_formats(first: &StreamHeader, second: &StreamHeader) -> Resul
     if first.width != second.width || first.height != second.height {
         return Err(Problem::OtherSize);
     }
-    let (one, other) = (first.colour, second.colour);
+    let (one, other) = (first.color, second.color);
     if one.subsampling() != other.subsampling() {
         return Err(Problem::OtherChroma);
     }

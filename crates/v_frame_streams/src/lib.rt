@@ -5,7 +5,7 @@
 #![tactic(auto)]
 
 mod alike;
-mod colours;
+mod colors;
 mod compare;
 mod comparison;
 mod converting;

@@ -10,7 +10,7 @@ ghost use Rattle.v_frame_streams.specs.Plans.{bytes_in_layout, bytes_made, plan_
 ghost use Rattle.v_frame_streams.specs.Sources.{IsAtNextWritten};
 ghost use Rattle.v_frame_streams.specs.Streams.{written_bytes};
 
-use crate::colours::is_same_format as have_one_format;
+use crate::colors::is_same_format as have_one_format;
 use crate::converting::convert_to_format;
 use crate::edit::{Edit, edit_frame};
 use crate::error::{Problem, StreamError};
@@ -23,7 +23,7 @@ use std::io;
 use v_frame::frame::Frame;
 use v_frame::pixel::Pixel;
 use v_frame_semi_planar::SemiPlanarFormat;
-use v_frame_y4m::{Colour, StreamHeader};
+use v_frame_y4m::{Color, StreamHeader};
 
 /// Makes what is written of frames, one after the other.
 #[derive(Drop)]
@@ -51,8 +51,8 @@ impl<S: Pixel, T: Pixel> Maker<S, T> {
         ensures plan { IfOk result (λ maker. plan_of maker ≡ plan_for options.now there.now layout) }
     {
         let (width, height) = (written.width, written.height);
-        let made = blank_frame(alloc, width, height, there.colour, options.max_pixels)?;
-        let converted = converted_frame(alloc, there.colour, written, options.max_pixels)?;
+        let made = blank_frame(alloc, width, height, there.color, options.max_pixels)?;
+        let converted = converted_frame(alloc, there.color, written, options.max_pixels)?;
         Ok(Maker {
             edit: edit_of(options, there),
             made,
@@ -112,22 +112,22 @@ impl<S: Pixel, T: Pixel> Maker<S, T> {
 /// Returns a blank frame for what is written with this header, where that has another format than there is.
 fn converted_frame<T: Pixel>(
     alloc: Global,
-    there: Colour,
+    there: Color,
     written: &StreamHeader,
     max_pixels: usize,
 ) -> Result<Option<Frame<T>>, Problem>
-    ensures { let to = format_in written.now.colour in
+    ensures { let to = format_in written.now.color in
         IfOk result (λ frame. option_map shape_of frame
         ≡ (if is_same_format (format_in there) to then None else Some (to, sizes_in written.now))) }
 {
-    if have_one_format(there, written.colour) {
+    if have_one_format(there, written.color) {
         return Ok(None);
     }
     let frame = blank_frame(
         alloc,
         written.width,
         written.height,
-        written.colour,
+        written.color,
         max_pixels,
     )?;
     Ok(Some(frame))

@@ -1,11 +1,11 @@
 //! What a copy takes of a stream, and what it makes of its frames.
 
-use crate::colours::{is_same_format, is_same_layout};
+use crate::colors::{is_same_format, is_same_layout};
 use crate::edit::Rectangle;
 use crate::stream::Container;
 use v_frame_formats::VideoFormat;
 use v_frame_semi_planar::SemiPlanarFormat;
-use v_frame_y4m::{Colour, Ratio, StreamHeader};
+use v_frame_y4m::{Color, Ratio, StreamHeader};
 
 /// How many pixels a picture may have where nobody says: those of 7680x4320.
 pub const MAX_PIXELS: usize = 33_177_600;
@@ -34,7 +34,7 @@ pub struct CopyOptions {
 
 impl CopyOptions {
     ghost use Rattle.std.specs.Prelude.{◌≡◌, false, None};
-    ghost use Rattle.v_frame_streams.specs.Conversions.{colour_in, layout_in, layout_to};
+    ghost use Rattle.v_frame_streams.specs.Conversions.{color_in, layout_in, layout_to};
     ghost use Rattle.v_frame_streams.specs.Copies.{is_plain};
 
     /// Writes all frames as they are.
@@ -74,7 +74,7 @@ impl CopyOptions {
         self.crop.is_none()
             && !self.half
             && is_same_layout(self.layout_to(to, layout), layout)
-            && is_same_format(header.colour, self.colour(header.colour))
+            && is_same_format(header.color, self.color(header.color))
     }
 
     /// Returns the semi-planar layout that frames are written in, where one is asked for.
@@ -103,15 +103,15 @@ impl CopyOptions {
         }
     }
 
-    /// Returns the colour of what is written of a stream of this colour: the same one, with its chroma siting, where chroma format
+    /// Returns the color of what is written of a stream of this color: the same one, with its chroma siting, where chroma format
     /// and bit depth stay.
-    pub fn colour(&self, there: Colour) -> Colour
-        ensures { result ≡ colour_in self.now.format there }
+    pub fn color(&self, there: Color) -> Color
+        ensures { result ≡ color_in self.now.format there }
     {
         match self.format {
             None => there,
-            Some(VideoFormat::Planar(colour)) if is_same_format(there, colour) => there,
-            Some(format) => format.colour(),
+            Some(VideoFormat::Planar(color)) if is_same_format(there, color) => there,
+            Some(format) => format.color(),
         }
     }
 }

@@ -3,7 +3,7 @@ ghost use Rattle.std.specs.Prelude.{◌≡◌, ◌↔◌, ◌≤◌, ◌<◌, �
 ghost use Rattle.v_frame.specs.Prelude.{table_of, tables_of};
 ghost use Rattle.v_frame_planar.specs.Planar.{byte_count, plane_byte_count, size_of, sizes_of};
 ghost use Rattle.v_frame_planar.specs.Video.{chroma_sizes_of};
-ghost use Rattle.v_frame_y4m.specs.Colour.{depth_of, subsampling_of};
+ghost use Rattle.v_frame_y4m.specs.Color.{depth_of, subsampling_of};
 ghost use Rattle.v_frame_y4m.specs.Frames.{pixel_bytes};
 ghost use Rattle.v_frame_streams.specs.Conversions.{format_in, format_of, sizes_laid_out};
 ghost use Rattle.v_frame_streams.specs.Pictures.{sizes_in, table_in, tables_in, tables_in_layout, tables_of_bytes, AreEven, IsEven, IsMadeFor, ReadsTables};
@@ -20,7 +20,7 @@ use v_frame::pixel::Pixel;
 use v_frame::plane::Plane;
 use v_frame_planar::{Counted, PlanarError, planar_len, video_frame};
 use v_frame_semi_planar::{SemiPlanarError, SemiPlanarFormat, read_frame};
-use v_frame_y4m::{Colour, Y4mError};
+use v_frame_y4m::{Color, Y4mError};
 
 /// A frame that is read again and again, and room for its bytes.
 #[derive(Drop)]
@@ -45,7 +45,7 @@ impl<T: Pixel> Picture<T> {
     ) -> Result<Self, StreamError>
         ensures made { IfOk result (IsMadeFor T.form source.now) }
         ensures sizes { IfOk result (λ picture. sizes_of (tables_of picture.frame) ≡ sizes_in source.now.header) }
-        ensures format { IfOk result (λ picture. format_of picture.frame ≡ format_in source.now.header.colour) }
+        ensures format { IfOk result (λ picture. format_of picture.frame ≡ format_in source.now.header.color) }
         ensures small { IfOk result (λ _. source.now.header.width * source.now.header.height ≤ max_pixels) }
         ensures many { IfErr result (λ error. (limit : ℕ) → error.problem ≡ Problem.TooManyPixels limit
             → (limit ≡ max_pixels) × (max_pixels < source.now.header.width * source.now.header.height)) }
@@ -56,7 +56,7 @@ impl<T: Pixel> Picture<T> {
             alloc,
             header.width,
             header.height,
-            header.colour,
+            header.color,
             max_pixels,
         ) {
             Ok(frame) => frame,
@@ -131,18 +131,18 @@ impl<T: Pixel> Picture<T> {
     }
 }
 
-/// Returns a blank frame of a size and a colour, of which no more than so many pixels are made in memory.
+/// Returns a blank frame of a size and a color, of which no more than so many pixels are made in memory.
 pub(crate) fn blank_frame<T: Pixel>(
     alloc: Global,
     width: usize,
     height: usize,
-    colour: Colour,
+    color: Color,
     max_pixels: usize,
 ) -> Result<Frame<T>, Problem>
-    ensures sizes { let chroma = chroma_sizes_of (subsampling_of colour) width height in
+    ensures sizes { let chroma = chroma_sizes_of (subsampling_of color) width height in
         IfOk result (λ frame. sizes_of (tables_of frame) ≡ ((width, height), (chroma, chroma))) }
-    ensures format { IfOk result (λ frame. format_of frame ≡ format_in colour) }
-    ensures pixels { IfOk result (λ _. T.form.size ≡ pixel_bytes (depth_of colour)) }
+    ensures format { IfOk result (λ frame. format_of frame ≡ format_in color) }
+    ensures pixels { IfOk result (λ _. T.form.size ≡ pixel_bytes (depth_of color)) }
     ensures small { IfOk result (λ _. width * height ≤ max_pixels) }
     ensures many { IfErr result (λ problem. (limit : ℕ) → problem ≡ Problem.TooManyPixels limit
         → (limit ≡ max_pixels) × (max_pixels < width * height)) }
@@ -155,8 +155,8 @@ pub(crate) fn blank_frame<T: Pixel>(
         alloc,
         width,
         height,
-        colour.subsampling(),
-        colour.bit_depth(),
+        color.subsampling(),
+        color.bit_depth(),
         0,
     ) {
         Ok(frame) => Ok(frame),

@@ -1,12 +1,12 @@
 //! What a copy makes of a stream: its header, and the edit of each frame, tested before anything is written.
 ghost use Rattle.std.specs.Prelude.{◌≡◌, ◌+◌, ◌*◌, ◌%◌, ◌<◌, ◌≤◌, IfErr, IfOk, OnOk};
 ghost use Rattle.v_frame_planar.specs.Video.{ratio_or_one};
-ghost use Rattle.v_frame_y4m.specs.Colour.{subsampling_of};
+ghost use Rattle.v_frame_y4m.specs.Color.{subsampling_of};
 ghost use Rattle.v_frame_y4m.specs.Header.{IsWritable};
 ghost use Rattle.v_frame_streams.specs.Copies.{copied_extensions, copied_header, edit_of as made_by, or_else as or_else_of, taken, without_format, IsTakable, RefusesCrop};
 ghost use Rattle.v_frame_streams.specs.Edits.{halved_size};
 
-use crate::colours::is_same_colour;
+use crate::colors::is_same_color;
 use crate::edit::{Edit, Rectangle};
 use crate::error::Problem;
 use crate::options::CopyOptions;
@@ -34,7 +34,7 @@ pub(crate) fn edit_of(options: &CopyOptions, header: &StreamHeader) -> Edit
 {
     Edit::new(
         rectangle_of(options, header),
-        header.colour.subsampling(),
+        header.color.subsampling(),
         options.half,
     )
 }
@@ -50,7 +50,7 @@ pub(crate) fn test_crop(crop: &Rectangle, header: &StreamHeader) -> Result<(), P
     if !crop.lies_in(header.width, header.height) {
         return Err(Problem::CropOutside);
     }
-    let (columns, rows) = ratios_or_one(header.colour.subsampling());
+    let (columns, rows) = ratios_or_one(header.color.subsampling());
     if crop.x % columns != 0 || crop.y % rows != 0 {
         return Err(Problem::CropMisaligned { columns, rows });
     }
@@ -72,7 +72,7 @@ pub(crate) fn header_of(
         frame_rate: or_else(options.frame_rate, header.frame_rate),
         interlacing: header.interlacing,
         pixel_aspect: or_else(options.pixel_aspect, header.pixel_aspect),
-        colour: options.colour(header.colour),
+        color: options.color(header.color),
         extensions: extensions_of(alloc, options, header)?,
     })
 }
@@ -95,7 +95,7 @@ fn or_else(asked: Option<Ratio>, there: Option<Ratio>) -> Option<Ratio>
 }
 
 /// Returns the extensions of a header that a copy writes: those that state the chroma format are left out where the copy has
-/// another colour.
+/// another color.
 fn extensions_of(
     alloc: Global,
     options: &CopyOptions,
@@ -104,7 +104,7 @@ fn extensions_of(
     ensures { IfOk result (λ made. made ≡ copied_extensions options.now header.now) }
 {
     let extensions = copy_of(alloc, header.extensions.as_slice())?;
-    if is_same_colour(options.colour(header.colour), header.colour) {
+    if is_same_color(options.color(header.color), header.color) {
         return Ok(extensions);
     }
     Ok(leave_out_format(extensions))

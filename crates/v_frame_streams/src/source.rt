@@ -3,9 +3,9 @@ ghost use Rattle.std.specs.Prelude.{◌≡◌, ◌<◌, IfOk};
 ghost use Rattle.std.specs.Io.Buffered.{reader_remaining};
 ghost use Rattle.v_frame_y4m.specs.Frames.{frame_byte_count};
 ghost use Rattle.std.proofs.Props.{props};
-ghost use Rattle.v_frame_streams.specs.Layouts.{HoldsColour};
+ghost use Rattle.v_frame_streams.specs.Layouts.{HoldsColor};
 
-use crate::colours::holds_colour;
+use crate::colors::holds_color;
 use crate::error::{Problem, StreamError};
 use crate::stream::{Container, Place};
 use std::alloc::Global;
@@ -28,7 +28,7 @@ pub struct Source<R> {
     reader: Counted<BufReader<R>>,
     ghost sized: { frame_len ≡ frame_byte_count header },
     ghost some: { 0 < frame_len },
-    ghost holds: { HoldsColour layout header.colour } by { Prim.hlevel props },
+    ghost holds: { HoldsColor layout header.color } by { Prim.hlevel props },
 }
 
 impl<R: io::Read> Source<R> {
@@ -88,12 +88,12 @@ impl<R: io::Read> Source<R> {
         ensures header { IfOk result (λ source. source.header ≡ header) }
         ensures strict { IfOk result (λ source. source.is_lax ≡ false) }
         ensures layout { IfOk result (λ source. source.layout ≡ layout) }
-        ensures holds { OnOk result (HoldsColour layout header.colour) }
-        ensures other_layout { ¬ (HoldsColour layout header.colour)
+        ensures holds { OnOk result (HoldsColor layout header.color) }
+        ensures other_layout { ¬ (HoldsColor layout header.color)
             → IfErr result (λ error. error.problem ≡ Problem.OtherLayout) }
         ensures unread { IfOk result (λ source. bytes_left R.remaining source ≡ R.remaining reader) }
     {
-        if !holds_colour(layout, header.colour) {
+        if !holds_color(layout, header.color) {
             return Err(StreamError::at_start(place, Problem::OtherLayout));
         }
         let reader = buffered(alloc, place, reader)?;
@@ -111,7 +111,7 @@ impl<R: io::Read> Source<R> {
     ) -> Result<Self, StreamError>
     where
         R: Drop,
-        requires { HoldsColour layout header.colour }
+        requires { HoldsColor layout header.color }
         ensures layout { IfOk result (λ source. source.layout ≡ layout) }
         ensures opened { IfOk result (IsOpened place container) }
         ensures header { IfOk result (λ source. source.header ≡ header) }
@@ -150,7 +150,7 @@ impl<R: io::Read> Source<R> {
     /// Returns the semi-planar layout of the frames. `None` where they are planar.
     pub fn layout(&self) -> Option<SemiPlanarFormat>
         ensures value { result ≡ self.now.layout }
-        ensures holds { HoldsColour result self.now.header.colour }
+        ensures holds { HoldsColor result self.now.header.color }
     {
         self.layout
     }

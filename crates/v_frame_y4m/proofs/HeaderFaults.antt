@@ -7,17 +7,17 @@ use Rattle.std.proofs.lemmas.List.Elements.{All-contains}
 use Rattle.std.proofs.lemmas.Fmt.{decimal_injective}
 use Rattle.v_frame_y4m.specs.Header.{letters, of_letter, parameter_of, ratio_text, interlacing_text, FitsRatio, HasSize}
 use Rattle.v_frame_y4m.specs.Header.{IsHeader, Says}
-use Rattle.v_frame_y4m.specs.Colour.{colour_text, stated}
-use Rattle.v_frame_y4m.specs.Faults.{HasFault, HasNoNumber, HasNoRatio, HasNoInterlacing, HasNoColour, IsOfSize}
+use Rattle.v_frame_y4m.specs.Color.{color_text, stated}
+use Rattle.v_frame_y4m.specs.Faults.{HasFault, HasNoNumber, HasNoRatio, HasNoInterlacing, HasNoColor, IsOfSize}
 use Rattle.v_frame_y4m.specs.Faults.{IsRefusedFor}
-use Rattle.v_frame_y4m.specs.declared.colour.Colour.{Colour}
+use Rattle.v_frame_y4m.specs.declared.color.Color.{Color}
 use Rattle.v_frame_y4m.specs.declared.header.Ratio.{Ratio}
 use Rattle.v_frame_y4m.specs.declared.header.Interlacing.{Interlacing}
 use Rattle.v_frame_y4m.specs.declared.header.StreamHeader.{StreamHeader}
 use Rattle.v_frame_y4m.specs.declared.error.HeaderError.{HeaderError}
 use Rattle.v_frame_y4m.specs.declared.error.HeaderError.TheVariants.{NotAStream, Missing, Duplicate, Malformed}
-use Rattle.v_frame_y4m.specs.declared.error.HeaderError.TheVariants.{ZeroSize, SizeTooLarge, UnknownColour, OutOfMemory}
-use Rattle.v_frame_y4m.proofs.ColourTexts.{stated_is}
+use Rattle.v_frame_y4m.specs.declared.error.HeaderError.TheVariants.{ZeroSize, SizeTooLarge, UnknownColor, OutOfMemory}
+use Rattle.v_frame_y4m.proofs.ColorTexts.{stated_is}
 use Rattle.v_frame_y4m.proofs.HeaderTexts.{first, text_of}
 
 not_one : {A : Type 0} (x : A) → [] ≡ x ∷ [] → ⊥
@@ -58,11 +58,11 @@ module _ (parameters : List (List ℕ)) (h : StreamHeader) (says : Says paramete
   no_interlacing text None is f = not_one text (sym is ∙ f.0)
   no_interlacing text (Some i) is f = f.1 i (ap first (sym f.0 ∙ is))
 
-  no_colour : (text : List ℕ) (o : Option Colour) → stated h.colour ≡ o → of_letter 67 parameters ≡ parameter_of 67
-      colour_text o
-      → HasNoColour parameters text → ⊥
-  no_colour text None said is f = not_one text (sym is ∙ f.0)
-  no_colour text (Some c) said is f = f.1 c (stated_is h.colour c said) (ap first (sym f.0 ∙ is))
+  no_color : (text : List ℕ) (o : Option Color) → stated h.color ≡ o → of_letter 67 parameters ≡ parameter_of 67
+      color_text o
+      → HasNoColor parameters text → ⊥
+  no_color text None said is f = not_one text (sym is ∙ f.0)
+  no_color text (Some c) said is f = f.1 c (stated_is h.color c said) (ap first (sym f.0 ∙ is))
 
   twice : (l letter : ℕ) → l ≡ letter → length (of_letter l parameters) ≤ 1 → 1 < length (of_letter letter parameters)
       → ⊥
@@ -84,7 +84,7 @@ module _ (parameters : List (List ℕ)) (h : StreamHeader) (says : Says paramete
   doubled letter (suc (suc (suc (suc zero)))) within e other two = twice 65 letter e
       (one 65 ratio_text h.pixel_aspect says.pixel_aspect) two
   doubled letter (suc (suc (suc (suc (suc zero))))) within e other two = twice 67 letter e
-      (one 67 colour_text (stated h.colour) says.colour) two
+      (one 67 color_text (stated h.color) says.color) two
   doubled letter (suc (suc (suc (suc (suc (suc zero)))))) within e other two = other (sym e)
   doubled letter (suc (suc (suc (suc (suc (suc (suc k))))))) within e other two = absurd (omega (arith, within))
 
@@ -102,7 +102,7 @@ module _ (parameters : List (List ℕ)) (h : StreamHeader) (says : Says paramete
   refuted (Malformed text) other fault = malformed text.bytes fault
   refuted (ZeroSize letter) other fault = zero_size letter fault.0 fault.1
   refuted (SizeTooLarge text) other fault = no_number text.bytes fault.0
-  refuted (UnknownColour text) other fault = no_colour text.bytes (stated h.colour) refl says.colour fault
+  refuted (UnknownColor text) other fault = no_color text.bytes (stated h.color) refl says.color fault
   refuted OutOfMemory other fault = other refl
 
 pub refusal_refutes : (line : List ℕ) (error : HeaderError) (h : StreamHeader) → error ≢ OutOfMemory → IsRefusedFor
@@ -120,7 +120,7 @@ alone (Duplicate letter) f = absurd (f (λ is. absurd (search (rules, is))))
 alone (Malformed text) f = absurd (f (λ is. absurd (search (rules, is))))
 alone (ZeroSize letter) f = absurd (f (λ is. absurd (search (rules, is))))
 alone (SizeTooLarge text) f = absurd (f (λ is. absurd (search (rules, is))))
-alone (UnknownColour text) f = absurd (f (λ is. absurd (search (rules, is))))
+alone (UnknownColor text) f = absurd (f (λ is. absurd (search (rules, is))))
 alone OutOfMemory f = refl
 
 pub memory_alone : (line : List ℕ) (error : HeaderError) (h : StreamHeader) → IsHeader line h → IsRefusedFor line error

@@ -11,12 +11,12 @@ use Rattle.std.proofs.lemmas.List.Splits.{slice_split_at, slice_split_none, join
 use Rattle.v_frame_y4m.specs.Header.{letters, of_letter, parameter_of, parameters_of, pieces, ratio_text}
 use Rattle.v_frame_y4m.specs.Header.{interlacing_text, signature, spelled, header_line}
 use Rattle.v_frame_y4m.specs.Header.{FitsRatio, HasSize, IsHeader, IsInOrder, IsPiece, Says}
-use Rattle.v_frame_y4m.specs.Colour.{colour_text, stated}
-use Rattle.v_frame_y4m.specs.declared.colour.Depth.TheVariants.{Nine, Ten, Twelve, Fourteen, Sixteen}
-use Rattle.v_frame_y4m.specs.declared.colour.Colour.{Colour}
-use Rattle.v_frame_y4m.specs.declared.colour.Colour.TheVariants.{Unstated, Yuv420, Yuv420Jpeg, Yuv420Mpeg2, Yuv420Paldv}
-use Rattle.v_frame_y4m.specs.declared.colour.Colour.TheVariants.{Yuv411, Yuv422, Yuv444, Mono, Yuv420HighDepth}
-use Rattle.v_frame_y4m.specs.declared.colour.Colour.TheVariants.{Yuv422HighDepth, Yuv444HighDepth, MonoHighDepth}
+use Rattle.v_frame_y4m.specs.Color.{color_text, stated}
+use Rattle.v_frame_y4m.specs.declared.color.Depth.TheVariants.{Nine, Ten, Twelve, Fourteen, Sixteen}
+use Rattle.v_frame_y4m.specs.declared.color.Color.{Color}
+use Rattle.v_frame_y4m.specs.declared.color.Color.TheVariants.{Unstated, Yuv420, Yuv420Jpeg, Yuv420Mpeg2, Yuv420Paldv}
+use Rattle.v_frame_y4m.specs.declared.color.Color.TheVariants.{Yuv411, Yuv422, Yuv444, Mono, Yuv420HighDepth}
+use Rattle.v_frame_y4m.specs.declared.color.Color.TheVariants.{Yuv422HighDepth, Yuv444HighDepth, MonoHighDepth}
 use Rattle.v_frame_y4m.specs.declared.header.Ratio.{Ratio}
 use Rattle.v_frame_y4m.specs.declared.header.Interlacing.{Interlacing}
 use Rattle.v_frame_y4m.specs.declared.header.Interlacing.TheVariants.{Progressive, TopFirst, BottomFirst, Mixed}
@@ -49,36 +49,36 @@ plain_is (x ∷ xs) is =
     let step = plain_step (nat_eq x 32) (plain xs) is in
     All-cons IsNoSpace x xs step.0 (plain_is xs step.1)
 
-colour_plain : (c : Colour) → plain (colour_text c) ≡ true
-colour_plain Unstated = refl
-colour_plain Yuv420 = refl
-colour_plain Yuv420Jpeg = refl
-colour_plain Yuv420Mpeg2 = refl
-colour_plain Yuv420Paldv = refl
-colour_plain Yuv411 = refl
-colour_plain Yuv422 = refl
-colour_plain Yuv444 = refl
-colour_plain Mono = refl
-colour_plain (Yuv420HighDepth Nine) = refl
-colour_plain (Yuv420HighDepth Ten) = refl
-colour_plain (Yuv420HighDepth Twelve) = refl
-colour_plain (Yuv420HighDepth Fourteen) = refl
-colour_plain (Yuv420HighDepth Sixteen) = refl
-colour_plain (Yuv422HighDepth Nine) = refl
-colour_plain (Yuv422HighDepth Ten) = refl
-colour_plain (Yuv422HighDepth Twelve) = refl
-colour_plain (Yuv422HighDepth Fourteen) = refl
-colour_plain (Yuv422HighDepth Sixteen) = refl
-colour_plain (Yuv444HighDepth Nine) = refl
-colour_plain (Yuv444HighDepth Ten) = refl
-colour_plain (Yuv444HighDepth Twelve) = refl
-colour_plain (Yuv444HighDepth Fourteen) = refl
-colour_plain (Yuv444HighDepth Sixteen) = refl
-colour_plain (MonoHighDepth Nine) = refl
-colour_plain (MonoHighDepth Ten) = refl
-colour_plain (MonoHighDepth Twelve) = refl
-colour_plain (MonoHighDepth Fourteen) = refl
-colour_plain (MonoHighDepth Sixteen) = refl
+color_plain : (c : Color) → plain (color_text c) ≡ true
+color_plain Unstated = refl
+color_plain Yuv420 = refl
+color_plain Yuv420Jpeg = refl
+color_plain Yuv420Mpeg2 = refl
+color_plain Yuv420Paldv = refl
+color_plain Yuv411 = refl
+color_plain Yuv422 = refl
+color_plain Yuv444 = refl
+color_plain Mono = refl
+color_plain (Yuv420HighDepth Nine) = refl
+color_plain (Yuv420HighDepth Ten) = refl
+color_plain (Yuv420HighDepth Twelve) = refl
+color_plain (Yuv420HighDepth Fourteen) = refl
+color_plain (Yuv420HighDepth Sixteen) = refl
+color_plain (Yuv422HighDepth Nine) = refl
+color_plain (Yuv422HighDepth Ten) = refl
+color_plain (Yuv422HighDepth Twelve) = refl
+color_plain (Yuv422HighDepth Fourteen) = refl
+color_plain (Yuv422HighDepth Sixteen) = refl
+color_plain (Yuv444HighDepth Nine) = refl
+color_plain (Yuv444HighDepth Ten) = refl
+color_plain (Yuv444HighDepth Twelve) = refl
+color_plain (Yuv444HighDepth Fourteen) = refl
+color_plain (Yuv444HighDepth Sixteen) = refl
+color_plain (MonoHighDepth Nine) = refl
+color_plain (MonoHighDepth Ten) = refl
+color_plain (MonoHighDepth Twelve) = refl
+color_plain (MonoHighDepth Fourteen) = refl
+color_plain (MonoHighDepth Sixteen) = refl
 
 interlacing_plain : (i : Interlacing) → plain (interlacing_text i) ≡ true
 interlacing_plain Progressive = refl
@@ -113,9 +113,9 @@ interlacings_plain : (o : Option Interlacing) → IfSome o (λ a. NoSpace (inter
 interlacings_plain None = tt
 interlacings_plain (Some i) = plain_is (interlacing_text i) (interlacing_plain i)
 
-colours_plain : (o : Option Colour) → IfSome o (λ a. NoSpace (colour_text a))
-colours_plain None = tt
-colours_plain (Some c) = plain_is (colour_text c) (colour_plain c)
+colors_plain : (o : Option Color) → IfSome o (λ a. NoSpace (color_text a))
+colors_plain None = tt
+colors_plain (Some c) = plain_is (color_text c) (color_plain c)
 
 extensions_plain : (xs : List (List ℕ)) → All NoSpace xs → All NoSpace (map (λ (text : List ℕ). 88 ∷ text) xs)
 extensions_plain xs each = All-map NoSpace (λ (text : List ℕ). 88 ∷ text) xs (All-weaker NoSpace (λ x. NoSpace (88 ∷ x))
@@ -126,7 +126,7 @@ parameters_plain h size each =
     let fs = parameter_of 70 ratio_text h.frame_rate in
     let is = parameter_of 73 interlacing_text h.interlacing in
     let as' = parameter_of 65 ratio_text h.pixel_aspect in
-    let cs = parameter_of 67 colour_text (stated h.colour) in
+    let cs = parameter_of 67 color_text (stated h.color) in
     let xs = map (λ (text : List ℕ). 88 ∷ text) h.extensions in
     All-cons NoSpace (87 ∷ decimal h.width) ((72 ∷ decimal h.height) ∷ (fs ++ (is ++ (as' ++ (cs ++ xs)))))
     (All-cons IsNoSpace 87 (decimal h.width) refl
@@ -140,7 +140,7 @@ parameters_plain h size each =
     (interlacings_plain h.interlacing))
     (All-append NoSpace as' (cs ++ xs) (optional_plain 65 ratio_text h.pixel_aspect refl
     (rates_plain h.pixel_aspect size.pixel_aspect))
-    (All-append NoSpace cs xs (optional_plain 67 colour_text (stated h.colour) refl (colours_plain (stated h.colour)))
+    (All-append NoSpace cs xs (optional_plain 67 color_text (stated h.color) refl (colors_plain (stated h.color)))
     (extensions_plain h.extensions each))))))
 
 -- a line is cut at its spaces into what was joined by them
@@ -195,7 +195,7 @@ module _ (h : StreamHeader) where
   c = parameter_of 65 ratio_text h.pixel_aspect
 
   abbrev pub d : List (List ℕ)
-  d = parameter_of 67 colour_text (stated h.colour)
+  d = parameter_of 67 color_text (stated h.color)
 
   abbrev pub e : List (List ℕ)
   e = map (λ (text : List ℕ). 88 ∷ text) h.extensions
@@ -216,7 +216,7 @@ module _ (h : StreamHeader) where
       (pick l 65 ratio_text h.pixel_aspect)
       ∙ ap (λ (x : List (List ℕ)). cond (nat_eq 70 l) a [] ++
       (cond (nat_eq 73 l) b [] ++ (cond (nat_eq 65 l) c [] ++ (x ++ of_letter l e))))
-      (pick l 67 colour_text (stated h.colour))
+      (pick l 67 color_text (stated h.color))
       ∙ ap (λ (x : List (List ℕ)). cond (nat_eq 70 l) a [] ++
       (cond (nat_eq 73 l) b [] ++ (cond (nat_eq 65 l) c [] ++ (cond (nat_eq 67 l) d [] ++ x))))
       (pick_extensions l h.extensions)
@@ -247,8 +247,8 @@ module _ (h : StreamHeader) where
       (All-append HasLetter b (c ++ (d ++ e))
       (known_one 73 interlacing_text h.interlacing ii)
       (All-append HasLetter c (d ++ e) (known_one 65 ratio_text h.pixel_aspect aa)
-      (All-append HasLetter d e (known_one 67 colour_text
-      (stated h.colour) cc') (known_extensions h.extensions))))))
+      (All-append HasLetter d e (known_one 67 color_text
+      (stated h.color) cc') (known_extensions h.extensions))))))
 
   pub says_itself : Says (parameters_of h) h
   says_itself = record {
@@ -257,7 +257,7 @@ module _ (h : StreamHeader) where
     frame_rate = behind 70 ∙ append-nil a;
     interlacing = behind 73 ∙ append-nil b;
     pixel_aspect = behind 65 ∙ append-nil c;
-    colour = behind 67 ∙ append-nil d;
+    color = behind 67 ∙ append-nil d;
     extensions = behind 88;
     known = known_all;
   }
@@ -291,7 +291,7 @@ module _ (h : StreamHeader) where
       (a ++ (b ++ (x ++ (of_letter 67 ps ++
       (of_letter 88 ps ++ [])))))) says.pixel_aspect
       ∙ ap (λ (x : List (List ℕ)). (87 ∷ decimal h.width) ∷ (72 ∷ decimal h.height) ∷
-      (a ++ (b ++ (c ++ (x ++ (of_letter 88 ps ++ [])))))) says.colour
+      (a ++ (b ++ (c ++ (x ++ (of_letter 88 ps ++ [])))))) says.color
       ∙ ap (λ (x : List (List ℕ)). (87 ∷ decimal h.width) ∷ (72 ∷ decimal h.height) ∷ (a ++ (b ++ (c ++ (d ++ x)))))
       (append-nil
       (of_letter 88 ps) ∙ says.extensions)

@@ -10,13 +10,13 @@ use Rattle.std.proofs.lemmas.Fmt.{decimal_injective, digits_decimal}
 use Rattle.std.proofs.lemmas.Str.Parse.{not_in_digits}
 use Rattle.std.proofs.lemmas.List.Splits.{slice_split_at, slice_split_none}
 use Rattle.v_frame_y4m.specs.Header.{parameter_of, ratio_text, interlacing_text, FitsRatio, HasSize, Says}
-use Rattle.v_frame_y4m.specs.declared.colour.Colour.{Colour}
+use Rattle.v_frame_y4m.specs.declared.color.Color.{Color}
 use Rattle.v_frame_y4m.specs.declared.header.Ratio.{Ratio}
 use Rattle.v_frame_y4m.specs.declared.header.Interlacing.{Interlacing}
 use Rattle.v_frame_y4m.specs.declared.header.Interlacing.TheVariants.{Progressive, TopFirst, BottomFirst, Mixed}
 use Rattle.v_frame_y4m.specs.declared.header.Interlacing.TheVariants.{Unknown}
 use Rattle.v_frame_y4m.specs.declared.header.StreamHeader.{StreamHeader}
-use Rattle.v_frame_y4m.proofs.ColourTexts.{one_colour}
+use Rattle.v_frame_y4m.proofs.ColorTexts.{one_color}
 use Rattle.v_frame_y4m.proofs.NumberTexts.{own}
 
 -- the text after the letter of the first parameter
@@ -96,7 +96,7 @@ module _ (parameters : List (List ℕ)) (h k : StreamHeader) (a : Says parameter
       ∙ interlacing_again k.interlacing in
       let aspect = one_optional_ratio 65 h.pixel_aspect k.pixel_aspect s.pixel_aspect t.pixel_aspect
       (sym a.pixel_aspect ∙ b.pixel_aspect) in
-      let colour = one_colour h.colour k.colour (sym a.colour ∙ b.colour) in
+      let color = one_color h.color k.color (sym a.color ∙ b.color) in
       let extensions = sym (without_letters h.extensions) ∙ ap (map (drop 1)) (sym a.extensions ∙ b.extensions) ∙
       without_letters k.extensions in
       ap (λ (x : ℕ). record h { width = x }) width
@@ -108,6 +108,6 @@ module _ (parameters : List (List ℕ)) (h k : StreamHeader) (a : Says parameter
         frame_rate = k.frame_rate;
         interlacing = x;
       }) interlacing
-      ∙ ap (λ (x : Option Ratio). record k { pixel_aspect = x; colour = h.colour; extensions = h.extensions }) aspect
-      ∙ ap (λ (x : Colour). record k { colour = x; extensions = h.extensions }) colour
+      ∙ ap (λ (x : Option Ratio). record k { pixel_aspect = x; color = h.color; extensions = h.extensions }) aspect
+      ∙ ap (λ (x : Color). record k { color = x; extensions = h.extensions }) color
       ∙ ap (λ (x : List (List ℕ)). record k { extensions = x }) extensions

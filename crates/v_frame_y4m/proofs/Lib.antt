@@ -1,6 +1,6 @@
 pub mod CleanPieces
-pub mod ColourTexts
-pub mod ColoursFound
+pub mod ColorTexts
+pub mod ColorsFound
 pub mod FrameStops
 pub mod HeaderFaults
 pub mod HeaderLines

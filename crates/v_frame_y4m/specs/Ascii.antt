@@ -50,8 +50,8 @@ interlacing_letter = 73
 abbrev pub aspect_letter : ℕ
 aspect_letter = 65
 
-abbrev pub colour_letter : ℕ
-colour_letter = 67
+abbrev pub color_letter : ℕ
+color_letter = 67
 
 abbrev pub extension_letter : ℕ
 extension_letter = 88
@@ -64,5 +64,5 @@ signs_by_name = refl
 
 letters_by_name : codes "WHFIACX"
     ≡ width_letter ∷ height_letter ∷ rate_letter ∷ interlacing_letter ∷ aspect_letter
-    ∷ colour_letter ∷ extension_letter ∷ []
+    ∷ color_letter ∷ extension_letter ∷ []
 letters_by_name = refl

@@ -2,16 +2,16 @@
 use Rattle.std.specs.Prelude.{ℕ, ◌≡◌, ◌≢◌, ◌^◌, ◌<◌, ◌≤◌, ◌⊎◌, All, Contains, List, [], ◌∷◌, drop, length, slice_index}
 use Rattle.std.specs.Prelude.{Some}
 use Rattle.std.specs.Fmt.{decimal}
-use Rattle.v_frame_y4m.specs.Ascii.{aspect_letter, colour_letter, digit_nine, digit_zero, extension_letter}
+use Rattle.v_frame_y4m.specs.Ascii.{aspect_letter, color_letter, digit_nine, digit_zero, extension_letter}
 use Rattle.v_frame_y4m.specs.Ascii.{height_letter, interlacing_letter, rate_letter, width_letter}
-use Rattle.v_frame_y4m.specs.Colour.{colour_text, stated}
+use Rattle.v_frame_y4m.specs.Color.{color_text, stated}
 use Rattle.v_frame_y4m.specs.Header.{of_letter, letters, interlacing_text, pieces, ratio_text, signature, FitsRatio}
-use Rattle.v_frame_y4m.specs.declared.colour.Colour.{Colour}
+use Rattle.v_frame_y4m.specs.declared.color.Color.{Color}
 use Rattle.v_frame_y4m.specs.declared.header.Ratio.{Ratio}
 use Rattle.v_frame_y4m.specs.declared.header.Interlacing.{Interlacing}
 use Rattle.v_frame_y4m.specs.declared.error.HeaderError.{HeaderError}
 use Rattle.v_frame_y4m.specs.declared.error.HeaderError.TheVariants.{NotAStream, Missing, Duplicate, Malformed}
-use Rattle.v_frame_y4m.specs.declared.error.HeaderError.TheVariants.{ZeroSize, SizeTooLarge, UnknownColour, OutOfMemory}
+use Rattle.v_frame_y4m.specs.declared.error.HeaderError.TheVariants.{ZeroSize, SizeTooLarge, UnknownColor, OutOfMemory}
 
 -- the bytes are ASCII digits without a leading zero
 abbrev pub AreDigits : List ℕ → Type 0
@@ -40,10 +40,10 @@ module _ (parameters : List (List ℕ)) where
       (of_letter interlacing_letter parameters ≡ text ∷ [])
       × ((i : Interlacing) → text ≢ interlacing_letter ∷ interlacing_text i)
 
-  abbrev pub HasNoColour : List ℕ → Type 0
-  HasNoColour text =
-      (of_letter colour_letter parameters ≡ text ∷ [])
-      × ((c : Colour) → stated c ≡ Some c → text ≢ colour_letter ∷ colour_text c)
+  abbrev pub HasNoColor : List ℕ → Type 0
+  HasNoColor text =
+      (of_letter color_letter parameters ≡ text ∷ [])
+      × ((c : Color) → stated c ≡ Some c → text ≢ color_letter ∷ color_text c)
 
   -- W or H
   abbrev pub IsOfSize : (ℕ → Type 0) → Type 0
@@ -67,7 +67,7 @@ module _ (parameters : List (List ℕ)) where
   HasFault (SizeTooLarge text) =
       IsOfSize (λ letter. HasNoNumber letter text.bytes)
       × AreDigits (drop 1 text.bytes)
-  HasFault (UnknownColour text) = HasNoColour text.bytes
+  HasFault (UnknownColor text) = HasNoColor text.bytes
   HasFault OutOfMemory = Unit {0}
 
 -- the error may come at this line

@@ -2,7 +2,7 @@
 use Rattle.std.specs.Prelude.{ℕ, ◌==◌, if◌then◌else◌}
 use Rattle.v_frame_planar.specs.Planar.{byte_count}
 use Rattle.v_frame_planar.specs.Video.{chroma_sizes_of}
-use Rattle.v_frame_y4m.specs.Colour.{depth_of, subsampling_of}
+use Rattle.v_frame_y4m.specs.Color.{depth_of, subsampling_of}
 use Rattle.v_frame_y4m.specs.declared.header.StreamHeader.{StreamHeader}
 
 -- how many bytes a pixel of so many bits has
@@ -12,5 +12,5 @@ pixel_bytes depth = if depth == 8 then 1 else 2
 -- how many planar bytes the frames of a stream have
 abbrev pub frame_byte_count : StreamHeader → ℕ
 frame_byte_count h =
-    let chroma = chroma_sizes_of (subsampling_of h.colour) h.width h.height in
-    byte_count (pixel_bytes (depth_of h.colour)) ((h.width, h.height), (chroma, chroma))
+    let chroma = chroma_sizes_of (subsampling_of h.color) h.width h.height in
+    byte_count (pixel_bytes (depth_of h.color)) ((h.width, h.height), (chroma, chroma))

@@ -5,9 +5,9 @@ use Rattle.std.specs.Prelude.{map, slice_index, IfSome, Option, Some, None}
 use Rattle.std.specs.Borrow.{Bor}
 use Rattle.std.specs.List.{slice_split}
 use Rattle.std.specs.Fmt.{decimal}
-use Rattle.v_frame_y4m.specs.Ascii.{aspect_letter, colon, colour_letter, extension_letter, height_letter}
+use Rattle.v_frame_y4m.specs.Ascii.{aspect_letter, colon, color_letter, extension_letter, height_letter}
 use Rattle.v_frame_y4m.specs.Ascii.{interlacing_letter, line_feed, rate_letter, space, width_letter}
-use Rattle.v_frame_y4m.specs.Colour.{colour_text, stated}
+use Rattle.v_frame_y4m.specs.Color.{color_text, stated}
 use Rattle.v_frame_y4m.specs.declared.header.Ratio.{Ratio}
 use Rattle.v_frame_y4m.specs.declared.header.Interlacing.{Interlacing}
 use Rattle.v_frame_y4m.specs.declared.header.Interlacing.TheVariants.{Progressive, TopFirst, BottomFirst, Mixed}
@@ -63,8 +63,8 @@ pub record Says (parameters : List (List ℕ)) (h : StreamHeader) : Type 0 where
       ≡ parameter_of interlacing_letter interlacing_text h.interlacing
   pub pixel_aspect : of_letter aspect_letter parameters
       ≡ parameter_of aspect_letter ratio_text h.pixel_aspect
-  pub colour : of_letter colour_letter parameters
-      ≡ parameter_of colour_letter colour_text (stated h.colour)
+  pub color : of_letter color_letter parameters
+      ≡ parameter_of color_letter color_text (stated h.color)
   pub extensions : of_letter extension_letter parameters
       ≡ map (λ text. extension_letter ∷ text) h.extensions
   pub known : All (λ parameter. Contains letters (slice_index parameter 0)) parameters
@@ -90,7 +90,7 @@ parameters_of h =
     ∷ (parameter_of rate_letter ratio_text h.frame_rate
     ++ (parameter_of interlacing_letter interlacing_text h.interlacing
     ++ (parameter_of aspect_letter ratio_text h.pixel_aspect
-    ++ (parameter_of colour_letter colour_text (stated h.colour)
+    ++ (parameter_of color_letter color_text (stated h.color)
     ++ map (λ text. extension_letter ∷ text) h.extensions))))
 
 -- each after a space

@@ -1,5 +1,5 @@
 pub mod Ascii
-pub mod Colour
+pub mod Color
 pub mod Faults
 pub mod Frames
 pub mod Header

@@ -26,9 +26,9 @@ pub enum HeaderError {
     /// The width or the height is above `usize::MAX`.
     #[error("size too large `{0}`")]
     SizeTooLarge(Text),
-    /// The colour, `C` and what follows, is none of those that are read.
-    #[error("unknown colour `{0}`")]
-    UnknownColour(Text),
+    /// The color, `C` and what follows, is none of those that are read.
+    #[error("unknown color `{0}`")]
+    UnknownColor(Text),
     /// A request for memory was refused.
     #[error("out of memory")]
     OutOfMemory,

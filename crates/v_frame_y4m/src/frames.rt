@@ -3,7 +3,7 @@ ghost use Rattle.std.specs.Prelude.{◌≡◌, ◌*◌, ◌<◌, ◌≤◌, IfOk
 ghost use Rattle.v_frame.specs.Prelude.{tables_of, usize_max};
 ghost use Rattle.v_frame_planar.specs.Planar.{plane_byte_count, sizes_of};
 ghost use Rattle.v_frame_planar.specs.Video.{chroma_sizes_of, plain_tables, video_refusal_of, video_request, IsBlankVideo};
-ghost use Rattle.v_frame_y4m.specs.Colour.{depth_of, subsampling_of};
+ghost use Rattle.v_frame_y4m.specs.Color.{depth_of, subsampling_of};
 ghost use Rattle.v_frame_y4m.specs.Frames.{frame_byte_count};
 
 use crate::header::StreamHeader;
@@ -17,7 +17,7 @@ impl StreamHeader {
     /// Returns a frame to read the frames of the stream into: of its size, its format and its bit depth, with all planes
     /// zero.
     ///
-    /// The pixels are `u8` where [`Colour::bit_depth`](crate::Colour::bit_depth) is 8, else `u16`. The border has `padding`
+    /// The pixels are `u8` where [`Color::bit_depth`](crate::Color::bit_depth) is 8, else `u16`. The border has `padding`
     /// pixels on all four sides of luma, or so many more that it divides; 0 serves a reader.
     ///
     /// # Errors
@@ -27,13 +27,13 @@ impl StreamHeader {
     /// request for memory was refused.
     pub fn frame<T: Pixel>(&self, alloc: Global, padding: usize) -> Result<Frame<T>, FrameError>
         ensures refused { MatchOption (video_refusal_of T.BYTES (video_request self.now.width
-            self.now.height (subsampling_of self.now.colour) (depth_of self.now.colour) padding))
+            self.now.height (subsampling_of self.now.color) (depth_of self.now.color) padding))
             (IsOkUnless result FrameError.OutOfMemory) (λ e. result ≡ Err e) }
         ensures blank { IfOk result (IsBlankVideo T.ZERO (video_request self.now.width
-            self.now.height (subsampling_of self.now.colour) (depth_of self.now.colour) padding)) }
+            self.now.height (subsampling_of self.now.color) (depth_of self.now.color) padding)) }
         ensures tables { IfOk result (λ frame. tables_of frame ≡ plain_tables T.ZERO
-            self.now.width self.now.height (subsampling_of self.now.colour)) }
-        ensures sizes { let chroma = chroma_sizes_of (subsampling_of self.now.colour)
+            self.now.width self.now.height (subsampling_of self.now.color)) }
+        ensures sizes { let chroma = chroma_sizes_of (subsampling_of self.now.color)
             self.now.width self.now.height in
             IfOk result (λ frame. sizes_of (tables_of frame)
             ≡ ((self.now.width, self.now.height), (chroma, chroma))) }
@@ -42,8 +42,8 @@ impl StreamHeader {
             alloc,
             self.width,
             self.height,
-            self.colour.subsampling(),
-            self.colour.bit_depth(),
+            self.color.subsampling(),
+            self.color.bit_depth(),
             padding,
         )
     }
@@ -54,9 +54,9 @@ impl StreamHeader {
     pub fn frame_len(&self) -> Option<usize>
         ensures { let count = frame_byte_count self.now in SomeIff result (count ≤ usize_max) count }
     {
-        let pixel = if self.colour.bit_depth() == 8 { 1 } else { 2 };
+        let pixel = if self.color.bit_depth() == 8 { 1 } else { 2 };
         let luma = plane_len(self.width, self.height, pixel)?;
-        let chroma = chroma_len(self.width, self.height, self.colour.subsampling(), pixel)?;
+        let chroma = chroma_len(self.width, self.height, self.color.subsampling(), pixel)?;
         luma.checked_add(chroma.checked_mul(2)?)
     }
 }

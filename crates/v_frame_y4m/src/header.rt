@@ -3,7 +3,7 @@ ghost use Rattle.std.specs.Prelude.{◌≡◌, ◌≢◌, ◌↔◌, string_byte
 ghost use Rattle.v_frame_y4m.specs.Header.{interlacing_text, ratio_text, IsPiece, IsWritable};
 ghost use Rattle.v_frame_y4m.specs.declared.header.Interlacing.{Interlacing as TheInterlacing};
 
-use crate::colour::Colour;
+use crate::color::Color;
 use std::alloc::{AllocError, Global};
 use v_frame::sequence::Sequence;
 
@@ -91,8 +91,8 @@ pub struct StreamHeader {
     pub interlacing: Option<Interlacing>,
     /// `A`, the width of a pixel beside its height.
     pub pixel_aspect: Option<Ratio>,
-    /// `C`. [`Colour::Unstated`] where it is missing.
-    pub colour: Colour,
+    /// `C`. [`Color::Unstated`] where it is missing.
+    pub color: Color,
     /// What stands after the letter of each `X`, as it came and in this order. In a stream these have no space and no line
     /// feed.
     pub extensions: Sequence<Sequence<u8>>,

@@ -2,13 +2,13 @@
 ghost use Rattle.std.specs.Prelude.{ℕ, ◌≡◌, ◌≢◌, ◌<◌, List, All, drop, None, Option, Some};
 ghost use Rattle.v_frame.specs.Prelude.{ChromaSubsampling as TheFormat};
 ghost use Rattle.v_frame_y4m.specs.Ascii.{carriage_return};
-ghost use Rattle.v_frame_y4m.specs.Colour.{colour_with, depth_of, siting_of, subsampling_of};
+ghost use Rattle.v_frame_y4m.specs.Color.{color_with, depth_of, siting_of, subsampling_of};
 ghost use Rattle.v_frame_y4m.specs.Faults.{IsRefusedFor};
 ghost use Rattle.v_frame_y4m.specs.Header.{header_line as line_of, pieces, HasSize, IsHeader, IsInOrder, IsPiece, IsWritable};
 ghost use Rattle.v_frame_y4m.specs.Lax.{last_byte, strict_line, IsLaxFrameLine};
 ghost use Rattle.v_frame_y4m.specs.Streams.{IsFrameLine};
-ghost use Rattle.v_frame_y4m.specs.declared.colour.ChromaSiting.{ChromaSiting as TheSiting};
-ghost use Rattle.v_frame_y4m.specs.declared.colour.Colour.{Colour as TheColour};
+ghost use Rattle.v_frame_y4m.specs.declared.color.ChromaSiting.{ChromaSiting as TheSiting};
+ghost use Rattle.v_frame_y4m.specs.declared.color.Color.{Color as TheColor};
 ghost use Rattle.v_frame_y4m.specs.declared.error.HeaderError.{HeaderError as TheError};
 ghost use Rattle.v_frame_y4m.specs.declared.header.StreamHeader.{StreamHeader as TheHeader};
 
@@ -44,7 +44,7 @@ pub fn written_headers_are_read_back()
         → IsRefusedFor (line_of h) error → error ≡ HeaderError.OutOfMemory }
 {}
 
-/// A header that has a line still has one where its numbers, its interlacing and its colour are others and no size is 0.
+/// A header that has a line still has one where its numbers, its interlacing and its color are others and no size is 0.
 pub fn changed_headers_are_writable()
     ensures { (h k : TheHeader) → IsWritable h → k.extensions ≡ h.extensions
         → 0 < k.width → 0 < k.height → IsWritable k }
@@ -74,12 +74,12 @@ pub fn frame_lines_are_read_as_lax_ones()
     ensures { (line : List ℕ) → IsFrameLine line → IsLaxFrameLine line }
 {}
 
-/// A colour that is found for a format, a bit depth and a siting has these three, and where none is found, none has them.
-pub fn found_colours_have_the_three()
-    ensures has { (s : TheFormat) (bits : ℕ) (siting : Option TheSiting) (c : TheColour)
-        → colour_with s bits siting ≡ Some c
+/// A color that is found for a format, a bit depth and a siting has these three, and where none is found, none has them.
+pub fn found_colors_have_the_three()
+    ensures has { (s : TheFormat) (bits : ℕ) (siting : Option TheSiting) (c : TheColor)
+        → color_with s bits siting ≡ Some c
         → (subsampling_of c ≡ s) × ((depth_of c ≡ bits) × (siting_of c ≡ siting)) }
-    ensures none { (s : TheFormat) (bits : ℕ) (siting : Option TheSiting) (c : TheColour)
-        → colour_with s bits siting ≡ None
+    ensures none { (s : TheFormat) (bits : ℕ) (siting : Option TheSiting) (c : TheColor)
+        → color_with s bits siting ≡ None
         → subsampling_of c ≡ s → depth_of c ≡ bits → siting_of c ≢ siting }
 {}

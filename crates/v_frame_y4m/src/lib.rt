@@ -1,4 +1,4 @@
-//! YUV4MPEG2 streams: raw planar video after a header line that says its size, its rate and its colour.
+//! YUV4MPEG2 streams: raw planar video after a header line that says its size, its rate and its color.
 //!
 //! ```text
 //! YUV4MPEG2 W176 H144 F25:1 Ip A1:1 C420jpeg XYSCSS=420JPEG    the header line
@@ -18,7 +18,7 @@
 //! what the calls leave.
 #![tactic(auto)]
 
-mod colour;
+mod color;
 mod error;
 mod frames;
 mod header;
@@ -32,7 +32,7 @@ mod parsing;
 mod streams;
 mod text;
 
-pub use colour::{ChromaSiting, Colour, Depth};
+pub use color::{ChromaSiting, Color, Depth};
 pub use error::{HeaderError, Y4mError};
 pub use header::{Interlacing, Ratio, StreamHeader};
 pub use lax::{

@@ -1,10 +1,10 @@
 //! The line that is written for a header.
 ghost use Rattle.std.specs.Prelude.{◌≡◌, ◌++◌, ◌∷◌, [], decimal, map, IfOk, OnOk};
-ghost use Rattle.v_frame_y4m.specs.Ascii.{colour_letter, extension_letter, height_letter, interlacing_letter, line_feed, space, width_letter};
-ghost use Rattle.v_frame_y4m.specs.Colour.{colour_text, stated};
+ghost use Rattle.v_frame_y4m.specs.Ascii.{color_letter, extension_letter, height_letter, interlacing_letter, line_feed, space, width_letter};
+ghost use Rattle.v_frame_y4m.specs.Color.{color_text, stated};
 ghost use Rattle.v_frame_y4m.specs.Header.{header_line, interlacing_text, parameter_of, parameters_of, ratio_text, spelled};
 
-use crate::colour::Colour;
+use crate::color::Color;
 use crate::header::{Interlacing, Ratio, StreamHeader};
 use crate::parsing::SIGNATURE;
 use std::alloc::{AllocError, Global};
@@ -49,7 +49,7 @@ fn push_parameters(
     push_ratio(alloc, line, b'F', header.frame_rate)?;
     push_interlacing(line, header.interlacing)?;
     push_ratio(alloc, line, b'A', header.pixel_aspect)?;
-    push_colour(line, header.colour)?;
+    push_color(line, header.color)?;
     push_extensions(line, header.extensions.as_slice())
 }
 
@@ -103,15 +103,15 @@ fn push_interlacing(line: &mut Vec<u8>, interlacing: Option<Interlacing>) -> Res
     }
 }
 
-/// Adds the colour, where a parameter says it.
-fn push_colour(line: &mut Vec<u8>, colour: Colour) -> Result<(), AllocError>
+/// Adds the color, where a parameter says it.
+fn push_color(line: &mut Vec<u8>, color: Color) -> Result<(), AllocError>
     ensures { OnOk result (line.new.items ≡ line.old.items
-        ++ spelled (parameter_of colour_letter colour_text (stated colour))) }
+        ++ spelled (parameter_of color_letter color_text (stated color))) }
 {
-    if colour == Colour::Unstated {
+    if color == Color::Unstated {
         return Ok(());
     }
-    push(line, b'C', colour.text().as_bytes())
+    push(line, b'C', color.text().as_bytes())
 }
 
 /// Adds the extensions.

@@ -1,11 +1,11 @@
 //! Headers from their lines.
 ghost use Rattle.std.specs.Prelude.{◌≡◌, ◌<◌, ◌⊎◌, ◌↔◌, ◌∷◌, [], decimal, IfOk, IfErr, IsTrue};
-ghost use Rattle.v_frame_y4m.specs.Ascii.{aspect_letter, colour_letter, height_letter, interlacing_letter, rate_letter, width_letter};
-ghost use Rattle.v_frame_y4m.specs.Colour.{colour_text, stated};
+ghost use Rattle.v_frame_y4m.specs.Ascii.{aspect_letter, color_letter, height_letter, interlacing_letter, rate_letter, width_letter};
+ghost use Rattle.v_frame_y4m.specs.Color.{color_text, stated};
 ghost use Rattle.v_frame_y4m.specs.Faults.{HasFault, IsRefusedFor};
 ghost use Rattle.v_frame_y4m.specs.Header.{interlacing_text, of_letter, parameter_of, ratio_text, signature, texts_of, HasSize, IsHeader, Says};
 
-use crate::colour::Colour;
+use crate::color::Color;
 use crate::error::HeaderError;
 use crate::header::{Interlacing, Ratio, StreamHeader};
 use crate::numbers::{are_digits, number, ratio};
@@ -52,7 +52,7 @@ fn header_of(alloc: Global, parameters: &[&[u8]]) -> Result<StreamHeader, Header
     let (width, height) = size(alloc, parameters)?;
     let (frame_rate, pixel_aspect) = ratios(alloc, parameters)?;
     let interlacing = interlacing(alloc, parameters)?;
-    let colour = colour(alloc, parameters)?;
+    let color = color(alloc, parameters)?;
     let extensions = extensions(alloc, parameters)?;
     Ok(StreamHeader {
         width,
@@ -60,7 +60,7 @@ fn header_of(alloc: Global, parameters: &[&[u8]]) -> Result<StreamHeader, Header
         frame_rate,
         interlacing,
         pixel_aspect,
-        colour,
+        color,
         extensions,
     })
 }
@@ -145,17 +145,17 @@ fn interlacing(alloc: Global, parameters: &[&[u8]]) -> Result<Option<Interlacing
     }
 }
 
-/// Returns the colour.
-fn colour(alloc: Global, parameters: &[&[u8]]) -> Result<Colour, HeaderError>
-    ensures ok { IfOk result (λ c. of_letter colour_letter (texts_of parameters.now)
-        ≡ parameter_of colour_letter colour_text (stated c)) }
+/// Returns the color.
+fn color(alloc: Global, parameters: &[&[u8]]) -> Result<Color, HeaderError>
+    ensures ok { IfOk result (λ c. of_letter color_letter (texts_of parameters.now)
+        ≡ parameter_of color_letter color_text (stated c)) }
     ensures error { IfErr result (HasFault (texts_of parameters.now)) }
 {
     let Some((text, value)) = unique_parameter(parameters, b'C')? else {
-        return Ok(Colour::Unstated);
+        return Ok(Color::Unstated);
     };
-    match Colour::parse(value) {
+    match Color::parse(value) {
         Some(found) => Ok(found),
-        None => Err(HeaderError::UnknownColour(Text::new(alloc, text)?)),
+        None => Err(HeaderError::UnknownColor(Text::new(alloc, text)?)),
     }
 }

@@ -2,9 +2,9 @@
 use Rattle.std.proofs.Common.{ℕ, ◌≡◌, sym, subst}
 use Rattle.std.specs.Prelude.{Option, Some}
 use Rattle.v_frame.specs.Prelude.{ChromaSubsampling}
-use Rattle.v_frame_y4m.specs.Colour.{colour_with, depth_of, siting_of, subsampling_of}
-use Rattle.v_frame_y4m.specs.declared.colour.ChromaSiting.{ChromaSiting}
-use Rattle.v_frame_y4m.specs.declared.colour.Colour.{Colour}
+use Rattle.v_frame_y4m.specs.Color.{color_with, depth_of, siting_of, subsampling_of}
+use Rattle.v_frame_y4m.specs.declared.color.ChromaSiting.{ChromaSiting}
+use Rattle.v_frame_y4m.specs.declared.color.Color.{Color}
 use Rattle.v_frame_y4m.specs.declared.header.StreamHeader.{StreamHeader}
 use Rattle.v_frame_y4m_c.specs.Header.{format_number, interlacing_number, numbers_of, ratio_numbers, siting_number}
 use Rattle.v_frame_y4m_c.specs.declared.header.Header.{Header}
@@ -12,15 +12,15 @@ use Rattle.v_frame_y4m_c.specs.declared.header.Header.{Header}
 -- numbers that agree one by one are the numbers
 pub same_numbers : (n : Header) (h : StreamHeader) → h.width ≡ n.width → h.height ≡ n.height
     → ratio_numbers h.frame_rate ≡ n.frame_rate → ratio_numbers h.pixel_aspect ≡ n.pixel_aspect
-    → format_number (subsampling_of h.colour) ≡ n.format → depth_of h.colour ≡ n.bit_depth
-    → siting_number (siting_of h.colour) ≡ n.siting → interlacing_number h.interlacing ≡ n.interlacing → numbers_of h ≡ n
+    → format_number (subsampling_of h.color) ≡ n.format → depth_of h.color ≡ n.bit_depth
+    → siting_number (siting_of h.color) ≡ n.siting → interlacing_number h.interlacing ≡ n.interlacing → numbers_of h ≡ n
 same_numbers n h width height rate aspect format depth siting interlacing = rw (width, height, rate, aspect, format, depth, siting, interlacing)
 
--- a colour that was found is found by what it has
-pub found_by_its_own : (f : ChromaSubsampling) (bits : ℕ) (siting : Option ChromaSiting) (c : Colour)
-    → colour_with f bits siting ≡ Some c → subsampling_of c ≡ f → depth_of c ≡ bits → siting_of c ≡ siting
-    → colour_with (subsampling_of c) (depth_of c) (siting_of c) ≡ Some c
+-- a color that was found is found by what it has
+pub found_by_its_own : (f : ChromaSubsampling) (bits : ℕ) (siting : Option ChromaSiting) (c : Color)
+    → color_with f bits siting ≡ Some c → subsampling_of c ≡ f → depth_of c ≡ bits → siting_of c ≡ siting
+    → color_with (subsampling_of c) (depth_of c) (siting_of c) ≡ Some c
 found_by_its_own f bits siting c found format depth sited =
-    let at_format = subst (λ (x : ChromaSubsampling). colour_with x bits siting ≡ Some c) (sym format) found in
-    let at_depth = subst (λ (x : ℕ). colour_with (subsampling_of c) x siting ≡ Some c) (sym depth) at_format in
-    subst (λ (x : Option ChromaSiting). colour_with (subsampling_of c) (depth_of c) x ≡ Some c) (sym sited) at_depth
+    let at_format = subst (λ (x : ChromaSubsampling). color_with x bits siting ≡ Some c) (sym format) found in
+    let at_depth = subst (λ (x : ℕ). color_with (subsampling_of c) x siting ≡ Some c) (sym depth) at_format in
+    subst (λ (x : Option ChromaSiting). color_with (subsampling_of c) (depth_of c) x ≡ Some c) (sym sited) at_depth

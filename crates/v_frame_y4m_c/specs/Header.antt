@@ -1,9 +1,9 @@
 -- A header in numbers, as C reads it, and the numbers of an error.
 use Rattle.std.specs.Prelude.{ℕ, Option, Some, None}
 use Rattle.v_frame.specs.Prelude.{ChromaSubsampling, Yuv420, Yuv422, Yuv411, Yuv444, Monochrome}
-use Rattle.v_frame_y4m.specs.Colour.{depth_of, siting_of, subsampling_of}
-use Rattle.v_frame_y4m.specs.declared.colour.ChromaSiting.{ChromaSiting}
-use Rattle.v_frame_y4m.specs.declared.colour.ChromaSiting.TheVariants.{Centre, Left, Alternating}
+use Rattle.v_frame_y4m.specs.Color.{depth_of, siting_of, subsampling_of}
+use Rattle.v_frame_y4m.specs.declared.color.ChromaSiting.{ChromaSiting}
+use Rattle.v_frame_y4m.specs.declared.color.ChromaSiting.TheVariants.{Center, Left, Alternating}
 use Rattle.v_frame_y4m.specs.declared.header.Interlacing.{Interlacing}
 use Rattle.v_frame_y4m.specs.declared.header.Interlacing.TheVariants.{Progressive, TopFirst, BottomFirst, Mixed}
 use Rattle.v_frame_y4m.specs.declared.header.Interlacing.TheVariants.{Unknown}
@@ -11,7 +11,7 @@ use Rattle.v_frame_y4m.specs.declared.header.Ratio.{Ratio as TheRatio}
 use Rattle.v_frame_y4m.specs.declared.header.StreamHeader.{StreamHeader}
 use Rattle.v_frame_y4m.specs.declared.error.HeaderError.{HeaderError}
 use Rattle.v_frame_y4m.specs.declared.error.HeaderError.TheVariants.{NotAStream, Missing, Duplicate, Malformed}
-use Rattle.v_frame_y4m.specs.declared.error.HeaderError.TheVariants.{ZeroSize, SizeTooLarge, UnknownColour, OutOfMemory}
+use Rattle.v_frame_y4m.specs.declared.error.HeaderError.TheVariants.{ZeroSize, SizeTooLarge, UnknownColor, OutOfMemory}
 use Rattle.v_frame_y4m_c.specs.declared.header.Header.{Header}
 use Rattle.v_frame_y4m_c.specs.declared.header.Ratio.{Ratio}
 
@@ -24,7 +24,7 @@ format_number Yuv411 = 4
 
 abbrev pub siting_number : Option ChromaSiting → ℕ
 siting_number None = 0
-siting_number (Some Centre) = 1
+siting_number (Some Center) = 1
 siting_number (Some Left) = 2
 siting_number (Some Alternating) = 3
 
@@ -46,9 +46,9 @@ numbers_of h =
     record {
       width = h.width;
       height = h.height;
-      format = format_number (subsampling_of h.colour);
-      bit_depth = depth_of h.colour;
-      siting = siting_number (siting_of h.colour);
+      format = format_number (subsampling_of h.color);
+      bit_depth = depth_of h.color;
+      siting = siting_number (siting_of h.color);
       interlacing = interlacing_number h.interlacing;
       frame_rate = ratio_numbers h.frame_rate;
       pixel_aspect = ratio_numbers h.pixel_aspect;
@@ -62,7 +62,7 @@ status_of (Duplicate letter) = 3
 status_of (Malformed text) = 4
 status_of (ZeroSize letter) = 5
 status_of (SizeTooLarge text) = 6
-status_of (UnknownColour text) = 7
+status_of (UnknownColor text) = 7
 status_of OutOfMemory = 8
 
 -- the letter that an error names, or 0
@@ -73,5 +73,5 @@ letter_of (Duplicate letter) = letter
 letter_of (Malformed text) = 0
 letter_of (ZeroSize letter) = letter
 letter_of (SizeTooLarge text) = 0
-letter_of (UnknownColour text) = 0
+letter_of (UnknownColor text) = 0
 letter_of OutOfMemory = 0

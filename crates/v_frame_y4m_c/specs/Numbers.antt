@@ -1,25 +1,25 @@
 -- The header that is written for numbers, and why there is none.
 use Rattle.std.specs.Prelude.{ℕ, ◌≡◌, ◌++◌, ◌≤◌, ◌⊎◌, List, [], Option, Some, drop, length}
 use Rattle.v_frame.specs.Prelude.{ChromaSubsampling}
-use Rattle.v_frame_y4m.specs.Colour.{colour_with, depth_of, siting_of, subsampling_of}
+use Rattle.v_frame_y4m.specs.Color.{color_with, depth_of, siting_of, subsampling_of}
 use Rattle.v_frame_y4m.specs.Header.{IsWritable}
-use Rattle.v_frame_y4m.specs.declared.colour.ChromaSiting.{ChromaSiting}
-use Rattle.v_frame_y4m.specs.declared.colour.Colour.{Colour}
+use Rattle.v_frame_y4m.specs.declared.color.ChromaSiting.{ChromaSiting}
+use Rattle.v_frame_y4m.specs.declared.color.Color.{Color}
 use Rattle.v_frame_y4m.specs.declared.header.Interlacing.{Interlacing}
 use Rattle.v_frame_y4m.specs.declared.header.Ratio.{Ratio as TheRatio}
 use Rattle.v_frame_y4m.specs.declared.header.StreamHeader.{StreamHeader}
 use Rattle.v_frame_y4m_c.specs.Header.{format_number, interlacing_number, numbers_of, ratio_numbers, siting_number}
 use Rattle.v_frame_y4m_c.specs.declared.header.Header.{Header}
 use Rattle.v_frame_y4m_c.specs.declared.numbers.NumberFault.{NumberFault}
-use Rattle.v_frame_y4m_c.specs.declared.numbers.NumberFault.TheVariants.{ZeroSize, NoSuchNumber, NoSuchColour}
+use Rattle.v_frame_y4m_c.specs.declared.numbers.NumberFault.TheVariants.{ZeroSize, NoSuchNumber, NoSuchColor}
 
--- The header with these numbers that is written: it has no extensions, and of the colours that have
+-- The header with these numbers that is written: it has no extensions, and of the colors that have
 -- the same format, depth and siting the one of the table.
 pub record IsHeaderOf (n : Header) (h : StreamHeader) : Type 0 where
   pub numbers : numbers_of h ≡ n
   pub writable : IsWritable h
-  pub colour : colour_with (subsampling_of h.colour) (depth_of h.colour) (siting_of h.colour)
-      ≡ Some h.colour
+  pub color : color_with (subsampling_of h.color) (depth_of h.color) (siting_of h.color)
+      ≡ Some h.color
   pub extensions : h.extensions ≡ []
 
 abbrev pub IsEmpty : Header → Type 0
@@ -33,8 +33,8 @@ pub record IsNumbered (n : Header) : Type 0 where
   pub frame_rate : (r : Option TheRatio) × (ratio_numbers r ≡ n.frame_rate)
   pub pixel_aspect : (r : Option TheRatio) × (ratio_numbers r ≡ n.pixel_aspect)
 
--- the colour has this format, this depth and this siting
-pub record IsColourOf (n : Header) (c : Colour) : Type 0 where
+-- the color has this format, this depth and this siting
+pub record IsColorOf (n : Header) (c : Color) : Type 0 where
   pub format : format_number (subsampling_of c) ≡ n.format
   pub depth : depth_of c ≡ n.bit_depth
   pub siting : siting_number (siting_of c) ≡ n.siting
@@ -43,7 +43,7 @@ pub record IsColourOf (n : Header) (c : Colour) : Type 0 where
 abbrev pub HasNoHeader : Header → NumberFault → Type 0
 HasNoHeader n ZeroSize = IsEmpty n
 HasNoHeader n NoSuchNumber = ¬ (IsEmpty n) × ¬ (IsNumbered n)
-HasNoHeader n NoSuchColour = ¬ (IsEmpty n) × (IsNumbered n × ((c : Colour) → ¬ (IsColourOf n c)))
+HasNoHeader n NoSuchColor = ¬ (IsEmpty n) × (IsNumbered n × ((c : Color) → ¬ (IsColorOf n c)))
 
 -- these bytes stand at the front of a buffer, and all after them is as before
 pub record IsWrittenInFront (bytes old new : List ℕ) : Type 0 where

@@ -3,7 +3,7 @@ use Rattle.std.specs.Prelude.{ℕ}
 use Rattle.v_frame_y4m_c.specs.declared.lines.LineFault.{LineFault}
 use Rattle.v_frame_y4m_c.specs.declared.lines.LineFault.TheVariants.{Unfinished, TooLong}
 use Rattle.v_frame_y4m_c.specs.declared.numbers.NumberFault.{NumberFault}
-use Rattle.v_frame_y4m_c.specs.declared.numbers.NumberFault.TheVariants.{ZeroSize, NoSuchNumber, NoSuchColour}
+use Rattle.v_frame_y4m_c.specs.declared.numbers.NumberFault.TheVariants.{ZeroSize, NoSuchNumber, NoSuchColor}
 
 -- the bytes of a frame are too many to be counted
 abbrev pub size_too_large : ℕ
@@ -25,7 +25,7 @@ lax_line = 14
 
 abbrev pub status_of_numbers : NumberFault → ℕ
 status_of_numbers ZeroSize = 5
-status_of_numbers NoSuchColour = 7
+status_of_numbers NoSuchColor = 7
 status_of_numbers NoSuchNumber = 9
 
 abbrev pub status_of_line : LineFault → ℕ

@@ -38,9 +38,9 @@ impl Header {
             height: header.height,
             frame_rate: ratio_of(header.frame_rate),
             pixel_aspect: ratio_of(header.pixel_aspect),
-            format: format_of(header.colour.subsampling()),
-            bit_depth: u32::from(header.colour.bit_depth()),
-            siting: siting_of(header.colour.siting()),
+            format: format_of(header.color.subsampling()),
+            bit_depth: u32::from(header.color.bit_depth()),
+            siting: siting_of(header.color.siting()),
             interlacing: interlacing_of(header.interlacing),
         }
     }
@@ -83,7 +83,7 @@ fn siting_of(siting: Option<ChromaSiting>) -> u32
 {
     match siting {
         None => 0,
-        Some(ChromaSiting::Centre) => 1,
+        Some(ChromaSiting::Center) => 1,
         Some(ChromaSiting::Left) => 2,
         Some(ChromaSiting::Alternating) => 3,
     }

@@ -1,10 +1,10 @@
 //! The stream header that numbers are of.
 ghost use Rattle.std.specs.Prelude.{◌≡◌, ◌≢◌, IfErr, IfNone, IfOk, IfSome, MatchOption, Option};
 ghost use Rattle.v_frame.specs.Prelude.{ChromaSubsampling as TheFormat};
-ghost use Rattle.v_frame_y4m.specs.Colour.{colour_with, depth_of, siting_of, subsampling_of};
-ghost use Rattle.v_frame_y4m.specs.declared.colour.Colour.{Colour as TheColour};
+ghost use Rattle.v_frame_y4m.specs.Color.{color_with, depth_of, siting_of, subsampling_of};
+ghost use Rattle.v_frame_y4m.specs.declared.color.Color.{Color as TheColor};
 ghost use Rattle.v_frame_y4m.specs.Header.{IsWritable};
-ghost use Rattle.v_frame_y4m.specs.declared.colour.ChromaSiting.{ChromaSiting as TheSiting};
+ghost use Rattle.v_frame_y4m.specs.declared.color.ChromaSiting.{ChromaSiting as TheSiting};
 ghost use Rattle.v_frame_y4m.specs.declared.header.Interlacing.{Interlacing as TheInterlacing};
 ghost use Rattle.v_frame_y4m.specs.declared.header.Ratio.{Ratio as ARatio};
 ghost use Rattle.v_frame_y4m.specs.declared.header.StreamHeader.{StreamHeader as TheHeader};
@@ -14,7 +14,7 @@ ghost use Rattle.v_frame_y4m_c.specs.Numbers.{HasNoHeader, IsHeaderOf};
 use crate::header::{Header, Ratio};
 use std::alloc::Global;
 use v_frame::chroma::ChromaSubsampling;
-use v_frame_y4m::{ChromaSiting, Colour, Interlacing, Ratio as TheRatio, StreamHeader};
+use v_frame_y4m::{ChromaSiting, Color, Interlacing, Ratio as TheRatio, StreamHeader};
 
 /// Why numbers are of no header that has a line.
 #[derive(Drop)]
@@ -23,8 +23,8 @@ pub enum NumberFault {
     ZeroSize,
     /// A number is none of its enum, or a ratio that is not stated has numbers.
     NoSuchNumber,
-    /// No colour has the format, the bit depth and the siting.
-    NoSuchColour,
+    /// No color has the format, the bit depth and the siting.
+    NoSuchColor,
 }
 
 impl Header {
@@ -57,8 +57,8 @@ impl Header {
         let Some(siting) = siting_numbered(self.siting) else {
             return Err(NumberFault::NoSuchNumber);
         };
-        let Some(colour) = colour_of(format, self.bit_depth, siting) else {
-            return Err(NumberFault::NoSuchColour);
+        let Some(color) = color_of(format, self.bit_depth, siting) else {
+            return Err(NumberFault::NoSuchColor);
         };
         Ok(StreamHeader {
             width: self.width,
@@ -66,26 +66,26 @@ impl Header {
             frame_rate,
             interlacing,
             pixel_aspect,
-            colour,
+            color,
             extensions: Vec::new(alloc).into(),
         })
     }
 }
 
-/// Returns the colour of a format, so many bits and a siting.
-fn colour_of(
+/// Returns the color of a format, so many bits and a siting.
+fn color_of(
     format: ChromaSubsampling,
     bit_depth: u32,
     siting: Option<ChromaSiting>,
-) -> Option<Colour>
-    ensures value { result ≡ colour_with format bit_depth siting }
+) -> Option<Color>
+    ensures value { result ≡ color_with format bit_depth siting }
     ensures found { IfSome result (λ c. (subsampling_of c ≡ format)
         × ((depth_of c ≡ bit_depth) × (siting_of c ≡ siting))) }
-    ensures none { IfNone result ((c : TheColour) → subsampling_of c ≡ format
+    ensures none { IfNone result ((c : TheColor) → subsampling_of c ≡ format
         → depth_of c ≡ bit_depth → siting_of c ≢ siting) }
 {
     match u8::try_from(bit_depth) {
-        Ok(bit_depth) => Colour::new(format, bit_depth, siting),
+        Ok(bit_depth) => Color::new(format, bit_depth, siting),
         Err(_) => None,
     }
 }
@@ -127,7 +127,7 @@ fn siting_numbered(number: u32) -> Option<Option<ChromaSiting>>
 {
     match number {
         0 => Some(None),
-        1 => Some(Some(ChromaSiting::Centre)),
+        1 => Some(Some(ChromaSiting::Center)),
         2 => Some(Some(ChromaSiting::Left)),
         3 => Some(Some(ChromaSiting::Alternating)),
         _ => None,

@@ -3,7 +3,7 @@ use Rattle.std.specs.Prelude.{ℕ, ◌≡◌, ◌+◌, ◌∷◌, List, Option, 
 use Rattle.std.specs.Int.NonZero.{non_zero_u8_get}
 use Rattle.v_frame.specs.Prelude.{Frame, PixelForm, Tables, tables_of}
 use Rattle.v_frame_png.specs.Prelude.{HasFile}
-use Rattle.yuv_pictures.specs.Prelude.{difference_rows, grey_samples, picture_header, AreDifferences}
+use Rattle.yuv_pictures.specs.Prelude.{difference_rows, gray_samples, picture_header, AreDifferences}
 use Rattle.yuv_pictures.specs.declared.places.Found.{Found}
 use Rattle.yuv_commands.specs.Options.{frame_pair}
 use Rattle.yuv_commands.specs.declared.diff.DifferencePicture.{DifferencePicture}
@@ -22,7 +22,7 @@ pub record DrawsDifference {T W : Type 0} (form : PixelForm T) (contents : W →
   pub also_shows : tables_of second ≡ b
   pub file : HasFile contents start new
       (picture_header first.y_plane.geometry.width first.y_plane.geometry.height
-      (grey_samples (non_zero_u8_get first.bit_depth)))
+      (gray_samples (non_zero_u8_get first.bit_depth)))
       (difference_rows form first second gain)
   pub differs : AreDifferences form a b found
 

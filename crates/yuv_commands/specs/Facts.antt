@@ -2,9 +2,9 @@
 use Rattle.std.specs.Prelude.{ℕ, ◌∷◌, ◌++◌, [], Bool, true, false, List, Option, Some, None, codes, decimal, flat_map, map}
 use Rattle.v_frame.specs.Prelude.{ChromaSubsampling, Yuv420, Yuv422, Yuv411, Yuv444, Monochrome}
 use Rattle.v_frame_y4m.specs.Ascii.{shown_byte}
-use Rattle.v_frame_y4m.specs.Colour.{depth_of, siting_of, subsampling_of}
-use Rattle.v_frame_y4m.specs.declared.colour.ChromaSiting.{ChromaSiting}
-use Rattle.v_frame_y4m.specs.declared.colour.ChromaSiting.TheVariants.{Centre, Left, Alternating}
+use Rattle.v_frame_y4m.specs.Color.{depth_of, siting_of, subsampling_of}
+use Rattle.v_frame_y4m.specs.declared.color.ChromaSiting.{ChromaSiting}
+use Rattle.v_frame_y4m.specs.declared.color.ChromaSiting.TheVariants.{Center, Left, Alternating}
 use Rattle.v_frame_y4m.specs.declared.header.Interlacing.{Interlacing}
 use Rattle.v_frame_y4m.specs.declared.header.Interlacing.TheVariants.{Progressive, TopFirst, BottomFirst, Mixed, Unknown}
 use Rattle.v_frame_y4m.specs.declared.header.StreamHeader.{StreamHeader}
@@ -21,7 +21,7 @@ chroma_text Yuv444 = codes "4:4:4"
 chroma_text Monochrome = codes "monochrome"
 
 abbrev pub siting_text : ChromaSiting → List ℕ
-siting_text Centre = codes "centre"
+siting_text Center = codes "center"
 siting_text Left = codes "left"
 siting_text Alternating = codes "alternating, as in PAL DV"
 
@@ -61,14 +61,14 @@ extension_fact bytes = fact (codes "extension") (map shown_byte bytes)
 abbrev pub format_facts : StreamHeader → List ℕ
 format_facts header =
     fact (codes "size") (decimal header.width ++ (codes "x" ++ decimal header.height))
-    ++ (fact (codes "format") (chroma_text (subsampling_of header.colour))
-    ++ fact (codes "bit depth") (decimal (depth_of header.colour)))
+    ++ (fact (codes "format") (chroma_text (subsampling_of header.color))
+    ++ fact (codes "bit depth") (decimal (depth_of header.color)))
 
 -- where chroma is sited, the rate, the interlacing and the shape of a pixel, where the header says
 -- them
 abbrev pub stated_facts : StreamHeader → List ℕ
 stated_facts header =
-    siting_fact (siting_of header.colour)
+    siting_fact (siting_of header.color)
     ++ (ratio_fact (codes "frame rate") header.frame_rate
     ++ (interlacing_fact header.interlacing
     ++ ratio_fact (codes "pixel aspect") header.pixel_aspect))

@@ -9,7 +9,7 @@ use Rattle.v_frame_streams.specs.declared.source.Source.{Source}
 use Rattle.v_frame_streams.specs.declared.stream.Container.TheVariants.{Raw, Y4m}
 use Rattle.yuv_commands.specs.InputFiles.{BeginsAsAStream}
 use Rattle.yuv_commands.specs.declared.input_file.InputFile.{InputFile}
-use Rattle.v_frame_formats.specs.Formats.{format_colour}
+use Rattle.v_frame_formats.specs.Formats.{format_color}
 use Rattle.yuv_words.specs.declared.command.RawVideo.{RawVideo}
 
 -- the header that raw video of this size and format would have
@@ -21,7 +21,7 @@ header_of_raw video =
       frame_rate = video.rate;
       interlacing = None;
       pixel_aspect = None;
-      colour = format_colour video.format;
+      color = format_color video.format;
       extensions = [];
     }
 

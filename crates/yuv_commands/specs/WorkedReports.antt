@@ -1,6 +1,6 @@
 -- Small cases worked out by hand. Each line computes: it is proved by `refl`.
 use Rattle.std.specs.Prelude.{◌≡◌, ◌∷◌, ◌++◌, [], Some, None, codes, refl}
-use Rattle.v_frame_y4m.specs.declared.colour.ChromaSiting.TheVariants.{Left}
+use Rattle.v_frame_y4m.specs.declared.color.ChromaSiting.TheVariants.{Left}
 use Rattle.yuv_commands.specs.Facts.{extension_fact, siting_fact}
 use Rattle.yuv_commands.specs.Places.{chroma_said, plane_said}
 use Rattle.yuv_commands.specs.Statistics.{nominal_at, outside_from}

@@ -1,7 +1,7 @@
 //! The command `compare`: how far two streams are apart.
 ghost use Rattle.std.specs.Prelude.{◌≡◌, ◌≢◌, ◌<◌, ◌↔◌, ◌⊎◌, is_some, unwrap_or, IfOk, IsNone, IsTrue, OnOk};
 ghost use Rattle.v_frame.specs.Prelude.{one_byte, two_bytes};
-ghost use Rattle.v_frame_y4m.specs.Colour.{depth_of};
+ghost use Rattle.v_frame_y4m.specs.Color.{depth_of};
 ghost use Rattle.yuv_commands.specs.Options.{comparison_of};
 ghost use Rattle.yuv_commands.specs.Reports.{form_of_words, report_end, EndsKnown};
 ghost use Rattle.v_frame_streams.specs.Prelude.{bytes_left, sizes_in, stream_of, ComparesFrom, HaveOneFormat, WatchesFrom};
@@ -67,13 +67,13 @@ fn report_comparison<R: io::Read, S: io::Read, W: io::Write + Drop, H: Clock, E:
     out: W,
     progress: &mut ProgressLine<'_, H, E>,
 ) -> Result<(W, Comparison), Fault>
-    ensures bytes { depth_of first.old.header.colour ≡ 8 → IfOk result (λ done.
+    ensures bytes { depth_of first.old.header.color ≡ 8 → IfOk result (λ done.
         ComparesFrom one_byte (sizes_in first.old.header)
         (stream_of first.old) (stream_of second.old)
         (bytes_left R.remaining first.old) (bytes_left R.remaining first.new)
         (bytes_left S.remaining second.old) (bytes_left S.remaining second.new)
         (comparison_of options.now) done.1) }
-    ensures words { depth_of first.old.header.colour ≢ 8 → IfOk result (λ done.
+    ensures words { depth_of first.old.header.color ≢ 8 → IfOk result (λ done.
         ComparesFrom two_bytes (sizes_in first.old.header)
         (stream_of first.old) (stream_of second.old)
         (bytes_left R.remaining first.old) (bytes_left R.remaining first.new)
@@ -105,12 +105,12 @@ fn first_taken(options: &Options) -> u64
 /// Returns what the measures of a report are made of besides the errors.
 fn scale_of(header: &StreamHeader, options: &Options) -> Scale
     ensures pixels { result.pixels ≡ pixels_of_sizes (sizes_in header.now) }
-    ensures bit_depth { result.bit_depth ≡ depth_of header.now.colour }
+    ensures bit_depth { result.bit_depth ≡ depth_of header.now.color }
     ensures exact { result.exact ≡ options.now.exact }
 {
     Scale {
         pixels: samples_of(header),
-        bit_depth: header.colour.bit_depth(),
+        bit_depth: header.color.bit_depth(),
         exact: options.exact,
     }
 }
@@ -141,23 +141,23 @@ pub fn compare_sources<
     progress: &mut P,
 ) -> Result<Comparison, StreamError>
     ensures formats { OnOk result (HaveOneFormat first.old.header second.old.header) }
-    ensures bytes { depth_of first.old.header.colour ≡ 8 → IfOk result (ComparesFrom one_byte
+    ensures bytes { depth_of first.old.header.color ≡ 8 → IfOk result (ComparesFrom one_byte
         (sizes_in first.old.header) (stream_of first.old) (stream_of second.old)
         (bytes_left R.remaining first.old) (bytes_left R.remaining first.new)
         (bytes_left S.remaining second.old) (bytes_left S.remaining second.new)
         (comparison_of options.now)) }
-    ensures words { depth_of first.old.header.colour ≢ 8 → IfOk result (ComparesFrom two_bytes
+    ensures words { depth_of first.old.header.color ≢ 8 → IfOk result (ComparesFrom two_bytes
         (sizes_in first.old.header) (stream_of first.old) (stream_of second.old)
         (bytes_left R.remaining first.old) (bytes_left R.remaining first.new)
         (bytes_left S.remaining second.old) (bytes_left S.remaining second.new)
         (comparison_of options.now)) }
-    ensures bytes_taken { depth_of first.old.header.colour ≡ 8 → IfOk result (WatchesFrom one_byte
+    ensures bytes_taken { depth_of first.old.header.color ≡ 8 → IfOk result (WatchesFrom one_byte
         (sizes_in first.old.header) ⟦<O as FrameObserver<u8>>⟧.takes observer.old observer.new
         (stream_of first.old) (stream_of second.old)
         (bytes_left R.remaining first.old) (bytes_left R.remaining first.new)
         (bytes_left S.remaining second.old) (bytes_left S.remaining second.new)
         (comparison_of options.now)) }
-    ensures words_taken { depth_of first.old.header.colour ≢ 8 → IfOk result (WatchesFrom two_bytes
+    ensures words_taken { depth_of first.old.header.color ≢ 8 → IfOk result (WatchesFrom two_bytes
         (sizes_in first.old.header) ⟦<O as FrameObserver<u16>>⟧.takes observer.old observer.new
         (stream_of first.old) (stream_of second.old)
         (bytes_left R.remaining first.old) (bytes_left R.remaining first.new)
@@ -204,7 +204,7 @@ pub(crate) fn samples_of(header: &StreamHeader) -> PlaneSums
     ensures { result ≡ pixels_of_sizes (sizes_in header.now) }
 {
     let luma = header.width as u128 * header.height as u128;
-    let chroma = match header.colour.subsampling() {
+    let chroma = match header.color.subsampling() {
         ChromaSubsampling::Monochrome => None,
         subsampling => {
             let (columns, rows) = ratios_or_one(subsampling);
@@ -220,7 +220,7 @@ pub(crate) fn samples_of(header: &StreamHeader) -> PlaneSums
 
 /// Tests whether each plane of a frame has a window of structural similarity, which is 8 samples wide and high.
 pub(crate) fn test_windows(header: &StreamHeader) -> Result<(), Fault> {
-    let (columns, rows) = ratios_or_one(header.colour.subsampling());
+    let (columns, rows) = ratios_or_one(header.color.subsampling());
     if header.width.div_ceil(columns) < 8 || header.height.div_ceil(rows) < 8 {
         return Err(Fault::NoWindow(Place::First));
     }

@@ -1,7 +1,7 @@
 //! The command `diff`: the difference of two frames as a picture, and where it is.
 ghost use Rattle.std.specs.Prelude.{◌≡◌, ◌≢◌, ◌↔◌, ◌++◌, false, string_bytes, unwrap_or, IfOk, IfSome, OnOk};
 ghost use Rattle.v_frame.specs.Prelude.{one_byte, tables_of, two_bytes};
-ghost use Rattle.v_frame_y4m.specs.Colour.{depth_of};
+ghost use Rattle.v_frame_y4m.specs.Color.{depth_of};
 ghost use Rattle.yuv_commands.specs.Differences.{DrawsDifference, DrawsFrames, TakesPair};
 ghost use Rattle.yuv_commands.specs.Options.{frame_pair};
 ghost use Rattle.yuv_commands.specs.Places.{chroma_said, first_said, found_said, greatest_said, plane_said, ShowNoDifference};
@@ -87,12 +87,12 @@ fn write_difference<R: io::Read, S: io::Read, W: io::Write + Drop>(
     options: &Options,
     out: W,
 ) -> Result<(W, Found), Fault>
-    ensures bytes { depth_of first.old.header.colour ≡ 8 → IfOk result (λ drawn.
+    ensures bytes { depth_of first.old.header.color ≡ 8 → IfOk result (λ drawn.
         DrawsFrames one_byte W.contents (W.contents out) options.now (sizes_in first.old.header)
         (stream_of first.old) (stream_of second.old)
         (bytes_left R.remaining first.old) (bytes_left R.remaining first.new)
         (bytes_left S.remaining second.old) (bytes_left S.remaining second.new) drawn.0 drawn.1) }
-    ensures words { depth_of first.old.header.colour ≢ 8 → IfOk result (λ drawn.
+    ensures words { depth_of first.old.header.color ≢ 8 → IfOk result (λ drawn.
         DrawsFrames two_bytes W.contents (W.contents out) options.now (sizes_in first.old.header)
         (stream_of first.old) (stream_of second.old)
         (bytes_left R.remaining first.old) (bytes_left R.remaining first.new)

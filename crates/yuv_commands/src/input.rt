@@ -120,7 +120,7 @@ fn raw_header(alloc: Global, raw: &RawVideo) -> StreamHeader
         frame_rate: raw.rate,
         interlacing: None,
         pixel_aspect: None,
-        colour: raw.format.colour(),
+        color: raw.format.color(),
         extensions: Vec::new(alloc).into(),
     }
 }

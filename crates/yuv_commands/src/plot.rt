@@ -87,7 +87,7 @@ fn drawn<R: io::Read, S: io::Read, P: Progress>(
         first_frame(options),
         Scale {
             pixels: samples_of(first.header()),
-            bit_depth: first.header().colour.bit_depth(),
+            bit_depth: first.header().color.bit_depth(),
             exact: false,
         },
     );

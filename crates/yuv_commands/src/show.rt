@@ -2,7 +2,7 @@
 ghost use Rattle.std.specs.Prelude.{◌≡◌, IfErr, IfOk, IfSome, IsSomeAnd};
 ghost use Rattle.v_frame_png.specs.Prelude.{HasFile};
 ghost use Rattle.yuv_commands.specs.Options.{plane_of, shown_frame};
-ghost use Rattle.yuv_commands.specs.Shows.{colours_asked, drawing_asked, header_shown, ShowsBytes, ShowsFrame, StopsDrawing, TakesFrame};
+ghost use Rattle.yuv_commands.specs.Shows.{colors_asked, drawing_asked, header_shown, ShowsBytes, ShowsFrame, StopsDrawing, TakesFrame};
 ghost use Rattle.yuv_pictures.specs.declared.error.PictureError.{PictureError as TheError};
 ghost use Rattle.v_frame_streams.specs.Prelude.{bytes_left, stream_of};
 
@@ -19,14 +19,14 @@ use std::rt::Files;
 use std::time::Clock;
 use v_frame::frame::Frame;
 use v_frame::pixel::Pixel;
-use v_frame_rgb::{ColourRange, Standard};
+use v_frame_rgb::{ColorRange, Standard};
 use v_frame_semi_planar::SemiPlanarFormat;
 use v_frame_streams::{
     Container, CopyOptions, Picture, Place, Silent, Sink, Source, StreamError, copy_stream,
 };
 use v_frame_y4m::StreamHeader;
 use yuv_files::SystemFile;
-use yuv_pictures::{Colours, PictureError, write_frame_picture, write_plane_picture};
+use yuv_pictures::{Colors, PictureError, write_frame_picture, write_plane_picture};
 use yuv_words::{Options, PlaneName};
 
 /// Writes a frame of a stream as a picture.
@@ -49,7 +49,7 @@ where
     let most = most_pixels(options.max_pixels);
     test_pixels(source.header(), Place::First, most)?;
     let mut output = Output::open(rt, to, &[from], &mut system.output, system.progress.out())?;
-    let shown = if source.header().colour.bit_depth() == 8 {
+    let shown = if source.header().color.bit_depth() == 8 {
         show_frame::<u8, _, _>(rt.alloc(), &mut source, options, &mut output)
     } else {
         show_frame::<u16, _, _>(rt.alloc(), &mut source, options, &mut output)
@@ -121,7 +121,7 @@ fn write_picture<T: Pixel, W: io::Write + Drop>(
     }
 }
 
-/// Writes one plane of a frame, or its colours.
+/// Writes one plane of a frame, or its colors.
 fn draw_picture<T: Pixel, W: io::Write + Drop>(
     alloc: Global,
     out: W,
@@ -134,7 +134,7 @@ fn draw_picture<T: Pixel, W: io::Write + Drop>(
 {
     match options.plane {
         Some(plane) => write_plane_picture(alloc, out, frame, shown_plane(plane)),
-        None => write_frame_picture(alloc, out, frame, colours_of(options)),
+        None => write_frame_picture(alloc, out, frame, colors_of(options)),
     }
 }
 
@@ -149,13 +149,13 @@ fn shown_plane(plane: PlaneName) -> yuv_pictures::PlaneName
     }
 }
 
-/// Returns how colours are made: as BT.709 of limited range has it, where the options are silent.
-fn colours_of(options: &Options) -> Colours
-    ensures { result ≡ colours_asked options.now }
+/// Returns how colors are made: as BT.709 of limited range has it, where the options are silent.
+fn colors_of(options: &Options) -> Colors
+    ensures { result ≡ colors_asked options.now }
 {
-    Colours {
+    Colors {
         standard: options.matrix.unwrap_or(Standard::Bt709),
-        range: options.range.unwrap_or(ColourRange::Limited),
+        range: options.range.unwrap_or(ColorRange::Limited),
     }
 }
 
@@ -210,7 +210,7 @@ fn shown_header(alloc: Global, header: &StreamHeader, options: &Options) -> Stre
         frame_rate: None,
         interlacing: None,
         pixel_aspect: None,
-        colour: header.colour,
+        color: header.color,
         extensions: Vec::new(alloc).into(),
     }
 }

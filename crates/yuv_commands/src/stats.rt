@@ -1,7 +1,7 @@
 //! The command `stats`: what values the samples of a stream have.
 ghost use Rattle.std.specs.Prelude.{◌≡◌, ◌≢◌, ◌<◌, ◌^◌, ◌++◌, is_some, option_map, string_bytes, unwrap_or, IfOk, OnOk};
 ghost use Rattle.v_frame.specs.Prelude.{one_byte, table_of, tables_of, two_bytes};
-ghost use Rattle.v_frame_y4m.specs.Colour.{depth_of};
+ghost use Rattle.v_frame_y4m.specs.Color.{depth_of};
 ghost use Rattle.v_frame_planar.specs.Planar.{sizes_of};
 ghost use Rattle.yuv_commands.specs.Nothing.{nothing_of};
 ghost use Rattle.yuv_commands.specs.Statistics.{ReportsValues, SaysCounts, SaysPlanes};
@@ -73,18 +73,18 @@ fn report_values<R: io::Read, W: io::Write, H: Clock, E: io::Write>(
     out: &mut Counted<W>,
     progress: &mut ProgressLine<'_, H, E>,
 ) -> Result<u64, StreamError>
-    ensures bytes { depth_of source.old.header.colour ≡ 8 → IfOk result (ReportsValues one_byte
+    ensures bytes { depth_of source.old.header.color ≡ 8 → IfOk result (ReportsValues one_byte
         (256 ^ 1) source.old.container source.old.frame_len source.old.layout
         (sizes_in source.old.header) (bytes_left R.remaining source.old)
         (bytes_left R.remaining source.new) (W.contents out.old.inner) (W.contents out.new.inner)
-        options.now (depth_of source.old.header.colour)) }
-    ensures words { depth_of source.old.header.colour ≢ 8 → IfOk result (ReportsValues two_bytes
+        options.now (depth_of source.old.header.color)) }
+    ensures words { depth_of source.old.header.color ≢ 8 → IfOk result (ReportsValues two_bytes
         (256 ^ 2) source.old.container source.old.frame_len source.old.layout
         (sizes_in source.old.header) (bytes_left R.remaining source.old)
         (bytes_left R.remaining source.new) (W.contents out.old.inner) (W.contents out.new.inner)
-        options.now (depth_of source.old.header.colour)) }
+        options.now (depth_of source.old.header.color)) }
 {
-    if source.header().colour.bit_depth() == 8 {
+    if source.header().color.bit_depth() == 8 {
         report_pixels::<u8, _, _, _, _>(alloc, source, options, out, progress)
     } else {
         report_pixels::<u16, _, _, _, _>(alloc, source, options, out, progress)
@@ -103,9 +103,9 @@ fn report_pixels<T: CountedPixel, R: io::Read, W: io::Write, H: Clock, E: io::Wr
         source.old.frame_len source.old.layout (sizes_in source.old.header)
         (bytes_left R.remaining source.old) (bytes_left R.remaining source.new)
         (W.contents out.old.inner) (W.contents out.new.inner) options.now
-        (depth_of source.old.header.colour)) }
+        (depth_of source.old.header.color)) }
 {
-    let depth = source.header().colour.bit_depth();
+    let depth = source.header().color.bit_depth();
     let (counts, found) = count_values::<T, _, _>(alloc, source, options, progress)?;
     let text = report_text(alloc, &counts, options.histogram, depth);
     drop(counts);

@@ -3,7 +3,7 @@ ghost use Rattle.std.specs.Prelude.{◌≡◌, ◌+◌, ◌-◌, ◌^◌, ◌<�
 ghost use Rattle.std.specs.Io.KnownBytes.{Appends};
 ghost use Rattle.v_frame.specs.Prelude.{tables_of};
 ghost use Rattle.v_frame_planar.specs.Planar.{byte_count, sizes_of};
-ghost use Rattle.v_frame_y4m.specs.Colour.{depth_of};
+ghost use Rattle.v_frame_y4m.specs.Color.{depth_of};
 ghost use Rattle.v_frame_y4m.specs.Frames.{pixel_bytes};
 ghost use Rattle.yuv_commands.specs.Checksums.{checksums_of, SumsFrames, SumsFrom};
 ghost use Rattle.yuv_commands.specs.Nothing.{nothing_of};
@@ -79,9 +79,9 @@ fn sum_stream<R: io::Read, W: io::Write, P: Progress>(
     ensures { IfOk result (SumsFrom source.old.container source.old.frame_len
         (bytes_left R.remaining source.old) (bytes_left R.remaining source.new)
         (W.contents out.old.inner) (W.contents out.new.inner) options.now
-        (pixel_bytes (depth_of source.old.header.colour)) (sizes_in source.old.header)) }
+        (pixel_bytes (depth_of source.old.header.color)) (sizes_in source.old.header)) }
 {
-    if source.header().colour.bit_depth() == 8 {
+    if source.header().color.bit_depth() == 8 {
         sum_as::<u8, _, _, _>(alloc, source, options, out, progress)
     } else {
         sum_as::<u16, _, _, _>(alloc, source, options, out, progress)

@@ -6,7 +6,7 @@ use Rattle.v_frame.specs.Prelude.{Frame, PixelForm, Table, Tables, row_major, ta
 use Rattle.v_frame_measures.specs.Prelude.{IsGreatestDifference}
 use Rattle.v_frame_ops.specs.Prelude.{combined, difference_of, IsFirstDifference}
 use Rattle.v_frame_statistics.specs.Prelude.{passing_pairs}
-use Rattle.yuv_pictures.specs.Grey.{grey_rows}
+use Rattle.yuv_pictures.specs.Gray.{gray_rows}
 use Rattle.yuv_pictures.specs.declared.places.Found.{Found}
 use Rattle.yuv_pictures.specs.declared.places.PlaneDifference.{PlaneDifference}
 
@@ -15,7 +15,7 @@ module _ {T : Type 0} (form : PixelForm T) where
   abbrev pub difference_rows : Frame T → Frame T → ℕ → Table ℕ
   difference_rows first second gain =
       let depth = non_zero_u8_get first.bit_depth in
-      grey_rows form depth
+      gray_rows form depth
       (combined (combined (difference_of form gain depth)) (table_of first.y_plane)
       (table_of second.y_plane))
 

@@ -2,7 +2,7 @@
 use Rattle.std.specs.Prelude.{ℕ, ◌≡◌, MatchOption}
 use Rattle.std.specs.Int.NonZero.{non_zero_u8_get}
 use Rattle.v_frame.specs.Prelude.{Frame, PixelForm, Raster, Table, Yuv444, table_of}
-use Rattle.yuv_pictures.specs.Colours.{full_chroma, luma_shown}
+use Rattle.yuv_pictures.specs.Colors.{full_chroma, luma_shown}
 
 module _ {T : Type 0} where
   -- a plane has a size

@@ -1,7 +1,7 @@
-pub mod Colours
+pub mod Colors
 pub mod Differences
 pub mod FullChroma
-pub mod Grey
+pub mod Gray
 pub mod Planes
 pub mod Prelude
 pub mod Refusals

@@ -1,7 +1,7 @@
 -- The planes of a frame by their names, and the size of a picture of one.
 use Rattle.std.specs.Prelude.{ℕ, ◌<◌, ◌^◌, Option}
 use Rattle.v_frame.specs.Prelude.{Frame, Raster, plane_at}
-use Rattle.v_frame_png.specs.declared.header.ColourSpace.TheVariants.{Unnamed}
+use Rattle.v_frame_png.specs.declared.header.ColorSpace.TheVariants.{Unnamed}
 use Rattle.v_frame_png.specs.declared.header.Header.{Header}
 use Rattle.v_frame_png.specs.declared.header.Samples.{Samples}
 use Rattle.yuv_pictures.specs.declared.plane_name.PlaneName.{PlaneName}
@@ -22,7 +22,7 @@ pub record IsPictureSize (width height : ℕ) : Type 0 where
   pub wide : width < 2 ^ 31
   pub high : height < 2 ^ 31
 
--- the header of a file, which names no colour space
+-- the header of a file, which names no color space
 abbrev pub picture_header : ℕ → ℕ → Samples → Header
 picture_header width height samples =
-    record { width = width; height = height; samples = samples; colour_space = Unnamed }
+    record { width = width; height = height; samples = samples; color_space = Unnamed }

@@ -1,10 +1,10 @@
 -- The words that callers' clauses cite, re-exported from one place.
-pub use Rattle.yuv_pictures.specs.Colours.{frame_colours, frame_rows, frame_samples, full_chroma}
-pub use Rattle.yuv_pictures.specs.Colours.{has_chroma, luma_shown, rgb_bytes}
+pub use Rattle.yuv_pictures.specs.Colors.{frame_colors, frame_rows, frame_samples, full_chroma}
+pub use Rattle.yuv_pictures.specs.Colors.{has_chroma, luma_shown, rgb_bytes}
 pub use Rattle.yuv_pictures.specs.Differences.{AreDifferences, IsChromaDifference}
 pub use Rattle.yuv_pictures.specs.Differences.{IsPlaneDifference, difference_rows}
-pub use Rattle.yuv_pictures.specs.Grey.{grey_rows, grey_samples, samples_at}
+pub use Rattle.yuv_pictures.specs.Gray.{gray_rows, gray_samples, samples_at}
 pub use Rattle.yuv_pictures.specs.Planes.{IsPictureSize, index_of, picture_header, plane_named}
-pub use Rattle.yuv_pictures.specs.Refusals.{AcceptsColours, AcceptsDifference, AcceptsFrame}
-pub use Rattle.yuv_pictures.specs.Refusals.{AcceptsGrey, AreAlike, IsSound, IsTrouble}
-pub use Rattle.yuv_pictures.specs.Refusals.{StopsColours, StopsDifference, StopsFrame, StopsGrey}
+pub use Rattle.yuv_pictures.specs.Refusals.{AcceptsColors, AcceptsDifference, AcceptsFrame}
+pub use Rattle.yuv_pictures.specs.Refusals.{AcceptsGray, AreAlike, IsSound, IsTrouble}
+pub use Rattle.yuv_pictures.specs.Refusals.{StopsColors, StopsDifference, StopsFrame, StopsGray}

@@ -6,7 +6,7 @@ use Rattle.v_frame_convert.specs.Prelude.{DepthFits, SizesFit, scales_between}
 use Rattle.v_frame_png.specs.Refusals.{IsFault}
 use Rattle.v_frame_png.specs.declared.error.PngError.{PngError}
 use Rattle.v_frame_png.specs.declared.error.PngError.TheVariants.{OutOfMemory as NoMemory}
-use Rattle.yuv_pictures.specs.Colours.{has_chroma}
+use Rattle.yuv_pictures.specs.Colors.{has_chroma}
 use Rattle.yuv_pictures.specs.Planes.{IsPictureSize}
 use Rattle.yuv_pictures.specs.declared.error.PictureError.{PictureError}
 use Rattle.yuv_pictures.specs.declared.error.PictureError.TheVariants.{TooLarge, NoPlane, Layout, Unlike}
@@ -41,27 +41,27 @@ abbrev pub OneOf : Bool → Type 0 → Type 0 → Type 0
 OneOf true P Q = P
 OneOf false P Q = Q
 
--- ---- grey
+-- ---- gray
 
--- samples of so many bytes and a depth can be grey, in a picture of a size
-pub record AcceptsGrey (bytes depth width height : ℕ) : Type 0 where
+-- samples of so many bytes and a depth can be gray, in a picture of a size
+pub record AcceptsGray (bytes depth width height : ℕ) : Type 0 where
   pub size : IsPictureSize width height
   pub depth_fits : DepthFits bytes depth
 
--- why grey is not written
-abbrev pub StopsGrey : ℕ → ℕ → ℕ → ℕ → PictureError → Type 0
-StopsGrey bytes depth width height (TooLarge columns rows) =
+-- why gray is not written
+abbrev pub StopsGray : ℕ → ℕ → ℕ → ℕ → PictureError → Type 0
+StopsGray bytes depth width height (TooLarge columns rows) =
     RefusesSize width height (TooLarge columns rows)
-StopsGrey bytes depth width height Layout =
+StopsGray bytes depth width height Layout =
     IsPictureSize width height × ¬ DepthFits bytes depth
-StopsGrey bytes depth width height (Png cause) =
-    AcceptsGrey bytes depth width height × IsFault cause
-StopsGrey bytes depth width height OutOfMemory = AcceptsGrey bytes depth width height
-StopsGrey bytes depth width height NoPlane = ⊥
-StopsGrey bytes depth width height Unlike = ⊥
+StopsGray bytes depth width height (Png cause) =
+    AcceptsGray bytes depth width height × IsFault cause
+StopsGray bytes depth width height OutOfMemory = AcceptsGray bytes depth width height
+StopsGray bytes depth width height NoPlane = ⊥
+StopsGray bytes depth width height Unlike = ⊥
 
 module _ {T : Type 0} where
-  -- ---- colours
+  -- ---- colors
 
   -- a chroma plane has the size that its format has beside luma of a size, rounded up
   pub record IsChromaSize (format : ChromaSubsampling) (width height : ℕ) (plane : Raster T)
@@ -77,23 +77,23 @@ module _ {T : Type 0} where
     pub v : IfSome frame.v_plane (IsChromaSize frame.subsampling frame.y_plane.geometry.width
         frame.y_plane.geometry.height)
 
-  pub record AcceptsColours (bytes : ℕ) (frame : Frame T) : Type 0 where
+  pub record AcceptsColors (bytes : ℕ) (frame : Frame T) : Type 0 where
     pub size : IsPictureSize frame.y_plane.geometry.width frame.y_plane.geometry.height
     pub sound : IsSound bytes frame
 
-  -- why colours are not written
-  abbrev pub StopsColours : ℕ → Frame T → PictureError → Type 0
-  StopsColours bytes frame (TooLarge columns rows) =
+  -- why colors are not written
+  abbrev pub StopsColors : ℕ → Frame T → PictureError → Type 0
+  StopsColors bytes frame (TooLarge columns rows) =
       RefusesSize frame.y_plane.geometry.width frame.y_plane.geometry.height
       (TooLarge columns rows)
-  StopsColours bytes frame OutOfMemory =
+  StopsColors bytes frame OutOfMemory =
       IsPictureSize frame.y_plane.geometry.width frame.y_plane.geometry.height
-  StopsColours bytes frame Layout =
+  StopsColors bytes frame Layout =
       IsPictureSize frame.y_plane.geometry.width frame.y_plane.geometry.height
       × ¬ IsSound bytes frame
-  StopsColours bytes frame (Png cause) = AcceptsColours bytes frame × IsFault cause
-  StopsColours bytes frame NoPlane = ⊥
-  StopsColours bytes frame Unlike = ⊥
+  StopsColors bytes frame (Png cause) = AcceptsColors bytes frame × IsFault cause
+  StopsColors bytes frame NoPlane = ⊥
+  StopsColors bytes frame Unlike = ⊥
 
   -- why a frame is not brought to 8 bits and full chroma
   abbrev pub StopsFullChroma : ℕ → Frame T → PictureError → Type 0
@@ -104,18 +104,18 @@ module _ {T : Type 0} where
   StopsFullChroma bytes frame NoPlane = ⊥
   StopsFullChroma bytes frame Unlike = ⊥
 
-  -- ---- frames: colours, or grey where there is no chroma
+  -- ---- frames: colors, or gray where there is no chroma
 
   abbrev pub AcceptsFrame : ℕ → Frame T → Type 0
   AcceptsFrame bytes frame =
-      OneOf (has_chroma frame) (AcceptsColours bytes frame)
-      (AcceptsGrey bytes (non_zero_u8_get frame.bit_depth) frame.y_plane.geometry.width
+      OneOf (has_chroma frame) (AcceptsColors bytes frame)
+      (AcceptsGray bytes (non_zero_u8_get frame.bit_depth) frame.y_plane.geometry.width
       frame.y_plane.geometry.height)
 
   abbrev pub StopsFrame : ℕ → Frame T → PictureError → Type 0
   StopsFrame bytes frame error =
-      OneOf (has_chroma frame) (StopsColours bytes frame error)
-      (StopsGrey bytes (non_zero_u8_get frame.bit_depth) frame.y_plane.geometry.width
+      OneOf (has_chroma frame) (StopsColors bytes frame error)
+      (StopsGray bytes (non_zero_u8_get frame.bit_depth) frame.y_plane.geometry.width
       frame.y_plane.geometry.height error)
 
   -- ---- differences
@@ -128,7 +128,7 @@ module _ {T : Type 0} where
 
   pub record AcceptsDifference (bytes : ℕ) (first second : Frame T) : Type 0 where
     pub alike : AreAlike first second
-    pub grey : AcceptsGrey bytes (non_zero_u8_get first.bit_depth) first.y_plane.geometry.width
+    pub gray : AcceptsGray bytes (non_zero_u8_get first.bit_depth) first.y_plane.geometry.width
         first.y_plane.geometry.height
 
   -- why differences are not written

@@ -4,26 +4,26 @@ use Rattle.std.specs.Prelude.{ℕ, ◌≡◌, [], ◌∷◌, refl}
 use Rattle.v_frame.specs.Prelude.{Table, one_byte, two_bytes, Yuv420, Yuv444}
 use Rattle.v_frame_convert.specs.Prelude.{scaled, scales_between, pixel_of_depth}
 use Rattle.v_frame_ops.specs.Prelude.{combined, difference_of}
-use Rattle.v_frame_rgb.specs.Exact.{exact_colour, exact_colour_rows, exact_of_pixels}
-use Rattle.v_frame_rgb.specs.declared.standard.ColourRange.TheVariants.{Limited, Full}
+use Rattle.v_frame_rgb.specs.Exact.{exact_color, exact_color_rows, exact_of_pixels}
+use Rattle.v_frame_rgb.specs.declared.standard.ColorRange.TheVariants.{Limited, Full}
 use Rattle.v_frame_rgb.specs.declared.standard.Standard.TheVariants.{Bt601, Bt709}
-use Rattle.yuv_pictures.specs.Colours.{rgb_bytes}
-use Rattle.yuv_pictures.specs.Grey.{grey_rows}
+use Rattle.yuv_pictures.specs.Colors.{rgb_bytes}
+use Rattle.yuv_pictures.specs.Gray.{gray_rows}
 
--- ---- grey
+-- ---- gray
 
 -- 8 bits stay
-grey_of_bytes : grey_rows one_byte 8 ((0 ∷ 16 ∷ 255 ∷ []) ∷ []) ≡ (0 ∷ 16 ∷ 255 ∷ []) ∷ []
-grey_of_bytes = refl
+gray_of_bytes : gray_rows one_byte 8 ((0 ∷ 16 ∷ 255 ∷ []) ∷ []) ≡ (0 ∷ 16 ∷ 255 ∷ []) ∷ []
+gray_of_bytes = refl
 
 -- 10 bits are shifted up: 64 to 4096, 1023 to 65472, high byte first
-grey_of_ten_bits : grey_rows two_bytes 10 ((64 ∷ 1023 ∷ []) ∷ []) ≡ (16 ∷ 0 ∷ 255 ∷ 192 ∷ []) ∷ []
-grey_of_ten_bits = refl
+gray_of_ten_bits : gray_rows two_bytes 10 ((64 ∷ 1023 ∷ []) ∷ []) ≡ (16 ∷ 0 ∷ 255 ∷ 192 ∷ []) ∷ []
+gray_of_ten_bits = refl
 
-grey_of_sixteen_bits : grey_rows two_bytes 16 ((513 ∷ []) ∷ []) ≡ (2 ∷ 1 ∷ []) ∷ []
-grey_of_sixteen_bits = refl
+gray_of_sixteen_bits : gray_rows two_bytes 16 ((513 ∷ []) ∷ []) ≡ (2 ∷ 1 ∷ []) ∷ []
+gray_of_sixteen_bits = refl
 
--- ---- colours
+-- ---- colors
 
 -- two by two of 4:2:0, whose one chroma pixel is that of red
 abbrev red_luma : Table ℕ
@@ -37,37 +37,37 @@ repeated_four sample =
 chroma_of_four : repeated_four 90 ≡ (90 ∷ 90 ∷ []) ∷ (90 ∷ 90 ∷ []) ∷ []
 chroma_of_four = refl
 
-red_by_bt601 : exact_colour_rows Bt601 Limited 8 one_byte rgb_bytes red_luma (repeated_four 90)
+red_by_bt601 : exact_color_rows Bt601 Limited 8 one_byte rgb_bytes red_luma (repeated_four 90)
     (repeated_four 240)
     ≡ (179 ∷ 0 ∷ 0 ∷ 254 ∷ 0 ∷ 0 ∷ []) ∷ (255 ∷ 74 ∷ 74 ∷ 255 ∷ 179 ∷ 178 ∷ []) ∷ []
-unfolding exact_colour exact_of_pixels
+unfolding exact_color exact_of_pixels
 red_by_bt601 = refl
 
 -- another standard or another range makes another red
-red_by_bt709 : exact_colour_rows Bt709 Limited 8 one_byte rgb_bytes ((81 ∷ []) ∷ []) ((90 ∷ []) ∷ [])
+red_by_bt709 : exact_color_rows Bt709 Limited 8 one_byte rgb_bytes ((81 ∷ []) ∷ []) ((90 ∷ []) ∷ [])
     ((240 ∷ []) ∷ []) ≡ (255 ∷ 24 ∷ 0 ∷ []) ∷ []
-unfolding exact_colour exact_of_pixels
+unfolding exact_color exact_of_pixels
 red_by_bt709 = refl
 
-red_of_full_range : exact_colour_rows Bt601 Full 8 one_byte rgb_bytes ((81 ∷ []) ∷ [])
+red_of_full_range : exact_color_rows Bt601 Full 8 one_byte rgb_bytes ((81 ∷ []) ∷ [])
     ((90 ∷ []) ∷ []) ((240 ∷ []) ∷ []) ≡ (238 ∷ 14 ∷ 14 ∷ []) ∷ []
-unfolding exact_colour exact_of_pixels
+unfolding exact_color exact_of_pixels
 red_of_full_range = refl
 
 -- 10 bits are not brought to 8 first, by which it would be 130, 71 and 193
-deep_colour : exact_colour_rows Bt709 Limited 10 two_bytes rgb_bytes ((378 ∷ []) ∷ [])
+deep_color : exact_color_rows Bt709 Limited 10 two_bytes rgb_bytes ((378 ∷ []) ∷ [])
     ((705 ∷ []) ∷ []) ((594 ∷ []) ∷ []) ≡ (128 ∷ 70 ∷ 193 ∷ []) ∷ []
-unfolding exact_colour exact_of_pixels
-deep_colour = refl
+unfolding exact_color exact_of_pixels
+deep_color = refl
 
 -- ---- differences
 
 -- 3 times 20 is 60, 3 times 100 is above 255, and nothing is black
-difference_of_bytes : grey_rows one_byte 8 (combined (combined (difference_of one_byte 3 8))
+difference_of_bytes : gray_rows one_byte 8 (combined (combined (difference_of one_byte 3 8))
     ((120 ∷ 200 ∷ 7 ∷ []) ∷ []) ((100 ∷ 100 ∷ 7 ∷ []) ∷ [])) ≡ (60 ∷ 255 ∷ 0 ∷ []) ∷ []
 difference_of_bytes = refl
 
 -- of 10 bits 3 becomes 12, which is 768 of 16 bits
-difference_of_ten_bits : grey_rows two_bytes 10 (combined (combined (difference_of two_bytes 4 10))
+difference_of_ten_bits : gray_rows two_bytes 10 (combined (combined (difference_of two_bytes 4 10))
     ((500 ∷ []) ∷ []) ((503 ∷ []) ∷ [])) ≡ (3 ∷ 0 ∷ []) ∷ []
 difference_of_ten_bits = refl

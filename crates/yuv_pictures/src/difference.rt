@@ -3,12 +3,12 @@ ghost use Rattle.std.specs.Prelude.{◌≡◌, ◌↔◌, IfErr, IfOk, IsTrue, O
 ghost use Rattle.std.specs.Int.NonZero.{non_zero_u8_get};
 ghost use Rattle.v_frame_png.specs.Prelude.{HasFile};
 ghost use Rattle.yuv_pictures.specs.Differences.{difference_rows};
-ghost use Rattle.yuv_pictures.specs.Grey.{grey_samples};
+ghost use Rattle.yuv_pictures.specs.Gray.{gray_samples};
 ghost use Rattle.yuv_pictures.specs.Planes.{picture_header};
 ghost use Rattle.yuv_pictures.specs.Refusals.{AcceptsDifference, AreAlike, StopsDifference};
 
 use crate::error::PictureError;
-use crate::grey::write_grey;
+use crate::gray::write_gray;
 use std::alloc::Global;
 use std::io;
 use v_frame::frame::Frame;
@@ -16,7 +16,7 @@ use v_frame::pixel::Pixel;
 use v_frame_convert::depth_fits;
 use v_frame_ops::difference;
 
-/// Writes the differences of the luma of two frames in grey, and returns the writer: each is multiplied by `gain`, and at most
+/// Writes the differences of the luma of two frames in gray, and returns the writer: each is multiplied by `gain`, and at most
 /// the largest value of the bit depth. Where nothing differs it is black. It has 8 bits a sample, or 16 where the frames have
 /// a depth above 8.
 ///
@@ -35,7 +35,7 @@ pub fn write_difference_picture<T: Pixel, W: io::Write + Drop>(
 ) -> Result<W, PictureError>
     ensures file { IfOk result (λ new. HasFile W.contents (W.contents out) new
         (picture_header first.now.y_plane.geometry.width first.now.y_plane.geometry.height
-        (grey_samples (non_zero_u8_get first.now.bit_depth)))
+        (gray_samples (non_zero_u8_get first.now.bit_depth)))
         (difference_rows T.form first.now second.now gain)) }
     ensures accepted { OnOk result (AcceptsDifference T.BYTES first.now second.now) }
     ensures error { IfErr result (StopsDifference T.BYTES first.now second.now) }
@@ -49,7 +49,7 @@ pub fn write_difference_picture<T: Pixel, W: io::Write + Drop>(
     }
     let mut plane = first.y_plane.clone(alloc)?;
     difference(&mut plane, &second.y_plane.as_plane_ref(), gain, depth);
-    write_grey(alloc, out, &plane.as_plane_ref(), depth)
+    write_gray(alloc, out, &plane.as_plane_ref(), depth)
 }
 
 /// Returns whether luma has one size, and the frames one bit depth.

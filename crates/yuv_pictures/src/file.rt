@@ -7,9 +7,9 @@ ghost use Rattle.yuv_pictures.specs.Refusals.{trouble_of, IsTrouble, RefusesSize
 use crate::error::PictureError;
 use std::alloc::Global;
 use std::io;
-use v_frame_png::{ColourSpace, Compression, Header, PngError, PngWriter, Samples};
+use v_frame_png::{ColorSpace, Compression, Header, PngError, PngWriter, Samples};
 
-/// Returns the header of a picture, which names no colour space.
+/// Returns the header of a picture, which names no color space.
 ///
 /// # Errors
 ///
@@ -30,7 +30,7 @@ pub(crate) fn header_of(
         width: width as u32,
         height: height as u32,
         samples,
-        colour_space: ColourSpace::Unnamed,
+        color_space: ColorSpace::Unnamed,
     })
 }
 

@@ -1,4 +1,4 @@
-//! Frames as pictures for people, in PNG files: the colours of a frame, one of its planes, or how far two frames are apart.
+//! Frames as pictures for people, in PNG files: the colors of a frame, one of its planes, or how far two frames are apart.
 //!
 //! [`write_frame_picture`], [`write_plane_picture`] and [`write_difference_picture`] write to any writer. Their contracts say
 //! that the file decodes to the rows of a table: `Rattle.yuv_pictures.specs.Prelude` has the words. [`differences`] says in
@@ -7,17 +7,17 @@
 //! Our own.
 #![tactic(auto)]
 
-mod colours;
+mod colors;
 mod difference;
 mod error;
 mod file;
-mod grey;
+mod gray;
 mod places;
 mod plane_name;
 
-pub use colours::{Colours, write_frame_picture};
+pub use colors::{Colors, write_frame_picture};
 pub use difference::write_difference_picture;
 pub use error::PictureError;
-pub use grey::write_plane_picture;
+pub use gray::write_plane_picture;
 pub use places::{Found, PlaneDifference, differences};
 pub use plane_name::PlaneName;

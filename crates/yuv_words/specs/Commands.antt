@@ -2,7 +2,7 @@
 use Rattle.std.specs.Prelude.{ℕ, ◌≡◌, ◌-◌, Bool, true, false, List, [], ◌∷◌, drop, length, replicate, take, Option, Some, None}
 use Rattle.v_frame_formats.specs.Formats.{IsFormat}
 use Rattle.yuv_words.specs.Names.{file_count}
-use Rattle.yuv_words.specs.Values.{IsColourRange, IsGain, IsMatrix, IsNumber, IsPlane, IsRatio, IsRaw, IsRectangle}
+use Rattle.yuv_words.specs.Values.{IsColorRange, IsGain, IsMatrix, IsNumber, IsPlane, IsRatio, IsRaw, IsRectangle}
 use Rattle.yuv_words.specs.declared.command.Command.{Command}
 use Rattle.yuv_words.specs.declared.command.Command.TheVariants.{Call}
 use Rattle.yuv_words.specs.declared.command.CommandName.{CommandName}
@@ -36,7 +36,7 @@ is_json Json = true
 abbrev pub AreFiles : CommandName → List ℕ → List ℕ → List ℕ → List (List ℕ) → Type 0
 AreFiles name first second third files =
     (files ≡ take (file_count name) (first ∷ second ∷ third ∷ []))
-  × (drop (file_count name) (first ∷ second ∷ third ∷ []) ≡ replicate (3 - file_count name) [])
+    × (drop (file_count name) (first ∷ second ∷ third ∷ []) ≡ replicate (3 - file_count name) [])
 
 -- what is given to each option, each time that it stands there
 module _ (given : OptionName → List (List ℕ)) where
@@ -57,7 +57,7 @@ module _ (given : OptionName → List (List ℕ)) where
     pub count : SaysValue IsNumber o.count (given option.Count)
     pub frame : SaysValue IsNumber o.frame (given option.Frame)
     pub matrix : SaysValue IsMatrix o.matrix (given option.Matrix)
-    pub range : SaysValue IsColourRange o.range (given option.Range)
+    pub range : SaysValue IsColorRange o.range (given option.Range)
     pub plane : SaysValue IsPlane o.plane (given option.Plane)
     pub crop : SaysValue IsRectangle o.crop (given option.Crop)
     pub gain : SaysValue IsGain o.gain (given option.Gain)

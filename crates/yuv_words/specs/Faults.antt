@@ -3,7 +3,7 @@ use Rattle.std.specs.Prelude.{ℕ, ◌≡◌, ◌≢◌, ◌≤◌, ◌<◌, ◌
 use Rattle.yuv_words.specs.Calls.{version_word, IsHelpWord}
 use Rattle.v_frame_formats.specs.Formats.{IsFormat}
 use Rattle.yuv_words.specs.Names.{command_text, file_count, option_text, options_of, takes_value}
-use Rattle.yuv_words.specs.Values.{IsColourRange, IsGain, IsMatrix, IsNumber, IsPlane, IsRatio, SpellsRaw}
+use Rattle.yuv_words.specs.Values.{IsColorRange, IsGain, IsMatrix, IsNumber, IsPlane, IsRatio, SpellsRaw}
 use Rattle.yuv_words.specs.Values.{SpellsRectangle}
 use Rattle.yuv_words.specs.Words.{after_end, before_end, files_of, joined_text, spelled, values_of, IsFileWord}
 use Rattle.yuv_words.specs.Words.{IsToken, Token}
@@ -33,7 +33,7 @@ IsNoValue option.Rate text = SpellsNone IsRatio text
 IsNoValue option.Aspect text = SpellsNone IsRatio text
 IsNoValue option.Frame text = SpellsNone IsNumber text
 IsNoValue option.Matrix text = SpellsNone IsMatrix text
-IsNoValue option.Range text = SpellsNone IsColourRange text
+IsNoValue option.Range text = SpellsNone IsColorRange text
 IsNoValue option.Plane text = SpellsNone IsPlane text
 IsNoValue option.Gain text = SpellsNone IsGain text
 IsNoValue _ text = ⊥

@@ -1,7 +1,7 @@
 -- The values of options, and how each is spelled.
 use Rattle.std.specs.Prelude.{ℕ, ◌≡◌, ◌<◌, ◌^◌, ◌++◌, List, [], ◌∷◌, codes, decimal, refl, IfSome, Option, Some, None}
-use Rattle.v_frame_rgb.specs.declared.standard.ColourRange.{ColourRange}
-use Rattle.v_frame_rgb.specs.declared.standard.ColourRange.TheVariants.{Limited, Full}
+use Rattle.v_frame_rgb.specs.declared.standard.ColorRange.{ColorRange}
+use Rattle.v_frame_rgb.specs.declared.standard.ColorRange.TheVariants.{Limited, Full}
 use Rattle.v_frame_rgb.specs.declared.standard.Standard.{Standard}
 use Rattle.v_frame_rgb.specs.declared.standard.Standard.TheVariants.{Bt601, Bt709, Bt2020}
 use Rattle.v_frame_y4m.specs.Header.{ratio_text, FitsRatio}
@@ -86,7 +86,7 @@ matrix_text Bt601 = codes "bt601"
 matrix_text Bt709 = codes "bt709"
 matrix_text Bt2020 = codes "bt2020"
 
-abbrev pub range_text : ColourRange → List ℕ
+abbrev pub range_text : ColorRange → List ℕ
 range_text Limited = codes "limited"
 range_text Full = codes "full"
 
@@ -98,8 +98,8 @@ plane_text V = codes "v"
 abbrev pub IsMatrix : Standard → List ℕ → Type 0
 IsMatrix standard text = text ≡ matrix_text standard
 
-abbrev pub IsColourRange : ColourRange → List ℕ → Type 0
-IsColourRange range text = text ≡ range_text range
+abbrev pub IsColorRange : ColorRange → List ℕ → Type 0
+IsColorRange range text = text ≡ range_text range
 
 abbrev pub IsPlane : PlaneName → List ℕ → Type 0
 IsPlane plane text = text ≡ plane_text plane

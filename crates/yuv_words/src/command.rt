@@ -1,7 +1,7 @@
 //! What the program is asked to do.
 
 use v_frame_formats::VideoFormat;
-use v_frame_rgb::{ColourRange, Standard};
+use v_frame_rgb::{ColorRange, Standard};
 use v_frame_y4m::Ratio;
 
 /// What the words of a call ask for.
@@ -83,8 +83,8 @@ pub struct Options {
     /// `--matrix`: the standard by which R'G'B' is made.
     pub matrix: Option<Standard>,
     /// `--range`: which samples stand for black and white.
-    pub range: Option<ColourRange>,
-    /// `--plane`: the one plane that is shown, in grey.
+    pub range: Option<ColorRange>,
+    /// `--plane`: the one plane that is shown, in gray.
     pub plane: Option<PlaneName>,
     /// `--crop`: the rectangle that is taken of each frame, in luma pixels.
     pub crop: Option<Rectangle>,

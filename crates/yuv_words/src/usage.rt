@@ -135,12 +135,12 @@ and how many samples are outside the nominal range: 16 to 235 for luma and 16 to
 /// How `show` is called.
 const SHOW: &str = "usage: yuv show FILE PICTURE [OPTIONS]
 
-Writes a frame as a PNG: in colour with 8 bits, or in grey.
+Writes a frame as a PNG: in color with 8 bits, or in gray.
 
 --frame N         which frame, counted from 1 (1)
---matrix M        the standard of the colours: bt601, bt709 or bt2020 (bt709)
+--matrix M        the standard of the colors: bt601, bt709 or bt2020 (bt709)
 --range R         the range of the samples: limited or full (limited)
---plane P         shows one plane in grey: y, u or v
+--plane P         shows one plane in gray: y, u or v
 --crop X,Y,WIDTH,HEIGHT
                   shows a rectangle, in luma pixels
 --raw R           the file is headerless raw video: R is WIDTHxHEIGHT:FORMAT
@@ -150,7 +150,7 @@ Writes a frame as a PNG: in colour with 8 bits, or in grey.
 /// How `diff` is called.
 const DIFF: &str = "usage: yuv diff FILE FILE PICTURE [OPTIONS]
 
-Writes the difference of the luma of two frames as a PNG in grey, black where
+Writes the difference of the luma of two frames as a PNG in gray, black where
 they show the same, and reports where planes differ, on standard error where the
 picture goes to standard output. Status 0: they show the same, 1: they differ.
 

@@ -3,14 +3,14 @@ ghost use Rattle.std.specs.Prelude.{List, ℕ, ◌≡◌, ◌≢◌, ◌↔◌, 
 ghost use Rattle.std.specs.Int.{IsInRange};
 ghost use Rattle.v_frame_y4m.specs.declared.header.Ratio.{Ratio as TheRatio};
 ghost use Rattle.v_frame_formats.specs.Formats.{IsFormat};
-ghost use Rattle.yuv_words.specs.Values.{IsColourRange, IsGain, IsMatrix, IsNumber, IsPlane, IsRatio, SpellsFormat, SpellsRaw, SpellsRectangle};
+ghost use Rattle.yuv_words.specs.Values.{IsColorRange, IsGain, IsMatrix, IsNumber, IsPlane, IsRatio, SpellsFormat, SpellsRaw, SpellsRectangle};
 ghost use Rattle.yuv_words.specs.declared.command.RawVideo.{RawVideo as TheRaw};
 ghost use Rattle.yuv_words.specs.declared.command.Rectangle.{Rectangle as TheRectangle};
 ghost use Rattle.v_frame_formats.specs.declared.format.VideoFormat.{VideoFormat as TheFormat};
 
 use crate::command::{PlaneName, RawVideo, Rectangle};
 use v_frame_formats::VideoFormat;
-use v_frame_rgb::{ColourRange, Standard};
+use v_frame_rgb::{ColorRange, Standard};
 use v_frame_y4m::Ratio;
 
 /// What an option may take.
@@ -163,13 +163,13 @@ impl OptionValue for Standard {
     }
 }
 
-impl OptionValue for ColourRange {
-    ghost Spells = { IsColourRange };
+impl OptionValue for ColorRange {
+    ghost Spells = { IsColorRange };
 
-    fn spelled(text: &str) -> Option<ColourRange> {
+    fn spelled(text: &str) -> Option<ColorRange> {
         match text {
-            "limited" => Some(ColourRange::Limited),
-            "full" => Some(ColourRange::Full),
+            "limited" => Some(ColorRange::Limited),
+            "full" => Some(ColorRange::Full),
             _ => None,
         }
     }

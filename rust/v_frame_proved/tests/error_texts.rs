@@ -89,7 +89,7 @@ fn errors_of_streams() {
             HeaderError::Malformed(text(b"Q")),
             HeaderError::ZeroSize('H'),
             HeaderError::SizeTooLarge(text(b"W18446744073709551616")),
-            HeaderError::UnknownColour(text(b"C444alpha")),
+            HeaderError::UnknownColor(text(b"C444alpha")),
             HeaderError::OutOfMemory,
         ],
     );

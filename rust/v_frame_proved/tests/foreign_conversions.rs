@@ -5,7 +5,7 @@ use v_frame_proved::ops::rows as changes;
 use v_frame_proved::pixel::Pixel;
 use v_frame_proved::plane::RowsRef;
 use v_frame_proved::resize::rows as sizes;
-use v_frame_proved::rgb::{Bgr, Bgra, ColourOrder, ColourRange, Rgb, RgbMatrix, Rgba, Standard, YuvMatrix, rows as colours};
+use v_frame_proved::rgb::{Bgr, Bgra, ColorOrder, ColorRange, Rgb, RgbMatrix, Rgba, Standard, YuvMatrix, rows as colors};
 use v_frame_proved::semi_planar::rows as semi_planar;
 use v_frame_proved::statistics::rows as counts;
 use v_frame_proved::turn::rows as turns;
@@ -149,21 +149,21 @@ fn depths() {
     assert_eq!(written::<u16>(2, 1, |it, s| conversions::convert_depth(bytes, it, 2, 1, s, 8, 10)), [[0, 1020]]);
 }
 
-/// Makes two pixels planes, and colours again. A step of a plane is at most two of a colour.
-fn comes_back<O: ColourOrder>(bytes: usize) {
+/// Makes two pixels planes, and colors again. A step of a plane is at most two of a color.
+fn comes_back<O: ColorOrder>(bytes: usize) {
     let pixels: Vec<u8> = [[200, 60, 60, 255], [50, 180, 70, 255]].iter().flat_map(|it| it[..bytes].to_vec()).collect();
     let source = RowsRef::new(&pixels, 2 * bytes, 1, 2 * bytes).unwrap();
-    let (standard, range) = (Standard::Bt601, ColourRange::Full);
+    let (standard, range) = (Standard::Bt601, ColorRange::Full);
     let [mut y, mut u, mut v] = [[0u8; 2]; 3];
-    colours::rgb_to_yuv444::<O>(source, YuvMatrix::new(standard, range), &mut y, &mut u, &mut v, 2, 1, (2, 2, 2));
+    colors::rgb_to_yuv444::<O>(source, YuvMatrix::new(standard, range), &mut y, &mut u, &mut v, 2, 1, (2, 2, 2));
     let [y, u, v] = [&y, &u, &v].map(|plane| RowsRef::new(plane, 2, 1, 2).unwrap());
     let matrix = RgbMatrix::new(standard, range);
-    let back = written::<u8>(2 * bytes, 1, |it, s| colours::yuv444_to_rgb::<O>(y, u, v, matrix, it, 2 * bytes, 1, s));
+    let back = written::<u8>(2 * bytes, 1, |it, s| colors::yuv444_to_rgb::<O>(y, u, v, matrix, it, 2 * bytes, 1, s));
     assert!(back[0].iter().zip(&pixels).all(|(a, b)| a.abs_diff(*b) <= 2), "{back:?}");
 }
 
 #[test]
-fn colours_become_planes_and_colours_again() {
+fn colors_become_planes_and_colors_again() {
     comes_back::<Rgb>(3);
     comes_back::<Bgr>(3);
     comes_back::<Rgba>(4);

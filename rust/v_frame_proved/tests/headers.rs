@@ -1,11 +1,11 @@
-//! Headers of streams, of each colour and way of interlacing: what has a line comes back from it.
+//! Headers of streams, of each color and way of interlacing: what has a line comes back from it.
 use v_frame_proved::chroma::ChromaSubsampling as Format;
-use v_frame_proved::y4m::{ChromaSiting, Colour, Interlacing, Ratio, StreamHeader, header_line, parse_header};
+use v_frame_proved::y4m::{ChromaSiting, Color, Interlacing, Ratio, StreamHeader, header_line, parse_header};
 
 const FORMATS: [Format; 5] =
     [Format::Monochrome, Format::Yuv420, Format::Yuv422, Format::Yuv444, Format::Yuv411];
 const SITINGS: [Option<ChromaSiting>; 4] =
-    [None, Some(ChromaSiting::Centre), Some(ChromaSiting::Left), Some(ChromaSiting::Alternating)];
+    [None, Some(ChromaSiting::Center), Some(ChromaSiting::Left), Some(ChromaSiting::Alternating)];
 const INTERLACINGS: [Option<Interlacing>; 6] = [
     None,
     Some(Interlacing::Progressive),
@@ -15,8 +15,8 @@ const INTERLACINGS: [Option<Interlacing>; 6] = [
     Some(Interlacing::Unknown),
 ];
 
-/// Whether streams have such a colour: 8-bit 4:2:0 says where its chroma lies, and 4:1:1 has 8 bits.
-fn is_colour(format: Format, bit_depth: u8, siting: Option<ChromaSiting>) -> bool {
+/// Whether streams have such a color: 8-bit 4:2:0 says where its chroma lies, and 4:1:1 has 8 bits.
+fn is_color(format: Format, bit_depth: u8, siting: Option<ChromaSiting>) -> bool {
     match bit_depth {
         8 => siting.is_some() == (format == Format::Yuv420),
         9 | 10 | 12 | 14 | 16 => siting.is_none() && format != Format::Yuv411,
@@ -25,28 +25,28 @@ fn is_colour(format: Format, bit_depth: u8, siting: Option<ChromaSiting>) -> boo
 }
 
 #[test]
-fn each_colour_comes_back_from_its_line() {
+fn each_color_comes_back_from_its_line() {
     for format in FORMATS {
         for bit_depth in 0..=255 {
             for siting in SITINGS {
-                let colour = Colour::new(format, bit_depth, siting);
-                assert_eq!(colour.is_some(), is_colour(format, bit_depth, siting), "{format:?} {bit_depth} {siting:?}");
-                if let Some(colour) = colour {
-                    assert_eq!((colour.subsampling(), colour.bit_depth(), colour.siting()), (format, bit_depth, siting));
-                    INTERLACINGS.into_iter().for_each(|interlacing| comes_back(colour, interlacing));
+                let color = Color::new(format, bit_depth, siting);
+                assert_eq!(color.is_some(), is_color(format, bit_depth, siting), "{format:?} {bit_depth} {siting:?}");
+                if let Some(color) = color {
+                    assert_eq!((color.subsampling(), color.bit_depth(), color.siting()), (format, bit_depth, siting));
+                    INTERLACINGS.into_iter().for_each(|interlacing| comes_back(color, interlacing));
                 }
             }
         }
     }
 }
 
-fn comes_back(colour: Colour, interlacing: Option<Interlacing>) {
+fn comes_back(color: Color, interlacing: Option<Interlacing>) {
     let ratio = Some(Ratio { numerator: u64::MAX, denominator: u64::MAX });
     let header = StreamHeader {
         frame_rate: ratio,
         pixel_aspect: ratio,
         interlacing,
-        ..StreamHeader::new(usize::MAX, usize::MAX, colour)
+        ..StreamHeader::new(usize::MAX, usize::MAX, color)
     };
     assert_eq!(parse_header(&header_line(&header).unwrap()), Ok(header));
 }

@@ -10,19 +10,19 @@ use support::planes::{entry, plane_of, weighted};
 use support::streams::{Then, Writer, writer};
 use v_frame_proved::plane::RowsRef;
 use v_frame_proved::png::{
-    ColourSpace, Compression, Crc32Digest, Header, PngError, PngWriter, Samples, crc32, write_png, write_png_with,
+    ColorSpace, Compression, Crc32Digest, Header, PngError, PngWriter, Samples, crc32, write_png, write_png_with,
 };
-use v_frame_proved::rgb::{ColourRange, Rgb, RgbMatrix, Standard, rows::yuv444_to_rgb};
+use v_frame_proved::rgb::{ColorRange, Rgb, RgbMatrix, Standard, rows::yuv444_to_rgb};
 
-const BT2020_PQ: ColourSpace = ColourSpace::Cicp { primaries: 9, transfer: 16, full_range: true };
+const BT2020_PQ: ColorSpace = ColorSpace::Cicp { primaries: 9, transfer: 16, full_range: true };
 
 /// Returns bytes that look like noise.
 fn noise(count: usize) -> Vec<u8> {
     (0..count).map(|i| entry(i, 7919, 256)).collect()
 }
 
-fn header(width: u32, height: u32, samples: Samples, colour_space: ColourSpace) -> Header {
-    Header { width, height, samples, colour_space }
+fn header(width: u32, height: u32, samples: Samples, color_space: ColorSpace) -> Header {
+    Header { width, height, samples, color_space }
 }
 
 #[test]
@@ -49,7 +49,7 @@ fn file_of(picture: Header, compression: Compression, bytes: &[u8]) -> Vec<u8> {
     file
 }
 
-/// The file of 2 by 2 grey pixels: 7 and 0, and below them 255 and 128.
+/// The file of 2 by 2 gray pixels: 7 and 0, and below them 255 and 128.
 const FOUR: [u8; 84] = [
     137, 80, 78, 71, 13, 10, 26, 10, 0, 0, 0, 13, 73, 72, 68, 82, 0, 0, 0, 2, 0, 0, 0, 2, 8, 0, 0, 0, 0, 87, 221, 82,
     248, 0, 0, 0, 27, 73, 68, 65, 84, 120, 1, 0, 3, 0, 252, 255, 0, 7, 0, 0, 3, 0, 252, 255, 0, 255, 128, 1, 0, 0, 255,
@@ -65,42 +65,42 @@ const BLACK: [u8; 86] = [
 
 #[test]
 fn small_files_are_these_bytes() {
-    let grey = header(2, 2, Samples::Grey8, ColourSpace::Unnamed);
-    assert_eq!(file_of(grey, Compression::Stored, &[7, 0, 255, 128]), FOUR);
-    let black = header(20, 2, Samples::Grey8, ColourSpace::Unnamed);
+    let gray = header(2, 2, Samples::Gray8, ColorSpace::Unnamed);
+    assert_eq!(file_of(gray, Compression::Stored, &[7, 0, 255, 128]), FOUR);
+    let black = header(20, 2, Samples::Gray8, ColorSpace::Unnamed);
     assert_eq!(file_of(black, Compression::Fixed, &[0; 40]), BLACK);
 }
 
 /// Pictures of noise, and the length of each file with the sum of its bytes, each times its number from 1 on.
-const FILES: [(u32, u32, Samples, ColourSpace, Compression, usize, u64); 17] = {
-    use ColourSpace::{Srgb, Unnamed};
+const FILES: [(u32, u32, Samples, ColorSpace, Compression, usize, u64); 17] = {
+    use ColorSpace::{Srgb, Unnamed};
     use Compression::{Fixed, Stored};
-    use Samples::{Grey8, Grey16, Rgb8, Rgb16};
+    use Samples::{Gray8, Gray16, Rgb8, Rgb16};
     [
-        (5, 3, Grey8, Unnamed, Stored, 101, 430_299),
-        (5, 3, Grey16, Srgb, Stored, 145, 960_975),
+        (5, 3, Gray8, Unnamed, Stored, 101, 430_299),
+        (5, 3, Gray16, Srgb, Stored, 145, 960_975),
         (5, 3, Rgb8, BT2020_PQ, Stored, 147, 1_063_567),
         (5, 3, Rgb16, Srgb, Stored, 205, 2_220_914),
-        (1, 1, Grey8, Unnamed, Stored, 75, 166_941),
-        (32_767, 1, Grey8, Unnamed, Stored, 32_841, 68_703_272_440),
-        (32_768, 2, Grey8, Unnamed, Stored, 65_638, 274_492_240_909),
+        (1, 1, Gray8, Unnamed, Stored, 75, 166_941),
+        (32_767, 1, Gray8, Unnamed, Stored, 32_841, 68_703_272_440),
+        (32_768, 2, Gray8, Unnamed, Stored, 65_638, 274_492_240_909),
         (20_000, 3, Rgb16, BT2020_PQ, Stored, 360_243, 8_269_348_972_750),
         (640, 97, Rgb8, Unnamed, Stored, 186_914, 2_223_912_208_972),
-        (3, 9_000, Grey8, Srgb, Stored, 81_109, 326_156_616_492),
-        (5, 3, Grey8, Unnamed, Fixed, 106, 567_489),
-        (5, 3, Grey16, Unnamed, Fixed, 113, 674_352),
+        (3, 9_000, Gray8, Srgb, Stored, 81_109, 326_156_616_492),
+        (5, 3, Gray8, Unnamed, Fixed, 106, 567_489),
+        (5, 3, Gray16, Unnamed, Fixed, 113, 674_352),
         (5, 3, Rgb8, Unnamed, Fixed, 110, 508_399),
         (5, 3, Rgb16, Unnamed, Fixed, 184, 2_097_888),
-        (32_767, 1, Grey8, Unnamed, Fixed, 577, 15_111_644),
+        (32_767, 1, Gray8, Unnamed, Fixed, 577, 15_111_644),
         (20_000, 3, Rgb16, Unnamed, Fixed, 9_196, 4_440_587_436),
-        (300, 200, Grey8, Unnamed, Fixed, 4_205, 966_265_021),
+        (300, 200, Gray8, Unnamed, Fixed, 4_205, 966_265_021),
     ]
 };
 
 #[test]
 fn files_of_each_layout_and_of_long_and_many_rows() {
-    for (width, height, samples, colour_space, compression, length, sum) in FILES {
-        let picture = header(width, height, samples, colour_space);
+    for (width, height, samples, color_space, compression, length, sum) in FILES {
+        let picture = header(width, height, samples, color_space);
         let file = file_of(picture, compression, &noise(picture.row_size() * height as usize));
         assert_eq!((file.len(), weighted(&file)), (length, sum), "{picture:?}, {compression:?}");
     }
@@ -109,7 +109,7 @@ fn files_of_each_layout_and_of_long_and_many_rows() {
 #[test]
 fn rows_below_a_row_that_they_equal_are_short() {
     let row: Vec<u8> = (0..64_u8).flat_map(|x| [x.wrapping_mul(4); 3]).collect();
-    let file = file_of(header(64, 64, Samples::Rgb8, ColourSpace::Unnamed), Compression::Fixed, &row.repeat(64));
+    let file = file_of(header(64, 64, Samples::Rgb8, ColorSpace::Unnamed), Compression::Fixed, &row.repeat(64));
     assert_eq!((file.len(), weighted(&file)), (711, 24_251_930));
 }
 
@@ -117,13 +117,13 @@ fn rows_below_a_row_that_they_equal_are_short() {
 fn planes_with_borders_are_written() {
     let layout = [2, 2, 1, 1, 1, 0];
     let plane = plane_of::<u8>(layout, &[9, 9, 9, 9, 9, 7, 0, 9, 9, 255, 128, 9]);
-    let picture = header(2, 2, Samples::Grey8, ColourSpace::Unnamed);
+    let picture = header(2, 2, Samples::Gray8, ColorSpace::Unnamed);
     let mut png = PngWriter::new(Vec::new(), picture).expect("begun");
     png.write_plane(&plane.as_plane_ref()).expect("the plane");
     png.finish().expect("finished");
     assert_eq!(png.into_inner(), FOUR);
     let deep = plane_of::<u16>(layout, &[9, 9, 9, 9, 9, 258, 65_535, 9, 9, 3, 32_768, 9]);
-    let picture = header(2, 2, Samples::Grey16, ColourSpace::Unnamed);
+    let picture = header(2, 2, Samples::Gray16, ColorSpace::Unnamed);
     let mut png = PngWriter::new(Vec::new(), picture).expect("begun");
     png.write_plane_u16(&deep.as_plane_ref()).expect("the plane");
     png.finish().expect("finished");
@@ -131,14 +131,14 @@ fn planes_with_borders_are_written() {
 }
 
 #[test]
-fn luma_without_chroma_is_written_as_grey() {
+fn luma_without_chroma_is_written_as_gray() {
     let (luma, chroma) = ([7, 0, 255, 128], [128; 4]);
     let [y, u, v] = [&luma, &chroma, &chroma].map(|samples| RowsRef::new(samples, 2, 2, 2).expect("rows"));
     let mut bytes = [0; 12];
-    let matrix = RgbMatrix::new(Standard::Bt709, ColourRange::Full);
+    let matrix = RgbMatrix::new(Standard::Bt709, ColorRange::Full);
     yuv444_to_rgb::<Rgb>(&y, &u, &v, matrix, &mut bytes, 6, 2, 6);
     assert_eq!(bytes, [7, 7, 7, 0, 0, 0, 255, 255, 255, 128, 128, 128]);
-    let picture = header(2, 2, Samples::Rgb8, ColourSpace::Srgb);
+    let picture = header(2, 2, Samples::Rgb8, ColorSpace::Srgb);
     let rows = RowsRef::new(&bytes, 6, 2, 6).expect("rows");
     let file = write_png(Vec::new(), picture, &rows).expect("written");
     assert_eq!(file, file_of(picture, Compression::Stored, &bytes));
@@ -157,7 +157,7 @@ fn must_be_of(error: &PngError, then: Then) {
 /// Fails where writing rows to a writer with a habit ends otherwise than with its error, after all bytes that it took,
 /// and closed.
 fn stops(out: Writer, then: Then, compression: Compression, rows: &RowsRef<'_, u8>, taken: &[u8]) {
-    let picture = header(5, 3, Samples::Rgb8, ColourSpace::Srgb);
+    let picture = header(5, 3, Samples::Rgb8, ColorSpace::Srgb);
     let mut png = PngWriter::with_compression(out, picture, compression).expect("begun");
     let error = png.write_rows(rows).and_then(|_| png.finish()).expect_err("a failure");
     must_be_of(&error, then);
@@ -168,7 +168,7 @@ fn stops(out: Writer, then: Then, compression: Compression, rows: &RowsRef<'_, u
 
 #[test]
 fn each_write_fails_in_turn() {
-    let picture = header(5, 3, Samples::Rgb8, ColourSpace::Srgb);
+    let picture = header(5, 3, Samples::Rgb8, ColorSpace::Srgb);
     let bytes = noise(45);
     let rows = RowsRef::new(&bytes, 15, 3, 15).expect("rows");
     for compression in [Compression::Stored, Compression::Fixed] {
@@ -185,7 +185,7 @@ fn each_write_fails_in_turn() {
 fn an_early_failure_closes() {
     let bytes = noise(40_000);
     let then = Then::Fails(ErrorKind::StorageFull);
-    let picture = header(40_000, 4, Samples::Grey8, ColourSpace::Unnamed);
+    let picture = header(40_000, 4, Samples::Gray8, ColorSpace::Unnamed);
     let mut png = PngWriter::new(writer(5).after_bytes(100, then), picture).expect("begun");
     png.write_row(&bytes).expect("a row that waits");
     must_be_of(&png.write_row(&bytes).expect_err("a failure"), then);
@@ -197,12 +197,12 @@ fn an_early_failure_closes() {
 #[test]
 fn sizes_that_no_file_has_are_refused() {
     for (width, height) in [(0, 1), (1, 0), (0x8000_0000, 1), (1, 0x8000_0000)] {
-        let picture = header(width, height, Samples::Grey8, ColourSpace::Unnamed);
+        let picture = header(width, height, Samples::Gray8, ColorSpace::Unnamed);
         assert!(!picture.is_size());
         let error = PngWriter::new(Vec::new(), picture).expect_err("a refusal");
         assert_eq!(error.to_string(), format!("no PNG of {width} by {height} pixels"));
     }
-    let largest = header(0x7FFF_FFFF, 0x7FFF_FFFF, Samples::Rgb16, ColourSpace::Srgb);
+    let largest = header(0x7FFF_FFFF, 0x7FFF_FFFF, Samples::Rgb16, ColorSpace::Srgb);
     assert!(largest.is_size());
     assert_eq!(largest.row_size(), 12_884_901_882);
     assert!(PngWriter::new(Vec::new(), largest).is_ok());
@@ -210,7 +210,7 @@ fn sizes_that_no_file_has_are_refused() {
 
 #[test]
 fn rows_that_do_not_belong_are_refused() {
-    let picture = header(2, 2, Samples::Grey8, ColourSpace::Unnamed);
+    let picture = header(2, 2, Samples::Gray8, ColorSpace::Unnamed);
     let mut png = PngWriter::new(Vec::new(), picture).expect("begun");
     assert!(matches!(png.write_row(&[1]), Err(PngError::RowLength { expected: 2, found: 1 })));
     assert!(matches!(png.finish(), Err(PngError::RowsMissing { count: 2 })));

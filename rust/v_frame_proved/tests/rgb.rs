@@ -1,4 +1,4 @@
-//! Luma and chroma as colours, and colours as luma and chroma: five pixels by three, in planes and in rows.
+//! Luma and chroma as colors, and colors as luma and chroma: five pixels by three, in planes and in rows.
 
 mod support;
 
@@ -7,20 +7,20 @@ use support::planes::{BORDER, blank, bordered, must_hold, must_show, numbered, p
 use v_frame_proved::pixel::Pixel;
 use v_frame_proved::plane::RowsRef;
 use v_frame_proved::rgb::{
-    Bgr, Bgra, Channel, ChromaU, ChromaV, Colour, ColourOrder, ColourRange, ExactMatrix, Luma, Rgb, RgbMatrix, Rgba,
+    Bgr, Bgra, Channel, ChromaU, ChromaV, Color, ColorOrder, ColorRange, ExactMatrix, Luma, Rgb, RgbMatrix, Rgba,
     Standard, YuvMatrix, rgb_to_channel, rgb_to_yuv444, rows, yuv444_to_rgb,
 };
 
-const CASES: &str = include_str!("data/colours.txt");
+const CASES: &str = include_str!("data/colors.txt");
 
 /// Returns the standard and the range that a case names.
-fn standard(case: &mut Case<'_>) -> (Standard, ColourRange) {
+fn standard(case: &mut Case<'_>) -> (Standard, ColorRange) {
     let standard = match case.word() {
         "Bt601" => Standard::Bt601,
         "Bt709" => Standard::Bt709,
         _ => Standard::Bt2020,
     };
-    (standard, if case.word() == "Full" { ColourRange::Full } else { ColourRange::Limited })
+    (standard, if case.word() == "Full" { ColorRange::Full } else { ColorRange::Limited })
 }
 
 /// Returns the samples of luma, of Cb and of Cr.
@@ -28,7 +28,7 @@ fn samples() -> [Vec<u8>; 3] {
     ["y", "u", "v"].map(|name| values(CASES, name))
 }
 
-fn decodes<O: ColourOrder>(case: &Case<'_>, matrix: RgbMatrix) {
+fn decodes<O: ColorOrder>(case: &Case<'_>, matrix: RgbMatrix) {
     let wanted: Vec<u8> = case.wanted();
     let (width, stride) = (5 * O::BYTES, 5 * O::BYTES + 2);
     let holds = |buffer: &[u8]| must_hold(buffer, stride, (0, 0), (width, 3), |x, y| wanted[y * width + x]);
@@ -45,7 +45,7 @@ fn decodes<O: ColourOrder>(case: &Case<'_>, matrix: RgbMatrix) {
 }
 
 #[test]
-fn samples_become_colours() {
+fn samples_become_colors() {
     for mut case in cases(CASES, "decode") {
         let (standard, range) = standard(&mut case);
         let matrix = RgbMatrix::new(standard, range);
@@ -59,7 +59,7 @@ fn samples_become_colours() {
 }
 
 /// Fails where a channel of a picture is another one, in rows or in a plane.
-fn encodes_channel<O: ColourOrder, C: Channel>(source: &RowsRef<'_, u8>, matrix: YuvMatrix, wanted: &[u8]) {
+fn encodes_channel<O: ColorOrder, C: Channel>(source: &RowsRef<'_, u8>, matrix: YuvMatrix, wanted: &[u8]) {
     let mut buffer = [BORDER; 25];
     rows::rgb_to_channel::<O, C>(source, matrix, &mut buffer, 5, 3, 5);
     must_hold(&buffer, 5, (0, 0), (5, 3), |x, y| wanted[5 * y + x]);
@@ -68,11 +68,11 @@ fn encodes_channel<O: ColourOrder, C: Channel>(source: &RowsRef<'_, u8>, matrix:
     must_show(&plane, |x, y| wanted[5 * y + x]);
 }
 
-fn encodes<O: ColourOrder>(case: &Case<'_>, matrix: YuvMatrix) {
+fn encodes<O: ColorOrder>(case: &Case<'_>, matrix: YuvMatrix) {
     let wanted: Vec<u8> = case.wanted();
     let [luma, cb, cr] = [0, 15, 30].map(|start| &wanted[start..start + 15]);
-    let colours: Vec<u8> = values(CASES, "colours");
-    let source = RowsRef::new(&colours, 5 * O::BYTES, 3, 5 * O::BYTES).expect("rows");
+    let colors: Vec<u8> = values(CASES, "colors");
+    let source = RowsRef::new(&colors, 5 * O::BYTES, 3, 5 * O::BYTES).expect("rows");
     let [mut y, mut u, mut v] = [(); 3].map(|()| bordered([5, 3, 2, 1, 1, 2]));
     rgb_to_yuv444::<O>(&source, matrix, &mut y, &mut u, &mut v);
     for (plane, wanted) in [(&y, luma), (&u, cb), (&v, cr)] {
@@ -89,7 +89,7 @@ fn encodes<O: ColourOrder>(case: &Case<'_>, matrix: YuvMatrix) {
 }
 
 #[test]
-fn colours_become_samples() {
+fn colors_become_samples() {
     for mut case in cases(CASES, "encode") {
         let (standard, range) = standard(&mut case);
         let matrix = YuvMatrix::new(standard, range);
@@ -118,13 +118,13 @@ fn coefficients_are_those_of_the_standards() {
 }
 
 #[test]
-fn wide_pictures_become_colours_and_samples() {
+fn wide_pictures_become_colors_and_samples() {
     let layout = [67, 9, 0, 0, 0, 0];
     let factors: Vec<usize> = values(CASES, "factors");
     let samples = [0, 1, 2].map(|index| numbered::<u8>(layout, factors[index], 0));
     let [y, u, v] = [0, 1, 2].map(|index| samples[index].as_plane_ref());
-    let colours: Vec<u8> = (0..67 * 9).flat_map(|i| [0, 1, 2].map(|index| samples[index].data()[i])).collect();
-    let source = RowsRef::new(&colours, 3 * 67, 9, 3 * 67).expect("rows");
+    let colors: Vec<u8> = (0..67 * 9).flat_map(|i| [0, 1, 2].map(|index| samples[index].data()[i])).collect();
+    let source = RowsRef::new(&colors, 3 * 67, 9, 3 * 67).expect("rows");
     for mut case in cases(CASES, "wide") {
         let (standard, range) = standard(&mut case);
         let mut buffer = vec![0; 3 * 67 * 9];
@@ -135,7 +135,7 @@ fn wide_pictures_become_colours_and_samples() {
     }
 }
 
-/// Returns the sum of the colours of a wide picture of a bit depth.
+/// Returns the sum of the colors of a wide picture of a bit depth.
 fn exact<T: Pixel>(matrix: &ExactMatrix, size: u16) -> u64 {
     let factors: Vec<usize> = values(CASES, "factors");
     let samples = [0, 1, 2].map(|index| numbered::<T>([67, 9, 0, 0, 0, 0], factors[index], size));
@@ -145,7 +145,7 @@ fn exact<T: Pixel>(matrix: &ExactMatrix, size: u16) -> u64 {
 }
 
 #[test]
-fn samples_of_any_depth_become_colours() {
+fn samples_of_any_depth_become_colors() {
     for mut case in cases(CASES, "exact") {
         let (standard, range) = standard(&mut case);
         let depth: u8 = case.number();
@@ -156,14 +156,14 @@ fn samples_of_any_depth_become_colours() {
 }
 
 #[test]
-fn colours_come_back_nearly() {
+fn colors_come_back_nearly() {
     for mut case in cases(CASES, "stored") {
         let (standard, range) = standard(&mut case);
-        let colour = Colour { red: case.number(), green: case.number(), blue: case.number() };
+        let color = Color { red: case.number(), green: case.number(), blue: case.number() };
         let matrix = YuvMatrix::new(standard, range);
         let (y, u, v) =
-            (Luma::sample(matrix, colour), ChromaU::sample(matrix, colour), ChromaV::sample(matrix, colour));
-        let Colour { red, green, blue } = RgbMatrix::new(standard, range).colour(y, u, v);
+            (Luma::sample(matrix, color), ChromaU::sample(matrix, color), ChromaV::sample(matrix, color));
+        let Color { red, green, blue } = RgbMatrix::new(standard, range).color(y, u, v);
         case.expect(&[red, green, blue]);
     }
 }

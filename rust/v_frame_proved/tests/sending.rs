@@ -11,7 +11,7 @@ use v_frame_proved::bytes::send;
 use v_frame_proved::chart::{Chart, Series, write_svg};
 use v_frame_proved::planar::{Counted, WriteFault};
 use v_frame_proved::plane::RowsRef;
-use v_frame_proved::png::{ColourSpace, Header, PngError, Samples, write_png};
+use v_frame_proved::png::{ColorSpace, Header, PngError, Samples, write_png};
 
 const BYTES: [u8; 12] = [1, 2, 3, 4, 5, 6, 7, 8, 9, 10, 11, 12];
 
@@ -33,7 +33,7 @@ fn counted_bytes(out: &mut Writer) -> Result<(), ErrorKind> {
 }
 
 fn picture(out: &mut Writer) -> Result<(), ErrorKind> {
-    let header = Header { width: 4, height: 3, samples: Samples::Grey8, colour_space: ColourSpace::Unnamed };
+    let header = Header { width: 4, height: 3, samples: Samples::Gray8, color_space: ColorSpace::Unnamed };
     let rows = RowsRef::new(&BYTES, 4, 3, 4).expect("rows");
     write_png(out, header, &rows).map(drop).map_err(|error| match error {
         PngError::Write(cause) => cause.kind(),

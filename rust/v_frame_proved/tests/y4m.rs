@@ -91,8 +91,8 @@ fn lines_are_refused_for_the_first_reason() {
         ("YUV4MPEG2 W35 H12 Ix", HeaderError::Malformed(piece(b"Ix"))),
         ("YUV4MPEG2 W35 H0", HeaderError::ZeroSize('H')),
         ("YUV4MPEG2 W18446744073709551616 H12", HeaderError::SizeTooLarge(piece(b"W18446744073709551616"))),
-        ("YUV4MPEG2 W35 H1 C4", HeaderError::UnknownColour(piece(b"C4"))),
-        ("YUV4MPEG2 W36 H14 C444alpha", HeaderError::UnknownColour(piece(b"C444alpha"))),
+        ("YUV4MPEG2 W35 H1 C4", HeaderError::UnknownColor(piece(b"C4"))),
+        ("YUV4MPEG2 W36 H14 C444alpha", HeaderError::UnknownColor(piece(b"C444alpha"))),
     ] {
         assert_eq!(parse_header(line.as_bytes()).as_ref().err(), Some(&error), "{line}");
         refuses(format!("{line}\nFRAME\nabc").as_bytes(), Y4mError::Header(error), (line.len() + 1, 0));
@@ -131,7 +131,7 @@ fn errors_say_why() {
         (HeaderError::Malformed(piece(b"")), "malformed parameter ``"),
         (HeaderError::Malformed(piece(b"Q \x00~\x7f\xff1")), "malformed parameter `Q??~??1`"),
         (HeaderError::SizeTooLarge(piece(b"W18446744073709551616")), "size too large `W18446744073709551616`"),
-        (HeaderError::UnknownColour(piece(b"C444alpha")), "unknown colour `C444alpha`"),
+        (HeaderError::UnknownColor(piece(b"C444alpha")), "unknown color `C444alpha`"),
     ] {
         assert_eq!(error.to_string(), text);
         assert_eq!(Y4mError::Header(error).to_string(), text);

@@ -1,17 +1,17 @@
-//! From Y'CbCr to R'G'B': rows of luma and chroma of one size become rows of colours.
+//! From Y'CbCr to R'G'B': rows of luma and chroma of one size become rows of colors.
 ghost use Rattle.std.specs.Prelude.{◌≡◌, ◌*◌, length, flat_map};
 ghost use Rattle.v_frame.specs.Prelude.{strided_rows, width_of, height_of, KeepsRest, RowsFit};
-ghost use Rattle.v_frame_rgb.specs.Colours.{colours_of, colour_rows};
+ghost use Rattle.v_frame_rgb.specs.Colors.{colors_of, color_rows};
 
-use crate::colour::ColourOrder;
+use crate::color::ColorOrder;
 use crate::matrix::RgbMatrix;
 use v_frame::plane::RowsRef;
 
-/// Makes the rows of a buffer the colours of luma and chroma of one size, in the order `O`.
+/// Makes the rows of a buffer the colors of luma and chroma of one size, in the order `O`.
 ///
-/// `width` and `stride` count bytes. A row of the buffer has [`BYTES`](ColourOrder::BYTES) bytes for each pixel.
+/// `width` and `stride` count bytes. A row of the buffer has [`BYTES`](ColorOrder::BYTES) bytes for each pixel.
 #[tactic(auto, using(v_frame_raster::proofs::tables::StridedWrites::row_ends))]
-pub fn yuv444_to_rgb<O: ColourOrder>(
+pub fn yuv444_to_rgb<O: ColorOrder>(
     y: &RowsRef<'_, u8>,
     u: &RowsRef<'_, u8>,
     v: &RowsRef<'_, u8>,
@@ -29,7 +29,7 @@ pub fn yuv444_to_rgb<O: ColourOrder>(
     requires v_wide { width_of v.now ≡ width_of y.now }
     requires v_high { height_of v.now ≡ height }
     ensures table { strided_rows width height stride buffer.new
-        ≡ colour_rows matrix O.bytes_of y.now u.now v.now }
+        ≡ color_rows matrix O.bytes_of y.now u.now v.now }
     ensures rest { KeepsRest width height stride buffer.old buffer.new }
 {
     for k in 0..height {
@@ -39,18 +39,18 @@ pub fn yuv444_to_rgb<O: ColourOrder>(
     }
 }
 
-/// Makes colours of a row of luma and two of chroma, which have its length.
-fn decode_row<O: ColourOrder>(out: &mut [u8], y: &[u8], u: &[u8], v: &[u8], matrix: RgbMatrix)
+/// Makes colors of a row of luma and two of chroma, which have its length.
+fn decode_row<O: ColorOrder>(out: &mut [u8], y: &[u8], u: &[u8], v: &[u8], matrix: RgbMatrix)
     requires out { length out.old ≡ O.BYTES * length y.now }
     requires u { length u.now ≡ length y.now }
     requires v { length v.now ≡ length y.now }
-    ensures { out.new ≡ flat_map O.bytes_of (colours_of matrix y.now u.now v.now) }
+    ensures { out.new ≡ flat_map O.bytes_of (colors_of matrix y.now u.now v.now) }
 {
     for x in 0..y.len() {
         let start = O::BYTES * x;
         O::write(
             &mut out[start..start + O::BYTES],
-            matrix.colour(y[x], u[x], v[x]),
+            matrix.color(y[x], u[x], v[x]),
         );
     }
 }

@@ -1,18 +1,18 @@
-//! From R'G'B' to Y'CbCr: rows of colours become rows of samples of three channels, or of one.
+//! From R'G'B' to Y'CbCr: rows of colors become rows of samples of three channels, or of one.
 ghost use Rattle.std.specs.Prelude.{◌≡◌, ◌*◌, length, map};
 ghost use Rattle.v_frame.specs.Prelude.{strided_rows, width_of, height_of, KeepsRest, RowsFit};
-ghost use Rattle.v_frame_rgb.specs.Colours.{colours_in, sample_rows, y_of, u_of, v_of};
+ghost use Rattle.v_frame_rgb.specs.Colors.{colors_in, sample_rows, y_of, u_of, v_of};
 
-use crate::colour::ColourOrder;
+use crate::color::ColorOrder;
 use crate::matrix::YuvMatrix;
 use crate::sample::{Channel, ChromaU, ChromaV, Luma};
 use v_frame::plane::RowsRef;
 
-/// Makes the rows of three buffers the luma and the chroma of a picture of colours, in the order `O`.
+/// Makes the rows of three buffers the luma and the chroma of a picture of colors, in the order `O`.
 ///
-/// A row of the picture has [`BYTES`](ColourOrder::BYTES) bytes for each sample. `strides` are those of `y`, `u` and `v`.
+/// A row of the picture has [`BYTES`](ColorOrder::BYTES) bytes for each sample. `strides` are those of `y`, `u` and `v`.
 #[tactic(auto, using(v_frame_raster::proofs::tables::StridedWrites::row_ends))]
-pub fn rgb_to_yuv444<O: ColourOrder>(
+pub fn rgb_to_yuv444<O: ColorOrder>(
     source: &RowsRef<'_, u8>,
     matrix: YuvMatrix,
     y: &mut [u8],
@@ -28,11 +28,11 @@ pub fn rgb_to_yuv444<O: ColourOrder>(
     requires wide { width_of source.now ≡ O.BYTES * width }
     requires high { height_of source.now ≡ height }
     ensures luma { strided_rows width height strides.0 y.new
-        ≡ sample_rows (y_of matrix) O.colour_at O.BYTES width source.now }
+        ≡ sample_rows (y_of matrix) O.color_at O.BYTES width source.now }
     ensures chroma_u { strided_rows width height strides.1 u.new
-        ≡ sample_rows (u_of matrix) O.colour_at O.BYTES width source.now }
+        ≡ sample_rows (u_of matrix) O.color_at O.BYTES width source.now }
     ensures chroma_v { strided_rows width height strides.2 v.new
-        ≡ sample_rows (v_of matrix) O.colour_at O.BYTES width source.now }
+        ≡ sample_rows (v_of matrix) O.color_at O.BYTES width source.now }
     ensures y_rest { KeepsRest width height strides.0 y.old y.new }
     ensures u_rest { KeepsRest width height strides.1 u.old u.new }
     ensures v_rest { KeepsRest width height strides.2 v.old v.new }
@@ -50,11 +50,11 @@ pub fn rgb_to_yuv444<O: ColourOrder>(
     }
 }
 
-/// Makes the rows of a buffer the samples of a picture of colours, in the order `O`, for the channel `C`.
+/// Makes the rows of a buffer the samples of a picture of colors, in the order `O`, for the channel `C`.
 ///
-/// A row of the picture has [`BYTES`](ColourOrder::BYTES) bytes for each sample.
+/// A row of the picture has [`BYTES`](ColorOrder::BYTES) bytes for each sample.
 #[tactic(auto, using(v_frame_raster::proofs::tables::StridedWrites::row_ends))]
-pub fn rgb_to_channel<O: ColourOrder, C: Channel>(
+pub fn rgb_to_channel<O: ColorOrder, C: Channel>(
     source: &RowsRef<'_, u8>,
     matrix: YuvMatrix,
     buffer: &mut [u8],
@@ -66,7 +66,7 @@ pub fn rgb_to_channel<O: ColourOrder, C: Channel>(
     requires wide { width_of source.now ≡ O.BYTES * width }
     requires high { height_of source.now ≡ height }
     ensures table { strided_rows width height stride buffer.new
-        ≡ sample_rows (C.sample matrix) O.colour_at O.BYTES width source.now }
+        ≡ sample_rows (C.sample matrix) O.color_at O.BYTES width source.now }
     ensures rest { KeepsRest width height stride buffer.old buffer.new }
 {
     for k in 0..height {
@@ -79,38 +79,38 @@ pub fn rgb_to_channel<O: ColourOrder, C: Channel>(
     }
 }
 
-/// Makes samples of a row of colours, one for each.
-fn encode_row<O: ColourOrder, C: Channel>(out: &mut [u8], colours: &[u8], matrix: YuvMatrix)
-    requires { length colours.now ≡ O.BYTES * length out.old }
+/// Makes samples of a row of colors, one for each.
+fn encode_row<O: ColorOrder, C: Channel>(out: &mut [u8], colors: &[u8], matrix: YuvMatrix)
+    requires { length colors.now ≡ O.BYTES * length out.old }
     ensures { out.new
-        ≡ map (C.sample matrix) (colours_in O.colour_at O.BYTES (length out.old) colours.now) }
+        ≡ map (C.sample matrix) (colors_in O.color_at O.BYTES (length out.old) colors.now) }
 {
     for x in 0..out.len() {
         let start = O::BYTES * x;
-        out[x] = C::sample(matrix, O::read(&colours[start..start + O::BYTES]));
+        out[x] = C::sample(matrix, O::read(&colors[start..start + O::BYTES]));
     }
 }
 
-/// Makes luma and chroma of a row of colours, one sample of each for each colour.
-fn encode_channels<O: ColourOrder>(
+/// Makes luma and chroma of a row of colors, one sample of each for each color.
+fn encode_channels<O: ColorOrder>(
     y: &mut [u8],
     u: &mut [u8],
     v: &mut [u8],
-    colours: &[u8],
+    colors: &[u8],
     matrix: YuvMatrix,
 )
-    requires colours { length colours.now ≡ O.BYTES * length y.old }
+    requires colors { length colors.now ≡ O.BYTES * length y.old }
     requires u_long { length u.old ≡ length y.old }
     requires v_long { length v.old ≡ length y.old }
-    ensures y { y.new ≡ map (y_of matrix) (colours_in O.colour_at O.BYTES (length y.old) colours.now) }
-    ensures u { u.new ≡ map (u_of matrix) (colours_in O.colour_at O.BYTES (length u.old) colours.now) }
-    ensures v { v.new ≡ map (v_of matrix) (colours_in O.colour_at O.BYTES (length v.old) colours.now) }
+    ensures y { y.new ≡ map (y_of matrix) (colors_in O.color_at O.BYTES (length y.old) colors.now) }
+    ensures u { u.new ≡ map (u_of matrix) (colors_in O.color_at O.BYTES (length u.old) colors.now) }
+    ensures v { v.new ≡ map (v_of matrix) (colors_in O.color_at O.BYTES (length v.old) colors.now) }
 {
     for x in 0..y.len() {
         let start = O::BYTES * x;
-        let colour = O::read(&colours[start..start + O::BYTES]);
-        y[x] = Luma::sample(matrix, colour);
-        u[x] = ChromaU::sample(matrix, colour);
-        v[x] = ChromaV::sample(matrix, colour);
+        let color = O::read(&colors[start..start + O::BYTES]);
+        y[x] = Luma::sample(matrix, color);
+        u[x] = ChromaU::sample(matrix, color);
+        v[x] = ChromaV::sample(matrix, color);
     }
 }

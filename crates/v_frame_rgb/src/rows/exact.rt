@@ -1,18 +1,18 @@
-//! From Y'CbCr of any bit depth to R'G'B': rows of luma and chroma of one size become rows of colours, rounded once.
+//! From Y'CbCr of any bit depth to R'G'B': rows of luma and chroma of one size become rows of colors, rounded once.
 ghost use Rattle.std.specs.Prelude.{◌≡◌, ◌*◌, length, flat_map};
 ghost use Rattle.v_frame.specs.Prelude.{strided_rows, width_of, height_of, KeepsRest, RowsFit};
-ghost use Rattle.v_frame_rgb.specs.Exact.{exact_colours, exact_colour_rows, exact_of_pixels};
+ghost use Rattle.v_frame_rgb.specs.Exact.{exact_colors, exact_color_rows, exact_of_pixels};
 
-use crate::colour::{Colour, ColourOrder};
+use crate::color::{Color, ColorOrder};
 use crate::exact::ExactMatrix;
 use v_frame::pixel::Pixel;
 use v_frame::plane::RowsRef;
 
-/// Makes the rows of a buffer the colours of luma and chroma of one size, in the order `O`. Each channel is rounded once.
+/// Makes the rows of a buffer the colors of luma and chroma of one size, in the order `O`. Each channel is rounded once.
 ///
-/// `width` and `stride` count bytes. A row of the buffer has [`BYTES`](ColourOrder::BYTES) bytes for each pixel.
+/// `width` and `stride` count bytes. A row of the buffer has [`BYTES`](ColorOrder::BYTES) bytes for each pixel.
 #[tactic(auto, using(v_frame_raster::proofs::tables::StridedWrites::row_ends))]
-pub fn yuv444_to_rgb_exactly<T: Pixel, O: ColourOrder>(
+pub fn yuv444_to_rgb_exactly<T: Pixel, O: ColorOrder>(
     y: &RowsRef<'_, T>,
     u: &RowsRef<'_, T>,
     v: &RowsRef<'_, T>,
@@ -30,7 +30,7 @@ pub fn yuv444_to_rgb_exactly<T: Pixel, O: ColourOrder>(
     requires v_wide { width_of v.now ≡ width_of y.now }
     requires v_high { height_of v.now ≡ height }
     ensures table { strided_rows width height stride buffer.new
-        ≡ exact_colour_rows matrix.now.standard matrix.now.range matrix.now.depth T.form
+        ≡ exact_color_rows matrix.now.standard matrix.now.range matrix.now.depth T.form
         O.bytes_of y.now u.now v.now }
     ensures rest { KeepsRest width height stride buffer.old buffer.new }
 {
@@ -41,8 +41,8 @@ pub fn yuv444_to_rgb_exactly<T: Pixel, O: ColourOrder>(
     }
 }
 
-/// Makes colours of a row of luma and two of chroma, which have its length.
-fn decode_row<T: Pixel, O: ColourOrder>(
+/// Makes colors of a row of luma and two of chroma, which have its length.
+fn decode_row<T: Pixel, O: ColorOrder>(
     out: &mut [u8],
     y: &[T],
     u: &[T],
@@ -52,22 +52,22 @@ fn decode_row<T: Pixel, O: ColourOrder>(
     requires out { length out.old ≡ O.BYTES * length y.now }
     requires u { length u.now ≡ length y.now }
     requires v { length v.now ≡ length y.now }
-    ensures { out.new ≡ flat_map O.bytes_of (exact_colours matrix.now.standard matrix.now.range
+    ensures { out.new ≡ flat_map O.bytes_of (exact_colors matrix.now.standard matrix.now.range
         matrix.now.depth T.form y.now u.now v.now) }
 {
     for x in 0..y.len() {
         let start = O::BYTES * x;
-        let colour = colour_of_pixels(matrix, y[x], u[x], v[x]);
-        O::write(&mut out[start..start + O::BYTES], colour);
+        let color = color_of_pixels(matrix, y[x], u[x], v[x]);
+        O::write(&mut out[start..start + O::BYTES], color);
     }
 }
 
-/// Returns the colour of a pixel of luma and two of chroma.
+/// Returns the color of a pixel of luma and two of chroma.
 #[inline(always)]
 #[tactic(auto, unfolding(crate::specs::Exact::exact_of_pixels))]
-fn colour_of_pixels<T: Pixel>(matrix: &ExactMatrix, y: T, u: T, v: T) -> Colour
+fn color_of_pixels<T: Pixel>(matrix: &ExactMatrix, y: T, u: T, v: T) -> Color
     ensures { result ≡ exact_of_pixels matrix.now.standard matrix.now.range matrix.now.depth
         T.form y u v }
 {
-    matrix.colour(y.into_u16(), u.into_u16(), v.into_u16())
+    matrix.color(y.into_u16(), u.into_u16(), v.into_u16())
 }

@@ -97,8 +97,8 @@ fn push_format(text: &mut String, header: &StreamHeader) -> Result<(), AllocErro
         ≡ string_bytes text.old ++ format_facts header.now) }
 {
     let (width, height) = (header.width, header.height);
-    let depth = header.colour.bit_depth();
-    let format = chroma_name(header.colour.subsampling());
+    let depth = header.color.bit_depth();
+    let format = chroma_name(header.color.subsampling());
     writeln!(text, "size: {width}x{height}")?;
     writeln!(text, "format: {format}")?;
     writeln!(text, "bit depth: {depth}")
@@ -130,7 +130,7 @@ fn push_facts(text: &mut String, header: &StreamHeader) -> Result<(), AllocError
     ensures { OnOk result (string_bytes text.new
         ≡ string_bytes text.old ++ stated_facts header.now) }
 {
-    push_siting(text, header.colour.siting())?;
+    push_siting(text, header.color.siting())?;
     push_ratio(text, "frame rate", &header.frame_rate)?;
     push_interlacing(text, header.interlacing)?;
     push_ratio(text, "pixel aspect", &header.pixel_aspect)
@@ -151,7 +151,7 @@ fn siting_name(siting: ChromaSiting) -> &'static str
     ensures { result.now ≡ siting_text siting }
 {
     match siting {
-        ChromaSiting::Centre => "centre",
+        ChromaSiting::Center => "center",
         ChromaSiting::Left => "left",
         ChromaSiting::Alternating => "alternating, as in PAL DV",
     }

@@ -36,7 +36,12 @@ pub fn answer<T: Pixel>(frame: &mut Frame<T>, tokens: &mut Tokens, out: &mut Str
 }
 
 /// The same of the calls that write.
-fn answer_write<T: Pixel>(name: &str, plane: &mut Plane<T>, tokens: &mut Tokens, out: &mut String) -> Read<()> {
+fn answer_write<T: Pixel>(
+    name: &str,
+    plane: &mut Plane<T>,
+    tokens: &mut Tokens,
+    out: &mut String,
+) -> Read<()> {
     match name {
         "RowMut" => {
             let y = tokens.size()?;
@@ -87,7 +92,10 @@ fn answer_write<T: Pixel>(name: &str, plane: &mut Plane<T>, tokens: &mut Tokens,
         "CopyFromU8Slice" => print_copy(plane.copy_from_u8_slice(&tokens.source()?), out),
         "CopyFromU8SliceWithStride" => {
             let stride = tokens.size()?;
-            print_copy(plane.copy_from_u8_slice_with_stride(&tokens.source()?, stride), out);
+            print_copy(
+                plane.copy_from_u8_slice_with_stride(&tokens.source()?, stride),
+                out,
+            );
         }
         other => return Err(format!("unknown call: {other}")),
     }
@@ -96,7 +104,11 @@ fn answer_write<T: Pixel>(name: &str, plane: &mut Plane<T>, tokens: &mut Tokens,
 
 /// The pixel of a place in the visible rectangle.
 fn visible<T: Pixel>(plane: &mut Plane<T>, x: usize, y: usize) -> Option<&mut T> {
-    if x < plane.width() && y < plane.height() { plane.pixel_mut(x, y) } else { None }
+    if x < plane.width() && y < plane.height() {
+        plane.pixel_mut(x, y)
+    } else {
+        None
+    }
 }
 
 /// Takes an item from a side.
@@ -145,7 +157,11 @@ fn print_pixel<T: Pixel>(pixel: Option<T>, out: &mut String) {
 fn print_copy(copied: Result<(), CopyError>, out: &mut String) {
     let _ = match copied {
         Ok(()) => write!(out, "Copied Ok"),
-        Err(CopyError::DataLength { expected, found }) => write!(out, "Copied DataLength {expected} {found}"),
-        Err(CopyError::InvalidStride { stride, width }) => write!(out, "Copied InvalidStride {stride} {width}"),
+        Err(CopyError::DataLength { expected, found }) => {
+            write!(out, "Copied DataLength {expected} {found}")
+        }
+        Err(CopyError::InvalidStride { stride, width }) => {
+            write!(out, "Copied InvalidStride {stride} {width}")
+        }
     };
 }

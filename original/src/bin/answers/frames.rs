@@ -37,7 +37,13 @@ impl Spec {
         };
         let paddings = tokens.sizes()?;
         tokens.end()?;
-        Ok(Spec { bytes, depth, size, format, paddings })
+        Ok(Spec {
+            bytes,
+            depth,
+            size,
+            format,
+            paddings,
+        })
     }
 
     /// Builds the frame in a format.
@@ -58,7 +64,8 @@ impl Spec {
         if self.bytes != size_of::<T>() {
             return Err("two types of pixels in one case".to_string());
         }
-        self.build(format).map_err(|error| format!("not built: {error}"))
+        self.build(format)
+            .map_err(|error| format!("not built: {error}"))
     }
 }
 
@@ -80,7 +87,9 @@ pub fn edit<T: Pixel>(frame: &mut Frame<T>, line: &str) -> Read<()> {
         }
         "drop" => set_plane(frame, index, None)?,
         "fill" => {
-            let plane = frame.plane_mut(index).ok_or_else(|| format!("no plane {index} to fill"))?;
+            let plane = frame
+                .plane_mut(index)
+                .ok_or_else(|| format!("no plane {index} to fill"))?;
             fill(plane, &mut tokens)?;
         }
         other => return Err(format!("unknown edit: {other}")),
@@ -104,7 +113,11 @@ fn fill<T: Pixel>(plane: &mut Plane<T>, tokens: &mut Tokens) -> Read<()> {
     match tokens.word()? {
         "all" => plane.data_mut().fill(tokens.pixel()?),
         "lcg" => {
-            for (entry, pixel) in plane.data_mut().iter_mut().zip(congruence(tokens.number()?)) {
+            for (entry, pixel) in plane
+                .data_mut()
+                .iter_mut()
+                .zip(congruence(tokens.number()?))
+            {
                 *entry = pixel;
             }
         }
@@ -122,17 +135,31 @@ fn fill<T: Pixel>(plane: &mut Plane<T>, tokens: &mut Tokens) -> Read<()> {
 }
 
 /// The entries of a buffer whose places are chosen.
-fn places<T>(plane: &mut Plane<T>, chosen: impl Fn(usize) -> bool) -> impl Iterator<Item = (usize, &mut T)> {
-    plane.data_mut().iter_mut().enumerate().filter(move |(place, _)| chosen(*place))
+fn places<T>(
+    plane: &mut Plane<T>,
+    chosen: impl Fn(usize) -> bool,
+) -> impl Iterator<Item = (usize, &mut T)> {
+    plane
+        .data_mut()
+        .iter_mut()
+        .enumerate()
+        .filter(move |(place, _)| chosen(*place))
 }
 
 /// Writes a list into as many entries.
-fn write_list<'a, T: Pixel>(entries: impl Iterator<Item = (usize, &'a mut T)>, tokens: &mut Tokens) -> Read<()> {
+fn write_list<'a, T: Pixel>(
+    entries: impl Iterator<Item = (usize, &'a mut T)>,
+    tokens: &mut Tokens,
+) -> Read<()> {
     let mut values = tokens.list(Tokens::pixel)?.into_iter();
     for (_, entry) in entries {
         *entry = values.next().ok_or("the list to fill with is too short")?;
     }
-    if values.len() == 0 { Ok(()) } else { Err("the list to fill with is too long".to_string()) }
+    if values.len() == 0 {
+        Ok(())
+    } else {
+        Err("the list to fill with is too long".to_string())
+    }
 }
 
 /// Whether a place of the buffer shows.

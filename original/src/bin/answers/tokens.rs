@@ -19,17 +19,25 @@ pub enum Side {
 
 impl<'a> Tokens<'a> {
     pub fn new(line: &'a str) -> Self {
-        Tokens { words: line.split(' ') }
+        Tokens {
+            words: line.split(' '),
+        }
     }
 
     pub fn word(&mut self) -> Read<&'a str> {
-        self.words.next().ok_or_else(|| "a token is missing".to_string())
+        self.words
+            .next()
+            .ok_or_else(|| "a token is missing".to_string())
     }
 
     /// Reads the token that has to stand here.
     pub fn keyword(&mut self, wanted: &str) -> Read<()> {
         let word = self.word()?;
-        if word == wanted { Ok(()) } else { Err(format!("expected {wanted}, found {word}")) }
+        if word == wanted {
+            Ok(())
+        } else {
+            Err(format!("expected {wanted}, found {word}"))
+        }
     }
 
     /// Sees that no token is left.
@@ -98,7 +106,8 @@ impl<'a> Tokens<'a> {
 
 fn number_of(word: &str) -> Read<u64> {
     if !word.is_empty() && word.bytes().all(|byte| byte.is_ascii_digit()) {
-        word.parse().map_err(|_| format!("not a number of 64 bits: {word}"))
+        word.parse()
+            .map_err(|_| format!("not a number of 64 bits: {word}"))
     } else {
         Err(format!("not a number: {word}"))
     }
@@ -117,6 +126,10 @@ pub fn congruence<T: Pixel>(seed: u64) -> impl Iterator<Item = T> {
     std::iter::repeat_with(move || {
         state = (1_103_515_245 * state + 12_345) % (1 << 31);
         let step = (state >> 15) as u16;
-        if size_of::<T>() == 1 { T::from(step as u8) } else { T::try_from(step).unwrap_or_default() }
+        if size_of::<T>() == 1 {
+            T::from(step as u8)
+        } else {
+            T::try_from(step).unwrap_or_default()
+        }
     })
 }

@@ -4,7 +4,7 @@
 #![cfg(feature = "std")]
 
 mod case;
-mod colours;
+mod colors;
 mod conversions;
 mod interleaved;
 mod numbers;
@@ -34,7 +34,7 @@ const BY_HAND: [&str; 2] = ["Index::index", "IndexMut::index_mut"];
 /// All cases, and what is reported of each.
 static REPORTED: LazyLock<Vec<(&Case, Option<Report>)>> = LazyLock::new(|| {
     let tables = [
-        colours::CASES,
+        colors::CASES,
         conversions::CASES,
         interleaved::CASES,
         numbers::CASES,

@@ -3,7 +3,7 @@
 use v_frame_proved::chroma::ChromaSubsampling::{self, Yuv420};
 use v_frame_proved::frame::{Frame, FrameBuilder};
 use v_frame_proved::plane::{Plane, PlaneGeometry, RowsRef};
-use v_frame_proved::rgb::{ColourRange, ExactMatrix, RgbMatrix, Standard, YuvMatrix};
+use v_frame_proved::rgb::{ColorRange, ExactMatrix, RgbMatrix, Standard, YuvMatrix};
 use v_frame_proved::sequence::Sequence;
 use v_frame_proved::streams::{Place, Source};
 use v_frame_proved::y4m::{StreamHeader, parse_header};
@@ -58,15 +58,15 @@ pub fn frame_of_small_chroma() -> Frame<u8> {
 }
 
 pub fn to_rgb() -> RgbMatrix {
-    RgbMatrix::new(Standard::Bt709, ColourRange::Limited)
+    RgbMatrix::new(Standard::Bt709, ColorRange::Limited)
 }
 
 pub fn to_rgb_exactly() -> ExactMatrix {
-    ExactMatrix::new(Standard::Bt709, ColourRange::Limited, 8)
+    ExactMatrix::new(Standard::Bt709, ColorRange::Limited, 8)
 }
 
 pub fn to_yuv() -> YuvMatrix {
-    YuvMatrix::new(Standard::Bt709, ColourRange::Limited)
+    YuvMatrix::new(Standard::Bt709, ColorRange::Limited)
 }
 
 pub fn header_of_no_columns() -> StreamHeader {

@@ -45,7 +45,7 @@ fn files_of_ffmpeg_are_read_and_written_as_the_same_bytes() {
     for (file, (width, height), format, depth, count, luma) in files {
         let decoder = Decoder::new(file).unwrap();
         assert!(decoder.is_strict());
-        assert_eq!(decoder.header().colour.subsampling(), format);
+        assert_eq!(decoder.header().color.subsampling(), format);
         let frames: Vec<VideoFrame> = decoder.map(|frame| frame.unwrap()).collect();
         assert_eq!(frames.len(), count);
         assert_eq!((frames[0].width(), frames[0].height(), frames[0].bit_depth()), (width, height, depth));
@@ -65,8 +65,8 @@ fn files_of_ffmpeg_are_read_and_written_as_the_same_bytes() {
 #[test]
 fn files_to_refuse_are_refused() {
     let alpha = Decoder::new(&include_bytes!("../data/444alpha_4x4.y4m")[..]).unwrap_err();
-    assert!(matches!(&alpha, StreamError::Format(Y4mError::Header(HeaderError::UnknownColour(_)))));
-    assert_eq!(alpha.to_string(), "unknown colour `C444alpha`");
+    assert!(matches!(&alpha, StreamError::Format(Y4mError::Header(HeaderError::UnknownColor(_)))));
+    assert_eq!(alpha.to_string(), "unknown color `C444alpha`");
     for file in [&include_bytes!("../data/420p10_35x27.y4m")[..], include_bytes!("../data/422p12_5x3.y4m")] {
         let mut decoder = Decoder::new(file).unwrap();
         assert!(decoder.next().unwrap().is_ok());

@@ -5,7 +5,7 @@ use super::stepping::{Step, Stepping, cause, patient_steps};
 use std::io::{self, ErrorKind};
 use v_frame_proved::chroma::ChromaSubsampling::{self, Monochrome, Yuv420, Yuv422};
 use v_frame_proved::frame::{Frame, FrameBuilder};
-use v_frame_proved::y4m::{Colour, Decoder, Depth, Encoder, StreamError, StreamHeader, VideoFrame};
+use v_frame_proved::y4m::{Color, Decoder, Depth, Encoder, StreamError, StreamHeader, VideoFrame};
 
 /// Returns a blank frame.
 fn blank(width: usize, height: usize, format: ChromaSubsampling) -> Frame<u8> {
@@ -42,7 +42,7 @@ fn other_frames() -> Vec<VideoFrame> {
 
 #[test]
 fn frames_of_another_kind_are_neither_read_nor_written() {
-    let header = StreamHeader::new(4, 2, Colour::Yuv420Jpeg);
+    let header = StreamHeader::new(4, 2, Color::Yuv420Jpeg);
     let stream = b"YUV4MPEG2 W4 H2 C420jpeg\nFRAME\nabcdefghijkl";
     let mut decoder = Decoder::new(&stream[..]).unwrap();
     let mut encoder = Encoder::new(Vec::new(), header).unwrap();
@@ -60,7 +60,7 @@ fn frames_of_another_kind_are_neither_read_nor_written() {
 
 #[test]
 fn samples_above_8_bits_have_their_low_byte_first() {
-    let header = StreamHeader::new(3, 3, Colour::Yuv420HighDepth(Depth::Twelve));
+    let header = StreamHeader::new(3, 3, Color::Yuv420HighDepth(Depth::Twelve));
     let mut frame = VideoFrame::blank(&header).unwrap();
     let VideoFrame::HighDepth(deep) = &mut frame else { panic!("12 bits are not 8") };
     for (p, plane) in deep.planes_mut().enumerate() {
@@ -82,7 +82,7 @@ fn samples_above_8_bits_have_their_low_byte_first() {
 #[test]
 fn headers_that_no_reader_takes_are_not_written() {
     let header = |width, height, extension: &[u8]| {
-        let mut header = StreamHeader::new(width, height, Colour::Unstated);
+        let mut header = StreamHeader::new(width, height, Color::Unstated);
         header.extensions = vec![extension.to_vec().into()].into();
         header
     };
@@ -115,9 +115,9 @@ fn headers_that_no_reader_takes_are_not_written() {
 }
 
 #[test]
-fn another_colour_drops_what_ffmpeg_says_of_the_old_one() {
+fn another_color_drops_what_ffmpeg_says_of_the_old_one() {
     let mut header = Decoder::new(&include_bytes!("../data/420_35x27.y4m")[..]).unwrap().header().clone();
-    header.set_colour(Colour::Yuv444);
+    header.set_color(Color::Yuv444);
     let line = Encoder::new(Vec::new(), header).unwrap().finish().unwrap();
     assert_eq!(line, b"YUV4MPEG2 W35 H27 F25:1 Ip A36:35 C444 XCOLORRANGE=LIMITED\n");
 }

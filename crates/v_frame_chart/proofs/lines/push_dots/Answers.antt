@@ -5,4 +5,4 @@ use Rattle.v_frame_chart.specs.Lines.{dot_at}
 use Rattle.v_frame_chart.proofs.lines.push_dots.Goals as goal
 
 pub loop-k-preserved : goal.loop-k-preserved
-loop-k-preserved c = appended (dot_at c.args.drawn.now c.args.colour.now) c.loop-k.k _ _ _ (search rules) c.loop-k.invariant
+loop-k-preserved c = appended (dot_at c.args.drawn.now c.args.color.now) c.loop-k.k _ _ _ (search rules) c.loop-k.invariant

@@ -6,4 +6,4 @@ use Rattle.v_frame_chart.specs.Lines.{dot_at}
 use Rattle.v_frame_chart.proofs.lines.push_dots.Given as goal
 
 abbrev pub invariant-loop-k : goal.invariant-loop-k
-invariant-loop-k l = string_bytes l.text ≡ string_bytes l.fn.text ++ flat_map (dot_at l.drawn l.colour) (range_with_len 0 l.k)
+invariant-loop-k l = string_bytes l.text ≡ string_bytes l.fn.text ++ flat_map (dot_at l.drawn l.color) (range_with_len 0 l.k)

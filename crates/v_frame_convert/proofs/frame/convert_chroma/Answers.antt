@@ -1,4 +1,4 @@
--- The plane that is there shows the other one, or no colour.
+-- The plane that is there shows the other one, or no color.
 use Rattle.std.proofs.Common.{◌≡◌, ◌<◌, length, replicate, Some, sym, ◌∙◌, ap, arith}
 use Rattle.std.proofs.lemmas.List.{length-replicate}
 use Rattle.v_frame.specs.Prelude.{table_of}

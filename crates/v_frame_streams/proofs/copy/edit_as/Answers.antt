@@ -1,7 +1,7 @@
 -- The depth of what is written says how its pixels are made of bytes.
 use Rattle.std.proofs.Common.{◌∙◌, ℕ, subst, sym}
 use Rattle.v_frame.specs.Prelude.{PixelForm}
-use Rattle.v_frame_y4m.specs.Colour.{depth_of}
+use Rattle.v_frame_y4m.specs.Color.{depth_of}
 use Rattle.v_frame_streams.specs.Copies.{made_bytes, CopiesBy}
 use Rattle.v_frame_streams.specs.Sources.{bytes_left}
 use Rattle.v_frame_streams.proofs.Copying.{form_of_eight, form_of_more}
@@ -9,7 +9,7 @@ use Rattle.v_frame_streams.proofs.copy.edit_as.Goals as goal
 
 pub returns-then-bit_depth-eq8-clause-copied : goal.returns-then-bit_depth-eq8-clause-copied
 returns-then-bit_depth-eq8-clause-copied g c =
-    let depth = depth_of c.args.header.now.colour in
+    let depth = depth_of c.args.header.now.color in
     subst (λ (f : PixelForm ℕ). CopiesBy c.args.source.now.container c.args.source.now.frame_len
     (bytes_left g.R.Read.remaining c.args.source.now) (bytes_left g.R.Read.remaining c.edit_stream.new.source)
     (g.W.Write.contents c.args.sink.now.writer.inner) (g.W.Write.contents c.edit_stream.new.sink.writer.inner)
@@ -20,7 +20,7 @@ returns-then-bit_depth-eq8-clause-copied g c =
 
 pub returns-clause-copied : goal.returns-clause-copied
 returns-clause-copied g c =
-    let depth = depth_of c.args.header.now.colour in
+    let depth = depth_of c.args.header.now.color in
     subst (λ (f : PixelForm ℕ). CopiesBy c.args.source.now.container c.args.source.now.frame_len
     (bytes_left g.R.Read.remaining c.args.source.now) (bytes_left g.R.Read.remaining c.edit_stream-2.new.source)
     (g.W.Write.contents c.args.sink.now.writer.inner) (g.W.Write.contents c.edit_stream-2.new.sink.writer.inner)

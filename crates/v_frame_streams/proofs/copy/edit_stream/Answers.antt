@@ -4,8 +4,8 @@ use Rattle.v_frame.specs.Prelude.{tables_of}
 use Rattle.v_frame_planar.specs.Planar.{sizes_of}
 use Rattle.v_frame_semi_planar.specs.declared.format.SemiPlanarFormat.{SemiPlanarFormat}
 use Rattle.v_frame_streams.specs.Conversions.{layout_to}
-use Rattle.v_frame_streams.specs.Layouts.{HoldsColour}
-use Rattle.v_frame_y4m.specs.Colour.{depth_of}
+use Rattle.v_frame_streams.specs.Layouts.{HoldsColor}
+use Rattle.v_frame_y4m.specs.Color.{depth_of}
 use Rattle.v_frame_y4m.specs.Frames.{pixel_bytes}
 use Rattle.v_frame_y4m.specs.declared.header.StreamHeader.{StreamHeader}
 use Rattle.v_frame_streams.specs.Copies.{copied_header, limit_of, plan_for, Begins, Carries}
@@ -26,10 +26,10 @@ edit_frames-requires-clause-can g c κs within =
     let layout = layout_to to options.format there in
     let bytes = g.S.Pixel.BYTES in
     let other = g.T.Pixel.BYTES in
-    let written : g.T.Pixel.form.size ≡ pixel_bytes (depth_of (copied_header options header).colour) =
-    c.requires.written ∙ ap (λ (h : StreamHeader). pixel_bytes (depth_of h.colour)) c.requires.header in
-    let holds : HoldsColour there header.colour =
-    subst (λ (l : Option SemiPlanarFormat). HoldsColour l header.colour) c.layout.ensures.value c.layout.ensures.holds in
+    let written : g.T.Pixel.form.size ≡ pixel_bytes (depth_of (copied_header options header).color) =
+    c.requires.written ∙ ap (λ (h : StreamHeader). pixel_bytes (depth_of h.color)) c.requires.header in
+    let holds : HoldsColor there header.color =
+    subst (λ (l : Option SemiPlanarFormat). HoldsColor l header.color) c.layout.ensures.value c.layout.ensures.holds in
     let can = can_make bytes other options header to there holds (g.met.S.Pixel.bytes_of_form ∙ c.requires.pixels)
     (g.met.T.Pixel.bytes_of_form ∙ written) c.requires.takable in
     let planned : plan_of c.in-Ok.maker ≡ plan_for options header layout = search rules in

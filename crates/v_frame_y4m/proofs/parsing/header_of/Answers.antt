@@ -21,8 +21,8 @@ returns-in_err-frame_rate-clause-error c = grind (arith, common_steps)
 pub returns-in_err-interlacing-clause-error : goal.returns-in_err-interlacing-clause-error
 returns-in_err-interlacing-clause-error c = grind (arith, common_steps)
 
-pub returns-in_err-colour-clause-error : goal.returns-in_err-colour-clause-error
-returns-in_err-colour-clause-error c = grind (arith, common_steps)
+pub returns-in_err-color-clause-error : goal.returns-in_err-color-clause-error
+returns-in_err-color-clause-error c = grind (arith, common_steps)
 
 pub returns-in_err-extensions-clause-error : goal.returns-in_err-extensions-clause-error
 returns-in_err-extensions-clause-error c = grind (arith, common_steps)

@@ -3,7 +3,7 @@ use Rattle.std.proofs.Common.{◌∙◌, ap, inl, inr, refl, sym}
 use Rattle.std.proofs.lemmas.Bool.{cases_eq}
 use Rattle.std.specs.Prelude.{unwrap_or}
 use Rattle.v_frame.specs.Prelude.{one_byte, two_bytes}
-use Rattle.v_frame_y4m.specs.Colour.{depth_of}
+use Rattle.v_frame_y4m.specs.Color.{depth_of}
 use Rattle.yuv_commands.specs.Reports.{form_of_words}
 use Rattle.yuv_commands.specs.declared.measures.Scale.{Scale}
 use Rattle.yuv_commands.proofs.Reporting.{report_ends, stays_asked, IsAsked}
@@ -23,7 +23,7 @@ returns-clause-ended g c =
     let exact = ap (λ (s : Scale). s.exact) c.new-observer.ensures.scale ∙ c.scale_of-scale.ensures.exact in
     let before = c.new-observer.ensures.before ∙ c.first_taken-before.ensures in
     let stays : IsAsked contents said first.scale start first → IsAsked contents said first.scale start mid =
-    elim (cases_eq (depth_of c.args.first.now.header.colour) 8) [
+    elim (cases_eq (depth_of c.args.first.now.header.color) 8) [
       | inl eight ↦ λ asked. stays_asked contents one_byte said first.scale start _ first mid
           (c.in_ok-found.ensures.bytes_taken eight).1 asked
       | inr more ↦ λ asked. stays_asked contents two_bytes said first.scale start _ first mid

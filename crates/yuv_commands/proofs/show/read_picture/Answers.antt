@@ -30,5 +30,5 @@ returns g c =
           begun.layout sized begun.unread reads;
       sizes = sym c.frame-frame.ensures.laid_out ∙ c.in_ok-read.ensures.sizes ∙ sized;
       format = c.in_ok-read.ensures.format ∙ c.in_ok-picture.ensures.format
-          ∙ ap (λ (h : StreamHeader). format_in h.colour) begun.header;
+          ∙ ap (λ (h : StreamHeader). format_in h.color) begun.header;
     }

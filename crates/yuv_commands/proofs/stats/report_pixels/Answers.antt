@@ -1,6 +1,6 @@
 -- The text was made of what was counted, and written.
 use Rattle.std.proofs.Common.{◌∙◌, ℕ, ap, string_bytes, subst}
-use Rattle.v_frame_y4m.specs.Colour.{depth_of}
+use Rattle.v_frame_y4m.specs.Color.{depth_of}
 use Rattle.v_frame_y4m.specs.declared.header.StreamHeader.{StreamHeader}
 use Rattle.yuv_commands.specs.Statistics.{SaysCounts}
 use Rattle.yuv_commands.proofs.Counting.{made_and_written}
@@ -8,7 +8,7 @@ use Rattle.yuv_commands.proofs.stats.report_pixels.Goals as goal
 
 pub returns : goal.returns
 returns g c =
-    let depth = c.bit_depth-depth.ensures ∙ ap (λ (h : StreamHeader). depth_of h.colour) c.header.ensures in
+    let depth = c.bit_depth-depth.ensures ∙ ap (λ (h : StreamHeader). depth_of h.color) c.header.ensures in
     let both = made_and_written c.report_text-text.result _ _ c.in_ok-write_made.ensures c.report_text-text.ensures in
     record {
       found = c.in_ok-counts.counts;

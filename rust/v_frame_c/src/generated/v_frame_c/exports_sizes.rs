@@ -50,7 +50,7 @@ pub unsafe extern "C" fn v_frame_resize_area_u16(
     resize::by_area(rows, buffer, source_rows, source)
 }
 
-/// Makes the first rows show the picture of the second ones: each pixel is the one that holds its centre.
+/// Makes the first rows show the picture of the second ones: each pixel is the one that holds its center.
 ///
 /// # Safety
 ///
@@ -72,7 +72,7 @@ pub unsafe extern "C" fn v_frame_resize_nearest_u8(
     resize::by_nearest(rows, buffer, source_rows, source)
 }
 
-/// Makes the first rows show the picture of the second ones: each pixel is the one that holds its centre.
+/// Makes the first rows show the picture of the second ones: each pixel is the one that holds its center.
 ///
 /// # Safety
 ///

@@ -5,14 +5,14 @@
 
 mod change;
 mod clipped;
-mod colours;
+mod colors;
 mod compare;
 mod compose;
 mod convert;
 mod counts;
 mod exports_change;
 mod exports_clipped;
-mod exports_colours;
+mod exports_colors;
 mod exports_compare;
 mod exports_compose;
 mod exports_convert;

@@ -3,7 +3,7 @@
 
 use crate::generated::v_frame_y4m_c::header::{Header, Ratio};
 use v_frame_proved::chroma::ChromaSubsampling;
-use v_frame_proved::y4m::{ChromaSiting, Colour, Interlacing, Ratio as TheRatio, StreamHeader};
+use v_frame_proved::y4m::{ChromaSiting, Color, Interlacing, Ratio as TheRatio, StreamHeader};
 
 /// Why numbers are of no header that has a line.
 pub enum NumberFault {
@@ -11,8 +11,8 @@ pub enum NumberFault {
     ZeroSize,
     /// A number is none of its enum, or a ratio that is not stated has numbers.
     NoSuchNumber,
-    /// No colour has the format, the bit depth and the siting.
-    NoSuchColour,
+    /// No color has the format, the bit depth and the siting.
+    NoSuchColor,
 }
 
 impl Header {
@@ -40,8 +40,8 @@ impl Header {
         let Some(siting) = siting_numbered(self.siting) else {
             return Err(NumberFault::NoSuchNumber);
         };
-        let Some(colour) = colour_of(format, self.bit_depth, siting) else {
-            return Err(NumberFault::NoSuchColour);
+        let Some(color) = color_of(format, self.bit_depth, siting) else {
+            return Err(NumberFault::NoSuchColor);
         };
         Ok(StreamHeader {
             width: self.width,
@@ -49,20 +49,20 @@ impl Header {
             frame_rate,
             interlacing,
             pixel_aspect,
-            colour,
+            color,
             extensions: Vec::new().into(),
         })
     }
 }
 
-/// Returns the colour of a format, so many bits and a siting.
-fn colour_of(
+/// Returns the color of a format, so many bits and a siting.
+fn color_of(
     format: ChromaSubsampling,
     bit_depth: u32,
     siting: Option<ChromaSiting>,
-) -> Option<Colour> {
+) -> Option<Color> {
     match u8::try_from(bit_depth) {
-        Ok(bit_depth) => Colour::new(format, bit_depth, siting),
+        Ok(bit_depth) => Color::new(format, bit_depth, siting),
         Err(_) => None,
     }
 }
@@ -95,7 +95,7 @@ fn format_numbered(number: u32) -> Option<ChromaSubsampling> {
 fn siting_numbered(number: u32) -> Option<Option<ChromaSiting>> {
     match number {
         0 => Some(None),
-        1 => Some(Some(ChromaSiting::Centre)),
+        1 => Some(Some(ChromaSiting::Center)),
         2 => Some(Some(ChromaSiting::Left)),
         3 => Some(Some(ChromaSiting::Alternating)),
         _ => None,

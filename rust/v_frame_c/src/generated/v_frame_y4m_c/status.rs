@@ -27,7 +27,7 @@ pub fn status_of(error: &HeaderError) -> u32 {
         HeaderError::Malformed(_) => 4,
         HeaderError::ZeroSize(_) => 5,
         HeaderError::SizeTooLarge(_) => 6,
-        HeaderError::UnknownColour(_) => 7,
+        HeaderError::UnknownColor(_) => 7,
         HeaderError::OutOfMemory => 8,
         _ => unreachable!("an error that the sources do not know"),
     }
@@ -47,7 +47,7 @@ pub fn letter_of(error: &HeaderError) -> u32 {
 pub fn status_of_numbers(fault: &NumberFault) -> u32 {
     match fault {
         NumberFault::ZeroSize => 5,
-        NumberFault::NoSuchColour => 7,
+        NumberFault::NoSuchColor => 7,
         NumberFault::NoSuchNumber => 9,
     }
 }

@@ -47,7 +47,7 @@ impl VideoFrame {
     ///
     /// Those of [`StreamHeader::frame`], without `DataTypeMismatch`.
     pub fn blank(header: &StreamHeader) -> Result<Self, FrameError> {
-        if header.colour.bit_depth() == 8 {
+        if header.color.bit_depth() == 8 {
             header.frame(0).map(VideoFrame::EightBits)
         } else {
             header.frame(0).map(VideoFrame::HighDepth)
@@ -105,7 +105,7 @@ impl VideoFrame {
     /// Returns whether it is a frame of a stream of this header.
     pub(super) fn fits(&self, header: &StreamHeader) -> bool {
         // Both pixel types have depths of their own.
-        self.bit_depth() == header.colour.bit_depth()
+        self.bit_depth() == header.color.bit_depth()
             && matches!(self, VideoFrame::EightBits(_)) == (self.bit_depth() == 8)
             && with_frame!(self, frame => has_size(frame, header))
     }
@@ -131,7 +131,7 @@ fn has_size<T: Pixel>(frame: &Frame<T>, header: &StreamHeader) -> bool {
     let (columns, rows) = ratios_or_one(frame.subsampling);
     let chroma = (header.width.div_ceil(columns), header.height.div_ceil(rows));
     let chroma = frame.subsampling.has_chroma().then_some(chroma);
-    frame.subsampling == header.colour.subsampling()
+    frame.subsampling == header.color.subsampling()
         && size(&frame.y_plane) == (header.width, header.height)
         && frame.u_plane.as_ref().map(size) == chroma
         && frame.v_plane.as_ref().map(size) == chroma

@@ -1,4 +1,4 @@
-//! YUV4MPEG2 streams: raw planar video after a header line that says its size, its rate and its colour.
+//! YUV4MPEG2 streams: raw planar video after a header line that says its size, its rate and its color.
 //!
 //! ```text
 //! YUV4MPEG2 W176 H144 F25:1 Ip A1:1 C420jpeg XYSCSS=420JPEG    the header line

@@ -9,7 +9,7 @@ use crate::generated::v_frame_chart::lines::push_drawn;
 use crate::generated::v_frame_chart::marks::marks;
 use crate::generated::v_frame_chart::room::scale_of;
 use crate::generated::v_frame_chart::scale::Scale;
-use crate::generated::v_frame_chart::words::{colour_of, push_closing, push_head, push_legend};
+use crate::generated::v_frame_chart::words::{color_of, push_closing, push_head, push_legend};
 use crate::support::AllocError;
 use std::io;
 use crate::generated::v_frame_bytes::send;
@@ -32,7 +32,7 @@ pub struct Chart<'a> {
     pub unit: &'a str,
     /// The number of the first frame, as 0 or 1.
     pub first: u64,
-    /// The series, in the order of their colours.
+    /// The series, in the order of their colors.
     pub series: &'a [Series<'a>],
 }
 
@@ -116,7 +116,7 @@ fn push_all_series(
     Ok(())
 }
 
-/// Appends series `k` in its colour.
+/// Appends series `k` in its color.
 fn push_series(
     text: &mut String,
     series: Series<'_>,
@@ -127,5 +127,5 @@ fn push_series(
     let values = series.values;
     let columns = summaries(values, COLUMNS)?;
     let drawn = marks(&columns, values.len(), across_of(span), scale.axis())?;
-    push_drawn(text, &drawn, COLUMNS < values.len(), colour_of(k))
+    push_drawn(text, &drawn, COLUMNS < values.len(), color_of(k))
 }

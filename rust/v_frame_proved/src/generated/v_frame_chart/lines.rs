@@ -13,11 +13,11 @@ pub(crate) fn push_drawn(
     text: &mut String,
     drawn: &[Option<Mark>],
     banded: bool,
-    colour: &str,
+    color: &str,
 ) -> Result<(), AllocError> {
-    push_band_if(text, drawn, banded, colour)?;
-    push_means(text, drawn, colour)?;
-    push_dots(text, drawn, colour)?;
+    push_band_if(text, drawn, banded, color)?;
+    push_means(text, drawn, color)?;
+    push_dots(text, drawn, color)?;
     Ok(())
 }
 
@@ -27,10 +27,10 @@ fn push_band_if(
     text: &mut String,
     drawn: &[Option<Mark>],
     banded: bool,
-    colour: &str,
+    color: &str,
 ) -> Result<(), AllocError> {
     if banded {
-        push_band(text, drawn, colour)
+        push_band(text, drawn, color)
     } else {
         Ok(())
     }
@@ -38,8 +38,8 @@ fn push_band_if(
 
 /// Appends a stroke from the least to the greatest value of each column.
 #[inline]
-fn push_band(text: &mut String, drawn: &[Option<Mark>], colour: &str) -> Result<(), AllocError> {
-    push_band_head(text, colour)?;
+fn push_band(text: &mut String, drawn: &[Option<Mark>], color: &str) -> Result<(), AllocError> {
+    push_band_head(text, color)?;
     push_strokes(text, drawn)?;
     push_path_end(text)?;
     Ok(())
@@ -47,10 +47,10 @@ fn push_band(text: &mut String, drawn: &[Option<Mark>], colour: &str) -> Result<
 
 /// Appends the head of a band.
 #[inline]
-fn push_band_head(text: &mut String, colour: &str) -> Result<(), AllocError> {
+fn push_band_head(text: &mut String, color: &str) -> Result<(), AllocError> {
     write!(
         text,
-        "<path fill=\"none\" stroke=\"{colour}\" stroke-opacity=\"0.3\" d=\""
+        "<path fill=\"none\" stroke=\"{color}\" stroke-opacity=\"0.3\" d=\""
     )
 }
 
@@ -86,8 +86,8 @@ fn push_path_end(text: &mut String) -> Result<(), AllocError> {
 
 /// Appends the line through the means, which begins anew after a gap.
 #[inline]
-fn push_means(text: &mut String, drawn: &[Option<Mark>], colour: &str) -> Result<(), AllocError> {
-    push_means_head(text, colour)?;
+fn push_means(text: &mut String, drawn: &[Option<Mark>], color: &str) -> Result<(), AllocError> {
+    push_means_head(text, color)?;
     push_each_mean(text, drawn)?;
     push_path_end(text)?;
     Ok(())
@@ -95,10 +95,10 @@ fn push_means(text: &mut String, drawn: &[Option<Mark>], colour: &str) -> Result
 
 /// Appends the head of the line through the means.
 #[inline]
-fn push_means_head(text: &mut String, colour: &str) -> Result<(), AllocError> {
+fn push_means_head(text: &mut String, color: &str) -> Result<(), AllocError> {
     write!(
         text,
-        "<path fill=\"none\" stroke=\"{colour}\" stroke-width=\"1.5\" \
+        "<path fill=\"none\" stroke=\"{color}\" stroke-width=\"1.5\" \
          stroke-linecap=\"round\" stroke-linejoin=\"round\" d=\""
     )
 }
@@ -126,9 +126,9 @@ fn push_mean(text: &mut String, mark: Option<Mark>, joined: bool) -> Result<(), 
 
 /// Appends a dot for each column that stands between two gaps, where the line has no length.
 #[inline]
-fn push_dots(text: &mut String, drawn: &[Option<Mark>], colour: &str) -> Result<(), AllocError> {
+fn push_dots(text: &mut String, drawn: &[Option<Mark>], color: &str) -> Result<(), AllocError> {
     for k in 0..drawn.len() {
-        push_dot(text, drawn[k], is_joined(drawn, k), colour)?;
+        push_dot(text, drawn[k], is_joined(drawn, k), color)?;
     }
     Ok(())
 }
@@ -138,14 +138,14 @@ fn push_dot(
     text: &mut String,
     mark: Option<Mark>,
     joined: bool,
-    colour: &str,
+    color: &str,
 ) -> Result<(), AllocError> {
     match mark {
         Some(mark) => {
             if joined {
                 Ok(())
             } else {
-                push_circle(text, mark, colour)
+                push_circle(text, mark, color)
             }
         }
         None => Ok(()),
@@ -154,11 +154,11 @@ fn push_dot(
 
 /// Appends a dot.
 #[inline]
-fn push_circle(text: &mut String, mark: Mark, colour: &str) -> Result<(), AllocError> {
+fn push_circle(text: &mut String, mark: Mark, color: &str) -> Result<(), AllocError> {
     let (x, mean) = (Place::nearest(mark.x), Place::nearest(mark.mean));
     write!(
         text,
-        "<circle cx=\"{x}\" cy=\"{mean}\" r=\"2\" fill=\"{colour}\"/>\n"
+        "<circle cx=\"{x}\" cy=\"{mean}\" r=\"2\" fill=\"{color}\"/>\n"
     )
 }
 

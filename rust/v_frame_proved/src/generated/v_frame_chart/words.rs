@@ -98,21 +98,21 @@ fn push_entries(text: &mut String, series: &[Series<'_>]) -> Result<(), AllocErr
     Ok(())
 }
 
-/// Appends a sample of a colour and the name of its series.
+/// Appends a sample of a color and the name of its series.
 #[inline]
 fn push_entry(text: &mut String, k: usize, series: Series<'_>) -> Result<(), AllocError> {
-    push_sample(text, colour_of(k))?;
+    push_sample(text, color_of(k))?;
     push_escaped(text, series.name)?;
     push_name_end(text)?;
     Ok(())
 }
 
-/// Appends a sample of a colour.
+/// Appends a sample of a color.
 #[inline]
-fn push_sample(text: &mut String, colour: &str) -> Result<(), AllocError> {
+fn push_sample(text: &mut String, color: &str) -> Result<(), AllocError> {
     write!(
         text,
-        "<tspan dx=\"20\" font-size=\"18\" font-weight=\"bold\" fill=\"{colour}\">&#8212;</tspan> <tspan>"
+        "<tspan dx=\"20\" font-size=\"18\" font-weight=\"bold\" fill=\"{color}\">&#8212;</tspan> <tspan>"
     )
 }
 
@@ -122,9 +122,9 @@ fn push_name_end(text: &mut String) -> Result<(), AllocError> {
     text.try_push_str("</tspan>")
 }
 
-/// Returns the colour of series `k`.
+/// Returns the color of series `k`.
 #[inline]
-pub(crate) fn colour_of(k: usize) -> &'static str {
+pub(crate) fn color_of(k: usize) -> &'static str {
     match k % 7 {
         0 => "#0072b2",
         1 => "#d55e00",

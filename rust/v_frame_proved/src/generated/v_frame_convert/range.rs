@@ -11,7 +11,7 @@ use crate::generated::v_frame::plane::{Plane, VisibleMut};
 pub enum Component {
     /// Luma, which is from 16 to 235 in the limited range of 8 bits.
     Luma,
-    /// A chroma component, which is from 16 to 240 there, and 128 where there is no colour.
+    /// A chroma component, which is from 16 to 240 there, and 128 where there is no color.
     Chroma,
 }
 

@@ -3,7 +3,7 @@
 
 use crate::generated::v_frame::chroma::ChromaSubsampling;
 use crate::generated::v_frame_semi_planar::SemiPlanarFormat;
-use crate::generated::v_frame_y4m::{Colour, Depth};
+use crate::generated::v_frame_y4m::{Color, Depth};
 
 /// A chroma subsampling, a bit depth and a layout of frames.
 ///
@@ -13,11 +13,11 @@ use crate::generated::v_frame_y4m::{Colour, Depth};
 /// use v_frame_proved::chroma::ChromaSubsampling;
 /// use v_frame_proved::formats::VideoFormat;
 /// use v_frame_proved::semi_planar::SemiPlanarFormat;
-/// use v_frame_proved::y4m::Colour;
+/// use v_frame_proved::y4m::Color;
 ///
 /// let nv12 = VideoFormat::SemiPlanar(SemiPlanarFormat::Nv12);
 /// assert_eq!(VideoFormat::named("nv12"), Some(nv12));
-/// assert_eq!(nv12.colour(), Colour::Yuv420);
+/// assert_eq!(nv12.color(), Color::Yuv420);
 ///
 /// // ffmpeg's name of a pixel format, or the word of a YUV4MPEG2 header.
 /// let deep = VideoFormat::named("yuv422p10le").unwrap();
@@ -28,42 +28,42 @@ use crate::generated::v_frame_y4m::{Colour, Depth};
 /// ```
 #[derive(Debug, Clone, Copy, PartialEq, Eq)]
 pub enum VideoFormat {
-    /// The planes one after the other. Never [`Colour::Unstated`].
-    Planar(Colour),
+    /// The planes one after the other. Never [`Color::Unstated`].
+    Planar(Color),
     /// Luma, and then the pixels of both chroma planes by turns.
     SemiPlanar(SemiPlanarFormat),
 }
 
 /// All formats that have names.
 const FORMATS: [VideoFormat; 35] = [
-    VideoFormat::Planar(Colour::Yuv420),
-    VideoFormat::Planar(Colour::Yuv420Jpeg),
-    VideoFormat::Planar(Colour::Yuv420Mpeg2),
-    VideoFormat::Planar(Colour::Yuv420Paldv),
-    VideoFormat::Planar(Colour::Yuv411),
-    VideoFormat::Planar(Colour::Yuv422),
-    VideoFormat::Planar(Colour::Yuv444),
-    VideoFormat::Planar(Colour::Mono),
-    VideoFormat::Planar(Colour::Yuv420HighDepth(Depth::Nine)),
-    VideoFormat::Planar(Colour::Yuv420HighDepth(Depth::Ten)),
-    VideoFormat::Planar(Colour::Yuv420HighDepth(Depth::Twelve)),
-    VideoFormat::Planar(Colour::Yuv420HighDepth(Depth::Fourteen)),
-    VideoFormat::Planar(Colour::Yuv420HighDepth(Depth::Sixteen)),
-    VideoFormat::Planar(Colour::Yuv422HighDepth(Depth::Nine)),
-    VideoFormat::Planar(Colour::Yuv422HighDepth(Depth::Ten)),
-    VideoFormat::Planar(Colour::Yuv422HighDepth(Depth::Twelve)),
-    VideoFormat::Planar(Colour::Yuv422HighDepth(Depth::Fourteen)),
-    VideoFormat::Planar(Colour::Yuv422HighDepth(Depth::Sixteen)),
-    VideoFormat::Planar(Colour::Yuv444HighDepth(Depth::Nine)),
-    VideoFormat::Planar(Colour::Yuv444HighDepth(Depth::Ten)),
-    VideoFormat::Planar(Colour::Yuv444HighDepth(Depth::Twelve)),
-    VideoFormat::Planar(Colour::Yuv444HighDepth(Depth::Fourteen)),
-    VideoFormat::Planar(Colour::Yuv444HighDepth(Depth::Sixteen)),
-    VideoFormat::Planar(Colour::MonoHighDepth(Depth::Nine)),
-    VideoFormat::Planar(Colour::MonoHighDepth(Depth::Ten)),
-    VideoFormat::Planar(Colour::MonoHighDepth(Depth::Twelve)),
-    VideoFormat::Planar(Colour::MonoHighDepth(Depth::Fourteen)),
-    VideoFormat::Planar(Colour::MonoHighDepth(Depth::Sixteen)),
+    VideoFormat::Planar(Color::Yuv420),
+    VideoFormat::Planar(Color::Yuv420Jpeg),
+    VideoFormat::Planar(Color::Yuv420Mpeg2),
+    VideoFormat::Planar(Color::Yuv420Paldv),
+    VideoFormat::Planar(Color::Yuv411),
+    VideoFormat::Planar(Color::Yuv422),
+    VideoFormat::Planar(Color::Yuv444),
+    VideoFormat::Planar(Color::Mono),
+    VideoFormat::Planar(Color::Yuv420HighDepth(Depth::Nine)),
+    VideoFormat::Planar(Color::Yuv420HighDepth(Depth::Ten)),
+    VideoFormat::Planar(Color::Yuv420HighDepth(Depth::Twelve)),
+    VideoFormat::Planar(Color::Yuv420HighDepth(Depth::Fourteen)),
+    VideoFormat::Planar(Color::Yuv420HighDepth(Depth::Sixteen)),
+    VideoFormat::Planar(Color::Yuv422HighDepth(Depth::Nine)),
+    VideoFormat::Planar(Color::Yuv422HighDepth(Depth::Ten)),
+    VideoFormat::Planar(Color::Yuv422HighDepth(Depth::Twelve)),
+    VideoFormat::Planar(Color::Yuv422HighDepth(Depth::Fourteen)),
+    VideoFormat::Planar(Color::Yuv422HighDepth(Depth::Sixteen)),
+    VideoFormat::Planar(Color::Yuv444HighDepth(Depth::Nine)),
+    VideoFormat::Planar(Color::Yuv444HighDepth(Depth::Ten)),
+    VideoFormat::Planar(Color::Yuv444HighDepth(Depth::Twelve)),
+    VideoFormat::Planar(Color::Yuv444HighDepth(Depth::Fourteen)),
+    VideoFormat::Planar(Color::Yuv444HighDepth(Depth::Sixteen)),
+    VideoFormat::Planar(Color::MonoHighDepth(Depth::Nine)),
+    VideoFormat::Planar(Color::MonoHighDepth(Depth::Ten)),
+    VideoFormat::Planar(Color::MonoHighDepth(Depth::Twelve)),
+    VideoFormat::Planar(Color::MonoHighDepth(Depth::Fourteen)),
+    VideoFormat::Planar(Color::MonoHighDepth(Depth::Sixteen)),
     VideoFormat::SemiPlanar(SemiPlanarFormat::Nv12),
     VideoFormat::SemiPlanar(SemiPlanarFormat::Nv21),
     VideoFormat::SemiPlanar(SemiPlanarFormat::Nv16),
@@ -79,7 +79,7 @@ impl VideoFormat {
     #[must_use]
     pub fn subsampling(self) -> ChromaSubsampling {
         match self {
-            VideoFormat::Planar(colour) => colour.subsampling(),
+            VideoFormat::Planar(color) => color.subsampling(),
             VideoFormat::SemiPlanar(layout) => layout.subsampling(),
         }
     }
@@ -89,18 +89,18 @@ impl VideoFormat {
     #[must_use]
     pub fn bit_depth(self) -> u8 {
         match self {
-            VideoFormat::Planar(colour) => colour.bit_depth(),
+            VideoFormat::Planar(color) => color.bit_depth(),
             VideoFormat::SemiPlanar(layout) => layout.bit_depth(),
         }
     }
 
-    /// Returns the colour that the header of a stream has for frames of this format.
+    /// Returns the color that the header of a stream has for frames of this format.
     #[inline]
     #[must_use]
-    pub fn colour(self) -> Colour {
+    pub fn color(self) -> Color {
         match self {
-            VideoFormat::Planar(colour) => colour,
-            VideoFormat::SemiPlanar(layout) => layout_colour(layout),
+            VideoFormat::Planar(color) => color,
+            VideoFormat::SemiPlanar(layout) => layout_color(layout),
         }
     }
 
@@ -109,7 +109,7 @@ impl VideoFormat {
     #[must_use]
     pub fn short_name(self) -> &'static str {
         match self {
-            VideoFormat::Planar(colour) => colour.text(),
+            VideoFormat::Planar(color) => color.text(),
             VideoFormat::SemiPlanar(layout) => layout_name(layout),
         }
     }
@@ -119,7 +119,7 @@ impl VideoFormat {
     #[must_use]
     pub fn ffmpeg_name(self) -> &'static str {
         match self {
-            VideoFormat::Planar(colour) => colour_name_in_ffmpeg(colour),
+            VideoFormat::Planar(color) => color_name_in_ffmpeg(color),
             VideoFormat::SemiPlanar(layout) => layout_name_in_ffmpeg(layout),
         }
     }
@@ -143,15 +143,15 @@ impl VideoFormat {
     }
 }
 
-/// Returns the colour whose subsampling and bit depth a layout has.
-fn layout_colour(layout: SemiPlanarFormat) -> Colour {
+/// Returns the color whose subsampling and bit depth a layout has.
+fn layout_color(layout: SemiPlanarFormat) -> Color {
     match layout {
-        SemiPlanarFormat::Nv12 | SemiPlanarFormat::Nv21 => Colour::Yuv420,
-        SemiPlanarFormat::Nv16 => Colour::Yuv422,
-        SemiPlanarFormat::Nv24 => Colour::Yuv444,
-        SemiPlanarFormat::P010 => Colour::Yuv420HighDepth(Depth::Ten),
-        SemiPlanarFormat::P012 => Colour::Yuv420HighDepth(Depth::Twelve),
-        SemiPlanarFormat::P016 => Colour::Yuv420HighDepth(Depth::Sixteen),
+        SemiPlanarFormat::Nv12 | SemiPlanarFormat::Nv21 => Color::Yuv420,
+        SemiPlanarFormat::Nv16 => Color::Yuv422,
+        SemiPlanarFormat::Nv24 => Color::Yuv444,
+        SemiPlanarFormat::P010 => Color::Yuv420HighDepth(Depth::Ten),
+        SemiPlanarFormat::P012 => Color::Yuv420HighDepth(Depth::Twelve),
+        SemiPlanarFormat::P016 => Color::Yuv420HighDepth(Depth::Sixteen),
     }
 }
 
@@ -179,43 +179,42 @@ fn layout_name_in_ffmpeg(layout: SemiPlanarFormat) -> &'static str {
     }
 }
 
-/// Returns the name that ffmpeg has for planes of a colour, or the short one.
-fn colour_name_in_ffmpeg(colour: Colour) -> &'static str {
-    match colour {
-        Colour::Yuv420Jpeg => "yuv420p",
-        Colour::Yuv411 => "yuv411p",
-        Colour::Yuv422 => "yuv422p",
-        Colour::Yuv444 => "yuv444p",
-        Colour::Mono => "gray",
-        Colour::Yuv420HighDepth(depth) => match depth {
+/// Returns the name that ffmpeg has for planes of a color, or the short one.
+fn color_name_in_ffmpeg(color: Color) -> &'static str {
+    match color {
+        Color::Yuv420Jpeg => "yuv420p",
+        Color::Yuv411 => "yuv411p",
+        Color::Yuv422 => "yuv422p",
+        Color::Yuv444 => "yuv444p",
+        Color::Mono => "gray",
+        Color::Yuv420HighDepth(depth) => match depth {
             Depth::Nine => "yuv420p9le",
             Depth::Ten => "yuv420p10le",
             Depth::Twelve => "yuv420p12le",
             Depth::Fourteen => "yuv420p14le",
             Depth::Sixteen => "yuv420p16le",
         },
-        Colour::Yuv422HighDepth(depth) => match depth {
+        Color::Yuv422HighDepth(depth) => match depth {
             Depth::Nine => "yuv422p9le",
             Depth::Ten => "yuv422p10le",
             Depth::Twelve => "yuv422p12le",
             Depth::Fourteen => "yuv422p14le",
             Depth::Sixteen => "yuv422p16le",
         },
-        Colour::Yuv444HighDepth(depth) => match depth {
+        Color::Yuv444HighDepth(depth) => match depth {
             Depth::Nine => "yuv444p9le",
             Depth::Ten => "yuv444p10le",
             Depth::Twelve => "yuv444p12le",
             Depth::Fourteen => "yuv444p14le",
             Depth::Sixteen => "yuv444p16le",
         },
-        Colour::MonoHighDepth(depth) => match depth {
+        Color::MonoHighDepth(depth) => match depth {
             Depth::Nine => "gray9le",
             Depth::Ten => "gray10le",
             Depth::Twelve => "gray12le",
             Depth::Fourteen => "gray14le",
             Depth::Sixteen => "gray16le",
         },
-        Colour::Unstated | Colour::Yuv420 | Colour::Yuv420Mpeg2 | Colour::Yuv420Paldv =>
-            colour.text(),
+        Color::Unstated | Color::Yuv420 | Color::Yuv420Mpeg2 | Color::Yuv420Paldv => color.text(),
     }
 }

@@ -2,15 +2,15 @@
 //! Conversions of planes.
 
 use crate::views::{AsPlaneRef, AsRowsRef};
-use crate::generated::v_frame_rgb::colour::ColourOrder;
+use crate::generated::v_frame_rgb::color::ColorOrder;
 use crate::generated::v_frame_rgb::matrix::{RgbMatrix, YuvMatrix};
 use crate::generated::v_frame_rgb::rows;
 use crate::generated::v_frame_rgb::sample::Channel;
 use crate::generated::v_frame::plane::{Plane, VisibleMut};
 
-/// Makes the rows of a buffer the colours of three planes of one size, in the order `O`.
+/// Makes the rows of a buffer the colors of three planes of one size, in the order `O`.
 ///
-/// `width` and `stride` count bytes. A row of the buffer has [`BYTES`](ColourOrder::BYTES) bytes for each pixel.
+/// `width` and `stride` count bytes. A row of the buffer has [`BYTES`](ColorOrder::BYTES) bytes for each pixel.
 ///
 /// # Panics
 ///
@@ -25,7 +25,7 @@ use crate::generated::v_frame::plane::{Plane, VisibleMut};
 /// - where the height of `v` is not `height`.
 #[track_caller]
 #[inline]
-pub fn yuv444_to_rgb<O: ColourOrder>(
+pub fn yuv444_to_rgb<O: ColorOrder>(
     y: impl AsPlaneRef<Pixel = u8>,
     u: impl AsPlaneRef<Pixel = u8>,
     v: impl AsPlaneRef<Pixel = u8>,
@@ -61,9 +61,9 @@ pub fn yuv444_to_rgb<O: ColourOrder>(
     rows::yuv444_to_rgb::<O>(&y, &u, &v, matrix, buffer, width, height, stride);
 }
 
-/// Makes what a plane shows the samples of a picture of colours, in the order `O`, for the channel `C`. Its border stays.
+/// Makes what a plane shows the samples of a picture of colors, in the order `O`, for the channel `C`. Its border stays.
 ///
-/// A row of the picture has [`BYTES`](ColourOrder::BYTES) bytes for each visible pixel of the plane.
+/// A row of the picture has [`BYTES`](ColorOrder::BYTES) bytes for each visible pixel of the plane.
 ///
 /// # Panics
 ///
@@ -73,7 +73,7 @@ pub fn yuv444_to_rgb<O: ColourOrder>(
 /// - where the heights of `source` and `plane` are not equal.
 #[track_caller]
 #[inline]
-pub fn rgb_to_channel<O: ColourOrder, C: Channel>(
+pub fn rgb_to_channel<O: ColorOrder, C: Channel>(
     source: impl AsRowsRef<Pixel = u8>,
     matrix: YuvMatrix,
     plane: &mut Plane<u8>,
@@ -96,9 +96,9 @@ pub fn rgb_to_channel<O: ColourOrder, C: Channel>(
     rows::rgb_to_channel::<O, C>(source, matrix, entries, width, height, stride);
 }
 
-/// Makes what three planes show the luma and the chroma of a picture of colours, in the order `O`. Their borders stay.
+/// Makes what three planes show the luma and the chroma of a picture of colors, in the order `O`. Their borders stay.
 ///
-/// The planes have one size, and a row of the picture has [`BYTES`](ColourOrder::BYTES) bytes for each of their pixels.
+/// The planes have one size, and a row of the picture has [`BYTES`](ColorOrder::BYTES) bytes for each of their pixels.
 ///
 /// # Panics
 ///
@@ -112,7 +112,7 @@ pub fn rgb_to_channel<O: ColourOrder, C: Channel>(
 /// - where the heights of `v` and `y` are not equal.
 #[track_caller]
 #[inline]
-pub fn rgb_to_yuv444<O: ColourOrder>(
+pub fn rgb_to_yuv444<O: ColorOrder>(
     source: impl AsRowsRef<Pixel = u8>,
     matrix: YuvMatrix,
     y: &mut Plane<u8>,

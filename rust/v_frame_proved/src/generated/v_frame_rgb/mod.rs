@@ -5,20 +5,20 @@
 //!
 //! ```
 //! use v_frame_proved::plane::{Plane, PlaneGeometry, PlaneRef, RowsRef};
-//! use v_frame_proved::rgb::{self, Bgra, ChromaU, ChromaV, ColourRange, Luma, Rgb, RgbMatrix, Standard, YuvMatrix};
+//! use v_frame_proved::rgb::{self, Bgra, ChromaU, ChromaV, ColorRange, Luma, Rgb, RgbMatrix, Standard, YuvMatrix};
 //!
 //! // Black and white of the limited range into bytes, six for a row of two pixels.
 //! let geometry = PlaneGeometry::unpadded(2, 1, 1, 1).unwrap();
 //! let luma = PlaneRef::new(geometry, &[16, 235]).unwrap();
 //! let chroma = PlaneRef::new(geometry, &[128, 128]).unwrap();
-//! let matrix = RgbMatrix::new(Standard::Bt709, ColourRange::Limited);
+//! let matrix = RgbMatrix::new(Standard::Bt709, ColorRange::Limited);
 //! let mut bytes = [9; 6];
 //! rgb::yuv444_to_rgb::<Rgb>(&luma, &chroma, &chroma, matrix, &mut bytes, 6, 1, 6);
 //! assert_eq!(bytes, [0, 0, 0, 255, 255, 255]);
 //!
 //! // Bytes of another order into planes, all three or one by one.
 //! let picture = RowsRef::new(&[255, 255, 255, 0, 0, 0, 0, 0], 8, 1, 8).unwrap();
-//! let matrix = YuvMatrix::new(Standard::Bt709, ColourRange::Full);
+//! let matrix = YuvMatrix::new(Standard::Bt709, ColorRange::Full);
 //! let mut planes = [(); 3].map(|()| Plane::<u8>::new(geometry).unwrap());
 //! let [y, u, v] = &mut planes;
 //! rgb::rgb_to_yuv444::<Bgra>(&picture, matrix, y, u, v);
@@ -29,7 +29,7 @@
 //! assert_eq!((v[0].to_vec(), y[0].to_vec()), (vec![255, 0], vec![128, 128]));
 //! ```
 
-mod colour;
+mod color;
 mod convert;
 mod exact;
 mod matrix;
@@ -38,9 +38,9 @@ mod sample;
 mod standard;
 mod whole_steps;
 
-pub use colour::{Bgr, Bgra, Colour, ColourOrder, Rgb, Rgba};
+pub use color::{Bgr, Bgra, Color, ColorOrder, Rgb, Rgba};
 pub use convert::{rgb_to_channel, rgb_to_yuv444, yuv444_to_rgb};
 pub use exact::ExactMatrix;
 pub use matrix::{RgbMatrix, YuvMatrix};
 pub use sample::{Channel, ChromaU, ChromaV, Luma};
-pub use standard::{ColourRange, Standard};
+pub use standard::{ColorRange, Standard};

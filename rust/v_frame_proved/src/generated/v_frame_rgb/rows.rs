@@ -8,10 +8,10 @@
 //!
 //! ```
 //! use v_frame_proved::plane::RowsRef;
-//! use v_frame_proved::rgb::{ChromaV, ColourRange, ExactMatrix, Rgb, RgbMatrix, Rgba, Standard, YuvMatrix, rows};
+//! use v_frame_proved::rgb::{ChromaV, ColorRange, ExactMatrix, Rgb, RgbMatrix, Rgba, Standard, YuvMatrix, rows};
 //!
 //! let picture = RowsRef::new(&[255, 255, 255, 0, 0, 0], 6, 1, 6).unwrap();
-//! let matrix = YuvMatrix::new(Standard::Bt601, ColourRange::Limited);
+//! let matrix = YuvMatrix::new(Standard::Bt601, ColorRange::Limited);
 //! let (mut y, mut u, mut v) = ([0; 2], [0; 2], [0; 2]);
 //! rows::rgb_to_yuv444::<Rgb>(&picture, matrix, &mut y, &mut u, &mut v, 2, 1, (2, 2, 2));
 //! assert_eq!((y, u, v), ([235, 16], [128, 128], [128, 128]));
@@ -19,13 +19,13 @@
 //! assert_eq!(u, v);
 //!
 //! let plane_of = |pixels| RowsRef::new(pixels, 2, 1, 2).unwrap();
-//! let matrix = RgbMatrix::new(Standard::Bt601, ColourRange::Limited);
+//! let matrix = RgbMatrix::new(Standard::Bt601, ColorRange::Limited);
 //! let mut bytes = [0; 8];
 //! rows::yuv444_to_rgb::<Rgba>(&plane_of(&y), &plane_of(&u), &plane_of(&v), matrix, &mut bytes, 8, 1, 8);
 //! assert_eq!(bytes, [255, 255, 255, 255, 0, 0, 0, 255]);
 //!
 //! // White and a blue of 10 bits, rounded once.
-//! let matrix = ExactMatrix::new(Standard::Bt709, ColourRange::Limited, 10);
+//! let matrix = ExactMatrix::new(Standard::Bt709, ColorRange::Limited, 10);
 //! let [y, u, v] = [[940_u16, 378], [512, 705], [512, 594]];
 //! let plane_of = |pixels| RowsRef::new(pixels, 2, 1, 2).unwrap();
 //! let mut bytes = [0; 6];

@@ -14,7 +14,7 @@ pub enum Standard {
 
 /// Which samples of 8 bits stand for black, white and the strongest chroma.
 #[derive(Debug, Clone, Copy, PartialEq, Eq)]
-pub enum ColourRange {
+pub enum ColorRange {
     /// Luma from 16 to 235, and chroma from 16 to 240, as in broadcasts and most video files.
     Limited,
     /// All from 0 to 255, as in JPEG files.

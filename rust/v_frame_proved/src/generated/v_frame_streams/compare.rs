@@ -94,7 +94,7 @@ pub fn compare_streams<
     if let Err(problem) = test_formats(first.header(), second.header()) {
         return Err(second.refused(problem));
     }
-    if first.header().colour.bit_depth() == 8 {
+    if first.header().color.bit_depth() == 8 {
         return Ok(compare_as::<u8, _, _, _, _>(first, second, options, observer, progress)?);
     }
     Ok(compare_as::<u16, _, _, _, _>(first, second, options, observer, progress)?)

@@ -49,7 +49,7 @@ use crate::generated::v_frame_y4m::StreamHeader;
 /// let header = source.header();
 /// assert!(!options.is_plain(Container::Raw, header, None));
 /// assert_eq!((options.layout(), options.layout_to(Container::Raw, None)), (None, None));
-/// assert_eq!(options.colour(header.colour), header.colour);
+/// assert_eq!(options.color(header.color), header.color);
 /// assert_eq!(copy_stream(&mut source, &mut sink, &options, &mut Silent)?, 1);
 /// assert_eq!(sink.writer.inner(), &[1, 2, 33, 34]);
 ///
@@ -79,7 +79,7 @@ pub fn copy_stream<R: io::Read, W: io::Write, P: Progress>(
     if options.is_plain(sink.container, source.header(), source.layout()) {
         return Ok(move_stream(source, &header, sink, options, progress)?);
     }
-    if source.header().colour.bit_depth() == 8 {
+    if source.header().color.bit_depth() == 8 {
         return Ok(edit_as::<u8, _, _, _>(source, &header, sink, options, progress)?);
     }
     Ok(edit_as::<u16, _, _, _>(source, &header, sink, options, progress)?)
@@ -131,7 +131,7 @@ fn edit_as<S: Pixel, R: io::Read, W: io::Write, P: Progress>(
     options: &CopyOptions,
     progress: &mut P,
 ) -> Result<u64, StreamError> {
-    if header.colour.bit_depth() == 8 {
+    if header.color.bit_depth() == 8 {
         return Ok(edit_stream::<S, u8, _, _, _>(source, header, sink, options, progress)?);
     }
     Ok(edit_stream::<S, u16, _, _, _>(source, header, sink, options, progress)?)

@@ -32,7 +32,7 @@
 //! ```
 
 mod alike;
-mod colours;
+mod colors;
 mod compare;
 mod comparison;
 mod converting;

@@ -11,7 +11,7 @@ use crate::generated::v_frame::pixel::Pixel;
 use crate::generated::v_frame::plane::Plane;
 use crate::generated::v_frame_planar::{Counted, PlanarError, planar_len, video_frame};
 use crate::generated::v_frame_semi_planar::{SemiPlanarError, SemiPlanarFormat, read_frame};
-use crate::generated::v_frame_y4m::{Colour, Y4mError};
+use crate::generated::v_frame_y4m::{Color, Y4mError};
 
 /// A frame that is read again and again, and room for its bytes.
 ///
@@ -55,7 +55,7 @@ impl<T: Pixel> Picture<T> {
         let frame = match blank_frame(
             header.width,
             header.height,
-            header.colour,
+            header.color,
             max_pixels,
         ) {
             Ok(frame) => frame,
@@ -126,11 +126,11 @@ impl<T: Pixel> Picture<T> {
     }
 }
 
-/// Returns a blank frame of a size and a colour, of which no more than so many pixels are made in memory.
+/// Returns a blank frame of a size and a color, of which no more than so many pixels are made in memory.
 pub(crate) fn blank_frame<T: Pixel>(
     width: usize,
     height: usize,
-    colour: Colour,
+    color: Color,
     max_pixels: usize,
 ) -> Result<Frame<T>, Problem> {
     match width.checked_mul(height) {
@@ -140,8 +140,8 @@ pub(crate) fn blank_frame<T: Pixel>(
     match video_frame(
         width,
         height,
-        colour.subsampling(),
-        colour.bit_depth(),
+        color.subsampling(),
+        color.bit_depth(),
         0,
     ) {
         Ok(frame) => Ok(frame),

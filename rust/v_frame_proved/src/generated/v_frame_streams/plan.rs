@@ -3,7 +3,7 @@
 
 use alloc::vec::Vec;
 use crate::support::memory::TryPush;
-use crate::generated::v_frame_streams::colours::is_same_colour;
+use crate::generated::v_frame_streams::colors::is_same_color;
 use crate::generated::v_frame_streams::edit::{Edit, Rectangle};
 use crate::generated::v_frame_streams::error::Problem;
 use crate::generated::v_frame_streams::options::CopyOptions;
@@ -29,7 +29,7 @@ pub(crate) fn rectangle_of(options: &CopyOptions, header: &StreamHeader) -> Rect
 pub(crate) fn edit_of(options: &CopyOptions, header: &StreamHeader) -> Edit {
     Edit::new(
         rectangle_of(options, header),
-        header.colour.subsampling(),
+        header.color.subsampling(),
         options.half,
     )
 }
@@ -42,7 +42,7 @@ pub(crate) fn test_crop(crop: &Rectangle, header: &StreamHeader) -> Result<(), P
     if !crop.lies_in(header.width, header.height) {
         return Err(Problem::CropOutside);
     }
-    let (columns, rows) = ratios_or_one(header.colour.subsampling());
+    let (columns, rows) = ratios_or_one(header.color.subsampling());
     if crop.x % columns != 0 || crop.y % rows != 0 {
         return Err(Problem::CropMisaligned { columns, rows });
     }
@@ -61,7 +61,7 @@ pub(crate) fn header_of(
         frame_rate: or_else(options.frame_rate, header.frame_rate),
         interlacing: header.interlacing,
         pixel_aspect: or_else(options.pixel_aspect, header.pixel_aspect),
-        colour: options.colour(header.colour),
+        color: options.color(header.color),
         extensions: extensions_of(options, header)?,
     })
 }
@@ -82,13 +82,13 @@ fn or_else(asked: Option<Ratio>, there: Option<Ratio>) -> Option<Ratio> {
 }
 
 /// Returns the extensions of a header that a copy writes: those that state the chroma format are left out where the copy has
-/// another colour.
+/// another color.
 fn extensions_of(
     options: &CopyOptions,
     header: &StreamHeader,
 ) -> Result<Sequence<Sequence<u8>>, AllocError> {
     let extensions = copy_of(header.extensions.as_slice())?;
-    if is_same_colour(options.colour(header.colour), header.colour) {
+    if is_same_color(options.color(header.color), header.color) {
         return Ok(extensions);
     }
     Ok(leave_out_format(extensions))

@@ -2,7 +2,7 @@
 //! Streams that are read: the header, and then frame by frame.
 
 use crate::support::buffered::TryBuffered;
-use crate::generated::v_frame_streams::colours::holds_colour;
+use crate::generated::v_frame_streams::colors::holds_color;
 use crate::generated::v_frame_streams::error::{Problem, StreamError};
 use crate::generated::v_frame_streams::stream::{Container, Place};
 use std::io;
@@ -84,7 +84,7 @@ impl<R: io::Read> Source<R> {
         layout: Option<SemiPlanarFormat>,
         reader: R,
     ) -> Result<Self, StreamError> {
-        if !holds_colour(layout, header.colour) {
+        if !holds_color(layout, header.color) {
             return Err(StreamError::at_start(place, Problem::OtherLayout));
         }
         let reader = buffered(place, reader)?;

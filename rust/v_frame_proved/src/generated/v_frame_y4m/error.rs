@@ -14,7 +14,7 @@ use crate::generated::v_frame_planar::{PlanarError, WriteFault};
 ///
 /// assert_eq!(parse_header(b"RIFF"), Err(HeaderError::NotAStream));
 /// assert_eq!(parse_header(b"YUV4MPEG2 W40"), Err(HeaderError::Missing('H')));
-/// let unknown = HeaderError::UnknownColour(Text::new(b"C\xff")?);
+/// let unknown = HeaderError::UnknownColor(Text::new(b"C\xff")?);
 /// assert_eq!(parse_header(b"YUV4MPEG2 W40 H27 C\xff"), Err(unknown.clone()));
 /// assert_eq!((Text::shown(b'C'), Text::shown(255)), ('C', '?'));
 /// assert_eq!(Y4mError::from(unknown.clone()), Y4mError::Header(unknown));
@@ -35,8 +35,8 @@ pub enum HeaderError {
     ZeroSize(char),
     /// The width or the height is above `usize::MAX`.
     SizeTooLarge(Text),
-    /// The colour, `C` and what follows, is none of those that are read.
-    UnknownColour(Text),
+    /// The color, `C` and what follows, is none of those that are read.
+    UnknownColor(Text),
     /// A request for memory was refused.
     OutOfMemory,
 }
@@ -50,7 +50,7 @@ impl core::fmt::Display for HeaderError {
             HeaderError::Malformed(value) => write!(f, "malformed parameter `{value}`"),
             HeaderError::ZeroSize(value) => write!(f, "parameter {value} is 0"),
             HeaderError::SizeTooLarge(value) => write!(f, "size too large `{value}`"),
-            HeaderError::UnknownColour(value) => write!(f, "unknown colour `{value}`"),
+            HeaderError::UnknownColor(value) => write!(f, "unknown color `{value}`"),
             HeaderError::OutOfMemory => f.write_str("out of memory"),
         }
     }

@@ -11,7 +11,7 @@ impl StreamHeader {
     /// Returns a frame to read the frames of the stream into: of its size, its format and its bit depth, with all planes
     /// zero.
     ///
-    /// The pixels are `u8` where [`Colour::bit_depth`](crate::y4m::Colour::bit_depth) is 8, else `u16`. The border has `padding`
+    /// The pixels are `u8` where [`Color::bit_depth`](crate::y4m::Color::bit_depth) is 8, else `u16`. The border has `padding`
     /// pixels on all four sides of luma, or so many more that it divides; 0 serves a reader.
     ///
     /// # Errors
@@ -24,8 +24,8 @@ impl StreamHeader {
         video_frame(
             self.width,
             self.height,
-            self.colour.subsampling(),
-            self.colour.bit_depth(),
+            self.color.subsampling(),
+            self.color.bit_depth(),
             padding,
         )
     }
@@ -36,9 +36,9 @@ impl StreamHeader {
     #[inline]
     #[must_use]
     pub fn frame_len(&self) -> Option<usize> {
-        let pixel = if self.colour.bit_depth() == 8 { 1 } else { 2 };
+        let pixel = if self.color.bit_depth() == 8 { 1 } else { 2 };
         let luma = plane_len(self.width, self.height, pixel)?;
-        let chroma = chroma_len(self.width, self.height, self.colour.subsampling(), pixel)?;
+        let chroma = chroma_len(self.width, self.height, self.color.subsampling(), pixel)?;
         luma.checked_add(chroma.checked_mul(2)?)
     }
 }

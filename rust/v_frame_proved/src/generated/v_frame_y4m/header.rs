@@ -3,7 +3,7 @@
 
 use alloc::string::String;
 use crate::support::memory::try_format;
-use crate::generated::v_frame_y4m::colour::Colour;
+use crate::generated::v_frame_y4m::color::Color;
 use crate::support::AllocError;
 use crate::generated::v_frame::sequence::Sequence;
 
@@ -80,11 +80,11 @@ impl Interlacing {
 ///
 /// ```
 /// use v_frame_proved::chroma::ChromaSubsampling;
-/// use v_frame_proved::y4m::{Colour, Interlacing, Ratio, StreamHeader, header_line, parse_header};
+/// use v_frame_proved::y4m::{Color, Interlacing, Ratio, StreamHeader, header_line, parse_header};
 ///
 /// let line = b"YUV4MPEG2 W35 H27 F30000:1001 Ip A1:1 C420jpeg XYSCSS=420JPEG";
 /// let mut header = parse_header(line)?;
-/// assert_eq!((header.width, header.height, header.colour), (35, 27, Colour::Yuv420Jpeg));
+/// assert_eq!((header.width, header.height, header.color), (35, 27, Color::Yuv420Jpeg));
 /// assert_eq!(header.frame_rate, Some(Ratio { numerator: 30000, denominator: 1001 }));
 /// assert_eq!(header.interlacing, Some(Interlacing::Progressive));
 /// assert_eq!(header_line(&header)?, line);
@@ -93,11 +93,11 @@ impl Interlacing {
 /// assert_eq!(header.frame_len(), Some(1449));
 /// assert_eq!(header.frame::<u8>(0)?.subsampling, ChromaSubsampling::Yuv420);
 ///
-/// header.set_colour(Colour::Mono);
+/// header.set_color(Color::Mono);
 /// header.width = 40;
 /// assert!(header.is_writable());
 /// assert_eq!(header_line(&header)?, b"YUV4MPEG2 W40 H27 F30000:1001 Ip A1:1 Cmono");
-/// assert_eq!(header_line(&StreamHeader::new(640, 360, Colour::Unstated))?, b"YUV4MPEG2 W640 H360");
+/// assert_eq!(header_line(&StreamHeader::new(640, 360, Color::Unstated))?, b"YUV4MPEG2 W640 H360");
 /// # Ok::<(), Box<dyn std::error::Error>>(())
 /// ```
 #[derive(Debug, PartialEq, Eq, Clone)]
@@ -112,8 +112,8 @@ pub struct StreamHeader {
     pub interlacing: Option<Interlacing>,
     /// `A`, the width of a pixel beside its height.
     pub pixel_aspect: Option<Ratio>,
-    /// `C`. [`Colour::Unstated`] where it is missing.
-    pub colour: Colour,
+    /// `C`. [`Color::Unstated`] where it is missing.
+    pub color: Color,
     /// What stands after the letter of each `X`, as it came and in this order. In a stream these have no space and no line
     /// feed.
     pub extensions: Sequence<Sequence<u8>>,

@@ -3,7 +3,7 @@
 
 use alloc::vec::Vec;
 use crate::support::memory::{TryPush, TryToString, TryVec};
-use crate::generated::v_frame_y4m::colour::Colour;
+use crate::generated::v_frame_y4m::color::Color;
 use crate::generated::v_frame_y4m::header::{Interlacing, Ratio, StreamHeader};
 use crate::generated::v_frame_y4m::parsing::SIGNATURE;
 use crate::support::AllocError;
@@ -43,7 +43,7 @@ fn push_parameters(
     push_ratio(line, b'F', header.frame_rate)?;
     push_interlacing(line, header.interlacing)?;
     push_ratio(line, b'A', header.pixel_aspect)?;
-    push_colour(line, header.colour)?;
+    push_color(line, header.color)?;
     push_extensions(line, header.extensions.as_slice())
 }
 
@@ -88,13 +88,13 @@ fn push_interlacing(line: &mut Vec<u8>, interlacing: Option<Interlacing>) -> Res
     }
 }
 
-/// Adds the colour, where a parameter says it.
+/// Adds the color, where a parameter says it.
 #[inline]
-fn push_colour(line: &mut Vec<u8>, colour: Colour) -> Result<(), AllocError> {
-    if colour == Colour::Unstated {
+fn push_color(line: &mut Vec<u8>, color: Color) -> Result<(), AllocError> {
+    if color == Color::Unstated {
         return Ok(());
     }
-    push(line, b'C', colour.text().as_bytes())
+    push(line, b'C', color.text().as_bytes())
 }
 
 /// Adds the extensions.

@@ -78,7 +78,7 @@ fn first_taken(options: &Options) -> u64 {
 fn scale_of(header: &StreamHeader, options: &Options) -> Scale {
     Scale {
         pixels: samples_of(header),
-        bit_depth: header.colour.bit_depth(),
+        bit_depth: header.color.bit_depth(),
         exact: options.exact,
     }
 }
@@ -135,7 +135,7 @@ fn lists_frames(options: &Options) -> bool {
 /// Returns how many samples each plane of a frame has.
 pub(crate) fn samples_of(header: &StreamHeader) -> PlaneSums {
     let luma = header.width as u128 * header.height as u128;
-    let chroma = match header.colour.subsampling() {
+    let chroma = match header.color.subsampling() {
         ChromaSubsampling::Monochrome => None,
         subsampling => {
             let (columns, rows) = ratios_or_one(subsampling);
@@ -151,7 +151,7 @@ pub(crate) fn samples_of(header: &StreamHeader) -> PlaneSums {
 
 /// Tests whether each plane of a frame has a window of structural similarity, which is 8 samples wide and high.
 pub(crate) fn test_windows(header: &StreamHeader) -> Result<(), Fault> {
-    let (columns, rows) = ratios_or_one(header.colour.subsampling());
+    let (columns, rows) = ratios_or_one(header.color.subsampling());
     if header.width.div_ceil(columns) < 8 || header.height.div_ceil(rows) < 8 {
         return Err(Fault::NoWindow(Place::First));
     }

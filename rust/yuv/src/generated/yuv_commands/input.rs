@@ -95,7 +95,7 @@ fn raw_header(raw: &RawVideo) -> StreamHeader {
         frame_rate: raw.rate,
         interlacing: None,
         pixel_aspect: None,
-        colour: raw.format.colour(),
+        color: raw.format.color(),
         extensions: Vec::new().into(),
     }
 }

@@ -13,14 +13,14 @@ use crate::support::fs::Files;
 use crate::support::time::Clock;
 use v_frame_proved::frame::Frame;
 use v_frame_proved::pixel::Pixel;
-use v_frame_proved::rgb::{ColourRange, Standard};
+use v_frame_proved::rgb::{ColorRange, Standard};
 use v_frame_proved::semi_planar::SemiPlanarFormat;
 use v_frame_proved::streams::{
     Container, CopyOptions, Picture, Place, Silent, Sink, Source, StreamError, copy_stream,
 };
 use v_frame_proved::y4m::StreamHeader;
 use crate::generated::yuv_files::SystemFile;
-use crate::generated::yuv_pictures::{Colours, PictureError, write_frame_picture, write_plane_picture};
+use crate::generated::yuv_pictures::{Colors, PictureError, write_frame_picture, write_plane_picture};
 use crate::generated::yuv_words::{Options, PlaneName};
 
 /// Writes a frame of a stream as a picture.
@@ -43,7 +43,7 @@ where
     let most = most_pixels(options.max_pixels);
     test_pixels(source.header(), Place::First, most)?;
     let mut output = Output::open(rt, to, &[from], &mut system.output, system.progress.out())?;
-    let shown = if source.header().colour.bit_depth() == 8 {
+    let shown = if source.header().color.bit_depth() == 8 {
         show_frame::<u8, _, _>(&mut source, options, &mut output)
     } else {
         show_frame::<u16, _, _>(&mut source, options, &mut output)
@@ -98,7 +98,7 @@ fn write_picture<T: Pixel, W: io::Write>(
     }
 }
 
-/// Writes one plane of a frame, or its colours.
+/// Writes one plane of a frame, or its colors.
 fn draw_picture<T: Pixel, W: io::Write>(
     out: W,
     frame: &Frame<T>,
@@ -106,7 +106,7 @@ fn draw_picture<T: Pixel, W: io::Write>(
 ) -> Result<W, PictureError> {
     match options.plane {
         Some(plane) => write_plane_picture(out, frame, shown_plane(plane)),
-        None => write_frame_picture(out, frame, colours_of(options)),
+        None => write_frame_picture(out, frame, colors_of(options)),
     }
 }
 
@@ -119,11 +119,11 @@ fn shown_plane(plane: PlaneName) -> crate::generated::yuv_pictures::PlaneName {
     }
 }
 
-/// Returns how colours are made: as BT.709 of limited range has it, where the options are silent.
-fn colours_of(options: &Options) -> Colours {
-    Colours {
+/// Returns how colors are made: as BT.709 of limited range has it, where the options are silent.
+fn colors_of(options: &Options) -> Colors {
+    Colors {
         standard: options.matrix.unwrap_or(Standard::Bt709),
-        range: options.range.unwrap_or(ColourRange::Limited),
+        range: options.range.unwrap_or(ColorRange::Limited),
     }
 }
 
@@ -168,7 +168,7 @@ fn shown_header(header: &StreamHeader, options: &Options) -> StreamHeader {
         frame_rate: None,
         interlacing: None,
         pixel_aspect: None,
-        colour: header.colour,
+        color: header.color,
         extensions: Vec::new().into(),
     }
 }

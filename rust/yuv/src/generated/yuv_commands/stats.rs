@@ -63,7 +63,7 @@ fn report_values<R: io::Read, W: io::Write, H: Clock, E: io::Write>(
     out: &mut Counted<W>,
     progress: &mut ProgressLine<'_, H, E>,
 ) -> Result<u64, StreamError> {
-    if source.header().colour.bit_depth() == 8 {
+    if source.header().color.bit_depth() == 8 {
         report_pixels::<u8, _, _, _, _>(source, options, out, progress)
     } else {
         report_pixels::<u16, _, _, _, _>(source, options, out, progress)
@@ -77,7 +77,7 @@ fn report_pixels<T: CountedPixel, R: io::Read, W: io::Write, H: Clock, E: io::Wr
     out: &mut Counted<W>,
     progress: &mut ProgressLine<'_, H, E>,
 ) -> Result<u64, StreamError> {
-    let depth = source.header().colour.bit_depth();
+    let depth = source.header().color.bit_depth();
     let (counts, found) = count_values::<T, _, _>(source, options, progress)?;
     let text = report_text(&counts, options.histogram, depth);
     drop(counts);

@@ -62,7 +62,7 @@ fn sum_stream<R: io::Read, W: io::Write, P: Progress>(
     out: &mut Counted<W>,
     progress: &mut P,
 ) -> Result<u64, StreamError> {
-    if source.header().colour.bit_depth() == 8 {
+    if source.header().color.bit_depth() == 8 {
         sum_as::<u8, _, _, _>(source, options, out, progress)
     } else {
         sum_as::<u16, _, _, _>(source, options, out, progress)

@@ -2,14 +2,14 @@
 //! How far two frames are apart, as a picture.
 
 use crate::generated::yuv_pictures::error::PictureError;
-use crate::generated::yuv_pictures::grey::write_grey;
+use crate::generated::yuv_pictures::gray::write_gray;
 use std::io;
 use v_frame_proved::frame::Frame;
 use v_frame_proved::pixel::Pixel;
 use v_frame_proved::convert::depth_fits;
 use v_frame_proved::ops::difference;
 
-/// Writes the differences of the luma of two frames in grey, and returns the writer: each is multiplied by `gain`, and at most
+/// Writes the differences of the luma of two frames in gray, and returns the writer: each is multiplied by `gain`, and at most
 /// the largest value of the bit depth. Where nothing differs it is black. It has 8 bits a sample, or 16 where the frames have
 /// a depth above 8.
 ///
@@ -34,7 +34,7 @@ pub fn write_difference_picture<T: Pixel, W: io::Write>(
     }
     let mut plane = first.y_plane.try_clone()?;
     difference(&mut plane, &second.y_plane.as_plane_ref(), gain, depth);
-    write_grey(out, &plane.as_plane_ref(), depth)
+    write_gray(out, &plane.as_plane_ref(), depth)
 }
 
 /// Returns whether luma has one size, and the frames one bit depth.

@@ -3,9 +3,9 @@
 
 use crate::generated::yuv_pictures::error::PictureError;
 use std::io;
-use v_frame_proved::png::{ColourSpace, Compression, Header, PngError, PngWriter, Samples};
+use v_frame_proved::png::{ColorSpace, Compression, Header, PngError, PngWriter, Samples};
 
-/// Returns the header of a picture, which names no colour space.
+/// Returns the header of a picture, which names no color space.
 ///
 /// # Errors
 ///
@@ -22,7 +22,7 @@ pub(crate) fn header_of(
         width: width as u32,
         height: height as u32,
         samples,
-        colour_space: ColourSpace::Unnamed,
+        color_space: ColorSpace::Unnamed,
     })
 }
 

@@ -2,7 +2,7 @@
 //! What the program is asked to do.
 
 use v_frame_proved::formats::VideoFormat;
-use v_frame_proved::rgb::{ColourRange, Standard};
+use v_frame_proved::rgb::{ColorRange, Standard};
 use v_frame_proved::y4m::Ratio;
 
 /// What the words of a call ask for.
@@ -84,8 +84,8 @@ pub struct Options {
     /// `--matrix`: the standard by which R'G'B' is made.
     pub matrix: Option<Standard>,
     /// `--range`: which samples stand for black and white.
-    pub range: Option<ColourRange>,
-    /// `--plane`: the one plane that is shown, in grey.
+    pub range: Option<ColorRange>,
+    /// `--plane`: the one plane that is shown, in gray.
     pub plane: Option<PlaneName>,
     /// `--crop`: the rectangle that is taken of each frame, in luma pixels.
     pub crop: Option<Rectangle>,

@@ -3,7 +3,7 @@
 
 use crate::generated::yuv_words::command::{PlaneName, RawVideo, Rectangle};
 use v_frame_proved::formats::VideoFormat;
-use v_frame_proved::rgb::{ColourRange, Standard};
+use v_frame_proved::rgb::{ColorRange, Standard};
 use v_frame_proved::y4m::Ratio;
 
 /// What an option may take.
@@ -123,11 +123,11 @@ impl OptionValue for Standard {
     }
 }
 
-impl OptionValue for ColourRange {
-    fn spelled(text: &str) -> Option<ColourRange> {
+impl OptionValue for ColorRange {
+    fn spelled(text: &str) -> Option<ColorRange> {
         match text {
-            "limited" => Some(ColourRange::Limited),
-            "full" => Some(ColourRange::Full),
+            "limited" => Some(ColorRange::Limited),
+            "full" => Some(ColorRange::Full),
             _ => None,
         }
     }

@@ -1,9 +1,9 @@
--- The bytes so far are those of the colours so far.
+-- The bytes so far are those of the colors so far.
 use Rattle.std.proofs.Common.{◌≡◌, ◌*◌, flat_map, take}
-use Rattle.v_frame_rgb.specs.Colours.{colours_of}
+use Rattle.v_frame_rgb.specs.Colors.{colors_of}
 use Rattle.v_frame_rgb.proofs.rows.decode.decode_row.Given as goal
 
 abbrev pub invariant-loop-x : goal.invariant-loop-x
 invariant-loop-x g l =
-    take (g.O.ColourOrder.BYTES * l.x) l.out
-    ≡ flat_map g.O.ColourOrder.bytes_of (take l.x (colours_of l.matrix l.y l.u l.v))
+    take (g.O.ColorOrder.BYTES * l.x) l.out
+    ≡ flat_map g.O.ColorOrder.bytes_of (take l.x (colors_of l.matrix l.y l.u l.v))

@@ -1,11 +1,11 @@
--- The samples so far are those of the colours so far, in each channel.
+-- The samples so far are those of the colors so far, in each channel.
 use Rattle.std.proofs.Common.{◌≡◌, map, take}
-use Rattle.v_frame_rgb.specs.Colours.{colours_in, y_of, u_of, v_of}
+use Rattle.v_frame_rgb.specs.Colors.{colors_in, y_of, u_of, v_of}
 use Rattle.v_frame_rgb.proofs.rows.encode.encode_channels.Given as goal
 
 abbrev pub invariant-loop-x : goal.invariant-loop-x
 invariant-loop-x g l =
-    let so_far = colours_in g.O.ColourOrder.colour_at g.O.ColourOrder.BYTES l.x l.colours in record {
+    let so_far = colors_in g.O.ColorOrder.color_at g.O.ColorOrder.BYTES l.x l.colors in record {
       y : take l.x l.y ≡ map (y_of l.matrix) so_far;
       u : take l.x l.u ≡ map (u_of l.matrix) so_far;
       v : take l.x l.v ≡ map (v_of l.matrix) so_far;

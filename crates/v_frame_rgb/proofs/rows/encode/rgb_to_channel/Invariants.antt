@@ -1,9 +1,9 @@
 -- The rows so far are samples, and all else is as it was.
 use Rattle.v_frame_raster.proofs.tables.StridedWrites.{WrittenBelow}
-use Rattle.v_frame_rgb.specs.Colours.{sample_rows}
+use Rattle.v_frame_rgb.specs.Colors.{sample_rows}
 use Rattle.v_frame_rgb.proofs.rows.encode.rgb_to_channel.Given as goal
 
 abbrev pub invariant-loop-k : goal.invariant-loop-k
 invariant-loop-k g l = WrittenBelow l.width l.height l.stride
-    (sample_rows (g.C.Channel.sample l.matrix) g.O.ColourOrder.colour_at g.O.ColourOrder.BYTES l.width l.source)
+    (sample_rows (g.C.Channel.sample l.matrix) g.O.ColorOrder.color_at g.O.ColorOrder.BYTES l.width l.source)
     l.initial.buffer l.buffer l.k

@@ -1,9 +1,9 @@
--- The rows so far are colours, and all else is as it was.
+-- The rows so far are colors, and all else is as it was.
 use Rattle.v_frame_raster.proofs.tables.StridedWrites.{WrittenBelow}
-use Rattle.v_frame_rgb.specs.Exact.{exact_colour_rows}
+use Rattle.v_frame_rgb.specs.Exact.{exact_color_rows}
 use Rattle.v_frame_rgb.proofs.rows.exact.yuv444_to_rgb_exactly.Given as goal
 
 abbrev pub invariant-loop-k : goal.invariant-loop-k
 invariant-loop-k g l = WrittenBelow l.width l.height l.stride
-    (exact_colour_rows l.matrix.standard l.matrix.range l.matrix.depth g.T.Pixel.form g.O.ColourOrder.bytes_of l.y l.u
+    (exact_color_rows l.matrix.standard l.matrix.range l.matrix.depth g.T.Pixel.form g.O.ColorOrder.bytes_of l.y l.u
     l.v) l.initial.buffer l.buffer l.k

@@ -72,8 +72,8 @@ fn duration(frames: u64, rate: Option<Ratio>) -> Option<u128> {
 /// Appends the size of a frame, and what its pixels are.
 fn push_format(text: &mut String, header: &StreamHeader) -> Result<(), AllocError> {
     let (width, height) = (header.width, header.height);
-    let depth = header.colour.bit_depth();
-    let format = chroma_name(header.colour.subsampling());
+    let depth = header.color.bit_depth();
+    let format = chroma_name(header.color.subsampling());
     writeln!(text, "size: {width}x{height}")?;
     writeln!(text, "format: {format}")?;
     writeln!(text, "bit depth: {depth}")
@@ -97,7 +97,7 @@ fn push_fact(text: &mut String, name: &str, value: &str) -> Result<(), AllocErro
 
 /// Appends where chroma is sited, the rate, the interlacing and the shape of a pixel, where the header says them.
 fn push_facts(text: &mut String, header: &StreamHeader) -> Result<(), AllocError> {
-    push_siting(text, header.colour.siting())?;
+    push_siting(text, header.color.siting())?;
     push_ratio(text, "frame rate", &header.frame_rate)?;
     push_interlacing(text, header.interlacing)?;
     push_ratio(text, "pixel aspect", &header.pixel_aspect)
@@ -114,7 +114,7 @@ fn push_siting(text: &mut String, siting: Option<ChromaSiting>) -> Result<(), Al
 /// Returns where chroma is sited, in words.
 fn siting_name(siting: ChromaSiting) -> &'static str {
     match siting {
-        ChromaSiting::Centre => "centre",
+        ChromaSiting::Center => "center",
         ChromaSiting::Left => "left",
         ChromaSiting::Alternating => "alternating, as in PAL DV",
     }

@@ -1,0 +1,65 @@
+//! Pictures shown in RGB, and what is left of a color.
+ghost use Rattle.std.specs.Prelude.{◌≡◌, ◌*◌, [], ◌∷◌, length, slice_index};
+ghost use Rattle.v_frame.specs.Prelude.{height_of, strided_rows, table_of, width_of, KeepsBorder, KeepsRest, RowsFit};
+ghost use Rattle.v_frame_rgb.specs.Prelude.{color_rows, rgb_matrix_of, sample_rows, y_of, yuv_matrix_of};
+ghost use Rattle.v_frame_rgb.specs.Prelude.{ComesBack};
+
+use v_frame::plane::{Plane, RowsRef};
+use v_frame_rgb::laws::colors_come_back;
+use v_frame_rgb::{
+    Bgra, Channel, ChromaU, ChromaV, Color, ColorRange, Luma, Rgb, RgbMatrix, Standard, YuvMatrix,
+    rows,
+};
+
+/// Shows luma and chroma of one size on a screen that stores blue, green, red and opacity, each row a stride after the one
+/// before. The rest of its memory stays.
+pub fn show_on_screen(
+    y: &RowsRef<'_, u8>,
+    u: &RowsRef<'_, u8>,
+    v: &RowsRef<'_, u8>,
+    screen: &mut [u8],
+    stride: usize,
+)
+    requires u_wide { width_of u.now ≡ width_of y.now }
+    requires u_high { height_of u.now ≡ height_of y.now }
+    requires v_wide { width_of v.now ≡ width_of y.now }
+    requires v_high { height_of v.now ≡ height_of y.now }
+    requires fit { RowsFit (4 * width_of y.now) (height_of y.now) stride (length screen.old) }
+    ensures table { strided_rows (4 * width_of y.now) (height_of y.now) stride screen.new
+        ≡ color_rows (rgb_matrix_of Standard.Bt709 ColorRange.Limited)
+        (λ color. color.blue ∷ color.green ∷ color.red ∷ 255 ∷ []) y.now u.now v.now }
+    ensures rest { KeepsRest (4 * width_of y.now) (height_of y.now) stride screen.old screen.new }
+{
+    let matrix = RgbMatrix::new(Standard::Bt709, ColorRange::Limited);
+    let (width, height) = (y.width(), y.height());
+    prove!(stride >= width);
+    rows::yuv444_to_rgb::<Bgra>(y, u, v, matrix, screen, 4 * width, height, stride);
+}
+
+/// Makes a plane the luma of a picture of red, green and blue, as a JPEG file has it. Its border stays.
+pub fn luma_of_photo(photo: &RowsRef<'_, u8>, plane: &mut Plane<u8>)
+    requires wide { width_of photo.now ≡ 3 * plane.old.geometry.width }
+    requires high { height_of photo.now ≡ plane.old.geometry.height }
+    ensures table { table_of plane.new ≡ sample_rows (y_of (yuv_matrix_of Standard.Bt601 ColorRange.Full))
+        (λ pixel. record { red = slice_index pixel 0; green = slice_index pixel 1; blue = slice_index pixel 2 })
+        3 plane.old.geometry.width photo.now }
+    ensures border { KeepsBorder plane.old plane.new }
+{
+    let matrix = YuvMatrix::new(Standard::Bt601, ColorRange::Full);
+    v_frame_rgb::rgb_to_channel::<Rgb, Luma>(photo, matrix, plane);
+}
+
+/// Returns what is left of a color that was stored as luma and chroma: red and green are off by at most 1, and blue by at
+/// most 1 in full range, and 2 in limited range.
+pub fn stored(color: Color, standard: Standard, range: ColorRange) -> Color
+    ensures { ComesBack range color result }
+{
+    colors_come_back();
+    let matrix = YuvMatrix::new(standard, range);
+    let y = Luma::sample(matrix, color);
+    let (u, v) = (
+        ChromaU::sample(matrix, color),
+        ChromaV::sample(matrix, color),
+    );
+    RgbMatrix::new(standard, range).color(y, u, v)
+}

@@ -1,0 +1,45 @@
+//! The exports that make colors of luma and chroma, and luma and chroma of colors.
+ghost use Rattle.v_frame_c.specs.ColorCalls.{AreColors, AreSamples};
+
+use crate::colors::{self, ColorChoice};
+use crate::layout::Rows;
+use crate::samples;
+
+/// Makes the first rows the colors of three pictures of one size: Y', Cb and Cr of 8 bits become R'G'B' by a standard.
+#[unsafe(no_mangle)]
+pub extern "C" fn v_frame_yuv444_to_rgb_u8(
+    rows: &Rows,
+    buffer: &mut [u8],
+    y_rows: &Rows,
+    y: &[u8],
+    u_rows: &Rows,
+    u: &[u8],
+    v_rows: &Rows,
+    v: &[u8],
+    choice: &ColorChoice,
+) -> u32
+    ensures made { AreColors choice.now rows.now y_rows.now u_rows.now v_rows.now y.now u.now v.now buffer.old
+        buffer.new result }
+{
+    colors::to_rgb(rows, buffer, y_rows, y, u_rows, u, v_rows, v, choice)
+}
+
+/// Makes the second, the third and the fourth rows the luma and the chroma of the colors of the first ones: R'G'B' of 8 bits
+/// becomes Y', Cb and Cr by a standard.
+#[unsafe(no_mangle)]
+pub extern "C" fn v_frame_rgb_to_yuv444_u8(
+    rows: &Rows,
+    buffer: &[u8],
+    y_rows: &Rows,
+    y: &mut [u8],
+    u_rows: &Rows,
+    u: &mut [u8],
+    v_rows: &Rows,
+    v: &mut [u8],
+    choice: &ColorChoice,
+) -> u32
+    ensures made { AreSamples choice.now rows.now y_rows.now u_rows.now v_rows.now buffer.now y.old y.new u.old
+        u.new v.old v.new result }
+{
+    samples::of_rgb(rows, buffer, y_rows, y, u_rows, u, v_rows, v, choice)
+}

@@ -1,9 +1,0 @@
--- The colour that the table has for the three has them.
-use Rattle.std.proofs.Common.{arith}
-use Rattle.std.proofs.lemmas.Grind.{common_steps}
-use Rattle.v_frame_y4m.proofs.ColoursFound.{found_if}
-use Rattle.v_frame_y4m.proofs.colour.Colour.new.Goals as goal
-
-pub returns-else-bit_depth-eq8-clause-found : goal.returns-else-bit_depth-eq8-clause-found
-returns-else-bit_depth-eq8-clause-found c =
-    found_if c.args.subsampling c.args.bit_depth c.args.siting _ (grind (arith, common_steps))

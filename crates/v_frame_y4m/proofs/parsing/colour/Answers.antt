@@ -1,6 +1,0 @@
--- C may stand once.
-use Rattle.std.proofs.Common.{refl, arith, lit<}
-use Rattle.v_frame_y4m.proofs.parsing.colour.Goals as goal
-
-pub unique_parameter-requires : goal.unique_parameter-requires
-unique_parameter-requires c = ((5, lit< tt, refl), λ e. omega (arith, e))
