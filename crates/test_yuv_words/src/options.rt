@@ -1,8 +1,10 @@
 //! Options, printed where they are given.
 
 use std::io::{self, Write};
+use v_frame_formats::Rectangle;
 use v_frame_y4m::Ratio;
-use yuv_words::{Options, RawVideo, Rectangle, ReportForm};
+use yuv_reports::ReportForm;
+use yuv_words::{Options, RawVideo};
 
 /// Prints each option that is given.
 pub fn print_options<W: Write>(options: &Options, out: &mut W) -> io::Result<()> {

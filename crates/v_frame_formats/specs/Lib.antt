@@ -1,3 +1,4 @@
+pub mod Components
 pub mod Formats
 pub mod Prelude
 pub mod WorkedFormats

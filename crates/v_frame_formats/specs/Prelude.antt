@@ -1,3 +1,4 @@
 -- The words that callers' clauses cite, re-exported from one place.
+pub use Rattle.v_frame_formats.specs.Components.{index_of, letter_of}
 pub use Rattle.v_frame_formats.specs.Formats.{color_of_layout, ffmpeg_name, format_color, format_depth}
 pub use Rattle.v_frame_formats.specs.Formats.{format_subsampling, short_name, IsFormat}

@@ -22,7 +22,7 @@ use Rattle.v_frame_streams.specs.Copies.{copied_header, edit_of, plan_for, taken
 use Rattle.v_frame_streams.specs.Edits.{beside, halved_size, ChromaFits, EditFits}
 use Rattle.v_frame_streams.specs.Pictures.{sizes_in, Sizes}
 use Rattle.v_frame_streams.specs.Plans.{CanConvert, CanLayOut, CanMake, FitsLayout, Plan}
-use Rattle.v_frame_streams.specs.declared.edit.Rectangle.{Rectangle}
+use Rattle.v_frame_formats.specs.declared.rectangle.Rectangle.{Rectangle}
 use Rattle.v_frame_streams.specs.declared.options.CopyOptions.{CopyOptions}
 use Rattle.v_frame_semi_planar.specs.declared.format.SemiPlanarFormat.TheVariants.{Nv12, Nv21, Nv16, Nv24, P010, P012, P016}
 use Rattle.v_frame_formats.specs.declared.format.VideoFormat.{VideoFormat}

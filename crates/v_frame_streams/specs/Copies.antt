@@ -17,7 +17,7 @@ use Rattle.v_frame_streams.specs.Plans.{planned_bytes, Plan}
 use Rattle.v_frame_streams.specs.Streams.{header_bytes, most_frames, written_bytes, Framed, ReadsFrames}
 use Rattle.v_frame_streams.specs.Streams.{framed_bytes, CountsFrames, IsFrame}
 use Rattle.v_frame_streams.specs.declared.edit.Edit.{Edit}
-use Rattle.v_frame_streams.specs.declared.edit.Rectangle.{Rectangle}
+use Rattle.v_frame_formats.specs.declared.rectangle.Rectangle.{Rectangle}
 use Rattle.v_frame_streams.specs.declared.error.Problem.{Problem}
 use Rattle.v_frame_streams.specs.declared.error.Problem.TheVariants.{EmptyCrop, CropOutside, CropMisaligned}
 use Rattle.v_frame_streams.specs.declared.options.CopyOptions.{CopyOptions}

@@ -5,7 +5,7 @@ use Rattle.v_frame.specs.Prelude.{PixelForm, Table, Tables, rectangle}
 use Rattle.v_frame_convert.specs.Prelude.{scaled}
 use Rattle.v_frame_convert.specs.declared.scale.Scale.TheVariants.{Half}
 use Rattle.v_frame_streams.specs.Pictures.{Sizes}
-use Rattle.v_frame_streams.specs.declared.edit.Rectangle.{Rectangle}
+use Rattle.v_frame_formats.specs.declared.rectangle.Rectangle.{Rectangle}
 use Rattle.v_frame_streams.specs.declared.edit.Edit.{Edit}
 
 -- the chroma pixels beside a rectangle of luma, with those of which only a part stands beside it

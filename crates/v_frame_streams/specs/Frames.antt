@@ -2,8 +2,8 @@
 use Rattle.std.specs.Prelude.{ℕ, ◌≡◌, Option, Some, None, option_map}
 use Rattle.v_frame.specs.Prelude.{Table, Tables, pixel_at, row_major, squared_errors}
 use Rattle.v_frame_ops.specs.Prelude.{IsFirstDifference}
-use Rattle.v_frame_streams.specs.declared.frames.Component.{Component}
-use Rattle.v_frame_streams.specs.declared.frames.Component.TheVariants.{Y, U, V}
+use Rattle.v_frame_formats.specs.declared.component.Component.{Component}
+use Rattle.v_frame_formats.specs.declared.component.Component.TheVariants.{Y, U, V}
 use Rattle.v_frame_streams.specs.declared.frames.PixelDifference.{PixelDifference}
 
 module _ {T : Type 0} (value : T → ℕ) where

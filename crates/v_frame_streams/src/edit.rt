@@ -1,5 +1,5 @@
 //! Frames made of others: a rectangle of each, as large as it is or at half the size, rounded up.
-ghost use Rattle.std.specs.Prelude.{◌≡◌, ◌+◌, ◌/◌, ◌<◌, ◌≤◌, ◌↔◌, IsTrue, option_map};
+ghost use Rattle.std.specs.Prelude.{◌≡◌, ◌+◌, ◌/◌, ◌<◌, ◌≤◌, option_map};
 ghost use Rattle.v_frame.specs.Prelude.{KeepsBorder, KeepsBorders, rectangle, table_of, tables_of, border_and_geometry};
 ghost use Rattle.v_frame_planar.specs.Planar.{size_of, sizes_of};
 ghost use Rattle.v_frame_planar.specs.Video.{ratio_or_one};
@@ -10,32 +10,10 @@ use v_frame::frame::Frame;
 use v_frame::pixel::Pixel;
 use v_frame::plane::{Plane, PlaneRef};
 use v_frame_convert::downscale_to_edge;
+use v_frame_formats::Rectangle;
 use v_frame_ops::copy_region;
 use v_frame_ops::laws::tables_agree_by_pixels;
 use v_frame_planar::ratios_or_one;
-
-/// A rectangle of pixels.
-#[derive(Debug, Clone, Copy, PartialEq, Eq)]
-pub struct Rectangle {
-    /// Its first column, counted from 0.
-    pub x: usize,
-    /// Its first row, counted from 0.
-    pub y: usize,
-    /// How many columns it has.
-    pub width: usize,
-    /// How many rows it has.
-    pub height: usize,
-}
-
-impl Rectangle {
-    /// Returns whether it lies in a picture of so many columns and rows.
-    pub fn lies_in(&self, width: usize, height: usize) -> bool
-        ensures { IsTrue result ↔ ((self.now.x + self.now.width ≤ width)
-            × (self.now.y + self.now.height ≤ height)) }
-    {
-        lies_within(self.x, self.width, width) && lies_within(self.y, self.height, height)
-    }
-}
 
 /// What is made of each plane of a frame.
 #[derive(Clone, Copy)]
@@ -69,13 +47,6 @@ impl Edit {
             half,
         }
     }
-}
-
-/// Returns whether so many columns or rows from a first one on are there.
-fn lies_within(first: usize, count: usize, size: usize) -> bool
-    ensures { IsTrue result ↔ (first + count ≤ size) }
-{
-    first <= size && count <= size - first
 }
 
 /// Shows in `target` what is made of `source`, whose planes hold what is taken. The borders stay.

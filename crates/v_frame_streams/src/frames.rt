@@ -5,32 +5,11 @@ ghost use Rattle.v_frame_planar.specs.Planar.{size_of, sizes_of};
 ghost use Rattle.v_frame_streams.specs.Frames.{chroma_errors, plane_errors, DiffersFirst, ChromaDiffersFirst, FramesDifferFirst};
 
 use crate::sums::PlaneSums;
-use std::fmt;
 use v_frame::frame::Frame;
 use v_frame::pixel::Pixel;
 use v_frame::plane::{Plane, PlaneRef};
+use v_frame_formats::Component;
 use v_frame_ops::{first_difference, sum_of_squared_errors};
-
-/// Which plane of a frame.
-#[derive(Debug, Clone, Copy, PartialEq, Eq)]
-pub enum Component {
-    /// Luma.
-    Y,
-    /// The first chroma component.
-    U,
-    /// The second chroma component.
-    V,
-}
-
-impl fmt::Display for Component {
-    fn fmt<W: fmt::Write>(&self, f: &mut fmt::Formatter<W>) -> fmt::Result {
-        f.write_str(match self {
-            Component::Y => "Y",
-            Component::U => "U",
-            Component::V => "V",
-        })
-    }
-}
 
 /// A pixel that two frames show differently.
 #[derive(Debug, Clone, Copy, PartialEq, Eq)]

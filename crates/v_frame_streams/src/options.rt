@@ -1,9 +1,8 @@
 //! What a copy takes of a stream, and what it makes of its frames.
 
 use crate::colors::{is_same_format, is_same_layout};
-use crate::edit::Rectangle;
 use crate::stream::Container;
-use v_frame_formats::VideoFormat;
+use v_frame_formats::{Rectangle, VideoFormat};
 use v_frame_semi_planar::SemiPlanarFormat;
 use v_frame_y4m::{Color, Ratio, StreamHeader};
 

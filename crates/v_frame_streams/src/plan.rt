@@ -7,11 +7,12 @@ ghost use Rattle.v_frame_streams.specs.Copies.{copied_extensions, copied_header,
 ghost use Rattle.v_frame_streams.specs.Edits.{halved_size};
 
 use crate::colors::is_same_color;
-use crate::edit::{Edit, Rectangle};
+use crate::edit::Edit;
 use crate::error::Problem;
 use crate::options::CopyOptions;
 use std::alloc::{AllocError, Global};
 use v_frame::sequence::Sequence;
+use v_frame_formats::Rectangle;
 use v_frame_planar::ratios_or_one;
 use v_frame_y4m::{Ratio, StreamHeader};
 

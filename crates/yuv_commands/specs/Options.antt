@@ -1,16 +1,11 @@
 -- What the options of a command ask of the streams.
-use Rattle.std.specs.Prelude.{ℕ, ◌*◌, ◌≤◌, ◌<◌, if◌then◌else◌, false, min, Option, Some, None, option_map, unwrap_or, IfSome, IsSomeAnd}
+use Rattle.std.specs.Prelude.{ℕ, ◌*◌, ◌≤◌, ◌<◌, if◌then◌else◌, false, min, Option, Some, None, unwrap_or, IfSome, IsSomeAnd}
 use Rattle.v_frame_y4m.specs.declared.header.StreamHeader.{StreamHeader}
 use Rattle.v_frame.specs.Prelude.{usize_max}
 use Rattle.v_frame_streams.specs.declared.comparison.CompareOptions.{CompareOptions}
-use Rattle.v_frame_streams.specs.declared.edit.Rectangle.{Rectangle}
 use Rattle.v_frame_streams.specs.declared.options.CopyOptions.{CopyOptions}
 use Rattle.v_frame_streams.specs.declared.stream.Container.{Container}
-use Rattle.yuv_pictures.specs.declared.plane_name.PlaneName.{PlaneName}
 use Rattle.yuv_words.specs.declared.command.Options.{Options as OptionWords}
-use Rattle.yuv_words.specs.declared.command.PlaneName.{PlaneName as PlaneWords}
-use Rattle.yuv_words.specs.declared.command.PlaneName.TheVariants.{Y, U, V}
-use Rattle.yuv_words.specs.declared.command.Rectangle.{Rectangle as RectangleWords}
 
 -- the most pixels of luma that a picture may have: those of 7680x4320 where nobody says, and never
 -- more than can be counted
@@ -26,16 +21,13 @@ abbrev pub ExceedsLimit : Option ℕ → StreamHeader → Type 0
 ExceedsLimit asked header =
     IsSomeAnd asked (λ _. most_pixels asked < header.width * header.height)
 
-abbrev pub rectangle_of : RectangleWords → Rectangle
-rectangle_of part = record { x = part.x; y = part.y; width = part.width; height = part.height }
-
 -- `copy`: each option is handed on
 abbrev pub copy_of : OptionWords → CopyOptions
 copy_of options =
     record {
       skip = unwrap_or options.skip 0;
       count = options.count;
-      crop = option_map rectangle_of options.crop;
+      crop = options.crop;
       half = options.half;
       format = options.format;
       frame_rate = options.rate;
@@ -67,19 +59,13 @@ shown_frame options before =
     record {
       skip = before;
       count = Some 1;
-      crop = option_map rectangle_of options.crop;
+      crop = options.crop;
       half = false;
       format = None;
       frame_rate = None;
       pixel_aspect = None;
       max_pixels = most_pixels options.max_pixels;
     }
-
--- `show --plane`
-abbrev pub plane_of : PlaneWords → PlaneName
-plane_of Y = PlaneName.Y
-plane_of U = PlaneName.U
-plane_of V = PlaneName.V
 
 -- `diff`: one frame of both streams, after so many
 abbrev pub frame_pair : OptionWords → ℕ → CompareOptions

@@ -7,27 +7,16 @@ use Rattle.v_frame_measures.specs.declared.frames.FrameMeasure.{FrameMeasure}
 use Rattle.yuv_reports.specs.Frames.{end_by_parts}
 use Rattle.yuv_reports.specs.Texts.{EndsWith}
 use Rattle.yuv_reports.specs.declared.comparison.Longer.{Longer}
-use Rattle.yuv_reports.specs.declared.comparison.PlaneName.{PlaneName}
 use Rattle.yuv_reports.specs.declared.comparison.ReportForm.{ReportForm}
 use Rattle.yuv_reports.specs.declared.comparison.SampleDifference.{SampleDifference}
 use Rattle.yuv_reports.specs.declared.planes.PlaneSums.{PlaneSums as ReportedSums}
 use Rattle.yuv_reports.specs.declared.planes.PlaneValues.{PlaneValues}
 use Rattle.v_frame_streams.specs.Prelude.{most_frames}
 use Rattle.v_frame_streams.specs.declared.comparison.Comparison.{Comparison}
-use Rattle.v_frame_streams.specs.declared.frames.Component.{Component}
-use Rattle.v_frame_streams.specs.declared.frames.Component.TheVariants.{Y, U, V}
 use Rattle.v_frame_streams.specs.declared.frames.PixelDifference.{PixelDifference}
 use Rattle.v_frame_streams.specs.declared.stream.Place.{Place}
 use Rattle.v_frame_streams.specs.declared.stream.Place.TheVariants.{First}
 use Rattle.v_frame_streams.specs.declared.sums.PlaneSums.{PlaneSums}
-use Rattle.yuv_words.specs.declared.command.ReportForm.{ReportForm as FormWords}
-use Rattle.yuv_words.specs.declared.command.ReportForm.TheVariants.{Lines, Csv, Json}
-
--- the form of a report
-abbrev pub form_of_words : FormWords → ReportForm
-form_of_words Lines = ReportForm.Lines
-form_of_words Csv = ReportForm.Csv
-form_of_words Json = ReportForm.Json
 
 -- the sums of squared errors, with `--exact` alone
 abbrev pub sums_asked : Bool → PlaneSums → Option ReportedSums
@@ -42,11 +31,6 @@ values_of measure = record { all = measure.all; y = measure.y; u = measure.u; v 
 abbrev pub similarities_of : {T : Type 0} → PixelForm T → ℕ → Tables T → Tables T → PlaneValues
 similarities_of form depth a b = values_of (measured (ssim_of form (peak_of depth)) a b)
 
-abbrev pub plane_said : Component → PlaneName
-plane_said Y = PlaneName.Y
-plane_said U = PlaneName.U
-plane_said V = PlaneName.V
-
 -- the number that a frame has in its file: so many stand before those that are compared, of which it
 -- is the one of this number, counted from 1
 abbrev pub frame_number : ℕ → ℕ → ℕ
@@ -58,7 +42,7 @@ abbrev pub difference_said : ℕ → ℕ × PixelDifference → SampleDifference
 difference_said before found =
     record {
       frame = frame_number before (found.0 + 1);
-      plane = plane_said found.1.component;
+      plane = found.1.component;
       x = found.1.x;
       y = found.1.y;
       first = found.1.first;

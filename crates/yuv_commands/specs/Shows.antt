@@ -10,7 +10,7 @@ use Rattle.v_frame_rgb.specs.declared.standard.Standard.TheVariants.{Bt709}
 use Rattle.v_frame_semi_planar.specs.declared.format.SemiPlanarFormat.{SemiPlanarFormat}
 use Rattle.v_frame_y4m.specs.Frames.{frame_byte_count}
 use Rattle.v_frame_y4m.specs.declared.header.StreamHeader.{StreamHeader}
-use Rattle.yuv_commands.specs.Options.{plane_of, shown_frame}
+use Rattle.yuv_commands.specs.Options.{shown_frame}
 use Rattle.yuv_pictures.specs.Prelude.{frame_rows, frame_samples, gray_rows, gray_samples}
 use Rattle.yuv_pictures.specs.Prelude.{picture_header, plane_named, StopsFrame, StopsGray}
 use Rattle.yuv_pictures.specs.declared.colors.Colors.{Colors}
@@ -21,7 +21,7 @@ use Rattle.v_frame_streams.specs.Prelude.{copied_bytes, sizes_in, taken, tables_
 use Rattle.v_frame_streams.specs.Prelude.{ReadsFrames}
 use Rattle.v_frame_streams.specs.declared.stream.Container.{Container}
 use Rattle.v_frame_streams.specs.declared.stream.Container.TheVariants.{Raw}
-use Rattle.yuv_words.specs.declared.command.PlaneName.{PlaneName as PlaneWords}
+use Rattle.v_frame_formats.specs.declared.component.Component.{Component}
 use Rattle.yuv_words.specs.declared.command.Options.{Options as OptionWords}
 
 -- by which standard and range colors are made: by BT.709 of limited range, where nobody says
@@ -65,19 +65,19 @@ module _ {T : Type 0} (form : PixelForm T) (frame : Frame T) where
   )
 
   -- the plane of this name, where the frame has it, or else the colors
-  abbrev pub drawing_of : Option PlaneWords → Colors → Option Drawing
+  abbrev pub drawing_of : Option Component → Colors → Option Drawing
   drawing_of None colors = Some (color_drawing colors)
-  drawing_of (Some name) colors = option_map plane_drawing (plane_named frame (plane_of name))
+  drawing_of (Some name) colors = option_map plane_drawing (plane_named frame name)
 
   -- what the options ask for
   abbrev pub drawing_asked : OptionWords → Option Drawing
   drawing_asked options = drawing_of options.plane (colors_asked options)
 
 -- why that is not drawn, of pixels of so many bytes
-abbrev pub StopsDrawing : {T : Type 0} → ℕ → Frame T → Option PlaneWords → PictureError → Type 0
+abbrev pub StopsDrawing : {T : Type 0} → ℕ → Frame T → Option Component → PictureError → Type 0
 StopsDrawing bytes frame None error = StopsFrame bytes frame error
 StopsDrawing bytes frame (Some name) error =
-    MatchOption (plane_named frame (plane_of name)) (error ≡ NoPlane)
+    MatchOption (plane_named frame name) (error ≡ NoPlane)
     (λ plane. StopsGray bytes (non_zero_u8_get frame.bit_depth) plane.geometry.width
     plane.geometry.height error)
 

@@ -8,8 +8,8 @@ use Rattle.yuv_commands.specs.Values.{histogram_said, CountsFrom}
 use Rattle.yuv_commands.specs.declared.stats.Counts.{Counts}
 use Rattle.yuv_commands.specs.declared.value_counts.ValueCounts.{ValueCounts}
 use Rattle.yuv_reports.specs.Samples.{AppendsStatistics}
-use Rattle.yuv_reports.specs.declared.comparison.PlaneName.{PlaneName}
-use Rattle.yuv_reports.specs.declared.comparison.PlaneName.TheVariants.{Y, U, V}
+use Rattle.v_frame_formats.specs.declared.component.Component.{Component}
+use Rattle.v_frame_formats.specs.declared.component.Component.TheVariants.{Y, U, V}
 use Rattle.yuv_reports.specs.declared.samples.SampleStatistics.{SampleStatistics}
 use Rattle.v_frame_streams.specs.Prelude.{Sizes}
 use Rattle.v_frame_streams.specs.declared.stream.Container.{Container}
@@ -28,7 +28,7 @@ outside_from least greatest value (count ∷ counts) =
     + outside_from least greatest (value + 1) counts
 
 -- what is said of a plane is true of the counts of its values
-pub record Describes (plane : PlaneName) (counts : List ℕ) (least greatest : ℕ)
+pub record Describes (plane : Component) (counts : List ℕ) (least greatest : ℕ)
     (said : SampleStatistics) : Type 0 where
   pub named : said.plane ≡ plane
   pub minimum_occurs : 0 < slice_index counts said.minimum
@@ -42,14 +42,14 @@ abbrev pub HasNoValue : List ℕ → Type 0
 HasNoValue counts = (value : ℕ) → slice_index counts value ≡ 0
 
 -- a text got the line of a plane, where a value occurs
-abbrev pub AppendsPlane : PlaneName → List ℕ → ℕ → ℕ → List ℕ → List ℕ → Type 0
+abbrev pub AppendsPlane : Component → List ℕ → ℕ → ℕ → List ℕ → List ℕ → Type 0
 AppendsPlane plane counts least greatest old new =
     (HasNoValue counts × (new ≡ old))
     ⊎ ((said : SampleStatistics)
     × Describes plane counts least greatest said × AppendsStatistics old new said)
 
 -- the same of a chroma plane, where it is there
-abbrev pub AppendsChroma : PlaneName → Option ValueCounts → ℕ → ℕ → List ℕ → List ℕ → Type 0
+abbrev pub AppendsChroma : Component → Option ValueCounts → ℕ → ℕ → List ℕ → List ℕ → Type 0
 AppendsChroma plane None least greatest old new = new ≡ old
 AppendsChroma plane (Some found) least greatest old new =
     AppendsPlane plane found.counts.items least greatest old new

@@ -7,14 +7,14 @@ use Rattle.v_frame.specs.Prelude.{PixelForm, Table, Tables, row_major}
 use Rattle.yuv_commands.specs.declared.stats.Counts.{Counts}
 use Rattle.yuv_commands.specs.declared.value_counts.ValueCounts.{ValueCounts}
 use Rattle.yuv_reports.specs.Histograms.{histogram_rows}
-use Rattle.yuv_reports.specs.declared.comparison.PlaneName.{PlaneName}
-use Rattle.yuv_reports.specs.declared.comparison.PlaneName.TheVariants.{Y, U, V}
+use Rattle.v_frame_formats.specs.declared.component.Component.{Component}
+use Rattle.v_frame_formats.specs.declared.component.Component.TheVariants.{Y, U, V}
 use Rattle.v_frame_streams.specs.Prelude.{most_frames, tables_of_bytes, CountsFrames as PassesFrames, Framed, ReadsFrames, Sizes}
 use Rattle.v_frame_streams.specs.declared.stream.Container.{Container}
 use Rattle.yuv_words.specs.declared.command.Options.{Options as OptionWords}
 
 -- the rows of a chroma plane, where it is there
-abbrev pub rows_of_chroma : PlaneName → Option ValueCounts → List ℕ
+abbrev pub rows_of_chroma : Component → Option ValueCounts → List ℕ
 rows_of_chroma plane None = []
 rows_of_chroma plane (Some found) = histogram_rows plane 0 found.counts.items
 

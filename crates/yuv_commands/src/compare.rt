@@ -3,7 +3,7 @@ ghost use Rattle.std.specs.Prelude.{◌≡◌, ◌≢◌, ◌<◌, ◌↔◌, �
 ghost use Rattle.v_frame.specs.Prelude.{one_byte, two_bytes};
 ghost use Rattle.v_frame_y4m.specs.Color.{depth_of};
 ghost use Rattle.yuv_commands.specs.Options.{comparison_of};
-ghost use Rattle.yuv_commands.specs.Reports.{form_of_words, report_end, EndsKnown};
+ghost use Rattle.yuv_commands.specs.Reports.{report_end, EndsKnown};
 ghost use Rattle.v_frame_streams.specs.Prelude.{bytes_left, sizes_in, stream_of, ComparesFrom, HaveOneFormat, WatchesFrom};
 ghost use Rattle.v_frame_streams.specs.Sums.{pixels_of_sizes};
 
@@ -27,8 +27,8 @@ use v_frame_streams::{
     Comparison, FrameObserver, Place, PlaneSums, Progress, Source, StreamError, compare_streams,
 };
 use v_frame_y4m::StreamHeader;
-use yuv_reports::Report;
-use yuv_words::{Options, ReportForm};
+use yuv_reports::{Report, ReportForm};
+use yuv_words::Options;
 
 /// Reports how far two streams are apart.
 pub(crate) fn do_compare<H, I, O, E>(
@@ -81,10 +81,10 @@ fn report_comparison<R: io::Read, S: io::Read, W: io::Write + Drop, H: Clock, E:
         (comparison_of options.now) done.1) }
     ensures some { IfOk result (λ done. 0 < done.1.frames) }
     ensures ended { IfOk result (λ done. EndsKnown (W.contents out) (W.contents done.0)
-        (report_end (form_of_words options.now.form) options.now.exact
+        (report_end options.now.form options.now.exact
         (unwrap_or options.now.skip 0) done.1)) }
 {
-    let report = Report::new(report_form(options), lists_frames(options));
+    let report = Report::new(options.form, lists_frames(options));
     let scale = scale_of(first.header(), options);
     let before = first_taken(options);
     let mut observer = FrameReport::new(alloc, out, report, scale, means_of(options), before);
@@ -178,17 +178,6 @@ fn comparison_status(found: &Comparison) -> Status
         Status::Same
     } else {
         Status::Different
-    }
-}
-
-/// Returns the form of the report.
-pub(crate) fn report_form(options: &Options) -> yuv_reports::ReportForm
-    ensures { result ≡ form_of_words options.now.form }
-{
-    match options.form {
-        ReportForm::Lines => yuv_reports::ReportForm::Lines,
-        ReportForm::Csv => yuv_reports::ReportForm::Csv,
-        ReportForm::Json => yuv_reports::ReportForm::Json,
     }
 }
 

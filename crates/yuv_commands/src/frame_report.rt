@@ -5,7 +5,7 @@ ghost use Rattle.std.specs.Io.KnownBytes.{Appends};
 ghost use Rattle.v_frame.specs.Prelude.{tables_of};
 ghost use Rattle.v_frame_measures.specs.Prelude.{HaveOneSize, HaveWindows};
 ghost use Rattle.yuv_commands.specs.FrameReports.{ReportsFrame, StaysAsked};
-ghost use Rattle.yuv_commands.specs.Reports.{difference_said, frame_number, longer_said, plane_said, report_end, similarities_of, sums_asked, EndsKnown};
+ghost use Rattle.yuv_commands.specs.Reports.{difference_said, frame_number, longer_said, report_end, similarities_of, sums_asked, EndsKnown};
 ghost use Rattle.yuv_reports.specs.Frames.{EndsWithFrame};
 ghost use Rattle.yuv_reports.specs.Texts.{EndsWith};
 
@@ -17,8 +17,8 @@ use v_frame::frame::Frame;
 use v_frame::pixel::Pixel;
 use v_frame_measures::{frame_ssim, frames_have_one_size};
 use v_frame_planar::Counted;
-use v_frame_streams::{Comparison, Component, FrameObserver, Place, PlaneSums, StreamError};
-use yuv_reports::{FrameMeasures, Longer, PlaneName, PlaneValues, Report};
+use v_frame_streams::{Comparison, FrameObserver, Place, PlaneSums, StreamError};
+use yuv_reports::{FrameMeasures, Longer, PlaneValues, Report};
 
 /// Reports each two frames that are compared, and all of them at the end.
 #[derive(Drop)]
@@ -233,7 +233,7 @@ fn reported_comparison(
         difference: match found.difference {
             Some((before, pixel)) => Some(yuv_reports::SampleDifference {
                 frame: start.saturating_add(before).saturating_add(1),
-                plane: plane_name(pixel.component),
+                plane: pixel.component,
                 x: pixel.x,
                 y: pixel.y,
                 first: pixel.first,
@@ -246,16 +246,5 @@ fn reported_comparison(
             Some(_) => Some(Longer::Second),
             None => None,
         },
-    }
-}
-
-/// Returns the name of a plane.
-fn plane_name(component: Component) -> PlaneName
-    ensures { result ≡ plane_said component }
-{
-    match component {
-        Component::Y => PlaneName::Y,
-        Component::U => PlaneName::U,
-        Component::V => PlaneName::V,
     }
 }

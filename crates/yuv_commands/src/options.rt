@@ -1,6 +1,6 @@
 //! What the options of a command ask of the streams.
 ghost use Rattle.std.specs.Prelude.{◌≡◌, ◌+◌, ◌*◌, ◌<◌, ◌≤◌, IfErr, IfOk, OnOk, Some, unwrap_or};
-ghost use Rattle.yuv_commands.specs.Options.{comparison_of, copy_of, most_pixels as most, rectangle_of, sink_container, taken_of, ExceedsLimit, KeepsLimit};
+ghost use Rattle.yuv_commands.specs.Options.{comparison_of, copy_of, most_pixels as most, sink_container, taken_of, ExceedsLimit, KeepsLimit};
 
 use crate::fault::Fault;
 use std::io::Write;
@@ -24,24 +24,12 @@ pub(crate) fn stream_copy(options: &yuv_words::Options) -> v_frame_streams::Copy
     v_frame_streams::CopyOptions {
         skip: options.skip.unwrap_or(0),
         count: options.count,
-        crop: options.crop.map(stream_rectangle),
+        crop: options.crop,
         half: options.half,
         format: options.format,
         frame_rate: options.rate,
         pixel_aspect: options.aspect,
         max_pixels: most_pixels(options.max_pixels),
-    }
-}
-
-/// Returns the rectangle of the streams.
-pub(crate) fn stream_rectangle(part: yuv_words::Rectangle) -> v_frame_streams::Rectangle
-    ensures { result ≡ rectangle_of part }
-{
-    v_frame_streams::Rectangle {
-        x: part.x,
-        y: part.y,
-        width: part.width,
-        height: part.height,
     }
 }
 

@@ -1,7 +1,7 @@
 //! The command `show`: a frame as a picture.
 ghost use Rattle.std.specs.Prelude.{◌≡◌, IfErr, IfOk, IfSome, IsSomeAnd};
 ghost use Rattle.v_frame_png.specs.Prelude.{HasFile};
-ghost use Rattle.yuv_commands.specs.Options.{plane_of, shown_frame};
+ghost use Rattle.yuv_commands.specs.Options.{shown_frame};
 ghost use Rattle.yuv_commands.specs.Shows.{colors_asked, drawing_asked, header_shown, ShowsBytes, ShowsFrame, StopsDrawing, TakesFrame};
 ghost use Rattle.yuv_pictures.specs.declared.error.PictureError.{PictureError as TheError};
 ghost use Rattle.v_frame_streams.specs.Prelude.{bytes_left, stream_of};
@@ -9,7 +9,7 @@ ghost use Rattle.v_frame_streams.specs.Prelude.{bytes_left, stream_of};
 use crate::fault::Fault;
 use crate::input::begin;
 use crate::input_file::open_file;
-use crate::options::{frames_before, most_pixels, stream_rectangle, test_pixels};
+use crate::options::{frames_before, most_pixels, test_pixels};
 use crate::output::Output;
 use crate::program::Status;
 use crate::system::System;
@@ -27,7 +27,7 @@ use v_frame_streams::{
 use v_frame_y4m::StreamHeader;
 use yuv_files::SystemFile;
 use yuv_pictures::{Colors, PictureError, write_frame_picture, write_plane_picture};
-use yuv_words::{Options, PlaneName};
+use yuv_words::Options;
 
 /// Writes a frame of a stream as a picture.
 pub(crate) fn do_show<H, I, O, E>(
@@ -133,19 +133,8 @@ fn draw_picture<T: Pixel, W: io::Write + Drop>(
     ensures error { IfErr result (StopsDrawing T.BYTES frame.now options.now.plane) }
 {
     match options.plane {
-        Some(plane) => write_plane_picture(alloc, out, frame, shown_plane(plane)),
+        Some(plane) => write_plane_picture(alloc, out, frame, plane),
         None => write_frame_picture(alloc, out, frame, colors_of(options)),
-    }
-}
-
-/// Returns the plane of pictures that has this name.
-fn shown_plane(plane: PlaneName) -> yuv_pictures::PlaneName
-    ensures { result ≡ plane_of plane }
-{
-    match plane {
-        PlaneName::Y => yuv_pictures::PlaneName::Y,
-        PlaneName::U => yuv_pictures::PlaneName::U,
-        PlaneName::V => yuv_pictures::PlaneName::V,
     }
 }
 
@@ -187,7 +176,7 @@ fn one_frame(options: &Options, before: u64) -> CopyOptions
     CopyOptions {
         skip: before,
         count: Some(1),
-        crop: options.crop.map(stream_rectangle),
+        crop: options.crop,
         half: false,
         format: None,
         frame_rate: None,

@@ -5,7 +5,8 @@ ghost use Rattle.yuv_commands.specs.Statistics.{nominal_at, outside_from, Append
 use crate::value_counts::ValueCounts;
 use std::alloc::{AllocError, Global};
 use std::num::nearest_u64_to_f64;
-use yuv_reports::{PlaneName, SampleStatistics, push_statistics};
+use v_frame_formats::Component;
+use yuv_reports::{SampleStatistics, push_statistics};
 
 /// The range that samples have where nothing is out of the ordinary.
 #[derive(Clone, Copy)]
@@ -50,7 +51,7 @@ fn nominal(value: u8, depth: u8) -> u16
 pub(crate) fn push_plane(
     alloc: Global,
     text: &mut String,
-    plane: PlaneName,
+    plane: Component,
     counts: &ValueCounts,
     range: NominalRange,
 ) -> Result<(), AllocError>
@@ -67,7 +68,7 @@ pub(crate) fn push_plane(
 pub(crate) fn push_chroma_plane(
     alloc: Global,
     text: &mut String,
-    plane: PlaneName,
+    plane: Component,
     counts: &Option<ValueCounts>,
     range: NominalRange,
 ) -> Result<(), AllocError>
@@ -81,7 +82,7 @@ pub(crate) fn push_chroma_plane(
 }
 
 /// Returns what is said of a plane with these counts. `None` where no value occurs.
-fn described(plane: PlaneName, counts: &[u64], range: NominalRange) -> Option<SampleStatistics>
+fn described(plane: Component, counts: &[u64], range: NominalRange) -> Option<SampleStatistics>
     requires { length counts.now ≤ 2 ^ 16 }
     ensures said { IfSome result (Describes plane counts.now range.least range.greatest) }
     ensures none { IsNone result → HasNoValue counts.now }

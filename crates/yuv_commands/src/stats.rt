@@ -26,10 +26,11 @@ use std::rt::Files;
 use std::time::Clock;
 use v_frame::frame::Frame;
 use v_frame::plane::Plane;
+use v_frame_formats::Component;
 use v_frame_planar::Counted;
 use v_frame_streams::{Picture, Place, Progress, Silent, Source, StreamError, skip_frames};
 use yuv_files::{shown_name, write_message};
-use yuv_reports::{PlaneName, push_histogram};
+use yuv_reports::push_histogram;
 use yuv_words::Options;
 
 /// Reports what values the samples of each plane have, over all frames.
@@ -243,16 +244,16 @@ fn histogram_text(alloc: Global, counts: &Counts) -> Result<String, AllocError>
 {
     let mut text = String::new(alloc);
     text.push_str("plane,value,count\n")?;
-    push_histogram(&mut text, PlaneName::Y, counts.y.counts())?;
-    push_chroma(&mut text, PlaneName::U, &counts.u)?;
-    push_chroma(&mut text, PlaneName::V, &counts.v)?;
+    push_histogram(&mut text, Component::Y, counts.y.counts())?;
+    push_chroma(&mut text, Component::U, &counts.u)?;
+    push_chroma(&mut text, Component::V, &counts.v)?;
     Ok(text)
 }
 
 /// Appends the rows of a chroma plane, where it is there.
 fn push_chroma(
     text: &mut String,
-    plane: PlaneName,
+    plane: Component,
     counts: &Option<ValueCounts>,
 ) -> Result<(), AllocError>
     ensures { OnOk result (string_bytes text.new
@@ -271,8 +272,8 @@ fn statistics_text(alloc: Global, counts: &Counts, depth: u8) -> Result<String, 
     let mut text = String::new(alloc);
     let luma = NominalRange::new(16, 235, depth);
     let chroma = NominalRange::new(16, 240, depth);
-    push_plane(alloc, &mut text, PlaneName::Y, &counts.y, luma)?;
-    push_chroma_plane(alloc, &mut text, PlaneName::U, &counts.u, chroma)?;
-    push_chroma_plane(alloc, &mut text, PlaneName::V, &counts.v, chroma)?;
+    push_plane(alloc, &mut text, Component::Y, &counts.y, luma)?;
+    push_chroma_plane(alloc, &mut text, Component::U, &counts.u, chroma)?;
+    push_chroma_plane(alloc, &mut text, Component::V, &counts.v, chroma)?;
     Ok(text)
 }

@@ -1,20 +1,14 @@
 -- The planes of a frame by their names, and the size of a picture of one.
 use Rattle.std.specs.Prelude.{ℕ, ◌<◌, ◌^◌, Option}
 use Rattle.v_frame.specs.Prelude.{Frame, Raster, plane_at}
+use Rattle.v_frame_formats.specs.Prelude.{index_of}
+use Rattle.v_frame_formats.specs.declared.component.Component.{Component}
 use Rattle.v_frame_png.specs.declared.header.ColorSpace.TheVariants.{Unnamed}
 use Rattle.v_frame_png.specs.declared.header.Header.{Header}
 use Rattle.v_frame_png.specs.declared.header.Samples.{Samples}
-use Rattle.yuv_pictures.specs.declared.plane_name.PlaneName.{PlaneName}
-use Rattle.yuv_pictures.specs.declared.plane_name.PlaneName.TheVariants.{Y, U, V}
-
--- the index of a plane
-abbrev pub index_of : PlaneName → ℕ
-index_of Y = 0
-index_of U = 1
-index_of V = 2
 
 -- the plane of a name, where the frame has it
-abbrev pub plane_named : {T : Type 0} → Frame T → PlaneName → Option (Raster T)
+abbrev pub plane_named : {T : Type 0} → Frame T → Component → Option (Raster T)
 plane_named frame name = plane_at frame (index_of name)
 
 -- the sides that a PNG can have

@@ -10,13 +10,13 @@ ghost use Rattle.yuv_pictures.specs.Refusals.{AcceptsGray, IsTrouble, StopsGray}
 
 use crate::error::PictureError;
 use crate::file::{begin, end, header_of, trouble};
-use crate::plane_name::PlaneName;
 use std::alloc::Global;
 use std::io;
 use v_frame::frame::Frame;
 use v_frame::pixel::Pixel;
 use v_frame::plane::{Plane, PlaneRef};
 use v_frame_convert::{convert_depth, depth_fits};
+use v_frame_formats::Component;
 use v_frame_png::{Header, Samples};
 
 /// Writes one plane in gray, and returns the writer: 8 bits a sample, or 16 where the frame has a depth above 8. Samples of 9
@@ -31,7 +31,7 @@ pub fn write_plane_picture<T: Pixel, W: io::Write + Drop>(
     alloc: Global,
     out: W,
     frame: &Frame<T>,
-    plane: PlaneName,
+    plane: Component,
 ) -> Result<W, PictureError>
     ensures file { IfSome (plane_named frame.now plane) (λ shown.
         let depth = non_zero_u8_get frame.now.bit_depth in

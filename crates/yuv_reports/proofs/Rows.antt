@@ -3,9 +3,9 @@ use Rattle.std.proofs.Common.{◌≡◌, ◌∙◌, ◌+◌, ◌<◌, ◌++◌, 
 use Rattle.std.proofs.Math.ListN.{get_or}
 use Rattle.std.proofs.lemmas.List.{append-nil}
 use Rattle.yuv_reports.specs.Histograms.{histogram_row, histogram_rows}
-use Rattle.yuv_reports.specs.declared.comparison.PlaneName.{PlaneName}
+use Rattle.v_frame_formats.specs.declared.component.Component.{Component}
 
-pub rows_more : (plane : PlaneName) (start : ℕ) (counts : List ℕ) (i d : ℕ) → i < length counts
+pub rows_more : (plane : Component) (start : ℕ) (counts : List ℕ) (i d : ℕ) → i < length counts
     → histogram_rows plane start (take (suc i) counts)
     ≡ histogram_rows plane start (take i counts) ++ histogram_row plane (start + i) (get_or counts i d)
 rows_more plane start [] i d within = absurd (omega arith)
@@ -20,7 +20,7 @@ rows_more plane start (count ∷ counts) (suc i) d within =
     ∙ sym (append_assoc first before (histogram_row plane (start + 1 + i) (get_or counts i d)))
     ∙ ap (λ n. (first ++ before) ++ histogram_row plane n (get_or counts i d)) place
 
-pub rows_so_far : (plane : PlaneName) (counts : List ℕ) (i d : ℕ) → i < length counts
+pub rows_so_far : (plane : Component) (counts : List ℕ) (i d : ℕ) → i < length counts
     → histogram_rows plane 0 (take (i + 1) counts)
     ≡ histogram_rows plane 0 (take i counts) ++ histogram_row plane i (get_or counts i d)
 rows_so_far plane counts i d within =

@@ -1,6 +1,7 @@
 -- What is said of one frame and of all of them, in each form of a report.
 use Rattle.std.specs.Prelude.{ℕ, ◌≡◌, ◌∷◌, ◌++◌, [], Bool, true, false, List, Option, Some, None, codes, decimal}
-use Rattle.yuv_reports.specs.Sums.{difference_line, end_of_frame, letter_of, longer_line, sums_line}
+use Rattle.v_frame_formats.specs.Prelude.{letter_of}
+use Rattle.yuv_reports.specs.Sums.{difference_line, end_of_frame, longer_line, sums_line}
 use Rattle.yuv_reports.specs.declared.comparison.Comparison.{Comparison}
 use Rattle.yuv_reports.specs.declared.comparison.Longer.{Longer}
 use Rattle.yuv_reports.specs.declared.comparison.Longer.TheVariants.{First, Second}

@@ -1,7 +1,7 @@
 -- The lines of statistics and of checksums.
 use Rattle.std.specs.Prelude.{ℕ, ◌≡◌, ◌/◌, ◌%◌, ◌∷◌, ◌++◌, [], List, Option, Some, None, codes, decimal, map}
 use Rattle.std.specs.Char.{digit_char}
-use Rattle.yuv_reports.specs.Sums.{letter_of}
+use Rattle.v_frame_formats.specs.Prelude.{letter_of}
 use Rattle.yuv_reports.specs.declared.samples.Checksums.{Checksums}
 use Rattle.yuv_reports.specs.declared.samples.Checksums.TheVariants.{Frame, Planes}
 use Rattle.yuv_reports.specs.declared.samples.SampleStatistics.{SampleStatistics}

@@ -1,20 +1,13 @@
 -- The sums of squared errors in a report, and what is said after them.
 use Rattle.std.specs.Prelude.{ℕ, ◌∷◌, ◌++◌, [], if◌then◌else◌, Bool, List, Option, Some, None, codes, decimal}
+use Rattle.v_frame_formats.specs.Prelude.{letter_of}
 use Rattle.yuv_reports.specs.declared.comparison.Comparison.{Comparison}
 use Rattle.yuv_reports.specs.declared.comparison.Longer.{Longer}
 use Rattle.yuv_reports.specs.declared.comparison.Longer.TheVariants.{First, Second}
-use Rattle.yuv_reports.specs.declared.comparison.PlaneName.{PlaneName}
-use Rattle.yuv_reports.specs.declared.comparison.PlaneName.TheVariants.{Y, U, V}
 use Rattle.yuv_reports.specs.declared.comparison.ReportForm.{ReportForm}
 use Rattle.yuv_reports.specs.declared.comparison.ReportForm.TheVariants.{Lines, Csv, Json}
 use Rattle.yuv_reports.specs.declared.comparison.SampleDifference.{SampleDifference}
 use Rattle.yuv_reports.specs.declared.planes.PlaneSums.{PlaneSums}
-
--- the letter of a plane
-abbrev pub letter_of : PlaneName → List ℕ
-letter_of Y = codes "Y"
-letter_of U = codes "U"
-letter_of V = codes "V"
 
 -- a number after a text, where there is one
 abbrev pub number_after : List ℕ → Option ℕ → List ℕ

@@ -1,16 +1,17 @@
 //! What is reported of two streams that are compared.
 ghost use Rattle.std.specs.Prelude.{◌≡◌, ◌==◌, ◌+◌, ◌-◌, ◌^◌, ◌++◌, is_some, min, string_bytes, MatchBool, OnOk};
 ghost use Rattle.yuv_reports.specs.Frames.{end_of_report, AppendsNext};
-ghost use Rattle.yuv_reports.specs.Sums.{begin_of, letter_of};
+ghost use Rattle.yuv_reports.specs.Sums.{begin_of};
 ghost use Rattle.yuv_reports.specs.Texts.{EndsWith};
 
 use crate::planes::{PlaneSums, PlaneValues};
 use crate::pool::Pool;
 use crate::{csv, json, lines};
 use std::alloc::{AllocError, Global};
+use v_frame_formats::Component;
 
 /// The form of a report.
-#[derive(Clone, Copy, PartialEq, Eq)]
+#[derive(Debug, Clone, Copy, PartialEq, Eq)]
 pub enum ReportForm {
     /// Lines for people.
     Lines,
@@ -33,37 +34,13 @@ pub struct FrameMeasures {
     pub sums: Option<PlaneSums>,
 }
 
-/// Which plane of a frame.
-#[derive(Clone, Copy)]
-pub enum PlaneName {
-    /// Luma.
-    Y,
-    /// The first chroma component.
-    U,
-    /// The second chroma component.
-    V,
-}
-
-impl PlaneName {
-    /// Returns the letter of the plane.
-    pub fn text(self) -> &'static str
-        ensures { result.now ≡ letter_of self }
-    {
-        match self {
-            PlaneName::Y => "Y",
-            PlaneName::U => "U",
-            PlaneName::V => "V",
-        }
-    }
-}
-
 /// A sample that two streams show differently.
 #[derive(Clone, Copy)]
 pub struct SampleDifference {
     /// The number of its frame.
     pub frame: u64,
     /// The plane that it is in.
-    pub plane: PlaneName,
+    pub plane: Component,
     /// The column of that plane, from 0.
     pub x: usize,
     /// The row of that plane, from 0.

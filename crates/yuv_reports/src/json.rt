@@ -170,7 +170,7 @@ fn push_difference(
         first,
         second,
     } = *found;
-    let plane = plane.text();
+    let plane = plane.letter();
     push_place(text, frame, plane, x, y)?;
     write!(text, "\"first\": {first}, \"second\": {second}}}")
 }

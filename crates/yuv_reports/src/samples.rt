@@ -4,15 +4,15 @@ ghost use Rattle.std.specs.Char.{digit_char};
 ghost use Rattle.yuv_reports.specs.Histograms.{histogram_row, histogram_rows};
 ghost use Rattle.yuv_reports.specs.Samples.{checksum_word, checksums_line, chroma_words, statistics_end, statistics_front, sum_words, AppendsStatistics};
 
-use crate::comparison::PlaneName;
 use crate::planes::push_number;
 use std::alloc::{AllocError, Global};
+use v_frame_formats::Component;
 
 /// The values that samples of a plane have, over all frames.
 #[derive(Clone, Copy)]
 pub struct SampleStatistics {
     /// The plane.
-    pub plane: PlaneName,
+    pub plane: Component,
     /// The least value.
     pub minimum: u16,
     /// The greatest value.
@@ -49,7 +49,7 @@ fn push_extremes(text: &mut String, found: &SampleStatistics) -> Result<(), Allo
     ensures { OnOk result (string_bytes text.new
         ≡ string_bytes text.old ++ statistics_front found.now) }
 {
-    let plane = found.plane.text();
+    let plane = found.plane.letter();
     let (minimum, maximum) = (found.minimum, found.maximum);
     write!(text, "{plane}: minimum {minimum}, maximum {maximum}, mean ")
 }
@@ -68,7 +68,7 @@ fn push_outside(text: &mut String, found: &SampleStatistics) -> Result<(), Alloc
 /// # Errors
 ///
 /// [`AllocError`] where there is no memory for the text.
-pub fn push_histogram(text: &mut String, plane: PlaneName, counts: &[u64]) -> Result<(), AllocError>
+pub fn push_histogram(text: &mut String, plane: Component, counts: &[u64]) -> Result<(), AllocError>
     ensures { OnOk result (string_bytes text.new
         ≡ string_bytes text.old ++ histogram_rows plane 0 counts.now) }
 {
@@ -79,14 +79,14 @@ pub fn push_histogram(text: &mut String, plane: PlaneName, counts: &[u64]) -> Re
 }
 
 /// Appends the row of a value, where it occurs.
-fn push_row(text: &mut String, plane: PlaneName, value: usize, count: u64) -> Result<(), AllocError>
+fn push_row(text: &mut String, plane: Component, value: usize, count: u64) -> Result<(), AllocError>
     ensures { OnOk result (string_bytes text.new
         ≡ string_bytes text.old ++ histogram_row plane value count) }
 {
     if count == 0 {
         return Ok(());
     }
-    let plane = plane.text();
+    let plane = plane.letter();
     writeln!(text, "{plane},{value},{count}")
 }
 

@@ -11,7 +11,7 @@ use denote.Ref.{Bor}
 use Rattle.v_frame_y4m.proofs.NumberTexts.{own, parsed}
 use Rattle.yuv_words.specs.Values.{IsNumber, SpellsRaw, SpellsRectangle}
 use Rattle.yuv_words.specs.declared.command.RawVideo.{RawVideo}
-use Rattle.yuv_words.specs.declared.command.Rectangle.{Rectangle}
+use Rattle.v_frame_formats.specs.declared.rectangle.Rectangle.{Rectangle}
 
 eqb-false : (m n : ℕ) → eqb m n ≡ false → m ≡ n → ⊥
 eqb-false m n differs is = grind (arith, differs, is)

@@ -8,7 +8,7 @@ use Rattle.yuv_words.specs.Commands.{SaysValue}
 use Rattle.v_frame_formats.specs.Formats.{ffmpeg_name, short_name, IsFormat}
 use Rattle.yuv_words.specs.Values.{IsRaw, IsRectangle, SpellsFormat, SpellsRaw, SpellsRectangle}
 use Rattle.yuv_words.specs.declared.command.RawVideo.{RawVideo}
-use Rattle.yuv_words.specs.declared.command.Rectangle.{Rectangle}
+use Rattle.v_frame_formats.specs.declared.rectangle.Rectangle.{Rectangle}
 use Rattle.v_frame_formats.specs.declared.format.VideoFormat.{VideoFormat}
 use Rattle.yuv_words.proofs.Cuts.{cut_same, inside, lacks_from, marked, one_rectangle, one_size, plain, Lacks}
 use Rattle.v_frame_formats.proofs.Places.{each_format}

@@ -7,8 +7,8 @@ use Rattle.yuv_words.specs.declared.command.Command.{Command}
 use Rattle.yuv_words.specs.declared.command.Command.TheVariants.{Call}
 use Rattle.yuv_words.specs.declared.command.CommandName.{CommandName}
 use Rattle.yuv_words.specs.declared.command.Options.{Options}
-use Rattle.yuv_words.specs.declared.command.ReportForm.{ReportForm}
-use Rattle.yuv_words.specs.declared.command.ReportForm.TheVariants.{Lines, Csv, Json}
+use Rattle.yuv_reports.specs.declared.comparison.ReportForm.{ReportForm}
+use Rattle.yuv_reports.specs.declared.comparison.ReportForm.TheVariants.{Lines, Csv, Json}
 use Rattle.yuv_words.specs.declared.option_name.OptionName.{OptionName}
 use Rattle.yuv_words.specs.declared.option_name.OptionName.TheVariants as option
 

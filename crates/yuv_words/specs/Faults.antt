@@ -9,7 +9,7 @@ use Rattle.yuv_words.specs.Words.{after_end, before_end, files_of, joined_text, 
 use Rattle.yuv_words.specs.Words.{IsToken, Token}
 use Rattle.yuv_words.specs.declared.command.CommandName.{CommandName}
 use Rattle.yuv_words.specs.declared.command.RawVideo.{RawVideo}
-use Rattle.yuv_words.specs.declared.command.Rectangle.{Rectangle}
+use Rattle.v_frame_formats.specs.declared.rectangle.Rectangle.{Rectangle}
 use Rattle.yuv_words.specs.declared.error.UsageError.{UsageError}
 use Rattle.yuv_words.specs.declared.error.UsageError.TheVariants as fault
 use Rattle.yuv_words.specs.declared.option_name.OptionName.{OptionName}

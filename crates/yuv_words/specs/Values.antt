@@ -7,10 +7,10 @@ use Rattle.v_frame_rgb.specs.declared.standard.Standard.TheVariants.{Bt601, Bt70
 use Rattle.v_frame_y4m.specs.Header.{ratio_text, FitsRatio}
 use Rattle.v_frame_y4m.specs.declared.header.Ratio.{Ratio}
 use Rattle.v_frame_formats.specs.Formats.{IsFormat}
-use Rattle.yuv_words.specs.declared.command.PlaneName.{PlaneName}
-use Rattle.yuv_words.specs.declared.command.PlaneName.TheVariants.{Y, U, V}
+use Rattle.v_frame_formats.specs.declared.component.Component.{Component}
+use Rattle.v_frame_formats.specs.declared.component.Component.TheVariants.{Y, U, V}
 use Rattle.yuv_words.specs.declared.command.RawVideo.{RawVideo}
-use Rattle.yuv_words.specs.declared.command.Rectangle.{Rectangle}
+use Rattle.v_frame_formats.specs.declared.rectangle.Rectangle.{Rectangle}
 use Rattle.v_frame_formats.specs.declared.format.VideoFormat.{VideoFormat}
 
 -- what stands between numbers: a comma in a rectangle, an x in a size; a colon before a format, and
@@ -90,7 +90,7 @@ abbrev pub range_text : ColorRange → List ℕ
 range_text Limited = codes "limited"
 range_text Full = codes "full"
 
-abbrev pub plane_text : PlaneName → List ℕ
+abbrev pub plane_text : Component → List ℕ
 plane_text Y = codes "y"
 plane_text U = codes "u"
 plane_text V = codes "v"
@@ -101,5 +101,5 @@ IsMatrix standard text = text ≡ matrix_text standard
 abbrev pub IsColorRange : ColorRange → List ℕ → Type 0
 IsColorRange range text = text ≡ range_text range
 
-abbrev pub IsPlane : PlaneName → List ℕ → Type 0
+abbrev pub IsPlane : Component → List ℕ → Type 0
 IsPlane plane text = text ≡ plane_text plane

@@ -1,8 +1,9 @@
 //! What the program is asked to do.
 
-use v_frame_formats::VideoFormat;
+use v_frame_formats::{Component, Rectangle, VideoFormat};
 use v_frame_rgb::{ColorRange, Standard};
 use v_frame_y4m::Ratio;
+use yuv_reports::ReportForm;
 
 /// What the words of a call ask for.
 #[derive(Clone, Copy)]
@@ -85,8 +86,8 @@ pub struct Options {
     /// `--range`: which samples stand for black and white.
     pub range: Option<ColorRange>,
     /// `--plane`: the one plane that is shown, in gray.
-    pub plane: Option<PlaneName>,
-    /// `--crop`: the rectangle that is taken of each frame, in luma pixels.
+    pub plane: Option<Component>,
+    /// `--crop`, spelled `X,Y,WIDTH,HEIGHT`: the rectangle that is taken of each frame, in luma pixels. It has at least one.
     pub crop: Option<Rectangle>,
     /// `--gain`: what each difference is multiplied by.
     pub gain: Option<u16>,
@@ -104,28 +105,6 @@ pub struct Options {
     pub max_pixels: Option<u64>,
 }
 
-/// The form of a report.
-#[derive(Debug, Clone, Copy, PartialEq, Eq)]
-pub enum ReportForm {
-    /// Lines for people.
-    Lines,
-    /// `--csv`: a table, its columns separated by commas.
-    Csv,
-    /// `--json`: a JSON object.
-    Json,
-}
-
-/// A plane of a frame.
-#[derive(Debug, Clone, Copy, PartialEq, Eq)]
-pub enum PlaneName {
-    /// `y`: luma.
-    Y,
-    /// `u`: blue-difference chroma, Cb.
-    U,
-    /// `v`: red-difference chroma, Cr.
-    V,
-}
-
 /// What headerless raw video is, spelled `WIDTHxHEIGHT:FORMAT` or `WIDTHxHEIGHT:FORMAT@N:D`, as `1920x1080:420p10@25:1`.
 #[derive(Debug, Clone, Copy, PartialEq, Eq)]
 pub struct RawVideo {
@@ -137,17 +116,4 @@ pub struct RawVideo {
     pub format: VideoFormat,
     /// The frames per second.
     pub rate: Option<Ratio>,
-}
-
-/// A rectangle of luma pixels, spelled `X,Y,WIDTH,HEIGHT`.
-#[derive(Debug, Clone, Copy, PartialEq, Eq)]
-pub struct Rectangle {
-    /// Its first column, counted from 0.
-    pub x: usize,
-    /// Its first row, counted from 0.
-    pub y: usize,
-    /// How many columns it has, at least 1.
-    pub width: usize,
-    /// How many rows it has, at least 1.
-    pub height: usize,
 }

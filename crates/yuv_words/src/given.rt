@@ -1,10 +1,12 @@
 //! What is given to each option.
 ghost use Rattle.std.specs.Prelude.{◌≡◌, ◌↔◌, ◌⊎◌, length, IsTrue};
 
-use crate::command::{Options, RawVideo, Rectangle, ReportForm};
+use crate::command::{Options, RawVideo};
 use crate::error::UsageError;
 use crate::option_name::{OPTION_COUNT, OptionName};
 use crate::values::{self, OptionValue};
+use v_frame_formats::Rectangle;
+use yuv_reports::ReportForm;
 
 /// What is given to each option that stands among the words: its value, or nothing where it takes none.
 #[derive(Clone, Copy)]
@@ -21,8 +23,8 @@ impl<'a> Given<'a> {
     ghost use Rattle.yuv_words.specs.Values.{IsRaw, IsRectangle, SpellsRaw, SpellsRectangle};
     ghost use Rattle.yuv_words.specs.declared.command.Options.{Options as TheOptions};
     ghost use Rattle.yuv_words.specs.declared.command.RawVideo.{RawVideo as TheRaw};
-    ghost use Rattle.yuv_words.specs.declared.command.Rectangle.{Rectangle as TheRectangle};
-    ghost use Rattle.yuv_words.specs.declared.command.ReportForm.{ReportForm as TheForm};
+    ghost use Rattle.v_frame_formats.specs.declared.rectangle.Rectangle.{Rectangle as TheRectangle};
+    ghost use Rattle.yuv_reports.specs.declared.comparison.ReportForm.{ReportForm as TheForm};
     ghost use Rattle.yuv_words.specs.declared.option_name.OptionName.{OptionName as TheOption};
 
     /// Returns what is given by no words.

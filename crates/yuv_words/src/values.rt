@@ -5,11 +5,11 @@ ghost use Rattle.v_frame_y4m.specs.declared.header.Ratio.{Ratio as TheRatio};
 ghost use Rattle.v_frame_formats.specs.Formats.{IsFormat};
 ghost use Rattle.yuv_words.specs.Values.{IsColorRange, IsGain, IsMatrix, IsNumber, IsPlane, IsRatio, SpellsFormat, SpellsRaw, SpellsRectangle};
 ghost use Rattle.yuv_words.specs.declared.command.RawVideo.{RawVideo as TheRaw};
-ghost use Rattle.yuv_words.specs.declared.command.Rectangle.{Rectangle as TheRectangle};
+ghost use Rattle.v_frame_formats.specs.declared.rectangle.Rectangle.{Rectangle as TheRectangle};
 ghost use Rattle.v_frame_formats.specs.declared.format.VideoFormat.{VideoFormat as TheFormat};
 
-use crate::command::{PlaneName, RawVideo, Rectangle};
-use v_frame_formats::VideoFormat;
+use crate::command::RawVideo;
+use v_frame_formats::{Component, Rectangle, VideoFormat};
 use v_frame_rgb::{ColorRange, Standard};
 use v_frame_y4m::Ratio;
 
@@ -175,14 +175,14 @@ impl OptionValue for ColorRange {
     }
 }
 
-impl OptionValue for PlaneName {
+impl OptionValue for Component {
     ghost Spells = { IsPlane };
 
-    fn spelled(text: &str) -> Option<PlaneName> {
+    fn spelled(text: &str) -> Option<Component> {
         match text {
-            "y" => Some(PlaneName::Y),
-            "u" => Some(PlaneName::U),
-            "v" => Some(PlaneName::V),
+            "y" => Some(Component::Y),
+            "u" => Some(Component::U),
+            "v" => Some(Component::V),
             _ => None,
         }
     }

@@ -1,8 +1,10 @@
 //! What calls ask for: the kept calls, and what is kept of each.
 
+use crate::generated::yuv_reports::ReportForm;
 use crate::generated::yuv_words::{
-    Command, CommandName, Options, RawVideo, Rectangle, ReportForm, UsageError, read_command, usage_text,
+    Command, CommandName, Options, RawVideo, UsageError, read_command, usage_text,
 };
+use v_frame_proved::formats::Rectangle;
 use v_frame_proved::y4m::Ratio;
 
 const CALLS: &str = include_str!("../../../../crates/test_yuv_words/stdin");

@@ -4,7 +4,6 @@ use Rattle.std.proofs.lemmas.Bool.{cases_eq}
 use Rattle.std.specs.Prelude.{unwrap_or}
 use Rattle.v_frame.specs.Prelude.{one_byte, two_bytes}
 use Rattle.v_frame_y4m.specs.Color.{depth_of}
-use Rattle.yuv_commands.specs.Reports.{form_of_words}
 use Rattle.yuv_commands.specs.declared.measures.Scale.{Scale}
 use Rattle.yuv_commands.proofs.Reporting.{report_ends, stays_asked, IsAsked}
 use Rattle.yuv_reports.specs.declared.comparison.Report.{Report}
@@ -14,12 +13,11 @@ pub returns-clause-ended : goal.returns-clause-ended
 returns-clause-ended g c =
     let contents = g.W.Write.contents in
     let options = c.args.options.now in
-    let said = form_of_words options.form in
+    let said = options.form in
     let start = unwrap_or options.skip 0 in
     let first = c.new-observer.result in
     let mid = c.compare_sources.new.observer in
-    let form = ap (λ (r : Report). r.form) c.new-observer.ensures.report ∙ c.new-report.ensures.form
-    ∙ c.report_form.ensures in
+    let form = ap (λ (r : Report). r.form) c.new-observer.ensures.report ∙ c.new-report.ensures.form in
     let exact = ap (λ (s : Scale). s.exact) c.new-observer.ensures.scale ∙ c.scale_of-scale.ensures.exact in
     let before = c.new-observer.ensures.before ∙ c.first_taken-before.ensures in
     let stays : IsAsked contents said first.scale start first → IsAsked contents said first.scale start mid =

@@ -28,9 +28,10 @@ use crate::generated::v_frame::pixel::Pixel;
 /// # Examples
 ///
 /// ```
+/// use v_frame_proved::formats::Component;
 /// use v_frame_proved::frame::Frame;
 /// use v_frame_proved::pixel::Pixel;
-/// use v_frame_proved::streams::{CompareOptions, Comparison, Component, FrameObserver, MAX_PIXELS, NoObserver};
+/// use v_frame_proved::streams::{CompareOptions, Comparison, FrameObserver, MAX_PIXELS, NoObserver};
 /// use v_frame_proved::streams::{PixelDifference, Place, PlaneSums, Silent, Source, StreamError, compare_streams};
 ///
 /// const FRAME: [u8; 32] = [98; 32];

@@ -35,7 +35,8 @@ use crate::generated::v_frame_y4m::StreamHeader;
 /// # Examples
 ///
 /// ```
-/// use v_frame_proved::streams::{Container, CopyOptions, Place, Progress, Rectangle, Silent, Sink, Source};
+/// use v_frame_proved::formats::Rectangle;
+/// use v_frame_proved::streams::{Container, CopyOptions, Place, Progress, Silent, Sink, Source};
 /// use v_frame_proved::streams::{copy_stream, skip_frames};
 ///
 /// let frame: Vec<u8> = (0..64).collect();

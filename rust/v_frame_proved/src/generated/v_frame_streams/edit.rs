@@ -6,30 +6,9 @@ use crate::generated::v_frame::frame::Frame;
 use crate::generated::v_frame::pixel::Pixel;
 use crate::generated::v_frame::plane::{Plane, PlaneRef};
 use crate::generated::v_frame_convert::downscale_to_edge;
+use crate::generated::v_frame_formats::Rectangle;
 use crate::generated::v_frame_ops::copy_region;
 use crate::generated::v_frame_planar::ratios_or_one;
-
-/// A rectangle of pixels.
-#[derive(Debug, Clone, Copy, PartialEq, Eq)]
-pub struct Rectangle {
-    /// Its first column, counted from 0.
-    pub x: usize,
-    /// Its first row, counted from 0.
-    pub y: usize,
-    /// How many columns it has.
-    pub width: usize,
-    /// How many rows it has.
-    pub height: usize,
-}
-
-impl Rectangle {
-    /// Returns whether it lies in a picture of so many columns and rows.
-    #[inline]
-    #[must_use]
-    pub fn lies_in(&self, width: usize, height: usize) -> bool {
-        lies_within(self.x, self.width, width) && lies_within(self.y, self.height, height)
-    }
-}
 
 /// What is made of each plane of a frame.
 #[derive(Clone, Copy)]
@@ -57,12 +36,6 @@ impl Edit {
             half,
         }
     }
-}
-
-/// Returns whether so many columns or rows from a first one on are there.
-#[inline]
-fn lies_within(first: usize, count: usize, size: usize) -> bool {
-    first <= size && count <= size - first
 }
 
 /// Shows in `target` what is made of `source`, whose planes hold what is taken. The borders stay.

@@ -2,32 +2,11 @@
 //! Two frames of one size, compared: how far their planes are apart, and where they first differ.
 
 use crate::generated::v_frame_streams::sums::PlaneSums;
-use core::fmt;
 use crate::generated::v_frame::frame::Frame;
 use crate::generated::v_frame::pixel::Pixel;
 use crate::generated::v_frame::plane::{Plane, PlaneRef};
+use crate::generated::v_frame_formats::Component;
 use crate::generated::v_frame_ops::{first_difference, sum_of_squared_errors};
-
-/// Which plane of a frame.
-#[derive(Debug, Clone, Copy, PartialEq, Eq)]
-pub enum Component {
-    /// Luma.
-    Y,
-    /// The first chroma component.
-    U,
-    /// The second chroma component.
-    V,
-}
-
-impl fmt::Display for Component {
-    fn fmt(&self, f: &mut fmt::Formatter<'_>) -> fmt::Result {
-        f.write_str(match self {
-            Component::Y => "Y",
-            Component::U => "U",
-            Component::V => "V",
-        })
-    }
-}
 
 /// A pixel that two frames show differently.
 #[derive(Debug, Clone, Copy, PartialEq, Eq)]

@@ -2,9 +2,8 @@
 //! What a copy takes of a stream, and what it makes of its frames.
 
 use crate::generated::v_frame_streams::colors::{is_same_format, is_same_layout};
-use crate::generated::v_frame_streams::edit::Rectangle;
 use crate::generated::v_frame_streams::stream::Container;
-use crate::generated::v_frame_formats::VideoFormat;
+use crate::generated::v_frame_formats::{Rectangle, VideoFormat};
 use crate::generated::v_frame_semi_planar::SemiPlanarFormat;
 use crate::generated::v_frame_y4m::{Color, Ratio, StreamHeader};
 

@@ -4,11 +4,12 @@
 use alloc::vec::Vec;
 use crate::support::memory::TryPush;
 use crate::generated::v_frame_streams::colors::is_same_color;
-use crate::generated::v_frame_streams::edit::{Edit, Rectangle};
+use crate::generated::v_frame_streams::edit::Edit;
 use crate::generated::v_frame_streams::error::Problem;
 use crate::generated::v_frame_streams::options::CopyOptions;
 use crate::support::AllocError;
 use crate::generated::v_frame::sequence::Sequence;
+use crate::generated::v_frame_formats::Rectangle;
 use crate::generated::v_frame_planar::ratios_or_one;
 use crate::generated::v_frame_y4m::{Ratio, StreamHeader};
 

@@ -20,8 +20,8 @@ use v_frame_proved::streams::{
     Comparison, FrameObserver, Place, PlaneSums, Progress, Source, StreamError, compare_streams,
 };
 use v_frame_proved::y4m::StreamHeader;
-use crate::generated::yuv_reports::Report;
-use crate::generated::yuv_words::{Options, ReportForm};
+use crate::generated::yuv_reports::{Report, ReportForm};
+use crate::generated::yuv_words::Options;
 
 /// Reports how far two streams are apart.
 pub(crate) fn do_compare<H, I, O, E>(
@@ -58,7 +58,7 @@ fn report_comparison<R: io::Read, S: io::Read, W: io::Write, H: Clock, E: io::Wr
     out: W,
     progress: &mut ProgressLine<'_, H, E>,
 ) -> Result<(W, Comparison), Fault> {
-    let report = Report::new(report_form(options), lists_frames(options));
+    let report = Report::new(options.form, lists_frames(options));
     let scale = scale_of(first.header(), options);
     let before = first_taken(options);
     let mut observer = FrameReport::new(out, report, scale, means_of(options), before);
@@ -115,15 +115,6 @@ fn comparison_status(found: &Comparison) -> Status {
         Status::Same
     } else {
         Status::Different
-    }
-}
-
-/// Returns the form of the report.
-pub(crate) fn report_form(options: &Options) -> crate::generated::yuv_reports::ReportForm {
-    match options.form {
-        ReportForm::Lines => crate::generated::yuv_reports::ReportForm::Lines,
-        ReportForm::Csv => crate::generated::yuv_reports::ReportForm::Csv,
-        ReportForm::Json => crate::generated::yuv_reports::ReportForm::Json,
     }
 }
 

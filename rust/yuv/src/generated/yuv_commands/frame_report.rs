@@ -9,8 +9,8 @@ use v_frame_proved::frame::Frame;
 use v_frame_proved::pixel::Pixel;
 use v_frame_proved::measures::{frame_ssim, frames_have_one_size};
 use v_frame_proved::planar::Counted;
-use v_frame_proved::streams::{Comparison, Component, FrameObserver, Place, PlaneSums, StreamError};
-use crate::generated::yuv_reports::{FrameMeasures, Longer, PlaneName, PlaneValues, Report};
+use v_frame_proved::streams::{Comparison, FrameObserver, Place, PlaneSums, StreamError};
+use crate::generated::yuv_reports::{FrameMeasures, Longer, PlaneValues, Report};
 
 /// Reports each two frames that are compared, and all of them at the end.
 pub(crate) struct FrameReport<W> {
@@ -155,7 +155,7 @@ fn reported_comparison(
         difference: match found.difference {
             Some((before, pixel)) => Some(crate::generated::yuv_reports::SampleDifference {
                 frame: start.saturating_add(before).saturating_add(1),
-                plane: plane_name(pixel.component),
+                plane: pixel.component,
                 x: pixel.x,
                 y: pixel.y,
                 first: pixel.first,
@@ -168,14 +168,5 @@ fn reported_comparison(
             Some(_) => Some(Longer::Second),
             None => None,
         },
-    }
-}
-
-/// Returns the name of a plane.
-fn plane_name(component: Component) -> PlaneName {
-    match component {
-        Component::Y => PlaneName::Y,
-        Component::U => PlaneName::U,
-        Component::V => PlaneName::V,
     }
 }

@@ -19,22 +19,12 @@ pub(crate) fn stream_copy(options: &crate::generated::yuv_words::Options) -> v_f
     v_frame_proved::streams::CopyOptions {
         skip: options.skip.unwrap_or(0),
         count: options.count,
-        crop: options.crop.map(stream_rectangle),
+        crop: options.crop,
         half: options.half,
         format: options.format,
         frame_rate: options.rate,
         pixel_aspect: options.aspect,
         max_pixels: most_pixels(options.max_pixels),
-    }
-}
-
-/// Returns the rectangle of the streams.
-pub(crate) fn stream_rectangle(part: crate::generated::yuv_words::Rectangle) -> v_frame_proved::streams::Rectangle {
-    v_frame_proved::streams::Rectangle {
-        x: part.x,
-        y: part.y,
-        width: part.width,
-        height: part.height,
     }
 }
 

@@ -4,7 +4,7 @@
 use crate::generated::yuv_commands::fault::Fault;
 use crate::generated::yuv_commands::input::begin;
 use crate::generated::yuv_commands::input_file::open_file;
-use crate::generated::yuv_commands::options::{frames_before, most_pixels, stream_rectangle, test_pixels};
+use crate::generated::yuv_commands::options::{frames_before, most_pixels, test_pixels};
 use crate::generated::yuv_commands::output::Output;
 use crate::generated::yuv_commands::program::Status;
 use crate::generated::yuv_commands::system::System;
@@ -21,7 +21,7 @@ use v_frame_proved::streams::{
 use v_frame_proved::y4m::StreamHeader;
 use crate::generated::yuv_files::SystemFile;
 use crate::generated::yuv_pictures::{Colors, PictureError, write_frame_picture, write_plane_picture};
-use crate::generated::yuv_words::{Options, PlaneName};
+use crate::generated::yuv_words::Options;
 
 /// Writes a frame of a stream as a picture.
 pub(crate) fn do_show<H, I, O, E>(
@@ -105,17 +105,8 @@ fn draw_picture<T: Pixel, W: io::Write>(
     options: &Options,
 ) -> Result<W, PictureError> {
     match options.plane {
-        Some(plane) => write_plane_picture(out, frame, shown_plane(plane)),
+        Some(plane) => write_plane_picture(out, frame, plane),
         None => write_frame_picture(out, frame, colors_of(options)),
-    }
-}
-
-/// Returns the plane of pictures that has this name.
-fn shown_plane(plane: PlaneName) -> crate::generated::yuv_pictures::PlaneName {
-    match plane {
-        PlaneName::Y => crate::generated::yuv_pictures::PlaneName::Y,
-        PlaneName::U => crate::generated::yuv_pictures::PlaneName::U,
-        PlaneName::V => crate::generated::yuv_pictures::PlaneName::V,
     }
 }
 
@@ -147,7 +138,7 @@ fn one_frame(options: &Options, before: u64) -> CopyOptions {
     CopyOptions {
         skip: before,
         count: Some(1),
-        crop: options.crop.map(stream_rectangle),
+        crop: options.crop,
         half: false,
         format: None,
         frame_rate: None,

@@ -4,7 +4,8 @@
 use crate::generated::yuv_commands::value_counts::ValueCounts;
 use v_frame_proved::support::AllocError;
 use v_frame_proved::support::numbers::nearest_u64_to_f64;
-use crate::generated::yuv_reports::{PlaneName, SampleStatistics, push_statistics};
+use v_frame_proved::formats::Component;
+use crate::generated::yuv_reports::{SampleStatistics, push_statistics};
 
 /// The range that samples have where nothing is out of the ordinary.
 #[derive(Clone, Copy)]
@@ -40,7 +41,7 @@ fn nominal(value: u8, depth: u8) -> u16 {
 /// Appends the line of a plane, where a value occurs.
 pub(crate) fn push_plane(
     text: &mut String,
-    plane: PlaneName,
+    plane: Component,
     counts: &ValueCounts,
     range: NominalRange,
 ) -> Result<(), AllocError> {
@@ -53,7 +54,7 @@ pub(crate) fn push_plane(
 /// Appends the line of a chroma plane, where it is there.
 pub(crate) fn push_chroma_plane(
     text: &mut String,
-    plane: PlaneName,
+    plane: Component,
     counts: &Option<ValueCounts>,
     range: NominalRange,
 ) -> Result<(), AllocError> {
@@ -64,7 +65,7 @@ pub(crate) fn push_chroma_plane(
 }
 
 /// Returns what is said of a plane with these counts. `None` where no value occurs.
-fn described(plane: PlaneName, counts: &[u64], range: NominalRange) -> Option<SampleStatistics> {
+fn described(plane: Component, counts: &[u64], range: NominalRange) -> Option<SampleStatistics> {
     let minimum = minimum(counts)?;
     let maximum = maximum(counts)?;
     Some(SampleStatistics {

@@ -20,10 +20,11 @@ use crate::support::fs::Files;
 use crate::support::time::Clock;
 use v_frame_proved::frame::Frame;
 use v_frame_proved::plane::Plane;
+use v_frame_proved::formats::Component;
 use v_frame_proved::planar::Counted;
 use v_frame_proved::streams::{Picture, Place, Progress, Silent, Source, StreamError, skip_frames};
 use crate::generated::yuv_files::{shown_name, write_message};
-use crate::generated::yuv_reports::{PlaneName, push_histogram};
+use crate::generated::yuv_reports::push_histogram;
 use crate::generated::yuv_words::Options;
 
 /// Reports what values the samples of each plane have, over all frames.
@@ -185,16 +186,16 @@ fn report_text(
 fn histogram_text(counts: &Counts) -> Result<String, AllocError> {
     let mut text = String::new();
     text.try_push_str("plane,value,count\n")?;
-    push_histogram(&mut text, PlaneName::Y, counts.y.counts())?;
-    push_chroma(&mut text, PlaneName::U, &counts.u)?;
-    push_chroma(&mut text, PlaneName::V, &counts.v)?;
+    push_histogram(&mut text, Component::Y, counts.y.counts())?;
+    push_chroma(&mut text, Component::U, &counts.u)?;
+    push_chroma(&mut text, Component::V, &counts.v)?;
     Ok(text)
 }
 
 /// Appends the rows of a chroma plane, where it is there.
 fn push_chroma(
     text: &mut String,
-    plane: PlaneName,
+    plane: Component,
     counts: &Option<ValueCounts>,
 ) -> Result<(), AllocError> {
     match counts {
@@ -208,8 +209,8 @@ fn statistics_text(counts: &Counts, depth: u8) -> Result<String, AllocError> {
     let mut text = String::new();
     let luma = NominalRange::new(16, 235, depth);
     let chroma = NominalRange::new(16, 240, depth);
-    push_plane(&mut text, PlaneName::Y, &counts.y, luma)?;
-    push_chroma_plane(&mut text, PlaneName::U, &counts.u, chroma)?;
-    push_chroma_plane(&mut text, PlaneName::V, &counts.v, chroma)?;
+    push_plane(&mut text, Component::Y, &counts.y, luma)?;
+    push_chroma_plane(&mut text, Component::U, &counts.u, chroma)?;
+    push_chroma_plane(&mut text, Component::V, &counts.v, chroma)?;
     Ok(text)
 }

@@ -3,12 +3,12 @@
 
 use crate::generated::yuv_pictures::error::PictureError;
 use crate::generated::yuv_pictures::file::{begin, end, header_of, trouble};
-use crate::generated::yuv_pictures::plane_name::PlaneName;
 use std::io;
 use v_frame_proved::frame::Frame;
 use v_frame_proved::pixel::Pixel;
 use v_frame_proved::plane::{Plane, PlaneRef};
 use v_frame_proved::convert::{convert_depth, depth_fits};
+use v_frame_proved::formats::Component;
 use v_frame_proved::png::{Header, Samples};
 
 /// Writes one plane in gray, and returns the writer: 8 bits a sample, or 16 where the frame has a depth above 8. Samples of 9
@@ -22,7 +22,7 @@ use v_frame_proved::png::{Header, Samples};
 pub fn write_plane_picture<T: Pixel, W: io::Write>(
     out: W,
     frame: &Frame<T>,
-    plane: PlaneName,
+    plane: Component,
 ) -> Result<W, PictureError> {
     match frame.plane(plane.index()) {
         Some(plane) => write_gray(out, &plane.as_plane_ref(), frame.bit_depth.get()),

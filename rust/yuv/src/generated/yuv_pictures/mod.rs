@@ -10,11 +10,9 @@ mod error;
 mod file;
 mod gray;
 mod places;
-mod plane_name;
 
 pub use colors::{Colors, write_frame_picture};
 pub use difference::write_difference_picture;
 pub use error::PictureError;
 pub use gray::write_plane_picture;
 pub use places::{Found, PlaneDifference, differences};
-pub use plane_name::PlaneName;

@@ -6,9 +6,10 @@ use crate::generated::yuv_reports::planes::{PlaneSums, PlaneValues};
 use crate::generated::yuv_reports::pool::Pool;
 use crate::generated::yuv_reports::{csv, json, lines};
 use v_frame_proved::support::AllocError;
+use v_frame_proved::formats::Component;
 
 /// The form of a report.
-#[derive(Clone, Copy, PartialEq, Eq)]
+#[derive(Debug, Clone, Copy, PartialEq, Eq)]
 pub enum ReportForm {
     /// Lines for people.
     Lines,
@@ -31,35 +32,13 @@ pub struct FrameMeasures {
     pub sums: Option<PlaneSums>,
 }
 
-/// Which plane of a frame.
-#[derive(Clone, Copy)]
-pub enum PlaneName {
-    /// Luma.
-    Y,
-    /// The first chroma component.
-    U,
-    /// The second chroma component.
-    V,
-}
-
-impl PlaneName {
-    /// Returns the letter of the plane.
-    pub fn text(self) -> &'static str {
-        match self {
-            PlaneName::Y => "Y",
-            PlaneName::U => "U",
-            PlaneName::V => "V",
-        }
-    }
-}
-
 /// A sample that two streams show differently.
 #[derive(Clone, Copy)]
 pub struct SampleDifference {
     /// The number of its frame.
     pub frame: u64,
     /// The plane that it is in.
-    pub plane: PlaneName,
+    pub plane: Component,
     /// The column of that plane, from 0.
     pub x: usize,
     /// The row of that plane, from 0.

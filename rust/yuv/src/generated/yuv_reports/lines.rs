@@ -160,7 +160,7 @@ fn push_difference(
         first,
         second,
     } = *found;
-    let plane = plane.text();
+    let plane = plane.letter();
     writeln!(
         text,
         "first difference: frame {frame}, plane {plane}, column {x}, row {y}, {first} and {second}"

@@ -2,15 +2,15 @@
 //! What is reported of the samples of one stream: statistics, histograms and checksums.
 
 use v_frame_proved::support::memory::{TryPush, TryString, try_format};
-use crate::generated::yuv_reports::comparison::PlaneName;
 use crate::generated::yuv_reports::planes::push_number;
 use v_frame_proved::support::AllocError;
+use v_frame_proved::formats::Component;
 
 /// The values that samples of a plane have, over all frames.
 #[derive(Clone, Copy)]
 pub struct SampleStatistics {
     /// The plane.
-    pub plane: PlaneName,
+    pub plane: Component,
     /// The least value.
     pub minimum: u16,
     /// The greatest value.
@@ -40,7 +40,7 @@ pub fn push_statistics(
 
 /// Appends what stands in front of the mean.
 fn push_extremes(text: &mut String, found: &SampleStatistics) -> Result<(), AllocError> {
-    let plane = found.plane.text();
+    let plane = found.plane.letter();
     let (minimum, maximum) = (found.minimum, found.maximum);
     write!(text, "{plane}: minimum {minimum}, maximum {maximum}, mean ")
 }
@@ -56,7 +56,7 @@ fn push_outside(text: &mut String, found: &SampleStatistics) -> Result<(), Alloc
 /// # Errors
 ///
 /// [`AllocError`] where there is no memory for the text.
-pub fn push_histogram(text: &mut String, plane: PlaneName, counts: &[u64]) -> Result<(), AllocError> {
+pub fn push_histogram(text: &mut String, plane: Component, counts: &[u64]) -> Result<(), AllocError> {
     for value in 0..counts.len() {
         push_row(text, plane, value, counts[value])?;
     }
@@ -64,11 +64,11 @@ pub fn push_histogram(text: &mut String, plane: PlaneName, counts: &[u64]) -> Re
 }
 
 /// Appends the row of a value, where it occurs.
-fn push_row(text: &mut String, plane: PlaneName, value: usize, count: u64) -> Result<(), AllocError> {
+fn push_row(text: &mut String, plane: Component, value: usize, count: u64) -> Result<(), AllocError> {
     if count == 0 {
         return Ok(());
     }
-    let plane = plane.text();
+    let plane = plane.letter();
     writeln!(text, "{plane},{value},{count}")
 }
 
