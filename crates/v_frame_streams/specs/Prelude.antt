@@ -12,7 +12,7 @@ pub use Rattle.v_frame_streams.specs.Formats.{HaveOneFormat, RefusesFormats}
 pub use Rattle.v_frame_streams.specs.Pictures.{sizes_in, table_in, tables_by_turns, tables_in, tables_in_layout}
 pub use Rattle.v_frame_streams.specs.Pictures.{tables_of_bytes, IsMadeFor, ReadsTables, Sizes}
 pub use Rattle.v_frame_streams.specs.Plans.{planned_bytes, Plan}
-pub use Rattle.v_frame_streams.specs.Sources.{bytes_left, stream_of, IsAtNextFrame, IsAtNextWritten, IsOpened}
+pub use Rattle.v_frame_streams.specs.Sources.{bytes_left, stream_of, IsAtNextFrame, IsAtNextWritten, IsAtStart, IsOpened}
 pub use Rattle.v_frame_streams.specs.Sources.{StopsComparison, StopsCopy, Stream}
 pub use Rattle.v_frame_streams.specs.Streams.{framed_bytes, header_bytes, most_frames, stream_bytes, written_bytes, Framed}
 pub use Rattle.v_frame_streams.specs.Streams.{CountsFrames, IsFrame, ReadsFrames, ReadsHeaderLine}

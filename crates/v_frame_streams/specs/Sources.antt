@@ -47,6 +47,11 @@ module _ {R : Type 0} where
     pub place : error.place ≡ source.place
     pub frames : error.frames ≡ source.frames
 
+-- the error comes in front of the first frame of a stream
+pub record IsAtStart (which : Place) (error : StreamError) : Type 0 where
+  pub place : error.place ≡ which
+  pub frames : error.frames ≡ 0
+
 -- the error comes at the next frame that is written
 pub record IsAtNextWritten {W : Type 0} (sink : Sink W) (error : StreamError) : Type 0 where
   pub place : error.place ≡ Output

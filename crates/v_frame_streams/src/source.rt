@@ -1,9 +1,10 @@
 //! Streams that are read: the header, and then frame by frame.
-ghost use Rattle.std.specs.Prelude.{◌≡◌, ◌<◌, IfOk};
+ghost use Rattle.std.specs.Prelude.{◌≡◌, ◌<◌, IfErr, IfOk};
 ghost use Rattle.std.specs.Io.Buffered.{reader_remaining};
 ghost use Rattle.v_frame_y4m.specs.Frames.{frame_byte_count};
 ghost use Rattle.std.proofs.Props.{props};
 ghost use Rattle.v_frame_streams.specs.Layouts.{HoldsColor};
+ghost use Rattle.v_frame_streams.specs.Sources.{IsAtStart};
 
 use crate::colors::holds_color;
 use crate::error::{Problem, StreamError};
@@ -37,7 +38,7 @@ impl<R: io::Read> Source<R> {
     ghost use Rattle.v_frame_planar.specs.declared.error.PlanarError.TheVariants.{Truncated};
     ghost use Rattle.v_frame_y4m.specs.Header.{IsWritable};
     ghost use Rattle.v_frame_y4m.specs.declared.error.Y4mError.TheVariants.{Planar};
-    ghost use Rattle.v_frame_streams.specs.Sources.{bytes_left, stream_of, IsAtNextFrame, IsOpened};
+    ghost use Rattle.v_frame_streams.specs.Sources.{bytes_left, stream_of, IsAtNextFrame, IsAtStart, IsOpened};
     ghost use Rattle.v_frame_streams.specs.Streams.{frames_after, ReadsHeaderLine, ReadsLine, ReadsNext};
 
     /// Reads the header line of a YUV4MPEG2 stream, or one that stands for it. Its frames are left to be read.
@@ -53,6 +54,7 @@ impl<R: io::Read> Source<R> {
         ensures read { IfOk result (λ source. ReadsHeaderLine (R.remaining reader) (bytes_left R.remaining source)
             source.header source.is_lax) }
         ensures writable { IfOk result (λ source. IsWritable source.header) }
+        ensures stopped { IfErr result (IsAtStart place) }
     {
         let mut reader = buffered(alloc, place, reader)?;
         match read_lax_header(alloc, &mut reader) {
@@ -92,6 +94,7 @@ impl<R: io::Read> Source<R> {
         ensures other_layout { ¬ (HoldsColor layout header.color)
             → IfErr result (λ error. error.problem ≡ Problem.OtherLayout) }
         ensures unread { IfOk result (λ source. bytes_left R.remaining source ≡ R.remaining reader) }
+        ensures stopped { IfErr result (IsAtStart place) }
     {
         if !holds_color(layout, header.color) {
             return Err(StreamError::at_start(place, Problem::OtherLayout));
@@ -117,6 +120,7 @@ impl<R: io::Read> Source<R> {
         ensures header { IfOk result (λ source. source.header ≡ header) }
         ensures lax { IfOk result (λ source. source.is_lax ≡ is_lax) }
         ensures reader { IfOk result (λ source. source.reader ≡ reader) }
+        ensures stopped { IfErr result (IsAtStart place) }
     {
         match header.frame_len() {
             Some(frame_len) if frame_len > 0 => Ok(Source {
@@ -313,8 +317,9 @@ fn buffered<R: io::Read + Drop>(
     place: Place,
     reader: R,
 ) -> Result<Counted<BufReader<R>>, StreamError>
-    ensures { IfOk result (λ buffered. reader_remaining R.remaining buffered.inner
+    ensures buffered { IfOk result (λ buffered. reader_remaining R.remaining buffered.inner
         ≡ R.remaining reader) }
+    ensures stopped { IfErr result (IsAtStart place) }
 {
     match BufReader::new(alloc, reader) {
         Ok(reader) => Ok(Counted::new(reader)),

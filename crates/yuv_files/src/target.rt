@@ -1,5 +1,5 @@
 //! Files that a command writes. The frames go to a new file beside the target, which replaces the target when it is whole.
-ghost use Rattle.std.specs.Prelude.{◌≡◌, ◌≢◌, None, bit_and};
+ghost use Rattle.std.specs.Prelude.{◌≡◌, ◌≢◌, ◌↔◌, IsNone, IsTrue, None, bit_and};
 ghost use Rattle.std.specs.Fs.{metadata_mode};
 
 use crate::destination::{Destination, resolve_links};
@@ -61,12 +61,16 @@ impl fmt::Display for Loss {
 
 impl<F: OpenFile> TargetFile<F> {
     /// Returns whether the file is the target itself.
-    pub fn is_written_in_place(&self) -> bool {
+    pub fn is_written_in_place(&self) -> bool
+        ensures { IsTrue result ↔ IsNone self.now.replacement }
+    {
         self.replacement.is_none()
     }
 
     /// Returns what of the target can't be kept.
-    pub fn loss(&self) -> Option<Loss> {
+    pub fn loss(&self) -> Option<Loss>
+        ensures { result ≡ self.now.loss }
+    {
         self.loss
     }
 

@@ -1,4 +1,5 @@
 //! A measure over many frames: its mean, its least value, and its harmonic mean.
+ghost use Rattle.std.specs.Prelude.{◌≡◌, ◌+◌, ◌-◌, ◌^◌, ◌<◌, ◌↔◌, min, IsSome};
 
 use std::num::nearest_u64_to_f64;
 
@@ -14,7 +15,9 @@ pub struct Pool {
 
 impl Pool {
     /// Returns the pool of no frames.
-    pub fn new() -> Self {
+    pub fn new() -> Self
+        ensures { result.frames ≡ 0 }
+    {
         Pool {
             frames: 0,
             sum: 0.0,
@@ -25,7 +28,9 @@ impl Pool {
     }
 
     /// Adds the value of a frame, which has this number. The first of equal least values keeps its number.
-    pub fn add(&mut self, frame: u64, value: f64) {
+    pub fn add(&mut self, frame: u64, value: f64)
+        ensures { self.new.frames ≡ min (self.old.frames + 1) (2 ^ 64 - 1) }
+    {
         self.sum += value;
         self.sum_of_reciprocals += 1.0 / value.max(0.0);
         if self.frames == 0 || value < self.least {
@@ -36,18 +41,24 @@ impl Pool {
     }
 
     /// Returns the arithmetic mean, where there was a frame.
-    pub fn mean(&self) -> Option<f64> {
+    pub fn mean(&self) -> Option<f64>
+        ensures { IsSome result ↔ (0 < self.now.frames) }
+    {
         (self.frames > 0).then_some(self.sum / nearest_u64_to_f64(self.frames))
     }
 
     /// Returns the least value and the number of its frame, where there was a frame.
-    pub fn least(&self) -> Option<(f64, u64)> {
+    pub fn least(&self) -> Option<(f64, u64)>
+        ensures { IsSome result ↔ (0 < self.now.frames) }
+    {
         (self.frames > 0).then_some((self.least, self.frame_of_least))
     }
 
     /// Returns the number of frames over the sum of the reciprocals, where there was a frame: the harmonic mean, which is 0 where
     /// a value is 0 or below.
-    pub fn harmonic_mean(&self) -> Option<f64> {
+    pub fn harmonic_mean(&self) -> Option<f64>
+        ensures { IsSome result ↔ (0 < self.now.frames) }
+    {
         (self.frames > 0).then_some(nearest_u64_to_f64(self.frames) / self.sum_of_reciprocals)
     }
 }
