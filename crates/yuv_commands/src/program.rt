@@ -1,26 +1,17 @@
 //! The program: its words are read and done, and what went wrong is reported.
 ghost use Rattle.std.specs.Prelude.{◌≡◌, ◌&&◌};
-ghost use Rattle.yuv_commands.specs.ProgressLines.{asks_progress};
-ghost use Rattle.yuv_commands.specs.Run.{status_code};
+ghost use Rattle.yuv_system.specs.ProgressLines.{asks_progress};
 
-use crate::compare::do_compare;
-use crate::copy::do_copy;
-use crate::diff::do_diff;
-use crate::fault::Fault;
-use crate::info::do_info;
-use crate::plot::do_plot;
-use crate::progress::ProgressLine;
-use crate::report::write_text;
-use crate::show::do_show;
-use crate::stats::do_stats;
-use crate::sum::do_sum;
-use crate::system::System;
 use std::io;
 use std::rt::Files;
 use std::time::Clock;
 use v_frame_planar::Counted;
 use v_frame_streams::Place;
+use yuv_comparisons::{do_compare, do_diff, do_plot};
+use yuv_copies::{do_copy, do_show};
+use yuv_facts::{do_info, do_stats, do_sum};
 use yuv_files::{SystemFile, shown_name, write_message};
+use yuv_system::{Fault, ProgressLine, Status, System, write_text};
 use yuv_words::{Command, CommandName, UsageError, help_topic, read_command, usage_text};
 
 /// What `yuv --version` prints.
@@ -28,30 +19,6 @@ pub const VERSION: &str = "yuv 0.3.0\n";
 
 /// What a message calls standard output.
 const STANDARD_OUTPUT: &str = "standard output";
-
-/// How the program ended.
-#[derive(Clone, Copy)]
-pub enum Status {
-    /// All was done, and what was compared shows the same.
-    Same,
-    /// What was compared differs.
-    Different,
-    /// Something failed.
-    Failed,
-}
-
-impl Status {
-    /// Returns the exit status of a process.
-    pub fn code(self) -> u8
-        ensures { result ≡ status_code self }
-    {
-        match self {
-            Status::Same => 0,
-            Status::Different => 1,
-            Status::Failed => 2,
-        }
-    }
-}
 
 /// What a program has of its system.
 #[derive(Drop)]

@@ -28,9 +28,13 @@ mod support;
 mod generated {
     pub mod yuv;
     pub mod yuv_commands;
+    pub mod yuv_comparisons;
+    pub mod yuv_copies;
+    pub mod yuv_facts;
     pub mod yuv_files;
     pub mod yuv_pictures;
     pub mod yuv_reports;
+    pub mod yuv_system;
     pub mod yuv_words;
 }
 

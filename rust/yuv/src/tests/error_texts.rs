@@ -1,8 +1,8 @@
 //! What errors say: each row of the table is what a value of its variant prints. tools/check-error-texts sees that no variant
 //! lacks a row.
 
-use crate::generated::yuv_commands::{Fault, NothingTaken};
 use crate::generated::yuv_pictures::PictureError;
+use crate::generated::yuv_system::{Fault, NothingTaken};
 use crate::generated::yuv_words::{CommandName, OptionName, UsageError};
 use std::fmt::Display;
 use std::io::{self, ErrorKind};
@@ -83,7 +83,7 @@ fn faults_of_commands() {
     let nothing = |skip, count| NothingTaken { frames: 3, skip, count };
     let full = PictureError::Png(PngError::Write(io::Error::from(ErrorKind::StorageFull)));
     compare(
-        "yuv_commands Fault",
+        "yuv_system Fault",
         &[
             ("Open", Fault::Open(Place::First, ErrorKind::NotFound)),
             ("InputTwice", Fault::InputTwice(Place::Second)),

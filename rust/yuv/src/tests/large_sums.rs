@@ -1,7 +1,7 @@
 //! Measures of more squared errors than files of a sensible size have: 2^64 and above.
 
 #[allow(dead_code)]
-#[path = "../generated/yuv_commands/measures.rs"]
+#[path = "../generated/yuv_comparisons/measures.rs"]
 mod measures;
 
 use crate::generated::yuv_reports::FrameMeasures;

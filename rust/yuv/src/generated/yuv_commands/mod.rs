@@ -3,35 +3,10 @@
 //! bytes that it writes.
 //!
 //! `yuv_words` reads the words, `streams` moves and compares frames, `yuv_reports` and `yuv_pictures` say and show what was
-//! found, `yuv_files` has the files. Here stands what each option asks of the layers below.
+//! found, `yuv_files` has the files. The commands are in `yuv_facts`, `yuv_copies` and `yuv_comparisons`: what each option asks of
+//! the layers below.
 
-mod compare;
-mod copy;
-mod diff;
-mod fault;
-mod frame_report;
-mod info;
-mod input;
-mod input_file;
-mod measures;
-mod nothing;
-mod options;
-mod output;
-mod plot;
 mod program;
-mod progress;
-mod report;
-mod show;
-mod statistics;
-mod stats;
-mod sum;
-mod system;
-mod value_counts;
-mod values;
 
-pub use copy::copy_source;
-pub use fault::Fault;
-pub use input_file::InputFile;
-pub use nothing::NothingTaken;
-pub use program::{Status, Streams, VERSION, refuse, run};
-pub use progress::ProgressLine;
+pub use program::{Streams, VERSION, refuse, run};
+pub use crate::generated::yuv_system::Status;

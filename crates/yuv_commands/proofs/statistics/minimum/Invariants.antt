@@ -1,7 +1,0 @@
--- No value so far occurs.
-use Rattle.std.proofs.Common.{◌≡◌, ◌<◌, ℕ}
-use Rattle.std.specs.Prelude.{slice_index}
-use Rattle.yuv_commands.proofs.statistics.minimum.Given as goal
-
-abbrev pub invariant-loop-value : goal.invariant-loop-value
-invariant-loop-value l = (k : ℕ) → k < l.value → slice_index l.counts k ≡ 0

@@ -1,0 +1,2 @@
+mod Differing
+mod Reporting

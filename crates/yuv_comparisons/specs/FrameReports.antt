@@ -1,0 +1,27 @@
+-- What is reported of two frames.
+use Rattle.std.specs.Prelude.{ℕ, ◌≡◌, ◌+◌, List, Option, IfSome, IsSome, IsSomeAnd, IsTrue, is_some, min}
+use Rattle.yuv_comparisons.specs.Reports.{frame_number, sums_asked}
+use Rattle.yuv_comparisons.specs.declared.frame_report.FrameReport.{FrameReport}
+use Rattle.yuv_reports.specs.Frames.{EndsWithFrame}
+use Rattle.v_frame_streams.specs.Prelude.{most_frames}
+use Rattle.v_frame_streams.specs.declared.sums.PlaneSums.{PlaneSums}
+
+module _ {W : Type 0} (contents : W → Option (List ℕ)) (old new : FrameReport W) where
+  -- what a report was asked for stays, and what is known of its writer stays known
+  pub record StaysAsked : Type 0 where
+    pub form : new.report.form ≡ old.report.form
+    pub lists_frames : new.report.lists_frames ≡ old.report.lists_frames
+    pub scale : new.scale ≡ old.scale
+    pub ssim : is_some new.ssim ≡ is_some old.ssim
+    pub before : new.before ≡ old.before
+    pub known : IsSome (contents old.out.inner) → IsSome (contents new.out.inner)
+
+  -- two frames of these errors were counted, and reported under the number that the one of the first
+  -- stream has there, where frames are listed
+  pub record ReportsFrame (errors : PlaneSums) : Type 0 where
+    pub stays : StaysAsked
+    pub counted : new.frames ≡ min (old.frames + 1) most_frames
+    pub said : IsTrue old.report.lists_frames
+        → IfSome (contents old.out.inner) (λ _. IsSomeAnd (contents new.out.inner)
+        (EndsWithFrame old.report.form (frame_number old.before new.frames)
+        (sums_asked old.scale.exact errors)))

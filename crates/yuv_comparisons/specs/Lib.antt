@@ -1,0 +1,5 @@
+pub mod Differences
+pub mod FrameReports
+pub mod Places
+pub mod Reports
+pub mod WorkedPlaces

@@ -1,0 +1,217 @@
+//! The command `compare`: how far two streams are apart.
+ghost use Rattle.std.specs.Prelude.{◌≡◌, ◌≢◌, ◌<◌, ◌↔◌, ◌⊎◌, is_some, unwrap_or, IfOk, IsNone, IsTrue, OnOk};
+ghost use Rattle.v_frame.specs.Prelude.{one_byte, two_bytes};
+ghost use Rattle.v_frame_y4m.specs.Color.{depth_of};
+ghost use Rattle.yuv_system.specs.Options.{comparison_of};
+ghost use Rattle.yuv_comparisons.specs.Reports.{report_end, EndsKnown};
+ghost use Rattle.v_frame_streams.specs.Prelude.{bytes_left, sizes_in, stream_of, ComparesFrom, HaveOneFormat, WatchesFrom};
+ghost use Rattle.v_frame_streams.specs.Sums.{pixels_of_sizes};
+
+use crate::frame_report::FrameReport;
+use crate::measures::{Means, Scale};
+use std::alloc::Global;
+use std::io;
+use std::rt::Files;
+use std::time::Clock;
+use v_frame::chroma::ChromaSubsampling;
+use v_frame_planar::ratios_or_one;
+use v_frame_streams::{
+    Comparison, FrameObserver, Place, PlaneSums, Progress, Source, StreamError, compare_streams,
+};
+use v_frame_y4m::StreamHeader;
+use yuv_reports::{Report, ReportForm};
+use yuv_system::{
+    Fault, ProgressLine, Status, System, begin, expected_frames, open_file, stream_comparison,
+    test_compared,
+};
+use yuv_words::Options;
+
+/// Reports how far two streams are apart.
+///
+/// # Errors
+///
+/// Where a stream can't be read, the streams can't be compared, no frame is, or the report can't be written.
+pub fn do_compare<H, I, O, E>(
+    system: &mut System<'_, H, I, O, E>,
+    (first, second): (&str, &str),
+    options: &Options,
+) -> Result<Status, Fault>
+where
+    H: Files + AllocGlobal + Clock,
+    I: io::Read + Drop,
+    O: io::Write,
+    E: io::Write,
+{
+    let alloc = system.rt.alloc();
+    let mut file = open_file(system.rt, first, Place::First, &mut system.input)?;
+    let len = file.len();
+    let mut one = begin(system, first, &mut file, options.raw)?;
+    let mut other_file = open_file(system.rt, second, Place::Second, &mut system.input)?;
+    let mut other = begin(system, second, &mut other_file, options.raw_second)?;
+    if options.ssim {
+        test_windows(one.header())?;
+    }
+    system.progress.expect(expected_frames(&one, len));
+    let out = &mut system.output;
+    let progress = &mut system.progress;
+    let (_out, found) = report_comparison(alloc, &mut one, &mut other, options, out, progress)?;
+    Ok(comparison_status(&found))
+}
+
+/// Reports how far two streams are apart, and returns the writer and what was found.
+fn report_comparison<R: io::Read, S: io::Read, W: io::Write + Drop, H: Clock, E: io::Write>(
+    alloc: Global,
+    first: &mut Source<R>,
+    second: &mut Source<S>,
+    options: &Options,
+    out: W,
+    progress: &mut ProgressLine<'_, H, E>,
+) -> Result<(W, Comparison), Fault>
+    ensures bytes { depth_of first.old.header.color ≡ 8 → IfOk result (λ done.
+        ComparesFrom one_byte (sizes_in first.old.header)
+        (stream_of first.old) (stream_of second.old)
+        (bytes_left R.remaining first.old) (bytes_left R.remaining first.new)
+        (bytes_left S.remaining second.old) (bytes_left S.remaining second.new)
+        (comparison_of options.now) done.1) }
+    ensures words { depth_of first.old.header.color ≢ 8 → IfOk result (λ done.
+        ComparesFrom two_bytes (sizes_in first.old.header)
+        (stream_of first.old) (stream_of second.old)
+        (bytes_left R.remaining first.old) (bytes_left R.remaining first.new)
+        (bytes_left S.remaining second.old) (bytes_left S.remaining second.new)
+        (comparison_of options.now) done.1) }
+    ensures some { IfOk result (λ done. 0 < done.1.frames) }
+    ensures ended { IfOk result (λ done. EndsKnown (W.contents out) (W.contents done.0)
+        (report_end options.now.form options.now.exact
+        (unwrap_or options.now.skip 0) done.1)) }
+{
+    let report = Report::new(options.form, lists_frames(options));
+    let scale = scale_of(first.header(), options);
+    let before = first_taken(options);
+    let mut observer = FrameReport::new(alloc, out, report, scale, means_of(options), before);
+    let found = compare_sources(alloc, first, second, options, &mut observer, progress)?;
+    test_compared(&found, first, second, &stream_comparison(options))?;
+    progress.end();
+    observer.end(&found)?;
+    Ok((observer.into_out(), found))
+}
+
+/// Returns how many frames of the first stream stand before the first one that is compared.
+fn first_taken(options: &Options) -> u64
+    ensures { result ≡ unwrap_or options.now.skip 0 }
+{
+    options.skip.unwrap_or(0)
+}
+
+/// Returns what the measures of a report are made of besides the errors.
+fn scale_of(header: &StreamHeader, options: &Options) -> Scale
+    ensures pixels { result.pixels ≡ pixels_of_sizes (sizes_in header.now) }
+    ensures bit_depth { result.bit_depth ≡ depth_of header.now.color }
+    ensures exact { result.exact ≡ options.now.exact }
+{
+    Scale {
+        pixels: samples_of(header),
+        bit_depth: header.color.bit_depth(),
+        exact: options.exact,
+    }
+}
+
+/// Returns means of structural similarities, where these are asked for.
+fn means_of(options: &Options) -> Option<Means>
+    ensures { is_some result ≡ options.now.ssim }
+{
+    options.ssim.then_some(Means::new())
+}
+
+/// Compares two streams as the options say.
+///
+/// # Errors
+///
+/// Those of [`compare_streams`].
+pub fn compare_sources<
+    R: io::Read,
+    S: io::Read,
+    O: FrameObserver<u8> + FrameObserver<u16>,
+    P: Progress,
+>(
+    alloc: Global,
+    first: &mut Source<R>,
+    second: &mut Source<S>,
+    options: &Options,
+    observer: &mut O,
+    progress: &mut P,
+) -> Result<Comparison, StreamError>
+    ensures formats { OnOk result (HaveOneFormat first.old.header second.old.header) }
+    ensures bytes { depth_of first.old.header.color ≡ 8 → IfOk result (ComparesFrom one_byte
+        (sizes_in first.old.header) (stream_of first.old) (stream_of second.old)
+        (bytes_left R.remaining first.old) (bytes_left R.remaining first.new)
+        (bytes_left S.remaining second.old) (bytes_left S.remaining second.new)
+        (comparison_of options.now)) }
+    ensures words { depth_of first.old.header.color ≢ 8 → IfOk result (ComparesFrom two_bytes
+        (sizes_in first.old.header) (stream_of first.old) (stream_of second.old)
+        (bytes_left R.remaining first.old) (bytes_left R.remaining first.new)
+        (bytes_left S.remaining second.old) (bytes_left S.remaining second.new)
+        (comparison_of options.now)) }
+    ensures bytes_taken { depth_of first.old.header.color ≡ 8 → IfOk result (WatchesFrom one_byte
+        (sizes_in first.old.header) ⟦<O as FrameObserver<u8>>⟧.takes observer.old observer.new
+        (stream_of first.old) (stream_of second.old)
+        (bytes_left R.remaining first.old) (bytes_left R.remaining first.new)
+        (bytes_left S.remaining second.old) (bytes_left S.remaining second.new)
+        (comparison_of options.now)) }
+    ensures words_taken { depth_of first.old.header.color ≢ 8 → IfOk result (WatchesFrom two_bytes
+        (sizes_in first.old.header) ⟦<O as FrameObserver<u16>>⟧.takes observer.old observer.new
+        (stream_of first.old) (stream_of second.old)
+        (bytes_left R.remaining first.old) (bytes_left R.remaining first.new)
+        (bytes_left S.remaining second.old) (bytes_left S.remaining second.new)
+        (comparison_of options.now)) }
+{
+    let taken = stream_comparison(options);
+    compare_streams(alloc, first, second, &taken, observer, progress)
+}
+
+/// Returns how a comparison ends.
+fn comparison_status(found: &Comparison) -> Status
+    ensures same { (result ≡ Status.Same)
+        ↔ (IsNone found.now.difference × IsNone found.now.longer) }
+    ensures never { result ≢ Status.Failed }
+{
+    if found.shows_the_same() {
+        Status::Same
+    } else {
+        Status::Different
+    }
+}
+
+/// Returns whether each frame is reported: always in a table or an object, and in lines with `--frames`.
+fn lists_frames(options: &Options) -> bool
+    ensures { IsTrue result ↔ (IsTrue options.now.frames ⊎ (options.now.form ≢ ReportForm.Lines)) }
+{
+    options.frames || options.form != ReportForm::Lines
+}
+
+/// Returns how many samples each plane of a frame has.
+pub(crate) fn samples_of(header: &StreamHeader) -> PlaneSums
+    ensures { result ≡ pixels_of_sizes (sizes_in header.now) }
+{
+    let luma = header.width as u128 * header.height as u128;
+    let chroma = match header.color.subsampling() {
+        ChromaSubsampling::Monochrome => None,
+        subsampling => {
+            let (columns, rows) = ratios_or_one(subsampling);
+            Some(header.width.div_ceil(columns) as u128 * header.height.div_ceil(rows) as u128)
+        }
+    };
+    PlaneSums {
+        y: luma,
+        u: chroma,
+        v: chroma,
+    }
+}
+
+/// Tests whether each plane of a frame has a window of structural similarity, which is 8 samples wide and high.
+pub(crate) fn test_windows(header: &StreamHeader) -> Result<(), Fault> {
+    let (columns, rows) = ratios_or_one(header.color.subsampling());
+    if header.width.div_ceil(columns) < 8 || header.height.div_ceil(rows) < 8 {
+        return Err(Fault::NoWindow(Place::First));
+    }
+    Ok(())
+}

@@ -1,0 +1,273 @@
+//! The command `diff`: the difference of two frames as a picture, and where it is.
+ghost use Rattle.std.specs.Prelude.{◌≡◌, ◌≢◌, ◌↔◌, ◌++◌, false, string_bytes, unwrap_or, IfOk, IfSome, OnOk};
+ghost use Rattle.v_frame.specs.Prelude.{one_byte, tables_of, two_bytes};
+ghost use Rattle.v_frame_y4m.specs.Color.{depth_of};
+ghost use Rattle.yuv_comparisons.specs.Differences.{DrawsDifference, DrawsFrames, TakesPair};
+ghost use Rattle.yuv_system.specs.Options.{frame_pair};
+ghost use Rattle.yuv_comparisons.specs.Places.{chroma_said, first_said, found_said, greatest_said, plane_said, ShowNoDifference};
+ghost use Rattle.v_frame_streams.specs.Prelude.{bytes_left, sizes_in, stream_of};
+
+use std::alloc::{AllocError, Global};
+use std::io;
+use std::rt::Files;
+use std::time::Clock;
+use v_frame::frame::Frame;
+use v_frame::pixel::Pixel;
+use v_frame_measures::{GreatestDifference, frames_have_one_size};
+use v_frame_planar::Counted;
+use v_frame_streams::{
+    CompareOptions, FrameObserver, Place, PlaneSums, Silent, Source, StreamError, compare_streams,
+};
+use yuv_files::SystemFile;
+use yuv_pictures::{Found, PictureError, PlaneDifference, differences, write_difference_picture};
+use yuv_system::{
+    Fault, Output, Status, System, begin, frames_before, is_standard_output, no_memory, open_file,
+    taken_of_both, write_made, write_text,
+};
+use yuv_words::Options;
+
+/// What each difference is multiplied by, where nobody says.
+const GAIN: u16 = 8;
+
+/// Writes the difference of two frames as a picture, and reports where it is.
+///
+/// # Errors
+///
+/// Where a stream can't be read, has no such frame or one that can't be compared, or the picture or the report can't be written.
+pub fn do_diff<H, I, O, E>(
+    system: &mut System<'_, H, I, O, E>,
+    (first, second, to): (&str, &str, &str),
+    options: &Options,
+) -> Result<Status, Fault>
+where
+    H: Files + AllocGlobal + Clock,
+    H::File: SystemFile,
+    I: io::Read + Drop,
+    O: io::Write,
+    E: io::Write,
+{
+    let rt = system.rt;
+    let mut file = open_file(rt, first, Place::First, &mut system.input)?;
+    let mut one = begin(system, first, &mut file, options.raw)?;
+    let mut other_file = open_file(rt, second, Place::Second, &mut system.input)?;
+    let mut other = begin(system, second, &mut other_file, options.raw_second)?;
+    let mut output = Output::open(
+        rt,
+        to,
+        &[first, second],
+        &mut system.output,
+        system.progress.out(),
+    )?;
+    let done = match write_difference(rt.alloc(), &mut one, &mut other, options, &mut output) {
+        Ok(drawn) => {
+            let (_written, found) = drawn;
+            Ok(found)
+        }
+        Err(fault) => Err(fault),
+    };
+    let found = output.settle(rt, done)?;
+    let text = found_text(rt.alloc(), &found);
+    if is_standard_output(to) {
+        let Ok(text) = text else {
+            return Err(Fault::Report(no_memory()));
+        };
+        // Where nothing can be said there, the picture is written all the same, and the status says what was found.
+        let _ = write_text(&mut Counted::new(system.progress.out()), text.as_str());
+    } else if let Err(error) = write_made(&mut Counted::new(&mut system.output), text) {
+        return Err(Fault::Report(error));
+    }
+    Ok(status_of(&found))
+}
+
+/// Writes the difference of the two frames that the options name, and returns the writer and what differs.
+fn write_difference<R: io::Read, S: io::Read, W: io::Write + Drop>(
+    alloc: Global,
+    first: &mut Source<R>,
+    second: &mut Source<S>,
+    options: &Options,
+    out: W,
+) -> Result<(W, Found), Fault>
+    ensures bytes { depth_of first.old.header.color ≡ 8 → IfOk result (λ drawn.
+        DrawsFrames one_byte W.contents (W.contents out) options.now (sizes_in first.old.header)
+        (stream_of first.old) (stream_of second.old)
+        (bytes_left R.remaining first.old) (bytes_left R.remaining first.new)
+        (bytes_left S.remaining second.old) (bytes_left S.remaining second.new) drawn.0 drawn.1) }
+    ensures words { depth_of first.old.header.color ≢ 8 → IfOk result (λ drawn.
+        DrawsFrames two_bytes W.contents (W.contents out) options.now (sizes_in first.old.header)
+        (stream_of first.old) (stream_of second.old)
+        (bytes_left R.remaining first.old) (bytes_left R.remaining first.new)
+        (bytes_left S.remaining second.old) (bytes_left S.remaining second.new) drawn.0 drawn.1) }
+{
+    let before = frames_before(options.frame)?;
+    let taken = frames_taken(options, before);
+    let mut picture = DifferencePicture {
+        alloc,
+        out: Some(out),
+        gain: gain_of(options),
+        drawn: None,
+    };
+    compare_streams(alloc, first, second, &taken, &mut picture, &mut Silent)?;
+    match picture.into_drawn() {
+        Some(Ok(drawn)) => Ok(drawn),
+        Some(Err(error)) => Err(Fault::Picture(error)),
+        None if first.frames() <= before => Err(Fault::NoFrame(Place::First, first.frames())),
+        None => Err(Fault::NoFrame(Place::Second, second.frames())),
+    }
+}
+
+/// Returns what each difference is multiplied by.
+fn gain_of(options: &Options) -> u16
+    ensures { result ≡ unwrap_or options.now.gain 8 }
+{
+    options.gain.unwrap_or(GAIN)
+}
+
+/// Returns what is taken of both streams: one frame after so many.
+fn frames_taken(options: &Options, before: u64) -> CompareOptions
+    ensures { result ≡ frame_pair options.now before }
+{
+    taken_of_both(Some(before), None, Some(1), options.max_pixels)
+}
+
+/// Writes the difference of the two frames that are compared.
+#[derive(Drop)]
+struct DifferencePicture<W> {
+    alloc: Global,
+    out: Option<W>,
+    gain: u16,
+    drawn: Option<Result<(W, Found), PictureError>>,
+}
+
+impl<W: Drop> DifferencePicture<W> {
+    /// Returns what was written, if anything was.
+    fn into_drawn(self) -> Option<Result<(W, Found), PictureError>>
+        ensures { result ≡ self.drawn }
+    {
+        self.drawn
+    }
+}
+
+impl<T: Pixel, W: io::Write + Drop> FrameObserver<T> for DifferencePicture<W> {
+    ghost takes = { λ old new a b _. TakesPair T.form W.contents old.out old new a b };
+
+    fn take(
+        &mut self,
+        first: &Frame<T>,
+        second: &Frame<T>,
+        _errors: &PlaneSums,
+    ) -> Result<(), StreamError> {
+        if let Some(out) = self.out.take() {
+            self.drawn = Some(draw_difference(self.alloc, out, first, second, self.gain));
+        }
+        Ok(())
+    }
+}
+
+/// Writes the difference of two frames, and returns the writer and what differs.
+fn draw_difference<T: Pixel, W: io::Write + Drop>(
+    alloc: Global,
+    out: W,
+    first: &Frame<T>,
+    second: &Frame<T>,
+    gain: u16,
+) -> Result<(W, Found), PictureError>
+    ensures { IfOk result (λ drawn. DrawsDifference T.form W.contents (W.contents out) gain
+        (tables_of first.now) (tables_of second.now) drawn.0 drawn.1) }
+{
+    if !frames_have_one_size(first, second) {
+        return Err(PictureError::Unlike);
+    }
+    match write_difference_picture(alloc, out, first, second, gain) {
+        Ok(out) => Ok((out, differences(first, second))),
+        Err(error) => Err(error),
+    }
+}
+
+/// Returns a line for each plane.
+fn found_text(alloc: Global, found: &Found) -> Result<String, AllocError>
+    ensures { IfOk result (λ text. string_bytes text ≡ found_said found.now) }
+{
+    let mut text = String::new(alloc);
+    push_plane(&mut text, "Y", &found.y)?;
+    push_chroma(&mut text, "U", &found.u)?;
+    push_chroma(&mut text, "V", &found.v)?;
+    Ok(text)
+}
+
+/// Appends the line of a chroma plane, where it is there.
+fn push_chroma(
+    text: &mut String,
+    name: &str,
+    found: &Option<PlaneDifference>,
+) -> Result<(), AllocError>
+    ensures { OnOk result (string_bytes text.new
+        ≡ string_bytes text.old ++ chroma_said name.now found.now) }
+{
+    match found {
+        Some(found) => push_plane(text, name, found),
+        None => Ok(()),
+    }
+}
+
+/// Appends the line of a plane.
+fn push_plane(text: &mut String, name: &str, found: &PlaneDifference) -> Result<(), AllocError>
+    ensures { OnOk result (string_bytes text.new
+        ≡ string_bytes text.old ++ plane_said name.now found.now) }
+{
+    let Some(place) = found.first else {
+        return writeln!(text, "{name}: no difference");
+    };
+    push_first(text, name, found.count, place)?;
+    push_greatest(text, &found.greatest)
+}
+
+/// Appends how many samples of a plane differ, and which is the first.
+fn push_first(
+    text: &mut String,
+    name: &str,
+    samples: usize,
+    place: (usize, usize),
+) -> Result<(), AllocError>
+    ensures { OnOk result (string_bytes text.new
+        ≡ string_bytes text.old ++ first_said name.now samples place) }
+{
+    let (x, y) = place;
+    write!(
+        text,
+        "{name}: {samples} samples differ; first difference: column {x}, row {y}"
+    )
+}
+
+/// Appends the greatest difference, and the first place that has it.
+fn push_greatest(text: &mut String, greatest: &GreatestDifference) -> Result<(), AllocError>
+    ensures { OnOk result (string_bytes text.new
+        ≡ string_bytes text.old ++ greatest_said greatest.now) }
+{
+    let GreatestDifference { difference, x, y } = *greatest;
+    writeln!(
+        text,
+        "; greatest difference: {difference}, column {x}, row {y}"
+    )
+}
+
+/// Returns whether a chroma plane is there and differs.
+fn chroma_differs(found: &Option<PlaneDifference>) -> bool
+    ensures { (result ≡ false) ↔ IfSome found.now (λ plane. plane.count ≡ 0) }
+{
+    match found {
+        Some(found) => found.count > 0,
+        None => false,
+    }
+}
+
+/// Returns how the command ends: as `compare` does.
+fn status_of(found: &Found) -> Status
+    ensures same { (result ≡ Status.Same) ↔ ShowNoDifference found.now }
+    ensures never { result ≢ Status.Failed }
+{
+    if found.y.count > 0 || chroma_differs(&found.u) || chroma_differs(&found.v) {
+        Status::Different
+    } else {
+        Status::Same
+    }
+}

@@ -1,0 +1,250 @@
+//! What is reported of each two frames, while streams are compared.
+ghost use Rattle.std.specs.Prelude.{◌≡◌, None, option_map, string_bytes, IfSome, IsNone, IsSome, IsTrue, OnOk, is_some};
+ghost use Rattle.std.specs.Int.NonZero.{non_zero_u8_get};
+ghost use Rattle.std.specs.Io.KnownBytes.{Appends};
+ghost use Rattle.v_frame.specs.Prelude.{tables_of};
+ghost use Rattle.v_frame_measures.specs.Prelude.{HaveOneSize, HaveWindows};
+ghost use Rattle.yuv_comparisons.specs.FrameReports.{ReportsFrame, StaysAsked};
+ghost use Rattle.yuv_comparisons.specs.Reports.{difference_said, frame_number, longer_said, report_end, similarities_of, sums_asked, EndsKnown};
+ghost use Rattle.yuv_reports.specs.Frames.{EndsWithFrame};
+ghost use Rattle.yuv_reports.specs.Texts.{EndsWith};
+
+use crate::measures::{Means, Scale, reported};
+use std::alloc::{AllocError, Global};
+use std::io;
+use v_frame::frame::Frame;
+use v_frame::pixel::Pixel;
+use v_frame_measures::{frame_ssim, frames_have_one_size};
+use v_frame_planar::Counted;
+use v_frame_streams::{Comparison, FrameObserver, Place, PlaneSums, StreamError};
+use yuv_reports::{FrameMeasures, Longer, PlaneValues, Report};
+use yuv_system::{no_memory, write_text};
+
+/// Reports each two frames that are compared, and all of them at the end.
+#[derive(Drop)]
+pub(crate) struct FrameReport<W> {
+    out: Counted<W>,
+    report: Report,
+    text: String,
+    scale: Scale,
+    ssim: Option<Means>,
+    alloc: Global,
+    /// How many frames of the first stream stand before the first one that is compared.
+    before: u64,
+    frames: u64,
+    is_begun: bool,
+}
+
+impl<W: io::Write> FrameReport<W> {
+    /// Returns a report of no frame. Structural similarities are measured where there are means for them. A frame has the number
+    /// that it has in the first stream, of which so many frames stand before it.
+    pub(crate) fn new(
+        alloc: Global,
+        out: W,
+        report: Report,
+        scale: Scale,
+        ssim: Option<Means>,
+        before: u64,
+    ) -> Self
+        ensures out { result.out.inner ≡ out }
+        ensures report { result.report ≡ report }
+        ensures scale { result.scale ≡ scale }
+        ensures ssim { result.ssim ≡ ssim }
+        ensures before { result.before ≡ before }
+        ensures frames { result.frames ≡ 0 }
+    {
+        FrameReport {
+            out: Counted::new(out),
+            report,
+            text: String::new(alloc),
+            scale,
+            ssim,
+            alloc,
+            before,
+            frames: 0,
+            is_begun: false,
+        }
+    }
+
+    /// Returns the writer back.
+    pub(crate) fn into_out(self) -> W
+        ensures { result ≡ self.out.inner }
+    {
+        self.out.into_inner()
+    }
+
+    /// Appends what stands before the first frame, once.
+    fn begin(&mut self) -> Result<(), AllocError>
+        ensures out { self.new.out ≡ self.old.out }
+        ensures report { self.new.report ≡ self.old.report }
+        ensures scale { self.new.scale ≡ self.old.scale }
+        ensures ssim { self.new.ssim ≡ self.old.ssim }
+        ensures before { self.new.before ≡ self.old.before }
+        ensures frames { self.new.frames ≡ self.old.frames }
+    {
+        if self.is_begun {
+            return Ok(());
+        }
+        self.is_begun = true;
+        let pixels = self.scale.pixels;
+        let ssim = self.ssim.map(|_| blank(&pixels));
+        let measures = self.scale.measures(&pixels, 1, ssim);
+        self.report.begin(&mut self.text, &measures)
+    }
+
+    /// Writes what is said of all frames.
+    #[tactic(auto, using(crate::proofs::Reporting::ends_known))]
+    pub(crate) fn end(&mut self, found: &Comparison) -> Result<(), StreamError>
+        ensures { OnOk result (EndsKnown (W.contents self.old.out.inner)
+            (W.contents self.new.out.inner)
+            (report_end self.old.report.form self.old.scale.exact self.old.before found.now)) }
+    {
+        match self.push_end(found) {
+            Ok(()) => self.write(),
+            Err(_) => Err(no_memory()),
+        }
+    }
+
+    /// Appends what is said of all frames.
+    fn push_end(&mut self, found: &Comparison) -> Result<(), AllocError>
+        ensures ended { OnOk result (EndsWith
+            (report_end self.old.report.form self.old.scale.exact self.old.before found.now)
+            (string_bytes self.new.text)) }
+        ensures out { self.new.out ≡ self.old.out }
+    {
+        self.begin()?;
+        let ssim = match &self.ssim {
+            Some(means) => means.values(),
+            None => None,
+        };
+        let measures = self.scale.measures(&found.errors, found.frames, ssim);
+        let found = reported_comparison(found, measures, self.before);
+        self.report.end(&mut self.text, &found)
+    }
+
+    /// Appends the next frame.
+    fn push_frame(&mut self, measures: &FrameMeasures) -> Result<(), AllocError>
+        ensures said { OnOk result (IsTrue self.old.report.lists_frames
+            → EndsWithFrame self.old.report.form (frame_number self.old.before self.old.frames)
+            measures.now.sums (string_bytes self.new.text)) }
+        ensures out { self.new.out ≡ self.old.out }
+        ensures form { self.new.report.form ≡ self.old.report.form }
+        ensures lists_frames { self.new.report.lists_frames ≡ self.old.report.lists_frames }
+        ensures scale { self.new.scale ≡ self.old.scale }
+        ensures ssim { self.new.ssim ≡ self.old.ssim }
+        ensures before { self.new.before ≡ self.old.before }
+        ensures frames { self.new.frames ≡ self.old.frames }
+    {
+        self.begin()?;
+        let number = self.before.saturating_add(self.frames);
+        self.report
+            .frame(self.alloc, &mut self.text, number, measures)
+    }
+
+    /// Writes the text, and begins a new one.
+    #[tactic(auto, using(crate::proofs::Reporting::nothing_appended))]
+    fn write(&mut self) -> Result<(), StreamError>
+        ensures written { OnOk result (Appends (W.contents self.old.out.inner)
+            (W.contents self.new.out.inner) (string_bytes self.old.text)) }
+        ensures report { self.new.report ≡ self.old.report }
+        ensures scale { self.new.scale ≡ self.old.scale }
+        ensures ssim { self.new.ssim ≡ self.old.ssim }
+        ensures before { self.new.before ≡ self.old.before }
+        ensures frames { self.new.frames ≡ self.old.frames }
+    {
+        if self.text.is_empty() {
+            return Ok(());
+        }
+        let written = write_text(&mut self.out, self.text.as_str());
+        self.text.clear();
+        written
+    }
+
+    /// Returns the structural similarities of two frames, where they are measured.
+    fn similarities<T: Pixel>(&mut self, first: &Frame<T>, second: &Frame<T>) -> Option<PlaneValues>
+        ensures unasked { IsNone self.old.ssim → result ≡ None }
+        ensures measured { IfSome result (λ values. values ≡ similarities_of T.form
+            (non_zero_u8_get first.now.bit_depth) (tables_of first.now) (tables_of second.now)) }
+        ensures asked { IsSome self.old.ssim
+            → HaveOneSize (tables_of first.now) (tables_of second.now)
+            → HaveWindows (tables_of first.now) → IsSome result }
+        ensures stays { is_some self.new.ssim ≡ is_some self.old.ssim }
+        ensures out { self.new.out ≡ self.old.out }
+        ensures report { self.new.report ≡ self.old.report }
+        ensures scale { self.new.scale ≡ self.old.scale }
+        ensures before { self.new.before ≡ self.old.before }
+        ensures frames { self.new.frames ≡ self.old.frames }
+    {
+        let Some(means) = &mut self.ssim else {
+            return None;
+        };
+        if !frames_have_one_size(first, second) {
+            return None;
+        }
+        let measured = reported(frame_ssim(first, second)?);
+        means.add(&measured);
+        Some(measured)
+    }
+}
+
+impl<T: Pixel, W: io::Write> FrameObserver<T> for FrameReport<W> {
+    ghost takes = { λ old new _ _ errors. ReportsFrame W.contents old new errors };
+
+    fn take(
+        &mut self,
+        first: &Frame<T>,
+        second: &Frame<T>,
+        errors: &PlaneSums,
+    ) -> Result<(), StreamError> {
+        self.frames = self.frames.saturating_add(1);
+        let ssim = self.similarities(first, second);
+        let measures: FrameMeasures = self.scale.measures(errors, 1, ssim);
+        match self.push_frame(&measures) {
+            Ok(()) => self.write(),
+            Err(_) => Err(no_memory()),
+        }
+    }
+}
+
+/// Returns a similarity of no frames, with the planes that there are.
+fn blank(planes: &PlaneSums) -> PlaneValues {
+    PlaneValues {
+        all: 0.0,
+        y: 0.0,
+        u: planes.u.map(|_| 0.0),
+        v: planes.v.map(|_| 0.0),
+    }
+}
+
+/// Returns what was found as a report has it, after so many frames.
+fn reported_comparison(
+    found: &Comparison,
+    measures: FrameMeasures,
+    start: u64,
+) -> yuv_reports::Comparison
+    ensures measures { result.measures ≡ measures }
+    ensures difference { result.difference
+        ≡ option_map (difference_said start) found.now.difference }
+    ensures longer { result.longer ≡ option_map longer_said found.now.longer }
+{
+    yuv_reports::Comparison {
+        frames: found.frames,
+        measures,
+        difference: match found.difference {
+            Some((before, pixel)) => Some(yuv_reports::SampleDifference {
+                frame: start.saturating_add(before).saturating_add(1),
+                plane: pixel.component,
+                x: pixel.x,
+                y: pixel.y,
+                first: pixel.first,
+                second: pixel.second,
+            }),
+            None => None,
+        },
+        longer: match found.longer {
+            Some(Place::First) => Some(Longer::First),
+            Some(_) => Some(Longer::Second),
+            None => None,
+        },
+    }
+}

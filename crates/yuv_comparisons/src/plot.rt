@@ -1,0 +1,257 @@
+//! The command `plot`: how far two streams are apart, frame by frame, as a chart.
+ghost use Rattle.std.specs.Prelude.{◌≡◌, ◌+◌, ◌-◌, ◌^◌, min, unwrap_or};
+ghost use Rattle.yuv_system.specs.Options.{plot_of};
+
+use crate::compare::samples_of;
+use crate::measures::{Scale, reported};
+use std::alloc::{AllocError, Global};
+use std::io::{self, Write};
+use std::rt::Files;
+use std::time::Clock;
+use v_frame::frame::Frame;
+use v_frame::pixel::Pixel;
+use v_frame_chart::{Chart, Series, svg};
+use v_frame_measures::{frame_ssim, frames_have_one_size};
+use v_frame_planar::Counted;
+use v_frame_streams::{
+    CompareOptions, FrameObserver, Place, PlaneSums, Progress, Source, StreamError, compare_streams,
+};
+use yuv_files::SystemFile;
+use yuv_reports::PlaneValues;
+use yuv_system::{
+    Fault, Output, Status, System, begin, expected_frames, no_memory, open_file, taken_of_both,
+    test_compared, write_text,
+};
+use yuv_words::Options;
+
+/// Draws how far two streams are apart.
+///
+/// # Errors
+///
+/// Where a stream can't be read, the streams can't be compared, no frame is, or the chart can't be written.
+pub fn do_plot<H, I, O, E>(
+    system: &mut System<'_, H, I, O, E>,
+    (first, second, to): (&str, &str, &str),
+    options: &Options,
+) -> Result<Status, Fault>
+where
+    H: Files + AllocGlobal + Clock,
+    H::File: SystemFile,
+    I: io::Read + Drop,
+    O: io::Write,
+    E: io::Write,
+{
+    let rt = system.rt;
+    let mut file = open_file(rt, first, Place::First, &mut system.input)?;
+    let len = file.len();
+    let mut one = begin(system, first, &mut file, options.raw)?;
+    let mut other_file = open_file(rt, second, Place::Second, &mut system.input)?;
+    let mut other = begin(system, second, &mut other_file, options.raw_second)?;
+    system.progress.expect(expected_frames(&one, len));
+    let progress = &mut system.progress;
+    let names = (first, second);
+    let text = drawn(rt.alloc(), &mut one, &mut other, options, names, progress)?;
+    let mut output = Output::open(
+        rt,
+        to,
+        &[first, second],
+        &mut system.output,
+        system.progress.out(),
+    )?;
+    let done = write_drawn(&mut output, text.as_str());
+    drop(text);
+    output.settle(rt, done)
+}
+
+/// Writes the chart.
+fn write_drawn<W: Write + Drop>(out: W, text: &str) -> Result<Status, Fault> {
+    let mut out = Counted::new(out);
+    match write_text(&mut out, text) {
+        Ok(()) => Ok(Status::Same),
+        Err(error) => Err(Fault::Stream(error)),
+    }
+}
+
+/// Returns the chart of what is taken of both streams.
+fn drawn<R: io::Read, S: io::Read, P: Progress>(
+    alloc: Global,
+    first: &mut Source<R>,
+    second: &mut Source<S>,
+    options: &Options,
+    names: (&str, &str),
+    progress: &mut P,
+) -> Result<String, Fault> {
+    let mut curves = Curves::new(
+        alloc,
+        first_frame(options),
+        Scale {
+            pixels: samples_of(first.header()),
+            bit_depth: first.header().color.bit_depth(),
+            exact: false,
+        },
+    );
+    let taken = frames_taken(options);
+    let found = compare_streams(alloc, first, second, &taken, &mut curves, progress)?;
+    test_compared(&found, first, second, &taken)?;
+    match curves.chart(alloc, names) {
+        Ok(text) => Ok(text),
+        Err(_) => Err(Fault::Stream(no_memory())),
+    }
+}
+
+/// Returns what is taken of both streams.
+fn frames_taken(options: &Options) -> CompareOptions
+    ensures { result ≡ plot_of options.now }
+{
+    taken_of_both(
+        options.skip,
+        options.skip_second,
+        options.count,
+        options.max_pixels,
+    )
+}
+
+/// Returns the number of the first frame that is taken of the first stream, whose own first is frame 1.
+fn first_frame(options: &Options) -> u64
+    ensures { result ≡ min (unwrap_or options.now.skip 0 + 1) (2 ^ 64 - 1) }
+{
+    options.skip.unwrap_or(0).saturating_add(1)
+}
+
+/// The numbers of each frame, plane by plane.
+#[derive(Drop)]
+struct PlaneCurves {
+    y: Vec<f64>,
+    u: Vec<f64>,
+    v: Vec<f64>,
+}
+
+impl PlaneCurves {
+    /// Has no frame yet.
+    fn new(alloc: Global) -> Self {
+        PlaneCurves {
+            y: Vec::new(alloc),
+            u: Vec::new(alloc),
+            v: Vec::new(alloc),
+        }
+    }
+
+    /// Adds a frame.
+    fn add(&mut self, values: &PlaneValues) -> Result<(), AllocError> {
+        self.y.push(values.y)?;
+        if let Some(u) = values.u {
+            self.u.push(u)?;
+        }
+        if let Some(v) = values.v {
+            self.v.push(v)?;
+        }
+        Ok(())
+    }
+
+    /// Returns the chart of the planes that there are.
+    fn chart<'a>(
+        &'a self,
+        alloc: Global,
+        title: &'a str,
+        unit: &'a str,
+        first: u64,
+    ) -> Result<String, AllocError> {
+        let (y, u, v) = (self.y.as_slice(), self.u.as_slice(), self.v.as_slice());
+        let luma = Series {
+            name: "Y",
+            values: y,
+        };
+        let series = [
+            luma,
+            Series {
+                name: "U",
+                values: u,
+            },
+            Series {
+                name: "V",
+                values: v,
+            },
+        ];
+        let planes = if u.is_empty() { 1 } else { 3 };
+        let chart = Chart {
+            title,
+            unit,
+            first,
+            series: &series[..planes],
+        };
+        svg(alloc, &chart)
+    }
+}
+
+/// What is drawn: ratios, and similarities where frames are large enough.
+#[derive(Drop)]
+struct Curves {
+    first: u64,
+    scale: Scale,
+    psnr: PlaneCurves,
+    ssim: PlaneCurves,
+}
+
+impl Curves {
+    /// Has no frame yet.
+    fn new(alloc: Global, first: u64, scale: Scale) -> Self {
+        Curves {
+            first,
+            scale,
+            psnr: PlaneCurves::new(alloc),
+            ssim: PlaneCurves::new(alloc),
+        }
+    }
+
+    /// Adds two frames.
+    fn add<T: Pixel>(
+        &mut self,
+        first: &Frame<T>,
+        second: &Frame<T>,
+        errors: &PlaneSums,
+    ) -> Result<(), AllocError> {
+        let measures = self.scale.measures(errors, 1, None);
+        self.psnr.add(&measures.psnr)?;
+        if !frames_have_one_size(first, second) {
+            return Ok(());
+        }
+        match frame_ssim(first, second) {
+            Some(ssim) => self.ssim.add(&reported(ssim)),
+            None => Ok(()),
+        }
+    }
+
+    /// Returns the charts, one above the other.
+    fn chart(&self, alloc: Global, (first, second): (&str, &str)) -> Result<String, AllocError> {
+        let title = format!(in alloc; "{first} and {second}")?;
+        let psnr = self
+            .psnr
+            .chart(alloc, title.as_str(), "PSNR (dB)", self.first)?;
+        if self.ssim.y.is_empty() {
+            return Ok(psnr);
+        }
+        let ssim = self.ssim.chart(alloc, title.as_str(), "SSIM", self.first)?;
+        let mut text = String::new(alloc);
+        text.push_str("<svg xmlns=\"http://www.w3.org/2000/svg\" width=\"960\" height=\"840\" ")?;
+        text.push_str("viewBox=\"0 0 960 840\">\n")?;
+        text.push_str(psnr.as_str())?;
+        text.push_str("<g transform=\"translate(0 420)\">\n")?;
+        text.push_str(ssim.as_str())?;
+        text.push_str("</g>\n</svg>\n")?;
+        Ok(text)
+    }
+}
+
+impl<T: Pixel> FrameObserver<T> for Curves {
+    fn take(
+        &mut self,
+        first: &Frame<T>,
+        second: &Frame<T>,
+        errors: &PlaneSums,
+    ) -> Result<(), StreamError> {
+        match self.add(first, second, errors) {
+            Ok(()) => Ok(()),
+            Err(_) => Err(no_memory()),
+        }
+    }
+}

@@ -1,0 +1,8 @@
+-- How many values so far are outside.
+use Rattle.std.proofs.Common.{◌≡◌, ◌-◌, ◌^◌, min, take}
+use Rattle.yuv_facts.specs.Statistics.{outside_from}
+use Rattle.yuv_facts.proofs.statistics.outside.Given as goal
+
+abbrev pub invariant-loop-value : goal.invariant-loop-value
+invariant-loop-value l =
+    l.outside ≡ min (outside_from l.range.least l.range.greatest 0 (take l.value l.counts)) (2 ^ 64 - 1)

@@ -1,0 +1,18 @@
+-- The frames so far were read, and their values were counted.
+use Rattle.std.proofs.Common.{◌≡◌, ◌^◌}
+use Rattle.v_frame.specs.Prelude.{tables_of}
+use Rattle.v_frame_planar.specs.Planar.{sizes_of}
+use Rattle.yuv_facts.proofs.Counting.{CountsSoFar}
+use Rattle.v_frame_streams.specs.Pictures.{IsMadeFor}
+use Rattle.v_frame_streams.specs.Sources.{bytes_left, stream_of}
+use Rattle.yuv_facts.proofs.stats.count_frames.Given as goal
+
+abbrev pub invariant-loop-count : goal.invariant-loop-count
+invariant-loop-count g l = record {
+  made : IsMadeFor g.T.Pixel.form l.source l.picture;
+  sized : sizes_of (tables_of l.picture.frame) ≡ sizes_of (tables_of l.fn.picture.frame);
+  same : stream_of l.source ≡ stream_of l.fn.source;
+  counted : CountsSoFar g.T.Pixel.form (256 ^ g.T.Pixel.BYTES) l.fn.source.container l.fn.source.frame_len
+      l.fn.source.layout (sizes_of (tables_of l.fn.picture.frame)) (bytes_left g.R.Read.remaining l.fn.source)
+      (bytes_left g.R.Read.remaining l.source) l.count l.counts;
+}

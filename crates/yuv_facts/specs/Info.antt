@@ -1,0 +1,28 @@
+-- What `info` reports of the frames.
+use Rattle.std.specs.Prelude.{ℕ, ◌-◌, ◌^◌, ◌∷◌, ◌++◌, [], List, Option, codes, decimal}
+use Rattle.std.specs.Io.KnownBytes.{Appends}
+use Rattle.v_frame_y4m.specs.declared.header.StreamHeader.{StreamHeader}
+use Rattle.yuv_facts.specs.Facts.{stream_facts}
+use Rattle.yuv_reports.specs.Texts.{BeginsWith}
+use Rattle.v_frame_streams.specs.Prelude.{CountsFrames}
+use Rattle.v_frame_streams.specs.declared.stream.Container.{Container}
+
+-- the line of a count
+abbrev pub count_line : ℕ → List ℕ
+count_line frames = codes "frames: " ++ (decimal frames ++ (10 ∷ []))
+
+-- all frames were counted, and their count was reported
+pub record ReportsFrames (from : Container) (count : ℕ) (left left' has has' : Option (List ℕ))
+    : Type 0 where
+  pub found : ℕ
+  pub counted : CountsFrames left left' from count (2 ^ 64 - 1) found
+  pub text : List ℕ
+  pub says : BeginsWith (count_line found) text
+  pub written : Appends has has' text
+
+-- the facts of the stream were reported first
+pub record ReportsStream (from : Container) (header : StreamHeader) (count : ℕ) (len : Option ℕ)
+    (left left' has has' : Option (List ℕ)) : Type 0 where
+  pub mid : Option (List ℕ)
+  pub facts : Appends has mid (stream_facts header count len)
+  pub frames : ReportsFrames from count left left' mid has'

@@ -1,0 +1,116 @@
+//! The command `info`: what a stream is, and how many frames it has.
+ghost use Rattle.std.specs.Prelude.{◌≡◌, false, true, IfOk, IsOk, OnOk};
+ghost use Rattle.std.specs.Io.KnownBytes.{Appends};
+ghost use Rattle.yuv_facts.specs.Facts.{stream_facts};
+ghost use Rattle.yuv_facts.specs.Info.{ReportsFrames, ReportsStream};
+ghost use Rattle.v_frame_streams.specs.Prelude.{bytes_left};
+
+mod text;
+
+use std::alloc::Global;
+use std::io;
+use std::rt::Files;
+use std::time::Clock;
+use text::{format_text, frames_text};
+use v_frame_planar::Counted;
+use v_frame_streams::{Place, Source, StreamError, skip_frames};
+use yuv_system::{
+    Fault, ProgressLine, Status, System, begin, expected_frames, open_file, test_limit, write_made,
+};
+use yuv_words::Options;
+
+/// Reports what a stream is. Where a frame can't be read, what is known so far is reported before the fault.
+///
+/// # Errors
+///
+/// Where the stream can't be read, or the report can't be written.
+pub fn do_info<H, I, O, E>(
+    system: &mut System<'_, H, I, O, E>,
+    name: &str,
+    options: &Options,
+) -> Result<Status, Fault>
+where
+    H: Files + AllocGlobal + Clock,
+    I: io::Read + Drop,
+    O: io::Write,
+    E: io::Write,
+{
+    let alloc = system.rt.alloc();
+    let mut file = open_file(system.rt, name, Place::First, &mut system.input)?;
+    let len = file.len();
+    let mut source = begin(system, name, &mut file, options.raw)?;
+    test_limit(source.header(), Place::First, options.max_pixels)?;
+    let mut out = Counted::new(&mut system.output);
+    report_stream(
+        alloc,
+        &mut source,
+        options,
+        &mut out,
+        &mut system.progress,
+        len,
+    )?;
+    Ok(Status::Same)
+}
+
+/// Reports what is known of a stream in a file of this length, where that is known, and then how many frames it has.
+fn report_stream<R: io::Read, W: io::Write, H: Clock, E: io::Write>(
+    alloc: Global,
+    source: &mut Source<R>,
+    options: &Options,
+    out: &mut Counted<W>,
+    progress: &mut ProgressLine<'_, H, E>,
+    len: Option<u64>,
+) -> Result<(), StreamError>
+    ensures unread { options.now.header ≡ true → source.new ≡ source.old }
+    ensures header { options.now.header ≡ true → OnOk result (Appends
+        (W.contents out.old.inner) (W.contents out.new.inner)
+        (stream_facts source.old.header source.old.frame_len len)) }
+    ensures counted { options.now.header ≡ false → OnOk result (ReportsStream source.old.container
+        source.old.header source.old.frame_len len (bytes_left R.remaining source.old)
+        (bytes_left R.remaining source.new) (W.contents out.old.inner)
+        (W.contents out.new.inner)) }
+{
+    let text = format_text(alloc, source.header(), source.frame_len(), len);
+    write_made(out, text)?;
+    report_frames(alloc, source, options, out, progress, len)
+}
+
+/// Counts the frames of a stream in a file of this length, where that is known, and reports the count. With `--header` nothing
+/// is read or reported.
+fn report_frames<R: io::Read, W: io::Write, H: Clock, E: io::Write>(
+    alloc: Global,
+    source: &mut Source<R>,
+    options: &Options,
+    out: &mut Counted<W>,
+    progress: &mut ProgressLine<'_, H, E>,
+    len: Option<u64>,
+) -> Result<(), StreamError>
+    ensures done { options.now.header ≡ true → IsOk result }
+    ensures unread { options.now.header ≡ true → source.new ≡ source.old }
+    ensures unsaid { options.now.header ≡ true → out.new ≡ out.old }
+    ensures counted { options.now.header ≡ false → OnOk result (ReportsFrames
+        source.old.container source.old.frame_len (bytes_left R.remaining source.old)
+        (bytes_left R.remaining source.new) (W.contents out.old.inner)
+        (W.contents out.new.inner)) }
+{
+    if options.header {
+        return Ok(());
+    }
+    progress.expect(expected_frames(source, len));
+    let counted = skip_frames(source, u64::MAX, progress);
+    let frames = frames_counted(&counted, source);
+    progress.end();
+    write_made(out, frames_text(alloc, source.header(), frames))?;
+    counted?;
+    Ok(())
+}
+
+/// Returns how many frames were counted: those in front of the one that can't be read, where there is one.
+fn frames_counted<R: io::Read>(counted: &Result<u64, StreamError>, source: &Source<R>) -> u64
+    ensures { IfOk counted.now (λ found. result ≡ found) }
+{
+    match counted {
+        Ok(found) => *found,
+        Err(_) => source.frames(),
+    }
+}

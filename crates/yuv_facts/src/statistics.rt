@@ -1,0 +1,166 @@
+//! What is said of a plane, of whose values it is known how often they occur.
+ghost use Rattle.std.specs.Prelude.{◌≡◌, ◌-◌, ◌^◌, ◌<◌, ◌≤◌, ◌||◌, ℕ, if◌then◌else◌, length, min, nat_lt, slice_index, IfSome, IsNone, OnOk, string_bytes};
+ghost use Rattle.yuv_facts.specs.Statistics.{nominal_at, outside_from, AppendsChroma, AppendsPlane, Describes, HasNoValue};
+
+use crate::value_counts::ValueCounts;
+use std::alloc::{AllocError, Global};
+use std::num::nearest_u64_to_f64;
+use v_frame_formats::Component;
+use yuv_reports::{SampleStatistics, push_statistics};
+
+/// The range that samples have where nothing is out of the ordinary.
+#[derive(Clone, Copy)]
+pub(crate) struct NominalRange {
+    pub(crate) least: u16,
+    pub(crate) greatest: u16,
+}
+
+impl NominalRange {
+    /// Returns the range at a depth of what is one in 8 bits, as ITU-R BT.601 and BT.709 have it.
+    pub(crate) fn new(least: u8, greatest: u8, depth: u8) -> Self
+        ensures least { result.least ≡ nominal_at depth least }
+        ensures greatest { result.greatest ≡ nominal_at depth greatest }
+    {
+        NominalRange {
+            least: nominal(least, depth),
+            greatest: nominal(greatest, depth),
+        }
+    }
+
+    /// Returns how often a value occurs, where it is outside of the range, and else 0.
+    fn count_outside(self, value: usize, count: u64) -> u64
+        ensures { result ≡ (if nat_lt value self.least || nat_lt self.greatest value then count
+            else 0) }
+    {
+        if value < usize::from(self.least) || value > usize::from(self.greatest) {
+            count
+        } else {
+            0
+        }
+    }
+}
+
+/// Returns the value that stands at a depth for one of 8 bits.
+fn nominal(value: u8, depth: u8) -> u16
+    ensures { result ≡ nominal_at depth value }
+{
+    u16::from(value) << depth.saturating_sub(8).min(8)
+}
+
+/// Appends the line of a plane, where a value occurs.
+pub(crate) fn push_plane(
+    alloc: Global,
+    text: &mut String,
+    plane: Component,
+    counts: &ValueCounts,
+    range: NominalRange,
+) -> Result<(), AllocError>
+    ensures { OnOk result (AppendsPlane plane counts.now.counts.items range.least range.greatest
+        (string_bytes text.old) (string_bytes text.new)) }
+{
+    match described(plane, counts.counts(), range) {
+        Some(said) => push_statistics(alloc, text, &said),
+        None => Ok(()),
+    }
+}
+
+/// Appends the line of a chroma plane, where it is there.
+pub(crate) fn push_chroma_plane(
+    alloc: Global,
+    text: &mut String,
+    plane: Component,
+    counts: &Option<ValueCounts>,
+    range: NominalRange,
+) -> Result<(), AllocError>
+    ensures { OnOk result (AppendsChroma plane counts.now range.least range.greatest
+        (string_bytes text.old) (string_bytes text.new)) }
+{
+    match counts {
+        Some(counts) => push_plane(alloc, text, plane, counts, range),
+        None => Ok(()),
+    }
+}
+
+/// Returns what is said of a plane with these counts. `None` where no value occurs.
+fn described(plane: Component, counts: &[u64], range: NominalRange) -> Option<SampleStatistics>
+    requires { length counts.now ≤ 2 ^ 16 }
+    ensures said { IfSome result (Describes plane counts.now range.least range.greatest) }
+    ensures none { IsNone result → HasNoValue counts.now }
+{
+    let minimum = minimum(counts)?;
+    let maximum = maximum(counts)?;
+    Some(SampleStatistics {
+        plane,
+        minimum,
+        maximum,
+        mean: mean(counts),
+        outside: outside(counts, range),
+    })
+}
+
+/// Returns the least value that occurs.
+fn minimum(counts: &[u64]) -> Option<u16>
+    requires { length counts.now ≤ 2 ^ 16 }
+    ensures occurs { IfSome result (λ least. 0 < slice_index counts.now least) }
+    ensures least { IfSome result (λ least. (value : ℕ) → value < least
+        → slice_index counts.now value ≡ 0) }
+    ensures none { IsNone result → HasNoValue counts.now }
+{
+    for value in 0..counts.len() {
+        if counts[value] > 0 {
+            return Some(value as u16);
+        }
+    }
+    None
+}
+
+/// Returns the greatest value that occurs.
+fn maximum(counts: &[u64]) -> Option<u16>
+    requires { length counts.now ≤ 2 ^ 16 }
+    ensures occurs { IfSome result (λ greatest. 0 < slice_index counts.now greatest) }
+    ensures greatest { IfSome result (λ greatest. (value : ℕ) → greatest < value
+        → slice_index counts.now value ≡ 0) }
+    ensures none { IsNone result → HasNoValue counts.now }
+{
+    for value in (0..counts.len()).rev() {
+        if counts[value] > 0 {
+            return Some(value as u16);
+        }
+    }
+    None
+}
+
+/// Returns the mean of the values. 0 where there is none.
+fn mean(counts: &[u64]) -> f64 {
+    let (mut sum, mut all) = (0u128, 0u64);
+    for value in 0..counts.len() {
+        let count = counts[value];
+        sum = sum.saturating_add(u128::from(count) * value as u128);
+        all = all.saturating_add(count);
+    }
+    if all == 0 {
+        return 0.0;
+    }
+    quotient(sum, all)
+}
+
+/// Returns how many values are outside of a range. It is `u64::MAX` where there are more.
+fn outside(counts: &[u64], range: NominalRange) -> u64
+    ensures { result ≡ min (outside_from range.least range.greatest 0 counts.now) (2 ^ 64 - 1) }
+{
+    let mut outside = 0u64;
+    for value in 0..counts.len() {
+        outside = outside.saturating_add(range.count_outside(value, counts[value]));
+    }
+    outside
+}
+
+/// Returns a sum over a count, whose whole part is exact.
+fn quotient(sum: u128, count: u64) -> f64
+    requires { 0 < count }
+{
+    let count = u128::from(count);
+    let (whole, rest) = (sum / count, sum % count);
+    let (whole, rest) = (whole.min(u128::from(u64::MAX)) as u64, rest as u64);
+    nearest_u64_to_f64(whole) + nearest_u64_to_f64(rest) / nearest_u64_to_f64(count as u64)
+}

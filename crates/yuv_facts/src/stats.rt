@@ -1,0 +1,278 @@
+//! The command `stats`: what values the samples of a stream have.
+ghost use Rattle.std.specs.Prelude.{◌≡◌, ◌≢◌, ◌<◌, ◌^◌, ◌++◌, is_some, option_map, string_bytes, unwrap_or, IfOk, OnOk};
+ghost use Rattle.v_frame.specs.Prelude.{one_byte, table_of, tables_of, two_bytes};
+ghost use Rattle.v_frame_y4m.specs.Color.{depth_of};
+ghost use Rattle.v_frame_planar.specs.Planar.{sizes_of};
+ghost use Rattle.yuv_system.specs.Nothing.{nothing_of};
+ghost use Rattle.yuv_facts.specs.Statistics.{ReportsValues, SaysCounts, SaysPlanes};
+ghost use Rattle.yuv_facts.specs.Values.{histogram_said, rows_of_chroma, CountsChroma, CountsFrame, CountsFrom, CountsNothing, CountsStream};
+ghost use Rattle.v_frame_streams.specs.Prelude.{bytes_left, sizes_in, IsMadeFor};
+
+use crate::statistics::{NominalRange, push_chroma_plane, push_plane};
+use crate::value_counts::ValueCounts;
+use crate::values::CountedPixel;
+use std::alloc::{AllocError, Global};
+use std::io;
+use std::rt::Files;
+use std::time::Clock;
+use v_frame::frame::Frame;
+use v_frame::plane::Plane;
+use v_frame_formats::Component;
+use v_frame_planar::Counted;
+use v_frame_streams::{Picture, Place, Progress, Silent, Source, StreamError, skip_frames};
+use yuv_files::{shown_name, write_message};
+use yuv_reports::push_histogram;
+use yuv_system::{
+    Fault, NothingTaken, ProgressLine, Status, System, begin, expected_frames, most_pixels,
+    no_memory, open_file, write_made,
+};
+use yuv_words::Options;
+
+/// Reports what values the samples of each plane have, over all frames.
+///
+/// # Errors
+///
+/// Where the stream can't be read, or the report can't be written.
+pub fn do_stats<H, I, O, E>(
+    system: &mut System<'_, H, I, O, E>,
+    name: &str,
+    options: &Options,
+) -> Result<Status, Fault>
+where
+    H: Files + AllocGlobal + Clock,
+    I: io::Read + Drop,
+    O: io::Write,
+    E: io::Write,
+{
+    let alloc = system.rt.alloc();
+    let mut file = open_file(system.rt, name, Place::First, &mut system.input)?;
+    let len = file.len();
+    let mut source = begin(system, name, &mut file, options.raw)?;
+    system.progress.expect(expected_frames(&source, len));
+    let mut out = Counted::new(&mut system.output);
+    let progress = &mut system.progress;
+    let found = report_values(alloc, &mut source, options, &mut out, progress)?;
+    if let Some(nothing) = nothing_counted(options, found, source.frames()) {
+        write_message(system.progress.out(), Some(shown_name(name)), &nothing);
+    }
+    Ok(Status::Same)
+}
+
+/// Returns why no frame was counted, where so many of a stream of so many are none.
+fn nothing_counted(options: &Options, counted: u64, frames: u64) -> Option<NothingTaken>
+    ensures { result ≡ nothing_of counted frames (unwrap_or options.now.skip 0) options.now.count }
+{
+    NothingTaken::of(counted, frames, options.skip.unwrap_or(0), options.count)
+}
+
+/// Writes what values the samples of a stream have, and returns of how many frames.
+fn report_values<R: io::Read, W: io::Write, H: Clock, E: io::Write>(
+    alloc: Global,
+    source: &mut Source<R>,
+    options: &Options,
+    out: &mut Counted<W>,
+    progress: &mut ProgressLine<'_, H, E>,
+) -> Result<u64, StreamError>
+    ensures bytes { depth_of source.old.header.color ≡ 8 → IfOk result (ReportsValues one_byte
+        (256 ^ 1) source.old.container source.old.frame_len source.old.layout
+        (sizes_in source.old.header) (bytes_left R.remaining source.old)
+        (bytes_left R.remaining source.new) (W.contents out.old.inner) (W.contents out.new.inner)
+        options.now (depth_of source.old.header.color)) }
+    ensures words { depth_of source.old.header.color ≢ 8 → IfOk result (ReportsValues two_bytes
+        (256 ^ 2) source.old.container source.old.frame_len source.old.layout
+        (sizes_in source.old.header) (bytes_left R.remaining source.old)
+        (bytes_left R.remaining source.new) (W.contents out.old.inner) (W.contents out.new.inner)
+        options.now (depth_of source.old.header.color)) }
+{
+    if source.header().color.bit_depth() == 8 {
+        report_pixels::<u8, _, _, _, _>(alloc, source, options, out, progress)
+    } else {
+        report_pixels::<u16, _, _, _, _>(alloc, source, options, out, progress)
+    }
+}
+
+/// The same of pixels of a type.
+fn report_pixels<T: CountedPixel, R: io::Read, W: io::Write, H: Clock, E: io::Write>(
+    alloc: Global,
+    source: &mut Source<R>,
+    options: &Options,
+    out: &mut Counted<W>,
+    progress: &mut ProgressLine<'_, H, E>,
+) -> Result<u64, StreamError>
+    ensures { IfOk result (ReportsValues T.form (256 ^ T.BYTES) source.old.container
+        source.old.frame_len source.old.layout (sizes_in source.old.header)
+        (bytes_left R.remaining source.old) (bytes_left R.remaining source.new)
+        (W.contents out.old.inner) (W.contents out.new.inner) options.now
+        (depth_of source.old.header.color)) }
+{
+    let depth = source.header().color.bit_depth();
+    let (counts, found) = count_values::<T, _, _>(alloc, source, options, progress)?;
+    let text = report_text(alloc, &counts, options.histogram, depth);
+    drop(counts);
+    progress.end();
+    write_made(out, text)?;
+    Ok(found)
+}
+
+/// How often each value occurs in each plane.
+#[derive(Drop)]
+struct Counts {
+    y: ValueCounts,
+    u: Option<ValueCounts>,
+    v: Option<ValueCounts>,
+}
+
+/// Counts the values of the frames that are asked for, and these.
+fn count_values<T: CountedPixel, R: io::Read, P: Progress>(
+    alloc: Global,
+    source: &mut Source<R>,
+    options: &Options,
+    progress: &mut P,
+) -> Result<(Counts, u64), StreamError>
+    ensures { IfOk result (λ done. CountsFrom T.form (256 ^ T.BYTES) source.old.container
+        source.old.frame_len source.old.layout (sizes_in source.old.header)
+        (bytes_left R.remaining source.old) (bytes_left R.remaining source.new)
+        options.now done.1 done.0) }
+{
+    let mut picture = Picture::<T>::new(alloc, source, most_pixels(options.max_pixels))?;
+    skip_frames(source, options.skip.unwrap_or(0), &mut Silent)?;
+    let has_chroma = picture.frame().u_plane.is_some();
+    let Ok(mut counts) = Counts::new(alloc, has_chroma) else {
+        return Err(no_memory());
+    };
+    let most = options.count.unwrap_or(u64::MAX);
+    let found = count_frames(alloc, source, &mut picture, most, &mut counts, progress)?;
+    Ok((counts, found))
+}
+
+/// Adds the values of so many frames to counts of nothing, or those of all that are left where they are fewer.
+fn count_frames<T: CountedPixel, R: io::Read, P: Progress>(
+    alloc: Global,
+    source: &mut Source<R>,
+    picture: &mut Picture<T>,
+    most: u64,
+    counts: &mut Counts,
+    progress: &mut P,
+) -> Result<u64, StreamError>
+    requires made { IsMadeFor T.form source.old picture.old }
+    requires nothing { CountsNothing (is_some (sizes_of (tables_of picture.old.frame)).1.0)
+        counts.old }
+    ensures { IfOk result (λ found. CountsStream T.form (256 ^ T.BYTES) source.old.container
+        source.old.frame_len source.old.layout (sizes_of (tables_of picture.old.frame))
+        (bytes_left R.remaining source.old) (bytes_left R.remaining source.new) most found
+        counts.new) }
+{
+    for count in 0..most {
+        if !picture.read(source)? {
+            return Ok(count);
+        }
+        if counts.add(alloc, picture.frame()).is_err() {
+            return Err(no_memory());
+        }
+        progress.show(count + 1);
+    }
+    Ok(most)
+}
+
+impl Counts {
+    /// Counts nothing yet.
+    fn new(alloc: Global, has_chroma: bool) -> Result<Self, AllocError>
+        ensures { IfOk result (CountsNothing has_chroma) }
+    {
+        let y = ValueCounts::new(alloc)?;
+        if !has_chroma {
+            return Ok(Counts {
+                y,
+                u: None,
+                v: None,
+            });
+        }
+        let u = ValueCounts::new(alloc)?;
+        let v = ValueCounts::new(alloc)?;
+        Ok(Counts {
+            y,
+            u: Some(u),
+            v: Some(v),
+        })
+    }
+
+    /// Adds the values of a frame.
+    fn add<T: CountedPixel>(&mut self, alloc: Global, frame: &Frame<T>) -> Result<(), AllocError>
+        ensures { OnOk result (CountsFrame T.form (256 ^ T.BYTES) (tables_of frame.now) self.old
+            self.new) }
+    {
+        T::add_counts(alloc, &frame.y_plane.as_plane_ref(), &mut self.y)?;
+        add_chroma(alloc, &frame.u_plane, &mut self.u)?;
+        add_chroma(alloc, &frame.v_plane, &mut self.v)
+    }
+}
+
+/// Adds the values of a chroma plane, where it is there.
+fn add_chroma<T: CountedPixel>(
+    alloc: Global,
+    plane: &Option<Plane<T>>,
+    counts: &mut Option<ValueCounts>,
+) -> Result<(), AllocError>
+    ensures { OnOk result (CountsChroma T.form (256 ^ T.BYTES) (option_map table_of plane.now)
+        counts.old counts.new) }
+{
+    match (plane, counts) {
+        (Some(plane), Some(counts)) => T::add_counts(alloc, &plane.as_plane_ref(), counts),
+        _ => Ok(()),
+    }
+}
+
+/// Returns what is asked for: a histogram, or a line for each plane.
+fn report_text(
+    alloc: Global,
+    counts: &Counts,
+    histogram: bool,
+    depth: u8,
+) -> Result<String, AllocError>
+    ensures { IfOk result (λ text. SaysCounts histogram depth counts.now (string_bytes text)) }
+{
+    if histogram {
+        return histogram_text(alloc, counts);
+    }
+    statistics_text(alloc, counts, depth)
+}
+
+/// Returns a row for each value that occurs.
+fn histogram_text(alloc: Global, counts: &Counts) -> Result<String, AllocError>
+    ensures { IfOk result (λ text. string_bytes text ≡ histogram_said counts.now) }
+{
+    let mut text = String::new(alloc);
+    text.push_str("plane,value,count\n")?;
+    push_histogram(&mut text, Component::Y, counts.y.counts())?;
+    push_chroma(&mut text, Component::U, &counts.u)?;
+    push_chroma(&mut text, Component::V, &counts.v)?;
+    Ok(text)
+}
+
+/// Appends the rows of a chroma plane, where it is there.
+fn push_chroma(
+    text: &mut String,
+    plane: Component,
+    counts: &Option<ValueCounts>,
+) -> Result<(), AllocError>
+    ensures { OnOk result (string_bytes text.new
+        ≡ string_bytes text.old ++ rows_of_chroma plane counts.now) }
+{
+    match counts {
+        Some(counts) => push_histogram(text, plane, counts.counts()),
+        None => Ok(()),
+    }
+}
+
+/// Returns a line for each plane.
+fn statistics_text(alloc: Global, counts: &Counts, depth: u8) -> Result<String, AllocError>
+    ensures { IfOk result (λ text. SaysPlanes depth counts.now (string_bytes text)) }
+{
+    let mut text = String::new(alloc);
+    let luma = NominalRange::new(16, 235, depth);
+    let chroma = NominalRange::new(16, 240, depth);
+    push_plane(alloc, &mut text, Component::Y, &counts.y, luma)?;
+    push_chroma_plane(alloc, &mut text, Component::U, &counts.u, chroma)?;
+    push_chroma_plane(alloc, &mut text, Component::V, &counts.v, chroma)?;
+    Ok(text)
+}

@@ -1,0 +1,60 @@
+-- What is read: a stream with a header line, or raw video as the options say.
+use Rattle.std.specs.Prelude.{ℕ, ◌≡◌, ◌/◌, if◌then◌else◌, nat_lt, List, [], Option, Some, None, IfSome}
+use Rattle.std.specs.Borrow.{MutBor}
+use Rattle.v_frame_y4m.specs.declared.header.StreamHeader.{StreamHeader}
+use Rattle.v_frame_streams.specs.Conversions.{layout_in}
+use Rattle.v_frame_streams.specs.Sources.{bytes_left, IsOpened}
+use Rattle.v_frame_streams.specs.Streams.{ReadsHeaderLine}
+use Rattle.v_frame_streams.specs.declared.source.Source.{Source}
+use Rattle.v_frame_streams.specs.declared.stream.Container.{Container}
+use Rattle.v_frame_streams.specs.declared.stream.Container.TheVariants.{Raw, Y4m}
+use Rattle.yuv_system.specs.InputFiles.{BeginsAsAStream}
+use Rattle.yuv_system.specs.declared.input_file.InputFile.{InputFile}
+use Rattle.v_frame_formats.specs.Formats.{format_color}
+use Rattle.yuv_words.specs.declared.command.RawVideo.{RawVideo}
+
+-- the header that raw video of this size and format would have
+abbrev pub header_of_raw : RawVideo → StreamHeader
+header_of_raw video =
+    record {
+      width = video.width;
+      height = video.height;
+      frame_rate = video.rate;
+      interlacing = None;
+      pixel_aspect = None;
+      color = format_color video.format;
+      extensions = [];
+    }
+
+-- a stream of this file was opened, of which no frame was read yet
+module _ {F I : Type 0} (remaining : InputFile F I → Option (List ℕ)) (file : InputFile F I) where
+  -- it begins as a stream does, and its header line was read and says the header
+  abbrev pub OpensAsY4m : Source (MutBor (InputFile F I)) → Type 0
+  OpensAsY4m source =
+      IsOpened file.place Y4m source
+      × IfSome (remaining file) BeginsAsAStream
+      × ReadsHeaderLine (remaining file) (bytes_left (λ lent. remaining lent.now) source) source.header
+      source.is_lax
+
+  -- it is headerless video of this size and format, all of whose bytes are left
+  abbrev pub OpensAsRaw : RawVideo → Source (MutBor (InputFile F I)) → Type 0
+  OpensAsRaw video source =
+      IsOpened file.place Raw source
+      × (source.header ≡ header_of_raw video) × (source.layout ≡ layout_in (Some video.format))
+      × (bytes_left (λ lent. remaining lent.now) source ≡ remaining file)
+
+-- a stream was opened as the option `--raw` says
+abbrev pub OpensAs : {F I : Type 0} → (InputFile F I → Option (List ℕ)) → Option RawVideo
+    → InputFile F I → Source (MutBor (InputFile F I)) → Type 0
+OpensAs remaining None file source = OpensAsY4m remaining file source
+OpensAs remaining (Some video) file source = OpensAsRaw remaining file video source
+
+-- how many bytes the shortest line in front of a frame has
+abbrev pub shortest_line : Container → ℕ
+shortest_line Y4m = 6
+shortest_line Raw = 0
+
+-- how many frames of so many bytes a file of this length has
+abbrev pub expected_of : ℕ → Option ℕ → Option ℕ
+expected_of size None = None
+expected_of size (Some len) = if nat_lt 0 size then Some (len / size) else None

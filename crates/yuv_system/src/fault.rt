@@ -1,0 +1,143 @@
+//! Why a command gave up.
+ghost use Rattle.std.specs.Prelude.{◌≡◌};
+ghost use Rattle.yuv_system.specs.Faults.{place_of};
+
+use crate::nothing::NothingTaken;
+use std::{fmt, io};
+use v_frame_png::PngError;
+use v_frame_streams::{Place, Problem, StreamError};
+use v_frame_y4m::{HeaderError, Y4mError};
+use yuv_pictures::PictureError;
+
+/// Why a command gave up.
+#[derive(Drop)]
+pub enum Fault {
+    /// The file of that place can't be opened for reading.
+    Open(Place, io::ErrorKind),
+    /// Standard input is read already.
+    InputTwice(Place),
+    /// The file of that place is read, and written to while it is.
+    ReadAndWritten(Place),
+    /// The file of that place does not begin as a stream does.
+    NotAStream(Place),
+    /// The file of that place has no byte, or is a stream that was closed.
+    NoBytes(Place),
+    /// The samples of U and V of that place are by turns, so that no plane has bytes of its own.
+    NoPlanes(Place),
+    /// The header of a stream was not read.
+    Header(StreamError),
+    /// A stream, or what is reported, was not read or not written.
+    Stream(StreamError),
+    /// What is reported of a file that was written was not written to standard output.
+    Report(StreamError),
+    /// The file that is written can't be created.
+    Create(io::ErrorKind),
+    /// What was written can't be put in its place.
+    Replace(io::ErrorKind),
+    /// The picture was not written.
+    Picture(PictureError),
+    /// No frame of the stream of that place was taken.
+    Nothing(Place, NothingTaken),
+    /// The stream of that place has only so many frames, and a later one is asked for.
+    NoFrame(Place, u64),
+    /// Frames are counted from 1.
+    FrameZero,
+    /// A plane of the stream of that place is smaller than a window of structural similarity.
+    NoWindow(Place),
+}
+
+impl Fault {
+    /// Returns which file the fault is about. `None` where it is about none.
+    pub fn place(&self) -> Option<Place>
+        ensures { result ≡ place_of self.now }
+    {
+        match self {
+            Fault::Open(place, _)
+            | Fault::InputTwice(place)
+            | Fault::ReadAndWritten(place)
+            | Fault::NotAStream(place)
+            | Fault::NoBytes(place)
+            | Fault::NoPlanes(place)
+            | Fault::Nothing(place, _)
+            | Fault::NoFrame(place, _)
+            | Fault::NoWindow(place) => Some(*place),
+            Fault::Header(error) | Fault::Stream(error) | Fault::Report(error) => {
+                Some(error.place)
+            }
+            Fault::Create(_) | Fault::Replace(_) | Fault::Picture(_) => Some(Place::Output),
+            Fault::FrameZero => None,
+        }
+    }
+}
+
+impl From<StreamError> for Fault {
+    fn from(error: StreamError) -> Self {
+        Fault::Stream(error)
+    }
+}
+
+impl From<PictureError> for Fault {
+    fn from(error: PictureError) -> Self {
+        Fault::Picture(error)
+    }
+}
+
+// By hand: what is derived of so many variants takes longer to prove than a command.
+impl fmt::Display for Fault {
+    fn fmt<W: fmt::Write>(&self, f: &mut fmt::Formatter<W>) -> fmt::Result {
+        match self {
+            Fault::Open(_, cause) => write!(f, "cannot open: {cause}"),
+            Fault::InputTwice(_) => f.write_str("standard input can be read only once"),
+            Fault::ReadAndWritten(_) => f.write_str("cannot be read and written at once"),
+            Fault::NotAStream(_) => fmt::Display::fmt(&HeaderError::NotAStream, f),
+            Fault::NoBytes(_) => f.write_str("nothing to read: it is empty or closed"),
+            Fault::NoPlanes(_) => f.write_str("--planes needs video in planes"),
+            Fault::Header(error) => write_caused(f, error),
+            Fault::Stream(error) | Fault::Report(error) => write_stream_error(f, error),
+            Fault::Create(cause) => write!(f, "cannot create: {cause}"),
+            Fault::Replace(cause) => write!(f, "cannot replace: {cause}"),
+            Fault::Picture(PictureError::Png(PngError::Write(error))) => {
+                let cause = error.kind();
+                write!(f, "write failed: {cause}")
+            }
+            Fault::Picture(error) => fmt::Display::fmt(error, f),
+            Fault::Nothing(_, nothing) => fmt::Display::fmt(nothing, f),
+            Fault::NoFrame(_, frames) => write!(f, "the stream has only {frames} frames"),
+            Fault::FrameZero => f.write_str("frames are counted from 1"),
+            Fault::NoWindow(_) => { f.write_str("--ssim needs planes of at least 8 by 8 samples") }
+        }
+    }
+}
+
+/// Writes what happened to a stream, with the number of the frame where it happened to one.
+fn write_stream_error<W: fmt::Write>(
+    f: &mut fmt::Formatter<W>,
+    error: &StreamError,
+) -> fmt::Result {
+    if is_of_a_frame(error) {
+        let frame = error.frames.saturating_add(1);
+        write!(f, "frame {frame}: ")?;
+    }
+    write_caused(f, error)
+}
+
+/// Returns whether a frame was not read, or not written after others.
+fn is_of_a_frame(error: &StreamError) -> bool {
+    match &error.problem {
+        Problem::Stream(Y4mError::Header(_)) => false,
+        Problem::Stream(_) => error.place != Place::Output || error.frames > 0,
+        _ => false,
+    }
+}
+
+/// Writes what happened, and what the system reported.
+fn write_caused<W: fmt::Write>(f: &mut fmt::Formatter<W>, error: &StreamError) -> fmt::Result {
+    fmt::Display::fmt(&error.problem, f)?;
+    if let Problem::TooManyPixels(_) = &error.problem {
+        f.write_str("; --max-pixels N allows more")?;
+    }
+    match &error.cause {
+        Some(cause) => write!(f, ": {cause}"),
+        None => Ok(()),
+    }
+}

@@ -1,0 +1,146 @@
+//! What a command reads of a file: its header, or none of headerless raw video.
+ghost use Rattle.std.specs.Prelude.{◌≡◌, ◌≤◌, ◌+◌, ◌-◌, ◌^◌, Some, min, IfErr, IfOk, IfSome};
+ghost use Rattle.yuv_system.specs.InputFiles.{bytes_of_input, BeginsAsAStream, IsReadOn};
+ghost use Rattle.yuv_system.specs.Inputs.{expected_of, header_of_raw, shortest_line, OpensAs, OpensAsRaw, OpensAsY4m};
+ghost use Rattle.v_frame_streams.specs.Conversions.{layout_in};
+
+use crate::fault::Fault;
+use crate::input_file::InputFile;
+use crate::system::System;
+use std::alloc::Global;
+use std::io::{self, Read};
+use std::time::Clock;
+use v_frame_formats::VideoFormat;
+use v_frame_semi_planar::SemiPlanarFormat;
+use v_frame_streams::{Container, Problem, Source, StreamError};
+use v_frame_y4m::{StreamHeader, header_line};
+use yuv_files::{LaxHeader, shown_name, write_message};
+use yuv_words::RawVideo;
+
+/// Reads the header of a file that is open, or takes that of headerless raw video. Where the header line is not strict, a
+/// message says what it is read as.
+///
+/// # Errors
+///
+/// [`Fault::NoBytes`] and [`Fault::NotAStream`] where no stream begins there, and [`Fault::Header`] where its header can't be read.
+pub fn begin<'f, H: AllocGlobal + Clock, F: Read, I: Read, O, E: io::Write>(
+    system: &mut System<'_, H, I, O, E>,
+    name: &str,
+    file: &'f mut InputFile<F, I>,
+    raw: Option<RawVideo>,
+) -> Result<Source<&'f mut InputFile<F, I>>, Fault>
+    requires { IsReadOn file.now }
+    ensures { IfOk result (OpensAs (bytes_of_input F.remaining I.remaining) raw file.entry.now) }
+{
+    let alloc = system.rt.alloc();
+    let place = file.place;
+    let source = begin_stream(alloc, file, raw)?;
+    if source.is_lax() {
+        let Ok(line) = header_line(alloc, source.header()) else {
+            return Err(Fault::Header(StreamError::at_start(place, Problem::OutOfMemory)));
+        };
+        let line = line.as_slice();
+        write_message(
+            system.progress.out(),
+            Some(shown_name(name)),
+            &LaxHeader { line },
+        );
+    }
+    Ok(source)
+}
+
+/// Reads the header of a file that is open, or takes that of headerless raw video.
+fn begin_stream<F: Read, I: Read>(
+    alloc: Global,
+    file: &mut InputFile<F, I>,
+    raw: Option<RawVideo>,
+) -> Result<Source<&mut InputFile<F, I>>, Fault>
+    requires { IsReadOn file.now }
+    ensures { IfOk result (OpensAs (bytes_of_input F.remaining I.remaining) raw file.entry.now) }
+{
+    match raw {
+        Some(raw) => begin_raw(alloc, file, raw),
+        None => begin_y4m(alloc, file),
+    }
+}
+
+/// Takes a file that is open as headerless raw video.
+fn begin_raw<F: Read, I: Read>(
+    alloc: Global,
+    file: &mut InputFile<F, I>,
+    raw: RawVideo,
+) -> Result<Source<&mut InputFile<F, I>>, Fault>
+    ensures { IfOk result (OpensAsRaw (bytes_of_input F.remaining I.remaining) file.entry.now raw) }
+{
+    let place = file.place;
+    let header = raw_header(alloc, &raw);
+    match Source::raw(alloc, place, header, layout_of(raw.format), file) {
+        Ok(source) => Ok(source),
+        Err(error) => Err(Fault::Header(error)),
+    }
+}
+
+/// Reads the header line of a file that is open.
+fn begin_y4m<F: Read, I: Read>(
+    alloc: Global,
+    file: &mut InputFile<F, I>,
+) -> Result<Source<&mut InputFile<F, I>>, Fault>
+    requires { IsReadOn file.now }
+    ensures opened { IfOk result (OpensAsY4m (bytes_of_input F.remaining I.remaining) file.entry.now) }
+    ensures refused { IfErr result (λ fault. fault ≡ Fault.NotAStream file.entry.now.place
+        → IfSome (bytes_of_input F.remaining I.remaining file.entry.now) (λ bytes.
+        ¬ (BeginsAsAStream bytes))) }
+{
+    let place = file.place;
+    match file.begins_as_a_stream() {
+        Ok(true) => {}
+        Ok(false) if file.has_no_bytes() => return Err(Fault::NoBytes(place)),
+        Ok(false) => return Err(Fault::NotAStream(place)),
+        Err(error) => return Err(Fault::Header(error)),
+    }
+    match Source::y4m(alloc, place, file) {
+        Ok(source) => Ok(source),
+        Err(error) => Err(Fault::Header(error)),
+    }
+}
+
+/// Returns the layout of a format whose chroma samples are by turns.
+fn layout_of(format: VideoFormat) -> Option<SemiPlanarFormat>
+    ensures { result ≡ layout_in (Some format) }
+{
+    match format {
+        VideoFormat::Planar(_) => None,
+        VideoFormat::SemiPlanar(layout) => Some(layout),
+    }
+}
+
+/// Returns the header that raw video of this size and format would have.
+fn raw_header(alloc: Global, raw: &RawVideo) -> StreamHeader
+    ensures { result ≡ header_of_raw raw.now }
+{
+    StreamHeader {
+        width: raw.width,
+        height: raw.height,
+        frame_rate: raw.rate,
+        interlacing: None,
+        pixel_aspect: None,
+        color: raw.format.color(),
+        extensions: Vec::new(alloc).into(),
+    }
+}
+
+/// Returns how many frames a file of this length has, where the lines in front of them are the shortest.
+pub fn expected_frames<R: Read>(source: &Source<R>, len: Option<u64>) -> Option<u64>
+    ensures { result ≡ expected_of (min (source.now.frame_len
+        + shortest_line source.now.container) (2 ^ 64 - 1)) len }
+{
+    let line = match source.container() {
+        Container::Y4m => 6,
+        Container::Raw => 0,
+    };
+    let size = (source.frame_len() as u64).saturating_add(line);
+    match len {
+        Some(len) if size > 0 => Some(len / size),
+        _ => None,
+    }
+}

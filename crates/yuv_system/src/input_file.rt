@@ -1,0 +1,168 @@
+//! Files by their names, and standard input.
+ghost use Rattle.std.specs.Prelude.{◌≡◌, ◌≤◌, ◌==◌, ◌↔◌, IfOk, IsTrue};
+ghost use Rattle.v_frame_y4m.specs.Header.{signature};
+
+use crate::fault::Fault;
+use std::fs::{self, OpenFile};
+use std::io::{self, Read};
+use std::rt::Files;
+use v_frame_planar::{Counted, read_until_full};
+use v_frame_streams::{Place, Problem, StreamError};
+use v_frame_y4m::Y4mError;
+use yuv_files::{STANDARD_OUTPUT, is_read};
+
+/// How a stream of YUV4MPEG2 begins.
+const MAGIC: &[u8] = b"YUV4MPEG2";
+
+/// The first bytes of a file that are looked at.
+const FIRST: usize = 9;
+
+/// A file or standard input, for reading.
+#[derive(Drop)]
+enum Reader<F, I> {
+    File(F),
+    Standard(I),
+}
+
+impl<F: Read, I: Read> Read for Reader<F, I> {
+    ghost use Rattle.yuv_system.specs.InputFiles.{bytes_of_reader};
+
+    ghost remaining = { bytes_of_reader F.remaining I.remaining };
+
+    fn read(&mut self, buf: &mut [u8]) -> io::Result<usize> {
+        match self {
+            Reader::File(file) => file.read(buf),
+            Reader::Standard(input) => input.read(buf),
+        }
+    }
+}
+
+/// A file or standard input that is read, whose first bytes can be looked at before.
+#[derive(Drop)]
+pub struct InputFile<F, I> {
+    /// Which file of the command it is.
+    pub(crate) place: Place,
+    reader: Counted<Reader<F, I>>,
+    first: [u8; FIRST],
+    /// How many bytes of `first` were read, and how many of these were given on.
+    known: usize,
+    given: usize,
+    ghost room: { known ≤ 9 },
+    ghost order: { given ≤ known },
+}
+
+impl<F: Read, I: Read> Read for InputFile<F, I> {
+    ghost use Rattle.yuv_system.specs.InputFiles.{bytes_of_input};
+
+    ghost remaining = { bytes_of_input F.remaining I.remaining };
+
+    fn read(&mut self, buf: &mut [u8]) -> io::Result<usize> {
+        if self.given == self.known {
+            return self.reader.read(buf);
+        }
+        let count = buf.len().min(self.known - self.given);
+        buf[..count].copy_from_slice(&self.first[self.given..self.given + count]);
+        self.given += count;
+        Ok(count)
+    }
+}
+
+impl<F: Read, I: Read> InputFile<F, I> {
+    ghost use Rattle.std.specs.Prelude.{IfSome};
+    ghost use Rattle.std.specs.Io.KnownBytes.{Keeps};
+    ghost use Rattle.yuv_system.specs.InputFiles.{bytes_of_input, BeginsAsAStream, IsReadOn};
+
+    /// Looks at the first bytes, and returns whether a stream begins so. They are still to be read then.
+    #[tactic(auto, using(crate::proofs::LookedAt::begins_as, crate::proofs::LookedAt::looked_at))]
+    pub(crate) fn begins_as_a_stream(&mut self) -> Result<bool, StreamError>
+        requires { IsReadOn self.old }
+        ensures place { self.new.place ≡ self.old.place }
+        ensures unread { IfOk result (λ _. Keeps (bytes_of_input F.remaining I.remaining self.old)
+            (bytes_of_input F.remaining I.remaining self.new)) }
+        ensures found { IfOk result (λ is_a_stream.
+            IfSome (bytes_of_input F.remaining I.remaining self.old) (λ bytes.
+            IsTrue is_a_stream ↔ BeginsAsAStream bytes)) }
+    {
+        let mut first = [0; FIRST];
+        match read_until_full(&mut self.reader, &mut first) {
+            Ok(found) => {
+                self.first = first;
+                self.known = found;
+                self.given = 0;
+                Ok(is_magic(&first[..found]))
+            }
+            Err(error) => Err(StreamError {
+                place: self.place,
+                frames: 0,
+                problem: Problem::Stream(Y4mError::Planar(error)),
+                cause: self.reader.last_failure(),
+            }),
+        }
+    }
+}
+
+impl<F, I> InputFile<F, I> {
+    /// Returns whether none of the first bytes is there, where these were looked at.
+    pub(crate) fn has_no_bytes(&self) -> bool
+        ensures { result ≡ (self.now.known == 0) }
+    {
+        self.known == 0
+    }
+}
+
+/// Returns whether these are the bytes that a stream begins with.
+fn is_magic(bytes: &[u8]) -> bool
+    ensures { IsTrue result ↔ bytes.now ≡ signature }
+{
+    bytes == MAGIC
+}
+
+impl<F: OpenFile, I> InputFile<F, I> {
+    /// Returns how many bytes the file has. `None` where it is no regular file.
+    pub fn len(&self) -> Option<u64> {
+        match self.reader.inner() {
+            Reader::File(file) => match file.metadata() {
+                Ok(found) if found.is_file() => Some(found.len()),
+                _ => None,
+            },
+            Reader::Standard(_) => None,
+        }
+    }
+}
+
+/// Opens a file for reading, or takes standard input for `-`. The file behind standard output is refused: it would grow by what
+/// is written of it.
+///
+/// # Errors
+///
+/// [`Fault::ReadAndWritten`] for that one, [`Fault::InputTwice`] where standard input was taken, and [`Fault::Open`].
+pub fn open_file<H: Files, I: Read>(
+    rt: &H,
+    name: &str,
+    place: Place,
+    standard: &mut Option<I>,
+) -> Result<InputFile<H::File, I>, Fault>
+    ensures { IfOk result (λ file. file.given ≡ file.known) }
+{
+    if is_read(rt, name, STANDARD_OUTPUT) {
+        return Err(Fault::ReadAndWritten(place));
+    }
+    let reader = if name == "-" {
+        match standard.take() {
+            Some(input) => Reader::Standard(input),
+            None => return Err(Fault::InputTwice(place)),
+        }
+    } else {
+        match fs::open(rt, name) {
+            Ok(file) => Reader::File(file),
+            Err(error) => return Err(Fault::Open(place, error.kind())),
+        }
+    };
+    Ok(InputFile {
+        place,
+        reader: Counted::new(reader),
+        first: [0; FIRST],
+        known: 0,
+        given: 0,
+    })
+}

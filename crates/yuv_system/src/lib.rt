@@ -1,0 +1,28 @@
+//! What every command of `yuv` has of its system: what it reads, what it writes to, and the line of `--progress`; what its options
+//! ask of streams; why it gives up, and how it ends.
+#![tactic(auto)]
+
+mod fault;
+mod input;
+mod input_file;
+mod nothing;
+mod options;
+mod output;
+mod progress;
+mod report;
+mod status;
+mod system;
+
+pub use fault::Fault;
+pub use input::{begin, expected_frames};
+pub use input_file::{InputFile, open_file};
+pub use nothing::{NothingTaken, test_compared};
+pub use options::{
+    copy_sink, frames_before, most_pixels, stream_comparison, stream_copy, taken_of_both,
+    test_limit, test_pixels,
+};
+pub use output::{Output, is_standard_output};
+pub use progress::ProgressLine;
+pub use report::{no_memory, write_made, write_text};
+pub use status::Status;
+pub use system::System;

@@ -1,0 +1,81 @@
+//! Why a command found no frame to work on.
+ghost use Rattle.std.specs.Prelude.{◌≡◌, ◌<◌, IfErr, OnOk};
+ghost use Rattle.yuv_system.specs.Nothing.{nothing_of, shorter};
+
+use crate::fault::Fault;
+use std::{fmt, io};
+use v_frame_streams::{CompareOptions, Comparison, Place, Source};
+
+/// What a stream has, and what was asked of it, where none of its frames was taken.
+#[derive(Debug, Clone, Copy, PartialEq, Eq)]
+pub struct NothingTaken {
+    /// How many frames the stream has.
+    pub frames: u64,
+    /// How many are passed over.
+    pub skip: u64,
+    /// How many are taken then. All that are left, where it is missing.
+    pub count: Option<u64>,
+}
+
+impl NothingTaken {
+    /// Returns why no frame was taken, where so many are none.
+    pub fn of(taken: u64, frames: u64, skip: u64, count: Option<u64>) -> Option<Self>
+        ensures { result ≡ nothing_of taken frames skip count }
+    {
+        if taken > 0 {
+            return None;
+        }
+        Some(NothingTaken {
+            frames,
+            skip,
+            count,
+        })
+    }
+}
+
+impl fmt::Display for NothingTaken {
+    fn fmt<W: fmt::Write>(&self, f: &mut fmt::Formatter<W>) -> fmt::Result {
+        let NothingTaken {
+            frames,
+            skip,
+            count,
+        } = *self;
+        if count == Some(0) {
+            return f.write_str("no frame is taken: --count is 0");
+        }
+        write!(
+            f,
+            "no frame is taken: the stream has {frames}, and {skip} are passed over"
+        )
+    }
+}
+
+/// Tests whether frames were compared. Where none was, the fault is about the stream that came to its end, or about the first one.
+///
+/// # Errors
+///
+/// [`Fault::Nothing`] where none was.
+pub fn test_compared<R: io::Read, S: io::Read>(
+    found: &Comparison,
+    first: &Source<R>,
+    second: &Source<S>,
+    taken: &CompareOptions,
+) -> Result<(), Fault>
+    ensures ok { OnOk result (0 < found.now.frames) }
+    ensures none { IfErr result (λ _. found.now.frames ≡ 0) }
+    ensures refused { IfErr result (λ fault. fault ≡ Fault.Nothing
+        (shorter found.now.longer Place.First Place.Second) (record {
+          frames = shorter found.now.longer first.now.frames second.now.frames;
+          skip = shorter found.now.longer taken.now.skip_first taken.now.skip_second;
+          count = taken.now.count;
+        })) }
+{
+    let (place, frames, skip) = match found.longer {
+        Some(Place::First) => (Place::Second, second.frames(), taken.skip_second),
+        _ => (Place::First, first.frames(), taken.skip_first),
+    };
+    match NothingTaken::of(found.frames, frames, skip, taken.count) {
+        Some(nothing) => Err(Fault::Nothing(place, nothing)),
+        None => Ok(()),
+    }
+}

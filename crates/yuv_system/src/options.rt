@@ -1,0 +1,127 @@
+//! What the options of a command ask of the streams.
+ghost use Rattle.std.specs.Prelude.{◌≡◌, ◌+◌, ◌*◌, ◌<◌, ◌≤◌, IfErr, IfOk, OnOk, Some, unwrap_or};
+ghost use Rattle.yuv_system.specs.Options.{comparison_of, copy_of, most_pixels as most, sink_container, taken_of, ExceedsLimit, KeepsLimit};
+
+use crate::fault::Fault;
+use std::io::Write;
+use v_frame_streams::{Container, MAX_PIXELS, Place, Problem, Sink, StreamError};
+use v_frame_y4m::StreamHeader;
+
+/// Returns the most pixels of luma that a picture may have.
+pub fn most_pixels(asked: Option<u64>) -> usize
+    ensures { result ≡ most asked }
+{
+    match asked {
+        Some(pixels) => usize::try_from(pixels).unwrap_or(usize::MAX),
+        None => MAX_PIXELS,
+    }
+}
+
+/// Returns what a copy takes of a stream, and what it makes of its frames.
+pub fn stream_copy(options: &yuv_words::Options) -> v_frame_streams::CopyOptions
+    ensures { result ≡ copy_of options.now }
+{
+    v_frame_streams::CopyOptions {
+        skip: options.skip.unwrap_or(0),
+        count: options.count,
+        crop: options.crop,
+        half: options.half,
+        format: options.format,
+        frame_rate: options.rate,
+        pixel_aspect: options.aspect,
+        max_pixels: most_pixels(options.max_pixels),
+    }
+}
+
+/// Returns the stream that a copy writes.
+pub fn copy_sink<W: Write>(options: &yuv_words::Options, writer: W) -> Sink<W>
+    ensures container { result.container ≡ sink_container options.now }
+    ensures writer { result.writer.inner ≡ writer }
+    ensures frames { result.frames ≡ 0 }
+{
+    let container = if options.raw_output {
+        Container::Raw
+    } else {
+        Container::Y4m
+    };
+    Sink::new(container, writer)
+}
+
+/// Returns what a comparison takes of two streams.
+pub fn stream_comparison(options: &yuv_words::Options) -> v_frame_streams::CompareOptions
+    ensures { result ≡ comparison_of options.now }
+{
+    taken_of_both(
+        options.skip,
+        options.skip_second,
+        options.count,
+        options.max_pixels,
+    )
+}
+
+/// Returns what is taken of two streams.
+pub fn taken_of_both(
+    skip: Option<u64>,
+    skip_second: Option<u64>,
+    count: Option<u64>,
+    max_pixels: Option<u64>,
+) -> v_frame_streams::CompareOptions
+    ensures { result ≡ taken_of skip skip_second count max_pixels }
+{
+    let skip_first = skip.unwrap_or(0);
+    v_frame_streams::CompareOptions {
+        skip_first,
+        skip_second: skip_second.unwrap_or(skip_first),
+        count,
+        max_pixels: most_pixels(max_pixels),
+    }
+}
+
+/// Returns how many frames stand before the one of this number, which is 1 where nobody says.
+///
+/// # Errors
+///
+/// [`Fault::FrameZero`] where the number is 0.
+pub fn frames_before(number: Option<u64>) -> Result<u64, Fault>
+    ensures before { IfOk result (λ before. before + 1 ≡ unwrap_or number 1) }
+    ensures zero { IfErr result (λ _. number ≡ Some 0) }
+{
+    match number.unwrap_or(1).checked_sub(1) {
+        Some(before) => Ok(before),
+        None => Err(Fault::FrameZero),
+    }
+}
+
+/// Tests whether pictures of a header have no more pixels of luma than are asked for, where a limit is.
+///
+/// # Errors
+///
+/// [`Problem::TooManyPixels`] where they have more.
+pub fn test_limit(
+    header: &StreamHeader,
+    place: Place,
+    asked: Option<u64>,
+) -> Result<(), StreamError>
+    ensures ok { OnOk result (KeepsLimit asked header.now) }
+    ensures refused { IfErr result (λ _. ExceedsLimit asked header.now) }
+{
+    match asked {
+        Some(_) => test_pixels(header, place, most_pixels(asked)),
+        None => Ok(()),
+    }
+}
+
+/// Tests whether pictures of a header have no more than so many pixels of luma.
+///
+/// # Errors
+///
+/// [`Problem::TooManyPixels`] where they have more.
+pub fn test_pixels(header: &StreamHeader, place: Place, most: usize) -> Result<(), StreamError>
+    ensures ok { OnOk result (header.now.width * header.now.height ≤ most) }
+    ensures refused { IfErr result (λ _. most < header.now.width * header.now.height) }
+{
+    match header.width.checked_mul(header.height) {
+        Some(pixels) if pixels <= most => Ok(()),
+        _ => Err(StreamError::at_start(place, Problem::TooManyPixels(most))),
+    }
+}
