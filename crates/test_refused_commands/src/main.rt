@@ -34,6 +34,7 @@ fn show_run(rt: &HostRuntime) -> Option<()> {
         output: rt.stdout(),
         error: rt.stdout(),
         is_terminal: false,
+        output_is_terminal: false,
     };
     let status = run(rt, words.as_slice(), streams).code();
     let _ = println!(rt; "\nstatus {status}");

@@ -86,6 +86,7 @@ where
         output: &mut output,
         error: &mut error,
         is_terminal: false,
+        output_is_terminal: false,
     };
     let status = run(rt, case.words.as_slice(), streams).code();
     writeln!(out, "$ yuv {line}")?;

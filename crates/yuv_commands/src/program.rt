@@ -1,6 +1,9 @@
 //! The program: its words are read and done, and what went wrong is reported.
-ghost use Rattle.std.specs.Prelude.{◌≡◌, ◌&&◌};
-ghost use Rattle.yuv_system.specs.ProgressLines.{asks_progress};
+ghost use Rattle.std.specs.Prelude.{◌≡◌};
+ghost use Rattle.yuv_system.specs.declared.status.Status.TheVariants.{Failed};
+ghost use Rattle.yuv_words.specs.Calls.{AsksHelp, IsWrittenAs};
+ghost use Rattle.yuv_words.specs.Words.{texts_of};
+ghost use Rattle.yuv_words.specs.declared.command.Command.{Command as TheCommand};
 
 use std::io;
 use std::rt::Files;
@@ -11,7 +14,7 @@ use yuv_comparisons::{do_compare, do_diff, do_plot};
 use yuv_copies::{do_copy, do_show};
 use yuv_facts::{do_info, do_stats, do_sum};
 use yuv_files::{SystemFile, shown_name, write_message};
-use yuv_system::{Fault, ProgressLine, Status, System, write_text};
+use yuv_system::{Fault, ProgressLine, Status, System, counts_shown, write_text};
 use yuv_words::{Command, CommandName, UsageError, help_topic, read_command, usage_text};
 
 /// What `yuv --version` prints.
@@ -31,6 +34,8 @@ pub struct Streams<I, O, E> {
     pub error: E,
     /// Whether standard error is a terminal, where `--progress` shows something.
     pub is_terminal: bool,
+    /// Whether standard output is one, where lines of frames and counts of them would stand among each other.
+    pub output_is_terminal: bool,
 }
 
 /// Does what the words of a call, without the program's own name, ask for.
@@ -41,6 +46,8 @@ where
     I: io::Read + Drop,
     O: io::Write + Drop,
     E: io::Write + Drop,
+    ensures refused { ¬ (AsksHelp (texts_of words.now))
+        → ((command : TheCommand) → ¬ (IsWrittenAs (texts_of words.now) command)) → result ≡ Failed }
 {
     match help_topic(words) {
         Some(topic) => run_words(rt, &["help", topic], streams),
@@ -56,18 +63,22 @@ where
     I: io::Read + Drop,
     O: io::Write + Drop,
     E: io::Write + Drop,
+    ensures refused { ((command : TheCommand) → ¬ (IsWrittenAs (texts_of words.now) command))
+        → result ≡ Failed }
 {
     let Streams {
         input,
         output,
         mut error,
         is_terminal,
+        output_is_terminal,
     } = streams;
     let command = match read_command(words) {
         Ok(command) => command,
         Err(refusal) => return refuse(&refusal, &mut error),
     };
-    let progress = progress_line(rt, error, is_terminal, &command);
+    let shown = counts_shown(&command, is_terminal, output_is_terminal);
+    let progress = ProgressLine::new(rt, error, shown);
     let mut system = System {
         rt,
         input: Some(input),
@@ -83,37 +94,12 @@ where
 }
 
 /// Reports what is wrong with the words of a call, and where help is.
-pub fn refuse<E: io::Write>(refusal: &UsageError<'_>, out: &mut E) -> Status {
+pub fn refuse<E: io::Write>(refusal: &UsageError<'_>, out: &mut E) -> Status
+    ensures { result ≡ Failed }
+{
     write_message(out, None, refusal);
     let _ = out.write_all(b"yuv help says how it is called\n");
     Status::Failed
-}
-
-/// Returns the line of the count of frames. It is shown where the command asks for it and standard error is a terminal.
-fn progress_line<'a, H: Clock, E: io::Write>(
-    rt: &'a H,
-    error: E,
-    is_terminal: bool,
-    command: &Command<'_>,
-) -> ProgressLine<'a, H, E>
-    ensures shown { result.is_shown ≡ (is_terminal && asks_progress command.now) }
-    ensures out { result.out ≡ error }
-{
-    let mut progress = ProgressLine::new(rt, error);
-    if is_terminal && asks_for_progress(command) {
-        progress.begin();
-    }
-    progress
-}
-
-/// Returns whether a command asks that the count of frames is shown meanwhile.
-fn asks_for_progress(command: &Command<'_>) -> bool
-    ensures { result ≡ asks_progress command.now }
-{
-    match command {
-        Command::Call { options, .. } => options.progress,
-        _ => false,
-    }
 }
 
 /// Reports what went wrong, and where.
@@ -121,7 +107,9 @@ fn give_up<H: Clock, I, O, E: io::Write>(
     system: &mut System<'_, H, I, O, E>,
     command: &Command<'_>,
     fault: Fault,
-) -> Status {
+) -> Status
+    ensures { result ≡ Failed }
+{
     let name = match (fault.place(), &fault) {
         (Some(_), Fault::Report(_)) => Some(STANDARD_OUTPUT),
         (Some(place), _) => Some(name_of(command, place)),

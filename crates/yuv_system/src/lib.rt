@@ -10,6 +10,7 @@ mod options;
 mod output;
 mod progress;
 mod report;
+mod shown;
 mod status;
 mod system;
 
@@ -24,5 +25,6 @@ pub use options::{
 pub use output::{Output, is_standard_output};
 pub use progress::ProgressLine;
 pub use report::{no_memory, write_made, write_text};
+pub use shown::{Shown, counts_shown};
 pub use status::Status;
 pub use system::System;

@@ -1,7 +1,8 @@
 //! The count of frames, shown while a stream is read.
-ghost use Rattle.std.specs.Prelude.{◌≡◌, false, true};
+ghost use Rattle.std.specs.Prelude.{◌≡◌};
 ghost use Rattle.yuv_system.specs.ProgressLines.{TakesCount};
 
+use crate::shown::Shown;
 use std::time::{Clock, Instant};
 use std::{fmt, io};
 use v_frame_streams::Progress;
@@ -14,7 +15,7 @@ const PAUSE: u128 = 100;
 pub struct ProgressLine<'a, H, E> {
     clock: &'a H,
     out: E,
-    is_shown: bool,
+    shown: Shown,
     expected: Option<u64>,
     begin: Option<Instant>,
     frames: u64,
@@ -24,30 +25,21 @@ pub struct ProgressLine<'a, H, E> {
 }
 
 impl<'a, H: Clock, E: io::Write> ProgressLine<'a, H, E> {
-    /// Returns a line that is not shown yet.
-    pub fn new(clock: &'a H, out: E) -> Self
-        ensures shown { result.is_shown ≡ false }
+    /// Returns a line of which these counts are shown from now on.
+    pub fn new(clock: &'a H, out: E, shown: Shown) -> Self
+        ensures shown { result.shown ≡ shown }
         ensures out { result.out ≡ out }
     {
         ProgressLine {
             clock,
             out,
-            is_shown: false,
+            shown,
             expected: None,
-            begin: None,
+            begin: Instant::now(clock).ok(),
             frames: 0,
             last_shown: 0,
             length: 0,
         }
-    }
-
-    /// Shows the line from now on.
-    pub fn begin(&mut self)
-        ensures shown { self.new.is_shown ≡ true }
-        ensures out { self.new.out ≡ self.old.out }
-    {
-        self.is_shown = true;
-        self.begin = Instant::now(self.clock).ok();
     }
 
     /// Takes how many frames there will be, where that is known.
@@ -64,16 +56,16 @@ impl<'a, H: Clock, E: io::Write> ProgressLine<'a, H, E> {
 
     /// Shows the last count, and ends the line, which is not shown from then on. One that is not shown stays as it is.
     pub fn end(&mut self)
-        ensures hidden { self.new.is_shown ≡ false }
-        ensures same { self.old.is_shown ≡ false → self.new ≡ self.old }
+        ensures hidden { self.new.shown ≡ Shown.NoCount }
+        ensures same { self.old.shown ≡ Shown.NoCount → self.new ≡ self.old }
     {
-        if !self.is_shown {
+        if matches!(self.shown, Shown::NoCount) {
             return;
         }
         let passed = self.passed();
         self.write_line(passed);
         let _ = self.out.write_all(b"\n");
-        self.is_shown = false;
+        self.shown = Shown::NoCount;
     }
 
     /// Returns how many milliseconds have passed. 0 where the clock can't be read.
@@ -87,9 +79,23 @@ impl<'a, H: Clock, E: io::Write> ProgressLine<'a, H, E> {
         }
     }
 
+    /// Takes a count, and shows it where the last one that was shown is old enough.
+    fn show_each(&mut self, frames: u64)
+        ensures shown { self.new.shown ≡ self.old.shown }
+        ensures frames { self.new.frames ≡ frames }
+    {
+        self.frames = frames;
+        let passed = self.passed();
+        if passed.saturating_sub(self.last_shown) < PAUSE {
+            return;
+        }
+        self.last_shown = passed;
+        self.write_line(passed);
+    }
+
     /// Shows the count in the place of the last one, of which nothing is left. Where it can't be written, the work goes on.
     fn write_line(&mut self, passed: u128)
-        ensures shown { self.new.is_shown ≡ self.old.is_shown }
+        ensures shown { self.new.shown ≡ self.old.shown }
         ensures frames { self.new.frames ≡ self.old.frames }
     {
         let (frames, percent, before) = (self.frames, self.percent(), self.length);
@@ -115,19 +121,14 @@ impl<'a, H: Clock, E: io::Write> ProgressLine<'a, H, E> {
 }
 
 impl<H: Clock, E: io::Write> Progress for ProgressLine<'_, H, E> {
-    ghost shows = { λ old new frames. TakesCount old.is_shown old new frames };
+    ghost shows = { λ old new frames. TakesCount old.shown old new frames };
 
     fn show(&mut self, frames: u64) {
-        if !self.is_shown {
-            return;
+        match self.shown {
+            Shown::NoCount => {}
+            Shown::LastCount => self.frames = frames,
+            Shown::EachCount => self.show_each(frames),
         }
-        self.frames = frames;
-        let passed = self.passed();
-        if passed.saturating_sub(self.last_shown) < PAUSE {
-            return;
-        }
-        self.last_shown = passed;
-        self.write_line(passed);
     }
 }
 

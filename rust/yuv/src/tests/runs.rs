@@ -52,6 +52,7 @@ fn check(rt: &HostRuntime, room: &Room, case: &Case) {
         output: &mut output,
         error: &mut error,
         is_terminal: false,
+        output_is_terminal: false,
     };
     let words: Vec<&str> = case.words.iter().map(String::as_str).collect();
     let status = run(rt, &words, streams).code();

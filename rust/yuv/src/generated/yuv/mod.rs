@@ -38,9 +38,9 @@ fn take_standard_numbers(rt: &HostRuntime) -> io::Result<[File; 3]> {
     ])
 }
 
-/// Returns whether standard error is a terminal, by the name that Linux gives to what is open there.
-fn is_terminal(rt: &HostRuntime) -> bool {
-    match fs::read_link(rt, "/proc/self/fd/2") {
+/// Returns whether a link of Linux's to what is open leads to a terminal, by its name.
+fn is_terminal(rt: &HostRuntime, link: &str) -> bool {
+    match fs::read_link(rt, link) {
         Ok(path) => {
             let name = path.into_string();
             name.as_str().starts_with("/dev/pts/") || name.as_str().starts_with("/dev/tty")
@@ -66,7 +66,8 @@ fn run_with_arguments(rt: &HostRuntime) -> io::Result<Status> {
         input: rt.stdin(),
         output: rt.stdout(),
         error: rt.stderr(),
-        is_terminal: is_terminal(rt),
+        is_terminal: is_terminal(rt, "/proc/self/fd/2"),
+        output_is_terminal: is_terminal(rt, "/proc/self/fd/1"),
     };
     Ok(run(rt, words.as_slice(), streams))
 }

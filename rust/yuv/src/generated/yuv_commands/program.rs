@@ -10,7 +10,7 @@ use crate::generated::yuv_comparisons::{do_compare, do_diff, do_plot};
 use crate::generated::yuv_copies::{do_copy, do_show};
 use crate::generated::yuv_facts::{do_info, do_stats, do_sum};
 use crate::generated::yuv_files::{SystemFile, shown_name, write_message};
-use crate::generated::yuv_system::{Fault, ProgressLine, Status, System, write_text};
+use crate::generated::yuv_system::{Fault, ProgressLine, Status, System, counts_shown, write_text};
 use crate::generated::yuv_words::{Command, CommandName, UsageError, help_topic, read_command, usage_text};
 
 /// What `yuv --version` prints.
@@ -29,6 +29,8 @@ pub struct Streams<I, O, E> {
     pub error: E,
     /// Whether standard error is a terminal, where `--progress` shows something.
     pub is_terminal: bool,
+    /// Whether standard output is one, where lines of frames and counts of them would stand among each other.
+    pub output_is_terminal: bool,
 }
 
 /// Does what the words of a call, without the program's own name, ask for.
@@ -60,12 +62,14 @@ where
         output,
         mut error,
         is_terminal,
+        output_is_terminal,
     } = streams;
     let command = match read_command(words) {
         Ok(command) => command,
         Err(refusal) => return refuse(&refusal, &mut error),
     };
-    let progress = progress_line(rt, error, is_terminal, &command);
+    let shown = counts_shown(&command, is_terminal, output_is_terminal);
+    let progress = ProgressLine::new(rt, error, shown);
     let mut system = System {
         rt,
         input: Some(input),
@@ -85,28 +89,6 @@ pub fn refuse<E: io::Write>(refusal: &UsageError<'_>, out: &mut E) -> Status {
     write_message(out, None, refusal);
     let _ = out.write_all(b"yuv help says how it is called\n");
     Status::Failed
-}
-
-/// Returns the line of the count of frames. It is shown where the command asks for it and standard error is a terminal.
-fn progress_line<'a, H: Clock, E: io::Write>(
-    rt: &'a H,
-    error: E,
-    is_terminal: bool,
-    command: &Command<'_>,
-) -> ProgressLine<'a, H, E> {
-    let mut progress = ProgressLine::new(rt, error);
-    if is_terminal && asks_for_progress(command) {
-        progress.begin();
-    }
-    progress
-}
-
-/// Returns whether a command asks that the count of frames is shown meanwhile.
-fn asks_for_progress(command: &Command<'_>) -> bool {
-    match command {
-        Command::Call { options, .. } => options.progress,
-        _ => false,
-    }
 }
 
 /// Reports what went wrong, and where.

@@ -52,6 +52,7 @@ where
     let progress = &mut system.progress;
     let names = (first, second);
     let text = drawn(&mut one, &mut other, options, names, progress)?;
+    system.progress.end();
     let mut output = Output::open(
         rt,
         to,

@@ -2,6 +2,7 @@
 //! The count of frames, shown while a stream is read.
 
 use v_frame_proved::support::memory::TryString;
+use crate::generated::yuv_system::shown::Shown;
 use crate::support::time::{Clock, Instant};
 use core::fmt;
 use std::io;
@@ -14,7 +15,7 @@ const PAUSE: u128 = 100;
 pub struct ProgressLine<'a, H, E> {
     clock: &'a H,
     out: E,
-    is_shown: bool,
+    shown: Shown,
     expected: Option<u64>,
     begin: Option<Instant>,
     frames: u64,
@@ -24,24 +25,18 @@ pub struct ProgressLine<'a, H, E> {
 }
 
 impl<'a, H: Clock, E: io::Write> ProgressLine<'a, H, E> {
-    /// Returns a line that is not shown yet.
-    pub fn new(clock: &'a H, out: E) -> Self {
+    /// Returns a line of which these counts are shown from now on.
+    pub fn new(clock: &'a H, out: E, shown: Shown) -> Self {
         ProgressLine {
             clock,
             out,
-            is_shown: false,
+            shown,
             expected: None,
-            begin: None,
+            begin: Instant::now(clock).ok(),
             frames: 0,
             last_shown: 0,
             length: 0,
         }
-    }
-
-    /// Shows the line from now on.
-    pub fn begin(&mut self) {
-        self.is_shown = true;
-        self.begin = Instant::now(self.clock).ok();
     }
 
     /// Takes how many frames there will be, where that is known.
@@ -56,13 +51,13 @@ impl<'a, H: Clock, E: io::Write> ProgressLine<'a, H, E> {
 
     /// Shows the last count, and ends the line, which is not shown from then on. One that is not shown stays as it is.
     pub fn end(&mut self) {
-        if !self.is_shown {
+        if matches!(self.shown, Shown::NoCount) {
             return;
         }
         let passed = self.passed();
         self.write_line(passed);
         let _ = self.out.write_all(b"\n");
-        self.is_shown = false;
+        self.shown = Shown::NoCount;
     }
 
     /// Returns how many milliseconds have passed. 0 where the clock can't be read.
@@ -74,6 +69,17 @@ impl<'a, H: Clock, E: io::Write> ProgressLine<'a, H, E> {
             },
             None => 0,
         }
+    }
+
+    /// Takes a count, and shows it where the last one that was shown is old enough.
+    fn show_each(&mut self, frames: u64) {
+        self.frames = frames;
+        let passed = self.passed();
+        if passed.saturating_sub(self.last_shown) < PAUSE {
+            return;
+        }
+        self.last_shown = passed;
+        self.write_line(passed);
     }
 
     /// Shows the count in the place of the last one, of which nothing is left. Where it can't be written, the work goes on.
@@ -102,16 +108,11 @@ impl<'a, H: Clock, E: io::Write> ProgressLine<'a, H, E> {
 
 impl<H: Clock, E: io::Write> Progress for ProgressLine<'_, H, E> {
     fn show(&mut self, frames: u64) {
-        if !self.is_shown {
-            return;
+        match self.shown {
+            Shown::NoCount => {}
+            Shown::LastCount => self.frames = frames,
+            Shown::EachCount => self.show_each(frames),
         }
-        self.frames = frames;
-        let passed = self.passed();
-        if passed.saturating_sub(self.last_shown) < PAUSE {
-            return;
-        }
-        self.last_shown = passed;
-        self.write_line(passed);
     }
 }
 

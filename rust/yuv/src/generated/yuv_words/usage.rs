@@ -67,7 +67,8 @@ Frames have the numbers that they have in the first file.
                   WIDTHxHEIGHT:FORMAT, as 1920x1080:yuv420p10le
 --raw-second R    so is the second file
 --max-pixels N    refuses frames of more than N luma pixels (33177600)
---progress        shows the count of frames meanwhile, on a terminal
+--progress        shows the count of frames meanwhile, on a terminal; beside lines
+                  of frames on one the last count alone, beside --json none
 ";
 
 /// How `copy` is called.
@@ -115,7 +116,8 @@ compute it, samples of more than 8 bits as two bytes, the low one first.
 --count N         takes N frames at most
 --raw R           the file is headerless raw video: R is WIDTHxHEIGHT:FORMAT
 --max-pixels N    refuses frames of more than N luma pixels (33177600)
---progress        shows the count of frames meanwhile, on a terminal
+--progress        shows the count of frames meanwhile, on a terminal; where the
+                  lines go to one too, the last count alone
 ";
 
 /// How `stats` is called.
