@@ -362,8 +362,7 @@ uint32_t v_frame_deinterleave_u16(const v_frame_rows *rows, const uint16_t *buff
 
 /* Make luma and interleaved chroma of the three planes of a frame, in V_FRAME_420, V_FRAME_422 or V_FRAME_444, as NV12, NV16 and
  * NV24 have them; with V for U and U for V, as NV21. V_FRAME_FORMAT where the format is another. All of luma has one size, both
- * components of chroma the one that covers it, and the rows of `uv` are twice as wide. P010 has its samples in the top bits:
- * v_frame_convert_depth_u16_u16 from 10 to 16 bits puts them there, and back. */
+ * components of chroma the one that covers it, and the rows of `uv` are twice as wide. */
 uint32_t v_frame_to_semi_planar_u8(const v_frame_rows *y_rows, uint8_t *y, size_t y_length, const v_frame_rows *uv_rows, uint8_t *uv,
                                    size_t uv_length, const v_frame_rows *source_rows, const uint8_t *source, size_t source_length,
                                    const v_frame_rows *u_rows, const uint8_t *u, size_t u_length, const v_frame_rows *v_rows,
@@ -382,6 +381,23 @@ uint32_t v_frame_from_semi_planar_u16(const v_frame_rows *y_rows, uint16_t *y, s
                                       uint16_t *u, size_t u_length, const v_frame_rows *v_rows, uint16_t *v, size_t v_length,
                                       const v_frame_rows *source_rows, const uint16_t *source, size_t source_length,
                                       const v_frame_rows *uv_rows, const uint16_t *uv, size_t uv_length, uint32_t format);
+
+/* Make luma and interleaved chroma of three planes whose samples have `depth` bits, with the samples in the top bits of their words:
+ * P010, P012 and P016 in V_FRAME_420, P210 in V_FRAME_422, P410 in V_FRAME_444. A sample is multiplied by 2^(16 - depth), and of one
+ * above 2^depth - 1 the bits beyond the word are lost. All else is as for v_frame_to_semi_planar_u16. V_FRAME_NUMBER unless the bit
+ * depth is 8 to 16. */
+uint32_t v_frame_to_semi_planar_top_bits_u16(const v_frame_rows *y_rows, uint16_t *y, size_t y_length, const v_frame_rows *uv_rows,
+                                             uint16_t *uv, size_t uv_length, const v_frame_rows *source_rows, const uint16_t *source,
+                                             size_t source_length, const v_frame_rows *u_rows, const uint16_t *u, size_t u_length,
+                                             const v_frame_rows *v_rows, const uint16_t *v, size_t v_length, uint32_t format,
+                                             uint32_t depth);
+
+/* The way back: a word is divided by 2^(16 - depth), and the bits below are lost. */
+uint32_t v_frame_from_semi_planar_top_bits_u16(const v_frame_rows *y_rows, uint16_t *y, size_t y_length, const v_frame_rows *u_rows,
+                                               uint16_t *u, size_t u_length, const v_frame_rows *v_rows, uint16_t *v,
+                                               size_t v_length, const v_frame_rows *source_rows, const uint16_t *source,
+                                               size_t source_length, const v_frame_rows *uv_rows, const uint16_t *uv,
+                                               size_t uv_length, uint32_t format, uint32_t depth);
 
 /* Make the rows of the buffer the colors of three pictures of one size, Y', Cb and Cr of 8 bits, by a standard: each byte is the
  * nearest to what whole coefficients give, which lie within 1/100 of the standard's before that is rounded. The rows of the buffer

@@ -111,9 +111,7 @@ class Frame(Sequence):
         size, (wide, high) = 1 if self.depth == 8 else 2, plane_sizes(self.width, self.height, self.format)[-1]
         y, uv = _new(self.y, self.width, self.height, size), _new(self.y, 2 * wide, high, size)
         planes = self if len(self) == 3 else 3 * self.planes
-        # A shift by the bits that are left is a conversion to 16 bits.
-        sources = planes if self.depth == 8 else [convert_depth(it, self.depth, 16) for it in planes]
-        _semi_planar(library.TO_SEMI_PLANAR, (y, uv), sources, self.format, size)
+        _semi_planar(library.TO_SEMI_PLANAR[1], library.TO_TOP_BITS, (y, uv), planes, self.format, self.depth)
         return y, uv
 
     @classmethod
@@ -128,8 +126,8 @@ class Frame(Sequence):
         with Held(y) as held:
             sizes, size = plane_sizes(held.rows.width, held.rows.height, format), held.size
         planes = [_new(y, *(sizes + 2 * sizes)[number], size) for number in range(3)]
-        _semi_planar(library.FROM_SEMI_PLANAR, planes, (y, uv), format, 1 if depth == 8 else 2)
-        return cls([convert_depth(it, 16, depth) for it in planes] if depth > 8 else planes, format, depth)
+        _semi_planar(library.FROM_SEMI_PLANAR[1], library.FROM_TOP_BITS, planes, (y, uv), format, depth)
+        return cls(planes, format, depth)
 
     @property
     def y(self):
@@ -147,15 +145,16 @@ class Frame(Sequence):
         return self.planes[2] if len(self.planes) > 1 else None
 
 
-def _semi_planar(exports, targets, sources, format, size):
-    """Calls an export that makes planes, which nothing else knows yet, of others, with samples of this size."""
+def _semi_planar(of_bytes, of_top_bits, targets, sources, format, depth):
+    """Calls an export that makes planes, which nothing else knows yet, of others: that of bytes, or that of words whose top bits the
+    samples are."""
     with ExitStack() as held:
         planes = [held.enter_context(Held(it, writes=True)) for it in targets]
         planes += [held.enter_context(Held(it)) for it in sources]
-        if any(it.size != size for it in planes):
+        if any(it.size != (1 if depth == 8 else 2) for it in planes):
             raise KindError("a plane has one byte a sample at a bit depth of 8, and else two")
-        told = (word for it in planes for word in it.told())
-        library.answered(exports[size](*told, chosen(format, FORMATS, "a format")))
+        told, number = [word for it in planes for word in it.told()], chosen(format, FORMATS, "a format")
+        library.answered(of_bytes(*told, number) if depth == 8 else of_top_bits(*told, number, depth))
 
 
 def _at_ratio(plane, source, target, size):

@@ -114,6 +114,8 @@ DEINTERLEAVE = _both("deinterleave", _rows, _data, _size, _rows, _data, _size)
 _buffer = (_rows, _data, _size)
 TO_SEMI_PLANAR = _both("to_semi_planar", *4 * _buffer, ctypes.c_uint32)
 FROM_SEMI_PLANAR = _both("from_semi_planar", *4 * _buffer, ctypes.c_uint32)
+TO_TOP_BITS = _export("v_frame_to_semi_planar_top_bits_u16", *4 * _buffer, ctypes.c_uint32, ctypes.c_uint32)
+FROM_TOP_BITS = _export("v_frame_from_semi_planar_top_bits_u16", *4 * _buffer, ctypes.c_uint32, ctypes.c_uint32)
 TO_RGB = _export("v_frame_yuv444_to_rgb_u8", _rows, _data, _size, _rows, _data, _size, _rows, _data, _size,
                  ctypes.POINTER(Colors))
 STATISTICS = _both("statistics", ctypes.POINTER(Statistics))

@@ -1,3 +1,4 @@
 mod Bounds
+mod ByTurns
 mod Parts
 mod Rectangles

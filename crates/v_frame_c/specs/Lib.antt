@@ -14,6 +14,7 @@ pub mod SemiPlanar
 pub mod Sizes
 pub mod Statistics
 pub mod Status
+pub mod TopBits
 pub mod WorkedNumbers
 pub mod WorkedParts
 pub mod WorkedStatus

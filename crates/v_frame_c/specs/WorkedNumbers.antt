@@ -5,6 +5,7 @@ use Rattle.v_frame_convert.specs.declared.range.Component.TheVariants.{Chroma}
 use Rattle.v_frame_c.specs.ColorChoice.{bytes_by, color_by}
 use Rattle.v_frame_c.specs.Counts.{count_between}
 use Rattle.v_frame_c.specs.Numbers.{component_by, is_begun, is_component, is_depth, is_turn, turned_by}
+use Rattle.v_frame_c.specs.TopBits.{in_top_bits, of_top_bits}
 
 abbrev one_row : Table ℕ
 one_row = (1 ∷ 2 ∷ 3 ∷ []) ∷ []
@@ -43,3 +44,14 @@ two_of_four = refl
 
 none_between : count_between one_byte.value 3 2 (1 ∷ 2 ∷ 3 ∷ 4 ∷ []) ≡ 0
 none_between = refl
+
+-- 10 bits: 64 times as much, and of a larger sample what is left of it
+p010 : in_top_bits 10 ((1 ∷ 1023 ∷ 1025 ∷ []) ∷ []) ≡ (64 ∷ 65472 ∷ 64 ∷ []) ∷ []
+p010 = refl
+
+-- low bits that are not used are lost
+of_p010 : of_top_bits 10 ((64 ∷ 65535 ∷ 127 ∷ []) ∷ []) ≡ (1 ∷ 1023 ∷ 1 ∷ []) ∷ []
+of_p010 = refl
+
+p016 : in_top_bits 16 ((1 ∷ 65535 ∷ []) ∷ []) ≡ (1 ∷ 65535 ∷ []) ∷ []
+p016 = refl

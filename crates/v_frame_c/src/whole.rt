@@ -97,14 +97,14 @@ pub fn from_semi_planar<T: Pixel>(
 }
 
 /// Returns whether there are such frames of the format of this number.
-fn is_semi_planar(format: u32) -> bool
+pub fn is_semi_planar(format: u32) -> bool
     ensures { result ≡ is_semi_planar format }
 {
     1 <= format && format <= 3
 }
 
 /// Returns whether the sizes are those of a frame in the format of this number.
-fn have_layout(y: &Rows, other_y: &Rows, uv: &Rows, u: &Rows, v: &Rows, format: u32) -> bool
+pub fn have_layout(y: &Rows, other_y: &Rows, uv: &Rows, u: &Rows, v: &Rows, format: u32) -> bool
     requires known { IsTrue (is_semi_planar format) }
     ensures { result ≡ have_layout format y.now other_y.now uv.now u.now v.now }
 {

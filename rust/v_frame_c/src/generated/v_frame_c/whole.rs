@@ -89,12 +89,12 @@ pub fn from_semi_planar<T: Pixel>(
 }
 
 /// Returns whether there are such frames of the format of this number.
-fn is_semi_planar(format: u32) -> bool {
+pub fn is_semi_planar(format: u32) -> bool {
     1 <= format && format <= 3
 }
 
 /// Returns whether the sizes are those of a frame in the format of this number.
-fn have_layout(y: &Rows, other_y: &Rows, uv: &Rows, u: &Rows, v: &Rows, format: u32) -> bool {
+pub fn have_layout(y: &Rows, other_y: &Rows, uv: &Rows, u: &Rows, v: &Rows, format: u32) -> bool {
     let (columns, rows) = ratios(format);
     y.same_size(other_y)
         && y.is_subsampled_by(u, columns, rows)

@@ -1,0 +1,76 @@
+//! The exports for whole frames whose samples stand in the top bits of words, as in P010.
+ghost use Rattle.v_frame_c.specs.TopBits.{AreInTopBits, AreOfTopBits};
+
+use crate::layout::Rows;
+use crate::top_bits;
+
+/// Makes the first rows luma, and the second ones chroma, of a frame of three planes of samples of so many bits, in the top bits of
+/// their words.
+#[unsafe(no_mangle)]
+pub extern "C" fn v_frame_to_semi_planar_top_bits_u16(
+    y_rows: &Rows,
+    y: &mut [u16],
+    uv_rows: &Rows,
+    uv: &mut [u16],
+    source_rows: &Rows,
+    source: &[u16],
+    u_rows: &Rows,
+    u: &[u16],
+    v_rows: &Rows,
+    v: &[u16],
+    format: u32,
+    depth: u32,
+) -> u32
+    ensures made { AreInTopBits depth format y_rows.now uv_rows.now source_rows.now u_rows.now v_rows.now
+        y.old y.new uv.old uv.new source.now u.now v.now result }
+{
+    top_bits::to_top_bits(
+        y_rows,
+        y,
+        uv_rows,
+        uv,
+        source_rows,
+        source,
+        u_rows,
+        u,
+        v_rows,
+        v,
+        format,
+        depth,
+    )
+}
+
+/// Makes the first three rows the planes of a frame of luma and of chroma whose samples take turns, in the top bits of words.
+#[unsafe(no_mangle)]
+pub extern "C" fn v_frame_from_semi_planar_top_bits_u16(
+    y_rows: &Rows,
+    y: &mut [u16],
+    u_rows: &Rows,
+    u: &mut [u16],
+    v_rows: &Rows,
+    v: &mut [u16],
+    source_rows: &Rows,
+    source: &[u16],
+    uv_rows: &Rows,
+    uv: &[u16],
+    format: u32,
+    depth: u32,
+) -> u32
+    ensures made { AreOfTopBits depth format y_rows.now uv_rows.now source_rows.now u_rows.now v_rows.now
+        y.old y.new u.old u.new v.old v.new source.now uv.now result }
+{
+    top_bits::from_top_bits(
+        y_rows,
+        y,
+        u_rows,
+        u,
+        v_rows,
+        v,
+        source_rows,
+        source,
+        uv_rows,
+        uv,
+        format,
+        depth,
+    )
+}
