@@ -4,7 +4,6 @@ ghost use Rattle.std.specs.Io.Buffered.{reader_remaining};
 ghost use Rattle.v_frame_y4m.specs.Frames.{frame_byte_count};
 ghost use Rattle.std.proofs.Props.{props};
 ghost use Rattle.v_frame_streams.specs.Layouts.{HoldsColor};
-ghost use Rattle.v_frame_streams.specs.Sources.{IsAtStart};
 
 use crate::colors::holds_color;
 use crate::error::{Problem, StreamError};
@@ -319,7 +318,7 @@ fn buffered<R: io::Read + Drop>(
 ) -> Result<Counted<BufReader<R>>, StreamError>
     ensures buffered { IfOk result (λ buffered. reader_remaining R.remaining buffered.inner
         ≡ R.remaining reader) }
-    ensures stopped { IfErr result (IsAtStart place) }
+    ensures stopped { IfErr result (λ error. (error.place ≡ place) × (error.frames ≡ 0)) }
 {
     match BufReader::new(alloc, reader) {
         Ok(reader) => Ok(Counted::new(reader)),
