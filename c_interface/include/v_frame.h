@@ -2,8 +2,9 @@
  * v_frame: calls on video planes whose every statement is proved, down to this boundary.
  *
  * What each call answers, writes and leaves alone is the contract of a function of the same name in crates/v_frame_c, which the
- * prover has checked. A call tests all that it can test, and answers a status; where that is not V_FRAME_OK nothing was written.
- * No call takes memory, prints, or keeps a pointer. Each may run in any number of threads at once, over buffers of their own.
+ * prover has checked; a library that cargo built is made from these sources, and is tested. A call tests all that it can test, and
+ * answers a status; where that is not V_FRAME_OK nothing was written. No call takes memory, prints, or keeps a pointer. Each may
+ * run in any number of threads at once, over buffers of their own.
  *
  * What no call can test, and you promise:
  *   - a pointer is not null, also beside a length of 0; it is aligned for its type, and points to as many entries as the length

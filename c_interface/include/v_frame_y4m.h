@@ -11,8 +11,8 @@
  *     v_frame_y4m_frame_line(bytes + line, size - line, &line);    and then so many bytes, while some are left
  *
  * The contract of each call, a function of the same name in crates/v_frame_y4m_c, says which status it answers, and what it
- * writes; where that is neither V_FRAME_Y4M_OK nor V_FRAME_Y4M_LAX_LINE, the results are as they were, unless it says otherwise below. Calls that take a
- * header or a header line take memory by malloc while they work, and give it back.
+ * writes; where that is neither V_FRAME_Y4M_OK nor V_FRAME_Y4M_LAX_LINE, the results are as they were, unless it says otherwise
+ * below. Calls that take a header or a header line take memory by malloc while they work, and give it back.
  *
  * You promise that pointers are not null, aligned, and as long as said, and that the results overlap nothing else.
  */

@@ -2,8 +2,8 @@
 
 A plane is a two-dimensional numpy array of uint8 or uint16 in the order of the machine, of the shape (height, width), rows from the
 top; views whose rows lie apart go in without a copy. Without numpy, `Plane` makes one of any buffer. Behind each call is an export
-of `libv_frame`, whose contract the prover has checked: what it answers, what it writes, and that all else of a buffer stays. Sums
-are exact integers. This module is tested.
+of `libv_frame`, whose contract the prover has checked: what it answers, what it writes, and that all else of a buffer stays. A
+library that cargo built is made from these sources, and is tested, as this module is. Sums are exact integers.
 
 What a call makes is new: an array where the first source is one, of the same type, and else a `Plane` over a bytearray whose stride
 is its width. `copy`, `copy_clipped`, `fill`, `blend`, `blend_with_mask` and `difference` write their target in place; what lies
