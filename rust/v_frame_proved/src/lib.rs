@@ -15,6 +15,7 @@
     clippy::manual_range_contains,
     clippy::manual_swap,
     clippy::needless_borrows_for_generic_args,
+    clippy::needless_question_mark,
     clippy::needless_range_loop,
     clippy::new_without_default,
     clippy::should_implement_trait,

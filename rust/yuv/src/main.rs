@@ -5,7 +5,9 @@
 // The sources are translated as they are written, for a prover too. These hints would have them otherwise.
 #![allow(
     clippy::drop_non_drop,
+    clippy::enum_variant_names,
     clippy::explicit_auto_deref,
+    clippy::large_enum_variant,
     clippy::manual_checked_ops,
     clippy::manual_find,
     clippy::manual_map,

@@ -1,6 +1,6 @@
 //! Measures of more squared errors than files of a sensible size have: 2^64 and above.
 
-#[allow(dead_code)]
+#[allow(clippy::duplicate_mod, dead_code)]
 #[path = "../generated/yuv_comparisons/measures.rs"]
 mod measures;
 
