@@ -95,6 +95,9 @@ class Frames(unittest.TestCase):
                 back = Frame.from_semi_planar(y, uv, format, depth)
                 self.assertEqual([samples_of(it) for it in back], [samples_of(it) for it in frame])
                 self.assertEqual((back.format, back.depth), (format, depth))
+        # Bits below a sample are no part of it.
+        words = Plane((64 * 5 + 63).to_bytes(2, sys.byteorder) * 2, 2, 1, sample_size=2)
+        self.assertEqual([samples_of(it) for it in Frame.from_semi_planar(words, words, "420", 10)], [[[5, 5]], [[5]], [[5]]])
         for format in ("mono", "411"):
             self.assertRaises(v_frame.NumberError, random_frame(source, 8, 8, format, 8).to_semi_planar)
             self.assertRaises(v_frame.NumberError, Frame.from_semi_planar, Plane(bytes(64), 8, 8), Plane(bytes(64), 8, 8), format)
