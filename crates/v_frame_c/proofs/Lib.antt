@@ -2,3 +2,4 @@ mod Bounds
 mod ByTurns
 mod Parts
 mod Rectangles
+mod Statuses
