@@ -1,8 +1,8 @@
 -- Loops that exchange the items of a list from both ends.
 use Rattle.std.proofs.Common.{ℕ, ◌≡◌, ◌≢◌, ◌+◌, ◌-◌, ◌<◌, ◌≤◌, List, length, map, Some, reverse, slice_get}
-use Rattle.std.proofs.Common.{slice_set, refl, sym, ◌∙◌, ap, inl, inr, arith, Option, None, option_map, length-set}
+use Rattle.std.proofs.Common.{slice_set, refl, sym, ◌∙◌, inl, inr, arith, option_map, length-set}
 use Rattle.std.proofs.lemmas.Bool.{cases_lt}
-use Rattle.std.proofs.lemmas.List.{length-map, map-id}
+use Rattle.std.proofs.lemmas.List.{length-map}
 use Rattle.std.proofs.lemmas.Option.{slice_get-map}
 use Rattle.v_frame_raster.proofs.tables.Lists.{set_is_read, others_are_read}
 use Rattle.v_frame_raster.proofs.tables.ListItems.{is_reverse}
@@ -99,15 +99,3 @@ module _ {X : Type 0} (of : X → X) where
       (λ k h from. others_are_read now i k q (omega arith) ∙ done.high k h from)
       (λ k here. let same : k ≡ i = omega arith in
       rw (same, was, ← made) (set_is_read now i q (omega (arith, done.count))))
-
--- items that are exchanged as they are: the one in the middle stays
-pub all_exchanged_alone : {X : Type 0} (old now : List X) (i : ℕ) → ExchangedBelow (λ x. x) old now i
-    → i + i ≤ length old → length old ≤ i + i + 1 → now ≡ reverse old
-all_exchanged_alone old now i done half end =
-    ends_exchanged (λ x. x) old now i done.count end done.low done.high
-    (λ k here. done.between k (omega arith) (omega arith) ∙ sym (option_map-id (slice_get old k)))
-    ∙ ap reverse (map-id old)
-  where
-    option_map-id : {Y : Type 0} (o : Option Y) → option_map (λ y. y) o ≡ o
-    option_map-id None = refl
-    option_map-id (Some y) = refl

@@ -34,6 +34,11 @@ abbrev pub is_turnable : TheTurn → ChromaSubsampling → Bool
 is_turnable turn subsampling =
     if exchanges turn then even_ratio (ratio_of subsampling) else true
 
+-- a size is another one, or that one exchanged
+abbrev pub SizeFits : Bool → ℕ → ℕ → ℕ → ℕ → Type 0
+SizeFits false width height target_width target_height = (width ≡ target_width) × (height ≡ target_height)
+SizeFits true width height target_width target_height = (height ≡ target_width) × (width ≡ target_height)
+
 module _ {T : Type 0} where
   abbrev pub turned : TheTurn → Table T → Table T
   turned FlipVertical rows = reverse rows
@@ -50,12 +55,8 @@ module _ {T : Type 0} where
 
   -- a plane has the size of another one, or that size exchanged
   abbrev pub PlaneFits : Bool → Raster T → Raster T → Type 0
-  PlaneFits false source target =
-      (source.geometry.width ≡ target.geometry.width)
-      × (source.geometry.height ≡ target.geometry.height)
-  PlaneFits true source target =
-      (source.geometry.height ≡ target.geometry.width)
-      × (source.geometry.width ≡ target.geometry.height)
+  PlaneFits exchanged source target =
+      SizeFits exchanged source.geometry.width source.geometry.height target.geometry.width target.geometry.height
 
   -- both planes are there, and one fits the other, or both are absent
   abbrev pub BothFit : Bool → Option (Raster T) → Option (Raster T) → Type 0

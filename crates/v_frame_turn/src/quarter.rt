@@ -1,29 +1,22 @@
 //! Planes transposed, or turned by a quarter. Borders stay.
-ghost use Rattle.std.specs.Prelude.{◌≡◌};
+ghost use Rattle.std.specs.Prelude.{◌≡◌, true};
 ghost use Rattle.v_frame.specs.Prelude.{table_of, KeepsBorder};
+ghost use Rattle.v_frame_turn.specs.Frames.{PlaneFits};
 ghost use Rattle.v_frame_turn.specs.Turn.{rotated_270, rotated_90, transposed};
 
-use crate::rows;
+use crate::turns::{Turn, turn_plane};
 use v_frame::pixel::Pixel;
-use v_frame::plane::{Plane, PlaneRef, VisibleMut};
+use v_frame::plane::{Plane, PlaneRef};
 
 /// Shows in `target` what `source` shows transposed: its columns become the rows, from the left, as NumPy's `.T` does.
 ///
 /// The width of the target is the height of the source, and its height the width.
 pub fn transpose<T: Pixel>(source: &PlaneRef<'_, T>, target: &mut Plane<T>)
-    requires wide { source.now.geometry.height ≡ target.old.geometry.width }
-    requires high { source.now.geometry.width ≡ target.old.geometry.height }
+    requires { PlaneFits true source.now target.old }
     ensures table { table_of target.new ≡ transposed (table_of source.now) }
     ensures border { KeepsBorder target.old target.new }
 {
-    let source = source.as_rows_ref();
-    let VisibleMut {
-        entries,
-        width,
-        height,
-        stride,
-    } = target.visible_mut();
-    rows::transpose(&source, entries, width, height, stride);
+    turn_plane(source, target, Turn::Transpose);
 }
 
 /// Shows in `target` what `source` shows turned by 90 degrees clockwise: its columns become the rows, from the left, each
@@ -31,19 +24,11 @@ pub fn transpose<T: Pixel>(source: &PlaneRef<'_, T>, target: &mut Plane<T>)
 ///
 /// The width of the target is the height of the source, and its height the width.
 pub fn rotate_90<T: Pixel>(source: &PlaneRef<'_, T>, target: &mut Plane<T>)
-    requires wide { source.now.geometry.height ≡ target.old.geometry.width }
-    requires high { source.now.geometry.width ≡ target.old.geometry.height }
+    requires { PlaneFits true source.now target.old }
     ensures table { table_of target.new ≡ rotated_90 (table_of source.now) }
     ensures border { KeepsBorder target.old target.new }
 {
-    let source = source.as_rows_ref();
-    let VisibleMut {
-        entries,
-        width,
-        height,
-        stride,
-    } = target.visible_mut();
-    rows::rotate_90(&source, entries, width, height, stride);
+    turn_plane(source, target, Turn::Rotate90);
 }
 
 /// Shows in `target` what `source` shows turned by 270 degrees clockwise, which is 90 degrees counterclockwise: its columns
@@ -51,17 +36,9 @@ pub fn rotate_90<T: Pixel>(source: &PlaneRef<'_, T>, target: &mut Plane<T>)
 ///
 /// The width of the target is the height of the source, and its height the width.
 pub fn rotate_270<T: Pixel>(source: &PlaneRef<'_, T>, target: &mut Plane<T>)
-    requires wide { source.now.geometry.height ≡ target.old.geometry.width }
-    requires high { source.now.geometry.width ≡ target.old.geometry.height }
+    requires { PlaneFits true source.now target.old }
     ensures table { table_of target.new ≡ rotated_270 (table_of source.now) }
     ensures border { KeepsBorder target.old target.new }
 {
-    let source = source.as_rows_ref();
-    let VisibleMut {
-        entries,
-        width,
-        height,
-        stride,
-    } = target.visible_mut();
-    rows::rotate_270(&source, entries, width, height, stride);
+    turn_plane(source, target, Turn::Rotate270);
 }

@@ -1,12 +1,11 @@
 //! The ways to turn a picture, as values.
-ghost use Rattle.std.specs.Prelude.{◌≡◌};
-ghost use Rattle.v_frame.specs.Prelude.{table_of, KeepsBorder};
-ghost use Rattle.v_frame_turn.specs.Frames.{exchanges, turned, PlaneFits};
+ghost use Rattle.std.specs.Prelude.{◌≡◌, length};
+ghost use Rattle.v_frame.specs.Prelude.{height_of, strided_rows, table_of, width_of, KeepsBorder, KeepsRest, RowsFit};
+ghost use Rattle.v_frame_turn.specs.Frames.{exchanges, turned, PlaneFits, SizeFits};
 
-use crate::flip::{flip_horizontal, flip_vertical, rotate_180};
-use crate::quarter::{rotate_90, rotate_270, transpose};
+use crate::rows;
 use v_frame::pixel::Pixel;
-use v_frame::plane::{Plane, PlaneRef};
+use v_frame::plane::{Plane, PlaneRef, RowsRef, VisibleMut};
 
 /// A way to turn a picture. With that of leaving it as it is, and transposing one that was turned by 180 degrees, these are the
 /// eight orientations of Exif.
@@ -45,12 +44,36 @@ pub fn turn_plane<T: Pixel>(source: &PlaneRef<'_, T>, target: &mut Plane<T>, tur
     ensures table { table_of target.new ≡ turned turn (table_of source.now) }
     ensures border { KeepsBorder target.old target.new }
 {
+    let source = source.as_rows_ref();
+    let VisibleMut {
+        entries,
+        width,
+        height,
+        stride,
+    } = target.visible_mut();
+    turn_rows(&source, entries, width, height, stride, turn);
+}
+
+/// Writes what `source` shows, turned.
+fn turn_rows<T: Pixel>(
+    source: &RowsRef<'_, T>,
+    buffer: &mut [T],
+    width: usize,
+    height: usize,
+    stride: usize,
+    turn: Turn,
+)
+    requires fit { RowsFit width height stride (length buffer.old) }
+    requires size { SizeFits (exchanges turn) (width_of source.now) (height_of source.now) width height }
+    ensures table { strided_rows width height stride buffer.new ≡ turned turn source.now }
+    ensures rest { KeepsRest width height stride buffer.old buffer.new }
+{
     match turn {
-        Turn::FlipVertical => flip_vertical(source, target),
-        Turn::FlipHorizontal => flip_horizontal(source, target),
-        Turn::Rotate180 => rotate_180(source, target),
-        Turn::Transpose => transpose(source, target),
-        Turn::Rotate90 => rotate_90(source, target),
-        Turn::Rotate270 => rotate_270(source, target),
+        Turn::FlipVertical => rows::flip_vertical(source, buffer, width, height, stride),
+        Turn::FlipHorizontal => rows::flip_horizontal(source, buffer, width, height, stride),
+        Turn::Rotate180 => rows::rotate_180(source, buffer, width, height, stride),
+        Turn::Transpose => rows::transpose(source, buffer, width, height, stride),
+        Turn::Rotate90 => rows::rotate_90(source, buffer, width, height, stride),
+        Turn::Rotate270 => rows::rotate_270(source, buffer, width, height, stride),
     }
 }

@@ -1,13 +1,13 @@
 //! Rows turned upside down, to their right ends, or both, where they are.
-ghost use Rattle.std.specs.Prelude.{◌≡◌, length, map, reverse};
+ghost use Rattle.std.specs.Prelude.{◌≡◌, length, map, reverse, true};
 ghost use Rattle.v_frame.specs.Prelude.{strided_rows, KeepsRest, RowsFit};
 ghost use Rattle.v_frame_turn.specs.Turn.{rotated_180};
+ghost use Rattle.v_frame_turn.specs.Turning.{flipped};
 
-use crate::rows::row::{exchange, exchange_reversed, reverse_row};
+use crate::rows::row::{exchange_rows, turn_row};
 use v_frame::pixel::Pixel;
 
 /// Turns the rows upside down, as `np.flipud` does.
-#[tactic(auto, using(v_frame_raster::proofs::tables::StridedWrites::row_ends))]
 pub fn flip_vertical_in_place<T: Pixel>(
     buffer: &mut [T],
     width: usize,
@@ -19,11 +19,7 @@ pub fn flip_vertical_in_place<T: Pixel>(
         ≡ reverse (strided_rows width height stride buffer.old) }
     ensures rest { KeepsRest width height stride buffer.old buffer.new }
 {
-    for y in 0..height / 2 {
-        let (top, bottom) = (stride * y, stride * (height - 1 - y));
-        let (above, below) = buffer.split_at_mut(bottom);
-        exchange(&mut above[top..top + width], &mut below[..width]);
-    }
+    turn_upside_down(buffer, width, height, stride, false);
 }
 
 /// Mirrors the rows: each is turned to its right end, as `np.fliplr` does.
@@ -41,25 +37,42 @@ pub fn flip_horizontal_in_place<T: Pixel>(
 {
     for y in 0..height {
         let start = stride * y;
-        reverse_row(&mut buffer[start..start + width]);
+        turn_row(&mut buffer[start..start + width], true);
     }
 }
 
 /// Turns the rows by 180 degrees.
-#[tactic(auto, using(v_frame_raster::proofs::tables::StridedWrites::row_ends))]
 pub fn rotate_180_in_place<T: Pixel>(buffer: &mut [T], width: usize, height: usize, stride: usize)
     requires { RowsFit width height stride (length buffer.old) }
     ensures table { strided_rows width height stride buffer.new
         ≡ rotated_180 (strided_rows width height stride buffer.old) }
     ensures rest { KeepsRest width height stride buffer.old buffer.new }
 {
+    turn_upside_down(buffer, width, height, stride, true);
+}
+
+/// Turns the rows upside down, and each to its right end where `mirrored` says so.
+#[inline(always)]
+#[tactic(auto, using(v_frame_raster::proofs::tables::StridedWrites::row_ends))]
+fn turn_upside_down<T: Pixel>(
+    buffer: &mut [T],
+    width: usize,
+    height: usize,
+    stride: usize,
+    mirrored: bool,
+)
+    requires { RowsFit width height stride (length buffer.old) }
+    ensures table { strided_rows width height stride buffer.new
+        ≡ flipped true mirrored (strided_rows width height stride buffer.old) }
+    ensures rest { KeepsRest width height stride buffer.old buffer.new }
+{
     for y in 0..height / 2 {
         let (top, bottom) = (stride * y, stride * (height - 1 - y));
         let (above, below) = buffer.split_at_mut(bottom);
-        exchange_reversed(&mut above[top..top + width], &mut below[..width]);
+        exchange_rows(&mut above[top..top + width], &mut below[..width], mirrored);
     }
     if height % 2 == 1 {
         let middle = stride * (height / 2);
-        reverse_row(&mut buffer[middle..middle + width]);
+        turn_row(&mut buffer[middle..middle + width], mirrored);
     }
 }

@@ -2,8 +2,9 @@
 ghost use Rattle.std.specs.Prelude.{All, ◌≡◌, ◌-◌, ◌<◌, ◌≤◌, ℕ, false, length, true};
 ghost use Rattle.v_frame.specs.Prelude.{height_of, pixel_at, strided_rows, width_of, KeepsRest, RowsFit};
 ghost use Rattle.v_frame_turn.specs.Turn.{rotated_270, rotated_90, transposed};
-ghost use Rattle.v_frame_turn.specs.Turning.{index_from, turned_pixel, ColumnIsRight, KeepsRight};
+ghost use Rattle.v_frame_turn.specs.Turning.{turned_pixel, ColumnIsRight, KeepsRight};
 
+use crate::rows::row::counted;
 use v_frame::pixel::Pixel;
 use v_frame::plane::RowsRef;
 
@@ -188,14 +189,4 @@ fn turn_pair<T: Pixel>(
         buffer[start + x] = row[column];
         buffer[start + next] = next_row[column];
     }
-}
-
-/// Returns an index, counted from the end where `from_end` says so.
-#[inline(always)]
-fn counted(from_end: bool, count: usize, index: usize) -> usize
-    requires { index < count }
-    ensures value { result ≡ index_from from_end count index }
-    ensures within { result < count }
-{
-    if from_end { count - 1 - index } else { index }
 }

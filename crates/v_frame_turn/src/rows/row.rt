@@ -1,12 +1,60 @@
-//! One row reversed, or exchanged with another one.
+//! One row mirrored, or exchanged with another one.
 //!
 //! The loops from both ends are kept out of line: in a loop over rows from both ends the compiler makes no packed code of them.
-ghost use Rattle.std.specs.Prelude.{◌≡◌, length, reverse};
+ghost use Rattle.std.specs.Prelude.{◌≡◌, ◌<◌, length, reverse};
+ghost use Rattle.v_frame_turn.specs.Turning.{index_from, list_from};
+
+/// Returns an index, counted from the end where `from_end` says so.
+#[inline(always)]
+pub(super) fn counted(from_end: bool, count: usize, index: usize) -> usize
+    requires { index < count }
+    ensures value { result ≡ index_from from_end count index }
+    ensures within { result < count }
+{
+    if from_end { count - 1 - index } else { index }
+}
+
+/// Writes a row, from its right end where `mirrored` says so.
+#[inline(always)]
+pub(super) fn write_row<T: Copy>(target: &mut [T], source: &[T], mirrored: bool)
+    requires { length source.now ≡ length target.old }
+    ensures { target.new ≡ list_from mirrored source.now }
+{
+    if mirrored {
+        write_reversed(target, source);
+    } else {
+        target.copy_from_slice(source);
+    }
+}
+
+/// Exchanges two rows, each from its right end where `mirrored` says so.
+#[inline(always)]
+pub(super) fn exchange_rows<T: Copy>(a: &mut [T], b: &mut [T], mirrored: bool)
+    requires { length b.old ≡ length a.old }
+    ensures first { a.new ≡ list_from mirrored b.old }
+    ensures second { b.new ≡ list_from mirrored a.old }
+{
+    if mirrored {
+        exchange_reversed(a, b);
+    } else {
+        exchange(a, b);
+    }
+}
+
+/// Turns a row to its right end where `mirrored` says so.
+#[inline(always)]
+pub(super) fn turn_row<T: Copy>(row: &mut [T], mirrored: bool)
+    ensures { row.new ≡ list_from mirrored row.old }
+{
+    if mirrored {
+        row.reverse();
+    }
+}
 
 /// Writes a row from its right end.
 #[inline(never)]
 #[tactic(auto, using(v_frame_raster::proofs::tables::ListItems::is_reverse))]
-pub(super) fn write_reversed<T: Copy>(target: &mut [T], source: &[T])
+fn write_reversed<T: Copy>(target: &mut [T], source: &[T])
     requires { length source.now ≡ length target.old }
     ensures { target.new ≡ reverse source.now }
 {
@@ -18,7 +66,7 @@ pub(super) fn write_reversed<T: Copy>(target: &mut [T], source: &[T])
 
 /// Exchanges two rows.
 #[tactic(auto, using(v_frame_raster::proofs::tables::Lists::same_by_slice_get))]
-pub(super) fn exchange<T: Copy>(a: &mut [T], b: &mut [T])
+fn exchange<T: Copy>(a: &mut [T], b: &mut [T])
     requires { length b.old ≡ length a.old }
     ensures first { a.new ≡ b.old }
     ensures second { b.new ≡ a.old }
@@ -33,7 +81,7 @@ pub(super) fn exchange<T: Copy>(a: &mut [T], b: &mut [T])
 /// Exchanges two rows, each from its right end.
 #[inline(never)]
 #[tactic(auto, using(v_frame_raster::proofs::tables::ListItems::is_reverse))]
-pub(super) fn exchange_reversed<T: Copy>(a: &mut [T], b: &mut [T])
+fn exchange_reversed<T: Copy>(a: &mut [T], b: &mut [T])
     requires { length b.old ≡ length a.old }
     ensures first { a.new ≡ reverse b.old }
     ensures second { b.new ≡ reverse a.old }
@@ -44,11 +92,4 @@ pub(super) fn exchange_reversed<T: Copy>(a: &mut [T], b: &mut [T])
         a[x] = b[width - 1 - x];
         b[width - 1 - x] = kept;
     }
-}
-
-/// Reverses a row.
-pub(super) fn reverse_row<T: Copy>(row: &mut [T])
-    ensures { row.new ≡ reverse row.old }
-{
-    row.reverse();
 }

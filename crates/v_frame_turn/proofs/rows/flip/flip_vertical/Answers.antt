@@ -1,36 +1,7 @@
--- A row of the source, counted from the bottom, is one of the rows upside down.
-use Rattle.std.proofs.Common.{◌≡◌, ◌+◌, ◌-◌, ◌*◌, ◌<◌, length, Some, reverse, slice_get, sym, ◌∙◌, ap, arith}
-use Rattle.std.proofs.lemmas.List.{length-reverse}
-use Rattle.v_frame_raster.proofs.tables.StridedWrites.{none_written, one_more_written, all_written}
-use Rattle.v_frame_raster.proofs.tables.ListItems.{reversed_item}
+-- Rows that are not mirrored are the rows.
+use Rattle.std.proofs.Common.{reverse, ◌∙◌, ap}
+use Rattle.std.proofs.lemmas.List.{map-id}
 use Rattle.v_frame_turn.proofs.rows.flip.flip_vertical.Goals as goal
 
-pub loop-y-init : goal.loop-y-init
-loop-y-init g c = none_written c.args.width c.args.height c.args.stride _ c.args.buffer.now
-
-pub loop-y-preserved : goal.loop-y-preserved
-loop-y-preserved g c =
-    let w = c.args.width in let h = c.args.height in let s = c.args.stride in let y = c.loop-y.y in
-    let xs = c.loop-y.buffer in let rows = c.args.source.now in let start = s * y in let shown =
-    c.visible_row.result.now in
-    let fit = c.requires.fit in
-    let high : y < h = omega arith in
-    let cut : start + w - start ≡ w = omega arith in
-    let wide : length shown ≡ w = c.visible_row.ensures.wide ∙ c.requires.wide in
-    let row = c.copy_from_slice.new.self in
-    let is : row ≡ shown = c.copy_from_slice.ensures.after in
-    let long : length row ≡ w = ap length is ∙ wide in
-    let made : slice_get (reverse rows) y ≡ Some row =
-    reversed_item rows h y shown c.requires.high high c.visible_row.ensures.value ∙ ap Some (sym is) in
-    rw cut (one_more_written w h s (reverse rows) c.args.buffer.now xs row y fit high c.loop-y.auto.buffer made long
-    c.loop-y.invariant)
-
 pub returns-clause-table : goal.returns-clause-table
-returns-clause-table g c =
-    let rows = c.args.source.now in
-    all_written c.args.width c.args.height c.args.stride (reverse rows) c.args.buffer.now c.loop-y.buffer c.loop-y.y
-    (length-reverse rows ∙ c.requires.high)
-    (omega arith) c.loop-y.invariant
-
-pub returns-clause-rest : goal.returns-clause-rest
-returns-clause-rest g c = c.loop-y.invariant.rest
+returns-clause-table g c = c.flip.ensures.table ∙ ap reverse (map-id c.args.source.now)

@@ -16,7 +16,7 @@ loop-y-init g c = none_written c.args.width c.args.height c.args.stride _ c.args
 pub loop-y-preserved : goal.loop-y-preserved
 loop-y-preserved g c =
     let w = c.args.width in let h = c.args.height in let s = c.args.stride in let y = c.loop-y.y in
-    let old = c.args.buffer.now in let xs = c.loop-y.buffer in let row = c.reverse_row.new.row in let start = s * y in
+    let old = c.args.buffer.now in let xs = c.loop-y.buffer in let row = c.turn_row.new.row in let start = s * y in
     let fit = c.requires in
     let shown = strided_rows w h s old in let turned = map reverse shown in
     let high : y < h = omega arith in
@@ -26,8 +26,8 @@ loop-y-preserved g c =
     let wide : length part ≡ w = length-take-le w (drop start xs)
     (omega (arith, length-drop start xs, ends, c.loop-y.auto.buffer)) in
     let count = height_of_rows w h s old in
-    let is : row ≡ reverse part = rw cut at c.reverse_row.ensures in
-    let long : length row ≡ w = rw (cut, wide) at c.reverse_row.auto.row in
+    let is : row ≡ reverse part = rw cut at c.turn_row.ensures in
+    let long : length row ≡ w = rw (cut, wide) at c.turn_row.auto.row in
     let read : slice_get shown y ≡ Some part =
     sym (slice_get-seam turned shown y (omega (arith, length-map shown reverse, count)) (omega (arith, count)))
     ∙ ap (λ rows. slice_get rows y) (sym c.loop-y.invariant.table) ∙ strided_row w h s xs y fit.apart high in

@@ -1,7 +1,0 @@
--- The rows so far are turned, and all else is as it was.
-use Rattle.std.proofs.Common.{reverse}
-use Rattle.v_frame_raster.proofs.tables.StridedWrites.{WrittenBelow}
-use Rattle.v_frame_turn.proofs.rows.flip.flip_vertical.Given as goal
-
-abbrev pub invariant-loop-y : goal.invariant-loop-y
-invariant-loop-y g l = WrittenBelow l.width l.height l.stride (reverse l.source) l.initial.buffer l.buffer l.y

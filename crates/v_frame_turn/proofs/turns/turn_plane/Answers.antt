@@ -1,0 +1,11 @@
+-- The sizes that are shown are those of the planes.
+use Rattle.v_frame_turn.proofs.turns.turn_plane.Goals as goal
+
+pub turn_rows-requires-clause-size : goal.turn_rows-requires-clause-size
+turn_rows-requires-clause-size g c =
+    rw (
+      c.as_rows_ref-source.ensures.width,
+      c.as_rows_ref-source.ensures.height,
+      c.visible_mut-entries.ensures.width,
+      c.visible_mut-entries.ensures.height,
+    ) c.requires
