@@ -1,7 +1,6 @@
 //! Planes upside down, mirrored, or both. Borders stay.
-ghost use Rattle.std.specs.Prelude.{◌≡◌, false, map, reverse};
+ghost use Rattle.std.specs.Prelude.{◌≡◌, map, reverse};
 ghost use Rattle.v_frame.specs.Prelude.{table_of, KeepsBorder};
-ghost use Rattle.v_frame_turn.specs.Frames.{PlaneFits};
 ghost use Rattle.v_frame_turn.specs.Turn.{rotated_180};
 
 use crate::rows;
@@ -11,7 +10,8 @@ use v_frame::plane::{Plane, PlaneRef, VisibleMut};
 
 /// Shows in `target` what `source` shows upside down, as `np.flipud` does. Both have one size.
 pub fn flip_vertical<T: Pixel>(source: &PlaneRef<'_, T>, target: &mut Plane<T>)
-    requires { PlaneFits false source.now target.old }
+    requires wide { source.now.geometry.width ≡ target.old.geometry.width }
+    requires high { source.now.geometry.height ≡ target.old.geometry.height }
     ensures table { table_of target.new ≡ reverse (table_of source.now) }
     ensures border { KeepsBorder target.old target.new }
 {
@@ -20,7 +20,8 @@ pub fn flip_vertical<T: Pixel>(source: &PlaneRef<'_, T>, target: &mut Plane<T>)
 
 /// Shows in `target` what `source` shows mirrored: each row from its right end, as `np.fliplr` does. Both have one size.
 pub fn flip_horizontal<T: Pixel>(source: &PlaneRef<'_, T>, target: &mut Plane<T>)
-    requires { PlaneFits false source.now target.old }
+    requires wide { source.now.geometry.width ≡ target.old.geometry.width }
+    requires high { source.now.geometry.height ≡ target.old.geometry.height }
     ensures table { table_of target.new ≡ map reverse (table_of source.now) }
     ensures border { KeepsBorder target.old target.new }
 {
@@ -29,7 +30,8 @@ pub fn flip_horizontal<T: Pixel>(source: &PlaneRef<'_, T>, target: &mut Plane<T>
 
 /// Shows in `target` what `source` shows turned by 180 degrees. Both have one size.
 pub fn rotate_180<T: Pixel>(source: &PlaneRef<'_, T>, target: &mut Plane<T>)
-    requires { PlaneFits false source.now target.old }
+    requires wide { source.now.geometry.width ≡ target.old.geometry.width }
+    requires high { source.now.geometry.height ≡ target.old.geometry.height }
     ensures table { table_of target.new ≡ rotated_180 (table_of source.now) }
     ensures border { KeepsBorder target.old target.new }
 {

@@ -1,7 +1,6 @@
 //! Planes transposed, or turned by a quarter. Borders stay.
-ghost use Rattle.std.specs.Prelude.{◌≡◌, true};
+ghost use Rattle.std.specs.Prelude.{◌≡◌};
 ghost use Rattle.v_frame.specs.Prelude.{table_of, KeepsBorder};
-ghost use Rattle.v_frame_turn.specs.Frames.{PlaneFits};
 ghost use Rattle.v_frame_turn.specs.Turn.{rotated_270, rotated_90, transposed};
 
 use crate::turns::{Turn, turn_plane};
@@ -12,7 +11,8 @@ use v_frame::plane::{Plane, PlaneRef};
 ///
 /// The width of the target is the height of the source, and its height the width.
 pub fn transpose<T: Pixel>(source: &PlaneRef<'_, T>, target: &mut Plane<T>)
-    requires { PlaneFits true source.now target.old }
+    requires wide { source.now.geometry.height ≡ target.old.geometry.width }
+    requires high { source.now.geometry.width ≡ target.old.geometry.height }
     ensures table { table_of target.new ≡ transposed (table_of source.now) }
     ensures border { KeepsBorder target.old target.new }
 {
@@ -24,7 +24,8 @@ pub fn transpose<T: Pixel>(source: &PlaneRef<'_, T>, target: &mut Plane<T>)
 ///
 /// The width of the target is the height of the source, and its height the width.
 pub fn rotate_90<T: Pixel>(source: &PlaneRef<'_, T>, target: &mut Plane<T>)
-    requires { PlaneFits true source.now target.old }
+    requires wide { source.now.geometry.height ≡ target.old.geometry.width }
+    requires high { source.now.geometry.width ≡ target.old.geometry.height }
     ensures table { table_of target.new ≡ rotated_90 (table_of source.now) }
     ensures border { KeepsBorder target.old target.new }
 {
@@ -36,7 +37,8 @@ pub fn rotate_90<T: Pixel>(source: &PlaneRef<'_, T>, target: &mut Plane<T>)
 ///
 /// The width of the target is the height of the source, and its height the width.
 pub fn rotate_270<T: Pixel>(source: &PlaneRef<'_, T>, target: &mut Plane<T>)
-    requires { PlaneFits true source.now target.old }
+    requires wide { source.now.geometry.height ≡ target.old.geometry.width }
+    requires high { source.now.geometry.width ≡ target.old.geometry.height }
     ensures table { table_of target.new ≡ rotated_270 (table_of source.now) }
     ensures border { KeepsBorder target.old target.new }
 {

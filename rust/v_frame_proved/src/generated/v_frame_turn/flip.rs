@@ -3,6 +3,7 @@
 
 use crate::views::AsPlaneRef;
 use crate::generated::v_frame_turn::rows;
+use crate::generated::v_frame_turn::turns::{Turn, turn_plane};
 use crate::generated::v_frame::pixel::Pixel;
 use crate::generated::v_frame::plane::{Plane, VisibleMut};
 
@@ -26,14 +27,7 @@ pub fn flip_vertical<T: Pixel>(source: impl AsPlaneRef<Pixel = T>, target: &mut 
         source.height() == target.height(),
         "the heights of source ({}) and target ({}) are not equal", source.height(), target.height()
     );
-    let source = source.as_rows_ref();
-    let VisibleMut {
-        entries,
-        width,
-        height,
-        stride,
-    } = target.visible_mut();
-    rows::flip_vertical(&source, entries, width, height, stride);
+    turn_plane(source, target, Turn::FlipVertical);
 }
 
 /// Shows in `target` what `source` shows mirrored: each row from its right end, as `np.fliplr` does. Both have one size.
@@ -56,14 +50,7 @@ pub fn flip_horizontal<T: Pixel>(source: impl AsPlaneRef<Pixel = T>, target: &mu
         source.height() == target.height(),
         "the heights of source ({}) and target ({}) are not equal", source.height(), target.height()
     );
-    let source = source.as_rows_ref();
-    let VisibleMut {
-        entries,
-        width,
-        height,
-        stride,
-    } = target.visible_mut();
-    rows::flip_horizontal(&source, entries, width, height, stride);
+    turn_plane(source, target, Turn::FlipHorizontal);
 }
 
 /// Shows in `target` what `source` shows turned by 180 degrees. Both have one size.
@@ -86,14 +73,7 @@ pub fn rotate_180<T: Pixel>(source: impl AsPlaneRef<Pixel = T>, target: &mut Pla
         source.height() == target.height(),
         "the heights of source ({}) and target ({}) are not equal", source.height(), target.height()
     );
-    let source = source.as_rows_ref();
-    let VisibleMut {
-        entries,
-        width,
-        height,
-        stride,
-    } = target.visible_mut();
-    rows::rotate_180(&source, entries, width, height, stride);
+    turn_plane(source, target, Turn::Rotate180);
 }
 
 /// Turns what a plane shows upside down, as `np.flipud` does.

@@ -2,9 +2,9 @@
 //! Planes transposed, or turned by a quarter. Borders stay.
 
 use crate::views::AsPlaneRef;
-use crate::generated::v_frame_turn::rows;
+use crate::generated::v_frame_turn::turns::{Turn, turn_plane};
 use crate::generated::v_frame::pixel::Pixel;
-use crate::generated::v_frame::plane::{Plane, VisibleMut};
+use crate::generated::v_frame::plane::Plane;
 
 /// Shows in `target` what `source` shows transposed: its columns become the rows, from the left, as NumPy's `.T` does.
 ///
@@ -28,14 +28,7 @@ pub fn transpose<T: Pixel>(source: impl AsPlaneRef<Pixel = T>, target: &mut Plan
         source.width() == target.height(),
         "the width of source ({}) is not the height of target ({})", source.width(), target.height()
     );
-    let source = source.as_rows_ref();
-    let VisibleMut {
-        entries,
-        width,
-        height,
-        stride,
-    } = target.visible_mut();
-    rows::transpose(&source, entries, width, height, stride);
+    turn_plane(source, target, Turn::Transpose);
 }
 
 /// Shows in `target` what `source` shows turned by 90 degrees clockwise: its columns become the rows, from the left, each
@@ -61,14 +54,7 @@ pub fn rotate_90<T: Pixel>(source: impl AsPlaneRef<Pixel = T>, target: &mut Plan
         source.width() == target.height(),
         "the width of source ({}) is not the height of target ({})", source.width(), target.height()
     );
-    let source = source.as_rows_ref();
-    let VisibleMut {
-        entries,
-        width,
-        height,
-        stride,
-    } = target.visible_mut();
-    rows::rotate_90(&source, entries, width, height, stride);
+    turn_plane(source, target, Turn::Rotate90);
 }
 
 /// Shows in `target` what `source` shows turned by 270 degrees clockwise, which is 90 degrees counterclockwise: its columns
@@ -94,12 +80,5 @@ pub fn rotate_270<T: Pixel>(source: impl AsPlaneRef<Pixel = T>, target: &mut Pla
         source.width() == target.height(),
         "the width of source ({}) is not the height of target ({})", source.width(), target.height()
     );
-    let source = source.as_rows_ref();
-    let VisibleMut {
-        entries,
-        width,
-        height,
-        stride,
-    } = target.visible_mut();
-    rows::rotate_270(&source, entries, width, height, stride);
+    turn_plane(source, target, Turn::Rotate270);
 }

@@ -2,10 +2,9 @@
 //! The ways to turn a picture, as values.
 
 use crate::views::AsPlaneRef;
-use crate::generated::v_frame_turn::flip::{flip_horizontal, flip_vertical, rotate_180};
-use crate::generated::v_frame_turn::quarter::{rotate_90, rotate_270, transpose};
+use crate::generated::v_frame_turn::rows;
 use crate::generated::v_frame::pixel::Pixel;
-use crate::generated::v_frame::plane::Plane;
+use crate::generated::v_frame::plane::{Plane, RowsRef, VisibleMut};
 
 /// A way to turn a picture. With that of leaving it as it is, and transposing one that was turned by 180 degrees, these are the
 /// eight orientations of Exif.
@@ -51,12 +50,31 @@ pub fn turn_plane<T: Pixel>(source: impl AsPlaneRef<Pixel = T>, target: &mut Pla
         crate::support::conditions::has_turned_size(turn.exchanges_sizes(), (source.width(), source.height()), (target.width(), target.height())),
         "a plane of {}x{} cannot be shown in one of {}x{} by {turn:?}", source.width(), source.height(), target.width(), target.height()
     );
+    let source = source.as_rows_ref();
+    let VisibleMut {
+        entries,
+        width,
+        height,
+        stride,
+    } = target.visible_mut();
+    turn_rows(&source, entries, width, height, stride, turn);
+}
+
+/// Writes what `source` shows, turned.
+fn turn_rows<T: Pixel>(
+    source: &RowsRef<'_, T>,
+    buffer: &mut [T],
+    width: usize,
+    height: usize,
+    stride: usize,
+    turn: Turn,
+) {
     match turn {
-        Turn::FlipVertical => flip_vertical(source, target),
-        Turn::FlipHorizontal => flip_horizontal(source, target),
-        Turn::Rotate180 => rotate_180(source, target),
-        Turn::Transpose => transpose(source, target),
-        Turn::Rotate90 => rotate_90(source, target),
-        Turn::Rotate270 => rotate_270(source, target),
+        Turn::FlipVertical => rows::flip_vertical(source, buffer, width, height, stride),
+        Turn::FlipHorizontal => rows::flip_horizontal(source, buffer, width, height, stride),
+        Turn::Rotate180 => rows::rotate_180(source, buffer, width, height, stride),
+        Turn::Transpose => rows::transpose(source, buffer, width, height, stride),
+        Turn::Rotate90 => rows::rotate_90(source, buffer, width, height, stride),
+        Turn::Rotate270 => rows::rotate_270(source, buffer, width, height, stride),
     }
 }

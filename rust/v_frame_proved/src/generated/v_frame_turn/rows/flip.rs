@@ -2,8 +2,9 @@
 //! Rows written upside down, from their right ends, or both.
 
 use crate::views::AsRowsRef;
-use crate::generated::v_frame_turn::rows::row::write_reversed;
+use crate::generated::v_frame_turn::rows::row::{counted, write_row};
 use crate::generated::v_frame::pixel::Pixel;
+use crate::generated::v_frame::plane::RowsRef;
 
 /// Writes what `source` shows upside down, as `np.flipud` does.
 ///
@@ -36,10 +37,7 @@ pub fn flip_vertical<T: Pixel>(
         source.height() == height,
         "the height of source ({}) is not height ({height})", source.height()
     );
-    for y in 0..height {
-        let start = stride * y;
-        buffer[start..start + width].copy_from_slice(source.visible_row_proved(height - 1 - y));
-    }
+    flip(source, buffer, width, height, stride, true, false);
 }
 
 /// Writes what `source` shows mirrored: each row from its right end, as `np.fliplr` does.
@@ -73,10 +71,7 @@ pub fn flip_horizontal<T: Pixel>(
         source.height() == height,
         "the height of source ({}) is not height ({height})", source.height()
     );
-    for y in 0..height {
-        let start = stride * y;
-        write_reversed(&mut buffer[start..start + width], source.visible_row_proved(y));
-    }
+    flip(source, buffer, width, height, stride, false, true);
 }
 
 /// Writes what `source` shows turned by 180 degrees.
@@ -110,11 +105,24 @@ pub fn rotate_180<T: Pixel>(
         source.height() == height,
         "the height of source ({}) is not height ({height})", source.height()
     );
+    flip(source, buffer, width, height, stride, true, true);
+}
+
+/// Writes what `source` shows, its rows from the bottom where `from_bottom` says so, and each from its right end where
+/// `mirrored` does.
+#[inline(always)]
+fn flip<T: Pixel>(
+    source: &RowsRef<'_, T>,
+    buffer: &mut [T],
+    width: usize,
+    height: usize,
+    stride: usize,
+    from_bottom: bool,
+    mirrored: bool,
+) {
     for y in 0..height {
         let start = stride * y;
-        write_reversed(
-            &mut buffer[start..start + width],
-            source.visible_row_proved(height - 1 - y),
-        );
+        let row = source.visible_row_proved(counted(from_bottom, height, y));
+        write_row(&mut buffer[start..start + width], row, mirrored);
     }
 }

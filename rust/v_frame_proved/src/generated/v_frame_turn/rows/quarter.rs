@@ -2,6 +2,7 @@
 //! Rows that become columns: transposed, or turned by a quarter.
 
 use crate::views::AsRowsRef;
+use crate::generated::v_frame_turn::rows::row::counted;
 use crate::generated::v_frame::pixel::Pixel;
 use crate::generated::v_frame::plane::RowsRef;
 
@@ -191,10 +192,4 @@ fn turn_pair<T: Pixel>(
         buffer[start + x] = row[column];
         buffer[start + next] = next_row[column];
     }
-}
-
-/// Returns an index, counted from the end where `from_end` says so.
-#[inline(always)]
-fn counted(from_end: bool, count: usize, index: usize) -> usize {
-    if from_end { count - 1 - index } else { index }
 }
