@@ -1,9 +1,9 @@
 -- Frames turned: what each plane shows then, and when one frame can show another one turned.
 use Rattle.std.specs.Prelude.{ℕ, ◌≡◌, ◌≢◌, ◌<◌, ◌==◌, if◌then◌else◌, ⊤, Bool, true, false, map, reverse}
-use Rattle.std.specs.Prelude.{Option, Some, None, option_map}
+use Rattle.std.specs.Prelude.{Option, Some, None, option_map, Result, Err, IfErr, OnErr, OnOk}
 use Rattle.std.specs.Int.NonZero.{non_zero_u8_get}
 use Rattle.v_frame.specs.Prelude.{ratio_of, ChromaSubsampling, Frame, Raster, Table, Tables}
-use Rattle.v_frame.specs.Prelude.{plane_at}
+use Rattle.v_frame.specs.Prelude.{plane_at, tables_of, KeepsBorders}
 use Rattle.v_frame_turn.specs.Turn.{rotated_180, rotated_270, rotated_90, transposed}
 use Rattle.v_frame_turn.specs.declared.turns.Turn.{Turn as TheTurn}
 use Rattle.v_frame_turn.specs.declared.turns.Turn.TheVariants.{FlipVertical, FlipHorizontal}
@@ -88,3 +88,12 @@ module _ {T : Type 0} where
       × ((k : ℕ) → k < plane
       → BothFit (exchanges turn) (plane_at source k) (plane_at target k))
       × ¬ BothFit (exchanges turn) (plane_at source plane) (plane_at target plane)
+
+  -- a frame shows another one turned, where it can, and else is as it was
+  pub record IsTurned {A : Type 0} (turn : TheTurn) (source old new : Frame T) (result : Result A TurnError) : Type 0 where
+    pub shown : OnOk result (tables_of new ≡ turned_tables (turned turn) (tables_of source))
+    pub accepted : OnOk result (TurnFits turn source old)
+    pub refused : IfErr result (IsReason turn source old)
+    pub uneven : is_turnable turn source.subsampling ≡ false → result ≡ Err UnevenSubsampling
+    pub unchanged : OnErr result (new ≡ old)
+    pub borders : KeepsBorders old new

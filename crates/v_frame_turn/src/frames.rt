@@ -2,11 +2,10 @@
 //!
 //! Turned by a quarter or transposed, chroma exchanges its two ratios. So 4:2:0, 4:4:4 and monochrome frames can be turned
 //! so, and 4:2:2 and 4:1:1 can't: [`TurnError::UnevenSubsampling`].
-ghost use Rattle.std.specs.Prelude.{◌≡◌, ◌↔◌, false, map, option_map, reverse, true, Err, IfErr, IsTrue, OnErr, OnOk};
+ghost use Rattle.std.specs.Prelude.{◌≡◌, ◌↔◌, false, option_map, true, Err, IfErr, IsTrue, OnOk};
 ghost use Rattle.v_frame.specs.Prelude.{border_and_geometry, table_of, tables_of, KeepsBorders};
 ghost use Rattle.v_frame_turn.specs.Frames.{exchanges, is_turnable, turned, turned_tables};
-ghost use Rattle.v_frame_turn.specs.Frames.{BothFit, IsReason, PlaneFits, TurnFits};
-ghost use Rattle.v_frame_turn.specs.Turn.{rotated_180, rotated_270, rotated_90, transposed};
+ghost use Rattle.v_frame_turn.specs.Frames.{BothFit, IsReason, IsTurned, PlaneFits, TurnFits};
 
 mod in_place;
 
@@ -68,13 +67,7 @@ pub fn turn_frame<T: Pixel>(
     target: &mut Frame<T>,
     turn: Turn,
 ) -> Result<(), TurnError>
-    ensures shown { OnOk result (tables_of target.new ≡ turned_tables (turned turn) (tables_of source.now)) }
-    ensures accepted { OnOk result (TurnFits turn source.now target.old) }
-    ensures refused { IfErr result (IsReason turn source.now target.old) }
-    ensures uneven { is_turnable turn source.now.subsampling ≡ false
-        → result ≡ Err TurnError.UnevenSubsampling }
-    ensures unchanged { OnErr result (target.new ≡ target.old) }
-    ensures borders { KeepsBorders target.old target.new }
+    ensures { IsTurned turn source.now target.old target.new result }
 {
     check_turn(source, target, turn)?;
     turn_planes(source, target, turn);
@@ -87,11 +80,7 @@ pub fn turn_frame<T: Pixel>(
 ///
 /// Those of [`check_turn`] but [`TurnError::UnevenSubsampling`].
 pub fn flip_vertical<T: Pixel>(source: &Frame<T>, target: &mut Frame<T>) -> Result<(), TurnError>
-    ensures shown { OnOk result (tables_of target.new ≡ turned_tables reverse (tables_of source.now)) }
-    ensures accepted { OnOk result (TurnFits Turn.FlipVertical source.now target.old) }
-    ensures refused { IfErr result (IsReason Turn.FlipVertical source.now target.old) }
-    ensures unchanged { OnErr result (target.new ≡ target.old) }
-    ensures borders { KeepsBorders target.old target.new }
+    ensures { IsTurned Turn.FlipVertical source.now target.old target.new result }
 {
     turn_frame(source, target, Turn::FlipVertical)
 }
@@ -102,11 +91,7 @@ pub fn flip_vertical<T: Pixel>(source: &Frame<T>, target: &mut Frame<T>) -> Resu
 ///
 /// Those of [`check_turn`] but [`TurnError::UnevenSubsampling`].
 pub fn flip_horizontal<T: Pixel>(source: &Frame<T>, target: &mut Frame<T>) -> Result<(), TurnError>
-    ensures shown { OnOk result (tables_of target.new ≡ turned_tables (map reverse) (tables_of source.now)) }
-    ensures accepted { OnOk result (TurnFits Turn.FlipHorizontal source.now target.old) }
-    ensures refused { IfErr result (IsReason Turn.FlipHorizontal source.now target.old) }
-    ensures unchanged { OnErr result (target.new ≡ target.old) }
-    ensures borders { KeepsBorders target.old target.new }
+    ensures { IsTurned Turn.FlipHorizontal source.now target.old target.new result }
 {
     turn_frame(source, target, Turn::FlipHorizontal)
 }
@@ -117,11 +102,7 @@ pub fn flip_horizontal<T: Pixel>(source: &Frame<T>, target: &mut Frame<T>) -> Re
 ///
 /// Those of [`check_turn`] but [`TurnError::UnevenSubsampling`].
 pub fn rotate_180<T: Pixel>(source: &Frame<T>, target: &mut Frame<T>) -> Result<(), TurnError>
-    ensures shown { OnOk result (tables_of target.new ≡ turned_tables rotated_180 (tables_of source.now)) }
-    ensures accepted { OnOk result (TurnFits Turn.Rotate180 source.now target.old) }
-    ensures refused { IfErr result (IsReason Turn.Rotate180 source.now target.old) }
-    ensures unchanged { OnErr result (target.new ≡ target.old) }
-    ensures borders { KeepsBorders target.old target.new }
+    ensures { IsTurned Turn.Rotate180 source.now target.old target.new result }
 {
     turn_frame(source, target, Turn::Rotate180)
 }
@@ -132,13 +113,7 @@ pub fn rotate_180<T: Pixel>(source: &Frame<T>, target: &mut Frame<T>) -> Result<
 ///
 /// Those of [`check_turn`].
 pub fn transpose<T: Pixel>(source: &Frame<T>, target: &mut Frame<T>) -> Result<(), TurnError>
-    ensures shown { OnOk result (tables_of target.new ≡ turned_tables transposed (tables_of source.now)) }
-    ensures accepted { OnOk result (TurnFits Turn.Transpose source.now target.old) }
-    ensures refused { IfErr result (IsReason Turn.Transpose source.now target.old) }
-    ensures uneven { is_turnable Turn.Transpose source.now.subsampling ≡ false
-        → result ≡ Err TurnError.UnevenSubsampling }
-    ensures unchanged { OnErr result (target.new ≡ target.old) }
-    ensures borders { KeepsBorders target.old target.new }
+    ensures { IsTurned Turn.Transpose source.now target.old target.new result }
 {
     turn_frame(source, target, Turn::Transpose)
 }
@@ -150,13 +125,7 @@ pub fn transpose<T: Pixel>(source: &Frame<T>, target: &mut Frame<T>) -> Result<(
 ///
 /// Those of [`check_turn`].
 pub fn rotate_90<T: Pixel>(source: &Frame<T>, target: &mut Frame<T>) -> Result<(), TurnError>
-    ensures shown { OnOk result (tables_of target.new ≡ turned_tables rotated_90 (tables_of source.now)) }
-    ensures accepted { OnOk result (TurnFits Turn.Rotate90 source.now target.old) }
-    ensures refused { IfErr result (IsReason Turn.Rotate90 source.now target.old) }
-    ensures uneven { is_turnable Turn.Rotate90 source.now.subsampling ≡ false
-        → result ≡ Err TurnError.UnevenSubsampling }
-    ensures unchanged { OnErr result (target.new ≡ target.old) }
-    ensures borders { KeepsBorders target.old target.new }
+    ensures { IsTurned Turn.Rotate90 source.now target.old target.new result }
 {
     turn_frame(source, target, Turn::Rotate90)
 }
@@ -167,13 +136,7 @@ pub fn rotate_90<T: Pixel>(source: &Frame<T>, target: &mut Frame<T>) -> Result<(
 ///
 /// Those of [`check_turn`].
 pub fn rotate_270<T: Pixel>(source: &Frame<T>, target: &mut Frame<T>) -> Result<(), TurnError>
-    ensures shown { OnOk result (tables_of target.new ≡ turned_tables rotated_270 (tables_of source.now)) }
-    ensures accepted { OnOk result (TurnFits Turn.Rotate270 source.now target.old) }
-    ensures refused { IfErr result (IsReason Turn.Rotate270 source.now target.old) }
-    ensures uneven { is_turnable Turn.Rotate270 source.now.subsampling ≡ false
-        → result ≡ Err TurnError.UnevenSubsampling }
-    ensures unchanged { OnErr result (target.new ≡ target.old) }
-    ensures borders { KeepsBorders target.old target.new }
+    ensures { IsTurned Turn.Rotate270 source.now target.old target.new result }
 {
     turn_frame(source, target, Turn::Rotate270)
 }
