@@ -2,7 +2,7 @@
 use Rattle.v_frame_turn.proofs.turns.turn_plane.Goals as goal
 
 pub turn_rows-requires-clause-size : goal.turn_rows-requires-clause-size
-turn_rows-requires-clause-size g c =
+turn_rows-requires-clause-size g c κs within =
     rw (
       c.as_rows_ref-source.ensures.width,
       c.as_rows_ref-source.ensures.height,
