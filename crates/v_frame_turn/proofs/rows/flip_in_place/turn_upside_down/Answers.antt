@@ -20,17 +20,16 @@ loop-y-preserved g c =
     let w = c.args.width in let h = c.args.height in let s = c.args.stride in let y = c.loop-y.y in let j = h - 1 - y in
     let old = c.args.buffer.now in let xs = c.loop-y.buffer in
     let front = c.split_at_mut-above.result.0.now in let back = c.split_at_mut-above.result.1.now in
-    let of = list_from c.args.mirrored in
     let a = c.exchange_rows.new.a in let b = c.exchange_rows.new.b in let start = s * y in
     let cut : start + w - start ≡ w = omega arith in
     let fit : RowsFit w h s (length xs) = rw (c.loop-y.auto.buffer) c.requires in
     let ends = row_ends w h s (length xs) j fit (omega arith) in
     let wide : length (take w back) ≡ w =
     length-take-le w back (omega (arith, ends, c.split_at_mut-above.ensures.back_len)) in
-    let first : a ≡ of (take w back) = c.exchange_rows.ensures.first in
-    let second : b ≡ of (take w (drop start front)) = rw cut at c.exchange_rows.ensures.second in
-    let pair : RowsExchanged of w h s old _ (y + 1) =
-    one_more_pair of w h s old xs front back a b y j c.requires c.loop-y.auto.buffer
+    let first : a ≡ list_from c.args.mirrored (take w back) = c.exchange_rows.ensures.first in
+    let second : b ≡ list_from c.args.mirrored (take w (drop start front)) = rw cut at c.exchange_rows.ensures.second in
+    let pair : RowsExchanged (list_from c.args.mirrored) w h s old _ (y + 1) =
+    one_more_pair (list_from c.args.mirrored) w h s old xs front back a b y j c.requires c.loop-y.auto.buffer
     c.split_at_mut-above.ensures.value c.split_at_mut-above.ensures.front_len (omega arith) (omega arith)
     (ap length first ∙ length-list_from c.args.mirrored (take w back) ∙ wide) (c.exchange_rows.auto.b ∙ wide) first second
     (record { rows = c.loop-y.invariant.rows; rest = c.loop-y.invariant.rest }) in
