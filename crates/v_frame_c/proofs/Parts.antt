@@ -25,6 +25,18 @@ pub record IsPart (width height stride x y w h entries : ℕ) : Type 0 where
   pub across : x + w ≤ width
   pub down : y + h ≤ height
 
+-- a rectangle of sizes that are not empty
+pub part_of : (width height stride x y wide high w h entries : ℕ) → RowsFit width height stride entries
+    → w ≡ wide → 0 < w → h ≡ high → 0 < h → x + wide ≤ width → y + high ≤ height
+    → IsPart width height stride x y w h entries
+part_of width height stride x y wide high w h entries fit is_wide some_wide is_high some_high across down = record {
+  fit = fit;
+  wide = some_wide;
+  high = some_high;
+  across = rw (is_wide) across;
+  down = rw (is_high) down;
+}
+
 module _ {T : Type 0} (width height stride x y w h : ℕ) (old : List T)
     (part : IsPart width height stride x y w h (length old)) where
   abbrev origin : ℕ

@@ -1,4 +1,5 @@
 //! Which counts of frames are shown.
+ghost use Rattle.std.specs.Prelude.{◌≡◌};
 ghost use Rattle.yuv_system.specs.ProgressLines.{asks_progress, beside_output, beside_report, shown_counts};
 
 use yuv_reports::ReportForm;
