@@ -4,7 +4,8 @@ import re
 from source_items import TOP, File, methods, name_in, owner_of, signature
 
 CALLS, COMMANDS = TOP / "crates/test_refused_memory", TOP / "crates/test_refused_commands"
-CALLED_FROM_C = TOP / "c_interface/tests/test_v_frame_y4m.c"  # refuses each request of what the crate v_frame_y4m_c exports
+# The tests that refuse each request of what these crates export.
+CALLED_FROM_C = {f"{it}_c": TOP / f"c_interface/tests/test_{it}.c" for it in ("v_frame_png", "v_frame_y4m")}
 NO_MEMORY = "calls_that_take_no_memory"
 # The cases of each public call that takes an allocator: its crate, its module where that has a folder, its type and its name.
 CASES_OF_CALLS = {
@@ -102,15 +103,14 @@ def faults():
     """What is wrong with the list: a public call that takes memory and has no case, or a row of something that is not there."""
     sources = [it for it in sorted(TOP.glob("crates/v_frame*/src/**/*.rt")) if "tests" not in it.parts]
     calls = [call for it in sources for call in calls_in(it)]
-    from_c = [it for it in calls if it.startswith("v_frame_y4m_c::v_frame_")]
-    refused = CALLED_FROM_C.read_text()
-    calls = [it for it in calls if not it.startswith("v_frame_y4m_c::")]
+    from_c = [it.split("::") for it in calls if re.match(r"\w+_c::v_frame_", it)]
+    calls = [it for it in calls if it.split("::")[0] not in CALLED_FROM_C]
     cases, named = cases_of_the_program(), [case for them in CASES_OF_CALLS.values() for case in them]
     return [
         *(f"{it} takes memory and has no case" for it in calls if it not in CASES_OF_CALLS),
         *(f"{it} is no public call that takes memory" for it in CASES_OF_CALLS if it not in calls),
         *(f"{it} is there more than once" for it in sorted(set(calls)) if calls.count(it) > 1),
-        *(f"{CALLED_FROM_C.name} doesn't call {it}" for it in from_c if it.split("::")[1] + "(" not in refused),
+        *(f"{CALLED_FROM_C[crate].name} doesn't call {it}" for crate, it in from_c if f"{it}(" not in CALLED_FROM_C[crate].read_text()),
         *(f"the program has no case {it}" for it in named if it not in cases),
         *(f"the case {it} is of no call" for it in cases if it not in named and it != NO_MEMORY),
     ]

@@ -35,7 +35,7 @@ PUBLIC_NAMES = {name: name.replace("v_frame_", f"{LIBRARY}::") for name in HOMES
 PUBLIC_NAMES["v_frame"] = LIBRARY
 
 # Crates that C calls, which alone may have exports.
-FOR_C = {"v_frame_c", "v_frame_y4m_c"}
+FOR_C = {"v_frame_c", "v_frame_png_c", "v_frame_y4m_c"}
 
 # Crates that are written by hand in Rust, for they hold raw memory in Rattle, and the modules that take their place.
 BY_HAND = {"v_frame_buffer": "crate::buffer"}

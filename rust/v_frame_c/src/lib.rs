@@ -1,6 +1,6 @@
-//! The calls of the libraries for C, as the headers in `c_interface/include` declare them: `v_frame.h` and `v_frame_y4m.h`.
+//! The calls of the libraries for C, as the headers in `c_interface/include` declare them: `v_frame.h`, `v_frame_png.h` and `v_frame_y4m.h`.
 //!
-//! They are one library here, for a program cannot link two that each hold Rust's own: `tools/install` gives it both names.
+//! They are one library here, for a program cannot link two that each hold Rust's own: `tools/install` gives it each name.
 //!
 //! The exports are generated, and unsafe: each takes what C points to, by the functions of `foreign`, and calls what is safe.
 //! Nothing else here may be unsafe. Bodies don't panic, by proof; a panic nevertheless would stop the program, for it can't leave
@@ -12,5 +12,6 @@
 mod foreign;
 mod generated {
     pub mod v_frame_c;
+    pub mod v_frame_png_c;
     pub mod v_frame_y4m_c;
 }

@@ -1,0 +1,2 @@
+mod WholeFile
+mod Written

@@ -1,0 +1,4 @@
+pub mod Picture
+pub mod Status
+pub mod WorkedPictures
+pub mod Written

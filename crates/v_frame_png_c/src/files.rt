@@ -1,0 +1,50 @@
+//! Pictures as the bytes of files, and these in a buffer of C's.
+ghost use Rattle.std.specs.Prelude.{map, IfOk};
+ghost use Rattle.v_frame_png.specs.Prelude.{big_endian, IsFile};
+ghost use Rattle.v_frame_png_c.specs.Written.{IsPutInFront};
+
+use crate::memory::Memory;
+use crate::status::{OK, SHORT_BUFFER};
+use std::alloc::Global;
+use v_frame::plane::RowsRef;
+use v_frame_png::{Compression, Header, PngError, PngWriter, write_png_with};
+
+/// Returns the bytes of a file of samples of one byte.
+pub fn file_of_bytes(
+    alloc: Global,
+    header: Header,
+    compression: Compression,
+    rows: &RowsRef<'_, u8>,
+) -> Result<Vec<u8>, PngError>
+    ensures { IfOk result (λ file. IsFile header rows.now file.items) }
+{
+    let file = write_png_with(alloc, Memory::new(alloc), header, compression, rows)?;
+    Ok(file.into_bytes())
+}
+
+/// Returns the bytes of a file of samples of two bytes.
+pub fn file_of_words(
+    alloc: Global,
+    header: Header,
+    compression: Compression,
+    rows: &RowsRef<'_, u16>,
+) -> Result<Vec<u8>, PngError>
+    ensures { IfOk result (λ file. IsFile header (map big_endian rows.now) file.items) }
+{
+    let mut png = PngWriter::with_compression(alloc, Memory::new(alloc), header, compression)?;
+    png.write_rows_u16(alloc, rows)?;
+    png.finish()?;
+    Ok(png.into_inner().into_bytes())
+}
+
+/// Puts a file into the front of a buffer, and says how many bytes it has. Where the buffer is shorter nothing is put.
+pub fn put_in_front(file: &[u8], buffer: &mut [u8], needed: &mut usize) -> u32
+    ensures put { IsPutInFront file.now buffer.old buffer.new needed.new result }
+{
+    *needed = file.len();
+    if file.len() > buffer.len() {
+        return SHORT_BUFFER;
+    }
+    buffer[..file.len()].copy_from_slice(file);
+    OK
+}
