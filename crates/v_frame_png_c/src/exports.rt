@@ -11,6 +11,7 @@ use std::alloc::Global;
 
 /// Writes a picture of samples of 8 bits as a PNG to the front of a buffer, and says how many bytes it has. Where the buffer is
 /// shorter, it says so, and writes nothing.
+#[tactic(auto, using(crate::proofs::Written::refused_for, crate::proofs::Written::without_memory))]
 #[unsafe(no_mangle)]
 pub extern "C" fn v_frame_png_write_u8(
     alloc: Global,
@@ -41,6 +42,7 @@ pub extern "C" fn v_frame_png_write_u8(
 
 /// Writes a picture of samples of 16 bits as a PNG to the front of a buffer, and says how many bytes it has. Where the buffer is
 /// shorter, it says so, and writes nothing.
+#[tactic(auto, using(crate::proofs::Written::refused_for, crate::proofs::Written::without_memory))]
 #[unsafe(no_mangle)]
 pub extern "C" fn v_frame_png_write_u16(
     alloc: Global,

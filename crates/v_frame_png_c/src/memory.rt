@@ -33,6 +33,7 @@ impl io::Write for Memory {
 
     ghost contents = { λ memory. Some memory.bytes.items };
 
+    #[tactic(auto, using(crate::proofs::WholeFile::all_taken))]
     fn write(&mut self, buf: &[u8]) -> io::Result<usize> {
         self.bytes.extend_from_slice(buf)?;
         Ok(buf.len())

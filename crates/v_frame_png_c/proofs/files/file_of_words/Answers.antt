@@ -1,7 +1,7 @@
 -- The file was empty when it was begun, all rows are drawn, and it is finished.
 use Rattle.std.proofs.Common.{[], map, ◌∙◌}
 use Rattle.v_frame_png.specs.Prelude.{big_endian}
-use Rattle.v_frame_png_c.proofs.Files.{whole_file}
+use Rattle.v_frame_png_c.proofs.WholeFile.{whole_file}
 use Rattle.v_frame_png_c.proofs.files.file_of_words.Goals as goal
 
 pub returns : goal.returns
