@@ -7,15 +7,39 @@ V_FRAME_SOURCE names a folder with its source, from there and without the networ
 import os
 import re
 import subprocess
+import sys
 from pathlib import Path
 
 TOP = Path(__file__).resolve().parent.parent
 PROVED = 'v_frame = {{ package = "v_frame_proved", path = "{path}", features = ["padding_api"] }}'
 
 
+def stop(message):
+    """Ends the program with a line and the status 2: something is missing, so nothing was compared."""
+    print(f"{sys.argv[0]}: {message}", file=sys.stderr)
+    sys.exit(2)
+
+
+def check_source(project):
+    """Sees that the original can be built, before anything is. Where cargo has it, or fetches it, no folder is needed."""
+    source = os.environ.get("V_FRAME_SOURCE")
+    if source:
+        if not (Path(source) / "Cargo.toml").is_file():
+            stop(f"V_FRAME_SOURCE names {source}, which has no Cargo.toml")
+        return
+    once = {"CARGO_NET_RETRY": "1", **os.environ}
+    try:
+        fetched = subprocess.run(["cargo", "fetch", "--quiet"], cwd=TOP / project, env=once, capture_output=True)
+    except FileNotFoundError:
+        stop("there is no cargo on the path")
+    if fetched.returncode:
+        stop("cargo can't fetch v_frame 0.7.0: set V_FRAME_SOURCE to a folder with its source, or use the network")
+
+
 def build(folder, target, words):
     command = ["cargo", "build", "--release", "--quiet", "--target-dir", str(target), *words]
-    subprocess.run(command, cwd=folder, check=True)
+    if subprocess.run(command, cwd=folder).returncode:
+        stop(f"cargo can't build {folder}")
     return target / "release"
 
 

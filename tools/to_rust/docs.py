@@ -95,10 +95,10 @@ def rewrite(source, links):
         while source.kind(end) == "doc" and source[end][:3] == source[at][:3]:
             end += 1
         added = tables.DOC_ADDED.get((source.crate, *source.module)) if at == 0 else None
+        at = rewrite_text(source, at, end, links) if end > at else at + 1
         if added:
             lines = textwrap.wrap(added, initial_indent="//! ", subsequent_indent="//! ", **WRAP)
-            source.insert(end, "doc-added", "\n".join(["//!", *lines]), "\n")
-        at = rewrite_text(source, at, end, links) if end > at else at + 1
+            at = source.insert(at, "doc-added", "\n".join(["//!", *lines]), "\n")
 
 
 def rewrite_text(source, start, end, links):

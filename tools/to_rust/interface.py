@@ -65,8 +65,12 @@ def rewrite_types(source):
         if item.name in tables.OWN_ERRORS:
             source.insert_line(item.head, "non-exhaustive", "#[non_exhaustive]")
         for at in reversed(range(*item.body) if item.body else ()):
-            text = tables.FIELD_TEXTS.get((item.name, source[at + 1]))
-            if text is not None and source[at] == "pub" and source.kind(at - 1) != "doc":
+            text = tables.PART_TEXTS.get((item.name, source[at + 1]), "")
+            if text.startswith("= "):
+                source.insert(at + 2, "variant-number", text, " ")
+            elif text == "pub(crate)":
+                source.replace(at + 1, at + 2, "field-visible", f"{text} {source[at + 1]}")
+            elif text and source[at] == "pub" and source.kind(at - 1) != "doc":
                 source.insert(at, "field-text", f"/// {text}\n", source.tokens[at].lead)
         names = tables.DERIVES.get(item.name)
         ends = [end for start, end in item.attributes if source[start + 2] == "derive"]

@@ -28,8 +28,7 @@ HOMES = {home: crates.split() for home, crates in rows_of("tables.md", "Rust cra
 WITH_HANDLES = {"yuv"}
 HANDLES = {"rt", "HostRuntime"}
 
-# The crates of the library by the public names of their modules, as programs and other crates name them; and those
-# without a name, of which others give on what is public.
+# The crates of the library by the public names of their modules; others give on what is public of those without one.
 UNNAMED = {"v_frame_raster", "v_frame_plane"}
 PUBLIC_NAMES = {name: name.replace("v_frame_", f"{LIBRARY}::") for name in HOMES[LIBRARY] if name not in UNNAMED}
 PUBLIC_NAMES["v_frame"] = LIBRARY
@@ -60,8 +59,7 @@ SUPPORT = {name: path for path, names in rows_of("tables.md", "import | words th
 HOT = {(crate, name) for crate, names in rows_of("tables.md", "crate | functions") for name in names.split()}
 HOT_FUNCTIONS = {"encode_row"}
 
-# Functions without a body that require something, by their traits, which only types of the library have: a test has no
-# place there.
+# Functions without a body that require something, by their traits, which the library's types alone have: no test there.
 WITHOUT_TESTS = {trait: names.split() for trait, names in rows_of("tables.md", "trait | functions")}
 
 # Private functions whose loops are faster where the compiler is told what they require.
@@ -77,13 +75,13 @@ PIXEL_CALLS = {"BYTES", "ZERO", "into_u16", "try_into_u8", "from_u8", "try_from_
 KEPT_FOR_CONTRACTS = {"DepthChange", "SAMPLES_AT_ONCE", "ENTRIES"}
 
 # Errors that may get more variants: those that the original does not have.
-OWN_ERRORS = {"PlanarError", "PngError", "SemiPlanarError", "TurnError", "HeaderError", "Y4mError"}
+OWN_ERRORS = set("PlanarError PngError SemiPlanarError TurnError HeaderError Y4mError Problem SendError WriteFault".split())
 
 # Derives that types can have beside those of their sources.
 DERIVES = {name: derives for derives, names in rows_of("tables.md", "derives | types") for name in names.split()}
 
-# Texts of fields whose meaning the text of their type has in one piece.
-FIELD_TEXTS = {(kind, field): text for kind, field, text in rows_of("tables.md", "type | field | text")}
+# Texts of fields whose meaning the text of their type has in one piece, who sees fields, and numbers of variants.
+PART_TEXTS = {(kind, part): text for kind, part, text in rows_of("tables.md", "type | field or variant | text")}
 
 # Words that tell that a sentence speaks to someone who writes proofs.
 PROOF_WORDS = (
@@ -93,10 +91,7 @@ PROOF_WORDS = (
 )
 
 # What the text of a module says more in Rust.
-DOC_ADDED = {
-    ("v_frame", "replay"): "It is for those who test and compare: a list of calls is data, which a generator makes "
-    "and which another program can answer as well. To work on pictures, call planes and frames.",
-}
+DOC_ADDED = {tuple(path.split()): text for path, text in rows_of("tables.md", "module | what its text says more")}
 
 # What texts say of Rattle's way, and what they say of Rust's.
 DOC_WORDS = {

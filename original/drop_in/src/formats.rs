@@ -14,7 +14,7 @@ const SIZES: [(usize, usize); 7] = [(16, 8), (15, 8), (16, 7), (1, 1), (0, 0), (
 pub fn print() {
     for format in FORMATS {
         let ratio: Option<(NonZeroU8, NonZeroU8)> = format.subsample_ratio();
-        println!("{format:?} {} {} {ratio:?}", short_name(format), format.has_chroma());
+        println!("{format:?} {} {} {} {ratio:?}", format as u8, short_name(format), format.has_chroma());
         for (width, height) in SIZES {
             let size: Option<(usize, usize)> = format.chroma_dimensions(width, height);
             println!("  {width} by {height}: {size:?}");

@@ -3,7 +3,8 @@
 //! It is written for 0.7.0, as any program of a user. With the line of the dependency changed to `v_frame_proved`, and nothing
 //! else, it has to build, and to print the same lines: `tools/compare-with-original --drop-in`. What such a program can't keep
 //! is what the pages list as a difference: a `match` of the formats or of `FrameError` needs a last arm, which other versions of
-//! a crate ask for as well, and `new_uninit` is used through the traits of `uninit`.
+//! a crate ask for as well, no trait here has methods that frames have there, and `new_uninit` is used through the traits of
+//! `uninit`.
 #![allow(clippy::clone_on_copy, clippy::type_complexity, reason = "each trait is used once, and each getter as a function")]
 
 mod bounds;

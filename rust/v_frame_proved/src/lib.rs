@@ -1,7 +1,7 @@
 #![cfg_attr(feature = "std", doc = include_str!("../README.md"))]
 #![cfg_attr(not(feature = "std"), doc = "Raw YUV video frames, made from proved sources.")]
 #![forbid(unsafe_code)]
-#![warn(missing_docs)]
+#![warn(missing_debug_implementations, missing_docs)]
 #![no_std]
 // The sources are translated as they are written, for a prover too: loops count where clauses speak of indices, and a comparison or
 // a match says what a proof follows. These hints would have them otherwise.

@@ -1,5 +1,7 @@
 //! Bit depths, ranges, chroma formats and sizes by whole ratios, by what is left in whole buffers.
 
+#![cfg(feature = "std")]
+
 mod support;
 
 use std::num::NonZeroU8;

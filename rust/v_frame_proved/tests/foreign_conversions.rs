@@ -1,5 +1,8 @@
 //! What converts, composes or counts pictures in buffers of somebody else's: rows with something between them, which stays, for
 //! both types of samples.
+
+#![cfg(feature = "std")]
+
 use v_frame_proved::convert::{Component, rows as conversions};
 use v_frame_proved::ops::rows as changes;
 use v_frame_proved::pixel::Pixel;

@@ -287,3 +287,25 @@ fn frames_may_cross_threads() {
     fn crosses<V: Send + Sync>(_: &V) {}
     crosses(&built::<u16>(((2, 2), Yuv420, 10, [0; 4])));
 }
+
+#[test]
+fn formats_have_the_numbers_of_the_original() {
+    assert_eq!([Yuv420, Yuv422, Yuv444, Monochrome, Yuv411].map(|format| format as u8), [0, 1, 2, 3, 4]);
+}
+
+/// What a program over the original may have added to its frames.
+trait FrameExt {
+    fn width(&self) -> &'static str;
+}
+
+impl<T: Pixel> FrameExt for Frame<T> {
+    fn width(&self) -> &'static str {
+        "the trait's"
+    }
+}
+
+#[test]
+fn methods_of_frames_come_before_those_of_traits() {
+    let frame = built::<u8>(((4, 2), Yuv420, 8, [0; 4]));
+    assert_eq!((frame.width(), FrameExt::width(&frame)), (4, "the trait's"));
+}

@@ -1,4 +1,7 @@
 //! Headers of streams, of each color and way of interlacing: what has a line comes back from it.
+
+#![cfg(feature = "std")]
+
 use v_frame_proved::chroma::ChromaSubsampling as Format;
 use v_frame_proved::y4m::{ChromaSiting, Color, Interlacing, Ratio, StreamHeader, header_line, parse_header};
 

@@ -1,10 +1,11 @@
-//! PSNR and SSIM by `quality`, which refuses what has no number. Expected values are ffmpeg's, or exact fractions.
+//! PSNR, SSIM and squared errors by `quality`, which refuses what has no number. Expected values are ffmpeg's, or exact fractions.
 #![cfg(feature = "std")]
 
 use v_frame_proved::chroma::ChromaSubsampling::{Monochrome, Yuv420, Yuv444};
 use v_frame_proved::frame::{Frame, FrameBuilder};
+use v_frame_proved::measures;
 use v_frame_proved::plane::{Plane, PlaneGeometry};
-use v_frame_proved::quality::{MeasureError, frame_psnr, frame_ssim, psnr, ssim};
+use v_frame_proved::quality::{MeasureError, frame_mean_squared_error, frame_psnr, frame_ssim, psnr, ssim};
 use v_frame_proved::y4m::{Decoder, VideoFrame};
 
 /// Returns a plane of these pixels.
@@ -78,6 +79,19 @@ fn depths_that_the_pixels_cannot_have_are_refused() {
 }
 
 #[test]
+fn measures_take_any_depth() {
+    assert_eq!(measures::psnr(1.0, 0), f64::NEG_INFINITY);
+    assert!(measures::psnr(0.0, 0).is_nan());
+    let flat = plane(8, 8, |_, _| 7u8);
+    assert!(measures::ssim(&flat, &flat, 0).is_some_and(f64::is_nan));
+    let (dark, light) = (plane(8, 8, |x, _| x as u16), plane(8, 8, |_, y| y as u16));
+    for depth in [17, u8::MAX] {
+        assert_eq!(measures::psnr(1.0, depth), measures::psnr(1.0, 16));
+        assert_eq!(measures::ssim(&dark, &light, depth), measures::ssim(&dark, &light, 16));
+    }
+}
+
+#[test]
 fn sizes_that_differ_or_hold_no_window_are_refused() {
     let whole = plane(8, 8, |_, _| 1u8);
     for (width, height) in [(7, 8), (8, 7), (4, 16), (16, 4), (1, 1)] {
@@ -107,6 +121,7 @@ fn frames_that_differ_in_kind_are_refused() {
         (frame(16, Monochrome, 10), MeasureError::SizesDiffer),
     ];
     for (second, error) in cases {
+        assert_eq!(frame_mean_squared_error(&first, &second), Err(error));
         assert_eq!(frame_psnr(&first, &second), Err(error));
         assert_eq!(frame_ssim(&first, &second), Err(error));
     }
@@ -115,15 +130,24 @@ fn frames_that_differ_in_kind_are_refused() {
     // One error of 2^18 among 384 pixels: 10 log10(1023^2 * 384 / 2^18).
     assert!((frame_psnr(&first, &third).unwrap().all - 31.855425698401895).abs() < 1e-9);
     assert_eq!(frame_psnr(&first, &third).unwrap().u, Some(f64::INFINITY));
+    let errors = frame_mean_squared_error(&first, &third).unwrap();
+    assert_eq!((errors.y, errors.u, errors.v), (1024.0, Some(0.0), Some(0.0)));
+    assert!((errors.all - 262_144.0 / 384.0).abs() < 1e-9);
+    assert_eq!(VideoFrame::from(first.clone()).mean_squared_error(&third.clone().into()), Ok(errors));
     let narrow = frame(14, Yuv420, 10);
     assert_eq!(frame_ssim(&narrow, &narrow), Err(MeasureError::TooSmall));
     let mut shallow = (first.clone(), third);
     (shallow.0.bit_depth, shallow.1.bit_depth) = (8.try_into().unwrap(), 8.try_into().unwrap());
-    assert_eq!(frame_psnr(&shallow.0, &shallow.1), Err(MeasureError::UnsupportedBitDepth { found: 8 }));
+    let error = MeasureError::UnsupportedBitDepth { found: 8 };
+    assert_eq!(frame_psnr(&shallow.0, &shallow.1), Err(error));
+    assert_eq!(frame_mean_squared_error(&shallow.0, &shallow.1), Err(error));
     let bytes = FrameBuilder::new(16, 16, Yuv420, 8).build::<u8>().unwrap();
     let error = MeasureError::DepthsDiffer { first: 10, second: 8 };
-    assert_eq!(VideoFrame::from(first.clone()).psnr(&bytes.clone().into()), Err(error));
-    assert_eq!(VideoFrame::from(first).ssim(&bytes.into()), Err(error));
+    let (first, bytes) = (VideoFrame::from(first), VideoFrame::from(bytes));
+    assert_eq!(first.mean_squared_error(&bytes), Err(error));
+    assert_eq!(first.psnr(&bytes), Err(error));
+    assert_eq!(first.ssim(&bytes), Err(error));
+    assert_eq!([&first, &bytes].map(VideoFrame::subsampling), [Yuv420; 2]);
 }
 
 #[test]

@@ -29,6 +29,7 @@ fn counted_bytes(out: &mut Writer) -> Result<(), ErrorKind> {
     sent.map_err(|fault| match fault {
         WriteFault::Failed => out.last_failure().expect("a cause"),
         WriteFault::TookNothing => ErrorKind::WriteZero,
+        other => panic!("{other:?}"),
     })
 }
 

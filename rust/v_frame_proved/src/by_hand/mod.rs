@@ -9,6 +9,8 @@ mod errors;
 mod frames;
 #[cfg(feature = "std")]
 pub mod quality;
+#[cfg(feature = "std")]
+mod shown;
 pub mod views;
 #[cfg(feature = "std")]
 pub mod y4m;

@@ -1,4 +1,4 @@
-//! PSNR and SSIM that refuse what they have no number for.
+//! PSNR, SSIM and mean squared errors that refuse what they have no number for.
 //!
 //! This module is written by hand, and not made from proved sources. The numbers are those of [`measures`](crate::measures),
 //! which is; there two sizes end in a panic, and a depth that no sample has in a number that says nothing.
@@ -16,7 +16,7 @@
 //! ```
 
 use crate::frame::Frame;
-use crate::measures::{self, FrameMeasure, frame_mean_squared_error, frames_have_one_size, mean_squared_error};
+use crate::measures::{self, FrameMeasure, frames_have_one_size, mean_squared_error};
 use crate::pixel::Pixel;
 use crate::plane::PlaneRef;
 use crate::views::AsPlaneRef;
@@ -99,6 +99,17 @@ pub fn ssim<T: Pixel>(
     measures::ssim(&a, &b, bit_depth).ok_or(MeasureError::TooSmall)
 }
 
+/// Returns the mean squared errors of two frames of one size, format and depth: of each plane, and of all pixels together.
+/// See the example of [`VideoFrame`](crate::y4m::VideoFrame).
+///
+/// # Errors
+///
+/// Those of [`frame_psnr`].
+pub fn frame_mean_squared_error<T: Pixel>(a: &Frame<T>, b: &Frame<T>) -> Result<FrameMeasure, MeasureError> {
+    check_frames(a, b)?;
+    Ok(measures::frame_mean_squared_error(a, b))
+}
+
 /// Returns the peak signal-to-noise ratios of two frames of one size, format and depth.
 ///
 /// ```
@@ -124,8 +135,7 @@ pub fn ssim<T: Pixel>(
 /// The first of these that holds: [`MeasureError::DepthsDiffer`], [`MeasureError::UnsupportedBitDepth`] where `T` has no
 /// pixels of the frames' depth, and [`MeasureError::SizesDiffer`].
 pub fn frame_psnr<T: Pixel>(a: &Frame<T>, b: &Frame<T>) -> Result<FramePsnr, MeasureError> {
-    check_frames(a, b)?;
-    let errors = frame_mean_squared_error(a, b);
+    let errors = frame_mean_squared_error(a, b)?;
     let ratio = |error| measures::psnr(error, a.bit_depth.get());
     Ok(FramePsnr { y: ratio(errors.y), u: errors.u.map(ratio), v: errors.v.map(ratio), all: ratio(errors.all) })
 }

@@ -11,7 +11,7 @@ use core::sync::atomic::{Ordering, compiler_fence};
 /// `N` numbers.
 ///
 /// They are aligned, as otherwise a call passes a few of them as one number, of which the compiler makes no lanes again.
-#[derive(Clone, Copy)]
+#[derive(Debug, Clone, Copy)]
 #[repr(align(32))]
 pub struct Simd<T, const N: usize>([T; N]);
 

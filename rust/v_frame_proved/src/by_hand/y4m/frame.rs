@@ -1,15 +1,34 @@
 //! Frames of either pixel type, as streams have them.
 
 use super::StreamHeader;
+use crate::chroma::ChromaSubsampling;
 use crate::crop::CropError;
 use crate::frame::{Frame, FrameError};
 use crate::measures::FrameMeasure;
 use crate::pixel::Pixel;
 use crate::planar::ratios_or_one;
 use crate::plane::Plane;
-use crate::quality::{FramePsnr, MeasureError, frame_psnr, frame_ssim};
+use crate::quality::{FramePsnr, MeasureError, frame_mean_squared_error, frame_psnr, frame_ssim};
 
 /// A frame of a stream, of whichever pixel type its bit depth asks for. Written by hand.
+///
+/// ```
+/// use v_frame_proved::chroma::ChromaSubsampling;
+/// use v_frame_proved::y4m::{Color, StreamHeader, VideoFrame};
+///
+/// let color = Color::new(ChromaSubsampling::Yuv422, 10, None).ok_or("no such color")?;
+/// let mut frame = VideoFrame::blank(&StreamHeader::new(6, 1, color))?;
+/// assert_eq!((frame.width(), frame.height(), frame.bit_depth()), (6, 1, 10));
+/// assert_eq!(frame.subsampling(), ChromaSubsampling::Yuv422);
+///
+/// let black = frame.clone();
+/// if let VideoFrame::HighDepth(frame) = &mut frame {
+///     frame.y_plane[0].fill(2);
+/// }
+/// let errors = frame.mean_squared_error(&black)?;
+/// assert_eq!((errors.y, errors.u, errors.all), (4.0, Some(0.0), 2.0));
+/// # Ok::<(), Box<dyn std::error::Error>>(())
+/// ```
 #[derive(Debug, Clone, PartialEq, Eq)]
 pub enum VideoFrame {
     /// A frame of 8 bits.
@@ -43,6 +62,10 @@ macro_rules! measure {
 impl VideoFrame {
     /// Returns a frame without a border as a stream of this header has them, zero in every pixel.
     ///
+    /// It takes room for the size that the header says, and a stranger's header line can say any: test the product of its sides
+    /// first, say against [`MAX_PIXELS`](crate::streams::MAX_PIXELS). The frames that a [`Decoder`](super::Decoder) gives as an
+    /// iterator take room only when all their bytes have come.
+    ///
     /// # Errors
     ///
     /// Those of [`StreamHeader::frame`], without `DataTypeMismatch`.
@@ -75,6 +98,13 @@ impl VideoFrame {
         with_frame!(self, frame => frame.bit_depth.get())
     }
 
+    /// Returns the chroma format.
+    #[inline]
+    #[must_use]
+    pub fn subsampling(&self) -> ChromaSubsampling {
+        with_frame!(self, frame => frame.subsampling)
+    }
+
     /// Returns a copy of a rectangle, as [`Frame::crop`] does.
     ///
     /// # Errors
@@ -82,6 +112,15 @@ impl VideoFrame {
     /// Those of [`Frame::crop`].
     pub fn crop(&self, x: usize, y: usize, width: usize, height: usize) -> Result<Self, CropError> {
         with_frame!(self, frame => frame.crop(x, y, width, height).map(Self::from))
+    }
+
+    /// Returns the mean squared errors beside another frame, as [`frame_mean_squared_error`] does.
+    ///
+    /// # Errors
+    ///
+    /// Those of [`frame_mean_squared_error`]. Frames of two pixel types have two depths.
+    pub fn mean_squared_error(&self, other: &Self) -> Result<FrameMeasure, MeasureError> {
+        measure!(frame_mean_squared_error, self, other)
     }
 
     /// Returns the peak signal-to-noise ratios beside another frame, as [`frame_psnr`] does.

@@ -7,8 +7,8 @@
 //! ```
 //!
 //! A [`Decoder`] reads the frames of any reader, and an [`Encoder`] writes frames to any writer. Both, [`VideoFrame`],
-//! [`StreamError`] and the calls that make and change a [`StreamHeader`] are written by hand, and not made from proved sources.
-//! Lines and pixels they read and write by what is: all else here.
+//! [`StreamError`] and the calls that make and change a [`StreamHeader`] are written by hand. Everything else in this module is
+//! made from proved sources, and does the work for these: it reads and writes the lines and the pixels.
 //!
 //! ```
 //! use v_frame_proved::y4m::{Decoder, Encoder};

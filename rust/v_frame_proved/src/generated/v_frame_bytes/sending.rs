@@ -6,6 +6,7 @@ use std::io::ErrorKind;
 
 /// Why [`send`] gave up.
 #[derive(Debug)]
+#[non_exhaustive]
 pub enum SendError {
     /// A write failed.
     Write(io::Error),

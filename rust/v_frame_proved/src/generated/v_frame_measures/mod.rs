@@ -8,6 +8,10 @@
 //!
 //! MS-SSIM, PSNR-HVS and CIEDE2000 are left out, since there was nothing to compare their digits with.
 //!
+//! Nothing here tests a bit depth. At 0 bits [`psnr`] is minus infinity or NaN and [`ssim`] may be
+//! `Some(NaN)`, and more than 16 bits count as 16. All calls of [`quality`](crate::quality), and those of
+//! [`VideoFrame`](crate::y4m::VideoFrame), test the depth first.
+//!
 //! # Examples
 //!
 //! ```

@@ -2,6 +2,9 @@
 //! What codecs and comparers do with planes: compare two, continue one past its edge, halve one, change one pixel by pixel, and
 //! compose two.
 //!
+//! [`downscale`] takes even sizes alone. [`convert::downscale_to_edge`](crate::convert::downscale_to_edge)
+//! halves odd ones too, and [`resize`](crate::resize) gives any size.
+//!
 //! # Examples
 //!
 //! ```

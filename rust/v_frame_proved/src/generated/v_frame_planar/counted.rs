@@ -6,6 +6,7 @@ use crate::generated::v_frame_bytes::{SendError, send};
 
 /// Why [`Counted::write_all`] gave up.
 #[derive(Debug, PartialEq, Eq, Clone, Copy)]
+#[non_exhaustive]
 pub enum WriteFault {
     /// A write failed.
     Failed,

@@ -25,9 +25,9 @@ pub enum ChromaSubsampling {
     /// Chroma at half the width of luma.
     Yuv422,
     /// Chroma at a quarter of the width of luma, as in DV video.
-    Yuv411,
+    Yuv411 = 4,
     /// Chroma at the size of luma.
-    Yuv444,
+    Yuv444 = 2,
     /// Luma alone.
     Monochrome,
 }

@@ -22,12 +22,15 @@ pub trait Channel: sealed::Sealed {
 }
 
 /// Luma.
+#[derive(Debug, Clone, Copy, PartialEq, Eq)]
 pub struct Luma;
 
 /// Cb, the blue difference.
+#[derive(Debug, Clone, Copy, PartialEq, Eq)]
 pub struct ChromaU;
 
 /// Cr, the red difference.
+#[derive(Debug, Clone, Copy, PartialEq, Eq)]
 pub struct ChromaV;
 
 impl Channel for Luma {

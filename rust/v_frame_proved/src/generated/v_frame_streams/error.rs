@@ -45,6 +45,7 @@ impl fmt::Display for StreamError {
 
 /// What happened to a stream.
 #[derive(Debug)]
+#[non_exhaustive]
 pub enum Problem {
     /// Its header or its next frame was not read or not written.
     Stream(Y4mError),

@@ -22,7 +22,7 @@ pub trait FrameObserver<T: Pixel> {
 }
 
 /// Takes nothing.
-#[derive(Clone, Copy)]
+#[derive(Clone, Copy, Debug)]
 pub struct NoObserver;
 
 impl<T: Pixel> FrameObserver<T> for NoObserver {

@@ -14,7 +14,7 @@ pub(crate) fn show_one_more<P: Progress>(progress: &mut P, before: u64) {
 }
 
 /// Tells nobody.
-#[derive(Clone, Copy)]
+#[derive(Clone, Copy, Debug)]
 pub struct Silent;
 
 impl Progress for Silent {

@@ -37,12 +37,12 @@ use crate::generated::v_frame_y4m::{StreamHeader, Y4mError, read_lax_frame_line,
 /// # Ok::<(), StreamError>(())
 /// ```
 pub struct Source<R> {
-    place: Place,
-    container: Container,
-    header: StreamHeader,
+    pub(crate) place: Place,
+    pub(crate) container: Container,
+    pub(crate) header: StreamHeader,
     layout: Option<SemiPlanarFormat>,
     frame_len: usize,
-    frames: u64,
+    pub(crate) frames: u64,
     is_lax: bool,
     reader: Counted<BufReader<R>>,
 }

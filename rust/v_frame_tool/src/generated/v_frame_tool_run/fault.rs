@@ -54,6 +54,7 @@ impl From<WriteFault> for ToolFault {
         match fault {
             WriteFault::Failed => ToolFault::Output,
             WriteFault::TookNothing => ToolFault::WriteZero,
+            _ => unreachable!("an error that the sources do not know"),
         }
     }
 }

@@ -1,0 +1,47 @@
+//! Debug texts of markers, and of streams: these show what is known of them, and neither readers, writers nor pixels.
+
+#![cfg(feature = "std")]
+
+use std::io::{self, Read};
+use v_frame_proved::planar::Counted;
+use v_frame_proved::rgb::{ChromaU, ChromaV, Luma};
+use v_frame_proved::streams::{Container, NoObserver, Picture, Place, Silent, Sink, Source, StreamError};
+
+/// A reader that has no debug text.
+struct Quiet<'a>(&'a [u8]);
+
+impl Read for Quiet<'_> {
+    fn read(&mut self, bytes: &mut [u8]) -> io::Result<usize> {
+        self.0.read(bytes)
+    }
+}
+
+/// A writer that is none: a text asks nothing of it.
+struct Anything;
+
+/// Shows both streams, whatever they read and write.
+fn shown<R, W>(source: &Source<R>, sink: &Sink<W>) -> String {
+    format!("{source:?} {sink:?}")
+}
+
+#[test]
+fn markers_show_their_names() {
+    assert_eq!(format!("{Luma:?} {ChromaU:?} {ChromaV:?}"), "Luma ChromaU ChromaV");
+    assert_eq!(format!("{NoObserver:?} {Silent:?}"), "NoObserver Silent");
+}
+
+#[test]
+fn streams_show_what_is_known_of_them() -> Result<(), StreamError> {
+    let mut source = Source::y4m(Place::Second, Quiet(b"YUV4MPEG2 W2 H1 Cmono10\nFRAME\n\x07\x00\x09\x00"))?;
+    let mut picture = Picture::<u16>::new(&source, 2)?;
+    assert!(picture.read(&mut source)?);
+    let of_picture = "Picture { width: 2, height: 1, subsampling: Monochrome, bit_depth: 10, .. }";
+    assert_eq!(format!("{picture:?}"), of_picture);
+
+    let header = format!("{:?}", source.header());
+    assert!(header.starts_with("StreamHeader { width: 2, height: 1, "), "{header}");
+    let of_source = format!("Source {{ place: Second, container: Y4m, header: {header}, frames: 1, .. }}");
+    let sink = Sink { container: Container::Raw, frames: 3, writer: Counted::new(Anything) };
+    assert_eq!(shown(&source, &sink), format!("{of_source} Sink {{ container: Raw, frames: 3, .. }}"));
+    Ok(())
+}
