@@ -60,5 +60,5 @@ pub fn show_difference(picture: &mut Plane<u8>, other: &PlaneRef<'_, u8>)
         (table_of other.now) }
     ensures border { KeepsBorder picture.old picture.new }
 {
-    difference(picture, other, 8, 8);
+    difference(other, picture, 8, 8);
 }

@@ -3,7 +3,7 @@
 use crate::options::print_options;
 use std::alloc::Global;
 use std::io::{self, BufWriter, Read, Write};
-use yuv_words::{Command, CommandName, read_command, usage_text};
+use yuv_words::{Call, Command, CommandName, read_command, usage_text};
 
 /// Reads each call that the input says, and prints it.
 pub fn print_calls<R: Read + Drop, W: Write + Drop>(
@@ -40,13 +40,14 @@ fn print_command<W: Write>(command: &Command<'_>, out: &mut W) -> io::Result<()>
     match command {
         Command::Help(topic) => write!(out, "{}", usage_text(*topic)),
         Command::Version => writeln!(out, "version"),
-        Command::Call {
-            name,
-            first,
-            second,
-            third,
-            options,
-        } => {
+        Command::Call(call) => {
+            let Call {
+                name,
+                first,
+                second,
+                third,
+                options,
+            } = call;
             match name {
                 CommandName::Info => writeln!(out, "info of {first}")?,
                 CommandName::Compare => writeln!(out, "compare {first} and {second}")?,

@@ -11,13 +11,15 @@ pub record Keeps {T : Type 0} (rows : Rows) (old new : List T) (status : ℕ) : 
   pub refused : status ≢ 0 → new ≡ old
 
 -- the status is this one; where it is 0 what was written means this, and otherwise it is as before
-pub record Answers {A : Type 0} (wanted : ℕ) (meaning : Type 0) (old new : A) (status : ℕ) : Type 0 where
+pub record Answers {A : Type 0} (wanted : ℕ) (meaning : Type 0) (old new : A)
+    (status : ℕ) : Type 0 where
   pub answer : status ≡ wanted
   pub found : status ≡ 0 → meaning
   pub refused : status ≢ 0 → new ≡ old
 
 -- the same of a buffer, of which all beside the rows stays
-pub record Writes {T : Type 0} (wanted : ℕ) (meaning : Type 0) (rows : Rows) (old new : List T) (status : ℕ) : Type 0 where
+pub record Writes {T : Type 0} (wanted : ℕ) (meaning : Type 0) (rows : Rows) (old new : List T)
+    (status : ℕ) : Type 0 where
   pub answer : status ≡ wanted
   pub written : status ≡ 0 → meaning
   pub rest : KeepsRest rows.width rows.height rows.stride old new
@@ -28,12 +30,14 @@ abbrev pub status_of_pair : {T : Type 0} → Rows → Rows → List T → List T
 status_of_pair a_rows b_rows a b =
     status_of_two (fits a_rows (length a)) (fits b_rows (length b)) (same_size a_rows b_rows)
 
--- rows that are made of others: whether numbers stand for a choice, whether the rows of both buffers fit, and whether their sizes
--- belong together
-module _ {S T : Type 0} (rows source_rows : Rows) (source : List S) (old new : List T) (status : ℕ) where
+-- rows that are made of others: whether numbers stand for a choice, whether the rows of both buffers
+-- fit, and whether their sizes belong together
+module _ {S T : Type 0} (rows source_rows : Rows) (source : List S) (old new : List T)
+    (status : ℕ) where
   abbrev pub Makes : Bool → Bool → Type 0 → Type 0
   Makes known sizes meaning =
-      Writes (status_of_number known (status_of_two (fits rows (length old)) (fits source_rows (length source)) sizes))
+      Writes (status_of_number known (status_of_two (fits rows (length old))
+      (fits source_rows (length source)) sizes))
       meaning rows old new status
 
   -- made so that they show this

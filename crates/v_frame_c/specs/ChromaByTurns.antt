@@ -17,12 +17,14 @@ module _ {T : Type 0} (rows u_rows v_rows : Rows) where
 
   abbrev pub IsInterleaved : List T → List T → List T → List T → ℕ → Type 0
   IsInterleaved u v old new status =
-      Writes (status_of_turns old u v) (picture rows new ≡ combined interleaved (picture u_rows u) (picture v_rows v))
+      Writes (status_of_turns old u v) (picture rows new ≡ combined interleaved (picture u_rows u)
+      (picture v_rows v))
       rows old new status
 
   pub record AreDeinterleaved (buffer u new_u v new_v : List T) (status : ℕ) : Type 0 where
     pub answer : status ≡ status_of_turns buffer u v
-    pub chroma : status ≡ 0 → picture rows buffer ≡ combined interleaved (picture u_rows new_u) (picture v_rows new_v)
+    pub chroma : status ≡ 0 → picture rows buffer
+        ≡ combined interleaved (picture u_rows new_u) (picture v_rows new_v)
     pub u_kept : Keeps u_rows u new_u status
     pub v_kept : Keeps v_rows v new_v status
 
@@ -30,10 +32,13 @@ module _ {T : Type 0} (format : ℕ) (y_rows uv_rows source_rows u_rows v_rows :
   -- luma is the source, and chroma u and v by turns
   pub record IsSemiPlanarOf (y new_y uv new_uv source u v : List T) (status : ℕ) : Type 0 where
     pub answer : status ≡ status_of_format (is_semi_planar format)
-        (status_of_five (fits y_rows (length y)) (fits uv_rows (length uv)) (fits source_rows (length source))
-        (fits u_rows (length u)) (fits v_rows (length v)) (have_layout format y_rows source_rows uv_rows u_rows v_rows))
+        (status_of_five (fits y_rows (length y)) (fits uv_rows (length uv))
+        (fits source_rows (length source))
+        (fits u_rows (length u)) (fits v_rows (length v))
+        (have_layout format y_rows source_rows uv_rows u_rows v_rows))
     pub luma : status ≡ 0 → picture y_rows new_y ≡ picture source_rows source
-    pub chroma : status ≡ 0 → picture uv_rows new_uv ≡ combined interleaved (picture u_rows u) (picture v_rows v)
+    pub chroma : status ≡ 0 → picture uv_rows new_uv
+        ≡ combined interleaved (picture u_rows u) (picture v_rows v)
     pub y_kept : Keeps y_rows y new_y status
     pub uv_kept : Keeps uv_rows uv new_uv status
 
@@ -41,9 +46,11 @@ module _ {T : Type 0} (format : ℕ) (y_rows uv_rows source_rows u_rows v_rows :
   pub record ArePlanesOf (y new_y u new_u v new_v source uv : List T) (status : ℕ) : Type 0 where
     pub answer : status ≡ status_of_format (is_semi_planar format)
         (status_of_five (fits y_rows (length y)) (fits u_rows (length u)) (fits v_rows (length v))
-        (fits source_rows (length source)) (fits uv_rows (length uv)) (have_layout format y_rows source_rows uv_rows u_rows v_rows))
+        (fits source_rows (length source)) (fits uv_rows (length uv))
+        (have_layout format y_rows source_rows uv_rows u_rows v_rows))
     pub luma : status ≡ 0 → picture y_rows new_y ≡ picture source_rows source
-    pub chroma : status ≡ 0 → picture uv_rows uv ≡ combined interleaved (picture u_rows new_u) (picture v_rows new_v)
+    pub chroma : status ≡ 0 → picture uv_rows uv
+        ≡ combined interleaved (picture u_rows new_u) (picture v_rows new_v)
     pub y_kept : Keeps y_rows y new_y status
     pub u_kept : Keeps u_rows u new_u status
     pub v_kept : Keeps v_rows v new_v status

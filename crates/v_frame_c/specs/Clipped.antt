@@ -6,7 +6,8 @@ use Rattle.v_frame_c.specs.declared.layout.Rows.{Rows}
 
 -- with its first pixel at column x of row y, either of which may be negative, each pixel of the
 -- source that lies on one of the picture is shown there, and those on which none lies stay
-pub record IsPutOn {T : Type 0} (x y : ℤ) (rows source_rows : Rows) (source old new : Table T) : Type 0 where
+pub record IsPutOn {T : Type 0} (x y : ℤ) (rows source_rows : Rows)
+    (source old new : Table T) : Type 0 where
   pub inside : (i j k l : ℕ) → i < source_rows.width → j < source_rows.height → k < rows.width
       → l < rows.height → LiesOn x y i j k l → pixel_at new k l ≡ pixel_at source i j
   pub beside : (k l : ℕ) → k < rows.width → l < rows.height

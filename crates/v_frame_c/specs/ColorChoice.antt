@@ -6,8 +6,8 @@ use Rattle.v_frame_rgb.specs.declared.standard.Standard.TheVariants.{Bt601, Bt70
 use Rattle.v_frame_rgb.specs.declared.standard.ColorRange.TheVariants.{Limited, Full}
 use Rattle.v_frame_c.specs.declared.colors.ColorChoice.{ColorChoice}
 
--- BT.601, BT.709, BT.2020; limited and full range; red, green, blue first, or blue, green, red, each
--- without and with a fourth byte
+-- BT.601, BT.709, BT.2020; limited and full range; red, green, blue first, or blue, green, red,
+-- each without and with a fourth byte
 abbrev pub is_choice : ColorChoice → Bool
 is_choice choice = nat_lt choice.standard 3 && (nat_lt choice.range 2 && nat_lt choice.order 4)
 

@@ -3,7 +3,8 @@ use Rattle.std.specs.Prelude.{ℕ, Bool, ◌&&◌, List, count_by, nat_le}
 
 -- the value of a pixel lies between two others, or is one of them
 abbrev pub is_between : {T : Type 0} → (T → ℕ) → T → T → T → Bool
-is_between value least greatest p = nat_le (value least) (value p) && nat_le (value p) (value greatest)
+is_between value least greatest p = nat_le (value least) (value p)
+    && nat_le (value p) (value greatest)
 
 -- how many pixels have such values
 abbrev pub count_between : {T : Type 0} → (T → ℕ) → T → T → List T → ℕ

@@ -29,29 +29,35 @@ pub record IsFirstPlace {T : Type 0} (a b : Table T) (place : Place) : Type 0 wh
 module _ {T : Type 0} (a_rows b_rows : Rows) (a b : List T) where
   -- what holds of their pictures
   abbrev Compares : {A : Type 0} → A → A → ℕ → Type 0 → Type 0
-  Compares old new status meaning = Answers (status_of_pair a_rows b_rows a b) meaning old new status
+  Compares old new status meaning = Answers
+      (status_of_pair a_rows b_rows a b) meaning old new status
 
   abbrev pub FindsFirst : Place → Place → ℕ → Type 0
-  FindsFirst old new status = Compares old new status (IsFirstPlace (picture a_rows a) (picture b_rows b) new)
+  FindsFirst old new status = Compares old new status
+      (IsFirstPlace (picture a_rows a) (picture b_rows b) new)
 
   module _ (form : PixelForm T) where
     abbrev pub SumsSquares : Sum → Sum → ℕ → Type 0
     SumsSquares old new status =
         Compares old new status
-        (number_of new ≡ squared_errors form.value (row_major (picture a_rows a)) (row_major (picture b_rows b)))
+        (number_of new ≡ squared_errors form.value (row_major (picture a_rows a))
+        (row_major (picture b_rows b)))
 
     abbrev pub SumsDifferences : Sum → Sum → ℕ → Type 0
     SumsDifferences old new status =
         Compares old new status
-        (number_of new ≡ absolute_differences form.value (row_major (picture a_rows a)) (row_major (picture b_rows b)))
+        (number_of new ≡ absolute_differences form.value (row_major (picture a_rows a))
+        (row_major (picture b_rows b)))
 
     abbrev pub SumsPairs : PairStatistics → PairStatistics → ℕ → Type 0
     SumsPairs old new status =
         Compares old new status
-        (ArePairStatistics form.value (row_major (picture a_rows a)) (row_major (picture b_rows b)) new)
+        (ArePairStatistics form.value (row_major (picture a_rows a))
+        (row_major (picture b_rows b)) new)
 
     abbrev pub FindsGreatest : Greatest → Greatest → ℕ → Type 0
-    FindsGreatest old new status = Compares old new status (IsGreatest form.value (picture a_rows a) (picture b_rows b) new)
+    FindsGreatest old new status = Compares old new status
+        (IsGreatest form.value (picture a_rows a) (picture b_rows b) new)
 
     -- those further apart than a threshold
     abbrev pub CountsAbove : ℕ → ℕ → ℕ → ℕ → Type 0
@@ -61,18 +67,21 @@ module _ {T : Type 0} (a_rows b_rows : Rows) (a b : List T) where
         (row_major (picture a_rows a)) (row_major (picture b_rows b)))
 
     abbrev pub MeasuresError : Float → Float → ℕ → Type 0
-    MeasuresError old new status = Compares old new status (new ≡ mean_error form.value (picture a_rows a) (picture b_rows b))
+    MeasuresError old new status = Compares old new status
+        (new ≡ mean_error form.value (picture a_rows a) (picture b_rows b))
 
     -- pixels of so many bytes have values of a bit depth, and a window has room
     abbrev pub MeasuresSimilarity : ℕ → ℕ → Float → Float → ℕ → Type 0
     MeasuresSimilarity bytes depth old new status =
-        Answers (status_of_number (is_depth bytes depth) (status_of_windows (status_of_pair a_rows b_rows a b) (has_window a_rows)))
+        Answers (status_of_number (is_depth bytes depth)
+        (status_of_windows (status_of_pair a_rows b_rows a b) (has_window a_rows)))
         (new ≡ ssim_of form (peak_of depth) (picture a_rows a) (picture b_rows b)) old new status
 
 module _ {T : Type 0} (rows : Rows) (buffer : List T) (value : T → ℕ) where
   abbrev pub SumsPixels : Statistics → Statistics → ℕ → Type 0
   SumsPixels old new status =
-      Answers (status_of_one (fits rows (length buffer))) (AreStatistics value (row_major (picture rows buffer)) new)
+      Answers (status_of_one (fits rows (length buffer)))
+      (AreStatistics value (row_major (picture rows buffer)) new)
       old new status
 
   abbrev pub CountsBetween : T → T → ℕ → ℕ → ℕ → Type 0

@@ -28,8 +28,8 @@ nowhere = record { x = 0; y = 0; found = 0 }
 abbrev pub geometry_in : Bordered → Geometry
 geometry_in b = geometry_of b.width b.height b.pad_left b.pad_right b.pad_top b.pad_bottom 1 1
 
--- whether there is a picture, and it ends with its border within so many entries, and within half of
--- what can be addressed
+-- whether there is a picture, and it ends with its border within so many entries, and within half
+-- of what can be addressed
 abbrev pub is_bordered : Bordered → ℕ → Bool
 is_bordered b entries =
     nat_lt 0 b.width && (nat_lt 0 b.height && (nat_le (2 * alloc_size_of (geometry_in b)) isize_max

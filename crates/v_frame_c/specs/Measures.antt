@@ -15,7 +15,9 @@ status_of_windows zero true = 0
 status_of_windows zero false = 8
 status_of_windows (suc others) room = suc others
 
--- the values are nowhere further apart than at this place, which is the first, row after row, where they are so far
+-- the values are nowhere further apart than at this place, which is the first, row after row, where
+-- they are so far
 abbrev pub IsGreatest : {T : Type 0} → (T → ℕ) → Table T → Table T → Greatest → Type 0
 IsGreatest value a b found =
-    IsGreatestDifference value a b (record { difference = found.difference; x = found.x; y = found.y })
+    IsGreatestDifference value a b
+    (record { difference = found.difference; x = found.x; y = found.y })

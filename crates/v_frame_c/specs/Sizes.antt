@@ -1,4 +1,5 @@
--- Sizes of which a picture can be resized to others: what is counted on the way stays within 64 bits.
+-- Sizes of which a picture can be resized to others: what is counted on the way stays within 64
+-- bits.
 use Rattle.std.specs.Prelude.{◌*◌, ◌^◌, Bool, ◌&&◌, nat_le, nat_lt}
 use Rattle.v_frame_c.specs.declared.layout.Rows.{Rows}
 

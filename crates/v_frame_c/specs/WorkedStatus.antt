@@ -19,7 +19,8 @@ ten_entries = refl
 nine_entries : fits four_by_two 9 ≡ false
 nine_entries = refl
 
-other_sizes : status_of_two (fits four_by_two 12) (fits two_by_one 2) (same_size four_by_two two_by_one) ≡ 3
+other_sizes : status_of_two (fits four_by_two 12) (fits two_by_one 2)
+    (same_size four_by_two two_by_one) ≡ 3
 other_sizes = refl
 
 half : times_size 2 two_by_one four_by_two ≡ true

@@ -42,7 +42,7 @@ pub fn blend_region<T: Pixel>(
         stride,
     } = target.visible_region_mut(x, y, source.width(), source.height());
     let source = source.as_rows_ref();
-    rows::blend(entries, width, height, stride, &source, weight);
+    rows::blend(&source, entries, width, height, stride, weight);
 }
 
 /// Blends all that `source` shows over `target` by `mask`, from column `x` of row `y` on: of 255 parts of each pixel the source
@@ -77,7 +77,7 @@ pub fn blend_region_with_mask<T: Pixel>(
         stride,
     } = target.visible_region_mut(x, y, source.width(), source.height());
     let (source, mask) = (source.as_rows_ref(), mask.as_rows_ref());
-    rows::blend_with_mask(entries, width, height, stride, &source, &mask);
+    rows::blend_with_mask(&source, &mask, entries, width, height, stride);
 }
 
 /// Writes all that `source` shows into `target`, with its first pixel at column `x` of row `y`, either of which may be negative
@@ -111,7 +111,7 @@ pub fn copy_region_clipped<T: Pixel>(
 ///
 /// A pixel of value `p` becomes `min(|p - q| * gain, 2^depth - 1)`, where `q` is the value of the other's pixel. With a gain of 1
 /// it is what ffmpeg's filter `blend=difference` shows. The depth has to fit the type: at most 8 bits for `u8`, and 16 for `u16`.
-pub fn difference<T: Pixel>(plane: &mut Plane<T>, other: &PlaneRef<'_, T>, gain: u16, depth: u8)
+pub fn difference<T: Pixel>(other: &PlaneRef<'_, T>, plane: &mut Plane<T>, gain: u16, depth: u8)
     requires wide { other.now.geometry.width ≡ plane.old.geometry.width }
     requires high { other.now.geometry.height ≡ plane.old.geometry.height }
     requires depth { depth ≤ 8 * T.BYTES }

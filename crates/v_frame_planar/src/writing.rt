@@ -12,7 +12,7 @@ use v_frame::frame::Frame;
 use v_frame::pixel::Pixel;
 
 /// How many bytes are encoded and offered at once.
-const BLOCK: usize = 65536;
+const BLOCK: usize = 16384;
 
 /// Writes the planar bytes of a frame. It takes no memory.
 ///

@@ -15,13 +15,15 @@ pub record IsPutInFront (bytes old new : List ℕ) (needed status : ℕ) : Type 
 
 -- a file of this header and these rows is in front, as long as is told; where the buffer is too short, it would be so long. What is
 -- refused for a fault is so, and changes nothing
-pub record IsWritten (h : Header) (rows : List (List ℕ)) (fault : ℕ) (old new : List ℕ) (needed new_needed status : ℕ) : Type 0
+pub record IsWritten (h : Header) (rows : List (List ℕ)) (fault : ℕ) (old new : List ℕ)
+    (needed new_needed status : ℕ) : Type 0
   where
     pub refused : fault ≢ 0 → status ≡ fault
     pub accepted : fault ≡ 0 → (status ≡ 0) ⊎ ((status ≡ out_of_memory) ⊎ (status ≡ short_buffer))
     pub written : status ≡ 0 → (bytes : List ℕ) × IsFile h rows bytes × (length bytes ≤ length old)
         × (new ≡ bytes ++ drop (length bytes) old) × (new_needed ≡ length bytes)
-    pub short : status ≡ short_buffer → (bytes : List ℕ) × IsFile h rows bytes × (length old < length bytes)
+    pub short : status ≡ short_buffer → (bytes : List ℕ) × IsFile h rows bytes ×
+        (length old < length bytes)
         × (new_needed ≡ length bytes)
     pub kept : status ≢ 0 → new ≡ old
     pub untold : status ≢ 0 → status ≢ short_buffer → new_needed ≡ needed

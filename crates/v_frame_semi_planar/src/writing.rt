@@ -17,7 +17,7 @@ use v_frame::pixel::Pixel;
 use v_frame_planar::{Counted, PlanarError};
 
 /// How many bytes are encoded and offered at once.
-const BLOCK: usize = 65536;
+const BLOCK: usize = 16384;
 
 /// Writes the bytes of a frame in a semi-planar layout: the rows of luma, then rows in which the samples of both chroma planes
 /// are by turns, as ffmpeg's pixel format of the name has them. It takes no memory.

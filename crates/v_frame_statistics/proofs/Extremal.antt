@@ -1,9 +1,10 @@
 -- The least and the greatest pixel of two lists that are joined, and so with one more pixel, or one more row.
 use Rattle.std.proofs.Common.{ℕ, ◌≡◌, ◌+◌, ◌<◌, ◌≤◌, List, [], ◌∷◌, ◌++◌, length, take, get_or, Some, slice_get}
 use Rattle.std.proofs.Common.{arith, refl, sym, ◌∙◌, ap, append_assoc, ◌⊎◌, inl, inr}
-use Rattle.std.proofs.lemmas.List.{take_more, append-nil}
-use Rattle.std.proofs.lemmas.List.Elements.{All-append, Contains-append_left}
+use Rattle.std.proofs.lemmas.List.{take_all, take_more, append-nil}
+use Rattle.std.proofs.lemmas.List.Elements.{All-append, All-more, Contains-append_left}
 use Rattle.std.proofs.lemmas.List.Elements.{Contains-append_right}
+use Rattle.std.specs.Prelude.{All, Contains}
 use Rattle.std.proofs.lemmas.Option.{slice_get_within, get_or_from_slice_get}
 use Rattle.v_frame.specs.Prelude.{Table, row_major}
 use Rattle.v_frame_statistics.specs.Extremes.{IsFirst}
@@ -37,6 +38,11 @@ module _ {T : Type 0} where
   pub by_greatest : (value : T → ℕ) → IsOrder (λ p q. value q ≤ value p)
   by_greatest value = record { itself = λ a. omega arith; passes = λ a b c h k. omega (arith, h, k) }
 
+-- an item of a list comes before those in front of an index
+pub record FirstSoFar {T : Type 0} (comes : T → T → Type 0) (xs : List T) (x : ℕ) (first : T) : Type 0 where
+  pub bound : All (λ p. comes first p) (take x xs)
+  pub occurs : Contains xs first
+
 module _ {T : Type 0} {comes : T → T → Type 0} (order : IsOrder comes) where
   -- the first of two lists that are joined is that of the one, or that of the other
   abbrev pub FirstOf : T → T → T → Type 0
@@ -63,10 +69,20 @@ module _ {T : Type 0} {comes : T → T → Type 0} (order : IsOrder comes) where
       rw (first_rows table y row is) (first_of_joined (row_major (take y table)) row a b m choice so_far here)
 
   pub first_of_more : (xs : List T) (x : ℕ) (a b m : T) → x < length xs → b ≡ get_or xs x b
-      → IsFirst comes (take x xs) a → FirstOf a b m → IsFirst comes (take (x + 1) xs) m
-  first_of_more xs x a b m h read so_far choice =
-      let here : IsFirst comes (b ∷ []) b = record {
-        bound = λ k d first. let zero_only : k ≡ 0 = omega (arith, first) in rw zero_only (order.itself b);
-        occurs = (0, omega arith, refl);
-      } in
-      rw (take_more xs x b h, ← read) (first_of_joined (take x xs) (b ∷ []) a b m choice so_far here)
+      → FirstSoFar comes xs x a → FirstOf a b m → FirstSoFar comes xs (x + 1) m
+  first_of_more xs x a b m h read so_far (inl is) =
+      rw (is.0) (record {
+        bound = All-more (comes a) xs x b h so_far.bound (rw (← read) (is.1));
+        occurs = so_far.occurs;
+      })
+  first_of_more xs x a b m h read so_far (inr is) =
+      rw (is.0) (record {
+        bound =
+            All-more (comes b) xs x b h (λ k d within. order.passes b a _ is.1 (so_far.bound k d within))
+            (rw (← read) (order.itself b));
+        occurs = (x, h, sym read);
+      })
+
+  -- the first so far, at the end
+  pub first_of_all : (xs : List T) (x : ℕ) (a : T) → length xs ≤ x → FirstSoFar comes xs x a → IsFirst comes xs a
+  first_of_all xs x a end so_far = record { bound = rw (take_all x xs end) at so_far.bound; occurs = so_far.occurs }

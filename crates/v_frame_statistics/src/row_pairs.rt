@@ -14,6 +14,9 @@ pub(crate) fn sums_of_two_rows<T: Pixel>(a: &[T], b: &[T]) -> PairSums
     ensures value { ArePairSums T.form.value a.now b.now result }
     ensures bound { PairSumsAtMost (4294967296 * length a.now) result }
 {
+    if T::BYTES == 2 && a.len() < 64 {
+        return sums_of_two_short_rows(a, b);
+    }
     let (mut first, mut second) = (0, 0);
     let (mut first_squares, mut second_squares, mut products) = (0, 0, 0);
     let blocks = a.len() / 4096;
@@ -34,6 +37,35 @@ pub(crate) fn sums_of_two_rows<T: Pixel>(a: &[T], b: &[T]) -> PairSums
         first_squares: first_squares + rest.first_squares,
         second_squares: second_squares + rest.second_squares,
         products: products + rest.products,
+    }
+}
+
+/// The same of a few pixels. Nothing is tested first, and 64 bits suffice for each sum: of few pixels it is the end, where the
+/// lanes of each are added up, that takes longest.
+fn sums_of_two_short_rows<T: Pixel>(a: &[T], b: &[T]) -> PairSums
+    requires same { length b.now ≡ length a.now }
+    requires short { length a.now < 64 }
+    ensures value { ArePairSums T.form.value a.now b.now result }
+    ensures bound { PairSumsAtMost (4294967296 * length a.now) result }
+{
+    let (mut first, mut second): (u32, u32) = (0, 0);
+    let (mut first_squares, mut second_squares, mut products): (u64, u64, u64) = (0, 0, 0);
+    for x in 0..a.len() {
+        let (p, q) = (a[x], b[x]);
+        first += u32::from(p.into_u16());
+        second += u32::from(q.into_u16());
+        let (first_square, second_square) = (product_of(p, p), product_of(q, q));
+        let product = product_of(p, q);
+        first_squares += u64::from(first_square);
+        second_squares += u64::from(second_square);
+        products += u64::from(product);
+    }
+    PairSums {
+        first: u128::from(first),
+        second: u128::from(second),
+        first_squares: u128::from(first_squares),
+        second_squares: u128::from(second_squares),
+        products: u128::from(products),
     }
 }
 

@@ -8,7 +8,6 @@ ghost use Rattle.yuv_words.specs.declared.command.Command.{Command as TheCommand
 use std::io;
 use std::rt::Files;
 use std::time::Clock;
-use v_frame_planar::Counted;
 use v_frame_streams::Place;
 use yuv_comparisons::{do_compare, do_diff, do_plot};
 use yuv_copies::{do_copy, do_show};
@@ -132,31 +131,25 @@ where
     O: io::Write,
     E: io::Write,
 {
-    match *command {
-        Command::Help(topic) => print(&mut system.output, usage_text(topic)),
+    match command {
+        Command::Help(topic) => print(&mut system.output, usage_text(*topic)),
         Command::Version => print(&mut system.output, VERSION),
-        Command::Call {
-            name,
-            first,
-            second,
-            third,
-            options,
-        } => match name {
-            CommandName::Info => do_info(system, first, &options),
-            CommandName::Compare => do_compare(system, (first, second), &options),
-            CommandName::Copy => do_copy(system, (first, second), &options),
-            CommandName::Sum => do_sum(system, first, &options),
-            CommandName::Stats => do_stats(system, first, &options),
-            CommandName::Show => do_show(system, (first, second), &options),
-            CommandName::Diff => do_diff(system, (first, second, third), &options),
-            CommandName::Plot => do_plot(system, (first, second, third), &options),
+        Command::Call(call) => match call.name {
+            CommandName::Info => do_info(system, call),
+            CommandName::Compare => do_compare(system, call),
+            CommandName::Copy => do_copy(system, call),
+            CommandName::Sum => do_sum(system, call),
+            CommandName::Stats => do_stats(system, call),
+            CommandName::Show => do_show(system, call),
+            CommandName::Diff => do_diff(system, call),
+            CommandName::Plot => do_plot(system, call),
         },
     }
 }
 
 /// Writes a text to standard output.
 fn print<O: io::Write>(output: &mut O, text: &str) -> Result<Status, Fault> {
-    write_text(&mut Counted::new(output), text)?;
+    write_text(output, text)?;
     Ok(Status::Same)
 }
 
@@ -171,21 +164,16 @@ fn name_of<'a>(command: &Command<'a>, place: Place) -> &'a str {
 
 /// Returns the name of the file at a place, or `-` where the command has none there.
 fn file_at<'a>(command: &Command<'a>, place: Place) -> &'a str {
-    let Command::Call {
-        name,
-        first,
-        second,
-        third,
-        ..
-    } = *command
-    else {
+    let Command::Call(call) = *command else {
         return "-";
     };
-    match (place, name) {
-        (Place::First, _) => first,
-        (Place::Second, CommandName::Compare | CommandName::Diff | CommandName::Plot) => second,
-        (Place::Output, CommandName::Copy | CommandName::Show) => second,
-        (Place::Output, CommandName::Diff | CommandName::Plot) => third,
+    match (place, call.name) {
+        (Place::First, _) => call.first,
+        (Place::Second, CommandName::Compare | CommandName::Diff | CommandName::Plot) => {
+            call.second
+        }
+        (Place::Output, CommandName::Copy | CommandName::Show) => call.second,
+        (Place::Output, CommandName::Diff | CommandName::Plot) => call.third,
         _ => "-",
     }
 }

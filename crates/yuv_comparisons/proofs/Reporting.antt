@@ -77,7 +77,7 @@ module _ {W : Type 0} (contents : W → Option (List ℕ)) where
     pub form_asked : report.report.form ≡ form
     pub scale_asked : report.scale ≡ scale
     pub before_asked : report.before ≡ before
-    pub known : IsSome (contents report.out.inner)
+    pub known : IsSome (contents report.out)
 
   pub stays_asked : {T : Type 0} (pixels : PixelForm T) (form : ReportForm) (scale : Scale) (before : ℕ)
       (pairs : List (Pair T)) (old new : FrameReport W)
@@ -104,20 +104,20 @@ module _ {W : Type 0} (contents : W → Option (List ℕ)) where
 
   pub report_ends : (has : Option (List ℕ)) (out new : W) (first mid last : FrameReport W) (form : ReportForm)
       (exact : Bool) (before : ℕ) (found : Comparison)
-      → has ≡ contents out → first.out.inner ≡ out → first.report.form ≡ form → first.scale.exact ≡ exact
-      → first.before ≡ before → last.out.inner ≡ new
+      → has ≡ contents out → first.out ≡ out → first.report.form ≡ form → first.scale.exact ≡ exact
+      → first.before ≡ before → last.out ≡ new
       → (IsAsked form first.scale before first → IsAsked form first.scale before mid)
-      → EndsKnown (contents mid.out.inner) (contents last.out.inner)
+      → EndsKnown (contents mid.out) (contents last.out)
       (report_end mid.report.form mid.scale.exact mid.before found)
       → EndsKnown has (contents new) (report_end form exact before found)
   unfolding Ends
   report_ends None out new first mid last form exact before found same begun is asked start ended stays ends = tt
   report_ends (Some xs) out new first mid last form exact before found same begun is asked start ended stays ends =
-      let there : Some xs ≡ contents first.out.inner = same ∙ sym (ap contents begun) in
-      let known : IsSome (contents first.out.inner) = subst (λ (o : Option (List ℕ)). IsSome o) there refl in
+      let there : Some xs ≡ contents first.out = same ∙ sym (ap contents begun) in
+      let known : IsSome (contents first.out) = subst (λ (o : Option (List ℕ)). IsSome o) there refl in
       let kept = stays (record { form_asked = is; scale_asked = refl; before_asked = start; known = known }) in
-      let said = if_there (Ends last.out.inner mid.report.form mid.scale.exact mid.before found)
-      (contents mid.out.inner) ends kept.known in
+      let said = if_there (Ends last.out mid.report.form mid.scale.exact mid.before found)
+      (contents mid.out) ends kept.known in
       let at_new = subst (λ (w : W). Ends w mid.report.form mid.scale.exact mid.before found) ended said in
       let by_form = subst (λ (f : ReportForm). Ends new f mid.scale.exact mid.before found) kept.form_asked at_new in
       let by_start = subst (λ (n : ℕ). Ends new form mid.scale.exact n found) kept.before_asked by_form in

@@ -14,7 +14,7 @@ module _ {W : Type 0} (contents : W → Option (List ℕ)) (old new : FrameRepor
     pub scale : new.scale ≡ old.scale
     pub ssim : is_some new.ssim ≡ is_some old.ssim
     pub before : new.before ≡ old.before
-    pub known : IsSome (contents old.out.inner) → IsSome (contents new.out.inner)
+    pub known : IsSome (contents old.out) → IsSome (contents new.out)
 
   -- two frames of these errors were counted, and reported under the number that the one of the first
   -- stream has there, where frames are listed
@@ -22,6 +22,6 @@ module _ {W : Type 0} (contents : W → Option (List ℕ)) (old new : FrameRepor
     pub stays : StaysAsked
     pub counted : new.frames ≡ min (old.frames + 1) most_frames
     pub said : IsTrue old.report.lists_frames
-        → IfSome (contents old.out.inner) (λ _. IsSomeAnd (contents new.out.inner)
+        → IfSome (contents old.out) (λ _. IsSomeAnd (contents new.out)
         (EndsWithFrame old.report.form (frame_number old.before new.frames)
         (sums_asked old.scale.exact errors)))

@@ -1,5 +1,6 @@
 pub mod Differences
 pub mod FrameReports
+pub mod Inputs
 pub mod Places
 pub mod Reports
 pub mod WorkedPlaces

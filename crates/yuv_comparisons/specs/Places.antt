@@ -18,7 +18,8 @@ abbrev pub greatest_said : GreatestDifference → List ℕ
 greatest_said found =
     codes "; greatest difference: "
     ++ (decimal found.difference
-    ++ (codes ", column " ++ (decimal found.x ++ (codes ", row " ++ (decimal found.y ++ (10 ∷ []))))))
+    ++ (codes ", column " ++ (decimal found.x ++
+    (codes ", row " ++ (decimal found.y ++ (10 ∷ []))))))
 
 -- the line of a plane of this name
 abbrev pub plane_said : List ℕ → PlaneDifference → List ℕ

@@ -3,13 +3,16 @@ ghost use Rattle.std.specs.Prelude.{◌≡◌, ◌≢◌, ◌<◌, ◌↔◌, �
 ghost use Rattle.v_frame.specs.Prelude.{one_byte, two_bytes};
 ghost use Rattle.v_frame_y4m.specs.Color.{depth_of};
 ghost use Rattle.yuv_system.specs.Options.{comparison_of};
+ghost use Rattle.yuv_comparisons.specs.Inputs.{ComparesInputs};
 ghost use Rattle.yuv_comparisons.specs.Reports.{report_end, EndsKnown};
 ghost use Rattle.v_frame_streams.specs.Prelude.{bytes_left, sizes_in, stream_of, ComparesFrom, HaveOneFormat, WatchesFrom};
 ghost use Rattle.v_frame_streams.specs.Sums.{pixels_of_sizes};
+ghost use Rattle.yuv_words.specs.declared.command.CommandName.TheVariants.{Compare};
 
 use crate::frame_report::FrameReport;
 use crate::measures::{Means, Scale};
 use std::alloc::Global;
+use std::fs::OpenFile;
 use std::io;
 use std::rt::Files;
 use std::time::Clock;
@@ -24,24 +27,28 @@ use yuv_system::{
     Fault, ProgressLine, Status, System, begin, expected_frames, open_file, stream_comparison,
     test_compared,
 };
-use yuv_words::Options;
+use yuv_words::{Call, Options};
 
 /// Reports how far two streams are apart.
 ///
 /// # Errors
 ///
 /// Where a stream can't be read, the streams can't be compared, no frame is, or the report can't be written.
-pub fn do_compare<H, I, O, E>(
+pub fn do_compare<H, F, I, O, E>(
     system: &mut System<'_, H, I, O, E>,
-    (first, second): (&str, &str),
-    options: &Options,
+    call: &Call<'_>,
 ) -> Result<Status, Fault>
 where
-    H: Files + AllocGlobal + Clock,
+    H: Files<File = F> + AllocGlobal + Clock,
+    F: OpenFile + io::Read,
     I: io::Read + Drop,
     O: io::Write,
     E: io::Write,
+    requires { call.now.name ≡ Compare }
+    ensures { IfOk result (ComparesInputs F.remaining I.remaining call.now system.old.input) }
 {
+    let (first, second) = (call.first, call.second);
+    let options = &call.options;
     let alloc = system.rt.alloc();
     let mut file = open_file(system.rt, first, Place::First, &mut system.input)?;
     let len = file.len();

@@ -6,6 +6,7 @@ ghost use Rattle.yuv_comparisons.specs.Differences.{DrawsDifference, DrawsFrames
 ghost use Rattle.yuv_system.specs.Options.{frame_pair};
 ghost use Rattle.yuv_comparisons.specs.Places.{chroma_said, first_said, found_said, greatest_said, plane_said, ShowNoDifference};
 ghost use Rattle.v_frame_streams.specs.Prelude.{bytes_left, sizes_in, stream_of};
+ghost use Rattle.yuv_words.specs.declared.command.CommandName.TheVariants.{Diff};
 
 use std::alloc::{AllocError, Global};
 use std::io;
@@ -14,7 +15,6 @@ use std::time::Clock;
 use v_frame::frame::Frame;
 use v_frame::pixel::Pixel;
 use v_frame_measures::{GreatestDifference, frames_have_one_size};
-use v_frame_planar::Counted;
 use v_frame_streams::{
     CompareOptions, FrameObserver, Place, PlaneSums, Silent, Source, StreamError, compare_streams,
 };
@@ -24,7 +24,7 @@ use yuv_system::{
     Fault, Output, Status, System, begin, frames_before, is_standard_output, no_memory, open_file,
     taken_of_both, write_made, write_text,
 };
-use yuv_words::Options;
+use yuv_words::{Call, Options};
 
 /// What each difference is multiplied by, where nobody says.
 const GAIN: u16 = 8;
@@ -36,8 +36,7 @@ const GAIN: u16 = 8;
 /// Where a stream can't be read, has no such frame or one that can't be compared, or the picture or the report can't be written.
 pub fn do_diff<H, I, O, E>(
     system: &mut System<'_, H, I, O, E>,
-    (first, second, to): (&str, &str, &str),
-    options: &Options,
+    call: &Call<'_>,
 ) -> Result<Status, Fault>
 where
     H: Files + AllocGlobal + Clock,
@@ -45,7 +44,10 @@ where
     I: io::Read + Drop,
     O: io::Write,
     E: io::Write,
+    requires { call.now.name ≡ Diff }
 {
+    let (first, second, to) = (call.first, call.second, call.third);
+    let options = &call.options;
     let rt = system.rt;
     let mut file = open_file(rt, first, Place::First, &mut system.input)?;
     let mut one = begin(system, first, &mut file, options.raw)?;
@@ -72,8 +74,8 @@ where
             return Err(Fault::Report(no_memory()));
         };
         // Where nothing can be said there, the picture is written all the same, and the status says what was found.
-        let _ = write_text(&mut Counted::new(system.progress.out()), text.as_str());
-    } else if let Err(error) = write_made(&mut Counted::new(&mut system.output), text) {
+        let _ = write_text(system.progress.out(), text.as_str());
+    } else if let Err(error) = write_made(&mut system.output, text) {
         return Err(Fault::Report(error));
     }
     Ok(status_of(&found))

@@ -15,7 +15,6 @@ use std::io;
 use v_frame::frame::Frame;
 use v_frame::pixel::Pixel;
 use v_frame_measures::{frame_ssim, frames_have_one_size};
-use v_frame_planar::Counted;
 use v_frame_streams::{Comparison, FrameObserver, Place, PlaneSums, StreamError};
 use yuv_reports::{FrameMeasures, Longer, PlaneValues, Report};
 use yuv_system::{no_memory, write_text};
@@ -23,7 +22,7 @@ use yuv_system::{no_memory, write_text};
 /// Reports each two frames that are compared, and all of them at the end.
 #[derive(Drop)]
 pub(crate) struct FrameReport<W> {
-    out: Counted<W>,
+    out: W,
     report: Report,
     text: String,
     scale: Scale,
@@ -46,7 +45,7 @@ impl<W: io::Write> FrameReport<W> {
         ssim: Option<Means>,
         before: u64,
     ) -> Self
-        ensures out { result.out.inner ≡ out }
+        ensures out { result.out ≡ out }
         ensures report { result.report ≡ report }
         ensures scale { result.scale ≡ scale }
         ensures ssim { result.ssim ≡ ssim }
@@ -54,7 +53,7 @@ impl<W: io::Write> FrameReport<W> {
         ensures frames { result.frames ≡ 0 }
     {
         FrameReport {
-            out: Counted::new(out),
+            out,
             report,
             text: String::new(alloc),
             scale,
@@ -68,9 +67,9 @@ impl<W: io::Write> FrameReport<W> {
 
     /// Returns the writer back.
     pub(crate) fn into_out(self) -> W
-        ensures { result ≡ self.out.inner }
+        ensures { result ≡ self.out }
     {
-        self.out.into_inner()
+        self.out
     }
 
     /// Appends what stands before the first frame, once.
@@ -95,8 +94,8 @@ impl<W: io::Write> FrameReport<W> {
     /// Writes what is said of all frames.
     #[tactic(auto, using(crate::proofs::Reporting::ends_known))]
     pub(crate) fn end(&mut self, found: &Comparison) -> Result<(), StreamError>
-        ensures { OnOk result (EndsKnown (W.contents self.old.out.inner)
-            (W.contents self.new.out.inner)
+        ensures { OnOk result (EndsKnown (W.contents self.old.out)
+            (W.contents self.new.out)
             (report_end self.old.report.form self.old.scale.exact self.old.before found.now)) }
     {
         match self.push_end(found) {
@@ -144,8 +143,8 @@ impl<W: io::Write> FrameReport<W> {
     /// Writes the text, and begins a new one.
     #[tactic(auto, using(crate::proofs::Reporting::nothing_appended))]
     fn write(&mut self) -> Result<(), StreamError>
-        ensures written { OnOk result (Appends (W.contents self.old.out.inner)
-            (W.contents self.new.out.inner) (string_bytes self.old.text)) }
+        ensures written { OnOk result (Appends (W.contents self.old.out)
+            (W.contents self.new.out) (string_bytes self.old.text)) }
         ensures report { self.new.report ≡ self.old.report }
         ensures scale { self.new.scale ≡ self.old.scale }
         ensures ssim { self.new.ssim ≡ self.old.ssim }

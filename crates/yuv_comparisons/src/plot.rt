@@ -1,6 +1,7 @@
 //! The command `plot`: how far two streams are apart, frame by frame, as a chart.
 ghost use Rattle.std.specs.Prelude.{◌≡◌, ◌+◌, ◌-◌, ◌^◌, min, unwrap_or};
 ghost use Rattle.yuv_system.specs.Options.{plot_of};
+ghost use Rattle.yuv_words.specs.declared.command.CommandName.TheVariants.{Plot};
 
 use crate::compare::samples_of;
 use crate::measures::{Scale, reported};
@@ -12,7 +13,6 @@ use v_frame::frame::Frame;
 use v_frame::pixel::Pixel;
 use v_frame_chart::{Chart, Series, svg};
 use v_frame_measures::{frame_ssim, frames_have_one_size};
-use v_frame_planar::Counted;
 use v_frame_streams::{
     CompareOptions, FrameObserver, Place, PlaneSums, Progress, Source, StreamError, compare_streams,
 };
@@ -22,7 +22,7 @@ use yuv_system::{
     Fault, Output, Status, System, begin, expected_frames, no_memory, open_file, taken_of_both,
     test_compared, write_text,
 };
-use yuv_words::Options;
+use yuv_words::{Call, Options};
 
 /// Draws how far two streams are apart.
 ///
@@ -31,8 +31,7 @@ use yuv_words::Options;
 /// Where a stream can't be read, the streams can't be compared, no frame is, or the chart can't be written.
 pub fn do_plot<H, I, O, E>(
     system: &mut System<'_, H, I, O, E>,
-    (first, second, to): (&str, &str, &str),
-    options: &Options,
+    call: &Call<'_>,
 ) -> Result<Status, Fault>
 where
     H: Files + AllocGlobal + Clock,
@@ -40,7 +39,10 @@ where
     I: io::Read + Drop,
     O: io::Write,
     E: io::Write,
+    requires { call.now.name ≡ Plot }
 {
+    let (first, second, to) = (call.first, call.second, call.third);
+    let options = &call.options;
     let rt = system.rt;
     let mut file = open_file(rt, first, Place::First, &mut system.input)?;
     let len = file.len();
@@ -65,8 +67,7 @@ where
 }
 
 /// Writes the chart.
-fn write_drawn<W: Write + Drop>(out: W, text: &str) -> Result<Status, Fault> {
-    let mut out = Counted::new(out);
+fn write_drawn<W: Write + Drop>(mut out: W, text: &str) -> Result<Status, Fault> {
     match write_text(&mut out, text) {
         Ok(()) => Ok(Status::Same),
         Err(error) => Err(Fault::Stream(error)),

@@ -1,9 +1,9 @@
 //! The command `copy`: a stream is written once more.
-ghost use Rattle.std.specs.Prelude.{◌≡◌, ◌&&◌, unwrap_or, IfOk, OnOk};
+ghost use Rattle.std.specs.Prelude.{◌≡◌, ◌&&◌, IfOk, OnOk};
 ghost use Rattle.yuv_copies.specs.Fields.{has_fields};
-ghost use Rattle.yuv_system.specs.Nothing.{nothing_of};
 ghost use Rattle.yuv_system.specs.Options.{copy_of, KeepsLimit};
 ghost use Rattle.v_frame_streams.specs.Prelude.{bytes_left, Copies};
+ghost use Rattle.yuv_words.specs.declared.command.CommandName.TheVariants.{Copy};
 
 use std::alloc::Global;
 use std::io;
@@ -13,10 +13,10 @@ use v_frame_streams::{Place, Progress, Sink, Source, StreamError, copy_stream};
 use v_frame_y4m::{Interlacing, StreamHeader};
 use yuv_files::{SystemFile, shown_name, write_message};
 use yuv_system::{
-    Fault, NothingTaken, Output, Status, System, begin, copy_sink, expected_frames, open_file,
+    Fault, Output, Status, System, begin, copy_sink, expected_frames, nothing_taken, open_file,
     stream_copy, test_limit,
 };
-use yuv_words::Options;
+use yuv_words::{Call, Options};
 
 /// Writes a stream once more.
 ///
@@ -25,8 +25,7 @@ use yuv_words::Options;
 /// Where the stream can't be read, or what the options make of it can't be written.
 pub fn do_copy<H, I, O, E>(
     system: &mut System<'_, H, I, O, E>,
-    (from, to): (&str, &str),
-    options: &Options,
+    call: &Call<'_>,
 ) -> Result<Status, Fault>
 where
     H: Files + AllocGlobal + Clock,
@@ -34,7 +33,10 @@ where
     I: io::Read + Drop,
     O: io::Write,
     E: io::Write,
+    requires { call.now.name ≡ Copy }
 {
+    let (from, to) = (call.first, call.second);
+    let options = &call.options;
     let rt = system.rt;
     let mut file = open_file(rt, from, Place::First, &mut system.input)?;
     let len = file.len();
@@ -62,7 +64,7 @@ where
         Err(error) => Err(Fault::Stream(error)),
     };
     let frames = output.settle(rt, done)?;
-    if let Some(nothing) = nothing_copied(options, frames, source.frames()) {
+    if let Some(nothing) = nothing_taken(options, frames, source.frames()) {
         system.progress.end();
         write_message(system.progress.out(), Some(shown_name(from)), &nothing);
     }
@@ -78,13 +80,6 @@ fn blends_fields(options: &Options, header: &StreamHeader) -> bool
         Some(Interlacing::TopFirst | Interlacing::BottomFirst | Interlacing::Mixed)
     );
     options.half && has_fields
-}
-
-/// Returns why no frame was copied, where so many of a stream of so many are none.
-fn nothing_copied(options: &Options, copied: u64, frames: u64) -> Option<NothingTaken>
-    ensures { result ≡ nothing_of copied frames (unwrap_or options.now.skip 0) options.now.count }
-{
-    NothingTaken::of(copied, frames, options.skip.unwrap_or(0), options.count)
 }
 
 /// Writes a stream once more as the options say, and counts the frames that are written.

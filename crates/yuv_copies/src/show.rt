@@ -5,6 +5,7 @@ ghost use Rattle.yuv_system.specs.Options.{shown_frame};
 ghost use Rattle.yuv_copies.specs.Shows.{colors_asked, drawing_asked, header_shown, ShowsBytes, ShowsFrame, StopsDrawing, TakesFrame};
 ghost use Rattle.yuv_pictures.specs.declared.error.PictureError.{PictureError as TheError};
 ghost use Rattle.v_frame_streams.specs.Prelude.{bytes_left, stream_of};
+ghost use Rattle.yuv_words.specs.declared.command.CommandName.TheVariants.{Show};
 
 use std::alloc::Global;
 use std::io;
@@ -23,7 +24,7 @@ use yuv_pictures::{Colors, PictureError, write_frame_picture, write_plane_pictur
 use yuv_system::{
     Fault, Output, Status, System, begin, frames_before, most_pixels, open_file, test_pixels,
 };
-use yuv_words::Options;
+use yuv_words::{Call, Options};
 
 /// Writes a frame of a stream as a picture.
 ///
@@ -32,8 +33,7 @@ use yuv_words::Options;
 /// Where the stream can't be read or has no such frame, or the picture can't be made or written.
 pub fn do_show<H, I, O, E>(
     system: &mut System<'_, H, I, O, E>,
-    (from, to): (&str, &str),
-    options: &Options,
+    call: &Call<'_>,
 ) -> Result<Status, Fault>
 where
     H: Files + AllocGlobal + Clock,
@@ -41,7 +41,10 @@ where
     I: io::Read + Drop,
     O: io::Write,
     E: io::Write,
+    requires { call.now.name ≡ Show }
 {
+    let (from, to) = (call.first, call.second);
+    let options = &call.options;
     let rt = system.rt;
     let mut file = open_file(rt, from, Place::First, &mut system.input)?;
     let mut source = begin(system, from, &mut file, options.raw)?;

@@ -2,50 +2,56 @@
 ghost use Rattle.std.specs.Prelude.{◌≡◌, false, true, IfOk, IsOk, OnOk};
 ghost use Rattle.std.specs.Io.KnownBytes.{Appends};
 ghost use Rattle.yuv_facts.specs.Facts.{stream_facts};
+ghost use Rattle.yuv_facts.specs.Inputs.{ReportsInput};
 ghost use Rattle.yuv_facts.specs.Info.{ReportsFrames, ReportsStream};
 ghost use Rattle.v_frame_streams.specs.Prelude.{bytes_left};
+ghost use Rattle.yuv_words.specs.declared.command.CommandName.TheVariants.{Info};
 
 mod text;
 
 use std::alloc::Global;
+use std::fs::OpenFile;
 use std::io;
 use std::rt::Files;
 use std::time::Clock;
 use text::{format_text, frames_text};
-use v_frame_planar::Counted;
 use v_frame_streams::{Place, Source, StreamError, skip_frames};
 use yuv_system::{
     Fault, ProgressLine, Status, System, begin, expected_frames, open_file, test_limit, write_made,
 };
-use yuv_words::Options;
+use yuv_words::{Call, Options};
 
 /// Reports what a stream is. Where a frame can't be read, what is known so far is reported before the fault.
 ///
 /// # Errors
 ///
 /// Where the stream can't be read, or the report can't be written.
-pub fn do_info<H, I, O, E>(
+pub fn do_info<H, F, I, O, E>(
     system: &mut System<'_, H, I, O, E>,
-    name: &str,
-    options: &Options,
+    call: &Call<'_>,
 ) -> Result<Status, Fault>
 where
-    H: Files + AllocGlobal + Clock,
+    H: Files<File = F> + AllocGlobal + Clock,
+    F: OpenFile + io::Read,
     I: io::Read + Drop,
     O: io::Write,
     E: io::Write,
+    requires { call.now.name ≡ Info }
+    ensures { IfOk result (λ status. (status ≡ Status.Same)
+        × ReportsInput F.remaining I.remaining call.now system.old.input
+        (O.contents system.old.output) (O.contents system.new.output)) }
 {
+    let (name, options) = (call.first, &call.options);
     let alloc = system.rt.alloc();
     let mut file = open_file(system.rt, name, Place::First, &mut system.input)?;
     let len = file.len();
     let mut source = begin(system, name, &mut file, options.raw)?;
     test_limit(source.header(), Place::First, options.max_pixels)?;
-    let mut out = Counted::new(&mut system.output);
     report_stream(
         alloc,
         &mut source,
         options,
-        &mut out,
+        &mut system.output,
         &mut system.progress,
         len,
     )?;
@@ -57,18 +63,18 @@ fn report_stream<R: io::Read, W: io::Write, H: Clock, E: io::Write>(
     alloc: Global,
     source: &mut Source<R>,
     options: &Options,
-    out: &mut Counted<W>,
+    out: &mut W,
     progress: &mut ProgressLine<'_, H, E>,
     len: Option<u64>,
 ) -> Result<(), StreamError>
     ensures unread { options.now.header ≡ true → source.new ≡ source.old }
     ensures header { options.now.header ≡ true → OnOk result (Appends
-        (W.contents out.old.inner) (W.contents out.new.inner)
+        (W.contents out.old) (W.contents out.new)
         (stream_facts source.old.header source.old.frame_len len)) }
     ensures counted { options.now.header ≡ false → OnOk result (ReportsStream source.old.container
         source.old.header source.old.frame_len len (bytes_left R.remaining source.old)
-        (bytes_left R.remaining source.new) (W.contents out.old.inner)
-        (W.contents out.new.inner)) }
+        (bytes_left R.remaining source.new) (W.contents out.old)
+        (W.contents out.new)) }
 {
     let text = format_text(alloc, source.header(), source.frame_len(), len);
     write_made(out, text)?;
@@ -81,7 +87,7 @@ fn report_frames<R: io::Read, W: io::Write, H: Clock, E: io::Write>(
     alloc: Global,
     source: &mut Source<R>,
     options: &Options,
-    out: &mut Counted<W>,
+    out: &mut W,
     progress: &mut ProgressLine<'_, H, E>,
     len: Option<u64>,
 ) -> Result<(), StreamError>
@@ -90,8 +96,8 @@ fn report_frames<R: io::Read, W: io::Write, H: Clock, E: io::Write>(
     ensures unsaid { options.now.header ≡ true → out.new ≡ out.old }
     ensures counted { options.now.header ≡ false → OnOk result (ReportsFrames
         source.old.container source.old.frame_len (bytes_left R.remaining source.old)
-        (bytes_left R.remaining source.new) (W.contents out.old.inner)
-        (W.contents out.new.inner)) }
+        (bytes_left R.remaining source.new) (W.contents out.old)
+        (W.contents out.new)) }
 {
     if options.header {
         return Ok(());

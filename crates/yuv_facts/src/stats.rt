@@ -1,68 +1,64 @@
 //! The command `stats`: what values the samples of a stream have.
-ghost use Rattle.std.specs.Prelude.{◌≡◌, ◌≢◌, ◌<◌, ◌^◌, ◌++◌, is_some, option_map, string_bytes, unwrap_or, IfOk, OnOk};
+ghost use Rattle.std.specs.Prelude.{◌≡◌, ◌≢◌, ◌<◌, ◌^◌, ◌++◌, is_some, option_map, string_bytes, IfOk, OnOk};
 ghost use Rattle.v_frame.specs.Prelude.{one_byte, table_of, tables_of, two_bytes};
 ghost use Rattle.v_frame_y4m.specs.Color.{depth_of};
 ghost use Rattle.v_frame_planar.specs.Planar.{sizes_of};
-ghost use Rattle.yuv_system.specs.Nothing.{nothing_of};
+ghost use Rattle.yuv_facts.specs.Inputs.{ReportsValuesOfInput};
 ghost use Rattle.yuv_facts.specs.Statistics.{ReportsValues, SaysCounts, SaysPlanes};
 ghost use Rattle.yuv_facts.specs.Values.{histogram_said, rows_of_chroma, CountsChroma, CountsFrame, CountsFrom, CountsNothing, CountsStream};
 ghost use Rattle.v_frame_streams.specs.Prelude.{bytes_left, sizes_in, IsMadeFor};
+ghost use Rattle.yuv_words.specs.declared.command.CommandName.TheVariants.{Stats};
 
 use crate::statistics::{NominalRange, push_chroma_plane, push_plane};
 use crate::value_counts::ValueCounts;
 use crate::values::CountedPixel;
 use std::alloc::{AllocError, Global};
+use std::fs::OpenFile;
 use std::io;
 use std::rt::Files;
 use std::time::Clock;
 use v_frame::frame::Frame;
 use v_frame::plane::Plane;
 use v_frame_formats::Component;
-use v_frame_planar::Counted;
 use v_frame_streams::{Picture, Place, Progress, Silent, Source, StreamError, skip_frames};
-use yuv_files::{shown_name, write_message};
 use yuv_reports::push_histogram;
 use yuv_system::{
-    Fault, NothingTaken, ProgressLine, Status, System, begin, expected_frames, most_pixels,
-    no_memory, open_file, write_made,
+    Fault, ProgressLine, Status, System, begin, expected_frames, most_pixels, no_memory,
+    nothing_taken, open_file, write_made, write_nothing,
 };
-use yuv_words::Options;
+use yuv_words::{Call, Options};
 
 /// Reports what values the samples of each plane have, over all frames.
 ///
 /// # Errors
 ///
 /// Where the stream can't be read, or the report can't be written.
-pub fn do_stats<H, I, O, E>(
+pub fn do_stats<H, F, I, O, E>(
     system: &mut System<'_, H, I, O, E>,
-    name: &str,
-    options: &Options,
+    call: &Call<'_>,
 ) -> Result<Status, Fault>
 where
-    H: Files + AllocGlobal + Clock,
+    H: Files<File = F> + AllocGlobal + Clock,
+    F: OpenFile + io::Read,
     I: io::Read + Drop,
     O: io::Write,
     E: io::Write,
+    requires { call.now.name ≡ Stats }
+    ensures { IfOk result (λ status. (status ≡ Status.Same)
+        × ReportsValuesOfInput F.remaining I.remaining call.now system.old.input
+        (O.contents system.old.output) (O.contents system.new.output)) }
 {
+    let (name, options) = (call.first, &call.options);
     let alloc = system.rt.alloc();
     let mut file = open_file(system.rt, name, Place::First, &mut system.input)?;
     let len = file.len();
     let mut source = begin(system, name, &mut file, options.raw)?;
     system.progress.expect(expected_frames(&source, len));
-    let mut out = Counted::new(&mut system.output);
-    let progress = &mut system.progress;
-    let found = report_values(alloc, &mut source, options, &mut out, progress)?;
-    if let Some(nothing) = nothing_counted(options, found, source.frames()) {
-        write_message(system.progress.out(), Some(shown_name(name)), &nothing);
-    }
+    let (out, progress) = (&mut system.output, &mut system.progress);
+    let found = report_values(alloc, &mut source, options, out, progress)?;
+    let nothing = nothing_taken(options, found, source.frames());
+    write_nothing(system.progress.out(), name, nothing);
     Ok(Status::Same)
-}
-
-/// Returns why no frame was counted, where so many of a stream of so many are none.
-fn nothing_counted(options: &Options, counted: u64, frames: u64) -> Option<NothingTaken>
-    ensures { result ≡ nothing_of counted frames (unwrap_or options.now.skip 0) options.now.count }
-{
-    NothingTaken::of(counted, frames, options.skip.unwrap_or(0), options.count)
 }
 
 /// Writes what values the samples of a stream have, and returns of how many frames.
@@ -70,18 +66,18 @@ fn report_values<R: io::Read, W: io::Write, H: Clock, E: io::Write>(
     alloc: Global,
     source: &mut Source<R>,
     options: &Options,
-    out: &mut Counted<W>,
+    out: &mut W,
     progress: &mut ProgressLine<'_, H, E>,
 ) -> Result<u64, StreamError>
     ensures bytes { depth_of source.old.header.color ≡ 8 → IfOk result (ReportsValues one_byte
         (256 ^ 1) source.old.container source.old.frame_len source.old.layout
         (sizes_in source.old.header) (bytes_left R.remaining source.old)
-        (bytes_left R.remaining source.new) (W.contents out.old.inner) (W.contents out.new.inner)
+        (bytes_left R.remaining source.new) (W.contents out.old) (W.contents out.new)
         options.now (depth_of source.old.header.color)) }
     ensures words { depth_of source.old.header.color ≢ 8 → IfOk result (ReportsValues two_bytes
         (256 ^ 2) source.old.container source.old.frame_len source.old.layout
         (sizes_in source.old.header) (bytes_left R.remaining source.old)
-        (bytes_left R.remaining source.new) (W.contents out.old.inner) (W.contents out.new.inner)
+        (bytes_left R.remaining source.new) (W.contents out.old) (W.contents out.new)
         options.now (depth_of source.old.header.color)) }
 {
     if source.header().color.bit_depth() == 8 {
@@ -96,13 +92,13 @@ fn report_pixels<T: CountedPixel, R: io::Read, W: io::Write, H: Clock, E: io::Wr
     alloc: Global,
     source: &mut Source<R>,
     options: &Options,
-    out: &mut Counted<W>,
+    out: &mut W,
     progress: &mut ProgressLine<'_, H, E>,
 ) -> Result<u64, StreamError>
     ensures { IfOk result (ReportsValues T.form (256 ^ T.BYTES) source.old.container
         source.old.frame_len source.old.layout (sizes_in source.old.header)
         (bytes_left R.remaining source.old) (bytes_left R.remaining source.new)
-        (W.contents out.old.inner) (W.contents out.new.inner) options.now
+        (W.contents out.old) (W.contents out.new) options.now
         (depth_of source.old.header.color)) }
 {
     let depth = source.header().color.bit_depth();

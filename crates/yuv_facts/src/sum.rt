@@ -1,48 +1,53 @@
 //! The command `sum`: a checksum of each frame, or of each plane.
-ghost use Rattle.std.specs.Prelude.{◌≡◌, ◌+◌, ◌-◌, ◌^◌, ◌<◌, length, min, unwrap_or, IfOk, OnOk};
+ghost use Rattle.std.specs.Prelude.{◌≡◌, ◌+◌, ◌-◌, ◌^◌, ◌<◌, length, min, IfOk, OnOk};
 ghost use Rattle.std.specs.Io.KnownBytes.{Appends};
 ghost use Rattle.v_frame.specs.Prelude.{tables_of};
 ghost use Rattle.v_frame_planar.specs.Planar.{byte_count, sizes_of};
 ghost use Rattle.v_frame_y4m.specs.Color.{depth_of};
 ghost use Rattle.v_frame_y4m.specs.Frames.{pixel_bytes};
 ghost use Rattle.yuv_facts.specs.Checksums.{checksums_of, SumsFrames, SumsFrom};
-ghost use Rattle.yuv_system.specs.Nothing.{nothing_of};
+ghost use Rattle.yuv_facts.specs.Inputs.{SumsInput};
 ghost use Rattle.yuv_reports.specs.Samples.{checksums_line};
 ghost use Rattle.v_frame_streams.specs.Prelude.{bytes_left, sizes_in, IsMadeFor};
+ghost use Rattle.yuv_words.specs.declared.command.CommandName.TheVariants.{Sum};
 
 use std::alloc::Global;
+use std::fs::OpenFile;
 use std::io;
 use std::rt::Files;
 use std::time::Clock;
 use v_frame::frame::Frame;
 use v_frame::pixel::Pixel;
 use v_frame_bytes::crc32;
-use v_frame_planar::Counted;
 use v_frame_streams::{Picture, Place, Progress, Silent, Source, StreamError, skip_frames};
-use yuv_files::{shown_name, write_message};
 use yuv_reports::{Checksums, push_checksums};
 use yuv_system::{
-    Fault, NothingTaken, Status, System, begin, expected_frames, most_pixels, no_memory, open_file,
-    write_text,
+    Fault, Status, System, begin, expected_frames, most_pixels, no_memory, nothing_taken,
+    open_file, write_nothing, write_text,
 };
-use yuv_words::Options;
+use yuv_words::{Call, Options};
 
 /// Reports a checksum of each frame.
 ///
 /// # Errors
 ///
 /// Where the stream can't be read or has no planes to sum, or the report can't be written.
-pub fn do_sum<H, I, O, E>(
+pub fn do_sum<H, F, I, O, E>(
     system: &mut System<'_, H, I, O, E>,
-    name: &str,
-    options: &Options,
+    call: &Call<'_>,
 ) -> Result<Status, Fault>
 where
-    H: Files + AllocGlobal + Clock,
+    H: Files<File = F> + AllocGlobal + Clock,
+    F: OpenFile + io::Read,
     I: io::Read + Drop,
     O: io::Write,
     E: io::Write,
+    requires { call.now.name ≡ Sum }
+    ensures { IfOk result (λ status. (status ≡ Status.Same)
+        × SumsInput F.remaining I.remaining call.now system.old.input
+        (O.contents system.old.output) (O.contents system.new.output)) }
 {
+    let (name, options) = (call.first, &call.options);
     let alloc = system.rt.alloc();
     let mut file = open_file(system.rt, name, Place::First, &mut system.input)?;
     let len = file.len();
@@ -51,21 +56,12 @@ where
         return Err(Fault::NoPlanes(Place::First));
     }
     system.progress.expect(expected_frames(&source, len));
-    let mut out = Counted::new(&mut system.output);
-    let progress = &mut system.progress;
-    let found = sum_stream(alloc, &mut source, options, &mut out, progress)?;
+    let (out, progress) = (&mut system.output, &mut system.progress);
+    let found = sum_stream(alloc, &mut source, options, out, progress)?;
     system.progress.end();
-    if let Some(nothing) = nothing_summed(options, found, source.frames()) {
-        write_message(system.progress.out(), Some(shown_name(name)), &nothing);
-    }
+    let nothing = nothing_taken(options, found, source.frames());
+    write_nothing(system.progress.out(), name, nothing);
     Ok(Status::Same)
-}
-
-/// Returns why no frame was summed, where so many of a stream of so many are none.
-fn nothing_summed(options: &Options, summed: u64, frames: u64) -> Option<NothingTaken>
-    ensures { result ≡ nothing_of summed frames (unwrap_or options.now.skip 0) options.now.count }
-{
-    NothingTaken::of(summed, frames, options.skip.unwrap_or(0), options.count)
 }
 
 /// Writes a line for each frame of a stream that is asked for, and counts these.
@@ -73,12 +69,12 @@ fn sum_stream<R: io::Read, W: io::Write, P: Progress>(
     alloc: Global,
     source: &mut Source<R>,
     options: &Options,
-    out: &mut Counted<W>,
+    out: &mut W,
     progress: &mut P,
 ) -> Result<u64, StreamError>
     ensures { IfOk result (SumsFrom source.old.container source.old.frame_len
         (bytes_left R.remaining source.old) (bytes_left R.remaining source.new)
-        (W.contents out.old.inner) (W.contents out.new.inner) options.now
+        (W.contents out.old) (W.contents out.new) options.now
         (pixel_bytes (depth_of source.old.header.color)) (sizes_in source.old.header)) }
 {
     if source.header().color.bit_depth() == 8 {
@@ -93,12 +89,12 @@ fn sum_as<T: Pixel, R: io::Read, W: io::Write, P: Progress>(
     alloc: Global,
     source: &mut Source<R>,
     options: &Options,
-    out: &mut Counted<W>,
+    out: &mut W,
     progress: &mut P,
 ) -> Result<u64, StreamError>
     ensures { IfOk result (SumsFrom source.old.container source.old.frame_len
         (bytes_left R.remaining source.old) (bytes_left R.remaining source.new)
-        (W.contents out.old.inner) (W.contents out.new.inner) options.now
+        (W.contents out.old) (W.contents out.new) options.now
         T.form.size (sizes_in source.old.header)) }
 {
     let mut picture = Picture::<T>::new(alloc, source, most_pixels(options.max_pixels))?;
@@ -128,13 +124,13 @@ fn sum_frames<T: Pixel, R: io::Read, W: io::Write, P: Progress>(
     picture: &mut Picture<T>,
     lines: Lines,
     most: u64,
-    out: &mut Counted<W>,
+    out: &mut W,
     progress: &mut P,
 ) -> Result<u64, StreamError>
     requires { IsMadeFor T.form source.old picture.old }
     ensures { IfOk result (SumsFrames source.old.container source.old.frame_len
         (bytes_left R.remaining source.old) (bytes_left R.remaining source.new)
-        (W.contents out.old.inner) (W.contents out.new.inner) lines.planes
+        (W.contents out.old) (W.contents out.new) lines.planes
         T.form.size (sizes_of (tables_of picture.old.frame)) lines.before most) }
 {
     let mut text = String::new(alloc);
@@ -164,10 +160,10 @@ fn write_sums<T: Pixel, W: io::Write>(
     frame: &Frame<T>,
     bytes: &[u8],
     planes: bool,
-    out: &mut Counted<W>,
+    out: &mut W,
 ) -> Result<(), StreamError>
     requires { length bytes.now ≡ byte_count T.form.size (sizes_of (tables_of frame.now)) }
-    ensures { OnOk result (Appends (W.contents out.old.inner) (W.contents out.new.inner)
+    ensures { OnOk result (Appends (W.contents out.old) (W.contents out.new)
         (checksums_line number
         (checksums_of planes T.form.size (sizes_of (tables_of frame.now)) bytes.now))) }
 {

@@ -48,7 +48,7 @@ pub fn write_difference_picture<T: Pixel, W: io::Write + Drop>(
         return Err(PictureError::Layout);
     }
     let mut plane = first.y_plane.clone(alloc)?;
-    difference(&mut plane, &second.y_plane.as_plane_ref(), gain, depth);
+    difference(&second.y_plane.as_plane_ref(), &mut plane, gain, depth);
     write_gray(alloc, out, &plane.as_plane_ref(), depth)
 }
 

@@ -8,7 +8,7 @@ use Rattle.v_frame_streams.specs.Streams.{ReadsHeaderLine}
 use Rattle.v_frame_streams.specs.declared.source.Source.{Source}
 use Rattle.v_frame_streams.specs.declared.stream.Container.{Container}
 use Rattle.v_frame_streams.specs.declared.stream.Container.TheVariants.{Raw, Y4m}
-use Rattle.yuv_system.specs.InputFiles.{BeginsAsAStream}
+use Rattle.yuv_system.specs.InputFiles.{bytes_of_input, BeginsAsAStream, IsInputOf}
 use Rattle.yuv_system.specs.declared.input_file.InputFile.{InputFile}
 use Rattle.v_frame_formats.specs.Formats.{format_color}
 use Rattle.yuv_words.specs.declared.command.RawVideo.{RawVideo}
@@ -48,6 +48,16 @@ abbrev pub OpensAs : {F I : Type 0} → (InputFile F I → Option (List ℕ)) �
     → InputFile F I → Source (MutBor (InputFile F I)) → Type 0
 OpensAs remaining None file source = OpensAsY4m remaining file source
 OpensAs remaining (Some video) file source = OpensAsRaw remaining file video source
+
+-- the file of this name was opened, and a stream of it as the option `--raw` says, of which these bytes
+-- are left
+pub record OpensFile {F I : Type 0} (files : F → Option (List ℕ)) (standard : I → Option (List ℕ))
+    (name : List ℕ) (input : Option I) (raw : Option RawVideo) (left : Option (List ℕ))
+    (source : Source (MutBor (InputFile F I))) : Type 0 where
+  pub file : InputFile F I
+  pub named : IsInputOf standard name input (bytes_of_input files standard file)
+  pub opened : OpensAs (bytes_of_input files standard) raw file source
+  pub are_left : left ≡ bytes_left (λ lent. bytes_of_input files standard lent.now) source
 
 -- how many bytes the shortest line in front of a frame has
 abbrev pub shortest_line : Container → ℕ

@@ -5,13 +5,15 @@ use Rattle.yuv_system.specs.declared.shown.Shown.{Shown}
 use Rattle.yuv_system.specs.declared.shown.Shown.TheVariants.{NoCount, LastCount, EachCount}
 use Rattle.yuv_words.specs.declared.command.Command.{Command}
 use Rattle.yuv_words.specs.declared.command.Command.TheVariants.{Call}
+use Rattle.yuv_words.specs.declared.command.CommandName.{CommandName}
 use Rattle.yuv_words.specs.declared.command.CommandName.TheVariants.{Compare, Sum}
+use Rattle.yuv_words.specs.declared.command.Options.{Options}
 use Rattle.yuv_reports.specs.declared.comparison.ReportForm.{ReportForm}
 use Rattle.yuv_reports.specs.declared.comparison.ReportForm.TheVariants.{Lines, Csv, Json}
 
 -- `--progress`, which not all commands have
 abbrev pub asks_progress : Command → Bool
-asks_progress (Call name first second third options) = options.progress
+asks_progress (Call call) = call.options.progress
 asks_progress _ = false
 
 -- what is shown beside a report on a terminal, in this form and by `--frames`: the last count alone
@@ -22,11 +24,15 @@ beside_report Csv frames = LastCount
 beside_report Lines true = LastCount
 beside_report Lines false = EachCount
 
--- what is shown beside standard output on a terminal, where two commands write something of each
--- frame at once
+-- what is shown beside the lines of a command on a terminal, where two write something of each frame
+-- at once
+abbrev pub beside_lines : CommandName → Options → Shown
+beside_lines Sum options = LastCount
+beside_lines Compare options = beside_report options.form options.frames
+beside_lines _ options = EachCount
+
 abbrev pub beside_output : Command → Shown
-beside_output (Call Sum first second third options) = LastCount
-beside_output (Call Compare first second third options) = beside_report options.form options.frames
+beside_output (Call call) = beside_lines call.name call.options
 beside_output _ = EachCount
 
 -- what a command shows, where standard error is a terminal or not, and standard output is or not

@@ -30,7 +30,9 @@ pub fn begin<'f, H: AllocGlobal + Clock, F: Read, I: Read, O, E: io::Write>(
     raw: Option<RawVideo>,
 ) -> Result<Source<&'f mut InputFile<F, I>>, Fault>
     requires { IsReadOn file.now }
-    ensures { IfOk result (OpensAs (bytes_of_input F.remaining I.remaining) raw file.entry.now) }
+    ensures opened { IfOk result (OpensAs (bytes_of_input F.remaining I.remaining) raw file.entry.now) }
+    ensures output { system.new.output ≡ system.old.output }
+    ensures input { system.new.input ≡ system.old.input }
 {
     let alloc = system.rt.alloc();
     let place = file.place;

@@ -2,14 +2,11 @@
 ghost use Rattle.std.specs.Prelude.{◌≡◌, ◌≤◌, ◌==◌, ◌↔◌, IfOk, IsTrue};
 ghost use Rattle.v_frame_y4m.specs.Header.{signature};
 
-use crate::fault::Fault;
-use std::fs::{self, OpenFile};
+use std::fs::OpenFile;
 use std::io::{self, Read};
-use std::rt::Files;
 use v_frame_planar::{Counted, read_until_full};
 use v_frame_streams::{Place, Problem, StreamError};
 use v_frame_y4m::Y4mError;
-use yuv_files::{STANDARD_OUTPUT, is_read};
 
 /// How a stream of YUV4MPEG2 begins.
 const MAGIC: &[u8] = b"YUV4MPEG2";
@@ -19,7 +16,7 @@ const FIRST: usize = 9;
 
 /// A file or standard input, for reading.
 #[derive(Drop)]
-enum Reader<F, I> {
+pub(crate) enum Reader<F, I> {
     File(F),
     Standard(I),
 }
@@ -70,7 +67,23 @@ impl<F: Read, I: Read> Read for InputFile<F, I> {
 impl<F: Read, I: Read> InputFile<F, I> {
     ghost use Rattle.std.specs.Prelude.{IfSome};
     ghost use Rattle.std.specs.Io.KnownBytes.{Keeps};
-    ghost use Rattle.yuv_system.specs.InputFiles.{bytes_of_input, BeginsAsAStream, IsReadOn};
+    ghost use Rattle.yuv_system.specs.InputFiles.{bytes_of_input, bytes_of_reader, BeginsAsAStream, IsReadOn};
+
+    /// Returns the file of a reader, of which nothing was read.
+    pub(crate) fn new(place: Place, reader: Reader<F, I>) -> Self
+        ensures unread { IsReadOn result }
+        ensures place { result.place ≡ place }
+        ensures bytes { bytes_of_input F.remaining I.remaining result
+            ≡ bytes_of_reader F.remaining I.remaining reader }
+    {
+        InputFile {
+            place,
+            reader: Counted::new(reader),
+            first: [0; FIRST],
+            known: 0,
+            given: 0,
+        }
+    }
 
     /// Looks at the first bytes, and returns whether a stream begins so. They are still to be read then.
     #[tactic(auto, using(crate::proofs::LookedAt::begins_as, crate::proofs::LookedAt::looked_at))]
@@ -128,41 +141,4 @@ impl<F: OpenFile, I> InputFile<F, I> {
             Reader::Standard(_) => None,
         }
     }
-}
-
-/// Opens a file for reading, or takes standard input for `-`. The file behind standard output is refused: it would grow by what
-/// is written of it.
-///
-/// # Errors
-///
-/// [`Fault::ReadAndWritten`] for that one, [`Fault::InputTwice`] where standard input was taken, and [`Fault::Open`].
-pub fn open_file<H: Files, I: Read>(
-    rt: &H,
-    name: &str,
-    place: Place,
-    standard: &mut Option<I>,
-) -> Result<InputFile<H::File, I>, Fault>
-    ensures { IfOk result (λ file. file.given ≡ file.known) }
-{
-    if is_read(rt, name, STANDARD_OUTPUT) {
-        return Err(Fault::ReadAndWritten(place));
-    }
-    let reader = if name == "-" {
-        match standard.take() {
-            Some(input) => Reader::Standard(input),
-            None => return Err(Fault::InputTwice(place)),
-        }
-    } else {
-        match fs::open(rt, name) {
-            Ok(file) => Reader::File(file),
-            Err(error) => return Err(Fault::Open(place, error.kind())),
-        }
-    };
-    Ok(InputFile {
-        place,
-        reader: Counted::new(reader),
-        first: [0; FIRST],
-        known: 0,
-        given: 0,
-    })
 }

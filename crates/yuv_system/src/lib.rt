@@ -6,6 +6,7 @@ mod fault;
 mod input;
 mod input_file;
 mod nothing;
+mod opening;
 mod options;
 mod output;
 mod progress;
@@ -16,8 +17,9 @@ mod system;
 
 pub use fault::Fault;
 pub use input::{begin, expected_frames};
-pub use input_file::{InputFile, open_file};
-pub use nothing::{NothingTaken, test_compared};
+pub use input_file::InputFile;
+pub use nothing::{NothingTaken, nothing_taken, test_compared, write_nothing};
+pub use opening::open_file;
 pub use options::{
     copy_sink, frames_before, most_pixels, stream_comparison, stream_copy, taken_of_both,
     test_limit, test_pixels,

@@ -1,10 +1,12 @@
 //! Why a command found no frame to work on.
-ghost use Rattle.std.specs.Prelude.{◌≡◌, ◌<◌, IfErr, OnOk};
+ghost use Rattle.std.specs.Prelude.{◌≡◌, ◌<◌, unwrap_or, IfErr, OnOk};
 ghost use Rattle.yuv_system.specs.Nothing.{nothing_of, shorter};
 
 use crate::fault::Fault;
 use std::{fmt, io};
 use v_frame_streams::{CompareOptions, Comparison, Place, Source};
+use yuv_files::{shown_name, write_message};
+use yuv_words::Options;
 
 /// What a stream has, and what was asked of it, where none of its frames was taken.
 #[derive(Debug, Clone, Copy, PartialEq, Eq)]
@@ -47,6 +49,20 @@ impl fmt::Display for NothingTaken {
             f,
             "no frame is taken: the stream has {frames}, and {skip} are passed over"
         )
+    }
+}
+
+/// Returns why no frame was taken, where so many of a stream of so many are none.
+pub fn nothing_taken(options: &Options, taken: u64, frames: u64) -> Option<NothingTaken>
+    ensures { result ≡ nothing_of taken frames (unwrap_or options.now.skip 0) options.now.count }
+{
+    NothingTaken::of(taken, frames, options.skip.unwrap_or(0), options.count)
+}
+
+/// Says of a file why no frame of it was taken, where none was.
+pub fn write_nothing<E: io::Write>(messages: &mut E, name: &str, nothing: Option<NothingTaken>) {
+    if let Some(nothing) = nothing {
+        write_message(messages, Some(shown_name(name)), &nothing);
     }
 }
 

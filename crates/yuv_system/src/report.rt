@@ -1,11 +1,12 @@
 //! Texts on standard output.
 ghost use Rattle.std.specs.Prelude.{◌≡◌, None, string_bytes, IsOkAnd, OnErr, OnOk};
 ghost use Rattle.std.specs.Io.KnownBytes.{Appends};
-ghost use Rattle.v_frame_planar.specs.Counted.{AppendsBeginning};
+ghost use Rattle.v_frame_bytes.specs.Sending.{AppendsBeginning};
 
 use std::alloc::AllocError;
 use std::io;
-use v_frame_planar::{Counted, PlanarError};
+use v_frame_bytes::{SendError, send};
+use v_frame_planar::PlanarError;
 use v_frame_streams::{Place, Problem, StreamError};
 use v_frame_y4m::Y4mError;
 
@@ -14,20 +15,29 @@ use v_frame_y4m::Y4mError;
 /// # Errors
 ///
 /// The writer's.
-pub fn write_text<W: io::Write>(out: &mut Counted<W>, text: &str) -> Result<(), StreamError>
-    ensures ok { OnOk result (Appends (W.contents out.old.inner) (W.contents out.new.inner)
+pub fn write_text<W: io::Write>(out: &mut W, text: &str) -> Result<(), StreamError>
+    ensures ok { OnOk result (Appends (W.contents out.old) (W.contents out.new)
         text.now) }
-    ensures beginning { OnErr result (AppendsBeginning (W.contents out.old.inner)
-        (W.contents out.new.inner) text.now) }
+    ensures beginning { OnErr result (AppendsBeginning (W.contents out.old)
+        (W.contents out.new) text.now) }
 {
-    match out.write_all(text.as_bytes()) {
+    match send(out, text.as_bytes()) {
         Ok(()) => Ok(()),
-        Err(fault) => Err(StreamError {
-            place: Place::Output,
-            frames: 0,
-            problem: Problem::Stream(Y4mError::Planar(PlanarError::from(fault))),
-            cause: out.last_failure(),
-        }),
+        Err(fault) => Err(not_written(&fault)),
+    }
+}
+
+/// Returns the error of a text that was not written.
+fn not_written(fault: &SendError) -> StreamError {
+    let (problem, cause) = match fault {
+        SendError::Write(error) => (PlanarError::Write, Some(error.kind())),
+        SendError::WriteZero => (PlanarError::WriteZero, None),
+    };
+    StreamError {
+        place: Place::Output,
+        frames: 0,
+        problem: Problem::Stream(Y4mError::Planar(problem)),
+        cause,
     }
 }
 
@@ -37,11 +47,11 @@ pub fn write_text<W: io::Write>(out: &mut Counted<W>, text: &str) -> Result<(), 
 ///
 /// The writer's, and [`Problem::OutOfMemory`] where there was no memory.
 pub fn write_made<W: io::Write>(
-    out: &mut Counted<W>,
+    out: &mut W,
     text: Result<String, AllocError>,
 ) -> Result<(), StreamError>
-    ensures { OnOk result (IsOkAnd text (λ made. Appends (W.contents out.old.inner)
-        (W.contents out.new.inner) (string_bytes made))) }
+    ensures { OnOk result (IsOkAnd text (λ made. Appends (W.contents out.old)
+        (W.contents out.new) (string_bytes made))) }
 {
     match text {
         Ok(text) => {

@@ -35,7 +35,7 @@ fn asks_for_progress(command: &Command<'_>) -> bool
     ensures { result ≡ asks_progress command.now }
 {
     match command {
-        Command::Call { options, .. } => options.progress,
+        Command::Call(call) => call.options.progress,
         _ => false,
     }
 }
@@ -45,9 +45,9 @@ fn shown_beside_output(command: &Command<'_>) -> Shown
     ensures { result ≡ beside_output command.now }
 {
     match command {
-        Command::Call { name, options, .. } => match name {
+        Command::Call(call) => match call.name {
             CommandName::Sum => Shown::LastCount,
-            CommandName::Compare => shown_beside_report(options),
+            CommandName::Compare => shown_beside_report(&call.options),
             _ => Shown::EachCount,
         },
         _ => Shown::EachCount,

@@ -129,7 +129,7 @@ module _ (k : CommandName) (words rest : List (List ℕ)) (is : words ≡ comman
   only_calls none (command.Help topic) written =
       no_help_word k written.0 (first_of _ _ _ rest (sym written.2 ∙ is)) written.1
   only_calls none command.Version written = no_version_word k (first_of _ _ [] rest (sym written ∙ is))
-  only_calls none (command.Call _ _ _ _ _) written =
+  only_calls none (command.Call _) written =
       none _ (named_call _ written.name written.rest written.named written.call)
 
 -- a word for help begins no other call than that for help
@@ -137,5 +137,5 @@ pub only_help : (word : List ℕ) (rest : List (List ℕ)) → ((k : CommandName
     → ((topic : Option CommandName) → rest ≢ topic_words topic) → (c : Command) → ¬ (IsWrittenAs (word ∷ rest) c)
 only_help word rest no_name help none (command.Help topic) written = none topic (rest_of word _ rest _ written.2)
 only_help word rest no_name help none command.Version written = help_no_version word help (first_of word _ rest [] written)
-only_help word rest no_name help none (command.Call _ _ _ _ _) written =
+only_help word rest no_name help none (command.Call _) written =
     no_name written.name (first_of word _ rest written.rest written.named)

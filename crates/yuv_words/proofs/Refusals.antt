@@ -26,8 +26,8 @@ use Rattle.yuv_words.proofs.Places.{each_command, one_option}
 -- a command has as many files as it takes
 pub says_count : (given : OptionName → List (List ℕ)) (k : CommandName) (c : Command) (files : List (List ℕ))
     → Says given k c files → length files ≡ file_count k
-says_count given k (command.Call j first second third o) files says = ap length says.1.0
-    ∙ eqb-true _ _ (each_command (λ n. eqb (length (take (file_count n) (first.now ∷ second.now ∷ third.now ∷ []))) (file_count n)) refl k)
+says_count given k (command.Call c) files says = ap length says.1.0
+    ∙ eqb-true _ _ (each_command (λ n. eqb (length (take (file_count n) (c.first.now ∷ c.second.now ∷ c.third.now ∷ []))) (file_count n)) refl k)
 says_count given k _ files says = absurd says
 
 -- a token that is an option

@@ -70,6 +70,7 @@ module _ (given : OptionName → List (List ℕ)) where
 
   -- the files and the options say the command of this name
   abbrev pub Says : CommandName → Command → List (List ℕ) → Type 0
-  Says name (Call other first second third o) files =
-      (other ≡ name) × AreFiles name first.now second.now third.now files × SaysOptions o
+  Says name (Call call) files =
+      (call.name ≡ name) × AreFiles name call.first.now call.second.now call.third.now files
+      × SaysOptions call.options
   Says name _ files = ⊥

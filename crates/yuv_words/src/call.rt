@@ -8,7 +8,7 @@ ghost use Rattle.yuv_words.specs.Words.{texts_of};
 ghost use Rattle.yuv_words.specs.declared.command.Command.{Command as TheCommand};
 ghost use Rattle.yuv_words.specs.declared.command.CommandName.{CommandName as TheName};
 
-use crate::command::{Command, CommandName};
+use crate::command::{Call, Command, CommandName};
 use crate::error::UsageError;
 use crate::files::Files;
 use crate::given::Given;
@@ -126,11 +126,11 @@ fn command_of<'a>(
 {
     let (first, second, third) = files.of(name)?;
     let options = given.options()?;
-    Ok(Command::Call {
+    Ok(Command::Call(Call {
         name,
         first,
         second,
         third,
         options,
-    })
+    }))
 }

@@ -8,23 +8,27 @@ use yuv_reports::ReportForm;
 /// What the words of a call ask for.
 #[derive(Clone, Copy)]
 pub enum Command<'a> {
-    /// To do a command with files, each by its name. The name `-` is standard input or output.
-    Call {
-        /// The command.
-        name: CommandName,
-        /// The first file.
-        first: &'a str,
-        /// The second file. Empty where the command takes one.
-        second: &'a str,
-        /// The third file. Empty where the command takes fewer.
-        third: &'a str,
-        /// How the files are read and written, and what is said.
-        options: Options,
-    },
+    /// To do a command with files.
+    Call(Call<'a>),
     /// To say how the program is called, or one of its commands.
     Help(Option<CommandName>),
     /// To say the program's version.
     Version,
+}
+
+/// A command with its files, each by its name, and its options. The name `-` is standard input or output.
+#[derive(Clone, Copy)]
+pub struct Call<'a> {
+    /// The command.
+    pub name: CommandName,
+    /// The first file.
+    pub first: &'a str,
+    /// The second file. Empty where the command takes one.
+    pub second: &'a str,
+    /// The third file. Empty where the command takes fewer.
+    pub third: &'a str,
+    /// How the files are read and written, and what is said.
+    pub options: Options,
 }
 
 /// A command that takes files and options.

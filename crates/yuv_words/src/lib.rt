@@ -13,7 +13,7 @@ mod values;
 mod word;
 
 pub use call::{help_topic, read_command};
-pub use command::{Command, CommandName, Options, RawVideo};
+pub use command::{Call, Command, CommandName, Options, RawVideo};
 pub use error::UsageError;
 pub use option_name::OptionName;
 pub use usage::usage_text;

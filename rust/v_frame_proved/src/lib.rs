@@ -11,6 +11,7 @@
     clippy::manual_div_ceil,
     clippy::manual_find,
     clippy::manual_map,
+    clippy::manual_memcpy,
     clippy::manual_ok_err,
     clippy::manual_range_contains,
     clippy::manual_swap,

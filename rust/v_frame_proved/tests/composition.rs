@@ -70,7 +70,7 @@ fn differs<T: Pixel>(mut case: Case<'_>) {
     let layout = case.layout();
     let other = numbered::<T>(layout, factor + step, size);
     let mut plane = numbered::<T>(layout, target_factor, size);
-    difference(&mut plane, &other.as_plane_ref(), gain, depth);
+    difference(&other.as_plane_ref(), &mut plane, gain, depth);
     case.expect(&[weighted(plane.data())]);
 }
 
@@ -88,9 +88,9 @@ fn composes_rows<T: Pixel>(mut case: Case<'_>) {
     let mut buffer = [T::from(0); 30];
     number(&mut buffer, target_factor, size::<T>());
     match call {
-        "blend" => rows::blend(&mut buffer, 5, 3, 9, &source, 77),
-        "mask" => rows::blend_with_mask(&mut buffer, 5, 3, 9, &source, &mask),
-        _ => rows::difference(&mut buffer, 5, 3, 9, &source, 2, 8 * size_of::<T>() as u8),
+        "blend" => rows::blend(&source, &mut buffer, 5, 3, 9, 77),
+        "mask" => rows::blend_with_mask(&source, &mask, &mut buffer, 5, 3, 9),
+        _ => rows::difference(&source, &mut buffer, 5, 3, 9, 2, 8 * size_of::<T>() as u8),
     }
     case.expect(&[weighted(&buffer)]);
 }

@@ -93,13 +93,13 @@ mod each {
     pub fn blended<T: Pixel>(depth: u8) {
         let [numbered, over] = two::<T>();
         let (source, over) = (picture(&numbered, 3, 2), picture(&over, 3, 2));
-        let quarter = written(3, 2, |it, s| changes::blend(it, 3, 2, s, over, 64));
+        let quarter = written(3, 2, |it, s| changes::blend(over, it, 3, 2, s, 64));
         assert_eq!(quarter, shown(&[&[31, 31, 31], &[31, 32, 32]]));
         let mask = strided::<u8>(&[&[0, 255, 51], &[0, 255, 0]], 9);
         let mask = picture(&mask, 3, 2);
-        let masked = written(3, 2, |it, s| changes::blend_with_mask(it, 3, 2, s, over, mask));
+        let masked = written(3, 2, |it, s| changes::blend_with_mask(over, mask, it, 3, 2, s));
         assert_eq!(masked, shown(&[&[7, 102, 26], &[7, 105, 7]]));
-        let difference = written(3, 2, |it, s| changes::difference(it, 3, 2, s, source, 2, depth));
+        let difference = written(3, 2, |it, s| changes::difference(source, it, 3, 2, s, 2, depth));
         assert_eq!(difference, shown(&[&[12, 10, 8], &[6, 4, 2]]));
     }
 

@@ -16,11 +16,11 @@ use v_frame::plane::RowsRef;
 /// A pixel of value `p` becomes `(p * (256 - weight) + q * weight + 128) / 256`, where `q` is the value of the source's pixel.
 /// So a weight of 0 keeps the rows, and one of 256 copies the source.
 pub fn blend<T: Pixel>(
+    source: &RowsRef<'_, T>,
     buffer: &mut [T],
     width: usize,
     height: usize,
     stride: usize,
-    source: &RowsRef<'_, T>,
     weight: u16,
 )
     requires fit { RowsFit width height stride (length buffer.old) }
@@ -52,12 +52,12 @@ pub fn blend<T: Pixel>(
 /// source's pixel and `m` that of the mask's. So 0 keeps a pixel, and 255 copies the source's.
 #[tactic(auto, using(v_frame_raster::proofs::tables::StridedWrites::row_ends))]
 pub fn blend_with_mask<T: Pixel>(
+    source: &RowsRef<'_, T>,
+    mask: &RowsRef<'_, u8>,
     buffer: &mut [T],
     width: usize,
     height: usize,
     stride: usize,
-    source: &RowsRef<'_, T>,
-    mask: &RowsRef<'_, u8>,
 )
     requires fit { RowsFit width height stride (length buffer.old) }
     requires wide { width_of source.now ≡ width }
@@ -87,11 +87,11 @@ pub fn blend_with_mask<T: Pixel>(
 /// A pixel of value `p` becomes `min(|p - q| * gain, 2^depth - 1)`, where `q` is the value of the other's pixel. With a gain of 1
 /// it is what ffmpeg's filter `blend=difference` shows. The depth has to fit the type: at most 8 bits for `u8`, and 16 for `u16`.
 pub fn difference<T: Pixel>(
+    other: &RowsRef<'_, T>,
     buffer: &mut [T],
     width: usize,
     height: usize,
     stride: usize,
-    other: &RowsRef<'_, T>,
     gain: u16,
     depth: u8,
 )

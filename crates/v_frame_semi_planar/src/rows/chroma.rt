@@ -15,6 +15,37 @@ pub fn interleave_row<T: Copy>(row: &mut [T], first: &[T], second: &[T])
     requires equal { length second.now ≡ length first.now }
     ensures { row.new ≡ interleaved first.now second.now }
 {
+    if first.len() == 8 {
+        interleave_eight(row, first, second);
+    } else {
+        interleave_pixels(row, first, second);
+    }
+}
+
+/// The same of eight pixels of each. They are put together apart from the row, which might overlap them for all that the
+/// compiler knows.
+#[inline(always)]
+fn interleave_eight<T: Copy>(row: &mut [T], first: &[T], second: &[T])
+    requires long { length row.old ≡ 16 }
+    requires first { length first.now ≡ 8 }
+    requires second { length second.now ≡ 8 }
+    ensures { row.new ≡ interleaved first.now second.now }
+{
+    let mut pairs = [first[0]; 16];
+    interleave_pixels(&mut pairs, first, second);
+    // One by one: bytes that are copied at once are one number, of which no lanes are made.
+    for x in 0..16 {
+        row[x] = pairs[x];
+    }
+}
+
+/// The same, pixel by pixel.
+#[inline(always)]
+fn interleave_pixels<T: Copy>(row: &mut [T], first: &[T], second: &[T])
+    requires long { length row.old ≡ 2 * length first.now }
+    requires equal { length second.now ≡ length first.now }
+    ensures { row.new ≡ interleaved first.now second.now }
+{
     for x in 0..first.len() {
         let (p, q) = (first[x], second[x]);
         row[2 * x] = p;
@@ -28,6 +59,11 @@ pub fn deinterleave_row<T: Pixel>(row: &[T], first: &mut [T], second: &mut [T])
     requires equal { length second.old ≡ length first.old }
     ensures { row.now ≡ interleaved first.new second.new }
 {
+    if first.len() == 8 {
+        // Of so few, whose number it knows, the compiler makes no loop.
+        deinterleave_pixels(row, first, second);
+        return;
+    }
     let whole = pairs_in_blocks::<T>(first.len());
     let (front, rest) = row.split_at(2 * whole);
     let (first_front, first_rest) = first.split_at_mut(whole);

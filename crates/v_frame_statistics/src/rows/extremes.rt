@@ -74,7 +74,7 @@ pub(crate) fn extremes_of_row<T: Pixel>(row: &[T]) -> Extremes<T>
     ensures greatest { IsGreatest T.form.value row.now result.greatest }
 {
     let (mut least, mut greatest) = (row[0], row[0]);
-    for x in 1..row.len() {
+    for x in 0..row.len() {
         let pixel = row[x];
         least = lesser(least, pixel);
         greatest = greater(greatest, pixel);

@@ -58,10 +58,10 @@ pub const CASES: &[Case] = &[
         ops::blend_region_with_mask, "the heights of mask (2) and source (3) are not equal",
         plane(3, 3), plane(3, 2), &mut plane(4, 3), 1, 0
     ),
-    case!(ops::difference, "the widths of other (5) and plane (4) are not equal", &mut plane(4, 3), plane(5, 3), 1, 8),
-    case!(ops::difference, "the heights of other (2) and plane (3) are not equal", &mut plane(4, 3), plane(4, 2), 1, 8),
-    case!(ops::difference, "depth (9) is above 8 times size_of::<T>() (1)", &mut plane(4, 3), plane(4, 3), 1, 9),
-    case!(ops::difference, "depth (17) is above 8 times size_of::<T>() (2)", &mut words(4, 3), words(4, 3), 1, 17),
+    case!(ops::difference, "the widths of other (5) and plane (4) are not equal", plane(5, 3), &mut plane(4, 3), 1, 8),
+    case!(ops::difference, "the heights of other (2) and plane (3) are not equal", plane(4, 2), &mut plane(4, 3), 1, 8),
+    case!(ops::difference, "depth (9) is above 8 times size_of::<T>() (1)", plane(4, 3), &mut plane(4, 3), 1, 9),
+    case!(ops::difference, "depth (17) is above 8 times size_of::<T>() (2)", words(4, 3), &mut words(4, 3), 1, 17),
     case!(ops::downscale, "width of source (7) is not twice the width of target (4)", plane(7, 6), &mut plane(4, 3)),
     case!(ops::downscale, "height of source (7) is not twice the height of target (3)", plane(8, 7), &mut plane(4, 3)),
     case!(ops::sum_of_absolute_differences, "the widths of a (5) and b (4) are not equal", plane(5, 3), plane(4, 3)),
@@ -107,39 +107,39 @@ pub const CASES: &[Case] = &[
     case!(ops::rows::first_difference, "the heights of a (2) and b (3) are not equal", rows(4, 2), rows(4, 3)),
     case!(
         ops::rows::blend, "3 rows of 4 entries, 4 apart, do not fit 11 entries",
-        &mut [0; 11], 4, 3, 4, rows(4, 3), 256
+        rows(4, 3), &mut [0; 11], 4, 3, 4, 256
     ),
-    case!(ops::rows::blend, "the width of source (5) is not width (4)", &mut [0; 12], 4, 3, 4, rows(5, 3), 256),
-    case!(ops::rows::blend, "the height of source (2) is not height (3)", &mut [0; 12], 4, 3, 4, rows(4, 2), 256),
-    case!(ops::rows::blend, "weight (257) is above 256", &mut [0; 12], 4, 3, 4, rows(4, 3), 257),
+    case!(ops::rows::blend, "the width of source (5) is not width (4)", rows(5, 3), &mut [0; 12], 4, 3, 4, 256),
+    case!(ops::rows::blend, "the height of source (2) is not height (3)", rows(4, 2), &mut [0; 12], 4, 3, 4, 256),
+    case!(ops::rows::blend, "weight (257) is above 256", rows(4, 3), &mut [0; 12], 4, 3, 4, 257),
     case!(
         ops::rows::blend_with_mask, "3 rows of 4 entries, 4 apart, do not fit 11 entries",
-        &mut [0; 11], 4, 3, 4, rows(4, 3), rows(4, 3)
+        rows(4, 3), rows(4, 3), &mut [0; 11], 4, 3, 4
     ),
     case!(
         ops::rows::blend_with_mask, "the width of source (5) is not width (4)",
-        &mut [0; 12], 4, 3, 4, rows(5, 3), rows(4, 3)
+        rows(5, 3), rows(4, 3), &mut [0; 12], 4, 3, 4
     ),
     case!(
         ops::rows::blend_with_mask, "the height of source (2) is not height (3)",
-        &mut [0; 12], 4, 3, 4, rows(4, 2), rows(4, 3)
+        rows(4, 2), rows(4, 3), &mut [0; 12], 4, 3, 4
     ),
     case!(
         ops::rows::blend_with_mask, "the width of mask (5) is not width (4)",
-        &mut [0; 12], 4, 3, 4, rows(4, 3), rows(5, 3)
+        rows(4, 3), rows(5, 3), &mut [0; 12], 4, 3, 4
     ),
     case!(
         ops::rows::blend_with_mask, "the height of mask (2) is not height (3)",
-        &mut [0; 12], 4, 3, 4, rows(4, 3), rows(4, 2)
+        rows(4, 3), rows(4, 2), &mut [0; 12], 4, 3, 4
     ),
     case!(
         ops::rows::difference, "3 rows of 4 entries, 4 apart, do not fit 11 entries",
-        &mut [0; 11], 4, 3, 4, rows(4, 3), 1, 8
+        rows(4, 3), &mut [0; 11], 4, 3, 4, 1, 8
     ),
-    case!(ops::rows::difference, "the width of other (5) is not width (4)", &mut [0; 12], 4, 3, 4, rows(5, 3), 1, 8),
-    case!(ops::rows::difference, "the height of other (2) is not height (3)", &mut [0; 12], 4, 3, 4, rows(4, 2), 1, 8),
+    case!(ops::rows::difference, "the width of other (5) is not width (4)", rows(5, 3), &mut [0; 12], 4, 3, 4, 1, 8),
+    case!(ops::rows::difference, "the height of other (2) is not height (3)", rows(4, 2), &mut [0; 12], 4, 3, 4, 1, 8),
     case!(
         ops::rows::difference, "depth (9) is above 8 times size_of::<T>() (1)",
-        &mut [0; 12], 4, 3, 4, rows(4, 3), 1, 9
+        rows(4, 3), &mut [0; 12], 4, 3, 4, 1, 9
     ),
 ];

@@ -2,7 +2,7 @@
 
 use crate::generated::yuv_reports::ReportForm;
 use crate::generated::yuv_words::{
-    Command, CommandName, Options, RawVideo, UsageError, read_command, usage_text,
+    Call, Command, CommandName, Options, RawVideo, UsageError, read_command, usage_text,
 };
 use v_frame_proved::formats::Rectangle;
 use v_frame_proved::y4m::Ratio;
@@ -45,10 +45,10 @@ fn help_has_the_options_that_are_taken() {
 
 /// Returns a line for what a command is, and one for each option that is given.
 fn told_of(command: &Command<'_>) -> String {
-    let (name, first, second, third, options) = match command {
+    let Call { name, first, second, third, options } = match command {
         Command::Help(topic) => return usage_text(*topic).to_string(),
         Command::Version => return "version\n".to_string(),
-        Command::Call { name, first, second, third, options } => (name, first, second, third, options),
+        Command::Call(call) => call,
     };
     let head = match name {
         CommandName::Info => format!("info of {first}"),

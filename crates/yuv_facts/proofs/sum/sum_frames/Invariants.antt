@@ -14,6 +14,6 @@ invariant-loop-count g l = record {
   same : stream_of l.source ≡ stream_of l.fn.source;
   summed : SumsSoFar l.fn.source.container l.fn.source.frame_len l.lines.planes g.T.Pixel.form.size
       (sizes_of (tables_of l.fn.picture.frame)) l.lines.before (bytes_left g.R.Read.remaining l.fn.source)
-      (bytes_left g.R.Read.remaining l.source) (g.W.Write.contents l.fn.out.inner)
-      (g.W.Write.contents l.out.inner) l.count;
+      (bytes_left g.R.Read.remaining l.source) (g.W.Write.contents l.fn.out)
+      (g.W.Write.contents l.out) l.count;
 }

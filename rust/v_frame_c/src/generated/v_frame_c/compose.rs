@@ -28,11 +28,11 @@ pub fn blend<T: Pixel>(
         return SIZES;
     }
     pictures::blend(
+        &source,
         buffer,
         rows.width,
         rows.height,
         rows.stride,
-        &source,
         weight,
     );
     OK
@@ -59,7 +59,7 @@ pub fn blend_with_mask<T: Pixel>(
     if !rows.same_size(source_rows) || !rows.same_size(mask_rows) {
         return SIZES;
     }
-    pictures::blend_with_mask(buffer, rows.width, rows.height, rows.stride, &source, &mask);
+    pictures::blend_with_mask(&source, &mask, buffer, rows.width, rows.height, rows.stride);
     OK
 }
 
@@ -85,11 +85,11 @@ pub fn difference<T: Pixel>(
         return SIZES;
     }
     pictures::difference(
+        &source,
         buffer,
         rows.width,
         rows.height,
         rows.stride,
-        &source,
         gain,
         depth as u8,
     );

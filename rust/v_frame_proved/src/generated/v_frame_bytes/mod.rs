@@ -3,6 +3,17 @@
 //!
 //! [`send`] writes all of some bytes. [`crc32`] is the CRC-32 of bytes in one piece, [`Crc32Digest`] that of bytes that come
 //! in parts. [`CrcTables`] are made once for many.
+//!
+//! # Examples
+//!
+//! ```
+//! use v_frame_proved::bytes::{crc32, send};
+//!
+//! let mut out = Vec::new();
+//! send(&mut out, b"FRAME\n")?;
+//! assert_eq!(crc32(&out), 0x1c21_a7ec);
+//! # Ok::<(), v_frame_proved::bytes::SendError>(())
+//! ```
 
 mod crc;
 mod crc_tables;

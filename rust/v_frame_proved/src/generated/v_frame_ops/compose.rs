@@ -48,7 +48,7 @@ pub fn blend_region<T: Pixel>(
         stride,
     } = target.visible_region_mut(x, y, source.width(), source.height());
     let source = source.as_rows_ref();
-    rows::blend(entries, width, height, stride, &source, weight);
+    rows::blend(&source, entries, width, height, stride, weight);
 }
 
 /// Blends all that `source` shows over `target` by `mask`, from column `x` of row `y` on: of 255 parts of each pixel the source
@@ -99,7 +99,7 @@ pub fn blend_region_with_mask<T: Pixel>(
         stride,
     } = target.visible_region_mut(x, y, source.width(), source.height());
     let (source, mask) = (source.as_rows_ref(), mask.as_rows_ref());
-    rows::blend_with_mask(entries, width, height, stride, &source, &mask);
+    rows::blend_with_mask(&source, &mask, entries, width, height, stride);
 }
 
 /// Writes all that `source` shows into `target`, with its first pixel at column `x` of row `y`, either of which may be negative
@@ -136,7 +136,7 @@ pub fn copy_region_clipped<T: Pixel>(
 /// - where `depth` is above 8 times `size_of::<T>()`.
 #[track_caller]
 #[inline]
-pub fn difference<T: Pixel>(plane: &mut Plane<T>, other: impl AsPlaneRef<Pixel = T>, gain: u16, depth: u8) {
+pub fn difference<T: Pixel>(other: impl AsPlaneRef<Pixel = T>, plane: &mut Plane<T>, gain: u16, depth: u8) {
     let other = &other.as_plane_ref();
     assert!(
         other.width() == plane.width(),

@@ -43,7 +43,7 @@
 //! let mut half = Plane::<u8>::new(one_pixel)?;
 //! ops::downscale(&view, &mut half);
 //! assert_eq!(half[0], [50]);
-//! ops::difference(&mut plane, &other, 2, 8); // twice as bright
+//! ops::difference(&other, &mut plane, 2, 8); // twice as bright
 //! assert_eq!(plane.pixels().collect::<Vec<_>>(), [0, 150, 22, 70]);
 //! # Ok::<(), v_frame_proved::AllocError>(())
 //! ```

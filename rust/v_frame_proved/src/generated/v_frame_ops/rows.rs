@@ -19,8 +19,8 @@
 //!
 //! let other = RowsRef::new(&[95; 4], 2, 2, 2).unwrap();
 //! let mask = RowsRef::new(&[0, 255, 51, 0], 2, 2, 2).unwrap();
-//! rows::blend(&mut buffer, width, height, stride, &other, 128);
-//! rows::blend_with_mask(&mut buffer, width, height, stride, &other, &mask);
+//! rows::blend(&other, &mut buffer, width, height, stride, 128);
+//! rows::blend_with_mask(&other, &mask, &mut buffer, width, height, stride);
 //! assert_eq!(buffer, [55, 95, 0, 63, 55]);
 //!
 //! let picture = RowsRef::new(&buffer, width, height, stride).unwrap();
@@ -33,7 +33,7 @@
 //!
 //! rows::combine_pixels(&mut buffer, width, height, stride, &other, |a, b| b - a);
 //! assert_eq!(buffer, [40, 0, 0, 32, 40]);
-//! rows::difference(&mut buffer, width, height, stride, &other, 1, 8);
+//! rows::difference(&other, &mut buffer, width, height, stride, 1, 8);
 //! assert_eq!(buffer, [55, 95, 0, 63, 55]);
 //! ```
 

@@ -9,7 +9,7 @@ use crate::generated::v_frame::frame::Frame;
 use crate::generated::v_frame::pixel::Pixel;
 
 /// How many bytes are encoded and offered at once.
-const BLOCK: usize = 65536;
+const BLOCK: usize = 16384;
 
 /// Writes the planar bytes of a frame. It takes no memory.
 ///

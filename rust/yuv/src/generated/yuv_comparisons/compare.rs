@@ -3,6 +3,7 @@
 
 use crate::generated::yuv_comparisons::frame_report::FrameReport;
 use crate::generated::yuv_comparisons::measures::{Means, Scale};
+use crate::support::fs::OpenFile;
 use std::io;
 use crate::support::fs::Files;
 use crate::support::time::Clock;
@@ -17,24 +18,26 @@ use crate::generated::yuv_system::{
     Fault, ProgressLine, Status, System, begin, expected_frames, open_file, stream_comparison,
     test_compared,
 };
-use crate::generated::yuv_words::Options;
+use crate::generated::yuv_words::{Call, Options};
 
 /// Reports how far two streams are apart.
 ///
 /// # Errors
 ///
 /// Where a stream can't be read, the streams can't be compared, no frame is, or the report can't be written.
-pub fn do_compare<H, I, O, E>(
+pub fn do_compare<H, F, I, O, E>(
     system: &mut System<'_, H, I, O, E>,
-    (first, second): (&str, &str),
-    options: &Options,
+    call: &Call<'_>,
 ) -> Result<Status, Fault>
 where
-    H: Files + Clock,
+    H: Files<File = F> + Clock,
+    F: OpenFile + io::Read,
     I: io::Read,
     O: io::Write,
     E: io::Write,
 {
+    let (first, second) = (call.first, call.second);
+    let options = &call.options;
     let mut file = open_file(system.rt, first, Place::First, &mut system.input)?;
     let len = file.len();
     let mut one = begin(system, first, &mut file, options.raw)?;

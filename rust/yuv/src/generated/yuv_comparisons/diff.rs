@@ -9,7 +9,6 @@ use crate::support::time::Clock;
 use v_frame_proved::frame::Frame;
 use v_frame_proved::pixel::Pixel;
 use v_frame_proved::measures::{GreatestDifference, frames_have_one_size};
-use v_frame_proved::planar::Counted;
 use v_frame_proved::streams::{
     CompareOptions, FrameObserver, Place, PlaneSums, Silent, Source, StreamError, compare_streams,
 };
@@ -19,7 +18,7 @@ use crate::generated::yuv_system::{
     Fault, Output, Status, System, begin, frames_before, is_standard_output, no_memory, open_file,
     taken_of_both, write_made, write_text,
 };
-use crate::generated::yuv_words::Options;
+use crate::generated::yuv_words::{Call, Options};
 
 /// What each difference is multiplied by, where nobody says.
 const GAIN: u16 = 8;
@@ -31,8 +30,7 @@ const GAIN: u16 = 8;
 /// Where a stream can't be read, has no such frame or one that can't be compared, or the picture or the report can't be written.
 pub fn do_diff<H, I, O, E>(
     system: &mut System<'_, H, I, O, E>,
-    (first, second, to): (&str, &str, &str),
-    options: &Options,
+    call: &Call<'_>,
 ) -> Result<Status, Fault>
 where
     H: Files + Clock,
@@ -41,6 +39,8 @@ where
     O: io::Write,
     E: io::Write,
 {
+    let (first, second, to) = (call.first, call.second, call.third);
+    let options = &call.options;
     let rt = system.rt;
     let mut file = open_file(rt, first, Place::First, &mut system.input)?;
     let mut one = begin(system, first, &mut file, options.raw)?;
@@ -67,8 +67,8 @@ where
             return Err(Fault::Report(no_memory()));
         };
         // Where nothing can be said there, the picture is written all the same, and the status says what was found.
-        let _ = write_text(&mut Counted::new(system.progress.out()), text.as_str());
-    } else if let Err(error) = write_made(&mut Counted::new(&mut system.output), text) {
+        let _ = write_text(system.progress.out(), text.as_str());
+    } else if let Err(error) = write_made(&mut system.output, text) {
         return Err(Fault::Report(error));
     }
     Ok(status_of(&found))

@@ -7,14 +7,13 @@ use std::io;
 use v_frame_proved::frame::Frame;
 use v_frame_proved::pixel::Pixel;
 use v_frame_proved::measures::{frame_ssim, frames_have_one_size};
-use v_frame_proved::planar::Counted;
 use v_frame_proved::streams::{Comparison, FrameObserver, Place, PlaneSums, StreamError};
 use crate::generated::yuv_reports::{FrameMeasures, Longer, PlaneValues, Report};
 use crate::generated::yuv_system::{no_memory, write_text};
 
 /// Reports each two frames that are compared, and all of them at the end.
 pub(crate) struct FrameReport<W> {
-    out: Counted<W>,
+    out: W,
     report: Report,
     text: String,
     scale: Scale,
@@ -36,7 +35,7 @@ impl<W: io::Write> FrameReport<W> {
         before: u64,
     ) -> Self {
         FrameReport {
-            out: Counted::new(out),
+            out,
             report,
             text: String::new(),
             scale,
@@ -49,7 +48,7 @@ impl<W: io::Write> FrameReport<W> {
 
     /// Returns the writer back.
     pub(crate) fn into_out(self) -> W {
-        self.out.into_inner()
+        self.out
     }
 
     /// Appends what stands before the first frame, once.

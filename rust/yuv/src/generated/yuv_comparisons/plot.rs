@@ -13,7 +13,6 @@ use v_frame_proved::frame::Frame;
 use v_frame_proved::pixel::Pixel;
 use v_frame_proved::chart::{Chart, Series, svg};
 use v_frame_proved::measures::{frame_ssim, frames_have_one_size};
-use v_frame_proved::planar::Counted;
 use v_frame_proved::streams::{
     CompareOptions, FrameObserver, Place, PlaneSums, Progress, Source, StreamError, compare_streams,
 };
@@ -23,7 +22,7 @@ use crate::generated::yuv_system::{
     Fault, Output, Status, System, begin, expected_frames, no_memory, open_file, taken_of_both,
     test_compared, write_text,
 };
-use crate::generated::yuv_words::Options;
+use crate::generated::yuv_words::{Call, Options};
 
 /// Draws how far two streams are apart.
 ///
@@ -32,8 +31,7 @@ use crate::generated::yuv_words::Options;
 /// Where a stream can't be read, the streams can't be compared, no frame is, or the chart can't be written.
 pub fn do_plot<H, I, O, E>(
     system: &mut System<'_, H, I, O, E>,
-    (first, second, to): (&str, &str, &str),
-    options: &Options,
+    call: &Call<'_>,
 ) -> Result<Status, Fault>
 where
     H: Files + Clock,
@@ -42,6 +40,8 @@ where
     O: io::Write,
     E: io::Write,
 {
+    let (first, second, to) = (call.first, call.second, call.third);
+    let options = &call.options;
     let rt = system.rt;
     let mut file = open_file(rt, first, Place::First, &mut system.input)?;
     let len = file.len();
@@ -66,8 +66,7 @@ where
 }
 
 /// Writes the chart.
-fn write_drawn<W: Write>(out: W, text: &str) -> Result<Status, Fault> {
-    let mut out = Counted::new(out);
+fn write_drawn<W: Write>(mut out: W, text: &str) -> Result<Status, Fault> {
     match write_text(&mut out, text) {
         Ok(()) => Ok(Status::Same),
         Err(error) => Err(Fault::Stream(error)),

@@ -8,10 +8,10 @@ use v_frame_proved::streams::{Place, Progress, Sink, Source, StreamError, copy_s
 use v_frame_proved::y4m::{Interlacing, StreamHeader};
 use crate::generated::yuv_files::{SystemFile, shown_name, write_message};
 use crate::generated::yuv_system::{
-    Fault, NothingTaken, Output, Status, System, begin, copy_sink, expected_frames, open_file,
+    Fault, Output, Status, System, begin, copy_sink, expected_frames, nothing_taken, open_file,
     stream_copy, test_limit,
 };
-use crate::generated::yuv_words::Options;
+use crate::generated::yuv_words::{Call, Options};
 
 /// Writes a stream once more.
 ///
@@ -20,8 +20,7 @@ use crate::generated::yuv_words::Options;
 /// Where the stream can't be read, or what the options make of it can't be written.
 pub fn do_copy<H, I, O, E>(
     system: &mut System<'_, H, I, O, E>,
-    (from, to): (&str, &str),
-    options: &Options,
+    call: &Call<'_>,
 ) -> Result<Status, Fault>
 where
     H: Files + Clock,
@@ -30,6 +29,8 @@ where
     O: io::Write,
     E: io::Write,
 {
+    let (from, to) = (call.first, call.second);
+    let options = &call.options;
     let rt = system.rt;
     let mut file = open_file(rt, from, Place::First, &mut system.input)?;
     let len = file.len();
@@ -56,7 +57,7 @@ where
         Err(error) => Err(Fault::Stream(error)),
     };
     let frames = output.settle(rt, done)?;
-    if let Some(nothing) = nothing_copied(options, frames, source.frames()) {
+    if let Some(nothing) = nothing_taken(options, frames, source.frames()) {
         system.progress.end();
         write_message(system.progress.out(), Some(shown_name(from)), &nothing);
     }
@@ -70,11 +71,6 @@ fn blends_fields(options: &Options, header: &StreamHeader) -> bool {
         Some(Interlacing::TopFirst | Interlacing::BottomFirst | Interlacing::Mixed)
     );
     options.half && has_fields
-}
-
-/// Returns why no frame was copied, where so many of a stream of so many are none.
-fn nothing_copied(options: &Options, copied: u64, frames: u64) -> Option<NothingTaken> {
-    NothingTaken::of(copied, frames, options.skip.unwrap_or(0), options.count)
 }
 
 /// Writes a stream once more as the options say, and counts the frames that are written.

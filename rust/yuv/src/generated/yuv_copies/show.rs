@@ -17,7 +17,7 @@ use crate::generated::yuv_pictures::{Colors, PictureError, write_frame_picture, 
 use crate::generated::yuv_system::{
     Fault, Output, Status, System, begin, frames_before, most_pixels, open_file, test_pixels,
 };
-use crate::generated::yuv_words::Options;
+use crate::generated::yuv_words::{Call, Options};
 
 /// Writes a frame of a stream as a picture.
 ///
@@ -26,8 +26,7 @@ use crate::generated::yuv_words::Options;
 /// Where the stream can't be read or has no such frame, or the picture can't be made or written.
 pub fn do_show<H, I, O, E>(
     system: &mut System<'_, H, I, O, E>,
-    (from, to): (&str, &str),
-    options: &Options,
+    call: &Call<'_>,
 ) -> Result<Status, Fault>
 where
     H: Files + Clock,
@@ -36,6 +35,8 @@ where
     O: io::Write,
     E: io::Write,
 {
+    let (from, to) = (call.first, call.second);
+    let options = &call.options;
     let rt = system.rt;
     let mut file = open_file(rt, from, Place::First, &mut system.input)?;
     let mut source = begin(system, from, &mut file, options.raw)?;

@@ -3,42 +3,42 @@
 
 mod text;
 
+use crate::support::fs::OpenFile;
 use std::io;
 use crate::support::fs::Files;
 use crate::support::time::Clock;
 use text::{format_text, frames_text};
-use v_frame_proved::planar::Counted;
 use v_frame_proved::streams::{Place, Source, StreamError, skip_frames};
 use crate::generated::yuv_system::{
     Fault, ProgressLine, Status, System, begin, expected_frames, open_file, test_limit, write_made,
 };
-use crate::generated::yuv_words::Options;
+use crate::generated::yuv_words::{Call, Options};
 
 /// Reports what a stream is. Where a frame can't be read, what is known so far is reported before the fault.
 ///
 /// # Errors
 ///
 /// Where the stream can't be read, or the report can't be written.
-pub fn do_info<H, I, O, E>(
+pub fn do_info<H, F, I, O, E>(
     system: &mut System<'_, H, I, O, E>,
-    name: &str,
-    options: &Options,
+    call: &Call<'_>,
 ) -> Result<Status, Fault>
 where
-    H: Files + Clock,
+    H: Files<File = F> + Clock,
+    F: OpenFile + io::Read,
     I: io::Read,
     O: io::Write,
     E: io::Write,
 {
+    let (name, options) = (call.first, &call.options);
     let mut file = open_file(system.rt, name, Place::First, &mut system.input)?;
     let len = file.len();
     let mut source = begin(system, name, &mut file, options.raw)?;
     test_limit(source.header(), Place::First, options.max_pixels)?;
-    let mut out = Counted::new(&mut system.output);
     report_stream(
         &mut source,
         options,
-        &mut out,
+        &mut system.output,
         &mut system.progress,
         len,
     )?;
@@ -49,7 +49,7 @@ where
 fn report_stream<R: io::Read, W: io::Write, H: Clock, E: io::Write>(
     source: &mut Source<R>,
     options: &Options,
-    out: &mut Counted<W>,
+    out: &mut W,
     progress: &mut ProgressLine<'_, H, E>,
     len: Option<u64>,
 ) -> Result<(), StreamError> {
@@ -63,7 +63,7 @@ fn report_stream<R: io::Read, W: io::Write, H: Clock, E: io::Write>(
 fn report_frames<R: io::Read, W: io::Write, H: Clock, E: io::Write>(
     source: &mut Source<R>,
     options: &Options,
-    out: &mut Counted<W>,
+    out: &mut W,
     progress: &mut ProgressLine<'_, H, E>,
     len: Option<u64>,
 ) -> Result<(), StreamError> {

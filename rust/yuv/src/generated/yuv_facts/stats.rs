@@ -6,61 +6,54 @@ use crate::generated::yuv_facts::statistics::{NominalRange, push_chroma_plane, p
 use crate::generated::yuv_facts::value_counts::ValueCounts;
 use crate::generated::yuv_facts::values::CountedPixel;
 use v_frame_proved::support::AllocError;
+use crate::support::fs::OpenFile;
 use std::io;
 use crate::support::fs::Files;
 use crate::support::time::Clock;
 use v_frame_proved::frame::Frame;
 use v_frame_proved::plane::Plane;
 use v_frame_proved::formats::Component;
-use v_frame_proved::planar::Counted;
 use v_frame_proved::streams::{Picture, Place, Progress, Silent, Source, StreamError, skip_frames};
-use crate::generated::yuv_files::{shown_name, write_message};
 use crate::generated::yuv_reports::push_histogram;
 use crate::generated::yuv_system::{
-    Fault, NothingTaken, ProgressLine, Status, System, begin, expected_frames, most_pixels,
-    no_memory, open_file, write_made,
+    Fault, ProgressLine, Status, System, begin, expected_frames, most_pixels, no_memory,
+    nothing_taken, open_file, write_made, write_nothing,
 };
-use crate::generated::yuv_words::Options;
+use crate::generated::yuv_words::{Call, Options};
 
 /// Reports what values the samples of each plane have, over all frames.
 ///
 /// # Errors
 ///
 /// Where the stream can't be read, or the report can't be written.
-pub fn do_stats<H, I, O, E>(
+pub fn do_stats<H, F, I, O, E>(
     system: &mut System<'_, H, I, O, E>,
-    name: &str,
-    options: &Options,
+    call: &Call<'_>,
 ) -> Result<Status, Fault>
 where
-    H: Files + Clock,
+    H: Files<File = F> + Clock,
+    F: OpenFile + io::Read,
     I: io::Read,
     O: io::Write,
     E: io::Write,
 {
+    let (name, options) = (call.first, &call.options);
     let mut file = open_file(system.rt, name, Place::First, &mut system.input)?;
     let len = file.len();
     let mut source = begin(system, name, &mut file, options.raw)?;
     system.progress.expect(expected_frames(&source, len));
-    let mut out = Counted::new(&mut system.output);
-    let progress = &mut system.progress;
-    let found = report_values(&mut source, options, &mut out, progress)?;
-    if let Some(nothing) = nothing_counted(options, found, source.frames()) {
-        write_message(system.progress.out(), Some(shown_name(name)), &nothing);
-    }
+    let (out, progress) = (&mut system.output, &mut system.progress);
+    let found = report_values(&mut source, options, out, progress)?;
+    let nothing = nothing_taken(options, found, source.frames());
+    write_nothing(system.progress.out(), name, nothing);
     Ok(Status::Same)
-}
-
-/// Returns why no frame was counted, where so many of a stream of so many are none.
-fn nothing_counted(options: &Options, counted: u64, frames: u64) -> Option<NothingTaken> {
-    NothingTaken::of(counted, frames, options.skip.unwrap_or(0), options.count)
 }
 
 /// Writes what values the samples of a stream have, and returns of how many frames.
 fn report_values<R: io::Read, W: io::Write, H: Clock, E: io::Write>(
     source: &mut Source<R>,
     options: &Options,
-    out: &mut Counted<W>,
+    out: &mut W,
     progress: &mut ProgressLine<'_, H, E>,
 ) -> Result<u64, StreamError> {
     if source.header().color.bit_depth() == 8 {
@@ -74,7 +67,7 @@ fn report_values<R: io::Read, W: io::Write, H: Clock, E: io::Write>(
 fn report_pixels<T: CountedPixel, R: io::Read, W: io::Write, H: Clock, E: io::Write>(
     source: &mut Source<R>,
     options: &Options,
-    out: &mut Counted<W>,
+    out: &mut W,
     progress: &mut ProgressLine<'_, H, E>,
 ) -> Result<u64, StreamError> {
     let depth = source.header().color.bit_depth();

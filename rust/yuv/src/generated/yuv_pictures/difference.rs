@@ -33,7 +33,7 @@ pub fn write_difference_picture<T: Pixel, W: io::Write>(
         return Err(PictureError::Layout);
     }
     let mut plane = first.y_plane.try_clone()?;
-    difference(&mut plane, &second.y_plane.as_plane_ref(), gain, depth);
+    difference(&second.y_plane.as_plane_ref(), &mut plane, gain, depth);
     write_gray(out, &plane.as_plane_ref(), depth)
 }
 

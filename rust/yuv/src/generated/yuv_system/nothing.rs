@@ -5,6 +5,8 @@ use crate::generated::yuv_system::fault::Fault;
 use core::fmt;
 use std::io;
 use v_frame_proved::streams::{CompareOptions, Comparison, Place, Source};
+use crate::generated::yuv_files::{shown_name, write_message};
+use crate::generated::yuv_words::Options;
 
 /// What a stream has, and what was asked of it, where none of its frames was taken.
 #[derive(Debug, Clone, Copy, PartialEq, Eq)]
@@ -45,6 +47,18 @@ impl fmt::Display for NothingTaken {
             f,
             "no frame is taken: the stream has {frames}, and {skip} are passed over"
         )
+    }
+}
+
+/// Returns why no frame was taken, where so many of a stream of so many are none.
+pub fn nothing_taken(options: &Options, taken: u64, frames: u64) -> Option<NothingTaken> {
+    NothingTaken::of(taken, frames, options.skip.unwrap_or(0), options.count)
+}
+
+/// Says of a file why no frame of it was taken, where none was.
+pub fn write_nothing<E: io::Write>(messages: &mut E, name: &str, nothing: Option<NothingTaken>) {
+    if let Some(nothing) = nothing {
+        write_message(messages, Some(shown_name(name)), &nothing);
     }
 }
 

@@ -3,7 +3,8 @@
 
 use v_frame_proved::support::AllocError;
 use std::io;
-use v_frame_proved::planar::{Counted, PlanarError};
+use v_frame_proved::bytes::{SendError, send};
+use v_frame_proved::planar::PlanarError;
 use v_frame_proved::streams::{Place, Problem, StreamError};
 use v_frame_proved::y4m::Y4mError;
 
@@ -12,15 +13,25 @@ use v_frame_proved::y4m::Y4mError;
 /// # Errors
 ///
 /// The writer's.
-pub fn write_text<W: io::Write>(out: &mut Counted<W>, text: &str) -> Result<(), StreamError> {
-    match out.write_all(text.as_bytes()) {
+pub fn write_text<W: io::Write>(out: &mut W, text: &str) -> Result<(), StreamError> {
+    match send(out, text.as_bytes()) {
         Ok(()) => Ok(()),
-        Err(fault) => Err(StreamError {
-            place: Place::Output,
-            frames: 0,
-            problem: Problem::Stream(Y4mError::Planar(PlanarError::from(fault))),
-            cause: out.last_failure(),
-        }),
+        Err(fault) => Err(not_written(&fault)),
+    }
+}
+
+/// Returns the error of a text that was not written.
+fn not_written(fault: &SendError) -> StreamError {
+    let (problem, cause) = match fault {
+        SendError::Write(error) => (PlanarError::Write, Some(error.kind())),
+        SendError::WriteZero => (PlanarError::WriteZero, None),
+        _ => unreachable!("an error that the sources do not know"),
+    };
+    StreamError {
+        place: Place::Output,
+        frames: 0,
+        problem: Problem::Stream(Y4mError::Planar(problem)),
+        cause,
     }
 }
 
@@ -30,7 +41,7 @@ pub fn write_text<W: io::Write>(out: &mut Counted<W>, text: &str) -> Result<(), 
 ///
 /// The writer's, and [`Problem::OutOfMemory`] where there was no memory.
 pub fn write_made<W: io::Write>(
-    out: &mut Counted<W>,
+    out: &mut W,
     text: Result<String, AllocError>,
 ) -> Result<(), StreamError> {
     match text {

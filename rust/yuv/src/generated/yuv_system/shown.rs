@@ -30,7 +30,7 @@ pub fn counts_shown(command: &Command<'_>, is_terminal: bool, output_is_terminal
 /// Returns whether a command asks that the count of frames is shown meanwhile.
 fn asks_for_progress(command: &Command<'_>) -> bool {
     match command {
-        Command::Call { options, .. } => options.progress,
+        Command::Call(call) => call.options.progress,
         _ => false,
     }
 }
@@ -38,9 +38,9 @@ fn asks_for_progress(command: &Command<'_>) -> bool {
 /// Returns which counts are shown on the terminal where a command writes what it finds.
 fn shown_beside_output(command: &Command<'_>) -> Shown {
     match command {
-        Command::Call { name, options, .. } => match name {
+        Command::Call(call) => match call.name {
             CommandName::Sum => Shown::LastCount,
-            CommandName::Compare => shown_beside_report(options),
+            CommandName::Compare => shown_beside_report(&call.options),
             _ => Shown::EachCount,
         },
         _ => Shown::EachCount,

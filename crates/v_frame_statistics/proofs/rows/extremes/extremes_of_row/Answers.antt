@@ -1,6 +1,6 @@
--- One more pixel.
+-- One more pixel, and all.
 use Rattle.std.proofs.Common.{arith}
-use Rattle.v_frame_statistics.proofs.Extremal.{by_least, by_greatest, first_of_more}
+use Rattle.v_frame_statistics.proofs.Extremal.{by_least, by_greatest, first_of_more, first_of_all}
 use Rattle.v_frame_statistics.proofs.rows.extremes.extremes_of_row.Goals as goal
 
 pub loop-x-preserved : goal.loop-x-preserved
@@ -11,3 +11,11 @@ loop-x-preserved g c =
       greatest =
           first_of_more (by_greatest value) row x _ _ _ (omega arith) read so_far.greatest c.greater-greatest.ensures;
     }
+
+pub returns-clause-least : goal.returns-clause-least
+returns-clause-least g c =
+    first_of_all (by_least g.T.Pixel.form.value) c.args.row.now c.loop-x.x _ (omega arith) c.loop-x.invariant.least
+
+pub returns-clause-greatest : goal.returns-clause-greatest
+returns-clause-greatest g c =
+    first_of_all (by_greatest g.T.Pixel.form.value) c.args.row.now c.loop-x.x _ (omega arith) c.loop-x.invariant.greatest

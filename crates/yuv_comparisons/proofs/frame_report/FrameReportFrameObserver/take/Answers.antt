@@ -24,7 +24,7 @@ returns-in-Ok-clause-taken g c =
     let pushed = c.in-Ok.ensures in
     let wrote = c.write.ensures in
     let text = string_bytes asked.text in
-    let same_out = ap (λ o. contents o.inner) (pushed.out ∙ measured.out) in
+    let same_out = ap (λ o. contents o) (pushed.out ∙ measured.out) in
     let counted : new.frames ≡ min (old.frames + 1) most_frames = wrote.frames ∙ pushed.frames ∙ measured.frames
     ∙ c.saturating_add-self.ensures in
     let number = ap (λ n. frame_number old.before n) (sym (wrote.frames ∙ pushed.frames)) in
@@ -35,10 +35,10 @@ returns-in-Ok-clause-taken g c =
     let sums = c.measures-measures.ensures.sums ∙ ap (λ (s : Scale). sums_asked s.exact errors) measured.scale in
     let reported = sums_asked old.scale.exact errors in
     on_ok_also c.write.result
-    (Appends (contents asked.out.inner) (contents new.out.inner) text)
+    (Appends (contents asked.out) (contents new.out) text)
     (ReportsFrame contents old new errors)
     (λ appended.
-    let from_old = subst (λ (h : Option (List ℕ)). Appends h (contents new.out.inner) text) same_out appended in
+    let from_old = subst (λ (h : Option (List ℕ)). Appends h (contents new.out) text) same_out appended in
     record {
       stays = record {
         form = ap (λ (r : Report). r.form) wrote.report ∙ pushed.form ∙ ap (λ (r : Report). r.form) measured.report;
@@ -47,11 +47,11 @@ returns-in-Ok-clause-taken g c =
         scale = wrote.scale ∙ pushed.scale ∙ measured.scale;
         ssim = ap (λ o. is_some o) wrote.ssim ∙ ap (λ o. is_some o) pushed.ssim ∙ measured.stays;
         before = wrote.before ∙ pushed.before ∙ measured.before;
-        known = still_known (contents old.out.inner) (contents new.out.inner) text from_old;
+        known = still_known (contents old.out) (contents new.out) text from_old;
       };
       counted = counted;
       said = λ lists. frame_known old.report.form (frame_number old.before new.frames) reported
-          (contents old.out.inner) (contents new.out.inner) text from_old
+          (contents old.out) (contents new.out) text from_old
           (subst (λ (n : ℕ). EndsWithFrame old.report.form n reported text) start
           (subst (λ (s : Option ReportedSums). EndsWithFrame old.report.form
           (frame_number c.similarities-ssim.new.self.before c.similarities-ssim.new.self.frames) s text) sums

@@ -22,11 +22,11 @@ use crate::generated::v_frame::pixel::Pixel;
 #[track_caller]
 #[inline]
 pub fn blend<T: Pixel>(
+    source: impl AsRowsRef<Pixel = T>,
     buffer: &mut [T],
     width: usize,
     height: usize,
     stride: usize,
-    source: impl AsRowsRef<Pixel = T>,
     weight: u16,
 ) {
     let source = &source.as_rows_ref();
@@ -71,12 +71,12 @@ pub fn blend<T: Pixel>(
 #[track_caller]
 #[inline]
 pub fn blend_with_mask<T: Pixel>(
+    source: impl AsRowsRef<Pixel = T>,
+    mask: impl AsRowsRef<Pixel = u8>,
     buffer: &mut [T],
     width: usize,
     height: usize,
     stride: usize,
-    source: impl AsRowsRef<Pixel = T>,
-    mask: impl AsRowsRef<Pixel = u8>,
 ) {
     let source = &source.as_rows_ref();
     let mask = &mask.as_rows_ref();
@@ -124,11 +124,11 @@ pub fn blend_with_mask<T: Pixel>(
 #[track_caller]
 #[inline]
 pub fn difference<T: Pixel>(
+    other: impl AsRowsRef<Pixel = T>,
     buffer: &mut [T],
     width: usize,
     height: usize,
     stride: usize,
-    other: impl AsRowsRef<Pixel = T>,
     gain: u16,
     depth: u8,
 ) {

@@ -62,7 +62,7 @@ fn greatest_of_row<T: Pixel>(row: &[T]) -> T {
 /// Returns both pixels of a row.
 pub(crate) fn extremes_of_row<T: Pixel>(row: &[T]) -> Extremes<T> {
     let (mut least, mut greatest) = (row[0], row[0]);
-    for x in 1..row.len() {
+    for x in 0..row.len() {
         let pixel = row[x];
         least = lesser(least, pixel);
         greatest = greater(greatest, pixel);

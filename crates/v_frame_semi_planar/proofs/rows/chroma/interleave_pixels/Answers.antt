@@ -1,7 +1,7 @@
 -- Two more pixels are by turns in the row.
 use Rattle.std.proofs.Common.{◌∙◌, arith}
 use Rattle.v_frame_semi_planar.proofs.Interleaving.{by_turns}
-use Rattle.v_frame_semi_planar.proofs.rows.chroma.interleave_row.Goals as goal
+use Rattle.v_frame_semi_planar.proofs.rows.chroma.interleave_pixels.Goals as goal
 
 pub returns : goal.returns
 returns g c =
