@@ -186,6 +186,26 @@ fn lent_rows_of_both_types() {
     lent_rows::<u16>();
 }
 
+/// Puts rows of each length together and takes them apart again: those of eight pairs and of whole blocks have ways of their own.
+fn rows_of_each_length<T: Pixel>() {
+    for pairs in 1..70 {
+        let [first, second] = [7, 11].map(|factor| (0..pairs).map(|i| entry(i, factor, 251)).collect::<Vec<T>>());
+        let wanted: Vec<T> = first.iter().zip(&second).flat_map(|(p, q)| [*p, *q]).collect();
+        let mut both = vec![T::from(0); 2 * pairs];
+        rows::interleave_row(&mut both, &first, &second);
+        assert_eq!(both, wanted, "{pairs} pairs");
+        let [mut first_again, mut second_again] = [0; 2].map(|_| vec![T::from(0); pairs]);
+        rows::deinterleave_row(&both, &mut first_again, &mut second_again);
+        assert_eq!((first_again, second_again), (first, second), "{pairs} pairs");
+    }
+}
+
+#[test]
+fn rows_of_each_length_of_both_types() {
+    rows_of_each_length::<u8>();
+    rows_of_each_length::<u16>();
+}
+
 #[test]
 fn planes_are_interleaved_within_their_borders() {
     let (mut u, mut v) = (counted::<u8>([3, 2, 1, 2, 1, 0], 1), counted([3, 2, 0, 0, 0, 0], 101));
