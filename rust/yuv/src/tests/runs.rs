@@ -2,8 +2,12 @@
 
 use super::cases::{Case, Room, cases};
 use crate::generated::yuv_commands::{Streams, run};
+use crate::generated::yuv_system::write_text;
 use crate::support::HostRuntime;
 use std::io::{self, ErrorKind, Write};
+use v_frame_proved::planar::PlanarError;
+use v_frame_proved::streams::{Place, Problem, StreamError};
+use v_frame_proved::y4m::Y4mError;
 
 /// A pipe that takes so many bytes, and is broken then.
 struct Pipe {
@@ -57,4 +61,24 @@ fn check(rt: &HostRuntime, room: &Room, case: &Case) {
     let words: Vec<&str> = case.words.iter().map(String::as_str).collect();
     let status = run(rt, &words, streams).code();
     case.check(room, &output.taken, &error, status);
+}
+
+/// Returns which write gave up and what the system reported of it, where a text was not written.
+fn fault(written: Result<(), StreamError>) -> Option<(PlanarError, Option<ErrorKind>)> {
+    match written.err()? {
+        StreamError { place: Place::Output, frames: 0, problem: Problem::Stream(Y4mError::Planar(fault)), cause } => Some((fault, cause)),
+        other => panic!("{other:?}"),
+    }
+}
+
+#[test]
+fn a_text_that_is_not_written_has_its_cause() {
+    let mut full = [0; 3];
+    assert_eq!(fault(write_text(&mut full.as_mut_slice(), "four")), Some((PlanarError::WriteZero, None)));
+    assert_eq!(full, *b"fou");
+    let mut broken = Pipe { taken: Vec::new(), room: 3 };
+    let told = fault(write_text(&mut broken, "four"));
+    assert_eq!(told, Some((PlanarError::Write, Some(ErrorKind::BrokenPipe))));
+    assert_eq!(broken.taken, b"fou");
+    assert_eq!(fault(write_text(&mut Vec::new(), "four")), None);
 }
