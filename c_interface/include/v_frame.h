@@ -23,9 +23,9 @@
 #include <stdint.h>
 
 #define V_FRAME_VERSION_MAJOR 0
-#define V_FRAME_VERSION_MINOR 3
+#define V_FRAME_VERSION_MINOR 4
 #define V_FRAME_VERSION_PATCH 0
-#define V_FRAME_VERSION "0.3.0"
+#define V_FRAME_VERSION "0.4.0"
 /* The version as one number, as v_frame_version gives it. */
 #define V_FRAME_VERSION_NUMBER (V_FRAME_VERSION_MAJOR * 65536 + V_FRAME_VERSION_MINOR * 256 + V_FRAME_VERSION_PATCH)
 

@@ -220,7 +220,7 @@ static void refuse_each(void) {}
 int main(int count, char **words) {
     FILE *out = count > 1 ? fopen(words[1], "wb") : NULL;
     CHECK(count == 1 || out != NULL);
-    CHECK(v_frame_png_version() == 3 * 256);
+    CHECK(v_frame_png_version() == 4 * 256);
     refuse_each();
     for (int round = 0; round < 600; round++) {
         given it = random_picture();

@@ -65,6 +65,9 @@ def decibels(error, depth):
 
 CASES = [("Near", 8, 8, 8), ("Far", 8, 8, 8), ("Near", 19, 13, 8), ("Far", 19, 13, 8), ("Near", 16, 12, 10), ("Far", 16, 12, 10),
          ("Near", 9, 24, 16), ("Far", 9, 24, 16), ("Far", 9, 144, 8)]
+# Windows are summed by eight, in strips of 63 and bands of 32 lines: fewer than these, as many, and some more.
+CASES += [("Far", 35, 12, 8), ("Near", 36, 8, 8), ("Far", 69, 20, 8), ("Near", 100, 136, 8), ("Far", 259, 11, 8), ("Near", 508, 13, 8),
+          ("Far", 516, 140, 8), ("Far", 1027, 9, 8), ("Near", 513, 8, 10), ("Far", 264, 140, 10), ("Far", 72, 9, 13), ("Far", 72, 9, 14)]
 
 
 def plane_lines(factors):

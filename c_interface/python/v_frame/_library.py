@@ -7,7 +7,7 @@ from pathlib import Path
 
 from ._errors import NumberError, RowsError, SizesError, StatusError
 
-VERSION = "0.3.0"
+VERSION = "0.4.0"
 
 
 class Rows(ctypes.Structure):

@@ -149,7 +149,7 @@ module _ {T : Type 0} (value : T → ℕ) where
         omega (arith, length-append (take w (drop x row)) (row_major (columns x w rows)), here, rest, next)
 
     -- a block and the one below it
-    blocks_joined : (x y : ℕ) → x + 4 ≤ width → x + 4 ≤ width1
+    pub blocks_joined : (x y : ℕ) → x + 4 ≤ width → x + 4 ≤ width1
         → sums_of_rectangle value x y 4 8 a b
         ≡ added (sums_of_rectangle value x y 4 4 a b) (sums_of_rectangle value x (y + 4) 4 4 a b)
     blocks_joined x y h h1 =
@@ -168,15 +168,3 @@ module _ {T : Type 0} (value : T → ℕ) where
         (sums_of-append value (row_major (rectangle x y 4 4 a)) (row_major (rectangle x y 4 4 b))
         (row_major (rectangle x (y + 4) 4 4 a)) (row_major (rectangle x (y + 4) 4 4 b))
         (top ∙ ap (λ n. 4 * n) (same_height y 4 a b same) ∙ sym top1))
-
-    -- blocks of sums over columns, below each other
-    pub eight_rows : (x y k : ℕ) (upper lower : ColumnSums) (both : PixelSums) → k < 8 → x + 32 ≤ width
-        → x + 32 ≤ width1 → AreColumnSums value x (take 4 (drop y a)) (take 4 (drop y b)) upper
-        → AreColumnSums value x (take 4 (drop (y + 4) a)) (take 4 (drop (y + 4) b)) lower
-        → both ≡ added (block_of upper k) (block_of lower k)
-        → both ≡ sums_of_rectangle value (x + 4 * k) y 4 8 a b
-    eight_rows x y k upper lower both few h h1 are are1 is =
-        is
-        ∙ ap (λ s. added s (block_of lower k)) (block_is x y k upper few h h1 are)
-        ∙ ap (added (sums_of_rectangle value (x + 4 * k) y 4 4 a b)) (block_is x (y + 4) k lower few h h1 are1)
-        ∙ sym (blocks_joined (x + 4 * k) y (omega arith) (omega arith))

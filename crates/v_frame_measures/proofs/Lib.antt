@@ -1,6 +1,12 @@
 pub mod Blocks
+pub mod Bounds
+pub mod ByteLanes
 pub mod Columns
 pub mod Differing
 pub mod Halves
 pub mod Joined
 pub mod Lines
+pub mod Mapped
+pub mod SignedLanes
+pub mod Strips
+pub mod Windows

@@ -1,6 +1,6 @@
 -- Floats that are added from the first on: one more of them.
 use Rattle.std.proofs.Common.{ℕ, ◌≡◌, ◌+◌, ◌*◌, ◌≤◌, All, length, map, ap, sym, ◌∙◌, arith}
-use Rattle.std.specs.List.{range_with_len}
+use Rattle.std.specs.List.{fold, range_with_len}
 use Rattle.std.specs.Float.{float_zero}
 use Rattle.std.specs.Float.Ieee.{Float, Format, add}
 use Rattle.std.proofs.lemmas.List.FromFn.{map-range_with_len_more}
@@ -12,7 +12,7 @@ use Rattle.v_frame_measures.specs.PixelSums.{added, sums_of_rectangle, AreSumsOv
 use Rattle.v_frame_measures.specs.Ssim.{similarity_of, total, window_at}
 use Rattle.v_frame_measures.proofs.Joined.{window_of_halves}
 
-total-more : (f : Format) (at : ℕ → Float) (n : ℕ)
+pub total-more : (f : Format) (at : ℕ → Float) (n : ℕ)
     → total f (map at (range_with_len 0 (n + 1))) ≡ add f (total f (map at (range_with_len 0 n))) (at n)
 total-more f at n =
     ap (total f) (map-range_with_len_more at 0 n n (omega arith))
@@ -26,6 +26,15 @@ one_more f at n sum value so_far is =
     ap (λ s. add f s value) so_far
     ∙ ap (add f (total f (map at (range_with_len 0 n)))) is
     ∙ sym (total-more f at n)
+
+-- one more value is added to those from number a on
+pub one_more_added : (f : Format) (at : ℕ → Float) (a n j : ℕ) (start sum value : Float) → a + n ≡ j
+    → sum ≡ fold (add f) start (map at (range_with_len a n)) → value ≡ at j
+    → add f sum value ≡ fold (add f) start (map at (range_with_len a (n + 1)))
+one_more_added f at a n j start sum value e so_far is =
+    ap (λ s. add f s value) so_far
+    ∙ ap (add f (fold (add f) start (map at (range_with_len a n)))) is
+    ∙ sym (ap (fold (add f) start) (map-range_with_len_more at a n j e) ∙ fold_push (add f) start (map at (range_with_len a n)) (at j))
 
 -- the first n windows of line y are added, and the columns of the next one's left half are summed
 pub record LineSoFar {T : Type 0} (f : Format) (form : PixelForm T) (constants : SsimConstants) (a b : Table T)

@@ -12,6 +12,12 @@ module _ {T : Type 0} (value : T → ℕ) where
   abbrev pub HasNarrowValues : Table T → Type 0
   HasNarrowValues rows = All IsNarrow rows
 
+  abbrev pub IsUpTo : ℕ → List T → Type 0
+  IsUpTo most row = All (λ p. value p ≤ most) row
+
+  abbrev pub HasValuesUpTo : ℕ → Table T → Type 0
+  HasValuesUpTo most rows = All (IsUpTo most) rows
+
   -- 32 pixels of a row
   pub record IsNarrowPart (row : List T) : Type 0 where
     pub long : length row ≡ 32

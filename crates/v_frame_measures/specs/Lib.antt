@@ -1,3 +1,4 @@
+pub mod BlockSums
 pub mod ColumnSums
 pub mod Differences
 pub mod Errors

@@ -2,6 +2,8 @@
 use Rattle.std.specs.Prelude.{ℕ, ◌≡◌, [], ◌∷◌, replicate, false, pos, negsuc, refl}
 use Rattle.std.specs.Float.Ieee.{add, div, fin, mul, of_int}
 use Rattle.v_frame.specs.Prelude.{Table, one_byte}
+use Rattle.v_frame_measures.specs.declared.similarity.blocks.BlockSums.{BlockSums}
+use Rattle.v_frame_measures.specs.BlockSums.{window_of}
 use Rattle.v_frame_measures.specs.PixelSums.{sums_of_rectangle}
 use Rattle.v_frame_measures.specs.Ssim.{constants_of, peak_of, ssim_of, windows_along}
 
@@ -45,3 +47,30 @@ alike = refl
 black_and_white : ssim_of one_byte 255 (flat 0) (flat 255) ≡ fin false 6869295 (negsuc 41)
 unfolding add div mul of_int
 black_and_white = refl
+
+-- two blocks below each other, and the two beside them
+abbrev above : BlockSums
+above =
+    record {
+      first = 1 ∷ 2 ∷ 3 ∷ [];
+      second = 4 ∷ 5 ∷ 6 ∷ [];
+      squares = 7 ∷ 8 ∷ 9 ∷ [];
+      products = 0 ∷ 1 ∷ 0 ∷ [];
+    }
+
+abbrev below : BlockSums
+below =
+    record {
+      first = 10 ∷ 20 ∷ 30 ∷ [];
+      second = 40 ∷ 50 ∷ 60 ∷ [];
+      squares = 70 ∷ 80 ∷ 90 ∷ [];
+      products = 0 ∷ 10 ∷ 0 ∷ [];
+    }
+
+first_window : window_of above below 0
+    ≡ record { first = 33; second = 99; squares = 165; products = 11 }
+first_window = refl
+
+next_window : window_of above below 1
+    ≡ record { first = 55; second = 121; squares = 187; products = 11 }
+next_window = refl

@@ -1,20 +1,22 @@
 //! The structural similarity of two pictures.
-ghost use Rattle.std.specs.Prelude.{◌≡◌, ◌+◌, ◌-◌, ◌*◌, ◌/◌, ◌<◌, ◌≤◌, ◌↔◌, ◌^◌, IfSome, IsSome, min};
+ghost use Rattle.std.specs.Prelude.{◌≡◌, ◌+◌, ◌-◌, ◌*◌, ◌/◌, ◌<◌, ◌≤◌, ◌↔◌, ◌^◌, IfSome, IsSome, length, min};
 ghost use Rattle.v_frame.specs.Prelude.{height_of, table_of, width_of};
 ghost use Rattle.v_frame_measures.specs.Ssim.{line_format, line_of, peak_of, ssim_of};
 
+mod blocks;
 mod columns;
+mod lanes;
 mod line_sum;
+mod lines;
 mod narrow;
-mod pairs;
 mod sums;
 mod window;
 
 use crate::rows;
 use line_sum::LineSum;
-use narrow::narrow_pairs;
-use pairs::two_lines;
-use std::num::{f32_to_f64_with_nan, nearest_u64_to_f64};
+use lines::sums_of_lines;
+use narrow::bits_of_rows;
+use std::num::nearest_u64_to_f64;
 use sums::sums_of_columns;
 use v_frame::pixel::Pixel;
 use v_frame::plane::{PlaneRef, RowsRef};
@@ -47,41 +49,45 @@ pub(crate) fn mean_similarity<T: Pixel>(
     requires down { 8 ≤ height_of a.now }
     ensures { result ≡ ssim_of T.form (peak_of bit_depth) a.now b.now }
 {
-    let (across, down) = (a.width() / 4 - 1, a.height() / 4 - 1);
-    let constants = SsimConstants::of_depth(bit_depth);
-    let mut sum = 0.0;
-    let pairs = narrow_pairs(a, b, down);
-    for pair in 0..pairs {
-        let (upper, lower) = two_lines(a, b, &constants, 2 * pair);
-        sum += upper;
-        sum += lower;
+    if T::BYTES == 1 {
+        mean_in::<T, f64>(a, b, bit_depth, &mut [0.0; 32])
+    } else {
+        mean_in::<T, f32>(a, b, bit_depth, &mut [0.0; 32])
     }
-    for y in 2 * pairs..down {
-        sum += line(a, b, &constants, y);
-    }
-    sum / nearest_u64_to_f64((across * down) as u64)
 }
 
-/// Returns the sum over a line of windows.
-fn line<T: Pixel>(
+/// Returns the mean, with each line added in these floats, for which there is room.
+fn mean_in<T: Pixel, F: LineSum>(
     a: &RowsRef<'_, T>,
     b: &RowsRef<'_, T>,
-    constants: &SsimConstants,
-    y: usize,
+    bit_depth: u8,
+    sums: &mut [F],
 ) -> f64
     requires wide { width_of a.now ≡ width_of b.now }
     requires high { height_of a.now ≡ height_of b.now }
     requires across { 8 ≤ width_of a.now }
-    requires down { 4 * y + 8 ≤ height_of a.now }
-    requires means { constants.now.means < 2 ^ 40 }
-    requires variances { constants.now.variances < 2 ^ 40 }
-    ensures { result ≡ line_of T.form constants.now a.now b.now (line_format T.form.size) y }
+    requires down { 8 ≤ height_of a.now }
+    requires format { F.format ≡ line_format T.form.size }
+    requires room { length sums.old ≡ 32 }
+    ensures { result ≡ ssim_of T.form (peak_of bit_depth) a.now b.now }
 {
-    if T::BYTES == 1 {
-        line_in::<T, f64>(a, b, constants, y)
-    } else {
-        f32_to_f64_with_nan(line_in::<T, f32>(a, b, constants, y))
+    let (across, down) = (a.width() / 4 - 1, a.height() / 4 - 1);
+    let constants = SsimConstants::of_depth(bit_depth);
+    let most = bits_of_rows(a) | bits_of_rows(b);
+    let narrow = if most < 8192 && across >= 8 { down } else { 0 };
+    let mut sum = 0.0;
+    for band in 0..(narrow + 31) / 32 {
+        let y = 32 * band;
+        let count = (narrow - y).min(32);
+        sums_of_lines::<T, F>(a, b, most, &constants, y, count, sums);
+        for k in 0..count {
+            sum += sums[k].into_f64();
+        }
     }
+    for y in narrow..down {
+        sum += line_in::<T, F>(a, b, &constants, y).into_f64();
+    }
+    sum / nearest_u64_to_f64((across * down) as u64)
 }
 
 /// Returns the sum over a line of windows, added in these floats.

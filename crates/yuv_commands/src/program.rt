@@ -17,7 +17,7 @@ use yuv_system::{Fault, ProgressLine, Status, System, counts_shown, write_text};
 use yuv_words::{Command, CommandName, UsageError, help_topic, read_command, usage_text};
 
 /// What `yuv --version` prints.
-pub const VERSION: &str = "yuv 0.3.0\n";
+pub const VERSION: &str = "yuv 0.4.0\n";
 
 /// What a message calls standard output.
 const STANDARD_OUTPUT: &str = "standard output";

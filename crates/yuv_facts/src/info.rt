@@ -42,11 +42,11 @@ where
         (O.contents system.old.output) (O.contents system.new.output)) }
 {
     let (name, options) = (call.first, &call.options);
-    let alloc = system.rt.alloc();
     let mut file = open_file(system.rt, name, Place::First, &mut system.input)?;
     let len = file.len();
     let mut source = begin(system, name, &mut file, options.raw)?;
     test_limit(source.header(), Place::First, options.max_pixels)?;
+    let alloc = system.rt.alloc();
     report_stream(
         alloc,
         &mut source,

@@ -48,8 +48,8 @@ where
         × ReportsValuesOfInput F.remaining I.remaining call.now system.old.input
         (O.contents system.old.output) (O.contents system.new.output)) }
 {
-    let (name, options) = (call.first, &call.options);
     let alloc = system.rt.alloc();
+    let (name, options) = (call.first, &call.options);
     let mut file = open_file(system.rt, name, Place::First, &mut system.input)?;
     let len = file.len();
     let mut source = begin(system, name, &mut file, options.raw)?;

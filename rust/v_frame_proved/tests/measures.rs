@@ -71,6 +71,16 @@ fn planes_below_8_by_8_have_no_similarity() {
     }
 }
 
+/// Small values have a faster way, which is taken where both pictures have no others.
+#[test]
+fn pictures_of_small_and_of_large_values_are_exchanged() {
+    let (small, large) = (plane::<u16>("First", 72, 12, 8), plane::<u16>("Far", 72, 12, 16));
+    let (small, large) = (small.as_plane_ref(), large.as_plane_ref());
+    let found = ssim(&small, &large, 16).expect("windows");
+    assert_eq!(ssim(&large, &small, 16), Some(found));
+    assert!(found > 0.0 && found < 1.0, "{found}");
+}
+
 fn blank<T: Pixel>(size: usize, format: ChromaSubsampling, depth: u8) -> Frame<T> {
     FrameBuilder::new(size, size, format, depth).build().expect("a frame")
 }

@@ -1,10 +1,8 @@
 //! Sums over columns of four rows, of values below 8192: for each 32 bits suffice, and the compiler makes packed code.
-ghost use Rattle.std.specs.Prelude.{◌≡◌, ◌+◌, ◌*◌, ◌≤◌, ◌<◌, ◌^◌, [], ◌∷◌, drop, take};
+ghost use Rattle.std.specs.Prelude.{◌≡◌, ◌+◌, ◌*◌, ◌≤◌, ◌<◌, ◌^◌, ℕ, [], ◌∷◌, drop, slice_index, take};
 ghost use Rattle.v_frame.specs.Prelude.{height_of, width_of};
-ghost use Rattle.v_frame_measures.specs.ColumnSums.{AreColumnSums, AreSmall, HasNarrowValues, IsNarrowPart, block_of, four_of};
-ghost use Rattle.v_frame_measures.specs.PixelSums.{AreSumsOver, added};
+ghost use Rattle.v_frame_measures.specs.ColumnSums.{AreColumnSums, AreSmall, HasNarrowValues, IsNarrowPart, four_of};
 
-use crate::similarity::sums::PixelSums;
 use v_frame::pixel::Pixel;
 use v_frame::plane::RowsRef;
 
@@ -113,45 +111,20 @@ impl ColumnSums {
             );
         }
     }
-
-    /// Returns the sums over four columns beside each other, of which there are eight, of these rows and of the four below.
-    #[inline(always)]
-    pub(crate) fn block(&self, below: &ColumnSums, k: usize) -> PixelSums
-        requires inside { k < 8 }
-        requires small { AreSmall self.now }
-        requires small_below { AreSmall below.now }
-        ensures value { result ≡ added (block_of self.now k) (block_of below.now k) }
-        ensures bound { AreSumsOver 32 result }
-    {
-        let (upper, lower) = (self.four_rows(k), below.four_rows(k));
-        upper.plus(&lower)
-    }
-
-    /// Returns the sums over four columns of these rows.
-    #[inline(always)]
-    fn four_rows(&self, k: usize) -> PixelSums
-        requires inside { k < 8 }
-        requires small { AreSmall self.now }
-        ensures value { result ≡ block_of self.now k }
-        ensures bound { AreSumsOver 16 result }
-    {
-        PixelSums {
-            first: u64::from(sum_of_lanes(&self.first, 4 * k)),
-            second: u64::from(sum_of_lanes(&self.second, 4 * k)),
-            squares: u64::from(sum_of_lanes(&self.squares, 4 * k)),
-            products: u64::from(sum_of_lanes(&self.products, 4 * k)),
-        }
-    }
 }
 
-/// Returns the sum of four numbers beside each other.
+/// Makes eight numbers, from index `k` on, the sums of four that stand beside each other.
 #[inline(always)]
-fn sum_of_lanes(lanes: &[u32; 32], i: usize) -> u32
-    requires inside { i + 3 < 32 }
-    requires fits { four_of lanes.now i < 2 ^ 32 }
-    ensures { result ≡ four_of lanes.now i }
+pub(crate) fn put_sums_of_fours(sums: &mut [u32; 128], k: usize, numbers: &[u32; 32])
+    requires inside { k + 8 ≤ 128 }
+    requires small { (i : ℕ) → i < 32 → slice_index numbers.now i < 2 ^ 30 }
+    ensures made { (j : ℕ) → j < 8 → slice_index sums.new (k + j) ≡ four_of numbers.now (4 * j) }
+    ensures kept { (j : ℕ) → j < k → slice_index sums.new j ≡ slice_index sums.old j }
 {
-    lanes[i] + lanes[i + 1] + lanes[i + 2] + lanes[i + 3]
+    for j in 0..8 {
+        let i = 4 * j;
+        sums[k + j] = numbers[i] + numbers[i + 1] + numbers[i + 2] + numbers[i + 3];
+    }
 }
 
 /// Returns the sum of the values of four pixels.

@@ -19,6 +19,10 @@ pub(crate) trait LineSum: Copy {
     /// Returns the sum with one more window.
     fn with_window(self, similarity: f32) -> Self
         ensures { float result ≡ add format (float self) similarity };
+
+    /// Returns the sum as a wide float.
+    fn into_f64(self) -> f64
+        ensures { result ≡ float self };
 }
 
 impl LineSum for f32 {
@@ -35,6 +39,11 @@ impl LineSum for f32 {
     fn with_window(self, similarity: f32) -> f32 {
         self + similarity
     }
+
+    #[inline(always)]
+    fn into_f64(self) -> f64 {
+        f32_to_f64_with_nan(self)
+    }
 }
 
 impl LineSum for f64 {
@@ -50,5 +59,10 @@ impl LineSum for f64 {
     #[inline(always)]
     fn with_window(self, similarity: f32) -> f64 {
         self + f32_to_f64_with_nan(similarity)
+    }
+
+    #[inline(always)]
+    fn into_f64(self) -> f64 {
+        self
     }
 }

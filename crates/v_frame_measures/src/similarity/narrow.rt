@@ -1,42 +1,28 @@
-//! Pictures whose values have at most 13 bits.
-ghost use Rattle.std.specs.Prelude.{◌*◌, ◌≤◌, ◌<◌, ◌↔◌, IsTrue};
-ghost use Rattle.v_frame_measures.specs.ColumnSums.{HasNarrowValues, IsNarrow};
+//! How large the values of a picture are at most.
+ghost use Rattle.std.specs.Prelude.{◌≤◌};
+ghost use Rattle.v_frame_measures.specs.ColumnSums.{HasValuesUpTo, IsUpTo};
 
 use v_frame::pixel::Pixel;
 use v_frame::plane::RowsRef;
 
-/// Returns how many pairs of so many lines of windows have narrow values only.
-pub(crate) fn narrow_pairs<T: Pixel>(a: &RowsRef<'_, T>, b: &RowsRef<'_, T>, lines: usize) -> usize
-    ensures within { 2 * result ≤ lines }
-    ensures first { 0 < result → HasNarrowValues T.form.value a.now }
-    ensures second { 0 < result → HasNarrowValues T.form.value b.now }
+/// Returns all bits that values of a picture have. Of bytes the compiler knows that they are below 256.
+pub(crate) fn bits_of_rows<T: Pixel>(picture: &RowsRef<'_, T>) -> u16
+    ensures { HasValuesUpTo T.form.value result picture.now }
 {
-    if has_narrow_values(a) && has_narrow_values(b) {
-        lines / 2
-    } else {
-        0
-    }
-}
-
-/// Returns whether all values of a picture are below 8192. Of bytes the compiler knows it.
-fn has_narrow_values<T: Pixel>(picture: &RowsRef<'_, T>) -> bool
-    ensures { IsTrue result ↔ HasNarrowValues T.form.value picture.now }
-{
+    let mut bits = 0;
     for y in 0..picture.height() {
-        if !is_narrow(picture.visible_row(y)) {
-            return false;
-        }
+        bits |= bits_of_row(picture.visible_row(y));
     }
-    true
+    bits
 }
 
-/// Returns whether all values of a row are below 8192.
-fn is_narrow<T: Pixel>(row: &[T]) -> bool
-    ensures { IsTrue result ↔ IsNarrow T.form.value row.now }
+/// Returns all bits that values of a row have.
+fn bits_of_row<T: Pixel>(row: &[T]) -> u16
+    ensures { IsUpTo T.form.value result row.now }
 {
     let mut bits = 0;
     for x in 0..row.len() {
         bits |= row[x].into_u16();
     }
-    bits < 8192
+    bits
 }

@@ -5,7 +5,7 @@
 
 #![allow(non_camel_case_types)]
 
-use core::ops::{Add, BitAnd, Mul, Shr};
+use core::ops::{Add, BitAnd, Div, Mul, Neg, Shl, Shr};
 use core::sync::atomic::{Ordering, compiler_fence};
 
 /// `N` numbers.
@@ -20,6 +20,7 @@ pub type u8x32 = Simd<u8, 32>;
 pub type u16x8 = Simd<u16, 8>;
 pub type u16x16 = Simd<u16, 16>;
 pub type u32x8 = Simd<u32, 8>;
+pub type f32x8 = Simd<f32, 8>;
 
 /// Keeps the compiler from packing the loop around the lanes, from block to block, in place of them. It is no instruction.
 #[inline(always)]
@@ -28,7 +29,12 @@ fn end_loads() {
 }
 
 /// A number that fits lanes.
-pub trait Lane: Copy + Default + Ord {
+pub trait Lane: Copy + Default {}
+
+impl Lane for f32 {}
+
+/// A whole number that fits lanes.
+pub trait Whole: Lane + Ord {
     /// Returns the distance of two numbers.
     fn distance(self, other: Self) -> Self;
 }
@@ -41,7 +47,9 @@ pub trait CastFrom<T>: Lane {
 
 macro_rules! lanes_of {
     ($number:ty: $($from:ty),*) => {
-        impl Lane for $number {
+        impl Lane for $number {}
+
+        impl Whole for $number {
             #[inline(always)]
             fn distance(self, other: Self) -> Self {
                 // Of `abs_diff` squares are made in lanes of the wide type: of bytes that takes more than twice as long.
@@ -64,6 +72,13 @@ lanes_of!(u16: u8, u16, u32);
 lanes_of!(u32: u8, u16, u32);
 lanes_of!(u64: u8, u16, u32);
 
+impl CastFrom<u32> for f32 {
+    #[inline(always)]
+    fn cast_from(number: u32) -> Self {
+        number as Self
+    }
+}
+
 macro_rules! operation {
     ($operation:ident, $name:ident, $symbol:tt) => {
         impl<T: Lane + $operation<Output = T>, const N: usize> $operation for Simd<T, N> {
@@ -82,17 +97,52 @@ macro_rules! operation {
 
 operation!(Add, add, +);
 operation!(Mul, mul, *);
+operation!(Div, div, /);
 operation!(BitAnd, bitand, &);
 
-impl<T: Lane + Shr<u32, Output = T>, const N: usize> Shr<u32> for Simd<T, N> {
+macro_rules! shift {
+    ($operation:ident, $name:ident, $symbol:tt) => {
+        impl<T: Lane + $operation<u32, Output = T>, const N: usize> $operation<u32> for Simd<T, N> {
+            type Output = Self;
+
+            #[inline(always)]
+            fn $name(mut self, bits: u32) -> Self {
+                for lane in 0..N {
+                    self.0[lane] = self.0[lane] $symbol bits;
+                }
+                self
+            }
+        }
+    };
+}
+
+shift!(Shl, shl, <<);
+shift!(Shr, shr, >>);
+
+impl<T: Lane + Neg<Output = T>, const N: usize> Neg for Simd<T, N> {
     type Output = Self;
 
     #[inline(always)]
-    fn shr(mut self, bits: u32) -> Self {
+    fn neg(mut self) -> Self {
         for lane in 0..N {
-            self.0[lane] = self.0[lane] >> bits;
+            self.0[lane] = -self.0[lane];
         }
         self
+    }
+}
+
+/// A choice for each lane.
+#[derive(Debug, Clone, Copy)]
+pub struct Mask<const N: usize>([bool; N]);
+
+impl<const N: usize> Mask<N> {
+    /// Returns the numbers of the one where the mask says so, and else those of the other.
+    #[inline(always)]
+    pub fn select<T: Lane>(self, one: Simd<T, N>, mut other: Simd<T, N>) -> Simd<T, N> {
+        for lane in 0..N {
+            other.0[lane] = if self.0[lane] { one.0[lane] } else { other.0[lane] };
+        }
+        other
     }
 }
 
@@ -136,6 +186,18 @@ impl<T: Lane, const N: usize> Simd<T, N> {
         numbers[..N].copy_from_slice(&self.0);
     }
 
+    /// Returns the same numbers in lanes of another width.
+    #[inline(always)]
+    pub fn cast<U: CastFrom<T>>(self) -> Simd<U, N> {
+        let mut lanes = [U::default(); N];
+        for lane in 0..N {
+            lanes[lane] = U::cast_from(self.0[lane]);
+        }
+        Simd(lanes)
+    }
+}
+
+impl<T: Whole, const N: usize> Simd<T, N> {
     /// Returns the distances lane by lane.
     #[inline(always)]
     pub fn abs_diff(mut self, other: Self) -> Self {
@@ -145,14 +207,14 @@ impl<T: Lane, const N: usize> Simd<T, N> {
         self
     }
 
-    /// Returns the same numbers in lanes of another width.
+    /// Returns where the numbers are at least the others.
     #[inline(always)]
-    pub fn cast<U: CastFrom<T>>(self) -> Simd<U, N> {
-        let mut lanes = [U::default(); N];
+    pub fn simd_ge(self, other: Self) -> Mask<N> {
+        let mut lanes = [false; N];
         for lane in 0..N {
-            lanes[lane] = U::cast_from(self.0[lane]);
+            lanes[lane] = self.0[lane] >= other.0[lane];
         }
-        Simd(lanes)
+        Mask(lanes)
     }
 }
 

@@ -3,11 +3,11 @@
 
 const MAJOR: u32 = 0;
 
-const MINOR: u32 = 3;
+const MINOR: u32 = 4;
 
 const PATCH: u32 = 0;
 
-/// Returns the version of the library, 0.3.0, as one number.
+/// Returns the version of the library, 0.4.0, as one number.
 ///
 /// # Safety
 ///

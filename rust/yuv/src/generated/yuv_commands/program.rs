@@ -13,7 +13,7 @@ use crate::generated::yuv_system::{Fault, ProgressLine, Status, System, counts_s
 use crate::generated::yuv_words::{Command, CommandName, UsageError, help_topic, read_command, usage_text};
 
 /// What `yuv --version` prints.
-pub const VERSION: &str = "yuv 0.3.0\n";
+pub const VERSION: &str = "yuv 0.4.0\n";
 
 /// What a message calls standard output.
 const STANDARD_OUTPUT: &str = "standard output";

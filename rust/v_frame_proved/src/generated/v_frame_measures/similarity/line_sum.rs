@@ -10,6 +10,9 @@ pub(crate) trait LineSum: Copy {
 
     /// Returns the sum with one more window.
     fn with_window(self, similarity: f32) -> Self;
+
+    /// Returns the sum as a wide float.
+    fn into_f64(self) -> f64;
 }
 
 impl LineSum for f32 {
@@ -22,6 +25,11 @@ impl LineSum for f32 {
     fn with_window(self, similarity: f32) -> f32 {
         self + similarity
     }
+
+    #[inline(always)]
+    fn into_f64(self) -> f64 {
+        f32_to_f64_with_nan(self)
+    }
 }
 
 impl LineSum for f64 {
@@ -33,5 +41,10 @@ impl LineSum for f64 {
     #[inline(always)]
     fn with_window(self, similarity: f32) -> f64 {
         self + f32_to_f64_with_nan(similarity)
+    }
+
+    #[inline(always)]
+    fn into_f64(self) -> f64 {
+        self
     }
 }
