@@ -81,6 +81,22 @@ fn pictures_of_small_and_of_large_values_are_exchanged() {
     assert!(found > 0.0 && found < 1.0, "{found}");
 }
 
+/// One large value in the first row is a large value of the picture, as one in the last row is.
+#[test]
+fn one_large_value_stands_in_any_row() {
+    let with = |name: &str, large: u16, is_turned: bool| {
+        let mut pixels = picture::<u16>(name, 72, 12, 8);
+        pixels[3] = large;
+        let rows: Vec<&[u16]> = if is_turned { pixels.chunks(72).rev().collect() } else { pixels.chunks(72).collect() };
+        plane_of([72, 12, 0, 0, 0, 0], &rows.concat())
+    };
+    let found = [false, true].map(|is_turned| {
+        let (a, b) = (with("First", 60000, is_turned), with("Near", 50000, is_turned));
+        ssim(&a.as_plane_ref(), &b.as_plane_ref(), 16).expect("windows")
+    });
+    assert!((found[0] - found[1]).abs() < 1e-6, "{found:?}");
+}
+
 fn blank<T: Pixel>(size: usize, format: ChromaSubsampling, depth: u8) -> Frame<T> {
     FrameBuilder::new(size, size, format, depth).build().expect("a frame")
 }
