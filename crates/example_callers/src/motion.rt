@@ -1,6 +1,7 @@
 //! What motion search asks of planes: how far blocks are apart, whether planes show the same, and the next smaller picture.
-ghost use Rattle.std.specs.Prelude.{◌≡◌, ◌*◌, ◌+◌, ◌≤◌, ◌↔◌, ℕ, List, IfSome, IsTrue, Some, slice_get};
+ghost use Rattle.std.specs.Prelude.{◌≡◌, ◌*◌, ◌+◌, ◌≤◌, ◌↔◌, ℕ, List, IfSome, IsTrue, Some, slice_get, unsigned_abs};
 ghost use Rattle.v_frame.specs.Prelude.{absolute_differences, halved, rectangle, row_major, squared_errors, table_of};
+ghost use Rattle.v_frame.specs.Prelude.{buffer_column, buffer_row, whole_rows};
 ghost use Rattle.v_frame_ops.specs.Prelude.{IsPadded};
 
 use v_frame::pixel::Pixel;
@@ -22,6 +23,24 @@ pub fn cost_of_block<T: Pixel>(
         (row_major (table_of block.now))) }
 {
     let region = plane.region(x, y, block.width(), block.height())?;
+    Some(sum_of_absolute_differences(&region, block))
+}
+
+/// Returns how far a block is from the pixels that a motion vector points at, from column `x` of row `y` on, where the buffer has
+/// as many: some may lie in the border.
+pub fn cost_of_vector<T: Pixel>(
+    plane: &PlaneRef<'_, T>,
+    block: &PlaneRef<'_, T>,
+    x: isize,
+    y: isize,
+) -> Option<u128>
+    ensures { let size = block.now.geometry in let all = plane.now.geometry in IfSome result (λ cost. cost
+        ≡ absolute_differences T.form.value
+        (row_major (rectangle (unsigned_abs (buffer_column all x)) (unsigned_abs (buffer_row all y))
+        size.width size.height (whole_rows plane.now)))
+        (row_major (table_of block.now))) }
+{
+    let region = plane.region_with_border(x, y, block.width(), block.height())?;
     Some(sum_of_absolute_differences(&region, block))
 }
 

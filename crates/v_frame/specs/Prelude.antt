@@ -7,7 +7,8 @@ pub use Rattle.v_frame_raster.specs.PixelRows.{halved}
 pub use Rattle.v_frame_raster.specs.Laws.{AddsUp, AgreesBelow, WrittenBelow}
 pub use Rattle.v_frame_raster.specs.Chroma.{ratio_of, chroma_size_of, subsampled}
 pub use Rattle.v_frame_raster.specs.Geometry.{Geometry, geometry_of, stride_of, alloc_height_of, alloc_size_of}
-pub use Rattle.v_frame_raster.specs.Geometry.{IsGeometry, IsInside, Fits, place_of}
+pub use Rattle.v_frame_raster.specs.Geometry.{IsGeometry, IsInside, IsInBuffer, Fits, place_of}
+pub use Rattle.v_frame_raster.specs.Geometry.{buffer_column, buffer_row, buffer_region}
 pub use Rattle.v_frame_raster.specs.Geometry.{origin_of, region_geometry, whole_geometry, usize_max, isize_max, Mark}
 pub use Rattle.v_frame_raster.specs.Geometry.{Border, Visible, cutting_plan, mark_at}
 pub use Rattle.v_frame_raster.specs.Table.{Table, width_of, height_of, pixel_at, rectangle, row_major, with_pixel}

@@ -1,6 +1,6 @@
 //! Where the visible pixels of a geometry are in its buffer.
 ghost use Rattle.std.specs.Prelude.{◌≡◌, ◌+◌, ◌*◌, ◌<◌, ◌≤◌, min};
-ghost use Rattle.v_frame_raster.specs.Geometry.{alloc_size_of, IsGeometry, Fits, usize_max, place_of};
+ghost use Rattle.v_frame_raster.specs.Geometry.{alloc_size_of, IsGeometry, Fits, usize_max, origin_of, place_of, stride_of};
 
 use v_frame_raster::geometry::PlaneGeometry;
 
@@ -26,6 +26,18 @@ pub fn visible_place(geometry: PlaneGeometry, x: usize, y: usize) -> usize
     row_start(geometry, y) + x
 }
 
+/// Returns how far a visible pixel is behind the first one in the buffer.
+#[tactic(auto, using(v_frame_raster::proofs::Plans::row_start_within))]
+pub fn visible_offset(geometry: PlaneGeometry, x: usize, y: usize) -> usize
+    requires fits { Fits geometry }
+    requires wide { x < geometry.width }
+    requires high { y < geometry.height }
+    ensures place { origin_of geometry + result ≡ place_of geometry x y }
+    ensures within { origin_of geometry + result < alloc_size_of geometry }
+{
+    geometry.stride() * y + x
+}
+
 /// Returns the number of visible pixels.
 #[tactic(auto, using(v_frame_raster::proofs::Plans::visible_within))]
 pub fn visible_size(geometry: PlaneGeometry) -> usize
@@ -42,9 +54,12 @@ pub fn saturated_place(geometry: PlaneGeometry, x: usize, y: usize) -> usize
     requires { Fits geometry }
     ensures { result ≡ min (place_of geometry x y) usize_max }
 {
-    geometry
-        .stride()
-        .saturating_mul(y)
-        .saturating_add(x)
-        .saturating_add(geometry.data_origin())
+    saturated_offset(geometry, x, y).saturating_add(geometry.data_origin())
+}
+
+/// Returns how far (x, y) is behind the first visible pixel in the buffer; `usize::MAX` where no `usize` holds it.
+pub fn saturated_offset(geometry: PlaneGeometry, x: usize, y: usize) -> usize
+    ensures { result ≡ min (x + y * stride_of geometry) usize_max }
+{
+    geometry.stride().saturating_mul(y).saturating_add(x)
 }

@@ -1,14 +1,14 @@
 //! A plane's two parts, lent for reading: a geometry, and a slice that is the whole buffer.
-ghost use Rattle.std.specs.Prelude.{All, List, ℕ, ◌≡◌, ◌^◌, ◌<◌, ◌≤◌, ◌*◌, ◌↔◌, length, IsNone, IfSome, SomeIff, Some, slice_get, option_copied};
+ghost use Rattle.std.specs.Prelude.{All, List, ℕ, ◌≡◌, ◌^◌, ◌<◌, ◌≤◌, ◌*◌, ◌↔◌, drop, length, unsigned_abs, IsNone, IfSome, SomeIff, Some, slice_get, option_copied};
 ghost use Rattle.std.specs.Map.Iter.{ShowsInOrder, ShowsInReverse, GivesInOrder, GivesInReverse, deref};
-ghost use Rattle.v_frame_raster.specs.Geometry.{alloc_size_of, Fits, IsInside, place_of, region_geometry};
+ghost use Rattle.v_frame_raster.specs.Geometry.{alloc_size_of, Fits, IsInside, origin_of, place_of, region_geometry, buffer_column, buffer_region, buffer_row, IsInBuffer};
 ghost use Rattle.v_frame_raster.specs.Pixel.{byte_list};
 ghost use Rattle.v_frame_raster.specs.Table.{width_of, height_of, pixel_at, rectangle, row_major};
-ghost use Rattle.v_frame_raster.specs.Raster.{IsWhole, raster, table_of};
+ghost use Rattle.v_frame_raster.specs.Raster.{IsWhole, raster, table_of, whole_rows};
 
 use crate::bytes::ByteData;
 use crate::pixels::Pixels;
-use crate::place::{row_start, saturated_place, visible_place, visible_size};
+use crate::place::{row_start, saturated_offset, visible_offset, visible_place, visible_size};
 use crate::rows::Rows;
 use crate::rows_ref::RowsRef;
 use crate::strided::encode_rows;
@@ -120,6 +120,28 @@ impl<'a, T> PlaneRef<'a, T> {
         Self::of_parts(geometry, self.buffer)
     }
 
+    /// Returns a rectangle as [`region`](Self::region) does, which may reach into the border: columns to the left of the first
+    /// visible pixel and rows above it are negative. It is what a motion vector points at.
+    ///
+    /// `None` exactly where the rectangle is empty or not inside the buffer. Nothing is copied. Our own.
+    pub fn region_with_border(
+        &self,
+        x: isize,
+        y: isize,
+        width: usize,
+        height: usize,
+    ) -> Option<Self>
+        ensures value { let geometry = self.now.geometry in
+            SomeIff result (IsInBuffer geometry x y width height)
+            (raster (buffer_region geometry x y width height) self.now.buffer) }
+        ensures table { let geometry = self.now.geometry in IfSome result (λ region. table_of region
+            ≡ rectangle (unsigned_abs (buffer_column geometry x)) (unsigned_abs (buffer_row geometry y))
+            width height (whole_rows self.now)) }
+    {
+        let geometry = self.geometry.region_with_border(x, y, width, height)?;
+        Some(Self::of_parts(geometry, self.buffer))
+    }
+
     /// Returns the visible width in pixels, never zero.
     #[tactic(auto, using(v_frame_raster::proofs::tables::Sizes::width_of_shown, v_frame_raster::proofs::tables::Places::rows_are_wide))]
     pub fn width(&self) -> usize
@@ -200,7 +222,7 @@ impl<'a, T: Copy> PlaneRef<'a, T> {
     /// Returns the entry at the index of column `x` and row `y`. `None` exactly where that index is past the end of the
     /// buffer.
     ///
-    /// The visible rectangle is tested first: there the index needs no further test.
+    /// The visible rectangle is tested first: there no sum can be too large.
     pub fn pixel(&self, x: usize, y: usize) -> Option<T>
         ensures value { result ≡ slice_get self.now.buffer (place_of self.now.geometry x y) }
         ensures none { IsNone result
@@ -208,12 +230,19 @@ impl<'a, T: Copy> PlaneRef<'a, T> {
         ensures inside { x < self.now.geometry.width → y < self.now.geometry.height
             → result ≡ pixel_at (table_of self.now) x y }
     {
+        // In a loop these are found once, and each place has one sum less.
+        let shown = self.entries_from_origin();
         if x < self.geometry.width() && y < self.geometry.height() {
-            return Some(self.visible_pixel(x, y));
+            return Some(shown[visible_offset(self.geometry, x, y)]);
         }
-        self.buffer
-            .get(saturated_place(self.geometry, x, y))
-            .copied()
+        shown.get(saturated_offset(self.geometry, x, y)).copied()
+    }
+
+    /// Returns the entries of the buffer from the first visible pixel on.
+    fn entries_from_origin(&self) -> &'a [T]
+        ensures { result.now ≡ drop (origin_of self.now.geometry) self.now.buffer }
+    {
+        &self.buffer[self.geometry.data_origin()..]
     }
 
     /// Returns the visible pixel of column `x` in row `y`, which must be below [`width`](Self::width) and

@@ -5,5 +5,6 @@ pub mod HalfRows
 pub mod PixelBytes
 pub mod Plans
 pub mod RowLanes
+pub mod SignedPlaces
 pub mod SumsOfPairs
 pub mod tables

@@ -1,7 +1,7 @@
 -- The eight numbers that lay a plane out in its buffer, the sizes that follow from them, and where
 -- each pixel is.
 use Rattle.std.specs.Prelude.{ℕ, zero, suc, ◌+◌, ◌-◌, ◌*◌, ◌^◌, ◌<◌, ◌≤◌, nat_lt, if◌then◌else◌, List, [], ◌∷◌, ◌++◌}
-use Rattle.std.specs.Prelude.{Option, Some, None}
+use Rattle.std.specs.Prelude.{Option, Some, None, ℤ, pos, ◌+ℤ◌, ◌≤ℤ◌, unsigned_abs}
 
 -- a visible rectangle of width by height, the border around it, and how often luma is sampled for
 -- each sample of the plane
@@ -77,6 +77,27 @@ region_geometry g x y width height =
 abbrev pub whole_geometry : Geometry → Geometry
 whole_geometry g =
     geometry_of (stride_of g) (alloc_height_of g) 0 0 0 0 g.subsampling_x g.subsampling_y
+
+-- the column of the buffer that is so many to the right of the first visible one, and the row that
+-- is so many below it. Those to the left of it and above it have a negative number
+abbrev pub buffer_column : Geometry → ℤ → ℤ
+buffer_column g x = pos g.pad_left +ℤ x
+
+abbrev pub buffer_row : Geometry → ℤ → ℤ
+buffer_row g y = pos g.pad_top +ℤ y
+
+-- a rectangle that begins there is inside the buffer, and is not empty
+pub record IsInBuffer (g : Geometry) (x y : ℤ) (width height : ℕ) : Type 0 where
+  pub left : pos 0 ≤ℤ buffer_column g x
+  pub above : pos 0 ≤ℤ buffer_row g y
+  pub inside : IsInside (whole_geometry g) (unsigned_abs (buffer_column g x))
+      (unsigned_abs (buffer_row g y)) width height
+
+-- the geometry that shows only this rectangle, whatever of it was border
+abbrev pub buffer_region : Geometry → ℤ → ℤ → ℕ → ℕ → Geometry
+buffer_region g x y width height =
+    region_geometry (whole_geometry g) (unsigned_abs (buffer_column g x))
+    (unsigned_abs (buffer_row g y)) width height
 
 pub data Mark : Type 0 where
   Border : Mark

@@ -1,7 +1,8 @@
 -- Rectangles, regions and whole buffers worked out by hand. Each line computes: it is proved by
 -- `refl`.
-use Rattle.std.specs.Prelude.{ℕ, ◌≡◌, List, [], ◌∷◌, refl}
+use Rattle.std.specs.Prelude.{ℕ, pos, negsuc, ◌≡◌, List, [], ◌∷◌, refl}
 use Rattle.v_frame_raster.specs.Geometry.{Geometry, geometry_of, region_geometry, whole_geometry}
+use Rattle.v_frame_raster.specs.Geometry.{buffer_region}
 use Rattle.v_frame_raster.specs.Table.{Table, rectangle}
 use Rattle.v_frame_raster.specs.Raster.{raster, table_of, border_of, whole_rows}
 
@@ -54,3 +55,13 @@ whole_table = refl
 shown_in_the_whole : rectangle 1 1 3 2 (whole_rows (raster in_a_border eighteen))
     ≡ table_of (raster in_a_border eighteen)
 shown_in_the_whole = refl
+
+-- from one column to the left of the first visible one, in the row above it: border but for two
+upper_left : table_of (raster (buffer_region in_a_border (negsuc 0) (negsuc 0) 3 2) eighteen)
+    ≡ (20 ∷ 21 ∷ 22 ∷ []) ∷ (26 ∷ 1 ∷ 2 ∷ []) ∷ []
+upper_left = refl
+
+-- and past the last one of the last row
+lower_right : table_of (raster (buffer_region in_a_border (pos 2) (pos 1) 3 1) eighteen)
+    ≡ (6 ∷ 30 ∷ 31 ∷ []) ∷ []
+lower_right = refl

@@ -1,6 +1,6 @@
 //! Geometry: where the visible rectangle of a plane lies in its buffer.
 ghost use Rattle.std.specs.Prelude.{◌≡◌, ◌+◌, ◌*◌, ◌<◌, ◌≤◌, IfSome, IsTrue, SomeIff};
-ghost use Rattle.v_frame_raster.specs.Geometry.{stride_of, alloc_height_of, alloc_size_of, IsGeometry, IsInside, Fits, usize_max, origin_of, region_geometry, whole_geometry};
+ghost use Rattle.v_frame_raster.specs.Geometry.{stride_of, alloc_height_of, alloc_size_of, IsGeometry, IsInside, Fits, usize_max, origin_of, region_geometry, whole_geometry, buffer_region, IsInBuffer};
 
 use crate::chroma::ChromaSubsampling;
 use std::marker::Model;
@@ -256,6 +256,29 @@ impl PlaneGeometry {
             subsampling_x: self.subsampling_x,
             subsampling_y: self.subsampling_y,
         }
+    }
+
+    /// Returns the geometry of a rectangle of the same buffer that may reach into the border: everything around it is border.
+    /// It begins at column `x` of row `y`, of which those to the left of the first visible pixel and above it are negative, and
+    /// the ratios stay.
+    ///
+    /// `None` exactly where the rectangle is empty or not inside the buffer.
+    /// [`checked_alloc_size`](Self::checked_alloc_size) must be `Some`. Our own.
+    pub fn region_with_border(
+        &self,
+        x: isize,
+        y: isize,
+        width: usize,
+        height: usize,
+    ) -> Option<Self>
+        requires { Fits self.now }
+        ensures value { SomeIff result (IsInBuffer self.now x y width height)
+            (buffer_region self.now x y width height) }
+        ensures size { IfSome result (λ region. alloc_size_of region ≡ alloc_size_of self.now) }
+    {
+        let left = self.pad_left.checked_add_signed(x)?;
+        let top = self.pad_top.checked_add_signed(y)?;
+        self.whole_buffer().region(left, top, width, height)
     }
 
     /// Returns the geometry of the whole buffer, as a picture without a border. The ratios stay.

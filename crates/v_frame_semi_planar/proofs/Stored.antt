@@ -56,6 +56,12 @@ module _ {T : Type 0} (form : PixelForm T) (unused : ℕ) where
   length-bytes [] = omega arith
   length-bytes (x ∷ xs) = simp (length-append, length-bytes_from) (omega (arith, length-bytes xs))
 
+  -- bytes as many as those of two lists of pixels
+  pub length-parts : (bytes : List ℕ) (xs ys : List T) → length bytes ≡ length (stored_bytes form unused (xs ++ ys))
+      → length bytes ≡ form.size * length xs + form.size * length ys
+  length-parts bytes xs ys long =
+      long ∙ length-stored (xs ++ ys) ∙ ap (λ n. form.size * n) (length-append xs ys) ∙ omega arith
+
   pub length-shown : (count : ℕ) (bytes : List ℕ) → length (shown_pixels form unused count bytes) ≡ count
   length-shown count bytes =
       length-map (cut_rows form.size count bytes) (λ group. form.pixel_of (value_of_bytes group / 2 ^ unused))

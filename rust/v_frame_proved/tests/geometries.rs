@@ -137,6 +137,9 @@ fn what_is_around_a_region_is_its_border() {
     for [x, y, width, height] in [[0, 0, 0, 1], [0, 0, 1, 0], [14, 0, 7, 1], [0, 12, 1, 1], [usize::MAX, 0, 2, 1]] {
         assert_eq!(plane.region(x, y, width, height), None, "{width} by {height} at {x}, {y}");
     }
+    let region = plane.region_with_border(-1, 11, 3, 2).expect("a region");
+    assert_eq!(numbers_of(&region), [3, 2, 27, 3, 21, 13, 0, 2, 1]);
+    assert_eq!(plane.region_with_border(-4, -2, 27, 15), Some(plane.whole_buffer()));
 }
 
 /// Planes, and whether each has a chroma in 4:2:0, in 4:2:2 and in 4:1:1.

@@ -22,6 +22,23 @@ fn an_array_is_read_as_a_plane() {
 }
 
 #[test]
+fn a_region_reaches_into_the_border() {
+    let entries = in_numbered_border::<u8>(BORDERED, &[1, 2, 3, 4, 5, 6]);
+    let plane = PlaneRef::new(geometry(BORDERED), &entries).expect("a plane");
+    let shown = |x, y, width, height| Some(plane.region_with_border(x, y, width, height)?.pixels().collect::<Vec<_>>());
+    assert_eq!(shown(-1, -1, 3, 2), Some(vec![100, 101, 102, 106, 1, 2]));
+    assert_eq!(shown(2, 1, 3, 1), Some(vec![6, 116, 117]));
+    assert_eq!(shown(0, 0, 3, 2), Some(vec![1, 2, 3, 4, 5, 6]));
+    assert_eq!(shown(-1, -1, 6, 3), Some(entries.clone()));
+    for (x, y) in [(-2, 0), (0, -2), (5, 0), (0, 2), (isize::MIN, 0), (isize::MAX, 0), (0, isize::MAX)] {
+        assert_eq!(shown(x, y, 1, 1), None, "at {x}, {y}");
+    }
+    for (width, height) in [(0, 1), (1, 0), (6, 1), (1, 3), (usize::MAX, 1), (1, usize::MAX)] {
+        assert_eq!(shown(0, 0, width, height), None, "{width} by {height}");
+    }
+}
+
+#[test]
 fn visible_rows_are_lent_for_writing() {
     let mut plane = showing::<u8>(BORDERED, &[1, 2, 3, 4, 5, 6]);
     let before = plane.data().to_vec();

@@ -1,13 +1,15 @@
 -- Rectangles of a table: what a plane shows of a buffer of which another shows more.
 use Rattle.std.proofs.Common.{ℕ, ◌≡◌, ◌+◌, ◌<◌, ◌≤◌, List, length, map, take, drop, Some, slice_get, refl, sym, ◌∙◌}
 use Rattle.std.proofs.Common.{arith, length-take-le, length-drop}
+use Rattle.std.specs.Prelude.{ℤ, unsigned_abs}
 use Rattle.std.proofs.lemmas.List.{length-map, drop-drop, drop-take, take-take}
 use Rattle.v_frame_raster.specs.Geometry.{Geometry, stride_of, IsInside, region_geometry, whole_geometry}
+use Rattle.v_frame_raster.specs.Geometry.{buffer_column, buffer_region, buffer_row, IsInBuffer}
 use Rattle.v_frame_raster.specs.Table.{rectangle}
 use Rattle.v_frame_raster.proofs.Plans.{row_start}
 use Rattle.v_frame_raster.proofs.tables.Lists.{same_by_slice_get, slice_get-take, slice_get-drop, slice_get-map}
 use Rattle.v_frame_raster.specs.RasterLaws.{ShowsRectangle}
-use Rattle.v_frame_raster.specs.Raster.{Raster, raster, table_of}
+use Rattle.v_frame_raster.specs.Raster.{Raster, raster, table_of, whole_rows}
 use Rattle.v_frame_raster.proofs.tables.Pictures.{shown_row, length-shown}
 
 -- one geometry shows a rectangle, from column x of row y on, of what another shows of the same buffer
@@ -76,3 +78,12 @@ module _ {T : Type 0} where
       let g = p.geometry in
       shows_part g (whole_geometry g) g.pad_left g.pad_top p.buffer
       (record { stride = omega arith; left = omega arith; top = omega arith; across = omega arith; down = omega arith })
+
+  -- a region that reaches into the border shows its rectangle of all rows of the buffer
+  pub buffer_region_shows : (p : Raster T) (x y : ℤ) (width height : ℕ) → IsInBuffer p.geometry x y width height
+      → table_of (raster (buffer_region p.geometry x y width height) p.buffer)
+      ≡ rectangle (unsigned_abs (buffer_column p.geometry x)) (unsigned_abs (buffer_row p.geometry y)) width height
+      (whole_rows p)
+  buffer_region_shows p x y width height is =
+      region_shows (raster (whole_geometry p.geometry) p.buffer) (unsigned_abs (buffer_column p.geometry x))
+      (unsigned_abs (buffer_row p.geometry y)) width height is.inside

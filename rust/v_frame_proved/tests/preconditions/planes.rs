@@ -119,6 +119,11 @@ pub const CASES: &[Case] = &[
         &too_large(), 0, 0, 1, 1
     ),
     case!(
+        plane::PlaneGeometry::region_with_border,
+        "no buffer is as large as PlaneGeometry { width: 4294967296, height: 4294967296",
+        &too_large(), 0, 0, 1, 1
+    ),
+    case!(
         plane::PlaneGeometry::visible_region,
         "no buffer is as large as PlaneGeometry { width: 4294967296, height: 4294967296",
         &too_large(), 0, 0, 1, 1

@@ -4,7 +4,7 @@ use Rattle.std.proofs.Common.{length-append}
 use Rattle.v_frame.specs.Prelude.{row_major, table_of, tables_of}
 use Rattle.v_frame_semi_planar.specs.Format.{unused_bits}
 use Rattle.v_frame_semi_planar.specs.SemiPlanar.{chroma_pixels, shown_pixels}
-use Rattle.v_frame_semi_planar.proofs.Stored.{length-bytes, length-stored, shown-parts}
+use Rattle.v_frame_semi_planar.proofs.Stored.{length-bytes, length-parts, shown-parts}
 use Rattle.v_frame_semi_planar.proofs.reading.store_frame.Goals as goal
 
 pub split_at-requires : goal.split_at-requires
@@ -13,23 +13,14 @@ split_at-requires g c =
     let tables = tables_of c.args.frame.now in
     let luma = row_major tables.y in
     let chroma = chroma_pixels c.args.format tables.u tables.v in
-    let all : length c.args.bytes.now ≡ form.size * length luma + form.size * length chroma =
-    c.requires.long ∙ length-stored form unused (luma ++ chroma)
-    ∙ ap (λ n. form.size * n) (length-append luma chroma) ∙ omega arith in
+    let all = length-parts form unused c.args.bytes.now luma chroma c.requires.long in
     let cut : c.byte_len.result ≡ form.size * length luma = c.byte_len.ensures.bytes ∙ length-bytes form 0 luma in
     omega (arith, all, cut)
 
 pub store_plane-requires-clause-long : goal.store_plane-requires-clause-long
 store_plane-requires-clause-long g c κs within =
-    let form = g.T.Pixel.form in let unused = unused_bits c.args.format in
-    let tables = tables_of c.args.frame.now in
-    let luma = row_major tables.y in
-    let chroma = chroma_pixels c.args.format tables.u tables.v in
-    let all : length c.args.bytes.now ≡ form.size * length luma + form.size * length chroma =
-    c.requires.long ∙ length-stored form unused (luma ++ chroma)
-    ∙ ap (λ n. form.size * n) (length-append luma chroma) ∙ omega arith in
-    let cut : c.byte_len.result ≡ form.size * length luma = c.byte_len.ensures.bytes ∙ length-bytes form 0 luma in
-    c.split_at.ensures.front_len ∙ cut
+    let luma = row_major (tables_of c.args.frame.now).y in
+    c.split_at.ensures.front_len ∙ c.byte_len.ensures.bytes ∙ length-bytes g.T.Pixel.form 0 luma
 
 pub store_chroma_planes-requires-clause-long : goal.store_chroma_planes-requires-clause-long
 store_chroma_planes-requires-clause-long g c κs within =
@@ -37,9 +28,7 @@ store_chroma_planes-requires-clause-long g c κs within =
     let tables = tables_of c.args.frame.now in
     let luma = row_major tables.y in
     let chroma = chroma_pixels c.args.format tables.u tables.v in
-    let all : length c.args.bytes.now ≡ form.size * length luma + form.size * length chroma =
-    c.requires.long ∙ length-stored form unused (luma ++ chroma)
-    ∙ ap (λ n. form.size * n) (length-append luma chroma) ∙ omega arith in
+    let all = length-parts form unused c.args.bytes.now luma chroma c.requires.long in
     let cut : c.byte_len.result ≡ form.size * length luma = c.byte_len.ensures.bytes ∙ length-bytes form 0 luma in
     omega (arith, all, cut, c.split_at.ensures.back_len)
 
@@ -49,9 +38,6 @@ returns-clause-pixels g c =
     let tables = tables_of c.args.frame.now in
     let luma = row_major tables.y in
     let chroma = chroma_pixels c.args.format tables.u tables.v in
-    let all : length c.args.bytes.now ≡ form.size * length luma + form.size * length chroma =
-    c.requires.long ∙ length-stored form unused (luma ++ chroma)
-    ∙ ap (λ n. form.size * n) (length-append luma chroma) ∙ omega arith in
     let cut : c.byte_len.result ≡ form.size * length luma = c.byte_len.ensures.bytes ∙ length-bytes form 0 luma in
     let bytes = c.args.bytes.now in
     let at = c.byte_len.result in

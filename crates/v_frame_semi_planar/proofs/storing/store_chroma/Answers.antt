@@ -1,5 +1,5 @@
 -- One more row of each plane is that of its bytes by turns.
-use Rattle.std.proofs.Common.{◌≡◌, ◌+◌, ◌-◌, ◌*◌, ◌<◌, List, length, take, drop, Some, slice_get, refl, sym}
+use Rattle.std.proofs.Common.{ℕ, ◌≡◌, ◌+◌, ◌-◌, ◌*◌, ◌<◌, List, length, take, drop, Some, slice_get, refl, sym}
 use Rattle.std.proofs.Common.{◌∙◌, ap, arith}
 use Rattle.std.proofs.Common.{◌≤◌, length-drop, length-take-le}
 use Rattle.std.proofs.Math.Nat.{mul-le-mul_left}
@@ -20,59 +20,43 @@ loop-y-init g c = record {
   second_border = refl;
 }
 
+-- a row's bytes end within those of all rows
+row_ends : (piece y height all : ℕ) → y < height → piece * height ≡ all → piece * y + piece ≤ all
+row_ends piece y height all low is =
+    let next : y + 1 ≤ height = omega arith in
+    omega (arith, mul-le-mul_left piece next, is)
+
 pub overflow_mul-start : goal.overflow_mul-start
 overflow_mul-start g c =
-    let w = c.width-width.result in let h = c.height-height.result in let y = c.loop-y.y in
-    let piece = 2 * (w * c.BYTES.result) in let bytes = c.args.bytes.now in
-    let low : y + 1 ≤ h = omega arith in
-    let least = mul-le-mul_left piece low in
-    let all : piece * h ≡ length bytes =
-    rw (
-      c.width-width.ensures.value,
-      c.height-height.ensures.value,
-      c.BYTES.ensures,
-      g.met.T.Pixel.bytes_of_form,
-      c.requires.long,
-    ) (omega arith) in
-    omega (arith, least, all)
+    let piece = 2 * (c.width-width.result * c.BYTES.result) in let bytes = c.args.bytes.now in
+    let all : piece * c.height-height.result ≡ length bytes =
+    rw (c.width-width.ensures.value, c.height-height.ensures.value, c.BYTES.ensures, g.met.T.Pixel.bytes_of_form, c.requires.long)
+    (omega arith) in
+    omega (arith, row_ends piece c.loop-y.y c.height-height.result (length bytes) (omega arith) all)
 
 pub slice_bounds-row-end : goal.slice_bounds-row-end
 slice_bounds-row-end g c =
-    let w = c.width-width.result in let h = c.height-height.result in let y = c.loop-y.y in
-    let piece = 2 * (w * c.BYTES.result) in let bytes = c.args.bytes.now in
-    let low : y + 1 ≤ h = omega arith in
-    let least = mul-le-mul_left piece low in
-    let all : piece * h ≡ length bytes =
-    rw (
-      c.width-width.ensures.value,
-      c.height-height.ensures.value,
-      c.BYTES.ensures,
-      g.met.T.Pixel.bytes_of_form,
-      c.requires.long,
-    ) (omega arith) in
-    omega (arith, least, all)
+    let piece = 2 * (c.width-width.result * c.BYTES.result) in let bytes = c.args.bytes.now in
+    let all : piece * c.height-height.result ≡ length bytes =
+    rw (c.width-width.ensures.value, c.height-height.ensures.value, c.BYTES.ensures, g.met.T.Pixel.bytes_of_form, c.requires.long)
+    (omega arith) in
+    omega (arith, row_ends piece c.loop-y.y c.height-height.result (length bytes) (omega arith) all)
 
 pub store_chroma_rows-requires-clause-long : goal.store_chroma_rows-requires-clause-long
 store_chroma_rows-requires-clause-long g c κs within =
-    let w = c.width-width.result in let h = c.height-height.result in let y = c.loop-y.y in
-    let piece = 2 * (w * c.BYTES.result) in let bytes = c.args.bytes.now in
-    let low : y + 1 ≤ h = omega arith in
-    let least = mul-le-mul_left piece low in
-    let all : piece * h ≡ length bytes =
-    rw (
-      c.width-width.ensures.value,
-      c.height-height.ensures.value,
-      c.BYTES.ensures,
-      g.met.T.Pixel.bytes_of_form,
-      c.requires.long,
-    ) (omega arith) in
+    let y = c.loop-y.y in
+    let piece = 2 * (c.width-width.result * c.BYTES.result) in let bytes = c.args.bytes.now in
+    let all : piece * c.height-height.result ≡ length bytes =
+    rw (c.width-width.ensures.value, c.height-height.ensures.value, c.BYTES.ensures, g.met.T.Pixel.bytes_of_form, c.requires.long)
+    (omega arith) in
+    let ends = row_ends piece y c.height-height.result (length bytes) (omega arith) all in
     let wide : c.loop-y.first.geometry.width ≡ c.args.first.now.geometry.width =
     ap (λ (p : Geometry × List (List g.row.T.Denot)). p.0.width) c.loop-y.invariant.border in
     let cut : piece * y + piece - piece * y ≡ piece = omega arith in
     let size : piece ≡ 2 * g.T.Pixel.BYTES * c.loop-y.first.geometry.width =
     rw (wide, c.width-width.ensures.value, c.BYTES.ensures) (omega arith) in
     ap (λ n. length (take n (drop (piece * y) bytes))) cut
-    ∙ length-take-le piece (drop (piece * y) bytes) (omega (arith, least, all, length-drop (piece * y) bytes)) ∙ size
+    ∙ length-take-le piece (drop (piece * y) bytes) (omega (arith, ends, length-drop (piece * y) bytes)) ∙ size
 
 pub loop-y-preserved : goal.loop-y-preserved
 loop-y-preserved g c =

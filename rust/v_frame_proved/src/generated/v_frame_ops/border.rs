@@ -33,7 +33,7 @@ fn continue_picture<T: Copy>(buffer: &mut [T], geometry: PlaneGeometry) {
 
 /// Extends the rows of the picture to both sides, and then repeats the first one above and the last one below.
 fn extend_picture<T: Copy>(buffer: &mut [T], geometry: PlaneGeometry) {
-    let whole = geometry.whole_buffer();
+    let whole = geometry.whole_buffer_proved();
     let (top, height) = (geometry.pad_top(), geometry.height());
     extend_rows(
         buffer,

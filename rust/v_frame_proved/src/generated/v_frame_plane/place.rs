@@ -17,6 +17,13 @@ pub fn visible_place(geometry: PlaneGeometry, x: usize, y: usize) -> usize {
     row_start(geometry, y) + x
 }
 
+/// Returns how far a visible pixel is behind the first one in the buffer.
+#[inline]
+#[must_use]
+pub fn visible_offset(geometry: PlaneGeometry, x: usize, y: usize) -> usize {
+    geometry.stride() * y + x
+}
+
 /// Returns the number of visible pixels.
 #[inline]
 #[must_use]
@@ -29,9 +36,12 @@ pub fn visible_size(geometry: PlaneGeometry) -> usize {
 #[inline]
 #[must_use]
 pub fn saturated_place(geometry: PlaneGeometry, x: usize, y: usize) -> usize {
-    geometry
-        .stride()
-        .saturating_mul(y)
-        .saturating_add(x)
-        .saturating_add(geometry.data_origin_proved())
+    saturated_offset(geometry, x, y).saturating_add(geometry.data_origin_proved())
+}
+
+/// Returns how far (x, y) is behind the first visible pixel in the buffer; `usize::MAX` where no `usize` holds it.
+#[inline]
+#[must_use]
+pub fn saturated_offset(geometry: PlaneGeometry, x: usize, y: usize) -> usize {
+    geometry.stride().saturating_mul(y).saturating_add(x)
 }

@@ -3,7 +3,7 @@
 
 use crate::generated::v_frame_plane::bytes::ByteData;
 use crate::generated::v_frame_plane::pixels::Pixels;
-use crate::generated::v_frame_plane::place::{row_start, saturated_place, visible_place, visible_size};
+use crate::generated::v_frame_plane::place::{row_start, saturated_offset, visible_offset, visible_place, visible_size};
 use crate::generated::v_frame_plane::rows::Rows;
 use crate::generated::v_frame_plane::rows_ref::RowsRef;
 use crate::generated::v_frame_plane::strided::encode_rows;
@@ -43,6 +43,11 @@ use crate::generated::v_frame_raster::pixel::Pixel;
 /// // Parts of the same buffer. A view is `Copy`; `duplicate` is that by a name.
 /// let column = picture.region(2, 0, 1, 2).unwrap();
 /// assert_eq!(column, picture.duplicate().visible_region(2, 0, 1, 2));
+///
+/// // What a motion vector points at may lie in the border.
+/// let block = picture.region_with_border(2, 0, 2, 2).unwrap();
+/// assert!(block.rows().eq([[3, 0], [6, 0]]));
+/// assert!(picture.region_with_border(-1, 0, 2, 2).is_none());
 /// assert_eq!(column.pixels().collect::<Vec<_>>(), [3, 6]);
 /// assert_eq!(column.data(), pixels);
 /// assert_eq!(column.as_rows_ref().visible_row(1), [6]);
@@ -102,7 +107,7 @@ impl<'a, T> PlaneRef<'a, T> {
     #[inline]
     #[must_use]
     pub fn region(&self, x: usize, y: usize, width: usize, height: usize) -> Option<Self> {
-        let geometry = self.geometry.region(x, y, width, height)?;
+        let geometry = self.geometry.region_proved(x, y, width, height)?;
         Some(Self::of_parts(geometry, self.buffer))
     }
 
@@ -128,6 +133,23 @@ impl<'a, T> PlaneRef<'a, T> {
     pub(crate) fn visible_region_proved(&self, x: usize, y: usize, width: usize, height: usize) -> Self {
         let geometry = self.geometry.visible_region_proved(x, y, width, height);
         Self::of_parts(geometry, self.buffer)
+    }
+
+    /// Returns a rectangle as [`region`](Self::region) does, which may reach into the border: columns to the left of the first
+    /// visible pixel and rows above it are negative. It is what a motion vector points at.
+    ///
+    /// `None` exactly where the rectangle is empty or not inside the buffer. Nothing is copied.
+    #[inline]
+    #[must_use]
+    pub fn region_with_border(
+        &self,
+        x: isize,
+        y: isize,
+        width: usize,
+        height: usize,
+    ) -> Option<Self> {
+        let geometry = self.geometry.region_with_border_proved(x, y, width, height)?;
+        Some(Self::of_parts(geometry, self.buffer))
     }
 
     /// Returns the visible width in pixels, never zero.
@@ -200,16 +222,21 @@ impl<'a, T: Copy> PlaneRef<'a, T> {
     /// Returns the entry at the index of column `x` and row `y`. `None` exactly where that index is past the end of the
     /// buffer.
     ///
-    /// The visible rectangle is tested first: there the index needs no further test.
+    /// The visible rectangle is tested first: there no sum can be too large.
     #[inline]
     #[must_use]
     pub fn pixel(&self, x: usize, y: usize) -> Option<T> {
+        // In a loop these are found once, and each place has one sum less.
+        let shown = self.entries_from_origin();
         if x < self.geometry.width() && y < self.geometry.height() {
-            return Some(self.visible_pixel_proved(x, y));
+            return Some(shown[visible_offset(self.geometry, x, y)]);
         }
-        self.buffer
-            .get(saturated_place(self.geometry, x, y))
-            .copied()
+        shown.get(saturated_offset(self.geometry, x, y)).copied()
+    }
+
+    /// Returns the entries of the buffer from the first visible pixel on.
+    fn entries_from_origin(&self) -> &'a [T] {
+        &self.buffer[self.geometry.data_origin_proved()..]
     }
 
     /// Returns the visible pixel of column `x` in row `y`, which must be below [`width`](Self::width) and
@@ -227,12 +254,6 @@ impl<'a, T: Copy> PlaneRef<'a, T> {
     pub fn visible_pixel(&self, x: usize, y: usize) -> T {
         assert!(x < self.width(), "x ({x}) is not below the width ({})", self.width());
         assert!(y < self.height(), "y ({y}) is not below the height ({})", self.height());
-        self.visible_pixel_proved(x, y)
-    }
-
-    /// The same without a test, for calls that are known to meet it.
-    #[inline]
-    pub(crate) fn visible_pixel_proved(&self, x: usize, y: usize) -> T {
         self.buffer[visible_place(self.geometry, x, y)]
     }
 

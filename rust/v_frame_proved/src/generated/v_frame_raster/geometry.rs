@@ -48,6 +48,7 @@ pub struct SubsamplingError;
 /// assert_eq!((half.pad_left(), half.stride()), (4, 6));
 /// assert_eq!(half, geometry.visible_region(2, 0, 2, 2));
 /// assert_eq!(geometry.region(2, 0, 3, 2), None);
+/// assert_eq!(geometry.region_with_border(-2, -4, 6, 12), Some(geometry.whole_buffer()));
 /// assert_eq!(geometry.whole_buffer(), PlaneGeometry::unpadded(6, 12, 1, 1).unwrap());
 /// ```
 #[derive(Debug, Clone, Copy, PartialEq, Eq)]
@@ -261,6 +262,12 @@ impl PlaneGeometry {
     #[must_use]
     pub fn region(&self, x: usize, y: usize, width: usize, height: usize) -> Option<Self> {
         assert!(self.checked_alloc_size().is_some(), "no buffer is as large as {:?} says", self);
+        self.region_proved(x, y, width, height)
+    }
+
+    /// The same without a test, for calls that are known to meet it.
+    #[inline]
+    pub(crate) fn region_proved(&self, x: usize, y: usize, width: usize, height: usize) -> Option<Self> {
         // No buffer is so large that a sum past `usize::MAX` could be inside it.
         let right = x.saturating_add(width);
         let bottom = y.saturating_add(height);
@@ -309,6 +316,38 @@ impl PlaneGeometry {
         }
     }
 
+    /// Returns the geometry of a rectangle of the same buffer that may reach into the border: everything around it is border.
+    /// It begins at column `x` of row `y`, of which those to the left of the first visible pixel and above it are negative, and
+    /// the ratios stay.
+    ///
+    /// `None` exactly where the rectangle is empty or not inside the buffer.
+    /// [`checked_alloc_size`](Self::checked_alloc_size) must be `Some`.
+    ///
+    /// # Panics
+    ///
+    /// Panics where `checked_alloc_size` is `None`: no buffer is that large.
+    #[track_caller]
+    #[inline]
+    #[must_use]
+    pub fn region_with_border(
+        &self,
+        x: isize,
+        y: isize,
+        width: usize,
+        height: usize,
+    ) -> Option<Self> {
+        assert!(self.checked_alloc_size().is_some(), "no buffer is as large as {:?} says", self);
+        self.region_with_border_proved(x, y, width, height)
+    }
+
+    /// The same without a test, for calls that are known to meet it.
+    #[inline]
+    pub(crate) fn region_with_border_proved( &self, x: isize, y: isize, width: usize, height: usize, ) -> Option<Self> {
+        let left = self.pad_left.checked_add_signed(x)?;
+        let top = self.pad_top.checked_add_signed(y)?;
+        self.whole_buffer_proved().region_proved(left, top, width, height)
+    }
+
     /// Returns the geometry of the whole buffer, as a picture without a border. The ratios stay.
     ///
     /// What reads or writes visible rows then reads or writes all rows of the buffer, those of the border too.
@@ -322,6 +361,12 @@ impl PlaneGeometry {
     #[must_use]
     pub fn whole_buffer(&self) -> Self {
         assert!(self.checked_alloc_size().is_some(), "no buffer is as large as {:?} says", self);
+        self.whole_buffer_proved()
+    }
+
+    /// The same without a test, for calls that are known to meet it.
+    #[inline]
+    pub(crate) fn whole_buffer_proved(&self) -> Self {
         PlaneGeometry {
             width: self.stride,
             height: self.alloc_height_proved(),
