@@ -3,6 +3,9 @@
 The second build is the first with one line of its Cargo.toml changed: the line of the dependency. It is made in a folder below
 out/over_proved, with that Cargo.toml and a link to the same sources. Cargo takes the original from the registry, or, where
 V_FRAME_SOURCE names a folder with its source, from there and without the network.
+
+Where a loop comes to lie decides up to half of its time, and changes with any code before it. Where it is asked for, both have all
+loops at multiples of 64 bytes.
 """
 import os
 import re
@@ -11,6 +14,7 @@ import sys
 from pathlib import Path
 
 TOP = Path(__file__).resolve().parent.parent
+ALIGNED = "-C llvm-args=-align-loops=64"
 PROVED = 'v_frame = {{ package = "v_frame_proved", path = "{path}", features = ["padding_api"] }}'
 
 
@@ -36,21 +40,23 @@ def check_source(project):
         stop("cargo can't fetch v_frame 0.7.0: set V_FRAME_SOURCE to a folder with its source, or use the network")
 
 
-def build(folder, target, words):
+def build(folder, target, words, aligned):
+    target = target / "aligned" if aligned else target
+    flags = {"RUSTFLAGS": f"{os.environ.get('RUSTFLAGS', '')} {ALIGNED}"} if aligned else {}
     command = ["cargo", "build", "--release", "--quiet", "--target-dir", str(target), *words]
-    if subprocess.run(command, cwd=folder).returncode:
+    if subprocess.run(command, cwd=folder, env={**os.environ, **flags}).returncode:
         stop(f"cargo can't build {folder}")
     return target / "release"
 
 
-def over_original(project):
+def over_original(project, aligned=False):
     """The folder of the programs of a project, built over the original crate."""
     source = os.environ.get("V_FRAME_SOURCE")
     words = ["--offline", "--config", f'patch.crates-io.v_frame.path="{Path(source).resolve()}"'] if source else []
-    return build(TOP / project, TOP / "out/original", words)
+    return build(TOP / project, TOP / "out/original", words, aligned)
 
 
-def over_proved(project, features=()):
+def over_proved(project, features=(), aligned=False):
     """The same, built over the crate that is made from proved sources."""
     folder = TOP / "out/over_proved" / Path(project).name
     folder.mkdir(parents=True, exist_ok=True)
@@ -63,4 +69,4 @@ def over_proved(project, features=()):
     if not sources.is_symlink():
         sources.symlink_to(TOP / project / "src")
     words = ["--offline"] + [f"--features={','.join(features)}"] * bool(features)
-    return build(folder, TOP / "out/over_proved/target", words)
+    return build(folder, TOP / "out/over_proved/target", words, aligned)

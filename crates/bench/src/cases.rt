@@ -3,7 +3,7 @@
 use crate::blocks::{Measure, compare_blocks};
 use crate::desk::Desk;
 use crate::error::BenchError;
-use crate::{reads, replays, whole, writes};
+use crate::{reads, whole, writes};
 use v_frame::chroma::ChromaSubsampling;
 use v_frame::pixel::Pixel;
 
@@ -39,13 +39,10 @@ pub enum Case {
     CopyFromBytes,
     CopyFromStrided,
     CopyToBytes,
-    ReplayPixelMut,
-    ReplayRow,
-    ReplayCopy,
 }
 
 /// The names of the cases, in the order in which they are measured.
-pub const CASES: [(&str, Case); 38] = [
+pub const CASES: [(&str, Case); 35] = [
     ("build_mono", Case::BuildMono),
     ("build_420", Case::Build420),
     ("clone_plane", Case::ClonePlane),
@@ -81,9 +78,6 @@ pub const CASES: [(&str, Case); 38] = [
     ("copy_from_u8_slice", Case::CopyFromBytes),
     ("copy_from_u8_slice_with_stride", Case::CopyFromStrided),
     ("copy_byte_data", Case::CopyToBytes),
-    ("replay_pixel_mut", Case::ReplayPixelMut),
-    ("replay_row", Case::ReplayRow),
-    ("replay_copy_from_slice", Case::ReplayCopy),
 ];
 
 /// Does the work of a case once, and gives a number that depends on it.
@@ -93,9 +87,6 @@ pub fn work<T: Pixel>(case: Case, desk: &mut Desk<T>) -> Result<u64, BenchError>
         Case::Build420 => whole::build_one(desk, ChromaSubsampling::Yuv420),
         Case::ClonePlane => whole::clone_plane(desk),
         Case::CloneFrame => whole::clone_frame(desk),
-        Case::ReplayPixelMut => replays::replay_pixels(desk),
-        Case::ReplayRow => replays::replay_rows(desk),
-        Case::ReplayCopy => replays::replay_copy(desk),
         Case::FillByRowMut
         | Case::FillByRowsMut
         | Case::FillByPixelMut
@@ -146,12 +137,12 @@ fn written<T: Pixel>(case: Case, desk: &mut Desk<T>) -> Result<u64, BenchError> 
         Case::Pad => writes::pad_plane(luma),
         Case::Downscale => writes::halve(&desk.other.y_plane, &mut desk.frame),
         Case::CopyFromSlice => writes::copy_pixels(luma, desk.source.as_slice())?,
-        Case::CopyFromBytes => writes::copy_packed(luma, desk.packed.as_slice())?,
+        Case::CopyFromBytes => writes::copy_packed(luma, desk.bytes.packed.as_slice())?,
         Case::CopyFromStrided => {
-            writes::copy_strided(luma, desk.strided.as_slice(), desk.stride)?
+            writes::copy_strided(luma, desk.bytes.strided.as_slice(), desk.bytes.stride)?
         }
         Case::CopyToBytes => {
-            writes::copy_to_bytes(&desk.frame.y_plane, desk.buffer.as_mut_slice())
+            writes::copy_to_bytes(&desk.frame.y_plane, desk.bytes.target.as_mut_slice())
         }
         _ => (),
     }

@@ -4,19 +4,17 @@ use crate::cases::Case;
 use crate::error::BenchError;
 use crate::pictures::{PLACES, bytes, pixel_of, pixels, places};
 use crate::plan::Plan;
-use crate::replays::{CALLS, TIMES, copy_calls, pixel_calls, row_calls};
 use crate::whole::build;
-use std::alloc::Global;
+use std::alloc::{AllocError, Global};
 use v_frame::chroma::ChromaSubsampling;
 use v_frame::frame::Frame;
 use v_frame::pixel::Pixel;
 use v_frame::plane::Plane;
-use v_frame::replay::VisibleCall;
 
 /// Bytes after each row of the source with a stride.
 const TAIL: usize = 64;
 
-/// Frames, sources, targets and lists of calls.
+/// Frames, sources and targets.
 #[derive(Drop)]
 pub struct Desk<T: Pixel> {
     pub alloc: Global,
@@ -32,20 +30,34 @@ pub struct Desk<T: Pixel> {
     pub source: Vec<T>,
     /// The same pixels for the other frame.
     pub other_source: Vec<T>,
-    /// The bytes of a source without tails.
-    pub packed: Vec<u8>,
-    /// The bytes of a source with a stride.
-    pub strided: Vec<u8>,
-    pub stride: usize,
-    /// A target of bytes.
-    pub buffer: Vec<u8>,
+    pub bytes: Bytes,
     pub places: Vec<(usize, usize)>,
-    /// The lists that are replayed.
-    pub pixel_calls: Vec<VisibleCall<T>>,
-    pub row_calls: Vec<VisibleCall<T>>,
-    pub copy_calls: Vec<VisibleCall<T>>,
     /// The pixel that this run writes.
     pub value: T,
+}
+
+/// Sources and a target of bytes.
+#[derive(Drop)]
+pub struct Bytes {
+    /// The source without tails.
+    pub packed: Vec<u8>,
+    /// The source with a stride.
+    pub strided: Vec<u8>,
+    pub stride: usize,
+    pub target: Vec<u8>,
+}
+
+impl Bytes {
+    /// All of them, for rows of so many bytes.
+    fn new(alloc: Global, row: usize, height: usize, seed: usize) -> Result<Self, AllocError> {
+        let stride = row.wrapping_add(TAIL);
+        Ok(Bytes {
+            packed: bytes(alloc, row.wrapping_mul(height), seed)?,
+            strided: bytes(alloc, stride.wrapping_mul(height), seed)?,
+            stride,
+            target: bytes(alloc, row.wrapping_mul(height), 0)?,
+        })
+    }
 }
 
 impl<T: Pixel> Desk<T> {
@@ -53,9 +65,6 @@ impl<T: Pixel> Desk<T> {
     pub fn new(alloc: Global, plan: Plan, depth: u8) -> Result<Self, BenchError> {
         let (width, height) = (usize::from(plan.width), usize::from(plan.height));
         let (count, seed) = (width.wrapping_mul(height), usize::from(plan.seed));
-        let row = width.wrapping_mul(T::BYTES);
-        let stride = row.wrapping_add(TAIL);
-        let places = places(alloc, plan)?;
         Ok(Desk {
             alloc,
             plan,
@@ -65,14 +74,8 @@ impl<T: Pixel> Desk<T> {
             other: build(alloc, plan, ChromaSubsampling::Yuv420, depth)?,
             source: pixels(alloc, count, seed, 0)?,
             other_source: pixels(alloc, count, seed, 16)?,
-            packed: bytes(alloc, row.wrapping_mul(height), seed)?,
-            strided: bytes(alloc, stride.wrapping_mul(height), seed)?,
-            stride,
-            buffer: bytes(alloc, row.wrapping_mul(height), 0)?,
-            pixel_calls: pixel_calls(alloc, places.as_slice())?,
-            row_calls: row_calls(alloc)?,
-            copy_calls: copy_calls(alloc, count, seed)?,
-            places,
+            bytes: Bytes::new(alloc, width.wrapping_mul(T::BYTES), height, seed)?,
+            places: places(alloc, plan)?,
             value: T::ZERO,
         })
     }
@@ -81,8 +84,6 @@ impl<T: Pixel> Desk<T> {
     pub fn pixels_of(&self, case: Case) -> usize {
         match case {
             Case::PixelScattered | Case::PixelMutScattered => PLACES,
-            Case::ReplayPixelMut => CALLS * TIMES,
-            Case::ReplayRow => CALLS * usize::from(self.plan.width),
             _ => self.source.len(),
         }
     }
@@ -108,8 +109,8 @@ impl<T: Pixel> Desk<T> {
         set_pixel(&mut self.frame.y_plane, x, y, value);
         set_pixel(&mut self.twin.y_plane, x, y, value);
         set_entry(self.source.as_mut_slice(), place, value);
-        set_entry(self.packed.as_mut_slice(), place, value.le_byte(0));
-        set_entry(self.strided.as_mut_slice(), place, value.le_byte(0));
+        set_entry(self.bytes.packed.as_mut_slice(), place, value.le_byte(0));
+        set_entry(self.bytes.strided.as_mut_slice(), place, value.le_byte(0));
     }
 
     /// What stands in a few places after a run.
@@ -122,7 +123,7 @@ impl<T: Pixel> Desk<T> {
             Some(plane) => plane.pixel(x / 2, y / 2).map_or(0, T::into_u16),
             None => 0,
         };
-        let byte = self.buffer.get(x).copied().unwrap_or(0);
+        let byte = self.bytes.target.get(x).copied().unwrap_or(0);
         u64::from(luma) + u64::from(chroma) + u64::from(byte)
     }
 
@@ -138,7 +139,7 @@ impl<T: Pixel> Desk<T> {
                 }
             }
         }
-        for byte in self.buffer.iter() {
+        for byte in self.bytes.target.iter() {
             sum = sum.wrapping_mul(31).wrapping_add(u64::from(*byte));
         }
         sum

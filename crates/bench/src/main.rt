@@ -13,7 +13,6 @@ mod error;
 mod pictures;
 mod plan;
 mod reads;
-mod replays;
 mod whole;
 mod writes;
 

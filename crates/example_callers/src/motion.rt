@@ -1,7 +1,7 @@
 //! What motion search asks of planes: how far blocks are apart, whether planes show the same, and the next smaller picture.
-ghost use Rattle.std.specs.Prelude.{◌≡◌, ◌*◌, ◌+◌, ◌≤◌, ◌↔◌, ℕ, List, IfSome, IsTrue, Some, slice_get, unsigned_abs};
+ghost use Rattle.std.specs.Prelude.{◌≡◌, ◌*◌, ◌+◌, ◌≤◌, ◌↔◌, ℕ, List, IsTrue, Some, SomeIff, slice_get, unsigned_abs};
 ghost use Rattle.v_frame.specs.Prelude.{absolute_differences, halved, rectangle, row_major, squared_errors, table_of};
-ghost use Rattle.v_frame.specs.Prelude.{buffer_column, buffer_row, whole_rows};
+ghost use Rattle.v_frame.specs.Prelude.{buffer_column, buffer_row, whole_rows, IsInBuffer, IsInside};
 ghost use Rattle.v_frame_ops.specs.Prelude.{IsPadded};
 
 use v_frame::pixel::Pixel;
@@ -10,15 +10,17 @@ use v_frame_ops::{
     downscale, first_difference, pad, sum_of_absolute_differences, sum_of_squared_errors,
 };
 
-/// Returns how far a block is from the pixels that a plane shows from column `x` of row `y` on, where the plane has as many.
+/// Returns how far a block is from the pixels that a plane shows from column `x` of row `y` on. `None` exactly where it does not
+/// show as many.
 pub fn cost_of_block<T: Pixel>(
     plane: &PlaneRef<'_, T>,
     block: &PlaneRef<'_, T>,
     x: usize,
     y: usize,
 ) -> Option<u128>
-    ensures { let size = block.now.geometry in IfSome result (λ cost. cost
-        ≡ absolute_differences T.form.value
+    ensures { let size = block.now.geometry in SomeIff result
+        (IsInside plane.now.geometry x y size.width size.height)
+        (absolute_differences T.form.value
         (row_major (rectangle x y size.width size.height (table_of plane.now)))
         (row_major (table_of block.now))) }
 {
@@ -26,16 +28,17 @@ pub fn cost_of_block<T: Pixel>(
     Some(sum_of_absolute_differences(&region, block))
 }
 
-/// Returns how far a block is from the pixels that a motion vector points at, from column `x` of row `y` on, where the buffer has
-/// as many: some may lie in the border.
+/// Returns how far a block is from the pixels that a motion vector points at, from column `x` of row `y` on: some may lie in the
+/// border. `None` exactly where one is outside of the buffer.
 pub fn cost_of_vector<T: Pixel>(
     plane: &PlaneRef<'_, T>,
     block: &PlaneRef<'_, T>,
     x: isize,
     y: isize,
 ) -> Option<u128>
-    ensures { let size = block.now.geometry in let all = plane.now.geometry in IfSome result (λ cost. cost
-        ≡ absolute_differences T.form.value
+    ensures { let size = block.now.geometry in let all = plane.now.geometry in SomeIff result
+        (IsInBuffer all x y size.width size.height)
+        (absolute_differences T.form.value
         (row_major (rectangle (unsigned_abs (buffer_column all x)) (unsigned_abs (buffer_row all y))
         size.width size.height (whole_rows plane.now)))
         (row_major (table_of block.now))) }

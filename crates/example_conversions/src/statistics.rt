@@ -8,7 +8,8 @@ use v_frame::pixel::Pixel;
 use v_frame::plane::{PlaneRef, RowsRef};
 use v_frame_statistics::rows::{self, PairSums};
 use v_frame_statistics::{
-    count_pairs, count_pixels, histogram, histogram_of_depth, maximum, mean, minimum, pair_sums,
+    count_pairs, count_pixels, histogram, histogram_of_depth, maximum, minimum, pair_sums,
+    sum_and_count,
 };
 
 /// Returns how many pixels of two planes of one size are not the same.
@@ -77,7 +78,7 @@ pub fn brightness<T: Pixel>(plane: &PlaneRef<'_, T>) -> u128
     ensures { let pixels = row_major (table_of plane.now) in
         result ≡ sum_of_values T.form.value pixels / length pixels }
 {
-    let parts = mean(plane);
+    let parts = sum_and_count(plane);
     parts.sum / parts.count as u128
 }
 

@@ -47,7 +47,7 @@ fn read_frame_of_bytes(rt: &HostRuntime) -> Option<()> {
     );
     let mut reader = Counted::new([11, 12, 13, 14, 15, 16].as_slice());
     let read = read_frame(rt.alloc(), &mut reader, &mut frame);
-    show(rt, &(read, reader.inner().len(), frame.y_plane.data()));
+    show(rt, &(read, reader.get_ref().len(), frame.y_plane.data()));
     Some(())
 }
 
@@ -60,7 +60,7 @@ fn read_semi_planar_frame(rt: &HostRuntime) -> Option<()> {
     let mut frame = builder.build::<u8>(rt.alloc()).ok()?;
     let mut reader = Counted::new(NV12.as_slice());
     let read = v_frame_semi_planar::read_frame(rt.alloc(), &mut reader, &mut frame, Nv12);
-    show(rt, &(read, reader.inner().len()));
+    show(rt, &(read, reader.get_ref().len()));
     show_frame(rt, &frame);
     Some(())
 }

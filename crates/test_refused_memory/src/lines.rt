@@ -6,8 +6,8 @@ use std::alloc::AllocError;
 use v_frame::sequence::Sequence;
 use v_frame_planar::Counted;
 use v_frame_y4m::{
-    Color, Depth, Interlacing, Ratio, StreamHeader, Text, ended_line, header_line, parse_header,
-    parse_lax_header, read_header, read_lax_header, strict_line, write_header,
+    Color, Depth, Interlacing, Ratio, StreamHeader, Text, header_line, header_line_with_newline,
+    parse_header, parse_lax_header, read_header, read_lax_header, strict_line, write_header,
 };
 
 /// A header line with all its parameters, in front of a frame's line.
@@ -23,7 +23,7 @@ pub fn seen(rt: &HostRuntime, name: &str) -> Option<()> {
     let header = header_with(Vec::new(alloc).into());
     match name {
         "header_line" => show_line(rt, header_line(alloc, &header)),
-        "ended_line" => show_line(rt, ended_line(alloc, &header)),
+        "header_line_with_newline" => show_line(rt, header_line_with_newline(alloc, &header)),
         "strict_line" => show_line(rt, strict_line(alloc, &LAX[..50])),
         "text_of_bytes" => show(rt, &Text::new(alloc, b"C5")),
         "text_of_a_ratio" => show(rt, &ratio(30000, 1001).text(alloc)),
@@ -44,7 +44,7 @@ fn seen_of_streams(rt: &HostRuntime, name: &str) -> Option<()> {
         "read_lax_header" => {
             let mut reader = Counted::new(LAX.as_slice());
             let read = read_lax_header(rt.alloc(), &mut reader);
-            show(rt, &(read, str::from_utf8(reader.inner())));
+            show(rt, &(read, str::from_utf8(reader.get_ref())));
         }
         "write_header" => write_into_room(rt)?,
         _ => streams::seen(rt, name)?,
@@ -56,7 +56,7 @@ fn seen_of_streams(rt: &HostRuntime, name: &str) -> Option<()> {
 fn show_read(rt: &HostRuntime, stream: &[u8]) {
     let mut reader = Counted::new(stream);
     let read = read_header(rt.alloc(), &mut reader);
-    show(rt, &(read, str::from_utf8(reader.inner())));
+    show(rt, &(read, str::from_utf8(reader.get_ref())));
 }
 
 /// Shows a header that is written into room of a fixed length.
@@ -70,7 +70,7 @@ fn write_into_room(rt: &HostRuntime) -> Option<()> {
     let mut room = [0; 60];
     let mut writer = Counted::new(room.as_mut_slice());
     let written = write_header(rt.alloc(), &mut writer, &header);
-    let left = writer.inner().len();
+    let left = writer.get_ref().len();
     drop(writer);
     show(rt, &(written, left, str::from_utf8(&room)));
     Some(())

@@ -21,7 +21,7 @@ pub fn calls_that_take_no_memory(rt: &HostRuntime) -> Option<()> {
     let written = write_frame(&mut writer, &frame);
     show(
         rt,
-        &(written, *writer.inner().get_ref(), frame.y_plane.data()),
+        &(written, *writer.get_ref().get_ref(), frame.y_plane.data()),
     );
     show(rt, &lengths_of_empty_buffers(rt.alloc()));
     show_refused::<u8>(rt, sized(1920, 7));

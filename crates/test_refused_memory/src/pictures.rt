@@ -73,7 +73,7 @@ fn png_writer(rt: &HostRuntime, compression: Compression) {
     match made {
         Ok(png) => show(
             rt,
-            &(png.compression(), png.rows_left(), is_blank(png.inner())),
+            &(png.compression(), png.rows_left(), is_blank(png.get_ref())),
         ),
         Err(error) => show(rt, &error),
     }
@@ -93,7 +93,7 @@ fn png_of_words(rt: &HostRuntime, is_plane: bool) -> Option<()> {
     } else {
         png.write_rows_u16(rt.alloc(), &plane.as_rows_ref())
     };
-    show(rt, &(written, png.rows_left(), png.inner().len()));
+    show(rt, &(written, png.rows_left(), png.get_ref().len()));
     Some(())
 }
 
@@ -161,7 +161,7 @@ fn run_into_a_fixed_slice(rt: &HostRuntime) {
     let mut room = [0; 40];
     let mut out = Counted::new(room.as_mut_slice());
     let answer = run(rt.alloc(), &mut out, &[1, 2, 3, 4, 5, 6, 7, 8]);
-    show(rt, &(answer, out.failures(), out.inner().len()));
+    show(rt, &(answer, out.failures(), out.get_ref().len()));
     drop(out);
     show(rt, &str::from_utf8(&room));
 }

@@ -44,7 +44,7 @@ pub fn upscale<T: Copy>(
 /// rounded to the nearest value and upwards at a half. At an odd width the last column counts twice, and at an odd height the
 /// last row. The border of the target stays.
 ///
-/// It is [`resize`](crate::resize) by two halves at one depth, and faster. Ask [`subsampled_size`](crate::subsampled_size) for
+/// It is [`resample`](crate::resample) by two halves at one depth, and faster. Ask [`subsampled_size`](crate::subsampled_size) for
 /// the sizes of the target.
 pub fn downscale_to_edge<T: Pixel>(source: &PlaneRef<'_, T>, target: &mut Plane<T>)
     requires wide { target.old.geometry.width ≡ (source.now.geometry.width + 1) / 2 }
@@ -66,7 +66,7 @@ pub fn downscale_to_edge<T: Pixel>(source: &PlaneRef<'_, T>, target: &mut Plane<
 /// Shows in `target` what `source` shows, with half as many columns, rounded up: each pixel is the mean of two, rounded upwards
 /// at a half. At an odd width the last column is by itself. The border of the target stays.
 ///
-/// It is [`resize`](crate::resize) by a half of the columns at one depth, and faster.
+/// It is [`resample`](crate::resample) by a half of the columns at one depth, and faster.
 pub fn halve_columns<T: Pixel>(source: &PlaneRef<'_, T>, target: &mut Plane<T>)
     requires wide { target.old.geometry.width ≡ (source.now.geometry.width + 1) / 2 }
     requires high { target.old.geometry.height ≡ source.now.geometry.height }

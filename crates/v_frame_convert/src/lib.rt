@@ -19,4 +19,4 @@ pub use frame::{convert_frame, frames_fit};
 pub use map::map_into;
 pub use pixel::{depth_fits, subsampled_size};
 pub use range::{Component, to_full_range, to_limited_range};
-pub use scale::{Scale, resize, sizes_fit};
+pub use scale::{Scale, resample, sizes_fit};

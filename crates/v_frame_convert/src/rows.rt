@@ -17,4 +17,4 @@ pub use depth::convert_depth;
 pub use halve::{downscale_to_edge, halve_columns};
 pub use map::map_into;
 pub use range::{to_full_range, to_limited_range};
-pub use scale::resize;
+pub use scale::resample;

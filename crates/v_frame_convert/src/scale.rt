@@ -46,7 +46,7 @@ pub fn sizes_fit(scale: Scale, source: usize, target: usize) -> bool
 /// [`convert_depth`](crate::convert_depth).
 ///
 /// Ask [`sizes_fit`](sizes_fit) and [`depth_fits`](crate::depth_fits).
-pub fn resize<S: Pixel, T: Pixel>(
+pub fn resample<S: Pixel, T: Pixel>(
     source: &PlaneRef<'_, S>,
     target: &mut Plane<T>,
     across: Scale,
@@ -70,7 +70,7 @@ pub fn resize<S: Pixel, T: Pixel>(
         height,
         stride,
     } = target.visible_mut();
-    rows::resize(
+    rows::resample(
         &source, entries, width, height, stride, across, down, from, to,
     );
 }

@@ -9,6 +9,7 @@ use v_frame::plane::PlaneRef;
 
 /// Returns the sum of the absolute differences of the pixels of two planes, pixel by pixel. It is exact, and never too
 /// large.
+#[inline(always)]
 pub fn sum_of_absolute_differences<T: Pixel>(a: &PlaneRef<'_, T>, b: &PlaneRef<'_, T>) -> u128
     requires wide { a.now.geometry.width ≡ b.now.geometry.width }
     requires high { a.now.geometry.height ≡ b.now.geometry.height }
@@ -20,6 +21,7 @@ pub fn sum_of_absolute_differences<T: Pixel>(a: &PlaneRef<'_, T>, b: &PlaneRef<'
 
 /// Returns the sum of the squares of the differences of the pixels of two planes, pixel by pixel. It is exact, and never too
 /// large.
+#[inline(always)]
 pub fn sum_of_squared_errors<T: Pixel>(a: &PlaneRef<'_, T>, b: &PlaneRef<'_, T>) -> u128
     requires wide { a.now.geometry.width ≡ b.now.geometry.width }
     requires high { a.now.geometry.height ≡ b.now.geometry.height }

@@ -51,7 +51,7 @@ impl<D> Counted<D> {
     }
 
     /// Returns the reader or the writer.
-    pub fn inner(&self) -> &D
+    pub fn get_ref(&self) -> &D
         ensures { result.now ≡ self.now.inner }
     {
         &self.inner

@@ -23,5 +23,5 @@ mod writing;
 pub use counted::{Counted, WriteFault};
 pub use error::PlanarError;
 pub use reading::{planar_len, read_frame, read_until_full};
-pub use video::{ratios_or_one, video_frame};
+pub use video::{subsample_ratio_or_one, video_frame};
 pub use writing::write_frame;

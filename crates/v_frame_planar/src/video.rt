@@ -65,7 +65,7 @@ fn luma_frame<T: Pixel>(
     ensures blank { let request = video_request width height subsampling bit_depth padding in
         IfOk result (HasBlankLuma T.ZERO request) }
 {
-    let (columns, rows) = ratios_or_one(subsampling);
+    let (columns, rows) = subsample_ratio_or_one(subsampling);
     // A padding that is too large to be counted stays too large, and is refused with the row or the buffer.
     let across = padding.div_ceil(columns).saturating_mul(columns);
     let down = padding.div_ceil(rows).saturating_mul(rows);
@@ -100,7 +100,7 @@ fn with_chroma<T: Pixel>(
 
 /// Returns how many luma columns and luma rows there are for one chroma column and one chroma row: 1 and 1 where the format
 /// has no chroma.
-pub fn ratios_or_one(subsampling: ChromaSubsampling) -> (usize, usize)
+pub fn subsample_ratio_or_one(subsampling: ChromaSubsampling) -> (usize, usize)
     ensures value { result ≡ ratio_or_one subsampling }
     ensures positive { (0 < result.0) × (0 < result.1) }
 {

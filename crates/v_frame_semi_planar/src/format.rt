@@ -10,7 +10,7 @@ use v_frame::chroma::ChromaSubsampling;
 use v_frame::frame::Frame;
 use v_frame::pixel::Pixel;
 use v_frame::plane::Plane;
-use v_frame_planar::ratios_or_one;
+use v_frame_planar::subsample_ratio_or_one;
 
 /// A semi-planar layout, by the name that ffmpeg's pixel formats have: the rows of luma come first, then rows in which the
 /// pixels of U and V are by turns. Chroma has as many columns and rows as it takes to cover luma.
@@ -90,7 +90,7 @@ impl SemiPlanarFormat {
     pub fn chroma_size(self, width: usize, height: usize) -> (usize, usize)
         ensures { Some result ≡ chroma_sizes_of (subsampling_of self) width height }
     {
-        let (columns, rows) = ratios_or_one(self.subsampling());
+        let (columns, rows) = subsample_ratio_or_one(self.subsampling());
         (width.div_ceil(columns), height.div_ceil(rows))
     }
 }

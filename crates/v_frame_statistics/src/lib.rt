@@ -20,4 +20,4 @@ pub use extremes::{maximum, minimum};
 pub use histograms::{histogram, histogram_of_depth};
 pub use pairs::pair_sums;
 pub use summary::statistics;
-pub use sums::{mean, sum, variance};
+pub use sums::{sum, sum_and_count, variance_sums};

@@ -14,4 +14,4 @@ pub use extremes::{maximum, minimum};
 pub use histograms::{histogram, histogram_into, histogram_of_depth};
 pub use pairs::{PairSums, pair_sums};
 pub use summary::{PictureStatistics, statistics};
-pub use sums::{SumAndCount, VarianceSums, mean, sum, variance};
+pub use sums::{SumAndCount, VarianceSums, sum, sum_and_count, variance_sums};

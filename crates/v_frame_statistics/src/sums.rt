@@ -17,18 +17,18 @@ pub fn sum<T: Pixel>(plane: &PlaneRef<'_, T>) -> u128
 }
 
 /// Returns the two numbers whose quotient is the mean of the visible pixels.
-pub fn mean<T: Pixel>(plane: &PlaneRef<'_, T>) -> SumAndCount
+pub fn sum_and_count<T: Pixel>(plane: &PlaneRef<'_, T>) -> SumAndCount
     ensures sum { result.sum ≡ sum_of_values T.form.value (row_major (table_of plane.now)) }
     ensures count { result.count ≡ length (row_major (table_of plane.now)) }
     ensures size { result.count ≡ plane.now.geometry.height * plane.now.geometry.width }
     ensures positive { 0 < result.count }
 {
-    rows::mean(&plane.as_rows_ref())
+    rows::sum_and_count(&plane.as_rows_ref())
 }
 
 /// Returns the sums of which the variance of the visible pixels is made: it is `sum_of_squares / count` less the square of
 /// `sum / count`.
-pub fn variance<T: Pixel>(plane: &PlaneRef<'_, T>) -> VarianceSums
+pub fn variance_sums<T: Pixel>(plane: &PlaneRef<'_, T>) -> VarianceSums
     ensures sum { result.sum ≡ sum_of_values T.form.value (row_major (table_of plane.now)) }
     ensures squares { result.sum_of_squares
         ≡ sum_of_squares T.form.value (row_major (table_of plane.now)) }
@@ -36,5 +36,5 @@ pub fn variance<T: Pixel>(plane: &PlaneRef<'_, T>) -> VarianceSums
     ensures size { result.count ≡ plane.now.geometry.height * plane.now.geometry.width }
     ensures positive { 0 < result.count }
 {
-    rows::variance(&plane.as_rows_ref())
+    rows::variance_sums(&plane.as_rows_ref())
 }

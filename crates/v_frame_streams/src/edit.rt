@@ -13,7 +13,7 @@ use v_frame_convert::downscale_to_edge;
 use v_frame_formats::Rectangle;
 use v_frame_ops::copy_region;
 use v_frame_ops::laws::tables_agree_by_pixels;
-use v_frame_planar::ratios_or_one;
+use v_frame_planar::subsample_ratio_or_one;
 
 /// What is made of each plane of a frame.
 #[derive(Clone, Copy)]
@@ -35,7 +35,7 @@ impl Edit {
           half = half;
         } }
     {
-        let (columns, rows) = ratios_or_one(subsampling);
+        let (columns, rows) = subsample_ratio_or_one(subsampling);
         Edit {
             luma,
             chroma: Rectangle {

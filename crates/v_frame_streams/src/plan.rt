@@ -13,7 +13,7 @@ use crate::options::CopyOptions;
 use std::alloc::{AllocError, Global};
 use v_frame::sequence::Sequence;
 use v_frame_formats::Rectangle;
-use v_frame_planar::ratios_or_one;
+use v_frame_planar::subsample_ratio_or_one;
 use v_frame_y4m::{Ratio, StreamHeader};
 
 /// Returns the rectangle that a copy takes of each picture of a stream.
@@ -51,7 +51,7 @@ pub(crate) fn test_crop(crop: &Rectangle, header: &StreamHeader) -> Result<(), P
     if !crop.lies_in(header.width, header.height) {
         return Err(Problem::CropOutside);
     }
-    let (columns, rows) = ratios_or_one(header.color.subsampling());
+    let (columns, rows) = subsample_ratio_or_one(header.color.subsampling());
     if crop.x % columns != 0 || crop.y % rows != 0 {
         return Err(Problem::CropMisaligned { columns, rows });
     }

@@ -29,7 +29,7 @@ pub fn header_line(alloc: Global, header: &StreamHeader) -> Result<Vec<u8>, Allo
 /// # Errors
 ///
 /// [`AllocError`] where a request for memory was refused.
-pub fn ended_line(alloc: Global, header: &StreamHeader) -> Result<Vec<u8>, AllocError>
+pub fn header_line_with_newline(alloc: Global, header: &StreamHeader) -> Result<Vec<u8>, AllocError>
     ensures { IfOk result (λ line. line.items ≡ header_line header.now ++ line_feed ∷ []) }
 {
     let mut line = header_line(alloc, header)?;

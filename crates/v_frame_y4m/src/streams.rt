@@ -9,7 +9,7 @@ ghost use Rattle.v_frame_y4m.specs.Streams.{IsFrameLine, MayStopInBytes, MayStop
 
 use crate::error::Y4mError;
 use crate::header::StreamHeader;
-use crate::line::ended_line;
+use crate::line::header_line_with_newline;
 use crate::lines::read_line;
 use crate::parsing::parse_header;
 use std::alloc::Global;
@@ -71,7 +71,7 @@ pub fn write_header<W: io::Write>(
     ensures cause { MatchResult result (λ _. writer.new.last_failure ≡ writer.old.last_failure)
         (TellsStreamCause writer.old.last_failure writer.new.last_failure) }
 {
-    let line = ended_line(alloc, header)?;
+    let line = header_line_with_newline(alloc, header)?;
     writer.write_all(line.as_slice())?;
     Ok(())
 }

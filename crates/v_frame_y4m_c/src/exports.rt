@@ -24,7 +24,7 @@ use crate::status::{
     status_of_line, status_of_numbers,
 };
 use std::alloc::Global;
-use v_frame_y4m::{ended_line, is_frame_line, is_lax_frame_line, parse_lax_header};
+use v_frame_y4m::{header_line_with_newline, is_frame_line, is_lax_frame_line, parse_lax_header};
 
 /// Parses a header line, without its line feed, or one as lax producers write it, which stands for a strict one.
 #[unsafe(no_mangle)]
@@ -127,7 +127,7 @@ pub extern "C" fn v_frame_y4m_write_header(
         Ok(found) => found,
         Err(fault) => return status_of_numbers(&fault),
     };
-    let Ok(line) = ended_line(alloc, &found) else {
+    let Ok(line) = header_line_with_newline(alloc, &found) else {
         return OUT_OF_MEMORY;
     };
     *needed = line.len();

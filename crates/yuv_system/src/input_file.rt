@@ -133,7 +133,7 @@ fn is_magic(bytes: &[u8]) -> bool
 impl<F: OpenFile, I> InputFile<F, I> {
     /// Returns how many bytes the file has. `None` where it is no regular file.
     pub fn len(&self) -> Option<u64> {
-        match self.reader.inner() {
+        match self.reader.get_ref() {
             Reader::File(file) => match file.metadata() {
                 Ok(found) if found.is_file() => Some(found.len()),
                 _ => None,

@@ -11,7 +11,7 @@ use support::{for_type, for_types};
 use v_frame_proved::chroma::ChromaSubsampling::{self, Monochrome, Yuv411, Yuv420, Yuv422, Yuv444};
 use v_frame_proved::convert::{
     Component, Scale, convert_depth, convert_frame, depth_fits, downscale_to_edge, frames_fit, halve_columns, map_into,
-    resize, sizes_fit, subsampled_size, to_full_range, to_limited_range, upscale,
+    resample, sizes_fit, subsampled_size, to_full_range, to_limited_range, upscale,
 };
 use v_frame_proved::frame::{Frame, FrameBuilder};
 use v_frame_proved::pixel::Pixel;
@@ -123,7 +123,7 @@ fn resizes<S: Pixel, T: Pixel>(mut case: Case<'_>) {
     let mut target = numbered::<T>(case.layout(), target_factor, 0);
     assert!(sizes_fit(across, source.width(), target.width()), "{case}");
     assert!(sizes_fit(down, source.height(), target.height()), "{case}");
-    resize(&source.as_plane_ref(), &mut target, across, down, from, to);
+    resample(&source.as_plane_ref(), &mut target, across, down, from, to);
     case.expect(&[weighted(target.data())]);
 }
 

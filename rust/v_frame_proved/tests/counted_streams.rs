@@ -20,11 +20,11 @@ fn a_write_is_one_call_and_no_flush() {
         [(&[1, 2, 3][..], Some(2), 1, 0, 0), (&[], Some(0), 2, 1, 0), (&[3], None, 3, 1, 1)]
     {
         assert_eq!(out.write(bytes).ok(), taken);
-        assert_eq!((out.inner().counts(), out.failures()), ([writes, empty_writes, 0], failures));
-        assert_eq!(out.inner().taken, [1, 2]);
+        assert_eq!((out.get_ref().counts(), out.failures()), ([writes, empty_writes, 0], failures));
+        assert_eq!(out.get_ref().taken, [1, 2]);
     }
     assert_eq!(out.write_all(&[]), Ok(()));
-    assert_eq!((out.inner().counts(), out.failures()), ([3, 1, 0], 1));
+    assert_eq!((out.get_ref().counts(), out.failures()), ([3, 1, 0], 1));
 }
 
 #[test]
@@ -40,8 +40,8 @@ fn writing_all_calls_until_all_is_taken_or_a_call_fails() {
     ] {
         let mut out = Counted::new(writer(most).after_calls(takes, Then::Fails(ErrorKind::Interrupted)));
         assert_eq!(out.write_all(&[1, 2, 3, 4, 5]), answer, "{takes} calls of {most}");
-        assert_eq!((out.inner().counts(), out.failures()), ([calls, 0, 0], failures));
-        assert_eq!(out.inner().taken, [1, 2, 3, 4, 5][..taken]);
+        assert_eq!((out.get_ref().counts(), out.failures()), ([calls, 0, 0], failures));
+        assert_eq!(out.get_ref().taken, [1, 2, 3, 4, 5][..taken]);
     }
 }
 
@@ -49,10 +49,10 @@ fn writing_all_calls_until_all_is_taken_or_a_call_fails() {
 fn a_read_is_one_call() {
     let mut input = Counted::new(reader(&[1, 2, 3, 4], 3).fails_after_calls(2, ErrorKind::Interrupted));
     let mut buf = [0; 4];
-    assert_eq!((input.read(&mut buf).ok(), input.inner().reads), (Some(3), 1));
-    assert_eq!((input.read(&mut []).ok(), input.inner().reads), (Some(0), 2));
-    assert_eq!((input.read(&mut buf).ok(), input.inner().reads), (None, 3));
-    assert_eq!((buf, input.failures(), input.inner().left), ([1, 2, 3, 0], 1, &[4][..]));
+    assert_eq!((input.read(&mut buf).ok(), input.get_ref().reads), (Some(3), 1));
+    assert_eq!((input.read(&mut []).ok(), input.get_ref().reads), (Some(0), 2));
+    assert_eq!((input.read(&mut buf).ok(), input.get_ref().reads), (None, 3));
+    assert_eq!((buf, input.failures(), input.get_ref().left), ([1, 2, 3, 0], 1, &[4][..]));
 }
 
 /// A stream that fails at each call for one cause.
@@ -114,9 +114,9 @@ fn a_picture_is_read_written_and_sent_on_its_way_by_a_flush() {
     assert_eq!(picture.v_plane.as_ref().and_then(|plane| plane.row(0)), Some(&[9, 10][..]));
     let mut out = Counted::new(io::BufWriter::new(writer(usize::MAX)));
     assert_eq!(write_frame(&mut out, &picture), Ok(()));
-    assert_eq!(out.inner().get_ref().taken, []);
+    assert_eq!(out.get_ref().get_ref().taken, []);
     assert!(out.flush().is_ok());
-    assert_eq!((&out.inner().get_ref().taken[..], failures(&out)), (&bytes[..10], (None, 0)));
+    assert_eq!((&out.get_ref().get_ref().taken[..], failures(&out)), (&bytes[..10], (None, 0)));
 }
 
 /// A writer that fails at each write, counts its flushes, and fails at each after the second.
@@ -137,10 +137,10 @@ impl Write for Flushing {
 #[test]
 fn a_flush_is_one_call_and_its_failure_is_counted() {
     let mut out = Counted::new(Flushing::default());
-    assert_eq!((out.flush().is_ok(), out.inner().0, failures(&out)), (true, 1, (None, 0)));
+    assert_eq!((out.flush().is_ok(), out.get_ref().0, failures(&out)), (true, 1, (None, 0)));
     assert!(out.write(&[1]).is_err());
-    assert_eq!((out.flush().is_ok(), out.inner().0, failures(&out)), (true, 2, (Some(ErrorKind::BrokenPipe), 1)));
-    assert_eq!((out.flush().is_ok(), out.inner().0, failures(&out)), (false, 3, (Some(ErrorKind::StorageFull), 2)));
+    assert_eq!((out.flush().is_ok(), out.get_ref().0, failures(&out)), (true, 2, (Some(ErrorKind::BrokenPipe), 1)));
+    assert_eq!((out.flush().is_ok(), out.get_ref().0, failures(&out)), (false, 3, (Some(ErrorKind::StorageFull), 2)));
     assert!(out.write(&[1]).is_err());
     assert_eq!(failures(&out), (Some(ErrorKind::BrokenPipe), 3));
 }
@@ -150,9 +150,9 @@ fn check_slow<T: Pixel>(frame: &Frame<T>, bytes: &[u8], most: &[usize]) {
     for &most in most {
         let mut out = Counted::new(writer(most));
         assert_eq!(write_frame(&mut out, frame), Ok(()), "{most} bytes a call");
-        let [writes, empty_writes, flushes] = out.inner().counts();
+        let [writes, empty_writes, flushes] = out.get_ref().counts();
         assert_eq!((empty_writes, flushes, out.failures()), (0, 0, 0), "{most} bytes a call");
-        assert!(writes >= bytes.len() / most && out.inner().taken == bytes, "{most} bytes a call");
+        assert!(writes >= bytes.len() / most && out.get_ref().taken == bytes, "{most} bytes a call");
     }
 }
 
@@ -189,7 +189,7 @@ fn a_long_text_goes_out_whole() {
     for most in [1, 4099, usize::MAX] {
         let mut out = Counted::new(writer(most));
         assert_eq!(out.write_all(&text), Ok(()));
-        assert_eq!((out.inner().taken == text, out.inner().writes), (true, text.len().div_ceil(most)));
+        assert_eq!((out.get_ref().taken == text, out.get_ref().writes), (true, text.len().div_ceil(most)));
     }
     // A slice takes it where it has room.
     for (room, answer) in [(1_200_007, Ok(())), (1_200_008, Ok(())), (1_200_006, Err(WriteFault::TookNothing))] {
@@ -227,8 +227,8 @@ fn a_large_picture_goes_out_whole() {
         for most in [1, usize::MAX] {
             let mut out = Counted::new(writer(most));
             assert_eq!(write(&mut out, &picture, has_line), Ok(()));
-            assert!(out.inner().taken == bytes);
-            assert!(most > 1 || out.inner().writes == bytes.len());
+            assert!(out.get_ref().taken == bytes);
+            assert!(most > 1 || out.get_ref().writes == bytes.len());
         }
         for (less, answer) in [(0, Ok(())), (1, Err(Y4mError::Planar(PlanarError::WriteZero)))] {
             let mut target = vec![0; bytes.len() - less];

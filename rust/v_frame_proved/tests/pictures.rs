@@ -161,7 +161,7 @@ fn stops(out: Writer, then: Then, compression: Compression, rows: &RowsRef<'_, u
     let mut png = PngWriter::with_compression(out, picture, compression).expect("begun");
     let error = png.write_rows(rows).and_then(|_| png.finish()).expect_err("a failure");
     must_be_of(&error, then);
-    assert_eq!(png.inner().taken, taken);
+    assert_eq!(png.get_ref().taken, taken);
     assert!(matches!(png.finish(), Err(PngError::Closed)));
     assert!(matches!(png.write_row(&[0; 15]), Err(PngError::Closed)));
 }
@@ -189,9 +189,9 @@ fn an_early_failure_closes() {
     let mut png = PngWriter::new(writer(5).after_bytes(100, then), picture).expect("begun");
     png.write_row(&bytes).expect("a row that waits");
     must_be_of(&png.write_row(&bytes).expect_err("a failure"), then);
-    assert_eq!(png.inner().taken.len(), 100);
+    assert_eq!(png.get_ref().taken.len(), 100);
     assert!(matches!(png.write_row(&bytes), Err(PngError::Closed)));
-    assert_eq!(png.inner().taken.len(), 100);
+    assert_eq!(png.get_ref().taken.len(), 100);
 }
 
 #[test]

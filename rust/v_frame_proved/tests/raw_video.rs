@@ -177,7 +177,7 @@ fn frames_are_read_in_pieces_whole_or_not_at_all() {
             let pieces = reader(&bytes[..length], most).fails_after_calls(calls, ErrorKind::Interrupted);
             let mut input = Counted::new(pieces);
             assert_eq!(read_frame(&mut input, &mut frame), answer, "{length} bytes, {calls} calls of {most}");
-            assert_eq!((input.failures(), input.inner().left.len()), (failures, left));
+            assert_eq!((input.failures(), input.get_ref().left.len()), (failures, left));
             assert_eq!(frame, six_bytes(if answer.is_ok() { [1, 2, 3, 4, 5, 6] } else { before }));
         }
     }
@@ -187,7 +187,7 @@ fn frames_are_read_in_pieces_whole_or_not_at_all() {
 fn borders_are_kept() {
     let mut frame = bordered(&[1, 2, 3, 4, 5, 6]);
     let mut reader = Counted::new([11, 12, 13, 14, 15, 16].as_slice());
-    assert_eq!((read_frame(&mut reader, &mut frame), reader.inner().len()), (Ok(true), 0));
+    assert_eq!((read_frame(&mut reader, &mut frame), reader.get_ref().len()), (Ok(true), 0));
     assert_eq!(frame, bordered(&[11, 12, 13, 14, 15, 16]));
 }
 
@@ -204,7 +204,7 @@ fn words_are_read_low_byte_first() {
 fn planes_that_a_user_replaced_are_read_and_written() {
     let mut frame = without_u([0; 6], [0; 6]);
     let mut reader = Counted::new([1, 2, 3, 4, 5, 6, 7, 8, 9, 10, 11, 12].as_slice());
-    assert_eq!((read_frame(&mut reader, &mut frame), reader.inner().len()), (Ok(true), 2));
+    assert_eq!((read_frame(&mut reader, &mut frame), reader.get_ref().len()), (Ok(true), 2));
     assert_eq!(frame, without_u([1, 2, 3, 4, 0, 0], [5, 6, 7, 8, 9, 10]));
     let mut out = Counted::new(Vec::new());
     assert_eq!(write_frame(&mut out, &without_u([1, 2, 3, 4, 5, 6], [9, 8, 7, 6, 5, 4])), Ok(()));
@@ -220,7 +220,7 @@ fn check_writes<T: Pixel>(frame: &Frame<T>, bytes: &[u8], calls: usize, then: Th
     let mut out = Counted::new(writer(1).after_calls(calls, then));
     assert_eq!(write_frame(&mut out, frame), answer, "{then:?} after {calls} calls");
     assert_eq!(out.failures(), u64::from(answer == Err(PlanarError::Write)));
-    assert_eq!(out.inner().taken, bytes[..calls.min(bytes.len())]);
+    assert_eq!(out.get_ref().taken, bytes[..calls.min(bytes.len())]);
 }
 
 #[test]

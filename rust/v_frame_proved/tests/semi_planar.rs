@@ -105,7 +105,7 @@ fn writes_fail_in_turn<T: Pixel>(format: SemiPlanarFormat) {
         let answer = write_frame(&mut out, &frame, format);
         assert_eq!(answer, Err(SemiPlanarError::Planar(PlanarError::Write)), "after {count} bytes");
         assert_eq!((out.last_failure(), out.failures()), (Some(ErrorKind::StorageFull), 1));
-        assert_eq!(out.inner().taken, bytes[..count]);
+        assert_eq!(out.get_ref().taken, bytes[..count]);
     }
 }
 
@@ -120,7 +120,7 @@ fn reads_fail_in_turn<T: Pixel>(format: SemiPlanarFormat) {
         let answer = read_frame(&mut input, &mut frame, format);
         assert_eq!(answer, Err(SemiPlanarError::Planar(PlanarError::Read)), "after {count} bytes");
         assert_eq!((input.last_failure(), input.failures()), (Some(ErrorKind::Interrupted), 1));
-        assert_eq!(input.inner().left, &bytes[count..]);
+        assert_eq!(input.get_ref().left, &bytes[count..]);
         let truncated = PlanarError::Truncated { expected: bytes.len(), found: count };
         let wanted = if count == 0 { Ok(false) } else { Err(SemiPlanarError::Planar(truncated)) };
         assert_eq!(read_frame(&mut Counted::new(&bytes[..count]), &mut frame, format), wanted);
@@ -142,10 +142,10 @@ fn is_refused<T: Pixel>(frame: &mut Frame<T>, format: SemiPlanarFormat, wanted: 
     assert_eq!(check_layout(frame, format), Err(wanted));
     let mut out = Counted::new(writer(usize::MAX));
     assert_eq!(write_frame(&mut out, frame, format), Err(wanted));
-    assert_eq!(out.inner().writes, 0);
+    assert_eq!(out.get_ref().writes, 0);
     let mut input = Counted::new([7; 200].as_slice());
     assert_eq!(read_frame(&mut input, frame, format), Err(wanted));
-    assert_eq!(input.inner().len(), 200);
+    assert_eq!(input.get_ref().len(), 200);
     assert_eq!(*frame, before);
 }
 

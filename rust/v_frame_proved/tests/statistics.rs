@@ -10,8 +10,8 @@ use v_frame_proved::pixel::Pixel;
 use v_frame_proved::plane::{Plane, PlaneRef};
 use v_frame_proved::statistics::rows::{self, PairSums, SumAndCount, VarianceSums};
 use v_frame_proved::statistics::{
-    count_pairs, count_pixels, histogram, histogram_of_depth, maximum, mean, minimum, pair_sums, statistics, sum,
-    variance,
+    count_pairs, count_pixels, histogram, histogram_of_depth, maximum, minimum, pair_sums, statistics, sum,
+    sum_and_count, variance_sums,
 };
 
 const CASES: &str = include_str!("data/statistics.txt");
@@ -34,7 +34,7 @@ fn counts<T: Pixel>(mut case: Case<'_>) {
     let above = |pixel: T| pixel.into() > limit;
     assert_eq!(rows::count_pixels(&a.as_rows_ref(), above), count_pixels(&a, above), "{case}");
     let (differ, less) = (count_pairs(&a, &b, |p, q| p != q), count_pairs(&a, &b, |p, q| p < q));
-    let mean = mean(&a);
+    let mean = sum_and_count(&a);
     let found = [count_pixels(&a, above), differ, less, minimum(&a).into().into(), maximum(&a).into().into()];
     case.expect(&[&found[..], &[mean.sum as usize / mean.count]].concat());
 }
@@ -90,8 +90,8 @@ fn sums<T: Pixel>(mut case: Case<'_>) {
     case.expect(&fields(pairs));
     let PairSums { first, second, second_squares: sum_of_squares, .. } = pairs;
     assert_eq!((sum(&a), sum(&b)), (first, second), "{case}");
-    assert_eq!(mean(&a), SumAndCount { sum: first, count }, "{case}");
-    assert_eq!(variance(&b), VarianceSums { sum: second, sum_of_squares, count }, "{case}");
+    assert_eq!(sum_and_count(&a), SumAndCount { sum: first, count }, "{case}");
+    assert_eq!(variance_sums(&b), VarianceSums { sum: second, sum_of_squares, count }, "{case}");
     let found = statistics(&b);
     assert_eq!((found.sum, found.sum_of_squares, found.count), (second, sum_of_squares, count), "{case}");
     assert_eq!((found.minimum, found.maximum), (minimum(&b), maximum(&b)), "{case}");

@@ -233,7 +233,7 @@ fn goes_through<T: Pixel>(line: &str) {
     assert_eq!(read_header(&mut input).as_ref(), Ok(&header));
     let mut other = header.frame::<T>(5).expect("memory");
     assert_eq!(read_frame(&mut input, &mut other), Ok(true));
-    assert!(input.inner().is_empty() && other == frame);
+    assert!(input.get_ref().is_empty() && other == frame);
     let mut out = Counted::new(Vec::new());
     assert_eq!(planar::write_frame(&mut out, &frame), Ok(()));
     assert!(out.into_inner() == bytes);

@@ -13,7 +13,7 @@ use v_frame::plane::RowsRef;
 /// rounded to the nearest value and upwards at a half. At an odd width the last column counts twice, and at an odd height the
 /// last row.
 ///
-/// It is [`resize`](super::resize) by two halves at one depth, and faster.
+/// It is [`resample`](super::resample) by two halves at one depth, and faster.
 #[tactic(auto, using(v_frame_raster::proofs::tables::StridedWrites::row_ends))]
 pub fn downscale_to_edge<T: Pixel>(
     source: &RowsRef<'_, T>,
@@ -41,7 +41,7 @@ pub fn downscale_to_edge<T: Pixel>(
 /// Makes the rows show what `source` shows, with half as many columns, rounded up: each pixel is the mean of two, rounded
 /// upwards at a half. At an odd width the last column is by itself.
 ///
-/// It is [`resize`](super::resize) by a half of the columns at one depth, and faster.
+/// It is [`resample`](super::resample) by a half of the columns at one depth, and faster.
 #[tactic(auto, using(v_frame_raster::proofs::tables::StridedWrites::row_ends))]
 pub fn halve_columns<T: Pixel>(
     source: &RowsRef<'_, T>,

@@ -20,7 +20,7 @@ use v_frame::plane::RowsRef;
 /// from 4:4:4 to 4:2:0 by two halves. The value then becomes one of depth `to`, as in [`convert_depth`](super::convert_depth).
 ///
 /// Ask [`sizes_fit`](crate::sizes_fit) and [`depth_fits`](crate::depth_fits).
-pub fn resize<S: Pixel, T: Pixel>(
+pub fn resample<S: Pixel, T: Pixel>(
     source: &RowsRef<'_, S>,
     buffer: &mut [T],
     width: usize,

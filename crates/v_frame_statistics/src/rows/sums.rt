@@ -40,7 +40,7 @@ pub fn sum<T: Pixel>(rows: &RowsRef<'_, T>) -> u128
 }
 
 /// Returns the two numbers whose quotient is the mean.
-pub fn mean<T: Pixel>(rows: &RowsRef<'_, T>) -> SumAndCount
+pub fn sum_and_count<T: Pixel>(rows: &RowsRef<'_, T>) -> SumAndCount
     ensures sum { result.sum ≡ sum_of_values T.form.value (row_major rows.now) }
     ensures count { result.count ≡ length (row_major rows.now) }
     ensures size { result.count ≡ height_of rows.now * width_of rows.now }
@@ -53,7 +53,7 @@ pub fn mean<T: Pixel>(rows: &RowsRef<'_, T>) -> SumAndCount
 }
 
 /// Returns the sums of which the variance is made.
-pub fn variance<T: Pixel>(rows: &RowsRef<'_, T>) -> VarianceSums
+pub fn variance_sums<T: Pixel>(rows: &RowsRef<'_, T>) -> VarianceSums
     ensures sum { result.sum ≡ sum_of_values T.form.value (row_major rows.now) }
     ensures squares { result.sum_of_squares ≡ sum_of_squares T.form.value (row_major rows.now) }
     ensures count { result.count ≡ length (row_major rows.now) }

@@ -1,7 +1,7 @@
 //! The cases, and what each does.
 
 use crate::desk::Desk;
-use crate::{blocks, operations, reads, replays, writes};
+use crate::{blocks, operations, reads, writes};
 use v_frame::chroma::ChromaSubsampling;
 use v_frame::pixel::Pixel;
 
@@ -41,13 +41,10 @@ pub enum Case {
     CopyFromBytes,
     CopyFromStrided,
     CopyToBytes,
-    ReplayPixelMut,
-    ReplayRow,
-    ReplayCopy,
 }
 
 /// The names of the cases, in the order in which they are measured.
-pub const CASES: [(&str, Case); 42] = [
+pub const CASES: [(&str, Case); 39] = [
     ("build_mono", Case::BuildMono),
     ("build_420", Case::Build420),
     ("clone_plane", Case::ClonePlane),
@@ -87,9 +84,6 @@ pub const CASES: [(&str, Case); 42] = [
     ("copy_from_u8_slice", Case::CopyFromBytes),
     ("copy_from_u8_slice_with_stride", Case::CopyFromStrided),
     ("copy_byte_data", Case::CopyToBytes),
-    ("replay_pixel_mut", Case::ReplayPixelMut),
-    ("replay_row", Case::ReplayRow),
-    ("replay_copy_from_slice", Case::ReplayCopy),
 ];
 
 /// Does the work of a case once, and gives a number that depends on it.
@@ -117,9 +111,6 @@ pub fn work<T: Pixel>(case: Case, desk: &mut Desk<T>) -> u64 {
         Case::AbsoluteOfSixteens => blocks::absolute_of_fixed::<T, 16>(luma, other),
         Case::AbsoluteOfPlanesOfEight => blocks::absolute_of_planes::<T, 8>(luma, other),
         Case::AbsoluteOfPlanesOfSixteen => blocks::absolute_of_planes::<T, 16>(luma, other),
-        Case::ReplayPixelMut => replays::replay_pixels(desk),
-        Case::ReplayRow => replays::replay_rows(desk),
-        Case::ReplayCopy => replays::replay_copy(desk),
         _ => {
             write(case, desk);
             0

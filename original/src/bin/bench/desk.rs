@@ -1,7 +1,6 @@
 //! What the cases of a type of pixels work on.
 
 use crate::cases::Case;
-use crate::replays::{CALLS, Call, TIMES, copy_calls, pixel_calls, row_calls};
 use crate::writes::build;
 use v_frame::chroma::ChromaSubsampling;
 use v_frame::frame::Frame;
@@ -23,7 +22,7 @@ pub struct Plan {
     pub repetitions: u16,
 }
 
-/// Frames, sources, targets and lists of calls.
+/// Frames, sources and targets.
 pub struct Desk<T: Pixel> {
     pub plan: Plan,
     pub depth: u8,
@@ -41,9 +40,6 @@ pub struct Desk<T: Pixel> {
     /// A target of bytes.
     pub buffer: Vec<u8>,
     pub places: Vec<(usize, usize)>,
-    pub pixel_calls: Vec<Call<T>>,
-    pub row_calls: Vec<Call<T>>,
-    pub copy_calls: Vec<Call<T>>,
     /// The pixel that this run writes.
     pub value: T,
 }
@@ -54,7 +50,6 @@ impl<T: Pixel> Desk<T> {
         let (count, seed) = (width * height, usize::from(plan.seed));
         let row = width * size_of::<T>();
         let stride = row + TAIL;
-        let places = places(plan);
         Desk {
             plan,
             depth,
@@ -67,10 +62,7 @@ impl<T: Pixel> Desk<T> {
             strided: bytes(stride * height, seed),
             stride,
             buffer: bytes(row * height, 0),
-            pixel_calls: pixel_calls(&places),
-            row_calls: row_calls(),
-            copy_calls: copy_calls((0..count).map(|place| pixel_of(seed + place)).collect()),
-            places,
+            places: places(plan),
             value: T::from(0),
         }
     }
@@ -79,8 +71,6 @@ impl<T: Pixel> Desk<T> {
     pub fn pixels_of(&self, case: Case) -> usize {
         match case {
             Case::PixelScattered | Case::PixelMutScattered => PLACES,
-            Case::ReplayPixelMut => CALLS * TIMES,
-            Case::ReplayRow => CALLS * usize::from(self.plan.width),
             _ => self.source.len(),
         }
     }

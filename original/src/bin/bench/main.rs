@@ -11,8 +11,6 @@ mod desk;
 #[cfg_attr(feature = "proved", path = "proved/operations.rs")]
 mod operations;
 mod reads;
-#[cfg_attr(feature = "proved", path = "proved/replays.rs")]
-mod replays;
 mod writes;
 
 use cases::{CASES, work};

@@ -122,20 +122,20 @@ pub const CASES: &[Case] = &[
         words(4, 3), &mut words(4, 3), Chroma, 17
     ),
     case!(
-        convert::resize, "width of source (7) and the width of target (3) do not belong together at the scale Half",
+        convert::resample, "width of source (7) and the width of target (3) do not belong together at the scale Half",
         plane(7, 5), &mut plane(3, 5), Half, Same, 8, 8
     ),
     case!(
-        convert::resize, "height of source (5) and the height of target (8) do not belong together at the scale Double",
+        convert::resample, "height of source (5) and the height of target (8) do not belong together at the scale Double",
         plane(7, 5), &mut plane(7, 8), Same, Double, 8, 8
     ),
-    case!(convert::resize, "down is Scale::Quarter", plane(7, 5), &mut plane(7, 2), Same, Quarter, 8, 8),
+    case!(convert::resample, "down is Scale::Quarter", plane(7, 5), &mut plane(7, 2), Same, Quarter, 8, 8),
     case!(
-        convert::resize, "from (9) is below 8 or above the bits of a pixel of 1 bytes",
+        convert::resample, "from (9) is below 8 or above the bits of a pixel of 1 bytes",
         plane(7, 5), &mut plane(7, 5), Same, Same, 9, 8
     ),
     case!(
-        convert::resize, "to (17) is below 8 or above the bits of a pixel of 2 bytes",
+        convert::resample, "to (17) is below 8 or above the bits of a pixel of 2 bytes",
         plane(7, 5), &mut words(7, 5), Same, Same, 8, 17
     ),
     case!(
@@ -247,24 +247,24 @@ pub const CASES: &[Case] = &[
         rows(4, 3), &mut [0; 12], 4, 3, 4, Chroma, 9
     ),
     case!(
-        convert::rows::resize, "3 rows of 4 entries, 4 apart, do not fit 11 entries",
+        convert::rows::resample, "3 rows of 4 entries, 4 apart, do not fit 11 entries",
         rows(7, 3), &mut [0_u8; 11], 4, 3, 4, Half, Same, 8, 8
     ),
     case!(
-        convert::rows::resize, "width of source (7) and width (4) do not belong together at the scale Quarter",
+        convert::rows::resample, "width of source (7) and width (4) do not belong together at the scale Quarter",
         rows(7, 3), &mut [0_u8; 12], 4, 3, 4, Quarter, Same, 8, 8
     ),
     case!(
-        convert::rows::resize, "height of source (3) and height (2) do not belong together at the scale Same",
+        convert::rows::resample, "height of source (3) and height (2) do not belong together at the scale Same",
         rows(7, 3), &mut [0_u8; 12], 4, 2, 4, Half, Same, 8, 8
     ),
-    case!(convert::rows::resize, "down is Scale::Quarter", rows(7, 12), &mut [0_u8; 12], 4, 3, 4, Half, Quarter, 8, 8),
+    case!(convert::rows::resample, "down is Scale::Quarter", rows(7, 12), &mut [0_u8; 12], 4, 3, 4, Half, Quarter, 8, 8),
     case!(
-        convert::rows::resize, "from (7) is below 8 or above the bits of a pixel of 1 bytes",
+        convert::rows::resample, "from (7) is below 8 or above the bits of a pixel of 1 bytes",
         rows(7, 3), &mut [0_u8; 12], 4, 3, 4, Half, Same, 7, 8
     ),
     case!(
-        convert::rows::resize, "to (9) is below 8 or above the bits of a pixel of 1 bytes",
+        convert::rows::resample, "to (9) is below 8 or above the bits of a pixel of 1 bytes",
         rows(7, 3), &mut [0_u8; 12], 4, 3, 4, Half, Same, 8, 9
     ),
 ];

@@ -9,7 +9,7 @@ use Rattle.v_frame_convert.proofs.frame.convert_chroma.Goals as goal
 
 pub returns-in-Some-source-clause-table : goal.returns-in-Some-source-clause-table
 returns-in-Some-source-clause-table g c =
-    rw (c.in-Some.is, c.in-Some-source.is, ← c.as_plane_ref.ensures) (ap Some c.resize.ensures.table)
+    rw (c.in-Some.is, c.in-Some-source.is, ← c.as_plane_ref.ensures) (ap Some c.resample.ensures.table)
 
 pub returns-in-None-clause-table : goal.returns-in-None-clause-table
 returns-in-None-clause-table g c =

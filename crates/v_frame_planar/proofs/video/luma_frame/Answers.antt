@@ -25,7 +25,7 @@ returns g c =
       c.saturating_mul-down.ensures,
       c.div_ceil.ensures,
       c.div_ceil-2.ensures,
-      c.ratios_or_one-columns.ensures.value,
+      c.subsample_ratio_or_one-columns.ensures.value,
     ))) in
     let made =
     luma_as_asked g.T.Pixel.ZERO g.T.Pixel.BYTES a.width a.height a.bit_depth a.padding a.subsampling c.build.result

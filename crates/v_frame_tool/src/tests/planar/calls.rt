@@ -83,7 +83,7 @@ fn check_read(
 ) {
     let found = reader.read(buf).ok();
     same_at(rt, found, count, reads);
-    same(rt, reader.inner().reads, reads);
+    same(rt, reader.get_ref().reads, reads);
     same_at(rt, &*buf, left, reads);
 }
 
@@ -95,5 +95,5 @@ fn a_read_is_one_call(rt: HostRuntime) {
     check_read(rt, &mut reader, &mut buf, (Some(3), 1, &[1, 2, 3, 0]));
     check_read(rt, &mut reader, &mut [], (Some(0), 2, &[]));
     check_read(rt, &mut reader, &mut buf, (None, 3, &[1, 2, 3, 0]));
-    same(rt, (reader.failures(), reader.inner().left.len()), (1, 1));
+    same(rt, (reader.failures(), reader.get_ref().left.len()), (1, 1));
 }

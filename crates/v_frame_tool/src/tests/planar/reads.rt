@@ -66,7 +66,7 @@ fn check_pieces(rt: &impl Test, number: usize, case: &Piecewise, before: [u8; 6]
     let mut reader = Counted::new(pieces_of(*bytes, *most, *calls));
     let read = read_frame(rt.alloc(), &mut reader, &mut frame);
     must_show(rt, &read, *answer);
-    let told = (reader.failures(), reader.inner().left.len());
+    let told = (reader.failures(), reader.get_ref().left.len());
     same_at(rt, told, (*failures, *left), number);
     let shown = if read.is_ok() {
         [1, 2, 3, 4, 5, 6]
@@ -95,7 +95,7 @@ fn borders_are_kept(rt: HostRuntime) {
     let mut frame = with_buffer(rt, BORDERED, &IN_200);
     let mut reader = Counted::new([11, 12, 13, 14, 15, 16].as_slice());
     let read = read_frame(rt.alloc(), &mut reader, &mut frame);
-    same(rt, (read, reader.inner().len()), (Ok(true), 0));
+    same(rt, (read, reader.get_ref().len()), (Ok(true), 0));
     must_show_rows(rt, &luma(frame), BORDERED, &READ_IN_200);
 }
 
@@ -109,7 +109,7 @@ fn check_read<T: Pixel>(
     let mut reader = Counted::new([1, 2, 3, 4, 5, 6, 7, 8, 9, 10, 11, 12].as_slice());
     let read = read_frame(rt.alloc(), &mut reader, &mut frame);
     same(rt, read, Ok(true));
-    same(rt, reader.inner().len(), left);
+    same(rt, reader.get_ref().len(), left);
     must_have_plane(rt, &frame, 0, y);
     must_have_plane(rt, &frame, 1, u);
     must_have_plane(rt, &frame, 2, v);

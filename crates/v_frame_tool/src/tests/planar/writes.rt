@@ -20,7 +20,7 @@ type Written = (usize, Habit, &'static str, u64, &'static [u8]);
 fn check_writes<T: Pixel>(rt: &impl Test, frame: Frame<T>, bytes: &[u8], cases: &[Written]) {
     let mut out = Counted::new(Vec::new(rt.alloc()));
     same(rt, write_frame(&mut out, &frame), Ok(()));
-    same(rt, out.inner().as_slice(), bytes);
+    same(rt, out.get_ref().as_slice(), bytes);
     for (calls, habit, answer, failures, taken) in cases {
         let mut out = watched_writer(rt.alloc(), 1, *calls, *habit);
         let written = write_frame(&mut out, &frame);

@@ -81,12 +81,12 @@ pub fn must_have_taken(
     (failures, bytes): (u64, &[u8]),
     case: usize,
 ) {
-    let taken = out.inner().taken.as_slice();
+    let taken = out.get_ref().taken.as_slice();
     same_at(rt, (out.failures(), taken), (failures, bytes), case);
 }
 
 /// Returns the calls of `write`, those that offered nothing, and the calls of `flush`.
 pub fn calls_of(out: &Counted<WatchedWriter>) -> [usize; 3] {
-    let writer = out.inner();
+    let writer = out.get_ref();
     [writer.writes, writer.empty_writes, writer.flushes]
 }

@@ -7,7 +7,7 @@ use crate::generated::v_frame_y4m_c::status::{
     LAX_LINE, NO_FRAME, OK, OUT_OF_MEMORY, SHORT_BUFFER, SIZE_TOO_LARGE, letter_of, status_of,
     status_of_line, status_of_numbers,
 };
-use v_frame_proved::y4m::{ended_line, is_frame_line, is_lax_frame_line, parse_lax_header};
+use v_frame_proved::y4m::{header_line_with_newline, is_frame_line, is_lax_frame_line, parse_lax_header};
 
 /// Parses a header line, without its line feed, or one as lax producers write it, which stands for a strict one.
 ///
@@ -102,7 +102,7 @@ pub unsafe extern "C" fn v_frame_y4m_write_header(
         Ok(found) => found,
         Err(fault) => return status_of_numbers(&fault),
     };
-    let Ok(line) = ended_line(&found) else {
+    let Ok(line) = header_line_with_newline(&found) else {
         return OUT_OF_MEMORY;
     };
     *needed = line.len();

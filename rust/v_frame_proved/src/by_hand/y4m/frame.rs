@@ -6,7 +6,7 @@ use crate::crop::CropError;
 use crate::frame::{Frame, FrameError};
 use crate::measures::FrameMeasure;
 use crate::pixel::Pixel;
-use crate::planar::ratios_or_one;
+use crate::planar::subsample_ratio_or_one;
 use crate::plane::Plane;
 use crate::quality::{FramePsnr, MeasureError, frame_mean_squared_error, frame_psnr, frame_ssim};
 
@@ -167,7 +167,7 @@ impl From<Frame<u16>> for VideoFrame {
 /// Returns whether a frame has the format of a header, and each plane its size.
 fn has_size<T: Pixel>(frame: &Frame<T>, header: &StreamHeader) -> bool {
     let size = |plane: &Plane<T>| (plane.width(), plane.height());
-    let (columns, rows) = ratios_or_one(frame.subsampling);
+    let (columns, rows) = subsample_ratio_or_one(frame.subsampling);
     let chroma = (header.width.div_ceil(columns), header.height.div_ceil(rows));
     let chroma = frame.subsampling.has_chroma().then_some(chroma);
     frame.subsampling == header.color.subsampling()

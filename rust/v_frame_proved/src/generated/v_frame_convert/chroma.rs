@@ -49,7 +49,7 @@ pub fn upscale<T: Copy>(
 /// rounded to the nearest value and upwards at a half. At an odd width the last column counts twice, and at an odd height the
 /// last row. The border of the target stays.
 ///
-/// It is [`resize`](crate::convert::resize) by two halves at one depth, and faster. Ask [`subsampled_size`](crate::convert::subsampled_size) for
+/// It is [`resample`](crate::convert::resample) by two halves at one depth, and faster. Ask [`subsampled_size`](crate::convert::subsampled_size) for
 /// the sizes of the target.
 ///
 /// # Panics
@@ -83,7 +83,7 @@ pub fn downscale_to_edge<T: Pixel>(source: impl AsPlaneRef<Pixel = T>, target: &
 /// Shows in `target` what `source` shows, with half as many columns, rounded up: each pixel is the mean of two, rounded upwards
 /// at a half. At an odd width the last column is by itself. The border of the target stays.
 ///
-/// It is [`resize`](crate::convert::resize) by a half of the columns at one depth, and faster.
+/// It is [`resample`](crate::convert::resample) by a half of the columns at one depth, and faster.
 ///
 /// # Panics
 ///

@@ -3,7 +3,7 @@
 
 use crate::generated::v_frame_convert::depth::convert_depth;
 use crate::generated::v_frame_convert::pixel::depth_fits;
-use crate::generated::v_frame_convert::scale::{Scale, resize, sizes_fit};
+use crate::generated::v_frame_convert::scale::{Scale, resample, sizes_fit};
 use crate::generated::v_frame::chroma::ChromaSubsampling;
 use crate::generated::v_frame::frame::Frame;
 use crate::generated::v_frame::pixel::Pixel;
@@ -12,7 +12,7 @@ use crate::generated::v_frame_ops::fill;
 
 /// Shows in `target` what `source` shows, in the target's bit depth and chroma format. Borders stay.
 ///
-/// Luma is converted as by [`convert_depth`], and each chroma plane that the target has as by [`resize`]: where its format has
+/// Luma is converted as by [`convert_depth`], and each chroma plane that the target has as by [`resample`]: where its format has
 /// fewer of them, chroma pixels are means, and where it has more they are repeated. Chroma planes that the target doesn't have
 /// are left out. Those that the source doesn't have are filled with the middle of the target's depth, which is no color.
 ///
@@ -182,7 +182,7 @@ fn convert_chroma<S: Pixel, T: Pixel>(
 ) {
     if let Some(target) = target {
         match source {
-            Some(source) => resize(&source.as_plane_ref(), target, across, down, from, to),
+            Some(source) => resample(&source.as_plane_ref(), target, across, down, from, to),
             None => fill(target, middle(to)),
         }
     }

@@ -39,7 +39,7 @@
 //! // Sizes and depth in one.
 //! assert!(convert::sizes_fit(Scale::Half, 3, 2));
 //! let mut deep = Plane::<u16>::new(row_of(2))?;
-//! convert::resize(&source, &mut deep, Scale::Half, Scale::Same, 8, 10);
+//! convert::resample(&source, &mut deep, Scale::Half, Scale::Same, 8, 10);
 //! assert_eq!(deep[0], [60, 124]);
 //! # Ok::<(), v_frame_proved::AllocError>(())
 //! ```
@@ -62,4 +62,4 @@ pub use frame::{convert_frame, frames_fit};
 pub use map::map_into;
 pub use pixel::{depth_fits, subsampled_size};
 pub use range::{Component, to_full_range, to_limited_range};
-pub use scale::{Scale, resize, sizes_fit};
+pub use scale::{Scale, resample, sizes_fit};

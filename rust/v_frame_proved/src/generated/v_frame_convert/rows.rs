@@ -32,7 +32,7 @@
 //! assert_eq!(half, [15, 31]);
 //! rows::upscale(&RowsRef::new(&half, 2, 1, 2).unwrap(), &mut bytes, 3, 1, 3, 2, 1);
 //! assert_eq!(bytes, [15, 15, 31]);
-//! rows::resize(&source, &mut words, 2, 1, 2, Scale::Half, Scale::Same, 8, 10);
+//! rows::resample(&source, &mut words, 2, 1, 2, Scale::Half, Scale::Same, 8, 10);
 //! assert_eq!(words[..2], [60, 124]);
 //! ```
 
@@ -49,4 +49,4 @@ pub use depth::convert_depth;
 pub use halve::{downscale_to_edge, halve_columns};
 pub use map::map_into;
 pub use range::{to_full_range, to_limited_range};
-pub use scale::resize;
+pub use scale::resample;

@@ -55,7 +55,7 @@ pub fn sizes_fit(scale: Scale, source: usize, target: usize) -> bool {
 /// - where `to` is below 8 or above the bits of `T`.
 #[track_caller]
 #[inline]
-pub fn resize<S: Pixel, T: Pixel>(
+pub fn resample<S: Pixel, T: Pixel>(
     source: impl AsPlaneRef<Pixel = S>,
     target: &mut Plane<T>,
     across: Scale,
@@ -88,7 +88,7 @@ pub fn resize<S: Pixel, T: Pixel>(
         height,
         stride,
     } = target.visible_mut();
-    rows::resize(
+    rows::resample(
         &source, entries, width, height, stride, across, down, from, to,
     );
 }

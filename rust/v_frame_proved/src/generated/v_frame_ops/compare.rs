@@ -14,8 +14,8 @@ use crate::generated::v_frame::pixel::Pixel;
 ///
 /// - where the widths of `a` and `b` are not equal,
 /// - where the heights of `a` and `b` are not equal.
+#[inline(always)]
 #[track_caller]
-#[inline]
 #[must_use]
 pub fn sum_of_absolute_differences<T: Pixel>(a: impl AsPlaneRef<Pixel = T>, b: impl AsPlaneRef<Pixel = T>) -> u128 {
     let a = &a.as_plane_ref();
@@ -40,8 +40,8 @@ pub fn sum_of_absolute_differences<T: Pixel>(a: impl AsPlaneRef<Pixel = T>, b: i
 ///
 /// - where the widths of `a` and `b` are not equal,
 /// - where the heights of `a` and `b` are not equal.
+#[inline(always)]
 #[track_caller]
-#[inline]
 #[must_use]
 pub fn sum_of_squared_errors<T: Pixel>(a: impl AsPlaneRef<Pixel = T>, b: impl AsPlaneRef<Pixel = T>) -> u128 {
     let a = &a.as_plane_ref();

@@ -26,7 +26,7 @@ pub enum WriteFault {
 /// assert_eq!(writer.write(b"a")?, 1);
 /// assert_eq!(writer.write_all(b"bc"), Ok(()));
 /// writer.flush()?;
-/// assert_eq!(writer.inner(), b"abc");
+/// assert_eq!(writer.get_ref(), b"abc");
 /// let bytes = writer.into_inner();
 ///
 /// let mut reader = Counted::new(&bytes[..]);
@@ -73,7 +73,7 @@ impl<D> Counted<D> {
     /// Returns the reader or the writer.
     #[inline]
     #[must_use]
-    pub fn inner(&self) -> &D {
+    pub fn get_ref(&self) -> &D {
         &self.inner
     }
 

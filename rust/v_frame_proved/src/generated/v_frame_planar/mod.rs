@@ -17,7 +17,7 @@
 //! use v_frame_proved::planar::{self, Counted, PlanarError};
 //!
 //! // An odd size: chroma is rounded up. Y has six bytes, U and V two each.
-//! assert_eq!(planar::ratios_or_one(ChromaSubsampling::Yuv420), (2, 2));
+//! assert_eq!(planar::subsample_ratio_or_one(ChromaSubsampling::Yuv420), (2, 2));
 //! let mut frame = planar::video_frame::<u8>(3, 2, ChromaSubsampling::Yuv420, 8, 0)?;
 //! assert_eq!(planar::planar_len(&frame), 10);
 //!
@@ -46,5 +46,5 @@ mod writing;
 pub use counted::{Counted, WriteFault};
 pub use error::PlanarError;
 pub use reading::{planar_len, read_frame, read_until_full};
-pub use video::{ratios_or_one, video_frame};
+pub use video::{subsample_ratio_or_one, video_frame};
 pub use writing::write_frame;

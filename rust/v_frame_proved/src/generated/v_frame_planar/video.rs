@@ -42,7 +42,7 @@ fn luma_frame<T: Pixel>(
     bit_depth: u8,
     padding: usize,
 ) -> Result<Frame<T>, FrameError> {
-    let (columns, rows) = ratios_or_one(subsampling);
+    let (columns, rows) = subsample_ratio_or_one(subsampling);
     // A padding that is too large to be counted stays too large, and is refused with the row or the buffer.
     let across = padding.div_ceil(columns).saturating_mul(columns);
     let down = padding.div_ceil(rows).saturating_mul(rows);
@@ -74,7 +74,7 @@ fn with_chroma<T: Pixel>(
 /// has no chroma.
 #[inline]
 #[must_use]
-pub fn ratios_or_one(subsampling: ChromaSubsampling) -> (usize, usize) {
+pub fn subsample_ratio_or_one(subsampling: ChromaSubsampling) -> (usize, usize) {
     match subsampling.subsample_ratio() {
         Some((columns, rows)) => (usize::from(columns.get()), usize::from(rows.get())),
         None => (1, 1),

@@ -6,7 +6,7 @@ use crate::generated::v_frame::chroma::ChromaSubsampling;
 use crate::generated::v_frame::frame::Frame;
 use crate::generated::v_frame::pixel::Pixel;
 use crate::generated::v_frame::plane::Plane;
-use crate::generated::v_frame_planar::ratios_or_one;
+use crate::generated::v_frame_planar::subsample_ratio_or_one;
 
 /// A semi-planar layout, by the name that ffmpeg's pixel formats have: the rows of luma come first, then rows in which the
 /// pixels of U and V are by turns. Chroma has as many columns and rows as it takes to cover luma.
@@ -32,10 +32,10 @@ use crate::generated::v_frame_planar::ratios_or_one;
 /// assert_eq!(semi_planar::semi_planar_len(&frame, format)?, 6);
 /// let mut writer = Counted::new(Vec::new());
 /// semi_planar::write_frame(&mut writer, &frame, format)?;
-/// assert_eq!(writer.inner()[..], [1, 1, 1, 1, 3, 2]);
+/// assert_eq!(writer.get_ref()[..], [1, 1, 1, 1, 3, 2]);
 ///
 /// let mut read = FrameBuilder::new(2, 2, ChromaSubsampling::Yuv420, 8).build::<u8>()?;
-/// let mut reader = Counted::new(&writer.inner()[..]);
+/// let mut reader = Counted::new(&writer.get_ref()[..]);
 /// assert!(semi_planar::read_frame(&mut reader, &mut read, format)?);
 /// assert_eq!(read, frame);
 /// assert!(!semi_planar::read_frame(&mut reader, &mut read, format)?);
@@ -117,7 +117,7 @@ impl SemiPlanarFormat {
     #[inline]
     #[must_use]
     pub fn chroma_size(self, width: usize, height: usize) -> (usize, usize) {
-        let (columns, rows) = ratios_or_one(self.subsampling());
+        let (columns, rows) = subsample_ratio_or_one(self.subsampling());
         (width.div_ceil(columns), height.div_ceil(rows))
     }
 }

@@ -21,9 +21,9 @@
 //!
 //! // Sums, of which a mean and a variance are quotients.
 //! assert_eq!(statistics::sum(&a), 12);
-//! let mean = statistics::mean(&a);
+//! let mean = statistics::sum_and_count(&a);
 //! assert_eq!(mean.sum as f64 / mean.count as f64, 3.0);
-//! let sums = statistics::variance(&a);
+//! let sums = statistics::variance_sums(&a);
 //! assert_eq!((sums.sum, sums.sum_of_squares, sums.count), (12, 50, 4));
 //! let all = statistics::statistics(&a);
 //! assert_eq!((all.sum, all.sum_of_squares, all.count, all.minimum, all.maximum), (12, 50, 4, 1, 6));
@@ -53,4 +53,4 @@ pub use extremes::{maximum, minimum};
 pub use histograms::{histogram, histogram_of_depth};
 pub use pairs::pair_sums;
 pub use summary::statistics;
-pub use sums::{mean, sum, variance};
+pub use sums::{sum, sum_and_count, variance_sums};

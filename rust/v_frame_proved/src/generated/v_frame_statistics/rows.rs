@@ -18,8 +18,8 @@
 //! assert_eq!(rows::histogram(&b)[1], 2);
 //!
 //! assert_eq!(rows::sum(&a), 12);
-//! assert_eq!(rows::mean(&a), SumAndCount { sum: 12, count: 4 });
-//! assert_eq!(rows::variance(&a), VarianceSums { sum: 12, sum_of_squares: 50, count: 4 });
+//! assert_eq!(rows::sum_and_count(&a), SumAndCount { sum: 12, count: 4 });
+//! assert_eq!(rows::variance_sums(&a), VarianceSums { sum: 12, sum_of_squares: 50, count: 4 });
 //! let all = PictureStatistics { sum: 12, sum_of_squares: 50, count: 4, minimum: 1, maximum: 6 };
 //! assert_eq!(rows::statistics(&a), all);
 //! let pairs = PairSums { first: 12, second: 12, first_squares: 50, second_squares: 54, products: 51 };
@@ -45,4 +45,4 @@ pub use extremes::{maximum, minimum};
 pub use histograms::{histogram, histogram_into, histogram_of_depth};
 pub use pairs::{PairSums, pair_sums};
 pub use summary::{PictureStatistics, statistics};
-pub use sums::{SumAndCount, VarianceSums, mean, sum, variance};
+pub use sums::{SumAndCount, VarianceSums, sum, sum_and_count, variance_sums};

@@ -17,16 +17,16 @@ pub fn sum<T: Pixel>(plane: impl AsPlaneRef<Pixel = T>) -> u128 {
 /// Returns the two numbers whose quotient is the mean of the visible pixels.
 #[inline]
 #[must_use]
-pub fn mean<T: Pixel>(plane: impl AsPlaneRef<Pixel = T>) -> SumAndCount {
+pub fn sum_and_count<T: Pixel>(plane: impl AsPlaneRef<Pixel = T>) -> SumAndCount {
     let plane = &plane.as_plane_ref();
-    rows::mean(&plane.as_rows_ref())
+    rows::sum_and_count(&plane.as_rows_ref())
 }
 
 /// Returns the sums of which the variance of the visible pixels is made: it is `sum_of_squares / count` less the square of
 /// `sum / count`.
 #[inline]
 #[must_use]
-pub fn variance<T: Pixel>(plane: impl AsPlaneRef<Pixel = T>) -> VarianceSums {
+pub fn variance_sums<T: Pixel>(plane: impl AsPlaneRef<Pixel = T>) -> VarianceSums {
     let plane = &plane.as_plane_ref();
-    rows::variance(&plane.as_rows_ref())
+    rows::variance_sums(&plane.as_rows_ref())
 }

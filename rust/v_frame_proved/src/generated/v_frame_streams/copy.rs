@@ -52,7 +52,7 @@ use crate::generated::v_frame_y4m::StreamHeader;
 /// assert_eq!((options.layout(), options.layout_to(Container::Raw, None)), (None, None));
 /// assert_eq!(options.color(header.color), header.color);
 /// assert_eq!(copy_stream(&mut source, &mut sink, &options, &mut Silent)?, 1);
-/// assert_eq!(sink.writer.inner(), &[1, 2, 33, 34]);
+/// assert_eq!(sink.writer.get_ref(), &[1, 2, 33, 34]);
 ///
 /// /// Counts what it is told.
 /// struct Told(u64);

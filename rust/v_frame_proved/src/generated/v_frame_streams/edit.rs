@@ -8,7 +8,7 @@ use crate::generated::v_frame::plane::{Plane, PlaneRef};
 use crate::generated::v_frame_convert::downscale_to_edge;
 use crate::generated::v_frame_formats::Rectangle;
 use crate::generated::v_frame_ops::copy_region;
-use crate::generated::v_frame_planar::ratios_or_one;
+use crate::generated::v_frame_planar::subsample_ratio_or_one;
 
 /// What is made of each plane of a frame.
 #[derive(Clone, Copy)]
@@ -24,7 +24,7 @@ pub(crate) struct Edit {
 impl Edit {
     /// Takes a rectangle, in luma pixels, of frames of this format, and the chroma that stands beside it.
     pub(crate) fn new(luma: Rectangle, subsampling: ChromaSubsampling, half: bool) -> Self {
-        let (columns, rows) = ratios_or_one(subsampling);
+        let (columns, rows) = subsample_ratio_or_one(subsampling);
         Edit {
             luma,
             chroma: Rectangle {

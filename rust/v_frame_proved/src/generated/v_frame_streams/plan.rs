@@ -10,7 +10,7 @@ use crate::generated::v_frame_streams::options::CopyOptions;
 use crate::support::AllocError;
 use crate::generated::v_frame::sequence::Sequence;
 use crate::generated::v_frame_formats::Rectangle;
-use crate::generated::v_frame_planar::ratios_or_one;
+use crate::generated::v_frame_planar::subsample_ratio_or_one;
 use crate::generated::v_frame_y4m::{Ratio, StreamHeader};
 
 /// Returns the rectangle that a copy takes of each picture of a stream.
@@ -43,7 +43,7 @@ pub(crate) fn test_crop(crop: &Rectangle, header: &StreamHeader) -> Result<(), P
     if !crop.lies_in(header.width, header.height) {
         return Err(Problem::CropOutside);
     }
-    let (columns, rows) = ratios_or_one(header.color.subsampling());
+    let (columns, rows) = subsample_ratio_or_one(header.color.subsampling());
     if crop.x % columns != 0 || crop.y % rows != 0 {
         return Err(Problem::CropMisaligned { columns, rows });
     }

@@ -25,7 +25,7 @@ use crate::generated::v_frame_y4m::{StreamHeader, Y4mError, write_header};
 /// sink.write_header(source.header())?;
 /// sink.write_frame(&video_frame::<u8>(32, 1, source.header().color.subsampling(), 8, 0)?)?;
 /// assert_eq!((sink.frames, sink.container), (1, Container::Y4m));
-/// assert_eq!(sink.writer.inner()[..], [&line[..], b"FRAME\n", &[0; 32]].concat());
+/// assert_eq!(sink.writer.get_ref()[..], [&line[..], b"FRAME\n", &[0; 32]].concat());
 /// # Ok::<(), Box<dyn std::error::Error>>(())
 /// ```
 pub struct Sink<W> {

@@ -28,7 +28,7 @@ pub fn header_line(header: &StreamHeader) -> Result<Vec<u8>, AllocError> {
 ///
 /// [`AllocError`] where a request for memory was refused.
 #[inline]
-pub fn ended_line(header: &StreamHeader) -> Result<Vec<u8>, AllocError> {
+pub fn header_line_with_newline(header: &StreamHeader) -> Result<Vec<u8>, AllocError> {
     let mut line = header_line(header)?;
     line.try_push(b'\n')?;
     Ok(line)

@@ -34,7 +34,7 @@ pub use header::{Interlacing, Ratio, StreamHeader};
 pub use lax::{
     is_lax_frame_line, parse_lax_header, read_lax_frame_line, read_lax_header, strict_line,
 };
-pub use line::{ended_line, header_line};
+pub use line::{header_line, header_line_with_newline};
 pub use parsing::parse_header;
 pub use streams::{
     MAX_LINE_BYTES, is_frame_line, read_frame, read_frame_line, read_header, write_frame,

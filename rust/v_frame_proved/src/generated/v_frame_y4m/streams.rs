@@ -3,7 +3,7 @@
 
 use crate::generated::v_frame_y4m::error::Y4mError;
 use crate::generated::v_frame_y4m::header::StreamHeader;
-use crate::generated::v_frame_y4m::line::ended_line;
+use crate::generated::v_frame_y4m::line::header_line_with_newline;
 use crate::generated::v_frame_y4m::lines::read_line;
 use crate::generated::v_frame_y4m::parsing::parse_header;
 use std::io;
@@ -35,7 +35,7 @@ pub const MAX_LINE_BYTES: usize = 1024;
 /// let mut frame = header.frame::<u8>(0)?;
 /// let mut writer = Counted::new(Vec::new());
 /// y4m::write_header(&mut writer, &header)?;
-/// assert_eq!(writer.inner()[..], y4m::ended_line(&header)?);
+/// assert_eq!(writer.get_ref()[..], y4m::header_line_with_newline(&header)?);
 /// while y4m::read_frame(&mut reader, &mut frame)? {
 ///     y4m::write_frame(&mut writer, &frame)?;
 /// }
@@ -81,7 +81,7 @@ pub fn write_header<W: io::Write>(
         header.is_writable(),
         "a header of {}x{} has no line: a size is 0, or an extension has a space or a line feed", header.width, header.height
     );
-    let line = ended_line(header)?;
+    let line = header_line_with_newline(header)?;
     writer.write_all(line.as_slice())?;
     Ok(())
 }

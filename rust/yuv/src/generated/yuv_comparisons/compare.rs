@@ -8,7 +8,7 @@ use std::io;
 use crate::support::fs::Files;
 use crate::support::time::Clock;
 use v_frame_proved::chroma::ChromaSubsampling;
-use v_frame_proved::planar::ratios_or_one;
+use v_frame_proved::planar::subsample_ratio_or_one;
 use v_frame_proved::streams::{
     Comparison, FrameObserver, Place, PlaneSums, Progress, Source, StreamError, compare_streams,
 };
@@ -132,7 +132,7 @@ pub(crate) fn samples_of(header: &StreamHeader) -> PlaneSums {
     let chroma = match header.color.subsampling() {
         ChromaSubsampling::Monochrome => None,
         subsampling => {
-            let (columns, rows) = ratios_or_one(subsampling);
+            let (columns, rows) = subsample_ratio_or_one(subsampling);
             Some(header.width.div_ceil(columns) as u128 * header.height.div_ceil(rows) as u128)
         }
     };
@@ -145,7 +145,7 @@ pub(crate) fn samples_of(header: &StreamHeader) -> PlaneSums {
 
 /// Tests whether each plane of a frame has a window of structural similarity, which is 8 samples wide and high.
 pub(crate) fn test_windows(header: &StreamHeader) -> Result<(), Fault> {
-    let (columns, rows) = ratios_or_one(header.color.subsampling());
+    let (columns, rows) = subsample_ratio_or_one(header.color.subsampling());
     if header.width.div_ceil(columns) < 8 || header.height.div_ceil(rows) < 8 {
         return Err(Fault::NoWindow(Place::First));
     }

@@ -29,7 +29,7 @@ use crate::generated::v_frame::plane::RowsRef;
 /// - where `to` is below 8 or above the bits of `T`.
 #[track_caller]
 #[inline]
-pub fn resize<S: Pixel, T: Pixel>(
+pub fn resample<S: Pixel, T: Pixel>(
     source: impl AsRowsRef<Pixel = S>,
     buffer: &mut [T],
     width: usize,

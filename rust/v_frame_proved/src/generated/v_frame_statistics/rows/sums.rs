@@ -41,7 +41,7 @@ pub fn sum<T: Pixel>(rows: impl AsRowsRef<Pixel = T>) -> u128 {
 /// Returns the two numbers whose quotient is the mean.
 #[inline]
 #[must_use]
-pub fn mean<T: Pixel>(rows: impl AsRowsRef<Pixel = T>) -> SumAndCount {
+pub fn sum_and_count<T: Pixel>(rows: impl AsRowsRef<Pixel = T>) -> SumAndCount {
     let rows = &rows.as_rows_ref();
     SumAndCount {
         sum: sum(rows),
@@ -52,7 +52,7 @@ pub fn mean<T: Pixel>(rows: impl AsRowsRef<Pixel = T>) -> SumAndCount {
 /// Returns the sums of which the variance is made.
 #[inline]
 #[must_use]
-pub fn variance<T: Pixel>(rows: impl AsRowsRef<Pixel = T>) -> VarianceSums {
+pub fn variance_sums<T: Pixel>(rows: impl AsRowsRef<Pixel = T>) -> VarianceSums {
     let rows = &rows.as_rows_ref();
     let (mut sum, mut sum_of_squares) = (0, 0);
     for y in 0..rows.height() {

@@ -1,6 +1,6 @@
 -- One more row.
 use Rattle.v_frame_statistics.proofs.SumSteps.{row_summed}
-use Rattle.v_frame_statistics.proofs.rows.sums.variance.Goals as goal
+use Rattle.v_frame_statistics.proofs.rows.sums.variance_sums.Goals as goal
 
 pub loop-y-preserved : goal.loop-y-preserved
 loop-y-preserved g c =

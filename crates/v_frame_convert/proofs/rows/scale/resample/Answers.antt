@@ -1,6 +1,6 @@
 -- A depth that fits its pixels has no more values than they have.
 use Rattle.v_frame_convert.proofs.Depths.{depth_within}
-use Rattle.v_frame_convert.proofs.rows.scale.resize.Goals as goal
+use Rattle.v_frame_convert.proofs.rows.scale.resample.Goals as goal
 
 pub scale_rows-requires-clause-depth : goal.scale_rows-requires-clause-depth
 scale_rows-requires-clause-depth g c κs within =

@@ -1,7 +1,7 @@
 -- The rows so far are summed.
 use Rattle.std.proofs.Common.{◌*◌}
 use Rattle.v_frame_statistics.proofs.SumSteps.{SummedAbove}
-use Rattle.v_frame_statistics.proofs.rows.sums.variance.Given as goal
+use Rattle.v_frame_statistics.proofs.rows.sums.variance_sums.Given as goal
 
 abbrev pub invariant-loop-y : goal.invariant-loop-y
 invariant-loop-y g l = record {
