@@ -1,5 +1,3 @@
 mod Bounds
 mod ByTurns
-mod Parts
-mod Rectangles
 mod Statuses

@@ -1,3 +1,4 @@
 pub mod Mapped
 mod Changed
+mod Parts
 mod Tables

@@ -20,36 +20,7 @@ pub record MovedBelow {T : Type 0} (from : ℕ → ℕ) (width top : ℕ) (old n
   pub inside : (k : ℕ) → k < y → (x : ℕ) → x < width → top ≤ k → pixel_at now x k ≡ pixel_at old (from x) k
   pub others : (k : ℕ) → y ≤ k → slice_get now k ≡ slice_get old k
 
--- a table has in front of a row the rows of another one, each from column x of row y on, and all else is as it was
-pub record PlacedBelow {T : Type 0} (x y width : ℕ) (shown old now : Table T) (k : ℕ) : Type 0 where
-  pub inside : (j : ℕ) → j < k → (i : ℕ) → i < width → pixel_at now (x + i) (y + j) ≡ pixel_at shown i j
-  pub beside : (i j : ℕ) → (i < x) ⊎ (x + width ≤ i) → pixel_at now i j ≡ pixel_at old i j
-  pub above : (i j : ℕ) → j < y → pixel_at now i j ≡ pixel_at old i j
-  pub below : (i j : ℕ) → y + k ≤ j → pixel_at now i j ≡ pixel_at old i j
-
 module _ {T : Type 0} where
-  pub one_more_placed : (x y width : ℕ) (shown old now after : Table T) (k : ℕ) (row : List T) → PlacedBelow x y width
-      shown old now k
-      → slice_get shown k ≡ Some row → length row ≡ width →
-      ((i : ℕ) → i < length row → pixel_at after (x + i) (y + k) ≡ slice_get row i)
-      → ((i j : ℕ) → (i < x) ⊎ (x + length row ≤ i) → pixel_at after i j ≡ pixel_at now i j)
-      → ((i j : ℕ) → j ≢ y + k → pixel_at after i j ≡ pixel_at now i j) → PlacedBelow x y width shown old after (k + 1)
-  one_more_placed x y width shown old now after k row so_far is wide inside beside others = record {
-    inside =
-        below_more (λ j. (i : ℕ) → i < width → pixel_at after (x + i) (y + j) ≡ pixel_at shown i j) k
-        (λ j h i across. others (x + i) (y + j) (omega arith) ∙ so_far.inside j h i across)
-        (λ i across. inside i (omega arith) ∙ sym (ap (option_and_then (λ r. slice_get r i)) is));
-    beside = λ i j out. (rw wide at beside) i j out ∙ so_far.beside i j out;
-    above = λ i j h. others i j (omega arith) ∙ so_far.above i j h;
-    below = λ i j h. others i j (omega arith) ∙ so_far.below i j (omega arith);
-  }
-
-  pub all_beside : (x y width height : ℕ) (shown old now : Table T) (k : ℕ) → PlacedBelow x y width shown old now k → k
-      ≤ height
-      → (i j : ℕ) → ((i < x) ⊎ (x + width ≤ i)) ⊎ ((j < y) ⊎ (y + height ≤ j)) → pixel_at now i j ≡ pixel_at old i j
-  all_beside x y width height shown old now k placed end i j =
-      ⊎_elim (placed.beside i j) (⊎_elim (placed.above i j) (λ h. placed.below i j (omega arith)))
-
   pub one_more_moved : (from : ℕ → ℕ) (width top : ℕ) (old now after : Table T) (y : ℕ) → MovedBelow from width top old
       now y
       → ((x : ℕ) → x < width → pixel_at after x y ≡ pixel_at now (from x) y) →

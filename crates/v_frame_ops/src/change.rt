@@ -1,12 +1,12 @@
 //! Changes of planes: each pixel by a function, alone or with that of another plane, all to one pixel, or a rectangle to what
 //! another plane shows. Borders stay.
-ghost use Rattle.std.specs.Prelude.{◌≡◌, ◌≢◌, ◌+◌, ◌<◌, ◌≤◌, ◌⊎◌, ℕ, List, length, replicate, slice_get, Some};
+ghost use Rattle.std.specs.Prelude.{◌≡◌, ◌+◌, ◌<◌, ◌≤◌, ◌⊎◌, ℕ, replicate, slice_get, Some};
 ghost use Rattle.v_frame.specs.Prelude.{KeepsBorder, pixel_at, table_of};
 ghost use Rattle.v_frame_ops.specs.Change.{mapped, combined, MapsPixels, CombinesPixels};
 
 use crate::rows;
 use v_frame::pixel::Pixel;
-use v_frame::plane::{Plane, PlaneRef, VisibleMut};
+use v_frame::plane::{Plane, PlaneRef, VisibleMut, copy_rows};
 
 /// Makes each visible pixel a result of `change` at it.
 ///
@@ -82,35 +82,12 @@ pub fn copy_region<T: Pixel>(source: &PlaneRef<'_, T>, target: &mut Plane<T>, x:
         → pixel_at (table_of target.new) i j ≡ pixel_at (table_of target.old) i j }
     ensures border { KeepsBorder target.old target.new }
 {
-    // Sizes that were read fit their type, and so do the sums that they bound.
-    prove!(source.width() <= target.width() && source.height() <= target.height());
-    for k in 0..source.height() {
-        write_row_part(target, x, y + k, source.visible_row(k));
-    }
-}
-
-/// Writes pixels into row `y` of a plane, from column `x` on.
-fn write_row_part<T: Copy>(plane: &mut Plane<T>, x: usize, y: usize, pixels: &[T])
-    requires wide { x + length pixels.now ≤ plane.old.geometry.width }
-    requires high { y < plane.old.geometry.height }
-    ensures inside { (i : ℕ) → i < length pixels.now
-        → pixel_at (table_of plane.new) (x + i) y ≡ slice_get pixels.now i }
-    ensures beside { (i k : ℕ) → (i < x) ⊎ (x + length pixels.now ≤ i)
-        → pixel_at (table_of plane.new) i k ≡ pixel_at (table_of plane.old) i k }
-    ensures others { (i k : ℕ) → k ≢ y
-        → pixel_at (table_of plane.new) i k ≡ pixel_at (table_of plane.old) i k }
-    ensures border { KeepsBorder plane.old plane.new }
-{
-    put_pixels(plane.visible_row_mut(y), x, pixels);
-}
-
-/// Writes pixels into a row, from column `x` on.
-fn put_pixels<T: Copy>(row: &mut [T], x: usize, pixels: &[T])
-    requires { x + length pixels.now ≤ length row.old }
-    ensures inside { (k : ℕ) → k < length pixels.now
-        → slice_get row.new (x + k) ≡ slice_get pixels.now k }
-    ensures beside { (k : ℕ) → (k < x) ⊎ (x + length pixels.now ≤ k)
-        → slice_get row.new k ≡ slice_get row.old k }
-{
-    row[x..x + pixels.len()].copy_from_slice(pixels);
+    let VisibleMut {
+        entries,
+        width,
+        height,
+        stride,
+    } = target.visible_region_mut(x, y, source.width(), source.height());
+    let source = source.as_rows_ref();
+    copy_rows(&source, entries, width, height, stride);
 }

@@ -1,12 +1,12 @@
 //! Planes composed of two: one blended over a part of another, evenly or by a mask, one copied as far as it lies inside
 //! another, or how far two are apart. Borders stay.
-ghost use Rattle.std.specs.Prelude.{◌≡◌, ◌+◌, ◌+ℤ◌, ◌*◌, ◌^◌, ◌<◌, ◌≤◌, ◌⊎◌, ℕ, pos, min, Some};
+ghost use Rattle.std.specs.Prelude.{◌≡◌, ◌+◌, ◌*◌, ◌^◌, ◌<◌, ◌≤◌, ◌⊎◌, ℕ, min, Some};
 ghost use Rattle.std.specs.Int.{abs_diff};
 ghost use Rattle.v_frame.specs.Prelude.{KeepsBorder, pixel_at, table_of};
 ghost use Rattle.v_frame_ops.specs.Change.{combined};
 ghost use Rattle.v_frame_ops.specs.Compose.{blended, difference_of, LiesOn};
 
-use crate::change::{combine_pixels, copy_region};
+use crate::change::combine_pixels;
 use crate::rows;
 use crate::rows::{largest_value, pixel_difference};
 use v_frame::pixel::Pixel;
@@ -97,13 +97,14 @@ pub fn copy_region_clipped<T: Pixel>(
         → pixel_at (table_of target.new) k l ≡ pixel_at (table_of target.old) k l }
     ensures border { KeepsBorder target.old target.new }
 {
-    let across = Overlap::new(x, source.width(), target.width());
-    let down = Overlap::new(y, source.height(), target.height());
-    if across.count == 0 || down.count == 0 {
-        return;
-    }
-    let part = source.visible_region(across.skipped, down.skipped, across.count, down.count);
-    copy_region(&part, target, across.start, down.start);
+    let source = source.as_rows_ref();
+    let VisibleMut {
+        entries,
+        width,
+        height,
+        stride,
+    } = target.visible_mut();
+    rows::copy_region_clipped(&source, entries, width, height, stride, x, y);
 }
 
 /// Makes each visible pixel the difference from the pixel of the same column and row of `other`, which has the same size, times
@@ -128,40 +129,4 @@ pub fn difference<T: Pixel>(other: &PlaneRef<'_, T>, plane: &mut Plane<T>, gain:
             ensures { result ≡ T.form.pixel_of (min (abs_diff (T.form.value p) (T.form.value q) * gain) largest) }
         { pixel_difference(p, q, gain, largest) },
     );
-}
-
-/// Where columns of a source, or its rows, lie on those of a target.
-#[derive(Clone, Copy)]
-struct Overlap {
-    /// How many of the source lie in front of the target.
-    skipped: usize,
-    /// The target's first one that the source lies on.
-    start: usize,
-    /// How many of the source lie on the target.
-    count: usize,
-}
-
-impl Overlap {
-    /// Returns where `source` columns, or rows, lie on `target` ones if the first is put at `offset`.
-    fn new(offset: isize, source: usize, target: usize) -> Self
-        ensures in_source { 0 < result.count → result.skipped + result.count ≤ source }
-        ensures in_target { 0 < result.count → result.start + result.count ≤ target }
-        ensures place { 0 < result.count → pos result.start ≡ offset +ℤ pos result.skipped }
-        ensures all { (i k : ℕ) → i < source → k < target → pos k ≡ offset +ℤ pos i
-            → (result.skipped ≤ i) × (i < result.skipped + result.count) }
-    {
-        let (skipped, start) = if offset < 0 {
-            (offset.unsigned_abs(), 0)
-        } else {
-            (0, offset as usize)
-        };
-        let count = source
-            .saturating_sub(skipped)
-            .min(target.saturating_sub(start));
-        Overlap {
-            skipped,
-            start,
-            count,
-        }
-    }
 }

@@ -5,11 +5,13 @@
 //! planes are made of these. [`v_frame::plane::copy_rows`] copies one picture into another.
 
 mod change;
+mod clipped;
 mod compare;
 mod compose;
 mod sums;
 
 pub use change::{combine_pixels, downscale, fill, map_pixels};
+pub use clipped::copy_region_clipped;
 pub use compare::{first_difference, sum_of_absolute_differences, sum_of_squared_errors};
 pub use compose::{blend, blend_with_mask, difference};
 pub(crate) use compose::{largest_value, pixel_difference};

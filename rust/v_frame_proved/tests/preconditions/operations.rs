@@ -106,6 +106,10 @@ pub const CASES: &[Case] = &[
     case!(ops::rows::first_difference, "the widths of a (5) and b (4) are not equal", rows(5, 3), rows(4, 3)),
     case!(ops::rows::first_difference, "the heights of a (2) and b (3) are not equal", rows(4, 2), rows(4, 3)),
     case!(
+        ops::rows::copy_region_clipped, "3 rows of 4 entries, 4 apart, do not fit 11 entries",
+        rows(4, 3), &mut [0; 11], 4, 3, 4, 0, 0
+    ),
+    case!(
         ops::rows::blend, "3 rows of 4 entries, 4 apart, do not fit 11 entries",
         rows(4, 3), &mut [0; 11], 4, 3, 4, 256
     ),

@@ -1,84 +1,24 @@
--- The columns and the rows that overlap are a rectangle of the source, and no other pixel of it lies on the target.
-use Rattle.std.proofs.Common.{FitsSigned, to_z, of_z, w64, ℕ, ℤ, pos, ◌≡◌, ◌+◌, ◌+ℤ◌, ◌-◌, ◌<◌, ◌≤◌, ap, ◌∙◌, inl, inr, arith}
-use Rattle.std.proofs.lemmas.Int.{ints}
-use Rattle.std.proofs.lemmas.Bool.{cases_lt}
-use Rattle.v_frame.specs.Prelude.{pixel_at, table_of}
-use Rattle.v_frame_ops.proofs.Tables.{rectangle_holds}
+-- The rows that are written are those of the target.
+use Rattle.std.proofs.Common.{ap, ◌∙◌, arith}
+use Rattle.v_frame.specs.Prelude.{pixel_at}
 use Rattle.v_frame_ops.proofs.compose.copy_region_clipped.Goals as goal
-use Rattle.v_frame_ops.proofs.compose.copy_region_clipped.Goals.{then-across-eq0-via-then-across-eq0, then-across-eq0-via-else-across-eq0+then-down-eq0}
-
--- so many columns after the first one that lies on the other's, so many lie there too
-lies_after : (offset : ℤ) (start skipped i k : ℕ) → pos k ≡ offset +ℤ pos i → pos start ≡ offset +ℤ pos skipped
-    → skipped ≤ i → k ≡ start + (i - skipped)
-lies_after offset start skipped i k on place from = omega (arith, ints)
-
-plain : (offset : ℤ) (start skipped : ℕ) → FitsSigned w64 offset
-    → pos start ≡ to_z w64 (of_z w64 offset) +ℤ pos skipped → pos start ≡ offset +ℤ pos skipped
-plain offset start skipped fits h = omega (arith, ints)
-
-pub returns-then-across-eq0-clause-inside : goal.returns-then-across-eq0-clause-inside
-returns-then-across-eq0-clause-inside g c = λ i j k l wide high wide1 high1 on.
-    let across = c.new-across.ensures.all i k (omega (arith, wide, c.width.ensures.value))
-    (omega (arith, wide1, c.width-2.ensures.value)) (omega (arith, ints, on.across, c.ranges.x)) in
-    let down = c.new-down.ensures.all j l (omega (arith, high, c.height.ensures.value))
-    (omega (arith, high1, c.height-2.ensures.value)) (omega (arith, ints, on.down, c.ranges.y)) in
-    elim c.then-across-eq0.branch [
-      | then-across-eq0-via-then-across-eq0 w ↦ absurd (omega (arith, across.0, across.1))
-      | then-across-eq0-via-else-across-eq0+then-down-eq0 w ↦ absurd (omega (arith, down.0, down.1))
-    ]
 
 pub returns-clause-inside : goal.returns-clause-inside
 returns-clause-inside g c = λ i j k l wide high wide1 high1 on.
-    let source = table_of c.args.source.now in
-    let columns = c.new-across.result in
-    let rows = c.new-down.result in
-    let across = c.new-across.ensures.all i k (omega (arith, wide, c.width.ensures.value))
-    (omega (arith, wide1, c.width-2.ensures.value)) (omega (arith, ints, on.across, c.ranges.x)) in
-    let down = c.new-down.ensures.all j l (omega (arith, high, c.height.ensures.value))
-    (omega (arith, high1, c.height-2.ensures.value)) (omega (arith, ints, on.down, c.ranges.y)) in
-    let a : ℕ = i - columns.skipped in
-    let b : ℕ = j - rows.skipped in
-    let first : pos columns.start ≡ c.args.x +ℤ pos columns.skipped =
-    plain c.args.x columns.start columns.skipped c.ranges.x (c.new-across.ensures.place (omega arith)) in
-    let top : pos rows.start ≡ c.args.y +ℤ pos rows.skipped =
-    plain c.args.y rows.start rows.skipped c.ranges.y (c.new-down.ensures.place (omega arith)) in
-    let column : k ≡ columns.start + a =
-    lies_after c.args.x columns.start columns.skipped i k on.across first across.0 in
-    let row : l ≡ rows.start + b = lies_after c.args.y rows.start rows.skipped j l on.down top down.0 in
-    let column_there : columns.skipped + a ≡ i = omega (arith, across.0) in
-    let row_there : rows.skipped + b ≡ j = omega (arith, down.0) in
-    let few : a < columns.count = omega (arith, across.0, across.1) in
-    let low : b < rows.count = omega (arith, down.0, down.1) in
-    rw (column, row)
-    (c.copy_region.ensures.inside a b (omega (arith, few, c.visible_region-part.ensures.width))
-    (omega (arith, low, c.visible_region-part.ensures.height))
-    ∙ ap (λ part. pixel_at part a b) c.visible_region-part.ensures.table
-    ∙ rectangle_holds source columns.skipped rows.skipped columns.count rows.count a b few low
-    ∙ ap (λ n. pixel_at source n (rows.skipped + b)) column_there ∙ ap (pixel_at source i) row_there)
+    let source = c.as_rows_ref-source.ensures in
+    let lent = c.visible_mut-entries.ensures in
+    let copied = c.copy_region_clipped.ensures in
+    ap (λ table. pixel_at table k l) (lent.written c.copy_region_clipped.new.buffer copied.rest.count)
+    ∙ copied.inside i j k l (omega (arith, wide, source.width)) (omega (arith, high, source.height))
+    (omega (arith, wide1, lent.width)) (omega (arith, high1, lent.height)) on
+    ∙ ap (λ table. pixel_at table i j) source.value
 
 pub returns-clause-beside : goal.returns-clause-beside
 returns-clause-beside g c = λ k l none.
-    let columns = c.new-across.result in
-    let rows = c.new-down.result in
-    let wide = c.visible_region-part.ensures.width in
-    let high = c.visible_region-part.ensures.height in
-    let in_columns = c.new-across.ensures.in_source (omega arith) in
-    let in_rows = c.new-down.ensures.in_source (omega arith) in
-    elim (cases_lt k columns.start) [
-      | inl before ↦ c.copy_region.ensures.beside k l (inl (inl before))
-      | inr from ↦ elim (cases_lt k (columns.start + columns.count)) [
-        | inr behind ↦ c.copy_region.ensures.beside k l (inl (inr (omega (arith, wide))))
-        | inl within ↦ elim (cases_lt l rows.start) [
-          | inl above ↦ c.copy_region.ensures.beside k l (inr (inl above))
-          | inr down ↦ elim (cases_lt l (rows.start + rows.count)) [
-            | inr below ↦ c.copy_region.ensures.beside k l (inr (inr (omega (arith, high))))
-            | inl here ↦ absurd (none (columns.skipped + (k - columns.start)) (rows.skipped + (l - rows.start))
-                (omega (arith, in_columns, c.width.ensures.value)) (omega (arith, in_rows, c.height.ensures.value))
-                (record {
-                  across = omega (arith, ints, c.ranges.x, c.new-across.ensures.place (omega arith));
-                  down = omega (arith, ints, c.ranges.y, c.new-down.ensures.place (omega arith));
-                }))
-          ]
-        ]
-      ]
-    ]
+    let source = c.as_rows_ref-source.ensures in
+    let lent = c.visible_mut-entries.ensures in
+    let copied = c.copy_region_clipped.ensures in
+    ap (λ table. pixel_at table k l) (lent.written c.copy_region_clipped.new.buffer copied.rest.count)
+    ∙ copied.beside k l (λ i j across down. none i j (omega (arith, across, source.width))
+    (omega (arith, down, source.height)))
+    ∙ ap (λ table. pixel_at table k l) lent.rows

@@ -4,7 +4,7 @@
 use crate::generated::v_frame_c::layout::Rows;
 use crate::generated::v_frame_c::status::{FIRST, OK, SECOND};
 use v_frame_proved::pixel::Pixel;
-use v_frame_proved::plane::{RowsRef, copy_rows};
+use v_frame_proved::ops::rows::copy_region_clipped;
 
 /// Copies the picture of the second rows into the first ones, with its first pixel at column `x` of row `y`, either of which may
 /// be negative or past the edge: what lies outside is left out.
@@ -22,49 +22,6 @@ pub fn copy_clipped<T: Pixel>(
     let Some(source) = source_rows.of(source) else {
         return SECOND;
     };
-    let across = Overlap::new(x, source_rows.width, rows.width);
-    let down = Overlap::new(y, source_rows.height, rows.height);
-    if across.count == 0 || down.count == 0 {
-        return OK;
-    }
-    let part = source.visible_region(across.skipped, down.skipped, across.count, down.count);
-    put(&part, rows, buffer, across.start, down.start);
+    copy_region_clipped(&source, buffer, rows.width, rows.height, rows.stride, x, y);
     OK
-}
-
-/// Copies a picture into rows that have room for it, from column `x` of row `y` on.
-fn put<T: Pixel>(part: &RowsRef<'_, T>, rows: &Rows, buffer: &mut [T], x: usize, y: usize) {
-    let (width, height) = (part.width(), part.height());
-    let (_, from) = buffer.split_at_mut(rows.stride * y + x);
-    copy_rows(part, from, width, height, rows.stride);
-}
-
-/// Where columns of a source, or its rows, lie on those of a target.
-#[derive(Clone, Copy)]
-struct Overlap {
-    /// How many of the source lie in front of the target.
-    skipped: usize,
-    /// The target's first one that the source lies on.
-    start: usize,
-    /// How many of the source lie on the target.
-    count: usize,
-}
-
-impl Overlap {
-    /// Returns where `source` columns, or rows, lie on `target` ones if the first is put at `offset`.
-    fn new(offset: isize, source: usize, target: usize) -> Self {
-        let (skipped, start) = if offset < 0 {
-            (offset.unsigned_abs(), 0)
-        } else {
-            (0, offset as usize)
-        };
-        let count = source
-            .saturating_sub(skipped)
-            .min(target.saturating_sub(start));
-        Overlap {
-            skipped,
-            start,
-            count,
-        }
-    }
 }

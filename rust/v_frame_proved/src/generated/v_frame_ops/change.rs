@@ -5,7 +5,7 @@
 use crate::views::AsPlaneRef;
 use crate::generated::v_frame_ops::rows;
 use crate::generated::v_frame::pixel::Pixel;
-use crate::generated::v_frame::plane::{Plane, VisibleMut};
+use crate::generated::v_frame::plane::{Plane, VisibleMut, copy_rows};
 
 /// Makes each visible pixel a result of `change` at it.
 ///
@@ -89,19 +89,12 @@ pub fn copy_region<T: Pixel>(source: impl AsPlaneRef<Pixel = T>, target: &mut Pl
         y as u128 + source.height() as u128 <= target.height() as u128,
         "y ({y}) plus the height of source ({}) is above the height of target ({})", source.height(), target.height()
     );
-    // Sizes that were read fit their type, and so do the sums that they bound.
-    debug_assert!(source.width() <= target.width() && source.height() <= target.height());
-    for k in 0..source.height() {
-        write_row_part(target, x, y + k, source.visible_row_proved(k));
-    }
-}
-
-/// Writes pixels into row `y` of a plane, from column `x` on.
-fn write_row_part<T: Copy>(plane: &mut Plane<T>, x: usize, y: usize, pixels: &[T]) {
-    put_pixels(plane.visible_row_mut_proved(y), x, pixels);
-}
-
-/// Writes pixels into a row, from column `x` on.
-fn put_pixels<T: Copy>(row: &mut [T], x: usize, pixels: &[T]) {
-    row[x..x + pixels.len()].copy_from_slice(pixels);
+    let VisibleMut {
+        entries,
+        width,
+        height,
+        stride,
+    } = target.visible_region_mut(x, y, source.width(), source.height());
+    let source = source.as_rows_ref();
+    copy_rows(&source, entries, width, height, stride);
 }

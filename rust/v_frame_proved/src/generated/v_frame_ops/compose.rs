@@ -3,7 +3,7 @@
 //! another, or how far two are apart. Borders stay.
 
 use crate::views::AsPlaneRef;
-use crate::generated::v_frame_ops::change::{combine_pixels, copy_region};
+use crate::generated::v_frame_ops::change::combine_pixels;
 use crate::generated::v_frame_ops::rows;
 use crate::generated::v_frame_ops::rows::{largest_value, pixel_difference};
 use crate::generated::v_frame::pixel::Pixel;
@@ -112,13 +112,14 @@ pub fn copy_region_clipped<T: Pixel>(
     y: isize,
 ) {
     let source = &source.as_plane_ref();
-    let across = Overlap::new(x, source.width(), target.width());
-    let down = Overlap::new(y, source.height(), target.height());
-    if across.count == 0 || down.count == 0 {
-        return;
-    }
-    let part = source.visible_region_proved(across.skipped, down.skipped, across.count, down.count);
-    copy_region(&part, target, across.start, down.start);
+    let source = source.as_rows_ref();
+    let VisibleMut {
+        entries,
+        width,
+        height,
+        stride,
+    } = target.visible_mut();
+    rows::copy_region_clipped(&source, entries, width, height, stride, x, y);
 }
 
 /// Makes each visible pixel the difference from the pixel of the same column and row of `other`, which has the same size, times
@@ -156,34 +157,4 @@ pub fn difference<T: Pixel>(other: impl AsPlaneRef<Pixel = T>, plane: &mut Plane
         other,
         |p: T, q: T| { pixel_difference(p, q, gain, largest) },
     );
-}
-
-/// Where columns of a source, or its rows, lie on those of a target.
-#[derive(Clone, Copy)]
-struct Overlap {
-    /// How many of the source lie in front of the target.
-    skipped: usize,
-    /// The target's first one that the source lies on.
-    start: usize,
-    /// How many of the source lie on the target.
-    count: usize,
-}
-
-impl Overlap {
-    /// Returns where `source` columns, or rows, lie on `target` ones if the first is put at `offset`.
-    fn new(offset: isize, source: usize, target: usize) -> Self {
-        let (skipped, start) = if offset < 0 {
-            (offset.unsigned_abs(), 0)
-        } else {
-            (0, offset as usize)
-        };
-        let count = source
-            .saturating_sub(skipped)
-            .min(target.saturating_sub(start));
-        Overlap {
-            skipped,
-            start,
-            count,
-        }
-    }
 }

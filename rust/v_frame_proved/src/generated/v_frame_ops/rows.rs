@@ -35,14 +35,20 @@
 //! assert_eq!(buffer, [40, 0, 0, 32, 40]);
 //! rows::difference(&other, &mut buffer, width, height, stride, 1, 8);
 //! assert_eq!(buffer, [55, 95, 0, 63, 55]);
+//!
+//! // One column to the left and one row down: the first column and the last row of the source lie outside.
+//! rows::copy_region_clipped(&other, &mut buffer, width, height, stride, -1, 1);
+//! assert_eq!(buffer, [55, 95, 0, 95, 55]);
 //! ```
 
 mod change;
+mod clipped;
 mod compare;
 mod compose;
 mod sums;
 
 pub use change::{combine_pixels, downscale, fill, map_pixels};
+pub use clipped::copy_region_clipped;
 pub use compare::{first_difference, sum_of_absolute_differences, sum_of_squared_errors};
 pub use compose::{blend, blend_with_mask, difference};
 pub(crate) use compose::{largest_value, pixel_difference};

@@ -8,7 +8,8 @@ use Rattle.v_frame.specs.Prelude.{pixel_at, strided_rows, KeepsRest, RowsFit}
 use Rattle.v_frame_raster.specs.StridedRows.{IsInsideTable}
 use Rattle.v_frame_raster.proofs.tables.Lists.{slice_get-take, slice_get-drop}
 use Rattle.v_frame_raster.proofs.tables.Parts.{slice_get-front, slice_get-back}
-use Rattle.v_frame_raster.proofs.tables.Strides.{AreRows, height_is, width_is, part_begins, part_fits, strided_row}
+use Rattle.v_frame_raster.proofs.tables.Places.{no_pixel_below, no_pixel_beside}
+use Rattle.v_frame_raster.proofs.tables.Strides.{AreRows, height_is, width_is, part_begins, part_fits, rows_are_wide, strided_row}
 
 -- a pixel of rows is an entry
 entry_of : {T : Type 0} (width height stride : ℕ) (xs : List T) (x y : ℕ) → width ≤ stride → x < width → y < height
@@ -25,17 +26,10 @@ pub record IsPart (width height stride x y w h entries : ℕ) : Type 0 where
   pub across : x + w ≤ width
   pub down : y + h ≤ height
 
--- a rectangle of sizes that are not empty
-pub part_of : (width height stride x y wide high w h entries : ℕ) → RowsFit width height stride entries
-    → w ≡ wide → 0 < w → h ≡ high → 0 < h → x + wide ≤ width → y + high ≤ height
-    → IsPart width height stride x y w h entries
-part_of width height stride x y wide high w h entries fit is_wide some_wide is_high some_high across down = record {
-  fit = fit;
-  wide = some_wide;
-  high = some_high;
-  across = rw (is_wide) across;
-  down = rw (is_high) down;
-}
+pub part_of : (width height stride x y w h entries : ℕ) → RowsFit width height stride entries → 0 < w → 0 < h
+    → x + w ≤ width → y + h ≤ height → IsPart width height stride x y w h entries
+part_of width height stride x y w h entries fit wide high across down =
+    record { fit = fit; wide = wide; high = high; across = across; down = down }
 
 module _ {T : Type 0} (width height stride x y w h : ℕ) (old : List T)
     (part : IsPart width height stride x y w h (length old)) where
@@ -108,15 +102,31 @@ module _ {T : Type 0} (width height stride x y w h : ℕ) (old : List T)
         same_from_place j i (y + j') (x + i') stride (omega (arith, across, part.fit.apart))
         (omega (arith, across', part.across, part.fit.apart)) (omega (arith, e))
 
-    pub kept_beside : (i j : ℕ) → i < width → j < height → ((i < x) ⊎ (x + w ≤ i)) ⊎ ((j < y) ⊎ (y + h ≤ j))
+    kept_there : (i j : ℕ) → i < width → j < height → ((i < x) ⊎ (x + w ≤ i)) ⊎ ((j < y) ⊎ (y + h ≤ j))
         → pixel_at (strided_rows width height stride written) i j ≡ pixel_at (strided_rows width height stride old) i j
-    kept_beside i j across down outside =
+    kept_there i j across down outside =
         entry_of width height stride written i j part.fit.apart across down
         ∙ kept_at (stride * j + i) (λ i' j' across' down' e.
         let same = apart i j i' j' across across' e in
         ⊎_elim (⊎_elim (λ o. omega (arith, same.1, across')) (λ o. omega (arith, same.1, across')))
         (⊎_elim (λ o. omega (arith, same.0, down')) (λ o. omega (arith, same.0, down'))) outside)
         ∙ sym (entry_of width height stride old i j part.fit.apart across down)
+
+    known_written : AreRows width height stride written (strided_rows width height stride written)
+    known_written = record { is = refl; fit = rw (as_long) part.fit }
+
+    -- past the rows there is no pixel, before and after
+    pub kept_beside : (i j : ℕ) → ((i < x) ⊎ (x + w ≤ i)) ⊎ ((j < y) ⊎ (y + h ≤ j))
+        → pixel_at (strided_rows width height stride written) i j ≡ pixel_at (strided_rows width height stride old) i j
+    kept_beside i j outside = elim (cases_lt i width) [
+      | inr beyond ↦ no_pixel_beside _ width i j (rows_are_wide known_written) beyond
+          ∙ sym (no_pixel_beside _ width i j (rows_are_wide known) beyond)
+      | inl across ↦ elim (cases_lt j height) [
+        | inl down ↦ kept_there i j across down outside
+        | inr below ↦ no_pixel_below _ i j (omega (arith, below, height_is known_written))
+            ∙ sym (no_pixel_below _ i j (omega (arith, below, height_is known)))
+      ]
+    ]
 
     pub kept_rest : KeepsRest width height stride old written
     kept_rest = record {
