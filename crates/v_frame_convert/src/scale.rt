@@ -39,11 +39,11 @@ pub fn sizes_fit(scale: Scale, source: usize, target: usize) -> bool
 
 /// Shows in `target` what `source` shows, in another size and another bit depth.
 ///
-/// The border of the target stays. `across` says how many columns the target has beside the source, and `down` how many rows:
-/// of these a quarter is not to be had. Where it has fewer, a pixel is the mean of its block, rounded to the nearest value and
-/// upwards at a half; past an edge the last column or row is repeated. Where it has more, pixels are repeated. So chroma
-/// changes from one format to another, as from 4:4:4 to 4:2:0 by two halves. The value then becomes one of depth `to`, as in
-/// [`convert_depth`](crate::convert_depth).
+/// The border of the target stays. `across` says how many columns the target has beside the source, and `down` how many rows,
+/// which may not be [`Quarter`](Scale::Quarter). Where it has fewer, a pixel is the mean of its block, rounded to the nearest
+/// value and upwards at a half; past an edge the last column or row is repeated. Where it has more, pixels are repeated. So chroma
+/// changes from one format to another, as from 4:4:4 to 4:2:0 by two halves, and lies at the center of the luma that it is of, as
+/// in JPEG and MPEG-1. The value then becomes one of depth `to`, as in [`convert_depth`](crate::convert_depth).
 ///
 /// Ask [`sizes_fit`](sizes_fit) and [`depth_fits`](crate::depth_fits).
 pub fn resample<S: Pixel, T: Pixel>(

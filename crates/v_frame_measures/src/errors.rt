@@ -31,7 +31,7 @@ pub(crate) fn mean_squared_error_of_rows<T: Pixel>(a: &RowsRef<'_, T>, b: &RowsR
 }
 
 /// Returns the square of the largest value of so many bits over a mean squared error: the ratio whose decibels are the
-/// peak signal-to-noise ratio. Infinite where the error is zero.
+/// peak signal-to-noise ratio. Infinite where the error is zero. More than 16 bits count as 16; at 0 bits no error gives NaN.
 pub fn peak_ratio(mean_squared_error: f64, bit_depth: u8) -> f64
     ensures { result ≡ div binary64
         (of_int binary64 (pos (peak_of bit_depth * peak_of bit_depth))) mean_squared_error }

@@ -39,7 +39,7 @@ impl<D> Model for Counted<D> {
 }
 
 impl<D> Counted<D> {
-    /// No failure of `inner` has been counted yet.
+    /// Wraps a reader or a writer, of which no failure has been counted.
     pub fn new(inner: D) -> Self
         ensures { result ≡ record { inner = inner; failures = 0; last_failure = None } }
     {
@@ -64,7 +64,7 @@ impl<D> Counted<D> {
         self.inner
     }
 
-    /// Returns how often a read, a write or a flush failed. The count stays at `u64::MAX`.
+    /// Returns how often a read, a write or a flush failed. It saturates at `u64::MAX`.
     pub fn failures(&self) -> u64
         ensures { result ≡ self.now.failures }
     {
@@ -104,7 +104,11 @@ impl<D> Counted<D> {
 }
 
 impl<D: io::Read> Counted<D> {
-    /// One call of `read` of the reader. An error of it is counted, an interrupted read too.
+    /// Calls `read` of the reader once. An error of it is counted, an interrupted read too.
+    ///
+    /// # Errors
+    ///
+    /// The reader's.
     pub fn read(&mut self, buf: &mut [u8]) -> io::Result<usize>
         ensures bound { ReadsAtMost result buf.new }
         ensures bytes { ReadConsumes (D.remaining self.old.inner) (D.remaining self.new.inner)
@@ -121,7 +125,11 @@ impl<D: io::Read> Counted<D> {
 }
 
 impl<D: io::Write> Counted<D> {
-    /// One call of `write` of the writer. An error of it is counted, an interrupted write too.
+    /// Calls `write` of the writer once. An error of it is counted, an interrupted write too.
+    ///
+    /// # Errors
+    ///
+    /// The writer's.
     pub fn write(&mut self, buf: &[u8]) -> io::Result<usize>
         ensures bound { WritesAtMost result buf.now }
         ensures bytes { WriteAppends (D.contents self.old.inner) (D.contents self.new.inner)

@@ -22,8 +22,9 @@ use v_frame::plane::Plane;
 ///
 /// [`PlanarError::TooLarge`] where the frame has more than `isize::MAX` bytes, else [`PlanarError::OutOfMemory`] where the
 /// request for memory was refused: for these nothing was read. [`PlanarError::Read`] where a read failed, an interrupted one
-/// too, which is not tried again; [`Counted::last_failure`] says why. [`PlanarError::Truncated`] where the reader came to its end inside the frame. After each of
-/// them the frame is as it was.
+/// too, which is not tried again; [`Counted::last_failure`] says why. [`PlanarError::Truncated`] where the reader came to its end
+/// inside the frame. After each of them the frame is as it was. The bytes that came before the last two are lost: a next call
+/// would begin inside the frame.
 pub fn read_frame<T: Pixel, R: io::Read>(
     alloc: Global,
     reader: &mut Counted<R>,
@@ -99,7 +100,7 @@ fn allocate<T: Pixel>(alloc: Global, frame: &Frame<T>) -> Result<Vec<u8>, Planar
 }
 
 /// Returns how many planar bytes a frame has: as many as [`read_frame`] asks for, and [`write_frame`](crate::write_frame)
-/// writes. The count stays at `usize::MAX`.
+/// writes. The count saturates at `usize::MAX`.
 pub fn planar_len<T: Pixel>(frame: &Frame<T>) -> usize
     ensures value { result ≡ min (length (planar_bytes T.form (tables_of frame.now))) usize_max }
     ensures sizes { result ≡ min (byte_count T.form.size (sizes_of (tables_of frame.now))) usize_max }

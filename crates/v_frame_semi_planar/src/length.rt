@@ -14,7 +14,7 @@ use v_frame::pixel::Pixel;
 use v_frame::plane::Plane;
 
 /// Returns how many bytes a frame has in a semi-planar layout: as many as [`read_frame`](crate::read_frame) asks for, and
-/// [`write_frame`](crate::write_frame) writes. The count stays at `usize::MAX`.
+/// [`write_frame`](crate::write_frame) writes. The count saturates at `usize::MAX`.
 ///
 /// # Errors
 ///

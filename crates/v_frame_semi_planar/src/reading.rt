@@ -30,7 +30,8 @@ use v_frame_planar::{Counted, PlanarError, read_until_full};
 /// [`PlanarError::TooLarge`] where the frame has more than `isize::MAX` bytes, else of [`PlanarError::OutOfMemory`] where the
 /// request for memory was refused, and for these nothing was read; of [`PlanarError::Read`] where a read failed, an interrupted
 /// one too, which is not tried again, and [`Counted::last_failure`] says why; of [`PlanarError::Truncated`] where the reader
-/// came to its end inside the frame. After each of them the frame is as it was.
+/// came to its end inside the frame. After each of them the frame is as it was. The bytes that came before the last two are lost:
+/// a next call would begin inside the frame.
 pub fn read_frame<T: Pixel, R: io::Read>(
     alloc: Global,
     reader: &mut Counted<R>,

@@ -32,7 +32,7 @@ pub struct CompareOptions {
 pub struct Comparison {
     /// How many frames of each were compared.
     pub frames: u64,
-    /// The sums of the squared errors of these, plane by plane. A sum stays at `u128::MAX`.
+    /// The sums of the squared errors of these, plane by plane. A sum saturates at `u128::MAX`.
     pub errors: PlaneSums,
     /// The first pixel that differs, and how many of the frames stand before its own.
     pub difference: Option<(u64, PixelDifference)>,

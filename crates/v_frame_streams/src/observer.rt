@@ -32,7 +32,7 @@ pub trait FrameObserver<T: Pixel> {
         ensures stopped { IfErr result (stops self.new) };
 }
 
-/// Takes nothing.
+/// An observer that looks at nothing.
 #[derive(Clone, Copy)]
 pub struct NoObserver;
 

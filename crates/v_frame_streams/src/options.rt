@@ -36,7 +36,7 @@ impl CopyOptions {
     ghost use Rattle.v_frame_streams.specs.Conversions.{color_in, layout_in, layout_to};
     ghost use Rattle.v_frame_streams.specs.Copies.{is_plain};
 
-    /// Writes all frames as they are.
+    /// Returns options by which all frames are written as they are.
     pub fn new() -> Self
         ensures { result ≡ record {
           skip = 0;

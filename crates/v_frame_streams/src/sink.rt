@@ -24,14 +24,14 @@ use v_frame_y4m::{StreamHeader, Y4mError, write_header};
 pub struct Sink<W> {
     /// How it holds its frames.
     pub container: Container,
-    /// How many frames were written whole. The count stays at `u64::MAX`.
+    /// How many frames were written whole. It saturates at `u64::MAX`.
     pub frames: u64,
     /// Where its bytes go.
     pub writer: Counted<W>,
 }
 
 impl<W: io::Write> Sink<W> {
-    /// Writes nothing yet.
+    /// Returns a sink that has written nothing.
     pub fn new(container: Container, writer: W) -> Self
         ensures { result ≡ record {
           container = container;

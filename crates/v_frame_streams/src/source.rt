@@ -173,7 +173,7 @@ impl<R: io::Read> Source<R> {
         self.container
     }
 
-    /// Returns how many frames were read whole. The count stays at `u64::MAX`.
+    /// Returns how many frames were read whole. It saturates at `u64::MAX`.
     pub fn frames(&self) -> u64
         ensures { result ≡ self.now.frames }
     {

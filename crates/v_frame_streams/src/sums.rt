@@ -14,7 +14,7 @@ pub struct PlaneSums {
 }
 
 impl PlaneSums {
-    /// Returns the sums, plane by plane. One stays at `u128::MAX`.
+    /// Returns the sums, plane by plane: of chroma where both have it. Each saturates at `u128::MAX`.
     pub fn plus(&self, more: &PlaneSums) -> Self
         ensures { result ≡ added self.now more.now }
     {
@@ -25,7 +25,7 @@ impl PlaneSums {
         }
     }
 
-    /// Returns the numbers, each so many times. One stays at `u128::MAX`.
+    /// Returns the numbers, each so many times. Each saturates at `u128::MAX`.
     pub fn times(&self, count: u64) -> Self
         ensures { result ≡ multiplied self.now count }
     {
@@ -37,7 +37,7 @@ impl PlaneSums {
         }
     }
 
-    /// Returns the sum over all planes. It stays at `u128::MAX`.
+    /// Returns the sum over all planes. It saturates at `u128::MAX`.
     pub fn total(&self) -> u128
         ensures { result ≡ at_most (at_most (self.now.y + unwrap_or self.now.u 0)
             + unwrap_or self.now.v 0) }

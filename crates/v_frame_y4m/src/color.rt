@@ -126,8 +126,8 @@ const STATED: [Color; 28] = [
 impl Color {
     /// Returns the color of a format, a bit depth and a siting. `None` where no color has these three.
     ///
-    /// Three colors are 4:2:0 of 8 bits with centered chroma: of them it is [`Yuv420Jpeg`](Self::Yuv420Jpeg), as ffmpeg
-    /// writes it.
+    /// 4:2:0 of 8 bits alone has a siting, and always has one. Three colors are such with centered chroma: of them it is
+    /// [`Yuv420Jpeg`](Self::Yuv420Jpeg), as ffmpeg writes it.
     pub fn new(
         subsampling: ChromaSubsampling,
         bit_depth: u8,

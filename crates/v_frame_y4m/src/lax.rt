@@ -81,7 +81,7 @@ pub fn parse_lax_header(alloc: Global, line: &[u8]) -> Result<(StreamHeader, boo
 }
 
 /// Returns the strict line that a header line stands for: without one carriage return at its end, with one space between
-/// two pieces and none at an end, and with the denominator of 1 where a frame rate is one number.
+/// two pieces and none at an end, and with the denominator of 1 where a frame rate is one number above 0.
 ///
 /// # Errors
 ///

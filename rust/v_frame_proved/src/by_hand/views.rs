@@ -81,6 +81,7 @@ read_by! { AsPlaneRef::as_plane_ref -> PlaneRef:
     [T] Plane<T>, T, self => Plane::as_plane_ref(self);
     [T] PlaneRef<'_, T>, T, self => *self;
     [V: AsPlaneRef + ?Sized] &V, V::Pixel, self => (**self).as_plane_ref();
+    [V: AsPlaneRef + ?Sized] &mut V, V::Pixel, self => (**self).as_plane_ref();
 }
 
 read_by! { AsRowsRef::as_rows_ref -> RowsRef:

@@ -1,5 +1,5 @@
 -- The rows that are written are a rectangle of the plane.
-use Rattle.std.proofs.Common.{◌<◌, ap, ◌∙◌, arith}
+use Rattle.std.proofs.Common.{ap, ◌∙◌, arith}
 use Rattle.v_frame.specs.Prelude.{pixel_at}
 use Rattle.v_frame_ops.proofs.change.copy_region.Goals as goal
 

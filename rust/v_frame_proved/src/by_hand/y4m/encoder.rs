@@ -1,9 +1,11 @@
 //! Streams written to any writer.
 
-use super::frame::with_frame;
+use super::frame::{is_frame_of, with_frame};
 use super::kept::Kept;
 use super::{MAX_LINE_BYTES, StreamError, StreamHeader, VideoFrame, Y4mError};
 use crate::generated::v_frame_y4m::{header_line, write_frame, write_header};
+use crate::frame::Frame;
+use crate::pixel::Pixel;
 use crate::planar::{Counted, PlanarError};
 use core::fmt;
 use std::io::{self, Write as _};
@@ -43,16 +45,34 @@ impl<W: io::Write> Encoder<W> {
     /// nothing was written. [`StreamError::Io`] where a write failed or took nothing: after it each later call is
     /// [`StreamError::AfterFailure`].
     pub fn write_frame(&mut self, frame: &VideoFrame) -> Result<(), StreamError> {
+        with_frame!(frame, frame => self.write(frame))
+    }
+
+    /// Writes a frame of either pixel type, as [`write_frame`](Self::write_frame) does.
+    ///
+    /// ```
+    /// use v_frame_proved::chroma::ChromaSubsampling;
+    /// use v_frame_proved::frame::FrameBuilder;
+    /// use v_frame_proved::y4m::{Color, Encoder, StreamHeader};
+    ///
+    /// let color = Color::new(ChromaSubsampling::Monochrome, 10, None).expect("gray of 10 bits");
+    /// let mut encoder = Encoder::new(Vec::new(), StreamHeader::new(1, 1, color))?;
+    /// encoder.write(&FrameBuilder::new(1, 1, ChromaSubsampling::Monochrome, 10).build::<u16>()?)?;
+    /// assert!(encoder.finish()?.ends_with(b"Cmono10\nFRAME\n\0\0"));
+    /// # Ok::<(), Box<dyn std::error::Error>>(())
+    /// ```
+    ///
+    /// # Errors
+    ///
+    /// Those of [`write_frame`](Self::write_frame).
+    pub fn write<T: Pixel>(&mut self, frame: &Frame<T>) -> Result<(), StreamError> {
         if self.has_failed {
             return Err(StreamError::AfterFailure);
         }
-        if !frame.fits(&self.header) {
+        if !is_frame_of(frame, &self.header) {
             return Err(StreamError::Mismatch);
         }
-        let written = self.writer.call(|writer| {
-            let mut writer = Counted::new(writer);
-            with_frame!(frame, frame => write_frame(&mut writer, frame))
-        });
+        let written = self.writer.call(|writer| write_frame(&mut Counted::new(writer), frame));
         self.has_failed = written.is_err();
         written
     }

@@ -143,10 +143,7 @@ impl VideoFrame {
 
     /// Returns whether it is a frame of a stream of this header.
     pub(super) fn fits(&self, header: &StreamHeader) -> bool {
-        // Both pixel types have depths of their own.
-        self.bit_depth() == header.color.bit_depth()
-            && matches!(self, VideoFrame::EightBits(_)) == (self.bit_depth() == 8)
-            && with_frame!(self, frame => has_size(frame, header))
+        with_frame!(self, frame => is_frame_of(frame, header))
     }
 }
 
@@ -164,13 +161,17 @@ impl From<Frame<u16>> for VideoFrame {
     }
 }
 
-/// Returns whether a frame has the format of a header, and each plane its size.
-fn has_size<T: Pixel>(frame: &Frame<T>, header: &StreamHeader) -> bool {
+/// Returns whether a frame has the format and the bit depth of a header, and each plane its size.
+pub(super) fn is_frame_of<T: Pixel>(frame: &Frame<T>, header: &StreamHeader) -> bool {
     let size = |plane: &Plane<T>| (plane.width(), plane.height());
     let (columns, rows) = subsample_ratio_or_one(frame.subsampling);
     let chroma = (header.width.div_ceil(columns), header.height.div_ceil(rows));
     let chroma = frame.subsampling.has_chroma().then_some(chroma);
-    frame.subsampling == header.color.subsampling()
+    let depth = frame.bit_depth.get();
+    // Both pixel types have depths of their own.
+    depth == header.color.bit_depth()
+        && (size_of::<T>() == 1) == (depth == 8)
+        && frame.subsampling == header.color.subsampling()
         && size(&frame.y_plane) == (header.width, header.height)
         && frame.u_plane.as_ref().map(size) == chroma
         && frame.v_plane.as_ref().map(size) == chroma

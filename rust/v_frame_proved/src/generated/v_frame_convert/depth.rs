@@ -9,7 +9,7 @@ use crate::generated::v_frame::plane::{Plane, VisibleMut};
 /// Shows in `target` what `source` shows, with its values of bit depth `from` in bit depth `to`. The border of the target
 /// stays.
 ///
-/// To a greater depth a value is shifted, so 255 of 8 bits becomes 1020 of 10. To a smaller depth it is rounded to the nearest
+/// To a greater depth a value is shifted, as limited range wants it: 235 of 8 bits becomes 940 of 10, and 255 becomes 1020. To a smaller depth it is rounded to the nearest
 /// value, upwards at a half, and at most to the largest one. A value above the largest of depth `from` counts as that one.
 ///
 /// Each depth has to fit its type of pixels: ask [`depth_fits`](crate::convert::depth_fits).

@@ -13,8 +13,9 @@ use crate::generated::v_frame_ops::fill;
 /// Shows in `target` what `source` shows, in the target's bit depth and chroma format. Borders stay.
 ///
 /// Luma is converted as by [`convert_depth`], and each chroma plane that the target has as by [`resample`]: where its format has
-/// fewer of them, chroma pixels are means, and where it has more they are repeated. Chroma planes that the target doesn't have
-/// are left out. Those that the source doesn't have are filled with the middle of the target's depth, which is no color.
+/// fewer of them, chroma pixels are means, at the center of the luma that they are of, and where it has more they are repeated.
+/// Chroma planes that the target doesn't have are left out. Those that the source doesn't have are filled with the middle of the
+/// target's depth, which is no color.
 ///
 /// The luma planes have one size, and the chroma planes the sizes of their formats: ask [`frames_fit`]. Two frames that
 /// `FrameBuilder` built with one luma size fit, if each format divides it.

@@ -21,7 +21,7 @@ use crate::support::numbers::nearest_u64_to_f64;
 pub struct Mean {
     /// The sum.
     pub sum: f64,
-    /// How many numbers there are. It stays at `u64::MAX`.
+    /// How many numbers there are. It saturates at `u64::MAX`.
     pub count: u64,
 }
 

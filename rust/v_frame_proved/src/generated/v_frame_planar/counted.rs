@@ -59,7 +59,7 @@ pub struct Counted<D> {
 }
 
 impl<D> Counted<D> {
-    /// No failure of `inner` has been counted yet.
+    /// Wraps a reader or a writer, of which no failure has been counted.
     #[inline]
     #[must_use]
     pub fn new(inner: D) -> Self {
@@ -84,7 +84,7 @@ impl<D> Counted<D> {
         self.inner
     }
 
-    /// Returns how often a read, a write or a flush failed. The count stays at `u64::MAX`.
+    /// Returns how often a read, a write or a flush failed. It saturates at `u64::MAX`.
     #[inline]
     #[must_use]
     pub fn failures(&self) -> u64 {
@@ -113,7 +113,11 @@ impl<D> Counted<D> {
 }
 
 impl<D: io::Read> Counted<D> {
-    /// One call of `read` of the reader. An error of it is counted, an interrupted read too.
+    /// Calls `read` of the reader once. An error of it is counted, an interrupted read too.
+    ///
+    /// # Errors
+    ///
+    /// The reader's.
     #[inline]
     pub fn read(&mut self, buf: &mut [u8]) -> io::Result<usize> {
         let result = self.inner.read(buf);
@@ -123,7 +127,11 @@ impl<D: io::Read> Counted<D> {
 }
 
 impl<D: io::Write> Counted<D> {
-    /// One call of `write` of the writer. An error of it is counted, an interrupted write too.
+    /// Calls `write` of the writer once. An error of it is counted, an interrupted write too.
+    ///
+    /// # Errors
+    ///
+    /// The writer's.
     #[inline]
     pub fn write(&mut self, buf: &[u8]) -> io::Result<usize> {
         let result = self.inner.write(buf);

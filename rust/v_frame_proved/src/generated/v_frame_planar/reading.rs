@@ -20,8 +20,9 @@ use crate::generated::v_frame::plane::Plane;
 ///
 /// [`PlanarError::TooLarge`] where the frame has more than `isize::MAX` bytes, else [`PlanarError::OutOfMemory`] where the
 /// request for memory was refused: for these nothing was read. [`PlanarError::Read`] where a read failed, an interrupted one
-/// too, which is not tried again; [`Counted::last_failure`] says why. [`PlanarError::Truncated`] where the reader came to its end inside the frame. After each of
-/// them the frame is as it was.
+/// too, which is not tried again; [`Counted::last_failure`] says why. [`PlanarError::Truncated`] where the reader came to its end
+/// inside the frame. After each of them the frame is as it was. The bytes that came before the last two are lost: a next call
+/// would begin inside the frame.
 #[inline]
 pub fn read_frame<T: Pixel, R: io::Read>(
     reader: &mut Counted<R>,
@@ -61,7 +62,7 @@ fn allocate<T: Pixel>(frame: &Frame<T>) -> Result<Vec<u8>, PlanarError> {
 }
 
 /// Returns how many planar bytes a frame has: as many as [`read_frame`] asks for, and [`write_frame`](crate::planar::write_frame)
-/// writes. The count stays at `usize::MAX`.
+/// writes. The count saturates at `usize::MAX`.
 #[inline]
 #[must_use]
 pub fn planar_len<T: Pixel>(frame: &Frame<T>) -> usize {

@@ -42,10 +42,10 @@ pub trait ColorOrder: sealed::Sealed {
     /// Bytes of one pixel.
     const BYTES: usize;
 
-    /// Writes a color into the bytes of a pixel.
+    /// Writes a color into the bytes of a pixel, [`BYTES`](Self::BYTES) of them. With others it may panic, or write a part.
     fn write(pixel: &mut [u8], color: Color);
 
-    /// Returns the color of a pixel.
+    /// Returns the color of a pixel of [`BYTES`](Self::BYTES) bytes. With others it may panic, or read a part.
     fn read(pixel: &[u8]) -> Color;
 }
 

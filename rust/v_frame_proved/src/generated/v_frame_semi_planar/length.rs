@@ -8,7 +8,7 @@ use crate::generated::v_frame::pixel::Pixel;
 use crate::generated::v_frame::plane::Plane;
 
 /// Returns how many bytes a frame has in a semi-planar layout: as many as [`read_frame`](crate::semi_planar::read_frame) asks for, and
-/// [`write_frame`](crate::semi_planar::write_frame) writes. The count stays at `usize::MAX`.
+/// [`write_frame`](crate::semi_planar::write_frame) writes. The count saturates at `usize::MAX`.
 ///
 /// # Errors
 ///

@@ -21,7 +21,7 @@ pub trait FrameObserver<T: Pixel> {
     ) -> Result<(), StreamError>;
 }
 
-/// Takes nothing.
+/// An observer that looks at nothing.
 #[derive(Clone, Copy, Debug)]
 pub struct NoObserver;
 

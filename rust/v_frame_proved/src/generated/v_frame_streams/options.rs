@@ -33,7 +33,7 @@ pub struct CopyOptions {
 }
 
 impl CopyOptions {
-    /// Writes all frames as they are.
+    /// Returns options by which all frames are written as they are.
     #[inline]
     #[must_use]
     pub fn new() -> Self {

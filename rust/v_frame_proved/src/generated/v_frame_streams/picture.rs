@@ -88,7 +88,8 @@ impl<T: Pixel> Picture<T> {
         self.bytes.as_slice()
     }
 
-    /// Returns whether frames of a stream can be read into it: each has as many bytes as those of the stream that it was made for.
+    /// Returns whether frames of a stream have as many bytes as those of the stream that it was made for. Sizes, formats and bit
+    /// depths are not compared: the bytes are shown as those of this picture.
     #[inline]
     #[must_use]
     pub fn is_made_for<R: io::Read>(&self, source: &Source<R>) -> bool {
@@ -97,12 +98,14 @@ impl<T: Pixel> Picture<T> {
 
     /// Reads the next frame of a stream and shows it. `false` where the stream stood at its end before it.
     ///
-    /// The picture has to be made for this stream, or one of the same format: [`is_made_for`](Self::is_made_for) is the test.
+    /// Its frames must have as many bytes as the picture's: [`is_made_for`](Self::is_made_for) is the test. They are right where it
+    /// was made for this stream, or for one of the same size and color.
     ///
     /// # Errors
     ///
     /// [`Problem::Stream`] where a frame was not read whole. In a semi-planar stream also [`Problem::OutOfMemory`] where a request
-    /// for memory was refused, and the frame was then read but is not shown.
+    /// for memory was refused, and the frame was then read but is not shown. After an error read no further: what came of the frame
+    /// is lost.
     ///
     /// # Panics
     ///

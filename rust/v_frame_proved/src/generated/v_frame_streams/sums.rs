@@ -13,7 +13,7 @@ pub struct PlaneSums {
 }
 
 impl PlaneSums {
-    /// Returns the sums, plane by plane. One stays at `u128::MAX`.
+    /// Returns the sums, plane by plane: of chroma where both have it. Each saturates at `u128::MAX`.
     #[inline]
     #[must_use]
     pub fn plus(&self, more: &PlaneSums) -> Self {
@@ -24,7 +24,7 @@ impl PlaneSums {
         }
     }
 
-    /// Returns the numbers, each so many times. One stays at `u128::MAX`.
+    /// Returns the numbers, each so many times. Each saturates at `u128::MAX`.
     #[inline]
     #[must_use]
     pub fn times(&self, count: u64) -> Self {
@@ -36,7 +36,7 @@ impl PlaneSums {
         }
     }
 
-    /// Returns the sum over all planes. It stays at `u128::MAX`.
+    /// Returns the sum over all planes. It saturates at `u128::MAX`.
     #[inline]
     #[must_use]
     pub fn total(&self) -> u128 {

@@ -12,7 +12,7 @@ use crate::generated::v_frame::sequence::Sequence;
 pub struct Ratio {
     /// The number before the colon.
     pub numerator: u64,
-    /// The number after it. `0:0` says that the ratio is unknown.
+    /// The number after it. `0:0` says that the ratio is unknown. A single 0 is read, too, before the colon or after it.
     pub denominator: u64,
 }
 
@@ -121,7 +121,7 @@ pub struct StreamHeader {
 
 impl StreamHeader {
     /// Returns whether the header has a line: no size is 0, and no extension has a space or a line feed. Each header that
-    /// was read has one.
+    /// was read has one. A line of more than [`MAX_LINE_BYTES`](crate::y4m::MAX_LINE_BYTES) is written, and no reader here takes it.
     #[inline]
     #[must_use]
     pub fn is_writable(&self) -> bool {

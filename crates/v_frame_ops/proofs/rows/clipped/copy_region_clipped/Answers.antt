@@ -34,7 +34,7 @@ copy_rows-requires-clause-fit g c =
     let columns = c.new-across.result in
     let rows = c.new-down.result in
     let part = part_of c.args.width c.args.height c.args.stride columns.start rows.start columns.count rows.count
-    (length c.args.buffer.now) c.requires (omega arith) (omega arith) (c.new-across.ensures.in_target (omega arith))
+    (length c.args.buffer.now) c.requires.fit (omega arith) (omega arith) (c.new-across.ensures.in_target (omega arith))
     (c.new-down.ensures.in_target (omega arith)) in
     rw (c.split_at_mut-from.ensures.back) (fits_behind _ _ _ columns.start rows.start columns.count rows.count c.args.buffer.now part)
 
@@ -44,7 +44,7 @@ returns-clause-inside g c = λ i j k l wide high wide1 high1 on.
     let columns = c.new-across.result in
     let rows = c.new-down.result in
     let part = part_of c.args.width c.args.height c.args.stride columns.start rows.start columns.count rows.count
-    (length c.args.buffer.now) c.requires (omega arith) (omega arith) (c.new-across.ensures.in_target (omega arith))
+    (length c.args.buffer.now) c.requires.fit (omega arith) (omega arith) (c.new-across.ensures.in_target (omega arith))
     (c.new-down.ensures.in_target (omega arith)) in
     let rest = rw (c.split_at_mut-from.ensures.back) at c.copy_rows.ensures.rest in
     let across = c.new-across.ensures.all i k (omega (arith, wide, c.width.ensures.value))
@@ -75,7 +75,7 @@ returns-clause-beside g c = λ k l none.
     let columns = c.new-across.result in
     let rows = c.new-down.result in
     let part = part_of c.args.width c.args.height c.args.stride columns.start rows.start columns.count rows.count
-    (length c.args.buffer.now) c.requires (omega arith) (omega arith) (c.new-across.ensures.in_target (omega arith))
+    (length c.args.buffer.now) c.requires.fit (omega arith) (omega arith) (c.new-across.ensures.in_target (omega arith))
     (c.new-down.ensures.in_target (omega arith)) in
     let rest = rw (c.split_at_mut-from.ensures.back) at c.copy_rows.ensures.rest in
     let in_columns = c.new-across.ensures.in_source (omega arith) in
@@ -105,7 +105,7 @@ returns-clause-rest g c =
     let columns = c.new-across.result in
     let rows = c.new-down.result in
     let part = part_of c.args.width c.args.height c.args.stride columns.start rows.start columns.count rows.count
-    (length c.args.buffer.now) c.requires (omega arith) (omega arith) (c.new-across.ensures.in_target (omega arith))
+    (length c.args.buffer.now) c.requires.fit (omega arith) (omega arith) (c.new-across.ensures.in_target (omega arith))
     (c.new-down.ensures.in_target (omega arith)) in
     let rest = rw (c.split_at_mut-from.ensures.back) at c.copy_rows.ensures.rest in
     rw (c.split_at_mut-from.ensures.front)
