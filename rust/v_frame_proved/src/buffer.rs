@@ -17,13 +17,12 @@ pub struct AlignedData<T> {
     start: usize,
 }
 
-/// Returns how many entries are in front of the first one that is aligned, at most.
+/// Returns how many entries are in front of the first one that is aligned, at most: so many entries and one more take a multiple
+/// of the alignment, whatever the size of an entry.
 #[inline]
 fn slack<T>() -> usize {
-    match ALIGNMENT.checked_div(size_of::<T>()) {
-        Some(count) => count.saturating_sub(1),
-        None => 0,
-    }
+    let common_twos = size_of::<T>().trailing_zeros().min(ALIGNMENT.trailing_zeros());
+    (ALIGNMENT >> common_twos) - 1
 }
 
 /// Returns an empty list with room for so many entries.

@@ -57,3 +57,14 @@ fn an_axis_has_few_and_round_steps() {
         assert_eq!(labels(values), wanted, "{values:?}");
     }
 }
+
+#[test]
+fn marks_of_large_numbers_are_evenly_apart() {
+    let series = [Series { name: "Y", values: &[16_777_216.0, 16_777_221.0] }];
+    let text = svg(&Chart { title: "title", unit: "unit", first: 1, series: &series }).expect("drawn");
+    let labels = text.lines().filter_map(|line| line.strip_prefix("<text x=\"68\" y=\""));
+    let places: Vec<f64> = labels.map(|line| line.split('"').next().unwrap().parse().expect("a number")).collect();
+    let first = places[1] - places[0];
+    assert!(first < -1.0, "{places:?}");
+    assert!(places.windows(2).all(|pair| (pair[1] - pair[0] - first).abs() < 0.11), "{places:?}");
+}

@@ -6,6 +6,7 @@ use std::io::{self, Read};
 use v_frame_proved::planar::Counted;
 use v_frame_proved::rgb::{ChromaU, ChromaV, Luma};
 use v_frame_proved::streams::{Container, NoObserver, Picture, Place, Silent, Sink, Source, StreamError};
+use v_frame_proved::y4m::{Decoder, Encoder};
 
 /// A reader that has no debug text.
 struct Quiet<'a>(&'a [u8]);
@@ -44,4 +45,13 @@ fn streams_show_what_is_known_of_them() -> Result<(), StreamError> {
     let sink = Sink { container: Container::Raw, frames: 3, writer: Counted::new(Anything) };
     assert_eq!(shown(&source, &sink), format!("{of_source} Sink {{ container: Raw, frames: 3, .. }}"));
     Ok(())
+}
+
+#[test]
+fn decoders_and_encoders_show_their_headers() {
+    let decoder = Decoder::new(Quiet(b"YUV4MPEG2 W2 H1 Cmono10\nFRAME\n\x07\x00\x09\x00")).unwrap();
+    let header = decoder.header().clone();
+    assert_eq!(format!("{decoder:?}"), format!("Decoder {{ header: {header:?}, .. }}"));
+    let encoder = Encoder::new(Vec::new(), header.clone()).unwrap();
+    assert_eq!(format!("{encoder:?}"), format!("Encoder {{ header: {header:?}, .. }}"));
 }

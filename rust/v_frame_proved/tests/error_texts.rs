@@ -126,3 +126,8 @@ fn errors_of_pictures() {
         ],
     );
 }
+
+#[test]
+fn memory_that_is_refused_has_its_kind() {
+    assert_eq!(io::Error::from(v_frame_proved::AllocError).kind(), io::ErrorKind::OutOfMemory);
+}

@@ -162,3 +162,13 @@ fn errors_say_what_differs() {
         assert_eq!(error.to_string(), text);
     }
 }
+
+#[test]
+fn depths_that_differ_are_the_first_reason() {
+    let (mut first, second) = (frame(16, Yuv420, 10), frame(18, Yuv420, 12));
+    first.bit_depth = 8.try_into().unwrap();
+    let error = MeasureError::DepthsDiffer { first: 8, second: 12 };
+    assert_eq!(frame_psnr(&first, &second), Err(error));
+    assert_eq!(frame_ssim(&first, &second), Err(error));
+    assert_eq!(frame_mean_squared_error(&first, &second), Err(error));
+}

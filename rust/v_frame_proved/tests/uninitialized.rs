@@ -146,3 +146,16 @@ fn planes_are_equal_in_geometry_and_in_each_entry() {
         assert_ne!(plane, shaped(other, entries));
     }
 }
+
+#[test]
+fn entries_without_values_begin_at_addresses_that_64_divides() {
+    for width in [1, 33, 5000, 300_000] {
+        let addresses = [
+            vacant::<u8>(width).data().as_ptr().addr(),
+            vacant::<u16>(width).data().as_ptr().addr(),
+            // These have three bytes.
+            vacant::<[u8; 2]>(width).data().as_ptr().addr(),
+        ];
+        assert_eq!(addresses.map(|address| address % 64), [0; 3], "{width} entries");
+    }
+}

@@ -206,3 +206,39 @@ fn crops_outside_or_inside_a_chroma_sample_are_refused() {
     assert_eq!(small_chroma.crop(0, 0, 3, 2), Err(CropError::Outside));
     assert!(small_chroma.crop(0, 0, 2, 2).is_ok());
 }
+
+#[test]
+fn crops_have_the_ratios_of_their_planes_and_no_border() {
+    for (format, columns, rows) in [(Yuv420, 2, 2), (Yuv422, 2, 1), (Yuv411, 4, 1), (Yuv444, 1, 1)] {
+        let builder = FrameBuilder::new(8, 4, format, 8).luma_padding_left(4).luma_padding_right(8);
+        let mut frame = builder.luma_padding_top(2).luma_padding_bottom(4).build::<u8>().unwrap();
+        for plane in frame.planes_mut() {
+            plane.data_mut().fill(99);
+            plane.pixels_mut().zip(0..).for_each(|(pixel, number)| *pixel = number);
+        }
+        let part = frame.crop(4, 2, 4, 2).unwrap();
+        for ((part, whole), (columns, rows)) in part.planes().zip(frame.planes()).zip([(1, 1), (columns, rows), (columns, rows)]) {
+            let (width, height) = (4 / columns, 2 / rows);
+            let geometry = PlaneGeometry::unpadded(width, height, columns as u8, rows as u8).unwrap();
+            assert_eq!(part.geometry(), geometry, "{format:?}");
+            let shown = whole.as_plane_ref().region(width, height, width, height).unwrap();
+            assert_eq!(RowsRef::from(part), shown.as_rows_ref(), "{format:?}");
+        }
+    }
+}
+
+#[test]
+fn crops_are_refused_for_the_first_reason() {
+    let misaligned = CropError::Misaligned { columns: 4, rows: 1 };
+    for (x, y, width, height) in [(1, 0, 8, 1), (2, 0, 0, 1), (9, 9, 1, 1)] {
+        assert_eq!(frame(8, 4, Yuv411).crop(x, y, width, height), Err(misaligned));
+    }
+    let texts = [
+        (misaligned, "the rectangle begins inside a chroma sample of 4 columns and 1 rows"),
+        (CropError::Outside, "the rectangle is empty or not inside the frame"),
+        (CropError::from(v_frame_proved::AllocError), "out of memory"),
+    ];
+    for (error, text) in texts {
+        assert_eq!(error.to_string(), text);
+    }
+}

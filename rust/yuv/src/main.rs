@@ -43,6 +43,7 @@ mod generated {
 #[cfg(test)]
 mod tests;
 
+use std::io::{self, Write};
 use std::process::ExitCode;
 use support::HostRuntime;
 
@@ -50,7 +51,8 @@ fn main() -> ExitCode {
     match HostRuntime::new() {
         Ok(rt) => generated::yuv::main(rt),
         Err(error) => {
-            eprintln!("yuv: {error}");
+            // Where standard error takes nothing, the status still tells.
+            let _ = writeln!(io::stderr(), "yuv: {error}");
             ExitCode::from(2)
         }
     }

@@ -4,7 +4,9 @@
 mod cases;
 
 use cases::{Case, Room, cases};
+use std::ffi::OsString;
 use std::io::Write;
+use std::os::unix::ffi::OsStringExt;
 use std::process::{Command, Output, Stdio};
 use std::thread;
 
@@ -34,4 +36,12 @@ fn output_of(room: &Room, case: &Case) -> Output {
     let output = program.wait_with_output().expect("an output");
     let _ = writing.join();
     output
+}
+
+#[test]
+fn an_argument_that_is_not_utf8_is_refused() {
+    let words = ["info".into(), OsString::from_vec(vec![0xff])];
+    let output = Command::new(env!("CARGO_BIN_EXE_yuv")).args(words).output().expect("an output");
+    assert_eq!((output.status.code(), output.stdout.as_slice()), (Some(2), &b""[..]));
+    assert!(output.stderr.starts_with(b"yuv: an argument is not UTF-8\n"), "{output:?}");
 }

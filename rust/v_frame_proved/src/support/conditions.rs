@@ -61,4 +61,15 @@ mod tests {
         assert!(!has_turned_size(true, (2, 3), (2, 3)));
         assert!(!has_turned_size(true, (2, 3), (3, 4)));
     }
+
+    #[test]
+    fn turned_sizes_are_those_of_the_definition() {
+        let sizes = [(2, 3), (3, 2), (2, 4), (4, 2), (3, 4), (4, 3)];
+        for source in sizes {
+            for target in sizes {
+                assert_eq!(has_turned_size(false, source, target), source == target);
+                assert_eq!(has_turned_size(true, source, target), (source.1, source.0) == target);
+            }
+        }
+    }
 }

@@ -209,3 +209,36 @@ pub fn try_format(arguments: fmt::Arguments<'_>) -> Result<String, AllocError> {
     text.write_fmt(arguments)?;
     Ok(text)
 }
+
+/// Requests that no memory can meet, so that nothing has to refuse them.
+#[cfg(test)]
+mod tests {
+    use super::{AllocError, TryCollect, TryPush, TryVec, repeated};
+    use alloc::vec;
+    use alloc::vec::Vec;
+
+    #[test]
+    fn lists_that_would_be_too_long_are_refused() {
+        let most = usize::MAX;
+        assert_eq!(Vec::<u16>::with_room_for(most), Err(AllocError));
+        assert_eq!(repeated(0_u16, most), Err(AllocError));
+        assert_eq!((0..most).try_collect_vec(), Err(AllocError));
+        let mut numbers = vec![7_u16, 8, 9];
+        assert_eq!(numbers.try_resize(most, 0), Err(AllocError));
+        assert_eq!(numbers, [7, 8, 9]);
+        // No entry of this list takes memory, and it has no place for one more.
+        let mut full = vec![(); most];
+        assert_eq!(full.try_push(()), Err(AllocError));
+        assert_eq!(full.try_extend_from_slice(&[()]), Err(AllocError));
+        assert_eq!(full.len(), most);
+    }
+
+    #[test]
+    fn lists_are_made_longer_and_shorter() {
+        let mut numbers = vec![7_u16, 8];
+        for (count, wanted) in [(4, &[7, 8, 9, 9][..]), (4, &[7, 8, 9, 9]), (1, &[7]), (0, &[])] {
+            assert_eq!(numbers.try_resize(count, 9), Ok(()));
+            assert_eq!(numbers, wanted);
+        }
+    }
+}

@@ -4,6 +4,7 @@ use super::stepping::{Step, Stepping, cause, patient_steps};
 use super::{FIRST_FRAME, SMALL};
 use std::io::{self, ErrorKind, Read};
 use v_frame_proved::chroma::ChromaSubsampling::{self, Monochrome, Yuv411, Yuv420, Yuv422, Yuv444};
+use v_frame_proved::frame::FrameBuilder;
 use v_frame_proved::y4m::{Decoder, Encoder, HeaderError, StreamError, VideoFrame, Y4mError};
 
 /// Reads a stream and writes it again.
@@ -146,6 +147,8 @@ fn failures_keep_their_cause_and_end_the_stream() {
             assert_eq!(cause(&error).unwrap(), "the cable is out");
             assert_eq!(frame, before);
             assert!(matches!(decoder.read_into(&mut frame), Err(StreamError::AfterFailure)));
+            let mut unfit = VideoFrame::from(FrameBuilder::new(9, 9, Monochrome, 8).build::<u8>().unwrap());
+            assert!(matches!(decoder.read_into(&mut unfit), Err(StreamError::AfterFailure)));
             assert!(decoder.next().is_none());
         }
     }
@@ -248,4 +251,24 @@ fn a_stream_that_has_ended_stays_ended() {
     assert!(decoder.next().is_none());
     assert!(decoder.next().is_none());
     assert!(!decoder.read_into(&mut frame).unwrap());
+}
+
+/// A reader that keeps the length of the largest buffer that it was given.
+struct Measuring<'a> {
+    stream: &'a [u8],
+    largest: usize,
+}
+
+impl Read for &mut Measuring<'_> {
+    fn read(&mut self, buf: &mut [u8]) -> io::Result<usize> {
+        self.largest = self.largest.max(buf.len());
+        self.stream.read(buf)
+    }
+}
+
+#[test]
+fn the_first_bytes_of_a_frame_take_a_mebibyte_at_most() {
+    let mut reader = Measuring { stream: b"YUV4MPEG2 W65536 H65536 Cmono\nFRAME\nabc", largest: 0 };
+    assert!(Decoder::new(&mut reader).unwrap().next().unwrap().is_err());
+    assert_eq!(reader.largest, 1 << 20);
 }

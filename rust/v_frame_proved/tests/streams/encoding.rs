@@ -4,7 +4,7 @@ use super::SMALL;
 use super::stepping::{Step, Stepping, cause, patient_steps};
 use std::io::{self, ErrorKind};
 use v_frame_proved::chroma::ChromaSubsampling::{self, Monochrome, Yuv420, Yuv422};
-use v_frame_proved::frame::{Frame, FrameBuilder};
+use v_frame_proved::frame::{Frame, FrameBuilder, FrameError};
 use v_frame_proved::y4m::{Color, Decoder, Depth, Encoder, StreamError, StreamHeader, VideoFrame};
 
 /// Returns a blank frame.
@@ -164,4 +164,84 @@ fn decoders_and_errors_go_between_threads() {
     goes::<Encoder<io::Sink>>();
     goes::<StreamError>();
     goes::<VideoFrame>();
+}
+
+#[test]
+fn frames_of_bytes_are_none_of_a_deep_stream() {
+    let mut bytes = FrameBuilder::new(4, 2, Monochrome, 8).build::<u8>().unwrap();
+    bytes.bit_depth = 10.try_into().unwrap();
+    let mut frame = VideoFrame::from(bytes);
+    let header = StreamHeader::new(4, 2, Color::new(Monochrome, 10, None).unwrap());
+    let mut encoder = Encoder::new(Vec::new(), header).unwrap();
+    assert!(matches!(encoder.write_frame(&frame), Err(StreamError::Mismatch)));
+    let stream = [&encoder.finish().unwrap()[..], b"FRAME\n", &[0; 16]].concat();
+    let mut decoder = Decoder::new(&stream[..]).unwrap();
+    assert!(matches!(decoder.read_into(&mut frame), Err(StreamError::Mismatch)));
+    assert!(decoder.next().unwrap().is_ok());
+}
+
+#[test]
+fn after_a_failure_no_frame_is_looked_at() {
+    let header = StreamHeader::new(4, 2, Color::Yuv420Jpeg);
+    // The header line has 25 bytes.
+    let writer = Stepping::new(Vec::new(), &[Step::Take(usize::MAX)], 25);
+    let mut encoder = Encoder::new(writer, header).unwrap();
+    assert!(matches!(encoder.write(&blank(4, 2, Yuv420)), Err(StreamError::Io(_))));
+    for frame in other_frames() {
+        assert!(matches!(encoder.write_frame(&frame), Err(StreamError::AfterFailure)), "{frame:?}");
+    }
+}
+
+#[test]
+fn blank_frames_have_no_border() {
+    let header = |depth| StreamHeader::new(4, 2, Color::new(Yuv422, depth, None).unwrap());
+    let eight = FrameBuilder::new(4, 2, Yuv422, 8).build::<u8>().unwrap();
+    assert_eq!(VideoFrame::blank(&header(8)), Ok(eight.into()));
+    let deep = FrameBuilder::new(4, 2, Yuv422, 12).build::<u16>().unwrap();
+    assert_eq!(VideoFrame::blank(&header(12)), Ok(deep.into()));
+}
+
+#[test]
+fn crops_of_either_pixel_type_are_those_of_their_frames() {
+    for file in [&include_bytes!("../data/444_7x5.y4m")[..], include_bytes!("../data/mono10_7x5.y4m")] {
+        let whole = Decoder::new(file).unwrap().next().unwrap().unwrap();
+        let wanted = match &whole {
+            VideoFrame::EightBits(frame) => VideoFrame::from(frame.crop(3, 1, 4, 2).unwrap()),
+            VideoFrame::HighDepth(frame) => VideoFrame::from(frame.crop(3, 1, 4, 2).unwrap()),
+        };
+        assert_eq!(whole.crop(3, 1, 4, 2), Ok(wanted));
+    }
+}
+
+#[test]
+fn another_color_leaves_other_extensions() {
+    let mut header = Decoder::new(&b"YUV4MPEG2 W2 H1 C420jpeg XYSCSS=420JPEG XYSCSS XYSCSSES=1\n"[..]).unwrap().header().clone();
+    header.set_color(Color::Yuv444);
+    let line = Encoder::new(Vec::new(), header).unwrap().finish().unwrap();
+    assert_eq!(line, b"YUV4MPEG2 W2 H1 C444 XYSCSS XYSCSSES=1\n");
+}
+
+#[test]
+fn errors_say_what_happened() {
+    let texts = [
+        (StreamError::UnwritableHeader, "no line has what the header says"),
+        (StreamError::Mismatch, "the frame is not what the header says"),
+        (StreamError::Io(ErrorKind::TimedOut.into()), "a read or a write of the stream failed"),
+        (StreamError::AfterFailure, "the stream failed before"),
+        (FrameError::OutOfMemory.into(), "out of memory"),
+        (FrameError::UnsupportedResolution.into(), "frame too large"),
+    ];
+    for (error, text) in texts {
+        assert_eq!(error.to_string(), text, "{error:?}");
+    }
+}
+
+#[test]
+fn streams_that_would_block_are_not_asked_again() {
+    let steps = [Step::Take(usize::MAX), Step::Fail(ErrorKind::WouldBlock)];
+    let would_block = |error| matches!(error, StreamError::Io(cause) if cause.kind() == ErrorKind::WouldBlock);
+    assert!(would_block(Decoder::new(Stepping::new(SMALL, &steps, usize::MAX)).unwrap_err()));
+    let header = StreamHeader::new(4, 2, Color::Yuv420Jpeg);
+    let mut encoder = Encoder::new(Stepping::new(Vec::new(), &steps, usize::MAX), header).unwrap();
+    assert!(would_block(encoder.write(&blank(4, 2, Yuv420)).unwrap_err()));
 }

@@ -4,4 +4,5 @@ mod cases;
 mod error_texts;
 mod large_sums;
 mod runs;
+mod support;
 mod words;

@@ -90,6 +90,9 @@ impl<R: io::Read> Decoder<R> {
     /// refused, [`StreamError::Truncated`] where the stream ends inside the frame, and [`StreamError::Io`] where a read
     /// failed: after these each later call is [`StreamError::AfterFailure`]. After each of them the frame is as it was.
     pub fn read_into(&mut self, frame: &mut VideoFrame) -> Result<bool, StreamError> {
+        if matches!(self.state, State::Failed) {
+            return Err(StreamError::AfterFailure);
+        }
         if !frame.fits(&self.header) {
             return Err(StreamError::Mismatch);
         }
