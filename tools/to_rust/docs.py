@@ -73,7 +73,8 @@ class Links:
         """Returns a line with its paths as Rust has them, and with the words of the table."""
         line = LINK.sub(lambda found: f"]({self.path(found[1])}{found[2] or ''})", line)
         for name, path in self.imports.items():
-            line = re.sub(rf"\[`{name}`\](?!\()", f"[`{name}`]({self.path(path)})", line)
+            named = re.compile(rf"\[`({name})((?:::\w+)*)`\](?!\()")
+            line = named.sub(lambda found: f"[`{found[1]}{found[2]}`]({self.path(path + found[2])})", line)
         line = BARE.sub(self.bare, line)
         line = CRATE.sub(lambda found: f"`{tables.PUBLIC_NAMES.get(found[1], found[1]).rpartition('::')[2]}`", line)
         for old, new in tables.DOC_WORDS.items():

@@ -17,11 +17,13 @@ mod error;
 pub mod laws;
 mod pending;
 mod reading;
+mod showing;
 mod video;
 mod writing;
 
 pub use counted::{Counted, WriteFault};
 pub use error::PlanarError;
 pub use reading::{planar_len, read_frame, read_until_full};
-pub use video::{subsample_ratio_or_one, video_frame};
+pub use showing::show_planar_bytes;
+pub use video::{chroma_size, subsample_ratio_or_one, video_frame};
 pub use writing::write_frame;

@@ -1,11 +1,13 @@
 //! Frames from their planar bytes.
-ghost use Rattle.std.specs.Prelude.{◌≡◌, ◌≢◌, ◌-◌, ◌++◌, ◌<◌, ◌≤◌, ◌⊎◌, false, length, min, take, option_map, Err, IfOk, IfErr, MatchBool, MatchResult, OnOk, OnErr};
+ghost use Rattle.std.specs.Prelude.{◌≡◌, ◌≢◌, ◌<◌, ◌≤◌, ◌⊎◌, false, length, min, take, option_map, Err, IfOk, IfErr, MatchBool, MatchResult, OnOk, OnErr};
 ghost use Rattle.std.specs.Io.KnownBytes.{Consumes, IsAtEnd};
-ghost use Rattle.v_frame.specs.Prelude.{byte_list, isize_max, usize_max, border_and_geometry, KeepsBorders, table_of, tables_of};
+ghost use Rattle.v_frame.specs.Prelude.{isize_max, usize_max, KeepsBorders, table_of, tables_of};
 ghost use Rattle.v_frame_planar.specs.Planar.{byte_count, bytes_of_plane, plane_byte_count, planar_bytes, size_of, sizes_of, MayStopReading, Reads, TellsCause};
+ghost use Rattle.v_frame_planar.specs.Shown.{FillsFrame};
 
 use crate::counted::Counted;
 use crate::error::PlanarError;
+use crate::showing::show_planar_bytes;
 use std::alloc::Global;
 use std::io;
 use v_frame::frame::Frame;
@@ -58,7 +60,8 @@ fn store_whole_frame<T: Pixel>(
     bytes: &[u8],
     found: usize,
 ) -> Result<bool, PlanarError>
-    requires { length bytes.now ≡ length (planar_bytes T.form (tables_of frame.old)) }
+    requires counted { length bytes.now ≡ length (planar_bytes T.form (tables_of frame.old)) }
+    requires fills { FillsFrame T.form frame.old bytes.now }
     ensures shown { IfOk result (λ more. MatchBool more
         ((found ≡ length bytes.now) × (planar_bytes T.form (tables_of frame.new) ≡ bytes.now))
         ((found ≡ 0) × (found ≢ length bytes.now) × (frame.new ≡ frame.old))) }
@@ -71,7 +74,7 @@ fn store_whole_frame<T: Pixel>(
 {
     let expected = bytes.len();
     if found == expected {
-        store_bytes(frame, bytes);
+        show_planar_bytes(frame, bytes);
         return Ok(true);
     }
     if found == 0 {
@@ -84,6 +87,7 @@ fn store_whole_frame<T: Pixel>(
 fn allocate<T: Pixel>(alloc: Global, frame: &Frame<T>) -> Result<Vec<u8>, PlanarError>
     ensures room { IfOk result (λ bytes.
         length bytes.items ≡ length (planar_bytes T.form (tables_of frame.now))) }
+    ensures fills { IfOk result (λ bytes. FillsFrame T.form frame.now bytes.items) }
     ensures too_large { isize_max < length (planar_bytes T.form (tables_of frame.now))
         → result ≡ Err PlanarError.TooLarge }
     ensures error { let count = length (planar_bytes T.form (tables_of frame.now)) in
@@ -155,50 +159,4 @@ pub fn read_until_full<R: io::Read>(
         }
     }
     Ok(found)
-}
-
-/// Shows the planar bytes of a frame in it.
-fn store_bytes<T: Pixel>(frame: &mut Frame<T>, bytes: &[u8])
-    requires { length bytes.now ≡ length (planar_bytes T.form (tables_of frame.old)) }
-    ensures bytes { planar_bytes T.form (tables_of frame.new) ≡ bytes.now }
-    ensures borders { KeepsBorders frame.old frame.new }
-    ensures sizes { sizes_of (tables_of frame.new) ≡ sizes_of (tables_of frame.old) }
-{
-    let chroma = store_plane_bytes(&mut frame.y_plane, bytes);
-    let rest = store_chroma_bytes(&mut frame.u_plane, chroma);
-    store_chroma_bytes(&mut frame.v_plane, rest);
-}
-
-/// Shows the first bytes in a plane, where it is there, and gives those after them.
-fn store_chroma_bytes<'a, T: Pixel>(plane: &mut Option<Plane<T>>, bytes: &'a [u8]) -> &'a [u8]
-    requires { length (bytes_of_plane T.form (option_map table_of plane.old))
-        ≤ length bytes.now }
-    ensures bytes { bytes.now
-        ≡ bytes_of_plane T.form (option_map table_of plane.new) ++ result.now }
-    ensures rest { length result.now
-        ≡ length bytes.now - length (bytes_of_plane T.form (option_map table_of plane.old)) }
-    ensures border { option_map border_and_geometry plane.new ≡ option_map border_and_geometry plane.old }
-    ensures size { option_map size_of (option_map table_of plane.new)
-        ≡ option_map size_of (option_map table_of plane.old) }
-{
-    match plane {
-        Some(plane) => store_plane_bytes(plane, bytes),
-        None => bytes,
-    }
-}
-
-/// Shows the first bytes in a plane, and gives those after them.
-fn store_plane_bytes<'a, T: Pixel>(plane: &mut Plane<T>, bytes: &'a [u8]) -> &'a [u8]
-    requires { length (byte_list T.form (table_of plane.old)) ≤ length bytes.now }
-    ensures bytes { bytes.now ≡ byte_list T.form (table_of plane.new) ++ result.now }
-    ensures rest { length result.now
-        ≡ length bytes.now - length (byte_list T.form (table_of plane.old)) }
-    ensures border { border_and_geometry plane.new ≡ border_and_geometry plane.old }
-    ensures size { size_of (table_of plane.new) ≡ size_of (table_of plane.old) }
-{
-    let (shown, rest) = bytes.split_at(plane.byte_len());
-    if plane.copy_from_u8_slice(shown).is_err() {
-        unreachable!()
-    }
-    rest
 }

@@ -98,6 +98,20 @@ fn with_chroma<T: Pixel>(
     })
 }
 
+/// Returns the width and the height in pixels of each chroma plane beside luma of this size: as many columns and rows as it takes
+/// to cover luma. `None` where the format has no chroma.
+pub fn chroma_size(
+    subsampling: ChromaSubsampling,
+    width: usize,
+    height: usize,
+) -> Option<(usize, usize)>
+    ensures { result ≡ chroma_sizes_of subsampling width height }
+{
+    let (columns, rows) = subsampling.subsample_ratio()?;
+    let (columns, rows) = (usize::from(columns.get()), usize::from(rows.get()));
+    Some((width.div_ceil(columns), height.div_ceil(rows)))
+}
+
 /// Returns how many luma columns and luma rows there are for one chroma column and one chroma row: 1 and 1 where the format
 /// has no chroma.
 pub fn subsample_ratio_or_one(subsampling: ChromaSubsampling) -> (usize, usize)

@@ -101,13 +101,13 @@ impl<'a, T: Copy> DoubleEndedIterator for Pixels<'a, T> {
 
     #[inline]
     fn next_back(&mut self) -> Option<T> {
-        if let Some((pixel, rest)) = self.back.split_last() {
-            self.back = rest;
-            return Some(*pixel);
-        }
-        let row = match self.rows.next_back() {
-            Some(row) => row,
-            None => mem::take(&mut self.front),
+        let row = if self.back.is_empty() {
+            match self.rows.next_back() {
+                Some(row) => row,
+                None => mem::take(&mut self.front),
+            }
+        } else {
+            self.back
         };
         let (pixel, rest) = row.split_last()?;
         self.back = rest;

@@ -93,24 +93,26 @@ impl<T> Plane<T> {
     /// Returns the visible width in pixels, never zero.
     ///
     /// Ports `Plane::width` of `v_frame` 0.7.0.
+    #[tactic(auto, using(v_frame_raster::proofs::tables::Sizes::width_of_shown, v_frame_raster::proofs::tables::Places::rows_are_wide))]
     pub fn width(&self) -> usize
         ensures value { result ≡ self.now.geometry.width }
         ensures positive { 0 < result }
         ensures table { result ≡ width_of (table_of self.now) }
         ensures rows { All (λ row. length row ≡ result) (table_of self.now) }
     {
-        self.as_plane_ref().width()
+        self.geometry.width()
     }
 
     /// Returns the visible height in pixels, never zero.
     ///
     /// Ports `Plane::height` of `v_frame` 0.7.0.
+    #[tactic(auto, using(v_frame_raster::proofs::tables::Sizes::height_of_shown))]
     pub fn height(&self) -> usize
         ensures value { result ≡ self.now.geometry.height }
         ensures positive { 0 < result }
         ensures table { result ≡ height_of (table_of self.now) }
     {
-        self.as_plane_ref().height()
+        self.geometry.height()
     }
 
     /// Returns the layout of the plane. Its [`checked_alloc_size`](PlaneGeometry::checked_alloc_size) is `Some`.
@@ -120,7 +122,7 @@ impl<T> Plane<T> {
         ensures value { result ≡ self.now.geometry }
         ensures fits { Fits result }
     {
-        self.as_plane_ref().geometry()
+        self.geometry
     }
 
     /// Returns the whole buffer, row after row from the top, with the border.

@@ -5,6 +5,6 @@ pub use Rattle.v_frame_semi_planar.specs.Format.{unused_bits, begins_with_v}
 pub use Rattle.v_frame_semi_planar.specs.Format.{HasLayout, RefusedFor}
 pub use Rattle.v_frame_semi_planar.specs.SemiPlanar.{chroma_table, semi_planar_pixels}
 pub use Rattle.v_frame_semi_planar.specs.SemiPlanar.{semi_planar_bytes}
-pub use Rattle.v_frame_semi_planar.specs.SemiPlanar.{stored_bytes, shown_pixels, ReadsLayout}
+pub use Rattle.v_frame_semi_planar.specs.SemiPlanar.{stored_bytes, shown_pixels, FillsLayout, ReadsLayout}
 pub use Rattle.v_frame_semi_planar.specs.SemiPlanar.{MayFailReading}
 pub use Rattle.v_frame_semi_planar.specs.SemiPlanar.{MayFailWriting, TellsFailure}

@@ -47,6 +47,11 @@ module _ {T : Type 0} (form : PixelForm T) where
   semi_planar_bytes format tables =
       stored_bytes (unused_bits format) (semi_planar_pixels format tables)
 
+  -- a frame is one for a layout, and there are as many bytes as it has in it
+  pub record FillsLayout (format : SemiPlanarFormat) (frame : Frame T) (bytes : List ℕ) : Type 0 where
+    pub layout : HasLayout form.size format frame
+    pub long : length bytes ≡ length (semi_planar_bytes format (tables_of frame))
+
   -- the first pixels of bytes, without the bits that aren't used
   abbrev pub shown_pixels : ℕ → ℕ → List ℕ → List T
   shown_pixels unused count bytes =

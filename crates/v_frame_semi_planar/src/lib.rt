@@ -27,6 +27,6 @@ pub use chroma::{deinterleave, interleave};
 pub use error::SemiPlanarError;
 pub use format::{SemiPlanarFormat, check_layout};
 pub use length::semi_planar_len;
-pub use reading::read_frame;
+pub use reading::{read_frame, show_semi_planar_bytes};
 pub use top_bits::{from_top_bits, to_top_bits};
 pub use writing::write_frame;

@@ -4,7 +4,7 @@ ghost use Rattle.std.specs.Io.KnownBytes.{Consumes, IsAtEnd};
 ghost use Rattle.v_frame.specs.Prelude.{isize_max, tables_of, KeepsBorders};
 ghost use Rattle.v_frame_planar.specs.Planar.{sizes_of, MayStopReading, TellsCause};
 ghost use Rattle.v_frame_semi_planar.specs.Format.{unused_bits, HasLayout};
-ghost use Rattle.v_frame_semi_planar.specs.SemiPlanar.{semi_planar_bytes, semi_planar_pixels, shown_pixels, MayFailReading, ReadsLayout, TellsFailure};
+ghost use Rattle.v_frame_semi_planar.specs.SemiPlanar.{semi_planar_bytes, semi_planar_pixels, shown_pixels, FillsLayout, MayFailReading, ReadsLayout, TellsFailure};
 
 use crate::error::SemiPlanarError;
 use crate::format::SemiPlanarFormat;
@@ -61,7 +61,7 @@ pub fn read_frame<T: Pixel, R: io::Read>(
     let Some(bytes) = read_bytes(alloc, reader, count)? else {
         return Ok(false);
     };
-    store_frame(frame, bytes.as_slice(), format);
+    show_semi_planar_bytes(frame, bytes.as_slice(), format);
     Ok(true)
 }
 
@@ -102,11 +102,15 @@ fn read_bytes<R: io::Read>(
     })
 }
 
-/// Shows the samples of bytes in a frame, of which there must be just as many as it has in the layout.
-fn store_frame<T: Pixel>(frame: &mut Frame<T>, bytes: &[u8], format: SemiPlanarFormat)
-    requires layout { HasLayout T.form.size format frame.old }
-    requires long { length bytes.now
-        ≡ length (semi_planar_bytes T.form format (tables_of frame.old)) }
+/// Shows the bytes of a frame in a semi-planar layout in it, as [`read_frame`] does of those that it reads.
+///
+/// There must be as many as [`semi_planar_len`] says, which also tests the frame. The border stays.
+pub fn show_semi_planar_bytes<T: Pixel>(
+    frame: &mut Frame<T>,
+    bytes: &[u8],
+    format: SemiPlanarFormat,
+)
+    requires { FillsLayout T.form format frame.old bytes.now }
     ensures pixels { semi_planar_pixels format (tables_of frame.new)
         ≡ shown_pixels T.form (unused_bits format)
         (length (semi_planar_pixels format (tables_of frame.old))) bytes.now }

@@ -2,12 +2,10 @@
 use Rattle.std.proofs.Common.{ℕ, ◌≡◌, ◌∙◌, ◌+◌, ◌*◌, ◌++◌, All, Bool, true, false, List, [], ◌∷◌, ap, arith, drop, length, refl, subst, sym, take}
 use Rattle.std.proofs.Common.{length-append, append-nil}
 use Rattle.std.specs.Prelude.{if◌then◌else◌, option_map, IfSome, Option, Some, None}
-use Rattle.std.proofs.lemmas.List.{nil_from_length, take_at, drop_at}
-use Rattle.std.specs.Io.KnownBytes.{Consumes}
+use Rattle.std.proofs.lemmas.List.{take_at, drop_at}
 use Rattle.std.proofs.lemmas.List.Elements.{All-head, All-tail}
 use Rattle.v_frame.specs.Prelude.{cut_rows, height_of, row_major, width_of, PixelForm, Table, Tables}
 use Rattle.v_frame_ops.specs.Change.{combined}
-use Rattle.v_frame_planar.specs.Counted.{Watched}
 use Rattle.v_frame_planar.specs.Planar.{byte_count, size_of, sizes_of}
 use Rattle.v_frame_raster.proofs.tables.CutRows.{cut_again}
 use Rattle.v_frame_semi_planar.specs.Format.{begins_with_v, unused_bits}
@@ -18,21 +16,6 @@ use Rattle.v_frame_semi_planar.proofs.CombinedLists.{length-row_major}
 use Rattle.v_frame_semi_planar.proofs.Interleaving.{pixels_by_turns}
 use Rattle.v_frame_semi_planar.proofs.Stored.{length-stored}
 use Rattle.v_frame_streams.specs.Pictures.{firsts, seconds, tables_by_turns, IsEven}
-
--- what is consumed of bytes is all of them, where it is as many
-all_consumed : (bytes read : List ℕ) (left : Option (List ℕ)) → Consumes (Some bytes) left read
-    → length read ≡ length bytes → bytes ≡ read
-all_consumed bytes read None consumed many = absurd consumed
-all_consumed bytes read (Some rest) consumed many =
-    let none : rest ≡ [] = nil_from_length rest (omega (arith, many, ap length consumed, length-append read rest)) in
-    consumed ∙ ap (λ (l : List ℕ). read ++ l) none ∙ append-nil read
-
-pub all_lent : {R : Type 0} (remaining : R → Option (List ℕ)) (old reader : Watched R) (bytes read : List ℕ) (left : Option (List ℕ))
-    → old ≡ reader → remaining reader.inner ≡ Some bytes → Consumes (remaining old.inner) left read
-    → length read ≡ length bytes → bytes ≡ read
-all_lent remaining old reader bytes read left is lent consumed many =
-    let known : remaining old.inner ≡ Some bytes = ap (λ r. remaining r.inner) is ∙ lent in
-    all_consumed bytes read left (subst (λ (o : Option (List ℕ)). Consumes o left read) known consumed) many
 
 module _ {T : Type 0} where
   firsts_of_row : (us vs rest : List T) → length us ≡ length vs → firsts (interleaved us vs ++ rest) ≡ us ++ firsts rest

@@ -5,6 +5,7 @@ pub mod Edits
 pub mod Formats
 pub mod Frames
 pub mod Layouts
+pub mod MadeFor
 pub mod Pictures
 pub mod Plans
 pub mod Prelude

@@ -2,8 +2,8 @@
 use Rattle.std.specs.Prelude.{ℕ, ◌≡◌, ◌*◌, ◌/◌, if◌then◌else◌, All, Bool, true, false, List, [], ◌∷◌, drop, length, take}
 use Rattle.std.specs.Prelude.{option_map, IfSome, Option, Some, None}
 use Rattle.std.specs.Io.KnownBytes.{Consumes, IsAtEnd}
-use Rattle.v_frame.specs.Prelude.{cut_rows, width_of, PixelForm, Table, Tables, strided_table, tables_of}
-use Rattle.v_frame_planar.specs.Planar.{byte_count, plane_byte_count, sizes_of}
+use Rattle.v_frame.specs.Prelude.{cut_rows, width_of, PixelForm, Table, Tables}
+use Rattle.v_frame_planar.specs.Shown.{tables_in}
 use Rattle.v_frame_planar.specs.Video.{chroma_sizes_of}
 use Rattle.v_frame_semi_planar.specs.Format.{begins_with_v, unused_bits}
 use Rattle.v_frame_semi_planar.specs.SemiPlanar.{shown_pixels}
@@ -11,8 +11,6 @@ use Rattle.v_frame_semi_planar.specs.declared.format.SemiPlanarFormat.{SemiPlana
 use Rattle.v_frame_y4m.specs.Color.{subsampling_of}
 use Rattle.v_frame_y4m.specs.declared.header.StreamHeader.{StreamHeader}
 use Rattle.v_frame_streams.specs.Streams.{framed_bytes, IsFrame}
-use Rattle.v_frame_streams.specs.declared.picture.Picture.{Picture}
-use Rattle.v_frame_streams.specs.declared.source.Source.{Source}
 use Rattle.v_frame_streams.specs.declared.stream.Container.{Container}
 
 -- the width and the height of each plane
@@ -59,23 +57,6 @@ module _ {T : Type 0} where
     pub v : IfSome tables.v IsEven
 
 module _ {T : Type 0} (form : PixelForm T) where
-  -- the table of a size whose bytes stand in front
-  abbrev pub table_in : List ℕ → ℕ × ℕ → Table T
-  table_in bytes size =
-      let row = size.0 * form.size in
-      strided_table form size.0 size.1 row (take (size.0 * size.1 * form.size) bytes)
-
-  -- the tables of a frame: Y stands in front, then U, then V
-  abbrev pub tables_in : Sizes → List ℕ → Tables T
-  tables_in sizes bytes =
-      let behind_y = drop (plane_byte_count form.size (Some sizes.0)) bytes in
-      let behind_u = drop (plane_byte_count form.size sizes.1.0) behind_y in
-      record {
-        y = table_in bytes sizes.0;
-        u = option_map (table_in behind_y) sizes.1.0;
-        v = option_map (table_in behind_u) sizes.1.1;
-      }
-
   -- the tables of a frame in a layout
   abbrev pub tables_in_layout : SemiPlanarFormat → Sizes → List ℕ → Tables T
   tables_in_layout layout sizes bytes =
@@ -84,7 +65,7 @@ module _ {T : Type 0} (form : PixelForm T) where
 
   -- the tables of a frame of these bytes: in a layout, or else planar
   abbrev pub tables_of_bytes : Option SemiPlanarFormat → Sizes → List ℕ → Tables T
-  tables_of_bytes None sizes bytes = tables_in sizes bytes
+  tables_of_bytes None sizes bytes = tables_in form sizes bytes
   tables_of_bytes (Some layout) sizes bytes = tables_in_layout layout sizes bytes
 
   module _ (from : Container) (count : ℕ) (layout : Option SemiPlanarFormat) (sizes : Sizes)
@@ -97,9 +78,3 @@ module _ {T : Type 0} (form : PixelForm T) where
         × Consumes left left' (framed_bytes from (line, bytes))
         × (tables ≡ tables_of_bytes layout sizes bytes)
     ReadsTables bytes tables false = Consumes left left' [] × IsAtEnd left'
-
--- a picture has room for the bytes of each frame of a stream, and its planes take just these
-pub record IsMadeFor {R T : Type 0} (form : PixelForm T) (source : Source R) (picture : Picture T)
-    : Type 0 where
-  pub room : length picture.bytes.items ≡ source.frame_len
-  pub count : byte_count form.size (sizes_of (tables_of picture.frame)) ≡ source.frame_len

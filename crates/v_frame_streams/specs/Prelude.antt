@@ -1,4 +1,5 @@
 -- The words that callers' clauses cite, re-exported from one place.
+pub use Rattle.v_frame_planar.specs.Shown.{table_in, tables_in}
 pub use Rattle.v_frame_streams.specs.Comparisons.{errors_between, errors_of_all, shown, Compares, ComparesFrames, ComparesFrom}
 pub use Rattle.v_frame_streams.specs.Comparisons.{DiffersAfter, IsDifference, TakesEach, Watches, WatchesFrom}
 pub use Rattle.v_frame_streams.specs.Conversions.{color_in, form_of, format_in, format_of, in_format, is_same_format}
@@ -9,8 +10,9 @@ pub use Rattle.v_frame_streams.specs.Copies.{copied_extensions, plan_for, taken,
 pub use Rattle.v_frame_streams.specs.Copies.{Copies, CopiesBy, IsTakable, RefusesCrop}
 pub use Rattle.v_frame_streams.specs.Edits.{beside, edited, edited_table, halved_size, halved_table, EditFits}
 pub use Rattle.v_frame_streams.specs.Formats.{HaveOneFormat, RefusesFormats}
-pub use Rattle.v_frame_streams.specs.Pictures.{sizes_in, table_in, tables_by_turns, tables_in, tables_in_layout}
-pub use Rattle.v_frame_streams.specs.Pictures.{tables_of_bytes, IsMadeFor, ReadsTables, Sizes}
+pub use Rattle.v_frame_streams.specs.Pictures.{sizes_in, tables_by_turns, tables_in_layout}
+pub use Rattle.v_frame_streams.specs.MadeFor.{IsMadeFor}
+pub use Rattle.v_frame_streams.specs.Pictures.{tables_of_bytes, ReadsTables, Sizes}
 pub use Rattle.v_frame_streams.specs.Plans.{planned_bytes, Plan}
 pub use Rattle.v_frame_streams.specs.Sources.{bytes_left, stream_of, IsAtNextFrame, IsAtNextWritten, IsAtStart, IsOpened}
 pub use Rattle.v_frame_streams.specs.Sources.{StopsComparison, StopsCopy, Stream}

@@ -1,8 +1,12 @@
 -- A stream that is read: what stays of it, and which bytes are left.
-use Rattle.std.specs.Prelude.{ℕ, ◌≡◌, ◌⊎◌, List, Option}
+use Rattle.std.specs.Prelude.{ℕ, ◌≡◌, ◌⊎◌, List, Option, None}
 use Rattle.std.specs.Io.Buffered.{reader_remaining}
+use Rattle.std.specs.declared.io.ErrorKind.{ErrorKind}
+use Rattle.v_frame_planar.specs.declared.error.PlanarError.TheVariants.{Read, Write}
 use Rattle.v_frame_semi_planar.specs.declared.format.SemiPlanarFormat.{SemiPlanarFormat}
 use Rattle.v_frame_y4m.specs.Header.{IsWritable}
+use Rattle.v_frame_y4m.specs.declared.error.Y4mError.{Y4mError}
+use Rattle.v_frame_y4m.specs.declared.error.Y4mError.TheVariants.{Planar}
 use Rattle.v_frame_y4m.specs.declared.header.StreamHeader.{StreamHeader}
 use Rattle.v_frame_streams.specs.declared.error.StreamError.{StreamError}
 use Rattle.v_frame_streams.specs.declared.sink.Sink.{Sink}
@@ -46,6 +50,12 @@ module _ {R : Type 0} where
   pub record IsAtNextFrame (source : Source R) (error : StreamError) : Type 0 where
     pub place : error.place ≡ source.place
     pub frames : error.frames ≡ source.frames
+
+-- what the system reported last, where the error says that a read or a write failed
+abbrev pub cause_of : Y4mError → Option ErrorKind → Option ErrorKind
+cause_of (Planar Read) last = last
+cause_of (Planar Write) last = last
+cause_of _ last = None
 
 -- the error comes in front of the first frame of a stream
 pub record IsAtStart (which : Place) (error : StreamError) : Type 0 where

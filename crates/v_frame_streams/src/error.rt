@@ -3,6 +3,7 @@
 use crate::stream::Place;
 use std::{fmt, io};
 use thiserror::Error;
+use v_frame_planar::PlanarError;
 use v_frame_y4m::Y4mError;
 
 /// Why a call gave up: in which stream, at which frame, and what the system reported.
@@ -20,6 +21,8 @@ pub struct StreamError {
 
 impl StreamError {
     ghost use Rattle.std.specs.Prelude.{◌≡◌, None};
+    ghost use Rattle.v_frame_streams.specs.Sources.{cause_of};
+    ghost use Rattle.v_frame_streams.specs.declared.error.Problem.TheVariants.{Stream};
 
     /// Returns the error in front of the first frame, which no failed read or write caused.
     pub fn at_start(place: Place, problem: Problem) -> Self
@@ -30,6 +33,33 @@ impl StreamError {
             frames: 0,
             problem,
             cause: None,
+        }
+    }
+
+    /// Returns the error at the next frame of a stream that was not read or not written. What the system reported last belongs to it
+    /// where a read or a write failed, and else to an earlier call.
+    pub(crate) fn at_frame(
+        place: Place,
+        frames: u64,
+        error: Y4mError,
+        last_failure: Option<io::ErrorKind>,
+    ) -> Self
+        ensures { result ≡ record {
+          place = place;
+          frames = frames;
+          problem = Stream error;
+          cause = cause_of error last_failure;
+        } }
+    {
+        let cause = match &error {
+            Y4mError::Planar(PlanarError::Read | PlanarError::Write) => last_failure,
+            _ => None,
+        };
+        StreamError {
+            place,
+            frames,
+            problem: Problem::Stream(error),
+            cause,
         }
     }
 }

@@ -1,26 +1,30 @@
 //! A frame that each frame of a stream is read into, one after the other.
-ghost use Rattle.std.specs.Prelude.{◌≡◌, ◌↔◌, ◌≤◌, ◌<◌, ◌*◌, drop, length, option_map, Some, ℕ, IfErr, IfOk, IfSome, IsTrue, OnOk};
+ghost use Rattle.std.specs.Prelude.{◌≡◌, ◌↔◌, ◌≤◌, ◌<◌, ◌*◌, option_map, ℕ, IfErr, IfOk, IfSome, IsTrue};
 ghost use Rattle.v_frame.specs.Prelude.{table_of, tables_of};
-ghost use Rattle.v_frame_planar.specs.Planar.{byte_count, plane_byte_count, size_of, sizes_of};
+ghost use Rattle.v_frame_planar.specs.Planar.{sizes_of};
+ghost use Rattle.v_frame_planar.specs.Shown.{FillsFrame};
 ghost use Rattle.v_frame_planar.specs.Video.{chroma_sizes_of};
 ghost use Rattle.v_frame_y4m.specs.Color.{depth_of, subsampling_of};
 ghost use Rattle.v_frame_y4m.specs.Frames.{pixel_bytes};
-ghost use Rattle.v_frame_streams.specs.Conversions.{format_in, format_of, sizes_laid_out};
-ghost use Rattle.v_frame_streams.specs.Pictures.{sizes_in, table_in, tables_in, tables_in_layout, tables_of_bytes, AreEven, IsEven, IsMadeFor, ReadsTables};
+ghost use Rattle.v_frame_streams.specs.Conversions.{format_in, format_of, sizes_laid_out, LayoutFits};
+ghost use Rattle.v_frame_streams.specs.MadeFor.{IsMadeFor};
+ghost use Rattle.v_frame_streams.specs.Pictures.{sizes_in, tables_in_layout, tables_of_bytes, AreEven, IsEven, ReadsTables};
+ghost use Rattle.v_frame_streams.specs.Plans.{shape_of, FitsLayout};
 ghost use Rattle.v_frame_streams.specs.Sources.{bytes_left, stream_of, IsAtNextFrame};
 ghost use Rattle.v_frame_streams.specs.Streams.{frames_after};
 
 use crate::converting::sizes_are_laid_out;
 use crate::error::{Problem, StreamError};
+use crate::shapes::{has_format, has_sizes};
 use crate::source::Source;
 use std::alloc::Global;
 use std::io;
 use v_frame::frame::{Frame, FrameError};
 use v_frame::pixel::Pixel;
 use v_frame::plane::Plane;
-use v_frame_planar::{Counted, PlanarError, planar_len, video_frame};
-use v_frame_semi_planar::{SemiPlanarError, SemiPlanarFormat, read_frame};
-use v_frame_y4m::{Color, Y4mError};
+use v_frame_planar::{planar_len, show_planar_bytes, video_frame};
+use v_frame_semi_planar::{SemiPlanarFormat, show_semi_planar_bytes};
+use v_frame_y4m::Color;
 
 /// A frame that is read again and again, and room for its bytes.
 #[derive(Drop)]
@@ -28,7 +32,6 @@ pub struct Picture<T: Pixel> {
     /// The frame that was read last. What is written to it is there until the next one is read.
     pub frame: Frame<T>,
     bytes: Vec<u8>,
-    alloc: Global,
 }
 
 impl<T: Pixel> Picture<T> {
@@ -64,11 +67,7 @@ impl<T: Pixel> Picture<T> {
         };
         let mut bytes = Vec::new(alloc);
         match bytes.resize(source.frame_len(), 0) {
-            Ok(()) => Ok(Picture {
-                frame,
-                bytes,
-                alloc,
-            }),
+            Ok(()) => Ok(Picture { frame, bytes }),
             Err(_) => {
                 drop(frame);
                 Err(source.refused(Problem::OutOfMemory))
@@ -92,24 +91,26 @@ impl<T: Pixel> Picture<T> {
         self.bytes.as_slice()
     }
 
-    /// Returns whether frames of a stream have as many bytes as those of the stream that it was made for. Sizes, formats and bit
-    /// depths are not compared: the bytes are shown as those of this picture.
+    /// Returns whether the picture can be read from a stream: whether its frame has the sizes, the chroma subsampling and the bit
+    /// depth of the stream's frames, and as many bytes. It has them where it was made for that stream, until another frame is
+    /// put in its place.
     pub fn is_made_for<R: io::Read>(&self, source: &Source<R>) -> bool
         ensures { IsTrue result ↔ IsMadeFor T.form source.now self.now }
     {
-        self.bytes.len() == source.frame_len() && planar_len(&self.frame) == self.bytes.len()
+        self.bytes.len() == source.frame_len()
+            && planar_len(&self.frame) == self.bytes.len()
+            && has_format(&self.frame, source.header().color)
+            && has_sizes(&self.frame, source.header())
     }
 
     /// Reads the next frame of a stream and shows it. `false` where the stream stood at its end before it.
     ///
-    /// Its frames must have as many bytes as the picture's: [`is_made_for`](Self::is_made_for) is the test. They are right where it
-    /// was made for this stream, or for one of the same size and color.
+    /// Its frames must be such as the picture's: [`is_made_for`](Self::is_made_for) is the test. They are where it was made for this
+    /// stream, or for one of the same size and color.
     ///
     /// # Errors
     ///
-    /// [`Problem::Stream`] where a frame was not read whole. In a semi-planar stream also [`Problem::OutOfMemory`] where a request
-    /// for memory was refused, and the frame was then read but is not shown. After an error read no further: what came of the frame
-    /// is lost.
+    /// [`Problem::Stream`] where a frame was not read whole. After an error read no further: what came of the frame is lost.
     pub fn read<R: io::Read>(&mut self, source: &mut Source<R>) -> Result<bool, StreamError>
         requires { IsMadeFor T.form source.old self.old }
         ensures read { IfOk result (ReadsTables T.form source.old.container source.old.frame_len
@@ -125,10 +126,7 @@ impl<T: Pixel> Picture<T> {
         if !source.begin_frame(self.bytes.as_mut_slice())? {
             return Ok(false);
         }
-        let (layout, bytes) = (source.layout(), self.bytes.as_slice());
-        if let Err(problem) = show_frame(self.alloc, &mut self.frame, bytes, layout) {
-            return Err(source.refused(problem));
-        }
+        show_frame(&mut self.frame, self.bytes.as_slice(), source.layout());
         source.end_frame();
         Ok(true)
     }
@@ -169,54 +167,32 @@ pub(crate) fn blank_frame<T: Pixel>(
 }
 
 /// Shows bytes in a frame, those of a layout or else planar ones. There must be as many as the frame has.
-fn show_frame<T: Pixel>(
-    alloc: Global,
-    frame: &mut Frame<T>,
-    bytes: &[u8],
-    layout: Option<SemiPlanarFormat>,
-) -> Result<(), Problem>
-    requires { length bytes.now ≡ byte_count T.form.size (sizes_of (tables_of frame.old)) }
-    ensures shown { OnOk result (tables_of frame.new
-        ≡ tables_of_bytes T.form layout (sizes_of (tables_of frame.old)) bytes.now) }
+fn show_frame<T: Pixel>(frame: &mut Frame<T>, bytes: &[u8], layout: Option<SemiPlanarFormat>)
+    requires fills { FillsFrame T.form frame.old bytes.now }
+    requires fits { FitsLayout T.form.size layout (shape_of frame.old) }
+    ensures shown { tables_of frame.new
+        ≡ tables_of_bytes T.form layout (sizes_of (tables_of frame.old)) bytes.now }
     ensures sizes { sizes_of (tables_of frame.new) ≡ sizes_of (tables_of frame.old) }
     ensures format { format_of frame.new ≡ format_of frame.old }
 {
     match layout {
-        Some(layout) => show_layout(alloc, frame, bytes, layout),
-        None => {
-            show_bytes(frame, bytes);
-            Ok(())
-        }
+        Some(layout) => show_layout(frame, bytes, layout),
+        None => show_planar_bytes(frame, bytes),
     }
 }
 
-/// Shows the bytes of a layout in a frame, of which there must be as many as the frame has.
-fn show_layout<T: Pixel>(
-    alloc: Global,
-    frame: &mut Frame<T>,
-    bytes: &[u8],
-    layout: SemiPlanarFormat,
-) -> Result<(), Problem>
-    requires { length bytes.now ≡ byte_count T.form.size (sizes_of (tables_of frame.old)) }
-    ensures shown { OnOk result (tables_of frame.new
-        ≡ tables_in_layout T.form layout (sizes_of (tables_of frame.old)) bytes.now) }
+/// Shows the bytes of a layout in a frame, which must be one for it and have as many.
+fn show_layout<T: Pixel>(frame: &mut Frame<T>, bytes: &[u8], layout: SemiPlanarFormat)
+    requires fills { FillsFrame T.form frame.old bytes.now }
+    requires fits { LayoutFits T.form.size layout (format_of frame.old) (sizes_of (tables_of frame.old)) }
+    ensures shown { tables_of frame.new
+        ≡ tables_in_layout T.form layout (sizes_of (tables_of frame.old)) bytes.now }
     ensures sizes { sizes_of (tables_of frame.new) ≡ sizes_of (tables_of frame.old) }
     ensures format { format_of frame.new ≡ format_of frame.old }
 {
-    let mut reader = Counted::new(bytes);
-    match read_frame(alloc, &mut reader, frame, layout) {
-        Ok(true) => {
-            planes_are_even(frame);
-            Ok(())
-        }
-        Ok(false) => Err(Problem::Stream(Y4mError::Planar(PlanarError::Truncated {
-            expected: bytes.len(),
-            found: 0,
-        }))),
-        Err(SemiPlanarError::Planar(PlanarError::OutOfMemory)) => Err(Problem::OutOfMemory),
-        Err(SemiPlanarError::Planar(error)) => Err(Problem::Stream(Y4mError::Planar(error))),
-        Err(_) => Err(Problem::OtherLayout),
-    }
+    planes_are_even(frame);
+    show_semi_planar_bytes(frame, bytes, layout);
+    planes_are_even(frame);
 }
 
 /// All rows of each plane of a frame are of one length.
@@ -243,49 +219,4 @@ fn plane_is_even<T: Pixel>(plane: &Plane<T>)
 {
     // What the clauses of this call say is the proof.
     let _width = plane.width();
-}
-
-/// Shows planar bytes in a frame. There must be as many as the frame has.
-pub(crate) fn show_bytes<T: Pixel>(frame: &mut Frame<T>, bytes: &[u8])
-    requires { length bytes.now ≡ byte_count T.form.size (sizes_of (tables_of frame.old)) }
-    ensures shown { tables_of frame.new
-        ≡ tables_in T.form (sizes_of (tables_of frame.old)) bytes.now }
-    ensures sizes { sizes_of (tables_of frame.new) ≡ sizes_of (tables_of frame.old) }
-    ensures format { format_of frame.new ≡ format_of frame.old }
-{
-    let behind_y = show_plane(&mut frame.y_plane, bytes);
-    let behind_u = show_chroma(&mut frame.u_plane, behind_y);
-    show_chroma(&mut frame.v_plane, behind_u);
-}
-
-/// Shows the first bytes in a plane, where it is there, and gives those after them.
-fn show_chroma<'a, T: Pixel>(plane: &mut Option<Plane<T>>, bytes: &'a [u8]) -> &'a [u8]
-    requires { plane_byte_count T.form.size (option_map size_of (option_map table_of plane.old))
-        ≤ length bytes.now }
-    ensures shown { option_map table_of plane.new
-        ≡ option_map (table_in T.form bytes.now) (option_map size_of (option_map table_of plane.old)) }
-    ensures rest { result.now ≡ drop (plane_byte_count T.form.size
-        (option_map size_of (option_map table_of plane.old))) bytes.now }
-    ensures size { option_map size_of (option_map table_of plane.new)
-        ≡ option_map size_of (option_map table_of plane.old) }
-{
-    match plane {
-        Some(plane) => show_plane(plane, bytes),
-        None => bytes,
-    }
-}
-
-/// Shows the first bytes in a plane, and gives those after them.
-fn show_plane<'a, T: Pixel>(plane: &mut Plane<T>, bytes: &'a [u8]) -> &'a [u8]
-    requires { plane_byte_count T.form.size (Some (size_of (table_of plane.old))) ≤ length bytes.now }
-    ensures shown { table_of plane.new ≡ table_in T.form bytes.now (size_of (table_of plane.old)) }
-    ensures rest { result.now
-        ≡ drop (plane_byte_count T.form.size (Some (size_of (table_of plane.old)))) bytes.now }
-    ensures size { size_of (table_of plane.new) ≡ size_of (table_of plane.old) }
-{
-    let (shown, rest) = bytes.split_at(plane.byte_len());
-    if plane.copy_from_u8_slice(shown).is_err() {
-        unreachable!()
-    }
-    rest
 }

@@ -6,7 +6,7 @@ ghost use Rattle.v_frame_planar.specs.Counted.{AppendsBeginning};
 ghost use Rattle.v_frame_planar.specs.Planar.{planar_bytes};
 ghost use Rattle.v_frame_semi_planar.specs.Format.{HasLayout};
 ghost use Rattle.v_frame_semi_planar.specs.SemiPlanar.{semi_planar_bytes};
-ghost use Rattle.v_frame_streams.specs.Sources.{IsAtNextWritten, TakesHeader};
+ghost use Rattle.v_frame_streams.specs.Sources.{cause_of, IsAtNextWritten, TakesHeader};
 ghost use Rattle.v_frame_streams.specs.Streams.{frame_line, header_bytes, written_bytes};
 
 use crate::error::{Problem, StreamError};
@@ -172,13 +172,13 @@ impl<W: io::Write> Sink<W> {
     fn stopped(&self, error: Y4mError) -> StreamError
         ensures place { IsAtNextWritten self.now result }
         ensures problem { result.problem ≡ Problem.Stream error }
-        ensures cause { result.cause ≡ self.now.writer.last_failure }
+        ensures cause { result.cause ≡ cause_of error self.now.writer.last_failure }
     {
-        StreamError {
-            place: Place::Output,
-            frames: self.frames,
-            problem: Problem::Stream(error),
-            cause: self.writer.last_failure(),
-        }
+        StreamError::at_frame(
+            Place::Output,
+            self.frames,
+            error,
+            self.writer.last_failure(),
+        )
     }
 }

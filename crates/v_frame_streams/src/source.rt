@@ -37,7 +37,7 @@ impl<R: io::Read> Source<R> {
     ghost use Rattle.v_frame_planar.specs.declared.error.PlanarError.TheVariants.{Truncated};
     ghost use Rattle.v_frame_y4m.specs.Header.{IsWritable};
     ghost use Rattle.v_frame_y4m.specs.declared.error.Y4mError.TheVariants.{Planar};
-    ghost use Rattle.v_frame_streams.specs.Sources.{bytes_left, stream_of, IsAtNextFrame, IsAtStart, IsOpened};
+    ghost use Rattle.v_frame_streams.specs.Sources.{bytes_left, cause_of, stream_of, IsAtNextFrame, IsAtStart, IsOpened};
     ghost use Rattle.v_frame_streams.specs.Streams.{frames_after, ReadsHeaderLine, ReadsLine, ReadsNext};
 
     /// Reads the header line of a YUV4MPEG2 stream, or one that stands for it. Its frames are left to be read.
@@ -60,12 +60,10 @@ impl<R: io::Read> Source<R> {
             Ok((header, is_strict)) => {
                 Source::new(place, Container::Y4m, header, !is_strict, None, reader)
             }
-            Err(error) => Err(StreamError {
-                place,
-                frames: 0,
-                problem: Problem::Stream(error),
-                cause: reader.last_failure(),
-            }),
+            Err(error) => {
+                let last_failure = reader.last_failure();
+                Err(StreamError::at_frame(place, 0, error, last_failure))
+            }
         }
     }
 
@@ -299,14 +297,9 @@ impl<R: io::Read> Source<R> {
     fn stopped(&self, error: Y4mError) -> StreamError
         ensures place { IsAtNextFrame self.now result }
         ensures problem { result.problem ≡ Problem.Stream error }
-        ensures cause { result.cause ≡ self.now.reader.last_failure }
+        ensures cause { result.cause ≡ cause_of error self.now.reader.last_failure }
     {
-        StreamError {
-            place: self.place,
-            frames: self.frames,
-            problem: Problem::Stream(error),
-            cause: self.reader.last_failure(),
-        }
+        StreamError::at_frame(self.place, self.frames, error, self.reader.last_failure())
     }
 }
 

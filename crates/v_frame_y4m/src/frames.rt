@@ -11,7 +11,7 @@ use std::alloc::Global;
 use v_frame::chroma::ChromaSubsampling;
 use v_frame::frame::{Frame, FrameError};
 use v_frame::pixel::Pixel;
-use v_frame_planar::video_frame;
+use v_frame_planar::{chroma_size, video_frame};
 
 impl StreamHeader {
     /// Returns a frame to read the frames of the stream into: of its size, its format and its bit depth, with all planes
@@ -72,12 +72,8 @@ fn chroma_len(
     ensures { let count = plane_byte_count pixel (chroma_sizes_of subsampling width height) in
         SomeIff result (count ≤ usize_max) count }
 {
-    match subsampling.subsample_ratio() {
-        Some((columns, rows)) => plane_len(
-            width.div_ceil(usize::from(columns.get())),
-            height.div_ceil(usize::from(rows.get())),
-            pixel,
-        ),
+    match chroma_size(subsampling, width, height) {
+        Some((width, height)) => plane_len(width, height, pixel),
         None => Some(0),
     }
 }

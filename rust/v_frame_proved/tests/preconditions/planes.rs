@@ -4,8 +4,9 @@ use crate::case::{Case, case};
 use crate::pictures::{geometry, header_of_no_columns, header_with_a_space, plane, plane_without_values, rows};
 use crate::pictures::{rows_of_words, stream, too_large, words};
 use std::ops::{Index, IndexMut};
+use v_frame_proved::chroma::ChromaSubsampling;
 use v_frame_proved::planar::Counted;
-use v_frame_proved::{pixel, plane, png, streams, y4m};
+use v_frame_proved::{pixel, planar, plane, png, semi_planar, streams, y4m};
 
 pub const CASES: &[Case] = &[
     case!(plane::Plane::visible_row, "y (3) is not below the height (3)", &plane(4, 3), 3),
@@ -154,6 +155,20 @@ pub const CASES: &[Case] = &[
     ),
     case!(png::encode_samples, "length of bytes (5) is not twice the length of samples (2)", &[1, 2], &mut [0; 5]),
     case!(
+        planar::show_planar_bytes, "the length of bytes (5) is not the planar_len of a frame of 2x2",
+        &mut planar::video_frame::<u8>(2, 2, ChromaSubsampling::Yuv420, 8, 0).expect("memory"), &[0; 5]
+    ),
+    case!(
+        semi_planar::show_semi_planar_bytes, "the length of bytes (5) is not that of a frame of 2x2 at 8 bits in Nv12",
+        &mut planar::video_frame::<u8>(2, 2, ChromaSubsampling::Yuv420, 8, 0).expect("memory"), &[0; 5],
+        semi_planar::SemiPlanarFormat::Nv12
+    ),
+    case!(
+        semi_planar::show_semi_planar_bytes, "the length of bytes (6) is not that of a frame of 2x2 at 8 bits in P010",
+        &mut planar::video_frame::<u8>(2, 2, ChromaSubsampling::Yuv420, 8, 0).expect("memory"), &[0; 6],
+        semi_planar::SemiPlanarFormat::P010
+    ),
+    case!(
         y4m::write_header, "a header of 0x3 has no line: a size is 0",
         &mut Counted::new(Vec::new()), &header_of_no_columns()
     ),
@@ -163,8 +178,19 @@ pub const CASES: &[Case] = &[
         &mut streams::Sink::new(streams::Container::Y4m, Vec::new()), &header_of_no_columns()
     ),
     case!(
-        streams::Picture::<u8>::read, "a picture of 6 bytes cannot take frames of 12 bytes",
+        streams::Picture::<u8>::read, "a picture of 3x2, Monochrome at 8 bits, cannot take frames of 4x3, Mono",
         &mut streams::Picture::new(&stream(b"YUV4MPEG2 W3 H2 F25:1 Cmono\n"), 6).expect("memory"),
         &mut stream(b"YUV4MPEG2 W4 H3 F25:1 Cmono\n")
+    ),
+    // Both frames have six bytes.
+    case!(
+        streams::Picture::<u8>::read, "a picture of 3x2, Monochrome at 8 bits, cannot take frames of 2x3, Mono",
+        &mut streams::Picture::new(&stream(b"YUV4MPEG2 W3 H2 F25:1 Cmono\n"), 6).expect("memory"),
+        &mut stream(b"YUV4MPEG2 W2 H3 F25:1 Cmono\n")
+    ),
+    case!(
+        streams::Picture::<u8>::read, "a picture of 2x2, Yuv420 at 8 bits, cannot take frames of 2x1, Yuv444",
+        &mut streams::Picture::new(&stream(b"YUV4MPEG2 W2 H2 F25:1 C420jpeg\n"), 6).expect("memory"),
+        &mut stream(b"YUV4MPEG2 W2 H1 F25:1 C444\n")
     ),
 ];

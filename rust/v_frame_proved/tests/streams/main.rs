@@ -1,6 +1,8 @@
-//! Streams read by `y4m::Decoder` and written by `y4m::Encoder`, over readers and writers that behave and that don't.
+//! Streams read by `y4m::Decoder` and written by `y4m::Encoder`, over readers and writers that behave and that don't; pictures of
+//! `streams::Source`, and what its errors keep.
 #![cfg(feature = "std")]
 
+mod causes;
 mod decoding;
 mod encoding;
 mod stepping;

@@ -1,7 +1,6 @@
 -- A frame for which there was no room, and one that came to its end.
-use Rattle.std.proofs.Common.{length, ◌∙◌, ap, arith}
+use Rattle.std.proofs.Common.{length, ◌∙◌, ap}
 use Rattle.std.proofs.lemmas.List.{take_at}
-use Rattle.std.proofs.lemmas.Grind.{common_steps}
 use Rattle.v_frame_planar.proofs.Stops.{no_room, was_read, was_truncated}
 use Rattle.v_frame_planar.proofs.reading.read_frame.Goals as goal
 
@@ -9,9 +8,6 @@ pub returns-in_err-bytes-clause-error : goal.returns-in_err-bytes-clause-error
 returns-in_err-bytes-clause-error g c =
     no_room g.R.Read.remaining c.args.reader.now _ c.from_residual.result _ c.from_residual.ensures.1
     c.in_err-bytes.ensures.error
-
-pub store_whole_frame-requires-after_bounds : goal.store_whole_frame-requires-after_bounds
-store_whole_frame-requires-after_bounds g c = grind (arith, common_steps)
 
 pub returns-clause-read : goal.returns-clause-read
 returns-clause-read g c =

@@ -12,19 +12,19 @@ pub returns-clause-as_many : goal.returns-clause-as_many
 returns-clause-as_many g c =
     let form = g.T.Pixel.form in let unused = unused_bits c.args.format in
     let old = semi_planar_pixels c.args.format (tables_of c.args.frame.now) in
-    let new = semi_planar_pixels c.args.format (tables_of c.store_frame.new.frame) in
+    let new = semi_planar_pixels c.args.format (tables_of c.show_semi_planar_bytes.new.frame) in
     let count : length new ≡ length old =
-    ap length c.store_frame.ensures.pixels ∙ length-shown form unused (length old) _ in
+    ap length c.show_semi_planar_bytes.ensures.pixels ∙ length-shown form unused (length old) _ in
     length-stored form unused new ∙ ap (λ n. form.size * n) count ∙ sym (length-stored form unused old)
 
 pub returns-clause-read : goal.returns-clause-read
 returns-clause-read g c =
     let form = g.T.Pixel.form in let unused = unused_bits c.args.format in
     let old = semi_planar_pixels c.args.format (tables_of c.args.frame.now) in
-    let new = semi_planar_pixels c.args.format (tables_of c.store_frame.new.frame) in
+    let new = semi_planar_pixels c.args.format (tables_of c.show_semi_planar_bytes.new.frame) in
     let bytes : List ℕ = c.in-Some.bytes.items in
     let count : length new ≡ length old =
-    ap length c.store_frame.ensures.pixels ∙ length-shown form unused (length old) _ in
+    ap length c.show_semi_planar_bytes.ensures.pixels ∙ length-shown form unused (length old) _ in
     let as_many = length-stored form unused new ∙ ap (λ n. form.size * n) count ∙ sym (length-stored form unused old) in
     let read : Consumes (g.R.Read.remaining c.args.reader.now.inner) (g.R.Read.remaining c.read_bytes.new.reader.inner)
     bytes × (length bytes ≡ c.in_ok-count.count) = search rules in
@@ -35,6 +35,6 @@ returns-clause-read g c =
       bytes,
       read.0,
       whole ∙ sym as_many,
-      c.store_frame.ensures.pixels
+      c.show_semi_planar_bytes.ensures.pixels
           ∙ rw c.as_slice.ensures.value (ap (λ n. shown_pixels form unused n bytes) (sym quotient)),
     )

@@ -4,7 +4,7 @@ use Rattle.std.specs.Prelude.{None}
 use Rattle.v_frame.specs.Prelude.{tables_of}
 use Rattle.v_frame_planar.specs.Planar.{sizes_of}
 use Rattle.v_frame_streams.specs.Comparisons.{WatchesFrames}
-use Rattle.v_frame_streams.specs.Pictures.{IsMadeFor}
+use Rattle.v_frame_streams.specs.MadeFor.{IsMadeFor}
 use Rattle.v_frame_streams.specs.Sources.{bytes_left, stream_of}
 use Rattle.v_frame_streams.specs.Telling.{TellsUpTo}
 use Rattle.v_frame_streams.proofs.compare.compare_frames.Given as goal

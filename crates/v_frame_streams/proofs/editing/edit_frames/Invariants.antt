@@ -3,7 +3,8 @@ use Rattle.std.proofs.Common.{◌≡◌}
 use Rattle.v_frame.specs.Prelude.{tables_of}
 use Rattle.v_frame_planar.specs.Planar.{sizes_of}
 use Rattle.v_frame_streams.specs.Copies.{Carries}
-use Rattle.v_frame_streams.specs.Pictures.{tables_of_bytes, IsMadeFor}
+use Rattle.v_frame_streams.specs.MadeFor.{IsMadeFor}
+use Rattle.v_frame_streams.specs.Pictures.{tables_of_bytes}
 use Rattle.v_frame_streams.specs.Plans.{plan_of, planned_bytes}
 use Rattle.v_frame_streams.specs.Sources.{bytes_left, stream_of}
 use Rattle.v_frame_streams.specs.Telling.{TellsUpTo}

@@ -1,37 +1,57 @@
--- The frame shows the bytes that were lent.
-use Rattle.std.proofs.Common.{Bor, ◌≡◌, ◌∙◌, ◌/◌, ap, length, refl, sym, subst, Bool, List, ℕ, Some}
+-- The bytes are as many as the frame has in the layout, and it shows them.
+use Rattle.std.proofs.Common.{◌≡◌, ◌∙◌, ◌*◌, ◌/◌, ap, length, refl, sym, ℕ}
 use Rattle.std.specs.Prelude.{option_map}
 use Rattle.v_frame.specs.Prelude.{tables_of}
-use Rattle.v_frame_planar.specs.Planar.{byte_count, size_of, sizes_of}
+use Rattle.v_frame_planar.specs.Planar.{size_of, sizes_of}
 use Rattle.v_frame_semi_planar.specs.Format.{begins_with_v, unused_bits}
-use Rattle.v_frame_semi_planar.specs.SemiPlanar.{shown_pixels, ReadsLayout}
+use Rattle.v_frame_semi_planar.specs.SemiPlanar.{semi_planar_pixels, shown_pixels, FillsLayout}
+use Rattle.v_frame_semi_planar.proofs.CombinedLists.{quotient_is}
+use Rattle.v_frame_semi_planar.proofs.Stored.{length-stored}
 use Rattle.v_frame_streams.specs.Pictures.{tables_by_turns, Sizes}
-use Rattle.v_frame_streams.proofs.LaidOut.{all_lent, as_many_bytes, shown_again}
+use Rattle.v_frame_streams.proofs.Formatting.{has_layout}
+use Rattle.v_frame_streams.proofs.LaidOut.{as_many_bytes, shown_again}
 use Rattle.v_frame_streams.proofs.picture.show_layout.Goals as goal
 
-pub returns-in-Ok-true-clause-shown : goal.returns-in-Ok-true-clause-shown
-returns-in-Ok-true-clause-shown g c =
+pub show_semi_planar_bytes-requires : goal.show_semi_planar_bytes-requires
+show_semi_planar_bytes-requires g c =
     let form = g.T.Pixel.form in
     let layout = c.args.layout in
-    let old = tables_of c.args.frame.now in
-    let new = tables_of c.read_frame.new.frame in
-    let bytes = c.args.bytes.now in
-    let done = c.in-Ok-true.ensures in
+    let frame = c.args.frame.now in
+    let old = tables_of frame in
+    let fits = c.requires.fits in
     let even = c.planes_are_even.ensures in
-    let kept : sizes_of new ≡ sizes_of old = done.sizes in
+    let counted = as_many_bytes layout old.y even.y form old.u old.v even.u even.v (fits.u ∙ sym fits.v) in
+    let fills : FillsLayout form layout frame c.args.bytes.now = record {
+      layout = has_layout form.size form.size layout frame refl fits;
+      long = c.requires.fills ∙ sym counted;
+    } in (c.type_bounds.static-T, fills)
+
+pub returns-clause-shown : goal.returns-clause-shown
+returns-clause-shown g c =
+    let form = g.T.Pixel.form in
+    let layout = c.args.layout in
+    let unused = unused_bits layout in
+    let old = tables_of c.args.frame.now in
+    let new = tables_of c.show_semi_planar_bytes.new.frame in
+    let bytes = c.args.bytes.now in
+    let fits = c.requires.fits in
+    let before = c.planes_are_even.ensures in
+    let even = c.planes_are_even-2.ensures in
+    let was : option_map size_of old.u ≡ option_map size_of old.v = fits.u ∙ sym fits.v in
+    let kept : sizes_of new ≡ sizes_of old = c.show_semi_planar_bytes.ensures.sizes in
     let same : option_map size_of new.u ≡ option_map size_of new.v =
-    ap (λ (s : Sizes). s.1.0) kept ∙ done.layout.sizes.0 ∙ sym done.layout.sizes.1 ∙ sym (ap (λ (s : Sizes). s.1.1) kept) in
-    let lent = λ (slice : Bor (List ℕ)). Some slice.now in
+    ap (λ (s : Sizes). s.1.0) kept ∙ was ∙ sym (ap (λ (s : Sizes). s.1.1) kept) in
+    let pixels = semi_planar_pixels layout old in
     let form_size = form.size in
-    let told = subst (λ (more : Bool). ReadsLayout form lent c.new-reader.result c.read_frame.new.reader layout new more)
-    c.in-Ok-true.field-0-test done.read in
-    let read = told.0 in
-    let as_many = told.2 ∙ as_many_bytes layout new.y even.y form new.u new.v even.u even.v same
-    ∙ ap (λ (s : Sizes). byte_count form_size s) kept ∙ sym c.requires in
-    let whole : bytes ≡ read = all_lent lent c.new-reader.result _ bytes read (Some c.read_frame.new.reader.inner.now) c.new-reader.ensures refl told.1 as_many in
-    let again = shown_again layout new.y even.y new.u new.v even.u even.v same in
-    let shows = λ (s : Sizes) (b : List ℕ). tables_by_turns (begins_with_v layout) s
-    (shown_pixels form (unused_bits layout) (length b / form_size) b) in
-    let by_read : shows (sizes_of new) read ≡ new =
-    ap (λ p. tables_by_turns (begins_with_v layout) (sizes_of new) p) (sym told.3) ∙ again in
-    sym by_read ∙ ap (shows (sizes_of new)) (sym whole) ∙ ap (λ (s : Sizes). shows s bytes) kept
+    let counted = as_many_bytes layout old.y before.y form old.u old.v before.u before.v was in
+    let whole : length bytes ≡ form_size * length pixels =
+    c.requires.fills ∙ sym counted ∙ length-stored form unused pixels in
+    let quotient : length bytes / form_size ≡ length pixels =
+    quotient_is form_size (length pixels) (length bytes) g.met.T.Pixel.byte_or_two.0 whole in
+    let shows = λ (n : ℕ). tables_by_turns (begins_with_v layout) (sizes_of new) (shown_pixels form unused n bytes) in
+    let by_read : shows (length bytes / form_size) ≡ new =
+    ap shows quotient
+    ∙ ap (λ p. tables_by_turns (begins_with_v layout) (sizes_of new) p) (sym c.show_semi_planar_bytes.ensures.pixels)
+    ∙ shown_again layout new.y even.y new.u new.v even.u even.v same in
+    sym by_read
+    ∙ ap (λ (s : Sizes). tables_by_turns (begins_with_v layout) s (shown_pixels form unused (length bytes / form_size) bytes)) kept

@@ -3,7 +3,7 @@ use Rattle.std.proofs.Common.{◌≡◌}
 use Rattle.v_frame.specs.Prelude.{tables_of}
 use Rattle.v_frame_planar.specs.Planar.{sizes_of}
 use Rattle.yuv_facts.proofs.Summing.{SumsSoFar}
-use Rattle.v_frame_streams.specs.Pictures.{IsMadeFor}
+use Rattle.v_frame_streams.specs.MadeFor.{IsMadeFor}
 use Rattle.v_frame_streams.specs.Sources.{bytes_left, stream_of}
 use Rattle.yuv_facts.proofs.sum.sum_frames.Given as goal
 

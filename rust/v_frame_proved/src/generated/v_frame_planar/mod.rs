@@ -18,6 +18,7 @@
 //!
 //! // An odd size: chroma is rounded up. Y has six bytes, U and V two each.
 //! assert_eq!(planar::subsample_ratio_or_one(ChromaSubsampling::Yuv420), (2, 2));
+//! assert_eq!(planar::chroma_size(ChromaSubsampling::Yuv420, 3, 2), Some((2, 1)));
 //! let mut frame = planar::video_frame::<u8>(3, 2, ChromaSubsampling::Yuv420, 8, 0)?;
 //! assert_eq!(planar::planar_len(&frame), 10);
 //!
@@ -31,6 +32,9 @@
 //! planar::write_frame(&mut writer, &frame)?;
 //! assert_eq!(writer.into_inner(), b"abcdefUUVV");
 //!
+//! planar::show_planar_bytes(&mut frame, b"ABCDEFuuvv");
+//! assert_eq!((&frame.y_plane[1], &frame.v_plane.unwrap()[0]), (&b"DEF"[..], &b"vv"[..]));
+//!
 //! let mut bytes = [0; 4];
 //! assert_eq!(planar::read_until_full(&mut Counted::new(&b"xyz"[..]), &mut bytes), Ok(3));
 //! # Ok::<(), Box<dyn std::error::Error>>(())
@@ -40,11 +44,13 @@ mod counted;
 mod error;
 mod pending;
 mod reading;
+mod showing;
 mod video;
 mod writing;
 
 pub use counted::{Counted, WriteFault};
 pub use error::PlanarError;
 pub use reading::{planar_len, read_frame, read_until_full};
-pub use video::{subsample_ratio_or_one, video_frame};
+pub use showing::show_planar_bytes;
+pub use video::{chroma_size, subsample_ratio_or_one, video_frame};
 pub use writing::write_frame;

@@ -5,6 +5,7 @@ use alloc::vec::Vec;
 use crate::support::memory::TryVec;
 use crate::generated::v_frame_planar::counted::Counted;
 use crate::generated::v_frame_planar::error::PlanarError;
+use crate::generated::v_frame_planar::showing::show_planar_bytes;
 use std::io;
 use crate::generated::v_frame::frame::Frame;
 use crate::generated::v_frame::pixel::Pixel;
@@ -41,7 +42,7 @@ fn store_whole_frame<T: Pixel>(
 ) -> Result<bool, PlanarError> {
     let expected = bytes.len();
     if found == expected {
-        store_bytes(frame, bytes);
+        show_planar_bytes(frame, bytes);
         return Ok(true);
     }
     if found == 0 {
@@ -99,28 +100,4 @@ pub fn read_until_full<R: io::Read>(
         }
     }
     Ok(found)
-}
-
-/// Shows the planar bytes of a frame in it.
-fn store_bytes<T: Pixel>(frame: &mut Frame<T>, bytes: &[u8]) {
-    let chroma = store_plane_bytes(&mut frame.y_plane, bytes);
-    let rest = store_chroma_bytes(&mut frame.u_plane, chroma);
-    store_chroma_bytes(&mut frame.v_plane, rest);
-}
-
-/// Shows the first bytes in a plane, where it is there, and gives those after them.
-fn store_chroma_bytes<'a, T: Pixel>(plane: &mut Option<Plane<T>>, bytes: &'a [u8]) -> &'a [u8] {
-    match plane {
-        Some(plane) => store_plane_bytes(plane, bytes),
-        None => bytes,
-    }
-}
-
-/// Shows the first bytes in a plane, and gives those after them.
-fn store_plane_bytes<'a, T: Pixel>(plane: &mut Plane<T>, bytes: &'a [u8]) -> &'a [u8] {
-    let (shown, rest) = bytes.split_at(plane.byte_len());
-    if plane.copy_from_u8_slice(shown).is_err() {
-        unreachable!()
-    }
-    rest
 }

@@ -145,7 +145,7 @@ impl<T> Plane<T> {
     #[inline]
     #[must_use]
     pub fn width(&self) -> usize {
-        self.as_plane_ref().width()
+        self.geometry.width()
     }
 
     /// Returns the visible height in pixels, never zero.
@@ -154,7 +154,7 @@ impl<T> Plane<T> {
     #[inline]
     #[must_use]
     pub fn height(&self) -> usize {
-        self.as_plane_ref().height()
+        self.geometry.height()
     }
 
     /// Returns the layout of the plane. Its [`checked_alloc_size`](PlaneGeometry::checked_alloc_size) is `Some`.
@@ -163,7 +163,7 @@ impl<T> Plane<T> {
     #[inline]
     #[must_use]
     pub fn geometry(&self) -> PlaneGeometry {
-        self.as_plane_ref().geometry()
+        self.geometry
     }
 
     /// Returns the whole buffer, row after row from the top, with the border.

@@ -39,6 +39,8 @@ use crate::generated::v_frame_planar::subsample_ratio_or_one;
 /// assert!(semi_planar::read_frame(&mut reader, &mut read, format)?);
 /// assert_eq!(read, frame);
 /// assert!(!semi_planar::read_frame(&mut reader, &mut read, format)?);
+/// semi_planar::show_semi_planar_bytes(&mut read, &[4, 4, 4, 4, 6, 5], format);
+/// assert_eq!((read.y_plane[1][1], &read.u_plane.unwrap()[0]), (4, &[5][..]));
 /// let refused = semi_planar::check_layout(&frame, SemiPlanarFormat::P010);
 /// assert_eq!(refused, Err(SemiPlanarError::BitDepth));
 /// # Ok::<(), Box<dyn std::error::Error>>(())

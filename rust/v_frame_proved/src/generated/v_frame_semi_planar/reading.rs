@@ -38,7 +38,7 @@ pub fn read_frame<T: Pixel, R: io::Read>(
     let Some(bytes) = read_bytes(reader, count)? else {
         return Ok(false);
     };
-    store_frame(frame, bytes.as_slice(), format);
+    show_semi_planar_bytes(frame, bytes.as_slice(), format);
     Ok(true)
 }
 
@@ -65,8 +65,24 @@ fn read_bytes<R: io::Read>(
     })
 }
 
-/// Shows the samples of bytes in a frame, of which there must be just as many as it has in the layout.
-fn store_frame<T: Pixel>(frame: &mut Frame<T>, bytes: &[u8], format: SemiPlanarFormat) {
+/// Shows the bytes of a frame in a semi-planar layout in it, as [`read_frame`] does of those that it reads.
+///
+/// There must be as many as [`semi_planar_len`] says, which also tests the frame. The border stays.
+///
+/// # Panics
+///
+/// Panics where the length of `bytes` is not the `semi_planar_len` of `frame` in `format`, or `frame` is not one for it.
+#[track_caller]
+#[inline]
+pub fn show_semi_planar_bytes<T: Pixel>(
+    frame: &mut Frame<T>,
+    bytes: &[u8],
+    format: SemiPlanarFormat,
+) {
+    assert!(
+        crate::generated::v_frame_semi_planar::semi_planar_len(frame, format) == Ok(bytes.len()),
+        "the length of bytes ({}) is not that of a frame of {}x{} at {} bits in {format:?}", bytes.len(), frame.y_plane.width(), frame.y_plane.height(), frame.bit_depth
+    );
     let (luma, chroma) = bytes.split_at(frame.y_plane.byte_len());
     store_plane(&mut frame.y_plane, luma, format.unused_bits());
     store_chroma_planes(&mut frame.u_plane, &mut frame.v_plane, chroma, format);

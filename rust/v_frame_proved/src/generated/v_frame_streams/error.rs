@@ -4,6 +4,7 @@
 use crate::generated::v_frame_streams::stream::Place;
 use core::fmt;
 use std::io;
+use crate::generated::v_frame_planar::PlanarError;
 use crate::generated::v_frame_y4m::Y4mError;
 
 /// Why a call gave up: in which stream, at which frame, and what the system reported.
@@ -29,6 +30,26 @@ impl StreamError {
             frames: 0,
             problem,
             cause: None,
+        }
+    }
+
+    /// Returns the error at the next frame of a stream that was not read or not written. What the system reported last belongs to it
+    /// where a read or a write failed, and else to an earlier call.
+    pub(crate) fn at_frame(
+        place: Place,
+        frames: u64,
+        error: Y4mError,
+        last_failure: Option<io::ErrorKind>,
+    ) -> Self {
+        let cause = match &error {
+            Y4mError::Planar(PlanarError::Read | PlanarError::Write) => last_failure,
+            _ => None,
+        };
+        StreamError {
+            place,
+            frames,
+            problem: Problem::Stream(error),
+            cause,
         }
     }
 }

@@ -50,6 +50,7 @@ mod passing;
 mod picture;
 mod plan;
 mod progress;
+mod shapes;
 mod sink;
 mod source;
 mod stream;

@@ -4,14 +4,14 @@
 use alloc::vec::Vec;
 use crate::support::memory::TryVec;
 use crate::generated::v_frame_streams::error::{Problem, StreamError};
+use crate::generated::v_frame_streams::shapes::{has_format, has_sizes};
 use crate::generated::v_frame_streams::source::Source;
 use std::io;
 use crate::generated::v_frame::frame::{Frame, FrameError};
 use crate::generated::v_frame::pixel::Pixel;
-use crate::generated::v_frame::plane::Plane;
-use crate::generated::v_frame_planar::{Counted, PlanarError, planar_len, video_frame};
-use crate::generated::v_frame_semi_planar::{SemiPlanarError, SemiPlanarFormat, read_frame};
-use crate::generated::v_frame_y4m::{Color, Y4mError};
+use crate::generated::v_frame_planar::{planar_len, show_planar_bytes, video_frame};
+use crate::generated::v_frame_semi_planar::{SemiPlanarFormat, show_semi_planar_bytes};
+use crate::generated::v_frame_y4m::Color;
 
 /// A frame that is read again and again, and room for its bytes.
 ///
@@ -63,10 +63,7 @@ impl<T: Pixel> Picture<T> {
         };
         let mut bytes = Vec::new();
         match bytes.try_resize(source.frame_len(), 0) {
-            Ok(()) => Ok(Picture {
-                frame,
-                bytes,
-            }),
+            Ok(()) => Ok(Picture { frame, bytes }),
             Err(_) => {
                 drop(frame);
                 Err(source.refused(Problem::OutOfMemory))
@@ -88,42 +85,41 @@ impl<T: Pixel> Picture<T> {
         self.bytes.as_slice()
     }
 
-    /// Returns whether frames of a stream have as many bytes as those of the stream that it was made for. Sizes, formats and bit
-    /// depths are not compared: the bytes are shown as those of this picture.
+    /// Returns whether the picture can be read from a stream: whether its frame has the sizes, the chroma subsampling and the bit
+    /// depth of the stream's frames, and as many bytes. It has them where it was made for that stream, until another frame is
+    /// put in its place.
     #[inline]
     #[must_use]
     pub fn is_made_for<R: io::Read>(&self, source: &Source<R>) -> bool {
-        self.bytes.len() == source.frame_len() && planar_len(&self.frame) == self.bytes.len()
+        self.bytes.len() == source.frame_len()
+            && planar_len(&self.frame) == self.bytes.len()
+            && has_format(&self.frame, source.header().color)
+            && has_sizes(&self.frame, source.header())
     }
 
     /// Reads the next frame of a stream and shows it. `false` where the stream stood at its end before it.
     ///
-    /// Its frames must have as many bytes as the picture's: [`is_made_for`](Self::is_made_for) is the test. They are right where it
-    /// was made for this stream, or for one of the same size and color.
+    /// Its frames must be such as the picture's: [`is_made_for`](Self::is_made_for) is the test. They are where it was made for this
+    /// stream, or for one of the same size and color.
     ///
     /// # Errors
     ///
-    /// [`Problem::Stream`] where a frame was not read whole. In a semi-planar stream also [`Problem::OutOfMemory`] where a request
-    /// for memory was refused, and the frame was then read but is not shown. After an error read no further: what came of the frame
-    /// is lost.
+    /// [`Problem::Stream`] where a frame was not read whole. After an error read no further: what came of the frame is lost.
     ///
     /// # Panics
     ///
-    /// Panics where `self` was made for frames of other sizes than those of `source`: see `is_made_for`.
+    /// Panics where the frame of `self` has not the size or the format of the frames of `source`: see `is_made_for`.
     #[track_caller]
     #[inline]
     pub fn read<R: io::Read>(&mut self, source: &mut Source<R>) -> Result<bool, StreamError> {
         assert!(
             self.is_made_for(source),
-            "a picture of {} bytes cannot take frames of {} bytes", self.bytes().len(), source.frame_len()
+            "a picture of {}x{}, {:?} at {} bits, cannot take frames of {}x{}, {:?}", self.frame.y_plane.width(), self.frame.y_plane.height(), self.frame.subsampling, self.frame.bit_depth, source.header().width, source.header().height, source.header().color
         );
         if !source.begin_frame(self.bytes.as_mut_slice())? {
             return Ok(false);
         }
-        let (layout, bytes) = (source.layout(), self.bytes.as_slice());
-        if let Err(problem) = show_frame(&mut self.frame, bytes, layout) {
-            return Err(source.refused(problem));
-        }
+        show_frame(&mut self.frame, self.bytes.as_slice(), source.layout());
         source.end_frame();
         Ok(true)
     }
@@ -154,61 +150,14 @@ pub(crate) fn blank_frame<T: Pixel>(
 }
 
 /// Shows bytes in a frame, those of a layout or else planar ones. There must be as many as the frame has.
-fn show_frame<T: Pixel>(
-    frame: &mut Frame<T>,
-    bytes: &[u8],
-    layout: Option<SemiPlanarFormat>,
-) -> Result<(), Problem> {
+fn show_frame<T: Pixel>(frame: &mut Frame<T>, bytes: &[u8], layout: Option<SemiPlanarFormat>) {
     match layout {
         Some(layout) => show_layout(frame, bytes, layout),
-        None => {
-            show_bytes(frame, bytes);
-            Ok(())
-        }
+        None => show_planar_bytes(frame, bytes),
     }
 }
 
-/// Shows the bytes of a layout in a frame, of which there must be as many as the frame has.
-fn show_layout<T: Pixel>(
-    frame: &mut Frame<T>,
-    bytes: &[u8],
-    layout: SemiPlanarFormat,
-) -> Result<(), Problem> {
-    let mut reader = Counted::new(bytes);
-    match read_frame(&mut reader, frame, layout) {
-        Ok(true) => {
-            Ok(())
-        }
-        Ok(false) => Err(Problem::Stream(Y4mError::Planar(PlanarError::Truncated {
-            expected: bytes.len(),
-            found: 0,
-        }))),
-        Err(SemiPlanarError::Planar(PlanarError::OutOfMemory)) => Err(Problem::OutOfMemory),
-        Err(SemiPlanarError::Planar(error)) => Err(Problem::Stream(Y4mError::Planar(error))),
-        Err(_) => Err(Problem::OtherLayout),
-    }
-}
-
-/// Shows planar bytes in a frame. There must be as many as the frame has.
-pub(crate) fn show_bytes<T: Pixel>(frame: &mut Frame<T>, bytes: &[u8]) {
-    let behind_y = show_plane(&mut frame.y_plane, bytes);
-    let behind_u = show_chroma(&mut frame.u_plane, behind_y);
-    show_chroma(&mut frame.v_plane, behind_u);
-}
-
-/// Shows the first bytes in a plane, where it is there, and gives those after them.
-fn show_chroma<'a, T: Pixel>(plane: &mut Option<Plane<T>>, bytes: &'a [u8]) -> &'a [u8] {
-    match plane {
-        Some(plane) => show_plane(plane, bytes),
-        None => bytes,
-    }
-}
-
-/// Shows the first bytes in a plane, and gives those after them.
-fn show_plane<'a, T: Pixel>(plane: &mut Plane<T>, bytes: &'a [u8]) -> &'a [u8] {
-    let (shown, rest) = bytes.split_at(plane.byte_len());
-    if plane.copy_from_u8_slice(shown).is_err() {
-        unreachable!()
-    }
-    rest
+/// Shows the bytes of a layout in a frame, which must be one for it and have as many.
+fn show_layout<T: Pixel>(frame: &mut Frame<T>, bytes: &[u8], layout: SemiPlanarFormat) {
+    show_semi_planar_bytes(frame, bytes, layout);
 }

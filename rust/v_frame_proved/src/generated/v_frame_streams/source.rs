@@ -61,12 +61,10 @@ impl<R: io::Read> Source<R> {
             Ok((header, is_strict)) => {
                 Source::new(place, Container::Y4m, header, !is_strict, None, reader)
             }
-            Err(error) => Err(StreamError {
-                place,
-                frames: 0,
-                problem: Problem::Stream(error),
-                cause: reader.last_failure(),
-            }),
+            Err(error) => {
+                let last_failure = reader.last_failure();
+                Err(StreamError::at_frame(place, 0, error, last_failure))
+            }
         }
     }
 
@@ -233,12 +231,7 @@ impl<R: io::Read> Source<R> {
 
     /// Returns the error at the next frame.
     fn stopped(&self, error: Y4mError) -> StreamError {
-        StreamError {
-            place: self.place,
-            frames: self.frames,
-            problem: Problem::Stream(error),
-            cause: self.reader.last_failure(),
-        }
+        StreamError::at_frame(self.place, self.frames, error, self.reader.last_failure())
     }
 }
 

@@ -5,7 +5,7 @@ use crate::generated::v_frame_y4m::header::StreamHeader;
 use crate::generated::v_frame::chroma::ChromaSubsampling;
 use crate::generated::v_frame::frame::{Frame, FrameError};
 use crate::generated::v_frame::pixel::Pixel;
-use crate::generated::v_frame_planar::video_frame;
+use crate::generated::v_frame_planar::{chroma_size, video_frame};
 
 impl StreamHeader {
     /// Returns a frame to read the frames of the stream into: of its size, its format and its bit depth, with all planes
@@ -44,18 +44,15 @@ impl StreamHeader {
 }
 
 /// Returns how many bytes a plane of chroma has beside luma of this size, none where there is no chroma.
+#[inline]
 fn chroma_len(
     width: usize,
     height: usize,
     subsampling: ChromaSubsampling,
     pixel: usize,
 ) -> Option<usize> {
-    match subsampling.subsample_ratio() {
-        Some((columns, rows)) => plane_len(
-            width.div_ceil(usize::from(columns.get())),
-            height.div_ceil(usize::from(rows.get())),
-            pixel,
-        ),
+    match chroma_size(subsampling, width, height) {
+        Some((width, height)) => plane_len(width, height, pixel),
         None => Some(0),
     }
 }

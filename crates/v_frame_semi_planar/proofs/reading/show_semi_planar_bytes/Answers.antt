@@ -5,7 +5,7 @@ use Rattle.v_frame.specs.Prelude.{row_major, table_of, tables_of}
 use Rattle.v_frame_semi_planar.specs.Format.{unused_bits}
 use Rattle.v_frame_semi_planar.specs.SemiPlanar.{chroma_pixels, shown_pixels}
 use Rattle.v_frame_semi_planar.proofs.Stored.{length-bytes, length-parts, shown-parts}
-use Rattle.v_frame_semi_planar.proofs.reading.store_frame.Goals as goal
+use Rattle.v_frame_semi_planar.proofs.reading.show_semi_planar_bytes.Goals as goal
 
 pub split_at-requires : goal.split_at-requires
 split_at-requires g c =
