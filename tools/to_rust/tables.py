@@ -85,8 +85,9 @@ PART_TEXTS = {(kind, part): text for kind, part, text in rows_of("tables.md", "t
 
 # Words that tell that a sentence speaks to someone who writes proofs.
 PROOF_WORDS = (
-    r"\b(contracts?|clauses?|proofs?|provers?|proves?|proved|laws?|ghosts?|toolchain|Rattle|specs)\b",
+    r"\b([Cc]ontracts?|[Cc]lauses?|[Pp]roofs?|[Pp]rovers?|[Pp]roves?|proved|[Ll]aws?|ghosts?|toolchain|Rattle|specs)\b",
     r"\b(requires|ensures)`",
+    r"^Of the (readers|writers) over memory\b",
     r"^(Our own|The module is our own|Its functions and constants are our own)\b",
 )
 

@@ -144,7 +144,7 @@ class Libraries(unittest.TestCase):
                 _library.of_this_version(library, name)
 
     def test_where_a_library_is_looked_for(self):
-        """Beside the module, in its prefix, and by the loader; where it is nowhere the message has all three."""
+        """Beside the module, in its prefix, in its wheel, and by the loader; where it is nowhere the message has all four."""
         module, library = pathlib.Path(v_frame.__path__[0]), pathlib.Path(_library._library._name)
         with tempfile.TemporaryDirectory() as folder:
             room = pathlib.Path(folder).resolve()
@@ -157,18 +157,20 @@ class Libraries(unittest.TestCase):
                 words = [sys.executable, "-c", "from v_frame import _library; print(_library._library._name)"]
                 return subprocess.run(words, env={**environment, **more}, capture_output=True, text=True)
 
-            places = [there / "libv_frame.so", room / "lib/libv_frame.so", room / "other/libv_frame.so"]
+            places, loaded = [there / "libv_frame.so", room / "lib/libv_frame.so", there / "lib/libv_frame.so"], room / "other"
             if not ctypes.util.find_library("v_frame"):
                 said = tried().stderr.splitlines()[-1]
-                for words in (f"looked for {places[0]}, {places[1]}, and libv_frame.so where the loader looks", "V_FRAME_LIBRARY"):
+                looked_for = ", ".join(map(str, places))
+                for words in (f"looked for {looked_for}, and libv_frame.so where the loader looks", "V_FRAME_LIBRARY"):
                     self.assertIn(words, said)
-            places[2].parent.mkdir()
-            for name in library.parent.glob("libv_frame.so*"):
-                shutil.copy(name, places[2].parent)
-            self.assertEqual(tried(LD_LIBRARY_PATH=str(places[2].parent)).stderr, "")
-            for place in (places[1], places[0]):
+            loaded.mkdir()
+            for name in ("libv_frame.so", f"libv_frame.so.{_library.VERSION.rpartition('.')[0]}"):
+                shutil.copy(library, loaded / name)
+            self.assertEqual(tried(LD_LIBRARY_PATH=str(loaded)).stderr, "")
+            for place in reversed(places):
+                place.parent.mkdir(exist_ok=True)
                 shutil.copy(library, place)
-                self.assertEqual(tried(LD_LIBRARY_PATH=str(places[2].parent)).stdout, f"{place}\n")
+                self.assertEqual(tried(LD_LIBRARY_PATH=str(loaded)).stdout, f"{place}\n")
 
 
 class Shapes(unittest.TestCase):

@@ -57,9 +57,13 @@ class PairStatistics(ctypes.Structure):
 
 
 def opened(name, variable):
-    """The library that an environment variable names; or the one beside this module, that of its prefix, or the loader's."""
+    """The library that an environment variable names; or the one beside this module, that of its prefix or its wheel, or the loader's.
+
+    A wheel has one library with all calls, as cargo builds it.
+    """
     here, file = Path(__file__).resolve().parent, f"lib{name}.so"
-    named, places = os.environ.get(variable), [str(here / file), str(here.parent.parent / file)]
+    places = [str(it) for it in (here / file, here.parent.parent / file, here / "lib/libv_frame.so")]
+    named = os.environ.get(variable)
     found = named or next((it for it in places if Path(it).exists()), None) or ctypes.util.find_library(name) or file
     try:
         return ctypes.CDLL(found)

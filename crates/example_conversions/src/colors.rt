@@ -33,7 +33,7 @@ pub fn show_on_screen(
     let matrix = RgbMatrix::new(Standard::Bt709, ColorRange::Limited);
     let (width, height) = (y.width(), y.height());
     prove!(stride >= width);
-    rows::yuv444_to_rgb::<Bgra>(y, u, v, matrix, screen, 4 * width, height, stride);
+    rows::yuv444_to_rgb::<Bgra>(y, u, v, screen, 4 * width, height, stride, matrix);
 }
 
 /// Makes a plane the luma of a picture of red, green and blue, as a JPEG file has it. Its border stays.
@@ -46,7 +46,7 @@ pub fn luma_of_photo(photo: &RowsRef<'_, u8>, plane: &mut Plane<u8>)
     ensures border { KeepsBorder plane.old plane.new }
 {
     let matrix = YuvMatrix::new(Standard::Bt601, ColorRange::Full);
-    v_frame_rgb::rgb_to_channel::<Rgb, Luma>(photo, matrix, plane);
+    v_frame_rgb::rgb_to_channel::<Rgb, Luma>(photo, plane, matrix);
 }
 
 /// Returns what is left of a color that was stored as luma and chroma: red and green are off by at most 1, and blue by at

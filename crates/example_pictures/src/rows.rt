@@ -36,7 +36,7 @@ pub fn write_colors<W: io::Write + Drop>(
     if !rows_fit(width, height, width, bytes.len()) {
         return Err(PngError::OutOfMemory);
     }
-    rows::yuv444_to_rgb::<Rgb>(y, u, v, matrix, &mut bytes, width, height, width);
+    rows::yuv444_to_rgb::<Rgb>(y, u, v, &mut bytes, width, height, width, matrix);
     let colors = RowsRef::new(&bytes, width, height, width).ok_or(PngError::OutOfMemory)?;
     write_png(alloc, out, header, &colors)
 }

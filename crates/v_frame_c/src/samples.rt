@@ -90,10 +90,10 @@ fn write_samples(
 {
     let (width, height) = size;
     match order {
-        0 => colors::rgb_to_yuv444::<Rgb>(source, matrix, y, u, v, width, height, strides),
-        1 => colors::rgb_to_yuv444::<Bgr>(source, matrix, y, u, v, width, height, strides),
-        2 => colors::rgb_to_yuv444::<Rgba>(source, matrix, y, u, v, width, height, strides),
-        _ => colors::rgb_to_yuv444::<Bgra>(source, matrix, y, u, v, width, height, strides),
+        0 => colors::rgb_to_yuv444::<Rgb>(source, y, u, v, width, height, strides, matrix),
+        1 => colors::rgb_to_yuv444::<Bgr>(source, y, u, v, width, height, strides, matrix),
+        2 => colors::rgb_to_yuv444::<Rgba>(source, y, u, v, width, height, strides, matrix),
+        _ => colors::rgb_to_yuv444::<Bgra>(source, y, u, v, width, height, strides, matrix),
     }
 }
 

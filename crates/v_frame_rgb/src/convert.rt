@@ -16,11 +16,11 @@ pub fn yuv444_to_rgb<O: ColorOrder>(
     y: &PlaneRef<'_, u8>,
     u: &PlaneRef<'_, u8>,
     v: &PlaneRef<'_, u8>,
-    matrix: RgbMatrix,
     buffer: &mut [u8],
     width: usize,
     height: usize,
     stride: usize,
+    matrix: RgbMatrix,
 )
     requires fit { RowsFit width height stride (length buffer.old) }
     requires wide { width ≡ O.BYTES * y.now.geometry.width }
@@ -34,7 +34,7 @@ pub fn yuv444_to_rgb<O: ColorOrder>(
     ensures rest { KeepsRest width height stride buffer.old buffer.new }
 {
     let (y, u, v) = (y.as_rows_ref(), u.as_rows_ref(), v.as_rows_ref());
-    rows::yuv444_to_rgb::<O>(&y, &u, &v, matrix, buffer, width, height, stride);
+    rows::yuv444_to_rgb::<O>(&y, &u, &v, buffer, width, height, stride, matrix);
 }
 
 /// Makes what a plane shows the samples of a picture of colors, in the order `O`, for the channel `C`. Its border stays.
@@ -42,8 +42,8 @@ pub fn yuv444_to_rgb<O: ColorOrder>(
 /// A row of the picture has [`BYTES`](ColorOrder::BYTES) bytes for each visible pixel of the plane.
 pub fn rgb_to_channel<O: ColorOrder, C: Channel>(
     source: &RowsRef<'_, u8>,
-    matrix: YuvMatrix,
     plane: &mut Plane<u8>,
+    matrix: YuvMatrix,
 )
     requires wide { width_of source.now ≡ O.BYTES * plane.old.geometry.width }
     requires high { height_of source.now ≡ plane.old.geometry.height }
@@ -57,7 +57,7 @@ pub fn rgb_to_channel<O: ColorOrder, C: Channel>(
         height,
         stride,
     } = plane.visible_mut();
-    rows::rgb_to_channel::<O, C>(source, matrix, entries, width, height, stride);
+    rows::rgb_to_channel::<O, C>(source, entries, width, height, stride, matrix);
 }
 
 /// Makes what three planes show the luma and the chroma of a picture of colors, in the order `O`. Their borders stay.
@@ -65,10 +65,10 @@ pub fn rgb_to_channel<O: ColorOrder, C: Channel>(
 /// The planes have one size, and a row of the picture has [`BYTES`](ColorOrder::BYTES) bytes for each of their pixels.
 pub fn rgb_to_yuv444<O: ColorOrder>(
     source: &RowsRef<'_, u8>,
-    matrix: YuvMatrix,
     y: &mut Plane<u8>,
     u: &mut Plane<u8>,
     v: &mut Plane<u8>,
+    matrix: YuvMatrix,
 )
     requires wide { width_of source.now ≡ O.BYTES * y.old.geometry.width }
     requires high { height_of source.now ≡ y.old.geometry.height }
@@ -106,6 +106,6 @@ pub fn rgb_to_yuv444<O: ColorOrder>(
     } = v.visible_mut();
     let strides = (y_stride, u_stride, v_stride);
     rows::rgb_to_yuv444::<O>(
-        source, matrix, y_rows, u_rows, v_rows, width, height, strides,
+        source, y_rows, u_rows, v_rows, width, height, strides, matrix,
     );
 }

@@ -1,3 +1,4 @@
+pub mod Causes
 pub mod Comparing
 pub mod Copied
 pub mod Copying

@@ -2,6 +2,7 @@ pub mod Comparisons
 pub mod Conversions
 pub mod Copies
 pub mod Edits
+pub mod Errors
 pub mod Formats
 pub mod Frames
 pub mod Layouts
@@ -10,6 +11,7 @@ pub mod Pictures
 pub mod Plans
 pub mod Prelude
 pub mod Sources
+pub mod Stops
 pub mod Streams
 pub mod Sums
 pub mod Telling

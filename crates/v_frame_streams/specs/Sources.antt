@@ -1,20 +1,14 @@
 -- A stream that is read: what stays of it, and which bytes are left.
-use Rattle.std.specs.Prelude.{ℕ, ◌≡◌, ◌⊎◌, List, Option, None}
+use Rattle.std.specs.Prelude.{ℕ, ◌≡◌, List, Option}
 use Rattle.std.specs.Io.Buffered.{reader_remaining}
-use Rattle.std.specs.declared.io.ErrorKind.{ErrorKind}
-use Rattle.v_frame_planar.specs.declared.error.PlanarError.TheVariants.{Read, Write}
 use Rattle.v_frame_semi_planar.specs.declared.format.SemiPlanarFormat.{SemiPlanarFormat}
 use Rattle.v_frame_y4m.specs.Header.{IsWritable}
-use Rattle.v_frame_y4m.specs.declared.error.Y4mError.{Y4mError}
-use Rattle.v_frame_y4m.specs.declared.error.Y4mError.TheVariants.{Planar}
 use Rattle.v_frame_y4m.specs.declared.header.StreamHeader.{StreamHeader}
-use Rattle.v_frame_streams.specs.declared.error.StreamError.{StreamError}
 use Rattle.v_frame_streams.specs.declared.sink.Sink.{Sink}
 use Rattle.v_frame_streams.specs.declared.source.Source.{Source}
 use Rattle.v_frame_streams.specs.declared.stream.Container.{Container}
 use Rattle.v_frame_streams.specs.declared.stream.Container.TheVariants.{Y4m}
 use Rattle.v_frame_streams.specs.declared.stream.Place.{Place}
-use Rattle.v_frame_streams.specs.declared.stream.Place.TheVariants.{Output}
 
 -- what no call changes of a stream: which one it is, its container, its header, the semi-planar
 -- layout of its frames where they have one, and how many bytes a frame has
@@ -46,35 +40,6 @@ module _ {R : Type 0} where
     pub container : source.container ≡ holding
     pub frames : source.frames ≡ 0
 
-  -- the error comes at the next frame of this stream
-  pub record IsAtNextFrame (source : Source R) (error : StreamError) : Type 0 where
-    pub place : error.place ≡ source.place
-    pub frames : error.frames ≡ source.frames
-
--- what the system reported last, where the error says that a read or a write failed
-abbrev pub cause_of : Y4mError → Option ErrorKind → Option ErrorKind
-cause_of (Planar Read) last = last
-cause_of (Planar Write) last = last
-cause_of _ last = None
-
--- the error comes in front of the first frame of a stream
-pub record IsAtStart (which : Place) (error : StreamError) : Type 0 where
-  pub place : error.place ≡ which
-  pub frames : error.frames ≡ 0
-
--- the error comes at the next frame that is written
-pub record IsAtNextWritten {W : Type 0} (sink : Sink W) (error : StreamError) : Type 0 where
-  pub place : error.place ≡ Output
-  pub frames : error.frames ≡ sink.frames
-
 -- a header can be written to it: raw video has none, and else a line has to say it
 abbrev pub TakesHeader : {W : Type 0} → Sink W → StreamHeader → Type 0
 TakesHeader sink header = sink.container ≡ Y4m → IsWritable header
-
--- a copy stops at the next frame that it reads, or at the next one that it writes
-abbrev pub StopsCopy : {R W : Type 0} → Source R → Sink W → StreamError → Type 0
-StopsCopy source sink error = IsAtNextFrame source error ⊎ IsAtNextWritten sink error
-
--- a comparison stops at the next frame of the first stream, or at that of the second
-abbrev pub StopsComparison : {R S : Type 0} → Source R → Source S → StreamError → Type 0
-StopsComparison first second error = IsAtNextFrame first error ⊎ IsAtNextFrame second error

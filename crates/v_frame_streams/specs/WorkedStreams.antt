@@ -1,14 +1,19 @@
 -- Small cases worked out by hand. Each line computes: it is proved by `refl`.
 use Rattle.std.specs.Prelude.{ℕ, ◌≡◌, [], ◌∷◌, Some, None, true, false, refl}
 use Rattle.v_frame_y4m.specs.declared.color.Color.TheVariants.{Yuv420, Yuv420Mpeg2, Yuv422}
+use Rattle.v_frame_y4m.specs.declared.error.Y4mError.TheVariants.{Planar}
 use Rattle.v_frame_streams.specs.Conversions.{color_in}
 use Rattle.v_frame_streams.specs.Copies.{kept}
 use Rattle.v_frame_streams.specs.Edits.{beside, halved_size}
+use Rattle.v_frame_streams.specs.Errors.{cause_of}
+use Rattle.std.specs.declared.io.ErrorKind.TheVariants.{TimedOut}
 use Rattle.v_frame.specs.Prelude.{one_byte, two_bytes, Tables}
+use Rattle.v_frame_planar.specs.declared.error.PlanarError.TheVariants.{Read, Truncated}
 use Rattle.v_frame_semi_planar.specs.declared.format.SemiPlanarFormat.TheVariants.{Nv12, Nv21}
 use Rattle.v_frame_semi_planar.specs.declared.format.SemiPlanarFormat.TheVariants.{P010}
 use Rattle.v_frame_streams.specs.Pictures.{tables_of_bytes, Sizes}
 use Rattle.v_frame_streams.specs.Streams.{stream_bytes, written_bytes}
+use Rattle.v_frame_streams.specs.declared.error.Problem.TheVariants.{EmptyCrop, Stream}
 use Rattle.v_frame_streams.specs.declared.stream.Container.TheVariants.{Raw}
 use Rattle.v_frame_formats.specs.declared.format.VideoFormat.TheVariants.{Planar}
 
@@ -89,3 +94,13 @@ p010_shown : tables_of_bytes two_bytes (Some P010) ((1, 1), (Some (1, 1), Some (
       v = Some ((4 ∷ []) ∷ []);
     }
 p010_shown = refl
+
+-- what the system reported belongs to a read that failed, and to no other problem
+failed_read_has_a_cause : cause_of (Stream (Planar Read)) (Some TimedOut) ≡ Some TimedOut
+failed_read_has_a_cause = refl
+
+end_inside_a_frame_has_none : cause_of (Stream (Planar (Truncated 6 4))) (Some TimedOut) ≡ None
+end_inside_a_frame_has_none = refl
+
+empty_crop_has_none : cause_of EmptyCrop (Some TimedOut) ≡ None
+empty_crop_has_none = refl

@@ -1,5 +1,5 @@
 //! Two streams, compared frame by frame.
-ghost use Rattle.std.specs.Prelude.{◌≡◌, ◌≢◌, ◌⊎◌, ◌<◌, IfErr, IfOk, None, OnOk};
+ghost use Rattle.std.specs.Prelude.{◌≡◌, ◌≢◌, ◌⊎◌, ◌*◌, ◌≤◌, ◌<◌, IfErr, IfOk, None, OnOk};
 ghost use Rattle.v_frame.specs.Prelude.{one_byte, tables_of, two_bytes};
 ghost use Rattle.v_frame_planar.specs.Planar.{sizes_of};
 ghost use Rattle.v_frame_y4m.specs.Color.{depth_of};
@@ -7,13 +7,14 @@ ghost use Rattle.v_frame_streams.specs.Comparisons.{errors_between, Adds, Compar
 ghost use Rattle.v_frame_streams.specs.Formats.{HaveOneFormat};
 ghost use Rattle.v_frame_streams.specs.MadeFor.{IsMadeFor};
 ghost use Rattle.v_frame_streams.specs.Pictures.{sizes_in};
-ghost use Rattle.v_frame_streams.specs.Sources.{bytes_left, stream_of, IsAtNextFrame, StopsComparison};
+ghost use Rattle.v_frame_streams.specs.Stops.{IsAtNextFrame, StopsComparison};
+ghost use Rattle.v_frame_streams.specs.Sources.{bytes_left, stream_of};
 ghost use Rattle.v_frame_streams.specs.Streams.{most_frames};
 ghost use Rattle.v_frame_streams.specs.Telling.{TellsUpTo};
 
 use crate::comparison::{CompareOptions, Comparison, longer_of};
 use crate::error::StreamError;
-use crate::formats::test_formats;
+use crate::formats::check_formats;
 use crate::frames::squared_errors_of_frames;
 use crate::observer::FrameObserver;
 use crate::passing::skip_frames;
@@ -33,8 +34,7 @@ use v_frame::pixel::Pixel;
 ///
 /// Of [`Problem`](crate::Problem) `OtherSize`, `OtherChroma` and `OtherDepth`, told of the second stream, where the two have
 /// not one format; `TooManyPixels` where a picture has more than the options allow; `OutOfMemory`. Then nothing was read.
-/// `Stream` where a frame was not read, and `OutOfMemory` where there was no room to show a semi-planar one. Those of the
-/// observer.
+/// `Stream` where a frame was not read. Those of the observer.
 pub fn compare_streams<
     R: io::Read,
     S: io::Read,
@@ -49,6 +49,7 @@ pub fn compare_streams<
     progress: &mut P,
 ) -> Result<Comparison, StreamError>
     ensures formats { OnOk result (HaveOneFormat first.old.header second.old.header) }
+    ensures small { OnOk result (first.old.header.width * first.old.header.height ≤ options.now.max_pixels) }
     ensures bytes { depth_of first.old.header.color ≡ 8 → IfOk result (ComparesFrom one_byte
         (sizes_in first.old.header) (stream_of first.old) (stream_of second.old)
         (bytes_left R.remaining first.old) (bytes_left R.remaining first.new)
@@ -77,9 +78,7 @@ pub fn compare_streams<
     ensures same { stream_of first.new ≡ stream_of first.old }
     ensures also_same { stream_of second.new ≡ stream_of second.old }
 {
-    if let Err(problem) = test_formats(first.header(), second.header()) {
-        return Err(second.refused(problem));
-    }
+    check_formats(first, second)?;
     if first.header().color.bit_depth() == 8 {
         return Ok(compare_as::<u8, _, _, _, _>(alloc, first, second, options, observer, progress)?);
     }
@@ -96,6 +95,7 @@ fn compare_as<T: Pixel, R: io::Read, S: io::Read, O: FrameObserver<T>, P: Progre
     progress: &mut P,
 ) -> Result<Comparison, StreamError>
     requires { HaveOneFormat first.old.header second.old.header }
+    ensures small { OnOk result (first.old.header.width * first.old.header.height ≤ options.now.max_pixels) }
     ensures compared { IfOk result (ComparesFrom T.form (sizes_in first.old.header)
         (stream_of first.old) (stream_of second.old) (bytes_left R.remaining first.old)
         (bytes_left R.remaining first.new) (bytes_left S.remaining second.old)

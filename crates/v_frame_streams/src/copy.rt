@@ -6,7 +6,8 @@ ghost use Rattle.v_frame_y4m.specs.Frames.{pixel_bytes};
 ghost use Rattle.v_frame_y4m.specs.Header.{IsWritable};
 ghost use Rattle.v_frame_streams.specs.Conversions.{form_of, layout_in};
 ghost use Rattle.v_frame_streams.specs.Copies.{copied_header, made_bytes, same_bytes, taken, Begins, Copies, CopiesBy, IsTakable};
-ghost use Rattle.v_frame_streams.specs.Sources.{bytes_left, stream_of, IsAtNextFrame, StopsCopy};
+ghost use Rattle.v_frame_streams.specs.Stops.{IsAtNextFrame, StopsCopy};
+ghost use Rattle.v_frame_streams.specs.Sources.{bytes_left, stream_of};
 ghost use Rattle.v_frame_streams.specs.Streams.{header_bytes};
 ghost use Rattle.v_frame_streams.specs.Telling.{TellsUpTo};
 
@@ -40,7 +41,7 @@ use v_frame_y4m::StreamHeader;
 /// Of [`Problem`] `EmptyCrop`, `CropOutside` and `CropMisaligned` where the crop can't be taken; `SemiPlanar` where a YUV4MPEG2
 /// stream is asked for in a semi-planar layout; `Unwritable` where no header line says what should be written; `TooManyPixels`,
 /// where a picture is to be made that has more than the options allow; `OutOfMemory`. Then nothing was read or written. `Stream`
-/// where a frame was not read or not written, and `OutOfMemory` where there was no room to show a semi-planar one.
+/// where a frame was not read or not written.
 pub fn copy_stream<R: io::Read, W: io::Write, P: Progress>(
     alloc: Global,
     source: &mut Source<R>,

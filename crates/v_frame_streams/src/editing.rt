@@ -6,7 +6,8 @@ ghost use Rattle.v_frame_streams.specs.Copies.{Carries};
 ghost use Rattle.v_frame_streams.specs.MadeFor.{IsMadeFor};
 ghost use Rattle.v_frame_streams.specs.Pictures.{tables_of_bytes};
 ghost use Rattle.v_frame_streams.specs.Plans.{plan_of, planned_bytes, CanMake};
-ghost use Rattle.v_frame_streams.specs.Sources.{bytes_left, stream_of, StopsCopy};
+ghost use Rattle.v_frame_streams.specs.Stops.{StopsCopy};
+ghost use Rattle.v_frame_streams.specs.Sources.{bytes_left, stream_of};
 ghost use Rattle.v_frame_streams.specs.Telling.{TellsUpTo};
 
 use crate::error::StreamError;

@@ -21,8 +21,7 @@ pub struct StreamError {
 
 impl StreamError {
     ghost use Rattle.std.specs.Prelude.{◌≡◌, None};
-    ghost use Rattle.v_frame_streams.specs.Sources.{cause_of};
-    ghost use Rattle.v_frame_streams.specs.declared.error.Problem.TheVariants.{Stream};
+    ghost use Rattle.v_frame_streams.specs.Errors.{cause_of};
 
     /// Returns the error in front of the first frame, which no failed read or write caused.
     pub fn at_start(place: Place, problem: Problem) -> Self
@@ -36,29 +35,30 @@ impl StreamError {
         }
     }
 
-    /// Returns the error at the next frame of a stream that was not read or not written. What the system reported last belongs to it
-    /// where a read or a write failed, and else to an earlier call.
+    /// Returns the error at the next frame of a stream. What the system reported last belongs to it where a read or a write
+    /// failed, and else to an earlier call.
     pub(crate) fn at_frame(
         place: Place,
         frames: u64,
-        error: Y4mError,
+        problem: Problem,
         last_failure: Option<io::ErrorKind>,
     ) -> Self
         ensures { result ≡ record {
           place = place;
           frames = frames;
-          problem = Stream error;
-          cause = cause_of error last_failure;
+          problem = problem;
+          cause = cause_of problem last_failure;
         } }
     {
-        let cause = match &error {
-            Y4mError::Planar(PlanarError::Read | PlanarError::Write) => last_failure,
+        let cause = match &problem {
+            Problem::Stream(Y4mError::Planar(PlanarError::Read | PlanarError::Write)) =>
+                last_failure,
             _ => None,
         };
         StreamError {
             place,
             frames,
-            problem: Problem::Stream(error),
+            problem,
             cause,
         }
     }

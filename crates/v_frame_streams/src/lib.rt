@@ -33,6 +33,7 @@ pub use compare::compare_streams;
 pub use comparison::{CompareOptions, Comparison};
 pub use copy::copy_stream;
 pub use error::{Problem, StreamError};
+pub use formats::check_formats;
 pub use frames::PixelDifference;
 pub use observer::{FrameObserver, NoObserver};
 pub use options::{CopyOptions, MAX_PIXELS};

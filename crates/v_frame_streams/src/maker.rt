@@ -7,7 +7,7 @@ ghost use Rattle.v_frame_streams.specs.Conversions.{format_in, is_same_format};
 ghost use Rattle.v_frame_streams.specs.Copies.{copied_header, plan_for};
 ghost use Rattle.v_frame_streams.specs.Pictures.{sizes_in};
 ghost use Rattle.v_frame_streams.specs.Plans.{bytes_in_layout, bytes_made, plan_of, planned_bytes, shape_of, CanLayOut, CanMake, FitsLayout};
-ghost use Rattle.v_frame_streams.specs.Sources.{IsAtNextWritten};
+ghost use Rattle.v_frame_streams.specs.Stops.{IsAtNextWritten};
 ghost use Rattle.v_frame_streams.specs.Streams.{written_bytes};
 
 use crate::colors::is_same_format as have_one_format;

@@ -1,7 +1,8 @@
 //! Frames that are written as they were read: their bytes move through a block, and no frame is made.
 ghost use Rattle.std.specs.Prelude.{◌≡◌, ◌+◌, ◌-◌, ◌≤◌, ◌<◌, length, IfErr, IfOk, OnOk};
 ghost use Rattle.v_frame_streams.specs.Copies.{same_bytes, Carries, MovesNext, MovesSome};
-ghost use Rattle.v_frame_streams.specs.Sources.{bytes_left, stream_of, StopsCopy};
+ghost use Rattle.v_frame_streams.specs.Stops.{StopsCopy};
+ghost use Rattle.v_frame_streams.specs.Sources.{bytes_left, stream_of};
 ghost use Rattle.v_frame_streams.specs.Telling.{TellsUpTo};
 
 use crate::error::StreamError;

@@ -1,7 +1,8 @@
 //! Frames that are passed over: their bytes are read, and no frame is made.
 ghost use Rattle.std.specs.Prelude.{◌≡◌, ◌+◌, ◌-◌, ◌≤◌, ◌<◌, length, IfErr, IfOk, OnOk};
 ghost use Rattle.v_frame_planar.specs.Planar.{ConsumesSome};
-ghost use Rattle.v_frame_streams.specs.Sources.{bytes_left, stream_of, IsAtNextFrame};
+ghost use Rattle.v_frame_streams.specs.Stops.{IsAtNextFrame};
+ghost use Rattle.v_frame_streams.specs.Sources.{bytes_left, stream_of};
 ghost use Rattle.v_frame_streams.specs.Streams.{frames_after, CountsFrames, ReadsWhole};
 ghost use Rattle.v_frame_streams.specs.Telling.{TellsUpTo};
 

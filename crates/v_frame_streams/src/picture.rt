@@ -1,16 +1,18 @@
 //! A frame that each frame of a stream is read into, one after the other.
-ghost use Rattle.std.specs.Prelude.{◌≡◌, ◌↔◌, ◌≤◌, ◌<◌, ◌*◌, option_map, ℕ, IfErr, IfOk, IfSome, IsTrue};
+ghost use Rattle.std.specs.Prelude.{◌≡◌, ◌↔◌, ◌≤◌, ◌<◌, ◌*◌, option_map, Err, IfErr, IfOk, IfSome, IsErrAnd, IsOkUnless, IsTrue, MatchOption};
 ghost use Rattle.v_frame.specs.Prelude.{table_of, tables_of};
 ghost use Rattle.v_frame_planar.specs.Planar.{sizes_of};
 ghost use Rattle.v_frame_planar.specs.Shown.{FillsFrame};
-ghost use Rattle.v_frame_planar.specs.Video.{chroma_sizes_of};
+ghost use Rattle.v_frame_planar.specs.Video.{chroma_sizes_of, video_refusal_of};
 ghost use Rattle.v_frame_y4m.specs.Color.{depth_of, subsampling_of};
 ghost use Rattle.v_frame_y4m.specs.Frames.{pixel_bytes};
 ghost use Rattle.v_frame_streams.specs.Conversions.{format_in, format_of, sizes_laid_out, LayoutFits};
+ghost use Rattle.v_frame_streams.specs.Errors.{picture_request};
+ghost use Rattle.v_frame_streams.specs.Stops.{IsAtNextFrame};
 ghost use Rattle.v_frame_streams.specs.MadeFor.{IsMadeFor};
 ghost use Rattle.v_frame_streams.specs.Pictures.{sizes_in, tables_in_layout, tables_of_bytes, AreEven, IsEven, ReadsTables};
 ghost use Rattle.v_frame_streams.specs.Plans.{shape_of, FitsLayout};
-ghost use Rattle.v_frame_streams.specs.Sources.{bytes_left, stream_of, IsAtNextFrame};
+ghost use Rattle.v_frame_streams.specs.Sources.{bytes_left, stream_of};
 ghost use Rattle.v_frame_streams.specs.Streams.{frames_after};
 
 use crate::converting::sizes_are_laid_out;
@@ -39,8 +41,8 @@ impl<T: Pixel> Picture<T> {
     ///
     /// # Errors
     ///
-    /// [`Problem::TooManyPixels`] where it has more, [`Problem::TooLarge`] where a plane can't be addressed or the pixels have
-    /// not the size of `T`, and [`Problem::OutOfMemory`] where a request for memory was refused.
+    /// The first of these that holds: [`Problem::TooManyPixels`] where it has more, [`Problem::TooLarge`] where a plane can't be
+    /// addressed or the pixels have not the size of `T`, and [`Problem::OutOfMemory`] where a request for memory was refused.
     pub fn new<R: io::Read>(
         alloc: Global,
         source: &Source<R>,
@@ -50,8 +52,12 @@ impl<T: Pixel> Picture<T> {
         ensures sizes { IfOk result (λ picture. sizes_of (tables_of picture.frame) ≡ sizes_in source.now.header) }
         ensures format { IfOk result (λ picture. format_of picture.frame ≡ format_in source.now.header.color) }
         ensures small { IfOk result (λ _. source.now.header.width * source.now.header.height ≤ max_pixels) }
-        ensures many { IfErr result (λ error. (limit : ℕ) → error.problem ≡ Problem.TooManyPixels limit
-            → (limit ≡ max_pixels) × (max_pixels < source.now.header.width * source.now.header.height)) }
+        ensures many { max_pixels < source.now.header.width * source.now.header.height
+            → IsErrAnd result (λ error. error.problem ≡ Problem.TooManyPixels max_pixels) }
+        ensures refused { let header = source.now.header in header.width * header.height ≤ max_pixels
+            → MatchOption (video_refusal_of T.BYTES (picture_request header.width header.height header.color))
+            (IfErr result (λ error. error.problem ≡ Problem.OutOfMemory))
+            (λ _. IsErrAnd result (λ error. error.problem ≡ Problem.TooLarge)) }
         ensures stopped { IfErr result (IsAtNextFrame source.now) }
     {
         let header = source.header();
@@ -145,8 +151,10 @@ pub(crate) fn blank_frame<T: Pixel>(
     ensures format { IfOk result (λ frame. format_of frame ≡ format_in color) }
     ensures pixels { IfOk result (λ _. T.form.size ≡ pixel_bytes (depth_of color)) }
     ensures small { IfOk result (λ _. width * height ≤ max_pixels) }
-    ensures many { IfErr result (λ problem. (limit : ℕ) → problem ≡ Problem.TooManyPixels limit
-        → (limit ≡ max_pixels) × (max_pixels < width * height)) }
+    ensures many { max_pixels < width * height → result ≡ Err (Problem.TooManyPixels max_pixels) }
+    ensures refused { width * height ≤ max_pixels
+        → MatchOption (video_refusal_of T.BYTES (picture_request width height color))
+        (IsOkUnless result Problem.OutOfMemory) (λ _. result ≡ Err Problem.TooLarge) }
 {
     match width.checked_mul(height) {
         Some(pixels) if pixels <= max_pixels => {}

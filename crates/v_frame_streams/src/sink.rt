@@ -6,7 +6,8 @@ ghost use Rattle.v_frame_planar.specs.Counted.{AppendsBeginning};
 ghost use Rattle.v_frame_planar.specs.Planar.{planar_bytes};
 ghost use Rattle.v_frame_semi_planar.specs.Format.{HasLayout};
 ghost use Rattle.v_frame_semi_planar.specs.SemiPlanar.{semi_planar_bytes};
-ghost use Rattle.v_frame_streams.specs.Sources.{cause_of, IsAtNextWritten, TakesHeader};
+ghost use Rattle.v_frame_streams.specs.Stops.{IsAtNextWritten};
+ghost use Rattle.v_frame_streams.specs.Sources.{TakesHeader};
 ghost use Rattle.v_frame_streams.specs.Streams.{frame_line, header_bytes, written_bytes};
 
 use crate::error::{Problem, StreamError};
@@ -172,12 +173,11 @@ impl<W: io::Write> Sink<W> {
     fn stopped(&self, error: Y4mError) -> StreamError
         ensures place { IsAtNextWritten self.now result }
         ensures problem { result.problem ≡ Problem.Stream error }
-        ensures cause { result.cause ≡ cause_of error self.now.writer.last_failure }
     {
         StreamError::at_frame(
             Place::Output,
             self.frames,
-            error,
+            Problem::Stream(error),
             self.writer.last_failure(),
         )
     }

@@ -1,8 +1,9 @@
 //! Streams that are read: the header, and then frame by frame.
-ghost use Rattle.std.specs.Prelude.{◌≡◌, ◌<◌, IfErr, IfOk};
+ghost use Rattle.std.specs.Prelude.{◌≡◌, ◌<◌, IfErr, IfOk, IsErrAnd, IsOk};
 ghost use Rattle.std.specs.Io.Buffered.{reader_remaining};
 ghost use Rattle.v_frame_y4m.specs.Frames.{frame_byte_count};
 ghost use Rattle.std.proofs.Props.{props};
+ghost use Rattle.v_frame_streams.specs.Errors.{HasLength, IsAtStart};
 ghost use Rattle.v_frame_streams.specs.Layouts.{HoldsColor};
 
 use crate::colors::holds_color;
@@ -32,12 +33,13 @@ pub struct Source<R> {
 }
 
 impl<R: io::Read> Source<R> {
-    ghost use Rattle.std.specs.Prelude.{◌≡◌, ◌+◌, ◌≤◌, ◌<◌, [], false, true, length, take, IfErr, IfOk, MatchBool, OnOk};
+    ghost use Rattle.std.specs.Prelude.{◌≡◌, ◌+◌, ◌≤◌, ◌<◌, [], false, true, length, take, IfErr, IfOk, IsErrAnd, MatchBool, OnOk};
     ghost use Rattle.std.specs.Io.KnownBytes.{Consumes, IsAtEnd};
     ghost use Rattle.v_frame_planar.specs.declared.error.PlanarError.TheVariants.{Truncated};
     ghost use Rattle.v_frame_y4m.specs.Header.{IsWritable};
     ghost use Rattle.v_frame_y4m.specs.declared.error.Y4mError.TheVariants.{Planar};
-    ghost use Rattle.v_frame_streams.specs.Sources.{bytes_left, cause_of, stream_of, IsAtNextFrame, IsAtStart, IsOpened};
+    ghost use Rattle.v_frame_streams.specs.Stops.{IsAtNextFrame};
+    ghost use Rattle.v_frame_streams.specs.Sources.{bytes_left, stream_of, IsOpened};
     ghost use Rattle.v_frame_streams.specs.Streams.{frames_after, ReadsHeaderLine, ReadsLine, ReadsNext};
 
     /// Reads the header line of a YUV4MPEG2 stream, or one that stands for it. Its frames are left to be read.
@@ -58,11 +60,21 @@ impl<R: io::Read> Source<R> {
         let mut reader = buffered(alloc, place, reader)?;
         match read_lax_header(alloc, &mut reader) {
             Ok((header, is_strict)) => {
-                Source::new(place, Container::Y4m, header, !is_strict, None, reader)
+                let frame_len = frame_len_of(place, &header)?;
+                Ok(Source {
+                    place,
+                    container: Container::Y4m,
+                    header,
+                    layout: None,
+                    frame_len,
+                    frames: 0,
+                    is_lax: !is_strict,
+                    reader,
+                })
             }
             Err(error) => {
                 let last_failure = reader.last_failure();
-                Err(StreamError::at_frame(place, 0, error, last_failure))
+                Err(StreamError::at_frame(place, 0, Problem::Stream(error), last_failure))
             }
         }
     }
@@ -71,9 +83,9 @@ impl<R: io::Read> Source<R> {
     ///
     /// # Errors
     ///
-    /// [`Problem::OtherLayout`] where the layout is for another chroma subsampling or bit depth than the header says,
-    /// [`Problem::TooLarge`] where a frame has no byte, or more than `usize::MAX`, and [`Problem::OutOfMemory`] where a request
-    /// for memory was refused.
+    /// The first of these that holds: [`Problem::OtherLayout`] where the layout is for another chroma subsampling or bit depth than
+    /// the header says, [`Problem::TooLarge`] where a frame has no byte, or more than `usize::MAX`, and [`Problem::OutOfMemory`]
+    /// where a request for memory was refused.
     pub fn raw(
         alloc: Global,
         place: Place,
@@ -90,48 +102,28 @@ impl<R: io::Read> Source<R> {
         ensures holds { OnOk result (HoldsColor layout header.color) }
         ensures other_layout { ¬ (HoldsColor layout header.color)
             → IfErr result (λ error. error.problem ≡ Problem.OtherLayout) }
+        ensures too_large { HoldsColor layout header.color → ¬ (HasLength header)
+            → IsErrAnd result (λ error. error.problem ≡ Problem.TooLarge) }
+        ensures taken { HoldsColor layout header.color → HasLength header
+            → IfErr result (λ error. error.problem ≡ Problem.OutOfMemory) }
         ensures unread { IfOk result (λ source. bytes_left R.remaining source ≡ R.remaining reader) }
         ensures stopped { IfErr result (IsAtStart place) }
     {
         if !holds_color(layout, header.color) {
             return Err(StreamError::at_start(place, Problem::OtherLayout));
         }
+        let frame_len = frame_len_of(place, &header)?;
         let reader = buffered(alloc, place, reader)?;
-        Source::new(place, Container::Raw, header, false, layout, reader)
-    }
-
-    /// Returns the stream of a reader that stands in front of its first frame.
-    fn new(
-        place: Place,
-        container: Container,
-        header: StreamHeader,
-        is_lax: bool,
-        layout: Option<SemiPlanarFormat>,
-        reader: Counted<BufReader<R>>,
-    ) -> Result<Self, StreamError>
-    where
-        R: Drop,
-        requires { HoldsColor layout header.color }
-        ensures layout { IfOk result (λ source. source.layout ≡ layout) }
-        ensures opened { IfOk result (IsOpened place container) }
-        ensures header { IfOk result (λ source. source.header ≡ header) }
-        ensures lax { IfOk result (λ source. source.is_lax ≡ is_lax) }
-        ensures reader { IfOk result (λ source. source.reader ≡ reader) }
-        ensures stopped { IfErr result (IsAtStart place) }
-    {
-        match header.frame_len() {
-            Some(frame_len) if frame_len > 0 => Ok(Source {
-                place,
-                container,
-                header,
-                layout,
-                frame_len,
-                frames: 0,
-                is_lax,
-                reader,
-            }),
-            _ => Err(StreamError::at_start(place, Problem::TooLarge)),
-        }
+        Ok(Source {
+            place,
+            container: Container::Raw,
+            header,
+            layout,
+            frame_len,
+            frames: 0,
+            is_lax: false,
+            reader,
+        })
     }
 
     /// Returns the header.
@@ -194,7 +186,7 @@ impl<R: io::Read> Source<R> {
         requires within { length front.old ≤ self.old.frame_len }
         ensures read { IfOk result (ReadsNext (bytes_left R.remaining self.old)
             (bytes_left R.remaining self.new) self.old.container front.new) }
-        ensures stopped { IfErr result (IsAtNextFrame self.old) }
+        ensures stopped { IfErr result (IsAtNextFrame self.new) }
         ensures same { stream_of self.new ≡ stream_of self.old }
         ensures frames { self.new.frames ≡ self.old.frames }
         ensures size { length front.new ≡ length front.old }
@@ -225,7 +217,7 @@ impl<R: io::Read> Source<R> {
         requires { before + length part.old ≤ self.old.frame_len }
         ensures read { OnOk result (Consumes (bytes_left R.remaining self.old)
             (bytes_left R.remaining self.new) part.new) }
-        ensures stopped { IfErr result (IsAtNextFrame self.old) }
+        ensures stopped { IfErr result (IsAtNextFrame self.new) }
         ensures same { stream_of self.new ≡ stream_of self.old }
         ensures frames { self.new.frames ≡ self.old.frames }
         ensures size { length part.new ≡ length part.old }
@@ -241,7 +233,7 @@ impl<R: io::Read> Source<R> {
     fn read_line(&mut self) -> Result<bool, StreamError>
         ensures read { IfOk result (ReadsLine (bytes_left R.remaining self.old)
             (bytes_left R.remaining self.new)) }
-        ensures stopped { IfErr result (IsAtNextFrame self.old) }
+        ensures stopped { IfErr result (IsAtNextFrame self.new) }
         ensures same { stream_of self.new ≡ stream_of self.old }
         ensures frames { self.new.frames ≡ self.old.frames }
     {
@@ -258,7 +250,7 @@ impl<R: io::Read> Source<R> {
             (bytes_left R.remaining self.new) (take found part.new)) }
         ensures at_end { IfOk result (λ found. found < length part.new
             → IsAtEnd (bytes_left R.remaining self.new)) }
-        ensures stopped { IfErr result (IsAtNextFrame self.old) }
+        ensures stopped { IfErr result (IsAtNextFrame self.new) }
         ensures same { stream_of self.new ≡ stream_of self.old }
         ensures frames { self.new.frames ≡ self.old.frames }
         ensures size { length part.new ≡ length part.old }
@@ -280,26 +272,34 @@ impl<R: io::Read> Source<R> {
         }))
     }
 
-    /// Returns the error where the next frame can't be taken for this reason, and none of it was read.
+    /// Returns the error of a next frame that was not read.
+    fn stopped(&self, error: Y4mError) -> StreamError
+        ensures place { IsAtNextFrame self.now result }
+        ensures problem { result.problem ≡ Problem.Stream error }
+    {
+        self.refused(Problem::Stream(error))
+    }
+
+    /// Returns the error where the next frame can't be taken for this reason.
     pub(crate) fn refused(&self, problem: Problem) -> StreamError
         ensures place { IsAtNextFrame self.now result }
         ensures problem { result.problem ≡ problem }
     {
-        StreamError {
-            place: self.place,
-            frames: self.frames,
-            problem,
-            cause: None,
-        }
+        StreamError::at_frame(self.place, self.frames, problem, self.reader.last_failure())
     }
+}
 
-    /// Returns the error at the next frame.
-    fn stopped(&self, error: Y4mError) -> StreamError
-        ensures place { IsAtNextFrame self.now result }
-        ensures problem { result.problem ≡ Problem.Stream error }
-        ensures cause { result.cause ≡ cause_of error self.now.reader.last_failure }
-    {
-        StreamError::at_frame(self.place, self.frames, error, self.reader.last_failure())
+/// Returns how many bytes each frame of a stream has.
+fn frame_len_of(place: Place, header: &StreamHeader) -> Result<usize, StreamError>
+    ensures counted { IfOk result (λ len. (len ≡ frame_byte_count header.now) × (0 < len)) }
+    ensures refused { ¬ (HasLength header.now)
+        → IsErrAnd result (λ error. error.problem ≡ Problem.TooLarge) }
+    ensures taken { HasLength header.now → IsOk result }
+    ensures stopped { IfErr result (IsAtStart place) }
+{
+    match header.frame_len() {
+        Some(frame_len) if frame_len > 0 => Ok(frame_len),
+        _ => Err(StreamError::at_start(place, Problem::TooLarge)),
     }
 }
 
@@ -311,7 +311,8 @@ fn buffered<R: io::Read + Drop>(
 ) -> Result<Counted<BufReader<R>>, StreamError>
     ensures buffered { IfOk result (λ buffered. reader_remaining R.remaining buffered.inner
         ≡ R.remaining reader) }
-    ensures stopped { IfErr result (λ error. (error.place ≡ place) × (error.frames ≡ 0)) }
+    ensures refused { IfErr result (λ error. error.problem ≡ Problem.OutOfMemory) }
+    ensures stopped { IfErr result (IsAtStart place) }
 {
     match BufReader::new(alloc, reader) {
         Ok(reader) => Ok(Counted::new(reader)),

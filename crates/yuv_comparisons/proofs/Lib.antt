@@ -1,2 +1,1 @@
-mod Differing
 mod Reporting

@@ -1,15 +1,13 @@
 -- What `diff` makes of two frames.
-use Rattle.std.specs.Prelude.{ℕ, ◌≡◌, ◌+◌, ◌∷◌, List, Option, Some, None, map, unwrap_or, IfOk, IfSome}
+use Rattle.std.specs.Prelude.{ℕ, ◌≡◌, ◌+◌, ◌*◌, ◌≤◌, List, [], ◌∷◌, ◌++◌, length, Option, unwrap_or}
 use Rattle.std.specs.Int.NonZero.{non_zero_u8_get}
 use Rattle.v_frame.specs.Prelude.{Frame, PixelForm, Tables, tables_of}
 use Rattle.v_frame_png.specs.Prelude.{HasFile}
 use Rattle.yuv_pictures.specs.Prelude.{difference_rows, gray_samples, picture_header, AreDifferences}
 use Rattle.yuv_pictures.specs.declared.places.Found.{Found}
-use Rattle.yuv_system.specs.Options.{frame_pair}
-use Rattle.yuv_comparisons.specs.declared.diff.DifferencePicture.{DifferencePicture}
+use Rattle.yuv_system.specs.Options.{most_pixels}
 use Rattle.v_frame_streams.specs.Comparisons.{Pair}
-use Rattle.v_frame_streams.specs.Prelude.{shown, ComparesFrom, Sizes, Stream}
-use Rattle.v_frame_streams.specs.declared.comparison.Comparison.{Comparison}
+use Rattle.v_frame_streams.specs.Prelude.{sizes_in, tables_of_bytes, Framed, ReadsFrames, Stream}
 use Rattle.yuv_words.specs.declared.command.Options.{Options as OptionWords}
 
 -- a writer got the picture of the difference of frames that show these tables, times a gain, and
@@ -26,32 +24,23 @@ pub record DrawsDifference {T W : Type 0} (form : PixelForm T) (contents : W →
       (difference_rows form first second gain)
   pub differs : AreDifferences form a b found
 
-module _ {T W : Type 0} (form : PixelForm T) (contents : W → Option (List ℕ)) where
-  -- the difference of two frames was written, unless that failed
-  pub record DrawsPair (out : W) (old new : DifferencePicture W) (a b : Tables T) : Type 0 where
-    pub used : new.out ≡ None
-    pub drawn : IfSome new.drawn (λ drawn. IfOk drawn (λ done.
-        DrawsDifference form contents (contents out) old.gain a b done.0 done.1))
+-- of a stream so many frames were passed over, and the one behind them shows these tables
+pub record ReadsBehind {T : Type 0} (form : PixelForm T) (before : ℕ) (stream : Stream)
+    (left left' : Option (List ℕ)) (tables : Tables T) : Type 0 where
+  pub frames : List Framed
+  pub frame : Framed
+  pub passed : length frames ≡ before
+  pub read : ReadsFrames left left' stream.container stream.frame_len (frames ++ frame ∷ [])
+  pub shows : tables ≡ tables_of_bytes form stream.layout (sizes_in stream.header) frame.1
 
-  -- that of the first two frames is written, and nothing of those after them
-  abbrev pub TakesPair : Option W → DifferencePicture W → DifferencePicture W → Tables T → Tables T
-      → Type 0
-  TakesPair None old new a b = new ≡ old
-  TakesPair (Some out) old new a b = DrawsPair out old new a b
-
-  -- Of both streams the frames in front of the one that the options name were passed over, and the
-  -- difference of the next two was written.
-  pub record DrawsFrames (start : Option (List ℕ)) (options : OptionWords) (size : Sizes)
-      (one other : Stream) (left left' right right' : Option (List ℕ)) (new : W) (found : Found)
-      : Type 0 where
-    pub before : ℕ
-    pub number : before + 1 ≡ unwrap_or options.frame 1
-    pub compared : Comparison
-    pub frames : ComparesFrom form size one other left left' right right'
-        (frame_pair options before) compared
-    pub pair : Pair T
-    pub later : List (Pair T)
-    pub first : map (shown form size one.layout other.layout) frames.compared.compared.frames
-        ≡ pair ∷ later
-    pub drawn : DrawsDifference form contents start (unwrap_or options.gain 8) pair.0 pair.1 new
-        found
+-- The frames of both streams that the options name were read, and their difference was written.
+pub record DrawsFrames {T W : Type 0} (form : PixelForm T) (contents : W → Option (List ℕ))
+    (start : Option (List ℕ)) (options : OptionWords) (one other : Stream)
+    (left left' right right' : Option (List ℕ)) (new : W) (found : Found) : Type 0 where
+  pub before : ℕ
+  pub number : before + 1 ≡ unwrap_or options.frame 1
+  pub small : one.header.width * one.header.height ≤ most_pixels options.max_pixels
+  pub pair : Pair T
+  pub first : ReadsBehind form before one left left' pair.0
+  pub second : ReadsBehind form before other right right' pair.1
+  pub drawn : DrawsDifference form contents start (unwrap_or options.gain 8) pair.0 pair.1 new found

@@ -1,11 +1,12 @@
 //! The command `diff`: the difference of two frames as a picture, and where it is.
-ghost use Rattle.std.specs.Prelude.{◌≡◌, ◌≢◌, ◌↔◌, ◌++◌, false, string_bytes, unwrap_or, IfOk, IfSome, OnOk};
+ghost use Rattle.std.specs.Prelude.{◌≡◌, ◌≢◌, ◌↔◌, ◌+◌, ◌++◌, false, string_bytes, unwrap_or, IfOk, IfSome, OnOk};
 ghost use Rattle.v_frame.specs.Prelude.{one_byte, tables_of, two_bytes};
 ghost use Rattle.v_frame_y4m.specs.Color.{depth_of};
-ghost use Rattle.yuv_comparisons.specs.Differences.{DrawsDifference, DrawsFrames, TakesPair};
-ghost use Rattle.yuv_system.specs.Options.{frame_pair};
+ghost use Rattle.yuv_comparisons.specs.Differences.{DrawsDifference, DrawsFrames, ReadsBehind};
 ghost use Rattle.yuv_comparisons.specs.Places.{chroma_said, first_said, found_said, greatest_said, plane_said, ShowNoDifference};
-ghost use Rattle.v_frame_streams.specs.Prelude.{bytes_left, sizes_in, stream_of};
+ghost use Rattle.v_frame_measures.specs.Prelude.{HaveOneSize};
+ghost use Rattle.v_frame_planar.specs.Planar.{sizes_of};
+ghost use Rattle.v_frame_streams.specs.Prelude.{bytes_left, stream_of, HaveOneFormat, IsMadeFor};
 ghost use Rattle.yuv_words.specs.declared.command.CommandName.TheVariants.{Diff};
 
 use std::alloc::{AllocError, Global};
@@ -14,15 +15,13 @@ use std::rt::Files;
 use std::time::Clock;
 use v_frame::frame::Frame;
 use v_frame::pixel::Pixel;
-use v_frame_measures::{GreatestDifference, frames_have_one_size};
-use v_frame_streams::{
-    CompareOptions, FrameObserver, Place, PlaneSums, Silent, Source, StreamError, compare_streams,
-};
+use v_frame_measures::GreatestDifference;
+use v_frame_streams::{Picture, Place, Silent, Source, check_formats, skip_frames};
 use yuv_files::SystemFile;
 use yuv_pictures::{Found, PictureError, PlaneDifference, differences, write_difference_picture};
 use yuv_system::{
-    Fault, Output, Status, System, begin, frames_before, is_standard_output, no_memory, open_file,
-    taken_of_both, write_made, write_text,
+    Fault, Output, Status, System, begin, frames_before, is_standard_output, most_pixels,
+    no_memory, open_file, write_made, write_text,
 };
 use yuv_words::{Call, Options};
 
@@ -90,31 +89,68 @@ fn write_difference<R: io::Read, S: io::Read, W: io::Write + Drop>(
     out: W,
 ) -> Result<(W, Found), Fault>
     ensures bytes { depth_of first.old.header.color ≡ 8 → IfOk result (λ drawn.
-        DrawsFrames one_byte W.contents (W.contents out) options.now (sizes_in first.old.header)
+        DrawsFrames one_byte W.contents (W.contents out) options.now
         (stream_of first.old) (stream_of second.old)
         (bytes_left R.remaining first.old) (bytes_left R.remaining first.new)
         (bytes_left S.remaining second.old) (bytes_left S.remaining second.new) drawn.0 drawn.1) }
     ensures words { depth_of first.old.header.color ≢ 8 → IfOk result (λ drawn.
-        DrawsFrames two_bytes W.contents (W.contents out) options.now (sizes_in first.old.header)
+        DrawsFrames two_bytes W.contents (W.contents out) options.now
         (stream_of first.old) (stream_of second.old)
         (bytes_left R.remaining first.old) (bytes_left R.remaining first.new)
         (bytes_left S.remaining second.old) (bytes_left S.remaining second.new) drawn.0 drawn.1) }
 {
     let before = frames_before(options.frame)?;
-    let taken = frames_taken(options, before);
-    let mut picture = DifferencePicture {
-        alloc,
-        out: Some(out),
-        gain: gain_of(options),
-        drawn: None,
-    };
-    compare_streams(alloc, first, second, &taken, &mut picture, &mut Silent)?;
-    match picture.into_drawn() {
-        Some(Ok(drawn)) => Ok(drawn),
-        Some(Err(error)) => Err(Fault::Picture(error)),
-        None if first.frames() <= before => Err(Fault::NoFrame(Place::First, first.frames())),
-        None => Err(Fault::NoFrame(Place::Second, second.frames())),
+    check_formats(first, second)?;
+    if first.header().color.bit_depth() == 8 {
+        draw_frames::<u8, _, _, _>(alloc, first, second, before, options, out)
+    } else {
+        draw_frames::<u16, _, _, _>(alloc, first, second, before, options, out)
     }
+}
+
+/// Writes the difference of the frames behind so many, whose pixels are of this type.
+fn draw_frames<T: Pixel, R: io::Read, S: io::Read, W: io::Write + Drop>(
+    alloc: Global,
+    first: &mut Source<R>,
+    second: &mut Source<S>,
+    before: u64,
+    options: &Options,
+    out: W,
+) -> Result<(W, Found), Fault>
+    requires number { before + 1 ≡ unwrap_or options.now.frame 1 }
+    requires formats { HaveOneFormat first.old.header second.old.header }
+    ensures { IfOk result (λ drawn. DrawsFrames T.form W.contents (W.contents out) options.now
+        (stream_of first.old) (stream_of second.old)
+        (bytes_left R.remaining first.old) (bytes_left R.remaining first.new)
+        (bytes_left S.remaining second.old) (bytes_left S.remaining second.new) drawn.0 drawn.1) }
+{
+    let most = most_pixels(options.max_pixels);
+    let mut one = Picture::<T>::new(alloc, first, most)?;
+    let mut other = Picture::<T>::new(alloc, second, most)?;
+    read_behind(first, &mut one, before, Place::First)?;
+    read_behind(second, &mut other, before, Place::Second)?;
+    let drawn = draw_difference(alloc, out, &one.frame, &other.frame, gain_of(options))?;
+    Ok(drawn)
+}
+
+/// Passes over so many frames of a stream, and reads the next one.
+fn read_behind<T: Pixel, R: io::Read>(
+    source: &mut Source<R>,
+    picture: &mut Picture<T>,
+    before: u64,
+    place: Place,
+) -> Result<(), Fault>
+    requires { IsMadeFor T.form source.old picture.old }
+    ensures read { OnOk result (ReadsBehind T.form before (stream_of source.old)
+        (bytes_left R.remaining source.old) (bytes_left R.remaining source.new)
+        (tables_of picture.new.frame)) }
+    ensures sizes { sizes_of (tables_of picture.new.frame) ≡ sizes_of (tables_of picture.old.frame) }
+{
+    let passed = skip_frames(source, before, &mut Silent)?;
+    if passed < before || !picture.read(source)? {
+        return Err(Fault::NoFrame(place, source.frames()));
+    }
+    Ok(())
 }
 
 /// Returns what each difference is multiplied by.
@@ -124,48 +160,7 @@ fn gain_of(options: &Options) -> u16
     options.gain.unwrap_or(GAIN)
 }
 
-/// Returns what is taken of both streams: one frame after so many.
-fn frames_taken(options: &Options, before: u64) -> CompareOptions
-    ensures { result ≡ frame_pair options.now before }
-{
-    taken_of_both(Some(before), None, Some(1), options.max_pixels)
-}
-
-/// Writes the difference of the two frames that are compared.
-#[derive(Drop)]
-struct DifferencePicture<W> {
-    alloc: Global,
-    out: Option<W>,
-    gain: u16,
-    drawn: Option<Result<(W, Found), PictureError>>,
-}
-
-impl<W: Drop> DifferencePicture<W> {
-    /// Returns what was written, if anything was.
-    fn into_drawn(self) -> Option<Result<(W, Found), PictureError>>
-        ensures { result ≡ self.drawn }
-    {
-        self.drawn
-    }
-}
-
-impl<T: Pixel, W: io::Write + Drop> FrameObserver<T> for DifferencePicture<W> {
-    ghost takes = { λ old new a b _. TakesPair T.form W.contents old.out old new a b };
-
-    fn take(
-        &mut self,
-        first: &Frame<T>,
-        second: &Frame<T>,
-        _errors: &PlaneSums,
-    ) -> Result<(), StreamError> {
-        if let Some(out) = self.out.take() {
-            self.drawn = Some(draw_difference(self.alloc, out, first, second, self.gain));
-        }
-        Ok(())
-    }
-}
-
-/// Writes the difference of two frames, and returns the writer and what differs.
+/// Writes the difference of two frames of one size, and returns the writer and what differs.
 fn draw_difference<T: Pixel, W: io::Write + Drop>(
     alloc: Global,
     out: W,
@@ -173,16 +168,12 @@ fn draw_difference<T: Pixel, W: io::Write + Drop>(
     second: &Frame<T>,
     gain: u16,
 ) -> Result<(W, Found), PictureError>
+    requires { HaveOneSize (tables_of first.now) (tables_of second.now) }
     ensures { IfOk result (λ drawn. DrawsDifference T.form W.contents (W.contents out) gain
         (tables_of first.now) (tables_of second.now) drawn.0 drawn.1) }
 {
-    if !frames_have_one_size(first, second) {
-        return Err(PictureError::Unlike);
-    }
-    match write_difference_picture(alloc, out, first, second, gain) {
-        Ok(out) => Ok((out, differences(first, second))),
-        Err(error) => Err(error),
-    }
+    let out = write_difference_picture(alloc, out, first, second, gain)?;
+    Ok((out, differences(first, second)))
 }
 
 /// Returns a line for each plane.

@@ -67,11 +67,6 @@ shown_frame options before =
       max_pixels = most_pixels options.max_pixels;
     }
 
--- `diff`: one frame of both streams, after so many
-abbrev pub frame_pair : OptionWords → ℕ → CompareOptions
-frame_pair options before =
-    taken_of (Some before) None (Some 1) options.max_pixels
-
 -- `plot`
 abbrev pub plot_of : OptionWords → CompareOptions
 plot_of options = taken_of options.skip options.skip_second options.count options.max_pixels

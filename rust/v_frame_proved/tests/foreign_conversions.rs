@@ -158,10 +158,10 @@ fn comes_back<O: ColorOrder>(bytes: usize) {
     let source = RowsRef::new(&pixels, 2 * bytes, 1, 2 * bytes).unwrap();
     let (standard, range) = (Standard::Bt601, ColorRange::Full);
     let [mut y, mut u, mut v] = [[0u8; 2]; 3];
-    colors::rgb_to_yuv444::<O>(source, YuvMatrix::new(standard, range), &mut y, &mut u, &mut v, 2, 1, (2, 2, 2));
+    colors::rgb_to_yuv444::<O>(source, &mut y, &mut u, &mut v, 2, 1, (2, 2, 2), YuvMatrix::new(standard, range));
     let [y, u, v] = [&y, &u, &v].map(|plane| RowsRef::new(plane, 2, 1, 2).unwrap());
     let matrix = RgbMatrix::new(standard, range);
-    let back = written::<u8>(2 * bytes, 1, |it, s| colors::yuv444_to_rgb::<O>(y, u, v, matrix, it, 2 * bytes, 1, s));
+    let back = written::<u8>(2 * bytes, 1, |it, s| colors::yuv444_to_rgb::<O>(y, u, v, it, 2 * bytes, 1, s, matrix));
     assert!(back[0].iter().zip(&pixels).all(|(a, b)| a.abs_diff(*b) <= 2), "{back:?}");
 }
 

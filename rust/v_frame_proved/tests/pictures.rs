@@ -136,7 +136,7 @@ fn luma_without_chroma_is_written_as_gray() {
     let [y, u, v] = [&luma, &chroma, &chroma].map(|samples| RowsRef::new(samples, 2, 2, 2).expect("rows"));
     let mut bytes = [0; 12];
     let matrix = RgbMatrix::new(Standard::Bt709, ColorRange::Full);
-    yuv444_to_rgb::<Rgb>(&y, &u, &v, matrix, &mut bytes, 6, 2, 6);
+    yuv444_to_rgb::<Rgb>(&y, &u, &v, &mut bytes, 6, 2, 6, matrix);
     assert_eq!(bytes, [7, 7, 7, 0, 0, 0, 255, 255, 255, 128, 128, 128]);
     let picture = header(2, 2, Samples::Rgb8, ColorSpace::Srgb);
     let rows = RowsRef::new(&bytes, 6, 2, 6).expect("rows");

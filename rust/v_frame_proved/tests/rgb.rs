@@ -35,12 +35,12 @@ fn decodes<O: ColorOrder>(case: &Case<'_>, matrix: RgbMatrix) {
     let samples = samples();
     let mut buffer = [BORDER; 80];
     let [y, u, v] = [0, 1, 2].map(|index| RowsRef::new(&samples[index], 5, 3, 5).expect("rows"));
-    rows::yuv444_to_rgb::<O>(&y, &u, &v, matrix, &mut buffer, width, 3, stride);
+    rows::yuv444_to_rgb::<O>(&y, &u, &v, &mut buffer, width, 3, stride, matrix);
     holds(&buffer);
     buffer.fill(BORDER);
     let [y, u, v] = samples.map(|samples| plane_of([5, 3, 0, 0, 0, 0], &samples));
     let (y, u, v) = (y.as_plane_ref(), u.as_plane_ref(), v.as_plane_ref());
-    yuv444_to_rgb::<O>(&y, &u, &v, matrix, &mut buffer, width, 3, stride);
+    yuv444_to_rgb::<O>(&y, &u, &v, &mut buffer, width, 3, stride, matrix);
     holds(&buffer);
 }
 
@@ -61,10 +61,10 @@ fn samples_become_colors() {
 /// Fails where a channel of a picture is another one, in rows or in a plane.
 fn encodes_channel<O: ColorOrder, C: Channel>(source: &RowsRef<'_, u8>, matrix: YuvMatrix, wanted: &[u8]) {
     let mut buffer = [BORDER; 25];
-    rows::rgb_to_channel::<O, C>(source, matrix, &mut buffer, 5, 3, 5);
+    rows::rgb_to_channel::<O, C>(source, &mut buffer, 5, 3, 5, matrix);
     must_hold(&buffer, 5, (0, 0), (5, 3), |x, y| wanted[5 * y + x]);
     let mut plane = bordered([5, 3, 2, 1, 1, 2]);
-    rgb_to_channel::<O, C>(source, matrix, &mut plane);
+    rgb_to_channel::<O, C>(source, &mut plane, matrix);
     must_show(&plane, |x, y| wanted[5 * y + x]);
 }
 
@@ -74,12 +74,12 @@ fn encodes<O: ColorOrder>(case: &Case<'_>, matrix: YuvMatrix) {
     let colors: Vec<u8> = values(CASES, "colors");
     let source = RowsRef::new(&colors, 5 * O::BYTES, 3, 5 * O::BYTES).expect("rows");
     let [mut y, mut u, mut v] = [(); 3].map(|()| bordered([5, 3, 2, 1, 1, 2]));
-    rgb_to_yuv444::<O>(&source, matrix, &mut y, &mut u, &mut v);
+    rgb_to_yuv444::<O>(&source, &mut y, &mut u, &mut v, matrix);
     for (plane, wanted) in [(&y, luma), (&u, cb), (&v, cr)] {
         must_show(plane, |x, y| wanted[5 * y + x]);
     }
     let (mut y, mut u, mut v) = ([BORDER; 21], [BORDER; 23], [BORDER; 25]);
-    rows::rgb_to_yuv444::<O>(&source, matrix, &mut y, &mut u, &mut v, 5, 3, (6, 7, 5));
+    rows::rgb_to_yuv444::<O>(&source, &mut y, &mut u, &mut v, 5, 3, (6, 7, 5), matrix);
     for (buffer, stride, wanted) in [(&y[..], 6, luma), (&u, 7, cb), (&v, 5, cr)] {
         must_hold(buffer, stride, (0, 0), (5, 3), |x, y| wanted[5 * y + x]);
     }
@@ -128,9 +128,9 @@ fn wide_pictures_become_colors_and_samples() {
     for mut case in cases(CASES, "wide") {
         let (standard, range) = standard(&mut case);
         let mut buffer = vec![0; 3 * 67 * 9];
-        yuv444_to_rgb::<Rgb>(&y, &u, &v, RgbMatrix::new(standard, range), &mut buffer, 3 * 67, 9, 3 * 67);
+        yuv444_to_rgb::<Rgb>(&y, &u, &v, &mut buffer, 3 * 67, 9, 3 * 67, RgbMatrix::new(standard, range));
         let [mut luma, mut cb, mut cr] = [(); 3].map(|()| blank::<u8>(layout));
-        rgb_to_yuv444::<Rgb>(&source, YuvMatrix::new(standard, range), &mut luma, &mut cb, &mut cr);
+        rgb_to_yuv444::<Rgb>(&source, &mut luma, &mut cb, &mut cr, YuvMatrix::new(standard, range));
         case.expect(&[weighted(&buffer), weighted(luma.data()), weighted(cb.data()), weighted(cr.data())]);
     }
 }
@@ -140,7 +140,7 @@ fn exact<T: Pixel>(matrix: &ExactMatrix, size: u16) -> u64 {
     let factors: Vec<usize> = values(CASES, "factors");
     let samples = [0, 1, 2].map(|index| numbered::<T>([67, 9, 0, 0, 0, 0], factors[index], size));
     let mut buffer = vec![0; 3 * 67 * 9];
-    rows::yuv444_to_rgb_exactly::<T, Rgb>(&samples[0], &samples[1], &samples[2], matrix, &mut buffer, 3 * 67, 9, 3 * 67);
+    rows::yuv444_to_rgb_exactly::<T, Rgb>(&samples[0], &samples[1], &samples[2], &mut buffer, 3 * 67, 9, 3 * 67, matrix);
     weighted(&buffer)
 }
 

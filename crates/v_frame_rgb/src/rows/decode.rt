@@ -15,11 +15,11 @@ pub fn yuv444_to_rgb<O: ColorOrder>(
     y: &RowsRef<'_, u8>,
     u: &RowsRef<'_, u8>,
     v: &RowsRef<'_, u8>,
-    matrix: RgbMatrix,
     buffer: &mut [u8],
     width: usize,
     height: usize,
     stride: usize,
+    matrix: RgbMatrix,
 )
     requires fit { RowsFit width height stride (length buffer.old) }
     requires wide { width ≡ O.BYTES * width_of y.now }

@@ -14,13 +14,13 @@ use v_frame::plane::RowsRef;
 #[tactic(auto, using(v_frame_raster::proofs::tables::StridedWrites::row_ends))]
 pub fn rgb_to_yuv444<O: ColorOrder>(
     source: &RowsRef<'_, u8>,
-    matrix: YuvMatrix,
     y: &mut [u8],
     u: &mut [u8],
     v: &mut [u8],
     width: usize,
     height: usize,
     strides: (usize, usize, usize),
+    matrix: YuvMatrix,
 )
     requires y_fit { RowsFit width height strides.0 (length y.old) }
     requires u_fit { RowsFit width height strides.1 (length u.old) }
@@ -56,11 +56,11 @@ pub fn rgb_to_yuv444<O: ColorOrder>(
 #[tactic(auto, using(v_frame_raster::proofs::tables::StridedWrites::row_ends))]
 pub fn rgb_to_channel<O: ColorOrder, C: Channel>(
     source: &RowsRef<'_, u8>,
-    matrix: YuvMatrix,
     buffer: &mut [u8],
     width: usize,
     height: usize,
     stride: usize,
+    matrix: YuvMatrix,
 )
     requires fit { RowsFit width height stride (length buffer.old) }
     requires wide { width_of source.now ≡ O.BYTES * width }

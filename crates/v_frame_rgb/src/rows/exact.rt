@@ -16,11 +16,11 @@ pub fn yuv444_to_rgb_exactly<T: Pixel, O: ColorOrder>(
     y: &RowsRef<'_, T>,
     u: &RowsRef<'_, T>,
     v: &RowsRef<'_, T>,
-    matrix: &ExactMatrix,
     buffer: &mut [u8],
     width: usize,
     height: usize,
     stride: usize,
+    matrix: &ExactMatrix,
 )
     requires fit { RowsFit width height stride (length buffer.old) }
     requires wide { width ≡ O.BYTES * width_of y.now }

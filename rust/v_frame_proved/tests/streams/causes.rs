@@ -6,8 +6,9 @@ use std::io::ErrorKind;
 use v_frame_proved::plane::Plane;
 use v_frame_proved::planar::{PlanarError, video_frame};
 use v_frame_proved::chroma::ChromaSubsampling::{self, Monochrome, Yuv420, Yuv422};
-use v_frame_proved::streams::{Picture, Place, Problem, Source};
-use v_frame_proved::y4m::Y4mError;
+use v_frame_proved::semi_planar::SemiPlanarFormat;
+use v_frame_proved::streams::{Picture, Place, Problem, Source, StreamError};
+use v_frame_proved::y4m::{Color, StreamHeader, Y4mError};
 
 /// Returns a stream of this header line.
 fn source(line: &str) -> Source<&[u8]> {
@@ -71,4 +72,21 @@ fn planes_put_in_the_place_of_others_are_told_apart() {
     assert!(!with(Yuv420, plane(2, 1), plane(1, 2)));
     assert!(!with(Yuv420, plane(4, 1), None));
     assert!(!with(Yuv420, None, plane(4, 1)));
+}
+
+#[test]
+fn streams_and_pictures_that_cannot_be_are_refused() {
+    let raw = |width, height, layout| {
+        let header = StreamHeader::new(width, height, Color::Mono);
+        Source::raw(Place::Second, header, layout, &[][..]).map(|_| ()).unwrap_err()
+    };
+    for (width, height) in [(0, 2), (2, 0), (usize::MAX, 2)] {
+        assert_eq!(raw(width, height, None), StreamError::at_start(Place::Second, Problem::TooLarge));
+    }
+    assert_eq!(raw(2, 2, Some(SemiPlanarFormat::Nv12)), StreamError::at_start(Place::Second, Problem::OtherLayout));
+    let eight = source("YUV4MPEG2 W4 H2 F25:1 Cmono\n");
+    let of_words = Picture::<u16>::new(&eight, 8).map(|_| ()).unwrap_err();
+    assert_eq!(of_words, StreamError::at_start(Place::First, Problem::TooLarge));
+    let limited = Picture::<u8>::new(&eight, 7).map(|_| ()).unwrap_err();
+    assert_eq!(limited, StreamError::at_start(Place::First, Problem::TooManyPixels(7)));
 }

@@ -63,10 +63,10 @@ fn write_colors(
 ) {
     let (width, height, stride) = (rows.width, rows.height, rows.stride);
     match order {
-        0 => colors::yuv444_to_rgb::<Rgb>(y, u, v, matrix, buffer, width, height, stride),
-        1 => colors::yuv444_to_rgb::<Bgr>(y, u, v, matrix, buffer, width, height, stride),
-        2 => colors::yuv444_to_rgb::<Rgba>(y, u, v, matrix, buffer, width, height, stride),
-        _ => colors::yuv444_to_rgb::<Bgra>(y, u, v, matrix, buffer, width, height, stride),
+        0 => colors::yuv444_to_rgb::<Rgb>(y, u, v, buffer, width, height, stride, matrix),
+        1 => colors::yuv444_to_rgb::<Bgr>(y, u, v, buffer, width, height, stride, matrix),
+        2 => colors::yuv444_to_rgb::<Rgba>(y, u, v, buffer, width, height, stride, matrix),
+        _ => colors::yuv444_to_rgb::<Bgra>(y, u, v, buffer, width, height, stride, matrix),
     }
 }
 

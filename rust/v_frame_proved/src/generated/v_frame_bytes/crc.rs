@@ -14,8 +14,6 @@ pub fn crc32(bytes: &[u8]) -> u32 {
 
 /// The CRC-32 of bytes that come one part after the other, as [`crc32`] computes it of all of them.
 ///
-/// Contracts see what the division has left of the bytes so far, `crc_rest bytes`.
-///
 /// # Examples
 ///
 /// ```
@@ -28,7 +26,7 @@ pub fn crc32(bytes: &[u8]) -> u32 {
 /// assert_eq!(crc32(b"123456789"), digest.value());
 /// assert_eq!(CrcTables::new().of(b"123456789"), digest.value());
 /// ```
-#[derive(Debug)]
+#[derive(Debug, Clone)]
 pub struct Crc32Digest {
     tables: CrcTables,
     rest: u32,

@@ -12,7 +12,7 @@ const PLACES: usize = 16;
 const ENTRIES: usize = 4096;
 
 /// The tables by which the CRC-32 of bytes is computed. They take 16 KiB, and some time to make: one is for many parts.
-#[derive(Debug)]
+#[derive(Debug, Clone)]
 pub struct CrcTables {
     // Entry `256 * place + byte` is what is left of a byte that `8 * (place + 1)` steps have divided.
     entries: [u32; ENTRIES],

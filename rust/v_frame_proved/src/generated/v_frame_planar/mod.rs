@@ -6,10 +6,6 @@
 //! frame says its size, so a reader needs a frame of the right sizes to read into. [`video_frame`] makes one of any size,
 //! odd ones too, of which a builder makes none.
 //!
-//! Contracts name the bytes of a reader or a writer where its type says which they are. Of the writers over memory, `Vec<u8>`
-//! and `VecDeque<u8>` do, and what wraps them, as a `Box` or a `BufWriter`; a `Cursor` and `&mut [u8]` don't. Of the readers
-//! over memory `&[u8]`, `VecDeque<u8>` and a `Cursor` do.
-//!
 //! # Examples
 //!
 //! ```

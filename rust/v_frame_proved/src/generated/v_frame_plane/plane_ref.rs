@@ -14,8 +14,7 @@ use crate::generated::v_frame_raster::pixel::Pixel;
 /// A plane that is kept elsewhere, for reading: its geometry, and a slice that is its whole buffer.
 ///
 /// The slice may belong to a decoder's picture, to a file in memory or to an array of one's own; a
-/// [`Plane`](crate::plane::Plane) lends itself by [`as_plane_ref`](crate::plane::Plane::as_plane_ref). Contracts
-/// see a `PlaneRef` as a plane.
+/// [`Plane`](crate::plane::Plane) lends itself by [`as_plane_ref`](crate::plane::Plane::as_plane_ref).
 ///
 /// # Examples
 ///

@@ -29,11 +29,11 @@ pub fn yuv444_to_rgb<O: ColorOrder>(
     y: impl AsPlaneRef<Pixel = u8>,
     u: impl AsPlaneRef<Pixel = u8>,
     v: impl AsPlaneRef<Pixel = u8>,
-    matrix: RgbMatrix,
     buffer: &mut [u8],
     width: usize,
     height: usize,
     stride: usize,
+    matrix: RgbMatrix,
 ) {
     let y = &y.as_plane_ref();
     let u = &u.as_plane_ref();
@@ -58,7 +58,7 @@ pub fn yuv444_to_rgb<O: ColorOrder>(
     );
     assert!(v.height() == height, "the height of v ({}) is not height ({height})", v.height());
     let (y, u, v) = (y.as_rows_ref(), u.as_rows_ref(), v.as_rows_ref());
-    rows::yuv444_to_rgb::<O>(&y, &u, &v, matrix, buffer, width, height, stride);
+    rows::yuv444_to_rgb::<O>(&y, &u, &v, buffer, width, height, stride, matrix);
 }
 
 /// Makes what a plane shows the samples of a picture of colors, in the order `O`, for the channel `C`. Its border stays.
@@ -75,8 +75,8 @@ pub fn yuv444_to_rgb<O: ColorOrder>(
 #[inline]
 pub fn rgb_to_channel<O: ColorOrder, C: Channel>(
     source: impl AsRowsRef<Pixel = u8>,
-    matrix: YuvMatrix,
     plane: &mut Plane<u8>,
+    matrix: YuvMatrix,
 ) {
     let source = &source.as_rows_ref();
     assert!(
@@ -93,7 +93,7 @@ pub fn rgb_to_channel<O: ColorOrder, C: Channel>(
         height,
         stride,
     } = plane.visible_mut();
-    rows::rgb_to_channel::<O, C>(source, matrix, entries, width, height, stride);
+    rows::rgb_to_channel::<O, C>(source, entries, width, height, stride, matrix);
 }
 
 /// Makes what three planes show the luma and the chroma of a picture of colors, in the order `O`. Their borders stay.
@@ -114,10 +114,10 @@ pub fn rgb_to_channel<O: ColorOrder, C: Channel>(
 #[inline]
 pub fn rgb_to_yuv444<O: ColorOrder>(
     source: impl AsRowsRef<Pixel = u8>,
-    matrix: YuvMatrix,
     y: &mut Plane<u8>,
     u: &mut Plane<u8>,
     v: &mut Plane<u8>,
+    matrix: YuvMatrix,
 ) {
     let source = &source.as_rows_ref();
     assert!(
@@ -164,6 +164,6 @@ pub fn rgb_to_yuv444<O: ColorOrder>(
     } = v.visible_mut();
     let strides = (y_stride, u_stride, v_stride);
     rows::rgb_to_yuv444::<O>(
-        source, matrix, y_rows, u_rows, v_rows, width, height, strides,
+        source, y_rows, u_rows, v_rows, width, height, strides, matrix,
     );
 }

@@ -13,7 +13,7 @@
 //! let chroma = PlaneRef::new(geometry, &[128, 128]).unwrap();
 //! let matrix = RgbMatrix::new(Standard::Bt709, ColorRange::Limited);
 //! let mut bytes = [9; 6];
-//! rgb::yuv444_to_rgb::<Rgb>(&luma, &chroma, &chroma, matrix, &mut bytes, 6, 1, 6);
+//! rgb::yuv444_to_rgb::<Rgb>(&luma, &chroma, &chroma, &mut bytes, 6, 1, 6, matrix);
 //! assert_eq!(bytes, [0, 0, 0, 255, 255, 255]);
 //!
 //! // Bytes of another order into planes, all three or one by one.
@@ -21,11 +21,11 @@
 //! let matrix = YuvMatrix::new(Standard::Bt709, ColorRange::Full);
 //! let mut planes = [(); 3].map(|()| Plane::<u8>::new(geometry).unwrap());
 //! let [y, u, v] = &mut planes;
-//! rgb::rgb_to_yuv444::<Bgra>(&picture, matrix, y, u, v);
+//! rgb::rgb_to_yuv444::<Bgra>(&picture, y, u, v, matrix);
 //! assert_eq!((y[0].to_vec(), v[0].to_vec()), (vec![255, 0], vec![128, 128]));
-//! rgb::rgb_to_channel::<Bgra, Luma>(&picture, matrix, v);
-//! rgb::rgb_to_channel::<Bgra, ChromaV>(&picture, matrix, u);
-//! rgb::rgb_to_channel::<Bgra, ChromaU>(&picture, matrix, y);
+//! rgb::rgb_to_channel::<Bgra, Luma>(&picture, v, matrix);
+//! rgb::rgb_to_channel::<Bgra, ChromaV>(&picture, u, matrix);
+//! rgb::rgb_to_channel::<Bgra, ChromaU>(&picture, y, matrix);
 //! assert_eq!((v[0].to_vec(), y[0].to_vec()), (vec![255, 0], vec![128, 128]));
 //! ```
 

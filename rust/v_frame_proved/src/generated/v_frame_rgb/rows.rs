@@ -13,15 +13,15 @@
 //! let picture = RowsRef::new(&[255, 255, 255, 0, 0, 0], 6, 1, 6).unwrap();
 //! let matrix = YuvMatrix::new(Standard::Bt601, ColorRange::Limited);
 //! let (mut y, mut u, mut v) = ([0; 2], [0; 2], [0; 2]);
-//! rows::rgb_to_yuv444::<Rgb>(&picture, matrix, &mut y, &mut u, &mut v, 2, 1, (2, 2, 2));
+//! rows::rgb_to_yuv444::<Rgb>(&picture, &mut y, &mut u, &mut v, 2, 1, (2, 2, 2), matrix);
 //! assert_eq!((y, u, v), ([235, 16], [128, 128], [128, 128]));
-//! rows::rgb_to_channel::<Rgb, ChromaV>(&picture, matrix, &mut u, 2, 1, 2);
+//! rows::rgb_to_channel::<Rgb, ChromaV>(&picture, &mut u, 2, 1, 2, matrix);
 //! assert_eq!(u, v);
 //!
 //! let plane_of = |pixels| RowsRef::new(pixels, 2, 1, 2).unwrap();
 //! let matrix = RgbMatrix::new(Standard::Bt601, ColorRange::Limited);
 //! let mut bytes = [0; 8];
-//! rows::yuv444_to_rgb::<Rgba>(&plane_of(&y), &plane_of(&u), &plane_of(&v), matrix, &mut bytes, 8, 1, 8);
+//! rows::yuv444_to_rgb::<Rgba>(&plane_of(&y), &plane_of(&u), &plane_of(&v), &mut bytes, 8, 1, 8, matrix);
 //! assert_eq!(bytes, [255, 255, 255, 255, 0, 0, 0, 255]);
 //!
 //! // White and a blue of 10 bits, rounded once.
@@ -29,7 +29,7 @@
 //! let [y, u, v] = [[940_u16, 378], [512, 705], [512, 594]];
 //! let plane_of = |pixels| RowsRef::new(pixels, 2, 1, 2).unwrap();
 //! let mut bytes = [0; 6];
-//! rows::yuv444_to_rgb_exactly::<u16, Rgb>(&plane_of(&y), &plane_of(&u), &plane_of(&v), &matrix, &mut bytes, 6, 1, 6);
+//! rows::yuv444_to_rgb_exactly::<u16, Rgb>(&plane_of(&y), &plane_of(&u), &plane_of(&v), &mut bytes, 6, 1, 6, &matrix);
 //! assert_eq!(bytes, [255, 255, 255, 128, 70, 193]);
 //! ```
 

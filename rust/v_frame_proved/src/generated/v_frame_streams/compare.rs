@@ -3,7 +3,7 @@
 
 use crate::generated::v_frame_streams::comparison::{CompareOptions, Comparison, longer_of};
 use crate::generated::v_frame_streams::error::StreamError;
-use crate::generated::v_frame_streams::formats::test_formats;
+use crate::generated::v_frame_streams::formats::check_formats;
 use crate::generated::v_frame_streams::frames::squared_errors_of_frames;
 use crate::generated::v_frame_streams::observer::FrameObserver;
 use crate::generated::v_frame_streams::passing::skip_frames;
@@ -22,8 +22,7 @@ use crate::generated::v_frame::pixel::Pixel;
 ///
 /// Of [`Problem`](crate::streams::Problem) `OtherSize`, `OtherChroma` and `OtherDepth`, told of the second stream, where the two have
 /// not one format; `TooManyPixels` where a picture has more than the options allow; `OutOfMemory`. Then nothing was read.
-/// `Stream` where a frame was not read, and `OutOfMemory` where there was no room to show a semi-planar one. Those of the
-/// observer.
+/// `Stream` where a frame was not read. Those of the observer.
 ///
 /// # Examples
 ///
@@ -32,7 +31,8 @@ use crate::generated::v_frame::pixel::Pixel;
 /// use v_frame_proved::frame::Frame;
 /// use v_frame_proved::pixel::Pixel;
 /// use v_frame_proved::streams::{CompareOptions, Comparison, FrameObserver, MAX_PIXELS, NoObserver};
-/// use v_frame_proved::streams::{PixelDifference, Place, PlaneSums, Silent, Source, StreamError, compare_streams};
+/// use v_frame_proved::streams::{PixelDifference, Place, PlaneSums, Problem, Silent, Source, StreamError};
+/// use v_frame_proved::streams::{check_formats, compare_streams};
 ///
 /// const FRAME: [u8; 32] = [98; 32];
 /// let all = CompareOptions { skip_first: 0, skip_second: 0, count: None, max_pixels: MAX_PIXELS };
@@ -77,6 +77,12 @@ use crate::generated::v_frame::pixel::Pixel;
 /// let mut last = Last(None);
 /// compared(&all, &mut last)?;
 /// assert_eq!(last.0.unwrap().total(), 4);
+///
+/// let (first, second) = (stream(&[FRAME]), b"YUV4MPEG2 W31 H1 F25:1 Cmono\n");
+/// let first = Source::y4m(Place::First, &first[..])?;
+/// let second = Source::y4m(Place::Second, &second[..])?;
+/// let error = check_formats(&first, &second).unwrap_err();
+/// assert!(matches!(error.problem, Problem::OtherSize));
 /// # Ok::<(), StreamError>(())
 /// ```
 #[inline]
@@ -92,9 +98,7 @@ pub fn compare_streams<
     observer: &mut O,
     progress: &mut P,
 ) -> Result<Comparison, StreamError> {
-    if let Err(problem) = test_formats(first.header(), second.header()) {
-        return Err(second.refused(problem));
-    }
+    check_formats(first, second)?;
     if first.header().color.bit_depth() == 8 {
         return Ok(compare_as::<u8, _, _, _, _>(first, second, options, observer, progress)?);
     }

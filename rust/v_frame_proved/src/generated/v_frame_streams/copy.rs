@@ -30,7 +30,7 @@ use crate::generated::v_frame_y4m::StreamHeader;
 /// Of [`Problem`] `EmptyCrop`, `CropOutside` and `CropMisaligned` where the crop can't be taken; `SemiPlanar` where a YUV4MPEG2
 /// stream is asked for in a semi-planar layout; `Unwritable` where no header line says what should be written; `TooManyPixels`,
 /// where a picture is to be made that has more than the options allow; `OutOfMemory`. Then nothing was read or written. `Stream`
-/// where a frame was not read or not written, and `OutOfMemory` where there was no room to show a semi-planar one.
+/// where a frame was not read or not written.
 ///
 /// # Examples
 ///

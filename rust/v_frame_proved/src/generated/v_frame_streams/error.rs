@@ -8,7 +8,7 @@ use crate::generated::v_frame_planar::PlanarError;
 use crate::generated::v_frame_y4m::Y4mError;
 
 /// Why a call gave up: in which stream, at which frame, and what the system reported.
-#[derive(Debug)]
+#[derive(Debug, Clone, PartialEq, Eq)]
 pub struct StreamError {
     /// The stream.
     pub place: Place,
@@ -33,22 +33,23 @@ impl StreamError {
         }
     }
 
-    /// Returns the error at the next frame of a stream that was not read or not written. What the system reported last belongs to it
-    /// where a read or a write failed, and else to an earlier call.
+    /// Returns the error at the next frame of a stream. What the system reported last belongs to it where a read or a write
+    /// failed, and else to an earlier call.
     pub(crate) fn at_frame(
         place: Place,
         frames: u64,
-        error: Y4mError,
+        problem: Problem,
         last_failure: Option<io::ErrorKind>,
     ) -> Self {
-        let cause = match &error {
-            Y4mError::Planar(PlanarError::Read | PlanarError::Write) => last_failure,
+        let cause = match &problem {
+            Problem::Stream(Y4mError::Planar(PlanarError::Read | PlanarError::Write)) =>
+                last_failure,
             _ => None,
         };
         StreamError {
             place,
             frames,
-            problem: Problem::Stream(error),
+            problem,
             cause,
         }
     }
@@ -65,7 +66,7 @@ impl fmt::Display for StreamError {
 }
 
 /// What happened to a stream.
-#[derive(Debug)]
+#[derive(Debug, Clone, PartialEq, Eq)]
 #[non_exhaustive]
 pub enum Problem {
     /// Its header or its next frame was not read or not written.

@@ -2,6 +2,9 @@
 //! Streams of frames, from the bytes that are read to the bytes that are written: copied, in another format too, compared and
 //! counted, over any reader and any writer.
 //!
+//! A read or a write that is interrupted is not tried again: it ends the call, and its kind is the error's
+//! cause. [`y4m::Decoder`](crate::y4m::Decoder) tries reads again.
+//!
 //! # Examples
 //!
 //! ```
@@ -60,6 +63,7 @@ pub use compare::compare_streams;
 pub use comparison::{CompareOptions, Comparison};
 pub use copy::copy_stream;
 pub use error::{Problem, StreamError};
+pub use formats::check_formats;
 pub use frames::PixelDifference;
 pub use observer::{FrameObserver, NoObserver};
 pub use options::{CopyOptions, MAX_PIXELS};

@@ -44,8 +44,8 @@ impl<T: Pixel> Picture<T> {
     ///
     /// # Errors
     ///
-    /// [`Problem::TooManyPixels`] where it has more, [`Problem::TooLarge`] where a plane can't be addressed or the pixels have
-    /// not the size of `T`, and [`Problem::OutOfMemory`] where a request for memory was refused.
+    /// The first of these that holds: [`Problem::TooManyPixels`] where it has more, [`Problem::TooLarge`] where a plane can't be
+    /// addressed or the pixels have not the size of `T`, and [`Problem::OutOfMemory`] where a request for memory was refused.
     #[inline]
     pub fn new<R: io::Read>(
         source: &Source<R>,

@@ -59,11 +59,21 @@ impl<R: io::Read> Source<R> {
         let mut reader = buffered(place, reader)?;
         match read_lax_header(&mut reader) {
             Ok((header, is_strict)) => {
-                Source::new(place, Container::Y4m, header, !is_strict, None, reader)
+                let frame_len = frame_len_of(place, &header)?;
+                Ok(Source {
+                    place,
+                    container: Container::Y4m,
+                    header,
+                    layout: None,
+                    frame_len,
+                    frames: 0,
+                    is_lax: !is_strict,
+                    reader,
+                })
             }
             Err(error) => {
                 let last_failure = reader.last_failure();
-                Err(StreamError::at_frame(place, 0, error, last_failure))
+                Err(StreamError::at_frame(place, 0, Problem::Stream(error), last_failure))
             }
         }
     }
@@ -72,9 +82,9 @@ impl<R: io::Read> Source<R> {
     ///
     /// # Errors
     ///
-    /// [`Problem::OtherLayout`] where the layout is for another chroma subsampling or bit depth than the header says,
-    /// [`Problem::TooLarge`] where a frame has no byte, or more than `usize::MAX`, and [`Problem::OutOfMemory`] where a request
-    /// for memory was refused.
+    /// The first of these that holds: [`Problem::OtherLayout`] where the layout is for another chroma subsampling or bit depth than
+    /// the header says, [`Problem::TooLarge`] where a frame has no byte, or more than `usize::MAX`, and [`Problem::OutOfMemory`]
+    /// where a request for memory was refused.
     #[inline]
     pub fn raw(
         place: Place,
@@ -85,32 +95,18 @@ impl<R: io::Read> Source<R> {
         if !holds_color(layout, header.color) {
             return Err(StreamError::at_start(place, Problem::OtherLayout));
         }
+        let frame_len = frame_len_of(place, &header)?;
         let reader = buffered(place, reader)?;
-        Source::new(place, Container::Raw, header, false, layout, reader)
-    }
-
-    /// Returns the stream of a reader that stands in front of its first frame.
-    fn new(
-        place: Place,
-        container: Container,
-        header: StreamHeader,
-        is_lax: bool,
-        layout: Option<SemiPlanarFormat>,
-        reader: Counted<BufReader<R>>,
-    ) -> Result<Self, StreamError> {
-        match header.frame_len() {
-            Some(frame_len) if frame_len > 0 => Ok(Source {
-                place,
-                container,
-                header,
-                layout,
-                frame_len,
-                frames: 0,
-                is_lax,
-                reader,
-            }),
-            _ => Err(StreamError::at_start(place, Problem::TooLarge)),
-        }
+        Ok(Source {
+            place,
+            container: Container::Raw,
+            header,
+            layout,
+            frame_len,
+            frames: 0,
+            is_lax: false,
+            reader,
+        })
     }
 
     /// Returns the header.
@@ -218,20 +214,24 @@ impl<R: io::Read> Source<R> {
         }))
     }
 
-    /// Returns the error where the next frame can't be taken for this reason, and none of it was read.
-    #[inline]
-    pub(crate) fn refused(&self, problem: Problem) -> StreamError {
-        StreamError {
-            place: self.place,
-            frames: self.frames,
-            problem,
-            cause: None,
-        }
+    /// Returns the error of a next frame that was not read.
+    fn stopped(&self, error: Y4mError) -> StreamError {
+        self.refused(Problem::Stream(error))
     }
 
-    /// Returns the error at the next frame.
-    fn stopped(&self, error: Y4mError) -> StreamError {
-        StreamError::at_frame(self.place, self.frames, error, self.reader.last_failure())
+    /// Returns the error where the next frame can't be taken for this reason.
+    #[inline]
+    pub(crate) fn refused(&self, problem: Problem) -> StreamError {
+        StreamError::at_frame(self.place, self.frames, problem, self.reader.last_failure())
+    }
+}
+
+/// Returns how many bytes each frame of a stream has.
+#[inline]
+fn frame_len_of(place: Place, header: &StreamHeader) -> Result<usize, StreamError> {
+    match header.frame_len() {
+        Some(frame_len) if frame_len > 0 => Ok(frame_len),
+        _ => Err(StreamError::at_start(place, Problem::TooLarge)),
     }
 }
 

@@ -8,15 +8,13 @@ use crate::support::fs::Files;
 use crate::support::time::Clock;
 use v_frame_proved::frame::Frame;
 use v_frame_proved::pixel::Pixel;
-use v_frame_proved::measures::{GreatestDifference, frames_have_one_size};
-use v_frame_proved::streams::{
-    CompareOptions, FrameObserver, Place, PlaneSums, Silent, Source, StreamError, compare_streams,
-};
+use v_frame_proved::measures::GreatestDifference;
+use v_frame_proved::streams::{Picture, Place, Silent, Source, check_formats, skip_frames};
 use crate::generated::yuv_files::SystemFile;
 use crate::generated::yuv_pictures::{Found, PictureError, PlaneDifference, differences, write_difference_picture};
 use crate::generated::yuv_system::{
-    Fault, Output, Status, System, begin, frames_before, is_standard_output, no_memory, open_file,
-    taken_of_both, write_made, write_text,
+    Fault, Output, Status, System, begin, frames_before, is_standard_output, most_pixels,
+    no_memory, open_file, write_made, write_text,
 };
 use crate::generated::yuv_words::{Call, Options};
 
@@ -82,19 +80,43 @@ fn write_difference<R: io::Read, S: io::Read, W: io::Write>(
     out: W,
 ) -> Result<(W, Found), Fault> {
     let before = frames_before(options.frame)?;
-    let taken = frames_taken(options, before);
-    let mut picture = DifferencePicture {
-        out: Some(out),
-        gain: gain_of(options),
-        drawn: None,
-    };
-    compare_streams(first, second, &taken, &mut picture, &mut Silent)?;
-    match picture.into_drawn() {
-        Some(Ok(drawn)) => Ok(drawn),
-        Some(Err(error)) => Err(Fault::Picture(error)),
-        None if first.frames() <= before => Err(Fault::NoFrame(Place::First, first.frames())),
-        None => Err(Fault::NoFrame(Place::Second, second.frames())),
+    check_formats(first, second)?;
+    if first.header().color.bit_depth() == 8 {
+        draw_frames::<u8, _, _, _>(first, second, before, options, out)
+    } else {
+        draw_frames::<u16, _, _, _>(first, second, before, options, out)
     }
+}
+
+/// Writes the difference of the frames behind so many, whose pixels are of this type.
+fn draw_frames<T: Pixel, R: io::Read, S: io::Read, W: io::Write>(
+    first: &mut Source<R>,
+    second: &mut Source<S>,
+    before: u64,
+    options: &Options,
+    out: W,
+) -> Result<(W, Found), Fault> {
+    let most = most_pixels(options.max_pixels);
+    let mut one = Picture::<T>::new(first, most)?;
+    let mut other = Picture::<T>::new(second, most)?;
+    read_behind(first, &mut one, before, Place::First)?;
+    read_behind(second, &mut other, before, Place::Second)?;
+    let drawn = draw_difference(out, &one.frame, &other.frame, gain_of(options))?;
+    Ok(drawn)
+}
+
+/// Passes over so many frames of a stream, and reads the next one.
+fn read_behind<T: Pixel, R: io::Read>(
+    source: &mut Source<R>,
+    picture: &mut Picture<T>,
+    before: u64,
+    place: Place,
+) -> Result<(), Fault> {
+    let passed = skip_frames(source, before, &mut Silent)?;
+    if passed < before || !picture.read(source)? {
+        return Err(Fault::NoFrame(place, source.frames()));
+    }
+    Ok(())
 }
 
 /// Returns what each difference is multiplied by.
@@ -102,53 +124,15 @@ fn gain_of(options: &Options) -> u16 {
     options.gain.unwrap_or(GAIN)
 }
 
-/// Returns what is taken of both streams: one frame after so many.
-fn frames_taken(options: &Options, before: u64) -> CompareOptions {
-    taken_of_both(Some(before), None, Some(1), options.max_pixels)
-}
-
-/// Writes the difference of the two frames that are compared.
-struct DifferencePicture<W> {
-    out: Option<W>,
-    gain: u16,
-    drawn: Option<Result<(W, Found), PictureError>>,
-}
-
-impl<W> DifferencePicture<W> {
-    /// Returns what was written, if anything was.
-    fn into_drawn(self) -> Option<Result<(W, Found), PictureError>> {
-        self.drawn
-    }
-}
-
-impl<T: Pixel, W: io::Write> FrameObserver<T> for DifferencePicture<W> {
-    fn take(
-        &mut self,
-        first: &Frame<T>,
-        second: &Frame<T>,
-        _errors: &PlaneSums,
-    ) -> Result<(), StreamError> {
-        if let Some(out) = self.out.take() {
-            self.drawn = Some(draw_difference(out, first, second, self.gain));
-        }
-        Ok(())
-    }
-}
-
-/// Writes the difference of two frames, and returns the writer and what differs.
+/// Writes the difference of two frames of one size, and returns the writer and what differs.
 fn draw_difference<T: Pixel, W: io::Write>(
     out: W,
     first: &Frame<T>,
     second: &Frame<T>,
     gain: u16,
 ) -> Result<(W, Found), PictureError> {
-    if !frames_have_one_size(first, second) {
-        return Err(PictureError::Unlike);
-    }
-    match write_difference_picture(out, first, second, gain) {
-        Ok(out) => Ok((out, differences(first, second))),
-        Err(error) => Err(error),
-    }
+    let out = write_difference_picture(out, first, second, gain)?;
+    Ok((out, differences(first, second)))
 }
 
 /// Returns a line for each plane.

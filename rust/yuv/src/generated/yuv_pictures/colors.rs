@@ -148,5 +148,5 @@ fn make_color_row<T: Pixel>(
         u.visible_region(0, k, width, 1),
         v.visible_region(0, k, width, 1),
     );
-    rows::yuv444_to_rgb_exactly::<T, Rgb>(&luma, &blue, &red, matrix, line, size, 1, size);
+    rows::yuv444_to_rgb_exactly::<T, Rgb>(&luma, &blue, &red, line, size, 1, size, matrix);
 }

@@ -26,11 +26,11 @@ pub fn yuv444_to_rgb<O: ColorOrder>(
     y: impl AsRowsRef<Pixel = u8>,
     u: impl AsRowsRef<Pixel = u8>,
     v: impl AsRowsRef<Pixel = u8>,
-    matrix: RgbMatrix,
     buffer: &mut [u8],
     width: usize,
     height: usize,
     stride: usize,
+    matrix: RgbMatrix,
 ) {
     let y = &y.as_rows_ref();
     let u = &u.as_rows_ref();

@@ -23,13 +23,13 @@ use crate::generated::v_frame_rgb::sample::{Channel, ChromaU, ChromaV, Luma};
 #[inline]
 pub fn rgb_to_yuv444<O: ColorOrder>(
     source: impl AsRowsRef<Pixel = u8>,
-    matrix: YuvMatrix,
     y: &mut [u8],
     u: &mut [u8],
     v: &mut [u8],
     width: usize,
     height: usize,
     strides: (usize, usize, usize),
+    matrix: YuvMatrix,
 ) {
     let source = &source.as_rows_ref();
     assert!(
@@ -80,11 +80,11 @@ pub fn rgb_to_yuv444<O: ColorOrder>(
 #[inline]
 pub fn rgb_to_channel<O: ColorOrder, C: Channel>(
     source: impl AsRowsRef<Pixel = u8>,
-    matrix: YuvMatrix,
     buffer: &mut [u8],
     width: usize,
     height: usize,
     stride: usize,
+    matrix: YuvMatrix,
 ) {
     let source = &source.as_rows_ref();
     assert!(

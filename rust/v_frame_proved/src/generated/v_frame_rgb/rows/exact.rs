@@ -27,11 +27,11 @@ pub fn yuv444_to_rgb_exactly<T: Pixel, O: ColorOrder>(
     y: impl AsRowsRef<Pixel = T>,
     u: impl AsRowsRef<Pixel = T>,
     v: impl AsRowsRef<Pixel = T>,
-    matrix: &ExactMatrix,
     buffer: &mut [u8],
     width: usize,
     height: usize,
     stride: usize,
+    matrix: &ExactMatrix,
 ) {
     let y = &y.as_rows_ref();
     let u = &u.as_rows_ref();
