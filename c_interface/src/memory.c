@@ -9,6 +9,9 @@ struct block {
     void *at;
 };
 
+/* What malloc aligns to. The library's code asks for bytes and for words, never for more, and would be refused more. */
+enum { ALIGNMENT = 16 };
+
 static char nowhere;
 
 static struct block answered(void *at) {
@@ -18,12 +21,12 @@ static struct block answered(void *at) {
 
 /* A request of no bytes asks for as many as its alignment, so that it is told apart from a refusal. */
 struct block rattle_alloc(size_t size, size_t align) {
-    return answered(malloc(size != 0 ? size : align));
+    return answered(align <= ALIGNMENT ? malloc(size != 0 ? size : align) : NULL);
 }
 
 struct block rattle_realloc(void *at, size_t old_size, size_t size, size_t align) {
     (void)old_size;
-    return answered(realloc(at, size != 0 ? size : align));
+    return answered(align <= ALIGNMENT ? realloc(at, size != 0 ? size : align) : NULL);
 }
 
 void rattle_dealloc(void *at) {

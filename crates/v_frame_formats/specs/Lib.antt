@@ -1,4 +1,5 @@
 pub mod Components
 pub mod Formats
 pub mod Prelude
+pub mod Sums
 pub mod WorkedFormats

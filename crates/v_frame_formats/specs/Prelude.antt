@@ -2,3 +2,4 @@
 pub use Rattle.v_frame_formats.specs.Components.{index_of, letter_of}
 pub use Rattle.v_frame_formats.specs.Formats.{color_of_layout, ffmpeg_name, format_color, format_depth}
 pub use Rattle.v_frame_formats.specs.Formats.{format_subsampling, short_name, IsFormat}
+pub use Rattle.v_frame_formats.specs.Sums.{added, added_chroma, at_most, multiplied}

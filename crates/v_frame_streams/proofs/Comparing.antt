@@ -12,11 +12,12 @@ use Rattle.v_frame_streams.specs.Frames.{FramesDifferFirst}
 use Rattle.v_frame_streams.specs.Pictures.{Sizes}
 use Rattle.v_frame_streams.specs.Sources.{Stream}
 use Rattle.v_frame_streams.specs.Streams.{framed_bytes, longer_of, Framed, IsFrame, ReadsFrames, ReadsWhole}
-use Rattle.v_frame_streams.specs.Sums.{added, no_errors}
+use Rattle.v_frame_formats.specs.Sums.{added}
+use Rattle.v_frame_streams.specs.Sums.{no_errors}
 use Rattle.v_frame_streams.specs.declared.comparison.Comparison.{Comparison}
-use Rattle.v_frame_streams.specs.declared.frames.PixelDifference.{PixelDifference}
+use Rattle.v_frame_formats.specs.declared.difference.PixelDifference.{PixelDifference}
 use Rattle.v_frame_streams.specs.declared.stream.Place.{Place}
-use Rattle.v_frame_streams.specs.declared.sums.PlaneSums.{PlaneSums}
+use Rattle.v_frame_formats.specs.declared.sums.PlaneSums.{PlaneSums}
 use Rattle.v_frame_streams.proofs.Reading.{none_read, one_more_read}
 
 module _ {T : Type 0} (form : PixelForm T) where

@@ -7,5 +7,6 @@ pub mod Formatting
 pub mod LaidOut
 pub mod MoreTold
 pub mod NoErrors
+pub mod Opening
 pub mod Reading
 pub mod Scaling

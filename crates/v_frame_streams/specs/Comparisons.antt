@@ -7,11 +7,12 @@ use Rattle.v_frame_streams.specs.Frames.{chroma_errors, plane_errors, FramesDiff
 use Rattle.v_frame_streams.specs.Pictures.{tables_of_bytes, Sizes}
 use Rattle.v_frame_streams.specs.Sources.{Stream}
 use Rattle.v_frame_streams.specs.Streams.{longer_of, most_frames, CountsFrames, Framed, ReadsFrames, ReadsWhole}
-use Rattle.v_frame_streams.specs.Sums.{added, no_errors}
+use Rattle.v_frame_formats.specs.Sums.{added}
+use Rattle.v_frame_streams.specs.Sums.{no_errors}
 use Rattle.v_frame_streams.specs.declared.comparison.CompareOptions.{CompareOptions}
 use Rattle.v_frame_streams.specs.declared.comparison.Comparison.{Comparison}
-use Rattle.v_frame_streams.specs.declared.frames.PixelDifference.{PixelDifference}
-use Rattle.v_frame_streams.specs.declared.sums.PlaneSums.{PlaneSums}
+use Rattle.v_frame_formats.specs.declared.difference.PixelDifference.{PixelDifference}
+use Rattle.v_frame_formats.specs.declared.sums.PlaneSums.{PlaneSums}
 
 -- what a frame of one stream shows, beside the frame of the other at the same number
 abbrev pub Pair : Type 0 → Type 0

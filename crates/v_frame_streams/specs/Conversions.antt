@@ -121,8 +121,8 @@ layout_to Y4m None there = None
 layout_to Raw None there = there
 layout_to to (Some format) there = layout_in (Some format)
 
--- the color of what is written, where a format may be asked for. Frames that have it already stay as
--- they are, and so does what says where their chroma lies
+-- the color of what is written, where a format may be asked for. Frames that have it already stay
+-- as they are, and so does what says where their chroma lies
 abbrev pub color_in : Option VideoFormat → Color → Color
 color_in None there = there
 color_in (Some (Planar color)) there =

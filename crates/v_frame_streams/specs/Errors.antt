@@ -1,18 +1,26 @@
--- Why a stream is not opened, why no picture of it is made, and which errors have a cause.
-use Rattle.std.specs.Prelude.{ℕ, ◌≡◌, ◌≤◌, ◌<◌, Option, None}
+-- Why a stream is not opened, why a frame of it is not read, what a picture of it asks for, and which
+-- errors have a cause.
+use Rattle.std.specs.Prelude.{ℕ, ◌≡◌, ◌+◌, ◌≤◌, ◌<◌, Bool, List, [], ◌∷◌, ◌++◌, length, Option, None}
+use Rattle.std.specs.Io.KnownBytes.{Consumes, IsAtEnd}
 use Rattle.std.specs.declared.io.ErrorKind.{ErrorKind}
 use Rattle.v_frame.specs.Prelude.{usize_max, FrameRequest}
 use Rattle.v_frame_planar.specs.Video.{video_request}
-use Rattle.v_frame_planar.specs.declared.error.PlanarError.TheVariants.{Read, Write}
+use Rattle.v_frame_planar.specs.declared.error.PlanarError.TheVariants.{Read, Truncated, Write}
+use Rattle.v_frame_y4m.specs.Ascii.{line_feed}
 use Rattle.v_frame_y4m.specs.Color.{depth_of, subsampling_of}
+use Rattle.v_frame_y4m.specs.Faults.{IsRefusedFor}
 use Rattle.v_frame_y4m.specs.Frames.{frame_byte_count}
+use Rattle.v_frame_y4m.specs.Lax.{strict_line}
+use Rattle.v_frame_y4m.specs.Streams.{max_line_bytes, IsLine}
 use Rattle.v_frame_y4m.specs.declared.color.Color.{Color}
-use Rattle.v_frame_y4m.specs.declared.error.Y4mError.TheVariants.{Planar}
+use Rattle.v_frame_y4m.specs.declared.error.Y4mError.{Y4mError}
+use Rattle.v_frame_y4m.specs.declared.error.Y4mError.TheVariants.{Header, LineTooLong, NoFrame, Planar, UnfinishedLine}
 use Rattle.v_frame_y4m.specs.declared.header.StreamHeader.{StreamHeader}
 use Rattle.v_frame_streams.specs.declared.error.Problem.{Problem}
-use Rattle.v_frame_streams.specs.declared.error.Problem.TheVariants.{Stream}
+use Rattle.v_frame_streams.specs.declared.error.Problem.TheVariants.{OutOfMemory, Stream, TooLarge}
 use Rattle.v_frame_streams.specs.declared.error.StreamError.{StreamError}
 use Rattle.v_frame_streams.specs.declared.stream.Place.{Place}
+use Rattle.v_frame_streams.specs.Streams.{ReadsHeaderLine}
 
 -- what the system reported last, where the problem is that a read or a write failed
 abbrev pub cause_of : Problem → Option ErrorKind → Option ErrorKind
@@ -35,3 +43,37 @@ picture_request width height color =
 pub record HasLength (header : StreamHeader) : Type 0 where
   pub some : 0 < frame_byte_count header
   pub most : frame_byte_count header ≤ usize_max
+
+module _ (start left : Option (List ℕ)) where
+  -- a header line, or one that stands for it, was not read from what begins with these bytes
+  abbrev pub StopsInHeaderLine : Y4mError → Type 0
+  StopsInHeaderLine (Header error) =
+      (line : List ℕ) × IsRefusedFor (strict_line line) error × IsLine line
+      × Consumes start left (line ++ line_feed ∷ [])
+  StopsInHeaderLine LineTooLong =
+      (bytes : List ℕ) × IsLine bytes × (length bytes ≡ max_line_bytes + 1)
+      × Consumes start left bytes
+  StopsInHeaderLine UnfinishedLine =
+      (bytes : List ℕ) × IsLine bytes × (length bytes ≤ max_line_bytes)
+      × Consumes start left bytes × IsAtEnd left
+  StopsInHeaderLine NoFrame = ⊥
+  StopsInHeaderLine (Planar error) = error ≡ Read
+
+-- a stream that begins with these bytes is not opened
+abbrev pub StopsOpening : Option (List ℕ) → Problem → Type 0
+StopsOpening start (Stream error) =
+    (left : Option (List ℕ)) × StopsInHeaderLine start left error
+StopsOpening start TooLarge =
+    (left : Option (List ℕ)) × (header : StreamHeader) × (lax : Bool)
+    × ReadsHeaderLine start left header lax × ¬ (HasLength header)
+StopsOpening start OutOfMemory = Unit {0}
+StopsOpening start _ = ⊥
+
+-- a frame of so many planar bytes is not read: where the stream ended inside them, fewer were found
+abbrev pub StopsFrame : ℕ → Problem → Type 0
+StopsFrame count (Stream (Planar (Truncated expected found))) =
+    (expected ≡ count) × (found < count)
+StopsFrame count (Stream (Planar error)) = error ≡ Read
+StopsFrame count (Stream (Header error)) = ⊥
+StopsFrame count (Stream _) = Unit {0}
+StopsFrame count _ = ⊥

@@ -1,5 +1,5 @@
 -- Whether the frames of two streams can be compared.
-use Rattle.std.specs.Prelude.{◌≡◌, ◌≢◌, ◌⊎◌}
+use Rattle.std.specs.Prelude.{◌≡◌, ◌≢◌}
 use Rattle.v_frame_y4m.specs.Color.{depth_of, subsampling_of}
 use Rattle.v_frame_y4m.specs.declared.header.StreamHeader.{StreamHeader}
 use Rattle.v_frame_streams.specs.declared.error.Problem.{Problem}
@@ -12,10 +12,15 @@ pub record HaveOneFormat (first second : StreamHeader) : Type 0 where
   pub chroma : subsampling_of first.color ≡ subsampling_of second.color
   pub depth : depth_of first.color ≡ depth_of second.color
 
--- what differs: the first of these that does
+abbrev pub HaveOneSize : StreamHeader → StreamHeader → Type 0
+HaveOneSize first second = (first.width ≡ second.width) × (first.height ≡ second.height)
+
+-- what differs: the first of size, chroma format and bit depth that does
 abbrev pub RefusesFormats : StreamHeader → StreamHeader → Problem → Type 0
-RefusesFormats first second OtherSize =
-    (first.width ≢ second.width) ⊎ (first.height ≢ second.height)
-RefusesFormats first second OtherChroma = subsampling_of first.color ≢ subsampling_of second.color
-RefusesFormats first second OtherDepth = depth_of first.color ≢ depth_of second.color
+RefusesFormats first second OtherSize = ¬ (HaveOneSize first second)
+RefusesFormats first second OtherChroma =
+    HaveOneSize first second × (subsampling_of first.color ≢ subsampling_of second.color)
+RefusesFormats first second OtherDepth =
+    HaveOneSize first second × (subsampling_of first.color ≡ subsampling_of second.color)
+    × (depth_of first.color ≢ depth_of second.color)
 RefusesFormats first second _ = ⊥

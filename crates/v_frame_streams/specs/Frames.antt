@@ -4,7 +4,7 @@ use Rattle.v_frame.specs.Prelude.{Table, Tables, pixel_at, row_major, squared_er
 use Rattle.v_frame_ops.specs.Prelude.{IsFirstDifference}
 use Rattle.v_frame_formats.specs.declared.component.Component.{Component}
 use Rattle.v_frame_formats.specs.declared.component.Component.TheVariants.{Y, U, V}
-use Rattle.v_frame_streams.specs.declared.frames.PixelDifference.{PixelDifference}
+use Rattle.v_frame_formats.specs.declared.difference.PixelDifference.{PixelDifference}
 
 module _ {T : Type 0} (value : T → ℕ) where
   -- the sum of the squared errors of two planes

@@ -4,11 +4,11 @@ ghost use Rattle.v_frame.specs.Prelude.{table_of, tables_of};
 ghost use Rattle.v_frame_planar.specs.Planar.{size_of, sizes_of};
 ghost use Rattle.v_frame_streams.specs.Frames.{chroma_errors, plane_errors, FramesDifferFirst};
 
-use crate::frames::{PixelDifference, first_difference_of_frames};
-use crate::sums::PlaneSums;
+use crate::frames::first_difference_of_frames;
 use v_frame::frame::Frame;
 use v_frame::pixel::Pixel;
 use v_frame::plane::Plane;
+use v_frame_formats::{PixelDifference, PlaneSums};
 
 /// Returns the first pixel that differs, as [`first_difference_of_frames`] does, of frames whose errors are known. None is
 /// sought where there is no error.

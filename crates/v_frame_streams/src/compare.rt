@@ -21,7 +21,6 @@ use crate::passing::skip_frames;
 use crate::picture::Picture;
 use crate::progress::{Progress, Silent, show_one_more};
 use crate::source::Source;
-use crate::sums::PlaneSums;
 use std::alloc::Global;
 use std::io;
 use v_frame::frame::Frame;
@@ -182,21 +181,6 @@ fn compare_pair<T: Pixel, O: FrameObserver<T>>(
 {
     let errors = squared_errors_of_frames(first, second);
     let now = found.with_frames(first, second, &errors);
-    show_pair(observer, first, second, &errors)?;
+    observer.take(first, second, &errors)?;
     Ok(now)
-}
-
-/// Shows two frames to the observer, and their errors.
-fn show_pair<T: Pixel, O: FrameObserver<T>>(
-    observer: &mut O,
-    first: &Frame<T>,
-    second: &Frame<T>,
-    errors: &PlaneSums,
-) -> Result<(), StreamError>
-    ensures taken { OnOk result (O.takes observer.old observer.new (tables_of first.now)
-        (tables_of second.now) errors.now) }
-    ensures stopped { IfErr result (O.stops observer.new) }
-{
-    observer.take(first, second, errors)?;
-    Ok(())
 }

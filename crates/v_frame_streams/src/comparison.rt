@@ -4,15 +4,15 @@ ghost use Rattle.v_frame.specs.Prelude.{table_of, tables_of};
 ghost use Rattle.v_frame_planar.specs.Planar.{sizes_of};
 ghost use Rattle.v_frame_streams.specs.Frames.{chroma_errors, plane_errors, FramesDifferFirst};
 ghost use Rattle.v_frame_streams.specs.Streams.{longer_of as longer, most_frames};
-ghost use Rattle.v_frame_streams.specs.Sums.{added, no_errors};
+ghost use Rattle.v_frame_formats.specs.Sums.{added};
+ghost use Rattle.v_frame_streams.specs.Sums.{no_errors};
 
 use crate::alike::difference_by_errors;
-use crate::frames::PixelDifference;
 use crate::stream::Place;
-use crate::sums::PlaneSums;
 use v_frame::frame::Frame;
 use v_frame::pixel::Pixel;
 use v_frame::plane::Plane;
+use v_frame_formats::{PixelDifference, PlaneSums};
 
 /// What a comparison takes of two streams.
 #[derive(Debug, Clone, Copy, PartialEq, Eq)]

@@ -4,27 +4,11 @@ ghost use Rattle.v_frame.specs.Prelude.{pixel_at, table_of, tables_of};
 ghost use Rattle.v_frame_planar.specs.Planar.{size_of, sizes_of};
 ghost use Rattle.v_frame_streams.specs.Frames.{chroma_errors, plane_errors, DiffersFirst, ChromaDiffersFirst, FramesDifferFirst};
 
-use crate::sums::PlaneSums;
 use v_frame::frame::Frame;
 use v_frame::pixel::Pixel;
 use v_frame::plane::{Plane, PlaneRef};
-use v_frame_formats::Component;
+use v_frame_formats::{Component, PixelDifference, PlaneSums};
 use v_frame_ops::{first_difference, sum_of_squared_errors};
-
-/// A pixel that two frames show differently.
-#[derive(Debug, Clone, Copy, PartialEq, Eq)]
-pub struct PixelDifference {
-    /// The plane that it is in.
-    pub component: Component,
-    /// The column of that plane, counted from 0.
-    pub x: usize,
-    /// The row of that plane, counted from 0.
-    pub y: usize,
-    /// The value in the first frame.
-    pub first: u16,
-    /// The value in the second frame.
-    pub second: u16,
-}
 
 /// Returns the sums, plane by plane, of the squares of the differences of the pixels. They are exact, and never too large.
 pub(crate) fn squared_errors_of_frames<T: Pixel>(first: &Frame<T>, second: &Frame<T>) -> PlaneSums

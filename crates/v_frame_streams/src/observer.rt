@@ -2,12 +2,12 @@
 ghost use Rattle.std.specs.Prelude.{IfErr, OnOk};
 ghost use Rattle.v_frame.specs.Prelude.{tables_of, Tables};
 ghost use Rattle.v_frame_streams.specs.declared.error.StreamError.{StreamError as TheError};
-ghost use Rattle.v_frame_streams.specs.declared.sums.PlaneSums.{PlaneSums as TheSums};
+ghost use Rattle.v_frame_formats.specs.declared.sums.PlaneSums.{PlaneSums as TheSums};
 
 use crate::error::StreamError;
-use crate::sums::PlaneSums;
 use v_frame::frame::Frame;
 use v_frame::pixel::Pixel;
+use v_frame_formats::PlaneSums;
 
 /// Is shown the frames that are compared, two by two: those of pixels of one type.
 pub trait FrameObserver<T: Pixel> {

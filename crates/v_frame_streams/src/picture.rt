@@ -7,7 +7,7 @@ ghost use Rattle.v_frame_planar.specs.Video.{chroma_sizes_of, video_refusal_of};
 ghost use Rattle.v_frame_y4m.specs.Color.{depth_of, subsampling_of};
 ghost use Rattle.v_frame_y4m.specs.Frames.{pixel_bytes};
 ghost use Rattle.v_frame_streams.specs.Conversions.{format_in, format_of, sizes_laid_out, LayoutFits};
-ghost use Rattle.v_frame_streams.specs.Errors.{picture_request};
+ghost use Rattle.v_frame_streams.specs.Errors.{picture_request, StopsFrame};
 ghost use Rattle.v_frame_streams.specs.Stops.{IsAtNextFrame};
 ghost use Rattle.v_frame_streams.specs.MadeFor.{IsMadeFor};
 ghost use Rattle.v_frame_streams.specs.Pictures.{sizes_in, tables_in_layout, tables_of_bytes, AreEven, IsEven, ReadsTables};
@@ -122,6 +122,7 @@ impl<T: Pixel> Picture<T> {
         ensures read { IfOk result (ReadsTables T.form source.old.container source.old.frame_len
             source.old.layout (sizes_of (tables_of self.old.frame)) (bytes_left R.remaining source.old)
             (bytes_left R.remaining source.new) self.new.bytes.items (tables_of self.new.frame)) }
+        ensures problem { IfErr result (λ error. StopsFrame source.old.frame_len error.problem) }
         ensures stopped { IfErr result (IsAtNextFrame source.new) }
         ensures same { stream_of source.new ≡ stream_of source.old }
         ensures made { IsMadeFor T.form source.new self.new }

@@ -1,10 +1,12 @@
 //! Streams that are read: the header, and then frame by frame.
-ghost use Rattle.std.specs.Prelude.{◌≡◌, ◌<◌, IfErr, IfOk, IsErrAnd, IsOk};
+ghost use Rattle.std.specs.Prelude.{◌≡◌, ◌<◌, IfErr, IfOk, MatchResult};
 ghost use Rattle.std.specs.Io.Buffered.{reader_remaining};
 ghost use Rattle.v_frame_y4m.specs.Frames.{frame_byte_count};
+ghost use Rattle.v_frame_y4m.specs.Header.{IsWritable};
 ghost use Rattle.std.proofs.Props.{props};
-ghost use Rattle.v_frame_streams.specs.Errors.{HasLength, IsAtStart};
+ghost use Rattle.v_frame_streams.specs.Errors.{HasLength, IsAtStart, StopsFrame, StopsOpening};
 ghost use Rattle.v_frame_streams.specs.Layouts.{HoldsColor};
+ghost use Rattle.v_frame_streams.specs.Streams.{ReadsHeaderLine};
 
 use crate::colors::holds_color;
 use crate::error::{Problem, StreamError};
@@ -36,18 +38,17 @@ impl<R: io::Read> Source<R> {
     ghost use Rattle.std.specs.Prelude.{◌≡◌, ◌+◌, ◌≤◌, ◌<◌, [], false, true, length, take, IfErr, IfOk, IsErrAnd, MatchBool, OnOk};
     ghost use Rattle.std.specs.Io.KnownBytes.{Consumes, IsAtEnd};
     ghost use Rattle.v_frame_planar.specs.declared.error.PlanarError.TheVariants.{Truncated};
-    ghost use Rattle.v_frame_y4m.specs.Header.{IsWritable};
     ghost use Rattle.v_frame_y4m.specs.declared.error.Y4mError.TheVariants.{Planar};
     ghost use Rattle.v_frame_streams.specs.Stops.{IsAtNextFrame};
     ghost use Rattle.v_frame_streams.specs.Sources.{bytes_left, stream_of, IsOpened};
-    ghost use Rattle.v_frame_streams.specs.Streams.{frames_after, ReadsHeaderLine, ReadsLine, ReadsNext};
+    ghost use Rattle.v_frame_streams.specs.Streams.{frames_after, ReadsLine, ReadsNext};
 
     /// Reads the header line of a YUV4MPEG2 stream, or one that stands for it. Its frames are left to be read.
     ///
     /// # Errors
     ///
-    /// [`Problem::Stream`] with the errors of [`read_lax_header`], [`Problem::TooLarge`] where a frame has more than `usize::MAX`
-    /// bytes, and [`Problem::OutOfMemory`] where a request for memory was refused.
+    /// [`Problem::Stream`] with the errors of [`read_lax_header`], [`Problem::TooLarge`] where a frame has no byte, or more than
+    /// `usize::MAX`, and [`Problem::OutOfMemory`] where a request for memory was refused.
     pub fn y4m(alloc: Global, place: Place, reader: R) -> Result<Self, StreamError>
     where
         R: Drop,
@@ -55,28 +56,22 @@ impl<R: io::Read> Source<R> {
         ensures read { IfOk result (λ source. ReadsHeaderLine (R.remaining reader) (bytes_left R.remaining source)
             source.header source.is_lax) }
         ensures writable { IfOk result (λ source. IsWritable source.header) }
+        ensures refused { IfErr result (λ error. StopsOpening (R.remaining reader) error.problem) }
         ensures stopped { IfErr result (IsAtStart place) }
     {
         let mut reader = buffered(alloc, place, reader)?;
-        match read_lax_header(alloc, &mut reader) {
-            Ok((header, is_strict)) => {
-                let frame_len = frame_len_of(place, &header)?;
-                Ok(Source {
-                    place,
-                    container: Container::Y4m,
-                    header,
-                    layout: None,
-                    frame_len,
-                    frames: 0,
-                    is_lax: !is_strict,
-                    reader,
-                })
-            }
-            Err(error) => {
-                let last_failure = reader.last_failure();
-                Err(StreamError::at_frame(place, 0, Problem::Stream(error), last_failure))
-            }
-        }
+        let (header, is_lax) = read_header(alloc, place, &mut reader)?;
+        let frame_len = frame_len_of(place, &header)?;
+        Ok(Source {
+            place,
+            container: Container::Y4m,
+            header,
+            layout: None,
+            frame_len,
+            frames: 0,
+            is_lax,
+            reader,
+        })
     }
 
     /// Takes headerless raw video, whose frames are as this header says, in a semi-planar layout or else planar. Nothing is read.
@@ -186,6 +181,7 @@ impl<R: io::Read> Source<R> {
         requires within { length front.old ≤ self.old.frame_len }
         ensures read { IfOk result (ReadsNext (bytes_left R.remaining self.old)
             (bytes_left R.remaining self.new) self.old.container front.new) }
+        ensures problem { IfErr result (λ error. StopsFrame self.old.frame_len error.problem) }
         ensures stopped { IfErr result (IsAtNextFrame self.new) }
         ensures same { stream_of self.new ≡ stream_of self.old }
         ensures frames { self.new.frames ≡ self.old.frames }
@@ -217,6 +213,7 @@ impl<R: io::Read> Source<R> {
         requires { before + length part.old ≤ self.old.frame_len }
         ensures read { OnOk result (Consumes (bytes_left R.remaining self.old)
             (bytes_left R.remaining self.new) part.new) }
+        ensures problem { IfErr result (λ error. StopsFrame self.old.frame_len error.problem) }
         ensures stopped { IfErr result (IsAtNextFrame self.new) }
         ensures same { stream_of self.new ≡ stream_of self.old }
         ensures frames { self.new.frames ≡ self.old.frames }
@@ -233,6 +230,7 @@ impl<R: io::Read> Source<R> {
     fn read_line(&mut self) -> Result<bool, StreamError>
         ensures read { IfOk result (ReadsLine (bytes_left R.remaining self.old)
             (bytes_left R.remaining self.new)) }
+        ensures problem { IfErr result (λ error. StopsFrame self.old.frame_len error.problem) }
         ensures stopped { IfErr result (IsAtNextFrame self.new) }
         ensures same { stream_of self.new ≡ stream_of self.old }
         ensures frames { self.new.frames ≡ self.old.frames }
@@ -250,6 +248,7 @@ impl<R: io::Read> Source<R> {
             (bytes_left R.remaining self.new) (take found part.new)) }
         ensures at_end { IfOk result (λ found. found < length part.new
             → IsAtEnd (bytes_left R.remaining self.new)) }
+        ensures problem { IfErr result (λ error. StopsFrame self.old.frame_len error.problem) }
         ensures stopped { IfErr result (IsAtNextFrame self.new) }
         ensures same { stream_of self.new ≡ stream_of self.old }
         ensures frames { self.new.frames ≡ self.old.frames }
@@ -263,8 +262,9 @@ impl<R: io::Read> Source<R> {
 
     /// Returns the error of a stream that came to its end inside a frame.
     fn truncated(&self, found: usize) -> StreamError
+        requires { found < self.now.frame_len }
         ensures place { IsAtNextFrame self.now result }
-        ensures problem { result.problem ≡ Problem.Stream (Planar (Truncated self.now.frame_len found)) }
+        ensures problem { StopsFrame self.now.frame_len result.problem }
     {
         self.stopped(Y4mError::Planar(PlanarError::Truncated {
             expected: self.frame_len,
@@ -289,12 +289,33 @@ impl<R: io::Read> Source<R> {
     }
 }
 
+/// Reads the header line of a stream, or one that stands for it, and tells whether it was another one than that.
+fn read_header<R: io::Read>(
+    alloc: Global,
+    place: Place,
+    reader: &mut Counted<BufReader<R>>,
+) -> Result<(StreamHeader, bool), StreamError>
+    ensures read { IfOk result (λ found. ReadsHeaderLine
+        (reader_remaining R.remaining reader.old.inner)
+        (reader_remaining R.remaining reader.new.inner) found.0 found.1) }
+    ensures writable { IfOk result (λ found. IsWritable found.0) }
+    ensures refused { IfErr result (λ error.
+        StopsOpening (reader_remaining R.remaining reader.old.inner) error.problem) }
+    ensures stopped { IfErr result (IsAtStart place) }
+{
+    match read_lax_header(alloc, reader) {
+        Ok((header, is_strict)) => Ok((header, !is_strict)),
+        Err(error) => {
+            let last_failure = reader.last_failure();
+            Err(StreamError::at_frame(place, 0, Problem::Stream(error), last_failure))
+        }
+    }
+}
+
 /// Returns how many bytes each frame of a stream has.
 fn frame_len_of(place: Place, header: &StreamHeader) -> Result<usize, StreamError>
-    ensures counted { IfOk result (λ len. (len ≡ frame_byte_count header.now) × (0 < len)) }
-    ensures refused { ¬ (HasLength header.now)
-        → IsErrAnd result (λ error. error.problem ≡ Problem.TooLarge) }
-    ensures taken { HasLength header.now → IsOk result }
+    ensures counted { MatchResult result (λ len. (len ≡ frame_byte_count header.now) × HasLength header.now)
+        (λ error. (error.problem ≡ Problem.TooLarge) × ¬ (HasLength header.now)) }
     ensures stopped { IfErr result (IsAtStart place) }
 {
     match header.frame_len() {

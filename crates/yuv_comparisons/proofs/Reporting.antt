@@ -10,13 +10,12 @@ use Rattle.yuv_comparisons.specs.declared.frame_report.FrameReport.{FrameReport}
 use Rattle.yuv_comparisons.specs.declared.measures.Scale.{Scale}
 use Rattle.yuv_reports.specs.Frames.{end_by_parts, end_of_report, frame_begin, EndsWithFrame}
 use Rattle.yuv_reports.specs.Sums.{end_of_frame}
-use Rattle.yuv_reports.specs.declared.planes.PlaneSums.{PlaneSums as ReportedSums}
 use Rattle.yuv_reports.specs.declared.comparison.Comparison.{Comparison as Said}
 use Rattle.yuv_reports.specs.declared.comparison.ReportForm.{ReportForm}
 use Rattle.yuv_reports.specs.Texts.{EndsWith}
 use Rattle.v_frame_streams.specs.Comparisons.{errors_between, Pair, TakesEach}
 use Rattle.v_frame_streams.specs.declared.comparison.Comparison.{Comparison}
-use Rattle.v_frame_streams.specs.declared.sums.PlaneSums.{PlaneSums}
+use Rattle.v_frame_formats.specs.declared.sums.PlaneSums.{PlaneSums}
 
 pub nothing_appended : (has : Option (List ℕ)) (text : List ℕ) → text ≡ [] → Appends has has text
 nothing_appended None text none = tt
@@ -44,7 +43,7 @@ kept_by_all form takes P step (pair ∷ pairs) old new (mid, took, rest) p =
     kept_by_all form takes P step pairs mid new rest
     (step old mid pair.0 pair.1 (errors_between form pair) took p)
 
-pub frame_known : (form : ReportForm) (number : ℕ) (sums : Option ReportedSums) (has has' : Option (List ℕ))
+pub frame_known : (form : ReportForm) (number : ℕ) (sums : Option PlaneSums) (has has' : Option (List ℕ))
     (text : List ℕ) → Appends has has' text → EndsWithFrame form number sums text
     → IfSome has (λ _. IsSomeAnd has' (EndsWithFrame form number sums))
 frame_known form number sums None has' text appended ends = tt

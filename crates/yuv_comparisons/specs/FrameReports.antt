@@ -4,7 +4,7 @@ use Rattle.yuv_comparisons.specs.Reports.{frame_number, sums_asked}
 use Rattle.yuv_comparisons.specs.declared.frame_report.FrameReport.{FrameReport}
 use Rattle.yuv_reports.specs.Frames.{EndsWithFrame}
 use Rattle.v_frame_streams.specs.Prelude.{most_frames}
-use Rattle.v_frame_streams.specs.declared.sums.PlaneSums.{PlaneSums}
+use Rattle.v_frame_formats.specs.declared.sums.PlaneSums.{PlaneSums}
 
 module _ {W : Type 0} (contents : W → Option (List ℕ)) (old new : FrameReport W) where
   -- what a report was asked for stays, and what is known of its writer stays known

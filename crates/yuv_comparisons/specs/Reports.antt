@@ -8,20 +8,17 @@ use Rattle.yuv_reports.specs.Frames.{end_by_parts}
 use Rattle.yuv_reports.specs.Texts.{EndsWith}
 use Rattle.yuv_reports.specs.declared.comparison.Longer.{Longer}
 use Rattle.yuv_reports.specs.declared.comparison.ReportForm.{ReportForm}
-use Rattle.yuv_reports.specs.declared.comparison.SampleDifference.{SampleDifference}
-use Rattle.yuv_reports.specs.declared.planes.PlaneSums.{PlaneSums as ReportedSums}
 use Rattle.yuv_reports.specs.declared.planes.PlaneValues.{PlaneValues}
 use Rattle.v_frame_streams.specs.Prelude.{most_frames}
 use Rattle.v_frame_streams.specs.declared.comparison.Comparison.{Comparison}
-use Rattle.v_frame_streams.specs.declared.frames.PixelDifference.{PixelDifference}
+use Rattle.v_frame_formats.specs.declared.difference.PixelDifference.{PixelDifference}
 use Rattle.v_frame_streams.specs.declared.stream.Place.{Place}
 use Rattle.v_frame_streams.specs.declared.stream.Place.TheVariants.{First}
-use Rattle.v_frame_streams.specs.declared.sums.PlaneSums.{PlaneSums}
+use Rattle.v_frame_formats.specs.declared.sums.PlaneSums.{PlaneSums}
 
 -- the sums of squared errors, with `--exact` alone
-abbrev pub sums_asked : Bool → PlaneSums → Option ReportedSums
-sums_asked exact sums =
-    if exact then Some (record { y = sums.y; u = sums.u; v = sums.v }) else None
+abbrev pub sums_asked : Bool → PlaneSums → Option PlaneSums
+sums_asked exact sums = if exact then Some sums else None
 
 -- a measure of a frame as a report has it
 abbrev pub values_of : FrameMeasure → PlaneValues
@@ -38,16 +35,8 @@ frame_number before number = min (before + number) most_frames
 
 -- the first difference, in a frame of the file, of which so many stand before the first that is
 -- compared
-abbrev pub difference_said : ℕ → ℕ × PixelDifference → SampleDifference
-difference_said before found =
-    record {
-      frame = frame_number before (found.0 + 1);
-      plane = found.1.component;
-      x = found.1.x;
-      y = found.1.y;
-      first = found.1.first;
-      second = found.1.second;
-    }
+abbrev pub difference_said : ℕ → ℕ × PixelDifference → ℕ × PixelDifference
+difference_said before found = (frame_number before (found.0 + 1), found.1)
 
 abbrev pub longer_said : Place → Longer
 longer_said First = Longer.First

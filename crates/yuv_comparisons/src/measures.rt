@@ -34,19 +34,8 @@ impl Scale {
             psnr: ratios(&mse, self.bit_depth),
             mse,
             ssim,
-            sums: self.exact.then_some(reported_sums(errors)),
+            sums: self.exact.then_some(*errors),
         }
-    }
-}
-
-/// Returns the sums as a report has them.
-fn reported_sums(errors: &PlaneSums) -> yuv_reports::PlaneSums
-    ensures { result ≡ record { y = errors.now.y; u = errors.now.u; v = errors.now.v } }
-{
-    yuv_reports::PlaneSums {
-        y: errors.y,
-        u: errors.u,
-        v: errors.v,
     }
 }
 

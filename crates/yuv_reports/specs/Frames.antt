@@ -1,14 +1,14 @@
 -- What is said of one frame and of all of them, in each form of a report.
 use Rattle.std.specs.Prelude.{ℕ, ◌≡◌, ◌∷◌, ◌++◌, [], Bool, true, false, List, Option, Some, None, codes, decimal}
 use Rattle.v_frame_formats.specs.Prelude.{letter_of}
+use Rattle.v_frame_formats.specs.declared.difference.PixelDifference.{PixelDifference}
+use Rattle.v_frame_formats.specs.declared.sums.PlaneSums.{PlaneSums}
 use Rattle.yuv_reports.specs.Sums.{difference_line, end_of_frame, longer_line, sums_line}
 use Rattle.yuv_reports.specs.declared.comparison.Comparison.{Comparison}
 use Rattle.yuv_reports.specs.declared.comparison.Longer.{Longer}
 use Rattle.yuv_reports.specs.declared.comparison.Longer.TheVariants.{First, Second}
 use Rattle.yuv_reports.specs.declared.comparison.ReportForm.{ReportForm}
 use Rattle.yuv_reports.specs.declared.comparison.ReportForm.TheVariants.{Lines, Csv, Json}
-use Rattle.yuv_reports.specs.declared.comparison.SampleDifference.{SampleDifference}
-use Rattle.yuv_reports.specs.declared.planes.PlaneSums.{PlaneSums}
 
 -- ---- one frame
 
@@ -51,12 +51,15 @@ place_members frame plane x y =
     ++ (plane
     ++ (codes "\", \"column\": " ++ (decimal x ++ (codes ", \"row\": " ++ (decimal y ++ codes ", ")))))))
 
-abbrev pub difference_object : Option SampleDifference → List ℕ
-difference_object None = codes "null"
-difference_object (Some found) =
-    place_members found.frame (letter_of found.plane) found.x found.y
+abbrev pub sample_object : ℕ → PixelDifference → List ℕ
+sample_object frame found =
+    place_members frame (letter_of found.component) found.x found.y
     ++ (codes "\"first\": "
     ++ (decimal found.first ++ (codes ", \"second\": " ++ (decimal found.second ++ codes "}"))))
+
+abbrev pub difference_object : Option (ℕ × PixelDifference) → List ℕ
+difference_object None = codes "null"
+difference_object (Some found) = sample_object found.0 found.1
 
 -- the last member, of this value, and the end of the object
 abbrev pub longer_as : List ℕ → List ℕ
@@ -68,7 +71,7 @@ longer_member None = longer_as (codes "null")
 longer_member (Some First) = longer_as (codes "\"first\"")
 longer_member (Some Second) = longer_as (codes "\"second\"")
 
-abbrev pub json_end : Option SampleDifference → Option Longer → List ℕ
+abbrev pub json_end : Option (ℕ × PixelDifference) → Option Longer → List ℕ
 json_end difference longer =
     codes ","
     ++ (10
@@ -77,7 +80,7 @@ json_end difference longer =
 -- ---- the end of a report
 
 -- what is said of all frames after the last float: of a table nothing, each row of which is a frame
-abbrev pub end_by_parts : ReportForm → Option PlaneSums → Option SampleDifference → Option Longer
+abbrev pub end_by_parts : ReportForm → Option PlaneSums → Option (ℕ × PixelDifference) → Option Longer
     → List ℕ
 end_by_parts Lines sums difference longer =
     sums_line sums ++ (difference_line difference ++ longer_line longer)

@@ -1,13 +1,13 @@
 -- The sums of squared errors in a report, and what is said after them.
 use Rattle.std.specs.Prelude.{ℕ, ◌∷◌, ◌++◌, [], if◌then◌else◌, Bool, List, Option, Some, None, codes, decimal}
 use Rattle.v_frame_formats.specs.Prelude.{letter_of}
+use Rattle.v_frame_formats.specs.declared.difference.PixelDifference.{PixelDifference}
+use Rattle.v_frame_formats.specs.declared.sums.PlaneSums.{PlaneSums}
 use Rattle.yuv_reports.specs.declared.comparison.Comparison.{Comparison}
 use Rattle.yuv_reports.specs.declared.comparison.Longer.{Longer}
 use Rattle.yuv_reports.specs.declared.comparison.Longer.TheVariants.{First, Second}
 use Rattle.yuv_reports.specs.declared.comparison.ReportForm.{ReportForm}
 use Rattle.yuv_reports.specs.declared.comparison.ReportForm.TheVariants.{Lines, Csv, Json}
-use Rattle.yuv_reports.specs.declared.comparison.SampleDifference.{SampleDifference}
-use Rattle.yuv_reports.specs.declared.planes.PlaneSums.{PlaneSums}
 
 -- a number after a text, where there is one
 abbrev pub number_after : List ℕ → Option ℕ → List ℕ
@@ -35,13 +35,13 @@ sums_line (Some sums) =
     ++ (sums_after (codes " Y ") (codes ", U ") (codes ", V ") sums ++ (10 ∷ []))
 
 -- the line of the first difference
-abbrev pub difference_line : Option SampleDifference → List ℕ
+abbrev pub difference_line : Option (ℕ × PixelDifference) → List ℕ
 difference_line None = codes "first difference: none" ++ (10 ∷ [])
-difference_line (Some found) =
+difference_line (Some (frame, found)) =
     codes "first difference: frame "
-    ++ (decimal found.frame
+    ++ (decimal frame
     ++ (codes ", plane "
-    ++ (letter_of found.plane
+    ++ (letter_of found.component
     ++ (codes ", column "
     ++ (decimal found.x
     ++ (codes ", row "

@@ -4,11 +4,11 @@ ghost use Rattle.yuv_reports.specs.Frames.{end_of_report, AppendsNext};
 ghost use Rattle.yuv_reports.specs.Sums.{begin_of};
 ghost use Rattle.yuv_reports.specs.Texts.{EndsWith};
 
-use crate::planes::{PlaneSums, PlaneValues};
+use crate::planes::PlaneValues;
 use crate::pool::Pool;
 use crate::{csv, json, lines};
 use std::alloc::{AllocError, Global};
-use v_frame_formats::Component;
+use v_frame_formats::{PixelDifference, PlaneSums};
 
 /// The form of a report.
 #[derive(Debug, Clone, Copy, PartialEq, Eq)]
@@ -34,23 +34,6 @@ pub struct FrameMeasures {
     pub sums: Option<PlaneSums>,
 }
 
-/// A sample that two streams show differently.
-#[derive(Clone, Copy)]
-pub struct SampleDifference {
-    /// The number of its frame.
-    pub frame: u64,
-    /// The plane that it is in.
-    pub plane: Component,
-    /// The column of that plane, from 0.
-    pub x: usize,
-    /// The row of that plane, from 0.
-    pub y: usize,
-    /// The value in the first stream.
-    pub first: u16,
-    /// The value in the second stream.
-    pub second: u16,
-}
-
 /// Which of two streams has more frames.
 #[derive(Clone, Copy)]
 pub enum Longer {
@@ -67,8 +50,8 @@ pub struct Comparison {
     pub frames: u64,
     /// The measures of all of them together: the mean of the errors, and its ratio.
     pub measures: FrameMeasures,
-    /// The first sample that differs.
-    pub difference: Option<SampleDifference>,
+    /// The number of the first frame that differs, and its first sample that does.
+    pub difference: Option<(u64, PixelDifference)>,
     /// The stream that has more frames, where one has.
     pub longer: Option<Longer>,
 }

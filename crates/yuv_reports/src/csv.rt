@@ -7,8 +7,9 @@ ghost use Rattle.yuv_reports.specs.Texts.{EndsWith};
 ghost use Rattle.yuv_reports.specs.declared.comparison.ReportForm.{ReportForm};
 
 use crate::comparison::FrameMeasures;
-use crate::planes::{PlaneSums, PlaneValues, push_number, push_value};
+use crate::planes::{PlaneValues, push_number, push_value};
 use std::alloc::{AllocError, Global};
+use v_frame_formats::PlaneSums;
 
 /// Appends the names of the columns.
 pub fn push_head(text: &mut String, measures: &FrameMeasures) -> Result<(), AllocError>

@@ -1,14 +1,15 @@
 //! One JSON object: a list of frames, and a summary. JSON has no infinity: a ratio that is infinite is `null`.
 ghost use Rattle.std.specs.Prelude.{◌≡◌, ◌++◌, codes, string_bytes, OnOk};
-ghost use Rattle.yuv_reports.specs.Frames.{difference_object, json_end, longer_member, place_members, AppendsFrame};
+ghost use Rattle.yuv_reports.specs.Frames.{difference_object, json_end, longer_member, place_members, sample_object, AppendsFrame};
 ghost use Rattle.yuv_reports.specs.Sums.{members_end};
 ghost use Rattle.yuv_reports.specs.Texts.{EndsWith};
 ghost use Rattle.yuv_reports.specs.declared.comparison.ReportForm.{ReportForm};
 
-use crate::comparison::{Comparison, FrameMeasures, Longer, SampleDifference};
-use crate::planes::{PlaneSums, PlaneValues, push_number, push_sum, push_value};
+use crate::comparison::{Comparison, FrameMeasures, Longer};
+use crate::planes::{PlaneValues, push_number, push_sum, push_value};
 use crate::pool::Pool;
 use std::alloc::{AllocError, Global};
+use v_frame_formats::{PixelDifference, PlaneSums};
 
 /// The keys of the values of a measure, with what stands before them.
 const KEYS: [&str; 4] = ["{\"all\": ", ", \"y\": ", ", \"u\": ", ", \"v\": "];
@@ -154,24 +155,30 @@ fn push_pool(text: &mut String, pool: &Pool) -> Result<(), AllocError> {
 /// Appends the object of the first sample that differs, `null` where none does.
 fn push_difference(
     text: &mut String,
-    difference: &Option<SampleDifference>,
+    difference: &Option<(u64, PixelDifference)>,
 ) -> Result<(), AllocError>
     ensures { OnOk result (string_bytes text.new
         ≡ string_bytes text.old ++ difference_object difference.now) }
 {
-    let Some(found) = difference else {
-        return text.push_str("null");
-    };
-    let SampleDifference {
-        frame,
-        plane,
+    match difference {
+        Some((frame, found)) => push_sample(text, *frame, found),
+        None => text.push_str("null"),
+    }
+}
+
+/// Appends the object of a sample that differs, in the frame of this number.
+fn push_sample(text: &mut String, frame: u64, found: &PixelDifference) -> Result<(), AllocError>
+    ensures { OnOk result (string_bytes text.new
+        ≡ string_bytes text.old ++ sample_object frame found.now) }
+{
+    let PixelDifference {
+        component,
         x,
         y,
         first,
         second,
     } = *found;
-    let plane = plane.letter();
-    push_place(text, frame, plane, x, y)?;
+    push_place(text, frame, component.letter(), x, y)?;
     write!(text, "\"first\": {first}, \"second\": {second}}}")
 }
 

@@ -5,9 +5,10 @@ ghost use Rattle.yuv_reports.specs.Sums.{comparison_end, difference_line, frame_
 ghost use Rattle.yuv_reports.specs.Texts.{EndsWith};
 ghost use Rattle.yuv_reports.specs.declared.comparison.ReportForm.{ReportForm};
 
-use crate::comparison::{Comparison, FrameMeasures, Longer, SampleDifference};
-use crate::planes::{PlaneSums, PlaneValues, push_number, push_sum};
+use crate::comparison::{Comparison, FrameMeasures, Longer};
+use crate::planes::{PlaneValues, push_number, push_sum};
 use std::alloc::{AllocError, Global};
+use v_frame_formats::{PixelDifference, PlaneSums};
 
 /// What all planes and each of them are called in the line of a frame, and in a line of all frames.
 const SHORT_NAMES: [&str; 4] = ["avg", "y", "u", "v"];
@@ -169,23 +170,22 @@ fn push_ssim(text: &mut String, ssim: &PlaneValues) -> Result<(), AllocError> {
 /// Appends the line that says where the streams first differ, if they do.
 fn push_difference(
     text: &mut String,
-    difference: &Option<SampleDifference>,
+    difference: &Option<(u64, PixelDifference)>,
 ) -> Result<(), AllocError>
     ensures { OnOk result (string_bytes text.new
         ≡ string_bytes text.old ++ difference_line difference.now) }
 {
-    let Some(found) = difference else {
+    let Some((frame, found)) = *difference else {
         return text.push_str("first difference: none\n");
     };
-    let SampleDifference {
-        frame,
-        plane,
+    let PixelDifference {
+        component,
         x,
         y,
         first,
         second,
-    } = *found;
-    let plane = plane.letter();
+    } = found;
+    let plane = component.letter();
     writeln!(
         text,
         "first difference: frame {frame}, plane {plane}, column {x}, row {y}, {first} and {second}"

@@ -1,19 +1,8 @@
-//! Numbers that belong to the planes of a frame.
+//! Measures of the planes of a frame, and numbers in texts.
 ghost use Rattle.std.specs.Prelude.{◌≡◌, ◌++◌, decimal, string_bytes, OnOk};
 ghost use Rattle.yuv_reports.specs.Sums.{number_after};
 
 use std::alloc::AllocError;
-
-/// A whole number for each plane of a frame.
-#[derive(Clone, Copy)]
-pub struct PlaneSums {
-    /// That of luma.
-    pub y: u128,
-    /// That of the first chroma plane, where there is one.
-    pub u: Option<u128>,
-    /// That of the second chroma plane, where there is one.
-    pub v: Option<u128>,
-}
 
 /// A measure of all planes of a frame together, and of each.
 #[derive(Clone, Copy)]

@@ -1,4 +1,5 @@
-//! Which frames a picture takes, and the cause that an error keeps: what this call met, and not an earlier one.
+//! Which streams are opened and which frames a picture takes, and the cause that an error keeps: what this call met, and not an
+//! earlier one.
 
 use crate::stepping::{Step, Stepping};
 use crate::{FIRST_FRAME, SMALL};

@@ -10,7 +10,6 @@ use crate::generated::v_frame_streams::passing::skip_frames;
 use crate::generated::v_frame_streams::picture::Picture;
 use crate::generated::v_frame_streams::progress::{Progress, Silent, show_one_more};
 use crate::generated::v_frame_streams::source::Source;
-use crate::generated::v_frame_streams::sums::PlaneSums;
 use std::io;
 use crate::generated::v_frame::frame::Frame;
 use crate::generated::v_frame::pixel::Pixel;
@@ -27,11 +26,11 @@ use crate::generated::v_frame::pixel::Pixel;
 /// # Examples
 ///
 /// ```
-/// use v_frame_proved::formats::Component;
+/// use v_frame_proved::formats::{Component, PixelDifference, PlaneSums};
 /// use v_frame_proved::frame::Frame;
 /// use v_frame_proved::pixel::Pixel;
 /// use v_frame_proved::streams::{CompareOptions, Comparison, FrameObserver, MAX_PIXELS, NoObserver};
-/// use v_frame_proved::streams::{PixelDifference, Place, PlaneSums, Problem, Silent, Source, StreamError};
+/// use v_frame_proved::streams::{Place, Problem, Silent, Source, StreamError};
 /// use v_frame_proved::streams::{check_formats, compare_streams};
 ///
 /// const FRAME: [u8; 32] = [98; 32];
@@ -156,17 +155,6 @@ fn compare_pair<T: Pixel, O: FrameObserver<T>>(
 ) -> Result<Comparison, StreamError> {
     let errors = squared_errors_of_frames(first, second);
     let now = found.with_frames(first, second, &errors);
-    show_pair(observer, first, second, &errors)?;
+    observer.take(first, second, &errors)?;
     Ok(now)
-}
-
-/// Shows two frames to the observer, and their errors.
-fn show_pair<T: Pixel, O: FrameObserver<T>>(
-    observer: &mut O,
-    first: &Frame<T>,
-    second: &Frame<T>,
-    errors: &PlaneSums,
-) -> Result<(), StreamError> {
-    observer.take(first, second, errors)?;
-    Ok(())
 }

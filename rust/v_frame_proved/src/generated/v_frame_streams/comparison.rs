@@ -2,12 +2,11 @@
 //! How far two streams are apart.
 
 use crate::generated::v_frame_streams::alike::difference_by_errors;
-use crate::generated::v_frame_streams::frames::PixelDifference;
 use crate::generated::v_frame_streams::stream::Place;
-use crate::generated::v_frame_streams::sums::PlaneSums;
 use crate::generated::v_frame::frame::Frame;
 use crate::generated::v_frame::pixel::Pixel;
 use crate::generated::v_frame::plane::Plane;
+use crate::generated::v_frame_formats::{PixelDifference, PlaneSums};
 
 /// What a comparison takes of two streams.
 #[derive(Debug, Clone, Copy, PartialEq, Eq)]

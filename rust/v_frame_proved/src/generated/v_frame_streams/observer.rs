@@ -2,9 +2,9 @@
 //! What is done with each two frames that are compared.
 
 use crate::generated::v_frame_streams::error::StreamError;
-use crate::generated::v_frame_streams::sums::PlaneSums;
 use crate::generated::v_frame::frame::Frame;
 use crate::generated::v_frame::pixel::Pixel;
+use crate::generated::v_frame_formats::PlaneSums;
 
 /// Is shown the frames that are compared, two by two: those of pixels of one type.
 pub trait FrameObserver<T: Pixel> {

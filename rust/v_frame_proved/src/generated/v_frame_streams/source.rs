@@ -52,30 +52,23 @@ impl<R: io::Read> Source<R> {
     ///
     /// # Errors
     ///
-    /// [`Problem::Stream`] with the errors of [`read_lax_header`], [`Problem::TooLarge`] where a frame has more than `usize::MAX`
-    /// bytes, and [`Problem::OutOfMemory`] where a request for memory was refused.
+    /// [`Problem::Stream`] with the errors of [`read_lax_header`], [`Problem::TooLarge`] where a frame has no byte, or more than
+    /// `usize::MAX`, and [`Problem::OutOfMemory`] where a request for memory was refused.
     #[inline]
     pub fn y4m(place: Place, reader: R) -> Result<Self, StreamError> {
         let mut reader = buffered(place, reader)?;
-        match read_lax_header(&mut reader) {
-            Ok((header, is_strict)) => {
-                let frame_len = frame_len_of(place, &header)?;
-                Ok(Source {
-                    place,
-                    container: Container::Y4m,
-                    header,
-                    layout: None,
-                    frame_len,
-                    frames: 0,
-                    is_lax: !is_strict,
-                    reader,
-                })
-            }
-            Err(error) => {
-                let last_failure = reader.last_failure();
-                Err(StreamError::at_frame(place, 0, Problem::Stream(error), last_failure))
-            }
-        }
+        let (header, is_lax) = read_header(place, &mut reader)?;
+        let frame_len = frame_len_of(place, &header)?;
+        Ok(Source {
+            place,
+            container: Container::Y4m,
+            header,
+            layout: None,
+            frame_len,
+            frames: 0,
+            is_lax,
+            reader,
+        })
     }
 
     /// Takes headerless raw video, whose frames are as this header says, in a semi-planar layout or else planar. Nothing is read.
@@ -223,6 +216,20 @@ impl<R: io::Read> Source<R> {
     #[inline]
     pub(crate) fn refused(&self, problem: Problem) -> StreamError {
         StreamError::at_frame(self.place, self.frames, problem, self.reader.last_failure())
+    }
+}
+
+/// Reads the header line of a stream, or one that stands for it, and tells whether it was another one than that.
+fn read_header<R: io::Read>(
+    place: Place,
+    reader: &mut Counted<BufReader<R>>,
+) -> Result<(StreamHeader, bool), StreamError> {
+    match read_lax_header(reader) {
+        Ok((header, is_strict)) => Ok((header, !is_strict)),
+        Err(error) => {
+            let last_failure = reader.last_failure();
+            Err(StreamError::at_frame(place, 0, Problem::Stream(error), last_failure))
+        }
     }
 }
 

@@ -152,14 +152,7 @@ fn reported_comparison(
         frames: found.frames,
         measures,
         difference: match found.difference {
-            Some((before, pixel)) => Some(crate::generated::yuv_reports::SampleDifference {
-                frame: start.saturating_add(before).saturating_add(1),
-                plane: pixel.component,
-                x: pixel.x,
-                y: pixel.y,
-                first: pixel.first,
-                second: pixel.second,
-            }),
+            Some((before, pixel)) => Some((start.saturating_add(before).saturating_add(1), pixel)),
             None => None,
         },
         longer: match found.longer {

@@ -30,17 +30,8 @@ impl Scale {
             psnr: ratios(&mse, self.bit_depth),
             mse,
             ssim,
-            sums: self.exact.then_some(reported_sums(errors)),
+            sums: self.exact.then_some(*errors),
         }
-    }
-}
-
-/// Returns the sums as a report has them.
-fn reported_sums(errors: &PlaneSums) -> crate::generated::yuv_reports::PlaneSums {
-    crate::generated::yuv_reports::PlaneSums {
-        y: errors.y,
-        u: errors.u,
-        v: errors.v,
     }
 }
 

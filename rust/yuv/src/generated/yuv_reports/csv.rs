@@ -4,8 +4,9 @@
 
 use v_frame_proved::support::memory::{TryPush, TryString};
 use crate::generated::yuv_reports::comparison::FrameMeasures;
-use crate::generated::yuv_reports::planes::{PlaneSums, PlaneValues, push_number, push_value};
+use crate::generated::yuv_reports::planes::{PlaneValues, push_number, push_value};
 use v_frame_proved::support::AllocError;
+use v_frame_proved::formats::PlaneSums;
 
 /// Appends the names of the columns.
 pub fn push_head(text: &mut String, measures: &FrameMeasures) -> Result<(), AllocError> {

@@ -2,10 +2,11 @@
 //! One JSON object: a list of frames, and a summary. JSON has no infinity: a ratio that is infinite is `null`.
 
 use v_frame_proved::support::memory::{TryPush, TryString};
-use crate::generated::yuv_reports::comparison::{Comparison, FrameMeasures, Longer, SampleDifference};
-use crate::generated::yuv_reports::planes::{PlaneSums, PlaneValues, push_number, push_sum, push_value};
+use crate::generated::yuv_reports::comparison::{Comparison, FrameMeasures, Longer};
+use crate::generated::yuv_reports::planes::{PlaneValues, push_number, push_sum, push_value};
 use crate::generated::yuv_reports::pool::Pool;
 use v_frame_proved::support::AllocError;
+use v_frame_proved::formats::{PixelDifference, PlaneSums};
 
 /// The keys of the values of a measure, with what stands before them.
 const KEYS: [&str; 4] = ["{\"all\": ", ", \"y\": ", ", \"u\": ", ", \"v\": "];
@@ -134,21 +135,24 @@ fn push_pool(text: &mut String, pool: &Pool) -> Result<(), AllocError> {
 /// Appends the object of the first sample that differs, `null` where none does.
 fn push_difference(
     text: &mut String,
-    difference: &Option<SampleDifference>,
+    difference: &Option<(u64, PixelDifference)>,
 ) -> Result<(), AllocError> {
-    let Some(found) = difference else {
-        return text.try_push_str("null");
-    };
-    let SampleDifference {
-        frame,
-        plane,
+    match difference {
+        Some((frame, found)) => push_sample(text, *frame, found),
+        None => text.try_push_str("null"),
+    }
+}
+
+/// Appends the object of a sample that differs, in the frame of this number.
+fn push_sample(text: &mut String, frame: u64, found: &PixelDifference) -> Result<(), AllocError> {
+    let PixelDifference {
+        component,
         x,
         y,
         first,
         second,
     } = *found;
-    let plane = plane.letter();
-    push_place(text, frame, plane, x, y)?;
+    push_place(text, frame, component.letter(), x, y)?;
     write!(text, "\"first\": {first}, \"second\": {second}}}")
 }
 

@@ -2,9 +2,10 @@
 //! Lines for people.
 
 use v_frame_proved::support::memory::{TryPush, TryString};
-use crate::generated::yuv_reports::comparison::{Comparison, FrameMeasures, Longer, SampleDifference};
-use crate::generated::yuv_reports::planes::{PlaneSums, PlaneValues, push_number, push_sum};
+use crate::generated::yuv_reports::comparison::{Comparison, FrameMeasures, Longer};
+use crate::generated::yuv_reports::planes::{PlaneValues, push_number, push_sum};
 use v_frame_proved::support::AllocError;
+use v_frame_proved::formats::{PixelDifference, PlaneSums};
 
 /// What all planes and each of them are called in the line of a frame, and in a line of all frames.
 const SHORT_NAMES: [&str; 4] = ["avg", "y", "u", "v"];
@@ -147,20 +148,19 @@ fn push_ssim(text: &mut String, ssim: &PlaneValues) -> Result<(), AllocError> {
 /// Appends the line that says where the streams first differ, if they do.
 fn push_difference(
     text: &mut String,
-    difference: &Option<SampleDifference>,
+    difference: &Option<(u64, PixelDifference)>,
 ) -> Result<(), AllocError> {
-    let Some(found) = difference else {
+    let Some((frame, found)) = *difference else {
         return text.try_push_str("first difference: none\n");
     };
-    let SampleDifference {
-        frame,
-        plane,
+    let PixelDifference {
+        component,
         x,
         y,
         first,
         second,
-    } = *found;
-    let plane = plane.letter();
+    } = found;
+    let plane = component.letter();
     writeln!(
         text,
         "first difference: frame {frame}, plane {plane}, column {x}, row {y}, {first} and {second}"

@@ -10,7 +10,7 @@ use Rattle.yuv_comparisons.proofs.Reporting.{frame_known, on_ok_also, still_know
 use Rattle.yuv_reports.specs.Frames.{EndsWithFrame}
 use Rattle.v_frame_streams.specs.Prelude.{most_frames}
 use Rattle.yuv_reports.specs.declared.comparison.Report.{Report}
-use Rattle.yuv_reports.specs.declared.planes.PlaneSums.{PlaneSums as ReportedSums}
+use Rattle.v_frame_formats.specs.declared.sums.PlaneSums.{PlaneSums}
 use Rattle.yuv_comparisons.proofs.frame_report.FrameReportFrameObserver.take.Goals as goal
 
 pub returns-in-Ok-clause-taken : goal.returns-in-Ok-clause-taken
@@ -53,7 +53,7 @@ returns-in-Ok-clause-taken g c =
       said = λ lists. frame_known old.report.form (frame_number old.before new.frames) reported
           (contents old.out) (contents new.out) text from_old
           (subst (λ (n : ℕ). EndsWithFrame old.report.form n reported text) start
-          (subst (λ (s : Option ReportedSums). EndsWithFrame old.report.form
+          (subst (λ (s : Option PlaneSums). EndsWithFrame old.report.form
           (frame_number c.similarities-ssim.new.self.before c.similarities-ssim.new.self.frames) s text) sums
           (said lists)));
     }) wrote.written

@@ -1,0 +1,20 @@
+-- A header that was not read has the cause that its reader reported last, and no other.
+use Rattle.std.proofs.Common.{refl, subst, sym}
+use Rattle.std.specs.Io.Buffered.{reader_remaining}
+use Rattle.v_frame_streams.specs.Errors.{IsAtStart, StopsOpening}
+use Rattle.v_frame_streams.specs.declared.error.Problem.TheVariants.{Stream}
+use Rattle.v_frame_streams.specs.declared.error.StreamError.{StreamError}
+use Rattle.v_frame_streams.proofs.Causes.{own_cause}
+use Rattle.v_frame_streams.proofs.Opening.{opening_stops}
+use Rattle.v_frame_streams.proofs.source.read_header.Goals as goal
+
+pub returns-in-Err-clause-stopped : goal.returns-in-Err-clause-stopped
+returns-in-Err-clause-stopped g c =
+    let own = own_cause (Stream c.in-Err.error) c.last_failure-last_failure.result in
+    subst (IsAtStart c.args.place) (sym c.at_frame.ensures) (record { place = refl; frames = refl; cause = sym own })
+
+pub returns-in-Err-clause-refused : goal.returns-in-Err-clause-refused
+returns-in-Err-clause-refused g c =
+    let remaining = reader_remaining g.R.Read.remaining in
+    subst (λ (e : StreamError). StopsOpening (remaining c.args.reader.now.inner) e.problem) (sym c.at_frame.ensures)
+    (opening_stops remaining c.args.reader.now c.read_lax_header.new.reader c.in-Err.error c.in-Err.ensures.error)
