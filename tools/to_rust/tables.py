@@ -33,8 +33,8 @@ UNNAMED = {"v_frame_raster", "v_frame_plane"}
 PUBLIC_NAMES = {name: name.replace("v_frame_", f"{LIBRARY}::") for name in HOMES[LIBRARY] if name not in UNNAMED}
 PUBLIC_NAMES["v_frame"] = LIBRARY
 
-# Crates that C calls, which alone may have exports.
-FOR_C = {"v_frame_c", "v_frame_png_c", "v_frame_y4m_c"}
+# Crates that C calls, which alone may have exports, or structs as C lays them out.
+FOR_C = {"v_frame_slices", "v_frame_c", "v_frame_png_c", "v_frame_y4m_c"}
 
 # Crates that are written by hand in Rust, for they hold raw memory in Rattle, and the modules that take their place.
 BY_HAND = {"v_frame_buffer": "crate::buffer"}

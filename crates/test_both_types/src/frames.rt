@@ -45,7 +45,7 @@ pub fn push_length<T: Pixel>(text: &mut String, frame: &Frame<T>) -> Option<()> 
         _ => SemiPlanarFormat::P010,
     };
     let bytes = semi_planar_len(frame, format).ok()?;
-    writeln!(text, "{bytes} bytes by turns").ok()
+    writeln!(text, "{bytes} bytes semi-planar").ok()
 }
 
 /// Turns a frame upside down, then to its right end, then by 180 degrees, so that it shows at last what it did.

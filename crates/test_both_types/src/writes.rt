@@ -28,7 +28,7 @@ pub fn push_writes<T: Pixel>(text: &mut String, plane: &mut Plane<T>) -> Option<
     push_plane(text, "all pixels", &plane.as_plane_ref())
 }
 
-/// Puts the two rows of a plane of 4 columns together by turns, and takes them apart.
+/// Interleaves the two rows of a plane of 4 columns, and takes them apart.
 pub fn push_pairs<T: Pixel>(
     alloc: Global,
     text: &mut String,
@@ -43,7 +43,7 @@ pub fn push_pairs<T: Pixel>(
     }
     let mut row = pixels::<T>(alloc, 8)?;
     interleave_row(row.as_mut_slice(), first, second);
-    push_values(text, "by turns", row.as_slice())?;
+    push_values(text, "interleaved", row.as_slice())?;
     let (mut apart, mut other) = (pixels::<T>(alloc, 4)?, pixels::<T>(alloc, 4)?);
     deinterleave_row(row.as_slice(), apart.as_mut_slice(), other.as_mut_slice());
     push_values(text, "apart", apart.as_slice())?;

@@ -1,9 +1,9 @@
 //! The exports that change the rows of a buffer, and copy between rows and bytes.
 ghost use Rattle.v_frame.specs.Prelude.{one_byte, two_bytes};
-ghost use Rattle.v_frame_c.specs.Made.{IsCopied, IsDecoded, IsEncoded, IsFilled, IsHalved, PadsBorder};
+ghost use Rattle.v_frame_slices.specs.Made.{IsCopied, IsDecoded, IsEncoded, IsFilled, IsHalved, PadsBorder};
 
-use crate::change;
-use crate::layout::{Bordered, Rows};
+use v_frame_slices::change;
+use v_frame_slices::layout::{Bordered, Rows};
 
 /// Sets each pixel of the rows to `pixel`.
 #[unsafe(no_mangle)]

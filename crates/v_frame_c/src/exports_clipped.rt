@@ -1,8 +1,8 @@
 //! The exports that copy pictures as far as they lie inside others.
-ghost use Rattle.v_frame_c.specs.Made.{IsCopiedTo};
+ghost use Rattle.v_frame_slices.specs.Made.{IsCopiedTo};
 
-use crate::clipped;
-use crate::layout::Rows;
+use v_frame_slices::clipped;
+use v_frame_slices::layout::Rows;
 
 /// Copies the picture of the second rows into the first ones, with its first pixel at column `x` of row `y`: what lies outside is
 /// left out.

@@ -1,9 +1,9 @@
 //! The exports that make colors of luma and chroma, and luma and chroma of colors.
-ghost use Rattle.v_frame_c.specs.ColorCalls.{AreColors, AreSamples};
+ghost use Rattle.v_frame_slices.specs.ColorCalls.{AreColors, AreSamples};
 
-use crate::colors::{self, ColorChoice};
-use crate::layout::Rows;
-use crate::samples;
+use v_frame_slices::colors::{self, ColorChoice};
+use v_frame_slices::layout::Rows;
+use v_frame_slices::samples;
 
 /// Makes the first rows the colors of three pictures of one size: Y', Cb and Cr of 8 bits become R'G'B' by a standard.
 #[unsafe(no_mangle)]

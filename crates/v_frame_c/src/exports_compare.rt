@@ -1,9 +1,9 @@
 //! The exports that compare pictures.
 ghost use Rattle.v_frame.specs.Prelude.{one_byte, two_bytes};
-ghost use Rattle.v_frame_c.specs.Found.{FindsFirst, SumsDifferences, SumsSquares};
+ghost use Rattle.v_frame_slices.specs.Found.{FindsFirst, SumsDifferences, SumsSquares};
 
-use crate::compare;
-use crate::layout::{Place, Rows, Sum};
+use v_frame_slices::compare;
+use v_frame_slices::layout::{Place, Rows, Sum};
 
 /// Sums the squares of the differences of two pictures of one size.
 #[unsafe(no_mangle)]

@@ -1,9 +1,9 @@
 //! The exports that compose pictures.
 ghost use Rattle.v_frame.specs.Prelude.{one_byte, two_bytes};
-ghost use Rattle.v_frame_c.specs.Made.{IsBlended, IsBlendedByMask, IsDifference};
+ghost use Rattle.v_frame_slices.specs.Made.{IsBlended, IsBlendedByMask, IsDifference};
 
-use crate::compose;
-use crate::layout::Rows;
+use v_frame_slices::compose;
+use v_frame_slices::layout::Rows;
 
 /// Blends the picture of the second rows over that of the first ones: so many of 256 parts of each pixel are the second's.
 #[unsafe(no_mangle)]

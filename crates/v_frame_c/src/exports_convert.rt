@@ -1,9 +1,9 @@
 //! The exports that change a picture's bit depth or size.
 ghost use Rattle.v_frame.specs.Prelude.{one_byte, two_bytes};
-ghost use Rattle.v_frame_c.specs.Made.{IsAtDepth, IsUpscaled};
+ghost use Rattle.v_frame_slices.specs.Made.{IsAtDepth, IsUpscaled};
 
-use crate::convert;
-use crate::layout::Rows;
+use v_frame_slices::convert;
+use v_frame_slices::layout::Rows;
 
 /// Makes the first rows show the picture of the second ones, whose values have bit depth `from`, in bit depth `to`.
 #[unsafe(no_mangle)]

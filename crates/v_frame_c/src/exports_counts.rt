@@ -1,13 +1,13 @@
 //! The exports that count pixels.
 ghost use Rattle.std.specs.Prelude.{◌≡◌, ◌≢◌, length, nat_eq};
 ghost use Rattle.v_frame.specs.Prelude.{one_byte, row_major, two_bytes};
-ghost use Rattle.v_frame_c.specs.Found.{CountsBetween};
-ghost use Rattle.v_frame_c.specs.Layout.{fits, picture};
-ghost use Rattle.v_frame_c.specs.Status.{status_of_one, status_of_sized};
+ghost use Rattle.v_frame_slices.specs.Found.{CountsBetween};
+ghost use Rattle.v_frame_slices.specs.Layout.{fits, picture};
+ghost use Rattle.v_frame_slices.specs.Status.{status_of_one, status_of_sized};
 ghost use Rattle.v_frame_statistics.specs.Prelude.{Counts};
 
-use crate::counts;
-use crate::layout::Rows;
+use v_frame_slices::counts;
+use v_frame_slices::layout::Rows;
 
 /// Counts the pixels with a value from `least` to `greatest`.
 #[unsafe(no_mangle)]

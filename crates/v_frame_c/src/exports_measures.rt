@@ -1,9 +1,9 @@
 //! The exports for measures of two pictures.
 ghost use Rattle.v_frame.specs.Prelude.{one_byte, two_bytes};
-ghost use Rattle.v_frame_c.specs.Found.{CountsAbove, FindsGreatest, MeasuresError, MeasuresSimilarity};
+ghost use Rattle.v_frame_slices.specs.Found.{CountsAbove, FindsGreatest, MeasuresError, MeasuresSimilarity};
 
-use crate::layout::Rows;
-use crate::measures::{self, Greatest};
+use v_frame_slices::layout::Rows;
+use v_frame_slices::measures::{self, Greatest};
 
 /// Measures the mean squared error of two pictures of one size.
 #[unsafe(no_mangle)]

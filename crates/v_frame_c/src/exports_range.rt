@@ -2,10 +2,10 @@
 ghost use Rattle.std.specs.Prelude.{false};
 ghost use Rattle.std.specs.Prelude.{true};
 ghost use Rattle.v_frame.specs.Prelude.{one_byte, two_bytes};
-ghost use Rattle.v_frame_c.specs.Made.{IsInRange};
+ghost use Rattle.v_frame_slices.specs.Made.{IsInRange};
 
-use crate::layout::Rows;
-use crate::range;
+use v_frame_slices::layout::Rows;
+use v_frame_slices::range;
 
 /// Makes the first rows show the picture of the second ones, whose values of the limited range become those of the full one.
 #[unsafe(no_mangle)]

@@ -1,8 +1,8 @@
 //! The exports for chroma whose samples take turns in one plane, as in NV12 and P010.
-ghost use Rattle.v_frame_c.specs.ChromaByTurns.{AreDeinterleaved, IsInterleaved};
+ghost use Rattle.v_frame_slices.specs.ChromaByTurns.{AreDeinterleaved, IsInterleaved};
 
-use crate::layout::Rows;
-use crate::semi_planar;
+use v_frame_slices::layout::Rows;
+use v_frame_slices::semi_planar;
 
 /// Makes the first rows show the pixels of the second and of the third ones by turns.
 #[unsafe(no_mangle)]

@@ -1,10 +1,10 @@
 //! The exports that make pictures of other sizes.
 ghost use Rattle.v_frame.specs.Prelude.{one_byte, two_bytes};
-ghost use Rattle.v_frame_c.specs.Made.{IsResizedByArea, IsResizedByNearest, IsScaled};
+ghost use Rattle.v_frame_slices.specs.Made.{IsResizedByArea, IsResizedByNearest, IsScaled};
 ghost use Rattle.v_frame_convert.specs.declared.scale.Scale.TheVariants.{Half, Same};
 
-use crate::layout::Rows;
-use crate::{halves, resize};
+use v_frame_slices::layout::Rows;
+use v_frame_slices::{halves, resize};
 
 /// Makes the first rows show the picture of the second ones: each pixel is the mean of the area that it covers, rounded to the
 /// nearest value and upwards at a half.

@@ -1,9 +1,9 @@
 //! The exports for numbers that pictures give.
 ghost use Rattle.v_frame.specs.Prelude.{one_byte, two_bytes};
-ghost use Rattle.v_frame_c.specs.Found.{SumsPairs, SumsPixels};
+ghost use Rattle.v_frame_slices.specs.Found.{SumsPairs, SumsPixels};
 
-use crate::layout::Rows;
-use crate::statistics::{self, PairStatistics, Statistics};
+use v_frame_slices::layout::Rows;
+use v_frame_slices::statistics::{self, PairStatistics, Statistics};
 
 /// Sums the pixels of a picture and their squares, and finds the least and the greatest value.
 #[unsafe(no_mangle)]

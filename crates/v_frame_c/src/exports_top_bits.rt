@@ -1,8 +1,8 @@
 //! The exports for whole frames whose samples stand in the top bits of words, as in P010.
-ghost use Rattle.v_frame_c.specs.TopBits.{AreInTopBits, AreOfTopBits};
+ghost use Rattle.v_frame_slices.specs.TopBits.{AreInTopBits, AreOfTopBits};
 
-use crate::layout::Rows;
-use crate::top_bits;
+use v_frame_slices::layout::Rows;
+use v_frame_slices::top_bits;
 
 /// Makes the first rows luma, and the second ones chroma, of a frame of three planes of samples of so many bits, in the top bits of
 /// their words.

@@ -1,8 +1,8 @@
 //! The exports that turn pictures.
-ghost use Rattle.v_frame_c.specs.Made.{IsTurned};
+ghost use Rattle.v_frame_slices.specs.Made.{IsTurned};
 
-use crate::layout::Rows;
-use crate::turn;
+use v_frame_slices::layout::Rows;
+use v_frame_slices::turn;
 
 /// Makes the first rows show the picture of the second ones, turned in the way that a number says: 0 upside down, 1 mirrored, 2 by
 /// 180 degrees, 3 transposed, 4 and 5 by 90 and 270 degrees clockwise.

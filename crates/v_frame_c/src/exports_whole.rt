@@ -1,8 +1,8 @@
 //! The exports for whole frames whose chroma takes turns in one plane.
-ghost use Rattle.v_frame_c.specs.ChromaByTurns.{ArePlanesOf, IsSemiPlanarOf};
+ghost use Rattle.v_frame_slices.specs.ChromaByTurns.{ArePlanesOf, IsSemiPlanarOf};
 
-use crate::layout::Rows;
-use crate::whole;
+use v_frame_slices::layout::Rows;
+use v_frame_slices::whole;
 
 /// Makes the first rows luma, and the second ones chroma, of a frame of three planes: those of luma, of U and of V.
 #[unsafe(no_mangle)]

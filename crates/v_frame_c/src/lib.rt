@@ -5,13 +5,6 @@
 //! them all, and says what C still has to promise.
 #![tactic(auto)]
 
-mod change;
-mod clipped;
-mod colors;
-mod compare;
-mod compose;
-mod convert;
-mod counts;
 mod exports_change;
 mod exports_clipped;
 mod exports_colors;
@@ -20,6 +13,7 @@ mod exports_compose;
 mod exports_convert;
 mod exports_counts;
 mod exports_measures;
+mod exports_parts;
 mod exports_range;
 mod exports_semi_planar;
 mod exports_sizes;
@@ -27,17 +21,4 @@ mod exports_statistics;
 mod exports_top_bits;
 mod exports_turn;
 mod exports_whole;
-mod frame_parts;
-mod halves;
-mod layout;
-mod measures;
-mod range;
-mod resize;
-mod samples;
-mod semi_planar;
-mod statistics;
-mod status;
-mod top_bits;
-mod turn;
 mod version;
-mod whole;

@@ -2,6 +2,7 @@ pub mod ChromaLemmas
 pub mod Decoding
 pub mod HalfLanes
 pub mod HalfRows
+pub mod LaneSums
 pub mod PixelBytes
 pub mod Plans
 pub mod RowLanes

@@ -26,11 +26,11 @@ selected_gaps m (x ∷ xs) (y ∷ ys) small small1 =
     rw (wrapped_gap m x y small.0 small1.0, selected_gaps m xs ys small.1 small1.1)
 selected_gaps m xs ys small small1 = refl
 
-square_at_most : (m x y : ℕ) → x < m → y < m → squared_error x y ≤ (m - 1) * (m - 1)
+pub square_at_most : (m x y : ℕ) → x < m → y < m → squared_error x y ≤ (m - 1) * (m - 1)
 square_at_most m x y small small1 = let gap : abs_diff x y ≤ m - 1 = omega arith in mul-le-mul gap gap
 
 -- squares in lanes with room for them do not wrap
-wrapped_squares : (size m : ℕ) → (m - 1) * (m - 1) < size → (xs ys : List ℕ) → Each1 (λ x. x < m) xs
+pub wrapped_squares : (size m : ℕ) → (m - 1) * (m - 1) < size → (xs ys : List ℕ) → Each1 (λ x. x < m) xs
     → Each1 (λ y. y < m) ys
     → zip2 (λ x y. (x * y) % size) (zip2 abs_diff xs ys) (zip2 abs_diff xs ys) ≡ zip2 squared_error xs ys
 wrapped_squares size m room (x ∷ xs) (y ∷ ys) small small1 =
@@ -73,13 +73,21 @@ module _ (w v : Width) (n : ℕ) (a b : List ℕ) (fits : (k : ℕ) → Fits w (
       (take n b) small small1) in
       (sum_fits v 0 lanes (omega (arith, is, bound, room)), fold-sum 0 lanes ∙ zero-add (sum_l lanes) ∙ is)
 
-  gaps_are : wide_gaps w (take n a) (take n b) ≡ zip2 abs_diff (take n a) (take n b)
+  pub gaps_are : wide_gaps w (take n a) (take n b) ≡ zip2 abs_diff (take n a) (take n b)
   gaps_are =
       rw (tops_compared w ltb (take n a) (take n b), selected_gaps (2 ^ bits w) (take n a) (take n b) small small1)
       (map-id _)
 
   pub absolute_block : (2 ^ bits w - 1) * n < 2 ^ bits v → AddsTo abs_diff (wide_gaps w (take n a) (take n b))
   absolute_block room = rw gaps_are (adds_to abs_diff (2 ^ bits w - 1) (λ x y h h1. omega arith) room)
+
+  -- squares that are made in 32 bits and widened
+  pub widened_squares : (2 ^ bits w - 1) * (2 ^ bits w - 1) < 2 ^ 32
+      → map (λ square. square) (squares_of (zip2 abs_diff (take n a) (take n b)))
+      ≡ zip2 squared_error (take n a) (take n b)
+  widened_squares narrow =
+      map-id (squares_of (zip2 abs_diff (take n a) (take n b)))
+      ∙ wrapped_squares (2 ^ 32) (2 ^ bits w) narrow (take n a) (take n b) small small1
 
   pub squared_block : (2 ^ bits w - 1) * (2 ^ bits w - 1) < 2 ^ 32
       → (2 ^ bits w - 1) * (2 ^ bits w - 1) * n < 2 ^ bits v

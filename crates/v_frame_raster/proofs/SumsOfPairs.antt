@@ -21,7 +21,7 @@ no_pairs Y (x ∷ xs) = refl
 
 module _ {X Y : Type 0} (of : X × Y → ℕ) where
   -- a sum over pairs is that of the first n of them, and that of those they leave
-  sum_of_pairs-split : (n : ℕ) (xs : List X) (ys : List Y)
+  pub sum_of_pairs-split : (n : ℕ) (xs : List X) (ys : List Y)
       → sum_by of (zip xs ys) ≡ sum_by of (zip (take n xs) (take n ys)) + sum_by of (zip (drop n xs) (drop n ys))
   sum_of_pairs-split zero xs ys = omega arith
   sum_of_pairs-split (suc n) [] ys = refl

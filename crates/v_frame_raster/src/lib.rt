@@ -9,4 +9,5 @@ pub mod geometry;
 mod halving;
 pub mod laws;
 pub mod pixel;
+mod row_lanes;
 mod row_sums;

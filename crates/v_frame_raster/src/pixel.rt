@@ -6,6 +6,7 @@ ghost use Rattle.v_frame_raster.specs.PixelRows.{absolute_differences, squared_e
 ghost use Rattle.v_frame_raster.specs.Pixel.{PixelForm, one_byte, two_bytes, byte_of, value_of_bytes, bytes_of_pixels, pixels_of_bytes};
 
 use crate::halving::{halve_bytes, halve_words};
+use crate::row_lanes::{absolute_in_lanes, is_of_larger_block, squared_in_lanes};
 use crate::row_sums::{Absolute, Squared, sum_over_rows};
 use std::fmt::{Binary, Debug, Display, LowerHex, Octal, UpperHex};
 use std::hash::Hash;
@@ -300,12 +301,20 @@ impl Pixel for u16 {
 
     #[inline(always)]
     fn sum_of_absolute_differences(a: &[u16], b: &[u16]) -> u128 {
-        sum_over_rows::<u16, Absolute>(a, b)
+        if is_of_larger_block(a.len()) {
+            absolute_in_lanes(a, b)
+        } else {
+            sum_over_rows::<u16, Absolute>(a, b)
+        }
     }
 
     #[inline(always)]
     fn sum_of_squared_errors(a: &[u16], b: &[u16]) -> u128 {
-        sum_over_rows::<u16, Squared>(a, b)
+        if is_of_larger_block(a.len()) {
+            squared_in_lanes(a, b)
+        } else {
+            sum_over_rows::<u16, Squared>(a, b)
+        }
     }
 
     fn halve_rows(dst: &mut [u16], top: &[u16], bottom: &[u16]) {

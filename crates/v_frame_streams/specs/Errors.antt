@@ -1,16 +1,17 @@
--- Why a stream is not opened, why a frame of it is not read, what a picture of it asks for, and which
--- errors have a cause.
+-- Why a stream is not opened, why a frame of it is not read, what a picture of it asks for, and
+-- which errors have a cause.
 use Rattle.std.specs.Prelude.{ℕ, ◌≡◌, ◌+◌, ◌≤◌, ◌<◌, Bool, List, [], ◌∷◌, ◌++◌, length, Option, None}
 use Rattle.std.specs.Io.KnownBytes.{Consumes, IsAtEnd}
 use Rattle.std.specs.declared.io.ErrorKind.{ErrorKind}
 use Rattle.v_frame.specs.Prelude.{usize_max, FrameRequest}
 use Rattle.v_frame_planar.specs.Video.{video_request}
 use Rattle.v_frame_planar.specs.declared.error.PlanarError.TheVariants.{Read, Truncated, Write}
+use Rattle.v_frame_planar.specs.Counted.{HasFailed}
 use Rattle.v_frame_y4m.specs.Ascii.{line_feed}
 use Rattle.v_frame_y4m.specs.Color.{depth_of, subsampling_of}
 use Rattle.v_frame_y4m.specs.Faults.{IsRefusedFor}
 use Rattle.v_frame_y4m.specs.Frames.{frame_byte_count}
-use Rattle.v_frame_y4m.specs.Lax.{strict_line}
+use Rattle.v_frame_y4m.specs.Lax.{strict_line, IsLaxFrameLine}
 use Rattle.v_frame_y4m.specs.Streams.{max_line_bytes, IsLine}
 use Rattle.v_frame_y4m.specs.declared.color.Color.{Color}
 use Rattle.v_frame_y4m.specs.declared.error.Y4mError.{Y4mError}
@@ -69,11 +70,35 @@ StopsOpening start TooLarge =
 StopsOpening start OutOfMemory = Unit {0}
 StopsOpening start _ = ⊥
 
--- a frame of so many planar bytes is not read: where the stream ended inside them, fewer were found
-abbrev pub StopsFrame : ℕ → Problem → Type 0
-StopsFrame count (Stream (Planar (Truncated expected found))) =
-    (expected ≡ count) × (found < count)
-StopsFrame count (Stream (Planar error)) = error ≡ Read
-StopsFrame count (Stream (Header error)) = ⊥
-StopsFrame count (Stream _) = Unit {0}
-StopsFrame count _ = ⊥
+-- what is left to be read of a stream: its bytes, where they are known, and how many reads have
+-- failed so far
+pub record Unread : Type 0 where
+  pub bytes : Option (List ℕ)
+  pub failures : ℕ
+
+-- the rest of a frame of so many planar bytes was not read: the stream ended inside it, and fewer
+-- bytes were found, or a read failed
+abbrev pub StopsInside : Unread → Unread → ℕ → Problem → Type 0
+StopsInside start left count (Stream (Planar (Truncated expected found))) =
+    (expected ≡ count) × (found < count) × IsAtEnd left.bytes
+StopsInside start left count (Stream (Planar error)) =
+    (error ≡ Read) × HasFailed start.failures left.failures
+StopsInside start left count _ = ⊥
+
+-- a frame was not read: the line in front of it, or one that stands for it, was not, or the rest
+-- was not
+abbrev pub StopsFrame : Unread → Unread → ℕ → Problem → Type 0
+StopsFrame start left count (Stream (Header error)) = ⊥
+StopsFrame start left count (Stream LineTooLong) =
+    StopsInHeaderLine start.bytes left.bytes LineTooLong
+StopsFrame start left count (Stream UnfinishedLine) =
+    (bytes : List ℕ) × IsLine bytes × (0 < length bytes) × (length bytes ≤ max_line_bytes)
+    × Consumes start.bytes left.bytes bytes × IsAtEnd left.bytes
+StopsFrame start left count (Stream NoFrame) =
+    (line : List ℕ) × ¬ (IsLaxFrameLine line) × IsLine line
+    × Consumes start.bytes left.bytes (line ++ line_feed ∷ [])
+StopsFrame start left count problem = StopsInside start left count problem
+
+-- one of the frames that were left was not read
+abbrev pub StopsAtFrame : Unread → ℕ → Problem → Type 0
+StopsAtFrame left count problem = (start : Unread) × StopsFrame start left count problem

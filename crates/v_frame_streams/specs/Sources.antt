@@ -4,6 +4,7 @@ use Rattle.std.specs.Io.Buffered.{reader_remaining}
 use Rattle.v_frame_semi_planar.specs.declared.format.SemiPlanarFormat.{SemiPlanarFormat}
 use Rattle.v_frame_y4m.specs.Header.{IsWritable}
 use Rattle.v_frame_y4m.specs.declared.header.StreamHeader.{StreamHeader}
+use Rattle.v_frame_streams.specs.Errors.{Unread}
 use Rattle.v_frame_streams.specs.declared.sink.Sink.{Sink}
 use Rattle.v_frame_streams.specs.declared.source.Source.{Source}
 use Rattle.v_frame_streams.specs.declared.stream.Container.{Container}
@@ -33,6 +34,11 @@ module _ {R : Type 0} where
   -- the bytes that are left to be read, where those of the reader are known
   abbrev pub bytes_left : (R → Option (List ℕ)) → Source R → Option (List ℕ)
   bytes_left remaining source = reader_remaining remaining source.reader.inner
+
+  -- the same, and how many reads have failed
+  abbrev pub unread_of : (R → Option (List ℕ)) → Source R → Unread
+  unread_of remaining source =
+      record { bytes = bytes_left remaining source; failures = source.reader.failures }
 
   -- a stream of which no frame was read yet
   pub record IsOpened (which : Place) (holding : Container) (source : Source R) : Type 0 where

@@ -1,11 +1,11 @@
 -- Small cases worked out by hand. Each line computes: it is proved by `refl`.
-use Rattle.std.specs.Prelude.{ℕ, ◌≡◌, [], ◌∷◌, Some, None, true, false, refl}
+use Rattle.std.specs.Prelude.{ℕ, ◌≡◌, ◌<◌, [], ◌∷◌, Some, None, true, false, refl}
 use Rattle.v_frame_y4m.specs.declared.color.Color.TheVariants.{Yuv420, Yuv420Mpeg2, Yuv422}
 use Rattle.v_frame_y4m.specs.declared.error.Y4mError.TheVariants.{Planar}
 use Rattle.v_frame_streams.specs.Conversions.{color_in}
 use Rattle.v_frame_streams.specs.Copies.{kept}
 use Rattle.v_frame_streams.specs.Edits.{beside, halved_size}
-use Rattle.v_frame_streams.specs.Errors.{cause_of}
+use Rattle.v_frame_streams.specs.Errors.{cause_of, StopsFrame}
 use Rattle.std.specs.declared.io.ErrorKind.TheVariants.{TimedOut}
 use Rattle.v_frame.specs.Prelude.{one_byte, two_bytes, Tables}
 use Rattle.v_frame_planar.specs.declared.error.PlanarError.TheVariants.{Read, Truncated}
@@ -15,6 +15,7 @@ use Rattle.v_frame_streams.specs.Pictures.{tables_of_bytes, Sizes}
 use Rattle.v_frame_streams.specs.Streams.{stream_bytes, written_bytes}
 use Rattle.v_frame_streams.specs.declared.error.Problem.TheVariants.{EmptyCrop, Stream}
 use Rattle.v_frame_streams.specs.declared.stream.Container.TheVariants.{Raw}
+use Rattle.v_frame_formats.specs.Sums.{added}
 use Rattle.v_frame_formats.specs.declared.format.VideoFormat.TheVariants.{Planar}
 
 -- 854 columns become 427, and these 214
@@ -104,3 +105,18 @@ end_inside_a_frame_has_none = refl
 
 empty_crop_has_none : cause_of EmptyCrop (Some TimedOut) ≡ None
 empty_crop_has_none = refl
+
+-- five bytes of six were found, and none is left
+broken_frame : 5 < 6 → StopsFrame (record { bytes = Some (70 ∷ []); failures = 0 })
+    (record { bytes = Some []; failures = 0 }) 6 (Stream (Planar (Truncated 6 5)))
+broken_frame less = (refl, less, refl)
+
+-- one read failed
+failed_frame : StopsFrame (record { bytes = Some (70 ∷ []); failures = 2 })
+    (record { bytes = None; failures = 3 }) 6 (Stream (Planar Read))
+failed_frame = (refl, refl)
+
+-- chroma is added where both have it
+sums_are_added : added (record { y = 1; u = Some 2; v = None }) (record { y = 3; u = Some 4; v = Some 5 })
+    ≡ record { y = 4; u = Some 6; v = None }
+sums_are_added = refl

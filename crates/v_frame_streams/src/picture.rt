@@ -12,7 +12,7 @@ ghost use Rattle.v_frame_streams.specs.Stops.{IsAtNextFrame};
 ghost use Rattle.v_frame_streams.specs.MadeFor.{IsMadeFor};
 ghost use Rattle.v_frame_streams.specs.Pictures.{sizes_in, tables_in_layout, tables_of_bytes, AreEven, IsEven, ReadsTables};
 ghost use Rattle.v_frame_streams.specs.Plans.{shape_of, FitsLayout};
-ghost use Rattle.v_frame_streams.specs.Sources.{bytes_left, stream_of};
+ghost use Rattle.v_frame_streams.specs.Sources.{bytes_left, stream_of, unread_of};
 ghost use Rattle.v_frame_streams.specs.Streams.{frames_after};
 
 use crate::converting::sizes_are_laid_out;
@@ -122,7 +122,8 @@ impl<T: Pixel> Picture<T> {
         ensures read { IfOk result (ReadsTables T.form source.old.container source.old.frame_len
             source.old.layout (sizes_of (tables_of self.old.frame)) (bytes_left R.remaining source.old)
             (bytes_left R.remaining source.new) self.new.bytes.items (tables_of self.new.frame)) }
-        ensures problem { IfErr result (λ error. StopsFrame source.old.frame_len error.problem) }
+        ensures problem { IfErr result (λ error. StopsFrame (unread_of R.remaining source.old)
+            (unread_of R.remaining source.new) source.old.frame_len error.problem) }
         ensures stopped { IfErr result (IsAtNextFrame source.new) }
         ensures same { stream_of source.new ≡ stream_of source.old }
         ensures made { IsMadeFor T.form source.new self.new }

@@ -4,7 +4,7 @@ ghost use Rattle.std.specs.Io.Buffered.{reader_remaining};
 ghost use Rattle.v_frame_y4m.specs.Frames.{frame_byte_count};
 ghost use Rattle.v_frame_y4m.specs.Header.{IsWritable};
 ghost use Rattle.std.proofs.Props.{props};
-ghost use Rattle.v_frame_streams.specs.Errors.{HasLength, IsAtStart, StopsFrame, StopsOpening};
+ghost use Rattle.v_frame_streams.specs.Errors.{HasLength, IsAtStart, StopsFrame, StopsInside, StopsOpening};
 ghost use Rattle.v_frame_streams.specs.Layouts.{HoldsColor};
 ghost use Rattle.v_frame_streams.specs.Streams.{ReadsHeaderLine};
 
@@ -40,7 +40,7 @@ impl<R: io::Read> Source<R> {
     ghost use Rattle.v_frame_planar.specs.declared.error.PlanarError.TheVariants.{Truncated};
     ghost use Rattle.v_frame_y4m.specs.declared.error.Y4mError.TheVariants.{Planar};
     ghost use Rattle.v_frame_streams.specs.Stops.{IsAtNextFrame};
-    ghost use Rattle.v_frame_streams.specs.Sources.{bytes_left, stream_of, IsOpened};
+    ghost use Rattle.v_frame_streams.specs.Sources.{bytes_left, stream_of, unread_of, IsOpened};
     ghost use Rattle.v_frame_streams.specs.Streams.{frames_after, ReadsLine, ReadsNext};
 
     /// Reads the header line of a YUV4MPEG2 stream, or one that stands for it. Its frames are left to be read.
@@ -181,7 +181,9 @@ impl<R: io::Read> Source<R> {
         requires within { length front.old ≤ self.old.frame_len }
         ensures read { IfOk result (ReadsNext (bytes_left R.remaining self.old)
             (bytes_left R.remaining self.new) self.old.container front.new) }
-        ensures problem { IfErr result (λ error. StopsFrame self.old.frame_len error.problem) }
+        ensures uncounted { OnOk result (self.new.reader.failures ≡ self.old.reader.failures) }
+        ensures problem { IfErr result (λ error. StopsFrame (unread_of R.remaining self.old)
+            (unread_of R.remaining self.new) self.old.frame_len error.problem) }
         ensures stopped { IfErr result (IsAtNextFrame self.new) }
         ensures same { stream_of self.new ≡ stream_of self.old }
         ensures frames { self.new.frames ≡ self.old.frames }
@@ -213,7 +215,9 @@ impl<R: io::Read> Source<R> {
         requires { before + length part.old ≤ self.old.frame_len }
         ensures read { OnOk result (Consumes (bytes_left R.remaining self.old)
             (bytes_left R.remaining self.new) part.new) }
-        ensures problem { IfErr result (λ error. StopsFrame self.old.frame_len error.problem) }
+        ensures uncounted { OnOk result (self.new.reader.failures ≡ self.old.reader.failures) }
+        ensures problem { IfErr result (λ error. StopsInside (unread_of R.remaining self.old)
+            (unread_of R.remaining self.new) self.old.frame_len error.problem) }
         ensures stopped { IfErr result (IsAtNextFrame self.new) }
         ensures same { stream_of self.new ≡ stream_of self.old }
         ensures frames { self.new.frames ≡ self.old.frames }
@@ -230,7 +234,9 @@ impl<R: io::Read> Source<R> {
     fn read_line(&mut self) -> Result<bool, StreamError>
         ensures read { IfOk result (ReadsLine (bytes_left R.remaining self.old)
             (bytes_left R.remaining self.new)) }
-        ensures problem { IfErr result (λ error. StopsFrame self.old.frame_len error.problem) }
+        ensures uncounted { OnOk result (self.new.reader.failures ≡ self.old.reader.failures) }
+        ensures problem { IfErr result (λ error. StopsFrame (unread_of R.remaining self.old)
+            (unread_of R.remaining self.new) self.old.frame_len error.problem) }
         ensures stopped { IfErr result (IsAtNextFrame self.new) }
         ensures same { stream_of self.new ≡ stream_of self.old }
         ensures frames { self.new.frames ≡ self.old.frames }
@@ -248,7 +254,9 @@ impl<R: io::Read> Source<R> {
             (bytes_left R.remaining self.new) (take found part.new)) }
         ensures at_end { IfOk result (λ found. found < length part.new
             → IsAtEnd (bytes_left R.remaining self.new)) }
-        ensures problem { IfErr result (λ error. StopsFrame self.old.frame_len error.problem) }
+        ensures uncounted { OnOk result (self.new.reader.failures ≡ self.old.reader.failures) }
+        ensures problem { IfErr result (λ error. StopsInside (unread_of R.remaining self.old)
+            (unread_of R.remaining self.new) self.old.frame_len error.problem) }
         ensures stopped { IfErr result (IsAtNextFrame self.new) }
         ensures same { stream_of self.new ≡ stream_of self.old }
         ensures frames { self.new.frames ≡ self.old.frames }
@@ -262,9 +270,8 @@ impl<R: io::Read> Source<R> {
 
     /// Returns the error of a stream that came to its end inside a frame.
     fn truncated(&self, found: usize) -> StreamError
-        requires { found < self.now.frame_len }
         ensures place { IsAtNextFrame self.now result }
-        ensures problem { StopsFrame self.now.frame_len result.problem }
+        ensures problem { result.problem ≡ Problem.Stream (Planar (Truncated self.now.frame_len found)) }
     {
         self.stopped(Y4mError::Planar(PlanarError::Truncated {
             expected: self.frame_len,

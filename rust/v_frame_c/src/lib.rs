@@ -13,5 +13,6 @@ mod foreign;
 mod generated {
     pub mod v_frame_c;
     pub mod v_frame_png_c;
+    pub mod v_frame_slices;
     pub mod v_frame_y4m_c;
 }

@@ -21,7 +21,7 @@ impl Draws {
 fn comparisons_are_those_of_plain_loops() {
     let mut draws = Draws(2026);
     for _ in 0..300 {
-        let (width, height) = (1 + usize::from(draws.next() % 40), 1 + usize::from(draws.next() % 6));
+        let (width, height) = (1 + usize::from(draws.next() % 140), 1 + usize::from(draws.next() % 6));
         let stride = width + usize::from(draws.next() % 5);
         let length = stride * (height - 1) + width;
         let (a, b) = (draws.samples(length), draws.samples(length));

@@ -77,8 +77,6 @@ fn sum_of_any_size<T: Copy, D: Difference<T>>(a: &RowsRef<'_, T>, b: &RowsRef<'_
     match a.width() {
         8 => sum_of_size::<T, D>(a, b, 8, a.height()),
         16 => sum_of_size::<T, D>(a, b, 16, a.height()),
-        32 => sum_of_size::<T, D>(a, b, 32, a.height()),
-        64 => sum_of_size::<T, D>(a, b, 64, a.height()),
         _ => sum_of_any_width::<T, D>(a, b),
     }
 }

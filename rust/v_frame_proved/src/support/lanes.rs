@@ -204,6 +204,7 @@ impl<T: Whole, const N: usize> Simd<T, N> {
         for lane in 0..N {
             self.0[lane] = self.0[lane].distance(other.0[lane]);
         }
+        end_loads();
         self
     }
 

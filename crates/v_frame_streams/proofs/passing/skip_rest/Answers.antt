@@ -20,6 +20,7 @@ loop-done-preserved g c =
         Consumes-trans _ _ _ _ _ before.read.1 done.read,
         length-append before.read.0 part ∙ omega (arith, before.read.2, long, before.from),
       );
+      uncounted = done.uncounted ∙ before.uncounted;
       same = done.same ∙ before.same;
       frames = done.frames ∙ before.frames;
       size = length-append part (drop count block) ∙ omega (arith, long, length-drop count block, fits, before.size);

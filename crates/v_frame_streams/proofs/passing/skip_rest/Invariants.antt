@@ -10,6 +10,7 @@ invariant-loop-done g l = record {
   within : l.done ≤ l.fn.source.frame_len;
   read : ConsumesSome (bytes_left g.R.Read.remaining l.fn.source) (bytes_left g.R.Read.remaining l.source)
       (l.done - l.before);
+  uncounted : l.source.reader.failures ≡ l.fn.source.reader.failures;
   same : stream_of l.source ≡ stream_of l.fn.source;
   frames : l.source.frames ≡ l.fn.source.frames;
   size : length l.block ≡ l.size;

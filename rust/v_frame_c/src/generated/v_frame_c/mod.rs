@@ -3,13 +3,6 @@
 //! tests everything that it can, and answers a status. The header `c_interface/include/v_frame.h` declares them
 //! all, and says what C still has to promise.
 
-mod change;
-mod clipped;
-mod colors;
-mod compare;
-mod compose;
-mod convert;
-mod counts;
 mod exports_change;
 mod exports_clipped;
 mod exports_colors;
@@ -18,6 +11,7 @@ mod exports_compose;
 mod exports_convert;
 mod exports_counts;
 mod exports_measures;
+mod exports_parts;
 mod exports_range;
 mod exports_semi_planar;
 mod exports_sizes;
@@ -25,17 +19,4 @@ mod exports_statistics;
 mod exports_top_bits;
 mod exports_turn;
 mod exports_whole;
-mod frame_parts;
-mod halves;
-mod layout;
-mod measures;
-mod range;
-mod resize;
-mod samples;
-mod semi_planar;
-mod statistics;
-mod status;
-mod top_bits;
-mod turn;
 mod version;
-mod whole;

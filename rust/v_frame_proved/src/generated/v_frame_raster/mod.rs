@@ -7,4 +7,5 @@ mod halving;
 #[doc(hidden)]
 pub mod laws;
 pub mod pixel;
+mod row_lanes;
 mod row_sums;

@@ -19,6 +19,7 @@
 //! ```
 
 use crate::generated::v_frame_raster::halving::{halve_bytes, halve_words};
+use crate::generated::v_frame_raster::row_lanes::{absolute_in_lanes, is_of_larger_block, squared_in_lanes};
 use crate::generated::v_frame_raster::row_sums::{Absolute, Squared, sum_over_rows};
 use core::fmt::{Binary, Debug, Display, LowerHex, Octal, UpperHex};
 use core::hash::Hash;
@@ -225,12 +226,20 @@ impl PixelCalls for u16 {
 
     #[inline(always)]
     fn pixel_sum_of_absolute_differences(a: &[u16], b: &[u16]) -> u128 {
-        sum_over_rows::<u16, Absolute>(a, b)
+        if is_of_larger_block(a.len()) {
+            absolute_in_lanes(a, b)
+        } else {
+            sum_over_rows::<u16, Absolute>(a, b)
+        }
     }
 
     #[inline(always)]
     fn pixel_sum_of_squared_errors(a: &[u16], b: &[u16]) -> u128 {
-        sum_over_rows::<u16, Squared>(a, b)
+        if is_of_larger_block(a.len()) {
+            squared_in_lanes(a, b)
+        } else {
+            sum_over_rows::<u16, Squared>(a, b)
+        }
     }
 
     #[inline]

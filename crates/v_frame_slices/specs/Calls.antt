@@ -1,0 +1,45 @@
+-- What calls promise whatever they do: their status, what holds where that is 0, and what stays.
+use Rattle.std.specs.Prelude.{ℕ, ◌≡◌, ◌≢◌, Bool, List, length}
+use Rattle.v_frame.specs.Prelude.{KeepsRest, Table}
+use Rattle.v_frame_slices.specs.Layout.{fits, picture}
+use Rattle.v_frame_slices.specs.Status.{same_size, status_of_number, status_of_two}
+use Rattle.v_frame_slices.specs.declared.layout.Rows.{Rows}
+
+-- beside its rows a buffer stays, and all of it where the call is refused
+pub record Keeps {T : Type 0} (rows : Rows) (old new : List T) (status : ℕ) : Type 0 where
+  pub rest : KeepsRest rows.width rows.height rows.stride old new
+  pub refused : status ≢ 0 → new ≡ old
+
+-- the status is this one; where it is 0 what was written means this, and otherwise it is as before
+pub record Answers {A : Type 0} (wanted : ℕ) (meaning : Type 0) (old new : A)
+    (status : ℕ) : Type 0 where
+  pub answer : status ≡ wanted
+  pub found : status ≡ 0 → meaning
+  pub refused : status ≢ 0 → new ≡ old
+
+-- the same of a buffer, of which all beside the rows stays
+pub record Writes {T : Type 0} (wanted : ℕ) (meaning : Type 0) (rows : Rows) (old new : List T)
+    (status : ℕ) : Type 0 where
+  pub answer : status ≡ wanted
+  pub written : status ≡ 0 → meaning
+  pub rest : KeepsRest rows.width rows.height rows.stride old new
+  pub refused : status ≢ 0 → new ≡ old
+
+-- two pictures of one size that are compared
+abbrev pub status_of_pair : {T : Type 0} → Rows → Rows → List T → List T → ℕ
+status_of_pair a_rows b_rows a b =
+    status_of_two (fits a_rows (length a)) (fits b_rows (length b)) (same_size a_rows b_rows)
+
+-- rows that are made of others: whether numbers stand for a choice, whether the rows of both buffers
+-- fit, and whether their sizes belong together
+module _ {S T : Type 0} (rows source_rows : Rows) (source : List S) (old new : List T)
+    (status : ℕ) where
+  abbrev pub Makes : Bool → Bool → Type 0 → Type 0
+  Makes known sizes meaning =
+      Writes (status_of_number known (status_of_two (fits rows (length old))
+      (fits source_rows (length source)) sizes))
+      meaning rows old new status
+
+  -- made so that they show this
+  abbrev pub Shows : Bool → Bool → Table T → Type 0
+  Shows known sizes table = Makes known sizes (picture rows new ≡ table)

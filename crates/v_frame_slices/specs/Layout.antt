@@ -1,0 +1,36 @@
+-- Rows in a buffer as C lays them out, and results that C reads.
+use Rattle.std.specs.Prelude.{ℕ, ◌+◌, ◌-◌, ◌*◌, ◌^◌, List, Bool, ◌&&◌, nat_lt, nat_le}
+use Rattle.v_frame.specs.Prelude.{Geometry, Table, alloc_size_of, geometry_of, isize_max, strided_rows}
+use Rattle.v_frame_slices.specs.declared.layout.Bordered.{Bordered}
+use Rattle.v_frame_slices.specs.declared.layout.Place.{Place}
+use Rattle.v_frame_slices.specs.declared.layout.Rows.{Rows}
+use Rattle.v_frame_slices.specs.declared.layout.Sum.{Sum}
+
+-- whether rows aren't empty, don't overlap and end within so many entries
+abbrev pub fits : Rows → ℕ → Bool
+fits rows entries =
+    nat_lt 0 rows.width && (nat_lt 0 rows.height && (nat_le rows.width rows.stride
+    && nat_le (rows.stride * (rows.height - 1) + rows.width) entries))
+
+-- the table of these rows
+abbrev pub picture : {T : Type 0} → Rows → List T → Table T
+picture rows buffer = strided_rows rows.width rows.height rows.stride buffer
+
+-- a number of 128 bits in two halves
+abbrev pub number_of : Sum → ℕ
+number_of sum = sum.low + 2 ^ 64 * sum.high
+
+-- the place that is none
+abbrev pub nowhere : Place
+nowhere = record { x = 0; y = 0; found = 0 }
+
+-- the geometry of a picture in a border
+abbrev pub geometry_in : Bordered → Geometry
+geometry_in b = geometry_of b.width b.height b.pad_left b.pad_right b.pad_top b.pad_bottom 1 1
+
+-- whether there is a picture, and it ends with its border within so many entries, and within half
+-- of what can be addressed
+abbrev pub is_bordered : Bordered → ℕ → Bool
+is_bordered b entries =
+    nat_lt 0 b.width && (nat_lt 0 b.height && (nat_le (2 * alloc_size_of (geometry_in b)) isize_max
+    && nat_le (alloc_size_of (geometry_in b)) entries))

@@ -1,0 +1,51 @@
+-- Numbers that C gives in place of a choice, and whether they are one.
+use Rattle.std.specs.Prelude.{ℕ, ◌+◌, ◌-◌, ◌*◌, ◌/◌, ◌==◌, Bool, true, false, ◌&&◌, if◌then◌else◌, nat_eq, nat_le, nat_lt, map, reverse}
+use Rattle.v_frame.specs.Prelude.{Table}
+use Rattle.v_frame_slices.specs.declared.layout.Rows.{Rows}
+use Rattle.v_frame_slices.specs.Status.{same_size}
+use Rattle.v_frame_convert.specs.Prelude.{in_full_range, in_limited_range}
+use Rattle.v_frame_convert.specs.declared.range.Component.{Component}
+use Rattle.v_frame_convert.specs.declared.range.Component.TheVariants.{Luma, Chroma}
+use Rattle.v_frame_turn.specs.Turn.{rotated_180, rotated_270, rotated_90, transposed}
+
+-- upside down, mirrored, by 180 degrees, transposed, by 90 and by 270 degrees clockwise
+abbrev pub is_turn : ℕ → Bool
+is_turn number = nat_lt number 6
+
+abbrev pub turned_by : {T : Type 0} → ℕ → Table T → Table T
+turned_by number rows =
+    if number == 0 then reverse rows
+    else (if number == 1 then map reverse rows
+    else (if number == 2 then rotated_180 rows
+    else (if number == 3 then transposed rows
+    else (if number == 4 then rotated_90 rows else rotated_270 rows))))
+
+-- from the fourth on rows become columns
+abbrev pub turned_size : ℕ → Rows → Rows → Bool
+turned_size number a b =
+    if nat_lt number 3 then same_size a b
+    else (nat_eq a.width b.height && nat_eq a.height b.width)
+
+-- a bit depth that pixels of so many bytes can have
+abbrev pub is_depth : ℕ → ℕ → Bool
+is_depth bytes depth = nat_le 8 depth && nat_le depth (8 * bytes)
+
+-- so many columns or rows are one for each `ratio` that is begun
+abbrev pub is_begun : ℕ → ℕ → ℕ → Bool
+is_begun size ratio items = nat_eq items ((size + (ratio - 1)) / ratio)
+
+abbrev pub subsampled_size : ℕ → ℕ → Rows → Rows → Bool
+subsampled_size ratio_x ratio_y a b =
+    is_begun a.width ratio_x b.width && is_begun a.height ratio_y b.height
+
+-- luma, and a component of chroma
+abbrev pub is_component : ℕ → Bool
+is_component number = nat_lt number 2
+
+abbrev pub component_by : ℕ → Component
+component_by number = if number == 0 then Luma else Chroma
+
+-- a value in the full range, or in the limited one
+abbrev pub change_by : Bool → Component → ℕ → ℕ → ℕ
+change_by true = in_full_range
+change_by false = in_limited_range

@@ -1,0 +1,99 @@
+//! Changes of the rows of a buffer, and copies between rows and bytes, for any type of pixel.
+ghost use Rattle.v_frame_slices.specs.Made.{IsCopied, IsDecoded, IsEncoded, IsFilled, IsHalved, PadsBorder};
+
+use crate::layout::{Bordered, Rows};
+use crate::status::{FIRST, OK, SECOND, SIZES};
+use v_frame::pixel::Pixel;
+use v_frame::plane::{copy_rows, decode_rows, encode_rows};
+use v_frame_ops::{pad_buffer, rows};
+
+/// Sets each pixel of the rows to `pixel`.
+pub fn fill<T: Pixel>(rows: &Rows, buffer: &mut [T], pixel: T) -> u32
+    ensures made { IsFilled rows.now pixel buffer.old buffer.new result }
+{
+    if !rows.fit(buffer.len()) {
+        return FIRST;
+    }
+    rows::fill(buffer, rows.width, rows.height, rows.stride, pixel);
+    OK
+}
+
+/// Copies the picture of the second rows into the first ones.
+pub fn copy<T: Pixel>(rows: &Rows, buffer: &mut [T], source_rows: &Rows, source: &[T]) -> u32
+    ensures made { IsCopied rows.now source_rows.now source.now buffer.old buffer.new result }
+{
+    if !rows.fit(buffer.len()) {
+        return FIRST;
+    }
+    let Some(source) = source_rows.of(source) else {
+        return SECOND;
+    };
+    if !rows.same_size(source_rows) {
+        return SIZES;
+    }
+    copy_rows(&source, buffer, rows.width, rows.height, rows.stride);
+    OK
+}
+
+/// Makes the first rows show the picture of the second ones in half the size.
+pub fn downscale<T: Pixel>(rows: &Rows, buffer: &mut [T], source_rows: &Rows, source: &[T]) -> u32
+    ensures made { IsHalved rows.now source_rows.now source.now buffer.old buffer.new result T.form }
+{
+    if !rows.fit(buffer.len()) {
+        return FIRST;
+    }
+    let Some(source) = source_rows.of(source) else {
+        return SECOND;
+    };
+    if !rows.is_half_of(source_rows) {
+        return SIZES;
+    }
+    rows::downscale(&source, buffer, rows.width, rows.height, rows.stride);
+    OK
+}
+
+/// Decodes rows of bytes into rows of pixels of two bytes. The rows of the source count bytes.
+pub fn decode(rows: &Rows, buffer: &mut [u16], source_rows: &Rows, source: &[u8]) -> u32
+    ensures made { IsDecoded rows.now source_rows.now source.now buffer.old buffer.new result }
+{
+    if !rows.fit(buffer.len()) {
+        return FIRST;
+    }
+    let Some(source) = source_rows.of(source) else {
+        return SECOND;
+    };
+    if !rows.has_half_the_width_of(source_rows) {
+        return SIZES;
+    }
+    decode_rows(&source, buffer, rows.width, rows.height, rows.stride);
+    OK
+}
+
+/// Encodes rows of pixels of two bytes into rows of bytes. The rows of the buffer count bytes.
+pub fn encode(rows: &Rows, buffer: &mut [u8], source_rows: &Rows, source: &[u16]) -> u32
+    ensures made { IsEncoded rows.now source_rows.now source.now buffer.old buffer.new result }
+{
+    if !rows.fit(buffer.len()) {
+        return FIRST;
+    }
+    let Some(source) = source_rows.of(source) else {
+        return SECOND;
+    };
+    if !source_rows.has_half_the_width_of(rows) {
+        return SIZES;
+    }
+    encode_rows(&source, buffer, rows.width, rows.height, rows.stride);
+    OK
+}
+
+/// Makes each entry of the border the pixel nearest to it. What lies inside it stays, and so does all after it.
+pub fn pad<T: Pixel>(layout: &Bordered, buffer: &mut [T]) -> u32
+    ensures pads { PadsBorder layout.now buffer.old buffer.new result }
+{
+    let Some((geometry, size)) = layout.of(buffer.len()) else {
+        return FIRST;
+    };
+    let (whole, _) = buffer.split_at_mut(size);
+    pad_buffer(whole, geometry);
+    OK
+}

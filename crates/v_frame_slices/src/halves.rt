@@ -1,0 +1,54 @@
+//! Pictures in half the size, rounded up, for any type of pixel.
+ghost use Rattle.v_frame_slices.specs.Made.{IsScaled};
+ghost use Rattle.v_frame_convert.specs.declared.scale.Scale.TheVariants.{Half, Same};
+
+use crate::layout::Rows;
+use crate::status::{FIRST, OK, SECOND, SIZES};
+use v_frame::pixel::Pixel;
+use v_frame_convert::rows as conversions;
+
+/// Makes the first rows show the picture of the second ones in half the size, rounded up. Past an edge the last column and the
+/// last row are repeated.
+pub fn downscale_to_edge<T: Pixel>(
+    rows: &Rows,
+    buffer: &mut [T],
+    source_rows: &Rows,
+    source: &[T],
+) -> u32
+    ensures made { IsScaled rows.now source_rows.now source.now buffer.old buffer.new result T.form 2 2 Half Half }
+{
+    if !rows.fit(buffer.len()) {
+        return FIRST;
+    }
+    let Some(source) = source_rows.of(source) else {
+        return SECOND;
+    };
+    if !source_rows.is_subsampled_by(rows, 2, 2) {
+        return SIZES;
+    }
+    conversions::downscale_to_edge(&source, buffer, rows.width, rows.height, rows.stride);
+    OK
+}
+
+/// Makes the first rows show the picture of the second ones with half as many columns, rounded up. Past an edge the last column
+/// is repeated.
+pub fn halve_columns<T: Pixel>(
+    rows: &Rows,
+    buffer: &mut [T],
+    source_rows: &Rows,
+    source: &[T],
+) -> u32
+    ensures made { IsScaled rows.now source_rows.now source.now buffer.old buffer.new result T.form 2 1 Half Same }
+{
+    if !rows.fit(buffer.len()) {
+        return FIRST;
+    }
+    let Some(source) = source_rows.of(source) else {
+        return SECOND;
+    };
+    if !source_rows.is_subsampled_by(rows, 2, 1) {
+        return SIZES;
+    }
+    conversions::halve_columns(&source, buffer, rows.width, rows.height, rows.stride);
+    OK
+}

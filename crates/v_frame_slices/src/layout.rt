@@ -1,0 +1,154 @@
+//! What C and the exports give each other beside slices. Any bytes in these are a value.
+ghost use Rattle.std.specs.Prelude.{◌≡◌, ◌*◌, ◌<◌, ◌↔◌, nat_eq, IsTrue, IfSome, SomeIff, length};
+ghost use Rattle.v_frame.specs.Prelude.{alloc_size_of, height_of, width_of, RowsFit};
+ghost use Rattle.v_frame_slices.specs.Layout.{fits, geometry_in, is_bordered, number_of, picture};
+ghost use Rattle.v_frame_slices.specs.Numbers.{subsampled_size, turned_size};
+ghost use Rattle.v_frame_slices.specs.Status.{encoded_size, same_size, times_size};
+
+use v_frame::plane::{PlaneGeometry, RowsRef, rows_fit};
+use v_frame_convert::subsampled_size;
+
+/// Rows in a buffer: row `y` is the `width` entries from index `stride * y` on. All counts are of entries.
+#[repr(C)]
+pub struct Rows {
+    pub width: usize,
+    pub height: usize,
+    pub stride: usize,
+}
+
+/// A picture in a border, which is the whole of a buffer, or its beginning. The stride is `pad_left + width + pad_right`.
+#[derive(Drop)]
+#[repr(C)]
+pub struct Bordered {
+    pub width: usize,
+    pub height: usize,
+    pub pad_left: usize,
+    pub pad_right: usize,
+    pub pad_top: usize,
+    pub pad_bottom: usize,
+}
+
+/// A number of 128 bits.
+#[derive(Drop)]
+#[repr(C)]
+pub struct Sum {
+    pub low: u64,
+    pub high: u64,
+}
+
+/// A column and a row, where `found` is 1. Where it is 0 both are 0.
+#[derive(Drop)]
+#[repr(C)]
+pub struct Place {
+    pub x: usize,
+    pub y: usize,
+    pub found: u32,
+}
+
+impl Rows {
+    /// Returns whether the rows aren't empty, don't overlap and end within so many entries.
+    pub fn fit(&self, entries: usize) -> bool
+        ensures value { result ≡ fits self.now entries }
+        ensures meaning { IsTrue result ↔ RowsFit self.now.width self.now.height self.now.stride entries }
+    {
+        rows_fit(self.width, self.height, self.stride, entries)
+    }
+
+    /// Returns these rows of a buffer, where they fit.
+    pub fn of<'a, T>(&self, buffer: &'a [T]) -> Option<RowsRef<'a, T>>
+        ensures rows { SomeIff result (IsTrue (fits self.now (length buffer.now)))
+            (picture self.now buffer.now) }
+        ensures width { IfSome result (λ rows. width_of rows ≡ self.now.width) }
+        ensures height { IfSome result (λ rows. height_of rows ≡ self.now.height) }
+    {
+        RowsRef::new(buffer, self.width, self.height, self.stride)
+    }
+
+    /// Returns whether two pictures have one size.
+    pub fn same_size(&self, other: &Rows) -> bool
+        ensures { result ≡ same_size self.now other.now }
+    {
+        self.width == other.width && self.height == other.height
+    }
+
+    /// Returns whether another picture has twice as many columns and rows.
+    pub fn is_half_of(&self, other: &Rows) -> bool
+        ensures { result ≡ times_size 2 self.now other.now }
+    {
+        is_twice(other.width, self.width) && is_twice(other.height, self.height)
+    }
+
+    /// Returns whether other rows are as many, and have two entries for each of these.
+    pub fn has_half_the_width_of(&self, other: &Rows) -> bool
+        ensures { result ≡ encoded_size 2 self.now other.now }
+    {
+        is_twice(other.width, self.width) && other.height == self.height
+    }
+}
+
+impl Rows {
+    /// Returns whether this has the size of another picture that is turned in the way of this number.
+    pub fn has_turned_size_of(&self, other: &Rows, number: u32) -> bool
+        ensures { result ≡ turned_size number self.now other.now }
+    {
+        if number < 3 {
+            return self.same_size(other);
+        }
+        self.width == other.height && self.height == other.width
+    }
+
+    /// Returns whether another picture has a column for each `ratio_x` of these that are begun, and a row for each `ratio_y`.
+    pub fn is_subsampled_by(&self, other: &Rows, ratio_x: usize, ratio_y: usize) -> bool
+        requires columns { 0 < ratio_x }
+        requires rows { 0 < ratio_y }
+        ensures { result ≡ subsampled_size ratio_x ratio_y self.now other.now }
+    {
+        other.width == subsampled_size(self.width, ratio_x)
+            && other.height == subsampled_size(self.height, ratio_y)
+    }
+}
+
+/// Returns whether a number is twice another one.
+fn is_twice(number: usize, half: usize) -> bool
+    ensures { result ≡ nat_eq number (2 * half) }
+{
+    number % 2 == 0 && number / 2 == half
+}
+
+impl Bordered {
+    /// Returns the geometry, and how many entries it takes, where so many are there.
+    pub fn of(&self, entries: usize) -> Option<(PlaneGeometry, usize)>
+        ensures { let geometry = geometry_in self.now in
+            SomeIff result (IsTrue (is_bordered self.now entries))
+            (geometry, alloc_size_of geometry) }
+    {
+        let geometry = PlaneGeometry::new(
+            self.width,
+            self.height,
+            self.pad_left,
+            self.pad_right,
+            self.pad_top,
+            self.pad_bottom,
+            1,
+            1,
+        )?;
+        let size = geometry.checked_alloc_size()?;
+        if size > entries {
+            return None;
+        }
+        Some((geometry, size))
+    }
+}
+
+impl Sum {
+    /// Returns a number in its two halves.
+    pub fn of(number: u128) -> Sum
+        ensures { number_of result ≡ number }
+    {
+        let word = 1 << 64;
+        Sum {
+            low: (number % word) as u64,
+            high: (number / word) as u64,
+        }
+    }
+}
