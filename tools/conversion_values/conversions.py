@@ -79,7 +79,7 @@ def range_lines(factors):
 
 def upscale_lines(factors):
     for kind in ("u8", "u16"):
-        for across, down in ((1, 1), (2, 2), (4, 1), (3, 2), (2, 1)):
+        for across, down in ((1, 1), (2, 2), (4, 1), (4, 4), (3, 2), (2, 1)):
             layout = (covering(ODD[0], across), covering(ODD[1], down), 2, 1, 0, 1)
             rows = repeated(Plane.numbered(kind, layout, factors.source).rows(), *ODD[:2], across, down)
             yield f"upscale {kind} {across} {down} {text(layout)} {text(ODD)} = " \

@@ -10,7 +10,8 @@ use v_frame_measures::{frame_mean_squared_error, frames_have_one_size};
 use v_frame_semi_planar::{SemiPlanarFormat, semi_planar_len};
 use v_frame_turn::Turn;
 use v_frame_turn::frames::{
-    flip_horizontal_in_place, flip_vertical_in_place, rotate_180_in_place, turn_frame,
+    flip_horizontal, flip_horizontal_in_place, flip_vertical, flip_vertical_in_place, rotate_90,
+    rotate_180, rotate_180_in_place, rotate_270, transpose, turn_frame,
 };
 
 /// Returns a frame whose planes show these bytes. `None` where there is no memory.
@@ -66,6 +67,36 @@ pub fn push_mirrored<T: Pixel>(
 ) -> Option<()> {
     turn_frame(source, target, Turn::FlipHorizontal).ok()?;
     push_planes(text, "mirrored", target)
+}
+
+/// Shows a frame in another one upside down, then mirrored, then turned by 180 degrees.
+pub fn push_flips<T: Pixel>(
+    text: &mut String,
+    source: &Frame<T>,
+    target: &mut Frame<T>,
+) -> Option<()> {
+    flip_vertical(source, target).ok()?;
+    push_planes(text, "upside down", target)?;
+    flip_horizontal(source, target).ok()?;
+    push_planes(text, "mirrored", target)?;
+    rotate_180(source, target).ok()?;
+    push_planes(text, "by 180 degrees", target)
+}
+
+/// Shows a frame in one of 2 columns and 4 rows, transposed, then turned by 90, then by 270 degrees.
+pub fn push_quarter_turns<T: Pixel>(
+    alloc: Global,
+    text: &mut String,
+    source: &Frame<T>,
+) -> Option<()> {
+    let builder = FrameBuilder::new(2, 4, ChromaSubsampling::Yuv420, source.bit_depth.get());
+    let mut target = builder.build::<T>(alloc).ok()?;
+    transpose(source, &mut target).ok()?;
+    push_planes(text, "transposed", &target)?;
+    rotate_90(source, &mut target).ok()?;
+    push_planes(text, "by 90 degrees", &target)?;
+    rotate_270(source, &mut target).ok()?;
+    push_planes(text, "by 270 degrees", &target)
 }
 
 /// Appends a line of each plane.

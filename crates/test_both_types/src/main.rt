@@ -55,7 +55,9 @@ fn push_calls<T: Pixel>(alloc: Global, text: &mut String, planes: [&[u8]; 3]) ->
     planes::push_pixels(alloc, text, &first.y_plane.as_plane_ref().duplicate())?;
     planes::push_blends(text, &first.y_plane, &mask.y_plane, &mut second.y_plane)?;
     frames::push_errors(text, &first, &second)?;
+    frames::push_flips(text, &first, &mut second)?;
     frames::push_mirrored(text, &first, &mut second)?;
+    frames::push_quarter_turns(alloc, text, &first)?;
     writes::push_writes(text, &mut second.y_plane)?;
     writes::push_pairs(alloc, text, &first.y_plane.as_plane_ref())
 }

@@ -1,5 +1,5 @@
 //! Differences of the values of two planes, place by place.
-ghost use Rattle.std.specs.Prelude.{◌≡◌, ◌<◌, length, nat_lt};
+ghost use Rattle.std.specs.Prelude.{◌≡◌, ◌<◌, ◌^◌, length, nat_lt};
 ghost use Rattle.std.specs.Int.{abs_diff};
 ghost use Rattle.v_frame.specs.Prelude.{height_of, row_major, table_of, width_of};
 ghost use Rattle.v_frame_statistics.specs.Prelude.{passing_pairs};
@@ -69,21 +69,29 @@ pub(crate) fn greatest_difference_of_rows<T: Pixel>(
     found
 }
 
-/// Returns the greatest difference of two rows.
+/// Returns the greatest difference of two rows. It is kept as a pixel, so that those of bytes are compared as bytes.
 fn greatest_of_rows<T: Pixel>(row: &[T], other: &[T]) -> u16
     requires some { 0 < length row.now }
     requires same { length other.now ≡ length row.now }
     ensures bound { DifferNoMore T.form.value row.now other.now (length row.now) result }
     ensures there { DifferSomewhere T.form.value row.now other.now result }
 {
-    let mut greatest = difference_of(row[0], other[0]);
+    let mut greatest = pixel_of_difference(row[0], other[0]);
     for x in 1..row.len() {
-        let difference = difference_of(row[x], other[x]);
-        if difference > greatest {
+        let difference = pixel_of_difference(row[x], other[x]);
+        if difference.into_u16() > greatest.into_u16() {
             greatest = difference;
         }
     }
-    greatest
+    greatest.into_u16()
+}
+
+/// Returns the pixel whose value is how far those of two others are apart.
+#[inline(always)]
+fn pixel_of_difference<T: Pixel>(p: T, q: T) -> T
+    ensures { T.form.value result ≡ abs_diff (T.form.value p) (T.form.value q) }
+{
+    T::from_value(difference_of(p, q))
 }
 
 /// Returns the first index at which two rows have a difference.
@@ -103,7 +111,8 @@ fn first_place<T: Pixel>(row: &[T], other: &[T], difference: u16) -> usize
 /// Returns how far the values of two pixels are apart.
 #[inline(always)]
 pub(crate) fn difference_of<T: Pixel>(p: T, q: T) -> u16
-    ensures { result ≡ abs_diff (T.form.value p) (T.form.value q) }
+    ensures value { result ≡ abs_diff (T.form.value p) (T.form.value q) }
+    ensures fits { result < 256 ^ T.BYTES }
 {
     p.into_u16().abs_diff(q.into_u16())
 }

@@ -1,4 +1,5 @@
 pub mod Mapped
+mod Blends
 mod Changed
 mod Parts
 mod Tables

@@ -4,7 +4,7 @@ use Rattle.v_frame.specs.Prelude.{alloc_size_of, bytes_of_pixels, halved, pixel_
 use Rattle.v_frame_slices.specs.Calls.{Makes, Shows, Writes}
 use Rattle.v_frame_slices.specs.Clipped.{IsPutOn}
 use Rattle.v_frame_slices.specs.Layout.{fits, geometry_in, is_bordered, picture}
-use Rattle.v_frame_slices.specs.Numbers.{change_by, component_by, is_component, is_depth, is_turn, subsampled_size, turned_by, turned_size}
+use Rattle.v_frame_slices.specs.Numbers.{change_by, component_by, is_component, is_depth, is_turn, subsampled_size, turn_by, turned_size}
 use Rattle.v_frame_slices.specs.Sizes.{have_areas, is_counted}
 use Rattle.v_frame_slices.specs.Status.{encoded_size, same_size, status_of_one, status_of_three, times_size}
 use Rattle.v_frame_slices.specs.declared.layout.Bordered.{Bordered}
@@ -14,6 +14,7 @@ use Rattle.v_frame_convert.specs.declared.scale.Scale.{Scale}
 use Rattle.v_frame_ops.specs.Prelude.{blended, combined, difference_of, IsPadded}
 use Rattle.v_frame_raster.specs.Pixel.{pixels_of_bytes}
 use Rattle.v_frame_resize.specs.Prelude.{area_mean, nearest}
+use Rattle.v_frame_turn.specs.Prelude.{turned}
 
 -- every pixel is this one
 abbrev pub IsFilled : {T : Type 0} → Rows → T → List T → List T → ℕ → Type 0
@@ -38,8 +39,8 @@ module _ {T : Type 0} (rows source_rows : Rows) (source old new : List T) (statu
 
   abbrev pub IsTurned : ℕ → Type 0
   IsTurned number =
-      shows (is_turn number) (turned_size number rows source_rows)
-      (turned_by number (picture source_rows source))
+      shows (is_turn number) (turned_size (turn_by number) rows source_rows)
+      (turned (turn_by number) (picture source_rows source))
 
   abbrev pub IsUpscaled : ℕ → ℕ → Type 0
   IsUpscaled ratio_x ratio_y =

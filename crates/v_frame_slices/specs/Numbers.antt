@@ -1,30 +1,30 @@
 -- Numbers that C gives in place of a choice, and whether they are one.
-use Rattle.std.specs.Prelude.{ℕ, ◌+◌, ◌-◌, ◌*◌, ◌/◌, ◌==◌, Bool, true, false, ◌&&◌, if◌then◌else◌, nat_eq, nat_le, nat_lt, map, reverse}
-use Rattle.v_frame.specs.Prelude.{Table}
+use Rattle.std.specs.Prelude.{ℕ, ◌+◌, ◌-◌, ◌*◌, ◌/◌, ◌==◌, Bool, true, false, ◌&&◌, if◌then◌else◌, nat_eq, nat_le, nat_lt}
 use Rattle.v_frame_slices.specs.declared.layout.Rows.{Rows}
 use Rattle.v_frame_slices.specs.Status.{same_size}
 use Rattle.v_frame_convert.specs.Prelude.{in_full_range, in_limited_range}
 use Rattle.v_frame_convert.specs.declared.range.Component.{Component}
 use Rattle.v_frame_convert.specs.declared.range.Component.TheVariants.{Luma, Chroma}
-use Rattle.v_frame_turn.specs.Turn.{rotated_180, rotated_270, rotated_90, transposed}
+use Rattle.v_frame_turn.specs.Prelude.{exchanges}
+use Rattle.v_frame_turn.specs.declared.turns.Turn.{Turn as TheTurn}
+use Rattle.v_frame_turn.specs.declared.turns.Turn.TheVariants.{FlipVertical, FlipHorizontal, Rotate180}
+use Rattle.v_frame_turn.specs.declared.turns.Turn.TheVariants.{Transpose, Rotate90, Rotate270}
 
 -- upside down, mirrored, by 180 degrees, transposed, by 90 and by 270 degrees clockwise
 abbrev pub is_turn : ℕ → Bool
 is_turn number = nat_lt number 6
 
-abbrev pub turned_by : {T : Type 0} → ℕ → Table T → Table T
-turned_by number rows =
-    if number == 0 then reverse rows
-    else (if number == 1 then map reverse rows
-    else (if number == 2 then rotated_180 rows
-    else (if number == 3 then transposed rows
-    else (if number == 4 then rotated_90 rows else rotated_270 rows))))
+abbrev pub turn_by : ℕ → TheTurn
+turn_by number =
+    if number == 0 then FlipVertical
+    else (if number == 1 then FlipHorizontal
+    else (if number == 2 then Rotate180
+    else (if number == 3 then Transpose
+    else (if number == 4 then Rotate90 else Rotate270))))
 
--- from the fourth on rows become columns
-abbrev pub turned_size : ℕ → Rows → Rows → Bool
-turned_size number a b =
-    if nat_lt number 3 then same_size a b
-    else (nat_eq a.width b.height && nat_eq a.height b.width)
+abbrev pub turned_size : TheTurn → Rows → Rows → Bool
+turned_size turn a b =
+    if exchanges turn then nat_eq a.width b.height && nat_eq a.height b.width else same_size a b
 
 -- a bit depth that pixels of so many bytes can have
 abbrev pub is_depth : ℕ → ℕ → Bool

@@ -4,16 +4,17 @@ use Rattle.v_frame.specs.Prelude.{Table, one_byte}
 use Rattle.v_frame_convert.specs.declared.range.Component.TheVariants.{Chroma}
 use Rattle.v_frame_slices.specs.ColorChoice.{bytes_by, color_by}
 use Rattle.v_frame_slices.specs.Counts.{count_between}
-use Rattle.v_frame_slices.specs.Numbers.{component_by, is_begun, is_component, is_depth, is_turn, turned_by}
+use Rattle.v_frame_slices.specs.Numbers.{component_by, is_begun, is_component, is_depth, is_turn, turn_by}
+use Rattle.v_frame_turn.specs.Prelude.{turned}
 use Rattle.v_frame_slices.specs.TopBits.{in_top_bits, of_top_bits}
 
 abbrev one_row : Table ℕ
 one_row = (1 ∷ 2 ∷ 3 ∷ []) ∷ []
 
-clockwise : turned_by 4 one_row ≡ (1 ∷ []) ∷ (2 ∷ []) ∷ (3 ∷ []) ∷ []
+clockwise : turned (turn_by 4) one_row ≡ (1 ∷ []) ∷ (2 ∷ []) ∷ (3 ∷ []) ∷ []
 clockwise = refl
 
-the_other_way : turned_by 5 one_row ≡ (3 ∷ []) ∷ (2 ∷ []) ∷ (1 ∷ []) ∷ []
+the_other_way : turned (turn_by 5) one_row ≡ (3 ∷ []) ∷ (2 ∷ []) ∷ (1 ∷ []) ∷ []
 the_other_way = refl
 
 no_seventh : is_turn 6 ≡ false

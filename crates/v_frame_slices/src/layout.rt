@@ -3,10 +3,12 @@ ghost use Rattle.std.specs.Prelude.{◌≡◌, ◌*◌, ◌<◌, ◌↔◌, nat_
 ghost use Rattle.v_frame.specs.Prelude.{alloc_size_of, height_of, width_of, RowsFit};
 ghost use Rattle.v_frame_slices.specs.Layout.{fits, geometry_in, is_bordered, number_of, picture};
 ghost use Rattle.v_frame_slices.specs.Numbers.{subsampled_size, turned_size};
+ghost use Rattle.v_frame_turn.specs.Prelude.{exchanges, SizeFits};
 ghost use Rattle.v_frame_slices.specs.Status.{encoded_size, same_size, times_size};
 
 use v_frame::plane::{PlaneGeometry, RowsRef, rows_fit};
 use v_frame_convert::subsampled_size;
+use v_frame_turn::Turn;
 
 /// Rows in a buffer: row `y` is the `width` entries from index `stride * y` on. All counts are of entries.
 #[repr(C)]
@@ -87,14 +89,16 @@ impl Rows {
 }
 
 impl Rows {
-    /// Returns whether this has the size of another picture that is turned in the way of this number.
-    pub fn has_turned_size_of(&self, other: &Rows, number: u32) -> bool
-        ensures { result ≡ turned_size number self.now other.now }
+    /// Returns whether this has the size of another picture that is turned in this way.
+    pub fn has_turned_size_of(&self, other: &Rows, turn: Turn) -> bool
+        ensures value { result ≡ turned_size turn self.now other.now }
+        ensures meaning { IsTrue result → SizeFits (exchanges turn) other.now.width other.now.height
+            self.now.width self.now.height }
     {
-        if number < 3 {
-            return self.same_size(other);
+        if turn.exchanges_sizes() {
+            return self.width == other.height && self.height == other.width;
         }
-        self.width == other.height && self.height == other.width
+        self.same_size(other)
     }
 
     /// Returns whether another picture has a column for each `ratio_x` of these that are begun, and a row for each `ratio_y`.

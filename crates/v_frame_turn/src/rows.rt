@@ -8,7 +8,9 @@ mod flip;
 mod flip_in_place;
 mod quarter;
 mod row;
+mod ways;
 
 pub use flip::{flip_horizontal, flip_vertical, rotate_180};
 pub use flip_in_place::{flip_horizontal_in_place, flip_vertical_in_place, rotate_180_in_place};
 pub use quarter::{rotate_90, rotate_270, transpose};
+pub use ways::turn;

@@ -1,11 +1,11 @@
 //! The ways to turn a picture, as values.
-ghost use Rattle.std.specs.Prelude.{◌≡◌, length};
-ghost use Rattle.v_frame.specs.Prelude.{height_of, strided_rows, table_of, width_of, KeepsBorder, KeepsRest, RowsFit};
-ghost use Rattle.v_frame_turn.specs.Frames.{exchanges, turned, PlaneFits, SizeFits};
+ghost use Rattle.std.specs.Prelude.{◌≡◌};
+ghost use Rattle.v_frame.specs.Prelude.{table_of, KeepsBorder};
+ghost use Rattle.v_frame_turn.specs.Frames.{exchanges, turned, PlaneFits};
 
 use crate::rows;
 use v_frame::pixel::Pixel;
-use v_frame::plane::{Plane, PlaneRef, RowsRef, VisibleMut};
+use v_frame::plane::{Plane, PlaneRef, VisibleMut};
 
 /// A way to turn a picture. With that of leaving it as it is, and transposing one that was turned by 180 degrees, these are the
 /// eight orientations of Exif.
@@ -51,29 +51,5 @@ pub fn turn_plane<T: Pixel>(source: &PlaneRef<'_, T>, target: &mut Plane<T>, tur
         height,
         stride,
     } = target.visible_mut();
-    turn_rows(&source, entries, width, height, stride, turn);
-}
-
-/// Writes what `source` shows, turned.
-fn turn_rows<T: Pixel>(
-    source: &RowsRef<'_, T>,
-    buffer: &mut [T],
-    width: usize,
-    height: usize,
-    stride: usize,
-    turn: Turn,
-)
-    requires fit { RowsFit width height stride (length buffer.old) }
-    requires size { SizeFits (exchanges turn) (width_of source.now) (height_of source.now) width height }
-    ensures table { strided_rows width height stride buffer.new ≡ turned turn source.now }
-    ensures rest { KeepsRest width height stride buffer.old buffer.new }
-{
-    match turn {
-        Turn::FlipVertical => rows::flip_vertical(source, buffer, width, height, stride),
-        Turn::FlipHorizontal => rows::flip_horizontal(source, buffer, width, height, stride),
-        Turn::Rotate180 => rows::rotate_180(source, buffer, width, height, stride),
-        Turn::Transpose => rows::transpose(source, buffer, width, height, stride),
-        Turn::Rotate90 => rows::rotate_90(source, buffer, width, height, stride),
-        Turn::Rotate270 => rows::rotate_270(source, buffer, width, height, stride),
-    }
+    rows::turn(&source, entries, width, height, stride, turn);
 }

@@ -99,7 +99,10 @@ fn turns_rows<T: Pixel>(mut case: Case<'_>) {
         Turn::Rotate90 => rows::rotate_90,
         Turn::Rotate270 => rows::rotate_270,
     };
+    let mut others = buffer.clone();
     call(&source, &mut buffer, width, height, stride);
+    rows::turn(source, &mut others, width, height, stride, turn);
+    assert!(buffer == others, "{turn:?}");
     case.expect(&values(&buffer));
 }
 

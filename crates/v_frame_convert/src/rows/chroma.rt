@@ -33,10 +33,24 @@ pub fn upscale<T: Copy>(
     for y in 0..height {
         let start = stride * y;
         repeat_across(
-            source.visible_row(y / ratio_y),
+            source.visible_row(quotient(y, ratio_y)),
             &mut buffer[start..start + width],
             ratio_x,
         );
+    }
+}
+
+/// Returns a quotient. A divisor that the compiler knows costs no division.
+#[inline(always)]
+fn quotient(number: usize, divisor: usize) -> usize
+    requires { 0 < divisor }
+    ensures { result ≡ number / divisor }
+{
+    match divisor {
+        1 => number,
+        2 => number / 2,
+        4 => number / 4,
+        _ => number / divisor,
     }
 }
 
@@ -72,14 +86,24 @@ fn repeat_twice<T: Copy>(source: &[T], row: &mut [T])
         → slice_get row.new k ≡ slice_get source.now (k / 2) }
 {
     let pairs = row.len() / 2;
-    for i in 0..pairs {
+    let (front, last) = row.split_at_mut(2 * pairs);
+    write_twice(&source[..pairs], front);
+    // The last column of an odd width.
+    if last.len() == 1 {
+        last[0] = source[pairs];
+    }
+}
+
+/// The same of a row that is twice as long.
+fn write_twice<T: Copy>(source: &[T], row: &mut [T])
+    requires { length row.old ≡ 2 * length source.now }
+    ensures { (k : ℕ) → k < length row.new
+        → slice_get row.new k ≡ slice_get source.now (k / 2) }
+{
+    for i in 0..source.len() {
         let pixel = source[i];
         row[2 * i] = pixel;
         row[2 * i + 1] = pixel;
-    }
-    // The last column of an odd width.
-    for x in 2 * pairs..row.len() {
-        row[x] = source[pairs];
     }
 }
 

@@ -51,18 +51,28 @@ pub fn first_difference<T: Pixel>(a: &RowsRef<'_, T>, b: &RowsRef<'_, T>) -> Opt
     None
 }
 
-/// Returns the first index at which two rows differ.
+/// Returns the first index at which two rows differ. Rows that are the same are told at once, many pixels at a time.
 fn first_difference_of_rows<T: Pixel>(row: &[T], other: &[T]) -> Option<usize>
     requires { length row.now ≡ length other.now }
     ensures none { IsNone result → SameBelow row.now other.now (length row.now) }
     ensures first { IfSome result (DifferFirstAt row.now other.now) }
 {
+    if are_rows_same(row, other) {
+        return None;
+    }
     for x in 0..row.len() {
         if !are_same(row[x], other[x]) {
             return Some(x);
         }
     }
     None
+}
+
+/// Returns whether two rows are the same.
+fn are_rows_same<T: Pixel>(row: &[T], other: &[T]) -> bool
+    ensures { IsTrue result ↔ (row.now ≡ other.now) }
+{
+    row == other
 }
 
 /// Returns whether two pixels are one and the same.

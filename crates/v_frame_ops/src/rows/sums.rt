@@ -52,7 +52,7 @@ fn differences_add_up<T, D: Difference<T>>()
 
 /// Returns the sum over the pixels of two pictures. The smallest block is told apart where it is called.
 #[inline(always)]
-pub(crate) fn sum_of<T: Copy, D: Difference<T>>(a: &RowsRef<'_, T>, b: &RowsRef<'_, T>) -> u128
+pub(crate) fn sum_of<T: Pixel, D: Difference<T>>(a: &RowsRef<'_, T>, b: &RowsRef<'_, T>) -> u128
     requires wide { width_of a.now ≡ width_of b.now }
     requires high { height_of a.now ≡ height_of b.now }
     ensures value { result
@@ -67,7 +67,7 @@ pub(crate) fn sum_of<T: Copy, D: Difference<T>>(a: &RowsRef<'_, T>, b: &RowsRef<
 
 /// Returns the same sum of pictures of any size. It stays out of line, so that a caller with small blocks has no more than these.
 #[inline(never)]
-fn sum_of_any_size<T: Copy, D: Difference<T>>(a: &RowsRef<'_, T>, b: &RowsRef<'_, T>) -> u128
+fn sum_of_any_size<T: Pixel, D: Difference<T>>(a: &RowsRef<'_, T>, b: &RowsRef<'_, T>) -> u128
     requires wide { width_of a.now ≡ width_of b.now }
     requires high { height_of a.now ≡ height_of b.now }
     ensures value { result
@@ -77,6 +77,9 @@ fn sum_of_any_size<T: Copy, D: Difference<T>>(a: &RowsRef<'_, T>, b: &RowsRef<'_
     match a.width() {
         8 => sum_of_size::<T, D>(a, b, 8, a.height()),
         16 => sum_of_size::<T, D>(a, b, 16, a.height()),
+        // Rows of more bytes take longer all at once.
+        32 if T::BYTES == 1 => sum_of_size::<T, D>(a, b, 32, a.height()),
+        64 if T::BYTES == 1 => sum_of_size::<T, D>(a, b, 64, a.height()),
         _ => sum_of_any_width::<T, D>(a, b),
     }
 }

@@ -49,6 +49,18 @@ pub const CASES: &[Case] = &[
         plane(4, 3), &mut plane(4, 3), Rotate270
     ),
     case!(
+        turn::rows::turn, "3 rows of 4 entries, 4 apart, do not fit 11 entries",
+        rows(4, 3), &mut [0; 11], 4, 3, 4, FlipVertical
+    ),
+    case!(
+        turn::rows::turn, "a picture of 4x3 cannot be shown in one of 3x4 by Rotate180",
+        rows(4, 3), &mut [0; 12], 3, 4, 3, Rotate180
+    ),
+    case!(
+        turn::rows::turn, "a picture of 4x3 cannot be shown in one of 4x3 by Rotate90",
+        rows(4, 3), &mut [0; 12], 4, 3, 4, Rotate90
+    ),
+    case!(
         turn::rows::flip_vertical, "3 rows of 4 entries, 4 apart, do not fit 11 entries",
         rows(4, 3), &mut [0; 11], 4, 3, 4
     ),

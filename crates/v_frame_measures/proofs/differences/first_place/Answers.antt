@@ -9,7 +9,7 @@ loop-x-preserved g c =
     let value = g.T.Pixel.form.value in let row = c.args.row.now in let other = c.args.other.now in
     let here =
     read_pair value row other c.loop-x.x _ _ _ c.requires.same c.loop-x-test.true c.index-row-x.is c.index-other-x.is
-    c.difference_of.ensures in
+    c.difference_of.ensures.value in
     not_here value row other c.loop-x.x c.args.difference _ c.loop-x.invariant here c.if-difference_of-difference.false
 
 pub returns : goal.returns

@@ -4,6 +4,6 @@ use Rattle.v_frame_measures.proofs.differences.greatest_of_rows.Given as goal
 
 abbrev pub invariant-loop-x : goal.invariant-loop-x
 invariant-loop-x g l = record {
-  bound : DifferNoMore g.T.Pixel.form.value l.row l.other l.x l.greatest;
-  there : DifferSomewhere g.T.Pixel.form.value l.row l.other l.greatest;
+  bound : DifferNoMore g.T.Pixel.form.value l.row l.other l.x (g.T.Pixel.form.value l.greatest);
+  there : DifferSomewhere g.T.Pixel.form.value l.row l.other (g.T.Pixel.form.value l.greatest);
 }

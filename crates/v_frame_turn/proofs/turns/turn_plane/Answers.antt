@@ -1,8 +1,8 @@
 -- The sizes that are shown are those of the planes.
 use Rattle.v_frame_turn.proofs.turns.turn_plane.Goals as goal
 
-pub turn_rows-requires-clause-size : goal.turn_rows-requires-clause-size
-turn_rows-requires-clause-size g c κs within =
+pub turn-requires-clause-size : goal.turn-requires-clause-size
+turn-requires-clause-size g c κs within =
     rw (
       c.as_rows_ref-source.ensures.width,
       c.as_rows_ref-source.ensures.height,

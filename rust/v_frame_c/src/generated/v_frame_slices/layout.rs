@@ -3,6 +3,7 @@
 
 use v_frame_proved::plane::{PlaneGeometry, RowsRef, rows_fit};
 use v_frame_proved::convert::subsampled_size;
+use v_frame_proved::turn::Turn;
 
 /// Rows in a buffer: row `y` is the `width` entries from index `stride * y` on. All counts are of entries.
 #[repr(C)]
@@ -66,12 +67,12 @@ impl Rows {
 }
 
 impl Rows {
-    /// Returns whether this has the size of another picture that is turned in the way of this number.
-    pub fn has_turned_size_of(&self, other: &Rows, number: u32) -> bool {
-        if number < 3 {
-            return self.same_size(other);
+    /// Returns whether this has the size of another picture that is turned in this way.
+    pub fn has_turned_size_of(&self, other: &Rows, turn: Turn) -> bool {
+        if turn.exchanges_sizes() {
+            return self.width == other.height && self.height == other.width;
         }
-        self.width == other.height && self.height == other.width
+        self.same_size(other)
     }
 
     /// Returns whether another picture has a column for each `ratio_x` of these that are begun, and a row for each `ratio_y`.

@@ -4,8 +4,7 @@
 use crate::generated::v_frame_slices::layout::Rows;
 use crate::generated::v_frame_slices::status::{FIRST, NUMBER, OK, SECOND, SIZES};
 use v_frame_proved::pixel::Pixel;
-use v_frame_proved::plane::RowsRef;
-use v_frame_proved::turn::rows as turns;
+use v_frame_proved::turn::{Turn, rows as turns};
 
 /// Makes the first rows show the picture of the second ones, turned in the way that a number says.
 pub fn turn<T: Pixel>(
@@ -15,31 +14,31 @@ pub fn turn<T: Pixel>(
     source: &[T],
     number: u32,
 ) -> u32 {
-    if number >= 6 {
+    let Some(turn) = numbered_turn(number) else {
         return NUMBER;
-    }
+    };
     if !rows.fit(buffer.len()) {
         return FIRST;
     }
     let Some(source) = source_rows.of(source) else {
         return SECOND;
     };
-    if !rows.has_turned_size_of(source_rows, number) {
+    if !rows.has_turned_size_of(source_rows, turn) {
         return SIZES;
     }
-    write_turned(&source, buffer, rows, number);
+    turns::turn(&source, buffer, rows.width, rows.height, rows.stride, turn);
     OK
 }
 
-/// Writes the picture in one of these ways.
-fn write_turned<T: Pixel>(source: &RowsRef<'_, T>, buffer: &mut [T], rows: &Rows, number: u32) {
-    let (width, height, stride) = (rows.width, rows.height, rows.stride);
+/// Returns the way to turn that a number says.
+fn numbered_turn(number: u32) -> Option<Turn> {
     match number {
-        0 => turns::flip_vertical(source, buffer, width, height, stride),
-        1 => turns::flip_horizontal(source, buffer, width, height, stride),
-        2 => turns::rotate_180(source, buffer, width, height, stride),
-        3 => turns::transpose(source, buffer, width, height, stride),
-        4 => turns::rotate_90(source, buffer, width, height, stride),
-        _ => turns::rotate_270(source, buffer, width, height, stride),
+        0 => Some(Turn::FlipVertical),
+        1 => Some(Turn::FlipHorizontal),
+        2 => Some(Turn::Rotate180),
+        3 => Some(Turn::Transpose),
+        4 => Some(Turn::Rotate90),
+        5 => Some(Turn::Rotate270),
+        _ => None,
     }
 }

@@ -91,16 +91,22 @@ pub(crate) fn greatest_difference_of_rows<T: Pixel>(
     found
 }
 
-/// Returns the greatest difference of two rows.
+/// Returns the greatest difference of two rows. It is kept as a pixel, so that those of bytes are compared as bytes.
 fn greatest_of_rows<T: Pixel>(row: &[T], other: &[T]) -> u16 {
-    let mut greatest = difference_of(row[0], other[0]);
+    let mut greatest = pixel_of_difference(row[0], other[0]);
     for x in 1..row.len() {
-        let difference = difference_of(row[x], other[x]);
-        if difference > greatest {
+        let difference = pixel_of_difference(row[x], other[x]);
+        if difference.pixel_into_u16() > greatest.pixel_into_u16() {
             greatest = difference;
         }
     }
-    greatest
+    greatest.pixel_into_u16()
+}
+
+/// Returns the pixel whose value is how far those of two others are apart.
+#[inline(always)]
+fn pixel_of_difference<T: Pixel>(p: T, q: T) -> T {
+    T::pixel_from_value(difference_of(p, q))
 }
 
 /// Returns the first index at which two rows have a difference.

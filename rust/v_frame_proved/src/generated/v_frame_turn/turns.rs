@@ -4,7 +4,7 @@
 use crate::views::AsPlaneRef;
 use crate::generated::v_frame_turn::rows;
 use crate::generated::v_frame::pixel::Pixel;
-use crate::generated::v_frame::plane::{Plane, RowsRef, VisibleMut};
+use crate::generated::v_frame::plane::{Plane, VisibleMut};
 
 /// A way to turn a picture. With that of leaving it as it is, and transposing one that was turned by 180 degrees, these are the
 /// eight orientations of Exif.
@@ -57,24 +57,5 @@ pub fn turn_plane<T: Pixel>(source: impl AsPlaneRef<Pixel = T>, target: &mut Pla
         height,
         stride,
     } = target.visible_mut();
-    turn_rows(&source, entries, width, height, stride, turn);
-}
-
-/// Writes what `source` shows, turned.
-fn turn_rows<T: Pixel>(
-    source: &RowsRef<'_, T>,
-    buffer: &mut [T],
-    width: usize,
-    height: usize,
-    stride: usize,
-    turn: Turn,
-) {
-    match turn {
-        Turn::FlipVertical => rows::flip_vertical(source, buffer, width, height, stride),
-        Turn::FlipHorizontal => rows::flip_horizontal(source, buffer, width, height, stride),
-        Turn::Rotate180 => rows::rotate_180(source, buffer, width, height, stride),
-        Turn::Transpose => rows::transpose(source, buffer, width, height, stride),
-        Turn::Rotate90 => rows::rotate_90(source, buffer, width, height, stride),
-        Turn::Rotate270 => rows::rotate_270(source, buffer, width, height, stride),
-    }
+    rows::turn(&source, entries, width, height, stride, turn);
 }

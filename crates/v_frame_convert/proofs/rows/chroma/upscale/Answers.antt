@@ -24,7 +24,8 @@ loop-y-preserved g c =
     let long : length row ≡ w = rw (cut, part) at c.repeat_across.auto.row in
     let counted : IsSubsampledSize w rx (length source) = rw (c.visible_row.ensures.wide) c.requires.wide in
     let is = row_is_widened rx w row source counted long c.repeat_across.ensures in
-    let made = upscaled_row rx w ry h rows y source c.requires.high.divides high c.visible_row.ensures.value in
+    let made = upscaled_row rx w ry h rows y source c.requires.high.divides high
+    (rw c.quotient.ensures at c.visible_row.ensures.value) in
     rw cut (one_more_written w h s (upscaled rx ry w h rows) c.args.buffer.now xs row y c.requires.fit high
     c.loop-y.auto.buffer (rw is made) long c.loop-y.invariant)
 

@@ -1,6 +1,7 @@
 -- Each row is made of results at what both pictures held there.
 use Rattle.std.proofs.Common.{◌≡◌, ◌+◌, ◌-◌, ◌*◌, ◌<◌, length, drop, take, subst, ◌∙◌, arith, length-take-le}
 use Rattle.std.proofs.Common.{length-drop}
+use Rattle.std.proofs.lemmas.List.{take_all}
 use Rattle.v_frame.specs.Prelude.{strided_rows, RowsFit}
 use Rattle.v_frame_ops.specs.Rows.{CombinesItems}
 use Rattle.v_frame_ops.proofs.Changed.{GivenWith, same_item, none_changed, one_more_set, all_changed}
@@ -25,7 +26,8 @@ loop-y-preserved g c =
     let long : length row ≡ w = rw (cut, part) at c.combine_row.auto.row in
     let read = strided_row w h s xs y fit.apart high in
     let gives = CombinesItems (goal.F-post g c.args.combine.now) in
-    let made : gives (take w (drop start xs)) c.visible_row.result.now row = rw cut at c.combine_row.ensures in
+    let whole = take_all w c.visible_row.result.now (omega (arith, c.visible_row.ensures.wide, c.requires.wide)) in
+    let made : gives (take w (drop start xs)) c.visible_row.result.now row = rw (cut, whole) at c.combine_row.ensures in
     rw (cut) (record {
       rows =
           rw (row_put w h s xs row y fit high long)

@@ -26,5 +26,9 @@ loop-x-preserved g c =
     below_more (λ k. slice_get c.args.row.now k ≡ slice_get c.args.other.now k) c.loop-x.x c.loop-x.invariant
     (here ∙ ap Some same ∙ sym there)
 
+pub returns-then-are_rows_same-clause-none : goal.returns-then-are_rows_same-clause-none
+returns-then-are_rows_same-clause-none g c = λ nothing k h.
+    ap (λ xs. slice_get xs k) (c.are_rows_same.ensures.0 c.if-are_rows_same.true)
+
 pub returns-clause-none : goal.returns-clause-none
 returns-clause-none g c = λ nothing k h. c.loop-x.invariant k (omega arith)

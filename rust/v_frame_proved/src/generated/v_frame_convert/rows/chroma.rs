@@ -43,10 +43,21 @@ pub fn upscale<T: Copy>(
     for y in 0..height {
         let start = stride * y;
         repeat_across(
-            source.visible_row_proved(y / ratio_y),
+            source.visible_row_proved(quotient(y, ratio_y)),
             &mut buffer[start..start + width],
             ratio_x,
         );
+    }
+}
+
+/// Returns a quotient. A divisor that the compiler knows costs no division.
+#[inline(always)]
+fn quotient(number: usize, divisor: usize) -> usize {
+    match divisor {
+        1 => number,
+        2 => number / 2,
+        4 => number / 4,
+        _ => number / divisor,
     }
 }
 
@@ -70,14 +81,20 @@ fn repeat_pixels<T: Copy>(source: &[T], row: &mut [T], ratio: usize) {
 /// Writes each pixel of one row twice into another.
 fn repeat_twice<T: Copy>(source: &[T], row: &mut [T]) {
     let pairs = row.len() / 2;
-    for i in 0..pairs {
+    let (front, last) = row.split_at_mut(2 * pairs);
+    write_twice(&source[..pairs], front);
+    // The last column of an odd width.
+    if last.len() == 1 {
+        last[0] = source[pairs];
+    }
+}
+
+/// The same of a row that is twice as long.
+fn write_twice<T: Copy>(source: &[T], row: &mut [T]) {
+    for i in 0..source.len() {
         let pixel = source[i];
         row[2 * i] = pixel;
         row[2 * i + 1] = pixel;
-    }
-    // The last column of an odd width.
-    for x in 2 * pairs..row.len() {
-        row[x] = source[pairs];
     }
 }
 

@@ -107,7 +107,19 @@ fn halve_row_to_edge<T: Pixel>(source: &[T], row: &mut [T]) {
     let (blocks, rest) = source.split_at(2 * whole);
     let (front, back) = row.split_at_mut(whole);
     halve_blocks(blocks, front);
-    halve_to_edge(rest, rest, back);
+    halve_pairs(rest, back);
+}
+
+/// The same, pair by pair.
+fn halve_pairs<T: Pixel>(source: &[T], row: &mut [T]) {
+    let pairs = source.len() / 2;
+    for x in 0..pairs {
+        row[x] = mean_of_two(source[2 * x], source[2 * x + 1]);
+    }
+    // The last column of an odd width is by itself.
+    for x in pairs..row.len() {
+        row[x] = mean_of_two(source[2 * x], source[2 * x]);
+    }
 }
 
 /// Returns the mean of two pixels, rounded upwards at a half.

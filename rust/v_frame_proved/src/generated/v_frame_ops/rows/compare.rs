@@ -88,14 +88,22 @@ pub fn first_difference<T: Pixel>(a: impl AsRowsRef<Pixel = T>, b: impl AsRowsRe
     None
 }
 
-/// Returns the first index at which two rows differ.
+/// Returns the first index at which two rows differ. Rows that are the same are told at once, many pixels at a time.
 fn first_difference_of_rows<T: Pixel>(row: &[T], other: &[T]) -> Option<usize> {
+    if are_rows_same(row, other) {
+        return None;
+    }
     for x in 0..row.len() {
         if !are_same(row[x], other[x]) {
             return Some(x);
         }
     }
     None
+}
+
+/// Returns whether two rows are the same.
+fn are_rows_same<T: Pixel>(row: &[T], other: &[T]) -> bool {
+    row == other
 }
 
 /// Returns whether two pixels are one and the same.

@@ -171,12 +171,16 @@ fn blend_row_with_mask<T: Pixel>(row: &mut [T], source: &[T], mask: &[u8]) {
 #[inline(always)]
 pub(crate) fn blend_pixel<T: Pixel>(p: T, q: T, weight: u16) -> T {
     let (p, q) = (p.pixel_into_u16(), q.pixel_into_u16());
-    if T::PIXEL_BYTES == 1 {
-        // Sums of bytes fit 16 bits, so that twice as many are made at once.
-        return T::pixel_from_value((p * (256 - weight) + q * weight + 128) / 256);
-    }
-    let sum = u32::from(p) * u32::from(256 - weight) + u32::from(q) * u32::from(weight);
-    T::pixel_from_value(((sum + 128) / 256) as u16)
+    // Sums of bytes fit 16 bits, so that twice as many are made at once.
+    let high = weighted_sum((p / 256) as u8, (q / 256) as u8, weight);
+    let low = weighted_sum((p % 256) as u8, (q % 256) as u8, weight);
+    T::pixel_from_value(high + (low + 128) / 256)
+}
+
+/// Returns 256 times the mean of two bytes, of which the second has `weight` of 256 parts.
+#[inline(always)]
+fn weighted_sum(p: u8, q: u8, weight: u16) -> u16 {
+    u16::from(p) * (256 - weight) + u16::from(q) * weight
 }
 
 /// Returns the mean of two pixels, of which the second has `weight` of 255 parts.

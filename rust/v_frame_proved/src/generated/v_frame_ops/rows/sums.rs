@@ -32,7 +32,7 @@ impl<T: Pixel> Difference<T> for SquaredErrors {
 
 /// Returns the sum over the pixels of two pictures. The smallest block is told apart where it is called.
 #[inline(always)]
-pub(crate) fn sum_of<T: Copy, D: Difference<T>>(a: &RowsRef<'_, T>, b: &RowsRef<'_, T>) -> u128 {
+pub(crate) fn sum_of<T: Pixel, D: Difference<T>>(a: &RowsRef<'_, T>, b: &RowsRef<'_, T>) -> u128 {
     if a.width() == 8 && a.height() == 8 {
         return sum_of_size::<T, D>(a, b, 8, 8);
     }
@@ -41,10 +41,13 @@ pub(crate) fn sum_of<T: Copy, D: Difference<T>>(a: &RowsRef<'_, T>, b: &RowsRef<
 
 /// Returns the same sum of pictures of any size. It stays out of line, so that a caller with small blocks has no more than these.
 #[inline(never)]
-fn sum_of_any_size<T: Copy, D: Difference<T>>(a: &RowsRef<'_, T>, b: &RowsRef<'_, T>) -> u128 {
+fn sum_of_any_size<T: Pixel, D: Difference<T>>(a: &RowsRef<'_, T>, b: &RowsRef<'_, T>) -> u128 {
     match a.width() {
         8 => sum_of_size::<T, D>(a, b, 8, a.height()),
         16 => sum_of_size::<T, D>(a, b, 16, a.height()),
+        // Rows of more bytes take longer all at once.
+        32 if T::PIXEL_BYTES == 1 => sum_of_size::<T, D>(a, b, 32, a.height()),
+        64 if T::PIXEL_BYTES == 1 => sum_of_size::<T, D>(a, b, 64, a.height()),
         _ => sum_of_any_width::<T, D>(a, b),
     }
 }

@@ -1,9 +1,6 @@
 -- The pixels so far are there twice.
 use Rattle.std.proofs.Common.{ℕ, ◌≡◌, ◌*◌, ◌/◌, ◌<◌, slice_get}
-use Rattle.v_frame_convert.proofs.rows.chroma.repeat_twice.Given as goal
+use Rattle.v_frame_convert.proofs.rows.chroma.write_twice.Given as goal
 
 abbrev pub invariant-loop-i : goal.invariant-loop-i
 invariant-loop-i g l = (k : ℕ) → k < 2 * l.i → slice_get l.row k ≡ slice_get l.source (k / 2)
-
-abbrev pub invariant-loop-x : goal.invariant-loop-x
-invariant-loop-x g l = (k : ℕ) → k < l.x → slice_get l.row k ≡ slice_get l.source (k / 2)
