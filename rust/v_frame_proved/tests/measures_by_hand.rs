@@ -172,3 +172,26 @@ fn depths_that_differ_are_the_first_reason() {
     assert_eq!(frame_ssim(&first, &second), Err(error));
     assert_eq!(frame_mean_squared_error(&first, &second), Err(error));
 }
+
+/// Sees that the one greatest difference of two planes is found, with its place, wherever it is and whichever plane has more.
+fn the_greatest_difference_is_found<T: v_frame_proved::pixel::Pixel>(base: T, more: T, most: T, difference: u16) {
+    for width in (1..20).chain(31..35).chain(63..67) {
+        for at in 0..2 * width {
+            let a = plane(width, 2, |_, _| base);
+            let b = plane(width, 2, |x, y| match y * width + x {
+                place if place == at => most,
+                place if place == (at + 1) % (2 * width) => more,
+                _ => base,
+            });
+            let wanted = measures::GreatestDifference { difference, x: at % width, y: at / width };
+            assert_eq!(measures::greatest_difference(&a, &b), wanted, "{width}");
+            assert_eq!(measures::greatest_difference(&b, &a), wanted, "{width}");
+        }
+    }
+}
+
+#[test]
+fn greatest_differences_are_found_at_each_place() {
+    the_greatest_difference_is_found::<u8>(3, 9, 255, 252);
+    the_greatest_difference_is_found::<u16>(259, 3, 65535, 65276);
+}
