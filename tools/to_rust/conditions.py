@@ -13,6 +13,7 @@ from collections import namedtuple
 
 from . import tables
 from .items import functions_of, parameters_of
+from .paths import home_of
 from .tables import rows_of
 from .tokens import Refused
 
@@ -197,9 +198,14 @@ def message_of(check):
 
 
 def add_assertions(source, reach):
-    """Adds the tests to each function that users can call. Laws are not for them; without a body there is no place."""
+    """Adds the tests to each function that users can call; without a body there is no place."""
     for item in reversed(functions_of(source)):
-        if not source.clauses_of(item, "requires") or not reach.is_public(source, item) or "laws" in source.module:
+        is_law = "laws" in source.module and item.name in tables.WITHOUT_TESTS["laws"]
+        if not source.clauses_of(item, "requires") or is_law:
+            continue
+        if not reach.is_public(source, item):
+            if home_of(source.crate) == tables.LIBRARY and item.owner and (item.is_public() or item.owner.trait):
+                source.refuse(item.keyword, "a clause of a function that users may reach by another way than its name")
             continue
         if item.body is None and item.name not in tables.WITHOUT_TESTS.get(item.owner.name, ()):
             source.refuse(item.keyword, "a clause of a function without a body that is not in the table")

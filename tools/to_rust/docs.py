@@ -13,6 +13,8 @@ PROOF_WORDS = re.compile("|".join(tables.PROOF_WORDS))
 SENTENCE_END = re.compile(r"(?<=[.:!?])\s+(?=[A-Z`\[(])")
 LINK = re.compile(r"\]\(([A-Za-z_][A-Za-z0-9_:]*)(\(\))?\)")
 BARE = re.compile(r"\[`([a-z_0-9]+(?:::\w+)+)`\](?!\()")
+# What texts say of Rattle's way where Rust has `size_of`.
+BYTES = re.compile(r"\[`BYTES`\]\(Pixel::BYTES\)|\[`Pixel::BYTES`\]|`([TS])::BYTES`")
 CRATE = re.compile(r"`(v_frame_[a-z0-9_]+)`")
 
 
@@ -77,9 +79,7 @@ class Links:
             line = named.sub(lambda found: f"[`{found[1]}{found[2]}`]({self.path(path + found[2])})", line)
         line = BARE.sub(self.bare, line)
         line = CRATE.sub(lambda found: f"`{tables.PUBLIC_NAMES.get(found[1], found[1]).rpartition('::')[2]}`", line)
-        for old, new in tables.DOC_WORDS.items():
-            line = line.replace(old, new)
-        return line
+        return BYTES.sub(lambda found: f"`size_of::<{found[1] or 'T'}>()`", line)
 
     def bare(self, found):
         """Returns a link that is its own text, with both as Rust has them."""

@@ -5,7 +5,7 @@ A law is a function that does nothing, whose contract says what holds.
 
 from . import forms
 from .strict import KNOWN
-from .items import functions_of, items_of, parameters_of
+from .items import KEYWORDS, functions_of, items_of, parameters_of
 from .paths import leaves_of
 
 # Marks that only read, as calls of the kind `reading` do: both may stand in a statement whose value nobody reads, and in
@@ -15,6 +15,10 @@ READING_MARKS = set(". , ( ) & + - * && || == != < <= > >=".split())
 
 def erase_proofs(source):
     """Erases what is there for proofs alone. What functions require and ensure is kept for the tests of it."""
+    for at in source.places("ghost"):
+        end = source.following(at, ";") if source[at + 1] == "use" else at
+        if KEYWORDS & {source[k] for k in range(at + 2, end)}:
+            source.refuse(at, "an import of words for clauses that does not end")
     forms.rewrite(source, forms.GHOSTS)
     for item in reversed(items_of(source)):
         if item.kind == "impl" and item.trait == "Model":

@@ -127,8 +127,8 @@ class Reach:
         for item in items_of(source) if source else ():
             if item.owner is not None or not item.is_public():
                 continue
-            if item.kind == "type":
-                source.refuse(item.keyword, "a public name of a type, whose functions would have no tests by it")
+            if item.kind in ("type", "static") or item.kind == "mod" and item.body:
+                source.refuse(item.keyword, f"a public `{item.kind}`, by whose name functions would have no tests")
             elif item.kind == "use":
                 for leaf, alias in leaves_of(source, item.keyword + 1, item.end - 1):
                     self.follow(source, item, leaf.split("::"), f"{name}::{alias or leaf.rpartition('::')[2]}")

@@ -4,7 +4,7 @@
 import re
 
 from . import exports, tables
-from .items import Item, items_of, skip_attributes
+from .items import KEYWORDS, Item, items_of, skip_attributes
 from .paths import STD, home_of, leaves_of
 from .tables import rows_of
 
@@ -32,7 +32,8 @@ class Names:
                 self.others.update(source[at] for at in places if source[at - 1] in ("type", "const"))
                 variants = source.elements(item.body[0], types=True) if item.kind == "enum" and item.body else ()
                 self.others.update(source[skip_attributes(source, start, Item(start))] for start, _ in variants)
-        self.methods, self.types = KNOWN["methods"] | self.functions, KNOWN["types"] | KNOWN["derives"] | self.others
+        methods = {item.name for source in sources for item in items_of(source) if item.owner}
+        self.methods, self.types = KNOWN["methods"] | methods, KNOWN["types"] | KNOWN["derives"] | self.others
         self.called |= KNOWN["attributes"] | self.functions | self.types
 
     def add_import(self, source, item):
@@ -50,8 +51,11 @@ def check(source, names):
     """Refuses what is not known. Ghosts and contracts are already left out."""
     imports = {item.keyword: item.end for item in items_of(source) if item.kind == "use"}
     here = {source[at] for at in range(len(source)) if source[at + 1] == ":" or source[at - 1] == "let"}
+    bodies = {at for item in items_of(source) if item.kind == "fn" and item.body for at in range(*item.body)}
     end = 0
     for at in range(len(source)):
+        if source[at] in KEYWORDS - {"fn", "use", "const", "type"} and at in bodies:
+            source.refuse(at, f"an item in the body of a function, at `{source[at]}`")
         if source[at] == "use":
             end = imports.get(at, at)
             if at == end or source[at + 1] not in (*STD, *names.others):
@@ -79,9 +83,12 @@ def check_mark(source, at):
         member = f"<>::{source[source.closing(at) + 2]}"
         if member not in KNOWN["members"]:
             source.refuse(at, f"a path that is not known: {member}")
-    if mark == ".." and ends and after in (")", ",", ";", "{", "}"):
+    last = source.closing(at) - 1 if mark == "[" and not ends else at
+    ranges = source[last] == ".." and (ends if last == at else source[last - 1] not in ("[", ",", "@"))
+    if ranges and source[last + 1] in (")", ",", ";", "{", "}") + ("]",) * (last != at):
         source.refuse(at, "a range without an end, which Rattle ends below the top of its type")
-    if mark == ".." and before == "," and source.is_word(at + 1) and source[at + 2] == "[":
+    base = range(at, source.following(at, "}", ")", "]") if mark == ".." and before == "," else at)
+    if "[" in [source[k] for k in base] and (source.is_word(at + 1) or after == "("):
         source.refuse(at, "a base at an index, which Rattle does not read where all fields are written")
     if mark == "*" and after in ("const", "mut") or (mark, after) == ("&", "raw") and source.is_word(at + 2):
         source.refuse(at, "a pointer, which Rust reads in unsafe code alone")

@@ -45,23 +45,18 @@ STD_NAMES = {f"{old}::{name}": f"{new}::{name}" for old, new, names in rows_of("
 STD_NAMES["std::ops::DerefSlice"] = "core::ops::Deref"
 STD_NAMES |= dict.fromkeys(("std::alloc::Global", "std::convert::AsSlice", "std::marker::Model", "thiserror::Error",
                             "std::os::unix::fs::OpenOptionsExt"))
-
 # Traits of Rust that are imported for their methods.
 STD_TRAITS = {"Read", "Write", "BufRead", "DerefSlice", "MetadataExt", "OpenFile", "PermissionsExt"}
-
 # What files may use without an import in Rattle, and need one for where there is no `std`: the word, and its path.
 PRELUDE = {"Vec": "alloc::vec::Vec", "String": "alloc::string::String"}
-
 # The traits and functions of the support module by the names whose use asks for them.
 SUPPORT = {name: path for path, names in rows_of("tables.md", "import | words that ask for it") for name in names.split()}
 
 # Functions that the library calls so often that its own calls go to one without tests, and those that are no methods.
 HOT = {(crate, name) for crate, names in rows_of("tables.md", "crate | functions") for name in names.split()}
 HOT_FUNCTIONS = {"encode_row"}
-
-# Functions without a body that require something, by their traits, which the library's types alone have: no test there.
+# Functions without a test of what they require: without a body, by their traits, which the library's types alone have; laws.
 WITHOUT_TESTS = {trait: names.split() for trait, names in rows_of("tables.md", "trait | functions")}
-
 # Private functions whose loops are faster where the compiler is told what they require.
 FACTS = {("v_frame_turn", "write_reversed"), ("v_frame_semi_planar", "deinterleave_pixels")}
 
@@ -70,16 +65,12 @@ PIXEL_BOUNDS = page("tables.md").split("```rust\n")[1].split("\n```")[0]
 # What stands for a type of pixels in front of `::`, and what it offers in the source.
 PIXEL_TYPES = {"T", "S", "u8", "u16", "Pixel"}
 PIXEL_CALLS = {"BYTES", "ZERO", "into_u16", "try_into_u8", "from_u8", "try_from_u16", *WITHOUT_TESTS["Pixel"]}
-
 # What contracts alone read, and what is kept although no code reads it.
 KEPT_FOR_CONTRACTS = {"DepthChange", "SAMPLES_AT_ONCE", "ENTRIES"}
-
 # Errors that may get more variants: those that the original does not have.
 OWN_ERRORS = set("PlanarError PngError SemiPlanarError TurnError HeaderError Y4mError Problem SendError WriteFault".split())
-
 # Derives that types can have beside those of their sources.
 DERIVES = {name: derives for derives, names in rows_of("tables.md", "derives | types") for name in names.split()}
-
 # Texts of fields whose meaning the text of their type has in one piece, who sees fields, and numbers of variants.
 PART_TEXTS = {(kind, part): text for kind, part, text in rows_of("tables.md", "type | field or variant | text")}
 
@@ -90,14 +81,5 @@ PROOF_WORDS = (
     r"^Of the (readers|writers) over memory\b",
     r"^(Our own|The module is our own|Its functions and constants are our own)\b",
 )
-
 # What the text of a module says more in Rust.
 DOC_ADDED = {tuple(path.split()): text for path, text in rows_of("tables.md", "module | what its text says more")}
-
-# What texts say of Rattle's way, and what they say of Rust's.
-DOC_WORDS = {
-    "[`BYTES`](Pixel::BYTES)": "`size_of::<T>()`",
-    "[`Pixel::BYTES`]": "`size_of::<T>()`",
-    "`T::BYTES`": "`size_of::<T>()`",
-    "`S::BYTES`": "`size_of::<S>()`",
-}

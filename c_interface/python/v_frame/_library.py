@@ -124,9 +124,8 @@ TO_RGB = _export("v_frame_yuv444_to_rgb_u8", _rows, _data, _size, _rows, _data, 
                  ctypes.POINTER(Colors))
 STATISTICS = _both("statistics", ctypes.POINTER(Statistics))
 PAIR_STATISTICS = _both("pair_statistics", _rows, _data, _size, ctypes.POINTER(PairStatistics))
-CONVERT_DEPTH = {(1, 2): "u8_u16", (2, 1): "u16_u8", (2, 2): "u16_u16"}
 CONVERT_DEPTH = {sizes: _export(f"v_frame_convert_depth_{kinds}", _rows, _data, _size, ctypes.c_uint32, ctypes.c_uint32)
-                 for sizes, kinds in CONVERT_DEPTH.items()}
+                 for sizes, kinds in {(1, 2): "u8_u16", (2, 1): "u16_u8", (2, 2): "u16_u16"}.items()}
 DOWNSCALE_TO_EDGE = _both("downscale_to_edge", _rows, _data, _size)
 HALVE_COLUMNS = _both("halve_columns", _rows, _data, _size)
 RESIZE_AREA = _both("resize_area", _rows, _data, _size)

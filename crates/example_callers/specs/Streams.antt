@@ -6,8 +6,9 @@ use Rattle.v_frame_planar.specs.Planar.{planar_bytes, sizes_of}
 
 -- frames of this size were read, as many as reported, and what each shows was written changed; the
 -- bytes are those that a reader had left and that a writer has, before and after
-pub record Carries {T : Type 0} (form : PixelForm T) (size : (ℕ × ℕ) × (Option (ℕ × ℕ) × Option (ℕ × ℕ)))
-    (change : Tables T → Tables T) (left left' has has' : Option (List ℕ)) (count : ℕ) : Type 0 where
+pub record Carries {T : Type 0} (form : PixelForm T)
+    (size : (ℕ × ℕ) × (Option (ℕ × ℕ) × Option (ℕ × ℕ))) (change : Tables T → Tables T)
+    (left left' has has' : Option (List ℕ)) (count : ℕ) : Type 0 where
   pub shown : List (Tables T)
   pub counted : length shown ≡ count
   pub sized : All (λ tables. sizes_of tables ≡ size) shown

@@ -9,7 +9,7 @@ use v_frame::frame::Frame;
 use v_frame::pixel::Pixel;
 use v_frame::plane::{Plane, PlaneRef, RowsRef};
 use v_frame_turn::laws::{quarter_turns_add_up, shown_tables_have_sizes};
-use v_frame_turn::{TurnError, frames, rotate_90, rotate_270, rows};
+use v_frame_turn::{Turn, TurnError, frames, rotate_90, rotate_270, rows};
 
 /// Shows a video that was taken with the camera on its side upright.
 pub fn show_upright<T: Pixel>(source: &PlaneRef<'_, T>, target: &mut Plane<T>)
@@ -57,7 +57,7 @@ pub fn turn_frame_right<T: Pixel>(source: &Frame<T>, target: &mut Frame<T>) -> R
     ensures unchanged { OnErr result (target.new ≡ target.old) }
     ensures borders { KeepsBorders target.old target.new }
 {
-    frames::rotate_90(source, target)
+    frames::turn_frame(source, target, Turn::Rotate90)
 }
 
 /// Writes a picture that is stored from the bottom up, as in a BMP file, from the top down.

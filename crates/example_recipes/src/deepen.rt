@@ -9,7 +9,8 @@ use thiserror::Error;
 use v_frame::frame::Frame;
 use v_frame::plane::{Plane, PlaneRef};
 use v_frame_convert::map_into;
-use v_frame_turn::{TurnError, frames};
+use v_frame_turn::frames::turn_frame;
+use v_frame_turn::{Turn, TurnError};
 
 /// Why a frame was not turned and deepened.
 #[derive(Debug, Drop, Error)]
@@ -38,7 +39,7 @@ pub fn turn_and_deepen(
     ensures unchanged { OnErr result (target.new ≡ target.old) }
     ensures borders { KeepsBorders target.old target.new }
 {
-    frames::rotate_90(source, between).map_err(DeepenError::Turn)?;
+    turn_frame(source, between, Turn::Rotate90).map_err(DeepenError::Turn)?;
     if !have_one_size(between, target) {
         return Err(DeepenError::DifferentSize);
     }

@@ -10,8 +10,7 @@ use v_frame_measures::{frame_mean_squared_error, frames_have_one_size};
 use v_frame_semi_planar::{SemiPlanarFormat, semi_planar_len};
 use v_frame_turn::Turn;
 use v_frame_turn::frames::{
-    flip_horizontal, flip_horizontal_in_place, flip_vertical, flip_vertical_in_place, rotate_90,
-    rotate_180, rotate_180_in_place, rotate_270, transpose, turn_frame,
+    flip_horizontal_in_place, flip_vertical_in_place, rotate_180_in_place, turn_frame,
 };
 
 /// Returns a frame whose planes show these bytes. `None` where there is no memory.
@@ -75,11 +74,11 @@ pub fn push_flips<T: Pixel>(
     source: &Frame<T>,
     target: &mut Frame<T>,
 ) -> Option<()> {
-    flip_vertical(source, target).ok()?;
+    turn_frame(source, target, Turn::FlipVertical).ok()?;
     push_planes(text, "upside down", target)?;
-    flip_horizontal(source, target).ok()?;
+    turn_frame(source, target, Turn::FlipHorizontal).ok()?;
     push_planes(text, "mirrored", target)?;
-    rotate_180(source, target).ok()?;
+    turn_frame(source, target, Turn::Rotate180).ok()?;
     push_planes(text, "by 180 degrees", target)
 }
 
@@ -91,11 +90,11 @@ pub fn push_quarter_turns<T: Pixel>(
 ) -> Option<()> {
     let builder = FrameBuilder::new(2, 4, ChromaSubsampling::Yuv420, source.bit_depth.get());
     let mut target = builder.build::<T>(alloc).ok()?;
-    transpose(source, &mut target).ok()?;
+    turn_frame(source, &mut target, Turn::Transpose).ok()?;
     push_planes(text, "transposed", &target)?;
-    rotate_90(source, &mut target).ok()?;
+    turn_frame(source, &mut target, Turn::Rotate90).ok()?;
     push_planes(text, "by 90 degrees", &target)?;
-    rotate_270(source, &mut target).ok()?;
+    turn_frame(source, &mut target, Turn::Rotate270).ok()?;
     push_planes(text, "by 270 degrees", &target)
 }
 

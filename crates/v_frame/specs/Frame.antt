@@ -45,5 +45,7 @@ module _ {T : Type 0} where
     pub subsampling : new.subsampling ≡ old.subsampling
     pub bit_depth : new.bit_depth ≡ old.bit_depth
     pub y_plane : border_and_geometry new.y_plane ≡ border_and_geometry old.y_plane
-    pub u_plane : option_map border_and_geometry new.u_plane ≡ option_map border_and_geometry old.u_plane
-    pub v_plane : option_map border_and_geometry new.v_plane ≡ option_map border_and_geometry old.v_plane
+    pub u_plane : option_map border_and_geometry new.u_plane
+        ≡ option_map border_and_geometry old.u_plane
+    pub v_plane : option_map border_and_geometry new.v_plane
+        ≡ option_map border_and_geometry old.v_plane

@@ -1,5 +1,5 @@
--- Sums over blocks of four columns and four rows of two pictures, and over the windows of two by two
--- of them.
+-- Sums over blocks of four columns and four rows of two pictures, and over the windows of two by
+-- two of them.
 use Rattle.std.specs.Prelude.{ℕ, ◌≡◌, ◌+◌, ◌*◌, ◌≤◌, ◌<◌, List, map, slice_index}
 use Rattle.std.specs.List.{range_with_len}
 use Rattle.std.specs.Float.Ieee.{Float}
@@ -21,14 +21,16 @@ block_at blocks k =
     }
 
 -- these are the sums over so many blocks, from column x of row y on
-abbrev pub AreBlockSums : {T : Type 0} → (T → ℕ) → ℕ → ℕ → Table T → Table T → ℕ → BlockSums → Type 0
+abbrev pub AreBlockSums : {T : Type 0} → (T → ℕ) → ℕ → ℕ → Table T → Table T → ℕ → BlockSums
+    → Type 0
 AreBlockSums value x y a b count blocks =
     (k : ℕ) → k < count → block_at blocks k ≡ sums_of_rectangle value (x + 4 * k) y 4 4 a b
 
 -- number k of two lists, and the next one of both
 abbrev pub window_sum : List ℕ → List ℕ → ℕ → ℕ
 window_sum above below k =
-    slice_index above k + slice_index below k + (slice_index above (k + 1) + slice_index below (k + 1))
+    slice_index above k + slice_index below k
+    + (slice_index above (k + 1) + slice_index below (k + 1))
 
 -- the sums over window k: over two blocks below each other, and the two beside them
 abbrev pub window_of : BlockSums → BlockSums → ℕ → PixelSums

@@ -1,5 +1,5 @@
--- Lists whose items were changed one by one, or made of two: rows of pixels, and tables of rows; and
--- tables that hold the pixels of another.
+-- Lists whose items were changed one by one, or made of two: rows of pixels, and tables of rows;
+-- and tables that hold the pixels of another.
 use Rattle.std.specs.Prelude.{ℕ, ◌≡◌, ◌+◌, ◌<◌, List, length, Some, slice_get}
 use Rattle.v_frame.specs.Prelude.{Table, pixel_at}
 

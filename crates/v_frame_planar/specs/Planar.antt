@@ -91,8 +91,8 @@ module _ {W : Type 0} (contents : W → Option (List ℕ)) (old new : Watched W)
   MayStopWriting Write = StopsWriting contents old new bytes Failed
   MayStopWriting WriteZero = StopsWriting contents old new bytes TookNothing
 
--- where a read or a write failed, the kind of its error is reported, and else the last failure is as
--- before
+-- where a read or a write failed, the kind of its error is reported, and else the last failure is
+-- as before
 abbrev pub TellsCause : Option ErrorKind → Option ErrorKind → PlanarError → Type 0
 TellsCause old new (Truncated expected found) = new ≡ old
 TellsCause old new TooLarge = new ≡ old

@@ -4,8 +4,10 @@ use Rattle.std.specs.Prelude.{List, Option, Some, None}
 use Rattle.std.specs.Borrow.{Fml, GName, MutBor}
 use base.Fml.{fsep, fwand, fall}
 
--- where `Ends` says what the item of a name holds then, and `FinalItems` what those do that are left
-module _ {Walk Item : Type 0} (Ends : GName → Item → Fml) (FinalItems : Walk → List Item → Fml) where
+-- where `Ends` says what the item of a name holds then, and `FinalItems` what those do that are
+-- left
+module _ {Walk Item : Type 0} (Ends : GName → Item → Fml)
+    (FinalItems : Walk → List Item → Fml) where
   -- what the items that are left now hold then, those that were left before do
   abbrev pub Keeps : Walk → Walk → Fml
   Keeps old new = fall (List Item) (λ second. fwand (FinalItems new second) (FinalItems old second))

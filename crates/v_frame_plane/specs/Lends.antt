@@ -17,7 +17,8 @@ module _ (T : RattleType) (plane : MutBor (Raster T.Denot)) where
   abbrev pub LendsVisible : MutBor (List T.Denot) → Fml
   LendsVisible r = Lends (the_row T) (Array T 0) plane r (with_visible plane.now)
 
-  -- once the borrow r ends, the entries from the pixel of column x in row y on are what r shows last
+  -- once the borrow r ends, the entries from the pixel of column x in row y on are what r shows
+  -- last
   abbrev pub LendsVisibleFrom : ℕ → ℕ → MutBor (List T.Denot) → Fml
   LendsVisibleFrom x y r = Lends (the_row T) (Array T 0) plane r (with_visible_from plane.now x y)
 

@@ -1,5 +1,5 @@
--- The visible pixels of a plane, or those of a rectangle, lent as the entries of its buffer from the
--- first of them on: rows, each a stride after the one before.
+-- The visible pixels of a plane, or those of a rectangle, lent as the entries of its buffer from
+-- the first of them on: rows, each a stride after the one before.
 use Rattle.std.specs.Prelude.{ℕ, ◌≡◌, ◌+◌, ◌<◌, ◌≤◌, ◌⊎◌, List, length}
 use Rattle.v_frame_buffer.specs.Part.{with_part}
 use Rattle.v_frame_raster.specs.Geometry.{origin_of, place_of}
@@ -30,8 +30,8 @@ module _ {T : Type 0} where
   with_visible_from plane x y entries =
       raster plane.geometry (with_part plane.buffer (place_of plane.geometry x y) entries)
 
-  -- a rectangle shows the rows of a list of so many entries to a stride, all else that is shown is as
-  -- before, and so is the border
+  -- a rectangle shows the rows of a list of so many entries to a stride, all else that is shown is
+  -- as before, and so is the border
   pub record WritesRectangle (old new : Raster T) (x y width height stride : ℕ) (entries : List T)
       : Type 0 where
     pub inside : (i j : ℕ) → i < width → j < height

@@ -4,7 +4,8 @@ use Rattle.v_frame_png.specs.Prelude.{IsFile}
 use Rattle.v_frame_png.specs.declared.header.Header.{Header}
 use Rattle.v_frame_png_c.specs.Status.{out_of_memory, short_buffer}
 
--- these bytes stand at the front of a buffer, and all after them is as before; or they are more than it has
+-- these bytes stand at the front of a buffer, and all after them is as before; or they are more
+-- than it has
 pub record IsPutInFront (bytes old new : List ℕ) (needed status : ℕ) : Type 0 where
   pub answer : (status ≡ 0) ⊎ (status ≡ short_buffer)
   pub count : needed ≡ length bytes
@@ -13,8 +14,8 @@ pub record IsPutInFront (bytes old new : List ℕ) (needed status : ℕ) : Type 
   pub short : status ≡ short_buffer → length old < length bytes
   pub kept : status ≢ 0 → new ≡ old
 
--- a file of this header and these rows is in front, as long as is told; where the buffer is too short, it would be so long. What is
--- refused for a fault is so, and changes nothing
+-- a file of this header and these rows is in front, as long as is told; where the buffer is too
+-- short, it would be so long. What is refused for a fault is so, and changes nothing
 pub record IsWritten (h : Header) (rows : List (List ℕ)) (fault : ℕ) (old new : List ℕ)
     (needed new_needed status : ℕ) : Type 0
   where

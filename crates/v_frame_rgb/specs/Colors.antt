@@ -128,7 +128,8 @@ abbrev pub colors_of : RgbMatrix → List ℕ → List ℕ → List ℕ → List
 colors_of m ys us vs = colors_by (color_of m) ys us vs
 
 abbrev pub color_rows : RgbMatrix → (Color → List ℕ) → Table ℕ → Table ℕ → Table ℕ → Table ℕ
-color_rows m bytes_of y_rows u_rows v_rows = color_rows_by (color_of m) bytes_of y_rows u_rows v_rows
+color_rows m bytes_of y_rows u_rows v_rows =
+    color_rows_by (color_of m) bytes_of y_rows u_rows v_rows
 
 -- the colors of the first pixels of a row of bytes, of which so many hold one color
 abbrev pub colors_in : (List ℕ → Color) → ℕ → ℕ → List ℕ → List Color

@@ -1,5 +1,5 @@
--- What color samples of any bit depth make, by the standards' own fractions: each channel is an exact
--- sum, and is rounded once.
+-- What color samples of any bit depth make, by the standards' own fractions: each channel is an
+-- exact sum, and is rounded once.
 use Rattle.std.specs.Prelude.{ℕ, ◌+◌, ◌-◌, ◌*◌, ◌^◌, List}
 use Rattle.v_frame.specs.Prelude.{PixelForm}
 use Rattle.v_frame_raster.specs.Table.{Table}
@@ -11,8 +11,8 @@ use Rattle.v_frame_rgb.specs.declared.standard.Standard.{Standard}
 use Rattle.v_frame_rgb.specs.declared.standard.ColorRange.{ColorRange}
 use Rattle.v_frame_rgb.specs.declared.standard.ColorRange.TheVariants.{Limited, Full}
 
--- the levels of a bit depth: in limited range those of 8 bits times 2 ^ (depth - 8), and in full range
--- all values
+-- the levels of a bit depth: in limited range those of 8 bits times 2 ^ (depth - 8), and in full
+-- range all values
 abbrev pub levels_at : ColorRange → ℕ → Levels
 levels_at Limited depth =
     let unit = 2 ^ (depth - 8) in

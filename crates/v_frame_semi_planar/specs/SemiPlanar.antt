@@ -48,7 +48,8 @@ module _ {T : Type 0} (form : PixelForm T) where
       stored_bytes (unused_bits format) (semi_planar_pixels format tables)
 
   -- a frame is one for a layout, and there are as many bytes as it has in it
-  pub record FillsLayout (format : SemiPlanarFormat) (frame : Frame T) (bytes : List ℕ) : Type 0 where
+  pub record FillsLayout (format : SemiPlanarFormat) (frame : Frame T) (bytes : List ℕ)
+      : Type 0 where
     pub layout : HasLayout form.size format frame
     pub long : length bytes ≡ length (semi_planar_bytes format (tables_of frame))
 

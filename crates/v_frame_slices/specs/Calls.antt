@@ -30,8 +30,8 @@ abbrev pub status_of_pair : {T : Type 0} → Rows → Rows → List T → List T
 status_of_pair a_rows b_rows a b =
     status_of_two (fits a_rows (length a)) (fits b_rows (length b)) (same_size a_rows b_rows)
 
--- rows that are made of others: whether numbers stand for a choice, whether the rows of both buffers
--- fit, and whether their sizes belong together
+-- rows that are made of others: whether numbers stand for a choice, whether the rows of both
+-- buffers fit, and whether their sizes belong together
 module _ {S T : Type 0} (rows source_rows : Rows) (source : List S) (old new : List T)
     (status : ℕ) where
   abbrev pub Makes : Bool → Bool → Type 0 → Type 0

@@ -1,22 +1,14 @@
 -- The planes of a frame in one buffer, one after the other: chroma covers luma, whether its size
 -- divides or not, and the border of luma is as wide as asked for, or wider until it divides.
-use Rattle.std.specs.Prelude.{ℕ, ◌+◌, ◌*◌, ◌==◌, Bool, ◌&&◌, if◌then◌else◌, Option, Some, None}
+use Rattle.std.specs.Prelude.{ℕ, ◌+◌, ◌*◌, Bool, ◌&&◌, if◌then◌else◌, Option, Some, None}
 use Rattle.std.specs.Int.{div_ceil}
-use Rattle.v_frame.specs.Prelude.{ChromaSubsampling, Yuv420, Yuv422, Yuv411, Yuv444, Monochrome, alloc_size_of, ratio_of, usize_max}
+use Rattle.v_frame.specs.Prelude.{ChromaSubsampling, alloc_size_of, ratio_of, usize_max}
+use Rattle.v_frame_slices.specs.Formats.{numbered_format}
 use Rattle.v_frame_slices.specs.Layout.{geometry_in, is_bordered}
 use Rattle.v_frame_slices.specs.declared.layout.Bordered.{Bordered}
 use Rattle.v_frame_slices.specs.declared.frame_parts.FrameRequest.{FrameRequest}
 use Rattle.v_frame_slices.specs.declared.frame_parts.FrameParts.{FrameParts}
 use Rattle.v_frame_slices.specs.declared.frame_parts.PlanePart.{PlanePart}
-
--- the format of a number
-abbrev pub numbered_format : ℕ → Option ChromaSubsampling
-numbered_format number =
-    if number == 0 then Some Monochrome
-    else (if number == 1 then Some Yuv420
-    else (if number == 2 then Some Yuv422
-    else (if number == 3 then Some Yuv444
-    else (if number == 4 then Some Yuv411 else None))))
 
 -- a picture with paddings on the left and the right, and above and below
 abbrev pub evenly_bordered : ℕ → ℕ → ℕ → ℕ → Bordered

@@ -4,6 +4,7 @@ pub mod Clipped
 pub mod ColorCalls
 pub mod ColorChoice
 pub mod Counts
+pub mod Formats
 pub mod Found
 pub mod FrameParts
 pub mod Layout

@@ -1,5 +1,5 @@
--- Frames whose samples stand in the top bits of words, and whose chroma takes turns in one plane, as
--- in P010, P210 and P410.
+-- Frames whose samples stand in the top bits of words, and whose chroma takes turns in one plane,
+-- as in P010, P210 and P410.
 use Rattle.std.specs.Prelude.{ℕ, ◌≡◌, ◌-◌, ◌*◌, ◌/◌, ◌%◌, ◌^◌, List, length}
 use Rattle.v_frame.specs.Prelude.{Table}
 use Rattle.v_frame_slices.specs.Calls.{Keeps}

@@ -4,6 +4,7 @@ ghost use Rattle.v_frame.specs.Prelude.{usize_max};
 ghost use Rattle.v_frame_slices.specs.FrameParts.{all_parts, chroma_in, evenly_bordered, frame_parts, frame_status, luma_in, luma_parts, no_part, size_of};
 ghost use Rattle.v_frame_slices.specs.Layout.{is_bordered};
 
+use crate::formats::format_of_number;
 use crate::layout::Bordered;
 use crate::status::{FIRST, FORMAT, OK};
 
@@ -48,13 +49,12 @@ pub fn lay_out(request: &FrameRequest, parts: &mut FrameParts) -> u32
         × (parts.new.v.offset + parts.new.v.count ≤ parts.new.count)) }
     ensures refused { result ≢ 0 → parts.new ≡ parts.old }
 {
-    let laid_out = match request.format {
-        0 => of_luma(request),
-        1 => of_all(request, 2, 2),
-        2 => of_all(request, 2, 1),
-        3 => of_all(request, 1, 1),
-        4 => of_all(request, 4, 1),
-        _ => return FORMAT,
+    let Some(format) = format_of_number(request.format) else {
+        return FORMAT;
+    };
+    let laid_out = match format.subsample_ratio() {
+        Some((x, y)) => of_all(request, usize::from(x.get()), usize::from(y.get())),
+        None => of_luma(request),
     };
     let Some(found) = laid_out else {
         return FIRST;

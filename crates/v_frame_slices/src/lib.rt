@@ -11,6 +11,7 @@ pub mod compare;
 pub mod compose;
 pub mod convert;
 pub mod counts;
+pub mod formats;
 pub mod frame_parts;
 pub mod halves;
 pub mod layout;

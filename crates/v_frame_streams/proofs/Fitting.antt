@@ -2,6 +2,8 @@
 use Rattle.std.proofs.Common.{ℕ, ◌≡◌, ◌∙◌, ◌+◌, ◌/◌, ◌%◌, ◌<◌, ◌≤◌, Bool, true, false, Option, ap, eqb-true, refl, subst, sym, arith}
 use Rattle.std.specs.Prelude.{if◌then◌else◌, ◌==◌, ◌&&◌, Some, None}
 use Rattle.std.specs.Int.{div_ceil}
+use denote.Enum.Bare.{same_true, sameb}
+use Rattle.v_frame_raster.specs.contracts.chroma.ChromaSubsampling.{the_type}
 use Rattle.v_frame.specs.Prelude.{ChromaSubsampling, Yuv420, Yuv422, Yuv411, Yuv444, Monochrome}
 use Rattle.v_frame_planar.specs.Video.{chroma_sizes_of, ratio_or_one}
 use Rattle.v_frame_y4m.specs.declared.header.StreamHeader.{StreamHeader}
@@ -12,7 +14,7 @@ use Rattle.v_frame_y4m.specs.declared.color.Color.{Color}
 use Rattle.v_frame_y4m.specs.declared.color.Color.TheVariants.{Unstated, Yuv420 as C420, Yuv420Jpeg, Yuv420Mpeg2, Yuv420Paldv, Yuv411 as C411, Yuv422 as C422, Yuv444 as C444, Mono, Yuv420HighDepth, Yuv422HighDepth, Yuv444HighDepth, MonoHighDepth}
 use Rattle.v_frame_y4m.specs.declared.color.Depth.{Depth}
 use Rattle.v_frame_y4m.specs.declared.color.Depth.TheVariants.{Nine, Ten, Twelve, Fourteen, Sixteen}
-use Rattle.v_frame_streams.specs.Conversions.{color_in, format_in, is_same_chroma, is_same_format, layout_in, layout_to, Format}
+use Rattle.v_frame_streams.specs.Conversions.{color_in, format_in, is_same_format, layout_in, layout_to, Format}
 use Rattle.v_frame_streams.specs.Layouts.{HoldsColor}
 use Rattle.v_frame_semi_planar.specs.Format.{sample_size_of, depth_of as layout_depth}
 use Rattle.v_frame_semi_planar.specs.declared.format.SemiPlanarFormat.{SemiPlanarFormat}
@@ -138,22 +140,14 @@ depth_fits bytes (Yuv422HighDepth depth) is = fits_of_bits bytes depth is
 depth_fits bytes (Yuv444HighDepth depth) is = fits_of_bits bytes depth is
 depth_fits bytes (MonoHighDepth depth) is = fits_of_bits bytes depth is
 
-same_chroma : (a b : ChromaSubsampling) → is_same_chroma a b ≡ true → a ≡ b
-same_chroma Yuv420 Yuv420 told = refl
-same_chroma Yuv422 Yuv422 told = refl
-same_chroma Yuv411 Yuv411 told = refl
-same_chroma Yuv444 Yuv444 told = refl
-same_chroma Monochrome Monochrome told = refl
-same_chroma _ _ told = cc
-
 both_true : (p q : Bool) → (p && q) ≡ true → (p ≡ true) × (q ≡ true)
 both_true true q told = (refl, told)
 both_true false q told = cc
 
 same_format : (from to : Format) → is_same_format from to ≡ true → from ≡ to
 same_format from to told =
-    let both = both_true (is_same_chroma from.0 to.0) (from.1 == to.1) told in
-    ap (λ (c : ChromaSubsampling). let f : Format = (c, from.1) in f) (same_chroma from.0 to.0 both.0)
+    let both = both_true (sameb the_type from.0 to.0) (from.1 == to.1) told in
+    ap (λ (c : ChromaSubsampling). let f : Format = (c, from.1) in f) (same_true the_type _ from.0 to.0 both.0)
     ∙ ap (λ (d : ℕ). let f : Format = (to.0, d) in f) (eqb-true from.1 to.1 both.1)
 
 -- frames that are asked for in a layout have what it is for

@@ -1,12 +1,13 @@
 -- Frames in another chroma format and bit depth.
-use Rattle.std.specs.Prelude.{ℕ, ◌≡◌, ◌-◌, ◌^◌, ◌==◌, ◌&&◌, ⊤, if◌then◌else◌, Bool, true, false, Option, Some, None}
+use Rattle.std.specs.Prelude.{ℕ, ◌≡◌, ◌-◌, ◌^◌, ◌==◌, ◌&&◌, ⊤, if◌then◌else◌, Bool, Option, Some, None}
 use Rattle.std.specs.Prelude.{option_map}
 use Rattle.std.specs.Prelude.{replicate}
 use Rattle.std.specs.Str.{bytes_eq}
 use Rattle.std.specs.Int.NonZero.{non_zero_u8_get}
 use Rattle.v_frame.specs.Prelude.{one_byte, two_bytes, Frame, PixelForm, Raster, Table, Tables}
-use Rattle.v_frame.specs.Prelude.{ChromaSubsampling, Yuv420 as Half, Yuv422 as Wide, Yuv411 as Quarter}
-use Rattle.v_frame.specs.Prelude.{Yuv444 as Full, Monochrome}
+use Rattle.v_frame.specs.Prelude.{ChromaSubsampling}
+use denote.Enum.Bare.{sameb}
+use Rattle.v_frame_raster.specs.contracts.chroma.ChromaSubsampling.{the_type}
 use Rattle.v_frame_convert.specs.Prelude.{converted, pixel_at_depth, pixel_of_depth, scaled}
 use Rattle.v_frame_convert.specs.Prelude.{scales_between, DepthFits, SizesFit}
 use Rattle.v_frame_convert.specs.declared.scale.Scale.{Scale}
@@ -39,17 +40,9 @@ format_of frame = (frame.subsampling, non_zero_u8_get frame.bit_depth)
 abbrev pub form_of : ℕ → PixelForm ℕ
 form_of depth = if depth == 8 then one_byte else two_bytes
 
-abbrev pub is_same_chroma : ChromaSubsampling → ChromaSubsampling → Bool
-is_same_chroma Half Half = true
-is_same_chroma Wide Wide = true
-is_same_chroma Quarter Quarter = true
-is_same_chroma Full Full = true
-is_same_chroma Monochrome Monochrome = true
-is_same_chroma _ _ = false
-
 -- whether frames of one format are frames of the other as they are
 abbrev pub is_same_format : Format → Format → Bool
-is_same_format from to = is_same_chroma from.0 to.0 && (from.1 == to.1)
+is_same_format from to = sameb the_type from.0 to.0 && (from.1 == to.1)
 
 -- whether two colors are one, which they are where a header line spells them alike
 abbrev pub is_same_color : Color → Color → Bool

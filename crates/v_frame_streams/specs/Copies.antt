@@ -146,13 +146,6 @@ same_bytes bytes = bytes
 abbrev pub made_stream : Container → (List ℕ → List ℕ) → List Framed → List ℕ
 made_stream to made frames = flat_map (λ frame. written_bytes to (made frame.1)) frames
 
--- all that is written
-abbrev pub copied_stream : Container → CopyOptions → StreamHeader → Option SemiPlanarFormat
-    → List Framed → List ℕ
-copied_stream to options header layout frames =
-    header_bytes to (copied_header options header)
-    ++ made_stream to (copied_bytes to options header layout) (kept options frames)
-
 module _ (from : Container) (count : ℕ) (left left' has has' : Option (List ℕ)) where
   -- So many frames were read, none more than asked for, and what is made of each was written. Fewer
   -- were only where the stream came to its end.

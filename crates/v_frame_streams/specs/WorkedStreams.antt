@@ -117,6 +117,7 @@ failed_frame : StopsFrame (record { bytes = Some (70 ∷ []); failures = 2 })
 failed_frame = (refl, refl)
 
 -- chroma is added where both have it
-sums_are_added : added (record { y = 1; u = Some 2; v = None }) (record { y = 3; u = Some 4; v = Some 5 })
+sums_are_added : added (record { y = 1; u = Some 2; v = None })
+    (record { y = 3; u = Some 4; v = Some 5 })
     ≡ record { y = 4; u = Some 6; v = None }
 sums_are_added = refl

@@ -1,9 +1,8 @@
 //! The formats of colors: whether frames of one are frames of another.
 ghost use Rattle.std.specs.Prelude.{◌≡◌, ◌↔◌, IsTrue};
-ghost use Rattle.v_frame_streams.specs.Conversions.{format_in, is_same_chroma as have_one_chroma, is_same_color as have_one_spelling, is_same_format as have_one_format};
-ghost use Rattle.v_frame_streams.specs.Layouts.{is_same_layout as have_one_layout, HoldsColor};
+ghost use Rattle.v_frame_streams.specs.Conversions.{format_in, is_same_color as have_one_spelling, is_same_format as have_one_format};
+ghost use Rattle.v_frame_streams.specs.Layouts.{HoldsColor};
 
-use v_frame::chroma::ChromaSubsampling;
 use v_frame_semi_planar::SemiPlanarFormat;
 use v_frame_y4m::Color;
 
@@ -11,7 +10,7 @@ use v_frame_y4m::Color;
 pub(crate) fn is_same_format(from: Color, to: Color) -> bool
     ensures { result ≡ have_one_format (format_in from) (format_in to) }
 {
-    is_same_chroma(from.subsampling(), to.subsampling()) && from.bit_depth() == to.bit_depth()
+    from.subsampling() == to.subsampling() && from.bit_depth() == to.bit_depth()
 }
 
 /// Returns whether two colors are one, by their spelling.
@@ -31,35 +30,4 @@ pub(crate) fn holds_color(layout: Option<SemiPlanarFormat>, color: Color) -> boo
         }
         None => true,
     }
-}
-
-/// Returns whether two layouts are one, where `None` is planar.
-pub(crate) fn is_same_layout(from: Option<SemiPlanarFormat>, to: Option<SemiPlanarFormat>) -> bool
-    ensures { result ≡ have_one_layout from to }
-{
-    matches!(
-        (from, to),
-        (None, None)
-            | (Some(SemiPlanarFormat::Nv12), Some(SemiPlanarFormat::Nv12))
-            | (Some(SemiPlanarFormat::Nv21), Some(SemiPlanarFormat::Nv21))
-            | (Some(SemiPlanarFormat::Nv16), Some(SemiPlanarFormat::Nv16))
-            | (Some(SemiPlanarFormat::Nv24), Some(SemiPlanarFormat::Nv24))
-            | (Some(SemiPlanarFormat::P010), Some(SemiPlanarFormat::P010))
-            | (Some(SemiPlanarFormat::P012), Some(SemiPlanarFormat::P012))
-            | (Some(SemiPlanarFormat::P016), Some(SemiPlanarFormat::P016))
-    )
-}
-
-/// Returns whether two chroma subsamplings are one.
-fn is_same_chroma(from: ChromaSubsampling, to: ChromaSubsampling) -> bool
-    ensures { result ≡ have_one_chroma from to }
-{
-    matches!(
-        (from, to),
-        (ChromaSubsampling::Yuv420, ChromaSubsampling::Yuv420)
-            | (ChromaSubsampling::Yuv422, ChromaSubsampling::Yuv422)
-            | (ChromaSubsampling::Yuv411, ChromaSubsampling::Yuv411)
-            | (ChromaSubsampling::Yuv444, ChromaSubsampling::Yuv444)
-            | (ChromaSubsampling::Monochrome, ChromaSubsampling::Monochrome)
-    )
 }

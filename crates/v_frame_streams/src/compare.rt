@@ -79,9 +79,9 @@ pub fn compare_streams<
 {
     check_formats(first, second)?;
     if first.header().color.bit_depth() == 8 {
-        return Ok(compare_as::<u8, _, _, _, _>(alloc, first, second, options, observer, progress)?);
+        return compare_as::<u8, _, _, _, _>(alloc, first, second, options, observer, progress);
     }
-    Ok(compare_as::<u16, _, _, _, _>(alloc, first, second, options, observer, progress)?)
+    compare_as::<u16, _, _, _, _>(alloc, first, second, options, observer, progress)
 }
 
 /// Compares two streams of one format with pixels of this type.
@@ -115,9 +115,9 @@ fn compare_as<T: Pixel, R: io::Read, S: io::Read, O: FrameObserver<T>, P: Progre
     skip_frames(first, options.skip_first, &mut Silent)?;
     skip_frames(second, options.skip_second, &mut Silent)?;
     let most = options.count.unwrap_or(u64::MAX);
-    Ok(compare_frames(
+    compare_frames(
         first, second, &mut one, &mut other, most, observer, progress,
-    )?)
+    )
 }
 
 /// Compares so many frames, or as many as both streams have where they are fewer.

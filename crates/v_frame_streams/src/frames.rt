@@ -1,14 +1,14 @@
 //! Two frames of one size, compared: how far their planes are apart, and where they first differ.
 ghost use Rattle.std.specs.Prelude.{◌≡◌, ◌<◌, ◌↔◌, IfSome, IsNone, Some, option_map};
-ghost use Rattle.v_frame.specs.Prelude.{pixel_at, table_of, tables_of};
+ghost use Rattle.v_frame.specs.Prelude.{height_of, pixel_at, table_of, tables_of, width_of};
 ghost use Rattle.v_frame_planar.specs.Planar.{size_of, sizes_of};
 ghost use Rattle.v_frame_streams.specs.Frames.{chroma_errors, plane_errors, DiffersFirst, ChromaDiffersFirst, FramesDifferFirst};
 
 use v_frame::frame::Frame;
 use v_frame::pixel::Pixel;
-use v_frame::plane::{Plane, PlaneRef};
+use v_frame::plane::{Plane, RowsRef};
 use v_frame_formats::{Component, PixelDifference, PlaneSums};
-use v_frame_ops::{first_difference, sum_of_squared_errors};
+use v_frame_ops::rows::{first_difference, sum_of_squared_errors};
 
 /// Returns the sums, plane by plane, of the squares of the differences of the pixels. They are exact, and never too large.
 pub(crate) fn squared_errors_of_frames<T: Pixel>(first: &Frame<T>, second: &Frame<T>) -> PlaneSums
@@ -54,9 +54,10 @@ fn errors_of_planes<T: Pixel>(first: &Plane<T>, second: &Plane<T>) -> u128
     requires { size_of (table_of first.now) ≡ size_of (table_of second.now) }
     ensures { result ≡ plane_errors T.form.value (table_of first.now) (table_of second.now) }
 {
-    let (first, second) = (first.as_plane_ref(), second.as_plane_ref());
-    same_dimensions(&first, &second);
-    sum_of_squared_errors(&first, &second)
+    sum_of_squared_errors(
+        &first.as_plane_ref().as_rows_ref(),
+        &second.as_plane_ref().as_rows_ref(),
+    )
 }
 
 /// Returns the sum for two chroma planes, where they are there.
@@ -84,8 +85,8 @@ fn difference_of_planes<T: Pixel>(
     ensures first { IfSome result (DiffersFirst T.form.value (table_of first.now)
         (table_of second.now)) }
 {
-    let (first, second) = (first.as_plane_ref(), second.as_plane_ref());
-    same_dimensions(&first, &second);
+    let first = first.as_plane_ref().as_rows_ref();
+    let second = second.as_plane_ref().as_rows_ref();
     let (x, y) = first_difference(&first, &second)?;
     Some(PixelDifference {
         component,
@@ -116,26 +117,11 @@ fn difference_of_chroma<T: Pixel>(
     }
 }
 
-/// Planes whose tables have one size have one width and one height.
-fn same_dimensions<T: Pixel>(first: &PlaneRef<'_, T>, second: &PlaneRef<'_, T>)
-    requires { size_of (table_of first.now) ≡ size_of (table_of second.now) }
-    ensures wide { first.now.geometry.width ≡ second.now.geometry.width }
-    ensures high { first.now.geometry.height ≡ second.now.geometry.height }
+/// Returns the value of a pixel.
+fn value_at<T: Pixel>(rows: &RowsRef<'_, T>, x: usize, y: usize) -> u16
+    requires wide { x < width_of rows.now }
+    requires high { y < height_of rows.now }
+    ensures { option_map T.form.value (pixel_at rows.now x y) ≡ Some result }
 {
-    // What the clauses of these calls say is the proof.
-    let _sizes = (
-        first.width(),
-        first.height(),
-        second.width(),
-        second.height(),
-    );
-}
-
-/// Returns the value of a visible pixel.
-fn value_at<T: Pixel>(plane: &PlaneRef<'_, T>, x: usize, y: usize) -> u16
-    requires wide { x < plane.now.geometry.width }
-    requires high { y < plane.now.geometry.height }
-    ensures { option_map T.form.value (pixel_at (table_of plane.now) x y) ≡ Some result }
-{
-    plane.visible_row(y)[x].into_u16()
+    rows.visible_row(y)[x].into_u16()
 }

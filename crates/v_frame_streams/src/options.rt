@@ -1,6 +1,6 @@
 //! What a copy takes of a stream, and what it makes of its frames.
 
-use crate::colors::{is_same_format, is_same_layout};
+use crate::colors::is_same_format;
 use crate::stream::Container;
 use v_frame_formats::{Rectangle, VideoFormat};
 use v_frame_semi_planar::SemiPlanarFormat;
@@ -72,7 +72,7 @@ impl CopyOptions {
     {
         self.crop.is_none()
             && !self.half
-            && is_same_layout(self.layout_to(to, layout), layout)
+            && self.layout_to(to, layout) == layout
             && is_same_format(header.color, self.color(header.color))
     }
 

@@ -36,8 +36,10 @@ is_turnable turn subsampling =
 
 -- a size is another one, or that one exchanged
 abbrev pub SizeFits : Bool → ℕ → ℕ → ℕ → ℕ → Type 0
-SizeFits false width height target_width target_height = (width ≡ target_width) × (height ≡ target_height)
-SizeFits true width height target_width target_height = (height ≡ target_width) × (width ≡ target_height)
+SizeFits false width height target_width target_height =
+    (width ≡ target_width) × (height ≡ target_height)
+SizeFits true width height target_width target_height =
+    (height ≡ target_width) × (width ≡ target_height)
 
 module _ {T : Type 0} where
   abbrev pub turned : TheTurn → Table T → Table T
@@ -56,7 +58,8 @@ module _ {T : Type 0} where
   -- a plane has the size of another one, or that size exchanged
   abbrev pub PlaneFits : Bool → Raster T → Raster T → Type 0
   PlaneFits exchanged source target =
-      SizeFits exchanged source.geometry.width source.geometry.height target.geometry.width target.geometry.height
+      SizeFits exchanged source.geometry.width source.geometry.height target.geometry.width
+      target.geometry.height
 
   -- both planes are there, and one fits the other, or both are absent
   abbrev pub BothFit : Bool → Option (Raster T) → Option (Raster T) → Type 0
@@ -90,7 +93,8 @@ module _ {T : Type 0} where
       × ¬ BothFit (exchanges turn) (plane_at source plane) (plane_at target plane)
 
   -- a frame shows another one turned, where it can, and else is as it was
-  pub record IsTurned {A : Type 0} (turn : TheTurn) (source old new : Frame T) (result : Result A TurnError) : Type 0 where
+  pub record IsTurned {A : Type 0} (turn : TheTurn) (source old new : Frame T)
+      (result : Result A TurnError) : Type 0 where
     pub shown : OnOk result (tables_of new ≡ turned_tables (turned turn) (tables_of source))
     pub accepted : OnOk result (TurnFits turn source old)
     pub refused : IfErr result (IsReason turn source old)

@@ -6,7 +6,8 @@ use Rattle.v_frame_y4m.specs.Color.{color_with, depth_of, siting_of, subsampling
 use Rattle.v_frame_y4m.specs.declared.color.ChromaSiting.{ChromaSiting}
 use Rattle.v_frame_y4m.specs.declared.color.Color.{Color}
 use Rattle.v_frame_y4m.specs.declared.header.StreamHeader.{StreamHeader}
-use Rattle.v_frame_y4m_c.specs.Header.{format_number, interlacing_number, numbers_of, ratio_numbers, siting_number}
+use Rattle.v_frame_slices.specs.Formats.{format_number}
+use Rattle.v_frame_y4m_c.specs.Header.{interlacing_number, numbers_of, ratio_numbers, siting_number}
 use Rattle.v_frame_y4m_c.specs.declared.header.Header.{Header}
 
 -- numbers that agree one by one are the numbers

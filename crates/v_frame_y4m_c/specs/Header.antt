@@ -1,6 +1,6 @@
 -- A header in numbers, as C reads it, and the numbers of an error.
 use Rattle.std.specs.Prelude.{ℕ, Option, Some, None}
-use Rattle.v_frame.specs.Prelude.{ChromaSubsampling, Yuv420, Yuv422, Yuv411, Yuv444, Monochrome}
+use Rattle.v_frame_slices.specs.Formats.{format_number}
 use Rattle.v_frame_y4m.specs.Color.{depth_of, siting_of, subsampling_of}
 use Rattle.v_frame_y4m.specs.declared.color.ChromaSiting.{ChromaSiting}
 use Rattle.v_frame_y4m.specs.declared.color.ChromaSiting.TheVariants.{Center, Left, Alternating}
@@ -14,13 +14,6 @@ use Rattle.v_frame_y4m.specs.declared.error.HeaderError.TheVariants.{NotAStream,
 use Rattle.v_frame_y4m.specs.declared.error.HeaderError.TheVariants.{ZeroSize, SizeTooLarge, UnknownColor, OutOfMemory}
 use Rattle.v_frame_y4m_c.specs.declared.header.Header.{Header}
 use Rattle.v_frame_y4m_c.specs.declared.header.Ratio.{Ratio}
-
-abbrev pub format_number : ChromaSubsampling → ℕ
-format_number Monochrome = 0
-format_number Yuv420 = 1
-format_number Yuv422 = 2
-format_number Yuv444 = 3
-format_number Yuv411 = 4
 
 abbrev pub siting_number : Option ChromaSiting → ℕ
 siting_number None = 0

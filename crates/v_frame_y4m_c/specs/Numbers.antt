@@ -8,7 +8,8 @@ use Rattle.v_frame_y4m.specs.declared.color.Color.{Color}
 use Rattle.v_frame_y4m.specs.declared.header.Interlacing.{Interlacing}
 use Rattle.v_frame_y4m.specs.declared.header.Ratio.{Ratio as TheRatio}
 use Rattle.v_frame_y4m.specs.declared.header.StreamHeader.{StreamHeader}
-use Rattle.v_frame_y4m_c.specs.Header.{format_number, interlacing_number, numbers_of, ratio_numbers, siting_number}
+use Rattle.v_frame_slices.specs.Formats.{format_number}
+use Rattle.v_frame_y4m_c.specs.Header.{interlacing_number, numbers_of, ratio_numbers, siting_number}
 use Rattle.v_frame_y4m_c.specs.declared.header.Header.{Header}
 use Rattle.v_frame_y4m_c.specs.declared.numbers.NumberFault.{NumberFault}
 use Rattle.v_frame_y4m_c.specs.declared.numbers.NumberFault.TheVariants.{ZeroSize, NoSuchNumber, NoSuchColor}

@@ -1,7 +1,8 @@
 -- A header in numbers worked out by hand. Each line computes: it is proved by `refl`.
 use Rattle.std.specs.Prelude.{◌≡◌, Some, None, refl}
 use Rattle.v_frame.specs.Prelude.{Yuv411}
-use Rattle.v_frame_y4m_c.specs.Header.{format_number, interlacing_number, ratio_numbers, siting_number}
+use Rattle.v_frame_slices.specs.Formats.{format_number}
+use Rattle.v_frame_y4m_c.specs.Header.{interlacing_number, ratio_numbers, siting_number}
 
 quarter : format_number Yuv411 ≡ 4
 quarter = refl

@@ -1,8 +1,8 @@
 //! A header in numbers. Any bytes in these structs are a value.
 ghost use Rattle.std.specs.Prelude.{◌≡◌};
-ghost use Rattle.v_frame_y4m_c.specs.Header.{format_number, interlacing_number, numbers_of, ratio_numbers, siting_number};
+ghost use Rattle.v_frame_y4m_c.specs.Header.{interlacing_number, numbers_of, ratio_numbers, siting_number};
 
-use v_frame::chroma::ChromaSubsampling;
+use v_frame_slices::formats::number_of_format;
 use v_frame_y4m::{ChromaSiting, Interlacing, Ratio as TheRatio, StreamHeader};
 
 /// Two numbers, where `stated` is 1. Else all three are 0.
@@ -38,7 +38,7 @@ impl Header {
             height: header.height,
             frame_rate: ratio_of(header.frame_rate),
             pixel_aspect: ratio_of(header.pixel_aspect),
-            format: format_of(header.color.subsampling()),
+            format: number_of_format(header.color.subsampling()),
             bit_depth: u32::from(header.color.bit_depth()),
             siting: siting_of(header.color.siting()),
             interlacing: interlacing_of(header.interlacing),
@@ -61,19 +61,6 @@ fn ratio_of(ratio: Option<TheRatio>) -> Ratio
             denominator: 0,
             stated: 0,
         },
-    }
-}
-
-/// Returns the number of a format.
-fn format_of(format: ChromaSubsampling) -> u32
-    ensures { result ≡ format_number format }
-{
-    match format {
-        ChromaSubsampling::Monochrome => 0,
-        ChromaSubsampling::Yuv420 => 1,
-        ChromaSubsampling::Yuv422 => 2,
-        ChromaSubsampling::Yuv444 => 3,
-        ChromaSubsampling::Yuv411 => 4,
     }
 }
 

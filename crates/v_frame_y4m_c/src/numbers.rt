@@ -1,6 +1,5 @@
 //! The stream header that numbers are of.
 ghost use Rattle.std.specs.Prelude.{◌≡◌, ◌≢◌, IfErr, IfNone, IfOk, IfSome, MatchOption, Option};
-ghost use Rattle.v_frame.specs.Prelude.{ChromaSubsampling as TheFormat};
 ghost use Rattle.v_frame_y4m.specs.Color.{color_with, depth_of, siting_of, subsampling_of};
 ghost use Rattle.v_frame_y4m.specs.declared.color.Color.{Color as TheColor};
 ghost use Rattle.v_frame_y4m.specs.Header.{IsWritable};
@@ -8,12 +7,13 @@ ghost use Rattle.v_frame_y4m.specs.declared.color.ChromaSiting.{ChromaSiting as 
 ghost use Rattle.v_frame_y4m.specs.declared.header.Interlacing.{Interlacing as TheInterlacing};
 ghost use Rattle.v_frame_y4m.specs.declared.header.Ratio.{Ratio as ARatio};
 ghost use Rattle.v_frame_y4m.specs.declared.header.StreamHeader.{StreamHeader as TheHeader};
-ghost use Rattle.v_frame_y4m_c.specs.Header.{format_number, interlacing_number, numbers_of, ratio_numbers, siting_number};
+ghost use Rattle.v_frame_y4m_c.specs.Header.{interlacing_number, numbers_of, ratio_numbers, siting_number};
 ghost use Rattle.v_frame_y4m_c.specs.Numbers.{HasNoHeader, IsHeaderOf};
 
 use crate::header::{Header, Ratio};
 use std::alloc::Global;
 use v_frame::chroma::ChromaSubsampling;
+use v_frame_slices::formats::format_of_number;
 use v_frame_y4m::{ChromaSiting, Color, Interlacing, Ratio as TheRatio, StreamHeader};
 
 /// Why numbers are of no header that has a line.
@@ -51,7 +51,7 @@ impl Header {
         let Some(interlacing) = interlacing_numbered(self.interlacing) else {
             return Err(NumberFault::NoSuchNumber);
         };
-        let Some(format) = format_numbered(self.format) else {
+        let Some(format) = format_of_number(self.format) else {
             return Err(NumberFault::NoSuchNumber);
         };
         let Some(siting) = siting_numbered(self.siting) else {
@@ -101,21 +101,6 @@ fn ratio_numbered(ratio: &Ratio) -> Option<Option<TheRatio>>
             numerator: ratio.numerator,
             denominator: ratio.denominator,
         })),
-        _ => None,
-    }
-}
-
-/// Returns the format of a number.
-fn format_numbered(number: u32) -> Option<ChromaSubsampling>
-    ensures { MatchOption result ((f : TheFormat) → format_number f ≢ number)
-        (λ f. format_number f ≡ number) }
-{
-    match number {
-        0 => Some(ChromaSubsampling::Monochrome),
-        1 => Some(ChromaSubsampling::Yuv420),
-        2 => Some(ChromaSubsampling::Yuv422),
-        3 => Some(ChromaSubsampling::Yuv444),
-        4 => Some(ChromaSubsampling::Yuv411),
         _ => None,
     }
 }

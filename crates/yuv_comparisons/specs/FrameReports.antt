@@ -16,8 +16,8 @@ module _ {W : Type 0} (contents : W → Option (List ℕ)) (old new : FrameRepor
     pub before : new.before ≡ old.before
     pub known : IsSome (contents old.out) → IsSome (contents new.out)
 
-  -- two frames of these errors were counted, and reported under the number that the one of the first
-  -- stream has there, where frames are listed
+  -- two frames of these errors were counted, and reported under the number that the one of the
+  -- first stream has there, where frames are listed
   pub record ReportsFrame (errors : PlaneSums) : Type 0 where
     pub stays : StaysAsked
     pub counted : new.frames ≡ min (old.frames + 1) most_frames

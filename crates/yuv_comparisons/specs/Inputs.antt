@@ -13,11 +13,12 @@ use Rattle.yuv_system.specs.declared.status.Status.{Status}
 use Rattle.yuv_system.specs.declared.status.Status.TheVariants.{Failed, Same}
 use Rattle.yuv_words.specs.declared.command.Call.{Call}
 
--- Both files of the call were opened, each as its option `--raw` or `--raw-second` says, with `left` and
--- `other_left` behind their headers. The streams were compared as the options say, and the status says
--- what was found.
+-- Both files of the call were opened, each as its option `--raw` or `--raw-second` says, with
+-- `left` and `other_left` behind their headers. The streams were compared as the options say, and
+-- the status says what was found.
 pub record ComparesInputs {F I : Type 0} (files : F → Option (List ℕ))
-    (standard : I → Option (List ℕ)) (call : Call) (input : Option I) (status : Status) : Type 0 where
+    (standard : I → Option (List ℕ)) (call : Call) (input : Option I) (status : Status)
+    : Type 0 where
   pub left : Option (List ℕ)
   pub first : Source (MutBor (InputFile F I))
   pub opened : OpensFile files standard call.first.now input call.options.raw left first
@@ -26,7 +27,8 @@ pub record ComparesInputs {F I : Type 0} (files : F → Option (List ℕ))
   pub behind : Option I
   pub taken : call.first.now ≡ codes "-" → behind ≡ None
   pub kept : call.first.now ≢ codes "-" → behind ≡ input
-  pub other_opened : OpensFile files standard call.second.now behind call.options.raw_second other_left
+  pub other_opened : OpensFile files standard call.second.now behind call.options.raw_second
+      other_left
       second
   pub rest : Option (List ℕ)
   pub other_rest : Option (List ℕ)

@@ -8,7 +8,6 @@ use Rattle.yuv_reports.specs.Frames.{end_by_parts}
 use Rattle.yuv_reports.specs.Texts.{EndsWith}
 use Rattle.yuv_reports.specs.declared.comparison.Longer.{Longer}
 use Rattle.yuv_reports.specs.declared.comparison.ReportForm.{ReportForm}
-use Rattle.yuv_reports.specs.declared.planes.PlaneValues.{PlaneValues}
 use Rattle.v_frame_streams.specs.Prelude.{most_frames}
 use Rattle.v_frame_streams.specs.declared.comparison.Comparison.{Comparison}
 use Rattle.v_frame_formats.specs.declared.difference.PixelDifference.{PixelDifference}
@@ -20,16 +19,12 @@ use Rattle.v_frame_formats.specs.declared.sums.PlaneSums.{PlaneSums}
 abbrev pub sums_asked : Bool → PlaneSums → Option PlaneSums
 sums_asked exact sums = if exact then Some sums else None
 
--- a measure of a frame as a report has it
-abbrev pub values_of : FrameMeasure → PlaneValues
-values_of measure = record { all = measure.all; y = measure.y; u = measure.u; v = measure.v }
-
 -- the structural similarities of two frames of a bit depth
-abbrev pub similarities_of : {T : Type 0} → PixelForm T → ℕ → Tables T → Tables T → PlaneValues
-similarities_of form depth a b = values_of (measured (ssim_of form (peak_of depth)) a b)
+abbrev pub similarities_of : {T : Type 0} → PixelForm T → ℕ → Tables T → Tables T → FrameMeasure
+similarities_of form depth a b = measured (ssim_of form (peak_of depth)) a b
 
--- the number that a frame has in its file: so many stand before those that are compared, of which it
--- is the one of this number, counted from 1
+-- the number that a frame has in its file: so many stand before those that are compared, of which
+-- it is the one of this number, counted from 1
 abbrev pub frame_number : ℕ → ℕ → ℕ
 frame_number before number = min (before + number) most_frames
 

@@ -9,14 +9,14 @@ ghost use Rattle.yuv_comparisons.specs.Reports.{difference_said, frame_number, l
 ghost use Rattle.yuv_reports.specs.Frames.{EndsWithFrame};
 ghost use Rattle.yuv_reports.specs.Texts.{EndsWith};
 
-use crate::measures::{Means, Scale, reported};
+use crate::measures::{Means, Scale};
 use std::alloc::{AllocError, Global};
 use std::io;
 use v_frame::frame::Frame;
 use v_frame::pixel::Pixel;
-use v_frame_measures::{frame_ssim, frames_have_one_size};
+use v_frame_measures::{FrameMeasure, frame_ssim, frames_have_one_size};
 use v_frame_streams::{Comparison, FrameObserver, Place, PlaneSums, StreamError};
-use yuv_reports::{FrameMeasures, Longer, PlaneValues, Report};
+use yuv_reports::{FrameMeasures, Longer, Report};
 use yuv_system::{no_memory, write_text};
 
 /// Reports each two frames that are compared, and all of them at the end.
@@ -160,7 +160,11 @@ impl<W: io::Write> FrameReport<W> {
     }
 
     /// Returns the structural similarities of two frames, where they are measured.
-    fn similarities<T: Pixel>(&mut self, first: &Frame<T>, second: &Frame<T>) -> Option<PlaneValues>
+    fn similarities<T: Pixel>(
+        &mut self,
+        first: &Frame<T>,
+        second: &Frame<T>,
+    ) -> Option<FrameMeasure>
         ensures unasked { IsNone self.old.ssim → result ≡ None }
         ensures measured { IfSome result (λ values. values ≡ similarities_of T.form
             (non_zero_u8_get first.now.bit_depth) (tables_of first.now) (tables_of second.now)) }
@@ -180,7 +184,7 @@ impl<W: io::Write> FrameReport<W> {
         if !frames_have_one_size(first, second) {
             return None;
         }
-        let measured = reported(frame_ssim(first, second)?);
+        let measured = frame_ssim(first, second)?;
         means.add(&measured);
         Some(measured)
     }
@@ -206,8 +210,8 @@ impl<T: Pixel, W: io::Write> FrameObserver<T> for FrameReport<W> {
 }
 
 /// Returns a similarity of no frames, with the planes that there are.
-fn blank(planes: &PlaneSums) -> PlaneValues {
-    PlaneValues {
+fn blank(planes: &PlaneSums) -> FrameMeasure {
+    FrameMeasure {
         all: 0.0,
         y: 0.0,
         u: planes.u.map(|_| 0.0),

@@ -1,11 +1,11 @@
 //! The measures of a report, from the sums of squared errors and the structural similarities of frames.
 ghost use Rattle.std.specs.Prelude.{◌≡◌};
-ghost use Rattle.yuv_comparisons.specs.Reports.{sums_asked, values_of};
+ghost use Rattle.yuv_comparisons.specs.Reports.{sums_asked};
 
 use std::num::nearest_u64_to_f64;
 use v_frame_measures::{FrameMeasure, Mean, psnr};
 use v_frame_streams::PlaneSums;
-use yuv_reports::{FrameMeasures, PlaneValues};
+use yuv_reports::FrameMeasures;
 
 /// What measures are made of besides the errors.
 #[derive(Clone, Copy)]
@@ -24,7 +24,7 @@ impl Scale {
         &self,
         errors: &PlaneSums,
         frames: u64,
-        ssim: Option<PlaneValues>,
+        ssim: Option<FrameMeasure>,
     ) -> FrameMeasures
         ensures ssim { result.ssim ≡ ssim }
         ensures sums { result.sums ≡ sums_asked self.now.exact errors.now }
@@ -40,8 +40,8 @@ impl Scale {
 }
 
 /// Returns the mean squared errors of so many samples: of all together, and of those of each plane that there is.
-fn mean_errors(errors: &PlaneSums, pixels: &PlaneSums) -> PlaneValues {
-    PlaneValues {
+fn mean_errors(errors: &PlaneSums, pixels: &PlaneSums) -> FrameMeasure {
+    FrameMeasure {
         all: mean_squared_error(errors.total(), pixels.total()),
         y: mean_squared_error(errors.y, pixels.y),
         u: chroma_error(errors.u, pixels.u),
@@ -75,8 +75,8 @@ fn nearest(number: u128) -> f64 {
 }
 
 /// Returns the peak signal-to-noise ratios that belong to mean squared errors.
-fn ratios(mse: &PlaneValues, bit_depth: u8) -> PlaneValues {
-    PlaneValues {
+fn ratios(mse: &FrameMeasure, bit_depth: u8) -> FrameMeasure {
+    FrameMeasure {
         all: psnr(mse.all, bit_depth),
         y: psnr(mse.y, bit_depth),
         u: chroma_ratio(mse.u, bit_depth),
@@ -89,18 +89,6 @@ fn chroma_ratio(mse: Option<f64>, bit_depth: u8) -> Option<f64> {
     match mse {
         Some(mse) => Some(psnr(mse, bit_depth)),
         None => None,
-    }
-}
-
-/// Returns a measure of a frame as a report has it.
-pub(crate) fn reported(measure: FrameMeasure) -> PlaneValues
-    ensures { result ≡ values_of measure }
-{
-    PlaneValues {
-        all: measure.all,
-        y: measure.y,
-        u: measure.u,
-        v: measure.v,
     }
 }
 
@@ -126,7 +114,7 @@ impl Means {
     }
 
     /// Adds a frame.
-    pub(crate) fn add(&mut self, measure: &PlaneValues) {
+    pub(crate) fn add(&mut self, measure: &FrameMeasure) {
         self.all.add(measure.all);
         self.y.add(measure.y);
         if let Some(u) = measure.u {
@@ -138,9 +126,9 @@ impl Means {
     }
 
     /// Returns the means. `None` where there are no frames.
-    pub(crate) fn values(&self) -> Option<PlaneValues> {
+    pub(crate) fn values(&self) -> Option<FrameMeasure> {
         match (self.all.value(), self.y.value()) {
-            (Some(all), Some(y)) => Some(PlaneValues {
+            (Some(all), Some(y)) => Some(FrameMeasure {
                 all,
                 y,
                 u: self.u.value(),

@@ -4,7 +4,7 @@ ghost use Rattle.yuv_system.specs.Options.{plot_of};
 ghost use Rattle.yuv_words.specs.declared.command.CommandName.TheVariants.{Plot};
 
 use crate::compare::samples_of;
-use crate::measures::{Scale, reported};
+use crate::measures::Scale;
 use std::alloc::{AllocError, Global};
 use std::io::{self, Write};
 use std::rt::Files;
@@ -12,12 +12,11 @@ use std::time::Clock;
 use v_frame::frame::Frame;
 use v_frame::pixel::Pixel;
 use v_frame_chart::{Chart, Series, svg};
-use v_frame_measures::{frame_ssim, frames_have_one_size};
+use v_frame_measures::{FrameMeasure, frame_ssim, frames_have_one_size};
 use v_frame_streams::{
     CompareOptions, FrameObserver, Place, PlaneSums, Progress, Source, StreamError, compare_streams,
 };
 use yuv_files::SystemFile;
-use yuv_reports::PlaneValues;
 use yuv_system::{
     Fault, Output, Status, System, begin, expected_frames, no_memory, open_file, taken_of_both,
     test_compared, write_text,
@@ -139,7 +138,7 @@ impl PlaneCurves {
     }
 
     /// Adds a frame.
-    fn add(&mut self, values: &PlaneValues) -> Result<(), AllocError> {
+    fn add(&mut self, values: &FrameMeasure) -> Result<(), AllocError> {
         self.y.push(values.y)?;
         if let Some(u) = values.u {
             self.u.push(u)?;
@@ -218,7 +217,7 @@ impl Curves {
             return Ok(());
         }
         match frame_ssim(first, second) {
-            Some(ssim) => self.ssim.add(&reported(ssim)),
+            Some(ssim) => self.ssim.add(&ssim),
             None => Ok(()),
         }
     }

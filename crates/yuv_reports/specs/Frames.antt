@@ -29,7 +29,8 @@ separator Json false = codes "," ++ (10 ∷ [])
 -- reported
 abbrev pub AppendsFrame : ReportForm → ℕ → Option PlaneSums → List ℕ → List ℕ → Type 0
 AppendsFrame form number sums old new =
-    (values : List ℕ) × (new ≡ old ++ (frame_begin form number ++ (values ++ end_of_frame form sums)))
+    (values : List ℕ)
+    × (new ≡ old ++ (frame_begin form number ++ (values ++ end_of_frame form sums)))
 
 -- the same, after what stands between it and the one before it
 abbrev pub AppendsNext : ReportForm → Bool → ℕ → Option PlaneSums → List ℕ → List ℕ → Type 0
@@ -49,7 +50,8 @@ place_members frame plane x y =
     ++ (decimal frame
     ++ (codes ", \"plane\": \""
     ++ (plane
-    ++ (codes "\", \"column\": " ++ (decimal x ++ (codes ", \"row\": " ++ (decimal y ++ codes ", ")))))))
+    ++ (codes "\", \"column\": "
+    ++ (decimal x ++ (codes ", \"row\": " ++ (decimal y ++ codes ", ")))))))
 
 abbrev pub sample_object : ℕ → PixelDifference → List ℕ
 sample_object frame found =
@@ -80,7 +82,8 @@ json_end difference longer =
 -- ---- the end of a report
 
 -- what is said of all frames after the last float: of a table nothing, each row of which is a frame
-abbrev pub end_by_parts : ReportForm → Option PlaneSums → Option (ℕ × PixelDifference) → Option Longer
+abbrev pub end_by_parts : ReportForm → Option PlaneSums → Option (ℕ × PixelDifference)
+    → Option Longer
     → List ℕ
 end_by_parts Lines sums difference longer =
     sums_line sums ++ (difference_line difference ++ longer_line longer)

@@ -1,4 +1,5 @@
--- Parts of texts. Nothing is known of how a float is written, but of what stands after the last one.
+-- Parts of texts. Nothing is known of how a float is written, but of what stands after the last
+-- one.
 use Rattle.std.specs.Prelude.{ℕ, ◌≡◌, ◌++◌, List}
 
 -- a text begins with another one, or ends with it

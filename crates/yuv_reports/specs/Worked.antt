@@ -10,7 +10,8 @@ short_checksum = refl
 sum_of_frame : sum_words (Frame 0xcbf43926) ≡ codes " cbf43926"
 sum_of_frame = refl
 
-sums_of_planes : sum_words (Planes 1 (Some (0x10, 0xffffffff))) ≡ codes " 00000001 00000010 ffffffff"
+sums_of_planes : sum_words (Planes 1 (Some (0x10, 0xffffffff)))
+    ≡ codes " 00000001 00000010 ffffffff"
 sums_of_planes = refl
 
 sum_of_gray : sum_words (Planes 0x89abcdef None) ≡ codes " 89abcdef"

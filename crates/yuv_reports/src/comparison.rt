@@ -4,11 +4,11 @@ ghost use Rattle.yuv_reports.specs.Frames.{end_of_report, AppendsNext};
 ghost use Rattle.yuv_reports.specs.Sums.{begin_of};
 ghost use Rattle.yuv_reports.specs.Texts.{EndsWith};
 
-use crate::planes::PlaneValues;
 use crate::pool::Pool;
 use crate::{csv, json, lines};
 use std::alloc::{AllocError, Global};
 use v_frame_formats::{PixelDifference, PlaneSums};
+use v_frame_measures::FrameMeasure;
 
 /// The form of a report.
 #[derive(Debug, Clone, Copy, PartialEq, Eq)]
@@ -25,11 +25,11 @@ pub enum ReportForm {
 #[derive(Clone, Copy)]
 pub struct FrameMeasures {
     /// The mean squared errors.
-    pub mse: PlaneValues,
+    pub mse: FrameMeasure,
     /// The peak signal-to-noise ratios, in decibels. Infinite where nothing differs.
-    pub psnr: PlaneValues,
+    pub psnr: FrameMeasure,
     /// The structural similarities, where they are measured.
-    pub ssim: Option<PlaneValues>,
+    pub ssim: Option<FrameMeasure>,
     /// The sums of squared errors, where they are reported.
     pub sums: Option<PlaneSums>,
 }

@@ -7,9 +7,10 @@ ghost use Rattle.yuv_reports.specs.Texts.{EndsWith};
 ghost use Rattle.yuv_reports.specs.declared.comparison.ReportForm.{ReportForm};
 
 use crate::comparison::FrameMeasures;
-use crate::planes::{PlaneValues, push_number, push_value};
+use crate::planes::{in_order, push_number, push_value};
 use std::alloc::{AllocError, Global};
 use v_frame_formats::PlaneSums;
+use v_frame_measures::FrameMeasure;
 
 /// Appends the names of the columns.
 pub fn push_head(text: &mut String, measures: &FrameMeasures) -> Result<(), AllocError>
@@ -83,8 +84,8 @@ fn push_sum_cell(text: &mut String, sum: Option<u128>) -> Result<(), AllocError>
 }
 
 /// Appends the four values of a measure after a text, with commas between them.
-fn push_values(text: &mut String, before: &str, values: &PlaneValues) -> Result<(), AllocError> {
-    let values = values.in_order();
+fn push_values(text: &mut String, before: &str, values: &FrameMeasure) -> Result<(), AllocError> {
+    let values = in_order(values);
     text.push_str(before)?;
     for place in 0..4 {
         push_where(text, place > 0, ",")?;

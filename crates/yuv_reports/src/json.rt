@@ -6,10 +6,11 @@ ghost use Rattle.yuv_reports.specs.Texts.{EndsWith};
 ghost use Rattle.yuv_reports.specs.declared.comparison.ReportForm.{ReportForm};
 
 use crate::comparison::{Comparison, FrameMeasures, Longer};
-use crate::planes::{PlaneValues, push_number, push_sum, push_value};
+use crate::planes::{in_order, push_number, push_sum, push_value};
 use crate::pool::Pool;
 use std::alloc::{AllocError, Global};
 use v_frame_formats::{PixelDifference, PlaneSums};
+use v_frame_measures::FrameMeasure;
 
 /// The keys of the values of a measure, with what stands before them.
 const KEYS: [&str; 4] = ["{\"all\": ", ", \"y\": ", ", \"u\": ", ", \"v\": "];
@@ -62,8 +63,8 @@ fn push_measures(
 }
 
 /// Appends the object of a measure.
-fn push_values(text: &mut String, values: &PlaneValues) -> Result<(), AllocError> {
-    let values = values.in_order();
+fn push_values(text: &mut String, values: &FrameMeasure) -> Result<(), AllocError> {
+    let values = in_order(values);
     for place in 0..4 {
         if let Some(value) = values[place] {
             text.push_str(KEYS[place])?;

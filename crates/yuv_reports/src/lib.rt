@@ -14,6 +14,5 @@ mod pool;
 mod samples;
 
 pub use comparison::{Comparison, FrameMeasures, Longer, Report, ReportForm};
-pub use planes::PlaneValues;
 pub use pool::Pool;
 pub use samples::{Checksums, SampleStatistics, push_checksums, push_histogram, push_statistics};

@@ -6,9 +6,10 @@ ghost use Rattle.yuv_reports.specs.Texts.{EndsWith};
 ghost use Rattle.yuv_reports.specs.declared.comparison.ReportForm.{ReportForm};
 
 use crate::comparison::{Comparison, FrameMeasures, Longer};
-use crate::planes::{PlaneValues, push_number, push_sum};
+use crate::planes::{in_order, push_number, push_sum};
 use std::alloc::{AllocError, Global};
 use v_frame_formats::{PixelDifference, PlaneSums};
+use v_frame_measures::FrameMeasure;
 
 /// What all planes and each of them are called in the line of a frame, and in a line of all frames.
 const SHORT_NAMES: [&str; 4] = ["avg", "y", "u", "v"];
@@ -61,9 +62,9 @@ fn end_frame(text: &mut String, sums: &Option<PlaneSums>) -> Result<(), AllocErr
 fn push_hundredths(
     text: &mut String,
     measure: &str,
-    values: &PlaneValues,
+    values: &FrameMeasure,
 ) -> Result<(), AllocError> {
-    let values = values.in_order();
+    let values = in_order(values);
     for place in 0..4 {
         if let Some(value) = values[place] {
             let name = SHORT_NAMES[place];
@@ -75,8 +76,8 @@ fn push_hundredths(
 }
 
 /// Appends structural similarities with six decimals, each with its plane.
-fn push_similarities(text: &mut String, ssim: &PlaneValues) -> Result<(), AllocError> {
-    let values = ssim.in_order();
+fn push_similarities(text: &mut String, ssim: &FrameMeasure) -> Result<(), AllocError> {
+    let values = in_order(ssim);
     for place in 0..4 {
         if let Some(value) = values[place] {
             let name = SHORT_NAMES[place];
@@ -142,8 +143,12 @@ fn push_longer(text: &mut String, longer: Option<Longer>) -> Result<(), AllocErr
 }
 
 /// Appends the error and the ratio of all planes and of each.
-fn push_planes(text: &mut String, mse: &PlaneValues, psnr: &PlaneValues) -> Result<(), AllocError> {
-    let (errors, ratios) = (mse.in_order(), psnr.in_order());
+fn push_planes(
+    text: &mut String,
+    mse: &FrameMeasure,
+    psnr: &FrameMeasure,
+) -> Result<(), AllocError> {
+    let (errors, ratios) = (in_order(mse), in_order(psnr));
     for place in 0..4 {
         if let (Some(error), Some(ratio)) = (errors[place], ratios[place]) {
             let name = LONG_NAMES[place];
@@ -154,8 +159,8 @@ fn push_planes(text: &mut String, mse: &PlaneValues, psnr: &PlaneValues) -> Resu
 }
 
 /// Appends the line of the structural similarities.
-fn push_ssim(text: &mut String, ssim: &PlaneValues) -> Result<(), AllocError> {
-    let values = ssim.in_order();
+fn push_ssim(text: &mut String, ssim: &FrameMeasure) -> Result<(), AllocError> {
+    let values = in_order(ssim);
     text.push_str("ssim:")?;
     for place in 0..4 {
         if let Some(value) = values[place] {

@@ -3,25 +3,11 @@ ghost use Rattle.std.specs.Prelude.{◌≡◌, ◌++◌, decimal, string_bytes, 
 ghost use Rattle.yuv_reports.specs.Sums.{number_after};
 
 use std::alloc::AllocError;
+use v_frame_measures::FrameMeasure;
 
-/// A measure of all planes of a frame together, and of each.
-#[derive(Clone, Copy)]
-pub struct PlaneValues {
-    /// That of all planes together.
-    pub all: f64,
-    /// That of luma.
-    pub y: f64,
-    /// That of the first chroma plane, where there is one.
-    pub u: Option<f64>,
-    /// That of the second chroma plane, where there is one.
-    pub v: Option<f64>,
-}
-
-impl PlaneValues {
-    /// Returns the values in the order in which they are reported: all planes, Y, U, V.
-    pub fn in_order(&self) -> [Option<f64>; 4] {
-        [Some(self.all), Some(self.y), self.u, self.v]
-    }
+/// Returns a measure of the planes of a frame in the order in which it is reported: of all together, of Y, U and V.
+pub(crate) fn in_order(measure: &FrameMeasure) -> [Option<f64>; 4] {
+    [Some(measure.all), Some(measure.y), measure.u, measure.v]
 }
 
 /// Appends a number between two texts.

@@ -20,7 +20,8 @@ module _ {F I : Type 0} where
     -- the bytes that were looked at and are still to be read, and those that come after them
     abbrev pub bytes_of_input : InputFile F I → Option (List ℕ)
     bytes_of_input input =
-        prepend_known (slice_range input.first input.given input.known) (bytes_of_reader input.reader.inner)
+        prepend_known (slice_range input.first input.given input.known)
+        (bytes_of_reader input.reader.inner)
 
 -- what is read of a file of this name: for `-` what standard input has, of which nothing was taken
 abbrev pub IsInputOf : {I : Type 0} → (I → Option (List ℕ)) → List ℕ → Option I

@@ -33,7 +33,8 @@ module _ {F I : Type 0} (remaining : InputFile F I → Option (List ℕ)) (file 
   OpensAsY4m source =
       IsOpened file.place Y4m source
       × IfSome (remaining file) BeginsAsAStream
-      × ReadsHeaderLine (remaining file) (bytes_left (λ lent. remaining lent.now) source) source.header
+      × ReadsHeaderLine (remaining file) (bytes_left (λ lent. remaining lent.now) source)
+      source.header
       source.is_lax
 
   -- it is headerless video of this size and format, all of whose bytes are left
@@ -49,8 +50,8 @@ abbrev pub OpensAs : {F I : Type 0} → (InputFile F I → Option (List ℕ)) �
 OpensAs remaining None file source = OpensAsY4m remaining file source
 OpensAs remaining (Some video) file source = OpensAsRaw remaining file video source
 
--- the file of this name was opened, and a stream of it as the option `--raw` says, of which these bytes
--- are left
+-- the file of this name was opened, and a stream of it as the option `--raw` says, of which these
+-- bytes are left
 pub record OpensFile {F I : Type 0} (files : F → Option (List ℕ)) (standard : I → Option (List ℕ))
     (name : List ℕ) (input : Option I) (raw : Option RawVideo) (left : Option (List ℕ))
     (source : Source (MutBor (InputFile F I))) : Type 0 where

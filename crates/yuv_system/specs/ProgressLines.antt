@@ -17,15 +17,16 @@ asks_progress (Call call) = call.options.progress
 asks_progress _ = false
 
 -- what is shown beside a report on a terminal, in this form and by `--frames`: the last count alone
--- where each frame gets a whole line, and no count in an object, whose lines end with the next frame
+-- where each frame gets a whole line, and no count in an object, whose lines end with the next
+-- frame
 abbrev pub beside_report : ReportForm → Bool → Shown
 beside_report Json frames = NoCount
 beside_report Csv frames = LastCount
 beside_report Lines true = LastCount
 beside_report Lines false = EachCount
 
--- what is shown beside the lines of a command on a terminal, where two write something of each frame
--- at once
+-- what is shown beside the lines of a command on a terminal, where two write something of each
+-- frame at once
 abbrev pub beside_lines : CommandName → Options → Shown
 beside_lines Sum options = LastCount
 beside_lines Compare options = beside_report options.form options.frames

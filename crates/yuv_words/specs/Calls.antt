@@ -16,7 +16,8 @@ pub record IsCall (name : CommandName) (command : Command) (words : List (List �
   pub are : All IsToken tokens
   pub front : before_end words ≡ spelled tokens
   pub once : (option : OptionName) → length (values_of tokens option) ≤ 1
-  pub own : (option : OptionName) → ¬ (Contains (options_of name) option) → values_of tokens option ≡ []
+  pub own : (option : OptionName) → ¬ (Contains (options_of name) option)
+      → values_of tokens option ≡ []
   pub says : Says (values_of tokens) name command (files_of tokens ++ after_end words)
 
 -- a word that asks for help

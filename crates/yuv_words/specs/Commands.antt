@@ -32,7 +32,8 @@ is_json Lines = false
 is_json Csv = false
 is_json Json = true
 
--- the first of three names are the files of a command, as many as it takes, and those behind them are empty
+-- the first of three names are the files of a command, as many as it takes, and those behind them
+-- are empty
 abbrev pub AreFiles : CommandName → List ℕ → List ℕ → List ℕ → List (List ℕ) → Type 0
 AreFiles name first second third files =
     (files ≡ take (file_count name) (first ∷ second ∷ third ∷ []))

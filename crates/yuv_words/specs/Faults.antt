@@ -84,14 +84,16 @@ pub record IsUnknown (word : List ℕ) : Type 0 where
 module _ (name : CommandName) (words : List (List ℕ)) where
   abbrev pub StopsAt : List ℕ → (List Token → Type 0) → Type 0
   StopsAt word After =
-      (tokens : List Token) × (rest : List (List ℕ)) × Begin words tokens (word ∷ rest) × After tokens
+      (tokens : List Token) × (rest : List (List ℕ)) × Begin words tokens (word ∷ rest)
+      × After tokens
 
   abbrev pub HasWordFault : UsageError → Type 0
   HasWordFault (fault.UnknownOption word) = StopsAt word.now (λ _. IsUnknown word.now)
   HasWordFault (fault.NeedlessValue option value) =
       StopsAt (joined_text option value.now) (λ _. takes_value option ≡ false)
   HasWordFault (fault.MissingValue option) =
-      (takes_value option ≡ true) × ((tokens : List Token) × Begin words tokens (option_text option ∷ []))
+      (takes_value option ≡ true)
+      × ((tokens : List Token) × Begin words tokens (option_text option ∷ []))
   HasWordFault (fault.NotOfCommand option other) =
       (other ≡ name) × ¬ (Contains (options_of name) option)
       × ((word : List ℕ) × Names word option × StopsAt word (λ _. ⊤))

@@ -65,8 +65,12 @@ takes_value _ = true
 
 abbrev pub options_of : CommandName → List OptionName
 options_of Info = Header ∷ Raw ∷ MaxPixels ∷ Progress ∷ []
-options_of Compare = Ssim ∷ Frames ∷ Exact ∷ Csv ∷ Json ∷ Skip ∷ SkipSecond ∷ Count ∷ Raw ∷ RawSecond ∷ MaxPixels ∷ Progress ∷ []
-options_of Copy = Skip ∷ Count ∷ Crop ∷ Half ∷ Format ∷ Rate ∷ Aspect ∷ Raw ∷ RawOutput ∷ MaxPixels ∷ Progress ∷ []
+options_of Compare =
+    Ssim ∷ Frames ∷ Exact ∷ Csv ∷ Json ∷ Skip ∷ SkipSecond ∷ Count ∷ Raw ∷ RawSecond ∷ MaxPixels
+    ∷ Progress ∷ []
+options_of Copy =
+    Skip ∷ Count ∷ Crop ∷ Half ∷ Format ∷ Rate ∷ Aspect ∷ Raw ∷ RawOutput ∷ MaxPixels ∷ Progress
+    ∷ []
 options_of Sum = Planes ∷ Skip ∷ Count ∷ Raw ∷ MaxPixels ∷ Progress ∷ []
 options_of Stats = Histogram ∷ Skip ∷ Count ∷ Raw ∷ MaxPixels ∷ Progress ∷ []
 options_of Show = Frame ∷ Matrix ∷ Range ∷ Plane ∷ Crop ∷ Raw ∷ MaxPixels ∷ []

@@ -69,5 +69,6 @@ pub record IsRead (name : CommandName) (words : List (List ℕ)) (reading : Read
   pub front : words ≡ spelled tokens ++ awaited reading.awaiting
   pub files : file_names reading.files ≡ files_of tokens
   pub given : (option : OptionName) → given_to reading.given option ≡ values_of tokens option
-  pub own : (option : OptionName) → ¬ (Contains (options_of name) option) → values_of tokens option ≡ []
+  pub own : (option : OptionName) → ¬ (Contains (options_of name) option)
+      → values_of tokens option ≡ []
   pub may : IfSome reading.awaiting (MayAwait name tokens)

@@ -12,7 +12,8 @@ tokens =
     ∷ File (codes "b.y4m") ∷ Flag option.Half ∷ []
 
 words_are : spelled tokens
-    ≡ codes "a.y4m" ∷ codes "--skip" ∷ codes "5" ∷ codes "--count=9" ∷ codes "b.y4m" ∷ codes "--half" ∷ []
+    ≡ codes "a.y4m" ∷ codes "--skip" ∷ codes "5" ∷ codes "--count=9" ∷ codes "b.y4m"
+    ∷ codes "--half" ∷ []
 words_are = refl
 
 files_are : files_of tokens ≡ codes "a.y4m" ∷ codes "b.y4m" ∷ []
@@ -31,12 +32,15 @@ crop_is : values_of tokens option.Crop ≡ []
 crop_is = refl
 
 -- a command of two files has none in the third place
-two_files_are : AreFiles command.Copy (codes "a.y4m") (codes "b.y4m") [] (codes "a.y4m" ∷ codes "b.y4m" ∷ [])
+two_files_are : AreFiles command.Copy (codes "a.y4m") (codes "b.y4m") []
+    (codes "a.y4m" ∷ codes "b.y4m" ∷ [])
 two_files_are = (refl, refl)
 
 -- behind the first `--` even `--` is a file
-front_is : before_end (codes "--half" ∷ codes "--" ∷ codes "-x" ∷ codes "--" ∷ []) ≡ codes "--half" ∷ []
+front_is : before_end (codes "--half" ∷ codes "--" ∷ codes "-x" ∷ codes "--" ∷ [])
+    ≡ codes "--half" ∷ []
 front_is = refl
 
-behind_is : after_end (codes "--half" ∷ codes "--" ∷ codes "-x" ∷ codes "--" ∷ []) ≡ codes "-x" ∷ codes "--" ∷ []
+behind_is : after_end (codes "--half" ∷ codes "--" ∷ codes "-x" ∷ codes "--" ∷ [])
+    ≡ codes "-x" ∷ codes "--" ∷ []
 behind_is = refl

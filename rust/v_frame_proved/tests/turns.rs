@@ -150,19 +150,9 @@ fn turns_frame<T: Pixel>(mut case: Case<'_>, depth: u8) {
     let turn = turn(&mut case);
     let size = (case.number(), case.number());
     let source = frame::<T>((4, 2), Yuv420, depth);
-    let by_name = match turn {
-        Turn::FlipVertical => frames::flip_vertical,
-        Turn::FlipHorizontal => frames::flip_horizontal,
-        Turn::Rotate180 => frames::rotate_180,
-        Turn::Transpose => frames::transpose,
-        Turn::Rotate90 => frames::rotate_90,
-        Turn::Rotate270 => frames::rotate_270,
-    };
-    let [mut target, mut other] = [(); 2].map(|()| frame(size, Yuv420, depth));
-    assert_eq!(by_name(&source, &mut target), Ok(()), "{case}");
-    assert_eq!(frames::turn_frame(&source, &mut other, turn), Ok(()), "{case}");
+    let mut target = frame(size, Yuv420, depth);
+    assert_eq!(frames::turn_frame(&source, &mut target, turn), Ok(()), "{case}");
     case.expect(&entries(&target));
-    assert_eq!(target, other, "{case}");
 }
 
 #[test]

@@ -1,14 +1,15 @@
 //! Sums of what the pixels of two pictures of one size differ by.
 ghost use Rattle.std.specs.Prelude.{◌≡◌, ◌*◌, ◌^◌, ◌≤◌, ℕ, length, sum_by, zip};
 ghost use Rattle.std.specs.Int.{abs_diff};
-ghost use Rattle.v_frame.specs.Prelude.{AddsUp, height_of, row_major, squared_error, width_of};
+ghost use Rattle.v_frame.specs.Prelude.{AddsUp, height_of, squared_error, width_of};
+ghost use Rattle.v_frame_ops.specs.Compare.{IsSumOver};
 
 use v_frame::laws::sums_of_pairs_add_up;
 use v_frame::pixel::Pixel;
 use v_frame::plane::RowsRef;
 
-/// What two pixels differ by, as it is summed.
-pub(crate) trait Difference<T> {
+/// What two pixels differ by, as it is summed over rows.
+pub(crate) trait RowDifference<T> {
     // What two pixels at the same place add.
     ghost between: { T → T → ℕ };
 
@@ -22,7 +23,7 @@ pub(crate) trait Difference<T> {
 /// The absolute difference.
 pub(crate) struct AbsoluteDifferences;
 
-impl<T: Pixel> Difference<T> for AbsoluteDifferences {
+impl<T: Pixel> RowDifference<T> for AbsoluteDifferences {
     ghost between = { λ p q. abs_diff (T.form.value p) (T.form.value q) };
 
     #[inline(always)]
@@ -34,7 +35,7 @@ impl<T: Pixel> Difference<T> for AbsoluteDifferences {
 /// The square of the difference.
 pub(crate) struct SquaredErrors;
 
-impl<T: Pixel> Difference<T> for SquaredErrors {
+impl<T: Pixel> RowDifference<T> for SquaredErrors {
     ghost between = { λ p q. squared_error (T.form.value p) (T.form.value q) };
 
     #[inline(always)]
@@ -44,7 +45,7 @@ impl<T: Pixel> Difference<T> for SquaredErrors {
 }
 
 /// What is summed over two pictures is summed row by row.
-fn differences_add_up<T, D: Difference<T>>()
+fn differences_add_up<T, D: RowDifference<T>>()
     ensures { AddsUp (λ xs ys. sum_by (λ p. D.between p.0 p.1) (zip xs ys)) }
 {
     sums_of_pairs_add_up::<T>();
@@ -52,12 +53,10 @@ fn differences_add_up<T, D: Difference<T>>()
 
 /// Returns the sum over the pixels of two pictures. The smallest block is told apart where it is called.
 #[inline(always)]
-pub(crate) fn sum_of<T: Pixel, D: Difference<T>>(a: &RowsRef<'_, T>, b: &RowsRef<'_, T>) -> u128
+pub(crate) fn sum_of<T: Pixel, D: RowDifference<T>>(a: &RowsRef<'_, T>, b: &RowsRef<'_, T>) -> u128
     requires wide { width_of a.now ≡ width_of b.now }
     requires high { height_of a.now ≡ height_of b.now }
-    ensures value { result
-        ≡ sum_by (λ p. D.between p.0 p.1) (zip (row_major a.now) (row_major b.now)) }
-    ensures bound { result ≤ 2 ^ 32 * (height_of a.now * width_of a.now) }
+    ensures { IsSumOver D.between a.now b.now result }
 {
     if a.width() == 8 && a.height() == 8 {
         return sum_of_size::<T, D>(a, b, 8, 8);
@@ -67,12 +66,10 @@ pub(crate) fn sum_of<T: Pixel, D: Difference<T>>(a: &RowsRef<'_, T>, b: &RowsRef
 
 /// Returns the same sum of pictures of any size. It stays out of line, so that a caller with small blocks has no more than these.
 #[inline(never)]
-fn sum_of_any_size<T: Pixel, D: Difference<T>>(a: &RowsRef<'_, T>, b: &RowsRef<'_, T>) -> u128
+fn sum_of_any_size<T: Pixel, D: RowDifference<T>>(a: &RowsRef<'_, T>, b: &RowsRef<'_, T>) -> u128
     requires wide { width_of a.now ≡ width_of b.now }
     requires high { height_of a.now ≡ height_of b.now }
-    ensures value { result
-        ≡ sum_by (λ p. D.between p.0 p.1) (zip (row_major a.now) (row_major b.now)) }
-    ensures bound { result ≤ 2 ^ 32 * (height_of a.now * width_of a.now) }
+    ensures { IsSumOver D.between a.now b.now result }
 {
     match a.width() {
         8 => sum_of_size::<T, D>(a, b, 8, a.height()),
@@ -86,12 +83,10 @@ fn sum_of_any_size<T: Pixel, D: Difference<T>>(a: &RowsRef<'_, T>, b: &RowsRef<'
 
 /// Returns the same sum of pictures of any width. It stays out of line, so that a call for a block saves no registers for it.
 #[inline(never)]
-fn sum_of_any_width<T: Copy, D: Difference<T>>(a: &RowsRef<'_, T>, b: &RowsRef<'_, T>) -> u128
+fn sum_of_any_width<T: Copy, D: RowDifference<T>>(a: &RowsRef<'_, T>, b: &RowsRef<'_, T>) -> u128
     requires wide { width_of a.now ≡ width_of b.now }
     requires high { height_of a.now ≡ height_of b.now }
-    ensures value { result
-        ≡ sum_by (λ p. D.between p.0 p.1) (zip (row_major a.now) (row_major b.now)) }
-    ensures bound { result ≤ 2 ^ 32 * (height_of a.now * width_of a.now) }
+    ensures { IsSumOver D.between a.now b.now result }
 {
     sum_of_size::<T, D>(a, b, a.width(), a.height())
 }
@@ -99,7 +94,7 @@ fn sum_of_any_width<T: Copy, D: Difference<T>>(a: &RowsRef<'_, T>, b: &RowsRef<'
 /// Returns the same sum of pictures of this size. Where a width is a constant, a row takes no test of its length, and where a
 /// height is one, the compiler makes no loop of the rows of a small block.
 #[inline(always)]
-fn sum_of_size<T: Copy, D: Difference<T>>(
+fn sum_of_size<T: Copy, D: RowDifference<T>>(
     a: &RowsRef<'_, T>,
     b: &RowsRef<'_, T>,
     width: usize,
@@ -109,9 +104,7 @@ fn sum_of_size<T: Copy, D: Difference<T>>(
     requires same { width_of b.now ≡ width }
     requires high { height_of a.now ≡ height }
     requires as_high { height_of b.now ≡ height }
-    ensures value { result
-        ≡ sum_by (λ p. D.between p.0 p.1) (zip (row_major a.now) (row_major b.now)) }
-    ensures bound { result ≤ 2 ^ 32 * (height_of a.now * width_of a.now) }
+    ensures { IsSumOver D.between a.now b.now result }
 {
     differences_add_up::<T, D>();
     let _heights = (a.height(), b.height());

@@ -1,6 +1,6 @@
 -- The entries of a buffer from its first visible pixel on, written as rows of a stride: they are the table that is shown then,
 -- and where the rows alone were written, the border is as it was.
-use Rattle.std.proofs.Common.{ℕ, ◌≡◌, ◌+◌, List, [], ◌++◌, length, take, drop, slice_range, refl, sym, ◌∙◌, ap, arith}
+use Rattle.std.proofs.Common.{ℕ, ◌≡◌, List, ◌++◌, length, take, drop, slice_range, refl, sym, ◌∙◌, ap, arith}
 use Rattle.std.proofs.Common.{length-take-le, length-drop, length-append}
 use Rattle.std.proofs.lemmas.List.{append-nil, drop_all, drop_at, take_all}
 use Rattle.v_frame_buffer.specs.Part.{with_part}

@@ -4,12 +4,12 @@
 ghost use Rattle.std.specs.Prelude.{◌≡◌, ◌*◌, ◌+◌, length, map, OnOk};
 ghost use Rattle.v_frame_raster.specs.Pixel.{byte_list};
 ghost use Rattle.v_frame_raster.specs.Table.{width_of, height_of, row_major};
-ghost use Rattle.v_frame_raster.specs.Raster.{IsWhole, border_of, raster, table_of};
+ghost use Rattle.v_frame_raster.specs.Raster.{table_of};
 ghost use Rattle.v_frame_plane.specs.Copy.{Copies, packed_copy, strided_copy, packed_byte_copy};
 ghost use Rattle.v_frame_raster.specs.StridedRows.{piece_fronts};
 
-use super::{CopyError, Plane, PlaneGeometry};
-use crate::encoding::{AsBytes, AsPixels, Encoding, write_rows};
+use super::{CopyError, Plane, VisibleMut};
+use crate::encoding::{AsBytes, AsPixels, write_rows};
 use crate::place::visible_size;
 use crate::rows_ref::RowsRef;
 use v_frame_raster::pixel::Pixel;
@@ -35,10 +35,14 @@ impl<T: Pixel> Plane<T> {
                 found: src.len(),
             });
         }
-        let (width, height) = (geometry.width(), geometry.height());
-        let source = RowsRef::of_parts(src, width, height, width);
-        let buffer = self.buffer.as_mut_slice();
-        write_visible::<T, AsPixels>(&source, buffer, geometry);
+        let source = RowsRef::of_parts(src, geometry.width(), geometry.height(), geometry.width());
+        let VisibleMut {
+            entries,
+            width,
+            height,
+            stride,
+        } = self.visible_mut();
+        write_rows::<T, AsPixels>(&source, entries, width, height, stride);
         Ok(())
     }
 
@@ -93,28 +97,13 @@ impl<T: Pixel> Plane<T> {
             });
         }
         let source = RowsRef::of_parts(src, width * T::BYTES, geometry.height(), stride);
-        let buffer = self.buffer.as_mut_slice();
-        write_visible::<T, AsBytes>(&source, buffer, geometry);
+        let VisibleMut {
+            entries,
+            width,
+            height,
+            stride,
+        } = self.visible_mut();
+        write_rows::<T, AsBytes>(&source, entries, width, height, stride);
         Ok(())
     }
-}
-
-/// Writes the visible rows of a whole buffer, each from the row of the source of the same number.
-fn write_visible<T, E: Encoding<T>>(
-    source: &RowsRef<'_, E::Entry>,
-    buffer: &mut [T],
-    geometry: PlaneGeometry,
-)
-    requires whole { IsWhole geometry buffer.old }
-    requires wide { width_of source.now ≡ geometry.width * E.ENTRIES }
-    requires high { height_of source.now ≡ geometry.height }
-    ensures table { table_of (raster geometry buffer.new)
-        ≡ map (E.row_of geometry.width) source.now }
-    ensures border { border_of (raster geometry buffer.new)
-        ≡ border_of (raster geometry buffer.old) }
-    ensures count { length buffer.new ≡ length buffer.old }
-{
-    let (_, visible) = buffer.split_at_mut(geometry.data_origin());
-    let (width, height) = (geometry.width(), geometry.height());
-    write_rows::<T, E>(source, visible, width, height, geometry.stride());
 }

@@ -1,5 +1,6 @@
 -- The options and the depths say which bytes are written.
 use Rattle.std.proofs.Common.{Bool, Option, ◌≡◌, ◌∙◌, ap, sym}
+use Rattle.std.proofs.lemmas.Result.{IfOk-weaker}
 use Rattle.v_frame.specs.Prelude.{one_byte, two_bytes}
 use Rattle.v_frame_y4m.specs.Color.{depth_of}
 use Rattle.v_frame_semi_planar.specs.declared.format.SemiPlanarFormat.{SemiPlanarFormat}
@@ -21,8 +22,8 @@ returns-then-is_plain-clause-copied g c =
     let source = c.args.source.now in
     let plain = said c.args.sink.now.container c.args.options.now c.header.ensures c.layout.ensures.value c.is_plain.ensures
     ∙ c.if-is_plain.true in
-    plain_copy _ _ c.args.sink.now.container c.args.options.now source.header c.in_ok-header.header source.layout _ _ _ _ _
-    c.in_ok-header.ensures.header plain c.in_ok-move_stream.ensures.copied
+    IfOk-weaker c.move_stream.result _ _ (λ found. plain_copy _ _ c.args.sink.now.container c.args.options.now source.header
+    c.in_ok-header.header source.layout _ _ _ _ found c.in_ok-header.ensures.header plain) c.move_stream.ensures.copied
 
 pub returns-then-bit_depth-eq8-clause-copied : goal.returns-then-bit_depth-eq8-clause-copied
 returns-then-bit_depth-eq8-clause-copied g c =
@@ -32,9 +33,9 @@ returns-then-bit_depth-eq8-clause-copied g c =
     let depth : depth_of header.color ≡ 8 =
     ap (λ (h : StreamHeader). depth_of h.color) (sym c.header-2.ensures) ∙ sym c.bit_depth.ensures
     ∙ c.if-bit_depth-eq8.true in
-    edited_copy _ _ c.args.sink.now.container c.args.options.now header c.in_ok-header.header source.layout _ _ _ _ _
-    c.in_ok-header.ensures.header one_byte (form_of_eight (depth_of header.color) depth) edits
-    c.in_ok-edit_as.ensures.copied
+    IfOk-weaker c.edit_as.result _ _ (λ found. edited_copy _ _ c.args.sink.now.container c.args.options.now header
+    c.in_ok-header.header source.layout _ _ _ _ found c.in_ok-header.ensures.header one_byte
+    (form_of_eight (depth_of header.color) depth) edits) c.edit_as.ensures.copied
 
 pub returns-clause-copied : goal.returns-clause-copied
 returns-clause-copied g c =
@@ -43,7 +44,6 @@ returns-clause-copied g c =
     ∙ c.if-is_plain.false in
     let told : c.bit_depth.result ≡ depth_of header.color =
     c.bit_depth.ensures ∙ ap (λ (h : StreamHeader). depth_of h.color) c.header-2.ensures in
-    edited_copy _ _ c.args.sink.now.container c.args.options.now header c.in_ok-header.header source.layout _ _ _ _ _
-    c.in_ok-header.ensures.header two_bytes
-    (form_of_more (depth_of header.color) (λ eight. c.if-bit_depth-eq8.false (told ∙ eight))) edits
-    c.in_ok-edit_as-2.ensures.copied
+    IfOk-weaker c.edit_as-2.result _ _ (λ found. edited_copy _ _ c.args.sink.now.container c.args.options.now header
+    c.in_ok-header.header source.layout _ _ _ _ found c.in_ok-header.ensures.header two_bytes
+    (form_of_more (depth_of header.color) (λ eight. c.if-bit_depth-eq8.false (told ∙ eight))) edits) c.edit_as-2.ensures.copied

@@ -1,5 +1,7 @@
 -- What was passed over, and then what was made of the frames that were read.
 use Rattle.std.proofs.Common.{◌≡◌, ◌∙◌, ap, Bool, List, Option, ℕ, rules, subst, sym}
+use Rattle.std.proofs.lemmas.Result.{IfOk-weaker}
+use Rattle.std.specs.Prelude.{IfOk}
 use Rattle.v_frame.specs.Prelude.{tables_of}
 use Rattle.v_frame_planar.specs.Planar.{sizes_of}
 use Rattle.v_frame_semi_planar.specs.declared.format.SemiPlanarFormat.{SemiPlanarFormat}
@@ -65,22 +67,23 @@ returns-clause-copied g c =
     let now = g.W.Write.contents c.begin_copy.new.sink.writer.inner in
     let has = g.W.Write.contents c.edit_frames.new.sink.writer.inner in
     let begun = c.in_ok-begin_copy.ensures in
-    let found = c.in_ok-edit_frames.field-0 in
+    let done = c.edit_frames.result in
     let most = c.unwrap_or-most.result in
     let size = sizes_of (tables_of c.in_ok-picture.picture.frame) in
     let passed = subst (λ (more : Bool). Begins from count left mid options.skip more) c.if-not-branch.false begun.begun in
     let limit : most ≡ limit_of options = search rules in
     let bytes = λ (l : Option SemiPlanarFormat) (p : Plan) (s : Sizes) (b : List ℕ). planned_bytes form other p
     (tables_of_bytes form l s b) in
-    let moved = subst (λ (s : Stream). Carries s.container s.frame_len mid rest now has c.begin_copy.new.sink.container
-    (bytes s.layout (plan_of c.in-Ok.maker) size) most found) begun.same c.in_ok-edit_frames.ensures.carried in
-    let sent = subst (λ (k : Container). Carries from count mid rest now has k
-    (bytes there (plan_of c.in-Ok.maker) size) most found) begun.container moved in
+    let moved = subst (λ (s : Stream). IfOk done (Carries s.container s.frame_len mid rest now has
+    c.begin_copy.new.sink.container (bytes s.layout (plan_of c.in-Ok.maker) size) most)) begun.same
+    c.edit_frames.ensures.carried in
+    let sent = subst (λ (k : Container). IfOk done (Carries from count mid rest now has k
+    (bytes there (plan_of c.in-Ok.maker) size) most)) begun.container moved in
     let planned : plan_of c.in-Ok.maker ≡ plan_for options header layout = search rules in
-    let by_plan = subst (λ (p : Plan). Carries from count mid rest now has c.args.sink.now.container
-    (bytes there p size) most found) planned sent in
-    let by_size = subst (λ (s : Sizes). Carries from count mid rest now has c.args.sink.now.container
-    (bytes there (plan_for options header layout) s) most found) c.in_ok-picture.ensures.sizes by_plan in
-    skipped_and_carried from count c.args.sink.now.container options c.args.header.now _ left mid rest _ now has
-    begun.written found passed (subst (λ (n : ℕ). Carries from count mid rest now has c.args.sink.now.container
-    (bytes there (plan_for options header layout) (sizes_in header)) n found) limit by_size)
+    let by_plan = subst (λ (p : Plan). IfOk done (Carries from count mid rest now has c.args.sink.now.container
+    (bytes there p size) most)) planned sent in
+    let by_size = subst (λ (s : Sizes). IfOk done (Carries from count mid rest now has c.args.sink.now.container
+    (bytes there (plan_for options header layout) s) most)) c.in_ok-picture.ensures.sizes by_plan in
+    IfOk-weaker done _ _ (λ found. skipped_and_carried from count c.args.sink.now.container options c.args.header.now _ left
+    mid rest _ now has begun.written found passed) (subst (λ (n : ℕ). IfOk done (Carries from count mid rest now has
+    c.args.sink.now.container (bytes there (plan_for options header layout) (sizes_in header)) n)) limit by_size)

@@ -1,5 +1,7 @@
 -- What was passed over, and then what was moved.
 use Rattle.std.proofs.Common.{◌≡◌, Bool, ℕ, rules, subst}
+use Rattle.std.proofs.lemmas.Result.{IfOk-weaker}
+use Rattle.std.specs.Prelude.{IfOk}
 use Rattle.v_frame_streams.specs.Copies.{limit_of, same_bytes, Begins, Carries}
 use Rattle.v_frame_streams.specs.Sources.{bytes_left, Stream}
 use Rattle.v_frame_streams.specs.declared.stream.Container.{Container}
@@ -17,13 +19,14 @@ returns-clause-copied g c =
     let now = g.W.Write.contents c.begin_copy.new.sink.writer.inner in
     let has = g.W.Write.contents c.move_frames.new.sink.writer.inner in
     let begun = c.in_ok-begin_copy.ensures in
-    let found = c.in_ok-move_frames.field-0 in
+    let done = c.move_frames.result in
+    let most = c.unwrap_or-most.result in
     let passed = subst (λ (more : Bool). Begins from count left mid options.skip more) c.if-not-branch.false begun.begun in
-    let limit : c.unwrap_or-most.result ≡ limit_of options = search rules in
-    let moved = subst (λ (s : Stream). Carries s.container s.frame_len mid rest now has c.begin_copy.new.sink.container
-    same_bytes c.unwrap_or-most.result found) begun.same c.in_ok-move_frames.ensures.carried in
-    let sent = subst (λ (k : Container). Carries from count mid rest now has k same_bytes c.unwrap_or-most.result found)
-    begun.container moved in
-    skipped_and_carried from count c.args.sink.now.container options c.args.header.now same_bytes left mid rest _ now has
-    begun.written found passed (subst (λ (n : ℕ). Carries from count mid rest now has c.args.sink.now.container same_bytes
-    n found) limit sent)
+    let limit : most ≡ limit_of options = search rules in
+    let moved = subst (λ (s : Stream). IfOk done (Carries s.container s.frame_len mid rest now has
+    c.begin_copy.new.sink.container same_bytes most)) begun.same c.move_frames.ensures.carried in
+    let sent = subst (λ (k : Container). IfOk done (Carries from count mid rest now has k same_bytes most)) begun.container
+    moved in
+    IfOk-weaker done _ _ (λ found. skipped_and_carried from count c.args.sink.now.container options c.args.header.now
+    same_bytes left mid rest _ now has begun.written found passed) (subst (λ (n : ℕ). IfOk done (Carries from count mid rest
+    now has c.args.sink.now.container same_bytes n)) limit sent)

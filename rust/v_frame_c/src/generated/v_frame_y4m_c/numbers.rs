@@ -3,6 +3,7 @@
 
 use crate::generated::v_frame_y4m_c::header::{Header, Ratio};
 use v_frame_proved::chroma::ChromaSubsampling;
+use crate::generated::v_frame_slices::formats::format_of_number;
 use v_frame_proved::y4m::{ChromaSiting, Color, Interlacing, Ratio as TheRatio, StreamHeader};
 
 /// Why numbers are of no header that has a line.
@@ -34,7 +35,7 @@ impl Header {
         let Some(interlacing) = interlacing_numbered(self.interlacing) else {
             return Err(NumberFault::NoSuchNumber);
         };
-        let Some(format) = format_numbered(self.format) else {
+        let Some(format) = format_of_number(self.format) else {
             return Err(NumberFault::NoSuchNumber);
         };
         let Some(siting) = siting_numbered(self.siting) else {
@@ -75,18 +76,6 @@ fn ratio_numbered(ratio: &Ratio) -> Option<Option<TheRatio>> {
             numerator: ratio.numerator,
             denominator: ratio.denominator,
         })),
-        _ => None,
-    }
-}
-
-/// Returns the format of a number.
-fn format_numbered(number: u32) -> Option<ChromaSubsampling> {
-    match number {
-        0 => Some(ChromaSubsampling::Monochrome),
-        1 => Some(ChromaSubsampling::Yuv420),
-        2 => Some(ChromaSubsampling::Yuv422),
-        3 => Some(ChromaSubsampling::Yuv444),
-        4 => Some(ChromaSubsampling::Yuv411),
         _ => None,
     }
 }

@@ -78,12 +78,12 @@ pub fn copy_stream<R: io::Read, W: io::Write, P: Progress>(
 ) -> Result<u64, StreamError> {
     let header = planned_header(source, sink, options)?;
     if options.is_plain(sink.container, source.header(), source.layout()) {
-        return Ok(move_stream(source, &header, sink, options, progress)?);
+        return move_stream(source, &header, sink, options, progress);
     }
     if source.header().color.bit_depth() == 8 {
-        return Ok(edit_as::<u8, _, _, _>(source, &header, sink, options, progress)?);
+        return edit_as::<u8, _, _, _>(source, &header, sink, options, progress);
     }
-    Ok(edit_as::<u16, _, _, _>(source, &header, sink, options, progress)?)
+    edit_as::<u16, _, _, _>(source, &header, sink, options, progress)
 }
 
 /// Returns the header that is written, where all that can be tested before allows the copy.
@@ -121,7 +121,7 @@ fn move_stream<R: io::Read, W: io::Write, P: Progress>(
         return Ok(0);
     }
     let most = options.count.unwrap_or(u64::MAX);
-    Ok(move_frames(source, sink, most, progress)?)
+    move_frames(source, sink, most, progress)
 }
 
 /// Copies a stream of pixels of this type, of whose frames others are made.
@@ -133,9 +133,9 @@ fn edit_as<S: Pixel, R: io::Read, W: io::Write, P: Progress>(
     progress: &mut P,
 ) -> Result<u64, StreamError> {
     if header.color.bit_depth() == 8 {
-        return Ok(edit_stream::<S, u8, _, _, _>(source, header, sink, options, progress)?);
+        return edit_stream::<S, u8, _, _, _>(source, header, sink, options, progress);
     }
-    Ok(edit_stream::<S, u16, _, _, _>(source, header, sink, options, progress)?)
+    edit_stream::<S, u16, _, _, _>(source, header, sink, options, progress)
 }
 
 /// Copies a stream of pixels of one type, and writes pixels of another.
@@ -156,7 +156,7 @@ fn edit_stream<S: Pixel, T: Pixel, R: io::Read, W: io::Write, P: Progress>(
         return Ok(0);
     }
     let most = options.count.unwrap_or(u64::MAX);
-    Ok(edit_frames(source, &mut picture, &mut maker, sink, most, progress)?)
+    edit_frames(source, &mut picture, &mut maker, sink, most, progress)
 }
 
 /// Writes the header and passes over frames. Returns whether as many were passed over as the options say.

@@ -3,9 +3,9 @@
 
 use crate::generated::v_frame::frame::Frame;
 use crate::generated::v_frame::pixel::Pixel;
-use crate::generated::v_frame::plane::{Plane, PlaneRef};
+use crate::generated::v_frame::plane::{Plane, RowsRef};
 use crate::generated::v_frame_formats::{Component, PixelDifference, PlaneSums};
-use crate::generated::v_frame_ops::{first_difference, sum_of_squared_errors};
+use crate::generated::v_frame_ops::rows::{first_difference, sum_of_squared_errors};
 
 /// Returns the sums, plane by plane, of the squares of the differences of the pixels. They are exact, and never too large.
 pub(crate) fn squared_errors_of_frames<T: Pixel>(first: &Frame<T>, second: &Frame<T>) -> PlaneSums {
@@ -35,8 +35,10 @@ pub(crate) fn first_difference_of_frames<T: Pixel>(
 
 /// Returns the sum for two planes of one size.
 fn errors_of_planes<T: Pixel>(first: &Plane<T>, second: &Plane<T>) -> u128 {
-    let (first, second) = (first.as_plane_ref(), second.as_plane_ref());
-    sum_of_squared_errors(&first, &second)
+    sum_of_squared_errors(
+        &first.as_plane_ref().as_rows_ref(),
+        &second.as_plane_ref().as_rows_ref(),
+    )
 }
 
 /// Returns the sum for two chroma planes, where they are there.
@@ -53,7 +55,8 @@ fn difference_of_planes<T: Pixel>(
     first: &Plane<T>,
     second: &Plane<T>,
 ) -> Option<PixelDifference> {
-    let (first, second) = (first.as_plane_ref(), second.as_plane_ref());
+    let first = first.as_plane_ref().as_rows_ref();
+    let second = second.as_plane_ref().as_rows_ref();
     let (x, y) = first_difference(&first, &second)?;
     Some(PixelDifference {
         component,
@@ -76,7 +79,7 @@ fn difference_of_chroma<T: Pixel>(
     }
 }
 
-/// Returns the value of a visible pixel.
-fn value_at<T: Pixel>(plane: &PlaneRef<'_, T>, x: usize, y: usize) -> u16 {
-    plane.visible_row_proved(y)[x].pixel_into_u16()
+/// Returns the value of a pixel.
+fn value_at<T: Pixel>(rows: &RowsRef<'_, T>, x: usize, y: usize) -> u16 {
+    rows.visible_row_proved(y)[x].pixel_into_u16()
 }

@@ -10,7 +10,8 @@
 //! ```
 //! // A filter over any stream.
 //! use v_frame_proved::streams::{Container, MAX_PIXELS, Picture, Place, Sink, Source};
-//! use v_frame_proved::turn::frames::flip_vertical;
+//! use v_frame_proved::turn::Turn;
+//! use v_frame_proved::turn::frames::turn_frame;
 //!
 //! /// Returns a stream of two frames, each with a row of either value.
 //! fn stream(upper: u8, lower: u8) -> Vec<u8> {
@@ -25,7 +26,7 @@
 //! let mut sink = Sink::new(Container::Y4m, Vec::new());
 //! sink.write_header(source.header())?;
 //! while picture.read(&mut source)? {
-//!     flip_vertical(picture.frame(), &mut turned)?;
+//!     turn_frame(picture.frame(), &mut turned, Turn::FlipVertical)?;
 //!     sink.write_frame(&turned)?;
 //! }
 //!

@@ -15,21 +15,21 @@
 //! source.y_plane.copy_from_slice(&[1, 2, 3, 4, 5, 6, 7, 8])?;
 //! let mut upright = FrameBuilder::new(2, 4, ChromaSubsampling::Yuv420, 8).build::<u8>()?;
 //! frames::check_turn(&source, &upright, Turn::Rotate90)?;
-//! frames::rotate_90(&source, &mut upright)?;
+//! frames::turn_frame(&source, &mut upright, Turn::Rotate90)?;
 //! assert_eq!(upright.y_plane.data(), [5, 1, 6, 2, 7, 3, 8, 4]);
-//! frames::rotate_270(&source, &mut upright)?;
+//! frames::turn_frame(&source, &mut upright, Turn::Rotate270)?;
 //! assert_eq!(upright.y_plane.data(), [4, 8, 3, 7, 2, 6, 1, 5]);
-//! frames::transpose(&source, &mut upright)?;
+//! frames::turn_frame(&source, &mut upright, Turn::Transpose)?;
 //! assert_eq!(upright.y_plane.data(), [1, 5, 2, 6, 3, 7, 4, 8]);
 //!
 //! let mut turned = source.clone();
-//! frames::flip_vertical(&source, &mut turned)?;
+//! frames::turn_frame(&source, &mut turned, Turn::FlipVertical)?;
 //! frames::flip_vertical_in_place(&mut turned);
 //! assert_eq!(turned, source);
-//! frames::flip_horizontal(&source, &mut turned)?;
+//! frames::turn_frame(&source, &mut turned, Turn::FlipHorizontal)?;
 //! frames::flip_horizontal_in_place(&mut turned);
 //! assert_eq!(turned, source);
-//! frames::rotate_180(&source, &mut turned)?;
+//! frames::turn_frame(&source, &mut turned, Turn::Rotate180)?;
 //! frames::rotate_180_in_place(&mut turned);
 //! assert_eq!(turned, source);
 //! frames::turn_frame(&source, &mut turned, Turn::FlipHorizontal)?;
@@ -97,67 +97,6 @@ pub fn turn_frame<T: Pixel>(
     check_turn(source, target, turn)?;
     turn_planes(source, target, turn);
     Ok(())
-}
-
-/// Shows in `target` what `source` shows upside down.
-///
-/// # Errors
-///
-/// Those of [`check_turn`] but [`TurnError::UnevenSubsampling`].
-#[inline]
-pub fn flip_vertical<T: Pixel>(source: &Frame<T>, target: &mut Frame<T>) -> Result<(), TurnError> {
-    turn_frame(source, target, Turn::FlipVertical)
-}
-
-/// Shows in `target` what `source` shows mirrored: each row from its right end.
-///
-/// # Errors
-///
-/// Those of [`check_turn`] but [`TurnError::UnevenSubsampling`].
-#[inline]
-pub fn flip_horizontal<T: Pixel>(source: &Frame<T>, target: &mut Frame<T>) -> Result<(), TurnError> {
-    turn_frame(source, target, Turn::FlipHorizontal)
-}
-
-/// Shows in `target` what `source` shows turned by 180 degrees.
-///
-/// # Errors
-///
-/// Those of [`check_turn`] but [`TurnError::UnevenSubsampling`].
-#[inline]
-pub fn rotate_180<T: Pixel>(source: &Frame<T>, target: &mut Frame<T>) -> Result<(), TurnError> {
-    turn_frame(source, target, Turn::Rotate180)
-}
-
-/// Shows in `target` what `source` shows transposed: columns become the rows, from the left.
-///
-/// # Errors
-///
-/// Those of [`check_turn`].
-#[inline]
-pub fn transpose<T: Pixel>(source: &Frame<T>, target: &mut Frame<T>) -> Result<(), TurnError> {
-    turn_frame(source, target, Turn::Transpose)
-}
-
-/// Shows in `target` what `source` shows turned by 90 degrees clockwise: columns become the rows, from the left, each from
-/// the bottom.
-///
-/// # Errors
-///
-/// Those of [`check_turn`].
-#[inline]
-pub fn rotate_90<T: Pixel>(source: &Frame<T>, target: &mut Frame<T>) -> Result<(), TurnError> {
-    turn_frame(source, target, Turn::Rotate90)
-}
-
-/// Shows in `target` what `source` shows turned by 270 degrees clockwise: columns become the rows, from the right.
-///
-/// # Errors
-///
-/// Those of [`check_turn`].
-#[inline]
-pub fn rotate_270<T: Pixel>(source: &Frame<T>, target: &mut Frame<T>) -> Result<(), TurnError> {
-    turn_frame(source, target, Turn::Rotate270)
 }
 
 /// Turns each plane.

@@ -4,7 +4,7 @@
 use v_frame_proved::support::numbers::nearest_u64_to_f64;
 use v_frame_proved::measures::{FrameMeasure, Mean, psnr};
 use v_frame_proved::streams::PlaneSums;
-use crate::generated::yuv_reports::{FrameMeasures, PlaneValues};
+use crate::generated::yuv_reports::FrameMeasures;
 
 /// What measures are made of besides the errors.
 #[derive(Clone, Copy)]
@@ -23,7 +23,7 @@ impl Scale {
         &self,
         errors: &PlaneSums,
         frames: u64,
-        ssim: Option<PlaneValues>,
+        ssim: Option<FrameMeasure>,
     ) -> FrameMeasures {
         let mse = mean_errors(errors, &self.pixels.times(frames));
         FrameMeasures {
@@ -36,8 +36,8 @@ impl Scale {
 }
 
 /// Returns the mean squared errors of so many samples: of all together, and of those of each plane that there is.
-fn mean_errors(errors: &PlaneSums, pixels: &PlaneSums) -> PlaneValues {
-    PlaneValues {
+fn mean_errors(errors: &PlaneSums, pixels: &PlaneSums) -> FrameMeasure {
+    FrameMeasure {
         all: mean_squared_error(errors.total(), pixels.total()),
         y: mean_squared_error(errors.y, pixels.y),
         u: chroma_error(errors.u, pixels.u),
@@ -71,8 +71,8 @@ fn nearest(number: u128) -> f64 {
 }
 
 /// Returns the peak signal-to-noise ratios that belong to mean squared errors.
-fn ratios(mse: &PlaneValues, bit_depth: u8) -> PlaneValues {
-    PlaneValues {
+fn ratios(mse: &FrameMeasure, bit_depth: u8) -> FrameMeasure {
+    FrameMeasure {
         all: psnr(mse.all, bit_depth),
         y: psnr(mse.y, bit_depth),
         u: chroma_ratio(mse.u, bit_depth),
@@ -85,16 +85,6 @@ fn chroma_ratio(mse: Option<f64>, bit_depth: u8) -> Option<f64> {
     match mse {
         Some(mse) => Some(psnr(mse, bit_depth)),
         None => None,
-    }
-}
-
-/// Returns a measure of a frame as a report has it.
-pub(crate) fn reported(measure: FrameMeasure) -> PlaneValues {
-    PlaneValues {
-        all: measure.all,
-        y: measure.y,
-        u: measure.u,
-        v: measure.v,
     }
 }
 
@@ -120,7 +110,7 @@ impl Means {
     }
 
     /// Adds a frame.
-    pub(crate) fn add(&mut self, measure: &PlaneValues) {
+    pub(crate) fn add(&mut self, measure: &FrameMeasure) {
         self.all.add(measure.all);
         self.y.add(measure.y);
         if let Some(u) = measure.u {
@@ -132,9 +122,9 @@ impl Means {
     }
 
     /// Returns the means. `None` where there are no frames.
-    pub(crate) fn values(&self) -> Option<PlaneValues> {
+    pub(crate) fn values(&self) -> Option<FrameMeasure> {
         match (self.all.value(), self.y.value()) {
-            (Some(all), Some(y)) => Some(PlaneValues {
+            (Some(all), Some(y)) => Some(FrameMeasure {
                 all,
                 y,
                 u: self.u.value(),

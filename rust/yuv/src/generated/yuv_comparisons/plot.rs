@@ -3,7 +3,7 @@
 
 use v_frame_proved::support::memory::{TryPush, TryString, try_format};
 use crate::generated::yuv_comparisons::compare::samples_of;
-use crate::generated::yuv_comparisons::measures::{Scale, reported};
+use crate::generated::yuv_comparisons::measures::Scale;
 use v_frame_proved::support::AllocError;
 use std::io;
 use std::io::Write;
@@ -12,12 +12,11 @@ use crate::support::time::Clock;
 use v_frame_proved::frame::Frame;
 use v_frame_proved::pixel::Pixel;
 use v_frame_proved::chart::{Chart, Series, svg};
-use v_frame_proved::measures::{frame_ssim, frames_have_one_size};
+use v_frame_proved::measures::{FrameMeasure, frame_ssim, frames_have_one_size};
 use v_frame_proved::streams::{
     CompareOptions, FrameObserver, Place, PlaneSums, Progress, Source, StreamError, compare_streams,
 };
 use crate::generated::yuv_files::SystemFile;
-use crate::generated::yuv_reports::PlaneValues;
 use crate::generated::yuv_system::{
     Fault, Output, Status, System, begin, expected_frames, no_memory, open_file, taken_of_both,
     test_compared, write_text,
@@ -131,7 +130,7 @@ impl PlaneCurves {
     }
 
     /// Adds a frame.
-    fn add(&mut self, values: &PlaneValues) -> Result<(), AllocError> {
+    fn add(&mut self, values: &FrameMeasure) -> Result<(), AllocError> {
         self.y.try_push(values.y)?;
         if let Some(u) = values.u {
             self.u.try_push(u)?;
@@ -208,7 +207,7 @@ impl Curves {
             return Ok(());
         }
         match frame_ssim(first, second) {
-            Some(ssim) => self.ssim.add(&reported(ssim)),
+            Some(ssim) => self.ssim.add(&ssim),
             None => Ok(()),
         }
     }

@@ -2,11 +2,11 @@
 //! What is reported of two streams that are compared.
 
 use v_frame_proved::support::memory::TryString;
-use crate::generated::yuv_reports::planes::PlaneValues;
 use crate::generated::yuv_reports::pool::Pool;
 use crate::generated::yuv_reports::{csv, json, lines};
 use v_frame_proved::support::AllocError;
 use v_frame_proved::formats::{PixelDifference, PlaneSums};
+use v_frame_proved::measures::FrameMeasure;
 
 /// The form of a report.
 #[derive(Debug, Clone, Copy, PartialEq, Eq)]
@@ -23,11 +23,11 @@ pub enum ReportForm {
 #[derive(Clone, Copy)]
 pub struct FrameMeasures {
     /// The mean squared errors.
-    pub mse: PlaneValues,
+    pub mse: FrameMeasure,
     /// The peak signal-to-noise ratios, in decibels. Infinite where nothing differs.
-    pub psnr: PlaneValues,
+    pub psnr: FrameMeasure,
     /// The structural similarities, where they are measured.
-    pub ssim: Option<PlaneValues>,
+    pub ssim: Option<FrameMeasure>,
     /// The sums of squared errors, where they are reported.
     pub sums: Option<PlaneSums>,
 }

@@ -4,9 +4,10 @@
 
 use v_frame_proved::support::memory::{TryPush, TryString};
 use crate::generated::yuv_reports::comparison::FrameMeasures;
-use crate::generated::yuv_reports::planes::{PlaneValues, push_number, push_value};
+use crate::generated::yuv_reports::planes::{in_order, push_number, push_value};
 use v_frame_proved::support::AllocError;
 use v_frame_proved::formats::PlaneSums;
+use v_frame_proved::measures::FrameMeasure;
 
 /// Appends the names of the columns.
 pub fn push_head(text: &mut String, measures: &FrameMeasures) -> Result<(), AllocError> {
@@ -64,8 +65,8 @@ fn push_sum_cell(text: &mut String, sum: Option<u128>) -> Result<(), AllocError>
 }
 
 /// Appends the four values of a measure after a text, with commas between them.
-fn push_values(text: &mut String, before: &str, values: &PlaneValues) -> Result<(), AllocError> {
-    let values = values.in_order();
+fn push_values(text: &mut String, before: &str, values: &FrameMeasure) -> Result<(), AllocError> {
+    let values = in_order(values);
     text.try_push_str(before)?;
     for place in 0..4 {
         push_where(text, place > 0, ",")?;

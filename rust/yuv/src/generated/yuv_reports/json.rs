@@ -3,10 +3,11 @@
 
 use v_frame_proved::support::memory::{TryPush, TryString};
 use crate::generated::yuv_reports::comparison::{Comparison, FrameMeasures, Longer};
-use crate::generated::yuv_reports::planes::{PlaneValues, push_number, push_sum, push_value};
+use crate::generated::yuv_reports::planes::{in_order, push_number, push_sum, push_value};
 use crate::generated::yuv_reports::pool::Pool;
 use v_frame_proved::support::AllocError;
 use v_frame_proved::formats::{PixelDifference, PlaneSums};
+use v_frame_proved::measures::FrameMeasure;
 
 /// The keys of the values of a measure, with what stands before them.
 const KEYS: [&str; 4] = ["{\"all\": ", ", \"y\": ", ", \"u\": ", ", \"v\": "];
@@ -50,8 +51,8 @@ fn push_measures(
 }
 
 /// Appends the object of a measure.
-fn push_values(text: &mut String, values: &PlaneValues) -> Result<(), AllocError> {
-    let values = values.in_order();
+fn push_values(text: &mut String, values: &FrameMeasure) -> Result<(), AllocError> {
+    let values = in_order(values);
     for place in 0..4 {
         if let Some(value) = values[place] {
             text.try_push_str(KEYS[place])?;

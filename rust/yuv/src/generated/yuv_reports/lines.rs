@@ -3,9 +3,10 @@
 
 use v_frame_proved::support::memory::{TryPush, TryString};
 use crate::generated::yuv_reports::comparison::{Comparison, FrameMeasures, Longer};
-use crate::generated::yuv_reports::planes::{PlaneValues, push_number, push_sum};
+use crate::generated::yuv_reports::planes::{in_order, push_number, push_sum};
 use v_frame_proved::support::AllocError;
 use v_frame_proved::formats::{PixelDifference, PlaneSums};
+use v_frame_proved::measures::FrameMeasure;
 
 /// What all planes and each of them are called in the line of a frame, and in a line of all frames.
 const SHORT_NAMES: [&str; 4] = ["avg", "y", "u", "v"];
@@ -49,9 +50,9 @@ fn end_frame(text: &mut String, sums: &Option<PlaneSums>) -> Result<(), AllocErr
 fn push_hundredths(
     text: &mut String,
     measure: &str,
-    values: &PlaneValues,
+    values: &FrameMeasure,
 ) -> Result<(), AllocError> {
-    let values = values.in_order();
+    let values = in_order(values);
     for place in 0..4 {
         if let Some(value) = values[place] {
             let name = SHORT_NAMES[place];
@@ -63,8 +64,8 @@ fn push_hundredths(
 }
 
 /// Appends structural similarities with six decimals, each with its plane.
-fn push_similarities(text: &mut String, ssim: &PlaneValues) -> Result<(), AllocError> {
-    let values = ssim.in_order();
+fn push_similarities(text: &mut String, ssim: &FrameMeasure) -> Result<(), AllocError> {
+    let values = in_order(ssim);
     for place in 0..4 {
         if let Some(value) = values[place] {
             let name = SHORT_NAMES[place];
@@ -120,8 +121,12 @@ fn push_longer(text: &mut String, longer: Option<Longer>) -> Result<(), AllocErr
 }
 
 /// Appends the error and the ratio of all planes and of each.
-fn push_planes(text: &mut String, mse: &PlaneValues, psnr: &PlaneValues) -> Result<(), AllocError> {
-    let (errors, ratios) = (mse.in_order(), psnr.in_order());
+fn push_planes(
+    text: &mut String,
+    mse: &FrameMeasure,
+    psnr: &FrameMeasure,
+) -> Result<(), AllocError> {
+    let (errors, ratios) = (in_order(mse), in_order(psnr));
     for place in 0..4 {
         if let (Some(error), Some(ratio)) = (errors[place], ratios[place]) {
             let name = LONG_NAMES[place];
@@ -132,8 +137,8 @@ fn push_planes(text: &mut String, mse: &PlaneValues, psnr: &PlaneValues) -> Resu
 }
 
 /// Appends the line of the structural similarities.
-fn push_ssim(text: &mut String, ssim: &PlaneValues) -> Result<(), AllocError> {
-    let values = ssim.in_order();
+fn push_ssim(text: &mut String, ssim: &FrameMeasure) -> Result<(), AllocError> {
+    let values = in_order(ssim);
     text.try_push_str("ssim:")?;
     for place in 0..4 {
         if let Some(value) = values[place] {

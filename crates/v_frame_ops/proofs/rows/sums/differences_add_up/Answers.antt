@@ -2,4 +2,4 @@
 use Rattle.v_frame_ops.proofs.rows.sums.differences_add_up.Goals as goal
 
 pub returns : goal.returns
-returns g c = c.sums_of_pairs_add_up.ensures (λ p. g.D.Difference.between p.0 p.1)
+returns g c = c.sums_of_pairs_add_up.ensures (λ p. g.D.RowDifference.between p.0 p.1)

@@ -1,15 +1,16 @@
 -- The stride decides first, and then the length.
-use Rattle.std.proofs.Common.{◌≡◌, ◌*◌, ◌<◌, ◌≤◌, length, min, Ok, Err, refl, ap, ◌∙◌, sym, arith}
+use Rattle.std.proofs.Common.{◌≡◌, ◌*◌, ◌<◌, ◌≤◌, length, map, min, Ok, Err, refl, ap, ◌∙◌, sym, arith}
 use Rattle.std.proofs.Math.Nat.{mul-pos}
 use Rattle.v_frame_raster.specs.Geometry.{usize_max}
 use Rattle.v_frame_raster.specs.Raster.{Raster, raster, table_of}
+use Rattle.v_frame_raster.specs.StridedRows.{strided_table}
+use Rattle.v_frame_raster.specs.Table.{Table}
+use Rattle.v_frame_raster.specs.Pixel.{pixels_of_bytes}
 use Rattle.v_frame_plane.specs.Copy.{Copies, strided_copy}
+use Rattle.v_frame_plane.specs.Visible.{with_visible}
 use Rattle.v_frame_plane.specs.declared.error.CopyError.TheVariants.{DataLength}
 use Rattle.v_frame_plane.proofs.copies.ByteCopies.{asked_is_found, asked_is_other, asked_is_told, refused_by_stride}
 use Rattle.v_frame_plane.proofs.copies.ByteCopies.{refused_by_length, accepted}
-use Rattle.std.specs.List.{refill}
-use Rattle.v_frame_plane.proofs.tables.Kept.{whole_refilled}
-use Rattle.v_frame_raster.proofs.tables.Lists.{refill_same}
 use Rattle.v_frame_raster.proofs.tables.BytesBack.{AreBytes}
 use Rattle.v_frame_plane.proofs.copies.ByteLaws.{strided_bytes}
 use Rattle.v_frame_raster.proofs.tables.Sources.{fronts_fit}
@@ -65,41 +66,42 @@ returns-then-ne-clause-copied g c =
 
 pub returns : goal.returns
 returns g c =
-    let form = g.T.Pixel.form in
-    let k = c.self.inside.geometry in
-    let source = c.args.src.now in
-    let old : Raster g.row.T.Denot = raster k c.self.inside.buffer in
-    let entries = c.as_mut_slice-buffer.ensures.value in
-    let left = refill_same old.buffer c.write_visible.new.buffer (c.write_visible.ensures.count ∙ ap length entries) in
-    let new : Raster g.row.T.Denot = raster k (refill (length old.buffer) old.buffer c.write_visible.new.buffer) in
+    let form = g.T.Pixel.form in let k = c.self.inside.geometry in let source = c.args.src.now in
+    let old = c.args.self.now in let written = c.write_rows.ensures in let ys = c.write_rows.new.buffer in
     let size = c.BYTES.ensures ∙ g.met.T.Pixel.bytes_of_form in
-    let fits : k.width * form.size ≤ c.args.stride = rw (← size, ← c.width-width.ensures.value) c.if-stride-width.false
-    in
-    let same = asked_is_found c.checked_mul-expected.result (c.args.stride * c.height.result) (length source)
-    c.checked_mul-expected.ensures
-    (sym c.if-ne.ensures) in
-    let done = accepted form old source c.args.stride k.width k.height c.width-width.ensures.valid.high
-    c.self.invariant.whole refl refl fits (same ∙
-    ap (λ n. c.args.stride * n) c.height.ensures.value) in
     let size2 = c.BYTES-2.ensures ∙ g.met.T.Pixel.bytes_of_form in
-    let rows = rw (c.of_parts-source.ensures.value, c.width-width.ensures.value, c.height-2.ensures.value, size2) at
-    c.write_visible.ensures.table in
-    let copied : Copies old new (Ok tt) (strided_copy form (table_of old) source c.args.stride) = record {
+    let wide = c.width-width.ensures in
+    let fits : k.width * form.size ≤ c.args.stride = rw (← size, ← wide.value) c.if-stride-width.false in
+    let same = asked_is_found c.checked_mul-expected.result (c.args.stride * c.height.result) (length source)
+    c.checked_mul-expected.ensures (sym c.if-ne.ensures) in
+    let table : Table g.row.T.Denot = strided_table form k.width k.height c.args.stride source in
+    let done : strided_copy form (table_of old) source c.args.stride ≡ record { answer = Ok tt; table = table } =
+    rw (← c.self.view_is) (accepted form (raster k c.self.inside.buffer) source c.args.stride k.width k.height
+    wide.valid.high c.self.invariant.whole refl refl fits (same ∙ ap (λ n. c.args.stride * n) c.height.ensures.value)) in
+    let read : map (pixels_of_bytes form c.visible_mut-entries.result.width) c.of_parts-source.result ≡ table =
+    rw (
+      c.visible_mut-entries.ensures.width,
+      ← c.self.view_is,
+      c.of_parts-source.ensures.value,
+      wide.value,
+      c.height-2.ensures.value,
+      size2,
+    ) refl in
+    let border = c.visible_mut-entries.ensures.border ys written.rest in
+    let copied : Copies old (with_visible old ys) (Ok tt) (strided_copy form (table_of old) source c.args.stride) =
+    record {
       answer = rw done refl;
-      table = rw (left, done) rows;
-      border = rw left (c.write_visible.ensures.border ∙ rw entries refl);
-      geometry = refl;
+      table = rw done (c.visible_mut-entries.ensures.written ys written.rest.count ∙ written.table ∙ read);
+      border = ap (λ b. b.1) border;
+      geometry = ap (λ b. b.0) border;
       refused = tt;
     } in
     let bytes : AreBytes source = record { below = λ i. (c.type_inv.src i).fits } in
-    rw (← c.self.view_is) (record {
+    record {
       copied = copied;
-      source = strided_bytes form g.met.T.Pixel.value_of_pixel (table_of old) (table_of new) source bytes c.args.stride
-          (Ok tt) copied.answer copied.table;
-    })
-
-pub write_visible-requires-clause-whole : goal.write_visible-requires-clause-whole
-write_visible-requires-clause-whole g c = rw (c.as_mut_slice-buffer.ensures.value) c.self.invariant
+      source = strided_bytes form g.met.T.Pixel.value_of_pixel (table_of old) (table_of (with_visible old ys)) source
+          bytes c.args.stride (Ok tt) copied.answer copied.table;
+    }
 
 pub of_parts-source-requires : goal.of_parts-source-requires
 of_parts-source-requires g c =
@@ -116,7 +118,3 @@ of_parts-source-requires g c =
     fronts_fit (c.width-width.result * c.BYTES-2.result) c.args.stride c.height-2.result (length c.args.src.now)
     (mul-pos wide some) high (rw (c.BYTES-2.ensures, ← c.BYTES.ensures) c.if-stride-width.false)
     (counted ∙ ap (λ n. c.args.stride * n) same)
-
-pub invariant_of-self : goal.invariant_of-self
-invariant_of-self g c = whole_refilled c.self.inside.geometry c.self.inside.buffer c.write_visible.new.buffer
-    c.self.invariant

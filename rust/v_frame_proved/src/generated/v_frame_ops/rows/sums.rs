@@ -4,8 +4,8 @@
 use crate::generated::v_frame::pixel::Pixel;
 use crate::generated::v_frame::plane::RowsRef;
 
-/// What two pixels differ by, as it is summed.
-pub(crate) trait Difference<T> {
+/// What two pixels differ by, as it is summed over rows.
+pub(crate) trait RowDifference<T> {
     /// Returns what two rows of one length add.
     fn of_rows(a: &[T], b: &[T]) -> u128;
 }
@@ -13,7 +13,7 @@ pub(crate) trait Difference<T> {
 /// The absolute difference.
 pub(crate) struct AbsoluteDifferences;
 
-impl<T: Pixel> Difference<T> for AbsoluteDifferences {
+impl<T: Pixel> RowDifference<T> for AbsoluteDifferences {
     #[inline(always)]
     fn of_rows(a: &[T], b: &[T]) -> u128 {
         T::pixel_sum_of_absolute_differences(a, b)
@@ -23,7 +23,7 @@ impl<T: Pixel> Difference<T> for AbsoluteDifferences {
 /// The square of the difference.
 pub(crate) struct SquaredErrors;
 
-impl<T: Pixel> Difference<T> for SquaredErrors {
+impl<T: Pixel> RowDifference<T> for SquaredErrors {
     #[inline(always)]
     fn of_rows(a: &[T], b: &[T]) -> u128 {
         T::pixel_sum_of_squared_errors(a, b)
@@ -32,7 +32,7 @@ impl<T: Pixel> Difference<T> for SquaredErrors {
 
 /// Returns the sum over the pixels of two pictures. The smallest block is told apart where it is called.
 #[inline(always)]
-pub(crate) fn sum_of<T: Pixel, D: Difference<T>>(a: &RowsRef<'_, T>, b: &RowsRef<'_, T>) -> u128 {
+pub(crate) fn sum_of<T: Pixel, D: RowDifference<T>>(a: &RowsRef<'_, T>, b: &RowsRef<'_, T>) -> u128 {
     if a.width() == 8 && a.height() == 8 {
         return sum_of_size::<T, D>(a, b, 8, 8);
     }
@@ -41,7 +41,7 @@ pub(crate) fn sum_of<T: Pixel, D: Difference<T>>(a: &RowsRef<'_, T>, b: &RowsRef
 
 /// Returns the same sum of pictures of any size. It stays out of line, so that a caller with small blocks has no more than these.
 #[inline(never)]
-fn sum_of_any_size<T: Pixel, D: Difference<T>>(a: &RowsRef<'_, T>, b: &RowsRef<'_, T>) -> u128 {
+fn sum_of_any_size<T: Pixel, D: RowDifference<T>>(a: &RowsRef<'_, T>, b: &RowsRef<'_, T>) -> u128 {
     match a.width() {
         8 => sum_of_size::<T, D>(a, b, 8, a.height()),
         16 => sum_of_size::<T, D>(a, b, 16, a.height()),
@@ -54,14 +54,14 @@ fn sum_of_any_size<T: Pixel, D: Difference<T>>(a: &RowsRef<'_, T>, b: &RowsRef<'
 
 /// Returns the same sum of pictures of any width. It stays out of line, so that a call for a block saves no registers for it.
 #[inline(never)]
-fn sum_of_any_width<T: Copy, D: Difference<T>>(a: &RowsRef<'_, T>, b: &RowsRef<'_, T>) -> u128 {
+fn sum_of_any_width<T: Copy, D: RowDifference<T>>(a: &RowsRef<'_, T>, b: &RowsRef<'_, T>) -> u128 {
     sum_of_size::<T, D>(a, b, a.width(), a.height())
 }
 
 /// Returns the same sum of pictures of this size. Where a width is a constant, a row takes no test of its length, and where a
 /// height is one, the compiler makes no loop of the rows of a small block.
 #[inline(always)]
-fn sum_of_size<T: Copy, D: Difference<T>>(
+fn sum_of_size<T: Copy, D: RowDifference<T>>(
     a: &RowsRef<'_, T>,
     b: &RowsRef<'_, T>,
     width: usize,

@@ -3,8 +3,8 @@
 //!
 //! Pixels and bytes share the loop of `encoding`, and bytes without tails are bytes with the stride of a row.
 
-use super::{CopyError, Plane, PlaneGeometry};
-use crate::generated::v_frame_plane::encoding::{AsBytes, AsPixels, Encoding, write_rows};
+use super::{CopyError, Plane, VisibleMut};
+use crate::generated::v_frame_plane::encoding::{AsBytes, AsPixels, write_rows};
 use crate::generated::v_frame_plane::place::visible_size;
 use crate::generated::v_frame_plane::rows_ref::RowsRef;
 use crate::generated::v_frame_raster::pixel::Pixel;
@@ -44,10 +44,14 @@ impl<T: Pixel> Plane<T> {
                 found: src.len(),
             });
         }
-        let (width, height) = (geometry.width(), geometry.height());
-        let source = RowsRef::of_parts(src, width, height, width);
-        let buffer = self.buffer.as_mut_slice();
-        write_visible::<T, AsPixels>(&source, buffer, geometry);
+        let source = RowsRef::of_parts(src, geometry.width(), geometry.height(), geometry.width());
+        let VisibleMut {
+            entries,
+            width,
+            height,
+            stride,
+        } = self.visible_mut();
+        write_rows::<T, AsPixels>(&source, entries, width, height, stride);
         Ok(())
     }
 
@@ -94,19 +98,13 @@ impl<T: Pixel> Plane<T> {
             });
         }
         let source = RowsRef::of_parts(src, width * T::PIXEL_BYTES, geometry.height(), stride);
-        let buffer = self.buffer.as_mut_slice();
-        write_visible::<T, AsBytes>(&source, buffer, geometry);
+        let VisibleMut {
+            entries,
+            width,
+            height,
+            stride,
+        } = self.visible_mut();
+        write_rows::<T, AsBytes>(&source, entries, width, height, stride);
         Ok(())
     }
-}
-
-/// Writes the visible rows of a whole buffer, each from the row of the source of the same number.
-fn write_visible<T, E: Encoding<T>>(
-    source: &RowsRef<'_, E::Entry>,
-    buffer: &mut [T],
-    geometry: PlaneGeometry,
-) {
-    let (_, visible) = buffer.split_at_mut(geometry.data_origin_proved());
-    let (width, height) = (geometry.width(), geometry.height());
-    write_rows::<T, E>(source, visible, width, height, geometry.stride());
 }
