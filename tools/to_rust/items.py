@@ -54,7 +54,8 @@ def functions_of(source):
 def parameters_of(source, item):
     """Returns where each parameter of a function begins, where its name, which may be `self`, stands, and its end."""
     parts = source.elements(item.params[0], types=True)
-    names = [[at for at in range(start, end) if source.is_word(at) and source[at] != "mut"] for start, end in parts]
+    names = [[at for at in range(start, end) if source.is_word(at) and source[at] != "mut"]
+             if source.words(start, end).count(" = ") == 0 else [] for start, end in parts]
     if [] in names:
         source.refuse(parts[names.index([])][0], "a parameter that is not known")
     return [(start, name[0], end) for (start, end), name in zip(parts, names)]

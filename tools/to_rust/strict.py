@@ -7,12 +7,13 @@ from . import exports, tables
 from .items import KEYWORDS, Item, items_of, skip_attributes
 from .paths import STD, home_of, leaves_of
 from .tables import rows_of
+from .tokens import Refused
 
 KNOWN = {kind: set(words.split()) for kind, words in rows_of("known.md", "kind | words")}
+# What may stand behind what: marks and keywords, and kinds of all other tokens.
+PAIRS = {before: set(words.split()) for before, words in rows_of("known.md", "token | behind it")}
 WRITING = {"eprintln", "format", "unreachable", "write", "writeln"}
 FORMAT = re.compile(r"\{[^{}]*:([^{}]*)\}")
-# Keywords that cannot stand behind a name.
-NOT_BEHIND = KNOWN["keywords"] - {"as", "else", "for", "if", "in", "where"}
 LITERALS = ("number", "string", "char")
 LEFT_OVER = {"ghost", "requires", "ensures", "Drop", "Model", "Global", "alloc", "_alloc", "rt", "HostRuntime", "prove",
              "thiserror", "std_alloc", "Rattle", "AsSlice", "DerefSlice", "AllocFailed"}
@@ -68,6 +69,18 @@ def check(source, names):
             check_word(source, at, names, here)
         elif source.kind(at) in ("mark", "strange"):
             check_mark(source, at)
+    strange = [at for at in range(len(source)) if class_of(source, at) not in PAIRS.get(class_of(source, at - 1), ())]
+    # What else is refused says more, so this waits.
+    source.strange = [Refused(source.tokens[at].place, f"`{source[at]}` is not known behind `{source[at - 1]}`") for at in strange]
+
+
+def class_of(source, at):
+    """Returns what a token counts as beside another one: a mark and a keyword as themselves, all else as its kind."""
+    form = next((form for form in ("pub ( crate )", "pub (") if source.matches(at - form.count(" "), form)), None)
+    if form:
+        return form.replace(" ", "")
+    named = source.kind(at) in ("mark", "strange") or source[at] in KNOWN["keywords"]
+    return source[at] if named else source.kind(at) or "start"
 
 
 def check_mark(source, at):
@@ -75,8 +88,6 @@ def check_mark(source, at):
     mark, before, after = source[at], source[at - 1], source[at + 1]
     ends = source.kind(at - 1) in LITERALS or before in (")", "]", "?", ">", "self") \
         or source.is_word(at - 1) and before not in KNOWN["keywords"]
-    if source.kind(at) == "strange" or mark in ("#", "$", "~"):
-        source.refuse(at, f"`{mark}` is no token of Rust here")
     if mark == "::" and not ends and before not in ("Self", "crate", "super"):
         source.refuse(at, f"a path that is not known: ::{after}")
     if mark == "<" and not ends and before not in ("<", "::", "impl", "for", "fn"):
@@ -90,18 +101,13 @@ def check_mark(source, at):
     base = range(at, source.following(at, "}", ")", "]") if mark == ".." and before == "," else at)
     if "[" in [source[k] for k in base] and (source.is_word(at + 1) or after == "("):
         source.refuse(at, "a base at an index, which Rattle does not read where all fields are written")
-    if mark == "*" and after in ("const", "mut") or (mark, after) == ("&", "raw") and source.is_word(at + 2):
-        source.refuse(at, "a pointer, which Rust reads in unsafe code alone")
 
 
 def check_word(source, at, names, here):
     """Refuses a word that is not known in its place: of a path, a call, a macro, a type, or beside another word."""
     word, before, after = source[at], source[at - 1], source[at + 1]
-    plain = word not in KNOWN["keywords"] and word not in ("unsafe", "async")
-    beside = source.kind(at - 1) in LITERALS or source.kind(at + 1) in LITERALS \
-        or after in NOT_BEHIND or before == ")" and source[at - 4] != "pub" \
-        or source.is_word(at - 1) and before not in KNOWN["keywords"]
-    if word in ("unsafe", "async", "await", "extern") or word == "mut" and before == "static" or plain and beside:
+    plain = word not in KNOWN["keywords"] | KNOWN["reserved"]
+    if word in KNOWN["reserved"] or word == "mut" and before == "static":
         source.refuse(at, f"a word that is not known here: {word}")
     if after == "!" and (plain or source[at + 2] in ("(", "[", "{")) and word not in KNOWN["macros"]:
         source.refuse(at, f"a macro that is not known: {word}!")
@@ -143,3 +149,5 @@ def check_output(source):
         made_path = source.matches(at, "alloc ::") and token.edit is not None
         if token.kind == "strange" or token.kind == "word" and token.text in left_over and not made_path:
             source.refuse(at, f"`{token.text}` is left over")
+    if source.strange:
+        raise source.strange[0]

@@ -37,7 +37,7 @@ fn labels(values: &[f64]) -> String {
 /// greatest, and the ends are multiples of it: the labels are by Python's fractions.
 #[test]
 fn an_axis_has_few_and_round_steps() {
-    let cases: [(&[f64], &str); 14] = [
+    let cases: [(&[f64], &str); 17] = [
         (&[0.0, 1.0], "0.0 0.2 0.4 0.6 0.8 1.0"),
         (&[36.5, 43.0], "36 38 40 42 44"),
         (&[-1.0, 1.0], "-1.0 -0.5 0.0 0.5 1.0"),
@@ -50,6 +50,10 @@ fn an_axis_has_few_and_round_steps() {
         (&[0.0, 30.0], "0 5 10 15 20 25 30"),
         (&[1e12, 6e12], "1e12 2e12 3e12 4e12 5e12 6e12"),
         (&[0.0, 3e-11], "0 5e-12 10e-12 15e-12 20e-12 25e-12 30e-12"),
+        (&[1e15, 1e15], "999999999999000 1000000000000000 1000000000001000"),
+        // Over a step the number farthest from 0 is a whole one of floats, but lies behind that many steps.
+        (&[-0.02, 0.030000000000000002], "-0.02 -0.01 0.00 0.01 0.02 0.03 0.04"),
+        (&[-0.030000000000000002, 0.02], "-0.04 -0.03 -0.02 -0.01 0.00 0.01 0.02"),
         (&[f64::NAN], "0.0 0.2 0.4 0.6 0.8 1.0"),
         (&[], "0.0 0.2 0.4 0.6 0.8 1.0"),
     ];
@@ -67,4 +71,43 @@ fn marks_of_large_numbers_are_evenly_apart() {
     let first = places[1] - places[0];
     assert!(first < -1.0, "{places:?}");
     assert!(places.windows(2).all(|pair| (pair[1] - pair[0] - first).abs() < 0.11), "{places:?}");
+}
+
+/// Returns the chart of so many series of these values, whose first frame has a number.
+fn chart_of(title: &str, first: u64, count: usize, values: &[f64]) -> String {
+    let series = vec![Series { name: "Y", values }; count];
+    svg(&Chart { title, unit: "unit", first, series: &series }).expect("drawn")
+}
+
+#[test]
+fn frames_whose_number_is_a_multiple_of_the_step_are_marked() {
+    for (first, wanted) in [(0, "0 1 2 3 4"), (10, "10 11 12 13 14"), (1, "1 2 3 4 5")] {
+        let text = chart_of("title", first, 1, &[0.0; 5]);
+        let marks = text.lines().filter(|line| line.contains(" y=\"387\" "));
+        let numbers: Vec<_> = marks.map(|line| line.trim_end_matches("</text>").rsplit('>').next().unwrap()).collect();
+        assert_eq!(numbers.join(" "), wanted, "from {first} on");
+    }
+}
+
+#[test]
+fn letters_that_xml_does_not_allow_are_replaced() {
+    let text = chart_of("a\tb\nc\rd\0e\u{1f}f\u{fffe}g\u{ffff}h\u{10ffff}i\u{7f}<&>", 1, 1, &[0.0]);
+    assert!(text.contains("a\tb\nc\rd?e?f?g?h\u{10ffff}i\u{7f}&lt;&amp;&gt;"), "{text}");
+}
+
+#[test]
+fn colors_come_round_behind_the_seventh() {
+    let text = chart_of("title", 1, 9, &[1.0, 2.0]);
+    let lines: Vec<_> = text.lines().filter_map(|line| line.split_once("stroke=\"#").map(|it| &it.1[..6])).collect();
+    let colors = ["0072b2", "d55e00", "009e73", "cc79a7", "e69f00", "56b4e9", "000000", "0072b2", "d55e00"];
+    assert_eq!(lines[lines.len() - 9..], colors);
+}
+
+/// A band of the least to the greatest value stands behind a line of which one column has several values.
+#[test]
+fn only_columns_of_several_values_have_a_band() {
+    for (count, banded) in [(2, false), (847, false), (848, false), (849, true), (2000, true)] {
+        let values: Vec<f64> = (0..count).map(f64::from).collect();
+        assert_eq!(chart_of("title", 1, 1, &values).contains("stroke-opacity=\"0.3\""), banded, "{count} values");
+    }
 }

@@ -239,3 +239,36 @@ fn a_large_picture_goes_out_whole() {
         }
     }
 }
+
+/// A reader of sevens, 1000 a call, of which one call is interrupted.
+struct InterruptedOnce {
+    calls: usize,
+    at: usize,
+}
+
+impl Read for InterruptedOnce {
+    fn read(&mut self, buf: &mut [u8]) -> io::Result<usize> {
+        self.calls += 1;
+        if self.calls == self.at {
+            return Err(ErrorKind::Interrupted.into());
+        }
+        let count = buf.len().min(1000);
+        buf[..count].fill(7);
+        Ok(count)
+    }
+}
+
+#[test]
+fn a_read_that_is_interrupted_anywhere_is_not_tried_again() {
+    let blank: Frame<u8> = video_frame(100, 100, Monochrome, 8, 0).expect("a frame");
+    for at in 1..=10 {
+        let mut frame = blank.clone();
+        let mut input = Counted::new(InterruptedOnce { calls: 0, at });
+        assert_eq!(read_frame(&mut input, &mut frame), Err(PlanarError::Read), "call {at}");
+        assert_eq!((input.failures(), input.last_failure()), (1, Some(ErrorKind::Interrupted)));
+        assert_eq!((input.get_ref().calls, &frame), (at, &blank));
+        assert_eq!(read_frame(&mut input, &mut frame), Ok(true));
+        assert_eq!((input.failures(), input.get_ref().calls), (1, at + 10));
+        assert!(frame.y_plane.pixels().all(|pixel| pixel == 7));
+    }
+}

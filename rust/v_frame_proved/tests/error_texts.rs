@@ -131,3 +131,10 @@ fn errors_of_pictures() {
 fn memory_that_is_refused_has_its_kind() {
     assert_eq!(io::Error::from(v_frame_proved::AllocError).kind(), io::ErrorKind::OutOfMemory);
 }
+
+#[test]
+fn a_picture_that_is_not_written_has_its_cause() {
+    let error = v_frame_proved::png::PngError::Write(std::io::ErrorKind::StorageFull.into());
+    let cause = std::error::Error::source(&error).and_then(|cause| cause.downcast_ref::<std::io::Error>());
+    assert_eq!(cause.map(std::io::Error::kind), Some(std::io::ErrorKind::StorageFull));
+}

@@ -43,6 +43,15 @@ fn each_color_comes_back_from_its_line() {
     }
 }
 
+/// As the `y4m` format has it, a stream that states no color, or 420 alone, has its chroma as JPEG does.
+#[test]
+fn chroma_without_a_stated_place_lies_in_the_center() {
+    for color in [Color::Unstated, Color::Yuv420, Color::Yuv420Jpeg] {
+        let found = (color.subsampling(), color.bit_depth(), color.siting());
+        assert_eq!(found, (Format::Yuv420, 8, Some(ChromaSiting::Center)), "{color:?}");
+    }
+}
+
 fn comes_back(color: Color, interlacing: Option<Interlacing>) {
     let ratio = Some(Ratio { numerator: u64::MAX, denominator: u64::MAX });
     let header = StreamHeader {

@@ -151,3 +151,21 @@ fn means_of_a_stream() {
     assert!(are_near(psnr(50.5, 8), 31.097_889_827_492_49));
     assert_eq!(peak_ratio(2.0, 8), 32512.5);
 }
+
+/// Of an error of 7 the ratio is 20 log10(2^depth - 1) - 10 log10(7), by Python.
+#[test]
+fn means_of_streams_of_each_depth() {
+    let cases = [
+        (8, 39.67982320853653),
+        (9, 45.71743760255168),
+        (10, 51.74653227410063),
+        (12, 63.79409772178617),
+        (14, 75.83688822496156),
+        (16, 87.87848567516242),
+    ];
+    for (depth, wanted) in cases {
+        let mut quality = StreamQuality::new();
+        quality.add(7.0, depth);
+        assert!(are_near(quality.mean_of_psnr().expect("a frame"), wanted), "{depth} bits: {quality:?}");
+    }
+}

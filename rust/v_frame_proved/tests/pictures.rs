@@ -71,6 +71,28 @@ fn small_files_are_these_bytes() {
     assert_eq!(file_of(black, Compression::Fixed, &[0; 40]), BLACK);
 }
 
+/// The compressed file of 3 by 2 gray pixels. What is left of the second row is as small over the row above as beside
+/// each pixel, and each less than the row itself: its filter is the first of the two.
+const TIE: [u8; 88] = [
+    137, 80, 78, 71, 13, 10, 26, 10, 0, 0, 0, 13, 73, 72, 68, 82, 0, 0, 0, 3, 0, 0, 0, 2, 8, 0, 0, 0, 0, 184, 31, 57,
+    198, 0, 0, 0, 31, 73, 68, 65, 84, 120, 1, 98, 228, 226, 226, 6, 0, 0, 0, 255, 255, 98, 100, 96, 148, 5, 0, 0, 0,
+    255, 255, 1, 0, 0, 255, 255, 0, 236, 0, 64, 35, 75, 138, 131, 0, 0, 0, 0, 73, 69, 78, 68, 174, 66, 96, 130,
+];
+
+#[test]
+fn of_filters_that_leave_as_little_the_first_is_taken() {
+    let gray = header(3, 2, Samples::Gray8, ColorSpace::Unnamed);
+    assert_eq!(file_of(gray, Compression::Fixed, &[10, 20, 31, 0, 1, 30]), TIE);
+}
+
+/// The checksum of white rows is as large within one piece as it goes before it is reduced.
+#[test]
+fn checksums_of_white_rows() {
+    let picture = header(5652, 3, Samples::Gray8, ColorSpace::Unnamed);
+    let file = file_of(picture, Compression::Stored, &[255; 3 * 5652]);
+    assert_eq!(file[file.len() - 20..][..4], [213, 13, 253, 148]);
+}
+
 /// Pictures of noise, and the length of each file with the sum of its bytes, each times its number from 1 on.
 const FILES: [(u32, u32, Samples, ColorSpace, Compression, usize, u64); 17] = {
     use ColorSpace::{Srgb, Unnamed};
@@ -221,11 +243,16 @@ fn rows_that_do_not_belong_are_refused() {
     assert!(matches!(png.write_rows(&wide), Err(PngError::RowLength { expected: 2, found: 3 })));
     let deep = RowsRef::new(&[1, 2], 1, 2, 1).expect("rows");
     assert!(matches!(png.write_rows_u16(&deep), Err(PngError::BitDepth)));
+    let colors = header(2, 1, Samples::Rgb8, ColorSpace::Unnamed);
+    let three = RowsRef::new(&[1, 2, 3], 3, 1, 3).expect("rows");
+    let mut out = PngWriter::new(Vec::new(), colors).expect("begun");
+    assert!(matches!(out.write_rows_u16(&three), Err(PngError::BitDepth)));
     assert_eq!(png.rows_left(), 2);
     png.write_row(&[1, 2]).expect("a row");
     assert_eq!(png.rows_left(), 1);
     png.write_row(&[3, 4]).expect("a row");
     assert!(matches!(png.write_row(&[5, 6]), Err(PngError::NoRowLeft)));
+    assert!(matches!(png.write_row(&[5]), Err(PngError::NoRowLeft)));
     png.finish().expect("finished");
     assert!(matches!(png.finish(), Err(PngError::Closed)));
     assert!(matches!(png.write_row(&[5, 6]), Err(PngError::Closed)));

@@ -12,7 +12,6 @@ use v_frame_proved::frame::{Frame, FrameBuilder};
 use v_frame_proved::pixel::Pixel;
 use v_frame_proved::planar::video_frame;
 use v_frame_proved::replay::{Answer, Drawn, PixelDraw, ReplayStopped, RowDraw, Side, VisibleCall, replay};
-use v_frame_proved::sequence::Sequence;
 
 /// Three pixels by two without a border.
 const BARE: Layout = [3, 2, 0, 0, 0, 0];
@@ -154,6 +153,8 @@ fn writes_leave_gaps_and_stop_at_the_width_and_at_the_height() {
         (row_mut(0, 2, &[Some(9)]), "RowShown(None)"),
     ];
     check::<u8>(BORDERED, &before, &steps, &after);
+    let steps = [(row_mut(0, 1, &[Some(9), None, Some(7)]), "RowShown(Some([4, 5, 6]))")];
+    check(BARE, &SIX, &steps, &[1, 2, 3, 9, 5, 7]);
 }
 
 #[test]
@@ -385,18 +386,14 @@ fn calls_answers_and_a_stopped_replay_show_what_they_name() {
     assert_eq!(format!("{stopped:?}"), "ReplayStopped { done: [Number(3), NoPlane] }");
 }
 
-fn check_list<T: Pixel>(length: usize) {
-    let pixels: Vec<T> = (0..length).map(|place| sample(0, place, 0)).collect();
-    let list = Sequence::from_slice(&pixels).expect("memory");
-    assert_eq!((list.len(), list.is_empty()), (length, length == 0));
-    assert_eq!(list.as_slice(), pixels);
-    assert_eq!(list.into_vec(), pixels);
-}
-
 #[test]
-fn sequences_are_made_of_slices_of_any_length() {
-    for length in [0, 1, 2, 63, 64, 65, 255, 256, 1000] {
-        check_list::<u8>(length);
-        check_list::<u16>(length);
-    }
+fn long_rows_and_high_planes_are_written() {
+    let (before, after) = (vec![1_u8; 70_001], vec![2; 70_001]);
+    let writes = vec![Some(2); 70_002];
+    let answer = format!("RowShown(Some({before:?}))");
+    check([70_001, 1, 0, 0, 0, 0], &before, &[(row_mut(0, 0, &writes), answer.as_str())], &after);
+    let mut after = before.clone();
+    after[70_000] = 7;
+    let steps = [(pixel_mut(0, 0, 70_000, 7), "PixelShown(1)"), (pixel(0, 0, 70_000), "PixelShown(7)")];
+    check([1, 70_001, 0, 0, 0, 0], &before, &steps, &after);
 }

@@ -167,3 +167,101 @@ fn colors_come_back_nearly() {
         case.expect(&[red, green, blue]);
     }
 }
+
+/// Samples of 16 bits and the color of each, by Python's fractions: one channel lies just on a half or hardly above one,
+/// and in the last of each seven colors below one, so that coefficients which differ in a few of their digits show.
+const NEAR_HALVES: [(Standard, ColorRange, [u16; 3], [u8; 3]); 42] = {
+    use ColorRange::{Full, Limited};
+    use Standard::{Bt601, Bt709, Bt2020};
+    [
+        (Bt601, Limited, [51619, 32768, 10368], [77, 255, 216]),
+        (Bt601, Limited, [12637, 32768, 55168], [179, 0, 39]),
+        (Bt601, Limited, [7928, 1395, 0], [0, 170, 0]),
+        (Bt601, Limited, [46446, 51762, 65535], [255, 60, 255]),
+        (Bt601, Limited, [59722, 10368, 32768], [253, 255, 77]),
+        (Bt601, Limited, [8987, 43968, 32768], [22, 5, 111]),
+        (Bt601, Limited, [33667, 32768, 32768], [134, 134, 134]),
+        (Bt601, Full, [46044, 32768, 18], [1, 255, 179]),
+        (Bt601, Full, [127, 32768, 41018], [46, 0, 0]),
+        (Bt601, Full, [34, 19838, 0], [0, 109, 0]),
+        (Bt601, Full, [26610, 41722, 65535], [255, 1, 165]),
+        (Bt601, Full, [57940, 143, 32768], [225, 255, 1]),
+        (Bt601, Full, [194, 41143, 32768], [1, 0, 59]),
+        (Bt601, Full, [30197, 32768, 32768], [117, 117, 117]),
+        (Bt709, Limited, [37335, 32768, 18819], [54, 180, 151]),
+        (Bt709, Limited, [6795, 32768, 61074], [211, 0, 12]),
+        (Bt709, Limited, [5727, 7715, 0], [0, 97, 0]),
+        (Bt709, Limited, [35434, 50567, 65535], [255, 60, 255]),
+        (Bt709, Limited, [56435, 6766, 32768], [238, 255, 24]),
+        (Bt709, Limited, [16019, 47101, 32768], [54, 42, 173]),
+        (Bt709, Limited, [33667, 32768, 32768], [134, 134, 134]),
+        (Bt709, Full, [49341, 32768, 1518], [1, 249, 192]),
+        (Bt709, Full, [227, 32768, 41518], [55, 0, 1]),
+        (Bt709, Full, [242, 8249, 0], [0, 79, 0]),
+        (Bt709, Full, [17896, 45732, 65535], [255, 1, 163]),
+        (Bt709, Full, [58116, 1518, 32768], [226, 249, 1]),
+        (Bt709, Full, [83, 41518, 32768], [0, 0, 64]),
+        (Bt709, Full, [30197, 32768, 32768], [117, 117, 117]),
+        (Bt2020, Limited, [17876, 32768, 24506], [9, 84, 63]),
+        (Bt2020, Limited, [4907, 32768, 65527], [219, 0, 4]),
+        (Bt2020, Limited, [12179, 12978, 0], [0, 135, 0]),
+        (Bt2020, Limited, [41609, 43525, 65535], [255, 80, 255]),
+        (Bt2020, Limited, [26628, 22132, 32768], [102, 110, 14]),
+        (Bt2020, Limited, [8, 62661, 32768], [0, 0, 232]),
+        (Bt2020, Limited, [33667, 32768, 32768], [134, 134, 134]),
+        (Bt2020, Full, [48053, 32768, 268], [1, 255, 187]),
+        (Bt2020, Full, [200, 32768, 45268], [73, 0, 1]),
+        (Bt2020, Full, [124, 18448, 0], [0, 83, 0]),
+        (Bt2020, Full, [20591, 43348, 65535], [255, 1, 158]),
+        (Bt2020, Full, [61274, 268, 32768], [238, 255, 1]),
+        (Bt2020, Full, [255, 45268, 32768], [1, 0, 93]),
+        (Bt2020, Full, [30197, 32768, 32768], [117, 117, 117]),
+    ]
+};
+
+#[test]
+fn colors_next_to_a_half_are_exact() {
+    for (standard, range, [y, u, v], wanted) in NEAR_HALVES {
+        let Color { red, green, blue } = ExactMatrix::new(standard, range, 16).color(y, u, v);
+        assert_eq!([red, green, blue], wanted, "{standard:?}, {range:?}, {y} {u} {v}");
+    }
+}
+
+/// Halves are rounded up: the sums of products are by hand 8192 over a multiple of 16384, or 32768 over one of 65536.
+#[test]
+fn halves_are_rounded_up() {
+    use ColorRange::{Full, Limited};
+    use Standard::{Bt601, Bt709, Bt2020};
+    for (standard, [y, u, v], wanted) in [
+        (Bt601, [157, 128, 147], [195, 149, 164]),
+        (Bt601, [32, 128, 138], [35, 11, 19]),
+        (Bt601, [222, 49, 128], [240, 255, 81]),
+        (Bt601, [123, 128, 200], [239, 66, 125]),
+        (Bt709, [108, 128, 131], [113, 106, 107]),
+        (Bt709, [18, 128, 62], [0, 38, 2]),
+        (Bt709, [158, 165, 128], [165, 157, 244]),
+        (Bt2020, [152, 128, 168], [226, 132, 158]),
+        (Bt2020, [36, 128, 100], [0, 42, 23]),
+    ] {
+        let Color { red, green, blue } = RgbMatrix::new(standard, Limited).color(y, u, v);
+        assert_eq!([red, green, blue], wanted, "{standard:?}, {y} {u} {v}");
+    }
+    for (standard, range, [red, green, blue], wanted) in [
+        (Bt601, Limited, [5, 65, 168], [67, 182, 94]),
+        (Bt601, Limited, [2, 100, 232], [90, 201, 76]),
+        (Bt601, Limited, [0, 235, 155], [150, 128, 31]),
+        (Bt601, Full, [3, 55, 187], [55, 203, 91]),
+        (Bt601, Full, [0, 0, 1], [0, 129, 128]),
+        (Bt601, Full, [0, 5, 5], [4, 129, 126]),
+        (Bt709, Limited, [1, 255, 124], [181, 96, 22]),
+        (Bt709, Limited, [7, 100, 73], [83, 126, 88]),
+        (Bt709, Limited, [4, 125, 109], [100, 133, 76]),
+        (Bt709, Full, [3, 255, 76], [189, 67, 10]),
+        (Bt2020, Limited, [1, 35, 155], [45, 185, 109]),
+        (Bt2020, Full, [3, 120, 124], [90, 146, 69]),
+    ] {
+        let (matrix, color) = (YuvMatrix::new(standard, range), Color { red, green, blue });
+        let found = [Luma::sample(matrix, color), ChromaU::sample(matrix, color), ChromaV::sample(matrix, color)];
+        assert_eq!(found, wanted, "{standard:?}, {range:?}, {color:?}");
+    }
+}

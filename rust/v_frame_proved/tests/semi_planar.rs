@@ -188,8 +188,8 @@ fn lent_rows_of_both_types() {
 
 /// Puts rows of each length together and takes them apart again: those of eight pairs and of whole blocks have ways of their own.
 fn rows_of_each_length<T: Pixel>() {
-    for pairs in 1..70 {
-        let [first, second] = [7, 11].map(|factor| (0..pairs).map(|i| entry(i, factor, 251)).collect::<Vec<T>>());
+    for pairs in (1..70).chain([127, 128, 129, 255, 256, 1000]) {
+        let [first, second] = [7, 11].map(|factor| (0..pairs).map(|i| entry(i, factor, 0)).collect::<Vec<T>>());
         let wanted: Vec<T> = first.iter().zip(&second).flat_map(|(p, q)| [*p, *q]).collect();
         let mut both = vec![T::from(0); 2 * pairs];
         rows::interleave_row(&mut both, &first, &second);
@@ -230,6 +230,25 @@ fn samples_move_to_the_top_bits_and_back() {
     assert_eq!(plane.data(), [201, 0, 64, 65472, 205, 32768, 64, 192, 209, 210, 211, 212]);
     from_top_bits(&mut plane, 12);
     assert_eq!(plane.data(), [201, 0, 4, 4092, 205, 2048, 4, 12, 209, 210, 211, 212]);
+}
+
+/// The bits below those of a sample are no part of it, in files that have some there, too.
+#[test]
+fn bits_below_those_of_samples_are_left_out() {
+    for (format, unused) in [(SemiPlanarFormat::P010, 6), (SemiPlanarFormat::P012, 4), (SemiPlanarFormat::P016, 0)] {
+        let mut frame = video_frame::<u16>(3, 2, format.subsampling(), format.bit_depth(), 1).expect("a frame");
+        let words: [u16; 10] = [65_535, 1, 63, 15, 32_769, 4_660, 43_981, 64_257, 16, 1_023];
+        let bytes: Vec<u8> = words.into_iter().flat_map(u16::to_le_bytes).collect();
+        assert_eq!(read_frame(&mut Counted::new(bytes.as_slice()), &mut frame, format), Ok(true));
+        let found = (0..3).flat_map(|index| frame.plane(index).expect("a plane").pixels());
+        let wanted = [0, 1, 2, 3, 4, 5, 6, 8, 7, 9].map(|place| words[place] >> unused);
+        assert!(found.eq(wanted), "{format:?}");
+    }
+    let mut words = [65_535, 1_023, 9, 64, 63, 9, 9];
+    rows::from_top_bits(&mut words, 2, 2, 3, 10);
+    assert_eq!(words, [1_023, 15, 9, 1, 0, 9, 9]);
+    rows::to_top_bits(&mut words, 2, 2, 3, 12);
+    assert_eq!(words, [16_368, 240, 9, 16, 0, 9, 9]);
 }
 
 /// A frame of more than 2^28 bytes, for which room is there: what is refused by its size alone would show here.

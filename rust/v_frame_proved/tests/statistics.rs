@@ -146,3 +146,33 @@ fn the_first_of_equal_matches_is_found() {
     let block = plane_of([2, 2, 0, 0, 0, 0], &[9_u8; 4]);
     assert_eq!(best_match(&flat.as_plane_ref(), &block.as_plane_ref(), [1, 1, 3, 2]), [1, 1, 8]);
 }
+
+/// Sums of rows of which no value is small, just one, or the last, against a loop of numbers that cannot overflow.
+fn sums_of_row_with(width: usize, value: u16, high: &[usize]) {
+    let [a, b] = [7919, 7907].map(|factor| {
+        let mut plane = numbered::<u16>([width, 1, 0, 0, 0, 0], factor, 1000);
+        high.iter().for_each(|&x| plane.data_mut()[x] = value);
+        plane
+    });
+    let of = |product: fn(u128, u128) -> u128| -> u128 {
+        a.data().iter().zip(b.data()).map(|(p, q)| product((*p).into(), (*q).into())).sum()
+    };
+    let wanted = [of(|p, _| p), of(|_, q| q), of(|p, _| p * p), of(|_, q| q * q), of(|p, q| p * q)];
+    let (a, b) = (a.as_plane_ref(), b.as_plane_ref());
+    assert_eq!(fields(pair_sums(&a, &b)), wanted, "{width} pixels");
+    let found = variance_sums(&b);
+    assert_eq!([found.sum, found.sum_of_squares, sum(&b)], [wanted[1], wanted[3], wanted[1]], "{width} pixels");
+    let found = statistics(&a);
+    assert_eq!([found.sum, found.sum_of_squares], [wanted[0], wanted[2]], "{width} pixels");
+}
+
+#[test]
+fn sums_of_long_rows_with_large_values_are_exact() {
+    for value in [1023, 1024, 1025, u16::MAX] {
+        for width in [63, 64, 65, 79, 4095, 4096, 4097, 70_001, 131_072] {
+            sums_of_row_with(width, value, &(0..width).collect::<Vec<_>>());
+            sums_of_row_with(width, value, &[width - 2, width - 1]);
+            sums_of_row_with(width, value, &[0, width / 2]);
+        }
+    }
+}

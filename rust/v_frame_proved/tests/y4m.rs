@@ -11,8 +11,8 @@ use v_frame_proved::frame::Frame;
 use v_frame_proved::pixel::Pixel;
 use v_frame_proved::planar::{self, Counted, PlanarError};
 use v_frame_proved::y4m::{
-    HeaderError, StreamHeader, Text, Y4mError, header_line, parse_header, read_frame, read_header, write_frame,
-    write_header,
+    HeaderError, StreamHeader, Text, Y4mError, header_line, parse_header, parse_lax_header, read_frame, read_header,
+    read_lax_header, strict_line, write_frame, write_header,
 };
 
 /// Lines that ffmpeg wrote; lines of large numbers, of many extensions, and of no bytes after a letter.
@@ -87,8 +87,16 @@ fn lines_are_refused_for_the_first_reason() {
         ("YUV4MPEG2 W35 Z", HeaderError::Malformed(piece(b"Z"))),
         ("YUV4MPEG2 W35 H12 Q1", HeaderError::Malformed(piece(b"Q1"))),
         ("YUV4MPEG2 W03 H12", HeaderError::Malformed(piece(b"W03"))),
+        ("YUV4MPEG2 W00 H12", HeaderError::Malformed(piece(b"W00"))),
+        ("YUV4MPEG2 W35 H12 F00:1", HeaderError::Malformed(piece(b"F00:1"))),
+        ("YUV4MPEG2 W35 H12 A0:00", HeaderError::Malformed(piece(b"A0:00"))),
         ("YUV4MPEG2 W35 H12 F25", HeaderError::Malformed(piece(b"F25"))),
         ("YUV4MPEG2 W35 H12 Ix", HeaderError::Malformed(piece(b"Ix"))),
+        ("YUV4MPEG2 Ix A1 F25 W35 H12", HeaderError::Malformed(piece(b"F25"))),
+        ("YUV4MPEG2 W35 H12 C4 Ix A1", HeaderError::Malformed(piece(b"A1"))),
+        ("YUV4MPEG2 W35 H12 C4 Ix", HeaderError::Malformed(piece(b"Ix"))),
+        ("YUV4MPEG2 H0 W35 C4 F25", HeaderError::ZeroSize('H')),
+        ("YUV4MPEG2 H0 W0 C4", HeaderError::ZeroSize('W')),
         ("YUV4MPEG2 W35 H0", HeaderError::ZeroSize('H')),
         ("YUV4MPEG2 W18446744073709551616 H12", HeaderError::SizeTooLarge(piece(b"W18446744073709551616"))),
         ("YUV4MPEG2 W35 H1 C4", HeaderError::UnknownColor(piece(b"C4"))),
@@ -246,4 +254,44 @@ fn goes_through<T: Pixel>(line: &str) {
 fn large_frames_are_written_and_read_back() {
     goes_through::<u8>("YUV4MPEG2 W1920 H1080 C420jpeg");
     goes_through::<u16>("YUV4MPEG2 W1920 H1080 C420p16");
+}
+
+#[test]
+fn frames_have_as_many_bytes_as_can_be_counted() {
+    for (line, wanted) in [
+        ("YUV4MPEG2 W35 H27 C420jpeg", Some(1449)),
+        ("YUV4MPEG2 W35 H27 C444p10", Some(5670)),
+        ("YUV4MPEG2 W18446744073709551615 H1 Cmono", Some(usize::MAX)),
+        ("YUV4MPEG2 W6148914691236517205 H1 C444", Some(usize::MAX)),
+        ("YUV4MPEG2 W6148914691236517206 H1 C444", None),
+        ("YUV4MPEG2 W4294967296 H2147483648 C444", None),
+        ("YUV4MPEG2 W4294967296 H2147483648 C444p16", None),
+        ("YUV4MPEG2 W4294967296 H4294967296 Cmono", None),
+    ] {
+        assert_eq!(parse_header(line.as_bytes()).expect("a header").frame_len(), wanted, "{line}");
+    }
+}
+
+/// Lines that lax producers write, and the strict line that each stands for.
+#[test]
+fn lax_lines_stand_for_strict_ones() {
+    for (lax, strict) in [
+        ("YUV4MPEG2 W35 H27 F25", "YUV4MPEG2 W35 H27 F25:1"),
+        // As many spaces are too many as bytes are missing.
+        ("YUV4MPEG2  W35 H27  F25", "YUV4MPEG2 W35 H27 F25:1"),
+        (" YUV4MPEG2 H27 W35 F30000:1001 \r", "YUV4MPEG2 H27 W35 F30000:1001"),
+        ("YUV4MPEG2 W35 H27 X F1 X ", "YUV4MPEG2 W35 H27 X F1:1 X"),
+        ("YUV4MPEG2 W35 H27 XF1 X\r\r", "YUV4MPEG2 W35 H27 XF1 X\r"),
+        ("YUV4MPEG2 W35 H27 F0:0 A0:0", "YUV4MPEG2 W35 H27 F0:0 A0:0"),
+    ] {
+        assert_eq!(strict_line(lax.as_bytes()).expect("memory"), strict.as_bytes(), "{lax:?}");
+        let (header, is_strict) = parse_lax_header(lax.as_bytes()).expect("a header");
+        assert_eq!((Ok(header), is_strict), (parse_header(strict.as_bytes()), lax == strict), "{lax:?}");
+    }
+    let long = [&line_of(1023)[..], b"\r\nFRAME"].concat();
+    let mut input = Counted::new(long.as_slice());
+    assert_eq!(read_lax_header(&mut input), Ok((parse_header(&line_of(1023)).expect("a header"), false)));
+    assert_eq!(input.into_inner(), b"FRAME");
+    let longer = [&line_of(1024)[..], b"\r\n"].concat();
+    assert_eq!(read_lax_header(&mut Counted::new(longer.as_slice())), Err(Y4mError::LineTooLong));
 }

@@ -5,10 +5,12 @@ mod cases;
 
 use cases::{Case, Room, cases};
 use std::ffi::OsString;
+use std::fs;
 use std::io::Write;
 use std::os::unix::ffi::OsStringExt;
 use std::process::{Command, Output, Stdio};
 use std::thread;
+use v_frame_proved::chart::{Chart, Series, svg};
 
 #[test]
 fn the_program_writes_what_kept_runs_do() {
@@ -44,4 +46,232 @@ fn an_argument_that_is_not_utf8_is_refused() {
     let output = Command::new(env!("CARGO_BIN_EXE_yuv")).args(words).output().expect("an output");
     assert_eq!((output.status.code(), output.stdout.as_slice()), (Some(2), &b""[..]));
     assert!(output.stderr.starts_with(b"yuv: an argument is not UTF-8\n"), "{output:?}");
+}
+
+/// Returns a stream of frames of 8 by 8 pixels in 4:4:4, of so many bits, whose planes have one value each.
+fn flat_stream(depth: u8, frames: &[[u16; 3]]) -> Vec<u8> {
+    let mut stream = format!("YUV4MPEG2 W8 H8 C444p{depth}\n").into_bytes();
+    for planes in frames {
+        stream.extend(b"FRAME\n");
+        stream.extend(planes.iter().flat_map(|value| value.to_le_bytes().repeat(64)));
+    }
+    stream
+}
+
+/// Returns what a run writes.
+fn run(room: &Room, words: &[&str]) -> Output {
+    Command::new(env!("CARGO_BIN_EXE_yuv")).args(words).current_dir(room.folder()).output().expect("an output")
+}
+
+/// Returns the chart of a measure: what Y, U and V have in the frames from the second on.
+fn chart(unit: &str, [y, u, v]: [[f64; 2]; 3]) -> String {
+    let series = [("Y", &y), ("U", &u), ("V", &v)].map(|(name, values)| Series { name, values });
+    svg(&Chart { title: "one.y4m and other.y4m", unit, first: 2, series: &series }).expect("drawn")
+}
+
+/// Of flat planes that are `d` apart the ratio is 20 log10(1023 / d), and the similarity that of the means, both by Python.
+#[test]
+fn a_plot_draws_both_measures_of_each_plane() {
+    let room = Room::new("plot");
+    let write = |name: &str, frames: &[_]| fs::write(room.folder().join(name), flat_stream(10, frames)).expect("a file");
+    write("one.y4m", &[[400, 500, 600]; 3]);
+    write("other.y4m", &[[401, 502, 604], [408, 516, 632], [403, 505, 607]]);
+    let words = ["plot", "one.y4m", "other.y4m", "-", "--skip=1"];
+    let output = run(&room, &words);
+    let ratios = [
+        [42.135712934404324, 50.65508757984995],
+        [36.11511302112471, 46.218112587522825],
+        [30.09451310784508, 43.29555187395806],
+    ];
+    let similarities = [
+        [0.9998039609897984, 0.9999720852880895],
+        [0.9995041235566926, 0.9999504976604107],
+        [0.9986516125444492, 0.9999327339456806],
+    ];
+    let (ratios, similarities) = (chart("PSNR (dB)", ratios), chart("SSIM", similarities));
+    let head = "<svg xmlns=\"http://www.w3.org/2000/svg\" width=\"960\" height=\"840\" viewBox=\"0 0 960 840\">\n";
+    let wanted = format!("{head}{ratios}<g transform=\"translate(0 420)\">\n{similarities}</g>\n</svg>\n");
+    assert_eq!((output.status.code(), String::from_utf8_lossy(&output.stdout)), (Some(0), wanted.into()));
+}
+
+/// The ratios of planes that are 1, 2 and 4 apart, and of all of them, are by Python: 20 log10((2^depth - 1) / d).
+#[test]
+fn ratios_are_those_of_each_depth() {
+    let room = Room::new("depths");
+    let cases = [
+        (9, [45.71743760255168, 54.16841800269425, 48.14781808941463, 42.127218176135]),
+        (10, [51.74653227410063, 60.1975126742432, 54.176912760963575, 48.15631284768395]),
+        (12, [63.79409772178618, 72.24507812192874, 66.22447820864912, 60.2038782953695]),
+        (14, [75.83688822496156, 84.28786862510412, 78.2672687118245, 72.24666879854487]),
+        (16, [87.87848567516242, 96.32946607530499, 90.30886616202537, 84.28826624874574]),
+    ];
+    for (depth, wanted) in cases {
+        fs::write(room.folder().join("one.y4m"), flat_stream(depth, &[[200, 210, 220]])).expect("a file");
+        fs::write(room.folder().join("other.y4m"), flat_stream(depth, &[[201, 208, 224]])).expect("a file");
+        let output = run(&room, &["compare", "one.y4m", "other.y4m", "--csv"]);
+        let text = String::from_utf8(output.stdout).expect("a table");
+        let cells: Vec<f64> = text.lines().nth(1).expect("a frame").split(',').map(|it| it.parse().expect("a number")).collect();
+        assert_eq!((output.status.code(), &cells[..5]), (Some(1), &[1.0, 7.0, 1.0, 4.0, 16.0][..]));
+        assert!(cells[5..].iter().zip(wanted).all(|(found, it)| (found - it).abs() < 1e-9), "{depth} bits: {cells:?}");
+    }
+}
+
+/// A last odd column or row of luma has chroma, too, so that chroma of 15 columns or rows has 8.
+#[test]
+fn chroma_whose_size_is_rounded_up_has_windows() {
+    let room = Room::new("windows");
+    let write = |name: &str, format: &str, (width, height): (usize, usize), samples: usize| {
+        let mut stream = format!("YUV4MPEG2 W{width} H{height} C{format}\nFRAME\n").into_bytes();
+        stream.resize(stream.len() + samples, 100);
+        fs::write(room.folder().join(name), stream).expect("a file");
+    };
+    let cases = [
+        ("420jpeg", (15, 15), 225 + 128, true),
+        ("420jpeg", (14, 15), 210 + 112, false),
+        ("420jpeg", (15, 14), 210 + 112, false),
+        ("422", (15, 8), 120 + 128, true),
+        ("422", (14, 8), 112 + 112, false),
+        ("411", (29, 8), 232 + 128, true),
+        ("411", (28, 8), 224 + 112, false),
+        ("444", (8, 7), 168, false),
+    ];
+    let refusal = "yuv: one.y4m: --ssim needs planes of at least 8 by 8 samples\n";
+    for (format, size, samples, has_windows) in cases {
+        write("one.y4m", format, size, samples);
+        let output = run(&room, &["compare", "one.y4m", "one.y4m", "--ssim"]);
+        let (text, error) = (String::from_utf8_lossy(&output.stdout), String::from_utf8_lossy(&output.stderr));
+        if has_windows {
+            assert!(text.contains("ssim: all planes 1.000000, Y 1.000000, U 1.000000, V 1.000000\n"), "{format} {size:?}: {text}{error}");
+        } else {
+            assert_eq!((output.status.code(), text.as_ref(), error.as_ref()), (Some(2), "", refusal), "{format} {size:?}");
+        }
+    }
+    // The first stream is looked at before the two are compared.
+    write("large.y4m", "mono", (8, 8), 64);
+    let said = |words: [&str; 2]| String::from_utf8(run(&room, &["compare", words[0], words[1], "--ssim"]).stderr).expect("text");
+    assert_eq!(said(["one.y4m", "large.y4m"]), refusal);
+    assert_eq!(said(["large.y4m", "one.y4m"]), "yuv: one.y4m: the streams have different sizes\n");
+}
+
+/// What help has in brackets behind an option is what holds where it is not given.
+#[test]
+fn help_tells_what_nobody_asks_for() {
+    let room = Room::new("defaults");
+    fs::write(room.folder().join("one.y4m"), flat_stream(10, &[[400, 500, 600], [9, 99, 999]])).expect("a file");
+    fs::write(room.folder().join("other.y4m"), flat_stream(10, &[[405, 500, 600], [8, 98, 998]])).expect("a file");
+    let (shown, compared) = (["show", "one.y4m", "-"], ["diff", "one.y4m", "other.y4m", "-"]);
+    let cases = [
+        (&shown[..], "--frame", "1", "2"),
+        (&shown, "--matrix", "bt709", "bt601"),
+        (&shown, "--range", "limited", "full"),
+        (&compared, "--frame", "1", "2"),
+        (&compared, "--gain", "8", "16"),
+    ];
+    for (words, option, value, other) in cases {
+        let help = String::from_utf8(run(&room, &["help", words[0]]).stdout).expect("text");
+        let line = help.lines().find(|line| line.starts_with(option)).expect("a line");
+        assert!(line.ends_with(&format!(" ({value})")), "{line}");
+        let picture = |value| run(&room, &[words, &[option, value]].concat()).stdout;
+        let (wanted, others) = (picture(value), picture(other));
+        assert!(run(&room, words).stdout == wanted && others != wanted, "{words:?} {option} {value}");
+    }
+}
+
+/// A name of 255 bytes, as long as a name may be, is cut, so that each of a hundred endings has room behind it. Here the first
+/// ten are taken, behind whatever is left of the name.
+#[test]
+fn a_long_name_has_room_for_each_ending() {
+    let room = Room::new("long");
+    let name = "n".repeat(255);
+    for number in 0..10 {
+        let ending = if number == 0 { ".partial".to_string() } else { format!(".partial{number}") };
+        for kept in 240..=255 - ending.len() {
+            fs::write(room.folder().join(format!("{}{ending}", &name[..kept])), "taken").expect("a file");
+        }
+    }
+    let output = run(&room, &["copy", "mono_7x5.y4m", &name]);
+    assert_eq!((output.status.code(), String::from_utf8_lossy(&output.stderr).as_ref()), (Some(0), ""));
+    let copied = fs::read(room.folder().join(&name)).expect("a copy");
+    assert!(copied == fs::read(room.folder().join("mono_7x5.y4m")).expect("a file"));
+}
+
+#[test]
+fn a_stream_that_breaks_off_has_its_whole_frames_told() {
+    let room = Room::new("broken");
+    let mut stream = flat_stream(10, &[[1, 2, 3]; 12]);
+    stream.pop();
+    fs::write(room.folder().join("one.y4m"), stream).expect("a file");
+    let output = run(&room, &["info", "one.y4m"]);
+    let (text, error) = (String::from_utf8_lossy(&output.stdout), String::from_utf8_lossy(&output.stderr));
+    assert!(output.status.code() == Some(2) && text.ends_with("\nframes: 11\n"), "{text}");
+    assert_eq!(error, "yuv: one.y4m: frame 12: truncated frame, expected 384 bytes, found 383\n");
+}
+
+#[test]
+fn semi_planar_video_has_no_sums_of_planes() {
+    let room = Room::new("semi_planar");
+    fs::write(room.folder().join("one.yuv"), [0; 48]).expect("a file");
+    for format in ["nv12", "nv21", "nv16", "nv24", "p010", "p012", "p016"] {
+        let output = run(&room, &["sum", "--planes", "--raw", &format!("2x2:{format}"), "one.yuv"]);
+        let error = String::from_utf8_lossy(&output.stderr);
+        assert_eq!(output.status.code(), Some(2), "{format}");
+        assert_eq!((output.stdout.len(), error.as_ref()), (0, "yuv: one.yuv: --planes needs video in planes\n"), "{format}");
+    }
+}
+
+/// A target that is standard output has the name by which it was given, but for the word `-`.
+#[test]
+fn standard_output_has_the_name_that_it_was_given_by() {
+    let room = Room::new("names");
+    for (name, shown) in [("-", "standard output"), ("/dev/stdout", "/dev/stdout"), ("/proc/self/fd/1", "/proc/self/fd/1")] {
+        let full = fs::OpenOptions::new().write(true).open("/dev/full").expect("a full device");
+        let mut program = Command::new(env!("CARGO_BIN_EXE_yuv"));
+        let output = program.args(["copy", "mono_7x5.y4m", name]).current_dir(room.folder()).stdout(full).output().expect("an output");
+        let error = String::from_utf8_lossy(&output.stderr);
+        assert_eq!((output.status.code(), error.as_ref()), (Some(2), format!("yuv: {shown}: write failed: no storage space\n").as_str()));
+    }
+}
+
+/// The sum of 65792 samples of 65535 is above 2^32.
+#[test]
+fn statistics_of_a_large_sum() {
+    let room = Room::new("statistics");
+    let mut stream = b"YUV4MPEG2 W257 H256 Cmono16\nFRAME\n".to_vec();
+    stream.resize(stream.len() + 2 * 257 * 256, 255);
+    fs::write(room.folder().join("one.y4m"), stream).expect("a file");
+    let output = run(&room, &["stats", "one.y4m"]);
+    let wanted = "Y: minimum 65535, maximum 65535, mean 65535.00, outside the nominal range 65792\n";
+    assert_eq!((output.status.code(), String::from_utf8_lossy(&output.stdout).as_ref()), (Some(0), wanted));
+}
+
+/// A frame of 40000 bytes, of which some are there, is read in parts where its samples are not looked at.
+#[test]
+fn bytes_of_all_parts_of_a_frame_are_counted() {
+    let room = Room::new("parts");
+    for found in [1, 16383, 16384, 16385, 32768, 39999] {
+        let mut stream = b"YUV4MPEG2 W200 H200 Cmono\nFRAME\n".to_vec();
+        stream.resize(stream.len() + found, 7);
+        fs::write(room.folder().join("one.y4m"), stream).expect("a file");
+        for words in [&["info", "one.y4m"][..], &["copy", "one.y4m", "other.y4m"], &["sum", "one.y4m"], &["sum", "one.y4m", "--skip=1"]] {
+            let output = run(&room, words);
+            let wanted = format!("yuv: one.y4m: frame 1: truncated frame, expected 40000 bytes, found {found}\n");
+            assert_eq!((output.status.code(), String::from_utf8_lossy(&output.stderr)), (Some(2), wanted.into()), "{words:?}");
+        }
+    }
+}
+
+/// Another format leaves out just what states the format once more.
+#[test]
+fn copies_in_another_format_keep_other_extensions() {
+    let room = Room::new("extensions");
+    let stream = b"YUV4MPEG2 W2 H1 C420jpeg XYSCSS=420JPEG XYSCSS XYSCSSES=1 XCOLORRANGE=FULL XYSCSS=\nFRAME\nabcd";
+    fs::write(room.folder().join("one.y4m"), stream).expect("a file");
+    for (words, wanted) in [
+        (&["copy", "one.y4m", "-", "--format=444"][..], &b"YUV4MPEG2 W2 H1 C444 XYSCSS XYSCSSES=1 XCOLORRANGE=FULL\nFRAME\nabccdd"[..]),
+        (&["copy", "one.y4m", "-", "--format=gray"], b"YUV4MPEG2 W2 H1 Cmono XYSCSS XYSCSSES=1 XCOLORRANGE=FULL\nFRAME\nab"),
+        (&["copy", "one.y4m", "-"], stream),
+    ] {
+        let output = run(&room, words);
+        assert_eq!((output.status.code(), output.stdout.as_slice()), (Some(0), wanted), "{words:?}");
+    }
 }

@@ -215,7 +215,7 @@ fn crops_of_either_pixel_type_are_those_of_their_frames() {
 
 #[test]
 fn another_color_leaves_other_extensions() {
-    let mut header = Decoder::new(&b"YUV4MPEG2 W2 H1 C420jpeg XYSCSS=420JPEG XYSCSS XYSCSSES=1\n"[..]).unwrap().header().clone();
+    let mut header = Decoder::new(&b"YUV4MPEG2 W2 H1 C420jpeg XYSCSS=420JPEG XYSCSS XYSCSS=MONO XYSCSSES=1 XYSCSS=\n"[..]).unwrap().header().clone();
     header.set_color(Color::Yuv444);
     let line = Encoder::new(Vec::new(), header).unwrap().finish().unwrap();
     assert_eq!(line, b"YUV4MPEG2 W2 H1 C444 XYSCSS XYSCSSES=1\n");

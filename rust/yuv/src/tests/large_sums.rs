@@ -53,3 +53,18 @@ fn means_of_planes_of_many_frames() {
     let sums = found.sums.expect("sums");
     assert_eq!((sums.y, sums.u, sums.v), (LARGEST << 33, Some(LARGEST << 33), Some(LARGEST << 33)));
 }
+
+#[test]
+fn a_total_stays_at_the_largest_number() {
+    for (y, u, v, wanted) in [
+        (1, Some(2), Some(3), 6),
+        (1, None, None, 1),
+        (u128::MAX, None, None, u128::MAX),
+        (u128::MAX - 1, Some(1), Some(1), u128::MAX),
+        (1, Some(u128::MAX), Some(1), u128::MAX),
+        (1, Some(1), Some(u128::MAX), u128::MAX),
+        (1, None, Some(u128::MAX), u128::MAX),
+    ] {
+        assert_eq!(PlaneSums { y, u, v }.total(), wanted, "{y} {u:?} {v:?}");
+    }
+}

@@ -3,6 +3,7 @@
 mod cases;
 mod error_texts;
 mod large_sums;
+mod progress;
 mod runs;
 mod support;
 mod words;

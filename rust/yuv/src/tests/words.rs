@@ -43,6 +43,16 @@ fn help_has_the_options_that_are_taken() {
     }
 }
 
+/// Of files too many the first is told.
+#[test]
+fn the_first_file_too_many_is_told() {
+    for (line, extra) in [("info a b", "b"), ("sum a b c", "b"), ("stats a b c", "b"), ("copy a b c", "c"), ("plot a b c d", "d")] {
+        let words: Vec<&str> = line.split(' ').collect();
+        let Err(error) = read_command(&words) else { panic!("{line}") };
+        assert_eq!(error.to_string(), format!("one file too many: {extra}"), "{line}");
+    }
+}
+
 /// Returns a line for what a command is, and one for each option that is given.
 fn told_of(command: &Command<'_>) -> String {
     let Call { name, first, second, third, options } = match command {
