@@ -1,3 +1,4 @@
+pub mod Breaking
 pub mod Causes
 pub mod Comparing
 pub mod Copied

@@ -8,6 +8,7 @@ use Rattle.v_frame_y4m.specs.declared.error.Y4mError.{Y4mError}
 use Rattle.v_frame_y4m.specs.declared.error.Y4mError.TheVariants.{Header, LineTooLong, NoFrame, Planar, UnfinishedLine}
 use Rattle.v_frame_streams.specs.Errors.{StopsFrame, StopsOpening, Unread}
 use Rattle.v_frame_streams.specs.declared.error.Problem.TheVariants.{Stream}
+use Rattle.v_frame_streams.specs.declared.stream.Container.TheVariants.{Y4m}
 
 abbrev pub unread : {R : Type 0} → (R → Option (List ℕ)) → Watched R → Unread
 unread remaining reader = record { bytes = remaining reader.inner; failures = reader.failures }
@@ -24,12 +25,12 @@ module _ {R : Type 0} (remaining : R → Option (List ℕ)) (old new : Watched R
   opening_stops (Planar error) stops = (remaining new.inner, stops.0)
 
   pub line_stops : (count : ℕ) (error : Y4mError) → MayStopInLaxFrameLine remaining old new error
-      → StopsFrame (unread remaining old) (unread remaining new) count (Stream error)
-  line_stops count (Header error) stops = stops
-  line_stops count LineTooLong stops = (stops.0.0, stops.0.2, stops.0.3, stops.0.1)
+      → StopsFrame Y4m (unread remaining old) (unread remaining new) count (Stream error)
+  line_stops count (Header error) stops = absurd stops
+  line_stops count LineTooLong stops = (refl, (stops.0.0, stops.0.2, stops.0.3, stops.0.1))
   line_stops count UnfinishedLine stops =
-      (stops.0.0, stops.0.2, stops.0.3, stops.0.4, stops.0.1, stops.1)
-  line_stops count NoFrame stops = (stops.0.0, stops.0.1, stops.0.2, stops.0.4)
+      (refl, stops.0.0, stops.0.2, stops.0.3, stops.0.4, stops.0.1, stops.1)
+  line_stops count NoFrame stops = (refl, stops.0.0, stops.0.1, stops.0.2, stops.0.4)
   line_stops count (Planar error) stops =
-      subst (λ (e : PlanarError). StopsFrame (unread remaining old) (unread remaining new) count (Stream (Planar e)))
+      subst (λ (e : PlanarError). StopsFrame Y4m (unread remaining old) (unread remaining new) count (Stream (Planar e)))
       (sym stops.0) (refl, stops.2)

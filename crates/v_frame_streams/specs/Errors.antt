@@ -1,6 +1,6 @@
 -- Why a stream is not opened, why a frame of it is not read, what a picture of it asks for, and
 -- which errors have a cause.
-use Rattle.std.specs.Prelude.{ℕ, ◌≡◌, ◌+◌, ◌≤◌, ◌<◌, Bool, List, [], ◌∷◌, ◌++◌, length, Option, None}
+use Rattle.std.specs.Prelude.{ℕ, ◌≡◌, ◌+◌, ◌≤◌, ◌<◌, Bool, List, [], ◌∷◌, ◌++◌, length, min, Option, None}
 use Rattle.std.specs.Io.KnownBytes.{Consumes, IsAtEnd}
 use Rattle.std.specs.declared.io.ErrorKind.{ErrorKind}
 use Rattle.v_frame.specs.Prelude.{usize_max, FrameRequest}
@@ -21,7 +21,9 @@ use Rattle.v_frame_streams.specs.declared.error.Problem.{Problem}
 use Rattle.v_frame_streams.specs.declared.error.Problem.TheVariants.{OutOfMemory, Stream, TooLarge}
 use Rattle.v_frame_streams.specs.declared.error.StreamError.{StreamError}
 use Rattle.v_frame_streams.specs.declared.stream.Place.{Place}
-use Rattle.v_frame_streams.specs.Streams.{ReadsHeaderLine}
+use Rattle.v_frame_streams.specs.Streams.{framed_bytes, most_frames, Framed, HasLine, ReadsFrames, ReadsHeaderLine}
+use Rattle.v_frame_streams.specs.declared.stream.Container.{Container}
+use Rattle.v_frame_streams.specs.declared.stream.Container.TheVariants.{Raw, Y4m}
 
 -- what the system reported last, where the problem is that a read or a write failed
 abbrev pub cause_of : Problem → Option ErrorKind → Option ErrorKind
@@ -76,29 +78,45 @@ pub record Unread : Type 0 where
   pub bytes : Option (List ℕ)
   pub failures : ℕ
 
--- the rest of a frame of so many planar bytes was not read: the stream ended inside it, and fewer
--- bytes were found, or a read failed
-abbrev pub StopsInside : Unread → Unread → ℕ → Problem → Type 0
-StopsInside start left count (Stream (Planar (Truncated expected found))) =
-    (expected ≡ count) × (found < count) × IsAtEnd left.bytes
-StopsInside start left count (Stream (Planar error)) =
-    (error ≡ Read) × HasFailed start.failures left.failures
-StopsInside start left count _ = ⊥
+-- a read failed
+abbrev pub FailsToRead : Unread → Unread → Problem → Type 0
+FailsToRead start left problem =
+    (problem ≡ Stream (Planar Read)) × HasFailed start.failures left.failures
 
--- a frame was not read: the line in front of it, or one that stands for it, was not, or the rest
--- was not
-abbrev pub StopsFrame : Unread → Unread → ℕ → Problem → Type 0
-StopsFrame start left count (Stream (Header error)) = ⊥
-StopsFrame start left count (Stream LineTooLong) =
-    StopsInHeaderLine start.bytes left.bytes LineTooLong
-StopsFrame start left count (Stream UnfinishedLine) =
-    (bytes : List ℕ) × IsLine bytes × (0 < length bytes) × (length bytes ≤ max_line_bytes)
+-- what follows after so many bytes of a frame of so many planar bytes was not read: the stream
+-- ended inside it, and all that was left was found beside those bytes, or a read failed
+abbrev pub StopsInside : ℕ → Unread → Unread → ℕ → Problem → Type 0
+StopsInside before start left count (Stream (Planar (Truncated expected found))) =
+    (expected ≡ count) × (found < count) × (bytes : List ℕ) × (found ≡ before + length bytes)
     × Consumes start.bytes left.bytes bytes × IsAtEnd left.bytes
-StopsFrame start left count (Stream NoFrame) =
-    (line : List ℕ) × ¬ (IsLaxFrameLine line) × IsLine line
-    × Consumes start.bytes left.bytes (line ++ line_feed ∷ [])
-StopsFrame start left count problem = StopsInside start left count problem
+StopsInside before start left count problem = FailsToRead start left problem
 
--- one of the frames that were left was not read
-abbrev pub StopsAtFrame : Unread → ℕ → Problem → Type 0
-StopsAtFrame left count problem = (start : Unread) × StopsFrame start left count problem
+-- a frame was not read: the line in front of it, or one that stands for it, was not, or the stream
+-- ended inside the frame, of which so many bytes were found, or a read failed
+abbrev pub StopsFrame : Container → Unread → Unread → ℕ → Problem → Type 0
+StopsFrame from start left count (Stream LineTooLong) =
+    (from ≡ Y4m) × StopsInHeaderLine start.bytes left.bytes LineTooLong
+StopsFrame from start left count (Stream UnfinishedLine) =
+    (from ≡ Y4m)
+    × (bytes : List ℕ) × IsLine bytes × (0 < length bytes) × (length bytes ≤ max_line_bytes)
+    × Consumes start.bytes left.bytes bytes × IsAtEnd left.bytes
+StopsFrame from start left count (Stream NoFrame) =
+    (from ≡ Y4m)
+    × (line : List ℕ) × ¬ (IsLaxFrameLine line) × IsLine line
+    × Consumes start.bytes left.bytes (line ++ line_feed ∷ [])
+StopsFrame from start left count (Stream (Planar (Truncated expected found))) =
+    (expected ≡ count) × (found < count) × (from ≡ Raw → 0 < found)
+    × (frame : Framed) × HasLine from frame.0 × (found ≡ length frame.1)
+    × Consumes start.bytes left.bytes (framed_bytes from frame) × IsAtEnd left.bytes
+StopsFrame from start left count problem = FailsToRead start left problem
+
+-- Frames of so many planar bytes, fewer than were asked for, were read whole and counted beside
+-- those before them, and the next one was not read. The count stays at its end.
+pub record StopsAtFrame (from : Container) (count : ℕ) (start left : Unread)
+    (most before after : ℕ) (problem : Problem) : Type 0 where
+  pub frames : List Framed
+  pub mid : Unread
+  pub read : ReadsFrames start.bytes mid.bytes from count frames
+  pub fewer : length frames < most
+  pub counted : after ≡ min (before + length frames) most_frames
+  pub stops : StopsFrame from mid left count problem

@@ -106,13 +106,13 @@ end_inside_a_frame_has_none = refl
 empty_crop_has_none : cause_of EmptyCrop (Some TimedOut) ≡ None
 empty_crop_has_none = refl
 
--- five bytes of six were found, and none is left
-broken_frame : 5 < 6 → StopsFrame (record { bytes = Some (70 ∷ []); failures = 0 })
-    (record { bytes = Some []; failures = 0 }) 6 (Stream (Planar (Truncated 6 5)))
-broken_frame less = (refl, less, refl)
+-- two bytes of six were found, and none is left
+broken_frame : 2 < 6 → 0 < 2 → StopsFrame Raw (record { bytes = Some (70 ∷ 71 ∷ []); failures = 0 })
+    (record { bytes = Some []; failures = 0 }) 6 (Stream (Planar (Truncated 6 2)))
+broken_frame less some = (refl, less, λ _. some, ([], 70 ∷ 71 ∷ []), refl, refl, refl, refl)
 
 -- one read failed
-failed_frame : StopsFrame (record { bytes = Some (70 ∷ []); failures = 2 })
+failed_frame : StopsFrame Raw (record { bytes = Some (70 ∷ []); failures = 2 })
     (record { bytes = None; failures = 3 }) 6 (Stream (Planar Read))
 failed_frame = (refl, refl)
 

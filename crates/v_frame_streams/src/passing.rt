@@ -1,10 +1,10 @@
 //! Frames that are passed over: their bytes are read, and no frame is made.
-ghost use Rattle.std.specs.Prelude.{◌≡◌, ◌+◌, ◌-◌, ◌≤◌, ◌<◌, length, IfErr, IfOk, OnOk};
+ghost use Rattle.std.specs.Prelude.{◌≡◌, ◌+◌, ◌-◌, ◌≤◌, ◌<◌, length, min, IfErr, IfOk, OnOk};
 ghost use Rattle.v_frame_planar.specs.Planar.{ConsumesSome};
 ghost use Rattle.v_frame_streams.specs.Errors.{StopsAtFrame, StopsFrame, StopsInside};
 ghost use Rattle.v_frame_streams.specs.Stops.{IsAtNextFrame};
 ghost use Rattle.v_frame_streams.specs.Sources.{bytes_left, stream_of, unread_of};
-ghost use Rattle.v_frame_streams.specs.Streams.{frames_after, CountsFrames, ReadsWhole};
+ghost use Rattle.v_frame_streams.specs.Streams.{frames_after, most_frames, CountsFrames, ReadsWhole};
 ghost use Rattle.v_frame_streams.specs.Telling.{TellsUpTo};
 
 use crate::error::StreamError;
@@ -27,8 +27,11 @@ pub fn skip_frames<R: io::Read, P: Progress>(
     ensures counted { IfOk result (CountsFrames (bytes_left R.remaining source.old)
         (bytes_left R.remaining source.new) source.old.container source.old.frame_len most) }
     ensures told { IfOk result (λ found. TellsUpTo P.shows found progress.old progress.new) }
-    ensures problem { IfErr result (λ error. StopsAtFrame (unread_of R.remaining source.new)
-        source.old.frame_len error.problem) }
+    ensures frames { IfOk result (λ found. source.new.frames
+        ≡ min (source.old.frames + found) most_frames) }
+    ensures problem { IfErr result (λ error. StopsAtFrame source.old.container source.old.frame_len
+        (unread_of R.remaining source.old) (unread_of R.remaining source.new) most
+        source.old.frames source.new.frames error.problem) }
     ensures stopped { IfErr result (IsAtNextFrame source.new) }
     ensures same { stream_of source.new ≡ stream_of source.old }
 {
@@ -47,11 +50,13 @@ fn skip_frame<R: io::Read>(source: &mut Source<R>, block: &mut [u8]) -> Result<b
     requires { 0 < length block.old }
     ensures read { IfOk result (ReadsWhole (bytes_left R.remaining source.old)
         (bytes_left R.remaining source.new) source.old.container source.old.frame_len) }
-    ensures problem { IfErr result (λ error. StopsFrame (unread_of R.remaining source.old)
-        (unread_of R.remaining source.new) source.old.frame_len error.problem) }
+    ensures problem { IfErr result (λ error. StopsFrame source.old.container
+        (unread_of R.remaining source.old) (unread_of R.remaining source.new) source.old.frame_len
+        error.problem) }
     ensures stopped { IfErr result (IsAtNextFrame source.new) }
     ensures same { stream_of source.new ≡ stream_of source.old }
     ensures frames { IfOk result (λ more. source.new.frames ≡ frames_after source.old.frames more) }
+    ensures uncounted { IfErr result (λ _. source.new.frames ≡ source.old.frames) }
     ensures size { length block.new ≡ length block.old }
 {
     let front = block.len().min(source.frame_len());
@@ -73,7 +78,7 @@ fn skip_rest<R: io::Read>(
     requires within { before ≤ source.old.frame_len }
     ensures read { OnOk result (ConsumesSome (bytes_left R.remaining source.old)
         (bytes_left R.remaining source.new) (source.old.frame_len - before)) }
-    ensures problem { IfErr result (λ error. StopsInside (unread_of R.remaining source.old)
+    ensures problem { IfErr result (λ error. StopsInside before (unread_of R.remaining source.old)
         (unread_of R.remaining source.new) source.old.frame_len error.problem) }
     ensures stopped { IfErr result (IsAtNextFrame source.new) }
     ensures same { stream_of source.new ≡ stream_of source.old }

@@ -122,8 +122,9 @@ impl<T: Pixel> Picture<T> {
         ensures read { IfOk result (ReadsTables T.form source.old.container source.old.frame_len
             source.old.layout (sizes_of (tables_of self.old.frame)) (bytes_left R.remaining source.old)
             (bytes_left R.remaining source.new) self.new.bytes.items (tables_of self.new.frame)) }
-        ensures problem { IfErr result (λ error. StopsFrame (unread_of R.remaining source.old)
-            (unread_of R.remaining source.new) source.old.frame_len error.problem) }
+        ensures problem { IfErr result (λ error. StopsFrame source.old.container
+            (unread_of R.remaining source.old) (unread_of R.remaining source.new)
+            source.old.frame_len error.problem) }
         ensures stopped { IfErr result (IsAtNextFrame source.new) }
         ensures same { stream_of source.new ≡ stream_of source.old }
         ensures made { IsMadeFor T.form source.new self.new }

@@ -4,7 +4,7 @@ ghost use Rattle.std.specs.Io.Buffered.{reader_remaining};
 ghost use Rattle.v_frame_y4m.specs.Frames.{frame_byte_count};
 ghost use Rattle.v_frame_y4m.specs.Header.{IsWritable};
 ghost use Rattle.std.proofs.Props.{props};
-ghost use Rattle.v_frame_streams.specs.Errors.{HasLength, IsAtStart, StopsFrame, StopsInside, StopsOpening};
+ghost use Rattle.v_frame_streams.specs.Errors.{FailsToRead, HasLength, IsAtStart, StopsFrame, StopsInside, StopsOpening};
 ghost use Rattle.v_frame_streams.specs.Layouts.{HoldsColor};
 ghost use Rattle.v_frame_streams.specs.Streams.{ReadsHeaderLine};
 
@@ -182,8 +182,9 @@ impl<R: io::Read> Source<R> {
         ensures read { IfOk result (ReadsNext (bytes_left R.remaining self.old)
             (bytes_left R.remaining self.new) self.old.container front.new) }
         ensures uncounted { OnOk result (self.new.reader.failures ≡ self.old.reader.failures) }
-        ensures problem { IfErr result (λ error. StopsFrame (unread_of R.remaining self.old)
-            (unread_of R.remaining self.new) self.old.frame_len error.problem) }
+        ensures problem { IfErr result (λ error. StopsFrame self.old.container
+            (unread_of R.remaining self.old) (unread_of R.remaining self.new) self.old.frame_len
+            error.problem) }
         ensures stopped { IfErr result (IsAtNextFrame self.new) }
         ensures same { stream_of self.new ≡ stream_of self.old }
         ensures frames { self.new.frames ≡ self.old.frames }
@@ -216,7 +217,7 @@ impl<R: io::Read> Source<R> {
         ensures read { OnOk result (Consumes (bytes_left R.remaining self.old)
             (bytes_left R.remaining self.new) part.new) }
         ensures uncounted { OnOk result (self.new.reader.failures ≡ self.old.reader.failures) }
-        ensures problem { IfErr result (λ error. StopsInside (unread_of R.remaining self.old)
+        ensures problem { IfErr result (λ error. StopsInside before (unread_of R.remaining self.old)
             (unread_of R.remaining self.new) self.old.frame_len error.problem) }
         ensures stopped { IfErr result (IsAtNextFrame self.new) }
         ensures same { stream_of self.new ≡ stream_of self.old }
@@ -235,8 +236,9 @@ impl<R: io::Read> Source<R> {
         ensures read { IfOk result (ReadsLine (bytes_left R.remaining self.old)
             (bytes_left R.remaining self.new)) }
         ensures uncounted { OnOk result (self.new.reader.failures ≡ self.old.reader.failures) }
-        ensures problem { IfErr result (λ error. StopsFrame (unread_of R.remaining self.old)
-            (unread_of R.remaining self.new) self.old.frame_len error.problem) }
+        ensures problem { IfErr result (λ error. StopsFrame Container.Y4m
+            (unread_of R.remaining self.old) (unread_of R.remaining self.new) self.old.frame_len
+            error.problem) }
         ensures stopped { IfErr result (IsAtNextFrame self.new) }
         ensures same { stream_of self.new ≡ stream_of self.old }
         ensures frames { self.new.frames ≡ self.old.frames }
@@ -255,8 +257,8 @@ impl<R: io::Read> Source<R> {
         ensures at_end { IfOk result (λ found. found < length part.new
             → IsAtEnd (bytes_left R.remaining self.new)) }
         ensures uncounted { OnOk result (self.new.reader.failures ≡ self.old.reader.failures) }
-        ensures problem { IfErr result (λ error. StopsInside (unread_of R.remaining self.old)
-            (unread_of R.remaining self.new) self.old.frame_len error.problem) }
+        ensures problem { IfErr result (λ error. FailsToRead (unread_of R.remaining self.old)
+            (unread_of R.remaining self.new) error.problem) }
         ensures stopped { IfErr result (IsAtNextFrame self.new) }
         ensures same { stream_of self.new ≡ stream_of self.old }
         ensures frames { self.new.frames ≡ self.old.frames }

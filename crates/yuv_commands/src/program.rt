@@ -132,7 +132,7 @@ where
     E: io::Write,
 {
     match command {
-        Command::Help(topic) => print(&mut system.output, usage_text(*topic)),
+        Command::Help(topic) => print_usage(&mut system.output, *topic),
         Command::Version => print(&mut system.output, VERSION),
         Command::Call(call) => match call.name {
             CommandName::Info => do_info(system, call),
@@ -145,6 +145,17 @@ where
             CommandName::Plot => do_plot(system, call),
         },
     }
+}
+
+/// Writes how the program is called, or one of its commands, and what each option of that does.
+fn print_usage<O: io::Write>(output: &mut O, topic: Option<CommandName>) -> Result<Status, Fault> {
+    write_text(output, usage_text(topic))?;
+    if let Some(command) = topic {
+        for option in command.options() {
+            write_text(output, option.help())?;
+        }
+    }
+    Ok(Status::Same)
 }
 
 /// Writes a text to standard output.

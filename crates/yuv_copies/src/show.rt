@@ -16,7 +16,7 @@ use v_frame::pixel::Pixel;
 use v_frame_rgb::{ColorRange, Standard};
 use v_frame_semi_planar::SemiPlanarFormat;
 use v_frame_streams::{
-    Container, CopyOptions, Picture, Place, Silent, Sink, Source, StreamError, copy_stream,
+    Container, CopyOptions, Picture, Place, Problem, Silent, Sink, Source, StreamError, copy_stream,
 };
 use v_frame_y4m::StreamHeader;
 use yuv_files::SystemFile;
@@ -163,13 +163,21 @@ fn frame_bytes<R: io::Read>(
     ensures same { stream_of source.new ≡ stream_of source.old }
 {
     let before = frames_before(options.frame)?;
-    let mut sink = Sink::new(Container::Raw, Vec::new(alloc));
+    let Ok(room) = Vec::with_capacity(alloc, source.frame_len()) else {
+        return Err(no_room());
+    };
+    let mut sink = Sink::new(Container::Raw, room);
     let taken = one_frame(options, before);
     let found = copy_stream(alloc, source, &mut sink, &taken, &mut Silent)?;
     if found == 0 {
         return Err(Fault::NoFrame(Place::First, source.frames()));
     }
     Ok(sink.writer.into_inner())
+}
+
+/// Returns the fault where there is no memory for the bytes of a frame.
+fn no_room() -> Fault {
+    Fault::Stream(StreamError::at_start(Place::First, Problem::OutOfMemory))
 }
 
 /// Returns what is taken of the stream: one frame after so many, or a part of it.

@@ -4,7 +4,8 @@ use Rattle.std.specs.Io.KnownBytes.{Appends}
 use Rattle.v_frame_y4m.specs.declared.header.StreamHeader.{StreamHeader}
 use Rattle.yuv_facts.specs.Facts.{stream_facts}
 use Rattle.yuv_reports.specs.Texts.{BeginsWith}
-use Rattle.v_frame_streams.specs.Prelude.{CountsFrames}
+use Rattle.v_frame_streams.specs.Prelude.{CountsFrames, StopsAtFrame, Unread}
+use Rattle.v_frame_streams.specs.declared.error.Problem.{Problem}
 use Rattle.v_frame_streams.specs.declared.stream.Container.{Container}
 
 -- the line of a count
@@ -20,9 +21,26 @@ pub record ReportsFrames (from : Container) (count : ℕ) (left left' has has' :
   pub says : BeginsWith (count_line found) text
   pub written : Appends has has' text
 
+-- the frames in front of the one that was not read were counted, and their count was reported
+pub record ReportsWhole (from : Container) (count : ℕ) (start left : Unread) (before : ℕ)
+    (has has' : Option (List ℕ)) (problem : Problem) : Type 0 where
+  pub after : ℕ
+  pub stops : StopsAtFrame from count start left (2 ^ 64 - 1) before after problem
+  pub text : List ℕ
+  pub says : BeginsWith (count_line after) text
+  pub written : Appends has has' text
+
 -- the facts of the stream were reported first
 pub record ReportsStream (from : Container) (header : StreamHeader) (count : ℕ) (len : Option ℕ)
     (left left' has has' : Option (List ℕ)) : Type 0 where
   pub mid : Option (List ℕ)
   pub facts : Appends has mid (stream_facts header count len)
   pub frames : ReportsFrames from count left left' mid has'
+
+-- the same of a stream that breaks off
+pub record ReportsBroken (from : Container) (header : StreamHeader) (count : ℕ) (len : Option ℕ)
+    (start left : Unread) (before : ℕ) (has has' : Option (List ℕ)) (problem : Problem) : Type 0
+  where
+    pub mid : Option (List ℕ)
+    pub facts : Appends has mid (stream_facts header count len)
+    pub frames : ReportsWhole from count start left before mid has' problem

@@ -1,10 +1,11 @@
 //! The command `info`: what a stream is, and how many frames it has.
-ghost use Rattle.std.specs.Prelude.{◌≡◌, false, true, IfOk, IsOk, OnOk};
+ghost use Rattle.std.specs.Prelude.{◌≡◌, ◌≢◌, false, true, IfErr, IfOk, IsOk, OnOk};
 ghost use Rattle.std.specs.Io.KnownBytes.{Appends};
 ghost use Rattle.yuv_facts.specs.Facts.{stream_facts};
 ghost use Rattle.yuv_facts.specs.Inputs.{ReportsInput};
-ghost use Rattle.yuv_facts.specs.Info.{ReportsFrames, ReportsStream};
-ghost use Rattle.v_frame_streams.specs.Prelude.{bytes_left};
+ghost use Rattle.yuv_facts.specs.Info.{ReportsBroken, ReportsFrames, ReportsStream, ReportsWhole};
+ghost use Rattle.v_frame_streams.specs.Prelude.{bytes_left, unread_of};
+ghost use Rattle.v_frame_streams.specs.declared.stream.Place.TheVariants.{Output};
 ghost use Rattle.yuv_words.specs.declared.command.CommandName.TheVariants.{Info};
 
 mod text;
@@ -75,6 +76,10 @@ fn report_stream<R: io::Read, W: io::Write, H: Clock, E: io::Write>(
         source.old.header source.old.frame_len len (bytes_left R.remaining source.old)
         (bytes_left R.remaining source.new) (W.contents out.old)
         (W.contents out.new)) }
+    ensures broken { options.now.header ≡ false → IfErr result (λ error. error.place ≢ Output
+        → ReportsBroken source.old.container source.old.header source.old.frame_len len
+        (unread_of R.remaining source.old) (unread_of R.remaining source.new) source.old.frames
+        (W.contents out.old) (W.contents out.new) error.problem) }
 {
     let text = format_text(alloc, source.header(), source.frame_len(), len);
     write_made(out, text)?;
@@ -98,6 +103,10 @@ fn report_frames<R: io::Read, W: io::Write, H: Clock, E: io::Write>(
         source.old.container source.old.frame_len (bytes_left R.remaining source.old)
         (bytes_left R.remaining source.new) (W.contents out.old)
         (W.contents out.new)) }
+    ensures broken { options.now.header ≡ false → IfErr result (λ error. error.place ≢ Output
+        → ReportsWhole source.old.container source.old.frame_len (unread_of R.remaining source.old)
+        (unread_of R.remaining source.new) source.old.frames (W.contents out.old)
+        (W.contents out.new) error.problem) }
 {
     if options.header {
         return Ok(());
@@ -113,7 +122,8 @@ fn report_frames<R: io::Read, W: io::Write, H: Clock, E: io::Write>(
 
 /// Returns how many frames were counted: those in front of the one that can't be read, where there is one.
 fn frames_counted<R: io::Read>(counted: &Result<u64, StreamError>, source: &Source<R>) -> u64
-    ensures { IfOk counted.now (λ found. result ≡ found) }
+    ensures all { IfOk counted.now (λ found. result ≡ found) }
+    ensures whole { IfErr counted.now (λ _. result ≡ source.now.frames) }
 {
     match counted {
         Ok(found) => *found,

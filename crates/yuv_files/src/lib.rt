@@ -10,6 +10,6 @@ mod system_file;
 mod target;
 
 pub use message::{LaxHeader, shown_name, write_message};
-pub use same_file::{STANDARD_OUTPUT, is_read};
+pub use same_file::{STANDARD_OUTPUT, is_any_read, is_read};
 pub use system_file::{Holder, SystemFile};
-pub use target::{Loss, TargetFile};
+pub use target::{Loss, TargetFile, Unkept};

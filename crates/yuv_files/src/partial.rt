@@ -1,6 +1,6 @@
 //! New files beside targets, which replace them when they are whole.
 
-use crate::same_file::is_one_node;
+use crate::same_file::{is_any_read, is_one_node};
 use crate::system_file::{Holder, SystemFile};
 use std::alloc::{AllocError, Global};
 use std::fs::{self, Metadata, OpenFile, OpenOptions, Permissions};
@@ -37,19 +37,20 @@ pub(crate) struct PartialFile<F> {
 }
 
 impl<F: OpenFile + SystemFile + Drop> PartialFile<F> {
-    /// Creates a file beside a target: with the target's name and an ending, and a number where another run has such a file, or
-    /// where it is nothing that a run left. It is marked as not whole. Until it is whole nobody may do more with it than a mode
-    /// says, where one is given.
+    /// Creates a file beside a target: with the target's name and an ending, and a number where another run has such a file, where it
+    /// is nothing that a run left, or one of the files that are read. It is marked as not whole. Until it is whole nobody may do
+    /// more with it than a mode says, where one is given.
     pub(crate) fn create<H: Files<File = F> + AllocGlobal>(
         rt: &H,
         target: &str,
+        inputs: &[&str],
         wanted: Option<u32>,
     ) -> io::Result<Self> {
         for number in 0..MOST_NAMES {
             let name = partial_name(rt.alloc(), target, number)?;
             let created = match create_held(rt, name.as_str(), wanted) {
                 Err(error) if error.kind() == ErrorKind::AlreadyExists => {
-                    take_over(rt, name.as_str(), wanted)?
+                    take_over(rt, name.as_str(), inputs, wanted)?
                 }
                 created => created?,
             };
@@ -143,10 +144,11 @@ where
     Ok(Some((file, mode)))
 }
 
-/// Creates a file anew where a run that was ended has left it. `None` where it is another file, or a run holds it.
+/// Creates a file anew where a run that was ended has left it. `None` where it is another file, one that is read, or a run holds it.
 fn take_over<H: Files>(
     rt: &H,
     name: &str,
+    inputs: &[&str],
     wanted: Option<u32>,
 ) -> io::Result<Option<(H::File, u32)>>
 where
@@ -155,6 +157,9 @@ where
     match fs::symlink_metadata(rt, name) {
         Ok(found) if is_unfinished(&found) => {}
         _ => return Ok(None),
+    }
+    if is_any_read(rt, inputs, name) {
+        return Ok(None);
     }
     let Ok(left) = open_for_writing(rt, name) else {
         return Ok(None);

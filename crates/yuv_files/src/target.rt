@@ -40,6 +40,15 @@ struct Replacement {
     is_there: bool,
 }
 
+/// Why what was written is not in the place of its target.
+#[derive(Clone, Copy)]
+pub enum Unkept {
+    /// The target can't be replaced or rewritten. It is as it was, and the new file is gone.
+    Replace(ErrorKind),
+    /// The target was rewritten, and not to its end. The new file is whole, and stays beside it.
+    Rewrite(ErrorKind),
+}
+
 /// What of a target can't be kept.
 #[derive(Clone, Copy)]
 pub enum Loss {
@@ -87,22 +96,26 @@ impl<F: OpenFile> TargetFile<F> {
 }
 
 impl<F: OpenFile + SystemFile + Drop> TargetFile<F> {
-    /// Opens a new file beside the target of this name. A target that is no regular file, as a device or a pipe, is opened
-    /// itself, and so is what a process has open.
+    /// Opens a new file beside the target of this name, which is none of the files that are read. A target that is no regular file,
+    /// as a device or a pipe, is opened itself, and so is what a process has open.
     ///
     /// # Errors
     ///
     /// The system's, where the target or the new file can't be opened for writing. Nothing has changed then.
-    pub fn create<H: Files<File = F> + AllocGlobal>(rt: &H, name: &str) -> io::Result<Self> {
+    pub fn create<H: Files<File = F> + AllocGlobal>(
+        rt: &H,
+        name: &str,
+        inputs: &[&str],
+    ) -> io::Result<Self> {
         match fs::metadata(rt, name) {
             Ok(found) if found.is_file() => match resolve_links(rt, name)? {
                 Destination::OpenFile => Self::open_at_end(rt, name),
-                Destination::Name(target) => Self::replace(rt, target, &found),
+                Destination::Name(target) => Self::replace(rt, target, inputs, &found),
             },
             Ok(_) => Self::open_directly(rt, name),
             Err(error) if error.kind() == ErrorKind::NotFound => match resolve_links(rt, name)? {
                 Destination::OpenFile => Err(error),
-                Destination::Name(target) => Self::create_beside(rt, target, None),
+                Destination::Name(target) => Self::create_beside(rt, target, inputs, None),
             },
             Err(error) => Err(error),
         }
@@ -134,10 +147,11 @@ impl<F: OpenFile + SystemFile + Drop> TargetFile<F> {
     fn replace<H: Files<File = F> + AllocGlobal>(
         rt: &H,
         target: String,
+        inputs: &[&str],
         found: &Metadata,
     ) -> io::Result<Self> {
         let file = open_for_writing(rt, target.as_str())?;
-        match Self::create_beside(rt, target, Some(found)) {
+        match Self::create_beside(rt, target, inputs, Some(found)) {
             Err(error) if takes_no_files(&error) => Ok(TargetFile {
                 file,
                 replacement: None,
@@ -152,10 +166,11 @@ impl<F: OpenFile + SystemFile + Drop> TargetFile<F> {
     fn create_beside<H: Files<File = F> + AllocGlobal>(
         rt: &H,
         target: String,
+        inputs: &[&str],
         found: Option<&Metadata>,
     ) -> io::Result<Self> {
         let wanted = found.map(mode_of);
-        let made = PartialFile::create(rt, target.as_str(), wanted)?;
+        let made = PartialFile::create(rt, target.as_str(), inputs, wanted)?;
         let (mode, loss) = match found {
             Some(found) => kept_of(&made.file, found),
             None => (made.mode, None),
@@ -177,9 +192,8 @@ impl<F: OpenFile + SystemFile + Drop> TargetFile<F> {
     ///
     /// # Errors
     ///
-    /// The system's. The target is then as it was, and the new file is gone; but where the target can't be replaced, only
-    /// rewritten, and that failed, the new file stays.
-    pub fn keep<H: Files<File = F>>(mut self, rt: &H) -> io::Result<()> {
+    /// [`Unkept::Replace`], and [`Unkept::Rewrite`] where the target can't be replaced, only rewritten, and that failed.
+    pub fn keep<H: Files<File = F>>(mut self, rt: &H) -> Result<(), Unkept> {
         let begun = self.begin();
         let TargetFile {
             file,
@@ -189,7 +203,10 @@ impl<F: OpenFile + SystemFile + Drop> TargetFile<F> {
         } = self;
         match replacement {
             Some(replacement) => replacement.put(rt, file),
-            None => begun,
+            None => match begun {
+                Ok(()) => Ok(()),
+                Err(error) => Err(Unkept::Replace(error.kind())),
+            },
         }
     }
 
@@ -211,7 +228,7 @@ impl<F: OpenFile + SystemFile + Drop> TargetFile<F> {
 
 impl Replacement {
     /// Puts the new file in the place of the target.
-    fn put<H: Files>(self, rt: &H, file: H::File) -> io::Result<()> {
+    fn put<H: Files>(self, rt: &H, file: H::File) -> Result<(), Unkept> {
         let (partial, target) = (self.partial.as_str(), self.target.as_str());
         let put = match self.finish(&file) {
             Ok(()) => fs::rename(rt, partial, target),
@@ -224,30 +241,51 @@ impl Replacement {
             Err(error) if self.is_there && is_fixed(&error) => rewrite(rt, partial, target),
             Err(error) => {
                 let _ = fs::remove_file(rt, partial);
-                Err(error)
+                Err(Unkept::Replace(error.kind()))
             }
         }
     }
 
     /// Says who may do what with the new file. What stands in its place is lost by the renaming, so what replaces it has to be on
-    /// the disk.
+    /// the disk before: that may take long, and until then the file is marked as not whole.
     fn finish<F: OpenFile>(&self, file: &F) -> io::Result<()> {
-        finish(file, self.mode)?;
         if self.is_there {
             file.sync_all()?;
         }
-        Ok(())
+        finish(file, self.mode)
     }
 }
 
-/// Writes what a file has into a target, and removes it. Where that fails, the file stays, for it is whole.
-fn rewrite<H: Files>(rt: &H, partial: &str, target: &str) -> io::Result<()> {
-    let mut from = fs::open(rt, partial)?;
-    let mut to = open_for_writing(rt, target)?;
+/// Writes what a file has into a target, and removes it. Where that fails behind the first change of the target, the file stays, for
+/// it is whole.
+fn rewrite<H: Files>(rt: &H, partial: &str, target: &str) -> Result<(), Unkept> {
+    match open_both(rt, partial, target) {
+        Ok((from, to)) => match fill(from, to) {
+            Ok(()) => {
+                let _ = fs::remove_file(rt, partial);
+                Ok(())
+            }
+            Err(error) => Err(Unkept::Rewrite(error.kind())),
+        },
+        Err(error) => {
+            let _ = fs::remove_file(rt, partial);
+            Err(Unkept::Replace(error.kind()))
+        }
+    }
+}
+
+/// Opens a file for reading, and another one for writing.
+fn open_both<H: Files>(rt: &H, from: &str, to: &str) -> io::Result<(H::File, H::File)> {
+    let from = fs::open(rt, from)?;
+    let to = open_for_writing(rt, to)?;
+    Ok((from, to))
+}
+
+/// Writes what a file has into another one, in place of what that has.
+fn fill<F: OpenFile + io::Read + io::Write + Drop>(mut from: F, mut to: F) -> io::Result<()> {
     to.set_len(0)?;
     io::copy(&mut from, &mut to)?;
-    to.sync_all()?;
-    fs::remove_file(rt, partial)
+    to.sync_all()
 }
 
 /// Returns whether a folder takes no new file.

@@ -34,6 +34,8 @@ pub enum Fault {
     Create(io::ErrorKind),
     /// What was written can't be put in its place.
     Replace(io::ErrorKind),
+    /// What was written can't be copied to its place, and a part of it stands there.
+    Rewrite(io::ErrorKind),
     /// The picture was not written.
     Picture(PictureError),
     /// No frame of the stream of that place was taken.
@@ -64,7 +66,10 @@ impl Fault {
             Fault::Header(error) | Fault::Stream(error) | Fault::Report(error) => {
                 Some(error.place)
             }
-            Fault::Create(_) | Fault::Replace(_) | Fault::Picture(_) => Some(Place::Output),
+            Fault::Picture(PictureError::NoPlane) => Some(Place::First),
+            Fault::Create(_) | Fault::Replace(_) | Fault::Rewrite(_) | Fault::Picture(_) => {
+                Some(Place::Output)
+            }
             Fault::FrameZero => None,
         }
     }
@@ -96,6 +101,10 @@ impl fmt::Display for Fault {
             Fault::Stream(error) | Fault::Report(error) => write_stream_error(f, error),
             Fault::Create(cause) => write!(f, "cannot create: {cause}"),
             Fault::Replace(cause) => write!(f, "cannot replace: {cause}"),
+            Fault::Rewrite(cause) => write!(
+                f,
+                "rewritten in part, and whole in its .partial: {cause}"
+            ),
             Fault::Picture(PictureError::Png(PngError::Write(error))) => {
                 let cause = error.kind();
                 write!(f, "write failed: {cause}")

@@ -7,7 +7,7 @@ use std::fs::OpenFile;
 use std::io::{self, Write};
 use std::rt::Files;
 use v_frame_streams::Place;
-use yuv_files::{SystemFile, TargetFile, is_read, write_message};
+use yuv_files::{SystemFile, TargetFile, Unkept, is_any_read, write_message};
 
 /// A file, or standard output.
 #[derive(Drop)]
@@ -66,16 +66,12 @@ impl<'a, F: OpenFile + SystemFile + Drop, O> Output<'a, F, O> {
         if is_standard_output(name) {
             return Ok(Output::Standard(standard));
         }
-        let file = match TargetFile::create(rt, name) {
+        let file = match TargetFile::create(rt, name, inputs) {
             Ok(file) => file,
             Err(error) => return Err(Fault::Create(error.kind())),
         };
-        if file.is_written_in_place() {
-            for input in inputs {
-                if is_read(rt, input, name) {
-                    return Err(Fault::ReadAndWritten(Place::Output));
-                }
-            }
+        if file.is_written_in_place() && is_any_read(rt, inputs, name) {
+            return Err(Fault::ReadAndWritten(Place::Output));
         }
         if let Some(loss) = file.loss() {
             write_message(messages, Some(name), &loss);
@@ -87,7 +83,7 @@ impl<'a, F: OpenFile + SystemFile + Drop, O> Output<'a, F, O> {
     ///
     /// # Errors
     ///
-    /// The fault of what was done, and [`Fault::Replace`] where the file can't be put there.
+    /// The fault of what was done, and [`Fault::Replace`] and [`Fault::Rewrite`] where the file can't be put there.
     pub fn settle<H: Files<File = F>, T: Drop>(
         self,
         rt: &H,
@@ -101,7 +97,8 @@ impl<'a, F: OpenFile + SystemFile + Drop, O> Output<'a, F, O> {
         match done {
             Ok(value) => match to.keep(rt) {
                 Ok(()) => Ok(value),
-                Err(error) => Err(Fault::Replace(error.kind())),
+                Err(Unkept::Replace(cause)) => Err(Fault::Replace(cause)),
+                Err(Unkept::Rewrite(cause)) => Err(Fault::Rewrite(cause)),
             },
             Err(fault) => {
                 to.discard(rt);

@@ -1,5 +1,5 @@
 //! Texts on standard output.
-ghost use Rattle.std.specs.Prelude.{◌≡◌, None, string_bytes, IsOkAnd, OnErr, OnOk};
+ghost use Rattle.std.specs.Prelude.{◌≡◌, None, string_bytes, IfErr, IsOkAnd, OnErr, OnOk};
 ghost use Rattle.std.specs.Io.KnownBytes.{Appends};
 ghost use Rattle.v_frame_bytes.specs.Sending.{AppendsBeginning};
 
@@ -20,6 +20,7 @@ pub fn write_text<W: io::Write>(out: &mut W, text: &str) -> Result<(), StreamErr
         text.now) }
     ensures beginning { OnErr result (AppendsBeginning (W.contents out.old)
         (W.contents out.new) text.now) }
+    ensures place { IfErr result (λ error. error.place ≡ Place.Output) }
 {
     match send(out, text.as_bytes()) {
         Ok(()) => Ok(()),
@@ -28,7 +29,9 @@ pub fn write_text<W: io::Write>(out: &mut W, text: &str) -> Result<(), StreamErr
 }
 
 /// Returns the error of a text that was not written.
-fn not_written(fault: &SendError) -> StreamError {
+fn not_written(fault: &SendError) -> StreamError
+    ensures place { result.place ≡ Place.Output }
+{
     let (problem, cause) = match fault {
         SendError::Write(error) => (PlanarError::Write, Some(error.kind())),
         SendError::WriteZero => (PlanarError::WriteZero, None),
@@ -50,8 +53,9 @@ pub fn write_made<W: io::Write>(
     out: &mut W,
     text: Result<String, AllocError>,
 ) -> Result<(), StreamError>
-    ensures { OnOk result (IsOkAnd text (λ made. Appends (W.contents out.old)
+    ensures made { OnOk result (IsOkAnd text (λ made. Appends (W.contents out.old)
         (W.contents out.new) (string_bytes made))) }
+    ensures place { IfErr result (λ error. error.place ≡ Place.Output) }
 {
     match text {
         Ok(text) => {

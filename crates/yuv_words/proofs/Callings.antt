@@ -2,7 +2,7 @@
 use Rattle.std.proofs.Common.{ℕ, ◌≡◌, ◌≢◌, ◌≤◌, List, [], ◌∷◌, ◌++◌, length, refl, sym, ◌∙◌, ap, subst, cond, get_or, inl, inr}
 use Rattle.std.proofs.Common.{arith, eqb, lit≤, rules}
 use Rattle.std.proofs.lemmas.Bool.{eqb-true}
-use Rattle.std.specs.Prelude.{codes, slice_index_or, IfErr, None, Option, Some, Result, Ok, Err, ◌⊎◌}
+use Rattle.std.specs.Prelude.{codes, slice_index_or, None, Option, Some, ◌⊎◌}
 use Rattle.std.specs.Borrow.{Bor}
 use Rattle.std.specs.Str.{bytes_eq}
 use Rattle.std.proofs.lemmas.List.{append-nil}
@@ -26,10 +26,6 @@ use Rattle.yuv_words.proofs.Refusals.{late_refused, same_tokens}
 text_once : (text : Option (Bor (List ℕ))) → length (text_in text) ≤ 1
 text_once None = lit≤ tt
 text_once (Some text) = lit≤ tt
-
-pub err_weaker : {A E : Type 0} (r : Result A E) (P Q : E → Type 0) → ((e : E) → P e → Q e) → IfErr r P → IfErr r Q
-err_weaker (Ok a) P Q more has = has
-err_weaker (Err e) P Q more has = more e has
 
 module _ (k : CommandName) (words : List (List ℕ)) (reading : Reading) (read : IsRead k (before_end words) reading)
     (ended : reading.awaiting ≡ None) where

@@ -8,7 +8,7 @@ use Rattle.std.proofs.lemmas.List.Concat.{flat_map-append}
 use Rattle.std.proofs.lemmas.List.Elements.{All-head}
 use Rattle.std.specs.Cmp.Lexicographic.{bytes_decides}
 use Rattle.yuv_words.specs.Calls.{IsCall}
-use Rattle.yuv_words.specs.Commands.{Says}
+use Rattle.yuv_words.specs.Commands.{AreFiles, Says}
 use Rattle.yuv_words.specs.Faults.{Begin, HasLateFile, HasWordFault, IsUnknown, Names}
 use Rattle.yuv_words.specs.Names.{file_count, option_text, takes_value}
 use Rattle.yuv_words.specs.Words.{after_end, before_end, file_in, files_of, is_same, joined_text, spelled, token_words}
@@ -24,10 +24,14 @@ use Rattle.yuv_words.proofs.Cuts.{tails}
 use Rattle.yuv_words.proofs.Places.{each_command, one_option}
 
 -- a command has as many files as it takes
+pub as_many : (k : CommandName) (first second third : List ℕ) (files : List (List ℕ))
+    → AreFiles k first second third files → length files ≡ file_count k
+as_many k first second third files are = ap length are.0
+    ∙ eqb-true _ _ (each_command (λ n. eqb (length (take (file_count n) (first ∷ second ∷ third ∷ []))) (file_count n)) refl k)
+
 pub says_count : (given : OptionName → List (List ℕ)) (k : CommandName) (c : Command) (files : List (List ℕ))
     → Says given k c files → length files ≡ file_count k
-says_count given k (command.Call c) files says = ap length says.1.0
-    ∙ eqb-true _ _ (each_command (λ n. eqb (length (take (file_count n) (c.first.now ∷ c.second.now ∷ c.third.now ∷ []))) (file_count n)) refl k)
+says_count given k (command.Call c) files says = as_many k _ _ _ files says.1
 says_count given k _ files says = absurd says
 
 -- a token that is an option

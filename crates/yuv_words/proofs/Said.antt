@@ -1,10 +1,9 @@
--- What is given says no value.
+-- What a text spells, and no other text does.
 use Rattle.std.proofs.Common.{ℕ, ◌≡◌, ◌<◌, List, [], ◌∷◌, ◌++◌, length, get_or, sym, ◌∙◌, ap, subst, arith, rules, inl, inr}
 use Rattle.std.proofs.Common.{refl, append-nil}
 use Rattle.std.specs.Prelude.{None, Option, Some, ◌⊎◌}
 use Rattle.v_frame_y4m.specs.Header.{ratio_text, FitsRatio}
 use Rattle.v_frame_y4m.specs.declared.header.Ratio.{Ratio}
-use Rattle.yuv_words.specs.Commands.{SaysValue}
 use Rattle.v_frame_formats.specs.Formats.{ffmpeg_name, short_name, IsFormat}
 use Rattle.yuv_words.specs.Values.{IsRaw, IsRectangle, SpellsFormat, SpellsRaw, SpellsRectangle}
 use Rattle.yuv_words.specs.declared.command.RawVideo.{RawVideo}
@@ -13,35 +12,22 @@ use Rattle.v_frame_formats.specs.declared.format.VideoFormat.{VideoFormat}
 use Rattle.yuv_words.proofs.Cuts.{cut_same, inside, lacks_from, marked, one_rectangle, one_size, plain, Lacks}
 use Rattle.v_frame_formats.proofs.Places.{each_format}
 
-nothing : {A : Type 0} (x : A) (xs : List A) → [] ≡ x ∷ xs → ⊥
-nothing x xs is = search rules
-
-head : (x y : List ℕ) (xs ys : List (List ℕ)) → x ∷ xs ≡ y ∷ ys → x ≡ y
-head x y xs ys is = ap (λ zs. get_or zs 0 x) is
-
-pub says_none : {A : Type 0} (Spells : A → List ℕ → Type 0) (given : List (List ℕ)) (word : List ℕ)
-    → given ≡ word ∷ [] → ((a : A) → ¬ (Spells a word)) → (v : Option A) → ¬ (SaysValue Spells v given)
-says_none Spells given word is none None says = nothing word [] (sym says ∙ is)
-says_none Spells given word is none (Some a) says =
-    none a (subst (Spells a) (head says.0 word [] [] (sym says.1 ∙ is)) says.2)
-
-pub no_rectangle : (given : List (List ℕ)) (word : List ℕ) (value : Rectangle) → given ≡ word ∷ []
-    → SpellsRectangle value word → (value.width ≡ 0) ⊎ (value.height ≡ 0)
-    → (v : Option Rectangle) → ¬ (SaysValue IsRectangle v given)
-no_rectangle given word value is spelled (inl zero_wide) = says_none IsRectangle given word is (λ r spells.
+-- a text that spells a size of 0 spells no other
+pub no_rectangle : (word : List ℕ) (value : Rectangle) → SpellsRectangle value word
+    → (value.width ≡ 0) ⊎ (value.height ≡ 0) → (r : Rectangle) → ¬ (IsRectangle r word)
+no_rectangle word value spelled (inl zero_wide) r spells =
     let same = one_rectangle r value word spells.0 spelled in
-    omega (arith, spells.1, ap (λ (q : Rectangle). q.width) same, zero_wide))
-no_rectangle given word value is spelled (inr zero_high) = says_none IsRectangle given word is (λ r spells.
+    omega (arith, spells.1, ap (λ (q : Rectangle). q.width) same, zero_wide)
+no_rectangle word value spelled (inr zero_high) r spells =
     let same = one_rectangle r value word spells.0 spelled in
-    omega (arith, spells.2, ap (λ (q : Rectangle). q.height) same, zero_high))
+    omega (arith, spells.2, ap (λ (q : Rectangle). q.height) same, zero_high)
 
-pub no_raw : (given : List (List ℕ)) (word : List ℕ) (value : RawVideo) → given ≡ word ∷ []
-    → SpellsRaw value word → (value.width ≡ 0) ⊎ (value.height ≡ 0)
-    → (v : Option RawVideo) → ¬ (SaysValue IsRaw v given)
-no_raw given word value is spelled (inl zero_wide) = says_none IsRaw given word is (λ raw spells.
-    let same = one_size raw value word spells.0 spelled in omega (arith, spells.1, same.0, zero_wide))
-no_raw given word value is spelled (inr zero_high) = says_none IsRaw given word is (λ raw spells.
-    let same = one_size raw value word spells.0 spelled in omega (arith, spells.2, same.1, zero_high))
+pub no_raw : (word : List ℕ) (value : RawVideo) → SpellsRaw value word
+    → (value.width ≡ 0) ⊎ (value.height ≡ 0) → (raw : RawVideo) → ¬ (IsRaw raw word)
+no_raw word value spelled (inl zero_wide) raw spells =
+    let same = one_size raw value word spells.0 spelled in omega (arith, spells.1, same.0, zero_wide)
+no_raw word value spelled (inr zero_high) raw spells =
+    let same = one_size raw value word spells.0 spelled in omega (arith, spells.2, same.1, zero_high)
 
 -- no name of a format has an at sign
 pub name_lacks : (f : VideoFormat) (name : List ℕ) → IsFormat f name → Lacks 64 name

@@ -1,12 +1,12 @@
 -- What one more word makes of the words that were read.
 use Rattle.std.proofs.Common.{ℕ, ◌≡◌, ◌≢◌, Bool, true, false, List, [], ◌∷◌, ◌++◌, refl, sym, ◌∙◌, ap, subst}
-use Rattle.std.proofs.Common.{append_assoc, inl, inr, ◌⊎◌, rules}
+use Rattle.std.proofs.Common.{append_assoc, arith, inl, inr, length, ◌⊎◌, ◌<◌, ◌≤◌, rules}
 use Rattle.std.specs.Prelude.{flat_map, if◌then◌else◌, Contains, IfSome, None, Some}
 use Rattle.std.specs.Cmp.Lexicographic.{bytes_decides}
-use Rattle.std.proofs.lemmas.List.{append-nil}
+use Rattle.std.proofs.lemmas.List.{append-nil, length-append}
 use Rattle.std.proofs.lemmas.List.Concat.{flat_map-append}
 use Rattle.std.proofs.lemmas.List.Elements.{All-push}
-use Rattle.yuv_words.specs.Names.{option_text, options_of, takes_value}
+use Rattle.yuv_words.specs.Names.{file_count, option_text, options_of, takes_value}
 use Rattle.yuv_words.specs.Reading.{awaited, file_names, given_to, IsRead, MayAwait}
 use Rattle.yuv_words.specs.Words.{file_in, files_of, is_same, spelled, token_words, value_in, values_of}
 use Rattle.yuv_words.specs.Words.{Apart, File, IsFileWord, IsToken, Token}
@@ -70,6 +70,7 @@ module _ (name : CommandName) (words : List (List ℕ)) (word : List ℕ) (old n
             ∙ ap (λ xs. spelled (read.tokens ++ token ∷ []) ++ awaited xs) (sym awaiting);
         files = ap file_names files ∙ read.files ∙ sym (append-nil (files_of read.tokens))
             ∙ ap (λ xs. files_of read.tokens ++ xs) (sym no_file) ∙ sym (push_flat file_in read.tokens token);
+        few = subst (λ fs. length (file_names fs) ≤ file_count name) (sym files) read.few;
         given = λ n. elim (same_cases n option) [
           | inl same ↦ ap (given_to new.given) same.0 ∙ given
               ∙ sym (values_here read.tokens token option value gives first n same.0 same.1)
@@ -85,9 +86,10 @@ module _ (name : CommandName) (words : List (List ℕ)) (word : List ℕ) (old n
 
   -- a file was read
   pub file_read : IsFileWord word → file_names new.files ≡ file_names old.files ++ word ∷ []
+      → length (file_names old.files) < file_count name
       → new.given ≡ old.given → old.awaiting ≡ None → new.awaiting ≡ None
       → IsRead name words old → IsRead name (words ++ word ∷ []) new
-  file_read is files given before after read =
+  file_read is files room given before after read =
       record {
         tokens = read.tokens ++ File word ∷ [];
         are = All-push IsToken read.tokens (File word) read.are is;
@@ -97,6 +99,7 @@ module _ (name : CommandName) (words : List (List ℕ)) (word : List ℕ) (old n
             ∙ sym (append-nil (spelled (read.tokens ++ File word ∷ [])))
             ∙ ap (λ xs. spelled (read.tokens ++ File word ∷ []) ++ awaited xs) (sym after);
         files = files ∙ ap (λ xs. xs ++ word ∷ []) read.files ∙ sym (push_flat file_in read.tokens (File word));
+        few = omega (arith, room, ap length files, length-append (file_names old.files) (word ∷ []));
         given = λ n. ap (λ g. given_to g n) given ∙ read.given n ∙ sym (append-nil (values_of read.tokens n))
             ∙ sym (push_flat (value_in n) read.tokens (File word));
         own = λ n lacks. push_flat (value_in n) read.tokens (File word) ∙ append-nil (values_of read.tokens n)
@@ -118,6 +121,7 @@ module _ (name : CommandName) (words : List (List ℕ)) (word : List ℕ) (old n
             ∙ ap (λ xs. spelled read.tokens ++ xs ∷ []) is
             ∙ ap (λ xs. spelled read.tokens ++ awaited xs) (sym after);
         files = ap file_names files ∙ read.files;
+        few = subst (λ fs. length (file_names fs) ≤ file_count name) (sym files) read.few;
         given = λ n. ap (λ g. given_to g n) given ∙ read.given n;
         own = read.own;
         may = subst (λ awaits. IfSome awaits (MayAwait name read.tokens)) (sym after)

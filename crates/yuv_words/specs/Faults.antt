@@ -1,15 +1,13 @@
 -- What is wrong with words that ask for nothing.
-use Rattle.std.specs.Prelude.{ℕ, ◌≡◌, ◌≢◌, ◌≤◌, ◌<◌, ◌⊎◌, ◌++◌, ⊤, All, Contains, List, [], ◌∷◌, false, true, length}
+use Rattle.std.specs.Prelude.{ℕ, ◌≡◌, ◌≢◌, ◌<◌, ◌⊎◌, ◌++◌, ⊤, All, Contains, List, [], ◌∷◌, false, true, length}
 use Rattle.yuv_words.specs.Calls.{version_word, IsHelpWord}
 use Rattle.v_frame_formats.specs.Formats.{IsFormat}
 use Rattle.yuv_words.specs.Names.{command_text, file_count, option_text, options_of, takes_value}
-use Rattle.yuv_words.specs.Values.{IsColorRange, IsGain, IsMatrix, IsNumber, IsPlane, IsRatio, SpellsRaw}
-use Rattle.yuv_words.specs.Values.{SpellsRectangle}
+use Rattle.yuv_words.specs.Values.{IsColorRange, IsGain, IsMatrix, IsNumber, IsPlane, IsRatio, IsRaw}
+use Rattle.yuv_words.specs.Values.{IsRectangle}
 use Rattle.yuv_words.specs.Words.{after_end, before_end, files_of, joined_text, spelled, values_of, IsFileWord}
 use Rattle.yuv_words.specs.Words.{IsToken, Token}
 use Rattle.yuv_words.specs.declared.command.CommandName.{CommandName}
-use Rattle.yuv_words.specs.declared.command.RawVideo.{RawVideo}
-use Rattle.v_frame_formats.specs.declared.rectangle.Rectangle.{Rectangle}
 use Rattle.yuv_words.specs.declared.error.UsageError.{UsageError}
 use Rattle.yuv_words.specs.declared.error.UsageError.TheVariants as fault
 use Rattle.yuv_words.specs.declared.option_name.OptionName.{OptionName}
@@ -19,15 +17,15 @@ use Rattle.yuv_words.specs.declared.option_name.OptionName.TheVariants as option
 abbrev pub SpellsNone : {A : Type 0} → (A → List ℕ → Type 0) → List ℕ → Type 0
 SpellsNone {A} Spells text = (a : A) → ¬ (Spells a text)
 
--- the text spells no value of the option, with pixels or without
+-- the text spells no value of the option
 abbrev pub IsNoValue : OptionName → List ℕ → Type 0
-IsNoValue option.Raw text = SpellsNone SpellsRaw text
+IsNoValue option.Raw text = SpellsNone IsRaw text
 IsNoValue option.MaxPixels text = SpellsNone IsNumber text
 IsNoValue option.Skip text = SpellsNone IsNumber text
 IsNoValue option.SkipSecond text = SpellsNone IsNumber text
 IsNoValue option.Count text = SpellsNone IsNumber text
-IsNoValue option.RawSecond text = SpellsNone SpellsRaw text
-IsNoValue option.Crop text = SpellsNone SpellsRectangle text
+IsNoValue option.RawSecond text = SpellsNone IsRaw text
+IsNoValue option.Crop text = SpellsNone IsRectangle text
 IsNoValue option.Format text = SpellsNone IsFormat text
 IsNoValue option.Rate text = SpellsNone IsRatio text
 IsNoValue option.Aspect text = SpellsNone IsRatio text
@@ -38,31 +36,17 @@ IsNoValue option.Plane text = SpellsNone IsPlane text
 IsNoValue option.Gain text = SpellsNone IsGain text
 IsNoValue _ text = ⊥
 
--- the text spells a size of 0
-abbrev pub HasNoPixels : OptionName → List ℕ → Type 0
-HasNoPixels option.Crop text =
-    (r : Rectangle) × SpellsRectangle r text × ((r.width ≡ 0) ⊎ (r.height ≡ 0))
-HasNoPixels option.Raw text =
-    (raw : RawVideo) × SpellsRaw raw text × ((raw.width ≡ 0) ⊎ (raw.height ≡ 0))
-HasNoPixels option.RawSecond text =
-    (raw : RawVideo) × SpellsRaw raw text × ((raw.width ≡ 0) ⊎ (raw.height ≡ 0))
-HasNoPixels _ text = ⊥
-
 -- what is given to an option says no value, or both forms of a report are asked for
 abbrev pub HasValueFault : (OptionName → List (List ℕ)) → UsageError → Type 0
 HasValueFault given (fault.NotAValue option text) =
     (given option ≡ text.now ∷ []) × IsNoValue option text.now
-HasValueFault given (fault.NoPixels option text) =
-    (given option ≡ text.now ∷ []) × HasNoPixels option text.now
 HasValueFault given fault.TwoForms =
     (length (given option.Csv) ≡ 1) × (length (given option.Json) ≡ 1)
 HasValueFault given _ = ⊥
 
--- there are not so many files
+-- there are fewer files
 abbrev pub HasFileFault : ℕ → List (List ℕ) → UsageError → Type 0
 HasFileFault count files fault.MissingFile = length files < count
-HasFileFault count files (fault.ExtraFile name) =
-    (front back : List (List ℕ)) × (files ≡ front ++ name.now ∷ back) × (count ≤ length front)
 HasFileFault count files _ = ⊥
 
 -- the words begin with these tokens
@@ -100,14 +84,14 @@ module _ (name : CommandName) (words : List (List ℕ)) where
   HasWordFault (fault.Repeated option) =
       (word : List ℕ) × Names word option × StopsAt word (λ tokens. values_of tokens option ≢ [])
   HasWordFault (fault.ExtraFile file) =
-      IsFileWord file.now × StopsAt file.now (λ tokens. file_count name ≤ length (files_of tokens))
+      IsFileWord file.now × StopsAt file.now (λ tokens. length (files_of tokens) ≡ file_count name)
   HasWordFault _ = ⊥
 
--- a file behind `--` is one too many
+-- a file behind `--` is the first too many
 abbrev pub HasLateFile : ℕ → List (List ℕ) → List (List ℕ) → UsageError → Type 0
 HasLateFile count early late (fault.ExtraFile file) =
     (front back : List (List ℕ)) × (late ≡ front ++ file.now ∷ back)
-    × (count ≤ length (early ++ front))
+    × (length (early ++ front) ≡ count)
 HasLateFile count early late _ = ⊥
 
 -- what is wrong after the name of a command

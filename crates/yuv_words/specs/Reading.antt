@@ -1,5 +1,5 @@
 -- What words say while they are read.
-use Rattle.std.specs.Prelude.{ℕ, ◌≡◌, ◌⊎◌, ◌++◌, All, Contains, IfSome, List, [], ◌∷◌, true, slice_index_or, Option, Some, None}
+use Rattle.std.specs.Prelude.{ℕ, ◌≡◌, ◌≤◌, ◌⊎◌, ◌++◌, All, Contains, IfSome, List, [], ◌∷◌, length, true, slice_index_or, Option, Some, None}
 use Rattle.std.specs.Borrow.{Bor}
 use denote.Enum.Declared.{tag_of}
 use Rattle.yuv_words.specs.Commands.{Says}
@@ -68,6 +68,7 @@ pub record IsRead (name : CommandName) (words : List (List ℕ)) (reading : Read
   pub are : All IsToken tokens
   pub front : words ≡ spelled tokens ++ awaited reading.awaiting
   pub files : file_names reading.files ≡ files_of tokens
+  pub few : length (file_names reading.files) ≤ file_count name
   pub given : (option : OptionName) → given_to reading.given option ≡ values_of tokens option
   pub own : (option : OptionName) → ¬ (Contains (options_of name) option)
       → values_of tokens option ≡ []

@@ -1,9 +1,9 @@
 //! Commands from the words of a call.
-ghost use Rattle.std.specs.Prelude.{◌≡◌, ◌≢◌, ◌↔◌, ◌∷◌, IfErr, IfOk, IsSome, IsTrue, Option};
+ghost use Rattle.std.specs.Prelude.{◌≡◌, ◌≢◌, ◌≤◌, ◌↔◌, ◌∷◌, length, IfErr, IfOk, IsSome, IsTrue, Option};
 ghost use Rattle.yuv_words.specs.Calls.{topic_words, version_word, AsksHelp, IsCall, IsHelpOption, IsHelpWord, IsWrittenAs};
 ghost use Rattle.yuv_words.specs.Faults.{HasFault, HasTopicFault, IsRefusedFor};
-ghost use Rattle.yuv_words.specs.Names.{command_text};
-ghost use Rattle.yuv_words.specs.Reading.{HasSaidFault, IsSaid};
+ghost use Rattle.yuv_words.specs.Names.{command_text, file_count};
+ghost use Rattle.yuv_words.specs.Reading.{file_names, HasSaidFault, IsSaid};
 ghost use Rattle.yuv_words.specs.Words.{texts_of};
 ghost use Rattle.yuv_words.specs.declared.command.Command.{Command as TheCommand};
 ghost use Rattle.yuv_words.specs.declared.command.CommandName.{CommandName as TheName};
@@ -120,6 +120,7 @@ fn command_of<'a>(
     files: &Files<'a>,
     given: &Given<'a>,
 ) -> Result<Command<'a>, UsageError<'a>>
+    requires few { length (file_names files.now) ≤ file_count name }
     ensures said { IfOk result (IsSaid given.now files.now name) }
     ensures refused { IfErr result (λ _. (command : TheCommand) → ¬ (IsSaid given.now files.now name command)) }
     ensures fault { IfErr result (HasSaidFault given.now files.now name) }

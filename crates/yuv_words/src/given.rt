@@ -1,11 +1,10 @@
 //! What is given to each option.
-ghost use Rattle.std.specs.Prelude.{◌≡◌, ◌↔◌, ◌⊎◌, length, IsTrue};
+ghost use Rattle.std.specs.Prelude.{◌≡◌, length};
 
-use crate::command::{Options, RawVideo};
+use crate::command::Options;
 use crate::error::UsageError;
 use crate::option_name::{OPTION_COUNT, OptionName};
-use crate::values::{self, OptionValue};
-use v_frame_formats::Rectangle;
+use crate::values::OptionValue;
 use yuv_reports::ReportForm;
 
 /// What is given to each option that stands among the words: its value, or nothing where it takes none.
@@ -16,14 +15,11 @@ pub(crate) struct Given<'a> {
 }
 
 impl<'a> Given<'a> {
-    ghost use Rattle.std.specs.Prelude.{List, ℕ, ◌≡◌, ◌≢◌, ◌⊎◌, ◌∷◌, [], length, IfOk, IfErr, Option};
+    ghost use Rattle.std.specs.Prelude.{List, ℕ, ◌≡◌, ◌≢◌, ◌∷◌, [], length, IfOk, IfErr, Option};
     ghost use Rattle.yuv_words.specs.Commands.{is_csv, is_json, times, SaysOptions, SaysValue};
-    ghost use Rattle.yuv_words.specs.Faults.{HasNoPixels, HasValueFault, IsNoValue, SpellsNone};
+    ghost use Rattle.yuv_words.specs.Faults.{HasValueFault, IsNoValue, SpellsNone};
     ghost use Rattle.yuv_words.specs.Reading.{given_to, text_in};
-    ghost use Rattle.yuv_words.specs.Values.{IsRaw, IsRectangle, SpellsRaw, SpellsRectangle};
     ghost use Rattle.yuv_words.specs.declared.command.Options.{Options as TheOptions};
-    ghost use Rattle.yuv_words.specs.declared.command.RawVideo.{RawVideo as TheRaw};
-    ghost use Rattle.v_frame_formats.specs.declared.rectangle.Rectangle.{Rectangle as TheRectangle};
     ghost use Rattle.yuv_reports.specs.declared.comparison.ReportForm.{ReportForm as TheForm};
     ghost use Rattle.yuv_words.specs.declared.option_name.OptionName.{OptionName as TheOption};
 
@@ -78,50 +74,6 @@ impl<'a> Given<'a> {
         }
     }
 
-    /// Returns the value of an option that takes a rectangle.
-    pub(crate) fn rectangle(&self, option: OptionName) -> Result<Option<Rectangle>, UsageError<'a>>
-        requires none { (text : List ℕ) → SpellsNone SpellsRectangle text → IsNoValue option text }
-        requires empty { (text : List ℕ) (r : TheRectangle) → SpellsRectangle r text
-            → (r.width ≡ 0) ⊎ (r.height ≡ 0) → HasNoPixels option text }
-        ensures said { IfOk result (λ v. SaysValue IsRectangle v (given_to self.now option)) }
-        ensures refused { IfErr result (λ _. (v : Option TheRectangle)
-            → ¬ (SaysValue IsRectangle v (given_to self.now option))) }
-        ensures fault { IfErr result (HasValueFault (given_to self.now)) }
-    {
-        let Some(word) = self.text(option) else {
-            return Ok(None);
-        };
-        let Some(value) = values::rectangle(word) else {
-            return Err(UsageError::NotAValue { option, word });
-        };
-        if lacks_pixels(value.width, value.height) {
-            return Err(UsageError::NoPixels { option, word });
-        }
-        Ok(Some(value))
-    }
-
-    /// Returns the value of an option that takes what raw video is.
-    pub(crate) fn raw_video(&self, option: OptionName) -> Result<Option<RawVideo>, UsageError<'a>>
-        requires none { (text : List ℕ) → SpellsNone SpellsRaw text → IsNoValue option text }
-        requires empty { (text : List ℕ) (r : TheRaw) → SpellsRaw r text
-            → (r.width ≡ 0) ⊎ (r.height ≡ 0) → HasNoPixels option text }
-        ensures said { IfOk result (λ v. SaysValue IsRaw v (given_to self.now option)) }
-        ensures refused { IfErr result (λ _. (v : Option TheRaw)
-            → ¬ (SaysValue IsRaw v (given_to self.now option))) }
-        ensures fault { IfErr result (HasValueFault (given_to self.now)) }
-    {
-        let Some(word) = self.text(option) else {
-            return Ok(None);
-        };
-        let Some(value) = values::raw_video(word) else {
-            return Err(UsageError::NotAValue { option, word });
-        };
-        if lacks_pixels(value.width, value.height) {
-            return Err(UsageError::NoPixels { option, word });
-        }
-        Ok(Some(value))
-    }
-
     /// Returns the options of a call.
     pub(crate) fn options(&self) -> Result<Options, UsageError<'a>>
         ensures said { IfOk result (SaysOptions (given_to self.now)) }
@@ -146,13 +98,13 @@ impl<'a> Given<'a> {
             matrix: self.value(OptionName::Matrix)?,
             range: self.value(OptionName::Range)?,
             plane: self.value(OptionName::Plane)?,
-            crop: self.rectangle(OptionName::Crop)?,
+            crop: self.value(OptionName::Crop)?,
             gain: self.value(OptionName::Gain)?,
             format: self.value(OptionName::Format)?,
             rate: self.value(OptionName::Rate)?,
             aspect: self.value(OptionName::Aspect)?,
-            raw: self.raw_video(OptionName::Raw)?,
-            raw_second: self.raw_video(OptionName::RawSecond)?,
+            raw: self.value(OptionName::Raw)?,
+            raw_second: self.value(OptionName::RawSecond)?,
             max_pixels: self.value(OptionName::MaxPixels)?,
         })
     }
@@ -173,11 +125,4 @@ impl<'a> Given<'a> {
             (true, true) => Err(UsageError::TwoForms),
         }
     }
-}
-
-/// Returns whether a width or a height is 0.
-fn lacks_pixels(width: usize, height: usize) -> bool
-    ensures { IsTrue result ↔ ((width ≡ 0) ⊎ (height ≡ 0)) }
-{
-    width == 0 || height == 0
 }

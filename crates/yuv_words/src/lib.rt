@@ -6,6 +6,7 @@ mod command;
 mod error;
 mod files;
 mod given;
+mod option_help;
 mod option_name;
 mod reading;
 mod usage;

@@ -1,11 +1,16 @@
-//! The names of options and of commands, what an option takes, and which command has which.
+//! The names of options and of commands, what an option takes, and how many files and which options a command has.
 ghost use Rattle.std.specs.Prelude.{◌≡◌, ◌≢◌, ◌<◌, ◌↔◌, is_some, Contains, IsTrue, MatchOption};
-ghost use Rattle.yuv_words.specs.Names.{command_text, option_text, options_of, takes_value as has_value};
+ghost use Rattle.yuv_words.specs.Names.{command_text, file_count as count_of_files, option_text, options_of, takes_value as has_value};
 ghost use Rattle.yuv_words.specs.Reading.{option_place};
 ghost use Rattle.yuv_words.specs.declared.command.CommandName.{CommandName as TheCommand};
 ghost use Rattle.yuv_words.specs.declared.option_name.OptionName.{OptionName as TheOption};
 
 use crate::command::CommandName;
+use crate::option_help::{
+    ASPECT, COUNT, CROP, CSV, EXACT, FORMAT, FRAME, FRAMES, GAIN, HALF, HEADER, HISTOGRAM, JSON,
+    MATRIX, MAX_PIXELS, PLANE, PLANES, PROGRESS, RANGE, RATE, RAW, RAW_OUTPUT, RAW_SECOND, SKIP,
+    SKIP_SECOND, SSIM,
+};
 use crate::option_name::OptionName::{
     Aspect, Count, Crop, Csv, Exact, Format, Frame, Frames, Gain, Half, Header, Histogram, Json,
     Matrix, MaxPixels, Plane, Planes, Progress, Range, Rate, Raw, RawOutput, RawSecond, Skip,
@@ -66,38 +71,47 @@ const COMMANDS: [CommandName; 8] = [
 ];
 
 impl OptionName {
-    /// Returns the word that the option is written as, with its dashes, and what it takes, where it takes a value.
-    fn row(self) -> (&'static str, Option<&'static str>)
+    /// Returns the word that the option is written as, with its dashes, what it takes, where it takes a value, and what help says
+    /// of it.
+    fn row(self) -> (&'static str, Option<&'static str>, &'static str)
         ensures text { result.0.now ≡ option_text self }
         ensures value { is_some result.1 ≡ has_value self }
     {
         match self {
-            Header => ("--header", None),
-            Ssim => ("--ssim", None),
-            Frames => ("--frames", None),
-            Exact => ("--exact", None),
-            Csv => ("--csv", None),
-            Json => ("--json", None),
-            Half => ("--half", None),
-            Planes => ("--planes", None),
-            Histogram => ("--histogram", None),
-            RawOutput => ("--raw-output", None),
-            Progress => ("--progress", None),
-            Raw => ("--raw", Some("WIDTHxHEIGHT:FORMAT")),
-            RawSecond => ("--raw-second", Some("WIDTHxHEIGHT:FORMAT")),
-            MaxPixels => ("--max-pixels", Some("a number below 2^64")),
-            Skip => ("--skip", Some("a number below 2^64")),
-            SkipSecond => ("--skip-second", Some("a number below 2^64")),
-            Count => ("--count", Some("a number below 2^64")),
-            Crop => ("--crop", Some("X,Y,WIDTH,HEIGHT")),
-            Format => ("--format", Some("a format, as yuv420p10le or 420p10")),
-            Rate => ("--rate", Some("N:D")),
-            Aspect => ("--aspect", Some("N:D")),
-            Frame => ("--frame", Some("a number below 2^64")),
-            Matrix => ("--matrix", Some("bt601, bt709 or bt2020")),
-            Range => ("--range", Some("limited or full")),
-            Plane => ("--plane", Some("y, u or v")),
-            Gain => ("--gain", Some("a number below 65536")),
+            Header => ("--header", None, HEADER),
+            Ssim => ("--ssim", None, SSIM),
+            Frames => ("--frames", None, FRAMES),
+            Exact => ("--exact", None, EXACT),
+            Csv => ("--csv", None, CSV),
+            Json => ("--json", None, JSON),
+            Half => ("--half", None, HALF),
+            Planes => ("--planes", None, PLANES),
+            Histogram => ("--histogram", None, HISTOGRAM),
+            RawOutput => ("--raw-output", None, RAW_OUTPUT),
+            Progress => ("--progress", None, PROGRESS),
+            Raw => ("--raw", Some("WIDTHxHEIGHT:FORMAT, at least 1x1"), RAW),
+            RawSecond => (
+                "--raw-second",
+                Some("WIDTHxHEIGHT:FORMAT, at least 1x1"),
+                RAW_SECOND,
+            ),
+            MaxPixels => ("--max-pixels", Some("a number below 2^64"), MAX_PIXELS),
+            Skip => ("--skip", Some("a number below 2^64"), SKIP),
+            SkipSecond => ("--skip-second", Some("a number below 2^64"), SKIP_SECOND),
+            Count => ("--count", Some("a number below 2^64"), COUNT),
+            Crop => ("--crop", Some("X,Y,WIDTH,HEIGHT, at least 1x1"), CROP),
+            Format => (
+                "--format",
+                Some("a format, as yuv420p10le or 420p10"),
+                FORMAT,
+            ),
+            Rate => ("--rate", Some("N:D"), RATE),
+            Aspect => ("--aspect", Some("N:D"), ASPECT),
+            Frame => ("--frame", Some("a number below 2^64"), FRAME),
+            Matrix => ("--matrix", Some("bt601, bt709 or bt2020"), MATRIX),
+            Range => ("--range", Some("limited or full"), RANGE),
+            Plane => ("--plane", Some("y, u or v"), PLANE),
+            Gain => ("--gain", Some("a number below 65536"), GAIN),
         }
     }
 
@@ -111,6 +125,11 @@ impl OptionName {
     /// Returns what the option takes, in words. Empty where it takes no value.
     pub(crate) fn needs(self) -> &'static str {
         self.row().1.unwrap_or("")
+    }
+
+    /// Returns what help says of the option: lines that begin with its word.
+    pub fn help(self) -> &'static str {
+        self.row().2
     }
 
     /// Returns whether a value belongs to the option.
@@ -186,8 +205,19 @@ impl CommandName {
         word == self.text()
     }
 
-    /// Returns the options that the command has.
-    fn options(self) -> &'static [OptionName]
+    /// Returns how many files the command takes.
+    pub(crate) fn file_count(self) -> usize
+        ensures { result ≡ count_of_files self }
+    {
+        match self {
+            CommandName::Info | CommandName::Sum | CommandName::Stats => 1,
+            CommandName::Compare | CommandName::Copy | CommandName::Show => 2,
+            CommandName::Diff | CommandName::Plot => 3,
+        }
+    }
+
+    /// Returns the options that the command has, in the order in which help shows them.
+    pub fn options(self) -> &'static [OptionName]
         ensures { result.now ≡ options_of self }
     {
         match self {

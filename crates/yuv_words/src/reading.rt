@@ -98,7 +98,7 @@ impl<'a> Reading<'a> {
             return Ok(());
         }
         match word_of(word) {
-            Word::File => match self.files.with(word) {
+            Word::File => match self.files.with(command, word) {
                 Some(files) => {
                     self.files = files;
                     Ok(())

@@ -1,4 +1,4 @@
-//! How the program is called, for people.
+//! How the program and its commands are called, for people.
 
 use crate::command::CommandName;
 
@@ -37,11 +37,6 @@ const INFO: &str = "usage: yuv info FILE [OPTIONS]
 Reports what a stream is, and how many frames it has. Of a stream that breaks off
 it reports the whole frames, and then the fault, with status 2.
 
---header          reads the header alone, and counts no frames
---raw R           the file is headerless raw video: R is WIDTHxHEIGHT:FORMAT or
-                  WIDTHxHEIGHT:FORMAT@N:D, as 1920x1080:yuv420p10le@25:1
---max-pixels N    refuses frames of more than N luma pixels
---progress        shows the count of frames meanwhile, on a terminal
 ";
 
 /// How `compare` is called.
@@ -52,22 +47,6 @@ signal-to-noise ratio of all planes and of each, the first sample that differs,
 and which stream has more frames. Status 0: they show the same, 1: they differ.
 Frames have the numbers that they have in the first file.
 
---ssim            reports structural similarity too, as ffmpeg's filter ssim
-                  computes it; planes have at least 8 by 8 samples
---frames          reports each frame in a line, as ffmpeg's filter psnr does
---exact           reports the sums of squared errors too
---csv, --json     reports each frame with all digits, as a table or an object
-                  with the mean, the harmonic mean and the least of all
---skip N          passes over the first N frames of both streams
---skip-second N   passes over N frames of the second stream, and --skip of the
-                  first alone
---count N         compares N frames at most
---raw R           the first file is headerless raw video: R is
-                  WIDTHxHEIGHT:FORMAT, as 1920x1080:yuv420p10le
---raw-second R    so is the second file
---max-pixels N    refuses frames of more than N luma pixels (33177600)
---progress        shows the count of frames meanwhile, on a terminal; beside lines
-                  of frames on one the last count alone, beside --json none
 ";
 
 /// How `copy` is called.
@@ -76,32 +55,16 @@ const COPY: &str = "usage: yuv copy FILE FILE [OPTIONS]
 Writes the frames of the first file to the second. They go to a new file beside
 the second one, FILE.partial, which replaces it after the last frame, with its
 mode, owner and group. Where owner or group cannot be kept, set-ID bits are
-dropped, and a message says so. Where a run was ended by a signal, FILE.partial
-is left, with the sticky bit as a mark, and the next run takes it over. Where
-another run holds it, or it has no mark, FILE.partial1 to 99 are tried; names
-above 255 bytes are cut. Where no file can be made beside FILE, a message says
-so, and FILE is rewritten. Where it cannot be replaced, as a file that is mounted,
-the new one is copied into it. A device, a pipe, or what is itself open, as
-/dev/fd/3, is written as it is: standard output from where it stands, other open
-files at their end, by a position of their own. Parameters of FRAME lines are not
-kept.
+dropped, and a message says so. Where a run was ended by a signal, FILE.partial is
+left, with the sticky bit as a mark, and the next run takes it over. Where another
+run holds it, this one reads it, or it has no mark, FILE.partial1 to 99 are tried;
+names above 255 bytes are cut. Where no file can be made beside FILE, a message
+says so, and FILE is rewritten. Where it cannot be replaced, as a file that is
+mounted, the new one is copied into it, and stays where that fails. A device, a
+pipe, or what is itself open, as /dev/fd/3, is written as it is: standard output
+from where it stands, other open files at their end, by a position of their own.
+Parameters of FRAME lines are not kept.
 
---skip N          passes over the first N frames
---count N         writes N frames at most
---crop X,Y,WIDTH,HEIGHT
-                  takes a rectangle of each frame, in luma pixels
---half            writes frames of half the size, rounded up: the mean of two by
-                  two samples, where an odd last column or row counts twice
---format F        writes another chroma subsampling, depth or layout, as
-                  yuv420p10le, 420p10, gray, mono, nv12 or p010le
---rate N:D        the frames per second in the header
---aspect N:D      the width of a pixel beside its height in the header
---raw R           the first file is headerless raw video: R is
-                  WIDTHxHEIGHT:FORMAT or WIDTHxHEIGHT:FORMAT@N:D
---raw-output      writes headerless raw video
---max-pixels N    refuses frames of more than N luma pixels (33177600 where
-                  samples change, else any number)
---progress        shows the count of frames meanwhile, on a terminal
 ";
 
 /// How `sum` is called.
@@ -110,13 +73,6 @@ const SUM: &str = "usage: yuv sum FILE [OPTIONS]
 Reports the CRC-32 of the samples of each frame as zlib and ffmpeg's framehash
 compute it, samples of more than 8 bits as two bytes, the low one first.
 
---planes          reports one of each plane in place of the frame
---skip N          passes over the first N frames
---count N         takes N frames at most
---raw R           the file is headerless raw video: R is WIDTHxHEIGHT:FORMAT
---max-pixels N    refuses frames of more than N luma pixels (33177600)
---progress        shows the count of frames meanwhile, on a terminal; where the
-                  lines go to one too, the last count alone
 ";
 
 /// How `stats` is called.
@@ -126,12 +82,6 @@ Reports the least and the greatest value of each plane over all frames, the mean
 and how many samples are outside the nominal range: 16 to 235 for luma and 16 to
 240 for chroma at 8 bits, and in proportion at others.
 
---histogram       reports how often each value occurs, as a table with commas
---skip N          passes over the first N frames
---count N         takes N frames at most
---raw R           the file is headerless raw video: R is WIDTHxHEIGHT:FORMAT
---max-pixels N    refuses frames of more than N luma pixels (33177600)
---progress        shows the count of frames meanwhile, on a terminal
 ";
 
 /// How `show` is called.
@@ -139,14 +89,6 @@ const SHOW: &str = "usage: yuv show FILE PICTURE [OPTIONS]
 
 Writes a frame as a PNG: in color with 8 bits, or in gray.
 
---frame N         which frame, counted from 1 (1)
---matrix M        the standard of the colors: bt601, bt709 or bt2020 (bt709)
---range R         the range of the samples: limited or full (limited)
---plane P         shows one plane in gray: y, u or v
---crop X,Y,WIDTH,HEIGHT
-                  shows a rectangle, in luma pixels
---raw R           the file is headerless raw video: R is WIDTHxHEIGHT:FORMAT
---max-pixels N    refuses frames of more than N luma pixels (33177600)
 ";
 
 /// How `diff` is called.
@@ -156,12 +98,6 @@ Writes the difference of the luma of two frames as a PNG in gray, black where
 they show the same, and reports where planes differ, on standard error where the
 picture goes to standard output. Status 0: they show the same, 1: they differ.
 
---frame N         which frame, counted from 1 (1)
---gain N          multiplies each difference by N (8)
---raw R           the first file is headerless raw video: R is
-                  WIDTHxHEIGHT:FORMAT
---raw-second R    so is the second file
---max-pixels N    refuses frames of more than N luma pixels (33177600)
 ";
 
 /// How `plot` is called.
@@ -170,18 +106,10 @@ const PLOT: &str = "usage: yuv plot FILE FILE PICTURE [OPTIONS]
 Draws the peak signal-to-noise ratio and the structural similarity of each frame,
 plane by plane, as SVG.
 
---skip N          passes over the first N frames of both streams
---skip-second N   passes over N frames of the second stream, and --skip of the
-                  first alone
---count N         compares N frames at most
---raw R           the first file is headerless raw video: R is
-                  WIDTHxHEIGHT:FORMAT
---raw-second R    so is the second file
---max-pixels N    refuses frames of more than N luma pixels (33177600)
---progress        shows the count of frames meanwhile, on a terminal
 ";
 
-/// Returns how the program is called, or one of its commands.
+/// Returns how the program is called, or one of its commands, without what its options do: [`CommandName::options`] has these, and
+/// [`OptionName::help`](crate::OptionName::help) says what each does.
 pub fn usage_text(topic: Option<CommandName>) -> &'static str {
     match topic {
         None => ALL,

@@ -1,9 +1,9 @@
 //! The values of options, each from its text.
-ghost use Rattle.std.specs.Prelude.{List, ℕ, ◌≡◌, ◌≢◌, ◌↔◌, ◌^◌, ◌<◌, ◌∷◌, ◌++◌, decimal, length, slice_index, IsTrue, MatchOption, Option};
+ghost use Rattle.std.specs.Prelude.{List, ℕ, ◌≡◌, ◌≢◌, ◌⊎◌, ◌↔◌, ◌^◌, ◌<◌, ◌∷◌, ◌++◌, decimal, length, slice_index, IsTrue, MatchOption, Option};
 ghost use Rattle.std.specs.Int.{IsInRange};
 ghost use Rattle.v_frame_y4m.specs.declared.header.Ratio.{Ratio as TheRatio};
 ghost use Rattle.v_frame_formats.specs.Formats.{IsFormat};
-ghost use Rattle.yuv_words.specs.Values.{IsColorRange, IsGain, IsMatrix, IsNumber, IsPlane, IsRatio, SpellsFormat, SpellsRaw, SpellsRectangle};
+ghost use Rattle.yuv_words.specs.Values.{IsColorRange, IsGain, IsMatrix, IsNumber, IsPlane, IsRatio, IsRaw, IsRectangle, SpellsFormat, SpellsRaw, SpellsRectangle};
 ghost use Rattle.yuv_words.specs.declared.command.RawVideo.{RawVideo as TheRaw};
 ghost use Rattle.v_frame_formats.specs.declared.rectangle.Rectangle.{Rectangle as TheRectangle};
 ghost use Rattle.v_frame_formats.specs.declared.format.VideoFormat.{VideoFormat as TheFormat};
@@ -98,8 +98,27 @@ impl OptionValue for Ratio {
     }
 }
 
+impl OptionValue for Rectangle {
+    ghost Spells = { IsRectangle };
+
+    fn spelled(text: &str) -> Option<Rectangle> {
+        let value = rectangle(text)?;
+        if lacks_pixels(value.width, value.height) {
+            return None;
+        }
+        Some(value)
+    }
+}
+
+/// Returns whether a width or a height is 0.
+fn lacks_pixels(width: usize, height: usize) -> bool
+    ensures { IsTrue result ↔ ((width ≡ 0) ⊎ (height ≡ 0)) }
+{
+    width == 0 || height == 0
+}
+
 /// Returns the rectangle of four numbers with commas between.
-pub(crate) fn rectangle(text: &str) -> Option<Rectangle>
+fn rectangle(text: &str) -> Option<Rectangle>
     ensures { MatchOption result ((r : TheRectangle) → ¬ (SpellsRectangle r text.now))
         (λ r. SpellsRectangle r text.now) }
 {
@@ -115,8 +134,20 @@ pub(crate) fn rectangle(text: &str) -> Option<Rectangle>
     })
 }
 
+impl OptionValue for RawVideo {
+    ghost Spells = { IsRaw };
+
+    fn spelled(text: &str) -> Option<RawVideo> {
+        let value = raw_video(text)?;
+        if lacks_pixels(value.width, value.height) {
+            return None;
+        }
+        Some(value)
+    }
+}
+
 /// Returns the size, the format and the rate of headerless raw video.
-pub(crate) fn raw_video(text: &str) -> Option<RawVideo>
+fn raw_video(text: &str) -> Option<RawVideo>
     ensures { MatchOption result ((raw : TheRaw) → ¬ (SpellsRaw raw text.now))
         (λ raw. SpellsRaw raw text.now) }
 {

@@ -1,4 +1,4 @@
-//! What calls ask for: the kept calls, and what is kept of each.
+//! What calls ask for.
 
 use crate::generated::yuv_reports::ReportForm;
 use crate::generated::yuv_words::{
@@ -7,33 +7,30 @@ use crate::generated::yuv_words::{
 use v_frame_proved::formats::Rectangle;
 use v_frame_proved::y4m::Ratio;
 
-const CALLS: &str = include_str!("../../../../crates/test_yuv_words/stdin");
-const ANSWERS: &str = include_str!("../../../../crates/test_yuv_words/stdout");
+/// Calls, each behind `$ yuv `, and what each asks for, or why it asks for nothing.
+const CALLS: &str = include_str!("words.txt");
 
 #[test]
-fn kept_calls_ask_for_what_they_should() {
-    let mut left = ANSWERS;
-    for line in CALLS.lines() {
+fn calls_ask_for_what_they_should() {
+    let mut calls = CALLS.split("$ yuv ");
+    assert_eq!(calls.next(), Some(""));
+    for (line, wanted) in calls.map(|call| call.split_once('\n').expect("a line")) {
         let words: Vec<&str> = line.split_whitespace().collect();
         let told = match read_command(&words) {
             Ok(command) => told_of(&command),
             Err(error) => format!("{error}\n"),
         };
-        let wanted = &left[..left[1..].find("\n$ yuv ").map_or(left.len(), |end| end + 2)];
-        assert_eq!(format!("$ yuv {line}\n{told}"), wanted);
-        left = &left[wanted.len()..];
+        assert_eq!(told, wanted, "{line}");
     }
-    assert_eq!(left, "");
 }
 
 #[test]
 fn help_has_the_options_that_are_taken() {
     let names = ["info", "compare", "copy", "sum", "stats", "show", "diff", "plot"];
     let shown = names.map(|name| {
-        let Ok(Command::Help(topic)) = read_command(&["help", name]) else { panic!("{name}") };
-        let lines = usage_text(topic).lines().filter(|line| line.starts_with("--"));
-        let heads = lines.map(|line| line.split("  ").next().unwrap_or(line));
-        heads.flat_map(|head| head.split([' ', ','])).filter(|word| word.starts_with("--")).collect::<Vec<_>>()
+        let Ok(Command::Help(Some(topic))) = read_command(&["help", name]) else { panic!("{name}") };
+        let words = topic.options().iter().map(|option| option.help().split(' ').next().unwrap_or_default());
+        words.collect::<Vec<_>>()
     });
     for (name, own) in names.iter().zip(&shown) {
         for option in shown.iter().flatten() {
@@ -46,7 +43,8 @@ fn help_has_the_options_that_are_taken() {
 /// Of files too many the first is told.
 #[test]
 fn the_first_file_too_many_is_told() {
-    for (line, extra) in [("info a b", "b"), ("sum a b c", "b"), ("stats a b c", "b"), ("copy a b c", "c"), ("plot a b c d", "d")] {
+    for (line, extra) in [("info a b", "b"), ("sum a b c", "b"), ("stats a b c", "b"), ("copy a b c", "c"), ("plot a b c d", "d"),
+        ("info a b c d", "b"), ("stats a --count 1 b c d e", "b"), ("sum a -- b c d", "b"), ("show -- a b c d", "c"), ("copy a b -- c", "c")] {
         let words: Vec<&str> = line.split(' ').collect();
         let Err(error) = read_command(&words) else { panic!("{line}") };
         assert_eq!(error.to_string(), format!("one file too many: {extra}"), "{line}");
@@ -56,7 +54,11 @@ fn the_first_file_too_many_is_told() {
 /// Returns a line for what a command is, and one for each option that is given.
 fn told_of(command: &Command<'_>) -> String {
     let Call { name, first, second, third, options } = match command {
-        Command::Help(topic) => return usage_text(*topic).to_string(),
+        Command::Help(topic) => {
+            let options = topic.map_or(&[][..], |command| command.options());
+            let texts = options.iter().map(|option| option.help());
+            return usage_text(*topic).to_string() + &texts.collect::<String>();
+        }
         Command::Version => return "version\n".to_string(),
         Command::Call(call) => call,
     };

@@ -1,6 +1,10 @@
 -- One more block of the frame was read.
-use Rattle.std.proofs.Common.{◌≡◌, ◌≤◌, ◌++◌, ◌∙◌, drop, length, length-append, length-drop, length-take-le, arith}
+use Rattle.std.proofs.Common.{ℕ, ◌≡◌, ◌≤◌, ◌+◌, ◌++◌, ◌∙◌, drop, length, length-append, length-drop, length-take-le, arith, subst}
 use Rattle.std.proofs.KnownBytes.{Consumes-trans}
+use Rattle.std.proofs.lemmas.Result.{err_from_is_err_and}
+use Rattle.v_frame_streams.specs.Errors.{StopsInside}
+use Rattle.v_frame_streams.specs.Sources.{unread_of, Stream}
+use Rattle.v_frame_streams.proofs.Breaking.{stops_behind}
 use Rattle.v_frame_streams.proofs.passing.skip_rest.Goals as goal
 
 pub loop-done-preserved : goal.loop-done-preserved
@@ -25,3 +29,18 @@ loop-done-preserved g c =
       frames = done.frames ∙ before.frames;
       size = length-append part (drop count block) ∙ omega (arith, long, length-drop count block, fits, before.size);
     }
+
+-- the stream ended, or a read failed, behind what was read before
+pub returns-in_err-read_part-clause-problem : goal.returns-in_err-read_part-clause-problem
+returns-in_err-read_part-clause-problem g c =
+    let start = unread_of g.R.Read.remaining c.args.source.now in
+    let mid = unread_of g.R.Read.remaining c.loop-done.source in
+    let left = unread_of g.R.Read.remaining c.read_part.new.self in
+    let before = c.loop-done.invariant in
+    let problem = c.in_err-read_part.field-0.0.problem in
+    let stops = subst (λ (s : Stream). StopsInside c.loop-done.done mid left s.frame_len problem) before.same
+    c.in_err-read_part.ensures.problem in
+    let long : c.loop-done.done ≡ c.args.before + length before.read.0 = omega (arith, before.read.2, before.from) in
+    let p = err_from_is_err_and c.from_residual.result c.from_residual.ensures.1 in
+    rw (p.1, p.2) (stops_behind start left _ mid before.uncounted c.args.before before.read.0 before.read.1 problem
+    (subst (λ (n : ℕ). StopsInside n mid left c.args.source.now.frame_len problem) long stops))

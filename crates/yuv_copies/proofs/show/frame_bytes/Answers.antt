@@ -23,5 +23,5 @@ returns-clause-taken g c =
     found) c.one_frame-taken.ensures at_raw in
     frame_taken from count left rest c.args.options.now source.header source.layout before found has now
     c.into_inner.result.items c.in_ok-before.ensures.before
-    (ap (λ s. Some s.writer.inner.items) c.new-sink.ensures ∙ ap (λ items. Some items) c.new.ensures.items)
+    (ap (λ s. Some s.writer.inner.items) c.new-sink.ensures ∙ ap (λ items. Some items) c.in-Ok.ensures.items)
     (ap (λ v. Some v.items) (sym c.into_inner.ensures)) c.if-found-eq0.false copied

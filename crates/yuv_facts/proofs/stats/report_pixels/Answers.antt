@@ -9,7 +9,7 @@ use Rattle.yuv_facts.proofs.stats.report_pixels.Goals as goal
 pub returns : goal.returns
 returns g c =
     let depth = c.bit_depth-depth.ensures ∙ ap (λ (h : StreamHeader). depth_of h.color) c.header.ensures in
-    let both = made_and_written c.report_text-text.result _ _ c.in_ok-write_made.ensures c.report_text-text.ensures in
+    let both = made_and_written c.report_text-text.result _ _ c.in_ok-write_made.ensures.made c.report_text-text.ensures in
     record {
       found = c.in_ok-counts.counts;
       counted = c.in_ok-counts.ensures;

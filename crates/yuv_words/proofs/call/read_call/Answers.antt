@@ -1,6 +1,6 @@
 -- What was read is the call.
 use Rattle.std.proofs.Common.{subst, ap, ◌∙◌, ◌++◌, List, ℕ}
-use Rattle.std.proofs.lemmas.Result.{err_from_is_err_and, IfOk-weaker}
+use Rattle.std.proofs.lemmas.Result.{err_from_is_err_and, IfErr-weaker, IfOk-weaker}
 use Rattle.yuv_words.specs.Calls.{IsCall}
 use Rattle.yuv_words.specs.Commands.{Says}
 use Rattle.yuv_words.specs.Faults.{HasFault, HasFileFault, HasLateFile, HasValueFault, HasWordFault}
@@ -8,7 +8,7 @@ use Rattle.yuv_words.specs.Names.{file_count}
 use Rattle.yuv_words.specs.Reading.{file_names, given_to, IsRead}
 use Rattle.yuv_words.specs.Words.{texts_of}
 use Rattle.yuv_words.specs.declared.command.Command.{Command}
-use Rattle.yuv_words.proofs.Callings.{call_fault, call_refused, call_said, err_weaker, late_file}
+use Rattle.yuv_words.proofs.Callings.{call_fault, call_refused, call_said, late_file}
 use Rattle.yuv_words.proofs.Refusals.{word_refused}
 use Rattle.std.specs.Prelude.{◌⊎◌}
 use Rattle.yuv_words.proofs.call.read_call.Goals as goal
@@ -48,7 +48,7 @@ returns-clause-refused c =
     c.cut_at_end.ensures.before c.in_ok-reading.ensures.read in
     let all = c.in_ok-files.ensures.all ∙ ap (λ (late : List (List ℕ)). file_names c.in_ok-reading.reading.files ++ late)
     c.cut_at_end.ensures.after in
-    err_weaker c.command_of.result
+    IfErr-weaker c.command_of.result
     (λ _. (command : Command)
     → ¬ (Says (given_to c.in_ok-reading.reading.given) c.args.name command (file_names c.in_ok-files.files)))
     (λ _. (command : Command) → ¬ (IsCall c.args.name command (texts_of c.args.words.now)))
@@ -61,7 +61,7 @@ returns-clause-fault c =
     c.cut_at_end.ensures.before c.in_ok-reading.ensures.read in
     let all = c.in_ok-files.ensures.all ∙ ap (λ (late : List (List ℕ)). file_names c.in_ok-reading.reading.files ++ late)
     c.cut_at_end.ensures.after in
-    err_weaker c.command_of.result
+    IfErr-weaker c.command_of.result
     (λ error. HasFileFault (file_count c.args.name) (file_names c.in_ok-files.files) error
     ⊎ HasValueFault (given_to c.in_ok-reading.reading.given) error)
     (HasFault c.args.name (texts_of c.args.words.now))

@@ -40,18 +40,11 @@ pub enum UsageError<'a> {
         /// The word.
         word: &'a str,
     },
-    /// The word behind the option has a width or a height of 0.
-    NoPixels {
-        /// The option.
-        option: OptionName,
-        /// The word.
-        word: &'a str,
-    },
     /// `--csv` and `--json` stand there both.
     TwoForms,
     /// There are fewer files than the command takes.
     MissingFile,
-    /// There are more files than the command takes, and this is one of those too many.
+    /// There are more files than the command takes, and this is the first too many.
     ExtraFile(&'a str),
     /// An argument is not UTF-8, so that no word of it is known. [`read_command`](crate::generated::yuv_words::read_command) takes words, and
     /// never answers this.
@@ -90,9 +83,6 @@ impl UsageError<'_> {
             }
             UsageError::NotAValue { option, word } => {
                 write!(f, "{} needs {}, not {word}", option.text(), option.needs())
-            }
-            UsageError::NoPixels { option, word } => {
-                write!(f, "{} {word} has a size of 0", option.text())
             }
             _ => Ok(()),
         }

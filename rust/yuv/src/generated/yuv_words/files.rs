@@ -14,8 +14,21 @@ pub(crate) enum Files<'a> {
 }
 
 impl<'a> Files<'a> {
-    /// Returns these files and one more behind them. `None` where there are three.
-    pub(crate) fn with(&self, name: &'a str) -> Option<Files<'a>> {
+    /// Returns how many files there are.
+    fn count(&self) -> usize {
+        match self {
+            Files::Zero => 0,
+            Files::One(_) => 1,
+            Files::Two(_, _) => 2,
+            Files::Three(_, _, _) => 3,
+        }
+    }
+
+    /// Returns these files and one more behind them. `None` where the command takes no more.
+    pub(crate) fn with(&self, command: CommandName, name: &'a str) -> Option<Files<'a>> {
+        if self.count() >= command.file_count() {
+            return None;
+        }
         match *self {
             Files::Zero => Some(Files::One(name)),
             Files::One(first) => Some(Files::Two(first, name)),
@@ -24,15 +37,15 @@ impl<'a> Files<'a> {
         }
     }
 
-    /// Returns these files and more behind them, where no command takes fewer.
+    /// Returns these files and more behind them.
     pub(crate) fn with_all(
         &self,
-        _command: CommandName,
+        command: CommandName,
         names: &[&'a str],
     ) -> Result<Files<'a>, UsageError<'a>> {
         let mut files = *self;
         for &name in names {
-            match files.with(name) {
+            match files.with(command, name) {
                 Some(more) => files = more,
                 None => return Err(UsageError::ExtraFile(name)),
             }
@@ -45,43 +58,14 @@ impl<'a> Files<'a> {
         &self,
         command: CommandName,
     ) -> Result<(&'a str, &'a str, &'a str), UsageError<'a>> {
-        match command {
-            CommandName::Info | CommandName::Sum | CommandName::Stats => {
-                let first = self.one()?;
-                Ok((first, "", ""))
-            }
-            CommandName::Compare | CommandName::Copy | CommandName::Show => {
-                let (first, second) = self.two()?;
-                Ok((first, second, ""))
-            }
-            CommandName::Diff | CommandName::Plot => self.three(),
+        if self.count() < command.file_count() {
+            return Err(UsageError::MissingFile);
         }
-    }
-
-    /// Returns the one file.
-    fn one(&self) -> Result<&'a str, UsageError<'a>> {
         match *self {
-            Files::Zero => Err(UsageError::MissingFile),
-            Files::One(file) => Ok(file),
-            Files::Two(_, extra) => Err(UsageError::ExtraFile(extra)),
-            Files::Three(_, extra, _) => Err(UsageError::ExtraFile(extra)),
-        }
-    }
-
-    /// Returns the two files.
-    fn two(&self) -> Result<(&'a str, &'a str), UsageError<'a>> {
-        match *self {
-            Files::Zero | Files::One(_) => Err(UsageError::MissingFile),
-            Files::Two(first, second) => Ok((first, second)),
-            Files::Three(_, _, extra) => Err(UsageError::ExtraFile(extra)),
-        }
-    }
-
-    /// Returns the three files.
-    fn three(&self) -> Result<(&'a str, &'a str, &'a str), UsageError<'a>> {
-        match *self {
+            Files::Zero => Ok(("", "", "")),
+            Files::One(first) => Ok((first, "", "")),
+            Files::Two(first, second) => Ok((first, second, "")),
             Files::Three(first, second, third) => Ok((first, second, third)),
-            _ => Err(UsageError::MissingFile),
         }
     }
 }

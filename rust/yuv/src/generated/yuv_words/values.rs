@@ -70,8 +70,23 @@ impl OptionValue for Ratio {
     }
 }
 
+impl OptionValue for Rectangle {
+    fn spelled(text: &str) -> Option<Rectangle> {
+        let value = rectangle(text)?;
+        if lacks_pixels(value.width, value.height) {
+            return None;
+        }
+        Some(value)
+    }
+}
+
+/// Returns whether a width or a height is 0.
+fn lacks_pixels(width: usize, height: usize) -> bool {
+    width == 0 || height == 0
+}
+
 /// Returns the rectangle of four numbers with commas between.
-pub(crate) fn rectangle(text: &str) -> Option<Rectangle> {
+fn rectangle(text: &str) -> Option<Rectangle> {
     let (x, rest) = number_before(text, ',')?;
     let (y, rest) = number_before(rest, ',')?;
     let (width, rest) = number_before(rest, ',')?;
@@ -84,8 +99,18 @@ pub(crate) fn rectangle(text: &str) -> Option<Rectangle> {
     })
 }
 
+impl OptionValue for RawVideo {
+    fn spelled(text: &str) -> Option<RawVideo> {
+        let value = raw_video(text)?;
+        if lacks_pixels(value.width, value.height) {
+            return None;
+        }
+        Some(value)
+    }
+}
+
 /// Returns the size, the format and the rate of headerless raw video.
-pub(crate) fn raw_video(text: &str) -> Option<RawVideo> {
+fn raw_video(text: &str) -> Option<RawVideo> {
     let (width, rest) = number_before(text, 'x')?;
     let (height, rest) = number_before(rest, ':')?;
     let (format, rate) = format_and_rate(rest)?;

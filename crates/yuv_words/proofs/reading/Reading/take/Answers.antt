@@ -11,7 +11,7 @@ returns-in-Some-clause-read c = λ words read.
 
 pub returns-in-Some-with-clause-read : goal.returns-in-Some-with-clause-read
 returns-in-Some-with-clause-read c = λ words read.
-    file_read _ words _ _ _ c.in-File.ensures c.in-Some-with.ensures.some refl c.in_default.is c.in_default.is read
+    file_read _ words _ _ _ c.in-File.ensures c.in-Some-with.ensures.some c.in-Some-with.ensures.room refl c.in_default.is c.in_default.is read
 
 pub returns-in_err-admit-in-Option-clause-fault : goal.returns-in_err-admit-in-Option-clause-fault
 returns-in_err-admit-in-Option-clause-fault c =
