@@ -49,6 +49,7 @@ CASES_OF_CALLS = {
     "v_frame_streams::Source::y4m": ["stream_with_a_header"],
     "v_frame_streams::compare_streams": ["compared_streams"],
     "v_frame_streams::copy_stream": ["copied_stream"],
+    "v_frame_streams::crop_frame": ["crop_of_a_frame"],
     "v_frame_tool_run::run": ["run_into_a_fixed_slice"],
     "v_frame_y4m::Ratio::text": ["text_of_a_ratio"],
     "v_frame_y4m::StreamHeader::frame": ["frame_of_a_header"],

@@ -4,7 +4,7 @@ use crate::pictures;
 use crate::show::show;
 use v_frame_streams::{
     CompareOptions, Container, CopyOptions, MAX_PIXELS, NoObserver, Picture, Place, Rectangle,
-    Silent, Sink, Source, StreamError, compare_streams, copy_stream,
+    Silent, Sink, Source, StreamError, compare_streams, copy_stream, crop_frame,
 };
 use v_frame_y4m::{Color, StreamHeader};
 
@@ -14,6 +14,14 @@ static STREAM: [u8; 23] = *b"YUV4MPEG2 W30 H2 Cmono\n";
 /// The pixels of two frames of two by two.
 static PIXELS: [u8; 8] = *b"abcdefgh";
 
+/// The right column of such a frame.
+const PART: Rectangle = Rectangle {
+    x: 1,
+    y: 0,
+    width: 1,
+    height: 2,
+};
+
 /// Shows the case of this name, here or behind. `None` where a request of its preparation was refused.
 pub fn seen(rt: &HostRuntime, name: &str) -> Option<()> {
     match name {
@@ -22,6 +30,7 @@ pub fn seen(rt: &HostRuntime, name: &str) -> Option<()> {
         }
         "stream_without_a_header" => show_opened(rt, raw_source(rt, Place::Second)),
         "picture_of_a_stream" => show_picture(rt)?,
+        "crop_of_a_frame" => show_crop(rt)?,
         "header_of_a_sink" => show_header_written(rt)?,
         "copied_stream" => show_copy(rt)?,
         "compared_streams" => show_comparison(rt)?,
@@ -51,6 +60,18 @@ fn show_picture(rt: &HostRuntime) -> Option<()> {
     Some(())
 }
 
+/// Prints the bytes of a part of a frame, or why there is none.
+fn show_crop(rt: &HostRuntime) -> Option<()> {
+    let mut source = raw_source(rt, Place::First).ok()?;
+    let mut picture = Picture::<u8>::new(rt.alloc(), &source, MAX_PIXELS).ok()?;
+    picture.read(&mut source).ok()?;
+    match crop_frame(rt.alloc(), &picture.frame, &PART) {
+        Ok(part) => show(rt, &part.y_plane.data()),
+        Err(problem) => show(rt, &problem),
+    }
+    Some(())
+}
+
 /// Prints what is written of a header into room of a fixed length. Where memory is refused, that is nothing.
 fn show_header_written(rt: &HostRuntime) -> Option<()> {
     let header = header(rt);
@@ -72,12 +93,7 @@ fn show_copy(rt: &HostRuntime) -> Option<()> {
     let mut room = [0; 40];
     let mut sink = Sink::new(Container::Y4m, room.as_mut_slice());
     let mut options = CopyOptions::new();
-    options.crop = Some(Rectangle {
-        x: 1,
-        y: 0,
-        width: 1,
-        height: 2,
-    });
+    options.crop = Some(PART);
     let copied = copy_stream(rt.alloc(), &mut source, &mut sink, &options, &mut Silent);
     drop(sink);
     show(rt, &(copied, source.frames(), str::from_utf8(&room)));

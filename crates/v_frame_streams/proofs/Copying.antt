@@ -1,6 +1,6 @@
 -- A copy is what was passed over, and then what was carried.
 use Rattle.std.proofs.Common.{ℕ, ◌≡◌, ◌+◌, ◌≤◌, ◌<◌, List, [], ◌++◌, length, drop, take, Option, sym, ◌∙◌, ap, subst}
-use Rattle.std.proofs.Common.{append-nil, length-append, arith, inl, inr, take_all}
+use Rattle.std.proofs.Common.{append-nil, length-append, arith, inl, inr, refl, take_all}
 use Rattle.std.proofs.lemmas.Grind.{flat_map-append}
 use Rattle.std.proofs.lemmas.List.{drop_all}
 use Rattle.std.proofs.lemmas.List.Elements.{All-append}
@@ -9,15 +9,17 @@ use Rattle.std.proofs.KnownBytes.{Appends-trans, Consumes-trans}
 use lib.Seq.{drop-append_seam}
 use Rattle.v_frame_semi_planar.specs.declared.format.SemiPlanarFormat.{SemiPlanarFormat}
 use Rattle.v_frame_y4m.specs.declared.header.StreamHeader.{StreamHeader}
-use Rattle.std.proofs.Common.{Bool, true, false}
-use Rattle.std.specs.Prelude.{if◌then◌else◌}
+use Rattle.std.proofs.Common.{Bool, true, false, Result, Ok, Err}
+use Rattle.std.specs.Prelude.{if◌then◌else◌, min, OnErr}
 use Rattle.std.proofs.lemmas.Bool.{ne_eqb}
 use Rattle.v_frame.specs.Prelude.{one_byte, two_bytes, PixelForm}
 use Rattle.v_frame_y4m.specs.Color.{depth_of}
 use Rattle.v_frame_streams.specs.Conversions.{form_of}
 use Rattle.v_frame_streams.specs.Copies.{copied_header, is_plain, kept, limit_of, made_bytes, made_stream, same_bytes, Carries}
 use Rattle.v_frame_streams.specs.Copies.{Copies, CopiesBy}
-use Rattle.v_frame_streams.specs.Streams.{framed_bytes, header_bytes, CountsFrames, Framed, IsFrame, ReadsFrames}
+use Rattle.v_frame_streams.specs.Streams.{framed_bytes, header_bytes, most_frames, CountsFrames, Framed, IsFrame, ReadsFrames}
+use Rattle.v_frame_streams.specs.Breaks.{BreaksCopy}
+use Rattle.v_frame_streams.proofs.Reading.{none_read}
 use Rattle.v_frame_streams.specs.declared.options.CopyOptions.{CopyOptions}
 use Rattle.v_frame_streams.specs.declared.stream.Container.{Container}
 
@@ -41,6 +43,46 @@ module _ (from : Container) (count : ℕ) where
     read = subst (Consumes left left') (sym (flat_map-append (framed_bytes from) first second))
         (Consumes-trans left mid left' _ _ before.read after.read);
   }
+
+  -- nothing was read or written yet
+  pub none_broken : (left : Option (List ℕ)) (skip most : ℕ) (begun : ℕ × ℕ)
+      → BreaksCopy from count left skip most begun begun
+  none_broken left skip most begun = record {
+    frames = [];
+    mid = left;
+    read = none_read from count left;
+    bound = omega arith;
+    counted = inr (refl, refl);
+    written = 0;
+    also_counted = inr (refl, refl);
+    behind = inl (omega arith);
+  }
+
+  -- a copy gave up behind the frames that were passed over
+  pub skipped_and_broken : (left mid : Option (List ℕ)) (skip most : ℕ) (begun now after : ℕ × ℕ)
+      → CountsFrames left mid from count skip skip → now.0 ≡ min (begun.0 + skip) most_frames → now.1 ≡ begun.1
+      → BreaksCopy from count mid 0 most now after → BreaksCopy from count left skip most begun after
+  skipped_and_broken left mid skip most begun now after passed reached same broken =
+      let long = length-append passed.frames broken.frames in
+      record {
+        frames = passed.frames ++ broken.frames;
+        mid = broken.mid;
+        read = two_reads left mid broken.mid passed.frames broken.frames passed.read broken.read;
+        bound = omega (arith, long, passed.counted, broken.bound);
+        counted = elim broken.counted [
+          | inl more ↦ inl (omega (arith, long, passed.counted, more, reached))
+          | inr none ↦ inl (omega (arith, long, passed.counted, none.0, none.1, reached))
+        ];
+        written = broken.written;
+        also_counted = elim broken.also_counted [
+          | inl more ↦ inl (omega (arith, more, same))
+          | inr none ↦ inr (none.0, none.1 ∙ same)
+        ];
+        behind = elim broken.behind [
+          | inl all ↦ inl (omega (arith, long, passed.counted, all))
+          | inr but_one ↦ inr (omega (arith, long, passed.counted, but_one))
+        ];
+      }
 
   module _ (to : Container) (options : CopyOptions) (header : StreamHeader) (made : List ℕ → List ℕ)
       (left mid left' has now has' : Option (List ℕ)) (line : Appends has now (header_bytes to header)) where
@@ -118,3 +160,7 @@ form_of_eight depth is = sym (ap form_of is)
 
 pub form_of_more : (depth : ℕ) → (depth ≡ 8 → ⊥) → two_bytes ≡ form_of depth
 form_of_more depth other = sym (ap (λ (b : Bool). if b then one_byte else two_bytes) (ne_eqb depth 8 other))
+
+pub on_err_also : {A E : Type 0} (result : Result A E) (P Q : Type 0) → (P → Q) → OnErr result P → OnErr result Q
+on_err_also (Ok done) P Q also holds = tt
+on_err_also (Err error) P Q also holds = also holds

@@ -20,7 +20,8 @@ use Rattle.v_frame_semi_planar.specs.Format.{sample_size_of, depth_of as layout_
 use Rattle.v_frame_semi_planar.specs.declared.format.SemiPlanarFormat.{SemiPlanarFormat}
 use Rattle.v_frame_streams.specs.declared.stream.Container.{Container}
 use Rattle.v_frame_streams.specs.declared.stream.Container.TheVariants.{Y4m, Raw}
-use Rattle.v_frame_streams.specs.Copies.{copied_header, edit_of, plan_for, taken, IsTakable}
+use Rattle.v_frame_streams.specs.Copies.{copied_header, edit_of, plan_for, taken}
+use Rattle.v_frame_streams.specs.Crops.{IsTakable}
 use Rattle.v_frame_streams.specs.Edits.{beside, halved_size, ChromaFits, EditFits}
 use Rattle.v_frame_streams.specs.Pictures.{sizes_in, Sizes}
 use Rattle.v_frame_streams.specs.Plans.{CanConvert, CanLayOut, CanMake, FitsLayout, Plan}
@@ -106,10 +107,10 @@ pub edit_fits : (options : CopyOptions) (header : StreamHeader) → IsTakable (t
     → EditFits (edit_of options header) (sizes_in header) (plan_for options header None).made
 edit_fits options header takable =
     let part = taken options header in
-    let chroma = chroma_fits options.half part header.width header.height takable.some takable.across takable.down
+    let chroma = chroma_fits options.half part header.width header.height takable.some takable.inside.0 takable.inside.1
     (subsampling_of header.color) takable.aligned in
     record {
-      y = record { some = takable.some; across = takable.across; down = takable.down; wide = refl; high = refl };
+      y = record { some = takable.some; across = takable.inside.0; down = takable.inside.1; wide = refl; high = refl };
       u = chroma;
       v = chroma;
     }

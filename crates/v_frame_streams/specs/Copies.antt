@@ -1,5 +1,5 @@
 -- What a copy writes.
-use Rattle.std.specs.Prelude.{ℕ, ◌≡◌, ◌+◌, ◌%◌, ◌<◌, ◌≤◌, ◌⊎◌, ◌++◌, ◌&&◌, if◌then◌else◌, Bool, true, false, List}
+use Rattle.std.specs.Prelude.{ℕ, ◌≡◌, ◌+◌, ◌<◌, ◌≤◌, ◌⊎◌, ◌++◌, ◌&&◌, if◌then◌else◌, Bool, true, false, List}
 use Rattle.std.specs.Prelude.{[], ◌∷◌, codes, drop, filter, flat_map, is_none, length, nat_eq, not, refl, take, Option, Some, None, unwrap_or}
 use Rattle.std.specs.List.{starts_with}
 use Rattle.std.specs.Io.KnownBytes.{Appends, Consumes, IsAtEnd}
@@ -18,8 +18,6 @@ use Rattle.v_frame_streams.specs.Streams.{header_bytes, most_frames, written_byt
 use Rattle.v_frame_streams.specs.Streams.{framed_bytes, CountsFrames, IsFrame}
 use Rattle.v_frame_streams.specs.declared.edit.Edit.{Edit}
 use Rattle.v_frame_formats.specs.declared.rectangle.Rectangle.{Rectangle}
-use Rattle.v_frame_streams.specs.declared.error.Problem.{Problem}
-use Rattle.v_frame_streams.specs.declared.error.Problem.TheVariants.{EmptyCrop, CropOutside, CropMisaligned}
 use Rattle.v_frame_streams.specs.declared.options.CopyOptions.{CopyOptions}
 use Rattle.v_frame_streams.specs.declared.stream.Container.{Container}
 
@@ -40,26 +38,6 @@ or_else (Some asked) there = Some asked
 abbrev pub taken : CopyOptions → StreamHeader → Rectangle
 taken options header =
     unwrap_or options.crop (record { x = 0; y = 0; width = header.width; height = header.height })
-
--- a rectangle of pictures can be taken: it is not empty, lies inside, and begins where a chroma
--- pixel does
-pub record IsTakable (part : Rectangle) (header : StreamHeader) : Type 0 where
-  pub some : (0 < part.width) × (0 < part.height)
-  pub across : part.x + part.width ≤ header.width
-  pub down : part.y + part.height ≤ header.height
-  pub aligned : let ratio = ratio_or_one (subsampling_of header.color) in
-      (part.x % ratio.0 ≡ 0) × (part.y % ratio.1 ≡ 0)
-
--- why such a rectangle is refused: the first reason that holds
-abbrev pub RefusesCrop : Rectangle → StreamHeader → Problem → Type 0
-RefusesCrop part header EmptyCrop = (part.width ≡ 0) ⊎ (part.height ≡ 0)
-RefusesCrop part header CropOutside =
-    ¬ ((part.x + part.width ≤ header.width) × (part.y + part.height ≤ header.height))
-RefusesCrop part header (CropMisaligned columns rows) =
-    let ratio = ratio_or_one (subsampling_of header.color) in
-    (columns ≡ ratio.0) × (rows ≡ ratio.1)
-    × ¬ ((part.x % ratio.0 ≡ 0) × (part.y % ratio.1 ≡ 0))
-RefusesCrop part header _ = ⊥
 
 -- what is made of each frame, where something is
 abbrev pub edit_of : CopyOptions → StreamHeader → Edit

@@ -110,13 +110,15 @@ StopsFrame from start left count (Stream (Planar (Truncated expected found))) =
     × Consumes start.bytes left.bytes (framed_bytes from frame) × IsAtEnd left.bytes
 StopsFrame from start left count problem = FailsToRead start left problem
 
--- Frames of so many planar bytes, fewer than were asked for, were read whole and counted beside
--- those before them, and the next one was not read. The count stays at its end.
+-- Frames of so many planar bytes, fewer than were asked for, were read whole, without a failed
+-- read, and counted beside those before them, and the next one was not read. The count stays at
+-- its end.
 pub record StopsAtFrame (from : Container) (count : ℕ) (start left : Unread)
     (most before after : ℕ) (problem : Problem) : Type 0 where
   pub frames : List Framed
   pub mid : Unread
   pub read : ReadsFrames start.bytes mid.bytes from count frames
+  pub unfailed : mid.failures ≡ start.failures
   pub fewer : length frames < most
   pub counted : after ≡ min (before + length frames) most_frames
   pub stops : StopsFrame from mid left count problem

@@ -1,12 +1,15 @@
+pub mod Breaks
 pub mod Comparisons
 pub mod Conversions
 pub mod Copies
+pub mod Crops
 pub mod Edits
 pub mod Errors
 pub mod Formats
 pub mod Frames
 pub mod Layouts
 pub mod MadeFor
+pub mod Nth
 pub mod Pictures
 pub mod Plans
 pub mod Prelude

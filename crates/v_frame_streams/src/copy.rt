@@ -1,16 +1,19 @@
 //! Streams that are written once more, as they are or with other frames.
-ghost use Rattle.std.specs.Prelude.{◌≡◌, IfErr, IfOk, None, OnOk};
+ghost use Rattle.std.specs.Prelude.{◌≡◌, ◌+◌, min, true, IfErr, IfOk, None, OnErr, OnOk};
 ghost use Rattle.std.specs.Io.KnownBytes.{Appends};
 ghost use Rattle.v_frame_y4m.specs.Color.{depth_of};
 ghost use Rattle.v_frame_y4m.specs.Frames.{pixel_bytes};
 ghost use Rattle.v_frame_y4m.specs.Header.{IsWritable};
 ghost use Rattle.v_frame_streams.specs.Conversions.{form_of, layout_in};
-ghost use Rattle.v_frame_streams.specs.Copies.{copied_header, made_bytes, same_bytes, taken, Begins, Copies, CopiesBy, IsTakable};
+ghost use Rattle.v_frame_streams.specs.Breaks.{counts_of, BreaksCopy};
+ghost use Rattle.v_frame_streams.specs.Copies.{copied_header, limit_of, made_bytes, same_bytes, taken, Begins, Copies, CopiesBy};
+ghost use Rattle.v_frame_streams.specs.Crops.{IsTakable};
 ghost use Rattle.v_frame_streams.specs.Stops.{IsAtNextFrame, StopsCopy};
 ghost use Rattle.v_frame_streams.specs.Sources.{bytes_left, stream_of};
-ghost use Rattle.v_frame_streams.specs.Streams.{header_bytes};
+ghost use Rattle.v_frame_streams.specs.Streams.{header_bytes, most_frames};
 ghost use Rattle.v_frame_streams.specs.Telling.{TellsUpTo};
 
+use crate::crop::check_crop;
 use crate::editing::edit_frames;
 use crate::error::{Problem, StreamError};
 use crate::maker::Maker;
@@ -18,7 +21,7 @@ use crate::moving::move_frames;
 use crate::options::CopyOptions;
 use crate::passing::skip_frames;
 use crate::picture::Picture;
-use crate::plan::{header_of, rectangle_of, test_crop};
+use crate::plan::{header_of, rectangle_of};
 use crate::progress::{Progress, Silent};
 use crate::sink::Sink;
 use crate::source::Source;
@@ -57,6 +60,9 @@ pub fn copy_stream<R: io::Read, W: io::Write, P: Progress>(
         → layout_in options.now.format ≡ None) }
     ensures told { IfOk result (λ found. TellsUpTo P.shows found progress.old progress.new) }
     ensures stopped { IfErr result (StopsCopy source.new sink.new) }
+    ensures broken { OnErr result (BreaksCopy source.old.container source.old.frame_len
+        (bytes_left R.remaining source.old) options.now.skip (limit_of options.now)
+        (counts_of source.old sink.old) (counts_of source.new sink.new)) }
     ensures same { stream_of source.new ≡ stream_of source.old }
 {
     let header = planned_header(alloc, source, sink, options)?;
@@ -84,9 +90,7 @@ fn planned_header<R: io::Read, W: io::Write>(
     ensures writable { IfOk result (λ header. sink.now.container ≡ Container.Y4m → IsWritable header) }
     ensures stopped { IfErr result (IsAtNextFrame source.now) }
 {
-    if let Err(problem) = test_crop(&rectangle_of(options, source.header()), source.header()) {
-        return Err(source.refused(problem));
-    }
+    check_crop(source, &rectangle_of(options, source.header()))?;
     let Ok(header) = header_of(alloc, options, source.header()) else {
         return Err(source.refused(Problem::OutOfMemory));
     };
@@ -117,6 +121,9 @@ fn move_stream<R: io::Read, W: io::Write, P: Progress>(
         sink.old.container options.now header.now same_bytes) }
     ensures told { IfOk result (λ found. TellsUpTo P.shows found progress.old progress.new) }
     ensures stopped { IfErr result (StopsCopy source.new sink.new) }
+    ensures broken { OnErr result (BreaksCopy source.old.container source.old.frame_len
+        (bytes_left R.remaining source.old) options.now.skip (limit_of options.now)
+        (counts_of source.old sink.old) (counts_of source.new sink.new)) }
     ensures same { stream_of source.new ≡ stream_of source.old }
 {
     if !begin_copy(alloc, source, header, sink, options)? {
@@ -147,6 +154,9 @@ fn edit_as<S: Pixel, R: io::Read, W: io::Write, P: Progress>(
         source.old.header source.old.layout)) }
     ensures told { IfOk result (λ found. TellsUpTo P.shows found progress.old progress.new) }
     ensures stopped { IfErr result (StopsCopy source.new sink.new) }
+    ensures broken { OnErr result (BreaksCopy source.old.container source.old.frame_len
+        (bytes_left R.remaining source.old) options.now.skip (limit_of options.now)
+        (counts_of source.old sink.old) (counts_of source.new sink.new)) }
     ensures same { stream_of source.new ≡ stream_of source.old }
 {
     if header.color.bit_depth() == 8 {
@@ -177,6 +187,9 @@ fn edit_stream<S: Pixel, T: Pixel, R: io::Read, W: io::Write, P: Progress>(
         source.old.layout)) }
     ensures told { IfOk result (λ found. TellsUpTo P.shows found progress.old progress.new) }
     ensures stopped { IfErr result (StopsCopy source.new sink.new) }
+    ensures broken { OnErr result (BreaksCopy source.old.container source.old.frame_len
+        (bytes_left R.remaining source.old) options.now.skip (limit_of options.now)
+        (counts_of source.old sink.old) (counts_of source.new sink.new)) }
     ensures same { stream_of source.new ≡ stream_of source.old }
 {
     let mut picture = Picture::<S>::new(alloc, source, options.max_pixels)?;
@@ -206,8 +219,14 @@ fn begin_copy<R: io::Read, W: io::Write>(
     ensures written { OnOk result (Appends (W.contents sink.old.writer.inner)
         (W.contents sink.new.writer.inner) (header_bytes sink.old.container header.now)) }
     ensures stopped { IfErr result (StopsCopy source.new sink.new) }
+    ensures broken { OnErr result (BreaksCopy source.old.container source.old.frame_len
+        (bytes_left R.remaining source.old) options.now.skip (limit_of options.now)
+        (counts_of source.old sink.old) (counts_of source.new sink.new)) }
     ensures same { stream_of source.new ≡ stream_of source.old }
     ensures container { sink.new.container ≡ sink.old.container }
+    ensures counted { IfOk result (λ more. more ≡ true
+        → source.new.frames ≡ min (source.old.frames + options.now.skip) most_frames) }
+    ensures unwritten { sink.new.frames ≡ sink.old.frames }
 {
     sink.write_header(alloc, header)?;
     let skipped = skip_frames(source, options.skip, &mut Silent)?;

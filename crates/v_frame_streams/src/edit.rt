@@ -35,17 +35,24 @@ impl Edit {
           half = half;
         } }
     {
-        let (columns, rows) = subsample_ratio_or_one(subsampling);
         Edit {
             luma,
-            chroma: Rectangle {
-                x: luma.x / columns,
-                y: luma.y / rows,
-                width: luma.width.div_ceil(columns),
-                height: luma.height.div_ceil(rows),
-            },
+            chroma: chroma_beside(&luma, subsampling),
             half,
         }
+    }
+}
+
+/// Returns the chroma pixels beside a rectangle of luma, with those of which only a part stands beside it.
+pub(crate) fn chroma_beside(luma: &Rectangle, subsampling: ChromaSubsampling) -> Rectangle
+    ensures { result ≡ beside (ratio_or_one subsampling) luma.now }
+{
+    let (columns, rows) = subsample_ratio_or_one(subsampling);
+    Rectangle {
+        x: luma.x / columns,
+        y: luma.y / rows,
+        width: luma.width.div_ceil(columns),
+        height: luma.height.div_ceil(rows),
     }
 }
 
@@ -117,7 +124,7 @@ fn edit_plane<T: Pixel>(half: bool, part: &Rectangle, source: &Plane<T>, target:
 }
 
 /// Returns a rectangle that lies in a plane, and is not empty.
-fn part_of<'a, T: Pixel>(plane: &'a Plane<T>, part: &Rectangle) -> PlaneRef<'a, T>
+pub(crate) fn part_of<'a, T: Pixel>(plane: &'a Plane<T>, part: &Rectangle) -> PlaneRef<'a, T>
     requires wide { 0 < part.now.width }
     requires high { 0 < part.now.height }
     requires across { part.now.x + part.now.width ≤ plane.now.geometry.width }
@@ -133,7 +140,7 @@ fn part_of<'a, T: Pixel>(plane: &'a Plane<T>, part: &Rectangle) -> PlaneRef<'a, 
 }
 
 /// Shows all of one plane in another of the same size.
-fn copy_plane<T: Pixel>(source: &PlaneRef<'_, T>, target: &mut Plane<T>)
+pub(crate) fn copy_plane<T: Pixel>(source: &PlaneRef<'_, T>, target: &mut Plane<T>)
     requires wide { source.now.geometry.width ≡ target.old.geometry.width }
     requires high { source.now.geometry.height ≡ target.old.geometry.height }
     ensures shown { table_of target.new ≡ table_of source.now }

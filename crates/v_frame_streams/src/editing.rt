@@ -1,7 +1,8 @@
 //! Frames that are written changed: each is read into one picture, and what is made of it is written.
-ghost use Rattle.std.specs.Prelude.{◌≡◌, IfErr, IfOk};
+ghost use Rattle.std.specs.Prelude.{◌≡◌, IfErr, IfOk, OnErr};
 ghost use Rattle.v_frame.specs.Prelude.{tables_of};
 ghost use Rattle.v_frame_planar.specs.Planar.{sizes_of};
+ghost use Rattle.v_frame_streams.specs.Breaks.{counts_of, BreaksCopy};
 ghost use Rattle.v_frame_streams.specs.Copies.{Carries};
 ghost use Rattle.v_frame_streams.specs.MadeFor.{IsMadeFor};
 ghost use Rattle.v_frame_streams.specs.Pictures.{tables_of_bytes};
@@ -38,6 +39,9 @@ pub(crate) fn edit_frames<S: Pixel, T: Pixel, R: io::Read, W: io::Write, P: Prog
         (tables_of_bytes S.form source.old.layout (sizes_of (tables_of picture.old.frame)) bytes)) most) }
     ensures told { IfOk result (λ found. TellsUpTo P.shows found progress.old progress.new) }
     ensures stopped { IfErr result (StopsCopy source.new sink.new) }
+    ensures broken { OnErr result (BreaksCopy source.old.container source.old.frame_len
+        (bytes_left R.remaining source.old) 0 most (counts_of source.old sink.old)
+        (counts_of source.new sink.new)) }
     ensures same { stream_of source.new ≡ stream_of source.old }
 {
     for count in 0..most {

@@ -1,5 +1,5 @@
 //! What is made of each frame before it is written: a part of it, at full or half size, and that in another format.
-ghost use Rattle.std.specs.Prelude.{◌≡◌, if◌then◌else◌, option_map, IfErr, IfOk, None, OnOk, Some};
+ghost use Rattle.std.specs.Prelude.{◌≡◌, if◌then◌else◌, option_map, true, IfErr, IfOk, None, OnErr, OnOk, Some};
 ghost use Rattle.std.specs.Io.KnownBytes.{Appends};
 ghost use Rattle.v_frame.specs.Prelude.{tables_of};
 ghost use Rattle.v_frame_planar.specs.Planar.{sizes_of};
@@ -8,7 +8,7 @@ ghost use Rattle.v_frame_streams.specs.Copies.{copied_header, plan_for};
 ghost use Rattle.v_frame_streams.specs.Pictures.{sizes_in};
 ghost use Rattle.v_frame_streams.specs.Plans.{bytes_in_layout, bytes_made, plan_of, planned_bytes, shape_of, CanLayOut, CanMake, FitsLayout};
 ghost use Rattle.v_frame_streams.specs.Stops.{IsAtNextWritten};
-ghost use Rattle.v_frame_streams.specs.Streams.{written_bytes};
+ghost use Rattle.v_frame_streams.specs.Streams.{frames_after, written_bytes};
 
 use crate::colors::is_same_format as have_one_format;
 use crate::converting::convert_to_format;
@@ -73,6 +73,8 @@ impl<S: Pixel, T: Pixel> Maker<S, T> {
             (planned_bytes S.form T.form (plan_of self.old) (tables_of frame.now)))) }
         ensures stopped { IfErr result (IsAtNextWritten sink.new) }
         ensures container { sink.new.container ≡ sink.old.container }
+        ensures counted { OnOk result (sink.new.frames ≡ frames_after sink.old.frames true) }
+        ensures uncounted { OnErr result (sink.new.frames ≡ sink.old.frames) }
         ensures plan { plan_of self.new ≡ plan_of self.old }
     {
         self.show(frame);
@@ -101,6 +103,8 @@ impl<S: Pixel, T: Pixel> Maker<S, T> {
             (bytes_made S.form T.form self.now.layout self.now.made self.now.converted))) }
         ensures stopped { IfErr result (IsAtNextWritten sink.new) }
         ensures container { sink.new.container ≡ sink.old.container }
+        ensures counted { OnOk result (sink.new.frames ≡ frames_after sink.old.frames true) }
+        ensures uncounted { OnErr result (sink.new.frames ≡ sink.old.frames) }
     {
         match &self.converted {
             Some(converted) => write_in_layout(sink, converted, self.layout),
@@ -145,6 +149,8 @@ fn write_in_layout<T: Pixel, W: io::Write>(
         (bytes_in_layout T.form layout (tables_of frame.now)))) }
     ensures stopped { IfErr result (IsAtNextWritten sink.new) }
     ensures container { sink.new.container ≡ sink.old.container }
+    ensures counted { OnOk result (sink.new.frames ≡ frames_after sink.old.frames true) }
+    ensures uncounted { OnErr result (sink.new.frames ≡ sink.old.frames) }
 {
     match layout {
         Some(layout) => sink.write_layout(frame, layout),

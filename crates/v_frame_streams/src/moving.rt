@@ -1,8 +1,10 @@
 //! Frames that are written as they were read: their bytes move through a block, and no frame is made.
-ghost use Rattle.std.specs.Prelude.{◌≡◌, ◌+◌, ◌-◌, ◌≤◌, ◌<◌, length, IfErr, IfOk, OnOk};
+ghost use Rattle.std.specs.Prelude.{◌≡◌, ◌+◌, ◌-◌, ◌≤◌, ◌<◌, length, IfErr, IfOk, OnErr, OnOk};
+ghost use Rattle.v_frame_streams.specs.Breaks.{counts_of, BreaksCopy};
 ghost use Rattle.v_frame_streams.specs.Copies.{same_bytes, Carries, MovesNext, MovesSome};
 ghost use Rattle.v_frame_streams.specs.Stops.{StopsCopy};
 ghost use Rattle.v_frame_streams.specs.Sources.{bytes_left, stream_of};
+ghost use Rattle.v_frame_streams.specs.Streams.{frames_after};
 ghost use Rattle.v_frame_streams.specs.Telling.{TellsUpTo};
 
 use crate::error::StreamError;
@@ -25,6 +27,9 @@ pub(crate) fn move_frames<R: io::Read, W: io::Write, P: Progress>(
         same_bytes most) }
     ensures told { IfOk result (λ found. TellsUpTo P.shows found progress.old progress.new) }
     ensures stopped { IfErr result (StopsCopy source.new sink.new) }
+    ensures broken { OnErr result (BreaksCopy source.old.container source.old.frame_len
+        (bytes_left R.remaining source.old) 0 most (counts_of source.old sink.old)
+        (counts_of source.new sink.new)) }
     ensures same { stream_of source.new ≡ stream_of source.old }
 {
     let mut block = [0; BLOCK];
@@ -50,6 +55,10 @@ fn move_frame<R: io::Read, W: io::Write>(
     ensures stopped { IfErr result (StopsCopy source.new sink.new) }
     ensures same { stream_of source.new ≡ stream_of source.old }
     ensures container { sink.new.container ≡ sink.old.container }
+    ensures counted { IfOk result (λ more. (source.new.frames ≡ frames_after source.old.frames more)
+        × (sink.new.frames ≡ frames_after sink.old.frames more)) }
+    ensures uncounted { OnErr result ((source.new.frames ≡ source.old.frames)
+        × (sink.new.frames ≡ sink.old.frames)) }
     ensures size { length block.new ≡ length block.old }
 {
     let front = block.len().min(source.frame_len());
@@ -79,6 +88,8 @@ fn move_rest<R: io::Read, W: io::Write>(
     ensures stopped { IfErr result (StopsCopy source.new sink.new) }
     ensures same { stream_of source.new ≡ stream_of source.old }
     ensures container { sink.new.container ≡ sink.old.container }
+    ensures read { source.new.frames ≡ source.old.frames }
+    ensures written { sink.new.frames ≡ sink.old.frames }
     ensures size { length block.new ≡ length block.old }
 {
     let (frame_len, size) = (source.frame_len(), block.len());

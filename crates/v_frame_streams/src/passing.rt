@@ -32,6 +32,7 @@ pub fn skip_frames<R: io::Read, P: Progress>(
     ensures problem { IfErr result (λ error. StopsAtFrame source.old.container source.old.frame_len
         (unread_of R.remaining source.old) (unread_of R.remaining source.new) most
         source.old.frames source.new.frames error.problem) }
+    ensures unfailed { OnOk result (source.new.reader.failures ≡ source.old.reader.failures) }
     ensures stopped { IfErr result (IsAtNextFrame source.new) }
     ensures same { stream_of source.new ≡ stream_of source.old }
 {
@@ -53,6 +54,7 @@ fn skip_frame<R: io::Read>(source: &mut Source<R>, block: &mut [u8]) -> Result<b
     ensures problem { IfErr result (λ error. StopsFrame source.old.container
         (unread_of R.remaining source.old) (unread_of R.remaining source.new) source.old.frame_len
         error.problem) }
+    ensures unfailed { OnOk result (source.new.reader.failures ≡ source.old.reader.failures) }
     ensures stopped { IfErr result (IsAtNextFrame source.new) }
     ensures same { stream_of source.new ≡ stream_of source.old }
     ensures frames { IfOk result (λ more. source.new.frames ≡ frames_after source.old.frames more) }
@@ -80,6 +82,7 @@ fn skip_rest<R: io::Read>(
         (bytes_left R.remaining source.new) (source.old.frame_len - before)) }
     ensures problem { IfErr result (λ error. StopsInside before (unread_of R.remaining source.old)
         (unread_of R.remaining source.new) source.old.frame_len error.problem) }
+    ensures unfailed { OnOk result (source.new.reader.failures ≡ source.old.reader.failures) }
     ensures stopped { IfErr result (IsAtNextFrame source.new) }
     ensures same { stream_of source.new ≡ stream_of source.old }
     ensures frames { source.new.frames ≡ source.old.frames }

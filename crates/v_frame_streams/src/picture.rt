@@ -1,5 +1,5 @@
 //! A frame that each frame of a stream is read into, one after the other.
-ghost use Rattle.std.specs.Prelude.{◌≡◌, ◌↔◌, ◌≤◌, ◌<◌, ◌*◌, option_map, Err, IfErr, IfOk, IfSome, IsErrAnd, IsOkUnless, IsTrue, MatchOption};
+ghost use Rattle.std.specs.Prelude.{◌≡◌, ◌↔◌, ◌≤◌, ◌<◌, ◌+◌, ◌*◌, option_map, Err, IfErr, IfOk, IfSome, IsErrAnd, IsOkUnless, IsTrue, MatchOption};
 ghost use Rattle.v_frame.specs.Prelude.{table_of, tables_of};
 ghost use Rattle.v_frame_planar.specs.Planar.{sizes_of};
 ghost use Rattle.v_frame_planar.specs.Shown.{FillsFrame};
@@ -7,9 +7,10 @@ ghost use Rattle.v_frame_planar.specs.Video.{chroma_sizes_of, video_refusal_of};
 ghost use Rattle.v_frame_y4m.specs.Color.{depth_of, subsampling_of};
 ghost use Rattle.v_frame_y4m.specs.Frames.{pixel_bytes};
 ghost use Rattle.v_frame_streams.specs.Conversions.{format_in, format_of, sizes_laid_out, LayoutFits};
-ghost use Rattle.v_frame_streams.specs.Errors.{picture_request, StopsFrame};
+ghost use Rattle.v_frame_streams.specs.Errors.{picture_request, StopsAtFrame, StopsFrame};
 ghost use Rattle.v_frame_streams.specs.Stops.{IsAtNextFrame};
 ghost use Rattle.v_frame_streams.specs.MadeFor.{IsMadeFor};
+ghost use Rattle.v_frame_streams.specs.Nth.{ReadsNth};
 ghost use Rattle.v_frame_streams.specs.Pictures.{sizes_in, tables_in_layout, tables_of_bytes, AreEven, IsEven, ReadsTables};
 ghost use Rattle.v_frame_streams.specs.Plans.{shape_of, FitsLayout};
 ghost use Rattle.v_frame_streams.specs.Sources.{bytes_left, stream_of, unread_of};
@@ -17,6 +18,8 @@ ghost use Rattle.v_frame_streams.specs.Streams.{frames_after};
 
 use crate::converting::sizes_are_laid_out;
 use crate::error::{Problem, StreamError};
+use crate::passing::skip_frames;
+use crate::progress::Silent;
 use crate::shapes::{has_format, has_sizes};
 use crate::source::Source;
 use std::alloc::Global;
@@ -131,6 +134,7 @@ impl<T: Pixel> Picture<T> {
         ensures sizes { sizes_of (tables_of self.new.frame) ≡ sizes_of (tables_of self.old.frame) }
         ensures format { format_of self.new.frame ≡ format_of self.old.frame }
         ensures frames { IfOk result (λ more. source.new.frames ≡ frames_after source.old.frames more) }
+        ensures uncounted { IfErr result (λ _. source.new.frames ≡ source.old.frames) }
     {
         if !source.begin_frame(self.bytes.as_mut_slice())? {
             return Ok(false);
@@ -138,6 +142,39 @@ impl<T: Pixel> Picture<T> {
         show_frame(&mut self.frame, self.bytes.as_slice(), source.layout());
         source.end_frame();
         Ok(true)
+    }
+
+    /// Passes over so many frames of a stream, reads the next one and shows it, as `Iterator::nth` takes an item. `false` where
+    /// the stream has no more frames than those: they are read, and it stands at its end.
+    ///
+    /// Its frames must be such as the picture's, as for [`read`](Self::read).
+    ///
+    /// # Errors
+    ///
+    /// [`Problem::Stream`] where a frame was not read whole. After an error read no further: what came of the frame is lost.
+    pub fn read_nth<R: io::Read>(
+        &mut self,
+        source: &mut Source<R>,
+        before: u64,
+    ) -> Result<bool, StreamError>
+        requires { IsMadeFor T.form source.old self.old }
+        ensures read { IfOk result (ReadsNth T.form before (stream_of source.old)
+            (bytes_left R.remaining source.old) (bytes_left R.remaining source.new)
+            (tables_of self.new.frame) self.new.bytes.items source.old.frames source.new.frames) }
+        ensures problem { IfErr result (λ error. StopsAtFrame source.old.container source.old.frame_len
+            (unread_of R.remaining source.old) (unread_of R.remaining source.new) (before + 1)
+            source.old.frames source.new.frames error.problem) }
+        ensures stopped { IfErr result (IsAtNextFrame source.new) }
+        ensures same { stream_of source.new ≡ stream_of source.old }
+        ensures made { IsMadeFor T.form source.new self.new }
+        ensures sizes { sizes_of (tables_of self.new.frame) ≡ sizes_of (tables_of self.old.frame) }
+        ensures format { format_of self.new.frame ≡ format_of self.old.frame }
+    {
+        let passed = skip_frames(source, before, &mut Silent)?;
+        if passed < before {
+            return Ok(false);
+        }
+        self.read(source)
     }
 }
 

@@ -1,19 +1,14 @@
 //! What a copy makes of a stream: its header, and the edit of each frame, tested before anything is written.
-ghost use Rattle.std.specs.Prelude.{◌≡◌, ◌+◌, ◌*◌, ◌%◌, ◌<◌, ◌≤◌, IfErr, IfOk, OnOk};
-ghost use Rattle.v_frame_planar.specs.Video.{ratio_or_one};
-ghost use Rattle.v_frame_y4m.specs.Color.{subsampling_of};
-ghost use Rattle.v_frame_y4m.specs.Header.{IsWritable};
-ghost use Rattle.v_frame_streams.specs.Copies.{copied_extensions, copied_header, edit_of as made_by, or_else as or_else_of, taken, without_format, IsTakable, RefusesCrop};
+ghost use Rattle.std.specs.Prelude.{◌≡◌, IfOk};
+ghost use Rattle.v_frame_streams.specs.Copies.{copied_extensions, copied_header, edit_of as made_by, or_else as or_else_of, taken, without_format};
 ghost use Rattle.v_frame_streams.specs.Edits.{halved_size};
 
 use crate::colors::is_same_color;
 use crate::edit::Edit;
-use crate::error::Problem;
 use crate::options::CopyOptions;
 use std::alloc::{AllocError, Global};
 use v_frame::sequence::Sequence;
 use v_frame_formats::Rectangle;
-use v_frame_planar::subsample_ratio_or_one;
 use v_frame_y4m::{Ratio, StreamHeader};
 
 /// Returns the rectangle that a copy takes of each picture of a stream.
@@ -38,24 +33,6 @@ pub(crate) fn edit_of(options: &CopyOptions, header: &StreamHeader) -> Edit
         header.color.subsampling(),
         options.half,
     )
-}
-
-/// Tests whether pictures of this header have that rectangle, and can be cut there.
-pub(crate) fn test_crop(crop: &Rectangle, header: &StreamHeader) -> Result<(), Problem>
-    ensures ok { OnOk result (IsTakable crop.now header.now) }
-    ensures refused { IfErr result (RefusesCrop crop.now header.now) }
-{
-    if crop.width == 0 || crop.height == 0 {
-        return Err(Problem::EmptyCrop);
-    }
-    if !crop.lies_in(header.width, header.height) {
-        return Err(Problem::CropOutside);
-    }
-    let (columns, rows) = subsample_ratio_or_one(header.color.subsampling());
-    if crop.x % columns != 0 || crop.y % rows != 0 {
-        return Err(Problem::CropMisaligned { columns, rows });
-    }
-    Ok(())
 }
 
 /// Returns the header that a copy writes.

@@ -1,5 +1,5 @@
 //! Streams that are written: the header, and then frame by frame.
-ghost use Rattle.std.specs.Prelude.{◌≡◌, ◌↔◌, ◌++◌, [], length, take, IfErr, IsTrue, OnErr, OnOk};
+ghost use Rattle.std.specs.Prelude.{◌≡◌, ◌↔◌, ◌++◌, [], length, take, true, IfErr, IsTrue, OnErr, OnOk};
 ghost use Rattle.std.specs.Io.KnownBytes.{Appends};
 ghost use Rattle.v_frame.specs.Prelude.{tables_of};
 ghost use Rattle.v_frame_planar.specs.Counted.{AppendsBeginning};
@@ -8,7 +8,7 @@ ghost use Rattle.v_frame_semi_planar.specs.Format.{HasLayout};
 ghost use Rattle.v_frame_semi_planar.specs.SemiPlanar.{semi_planar_bytes};
 ghost use Rattle.v_frame_streams.specs.Stops.{IsAtNextWritten};
 ghost use Rattle.v_frame_streams.specs.Sources.{TakesHeader};
-ghost use Rattle.v_frame_streams.specs.Streams.{frame_line, header_bytes, written_bytes};
+ghost use Rattle.v_frame_streams.specs.Streams.{frame_line, frames_after, header_bytes, written_bytes};
 
 use crate::error::{Problem, StreamError};
 use crate::stream::{Container, Place};
@@ -90,6 +90,8 @@ impl<W: io::Write> Sink<W> {
             (written_bytes self.old.container (planar_bytes T.form (tables_of frame.now)))) }
         ensures stopped { IfErr result (IsAtNextWritten self.new) }
         ensures container { self.new.container ≡ self.old.container }
+        ensures counted { OnOk result (self.new.frames ≡ frames_after self.old.frames true) }
+        ensures uncounted { OnErr result (self.new.frames ≡ self.old.frames) }
     {
         let written = match self.container {
             Container::Y4m => v_frame_y4m::write_frame(&mut self.writer, frame),
@@ -123,6 +125,8 @@ impl<W: io::Write> Sink<W> {
             (semi_planar_bytes T.form layout (tables_of frame.now)))) }
         ensures stopped { IfErr result (IsAtNextWritten self.new) }
         ensures container { self.new.container ≡ self.old.container }
+        ensures counted { OnOk result (self.new.frames ≡ frames_after self.old.frames true) }
+        ensures uncounted { OnErr result (self.new.frames ≡ self.old.frames) }
     {
         self.begin_frame()?;
         match write_frame(&mut self.writer, frame, layout) {
@@ -141,6 +145,7 @@ impl<W: io::Write> Sink<W> {
             (W.contents self.new.writer.inner) (frame_line self.old.container)) }
         ensures stopped { IfErr result (IsAtNextWritten self.new) }
         ensures container { self.new.container ≡ self.old.container }
+        ensures frames { self.new.frames ≡ self.old.frames }
     {
         match self.container {
             Container::Y4m => self.write_part(b"FRAME\n"),
@@ -154,6 +159,7 @@ impl<W: io::Write> Sink<W> {
             (W.contents self.new.writer.inner) bytes.now) }
         ensures stopped { IfErr result (IsAtNextWritten self.new) }
         ensures container { self.new.container ≡ self.old.container }
+        ensures frames { self.new.frames ≡ self.old.frames }
     {
         match self.writer.write_all(bytes) {
             Ok(()) => Ok(()),
@@ -165,6 +171,7 @@ impl<W: io::Write> Sink<W> {
     pub(crate) fn end_frame(&mut self)
         ensures written { W.contents self.new.writer.inner ≡ W.contents self.old.writer.inner }
         ensures container { self.new.container ≡ self.old.container }
+        ensures frames { self.new.frames ≡ frames_after self.old.frames true }
     {
         self.frames = self.frames.saturating_add(1);
     }

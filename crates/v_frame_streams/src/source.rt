@@ -170,6 +170,7 @@ impl<R: io::Read> Source<R> {
         ensures left { bytes_left R.remaining self.new ≡ bytes_left R.remaining self.old }
         ensures same { stream_of self.new ≡ stream_of self.old }
         ensures frames { self.new.frames ≡ frames_after self.old.frames true }
+        ensures failures { self.new.reader.failures ≡ self.old.reader.failures }
     {
         self.frames = self.frames.saturating_add(1);
     }

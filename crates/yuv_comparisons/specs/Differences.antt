@@ -1,5 +1,5 @@
 -- What `diff` makes of two frames.
-use Rattle.std.specs.Prelude.{ℕ, ◌≡◌, ◌+◌, ◌*◌, ◌≤◌, List, [], ◌∷◌, ◌++◌, length, Option, unwrap_or}
+use Rattle.std.specs.Prelude.{ℕ, ◌≡◌, ◌+◌, ◌*◌, ◌≤◌, List, Option, unwrap_or}
 use Rattle.std.specs.Int.NonZero.{non_zero_u8_get}
 use Rattle.v_frame.specs.Prelude.{Frame, PixelForm, Tables, tables_of}
 use Rattle.v_frame_png.specs.Prelude.{HasFile}
@@ -7,7 +7,7 @@ use Rattle.yuv_pictures.specs.Prelude.{difference_rows, gray_samples, picture_he
 use Rattle.yuv_pictures.specs.declared.places.Found.{Found}
 use Rattle.yuv_system.specs.Options.{most_pixels}
 use Rattle.v_frame_streams.specs.Comparisons.{Pair}
-use Rattle.v_frame_streams.specs.Prelude.{sizes_in, tables_of_bytes, Framed, ReadsFrames, Stream}
+use Rattle.v_frame_streams.specs.Prelude.{ReadsBehind, Stream}
 use Rattle.yuv_words.specs.declared.command.Options.{Options as OptionWords}
 
 -- a writer got the picture of the difference of frames that show these tables, times a gain, and
@@ -23,15 +23,6 @@ pub record DrawsDifference {T W : Type 0} (form : PixelForm T) (contents : W →
       (gray_samples (non_zero_u8_get first.bit_depth)))
       (difference_rows form first second gain)
   pub differs : AreDifferences form a b found
-
--- of a stream so many frames were passed over, and the one behind them shows these tables
-pub record ReadsBehind {T : Type 0} (form : PixelForm T) (before : ℕ) (stream : Stream)
-    (left left' : Option (List ℕ)) (tables : Tables T) : Type 0 where
-  pub frames : List Framed
-  pub frame : Framed
-  pub passed : length frames ≡ before
-  pub read : ReadsFrames left left' stream.container stream.frame_len (frames ++ frame ∷ [])
-  pub shows : tables ≡ tables_of_bytes form stream.layout (sizes_in stream.header) frame.1
 
 -- The frames of both streams that the options name were read, and their difference was written.
 pub record DrawsFrames {T W : Type 0} (form : PixelForm T) (contents : W → Option (List ℕ))

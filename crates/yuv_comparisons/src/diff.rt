@@ -2,11 +2,10 @@
 ghost use Rattle.std.specs.Prelude.{◌≡◌, ◌≢◌, ◌↔◌, ◌+◌, ◌++◌, false, string_bytes, unwrap_or, IfOk, IfSome, OnOk};
 ghost use Rattle.v_frame.specs.Prelude.{one_byte, tables_of, two_bytes};
 ghost use Rattle.v_frame_y4m.specs.Color.{depth_of};
-ghost use Rattle.yuv_comparisons.specs.Differences.{DrawsDifference, DrawsFrames, ReadsBehind};
+ghost use Rattle.yuv_comparisons.specs.Differences.{DrawsDifference, DrawsFrames};
 ghost use Rattle.yuv_comparisons.specs.Places.{chroma_said, first_said, found_said, greatest_said, plane_said, ShowNoDifference};
 ghost use Rattle.v_frame_measures.specs.Prelude.{HaveOneSize};
-ghost use Rattle.v_frame_planar.specs.Planar.{sizes_of};
-ghost use Rattle.v_frame_streams.specs.Prelude.{bytes_left, stream_of, HaveOneFormat, IsMadeFor};
+ghost use Rattle.v_frame_streams.specs.Prelude.{bytes_left, stream_of, HaveOneFormat};
 ghost use Rattle.yuv_words.specs.declared.command.CommandName.TheVariants.{Diff};
 
 use std::alloc::{AllocError, Global};
@@ -16,12 +15,12 @@ use std::time::Clock;
 use v_frame::frame::Frame;
 use v_frame::pixel::Pixel;
 use v_frame_measures::GreatestDifference;
-use v_frame_streams::{Picture, Place, Silent, Source, check_formats, skip_frames};
+use v_frame_streams::{Picture, Place, Source, check_formats};
 use yuv_files::SystemFile;
 use yuv_pictures::{Found, PictureError, PlaneDifference, differences, write_difference_picture};
 use yuv_system::{
     Fault, Output, Status, System, begin, frames_before, is_standard_output, most_pixels,
-    no_memory, open_file, write_made, write_text,
+    no_memory, open_file, read_behind, write_made, write_text,
 };
 use yuv_words::{Call, Options};
 
@@ -131,26 +130,6 @@ fn draw_frames<T: Pixel, R: io::Read, S: io::Read, W: io::Write + Drop>(
     read_behind(second, &mut other, before, Place::Second)?;
     let drawn = draw_difference(alloc, out, &one.frame, &other.frame, gain_of(options))?;
     Ok(drawn)
-}
-
-/// Passes over so many frames of a stream, and reads the next one.
-fn read_behind<T: Pixel, R: io::Read>(
-    source: &mut Source<R>,
-    picture: &mut Picture<T>,
-    before: u64,
-    place: Place,
-) -> Result<(), Fault>
-    requires { IsMadeFor T.form source.old picture.old }
-    ensures read { OnOk result (ReadsBehind T.form before (stream_of source.old)
-        (bytes_left R.remaining source.old) (bytes_left R.remaining source.new)
-        (tables_of picture.new.frame)) }
-    ensures sizes { sizes_of (tables_of picture.new.frame) ≡ sizes_of (tables_of picture.old.frame) }
-{
-    let passed = skip_frames(source, before, &mut Silent)?;
-    if passed < before || !picture.read(source)? {
-        return Err(Fault::NoFrame(place, source.frames()));
-    }
-    Ok(())
 }
 
 /// Returns what each difference is multiplied by.

@@ -1,26 +1,23 @@
 -- What `show` makes of a frame: a picture of one plane in gray, or of the colors.
-use Rattle.std.specs.Prelude.{ℕ, ◌≡◌, ◌+◌, [], List, Option, Some, None, option_map, slice_get, take, unwrap_or}
-use Rattle.std.specs.Prelude.{IsSomeAnd, MatchOption}
+use Rattle.std.specs.Prelude.{ℕ, ◌≡◌, ◌+◌, ◌*◌, ◌≤◌, List, Option, Some, None, option_map, unwrap_or}
+use Rattle.std.specs.Prelude.{IfSome, IsSomeAnd, MatchOption}
 use Rattle.std.specs.Int.NonZero.{non_zero_u8_get}
-use Rattle.v_frame.specs.Prelude.{Frame, PixelForm, Raster, Table, table_of, tables_of}
+use Rattle.v_frame.specs.Prelude.{ChromaSubsampling, Frame, PixelForm, Raster, Table, Tables, table_of, tables_of}
 use Rattle.v_frame_png.specs.Prelude.{HasFile}
 use Rattle.v_frame_png.specs.declared.header.Header.{Header}
 use Rattle.v_frame_rgb.specs.declared.standard.ColorRange.TheVariants.{Limited}
 use Rattle.v_frame_rgb.specs.declared.standard.Standard.TheVariants.{Bt709}
-use Rattle.v_frame_semi_planar.specs.declared.format.SemiPlanarFormat.{SemiPlanarFormat}
-use Rattle.v_frame_y4m.specs.Frames.{frame_byte_count}
+use Rattle.v_frame_y4m.specs.Color.{subsampling_of}
 use Rattle.v_frame_y4m.specs.declared.header.StreamHeader.{StreamHeader}
-use Rattle.yuv_system.specs.Options.{shown_frame}
 use Rattle.yuv_pictures.specs.Prelude.{frame_rows, frame_samples, gray_rows, gray_samples}
 use Rattle.yuv_pictures.specs.Prelude.{picture_header, plane_named, StopsFrame, StopsGray}
 use Rattle.yuv_pictures.specs.declared.colors.Colors.{Colors}
 use Rattle.yuv_pictures.specs.declared.error.PictureError.{PictureError}
 use Rattle.yuv_pictures.specs.declared.error.PictureError.TheVariants.{NoPlane}
+use Rattle.yuv_system.specs.Options.{most_pixels}
 use Rattle.v_frame_streams.specs.Conversions.{format_in, format_of, sizes_laid_out}
-use Rattle.v_frame_streams.specs.Prelude.{copied_bytes, sizes_in, taken, tables_of_bytes, Framed}
-use Rattle.v_frame_streams.specs.Prelude.{ReadsFrames}
-use Rattle.v_frame_streams.specs.declared.stream.Container.{Container}
-use Rattle.v_frame_streams.specs.declared.stream.Container.TheVariants.{Raw}
+use Rattle.v_frame_streams.specs.Prelude.{cropped, sizes_in, IsTakable, ReadsBehind, Sizes, Stream}
+use Rattle.v_frame_formats.specs.declared.rectangle.Rectangle.{Rectangle}
 use Rattle.v_frame_formats.specs.declared.component.Component.{Component}
 use Rattle.yuv_words.specs.declared.command.Options.{Options as OptionWords}
 
@@ -28,20 +25,6 @@ use Rattle.yuv_words.specs.declared.command.Options.{Options as OptionWords}
 abbrev pub colors_asked : OptionWords → Colors
 colors_asked options =
     record { standard = unwrap_or options.matrix Bt709; range = unwrap_or options.range Limited }
-
--- the header of what is shown: the size of the part, or of the stream, and the color of the stream
-abbrev pub header_shown : OptionWords → StreamHeader → StreamHeader
-header_shown options header =
-    let part = taken (shown_frame options 0) header in
-    record {
-      width = part.width;
-      height = part.height;
-      frame_rate = None;
-      interlacing = None;
-      pixel_aspect = None;
-      color = header.color;
-      extensions = [];
-    }
 
 -- the header of a picture, and the bytes of its rows
 abbrev pub Drawing : Type 0
@@ -81,33 +64,37 @@ StopsDrawing bytes frame (Some name) error =
     (λ plane. StopsGray bytes (non_zero_u8_get frame.bit_depth) plane.geometry.width
     plane.geometry.height error)
 
--- a frame shows the first bytes of these, as many as a frame of this header has
-pub record ShowsBytes {T : Type 0} (form : PixelForm T) (header : StreamHeader)
-    (layout : Option SemiPlanarFormat) (bytes : List ℕ) (frame : Frame T) : Type 0 where
-  pub tables : tables_of frame
-      ≡ tables_of_bytes form layout (sizes_in header) (take (frame_byte_count header) bytes)
-  pub sizes : sizes_laid_out frame ≡ sizes_in header
-  pub format : format_of frame ≡ format_in header.color
+-- what is shown of a picture: the part that the options say, or all of it
+abbrev pub part_shown : {T : Type 0} → ChromaSubsampling → Option Rectangle → Tables T → Tables T
+part_shown subsampling None tables = tables
+part_shown subsampling (Some part) tables = cropped subsampling part tables
 
-module _ (from : Container) (count : ℕ) (left left' : Option (List ℕ)) (options : OptionWords)
-    (header : StreamHeader) (layout : Option SemiPlanarFormat) where
-  -- the frame of the number that the options say was read after those in front of it, and these are
-  -- its bytes, or those of the part of it that they say
-  pub record TakesFrame (bytes : List ℕ) : Type 0 where
-    pub frames : List Framed
-    pub read : ReadsFrames left left' from count frames
+-- the sizes of its planes, in pictures of a stream
+abbrev pub sizes_shown : Option Rectangle → StreamHeader → Sizes
+sizes_shown None header = sizes_in header
+sizes_shown (Some part) header =
+    sizes_in (record header { width = part.width; height = part.height })
+
+module _ (stream : Stream) (left left' : Option (List ℕ)) (options : OptionWords) where
+  -- the frame of the number that the options say was read, of pictures that are no larger than they
+  -- allow, which have the part that they say; it shows these tables
+  pub record TakesFrame {T : Type 0} (form : PixelForm T) (tables : Tables T) : Type 0 where
     pub before : ℕ
     pub number : before + 1 ≡ unwrap_or options.frame 1
-    pub frame : Framed
-    pub named : slice_get frames before ≡ Some frame
-    pub made : bytes ≡ copied_bytes Raw (shown_frame options before) header layout frame.1
+    pub read : ReadsBehind form before stream left left' tables
+    pub part : IfSome options.crop (λ part. IsTakable part stream.header)
+    pub small : stream.header.width * stream.header.height ≤ most_pixels options.max_pixels
 
-  -- such a frame was read, and a writer got the picture of it that the options ask for
+  -- such a frame was read, and a writer got the picture of it, or of a part of it, that the options
+  -- ask for
   pub record ShowsFrame {T W : Type 0} (form : PixelForm T) (contents : W → Option (List ℕ))
       (start : Option (List ℕ)) (new : W) : Type 0 where
-    pub bytes : List ℕ
-    pub read : TakesFrame bytes
+    pub tables : Tables T
+    pub taken : TakesFrame form tables
     pub frame : Frame T
-    pub shown : ShowsBytes form (header_shown options header) layout bytes frame
+    pub shown : tables_of frame
+        ≡ part_shown (subsampling_of stream.header.color) options.crop tables
+    pub sizes : sizes_laid_out frame ≡ sizes_shown options.crop stream.header
+    pub format : format_of frame ≡ format_in stream.header.color
     pub file : IsSomeAnd (drawing_asked form frame options)
         (λ drawing. HasFile contents start new drawing.0 drawing.1)

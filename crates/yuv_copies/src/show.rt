@@ -1,10 +1,11 @@
 //! The command `show`: a frame as a picture.
-ghost use Rattle.std.specs.Prelude.{◌≡◌, IfErr, IfOk, IfSome, IsSomeAnd};
+ghost use Rattle.std.specs.Prelude.{◌≡◌, IfErr, IfOk, IsSomeAnd};
 ghost use Rattle.v_frame_png.specs.Prelude.{HasFile};
-ghost use Rattle.yuv_system.specs.Options.{shown_frame};
-ghost use Rattle.yuv_copies.specs.Shows.{colors_asked, drawing_asked, header_shown, ShowsBytes, ShowsFrame, StopsDrawing, TakesFrame};
+ghost use Rattle.v_frame.specs.Prelude.{tables_of};
+ghost use Rattle.yuv_copies.specs.Shows.{colors_asked, drawing_asked, ShowsFrame, StopsDrawing, TakesFrame};
 ghost use Rattle.yuv_pictures.specs.declared.error.PictureError.{PictureError as TheError};
-ghost use Rattle.v_frame_streams.specs.Prelude.{bytes_left, stream_of};
+ghost use Rattle.v_frame_streams.specs.Conversions.{format_in, format_of, sizes_laid_out};
+ghost use Rattle.v_frame_streams.specs.Prelude.{bytes_left, cropped, sizes_in, stream_of, IsUnpadded};
 ghost use Rattle.yuv_words.specs.declared.command.CommandName.TheVariants.{Show};
 
 use std::alloc::Global;
@@ -14,15 +15,12 @@ use std::time::Clock;
 use v_frame::frame::Frame;
 use v_frame::pixel::Pixel;
 use v_frame_rgb::{ColorRange, Standard};
-use v_frame_semi_planar::SemiPlanarFormat;
-use v_frame_streams::{
-    Container, CopyOptions, Picture, Place, Problem, Silent, Sink, Source, StreamError, copy_stream,
-};
-use v_frame_y4m::StreamHeader;
+use v_frame_streams::{Picture, Place, Rectangle, Source, StreamError, check_crop, crop_frame};
 use yuv_files::SystemFile;
 use yuv_pictures::{Colors, PictureError, write_frame_picture, write_plane_picture};
 use yuv_system::{
-    Fault, Output, Status, System, begin, frames_before, most_pixels, open_file, test_pixels,
+    Fault, Output, Status, System, begin, frames_before, most_pixels, open_file, read_behind,
+    test_pixels,
 };
 use yuv_words::{Call, Options};
 
@@ -30,7 +28,8 @@ use yuv_words::{Call, Options};
 ///
 /// # Errors
 ///
-/// Where the stream can't be read or has no such frame, or the picture can't be made or written.
+/// Where the stream can't be read, its pictures have more pixels than allowed, not that part or not that plane, or it has no such
+/// frame, the number 0 among them; and where the picture can't be made or written.
 pub fn do_show<H, I, O, E>(
     system: &mut System<'_, H, I, O, E>,
     call: &Call<'_>,
@@ -48,9 +47,12 @@ where
     let rt = system.rt;
     let mut file = open_file(rt, from, Place::First, &mut system.input)?;
     let mut source = begin(system, from, &mut file, options.raw)?;
-    // A frame that is shown whole is read before there is a picture of it, which tests its size.
-    let most = most_pixels(options.max_pixels);
-    test_pixels(source.header(), Place::First, most)?;
+    // Before a file is made for the picture.
+    test_pixels(
+        source.header(),
+        Place::First,
+        most_pixels(options.max_pixels),
+    )?;
     let mut output = Output::open(rt, to, &[from], &mut system.output, system.progress.out())?;
     let shown = if source.header().color.bit_depth() == 8 {
         show_frame::<u8, _, _>(rt.alloc(), &mut source, options, &mut output)
@@ -64,46 +66,71 @@ where
     output.settle(rt, done)
 }
 
-/// Writes the frame that the options name, and returns the writer.
+/// Writes the frame that the options name, or a part of it, and returns the writer.
 fn show_frame<T: Pixel, R: io::Read, W: io::Write + Drop>(
     alloc: Global,
     source: &mut Source<R>,
     options: &Options,
     out: W,
 ) -> Result<W, Fault>
-    ensures { IfOk result (ShowsFrame source.old.container source.old.frame_len
-        (bytes_left R.remaining source.old) (bytes_left R.remaining source.new) options.now
-        source.old.header source.old.layout T.form W.contents (W.contents out)) }
+    ensures { IfOk result (ShowsFrame (stream_of source.old) (bytes_left R.remaining source.old)
+        (bytes_left R.remaining source.new) options.now T.form W.contents (W.contents out)) }
 {
-    let bytes = frame_bytes(alloc, source, options)?;
-    let header = shown_header(alloc, source.header(), options);
-    let most = most_pixels(options.max_pixels);
-    let Some(picture) = read_picture::<T>(alloc, header, source.layout(), bytes.as_slice(), most)?
-    else {
-        return Err(Fault::NoFrame(Place::First, source.frames()));
-    };
-    write_picture(alloc, out, picture.frame(), options)
+    let picture = read_picture::<T, _>(alloc, source, options)?;
+    match &options.crop {
+        None => write_picture(alloc, out, picture.frame(), options),
+        Some(part) => {
+            let frame = crop_picture(alloc, source, &picture, part)?;
+            write_picture(alloc, out, &frame, options)
+        }
+    }
 }
 
-/// Reads the first frame of raw video with this header. `None` where there is none.
-fn read_picture<T: Pixel>(
+/// Reads the frame that the options name. The part that they name is tested before a frame is read.
+fn read_picture<T: Pixel, R: io::Read>(
     alloc: Global,
-    header: StreamHeader,
-    layout: Option<SemiPlanarFormat>,
-    bytes: &[u8],
-    most: usize,
-) -> Result<Option<Picture<T>>, StreamError>
-    ensures { IfOk result (λ read. IfSome read (λ picture.
-        ShowsBytes T.form header layout bytes.now picture.frame)) }
+    source: &mut Source<R>,
+    options: &Options,
+) -> Result<Picture<T>, Fault>
+    ensures taken { IfOk result (λ picture. TakesFrame (stream_of source.old)
+        (bytes_left R.remaining source.old) (bytes_left R.remaining source.new) options.now T.form
+        (tables_of picture.frame)) }
+    ensures sizes { IfOk result (λ picture. sizes_laid_out picture.frame ≡ sizes_in source.old.header) }
+    ensures format { IfOk result (λ picture. format_of picture.frame ≡ format_in source.old.header.color) }
 {
-    let mut video = Source::raw(alloc, Place::First, header, layout, bytes)?;
-    let mut picture = Picture::<T>::new(alloc, &video, most)?;
-    if !picture.read(&mut video)? {
-        return Ok(None);
+    let before = frames_before(options.frame)?;
+    if let Some(part) = &options.crop {
+        check_crop(source, part)?;
     }
+    let most = most_pixels(options.max_pixels);
+    let mut picture = Picture::<T>::new(alloc, source, most)?;
+    read_behind(source, &mut picture, before, Place::First)?;
     // The planes are laid out in the sizes that they show.
     let _frame = picture.frame();
-    Ok(Some(picture))
+    Ok(picture)
+}
+
+/// Returns a part of a picture.
+fn crop_picture<T: Pixel, R: io::Read>(
+    alloc: Global,
+    source: &Source<R>,
+    picture: &Picture<T>,
+    part: &Rectangle,
+) -> Result<Frame<T>, StreamError>
+    ensures shown { IfOk result (λ made. tables_of made
+        ≡ cropped picture.now.frame.subsampling part.now (tables_of picture.now.frame)) }
+    ensures format { IfOk result (λ made. format_of made ≡ format_of picture.now.frame) }
+    ensures unpadded { IfOk result (IsUnpadded part.now picture.now.frame) }
+{
+    match crop_frame(alloc, &picture.frame, part) {
+        Ok(frame) => Ok(frame),
+        Err(problem) => Err(StreamError {
+            place: Place::First,
+            frames: source.frames(),
+            problem,
+            cause: None,
+        }),
+    }
 }
 
 /// Writes a frame as the options say, and returns the writer.
@@ -148,69 +175,5 @@ fn colors_of(options: &Options) -> Colors
     Colors {
         standard: options.matrix.unwrap_or(Standard::Bt709),
         range: options.range.unwrap_or(ColorRange::Limited),
-    }
-}
-
-/// Returns the planar bytes of the frame that the options name, or of the part of it that they name.
-fn frame_bytes<R: io::Read>(
-    alloc: Global,
-    source: &mut Source<R>,
-    options: &Options,
-) -> Result<Vec<u8>, Fault>
-    ensures taken { IfOk result (λ bytes. TakesFrame source.old.container source.old.frame_len
-        (bytes_left R.remaining source.old) (bytes_left R.remaining source.new) options.now
-        source.old.header source.old.layout bytes.items) }
-    ensures same { stream_of source.new ≡ stream_of source.old }
-{
-    let before = frames_before(options.frame)?;
-    let Ok(room) = Vec::with_capacity(alloc, source.frame_len()) else {
-        return Err(no_room());
-    };
-    let mut sink = Sink::new(Container::Raw, room);
-    let taken = one_frame(options, before);
-    let found = copy_stream(alloc, source, &mut sink, &taken, &mut Silent)?;
-    if found == 0 {
-        return Err(Fault::NoFrame(Place::First, source.frames()));
-    }
-    Ok(sink.writer.into_inner())
-}
-
-/// Returns the fault where there is no memory for the bytes of a frame.
-fn no_room() -> Fault {
-    Fault::Stream(StreamError::at_start(Place::First, Problem::OutOfMemory))
-}
-
-/// Returns what is taken of the stream: one frame after so many, or a part of it.
-fn one_frame(options: &Options, before: u64) -> CopyOptions
-    ensures { result ≡ shown_frame options.now before }
-{
-    CopyOptions {
-        skip: before,
-        count: Some(1),
-        crop: options.crop,
-        half: false,
-        format: None,
-        frame_rate: None,
-        pixel_aspect: None,
-        max_pixels: most_pixels(options.max_pixels),
-    }
-}
-
-/// Returns the header of what is shown.
-fn shown_header(alloc: Global, header: &StreamHeader, options: &Options) -> StreamHeader
-    ensures { result ≡ header_shown options.now header.now }
-{
-    let (width, height) = match options.crop {
-        Some(part) => (part.width, part.height),
-        None => (header.width, header.height),
-    };
-    StreamHeader {
-        width,
-        height,
-        frame_rate: None,
-        interlacing: None,
-        pixel_aspect: None,
-        color: header.color,
-        extensions: Vec::new(alloc).into(),
     }
 }

@@ -1,5 +1,7 @@
 -- What faults are about.
-use Rattle.std.specs.Prelude.{Option, Some, None}
+use Rattle.std.specs.Prelude.{ℕ, ◌≡◌, ◌+◌, ⊤, Option, Some, None}
+use Rattle.v_frame_streams.specs.Prelude.{EndsBefore, IsAtNextFrame, StopsAtFrame, Stream as TheStream, Unread}
+use Rattle.v_frame_streams.specs.declared.source.Source.{Source}
 use Rattle.v_frame_streams.specs.declared.stream.Place.{Place}
 use Rattle.yuv_pictures.specs.declared.error.PictureError.TheVariants.{NoPlane}
 use Rattle.yuv_system.specs.declared.fault.Fault.{Fault}
@@ -26,3 +28,17 @@ place_of (Nothing place taken) = Some place
 place_of (NoFrame place frames) = Some place
 place_of FrameZero = None
 place_of (NoWindow place) = Some place
+
+-- Why the frame behind so many was not read of a stream. It has no more frames, and so many were
+-- counted, or reading stopped at one of them.
+abbrev pub StopsBehind : ℕ → TheStream → Place → Unread → Unread → ℕ → ℕ → Fault → Type 0
+StopsBehind before stream place start left begun after (NoFrame which found) =
+    (which ≡ place) × (found ≡ after) × EndsBefore before stream start.bytes left.bytes begun after
+StopsBehind before stream place start left begun after (Stream error) =
+    StopsAtFrame stream.container stream.frame_len start left (before + 1) begun after error.problem
+StopsBehind before stream place start left begun after _ = ⊥
+
+-- an error of a stream comes at its next frame, and has the cause that its reader reported last
+abbrev pub IsAtTheFrame : {R : Type 0} → Source R → Fault → Type 0
+IsAtTheFrame source (Stream error) = IsAtNextFrame source error
+IsAtTheFrame source _ = ⊤

@@ -53,20 +53,6 @@ taken_of skip skip_second count max_pixels =
 abbrev pub comparison_of : OptionWords → CompareOptions
 comparison_of options = taken_of options.skip options.skip_second options.count options.max_pixels
 
--- `show`: one frame after so many, and the part of it that is asked for
-abbrev pub shown_frame : OptionWords → ℕ → CopyOptions
-shown_frame options before =
-    record {
-      skip = before;
-      count = Some 1;
-      crop = options.crop;
-      half = false;
-      format = None;
-      frame_rate = None;
-      pixel_aspect = None;
-      max_pixels = most_pixels options.max_pixels;
-    }
-
 -- `plot`
 abbrev pub plot_of : OptionWords → CompareOptions
 plot_of options = taken_of options.skip options.skip_second options.count options.max_pixels

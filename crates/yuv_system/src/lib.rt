@@ -5,6 +5,7 @@
 mod fault;
 mod input;
 mod input_file;
+mod named_frame;
 mod nothing;
 mod opening;
 mod options;
@@ -18,11 +19,11 @@ mod system;
 pub use fault::Fault;
 pub use input::{begin, expected_frames};
 pub use input_file::InputFile;
+pub use named_frame::{frames_before, read_behind};
 pub use nothing::{NothingTaken, nothing_taken, test_compared, write_nothing};
 pub use opening::open_file;
 pub use options::{
-    copy_sink, frames_before, most_pixels, stream_comparison, stream_copy, taken_of_both,
-    test_limit, test_pixels,
+    copy_sink, most_pixels, stream_comparison, stream_copy, taken_of_both, test_limit, test_pixels,
 };
 pub use output::{Output, is_standard_output};
 pub use progress::ProgressLine;

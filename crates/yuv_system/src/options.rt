@@ -1,8 +1,7 @@
 //! What the options of a command ask of the streams.
-ghost use Rattle.std.specs.Prelude.{◌≡◌, ◌+◌, ◌*◌, ◌<◌, ◌≤◌, IfErr, IfOk, OnOk, Some, unwrap_or};
+ghost use Rattle.std.specs.Prelude.{◌≡◌, ◌*◌, ◌<◌, ◌≤◌, IfErr, OnOk};
 ghost use Rattle.yuv_system.specs.Options.{comparison_of, copy_of, most_pixels as most, sink_container, taken_of, ExceedsLimit, KeepsLimit};
 
-use crate::fault::Fault;
 use std::io::Write;
 use v_frame_streams::{Container, MAX_PIXELS, Place, Problem, Sink, StreamError};
 use v_frame_y4m::StreamHeader;
@@ -74,21 +73,6 @@ pub fn taken_of_both(
         skip_second: skip_second.unwrap_or(skip_first),
         count,
         max_pixels: most_pixels(max_pixels),
-    }
-}
-
-/// Returns how many frames stand before the one of this number, which is 1 where nobody says.
-///
-/// # Errors
-///
-/// [`Fault::FrameZero`] where the number is 0.
-pub fn frames_before(number: Option<u64>) -> Result<u64, Fault>
-    ensures before { IfOk result (λ before. before + 1 ≡ unwrap_or number 1) }
-    ensures zero { IfErr result (λ _. number ≡ Some 0) }
-{
-    match number.unwrap_or(1).checked_sub(1) {
-        Some(before) => Ok(before),
-        None => Err(Fault::FrameZero),
     }
 }
 

@@ -193,4 +193,9 @@ pub const CASES: &[Case] = &[
         &mut streams::Picture::new(&stream(b"YUV4MPEG2 W2 H2 F25:1 C420jpeg\n"), 6).expect("memory"),
         &mut stream(b"YUV4MPEG2 W2 H1 F25:1 C444\n")
     ),
+    case!(
+        streams::Picture::<u8>::read_nth, "a picture of 3x2, Monochrome at 8 bits, cannot take frames of 2x3, Mono",
+        &mut streams::Picture::new(&stream(b"YUV4MPEG2 W3 H2 F25:1 Cmono\n"), 6).expect("memory"),
+        &mut stream(b"YUV4MPEG2 W2 H3 F25:1 Cmono\n"), 1
+    ),
 ];

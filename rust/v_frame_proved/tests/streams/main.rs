@@ -3,8 +3,10 @@
 #![cfg(feature = "std")]
 
 mod causes;
+mod copies;
 mod decoding;
 mod encoding;
+mod frames;
 mod stepping;
 
 /// A small stream: 8 bits, 3 by 1 pixels of 4:2:0, so 7 bytes a frame.

@@ -1,14 +1,16 @@
 -- The options and the depths say which bytes are written.
 use Rattle.std.proofs.Common.{Bool, Option, ◌≡◌, ◌∙◌, ap, sym}
-use Rattle.std.proofs.lemmas.Result.{IfOk-weaker}
+use Rattle.std.proofs.lemmas.Result.{err_from_is_err_and, IfOk-weaker}
 use Rattle.v_frame.specs.Prelude.{one_byte, two_bytes}
 use Rattle.v_frame_y4m.specs.Color.{depth_of}
 use Rattle.v_frame_semi_planar.specs.declared.format.SemiPlanarFormat.{SemiPlanarFormat}
 use Rattle.v_frame_y4m.specs.declared.header.StreamHeader.{StreamHeader}
-use Rattle.v_frame_streams.specs.Copies.{is_plain}
+use Rattle.v_frame_streams.specs.Breaks.{counts_of}
+use Rattle.v_frame_streams.specs.Copies.{is_plain, limit_of}
+use Rattle.v_frame_streams.specs.Sources.{bytes_left}
 use Rattle.v_frame_streams.specs.declared.options.CopyOptions.{CopyOptions}
 use Rattle.v_frame_streams.specs.declared.stream.Container.{Container}
-use Rattle.v_frame_streams.proofs.Copying.{edited_copy, form_of_eight, form_of_more, plain_copy}
+use Rattle.v_frame_streams.proofs.Copying.{edited_copy, form_of_eight, form_of_more, none_broken, plain_copy}
 use Rattle.v_frame_streams.proofs.copy.copy_stream.Goals as goal
 
 -- what the call says of a stream: whether its bytes are passed on
@@ -47,3 +49,10 @@ returns-clause-copied g c =
     IfOk-weaker c.edit_as-2.result _ _ (λ found. edited_copy _ _ c.args.sink.now.container c.args.options.now header
     c.in_ok-header.header source.layout _ _ _ _ found c.in_ok-header.ensures.header two_bytes
     (form_of_more (depth_of header.color) (λ eight. c.if-bit_depth-eq8.false (told ∙ eight))) edits) c.edit_as-2.ensures.copied
+
+pub returns-in_err-header-clause-broken : goal.returns-in_err-header-clause-broken
+returns-in_err-header-clause-broken g c =
+    let source = c.args.source.now in
+    let p = err_from_is_err_and c.from_residual.result c.from_residual.ensures.1 in
+    rw (p.1) (none_broken source.container source.frame_len (bytes_left g.R.Read.remaining source) c.args.options.now.skip
+    (limit_of c.args.options.now) (counts_of source c.args.sink.now))

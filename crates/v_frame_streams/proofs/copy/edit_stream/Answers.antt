@@ -1,6 +1,6 @@
 -- What was passed over, and then what was made of the frames that were read.
 use Rattle.std.proofs.Common.{◌≡◌, ◌∙◌, ap, Bool, List, Option, ℕ, rules, subst, sym}
-use Rattle.std.proofs.lemmas.Result.{IfOk-weaker}
+use Rattle.std.proofs.lemmas.Result.{err_from_is_err_and, IfOk-weaker}
 use Rattle.std.specs.Prelude.{IfOk}
 use Rattle.v_frame.specs.Prelude.{tables_of}
 use Rattle.v_frame_planar.specs.Planar.{sizes_of}
@@ -10,12 +10,13 @@ use Rattle.v_frame_streams.specs.Layouts.{HoldsColor}
 use Rattle.v_frame_y4m.specs.Color.{depth_of}
 use Rattle.v_frame_y4m.specs.Frames.{pixel_bytes}
 use Rattle.v_frame_y4m.specs.declared.header.StreamHeader.{StreamHeader}
+use Rattle.v_frame_streams.specs.Breaks.{counts_of, BreaksCopy}
 use Rattle.v_frame_streams.specs.Copies.{copied_header, limit_of, plan_for, Begins, Carries}
 use Rattle.v_frame_streams.specs.Pictures.{sizes_in, tables_of_bytes, Sizes}
 use Rattle.v_frame_streams.specs.Plans.{plan_of, planned_bytes, CanMake, Plan}
 use Rattle.v_frame_streams.specs.Sources.{bytes_left, Stream}
 use Rattle.v_frame_streams.specs.declared.stream.Container.{Container}
-use Rattle.v_frame_streams.proofs.Copying.{skipped_all, skipped_and_carried}
+use Rattle.v_frame_streams.proofs.Copying.{none_broken, on_err_also, skipped_all, skipped_and_broken, skipped_and_carried}
 use Rattle.v_frame_streams.proofs.Fitting.{can_make}
 use Rattle.v_frame_streams.proofs.copy.edit_stream.Goals as goal
 
@@ -87,3 +88,38 @@ returns-clause-copied g c =
     IfOk-weaker done _ _ (λ found. skipped_and_carried from count c.args.sink.now.container options c.args.header.now _ left
     mid rest _ now has begun.written found passed) (subst (λ (n : ℕ). IfOk done (Carries from count mid rest now has
     c.args.sink.now.container (bytes there (plan_for options header layout) (sizes_in header)) n)) limit by_size)
+
+pub returns-clause-broken : goal.returns-clause-broken
+returns-clause-broken g c =
+    let source = c.args.source.now in
+    let options = c.args.options.now in
+    let from = c.begin_copy.new.source in
+    let left = bytes_left g.R.Read.remaining source in
+    let mid = bytes_left g.R.Read.remaining from in
+    let begun = c.in_ok-begin_copy.ensures in
+    let passed = subst (λ (more : Bool). Begins source.container source.frame_len left mid options.skip more)
+    c.if-not-branch.false begun.begun in
+    let limit : c.unwrap_or-most.result ≡ limit_of options = search rules in
+    let start = counts_of source c.args.sink.now in
+    let now = counts_of from c.begin_copy.new.sink in
+    let after = counts_of c.edit_frames.new.source c.edit_frames.new.sink in
+    on_err_also c.edit_frames.result (BreaksCopy from.container from.frame_len mid 0 c.unwrap_or-most.result now after)
+    (BreaksCopy source.container source.frame_len left options.skip (limit_of options) start after)
+    (λ broken. skipped_and_broken source.container source.frame_len left mid options.skip (limit_of options) start now after
+    passed (begun.counted c.if-not-branch.false) begun.unwritten
+    (subst (λ (s : Stream). BreaksCopy s.container s.frame_len mid 0 (limit_of options) now after) begun.same
+    (subst (λ (n : ℕ). BreaksCopy from.container from.frame_len mid 0 n now after) limit broken)))
+    c.edit_frames.ensures.broken
+
+pub returns-in_err-picture-clause-broken : goal.returns-in_err-picture-clause-broken
+returns-in_err-picture-clause-broken g c =
+    let source = c.args.source.now in
+    let p = err_from_is_err_and c.from_residual.result c.from_residual.ensures.1 in
+    rw (p.1) (none_broken source.container source.frame_len (bytes_left g.R.Read.remaining source) c.args.options.now.skip
+    (limit_of c.args.options.now) (counts_of source c.args.sink.now))
+
+pub returns-in-Err-clause-broken : goal.returns-in-Err-clause-broken
+returns-in-Err-clause-broken g c =
+    let source = c.args.source.now in
+    none_broken source.container source.frame_len (bytes_left g.R.Read.remaining source) c.args.options.now.skip
+    (limit_of c.args.options.now) (counts_of source c.args.sink.now)

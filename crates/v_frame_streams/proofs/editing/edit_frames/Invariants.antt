@@ -1,5 +1,6 @@
 -- The frames so far were carried, and the next one has their size.
-use Rattle.std.proofs.Common.{◌≡◌}
+use Rattle.std.proofs.Common.{◌≡◌, ◌+◌}
+use Rattle.std.specs.Prelude.{min}
 use Rattle.v_frame.specs.Prelude.{tables_of}
 use Rattle.v_frame_planar.specs.Planar.{sizes_of}
 use Rattle.v_frame_streams.specs.Copies.{Carries}
@@ -7,6 +8,7 @@ use Rattle.v_frame_streams.specs.MadeFor.{IsMadeFor}
 use Rattle.v_frame_streams.specs.Pictures.{tables_of_bytes}
 use Rattle.v_frame_streams.specs.Plans.{plan_of, planned_bytes}
 use Rattle.v_frame_streams.specs.Sources.{bytes_left, stream_of}
+use Rattle.v_frame_streams.specs.Streams.{most_frames}
 use Rattle.v_frame_streams.specs.Telling.{TellsUpTo}
 use Rattle.v_frame_streams.proofs.editing.edit_frames.Given as goal
 
@@ -22,5 +24,7 @@ invariant-loop-count g l = record {
   sizes : sizes_of (tables_of l.picture.frame) ≡ sizes_of (tables_of l.fn.picture.frame);
   plan : plan_of l.maker ≡ plan_of l.fn.maker;
   to : l.sink.container ≡ l.fn.sink.container;
+  read : l.source.frames ≡ min (l.fn.source.frames + l.count) most_frames;
+  written : l.sink.frames ≡ min (l.fn.sink.frames + l.count) most_frames;
   told : TellsUpTo g.P.Progress.shows l.count l.fn.progress l.progress;
 }

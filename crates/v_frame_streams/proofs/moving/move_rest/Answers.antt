@@ -31,5 +31,7 @@ loop-done-preserved g c =
       );
       same = done.same ∙ before.same;
       to = sent.container ∙ before.to;
+      read = done.frames ∙ before.read;
+      written = sent.frames ∙ before.written;
       size = length-append part behind ∙ omega (arith, long, length-drop count block, fits, before.size);
     }

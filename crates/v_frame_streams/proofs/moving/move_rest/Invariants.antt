@@ -12,6 +12,8 @@ invariant-loop-done g l = record {
       (g.W.Write.contents l.fn.sink.writer.inner) (g.W.Write.contents l.sink.writer.inner) (l.done - l.before);
   same : stream_of l.source ≡ stream_of l.fn.source;
   to : l.sink.container ≡ l.fn.sink.container;
+  read : l.source.frames ≡ l.fn.source.frames;
+  written : l.sink.frames ≡ l.fn.sink.frames;
   size : length l.block ≡ l.size;
 }
 

@@ -25,6 +25,7 @@ loop-count-preserved g c =
       counted = one_more_counted _ _ _ mid left _ before.counted next.0 next.1 next.2;
       same = done.same ∙ before.same;
       frames = omega (arith, before.frames, counted);
+      uncounted = done.unfailed ∙ before.uncounted;
       some = omega (arith, done.size, before.some);
       told = one_more_told g.P.Progress.shows _ _ _ _ before.told c.show_one_more.ensures;
     }
@@ -40,6 +41,7 @@ returns-in_err-skip_frame-clause-problem g c =
       frames = before.counted.frames;
       mid = unread_of g.R.Read.remaining c.loop-count.source;
       read = before.counted.read;
+      unfailed = before.uncounted;
       fewer = omega (arith, before.counted.counted, c.loop-count-test.true);
       counted = omega (arith, stops.uncounted, before.frames, before.counted.counted);
       stops = subst (λ (s : Stream). StopsFrame s.container (unread_of g.R.Read.remaining c.loop-count.source) left

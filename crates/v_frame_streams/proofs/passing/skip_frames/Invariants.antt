@@ -12,6 +12,7 @@ invariant-loop-count g l = record {
       l.fn.source.container l.fn.source.frame_len l.count l.count;
   same : stream_of l.source ≡ stream_of l.fn.source;
   frames : l.source.frames ≡ min (l.fn.source.frames + l.count) most_frames;
+  uncounted : l.source.reader.failures ≡ l.fn.source.reader.failures;
   some : 0 < length l.block;
   told : TellsUpTo g.P.Progress.shows l.count l.fn.progress l.progress;
 }

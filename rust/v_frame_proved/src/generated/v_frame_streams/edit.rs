@@ -23,18 +23,24 @@ pub(crate) struct Edit {
 
 impl Edit {
     /// Takes a rectangle, in luma pixels, of frames of this format, and the chroma that stands beside it.
+    #[inline]
     pub(crate) fn new(luma: Rectangle, subsampling: ChromaSubsampling, half: bool) -> Self {
-        let (columns, rows) = subsample_ratio_or_one(subsampling);
         Edit {
             luma,
-            chroma: Rectangle {
-                x: luma.x / columns,
-                y: luma.y / rows,
-                width: luma.width.div_ceil(columns),
-                height: luma.height.div_ceil(rows),
-            },
+            chroma: chroma_beside(&luma, subsampling),
             half,
         }
+    }
+}
+
+/// Returns the chroma pixels beside a rectangle of luma, with those of which only a part stands beside it.
+pub(crate) fn chroma_beside(luma: &Rectangle, subsampling: ChromaSubsampling) -> Rectangle {
+    let (columns, rows) = subsample_ratio_or_one(subsampling);
+    Rectangle {
+        x: luma.x / columns,
+        y: luma.y / rows,
+        width: luma.width.div_ceil(columns),
+        height: luma.height.div_ceil(rows),
     }
 }
 
@@ -78,14 +84,16 @@ fn edit_plane<T: Pixel>(half: bool, part: &Rectangle, source: &Plane<T>, target:
 }
 
 /// Returns a rectangle that lies in a plane, and is not empty.
-fn part_of<'a, T: Pixel>(plane: &'a Plane<T>, part: &Rectangle) -> PlaneRef<'a, T> {
+#[inline]
+pub(crate) fn part_of<'a, T: Pixel>(plane: &'a Plane<T>, part: &Rectangle) -> PlaneRef<'a, T> {
     plane
         .as_plane_ref()
         .visible_region_proved(part.x, part.y, part.width, part.height)
 }
 
 /// Shows all of one plane in another of the same size.
-fn copy_plane<T: Pixel>(source: &PlaneRef<'_, T>, target: &mut Plane<T>) {
+#[inline]
+pub(crate) fn copy_plane<T: Pixel>(source: &PlaneRef<'_, T>, target: &mut Plane<T>) {
     copy_region(source, target, 0, 0);
 }
 

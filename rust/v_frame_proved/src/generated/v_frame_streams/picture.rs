@@ -4,6 +4,8 @@
 use alloc::vec::Vec;
 use crate::support::memory::TryVec;
 use crate::generated::v_frame_streams::error::{Problem, StreamError};
+use crate::generated::v_frame_streams::passing::skip_frames;
+use crate::generated::v_frame_streams::progress::Silent;
 use crate::generated::v_frame_streams::shapes::{has_format, has_sizes};
 use crate::generated::v_frame_streams::source::Source;
 use std::io;
@@ -122,6 +124,36 @@ impl<T: Pixel> Picture<T> {
         show_frame(&mut self.frame, self.bytes.as_slice(), source.layout());
         source.end_frame();
         Ok(true)
+    }
+
+    /// Passes over so many frames of a stream, reads the next one and shows it, as `Iterator::nth` takes an item. `false` where
+    /// the stream has no more frames than those: they are read, and it stands at its end.
+    ///
+    /// Its frames must be such as the picture's, as for [`read`](Self::read).
+    ///
+    /// # Errors
+    ///
+    /// [`Problem::Stream`] where a frame was not read whole. After an error read no further: what came of the frame is lost.
+    ///
+    /// # Panics
+    ///
+    /// Panics where the frame of `self` has not the size or the format of the frames of `source`: see `is_made_for`.
+    #[track_caller]
+    #[inline]
+    pub fn read_nth<R: io::Read>(
+        &mut self,
+        source: &mut Source<R>,
+        before: u64,
+    ) -> Result<bool, StreamError> {
+        assert!(
+            self.is_made_for(source),
+            "a picture of {}x{}, {:?} at {} bits, cannot take frames of {}x{}, {:?}", self.frame.y_plane.width(), self.frame.y_plane.height(), self.frame.subsampling, self.frame.bit_depth, source.header().width, source.header().height, source.header().color
+        );
+        let passed = skip_frames(source, before, &mut Silent)?;
+        if passed < before {
+            return Ok(false);
+        }
+        self.read(source)
     }
 }
 

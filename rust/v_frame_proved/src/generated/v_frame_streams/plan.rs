@@ -5,12 +5,10 @@ use alloc::vec::Vec;
 use crate::support::memory::TryPush;
 use crate::generated::v_frame_streams::colors::is_same_color;
 use crate::generated::v_frame_streams::edit::Edit;
-use crate::generated::v_frame_streams::error::Problem;
 use crate::generated::v_frame_streams::options::CopyOptions;
 use crate::support::AllocError;
 use crate::generated::v_frame::sequence::Sequence;
 use crate::generated::v_frame_formats::Rectangle;
-use crate::generated::v_frame_planar::subsample_ratio_or_one;
 use crate::generated::v_frame_y4m::{Ratio, StreamHeader};
 
 /// Returns the rectangle that a copy takes of each picture of a stream.
@@ -33,21 +31,6 @@ pub(crate) fn edit_of(options: &CopyOptions, header: &StreamHeader) -> Edit {
         header.color.subsampling(),
         options.half,
     )
-}
-
-/// Tests whether pictures of this header have that rectangle, and can be cut there.
-pub(crate) fn test_crop(crop: &Rectangle, header: &StreamHeader) -> Result<(), Problem> {
-    if crop.width == 0 || crop.height == 0 {
-        return Err(Problem::EmptyCrop);
-    }
-    if !crop.lies_in(header.width, header.height) {
-        return Err(Problem::CropOutside);
-    }
-    let (columns, rows) = subsample_ratio_or_one(header.color.subsampling());
-    if crop.x % columns != 0 || crop.y % rows != 0 {
-        return Err(Problem::CropMisaligned { columns, rows });
-    }
-    Ok(())
 }
 
 /// Returns the header that a copy writes.

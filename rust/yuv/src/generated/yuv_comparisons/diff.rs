@@ -9,12 +9,12 @@ use crate::support::time::Clock;
 use v_frame_proved::frame::Frame;
 use v_frame_proved::pixel::Pixel;
 use v_frame_proved::measures::GreatestDifference;
-use v_frame_proved::streams::{Picture, Place, Silent, Source, check_formats, skip_frames};
+use v_frame_proved::streams::{Picture, Place, Source, check_formats};
 use crate::generated::yuv_files::SystemFile;
 use crate::generated::yuv_pictures::{Found, PictureError, PlaneDifference, differences, write_difference_picture};
 use crate::generated::yuv_system::{
     Fault, Output, Status, System, begin, frames_before, is_standard_output, most_pixels,
-    no_memory, open_file, write_made, write_text,
+    no_memory, open_file, read_behind, write_made, write_text,
 };
 use crate::generated::yuv_words::{Call, Options};
 
@@ -103,20 +103,6 @@ fn draw_frames<T: Pixel, R: io::Read, S: io::Read, W: io::Write>(
     read_behind(second, &mut other, before, Place::Second)?;
     let drawn = draw_difference(out, &one.frame, &other.frame, gain_of(options))?;
     Ok(drawn)
-}
-
-/// Passes over so many frames of a stream, and reads the next one.
-fn read_behind<T: Pixel, R: io::Read>(
-    source: &mut Source<R>,
-    picture: &mut Picture<T>,
-    before: u64,
-    place: Place,
-) -> Result<(), Fault> {
-    let passed = skip_frames(source, before, &mut Silent)?;
-    if passed < before || !picture.read(source)? {
-        return Err(Fault::NoFrame(place, source.frames()));
-    }
-    Ok(())
 }
 
 /// Returns what each difference is multiplied by.
