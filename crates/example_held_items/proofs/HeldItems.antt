@@ -18,7 +18,8 @@ use Rattle.v_frame.proofs.ItemKinds.{Entry, Kept, Kind, Lends, Walk, left, neith
 use Rattle.v_frame.proofs.WriteItem.{draws, given, its_value, value_is}
 use Rattle.v_frame.specs.{declared.replay.draw.Side.Side, declared.replay.draw.Side.TheVariants.Back}
 use Rattle.v_frame.specs.{declared.replay.draw.Side.TheVariants.Front}
-use Rattle.v_frame_plane.proofs.lent.{Loans.share_within, RowMemory.slice_of}
+use Rattle.v_frame_buffer.proofs.{Loans.share_within}
+use Rattle.v_frame_buffer.proofs.Slices.{slice_of}
 use Rattle.v_frame.proofs.{Lending.lends_walk, Lending.lowers, Lending.walk_back, OptionCases.by_told}
 use base.Share
 use Rattle.v_frame_plane.specs.contracts.pixels_mut.PixelsMut as pixels_mut

@@ -1,7 +1,6 @@
 -- For a proof by hand of a function that holds pixels of a writing iterator: the pixels as they are written and as they
 -- end. Assumes `Logic`.
 --     ends_of      what three calls take of some pixels, written over
---     as_rows      the pixels of an iterator whose items are all left end as rows
 -- writes_pixel      a held pixel is written.        gives_back      it is dropped, and ends where the call took it from
 use Rattle.v_frame_buffer.proofs.Steps.{◌≡◌, ◌-◌, List, [], ◌∷◌, ◌++◌, length, Some, MutBor, refl, sym, ap, ◌∙◌, arith}
 use Rattle.v_frame_buffer.proofs.Steps.{append-nil, append_assoc, length-append, map, nil_from_length, Lft, Share, fat}
@@ -13,12 +12,12 @@ use lib.Dec.{T as Holds}
 use denote.Param.Laws.{IsCopy}
 use mir.Syntax.{Body as Code, Rv as RValue}
 use types.Run.{store}
-use Rattle.v_frame.specs.Prelude.{BeginsOver, PixelsMut, Raster, FinalPixels, FinalRows, row_major, table_of}
+use Rattle.v_frame.specs.Prelude.{PixelsMut}
 use Rattle.v_frame.proofs.ItemKinds.{Ends, Lends, FinalItems, of_pixels}
 use Rattle.std.proofs.{Common.take_at}
 use Rattle.v_frame.specs.{DrawnItems.put_back, declared.replay.draw.Side.Side}
 use Rattle.v_frame.specs.{declared.replay.draw.Side.TheVariants.Back, declared.replay.draw.Side.TheVariants.Front}
-use Rattle.v_frame_plane.proofs.lent.{Loans.at_one, Loans.opens_self}
+use Rattle.v_frame_buffer.proofs.{Loans.at_one, Loans.opens_self}
 use Rattle.example_held_items.specs.{HeldPixels.with_ends}
 
 -- three calls, from the back, the front and the back, take the last, the first and the last but one
@@ -43,18 +42,6 @@ module _ {M : Type 1} {𝓤 : Ura M} (𝓛 : Logic 𝓤) (T : RattleType) (old n
   given_back Back = at_one 𝓛 Held (λ held. sem 𝓛 (FinalItems T of_pixels old (held.1 ++ held.0 ∷ []))) (x, second)
 
 module _ {M : Type 1} {𝓤 : Ura M} {𝓛 : Logic 𝓤} {K : Type 0} {Γ : List (Item 𝓤)} {G : Goal 𝓤 𝓛.H} where
-  pub as_rows : K → (T : RattleType) (plane : Raster T.Denot) (walk : PixelsMut T.Denot) (pixels : List T.Denot) →
-      BeginsOver plane walk
-      → ((rows : List (List T.Denot)) → map length rows ≡ map length (table_of plane) → row_major rows ≡ pixels →
-      Seq K 𝓛 (‵ (FinalRows T walk.rows rows) ∷ Γ) G)
-      → Seq K 𝓛 (‵ (FinalPixels T walk pixels) ∷ Γ) G
-  as_rows t T plane walk pixels begins k = fpick t
-      (λ parts. fpick t (λ are. fsplit3 t $ drop t $ move t (1 ∷ []) $ drop t $
-      let front : parts.front ≡ [] = nil_from_length parts.front (are.front ∙ ap length begins.front) in
-      let back : parts.back ≡ [] = nil_from_length parts.back (are.back ∙ ap length begins.back) in
-      let joined : pixels ≡ row_major parts.rows = rw (are.joined, front, back) (append-nil (row_major parts.rows)) in
-      k parts.rows (are.rows ∙ ap (λ rows. map length rows) begins.rows) (sym joined)))
-
   -- [the pixel; how it was drawn; how the iterator ends that was left]
   pub gives_back : K → (side : Side) (T : RattleType) (κ : Lft) (old new : PixelsMut T.Denot) (pixel : MutBor T.Denot)
       (x : T.Denot) (second : List T.Denot) →

@@ -6,6 +6,7 @@ ghost use Rattle.std.specs.Prelude.{◌<◌, ◌≡◌, length};
 ghost use Rattle.v_frame.specs.Prelude.{KeepsBorder, row_major, table_of};
 ghost use Rattle.example_held_items.specs.HeldPixels.{with_ends};
 
+use v_frame::laws::dropped_pixels_keep_their_values;
 use v_frame::pixel::Pixel;
 use v_frame::plane::Plane;
 
@@ -31,6 +32,7 @@ pub fn write_ends<T: Copy>(plane: &mut Plane<T>, first: T, before_last: T, last:
     *before_end = before_last;
     *start = first;
     *end = last;
+    dropped_pixels_keep_their_values::<T>();
 }
 
 /// Writes `mark` over the first visible pixel and the last, and `other` over the last but one.

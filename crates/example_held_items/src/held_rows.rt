@@ -4,6 +4,7 @@
 ghost use Rattle.std.specs.Prelude.{◌≡◌, ◌-◌, length, replicate, slice_set};
 ghost use Rattle.v_frame.specs.Prelude.{KeepsBorder, height_of, table_of};
 
+use v_frame::laws::held_rows_are_the_table;
 use v_frame::plane::Plane;
 
 /// Fills the last visible row with one value. All other rows stay, and so does the border.
@@ -17,6 +18,7 @@ pub fn fill_last_row<T: Copy>(plane: &mut Plane<T>, value: T)
     if let Some(row) = rows.next_back() {
         fill(row, value);
     }
+    held_rows_are_the_table::<T>();
 }
 
 /// Fills a row with one value. The standard `fill` asks for a `clone` that cannot fail, which `Copy` does not promise.

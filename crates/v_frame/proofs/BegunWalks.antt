@@ -1,52 +1,52 @@
--- An iterator over lent rows or pixels whose items are all left: how its rows end, by what its items end as. Assumes
+-- How a plane ends, of which an iterator over rows or pixels was lent, where its items end as draws leave them. Assumes
 -- `Logic`.
-use Rattle.v_frame_buffer.proofs.Steps.{param, ◌≡◌, List, [], ◌∷◌, length, refl, sym, ap, ◌∙◌, ent, sep, fact}
-use Rattle.v_frame_buffer.proofs.Steps.{RattleType, Ura, ‵, ◌$◌, ◌∵◌, !, qed, done}
-use Rattle.v_frame_buffer.proofs.Steps.{drop, fpick, fsplit, move, rewrite, Logic, sem, append-nil, nil_from_length}
-use Rattle.v_frame_raster.specs.Table.{Table, width_of, height_of, row_major, cut_rows}
-use Rattle.v_frame_plane.specs.FinalPixels.{Parts, ArePartsOf, BeginsOver, FinalPixels}
-use Rattle.std.specs.{Prelude.All, Prelude.map}
+use Rattle.v_frame_buffer.proofs.Steps.{param, List, ent, sep, wand, RattleType, Ura, Logic, sem, via, mono_r, apply∗}
+use Rattle.v_frame_buffer.proofs.Steps.{MutBor, SProp, ◌≡◌, length, Fml, fex, fpick, done, qed, use2, !, ‵, [], ◌∷◌, ◌$◌, ◌∵◌}
 use Rattle.v_frame_raster.specs.Raster.{Raster, table_of}
-use Rattle.v_frame_plane.specs.{FinalRows.FinalRows, declared.pixels_mut.PixelsMut.PixelsMut}
-use Rattle.v_frame_plane.proofs.{iterators.Cursors.rows_are_long}
+use Rattle.v_frame_raster.specs.Table.{cut_rows, width_of, height_of, row_major}
+use Rattle.std.specs.{Prelude.map}
+use Rattle.v_frame_plane.specs.{LendsTable.EndsWith}
 use Rattle.v_frame.specs.Walk.{walk_leaves}
-use Rattle.v_frame.proofs.ItemKinds.{Begins, Draw, Kind, FinalItems, Walk, made, of_pixels, rows_of, shown, side_of}
-use Rattle.v_frame.proofs.ItemKinds.{written}
-use Rattle.v_frame_raster.proofs.tables.CutRows.{cut_again}
-use Rattle.v_frame.proofs.{CallSteps.tells, DrawnItems.rows_as_long}
+use Rattle.v_frame.proofs.ItemKinds.{Draw, Entry, FinalItems, Kind, EndsBy, Walk, made, of_pixels, shown, side_of, written}
+use Rattle.v_frame.proofs.{DrawnItems.rows_as_long}
 
--- the rows of the parts are the pixels, cut into rows again, and as long as those that are shown
-rows_of_parts : {T : Type 0} (plane : Raster T) (walk : PixelsMut T) → BeginsOver plane walk → (second : List T)
-    (parts : Parts T) →
-    ArePartsOf walk second parts
-    → let table = table_of plane in let cut = cut_rows (width_of table) (height_of table) second in (parts.rows ≡ cut)
-    × (map length cut ≡ map length table)
-rows_of_parts plane walk begins second parts are =
-    let rows = walk.rows in
-    let table = table_of plane in
-    let wide : All (λ row. length row ≡ rows.width) table =
-    rw (sym begins.rows) (rows_are_long rows.start rows.width rows.gap rows.count rows.rest.now rows.within.within) in
-    let long : map length parts.rows ≡ map length table = are.rows ∙ ap (map length) begins.rows in
-    let no_front : parts.front ≡ [] = nil_from_length parts.front (are.front ∙ ap length begins.front) in
-    let no_back : parts.back ≡ [] = nil_from_length parts.back (are.back ∙ ap length begins.back) in
-    let is : cut_rows (width_of table) (height_of table) second ≡ parts.rows =
-    rw (are.joined, no_front, no_back, append-nil) (cut_again rows.width table parts.rows long wide) in
-    (sym is, ap (map length) is ∙ long)
+module _ {M : Type 1} {𝓤 : Ura M} (𝓛 : Logic 𝓤) (T : RattleType) (plane : MutBor (Raster T.Denot)) where
+  -- final values that are as long as they have to be, and the table that they are
+  abbrev pub Fits : (k : Kind) → List (Entry T k) → Type 0
+  Fits of_pixels second = Unit {0}
+  Fits _ second = map length second ≡ map length (table_of plane.now)
 
--- what the rows end as, where the items end as the draws leave them
-module _ {M : Type 1} {𝓤 : Ura M} (𝓛 : Logic 𝓤) (T : RattleType) where
-  pub rows_end : (k : Kind) (plane : Raster T.Denot) (walk : Walk T k) → Begins T k plane walk →
-      (draws : List (Draw T k)) →
-      let table = table_of plane in let last = written T k table draws in
-      ent 𝓤 (sem 𝓛 (FinalItems T k walk (walk_leaves (side_of T k) (made T k) (shown T k plane) draws)))
-      (sep 𝓤 (fact 𝓤 (map length last ≡ map length table)) (sem 𝓛 (FinalRows (param 0 T) (rows_of T k walk) last)))
-  rows_end of_pixels plane walk begun draws =
-      let pixels = walk_leaves (side_of T of_pixels) (made T of_pixels) (row_major (table_of plane)) draws in
-      qed 𝓛 (‵ (FinalPixels (param 0 T) walk pixels) ∷ []) ∵ fpick !
-      (λ parts. fpick ! (λ are. fsplit ! $ drop ! $ fsplit ! $ move ! (1 ∷ []) $ drop ! $
-      let same = rows_of_parts plane walk begun.tells pixels parts are in
-      rewrite ! 0 (λ (rows : Table T.Denot). ‵ (FinalRows (param 0 T) walk.rows rows)) same.0 refl $ tells ! same.1 $
-      done !))
-  rows_end k plane walk begun draws =
-      qed 𝓛 (‵ (FinalRows (param 0 T) walk (written T k (table_of plane) draws)) ∷ []) ∵ tells !
-      (rows_as_long (table_of plane) draws) $ done !
+  abbrev pub as_table : (k : Kind) → List (Entry T k) → List (List T.Denot)
+  as_table of_pixels second = let table = table_of plane.now in cut_rows (width_of table) (height_of table) second
+  as_table _ second = second
+
+  abbrev pub EndsAs : (k : Kind) → List (Entry T k) → Fml
+  EndsAs of_pixels second = let rows = as_table of_pixels second in
+      fex (row_major rows ≡ second) (λ _. EndsWith (param 0 T) plane rows)
+  EndsAs _ second = EndsWith (param 0 T) plane second
+
+  abbrev Shows : (k : Kind) → List (Entry T k) → SProp 𝓤
+  Shows k second = sem 𝓛 (EndsAs k second)
+
+  clause_says : (k : Kind) (walk : Walk T k) (second : List (Entry T k)) → Fits k second →
+      ent 𝓤 (sem 𝓛 (EndsBy T k plane walk)) (wand 𝓤 (sem 𝓛 (FinalItems T k walk second)) (Shows k second))
+  clause_says of_pixels walk second fits = record { apply = λ a says. says second }
+  clause_says k walk second fits = record { apply = λ a says. says second fits }
+
+  -- the plane ends with the table that the final values are
+  pub ends_as : (k : Kind) (walk : Walk T k) (second : List (Entry T k)) → Fits k second →
+      ent 𝓤 (sep 𝓤 (sem 𝓛 (FinalItems T k walk second)) (sem 𝓛 (EndsBy T k plane walk))) (Shows k second)
+  ends_as k walk second fits = let New = sem 𝓛 (FinalItems T k walk second) in
+      via 𝓤 (sep 𝓤 New (wand 𝓤 New (Shows k second))) (mono_r 𝓤 New (clause_says k walk second fits))
+      (apply∗ 𝓤 New (Shows k second))
+
+  -- so where draws leave them
+  pub table_ends : (k : Kind) (walk : Walk T k) (draws : List (Draw T k)) →
+      ent 𝓤 (sep 𝓤 (sem 𝓛 (FinalItems T k walk (walk_leaves (side_of T k) (made T k) (shown T k plane.now) draws)))
+      (sem 𝓛 (EndsBy T k plane walk)))
+      (sem 𝓛 (EndsWith (param 0 T) plane (written T k (table_of plane.now) draws)))
+  table_ends of_pixels walk draws =
+      let second = walk_leaves (side_of T of_pixels) (made T of_pixels) (shown T of_pixels plane.now) draws in
+      qed 𝓛 (‵ (FinalItems T of_pixels walk second) ∷ ‵ (EndsBy T of_pixels plane walk) ∷ []) ∵
+      use2 𝓛 (‵ (EndsAs of_pixels second)) (ends_as of_pixels walk second tt) $ fpick ! (λ _. done !)
+  table_ends k walk draws = ends_as k walk _ (rows_as_long (table_of plane.now) draws)

@@ -7,12 +7,13 @@
 --     Begins     how the iterator of a plane begins.        Promise, Kept     what a function says, and that it is so
 use Rattle.v_frame_buffer.proofs.Steps.{◌≡◌, List, length, Option, MutBor, NamedLft, RattleType, Fml, Clauses, Logic}
 use Rattle.v_frame_buffer.proofs.Steps.{Ura, param, Running, Ended, closing, Meets, Callee, Model, All}
-use Rattle.v_frame_plane.specs.FinalPixels.{BeginsOver, LendsFirstPixel, LendsLastPixel, PixelEndsAs, FinalPixels}
+use Rattle.v_frame_plane.specs.FinalPixels.{LendsFirstPixel, LendsLastPixel, PixelEndsAs, FinalPixels}
 use Rattle.v_frame_plane.specs.FinalRows.{EndsAs, LendsFirstRow, LendsLastRow, FinalRows, WritesEachTable}
+use Rattle.v_frame_plane.specs.LendsTable.{LendsRows, LendsTable, LendsPixelTable}
+use Rattle.v_frame_plane.specs.Dropped.{RowsAreHeld, DroppedPixelsKeepTheirValues}
 use Rattle.v_frame.specs.Walk.{pixel_written, pixels_written, row_written, rows_written}
 use Rattle.v_frame_raster.specs.{Table.Table, Table.row_major}
-use Rattle.v_frame_plane.specs.{PixelsLeft.pixels_left, PixelsLeft.pixels_slice, RowsLeft.rows_left}
-use Rattle.v_frame_plane.specs.{RowsLeft.rows_slice}
+use Rattle.v_frame_plane.specs.{PixelsLeft.pixels_left, RowsLeft.rows_left}
 use Rattle.v_frame_raster.specs.Raster.{Raster, table_of}
 use Rattle.v_frame_plane.specs.{declared.pixels_mut.PixelsMut.PixelsMut, declared.rows_mut.RowsMut.RowsMut}
 use Rattle.v_frame.specs.{DrawnItems.PutsBack, declared.replay.draw.PixelDraw.PixelDraw}
@@ -56,14 +57,6 @@ module _ (T : RattleType) where
   shown of_pixels plane = row_major (table_of plane)
   shown _ plane = table_of plane
 
-  abbrev pub rows_of : (k : Kind) → Walk k → RowsMut T.Denot
-  rows_of of_pixels walk = walk.rows
-  rows_of _ walk = walk
-
-  abbrev pub slice : (k : Kind) → Walk k → MutBor (List T.Denot)
-  slice of_pixels = pixels_slice
-  slice _ = rows_slice
-
   abbrev pub side_of : (k : Kind) → Draw k → Side
   side_of of_pixels draw = draw.side
   side_of _ draw = draw.side
@@ -94,13 +87,26 @@ module _ (T : RattleType) where
   abbrev pub Puts : (k : Kind) → List (Draw k) → Walk k → Walk k → Fml
   Puts k = PutsBack (left k) (FinalItems k) (side_of k) (made k)
 
+  -- what is said of the plane, and what it ends as, by what the items end as
+  abbrev pub LendsBack : (k : Kind) → MutBor (Raster T.Denot) → Walk k → Fml
+  LendsBack of_pixels = LendsPixelTable (param 0 T)
+  LendsBack _ = LendsRows (param 0 T)
+
+  abbrev pub EndsBy : (k : Kind) → MutBor (Raster T.Denot) → Walk k → Fml
+  EndsBy of_pixels = LendsPixelTable (param 0 T)
+  EndsBy _ = LendsTable (param 0 T)
+
+  -- the law of what an iterator means
+  abbrev pub Law : Kind → Fml
+  Law of_pixels = DroppedPixelsKeepTheirValues (param 0 T)
+  Law _ = RowsAreHeld (param 0 T)
+
   abbrev Tells : (k : Kind) → Raster T.Denot → Walk k → Type 0
-  Tells of_pixels plane walk = BeginsOver plane walk
-  Tells _ plane walk = All (λ row. length row ≡ plane.geometry.width) (rows_left walk)
+  Tells of_pixels plane walk = Unit {0}
+  Tells _ plane walk = WritesEachTable plane walk × All (λ row. length row ≡ plane.geometry.width) (rows_left walk)
 
   pub record Begins (k : Kind) (plane : Raster T.Denot) (walk : Walk k) : Type 0 where
     pub all : left k walk ≡ shown k plane
-    pub written : WritesEachTable plane (rows_of k walk)
     pub tells : Tells k plane walk
 
 abbrev pub Promise : {M : Type 1} → Ura M → Type 2

@@ -10,26 +10,27 @@ use Rattle.v_frame_buffer.proofs.Steps.{Goal, Item, Seq, Soaks, Step, step, ‵,
 use Rattle.v_frame_buffer.proofs.Steps.{await, drop, frame, fsplit, heard, move, pick, split, use1, use2, use3, Logic}
 use Rattle.v_frame_buffer.proofs.Steps.{sem, Body, Array, Ty, MachineTables, Running, Typed, Is, Callee, Lifetime}
 use Rattle.v_frame_buffer.proofs.Steps.{Place, call, seq, Model, Env, Post, lands, regoal, runs, mean, Opds}
-use Rattle.v_frame_buffer.proofs.Steps.{meet_⊑_right, fres, follows, lone, All}
+use Rattle.v_frame_buffer.proofs.Steps.{meet_⊑_right, fres, lone, All, fpick}
 use denote.Lowered.{Lowered}
 use mir.Syntax.{Body as Code, Opd as Operand}
 use Rattle.v_frame_plane.specs.contracts.plane.Plane as planes
 use Rattle.v_frame_plane.proofs as of_walks
-use denote.Follow.{followed}
 use denote.Lend.{LentAgain, comes_back, lends_again}
 use mir.Raw.{raw as raw_ty}
-use Rattle.v_frame_plane.specs.PixelsLeft.{LendsPixelsInOrder, LendsPixelsInReverse, pixels_left, pixels_slice}
-use Rattle.v_frame_raster.specs.Raster.{Raster, table_of, with_entries}
-use Rattle.v_frame_plane.specs.RowsLeft.{LendsRowsInOrder, LendsRowsInReverse, rows_left, rows_slice}
-use Rattle.v_frame_plane.specs.FinalRows.{FinalRows, WritesEachTable, entries_with}
-use Rattle.v_frame.proofs.ItemKinds.{Begins, Kept, Kind, Promise, Walk, neither, of_pixels, slice, walk_row}
-use Rattle.v_frame_plane.proofs.lent.Loans.{Back, lft_over, lft_within, share_within}
+use Rattle.v_frame_plane.specs.PixelsLeft.{LendsPixelsInOrder, LendsPixelsInReverse, pixels_left}
+use Rattle.v_frame_raster.specs.Raster.{Raster, table_of}
+use Rattle.v_frame_plane.specs.RowsLeft.{LendsRowsInOrder, LendsRowsInReverse, rows_left}
+use Rattle.v_frame_raster.specs.Writes.{WritesTable}
+use Rattle.v_frame_plane.specs.FinalRows.{WritesEachTable}
+use Rattle.v_frame_plane.specs.LendsTable.{EndsWith}
+use Rattle.v_frame.proofs.ItemKinds.{Begins, Kept, Kind, LendsBack, Promise, Walk, neither, of_pixels, walk_row}
+use Rattle.v_frame_buffer.proofs.Loans.{Back, lft_over, lft_within, share_within}
 use Rattle.v_frame_raster.specs.{Table.row_major}
-use Rattle.v_frame_plane.specs.{Lends.LendsBuffer, Cursor.PixelsAreCountable, FinalPixels.BeginsOver}
+use Rattle.v_frame_plane.specs.{Cursor.PixelsAreCountable}
 use Rattle.v_frame_plane.specs.{contracts.plane.Plane.the_row, declared.rows_mut.RowsMut.RowsMut}
 use Rattle.v_frame.proofs.CallSteps.{told, asks_that, calls, spelt}
 use base.Share
-use Rattle.v_frame_plane.proofs.lent.Loans as loans
+use Rattle.v_frame_buffer.proofs.Loans as loans
 
 module _ {M : Type 1} {𝓤 : Ura M} (𝓛 : Logic 𝓤) (T : RattleType) where
   -- a `&mut` to a plane
@@ -72,23 +73,14 @@ module _ {M : Type 1} {𝓤 : Ura M} {𝓛 : Logic 𝓤} {K : Type 0} {Γ : List
         plane.now new) $ await t z $
         split t $ move t (2 ∷ 3 ∷ []) $ use2 𝓛 (‵ (flft κT qT)) (𝓛.lfts.lft_join κT qT) $ k)
 
-  -- [how the iterator ends; the tokens of its lifetime and of κT; how the plane's entries end; what the plane's lender
-  -- keeps; the way back]
-  pub rows_back : K → Soaks G → (T : RattleType) (α δ : ℕ) (κ κT : Lft) (q qT : Share)
-      (plane : MutBor (Raster T.Denot)) (walk : RowsMut T.Denot) (rows :
-      List (List T.Denot))
-      → let new = with_entries plane.now (entries_with walk rows) in
-      Step K 𝓛 (‵ (flft κT qT) ∷ Owned 𝓛 T κ (record plane { now = new }) ∷ ‵ (flft κ q) ∷ Γ) G
-      (‵ (FinalRows (param 0 T) walk rows) ∷ ‵ (flft (α ∷ κT) (share_within (Share.left qT))) ∷ ‵
-      (flft κT (Share.right qT)) ∷
-      ‵ (follows (the_row (param 0 T)) (Array (param 0 T) 0) δ walk.rest.ghost_name (with_entries plane.now)) ∷ Kept_by
-      𝓛 T α δ κ κT q plane ∷
-      raw (Back 𝓛 α κT (Share.left qT)) ∷ Γ) G
-  rows_back t z T α δ κ κT q qT plane walk rows = step
-      (λ k. let Plane = the_row (param 0 T) in let entries = entries_with walk rows in
-      move t (3 ∷ 0 ∷ []) $ use2 𝓛 (‵ (fres δ (Plane.coded.code (with_entries plane.now entries))))
-      (followed 𝓛 Plane (Array (param 0 T) 0) (with_entries plane.now) δ walk.rest.ghost_name entries) $
-      plane_back t z T α δ κ κT q qT plane (with_entries plane.now entries) $ k)
+  -- [how the plane ends; the tokens of its lifetime and of κT; what its lender keeps; the way back]
+  pub table_back : K → Soaks G → (T : RattleType) (α δ : ℕ) (κ κT : Lft) (q qT : Share)
+      (plane : MutBor (Raster T.Denot)) (table : List (List T.Denot)) →
+      ((new : Raster T.Denot) → WritesTable plane.now new table → Seq K 𝓛 (‵ (flft κT qT) ∷ Owned 𝓛 T κ
+      (record plane { now = new }) ∷ ‵ (flft κ q) ∷ Γ) G)
+      → Seq K 𝓛 (‵ (EndsWith (param 0 T) (record plane { ghost_name = δ }) table) ∷ Loaned 𝓛 T α δ κ κT q qT plane Γ) G
+  table_back t z T α δ κ κT q qT plane table k =
+      fpick t (λ new. fpick t (λ writes. plane_back t z T α δ κ κT q qT plane new $ k new writes))
 
   module _ (t : K) (z : Soaks G) (R : RattleType) (one : R.mir ≡ lone R.mir ∷ []) (τ : Ty)
       (same : raw_ty τ ≡ raw_ty (lone R.mir)) (κ : Lft) (q : Share) where
@@ -119,13 +111,11 @@ module _ {M : Type 1} {𝓤 : Ura M} {𝓛 : Logic 𝓤} {K : Type 0} {Γ : List
 module _ {M : Type 1} {𝓤 : Ura M} (T : RattleType) (loan : MutBor (Raster T.Denot)) where
   -- what the calls say
   abbrev Said : (k : Kind) → Walk T k → Item 𝓤
-  Said of_pixels walk = ‵ (LendsBuffer (param 0 T) loan (pixels_slice walk)) ⊛ raw
-      (fact 𝓤 ((pixels_slice walk).now ≡ loan.now.buffer)) ⊛
-      raw (fact 𝓤 (pixels_left walk ≡ row_major (table_of loan.now))) ⊛ raw (fact 𝓤 (BeginsOver loan.now walk)) ⊛
+  Said of_pixels walk = ‵ (LendsBack T of_pixels loan walk) ⊛
+      raw (fact 𝓤 (pixels_left walk ≡ row_major (table_of loan.now))) ⊛
       raw (fact 𝓤 (length (pixels_left walk) < 2 ^ 63)) ⊛ raw (fact 𝓤 (LendsPixelsInOrder T.Denot)) ⊛ raw
       (fact 𝓤 (LendsPixelsInReverse T.Denot))
-  Said _ walk = ‵ (LendsBuffer (param 0 T) loan (rows_slice walk)) ⊛ raw
-      (fact 𝓤 ((rows_slice walk).now ≡ loan.now.buffer)) ⊛
+  Said k walk = ‵ (LendsBack T k loan walk) ⊛
       raw (fact 𝓤 (rows_left walk ≡ table_of loan.now)) ⊛ raw (fact 𝓤 (WritesEachTable loan.now walk)) ⊛
       raw (fact 𝓤 (All (λ row. length row ≡ loan.now.geometry.width) (rows_left walk))) ⊛ raw
       (fact 𝓤 (PixelsAreCountable [] (rows_left walk) [])) ⊛
@@ -133,15 +123,11 @@ module _ {M : Type 1} {𝓤 : Ura M} (T : RattleType) (loan : MutBor (Raster T.D
       (fact 𝓤 (LendsRowsInReverse T.Denot))
 
   begins : (𝓛 : Logic 𝓤) (k : Kind) (walk : Walk T k) → ent 𝓤 (mean 𝓛 (Said k walk))
-      (sep 𝓤 (sem 𝓛 (LendsBuffer (param 0 T) loan (slice T k walk)))
-      (fact 𝓤 (Begins T k loan.now walk)))
-  begins 𝓛 of_pixels walk = qed 𝓛 (Said of_pixels walk ∷ []) ∵ split ! $ frame ! $ split ! $ drop ! $ split ! $ heard !
-      _ (λ all. split ! $
-      heard ! _ (λ tells. told ! (record { all = all; written = tells.written; tells = tells })))
-  begins 𝓛 k walk = qed 𝓛 (Said k walk ∷ []) ∵ split ! $ frame ! $ split ! $ drop ! $ split ! $ heard ! _
-      (λ all. split ! $
-      heard ! _ (λ written. split ! $ heard ! _ (λ tells. told !
-      (record { all = all; written = written; tells = tells }))))
+      (sep 𝓤 (sem 𝓛 (LendsBack T k loan walk)) (fact 𝓤 (Begins T k loan.now walk)))
+  begins 𝓛 of_pixels walk = qed 𝓛 (Said of_pixels walk ∷ []) ∵ split ! $ frame ! $ split ! $ heard ! _
+      (λ all. told ! (record { all = all; tells = tt }))
+  begins 𝓛 k walk = qed 𝓛 (Said k walk ∷ []) ∵ split ! $ frame ! $ split ! $ heard ! _ (λ all. split ! $
+      heard ! _ (λ written. split ! $ heard ! _ (λ wide. told ! (record { all = all; tells = (written, wide) }))))
 
 module _ {M : Type 1} {𝓤 : Ura M} (𝓛 : Logic 𝓤) (𝓜 : Model 𝓤 𝓛.H) (𝓡 : Running 𝓤 𝓛.H 𝓜) (T : RattleType)
     (laws : Laws T) where
@@ -170,8 +156,7 @@ module _ {M : Type 1} {𝓤 : Ura M} (𝓛 : Logic 𝓤) (𝓜 : Model 𝓤 𝓛
       ((α δ : ℕ) (walk : Walk T k) → let ℓ : NamedLft = record { mir = m; lft = α ∷ κT } in let R = walk_row k ℓ
       (param 0 T) in
       let u = (lowers k ℓ).lowered walk in Begins T k plane.now walk → Typed R.mir (u ∷ []) →
-      Seq K 𝓛 (‵ (R.own_val walk (u ∷ [])) ∷ ‵ (LendsBuffer (param 0 T) (record plane { ghost_name = δ })
-      (slice T k walk)) ∷
+      Seq K 𝓛 (‵ (R.own_val walk (u ∷ [])) ∷ ‵ (LendsBack T k (record plane { ghost_name = δ }) walk) ∷
       Loaned 𝓛 T α δ κ κT q qT plane Γ) (lands 𝓣.C 𝓣.Λ E d u rest p))
       → Seq K 𝓛 (Owned 𝓛 T κ plane ∷ ‵ (flft κ q) ∷ ‵ (flft κT qT) ∷ Γ) (runs 𝓣.C 𝓣.Λ E (seq (call f xs d) rest) p)
 
@@ -190,7 +175,7 @@ module _ {M : Type 1} {𝓤 : Ura M} (𝓛 : Logic 𝓤) (𝓜 : Model 𝓤 𝓛
         ),
         tt,
       )
-      (asks_that 𝓤 inT) refl (os _ _ _) (λ w ws. ‵ (LendsBuffer (param 0 T) loan (slice T k w)) ∷ raw
+      (asks_that 𝓤 inT) refl (os _ _ _) (λ w ws. ‵ (LendsBack T k loan w) ∷ raw
       (fact 𝓤 (Begins T k plane.now w)) ∷ [])
       (λ w ws. begins T loan 𝓛 k w) (λ v w ws. let ℓ : NamedLft = record { mir = m; lft = κw } in let low =
       (lowers k ℓ).lowered in

@@ -3,7 +3,7 @@
 -- Assumes `Logic`.
 use Rattle.v_frame.proofs.Steps.{w64}
 use Rattle.v_frame_buffer.proofs.Steps.{Item, List, Val}
-use Rattle.v_frame_buffer.proofs.Steps.{param}
+use Rattle.v_frame_buffer.proofs.Steps.{param, sep, wand, via, mono_r, apply∗, SProp, MutBor, ‵, raw, ◌$◌, ◌∵◌, ◌∷◌, qed, done, frame, fsplit, move, use2}
 use Rattle.v_frame_buffer.proofs.Steps.{ !, [], Fml, NamedLft}
 use Rattle.v_frame_buffer.proofs.Steps.{Logic, Ura, RattleType, Ty, ent, sem}
 use Rattle.v_frame_buffer.proofs.Steps.{erased}
@@ -13,10 +13,12 @@ use Rattle.v_frame_buffer.proofs.Steps.{size_lit}
 use Rattle.v_frame_buffer.proofs.Steps.{vint, lone}
 use Rattle.v_frame_buffer.proofs.Steps.{int, Fits, Env}
 use mir.Syntax.{Opd as Operand, size_of}
-use Rattle.v_frame.proofs.ItemKinds.{Kind, Walk, draw_row, left}
+use Rattle.v_frame.proofs.ItemKinds.{Begins, EndsBy, Kind, Law, LendsBack, Walk, draw_row, left, neither, of_rows}
+use Rattle.v_frame_raster.specs.Raster.{Raster}
+use Rattle.v_frame_plane.specs.FinalRows.{WritesEachTable}
+use Rattle.v_frame_plane.specs.Dropped.{DroppedRowsKeepTheirPixels}
+use Rattle.v_frame_plane.specs.LendsTable.{HeldRowsAreTheTable}
 use Rattle.v_frame.proofs.ItemKinds.{of_pixels, walk_row, FinalItems}
-use Rattle.v_frame_plane.proofs.lent.{PixelsDropped.pixels_dropped}
-use Rattle.v_frame_plane.proofs.lent.{RowLoans.rows_dropped}
 use types.Run.{Opd}
 
 module _ (T : RattleType) where
@@ -25,10 +27,45 @@ module _ (T : RattleType) where
   Owned k ℓ = (walk_row k ℓ (param 0 T)).own_val
 
   module _ {M : Type 1} {𝓤 : Ura M} (𝓛 : Logic 𝓤) where
-    pub dropped : (k : Kind) (ℓ : NamedLft) (walk : Walk T k) (vs : List Val) → ent 𝓤 (sem 𝓛 (Owned k ℓ walk vs))
-        (sem 𝓛 (FinalItems T k walk (left T k walk)))
-    dropped of_pixels = pixels_dropped 𝓛 (param 0 T)
-    dropped _ = rows_dropped 𝓛 (param 0 T)
+    abbrev Last : (k : Kind) → Walk T k → Fml
+    Last k walk = FinalItems T k walk (left T k walk)
+
+    dropped_pixels : (ℓ : NamedLft) (walk : Walk T of_pixels) (vs : List Val) → ent 𝓤 (sem 𝓛 (Law T of_pixels))
+        (wand 𝓤 (sem 𝓛 (Owned of_pixels ℓ walk vs)) (sem 𝓛 (Last of_pixels walk)))
+    dropped_pixels ℓ walk vs = record { apply = λ a says. says ℓ walk vs }
+
+    dropped_rows : (ℓ : NamedLft) (walk : Walk T of_rows) (vs : List Val) →
+        ent 𝓤 (sem 𝓛 (DroppedRowsKeepTheirPixels (param 0 T)))
+        (wand 𝓤 (sem 𝓛 (Owned of_rows ℓ walk vs)) (sem 𝓛 (Last of_rows walk)))
+    dropped_rows ℓ walk vs = record { apply = λ a says. says ℓ walk vs }
+
+    held_rows : (plane : MutBor (Raster T.Denot)) (walk : Walk T of_rows) → WritesEachTable plane.now walk →
+        ent 𝓤 (sem 𝓛 (HeldRowsAreTheTable (param 0 T)))
+        (wand 𝓤 (sem 𝓛 (LendsBack T of_rows plane walk)) (sem 𝓛 (EndsBy T of_rows plane walk)))
+    held_rows plane walk written = record { apply = λ a says. says plane walk written }
+
+    by : (Gives New Last : Fml) → ent 𝓤 (sem 𝓛 Gives) (wand 𝓤 (sem 𝓛 New) (sem 𝓛 Last)) →
+        ent 𝓤 (sep 𝓤 (sem 𝓛 New) (sem 𝓛 Gives)) (sem 𝓛 Last)
+    by Gives New Last gives = via 𝓤 (sep 𝓤 (sem 𝓛 New) (wand 𝓤 (sem 𝓛 New) (sem 𝓛 Last)))
+        (mono_r 𝓤 (sem 𝓛 New) gives) (apply∗ 𝓤 (sem 𝓛 New) (sem 𝓛 Last))
+
+    -- by the law, an iterator that is dropped has as final values what it shows, and the plane ends by those with which
+    -- one began
+    pub by_law : (k : Kind) (ℓ : NamedLft) (walk begun : Walk T k) (vs : List Val) (plane : MutBor (Raster T.Denot)) →
+        Begins T k plane.now begun →
+        ent 𝓤 (sep 𝓤 (sem 𝓛 (Law T k)) (sep 𝓤 (sem 𝓛 (Owned k ℓ walk vs)) (sem 𝓛 (LendsBack T k plane begun))))
+        (sep 𝓤 (sem 𝓛 (Last k walk)) (sem 𝓛 (EndsBy T k plane begun)))
+    by_law of_pixels ℓ walk begun vs plane begins =
+        qed 𝓛 (‵ (Law T of_pixels) ∷ ‵ (Owned of_pixels ℓ walk vs) ∷ ‵ (LendsBack T of_pixels plane begun) ∷ []) ∵
+        move ! (1 ∷ 0 ∷ []) $ use2 𝓛 (‵ (Last of_pixels walk))
+        (by (Law T of_pixels) (Owned of_pixels ℓ walk vs) (Last of_pixels walk) (dropped_pixels ℓ walk vs)) $ frame ! $ done !
+    by_law k ℓ walk begun vs plane begins =
+        qed 𝓛 (‵ (Law T k) ∷ ‵ (Owned k ℓ walk vs) ∷ ‵ (LendsBack T k plane begun) ∷ []) ∵ fsplit ! $
+        move ! (2 ∷ 0 ∷ []) $ use2 𝓛 (‵ (Last k walk))
+        (by (DroppedRowsKeepTheirPixels (param 0 T)) (Owned k ℓ walk vs) (Last k walk) (dropped_rows ℓ walk vs)) $ frame ! $
+        move ! (1 ∷ 0 ∷ []) $ use2 𝓛 (‵ (EndsBy T k plane begun))
+        (by (HeldRowsAreTheTable (param 0 T)) (LendsBack T k plane begun) (EndsBy T k plane begun)
+        (held_rows plane begun begins.tells.0)) $ done !
 
   -- the iterator where no lifetime is named
   abbrev pub bare : Kind → Ty

@@ -9,7 +9,7 @@ use Rattle.v_frame_buffer.proofs.Steps.{RowLaws, Dict, Model}
 use denote.Exit.{Last, left as left_at}
 use Rattle.v_frame.proofs.ItemKinds.{Ends, Kind, Promise, draw_row, of_pixels}
 use Rattle.std.specs.{declared.clone.Clone.Ghosts}
-use Rattle.v_frame_plane.proofs.lent.{RowMemory.slice_of, Taken.slice_laws}
+use Rattle.v_frame_buffer.proofs.Slices.{slice_of, slice_laws}
 use Rattle.v_frame.specs.declared.replay.draw.Side.{Side, TheVariants.Front, TheVariants.Back}
 use Rattle.v_frame_plane.specs.contracts as lower
 use Rattle.v_frame.specs.contracts.replay as replay
@@ -76,6 +76,12 @@ module _ {M : Type 1} {𝓤 : Ura M} (𝓛 : Logic 𝓤) (𝓜 : Model 𝓤 𝓛
     lower.rows_mut.RowsMut.next_back.clauses T 𝓛 𝓜.mem
         𝓡.returns,
   )
+
+  abbrev pub law : Kind → Promise 𝓤
+  law of_pixels = (lower.laws.dropped_pixels_keep_their_values.ended T,
+    lower.laws.dropped_pixels_keep_their_values.clauses T 𝓛 𝓜.mem 𝓡.returns)
+  law _ = (lower.laws.held_rows_are_the_table.ended T,
+    lower.laws.held_rows_are_the_table.clauses T 𝓛 𝓜.mem 𝓡.returns)
 
   abbrev pub changes : Ghosts T.Denot → Dict → Kind → Promise 𝓤
   changes clone dict of_pixels = (

@@ -12,7 +12,7 @@ use Rattle.v_frame_buffer.proofs.Steps.{free_all, from, fsplit, ftrue, get, get_
 use Rattle.v_frame_buffer.proofs.Steps.{in_variant, is, lands_as, lands_last, lit<, look_at, look_in_at, move, mut_vals}
 use Rattle.v_frame_buffer.proofs.Steps.{named, no_more, nothing, of_opd, param, pass_all, peeks, plain, proved, raw}
 use Rattle.v_frame_buffer.proofs.Steps.{refl, returns, rewrite, runs, sets, shows, skips, stay_dropped, stop, sub}
-use Rattle.v_frame_buffer.proofs.Steps.{switches_on, sym, tables, through, unit_lit, use1, use2, vptr, vrt, vunit}
+use Rattle.v_frame_buffer.proofs.Steps.{switches_on, sym, tables, through, unit_lit, use1, use2, use3, vptr, vrt, vunit}
 use Rattle.v_frame_buffer.proofs.Steps.{walk_of, whole, yes, ℕ, !, [], ‵, ◌$◌, ◌∙◌, ◌∷◌, ◌≡◌, ◌⊑◌, Fml, NamedLft, Lft}
 use Rattle.v_frame_buffer.proofs.Steps.{live, of_list, Step, step, ◌++◌, Logic, Ura, RattleType, Laws, Ty}
 use Rattle.v_frame_buffer.proofs.Steps.{tcons, tnil, ty_ref, ty_param, erased, mut, slice_ty, MachineTables, Running}
@@ -29,27 +29,27 @@ use types.Kit.{Post as Exits}
 use Rattle.v_frame.proofs.CallSteps.{asks_that, calls, calls_last, ends, opened, read_twice, unit_fits, tells, told}
 use Rattle.v_frame.proofs.Drawing.{Draws, by_side, from_back, from_front}
 use Rattle.v_frame.proofs.ItemKinds.{Ends, Entry, Kept, Kind, Lends, Promise, Puts, Walk, draw_row, left, made, neither}
-use Rattle.v_frame.proofs.ItemKinds.{of_pixels, walk_row, Draw, FinalItems, rows_of, shown, side_of, slice, written}
+use Rattle.v_frame.proofs.ItemKinds.{of_pixels, walk_row, Draw, EndsBy, FinalItems, Law, LendsBack, shown, side_of, written}
 use Rattle.std.specs.{declared.clone.Clone.Ghosts}
-use Rattle.v_frame_plane.proofs.lent.{Loans.Back as Way_back, Loans.share_within}
+use Rattle.v_frame_buffer.proofs.{Loans.Back as Way_back, Loans.share_within}
 use Rattle.v_frame.specs.Walk.{remaining_after, remaining_in_turn, walk_leaves}
 use Rattle.v_frame.specs.declared.replay.draw.Side.{TheVariants.Front, TheVariants.Back}
-use Rattle.v_frame.proofs.{OptionCases.by_told, DrawnLoans.item_taken, DrawnLoans.none_taken, BegunWalks.rows_end}
+use Rattle.v_frame.proofs.{OptionCases.by_told, DrawnLoans.item_taken, DrawnLoans.none_taken, BegunWalks.table_ends}
 use Rattle.v_frame.proofs.{DrawnItems.nth_left, SharedItems.lends_nth, SharedItems.nth_of}
-use Rattle.v_frame_raster.specs.Raster.{table_of, with_entries}
-use Rattle.v_frame_plane.specs.FinalRows.{FinalRows, WritesTable, entries_with}
+use Rattle.v_frame_raster.specs.Raster.{table_of}
+use Rattle.v_frame_plane.specs.LendsTable.{EndsWith}
 use Rattle.v_frame.proofs.DrawnLoans.{each_drawn, none_drawn, nth_drawn}
-use Rattle.v_frame.proofs.Lending.{Kept_by, begins_walk, lowers, opens, lends_walk, rows_back, walk_back}
-use Rattle.v_frame_plane.specs.{Lends.LendsBuffer}
+use Rattle.v_frame.proofs.Lending.{Kept_by, begins_walk, lowers, opens, lends_walk, table_back, walk_back}
 use Rattle.v_frame.proofs.WriteItem.{Left, asks, changes, draws as draws_promise, draws_laws, given, given_laws}
 use Rattle.v_frame.proofs.WriteItem.{its_value, left_as, value_is}
-use Rattle.v_frame_plane.proofs.lent.Methods.{gets, in_order, locals_of, set, value}
+use Rattle.v_frame_buffer.proofs.Statements.{gets, in_order, locals_of, set, value}
 use base.Share
 use mathlib.Core.WellFounded.InvImage
 use Rattle.v_frame_plane.specs.contracts.plane.Plane as planes
 use Rattle.v_frame.specs.contracts.replay.pixel_writes.write_pixels
 use Rattle.v_frame.specs.contracts.replay.row_writes.write_rows
-use Rattle.v_frame.proofs.OwnedItems.{dropped, bare, size_opd, sized}
+use Rattle.v_frame.proofs.WriteItem.{law}
+use Rattle.v_frame.proofs.OwnedItems.{by_law, bare, size_opd, sized}
 
 module _ {M : Type 1} {𝓤 : Ura M} (𝓛 : Logic 𝓤) (𝓜 : Model 𝓤 𝓛.H) (𝓡 : Running 𝓤 𝓛.H 𝓜) (T : RattleType)
     (laws : Laws T) (clone : Ghosts T.Denot) (dict :
@@ -60,14 +60,18 @@ module _ {M : Type 1} {𝓤 : Ura M} (𝓛 : Logic 𝓤) (𝓜 : Model 𝓤 𝓛
 
   -- the code, of the names and types that it has, and of the functions that it calls
   module _ (option side : Sym) (kept drawing lent whole_plane read entry : Ty)
-      (opening asking ahead behind changing : Callee) where
+      (opening asking ahead behind changing dropping : Callee) where
     abbrev handed : Kind → Ty
     handed of_pixels = ty_ref erased mut (ty_param 0)
     handed _ = slice_ty (ty_ref erased mut (ty_param 0))
 
     abbrev further : Kind → List Ty
-    further of_pixels = []
-    further k = handed k ∷ []
+    further of_pixels = ty_unit ∷ []
+    further k = handed k ∷ ty_unit ∷ []
+
+    abbrev unit_of : Kind → ℕ
+    unit_of of_pixels = 20
+    unit_of _ = 21
 
     abbrev changes_by : ℕ → Body
     changes_by i = gets 18 changing (value i ∷ value 5 ∷ [])
@@ -108,8 +112,8 @@ module _ {M : Type 1} {𝓤 : Ura M} (𝓛 : Logic 𝓤) (𝓜 : Model 𝓤 𝓛
         set 13 (op2 offset (copy (place 2 (field 0 ∷ []))) (value 12)) ∷ set 5 (addr_of (place 13 (deref read ∷ []))) ∷
         block (draws_one k) ∷ []) goes_on
 
-    abbrev ends_so : Body
-    ends_so = seq (set 0 (rv_opd opd_unit)) return
+    abbrev ends_so : Kind → Body
+    ends_so k = in_order (gets (unit_of k) dropping [] ∷ set 0 (rv_opd opd_unit) ∷ []) return
 
     abbrev code : Kind → Fn
     code k = let number = ty_int w64 in let gives = ty_enum option (ttcons tnil (ttcons (tcons (handed k) tnil) ttnil))
@@ -123,7 +127,7 @@ module _ {M : Type 1} {𝓤 : Ura M} (𝓛 : Logic 𝓤) (𝓜 : Model 𝓤 𝓛
           body = in_order (set 9 (addr_of (place 1 (deref whole_plane ∷ []))) ∷ gets 8 opening (value 9 ∷ []) ∷ set 3
               (rv_opd (value 8)) ∷
               block (in_order (set 4 (rv_opd (int w64 0)) ∷ set 10 (rv_opd (copy (place 2 (field 1 ∷ [])))) ∷ [])
-              (block (loop (turn k)))) ∷ []) ends_so;
+              (block (loop (turn k)))) ∷ []) (ends_so k);
           locals = types (ty_unit ∷ ty_ref (named 0) mut kept ∷ slice_ty (ty_ref (named 1) imm drawing) ∷ []) ++ local
               (bare T k) memory_slot ∷
               types (number ∷ ty_ref erased imm drawing ∷ gives ∷ handed k ∷ bare T k ∷ ty_ref erased mut kept ∷ number
@@ -160,13 +164,13 @@ module _ {M : Type 1} {𝓤 : Ura M} (𝓛 : Logic 𝓤) (𝓜 : Model 𝓤 𝓛
     Written neither = Unit {2}
     Written k = (key : Callee) → Kept 𝓛 𝓜 𝓡 (opens 𝓛 𝓜 𝓡 T laws k) opening → Kept 𝓛 𝓜 𝓡 (asks 𝓛 𝓜 𝓡 T k) asking →
         Kept 𝓛 𝓜 𝓡 (draws_promise 𝓛 𝓜 𝓡 T k Front) ahead → Kept 𝓛 𝓜 𝓡 (draws_promise 𝓛 𝓜 𝓡 T k Back) behind →
-        Kept 𝓛 𝓜 𝓡 (changes 𝓛 𝓜 𝓡 T clone dict k) changing → Closed 𝓤 𝓛.H 𝓣.C 𝓣.Λ key (code k) → Kept 𝓛 𝓜 𝓡
+        Kept 𝓛 𝓜 𝓡 (changes 𝓛 𝓜 𝓡 T clone dict k) changing → Kept 𝓛 𝓜 𝓡 (law 𝓛 𝓜 𝓡 T k) dropping → Closed 𝓤 𝓛.H 𝓣.C 𝓣.Λ key (code k) → Kept 𝓛 𝓜 𝓡
         (writes_items k) key
 
     pub items_written : (k : Kind) → Written k
     unfolding after_turn tables_of
     items_written neither = tt
-    items_written k = λ key opened_by asked first_drawn last_drawn changed closed.
+    items_written k = λ key opened_by asked first_drawn last_drawn changed law_holds closed.
         let item = param 0 T in let function = code k in
         let En₀ = (writes_items k).0 in let c = (writes_items k).1 in
         let Self = plain (λ _. planes.the_row (copied 0 T)) in let Lent = SliceRefOf (1 ∷ []) tt
@@ -201,9 +205,9 @@ module _ {M : Type 1} {𝓤 : Ura M} (𝓛 : Logic 𝓤) (𝓜 : Model 𝓤 𝓛
         lands_as ! refl refl typed.0 $ sets ! (of_opd ! (get ! refl)) refl typed.0 $
         -- [the iterator; how the plane ends; the tokens of κw and κT; the plane's lender; the way back; the draws; the
         -- token of κd; the locals]
-        let Shows : Item 𝓤 = ‵ (LendsBuffer item loan (slice T k w)) in let Lender : Item 𝓤 = Kept_by 𝓛 T α δ κ κT q
+        let Shows : Item 𝓤 = ‵ (LendsBack T k loan w) in let Lender : Item 𝓤 = Kept_by 𝓛 T α δ κ κT q
         plane in
-        let turning = turn k in let behind_loop = ends_so in
+        let turning = turn k in let behind_loop = ends_so k in
         -- so many of the draws are done, and these items are left
         let State : Type 0 = (s : ℕ × Walk T k) × (s.0 ≤ n) ×
         (left T k s.1 ≡ remaining_in_turn (left T k w) (map (side_of T k) (take s.0 draws))) in
@@ -369,24 +373,28 @@ module _ {M : Type 1} {𝓤 : Ura M} (𝓛 : Logic 𝓤) (𝓜 : Model 𝓤 𝓛
         forget_but ! En (1 ∷ 2 ∷ 3 ∷ 4 ∷ 5 ∷ 10 ∷ []) refl $ writes v r us.0))))))
         (λ over. let all : i ≡ n = omega (arith, nltb→le i n over, t.1) in
         jumps ! $ exec ! 𝓣.C 𝓣.Λ En behind_loop (at_ret En Post) $
+        -- [the iterator; what was put back; the tokens of κw, κT and κd; the draws; how the plane ends; its lender; the
+        -- way back; the locals]. The law of the iterator is called
+        calls ! (3 ∷ []) run (law 𝓛 𝓜 𝓡 T k).0 (law 𝓛 𝓜 𝓡 T k).1 law_holds (((κT, tt), (rT, tt), tt, tt, tt), tt)
+        (asks_that 𝓤 inT) refl (no_more !) (λ r us. ‵ (Law T k) ∷ []) (λ r us. id⊢ 𝓤 _)
+        (λ v r us. feq_l ! (λ is_unit. lands_as ! (ap only is_unit) refl (tt, tt) $
         -- the iterator is dropped, and the plane comes back as its items end
-        use1 𝓛 (‵ (FinalItems T k walk (left T k walk))) (dropped T 𝓛 k ℓ walk (low walk ∷ [])) $
+        move ! (0 ∷ 2 ∷ 7 ∷ []) $ use3 𝓛 (‵ (FinalItems T k walk (left T k walk)) ⊛ ‵ (EndsBy T k loan w))
+        (by_law T 𝓛 k ℓ walk w (low walk ∷ []) loan begun) $ split ! $
+        -- [the final items; how the plane ends; the token of κT; what was put back; the tokens of κw and κd; the draws;
+        -- the plane's lender; the way back]
         let table = table_of plane.now in let first_shown = shown T k plane.now in let second = walk_leaves
         (side_of T k) (made T k) first_shown draws in
-        let last = written T k table draws in let rows = rows_of T k w in let new = with_entries plane.now
-        (entries_with rows last) in
-        use2 𝓛 (‵ (FinalItems T k w second))
+        let last = written T k table draws in
+        move ! (0 ∷ 3 ∷ []) $ use2 𝓛 (‵ (FinalItems T k w second))
         (each_drawn 𝓛 T k draws i all w walk first_shown begun.all t.2) $
-        use1 𝓛 (raw (fact 𝓤 (map length last ≡ map length table)) ⊛ ‵ (FinalRows item rows last))
-        (rows_end 𝓛 T k plane.now w begun draws) $
-        split ! $ heard ! _ (λ long. move ! (0 ∷ 1 ∷ 2 ∷ 5 ∷ 6 ∷ 7 ∷ []) $ rows_back ! tt T α δ κ κT q qT plane rows
-        last $
+        use2 𝓛 (‵ (EndsWith item loan last)) (table_ends 𝓛 T loan k w draws) $
+        move ! (0 ∷ 2 ∷ 1 ∷ 5 ∷ 6 ∷ []) $ table_back ! tt T α δ κ κT q qT plane last (λ new told_of.
         sets ! (of_opd ! (unit_lit !)) refl (tt, tt) $ returns ! (look_at ! 0 refl) $ free_all ! refl $
-        let told_of : WritesTable plane.now new last = begun.written last long in
         nothing ! $ feq_i ! (List Val) (vunit ∷ []) (vunit ∷ []) refl $
         ends ! (4 ∷ 5 ∷ 2 ∷ 3 ∷ 1 ∷ 0 ∷ []) En₀ stayed c y vunit tt (new, (tt, tt)) (tt, (tt, tt)) refl $ tells !
         told_of.table $
-        told ! (λ k. (told_of.geometry k, told_of.border k)))) in
+        told ! (λ k. (told_of.geometry k, told_of.border k)))))) in
         use0 𝓛 (‵ (Puts T k [] w w)) (none_drawn 𝓛 T k w) $
         move ! (1 ∷ 0 ∷ 3 ∷ 4 ∷ 8 ∷ 7 ∷ 2 ∷ []) $
         first ! $ blocks ! $ sets ! (of_opd ! (lit ! tt)) refl (tt, record { fits = lit< tt }) $

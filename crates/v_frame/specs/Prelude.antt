@@ -23,8 +23,8 @@ pub use Rattle.v_frame_raster.specs.StridedRows.{piece_fronts, strided_table, st
 pub use Rattle.v_frame_raster.specs.StridedRows.{IsInsideTable}
 pub use Rattle.v_frame_raster.specs.RasterLaws.{HasMarks, HasPlaces, HoldsPixels, HoldsRows, ShowsRectangle, AgreeAt}
 pub use Rattle.v_frame_raster.specs.RasterLaws.{IsMadeOfEntries}
-pub use Rattle.v_frame_plane.specs.RowsLeft.{rows_left, rows_slice}
-pub use Rattle.v_frame_plane.specs.PixelsLeft.{pixels_left, pixels_slice}
+pub use Rattle.v_frame_plane.specs.RowsLeft.{rows_left}
+pub use Rattle.v_frame_plane.specs.PixelsLeft.{pixels_left}
 pub use Rattle.v_frame_plane.specs.declared.error.CopyError.{CopyError}
 pub use Rattle.v_frame_plane.specs.declared.error.CopyError.TheVariants.{DataLength, InvalidStride}
 pub use Rattle.v_frame.specs.Frame.{Tables, tables_of, table_at, with_table, plane_at, KeepsBorders}
@@ -34,13 +34,15 @@ pub use Rattle.v_frame.specs.Walk.{pixels_written}
 pub use Rattle.v_frame.specs.Replay.{answers_to, tables_after, reply_to, StoppedAfter}
 -- what proofs by hand of callers cite of rows and pixels that are held: what the plane ends as,
 -- what `next` and `next_back` lend, and what an iterator that is dropped leaves
-pub use Rattle.v_frame_plane.specs.Lends.{LendsBuffer}
+pub use Rattle.v_frame_plane.specs.LendsTable.{EndsWith, LendsRows, LendsTable, LendsPixelTable}
+pub use Rattle.v_frame_plane.specs.LendsTable.{HeldRowsAreTheTable}
+pub use Rattle.v_frame_raster.specs.Writes.{WritesTable}
 pub use Rattle.v_frame_plane.specs.FinalRows.{EndsAs, FinalRows, KeepsRows, TakesFirstRow, TakesLastRow, LendsFirstRow}
-pub use Rattle.v_frame_plane.specs.FinalRows.{LendsLastRow, entries_with, WritesTable, WritesEachTable}
-pub use Rattle.v_frame_plane.specs.FinalPixels.{PixelEndsAs, FinalPixels, Parts, ArePartsOf, KeepsPixels}
+pub use Rattle.v_frame_plane.specs.FinalRows.{LendsLastRow, WritesEachTable}
+pub use Rattle.v_frame_plane.specs.FinalPixels.{PixelEndsAs, FinalPixels, KeepsPixels}
 pub use Rattle.v_frame_plane.specs.FinalPixels.{TakesFirstPixel, TakesLastPixel, LendsFirstPixel}
-pub use Rattle.v_frame_plane.specs.FinalPixels.{LendsLastPixel, BeginsOver}
-pub use Rattle.v_frame_plane.specs.Dropped.{DroppedRowsKeepTheirPixels, DroppedPixelsKeepTheirValues}
+pub use Rattle.v_frame_plane.specs.FinalPixels.{LendsLastPixel}
+pub use Rattle.v_frame_plane.specs.Dropped.{DroppedRowsKeepTheirPixels, DroppedPixelsKeepTheirValues, RowsAreHeld}
 pub use Rattle.v_frame_plane.specs.declared.rows_mut.RowsMut.{RowsMut}
 pub use Rattle.v_frame_plane.specs.declared.pixels_mut.PixelsMut.{PixelsMut}
 use Rattle.v_frame.specs.declared.frame.Frame.{Frame as TheFrame}

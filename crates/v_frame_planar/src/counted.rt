@@ -50,11 +50,19 @@ impl<D> Counted<D> {
         }
     }
 
-    /// Returns the reader or the writer.
-    pub fn get_ref(&self) -> &D
+    /// Returns a reference to the wrapped reader or writer.
+    pub fn inner(&self) -> &D
         ensures { result.now ≡ self.now.inner }
     {
         &self.inner
+    }
+
+    /// Returns a reference to the wrapped reader or writer. The wrappers of `std` use this name for
+    /// [`inner`](Self::inner).
+    pub fn get_ref(&self) -> &D
+        ensures { result.now ≡ self.now.inner }
+    {
+        self.inner()
     }
 
     /// Returns the reader or the writer back.

@@ -1,7 +1,7 @@
 -- What lends rows and pixels for writing, and the steps of the proofs by hand of it.
 pub mod Cuts
 pub mod Dropped
-pub mod Loans
+pub mod EndsTable
 pub mod Methods
 pub mod PixelCuts
 pub mod PixelDraws

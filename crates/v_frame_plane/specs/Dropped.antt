@@ -1,7 +1,8 @@
 -- What iterators that lend rows and pixels leave when they are dropped: what they show.
 use Rattle.std.specs.Prelude.{List}
 use Rattle.std.specs.Borrow.{Fml, RattleType}
-use base.Fml.{fall, fwand}
+use base.Fml.{fall, fsep, fwand}
+use Rattle.v_frame_plane.specs.LendsTable.{HeldRowsAreTheTable}
 use denote.Ref.{NamedLft}
 use mir.Val.{Val}
 use Rattle.v_frame_plane.specs.PixelsLeft.{pixels_left}
@@ -31,3 +32,7 @@ module _ (T : RattleType) where
       fall (List Val) (λ values.
       fwand ((pixels_row lifetime T).own_val walk values)
       (FinalPixels T walk (pixels_left walk)))))
+
+  -- what an iterator over rows means
+  abbrev pub RowsAreHeld : Fml
+  RowsAreHeld = fsep DroppedRowsKeepTheirPixels (HeldRowsAreTheTable T)

@@ -38,7 +38,7 @@ module _ (T : RattleType) where
   PixelEndsAs name pixel = fres name (T.coded.code pixel)
 
   -- when the borrow ends, the pixels that the iterator has left hold these
-  abbrev pub FinalPixels : PixelsMut T.Denot → List T.Denot → Fml
+  unfoldable pub FinalPixels : PixelsMut T.Denot → List T.Denot → Fml
   FinalPixels walk second =
       fex (Parts T.Denot) (λ parts.
       fex (ArePartsOf walk second parts) (λ _.

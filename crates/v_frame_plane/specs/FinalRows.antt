@@ -24,7 +24,7 @@ module _ {T : Type 0} where
 
   -- so each table whose rows are as long as those that are shown is written by the rows of the
   -- iterator
-  abbrev pub WritesEachTable : Raster T → RowsMut T → Type 0
+  unfoldable pub WritesEachTable : Raster T → RowsMut T → Type 0
   WritesEachTable plane walk =
       (rows : List (List T)) → map length rows ≡ map length (table_of plane)
       → WritesTable plane (with_entries plane (entries_with walk rows)) rows
@@ -35,7 +35,7 @@ module _ (T : RattleType) where
   EndsAs name entries = fres name ((Array T 0).coded.code entries)
 
   -- when the borrow ends, the rows that the iterator has left hold these
-  abbrev pub FinalRows : RowsMut T.Denot → List (List T.Denot) → Fml
+  unfoldable pub FinalRows : RowsMut T.Denot → List (List T.Denot) → Fml
   FinalRows walk second = EndsAs walk.rest.ghost_name (entries_with walk second)
 
   abbrev pub KeepsRows : RowsMut T.Denot → RowsMut T.Denot → Fml

@@ -3,6 +3,7 @@ pub mod Cursor
 pub mod Cut
 pub mod Dropped
 pub mod Lends
+pub mod LendsTable
 pub mod PixelsLeft
 pub mod Plane
 pub mod RowsLeft

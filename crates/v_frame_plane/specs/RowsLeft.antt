@@ -7,7 +7,7 @@ use Rattle.v_frame_plane.specs.Cursor.{rows_ahead}
 use Rattle.v_frame_plane.specs.declared.rows_mut.RowsMut.{RowsMut}
 
 -- the rows that are left, as they are now
-abbrev pub rows_left : {T : Type 0} → RowsMut T → List (List T)
+unfoldable pub rows_left : {T : Type 0} → RowsMut T → List (List T)
 rows_left walk = rows_ahead walk.start walk.width walk.gap walk.count walk.rest.now
 
 -- the slice that the iterator lends parts of: until a row is taken, the whole buffer

@@ -9,7 +9,7 @@ ghost use Rattle.v_frame_raster.specs.Table.{Table, width_of, height_of, row_maj
 ghost use Rattle.v_frame_raster.specs.Raster.{Raster, table_of};
 ghost use Rattle.v_frame_plane.specs.Copy.{Copies, packed_copy, strided_copy, packed_byte_copy, ComesBack};
 ghost use Rattle.v_frame_raster.specs.StridedRows.{piece_fronts};
-ghost use Rattle.v_frame_plane.specs.Dropped.{DroppedPixelsKeepTheirValues, DroppedRowsKeepTheirPixels};
+ghost use Rattle.v_frame_plane.specs.Dropped.{DroppedPixelsKeepTheirValues, DroppedRowsKeepTheirPixels, RowsAreHeld};
 ghost use Rattle.std.specs.Borrow.{sem};
 ghost use Rattle.v_frame_raster.specs.RasterLaws.{DeterminesBuffer, HasPlaces, HasMarks, HoldsPixels, HoldsRows};
 ghost use Rattle.v_frame_raster.specs.RasterLaws.{IsMadeOfEntries, ShowsRectangle};
@@ -113,6 +113,12 @@ pub fn packed_copies_agree(
 /// began.
 pub fn dropped_rows_keep_their_pixels<T>()
     ensures* { sem 𝓛 (DroppedRowsKeepTheirPixels T.row) }
+{}
+
+/// What an iterator over rows for writing means: where it is dropped, its rows hold what they show once the borrow of their
+/// plane ends, and what the rows of `Plane::rows_mut` hold then is the plane's table.
+pub fn held_rows_are_the_table<T>()
+    ensures* { sem 𝓛 (RowsAreHeld T.row) }
 {}
 
 /// Pixels for writing whose iterator is dropped hold, once the borrow of their plane ends, what they show, as rows do.

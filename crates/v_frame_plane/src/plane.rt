@@ -78,10 +78,10 @@ impl<T> Plane<T> {
     ghost use Rattle.v_frame_raster.specs.Writes.{WritesEachPixel};
     ghost use Rattle.v_frame_plane.specs.Lends.{LendsBuffer, LendsRow, LendsVisibleRow, LendsVisiblePixel};
     ghost use Rattle.v_frame_plane.specs.Cursor.{PixelsAreCountable};
-    ghost use Rattle.v_frame_plane.specs.RowsLeft.{rows_left, rows_slice, LendsRowsInOrder, LendsRowsInReverse};
+    ghost use Rattle.v_frame_plane.specs.RowsLeft.{rows_left, LendsRowsInOrder, LendsRowsInReverse};
     ghost use Rattle.v_frame_plane.specs.FinalRows.{WritesEachTable};
-    ghost use Rattle.v_frame_plane.specs.PixelsLeft.{pixels_left, pixels_slice, LendsPixelsInOrder, LendsPixelsInReverse};
-    ghost use Rattle.v_frame_plane.specs.FinalPixels.{BeginsOver};
+    ghost use Rattle.v_frame_plane.specs.LendsTable.{LendsRows, LendsPixelTable};
+    ghost use Rattle.v_frame_plane.specs.PixelsLeft.{pixels_left, LendsPixelsInOrder, LendsPixelsInReverse};
 
     /// Returns the plane, lent for reading. Our own.
     pub fn as_plane_ref(&self) -> PlaneRef<'_, T>
@@ -222,8 +222,7 @@ impl<T> Plane<T> {
     ///
     /// Ports `Plane::rows_mut` of `v_frame` 0.7.0.
     pub fn rows_mut(&mut self) -> RowsMut<'_, T>
-        ensures* writes_back { sem 𝓛 (LendsBuffer T.row self.entry (rows_slice result)) }
-        ensures slice { (rows_slice result).now ≡ self.old.buffer }
+        ensures* writes_back { sem 𝓛 (LendsRows T.row self.entry result) }
         ensures rows { rows_left result ≡ table_of self.old }
         ensures written { WritesEachTable self.old result }
         ensures wide { All (λ row. length row ≡ self.old.geometry.width) (rows_left result) }
@@ -263,10 +262,8 @@ impl<T> Plane<T> {
     ///
     /// Ports `Plane::pixels_mut` of `v_frame` 0.7.0.
     pub fn pixels_mut(&mut self) -> PixelsMut<'_, T>
-        ensures* writes_back { sem 𝓛 (LendsBuffer T.row self.entry (pixels_slice result)) }
-        ensures slice { (pixels_slice result).now ≡ self.old.buffer }
+        ensures* ends { sem 𝓛 (LendsPixelTable T.row self.entry result) }
         ensures pixels { pixels_left result ≡ row_major (table_of self.old) }
-        ensures begins { BeginsOver self.old result }
         ensures bound { length (pixels_left result) < 2 ^ 63 }
         ensures runs { LendsPixelsInOrder T }
         ensures runs_back { LendsPixelsInReverse T }

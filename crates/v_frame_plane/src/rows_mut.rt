@@ -154,7 +154,7 @@ impl<'a, T> Iterator for RowsMut<'a, T> {
     }
 
     #[inline]
-    #[tactic(auto, using(crate::proofs::iterators::Cursors::count_of_rows))]
+    #[tactic(auto, using(crate::proofs::iterators::Cursors::count_left))]
     fn size_hint(&self) -> (usize, Option<usize>)
         ensures lower { IsWithinCount result.0 (item_count rows_left self.now) }
         ensures upper { IfSome result.1 (UpTo (item_count rows_left self.now)) }
@@ -177,7 +177,7 @@ impl<'a, T> DoubleEndedIterator for RowsMut<'a, T> {
 
 impl<'a, T> ExactSizeIterator for RowsMut<'a, T> {
     #[inline]
-    #[tactic(auto, using(crate::proofs::iterators::Cursors::count_of_rows))]
+    #[tactic(auto, using(crate::proofs::iterators::Cursors::count_left))]
     fn len(&self) -> usize {
         self.count
     }

@@ -15,12 +15,13 @@ pub enum ChromaSubsampling {
     Yuv420,
     /// Chroma at half the width of luma.
     Yuv422,
-    /// Chroma at a quarter of the width of luma, as in DV video. Our own.
-    Yuv411,
     /// Chroma at the size of luma.
     Yuv444,
     /// Luma alone.
     Monochrome,
+    /// Chroma at a quarter of the width of luma, as in DV video. `v_frame` 0.7.0 has no such variant, so it comes last:
+    /// the other variants keep their numbers.
+    Yuv411,
 }
 
 impl ChromaSubsampling {

@@ -4,4 +4,5 @@ mod frame;
 mod planar;
 mod plane;
 mod program;
+mod replay;
 mod support;

@@ -15,6 +15,7 @@ use super::walk::walked;
 use crate::pixel::Pixel;
 use crate::plane::{PixelsMut, Plane};
 use std::alloc::{AllocError, Global};
+use v_frame_plane::laws::dropped_pixels_keep_their_values;
 use std::mem;
 
 /// Replaces a pixel of the visible rectangle.
@@ -66,6 +67,7 @@ pub(crate) fn write_pixels<T: Copy>(plane: &mut Plane<T>, draws: &[PixelDraw<T>]
             replace_by(pixel, draw);
         }
     }
+    dropped_pixels_keep_their_values::<T>();
 }
 
 /// Replaces a pixel by the value of `draw`, where it has one.

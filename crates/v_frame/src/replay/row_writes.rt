@@ -14,6 +14,7 @@ use super::reads::row_shown;
 use super::walk::walked;
 use crate::plane::{Plane, RowsMut};
 use std::alloc::{AllocError, Global};
+use v_frame_plane::laws::held_rows_are_the_table;
 
 /// Overwrites a row, once there is room for what it was.
 pub(crate) fn replay_row_mut<T: Copy>(
@@ -85,6 +86,7 @@ pub(crate) fn write_rows<T: Copy>(plane: &mut Plane<T>, draws: &[RowDraw<T>])
             overwrite_by(row, draw);
         }
     }
+    held_rows_are_the_table::<T>();
 }
 
 /// Overwrites a row by the writes of `draw`.

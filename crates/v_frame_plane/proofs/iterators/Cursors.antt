@@ -11,6 +11,8 @@ use Rattle.v_frame_raster.specs.Raster.{Raster, raster, table_of}
 use Rattle.v_frame_raster.specs.Table.{row_major}
 use Rattle.v_frame_raster.proofs.tables.Lists.{same_by_slice_get}
 use Rattle.v_frame_plane.specs.Cursor.{rows_ahead}
+use Rattle.v_frame_plane.specs.RowsLeft.{rows_left}
+use Rattle.v_frame_plane.specs.declared.rows_mut.RowsMut.{RowsMut}
 use Rattle.v_frame_raster.proofs.Plans.{visible_within, row_start, place_of_row, row_within}
 use Rattle.v_frame_raster.proofs.tables.Pictures.{shown_row, length-shown}
 
@@ -114,6 +116,11 @@ module _ {T : Type 0} where
       let at : start + y * (width + gap) ≡ row_start g y = omega
       (arith, place_of_row g y (omega arith), ap (λ k. y * k) stride) in
       rw (slice_get-rows_ahead start width gap count xs y low, shown_row p y (omega arith), at, w) refl)
+
+-- how many rows an iterator has left
+pub count_left : {T : Type 0} (walk : RowsMut T) → length (rows_left walk) ≡ walk.count
+unfolding rows_left
+count_left walk = count_of_rows walk.start walk.width walk.gap walk.count walk.rest.now
 
 -- for calls that take a row
 pub ruleset rows_taken = (no_rows, first_row, last_row, count_of_rows)

@@ -25,7 +25,7 @@ use denote.FollowSlice.{heres_id}
 use Rattle.core.specs.contracts.slice.slice+T.split_at_mut
 use Rattle.v_frame_plane.specs.FinalRows.{EndsAs}
 use Rattle.v_frame_buffer.proofs.CallSteps.{asks_both, calls}
-use Rattle.v_frame_plane.proofs.lent.Loans.{at_one}
+use Rattle.v_frame_buffer.proofs.Loans.{at_one}
 
 -- a slice as code has it, and two of them, are well typed where their lengths fit, wherever they lie
 abbrev At : ℕ → Val

@@ -23,27 +23,11 @@ use mir.Syntax.{Body as Code, Rv}
 use prog.Wp.{WpFn}
 use types.Run.{Opd}
 use Rattle.v_frame_buffer.proofs.CallSteps.{asks_also, calls, ends, tokens}
-use Rattle.v_frame_plane.proofs.lent.Loans.{comes_back, lends, lft_over, share_within}
+pub use Rattle.v_frame_buffer.proofs.Statements.{gets, in_order, locals_of, set, value}
+use Rattle.v_frame_buffer.proofs.Loans.{comes_back, lends, lft_over, share_within}
 use base.Share
 
 -- its code
-abbrev pub in_order : List Code → Code → Code
-in_order [] last = last
-in_order (s ∷ ss) last = seq s (in_order ss last)
-
-abbrev pub set : ℕ → Rv → Code
-set i rv = assign (place i []) rv
-
-abbrev pub value : ℕ → Operand
-value i = copy (place i [])
-
-abbrev pub gets : ℕ → Callee → List Operand → Code
-gets i f xs = call f xs (place i [])
-
-abbrev pub locals_of : List Ty → List Local
-locals_of [] = []
-locals_of (τ ∷ τs) = local τ value_local ∷ locals_of τs
-
 abbrev pub method : Code → List Ty → Fn
 method body types = record {
   lifetimes = 2;

@@ -20,7 +20,7 @@ use Rattle.v_frame_plane.specs.FinalPixels.{PixelEndsAs, FinalPixels}
 use Rattle.v_frame_plane.specs.contracts.pixels_mut.cut_first
 use Rattle.v_frame_plane.specs.declared.pixels_mut.PixelsMut.{PixelsMut}
 use Rattle.v_frame_buffer.proofs.CallSteps.{asks_both, calls}
-use Rattle.v_frame_plane.proofs.lent.Loans.{at_one}
+use Rattle.v_frame_buffer.proofs.Loans.{at_one}
 use Rattle.v_frame_plane.proofs.lent.PixelSides.{cut_clauses}
 use Rattle.v_frame_plane.proofs.lent.PixelParts.{of_parts, parts_of}
 use Rattle.v_frame_plane.proofs.lent.Sides.{Side, at_front, at_back, near, far, put, Countable, walk_by, Steps, Takes}
@@ -113,6 +113,7 @@ module _ {M : Type 1} {𝓤 : Ura M} (𝓛 : Logic 𝓤) (T : RattleType) where
         (countable : Countable s rest.now (rows_left old.rows) (far s old).now) →
         ent 𝓤 (sem 𝓛 (follows_both Whole T Whole (near s old).ghost_name pixel.ghost_name rest.ghost_name (put s)))
         (sem 𝓛 (Takes s T old pixel (walk_by s rest old.rows (far s old) countable)))
+    unfolding FinalPixels
     takes_near at_front is countable =
         let new = walk_by at_front rest old.rows old.back countable in
         let Both : Held → SProp 𝓤 = λ held. sep 𝓤 (One pixel.ghost_name held.0) (sem 𝓛 (FinalPixels T new held.1)) in

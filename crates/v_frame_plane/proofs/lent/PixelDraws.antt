@@ -10,7 +10,7 @@ use Rattle.v_frame_buffer.proofs.Steps.{length-append}
 use Rattle.v_frame_plane.specs.PixelsLeft.{pixels_left}
 use Rattle.v_frame_plane.specs.FinalPixels.{FinalPixels, KeepsPixels}
 use Rattle.v_frame_plane.specs.declared.pixels_mut.PixelsMut.{PixelsMut}
-use Rattle.v_frame_plane.proofs.lent.Loans.{at_one}
+use Rattle.v_frame_buffer.proofs.Loans.{at_one}
 use Rattle.v_frame_plane.proofs.lent.Sides.{Side, at_front, at_back, Steps, Yields}
 
 module _ {M : Type 1} {𝓤 : Ura M} (𝓛 : Logic 𝓤) (T : RattleType) where

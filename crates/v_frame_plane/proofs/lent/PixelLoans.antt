@@ -16,7 +16,7 @@ use Rattle.v_frame_plane.specs.FinalPixels.{Parts, ArePartsOf, FinalPixels, Keep
 use Rattle.v_frame_plane.specs.FinalRows.{EndsAs, FinalRows, KeepsRows, TakesFirstRow, TakesLastRow}
 use Rattle.v_frame_plane.specs.declared.pixels_mut.PixelsMut.{PixelsMut}
 use Rattle.v_frame_plane.specs.declared.rows_mut.RowsMut.{RowsMut}
-use Rattle.v_frame_plane.proofs.lent.Loans.{at_one}
+use Rattle.v_frame_buffer.proofs.Loans.{at_one}
 use Rattle.v_frame_plane.proofs.lent.PixelParts.{PartsEnd, of_parts, parts_of}
 use Rattle.v_frame_plane.proofs.lent.Sides.{Side, at_front, at_back, near, far, Countable, walk_by, RowSteps, LendsRow}
 use Rattle.v_frame_raster.proofs.tables.Lists.{same_count}
@@ -82,6 +82,7 @@ module _ {M : Type 1} {𝓤 : Ura M} (𝓛 : Logic 𝓤) (T : RattleType) where
       (ent 𝓤 (sep 𝓤 (sem 𝓛 given) (sep 𝓤 (sem 𝓛 (Ends (near s old) [])) (sem 𝓛 (PartsEnd T new parts))))
       (sem 𝓛 (PartsEnd T old (turn parts)))))
       → ent 𝓤 (sem 𝓛 (fsep (Ends (near s old) (near s old).now) given)) (sem 𝓛 (KeepsPixels T old new))
+  unfolding FinalPixels
   keeps_by s old new given turn none goes =
       qed 𝓛 (‵ (fsep (Ends (near s old) (near s old).now) given) ∷ []) ∵ fsplit ! $
       rewrite ! 0 (λ xs. ‵ (Ends (near s old) xs)) (nil_from_length (near s old).now none) refl $

@@ -12,7 +12,7 @@ use Rattle.v_frame_buffer.proofs.Steps.{use3, size}
 use Rattle.v_frame_plane.specs.contracts.pixels_mut.PixelsMut.{struct, the_row, the_type}
 use Rattle.v_frame_plane.specs.contracts.rows_mut.RowsMut as rows_mut
 use Rattle.v_frame_plane.specs.declared.pixels_mut.PixelsMut.{PixelsMut}
-use Rattle.v_frame_plane.proofs.lent.Loans.{at_one}
+use Rattle.v_frame_buffer.proofs.Loans.{at_one}
 use Rattle.v_frame_plane.proofs.lent.RowMemory.{slice_of, Bare as RowsBare, Named as RowsNamed, lowered as rows_lowered}
 use Rattle.v_frame_plane.proofs.lent.Taken.{Slice, word}
 use Rattle.v_frame_plane.proofs.rows_mut.RowsMut.TheLaws.{lowers as rows_lowers}

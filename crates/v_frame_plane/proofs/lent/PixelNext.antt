@@ -29,7 +29,7 @@ use Rattle.v_frame_plane.specs.FinalPixels.{KeepsPixels, PixelEndsAs, FinalPixel
 use Rattle.v_frame_plane.specs.contracts.pixels_mut.PixelsMut.{the_row}
 use Rattle.v_frame_plane.specs.declared.pixels_mut.PixelsMut.{PixelsMut}
 use Rattle.v_frame_plane.proofs.lent.PixelDraws.{after_keeping, moves, rests, yields_none, yields_pixel, keeps_same}
-use Rattle.v_frame_plane.proofs.lent.Loans.{opens_self}
+use Rattle.v_frame_buffer.proofs.Loans.{opens_self}
 use Rattle.v_frame_plane.proofs.lent.PixelMemory.{lowered, Around, Bare, Named, as_named, field_in, rows_offset}
 use Rattle.v_frame_plane.proofs.lent.PixelMemory.{rows_out, whole as self_of}
 use Rattle.v_frame_plane.proofs.lent.PixelSides.{Walk, near_fits, near_len, by_sides, near_part, near_place, part}

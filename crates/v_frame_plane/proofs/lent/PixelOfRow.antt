@@ -13,7 +13,7 @@ use Rattle.v_frame_buffer.proofs.Steps.{⊑_trans, of_opd, fld, from, hop, look_
 use Rattle.v_frame_plane.proofs.pixels_mut.PixelsMut.TheLaws.{lowers}
 use Rattle.v_frame_plane.proofs.lent.RowMemory.{slice_of, lowered as rows_lowered}
 use Rattle.v_frame_plane.specs.contracts.pixels_mut.PixelsMut.{the_row}
-use Rattle.v_frame_plane.proofs.lent.Loans.{opens_self}
+use Rattle.v_frame_buffer.proofs.Loans.{opens_self}
 use Rattle.v_frame_plane.proofs.lent.PixelMemory.{lowered, Around, Bare, Named, as_named, field_in}
 use Rattle.v_frame_plane.proofs.lent.PixelSides.{Walk, by_sides, near_out, near_part, near_place, part, sides, whole_by}
 use Rattle.v_frame_plane.proofs.lent.PixelSides.{joins_by, pixel_of_row}

@@ -17,6 +17,7 @@ pub of_parts : {M : Type 1} {𝓤 : Ura M} (𝓛 : Logic 𝓤) (T : RattleType) 
     (second : List T.Denot) (parts : Parts T.Denot) →
     ArePartsOf walk second parts
     → ent 𝓤 (sem 𝓛 (PartsEnd T walk parts)) (sem 𝓛 (FinalPixels T walk second))
+unfolding FinalPixels
 of_parts 𝓛 T walk second parts are = qed 𝓛 (‵ (PartsEnd T walk parts) ∷ []) ∵
     fpack ! (ArePartsOf walk second parts) (λ _. PartsEnd T walk parts) are $
     fpack ! (Parts T.Denot) (λ ps. fex (ArePartsOf walk second ps) (λ _. PartsEnd T walk ps)) parts $ done !

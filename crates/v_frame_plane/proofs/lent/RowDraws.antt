@@ -45,6 +45,7 @@ module _ {X : Type 0} (old : RowsMut X) where
   inside at_back more = omega (arith, old.within.within more, one_more old.count (old.width + old.gap) more)
 
   pub none_left : (s : Side) → old.count ≡ 0 → YieldsRow s old None old
+  unfolding rows_left
   none_left at_front none = let e = no_rows old.start old.width old.gap old.count old.rest.now none in (e, e)
   none_left at_back none = let e = no_rows old.start old.width old.gap old.count old.rest.now none in (e, e)
 
@@ -89,6 +90,7 @@ module _ {X : Type 0} (old : RowsMut X) where
     left s cut = moved old (at_side s behind before) (start_of s old) (old.count - 1) (within s cut)
 
     pub moves_on : (s : Side) (cut : Its s) → MakesProgress (λ _. ⊤) (item_count rows_left) old (Some row) (left s cut)
+    unfolding rows_left
     moves_on s cut = let new = left s cut in record {
       on = λ _. (
         tt,
@@ -104,6 +106,7 @@ module _ {X : Type 0} (old : RowsMut X) where
     }
 
     pub draws : (s : Side) (cut : Its s) → YieldsRow s old (Some row) (left s cut)
+    unfolding rows_left
     draws at_front cut =
         rw (cut.row_is, cut.at_is, behind_all at_front cut)
         (first_row old.start old.width old.gap old.count old.rest.now more)

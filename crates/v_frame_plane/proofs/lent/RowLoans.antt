@@ -8,7 +8,7 @@ use Rattle.v_frame_plane.specs.RowsLeft.{rows_left}
 use Rattle.v_frame_plane.specs.FinalRows.{EndsAs, FinalRows, KeepsRows, entries_with}
 use Rattle.v_frame_plane.specs.contracts.rows_mut.RowsMut.{the_row}
 use Rattle.v_frame_plane.specs.declared.rows_mut.RowsMut.{RowsMut}
-use Rattle.v_frame_plane.proofs.iterators.Cursors.{count_of_rows}
+use Rattle.v_frame_plane.proofs.iterators.Cursors.{count_left}
 use Rattle.v_frame_plane.proofs.lent.Cuts.{Joins, joins, dropped}
 use Rattle.v_frame_plane.proofs.lent.RowDraws.{Cut, behind_all, left}
 use Rattle.v_frame_plane.proofs.lent.Sides.{Side, at_front, at_back, at_side, LendsRow}
@@ -37,6 +37,7 @@ module _ {M : Type 1} {𝓤 : Ura M} (𝓛 : Logic 𝓤) (T : RattleType) where
         ent 𝓤 (sep 𝓤 (Ends other other.now) (sep 𝓤 (sem 𝓛 (Joins T old.rest before at))
         (sem 𝓛 (Joins T at row behind))))
         (sem 𝓛 (LendsRow s T old (Some row) (left old before at row behind more s cut)))
+    unfolding FinalRows
     leaves_row at_front cut =
         let new = left old before at row behind more at_front cut in
         let Both : Held → SProp 𝓤 = λ held. sep 𝓤 (Ends row held.0) (sem 𝓛 (FinalRows T new held.1)) in
@@ -63,8 +64,7 @@ module _ {M : Type 1} {𝓤 : Ura M} (𝓛 : Logic 𝓤) (T : RattleType) where
         length (rows_left new)). Says held) (λ same. assume !
         (‵ (EndsAs T row.ghost_name held.0) ⊛ ‵ (FinalRows T new held.1)) $ split ! $
         let rest = entries_with new held.1 in
-        let many : length held.1 ≡ old.count - 1 = same ∙ count_of_rows new.start new.width new.gap new.count
-        new.rest.now in
+        let many : length held.1 ≡ old.count - 1 = same ∙ count_left new in
         let entries : rest ++ (held.0 ++ behind.now) ≡ entries_with old (held.1 ++ held.0 ∷ []) =
         rw (cut.before_is, behind_all old before at row behind more at_back cut)
         (with_last_row old.start old.width old.gap old.count old.rest.now held.0 held.1 more many) in
@@ -75,6 +75,7 @@ module _ {M : Type 1} {𝓤 : Ura M} (𝓛 : Logic 𝓤) (T : RattleType) where
   -- an iterator that is dropped has as final values what it shows
   pub rows_dropped : (a : NamedLft) (walk : RowsMut T.Denot) (vs : List Val) →
       ent 𝓤 (sem 𝓛 ((the_row a T).own_val walk vs)) (sem 𝓛 (FinalRows T walk (rows_left walk)))
+  unfolding FinalRows rows_left
   rows_dropped a walk vs = qed 𝓛 (‵ ((the_row a T).own_val walk vs) ∷ []) ∵ fpick !
       (λ vss. fsplit ! $ drop ! $ fsplit ! $ keep ! (0 ∷ []) $
       use1 𝓛 (‵ (EndsAs T walk.rest.ghost_name walk.rest.now)) (dropped 𝓛 T a.mir a.lft walk.rest vss.0) $

@@ -14,7 +14,8 @@ use mir.Syntax.{Body as Code}
 use Rattle.v_frame_plane.specs.Cursor.{RowsAreWithin}
 use Rattle.v_frame_plane.specs.contracts.rows_mut.RowsMut.{struct, the_row, the_type}
 use Rattle.v_frame_plane.specs.declared.rows_mut.RowsMut.{RowsMut}
-use Rattle.v_frame_plane.proofs.lent.Loans.{Back, at_one}
+pub use Rattle.v_frame_buffer.proofs.Slices.{slice_of}
+use Rattle.v_frame_buffer.proofs.Loans.{Back, at_one}
 use Rattle.v_frame_plane.proofs.lent.Taken.{Slice, Take, Taken, asked, calls_take, word}
 
 -- its numbers, where `start` and `count` are these, and it as a machine value
@@ -24,9 +25,6 @@ Numbers = tcons (ty_int w64) (tcons (ty_int w64) (tcons (ty_int w64) (tcons (ty_
 abbrev pub numbers : {X : Type 0} → RowsMut X → (start count : ℕ) → Vals
 numbers walk start count = vcons (vint w64 start) (vcons (vint w64 walk.width)
     (vcons (vint w64 walk.gap) (vcons (vint w64 count) vnil)))
-
-abbrev pub slice_of : {X : Type 0} → MutBor (List X) → Val
-slice_of x = slice_val x.ref_ptr (length x.now)
 
 abbrev pub lowered : {X : Type 0} → RowsMut X → Val
 lowered walk = vstruct (vcons (slice_of walk.rest) (numbers walk walk.start walk.count))

@@ -30,7 +30,8 @@ use Rattle.v_frame_plane.proofs.lent.RowDraws.{Cut, draws, inside, is_place, lef
 use Rattle.v_frame_plane.proofs.lent.RowDraws.{number_fits, place_of, some_left, start_of, stays}
 use Rattle.v_frame_plane.proofs.lent.Sides.{Side, at_front, at_back, at_side, by_side, LendsRow}
 use Rattle.v_frame_plane.specs.{FinalRows.EndsAs}
-use Rattle.v_frame_plane.proofs.lent.{Loans.opens_self, PixelSides.part, PixelSides.row_draw, RowLoans.leaves_none}
+use Rattle.v_frame_buffer.proofs.{Loans.opens_self}
+use Rattle.v_frame_plane.proofs.lent.{PixelSides.part, PixelSides.row_draw, RowLoans.leaves_none}
 use Rattle.v_frame_plane.proofs.lent.{RowLoans.leaves_row, Taken.IsTake}
 use Rattle.v_frame_plane.proofs.{rows_mut.RowsMut.TheLaws.lowers}
 use Rattle.std.specs.contracts.option.Option as Opt

@@ -18,7 +18,8 @@ use mir.Syntax.{Body as Code}
 use prog.Wired.{Wired}
 use Rattle.core.specs.contracts.slice.empty.RefMutSliceDefault.TheImpl.{ghosts, dict}
 use Rattle.v_frame_buffer.proofs.CallSteps.{asks_that, calls, spelt}
-use Rattle.v_frame_plane.proofs.lent.Loans.{Back, comes_back, lends, lft_over, share_within}
+use Rattle.v_frame_buffer.proofs.Slices.{slice_laws as laws_of_slice}
+use Rattle.v_frame_buffer.proofs.Loans.{Back, comes_back, lends, lft_over, share_within}
 use base.Share
 use Rattle.std.specs.contracts.mem.take
 use Rattle.std.specs.contracts.option.Option as Opt
@@ -45,10 +46,8 @@ module _ (T : RattleType) (κ : Lft) where
   element = arg (layout T) no (param 0 T)
 
   module _ (laws : Laws T) where
-    abbrev pub slice_laws : Laws Slice
-    slice_laws = let ℓ : NamedLft = record { mir = named 1; lft = κ } in of_field (mut_slice_field ℓ (param 0 T) tt)
-        (mut_slice_laws ℓ (param 0 T) tt) refl
-        (mut_slice_shared ℓ (param 0 T) tt (row_shared (param 0 T) (param_laws 0 T laws)))
+    abbrev slice_laws : Laws Slice
+    slice_laws = laws_of_slice T κ laws
 
     abbrev taken_laws : Laws Taken
     taken_laws = arg_laws word no Slice slice_laws refl

@@ -1,5 +1,6 @@
 //! Frames: built, refused and cloned.
 
 mod builds;
+mod clones;
 mod formats;
 mod refusals;

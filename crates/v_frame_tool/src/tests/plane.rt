@@ -1,9 +1,15 @@
 //! Planes: their geometries, what they show, and what is written into them.
 
 mod byte_copies;
+mod clones;
 mod copies;
+mod debugs;
 mod drops;
 mod geometry;
 mod held_items;
+mod iterators;
+mod pixels;
+mod rows_of_bytes;
 mod subsampling;
+mod writes;
 mod writing_iterators;

@@ -8,5 +8,6 @@ pub mod options;
 pub mod planar;
 pub mod readers;
 pub mod reads;
+pub mod replays;
 pub mod texts;
 pub mod watched;

@@ -10,14 +10,18 @@ use Rattle.v_frame_buffer.proofs.Steps.{first, blocks, jumps, exec, after, at_re
 use Rattle.v_frame_buffer.proofs.Steps.{split, stay_dropped, stay_ref, stop, sym, take_at, through, unit_lit, use1, vrt}
 use Rattle.v_frame_buffer.proofs.Steps.{vunit, walk_of, whole, !, [], ‵, ◌$◌, ◌++◌, ◌<◌, ◌∙◌, ◌∷◌, ◌⊑◌, ◌⊛◌}
 use Rattle.v_frame.proofs.Steps.{copied, spot_of}
-use Rattle.v_frame.specs.Prelude.{FinalPixels, pixels_left, row_major, table_of, entries_with, with_entries}
-use Rattle.v_frame.proofs.CallSteps.{both_facts, ends, opened_by, tells, told}
-use Rattle.example_held_items.proofs.HeldPixels.{as_rows, ends_of, gives_back, writes_pixel}
-use Rattle.v_frame.proofs.{ItemKinds.of_pixels, Lending.begins_walk, Lending.rows_back}
+use Rattle.v_frame.specs.Prelude.{FinalPixels, pixels_left, row_major, table_of}
+use Rattle.v_frame.proofs.CallSteps.{asks_that, both_facts, calls, ends, opened_by, tells, told}
+use Rattle.example_held_items.proofs.HeldPixels.{ends_of, gives_back, writes_pixel}
+use Rattle.v_frame.proofs.{ItemKinds.of_pixels, Lending.begins_walk, Lending.table_back}
+use Rattle.v_frame.proofs.{ItemKinds.EndsBy, ItemKinds.Law, Lending.lowers, OwnedItems.by_law, WriteItem.law}
+use Rattle.v_frame.proofs.BegunWalks.{EndsAs, as_table, ends_as}
+use Rattle.v_frame_plane.proofs.laws.dropped_pixels_keep_their_values.Met as law_met
+use Rattle.v_frame_buffer.proofs.Steps.{framed, id⊢, feq_l, fpick, only, use2, use3}
 use Rattle.example_held_items.proofs.{HeldItems.draws_item, HeldItems.takes_arm}
 use Rattle.example_held_items.proofs.{held_pixels.write_ends.Statement.statement}
 use Rattle.v_frame.specs.{declared.replay.draw.Side.TheVariants.Back, declared.replay.draw.Side.TheVariants.Front}
-use Rattle.v_frame_plane.proofs.lent.{Loans.share_within, PixelMemory.lowered, PixelsDropped.pixels_dropped}
+use Rattle.v_frame_buffer.proofs.{Loans.share_within}
 use Rattle.example_held_items.specs.{HeldPixels.with_ends}
 use base.Share
 use Rattle.v_frame_plane.proofs.plane.Plane.pixels_mut.Met as pixels_mut_met
@@ -59,7 +63,8 @@ write_ends_spec 𝓤 𝓛 𝓜 𝓡 wired T laws copy clone dict met =
     (λ i j m. and_then ! (get ! refl) (no_more !)) (λ α δ walk begun typed.
     let κ' : Lft = α ∷ κT in let s = share_within (Share.left qT) in let rT = Share.right qT in let inside : κ' ⊑ κT =
     meet_⊑_right (α ∷ []) κT in
-    let ℓ : NamedLft = record { mir = named 1; lft = κ' } in
+    let ℓ : NamedLft = record { mir = named 1; lft = κ' } in let loan = record plane { ghost_name = δ } in
+    let lowered = (lowers 𝓛 𝓜 𝓡 T laws of_pixels ℓ).lowered in
     lands_as ! refl refl typed.0 $ sets ! (of_opd ! (get ! refl)) refl typed.0 $
     -- [what the iterator owns; how the plane ends; the tokens of κ' and κT; its lender; the way back; the three values;
     -- the locals]
@@ -102,10 +107,8 @@ write_ends_spec 𝓤 𝓛 𝓜 𝓡 wired T laws copy clone dict met =
     sets ! (of_opd ! (get_in ! (vrt ! refl (fld ! refl (stop !))) (in_variant ! 1 0 refl refl (whole !)))) refl
     (tt, tt) $
     jumps ! $ exec ! 𝓣.C 𝓣.Λ En (after 10 function.body) (at_ret En (Walk.post bound)) $
-    -- the iterator is dropped, and the value that is written twice is there twice
-    move ! (1 ∷ []) $ use1 𝓛 (‵ (FinalPixels item three (pixels_left three)))
-    (pixels_dropped 𝓛 item ℓ three (lowered three ∷ [])) $
-    move ! (14 ∷ []) $ use1 𝓛 (‵ (item.own_val z (val z)) ⊛ ‵ (item.own_val z (val z)))
+    -- the value that is written twice is there twice
+    move ! (1 ∷ []) $ move ! (14 ∷ []) $ use1 𝓛 (‵ (item.own_val z (val z)) ⊛ ‵ (item.own_val z (val z)))
     ((copy.copies _ 𝓤 𝓛).twice z (val z)) $ split ! $
     -- [the last value, twice; what the iterator left; the last but one; the token of κ'; how it was drawn; the token of
     -- κT; the first pixel, and how it was
@@ -119,22 +122,32 @@ write_ends_spec 𝓤 𝓛 𝓜 𝓡 wired T laws copy clone dict met =
     (λ i j m n v. through ! refl (stop !)) $
     move ! (8 ∷ 1 ∷ 3 ∷ []) $ writes_pixel ! T copy κ' s end z wz (λ i j m n v. of_opd ! (get ! refl))
     (λ i j m n v. through ! refl (stop !)) $
-    -- [the last pixel; the token of κ'; the first; the last but one; what the iterator left; how the last but one was
-    -- drawn; the token of κT; how the first and
-    -- the last were; how the plane ends; what its lender keeps; the way back]
-    move ! (3 ∷ 5 ∷ 4 ∷ []) $ gives_back ! Back T κ' two three before y (pixels_left three) $
-    move ! (3 ∷ 5 ∷ 0 ∷ []) $ gives_back ! Front T κ' one two start x (pixels_left three ++ y ∷ []) $
-    move ! (1 ∷ 4 ∷ 0 ∷ []) $ gives_back ! Back T κ' walk one end z (x ∷ (pixels_left three ++ y ∷ [])) $
+    -- [the last pixel; the token of κ'; the first; the last but one; the iterator; how the last but one was drawn; the
+    -- token of κT; how the first and the last were; how the plane ends; what its lender keeps; the way back]. The law of
+    -- the iterator is called
+    calls ! (6 ∷ []) (framed 𝓤 𝓛.H 𝓜 𝓣) (law 𝓛 𝓜 𝓡 T of_pixels).0 (law 𝓛 𝓜 𝓡 T of_pixels).1
+    (law_met.met 𝓤 𝓛 𝓜 𝓡 (code.calls-v_frame_plane::laws::dropped_pixels_keep_their_values 𝓡.env wired) T laws)
+    (((κT, tt), (rT, tt), tt, tt, tt), tt) (asks_that 𝓤 inT) refl (no_more !) (λ r us. ‵ (Law T of_pixels) ∷ [])
+    (λ r us. id⊢ 𝓤 _) (λ v r us. feq_l ! (λ is_unit. lands_as ! (ap only is_unit) refl (tt, tt) $
+    -- [the law; the token of κT; the last pixel; the token of κ'; the first; the last but one; the iterator; how the last
+    -- but one was drawn, and the first, and the last; how the plane ends; ..]
+    move ! (0 ∷ 6 ∷ 10 ∷ []) $ use3 𝓛 (‵ (FinalPixels item three (pixels_left three)) ⊛ ‵ (EndsBy T of_pixels loan walk))
+    (by_law T 𝓛 of_pixels ℓ three walk (lowered three ∷ []) loan begun) $ split ! $
+    -- [the final values; how the plane ends; the token of κT; the last pixel; the token of κ'; the first; the last but
+    -- one; how each was drawn; its lender; the way back]
+    move ! (6 ∷ 7 ∷ 0 ∷ []) $ gives_back ! Back T κ' two three before y (pixels_left three) $
+    move ! (5 ∷ 6 ∷ 0 ∷ []) $ gives_back ! Front T κ' one two start x (pixels_left three ++ y ∷ []) $
+    move ! (3 ∷ 5 ∷ 0 ∷ []) $ gives_back ! Back T κ' walk one end z (x ∷ (pixels_left three ++ y ∷ [])) $
     rewrite ! 0 (λ (xs : List T.Denot). ‵ (FinalPixels item walk xs))
     (ends_of pixels (pixels_left one) (pixels_left two) (pixels_left three)
     start.now before.now end.now x y z (sym begun.all ∙ last) foremost next_to) refl $
-    as_rows ! item plane.now walk (with_ends x y z pixels) begun.tells (λ rows long shows.
-    -- [how its rows end; the tokens of κ' and κT; how the plane ends; what its lender keeps; the way back; the locals]
-    rows_back ! tt T α δ κ κT q qT plane walk.rows rows $
+    let written = with_ends x y z pixels in
+    use2 𝓛 (‵ (EndsAs 𝓛 T loan of_pixels written)) (ends_as 𝓛 T loan of_pixels walk written tt) $ fpick ! (λ shows.
+    -- [how the plane ends; the tokens of κT and κ'; its lender; the way back; the locals]
+    move ! (0 ∷ 2 ∷ 1 ∷ []) $ table_back ! tt T α δ κ κT q qT plane (as_table 𝓛 T loan of_pixels written) (λ new told_of.
     -- [the token of κT; the plane; the token of κ; the locals]
     sets ! (of_opd ! (unit_lit !)) refl (tt, tt) $ returns ! (look_at ! 0 refl) $ free_all ! refl $
     nothing ! $ nothing ! $ nothing ! $ feq_i ! (List Val) (vunit ∷ []) (vunit ∷ []) refl $
-    let told_of = begun.written rows long in let new = with_entries plane.now (entries_with walk.rows rows) in
     ends ! (6 ∷ 4 ∷ 5 ∷ 1 ∷ 2 ∷ 3 ∷ 0 ∷ []) ended stayed c bound vunit tt (new, (tt, (tt, (tt, tt))))
     (tt, (tt, (tt, (tt, tt)))) refl $
-    tells ! (ap row_major told_of.table ∙ shows) $ told ! (λ k. (told_of.geometry k, told_of.border k))))))))))
+    tells ! (ap row_major told_of.table ∙ shows) $ told ! (λ k. (told_of.geometry k, told_of.border k)))))))))))))

@@ -10,24 +10,26 @@ use Rattle.v_frame_buffer.proofs.Steps.{mut_vals, named, no, no_more, nothing, o
 use Rattle.v_frame_buffer.proofs.Steps.{plain, proved, raw, refl, returns, rewrite, sets, skips, stay_dropped, stay_ref}
 use Rattle.v_frame_buffer.proofs.Steps.{stop, sub, subst, sym, tables, take_at, through, unit_lit, use1, use2, vrt}
 use Rattle.v_frame_buffer.proofs.Steps.{vunit, walk_of, whole, !, [], ‵, ◌$◌, ◌∙◌, ◌∷◌, ◌≡◌, ◌⊑◌, Item, forget_but}
-use Rattle.v_frame_buffer.proofs.Steps.{holding, runs}
+use Rattle.v_frame_buffer.proofs.Steps.{holding, runs, use3, split, ◌⊛◌, ap, only}
 use Rattle.v_frame.proofs.Steps.{copied, finally-res, length-replicate, replicate, spot_of}
-use Rattle.v_frame.specs.Prelude.{EndsAs, FinalRows, entries_with, rows_left, table_of, with_entries}
-use Rattle.v_frame.proofs.CallSteps.{asks_that, calls_last, ends, opened, tells, told, unit_fits}
+use Rattle.v_frame.specs.Prelude.{EndsAs, EndsWith, FinalRows, LendsRows, rows_left, table_of}
+use Rattle.v_frame.proofs.CallSteps.{asks_that, calls, calls_last, ends, opened, tells, told, unit_fits}
 use Rattle.v_frame.proofs.{DrawnItems.last_drawn, ItemKinds.of_rows, ItemKinds.walk_row, Lending.Kept_by}
-use Rattle.v_frame.proofs.{Lending.begins_walk, Lending.rows_back}
+use Rattle.v_frame.proofs.{ItemKinds.EndsBy, ItemKinds.Law, Lending.lowers, OwnedItems.by_law, BegunWalks.ends_as, WriteItem.law}
+use Rattle.v_frame.proofs.{Lending.begins_walk, Lending.table_back}
 use Rattle.v_frame.proofs.DrawnLoans.{Put, item_taken, none_taken, tells as put_in}
 use Rattle.v_frame.specs.{DrawnItems.put_back, Walk.item_from, Walk.remaining_after}
 use Rattle.v_frame.specs.{declared.replay.draw.Side.TheVariants.Back}
 use Rattle.std.proofs.{Common.All, Common.None, Common.Some}
-use Rattle.v_frame_plane.specs.{Lends.LendsBuffer, declared.rows_mut.RowsMut.RowsMut}
+use Rattle.v_frame_plane.specs.{declared.rows_mut.RowsMut.RowsMut}
 use Rattle.example_held_items.proofs.{HeldItems.draws_item, HeldItems.takes_arm, HeldItems.takes_other}
 use Rattle.example_held_items.proofs.{HeldRows.last_filled, held_rows.fill_last_row.Statement.statement}
-use Rattle.v_frame_plane.proofs.lent.{Loans.Back as Back_to, Loans.share_within, RowLoans.rows_dropped}
-use Rattle.v_frame_plane.proofs.lent.{RowMemory.lowered, RowMemory.slice_of}
+use Rattle.v_frame_buffer.proofs.{Loans.Back as Back_to, Loans.share_within}
+use Rattle.v_frame_buffer.proofs.Slices.{slice_of}
 use base.Share
 use Rattle.v_frame_plane.specs.contracts.plane.Plane as planes
 use Rattle.v_frame_plane.proofs.plane.Plane.rows_mut.Met as rows_mut_met
+use Rattle.v_frame_plane.proofs.laws.held_rows_are_the_table.Met as law_met
 use Rattle.example_held_items.specs.contracts.held_rows.fill
 use Rattle.example_held_items.specs.contracts.held_rows.fill_last_row as f
 use Rattle.example_held_items.proofs.held_rows.fill.Met as fill_met
@@ -64,30 +66,38 @@ fill_last_row_spec 𝓤 𝓛 𝓜 𝓡 wired T laws copy clone dict met =
     (λ i j m. and_then ! (get ! refl) (no_more !)) (λ α δ w begun typed.
     let κw = α ∷ κT in let qw = share_within (Share.left qT) in let rT = Share.right qT in let inside = meet_⊑_right
     (α ∷ []) κT in
-    let ℓ : NamedLft = record { mir = named 1; lft = κw } in
+    let ℓ : NamedLft = record { mir = named 1; lft = κw } in let loan = record plane { ghost_name = δ } in
+    let lowered = (lowers 𝓛 𝓜 𝓡 T laws of_rows ℓ).lowered in
     lands_as ! refl refl typed.0 $ sets ! (of_opd ! (get ! refl)) refl typed.0 $
     -- how it ends: the row that was drawn, if any, is put back as it is filled
     let change = λ (row : List T.Denot). replicate (length row) value in let last = put_back Back change
     (item_from Back table) (remaining_after Back table) in
     let Puts : RowsMut T.Denot → Item 𝓤 = λ left. raw (Put 𝓛 T of_rows Back change w left) in
+    let filled = last_filled table width value (subst (All (λ row. length row ≡ width)) begun.all begun.tells.1) in
     let finish : (left : RowsMut T.Denot) → rows_left left ≡ remaining_after Back (rows_left w) → Sq 𝓛 (Puts left ∷
     ‵ ((walk_row of_rows ℓ item).own_val left (lowered left ∷ [])) ∷ ‵ (flft κw qw) ∷ ‵ (flft κT rT) ∷
-    ‵ (LendsBuffer item (record plane { ghost_name = δ }) w.rest) ∷ Kept_by 𝓛 T α δ κ κT q plane ∷ raw
+    ‵ (LendsRows item loan w) ∷ Kept_by 𝓛 T α δ κ κT q plane ∷ raw
     (Back_to 𝓛 α κT (Share.left qT)) ∷
     holding 𝓛 En []) (runs 𝓣.C 𝓣.Λ En (after 6 function.body) (at_ret En Post)) = λ left fewer.
-    move ! (1 ∷ []) $ use1 𝓛 (‵ (FinalRows item left (rows_left left)))
-    (rows_dropped 𝓛 item ℓ left (lowered left ∷ [])) $ move ! (0 ∷ 1 ∷ []) $
+    -- the law of the iterator is called
+    calls ! (3 ∷ []) run (law 𝓛 𝓜 𝓡 T of_rows).0 (law 𝓛 𝓜 𝓡 T of_rows).1
+    (law_met.met 𝓤 𝓛 𝓜 𝓡 (code.calls-v_frame_plane::laws::held_rows_are_the_table 𝓡.env wired) T laws)
+    (((κT, tt), (rT, tt), tt, tt, tt), tt) (asks_that 𝓤 inT) refl (no_more !) (λ r us. ‵ (Law T of_rows) ∷ [])
+    (λ r us. id⊢ 𝓤 _) (λ v r us. feq_l ! (λ is_unit. lands_as ! (ap only is_unit) refl (tt, tt) $
+    -- [the law; the token of κT; what is put back; the iterator; the token of κw; what is said of the plane; its lender;
+    -- the way back]
+    move ! (0 ∷ 3 ∷ 5 ∷ []) $ use3 𝓛 (‵ (FinalRows item left (rows_left left)) ⊛ ‵ (EndsBy T of_rows loan w))
+    (by_law T 𝓛 of_rows ℓ left w (lowered left ∷ []) loan begun) $ split ! $ move ! (0 ∷ 3 ∷ []) $
     let before = put_back Back change (item_from Back (rows_left w)) in let is : before (rows_left left) ≡ last = rw
     (fewer, begun.all) refl in
     use2 𝓛 (‵ (FinalRows item w (before (rows_left left)))) (put_in 𝓛 T of_rows before w left (rows_left left) refl) $
     rewrite ! 0 (λ (rows : List (List T.Denot)). ‵ (FinalRows item w rows)) is refl $
-    rows_back ! tt T α δ κ κT q qT plane w last $ sets ! (of_opd ! (unit_lit !)) refl (tt, tt) $ returns !
-    (look_at ! 0 refl) $ free_all ! refl $
-    let filled = last_filled table width value (subst (All (λ row. length row ≡ width)) begun.all begun.tells) in
-    let told_of = begun.written last filled.1 in let new = with_entries plane.now (entries_with w last) in
+    use2 𝓛 (‵ (EndsWith item loan last)) (ends_as 𝓛 T loan of_rows w last filled.1) $
+    move ! (0 ∷ 2 ∷ 1 ∷ []) $ table_back ! tt T α δ κ κT q qT plane last (λ new told_of.
+    sets ! (of_opd ! (unit_lit !)) refl (tt, tt) $ returns ! (look_at ! 0 refl) $ free_all ! refl $
     nothing ! $ feq_i ! (List Val) (vunit ∷ []) (vunit ∷ []) refl $ ends ! (4 ∷ 2 ∷ 3 ∷ 1 ∷ 0 ∷ []) ended stayed c y
     vunit tt (new, (tt, tt))
-    (tt, (tt, tt)) refl $ tells ! (told_of.table ∙ filled.0) $ told ! (λ k. (told_of.geometry k, told_of.border k)) in
+    (tt, (tt, tt)) refl $ tells ! (told_of.table ∙ filled.0) $ told ! (λ k. (told_of.geometry k, told_of.border k))))) in
     -- [the iterator; how the plane ends; the tokens of κw and κT; the plane's lender; the way back; the value; the
     -- locals]. A row is drawn
     sets ! (addr ! (from ! (stop !))) refl (tt, tt) $ take_at ! 3 $ move ! (0 ∷ 1 ∷ 3 ∷ 4 ∷ []) $

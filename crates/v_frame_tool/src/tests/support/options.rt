@@ -10,6 +10,19 @@ pub fn vacant<T: Drop>(rt: &impl Test, geometry: Option<PlaneGeometry>) -> Plane
     Plane::new_uninit(rt.alloc(), geometry).expect(rt, "memory")
 }
 
+/// Returns a plane whose buffer has these entries.
+pub fn holding(
+    rt: &impl Test,
+    geometry: Option<PlaneGeometry>,
+    entries: &[Option<u8>],
+) -> Plane<Option<u8>> {
+    let mut plane = vacant(rt, geometry);
+    let data = plane.data_mut();
+    must(rt, data.len() == entries.len());
+    data.copy_from_slice(entries);
+    plane
+}
+
 /// Returns the plane of the values, where each place holds one.
 pub fn values_of<T: Drop>(rt: &impl Test, plane: Plane<Option<T>>) -> Plane<T> {
     must(rt, plane.is_init());

@@ -70,11 +70,19 @@ impl<D> Counted<D> {
         }
     }
 
-    /// Returns the reader or the writer.
+    /// Returns a reference to the wrapped reader or writer.
+    #[inline]
+    #[must_use]
+    pub fn inner(&self) -> &D {
+        &self.inner
+    }
+
+    /// Returns a reference to the wrapped reader or writer. The wrappers of `std` use this name for
+    /// [`inner`](Self::inner).
     #[inline]
     #[must_use]
     pub fn get_ref(&self) -> &D {
-        &self.inner
+        self.inner()
     }
 
     /// Returns the reader or the writer back.

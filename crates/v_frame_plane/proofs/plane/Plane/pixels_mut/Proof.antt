@@ -1,7 +1,7 @@
 -- `pixels_mut` makes the iterator over the pixels of that over the rows, whose slice is the whole buffer. That this
 -- slice
 -- lies two fields deep no generated proof follows, so this one follows the code.
-use Rattle.v_frame_buffer.proofs.Steps.{◌≡◌, ◌^◌, ◌<◌, [], ◌∷◌, length, refl, sym, ap, ◌∙◌, arith, proved, id⊢, ◌⊑◌}
+use Rattle.v_frame_buffer.proofs.Steps.{◌≡◌, ◌^◌, ◌<◌, [], ◌∷◌, length, refl, sym, ap, ◌∙◌, arith, proved, id⊢, ◌⊑◌, use1}
 use Rattle.v_frame_buffer.proofs.Steps.{fact, tables, param, layouts, mut_vals, mut_Tells, plain, named_lft, Array}
 use Rattle.v_frame_buffer.proofs.Steps.{shows, heard, nothing, peeks, framed, walk_of, Stays, inst_fn, a_type, named}
 use Rattle.v_frame_buffer.proofs.Steps.{alloc_all, free_all, get, lands_as, look_at, pass_all, sets, through, ‵, raw}
@@ -11,6 +11,9 @@ use Rattle.v_frame_buffer.proofs.Steps.{Goes-spent_ref}
 use Rattle.v_frame_buffer.proofs.CallSteps.{asks_both, asks_that, calls, ends, opened, tells, told}
 use Rattle.v_frame_plane.specs.contracts.plane.Plane.{the_row}
 use Rattle.v_frame_plane.specs.contracts.plane.Plane.rows_mut
+use Rattle.v_frame_plane.specs.Lends.{LendsBuffer}
+use Rattle.v_frame_plane.specs.LendsTable.{LendsPixelTable}
+use Rattle.v_frame_plane.proofs.lent.EndsTable.{lends_pixel_table}
 use Rattle.v_frame_plane.specs.contracts.plane.Plane.pixels_mut
 use Rattle.v_frame_plane.specs.contracts.pixels_mut.PixelsMut as pixels
 use Rattle.v_frame_plane.specs.contracts.rows_mut.RowsMut as rows
@@ -25,6 +28,7 @@ use Rattle.v_frame_raster.specs.Raster.{table_of, with_entries}
 use Rattle.v_frame_plane.specs.FinalRows.{WritesEachTable}
 use Rattle.v_frame_raster.specs.Table.{row_major}
 use Rattle.v_frame_plane.specs.PixelsLeft.{pixels_left}
+use Rattle.v_frame_plane.specs.FinalPixels.{BeginsOver}
 use Rattle.v_frame_plane.proofs.iterators.WalkRuns.{lends_in_order, lends_in_reverse}
 use Rattle.v_frame_plane.specs.RowsLeft.{rows_left, rows_slice, LendsRowsInOrder, LendsRowsInReverse}
 use Rattle.v_frame_plane.proofs.plane.Plane.pixels_mut.Statement.{statement}
@@ -42,8 +46,7 @@ pixels_mut_spec 𝓤 𝓛 𝓜 𝓡 wired T laws =
     let self = a.0 in let ℓ = named_lft 2 0 tt κs in let Rows = rows.the_row ℓ item in let Pixels = pixels.the_row ℓ
     item in
     let bound : (walk_of 𝓛 En stayed c).Ghost = ((κs, qs, bounds, a, (mut_vals self, tt)), g) in
-    let Ends : RowsMut T.Denot → Item 𝓤 = λ x. ‵ (follows Plane (Array item 0) self.ghost_name
-    (rows_slice x).ghost_name (with_entries self.now)) in
+    let Ends : RowsMut T.Denot → Item 𝓤 = λ x. ‵ (LendsBuffer item self (rows_slice x)) in
     opened 𝓛 En.signature κs qs a (mut_vals self, tt) (κs.1.0 ⊑ T.lives) (λ inT.
     enter ! _ _ _ _ _ $ alloc_all ! (λ l. pass_all ! refl ((tt, tt), tt) $
     sets ! (addr ! (through ! refl (stop !))) refl (tt, tt) $
@@ -52,7 +55,7 @@ pixels_mut_spec 𝓤 𝓛 𝓜 𝓡 wired T laws =
     (rows_mut_met.met 𝓤 𝓛 𝓜 𝓡 (code.calls-v_frame_plane::plane::Plane::rows_mut 𝓡.env wired) T laws) bound
     (asks_that 𝓤 inT) refl
     (and_then ! (get ! refl) (no_more !))
-    (λ r ws. Ends r ∷ raw (fact 𝓤 ((rows_slice r).now ≡ self.now.buffer)) ∷ raw
+    (λ r ws. Ends r ∷ raw
     (fact 𝓤 (rows_left r ≡ table_of self.now)) ∷
     raw (fact 𝓤 (WritesEachTable self.now r)) ∷
     raw (fact 𝓤 (All (λ row. length row ≡ self.now.geometry.width) (rows_left r))) ∷ raw
@@ -61,7 +64,7 @@ pixels_mut_spec 𝓤 𝓛 𝓜 𝓡 wired T laws =
     (fact 𝓤 (LendsRowsInReverse T.Denot)) ∷ [])
     (λ r ws. id⊢ 𝓤 _) (λ v r ws. peeks ! Rows _ (shows 𝓛 Rows) r (v ∷ []) (λ is.
     lands_as ! refl refl (((rows_laws ℓ item (param_laws 0 T laws)).lawful 𝓛).typed r (v ∷ []) is).0 $
-    move ! (2 ∷ 3 ∷ 4 ∷ 6 ∷ []) $ heard ! _ (λ buffer. heard ! _ (λ shown. heard ! _ (λ written. heard ! _ (λ countable.
+    move ! (2 ∷ 3 ∷ 5 ∷ []) $ heard ! _ (λ shown. heard ! _ (λ written. heard ! _ (λ countable.
     -- [the rows; how the plane ends; four facts; the tokens; nothing; the locals]
     calls ! (6 ∷ 7 ∷ 0 ∷ []) run (new.ended T) (new.clauses T 𝓛 𝓜.mem 𝓡.returns)
     (new_met.met 𝓤 𝓛 𝓜 𝓡 (code.calls-v_frame_plane::pixels_mut::PixelsMut::new 𝓡.env wired) T laws)
@@ -77,13 +80,13 @@ pixels_mut_spec 𝓤 𝓛 𝓜 𝓡 wired T laws =
     rewrite ! 0 Ends (sym rows_are) refl $
     let all : pixels_left walk ≡ row_major (rows_left r) = rw (front, back, rows_are)
     (append-nil (row_major (rows_left r))) in
-    frame ! $ tells ! (ap (λ (x : RowsMut T.Denot). (rows_slice x).now) rows_are ∙ buffer) $ tells !
-    (all ∙ ap row_major shown) $
-    tells ! (record {
+    let begins : BeginsOver self.now walk = record {
       front = front;
       rows = ap rows_left rows_are ∙ shown;
       back = back;
       written = subst (λ (x : RowsMut T.Denot). WritesEachTable self.now x) (sym rows_are) written;
-    }) $
+    } in
+    use1 𝓛 (‵ (LendsPixelTable item self walk)) (lends_pixel_table 𝓛 item self walk begins) $ frame ! $
+    tells ! (all ∙ ap row_major shown) $
     tells ! (omega (arith, ap length all, countable.bound)) $ tells ! (lends_in_order pixels_left) $ told !
-    (lends_in_reverse pixels_left)))))))))))))))
+    (lends_in_reverse pixels_left))))))))))))))

@@ -28,7 +28,7 @@ use Rattle.v_frame_plane.specs.contracts.plane.Plane.{the_row}
 use Rattle.v_frame_plane.proofs.plane.Plane.TheLaws.{the_row_laws, the_within}
 use Rattle.v_frame_buffer.proofs.CallSteps.{asks_both, asks_that, calls, ends, opened, spelt, tells, told}
 use Rattle.v_frame_plane.proofs.lent.Cuts.{slice_fits}
-use Rattle.v_frame_plane.proofs.lent.Loans.{lft_over, lft_within, share_within}
+use Rattle.v_frame_buffer.proofs.Loans.{lft_over, lft_within, share_within}
 use Rattle.v_frame_raster.proofs.tables.Places.{no_row_below}
 use Rattle.v_frame_plane.specs.contracts.plane.Plane.height
 use Rattle.v_frame_plane.proofs.plane.Plane.height.Met as height_met

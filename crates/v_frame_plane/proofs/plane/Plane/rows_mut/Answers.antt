@@ -17,7 +17,6 @@ returns g c =
       (sym {b = c.as_mut_slice.result.ghost_name} c.new.ensures.same_reference, λ w. refl),
       record {
         writes_back = tt;
-        slice = c.new.ensures.slice ∙ c.as_mut_slice.ensures.value;
         rows = rows;
         written = written;
         wide = rw rows (rows_are_wide p c.self.invariant.whole);

@@ -1,4 +1,6 @@
 -- The rows ahead of the origin are the visible ones, and lie in the buffer. Others in their place are the table.
+use Rattle.v_frame_plane.specs.RowsLeft.{rows_left}
+use Rattle.v_frame_plane.specs.FinalRows.{WritesEachTable}
 use Rattle.std.proofs.Common.{◌-◌, arith}
 use Rattle.v_frame_raster.specs.Raster.{raster}
 use Rattle.v_frame_plane.proofs.iterators.BegunRows.{visible_countable}
@@ -23,6 +25,7 @@ invariant_of-result g c =
     }
 
 pub returns-clause-rows : goal.returns-clause-rows
+unfolding rows_left
 returns-clause-rows g c =
     visible_rows c.args.geometry c.args.buffer.now c.data_origin.result c.width-width.result
     (c.stride.result - c.width-width.result) c.height.result
@@ -39,6 +42,7 @@ returns-clause-bound g c =
     c.requires.fits)
 
 pub returns-clause-written : goal.returns-clause-written
+unfolding WritesEachTable
 returns-clause-written g c = λ rows same.
     writes_table (raster c.args.geometry c.args.buffer.now) c.data_origin.result c.width-width.result
     (c.stride.result - c.width-width.result) c.height.result

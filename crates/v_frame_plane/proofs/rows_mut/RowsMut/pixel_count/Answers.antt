@@ -5,6 +5,7 @@ use Rattle.v_frame_plane.proofs.iterators.Cursors.{count_of_rows, rows_are_long,
 use Rattle.v_frame_plane.proofs.rows_mut.RowsMut.pixel_count.Goals as goal
 
 pub returns : goal.returns
+unfolding rows_left
 returns g c =
     let a = c.args.self.now in
     let pixels = pixels_of_rows a.width (rows_left a)
