@@ -1,13 +1,13 @@
 -- Bytes that go through a frame: it is built, filled by a copy with a stride, and its bytes are taken.
 use Rattle.std.proofs.Common.{ℕ, ◌≡◌, ◌*◌, ◌^◌, ◌<◌, ◌≤◌, Bool, true, false, ◌&&◌, ◌||◌, ltb, if◌then◌else◌, List, []}
-use Rattle.std.proofs.Common.{◌∷◌, length, Option, Some, None, Result, Ok, Err, refl}
+use Rattle.std.proofs.Common.{◌∷◌, length, Option, Some, None, Result, Ok, Err, refl, eq-eqb}
 use Rattle.std.specs.Prelude.{MatchOption, IsOkUnless, is_ok}
-use Rattle.std.proofs.lemmas.Bool.{ltb-true}
+use Rattle.std.proofs.lemmas.Bool.{le-ltb, ltb-true}
 use Rattle.std.proofs.lemmas.List.{length-replicate}
 use Rattle.v_frame_raster.specs.Geometry.{alloc_size_of}
 use Rattle.v_frame_raster.specs.Raster.{Raster, filled, table_of}
 use Rattle.v_frame_raster.specs.Table.{width_of, height_of, row_major}
-use Rattle.v_frame_raster.specs.StridedRows.{piece_fronts}
+use Rattle.v_frame_raster.specs.StridedRows.{piece_fronts, strided_table}
 use Rattle.v_frame_raster.specs.Pixel.{PixelForm}
 use Rattle.v_frame.specs.Frame.{Tables}
 use Rattle.v_frame.specs.Walk.{draws_answer}
@@ -21,7 +21,7 @@ use Rattle.v_frame.specs.declared.replay.draw.Side.{Side}
 use Rattle.v_frame.specs.declared.replay.call.VisibleCall.TheVariants.{CopyFromU8SliceWithStride, ByteData}
 use Rattle.v_frame.specs.declared.replay.answer.Answer.{TheVariants.Copied, TheVariants.BytesWalked}
 use Rattle.v_frame_raster.proofs.tables.BytesBack.{AreBytes, table_comes_back}
-use Rattle.v_frame_plane.proofs.copies.ByteLaws.{accepted_copy}
+use Rattle.v_frame_plane.specs.Copy.{strided_copy}
 use Rattle.v_frame_raster.proofs.ChromaLemmas.{both_true}
 use Rattle.v_frame_raster.proofs.tables.Sizes.{width_of_shown, height_of_shown}
 
@@ -78,5 +78,7 @@ module _ {T : Type 0} where
         ≡ Copied (Ok tt) ∷ BytesWalked (length (row_major (piece_fronts (width * form.size) stride height source)))
         (draws_answer (row_major (piece_fronts (width * form.size) stride height source)) sides) ∷ []
     path_answers tables width height w h fits whole =
-        let copied = accepted_copy form tables.y source stride width height w h fits whole in
+        let copied : strided_copy form tables.y source stride ≡ record
+        { answer = Ok tt; table = strided_table form width height stride source } =
+        rw (w, h, le-ltb stride (width * form.size) fits, eq-eqb (length source) (stride * height) whole) refl in
         rw (copied, table_comes_back form back width height stride source fits whole bytes)

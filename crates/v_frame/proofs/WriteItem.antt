@@ -78,10 +78,14 @@ module _ {M : Type 1} {𝓤 : Ura M} (𝓛 : Logic 𝓤) (𝓜 : Model 𝓤 𝓛
   )
 
   abbrev pub law : Kind → Promise 𝓤
-  law of_pixels = (lower.laws.dropped_pixels_keep_their_values.ended T,
-    lower.laws.dropped_pixels_keep_their_values.clauses T 𝓛 𝓜.mem 𝓡.returns)
-  law _ = (lower.laws.held_rows_are_the_table.ended T,
-    lower.laws.held_rows_are_the_table.clauses T 𝓛 𝓜.mem 𝓡.returns)
+  law of_pixels = (
+    lower.laws.dropped_pixels_keep_their_values.ended T,
+    lower.laws.dropped_pixels_keep_their_values.clauses T 𝓛 𝓜.mem 𝓡.returns,
+  )
+  law _ = (
+    lower.laws.held_rows_are_the_table.ended T,
+    lower.laws.held_rows_are_the_table.clauses T 𝓛 𝓜.mem 𝓡.returns,
+  )
 
   abbrev pub changes : Ghosts T.Denot → Dict → Kind → Promise 𝓤
   changes clone dict of_pixels = (

@@ -29,9 +29,10 @@ pub use iterations::full_iterations_change_each_pixel;
 use std::alloc::{AllocError, Global};
 pub use v_frame_plane::laws::{
     buffer_is_determined, bytes_come_back, bytes_come_back_without_tails,
-    dropped_pixels_keep_their_values, dropped_rows_keep_their_pixels, held_rows_are_the_table, packed_copies_agree,
-    packed_outcomes_agree, pixels_have_places, places_have_marks, places_hold_pixels,
-    planes_are_equal, rows_are_parts, same_entries_same_table, tables_are_rectangles,
+    dropped_pixels_keep_their_values, dropped_rows_keep_their_pixels, held_items_make_the_table,
+    held_rows_are_the_table, packed_copies_agree, packed_outcomes_agree, pixels_have_places,
+    places_have_marks, places_hold_pixels, planes_are_equal, rows_are_parts,
+    same_entries_same_table, tables_are_rectangles,
 };
 pub use v_frame_raster::laws::{
     chroma_sizes_agree, depths_fit, geometries_are_equal, halves_join, lists_agree_by_items,

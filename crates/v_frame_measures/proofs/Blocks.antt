@@ -3,7 +3,7 @@ use Rattle.std.proofs.Common.{ℕ, suc, ◌≡◌, ◌+◌, ◌-◌, ◌*◌, �
 use Rattle.std.proofs.Common.{refl, ap, arith, map, sym, ◌∙◌, min}
 use Rattle.std.proofs.lemmas.List.{map-append, drop-drop, length-take, length-take-le, length-drop, length-append, get_or-take, get_or-drop}
 use Rattle.std.proofs.Math.Seq.{take-add}
-use Rattle.v_frame_plane.proofs.iterators.BegunRows.{row_major-append}
+use Rattle.v_frame_raster.proofs.tables.CutRows.{row_major-append}
 use Rattle.v_frame.specs.Prelude.{Table, rectangle, row_major}
 use Rattle.v_frame_measures.specs.declared.similarity.sums.PixelSums.{PixelSums}
 use Rattle.v_frame_measures.specs.declared.similarity.columns.ColumnSums.{ColumnSums}

@@ -4,7 +4,7 @@ use Rattle.std.proofs.Common.{refl, ap, arith, Some, slice_get, map, sym, ◌∙
 use Rattle.std.proofs.lemmas.List.{append-nil, map-append, take_more, length-append, length-take, length-take-le, length-drop, get_or-drop, get_or-take, drop-drop}
 use Rattle.std.proofs.lemmas.Option.{slice_get_within, get_or_from_slice_get}
 use Rattle.std.proofs.Math.Seq.{take-add}
-use Rattle.v_frame_plane.proofs.iterators.BegunRows.{row_major-append}
+use Rattle.v_frame_raster.proofs.tables.CutRows.{row_major-append}
 use Rattle.std.proofs.lemmas.List.Sums.{sum_by-append}
 use Rattle.v_frame.specs.Prelude.{Table, rectangle, row_major}
 use Rattle.v_frame_raster.proofs.SumsOfPairs.{sum_of_pairs-adds_up}

@@ -17,5 +17,6 @@ pub mod RowLoans
 pub mod RowMemory
 pub mod RowNext
 pub mod FinalRows
+pub mod HeldItems
 pub mod Sides
 pub mod Taken

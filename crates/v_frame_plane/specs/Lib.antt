@@ -2,6 +2,7 @@ pub mod Copy
 pub mod Cursor
 pub mod Cut
 pub mod Dropped
+pub mod HeldItems
 pub mod Lends
 pub mod LendsTable
 pub mod PixelsLeft

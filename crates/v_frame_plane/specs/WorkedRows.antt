@@ -1,9 +1,11 @@
 -- Final values of rows worked out by hand. Each line computes: it is proved by `refl`.
-use Rattle.std.specs.Prelude.{ℕ, ◌≡◌, List, [], ◌∷◌, refl}
+use Rattle.std.specs.Prelude.{ℕ, ◌≡◌, List, [], ◌∷◌, Some, None, refl}
+use Rattle.std.specs.Borrow.{MutBor}
 use Rattle.v_frame_raster.specs.Geometry.{geometry_of, stride_of, origin_of}
 use Rattle.v_frame_plane.specs.Cursor.{rows_ahead}
 use Rattle.v_frame_raster.specs.Raster.{Raster, raster, table_of, border_of}
 use Rattle.v_frame_plane.specs.FinalRows.{with_rows_ahead}
+use Rattle.v_frame_plane.specs.HeldItems.{at_front, at_back, final_items}
 
 -- three rows of two entries, one entry in front of the first, and two between each and the next
 abbrev twelve : List ℕ
@@ -55,3 +57,14 @@ its_table = refl
 
 its_border : border_of rewritten ≡ border_of (in_a_border eighteen)
 its_border = refl
+
+-- one item is drawn from the front and one from the back, the iterator finds two others, and a call
+-- after the last item gives none
+held_at_both_ends : (first last : MutBor ℕ) (walk : Raster ℕ)
+    → final_items
+    (record { end = at_front; item = Some first; after = walk; final = 1 }
+    ∷ record { end = at_back; item = Some last; after = walk; final = 4 }
+    ∷ record { end = at_front; item = None; after = walk; final = 9 } ∷ [])
+    (2 ∷ 3 ∷ [])
+    ≡ 1 ∷ 2 ∷ 3 ∷ 4 ∷ []
+held_at_both_ends first last walk = refl

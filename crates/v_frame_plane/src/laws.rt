@@ -10,6 +10,7 @@ ghost use Rattle.v_frame_raster.specs.Raster.{Raster, table_of};
 ghost use Rattle.v_frame_plane.specs.Copy.{Copies, packed_copy, strided_copy, packed_byte_copy, ComesBack};
 ghost use Rattle.v_frame_raster.specs.StridedRows.{piece_fronts};
 ghost use Rattle.v_frame_plane.specs.Dropped.{DroppedPixelsKeepTheirValues, DroppedRowsKeepTheirPixels, RowsAreHeld};
+ghost use Rattle.v_frame_plane.specs.HeldItems.{HeldItemsMakeTheTable};
 ghost use Rattle.std.specs.Borrow.{sem};
 ghost use Rattle.v_frame_raster.specs.RasterLaws.{DeterminesBuffer, HasPlaces, HasMarks, HoldsPixels, HoldsRows};
 ghost use Rattle.v_frame_raster.specs.RasterLaws.{IsMadeOfEntries, ShowsRectangle};
@@ -119,6 +120,17 @@ pub fn dropped_rows_keep_their_pixels<T>()
 /// plane ends, and what the rows of `Plane::rows_mut` hold then is the plane's table.
 pub fn held_rows_are_the_table<T>()
     ensures* { sem 𝓛 (RowsAreHeld T.row) }
+{}
+
+/// Rows and pixels may be drawn from either end in any order, held after their iterator is dropped, and written in any order:
+/// when the borrow of the plane ends, its table is what each of them holds then, at the place from which it was drawn, and
+/// all else of the plane is as before.
+///
+/// The law takes any list of calls of `next` and `next_back`, what each item holds in the end, and what the items hold that no
+/// call drew. [`dropped_rows_keep_their_pixels`] and [`dropped_pixels_keep_their_values`] say what the latter is if the iterator
+/// is dropped.
+pub fn held_items_make_the_table<T>()
+    ensures* { sem 𝓛 (HeldItemsMakeTheTable T.row) }
 {}
 
 /// Pixels for writing whose iterator is dropped hold, once the borrow of their plane ends, what they show, as rows do.

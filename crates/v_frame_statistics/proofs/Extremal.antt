@@ -7,15 +7,10 @@ use Rattle.std.proofs.lemmas.List.Elements.{Contains-append_right}
 use Rattle.std.specs.Prelude.{All, Contains}
 use Rattle.std.proofs.lemmas.Option.{slice_get_within, get_or_from_slice_get}
 use Rattle.v_frame.specs.Prelude.{Table, row_major}
+use Rattle.v_frame_raster.proofs.tables.CutRows.{row_major-append}
 use Rattle.v_frame_statistics.specs.Extremes.{IsFirst}
 
 module _ {T : Type 0} where
-  row_major-append : (table other : Table T) → row_major (table ++ other) ≡ row_major table ++ row_major other
-  row_major-append [] other = refl
-  row_major-append (row ∷ table) other =
-      ap (λ pixels. row ++ pixels) (row_major-append table other)
-      ∙ sym (append_assoc row (row_major table) (row_major other))
-
   -- the first rows of a table, joined, and one more
   pub first_rows : (table : Table T) (y : ℕ) (row : List T) → slice_get table y ≡ Some row
       → row_major (take (y + 1) table) ≡ row_major (take y table) ++ row

@@ -175,9 +175,9 @@ mod tests {
         assert_eq!(entries.as_slice(), [0; 512]);
         let copy = entries.try_clone().expect("memory");
         assert_eq!(copy, entries);
-        *entries.get_mut(5).expect("an entry") = 7;
+        *entries.get_mut_after(0, 5).expect("an entry") = 7;
         assert_ne!(copy, entries);
         assert_eq!((copy.as_slice()[5], entries.as_slice()[5]), (0, 7));
-        assert!(entries.get_mut(512).is_none());
+        assert!(entries.get_mut_after(0, 512).is_none());
     }
 }

@@ -15,8 +15,8 @@ use super::walk::walked;
 use crate::pixel::Pixel;
 use crate::plane::{PixelsMut, Plane};
 use std::alloc::{AllocError, Global};
-use v_frame_plane::laws::dropped_pixels_keep_their_values;
 use std::mem;
+use v_frame_plane::laws::dropped_pixels_keep_their_values;
 
 /// Replaces a pixel of the visible rectangle.
 pub(crate) fn replay_pixel_mut<T: Copy>(

@@ -7,6 +7,7 @@ use Rattle.v_frame_raster.specs.Raster.{Raster, IsWhole, table_of}
 use Rattle.v_frame_raster.specs.Table.{row_major}
 use Rattle.v_frame_plane.specs.Cursor.{PixelsAreCountable}
 use Rattle.v_frame_raster.proofs.Plans.{visible_within}
+use Rattle.v_frame_raster.proofs.tables.CutRows.{row_major-append}
 use Rattle.v_frame_raster.proofs.tables.Pictures.{length-shown}
 use Rattle.v_frame_raster.proofs.tables.Places.{rows_are_wide}
 use Rattle.v_frame_plane.proofs.iterators.Cursors.{pixels_of_rows}
@@ -14,10 +15,6 @@ use Rattle.v_frame_plane.proofs.iterators.Cursors.{pixels_of_rows}
 module _ {T : Type 0} where
   abbrev IsFull : List T → Type 0
   IsFull row = 0 < length row
-
-  pub row_major-append : (rows others : List (List T)) → row_major (rows ++ others) ≡ row_major rows ++ row_major others
-  row_major-append [] others = refl
-  row_major-append (row ∷ rows) others = simp (row_major-append rows others, append_assoc)
 
   row_major-push : (rows : List (List T)) (row : List T) → row_major (rows ++ row ∷ []) ≡ row_major rows ++ row
   row_major-push rows row = simp (row_major-append, append-nil)

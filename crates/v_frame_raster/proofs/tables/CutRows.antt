@@ -1,12 +1,17 @@
--- A list cut into rows: how many there are, where each begins, and that they are the list. Rows of one width are what
--- their joined pixels are cut into.
+-- Rows joined and cut. A list cut into rows: how many there are, where each begins, and that they are the list. Rows of one
+-- width are what their joined pixels are cut into.
 use Rattle.std.proofs.Common.{ℕ, zero, suc, ◌≡◌, ◌+◌, ◌*◌, ◌<◌, List, [], ◌∷◌, length, map, take, drop, All, Some}
-use Rattle.std.proofs.Common.{◌++◌, get_or, slice_get, refl, sym, ◌∙◌, ap, arith, take-append-drop, length-drop, suc-add}
+use Rattle.std.proofs.Common.{◌++◌, append_assoc, get_or, slice_get, refl, sym, ◌∙◌, ap, arith, take-append-drop, length-drop, suc-add}
 use Rattle.std.proofs.lemmas.List.{drop-drop, take_at, drop_at, length-map, nil_from_length}
 use Rattle.std.proofs.lemmas.List.Elements.{All-head, All-tail}
 use Rattle.v_frame_raster.specs.Table.{Table, width_of, height_of, row_major, cut_rows}
 
 module _ {T : Type 0} where
+  -- joined rows of two tables, one after the other
+  pub row_major-append : (rows others : Table T) → row_major (rows ++ others) ≡ row_major rows ++ row_major others
+  row_major-append [] others = refl
+  row_major-append (row ∷ rows) others = simp (row_major-append rows others, append_assoc)
+
   pub length-cut_rows : (width height : ℕ) (source : List T) → length (cut_rows width height source) ≡ height
   length-cut_rows width zero source = refl
   length-cut_rows width (suc height) source = ap suc (length-cut_rows width height (drop width source))

@@ -3,7 +3,8 @@
 use Rattle.std.proofs.Common.{[], ◌∷◌, length, sym, ap, arith, append_assoc, append-nil, length-append}
 use Rattle.std.proofs.lemmas.Bool.{eqb-true}
 use Rattle.std.proofs.lemmas.List.{nil_from_length}
-use Rattle.v_frame_plane.proofs.iterators.BegunRows.{last_drawn, drawn_countable, none_countable, row_major-append}
+use Rattle.v_frame_raster.proofs.tables.CutRows.{row_major-append}
+use Rattle.v_frame_plane.proofs.iterators.BegunRows.{last_drawn, drawn_countable, none_countable}
 use Rattle.v_frame_plane.proofs.iterators.WalkRuns.{last_taken}
 use Rattle.v_frame_plane.proofs.pixels.PixelsDoubleEndedIterator.next_back.Goals as goal
 use Rattle.v_frame_plane.proofs.pixels.PixelsDoubleEndedIterator.next_back.Goals.{then-is_empty+in-Some, then-is_empty+in-None, else-is_empty}
