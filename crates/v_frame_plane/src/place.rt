@@ -1,10 +1,10 @@
-//! Where the visible pixels of a geometry are in its buffer.
+//! The indices of visible pixels in the buffer of a geometry.
 ghost use Rattle.std.specs.Prelude.{◌≡◌, ◌+◌, ◌*◌, ◌<◌, ◌≤◌, min};
 ghost use Rattle.v_frame_raster.specs.Geometry.{alloc_size_of, IsGeometry, Fits, usize_max, origin_of, place_of, stride_of};
 
 use v_frame_raster::geometry::PlaneGeometry;
 
-/// Returns the index of the first pixel of row `y`.
+/// Returns the index of the first pixel of row `y` in the buffer.
 #[tactic(auto, using(v_frame_raster::proofs::Plans::row_start_within))]
 pub fn row_start(geometry: PlaneGeometry, y: usize) -> usize
     requires fits { Fits geometry }
@@ -15,7 +15,7 @@ pub fn row_start(geometry: PlaneGeometry, y: usize) -> usize
     geometry.data_origin() + geometry.stride() * y
 }
 
-/// Returns the index of a visible pixel.
+/// Returns the index of the visible pixel in column `x` of row `y` in the buffer.
 pub fn visible_place(geometry: PlaneGeometry, x: usize, y: usize) -> usize
     requires fits { Fits geometry }
     requires wide { x < geometry.width }
@@ -26,7 +26,7 @@ pub fn visible_place(geometry: PlaneGeometry, x: usize, y: usize) -> usize
     row_start(geometry, y) + x
 }
 
-/// Returns how far a visible pixel is behind the first one in the buffer.
+/// Returns the distance in the buffer from the first visible pixel to the visible pixel in column `x` of row `y`.
 #[tactic(auto, using(v_frame_raster::proofs::Plans::row_start_within))]
 pub fn visible_offset(geometry: PlaneGeometry, x: usize, y: usize) -> usize
     requires fits { Fits geometry }
@@ -48,8 +48,8 @@ pub fn visible_size(geometry: PlaneGeometry) -> usize
     geometry.width() * geometry.height()
 }
 
-/// Returns the index of (x, y), which may be past the end of the buffer; `usize::MAX`, which is past the end of any, where no
-/// `usize` holds it.
+/// Returns the index of column `x` and row `y` in the buffer, which may be past the end of the buffer. Returns `usize::MAX`,
+/// which is past the end of every buffer, if the index does not fit into a `usize`.
 pub fn saturated_place(geometry: PlaneGeometry, x: usize, y: usize) -> usize
     requires { Fits geometry }
     ensures { result ≡ min (place_of geometry x y) usize_max }
@@ -57,7 +57,8 @@ pub fn saturated_place(geometry: PlaneGeometry, x: usize, y: usize) -> usize
     saturated_offset(geometry, x, y).saturating_add(geometry.data_origin())
 }
 
-/// Returns how far (x, y) is behind the first visible pixel in the buffer; `usize::MAX` where no `usize` holds it.
+/// Returns the distance in the buffer from the first visible pixel to column `x` and row `y`, or `usize::MAX` if it does not
+/// fit into a `usize`.
 pub fn saturated_offset(geometry: PlaneGeometry, x: usize, y: usize) -> usize
     ensures { result ≡ min (x + y * stride_of geometry) usize_max }
 {
