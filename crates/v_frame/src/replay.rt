@@ -1,6 +1,6 @@
 //! Replays: lists of calls on the visible pixels of a frame.
 //!
-//! The module is not part of `v_frame` 0.7.0. The contract of [`replay`](replay()) states the results and the effects of every
+//! Not part of `v_frame` 0.7.0. The contract of [`replay`](replay()) states the results and the effects of every
 //! list of calls by plain tables of rows. The tables have no padding and no border.
 //!
 //! The contract is proved in three steps, and each step has a contract with its full meaning. A call on one plane is a call on
